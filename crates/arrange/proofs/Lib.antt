@@ -1,0 +1,2 @@
+pub mod ShortNumerals
+pub mod Steps

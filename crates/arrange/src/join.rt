@@ -1,0 +1,31 @@
+// `arrange join`: the segments on each pair of ends become one.
+ghost use Rattle.std.specs.Prelude.{◌≡◌, ◌++◌, IsTrue, IfOk, string_bytes};
+ghost use Rattle.overlay_base.specs.Join.{join, has_equal_pairs};
+ghost use Rattle.overlay_base.specs.SegmentOf.{segments_of};
+ghost use Rattle.overlay_base.specs.Planar.{is_splittable};
+ghost use Rattle.arrange.specs.Output.{segment_lines, flag_line};
+
+use crate::output::write_segments;
+use crate::stop::Stop;
+use overlay_base::num::OverlayInt;
+use overlay_base::segm::boolean::ShapeCountBoolean;
+use overlay_base::segm::merge::merge_if_needed_with_store;
+use overlay_base::segm::segment::Segment;
+use overlay_base::segm::sort::sort_by_ab;
+use std::alloc::Global;
+
+/// The text of the joined segments, and of the flag that tells whether two given ones had one pair of ends.
+pub fn join<I: OverlayInt>(
+    alloc: Global,
+    mut segments: Vec<Segment<ShapeCountBoolean, I, ()>>,
+) -> Result<String, Stop>
+    requires { IsTrue (is_splittable (I.whole I.MIN_COORD) (I.whole I.MAX_COORD) (segments_of segments.items)) }
+    ensures { IfOk result (λ text. string_bytes text ≡ segment_lines (join (segments_of segments.items)) ++ flag_line (has_equal_pairs (segments_of segments.items))) }
+{
+    sort_by_ab(&mut segments)?;
+    let repeated = merge_if_needed_with_store(&mut segments, &mut ())?;
+    let mut text = String::new(alloc);
+    write_segments(&mut text, segments.as_slice())?;
+    writeln!(text, "flag {repeated}")?;
+    Ok(text)
+}

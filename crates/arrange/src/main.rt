@@ -1,0 +1,19 @@
+// The program `arrange`: reads segments as lines of text, and writes what a command makes of them.
+#![tactic(auto)]
+
+mod join;
+mod lines;
+mod number;
+mod output;
+mod run;
+mod settings;
+mod stop;
+mod words;
+#[cfg(test)]
+mod worked;
+
+use std::process::ExitCode;
+
+fn main(rt: HostRuntime) -> ExitCode {
+    ExitCode::from(run::arrange(&rt, &mut rt.stdin(), &mut rt.stdout(), &mut rt.stderr()))
+}

@@ -1,0 +1,38 @@
+// Decimal numbers in words and lines.
+ghost use Rattle.std.specs.Prelude.{◌<◌, ◌≤◌, ◌^◌, length};
+ghost use Rattle.std.specs.Option.{SomeIff};
+ghost use Rattle.std.specs.Str.Parse.{IsNumeral, digits_value};
+ghost use Rattle.arrange.specs.Numbers.{IsSignedNumeral, signed_value};
+
+/// The number that a run of digits writes, or `None` for any other text and for a number of more than 64 bits.
+pub fn number(text: &str) -> Option<u64>
+    ensures { SomeIff result (IsNumeral 10 text.now × (digits_value 10 text.now < 2 ^ 64)) (digits_value 10 text.now) }
+{
+    // `parse` takes a sign.
+    if text.starts_with('+') {
+        return None;
+    }
+    text.parse().ok()
+}
+
+/// The number of 1 to 9 digits.
+#[tactic(auto, using(crate::proofs::ShortNumerals::nine_digits_are_few))]
+pub fn short_number(text: &str) -> Option<u32>
+    ensures { SomeIff result (IsNumeral 10 text.now × (length text.now ≤ 9)) (digits_value 10 text.now) }
+{
+    if text.len() > 9 {
+        return None;
+    }
+    let number = number(text)?;
+    Some(number as u32)
+}
+
+/// The number of an optional `-` and 1 to 9 digits.
+pub fn signed_number(text: &str) -> Option<i64>
+    ensures { SomeIff result (IsSignedNumeral text.now) (signed_value text.now) }
+{
+    match text.strip_prefix('-') {
+        Some(digits) => short_number(digits).map(|size| -i64::from(size)),
+        None => short_number(text).map(i64::from),
+    }
+}

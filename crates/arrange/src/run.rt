@@ -1,0 +1,119 @@
+// The whole run, in the order in which faults are looked for: the words, the reading of all the input, the lines,
+// the calls, the writing.
+ghost use Rattle.std.specs.Prelude.{◌≡◌, ◌⊎◌, IfErr};
+ghost use Rattle.arrange.specs.Status.{status_of};
+
+use crate::join::join;
+use crate::lines::read_lines;
+use crate::settings::{Command, Engine};
+use crate::stop::Stop;
+use crate::words::read_words;
+use overlay_base::num::OverlayInt;
+use overlay_base::segm::fault::Fault;
+use std::alloc::Global;
+use std::io::{ErrorKind, Read, Write};
+use std::rt::Env;
+use std::{env, io};
+
+/// Runs the program over the words that the process was started with, and answers the exit status.
+pub fn arrange<H: Env + AllocGlobal, R: Read, W: Write, E: Write>(
+    rt: &H,
+    input: &mut R,
+    output: &mut W,
+    faults: &mut E,
+) -> u8 {
+    match started_words(rt) {
+        Ok(words) => arrange_run(rt.alloc(), words.as_slice(), input, output, faults),
+        Err(stop) => refuse(stop, faults),
+    }
+}
+
+/// Runs the program over these words, and answers the exit status: 0 where the run is done, 2 for words that ask for
+/// nothing, 3 for a faulty line, 4 for a `Fault`, 5 where the input or the output failed.
+///
+/// Nothing is written to `output` unless the status is 0 or 5. Any other status is told in one line on `faults`, where
+/// a failed write is passed over.
+pub fn arrange_run<R: Read, W: Write, E: Write>(
+    alloc: Global,
+    words: &[String],
+    input: &mut R,
+    output: &mut W,
+    faults: &mut E,
+) -> u8
+    ensures untouched { (result ≡ 0) ⊎ (result ≡ 5) ⊎ (output.new ≡ output.old) }
+{
+    match run(alloc, words, input, output) {
+        Ok(()) => 0,
+        Err(stop) => refuse(stop, faults),
+    }
+}
+
+/// Tells why the run stops, and answers the exit status.
+fn refuse<E: Write>(stop: Stop, faults: &mut E) -> u8
+    ensures { result ≡ status_of stop }
+{
+    let _ = writeln!(faults, "{stop}");
+    stop.status()
+}
+
+fn run<R: Read, W: Write>(
+    alloc: Global,
+    words: &[String],
+    input: &mut R,
+    output: &mut W,
+) -> Result<(), Stop>
+    ensures untouched { IfErr result (λ stop. (stop ≡ Stop.Output) ⊎ (output.new ≡ output.old)) }
+{
+    let text = answer(alloc, words, input)?;
+    output.write_all(text.as_bytes()).map_err(|_| Stop::Output)?;
+    output.flush().map_err(|_| Stop::Output)
+}
+
+/// The whole output.
+fn answer<R: Read>(alloc: Global, words: &[String], input: &mut R) -> Result<String, Stop> {
+    let (command, settings) = read_words(words)?;
+    let bytes = read_all(alloc, input)?;
+    match settings.engine {
+        Engine::I16 => answer_with::<i16>(alloc, command, bytes.as_slice()),
+        Engine::I32 => answer_with::<i32>(alloc, command, bytes.as_slice()),
+    }
+}
+
+fn answer_with<I: OverlayInt>(
+    alloc: Global,
+    command: Command,
+    bytes: &[u8],
+) -> Result<String, Stop> {
+    let segments = read_lines::<I>(alloc, bytes)?;
+    match command {
+        Command::Join => join(alloc, segments),
+    }
+}
+
+fn read_all<R: Read>(alloc: Global, input: &mut R) -> Result<Vec<u8>, Stop> {
+    let mut bytes = Vec::new(alloc);
+    match input.read_to_end(&mut bytes) {
+        Ok(_) => Ok(bytes),
+        Err(error) => Err(stop_of(error, Stop::Input)),
+    }
+}
+
+fn started_words<H: Env + AllocGlobal>(rt: &H) -> Result<Vec<String>, Stop> {
+    let mut words = Vec::new(rt.alloc());
+    let started = env::args(rt).map_err(|error| stop_of(error, Stop::Usage))?;
+    for word in started.skip(1) {
+        words.push(word)?;
+    }
+    Ok(words)
+}
+
+/// Tells want of memory from any other failure.
+fn stop_of(error: io::Error, otherwise: Stop) -> Stop {
+    match error.kind() {
+        ErrorKind::OutOfMemory => Stop::Refused(Fault::Memory),
+        _ => otherwise,
+    }
+}
+
+#[cfg(test)]
+mod tests;

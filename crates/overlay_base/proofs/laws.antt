@@ -1,0 +1,19 @@
+-- The laws of the definitions, as lemmas that proofs here and in the crates above cite.
+pub mod Lists
+pub mod Keys
+pub mod Polynomials
+pub mod Points
+pub mod Windings
+pub mod Pairs
+pub mod Monoids
+pub mod Bags
+pub mod Maps
+pub mod Members
+pub mod Ranges
+pub mod Repeats
+pub mod Functionals
+pub mod StableSorts
+pub mod DataJoins
+pub mod DataWalks
+pub mod Merges
+pub mod Shifts

@@ -1,0 +1,180 @@
+// How a split and a sweep go about their work, and how far a pass snaps. Upstream: `core::solver`.
+ghost use Rattle.std.specs.Prelude.{◌≡◌, length};
+ghost use Rattle.overlay_base.specs.Choices.{list_splits, grid_splits, list_fills};
+ghost use Rattle.overlay_base.specs.Radius.{exponent_of, step_of};
+
+use crate::num::OverlayInt;
+use crate::overlay_core::snap_radius::SnapRadius;
+use crate::segm::segment::Segment;
+use crate::segm::winding::WindingCount;
+
+/// How the segments that meet are found. The answer of a call does not depend on it.
+#[derive(Clone, Copy, Debug, PartialEq)]
+pub enum Strategy {
+    /// Looks at all pairs of a list.
+    List,
+    /// Keeps segments in a tree.
+    Tree,
+    /// Cuts the plane into columns.
+    Frag,
+    /// Chooses by the number of segments.
+    Auto,
+}
+
+/// How far a crossing may be moved to an end of a segment: in pass k within a squared distance of
+/// `2^(start + (k-1) * progression)`, up to a cap of the engine (`2^24` for `i16`, `2^56` for `i32`).
+///
+/// Under a radius that does not grow, as `ABSOLUTE`, segments that are nearly parallel can take as many passes as they
+/// are long. Under the growing ones a handful is enough.
+#[derive(Clone, Copy, Debug, PartialEq)]
+pub struct Precision {
+    /// The exponent of the first pass.
+    pub start: usize,
+    /// What each further pass adds to it.
+    pub progression: usize,
+}
+
+impl Precision {
+    pub const ABSOLUTE: Precision = Precision {
+        start: 0,
+        progression: 0,
+    };
+
+    pub const HIGH: Precision = Precision {
+        start: 0,
+        progression: 1,
+    };
+
+    pub const MEDIUM_HIGH: Precision = Precision {
+        start: 1,
+        progression: 1,
+    };
+
+    pub const MEDIUM: Precision = Precision {
+        start: 0,
+        progression: 2,
+    };
+
+    pub const MEDIUM_LOW: Precision = Precision {
+        start: 2,
+        progression: 2,
+    };
+
+    pub const LOW: Precision = Precision {
+        start: 2,
+        progression: 3,
+    };
+}
+
+/// A strategy and a precision.
+#[derive(Clone, Copy)]
+pub struct Solver {
+    pub strategy: Strategy,
+    pub precision: Precision,
+}
+
+impl Solver {
+    pub const LIST: Solver = Solver {
+        strategy: Strategy::List,
+        precision: Precision::HIGH,
+    };
+
+    pub const TREE: Solver = Solver {
+        strategy: Strategy::Tree,
+        precision: Precision::HIGH,
+    };
+
+    pub const FRAG: Solver = Solver {
+        strategy: Strategy::Frag,
+        precision: Precision::HIGH,
+    };
+
+    pub const AUTO: Solver = Solver {
+        strategy: Strategy::Auto,
+        precision: Precision::HIGH,
+    };
+
+    const MAX_SPLIT_LIST_COUNT: usize = 4_000;
+
+    const MIN_FRAGMENT_COUNT: usize = 16_000;
+
+    const MAX_FILL_LIST_COUNT: usize = 8_000;
+
+    /// The strategy `Auto` with this precision.
+    pub fn with_precision(precision: Precision) -> Self
+        ensures strategy { result.strategy ≡ Strategy.Auto }
+        ensures precision { result.precision ≡ precision }
+    {
+        Solver::with_strategy_and_precision(Strategy::Auto, precision)
+    }
+
+    /// This strategy with this precision.
+    pub fn with_strategy_and_precision(strategy: Strategy, precision: Precision) -> Self
+        ensures strategy { result.strategy ≡ strategy }
+        ensures precision { result.precision ≡ precision }
+    {
+        Solver {
+            strategy,
+            precision,
+        }
+    }
+
+    /// The snap radius of the first pass.
+    pub fn snap_radius(&self) -> SnapRadius
+        ensures exponent { exponent_of result ≡ self.now.precision.start }
+        ensures step { step_of result ≡ self.now.precision.progression }
+    {
+        SnapRadius::new(self.precision.start, self.precision.progression)
+    }
+
+    /// Whether a pass over these segments looks at all pairs of the list: under `List`, and under `Auto` where they are
+    /// fewer than 4,000.
+    pub fn is_list_split<C: WindingCount, I: OverlayInt, D>(
+        &self,
+        segments: &[Segment<C, I, D>],
+    ) -> bool
+        ensures { result ≡ list_splits self.now.strategy (length segments.now) }
+    {
+        match self.strategy {
+            Strategy::List => true,
+            Strategy::Tree | Strategy::Frag => false,
+            Strategy::Auto => segments.len() < Self::MAX_SPLIT_LIST_COUNT,
+        }
+    }
+
+    /// Whether passes that do not look at all pairs go over a grid of columns: under `Frag`, and where the segments are
+    /// more than 16,000.
+    pub fn is_fragmentation_required<C: WindingCount, I: OverlayInt, D>(
+        &self,
+        segments: &[Segment<C, I, D>],
+    ) -> bool
+        ensures { result ≡ grid_splits self.now.strategy (length segments.now) }
+    {
+        segments.len() > Self::MIN_FRAGMENT_COUNT || self.strategy == Strategy::Frag
+    }
+
+    /// Whether a sweep over these segments keeps a list of live ones: under `List`, and under `Auto` where they are
+    /// fewer than 8,000.
+    pub fn is_list_fill<C: WindingCount, I: OverlayInt, D>(
+        &self,
+        segments: &[Segment<C, I, D>],
+    ) -> bool
+        ensures { result ≡ list_fills self.now.strategy (length segments.now) }
+    {
+        match self.strategy {
+            Strategy::List => true,
+            Strategy::Tree | Strategy::Frag => false,
+            Strategy::Auto => segments.len() < Self::MAX_FILL_LIST_COUNT,
+        }
+    }
+}
+
+impl Default for Solver {
+    ghost use Rattle.overlay_base.specs.declared.overlay_core.solver.Strategy.TheVariants.{Auto};
+
+    ghost is_default = { λ solver. (solver.strategy ≡ Auto) × (solver.precision ≡ record { start = 0; progression = 1 }) };
+
+    fn default() -> Solver {
+        Solver::AUTO
+    }
+}
