@@ -1,2 +1,4 @@
+pub mod Crossings
+pub mod Refusals
 pub mod ShortNumerals
 pub mod Steps

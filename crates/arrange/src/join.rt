@@ -1,6 +1,7 @@
 // `arrange join`: the segments on each pair of ends become one.
-ghost use Rattle.std.specs.Prelude.{◌≡◌, ◌++◌, IsTrue, IfOk, string_bytes};
-ghost use Rattle.overlay_base.specs.Join.{join, has_equal_pairs};
+ghost use Rattle.std.specs.Prelude.{◌≡◌, ◌⊎◌, ◌++◌, IsTrue, IsFalse, IfOk, OnOk, IfErr, string_bytes};
+ghost use Rattle.overlay_base.specs.declared.segm.fault.Fault.TheVariants.{Memory, CountOutOfRange};
+ghost use Rattle.overlay_base.specs.Join.{join, has_equal_pairs, join_leaves_range};
 ghost use Rattle.overlay_base.specs.SegmentOf.{segments_of};
 ghost use Rattle.overlay_base.specs.Planar.{is_splittable};
 ghost use Rattle.arrange.specs.Output.{segment_lines, flag_line};
@@ -15,12 +16,17 @@ use overlay_base::segm::sort::sort_by_ab;
 use std::alloc::Global;
 
 /// The text of the joined segments, and of the flag that tells whether two given ones had one pair of ends.
+/// Answers `Fault::CountOutOfRange` exactly where a running sum of the counts on one pair leaves
+/// `-i32::MAX..=i32::MAX`.
 pub fn join<I: OverlayInt>(
     alloc: Global,
     mut segments: Vec<Segment<ShapeCountBoolean, I, ()>>,
 ) -> Result<String, Stop>
     requires { IsTrue (is_splittable (I.whole I.MIN_COORD) (I.whole I.MAX_COORD) (segments_of segments.items)) }
-    ensures { IfOk result (λ text. string_bytes text ≡ segment_lines (join (segments_of segments.items)) ++ flag_line (has_equal_pairs (segments_of segments.items))) }
+    ensures text { IfOk result (λ text. string_bytes text ≡ segment_lines (join (segments_of segments.items)) ++ flag_line (has_equal_pairs (segments_of segments.items))) }
+    ensures in_range { OnOk result (IsFalse (join_leaves_range (segments_of segments.items))) }
+    ensures refused { IfErr result (λ stop. (stop ≡ Stop.Refused Memory)
+        ⊎ ((stop ≡ Stop.Refused CountOutOfRange) × IsTrue (join_leaves_range (segments_of segments.items)))) }
 {
     sort_by_ab(&mut segments)?;
     let repeated = merge_if_needed_with_store(&mut segments, &mut ())?;

@@ -1,6 +1,7 @@
 // The program `arrange`: reads segments as lines of text, and writes what a command makes of them.
 #![tactic(auto)]
 
+mod cross;
 mod join;
 mod lines;
 mod number;

@@ -1,13 +1,15 @@
 // The output: one item a line.
 ghost use Rattle.std.specs.Prelude.{◌≡◌, ◌++◌, OnOk, string_bytes};
+ghost use Rattle.overlay_base.specs.PointOf.{point_of};
 ghost use Rattle.overlay_base.specs.SegmentOf.{segment_of, segments_of};
-ghost use Rattle.arrange.specs.Output.{pair_text, segment_line, segment_lines};
+ghost use Rattle.arrange.specs.Output.{pair_text, segment_line, segment_lines, place_line};
 
 use overlay_base::geom::point::IntPoint;
 use overlay_base::geom::x_segment::XSegment;
 use overlay_base::num::OverlayInt;
 use overlay_base::segm::boolean::ShapeCountBoolean;
 use overlay_base::segm::segment::Segment;
+use overlay_split::split::cross_solver::CrossResult;
 use std::alloc::AllocError;
 
 /// Writes `seg AX AY BX BY SUBJ CLIP` for each segment.
@@ -36,6 +38,25 @@ fn write_segment<I: OverlayInt>(
     write_point(text, b)?;
     write_count(text, segment.count())?;
     text.push_str("\n")?;
+    Ok(())
+}
+
+/// Writes `KIND X Y exact`, or `KIND X Y rounded`.
+#[tactic(auto, unfolding(crate::specs::Output::place_line))]
+pub fn write_place<I: OverlayInt>(
+    text: &mut String,
+    kind: &str,
+    place: CrossResult<I>,
+) -> Result<(), AllocError>
+    ensures { OnOk result (string_bytes text.new ≡ string_bytes text.old ++ place_line kind.now (point_of I.whole place.point) place.is_round) }
+{
+    text.push_str(kind)?;
+    write_point(text, place.point)?;
+    text.push_str(if place.is_round {
+        " rounded\n"
+    } else {
+        " exact\n"
+    })?;
     Ok(())
 }
 

@@ -1,11 +1,12 @@
 // The whole run, in the order in which faults are looked for: the words, the reading of all the input, the lines,
-// the calls, the writing.
+// the number of segments, the calls, the writing.
 ghost use Rattle.std.specs.Prelude.{◌≡◌, ◌⊎◌, IfErr};
 ghost use Rattle.arrange.specs.Status.{status_of};
 
+use crate::cross::cross;
 use crate::join::join;
 use crate::lines::read_lines;
-use crate::settings::{Command, Engine};
+use crate::settings::{Command, Engine, Settings};
 use crate::stop::Stop;
 use crate::words::read_words;
 use overlay_base::num::OverlayInt;
@@ -29,7 +30,8 @@ pub fn arrange<H: Env + AllocGlobal, R: Read, W: Write, E: Write>(
 }
 
 /// Runs the program over these words, and answers the exit status: 0 where the run is done, 2 for words that ask for
-/// nothing, 3 for a faulty line, 4 for a `Fault`, 5 where the input or the output failed.
+/// nothing and for a crossing of other than two segments, 3 for a faulty line, 4 for a `Fault`, 5 where the input or
+/// the output failed.
 ///
 /// Nothing is written to `output` unless the status is 0 or 5. Any other status is told in one line on `faults`, where
 /// a failed write is passed over.
@@ -74,19 +76,21 @@ fn answer<R: Read>(alloc: Global, words: &[String], input: &mut R) -> Result<Str
     let (command, settings) = read_words(words)?;
     let bytes = read_all(alloc, input)?;
     match settings.engine {
-        Engine::I16 => answer_with::<i16>(alloc, command, bytes.as_slice()),
-        Engine::I32 => answer_with::<i32>(alloc, command, bytes.as_slice()),
+        Engine::I16 => answer_with::<i16>(alloc, command, settings, bytes.as_slice()),
+        Engine::I32 => answer_with::<i32>(alloc, command, settings, bytes.as_slice()),
     }
 }
 
 fn answer_with<I: OverlayInt>(
     alloc: Global,
     command: Command,
+    settings: Settings,
     bytes: &[u8],
 ) -> Result<String, Stop> {
     let segments = read_lines::<I>(alloc, bytes)?;
     match command {
         Command::Join => join(alloc, segments),
+        Command::Cross => cross(alloc, segments.as_slice(), settings.radius),
     }
 }
 

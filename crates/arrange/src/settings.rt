@@ -1,10 +1,15 @@
 // What the words of a call may choose, and what stands where they choose nothing.
+ghost use Rattle.std.specs.Prelude.{◌≤ℤ◌, ◌^◌, pos};
+
+use overlay_base::overlay_core::solver::{Precision, Strategy};
 
 /// What the program is asked to do.
 #[derive(Clone, Copy, Debug, PartialEq)]
 pub enum Command {
     /// Joins the lines on each pair of ends.
     Join,
+    /// Tells where two lines meet.
+    Cross,
 }
 
 /// The type of coordinates.
@@ -14,20 +19,11 @@ pub enum Engine {
     I32,
 }
 
-/// How a split finds the segments that meet.
+/// How far a crossing may be moved to an end of a segment: a squared distance from 1 to `2^56`.
 #[derive(Clone, Copy, Debug, PartialEq)]
-pub enum Strategy {
-    List,
-    Tree,
-    Frag,
-    Auto,
-}
-
-/// The exponent of the snap radius in the first pass, and what each pass adds to it.
-#[derive(Clone, Copy, Debug, PartialEq)]
-pub struct Precision {
-    pub start: usize,
-    pub progression: usize,
+pub struct SquaredRadius {
+    pub squared: i64,
+    ghost in_range: { (pos 1 ≤ℤ squared) × (squared ≤ℤ pos (2 ^ 56)) },
 }
 
 /// Which winding numbers are inside.
@@ -68,6 +64,5 @@ pub struct Settings {
     pub links: Links,
     /// How many passes of a split may snap.
     pub snap_limit: u32,
-    /// The squared snap radius of a crossing, from 1 to `2^56`.
-    pub radius: i64,
+    pub radius: SquaredRadius,
 }

@@ -1,6 +1,7 @@
 // Why a run stops before its end, with the text and the exit status of each reason.
 ghost use Rattle.std.specs.Prelude.{◌≡◌};
 ghost use Rattle.arrange.specs.Status.{status_of};
+ghost use Rattle.arrange.specs.declared.stop.Stop.TheVariants.{Refused};
 ghost use Rattle.overlay_base.specs.declared.segm.fault.Fault.TheVariants.{Memory};
 
 use overlay_base::segm::fault::Fault;
@@ -27,6 +28,9 @@ pub enum Stop {
     /// The words after the program's name ask for nothing that the program does.
     #[error("usage: arrange join|cross|split|graph [name=value ..]")]
     Usage,
+    /// A crossing is asked for, and the lines are not two.
+    #[error("cross needs two segments")]
+    NotTwoSegments,
     /// Lines are numbered from 1, empty ones too.
     #[error("line {number}: {fault}")]
     Line { number: usize, fault: LineFault },
@@ -40,18 +44,24 @@ pub enum Stop {
 }
 
 impl From<Fault> for Stop {
+    ghost from_gives = { λ fault stop. stop ≡ Refused fault };
+
     fn from(fault: Fault) -> Stop {
         Stop::Refused(fault)
     }
 }
 
 impl From<AllocError> for Stop {
+    ghost from_gives = { λ _ stop. stop ≡ Refused Memory };
+
     fn from(_error: AllocError) -> Stop {
         Stop::Refused(Fault::Memory)
     }
 }
 
 impl<T: Drop> From<AllocFailed<T>> for Stop {
+    ghost from_gives = { λ _ stop. stop ≡ Refused Memory };
+
     fn from(_error: AllocFailed<T>) -> Stop {
         Stop::Refused(Fault::Memory)
     }
@@ -63,7 +73,7 @@ impl Stop {
         ensures { result ≡ status_of self }
     {
         match self {
-            Stop::Usage => 2,
+            Stop::Usage | Stop::NotTwoSegments => 2,
             Stop::Line { .. } => 3,
             Stop::Refused(_) => 4,
             Stop::Input | Stop::Output => 5,

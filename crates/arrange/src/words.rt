@@ -1,13 +1,13 @@
 // The words after the program's name: a command, and then settings as `name=value`.
-ghost use Rattle.std.specs.Prelude.{◌≡◌, ◌↔◌, IsOk, IsNone, IsSome, IfErr, OnOk, OnErr};
+ghost use Rattle.std.specs.Prelude.{◌≡◌, ◌↔◌, ◌≤◌, ◌^◌, pos, IsOk, IsNone, IsSome, IfSome, IfErr, OnOk, OnErr};
+ghost use Rattle.std.specs.Str.Parse.{IsNumeral, digits_value};
 
 use crate::number::{number, short_number};
-use crate::settings::{
-    Command, Engine, FillRule, Links, OverlayRule, Precision, Settings, Strategy,
-};
+use crate::settings::{Command, Engine, FillRule, Links, OverlayRule, Settings, SquaredRadius};
 use crate::stop::Stop;
+use overlay_base::overlay_core::solver::{Precision, Strategy};
 
-const COMMANDS: [(&str, Command); 1] = [("join", Command::Join)];
+const COMMANDS: [(&str, Command); 2] = [("join", Command::Join), ("cross", Command::Cross)];
 
 const ENGINES: [(&str, Engine); 2] = [("i16", Engine::I16), ("i32", Engine::I32)];
 
@@ -19,48 +19,12 @@ const STRATEGIES: [(&str, Strategy); 4] = [
 ];
 
 const PRECISIONS: [(&str, Precision); 6] = [
-    (
-        "absolute",
-        Precision {
-            start: 0,
-            progression: 0,
-        },
-    ),
-    (
-        "high",
-        Precision {
-            start: 0,
-            progression: 1,
-        },
-    ),
-    (
-        "medium-high",
-        Precision {
-            start: 1,
-            progression: 1,
-        },
-    ),
-    (
-        "medium",
-        Precision {
-            start: 0,
-            progression: 2,
-        },
-    ),
-    (
-        "medium-low",
-        Precision {
-            start: 2,
-            progression: 2,
-        },
-    ),
-    (
-        "low",
-        Precision {
-            start: 2,
-            progression: 3,
-        },
-    ),
+    ("absolute", Precision::ABSOLUTE),
+    ("high", Precision::HIGH),
+    ("medium-high", Precision::MEDIUM_HIGH),
+    ("medium", Precision::MEDIUM),
+    ("medium-low", Precision::MEDIUM_LOW),
+    ("low", Precision::LOW),
 ];
 
 const FILL_RULES: [(&str, FillRule); 4] = [
@@ -108,7 +72,7 @@ struct Choices {
     fill_rule: Option<FillRule>,
     links: Option<Links>,
     snap_limit: Option<u32>,
-    radius: Option<i64>,
+    radius: Option<SquaredRadius>,
 }
 
 impl Choices {
@@ -144,14 +108,11 @@ impl Choices {
         Settings {
             engine: self.engine.unwrap_or(Engine::I32),
             strategy: self.strategy.unwrap_or(Strategy::Auto),
-            precision: self.precision.unwrap_or(Precision {
-                start: 0,
-                progression: 1,
-            }),
+            precision: self.precision.unwrap_or(Precision::HIGH),
             fill_rule: self.fill_rule.unwrap_or(FillRule::NonZero),
             links: self.links.unwrap_or(Links::All),
             snap_limit: self.snap_limit.unwrap_or(256),
-            radius: self.radius.unwrap_or(1),
+            radius: self.radius.unwrap_or(SquaredRadius { squared: 1 }),
         }
     }
 }
@@ -193,9 +154,14 @@ fn snap_limit(value: &str) -> Option<u32> {
     u32::try_from(number(value)?).ok()
 }
 
-fn radius(value: &str) -> Option<i64> {
+fn radius(value: &str) -> Option<SquaredRadius>
+    ensures in_range { IsSome result ↔ (IsNumeral 10 value.now × (1 ≤ digits_value 10 value.now) × (digits_value 10 value.now ≤ 2 ^ 56)) }
+    ensures squared { IfSome result (λ radius. radius.squared ≡ pos (digits_value 10 value.now)) }
+{
     match number(value)? {
-        radius @ 1..=GREATEST_RADIUS => Some(radius as i64),
+        squared @ 1..=GREATEST_RADIUS => Some(SquaredRadius {
+            squared: squared as i64,
+        }),
         _ => None,
     }
 }
@@ -203,7 +169,7 @@ fn radius(value: &str) -> Option<i64> {
 #[cfg(test)]
 mod tests {
     use super::*;
-    use std::alloc::{AllocError, Global};
+    use std::process::Abort;
     use std::test::Fail;
 
     const UNCHOSEN: Settings = Settings {
@@ -216,341 +182,153 @@ mod tests {
         fill_rule: FillRule::NonZero,
         links: Links::All,
         snap_limit: 256,
-        radius: 1,
+        radius: SquaredRadius { squared: 1 },
     };
 
-    /// Every name with every value, and numbers at their limits.
-    const CHOICES: [(&str, Settings); 40] = [
-        (
-            "engine=i16",
-            Settings {
-                engine: Engine::I16,
-                ..UNCHOSEN
-            },
-        ),
-        (
-            "engine=i32",
-            Settings {
-                engine: Engine::I32,
-                ..UNCHOSEN
-            },
-        ),
-        (
-            "strategy=list",
-            Settings {
-                strategy: Strategy::List,
-                ..UNCHOSEN
-            },
-        ),
-        (
-            "strategy=tree",
-            Settings {
-                strategy: Strategy::Tree,
-                ..UNCHOSEN
-            },
-        ),
-        (
-            "strategy=frag",
-            Settings {
-                strategy: Strategy::Frag,
-                ..UNCHOSEN
-            },
-        ),
-        (
-            "strategy=auto",
-            Settings {
-                strategy: Strategy::Auto,
-                ..UNCHOSEN
-            },
-        ),
-        (
-            "precision=absolute",
-            Settings {
-                precision: Precision {
-                    start: 0,
-                    progression: 0,
-                },
-                ..UNCHOSEN
-            },
-        ),
-        (
-            "precision=high",
-            Settings {
-                precision: Precision {
-                    start: 0,
-                    progression: 1,
-                },
-                ..UNCHOSEN
-            },
-        ),
-        (
-            "precision=medium-high",
-            Settings {
-                precision: Precision {
-                    start: 1,
-                    progression: 1,
-                },
-                ..UNCHOSEN
-            },
-        ),
-        (
-            "precision=medium",
-            Settings {
-                precision: Precision {
-                    start: 0,
-                    progression: 2,
-                },
-                ..UNCHOSEN
-            },
-        ),
-        (
-            "precision=medium-low",
-            Settings {
-                precision: Precision {
-                    start: 2,
-                    progression: 2,
-                },
-                ..UNCHOSEN
-            },
-        ),
-        (
-            "precision=low",
-            Settings {
-                precision: Precision {
-                    start: 2,
-                    progression: 3,
-                },
-                ..UNCHOSEN
-            },
-        ),
-        (
-            "precision=0,0",
-            Settings {
-                precision: Precision {
-                    start: 0,
-                    progression: 0,
-                },
-                ..UNCHOSEN
-            },
-        ),
-        (
-            "precision=3,1",
-            Settings {
-                precision: Precision {
-                    start: 3,
-                    progression: 1,
-                },
-                ..UNCHOSEN
-            },
-        ),
-        (
-            "precision=000000003,01",
-            Settings {
-                precision: Precision {
-                    start: 3,
-                    progression: 1,
-                },
-                ..UNCHOSEN
-            },
-        ),
-        (
-            "precision=999999999,999999999",
-            Settings {
-                precision: Precision {
-                    start: 999999999,
-                    progression: 999999999,
-                },
-                ..UNCHOSEN
-            },
-        ),
-        (
-            "fill=evenodd",
-            Settings {
-                fill_rule: FillRule::EvenOdd,
-                ..UNCHOSEN
-            },
-        ),
-        (
-            "fill=nonzero",
-            Settings {
-                fill_rule: FillRule::NonZero,
-                ..UNCHOSEN
-            },
-        ),
-        (
-            "fill=positive",
-            Settings {
-                fill_rule: FillRule::Positive,
-                ..UNCHOSEN
-            },
-        ),
-        (
-            "fill=negative",
-            Settings {
-                fill_rule: FillRule::Negative,
-                ..UNCHOSEN
-            },
-        ),
-        (
-            "rule=subject",
-            Settings {
-                links: Links::Of(OverlayRule::Subject),
-                ..UNCHOSEN
-            },
-        ),
-        (
-            "rule=clip",
-            Settings {
-                links: Links::Of(OverlayRule::Clip),
-                ..UNCHOSEN
-            },
-        ),
-        (
-            "rule=intersect",
-            Settings {
-                links: Links::Of(OverlayRule::Intersect),
-                ..UNCHOSEN
-            },
-        ),
-        (
-            "rule=union",
-            Settings {
-                links: Links::Of(OverlayRule::Union),
-                ..UNCHOSEN
-            },
-        ),
-        (
-            "rule=difference",
-            Settings {
-                links: Links::Of(OverlayRule::Difference),
-                ..UNCHOSEN
-            },
-        ),
+    const ENGINE_WORDS: [(&str, Engine); 2] = [
+        ("engine=i16", Engine::I16),
+        ("engine=i32", Engine::I32),
+    ];
+
+    const STRATEGY_WORDS: [(&str, Strategy); 4] = [
+        ("strategy=list", Strategy::List),
+        ("strategy=tree", Strategy::Tree),
+        ("strategy=frag", Strategy::Frag),
+        ("strategy=auto", Strategy::Auto),
+    ];
+
+    /// The exponent of the first radius, and what each pass adds to it.
+    const PRECISION_WORDS: [(&str, usize, usize); 10] = [
+        ("precision=absolute", 0, 0),
+        ("precision=high", 0, 1),
+        ("precision=medium-high", 1, 1),
+        ("precision=medium", 0, 2),
+        ("precision=medium-low", 2, 2),
+        ("precision=low", 2, 3),
+        ("precision=0,0", 0, 0),
+        ("precision=3,1", 3, 1),
+        ("precision=000000003,01", 3, 1),
+        ("precision=999999999,999999999", 999999999, 999999999),
+    ];
+
+    const FILL_WORDS: [(&str, FillRule); 4] = [
+        ("fill=evenodd", FillRule::EvenOdd),
+        ("fill=nonzero", FillRule::NonZero),
+        ("fill=positive", FillRule::Positive),
+        ("fill=negative", FillRule::Negative),
+    ];
+
+    const RULE_WORDS: [(&str, Links); 8] = [
+        ("rule=subject", Links::Of(OverlayRule::Subject)),
+        ("rule=clip", Links::Of(OverlayRule::Clip)),
+        ("rule=intersect", Links::Of(OverlayRule::Intersect)),
+        ("rule=union", Links::Of(OverlayRule::Union)),
+        ("rule=difference", Links::Of(OverlayRule::Difference)),
         (
             "rule=inverse-difference",
-            Settings {
-                links: Links::Of(OverlayRule::InverseDifference),
-                ..UNCHOSEN
-            },
+            Links::Of(OverlayRule::InverseDifference),
         ),
-        (
-            "rule=xor",
-            Settings {
-                links: Links::Of(OverlayRule::Xor),
-                ..UNCHOSEN
-            },
-        ),
-        (
-            "rule=all",
-            Settings {
-                links: Links::All,
-                ..UNCHOSEN
-            },
-        ),
-        (
-            "limit=0",
-            Settings {
-                snap_limit: 0,
-                ..UNCHOSEN
-            },
-        ),
-        (
-            "limit=1",
-            Settings {
-                snap_limit: 1,
-                ..UNCHOSEN
-            },
-        ),
-        (
-            "limit=256",
-            Settings {
-                snap_limit: 256,
-                ..UNCHOSEN
-            },
-        ),
-        (
-            "limit=007",
-            Settings {
-                snap_limit: 7,
-                ..UNCHOSEN
-            },
-        ),
-        (
-            "limit=4294967295",
-            Settings {
-                snap_limit: 4294967295,
-                ..UNCHOSEN
-            },
-        ),
-        (
-            "limit=000000000000000000000000000000256",
-            Settings {
-                snap_limit: 256,
-                ..UNCHOSEN
-            },
-        ),
-        (
-            "radius=1",
-            Settings {
-                radius: 1,
-                ..UNCHOSEN
-            },
-        ),
-        (
-            "radius=5",
-            Settings {
-                radius: 5,
-                ..UNCHOSEN
-            },
-        ),
-        (
-            "radius=0004",
-            Settings {
-                radius: 4,
-                ..UNCHOSEN
-            },
-        ),
-        (
-            "radius=72057594037927935",
-            Settings {
-                radius: 72057594037927935,
-                ..UNCHOSEN
-            },
-        ),
-        (
-            "radius=72057594037927936",
-            Settings {
-                radius: 72057594037927936,
-                ..UNCHOSEN
-            },
-        ),
+        ("rule=xor", Links::Of(OverlayRule::Xor)),
+        ("rule=all", Links::All),
+    ];
+
+    const LIMIT_WORDS: [(&str, u32); 6] = [
+        ("limit=0", 0),
+        ("limit=1", 1),
+        ("limit=256", 256),
+        ("limit=007", 7),
+        ("limit=4294967295", 4294967295),
+        ("limit=000000000000000000000000000000256", 256),
+    ];
+
+    const RADIUS_WORDS: [(&str, i64); 6] = [
+        ("radius=1", 1),
+        ("radius=5", 5),
+        ("radius=0004", 4),
+        ("radius=72057594037927935", 72057594037927935),
+        ("radius=72057594037927936", 72057594037927936),
         (
             "radius=00000000000000000000000000000000072057594037927936",
-            Settings {
-                radius: 72057594037927936,
-                ..UNCHOSEN
-            },
+            72057594037927936,
         ),
     ];
 
-    fn owned(alloc: Global, words: &[&str]) -> Result<Vec<String>, AllocError> {
-        words
-            .iter()
-            .map(|word| String::from_str(alloc, word))
-            .try_collect(alloc)
+    /// The settings that one word chooses.
+    fn chosen(rt: &(impl Abort + AllocGlobal), word: &str) -> Result<Settings, Fail> {
+        let alloc = rt.alloc();
+        let words = [
+            String::from_str(alloc, "join")?,
+            String::from_str(alloc, word)?,
+        ];
+        let (command, settings) = read_words(&words).ok().ok_or("refused")?;
+        assert_eq!(rt; command, Command::Join);
+        Ok(settings)
     }
 
     #[test]
     fn choices(rt: HostRuntime) -> Result<(), Fail> {
-        let words = owned(rt.alloc(), &["join"])?;
-        assert_eq!(rt; read_words(words.as_slice()), Ok((Command::Join, UNCHOSEN)));
-        for (word, settings) in CHOICES {
-            let words = owned(rt.alloc(), &["join", word])?;
+        for (word, engine) in ENGINE_WORDS {
+            assert_eq!(rt; chosen(&rt, word)?, Settings { engine, ..UNCHOSEN });
+        }
+        for (word, strategy) in STRATEGY_WORDS {
             assert_eq!(rt;
-                read_words(words.as_slice()),
-                Ok((Command::Join, settings)),
-                "{settings:?}"
+                chosen(&rt, word)?,
+                Settings {
+                    strategy,
+                    ..UNCHOSEN
+                }
             );
+        }
+        for (word, start, progression) in PRECISION_WORDS {
+            let precision = Precision { start, progression };
+            assert_eq!(rt;
+                chosen(&rt, word)?,
+                Settings {
+                    precision,
+                    ..UNCHOSEN
+                }
+            );
+        }
+        for (word, fill_rule) in FILL_WORDS {
+            assert_eq!(rt;
+                chosen(&rt, word)?,
+                Settings {
+                    fill_rule,
+                    ..UNCHOSEN
+                }
+            );
+        }
+        for (word, links) in RULE_WORDS {
+            assert_eq!(rt; chosen(&rt, word)?, Settings { links, ..UNCHOSEN });
+        }
+        Ok(())
+    }
+
+    #[test]
+    fn chosen_numbers(rt: HostRuntime) -> Result<(), Fail> {
+        for (word, snap_limit) in LIMIT_WORDS {
+            assert_eq!(rt;
+                chosen(&rt, word)?,
+                Settings {
+                    snap_limit,
+                    ..UNCHOSEN
+                }
+            );
+        }
+        for (word, squared) in RADIUS_WORDS {
+            let settings = chosen(&rt, word)?;
+            assert_eq!(rt; settings.radius.squared, squared, "{word}");
+            let radius = settings.radius;
+            assert_eq!(rt; settings, Settings { radius, ..UNCHOSEN });
+        }
+        Ok(())
+    }
+
+    #[test]
+    fn commands(rt: HostRuntime) -> Result<(), Fail> {
+        for (name, command) in [("join", Command::Join), ("cross", Command::Cross)] {
+            let words = [String::from_str(rt.alloc(), name)?];
+            assert_eq!(rt; read_words(&words), Ok((command, UNCHOSEN)));
         }
         Ok(())
     }

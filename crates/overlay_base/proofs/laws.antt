@@ -2,6 +2,7 @@
 pub mod Lists
 pub mod Keys
 pub mod Polynomials
+pub mod Coordinates
 pub mod Points
 pub mod Windings
 pub mod Pairs

@@ -1,5 +1,5 @@
 -- The range of coordinates.
-use Rattle.std.specs.Prelude.{ℤ, pos, negsuc, int_le, Bool, ◌&&◌}
+use Rattle.std.specs.Prelude.{ℕ, ◌*◌, ℤ, pos, negsuc, ◌-ℤ◌, unsigned_abs, int_le, Bool, ◌&&◌}
 
 -- The widest engine's limits, -2^19 and 2^19 - 1. The sizes of all products follow from these two numbers.
 abbrev pub least_coordinate : ℤ
@@ -11,3 +11,10 @@ greatest_coordinate = pos 524287
 -- whether z lies from the least to the greatest coordinate of an engine
 abbrev pub is_coordinate : ℤ → ℤ → ℤ → Bool
 is_coordinate least greatest z = int_le least z && int_le z greatest
+
+-- the size of a difference of two coordinates, and of a product of two differences
+abbrev pub greatest_difference : ℕ
+greatest_difference = unsigned_abs (greatest_coordinate -ℤ least_coordinate)
+
+abbrev pub greatest_product : ℕ
+greatest_product = greatest_difference * greatest_difference

@@ -2,6 +2,10 @@ pub mod Coordinates
 pub mod Points
 pub mod PointOf
 pub mod PairOf
+pub mod Turns
+pub mod Ranges
+pub mod RangeOf
+pub mod VectorOf
 pub mod Windings
 pub mod ShapeWindings
 pub mod BooleanWinding
@@ -10,6 +14,7 @@ pub mod Sums
 pub mod Join
 pub mod Meeting
 pub mod Planar
+pub mod InRange
 pub mod Balance
 pub mod EdgeData
 pub mod Choices

@@ -1,5 +1,11 @@
 // Points and segments of the plane.
 
 pub mod laws;
+pub mod line_range;
 pub mod point;
+pub mod rect;
+#[cfg(test)]
+mod tests;
+pub mod triangle;
+pub mod vector;
 pub mod x_segment;

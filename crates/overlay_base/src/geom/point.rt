@@ -1,5 +1,6 @@
 // Points with integer coordinates. Upstream: `i_float::int::point`.
 
+use crate::geom::vector::IntVector;
 use crate::num::OverlayInt;
 
 /// A point. Points are ordered by `x`, then by `y`.
@@ -10,8 +11,10 @@ pub struct IntPoint<I> {
 }
 
 impl<I: OverlayInt> IntPoint<I> {
-    ghost use Rattle.std.specs.Prelude.{◌≡◌};
+    ghost use Rattle.std.specs.Prelude.{◌≡◌, pos};
+    ghost use Rattle.overlay_base.specs.Points.{sqr_distance};
     ghost use Rattle.overlay_base.specs.PointOf.{point_of};
+    ghost use Rattle.overlay_base.specs.InRange.{IsPointInRange};
 
     /// The origin.
     pub const ZERO: Self = IntPoint {
@@ -24,5 +27,14 @@ impl<I: OverlayInt> IntPoint<I> {
         ensures { point_of I.whole result ≡ record { x = I.whole x; y = I.whole y } }
     {
         IntPoint { x, y }
+    }
+
+    /// The squared distance to another point. Both have to be in range.
+    pub fn sqr_distance(self, other: Self) -> i64
+        requires own { IsPointInRange I.whole I.MIN_COORD I.MAX_COORD self }
+        requires other { IsPointInRange I.whole I.MIN_COORD I.MAX_COORD other }
+        ensures { result ≡ pos (sqr_distance (point_of I.whole self) (point_of I.whole other)) }
+    {
+        IntVector::between(self, other).sqr_length()
     }
 }

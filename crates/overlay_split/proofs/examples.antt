@@ -1,0 +1,8 @@
+-- Worked examples of the definitions, which hold by computation.
+pub mod Computing
+pub mod Squares
+pub mod Crossings
+pub mod Paths
+pub mod Runs
+pub mod DataPasses
+pub mod ExactInputs

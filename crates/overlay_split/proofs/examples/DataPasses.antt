@@ -1,0 +1,48 @@
+-- Passes with data, with the calls of the hooks.
+use Rattle.std.specs.Prelude.{◌≡◌, refl, ℕ, ◌+◌, ℤ, pos, Bool, true, false, List, [], ◌∷◌, if◌then◌else◌}
+use Rattle.overlay_base.specs.EdgeData.{DataSegment, MergeCall, Hooks}
+use Rattle.overlay_split.specs.DataPass.{data_after_passes}
+use Rattle.overlay_base.proofs.examples.Words.{neg, pair, count}
+use Rattle.overlay_split.proofs.examples.Computing.{computing}
+use Rattle.overlay_split.proofs.examples.Runs.{high}
+
+data Color : Type 0 where
+  red green undefined : Color
+
+abbrev same_color : Color → Color → Bool
+same_color red red = true
+same_color green green = true
+same_color undefined undefined = true
+same_color _ _ = false
+
+-- how often data was split and reversed, and the calls that merged, the last first
+record Calls : Type 0 where
+  splits : ℕ
+  reversals : ℕ
+  merges : List (MergeCall Color)
+
+abbrev no_calls : Calls
+no_calls = record { splits = 0; reversals = 0; merges = [] }
+
+-- equal colors stay, others become undefined
+abbrev hooks : Hooks Color Calls
+hooks = record {
+  reversed = λ c calls. (c, record calls { reversals = calls.reversals + 1 });
+  split = λ call calls. ((call.edge_data, call.edge_data), record calls { splits = calls.splits + 1 });
+  merge = λ call calls. (if same_color call.lhs_data call.rhs_data then call.lhs_data else undefined, record calls { merges = call ∷ calls.merges });
+}
+
+abbrev colored : ℤ → ℤ → ℤ → ℤ → ℤ → ℤ → Color → DataSegment Color
+colored ax ay bx by subj clip color = record { pair = pair ax ay bx by; count = count subj clip; edge_data = color }
+
+-- an overlap: the piece that stands in its segment's place comes first
+overlap_merges : data_after_passes hooks (high 256) (colored (pos 0) (pos 0) (pos 4) (pos 0) (pos 1) (pos 0) red ∷ colored (pos 2) (pos 0) (pos 6) (pos 0) (pos 0) (pos 1) green ∷ []) no_calls 1
+    ≡ ((colored (pos 0) (pos 0) (pos 2) (pos 0) (pos 1) (pos 0) red ∷ colored (pos 2) (pos 0) (pos 4) (pos 0) (pos 1) (pos 1) undefined ∷ colored (pos 4) (pos 0) (pos 6) (pos 0) (pos 0) (pos 1) green ∷ []), record { splits = 2; reversals = 0; merges = record { lhs_data = green; lhs_count = count (pos 0) (pos 1); rhs_data = red; rhs_count = count (pos 1) (pos 0); out_count = count (pos 1) (pos 1) } ∷ [] })
+unfolding computing
+overlap_merges = refl
+
+-- a segment bent through another's end: its lower half runs backward
+bent_is_reversed : data_after_passes hooks (high 256) (colored (pos 0) (pos 0) (pos 100) (pos 1) (pos 1) (pos 0) red ∷ colored (pos 1) (neg 50) (pos 1) (pos 50) (pos 1) (pos 0) red ∷ []) no_calls 2
+    ≡ ((colored (pos 0) (pos 0) (pos 1) (neg 50) (neg 1) (pos 0) red ∷ colored (pos 0) (pos 0) (pos 1) (pos 50) (pos 1) (pos 0) red ∷ colored (pos 0) (pos 0) (pos 100) (pos 1) (pos 1) (pos 0) red ∷ []), record { splits = 1; reversals = 1; merges = [] })
+unfolding computing
+bent_is_reversed = refl

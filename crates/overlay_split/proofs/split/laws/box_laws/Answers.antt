@@ -1,0 +1,5 @@
+use Rattle.overlay_split.proofs.laws.Boxes.{stays_in_box}
+use Rattle.overlay_split.proofs.split.laws.box_laws.Goals as goal
+
+pub returns : goal.returns
+returns c = stays_in_box

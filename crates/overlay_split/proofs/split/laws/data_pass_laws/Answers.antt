@@ -1,0 +1,11 @@
+use Rattle.overlay_split.proofs.laws.DataPasses.{data_is_beside, unmarked_data_is_unchanged, arranged_data_is_unchanged}
+use Rattle.overlay_split.proofs.split.laws.data_pass_laws.Goals as goal
+
+pub returns-clause-beside : goal.returns-clause-beside
+returns-clause-beside g c = data_is_beside
+
+pub returns-clause-unmarked : goal.returns-clause-unmarked
+returns-clause-unmarked g c = unmarked_data_is_unchanged
+
+pub returns-clause-arranged : goal.returns-clause-arranged
+returns-clause-arranged g c = arranged_data_is_unchanged

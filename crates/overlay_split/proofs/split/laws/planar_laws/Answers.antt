@@ -1,0 +1,19 @@
+use Rattle.overlay_split.proofs.laws.PlanarPasses.{exact_pass_is_planar}
+use Rattle.overlay_split.proofs.laws.Arranged.{planar_pass_is_unchanged, arranged_is_unchanged}
+use Rattle.overlay_split.proofs.laws.PlanarRuns.{run_is_planar, result_is_unchanged}
+use Rattle.overlay_split.proofs.split.laws.planar_laws.Goals as goal
+
+pub returns-clause-exact_pass : goal.returns-clause-exact_pass
+returns-clause-exact_pass c = exact_pass_is_planar
+
+pub returns-clause-planar_pass : goal.returns-clause-planar_pass
+returns-clause-planar_pass c = planar_pass_is_unchanged
+
+pub returns-clause-run : goal.returns-clause-run
+returns-clause-run c = run_is_planar
+
+pub returns-clause-arranged : goal.returns-clause-arranged
+returns-clause-arranged c = arranged_is_unchanged
+
+pub returns-clause-again : goal.returns-clause-again
+returns-clause-again c = result_is_unchanged

@@ -1,0 +1,48 @@
+-- The same passes over segments with data: which hook is called when, and what the store holds after.
+use Rattle.std.specs.Prelude.{ℕ, zero, suc, List, [], ◌∷◌, ◌++◌, flat_map, take, drop}
+use Rattle.overlay_base.specs.Points.{Point, Pair}
+use Rattle.overlay_base.specs.Windings.{Winding}
+use Rattle.overlay_split.specs.Marks.{Placing}
+use Rattle.overlay_split.specs.Path.{path_from, columns_of}
+use Rattle.overlay_split.specs.Pass.{marks_on}
+use Rattle.overlay_split.specs.Run.{Settings, placing_of_pass}
+use Rattle.overlay_base.specs.EdgeData.{DataSegment, Hooks, without_data, data_piece, data_join}
+
+module _ {D S : Type 0} (hooks : Hooks D S) where
+  -- The pieces from p through the points that follow it on a path to b. Before each but the last the data is split there.
+  unfoldable pub data_pieces : Winding → Point → List Point → Point → D → S → List (DataSegment D) × S
+  data_pieces count p [] b edge_data store = ([], store)
+  data_pieces count p (q ∷ []) b edge_data store =
+      let last : DataSegment D × S = data_piece hooks count p q edge_data store in
+      (last.0 ∷ [], last.1)
+  data_pieces count p (q ∷ r ∷ points) b edge_data store =
+      let parts : (D × D) × S = hooks.split (record { edge_data = edge_data; a = p; p = q; b = b }) store in
+      let first : DataSegment D × S = data_piece hooks count p q parts.0.0 parts.1 in
+      let later : List (DataSegment D) × S = data_pieces count q (r ∷ points) b parts.0.1 first.1 in
+      (first.0 ∷ later.0, later.1)
+
+  -- the pieces of each segment, one segment after another
+  unfoldable pub data_pieces_of_each : (Pair → List Point) → List (DataSegment D) → S → List (List (DataSegment D)) × S
+  data_pieces_of_each marks [] store = ([], store)
+  data_pieces_of_each marks (s ∷ segments) store =
+      let here : List (DataSegment D) × S = data_pieces s.count s.pair.a (path_from s.pair.a (columns_of (marks s.pair)) s.pair.b) s.pair.b s.edge_data store in
+      let rest : List (List (DataSegment D)) × S = data_pieces_of_each marks segments here.1 in
+      (here.0 ∷ rest.0, rest.1)
+
+  -- the first piece of each segment in its place, then the others in order
+  unfoldable pub data_cut : Placing → List (DataSegment D) → S → List (DataSegment D) × S
+  data_cut placing segments store =
+      let each : List (List (DataSegment D)) × S = data_pieces_of_each (λ pair. marks_on placing (without_data segments) pair) segments store in
+      (flat_map (λ ps. take 1 ps) each.0 ++ flat_map (λ ps. drop 1 ps) each.0, each.1)
+
+  unfoldable pub data_pass : Placing → List (DataSegment D) → S → List (DataSegment D) × S
+  data_pass placing segments store =
+      let pieces : List (DataSegment D) × S = data_cut placing segments store in
+      data_join hooks pieces.0 pieces.1
+
+  -- the segments with their data, and the store, after k passes
+  unfoldable pub data_after_passes : Settings → List (DataSegment D) → S → ℕ → List (DataSegment D) × S
+  data_after_passes settings given store zero = data_join hooks given store
+  data_after_passes settings given store (suc k) =
+      let before : List (DataSegment D) × S = data_after_passes settings given store k in
+      data_pass (placing_of_pass settings (suc k)) before.0 before.1

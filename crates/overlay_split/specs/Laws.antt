@@ -1,0 +1,228 @@
+-- Laws over the definitions, each a statement that is proved once and named by a contract.
+use Rattle.std.specs.Prelude.{◌≡◌, ◌≢◌, ◌<◌, ◌≤◌, ℕ, ◌*◌, ℤ, pos, ◌+ℤ◌, ◌-ℤ◌, ◌*ℤ◌, ◌≤ℤ◌, ◌<ℤ◌, unsigned_abs, not, ◌&&◌, IsTrue, ◌+◌, ◌-◌, neg_ℤ, Bool, false, IsFalse, List, length, min}
+use Rattle.std.specs.List.{list_all}
+use Rattle.std.specs.Ordering.{int_eq}
+use Rattle.overlay_base.specs.Points.{Point, Pair, pair_lt, turn, is_end, is_in_box, is_within_box_of}
+use Rattle.overlay_base.specs.Meeting.{do_cross}
+use Rattle.overlay_base.specs.Windings.{Winding, inverse}
+use Rattle.overlay_base.specs.Segments.{WholeSegment, pairs, ends, is_map, are_ordered, are_polygons}
+use Rattle.overlay_base.specs.Sums.{IsLinear, weighed}
+use Rattle.overlay_base.specs.Join.{join}
+use Rattle.overlay_base.specs.Planar.{is_planar}
+use Rattle.overlay_base.specs.Balance.{KeepsBalance}
+use Rattle.overlay_base.specs.EdgeData.{Hooks, DataSegment, without_data}
+use Rattle.overlay_split.specs.Crossing.{Quotient, truncated, nearest, nearest_upward, is_exact, is_on_lines, snapping_point, settling_point}
+use Rattle.overlay_split.specs.Marks.{Placing, nearer_end, marks_by, settling}
+use Rattle.overlay_split.specs.Counts.{count_of}
+use Rattle.overlay_split.specs.CrossAnswer.{cross_answer, target_marks, other_marks}
+use Rattle.overlay_split.specs.Path.{pieces}
+use Rattle.overlay_split.specs.Pass.{pass, is_rounded, mark_count}
+use Rattle.overlay_split.specs.Run.{Settings, IsPassCount, IsRun, after_passes}
+use Rattle.overlay_split.specs.Potential.{potential}
+use Rattle.overlay_split.specs.ExactInput.{is_exact_input, is_elementary, count_along, lies_on_input}
+use Rattle.overlay_split.specs.DataPass.{data_pass, data_after_passes}
+
+-- ---- marks and crossings
+
+-- the answer for two pairs, the smaller as target, stands for the marks that the two put on one another
+abbrev pub AnswersAreMarks : Type 0
+AnswersAreMarks =
+    (placing : Placing) (s t : Pair) → IsTrue (pair_lt s t) →
+    (target_marks s t (cross_answer placing s t) ≡ marks_by placing s t) × (other_marks s t (cross_answer placing s t) ≡ marks_by placing t s)
+
+-- no mark is an end of the pair that it marks
+abbrev pub NoMarkIsAnEnd : Type 0
+NoMarkIsAnEnd = (placing : Placing) (s t : Pair) → IsTrue (list_all (λ p. not (is_end s p)) (marks_by placing s t))
+
+-- of the four turns of two pairs, the ends of each apart, never just three are 0
+abbrev pub NeverThreeZeros : Type 0
+NeverThreeZeros =
+    (s t : Pair) → s.a ≢ s.b → t.a ≢ t.b →
+    count_of (int_eq (turn s.a s.b t.a) (pos 0)) (int_eq (turn s.a s.b t.b) (pos 0)) (int_eq (turn t.a t.b s.a) (pos 0)) (int_eq (turn t.a t.b s.b) (pos 0)) ≢ 3
+
+-- the end that a crossing snaps to does not lie on the other's line
+abbrev pub SnappedEndsAreOffTheLine : Type 0
+SnappedEndsAreOffTheLine =
+    (s t : Pair) (p : Point) → IsTrue (do_cross s t) →
+    (turn t.a (nearer_end p s) t.b ≢ pos 0) × (turn s.a (nearer_end p t) s.b ≢ pos 0)
+
+-- no point is an end of both of two that cross, and so the settling point is not
+abbrev pub NoEndOfBoth : Type 0
+NoEndOfBoth = (s t : Pair) (p : Point) → IsTrue (do_cross s t) → IsTrue (not (is_end s p && is_end t p))
+
+-- a crossing is exact where the point that it is placed at lies on both lines, and then both placings agree
+abbrev pub ExactIsOnBothLines : Type 0
+ExactIsOnBothLines =
+    (s t : Pair) → IsTrue (do_cross s t) →
+    (is_exact s t ≡ is_on_lines s t (snapping_point s t)) × (is_exact s t ≡ is_on_lines s t (settling_point s t))
+    × (IsTrue (is_exact s t) → snapping_point s t ≡ settling_point s t)
+
+-- whether a crossing is exact, and where it settles, does not depend on which is the target
+abbrev pub TargetDoesNotMatter : Type 0
+TargetDoesNotMatter = (s t : Pair) → IsTrue (do_cross s t) → (is_exact s t ≡ is_exact t s) × (settling_point s t ≡ settling_point t s)
+
+-- the points of a crossing lie in the boxes of both
+abbrev pub PointsLieInBothBoxes : Type 0
+PointsLieInBothBoxes =
+    (s t : Pair) → IsTrue (do_cross s t) →
+    IsTrue (is_in_box s (snapping_point s t)) × IsTrue (is_in_box t (snapping_point s t))
+    × IsTrue (is_in_box s (settling_point s t)) × IsTrue (is_in_box t (settling_point s t))
+
+-- how far a whole number is from a quotient, times the bottom
+abbrev pub distance_from : Quotient → ℤ → ℕ
+distance_from q r = unsigned_abs (q.top -ℤ pos q.bottom *ℤ r)
+
+-- the nearest whole number, of two as near the one farther from 0
+pub record IsNearest (q : Quotient) (r : ℤ) : Type 0 where
+  pub near : 2 * distance_from q r ≤ q.bottom
+  pub half_away : 2 * distance_from q r ≡ q.bottom → unsigned_abs q.top < unsigned_abs (pos q.bottom *ℤ r)
+
+-- the whole number that is left where the rest is cut off
+pub record IsTruncated (q : Quotient) (r : ℤ) : Type 0 where
+  pub near : distance_from q r < q.bottom
+  pub toward_zero : unsigned_abs (pos q.bottom *ℤ r) ≤ unsigned_abs q.top
+
+-- the greatest whole number that is at most the quotient and one half
+pub record IsFloorOfHalfMore (q : Quotient) (r : ℤ) : Type 0 where
+  pub low : (pos 2 *ℤ (pos q.bottom *ℤ r)) ≤ℤ (pos 2 *ℤ q.top +ℤ pos q.bottom)
+  pub high : (pos 2 *ℤ q.top) <ℤ (pos 2 *ℤ (pos q.bottom *ℤ r) +ℤ pos q.bottom)
+
+-- what the quotients of the three roundings are, and that nothing else is so
+pub record IsRoundedAs (q : Quotient) (round : ℤ) (IsRounded : Quotient → ℤ → Type 0) : Type 0 where
+  pub is_so : IsRounded q round
+  pub alone : (r : ℤ) → IsRounded q r → r ≡ round
+
+abbrev pub RoundingsAreAsMeant : Type 0
+RoundingsAreAsMeant =
+    (q : Quotient) → 0 < q.bottom →
+    IsRoundedAs q (nearest q) IsNearest × IsRoundedAs q (truncated q) IsTruncated × IsRoundedAs q (nearest_upward q) IsFloorOfHalfMore
+
+-- ---- paths
+
+-- a number of a count that an inverse negates
+abbrev pub IsOdd : (Winding → ℤ) → Type 0
+IsOdd part = (c : Winding) → part (inverse c) ≡ neg_ℤ (part c)
+
+-- what a function of points loses from the start of a pair to its end
+abbrev pub loss : (Point → ℤ) → Pair → ℤ
+loss f s = f s.a -ℤ f s.b
+
+-- the two numbers of a count are odd
+abbrev pub NumbersAreOdd : Type 0
+NumbersAreOdd = IsOdd (λ c. c.subj) × IsOdd (λ c. c.clip)
+
+-- the pieces of a segment, through whatever marks, lose together what the segment loses
+abbrev pub PiecesTelescope : Type 0
+PiecesTelescope =
+    (f : Point → ℤ) (part : Winding → ℤ) → IsOdd part → (segment : WholeSegment) (marks : List Point) →
+    weighed (loss f) part (pieces segment marks) ≡ loss f segment.pair *ℤ part segment.count
+
+-- ---- passes
+
+-- so a pass changes no such sum
+abbrev pub PassKeepsLosses : Type 0
+PassKeepsLosses =
+    (f : Point → ℤ) (part : Winding → ℤ) → IsLinear part → IsOdd part → (placing : Placing) (segments : List WholeSegment) →
+    weighed (loss f) part (pass placing segments) ≡ weighed (loss f) part segments
+
+-- and no point's balance
+abbrev pub PassKeepsBalance : Type 0
+PassKeepsBalance = (placing : Placing) (segments : List WholeSegment) → KeepsBalance segments (pass placing segments)
+
+-- a rounded settling pass makes a mark, and lowers the potential by at least the number of its marks
+abbrev pub SettlingLowers : Type 0
+SettlingLowers =
+    (segments : List WholeSegment) → IsTrue (is_map segments) → IsTrue (is_rounded segments) →
+    (0 < mark_count settling segments) × (potential (pass settling segments) + mark_count settling segments ≤ potential segments)
+
+-- a pass that is not rounded leaves a planar arrangement
+abbrev pub ExactPassIsPlanar : Type 0
+ExactPassIsPlanar = (placing : Placing) (segments : List WholeSegment) → IsTrue (is_map segments) → IsFalse (is_rounded segments) → IsTrue (is_planar (pass placing segments))
+
+-- a pass leaves a planar arrangement as it is, and makes no mark
+abbrev pub PlanarPassIsUnchanged : Type 0
+PlanarPassIsUnchanged =
+    (placing : Placing) (segments : List WholeSegment) → IsTrue (is_map segments) → IsTrue (is_planar segments) →
+    (pass placing segments ≡ segments) × (mark_count placing segments ≡ 0) × IsFalse (is_rounded segments)
+
+-- ---- runs
+
+-- a run ends, after no more passes than the limit, the potential at the limit and one
+abbrev pub RunEnds : Type 0
+RunEnds =
+    (settings : Settings) (given : List WholeSegment) → IsTrue (are_ordered given) →
+    (passes : ℕ) × IsPassCount settings given passes × (passes ≤ settings.limit + potential (after_passes settings given settings.limit) + 1)
+
+-- what is given and the settings tell what a run answers
+abbrev pub RunIsOne : Type 0
+RunIsOne =
+    (settings : Settings) (given first second : List WholeSegment) (j k : ℕ) (b c : Bool) → IsRun settings given first j b → IsRun settings given second k c →
+    (first ≡ second) × (j ≡ k) × (b ≡ c)
+
+-- a run changes no point's balance
+abbrev pub RunKeepsBalance : Type 0
+RunKeepsBalance =
+    (settings : Settings) (given result : List WholeSegment) (passes : ℕ) (flag : Bool) → IsRun settings given result passes flag →
+    KeepsBalance given result
+
+-- no mask appears
+abbrev pub RunKeepsPolygons : Type 0
+RunKeepsPolygons =
+    (settings : Settings) (given result : List WholeSegment) (passes : ℕ) (flag : Bool) → IsTrue (are_polygons given) → IsRun settings given result passes flag →
+    IsTrue (are_polygons result)
+
+-- what a run answers is a planar arrangement
+abbrev pub RunIsPlanar : Type 0
+RunIsPlanar =
+    (settings : Settings) (given result : List WholeSegment) (passes : ℕ) (flag : Bool) → IsTrue (are_ordered given) → IsRun settings given result passes flag →
+    IsTrue (is_map result) × IsTrue (is_planar result)
+
+-- a planar arrangement is answered as it is
+abbrev pub ArrangedIsUnchanged : Type 0
+ArrangedIsUnchanged =
+    (settings : Settings) (segments : List WholeSegment) → IsTrue (is_map segments) → IsTrue (is_planar segments) →
+    IsRun settings segments segments (min 1 (length segments - 1)) false
+
+-- so a result that is split again, with whatever settings, is answered as it is
+abbrev pub ResultIsUnchanged : Type 0
+ResultIsUnchanged =
+    (settings again : Settings) (given result : List WholeSegment) (passes : ℕ) (flag : Bool) → IsTrue (are_ordered given) → IsRun settings given result passes flag →
+    IsRun again result result (min 1 (length result - 1)) false
+
+-- no pass reaches outside the box round the ends of the join
+abbrev pub StaysInBox : Type 0
+StaysInBox =
+    (settings : Settings) (given : List WholeSegment) (k : ℕ) →
+    IsTrue (list_all (λ p. is_within_box_of (ends (pairs (join given))) p) (ends (pairs (after_passes settings given k))))
+
+-- on exact input the result counts along each elementary pair what the given segments count there, and lies on them
+abbrev pub ExactInputKeepsCounts : Type 0
+ExactInputKeepsCounts =
+    (settings : Settings) (given result : List WholeSegment) (passes : ℕ) (flag : Bool) → IsTrue (are_ordered given) → IsTrue (is_exact_input given) → IsRun settings given result passes flag →
+    ((e : Pair) → IsTrue (is_elementary given e) → count_along result e ≡ count_along given e) × IsTrue (lies_on_input given result)
+
+-- and the settings do not change it
+abbrev pub ExactRunsAgree : Type 0
+ExactRunsAgree =
+    (settings other : Settings) (given first second : List WholeSegment) (j k : ℕ) (b c : Bool) → IsTrue (are_ordered given) → IsTrue (is_exact_input given) →
+    IsRun settings given first j b → IsRun other given second k c → first ≡ second
+
+-- ---- passes with data
+
+-- data changes neither geometry nor counts
+abbrev pub DataIsBeside : (D S : Type 0) → Type 0
+DataIsBeside D S =
+    (hooks : Hooks D S) (settings : Settings) (given : List (DataSegment D)) (store : S) (k : ℕ) →
+    without_data (data_after_passes hooks settings given store k).0 ≡ after_passes settings (without_data given) k
+
+-- a pass that makes no mark leaves the arrangement, its data and the store as they are
+abbrev pub UnmarkedDataIsUnchanged : (D S : Type 0) → Type 0
+UnmarkedDataIsUnchanged D S =
+    (hooks : Hooks D S) (placing : Placing) (segments : List (DataSegment D)) (store : S) → IsTrue (is_map (without_data segments)) → mark_count placing (without_data segments) ≡ 0 →
+    data_pass hooks placing segments store ≡ (segments, store)
+
+-- and so does a run over a planar arrangement
+abbrev pub ArrangedDataIsUnchanged : (D S : Type 0) → Type 0
+ArrangedDataIsUnchanged D S =
+    (hooks : Hooks D S) (settings : Settings) (segments : List (DataSegment D)) (store : S) (k : ℕ) → IsTrue (is_map (without_data segments)) → IsTrue (is_planar (without_data segments)) →
+    data_after_passes hooks settings segments store k ≡ (segments, store)

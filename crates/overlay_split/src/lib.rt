@@ -1,0 +1,4 @@
+// Splitting a list of segments into a planar arrangement. Modules are named as in upstream.
+#![tactic(auto)]
+
+pub mod split;

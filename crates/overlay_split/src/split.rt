@@ -1,0 +1,12 @@
+// Where segments meet, and the passes that split them there.
+
+mod contact;
+pub mod cross_solver;
+mod crossing_point;
+pub mod laws;
+pub mod line_mark;
+mod nearer_end;
+mod offset;
+pub mod path;
+pub mod piece;
+mod settled;

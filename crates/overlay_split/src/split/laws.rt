@@ -1,0 +1,88 @@
+// The laws of crossings, of the marks that they stand for, of passes and of runs. Each function has an empty body, and
+// its contract is proved for all whole numbers, all lists and all hooks, whatever the engine.
+ghost use Rattle.overlay_split.specs.Laws.{AnswersAreMarks, NoMarkIsAnEnd, NeverThreeZeros, ExactIsOnBothLines, TargetDoesNotMatter, PointsLieInBothBoxes, SnappedEndsAreOffTheLine, NoEndOfBoth, RoundingsAreAsMeant};
+ghost use Rattle.overlay_split.specs.Laws.{NumbersAreOdd, PiecesTelescope, PassKeepsLosses, PassKeepsBalance, RunKeepsBalance, RunKeepsPolygons};
+ghost use Rattle.overlay_split.specs.Laws.{SettlingLowers, RunEnds, RunIsOne, ExactPassIsPlanar, PlanarPassIsUnchanged, RunIsPlanar, ArrangedIsUnchanged, ResultIsUnchanged};
+ghost use Rattle.overlay_split.specs.Laws.{StaysInBox, ExactInputKeepsCounts, ExactRunsAgree, DataIsBeside, UnmarkedDataIsUnchanged, ArrangedDataIsUnchanged};
+
+/// The answer for two pairs, the smaller as target, stands for the marks that a pass puts on both, and no mark is an
+/// end of the pair that it marks.
+pub fn mark_laws()
+    ensures answers { AnswersAreMarks }
+    ensures ends { NoMarkIsAnEnd }
+{}
+
+/// Never just three of the four turns of two pairs are 0. A crossing is exact where its point lies on both lines;
+/// whether it is, and where it settles, does not depend on which of the two is the target. Its points lie in the boxes
+/// of both. An end that it snaps to never lies on the other's line. No point is an end of both, so where it settles is
+/// an end of at most one.
+pub fn crossing_laws()
+    ensures turns { NeverThreeZeros }
+    ensures exact { ExactIsOnBothLines }
+    ensures target { TargetDoesNotMatter }
+    ensures boxes { PointsLieInBothBoxes }
+    ensures snapped_ends { SnappedEndsAreOffTheLine }
+    ensures settled_ends { NoEndOfBoth }
+{}
+
+/// The quotients by which offsets become whole are what is meant by them, and no other number is: the nearest whole
+/// number, of two as near the one farther from 0; the number with its rest cut off; the floor of one half more.
+pub fn rounding_laws()
+    ensures { RoundingsAreAsMeant }
+{}
+
+/// Take a function of points, and a number of the count that inversion negates, as `subj` and `clip`. The pieces of a
+/// segment, each with what the function loses from its start to its end times that number, add up to the segment. So a
+/// pass changes neither such a sum nor the balance at any point, and a run leaves each balance as it was given.
+pub fn balance_laws()
+    ensures odd { NumbersAreOdd }
+    ensures pieces { PiecesTelescope }
+    ensures pass_losses { PassKeepsLosses }
+    ensures pass_balance { PassKeepsBalance }
+    ensures run_balance { RunKeepsBalance }
+{}
+
+/// A run over counts without a mask answers counts without a mask.
+pub fn polygon_laws()
+    ensures { RunKeepsPolygons }
+{}
+
+/// A settling pass that is rounded makes a mark, and lowers the potential by at least the number of its marks. So a run
+/// ends, after no more passes than the snap limit, the potential of the arrangement reached there, and one. What is
+/// given and the settings tell what it answers.
+pub fn ending_laws()
+    ensures settling { SettlingLowers }
+    ensures ends { RunEnds }
+    ensures one { RunIsOne }
+{}
+
+/// A pass that is not rounded leaves a planar arrangement, and what a run answers is one. Each pass leaves a planar
+/// arrangement as it is and marks nothing, and so does a run.
+pub fn planar_laws()
+    ensures exact_pass { ExactPassIsPlanar }
+    ensures planar_pass { PlanarPassIsUnchanged }
+    ensures run { RunIsPlanar }
+    ensures arranged { ArrangedIsUnchanged }
+    ensures again { ResultIsUnchanged }
+{}
+
+/// No pass reaches outside the box round the ends of the given segments, joined.
+pub fn box_laws()
+    ensures { StaysInBox }
+{}
+
+/// Let no two given segments cross at a point that is not whole. Then the result lies on the given segments, and
+/// between two neighbors among the ends and crossings on a given segment it counts what the given segments count there
+/// together. The settings do not change it.
+pub fn exact_input_laws()
+    ensures counts { ExactInputKeepsCounts }
+    ensures agree { ExactRunsAgree }
+{}
+
+/// Whatever the hooks do, passes with data are, without their data, the passes without. Where nothing is marked, data
+/// and store stay as they are.
+pub fn data_pass_laws<D, S>()
+    ensures beside { DataIsBeside D S }
+    ensures unmarked { UnmarkedDataIsUnchanged D S }
+    ensures arranged { ArrangedDataIsUnchanged D S }
+{}

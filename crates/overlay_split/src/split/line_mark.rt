@@ -1,0 +1,10 @@
+// Marks: where a pass splits a segment. Upstream: `split::line_mark`.
+
+use overlay_base::geom::point::IntPoint;
+
+/// A point at which the segment with this index is split. Marks are ordered by the index, then by the point.
+#[derive(Clone, Copy, Debug, PartialEq, Eq, PartialOrd, Ord)]
+pub struct LineMark<I> {
+    pub index: usize,
+    pub point: IntPoint<I>,
+}

@@ -1,0 +1,101 @@
+// The path of a segment through its marks. Upstream: `sort_sub_marks` of `split::solver`; the direction in which marks
+// of one x are run through is this project's own.
+ghost use Rattle.std.specs.Prelude.{◌≡◌, ◌++◌, ◌≤◌, ◌<◌, length, OnOk, map, reverse, int_lt};
+ghost use Rattle.overlay_base.specs.PointOf.{point_of};
+ghost use Rattle.overlay_split.specs.Path.{columns_in_order, path_from, run_through, last_point, first_point, run_len};
+ghost use Rattle.overlay_split.specs.MarkOf.{points_of, mark_points_of};
+
+use crate::split::line_mark::LineMark;
+use overlay_base::geom::point::IntPoint;
+use overlay_base::num::OverlayInt;
+use std::alloc::AllocError;
+
+/// Collects the path that follows on `a`: the marks, which are given in order of points, and then `b`.
+///
+/// Marks go by rising x. Those of one x go by rising y, unless the path's point before them lies higher than the lowest
+/// mark of the next x, or than `b` where there is none; then by falling y.
+pub fn collect_path<I: OverlayInt>(
+    a: IntPoint<I>,
+    marks: &[LineMark<I>],
+    b: IntPoint<I>,
+    path: &mut Vec<IntPoint<I>>,
+) -> Result<(), AllocError>
+    ensures { OnOk result (points_of I.whole path.new.items ≡ path_from (point_of I.whole a) (columns_in_order (mark_points_of I.whole marks.now)) (point_of I.whole b)) }
+{
+    path.clear();
+    let mut rest = marks;
+    while let Some(first) = rest.first() {
+        let (column, later) = rest.split_at(column_len(first.point.x, rest));
+        let before = last_or(path.as_slice(), a);
+        let next = first_or(later, b);
+        run_column(before, column, next, path)?;
+        rest = later;
+    }
+    path.push(b)?;
+    Ok(())
+}
+
+/// How many marks in front have this x.
+fn column_len<I: OverlayInt>(x: I, marks: &[LineMark<I>]) -> usize
+    ensures run { result ≡ run_len (I.whole x) (mark_points_of I.whole marks.now) }
+    ensures within { result ≤ length marks.now }
+{
+    for (index, mark) in marks.iter().enumerate() {
+        if mark.point.x != x {
+            return index;
+        }
+    }
+    marks.len()
+}
+
+/// Appends the marks of one x to a path.
+fn run_column<I: OverlayInt>(
+    before: IntPoint<I>,
+    column: &[LineMark<I>],
+    next: IntPoint<I>,
+    path: &mut Vec<IntPoint<I>>,
+) -> Result<(), AllocError>
+    ensures { OnOk result (points_of I.whole path.new.items ≡ points_of I.whole path.old.items ++ run_through (point_of I.whole before) (mark_points_of I.whole column.now) (point_of I.whole next)) }
+{
+    if is_lower(next.y, before.y) {
+        append_downward(column, path)
+    } else {
+        append_upward(column, path)
+    }
+}
+
+fn last_or<I: OverlayInt>(path: &[IntPoint<I>], a: IntPoint<I>) -> IntPoint<I>
+    ensures { point_of I.whole result ≡ last_point (point_of I.whole a) (points_of I.whole path.now) }
+{
+    path.last().copied().unwrap_or(a)
+}
+
+fn first_or<I: OverlayInt>(marks: &[LineMark<I>], b: IntPoint<I>) -> IntPoint<I>
+    ensures { point_of I.whole result ≡ first_point (mark_points_of I.whole marks.now) (point_of I.whole b) }
+{
+    marks.first().map_or(b, |mark| mark.point)
+}
+
+fn is_lower<I: OverlayInt>(a: I, b: I) -> bool
+    ensures { result ≡ int_lt (I.whole a) (I.whole b) }
+{
+    a < b
+}
+
+fn append_upward<I: OverlayInt>(
+    column: &[LineMark<I>],
+    path: &mut Vec<IntPoint<I>>,
+) -> Result<(), AllocError>
+    ensures { OnOk result (path.new.items ≡ path.old.items ++ map (λ m. m.point) column.now) }
+{
+    path.extend(column.iter().map(|mark| mark.point))
+}
+
+fn append_downward<I: OverlayInt>(
+    column: &[LineMark<I>],
+    path: &mut Vec<IntPoint<I>>,
+) -> Result<(), AllocError>
+    ensures { OnOk result (path.new.items ≡ path.old.items ++ map (λ m. m.point) (reverse column.now)) }
+{
+    path.extend(column.iter().rev().map(|mark| mark.point))
+}

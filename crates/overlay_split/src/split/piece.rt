@@ -1,0 +1,59 @@
+// The pieces of a segment along its path. Upstream: `split::solver`, where marks are applied.
+ghost use Rattle.std.specs.Prelude.{◌≡◌, ◌++◌, IsTrue, OnOk, IfErr};
+ghost use Rattle.overlay_base.specs.declared.segm.fault.Fault.TheVariants.{Memory};
+ghost use Rattle.overlay_base.specs.Windings.{is_valid};
+ghost use Rattle.overlay_base.specs.PointOf.{point_of};
+ghost use Rattle.overlay_base.specs.HooksOf.{hooks_of};
+ghost use Rattle.overlay_base.specs.SegmentOf.{data_segments_of};
+ghost use Rattle.overlay_split.specs.Path.{last_point, LeadsOn};
+ghost use Rattle.overlay_split.specs.DataPass.{data_pieces};
+ghost use Rattle.overlay_split.specs.MarkOf.{points_of};
+
+use overlay_base::geom::point::IntPoint;
+use overlay_base::num::OverlayInt;
+use overlay_base::overlay_core::edge_data::{EdgeDataSplit, OverlayEdgeData};
+use overlay_base::segm::fault::Fault;
+use overlay_base::segm::segment::Segment;
+use overlay_base::segm::winding::WindingCount;
+
+/// Appends the pieces from a point along the path that follows on it. Before each piece but the last the data is split.
+/// A piece that runs backwards is turned, its count inverted, its data reversed.
+pub fn push_pieces<C: WindingCount, I: OverlayInt, D: OverlayEdgeData<C>>(
+    list: &mut Vec<Segment<C, I, D>>,
+    from: IntPoint<I>,
+    path: &[IntPoint<I>],
+    count: C,
+    edge_data: D,
+    store: &mut D::Store,
+) -> Result<(), Fault>
+    requires valid { IsTrue (is_valid (C.winding count)) }
+    requires leads_on { LeadsOn (point_of I.whole from) (points_of I.whole path.now) }
+    ensures pieces { OnOk result
+        (let hooks = hooks_of C.counted D.reversed_gives D.split_gives D.merge_gives in
+        let b = last_point (point_of I.whole from) (points_of I.whole path.now) in
+        data_segments_of list.new.items ≡ data_segments_of list.old.items ++ (data_pieces hooks (C.winding count) (point_of I.whole from) (points_of I.whole path.now) b edge_data store.old).0) }
+    ensures store { OnOk result
+        (let hooks = hooks_of C.counted D.reversed_gives D.split_gives D.merge_gives in
+        let b = last_point (point_of I.whole from) (points_of I.whole path.now) in
+        store.new ≡ (data_pieces hooks (C.winding count) (point_of I.whole from) (points_of I.whole path.now) b edge_data store.old).1) }
+    ensures fault { IfErr result (λ fault. fault ≡ Memory) }
+{
+    let Some((b, marks)) = path.split_last() else {
+        return Ok(());
+    };
+    let mut from = from;
+    let mut edge_data = edge_data;
+    for mark in marks {
+        let at = EdgeDataSplit {
+            a: from,
+            p: *mark,
+            b: *b,
+        };
+        let (part, rest) = edge_data.split(at, store);
+        list.push(Segment::create_and_validate_with_data(from, *mark, count, part, store))?;
+        from = *mark;
+        edge_data = rest;
+    }
+    list.push(Segment::create_and_validate_with_data(from, *b, count, edge_data, store))?;
+    Ok(())
+}
