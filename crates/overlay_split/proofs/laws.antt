@@ -36,3 +36,9 @@ pub mod DataPasses
 pub mod Columns
 pub mod PieceSteps
 pub mod Comparisons
+pub mod MarkedPairs
+pub mod ApartPairs
+pub mod FoundMarks
+pub mod MarkSets
+pub mod FoundEach
+pub mod LineMarks

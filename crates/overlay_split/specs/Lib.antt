@@ -12,6 +12,8 @@ pub mod NearerEnd
 pub mod Path
 pub mod Pass
 pub mod MarkOf
+pub mod PlacingOf
+pub mod Finder
 pub mod Run
 pub mod Potential
 pub mod DataPass

@@ -9,4 +9,6 @@ mod nearer_end;
 mod offset;
 pub mod path;
 pub mod piece;
+pub mod placing;
 mod settled;
+pub mod solver_list;

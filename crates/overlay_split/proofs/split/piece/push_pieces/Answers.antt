@@ -1,11 +1,9 @@
-use Rattle.std.proofs.Common.{rules, ◌≡◌, ◌+◌, ◌<◌, ◌∙◌, length, map, drop, take, refl, sym, ap, subst, arith, append-nil, List, [], ◌∷◌, ◌++◌}
-use Rattle.std.proofs.lemmas.Grind.{common_steps}
+use Rattle.std.proofs.Common.{◌≡◌, ◌+◌, ◌∙◌, length, map, drop, refl, sym, ap, subst, arith, append-nil, List, [], ◌∷◌, ◌++◌}
 use Rattle.std.proofs.lemmas.List.{map-append}
 use Rattle.overlay_base.specs.PointOf.{point_of}
 use Rattle.overlay_base.specs.HooksOf.{hooks_of}
 use Rattle.overlay_base.specs.SegmentOf.{data_segment_of, data_segments_of}
 use Rattle.overlay_split.specs.Path.{LeadsOn, last_point}
-use Rattle.overlay_split.specs.MarkOf.{points_of}
 use Rattle.overlay_split.specs.DataPass.{data_pieces}
 use Rattle.overlay_split.proofs.laws.PieceSteps.{pieces-none, ArePushed-start, ArePushed-next, ArePushed-last, ArePushed-differ, left_at, left_none, left_some, whole_path}
 use Rattle.overlay_split.proofs.split.piece.push_pieces.Goals as goal
