@@ -1,4 +1,8 @@
+pub mod examples
 pub mod Crossings
-pub mod Refusals
+pub mod Parts
+pub mod Runs
 pub mod ShortNumerals
+pub mod Slots
 pub mod Steps
+pub mod TextSteps

@@ -1,4 +1,7 @@
 pub mod Lines
 pub mod Numbers
 pub mod Output
+pub mod Run
 pub mod Status
+pub mod Text
+pub mod Words

@@ -1,5 +1,5 @@
 -- Numbers as lines write them: digits, with a minus before those of a negative number.
-use Rattle.std.specs.Prelude.{ℕ, ◌≤◌, ℤ, pos, neg_ℤ, if◌then◌else◌, List, length, drop}
+use Rattle.std.specs.Prelude.{◌≡◌, ℕ, ◌≤◌, ℤ, pos, neg_ℤ, if◌then◌else◌, List, length, drop}
 use Rattle.std.specs.Str.Parse.{IsNumeral, digits_value, starts_with_minus}
 
 abbrev pub without_minus : List ℕ → List ℕ
@@ -14,3 +14,7 @@ signed_value text =
     if starts_with_minus text
     then neg_ℤ (pos (digits_value 10 (without_minus text)))
     else pos (digits_value 10 (without_minus text))
+
+-- the word is this number
+abbrev pub WritesNumber : List ℕ → ℤ → Type 0
+WritesNumber word number = IsSignedNumeral word × (number ≡ signed_value word)

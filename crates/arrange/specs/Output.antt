@@ -21,6 +21,10 @@ segment_lines segments = flat_map segment_line segments
 abbrev pub flag_line : Bool → List ℕ
 flag_line flag = codes "flag " ++ (if flag then codes "true" else codes "false") ++ codes "\n"
 
+-- `passes N`
+abbrev pub passes_line : ℕ → List ℕ
+passes_line passes = codes "passes " ++ decimal passes ++ codes "\n"
+
 -- `KIND X Y exact` or `KIND X Y rounded`
 unfoldable pub place_line : List ℕ → Point → Bool → List ℕ
 place_line kind point is_rounded = kind ++ pair_text point.x point.y ++ (if is_rounded then codes " rounded\n" else codes " exact\n")

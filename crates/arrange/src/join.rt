@@ -10,9 +10,8 @@ use crate::output::write_segments;
 use crate::stop::Stop;
 use overlay_base::num::OverlayInt;
 use overlay_base::segm::boolean::ShapeCountBoolean;
-use overlay_base::segm::merge::merge_if_needed_with_store;
+use overlay_base::segm::join::join_with_store;
 use overlay_base::segm::segment::Segment;
-use overlay_base::segm::sort::sort_by_ab;
 use std::alloc::Global;
 
 /// The text of the joined segments, and of the flag that tells whether two given ones had one pair of ends.
@@ -28,8 +27,7 @@ pub fn join<I: OverlayInt>(
     ensures refused { IfErr result (λ stop. (stop ≡ Stop.Refused Memory)
         ⊎ ((stop ≡ Stop.Refused CountOutOfRange) × IsTrue (join_leaves_range (segments_of segments.items)))) }
 {
-    sort_by_ab(&mut segments)?;
-    let repeated = merge_if_needed_with_store(&mut segments, &mut ())?;
+    let repeated = join_with_store(&mut segments, &mut ())?;
     let mut text = String::new(alloc);
     write_segments(&mut text, segments.as_slice())?;
     writeln!(text, "flag {repeated}")?;

@@ -1,11 +1,18 @@
 // The input: each line is `S ax ay bx by` for a step of a subject's contour, or `C ax ay bx by` for one of a clip's.
-ghost use Rattle.std.specs.Prelude.{◌≡◌, ◌↔◌, ℤ, IsTrue, IsSome, IfSome, IfOk, [], ◌∷◌};
+ghost use Rattle.std.specs.Prelude.{◌≡◌, ◌≢◌, ◌⊎◌, ◌↔◌, ℕ, ℤ, IsTrue, IsSome, IfNone, IfSome, IfOk, IfErr, MatchOption, [], ◌∷◌};
 ghost use Rattle.std.specs.Result.{result_err};
+ghost use Rattle.std.specs.Str.Lines.{strip_carriage_return};
+ghost use Rattle.overlay_base.specs.declared.segm.fault.Fault.TheVariants.{Memory};
 ghost use Rattle.overlay_base.specs.Coordinates.{is_coordinate};
 ghost use Rattle.overlay_base.specs.PointOf.{point_of};
 ghost use Rattle.overlay_base.specs.SegmentOf.{segment_of, segments_of};
 ghost use Rattle.overlay_base.specs.Planar.{is_point_in_range, is_splittable};
 ghost use Rattle.arrange.specs.Lines.{step_fault, step_segment};
+ghost use Rattle.std.specs.Option.{SomeIff, option_map_or};
+ghost use Rattle.overlay_base.specs.Points.{Point};
+ghost use Rattle.overlay_base.specs.declared.segm.shape_type.ShapeType.{ShapeType};
+ghost use Rattle.arrange.specs.Numbers.{IsSignedNumeral, signed_value};
+ghost use Rattle.arrange.specs.Text.{lines_of, words_of, words_of_line, NamesShape, WritesStep, AsksFor, IsFaulty, AskInTurnFor, IsFirstFault};
 
 use crate::number::signed_number;
 use crate::stop::{LineFault, Stop};
@@ -24,7 +31,9 @@ struct Lines<'a> {
 }
 
 impl<'a> Lines<'a> {
-    fn of(bytes: &'a [u8]) -> Self {
+    fn of(bytes: &'a [u8]) -> Self
+        ensures { option_map_or (λ rest. lines_of rest.now) result.rest [] ≡ lines_of bytes.now }
+    {
         Lines { rest: Some(bytes) }
     }
 }
@@ -32,11 +41,11 @@ impl<'a> Lines<'a> {
 impl<'a> Iterator for Lines<'a> {
     type Item = &'a [u8];
 
-    ghost use Rattle.std.specs.Prelude.{◌+◌, length};
-    ghost use Rattle.std.specs.Option.{option_map_or};
-    ghost use Rattle.std.specs.Iterator.{at_most};
+    ghost use Rattle.std.specs.Iterator.{YieldsFirstRef, item_count};
 
-    ghost remaining = { λ s. at_most (option_map_or (λ rest. length rest.now + 1) s.rest 0) };
+    ghost next_gives = { YieldsFirstRef (λ s. option_map_or (λ rest. lines_of rest.now) s.rest []) };
+
+    ghost remaining = { item_count (λ s. option_map_or (λ rest. lines_of rest.now) s.rest []) };
 
     fn next(&mut self) -> Option<&'a [u8]> {
         let rest = self.rest?;
@@ -50,6 +59,33 @@ impl<'a> Iterator for Lines<'a> {
     }
 }
 
+/// The words of a line: its longest parts without a space.
+#[derive(Drop)]
+struct Words<'a> {
+    rest: &'a [u8],
+}
+
+impl<'a> Iterator for Words<'a> {
+    type Item = &'a [u8];
+
+    ghost use Rattle.std.specs.Iterator.{YieldsFirstRef, item_count};
+
+    ghost next_gives = { YieldsFirstRef (λ s. words_of s.rest.now) };
+
+    ghost remaining = { item_count (λ s. words_of s.rest.now) };
+
+    fn next(&mut self) -> Option<&'a [u8]> {
+        let start = self.rest.iter().position(|byte| *byte != b' ')?;
+        let text = &self.rest[start..];
+        let end = text
+            .iter()
+            .position(|byte| *byte == b' ')
+            .unwrap_or(text.len());
+        self.rest = &text[end..];
+        Some(&text[..end])
+    }
+}
+
 /// A line as it stands, with numbers of any engine.
 #[derive(Clone, Copy)]
 struct Line {
@@ -58,12 +94,15 @@ struct Line {
     b: IntPoint<i64>,
 }
 
-/// The segments of all lines. The first faulty line stops the run.
+/// The segments that the lines of a text ask for, in order. The first faulty line stops the run.
 pub fn read_lines<I: OverlayInt>(
     alloc: Global,
     bytes: &[u8],
 ) -> Result<Vec<Segment<ShapeCountBoolean, I, ()>>, Stop>
+    ensures segments { IfOk result (λ segments. AskInTurnFor (I.whole I.MIN_COORD) (I.whole I.MAX_COORD) (lines_of bytes.now) (segments_of segments.items)) }
     ensures splittable { IfOk result (λ segments. IsTrue (is_splittable (I.whole I.MIN_COORD) (I.whole I.MAX_COORD) (segments_of segments.items))) }
+    ensures faulty { IfErr result (λ stop. (stop ≡ Stop.Refused Memory)
+        ⊎ IsFirstFault (I.whole I.MIN_COORD) (I.whole I.MAX_COORD) (lines_of bytes.now) stop) }
 {
     let mut segments = Vec::new(alloc);
     for (index, line) in Lines::of(bytes).enumerate() {
@@ -71,7 +110,7 @@ pub fn read_lines<I: OverlayInt>(
             Ok(Some(segment)) => segments.push(segment)?,
             Ok(None) => {}
             Err(fault) => {
-                let number = index.saturating_add(1);
+                let number = index + 1;
                 return Err(Stop::Line { number, fault });
             }
         }
@@ -83,30 +122,50 @@ pub fn read_lines<I: OverlayInt>(
 fn read_line<I: OverlayInt>(
     line: &[u8],
 ) -> Result<Option<Segment<ShapeCountBoolean, I, ()>>, LineFault>
+    ensures blank { IfOk result (λ found. IfNone found (words_of_line line.now ≡ [])) }
+    ensures segment { IfOk result (λ found. IfSome found (λ segment.
+        AsksFor (I.whole I.MIN_COORD) (I.whole I.MAX_COORD) line.now (segment_of segment))) }
     ensures splittable { IfOk result (λ found. IfSome found (λ segment.
         IsTrue (is_splittable (I.whole I.MIN_COORD) (I.whole I.MAX_COORD) (segment_of segment ∷ [])))) }
+    ensures faulty { IfErr result (λ fault. IsFaulty (I.whole I.MIN_COORD) (I.whole I.MAX_COORD) line.now fault) }
 {
-    let text = str::from_utf8(line).map_err(|_| LineFault::Form)?;
-    let text = text.strip_suffix('\r').unwrap_or(text).trim_matches(' ');
-    if text.is_empty() {
+    let mut words = Words {
+        rest: without_carriage_return(line),
+    };
+    let Some(letter) = words.next() else {
         return Ok(None);
-    }
-    let line = parse_line(text).ok_or(LineFault::Form)?;
+    };
+    let Some(line) = parse_line(letter, &mut words) else {
+        return Err(LineFault::Form);
+    };
     Ok(Some(segment(line)?))
 }
 
-/// A letter and four numbers, with one or more spaces between them.
-fn parse_line(text: &str) -> Option<Line> {
-    let mut words = text.split(' ').filter(|word| !word.is_empty());
+/// A line without the carriage return at its very end, if it has one.
+fn without_carriage_return(line: &[u8]) -> &[u8]
+    ensures { result.now ≡ strip_carriage_return line.now }
+{
+    match line {
+        [text @ .., b'\r'] => text,
+        _ => line,
+    }
+}
+
+/// What a letter and the words behind it write, of which there are to be four numbers.
+fn parse_line(letter: &[u8], words: &mut Words<'_>) -> Option<Line>
+    ensures { MatchOption result
+        ((shape_type : ShapeType) (a b : Point) → ¬ (WritesStep (letter.now ∷ words_of words.old.rest.now) shape_type a b))
+        (λ line. WritesStep (letter.now ∷ words_of words.old.rest.now) line.shape_type (point_of (λ z. z) line.a) (point_of (λ z. z) line.b)) }
+{
     let line = Line {
-        shape_type: shape_type(words.next()?)?,
+        shape_type: shape_type(letter)?,
         a: IntPoint {
-            x: signed_number(words.next()?)?,
-            y: signed_number(words.next()?)?,
+            x: wide_number(words.next()?)?,
+            y: wide_number(words.next()?)?,
         },
         b: IntPoint {
-            x: signed_number(words.next()?)?,
-            y: signed_number(words.next()?)?,
+            x: wide_number(words.next()?)?,
+            y: wide_number(words.next()?)?,
         },
     };
     match words.next() {
@@ -115,10 +174,19 @@ fn parse_line(text: &str) -> Option<Line> {
     }
 }
 
-fn shape_type(letter: &str) -> Option<ShapeType> {
+/// The number that a word writes.
+fn wide_number(word: &[u8]) -> Option<i64>
+    ensures { SomeIff result (IsSignedNumeral word.now) (signed_value word.now) }
+{
+    signed_number(str::from_utf8(word).ok()?)
+}
+
+fn shape_type(letter: &[u8]) -> Option<ShapeType>
+    ensures { MatchOption result ((shape_type : ShapeType) → ¬ (NamesShape letter.now shape_type)) (NamesShape letter.now) }
+{
     match letter {
-        "S" => Some(ShapeType::Subject),
-        "C" => Some(ShapeType::Clip),
+        b"S" => Some(ShapeType::Subject),
+        b"C" => Some(ShapeType::Clip),
         _ => None,
     }
 }

@@ -8,6 +8,7 @@ mod number;
 mod output;
 mod run;
 mod settings;
+mod split;
 mod stop;
 mod words;
 #[cfg(test)]

@@ -1,12 +1,17 @@
 // The whole run, in the order in which faults are looked for: the words, the reading of all the input, the lines,
 // the number of segments, the calls, the writing.
-ghost use Rattle.std.specs.Prelude.{◌≡◌, ◌⊎◌, IfErr};
+ghost use Rattle.std.specs.Prelude.{◌≡◌, ◌⊎◌, ℕ, List, Ok, Err, IfSome, IfOk, OnOk, IfErr, map, string_bytes};
+ghost use Rattle.std.specs.Io.KnownBytes.{Appends};
+ghost use Rattle.overlay_base.specs.declared.segm.fault.Fault.TheVariants.{Memory};
+ghost use Rattle.arrange.specs.Run.{IsAnswer, IsRunAnswer, IsStop};
+ghost use Rattle.arrange.specs.declared.stop.Stop.{Stop};
 ghost use Rattle.arrange.specs.Status.{status_of};
 
 use crate::cross::cross;
 use crate::join::join;
 use crate::lines::read_lines;
 use crate::settings::{Command, Engine, Settings};
+use crate::split::split;
 use crate::stop::Stop;
 use crate::words::read_words;
 use overlay_base::num::OverlayInt;
@@ -42,6 +47,10 @@ pub fn arrange_run<R: Read, W: Write, E: Write>(
     output: &mut W,
     faults: &mut E,
 ) -> u8
+    ensures done { result ≡ 0 → IfSome (R.remaining input.old) (λ bytes. (text : List ℕ)
+        × IsRunAnswer (map string_bytes words.now) bytes (Ok text) × Appends (W.contents output.old) (W.contents output.new) text) }
+    ensures stopped { (result ≡ 0) ⊎ ((stop : Stop) × (result ≡ status_of stop)
+        × IsStop (map string_bytes words.now) (R.remaining input.old) stop) }
     ensures untouched { (result ≡ 0) ⊎ (result ≡ 5) ⊎ (output.new ≡ output.old) }
 {
     match run(alloc, words, input, output) {
@@ -64,6 +73,9 @@ fn run<R: Read, W: Write>(
     input: &mut R,
     output: &mut W,
 ) -> Result<(), Stop>
+    ensures done { OnOk result (IfSome (R.remaining input.old) (λ bytes. (text : List ℕ)
+        × IsRunAnswer (map string_bytes words.now) bytes (Ok text) × Appends (W.contents output.old) (W.contents output.new) text)) }
+    ensures stopped { IfErr result (IsStop (map string_bytes words.now) (R.remaining input.old)) }
     ensures untouched { IfErr result (λ stop. (stop ≡ Stop.Output) ⊎ (output.new ≡ output.old)) }
 {
     let text = answer(alloc, words, input)?;
@@ -72,7 +84,10 @@ fn run<R: Read, W: Write>(
 }
 
 /// The whole output.
-fn answer<R: Read>(alloc: Global, words: &[String], input: &mut R) -> Result<String, Stop> {
+fn answer<R: Read>(alloc: Global, words: &[String], input: &mut R) -> Result<String, Stop>
+    ensures text { IfOk result (λ text. IfSome (R.remaining input.old) (λ bytes. IsRunAnswer (map string_bytes words.now) bytes (Ok (string_bytes text)))) }
+    ensures stopped { IfErr result (IsStop (map string_bytes words.now) (R.remaining input.old)) }
+{
     let (command, settings) = read_words(words)?;
     let bytes = read_all(alloc, input)?;
     match settings.engine {
@@ -81,20 +96,29 @@ fn answer<R: Read>(alloc: Global, words: &[String], input: &mut R) -> Result<Str
     }
 }
 
+/// What a command answers to the text of the input.
 fn answer_with<I: OverlayInt>(
     alloc: Global,
     command: Command,
     settings: Settings,
     bytes: &[u8],
-) -> Result<String, Stop> {
+) -> Result<String, Stop>
+    ensures text { IfOk result (λ text. IsAnswer (I.whole I.MIN_COORD) (I.whole I.MAX_COORD) I.BITS command settings bytes.now (Ok (string_bytes text))) }
+    ensures stop { IfErr result (λ stop. (stop ≡ Stop.Refused Memory)
+        ⊎ IsAnswer (I.whole I.MIN_COORD) (I.whole I.MAX_COORD) I.BITS command settings bytes.now (Err stop)) }
+{
     let segments = read_lines::<I>(alloc, bytes)?;
     match command {
         Command::Join => join(alloc, segments),
         Command::Cross => cross(alloc, segments.as_slice(), settings.radius),
+        Command::Split => split(alloc, segments, settings),
     }
 }
 
-fn read_all<R: Read>(alloc: Global, input: &mut R) -> Result<Vec<u8>, Stop> {
+fn read_all<R: Read>(alloc: Global, input: &mut R) -> Result<Vec<u8>, Stop>
+    ensures all { IfOk result (λ bytes. IfSome (R.remaining input.old) (λ given. bytes.items ≡ given)) }
+    ensures stopped { IfErr result (λ stop. (stop ≡ Stop.Input) ⊎ (stop ≡ Stop.Refused Memory)) }
+{
     let mut bytes = Vec::new(alloc);
     match input.read_to_end(&mut bytes) {
         Ok(_) => Ok(bytes),
@@ -112,7 +136,9 @@ fn started_words<H: Env + AllocGlobal>(rt: &H) -> Result<Vec<String>, Stop> {
 }
 
 /// Tells want of memory from any other failure.
-fn stop_of(error: io::Error, otherwise: Stop) -> Stop {
+fn stop_of(error: io::Error, otherwise: Stop) -> Stop
+    ensures { (result ≡ otherwise) ⊎ (result ≡ Stop.Refused Memory) }
+{
     match error.kind() {
         ErrorKind::OutOfMemory => Stop::Refused(Fault::Memory),
         _ => otherwise,

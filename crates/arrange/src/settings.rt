@@ -10,6 +10,8 @@ pub enum Command {
     Join,
     /// Tells where two lines meet.
     Cross,
+    /// Splits the lines where they meet.
+    Split,
 }
 
 /// The type of coordinates.

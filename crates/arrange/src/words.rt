@@ -1,30 +1,21 @@
 // The words after the program's name: a command, and then settings as `name=value`.
-ghost use Rattle.std.specs.Prelude.{◌≡◌, ◌↔◌, ◌≤◌, ◌^◌, pos, IsOk, IsNone, IsSome, IfSome, IfErr, OnOk, OnErr};
+ghost use Rattle.std.specs.Prelude.{◌≡◌, ◌↔◌, ◌≤◌, ◌^◌, pos, codes, unwrap_or, map, string_bytes, IsOk, IsNone, IsSome, IfSome, IfOk, IfErr, OnOk, OnErr, MatchOption};
+ghost use Rattle.std.specs.Option.{option_map_or};
 ghost use Rattle.std.specs.Str.Parse.{IsNumeral, digits_value};
+ghost use Rattle.arrange.specs.declared.settings.Command.{Command};
+ghost use Rattle.arrange.specs.declared.settings.Engine.{Engine};
+ghost use Rattle.arrange.specs.Words.{NamesCommand, NamesEngine, precision_of, IsPrecisionName, NamesPrecision, WritesLimit, WritesSquare, setting, TakesWord, WordsAsk, IsCommandAlone};
 
 use crate::number::{number, short_number};
 use crate::settings::{Command, Engine, FillRule, Links, OverlayRule, Settings, SquaredRadius};
 use crate::stop::Stop;
 use overlay_base::overlay_core::solver::{Precision, Strategy};
 
-const COMMANDS: [(&str, Command); 2] = [("join", Command::Join), ("cross", Command::Cross)];
-
-const ENGINES: [(&str, Engine); 2] = [("i16", Engine::I16), ("i32", Engine::I32)];
-
 const STRATEGIES: [(&str, Strategy); 4] = [
     ("list", Strategy::List),
     ("tree", Strategy::Tree),
     ("frag", Strategy::Frag),
     ("auto", Strategy::Auto),
-];
-
-const PRECISIONS: [(&str, Precision); 6] = [
-    ("absolute", Precision::ABSOLUTE),
-    ("high", Precision::HIGH),
-    ("medium-high", Precision::MEDIUM_HIGH),
-    ("medium", Precision::MEDIUM),
-    ("medium-low", Precision::MEDIUM_LOW),
-    ("low", Precision::LOW),
 ];
 
 const FILL_RULES: [(&str, FillRule); 4] = [
@@ -52,15 +43,46 @@ const GREATEST_RADIUS: u64 = 1 << 56;
 
 /// The command and the settings that the words ask for. Anything else is `Stop::Usage`.
 pub fn read_words(words: &[String]) -> Result<(Command, Settings), Stop>
-    ensures { IfErr result (λ stop. stop ≡ Stop.Usage) }
+    ensures asked { IfOk result (λ asked. WordsAsk (map string_bytes words.now) asked.0 asked.1) }
+    ensures usage { IfErr result (λ stop. (stop ≡ Stop.Usage) × ¬ (IsCommandAlone (map string_bytes words.now))) }
 {
     let (first, others) = words.split_first().ok_or(Stop::Usage)?;
-    let command = named(&COMMANDS, first.as_str()).ok_or(Stop::Usage)?;
+    let command = command(first.as_str()).ok_or(Stop::Usage)?;
     let mut choices = Choices::NONE;
     for word in others {
         choices.read(word.as_str())?;
     }
     Ok((command, choices.settings()))
+}
+
+/// The parts of a word `name=value`.
+fn name_and_value(word: &str) -> Option<(&str, &str)>
+    ensures { IfSome result (λ parts. word.now ≡ setting parts.0.now parts.1.now) }
+{
+    word.split_once('=')
+}
+
+/// The command of that name.
+fn command(name: &str) -> Option<Command>
+    ensures { MatchOption result ((command : Command) → ¬ (NamesCommand name.now command)) (NamesCommand name.now) }
+{
+    match name {
+        "join" => Some(Command::Join),
+        "cross" => Some(Command::Cross),
+        "split" => Some(Command::Split),
+        _ => None,
+    }
+}
+
+/// The engine of that name.
+fn engine(name: &str) -> Option<Engine>
+    ensures { MatchOption result ((engine : Engine) → ¬ (NamesEngine name.now engine)) (NamesEngine name.now) }
+{
+    match name {
+        "i16" => Some(Engine::I16),
+        "i32" => Some(Engine::I32),
+        _ => None,
+    }
 }
 
 /// The settings that words have chosen so far.
@@ -88,11 +110,15 @@ impl Choices {
 
     /// Takes one word of the form `name=value`.
     fn read(&mut self, word: &str) -> Result<(), Stop>
-        ensures { IfErr result (λ stop. stop ≡ Stop.Usage) }
+        ensures engine { OnOk result (TakesWord (codes "engine") NamesEngine word.now self.old.engine self.new.engine) }
+        ensures precision { OnOk result (TakesWord (codes "precision") NamesPrecision word.now self.old.precision self.new.precision) }
+        ensures limit { OnOk result (TakesWord (codes "limit") WritesLimit word.now self.old.snap_limit self.new.snap_limit) }
+        ensures radius { OnOk result (TakesWord (codes "radius") (λ value radius. WritesSquare value radius.squared) word.now self.old.radius self.new.radius) }
+        ensures usage { IfErr result (λ stop. stop ≡ Stop.Usage) }
     {
-        let (name, value) = word.split_once('=').ok_or(Stop::Usage)?;
+        let (name, value) = name_and_value(word).ok_or(Stop::Usage)?;
         match name {
-            "engine" => choose(&mut self.engine, named(&ENGINES, value)),
+            "engine" => choose(&mut self.engine, engine(value)),
             "strategy" => choose(&mut self.strategy, named(&STRATEGIES, value)),
             "precision" => choose(&mut self.precision, precision(value)),
             "fill" => choose(&mut self.fill_rule, named(&FILL_RULES, value)),
@@ -104,7 +130,12 @@ impl Choices {
     }
 
     /// What was chosen, and else what stands there.
-    fn settings(&self) -> Settings {
+    fn settings(&self) -> Settings
+        ensures engine { result.engine ≡ unwrap_or self.now.engine Engine.I32 }
+        ensures precision { result.precision ≡ unwrap_or self.now.precision (precision_of 0 1) }
+        ensures limit { result.snap_limit ≡ unwrap_or self.now.snap_limit 256 }
+        ensures radius { result.radius.squared ≡ option_map_or (λ radius. radius.squared) self.now.radius (pos 1) }
+    {
         Settings {
             engine: self.engine.unwrap_or(Engine::I32),
             strategy: self.strategy.unwrap_or(Strategy::Auto),
@@ -140,17 +171,36 @@ fn named<T: Copy>(table: &[(&str, T)], name: &str) -> Option<T> {
 }
 
 /// A precision by its name, or as `START,STEP`.
-fn precision(value: &str) -> Option<Precision> {
+fn precision(value: &str) -> Option<Precision>
+    ensures { IfSome result (NamesPrecision value.now) }
+{
     match value.split_once(',') {
         Some((start, step)) => Some(Precision {
             start: short_number(start)? as usize,
             progression: short_number(step)? as usize,
         }),
-        None => named(&PRECISIONS, value),
+        None => named_precision(value),
     }
 }
 
-fn snap_limit(value: &str) -> Option<u32> {
+/// The precision of that name.
+fn named_precision(name: &str) -> Option<Precision>
+    ensures { IfSome result (IsPrecisionName name.now) }
+{
+    match name {
+        "absolute" => Some(Precision::ABSOLUTE),
+        "high" => Some(Precision::HIGH),
+        "medium-high" => Some(Precision::MEDIUM_HIGH),
+        "medium" => Some(Precision::MEDIUM),
+        "medium-low" => Some(Precision::MEDIUM_LOW),
+        "low" => Some(Precision::LOW),
+        _ => None,
+    }
+}
+
+fn snap_limit(value: &str) -> Option<u32>
+    ensures { IfSome result (WritesLimit value.now) }
+{
     u32::try_from(number(value)?).ok()
 }
 
@@ -169,7 +219,6 @@ fn radius(value: &str) -> Option<SquaredRadius>
 #[cfg(test)]
 mod tests {
     use super::*;
-    use std::process::Abort;
     use std::test::Fail;
 
     const UNCHOSEN: Settings = Settings {
@@ -241,92 +290,94 @@ mod tests {
         ("limit=000000000000000000000000000000256", 256),
     ];
 
-    const RADIUS_WORDS: [(&str, i64); 6] = [
-        ("radius=1", 1),
-        ("radius=5", 5),
-        ("radius=0004", 4),
-        ("radius=72057594037927935", 72057594037927935),
-        ("radius=72057594037927936", 72057594037927936),
+    const RADIUS_WORDS: [(&str, SquaredRadius); 6] = [
+        ("radius=1", SquaredRadius { squared: 1 }),
+        ("radius=5", SquaredRadius { squared: 5 }),
+        ("radius=0004", SquaredRadius { squared: 4 }),
+        (
+            "radius=72057594037927935",
+            SquaredRadius {
+                squared: 72057594037927935,
+            },
+        ),
+        (
+            "radius=72057594037927936",
+            SquaredRadius {
+                squared: 72057594037927936,
+            },
+        ),
         (
             "radius=00000000000000000000000000000000072057594037927936",
-            72057594037927936,
+            SquaredRadius {
+                squared: 72057594037927936,
+            },
         ),
     ];
 
     /// The settings that one word chooses.
-    fn chosen(rt: &(impl Abort + AllocGlobal), word: &str) -> Result<Settings, Fail> {
-        let alloc = rt.alloc();
-        let words = [
-            String::from_str(alloc, "join")?,
-            String::from_str(alloc, word)?,
-        ];
-        let (command, settings) = read_words(&words).ok().ok_or("refused")?;
-        assert_eq!(rt; command, Command::Join);
-        Ok(settings)
+    fn chosen(word: &str) -> Result<Settings, Stop> {
+        let mut choices = Choices::NONE;
+        choices.read(word)?;
+        Ok(choices.settings())
     }
 
     #[test]
-    fn choices(rt: HostRuntime) -> Result<(), Fail> {
+    fn choices(rt: HostRuntime) {
         for (word, engine) in ENGINE_WORDS {
-            assert_eq!(rt; chosen(&rt, word)?, Settings { engine, ..UNCHOSEN });
+            assert_eq!(rt; chosen(word), Ok(Settings { engine, ..UNCHOSEN }));
         }
         for (word, strategy) in STRATEGY_WORDS {
             assert_eq!(rt;
-                chosen(&rt, word)?,
-                Settings {
+                chosen(word),
+                Ok(Settings {
                     strategy,
                     ..UNCHOSEN
-                }
+                })
             );
         }
         for (word, start, progression) in PRECISION_WORDS {
             let precision = Precision { start, progression };
             assert_eq!(rt;
-                chosen(&rt, word)?,
-                Settings {
+                chosen(word),
+                Ok(Settings {
                     precision,
                     ..UNCHOSEN
-                }
+                })
             );
         }
         for (word, fill_rule) in FILL_WORDS {
             assert_eq!(rt;
-                chosen(&rt, word)?,
-                Settings {
+                chosen(word),
+                Ok(Settings {
                     fill_rule,
                     ..UNCHOSEN
-                }
+                })
             );
         }
         for (word, links) in RULE_WORDS {
-            assert_eq!(rt; chosen(&rt, word)?, Settings { links, ..UNCHOSEN });
+            assert_eq!(rt; chosen(word), Ok(Settings { links, ..UNCHOSEN }));
         }
-        Ok(())
-    }
-
-    #[test]
-    fn chosen_numbers(rt: HostRuntime) -> Result<(), Fail> {
         for (word, snap_limit) in LIMIT_WORDS {
             assert_eq!(rt;
-                chosen(&rt, word)?,
-                Settings {
+                chosen(word),
+                Ok(Settings {
                     snap_limit,
                     ..UNCHOSEN
-                }
+                })
             );
         }
-        for (word, squared) in RADIUS_WORDS {
-            let settings = chosen(&rt, word)?;
-            assert_eq!(rt; settings.radius.squared, squared, "{word}");
-            let radius = settings.radius;
-            assert_eq!(rt; settings, Settings { radius, ..UNCHOSEN });
+        for (word, radius) in RADIUS_WORDS {
+            assert_eq!(rt; chosen(word), Ok(Settings { radius, ..UNCHOSEN }));
         }
-        Ok(())
     }
 
     #[test]
     fn commands(rt: HostRuntime) -> Result<(), Fail> {
-        for (name, command) in [("join", Command::Join), ("cross", Command::Cross)] {
+        for (name, command) in [
+            ("join", Command::Join),
+            ("cross", Command::Cross),
+            ("split", Command::Split),
+        ] {
             let words = [String::from_str(rt.alloc(), name)?];
             assert_eq!(rt; read_words(&words), Ok((command, UNCHOSEN)));
         }

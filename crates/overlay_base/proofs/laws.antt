@@ -15,6 +15,10 @@ pub mod Repeats
 pub mod Functionals
 pub mod StableSorts
 pub mod DataJoins
+pub mod SortedJoins
 pub mod DataWalks
 pub mod Merges
+pub mod Rests
+pub mod Apart
 pub mod Shifts
+pub mod Elements

@@ -1,7 +1,10 @@
 // Winding counts, segments that carry them, and the join of a list of segments.
 
+mod apart;
+pub mod arranged;
 pub mod boolean;
 pub mod fault;
+pub mod join;
 pub mod laws;
 pub mod merge;
 pub mod segment;

@@ -21,6 +21,7 @@ pub mod Marks
 pub mod Monotone
 pub mod Potentials
 pub mod Runs
+pub mod PieceCounts
 pub mod Masks
 pub mod Boxes
 pub mod Meetings
@@ -35,6 +36,11 @@ pub mod PlanarRuns
 pub mod DataPasses
 pub mod Columns
 pub mod PieceSteps
+pub mod MarkRuns
+pub mod CutSteps
+pub mod CutLists
+pub mod CutWalks
+pub mod Ready
 pub mod Comparisons
 pub mod MarkedPairs
 pub mod ApartPairs
@@ -42,3 +48,5 @@ pub mod FoundMarks
 pub mod MarkSets
 pub mod FoundEach
 pub mod LineMarks
+pub mod Splittable
+pub mod Splitting

@@ -1,5 +1,5 @@
 -- Input whose crossings all lie at whole points. There a split changes no count anywhere along a segment.
-use Rattle.std.specs.Prelude.{Bool, not, ◌&&◌, List, ◌++◌, filter, map, flat_map}
+use Rattle.std.specs.Prelude.{◌≡◌, IsTrue, Bool, not, ◌&&◌, List, ◌++◌, filter, map, flat_map}
 use Rattle.std.specs.List.{list_any, list_all}
 use Rattle.overlay_base.specs.Points.{Point, Pair, point_eq, lies_on, is_ordered, is_strictly_inside}
 use Rattle.overlay_base.specs.Windings.{Winding, total}
@@ -40,3 +40,7 @@ count_along segments e = total (counts (filter (λ s. contains_pair s.pair e) se
 unfoldable pub lies_on_input : List WholeSegment → List WholeSegment → Bool
 lies_on_input given result =
     list_all (λ r. list_any (λ s. contains_pair s r) (pairs given) && has_point (special_points (pairs given)) r.a && has_point (special_points (pairs given)) r.b) (pairs result)
+
+-- along each elementary pair the result counts what the given segments count there, and it lies on them
+abbrev pub KeepsCounts : List WholeSegment → List WholeSegment → Type 0
+KeepsCounts given result = ((e : Pair) → IsTrue (is_elementary given e) → count_along result e ≡ count_along given e) × IsTrue (lies_on_input given result)

@@ -19,7 +19,7 @@ use Rattle.overlay_split.specs.Path.{pieces}
 use Rattle.overlay_split.specs.Pass.{pass, is_rounded, mark_count}
 use Rattle.overlay_split.specs.Run.{Settings, IsPassCount, IsRun, after_passes}
 use Rattle.overlay_split.specs.Potential.{potential}
-use Rattle.overlay_split.specs.ExactInput.{is_exact_input, is_elementary, count_along, lies_on_input}
+use Rattle.overlay_split.specs.ExactInput.{is_exact_input, KeepsCounts}
 use Rattle.overlay_split.specs.DataPass.{data_pass, data_after_passes}
 
 -- ---- marks and crossings
@@ -199,7 +199,7 @@ StaysInBox =
 abbrev pub ExactInputKeepsCounts : Type 0
 ExactInputKeepsCounts =
     (settings : Settings) (given result : List WholeSegment) (passes : ℕ) (flag : Bool) → IsTrue (are_ordered given) → IsTrue (is_exact_input given) → IsRun settings given result passes flag →
-    ((e : Pair) → IsTrue (is_elementary given e) → count_along result e ≡ count_along given e) × IsTrue (lies_on_input given result)
+    KeepsCounts given result
 
 -- and the settings do not change it
 abbrev pub ExactRunsAgree : Type 0

@@ -17,5 +17,7 @@ pub mod Finder
 pub mod Run
 pub mod Potential
 pub mod DataPass
+pub mod DataCutAt
+pub mod SettingsOf
 pub mod ExactInput
 pub mod Laws

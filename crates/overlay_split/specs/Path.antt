@@ -1,5 +1,5 @@
 -- The path of a segment through its marks, and the pieces into which it falls.
-use Rattle.std.specs.Prelude.{◌≢◌, ⊤, ℕ, suc, ℤ, int_lt, if◌then◌else◌, List, [], ◌∷◌, ◌++◌, reverse}
+use Rattle.std.specs.Prelude.{◌≡◌, ◌≢◌, ⊤, ℕ, suc, ℤ, int_lt, if◌then◌else◌, List, [], ◌∷◌, ◌++◌, reverse}
 use Rattle.std.specs.Ordering.{int_eq}
 use Rattle.overlay_base.specs.Points.{Point, Pair, point_cmp, point_lt, distinct_in_order}
 use Rattle.overlay_base.specs.Windings.{Winding, inverse}
@@ -74,3 +74,7 @@ first_point (p ∷ points) b = p
 abbrev pub LeadsOn : Point → List Point → Type 0
 LeadsOn p [] = ⊤
 LeadsOn p (q ∷ points) = (p ≢ q) × LeadsOn q points
+
+-- a path from the first end of a pair to the last, given without the first
+abbrev pub IsPathOf : Pair → List Point → Type 0
+IsPathOf pair points = LeadsOn pair.a points × (last_point pair.a points ≡ pair.b)

@@ -3,12 +3,15 @@
 mod contact;
 pub mod cross_solver;
 mod crossing_point;
+mod cut;
 pub mod laws;
 pub mod line_mark;
 mod nearer_end;
 mod offset;
+pub mod pass;
 pub mod path;
 pub mod piece;
 pub mod placing;
 mod settled;
+pub mod solver;
 pub mod solver_list;

@@ -5,211 +5,345 @@ use std::alloc::AllocError;
 use std::process::Abort;
 use std::test::Fail;
 
-/// The words with bars between them, the input, the exit status, and what is written to the output and to the faults.
-type Run = (&'static str, &'static str, u8, &'static str, &'static str);
-
 const USAGE: &str = "usage: arrange join|cross|split|graph [name=value ..]\n";
 
-const NOT_TWO: &str = "cross needs two segments\n";
+/// Whole runs. Behind `#` stands what a run shows, behind `$` the words with bars between them, then the input, up to
+/// `>`, then the exit status, and below it what is written to the output, or to the faults where the status is not 0.
+const WORKED: &str = "\
+# One pair of ends is joined.
+$join
+S 1 2 3 4
+C 1 2 3 4
+S 3 4 1 2
+S 0 0 5 5
+>0
+seg 0 0 5 5 1 0
+seg 1 2 3 4 0 1
+flag true
+#
+$join
+>0
+flag false
+#
+$join
+S 0 0 1 1
 
-/// The worked runs of each command.
-const WORKED: [Run; 30] = [
-    (
-        "join",
-        "S 1 2 3 4\nC 1 2 3 4\nS 3 4 1 2\nS 0 0 5 5\n",
-        0,
-        "seg 0 0 5 5 1 0\nseg 1 2 3 4 0 1\nflag true\n",
-        "",
-    ),
-    ("join", "", 0, "flag false\n", ""),
-    (
-        "join",
-        "S 0 0 1 1\n\nC 2 2 2 2\n",
-        3,
-        "",
-        "line 3: equal ends\n",
-    ),
-    (
-        "join|engine=i16",
-        "S 16384 0 0 0\n",
-        3,
-        "",
-        "line 1: range\n",
-    ),
-    // Counts of one pair are added, whichever way the lines run.
-    (
-        "join",
-        "S 1 2 3 4\nC 1 2 3 4\nS 1 2 3 4\nS 1 2 3 4\nC 1 2 3 4\nC 1 2 3 4\n",
-        0,
-        "seg 1 2 3 4 3 3\nflag true\n",
-        "",
-    ),
-    (
-        "join",
-        "S 3 4 1 2\nC 1 2 3 4\n",
-        0,
-        "seg 1 2 3 4 -1 1\nflag true\n",
-        "",
-    ),
-    // Counts that cancel leave nothing.
-    ("join", "S 0 0 3 1\nS 3 1 0 0\n", 0, "flag true\n", ""),
-    // Segments are ordered by their first end, then by the second, x before y.
-    (
-        "join",
-        "S 1 1 2 2\nS 0 5 0 9\nC 0 5 7 -3\nS 1 0 0 5\nS 0 5 0 7\n",
-        0,
-        "seg 0 5 0 7 1 0\nseg 0 5 0 9 1 0\nseg 0 5 1 0 -1 0\nseg 0 5 7 -3 0 1\nseg 1 1 2 2 1 0\nflag false\n",
-        "",
-    ),
-    (
-        "join|engine=i16",
-        "C 16383 -16384 -16384 16383\n",
-        0,
-        "seg -16384 16383 16383 -16384 0 -1\nflag false\n",
-        "",
-    ),
-    // Every name is taken, in any order, and those that are not needed are not used.
-    (
-        "join|radius=4|limit=0|rule=xor|fill=evenodd|precision=3,1|strategy=frag|engine=i32",
-        "S 0 0 1 1\n",
-        0,
-        "seg 0 0 1 1 1 0\nflag false\n",
-        "",
-    ),
-    // A crossing is marked at the snapping point, or at an end within the radius.
-    (
-        "cross|radius=4",
-        "S 0 0 5 5\nS 0 3 5 -2\n",
-        0,
-        "pure 2 2 rounded\n",
-        "",
-    ),
-    (
-        "cross|radius=5",
-        "S 0 0 5 5\nS 0 3 5 -2\n",
-        0,
-        "other-end 0 3 rounded\n",
-        "",
-    ),
-    (
-        "cross|radius=72057594037927936",
-        "S 0 0 5 5\nS 0 3 5 -2\n",
-        0,
-        "other-end 0 3 rounded\n",
-        "",
-    ),
-    (
-        "cross",
-        "S 0 0 100 1\nS 1 -50 1 50\n",
-        0,
-        "target-end 0 0 rounded\n",
-        "",
-    ),
-    (
-        "cross|engine=i16",
-        "S -16384 -16384 16383 16383\nS -16384 16383 16383 -16384\n",
-        0,
-        "pure 0 0 rounded\n",
-        "",
-    ),
-    // A crossing with whole coordinates, and the end of one inside the other.
-    (
-        "cross",
-        "S 0 0 2 0\nS 1 -1 1 1\n",
-        0,
-        "pure 1 0 exact\n",
-        "",
-    ),
-    (
-        "cross|radius=9",
-        "S 0 0 4 0\nC 2 0 2 3\n",
-        0,
-        "other-end 2 0 exact\n",
-        "",
-    ),
-    (
-        "cross",
-        "C 0 0 2 2\nS 2 0 2 5\n",
-        0,
-        "target-end 2 2 exact\n",
-        "",
-    ),
-    // Four ends on one line.
-    (
-        "cross",
-        "S -1024 0 512 0\nS 0 0 1024 0\n",
-        0,
-        "overlay 6\n",
-        "",
-    ),
-    ("cross", "S 1 2 3 4\nS 1 2 3 4\n", 0, "overlay 0\n", ""),
-    // An end of both is no crossing.
-    ("cross", "S 0 0 2 0\nS 0 0 0 2\n", 0, "none\n", ""),
-    // The lines may come in either order, and run either way.
-    (
-        "cross|radius=4",
-        "S 0 3 5 -2\nS 0 0 5 5\n",
-        0,
-        "pure 2 2 rounded\n",
-        "",
-    ),
-    (
-        "cross|radius=4",
-        "S 5 5 0 0\nS 5 -2 0 3\n",
-        0,
-        "pure 2 2 rounded\n",
-        "",
-    ),
-    (
-        "cross",
-        "S 1 -50 1 50\nS 0 0 100 1\n",
-        0,
-        "target-end 0 0 rounded\n",
-        "",
-    ),
-    (
-        "cross",
-        "S 0 0 1024 0\nS -1024 0 512 0\n",
-        0,
-        "overlay 6\n",
-        "",
-    ),
-    // Two lines are needed, and a faulty line comes first.
-    ("cross", "", 2, "", NOT_TWO),
-    ("cross", "S 0 0 1 1\n", 2, "", NOT_TWO),
-    ("cross", "S 0 0 1 1\nS 0 1 1 0\nS 0 0 1 1\n", 2, "", NOT_TWO),
-    (
-        "cross",
-        "S 0 0 1 1\nS 0 1 1 0\nS 0 0 1 1\nS 7 7 7 7\n",
-        3,
-        "",
-        "line 4: equal ends\n",
-    ),
-    ("cross", "x\n", 3, "", "line 1: form\n"),
-];
+C 2 2 2 2
+>3
+line 3: equal ends
+#
+$join|engine=i16
+S 16384 0 0 0
+>3
+line 1: range
+# Counts of one pair are added, whichever way the lines run.
+$join
+S 1 2 3 4
+C 1 2 3 4
+S 1 2 3 4
+S 1 2 3 4
+C 1 2 3 4
+C 1 2 3 4
+>0
+seg 1 2 3 4 3 3
+flag true
+#
+$join
+S 3 4 1 2
+C 1 2 3 4
+>0
+seg 1 2 3 4 -1 1
+flag true
+# Counts that cancel leave nothing.
+$join
+S 0 0 3 1
+S 3 1 0 0
+>0
+flag true
+# Segments are ordered by their first end, then by the second, x before y.
+$join
+S 1 1 2 2
+S 0 5 0 9
+C 0 5 7 -3
+S 1 0 0 5
+S 0 5 0 7
+>0
+seg 0 5 0 7 1 0
+seg 0 5 0 9 1 0
+seg 0 5 1 0 -1 0
+seg 0 5 7 -3 0 1
+seg 1 1 2 2 1 0
+flag false
+#
+$join|engine=i16
+C 16383 -16384 -16384 16383
+>0
+seg -16384 16383 16383 -16384 0 -1
+flag false
+# Every name is taken, in any order, and those that are not needed are not used.
+$join|radius=4|limit=0|rule=xor|fill=evenodd|precision=3,1|strategy=frag|engine=i32
+S 0 0 1 1
+>0
+seg 0 0 1 1 1 0
+flag false
+# Segments are split where they meet. With the limit 0 the passes settle from the first on.
+$split|limit=0
+S -1 1 2 -2
+S 0 -1 1 0
+>0
+seg -1 1 1 0 1 0
+seg 0 -1 1 0 1 0
+seg 1 0 2 -2 1 0
+flag true
+passes 2
+#
+$split
+>0
+flag false
+passes 0
+#
+$split|strategy=list
+S -2 0 2 0
+C 0 2 0 -2
+>0
+seg -2 0 0 0 1 0
+seg 0 -2 0 0 0 -1
+seg 0 0 0 2 0 -1
+seg 0 0 2 0 1 0
+flag true
+passes 1
+#
+$split|strategy=tree|engine=i16
+S 0 0 100 0
+S 80 0 150 0
+S 0 1000 150 1000
+S 0 2000 150 2000
+>0
+seg 0 0 80 0 1 0
+seg 0 1000 150 1000 1 0
+seg 0 2000 150 2000 1 0
+seg 80 0 100 0 2 0
+seg 100 0 150 0 1 0
+flag true
+passes 1
+# The first radius is that of the precision.
+$split|precision=3,1
+S 0 0 5 5
+S 0 3 5 -2
+>0
+seg 0 0 0 3 1 0
+seg 0 3 5 -2 1 0
+seg 0 3 5 5 1 0
+flag true
+passes 2
+#
+$split|strategy=frag
+S 0 0 5 5
+S 0 3 5 -2
+>0
+seg 0 0 2 2 1 0
+seg 0 3 2 2 1 0
+seg 2 2 5 -2 1 0
+seg 2 2 5 5 1 0
+flag true
+passes 2
+# Segments that are apart stay as they are.
+$split
+S 0 0 4 0
+S 0 1 4 1
+>0
+seg 0 0 4 0 1 0
+seg 0 1 4 1 1 0
+flag false
+passes 1
+# A crossing is marked at the snapping point, or at an end within the radius.
+$cross|radius=4
+S 0 0 5 5
+S 0 3 5 -2
+>0
+pure 2 2 rounded
+#
+$cross|radius=5
+S 0 0 5 5
+S 0 3 5 -2
+>0
+other-end 0 3 rounded
+#
+$cross|radius=72057594037927936
+S 0 0 5 5
+S 0 3 5 -2
+>0
+other-end 0 3 rounded
+#
+$cross
+S 0 0 100 1
+S 1 -50 1 50
+>0
+target-end 0 0 rounded
+#
+$cross|engine=i16
+S -16384 -16384 16383 16383
+S -16384 16383 16383 -16384
+>0
+pure 0 0 rounded
+# A crossing with whole coordinates, and the end of one inside the other.
+$cross
+S 0 0 2 0
+S 1 -1 1 1
+>0
+pure 1 0 exact
+#
+$cross|radius=9
+S 0 0 4 0
+C 2 0 2 3
+>0
+other-end 2 0 exact
+#
+$cross
+C 0 0 2 2
+S 2 0 2 5
+>0
+target-end 2 2 exact
+# Four ends on one line.
+$cross
+S -1024 0 512 0
+S 0 0 1024 0
+>0
+overlay 6
+#
+$cross
+S 1 2 3 4
+S 1 2 3 4
+>0
+overlay 0
+# An end of both is no crossing.
+$cross
+S 0 0 2 0
+S 0 0 0 2
+>0
+none
+# The lines may come in either order, and run either way.
+$cross|radius=4
+S 0 3 5 -2
+S 0 0 5 5
+>0
+pure 2 2 rounded
+#
+$cross|radius=4
+S 5 5 0 0
+S 5 -2 0 3
+>0
+pure 2 2 rounded
+#
+$cross
+S 1 -50 1 50
+S 0 0 100 1
+>0
+target-end 0 0 rounded
+#
+$cross
+S 0 0 1024 0
+S -1024 0 512 0
+>0
+overlay 6
+# Two lines are needed, and a faulty line comes first.
+$cross
+>2
+cross needs two segments
+#
+$cross
+S 0 0 1 1
+>2
+cross needs two segments
+#
+$cross
+S 0 0 1 1
+S 0 1 1 0
+S 0 0 1 1
+>2
+cross needs two segments
+#
+$cross
+S 0 0 1 1
+S 0 1 1 0
+S 0 0 1 1
+S 7 7 7 7
+>3
+line 4: equal ends
+#
+$cross
+x
+>3
+line 1: form
+# Line ends: one carriage return, then spaces; the last line feed may be missing.
+$join
+S 0 0 1 1 \r
+>0
+seg 0 0 1 1 1 0
+flag false
+#
+$join
+S 0 0 1 1>0
+seg 0 0 1 1 1 0
+flag false
+#
+$join
+S 0 0 1 1\r>0
+seg 0 0 1 1 1 0
+flag false
+#
+$join
+\r
+>0
+flag false
+#
+$join
 
-/// Good input, and the segments that it joins to.
-const GOOD_LINES: [(&str, &str); 11] = [
-    // Line ends: one carriage return, then spaces; the last line feed may be missing.
-    ("S 0 0 1 1 \r\n", "seg 0 0 1 1 1 0\n"),
-    ("S 0 0 1 1", "seg 0 0 1 1 1 0\n"),
-    ("S 0 0 1 1\r", "seg 0 0 1 1 1 0\n"),
-    ("\r\n", ""),
-    ("\n\n   \n  \r\n", ""),
-    ("  S  0 0   1 1  \n", "seg 0 0 1 1 1 0\n"),
-    ("\n\nC 0 0 1 1\n\n", "seg 0 0 1 1 0 1\n"),
-    // Numbers.
-    ("S -0 -5 000000001 -000000002\n", "seg 0 -5 1 -2 1 0\n"),
-    (
-        "S 524287 -524288 -524288 524287\n",
-        "seg -524288 524287 524287 -524288 -1 0\n",
-    ),
-    (
-        "C 100000 -100000 -30 0\n",
-        "seg -30 0 100000 -100000 0 -1\n",
-    ),
-    ("C 1 -10 1 10\n", "seg 1 -10 1 10 0 1\n"),
-];
+
+  \x20
+  \r
+>0
+flag false
+#
+$join
+  S  0 0   1 1 \x20
+>0
+seg 0 0 1 1 1 0
+flag false
+#
+$join
+
+
+C 0 0 1 1
+
+>0
+seg 0 0 1 1 0 1
+flag false
+# Numbers.
+$join
+S -0 -5 000000001 -000000002
+>0
+seg 0 -5 1 -2 1 0
+flag false
+#
+$join
+S 524287 -524288 -524288 524287
+>0
+seg -524288 524287 524287 -524288 -1 0
+flag false
+#
+$join
+C 100000 -100000 -30 0
+>0
+seg -30 0 100000 -100000 0 -1
+flag false
+#
+$join
+C 1 -10 1 10
+>0
+seg 1 -10 1 10 0 1
+flag false
+";
 
 /// Lines that are no letter and four numbers, with spaces between them.
 const FORM_FAULTS: &str = "S 0 0 1 1\r\x20
@@ -308,117 +442,112 @@ join|radius=000
 cross|radius=72057594037927937
 join|radius=-1
 join|radius=+1
-split|limit=0
+split|limit=
+split|precision=high|precision=low
 graph|rule=intersect";
 
-/// Runs the program over memory: the status, the output and the faults.
-fn run_over_memory(
+/// Runs the program over words with bars between them.
+fn run_words<R: Read, W: Write, E: Write>(
     alloc: Global,
-    words: &[String],
-    given: &[u8],
-) -> Result<(u8, Vec<u8>, Vec<u8>), AllocError> {
-    let mut input = given;
-    let mut output = Vec::new(alloc);
-    let mut faults = Vec::new(alloc);
-    let status = arrange_run(alloc, words, &mut input, &mut output, &mut faults);
-    Ok((status, output, faults))
-}
-
-/// The words between the bars.
-fn split_words(alloc: Global, words: &str) -> Result<Vec<String>, AllocError> {
-    words
+    words: &str,
+    input: &mut R,
+    output: &mut W,
+    faults: &mut E,
+) -> Result<u8, AllocError> {
+    let words: Vec<String> = words
         .split('|')
         .map(|word| String::from_str(alloc, word))
-        .try_collect(alloc)
+        .try_collect(alloc)?;
+    Ok(arrange_run(alloc, words.as_slice(), input, output, faults))
+}
+
+/// Asks for the status of a run over memory, and for what it writes: to the output, or to the faults where the status
+/// is not 0.
+fn check<H: Abort + AllocGlobal>(
+    rt: &H,
+    words: &str,
+    given: &[u8],
+    status: u8,
+    text: &str,
+) -> Result<(), AllocError> {
+    let mut input = given;
+    let mut output = Vec::new(rt.alloc());
+    let mut faults = Vec::new(rt.alloc());
+    let answer = run_words(rt.alloc(), words, &mut input, &mut output, &mut faults)?;
+    let (written, told) = if status == 0 { (text, "") } else { ("", text) };
+    assert_eq!(rt; answer, status, "{words} {given:?}");
+    assert_eq!(rt; output.as_slice(), written.as_bytes(), "{words} {given:?}");
+    assert_eq!(rt; faults.as_slice(), told.as_bytes(), "{words} {given:?}");
+    Ok(())
+}
+
+fn check_worked<H: Abort + AllocGlobal>(rt: &H, run: &str) -> Option<Result<(), AllocError>> {
+    let (_, run) = run.split_once('$')?;
+    let (words, run) = run.split_once('\n')?;
+    let (given, run) = run.split_once('>')?;
+    let (status, text) = run.split_once('\n')?;
+    let status = status.parse().ok()?;
+    Some(check(rt, words, given.as_bytes(), status, text))
 }
 
 #[test]
 fn worked_runs(rt: HostRuntime) -> Result<(), Fail> {
-    for (words, given, status, written, told) in WORKED {
-        let owned = split_words(rt.alloc(), words)?;
-        let (answer, output, faults) = run_over_memory(
-            rt.alloc(),
-            owned.as_slice(),
-            given.as_bytes(),
-        )?;
-        assert_eq!(rt; answer, status, "{words:?} {given:?}");
-        assert_eq!(rt;
-            output.as_slice(),
-            written.as_bytes(),
-            "{words:?} {given:?}"
-        );
-        assert_eq!(rt; faults.as_slice(), told.as_bytes(), "{words:?} {given:?}");
+    let mut runs = 0u32;
+    for run in WORKED.split('#').skip(1) {
+        check_worked(&rt, run).ok_or("no run")??;
+        runs = runs.saturating_add(1);
     }
-    Ok(())
-}
-
-#[test]
-fn good_lines(rt: HostRuntime) -> Result<(), Fail> {
-    let join = split_words(rt.alloc(), "join")?;
-    for (given, segments) in GOOD_LINES {
-        let (answer, output, faults) = run_over_memory(
-            rt.alloc(),
-            join.as_slice(),
-            given.as_bytes(),
-        )?;
-        let written = format!(in rt.alloc(); "{segments}flag false\n")?;
-        assert_eq!(rt; answer, 0, "{given:?}");
-        assert_eq!(rt; output.as_slice(), written.as_bytes(), "{given:?}");
-        assert_eq!(rt; faults.as_slice(), b"".as_slice(), "{given:?}");
-    }
-    Ok(())
-}
-
-fn is_refused<H: Abort + AllocGlobal>(rt: &H, line: &[u8], told: &str) -> Result<(), AllocError> {
-    let join = split_words(rt.alloc(), "join")?;
-    let (answer, output, faults) = run_over_memory(rt.alloc(), join.as_slice(), line)?;
-    assert_eq!(rt; answer, 3, "{line:?}");
-    assert_eq!(rt; output.as_slice(), b"".as_slice(), "{line:?}");
-    assert_eq!(rt; faults.as_slice(), told.as_bytes(), "{line:?}");
+    assert_eq!(rt; runs, 48);
     Ok(())
 }
 
 #[test]
 fn faulty_lines(rt: HostRuntime) -> Result<(), Fail> {
     for line in FORM_FAULTS.split('\n') {
-        is_refused(&rt, line.as_bytes(), "line 1: form\n")?;
+        check(&rt, "join", line.as_bytes(), 3, "line 1: form\n")?;
     }
     for line in RANGE_FAULTS.split('\n') {
-        is_refused(&rt, line.as_bytes(), "line 1: range\n")?;
+        check(&rt, "join", line.as_bytes(), 3, "line 1: range\n")?;
     }
     // Text that is not UTF-8.
-    is_refused(&rt, b"\xff", "line 1: form\n")?;
-    is_refused(&rt, b"S 0 0 1 1 \xff", "line 1: form\n")?;
+    check(&rt, "join", b"\xff", 3, "line 1: form\n")?;
+    check(&rt, "join", b"S 0 0 1 1 \xff", 3, "line 1: form\n")?;
     // The first faulty line is named, and empty lines count.
-    is_refused(
+    check(
         &rt,
+        "join",
         b"S 0 0 1 1\nC 2 2 2 2\nS 524288 0 0 0\nS x\n",
+        3,
         "line 2: equal ends\n",
     )?;
-    is_refused(
+    check(
         &rt,
+        "join",
         b"\n\r\nS 0 0 1 1\n  \n\xff\nC 2 2 2 2\n",
+        3,
         "line 5: form\n",
     )?;
     Ok(())
 }
 
-/// Whether the words are answered with the usage. A faulty line comes after the words.
-fn asks_for_nothing<H: Abort + AllocGlobal>(rt: &H, words: &[String]) -> Result<(), AllocError> {
-    let (answer, output, faults) = run_over_memory(rt.alloc(), words, b"x\n")?;
-    assert_eq!(rt; answer, 2, "{words:?}");
-    assert_eq!(rt; output.as_slice(), b"".as_slice(), "{words:?}");
-    assert_eq!(rt; faults.as_slice(), USAGE.as_bytes(), "{words:?}");
+#[test]
+fn faulty_words(rt: HostRuntime) -> Result<(), Fail> {
+    for words in FAULTY_WORDS.split('\n') {
+        // A faulty line comes after the words.
+        check(&rt, words, b"x\n", 2, USAGE)?;
+    }
     Ok(())
 }
 
 #[test]
-fn faulty_words(rt: HostRuntime) -> Result<(), Fail> {
-    asks_for_nothing(&rt, &[])?;
-    for line in FAULTY_WORDS.split('\n') {
-        let words = split_words(rt.alloc(), line)?;
-        asks_for_nothing(&rt, words.as_slice())?;
-    }
+fn no_words(rt: HostRuntime) -> Result<(), Fail> {
+    let mut input: &[u8] = b"x\n";
+    let mut output = Vec::new(rt.alloc());
+    let mut faults = Vec::new(rt.alloc());
+    let answer = arrange_run(rt.alloc(), &[], &mut input, &mut output, &mut faults);
+    assert_eq!(rt; answer, 2);
+    assert_eq!(rt; output.as_slice(), b"".as_slice());
+    assert_eq!(rt; faults.as_slice(), USAGE.as_bytes());
     Ok(())
 }
 
@@ -480,88 +609,72 @@ impl Write for FailsToFlush {
     }
 }
 
-#[test]
-fn input_fails(rt: HostRuntime) -> Result<(), Fail> {
-    let words = split_words(rt.alloc(), "join")?;
-    // A faulty line is not looked at before all the input is read.
-    for bytes in [b"".as_slice(), b"S 0 0 1 1\n", b"x\n"] {
-        let mut input = FailsAtEnd { bytes };
-        let mut output = Vec::new(rt.alloc());
-        let mut faults = Vec::new(rt.alloc());
-        let answer = arrange_run(
-            rt.alloc(),
-            words.as_slice(),
-            &mut input,
-            &mut output,
-            &mut faults,
-        );
-        assert_eq!(rt; answer, 5, "{bytes:?}");
-        assert_eq!(rt; output.as_slice(), b"".as_slice(), "{bytes:?}");
-        assert_eq!(rt;
-            faults.as_slice(),
-            b"input failed\n".as_slice(),
-            "{bytes:?}"
-        );
-    }
+fn check_failed_input<H: Abort + AllocGlobal>(
+    rt: &H,
+    bytes: &'static [u8],
+) -> Result<(), AllocError> {
+    let mut input = FailsAtEnd { bytes };
+    let mut output = Vec::new(rt.alloc());
+    let mut faults = Vec::new(rt.alloc());
+    let answer = run_words(rt.alloc(), "join", &mut input, &mut output, &mut faults)?;
+    assert_eq!(rt; answer, 5, "{bytes:?}");
+    assert_eq!(rt; output.as_slice(), b"".as_slice(), "{bytes:?}");
+    assert_eq!(rt;
+        faults.as_slice(),
+        b"input failed\n".as_slice(),
+        "{bytes:?}"
+    );
     Ok(())
 }
 
 #[test]
-fn output_fails(rt: HostRuntime) -> Result<(), Fail> {
-    let words = split_words(rt.alloc(), "join")?;
-    for room in [0, 1, 10] {
-        let mut input: &[u8] = b"";
-        let mut faults = Vec::new(rt.alloc());
-        let answer = arrange_run(
-            rt.alloc(),
-            words.as_slice(),
-            &mut input,
-            &mut FailsWhenFull { room },
-            &mut faults,
-        );
-        assert_eq!(rt; answer, 5, "{room}");
-        assert_eq!(rt; faults.as_slice(), b"output failed\n".as_slice(), "{room}");
-    }
+fn input_fails(rt: HostRuntime) -> Result<(), Fail> {
+    // A faulty line is not looked at before all the input is read.
+    check_failed_input(&rt, b"")?;
+    check_failed_input(&rt, b"S 0 0 1 1\n")?;
+    check_failed_input(&rt, b"x\n")?;
+    Ok(())
+}
+
+fn check_failed_output<H: Abort + AllocGlobal, W: Write>(
+    rt: &H,
+    output: &mut W,
+) -> Result<(), AllocError> {
     let mut input: &[u8] = b"";
     let mut faults = Vec::new(rt.alloc());
-    let answer = arrange_run(
-        rt.alloc(),
-        words.as_slice(),
-        &mut input,
-        &mut FailsToFlush,
-        &mut faults,
-    );
+    let answer = run_words(rt.alloc(), "join", &mut input, output, &mut faults)?;
     assert_eq!(rt; answer, 5);
     assert_eq!(rt; faults.as_slice(), b"output failed\n".as_slice());
     Ok(())
 }
 
 #[test]
+fn output_fails(rt: HostRuntime) -> Result<(), Fail> {
+    check_failed_output(&rt, &mut FailsWhenFull { room: 0 })?;
+    check_failed_output(&rt, &mut FailsWhenFull { room: 1 })?;
+    check_failed_output(&rt, &mut FailsWhenFull { room: 10 })?;
+    check_failed_output(&rt, &mut FailsToFlush)?;
+    Ok(())
+}
+
+fn check_failed_faults<H: Abort + AllocGlobal>(
+    rt: &H,
+    words: &str,
+    given: &[u8],
+    status: u8,
+) -> Result<(), AllocError> {
+    let mut input = given;
+    let mut output = FailsWhenFull { room: 0 };
+    let mut faults = FailsWhenFull { room: 3 };
+    let answer = run_words(rt.alloc(), words, &mut input, &mut output, &mut faults)?;
+    assert_eq!(rt; answer, status, "{words} {given:?}");
+    Ok(())
+}
+
+#[test]
 fn faults_fail(rt: HostRuntime) -> Result<(), Fail> {
-    let words = split_words(rt.alloc(), "join")?;
-    for (given, status) in [(b"x\n".as_slice(), 3), (b"S 0 0 1 1\n", 5)] {
-        let mut input = given;
-        let mut output = FailsWhenFull { room: 0 };
-        let mut faults = FailsWhenFull { room: 3 };
-        let answer = arrange_run(
-            rt.alloc(),
-            words.as_slice(),
-            &mut input,
-            &mut output,
-            &mut faults,
-        );
-        assert_eq!(rt; answer, status, "{given:?}");
-    }
-    let mut input: &[u8] = b"";
-    let mut output = Vec::new(rt.alloc());
-    let answer = arrange_run(
-        rt.alloc(),
-        &[],
-        &mut input,
-        &mut output,
-        &mut FailsWhenFull { room: 0 },
-    );
-    assert_eq!(rt; answer, 2);
-    assert_eq!(rt; output.as_slice(), b"".as_slice());
+    check_failed_faults(&rt, "joint", b"", 2)?;
+    check_failed_faults(&rt, "join", b"x\n", 3)?;
+    check_failed_faults(&rt, "join", b"S 0 0 1 1\n", 5)?;
     Ok(())
 }

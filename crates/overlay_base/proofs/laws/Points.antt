@@ -1,5 +1,5 @@
 -- Laws of turns, of the order of points and of pairs, and of points on a segment.
-use Rattle.std.proofs.Common.{◌≡◌, refl, sym, ap, subst, ◌∙◌, ◌⊎◌, ap₂, ⊎_elim, inl, inr, arith, true, false, IsTrue, IsFalse}
+use Rattle.std.proofs.Common.{◌≡◌, refl, sym, ap, subst, ◌∙◌, ◌⊎◌, ap₂, ⊎_elim, inl, inr, arith, true, false, IsTrue, IsFalse, ◌&&◌}
 use Rattle.std.specs.Prelude.{ℤ, pos, ◌+ℤ◌, ◌-ℤ◌, ◌*ℤ◌, ◌≤ℤ◌, ◌<ℤ◌, neg_ℤ}
 use Rattle.std.proofs.lemmas.Int.{ints, by_lt_z}
 use Rattle.std.proofs.lemmas.Cmp.{int_cmp_total, on_total, then_total, by_ranked, tied_itself}
@@ -7,7 +7,7 @@ use Rattle.std.specs.Cmp.{IsTotalOrder}
 use Rattle.std.proofs.lemmas.Bool.{or_parts, or_from, both_ways, false_from_ne_true}
 use Rattle.std.specs.declared.cmp.Ordering.{Ordering}
 use Rattle.std.specs.declared.cmp.Ordering.TheVariants.{Less, Equal, Greater}
-use Rattle.std.specs.Ordering.{is_eq, is_lt, ordering_then, ordering_reverse, MatchOrdering}
+use Rattle.std.specs.Ordering.{int_cmp, is_eq, is_lt, ordering_then, ordering_reverse, MatchOrdering}
 use Rattle.overlay_base.specs.Points.{Point, Pair, point_cmp, point_eq, point_lt, pair_cmp, pair_eq, pair_lt, turn, is_in_box, is_end, lies_on, is_strictly_inside}
 use Rattle.overlay_base.specs.Meeting.{are_collinear}
 use Rattle.overlay_base.specs.Laws.{TurnChangesSign, moved, PointsAreOrdered, PairsAreOrdered, LiesOnByOrder, LiesInsideByOrder}
@@ -513,3 +513,13 @@ lies_inside_by_order s p o = (
   λ h. let r = inside_order s p (before s.a s.b o) h in (r.0, from_before s.a p r.1, from_before p s.b r.2),
   λ r. inside_from_order s p (before s.a s.b o) r.0 (before s.a p r.1) (before p s.b r.2),
 )
+
+-- ---- equal points, number by number
+
+pub is_eq-then : (a b : Ordering) → is_eq (ordering_then a b) ≡ (is_eq a && is_eq b)
+is_eq-then Less b = refl
+is_eq-then Equal b = refl
+is_eq-then Greater b = refl
+
+pub point_eq-parts : (p q : Point) → point_eq p q ≡ (is_eq (int_cmp p.x q.x) && is_eq (int_cmp p.y q.y))
+point_eq-parts p q = is_eq-then (int_cmp p.x q.x) (int_cmp p.y q.y)

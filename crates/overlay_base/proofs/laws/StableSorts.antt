@@ -227,3 +227,20 @@ stably_sorted_is_stable {X} cmp o xs =
 
 pub stably_sorted-stable : {X K : Type 0} (key : X → K) (cmp : K → K → Ordering) → IsTotalOrder cmp → (xs : List X) → IsStableByKey key cmp xs (stably_sorted (λ a b. cmp (key a) (key b)) xs)
 stably_sorted-stable key cmp o xs = (stably_sorted_is_stable (λ a b. cmp (key a) (key b)) (ranks_by o key) xs).1
+
+-- a sort of what a function makes of the elements
+module _ {X Y : Type 0} (f : X → Y) (cmp : Y → Y → Ordering) where
+  map-insert_before_ties : (x : X) (ys : List X) → map f (insert_before_ties (λ a b. cmp (f a) (f b)) x ys) ≡ insert_before_ties cmp (f x) (map f ys)
+  unfolding insert_before_ties
+  map-insert_before_ties x [] = refl
+  map-insert_before_ties x (y ∷ ys) = by (is_lt (cmp (f y) (f x))) (map-insert_before_ties x ys)
+    where
+      by : (b : Bool) → map f (insert_before_ties (λ a b. cmp (f a) (f b)) x ys) ≡ insert_before_ties cmp (f x) (map f ys)
+          → map f (if b then y ∷ insert_before_ties (λ a b. cmp (f a) (f b)) x ys else x ∷ y ∷ ys) ≡ (if b then f y ∷ insert_before_ties cmp (f x) (map f ys) else f x ∷ f y ∷ map f ys)
+      by true ih = ap (λ l. f y ∷ l) ih
+      by false ih = refl
+
+  pub map-stably_sorted : (xs : List X) → map f (stably_sorted (λ a b. cmp (f a) (f b)) xs) ≡ stably_sorted cmp (map f xs)
+  unfolding stably_sorted
+  map-stably_sorted [] = refl
+  map-stably_sorted (x ∷ xs) = map-insert_before_ties x (stably_sorted (λ a b. cmp (f a) (f b)) xs) ∙ ap (insert_before_ties cmp (f x)) (map-stably_sorted xs)

@@ -1,5 +1,5 @@
 -- The answer for two pairs, the smaller as target, stands for the marks that the two put on one another.
-use Rattle.std.proofs.Common.{◌≡◌, refl, sym, ap, ◌∙◌, ◌⊎◌, ◌≢◌, inl, inr, arith, Bool, true, false, ◌&&◌, IsTrue, [], ◌∷◌}
+use Rattle.std.proofs.Common.{◌≡◌, refl, sym, ap, ◌∙◌, ◌⊎◌, ◌≢◌, inl, inr, arith, Bool, true, false, IsTrue, [], ◌∷◌}
 use Rattle.std.specs.Prelude.{ℤ, pos, neg_ℤ, filter}
 use Rattle.std.specs.Ordering.{int_eq, is_lt, ordering_reverse}
 use Rattle.std.specs.declared.cmp.Ordering.{Ordering}
@@ -9,6 +9,7 @@ use Rattle.std.proofs.lemmas.Bool.{and_parts, or_cases, and_from, false_from_ne_
 use Rattle.std.proofs.lemmas.Bool.Decides.{Decides-int_eq}
 use Rattle.overlay_base.specs.Points.{Point, Pair, pair_lt, pair_cmp, point_eq, turn, is_between, is_end, is_strictly_inside}
 use Rattle.overlay_base.specs.Meeting.{are_collinear, have_opposite_signs, separates, do_cross}
+use Rattle.overlay_base.proofs.laws.Apart.{do_cross_back}
 use Rattle.overlay_split.specs.Marks.{Placing, crossing_mark, ordered_mark, marks_by}
 use Rattle.overlay_split.specs.CrossAnswer.{cross_answer, crossing_answer, touch_answer, kind_of_point, target_marks, other_marks}
 use Rattle.overlay_split.specs.Laws.{AnswersAreMarks}
@@ -63,16 +64,6 @@ crossing_is_clear s t h =
     let p = opposite_parts (turn s.a s.b t.a) (turn s.a s.b t.b) parts.0 in
     let q = opposite_parts (turn t.a t.b s.a) (turn t.a t.b s.b) parts.1 in
     record { ta = p.0; tb = p.1; sa = q.0; sb = q.1 }
-
-and_swap : (x y : Bool) → (x && y) ≡ (y && x)
-and_swap true true = refl
-and_swap true false = refl
-and_swap false true = refl
-and_swap false false = refl
-
-pub do_cross_back : (s t : Pair) → do_cross s t ≡ do_cross t s
-unfolding do_cross
-do_cross_back s t = and_swap (separates s t) (separates t s)
 
 pub collinear_do_not_cross : (s t : Pair) → are_collinear s t ≡ true → do_cross s t ≡ false
 collinear_do_not_cross s t h = false_from_ne_true _ (λ e. (crossing_is_clear s t e).ta (collinear_parts s t h).0)

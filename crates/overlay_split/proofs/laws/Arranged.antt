@@ -1,14 +1,13 @@
 -- A planar arrangement has no marks: a pass leaves it as it is, and a run answers it after one pass.
-use Rattle.std.proofs.Common.{◌≡◌, refl, sym, ap, ap₂, ◌∙◌, inl, inr, subst, arith, true, false, Bool, IsTrue, IsFalse, List, [], ◌∷◌, ◌++◌, filter, take, drop, ℕ, zero, suc, ◌-◌, ◌<◌, ◌≤◌, min, length, nat_le, nat_lt, append-nil, sum_by, ◌==◌}
+use Rattle.std.proofs.Common.{◌≡◌, refl, sym, ap, ap₂, ◌∙◌, inl, inr, subst, arith, true, false, Bool, IsTrue, IsFalse, List, [], ◌∷◌, ◌++◌, take, drop, ℕ, zero, suc, ◌-◌, ◌<◌, ◌≤◌, min, length, nat_le, nat_lt, append-nil, sum_by, ◌==◌}
 use Rattle.std.specs.Prelude.{flat_map}
 use Rattle.std.specs.List.{list_any}
-use Rattle.std.proofs.lemmas.Bool.{cond-false, cond-true, or_from, and_right, leb-true, leb-false, eq-eqb, eqb-true}
+use Rattle.std.proofs.lemmas.Bool.{cond-true, or_from, and_right, leb-true, leb-false, eq-eqb, eqb-true}
 use Rattle.std.proofs.lemmas.List.Folds.{sum_by-zero}
-use Rattle.overlay_base.specs.Points.{Point, Pair, point_cmp, point_lt, is_strictly_inside, distinct_in_order}
+use Rattle.overlay_base.specs.Points.{Point, Pair, point_cmp, point_lt, distinct_in_order}
 use Rattle.overlay_base.specs.Windings.{Winding, inverse}
 use Rattle.overlay_base.specs.Segments.{WholeSegment, pairs, is_map, are_ordered}
 use Rattle.overlay_base.specs.Join.{join, has_equal_pairs}
-use Rattle.overlay_base.specs.Meeting.{are_apart}
 use Rattle.overlay_base.specs.Planar.{is_planar}
 use Rattle.overlay_split.specs.Marks.{Placing, marks_by, cross_inexactly}
 use Rattle.overlay_split.specs.Path.{path, piece, pieces_along, pieces}
@@ -19,8 +18,7 @@ use Rattle.overlay_base.proofs.laws.Points.{Before, from_before}
 use Rattle.overlay_base.proofs.laws.Maps.{are_ordered-map, join-map}
 use Rattle.overlay_base.proofs.laws.Repeats.{has_equal_pairs-map}
 use Rattle.overlay_base.proofs.laws.Lists.{Has, Has-map, list_any-from_none, AllByRecursion-from_Has, list_all-from_Has}
-use Rattle.overlay_split.proofs.laws.Meetings.{are_apart_parts, no_end_inside_parts}
-use Rattle.overlay_split.proofs.laws.Marks.{marks_at_ends}
+use Rattle.overlay_split.proofs.laws.ApartPairs.{apart_have_no_mark, apart_are_exact}
 use Rattle.overlay_split.proofs.laws.ExactMarks.{In, In-ordered}
 use Rattle.overlay_split.proofs.laws.OrderedPaths.{path_in_order}
 use Rattle.overlay_split.proofs.laws.PlanarPasses.{is_planar-each}
@@ -43,22 +41,13 @@ flat_map-each f (x ∷ xs) h = ap₂ (λ (l : List _) (r : List _). l ++ r) (h x
 pub none_passes : {X : Type 0} (p : X → Bool) (xs : List X) → ((x : X) → Has xs x → p x ≡ false) → list_any p xs ≡ false
 none_passes p xs h = list_any-from_none p xs (AllByRecursion-from_Has (λ x. p x ≡ false) xs h)
 
-filter-neither : {X : Type 0} (p : X → Bool) (x y : X) → p x ≡ false → p y ≡ false → filter p (x ∷ y ∷ []) ≡ []
-filter-neither p x y h k = cond-false (p x) _ _ h ∙ cond-false (p y) _ _ k
-
 -- ---- no marks
-
-apart_unmarked : (placing : Placing) (s t : Pair) → IsTrue (are_apart s t) → marks_by placing s t ≡ []
-apart_unmarked placing s t h =
-    let parts = are_apart_parts s t h in
-    let none = no_end_inside_parts s t parts.1 in
-    marks_at_ends placing s t parts.0 ∙ filter-neither (λ p. is_strictly_inside s p) t.a t.b none.0 none.1
 
 -- no pair of a planar list is marked
 pub planar_unmarked : (placing : Placing) (segments : List WholeSegment) → IsTrue (is_planar segments) → (s : Pair) → In segments s → marks_on placing segments s ≡ []
 unfolding marks_on distinct_in_order
 planar_unmarked placing segments h s i =
-    ap (λ (l : List Point). distinct_in_order point_cmp l) (flat_map-none (λ t. marks_by placing s t) (pairs segments) (λ t j. apart_unmarked placing s t (is_planar-each segments h s t i j)))
+    ap (λ (l : List Point). distinct_in_order point_cmp l) (flat_map-none (λ t. marks_by placing s t) (pairs segments) (λ t j. apart_have_no_mark placing s t (is_planar-each segments h s t i j)))
 
 pub planar_mark_count : (placing : Placing) (segments : List WholeSegment) → IsTrue (is_planar segments) → mark_count placing segments ≡ 0
 unfolding mark_count
@@ -66,13 +55,9 @@ planar_mark_count placing segments h =
     let each = list_all-from_Has (λ s. length (marks_on placing segments s) == 0) (pairs segments) (λ s i. eq-eqb (length (marks_on placing segments s)) 0 (ap (λ (l : List Point). length l) (planar_unmarked placing segments h s i))) in
     eqb-true (sum_by (λ s. length (marks_on placing segments s)) (pairs segments)) 0 (sum_by-zero (λ s. length (marks_on placing segments s)) (pairs segments) ∙ each)
 
-apart_exact : (s t : Pair) → IsTrue (are_apart s t) → IsFalse (cross_inexactly s t)
-unfolding cross_inexactly
-apart_exact s t h = rw (are_apart_parts s t h).0
-
 pub planar_not_rounded : (segments : List WholeSegment) → IsTrue (is_planar segments) → IsFalse (is_rounded segments)
 unfolding is_rounded
-planar_not_rounded segments h = none_passes (λ s. list_any (λ t. cross_inexactly s t) (pairs segments)) (pairs segments) (λ s i. none_passes (λ t. cross_inexactly s t) (pairs segments) (λ t j. apart_exact s t (is_planar-each segments h s t i j)))
+planar_not_rounded segments h = none_passes (λ s. list_any (λ t. cross_inexactly s t) (pairs segments)) (pairs segments) (λ s i. none_passes (λ t. cross_inexactly s t) (pairs segments) (λ t j. apart_are_exact s t (is_planar-each segments h s t i j)))
 
 -- ---- a pass changes nothing
 

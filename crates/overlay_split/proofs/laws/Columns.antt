@@ -9,6 +9,7 @@ use Rattle.std.proofs.lemmas.Bool.Decides.{Decides-int_eq}
 use Rattle.std.proofs.Math.Seq.{drop-cons}
 use Rattle.overlay_base.specs.Points.{Point}
 use Rattle.overlay_split.specs.Path.{onto_columns, columns_in_order, next_point, last_point, run_through, path_from, run_len, first_point}
+use Rattle.overlay_split.proofs.laws.Pieces.{last_point-append}
 
 -- ---- how long the first column is
 
@@ -118,11 +119,6 @@ module _ {X Y : Type 0} (g : X → Y) (h : Y → Point) where
   appended_up r old new column before next e = OnOk-weaker r (λ k. ap (map h) k ∙ map-append h old (map g column) ∙ ap (λ l. map h old ++ l) (map-both column ∙ sym (run_up before next column e)))
 
 -- ---- the path, column by column
-
-last_point-append : (p : Point) (xs ys : List Point) → last_point p (xs ++ ys) ≡ last_point (last_point p xs) ys
-unfolding last_point
-last_point-append p [] ys = refl
-last_point-append p (x ∷ xs) ys = last_point-append x xs ys
 
 path-cons : (before : Point) (column : List Point) (columns : List (List Point)) (b : Point) → path_from before (column ∷ columns) b
     ≡ run_through before column (next_point columns b) ++ path_from (last_point before (run_through before column (next_point columns b))) columns b

@@ -5,16 +5,14 @@ use Rattle.std.specs.Int.{int_signum, int_min, int_max}
 use Rattle.std.proofs.lemmas.Int.{ints, clamps}
 use Rattle.std.proofs.lemmas.Bool.{and_parts, and_from, cond_both}
 use Rattle.overlay_base.specs.Points.{Point, Pair, turn, is_in_box, is_between, is_vertical, is_horizontal}
-use Rattle.overlay_base.specs.Meeting.{have_opposite_signs, separates, do_cross}
+use Rattle.overlay_base.specs.Meeting.{separates, do_cross}
+use Rattle.overlay_base.proofs.laws.Apart.{opposite}
 use Rattle.overlay_split.specs.Crossing.{Quotient, quotient, crossing_n, crossing_d, offset_x, offset_y, placed_by, truncated, nearest, nearest_upward, snapping_point, settling_point}
 use Rattle.overlay_base.proofs.laws.Polynomials.{as_D, diffs, D-eq, mul-nonneg}
 use Rattle.overlay_base.proofs.laws.Points.{turn_rotates}
 use Rattle.overlay_split.proofs.laws.Rounding.{over, IsRounding, round-from, round-to, truncated-is_rounding, nearest-is_rounding, nearest_upward-is_rounding}
 
 -- ---- signs
-
-opposite : (u v : ℤ) → IsTrue (have_opposite_signs u v) → ((u <ℤ pos 0) × (pos 0 <ℤ v)) ⊎ ((pos 0 <ℤ u) × (v <ℤ pos 0))
-opposite u v h = grind (arith, ints)
 
 -- where n and n - d have opposite signs, n / d lies strictly between 0 and 1
 abbrev pub IsInside : ℤ → ℤ → Type 0
@@ -77,7 +75,7 @@ share s t = int_signum (crossing_d s t) *ℤ crossing_n s t
 unfoldable pub scale : Pair → Pair → ℕ
 scale s t = unsigned_abs (crossing_d s t)
 
-signum_times : (d : ℤ) → int_signum d *ℤ d ≡ pos (unsigned_abs d)
+pub signum_times : (d : ℤ) → int_signum d *ℤ d ≡ pos (unsigned_abs d)
 signum_times (pos zero) = refl
 signum_times (pos (suc n)) = let e : min (suc n) 1 ≡ 1 = omega arith in rw e (omega (arith, ints))
 signum_times (negsuc n) = omega (arith, ints)
@@ -87,7 +85,7 @@ signum_neg (pos zero) = refl
 signum_neg (pos (suc n)) = let e : min (suc n) 1 ≡ 1 = omega arith in rw e refl
 signum_neg (negsuc n) = let e : min (suc n) 1 ≡ 1 = omega arith in rw e refl
 
-abs_neg : (d : ℤ) → unsigned_abs (neg_ℤ d) ≡ unsigned_abs d
+pub abs_neg : (d : ℤ) → unsigned_abs (neg_ℤ d) ≡ unsigned_abs d
 abs_neg (pos zero) = refl
 abs_neg (pos (suc n)) = refl
 abs_neg (negsuc n) = refl

@@ -144,7 +144,7 @@ module _ {D S : Type 0} (hooks : Hooks D S) where
 
   -- ---- pieces without marks
 
-  whole : (s : DataSegment D) (store : S) → IsTrue (is_ordered s.pair) → data_pieces hooks s.count s.pair.a (path_from s.pair.a (columns_of []) s.pair.b) s.pair.b s.edge_data store ≡ (s ∷ [], store)
+  pub whole : (s : DataSegment D) (store : S) → IsTrue (is_ordered s.pair) → data_pieces hooks s.count s.pair.a (path_from s.pair.a (columns_of []) s.pair.b) s.pair.b s.edge_data store ≡ (s ∷ [], store)
   unfolding data_pieces path_from columns_of columns_in_order distinct_in_order data_piece
   whole s store h = rw (h, data_piece) refl
 

@@ -1,18 +1,20 @@
 -- The exact crossing point: where it is whole it lies on both lines, and no other whole point does.
-use Rattle.std.proofs.Common.{◌≡◌, refl, sym, ap, ℕ, ◌<◌, ◌∙◌, arith, Bool, true, false, ◌||◌, IsTrue, zero, suc}
-use Rattle.std.specs.Prelude.{ℤ, pos, negsuc, ◌+ℤ◌, ◌-ℤ◌, ◌*ℤ◌, int_div, int_rem, unsigned_abs, min}
+use Rattle.std.proofs.Common.{◌≡◌, sym, ap, ℕ, ◌<◌, ◌∙◌, arith, true, ◌||◌, IsTrue, zero, suc}
+use Rattle.std.specs.Prelude.{ℤ, pos, negsuc, ◌+ℤ◌, ◌-ℤ◌, ◌*ℤ◌, int_div, int_rem, unsigned_abs}
 use Rattle.std.specs.Int.{int_signum}
 use Rattle.std.specs.Ordering.{int_eq}
 use Rattle.std.proofs.lemmas.Int.{ints, quot-rem, rem_below}
 use Rattle.std.proofs.lemmas.Bool.{and_parts, and_from, cond_both}
 use Rattle.std.proofs.lemmas.Bool.Decides.{Decides-int_eq}
+use Rattle.std.specs.Cmp.{both_ways as same_tests}
+use Rattle.std.proofs.Math.IntN.{*ℤ_comm}
 use Rattle.overlay_base.specs.Points.{Point, Pair, turn, is_vertical, is_horizontal}
 use Rattle.overlay_base.specs.Meeting.{do_cross}
 use Rattle.overlay_split.specs.Crossing.{Quotient, is_whole, truncated, nearest, nearest_upward, crossing_n, crossing_d, offset_x, offset_y, placed_by, is_exact, is_on_lines, snapping_point, settling_point}
 use Rattle.overlay_base.proofs.laws.Polynomials.{as_D, diffs, D-eq, cancel-eq, cancel-zero}
 use Rattle.overlay_base.proofs.laws.Points.{same_point}
 use Rattle.overlay_split.proofs.laws.Rounding.{over, IsRounding, IsRoundedUp, IsRoundedUp-unique, nearest_upward-is, truncated-is_rounding, nearest-is_rounding, nearest_upward-is_rounding}
-use Rattle.overlay_split.proofs.laws.Crossings.{share, scale, scale-swap, exact_x, exact_y, IsPart-share, do_cross-swap, offset_x-is, offset_y-is}
+use Rattle.overlay_split.proofs.laws.Crossings.{signum_times, share, scale, scale-swap, exact_x, exact_y, IsPart-share, do_cross-swap, offset_x-is, offset_y-is}
 
 -- ---- whole quotients
 
@@ -22,9 +24,6 @@ small_multiple (pos (suc m)) (pos r) b e h = absurd (omega (arith, ints))
 small_multiple (pos (suc m)) (negsuc r) b e h = absurd (omega (arith, ints))
 small_multiple (negsuc m) (pos r) b e h = absurd (omega (arith, ints))
 small_multiple (negsuc m) (negsuc r) b e h = absurd (omega (arith, ints))
-
-commute : (a b : ℤ) → a *ℤ b ≡ b *ℤ a
-commute a b = rw (as_D a, as_D b) (simp diffs (D-eq _ _ _ _ (omega arith)))
 
 spread : (q z c : ℤ) → (q -ℤ z) *ℤ c ≡ q *ℤ c -ℤ z *ℤ c
 spread q z c = rw (as_D q, as_D z, as_D c) (simp diffs (D-eq _ _ _ _ (omega arith)))
@@ -106,11 +105,6 @@ signed q d u n g b e f = rw (← f, moved g q d, e) (moved_back g u n)
     moved_back : (g u n : ℤ) → g *ℤ (u *ℤ n) ≡ u *ℤ (g *ℤ n)
     moved_back g u n = rw (as_D g, as_D u, as_D n) (simp diffs (D-eq _ _ _ _ (omega arith)))
 
-signum_times : (d : ℤ) → int_signum d *ℤ d ≡ pos (unsigned_abs d)
-signum_times (pos zero) = refl
-signum_times (pos (suc n)) = let e : min (suc n) 1 ≡ 1 = omega arith in rw e (omega (arith, ints))
-signum_times (negsuc n) = omega (arith, ints)
-
 pub from_both_lines : (s t : Pair) (p : Point) → turn s.a s.b p ≡ pos 0 → turn t.a t.b p ≡ pos 0 → IsCrossingPoint s t p
 unfolding turn share scale
 from_both_lines s t p hs ht =
@@ -168,7 +162,7 @@ IsCrossingPoint-unique s t p q h k l =
   where
     same_steps : (p q a : ℤ) (b : ℕ) (t : ℤ) → 0 < b → (p -ℤ a) *ℤ pos b ≡ t → (q -ℤ a) *ℤ pos b ≡ t → p ≡ q
     same_steps p q a b t h k l =
-        let e = cancel-eq (pos b) (p -ℤ a) (q -ℤ a) (omega (arith, ints)) (commute (pos b) (p -ℤ a) ∙ k ∙ sym l ∙ commute (q -ℤ a) (pos b)) in
+        let e = cancel-eq (pos b) (p -ℤ a) (q -ℤ a) (omega (arith, ints)) (*ℤ_comm (pos b) (p -ℤ a) ∙ k ∙ sym l ∙ *ℤ_comm (q -ℤ a) (pos b)) in
         omega (arith, ints)
 
 pub snapping_is_placed : (P : Point → Type 0) (s t : Pair) → P (placed_by truncated s t) → P (placed_by nearest s t) → P (snapping_point s t)
@@ -186,11 +180,6 @@ exact_settling_point s t h k = exact_point nearest_upward nearest_upward-is_roun
 -- an exact crossing is snapped and settled to one point
 pub exact_points_agree : (s t : Pair) → IsTrue (do_cross s t) → is_exact s t ≡ true → snapping_point s t ≡ settling_point s t
 exact_points_agree s t h k = IsCrossingPoint-unique s t _ _ h (exact_snapping_point s t h k) (exact_settling_point s t h k)
-
-same_tests : (x y : Bool) → (x ≡ true → y ≡ true) → (y ≡ true → x ≡ true) → x ≡ y
-same_tests true y f g = sym (f refl)
-same_tests false true f g = g refl
-same_tests false false f g = refl
 
 -- a whole point on both lines shows the crossing exact
 pub exact_by_lines : (s t : Pair) (p : Point) → IsTrue (do_cross s t) → turn s.a s.b p ≡ pos 0 → turn t.a t.b p ≡ pos 0 → is_exact s t ≡ true

@@ -10,6 +10,7 @@ use Rattle.overlay_base.specs.Join.{join}
 use Rattle.overlay_base.specs.Meeting.{do_cross, are_apart}
 use Rattle.overlay_base.specs.Planar.{is_planar}
 use Rattle.overlay_base.specs.Sums.{gathered}
+use Rattle.overlay_base.proofs.laws.Apart.{are_apart-itself}
 use Rattle.overlay_split.specs.Crossing.{snapping_point}
 use Rattle.overlay_split.specs.Marks.{Placing, settling, cross_inexactly}
 use Rattle.overlay_split.specs.Path.{last_point, piece, pieces_along, pieces}
@@ -22,26 +23,20 @@ use Rattle.overlay_base.proofs.laws.Keys.{AllByRecursion-distinct_in_order}
 use Rattle.overlay_base.proofs.laws.Windings.{empty-add, add-empty, cond-empty, cond-add}
 use Rattle.overlay_base.proofs.laws.Bags.{windings_add, gathered-join}
 use Rattle.overlay_base.proofs.laws.Maps.{is_map-join, are_ordered-join}
-use Rattle.overlay_base.proofs.laws.Points.{Before, before, UpTo, UpTo-same, UpTo-Before, UpTo-trans, UpTo-not_Before, by_order, point_eq_same, collinear, lies_on_order, lies_on_from_order, inside_order, inside_from_order, inside_parts, turn_same_outer, turn_same_last}
+use Rattle.overlay_base.proofs.laws.Points.{Before, before, UpTo, UpTo-same, UpTo-Before, UpTo-trans, UpTo-not_Before, by_order, point_eq_same, collinear, lies_on_order, lies_on_from_order, inside_order, inside_from_order, turn_same_outer, turn_same_last}
 use Rattle.overlay_split.proofs.laws.Paths.{Pairwise-distinct_in_order}
 use Rattle.overlay_split.proofs.laws.Pieces.{last_point-append}
 use Rattle.overlay_split.proofs.laws.Cuts.{gathered-cut, AllByRecursion-join}
-use Rattle.overlay_split.proofs.laws.Meetings.{MarksAt, MarksAt-inside, no_cross_at_a, are_apart_from, no_end_inside_from, IsPart, IsPart-line, IsPart-a_on, IsPart-b_on}
+use Rattle.overlay_split.proofs.laws.Meetings.{MarksAt, MarksAt-inside, IsPart, IsPart-line, IsPart-a_on, IsPart-b_on}
 use Rattle.overlay_split.proofs.laws.Parts.{IsMarked, IsUndivided}
 use Rattle.overlay_split.proofs.laws.AnswerMarks.{end_cases}
 use Rattle.overlay_split.proofs.laws.ExactCrossings.{IsCrossingPoint-unique, from_both_lines, exact_snapping_point}
-use Rattle.overlay_split.proofs.laws.ExactMarks.{end_a, end_b, In, In-ordered, In-exact, marks_on-IsMarked}
+use Rattle.overlay_split.proofs.laws.ExactMarks.{end_b, In, In-ordered, In-exact, marks_on-IsMarked}
 use Rattle.overlay_split.proofs.laws.OrderedPaths.{IsOnLine, ends_ordered, piece_forward, path_in_order}
 use Rattle.overlay_split.proofs.laws.PlanarPasses.{IsPieceOf, pieces_of_parts, pass_undivided, is_planar-from}
 use Rattle.overlay_split.proofs.laws.Arranged.{none_passes, planar_pass}
 
 -- ---- one pass
-
-apart_itself : (s : Pair) → IsTrue (are_apart s s)
-apart_itself s =
-    let no_a = false_from_ne_true (is_strictly_inside s s.a) (λ h. both_ways (is_end s s.a) (inside_parts s s.a h).1 (end_a s)) in
-    let no_b = false_from_ne_true (is_strictly_inside s s.b) (λ h. both_ways (is_end s s.b) (inside_parts s s.b h).1 (end_b s)) in
-    are_apart_from s s (no_cross_at_a s s (turn_same_outer s.a s.b)) (no_end_inside_from s s no_a no_b) (no_end_inside_from s s no_a no_b)
 
 one_pair : (segments : List WholeSegment) → length segments < 2 → (s t : Pair) → In segments s → In segments t → s ≡ t
 one_pair [] h s t i j = absurd i
@@ -54,7 +49,7 @@ one_pair (x ∷ y ∷ xs) h s t i j = absurd (omega arith)
 pub few_are_planar : (segments : List WholeSegment) → nat_le 2 (length segments) ≡ false → IsTrue (is_planar segments)
 few_are_planar segments h =
     let few : length segments < 2 = leb-false 2 (length segments) h in
-    is_planar-from segments (λ s t i j. subst (λ (u : Pair). IsTrue (are_apart s u)) (one_pair segments few s t i j) (apart_itself s))
+    is_planar-from segments (λ s t i j. subst (λ (u : Pair). IsTrue (are_apart s u)) (one_pair segments few s t i j) (are_apart-itself s))
 
 -- the pairs of the join are given
 pub In-join : (given : List WholeSegment) (s : Pair) → In (join given) s → In given s

@@ -6,29 +6,28 @@ use Rattle.std.specs.List.Sorted.{IsStrictlySortedBy}
 use Rattle.std.proofs.lemmas.Bool.{or_cases, or_left, or_right, false_from_ne_true, both_ways}
 use Rattle.std.proofs.lemmas.List.{get_or-map, length-map}
 use Rattle.std.proofs.lemmas.List.Elements.{All-from_recursion}
+use Rattle.std.specs.Cmp.{both_ways as same_tests}
 use Rattle.overlay_base.specs.Points.{Point, Pair, point_cmp, is_strictly_inside, distinct_in_order}
 use Rattle.overlay_base.specs.Meeting.{do_cross}
 use Rattle.overlay_base.specs.Segments.{WholeSegment, pairs}
 use Rattle.overlay_base.proofs.laws.Points.{point_cmp_total, point_same}
 use Rattle.overlay_base.proofs.laws.Keys.{AllByRecursion-distinct_in_order, Has-distinct_in_order, IsStrictlySortedBy-distinct}
 use Rattle.overlay_base.proofs.laws.Lists.{Has, AllByRecursion-at, AllByRecursion-from_Has, Has-append_left, Has-append_right, Has-map, Has-map_out, Has-flat_map, list_any-from_Has, Has-from_list_any}
+use Rattle.overlay_base.proofs.laws.Elements.{Has-append_out, Has-flat_map_out, same_from_elements}
+use Rattle.overlay_base.proofs.laws.Apart.{do_cross_back, no_cross_itself}
 use Rattle.overlay_split.specs.Marks.{Placing, marks_by, cross_inexactly}
 use Rattle.overlay_split.specs.Pass.{marks_on, is_rounded}
 use Rattle.overlay_split.specs.MarkOf.{Mark, AreMarks, points_at}
 use Rattle.overlay_split.specs.Finder.{marks_at, marks_between, marks_with, marks_of_first, marks_of_each, first_crosses_inexactly, some_cross_inexactly}
-use Rattle.overlay_split.proofs.laws.AnswerMarks.{by_bool, do_cross_back, collinear_do_not_cross}
+use Rattle.overlay_split.proofs.laws.AnswerMarks.{by_bool}
 use Rattle.overlay_split.proofs.laws.ExactCrossings.{is_exact_swap}
 use Rattle.overlay_split.proofs.laws.Lines.{inside_parts}
 use Rattle.overlay_split.proofs.laws.Marks.{marks_at_ends}
-use Rattle.overlay_split.proofs.laws.MarkedPairs.{collinear_itself}
 use Rattle.overlay_split.proofs.laws.ApartPairs.{none_of_two}
 use Rattle.overlay_split.proofs.laws.FoundMarks.{or_assoc, or_false}
-use Rattle.overlay_split.proofs.laws.MarkSets.{Has-append_out, Has-flat_map_out, same_from_elements, mark_cmp, points_at_in_order, Has-points_at, Has-points_at_out, indexes_rise}
+use Rattle.overlay_split.proofs.laws.MarkSets.{mark_cmp, points_at_in_order, Has-points_at, Has-points_at_out, indexes_rise}
 
 -- ---- a pair and itself
-
-no_cross_itself : (s : Pair) → do_cross s s ≡ false
-no_cross_itself s = collinear_do_not_cross s s (collinear_itself s)
 
 none_on_itself : (placing : Placing) (s : Pair) → marks_by placing s s ≡ []
 none_on_itself placing s =
@@ -215,11 +214,6 @@ some_in (x ∷ ss) s t (inl e) (inl f) c = absurd (both_ways (cross_inexactly s 
 some_in (x ∷ ss) s t (inl e) (inr k) c = or_left _ _ (list_any-from_Has (λ u. cross_inexactly x u) ss t k (ap (λ (u : Pair). cross_inexactly u t) e ∙ c))
 some_in (x ∷ ss) s t (inr h) (inl f) c = or_left _ _ (list_any-from_Has (λ u. cross_inexactly x u) ss s h (cross_inexactly-back x s ∙ ap (cross_inexactly s) f ∙ c))
 some_in (x ∷ ss) s t (inr h) (inr k) c = or_right _ _ (some_in ss s t h k c)
-
-same_tests : (b c : Bool) → (b ≡ true → c ≡ true) → (c ≡ true → b ≡ true) → b ≡ c
-same_tests true c f g = sym (f refl)
-same_tests false true f g = g refl
-same_tests false false f g = refl
 
 pub some_cross_inexactly-is : (segments : List WholeSegment) → some_cross_inexactly (pairs segments) ≡ is_rounded segments
 unfolding is_rounded

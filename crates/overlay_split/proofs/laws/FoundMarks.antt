@@ -1,42 +1,26 @@
 -- The walk over the segments that follow one in a list, and what it finds.
-use Rattle.std.proofs.Common.{◌≡◌, refl, sym, ap, ap₂, subst, ◌∙◌, ℕ, ◌+◌, ◌<◌, ◌≤◌, zero, suc, arith, append_assoc, append-nil, add-one, Bool, true, false, ◌||◌, IsTrue, List, [], ◌∷◌, ◌++◌, map, drop, length, get_or, Ordering, Less, Equal, Greater, is_lt, is_gt}
+use Rattle.std.proofs.Common.{◌≡◌, refl, sym, ap, ap₂, subst, ◌∙◌, ℕ, ◌+◌, ◌<◌, ◌≤◌, zero, suc, arith, append_assoc, append-nil, add-one, Bool, true, false, ◌||◌, IsTrue, List, [], ◌∷◌, ◌++◌, drop, length, get_or, Ordering, Less, Equal, Greater, is_lt, is_gt}
 use Rattle.std.specs.Prelude.{◌≤ℤ◌, ◌<ℤ◌}
 use Rattle.std.specs.Ordering.{ordering_reverse}
 use Rattle.std.specs.List.{list_any, AllByRecursion}
 use Rattle.std.proofs.lemmas.Int.{ints}
 use Rattle.std.proofs.lemmas.Bool.{or_from}
 use Rattle.std.proofs.Math.Seq.{drop-cons}
-use Rattle.std.proofs.lemmas.List.{get_or-map, length-map}
+use Rattle.std.proofs.lemmas.List.{length-map}
 use Rattle.overlay_base.specs.Points.{Point, Pair, pair_cmp, pair_lt, is_ordered}
 use Rattle.overlay_base.specs.Segments.{pairs}
 use Rattle.overlay_base.specs.SegmentOf.{segments_of, ends_of}
 use Rattle.overlay_base.specs.declared.segm.segment.Segment.{Segment}
 use Rattle.overlay_base.proofs.laws.Points.{pair_cmp_total}
 use Rattle.overlay_base.proofs.laws.Keys.{IsInOrder}
+use Rattle.overlay_base.proofs.laws.Elements.{IsInOrder-drop, AllByRecursion-drop, AllByRecursion-drop_later}
+use Rattle.overlay_base.proofs.laws.Apart.{pairs-map, apart_in_x}
 use Rattle.overlay_split.specs.Marks.{Placing, cross_inexactly}
 use Rattle.overlay_split.specs.MarkOf.{Mark}
 use Rattle.overlay_split.specs.Finder.{marks_at, marks_between, marks_with, marks_of_first, first_crosses_inexactly}
-use Rattle.overlay_split.proofs.laws.ApartPairs.{AreApart, AreApart-back, apart_are_exact, apart_have_no_mark, apart_in_x}
+use Rattle.overlay_split.proofs.laws.ApartPairs.{AreApart, AreApart-back, apart_are_exact, apart_have_no_mark}
 
 -- ---- a list from an index on
-
-pub drop-more : {X Y : Type 0} (f : X → Y) (xs : List X) (j : ℕ) (x : X) → j < length xs → x ≡ get_or xs j x → drop j (map f xs) ≡ f x ∷ drop (j + 1) (map f xs)
-drop-more f xs j x lt is =
-    drop-cons (map f xs) j (f x) (subst (λ (n : ℕ). j < n) (sym (length-map xs f)) lt)
-    ∙ ap₂ (λ y ys. y ∷ ys) (get_or-map f xs j x (f x) lt ∙ ap f (sym is)) (ap (λ (n : ℕ). drop n (map f xs)) (sym (add-one j)))
-
-pub pairs-map : {C I D : Type 0} {m : _} {w : _} {o : _} {e : _} {p : _} (xs : List (Segment C I D m w o e p)) → pairs (segments_of xs) ≡ map (λ s. ends_of s) xs
-pairs-map [] = refl
-pairs-map (x ∷ xs) = ap (λ ys. ends_of x ∷ ys) (pairs-map xs)
-
--- the ends of segments are in order
-pub are_ordered : {C I D : Type 0} {m : _} {w : _} {o : _} {e : _} {p : _} (xs : List (Segment C I D m w o e p)) → AllByRecursion (λ s. IsTrue (is_ordered s)) (pairs (segments_of xs))
-are_ordered [] = tt
-are_ordered (x ∷ xs) = (x.ordered, are_ordered xs)
-
-pub pairs-more : {C I D : Type 0} {m : _} {w : _} {o : _} {e : _} {p : _} (xs : List (Segment C I D m w o e p)) (j : ℕ) (x : Segment C I D m w o e p) → j < length xs → x ≡ get_or xs j x →
-    drop j (pairs (segments_of xs)) ≡ ends_of x ∷ drop (j + 1) (pairs (segments_of xs))
-pairs-more xs j x lt is = rw (pairs-map xs) (drop-more (λ s. ends_of s) xs j x lt is)
 
 first_of_rest : (ps : List Pair) (j : ℕ) → j < length ps → (s : Pair) × (drop j ps ≡ s ∷ drop (j + 1) ps)
 first_of_rest [] j lt = absurd (omega arith)
@@ -111,22 +95,6 @@ IsLooked-end placing i s ps old now rounded j w d apart =
     rw d (sym (append-nil now) ∙ found, or_false rounded ∙ flag)
 
 -- ---- what the order of the list gives
-
-pub IsInOrder-drop : {K : Type 0} (cmp : K → K → Ordering) (n : ℕ) (ks : List K) → IsInOrder cmp ks → IsInOrder cmp (drop n ks)
-IsInOrder-drop cmp zero ks h = h
-IsInOrder-drop cmp (suc n) [] h = h
-IsInOrder-drop cmp (suc n) (k ∷ ks) h = IsInOrder-drop cmp n ks h.1
-
-pub AllByRecursion-drop : {X : Type 0} (P : X → Type 0) (n : ℕ) (xs : List X) → AllByRecursion P xs → AllByRecursion P (drop n xs)
-AllByRecursion-drop P zero xs h = h
-AllByRecursion-drop P (suc n) [] h = tt
-AllByRecursion-drop P (suc n) (x ∷ xs) h = AllByRecursion-drop P n xs h.1
-
-AllByRecursion-drop_later : {X : Type 0} (P : X → Type 0) (m n : ℕ) (xs : List X) → m ≤ n → AllByRecursion P (drop m xs) → AllByRecursion P (drop n xs)
-AllByRecursion-drop_later P zero n xs le h = AllByRecursion-drop P n xs h
-AllByRecursion-drop_later P (suc m) zero xs le h = absurd (omega arith)
-AllByRecursion-drop_later P (suc m) (suc n) [] le h = tt
-AllByRecursion-drop_later P (suc m) (suc n) (x ∷ xs) le h = AllByRecursion-drop_later P m n xs (omega arith) h
 
 -- a later pair is not less
 pub later_is_not_less : (ps : List Pair) (i j : ℕ) (s t : Pair) → IsInOrder pair_cmp ps → i < j → drop i ps ≡ s ∷ drop (i + 1) ps → drop j ps ≡ t ∷ drop (j + 1) ps → pair_lt t s ≡ false

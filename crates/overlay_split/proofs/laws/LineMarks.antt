@@ -15,12 +15,14 @@ use Rattle.overlay_base.specs.Points.{Point, point_cmp}
 use Rattle.overlay_base.specs.Segments.{WholeSegment, pairs}
 use Rattle.overlay_base.proofs.laws.Lists.{Has}
 use Rattle.overlay_base.proofs.laws.Points.{same_by_eq}
+use Rattle.overlay_base.proofs.laws.Elements.{IsStrictlySortedBy-map, Has-permutation, Has-dedup, Has-dedup_out}
 use Rattle.overlay_split.specs.declared.split.line_mark.LineMark.{LineMark}
 use Rattle.overlay_split.specs.Marks.{Placing}
 use Rattle.overlay_split.specs.MarkOf.{Mark, mark_of, marks_of, AreMarks}
 use Rattle.overlay_split.specs.Finder.{marks_of_each}
-use Rattle.overlay_split.proofs.laws.Comparisons.{same_points, is_eq-then}
-use Rattle.overlay_split.proofs.laws.MarkSets.{mark_cmp, mark_cmp_total, IsStrictlySortedBy-map, Has-permutation, Has-dedup, Has-dedup_out}
+use Rattle.overlay_split.proofs.laws.Comparisons.{same_points}
+use Rattle.overlay_base.proofs.laws.Points.{is_eq-then}
+use Rattle.overlay_split.proofs.laws.MarkSets.{mark_cmp, mark_cmp_total}
 use Rattle.overlay_split.proofs.laws.FoundEach.{AreMarks-from_found}
 
 -- marks are equal by their indexes and coordinates

@@ -7,7 +7,7 @@ use Rattle.std.proofs.lemmas.Bool.{and_parts, false_from_ne_true, not-true}
 use Rattle.std.proofs.lemmas.Bool.Decides.{Decides-int_eq}
 use Rattle.overlay_base.specs.Points.{Point, Pair, point_eq, turn, is_between, is_in_box, is_end, lies_on, is_strictly_inside}
 use Rattle.overlay_base.specs.Meeting.{have_opposite_signs}
-use Rattle.overlay_base.proofs.laws.Polynomials.{as_D, diffs, D-eq}
+use Rattle.overlay_base.proofs.laws.Polynomials.{as_D, diffs, D-eq, mul-neg_left}
 use Rattle.overlay_base.proofs.laws.Points.{same_point, same_by_eq, mean_x, mean_y, not_end}
 
 -- ---- factors that are not 0
@@ -69,9 +69,6 @@ alike (negsuc u) (negsuc w) (pos (suc m)) (pos (suc n)) p q e = inr (inr (omega 
 neg_times_neg : (m u : ℤ) → neg_ℤ m *ℤ neg_ℤ u ≡ m *ℤ u
 neg_times_neg m u = rw (as_D m, as_D u) (simp diffs (D-eq _ _ _ _ (omega arith)))
 
-neg_times : (m u : ℤ) → neg_ℤ m *ℤ u ≡ neg_ℤ (m *ℤ u)
-neg_times m u = rw (as_D m, as_D u) (simp diffs (D-eq _ _ _ _ (omega arith)))
-
 between_of_alike : (a b c : ℤ) → Alike (neg_ℤ (b -ℤ c)) (a -ℤ c) → IsTrue (is_between a b c)
 between_of_alike a b c h = grind (arith, ints)
 
@@ -120,9 +117,9 @@ outside_of_alike s c m n apart hm hn hx hy inside =
     parts.3 (same_point c s.a x.0 y.0)
 
 negated : (m n u w : ℤ) → m *ℤ u ≡ n *ℤ w → neg_ℤ m *ℤ u ≡ neg_ℤ n *ℤ w
-negated m n u w e = rw (neg_times m u, neg_times n w, e) refl
+negated m n u w e = rw (mul-neg_left m u, mul-neg_left n w, e) refl
 
-by_sign : {P : Type 0} (z : ℤ) → (z <ℤ pos 0 → P) → (z ≡ pos 0 → P) → (pos 0 <ℤ z → P) → P
+pub by_sign : {P : Type 0} (z : ℤ) → (z <ℤ pos 0 → P) → (z ≡ pos 0 → P) → (pos 0 <ℤ z → P) → P
 by_sign z f g h = by_lt_z z (pos 0) f (λ (up : pos 0 ≤ℤ z). by_lt_z (pos 0) z h (λ (down : z ≤ℤ pos 0). g (omega (arith, ints))))
 
 opposite_down_up : (m n : ℤ) → m <ℤ pos 0 → pos 0 <ℤ n → have_opposite_signs m n ≡ true

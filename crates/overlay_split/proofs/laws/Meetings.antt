@@ -1,22 +1,16 @@
 -- How two ordered pairs meet: by signs of turns, apart or not, where one marks the other, and parts of pairs.
-use Rattle.std.proofs.Common.{◌≡◌, refl, sym, ap, ◌⊎◌, ⊎_elim, inl, inr, arith, true, false, Bool, ◌||◌, IsTrue, IsFalse}
-use Rattle.std.specs.Prelude.{ℤ, pos, ◌+ℤ◌, ◌*ℤ◌, ◌≤ℤ◌, ◌<ℤ◌, if◌then◌else◌}
+use Rattle.std.proofs.Common.{◌≡◌, refl, sym, ◌⊎◌, ⊎_elim, inl, inr, arith, true, false, Bool, IsTrue, IsFalse}
+use Rattle.std.specs.Prelude.{ℤ, pos, ◌+ℤ◌, ◌*ℤ◌, ◌≤ℤ◌, ◌<ℤ◌}
 use Rattle.std.proofs.lemmas.Int.{ints, by_lt_z}
-use Rattle.std.proofs.lemmas.Bool.{or_parts, or_from, both_ways, false_from_ne_true, and_parts, and_from, cases_Bool}
+use Rattle.std.proofs.lemmas.Bool.{or_parts, or_from, both_ways, false_from_ne_true, and_from, cases_Bool}
 use Rattle.overlay_base.specs.Points.{Point, Pair, turn, is_end, lies_on, is_strictly_inside}
-use Rattle.overlay_base.specs.Meeting.{crossing, touch, overlap, apart, have_opposite_signs, separates, do_cross, are_collinear, has_end_inside, meeting, are_apart}
+use Rattle.overlay_base.specs.Meeting.{have_opposite_signs, separates, do_cross, are_collinear, has_end_inside}
 use Rattle.overlay_base.proofs.laws.Polynomials.{mul-pos, cancel-pos, mul-neg, cancel-neg, cancel-zero}
 use Rattle.overlay_base.proofs.laws.Points.{turn_same_last, turn_same_outer, Before, UpTo, Before-UpTo-trans, UpTo-Before-trans, UpTo-trans, UpTo-Before, weights, collinear, are_collinear_turns, are_collinear_from, are_collinear_swap, inside_order, inside_from_order, lies_on_from_order, inside_from_parts}
+use Rattle.overlay_base.proofs.laws.Apart.{Opposite, do_cross_parts}
 use Rattle.overlay_split.proofs.laws.AnswerMarks.{collinear_do_not_cross, end_cases}
 
 -- ---- signs
-
--- one below 0, the other above it
-abbrev pub Opposite : ℤ → ℤ → Type 0
-Opposite f g = ((f <ℤ pos 0) × (pos 0 <ℤ g)) ⊎ ((pos 0 <ℤ f) × (g <ℤ pos 0))
-
-pub opposite : (f g : ℤ) → IsTrue (have_opposite_signs f g) → Opposite f g
-opposite f g h = grind (arith, ints)
 
 pub from_opposite : (f g : ℤ) → Opposite f g → IsTrue (have_opposite_signs f g)
 from_opposite f g h = grind (arith, ints)
@@ -33,12 +27,6 @@ opposite_sums m n f g k z hm hn e hz =
     (λ (up : pos 0 <ℤ f). let p = mul-pos m f hm up in inl (inr (up, cancel-neg n g hn (omega (arith, ints)))))
 
 -- ---- the lines of two pairs
-
-pub do_cross_parts : (s t : Pair) → IsTrue (do_cross s t) → Opposite (turn s.a s.b t.a) (turn s.a s.b t.b) × Opposite (turn t.a t.b s.a) (turn t.a t.b s.b)
-unfolding do_cross separates
-do_cross_parts s t h =
-    let parts = and_parts (have_opposite_signs (turn s.a s.b t.a) (turn s.a s.b t.b)) (have_opposite_signs (turn t.a t.b s.a) (turn t.a t.b s.b)) h in
-    (opposite _ _ parts.0, opposite _ _ parts.1)
 
 pub do_cross_from : (s t : Pair) → Opposite (turn s.a s.b t.a) (turn s.a s.b t.b) → Opposite (turn t.a t.b s.a) (turn t.a t.b s.b) → IsTrue (do_cross s t)
 unfolding do_cross separates
@@ -63,26 +51,6 @@ pub crossing_not_collinear : (s t : Pair) → IsTrue (do_cross s t) → IsFalse 
 crossing_not_collinear s t h = false_from_ne_true (are_collinear s t) (λ c. both_ways (do_cross s t) (collinear_do_not_cross s t c) h)
 
 -- ---- the kinds of meeting
-
-pub meeting_apart : (s t : Pair) → IsFalse (do_cross s t) → IsFalse (has_end_inside s t) → IsFalse (has_end_inside t s) → meeting s t ≡ apart
-unfolding meeting
-meeting_apart s t c h k = rw (c, h, k)
-
-pub are_apart_from : (s t : Pair) → IsFalse (do_cross s t) → IsFalse (has_end_inside s t) → IsFalse (has_end_inside t s) → IsTrue (are_apart s t)
-unfolding are_apart
-are_apart_from s t c h k = ap (λ m. elim m as (λ _. Bool) [ apart ↦ true | _ ↦ false ]) (meeting_apart s t c h k)
-
-apart_tests : (c k l m : Bool) → IsTrue (elim (if c then crossing else if k || l then (if m then overlap else touch) else apart) [ apart ↦ true | _ ↦ false ]) → IsFalse c × IsFalse k × IsFalse l
-apart_tests true k l m h = absurd (both_ways false refl h)
-apart_tests false true l true h = absurd (both_ways false refl h)
-apart_tests false true l false h = absurd (both_ways false refl h)
-apart_tests false false true true h = absurd (both_ways false refl h)
-apart_tests false false true false h = absurd (both_ways false refl h)
-apart_tests false false false m h = (refl, refl, refl)
-
-pub are_apart_parts : (s t : Pair) → IsTrue (are_apart s t) → IsFalse (do_cross s t) × IsFalse (has_end_inside s t) × IsFalse (has_end_inside t s)
-unfolding are_apart meeting
-are_apart_parts s t h = apart_tests (do_cross s t) (has_end_inside s t) (has_end_inside t s) (are_collinear s t) h
 
 pub no_end_inside_parts : (s t : Pair) → IsFalse (has_end_inside s t) → IsFalse (is_strictly_inside s t.a) × IsFalse (is_strictly_inside s t.b)
 unfolding has_end_inside

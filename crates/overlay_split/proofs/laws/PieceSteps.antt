@@ -37,6 +37,24 @@ module _ {D S : Type 0} (hooks : Hooks D S) (count : Winding) (b : Point) where
   unfolding data_pieces
   pieces-none p edge_data store = refl
 
+module _ {D S : Type 0} (hooks : Hooks D S) (count : Winding) (b : Point) where
+  after_piece : Point → List Point → D → DataSegment D × S → List (DataSegment D) × S
+  after_piece q rest later made = (made.0 ∷ (data_pieces hooks count q rest b later made.1).0, (data_pieces hooks count q rest b later made.1).1)
+
+  after_split : Point → Point → List Point → (D × D) × S → List (DataSegment D) × S
+  after_split p q rest parts = after_piece q rest parts.0.1 (data_piece hooks count p q parts.0.0 parts.1)
+
+  -- one more piece, up to q, before the rest of the path
+  pub pieces-step : (p q : Point) (rest : List Point) (edge_data : D) (store : S) → 0 < length rest → (part later : D) (middle : S)
+      → (part, later) ≡ (part_of hooks count b p q edge_data store).0 → middle ≡ (part_of hooks count b p q edge_data store).1
+      → (piece : DataSegment D) (after : S) → piece ≡ (data_piece hooks count p q part middle).0 → after ≡ (data_piece hooks count p q part middle).1
+      → data_pieces hooks count p (q ∷ rest) b edge_data store ≡ (piece ∷ (data_pieces hooks count q rest b later after).0, (data_pieces hooks count q rest b later after).1)
+  unfolding after_split after_piece
+  pieces-step p q rest edge_data store lt part later middle parts mid piece after is left =
+      let split : hooks.split (record { edge_data = edge_data; a = p; p = q; b = b }) store ≡ ((part, later), middle) = λ i. (sym parts i, sym mid i) in
+      let made : data_piece hooks count p q part middle ≡ (piece, after) = λ i. (sym is i, sym left i) in
+      pieces-next hooks count b p q rest edge_data store lt ∙ ap (after_split p q rest) split ∙ ap (after_piece q rest later) made
+
 -- how far pieces are appended: given is the list before, now the list so far, and the rest of the path follows on p
 pub record ArePushed {D S : Type 0} (hooks : Hooks D S) (count : Winding) (b : Point) (given now : List (DataSegment D)) (all : List (DataSegment D) × S) (p : Point) (points : List Point) (edge_data : D) (store : S) : Type 0 where
   pub items : given ++ all.0 ≡ now ++ (data_pieces hooks count p points b edge_data store).0
@@ -54,22 +72,12 @@ module _ {D S : Type 0} (hooks : Hooks D S) (count : Winding) (b : Point) (given
         → (piece : DataSegment D) (after : S) → piece ≡ (data_piece hooks count p q part middle).0 → after ≡ (data_piece hooks count p q part middle).1
         → ArePushed hooks count b given (now ++ piece ∷ []) all q rest later after
     ArePushed-next q rest e lt part later middle parts mid piece after is left =
-        let split : hooks.split (record { edge_data = edge_data; a = p; p = q; b = b }) store ≡ ((part, later), middle) = λ i. (sym parts i, sym mid i) in
-        let made : data_piece hooks count p q part middle ≡ (piece, after) = λ i. (sym is i, sym left i) in
-        let step : data_pieces hooks count p points b edge_data store ≡ (piece ∷ (data_pieces hooks count q rest b later after).0, (data_pieces hooks count q rest b later after).1) =
-        ap (λ l. data_pieces hooks count p l b edge_data store) e ∙ pieces-next hooks count b p q rest edge_data store lt
-        ∙ ap (after_split q rest) split ∙ ap (after_piece q rest later) made in
+        let step = ap (λ l. data_pieces hooks count p l b edge_data store) e ∙ pieces-step hooks count b p q rest edge_data store lt part later middle parts mid piece after is left in
         record {
           items = pushed.items ∙ ap (λ v. now ++ v.0) step ∙ sym (append_assoc now (piece ∷ []) (data_pieces hooks count q rest b later after).0);
           store_is = pushed.store_is ∙ ap (λ v. v.1) step;
           leads_on = (subst (LeadsOn p) e pushed.leads_on).1;
         }
-      where
-        after_piece : Point → List Point → D → DataSegment D × S → List (DataSegment D) × S
-        after_piece q rest later made = (made.0 ∷ (data_pieces hooks count q rest b later made.1).0, (data_pieces hooks count q rest b later made.1).1)
-
-        after_split : Point → List Point → (D × D) × S → List (DataSegment D) × S
-        after_split q rest parts = after_piece q rest parts.0.1 (data_piece hooks count p q parts.0.0 parts.1)
 
     -- the last piece
     pub ArePushed-last : (q : Point) → points ≡ q ∷ [] → (piece : DataSegment D) (after : S) → piece ≡ (data_piece hooks count p q edge_data store).0 → after ≡ (data_piece hooks count p q edge_data store).1
@@ -93,6 +101,10 @@ module _ {X : Type 0} (f : X → Point) (marks : List X) (b : Point) (index : �
 
   pub left_some : 0 < length (map f (drop index marks) ++ b ∷ [])
   left_some = omega (arith, length-append (map f (drop index marks)) (b ∷ []))
+
+pub last_point-next : (p q : Point) (points : List Point) → last_point p (q ∷ points) ≡ last_point q points
+unfolding last_point
+last_point-next p q points = refl
 
 last_point-end : (p : Point) (points : List Point) (b : Point) → last_point p (points ++ b ∷ []) ≡ b
 unfolding last_point

@@ -104,9 +104,9 @@ unfolding distinct_in_order IsStrictlySortedBy
 distinct_in_order-sorted cmp [] h = refl
 distinct_in_order-sorted cmp (k ∷ ks) h = ap (λ (js : List _). insert_key cmp js k) (distinct_in_order-sorted cmp ks h.1) ∙ insert_key_first cmp k ks h.0
 
-distinct-marks_on : (segments : List WholeSegment) (s : Pair) → distinct_in_order point_cmp (marks_on settling segments s) ≡ marks_on settling segments s
+pub distinct-marks_on : (placing : Placing) (segments : List WholeSegment) (s : Pair) → distinct_in_order point_cmp (marks_on placing segments s) ≡ marks_on placing segments s
 unfolding marks_on
-distinct-marks_on segments s = distinct_in_order-sorted point_cmp _ (IsStrictlySortedBy-distinct point_cmp_total (flat_map (λ t. marks_by settling s t) (pairs segments)))
+distinct-marks_on placing segments s = distinct_in_order-sorted point_cmp _ (IsStrictlySortedBy-distinct point_cmp_total (flat_map (λ t. marks_by placing s t) (pairs segments)))
 
 -- ---- sums of naturals
 
@@ -140,7 +140,7 @@ potential-pieces_of segments s o =
     let marks = marks_on settling segments s.pair in
     let e = potential-pieces s marks o (IsFree-marks_on settling segments s.pair) (rounded-marks_on segments s.pair o) in
     let f = potential_is (pieces s marks) in
-    let g = ap (λ (ps : List Point). length ps) (distinct-marks_on segments s.pair) in
+    let g = ap (λ (ps : List Point). length ps) (distinct-marks_on settling segments s.pair) in
     joined _ _ _ _ _ e f g
   where
     joined : (p q m n w : ℕ) → p + m ≡ w → p ≡ q → m ≡ n → q + n ≡ w

@@ -15,22 +15,19 @@ pub record IsRounding (round : Quotient → ℤ) : Type 0 where
   pub monotone : (t u : ℤ) (b c : ℕ) → 0 < b → 0 < c → (t *ℤ pos c) ≤ℤ (u *ℤ pos b) → round (over t b) ≤ℤ round (over u c)
   pub keeps : (z : ℤ) (b : ℕ) → 0 < b → round (over (z *ℤ pos b) b) ≡ z
 
+in_front : (b : ℕ) (u v : ℤ) → u ≤ℤ v → (u *ℤ pos b) ≤ℤ (v *ℤ pos b)
+in_front b u v h = let m = mul-le_left (pos b) u v (omega (arith, ints)) h in omega (arith, ints)
+
 -- a quotient between whole numbers is rounded to between them
 pub round-from : (round : Quotient → ℤ) → IsRounding round → (t low : ℤ) (b : ℕ) → 0 < b → (low *ℤ pos b) ≤ℤ t → low ≤ℤ round (over t b)
 round-from round is t low b p h =
     subst (λ (z : ℤ). z ≤ℤ round (over t b)) (is.keeps low b p)
     (is.monotone (low *ℤ pos b) t b b p p (in_front b (low *ℤ pos b) t h))
-  where
-    in_front : (b : ℕ) (u v : ℤ) → u ≤ℤ v → (u *ℤ pos b) ≤ℤ (v *ℤ pos b)
-    in_front b u v h = let m = mul-le_left (pos b) u v (omega (arith, ints)) h in omega (arith, ints)
 
 pub round-to : (round : Quotient → ℤ) → IsRounding round → (t high : ℤ) (b : ℕ) → 0 < b → t ≤ℤ (high *ℤ pos b) → round (over t b) ≤ℤ high
 round-to round is t high b p h =
     subst (λ (z : ℤ). round (over t b) ≤ℤ z) (is.keeps high b p)
     (is.monotone t (high *ℤ pos b) b b p p (in_front b t (high *ℤ pos b) h))
-  where
-    in_front : (b : ℕ) (u v : ℤ) → u ≤ℤ v → (u *ℤ pos b) ≤ℤ (v *ℤ pos b)
-    in_front b u v h = let m = mul-le_left (pos b) u v (omega (arith, ints)) h in omega (arith, ints)
 
 -- ---- roundings that treat both signs alike
 

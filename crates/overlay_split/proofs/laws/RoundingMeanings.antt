@@ -1,11 +1,12 @@
 -- The three roundings are what is meant by them, and nothing else is.
-use Rattle.std.proofs.Common.{◌≡◌, refl, ap, ◌∙◌, arith, ℕ, zero, suc, ◌+◌, ◌*◌, ◌/◌, ◌<◌, ◌≤◌}
+use Rattle.std.proofs.Common.{◌≡◌, ap, ◌∙◌, arith, ℕ, suc, ◌+◌, ◌*◌, ◌/◌, ◌<◌, ◌≤◌}
 use Rattle.std.specs.Prelude.{ℤ, pos, negsuc, ◌+ℤ◌, ◌-ℤ◌, ◌*ℤ◌, ◌≤ℤ◌, ◌<ℤ◌, neg_ℤ, unsigned_abs}
 use Rattle.std.proofs.lemmas.Int.{ints, by_lt_z}
 use Rattle.std.proofs.Math.Nat.{div-mul-le_self, lt-div-mul-add}
-use Rattle.overlay_base.proofs.laws.Polynomials.{as_D, diffs, D-eq, mul-nonneg, mul-le_left}
+use Rattle.overlay_base.proofs.laws.Polynomials.{as_D, diffs, D-eq, mul-nonneg, mul-le_left, mul-neg_right}
 use Rattle.overlay_split.specs.Crossing.{Quotient, truncated, nearest, nearest_upward}
 use Rattle.overlay_split.specs.Laws.{IsNearest, IsTruncated, IsFloorOfHalfMore, IsRoundedAs, RoundingsAreAsMeant, distance_from}
+use Rattle.overlay_split.proofs.laws.Crossings.{abs_neg}
 use Rattle.overlay_split.proofs.laws.Rounding.{over, IsRoundedUp-unique, nearest_upward-is, nearest_of_pos, nearest_of_negsuc}
 
 -- ---- truncated
@@ -20,19 +21,11 @@ truncated_pos a b p =
 neg_difference : (t b r : ℤ) → neg_ℤ t -ℤ b *ℤ neg_ℤ r ≡ neg_ℤ (t -ℤ b *ℤ r)
 neg_difference t b r = rw (as_D t, as_D b, as_D r) (simp diffs (D-eq _ _ _ _ (omega arith)))
 
-neg_product : (b r : ℤ) → b *ℤ neg_ℤ r ≡ neg_ℤ (b *ℤ r)
-neg_product b r = rw (as_D b, as_D r) (simp diffs (D-eq _ _ _ _ (omega arith)))
-
-abs_neg : (d : ℤ) → unsigned_abs (neg_ℤ d) ≡ unsigned_abs d
-abs_neg (pos zero) = refl
-abs_neg (pos (suc n)) = refl
-abs_neg (negsuc n) = refl
-
 neg_distance : (t r : ℤ) (b : ℕ) → distance_from (over (neg_ℤ t) b) (neg_ℤ r) ≡ distance_from (over t b) r
 neg_distance t r b = ap unsigned_abs (neg_difference t (pos b) r) ∙ abs_neg (t -ℤ pos b *ℤ r)
 
 neg_size : (r : ℤ) (b : ℕ) → unsigned_abs (pos b *ℤ neg_ℤ r) ≡ unsigned_abs (pos b *ℤ r)
-neg_size r b = ap unsigned_abs (neg_product (pos b) r) ∙ abs_neg (pos b *ℤ r)
+neg_size r b = ap unsigned_abs (mul-neg_right (pos b) r) ∙ abs_neg (pos b *ℤ r)
 
 truncated_back : (t r : ℤ) (b : ℕ) → IsTruncated (over t b) r → IsTruncated (over (neg_ℤ t) b) (neg_ℤ r)
 truncated_back t r b k =

@@ -7,11 +7,12 @@ use Rattle.std.proofs.lemmas.Int.{ints}
 use Rattle.std.proofs.lemmas.Bool.{false_from_ne_true, cond_both, or_left, or_right, ltb-true, ltb-false, leb-true, leb-false, le-leb, lt-leb}
 use Rattle.overlay_base.specs.Points.{Point, Pair, turn, point_eq, is_end, sqr_distance}
 use Rattle.overlay_base.specs.Meeting.{do_cross}
+use Rattle.overlay_base.proofs.laws.Apart.{do_cross_back}
 use Rattle.overlay_split.specs.Crossing.{is_exact, is_on_lines, snapping_point, settling_point}
 use Rattle.overlay_split.specs.Marks.{snapping, settling, nearer_end, nearest_end, snapped_to, crossing_mark}
 use Rattle.overlay_split.specs.CrossAnswer.{CrossKind, pure, target_end, other_end, answer_at, crossing_answer, kind_of_point}
 use Rattle.overlay_base.proofs.laws.Points.{point_eq_same, turn_swaps_last}
-use Rattle.overlay_split.proofs.laws.AnswerMarks.{by_bool, crossing_is_clear, crossing_ends_differ, end_cases, do_cross_back}
+use Rattle.overlay_split.proofs.laws.AnswerMarks.{by_bool, crossing_is_clear, crossing_ends_differ, end_cases}
 use Rattle.overlay_split.proofs.laws.ExactCrossings.{exact_snapping_point, exact_is_on_lines, exact_is_on_lines_settling, on_both_lines}
 
 -- ---- ends

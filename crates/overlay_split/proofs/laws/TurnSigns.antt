@@ -7,13 +7,14 @@ use Rattle.std.specs.Ordering.{int_eq}
 use Rattle.std.proofs.lemmas.Int.{ints}
 use Rattle.std.proofs.lemmas.Bool.{false_from_ne_true, both_ways, false≢true}
 use Rattle.std.proofs.lemmas.Bool.Decides.{Decides-int_eq}
+use Rattle.std.proofs.Math.IntN.{*ℤ_comm}
 use Rattle.overlay_base.specs.Points.{Point, Pair, turn, point_eq, is_strictly_inside}
 use Rattle.overlay_base.specs.Turns.{clock_direction}
 use Rattle.overlay_base.specs.Meeting.{are_collinear, have_opposite_signs, separates, do_cross}
 use Rattle.overlay_split.specs.Marks.{Placing}
 use Rattle.overlay_split.specs.Counts.{count_of}
 use Rattle.overlay_split.specs.CrossAnswer.{CrossAnswer, target_end, other_end, overlay, answer_at, cross_answer, crossing_answer, touch_answer}
-use Rattle.overlay_base.proofs.laws.Polynomials.{as_D, diffs, D-eq, mul-neg_right}
+use Rattle.overlay_base.proofs.laws.Polynomials.{mul-neg_right}
 use Rattle.overlay_base.proofs.laws.Points.{same_by_eq, not_same, mean_x, mean_y, turn_same_outer, turn_same_last}
 use Rattle.overlay_split.proofs.laws.Lines.{inside_parts, inside_by_weights}
 use Rattle.overlay_split.proofs.laws.AnswerMarks.{by_bool, crossing_is_clear, collinear_parts, collinear_from, line_back, on_line_by_end, zero_swapped}
@@ -41,16 +42,13 @@ same_direction u v = grind (arith, ints)
 
 -- ---- an end of t on the line of s, with the other segment's ends off the line of t: it lies strictly inside s where these ends are on two sides of t
 
-commute : (a b : ℤ) → a *ℤ b ≡ b *ℤ a
-commute a b = rw (as_D a, as_D b) (simp diffs (D-eq _ _ _ _ (omega arith)))
-
 times_zero : (a : ℤ) → a *ℤ pos 0 ≡ pos 0
 times_zero a = omega (arith, ints)
 
 weights_plain : (k t l o1 m o2 n o3 r : ℤ) → k *ℤ t ≡ l *ℤ o1 +ℤ m *ℤ o2 +ℤ n *ℤ o3 → t ≡ pos 0 → o3 ≡ pos 0 → r ≡ neg_ℤ m → o1 *ℤ l ≡ o2 *ℤ r
 weights_plain k t l o1 m o2 n o3 r e ht h3 hr =
     let f = rw (ht, h3) at e in
-    rw (hr, mul-neg_right o2 m, commute o1 l, commute o2 m) (omega (arith, ints, f, times_zero k, times_zero n))
+    rw (hr, mul-neg_right o2 m, *ℤ_comm o1 l, *ℤ_comm o2 m) (omega (arith, ints, f, times_zero k, times_zero n))
 
 pub inside_by_turns : (s t : Pair) (c : Point) → s.a ≢ s.b → turn s.a s.b c ≡ pos 0 → turn t.a t.b c ≡ pos 0 → turn t.a t.b s.a ≢ pos 0 → turn t.a t.b s.b ≢ pos 0 → is_strictly_inside s c ≡ have_opposite_signs (turn t.a t.b s.a) (turn t.a t.b s.b)
 inside_by_turns s t c apart hs ht na nb =

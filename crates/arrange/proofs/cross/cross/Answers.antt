@@ -3,7 +3,9 @@ use Rattle.overlay_base.specs.Points.{pair_lt}
 use Rattle.overlay_base.specs.PairOf.{pair_of}
 use Rattle.overlay_base.specs.SegmentOf.{segment_of}
 use Rattle.arrange.specs.Output.{meeting_text}
-use Rattle.arrange.proofs.Crossings.{are_two, two_in_range, IsPairInRange-from_test, ends_differ}
+use Rattle.overlay_base.proofs.laws.Coordinates.{ends_in_range}
+use Rattle.overlay_split.proofs.laws.ApartPairs.{ends_differ}
+use Rattle.arrange.proofs.Crossings.{are_two, two_in_range}
 use Rattle.arrange.proofs.cross.cross.Goals as goal
 use Rattle.arrange.proofs.cross.cross.Goals.{then-lt+in_ok-write_answer, else-lt+in_ok-write_answer-2}
 
@@ -11,25 +13,25 @@ pub write_answer-requires-clause-target : goal.write_answer-requires-clause-targ
 write_answer-requires-clause-target g c =
     let two = are_two c.args.segments.now c.first-item.result c.second-item.result c.in-len2.len_at_least c.in-len2.len_below c.first-item.is c.second-item.is in
     let both = two_in_range segment_of (g.I.OverlayInt.whole g.I.OverlayInt.MIN_COORD) (g.I.OverlayInt.whole g.I.OverlayInt.MAX_COORD) c.args.segments.now c.first-item.result c.second-item.result two c.requires in
-    IsPairInRange-from_test g.I.OverlayInt.whole g.I.OverlayInt.MIN_COORD g.I.OverlayInt.MAX_COORD c.x_segment-first.result (rw c.x_segment-first.ensures both.0)
+    ends_in_range g.I.OverlayInt.whole g.I.OverlayInt.MIN_COORD g.I.OverlayInt.MAX_COORD c.x_segment-first.result (rw c.x_segment-first.ensures both.0)
 
 pub write_answer-requires-clause-other : goal.write_answer-requires-clause-other
 write_answer-requires-clause-other g c =
     let two = are_two c.args.segments.now c.first-item.result c.second-item.result c.in-len2.len_at_least c.in-len2.len_below c.first-item.is c.second-item.is in
     let both = two_in_range segment_of (g.I.OverlayInt.whole g.I.OverlayInt.MIN_COORD) (g.I.OverlayInt.whole g.I.OverlayInt.MAX_COORD) c.args.segments.now c.first-item.result c.second-item.result two c.requires in
-    IsPairInRange-from_test g.I.OverlayInt.whole g.I.OverlayInt.MIN_COORD g.I.OverlayInt.MAX_COORD c.x_segment-second.result (rw c.x_segment-second.ensures both.1)
+    ends_in_range g.I.OverlayInt.whole g.I.OverlayInt.MIN_COORD g.I.OverlayInt.MAX_COORD c.x_segment-second.result (rw c.x_segment-second.ensures both.1)
 
 pub write_answer-requires-else-lt-clause-target : goal.write_answer-requires-else-lt-clause-target
 write_answer-requires-else-lt-clause-target g c =
     let two = are_two c.args.segments.now c.first-item.result c.second-item.result c.in-len2.len_at_least c.in-len2.len_below c.first-item.is c.second-item.is in
     let both = two_in_range segment_of (g.I.OverlayInt.whole g.I.OverlayInt.MIN_COORD) (g.I.OverlayInt.whole g.I.OverlayInt.MAX_COORD) c.args.segments.now c.first-item.result c.second-item.result two c.requires in
-    IsPairInRange-from_test g.I.OverlayInt.whole g.I.OverlayInt.MIN_COORD g.I.OverlayInt.MAX_COORD c.x_segment-second.result (rw c.x_segment-second.ensures both.1)
+    ends_in_range g.I.OverlayInt.whole g.I.OverlayInt.MIN_COORD g.I.OverlayInt.MAX_COORD c.x_segment-second.result (rw c.x_segment-second.ensures both.1)
 
 pub write_answer-requires-else-lt-clause-other : goal.write_answer-requires-else-lt-clause-other
 write_answer-requires-else-lt-clause-other g c =
     let two = are_two c.args.segments.now c.first-item.result c.second-item.result c.in-len2.len_at_least c.in-len2.len_below c.first-item.is c.second-item.is in
     let both = two_in_range segment_of (g.I.OverlayInt.whole g.I.OverlayInt.MIN_COORD) (g.I.OverlayInt.whole g.I.OverlayInt.MAX_COORD) c.args.segments.now c.first-item.result c.second-item.result two c.requires in
-    IsPairInRange-from_test g.I.OverlayInt.whole g.I.OverlayInt.MIN_COORD g.I.OverlayInt.MAX_COORD c.x_segment-first.result (rw c.x_segment-first.ensures both.0)
+    ends_in_range g.I.OverlayInt.whole g.I.OverlayInt.MIN_COORD g.I.OverlayInt.MAX_COORD c.x_segment-first.result (rw c.x_segment-first.ensures both.0)
 
 pub write_answer-requires-clause-target_apart : goal.write_answer-requires-clause-target_apart
 write_answer-requires-clause-target_apart g c = ends_differ (pair_of g.I.OverlayInt.whole c.x_segment-first.result) (rw c.x_segment-first.ensures c.first-item.result.ordered)

@@ -1,9 +1,8 @@
 use Rattle.std.proofs.Common.{rules, sym, ◌∙◌, ap, to_z-of_z, FitsSigned, w64}
 use Rattle.overlay_base.specs.PairOf.{pair_of}
-use Rattle.overlay_split.specs.Marks.{snapping}
 use Rattle.overlay_split.specs.AnswerOf.{answer_of, result_of, kind_of}
 use Rattle.arrange.specs.Output.{answer_text}
-use Rattle.arrange.proofs.Crossings.{answered, overlay_is_collinear}
+use Rattle.arrange.proofs.Crossings.{answered, overlap_is_collinear}
 use Rattle.arrange.proofs.cross.write_answer.Goals as goal
 
 pub collinear-requires-clause-line : goal.collinear-requires-clause-line
@@ -11,7 +10,7 @@ collinear-requires-clause-line g c =
     let whole = g.I.OverlayInt.whole in
     let radius_fits : FitsSigned w64 c.args.radius.squared = search rules in
     let as_answer = answered whole c.cross.result c.in-Some.place _ c.in-Some.is (simp to_z-of_z at c.cross.ensures) in
-    overlay_is_collinear _ (pair_of whole c.args.target.now) (pair_of whole c.args.other.now) (result_of whole c.in-Some.place) as_answer (ap kind_of c.in-Overlay.is)
+    overlap_is_collinear _ (pair_of whole c.args.target.now) (pair_of whole c.args.other.now) (result_of whole c.in-Some.place) as_answer (ap kind_of c.in-Overlay.is)
 
 pub returns-in_default : goal.returns-in_default
 unfolding answer_text

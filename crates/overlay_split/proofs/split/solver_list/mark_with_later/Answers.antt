@@ -6,10 +6,11 @@ use Rattle.overlay_base.specs.PairOf.{pair_of}
 use Rattle.overlay_base.specs.SegmentOf.{ends_of, segments_of}
 use Rattle.overlay_base.proofs.laws.Points.{pair_cmp_total}
 use Rattle.overlay_base.proofs.laws.Keys.{IsInOrder, IsInOrder-from_sort}
+use Rattle.overlay_base.proofs.laws.Apart.{pairs-map, pairs-next, are_ordered, apart_in_y, int_lt-to}
 use Rattle.overlay_split.specs.PlacingOf.{placing_of}
 use Rattle.overlay_split.specs.MarkOf.{marks_of}
-use Rattle.overlay_split.proofs.laws.ApartPairs.{AreApart, apart_in_y, ends_differ, int_lt-to}
-use Rattle.overlay_split.proofs.laws.FoundMarks.{IsLooked-more, IsLooked-apart, IsLooked-end, pairs-map, pairs-more, are_ordered, later_is_not_less, rest_is_apart, none_left, all_passed, or_true, or_false}
+use Rattle.overlay_split.proofs.laws.ApartPairs.{AreApart, ends_differ}
+use Rattle.overlay_split.proofs.laws.FoundMarks.{IsLooked-more, IsLooked-apart, IsLooked-end, later_is_not_less, rest_is_apart, none_left, all_passed, or_true, or_false}
 use Rattle.overlay_split.proofs.split.solver_list.mark_with_later.Goals as goal
 use Rattle.overlay_split.proofs.split.solver_list.mark_with_later.Goals.{then-not-is_not_intersect_y_range+in_ok-mark_both+then-branch, else-not-is_not_intersect_y_range, else-not-is_not_intersect_y_range-via-then-not-is_not_intersect_y_range+in_ok-mark_both+else-branch, else-not-is_not_intersect_y_range-via-else-not-is_not_intersect_y_range}
 
@@ -21,16 +22,16 @@ mark_both-requires-clause-first_apart g c =
 pub mark_both-requires-clause-order : goal.mark_both-requires-clause-order
 mark_both-requires-clause-order g c =
     let first : drop c.args.index (pairs (segments_of c.args.segments.now)) ≡ (pair_of g.I.OverlayInt.whole c.x_segment-target.result) ∷ drop (c.args.index + 1) (pairs (segments_of c.args.segments.now)) =
-    pairs-more c.args.segments.now c.args.index c.index-segments-index.result c.requires.index c.index-segments-index.is ∙ ap (λ v. pair_of g.I.OverlayInt.whole v ∷ drop (c.args.index + 1) (pairs (segments_of c.args.segments.now))) (sym c.x_segment-target.ensures) in
+    pairs-next c.args.segments.now c.args.index c.index-segments-index.result c.requires.index c.index-segments-index.is ∙ ap (λ v. pair_of g.I.OverlayInt.whole v ∷ drop (c.args.index + 1) (pairs (segments_of c.args.segments.now))) (sym c.x_segment-target.ensures) in
     let second : drop c.loop-later.later (pairs (segments_of c.args.segments.now)) ≡ (pair_of g.I.OverlayInt.whole c.x_segment-other.result) ∷ drop (c.loop-later.later + 1) (pairs (segments_of c.args.segments.now)) =
-    pairs-more c.args.segments.now c.loop-later.later c.index-segments-later.result c.loop-later-test.true c.index-segments-later.is ∙ ap (λ v. pair_of g.I.OverlayInt.whole v ∷ drop (c.loop-later.later + 1) (pairs (segments_of c.args.segments.now))) (sym c.x_segment-other.ensures) in
+    pairs-next c.args.segments.now c.loop-later.later c.index-segments-later.result c.loop-later-test.true c.index-segments-later.is ∙ ap (λ v. pair_of g.I.OverlayInt.whole v ∷ drop (c.loop-later.later + 1) (pairs (segments_of c.args.segments.now))) (sym c.x_segment-other.ensures) in
     let order : IsInOrder pair_cmp (pairs (segments_of c.args.segments.now)) = subst (λ ps. IsInOrder pair_cmp ps) (sym (pairs-map c.args.segments.now)) (IsInOrder-from_sort pair_cmp_total ends_of c.args.segments.now c.requires.sorted) in
     later_is_not_less (pairs (segments_of c.args.segments.now)) c.args.index c.loop-later.later (pair_of g.I.OverlayInt.whole c.x_segment-target.result) (pair_of g.I.OverlayInt.whole c.x_segment-other.result) order c.loop-later.invariant.after first second
 
 pub loop-later-preserved : goal.loop-later-preserved
 loop-later-preserved g c =
     let second : drop c.loop-later.later (pairs (segments_of c.args.segments.now)) ≡ (pair_of g.I.OverlayInt.whole c.x_segment-other.result) ∷ drop (c.loop-later.later + 1) (pairs (segments_of c.args.segments.now)) =
-    pairs-more c.args.segments.now c.loop-later.later c.index-segments-later.result c.loop-later-test.true c.index-segments-later.is ∙ ap (λ v. pair_of g.I.OverlayInt.whole v ∷ drop (c.loop-later.later + 1) (pairs (segments_of c.args.segments.now))) (sym c.x_segment-other.ensures) in
+    pairs-next c.args.segments.now c.loop-later.later c.index-segments-later.result c.loop-later-test.true c.index-segments-later.is ∙ ap (λ v. pair_of g.I.OverlayInt.whole v ∷ drop (c.loop-later.later + 1) (pairs (segments_of c.args.segments.now))) (sym c.x_segment-other.ensures) in
     elim c.if-not-is_not_intersect_y_range.branch [
       | then-not-is_not_intersect_y_range+in_ok-mark_both+then-branch w ↦
           let crosses = sym w.in_ok-mark_both.ensures.rounded ∙ w.if-branch.true in
@@ -49,7 +50,7 @@ loop-later-preserved g c =
 pub returns-after-loop-later-clause-marks : goal.returns-after-loop-later-clause-marks
 returns-after-loop-later-clause-marks g c =
     let first : drop c.args.index (pairs (segments_of c.args.segments.now)) ≡ (pair_of g.I.OverlayInt.whole c.x_segment-target.result) ∷ drop (c.args.index + 1) (pairs (segments_of c.args.segments.now)) =
-    pairs-more c.args.segments.now c.args.index c.index-segments-index.result c.requires.index c.index-segments-index.is ∙ ap (λ v. pair_of g.I.OverlayInt.whole v ∷ drop (c.args.index + 1) (pairs (segments_of c.args.segments.now))) (sym c.x_segment-target.ensures) in
+    pairs-next c.args.segments.now c.args.index c.index-segments-index.result c.requires.index c.index-segments-index.is ∙ ap (λ v. pair_of g.I.OverlayInt.whole v ∷ drop (c.args.index + 1) (pairs (segments_of c.args.segments.now))) (sym c.x_segment-target.ensures) in
     let gone = none_left (AreApart (pair_of g.I.OverlayInt.whole c.x_segment-target.result)) (pairs (segments_of c.args.segments.now)) c.loop-later.later (all_passed c.args.segments.now c.loop-later.later c.loop-later-test.false) in
     let end = IsLooked-end (placing_of c.args.placing) c.args.index (pair_of g.I.OverlayInt.whole c.x_segment-target.result) (pairs (segments_of c.args.segments.now)) (marks_of g.I.OverlayInt.whole c.args.marks.now.items) (marks_of g.I.OverlayInt.whole c.loop-later.marks.items) c.loop-later.rounded c.loop-later.later c.loop-later.invariant first gone in
     end.0
@@ -57,7 +58,7 @@ returns-after-loop-later-clause-marks g c =
 pub returns-after-loop-later-clause-rounded : goal.returns-after-loop-later-clause-rounded
 returns-after-loop-later-clause-rounded g c =
     let first : drop c.args.index (pairs (segments_of c.args.segments.now)) ≡ (pair_of g.I.OverlayInt.whole c.x_segment-target.result) ∷ drop (c.args.index + 1) (pairs (segments_of c.args.segments.now)) =
-    pairs-more c.args.segments.now c.args.index c.index-segments-index.result c.requires.index c.index-segments-index.is ∙ ap (λ v. pair_of g.I.OverlayInt.whole v ∷ drop (c.args.index + 1) (pairs (segments_of c.args.segments.now))) (sym c.x_segment-target.ensures) in
+    pairs-next c.args.segments.now c.args.index c.index-segments-index.result c.requires.index c.index-segments-index.is ∙ ap (λ v. pair_of g.I.OverlayInt.whole v ∷ drop (c.args.index + 1) (pairs (segments_of c.args.segments.now))) (sym c.x_segment-target.ensures) in
     let gone = none_left (AreApart (pair_of g.I.OverlayInt.whole c.x_segment-target.result)) (pairs (segments_of c.args.segments.now)) c.loop-later.later (all_passed c.args.segments.now c.loop-later.later c.loop-later-test.false) in
     let end = IsLooked-end (placing_of c.args.placing) c.args.index (pair_of g.I.OverlayInt.whole c.x_segment-target.result) (pairs (segments_of c.args.segments.now)) (marks_of g.I.OverlayInt.whole c.args.marks.now.items) (marks_of g.I.OverlayInt.whole c.loop-later.marks.items) c.loop-later.rounded c.loop-later.later c.loop-later.invariant first gone in
     end.1
@@ -65,9 +66,9 @@ returns-after-loop-later-clause-rounded g c =
 pub returns-then-begins_past_end-clause-marks : goal.returns-then-begins_past_end-clause-marks
 returns-then-begins_past_end-clause-marks g c =
     let first : drop c.args.index (pairs (segments_of c.args.segments.now)) ≡ (pair_of g.I.OverlayInt.whole c.x_segment-target.result) ∷ drop (c.args.index + 1) (pairs (segments_of c.args.segments.now)) =
-    pairs-more c.args.segments.now c.args.index c.index-segments-index.result c.requires.index c.index-segments-index.is ∙ ap (λ v. pair_of g.I.OverlayInt.whole v ∷ drop (c.args.index + 1) (pairs (segments_of c.args.segments.now))) (sym c.x_segment-target.ensures) in
+    pairs-next c.args.segments.now c.args.index c.index-segments-index.result c.requires.index c.index-segments-index.is ∙ ap (λ v. pair_of g.I.OverlayInt.whole v ∷ drop (c.args.index + 1) (pairs (segments_of c.args.segments.now))) (sym c.x_segment-target.ensures) in
     let second : drop c.loop-later.later (pairs (segments_of c.args.segments.now)) ≡ (pair_of g.I.OverlayInt.whole c.x_segment-other.result) ∷ drop (c.loop-later.later + 1) (pairs (segments_of c.args.segments.now)) =
-    pairs-more c.args.segments.now c.loop-later.later c.index-segments-later.result c.loop-later-test.true c.index-segments-later.is ∙ ap (λ v. pair_of g.I.OverlayInt.whole v ∷ drop (c.loop-later.later + 1) (pairs (segments_of c.args.segments.now))) (sym c.x_segment-other.ensures) in
+    pairs-next c.args.segments.now c.loop-later.later c.index-segments-later.result c.loop-later-test.true c.index-segments-later.is ∙ ap (λ v. pair_of g.I.OverlayInt.whole v ∷ drop (c.loop-later.later + 1) (pairs (segments_of c.args.segments.now))) (sym c.x_segment-other.ensures) in
     let order : IsInOrder pair_cmp (pairs (segments_of c.args.segments.now)) = subst (λ ps. IsInOrder pair_cmp ps) (sym (pairs-map c.args.segments.now)) (IsInOrder-from_sort pair_cmp_total ends_of c.args.segments.now c.requires.sorted) in
     let ordered : IsTrue (is_ordered (pair_of g.I.OverlayInt.whole c.x_segment-target.result)) = subst (λ v. IsTrue (is_ordered (pair_of g.I.OverlayInt.whole v))) (sym c.x_segment-target.ensures) c.index-segments-index.result.ordered in
     let past = rest_is_apart (pairs (segments_of c.args.segments.now)) c.loop-later.later (pair_of g.I.OverlayInt.whole c.x_segment-target.result) (pair_of g.I.OverlayInt.whole c.x_segment-other.result) order (are_ordered c.args.segments.now) ordered second (int_lt-to _ _ (sym c.begins_past_end.ensures ∙ c.if-begins_past_end.true)) in
@@ -77,9 +78,9 @@ returns-then-begins_past_end-clause-marks g c =
 pub returns-then-begins_past_end-clause-rounded : goal.returns-then-begins_past_end-clause-rounded
 returns-then-begins_past_end-clause-rounded g c =
     let first : drop c.args.index (pairs (segments_of c.args.segments.now)) ≡ (pair_of g.I.OverlayInt.whole c.x_segment-target.result) ∷ drop (c.args.index + 1) (pairs (segments_of c.args.segments.now)) =
-    pairs-more c.args.segments.now c.args.index c.index-segments-index.result c.requires.index c.index-segments-index.is ∙ ap (λ v. pair_of g.I.OverlayInt.whole v ∷ drop (c.args.index + 1) (pairs (segments_of c.args.segments.now))) (sym c.x_segment-target.ensures) in
+    pairs-next c.args.segments.now c.args.index c.index-segments-index.result c.requires.index c.index-segments-index.is ∙ ap (λ v. pair_of g.I.OverlayInt.whole v ∷ drop (c.args.index + 1) (pairs (segments_of c.args.segments.now))) (sym c.x_segment-target.ensures) in
     let second : drop c.loop-later.later (pairs (segments_of c.args.segments.now)) ≡ (pair_of g.I.OverlayInt.whole c.x_segment-other.result) ∷ drop (c.loop-later.later + 1) (pairs (segments_of c.args.segments.now)) =
-    pairs-more c.args.segments.now c.loop-later.later c.index-segments-later.result c.loop-later-test.true c.index-segments-later.is ∙ ap (λ v. pair_of g.I.OverlayInt.whole v ∷ drop (c.loop-later.later + 1) (pairs (segments_of c.args.segments.now))) (sym c.x_segment-other.ensures) in
+    pairs-next c.args.segments.now c.loop-later.later c.index-segments-later.result c.loop-later-test.true c.index-segments-later.is ∙ ap (λ v. pair_of g.I.OverlayInt.whole v ∷ drop (c.loop-later.later + 1) (pairs (segments_of c.args.segments.now))) (sym c.x_segment-other.ensures) in
     let order : IsInOrder pair_cmp (pairs (segments_of c.args.segments.now)) = subst (λ ps. IsInOrder pair_cmp ps) (sym (pairs-map c.args.segments.now)) (IsInOrder-from_sort pair_cmp_total ends_of c.args.segments.now c.requires.sorted) in
     let ordered : IsTrue (is_ordered (pair_of g.I.OverlayInt.whole c.x_segment-target.result)) = subst (λ v. IsTrue (is_ordered (pair_of g.I.OverlayInt.whole v))) (sym c.x_segment-target.ensures) c.index-segments-index.result.ordered in
     let past = rest_is_apart (pairs (segments_of c.args.segments.now)) c.loop-later.later (pair_of g.I.OverlayInt.whole c.x_segment-target.result) (pair_of g.I.OverlayInt.whole c.x_segment-other.result) order (are_ordered c.args.segments.now) ordered second (int_lt-to _ _ (sym c.begins_past_end.ensures ∙ c.if-begins_past_end.true)) in

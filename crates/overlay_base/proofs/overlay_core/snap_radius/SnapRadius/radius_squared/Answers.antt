@@ -1,4 +1,4 @@
-use Rattle.std.proofs.Common.{◌≡◌, ℕ, ◌-◌, ◌*◌, ◌≤◌, ◌^◌, arith, ap, ◌∙◌, min}
+use Rattle.std.proofs.Common.{◌≡◌, ◌-◌, ◌*◌, ◌≤◌, ◌^◌, arith, ap, ◌∙◌, min}
 use Rattle.std.specs.Prelude.{pos}
 use Rattle.overlay_base.specs.Radius.{exponent_of, exponent_cap}
 use Rattle.overlay_base.proofs.laws.Shifts.{shifted_one}

@@ -1,0 +1,70 @@
+-- What a whole run answers: the text of its output, or why it stops.
+use Rattle.std.specs.Prelude.{Bool, ◌≡◌, ◌⊎◌, ◌++◌, ℕ, ℤ, pos, negsuc, if◌then◌else◌, List, Option, Ok, Err, IfSome, unsigned_abs}
+use Rattle.std.specs.Option.{ok_or}
+use Rattle.std.specs.declared.result.Result.{Result}
+use Rattle.overlay_base.specs.Segments.{WholeSegment}
+use Rattle.overlay_base.specs.Join.{join, has_equal_pairs, join_leaves_range}
+use Rattle.overlay_base.specs.Radius.{exponent_cap}
+use Rattle.overlay_split.specs.Run.{Settings as RunSettings, IsRun, LeavesRange}
+use Rattle.overlay_base.specs.declared.segm.fault.Fault.TheVariants.{CountOutOfRange, Memory}
+use Rattle.arrange.specs.declared.settings.Command.{Command}
+use Rattle.arrange.specs.declared.settings.Command.TheVariants.{Join, Cross, Split}
+use Rattle.arrange.specs.declared.settings.Engine.{Engine}
+use Rattle.arrange.specs.declared.settings.Engine.TheVariants.{I16, I32}
+use Rattle.arrange.specs.declared.settings.Settings.{Settings}
+use Rattle.arrange.specs.declared.stop.Stop.{Stop}
+use Rattle.arrange.specs.declared.stop.Stop.TheVariants.{Usage, NotTwoSegments, Refused, Input, Output}
+use Rattle.arrange.specs.Output.{segment_lines, flag_line, passes_line, cross_text}
+use Rattle.arrange.specs.Words.{WordsAsk, IsCommandAlone}
+use Rattle.arrange.specs.Text.{lines_of, AskInTurnFor, IsFirstFault}
+
+-- the least and the greatest coordinate of an engine
+abbrev pub least_of : Engine → ℤ
+least_of I16 = negsuc 16383
+least_of I32 = negsuc 524287
+
+abbrev pub greatest_of : Engine → ℤ
+greatest_of I16 = pos 16383
+greatest_of I32 = pos 524287
+
+-- the bits of an engine's coordinates
+abbrev pub bits_of : Engine → ℕ
+bits_of I16 = 16
+bits_of I32 = 32
+
+-- what a split is set to, in coordinates of so many bits
+abbrev pub split_settings : ℕ → Settings → RunSettings
+split_settings bits settings = record {
+  start = settings.precision.start;
+  progression = settings.precision.progression;
+  cap = exponent_cap bits;
+  limit = settings.snap_limit;
+}
+
+-- what a command makes of segments, in coordinates of so many bits
+abbrev pub IsCommandAnswer : ℕ → Command → Settings → List WholeSegment → Result (List ℕ) Stop → Type 0
+IsCommandAnswer bits Join settings segments answer =
+    answer ≡ (if join_leaves_range segments then Err (Refused CountOutOfRange)
+    else Ok (segment_lines (join segments) ++ flag_line (has_equal_pairs segments)))
+IsCommandAnswer bits Cross settings segments answer = answer ≡ ok_or (cross_text (unsigned_abs settings.radius.squared) segments) NotTwoSegments
+IsCommandAnswer bits Split settings segments answer =
+    ((result : List WholeSegment) × (passes : ℕ) × (flag : Bool) × IsRun (split_settings bits settings) segments result passes flag
+    × (answer ≡ Ok (segment_lines result ++ flag_line flag ++ passes_line passes)))
+    ⊎ (LeavesRange (split_settings bits settings) segments × (answer ≡ Err (Refused CountOutOfRange)))
+
+-- what a command makes of the segments for which a text asks, or the first fault of its lines
+abbrev pub IsAnswer : ℤ → ℤ → ℕ → Command → Settings → List ℕ → Result (List ℕ) Stop → Type 0
+IsAnswer least greatest bits command settings bytes answer =
+    ((segments : List WholeSegment) × AskInTurnFor least greatest (lines_of bytes) segments × IsCommandAnswer bits command settings segments answer)
+    ⊎ ((stop : Stop) × IsFirstFault least greatest (lines_of bytes) stop × (answer ≡ Err stop))
+
+-- what the command for which the words ask makes of the input, in the coordinates of the engine that they choose
+abbrev pub IsRunAnswer : List (List ℕ) → List ℕ → Result (List ℕ) Stop → Type 0
+IsRunAnswer words bytes answer =
+    (command : Command) × (settings : Settings) × WordsAsk words command settings
+    × IsAnswer (least_of settings.engine) (greatest_of settings.engine) (bits_of settings.engine) command settings bytes answer
+
+-- why a run stops: the words ask for nothing, which a command alone does not, the input or the output fails, memory is refused, or it is the answer to the input, where that is known
+abbrev pub IsStop : List (List ℕ) → Option (List ℕ) → Stop → Type 0
+IsStop words input stop =
+    ((stop ≡ Usage) × ¬ (IsCommandAlone words)) ⊎ (stop ≡ Input) ⊎ (stop ≡ Output) ⊎ (stop ≡ Refused Memory) ⊎ IfSome input (λ bytes. IsRunAnswer words bytes (Err stop))

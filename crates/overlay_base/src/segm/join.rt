@@ -1,0 +1,49 @@
+// The join of a list in any order. Upstream: the sort and the merge with which `split::solver` begins, and with which
+// each of its passes ends.
+ghost use Rattle.std.specs.Prelude.{◌≡◌, [], All, IsTrue, IsFalse, IfOk, OnOk, IfErr, OnErr};
+ghost use Rattle.overlay_base.specs.declared.segm.fault.Fault.TheVariants.{CountOutOfRange};
+ghost use Rattle.overlay_base.specs.Points.{pair_cmp, stably_sorted};
+ghost use Rattle.overlay_base.specs.Windings.{is_valid};
+ghost use Rattle.overlay_base.specs.Join.{join, join_leaves_range, has_equal_pairs};
+ghost use Rattle.overlay_base.specs.EdgeData.{data_join, IsStoppedJoin};
+ghost use Rattle.overlay_base.specs.HooksOf.{hooks_of};
+ghost use Rattle.overlay_base.specs.SegmentOf.{winding_of, segments_of, data_segments_of};
+
+use crate::num::OverlayInt;
+use crate::overlay_core::edge_data::OverlayEdgeData;
+use crate::segm::fault::Fault;
+use crate::segm::merge::merge_if_needed_with_store;
+use crate::segm::segment::Segment;
+use crate::segm::sort::sort_by_ab;
+use crate::segm::winding::WindingCount;
+
+/// Sorts a list by pair of ends, then joins the segments on one pair. Counts have to be valid. Answers whether two
+/// segments had one pair.
+///
+/// Answers `Fault::CountOutOfRange` only where a running sum of the counts on one pair leaves
+/// `-i32::MAX..=i32::MAX`, and, memory being found, wherever one does; the store is then what the hooks called before
+/// that sum left. Where a call is refused the list is empty.
+pub fn join_with_store<C: WindingCount, I: OverlayInt, D: OverlayEdgeData<C>>(
+    list: &mut Vec<Segment<C, I, D>>,
+    store: &mut D::Store,
+) -> Result<bool, Fault>
+    requires { All (λ s. IsTrue (is_valid (winding_of s))) list.old.items }
+    ensures geometry { OnOk result (segments_of list.new.items ≡ join (segments_of list.old.items)) }
+    ensures edge_data { OnOk result
+        (let hooks = hooks_of C.counted D.reversed_gives D.split_gives D.merge_gives in
+        data_segments_of list.new.items ≡ (data_join hooks (data_segments_of list.old.items) store.old).0) }
+    ensures store { OnOk result
+        (let hooks = hooks_of C.counted D.reversed_gives D.split_gives D.merge_gives in
+        store.new ≡ (data_join hooks (data_segments_of list.old.items) store.old).1) }
+    ensures repeated { IfOk result (λ repeated. repeated ≡ has_equal_pairs (segments_of list.old.items)) }
+
+    ensures fits { OnOk result (IsFalse (join_leaves_range (segments_of list.old.items))) }
+    ensures refused { IfErr result (λ fault. fault ≡ CountOutOfRange → IsTrue (join_leaves_range (segments_of list.old.items))) }
+    ensures emptied { OnErr result (list.new.items ≡ []) }
+    ensures stopped { IfErr result (λ fault. fault ≡ CountOutOfRange →
+        (let hooks = hooks_of C.counted D.reversed_gives D.split_gives D.merge_gives in
+        IsStoppedJoin hooks (stably_sorted (λ s t. pair_cmp s.pair t.pair) (data_segments_of list.old.items)) store.old store.new)) }
+{
+    sort_by_ab(list)?;
+    merge_if_needed_with_store(list, store)
+}

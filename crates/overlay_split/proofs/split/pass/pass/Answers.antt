@@ -1,0 +1,54 @@
+use Rattle.std.proofs.Common.{rules, ◌≡◌, ◌∙◌, sym, ap}
+use Rattle.overlay_base.specs.EdgeData.{data_join, without_data}
+use Rattle.overlay_base.specs.HooksOf.{hooks_of}
+use Rattle.overlay_base.specs.SegmentOf.{segments_of, data_segments_of}
+use Rattle.overlay_split.specs.PlacingOf.{placing_of}
+use Rattle.overlay_split.specs.Pass.{cut, pass}
+use Rattle.overlay_split.specs.DataPass.{data_pass}
+use Rattle.overlay_split.proofs.laws.DataPasses.{bare-data_pass}
+use Rattle.overlay_split.proofs.laws.Ready.{segments_of-bare, are_valid-cut, cut_as_segments}
+use Rattle.overlay_split.proofs.split.pass.pass.Goals as goal
+
+pub join_with_store-requires : goal.join_with_store-requires
+join_with_store-requires g c =
+    let hooks = hooks_of g.C.WindingCount.counted g.D.OverlayEdgeData.reversed_gives g.D.OverlayEdgeData.split_gives g.D.OverlayEdgeData.merge_gives in
+    let given = c.args.list.now.items in
+    are_valid-cut hooks (placing_of c.args.placing) given c.cut.new.list.items c.args.store.now c.in-Ok.ensures.list _ _ c.requires.splittable
+
+pub returns-in_err-join_with_store-clause-refused : goal.returns-in_err-join_with_store-clause-refused
+returns-in_err-join_with_store-clause-refused g c =
+    let hooks = hooks_of g.C.WindingCount.counted g.D.OverlayEdgeData.reversed_gives g.D.OverlayEdgeData.split_gives g.D.OverlayEdgeData.merge_gives in
+    let given = c.args.list.now.items in
+    let pieces : segments_of c.cut.new.list.items ≡ cut (placing_of c.args.placing) (segments_of given) = cut_as_segments hooks (placing_of c.args.placing) given c.cut.new.list.items c.args.store.now c.in-Ok.ensures.list in
+    rw (sym pieces) (search (rules, c.in_err-join_with_store.ensures.refused))
+
+-- what is joined is what the pass joins
+joined : (g : _) (c : goal.In_ok-join_with_store g) →
+    let hooks = hooks_of g.C.WindingCount.counted g.D.OverlayEdgeData.reversed_gives g.D.OverlayEdgeData.split_gives g.D.OverlayEdgeData.merge_gives in
+    (data_segments_of c.join_with_store.new.list.items, c.join_with_store.new.store) ≡ data_pass hooks (placing_of c.args.placing) (data_segments_of c.args.list.now.items) c.args.store.now
+unfolding data_pass
+joined g c =
+    let hooks = hooks_of g.C.WindingCount.counted g.D.OverlayEdgeData.reversed_gives g.D.OverlayEdgeData.split_gives g.D.OverlayEdgeData.merge_gives in
+    let given = c.args.list.now.items in
+    let made : (data_segments_of c.join_with_store.new.list.items, c.join_with_store.new.store) ≡ data_join hooks (data_segments_of c.cut.new.list.items) c.cut.new.store =
+    λ i. (c.in_ok-join_with_store.ensures.edge_data i, c.in_ok-join_with_store.ensures.store i) in
+    made ∙ (λ i. data_join hooks (c.in-Ok.ensures.list i) (c.in-Ok.ensures.store i))
+
+pub returns-clause-geometry : goal.returns-clause-geometry
+returns-clause-geometry g c =
+    let hooks = hooks_of g.C.WindingCount.counted g.D.OverlayEdgeData.reversed_gives g.D.OverlayEdgeData.split_gives g.D.OverlayEdgeData.merge_gives in
+    let given = c.args.list.now.items in
+    segments_of-bare c.join_with_store.new.list.items ∙ ap (λ v. without_data v.0) (joined g c) ∙ bare-data_pass hooks (placing_of c.args.placing) (data_segments_of given) c.args.store.now ∙ ap (pass (placing_of c.args.placing)) (sym (segments_of-bare given))
+
+pub returns-clause-edge_data : goal.returns-clause-edge_data
+returns-clause-edge_data g c = ap (λ v. v.0) (joined g c)
+
+pub returns-clause-store : goal.returns-clause-store
+returns-clause-store g c = ap (λ v. v.1) (joined g c)
+
+pub returns-clause-fits : goal.returns-clause-fits
+returns-clause-fits g c =
+    let hooks = hooks_of g.C.WindingCount.counted g.D.OverlayEdgeData.reversed_gives g.D.OverlayEdgeData.split_gives g.D.OverlayEdgeData.merge_gives in
+    let given = c.args.list.now.items in
+    let pieces : segments_of c.cut.new.list.items ≡ cut (placing_of c.args.placing) (segments_of given) = cut_as_segments hooks (placing_of c.args.placing) given c.cut.new.list.items c.args.store.now c.in-Ok.ensures.list in
+    rw (sym pieces) c.in_ok-join_with_store.ensures.fits

@@ -1,0 +1,168 @@
+use Rattle.std.proofs.Common.{rules, ◌≡◌, refl, sym, ap, ◌∙◌, arith, ◌+◌, ◌*◌, ◌<◌, min, length}
+use Rattle.std.specs.Prelude.{Result, Ok, Err, IfErr, IsErrAnd, nat_le}
+use Rattle.std.proofs.lemmas.Bool.{both_ways, not-true, not-false}
+use Rattle.std.proofs.lemmas.Grind.{common_steps}
+use Rattle.overlay_base.specs.declared.segm.fault.Fault.TheVariants.{CountOutOfRange}
+use Rattle.overlay_base.specs.HooksOf.{hooks_of}
+use Rattle.overlay_base.specs.Radius.{exponent_cap, exponent_of}
+use Rattle.overlay_base.specs.SegmentOf.{segment_of, segments_of, data_segments_of}
+use Rattle.overlay_base.proofs.laws.Rests.{is_splittable-valid}
+use Rattle.overlay_split.specs.Run.{LeavesRange}
+use Rattle.overlay_split.specs.SettingsOf.{settings_of}
+use Rattle.overlay_split.proofs.laws.Splitting.{at_start, at_next, at_rest, refused_at_start, refused_at, has_ended, stays_arranged, snaps, settles, falls_from, potential_bound, capped, exponent_grows, segments_ordered, without_data-is, segments_none, goes_on-is, starts-is, keeps_room, few_enough}
+use Rattle.overlay_split.proofs.split.solver.SplitSolver.split_segments_with_store.Goals as goal
+use Rattle.overlay_split.proofs.split.solver.SplitSolver.split_segments_with_store.Goals.{else-loop-test, then-loop-test+then-not-progress}
+
+-- what is said of the fault of a call is said of the fault that is passed on
+refused_by : {A F : Type 0} (r : Result A F) (x : F) {out : F} (P : Type 0) → IsErrAnd r (λ e. e ≡ x) → (x ≡ out → P) → IfErr r (λ fault. fault ≡ out → P)
+refused_by (Ok a) x P h f = tt
+refused_by (Err e) x P h f = λ i. f (sym h ∙ i)
+
+-- ---- an empty list
+
+pub returns-then-is_empty-clause-run : goal.returns-then-is_empty-clause-run
+returns-then-is_empty-clause-run g c =
+    let none : length c.args.list.now.items ≡ 0 = grind (arith, common_steps, c.args.list.now.ok.0) in
+    let at = at_rest (hooks_of g.C.WindingCount.counted g.D.OverlayEdgeData.reversed_gives g.D.OverlayEdgeData.split_gives g.D.OverlayEdgeData.merge_gives) (settings_of g.I.OverlayInt.BITS c.args.solver.now c.args.self.now) (g.I.OverlayInt.whole g.I.OverlayInt.MIN_COORD) (g.I.OverlayInt.whole g.I.OverlayInt.MAX_COORD) (segments_of c.args.list.now.items) (data_segments_of c.args.list.now.items) c.args.store.now (segments_none c.args.list.now.items none).0 (segments_none c.args.list.now.items none).1 in
+    (has_ended _ _ _ _ _ _ _ _ _ _ _ _ _ (segments_ordered c.args.list.now.items) at refl).run
+
+pub returns-then-is_empty-clause-edge_data : goal.returns-then-is_empty-clause-edge_data
+returns-then-is_empty-clause-edge_data g c =
+    let none : length c.args.list.now.items ≡ 0 = grind (arith, common_steps, c.args.list.now.ok.0) in
+    (at_rest _ _ (g.I.OverlayInt.whole g.I.OverlayInt.MIN_COORD) (g.I.OverlayInt.whole g.I.OverlayInt.MAX_COORD) (segments_of c.args.list.now.items) (data_segments_of c.args.list.now.items) c.args.store.now (segments_none c.args.list.now.items none).0 (segments_none c.args.list.now.items none).1).edge_data_is
+
+pub returns-then-is_empty-clause-store : goal.returns-then-is_empty-clause-store
+returns-then-is_empty-clause-store g c =
+    let none : length c.args.list.now.items ≡ 0 = grind (arith, common_steps, c.args.list.now.ok.0) in
+    (at_rest _ _ (g.I.OverlayInt.whole g.I.OverlayInt.MIN_COORD) (g.I.OverlayInt.whole g.I.OverlayInt.MAX_COORD) (segments_of c.args.list.now.items) (data_segments_of c.args.list.now.items) c.args.store.now (segments_none c.args.list.now.items none).0 (segments_none c.args.list.now.items none).1).store_is
+
+pub returns-then-is_empty-clause-arranged : goal.returns-then-is_empty-clause-arranged
+returns-then-is_empty-clause-arranged g c =
+    let none : length c.args.list.now.items ≡ 0 = grind (arith, common_steps, c.args.list.now.ok.0) in
+    let at = at_rest (hooks_of g.C.WindingCount.counted g.D.OverlayEdgeData.reversed_gives g.D.OverlayEdgeData.split_gives g.D.OverlayEdgeData.merge_gives) (settings_of g.I.OverlayInt.BITS c.args.solver.now c.args.self.now) (g.I.OverlayInt.whole g.I.OverlayInt.MIN_COORD) (g.I.OverlayInt.whole g.I.OverlayInt.MAX_COORD) (segments_of c.args.list.now.items) (data_segments_of c.args.list.now.items) c.args.store.now (segments_none c.args.list.now.items none).0 (segments_none c.args.list.now.items none).1 in
+    (has_ended _ _ _ _ _ _ _ _ _ _ _ _ _ (segments_ordered c.args.list.now.items) at refl).arranged
+
+pub returns-then-is_empty-clause-exact_input : goal.returns-then-is_empty-clause-exact_input
+returns-then-is_empty-clause-exact_input g c =
+    let none : length c.args.list.now.items ≡ 0 = grind (arith, common_steps, c.args.list.now.ok.0) in
+    let at = at_rest (hooks_of g.C.WindingCount.counted g.D.OverlayEdgeData.reversed_gives g.D.OverlayEdgeData.split_gives g.D.OverlayEdgeData.merge_gives) (settings_of g.I.OverlayInt.BITS c.args.solver.now c.args.self.now) (g.I.OverlayInt.whole g.I.OverlayInt.MIN_COORD) (g.I.OverlayInt.whole g.I.OverlayInt.MAX_COORD) (segments_of c.args.list.now.items) (data_segments_of c.args.list.now.items) c.args.store.now (segments_none c.args.list.now.items none).0 (segments_none c.args.list.now.items none).1 in
+    (has_ended _ _ _ _ _ _ _ _ _ _ _ _ _ (segments_ordered c.args.list.now.items) at refl).exact_input
+
+pub returns-then-is_empty-clause-fits : goal.returns-then-is_empty-clause-fits
+returns-then-is_empty-clause-fits g c =
+    let none : length c.args.list.now.items ≡ 0 = grind (arith, common_steps, c.args.list.now.ok.0) in
+    let at = at_rest (hooks_of g.C.WindingCount.counted g.D.OverlayEdgeData.reversed_gives g.D.OverlayEdgeData.split_gives g.D.OverlayEdgeData.merge_gives) (settings_of g.I.OverlayInt.BITS c.args.solver.now c.args.self.now) (g.I.OverlayInt.whole g.I.OverlayInt.MIN_COORD) (g.I.OverlayInt.whole g.I.OverlayInt.MAX_COORD) (segments_of c.args.list.now.items) (data_segments_of c.args.list.now.items) c.args.store.now (segments_none c.args.list.now.items none).0 (segments_none c.args.list.now.items none).1 in
+    (has_ended _ _ _ _ _ _ _ _ _ _ _ _ _ (segments_ordered c.args.list.now.items) at refl).fits
+
+-- ---- the join
+
+pub join_with_store-requires : goal.join_with_store-requires
+join_with_store-requires g c = is_splittable-valid segment_of _ _ c.args.list.now.items c.requires
+
+pub returns-in_err-repeated-clause-refused : goal.returns-in_err-repeated-clause-refused
+returns-in_err-repeated-clause-refused g c =
+    let leaves = λ (e : c.in_err-repeated.field-0.0 ≡ CountOutOfRange). refused_at_start (settings_of g.I.OverlayInt.BITS c.args.solver.now c.args.self.now) (segments_of c.args.list.now.items) (c.in_err-repeated.ensures.refused e) in
+    search (rules, leaves)
+
+pub loop-init : goal.loop-init
+loop-init g c = record {
+  at = at_start _ _ _ _ _ _ _ _ _ _ _ _ (segments_ordered c.args.list.now.items) c.requires c.in_ok-repeated.ensures.geometry c.in_ok-repeated.ensures.edge_data c.in_ok-repeated.ensures.store c.in_ok-repeated.ensures.repeated (starts-is c.join_with_store.new.list.items _ (let two : nat_le 2 c.len.result ≡ nat_le 2 (length c.join_with_store.new.list.items) = search rules in two)) c.in_ok-repeated.ensures.fits;
+  made = refl;
+  exponent = omega (arith, c.snap_radius-radius.ensures.exponent);
+  step = c.snap_radius-radius.ensures.step;
+  limit = refl;
+  passes = refl;
+}
+
+-- ---- snapping
+
+pub loop-preserved : goal.loop-preserved
+loop-preserved g c =
+    let within : c.loop.progress.passes < c.args.self.now.snap_limit = omega (arith, c.loop.invariant.made, c.loop-test.true, c.loop.invariant.limit) in
+    let cap = capped _ _ (exponent_of c.loop.radius) (exponent_cap g.I.OverlayInt.BITS) c.loop.invariant.exponent (let b = g.met.I.OverlayInt.most_bits in omega (arith, b)) in
+    let exponent = cap ∙ ap (λ n. min (c.args.solver.now.precision.start + n * c.args.solver.now.precision.progression) (exponent_cap g.I.OverlayInt.BITS)) (sym c.loop.invariant.made) in
+    let placing = c.snapping-placing.ensures.placing ∙ snaps (settings_of g.I.OverlayInt.BITS c.args.solver.now c.args.self.now) c.loop.progress.passes (exponent_of c.loop.radius) within exponent in
+    record {
+      at = at_next _ _ _ _ _ _ _ _ _ _ _ _ _ _ _ _ _ _ _ _ (segments_ordered c.args.list.now.items) c.loop.invariant.at (not-false _ c.if-not-progress.false) c.in_ok-progress.ensures.passes placing
+          c.in_ok-progress.ensures.geometry c.in_ok-progress.ensures.edge_data c.in_ok-progress.ensures.store c.in_ok-progress.ensures.changed (goes_on-is c.after_pass.new.list.items _ _ c.in_ok-progress.ensures.goes_on) c.in_ok-progress.ensures.fits;
+      made = c.in_ok-progress.ensures.passes ∙ ap (λ n. n + 1) c.loop.invariant.made;
+      exponent = exponent_grows _ _ _ _ _ _ _ c.loop.invariant.exponent c.loop.invariant.step c.increment.ensures.exponent;
+      step = c.increment.ensures.step ∙ c.loop.invariant.step;
+      limit = c.loop.invariant.limit;
+      passes = c.loop.invariant.passes;
+    }
+
+pub returns-in_err-progress-clause-refused : goal.returns-in_err-progress-clause-refused
+returns-in_err-progress-clause-refused g c =
+    let within : c.loop.progress.passes < c.args.self.now.snap_limit = omega (arith, c.loop.invariant.made, c.loop-test.true, c.loop.invariant.limit) in
+    let cap = capped _ _ (exponent_of c.loop.radius) (exponent_cap g.I.OverlayInt.BITS) c.loop.invariant.exponent (let b = g.met.I.OverlayInt.most_bits in omega (arith, b)) in
+    let exponent = cap ∙ ap (λ n. min (c.args.solver.now.precision.start + n * c.args.solver.now.precision.progression) (exponent_cap g.I.OverlayInt.BITS)) (sym c.loop.invariant.made) in
+    let placing = c.snapping-placing.ensures.placing ∙ snaps (settings_of g.I.OverlayInt.BITS c.args.solver.now c.args.self.now) c.loop.progress.passes (exponent_of c.loop.radius) within exponent in
+    let leaves : c.in_err-progress.field-0.0 ≡ CountOutOfRange → LeavesRange (settings_of g.I.OverlayInt.BITS c.args.solver.now c.args.self.now) (segments_of c.args.list.now.items) = λ e. refused_at _ _ _ _ _ _ _ _ _ _ _ _ _ _ c.loop.invariant.at (not-false _ c.if-not-progress.false) placing (c.in_err-progress.ensures.refused e) in
+    refused_by c.from_residual-in_err-progress.result c.in_err-progress.field-0.0 _ c.from_residual-in_err-progress.ensures.1 leaves
+
+-- ---- settling
+
+pub loop-progress-init : goal.loop-progress-init
+loop-progress-init g c = record {
+  at = c.loop.invariant.at;
+  late = λ h. elim c.loop-test.branch [
+    | else-loop-test w ↦ omega (arith, w.loop-test.false, c.loop.invariant.made)
+    | then-loop-test+then-not-progress w ↦ absurd (both_ways _ (not-true _ w.if-not-progress.true) h)
+  ];
+  room = λ h.
+      let few = potential_bound _ _ _ g.met.I.OverlayInt.lowest g.met.I.OverlayInt.highest c.loop.invariant.at.splittable in
+      let long = c.loop.list.small in
+      let made = c.loop.invariant.made in
+      few_enough c.loop.list.items c.loop.progress.passes few (omega (arith, c.loop.list.small, c.loop.list.ok)) (omega (arith, made, c.loop.auto.counter-end));
+  limit = c.loop.invariant.limit;
+  passes = c.loop.invariant.passes;
+}
+
+pub loop-progress-preserved : goal.loop-progress-preserved
+loop-progress-preserved g c =
+    let placing = settles (settings_of g.I.OverlayInt.BITS c.args.solver.now c.args.self.now) c.loop-progress.progress.passes (c.loop-progress.invariant.late c.loop-progress-test.true) in
+    record {
+      at = at_next _ _ _ _ _ _ _ _ _ _ _ _ _ _ _ _ _ _ _ _ (segments_ordered c.args.list.now.items) c.loop-progress.invariant.at c.loop-progress-test.true c.in_ok-progress-2.ensures.passes placing
+          c.in_ok-progress-2.ensures.geometry c.in_ok-progress-2.ensures.edge_data c.in_ok-progress-2.ensures.store c.in_ok-progress-2.ensures.changed (goes_on-is c.after_pass-in-loop-progress.new.list.items _ _ c.in_ok-progress-2.ensures.goes_on) c.in_ok-progress-2.ensures.fits;
+      late = λ h. let l = c.loop-progress.invariant.late c.loop-progress-test.true in let n = c.in_ok-progress-2.ensures.passes in omega (arith, l, n);
+      room = λ h. keeps_room _ _ _ _ _ _ c.loop-progress.invariant.at.map c.in_ok-progress-2.ensures.geometry (goes_on-is c.after_pass-in-loop-progress.new.list.items _ _ c.in_ok-progress-2.ensures.goes_on) h c.in_ok-progress-2.ensures.passes (c.loop-progress.invariant.room c.loop-progress-test.true);
+      limit = c.loop-progress.invariant.limit;
+      passes = c.loop-progress.invariant.passes;
+    }
+
+pub loop-progress-smaller : goal.loop-progress-smaller
+loop-progress-smaller g c = falls_from _ _ _ _ c.loop-progress-test.true c.loop-progress.invariant.at.map c.in_ok-progress-2.ensures.geometry (goes_on-is c.after_pass-in-loop-progress.new.list.items _ _ c.in_ok-progress-2.ensures.goes_on)
+
+pub returns-in_err-progress-2-clause-refused : goal.returns-in_err-progress-2-clause-refused
+returns-in_err-progress-2-clause-refused g c =
+    let placing = settles (settings_of g.I.OverlayInt.BITS c.args.solver.now c.args.self.now) c.loop-progress.progress.passes (c.loop-progress.invariant.late c.loop-progress-test.true) in
+    let leaves : c.in_err-progress-2.field-0.0 ≡ CountOutOfRange → LeavesRange (settings_of g.I.OverlayInt.BITS c.args.solver.now c.args.self.now) (segments_of c.args.list.now.items) = λ e. refused_at _ _ _ _ _ _ _ _ _ _ _ _ _ _ c.loop-progress.invariant.at c.loop-progress-test.true placing (c.in_err-progress-2.ensures.refused e) in
+    search (rules, leaves)
+
+-- ---- the end
+
+pub returns-clause-run : goal.returns-clause-run
+returns-clause-run g c = (has_ended _ _ _ _ _ _ _ _ _ _ _ _ _ (segments_ordered c.args.list.now.items) c.loop-progress.invariant.at c.loop-progress-test.false).run
+
+pub returns-clause-arranged : goal.returns-clause-arranged
+returns-clause-arranged g c = (has_ended _ _ _ _ _ _ _ _ _ _ _ _ _ (segments_ordered c.args.list.now.items) c.loop-progress.invariant.at c.loop-progress-test.false).arranged
+
+pub returns-clause-balance : goal.returns-clause-balance
+returns-clause-balance g c = (has_ended _ _ _ _ _ _ _ _ _ _ _ _ _ (segments_ordered c.args.list.now.items) c.loop-progress.invariant.at c.loop-progress-test.false).balance
+
+pub returns-clause-in_box : goal.returns-clause-in_box
+returns-clause-in_box g c = (has_ended _ _ _ _ _ _ _ _ _ _ _ _ _ (segments_ordered c.args.list.now.items) c.loop-progress.invariant.at c.loop-progress-test.false).in_box
+
+pub returns-clause-exact_input : goal.returns-clause-exact_input
+returns-clause-exact_input g c = (has_ended _ _ _ _ _ _ _ _ _ _ _ _ _ (segments_ordered c.args.list.now.items) c.loop-progress.invariant.at c.loop-progress-test.false).exact_input
+
+pub returns-clause-bound : goal.returns-clause-bound
+returns-clause-bound g c = (has_ended _ _ _ _ _ _ _ _ _ _ _ _ _ (segments_ordered c.args.list.now.items) c.loop-progress.invariant.at c.loop-progress-test.false).bound
+
+pub returns-clause-unchanged : goal.returns-clause-unchanged
+returns-clause-unchanged g c = λ arranged.
+    stays_arranged _ _ _ _ _ _ _ _ _ _ _ _ _ (without_data-is c.args.list.now.items) arranged (segments_ordered c.args.list.now.items) c.loop-progress.invariant.at c.loop-progress-test.false
+
+pub returns-clause-fits : goal.returns-clause-fits
+returns-clause-fits g c = (has_ended _ _ _ _ _ _ _ _ _ _ _ _ _ (segments_ordered c.args.list.now.items) c.loop-progress.invariant.at c.loop-progress-test.false).fits

@@ -1,0 +1,37 @@
+use Rattle.std.proofs.Common.{◌≡◌, ◌+◌, ◌-◌, ◌*◌, ◌<◌, ◌≤◌, ◌^◌, min, true}
+use Rattle.std.specs.Int.{from_bool}
+use Rattle.overlay_base.specs.HooksOf.{hooks_of}
+use Rattle.overlay_base.specs.SegmentOf.{segments_of, data_segments_of}
+use Rattle.overlay_base.specs.Radius.{exponent_of, step_of}
+use Rattle.overlay_split.specs.SettingsOf.{settings_of}
+use Rattle.overlay_split.specs.Potential.{potential}
+use Rattle.overlay_split.proofs.laws.Splitting.{IsAt}
+use Rattle.overlay_split.proofs.split.solver.SplitSolver.split_segments_with_store.Given as goal
+
+-- each pass so far has snapped
+abbrev pub invariant-loop : goal.invariant-loop
+invariant-loop g l = record {
+  at : IsAt (hooks_of g.C.WindingCount.counted g.D.OverlayEdgeData.reversed_gives g.D.OverlayEdgeData.split_gives g.D.OverlayEdgeData.merge_gives) (settings_of g.I.OverlayInt.BITS l.solver l.fn.self)
+      (g.I.OverlayInt.whole g.I.OverlayInt.MIN_COORD) (g.I.OverlayInt.whole g.I.OverlayInt.MAX_COORD) (segments_of l.fn.list.items) (segments_of l.list.items) (data_segments_of l.fn.list.items) (data_segments_of l.list.items)
+      l.fn.store l.store l.progress.passes l.progress.has_changed l.progress.goes_on;
+  made : l.progress.passes ≡ l.counter;
+  exponent : exponent_of l.radius ≡ min (l.solver.precision.start + l.counter * l.solver.precision.progression) (2 ^ 64 - 1);
+  step : step_of l.radius ≡ l.solver.precision.progression;
+  limit : l.self.snap_limit ≡ l.fn.self.snap_limit;
+  passes : l.self.passes ≡ l.fn.self.passes;
+}
+
+-- if a pass follows, it settles
+abbrev pub invariant-loop-progress : goal.invariant-loop-progress
+invariant-loop-progress g l = record {
+  at : IsAt (hooks_of g.C.WindingCount.counted g.D.OverlayEdgeData.reversed_gives g.D.OverlayEdgeData.split_gives g.D.OverlayEdgeData.merge_gives) (settings_of g.I.OverlayInt.BITS l.solver l.fn.self)
+      (g.I.OverlayInt.whole g.I.OverlayInt.MIN_COORD) (g.I.OverlayInt.whole g.I.OverlayInt.MAX_COORD) (segments_of l.fn.list.items) (segments_of l.list.items) (data_segments_of l.fn.list.items) (data_segments_of l.list.items)
+      l.fn.store l.store l.progress.passes l.progress.has_changed l.progress.goes_on;
+  late : l.progress.goes_on ≡ true → l.fn.self.snap_limit ≤ l.progress.passes;
+  room : l.progress.goes_on ≡ true → l.progress.passes + potential (segments_of l.list.items) < 2 ^ 127;
+  limit : l.self.snap_limit ≡ l.fn.self.snap_limit;
+  passes : l.self.passes ≡ l.fn.self.passes;
+}
+
+abbrev pub decreases-loop-progress : goal.decreases-loop-progress
+decreases-loop-progress g l = potential (segments_of l.list.items) + from_bool l.progress.goes_on

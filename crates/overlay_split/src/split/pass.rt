@@ -1,0 +1,142 @@
+// One pass over a list: every segment is cut at its marks, and the pieces are joined. Upstream: `split::solver_list`
+// and `split::solver`, where marks are applied.
+ghost use Rattle.std.specs.Prelude.{◌≡◌, [], IsTrue, IsFalse, IfOk, IfErr, OnOk, OnErr, nat_lt};
+ghost use Rattle.overlay_base.specs.declared.segm.fault.Fault.TheVariants.{Memory, CountOutOfRange};
+ghost use Rattle.overlay_base.specs.Points.{pair_cmp, stably_sorted};
+ghost use Rattle.overlay_base.specs.Segments.{is_map};
+ghost use Rattle.overlay_base.specs.Planar.{is_splittable};
+ghost use Rattle.overlay_base.specs.Join.{join_leaves_range};
+ghost use Rattle.overlay_base.specs.EdgeData.{IsStoppedJoin};
+ghost use Rattle.overlay_base.specs.HooksOf.{hooks_of};
+ghost use Rattle.overlay_base.specs.SegmentOf.{segments_of, data_segments_of};
+ghost use Rattle.overlay_split.specs.Pass.{cut, pass, is_rounded, mark_count};
+ghost use Rattle.overlay_split.specs.DataPass.{data_cut, data_pass};
+ghost use Rattle.overlay_split.specs.PlacingOf.{placing_of, HasRadius};
+
+use crate::split::cut::{cut_segment, index_len};
+use crate::split::line_mark::LineMark;
+use crate::split::path::collect_path;
+use crate::split::placing::Placing;
+use crate::split::solver_list::find_marks;
+use overlay_base::geom::point::IntPoint;
+use overlay_base::geom::x_segment::XSegment;
+use overlay_base::num::OverlayInt;
+use overlay_base::overlay_core::edge_data::OverlayEdgeData;
+use overlay_base::segm::fault::Fault;
+use overlay_base::segm::join::join_with_store;
+use overlay_base::segm::segment::Segment;
+use overlay_base::segm::winding::WindingCount;
+use std::alloc::Global;
+
+/// The memory of a pass, kept from one to the next.
+#[derive(Drop)]
+pub struct PassBuffers<I> {
+    marks: Vec<LineMark<I>>,
+    path: Vec<IntPoint<I>>,
+}
+
+impl<I> PassBuffers<I> {
+    /// Buffers that have taken no memory yet.
+    pub fn new(alloc: Global) -> Self {
+        PassBuffers {
+            marks: Vec::new(alloc),
+            path: Vec::new(alloc),
+        }
+    }
+}
+
+/// What a pass tells beside the list that it leaves.
+#[derive(Clone, Copy, Debug, PartialEq, Eq)]
+pub struct Passed {
+    /// Whether two segments crossed at a point without whole coordinates.
+    pub is_rounded: bool,
+    /// Whether a segment was split.
+    pub has_marks: bool,
+}
+
+/// Splits every segment where another meets it, and joins the pieces: marks are found, applied by rising index, then
+/// the list is sorted and segments on one pair of ends are merged.
+///
+/// The list has to be sorted, without two segments on one pair of ends, in range, with counts that are valid and not
+/// empty, and a squared radius has to be at least 1.
+///
+/// Answers `Fault::CountOutOfRange` only where a running sum of the counts of pieces on one pair leaves
+/// `-i32::MAX..=i32::MAX`, and, memory being found, wherever one does. Where a call is refused the list is empty, and
+/// the store is what the hooks called before left.
+pub fn pass<C: WindingCount, I: OverlayInt, D: OverlayEdgeData<C>>(
+    list: &mut Vec<Segment<C, I, D>>,
+    placing: Placing,
+    buffers: &mut PassBuffers<I>,
+    store: &mut D::Store,
+) -> Result<Passed, Fault>
+    requires map { IsTrue (is_map (segments_of list.old.items)) }
+    requires splittable { IsTrue (is_splittable (I.whole I.MIN_COORD) (I.whole I.MAX_COORD) (segments_of list.old.items)) }
+    requires radius { HasRadius placing }
+    ensures geometry { OnOk result (segments_of list.new.items ≡ pass (placing_of placing) (segments_of list.old.items)) }
+    ensures edge_data { OnOk result
+        (let hooks = hooks_of C.counted D.reversed_gives D.split_gives D.merge_gives in
+        data_segments_of list.new.items ≡ (data_pass hooks (placing_of placing) (data_segments_of list.old.items) store.old).0) }
+    ensures store { OnOk result
+        (let hooks = hooks_of C.counted D.reversed_gives D.split_gives D.merge_gives in
+        store.new ≡ (data_pass hooks (placing_of placing) (data_segments_of list.old.items) store.old).1) }
+    ensures rounded { IfOk result (λ passed. passed.is_rounded ≡ is_rounded (segments_of list.old.items)) }
+    ensures marked { IfOk result (λ passed. passed.has_marks ≡ nat_lt 0 (mark_count (placing_of placing) (segments_of list.old.items))) }
+
+    ensures fits { OnOk result (IsFalse (join_leaves_range (cut (placing_of placing) (segments_of list.old.items)))) }
+    ensures refused { IfErr result (λ fault. fault ≡ CountOutOfRange → IsTrue (join_leaves_range (cut (placing_of placing) (segments_of list.old.items)))) }
+    ensures emptied { OnErr result (list.new.items ≡ []) }
+    ensures stopped { IfErr result (λ fault. fault ≡ CountOutOfRange →
+        (let hooks = hooks_of C.counted D.reversed_gives D.split_gives D.merge_gives in
+        let pieces = data_cut hooks (placing_of placing) (data_segments_of list.old.items) store.old in
+        IsStoppedJoin hooks (stably_sorted (λ s t. pair_cmp s.pair t.pair) pieces.0) pieces.1 store.new)) }
+{
+    let passed = match cut(list, placing, buffers, store) {
+        Ok(passed) => passed,
+        Err(fault) => {
+            list.clear();
+            return Err(fault);
+        }
+    };
+    join_with_store(list, store)?;
+    Ok(passed)
+}
+
+/// Finds the marks of a pass, and cuts every segment at its own, by rising index.
+fn cut<C: WindingCount, I: OverlayInt, D: OverlayEdgeData<C>>(
+    list: &mut Vec<Segment<C, I, D>>,
+    placing: Placing,
+    buffers: &mut PassBuffers<I>,
+    store: &mut D::Store,
+) -> Result<Passed, Fault>
+    requires map { IsTrue (is_map (segments_of list.old.items)) }
+    requires splittable { IsTrue (is_splittable (I.whole I.MIN_COORD) (I.whole I.MAX_COORD) (segments_of list.old.items)) }
+    requires radius { HasRadius placing }
+    ensures list { OnOk result
+        (let hooks = hooks_of C.counted D.reversed_gives D.split_gives D.merge_gives in
+        data_segments_of list.new.items ≡ (data_cut hooks (placing_of placing) (data_segments_of list.old.items) store.old).0) }
+    ensures store { OnOk result
+        (let hooks = hooks_of C.counted D.reversed_gives D.split_gives D.merge_gives in
+        store.new ≡ (data_cut hooks (placing_of placing) (data_segments_of list.old.items) store.old).1) }
+    ensures rounded { IfOk result (λ passed. passed.is_rounded ≡ is_rounded (segments_of list.old.items)) }
+    ensures marked { IfOk result (λ passed. passed.has_marks ≡ nat_lt 0 (mark_count (placing_of placing) (segments_of list.old.items))) }
+    ensures fault { IfErr result (λ fault. fault ≡ Memory) }
+{
+    let PassBuffers { marks, path } = buffers;
+    let is_rounded = find_marks(list.as_slice(), placing, marks)?;
+    let mut rest = marks.as_slice();
+    while let Some(first) = rest.first() {
+        let index = first.index;
+        let (own, later) = rest.split_at(index_len(index, rest));
+        let XSegment { a, b } = list[index].x_segment();
+        collect_path(a, own, b, path)?;
+        cut_segment(list, index, path.as_slice(), store)?;
+        rest = later;
+    }
+    Ok(Passed {
+        is_rounded,
+        has_marks: !marks.is_empty(),
+    })
+}
+
+#[cfg(test)]
+mod tests;

@@ -1,0 +1,246 @@
+// The split of a list into a planar arrangement: passes that snap, up to a limit, then passes that settle.
+// Upstream: `split::solver`. The settling passes, `passes` and the limit are this project's own.
+ghost use Rattle.std.specs.Prelude.{◌≡◌, ◌+◌, ◌≤◌, ◌||◌, ◌&&◌, [], false, IsTrue, IsFalse, IfOk, IfErr, OnOk, OnErr, Ok, length, nat_le, nat_lt};
+ghost use Rattle.std.specs.List.{list_all};
+ghost use Rattle.overlay_base.specs.declared.segm.fault.Fault.TheVariants.{CountOutOfRange};
+ghost use Rattle.overlay_base.specs.Points.{is_within_box_of};
+ghost use Rattle.overlay_base.specs.Segments.{pairs, ends, is_map};
+ghost use Rattle.overlay_base.specs.Planar.{is_splittable, is_arranged};
+ghost use Rattle.overlay_base.specs.Join.{join, join_leaves_range};
+ghost use Rattle.overlay_base.specs.Balance.{KeepsBalance};
+ghost use Rattle.overlay_base.specs.HooksOf.{hooks_of};
+ghost use Rattle.overlay_base.specs.SegmentOf.{segments_of, data_segments_of};
+ghost use Rattle.overlay_base.specs.Radius.{exponent_of, squared_radius};
+ghost use Rattle.overlay_split.specs.Marks.{snapping};
+ghost use Rattle.overlay_split.specs.Pass.{cut, pass, is_rounded, mark_count};
+ghost use Rattle.overlay_split.specs.DataPass.{data_pass, data_after_passes};
+ghost use Rattle.overlay_split.specs.Run.{IsRun, LeavesRange, after_passes};
+ghost use Rattle.overlay_split.specs.ExactInput.{is_exact_input, KeepsCounts};
+ghost use Rattle.overlay_split.specs.Potential.{potential};
+ghost use Rattle.overlay_split.specs.PlacingOf.{placing_of, HasRadius};
+
+use crate::split::pass::{PassBuffers, pass};
+use crate::split::placing::Placing;
+use overlay_base::num::OverlayInt;
+use overlay_base::overlay_core::edge_data::OverlayEdgeData;
+use overlay_base::overlay_core::snap_radius::SnapRadius;
+use overlay_base::overlay_core::solver::Solver;
+use overlay_base::segm::fault::Fault;
+use overlay_base::segm::join::join_with_store;
+use overlay_base::segm::segment::Segment;
+use overlay_base::segm::winding::WindingCount;
+use std::alloc::Global;
+
+/// How many passes snap, if nothing else is said.
+const SNAP_LIMIT: u32 = 256;
+
+/// Splits lists of segments. It keeps its memory from one call to the next.
+#[derive(Drop)]
+pub struct SplitSolver<I> {
+    buffers: PassBuffers<I>,
+    snap_limit: u32,
+    passes: u128,
+}
+
+/// How far a run has come.
+#[derive(Clone, Copy)]
+struct Progress {
+    /// How many passes were made.
+    passes: u128,
+    /// Whether equal segments were given or a segment was split.
+    has_changed: bool,
+    /// Whether another pass is to be made.
+    goes_on: bool,
+}
+
+impl<I> SplitSolver<I> {
+    ghost use Rattle.std.specs.Prelude.{◌≡◌};
+    ghost use Rattle.overlay_split.specs.SettingsOf.{snap_limit_of, passes_of};
+
+    /// A splitter that snaps in the first 256 passes. It takes no memory yet.
+    pub fn new(alloc: Global) -> Self
+        ensures limit { snap_limit_of result ≡ 256 }
+        ensures passes { passes_of result ≡ 0 }
+    {
+        SplitSolver::with_snap_limit(alloc, SNAP_LIMIT)
+    }
+
+    /// A splitter that snaps in that many passes, and settles after them. It takes no memory yet.
+    ///
+    /// Under a limit of 0 or 1, segments that are nearly parallel can take as many passes as they are long, since each
+    /// settling pass may make just one mark. The growing precisions, as `HIGH`, need a handful under 256.
+    pub fn with_snap_limit(alloc: Global, snap_limit: u32) -> Self
+        ensures limit { snap_limit_of result ≡ snap_limit }
+        ensures passes { passes_of result ≡ 0 }
+    {
+        SplitSolver {
+            buffers: PassBuffers::new(alloc),
+            snap_limit,
+            passes: 0,
+        }
+    }
+
+    /// How many passes the last call made that succeeded; 0 at first.
+    pub fn passes(&self) -> u128
+        ensures { result ≡ passes_of self.now }
+    {
+        self.passes
+    }
+}
+
+impl<I: OverlayInt> SplitSolver<I> {
+    ghost use Rattle.overlay_split.specs.SettingsOf.{snap_limit_of, passes_of, settings_of};
+
+    /// Splits a list as `split_segments_with_store` does, with a store of its own for the data, which begins as the
+    /// store's default and is dropped.
+    pub fn split_segments<C: WindingCount, D: OverlayEdgeData<C>>(
+        &mut self,
+        list: &mut Vec<Segment<C, I, D>>,
+        solver: &Solver,
+    ) -> Result<bool, Fault>
+        requires { IsTrue (is_splittable (I.whole I.MIN_COORD) (I.whole I.MAX_COORD) (segments_of list.old.items)) }
+        ensures run { IfOk result (λ flag. IsRun (settings_of I.BITS solver.now self.old) (segments_of list.old.items) (segments_of list.new.items) (passes_of self.new) flag) }
+        ensures edge_data { OnOk result
+            ((store : D.Store) × D.Store.is_default store ×
+            (let hooks = hooks_of C.counted D.reversed_gives D.split_gives D.merge_gives in
+            data_segments_of list.new.items ≡ (data_after_passes hooks (settings_of I.BITS solver.now self.old) (data_segments_of list.old.items) store (passes_of self.new)).0)) }
+        ensures arranged { OnOk result (IsTrue (is_arranged (I.whole I.MIN_COORD) (I.whole I.MAX_COORD) (segments_of list.new.items))) }
+        ensures balance { OnOk result (KeepsBalance (segments_of list.old.items) (segments_of list.new.items)) }
+        ensures in_box { OnOk result (IsTrue (list_all (λ p. is_within_box_of (ends (pairs (join (segments_of list.old.items)))) p) (ends (pairs (segments_of list.new.items))))) }
+        ensures exact_input { IsTrue (is_exact_input (segments_of list.old.items)) → OnOk result (KeepsCounts (segments_of list.old.items) (segments_of list.new.items)) }
+        ensures bound { OnOk result (passes_of self.new ≤ snap_limit_of self.old + potential (after_passes (settings_of I.BITS solver.now self.old) (segments_of list.old.items) (snap_limit_of self.old)) + 1) }
+        ensures unchanged { IsTrue (is_arranged (I.whole I.MIN_COORD) (I.whole I.MAX_COORD) (segments_of list.old.items)) →
+            IfOk result (λ flag. (flag ≡ false) × (data_segments_of list.new.items ≡ data_segments_of list.old.items)) }
+
+        ensures fits { OnOk result (LeavesRange (settings_of I.BITS solver.now self.old) (segments_of list.old.items) → ⊥) }
+        ensures refused { IfErr result (λ fault. fault ≡ CountOutOfRange → LeavesRange (settings_of I.BITS solver.now self.old) (segments_of list.old.items)) }
+        ensures emptied { OnErr result (list.new.items ≡ []) }
+        ensures passes { OnErr result (passes_of self.new ≡ passes_of self.old) }
+        ensures limit { snap_limit_of self.new ≡ snap_limit_of self.old }
+        ensures empty { list.old.items ≡ [] → (result ≡ Ok false) × (passes_of self.new ≡ 0) }
+    {
+        let mut store = D::Store::default();
+        self.split_segments_with_store(list, solver, &mut store)
+    }
+
+    /// Splits a list until every two of its segments share at most a common end: the list is sorted and merged, then
+    /// passes are made up to one in which every crossing has whole coordinates. Answers whether equal segments were
+    /// joined or a segment was split.
+    ///
+    /// The list has to be splittable, as `is_splittable` tests. Pass k snaps, with the solver's precision, up to the
+    /// snap limit, and settles after it. The solver's strategy does not change the answer.
+    ///
+    /// A list that `is_arranged` stays as it is. Where no two given segments cross at a point without whole coordinates,
+    /// the counts along them are those given. An empty list takes no memory.
+    ///
+    /// Answers `Fault::CountOutOfRange` only where a running sum of counts on one pair of ends leaves
+    /// `-i32::MAX..=i32::MAX`, in the given list or among the pieces of a pass, and, memory being found, wherever one
+    /// does. Where a call is refused the list is empty, `passes` is as it was, and the splitter can be used again; the
+    /// store is what the hooks called before left.
+    pub fn split_segments_with_store<C: WindingCount, D: OverlayEdgeData<C>>(
+        &mut self,
+        list: &mut Vec<Segment<C, I, D>>,
+        solver: &Solver,
+        store: &mut D::Store,
+    ) -> Result<bool, Fault>
+        requires { IsTrue (is_splittable (I.whole I.MIN_COORD) (I.whole I.MAX_COORD) (segments_of list.old.items)) }
+        ensures run { IfOk result (λ flag. IsRun (settings_of I.BITS solver.now self.old) (segments_of list.old.items) (segments_of list.new.items) (passes_of self.new) flag) }
+        ensures edge_data { OnOk result
+            (let hooks = hooks_of C.counted D.reversed_gives D.split_gives D.merge_gives in
+            data_segments_of list.new.items ≡ (data_after_passes hooks (settings_of I.BITS solver.now self.old) (data_segments_of list.old.items) store.old (passes_of self.new)).0) }
+        ensures store { OnOk result
+            (let hooks = hooks_of C.counted D.reversed_gives D.split_gives D.merge_gives in
+            store.new ≡ (data_after_passes hooks (settings_of I.BITS solver.now self.old) (data_segments_of list.old.items) store.old (passes_of self.new)).1) }
+        ensures arranged { OnOk result (IsTrue (is_arranged (I.whole I.MIN_COORD) (I.whole I.MAX_COORD) (segments_of list.new.items))) }
+        ensures balance { OnOk result (KeepsBalance (segments_of list.old.items) (segments_of list.new.items)) }
+        ensures in_box { OnOk result (IsTrue (list_all (λ p. is_within_box_of (ends (pairs (join (segments_of list.old.items)))) p) (ends (pairs (segments_of list.new.items))))) }
+        ensures exact_input { IsTrue (is_exact_input (segments_of list.old.items)) → OnOk result (KeepsCounts (segments_of list.old.items) (segments_of list.new.items)) }
+        ensures bound { OnOk result (passes_of self.new ≤ snap_limit_of self.old + potential (after_passes (settings_of I.BITS solver.now self.old) (segments_of list.old.items) (snap_limit_of self.old)) + 1) }
+        ensures unchanged { IsTrue (is_arranged (I.whole I.MIN_COORD) (I.whole I.MAX_COORD) (segments_of list.old.items)) →
+            IfOk result (λ flag. (flag ≡ false) × (data_segments_of list.new.items ≡ data_segments_of list.old.items) × (store.new ≡ store.old)) }
+
+        ensures fits { OnOk result (LeavesRange (settings_of I.BITS solver.now self.old) (segments_of list.old.items) → ⊥) }
+        ensures refused { IfErr result (λ fault. fault ≡ CountOutOfRange → LeavesRange (settings_of I.BITS solver.now self.old) (segments_of list.old.items)) }
+        ensures emptied { OnErr result (list.new.items ≡ []) }
+        ensures passes { OnErr result (passes_of self.new ≡ passes_of self.old) }
+        ensures limit { snap_limit_of self.new ≡ snap_limit_of self.old }
+        ensures empty { list.old.items ≡ [] → (result ≡ Ok false) × (passes_of self.new ≡ 0) }
+    {
+        if list.is_empty() {
+            self.passes = 0;
+            return Ok(false);
+        }
+        let repeated = join_with_store(list, store)?;
+        let mut progress = Progress {
+            passes: 0,
+            has_changed: repeated,
+            goes_on: list.len() >= 2,
+        };
+        let mut radius = solver.snap_radius();
+        for _ in 0..self.snap_limit {
+            if !progress.goes_on {
+                break;
+            }
+            let placing = snapping::<I>(&radius);
+            progress = progress.after_pass(list, placing, &mut self.buffers, store)?;
+            radius.increment();
+        }
+        while progress.goes_on {
+            progress = progress.after_pass(list, Placing::Settling, &mut self.buffers, store)?;
+        }
+        self.passes = progress.passes;
+        Ok(progress.has_changed)
+    }
+}
+
+impl Progress {
+    ghost use Rattle.std.specs.Prelude.{◌≡◌, ◌+◌, ◌<◌, ◌^◌, ◌||◌, ◌&&◌, [], IsTrue, IsFalse, IfOk, IfErr, OnOk, OnErr, length, nat_le, nat_lt};
+
+    /// Where a run stands after one more pass.
+    fn after_pass<C: WindingCount, I: OverlayInt, D: OverlayEdgeData<C>>(
+        self,
+        list: &mut Vec<Segment<C, I, D>>,
+        placing: Placing,
+        buffers: &mut PassBuffers<I>,
+        store: &mut D::Store,
+    ) -> Result<Progress, Fault>
+        requires map { IsTrue (is_map (segments_of list.old.items)) }
+        requires splittable { IsTrue (is_splittable (I.whole I.MIN_COORD) (I.whole I.MAX_COORD) (segments_of list.old.items)) }
+        requires radius { HasRadius placing }
+        requires passes { self.passes + 1 < 2 ^ 128 }
+        ensures geometry { OnOk result (segments_of list.new.items ≡ pass (placing_of placing) (segments_of list.old.items)) }
+        ensures edge_data { OnOk result
+            (let hooks = hooks_of C.counted D.reversed_gives D.split_gives D.merge_gives in
+            data_segments_of list.new.items ≡ (data_pass hooks (placing_of placing) (data_segments_of list.old.items) store.old).0) }
+        ensures store { OnOk result
+            (let hooks = hooks_of C.counted D.reversed_gives D.split_gives D.merge_gives in
+            store.new ≡ (data_pass hooks (placing_of placing) (data_segments_of list.old.items) store.old).1) }
+        ensures passes { IfOk result (λ after. after.passes ≡ self.passes + 1) }
+        ensures changed { IfOk result (λ after. after.has_changed ≡ (self.has_changed || nat_lt 0 (mark_count (placing_of placing) (segments_of list.old.items)))) }
+        ensures goes_on { IfOk result (λ after. after.goes_on ≡ (nat_le 2 (length list.new.items) && is_rounded (segments_of list.old.items))) }
+
+        ensures fits { OnOk result (IsFalse (join_leaves_range (cut (placing_of placing) (segments_of list.old.items)))) }
+        ensures refused { IfErr result (λ fault. fault ≡ CountOutOfRange → IsTrue (join_leaves_range (cut (placing_of placing) (segments_of list.old.items)))) }
+        ensures emptied { OnErr result (list.new.items ≡ []) }
+    {
+        let passed = pass(list, placing, buffers, store)?;
+        Ok(Progress {
+            passes: self.passes + 1,
+            has_changed: self.has_changed || passed.has_marks,
+            goes_on: list.len() >= 2 && passed.is_rounded,
+        })
+    }
+}
+
+/// Crossings are placed within this radius.
+fn snapping<I: OverlayInt>(radius: &SnapRadius) -> Placing
+    ensures placing { placing_of result ≡ snapping (squared_radius I.BITS (exponent_of radius.now)) }
+    ensures radius { HasRadius result }
+{
+    Placing::Snapping {
+        radius_squared: radius.radius_squared::<I>(),
+    }
+}
+
+#[cfg(test)]
+mod tests;

@@ -1,0 +1,354 @@
+// Splits worked by hand, under each strategy and in both engines.
+use super::*;
+use overlay_base::geom::point::IntPoint;
+use overlay_base::overlay_core::solver::{Precision, Strategy};
+use overlay_base::segm::arranged::{is_arranged, is_splittable};
+use overlay_base::segm::boolean::ShapeCountBoolean;
+use std::process::Abort;
+use std::test::Fail;
+
+/// A segment as the tables write it: from, to, the count for the subject.
+type Row = ((i64, i64), (i64, i64), i32);
+
+const STRATEGIES: [Strategy; 4] = [
+    Strategy::List,
+    Strategy::Tree,
+    Strategy::Frag,
+    Strategy::Auto,
+];
+
+const WIDE_START: Precision = Precision {
+    start: 3,
+    progression: 1,
+};
+
+/// The precision, the snap limit, what is given, the flag and the number of passes, and the list after the split.
+const SPLITS: [(
+    &str,
+    Precision,
+    u32,
+    &[Row],
+    Result<(bool, u128), Fault>,
+    &[Row],
+); 15] = [
+    ("nothing", Precision::HIGH, 256, &[], Ok((false, 0)), &[]),
+    (
+        "two that cancel",
+        Precision::HIGH,
+        256,
+        &[((0, 0), (3, 1), 1), ((0, 0), (3, 1), -1)],
+        Ok((true, 0)),
+        &[],
+    ),
+    (
+        "a cross",
+        Precision::HIGH,
+        256,
+        &[((-2, 0), (2, 0), 1), ((0, -2), (0, 2), 1)],
+        Ok((true, 1)),
+        &[
+            ((-2, 0), (0, 0), 1),
+            ((0, -2), (0, 0), 1),
+            ((0, 0), (0, 2), 1),
+            ((0, 0), (2, 0), 1),
+        ],
+    ),
+    (
+        "a crossing between whole points",
+        Precision::HIGH,
+        256,
+        &[((0, 0), (5, 5), 1), ((0, 3), (5, -2), 1)],
+        Ok((true, 2)),
+        &[
+            ((0, 0), (2, 2), 1),
+            ((0, 3), (2, 2), 1),
+            ((2, 2), (5, -2), 1),
+            ((2, 2), (5, 5), 1),
+        ],
+    ),
+    (
+        "the same with an end within the radius",
+        WIDE_START,
+        256,
+        &[((0, 0), (5, 5), 1), ((0, 3), (5, -2), 1)],
+        Ok((true, 2)),
+        &[
+            ((0, 0), (0, 3), 1),
+            ((0, 3), (5, -2), 1),
+            ((0, 3), (5, 5), 1),
+        ],
+    ),
+    (
+        "a piece that is turned",
+        Precision::HIGH,
+        256,
+        &[((0, 0), (100, 1), 1), ((1, -50), (1, 50), 1)],
+        Ok((true, 2)),
+        &[
+            ((0, 0), (1, -50), -1),
+            ((0, 0), (1, 50), 1),
+            ((0, 0), (100, 1), 1),
+        ],
+    ),
+    (
+        "the same, settled from the first pass",
+        Precision::HIGH,
+        0,
+        &[((0, 0), (100, 1), 1), ((1, -50), (1, 50), 1)],
+        Ok((true, 2)),
+        &[
+            ((0, 0), (1, 0), 1),
+            ((1, -50), (1, 0), 1),
+            ((1, 0), (1, 50), 1),
+            ((1, 0), (100, 1), 1),
+        ],
+    ),
+    (
+        "a crossing that settles on an end",
+        Precision::HIGH,
+        0,
+        &[((0, -1), (1, 0), 1), ((0, 0), (1, -1), 1)],
+        Ok((true, 2)),
+        &[
+            ((0, -1), (1, 0), 1),
+            ((0, 0), (1, 0), 1),
+            ((1, -1), (1, 0), -1),
+        ],
+    ),
+    (
+        "a crossing that settles upward",
+        Precision::HIGH,
+        0,
+        &[((-1, 1), (2, -2), 1), ((0, -1), (1, 0), 1)],
+        Ok((true, 2)),
+        &[
+            ((-1, 1), (1, 0), 1),
+            ((0, -1), (1, 0), 1),
+            ((1, 0), (2, -2), 1),
+        ],
+    ),
+    (
+        "an overlap",
+        Precision::HIGH,
+        256,
+        &[
+            ((0, 0), (100, 0), 1),
+            ((80, 0), (150, 0), 1),
+            ((0, 1000), (150, 1000), 1),
+            ((0, 2000), (150, 2000), 1),
+        ],
+        Ok((true, 1)),
+        &[
+            ((0, 0), (80, 0), 1),
+            ((0, 1000), (150, 1000), 1),
+            ((0, 2000), (150, 2000), 1),
+            ((80, 0), (100, 0), 2),
+            ((100, 0), (150, 0), 1),
+        ],
+    ),
+    (
+        "a right end that touches a vertical",
+        Precision::HIGH,
+        256,
+        &[
+            ((4, 0), (4, 6), 1),
+            ((0, 3), (4, 3), 1),
+            ((0, 100), (8, 100), 1),
+            ((0, 102), (8, 102), 1),
+        ],
+        Ok((true, 1)),
+        &[
+            ((0, 3), (4, 3), 1),
+            ((0, 100), (8, 100), 1),
+            ((0, 102), (8, 102), 1),
+            ((4, 0), (4, 3), 1),
+            ((4, 3), (4, 6), 1),
+        ],
+    ),
+    (
+        "counts that are too large together",
+        Precision::HIGH,
+        256,
+        &[((0, 0), (4, 0), i32::MAX), ((0, 0), (4, 0), i32::MAX)],
+        Err(Fault::CountOutOfRange),
+        &[],
+    ),
+    (
+        "a running sum that is too large",
+        Precision::HIGH,
+        256,
+        &[
+            ((0, 0), (4, 0), i32::MAX),
+            ((0, 0), (4, 0), i32::MAX),
+            ((0, 0), (4, 0), -i32::MAX),
+        ],
+        Err(Fault::CountOutOfRange),
+        &[],
+    ),
+    (
+        "the same counts in another order",
+        Precision::HIGH,
+        256,
+        &[
+            ((0, 0), (4, 0), i32::MAX),
+            ((0, 0), (4, 0), -i32::MAX),
+            ((0, 0), (4, 0), i32::MAX),
+        ],
+        Ok((true, 0)),
+        &[((0, 0), (4, 0), i32::MAX)],
+    ),
+    (
+        "a crossing half way between two points",
+        Precision::HIGH,
+        256,
+        &[((0, 0), (100, 1), 1), ((0, 1), (100, 0), 1)],
+        Ok((true, 2)),
+        &[
+            ((0, 0), (50, 1), 1),
+            ((0, 1), (50, 1), 1),
+            ((50, 1), (100, 0), 1),
+            ((50, 1), (100, 1), 1),
+        ],
+    ),
+];
+
+fn coordinate<I: OverlayInt>(rt: &impl Abort, number: i64) -> I {
+    assert!(rt; I::MIN_COORD.to_wide() <= number && number <= I::MAX_COORD.to_wide());
+    I::from_wide(number)
+}
+
+fn segment<I: OverlayInt>(rt: &impl Abort, row: Row) -> Segment<ShapeCountBoolean, I, ()> {
+    let ((ax, ay), (bx, by), subj) = row;
+    let a = IntPoint::new(coordinate(rt, ax), coordinate(rt, ay));
+    let b = IntPoint::new(coordinate(rt, bx), coordinate(rt, by));
+    let count = ShapeCountBoolean::new(subj, 0);
+    assert!(rt; a != b && count.is_valid());
+    Segment::create_and_validate_with_data(a, b, count, (), &mut ())
+}
+
+fn row<I: OverlayInt>(segment: &Segment<ShapeCountBoolean, I, ()>) -> Row {
+    let ends = segment.x_segment();
+    let a = (ends.a.x.to_wide(), ends.a.y.to_wide());
+    let b = (ends.b.x.to_wide(), ends.b.y.to_wide());
+    (a, b, segment.count().subj)
+}
+
+fn segments<I: OverlayInt>(
+    rt: &(impl Abort + AllocGlobal),
+    rows: &[Row],
+) -> Result<Vec<Segment<ShapeCountBoolean, I, ()>>, Fail> {
+    let mut list = Vec::new(rt.alloc());
+    for row in rows {
+        list.push(segment(rt, *row))?;
+    }
+    Ok(list)
+}
+
+fn splits_with<I: OverlayInt>(rt: &(impl Abort + AllocGlobal)) -> Result<(), Fail> {
+    for strategy in STRATEGIES {
+        for (name, precision, limit, given, answer, rows) in SPLITS {
+            let mut list: Vec<Segment<ShapeCountBoolean, I, ()>> = segments(rt, given)?;
+            let solver = Solver::with_strategy_and_precision(strategy, precision);
+            let mut splitter = SplitSolver::with_snap_limit(rt.alloc(), limit);
+            assert!(rt; is_splittable(&list), "{name}");
+            let flag = splitter.split_segments(&mut list, &solver);
+            assert_eq!(rt;
+                flag.map(|flag| (flag, splitter.passes())),
+                answer,
+                "{name}"
+            );
+            assert!(rt; is_arranged(&list), "{name}");
+            let after: Vec<Row> = list.iter().map(row).collect(rt.alloc())?;
+            assert_eq!(rt; after.as_slice(), rows, "{name}");
+        }
+    }
+    Ok(())
+}
+
+#[test]
+fn splits(rt: HostRuntime) -> Result<(), Fail> {
+    splits_with::<i16>(&rt)?;
+    splits_with::<i32>(&rt)
+}
+
+/// Three segments that are nearly parallel, with each x times a factor: the number of passes, and of segments after.
+fn slivers(
+    rt: &(impl Abort + AllocGlobal),
+    factor: i64,
+    limit: u32,
+    precision: Precision,
+) -> Result<(u128, usize), Fail> {
+    let mut list: Vec<Segment<ShapeCountBoolean, i16, ()>> = Vec::new(rt.alloc());
+    assert!(rt; 1 <= factor && factor <= 14);
+    for ((ax, ay), (bx, by)) in [
+        ((282, 3), (1000, 0)),
+        ((143, 2), (886, 1)),
+        ((164, 2), (705, 1)),
+    ] {
+        list.push(segment(rt, ((ax * factor, ay), (bx * factor, by), 1)))?;
+    }
+    let solver = Solver::with_precision(precision);
+    let mut splitter = SplitSolver::with_snap_limit(rt.alloc(), limit);
+    assert!(rt; is_splittable(&list));
+    assert_eq!(rt; splitter.split_segments(&mut list, &solver), Ok(true));
+    assert!(rt; is_arranged(&list));
+    Ok((splitter.passes(), list.len()))
+}
+
+#[test]
+fn slivers_need_many_passes(rt: HostRuntime) -> Result<(), Fail> {
+    assert_eq!(rt; slivers(&rt, 1, 0, Precision::HIGH)?, (278, 282));
+    assert_eq!(rt; slivers(&rt, 1, 256, Precision::ABSOLUTE)?.0, 20);
+    assert_eq!(rt; slivers(&rt, 1, 256, Precision::HIGH)?.0, 4);
+    Ok(())
+}
+
+#[test]
+fn slivers_past_the_snap_limit(rt: HostRuntime) -> Result<(), Fail> {
+    assert_eq!(rt; slivers(&rt, 14, 256, Precision::ABSOLUTE)?, (3734, 3738));
+    Ok(())
+}
+
+#[test]
+fn a_splitter_after_a_refusal(rt: HostRuntime) -> Result<(), Fail> {
+    let cross = [((-2, 0), (2, 0), 1), ((0, -2), (0, 2), 1)];
+    let large = [((0, 0), (4, 0), i32::MAX), ((0, 0), (4, 0), i32::MAX)];
+    let mut splitter: SplitSolver<i32> = SplitSolver::new(rt.alloc());
+    assert_eq!(rt; splitter.passes(), 0);
+    for (given, answer) in [
+        (cross.as_slice(), Ok(true)),
+        (large.as_slice(), Err(Fault::CountOutOfRange)),
+        (cross.as_slice(), Ok(true)),
+    ] {
+        let mut list = segments(&rt, given)?;
+        assert!(rt; is_splittable(&list));
+        assert_eq!(rt; splitter.split_segments(&mut list, &Solver::AUTO), answer);
+        assert_eq!(rt; splitter.passes(), 1);
+    }
+    Ok(())
+}
+
+/// The squared radii of three passes.
+fn radii(precision: Precision) -> [i64; 3] {
+    let mut radius = Solver::with_precision(precision).snap_radius();
+    let first = radius.radius_squared::<i16>();
+    radius.increment();
+    let second = radius.radius_squared::<i16>();
+    radius.increment();
+    [first, second, radius.radius_squared::<i16>()]
+}
+
+#[test]
+fn radii_stop_at_the_cap(rt: HostRuntime) {
+    let late = Precision {
+        start: 23,
+        progression: 1,
+    };
+    let huge = Precision {
+        start: 24,
+        progression: usize::MAX,
+    };
+    assert_eq!(rt; radii(Precision::HIGH), [1, 2, 4]);
+    assert_eq!(rt; radii(late), [8_388_608, 16_777_216, 16_777_216]);
+    assert_eq!(rt; radii(huge), [16_777_216; 3]);
+}
