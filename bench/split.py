@@ -27,7 +27,7 @@ def step(ax, ay, bx, by):
 
 def random_lines(number):
     numbers = random.Random(number)
-    reach = max(2, int(2 * LIMIT / number**0.5))
+    reach = int(8 * LIMIT / number**0.5)
     for _ in range(number):
         ax, ay = (numbers.randint(-LIMIT, LIMIT - reach) for _ in range(2))
         yield step(ax, ay, ax + numbers.randint(1, reach), ay + numbers.randint(0, reach))

@@ -1,6 +1,7 @@
 // The whole run, in the order in which faults are looked for: the words, the reading of all the input, the lines,
 // the number of segments, the calls, the writing.
-ghost use Rattle.std.specs.Prelude.{◌≡◌, ◌⊎◌, ℕ, List, Ok, Err, IfSome, IfOk, OnOk, IfErr, map, string_bytes};
+ghost use Rattle.std.specs.Prelude.{◌≡◌, ◌≢◌, ◌⊎◌, ℕ, List, Ok, Err, IfSome, IfOk, OnOk, IfErr, map, string_bytes};
+ghost use Rattle.std.specs.IoError.{error_kind};
 ghost use Rattle.std.specs.Io.KnownBytes.{Appends};
 ghost use Rattle.overlay_base.specs.declared.segm.fault.Fault.TheVariants.{Memory};
 ghost use Rattle.arrange.specs.Run.{IsAnswer, IsRunAnswer, IsStop};
@@ -137,7 +138,8 @@ fn started_words<H: Env + AllocGlobal>(rt: &H) -> Result<Vec<String>, Stop> {
 
 /// Tells want of memory from any other failure.
 fn stop_of(error: io::Error, otherwise: Stop) -> Stop
-    ensures { (result ≡ otherwise) ⊎ (result ≡ Stop.Refused Memory) }
+    ensures memory { error_kind error ≡ ErrorKind.OutOfMemory → result ≡ Stop.Refused Memory }
+    ensures other { error_kind error ≢ ErrorKind.OutOfMemory → result ≡ otherwise }
 {
     match error.kind() {
         ErrorKind::OutOfMemory => Stop::Refused(Fault::Memory),

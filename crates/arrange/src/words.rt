@@ -322,7 +322,7 @@ mod tests {
     }
 
     #[test]
-    fn choices(rt: HostRuntime) {
+    fn choices_of_passes(rt: HostRuntime) {
         for (word, engine) in ENGINE_WORDS {
             assert_eq!(rt; chosen(word), Ok(Settings { engine, ..UNCHOSEN }));
         }
@@ -345,6 +345,10 @@ mod tests {
                 })
             );
         }
+    }
+
+    #[test]
+    fn choices_of_answers(rt: HostRuntime) {
         for (word, fill_rule) in FILL_WORDS {
             assert_eq!(rt;
                 chosen(word),

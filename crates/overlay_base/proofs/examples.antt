@@ -6,3 +6,4 @@ pub mod Meetings
 pub mod Counts
 pub mod Joins
 pub mod DataJoins
+pub mod Rules

@@ -1,6 +1,7 @@
 -- The laws of the definitions, as lemmas that proofs here and in the crates above cite.
 pub mod Lists
 pub mod Keys
+pub mod Elements
 pub mod Polynomials
 pub mod Coordinates
 pub mod Points
@@ -21,4 +22,4 @@ pub mod Merges
 pub mod Rests
 pub mod Apart
 pub mod Shifts
-pub mod Elements
+pub mod Fills

@@ -3,6 +3,8 @@ pub mod Points
 pub mod PointOf
 pub mod PairOf
 pub mod Turns
+pub mod Below
+pub mod VSegmentOf
 pub mod Ranges
 pub mod RangeOf
 pub mod VectorOf
@@ -21,4 +23,5 @@ pub mod Choices
 pub mod Radius
 pub mod HooksOf
 pub mod SegmentOf
+pub mod Rules
 pub mod Laws

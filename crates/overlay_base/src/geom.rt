@@ -1,5 +1,6 @@
 // Points and segments of the plane.
 
+pub mod end;
 pub mod laws;
 pub mod line_range;
 pub mod point;
@@ -7,5 +8,6 @@ pub mod rect;
 #[cfg(test)]
 mod tests;
 pub mod triangle;
+pub mod v_segment;
 pub mod vector;
 pub mod x_segment;

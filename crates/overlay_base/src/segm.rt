@@ -8,6 +8,7 @@ pub mod join;
 pub mod laws;
 pub mod merge;
 pub mod segment;
+pub mod segment_fill;
 pub mod shape_type;
 pub mod sort;
 pub mod winding;

@@ -44,6 +44,13 @@ impl<I: OverlayInt> XSegment<I> {
         self.is_below(range.min) || self.is_above(range.max)
     }
 
+    /// Whether both ends lie right of the other's end `b`, where `a` stands before `b` in both.
+    pub fn begins_past_end(&self, other: &XSegment<I>) -> bool
+        ensures { result ≡ int_lt (I.whole other.now.b.x) (I.whole self.now.a.x) }
+    {
+        other.b.x < self.a.x
+    }
+
     fn is_below(&self, y: I) -> bool
         ensures { result ≡ (int_lt (I.whole self.now.a.y) (I.whole y) && int_lt (I.whole self.now.b.y) (I.whole y)) }
     {

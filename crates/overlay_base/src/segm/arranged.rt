@@ -112,7 +112,7 @@ fn is_apart_from_all<C: WindingCount, I: OverlayInt, D: Copy>(
     let heights = target.y_range();
     for segment in later {
         let other = segment.x_segment();
-        if begins_past_end(&other, target) {
+        if other.begins_past_end(target) {
             return true;
         }
         if !other.is_not_intersect_y_range(&heights) && !are_apart(target, &other) {
@@ -120,13 +120,6 @@ fn is_apart_from_all<C: WindingCount, I: OverlayInt, D: Copy>(
         }
     }
     true
-}
-
-/// Whether a segment begins right of the other's end.
-fn begins_past_end<I: OverlayInt>(segment: &XSegment<I>, other: &XSegment<I>) -> bool
-    ensures { result ≡ int_lt (I.whole other.now.b.x) (I.whole segment.now.a.x) }
-{
-    other.b.x < segment.a.x
 }
 
 #[cfg(test)]

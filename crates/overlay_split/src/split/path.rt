@@ -1,5 +1,4 @@
-// The path of a segment through its marks. Upstream: `sort_sub_marks` of `split::solver`; the direction in which marks
-// of one x are run through is this project's own.
+// The path of a segment through its marks. Upstream: `sort_sub_marks` of `split::solver`.
 ghost use Rattle.std.specs.Prelude.{◌≡◌, ◌++◌, ◌≤◌, ◌<◌, length, OnOk, map, reverse, int_lt};
 ghost use Rattle.overlay_base.specs.PointOf.{point_of};
 ghost use Rattle.overlay_split.specs.Path.{columns_in_order, path_from, run_through, last_point, first_point, run_len};

@@ -87,7 +87,7 @@ fn mark_with_later<C: WindingCount, I: OverlayInt, D: Copy>(
     let mut rounded = false;
     for later in index + 1..segments.len() {
         let other = segments[later].x_segment();
-        if begins_past_end(&other, &target) {
+        if other.begins_past_end(&target) {
             break;
         }
         let second = Indexed {
@@ -99,13 +99,6 @@ fn mark_with_later<C: WindingCount, I: OverlayInt, D: Copy>(
         }
     }
     Ok(rounded)
-}
-
-/// Whether a segment begins right of the other's end.
-fn begins_past_end<I: OverlayInt>(segment: &XSegment<I>, other: &XSegment<I>) -> bool
-    ensures { result ≡ int_lt (I.whole other.now.b.x) (I.whole segment.now.a.x) }
-{
-    other.b.x < segment.a.x
 }
 
 /// Appends the marks that two segments put on one another, and answers whether they cross at a point without whole

@@ -1,0 +1,47 @@
+// How windings tell what is inside. Upstream: `core::fill_rule`.
+
+use std::fmt;
+
+/// When a place counts as inside, by how often the contours wind round it counterclockwise.
+#[derive(Clone, Copy, Debug, PartialEq, Default)]
+pub enum FillRule {
+    /// An odd number of times.
+    EvenOdd,
+    /// Any number of times but 0.
+    #[default]
+    NonZero,
+    /// More often counterclockwise.
+    Positive,
+    /// More often clockwise.
+    Negative,
+}
+
+impl fmt::Display for FillRule {
+    fn fmt<W: fmt::Write>(&self, f: &mut fmt::Formatter<W>) -> fmt::Result {
+        f.write_str(match self {
+            FillRule::EvenOdd => "EvenOdd",
+            FillRule::NonZero => "NonZero",
+            FillRule::Positive => "Positive",
+            FillRule::Negative => "Negative",
+        })
+    }
+}
+
+#[cfg(test)]
+mod tests {
+    use super::*;
+    use std::alloc::AllocError;
+
+    #[test]
+    fn each_rule_has_its_name(rt: HostRuntime) -> Result<(), AllocError> {
+        let names = format!(in rt.alloc();
+            "{} {} {} {}",
+            FillRule::EvenOdd,
+            FillRule::default(),
+            FillRule::Positive,
+            FillRule::Negative
+        )?;
+        assert_eq!(rt; names.as_str(), "EvenOdd NonZero Positive Negative");
+        Ok(())
+    }
+}

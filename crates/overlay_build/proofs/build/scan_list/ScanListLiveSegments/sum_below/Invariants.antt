@@ -1,0 +1,9 @@
+use Rattle.std.proofs.Common.{◌≡◌, take}
+use Rattle.std.specs.Prelude.{option_map}
+use Rattle.overlay_base.specs.PointOf.{point_of}
+use Rattle.overlay_build.specs.EntryOf.{entry_of, entries_of}
+use Rattle.overlay_build.proofs.laws.ScanSums.{leading}
+use Rattle.overlay_build.proofs.build.scan_list.ScanListLiveSegments.sum_below.Given as goal
+
+abbrev pub invariant-loop-entry : goal.invariant-loop-entry
+invariant-loop-entry g l = option_map entry_of l.best ≡ leading (point_of g.I.OverlayInt.whole l.p) (take l.entry-index (entries_of l.entry-items))

@@ -1,0 +1,9 @@
+pub mod ColumnWindings
+pub mod ChainWindings
+pub mod Fill
+pub mod Sweep
+pub mod Laws
+pub mod Live
+pub mod VisitOf
+pub mod EntryOf
+pub mod NodeOf

@@ -1,0 +1,4 @@
+// Fills and graphs of an arrangement. Modules are named as in upstream.
+#![tactic(auto)]
+
+pub mod build;
