@@ -1,5 +1,7 @@
 pub mod examples
 pub mod Crossings
+pub mod GraphAnswers
+pub mod GraphPoints
 pub mod Parts
 pub mod Runs
 pub mod ShortNumerals

@@ -1,6 +1,9 @@
 -- What a run answers, from what its calls do.
-use Rattle.std.proofs.Common.{◌≡◌, ◌≢◌, ◌⊎◌, inl, inr, ℕ, ℤ, List, [], ◌∷◌, length, Ok, Err, Option, Some, None, refl, sym, ap, ◌∙◌, subst}
-use Rattle.std.specs.Prelude.{unsigned_abs, IfSome, IfOk, IfErr, IsErrOf, IsErrAnd}
+use Rattle.std.proofs.Common.{◌≡◌, ◌≢◌, ◌⊎◌, inl, inr, ℕ, ℤ, true, List, [], ◌∷◌, length, Ok, Err, Option, Some, None, refl, sym, ap, ◌∙◌, subst}
+use Rattle.std.specs.Prelude.{unsigned_abs, IfSome, IfOk, IfErr, OnOk, IsErrOf, IsErrAnd}
+use Rattle.std.proofs.lemmas.Bool.{false≢true}
+use Rattle.std.specs.Io.KnownBytes.{Appends, Keeps}
+use Rattle.std.specs.Result.{is_ok}
 use Rattle.std.specs.Option.{ok_or}
 use Rattle.std.specs.declared.result.Result.{Result}
 use Rattle.overlay_base.specs.Segments.{WholeSegment}
@@ -52,3 +55,21 @@ module _ (words : List (List ℕ)) (command : Command) (settings : Settings) (as
   stops input known (Err stop) (inl refused) = inr (inr (inr (inl refused)))
   stops None known (Err stop) (inr is) = inr (inr (inr (inr tt)))
   stops (Some given) known (Err stop) (inr is) = inr (inr (inr (inr (subst (λ b. IsRunAnswer words b (Err stop)) known (run_answer (Err stop) is)))))
+
+then_keeps : (before between after : Option (List ℕ)) (bytes : List ℕ) → Appends before between bytes → Keeps between after → Appends before after bytes
+then_keeps None between after bytes a k = tt
+then_keeps (Some xs) None after bytes a k = absurd a
+then_keeps (Some xs) (Some ys) None bytes a k = absurd k
+then_keeps (Some xs) (Some ys) (Some zs) bytes a k = k ∙ a
+
+of_ok : {T E : Type 0} (r : Result T E) (P : Type 0) → is_ok r ≡ true → OnOk r P → P
+of_ok (Ok t) P is h = h
+of_ok (Err e) P is h = absurd (false≢true is)
+
+-- what was answered is what was written and flushed
+pub done : {T E U F : Type 0} (words : List (List ℕ)) (input before between after : Option (List ℕ)) (text written : List ℕ) (write : Result T E) (flush : Result U F) → IfSome input (λ bytes. IsRunAnswer words bytes (Ok text)) → written ≡ text → is_ok write ≡ true →
+    OnOk write (Appends before between written) → Keeps between after → OnOk flush (IfSome input (λ bytes. (t : List ℕ) × IsRunAnswer words bytes (Ok t) × Appends before after t))
+done words input before between after text written write (Err e) answered same ok appends keeps = tt
+done words None before between after text written write (Ok u) answered same ok appends keeps = tt
+done words (Some bytes) before between after text written write (Ok u) answered same ok appends keeps =
+    (text, answered, subst (Appends before after) same (then_keeps before between after written (of_ok write (Appends before between written) ok appends) keeps))

@@ -1,2 +1,3 @@
 -- Worked examples of the definitions, which hold by computation.
+pub mod Graphs
 pub mod Texts

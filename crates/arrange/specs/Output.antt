@@ -5,6 +5,7 @@ use Rattle.overlay_base.specs.Points.{Point, Pair, pair_lt}
 use Rattle.overlay_base.specs.Segments.{WholeSegment}
 use Rattle.overlay_split.specs.Marks.{snapping}
 use Rattle.overlay_split.specs.CrossAnswer.{pure, target_end, other_end, overlay, CrossAnswer, cross_answer, ends_mask}
+use Rattle.overlay_build.specs.Graph.{Link, Node, Graph, is_bridge, is_valid_graph}
 
 -- two numbers, each after a space
 abbrev pub pair_text : ℤ → ℤ → List ℕ
@@ -17,9 +18,13 @@ segment_line s = codes "seg" ++ pair_text s.pair.a.x s.pair.a.y ++ pair_text s.p
 abbrev pub segment_lines : List WholeSegment → List ℕ
 segment_lines segments = flat_map segment_line segments
 
+-- `true` or `false`
+abbrev pub bool_text : Bool → List ℕ
+bool_text b = if b then codes "true" else codes "false"
+
 -- `flag true` or `flag false`
 abbrev pub flag_line : Bool → List ℕ
-flag_line flag = codes "flag " ++ (if flag then codes "true" else codes "false") ++ codes "\n"
+flag_line flag = codes "flag " ++ bool_text flag ++ codes "\n"
 
 -- `passes N`
 abbrev pub passes_line : ℕ → List ℕ
@@ -54,3 +59,19 @@ meeting_text r2 s t =
 abbrev pub cross_text : ℕ → List WholeSegment → Option (List ℕ)
 cross_text r2 (s ∷ t ∷ []) = Some (meeting_text r2 s.pair t.pair)
 cross_text r2 segments = None
+
+-- numbers, each after a space
+abbrev pub numbers_text : List ℕ → List ℕ
+numbers_text numbers = flat_map (λ n. codes " " ++ decimal n) numbers
+
+-- `link AX AY BX BY FILL AID BID`
+unfoldable pub link_line : Link → List ℕ
+link_line l = codes "link" ++ pair_text l.pair.a.x l.pair.a.y ++ pair_text l.pair.b.x l.pair.b.y ++ numbers_text (l.fill ∷ l.a_node ∷ l.b_node ∷ []) ++ codes "\n"
+
+-- `node X Y bridge I J` or `node X Y cross I ..`
+unfoldable pub node_line : Node → List ℕ
+node_line n = codes "node" ++ pair_text n.point.x n.point.y ++ (if is_bridge n then codes " bridge" else codes " cross") ++ numbers_text n.links ++ codes "\n"
+
+-- the links, then the nodes, then `valid true` or `valid false`
+unfoldable pub graph_text : Graph → List ℕ
+graph_text graph = flat_map link_line graph.links ++ flat_map node_line graph.nodes ++ codes "valid " ++ bool_text (is_valid_graph graph) ++ codes "\n"

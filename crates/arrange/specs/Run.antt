@@ -6,15 +6,18 @@ use Rattle.overlay_base.specs.Segments.{WholeSegment}
 use Rattle.overlay_base.specs.Join.{join, has_equal_pairs, join_leaves_range}
 use Rattle.overlay_base.specs.Radius.{exponent_cap}
 use Rattle.overlay_split.specs.Run.{Settings as RunSettings, IsRun, LeavesRange}
+use Rattle.overlay_build.specs.ChainWindings.{tops_leave_range}
+use Rattle.overlay_build.specs.Graph.{graph_by}
+use Rattle.overlay_build.specs.RuleOf.{keeps_by}
 use Rattle.overlay_base.specs.declared.segm.fault.Fault.TheVariants.{CountOutOfRange, Memory}
 use Rattle.arrange.specs.declared.settings.Command.{Command}
-use Rattle.arrange.specs.declared.settings.Command.TheVariants.{Join, Cross, Split}
+use Rattle.arrange.specs.declared.settings.Command.TheVariants.{Join, Cross, Split, Graph}
 use Rattle.arrange.specs.declared.settings.Engine.{Engine}
 use Rattle.arrange.specs.declared.settings.Engine.TheVariants.{I16, I32}
 use Rattle.arrange.specs.declared.settings.Settings.{Settings}
 use Rattle.arrange.specs.declared.stop.Stop.{Stop}
 use Rattle.arrange.specs.declared.stop.Stop.TheVariants.{Usage, NotTwoSegments, Refused, Input, Output}
-use Rattle.arrange.specs.Output.{segment_lines, flag_line, passes_line, cross_text}
+use Rattle.arrange.specs.Output.{segment_lines, flag_line, passes_line, cross_text, graph_text}
 use Rattle.arrange.specs.Words.{WordsAsk, IsCommandAlone}
 use Rattle.arrange.specs.Text.{lines_of, AskInTurnFor, IsFirstFault}
 
@@ -41,6 +44,12 @@ split_settings bits settings = record {
   limit = settings.snap_limit;
 }
 
+-- the graph of the kept segments of an arrangement, as text, or a count that leaves the range above some segment
+unfoldable pub arrangement_text : Settings → List WholeSegment → Result (List ℕ) Stop
+arrangement_text settings arrangement =
+    if tops_leave_range arrangement then Err (Refused CountOutOfRange)
+    else Ok (graph_text (graph_by (keeps_by settings.rule) settings.fill_rule arrangement))
+
 -- what a command makes of segments, in coordinates of so many bits
 abbrev pub IsCommandAnswer : ℕ → Command → Settings → List WholeSegment → Result (List ℕ) Stop → Type 0
 IsCommandAnswer bits Join settings segments answer =
@@ -50,6 +59,10 @@ IsCommandAnswer bits Cross settings segments answer = answer ≡ ok_or (cross_te
 IsCommandAnswer bits Split settings segments answer =
     ((result : List WholeSegment) × (passes : ℕ) × (flag : Bool) × IsRun (split_settings bits settings) segments result passes flag
     × (answer ≡ Ok (segment_lines result ++ flag_line flag ++ passes_line passes)))
+    ⊎ (LeavesRange (split_settings bits settings) segments × (answer ≡ Err (Refused CountOutOfRange)))
+IsCommandAnswer bits Graph settings segments answer =
+    ((arrangement : List WholeSegment) × (passes : ℕ) × (flag : Bool) × IsRun (split_settings bits settings) segments arrangement passes flag
+    × (answer ≡ arrangement_text settings arrangement))
     ⊎ (LeavesRange (split_settings bits settings) segments × (answer ≡ Err (Refused CountOutOfRange)))
 
 -- what a command makes of the segments for which a text asks, or the first fault of its lines

@@ -2,6 +2,8 @@
 #![tactic(auto)]
 
 mod cross;
+mod graph;
+mod graph_output;
 mod join;
 mod lines;
 mod number;

@@ -61,7 +61,7 @@ pub fn write_place<I: OverlayInt>(
 }
 
 /// Writes ` X Y`.
-fn write_point<I: OverlayInt>(text: &mut String, point: IntPoint<I>) -> Result<(), AllocError>
+pub fn write_point<I: OverlayInt>(text: &mut String, point: IntPoint<I>) -> Result<(), AllocError>
     ensures { OnOk result (string_bytes text.new ≡ string_bytes text.old ++ pair_text (I.whole point.x) (I.whole point.y)) }
 {
     let (x, y) = (point.x.to_wide(), point.y.to_wide());

@@ -9,6 +9,7 @@ ghost use Rattle.arrange.specs.declared.stop.Stop.{Stop};
 ghost use Rattle.arrange.specs.Status.{status_of};
 
 use crate::cross::cross;
+use crate::graph::graph;
 use crate::join::join;
 use crate::lines::read_lines;
 use crate::settings::{Command, Engine, Settings};
@@ -113,6 +114,7 @@ fn answer_with<I: OverlayInt>(
         Command::Join => join(alloc, segments),
         Command::Cross => cross(alloc, segments.as_slice(), settings.radius),
         Command::Split => split(alloc, segments, settings),
+        Command::Graph => graph(alloc, segments, settings),
     }
 }
 

@@ -1,6 +1,8 @@
 // What the words of a call may choose, and what stands where they choose nothing.
 ghost use Rattle.std.specs.Prelude.{◌≤ℤ◌, ◌^◌, pos};
 
+use overlay_base::overlay_core::fill_rule::FillRule;
+use overlay_base::overlay_core::overlay_rule::OverlayRule;
 use overlay_base::overlay_core::solver::{Precision, Strategy};
 
 /// What the program is asked to do.
@@ -12,6 +14,8 @@ pub enum Command {
     Cross,
     /// Splits the lines where they meet.
     Split,
+    /// Splits the lines and tells the graph of those that a rule keeps.
+    Graph,
 }
 
 /// The type of coordinates.
@@ -28,34 +32,6 @@ pub struct SquaredRadius {
     ghost in_range: { (pos 1 ≤ℤ squared) × (squared ≤ℤ pos (2 ^ 56)) },
 }
 
-/// Which winding numbers are inside.
-#[derive(Clone, Copy, Debug, PartialEq)]
-pub enum FillRule {
-    EvenOdd,
-    NonZero,
-    Positive,
-    Negative,
-}
-
-/// Which part of an overlay is kept.
-#[derive(Clone, Copy, Debug, PartialEq)]
-pub enum OverlayRule {
-    Subject,
-    Clip,
-    Intersect,
-    Union,
-    Difference,
-    InverseDifference,
-    Xor,
-}
-
-/// Which links of a graph are kept.
-#[derive(Clone, Copy, Debug, PartialEq)]
-pub enum Links {
-    All,
-    Of(OverlayRule),
-}
-
 /// The choices of one call.
 #[derive(Clone, Copy, Debug, PartialEq)]
 pub struct Settings {
@@ -63,7 +39,8 @@ pub struct Settings {
     pub strategy: Strategy,
     pub precision: Precision,
     pub fill_rule: FillRule,
-    pub links: Links,
+    /// Which links of a graph are kept; all without a rule.
+    pub rule: Option<OverlayRule>,
     /// How many passes of a split may snap.
     pub snap_limit: u32,
     pub radius: SquaredRadius,

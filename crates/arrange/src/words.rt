@@ -1,43 +1,19 @@
 // The words after the program's name: a command, and then settings as `name=value`.
-ghost use Rattle.std.specs.Prelude.{◌≡◌, ◌↔◌, ◌≤◌, ◌^◌, pos, codes, unwrap_or, map, string_bytes, IsOk, IsNone, IsSome, IfSome, IfOk, IfErr, OnOk, OnErr, MatchOption};
+ghost use Rattle.std.specs.Prelude.{◌≡◌, ◌↔◌, ◌≤◌, ◌^◌, pos, codes, None, unwrap_or, map, string_bytes, IsOk, IsNone, IsSome, IfSome, IfOk, IfErr, OnOk, OnErr, MatchOption};
 ghost use Rattle.std.specs.Option.{option_map_or};
 ghost use Rattle.std.specs.Str.Parse.{IsNumeral, digits_value};
 ghost use Rattle.arrange.specs.declared.settings.Command.{Command};
 ghost use Rattle.arrange.specs.declared.settings.Engine.{Engine};
-ghost use Rattle.arrange.specs.Words.{NamesCommand, NamesEngine, precision_of, IsPrecisionName, NamesPrecision, WritesLimit, WritesSquare, setting, TakesWord, WordsAsk, IsCommandAlone};
+ghost use Rattle.overlay_base.specs.declared.overlay_core.fill_rule.FillRule.{FillRule};
+ghost use Rattle.overlay_base.specs.declared.overlay_core.solver.Strategy.{Strategy};
+ghost use Rattle.arrange.specs.Words.{NamesCommand, NamesEngine, NamesStrategy, NamesFillRule, NamesRule, precision_of, IsPrecisionName, NamesPrecision, WritesLimit, WritesSquare, setting, TakesWord, WordsAsk, IsCommandAlone};
 
 use crate::number::{number, short_number};
-use crate::settings::{Command, Engine, FillRule, Links, OverlayRule, Settings, SquaredRadius};
+use crate::settings::{Command, Engine, Settings, SquaredRadius};
 use crate::stop::Stop;
+use overlay_base::overlay_core::fill_rule::FillRule;
+use overlay_base::overlay_core::overlay_rule::OverlayRule;
 use overlay_base::overlay_core::solver::{Precision, Strategy};
-
-const STRATEGIES: [(&str, Strategy); 4] = [
-    ("list", Strategy::List),
-    ("tree", Strategy::Tree),
-    ("frag", Strategy::Frag),
-    ("auto", Strategy::Auto),
-];
-
-const FILL_RULES: [(&str, FillRule); 4] = [
-    ("evenodd", FillRule::EvenOdd),
-    ("nonzero", FillRule::NonZero),
-    ("positive", FillRule::Positive),
-    ("negative", FillRule::Negative),
-];
-
-const LINKS: [(&str, Links); 8] = [
-    ("subject", Links::Of(OverlayRule::Subject)),
-    ("clip", Links::Of(OverlayRule::Clip)),
-    ("intersect", Links::Of(OverlayRule::Intersect)),
-    ("union", Links::Of(OverlayRule::Union)),
-    ("difference", Links::Of(OverlayRule::Difference)),
-    (
-        "inverse-difference",
-        Links::Of(OverlayRule::InverseDifference),
-    ),
-    ("xor", Links::Of(OverlayRule::Xor)),
-    ("all", Links::All),
-];
 
 const GREATEST_RADIUS: u64 = 1 << 56;
 
@@ -70,6 +46,7 @@ fn command(name: &str) -> Option<Command>
         "join" => Some(Command::Join),
         "cross" => Some(Command::Cross),
         "split" => Some(Command::Split),
+        "graph" => Some(Command::Graph),
         _ => None,
     }
 }
@@ -85,6 +62,50 @@ fn engine(name: &str) -> Option<Engine>
     }
 }
 
+/// The strategy of that name.
+fn strategy(name: &str) -> Option<Strategy>
+    ensures { IfSome result (NamesStrategy name.now) }
+{
+    match name {
+        "list" => Some(Strategy::List),
+        "tree" => Some(Strategy::Tree),
+        "frag" => Some(Strategy::Frag),
+        "auto" => Some(Strategy::Auto),
+        _ => None,
+    }
+}
+
+/// The fill rule of that name.
+fn fill_rule(name: &str) -> Option<FillRule>
+    ensures { IfSome result (NamesFillRule name.now) }
+{
+    match name {
+        "evenodd" => Some(FillRule::EvenOdd),
+        "nonzero" => Some(FillRule::NonZero),
+        "positive" => Some(FillRule::Positive),
+        "negative" => Some(FillRule::Negative),
+        _ => None,
+    }
+}
+
+/// The rule of that name. The name `all` asks for a graph without a rule.
+fn rule(name: &str) -> Option<Option<OverlayRule>>
+    ensures { IfSome result (NamesRule name.now) }
+{
+    let rule = match name {
+        "all" => return Some(None),
+        "subject" => OverlayRule::Subject,
+        "clip" => OverlayRule::Clip,
+        "intersect" => OverlayRule::Intersect,
+        "union" => OverlayRule::Union,
+        "difference" => OverlayRule::Difference,
+        "inverse-difference" => OverlayRule::InverseDifference,
+        "xor" => OverlayRule::Xor,
+        _ => return None,
+    };
+    Some(Some(rule))
+}
+
 /// The settings that words have chosen so far.
 #[derive(Clone, Copy)]
 struct Choices {
@@ -92,7 +113,7 @@ struct Choices {
     strategy: Option<Strategy>,
     precision: Option<Precision>,
     fill_rule: Option<FillRule>,
-    links: Option<Links>,
+    rule: Option<Option<OverlayRule>>,
     snap_limit: Option<u32>,
     radius: Option<SquaredRadius>,
 }
@@ -103,7 +124,7 @@ impl Choices {
         strategy: None,
         precision: None,
         fill_rule: None,
-        links: None,
+        rule: None,
         snap_limit: None,
         radius: None,
     };
@@ -111,7 +132,10 @@ impl Choices {
     /// Takes one word of the form `name=value`.
     fn read(&mut self, word: &str) -> Result<(), Stop>
         ensures engine { OnOk result (TakesWord (codes "engine") NamesEngine word.now self.old.engine self.new.engine) }
+        ensures strategy { OnOk result (TakesWord (codes "strategy") NamesStrategy word.now self.old.strategy self.new.strategy) }
         ensures precision { OnOk result (TakesWord (codes "precision") NamesPrecision word.now self.old.precision self.new.precision) }
+        ensures fill { OnOk result (TakesWord (codes "fill") NamesFillRule word.now self.old.fill_rule self.new.fill_rule) }
+        ensures rule { OnOk result (TakesWord (codes "rule") NamesRule word.now self.old.rule self.new.rule) }
         ensures limit { OnOk result (TakesWord (codes "limit") WritesLimit word.now self.old.snap_limit self.new.snap_limit) }
         ensures radius { OnOk result (TakesWord (codes "radius") (λ value radius. WritesSquare value radius.squared) word.now self.old.radius self.new.radius) }
         ensures usage { IfErr result (λ stop. stop ≡ Stop.Usage) }
@@ -119,10 +143,10 @@ impl Choices {
         let (name, value) = name_and_value(word).ok_or(Stop::Usage)?;
         match name {
             "engine" => choose(&mut self.engine, engine(value)),
-            "strategy" => choose(&mut self.strategy, named(&STRATEGIES, value)),
+            "strategy" => choose(&mut self.strategy, strategy(value)),
             "precision" => choose(&mut self.precision, precision(value)),
-            "fill" => choose(&mut self.fill_rule, named(&FILL_RULES, value)),
-            "rule" => choose(&mut self.links, named(&LINKS, value)),
+            "fill" => choose(&mut self.fill_rule, fill_rule(value)),
+            "rule" => choose(&mut self.rule, rule(value)),
             "limit" => choose(&mut self.snap_limit, snap_limit(value)),
             "radius" => choose(&mut self.radius, radius(value)),
             _ => Err(Stop::Usage),
@@ -132,7 +156,10 @@ impl Choices {
     /// What was chosen, and else what stands there.
     fn settings(&self) -> Settings
         ensures engine { result.engine ≡ unwrap_or self.now.engine Engine.I32 }
+        ensures strategy { result.strategy ≡ unwrap_or self.now.strategy Strategy.Auto }
         ensures precision { result.precision ≡ unwrap_or self.now.precision (precision_of 0 1) }
+        ensures fill { result.fill_rule ≡ unwrap_or self.now.fill_rule FillRule.NonZero }
+        ensures rule { result.rule ≡ unwrap_or self.now.rule None }
         ensures limit { result.snap_limit ≡ unwrap_or self.now.snap_limit 256 }
         ensures radius { result.radius.squared ≡ option_map_or (λ radius. radius.squared) self.now.radius (pos 1) }
     {
@@ -141,7 +168,7 @@ impl Choices {
             strategy: self.strategy.unwrap_or(Strategy::Auto),
             precision: self.precision.unwrap_or(Precision::HIGH),
             fill_rule: self.fill_rule.unwrap_or(FillRule::NonZero),
-            links: self.links.unwrap_or(Links::All),
+            rule: self.rule.unwrap_or(None),
             snap_limit: self.snap_limit.unwrap_or(256),
             radius: self.radius.unwrap_or(SquaredRadius { squared: 1 }),
         }
@@ -160,14 +187,6 @@ fn choose<T: Copy>(slot: &mut Option<T>, value: Option<T>) -> Result<(), Stop>
     }
     *slot = value;
     Ok(())
-}
-
-/// The value that the table gives to a name.
-fn named<T: Copy>(table: &[(&str, T)], name: &str) -> Option<T> {
-    table
-        .iter()
-        .find(|(known, _)| *known == name)
-        .map(|(_, value)| *value)
 }
 
 /// A precision by its name, or as `START,STEP`.
@@ -229,7 +248,7 @@ mod tests {
             progression: 1,
         },
         fill_rule: FillRule::NonZero,
-        links: Links::All,
+        rule: None,
         snap_limit: 256,
         radius: SquaredRadius { squared: 1 },
     };
@@ -267,18 +286,18 @@ mod tests {
         ("fill=negative", FillRule::Negative),
     ];
 
-    const RULE_WORDS: [(&str, Links); 8] = [
-        ("rule=subject", Links::Of(OverlayRule::Subject)),
-        ("rule=clip", Links::Of(OverlayRule::Clip)),
-        ("rule=intersect", Links::Of(OverlayRule::Intersect)),
-        ("rule=union", Links::Of(OverlayRule::Union)),
-        ("rule=difference", Links::Of(OverlayRule::Difference)),
+    const RULE_WORDS: [(&str, Option<OverlayRule>); 8] = [
+        ("rule=subject", Some(OverlayRule::Subject)),
+        ("rule=clip", Some(OverlayRule::Clip)),
+        ("rule=intersect", Some(OverlayRule::Intersect)),
+        ("rule=union", Some(OverlayRule::Union)),
+        ("rule=difference", Some(OverlayRule::Difference)),
         (
             "rule=inverse-difference",
-            Links::Of(OverlayRule::InverseDifference),
+            Some(OverlayRule::InverseDifference),
         ),
-        ("rule=xor", Links::Of(OverlayRule::Xor)),
-        ("rule=all", Links::All),
+        ("rule=xor", Some(OverlayRule::Xor)),
+        ("rule=all", None),
     ];
 
     const LIMIT_WORDS: [(&str, u32); 6] = [
@@ -358,8 +377,8 @@ mod tests {
                 })
             );
         }
-        for (word, links) in RULE_WORDS {
-            assert_eq!(rt; chosen(word), Ok(Settings { links, ..UNCHOSEN }));
+        for (word, rule) in RULE_WORDS {
+            assert_eq!(rt; chosen(word), Ok(Settings { rule, ..UNCHOSEN }));
         }
         for (word, snap_limit) in LIMIT_WORDS {
             assert_eq!(rt;
@@ -381,6 +400,7 @@ mod tests {
             ("join", Command::Join),
             ("cross", Command::Cross),
             ("split", Command::Split),
+            ("graph", Command::Graph),
         ] {
             let words = [String::from_str(rt.alloc(), name)?];
             assert_eq!(rt; read_words(&words), Ok((command, UNCHOSEN)));

@@ -24,4 +24,5 @@ pub mod Radius
 pub mod HooksOf
 pub mod SegmentOf
 pub mod Rules
+pub mod RuleNames
 pub mod Laws

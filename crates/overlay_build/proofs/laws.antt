@@ -1,5 +1,4 @@
 -- The laws of the definitions, as lemmas that proofs here and in the crates above cite.
-pub mod Crossings
 pub mod WeightSums
 pub mod BalancedSums
 pub mod Heights
@@ -9,10 +8,10 @@ pub mod Parity
 pub mod Chains
 pub mod AlongSegments
 pub mod Members
-pub mod Nodes
 pub mod LiveSums
 pub mod Below
 pub mod Supports
+pub mod Nodes
 pub mod Sides
 pub mod Vertices
 pub mod Uprights
@@ -28,3 +27,17 @@ pub mod Visits
 pub mod Handling
 pub mod SweepStates
 pub mod Arrangements
+pub mod Indexes
+pub mod GraphNodes
+pub mod GraphLaws
+pub mod GraphRuns
+pub mod FillSides
+pub mod GraphExact
+pub mod EvenNodes
+pub mod GraphValid
+pub mod NodeLists
+pub mod StoredFills
+pub mod KeptLinks
+pub mod NodeSteps
+pub mod ConnectedLinks
+pub mod BuiltGraphs

@@ -1,10 +1,16 @@
 -- Laws over the definitions: statements that contracts name.
-use Rattle.std.specs.Prelude.{◌≡◌, IsTrue, List, All}
-use Rattle.overlay_base.specs.Segments.{WholeSegment, is_map}
+use Rattle.std.specs.Prelude.{◌≡◌, Bool, true, IsTrue, ℕ, List, All, map, filter}
+use Rattle.overlay_base.specs.Windings.{Winding}
+use Rattle.overlay_base.specs.Segments.{WholeSegment, is_map, are_polygons}
+use Rattle.overlay_base.specs.Rules.{keeps_fill}
+use Rattle.overlay_base.specs.declared.overlay_core.fill_rule.FillRule.{FillRule}
 use Rattle.overlay_base.specs.Planar.{is_planar}
 use Rattle.overlay_base.specs.Balance.{IsBalanced}
 use Rattle.overlay_build.specs.ColumnWindings.{IsSameAlong, side_bottom, side_top}
 use Rattle.overlay_build.specs.ChainWindings.{bottom, top}
+use Rattle.overlay_build.specs.Fill.{fill_byte}
+use Rattle.overlay_build.specs.Graph.{Filled, Link, graph_by, has_even_nodes, is_valid_graph}
+use Rattle.overlay_build.specs.Sides.{tells_apart, overlay_graph}
 
 -- The windings that a sweep finds are those of the columns: below and above each segment the same all along it, and beside a vertical one those to its right and left.
 abbrev pub HaveColumnWindings : List WholeSegment → Type 0
@@ -14,3 +20,35 @@ HaveColumnWindings segments =
 -- with balance the chain's windings are those of the columns
 abbrev pub ChainsAreColumns : Type 0
 ChainsAreColumns = (segments : List WholeSegment) → IsTrue (is_map segments) → IsTrue (is_planar segments) → IsBalanced segments → HaveColumnWindings segments
+
+-- a fill without a mask is kept where the windings' values differ
+abbrev pub FillsTellSides : Type 0
+FillsTellSides = (rule : Bool → Bool → Bool) (fill_rule : FillRule) (b t : Winding) → keeps_fill rule (fill_byte fill_rule b t 0) ≡ tells_apart rule fill_rule b t
+
+-- with balance evenly many links meet at each node of a truth function's graph
+abbrev pub NodesAreEven : Type 0
+NodesAreEven =
+    (fill_rule : FillRule) (rule : Bool → Bool → Bool) (segments : List WholeSegment) → IsTrue (is_map segments) → IsTrue (are_polygons segments) → IsTrue (is_planar segments) → IsBalanced segments →
+    IsTrue (has_even_nodes (graph_by (keeps_fill rule) fill_rule segments))
+
+-- so its graph is valid
+abbrev pub GraphsAreValid : Type 0
+GraphsAreValid =
+    (fill_rule : FillRule) (rule : Bool → Bool → Bool) (segments : List WholeSegment) → IsTrue (is_map segments) → IsTrue (are_polygons segments) → IsTrue (is_planar segments) → IsBalanced segments →
+    IsTrue (is_valid_graph (graph_by (keeps_fill rule) fill_rule segments))
+
+-- and its graph is that of the segments whose sides it tells apart
+abbrev pub GraphsAreExact : Type 0
+GraphsAreExact =
+    (fill_rule : FillRule) (rule : Bool → Bool → Bool) (segments : List WholeSegment) → IsTrue (is_map segments) → IsTrue (are_polygons segments) → IsTrue (is_planar segments) → IsBalanced segments →
+    graph_by (keeps_fill rule) fill_rule segments ≡ overlay_graph rule fill_rule segments
+
+-- a link without the numbers of its nodes
+abbrev pub without_nodes : Link → Filled
+without_nodes l = record { pair = l.pair; fill = l.fill }
+
+-- The links that a test keeps of the graph of all segments are, but for the numbers of their nodes, those of the test's graph, in the same order.
+abbrev pub FilterGivesLinks : Type 0
+FilterGivesLinks =
+    (keeps : ℕ → Bool) (fill_rule : FillRule) (segments : List WholeSegment) →
+    map without_nodes (filter (λ l. keeps l.fill) (graph_by (λ f. true) fill_rule segments).links) ≡ map without_nodes (graph_by keeps fill_rule segments).links

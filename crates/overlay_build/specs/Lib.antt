@@ -7,3 +7,10 @@ pub mod Live
 pub mod VisitOf
 pub mod EntryOf
 pub mod NodeOf
+pub mod WayOf
+pub mod Graph
+pub mod Sides
+pub mod GraphOf
+pub mod NodeIndexes
+pub mod LinkEnds
+pub mod RuleOf

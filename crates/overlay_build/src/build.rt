@@ -1,14 +1,25 @@
-// The sweep over an arrangement: what lies on the two sides of each segment.
+// The sweep over an arrangement, which tells what lies on the two sides of each segment, and the graphs of kept segments.
 
 pub mod boolean;
+pub mod builder;
 pub mod fill_handler;
 pub mod fill_strategy;
+mod fills;
 pub mod filter;
+pub mod graph;
+pub mod graph_node;
+#[cfg(test)]
+mod graph_tests;
+mod kept_links;
 pub mod laws;
+mod link_ends;
+pub mod link_filter;
 pub mod live_segments;
 mod node;
+mod nodes;
 pub mod scan_list;
 pub mod sweep;
 #[cfg(test)]
 mod tests;
 mod visits;
+mod way;

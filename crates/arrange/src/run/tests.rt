@@ -156,6 +156,94 @@ seg 0 0 4 0 1 0
 seg 0 1 4 1 1 0
 flag false
 passes 1
+# A graph has a line for each link, then for each node, then whether it is valid. A lone line ends in two loose ends.
+$graph|fill=evenodd
+S 0 0 4 0
+>0
+link 0 0 4 0 1 0 1
+node 0 0 cross 0
+node 4 0 cross 0
+valid false
+#
+$graph
+>0
+valid true
+#
+$graph|rule=clip
+S 0 0 4 0
+>0
+valid true
+# The graph is that of the arrangement: the two lines cross.
+$graph|strategy=list|engine=i16
+S -2 0 2 0
+C 0 2 0 -2
+>0
+link -2 0 0 0 1 0 2
+link 0 -2 0 0 4 1 2
+link 0 0 0 2 7 2 3
+link 0 0 2 0 1 2 4
+node -2 0 cross 0
+node 0 -2 cross 1
+node 0 0 cross 2 3 0 1
+node 0 2 cross 2
+node 2 0 cross 3
+valid false
+# The split has the precision and the limit that are asked for.
+$graph|precision=3,1
+S 0 0 5 5
+S 0 3 5 -2
+>0
+link 0 0 0 3 1 0 1
+link 0 3 5 -2 1 1 2
+link 0 3 5 5 3 1 3
+node 0 0 cross 0
+node 0 3 cross 1 2 0
+node 5 -2 cross 1
+node 5 5 cross 2
+valid false
+#
+$graph|limit=0
+S -1 1 2 -2
+S 0 -1 1 0
+>0
+link -1 1 1 0 1 0 2
+link 0 -1 1 0 1 1 2
+link 1 0 2 -2 1 2 3
+node -1 1 cross 0
+node 0 -1 cross 1
+node 1 0 cross 2 0 1
+node 2 -2 cross 2
+valid false
+# A square runs counterclockwise.
+$graph|rule=subject|fill=positive
+S 0 0 4 0
+S 4 0 4 4
+S 4 4 0 4
+S 0 4 0 0
+>0
+link 0 0 0 4 2 0 1
+link 0 0 4 0 1 0 2
+link 0 4 4 4 2 1 3
+link 4 0 4 4 1 2 3
+node 0 0 bridge 0 1
+node 0 4 bridge 2 0
+node 4 0 bridge 3 1
+node 4 4 bridge 2 3
+valid true
+#
+$graph|rule=subject|fill=negative
+S 0 0 4 0
+S 4 0 4 4
+S 4 4 0 4
+S 0 4 0 0
+>0
+valid true
+#
+$graph|rule=xor
+S 0 0 4 0
+C 7 7 7 7
+>3
+line 2: equal ends
 # A crossing is marked at the snapping point, or at an end within the radius.
 $cross|radius=4
 S 0 0 5 5
@@ -345,6 +433,73 @@ seg 1 -10 1 10 0 1
 flag false
 ";
 
+/// A square of the subject, and one of the clip that covers its upper right corner.
+const TWO_SQUARES: &str = "S 0 0 4 0
+S 4 0 4 4
+S 4 4 0 4
+S 0 4 0 0
+C 2 2 6 2
+C 6 2 6 6
+C 6 6 2 6
+C 2 6 2 2
+";
+
+/// The graph of what both squares cover.
+const COMMON_PART: &str = "\
+link 2 2 2 4 11 0 1
+link 2 2 4 2 7 0 2
+link 2 4 4 4 14 1 3
+link 4 2 4 4 13 2 3
+node 2 2 bridge 0 1
+node 2 4 bridge 2 0
+node 4 2 bridge 3 1
+node 4 4 bridge 2 3
+valid true
+";
+
+/// The links of the graph of all segments, but for the numbers of their nodes.
+const LINKS: [&str; 12] = [
+    "link 0 0 0 4 2 ",
+    "link 0 0 4 0 1 ",
+    "link 0 4 2 4 2 ",
+    "link 2 2 2 4 11 ",
+    "link 2 2 4 2 7 ",
+    "link 2 4 2 6 8 ",
+    "link 2 4 4 4 14 ",
+    "link 2 6 6 6 8 ",
+    "link 4 0 4 2 1 ",
+    "link 4 2 4 4 13 ",
+    "link 4 2 6 2 4 ",
+    "link 6 2 6 6 4 ",
+];
+
+/// The nodes of that graph, and whether it is valid.
+const NODES: &str = "\
+node 0 0 bridge 0 1
+node 0 4 bridge 2 0
+node 2 2 bridge 3 4
+node 2 4 cross 5 6 2 3
+node 2 6 bridge 7 5
+node 4 0 bridge 8 1
+node 4 2 cross 9 10 4 8
+node 4 4 bridge 6 9
+node 6 2 bridge 11 10
+node 6 6 bridge 7 11
+valid true
+";
+
+/// Which of these links each rule keeps.
+const KEPT: [(&str, &[usize]); 8] = [
+    ("subject", &[0, 1, 2, 6, 8, 9]),
+    ("clip", &[3, 4, 5, 7, 10, 11]),
+    ("intersect", &[3, 4, 6, 9]),
+    ("union", &[0, 1, 2, 5, 7, 8, 10, 11]),
+    ("difference", &[0, 1, 2, 3, 4, 8]),
+    ("inverse-difference", &[5, 6, 7, 9, 10, 11]),
+    ("xor", &[0, 1, 2, 3, 4, 5, 6, 7, 8, 9, 10, 11]),
+    ("all", &[0, 1, 2, 3, 4, 5, 6, 7, 8, 9, 10, 11]),
+];
+
 /// Lines that are no letter and four numbers, with spaces between them.
 const FORM_FAULTS: &str = "S 0 0 1 1\r\x20
 S 0 0 1 1\r\r
@@ -444,7 +599,9 @@ join|radius=-1
 join|radius=+1
 split|limit=
 split|precision=high|precision=low
-graph|rule=intersect";
+graph|rule=
+graph|rule=intersect|rule=all
+graph|fill=Nonzero";
 
 /// Runs the program over words with bars between them.
 fn run_words<R: Read, W: Write, E: Write>(
@@ -497,7 +654,61 @@ fn worked_runs(rt: HostRuntime) -> Result<(), Fail> {
         check_worked(&rt, run).ok_or("no run")??;
         runs = runs.saturating_add(1);
     }
-    assert_eq!(rt; runs, 48);
+    assert_eq!(rt; runs, 57);
+    Ok(())
+}
+
+#[test]
+fn graphs(rt: HostRuntime) -> Result<(), Fail> {
+    for engine in ["i16", "i32"] {
+        for strategy in ["list", "tree", "frag", "auto"] {
+            let words = format!(in rt.alloc();
+                "graph|rule=intersect|strategy={strategy}|engine={engine}"
+            )?;
+            check(&rt, words.as_str(), TWO_SQUARES.as_bytes(), 0, COMMON_PART)?;
+        }
+    }
+    Ok(())
+}
+
+fn check_kept<H: Abort + AllocGlobal>(
+    rt: &H,
+    rule: &str,
+    kept: &[usize],
+) -> Result<(), AllocError> {
+    let words = format!(in rt.alloc(); "graph|rule={rule}")?;
+    let mut input = TWO_SQUARES.as_bytes();
+    let mut output = Vec::new(rt.alloc());
+    let mut faults = Vec::new(rt.alloc());
+    let answer = run_words(
+        rt.alloc(),
+        words.as_str(),
+        &mut input,
+        &mut output,
+        &mut faults,
+    )?;
+    assert_eq!(rt; answer, 0, "{rule}");
+    if rule == "all" {
+        assert!(rt; output.ends_with(NODES.as_bytes()));
+    }
+    let mut lines = output.split(|byte| *byte == b'\n');
+    for index in kept {
+        assert!(rt; *index < LINKS.len());
+        let line = lines.next().unwrap_or(b"");
+        assert!(rt;
+            line.starts_with(LINKS[*index].as_bytes()),
+            "{rule} {index}"
+        );
+    }
+    assert!(rt; lines.next().unwrap_or(b"").starts_with(b"node "), "{rule}");
+    Ok(())
+}
+
+#[test]
+fn kept_links(rt: HostRuntime) -> Result<(), Fail> {
+    for (rule, kept) in KEPT {
+        check_kept(&rt, rule, kept)?;
+    }
     Ok(())
 }
 

@@ -1,11 +1,11 @@
 -- Pairs that are apart: the test as code makes it, pairs whose boxes are apart, and every two pairs of a list.
-use Rattle.std.proofs.Common.{◌≡◌, refl, sym, ap, ap₂, ◌∙◌, ◌⊎◌, inl, inr, arith, ℕ, zero, suc, ◌+◌, ◌<◌, ◌≤◌, Bool, true, false, not, ◌&&◌, ◌||◌, IsTrue, List, [], ◌∷◌, map, drop, length, get_or}
+use Rattle.std.proofs.Common.{◌≡◌, refl, sym, ap, ap₂, ◌∙◌, ◌⊎◌, inl, inr, arith, ℕ, zero, suc, ◌+◌, ◌<◌, ◌≤◌, Bool, true, false, not, ◌&&◌, ◌||◌, IsTrue, IsFalse, List, [], ◌∷◌, map, drop, length, get_or}
 use Rattle.std.specs.Prelude.{ℤ, pos, ◌+ℤ◌, ◌-ℤ◌, ◌*ℤ◌, neg_ℤ, ◌≤ℤ◌, ◌<ℤ◌, int_lt, if◌then◌else◌}
 use Rattle.std.specs.Int.{int_min, int_max}
 use Rattle.std.specs.Ordering.{int_eq, is_lt}
 use Rattle.std.specs.List.{list_all, AllByRecursion}
 use Rattle.std.proofs.lemmas.Int.{ints, clamps}
-use Rattle.std.proofs.lemmas.Bool.{not-true, and_parts, and_from, or_cases, or_from, both_ways, false_from_ne_true}
+use Rattle.std.proofs.lemmas.Bool.{not-true, and_parts, and_from, or_cases, or_parts, or_from, both_ways, false_from_ne_true}
 use Rattle.overlay_base.specs.Points.{Point, Pair, pair_cmp, pair_lt, point_lt, turn, is_in_box, lies_on, is_ordered, is_strictly_inside, is_strictly_sorted}
 use Rattle.overlay_base.specs.Segments.{WholeSegment, pairs, is_map}
 use Rattle.overlay_base.specs.SegmentOf.{segments_of, ends_of}
@@ -125,6 +125,9 @@ Opposite f g = ((f <ℤ pos 0) × (pos 0 <ℤ g)) ⊎ ((pos 0 <ℤ f) × (g <ℤ
 pub opposite : (f g : ℤ) → IsTrue (have_opposite_signs f g) → Opposite f g
 opposite f g h = grind (arith, ints)
 
+pub from_opposite : (f g : ℤ) → Opposite f g → IsTrue (have_opposite_signs f g)
+from_opposite f g h = grind (arith, ints)
+
 times_zero : (m z : ℤ) → z ≡ pos 0 → m *ℤ z ≡ pos 0
 times_zero m z h = rw h (omega (arith, ints))
 
@@ -162,6 +165,10 @@ pub do_cross_parts : (s t : Pair) → IsTrue (do_cross s t) → Opposite (turn s
 unfolding do_cross separates
 do_cross_parts s t h = let parts = and_parts (have_opposite_signs (turn s.a s.b t.a) (turn s.a s.b t.b)) (have_opposite_signs (turn t.a t.b s.a) (turn t.a t.b s.b)) h in (opposite _ _ parts.0, opposite _ _ parts.1)
 
+pub do_cross_from : (s t : Pair) → Opposite (turn s.a s.b t.a) (turn s.a s.b t.b) → Opposite (turn t.a t.b s.a) (turn t.a t.b s.b) → IsTrue (do_cross s t)
+unfolding do_cross separates
+do_cross_from s t h k = and_from (have_opposite_signs (turn s.a s.b t.a) (turn s.a s.b t.b)) (have_opposite_signs (turn t.a t.b s.a) (turn t.a t.b s.b)) (from_opposite _ _ h) (from_opposite _ _ k)
+
 no_cross_x : (s t : Pair) (m : ℤ) → s.a.x ≤ℤ m → s.b.x ≤ℤ m → m <ℤ t.a.x → m <ℤ t.b.x → do_cross s t ≡ false
 no_cross_x s t m h1 h2 h3 h4 = false_from_ne_true _ (λ c. let o = do_cross_parts s t c in
     no_mean m s.a.x s.b.x t.a.x t.b.x _ _ _ _ h1 h2 h3 h4 o.1 o.0 (mean_of_x s.a s.b t.a t.b) (same_divisor s.a s.b t.a t.b))
@@ -187,6 +194,10 @@ are_apart_parts s t h =
     let outer = and_parts _ _ (sym (are_apart_is s t) ∙ h) in
     let inner = and_parts _ _ outer.0 in
     (not-true _ inner.0, not-true _ inner.1, not-true _ outer.1)
+
+pub no_end_inside_parts : (s t : Pair) → IsFalse (has_end_inside s t) → IsFalse (is_strictly_inside s t.a) × IsFalse (is_strictly_inside s t.b)
+unfolding has_end_inside
+no_end_inside_parts s t h = or_parts (is_strictly_inside s t.a) (is_strictly_inside s t.b) h
 
 in_box_x : (s : Pair) (p : Point) → IsTrue (is_in_box s p) → (int_min s.a.x s.b.x ≤ℤ p.x) × (p.x ≤ℤ int_max s.a.x s.b.x)
 unfolding is_in_box

@@ -17,6 +17,11 @@ pub enum FillRule {
 }
 
 impl fmt::Display for FillRule {
+    ghost use Rattle.std.specs.Prelude.{Some};
+    ghost use Rattle.overlay_base.specs.RuleNames.{fill_rule_name};
+
+    ghost output = { λ rule. Some (fill_rule_name rule) };
+
     fn fmt<W: fmt::Write>(&self, f: &mut fmt::Formatter<W>) -> fmt::Result {
         f.write_str(match self {
             FillRule::EvenOdd => "EvenOdd",

@@ -46,6 +46,11 @@ impl OverlayRule {
 }
 
 impl fmt::Display for OverlayRule {
+    ghost use Rattle.std.specs.Prelude.{Some};
+    ghost use Rattle.overlay_base.specs.RuleNames.{overlay_rule_name};
+
+    ghost output = { λ rule. Some (overlay_rule_name rule) };
+
     fn fmt<W: fmt::Write>(&self, f: &mut fmt::Formatter<W>) -> fmt::Result {
         f.write_str(match self {
             OverlayRule::Subject => "Subject",

@@ -14,10 +14,10 @@ use Rattle.overlay_build.specs.ChainWindings.{bottom, top, tops_leave_range}
 use Rattle.overlay_build.specs.Sweep.{fill_of, visits}
 use Rattle.overlay_build.proofs.examples.Computing.{computing}
 
-abbrev pair : ℤ → ℤ → ℤ → ℤ → Pair
+abbrev pub pair : ℤ → ℤ → ℤ → ℤ → Pair
 pair ax ay bx by = record { a = record { x = ax; y = ay }; b = record { x = bx; y = by } }
 
-abbrev seg : ℤ → ℤ → ℤ → ℤ → ℤ → ℤ → WholeSegment
+abbrev pub seg : ℤ → ℤ → ℤ → ℤ → ℤ → ℤ → WholeSegment
 seg ax ay bx by subj clip = record { pair = pair ax ay bx by; count = record { subj = subj; clip = clip; mask = 0 } }
 
 abbrev fills : FillRule → List WholeSegment → List ℕ
@@ -39,7 +39,7 @@ verticals_agree segments =
     list_all (λ s. not (is_vertical s.pair) || (winding_eq (right_winding segments s) (bottom segments s) && winding_eq (left_winding segments s) (top segments s))) segments
 
 -- the arrangement of a subject square with corners (0, 0) and (4, 4) and a clip square with corners (2, 2) and (6, 6)
-abbrev twelve : List WholeSegment
+abbrev pub twelve : List WholeSegment
 twelve = seg (pos 0) (pos 0) (pos 0) (pos 4) (negsuc 0) (pos 0) ∷ seg (pos 0) (pos 0) (pos 4) (pos 0) (pos 1) (pos 0) ∷ seg (pos 0) (pos 4) (pos 2) (pos 4) (negsuc 0) (pos 0) ∷ seg (pos 2) (pos 2) (pos 2) (pos 4) (pos 0) (negsuc 0) ∷ seg (pos 2) (pos 2) (pos 4) (pos 2) (pos 0) (pos 1) ∷ seg (pos 2) (pos 4) (pos 2) (pos 6) (pos 0) (negsuc 0) ∷ seg (pos 2) (pos 4) (pos 4) (pos 4) (negsuc 0) (pos 0) ∷ seg (pos 2) (pos 6) (pos 6) (pos 6) (pos 0) (negsuc 0) ∷ seg (pos 4) (pos 0) (pos 4) (pos 2) (pos 1) (pos 0) ∷ seg (pos 4) (pos 2) (pos 4) (pos 4) (pos 1) (pos 0) ∷ seg (pos 4) (pos 2) (pos 6) (pos 2) (pos 0) (pos 1) ∷ seg (pos 6) (pos 2) (pos 6) (pos 6) (pos 0) (pos 1) ∷ []
 
 -- a clockwise subject square

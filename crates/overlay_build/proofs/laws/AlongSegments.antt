@@ -15,7 +15,7 @@ use Rattle.overlay_base.specs.Meeting.{do_cross, are_apart}
 use Rattle.overlay_build.specs.ColumnWindings.{spans, is_below_in_column, column_bottom, column_top, side_bottom, side_top, IsSameAlong}
 use Rattle.overlay_base.proofs.laws.Polynomials.{as_D, diffs, D-eq, mul-pos, mul-neg, cancel-zero}
 use Rattle.overlay_base.proofs.laws.Points.{inside_from_order}
-use Rattle.overlay_build.proofs.laws.Crossings.{do_cross_from}
+use Rattle.overlay_base.proofs.laws.Apart.{do_cross_from}
 use Rattle.overlay_build.proofs.laws.WeightSums.{when, sum_of}
 use Rattle.overlay_build.proofs.laws.BalancedSums.{flow, subj_flow-balanced, clip_flow-balanced}
 use Rattle.overlay_build.proofs.laws.ColumnLines.{lt-test, lt-test_false, lt-tested, spans_parts, spans-true, point_lt-cases, IsLowSide, leaves_upward, across_line-balanced, column_weights_are}

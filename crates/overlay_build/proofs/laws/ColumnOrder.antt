@@ -10,7 +10,7 @@ use Rattle.overlay_build.specs.ColumnWindings.{spans, is_below_in_column}
 use Rattle.overlay_base.specs.Rules.{differ}
 use Rattle.overlay_base.proofs.laws.Polynomials.{mul-neg, cancel-pos, fractions-trans, fractions-trans_lt, from_difference-nonneg, difference-nonneg, from_difference-pos, difference-pos, cancel-zero, cancel-neg, mul-nonneg_both}
 use Rattle.overlay_base.proofs.laws.Points.{same_point, same_pair, at_a, at_b, inside_from_order}
-use Rattle.overlay_build.proofs.laws.Crossings.{do_cross_from, do_cross_swap, are_apart_parts, no_end_inside_parts}
+use Rattle.overlay_base.proofs.laws.Apart.{do_cross_back, do_cross_from, are_apart_parts, no_end_inside_parts}
 use Rattle.overlay_build.proofs.laws.ColumnLines.{le-test, le-test_false, lt-test, lt-test_false, lt-tested, le-tested, spans_parts}
 use Rattle.overlay_build.proofs.laws.Heights.{gap, slope, gap_back, gap_same, gap_along, gap_at_start, gap_at_end, gap_at_other_start, gap_at_other_end, is_below_is}
 
@@ -193,7 +193,7 @@ low_compared u v u' v' eu ev down up level =
 
 pub apart_back : (s t : Pair) → IsApart s t → IsApart t s
 apart_back s t apart = record {
-  cross = λ h. apart.cross (do_cross_swap t s h);
+  cross = λ h. apart.cross (do_cross_back s t ∙ h);
   a_inside = apart.a_around;
   b_inside = apart.b_around;
   a_around = apart.a_inside;

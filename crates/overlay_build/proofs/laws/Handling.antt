@@ -1,5 +1,7 @@
 -- A handler over a list of visits, part by part.
-use Rattle.std.proofs.Common.{◌≡◌, ap, refl, ◌∙◌}
+use Rattle.std.proofs.Common.{◌≡◌, ap, refl, ◌∙◌, Result, Ok, Err}
+use Rattle.std.specs.Prelude.{IfErr}
+use Rattle.std.specs.Result.{IsErrAnd}
 use Rattle.std.specs.Prelude.{true, false, not, List, [], ◌∷◌, ◌++◌, Option, Some, None}
 use Rattle.std.specs.List.{AllByRecursion}
 use Rattle.std.proofs.lemmas.Bool.{or_right}
@@ -7,6 +9,11 @@ use Rattle.overlay_base.specs.Windings.{is_count_in_range}
 use Rattle.overlay_base.specs.Segments.{WholeSegment}
 use Rattle.overlay_build.specs.ChainWindings.{top}
 use Rattle.overlay_build.specs.Sweep.{Visit, whole_of, handled, visited, visits_leave_range}
+
+-- what is said of the fault that a call passes on
+pub refused_as : {A E : Type 0} (r : Result A E) (P Q : E → Type 0) → IsErrAnd r P → ((e : E) → P e → Q e) → IfErr r Q
+refused_as (Ok x) P Q h f = tt
+refused_as (Err e) P Q h f = f e h
 
 module _ {D H O : Type 0} (handle : H → Visit D → H × Option O) (finalize : H → O) where
   -- the handler goes over these visits, answers at none of them, and is another one then

@@ -5,7 +5,7 @@ use Rattle.std.specs.Ordering.{is_lt, is_le, ordering_then}
 use Rattle.std.proofs.Common.{Less, Equal, Greater}
 use Rattle.std.specs.declared.cmp.Ordering.{Ordering}
 use Rattle.std.proofs.lemmas.Int.{ints, by_lt_z}
-use Rattle.std.proofs.lemmas.Bool.{and_parts, and_from, and_left, and_right, or_left, or_right, or_from, or_cases, both_ways}
+use Rattle.std.proofs.lemmas.Bool.{and_parts, and_from, and_left, and_right, or_left, or_right, or_from, or_cases, both_ways, cases_Bool}
 use Rattle.overlay_base.specs.Points.{Point, Pair, turn, point_eq, point_lt, is_ordered}
 use Rattle.overlay_base.specs.Below.{width, scaled_height, height_cmp, angle_cmp}
 use Rattle.overlay_build.specs.ColumnWindings.{spans, is_below_in_column}
@@ -324,6 +324,28 @@ angle_less-trans u t s ou ot os h k =
     let a = slope_above u t h in
     let b = slope_above t s k in
     is_lt-angle_cmp u s ∙ lt-test (pos 0) (slope u s) (mean_up_strict (width t) (width s) (width u) (slope u s) (slope u t) (slope t s) (omega (arith, ints)) (width_nonneg s os) (omega (arith, ints)) (slope_mean u t s) (omega (arith, ints)) b)
+
+-- the same where neither is less, upright segments and all
+pub angle-chain : (r s t : Pair) → is_ordered r ≡ true → is_ordered s ≡ true → is_ordered t ≡ true → is_lt (angle_cmp r s) ≡ false → is_lt (angle_cmp s t) ≡ false → is_lt (angle_cmp r t) ≡ false
+angle-chain r s t or os ot h k =
+    let a = angle_up_to r s h in
+    let b = angle_up_to s t k in
+    elim (cases_Bool (is_lt (angle_cmp r t))) [
+      | inr e ↦ e
+      | inl e ↦ absurd (
+          let wr : pos 0 <ℤ width r = (let w = wide_from_angle r t or ot e in omega (arith, ints)) in
+          let c = slope_above r t e in
+          elim (point_lt-cases s.a s.b os) [
+            | inl w ↦
+                let ws : pos 0 <ℤ width s = omega (arith, ints) in
+                let m = mul-nonpos (width t) (slope r s) (width_nonneg t ot) a in
+                let n = mul-nonpos (width r) (slope s t) (omega (arith, ints)) b in
+                let mean = slope_mean r s t in
+                let d = cancel-nonpos (width s) (slope r t) ws (omega (arith, ints)) in
+                omega (arith, ints)
+            | inr up ↦ let d = slope_upright r s wr up.0 up.1 in omega (arith, ints)
+          ])
+    ]
 
 -- the two ways to be earlier
 pub earlier-cases : (u s : Pair) → is_earlier u s ≡ true → (point_lt u.a s.a ≡ true) ⊎ ((u.a ≡ s.a) × (is_lt (angle_cmp u s) ≡ true))

@@ -18,7 +18,7 @@ use Rattle.overlay_build.specs.ChainWindings.{directly_below, top, top_within, b
 use Rattle.overlay_build.specs.Fill.{fill_byte}
 use Rattle.overlay_build.specs.Sweep.{Visit, whole_of, visits, handled, visited, visits_leave_range, sum_below}
 use Rattle.overlay_build.specs.Live.{HoldSameFrom, AreFreeAt}
-use Rattle.overlay_build.specs.NodeOf.{WholeEnd, end_cmp, ends_between}
+use Rattle.overlay_build.specs.WayOf.{WholeWay, ways_between, by_angle}
 use Rattle.overlay_build.proofs.laws.Members.{In, In-map, IsArranged}
 use Rattle.overlay_build.proofs.laws.ChainSums.{top_is_sum}
 use Rattle.overlay_build.proofs.laws.NodeChains.{IsChain, AllByRecursion-In, node_is_chain}
@@ -27,7 +27,7 @@ use Rattle.overlay_build.proofs.laws.Boundaries.{IsRun, IsBoundary, below_begins
 use Rattle.overlay_build.proofs.laws.Tops.{by_option}
 use Rattle.overlay_build.proofs.laws.LiveSums.{In-append, HoldSameFrom-trans, HoldSameFrom-later, HoldSameFrom-cons, HoldSameFrom-same, HoldSameFrom-push}
 use Rattle.overlay_build.proofs.laws.Handling.{IsHandledTo, IsHandledTo-more, handled_after, handled_break, handled_end, in_range_at_break, in_range_at_end, leaves_range_at}
-use Rattle.overlay_build.proofs.laws.Visits.{visits_cut, listed, visits_before, visits_of_run, visits_after, wholes, visit_end, IsListed, is_listed, before_next, members_of_run, run_is_node, listed_in_run, early_visited, known_before, ends_of_visits}
+use Rattle.overlay_build.proofs.laws.Visits.{visits_cut, listed, visits_before, visits_of_run, visits_after, wholes, visit_way, IsListed, is_listed, before_next, members_of_run, run_is_node, listed_in_run, early_visited, known_before, ways_of_visits}
 
 -- ---- windings without masks
 
@@ -121,16 +121,16 @@ module _ {D H O : Type 0} (handle : H → Visit D → H × Option O) (finalize :
           swept = subst (λ vs. IsSwept vs p.x h left) (sym nil) (record { went = swept.went; tops = swept.tops; holds = HoldSameFrom-trans p.x left live (map (topped (without_data list)) (wholes (visits_before rule list arranged i))) same swept.holds });
         }
 
-    -- the visit of an end that was collected
-    pub at_place : {P : Type 0} (k : ℕ) (ends : List WholeEnd) → ends ≡ stably_sorted (end_cmp p) (ends_between (without_data list) i next) → k < length ends → (e : WholeEnd) → e ≡ get_or ends k e → ((v : Visit D) → IsPlace i next k p v → e.index ≡ v.index → P) → P
-    at_place k ends same h e at f =
-        let as_visits = same ∙ ends_of_visits rule list arranged i next p order run in
-        let within : k < length (visits_of_run rule list arranged i next) = subst (λ n. k < n) (ap length as_visits ∙ length-map (visits_of_run rule list arranged i next) visit_end) h in
+    -- the visit of a way that was collected
+    pub at_place : {P : Type 0} (k : ℕ) (ways : List WholeWay) → ways ≡ by_angle (ways_between (without_data list) i next) → k < length ways → (e : WholeWay) → e ≡ get_or ways k e → ((v : Visit D) → IsPlace i next k p v → e.index ≡ v.index → P) → P
+    at_place k ways same h e at f =
+        let as_visits = same ∙ ways_of_visits rule list arranged i next p order run in
+        let within : k < length (visits_of_run rule list arranged i next) = subst (λ n. k < n) (ap length as_visits ∙ length-map (visits_of_run rule list arranged i next) visit_way) h in
         cut_at k (visits_of_run rule list arranged i next) within (λ v here taken m found.
         let listed_here = AllByRecursion-In (λ v. In v (listed rule list arranged)) (visits_of_run rule list arranged i next) v (listed_in_run rule list arranged i next p order run) m in
         let member = AllByRecursion-In (λ v. In (whole_of v.segment) (without_data list) × (v.segment.pair.a ≡ p)) (visits_of_run rule list arranged i next) v (members_of_run rule list arranged i next p order run) m in
-        let end_is : e ≡ visit_end v = at ∙ ap (λ l. get_or l k e) as_visits ∙ get_or-map visit_end (visits_of_run rule list arranged i next) k v e within ∙ ap visit_end (found v) in
-        f v (record { here = here; taken = taken; is = is_listed rule (without_data list) list v listed_here; member = member.0; start = member.1 }) (ap (λ (z : WholeEnd). z.index) end_is))
+        let way_is : e ≡ visit_way v = at ∙ ap (λ l. get_or l k e) as_visits ∙ get_or-map visit_way (visits_of_run rule list arranged i next) k v e within ∙ ap visit_way (found v) in
+        f v (record { here = here; taken = taken; is = is_listed rule (without_data list) list v listed_here; member = member.0; start = member.1 }) (ap (λ (z : WholeWay). z.index) way_is))
 
     module _ (k : ℕ) (w : Winding) (h : H) (live : List WholeSegment) (v : Visit D) (at : IsPlace i next k p v) (state : IsInNode i next k w p.x h live) where
       chain_here : (bottom (without_data list) (whole_of v.segment) ≡ w) × IsChain (without_data list) (top (without_data list) (whole_of v.segment)) (wholes (drop (k + 1) (visits_of_run rule list arranged i next)))
@@ -322,17 +322,17 @@ module _ {D H O : Type 0} (handle : H → Visit D → H × Option O) (finalize :
       ap (λ l. visits_leave_range (without_data list) (visited handle h0 l)) (all_at_end index past)
       ∙ in_range_at_end handle finalize (without_data list) h0 h (visits_before rule list arranged index) state.swept.went state.swept.tops
 
-  -- the visit of an end of the code's node
-  pub amid_place : {X P : Type 0} (i next k : ℕ) (w : Winding) (h : H) (live : List WholeSegment) (may : ℤ → Type 0) → IsAmidNode i next k w h live may → (f : X → WholeEnd) (items : List X) → map f items ≡ stably_sorted (end_cmp (start_at (without_data list) i)) (ends_between (without_data list) i next) → k < length items → (x : X) → x ≡ get_or items k x →
+  -- the visit of a way of the code's node
+  pub amid_place : {X P : Type 0} (i next k : ℕ) (w : Winding) (h : H) (live : List WholeSegment) (may : ℤ → Type 0) → IsAmidNode i next k w h live may → (f : X → WholeWay) (items : List X) → map f items ≡ by_angle (ways_between (without_data list) i next) → k < length items → (x : X) → x ≡ get_or items k x →
       ((v : Visit D) → IsPlace i next k (start_at (without_data list) i) v → (f x).index ≡ v.index → P) → P
   amid_place i next k w h live may state f items same l x e g =
       at_place i next (start_at (without_data list) i) state.order state.run k (map f items) same (subst (λ n. k < n) (sym (length-map items f)) l) (f x) (ap f e ∙ sym (get_or-map f items k x (f x) l)) g
 
   -- an empty rest of a node
-  pub node_is_over : {X : Type 0} (i next k : ℕ) (w : Winding) (h : H) (live : List WholeSegment) (may : ℤ → Type 0) → IsAmidNode i next k w h live may → (f : X → WholeEnd) (items : List X) → map f items ≡ stably_sorted (end_cmp (start_at (without_data list) i)) (ends_between (without_data list) i next) → length items ≤ k → length (visits_of_run rule list arranged i next) ≤ k
+  pub node_is_over : {X : Type 0} (i next k : ℕ) (w : Winding) (h : H) (live : List WholeSegment) (may : ℤ → Type 0) → IsAmidNode i next k w h live may → (f : X → WholeWay) (items : List X) → map f items ≡ by_angle (ways_between (without_data list) i next) → length items ≤ k → length (visits_of_run rule list arranged i next) ≤ k
   node_is_over i next k w h live may state f items same l =
-      let as_visits = same ∙ ends_of_visits rule list arranged i next (start_at (without_data list) i) state.order state.run in
-      subst (λ n. n ≤ k) (sym (length-map items f) ∙ ap length as_visits ∙ length-map (visits_of_run rule list arranged i next) visit_end) l
+      let as_visits = same ∙ ways_of_visits rule list arranged i next (start_at (without_data list) i) state.order state.run in
+      subst (λ n. n ≤ k) (sym (length-map items f) ∙ ap length as_visits ∙ length-map (visits_of_run rule list arranged i next) visit_way) l
 
   pub step : (i next k : ℕ) (w t : Winding) (h after : H) (live left : List WholeSegment) (may later : ℤ → Type 0) (v : Visit D) → IsPlace i next k (start_at (without_data list) i) v → IsAmidNode i next k w h live may →
       (handle h v).1 ≡ None → after ≡ (handle h v).0 → t ≡ add (weight w) (weight v.segment.count) → is_count_in_range (add (weight w) (weight v.segment.count)) ≡ true →

@@ -14,7 +14,7 @@ use Rattle.overlay_build.specs.ColumnWindings.{weights_up_to, right_winding, lef
 use Rattle.overlay_base.specs.Rules.{differ}
 use Rattle.overlay_base.proofs.laws.Polynomials.{mul-pos, mul-neg, cancel-pos, cancel-neg}
 use Rattle.overlay_base.proofs.laws.Points.{same_point, same_pair, same_by_eq, point_eq_same, pair_eq_same, from_not_same_pair, inside_from_order}
-use Rattle.overlay_build.proofs.laws.Crossings.{do_cross_from}
+use Rattle.overlay_base.proofs.laws.Apart.{do_cross_from}
 use Rattle.overlay_build.proofs.laws.WeightSums.{when}
 use Rattle.overlay_build.proofs.laws.ColumnLines.{le-test, le-test_false, lt-test, lt-test_false, le-tested, lt-tested, spans_parts, point_lt-cases, is_under, is_up_to, lies_under, lies_up_to, leaves_upward, turn_over_start, turn_over_end, column_weights, filter_weights_are, across_under, across_up_to}
 use Rattle.overlay_build.proofs.laws.Parity.{odd_of, differ_false, differ_same}

@@ -1,5 +1,5 @@
 -- The visits of a sweep, run by run: those of the segments that start at one point, in order of angle.
-use Rattle.std.proofs.Common.{◌≡◌, ap, ap₂, refl, sym, subst, ◌∙◌, arith, inl, inr, get_or, zero-add, Ordering, Less, Equal, Greater}
+use Rattle.std.proofs.Common.{◌≡◌, ap, refl, sym, subst, ◌∙◌, arith, inl, inr, get_or, zero-add, Ordering, Less, Equal, Greater}
 use Rattle.std.specs.Prelude.{ℕ, zero, suc, ◌+◌, ◌-◌, ◌<◌, ℤ, pos, neg_ℤ, ◌-ℤ◌, ◌*ℤ◌, true, false, ◌⊎◌, List, [], ◌∷◌, ◌++◌, map, length, take, drop}
 use Rattle.std.specs.List.{AllByRecursion, enumerate_from, take-map, drop-map}
 use Rattle.std.specs.Ordering.{is_lt, is_eq, int_cmp, ordering_then, MatchOrdering}
@@ -16,7 +16,7 @@ use Rattle.overlay_base.proofs.laws.Lists.{Pairwise, AllByRecursion-take, AllByR
 use Rattle.overlay_base.proofs.laws.Polynomials.{as_D, diffs, D-eq}
 use Rattle.overlay_base.proofs.laws.Points.{Before, before, point_ranked, same_pair, inside_from_order, turn_swaps_last, point_eq_same, point_lt-irreflexive}
 use Rattle.overlay_build.specs.Sweep.{Visit, whole_of, fill_of, visits}
-use Rattle.overlay_build.specs.NodeOf.{WholeEnd, end_cmp, ends_between}
+use Rattle.overlay_build.specs.WayOf.{WholeWay, ways_between, by_angle}
 use Rattle.overlay_build.proofs.laws.ColumnOrder.{IsApart}
 use Rattle.overlay_build.proofs.laws.Members.{In, In-map, sorted_all, sorted_tail, differ_when_less, IsArranged}
 use Rattle.overlay_build.proofs.laws.NodeChains.{IsNode, AllByRecursion-In, angle_trans}
@@ -84,18 +84,18 @@ pub wholes-listed : {D : Type 0} (rule : FillRule) (xs : List WholeSegment) (n :
 wholes-listed rule xs n [] = refl
 wholes-listed rule xs n (s ∷ ss) = ap (λ l. whole_of s ∷ l) (wholes-listed rule xs (n + 1) ss)
 
--- the far end of a visit's segment
-abbrev pub visit_end : {D : Type 0} → Visit D → WholeEnd
-visit_end v = record { index = v.index; point = v.segment.pair.b }
+-- the way of a visit's segment
+abbrev pub visit_way : {D : Type 0} → Visit D → WholeWay
+visit_way v = record { index = v.index; pair = v.segment.pair }
 
-ends-listed : {D : Type 0} (rule : FillRule) (xs : List WholeSegment) (n : ℕ) (list : List (DataSegment D)) → map visit_end (listed_from rule xs n list) ≡ map (λ (e : ℕ × WholeSegment). record { index = e.0; point = e.1.pair.b }) (enumerate_from n (without_data list))
-ends-listed rule xs n [] = refl
-ends-listed rule xs n (s ∷ ss) = ap (λ l. visit_end (visit_to rule xs (n, s)) ∷ l) (ends-listed rule xs (n + 1) ss)
+ways-listed : {D : Type 0} (rule : FillRule) (xs : List WholeSegment) (n : ℕ) (list : List (DataSegment D)) → map visit_way (listed_from rule xs n list) ≡ map (λ (e : ℕ × WholeSegment). record { index = e.0; pair = e.1.pair }) (enumerate_from n (without_data list))
+ways-listed rule xs n [] = refl
+ways-listed rule xs n (s ∷ ss) = ap (λ l. visit_way (visit_to rule xs (n, s)) ∷ l) (ways-listed rule xs (n + 1) ss)
 
-pub ends_of_run : {D : Type 0} (rule : FillRule) (xs : List WholeSegment) (list : List (DataSegment D)) (i next : ℕ) → ends_between (without_data list) i next ≡ map visit_end (take (next - i) (drop i (listed_from rule xs 0 list)))
-ends_of_run rule xs list i next =
-    ap (λ l. take (next - i) (drop i l)) (sym (ends-listed rule xs 0 list))
-    ∙ ap (take (next - i)) (drop-map visit_end i (listed_from rule xs 0 list)) ∙ take-map visit_end (next - i) (drop i (listed_from rule xs 0 list))
+pub ways_of_run : {D : Type 0} (rule : FillRule) (xs : List WholeSegment) (list : List (DataSegment D)) (i next : ℕ) → ways_between (without_data list) i next ≡ map visit_way (take (next - i) (drop i (listed_from rule xs 0 list)))
+ways_of_run rule xs list i next =
+    ap (λ l. take (next - i) (drop i l)) (sym (ways-listed rule xs 0 list))
+    ∙ ap (take (next - i)) (drop-map visit_way i (listed_from rule xs 0 list)) ∙ take-map visit_way (next - i) (drop i (listed_from rule xs 0 list))
 
 pub wholes_of_run : {D : Type 0} (rule : FillRule) (xs : List WholeSegment) (list : List (DataSegment D)) (i next : ℕ) → wholes (take (next - i) (drop i (listed_from rule xs 0 list))) ≡ take (next - i) (drop i (without_data list))
 wholes_of_run rule xs list i next =
@@ -278,12 +278,12 @@ module _ {D : Type 0} (rule : FillRule) (list : List (DataSegment D)) (arranged 
           (rising_sorted visit_cmp (λ v. In (whole_of v.segment) (without_data list) × (v.segment.pair.a ≡ p)) visit_trans (take (next - i) (drop i listed)) starts_here differ_in_run));
     }
 
-    -- the collected ends are those of the visits
-    pub ends_of_visits : stably_sorted (end_cmp p) (ends_between (without_data list) i next) ≡ map visit_end (visits_of_run i next)
-    ends_of_visits =
-        ap (stably_sorted (end_cmp p)) (ends_of_run rule (without_data list) list i next)
-        ∙ stably_sorted-map visit_end visit_cmp (end_cmp p) (λ v. In (whole_of v.segment) (without_data list) × (v.segment.pair.a ≡ p))
-        (λ v w m n. sym (visit_cmp_same v w (m.1 ∙ sym n.1) ∙ ap₂ angle_cmp (same_pair v.segment.pair (record { a = p; b = v.segment.pair.b }) m.1 refl) (same_pair w.segment.pair (record { a = p; b = w.segment.pair.b }) n.1 refl)))
+    -- the collected ways are those of the visits
+    pub ways_of_visits : by_angle (ways_between (without_data list) i next) ≡ map visit_way (visits_of_run i next)
+    ways_of_visits =
+        ap by_angle (ways_of_run rule (without_data list) list i next)
+        ∙ stably_sorted-map visit_way visit_cmp (λ w z. angle_cmp w.pair z.pair) (λ v. In (whole_of v.segment) (without_data list) × (v.segment.pair.a ≡ p))
+        (λ v w m n. sym (visit_cmp_same v w (m.1 ∙ sym n.1)))
         (take (next - i) (drop i listed)) starts_here
 
     pub listed_in_run : AllByRecursion (λ v. In v listed) (visits_of_run i next)

@@ -17,7 +17,7 @@ use std::ops::ControlFlow;
 /// says at which indexes it may be called; a call takes none of them away.
 pub trait FillHandler<C: WindingCount, I: OverlayInt, D: Copy>: Drop {
     /// What the run answers.
-    type Output;
+    type Output: Drop;
 
     ghost takes: { Self → ℕ → Type 0 };
 
@@ -43,27 +43,27 @@ pub trait FillHandler<C: WindingCount, I: OverlayInt, D: Copy>: Drop {
     ghost keeps_taking: { (handler : Self) (visit : Visit D) (index : ℕ) → takes handler visit.index → takes handler index → takes (handle_gives handler visit).0 index };
 }
 
-/// Writes each fill at its index into a list, which it gives back.
+/// Writes each fill at its index into a list that it borrows. The run answers the borrow.
 #[derive(Drop)]
-pub struct StoreFillsHandler {
-    fills: Vec<SegmentFill>,
+pub struct StoreFillsHandler<'a> {
+    fills: &'a mut Vec<SegmentFill>,
 }
 
-impl StoreFillsHandler {
+impl<'a> StoreFillsHandler<'a> {
     /// A handler that writes into this list, which has to be as long as the list of the segments.
-    pub fn new(fills: Vec<SegmentFill>) -> StoreFillsHandler
-        ensures { result.fills ≡ fills }
+    pub fn new(fills: &'a mut Vec<SegmentFill>) -> StoreFillsHandler<'a>
+        ensures { result.fills ≡ fills.entry }
     {
         StoreFillsHandler { fills }
     }
 }
 
-impl<C: WindingCount, I: OverlayInt, D: Copy> FillHandler<C, I, D> for StoreFillsHandler {
-    type Output = Vec<SegmentFill>;
+impl<'a, C: WindingCount, I: OverlayInt, D: Copy> FillHandler<C, I, D> for StoreFillsHandler<'a> {
+    type Output = &'a mut Vec<SegmentFill>;
 
-    ghost takes = { λ handler index. index < vec_len handler.fills };
+    ghost takes = { λ handler index. index < vec_len handler.fills.now };
 
-    ghost handle_gives = { λ handler visit. (record { fills = with_item handler.fills visit.index visit.fill }, None) };
+    ghost handle_gives = { λ handler visit. (record { fills = record handler.fills { now = with_item handler.fills.now visit.index visit.fill } }, None) };
 
     ghost finalize_gives = { λ handler. handler.fills };
 
@@ -74,12 +74,12 @@ impl<C: WindingCount, I: OverlayInt, D: Copy> FillHandler<C, I, D> for StoreFill
         index: usize,
         _segment: &Segment<C, I, D>,
         fill: SegmentFill,
-    ) -> ControlFlow<Vec<SegmentFill>> {
+    ) -> ControlFlow<&'a mut Vec<SegmentFill>> {
         self.fills[index] = fill;
         ControlFlow::Continue(())
     }
 
-    fn finalize(self) -> Vec<SegmentFill> {
+    fn finalize(self) -> &'a mut Vec<SegmentFill> {
         let StoreFillsHandler { fills } = self;
         fills
     }

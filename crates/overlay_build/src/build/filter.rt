@@ -62,9 +62,9 @@ fn holds(rule: OverlayRule, side: Side) -> bool
     }
 }
 
-/// Whether the rule says different things of the two sides.
+/// Whether the rule says different things of the two sides of a segment with this fill.
 #[tactic(auto, unfolding(overlay_base::specs::Rules::keeps_fill))]
-fn keeps(rule: OverlayRule, fill: SegmentFill) -> bool
+pub(crate) fn keeps(rule: OverlayRule, fill: SegmentFill) -> bool
     ensures { result ≡ keeps_fill (holds rule) fill }
 {
     holds(rule, top(fill)) != holds(rule, bottom(fill))

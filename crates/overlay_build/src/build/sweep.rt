@@ -12,7 +12,7 @@ use crate::build::fill_strategy::{
 };
 use crate::build::scan_list::ScanList;
 use crate::build::visits::sweep_with_handler;
-use overlay_base::geom::end::End;
+use crate::build::way::Way;
 use overlay_base::num::OverlayInt;
 use overlay_base::overlay_core::fill_rule::FillRule;
 use overlay_base::overlay_core::solver::Solver;
@@ -26,7 +26,7 @@ use std::alloc::Global;
 #[derive(Drop)]
 pub struct SweepRunner<C: WindingCount, I: OverlayInt> {
     list: ScanList<C, I>,
-    node: Vec<End<I>>,
+    node: Vec<Way<I>>,
 }
 
 impl<C: WindingCount, I: OverlayInt> SweepRunner<C, I> {

@@ -20,9 +20,9 @@ use std::alloc::Global;
 use std::ops::ControlFlow;
 use std::process::Abort;
 
-type Line = Segment<ShapeCountBoolean, i32, ()>;
+pub type Line = Segment<ShapeCountBoolean, i32, ()>;
 
-fn line(ax: i32, ay: i32, bx: i32, by: i32, subj: i32, clip: i32) -> Line
+pub fn line(ax: i32, ay: i32, bx: i32, by: i32, subj: i32, clip: i32) -> Line
     requires { IsTrue (point_lt (record { x = ax; y = ay }) (record { x = bx; y = by })) }
     ensures { segment_of result ≡ record { pair = record { a = record { x = ax; y = ay }; b = record { x = bx; y = by } }; count = record { subj = subj; clip = clip; mask = 0 } } }
 {
@@ -33,7 +33,7 @@ fn line(ax: i32, ay: i32, bx: i32, by: i32, subj: i32, clip: i32) -> Line
 }
 
 // A subject square with corners (0, 0) and (4, 4) and a clip square with corners (2, 2) and (6, 6), split.
-fn two_squares() -> [Line; 12]
+pub fn two_squares() -> [Line; 12]
     ensures { IsTrue (is_arranged (negsuc 524287) (pos 524287) (segments_of result)) }
 {
     [
@@ -79,7 +79,7 @@ fn line_beside_line() -> [Line; 2]
 }
 
 // Two lines whose counts leave the range together.
-fn greatest_counts() -> [Line; 2]
+pub fn greatest_counts() -> [Line; 2]
     ensures { IsTrue (is_arranged (negsuc 524287) (pos 524287) (segments_of result)) }
 {
     [line(0, 0, 4, 0, i32::MAX, 0), line(0, 1, 4, 1, i32::MAX, 0)]
@@ -90,10 +90,12 @@ fn fills(rt: &impl Abort, alloc: Global, segments: &[Line], fill_rule: FillRule)
     requires { IsTrue (is_arranged (negsuc 524287) (pos 524287) (segments_of segments.now)) }
 {
     let mut runner = SweepRunner::new(alloc);
-    let handler = StoreFillsHandler::new(blank(rt, alloc, segments.len()));
+    let mut fills = blank(rt, alloc, segments.len());
+    let handler = StoreFillsHandler::new(&mut fills);
     runner
         .run_with_fill_rule(fill_rule, &Solver::LIST, segments, handler)
-        .expect(rt, "no refusal")
+        .expect(rt, "no refusal");
+    fills
 }
 
 fn blank(rt: &impl Abort, alloc: Global, count: usize) -> Vec<SegmentFill>

@@ -14,7 +14,7 @@ use crate::build::fill_handler::FillHandler;
 use crate::build::fill_strategy::FillStrategy;
 use crate::build::live_segments::LiveSegments;
 use crate::build::node::{collect_node, node_end};
-use overlay_base::geom::end::End;
+use crate::build::way::Way;
 use overlay_base::geom::v_segment::VSegment;
 use overlay_base::num::OverlayInt;
 use overlay_base::segm::fault::Fault;
@@ -66,7 +66,7 @@ where
 /// Hands the segments of an arrangement out, by their starts and then by angle from below.
 pub fn sweep_with_handler<C, I, D, F, S, H>(
     live: &mut S,
-    node: &mut Vec<End<I>>,
+    node: &mut Vec<Way<I>>,
     segments: &[Segment<C, I, D>],
     mut handler: H,
 ) -> Result<H::Output, Fault>
@@ -88,11 +88,11 @@ where
     while index < segments.len() {
         let start = segments[index].x_segment().a;
         let next = node_end(segments, index);
-        collect_node(segments, index, next, start, node)?;
+        collect_node(segments, index, next, node)?;
         let mut sum = live.sum_below(start.x, start, C::new(0, 0));
-        for end in node.iter() {
-            let segment = &segments[end.index];
-            match visit::<C, I, D, F, S, H>(live, end.index, segment, sum, &mut handler)? {
+        for way in node.iter() {
+            let segment = &segments[way.index];
+            match visit::<C, I, D, F, S, H>(live, way.index, segment, sum, &mut handler)? {
                 ControlFlow::Continue(top) => sum = top,
                 ControlFlow::Break(answer) => return Ok(answer),
             }

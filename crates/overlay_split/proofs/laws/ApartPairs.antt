@@ -4,10 +4,9 @@ use Rattle.std.specs.Prelude.{filter}
 use Rattle.overlay_base.specs.Points.{Point, Pair, is_ordered, is_strictly_inside}
 use Rattle.overlay_base.specs.Meeting.{are_apart}
 use Rattle.overlay_base.proofs.laws.Points.{Before, before, Before-irreflexive}
-use Rattle.overlay_base.proofs.laws.Apart.{are_apart_parts, are_apart-back}
+use Rattle.overlay_base.proofs.laws.Apart.{are_apart_parts, are_apart-back, no_end_inside_parts}
 use Rattle.overlay_split.specs.Marks.{Placing, marks_by, cross_inexactly}
 use Rattle.overlay_split.proofs.laws.Marks.{marks_at_ends}
-use Rattle.overlay_split.proofs.laws.Meetings.{no_end_inside_parts}
 
 abbrev pub AreApart : Pair → Pair → Type 0
 AreApart s t = IsTrue (are_apart s t)

@@ -2,18 +2,15 @@
 use Rattle.std.proofs.Common.{◌≡◌, refl, sym, ◌⊎◌, ⊎_elim, inl, inr, arith, true, false, Bool, IsTrue, IsFalse}
 use Rattle.std.specs.Prelude.{ℤ, pos, ◌+ℤ◌, ◌*ℤ◌, ◌≤ℤ◌, ◌<ℤ◌}
 use Rattle.std.proofs.lemmas.Int.{ints, by_lt_z}
-use Rattle.std.proofs.lemmas.Bool.{or_parts, or_from, both_ways, false_from_ne_true, and_from, cases_Bool}
+use Rattle.std.proofs.lemmas.Bool.{or_from, both_ways, false_from_ne_true, cases_Bool}
 use Rattle.overlay_base.specs.Points.{Point, Pair, turn, is_end, lies_on, is_strictly_inside}
-use Rattle.overlay_base.specs.Meeting.{have_opposite_signs, separates, do_cross, are_collinear, has_end_inside}
+use Rattle.overlay_base.specs.Meeting.{do_cross, are_collinear, has_end_inside}
 use Rattle.overlay_base.proofs.laws.Polynomials.{mul-pos, cancel-pos, mul-neg, cancel-neg, cancel-zero}
 use Rattle.overlay_base.proofs.laws.Points.{turn_same_last, turn_same_outer, Before, UpTo, Before-UpTo-trans, UpTo-Before-trans, UpTo-trans, UpTo-Before, weights, collinear, are_collinear_turns, are_collinear_from, are_collinear_swap, inside_order, inside_from_order, lies_on_from_order, inside_from_parts}
-use Rattle.overlay_base.proofs.laws.Apart.{Opposite, do_cross_parts}
+use Rattle.overlay_base.proofs.laws.Apart.{Opposite, do_cross_parts, do_cross_from}
 use Rattle.overlay_split.proofs.laws.AnswerMarks.{collinear_do_not_cross, end_cases}
 
 -- ---- signs
-
-pub from_opposite : (f g : ℤ) → Opposite f g → IsTrue (have_opposite_signs f g)
-from_opposite f g h = grind (arith, ints)
 
 by_sign : {P : Type 0} (z : ℤ) → (z <ℤ pos 0 → P) → (z ≡ pos 0 → P) → (pos 0 <ℤ z → P) → P
 by_sign z f g h = by_lt_z z (pos 0) f (λ (up : pos 0 ≤ℤ z). by_lt_z (pos 0) z h (λ (down : z ≤ℤ pos 0). g (omega (arith, ints))))
@@ -27,10 +24,6 @@ opposite_sums m n f g k z hm hn e hz =
     (λ (up : pos 0 <ℤ f). let p = mul-pos m f hm up in inl (inr (up, cancel-neg n g hn (omega (arith, ints)))))
 
 -- ---- the lines of two pairs
-
-pub do_cross_from : (s t : Pair) → Opposite (turn s.a s.b t.a) (turn s.a s.b t.b) → Opposite (turn t.a t.b s.a) (turn t.a t.b s.b) → IsTrue (do_cross s t)
-unfolding do_cross separates
-do_cross_from s t h k = and_from (have_opposite_signs (turn s.a s.b t.a) (turn s.a s.b t.b)) (have_opposite_signs (turn t.a t.b s.a) (turn t.a t.b s.b)) (from_opposite _ _ h) (from_opposite _ _ k)
 
 same_tests : (b c : Bool) → (b ≡ true → c ≡ true) → (c ≡ true → b ≡ true) → b ≡ c
 same_tests true c f g = sym (f refl)
@@ -51,10 +44,6 @@ pub crossing_not_collinear : (s t : Pair) → IsTrue (do_cross s t) → IsFalse 
 crossing_not_collinear s t h = false_from_ne_true (are_collinear s t) (λ c. both_ways (do_cross s t) (collinear_do_not_cross s t c) h)
 
 -- ---- the kinds of meeting
-
-pub no_end_inside_parts : (s t : Pair) → IsFalse (has_end_inside s t) → IsFalse (is_strictly_inside s t.a) × IsFalse (is_strictly_inside s t.b)
-unfolding has_end_inside
-no_end_inside_parts s t h = or_parts (is_strictly_inside s t.a) (is_strictly_inside s t.b) h
 
 pub no_end_inside_from : (s t : Pair) → IsFalse (is_strictly_inside s t.a) → IsFalse (is_strictly_inside s t.b) → IsFalse (has_end_inside s t)
 unfolding has_end_inside

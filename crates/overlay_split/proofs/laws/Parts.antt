@@ -7,8 +7,8 @@ use Rattle.overlay_base.specs.Points.{Point, Pair, turn, is_end, lies_on, is_str
 use Rattle.overlay_base.specs.Meeting.{do_cross, are_collinear, has_end_inside, are_apart}
 use Rattle.overlay_base.proofs.laws.Polynomials.{as_D, diffs, D-eq, mul-pos, mul-nonneg, cancel-pos, mul-neg, mul-nonneg_both, mul-nonpos, cancel-neg}
 use Rattle.overlay_base.proofs.laws.Points.{turn_rotates, turn_same_last, turn_same_outer, Before, by_order, UpTo-Before-trans, weights, collinear, inside_order, inside_from_order}
-use Rattle.overlay_base.proofs.laws.Apart.{Opposite, do_cross_parts, are_apart_from}
-use Rattle.overlay_split.proofs.laws.Meetings.{do_cross_from, are_collinear_symmetric, no_end_inside_from, on_and_inside, MarksAt, MarksAt-end, MarksAt-cross, MarksAt-moves, IsPart, IsPart-line_back, IsPart-inside, IsPart-a_on, IsPart-b_on}
+use Rattle.overlay_base.proofs.laws.Apart.{Opposite, do_cross_parts, do_cross_from, are_apart_from}
+use Rattle.overlay_split.proofs.laws.Meetings.{are_collinear_symmetric, no_end_inside_from, on_and_inside, MarksAt, MarksAt-end, MarksAt-cross, MarksAt-moves, IsPart, IsPart-line_back, IsPart-inside, IsPart-a_on, IsPart-b_on}
 
 -- ---- signs of means
 

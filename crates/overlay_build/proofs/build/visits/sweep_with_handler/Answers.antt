@@ -1,6 +1,4 @@
-use Rattle.std.proofs.Common.{◌≡◌, ◌∙◌, ◌<◌, ◌≤◌, ap, ap₂, sym, subst, refl, arith, length, Result, Ok, Err}
-use Rattle.std.specs.Prelude.{IfErr}
-use Rattle.std.specs.Result.{IsErrAnd}
+use Rattle.std.proofs.Common.{◌≡◌, ◌∙◌, ◌<◌, ◌≤◌, ap, ap₂, sym, subst, refl, arith, length}
 use Rattle.std.specs.Prelude.{◌≤ℤ◌}
 use Rattle.std.proofs.lemmas.List.{length-map}
 use Rattle.overlay_base.specs.Points.{Point}
@@ -13,24 +11,15 @@ use Rattle.overlay_base.specs.PointOf.{point_of}
 use Rattle.overlay_base.specs.SegmentOf.{segment_of, segments_of, data_segment_of, data_segments_of, winding_of}
 use Rattle.overlay_build.specs.Sweep.{visits, visited, visits_leave_range, sum_below}
 use Rattle.overlay_build.specs.Live.{HoldSameFrom, AreFreeAt}
-use Rattle.overlay_build.specs.NodeOf.{end_of, ends_of, ends_between, by_angle}
+use Rattle.overlay_build.specs.WayOf.{way_of, ways_of, ways_between, by_angle}
+use Rattle.overlay_build.proofs.laws.Handling.{refused_as}
 use Rattle.overlay_build.proofs.laws.Arrangements.{whole_is, whole_arranged, usable_at, usable_item, start_is, segment_is, index_within}
 use Rattle.overlay_build.proofs.laws.SweepStates.{start_at, before_first, run_at, free_at_start, enter, leave, finished, finished_in_range, amid_place, node_is_over, step, valid_from, free_here, answered_here, in_range_here, refused_here, visit_is}
 use Rattle.overlay_build.proofs.build.visits.sweep_with_handler.Goals as goal
 
--- what is said of the fault that a call passes on
-refused_as : {A E : Type 0} (r : Result A E) (P Q : E → Type 0) → IsErrAnd r P → ((e : E) → P e → Q e) → IfErr r Q
-refused_as (Ok x) P Q h f = tt
-refused_as (Err e) P Q h f = f e h
-
 pub loop-index-init : goal.loop-index-init
 loop-index-init g c =
     ((λ arranged. before_first g.H.FillHandler.handle_gives g.H.FillHandler.finalize_gives g.F.FillStrategy.rule (data_segments_of c.args.segments.now) arranged c.args.handler (g.S.LiveSegments.sums c.clear.new.self) (g.S.LiveSegments.may_go_on_at c.clear.new.self) c.clear.ensures.sums c.clear.ensures.time), c.requires.takes)
-
-pub collect_node-requires-clause-start : goal.collect_node-requires-clause-start
-collect_node-requires-clause-start g c =
-    let usable = usable_item segment_of c.args.segments.now (g.I.OverlayInt.whole g.I.OverlayInt.MIN_COORD) (g.I.OverlayInt.whole g.I.OverlayInt.MAX_COORD) c.requires.arranged c.loop-index.index c.index-segments-index.result c.loop-index-test.true c.index-segments-index.is in
-    rw c.x_segment.ensures usable.a
 
 pub collect_node-requires-clause-in_range : goal.collect_node-requires-clause-in_range
 collect_node-requires-clause-in_range g c =
@@ -61,8 +50,8 @@ sum_below-sum-requires-clause-free g c =
     subst (λ (p : Point). AreFreeAt p.x (g.S.LiveSegments.sums c.loop-index.live)) start
     (free_at_start g.H.FillHandler.handle_gives g.H.FillHandler.finalize_gives g.F.FillStrategy.rule (data_segments_of c.args.segments.now) arr c.args.handler c.loop-index.index c.loop-index.handler (g.S.LiveSegments.sums c.loop-index.live) (g.S.LiveSegments.may_go_on_at c.loop-index.live) filled state)
 
-pub loop-end-init : goal.loop-end-init
-loop-end-init g c =
+pub loop-way-init : goal.loop-way-init
+loop-way-init g c =
     let same : without_data (data_segments_of c.args.segments.now) ≡ segments_of c.args.segments.now = whole_is data_segment_of segment_of (λ x. refl) c.args.segments.now in
     let arr = whole_arranged (g.I.OverlayInt.whole g.I.OverlayInt.MIN_COORD) (g.I.OverlayInt.whole g.I.OverlayInt.MAX_COORD) (without_data (data_segments_of c.args.segments.now)) (segments_of c.args.segments.now) same c.requires.arranged in
     let start : start_at (without_data (data_segments_of c.args.segments.now)) c.loop-index.index ≡ point_of g.I.OverlayInt.whole c.x_segment.result.a = start_is segment_of c.args.segments.now (without_data (data_segments_of c.args.segments.now)) same c.loop-index.index c.index-segments-index.result c.loop-index-test.true c.index-segments-index.is ∙ ap (λ v. (pair_of g.I.OverlayInt.whole v).a) (sym c.x_segment.ensures) in
@@ -77,147 +66,147 @@ loop-end-init g c =
           (c.sum_below-sum.ensures.sum ∙ ap₂ (sum_below (g.S.LiveSegments.sums c.loop-index.live)) (sym start) (c.new.ensures ∙ g.met.F.FillStrategy.nothing))
           (λ y l. c.sum_below-sum.ensures.time y (subst (λ (p : Point). p.x ≤ℤ y) start l))),
       c.loop-index.invariant.1,
-      ap (ends_of g.I.OverlayInt.whole) c.deref-end-items.ensures.value ∙ c.in_ok-collect_node.ensures ∙ ap₂ by_angle (sym start) (ap (λ l. ends_between l c.loop-index.index c.node_end-next.result) (sym same)),
+      ap ways_of c.deref-way-items.ensures.value ∙ c.in_ok-collect_node.ensures ∙ ap (λ l. by_angle (ways_between l c.loop-index.index c.node_end-next.result)) (sym same),
     )
 
-pub offset_bounds-segments-end : goal.offset_bounds-segments-end
-offset_bounds-segments-end g c =
+pub offset_bounds-segments-way : goal.offset_bounds-segments-way
+offset_bounds-segments-way g c =
     let same : without_data (data_segments_of c.args.segments.now) ≡ segments_of c.args.segments.now = whole_is data_segment_of segment_of (λ x. refl) c.args.segments.now in
     let arr = whole_arranged (g.I.OverlayInt.whole g.I.OverlayInt.MIN_COORD) (g.I.OverlayInt.whole g.I.OverlayInt.MAX_COORD) (without_data (data_segments_of c.args.segments.now)) (segments_of c.args.segments.now) same c.requires.arranged in
-    let state = c.loop-end.invariant.0 arr in
-    let bound : c.end-item.result.index < length c.args.segments.now = amid_place g.H.FillHandler.handle_gives g.H.FillHandler.finalize_gives g.F.FillStrategy.rule (data_segments_of c.args.segments.now) arr c.args.handler c.loop-index.index c.node_end-next.result c.loop-end.end-index (g.C.WindingCount.winding c.loop-end.sum) c.loop-end.handler (g.S.LiveSegments.sums c.loop-end.live) (g.S.LiveSegments.may_go_on_at c.loop-end.live) state (end_of g.I.OverlayInt.whole) c.deref-end-items.result.now c.loop-end.invariant.2 c.loop-end-test.true c.end-item.result c.end-item.is (λ v at e. index_within data_segment_of c.args.segments.now g.F.FillStrategy.rule (without_data (data_segments_of c.args.segments.now)) c.end-item.result.index v e at.is) in
+    let state = c.loop-way.invariant.0 arr in
+    let bound : c.way-item.result.index < length c.args.segments.now = amid_place g.H.FillHandler.handle_gives g.H.FillHandler.finalize_gives g.F.FillStrategy.rule (data_segments_of c.args.segments.now) arr c.args.handler c.loop-index.index c.node_end-next.result c.loop-way.way-index (g.C.WindingCount.winding c.loop-way.sum) c.loop-way.handler (g.S.LiveSegments.sums c.loop-way.live) (g.S.LiveSegments.may_go_on_at c.loop-way.live) state way_of c.deref-way-items.result.now c.loop-way.invariant.2 c.loop-way-test.true c.way-item.result c.way-item.is (λ v at e. index_within data_segment_of c.args.segments.now g.F.FillStrategy.rule (without_data (data_segments_of c.args.segments.now)) c.way-item.result.index v e at.is) in
     omega (arith, bound)
 
-pub bounds-segments-end : goal.bounds-segments-end
-bounds-segments-end g c =
+pub bounds-segments-way : goal.bounds-segments-way
+bounds-segments-way g c =
     let same : without_data (data_segments_of c.args.segments.now) ≡ segments_of c.args.segments.now = whole_is data_segment_of segment_of (λ x. refl) c.args.segments.now in
     let arr = whole_arranged (g.I.OverlayInt.whole g.I.OverlayInt.MIN_COORD) (g.I.OverlayInt.whole g.I.OverlayInt.MAX_COORD) (without_data (data_segments_of c.args.segments.now)) (segments_of c.args.segments.now) same c.requires.arranged in
-    let state = c.loop-end.invariant.0 arr in
-    let bound : c.end-item.result.index < length c.args.segments.now = amid_place g.H.FillHandler.handle_gives g.H.FillHandler.finalize_gives g.F.FillStrategy.rule (data_segments_of c.args.segments.now) arr c.args.handler c.loop-index.index c.node_end-next.result c.loop-end.end-index (g.C.WindingCount.winding c.loop-end.sum) c.loop-end.handler (g.S.LiveSegments.sums c.loop-end.live) (g.S.LiveSegments.may_go_on_at c.loop-end.live) state (end_of g.I.OverlayInt.whole) c.deref-end-items.result.now c.loop-end.invariant.2 c.loop-end-test.true c.end-item.result c.end-item.is (λ v at e. index_within data_segment_of c.args.segments.now g.F.FillStrategy.rule (without_data (data_segments_of c.args.segments.now)) c.end-item.result.index v e at.is) in
+    let state = c.loop-way.invariant.0 arr in
+    let bound : c.way-item.result.index < length c.args.segments.now = amid_place g.H.FillHandler.handle_gives g.H.FillHandler.finalize_gives g.F.FillStrategy.rule (data_segments_of c.args.segments.now) arr c.args.handler c.loop-index.index c.node_end-next.result c.loop-way.way-index (g.C.WindingCount.winding c.loop-way.sum) c.loop-way.handler (g.S.LiveSegments.sums c.loop-way.live) (g.S.LiveSegments.may_go_on_at c.loop-way.live) state way_of c.deref-way-items.result.now c.loop-way.invariant.2 c.loop-way-test.true c.way-item.result c.way-item.is (λ v at e. index_within data_segment_of c.args.segments.now g.F.FillStrategy.rule (without_data (data_segments_of c.args.segments.now)) c.way-item.result.index v e at.is) in
     bound
 
 pub visit-requires-clause-in_range : goal.visit-requires-clause-in_range
 visit-requires-clause-in_range g c =
     let same : without_data (data_segments_of c.args.segments.now) ≡ segments_of c.args.segments.now = whole_is data_segment_of segment_of (λ x. refl) c.args.segments.now in
     let arr = whole_arranged (g.I.OverlayInt.whole g.I.OverlayInt.MIN_COORD) (g.I.OverlayInt.whole g.I.OverlayInt.MAX_COORD) (without_data (data_segments_of c.args.segments.now)) (segments_of c.args.segments.now) same c.requires.arranged in
-    let state = c.loop-end.invariant.0 arr in
-    let bound : c.end-item.result.index < length c.args.segments.now = amid_place g.H.FillHandler.handle_gives g.H.FillHandler.finalize_gives g.F.FillStrategy.rule (data_segments_of c.args.segments.now) arr c.args.handler c.loop-index.index c.node_end-next.result c.loop-end.end-index (g.C.WindingCount.winding c.loop-end.sum) c.loop-end.handler (g.S.LiveSegments.sums c.loop-end.live) (g.S.LiveSegments.may_go_on_at c.loop-end.live) state (end_of g.I.OverlayInt.whole) c.deref-end-items.result.now c.loop-end.invariant.2 c.loop-end-test.true c.end-item.result c.end-item.is (λ v at e. index_within data_segment_of c.args.segments.now g.F.FillStrategy.rule (without_data (data_segments_of c.args.segments.now)) c.end-item.result.index v e at.is) in
-    let usable = usable_item segment_of c.args.segments.now (g.I.OverlayInt.whole g.I.OverlayInt.MIN_COORD) (g.I.OverlayInt.whole g.I.OverlayInt.MAX_COORD) c.requires.arranged c.end-item.result.index c.index-segments-end.result bound c.index-segments-end.is in
+    let state = c.loop-way.invariant.0 arr in
+    let bound : c.way-item.result.index < length c.args.segments.now = amid_place g.H.FillHandler.handle_gives g.H.FillHandler.finalize_gives g.F.FillStrategy.rule (data_segments_of c.args.segments.now) arr c.args.handler c.loop-index.index c.node_end-next.result c.loop-way.way-index (g.C.WindingCount.winding c.loop-way.sum) c.loop-way.handler (g.S.LiveSegments.sums c.loop-way.live) (g.S.LiveSegments.may_go_on_at c.loop-way.live) state way_of c.deref-way-items.result.now c.loop-way.invariant.2 c.loop-way-test.true c.way-item.result c.way-item.is (λ v at e. index_within data_segment_of c.args.segments.now g.F.FillStrategy.rule (without_data (data_segments_of c.args.segments.now)) c.way-item.result.index v e at.is) in
+    let usable = usable_item segment_of c.args.segments.now (g.I.OverlayInt.whole g.I.OverlayInt.MIN_COORD) (g.I.OverlayInt.whole g.I.OverlayInt.MAX_COORD) c.requires.arranged c.way-item.result.index c.index-segments-way.result bound c.index-segments-way.is in
     record { a_in_range = usable.a; b_in_range = usable.b }
 
 pub visit-requires-clause-count : goal.visit-requires-clause-count
 visit-requires-clause-count g c =
     let same : without_data (data_segments_of c.args.segments.now) ≡ segments_of c.args.segments.now = whole_is data_segment_of segment_of (λ x. refl) c.args.segments.now in
     let arr = whole_arranged (g.I.OverlayInt.whole g.I.OverlayInt.MIN_COORD) (g.I.OverlayInt.whole g.I.OverlayInt.MAX_COORD) (without_data (data_segments_of c.args.segments.now)) (segments_of c.args.segments.now) same c.requires.arranged in
-    let state = c.loop-end.invariant.0 arr in
-    let bound : c.end-item.result.index < length c.args.segments.now = amid_place g.H.FillHandler.handle_gives g.H.FillHandler.finalize_gives g.F.FillStrategy.rule (data_segments_of c.args.segments.now) arr c.args.handler c.loop-index.index c.node_end-next.result c.loop-end.end-index (g.C.WindingCount.winding c.loop-end.sum) c.loop-end.handler (g.S.LiveSegments.sums c.loop-end.live) (g.S.LiveSegments.may_go_on_at c.loop-end.live) state (end_of g.I.OverlayInt.whole) c.deref-end-items.result.now c.loop-end.invariant.2 c.loop-end-test.true c.end-item.result c.end-item.is (λ v at e. index_within data_segment_of c.args.segments.now g.F.FillStrategy.rule (without_data (data_segments_of c.args.segments.now)) c.end-item.result.index v e at.is) in
-    let usable = usable_item segment_of c.args.segments.now (g.I.OverlayInt.whole g.I.OverlayInt.MIN_COORD) (g.I.OverlayInt.whole g.I.OverlayInt.MAX_COORD) c.requires.arranged c.end-item.result.index c.index-segments-end.result bound c.index-segments-end.is in
+    let state = c.loop-way.invariant.0 arr in
+    let bound : c.way-item.result.index < length c.args.segments.now = amid_place g.H.FillHandler.handle_gives g.H.FillHandler.finalize_gives g.F.FillStrategy.rule (data_segments_of c.args.segments.now) arr c.args.handler c.loop-index.index c.node_end-next.result c.loop-way.way-index (g.C.WindingCount.winding c.loop-way.sum) c.loop-way.handler (g.S.LiveSegments.sums c.loop-way.live) (g.S.LiveSegments.may_go_on_at c.loop-way.live) state way_of c.deref-way-items.result.now c.loop-way.invariant.2 c.loop-way-test.true c.way-item.result c.way-item.is (λ v at e. index_within data_segment_of c.args.segments.now g.F.FillStrategy.rule (without_data (data_segments_of c.args.segments.now)) c.way-item.result.index v e at.is) in
+    let usable = usable_item segment_of c.args.segments.now (g.I.OverlayInt.whole g.I.OverlayInt.MIN_COORD) (g.I.OverlayInt.whole g.I.OverlayInt.MAX_COORD) c.requires.arranged c.way-item.result.index c.index-segments-way.result bound c.index-segments-way.is in
     usable.count
 
 pub visit-requires-clause-bottom : goal.visit-requires-clause-bottom
 visit-requires-clause-bottom g c =
     let same : without_data (data_segments_of c.args.segments.now) ≡ segments_of c.args.segments.now = whole_is data_segment_of segment_of (λ x. refl) c.args.segments.now in
     let arr = whole_arranged (g.I.OverlayInt.whole g.I.OverlayInt.MIN_COORD) (g.I.OverlayInt.whole g.I.OverlayInt.MAX_COORD) (without_data (data_segments_of c.args.segments.now)) (segments_of c.args.segments.now) same c.requires.arranged in
-    let state = c.loop-end.invariant.0 arr in
-    valid_from (g.C.WindingCount.winding c.loop-end.sum) state.node.sum_in_range state.node.unmasked
+    let state = c.loop-way.invariant.0 arr in
+    valid_from (g.C.WindingCount.winding c.loop-way.sum) state.node.sum_in_range state.node.unmasked
 
 pub visit-requires-clause-takes : goal.visit-requires-clause-takes
 visit-requires-clause-takes g c =
     let same : without_data (data_segments_of c.args.segments.now) ≡ segments_of c.args.segments.now = whole_is data_segment_of segment_of (λ x. refl) c.args.segments.now in
     let arr = whole_arranged (g.I.OverlayInt.whole g.I.OverlayInt.MIN_COORD) (g.I.OverlayInt.whole g.I.OverlayInt.MAX_COORD) (without_data (data_segments_of c.args.segments.now)) (segments_of c.args.segments.now) same c.requires.arranged in
-    let state = c.loop-end.invariant.0 arr in
-    let bound : c.end-item.result.index < length c.args.segments.now = amid_place g.H.FillHandler.handle_gives g.H.FillHandler.finalize_gives g.F.FillStrategy.rule (data_segments_of c.args.segments.now) arr c.args.handler c.loop-index.index c.node_end-next.result c.loop-end.end-index (g.C.WindingCount.winding c.loop-end.sum) c.loop-end.handler (g.S.LiveSegments.sums c.loop-end.live) (g.S.LiveSegments.may_go_on_at c.loop-end.live) state (end_of g.I.OverlayInt.whole) c.deref-end-items.result.now c.loop-end.invariant.2 c.loop-end-test.true c.end-item.result c.end-item.is (λ v at e. index_within data_segment_of c.args.segments.now g.F.FillStrategy.rule (without_data (data_segments_of c.args.segments.now)) c.end-item.result.index v e at.is) in
-    c.loop-end.invariant.1 c.end-item.result.index bound
+    let state = c.loop-way.invariant.0 arr in
+    let bound : c.way-item.result.index < length c.args.segments.now = amid_place g.H.FillHandler.handle_gives g.H.FillHandler.finalize_gives g.F.FillStrategy.rule (data_segments_of c.args.segments.now) arr c.args.handler c.loop-index.index c.node_end-next.result c.loop-way.way-index (g.C.WindingCount.winding c.loop-way.sum) c.loop-way.handler (g.S.LiveSegments.sums c.loop-way.live) (g.S.LiveSegments.may_go_on_at c.loop-way.live) state way_of c.deref-way-items.result.now c.loop-way.invariant.2 c.loop-way-test.true c.way-item.result c.way-item.is (λ v at e. index_within data_segment_of c.args.segments.now g.F.FillStrategy.rule (without_data (data_segments_of c.args.segments.now)) c.way-item.result.index v e at.is) in
+    c.loop-way.invariant.1 c.way-item.result.index bound
 
 pub visit-requires-clause-time : goal.visit-requires-clause-time
 visit-requires-clause-time g c =
     let same : without_data (data_segments_of c.args.segments.now) ≡ segments_of c.args.segments.now = whole_is data_segment_of segment_of (λ x. refl) c.args.segments.now in
     let arr = whole_arranged (g.I.OverlayInt.whole g.I.OverlayInt.MIN_COORD) (g.I.OverlayInt.whole g.I.OverlayInt.MAX_COORD) (without_data (data_segments_of c.args.segments.now)) (segments_of c.args.segments.now) same c.requires.arranged in
-    let state = c.loop-end.invariant.0 arr in
-    λ y l. amid_place g.H.FillHandler.handle_gives g.H.FillHandler.finalize_gives g.F.FillStrategy.rule (data_segments_of c.args.segments.now) arr c.args.handler c.loop-index.index c.node_end-next.result c.loop-end.end-index (g.C.WindingCount.winding c.loop-end.sum) c.loop-end.handler (g.S.LiveSegments.sums c.loop-end.live) (g.S.LiveSegments.may_go_on_at c.loop-end.live) state (end_of g.I.OverlayInt.whole) c.deref-end-items.result.now c.loop-end.invariant.2 c.loop-end-test.true c.end-item.result c.end-item.is (λ v at e.
-    let own : data_segment_of c.index-segments-end.result ≡ v.segment = segment_is data_segment_of c.args.segments.now g.F.FillStrategy.rule (without_data (data_segments_of c.args.segments.now)) c.end-item.result.index c.index-segments-end.result v c.index-segments-end.is e at.is in
+    let state = c.loop-way.invariant.0 arr in
+    λ y l. amid_place g.H.FillHandler.handle_gives g.H.FillHandler.finalize_gives g.F.FillStrategy.rule (data_segments_of c.args.segments.now) arr c.args.handler c.loop-index.index c.node_end-next.result c.loop-way.way-index (g.C.WindingCount.winding c.loop-way.sum) c.loop-way.handler (g.S.LiveSegments.sums c.loop-way.live) (g.S.LiveSegments.may_go_on_at c.loop-way.live) state way_of c.deref-way-items.result.now c.loop-way.invariant.2 c.loop-way-test.true c.way-item.result c.way-item.is (λ v at e.
+    let own : data_segment_of c.index-segments-way.result ≡ v.segment = segment_is data_segment_of c.args.segments.now g.F.FillStrategy.rule (without_data (data_segments_of c.args.segments.now)) c.way-item.result.index c.index-segments-way.result v c.index-segments-way.is e at.is in
     state.time y (subst (λ (p : Point). p.x ≤ℤ y) (ap (λ (s : DataSegment g.row.D.Denot). s.pair.a) own ∙ at.start) l))
 
 pub visit-requires-clause-free : goal.visit-requires-clause-free
 visit-requires-clause-free g c =
     let same : without_data (data_segments_of c.args.segments.now) ≡ segments_of c.args.segments.now = whole_is data_segment_of segment_of (λ x. refl) c.args.segments.now in
     let arr = whole_arranged (g.I.OverlayInt.whole g.I.OverlayInt.MIN_COORD) (g.I.OverlayInt.whole g.I.OverlayInt.MAX_COORD) (without_data (data_segments_of c.args.segments.now)) (segments_of c.args.segments.now) same c.requires.arranged in
-    let state = c.loop-end.invariant.0 arr in
-    amid_place g.H.FillHandler.handle_gives g.H.FillHandler.finalize_gives g.F.FillStrategy.rule (data_segments_of c.args.segments.now) arr c.args.handler c.loop-index.index c.node_end-next.result c.loop-end.end-index (g.C.WindingCount.winding c.loop-end.sum) c.loop-end.handler (g.S.LiveSegments.sums c.loop-end.live) (g.S.LiveSegments.may_go_on_at c.loop-end.live) state (end_of g.I.OverlayInt.whole) c.deref-end-items.result.now c.loop-end.invariant.2 c.loop-end-test.true c.end-item.result c.end-item.is (λ v at e.
-    let own : data_segment_of c.index-segments-end.result ≡ v.segment = segment_is data_segment_of c.args.segments.now g.F.FillStrategy.rule (without_data (data_segments_of c.args.segments.now)) c.end-item.result.index c.index-segments-end.result v c.index-segments-end.is e at.is in
-    subst (λ (s : DataSegment g.row.D.Denot). AreFreeAt s.pair.a.x (record { pair = s.pair; count = add (weight (g.C.WindingCount.winding c.loop-end.sum)) (weight s.count) } ∷ g.S.LiveSegments.sums c.loop-end.live)) (sym own)
-    (subst (λ (p : Point). AreFreeAt p.x (record { pair = v.segment.pair; count = add (weight (g.C.WindingCount.winding c.loop-end.sum)) (weight v.segment.count) } ∷ g.S.LiveSegments.sums c.loop-end.live)) (sym at.start)
-    (free_here g.H.FillHandler.handle_gives g.H.FillHandler.finalize_gives g.F.FillStrategy.rule (data_segments_of c.args.segments.now) arr c.args.handler c.loop-index.index c.node_end-next.result (start_at (without_data (data_segments_of c.args.segments.now)) c.loop-index.index) state.order state.run c.loop-end.end-index (g.C.WindingCount.winding c.loop-end.sum) c.loop-end.handler (g.S.LiveSegments.sums c.loop-end.live) v at state.node)))
+    let state = c.loop-way.invariant.0 arr in
+    amid_place g.H.FillHandler.handle_gives g.H.FillHandler.finalize_gives g.F.FillStrategy.rule (data_segments_of c.args.segments.now) arr c.args.handler c.loop-index.index c.node_end-next.result c.loop-way.way-index (g.C.WindingCount.winding c.loop-way.sum) c.loop-way.handler (g.S.LiveSegments.sums c.loop-way.live) (g.S.LiveSegments.may_go_on_at c.loop-way.live) state way_of c.deref-way-items.result.now c.loop-way.invariant.2 c.loop-way-test.true c.way-item.result c.way-item.is (λ v at e.
+    let own : data_segment_of c.index-segments-way.result ≡ v.segment = segment_is data_segment_of c.args.segments.now g.F.FillStrategy.rule (without_data (data_segments_of c.args.segments.now)) c.way-item.result.index c.index-segments-way.result v c.index-segments-way.is e at.is in
+    subst (λ (s : DataSegment g.row.D.Denot). AreFreeAt s.pair.a.x (record { pair = s.pair; count = add (weight (g.C.WindingCount.winding c.loop-way.sum)) (weight s.count) } ∷ g.S.LiveSegments.sums c.loop-way.live)) (sym own)
+    (subst (λ (p : Point). AreFreeAt p.x (record { pair = v.segment.pair; count = add (weight (g.C.WindingCount.winding c.loop-way.sum)) (weight v.segment.count) } ∷ g.S.LiveSegments.sums c.loop-way.live)) (sym at.start)
+    (free_here g.H.FillHandler.handle_gives g.H.FillHandler.finalize_gives g.F.FillStrategy.rule (data_segments_of c.args.segments.now) arr c.args.handler c.loop-index.index c.node_end-next.result (start_at (without_data (data_segments_of c.args.segments.now)) c.loop-index.index) state.order state.run c.loop-way.way-index (g.C.WindingCount.winding c.loop-way.sum) c.loop-way.handler (g.S.LiveSegments.sums c.loop-way.live) v at state.node)))
 
 pub returns-in-Break-clause-answer : goal.returns-in-Break-clause-answer
 returns-in-Break-clause-answer g c =
     let same : without_data (data_segments_of c.args.segments.now) ≡ segments_of c.args.segments.now = whole_is data_segment_of segment_of (λ x. refl) c.args.segments.now in
     let arr = whole_arranged (g.I.OverlayInt.whole g.I.OverlayInt.MIN_COORD) (g.I.OverlayInt.whole g.I.OverlayInt.MAX_COORD) (without_data (data_segments_of c.args.segments.now)) (segments_of c.args.segments.now) same c.requires.arranged in
-    let state = c.loop-end.invariant.0 arr in
-    sym (amid_place g.H.FillHandler.handle_gives g.H.FillHandler.finalize_gives g.F.FillStrategy.rule (data_segments_of c.args.segments.now) arr c.args.handler c.loop-index.index c.node_end-next.result c.loop-end.end-index (g.C.WindingCount.winding c.loop-end.sum) c.loop-end.handler (g.S.LiveSegments.sums c.loop-end.live) (g.S.LiveSegments.may_go_on_at c.loop-end.live) state (end_of g.I.OverlayInt.whole) c.deref-end-items.result.now c.loop-end.invariant.2 c.loop-end-test.true c.end-item.result c.end-item.is (λ v at e.
-    let own : data_segment_of c.index-segments-end.result ≡ v.segment = segment_is data_segment_of c.args.segments.now g.F.FillStrategy.rule (without_data (data_segments_of c.args.segments.now)) c.end-item.result.index c.index-segments-end.result v c.index-segments-end.is e at.is in
-    let made = visit_is g.H.FillHandler.handle_gives g.H.FillHandler.finalize_gives g.F.FillStrategy.rule (data_segments_of c.args.segments.now) arr c.args.handler c.loop-index.index c.node_end-next.result c.loop-end.end-index (g.C.WindingCount.winding c.loop-end.sum) c.loop-end.handler (g.S.LiveSegments.sums c.loop-end.live) (g.S.LiveSegments.may_go_on_at c.loop-end.live) v at state c.end-item.result.index (data_segment_of c.index-segments-end.result) e own in
-    let answers = ap (λ u. (g.H.FillHandler.handle_gives c.loop-end.handler u).1) (sym made) ∙ sym c.in_ok-top.ensures.answer ∙ ap break_value c.in-Break.is in
-    answered_here g.H.FillHandler.handle_gives g.H.FillHandler.finalize_gives g.F.FillStrategy.rule (data_segments_of c.args.segments.now) arr c.args.handler c.loop-index.index c.node_end-next.result (start_at (without_data (data_segments_of c.args.segments.now)) c.loop-index.index) state.order state.run c.loop-end.end-index (g.C.WindingCount.winding c.loop-end.sum) c.loop-end.handler (g.S.LiveSegments.sums c.loop-end.live) v at state.node c.in-Break.answer answers))
+    let state = c.loop-way.invariant.0 arr in
+    sym (amid_place g.H.FillHandler.handle_gives g.H.FillHandler.finalize_gives g.F.FillStrategy.rule (data_segments_of c.args.segments.now) arr c.args.handler c.loop-index.index c.node_end-next.result c.loop-way.way-index (g.C.WindingCount.winding c.loop-way.sum) c.loop-way.handler (g.S.LiveSegments.sums c.loop-way.live) (g.S.LiveSegments.may_go_on_at c.loop-way.live) state way_of c.deref-way-items.result.now c.loop-way.invariant.2 c.loop-way-test.true c.way-item.result c.way-item.is (λ v at e.
+    let own : data_segment_of c.index-segments-way.result ≡ v.segment = segment_is data_segment_of c.args.segments.now g.F.FillStrategy.rule (without_data (data_segments_of c.args.segments.now)) c.way-item.result.index c.index-segments-way.result v c.index-segments-way.is e at.is in
+    let made = visit_is g.H.FillHandler.handle_gives g.H.FillHandler.finalize_gives g.F.FillStrategy.rule (data_segments_of c.args.segments.now) arr c.args.handler c.loop-index.index c.node_end-next.result c.loop-way.way-index (g.C.WindingCount.winding c.loop-way.sum) c.loop-way.handler (g.S.LiveSegments.sums c.loop-way.live) (g.S.LiveSegments.may_go_on_at c.loop-way.live) v at state c.way-item.result.index (data_segment_of c.index-segments-way.result) e own in
+    let answers = ap (λ u. (g.H.FillHandler.handle_gives c.loop-way.handler u).1) (sym made) ∙ sym c.in_ok-top.ensures.answer ∙ ap break_value c.in-Break.is in
+    answered_here g.H.FillHandler.handle_gives g.H.FillHandler.finalize_gives g.F.FillStrategy.rule (data_segments_of c.args.segments.now) arr c.args.handler c.loop-index.index c.node_end-next.result (start_at (without_data (data_segments_of c.args.segments.now)) c.loop-index.index) state.order state.run c.loop-way.way-index (g.C.WindingCount.winding c.loop-way.sum) c.loop-way.handler (g.S.LiveSegments.sums c.loop-way.live) v at state.node c.in-Break.answer answers))
 
 pub returns-in-Break-clause-in_range : goal.returns-in-Break-clause-in_range
 returns-in-Break-clause-in_range g c =
     let same : without_data (data_segments_of c.args.segments.now) ≡ segments_of c.args.segments.now = whole_is data_segment_of segment_of (λ x. refl) c.args.segments.now in
     let arr = whole_arranged (g.I.OverlayInt.whole g.I.OverlayInt.MIN_COORD) (g.I.OverlayInt.whole g.I.OverlayInt.MAX_COORD) (without_data (data_segments_of c.args.segments.now)) (segments_of c.args.segments.now) same c.requires.arranged in
-    let state = c.loop-end.invariant.0 arr in
+    let state = c.loop-way.invariant.0 arr in
     ap (λ l. visits_leave_range l (visited g.H.FillHandler.handle_gives c.args.handler (visits g.F.FillStrategy.rule (data_segments_of c.args.segments.now)))) (sym same)
-    ∙ amid_place g.H.FillHandler.handle_gives g.H.FillHandler.finalize_gives g.F.FillStrategy.rule (data_segments_of c.args.segments.now) arr c.args.handler c.loop-index.index c.node_end-next.result c.loop-end.end-index (g.C.WindingCount.winding c.loop-end.sum) c.loop-end.handler (g.S.LiveSegments.sums c.loop-end.live) (g.S.LiveSegments.may_go_on_at c.loop-end.live) state (end_of g.I.OverlayInt.whole) c.deref-end-items.result.now c.loop-end.invariant.2 c.loop-end-test.true c.end-item.result c.end-item.is (λ v at e.
-    let own : data_segment_of c.index-segments-end.result ≡ v.segment = segment_is data_segment_of c.args.segments.now g.F.FillStrategy.rule (without_data (data_segments_of c.args.segments.now)) c.end-item.result.index c.index-segments-end.result v c.index-segments-end.is e at.is in
-    let made = visit_is g.H.FillHandler.handle_gives g.H.FillHandler.finalize_gives g.F.FillStrategy.rule (data_segments_of c.args.segments.now) arr c.args.handler c.loop-index.index c.node_end-next.result c.loop-end.end-index (g.C.WindingCount.winding c.loop-end.sum) c.loop-end.handler (g.S.LiveSegments.sums c.loop-end.live) (g.S.LiveSegments.may_go_on_at c.loop-end.live) v at state c.end-item.result.index (data_segment_of c.index-segments-end.result) e own in
-    let count : winding_of c.index-segments-end.result ≡ v.segment.count = ap (λ (s : DataSegment g.row.D.Denot). s.count) own in
-    let answers = ap (λ u. (g.H.FillHandler.handle_gives c.loop-end.handler u).1) (sym made) ∙ sym c.in_ok-top.ensures.answer ∙ ap break_value c.in-Break.is in
-    in_range_here g.H.FillHandler.handle_gives g.H.FillHandler.finalize_gives g.F.FillStrategy.rule (data_segments_of c.args.segments.now) arr c.args.handler c.loop-index.index c.node_end-next.result (start_at (without_data (data_segments_of c.args.segments.now)) c.loop-index.index) state.order state.run c.loop-end.end-index (g.C.WindingCount.winding c.loop-end.sum) c.loop-end.handler (g.S.LiveSegments.sums c.loop-end.live) v at state.node c.in-Break.answer answers (subst (λ z. is_count_in_range (add (weight (g.C.WindingCount.winding c.loop-end.sum)) (weight z)) ≡ true) count c.in_ok-top.ensures.in_range))
+    ∙ amid_place g.H.FillHandler.handle_gives g.H.FillHandler.finalize_gives g.F.FillStrategy.rule (data_segments_of c.args.segments.now) arr c.args.handler c.loop-index.index c.node_end-next.result c.loop-way.way-index (g.C.WindingCount.winding c.loop-way.sum) c.loop-way.handler (g.S.LiveSegments.sums c.loop-way.live) (g.S.LiveSegments.may_go_on_at c.loop-way.live) state way_of c.deref-way-items.result.now c.loop-way.invariant.2 c.loop-way-test.true c.way-item.result c.way-item.is (λ v at e.
+    let own : data_segment_of c.index-segments-way.result ≡ v.segment = segment_is data_segment_of c.args.segments.now g.F.FillStrategy.rule (without_data (data_segments_of c.args.segments.now)) c.way-item.result.index c.index-segments-way.result v c.index-segments-way.is e at.is in
+    let made = visit_is g.H.FillHandler.handle_gives g.H.FillHandler.finalize_gives g.F.FillStrategy.rule (data_segments_of c.args.segments.now) arr c.args.handler c.loop-index.index c.node_end-next.result c.loop-way.way-index (g.C.WindingCount.winding c.loop-way.sum) c.loop-way.handler (g.S.LiveSegments.sums c.loop-way.live) (g.S.LiveSegments.may_go_on_at c.loop-way.live) v at state c.way-item.result.index (data_segment_of c.index-segments-way.result) e own in
+    let count : winding_of c.index-segments-way.result ≡ v.segment.count = ap (λ (s : DataSegment g.row.D.Denot). s.count) own in
+    let answers = ap (λ u. (g.H.FillHandler.handle_gives c.loop-way.handler u).1) (sym made) ∙ sym c.in_ok-top.ensures.answer ∙ ap break_value c.in-Break.is in
+    in_range_here g.H.FillHandler.handle_gives g.H.FillHandler.finalize_gives g.F.FillStrategy.rule (data_segments_of c.args.segments.now) arr c.args.handler c.loop-index.index c.node_end-next.result (start_at (without_data (data_segments_of c.args.segments.now)) c.loop-index.index) state.order state.run c.loop-way.way-index (g.C.WindingCount.winding c.loop-way.sum) c.loop-way.handler (g.S.LiveSegments.sums c.loop-way.live) v at state.node c.in-Break.answer answers (subst (λ z. is_count_in_range (add (weight (g.C.WindingCount.winding c.loop-way.sum)) (weight z)) ≡ true) count c.in_ok-top.ensures.in_range))
 
 pub returns-in_err-top-clause-out_of_range : goal.returns-in_err-top-clause-out_of_range
 returns-in_err-top-clause-out_of_range g c =
     let same : without_data (data_segments_of c.args.segments.now) ≡ segments_of c.args.segments.now = whole_is data_segment_of segment_of (λ x. refl) c.args.segments.now in
     let arr = whole_arranged (g.I.OverlayInt.whole g.I.OverlayInt.MIN_COORD) (g.I.OverlayInt.whole g.I.OverlayInt.MAX_COORD) (without_data (data_segments_of c.args.segments.now)) (segments_of c.args.segments.now) same c.requires.arranged in
-    let state = c.loop-end.invariant.0 arr in
+    let state = c.loop-way.invariant.0 arr in
     refused_as c.from_residual-in_err-top.result _ _ c.from_residual-in_err-top.ensures.1 (λ fault passed h. ap (λ l. visits_leave_range l (visited g.H.FillHandler.handle_gives c.args.handler (visits g.F.FillStrategy.rule (data_segments_of c.args.segments.now)))) (sym same)
-    ∙ amid_place g.H.FillHandler.handle_gives g.H.FillHandler.finalize_gives g.F.FillStrategy.rule (data_segments_of c.args.segments.now) arr c.args.handler c.loop-index.index c.node_end-next.result c.loop-end.end-index (g.C.WindingCount.winding c.loop-end.sum) c.loop-end.handler (g.S.LiveSegments.sums c.loop-end.live) (g.S.LiveSegments.may_go_on_at c.loop-end.live) state (end_of g.I.OverlayInt.whole) c.deref-end-items.result.now c.loop-end.invariant.2 c.loop-end-test.true c.end-item.result c.end-item.is (λ v at e.
-    let own : data_segment_of c.index-segments-end.result ≡ v.segment = segment_is data_segment_of c.args.segments.now g.F.FillStrategy.rule (without_data (data_segments_of c.args.segments.now)) c.end-item.result.index c.index-segments-end.result v c.index-segments-end.is e at.is in
-    let count : winding_of c.index-segments-end.result ≡ v.segment.count = ap (λ (s : DataSegment g.row.D.Denot). s.count) own in
-    refused_here g.H.FillHandler.handle_gives g.H.FillHandler.finalize_gives g.F.FillStrategy.rule (data_segments_of c.args.segments.now) arr c.args.handler c.loop-index.index c.node_end-next.result (start_at (without_data (data_segments_of c.args.segments.now)) c.loop-index.index) state.order state.run c.loop-end.end-index (g.C.WindingCount.winding c.loop-end.sum) c.loop-end.handler (g.S.LiveSegments.sums c.loop-end.live) v at state.node (subst (λ z. is_count_in_range (add (weight (g.C.WindingCount.winding c.loop-end.sum)) (weight z)) ≡ false) count (c.in_err-top.ensures.range (sym passed ∙ h)))))
+    ∙ amid_place g.H.FillHandler.handle_gives g.H.FillHandler.finalize_gives g.F.FillStrategy.rule (data_segments_of c.args.segments.now) arr c.args.handler c.loop-index.index c.node_end-next.result c.loop-way.way-index (g.C.WindingCount.winding c.loop-way.sum) c.loop-way.handler (g.S.LiveSegments.sums c.loop-way.live) (g.S.LiveSegments.may_go_on_at c.loop-way.live) state way_of c.deref-way-items.result.now c.loop-way.invariant.2 c.loop-way-test.true c.way-item.result c.way-item.is (λ v at e.
+    let own : data_segment_of c.index-segments-way.result ≡ v.segment = segment_is data_segment_of c.args.segments.now g.F.FillStrategy.rule (without_data (data_segments_of c.args.segments.now)) c.way-item.result.index c.index-segments-way.result v c.index-segments-way.is e at.is in
+    let count : winding_of c.index-segments-way.result ≡ v.segment.count = ap (λ (s : DataSegment g.row.D.Denot). s.count) own in
+    refused_here g.H.FillHandler.handle_gives g.H.FillHandler.finalize_gives g.F.FillStrategy.rule (data_segments_of c.args.segments.now) arr c.args.handler c.loop-index.index c.node_end-next.result (start_at (without_data (data_segments_of c.args.segments.now)) c.loop-index.index) state.order state.run c.loop-way.way-index (g.C.WindingCount.winding c.loop-way.sum) c.loop-way.handler (g.S.LiveSegments.sums c.loop-way.live) v at state.node (subst (λ z. is_count_in_range (add (weight (g.C.WindingCount.winding c.loop-way.sum)) (weight z)) ≡ false) count (c.in_err-top.ensures.range (sym passed ∙ h)))))
 
-pub loop-end-preserved : goal.loop-end-preserved
-loop-end-preserved g c =
+pub loop-way-preserved : goal.loop-way-preserved
+loop-way-preserved g c =
     let same : without_data (data_segments_of c.args.segments.now) ≡ segments_of c.args.segments.now = whole_is data_segment_of segment_of (λ x. refl) c.args.segments.now in
     let arr = whole_arranged (g.I.OverlayInt.whole g.I.OverlayInt.MIN_COORD) (g.I.OverlayInt.whole g.I.OverlayInt.MAX_COORD) (without_data (data_segments_of c.args.segments.now)) (segments_of c.args.segments.now) same c.requires.arranged in
-    let state = c.loop-end.invariant.0 arr in
-    let bound : c.end-item.result.index < length c.args.segments.now = amid_place g.H.FillHandler.handle_gives g.H.FillHandler.finalize_gives g.F.FillStrategy.rule (data_segments_of c.args.segments.now) arr c.args.handler c.loop-index.index c.node_end-next.result c.loop-end.end-index (g.C.WindingCount.winding c.loop-end.sum) c.loop-end.handler (g.S.LiveSegments.sums c.loop-end.live) (g.S.LiveSegments.may_go_on_at c.loop-end.live) state (end_of g.I.OverlayInt.whole) c.deref-end-items.result.now c.loop-end.invariant.2 c.loop-end-test.true c.end-item.result c.end-item.is (λ v at e. index_within data_segment_of c.args.segments.now g.F.FillStrategy.rule (without_data (data_segments_of c.args.segments.now)) c.end-item.result.index v e at.is) in (
+    let state = c.loop-way.invariant.0 arr in
+    let bound : c.way-item.result.index < length c.args.segments.now = amid_place g.H.FillHandler.handle_gives g.H.FillHandler.finalize_gives g.F.FillStrategy.rule (data_segments_of c.args.segments.now) arr c.args.handler c.loop-index.index c.node_end-next.result c.loop-way.way-index (g.C.WindingCount.winding c.loop-way.sum) c.loop-way.handler (g.S.LiveSegments.sums c.loop-way.live) (g.S.LiveSegments.may_go_on_at c.loop-way.live) state way_of c.deref-way-items.result.now c.loop-way.invariant.2 c.loop-way-test.true c.way-item.result c.way-item.is (λ v at e. index_within data_segment_of c.args.segments.now g.F.FillStrategy.rule (without_data (data_segments_of c.args.segments.now)) c.way-item.result.index v e at.is) in (
       (λ arranged.
-          let state = c.loop-end.invariant.0 arranged in
-          amid_place g.H.FillHandler.handle_gives g.H.FillHandler.finalize_gives g.F.FillStrategy.rule (data_segments_of c.args.segments.now) arranged c.args.handler c.loop-index.index c.node_end-next.result c.loop-end.end-index (g.C.WindingCount.winding c.loop-end.sum) c.loop-end.handler (g.S.LiveSegments.sums c.loop-end.live) (g.S.LiveSegments.may_go_on_at c.loop-end.live) state (end_of g.I.OverlayInt.whole) c.deref-end-items.result.now c.loop-end.invariant.2 c.loop-end-test.true c.end-item.result c.end-item.is (λ v at e.
-          let own : data_segment_of c.index-segments-end.result ≡ v.segment = segment_is data_segment_of c.args.segments.now g.F.FillStrategy.rule (without_data (data_segments_of c.args.segments.now)) c.end-item.result.index c.index-segments-end.result v c.index-segments-end.is e at.is in
-          let made = visit_is g.H.FillHandler.handle_gives g.H.FillHandler.finalize_gives g.F.FillStrategy.rule (data_segments_of c.args.segments.now) arranged c.args.handler c.loop-index.index c.node_end-next.result c.loop-end.end-index (g.C.WindingCount.winding c.loop-end.sum) c.loop-end.handler (g.S.LiveSegments.sums c.loop-end.live) (g.S.LiveSegments.may_go_on_at c.loop-end.live) v at state c.end-item.result.index (data_segment_of c.index-segments-end.result) e own in
-          let count : winding_of c.index-segments-end.result ≡ v.segment.count = ap (λ (s : DataSegment g.row.D.Denot). s.count) own in
+          let state = c.loop-way.invariant.0 arranged in
+          amid_place g.H.FillHandler.handle_gives g.H.FillHandler.finalize_gives g.F.FillStrategy.rule (data_segments_of c.args.segments.now) arranged c.args.handler c.loop-index.index c.node_end-next.result c.loop-way.way-index (g.C.WindingCount.winding c.loop-way.sum) c.loop-way.handler (g.S.LiveSegments.sums c.loop-way.live) (g.S.LiveSegments.may_go_on_at c.loop-way.live) state way_of c.deref-way-items.result.now c.loop-way.invariant.2 c.loop-way-test.true c.way-item.result c.way-item.is (λ v at e.
+          let own : data_segment_of c.index-segments-way.result ≡ v.segment = segment_is data_segment_of c.args.segments.now g.F.FillStrategy.rule (without_data (data_segments_of c.args.segments.now)) c.way-item.result.index c.index-segments-way.result v c.index-segments-way.is e at.is in
+          let made = visit_is g.H.FillHandler.handle_gives g.H.FillHandler.finalize_gives g.F.FillStrategy.rule (data_segments_of c.args.segments.now) arranged c.args.handler c.loop-index.index c.node_end-next.result c.loop-way.way-index (g.C.WindingCount.winding c.loop-way.sum) c.loop-way.handler (g.S.LiveSegments.sums c.loop-way.live) (g.S.LiveSegments.may_go_on_at c.loop-way.live) v at state c.way-item.result.index (data_segment_of c.index-segments-way.result) e own in
+          let count : winding_of c.index-segments-way.result ≡ v.segment.count = ap (λ (s : DataSegment g.row.D.Denot). s.count) own in
           let top = rw c.in-Continue.is at c.in_ok-top.ensures.top in
           let left = rw c.in-Continue.is at c.in_ok-top.ensures.live in
           let later = rw c.in-Continue.is at c.in_ok-top.ensures.time in
-          step g.H.FillHandler.handle_gives g.H.FillHandler.finalize_gives g.F.FillStrategy.rule (data_segments_of c.args.segments.now) arranged c.args.handler c.loop-index.index c.node_end-next.result c.loop-end.end-index (g.C.WindingCount.winding c.loop-end.sum) (g.C.WindingCount.winding c.in-Continue.top) c.loop-end.handler c.visit.new.handler (g.S.LiveSegments.sums c.loop-end.live) (g.S.LiveSegments.sums c.visit.new.live) (g.S.LiveSegments.may_go_on_at c.loop-end.live) (g.S.LiveSegments.may_go_on_at c.visit.new.live) v at state
-          (ap (λ u. (g.H.FillHandler.handle_gives c.loop-end.handler u).1) (sym made) ∙ sym c.in_ok-top.ensures.answer ∙ ap break_value c.in-Continue.is)
-          (c.in_ok-top.ensures.handler ∙ ap (λ u. (g.H.FillHandler.handle_gives c.loop-end.handler u).0) made)
-          (top ∙ ap (λ z. add (weight (g.C.WindingCount.winding c.loop-end.sum)) (weight z)) count)
-          (subst (λ z. is_count_in_range (add (weight (g.C.WindingCount.winding c.loop-end.sum)) (weight z)) ≡ true) count c.in_ok-top.ensures.in_range)
-          (subst (λ (p : Point). HoldSameFrom p.x (g.S.LiveSegments.sums c.visit.new.live) (record { pair = v.segment.pair; count = add (weight (g.C.WindingCount.winding c.loop-end.sum)) (weight v.segment.count) } ∷ g.S.LiveSegments.sums c.loop-end.live)) at.start
-          (subst (λ (s : DataSegment g.row.D.Denot). HoldSameFrom s.pair.a.x (g.S.LiveSegments.sums c.visit.new.live) (record { pair = s.pair; count = add (weight (g.C.WindingCount.winding c.loop-end.sum)) (weight s.count) } ∷ g.S.LiveSegments.sums c.loop-end.live)) own left))
+          step g.H.FillHandler.handle_gives g.H.FillHandler.finalize_gives g.F.FillStrategy.rule (data_segments_of c.args.segments.now) arranged c.args.handler c.loop-index.index c.node_end-next.result c.loop-way.way-index (g.C.WindingCount.winding c.loop-way.sum) (g.C.WindingCount.winding c.in-Continue.top) c.loop-way.handler c.visit.new.handler (g.S.LiveSegments.sums c.loop-way.live) (g.S.LiveSegments.sums c.visit.new.live) (g.S.LiveSegments.may_go_on_at c.loop-way.live) (g.S.LiveSegments.may_go_on_at c.visit.new.live) v at state
+          (ap (λ u. (g.H.FillHandler.handle_gives c.loop-way.handler u).1) (sym made) ∙ sym c.in_ok-top.ensures.answer ∙ ap break_value c.in-Continue.is)
+          (c.in_ok-top.ensures.handler ∙ ap (λ u. (g.H.FillHandler.handle_gives c.loop-way.handler u).0) made)
+          (top ∙ ap (λ z. add (weight (g.C.WindingCount.winding c.loop-way.sum)) (weight z)) count)
+          (subst (λ z. is_count_in_range (add (weight (g.C.WindingCount.winding c.loop-way.sum)) (weight z)) ≡ true) count c.in_ok-top.ensures.in_range)
+          (subst (λ (p : Point). HoldSameFrom p.x (g.S.LiveSegments.sums c.visit.new.live) (record { pair = v.segment.pair; count = add (weight (g.C.WindingCount.winding c.loop-way.sum)) (weight v.segment.count) } ∷ g.S.LiveSegments.sums c.loop-way.live)) at.start
+          (subst (λ (s : DataSegment g.row.D.Denot). HoldSameFrom s.pair.a.x (g.S.LiveSegments.sums c.visit.new.live) (record { pair = s.pair; count = add (weight (g.C.WindingCount.winding c.loop-way.sum)) (weight s.count) } ∷ g.S.LiveSegments.sums c.loop-way.live)) own left))
           (λ y l. later y (subst (λ (p : Point). p.x ≤ℤ y) (sym (ap (λ (s : DataSegment g.row.D.Denot). s.pair.a) own ∙ at.start)) l)))),
-      (λ k l. subst (λ u. g.H.FillHandler.takes u k) (sym c.in_ok-top.ensures.handler) (g.met.H.FillHandler.keeps_taking c.loop-end.handler _ k (c.loop-end.invariant.1 c.end-item.result.index bound) (c.loop-end.invariant.1 k l))),
-      c.loop-end.invariant.2,
+      (λ k l. subst (λ u. g.H.FillHandler.takes u k) (sym c.in_ok-top.ensures.handler) (g.met.H.FillHandler.keeps_taking c.loop-way.handler _ k (c.loop-way.invariant.1 c.way-item.result.index bound) (c.loop-way.invariant.1 k l))),
+      c.loop-way.invariant.2,
     )
 
 pub loop-index-preserved : goal.loop-index-preserved
 loop-index-preserved g c = (
   (λ arranged.
-      let state = c.loop-end.invariant.0 arranged in
-      leave g.H.FillHandler.handle_gives g.H.FillHandler.finalize_gives g.F.FillStrategy.rule (data_segments_of c.args.segments.now) arranged c.args.handler c.loop-index.index c.node_end-next.result c.loop-end.end-index (g.C.WindingCount.winding c.loop-end.sum) c.loop-end.handler (g.S.LiveSegments.sums c.loop-end.live) (g.S.LiveSegments.may_go_on_at c.loop-end.live) state
-      (node_is_over g.H.FillHandler.handle_gives g.H.FillHandler.finalize_gives g.F.FillStrategy.rule (data_segments_of c.args.segments.now) arranged c.args.handler c.loop-index.index c.node_end-next.result c.loop-end.end-index (g.C.WindingCount.winding c.loop-end.sum) c.loop-end.handler (g.S.LiveSegments.sums c.loop-end.live) (g.S.LiveSegments.may_go_on_at c.loop-end.live) state (end_of g.I.OverlayInt.whole) c.deref-end-items.result.now c.loop-end.invariant.2 c.loop-end-test.false)),
-  c.loop-end.invariant.1,
+      let state = c.loop-way.invariant.0 arranged in
+      leave g.H.FillHandler.handle_gives g.H.FillHandler.finalize_gives g.F.FillStrategy.rule (data_segments_of c.args.segments.now) arranged c.args.handler c.loop-index.index c.node_end-next.result c.loop-way.way-index (g.C.WindingCount.winding c.loop-way.sum) c.loop-way.handler (g.S.LiveSegments.sums c.loop-way.live) (g.S.LiveSegments.may_go_on_at c.loop-way.live) state
+      (node_is_over g.H.FillHandler.handle_gives g.H.FillHandler.finalize_gives g.F.FillStrategy.rule (data_segments_of c.args.segments.now) arranged c.args.handler c.loop-index.index c.node_end-next.result c.loop-way.way-index (g.C.WindingCount.winding c.loop-way.sum) c.loop-way.handler (g.S.LiveSegments.sums c.loop-way.live) (g.S.LiveSegments.may_go_on_at c.loop-way.live) state way_of c.deref-way-items.result.now c.loop-way.invariant.2 c.loop-way-test.false)),
+  c.loop-way.invariant.1,
 )
 
 pub returns-clause-answer : goal.returns-clause-answer

@@ -1,9 +1,9 @@
 use Rattle.std.proofs.Common.{◌≡◌, ℕ, ◌<◌, ◌-◌, length}
 use Rattle.overlay_base.specs.EdgeData.{without_data}
 use Rattle.overlay_base.specs.SegmentOf.{data_segments_of}
-use Rattle.overlay_build.specs.NodeOf.{ends_of, ends_between, by_angle}
+use Rattle.overlay_build.specs.WayOf.{ways_of, ways_between, by_angle}
 use Rattle.overlay_build.proofs.laws.Members.{IsArranged}
-use Rattle.overlay_build.proofs.laws.SweepStates.{IsBeforeNode, IsAmidNode, start_at}
+use Rattle.overlay_build.proofs.laws.SweepStates.{IsBeforeNode, IsAmidNode}
 use Rattle.overlay_build.proofs.build.visits.sweep_with_handler.Given as goal
 
 abbrev pub invariant-loop-index : goal.invariant-loop-index
@@ -12,12 +12,12 @@ invariant-loop-index g l =
     IsBeforeNode g.H.FillHandler.handle_gives g.H.FillHandler.finalize_gives g.F.FillStrategy.rule (data_segments_of l.segments) arranged l.fn.handler l.index l.handler (g.S.LiveSegments.sums l.live) (g.S.LiveSegments.may_go_on_at l.live))
     × ((k : ℕ) → k < length l.segments → g.H.FillHandler.takes l.handler k)
 
-abbrev pub invariant-loop-end : goal.invariant-loop-end
-invariant-loop-end g l =
+abbrev pub invariant-loop-way : goal.invariant-loop-way
+invariant-loop-way g l =
     ((arranged : IsArranged (without_data (data_segments_of l.segments))) →
-    IsAmidNode g.H.FillHandler.handle_gives g.H.FillHandler.finalize_gives g.F.FillStrategy.rule (data_segments_of l.segments) arranged l.fn.handler l.index l.next l.end-index (g.C.WindingCount.winding l.sum) l.handler (g.S.LiveSegments.sums l.live) (g.S.LiveSegments.may_go_on_at l.live))
+    IsAmidNode g.H.FillHandler.handle_gives g.H.FillHandler.finalize_gives g.F.FillStrategy.rule (data_segments_of l.segments) arranged l.fn.handler l.index l.next l.way-index (g.C.WindingCount.winding l.sum) l.handler (g.S.LiveSegments.sums l.live) (g.S.LiveSegments.may_go_on_at l.live))
     × ((k : ℕ) → k < length l.segments → g.H.FillHandler.takes l.handler k)
-    × (ends_of g.I.OverlayInt.whole l.end-items ≡ by_angle (start_at (without_data (data_segments_of l.segments)) l.index) (ends_between (without_data (data_segments_of l.segments)) l.index l.next))
+    × (ways_of l.way-items ≡ by_angle (ways_between (without_data (data_segments_of l.segments)) l.index l.next))
 
 abbrev pub decreases-loop-index : goal.decreases-loop-index
 decreases-loop-index g l = length l.segments - l.index

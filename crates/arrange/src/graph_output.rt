@@ -1,0 +1,120 @@
+// The text of a graph: a line for each link, then for each node, then whether the graph is valid.
+ghost use Rattle.std.specs.Prelude.{◌≡◌, ◌<◌, ◌++◌, true, codes, flat_map, length, slice_index_or, OnOk, string_bytes};
+ghost use Rattle.overlay_base.specs.PointOf.{point_of};
+ghost use Rattle.overlay_build.specs.Graph.{Node};
+ghost use Rattle.overlay_build.specs.GraphOf.{link_of, graph_with};
+ghost use Rattle.overlay_build.specs.NodeIndexes.{indexes_of, is_canonical_node};
+ghost use Rattle.arrange.specs.Output.{numbers_text, link_line, node_line, graph_text};
+
+use crate::output::write_point;
+use overlay_base::geom::point::IntPoint;
+use overlay_base::num::OverlayInt;
+use overlay_base::overlay_core::link::OverlayLink;
+use overlay_build::build::graph::OverlayGraph;
+use overlay_build::build::graph_node::OverlayNode;
+use std::alloc::AllocError;
+
+/// Writes the links, then the nodes, then `valid true` or `valid false`.
+#[tactic(auto, unfolding(crate::specs::Output::graph_text))]
+pub fn write_graph<I: OverlayInt>(
+    text: &mut String,
+    graph: &OverlayGraph<'_, I, ()>,
+) -> Result<(), AllocError>
+    ensures { OnOk result (string_bytes text.new ≡ string_bytes text.old ++ graph_text (graph_with I.whole graph.now.links.now)) }
+{
+    write_links(text, graph.links())?;
+    write_nodes(text, graph)?;
+    let valid = graph.validate();
+    writeln!(text, "valid {valid}")
+}
+
+/// Writes `link AX AY BX BY FILL AID BID` for each link.
+fn write_links<I: OverlayInt>(
+    text: &mut String,
+    links: &[OverlayLink<I, ()>],
+) -> Result<(), AllocError>
+    ensures { OnOk result (string_bytes text.new ≡ string_bytes text.old ++ flat_map (λ l. link_line (link_of I.whole l)) links.now) }
+{
+    for link in links {
+        write_link(text, link)?;
+    }
+    Ok(())
+}
+
+#[tactic(auto, unfolding(crate::specs::Output::link_line))]
+fn write_link<I: OverlayInt>(text: &mut String, link: &OverlayLink<I, ()>) -> Result<(), AllocError>
+    ensures { OnOk result (string_bytes text.new ≡ string_bytes text.old ++ link_line (link_of I.whole link.now)) }
+{
+    text.push_str("link")?;
+    write_point(text, link.a.point)?;
+    write_point(text, link.b.point)?;
+    let (fill, a, b) = (link.fill, link.a.id, link.b.id);
+    writeln!(text, " {fill} {a} {b}")
+}
+
+/// Writes `node X Y bridge I J` or `node X Y cross I ..` for each node.
+fn write_nodes<I: OverlayInt>(
+    text: &mut String,
+    graph: &OverlayGraph<'_, I, ()>,
+) -> Result<(), AllocError>
+    ensures { OnOk result (string_bytes text.new ≡ string_bytes text.old ++ flat_map node_line (graph_with I.whole graph.now.links.now).nodes) }
+{
+    for (id, node) in graph.nodes().iter().enumerate() {
+        write_node(text, node_point(graph, id), node)?;
+    }
+    Ok(())
+}
+
+#[tactic(auto, unfolding(crate::specs::Output::node_line))]
+fn write_node<I: OverlayInt>(
+    text: &mut String,
+    point: IntPoint<I>,
+    node: &OverlayNode,
+) -> Result<(), AllocError>
+    requires { is_canonical_node node.now ≡ true }
+    ensures { OnOk result (string_bytes text.new ≡ string_bytes text.old ++ node_line (record { point = point_of I.whole point; links = indexes_of node.now })) }
+{
+    text.push_str("node")?;
+    write_point(text, point)?;
+    text.push_str(match node {
+        OverlayNode::Bridge(_) => " bridge",
+        OverlayNode::Cross(_) => " cross",
+    })?;
+    write_numbers(text, indexes(node))?;
+    text.push_str("\n")?;
+    Ok(())
+}
+
+/// Writes each number after a space.
+fn write_numbers(text: &mut String, numbers: &[usize]) -> Result<(), AllocError>
+    ensures { OnOk result (string_bytes text.new ≡ string_bytes text.old ++ numbers_text numbers.now) }
+{
+    for number in numbers {
+        write!(text, " {number}")?;
+    }
+    Ok(())
+}
+
+/// The indexes of the links that meet at a node.
+fn indexes(node: &OverlayNode) -> &[usize]
+    ensures { result.now ≡ indexes_of node.now }
+{
+    match node {
+        OverlayNode::Bridge(two) => two,
+        OverlayNode::Cross(several) => several,
+    }
+}
+
+/// The point of the node with this number: the end that its first link has there.
+fn node_point<I: OverlayInt>(graph: &OverlayGraph<'_, I, ()>, id: usize) -> IntPoint<I>
+    requires { id < length graph.now.nodes.now }
+    ensures { (node : Node) → point_of I.whole result ≡ (slice_index_or (graph_with I.whole graph.now.links.now).nodes id node).point }
+{
+    let first = indexes(&graph.nodes()[id])[0];
+    let link = graph.links()[first];
+    if link.a.id == id {
+        link.a.point
+    } else {
+        link.b.point
+    }
+}

@@ -1,0 +1,62 @@
+use Rattle.std.proofs.Common.{ℕ, Bool, List}
+use Rattle.std.proofs.lemmas.Result.{IfOk-weaker, on_ok_weaker}
+use Rattle.overlay_base.specs.Rules.{holds, keeps_fill}
+use Rattle.overlay_base.specs.Segments.{WholeSegment}
+use Rattle.overlay_base.specs.SegmentOf.{segments_of}
+use Rattle.overlay_split.specs.Run.{Settings}
+use Rattle.overlay_split.specs.SettingsOf.{passes_of, settings_of}
+use Rattle.overlay_build.specs.Graph.{graph_by}
+use Rattle.overlay_build.specs.GraphOf.{HoldGraph, graph_with}
+use Rattle.overlay_build.specs.NodeIndexes.{indexes_of, is_canonical_node}
+use Rattle.i_overlay.specs.Headline.{IsSplit, IsOverlay}
+use Rattle.overlay_build.proofs.laws.BuiltGraphs.{graph_with_kept}
+use Rattle.i_overlay.proofs.laws.Overlays.{none_arranged, split_from, overlay_from, refused_build}
+use Rattle.i_overlay.proofs.overlay.split_and_build_overlay.Goals as goal
+
+pub returns-in_err-split_segments-clause-arranged : goal.returns-in_err-split_segments-clause-arranged
+returns-in_err-split_segments-clause-arranged g c = rw c.in_err-split_segments.ensures.emptied (none_arranged _ _)
+
+pub returns-clause-overlay : goal.returns-clause-overlay
+returns-clause-overlay g c =
+    let e = c.in_ok-split_segments.ensures in
+    let whole = g.I.OverlayInt.whole in
+    let keeps : ℕ → Bool = keeps_fill (holds c.args.overlay_rule) in
+    let settings : Settings = settings_of g.I.OverlayInt.BITS c.args.solver.now c.args.splitter.now in
+    let given : List WholeSegment = segments_of c.args.segments.now.items in
+    let segments : List WholeSegment = segments_of c.split_segments.new.list.items in
+    let passes : ℕ = passes_of c.split_segments.new.self in
+    let split : IsSplit settings given segments passes = split_from _ _ _ _ _ _ _ e.run e.arranged e.balance e.in_box e.exact_input e.bound in
+    let balanced = rw c.deref.ensures.value at c.build_boolean_overlay.ensures.balanced in
+    IfOk-weaker c.build_boolean_overlay.result
+    (λ built. HoldGraph indexes_of is_canonical_node whole built.nodes.now built.links.now (graph_by keeps c.args.fill_rule segments))
+    (λ built. IsOverlay settings c.args.fill_rule (holds c.args.overlay_rule) given segments passes (graph_with whole built.links.now))
+    (λ built h. overlay_from settings c.args.fill_rule (holds c.args.overlay_rule) given segments passes _ split (graph_with_kept indexes_of is_canonical_node whole built.nodes.now built.links.now keeps c.args.fill_rule segments h) balanced)
+    (rw c.deref.ensures.value at c.build_boolean_overlay.ensures.graph)
+
+pub returns-clause-graph : goal.returns-clause-graph
+returns-clause-graph g c =
+    let whole = g.I.OverlayInt.whole in
+    IfOk-weaker c.build_boolean_overlay.result
+    (λ built. HoldGraph indexes_of is_canonical_node whole built.nodes.now built.links.now (graph_by (keeps_fill (holds c.args.overlay_rule)) c.args.fill_rule (segments_of c.deref.result.now)))
+    (λ built. HoldGraph indexes_of is_canonical_node whole built.nodes.now built.links.now (graph_with whole built.links.now))
+    (λ built h. built.holds)
+    c.build_boolean_overlay.ensures.graph
+
+pub returns-clause-edge_data : goal.returns-clause-edge_data
+returns-clause-edge_data g c = rw (← c.deref.ensures.value) c.build_boolean_overlay.ensures.edge_data
+
+pub returns-clause-unchanged : goal.returns-clause-unchanged
+returns-clause-unchanged g c = λ arranged. on_ok_weaker _ (λ _. (c.in_ok-split_segments.ensures.unchanged arranged).1) c.build_boolean_overlay.ensures.in_range
+
+pub returns-clause-fits : goal.returns-clause-fits
+returns-clause-fits g c = on_ok_weaker _ (λ _. c.in_ok-split_segments.ensures.fits) c.build_boolean_overlay.ensures.in_range
+
+pub returns-clause-refused : goal.returns-clause-refused
+returns-clause-refused g c =
+    let e = c.in_ok-split_segments.ensures in
+    let settings : Settings = settings_of g.I.OverlayInt.BITS c.args.solver.now c.args.splitter.now in
+    let given : List WholeSegment = segments_of c.args.segments.now.items in
+    let segments : List WholeSegment = segments_of c.split_segments.new.list.items in
+    let passes : ℕ = passes_of c.split_segments.new.self in
+    let split : IsSplit settings given segments passes = split_from _ _ _ _ _ _ _ e.run e.arranged e.balance e.in_box e.exact_input e.bound in
+    refused_build settings given segments (passes_of c.args.splitter.now) passes c.build_boolean_overlay.result split e.fits (rw c.deref.ensures.value at c.build_boolean_overlay.ensures.out_of_range)

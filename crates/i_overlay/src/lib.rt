@@ -1,0 +1,9 @@
+// The overlay engine in one crate: the modules of the crates below under upstream's names, but for `overlay_core`,
+// which is upstream's `core`, and the whole overlay in one call.
+#![tactic(auto)]
+
+pub use overlay_base::{geom, num, overlay_core, segm};
+pub use overlay_build::build;
+pub use overlay_split::split;
+
+pub mod overlay;

@@ -1,0 +1,75 @@
+// A split and a build in one call. This project's own.
+ghost use Rattle.std.specs.Prelude.{◌≡◌, ◌⊎◌, [], map, IsTrue, IsFalse, OnOk, IfOk, IfErr};
+ghost use Rattle.overlay_base.specs.BooleanWinding.{boolean_counted};
+ghost use Rattle.overlay_base.specs.HooksOf.{hooks_of};
+ghost use Rattle.overlay_base.specs.Rules.{holds, keeps_fill};
+ghost use Rattle.overlay_base.specs.Planar.{is_splittable, is_arranged};
+ghost use Rattle.overlay_base.specs.SegmentOf.{segments_of, data_segments_of};
+ghost use Rattle.overlay_split.specs.Run.{LeavesRange};
+ghost use Rattle.overlay_split.specs.DataPass.{data_after_passes};
+ghost use Rattle.overlay_split.specs.SettingsOf.{snap_limit_of, passes_of, settings_of};
+ghost use Rattle.overlay_build.specs.ChainWindings.{tops_leave_range};
+ghost use Rattle.overlay_build.specs.Graph.{data_by};
+ghost use Rattle.overlay_build.specs.GraphOf.{HoldGraph, graph_with};
+ghost use Rattle.overlay_build.specs.NodeIndexes.{indexes_of, is_canonical_node};
+ghost use Rattle.i_overlay.specs.Headline.{IsOverlay, IsSplitRefused, IsBuildRefused};
+
+use overlay_base::num::OverlayInt;
+use overlay_base::overlay_core::edge_data::OverlayEdgeData;
+use overlay_base::overlay_core::fill_rule::FillRule;
+use overlay_base::overlay_core::overlay_rule::OverlayRule;
+use overlay_base::overlay_core::solver::Solver;
+use overlay_base::segm::boolean::ShapeCountBoolean;
+use overlay_base::segm::fault::Fault;
+use overlay_base::segm::segment::Segment;
+use overlay_build::build::builder::GraphBuilder;
+use overlay_build::build::graph::OverlayGraph;
+use overlay_build::build::graph_node::OverlayNode;
+use overlay_split::split::solver::SplitSolver;
+
+/// Splits a list into a planar arrangement, and answers the graph of the segments that an overlay rule keeps under a
+/// fill rule. The graph borrows its nodes and links from the builder.
+///
+/// The list has to be splittable, as `is_splittable` tests; afterwards it is the arrangement. Where the given counts
+/// balance at every point, as those of closed contours do, the graph holds exactly the segments of whose two sides the
+/// rule says different things, with the fills of these sides, and evenly many links meet at every node. The data of the
+/// list goes through the splits and merges of a store of its own, which begins as the store's default and is dropped;
+/// each link has the data of its segment. The solver's strategy does not change the answer.
+///
+/// Answers `Fault::CountOutOfRange` only where a running sum of counts on one pair of ends leaves
+/// `-i32::MAX..=i32::MAX` in the split, or a winding above a segment in the build, and, memory being found, wherever one
+/// does; `Fault::Memory` where a growth is refused. Where the split was refused the list is empty and `passes` is as it
+/// was, and the builder was not called; where the build was refused the list is the arrangement. The splitter and the
+/// builder can be used again.
+pub fn split_and_build_overlay<'a, I: OverlayInt, D: OverlayEdgeData<ShapeCountBoolean>>(
+    splitter: &mut SplitSolver<I>,
+    builder: &'a mut GraphBuilder<ShapeCountBoolean, OverlayNode, I, D>,
+    segments: &mut Vec<Segment<ShapeCountBoolean, I, D>>,
+    solver: &Solver,
+    fill_rule: FillRule,
+    overlay_rule: OverlayRule,
+) -> Result<OverlayGraph<'a, I, D>, Fault>
+    requires { IsTrue (is_splittable (I.whole I.MIN_COORD) (I.whole I.MAX_COORD) (segments_of segments.old.items)) }
+    ensures overlay { IfOk result (λ graph. IsOverlay (settings_of I.BITS solver.now splitter.old) fill_rule (holds overlay_rule) (segments_of segments.old.items) (segments_of segments.new.items) (passes_of splitter.new) (graph_with I.whole graph.links.now)) }
+    ensures graph { IfOk result (λ graph. HoldGraph indexes_of is_canonical_node I.whole graph.nodes.now graph.links.now (graph_with I.whole graph.links.now)) }
+    ensures edge_data { IfOk result (λ graph. map (λ l. l.edge_data) graph.links.now ≡ data_by (keeps_fill (holds overlay_rule)) fill_rule (data_segments_of segments.new.items)) }
+    ensures arranged { IsTrue (is_arranged (I.whole I.MIN_COORD) (I.whole I.MAX_COORD) (segments_of segments.new.items)) }
+    ensures list_data { (segments.new.items ≡ []) ⊎
+        ((store : D.Store) × D.Store.is_default store ×
+        (let hooks = hooks_of boolean_counted D.reversed_gives D.split_gives D.merge_gives in
+        data_segments_of segments.new.items ≡ (data_after_passes hooks (settings_of I.BITS solver.now splitter.old) (data_segments_of segments.old.items) store (passes_of splitter.new)).0)) }
+    ensures unchanged { IsTrue (is_arranged (I.whole I.MIN_COORD) (I.whole I.MAX_COORD) (segments_of segments.old.items)) → OnOk result (data_segments_of segments.new.items ≡ data_segments_of segments.old.items) }
+
+    ensures fits { OnOk result (LeavesRange (settings_of I.BITS solver.now splitter.old) (segments_of segments.old.items) → ⊥) }
+    ensures in_range { OnOk result (IsFalse (tops_leave_range (segments_of segments.new.items))) }
+    ensures refused { IfErr result (λ fault.
+        (IsSplitRefused (settings_of I.BITS solver.now splitter.old) (segments_of segments.old.items) (segments_of segments.new.items) fault × (passes_of splitter.new ≡ passes_of splitter.old)) ⊎
+        IsBuildRefused (settings_of I.BITS solver.now splitter.old) (segments_of segments.old.items) (segments_of segments.new.items) (passes_of splitter.new) fault) }
+    ensures limit { snap_limit_of splitter.new ≡ snap_limit_of splitter.old }
+{
+    splitter.split_segments(segments, solver)?;
+    builder.build_boolean_overlay(fill_rule, overlay_rule, solver, segments)
+}
+
+#[cfg(test)]
+mod tests;

@@ -1,0 +1,15 @@
+use Rattle.std.proofs.Common.{◌∙◌}
+use Rattle.overlay_base.specs.SegmentOf.{segments_of}
+use Rattle.overlay_build.specs.RuleOf.{keeps_by}
+use Rattle.overlay_build.proofs.laws.BuiltGraphs.{hold_kept_graph, links_are_ordered}
+use Rattle.overlay_build.proofs.build.builder.GraphBuilder+ShapeCountBoolean+N+I+D.try_build.Goals as goal
+
+pub connect_links-requires : goal.connect_links-requires
+connect_links-requires g c =
+    links_are_ordered g.I.OverlayInt.whole _ (keeps_by c.args.rule) c.args.fill_rule _ _ (segments_of c.args.segments.now) c.requires.arranged
+    (c.in_ok-collect_links.ensures.kept c.args.fill_rule (c.as_slice-fills.ensures.value ∙ c.in_ok-find_fills.ensures.fills))
+
+pub returns-clause-graph : goal.returns-clause-graph
+returns-clause-graph g c =
+    hold_kept_graph g.N.GraphNode.indexes g.N.GraphNode.is_canonical g.I.OverlayInt.whole _ _ (keeps_by c.args.rule) c.args.fill_rule (segments_of c.args.segments.now) _
+    (c.in_ok-collect_links.ensures.kept c.args.fill_rule (c.as_slice-fills.ensures.value ∙ c.in_ok-find_fills.ensures.fills)) c.in_ok-connect_links.ensures.graph

@@ -1,0 +1,150 @@
+-- Lists of nodes and of ends, element by element.
+use Rattle.std.proofs.Common.{◌≡◌, refl, sym, ap, ap₂, ◌∙◌, arith, ℕ, zero, suc, ◌+◌, ◌<◌, ◌≤◌, ◌==◌, add-one, zero-add, Bool, true, false, ◌&&◌, ◌||◌, List, [], ◌∷◌, ◌++◌, map, take, drop, length, get_or, set, if◌then◌else◌}
+use Rattle.std.specs.Prelude.{nat_le, ℤ}
+use Rattle.std.specs.List.{list_all, enumerate_from}
+use Rattle.std.proofs.Math.Seq.{drop-cons}
+use Rattle.std.proofs.lemmas.Bool.{eqb-true, eq-eqb, false≢true}
+use Rattle.std.proofs.lemmas.List.{get_or-map, length-map, take_more, map-append, get_or-set_same, get_or-set_other}
+use Rattle.std.proofs.lemmas.List.Folds.{list_all-map, list_any-append}
+use Rattle.std.proofs.lemmas.List.FromFn.{length-enumerate_from, get_or-enumerate_from}
+use Rattle.overlay_base.specs.Points.{Point, Pair, point_eq}
+use Rattle.overlay_base.specs.PointOf.{point_of}
+use Rattle.overlay_base.proofs.laws.Lists.{take-all}
+use Rattle.overlay_base.specs.declared.geom.end.End.{End}
+use Rattle.overlay_build.specs.NodeOf.{WholeEnd, end_of, ends_of}
+use Rattle.overlay_base.specs.declared.overlay_core.link.OverlayLink.{OverlayLink}
+use Rattle.overlay_build.specs.GraphOf.{with_node, names_node}
+use Rattle.overlay_build.specs.Graph.{Node, Graph, is_bridge, is_valid_graph}
+
+-- ---- what is left of a list
+
+pub rest-next : {X : Type 0} (xs : List X) (j : ℕ) (x : X) → j < length xs → x ≡ get_or xs j x → drop j xs ≡ x ∷ drop (j + 1) xs
+rest-next xs j x lt is = drop-cons xs j x lt ∙ ap₂ (λ y ys. y ∷ ys) (sym is) (ap (λ (n : ℕ). drop n xs) (sym (add-one j)))
+
+pub rest-over : {X : Type 0} (xs : List X) (j : ℕ) → length xs ≤ j → drop j xs ≡ []
+rest-over [] zero le = refl
+rest-over [] (suc j) le = refl
+rest-over (x ∷ xs) zero le = absurd (omega arith)
+rest-over (x ∷ xs) (suc j) le = rest-over xs j (omega arith)
+
+-- one element more, under a function
+pub map-take_next : {X Y : Type 0} (f : X → Y) (xs : List X) (i : ℕ) (x : X) → i < length xs → x ≡ get_or xs i x → map f (take (i + 1) xs) ≡ map f (take i xs) ++ f x ∷ []
+map-take_next f xs i x lt is = ap (map f) (take_more xs i x lt ∙ ap (λ y. take i xs ++ y ∷ []) (sym is)) ∙ map-append f (take i xs) (x ∷ [])
+
+-- ---- valid graphs
+
+-- whether a node with these indexes is a bridge, or has two or more where there are enough links
+abbrev pub is_sound : Bool → List ℕ → Bool
+is_sound enough indexes = length indexes == 2 || (nat_le 2 (length indexes) && enough)
+
+both : (b t e a c : Bool) → ((b || (t && e)) && (a && (c || e))) ≡ (((b || t) && a) && ((b && c) || e))
+both true t e a c = refl
+both false false e a c = refl
+both false true true true true = refl
+both false true true true false = refl
+both false true true false c = refl
+both false true false true c = refl
+both false true false false c = refl
+
+sound_each : (enough : Bool) (ns : List Node) → list_all (λ n. is_sound enough n.links) ns ≡ (list_all (λ n. is_bridge n || nat_le 2 (length n.links)) ns && (list_all is_bridge ns || enough))
+sound_each enough [] = refl
+sound_each enough (n ∷ ns) =
+    ap (λ b. is_sound enough n.links && b) (sound_each enough ns)
+    ∙ both (is_bridge n) (nat_le 2 (length n.links)) enough (list_all (λ n. is_bridge n || nat_le 2 (length n.links)) ns) (list_all is_bridge ns)
+
+-- a graph is valid where each of its nodes is sound
+pub sound_is_valid : {N : Type 0} (indexes : N → List ℕ) (nodes : List N) (graph : Graph) (enough : Bool) → map indexes nodes ≡ map (λ n. n.links) graph.nodes → enough ≡ nat_le (length graph.nodes) (length graph.links) →
+    list_all (λ n. is_sound enough (indexes n)) nodes ≡ is_valid_graph graph
+unfolding is_valid_graph
+sound_is_valid indexes nodes graph enough same e =
+    sym (list_all-map (is_sound enough) indexes nodes)
+    ∙ ap (list_all (is_sound enough)) same
+    ∙ list_all-map (is_sound enough) (λ (n : Node). n.links) graph.nodes
+    ∙ sound_each enough graph.nodes
+    ∙ ap (λ b. list_all (λ n. is_bridge n || nat_le 2 (length n.links)) graph.nodes && (list_all is_bridge graph.nodes || b)) e
+
+-- ---- ends in whole numbers
+
+pub end_point_at : {I : Type 0} (whole : I → ℤ) (ends : List (End I)) (k : ℕ) (x : End I) (d : WholeEnd) → k < length ends → (get_or (ends_of whole ends) k d).point ≡ point_of whole (get_or ends k x).point
+end_point_at whole ends k x d h = ap (λ (e : WholeEnd). e.point) (get_or-map (end_of whole) ends k x d h)
+
+-- the ends of links, numbered in their order
+abbrev pub numbered : (Pair → Point) → List Pair → List WholeEnd
+numbered side links = map (λ e. record { index = e.0; point = side e.1 }) (enumerate_from 0 links)
+
+pub numbered-more : {X : Type 0} (side : Pair → Point) (f : X → Pair) (xs : List X) (i : ℕ) (x : X) → i < length xs → x ≡ get_or xs i x →
+    take (i + 1) (numbered side (map f xs)) ≡ take i (numbered side (map f xs)) ++ record { index = i; point = side (f x) } ∷ []
+numbered-more side f xs i x h is =
+    let within : i < length (map f xs) = rw length-map h in
+    let listed : i < length (enumerate_from 0 (map f xs)) = rw length-enumerate_from within in
+    let all : i < length (numbered side (map f xs)) = rw length-map listed in
+    let first : get_or (numbered side (map f xs)) i (record { index = i; point = side (f x) }) ≡ record { index = i; point = side (f x) } =
+    get_or-map (λ (e : ℕ × Pair). record { index = e.0; point = side e.1 }) (enumerate_from 0 (map f xs)) i (0, f x) (record { index = i; point = side (f x) }) listed
+    ∙ ap (λ (e : ℕ × Pair). record { index = e.0; point = side e.1 }) (get_or-enumerate_from 0 (map f xs) i (0, f x) within)
+    ∙ ap₂ (λ (n : ℕ) (s : Pair). record { index = n; point = side s }) (zero-add i) (get_or-map f xs i x (f x) h ∙ ap f (sym is)) in
+    take_more (numbered side (map f xs)) i (record { index = i; point = side (f x) }) all ∙ ap (λ e. take i (numbered side (map f xs)) ++ e ∷ []) first
+
+pub numbered-all : {X : Type 0} (side : Pair → Point) (f : X → Pair) (xs : List X) (i : ℕ) → length xs ≤ i → take i (numbered side (map f xs)) ≡ numbered side (map f xs)
+numbered-all side f xs i h =
+    let n : length (numbered side (map f xs)) ≡ length xs = length-map (enumerate_from 0 (map f xs)) _ ∙ length-enumerate_from 0 (map f xs) ∙ length-map xs f in
+    take-all i (numbered side (map f xs)) (omega (arith, n, h))
+
+firsts : {I : Type 0} (whole : I → ℤ) (n : ℕ) (ends : List (End I)) → map (λ (e : End I). e.index) (take n ends) ≡ map (λ (e : WholeEnd). e.index) (take n (ends_of whole ends))
+firsts whole zero ends = refl
+firsts whole (suc n) [] = refl
+firsts whole (suc n) (e ∷ ends) = ap (λ l. e.index ∷ l) (firsts whole n ends)
+
+-- the indexes of ends are those of the whole ends
+pub indexes-whole : {I : Type 0} (whole : I → ℤ) (n i : ℕ) (ends : List (End I)) → map (λ (e : End I). e.index) (take n (drop i ends)) ≡ map (λ (e : WholeEnd). e.index) (take n (drop i (ends_of whole ends)))
+indexes-whole whole n zero ends = firsts whole n ends
+indexes-whole whole n (suc i) [] = firsts whole n []
+indexes-whole whole n (suc i) (e ∷ ends) = indexes-whole whole n i ends
+
+-- ---- elements changed at some indexes
+
+or_true : (a : Bool) → (a || true) ≡ true
+or_true true = refl
+or_true false = refl
+
+or_false : (a b : Bool) → b ≡ false → (a || (b || false)) ≡ a
+or_false true b e = refl
+or_false false b e = rw e refl
+
+-- one more element is changed, and the others stay
+pub changed_next : {X : Type 0} (change : X → X) → ((x : X) → change (change x) ≡ change x) → (given seen : List X) (done : List ℕ) (j : ℕ) (y : X) →
+    length seen ≡ length given → j < length seen →
+    ((k : ℕ) (d : X) → k < length given → get_or seen k d ≡ (if names_node k done then change (get_or given k d) else get_or given k d)) →
+    ((d : X) → y ≡ change (get_or seen j d)) →
+    (k : ℕ) (d : X) → k < length given → get_or (set seen j y) k d ≡ (if names_node k (done ++ j ∷ []) then change (get_or given k d) else get_or given k d)
+changed_next change twice given seen done j y same before earlier made k d l =
+    by (j == k) refl ∙ ap (λ b. if b then change (get_or given k d) else get_or given k d) (sym (list_any-append (λ i. i == k) done (j ∷ [])))
+  where
+    settle : (b : Bool) (x : _) → change (if b then change x else x) ≡ change x
+    settle true x = twice x
+    settle false x = refl
+
+    by : (b : Bool) → (j == k) ≡ b → get_or (set seen j y) k d ≡ (if names_node k done || ((j == k) || false) then change (get_or given k d) else get_or given k d)
+    by true e =
+        let jk : j ≡ k = eqb-true j k e in
+        let named : (names_node k done || ((j == k) || false)) ≡ true = ap (λ b. names_node k done || (b || false)) e ∙ or_true (names_node k done) in
+        ap (λ n. get_or (set seen j y) n d) (sym jk) ∙ get_or-set_same seen j y d before ∙ made d ∙ ap (λ n. change (get_or seen n d)) jk ∙ ap change (earlier k d l) ∙ settle (names_node k done) (get_or given k d)
+        ∙ ap (λ b. if b then change (get_or given k d) else get_or given k d) (sym named)
+    by false e =
+        get_or-set_other seen j k y d (λ h. false≢true (sym e ∙ eq-eqb j k (sym h))) ∙ earlier k d l
+        ∙ ap (λ b. if b then change (get_or given k d) else get_or given k d) (sym (or_false (names_node k done) (j == k) e))
+
+-- a number given twice is given
+pub with_node-twice : {I D : Type 0} (whole : I → ℤ) (p : Point) (id : ℕ) (l : OverlayLink I D) → with_node whole p id (with_node whole p id l) ≡ with_node whole p id l
+with_node-twice whole p id l = by (point_eq (point_of whole l.a.point) p) refl
+  where
+    by : (b : Bool) → point_eq (point_of whole l.a.point) p ≡ b → with_node whole p id (with_node whole p id l) ≡ with_node whole p id l
+    by true e = rw e (rw e refl)
+    by false e = rw e (rw e refl)
+
+pub with_node-start : {I D : Type 0} (whole : I → ℤ) (p : Point) (id : ℕ) (l : OverlayLink I D) → point_eq (point_of whole l.a.point) p ≡ true →
+    record { a = record { id = id; point = l.a.point }; b = l.b; fill = l.fill; edge_data = l.edge_data } ≡ with_node whole p id l
+with_node-start whole p id l e = rw e refl
+
+pub with_node-end : {I D : Type 0} (whole : I → ℤ) (p : Point) (id : ℕ) (l : OverlayLink I D) → point_eq (point_of whole l.a.point) p ≡ false →
+    record { a = l.a; b = record { id = id; point = l.b.point }; fill = l.fill; edge_data = l.edge_data } ≡ with_node whole p id l
+with_node-end whole p id l e = rw e refl

@@ -1,0 +1,41 @@
+-- A graph as it is kept: links with numbered ends, and nodes that list indexes of links.
+use Rattle.std.specs.Prelude.{◌≡◌, ◌==◌, ℕ, ℤ, Bool, true, List, map, if◌then◌else◌}
+use Rattle.std.specs.List.{list_all, list_any}
+use Rattle.overlay_base.specs.Points.{Point, Pair, point_eq}
+use Rattle.overlay_base.specs.PointOf.{point_of}
+use Rattle.overlay_base.specs.declared.overlay_core.link.OverlayLink.{OverlayLink}
+use Rattle.overlay_build.specs.Graph.{Filled, Link, Graph, graph_of}
+use Rattle.overlay_build.specs.Laws.{without_nodes}
+
+-- a link in whole numbers
+abbrev pub link_of : {I D : Type 0} → (I → ℤ) → OverlayLink I D → Link
+link_of whole l = record { pair = record { a = point_of whole l.a.point; b = point_of whole l.b.point }; fill = l.fill; a_node = l.a.id; b_node = l.b.id }
+
+-- the kept segments that links stand for
+abbrev pub kept_of : {I D : Type 0} → (I → ℤ) → List (OverlayLink I D) → List Filled
+kept_of whole links = map (λ l. without_nodes (link_of whole l)) links
+
+-- the graph of the segments that links stand for
+abbrev pub graph_with : {I D : Type 0} → (I → ℤ) → List (OverlayLink I D) → Graph
+graph_with whole links = graph_of (kept_of whole links)
+
+-- These nodes and links are those of a graph. A node keeps no point: it is that of the ends which its links have there.
+pub record HoldGraph {N I D : Type 0} (indexes : N → List ℕ) (is_canonical : N → Bool) (whole : I → ℤ) (nodes : List N) (links : List (OverlayLink I D)) (graph : Graph) : Type 0 where
+  pub same_links : map (link_of whole) links ≡ graph.links
+  pub same_nodes : map indexes nodes ≡ map (λ n. n.links) graph.nodes
+  pub form : list_all is_canonical nodes ≡ true
+
+-- the ends of links
+abbrev pub pairs_of_links : {I D : Type 0} → (I → ℤ) → List (OverlayLink I D) → List Pair
+pairs_of_links whole links = map (λ l. (link_of whole l).pair) links
+
+-- whether a number stands among the indexes
+abbrev pub names_node : ℕ → List ℕ → Bool
+names_node k indexes = list_any (λ i. i == k) indexes
+
+-- a link whose end at a point has the number of the node there: its start where that is the point, or else its end
+abbrev pub with_node : {I D : Type 0} → (I → ℤ) → Point → ℕ → OverlayLink I D → OverlayLink I D
+with_node whole p id l =
+    if point_eq (point_of whole l.a.point) p
+    then record l { a = record { id = id; point = l.a.point } }
+    else record l { b = record { id = id; point = l.b.point } }

@@ -1,0 +1,13 @@
+-- The ends of links with the links' indexes.
+use Rattle.std.specs.Prelude.{List, map}
+use Rattle.std.specs.List.{enumerate_from}
+use Rattle.overlay_base.specs.Points.{Pair}
+use Rattle.overlay_build.specs.NodeOf.{WholeEnd}
+
+-- the first ends, in the order of the links
+abbrev pub numbered_starts : List Pair → List WholeEnd
+numbered_starts links = map (λ e. record { index = e.0; point = e.1.a }) (enumerate_from 0 links)
+
+-- the second ends
+abbrev pub numbered_ends : List Pair → List WholeEnd
+numbered_ends links = map (λ e. record { index = e.0; point = e.1.b }) (enumerate_from 0 links)

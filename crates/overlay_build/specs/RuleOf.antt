@@ -1,0 +1,8 @@
+-- What a rule keeps, or all where there is none.
+use Rattle.std.specs.Prelude.{ℕ, Bool, true, Option, Some, None}
+use Rattle.overlay_base.specs.Rules.{holds, keeps_fill}
+use Rattle.overlay_base.specs.declared.overlay_core.overlay_rule.OverlayRule.{OverlayRule}
+
+abbrev pub keeps_by : Option OverlayRule → ℕ → Bool
+keeps_by (Some rule) fill = keeps_fill (holds rule) fill
+keeps_by None fill = true

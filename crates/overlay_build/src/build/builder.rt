@@ -1,0 +1,200 @@
+// Builds the graphs of overlays, one after another. Upstream: `build::builder`, and the builds of `build::boolean`.
+ghost use Rattle.std.specs.Prelude.{◌≡◌, ⊤, [], Bool, true, Option, Some, None, map, IsTrue, IsFalse, OnOk, OnErr, IfOk, IfErr};
+ghost use mathlib.Core.Option.{none};
+ghost use Rattle.std.specs.Borrow.{sem, follows_so};
+ghost use Rattle.overlay_base.specs.Rules.{holds, keeps_fill};
+ghost use Rattle.overlay_base.specs.Planar.{is_arranged};
+ghost use Rattle.overlay_base.specs.Balance.{IsBalanced};
+ghost use Rattle.overlay_base.specs.SegmentOf.{segments_of, data_segments_of};
+ghost use Rattle.overlay_base.specs.declared.segm.fault.Fault.TheVariants.{CountOutOfRange};
+ghost use Rattle.overlay_build.specs.ChainWindings.{tops_leave_range};
+ghost use Rattle.overlay_build.specs.Graph.{graph_by, data_by};
+ghost use Rattle.overlay_build.specs.Sides.{IsBalancedOverlay};
+ghost use Rattle.overlay_build.specs.GraphOf.{HoldGraph, graph_with};
+ghost use Rattle.overlay_build.specs.NodeIndexes.{indexes_of, is_canonical_node};
+ghost use Rattle.overlay_build.specs.RuleOf.{keeps_by};
+
+use crate::build::fills::find_fills;
+use crate::build::graph::OverlayGraph;
+use crate::build::graph_node::{GraphNode, OverlayNode};
+use crate::build::kept_links::collect_links;
+use crate::build::nodes::connect_links;
+use crate::build::sweep::SweepRunner;
+use overlay_base::geom::end::End;
+use overlay_base::num::OverlayInt;
+use overlay_base::overlay_core::fill_rule::FillRule;
+use overlay_base::overlay_core::link::OverlayLink;
+use overlay_base::overlay_core::overlay_rule::OverlayRule;
+use overlay_base::overlay_core::solver::Solver;
+use overlay_base::segm::boolean::ShapeCountBoolean;
+use overlay_base::segm::fault::Fault;
+use overlay_base::segm::segment::Segment;
+use overlay_base::segm::segment_fill::SegmentFill;
+use overlay_base::segm::winding::WindingCount;
+use std::alloc::Global;
+
+/// Builds graphs of arrangements, one after another, and keeps their buffers. Nodes and links are those of the last
+/// build: none before the first, nor after one that was refused.
+#[derive(Drop)]
+pub struct GraphBuilder<C: WindingCount, N: GraphNode, I: OverlayInt, D: Copy> {
+    alloc: Global,
+    sweep_runner: SweepRunner<C, I>,
+    fills: Vec<SegmentFill>,
+    ends: Vec<End<I>>,
+    indices: Vec<usize>,
+    links: Vec<OverlayLink<I, D>>,
+    nodes: Vec<N>,
+}
+
+impl<C: WindingCount, N: GraphNode, I: OverlayInt, D: Copy> GraphBuilder<C, N, I, D> {
+    /// A builder, which takes no memory yet.
+    pub fn new(alloc: Global) -> GraphBuilder<C, N, I, D>
+        ensures links { result.links.items ≡ [] }
+        ensures nodes { result.nodes.items ≡ [] }
+    {
+        GraphBuilder {
+            alloc,
+            sweep_runner: SweepRunner::new(alloc),
+            fills: Vec::new(alloc),
+            ends: Vec::new(alloc),
+            indices: Vec::new(alloc),
+            links: Vec::new(alloc),
+            nodes: Vec::new(alloc),
+        }
+    }
+
+    /// The nodes of the last build.
+    pub fn nodes(&self) -> &[N]
+        ensures { result.now ≡ self.now.nodes.items }
+    {
+        &self.nodes
+    }
+
+    /// The links of the last build.
+    pub fn links(&self) -> &[OverlayLink<I, D>]
+        ensures { result.now ≡ self.now.links.items }
+    {
+        &self.links
+    }
+}
+
+impl<N: GraphNode, I: OverlayInt, D: Copy> GraphBuilder<ShapeCountBoolean, N, I, D> {
+    /// Builds the links and the nodes of the kept segments.
+    fn build(
+        &mut self,
+        fill_rule: FillRule,
+        rule: Option<OverlayRule>,
+        solver: &Solver,
+        segments: &[Segment<ShapeCountBoolean, I, D>],
+    ) -> Result<(), Fault>
+        requires arranged { IsTrue (is_arranged (I.whole I.MIN_COORD) (I.whole I.MAX_COORD) (segments_of segments.now)) }
+        ensures graph { OnOk result (HoldGraph N.indexes N.is_canonical I.whole self.new.nodes.items self.new.links.items (graph_by (keeps_by rule) fill_rule (segments_of segments.now))) }
+        ensures edge_data { OnOk result (map (λ l. l.edge_data) self.new.links.items ≡ data_by (keeps_by rule) fill_rule (data_segments_of segments.now)) }
+        ensures in_range { OnOk result (IsFalse (tops_leave_range (segments_of segments.now))) }
+        ensures out_of_range { IfErr result (λ fault. fault ≡ CountOutOfRange → IsTrue (tops_leave_range (segments_of segments.now))) }
+        ensures no_links { OnErr result (self.new.links.items ≡ []) }
+        ensures no_nodes { OnErr result (self.new.nodes.items ≡ []) }
+    {
+        let built = self.try_build(fill_rule, rule, solver, segments);
+        if built.is_err() {
+            self.links.clear();
+            self.nodes.clear();
+        }
+        built
+    }
+
+    /// The same, but that a refused build may leave anything.
+    fn try_build(
+        &mut self,
+        fill_rule: FillRule,
+        rule: Option<OverlayRule>,
+        solver: &Solver,
+        segments: &[Segment<ShapeCountBoolean, I, D>],
+    ) -> Result<(), Fault>
+        requires arranged { IsTrue (is_arranged (I.whole I.MIN_COORD) (I.whole I.MAX_COORD) (segments_of segments.now)) }
+        ensures graph { OnOk result (HoldGraph N.indexes N.is_canonical I.whole self.new.nodes.items self.new.links.items (graph_by (keeps_by rule) fill_rule (segments_of segments.now))) }
+        ensures edge_data { OnOk result (map (λ l. l.edge_data) self.new.links.items ≡ data_by (keeps_by rule) fill_rule (data_segments_of segments.now)) }
+        ensures in_range { OnOk result (IsFalse (tops_leave_range (segments_of segments.now))) }
+        ensures out_of_range { IfErr result (λ fault. fault ≡ CountOutOfRange → IsTrue (tops_leave_range (segments_of segments.now))) }
+    {
+        let runner = &mut self.sweep_runner;
+        find_fills(runner, fill_rule, solver, segments, &mut self.fills)?;
+        let fills = self.fills.as_slice();
+        collect_links(segments, fills, rule, &mut self.links)?;
+        let links = &mut self.links;
+        let ends = &mut self.ends;
+        let indices = &mut self.indices;
+        connect_links(self.alloc, links, ends, indices, &mut self.nodes)?;
+        Ok(())
+    }
+}
+
+impl<I: OverlayInt, D: Copy> GraphBuilder<ShapeCountBoolean, OverlayNode, I, D> {
+    ghost use Rattle.overlay_build.specs.contracts.build.builder.GraphBuilder.{the_row};
+    ghost use Rattle.overlay_build.specs.contracts.build.graph_node.OverlayNode.{the_row as node_row};
+    ghost use Rattle.overlay_base.specs.contracts.segm.boolean.ShapeCountBoolean.{the_row as boolean_row};
+    ghost use Rattle.overlay_base.specs.contracts.segm.boolean.ShapeCountBooleanWindingCount.TheImpl.{ghosts as boolean_ghosts};
+
+    /// The graph of the last build.
+    fn graph(&self) -> OverlayGraph<'_, I, D>
+        requires { HoldGraph indexes_of is_canonical_node I.whole self.now.nodes.items self.now.links.items (graph_with I.whole self.now.links.items) }
+        ensures nodes { result.nodes.now ≡ self.now.nodes.items }
+        ensures links { result.links.now ≡ self.now.links.items }
+    {
+        OverlayGraph::new(self.nodes.as_slice(), self.links.as_slice())
+    }
+
+    /// The graph of all segments of an arrangement, with their fills under the rule.
+    ///
+    /// Answers `Fault::CountOutOfRange` where a winding above a segment leaves the range, and `Fault::Memory` where a
+    /// growth is refused. Nodes and links are empty then, and the builder can be used again.
+    pub fn build_boolean_all(
+        &mut self,
+        fill_rule: FillRule,
+        solver: &Solver,
+        segments: &[Segment<ShapeCountBoolean, I, D>],
+    ) -> Result<OverlayGraph<'_, I, D>, Fault>
+        requires arranged { IsTrue (is_arranged (I.whole I.MIN_COORD) (I.whole I.MAX_COORD) (segments_of segments.now)) }
+        ensures graph { IfOk result (λ graph. HoldGraph indexes_of is_canonical_node I.whole graph.nodes.now graph.links.now (graph_by (λ _. true) fill_rule (segments_of segments.now))) }
+        ensures edge_data { IfOk result (λ graph. map (λ l. l.edge_data) graph.links.now ≡ data_by (λ _. true) fill_rule (data_segments_of segments.now)) }
+        ensures in_range { OnOk result (IsFalse (tops_leave_range (segments_of segments.now))) }
+        ensures out_of_range { IfErr result (λ fault. fault ≡ CountOutOfRange → IsTrue (tops_leave_range (segments_of segments.now))) }
+        ensures* after { sem 𝓛 (follows_so (the_row boolean_row node_row I.row D.row boolean_ghosts I.OverlayInt.own I.Ord.own I.PartialEq I.PartialOrd.own)
+            (the_row boolean_row node_row I.row D.row boolean_ghosts I.OverlayInt.own I.Ord.own I.PartialEq I.PartialOrd.own)
+            self.entry.ghost_name none (λ _ _. ⊤) (λ builder.
+            IfOk result (λ graph. (builder.nodes.items ≡ graph.nodes.now) × (builder.links.items ≡ graph.links.now))
+            × OnErr result ((builder.nodes.items ≡ []) × (builder.links.items ≡ [])))) }
+    {
+        self.build(fill_rule, None, solver, segments)?;
+        Ok(self.graph())
+    }
+
+    /// The graph of the segments of an arrangement that the rule keeps: those of whose two sides it says different
+    /// things. With balanced counts these sides are told by the windings in the columns beside a segment, and evenly
+    /// many links meet at each node.
+    ///
+    /// Answers `Fault::CountOutOfRange` where a winding above a segment leaves the range, and `Fault::Memory` where a
+    /// growth is refused. Nodes and links are empty then, and the builder can be used again.
+    pub fn build_boolean_overlay(
+        &mut self,
+        fill_rule: FillRule,
+        overlay_rule: OverlayRule,
+        solver: &Solver,
+        segments: &[Segment<ShapeCountBoolean, I, D>],
+    ) -> Result<OverlayGraph<'_, I, D>, Fault>
+        requires arranged { IsTrue (is_arranged (I.whole I.MIN_COORD) (I.whole I.MAX_COORD) (segments_of segments.now)) }
+        ensures graph { IfOk result (λ graph. HoldGraph indexes_of is_canonical_node I.whole graph.nodes.now graph.links.now (graph_by (keeps_fill (holds overlay_rule)) fill_rule (segments_of segments.now))) }
+        ensures edge_data { IfOk result (λ graph. map (λ l. l.edge_data) graph.links.now ≡ data_by (keeps_fill (holds overlay_rule)) fill_rule (data_segments_of segments.now)) }
+        ensures balanced { IsBalanced (segments_of segments.now) → IsBalancedOverlay (holds overlay_rule) fill_rule (segments_of segments.now) (graph_by (keeps_fill (holds overlay_rule)) fill_rule (segments_of segments.now)) }
+        ensures in_range { OnOk result (IsFalse (tops_leave_range (segments_of segments.now))) }
+        ensures out_of_range { IfErr result (λ fault. fault ≡ CountOutOfRange → IsTrue (tops_leave_range (segments_of segments.now))) }
+        ensures* after { sem 𝓛 (follows_so (the_row boolean_row node_row I.row D.row boolean_ghosts I.OverlayInt.own I.Ord.own I.PartialEq I.PartialOrd.own)
+            (the_row boolean_row node_row I.row D.row boolean_ghosts I.OverlayInt.own I.Ord.own I.PartialEq I.PartialOrd.own)
+            self.entry.ghost_name none (λ _ _. ⊤) (λ builder.
+            IfOk result (λ graph. (builder.nodes.items ≡ graph.nodes.now) × (builder.links.items ≡ graph.links.now))
+            × OnErr result ((builder.nodes.items ≡ []) × (builder.links.items ≡ [])))) }
+    {
+        self.build(fill_rule, Some(overlay_rule), solver, segments)?;
+        Ok(self.graph())
+    }
+}

@@ -1,0 +1,37 @@
+// The fills of all segments by a sweep. Upstream: `build_fills_with_strategy` of `build::builder`.
+ghost use Rattle.std.specs.Prelude.{◌≡◌, IsTrue, IsFalse, OnOk, IfErr};
+ghost use Rattle.overlay_base.specs.Planar.{is_arranged};
+ghost use Rattle.overlay_base.specs.SegmentOf.{segments_of};
+ghost use Rattle.overlay_base.specs.declared.segm.fault.Fault.TheVariants.{CountOutOfRange};
+ghost use Rattle.overlay_build.specs.ChainWindings.{tops_leave_range};
+ghost use Rattle.overlay_build.specs.Graph.{fills_of};
+
+use crate::build::fill_handler::StoreFillsHandler;
+use crate::build::sweep::SweepRunner;
+use overlay_base::num::OverlayInt;
+use overlay_base::overlay_core::fill_rule::FillRule;
+use overlay_base::overlay_core::solver::Solver;
+use overlay_base::segm::boolean::ShapeCountBoolean;
+use overlay_base::segm::fault::Fault;
+use overlay_base::segm::segment::Segment;
+use overlay_base::segm::segment_fill::{NONE, SegmentFill};
+
+/// Finds the fills of the segments, in their order. After a refusal the list may hold anything.
+pub fn find_fills<I: OverlayInt, D: Copy>(
+    runner: &mut SweepRunner<ShapeCountBoolean, I>,
+    fill_rule: FillRule,
+    solver: &Solver,
+    segments: &[Segment<ShapeCountBoolean, I, D>],
+    fills: &mut Vec<SegmentFill>,
+) -> Result<(), Fault>
+    requires arranged { IsTrue (is_arranged (I.whole I.MIN_COORD) (I.whole I.MAX_COORD) (segments_of segments.now)) }
+    ensures fills { OnOk result (fills.new.items ≡ fills_of fill_rule (segments_of segments.now)) }
+    ensures in_range { OnOk result (IsFalse (tops_leave_range (segments_of segments.now))) }
+    ensures out_of_range { IfErr result (λ fault. fault ≡ CountOutOfRange → IsTrue (tops_leave_range (segments_of segments.now))) }
+{
+    fills.clear();
+    fills.resize(segments.len(), NONE)?;
+    let handler = StoreFillsHandler::new(fills);
+    runner.run_with_fill_rule(fill_rule, solver, segments, handler)?;
+    Ok(())
+}

@@ -1,0 +1,74 @@
+// The graph of an overlay, which borrows its nodes and links from the builder. Upstream: `core::graph`.
+ghost use Rattle.std.specs.Prelude.{◌≡◌, ◌==◌, ◌&&◌, ◌||◌, nat_le, true, length};
+ghost use Rattle.overlay_build.specs.GraphOf.{HoldGraph, graph_with};
+ghost use Rattle.overlay_build.specs.NodeIndexes.{indexes_of, is_canonical_node};
+
+use crate::build::graph_node::OverlayNode;
+use overlay_base::num::OverlayInt;
+use overlay_base::overlay_core::link::OverlayLink;
+
+/// The kept segments of an overlay as links, and their ends as nodes.
+///
+/// Links stand in the order of the segments. Nodes are the ends of links, each once, in order of their points; a node
+/// lists the links that start there, then those that end there, both by rising index. A link's `a.id` and `b.id` are the
+/// numbers of the nodes at its ends.
+#[derive(Drop)]
+pub struct OverlayGraph<'a, I: OverlayInt, D> {
+    nodes: &'a [OverlayNode],
+    links: &'a [OverlayLink<I, D>],
+    pub ghost holds: { HoldGraph indexes_of is_canonical_node I.whole nodes.now links.now (graph_with I.whole links.now) },
+}
+
+impl<'a, I: OverlayInt, D: Copy> OverlayGraph<'a, I, D> {
+    ghost use Rattle.overlay_build.specs.Graph.{is_valid_graph};
+
+    /// The graph of these links, which has to have these nodes.
+    pub(crate) fn new(
+        nodes: &'a [OverlayNode],
+        links: &'a [OverlayLink<I, D>],
+    ) -> OverlayGraph<'a, I, D>
+        requires { HoldGraph indexes_of is_canonical_node I.whole nodes.now links.now (graph_with I.whole links.now) }
+        ensures nodes { result.nodes.now ≡ nodes.now }
+        ensures links { result.links.now ≡ links.now }
+    {
+        OverlayGraph { nodes, links }
+    }
+
+    /// The nodes.
+    pub fn nodes(&self) -> &'a [OverlayNode]
+        ensures { result.now ≡ self.now.nodes.now }
+    {
+        self.nodes
+    }
+
+    /// The links.
+    pub fn links(&self) -> &'a [OverlayLink<I, D>]
+        ensures { result.now ≡ self.now.links.now }
+    {
+        self.links
+    }
+
+    /// Whether no `Cross` has fewer than two links and, where there is a `Cross`, there are no more nodes than links.
+    pub fn validate(&self) -> bool
+        ensures { result ≡ is_valid_graph (graph_with I.whole self.now.links.now) }
+    {
+        let enough = self.nodes.len() <= self.links.len();
+        for node in self.nodes {
+            if !is_sound(node, enough) {
+                return false;
+            }
+        }
+        true
+    }
+}
+
+/// Whether a node is a bridge, or has two links or more where there are enough links.
+fn is_sound(node: &OverlayNode, enough: bool) -> bool
+    requires { is_canonical_node node.now ≡ true }
+    ensures { result ≡ (length (indexes_of node.now) == 2 || (nat_le 2 (length (indexes_of node.now)) && enough)) }
+{
+    match node {
+        OverlayNode::Bridge(_) => true,
+        OverlayNode::Cross(several) => several.len() >= 2 && enough,
+    }
+}

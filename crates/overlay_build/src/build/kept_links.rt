@@ -1,0 +1,54 @@
+// The links of the kept segments. Upstream: `build_links_all` and `build_links_by_filter` of `build::builder`.
+ghost use Rattle.std.specs.Prelude.{◌≡◌, Option, map, filter, length, OnOk, IfErr};
+ghost use Rattle.overlay_base.specs.SegmentOf.{segments_of, data_segments_of};
+ghost use Rattle.overlay_base.specs.declared.segm.fault.Fault.TheVariants.{Memory};
+ghost use Rattle.overlay_base.specs.declared.overlay_core.fill_rule.FillRule.{FillRule};
+ghost use Rattle.overlay_build.specs.Graph.{filled, fills_of, data_by};
+ghost use Rattle.overlay_build.specs.GraphOf.{kept_of};
+ghost use Rattle.overlay_build.specs.RuleOf.{keeps_by};
+
+use crate::build::filter::keeps;
+use overlay_base::geom::id_point::IdPoint;
+use overlay_base::num::OverlayInt;
+use overlay_base::overlay_core::link::OverlayLink;
+use overlay_base::overlay_core::overlay_rule::OverlayRule;
+use overlay_base::segm::boolean::ShapeCountBoolean;
+use overlay_base::segm::fault::Fault;
+use overlay_base::segm::segment::Segment;
+use overlay_base::segm::segment_fill::SegmentFill;
+
+/// Whether the rule keeps a fill. Without a rule every fill is kept.
+fn is_kept(rule: Option<OverlayRule>, fill: SegmentFill) -> bool
+    ensures { result ≡ keeps_by rule fill }
+{
+    match rule {
+        Some(rule) => keeps(rule, fill),
+        None => true,
+    }
+}
+
+/// Makes a link of each segment whose fill is kept. The fills are those of the segments, in their order.
+pub fn collect_links<I: OverlayInt, D: Copy>(
+    segments: &[Segment<ShapeCountBoolean, I, D>],
+    fills: &[SegmentFill],
+    rule: Option<OverlayRule>,
+    links: &mut Vec<OverlayLink<I, D>>,
+) -> Result<(), Fault>
+    requires { length fills.now ≡ length segments.now }
+    ensures kept { OnOk result ((fill_rule : FillRule) → fills.now ≡ fills_of fill_rule (segments_of segments.now) → kept_of I.whole links.new.items ≡ filter (λ f. keeps_by rule f.fill) (filled fill_rule (segments_of segments.now))) }
+    ensures data { OnOk result ((fill_rule : FillRule) → fills.now ≡ fills_of fill_rule (segments_of segments.now) → map (λ l. l.edge_data) links.new.items ≡ data_by (keeps_by rule) fill_rule (data_segments_of segments.now)) }
+    ensures fault { IfErr result (λ fault. fault ≡ Memory) }
+{
+    links.clear();
+    for index in 0..segments.len() {
+        let segment = &segments[index];
+        let fill = fills[index];
+        if is_kept(rule, fill) {
+            let ends = segment.x_segment();
+            let a = IdPoint::new(0, ends.a);
+            let b = IdPoint::new(0, ends.b);
+            links.push(OverlayLink::new_with_data(a, b, fill, segment.edge_data()))?;
+        }
+    }
+    Ok(())
+}
