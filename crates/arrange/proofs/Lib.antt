@@ -3,6 +3,8 @@ pub mod Crossings
 pub mod GraphAnswers
 pub mod GraphPoints
 pub mod Parts
+pub mod PrecisionWords
+pub mod ReadWords
 pub mod Runs
 pub mod ShortNumerals
 pub mod Slots

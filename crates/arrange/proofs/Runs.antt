@@ -1,22 +1,28 @@
 -- What a run answers, from what its calls do.
-use Rattle.std.proofs.Common.{◌≡◌, ◌≢◌, ◌⊎◌, inl, inr, ℕ, ℤ, true, List, [], ◌∷◌, length, Ok, Err, Option, Some, None, refl, sym, ap, ◌∙◌, subst}
-use Rattle.std.specs.Prelude.{unsigned_abs, IfSome, IfOk, IfErr, OnOk, IsErrOf, IsErrAnd}
+use Rattle.std.proofs.Common.{◌≡◌, ◌≢◌, ◌⊎◌, inl, inr, ℕ, ℤ, Bool, true, false, List, [], ◌∷◌, ◌++◌, length, Ok, Err, Option, Some, None, refl, sym, ap, ◌∙◌, subst, arith}
+use Rattle.std.specs.Prelude.{unsigned_abs, if◌then◌else◌, IfSome, IfOk, IfErr, OnOk, IsErrOf, IsErrAnd}
 use Rattle.std.proofs.lemmas.Bool.{false≢true}
 use Rattle.std.specs.Io.KnownBytes.{Appends, Keeps}
 use Rattle.std.specs.Result.{is_ok}
 use Rattle.std.specs.Option.{ok_or}
 use Rattle.std.specs.declared.result.Result.{Result}
 use Rattle.overlay_base.specs.Segments.{WholeSegment}
-use Rattle.overlay_base.specs.declared.segm.fault.Fault.TheVariants.{Memory}
+use Rattle.overlay_base.specs.Join.{join, has_equal_pairs, join_leaves_range}
+use Rattle.overlay_build.specs.ChainWindings.{tops_leave_range}
+use Rattle.overlay_build.specs.Graph.{graph_by}
+use Rattle.overlay_build.specs.RuleOf.{keeps_by}
+use Rattle.overlay_base.specs.declared.segm.fault.Fault.{Fault}
+use Rattle.overlay_base.specs.declared.segm.fault.Fault.TheVariants.{CountOutOfRange, Memory}
 use Rattle.arrange.specs.declared.settings.Command.{Command}
-use Rattle.arrange.specs.declared.settings.Command.TheVariants.{Cross}
+use Rattle.arrange.specs.declared.settings.Command.TheVariants.{Join, Cross, Split, Graph}
 use Rattle.arrange.specs.declared.settings.Settings.{Settings}
 use Rattle.arrange.specs.declared.stop.Stop.{Stop}
-use Rattle.arrange.specs.declared.stop.Stop.TheVariants.{NotTwoSegments, Refused}
-use Rattle.arrange.specs.Output.{cross_text}
+use Rattle.arrange.specs.declared.stop.Stop.TheVariants.{Usage, NotTwoSegments, Line, Refused, Input, Output}
+use Rattle.arrange.specs.Output.{segment_lines, flag_line, cross_text, graph_text}
+use Rattle.arrange.specs.Status.{status_of}
 use Rattle.arrange.specs.Text.{lines_of, AskInTurnFor, IsFirstFault}
-use Rattle.arrange.specs.Run.{least_of, greatest_of, bits_of, IsAnswer, IsRunAnswer, IsStop}
-use Rattle.arrange.specs.Words.{WordsAsk}
+use Rattle.arrange.specs.Run.{least_of, greatest_of, bits_of, arrangement_text, IsCommandAnswer, IsAnswer, IsRunAnswer, IsStop}
+use Rattle.arrange.specs.Words.{WordsAsk, AskSomething}
 
 cross_text-other : (r2 : ℕ) (segments : List WholeSegment) → length segments ≢ 2 → cross_text r2 segments ≡ None
 cross_text-other r2 [] other = refl
@@ -40,6 +46,50 @@ module _ (least greatest : ℤ) (bits : ℕ) (settings : Settings) (bytes : List
       inr (inl (segments, asked, ap Err other ∙ sym (ap (λ text. ok_or text NotTwoSegments) (cross_text-other (unsigned_abs settings.radius.squared) segments (two (ap Err other))))))
   stops_at_crossing (Err stop) segments asked two (inr refused) = inl refused
 
+refused_is_no_usage : (fault : Fault) (stop : Stop) → stop ≡ Refused fault → stop ≢ Usage
+refused_is_no_usage fault stop is usage = cc
+
+by_test : (leaves : Bool) (text : List ℕ) (stop : Stop) → Err stop ≡ (if leaves then Err (Refused CountOutOfRange) else Ok text) → stop ≢ Usage
+by_test true text stop is usage = cc
+by_test false text stop is usage = cc
+
+by_text : (text : Option (List ℕ)) (stop : Stop) → Err stop ≡ ok_or text NotTwoSegments → stop ≢ Usage
+by_text None stop is usage = cc
+by_text (Some text) stop is usage = cc
+
+by_arrangement : (settings : Settings) (arrangement : List WholeSegment) (stop : Stop) → Err stop ≡ arrangement_text settings arrangement → stop ≢ Usage
+unfolding arrangement_text
+by_arrangement settings arrangement stop is = by_test (tops_leave_range arrangement) (graph_text (graph_by (keeps_by settings.rule) settings.fill_rule arrangement)) stop is
+
+pub is_no_success : (stop : Stop) → status_of stop ≢ 0
+is_no_success Usage is = omega (arith, is)
+is_no_success NotTwoSegments is = omega (arith, is)
+is_no_success (Line number fault) is = omega (arith, is)
+is_no_success (Refused fault) is = omega (arith, is)
+is_no_success Input is = omega (arith, is)
+is_no_success Output is = omega (arith, is)
+
+-- no command answers with the usage
+by_command : (bits : ℕ) (command : Command) (settings : Settings) (segments : List WholeSegment) (stop : Stop) → IsCommandAnswer bits command settings segments (Err stop) → stop ≢ Usage
+by_command bits Join settings segments stop is usage = by_test (join_leaves_range segments) (segment_lines (join segments) ++ flag_line (has_equal_pairs segments)) stop is usage
+by_command bits Cross settings segments stop is usage = by_text (cross_text (unsigned_abs settings.radius.squared) segments) stop is usage
+by_command bits Split settings segments stop (inl run) usage = cc run.4
+by_command bits Split settings segments stop (inr leaves) usage = cc leaves.1
+by_command bits Graph settings segments stop (inl run) usage = by_arrangement settings run.0 stop run.4 usage
+by_command bits Graph settings segments stop (inr leaves) usage = cc leaves.1
+
+is_no_usage : (least greatest : ℤ) (bits : ℕ) (settings : Settings) (bytes : List ℕ) (command : Command) (stop : Stop) → IsAnswer least greatest bits command settings bytes (Err stop) → stop ≢ Usage
+is_no_usage least greatest bits settings bytes command stop (inl answer) usage = by_command bits command settings answer.0 stop answer.2 usage
+is_no_usage least greatest bits settings bytes command stop (inr fault) usage = cc (fault.2, fault.1.5.2)
+
+pub on_ok : {T E P : Type 0} (r : Result T E) → P → OnOk r P
+on_ok (Ok t) h = h
+on_ok (Err e) h = tt
+
+pub stops_at_input : (words : List (List ℕ)) (input : Option (List ℕ)) (stop : Stop) → AskSomething words → (stop ≡ Input) ⊎ (stop ≡ Refused Memory) → IsStop words input stop
+stops_at_input words input stop asked (inl failed) = inr (asked, (λ usage. cc (failed, usage)), inl failed)
+stops_at_input words input stop asked (inr refused) = inr (asked, refused_is_no_usage Memory stop refused, inr (inr (inl refused)))
+
 module _ (words : List (List ℕ)) (command : Command) (settings : Settings) (asked : WordsAsk words command settings) (least greatest : ℤ) (bits : ℕ) (least_is : least_of settings.engine ≡ least) (greatest_is : greatest_of settings.engine ≡ greatest) (bits_is : bits_of settings.engine ≡ bits) (bytes : List ℕ) where
   run_answer : (answer : Result (List ℕ) Stop) → IsAnswer least greatest bits command settings bytes answer → IsRunAnswer words bytes answer
   run_answer answer is = (command, settings, asked, subst (λ l. IsAnswer l (greatest_of settings.engine) (bits_of settings.engine) command settings bytes answer) (sym least_is) (subst (λ h. IsAnswer least h (bits_of settings.engine) command settings bytes answer) (sym greatest_is) (subst (λ b. IsAnswer least greatest b command settings bytes answer) (sym bits_is) is)))
@@ -52,9 +102,10 @@ module _ (words : List (List ℕ)) (command : Command) (settings : Settings) (as
 
   pub stops : {T : Type 0} (input : Option (List ℕ)) → IfSome input (λ given. bytes ≡ given) → (r : Result T Stop) → IfErr r (λ stop. (stop ≡ Refused Memory) ⊎ IsAnswer least greatest bits command settings bytes (Err stop)) → IfErr r (IsStop words input)
   stops input known (Ok text) is = tt
-  stops input known (Err stop) (inl refused) = inr (inr (inr (inl refused)))
-  stops None known (Err stop) (inr is) = inr (inr (inr (inr tt)))
-  stops (Some given) known (Err stop) (inr is) = inr (inr (inr (inr (subst (λ b. IsRunAnswer words b (Err stop)) known (run_answer (Err stop) is)))))
+  stops input known (Err stop) (inl refused) = inr ((command, settings, asked), refused_is_no_usage Memory stop refused, inr (inr (inl refused)))
+  stops None known (Err stop) (inr is) = inr ((command, settings, asked), is_no_usage least greatest bits settings bytes command stop is, inr (inr (inr tt)))
+  stops (Some given) known (Err stop) (inr is) =
+      inr ((command, settings, asked), is_no_usage least greatest bits settings bytes command stop is, inr (inr (inr (subst (λ b. IsRunAnswer words b (Err stop)) known (run_answer (Err stop) is)))))
 
 then_keeps : (before between after : Option (List ℕ)) (bytes : List ℕ) → Appends before between bytes → Keeps between after → Appends before after bytes
 then_keeps None between after bytes a k = tt

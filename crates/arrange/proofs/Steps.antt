@@ -1,24 +1,20 @@
 -- A line's step as the segment constructors make it, and what a split asks of it.
-use Rattle.std.proofs.Common.{◌≡◌, ℤ, Bool, true, false, not, ◌&&◌, if◌then◌else◌, List, [], ◌∷◌, ◌++◌, Some, None, refl, sym, ◌∙◌, arith, map, slice_index_or}
+use Rattle.std.proofs.Common.{◌≡◌, ℤ, Bool, true, false, not, if◌then◌else◌, List, [], ◌∷◌, ◌++◌, Some, None, refl, arith}
 use Rattle.std.proofs.lemmas.Grind.{common_steps}
 use Rattle.std.proofs.lemmas.Bool.{and_parts}
-use Rattle.std.proofs.lemmas.List.Folds.{list_all-append, list_all-map}
-use Rattle.std.proofs.lemmas.List.Sums.{AllPass-from_list_all}
-use Rattle.std.specs.Prelude.{IsTrue, All}
+use Rattle.std.proofs.lemmas.List.Folds.{list_all-append}
+use Rattle.std.specs.Prelude.{IsTrue}
 use Rattle.overlay_base.specs.Points.{Point, point_lt, point_eq}
-use Rattle.overlay_base.specs.Windings.{is_valid, is_not_empty}
 use Rattle.overlay_base.specs.Segments.{WholeSegment}
-use Rattle.overlay_base.specs.EdgeData.{Hooks, DataSegment, data_piece}
-use Rattle.overlay_base.specs.Planar.{is_point_in_range, is_pair_in_range, is_splittable}
+use Rattle.overlay_base.specs.EdgeData.{Hooks, data_piece}
+use Rattle.overlay_base.specs.Planar.{is_point_in_range, is_splittable}
 use Rattle.overlay_base.specs.BooleanWinding.{boolean_made}
 use Rattle.overlay_base.specs.ShapeWindings.{direct_winding, inverted_winding}
 use Rattle.overlay_base.specs.declared.segm.shape_type.ShapeType.{ShapeType}
 use Rattle.overlay_base.specs.declared.segm.shape_type.ShapeType.TheVariants.{Subject, Clip}
+use Rattle.overlay_base.proofs.laws.DataJoins.{bare}
 use Rattle.arrange.specs.declared.stop.LineFault.TheVariants.{Range, EqualEnds}
 use Rattle.arrange.specs.Lines.{step_fault, step_segment}
-
-abbrev bare : {D : Type 0} → DataSegment D → WholeSegment
-bare s = record { pair = s.pair; count = s.count }
 
 pub data_piece-step : {D S : Type 0} (hooks : Hooks D S) (shape_type : ShapeType) (a b : Point) (edge_data : D) (store : S) → bare (data_piece hooks (direct_winding boolean_made shape_type) a b edge_data store).0 ≡ step_segment shape_type a b
 unfolding data_piece
@@ -43,11 +39,3 @@ is_splittable-step least greatest Clip a b sound =
 pub is_splittable-append : (least greatest : ℤ) (xs ys : List WholeSegment) → IsTrue (is_splittable least greatest xs) → IsTrue (is_splittable least greatest ys) → IsTrue (is_splittable least greatest (xs ++ ys))
 unfolding is_splittable
 is_splittable-append least greatest xs ys first second = rw list_all-append (grind (arith, common_steps))
-
-pub is_splittable-valid : {X : Type 0} (whole : X → WholeSegment) (least greatest : ℤ) (xs : List X) → IsTrue (is_splittable least greatest (map whole xs)) → All (λ x. IsTrue (is_valid (whole x).count)) xs
-unfolding is_splittable
-is_splittable-valid whole least greatest xs splittable = λ k d below.
-    let p : WholeSegment → Bool = λ s. is_pair_in_range least greatest s.pair && is_valid s.count && is_not_empty s.count in
-    let each = AllPass-from_list_all (λ x. p (whole x)) xs (sym (list_all-map p whole xs) ∙ splittable) k d below in
-    let s = whole (slice_index_or xs k d) in
-    (and_parts (is_pair_in_range least greatest s.pair) (is_valid s.count) (and_parts (is_pair_in_range least greatest s.pair && is_valid s.count) (is_not_empty s.count) each).0).1

@@ -1,5 +1,5 @@
 -- What a whole run answers: the text of its output, or why it stops.
-use Rattle.std.specs.Prelude.{Bool, ◌≡◌, ◌⊎◌, ◌++◌, ℕ, ℤ, pos, negsuc, if◌then◌else◌, List, Option, Ok, Err, IfSome, unsigned_abs}
+use Rattle.std.specs.Prelude.{Bool, ◌≡◌, ◌≢◌, ◌⊎◌, ◌++◌, ℕ, ℤ, pos, negsuc, if◌then◌else◌, List, Option, Ok, Err, IfSome, unsigned_abs}
 use Rattle.std.specs.Option.{ok_or}
 use Rattle.std.specs.declared.result.Result.{Result}
 use Rattle.overlay_base.specs.Segments.{WholeSegment}
@@ -18,7 +18,7 @@ use Rattle.arrange.specs.declared.settings.Settings.{Settings}
 use Rattle.arrange.specs.declared.stop.Stop.{Stop}
 use Rattle.arrange.specs.declared.stop.Stop.TheVariants.{Usage, NotTwoSegments, Refused, Input, Output}
 use Rattle.arrange.specs.Output.{segment_lines, flag_line, passes_line, cross_text, graph_text}
-use Rattle.arrange.specs.Words.{WordsAsk, IsCommandAlone}
+use Rattle.arrange.specs.Words.{WordsAsk, AskSomething, AskNothing}
 use Rattle.arrange.specs.Text.{lines_of, AskInTurnFor, IsFirstFault}
 
 -- the least and the greatest coordinate of an engine
@@ -77,7 +77,9 @@ IsRunAnswer words bytes answer =
     (command : Command) × (settings : Settings) × WordsAsk words command settings
     × IsAnswer (least_of settings.engine) (greatest_of settings.engine) (bits_of settings.engine) command settings bytes answer
 
--- why a run stops: the words ask for nothing, which a command alone does not, the input or the output fails, memory is refused, or it is the answer to the input, where that is known
+-- why a run stops: with the usage exactly where the words ask for nothing, and else because the input or the output fails, memory is refused, or it is the answer to the input, where that is known
 abbrev pub IsStop : List (List ℕ) → Option (List ℕ) → Stop → Type 0
 IsStop words input stop =
-    ((stop ≡ Usage) × ¬ (IsCommandAlone words)) ⊎ (stop ≡ Input) ⊎ (stop ≡ Output) ⊎ (stop ≡ Refused Memory) ⊎ IfSome input (λ bytes. IsRunAnswer words bytes (Err stop))
+    ((stop ≡ Usage) × AskNothing words)
+    ⊎ (AskSomething words × (stop ≢ Usage)
+    × ((stop ≡ Input) ⊎ (stop ≡ Output) ⊎ (stop ≡ Refused Memory) ⊎ IfSome input (λ bytes. IsRunAnswer words bytes (Err stop))))

@@ -1,11 +1,14 @@
 -- What the words of a call ask for.
-use Rattle.std.specs.Prelude.{◌≡◌, ◌≢◌, ◌⊎◌, ◌≤◌, ℕ, ℤ, pos, List, [], length, ◌∷◌, ◌++◌, Contains, Option, Some, None, codes}
+use Rattle.std.specs.Prelude.{◌≡◌, ◌≢◌, ◌⊎◌, ◌≤◌, ◌<◌, ◌^◌, ℕ, ℤ, pos, not, ◌==◌, IsTrue, MatchResult, List, [], length, ◌∷◌, ◌++◌, All, Contains, Option, Some, None, codes}
+use Rattle.std.specs.List.{list_all}
+use Rattle.std.specs.declared.result.Result.{Result}
 use Rattle.std.specs.Str.Parse.{IsNumeral, digits_value}
 use Rattle.arrange.specs.declared.settings.Command.{Command}
 use Rattle.arrange.specs.declared.settings.Command.TheVariants.{Join, Cross, Split, Graph}
 use Rattle.arrange.specs.declared.settings.Engine.{Engine}
 use Rattle.arrange.specs.declared.settings.Engine.TheVariants.{I16, I32}
 use Rattle.arrange.specs.declared.settings.Settings.{Settings}
+use Rattle.arrange.specs.declared.settings.SquaredRadius.{SquaredRadius}
 use Rattle.overlay_base.specs.declared.overlay_core.solver.Precision.{Precision}
 use Rattle.overlay_base.specs.declared.overlay_core.solver.Strategy.{Strategy}
 use Rattle.overlay_base.specs.declared.overlay_core.solver.Strategy.TheVariants.{List as ByList, Tree, Frag, Auto}
@@ -47,8 +50,13 @@ NamesRule value (Some Difference) = value ≡ codes "difference"
 NamesRule value (Some InverseDifference) = value ≡ codes "inverse-difference"
 NamesRule value (Some Xor) = value ≡ codes "xor"
 
+-- 1 to 2^56
 abbrev pub WritesSquare : List ℕ → ℤ → Type 0
-WritesSquare value squared = IsNumeral 10 value × (squared ≡ pos (digits_value 10 value))
+WritesSquare value squared =
+    IsNumeral 10 value × (1 ≤ digits_value 10 value) × (digits_value 10 value ≤ 2 ^ 56) × (squared ≡ pos (digits_value 10 value))
+
+abbrev pub WritesRadius : List ℕ → SquaredRadius → Type 0
+WritesRadius value radius = WritesSquare value radius.squared
 
 -- the exponent of the first radius, and what each pass adds to it
 abbrev pub precision_of : ℕ → ℕ → Precision
@@ -71,37 +79,74 @@ NamesPrecision value precision =
     ⊎ ((start step : List ℕ) × (value ≡ start ++ codes "," ++ step) × IsShortNumeral start × IsShortNumeral step
     × (precision ≡ precision_of (digits_value 10 start) (digits_value 10 step)))
 
+-- 0 to 4294967295
 abbrev pub WritesLimit : List ℕ → ℕ → Type 0
-WritesLimit value limit = IsNumeral 10 value × (limit ≡ digits_value 10 value)
+WritesLimit value limit = IsNumeral 10 value × (limit < 2 ^ 32) × (limit ≡ digits_value 10 value)
 
 -- `name=value`
 abbrev pub setting : List ℕ → List ℕ → List ℕ
 setting name value = name ++ codes "=" ++ value
 
--- a word that sets the name gives an empty slot its value, and any other leaves the slot as it was
-abbrev pub TakesWord : {V : Type 0} → List ℕ → (List ℕ → V → Type 0) → List ℕ → Option V → Option V → Type 0
-TakesWord {V = V} name Means word old new =
-    ((value : List ℕ) → word ≡ setting name value → (old ≡ None) × ((chosen : V) × (new ≡ Some chosen) × Means value chosen))
-    × (((value : List ℕ) → word ≢ setting name value) → new ≡ old)
+-- there is no `=`, of code 61, in it
+abbrev pub IsName : List ℕ → Type 0
+IsName name = IsTrue (list_all (λ code. not (code == 61)) name)
 
--- what is chosen for a name: the value of the word that sets it, and without one what stands otherwise
+-- the names of the settings
+abbrev pub setting_names : List (List ℕ)
+setting_names = codes "engine" ∷ codes "strategy" ∷ codes "precision" ∷ codes "fill" ∷ codes "rule" ∷ codes "limit" ∷ codes "radius" ∷ []
+
+-- the word sets one of these names
+abbrev pub IsSetting : List ℕ → Type 0
+IsSetting word = (name value : List ℕ) × Contains setting_names name × (word ≡ setting name value)
+
+-- the word sets the name, to a value that means this
+abbrev pub SetsTo : {V : Type 0} → List ℕ → (List ℕ → V → Type 0) → List ℕ → V → Type 0
+SetsTo name Means word chosen = (value : List ℕ) × (word ≡ setting name value) × Means value chosen
+
+-- none of the words sets the name
+abbrev pub NoneSets : List ℕ → List (List ℕ) → Type 0
+NoneSets name words = (value : List ℕ) → ¬ (Contains words (setting name value))
+
+-- what is chosen for a name: what the one word that sets it sets it to, and where none does, what stands otherwise
 abbrev pub IsChosen : {V : Type 0} → List ℕ → (List ℕ → V → Type 0) → V → List (List ℕ) → V → Type 0
 IsChosen name Means otherwise words chosen =
-    ((value : List ℕ) → Contains words (setting name value) → Means value chosen)
-    × (((value : List ℕ) → ¬ (Contains words (setting name value))) → chosen ≡ otherwise)
+    ((before : List (List ℕ)) × (word : List ℕ) × (after : List (List ℕ)) × (words ≡ before ++ word ∷ after)
+    × SetsTo name Means word chosen × NoneSets name before × NoneSets name after)
+    ⊎ (NoneSets name words × (chosen ≡ otherwise))
 
--- the first word names the command, and the others choose the settings
-abbrev pub WordsAsk : List (List ℕ) → Command → Settings → Type 0
-WordsAsk words command settings =
-    (first : List ℕ) × (others : List (List ℕ)) × (words ≡ first ∷ others) × NamesCommand first command
-    × IsChosen (codes "engine") NamesEngine I32 others settings.engine
-    × IsChosen (codes "strategy") NamesStrategy Auto others settings.strategy
-    × IsChosen (codes "precision") NamesPrecision (precision_of 0 1) others settings.precision
-    × IsChosen (codes "fill") NamesFillRule NonZero others settings.fill_rule
-    × IsChosen (codes "rule") NamesRule None others settings.rule
-    × IsChosen (codes "limit") WritesLimit 256 others settings.snap_limit
-    × IsChosen (codes "radius") WritesSquare (pos 1) others settings.radius.squared
+-- the first word names the command, each other sets one of the names, and the settings are what is chosen for each
+pub record WordsAsk (words : List (List ℕ)) (command : Command) (settings : Settings) : Type 0 where
+  pub first : List ℕ
+  pub others : List (List ℕ)
+  pub split : words ≡ first ∷ others
+  pub named : NamesCommand first command
+  pub known : All IsSetting others
+  pub engine : IsChosen (codes "engine") NamesEngine I32 others settings.engine
+  pub strategy : IsChosen (codes "strategy") NamesStrategy Auto others settings.strategy
+  pub precision : IsChosen (codes "precision") NamesPrecision (precision_of 0 1) others settings.precision
+  pub fill : IsChosen (codes "fill") NamesFillRule NonZero others settings.fill_rule
+  pub rule : IsChosen (codes "rule") NamesRule None others settings.rule
+  pub limit : IsChosen (codes "limit") WritesLimit 256 others settings.snap_limit
+  pub radius : IsChosen (codes "radius") WritesSquare (pos 1) others settings.radius.squared
 
--- there is one word, and it names a command
-abbrev pub IsCommandAlone : List (List ℕ) → Type 0
-IsCommandAlone words = (first : List ℕ) × (command : Command) × (words ≡ first ∷ []) × NamesCommand first command
+-- some command and settings are asked for
+abbrev pub AskSomething : List (List ℕ) → Type 0
+AskSomething words = (command : Command) × (settings : Settings) × WordsAsk words command settings
+
+-- no command and no settings are asked for
+abbrev pub AskNothing : List (List ℕ) → Type 0
+AskNothing words = (command : Command) (settings : Settings) → ¬ (WordsAsk words command settings)
+
+-- what a word leaves in a slot: an empty slot takes what the word sets the name to, and a word that does not set it leaves the slot as it was
+abbrev pub TakesWord : {V : Type 0} → List ℕ → (List ℕ → V → Type 0) → List ℕ → Option V → Option V → Type 0
+TakesWord {V = V} name Means word old new =
+    ((chosen : V) × (old ≡ None) × (new ≡ Some chosen) × SetsTo name Means word chosen)
+    ⊎ (((value : List ℕ) → word ≢ setting name value) × (new ≡ old))
+
+-- the slot is empty, and the word sets the name to something
+abbrev pub CanTake : {V : Type 0} → List ℕ → (List ℕ → V → Type 0) → List ℕ → Option V → Type 0
+CanTake {V = V} name Means word slot = (slot ≡ None) × ((chosen : V) × SetsTo name Means word chosen)
+
+-- how a word is read into a slot: it is taken, or it is refused and the slot cannot take it
+abbrev pub ReadsWord : {T E V : Type 0} → Result T E → List ℕ → (List ℕ → V → Type 0) → List ℕ → Option V → Option V → Type 0
+ReadsWord result name Means word old new = MatchResult result (λ _. TakesWord name Means word old new) (λ _. ¬ (CanTake name Means word old))

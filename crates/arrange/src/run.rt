@@ -7,6 +7,7 @@ ghost use Rattle.overlay_base.specs.declared.segm.fault.Fault.TheVariants.{Memor
 ghost use Rattle.arrange.specs.Run.{IsAnswer, IsRunAnswer, IsStop};
 ghost use Rattle.arrange.specs.declared.stop.Stop.{Stop};
 ghost use Rattle.arrange.specs.Status.{status_of};
+ghost use Rattle.arrange.specs.Words.{AskSomething};
 
 use crate::cross::cross;
 use crate::graph::graph;
@@ -42,6 +43,7 @@ pub fn arrange<H: Env + AllocGlobal, R: Read, W: Write, E: Write>(
 ///
 /// Nothing is written to `output` unless the status is 0 or 5. Any other status is told in one line on `faults`, where
 /// a failed write is passed over.
+#[tactic(auto, using(crate::proofs::Runs::is_no_success))]
 pub fn arrange_run<R: Read, W: Write, E: Write>(
     alloc: Global,
     words: &[String],
@@ -49,6 +51,7 @@ pub fn arrange_run<R: Read, W: Write, E: Write>(
     output: &mut W,
     faults: &mut E,
 ) -> u8
+    ensures asked { result ≡ 0 → AskSomething (map string_bytes words.now) }
     ensures done { result ≡ 0 → IfSome (R.remaining input.old) (λ bytes. (text : List ℕ)
         × IsRunAnswer (map string_bytes words.now) bytes (Ok text) × Appends (W.contents output.old) (W.contents output.new) text) }
     ensures stopped { (result ≡ 0) ⊎ ((stop : Stop) × (result ≡ status_of stop)
@@ -75,6 +78,7 @@ fn run<R: Read, W: Write>(
     input: &mut R,
     output: &mut W,
 ) -> Result<(), Stop>
+    ensures asked { OnOk result (AskSomething (map string_bytes words.now)) }
     ensures done { OnOk result (IfSome (R.remaining input.old) (λ bytes. (text : List ℕ)
         × IsRunAnswer (map string_bytes words.now) bytes (Ok text) × Appends (W.contents output.old) (W.contents output.new) text)) }
     ensures stopped { IfErr result (IsStop (map string_bytes words.now) (R.remaining input.old)) }
@@ -88,6 +92,7 @@ fn run<R: Read, W: Write>(
 /// The whole output.
 fn answer<R: Read>(alloc: Global, words: &[String], input: &mut R) -> Result<String, Stop>
     ensures text { IfOk result (λ text. IfSome (R.remaining input.old) (λ bytes. IsRunAnswer (map string_bytes words.now) bytes (Ok (string_bytes text)))) }
+    ensures asked { OnOk result (AskSomething (map string_bytes words.now)) }
     ensures stopped { IfErr result (IsStop (map string_bytes words.now) (R.remaining input.old)) }
 {
     let (command, settings) = read_words(words)?;

@@ -1,12 +1,13 @@
 // The words after the program's name: a command, and then settings as `name=value`.
-ghost use Rattle.std.specs.Prelude.{◌≡◌, ◌↔◌, ◌≤◌, ◌^◌, pos, codes, None, unwrap_or, map, string_bytes, IsOk, IsNone, IsSome, IfSome, IfOk, IfErr, OnOk, OnErr, MatchOption};
+ghost use Rattle.std.specs.Prelude.{◌≡◌, ◌≢◌, ◌↔◌, ℕ, ℤ, pos, List, Option, codes, None, unwrap_or, map, string_bytes, IsOk, IsNone, IsSome, IfSome, IfOk, IfErr, OnOk, OnErr, MatchOption};
 ghost use Rattle.std.specs.Option.{option_map_or};
-ghost use Rattle.std.specs.Str.Parse.{IsNumeral, digits_value};
 ghost use Rattle.arrange.specs.declared.settings.Command.{Command};
 ghost use Rattle.arrange.specs.declared.settings.Engine.{Engine};
 ghost use Rattle.overlay_base.specs.declared.overlay_core.fill_rule.FillRule.{FillRule};
+ghost use Rattle.overlay_base.specs.declared.overlay_core.overlay_rule.OverlayRule.{OverlayRule};
+ghost use Rattle.overlay_base.specs.declared.overlay_core.solver.Precision.{Precision};
 ghost use Rattle.overlay_base.specs.declared.overlay_core.solver.Strategy.{Strategy};
-ghost use Rattle.arrange.specs.Words.{NamesCommand, NamesEngine, NamesStrategy, NamesFillRule, NamesRule, precision_of, IsPrecisionName, NamesPrecision, WritesLimit, WritesSquare, setting, TakesWord, WordsAsk, IsCommandAlone};
+ghost use Rattle.arrange.specs.Words.{NamesCommand, NamesEngine, NamesStrategy, NamesFillRule, NamesRule, precision_of, IsPrecisionName, NamesPrecision, WritesLimit, WritesSquare, WritesRadius, setting, IsName, IsSetting, WordsAsk, AskNothing, ReadsWord};
 
 use crate::number::{number, short_number};
 use crate::settings::{Command, Engine, Settings, SquaredRadius};
@@ -20,7 +21,7 @@ const GREATEST_RADIUS: u64 = 1 << 56;
 /// The command and the settings that the words ask for. Anything else is `Stop::Usage`.
 pub fn read_words(words: &[String]) -> Result<(Command, Settings), Stop>
     ensures asked { IfOk result (λ asked. WordsAsk (map string_bytes words.now) asked.0 asked.1) }
-    ensures usage { IfErr result (λ stop. (stop ≡ Stop.Usage) × ¬ (IsCommandAlone (map string_bytes words.now))) }
+    ensures usage { IfErr result (λ stop. (stop ≡ Stop.Usage) × AskNothing (map string_bytes words.now)) }
 {
     let (first, others) = words.split_first().ok_or(Stop::Usage)?;
     let command = command(first.as_str()).ok_or(Stop::Usage)?;
@@ -33,7 +34,7 @@ pub fn read_words(words: &[String]) -> Result<(Command, Settings), Stop>
 
 /// The parts of a word `name=value`.
 fn name_and_value(word: &str) -> Option<(&str, &str)>
-    ensures { IfSome result (λ parts. word.now ≡ setting parts.0.now parts.1.now) }
+    ensures { MatchOption result ((name value : List ℕ) → word.now ≢ setting name value) (λ parts. (word.now ≡ setting parts.0.now parts.1.now) × IsName parts.0.now) }
 {
     word.split_once('=')
 }
@@ -64,7 +65,7 @@ fn engine(name: &str) -> Option<Engine>
 
 /// The strategy of that name.
 fn strategy(name: &str) -> Option<Strategy>
-    ensures { IfSome result (NamesStrategy name.now) }
+    ensures { MatchOption result ((strategy : Strategy) → ¬ (NamesStrategy name.now strategy)) (NamesStrategy name.now) }
 {
     match name {
         "list" => Some(Strategy::List),
@@ -77,7 +78,7 @@ fn strategy(name: &str) -> Option<Strategy>
 
 /// The fill rule of that name.
 fn fill_rule(name: &str) -> Option<FillRule>
-    ensures { IfSome result (NamesFillRule name.now) }
+    ensures { MatchOption result ((fill_rule : FillRule) → ¬ (NamesFillRule name.now fill_rule)) (NamesFillRule name.now) }
 {
     match name {
         "evenodd" => Some(FillRule::EvenOdd),
@@ -90,7 +91,7 @@ fn fill_rule(name: &str) -> Option<FillRule>
 
 /// The rule of that name. The name `all` asks for a graph without a rule.
 fn rule(name: &str) -> Option<Option<OverlayRule>>
-    ensures { IfSome result (NamesRule name.now) }
+    ensures { MatchOption result ((rule : Option OverlayRule) → ¬ (NamesRule name.now rule)) (NamesRule name.now) }
 {
     let rule = match name {
         "all" => return Some(None),
@@ -131,13 +132,14 @@ impl Choices {
 
     /// Takes one word of the form `name=value`.
     fn read(&mut self, word: &str) -> Result<(), Stop>
-        ensures engine { OnOk result (TakesWord (codes "engine") NamesEngine word.now self.old.engine self.new.engine) }
-        ensures strategy { OnOk result (TakesWord (codes "strategy") NamesStrategy word.now self.old.strategy self.new.strategy) }
-        ensures precision { OnOk result (TakesWord (codes "precision") NamesPrecision word.now self.old.precision self.new.precision) }
-        ensures fill { OnOk result (TakesWord (codes "fill") NamesFillRule word.now self.old.fill_rule self.new.fill_rule) }
-        ensures rule { OnOk result (TakesWord (codes "rule") NamesRule word.now self.old.rule self.new.rule) }
-        ensures limit { OnOk result (TakesWord (codes "limit") WritesLimit word.now self.old.snap_limit self.new.snap_limit) }
-        ensures radius { OnOk result (TakesWord (codes "radius") (λ value radius. WritesSquare value radius.squared) word.now self.old.radius self.new.radius) }
+        ensures known { OnOk result (IsSetting word.now) }
+        ensures engine { ReadsWord result (codes "engine") NamesEngine word.now self.old.engine self.new.engine }
+        ensures strategy { ReadsWord result (codes "strategy") NamesStrategy word.now self.old.strategy self.new.strategy }
+        ensures precision { ReadsWord result (codes "precision") NamesPrecision word.now self.old.precision self.new.precision }
+        ensures fill { ReadsWord result (codes "fill") NamesFillRule word.now self.old.fill_rule self.new.fill_rule }
+        ensures rule { ReadsWord result (codes "rule") NamesRule word.now self.old.rule self.new.rule }
+        ensures limit { ReadsWord result (codes "limit") WritesLimit word.now self.old.snap_limit self.new.snap_limit }
+        ensures radius { ReadsWord result (codes "radius") WritesRadius word.now self.old.radius self.new.radius }
         ensures usage { IfErr result (λ stop. stop ≡ Stop.Usage) }
     {
         let (name, value) = name_and_value(word).ok_or(Stop::Usage)?;
@@ -191,7 +193,7 @@ fn choose<T: Copy>(slot: &mut Option<T>, value: Option<T>) -> Result<(), Stop>
 
 /// A precision by its name, or as `START,STEP`.
 fn precision(value: &str) -> Option<Precision>
-    ensures { IfSome result (NamesPrecision value.now) }
+    ensures { MatchOption result ((precision : Precision) → ¬ (NamesPrecision value.now precision)) (NamesPrecision value.now) }
 {
     match value.split_once(',') {
         Some((start, step)) => Some(Precision {
@@ -204,7 +206,7 @@ fn precision(value: &str) -> Option<Precision>
 
 /// The precision of that name.
 fn named_precision(name: &str) -> Option<Precision>
-    ensures { IfSome result (IsPrecisionName name.now) }
+    ensures { MatchOption result ((precision : Precision) → ¬ (IsPrecisionName name.now precision)) (IsPrecisionName name.now) }
 {
     match name {
         "absolute" => Some(Precision::ABSOLUTE),
@@ -218,14 +220,13 @@ fn named_precision(name: &str) -> Option<Precision>
 }
 
 fn snap_limit(value: &str) -> Option<u32>
-    ensures { IfSome result (WritesLimit value.now) }
+    ensures { MatchOption result ((limit : ℕ) → ¬ (WritesLimit value.now limit)) (WritesLimit value.now) }
 {
     u32::try_from(number(value)?).ok()
 }
 
 fn radius(value: &str) -> Option<SquaredRadius>
-    ensures in_range { IsSome result ↔ (IsNumeral 10 value.now × (1 ≤ digits_value 10 value.now) × (digits_value 10 value.now ≤ 2 ^ 56)) }
-    ensures squared { IfSome result (λ radius. radius.squared ≡ pos (digits_value 10 value.now)) }
+    ensures { MatchOption result ((squared : ℤ) → ¬ (WritesSquare value.now squared)) (WritesRadius value.now) }
 {
     match number(value)? {
         squared @ 1..=GREATEST_RADIUS => Some(SquaredRadius {

@@ -19,6 +19,8 @@ pub mod DataJoins
 pub mod SortedJoins
 pub mod DataWalks
 pub mod Merges
+pub mod Stops
+pub mod Views
 pub mod Rests
 pub mod Apart
 pub mod Shifts

@@ -86,3 +86,7 @@ pub record IsStoppedJoin {D S : Type 0} (hooks : Hooks D S) (segments : List (Da
   pub fits : IsFalse (join_leaves_range (without_data (take stop segments)))
   pub leaves : IsTrue (join_leaves_range (without_data (take (stop + 1) segments)))
   pub store : left ≡ (data_join hooks (take stop segments) from).1
+
+-- the same of segments in any order, which are sorted stably by pair first
+abbrev pub IsRefusedJoin : {D S : Type 0} → Hooks D S → List (DataSegment D) → S → S → Type 0
+IsRefusedJoin hooks segments from left = IsStoppedJoin hooks (stably_sorted (λ s t. pair_cmp s.pair t.pair) segments) from left

@@ -6,7 +6,7 @@ pub mod Laws
 pub mod Live
 pub mod VisitOf
 pub mod EntryOf
-pub mod NodeOf
+pub mod EndOf
 pub mod WayOf
 pub mod Graph
 pub mod Sides
@@ -14,3 +14,4 @@ pub mod GraphOf
 pub mod NodeIndexes
 pub mod LinkEnds
 pub mod RuleOf
+pub mod BuilderOf

@@ -34,6 +34,7 @@ pub mod Arranged
 pub mod ExactInputs
 pub mod PlanarRuns
 pub mod DataPasses
+pub mod StoppedRuns
 pub mod Columns
 pub mod PieceSteps
 pub mod MarkRuns

@@ -1,12 +1,12 @@
 -- The same passes over segments with data: which hook is called when, and what the store holds after.
-use Rattle.std.specs.Prelude.{ℕ, zero, suc, List, [], ◌∷◌, ◌++◌, flat_map, take, drop}
+use Rattle.std.specs.Prelude.{ℕ, zero, suc, ◌<◌, IsTrue, IsFalse, List, [], ◌∷◌, ◌++◌, flat_map, take, drop}
 use Rattle.overlay_base.specs.Points.{Point, Pair}
 use Rattle.overlay_base.specs.Windings.{Winding}
 use Rattle.overlay_split.specs.Marks.{Placing}
 use Rattle.overlay_split.specs.Path.{path_from, columns_of}
 use Rattle.overlay_split.specs.Pass.{marks_on}
-use Rattle.overlay_split.specs.Run.{Settings, placing_of_pass}
-use Rattle.overlay_base.specs.EdgeData.{DataSegment, Hooks, without_data, data_piece, data_join}
+use Rattle.overlay_split.specs.Run.{Settings, placing_of_pass, goes_on, leaves_range_within}
+use Rattle.overlay_base.specs.EdgeData.{DataSegment, Hooks, without_data, data_piece, data_join, IsRefusedJoin}
 
 module _ {D S : Type 0} (hooks : Hooks D S) where
   -- The pieces from p through the points that follow it on a path to b. Before each but the last the data is split there.
@@ -46,3 +46,19 @@ module _ {D S : Type 0} (hooks : Hooks D S) where
   data_after_passes settings given store (suc k) =
       let before : List (DataSegment D) × S = data_after_passes settings given store k in
       data_pass (placing_of_pass settings (suc k)) before.0 before.1
+
+  -- what pass k joins, and the store before that: the pieces of its cut; pass 0 stands for the join of the given segments
+  unfoldable pub data_joined_in : Settings → List (DataSegment D) → S → ℕ → List (DataSegment D) × S
+  data_joined_in settings given store zero = (given, store)
+  data_joined_in settings given store (suc k) =
+      let before : List (DataSegment D) × S = data_after_passes settings given store k in
+      data_cut (placing_of_pass settings (suc k)) before.0 before.1
+
+-- A run that was refused in a pass, 0 for the join of the given segments: the passes up to that one are made, every sum before it is in range, and its join stopped, with the store that is left.
+pub record IsStoppedRun {D S : Type 0} (hooks : Hooks D S) (settings : Settings) (given : List (DataSegment D)) (from left : S) : Type 0 where
+  pub in_pass : ℕ
+  pub made : (j : ℕ) → j < in_pass → IsTrue (goes_on settings (without_data given) j)
+  pub fits : (j : ℕ) → j < in_pass → IsFalse (leaves_range_within settings (without_data given) j)
+  pub stopped :
+      let joined : List (DataSegment D) × S = data_joined_in hooks settings given from in_pass in
+      IsRefusedJoin hooks joined.0 joined.1 left

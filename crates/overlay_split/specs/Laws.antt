@@ -17,10 +17,10 @@ use Rattle.overlay_split.specs.Counts.{count_of}
 use Rattle.overlay_split.specs.CrossAnswer.{cross_answer, target_marks, other_marks}
 use Rattle.overlay_split.specs.Path.{pieces}
 use Rattle.overlay_split.specs.Pass.{pass, is_rounded, mark_count}
-use Rattle.overlay_split.specs.Run.{Settings, IsPassCount, IsRun, after_passes}
+use Rattle.overlay_split.specs.Run.{Settings, IsPassCount, IsRun, LeavesRange, after_passes}
 use Rattle.overlay_split.specs.Potential.{potential}
 use Rattle.overlay_split.specs.ExactInput.{is_exact_input, KeepsCounts}
-use Rattle.overlay_split.specs.DataPass.{data_pass, data_after_passes}
+use Rattle.overlay_split.specs.DataPass.{data_pass, data_after_passes, IsStoppedRun}
 
 -- ---- marks and crossings
 
@@ -226,3 +226,15 @@ abbrev pub ArrangedDataIsUnchanged : (D S : Type 0) → Type 0
 ArrangedDataIsUnchanged D S =
     (hooks : Hooks D S) (settings : Settings) (segments : List (DataSegment D)) (store : S) (k : ℕ) → IsTrue (is_map (without_data segments)) → IsTrue (is_planar (without_data segments)) →
     data_after_passes hooks settings segments store k ≡ (segments, store)
+
+-- where a run was refused some sum leaves the range
+abbrev pub StoppedRunLeavesRange : (D S : Type 0) → Type 0
+StoppedRunLeavesRange D S =
+    (hooks : Hooks D S) (settings : Settings) (given : List (DataSegment D)) (from left : S) → IsStoppedRun hooks settings given from left →
+    LeavesRange settings (without_data given)
+
+-- and what is given, with the settings and the store before, tells the store that is left
+abbrev pub StoppedRunIsOne : (D S : Type 0) → Type 0
+StoppedRunIsOne D S =
+    (hooks : Hooks D S) (settings : Settings) (given : List (DataSegment D)) (from first second : S) → IsStoppedRun hooks settings given from first → IsStoppedRun hooks settings given from second →
+    first ≡ second

@@ -1,5 +1,5 @@
 -- The path of a segment through its marks, and the pieces into which it falls.
-use Rattle.std.specs.Prelude.{◌≡◌, ◌≢◌, ⊤, ℕ, suc, ℤ, int_lt, if◌then◌else◌, List, [], ◌∷◌, ◌++◌, reverse}
+use Rattle.std.specs.Prelude.{◌≡◌, ◌≢◌, ⊤, int_lt, if◌then◌else◌, List, [], ◌∷◌, ◌++◌, reverse}
 use Rattle.std.specs.Ordering.{int_eq}
 use Rattle.overlay_base.specs.Points.{Point, Pair, point_cmp, point_lt, distinct_in_order}
 use Rattle.overlay_base.specs.Windings.{Winding, inverse}
@@ -59,11 +59,6 @@ pieces_along count (p ∷ q ∷ points) = piece count p q ∷ pieces_along count
 
 unfoldable pub pieces : WholeSegment → List Point → List WholeSegment
 pieces segment marks = pieces_along segment.count (path segment.pair marks)
-
--- how many points in front have this x
-unfoldable pub run_len : ℤ → List Point → ℕ
-run_len x [] = 0
-run_len x (p ∷ points) = if int_eq p.x x then suc (run_len x points) else 0
 
 -- the first of the points, or b where there is none
 abbrev pub first_point : List Point → Point → Point

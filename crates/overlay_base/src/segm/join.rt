@@ -2,10 +2,9 @@
 // each of its passes ends.
 ghost use Rattle.std.specs.Prelude.{◌≡◌, [], All, IsTrue, IsFalse, IfOk, OnOk, IfErr, OnErr};
 ghost use Rattle.overlay_base.specs.declared.segm.fault.Fault.TheVariants.{CountOutOfRange};
-ghost use Rattle.overlay_base.specs.Points.{pair_cmp, stably_sorted};
 ghost use Rattle.overlay_base.specs.Windings.{is_valid};
 ghost use Rattle.overlay_base.specs.Join.{join, join_leaves_range, has_equal_pairs};
-ghost use Rattle.overlay_base.specs.EdgeData.{data_join, IsStoppedJoin};
+ghost use Rattle.overlay_base.specs.EdgeData.{data_join, IsRefusedJoin};
 ghost use Rattle.overlay_base.specs.HooksOf.{hooks_of};
 ghost use Rattle.overlay_base.specs.SegmentOf.{winding_of, segments_of, data_segments_of};
 
@@ -42,7 +41,7 @@ pub fn join_with_store<C: WindingCount, I: OverlayInt, D: OverlayEdgeData<C>>(
     ensures emptied { OnErr result (list.new.items ≡ []) }
     ensures stopped { IfErr result (λ fault. fault ≡ CountOutOfRange →
         (let hooks = hooks_of C.counted D.reversed_gives D.split_gives D.merge_gives in
-        IsStoppedJoin hooks (stably_sorted (λ s t. pair_cmp s.pair t.pair) (data_segments_of list.old.items)) store.old store.new)) }
+        IsRefusedJoin hooks (data_segments_of list.old.items) store.old store.new)) }
 {
     sort_by_ab(list)?;
     merge_if_needed_with_store(list, store)

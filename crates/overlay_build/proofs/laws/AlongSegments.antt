@@ -32,36 +32,29 @@ pub slope_back : (s t : Pair) → slope s t ≡ neg_ℤ (slope t s)
 unfolding slope
 slope_back s t = slope_plain ((t.b.y -ℤ t.a.y) *ℤ width s) ((s.b.y -ℤ s.a.y) *ℤ width t)
 
+-- two that are at one height strictly inside both cross, where the difference of the heights falls
+falls_across : (x : ℤ) (s t : Pair) → s.a.x <ℤ x → x <ℤ s.b.x → t.a.x <ℤ x → x <ℤ t.b.x → gap x s t ≡ pos 0 → slope s t <ℤ pos 0 → do_cross s t ≡ true
+falls_across x s t sa sb ta tb e k =
+    let p = gap_left_strict x s.a.x s t k sa in
+    let q = gap_left_strict x t.a.x s t k ta in
+    let r = gap_left_strict s.b.x x s t k sb in
+    let v = gap_left_strict t.b.x x s t k tb in
+    crosses_downward s t (omega (arith, ints)) (omega (arith, ints)) (omega (arith, ints)) (omega (arith, ints)) (omega (arith, ints)) (omega (arith, ints))
+
 module _ (x : ℤ) (s : Pair) (from_a : s.a.x <ℤ x) (to_b : x <ℤ s.b.x) where
   wide : s.a.x <ℤ s.b.x
   wide = omega (arith, ints)
 
   module _ (t : Pair) (wt : t.a.x <ℤ t.b.x) (apart : IsApart s t) where
-    downward_cross : t.a.x <ℤ x → x <ℤ t.b.x → gap x s t ≡ pos 0 → slope s t <ℤ pos 0 → do_cross s t ≡ true
-    downward_cross ta tb e k =
-        let p = gap_left_strict x s.a.x s t k from_a in
-        let q = gap_left_strict x t.a.x s t k ta in
-        let r = gap_left_strict s.b.x x s t k to_b in
-        let v = gap_left_strict t.b.x x s t k tb in
-        crosses_downward s t wide wt (omega (arith, ints)) (omega (arith, ints)) (omega (arith, ints)) (omega (arith, ints))
-
-    upward_cross : t.a.x <ℤ x → x <ℤ t.b.x → gap x t s ≡ pos 0 → slope t s <ℤ pos 0 → do_cross t s ≡ true
-    upward_cross ta tb e k =
-        let p = gap_left_strict x s.a.x t s k from_a in
-        let q = gap_left_strict x t.a.x t s k ta in
-        let r = gap_left_strict s.b.x x t s k to_b in
-        let v = gap_left_strict t.b.x x t s k tb in
-        crosses_downward t s wt wide (omega (arith, ints)) (omega (arith, ints)) (omega (arith, ints)) (omega (arith, ints))
-
     -- only s itself has its height there
     pub same_from_meeting : t.a.x ≤ℤ x → x ≤ℤ t.b.x → gap x s t ≡ pos 0 → s ≡ t
     same_from_meeting ta tb e =
         by_lt_z t.a.x x
         (λ (before : t.a.x <ℤ x). by_lt_z x t.b.x
         (λ (after : x <ℤ t.b.x). by_sign (slope s t)
-        (λ (k : slope s t <ℤ pos 0). absurd (apart.cross (downward_cross before after e k)))
+        (λ (k : slope s t <ℤ pos 0). absurd (apart.cross (falls_across x s t from_a to_b before after e k)))
         (λ (k : slope s t ≡ pos 0). same_from_level s t wide wt apart (λ z. gap_level x z s t e k) (omega (arith, ints)) (omega (arith, ints)))
-        (λ (k : pos 0 <ℤ slope s t). let back = gap_back x s t in let turned = slope_back s t in absurd ((apart_back s t apart).cross (upward_cross before after (omega (arith, ints)) (omega (arith, ints))))))
+        (λ (k : pos 0 <ℤ slope s t). let back = gap_back x s t in let turned = slope_back s t in absurd ((apart_back s t apart).cross (falls_across x t s before after from_a to_b (omega (arith, ints)) (omega (arith, ints))))))
         (λ (at : t.b.x ≤ℤ x).
         let here : x ≡ t.b.x = omega (arith, ints) in
         let on : turn s.a s.b t.b ≡ pos 0 = cancel-zero (width t) _ (omega (arith, ints)) (sym (gap_at_other_end s t) ∙ rw here at e) in

@@ -18,10 +18,11 @@ use Rattle.overlay_build.specs.Sweep.{sum_below}
 use Rattle.overlay_build.specs.Live.{HoldSameFrom, AreFreeAt}
 use Rattle.overlay_build.proofs.laws.ColumnLines.{spans_parts}
 use Rattle.overlay_build.proofs.laws.ColumnOrder.{IsApart, is_apart, apart_back, one_is_below}
-use Rattle.overlay_build.proofs.laws.Members.{In, In-map, In-filter, filter-In, greatest_is, greatest_none, In-holds, sorted_all, sorted_tail, differ_when_less, IsArranged}
+use Rattle.overlay_build.proofs.laws.Members.{greatest_is, greatest_none, sorted_all, sorted_tail, differ_when_less, IsArranged}
 use Rattle.overlay_build.proofs.laws.Supports.{below_highest, first_same, first_asymmetric, first-trans}
 use Rattle.overlay_build.proofs.laws.Tops.{by_option, spans_live}
-use Rattle.overlay_build.proofs.laws.LiveSums.{In-from_Contains, Contains-from_In}
+use Rattle.overlay_build.proofs.laws.LiveSums.{Has-from_Contains, Contains-from_Has}
+use Rattle.overlay_base.proofs.laws.Lists.{Has, Has-filter, Has-filter_out, Has-map, Has-map_out, list_all-at}
 
 -- the order of segments from below at one x
 abbrev first_cmp : ℤ → WholeSegment → WholeSegment → Bool
@@ -35,26 +36,26 @@ wide_at x s h = let p = spans_parts x s h in omega (arith, ints)
 
 -- ---- directly below, as members
 
-found_spans : (p : Point) (ys : List WholeSegment) (u : WholeSegment) → In u (filter (λ t. lies_below p t) ys) → spans p.x u.pair ≡ true
-found_spans p ys u n = spans_live p.x u.pair (and_parts (is_live p.x u.pair) _ (In-filter (λ t. lies_below p t) u ys n).1).0
+found_spans : (p : Point) (ys : List WholeSegment) (u : WholeSegment) → Has (filter (λ t. lies_below p t) ys) u → spans p.x u.pair ≡ true
+found_spans p ys u n = spans_live p.x u.pair (and_parts (is_live p.x u.pair) _ (Has-filter_out (λ t. lies_below p t) ys u n).1).0
 
 wide_by : (x : ℤ) (s : Pair) → spans x s ≡ true → pos 0 <ℤ (s.b.x -ℤ s.a.x)
 wide_by x s h = let p = spans_parts x s h in omega (arith, ints)
 
 pub directly_below_is : (ys : List WholeSegment) (p : Point) (t : WholeSegment) → directly_below ys p ≡ Some t →
-    In t ys × (lies_below p t ≡ true) × ((u : WholeSegment) → In u ys → lies_below p u ≡ true → first_cmp p.x t u ≡ false)
+    Has ys t × (lies_below p t ≡ true) × ((u : WholeSegment) → Has ys u → lies_below p u ≡ true → first_cmp p.x t u ≡ false)
 unfolding directly_below
 directly_below_is ys p t e =
     let k = greatest_is (λ t u. ordering_then (height_cmp p.x t.pair u.pair) (angle_cmp t.pair u.pair)) (λ u. spans p.x u.pair ≡ true)
     (λ u h. first_same p.x u.pair) (λ u v h k l. first_asymmetric p.x u.pair v.pair l)
     (λ u v w h k l. first-trans u.pair v.pair w.pair (wide_by p.x u.pair h) (wide_by p.x v.pair k) (wide_by p.x w.pair l) p.x)
     (filter (λ u. lies_below p u) ys) t (found_spans p ys) e in
-    let mine = In-filter (λ u. lies_below p u) t ys k.0 in
-    (mine.0, mine.1, λ u n h. k.1 u (filter-In (λ v. lies_below p v) u ys n h))
+    let mine = Has-filter_out (λ u. lies_below p u) ys t k.0 in
+    (mine.0, mine.1, λ u n h. k.1 u (Has-filter (λ v. lies_below p v) ys u n h))
 
-pub directly_below_none : (ys : List WholeSegment) (p : Point) → directly_below ys p ≡ None → (u : WholeSegment) → In u ys → lies_below p u ≡ true → ⊥
+pub directly_below_none : (ys : List WholeSegment) (p : Point) → directly_below ys p ≡ None → (u : WholeSegment) → Has ys u → lies_below p u ≡ true → ⊥
 unfolding directly_below
-directly_below_none ys p e u n h = greatest_none (λ t u. ordering_then (height_cmp p.x t.pair u.pair) (angle_cmp t.pair u.pair)) (filter (λ v. lies_below p v) ys) u e (filter-In (λ v. lies_below p v) u ys n h)
+directly_below_none ys p e u n h = greatest_none (λ t u. ordering_then (height_cmp p.x t.pair u.pair) (angle_cmp t.pair u.pair)) (filter (λ v. lies_below p v) ys) u e (Has-filter (λ v. lies_below p v) ys u n h)
 
 -- ---- two segments that share a column are in order
 
@@ -75,11 +76,11 @@ same_if_level x s t hs ht apart n m = elim (cases_Bool (pair_eq s t)) [
 
 -- ---- a segment of an arrangement is known by its pair
 
-pub same_by_pair : (xs : List WholeSegment) (s t : WholeSegment) → is_strictly_sorted pair_cmp (pairs xs) ≡ true → In s xs → In t xs → s.pair ≡ t.pair → s ≡ t
+pub same_by_pair : (xs : List WholeSegment) (s t : WholeSegment) → is_strictly_sorted pair_cmp (pairs xs) ≡ true → Has xs s → Has xs t → s.pair ≡ t.pair → s ≡ t
 same_by_pair [] s t o m n e = absurd m
-same_by_pair (x ∷ xs) s t o (inl f) (inl g) e = f ∙ sym g
-same_by_pair (x ∷ xs) s t o (inl f) (inr n) e = absurd (differ_when_less x.pair t.pair (In-holds (λ y. pair_lt x.pair y.pair) t xs (sorted_all x xs o) n) (ap (λ (v : WholeSegment). v.pair) (sym f) ∙ e))
-same_by_pair (x ∷ xs) s t o (inr m) (inl g) e = absurd (differ_when_less x.pair s.pair (In-holds (λ y. pair_lt x.pair y.pair) s xs (sorted_all x xs o) m) (ap (λ (v : WholeSegment). v.pair) (sym g) ∙ sym e))
+same_by_pair (x ∷ xs) s t o (inl f) (inl g) e = sym f ∙ g
+same_by_pair (x ∷ xs) s t o (inl f) (inr n) e = absurd (differ_when_less x.pair t.pair (list_all-at (λ y. pair_lt x.pair y.pair) xs t (sorted_all x xs o) n) (ap (λ (v : WholeSegment). v.pair) f ∙ e))
+same_by_pair (x ∷ xs) s t o (inr m) (inl g) e = absurd (differ_when_less x.pair s.pair (list_all-at (λ y. pair_lt x.pair y.pair) xs s (sorted_all x xs o) m) (ap (λ (v : WholeSegment). v.pair) g ∙ sym e))
 same_by_pair (x ∷ xs) s t o (inr m) (inr n) e = same_by_pair xs s t (sorted_tail x xs o) m n e
 
 -- ---- the tops of segments as live sums
@@ -87,33 +88,28 @@ same_by_pair (x ∷ xs) s t o (inr m) (inr n) e = same_by_pair xs s t (sorted_ta
 abbrev pub topped : List WholeSegment → WholeSegment → WholeSegment
 topped xs s = record { pair = s.pair; count = top xs s }
 
-pub In-map_out : {X Y : Type 0} (f : X → Y) (ys : List X) (z : Y) → In z (map f ys) → (y : X) × In y ys × (z ≡ f y)
-In-map_out f [] z m = absurd m
-In-map_out f (y ∷ ys) z (inl e) = (y, inl refl, e)
-In-map_out f (y ∷ ys) z (inr m) = let k = In-map_out f ys z m in (k.0, inr k.1, k.2)
-
 module _ (xs : List WholeSegment) (arranged : IsArranged xs) where
-  pub apart_members : (s t : WholeSegment) → In s xs → In t xs → IsApart s.pair t.pair
+  pub apart_members : (s t : WholeSegment) → Has xs s → Has xs t → IsApart s.pair t.pair
   apart_members s t m n = is_apart s.pair t.pair (arranged.apart s t m n)
 
-  module _ (x : ℤ) (live ys : List WholeSegment) (holds : HoldSameFrom x live (map (topped xs) ys)) (known : (s : WholeSegment) → In s ys → In s xs) where
+  module _ (x : ℤ) (live ys : List WholeSegment) (holds : HoldSameFrom x live (map (topped xs) ys)) (known : (s : WholeSegment) → Has ys s → Has xs s) where
     -- a live sum is the top of a segment
-    source : (u : WholeSegment) → In u live → is_live x u.pair ≡ true → (t : WholeSegment) × In t ys × (u ≡ topped xs t)
-    source u m l = In-map_out (topped xs) ys u (In-from_Contains (map (topped xs) ys) u ((holds u x (omega (arith, ints)) l).0 (Contains-from_In live u m)))
+    source : (u : WholeSegment) → Has live u → is_live x u.pair ≡ true → (t : WholeSegment) × Has ys t × (u ≡ topped xs t)
+    source u m l = let found = Has-map_out (topped xs) ys u (Has-from_Contains (map (topped xs) ys) u ((holds u x (omega (arith, ints)) l).0 (Contains-from_Has live u m))) in (found.0, found.1, sym found.2)
 
-    stored : (t : WholeSegment) → In t ys → is_live x t.pair ≡ true → In (topped xs t) live
-    stored t m l = In-from_Contains live (topped xs t) ((holds (topped xs t) x (omega (arith, ints)) l).1 (Contains-from_In (map (topped xs) ys) (topped xs t) (In-map (topped xs) t ys m)))
+    stored : (t : WholeSegment) → Has ys t → is_live x t.pair ≡ true → Has live (topped xs t)
+    stored t m l = Has-from_Contains live (topped xs t) ((holds (topped xs t) x (omega (arith, ints)) l).1 (Contains-from_Has (map (topped xs) ys) (topped xs t) (Has-map (topped xs) ys t m)))
 
     -- live sums are free of crossings
     pub free_at : AreFreeAt x live
     free_at = record {
       apart = λ s t m n l k.
-          let a = source s (In-from_Contains live s m) l in
-          let b = source t (In-from_Contains live t n) k in
+          let a = source s (Has-from_Contains live s m) l in
+          let b = source t (Has-from_Contains live t n) k in
           subst (λ v. are_apart v t.pair ≡ true) (sym (ap (λ (w : WholeSegment). w.pair) a.2)) (subst (λ v. are_apart a.0.pair v ≡ true) (sym (ap (λ (w : WholeSegment). w.pair) b.2)) (arranged.apart a.0 b.0 (known a.0 a.1) (known b.0 b.1)));
       one_sum = λ s t m n l k e.
-          let a = source s (In-from_Contains live s m) l in
-          let b = source t (In-from_Contains live t n) k in
+          let a = source s (Has-from_Contains live s m) l in
+          let b = source t (Has-from_Contains live t n) k in
           let same = same_by_pair xs a.0 b.0 arranged.sorted (known a.0 a.1) (known b.0 b.1) (ap (λ (w : WholeSegment). w.pair) (sym a.2) ∙ e ∙ ap (λ (w : WholeSegment). w.pair) b.2) in
           a.2 ∙ ap (topped xs) same ∙ sym b.2;
     }
@@ -122,8 +118,8 @@ module _ (xs : List WholeSegment) (arranged : IsArranged xs) where
   live_part p t h = (and_parts (is_live p.x t.pair) _ h).0
 
   -- where all segments that begin before p are known, their tops tell that of the one directly below p
-  pub sum_below_is : (p : Point) (live ys : List WholeSegment) → HoldSameFrom p.x live (map (topped xs) ys) → ((s : WholeSegment) → In s ys → In s xs) →
-      ((s : WholeSegment) → In s xs → lies_below p s ≡ true → In s ys) → sum_below live p empty ≡ option_map_or (λ t. top xs t) (directly_below xs p) empty
+  pub sum_below_is : (p : Point) (live ys : List WholeSegment) → HoldSameFrom p.x live (map (topped xs) ys) → ((s : WholeSegment) → Has ys s → Has xs s) →
+      ((s : WholeSegment) → Has xs s → lies_below p s ≡ true → Has ys s) → sum_below live p empty ≡ option_map_or (λ t. top xs t) (directly_below xs p) empty
   unfolding sum_below
   sum_below_is p live ys holds known early =
       by_option (directly_below xs p)

@@ -18,10 +18,11 @@ use Rattle.overlay_build.specs.Sides.{has_sides_apart}
 use Rattle.overlay_base.proofs.laws.Points.{same_by_eq}
 use Rattle.overlay_build.proofs.laws.ColumnLines.{is_under, column_weights, spans-true, spans-false_before, spans-false_after, point_lt-cases}
 use Rattle.overlay_build.proofs.laws.Parity.{odd_of, odd_of_is}
-use Rattle.overlay_build.proofs.laws.Members.{In, IsArranged, is_arranged}
+use Rattle.overlay_build.proofs.laws.Members.{IsArranged, is_arranged}
 use Rattle.overlay_build.proofs.laws.Sides.{apart_in}
 use Rattle.overlay_build.proofs.laws.Vertices.{tells, tells_sides_of, odd_of-same_in, odd_right, odd_left}
 use Rattle.overlay_build.proofs.laws.Uprights.{odd_of-filter, odd_of-differ, odd_of-nothing, by_any, odd_up, odd_down}
+use Rattle.overlay_base.proofs.laws.Lists.{Has}
 
 round_vertex : (r0 r1 l0 l1 : Bool) → differ (differ (differ r0 r1) (differ r1 l1)) (differ (differ l0 l1) (differ r0 l0)) ≡ false
 round_vertex true true true true = refl
@@ -71,7 +72,7 @@ module _ (xs : List WholeSegment) (arranged : IsArranged xs) (balanced : IsBalan
   slanted : (u : WholeSegment) → u.pair.a.x <ℤ u.pair.b.x → is_vertical u.pair ≡ false
   slanted u h = false_from_ne_true _ (λ e. let same = (Decides-int_eq u.pair.a.x u.pair.b.x).0 e in omega (arith, ints))
 
-  start_kinds : (u : WholeSegment) → In u xs → point_eq u.pair.a p ≡ true → ((spans p.x u.pair ≡ true) × (is_vertical u.pair ≡ false)) ⊎ ((spans p.x u.pair ≡ false) × (is_vertical u.pair ≡ true))
+  start_kinds : (u : WholeSegment) → Has xs u → point_eq u.pair.a p ≡ true → ((spans p.x u.pair ≡ true) × (is_vertical u.pair ≡ false)) ⊎ ((spans p.x u.pair ≡ false) × (is_vertical u.pair ≡ true))
   start_kinds u m e =
       let x : u.pair.a.x ≡ p.x = ap (λ (q : Point). q.x) (same_by_eq u.pair.a p e) in
       elim (point_lt-cases u.pair.a u.pair.b (arranged.ordered u m)) [
@@ -79,7 +80,7 @@ module _ (xs : List WholeSegment) (arranged : IsArranged xs) (balanced : IsBalan
         | inr h ↦ (let same = h.0 in inr (spans-false_after p.x u.pair (omega (arith, ints)), level u h.0))
       ]
 
-  end_kinds : (u : WholeSegment) → In u xs → point_eq u.pair.b p ≡ true → ((spans (p.x -ℤ pos 1) u.pair ≡ true) × (is_vertical u.pair ≡ false)) ⊎ ((spans (p.x -ℤ pos 1) u.pair ≡ false) × (is_vertical u.pair ≡ true))
+  end_kinds : (u : WholeSegment) → Has xs u → point_eq u.pair.b p ≡ true → ((spans (p.x -ℤ pos 1) u.pair ≡ true) × (is_vertical u.pair ≡ false)) ⊎ ((spans (p.x -ℤ pos 1) u.pair ≡ false) × (is_vertical u.pair ≡ true))
   end_kinds u m e =
       let x : u.pair.b.x ≡ p.x = ap (λ (q : Point). q.x) (same_by_eq u.pair.b p e) in
       elim (point_lt-cases u.pair.a u.pair.b (arranged.ordered u m)) [
@@ -87,7 +88,7 @@ module _ (xs : List WholeSegment) (arranged : IsArranged xs) (balanced : IsBalan
         | inr h ↦ (let same = h.0 in inr (spans-false_before (p.x -ℤ pos 1) u.pair (omega (arith, ints)), level u h.0))
       ]
 
-  module _ (free_point : (u : WholeSegment) → In u xs → is_strictly_inside u.pair p ≡ true → ⊥) where
+  module _ (free_point : (u : WholeSegment) → Has xs u → is_strictly_inside u.pair p ≡ true → ⊥) where
     odd_starts : odd_of (λ u. tells_sides_of F xs u && point_eq u.pair.a p) xs ≡ differ (odd_of (tells_sides_of F xs) (filter (λ s. spans p.x s.pair && point_eq s.pair.a p) xs)) (odd_of (λ u. (is_vertical u.pair && point_eq u.pair.a p) && tells_sides_of F xs u) xs)
     odd_starts =
         odd_of-same_in (λ u. tells_sides_of F xs u && point_eq u.pair.a p) (λ u. differ ((spans p.x u.pair && point_eq u.pair.a p) && tells_sides_of F xs u) ((is_vertical u.pair && point_eq u.pair.a p) && tells_sides_of F xs u)) xs (λ u m. two_kinds (spans p.x u.pair) (is_vertical u.pair) (tells_sides_of F xs u) (point_eq u.pair.a p) (start_kinds u m))
@@ -106,12 +107,12 @@ module _ (xs : List WholeSegment) (arranged : IsArranged xs) (balanced : IsBalan
     together : differ (odd_of (λ u. tells_sides_of F xs u && point_eq u.pair.a p) xs) (odd_of (λ u. tells_sides_of F xs u && point_eq u.pair.b p) xs) ≡ false
     together = rw (odd_starts, odd_ends, odd_right xs arranged balanced p free_point F, odd_left xs arranged balanced p free_point F, odd_up xs arranged balanced p free_point F, odd_down xs arranged balanced p free_point F) (round_windings (column_weights (is_under p) xs p.x) (weights_up_to xs p.x p) (column_weights (is_under p) xs (p.x -ℤ pos 1)) (weights_up_to xs (p.x -ℤ pos 1) p))
 
-  nowhere : ((u : WholeSegment) → In u xs → (point_eq u.pair.a p || point_eq u.pair.b p) ≡ false) → differ (odd_of (λ u. tells_sides_of F xs u && point_eq u.pair.a p) xs) (odd_of (λ u. tells_sides_of F xs u && point_eq u.pair.b p) xs) ≡ false
+  nowhere : ((u : WholeSegment) → Has xs u → (point_eq u.pair.a p || point_eq u.pair.b p) ≡ false) → differ (odd_of (λ u. tells_sides_of F xs u && point_eq u.pair.a p) xs) (odd_of (λ u. tells_sides_of F xs u && point_eq u.pair.b p) xs) ≡ false
   nowhere none =
       rw (odd_of-nothing (λ u. tells_sides_of F xs u && point_eq u.pair.a p) xs (λ u m. and_right _ _ (or_parts (point_eq u.pair.a p) (point_eq u.pair.b p) (none u m)).0), odd_of-nothing (λ u. tells_sides_of F xs u && point_eq u.pair.b p) xs (λ u m. and_right _ _ (or_parts (point_eq u.pair.a p) (point_eq u.pair.b p) (none u m)).1)) refl
 
   -- an end of a segment lies strictly inside no other
-  ends_are_free : (s : WholeSegment) → In s xs → (point_eq s.pair.a p || point_eq s.pair.b p) ≡ true → (u : WholeSegment) → In u xs → is_strictly_inside u.pair p ≡ true → ⊥
+  ends_are_free : (s : WholeSegment) → Has xs s → (point_eq s.pair.a p || point_eq s.pair.b p) ≡ true → (u : WholeSegment) → Has xs u → is_strictly_inside u.pair p ≡ true → ⊥
   ends_are_free s m h u n inside =
       let apart = apart_in xs arranged balanced s u m n in
       elim (or_cases (point_eq s.pair.a p) (point_eq s.pair.b p) h) [

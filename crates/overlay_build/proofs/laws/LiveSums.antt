@@ -12,23 +12,24 @@ use Rattle.std.proofs.lemmas.List.Elements.{Contains-push, Contains-push_cases, 
 use Rattle.overlay_base.specs.Points.{Pair, is_vertical}
 use Rattle.overlay_base.specs.Segments.{WholeSegment}
 use Rattle.overlay_build.specs.Live.{HoldSameFrom}
-use Rattle.overlay_build.proofs.laws.Members.{In, All-from_In}
+use Rattle.overlay_build.proofs.laws.Members.{All-from_Has}
 use Rattle.overlay_build.proofs.laws.ColumnLines.{le-tested, lt-tested}
+use Rattle.overlay_base.proofs.laws.Lists.{Has}
 
 -- ---- members by index and by recursion
 
-in_at : {X : Type 0} (xs : List X) (x : X) (k : ℕ) → k < length xs → get_or xs k x ≡ x → In x xs
+in_at : {X : Type 0} (xs : List X) (x : X) (k : ℕ) → k < length xs → get_or xs k x ≡ x → Has xs x
 in_at [] x k h e = absurd (omega (arith, h))
-in_at (y ∷ ys) x zero h e = inl (sym e)
+in_at (y ∷ ys) x zero h e = inl e
 in_at (y ∷ ys) x (suc k) h e = inr (in_at ys x k (omega (arith, h)) e)
 
-pub In-from_Contains : {X : Type 0} (xs : List X) (x : X) → Contains xs x → In x xs
-In-from_Contains xs x c = in_at xs x c.0 c.1 c.2
+pub Has-from_Contains : {X : Type 0} (xs : List X) (x : X) → Contains xs x → Has xs x
+Has-from_Contains xs x c = in_at xs x c.0 c.1 c.2
 
-pub Contains-from_In : {X : Type 0} (xs : List X) (x : X) → In x xs → Contains xs x
-Contains-from_In [] x m = absurd m
-Contains-from_In (y ∷ ys) x (inl e) = (0, omega arith, sym e)
-Contains-from_In (y ∷ ys) x (inr m) = let c = Contains-from_In ys x m in (suc c.0, omega (arith, c.1), c.2)
+pub Contains-from_Has : {X : Type 0} (xs : List X) (x : X) → Has xs x → Contains xs x
+Contains-from_Has [] x m = absurd m
+Contains-from_Has (y ∷ ys) x (inl e) = (0, omega arith, e)
+Contains-from_Has (y ∷ ys) x (inr m) = let c = Contains-from_Has ys x m in (suc c.0, omega (arith, c.1), c.2)
 
 pub Contains-first : {X : Type 0} (x : X) (xs : List X) → Contains (x ∷ xs) x
 Contains-first x xs = (0, omega arith, refl)
@@ -37,7 +38,7 @@ pub Contains-later : {X : Type 0} (y : X) (xs : List X) (x : X) → Contains xs 
 Contains-later y xs x c = (suc c.0, omega (arith, c.1), c.2)
 
 pub Contains-cases : {X P : Type 0} (y : X) (xs : List X) (x : X) → Contains (y ∷ xs) x → (x ≡ y → P) → (Contains xs x → P) → P
-Contains-cases y xs x c f g = elim (In-from_Contains (y ∷ xs) x c) [ inl e ↦ f e | inr m ↦ g (Contains-from_In xs x m) ]
+Contains-cases y xs x c f g = elim (Has-from_Contains (y ∷ xs) x c) [ inl e ↦ f (sym e) | inr m ↦ g (Contains-from_Has xs x m) ]
 
 -- ---- the same sums
 
@@ -91,24 +92,24 @@ pub HoldSameFrom-pushed : {X : Type 0} (f : X → WholeSegment) (x : ℤ) (entry
 HoldSameFrom-pushed f x entry xs ys b t e =
     subst (λ v. HoldSameFrom x v (f entry ∷ map f xs)) (sym (ap (map f) (pushed_list xs ys (xs ++ entry ∷ []) b t e) ∙ map-append f xs (entry ∷ []))) (HoldSameFrom-push x (f entry) (map f xs))
 
-begin_at : (x y : ℤ) (xs : List WholeSegment) → x ≤ℤ y → All (λ s. s.pair.a.x ≤ℤ x) xs → (s : WholeSegment) → In s xs → s.pair.a.x ≤ℤ y
-begin_at x y xs h a s m = le_trans s.pair.a.x x y (All-contains (λ s. s.pair.a.x ≤ℤ x) xs s a (Contains-from_In xs s m)) h
+begin_at : (x y : ℤ) (xs : List WholeSegment) → x ≤ℤ y → All (λ s. s.pair.a.x ≤ℤ x) xs → (s : WholeSegment) → Has xs s → s.pair.a.x ≤ℤ y
+begin_at x y xs h a s m = le_trans s.pair.a.x x y (All-contains (λ s. s.pair.a.x ≤ℤ x) xs s a (Contains-from_Has xs s m)) h
 
 -- what begins by x begins by each later y
 pub begins_later : (x y : ℤ) (xs : List WholeSegment) → x ≤ℤ y → All (λ s. s.pair.a.x ≤ℤ x) xs → All (λ s. s.pair.a.x ≤ℤ y) xs
-begins_later x y xs h a = All-from_In (λ s. s.pair.a.x ≤ℤ y) xs (begin_at x y xs h a)
+begins_later x y xs h a = All-from_Has (λ s. s.pair.a.x ≤ℤ y) xs (begin_at x y xs h a)
 
-pub In-append : {X : Type 0} (xs ys : List X) (x : X) → In x (xs ++ ys) → In x xs ⊎ In x ys
-In-append [] ys x m = inr m
-In-append (z ∷ zs) ys x (inl e) = inl (inl e)
-In-append (z ∷ zs) ys x (inr m) = elim (In-append zs ys x m) [ inl n ↦ inl (inr n) | inr n ↦ inr n ]
+pub Has-append : {X : Type 0} (xs ys : List X) (x : X) → Has (xs ++ ys) x → Has xs x ⊎ Has ys x
+Has-append [] ys x m = inr m
+Has-append (z ∷ zs) ys x (inl e) = inl (inl e)
+Has-append (z ∷ zs) ys x (inr m) = elim (Has-append zs ys x m) [ inl n ↦ inl (inr n) | inr n ↦ inr n ]
 
 pub begins_pushed : {X : Type 0} (f : X → WholeSegment) (x y : ℤ) (entry : X) (xs ys : List X) (b : Bool) → b ≡ true → ys ≡ (if b then xs ++ entry ∷ [] else xs) → (f entry).pair.a.x ≡ x → x ≤ℤ y → All (λ s. s.pair.a.x ≤ℤ x) (map f xs) → All (λ s. s.pair.a.x ≤ℤ y) (map f ys)
 begins_pushed f x y entry xs ys b t e start h a =
     rw (ap (map f) (pushed_list xs ys (xs ++ entry ∷ []) b t e) ∙ map-append f xs (entry ∷ []))
-    (All-from_In (λ s. s.pair.a.x ≤ℤ y) (map f xs ++ f entry ∷ []) (λ s m. elim (In-append (map f xs) (f entry ∷ []) s m) [
+    (All-from_Has (λ s. s.pair.a.x ≤ℤ y) (map f xs ++ f entry ∷ []) (λ s m. elim (Has-append (map f xs) (f entry ∷ []) s m) [
       | inl n ↦ begin_at x y (map f xs) h a s n
-      | inr n ↦ elim n [ inl same ↦ (let it : s.pair.a.x ≡ (f entry).pair.a.x = ap (λ (v : WholeSegment). v.pair.a.x) same in omega (arith, ints)) | inr none ↦ absurd none ]
+      | inr n ↦ elim n [ inl same ↦ (let it : s.pair.a.x ≡ (f entry).pair.a.x = ap (λ (v : WholeSegment). v.pair.a.x) (sym same) in omega (arith, ints)) | inr none ↦ absurd none ]
     ]))
 
 -- the same with another name for each part

@@ -1,17 +1,16 @@
 -- Lists of nodes and of ends, element by element.
-use Rattle.std.proofs.Common.{◌≡◌, refl, sym, ap, ap₂, ◌∙◌, arith, ℕ, zero, suc, ◌+◌, ◌<◌, ◌≤◌, ◌==◌, add-one, zero-add, Bool, true, false, ◌&&◌, ◌||◌, List, [], ◌∷◌, ◌++◌, map, take, drop, length, get_or, set, if◌then◌else◌}
+use Rattle.std.proofs.Common.{◌≡◌, refl, sym, ap, ap₂, ◌∙◌, arith, ℕ, ◌+◌, ◌<◌, ◌≤◌, ◌==◌, add-one, zero-add, Bool, true, false, ◌&&◌, ◌||◌, List, [], ◌∷◌, ◌++◌, map, take, drop, length, get_or, set, if◌then◌else◌}
 use Rattle.std.specs.Prelude.{nat_le, ℤ}
-use Rattle.std.specs.List.{list_all, enumerate_from}
-use Rattle.std.proofs.Math.Seq.{drop-cons}
+use Rattle.std.specs.List.{list_all, enumerate_from, take-map, drop-map}
 use Rattle.std.proofs.lemmas.Bool.{eqb-true, eq-eqb, false≢true}
-use Rattle.std.proofs.lemmas.List.{get_or-map, length-map, take_more, map-append, get_or-set_same, get_or-set_other}
+use Rattle.std.proofs.lemmas.List.{get_or-map, length-map, drop_more, take_all, take_more, map-append, get_or-set_same, get_or-set_other}
 use Rattle.std.proofs.lemmas.List.Folds.{list_all-map, list_any-append}
+use Rattle.std.proofs.lemmas.Simd.{map-map}
 use Rattle.std.proofs.lemmas.List.FromFn.{length-enumerate_from, get_or-enumerate_from}
 use Rattle.overlay_base.specs.Points.{Point, Pair, point_eq}
 use Rattle.overlay_base.specs.PointOf.{point_of}
-use Rattle.overlay_base.proofs.laws.Lists.{take-all}
 use Rattle.overlay_base.specs.declared.geom.end.End.{End}
-use Rattle.overlay_build.specs.NodeOf.{WholeEnd, end_of, ends_of}
+use Rattle.overlay_build.specs.EndOf.{WholeEnd, end_of, ends_of}
 use Rattle.overlay_base.specs.declared.overlay_core.link.OverlayLink.{OverlayLink}
 use Rattle.overlay_build.specs.GraphOf.{with_node, names_node}
 use Rattle.overlay_build.specs.Graph.{Node, Graph, is_bridge, is_valid_graph}
@@ -19,13 +18,7 @@ use Rattle.overlay_build.specs.Graph.{Node, Graph, is_bridge, is_valid_graph}
 -- ---- what is left of a list
 
 pub rest-next : {X : Type 0} (xs : List X) (j : ℕ) (x : X) → j < length xs → x ≡ get_or xs j x → drop j xs ≡ x ∷ drop (j + 1) xs
-rest-next xs j x lt is = drop-cons xs j x lt ∙ ap₂ (λ y ys. y ∷ ys) (sym is) (ap (λ (n : ℕ). drop n xs) (sym (add-one j)))
-
-pub rest-over : {X : Type 0} (xs : List X) (j : ℕ) → length xs ≤ j → drop j xs ≡ []
-rest-over [] zero le = refl
-rest-over [] (suc j) le = refl
-rest-over (x ∷ xs) zero le = absurd (omega arith)
-rest-over (x ∷ xs) (suc j) le = rest-over xs j (omega arith)
+rest-next xs j x lt is = drop_more xs j x lt ∙ ap (λ y. y ∷ drop (j + 1) xs) (sym is)
 
 -- one element more, under a function
 pub map-take_next : {X Y : Type 0} (f : X → Y) (xs : List X) (i : ℕ) (x : X) → i < length xs → x ≡ get_or xs i x → map f (take (i + 1) xs) ≡ map f (take i xs) ++ f x ∷ []
@@ -87,18 +80,12 @@ numbered-more side f xs i x h is =
 pub numbered-all : {X : Type 0} (side : Pair → Point) (f : X → Pair) (xs : List X) (i : ℕ) → length xs ≤ i → take i (numbered side (map f xs)) ≡ numbered side (map f xs)
 numbered-all side f xs i h =
     let n : length (numbered side (map f xs)) ≡ length xs = length-map (enumerate_from 0 (map f xs)) _ ∙ length-enumerate_from 0 (map f xs) ∙ length-map xs f in
-    take-all i (numbered side (map f xs)) (omega (arith, n, h))
-
-firsts : {I : Type 0} (whole : I → ℤ) (n : ℕ) (ends : List (End I)) → map (λ (e : End I). e.index) (take n ends) ≡ map (λ (e : WholeEnd). e.index) (take n (ends_of whole ends))
-firsts whole zero ends = refl
-firsts whole (suc n) [] = refl
-firsts whole (suc n) (e ∷ ends) = ap (λ l. e.index ∷ l) (firsts whole n ends)
+    take_all i (numbered side (map f xs)) (omega (arith, n, h))
 
 -- the indexes of ends are those of the whole ends
 pub indexes-whole : {I : Type 0} (whole : I → ℤ) (n i : ℕ) (ends : List (End I)) → map (λ (e : End I). e.index) (take n (drop i ends)) ≡ map (λ (e : WholeEnd). e.index) (take n (drop i (ends_of whole ends)))
-indexes-whole whole n zero ends = firsts whole n ends
-indexes-whole whole n (suc i) [] = firsts whole n []
-indexes-whole whole n (suc i) (e ∷ ends) = indexes-whole whole n i ends
+indexes-whole whole n i ends =
+    sym (ap (λ l. map (λ (e : WholeEnd). e.index) (take n l)) (drop-map (end_of whole) i ends) ∙ ap (map (λ (e : WholeEnd). e.index)) (take-map (end_of whole) n (drop i ends)) ∙ map-map (λ (e : WholeEnd). e.index) (end_of whole) (take n (drop i ends)))
 
 -- ---- elements changed at some indexes
 

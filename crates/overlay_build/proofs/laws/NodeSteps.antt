@@ -14,7 +14,7 @@ use Rattle.overlay_base.specs.declared.overlay_core.link.OverlayLink.{OverlayLin
 use Rattle.overlay_base.proofs.laws.Points.{point_cmp_total, same_by_eq, point_eq_same, point_lt-irreflexive}
 use Rattle.overlay_base.proofs.laws.Lists.{filter-map}
 use Rattle.overlay_base.proofs.laws.StableSorts.{stably_sorted-IsPermutation, stably_sorted-stable, stably_sorted_is_stable}
-use Rattle.overlay_build.specs.NodeOf.{WholeEnd}
+use Rattle.overlay_build.specs.EndOf.{WholeEnd}
 use Rattle.std.specs.List.Sorted.{ties}
 use Rattle.std.specs.Ordering.{is_lt}
 use Rattle.std.proofs.lemmas.List.Elements.{filter_agree, filter-append}

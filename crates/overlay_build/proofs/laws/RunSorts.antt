@@ -1,12 +1,11 @@
 -- Stable sorts: of two runs of which none of the second comes before one of the first, through a function that keeps the order, and strictly.
-use Rattle.std.proofs.Common.{◌≡◌, ap, refl, sym, subst, ◌∙◌, inl, inr, Ordering}
+use Rattle.std.proofs.Common.{◌≡◌, ap, refl, subst, ◌∙◌, inl, inr, Ordering}
 use Rattle.std.specs.Prelude.{true, false, ◌⊎◌, List, [], ◌∷◌, ◌++◌, map}
 use Rattle.std.specs.List.{AllByRecursion}
 use Rattle.std.specs.Ordering.{is_lt}
 use Rattle.std.proofs.lemmas.Bool.{cases_Bool, both_ways}
 use Rattle.overlay_base.specs.Points.{insert_before_ties, stably_sorted}
-use Rattle.overlay_base.proofs.laws.Lists.{Pairwise}
-use Rattle.overlay_build.proofs.laws.Members.{In}
+use Rattle.overlay_base.proofs.laws.Lists.{Pairwise, Has}
 
 module _ {K : Type 0} (cmp : K → K → Ordering) where
   AllByRecursion-insert : (P : K → Type 0) (x : K) (ks : List K) → P x → AllByRecursion P ks → AllByRecursion P (insert_before_ties cmp x ks)
@@ -22,24 +21,24 @@ module _ {K : Type 0} (cmp : K → K → Ordering) where
   AllByRecursion-stably_sorted P [] a = tt
   AllByRecursion-stably_sorted P (x ∷ ks) a = AllByRecursion-insert P x (stably_sorted cmp ks) a.0 (AllByRecursion-stably_sorted P ks a.1)
 
-  In-insert_here : (x : K) (ks : List K) → In x (insert_before_ties cmp x ks)
+  Has-insert_here : (x : K) (ks : List K) → Has (insert_before_ties cmp x ks) x
   unfolding insert_before_ties
-  In-insert_here x [] = inl refl
-  In-insert_here x (y ∷ ys) = elim (cases_Bool (is_lt (cmp y x))) [ inl e ↦ rw e (inr (In-insert_here x ys)) | inr e ↦ rw e (inl refl) ]
+  Has-insert_here x [] = inl refl
+  Has-insert_here x (y ∷ ys) = elim (cases_Bool (is_lt (cmp y x))) [ inl e ↦ rw e (inr (Has-insert_here x ys)) | inr e ↦ rw e (inl refl) ]
 
-  In-insert_later : (x z : K) (ks : List K) → In z ks → In z (insert_before_ties cmp x ks)
+  Has-insert_later : (x z : K) (ks : List K) → Has ks z → Has (insert_before_ties cmp x ks) z
   unfolding insert_before_ties
-  In-insert_later x z [] m = absurd m
-  In-insert_later x z (y ∷ ys) m = elim (cases_Bool (is_lt (cmp y x))) [
-    | inl e ↦ rw e (elim m [ inl same ↦ inl same | inr n ↦ inr (In-insert_later x z ys n) ])
+  Has-insert_later x z [] m = absurd m
+  Has-insert_later x z (y ∷ ys) m = elim (cases_Bool (is_lt (cmp y x))) [
+    | inl e ↦ rw e (elim m [ inl same ↦ inl same | inr n ↦ inr (Has-insert_later x z ys n) ])
     | inr e ↦ rw e (inr m)
   ]
 
-  pub In-stably_sorted : (z : K) (ks : List K) → In z ks → In z (stably_sorted cmp ks)
+  pub Has-stably_sorted : (z : K) (ks : List K) → Has ks z → Has (stably_sorted cmp ks) z
   unfolding stably_sorted
-  In-stably_sorted z [] m = absurd m
-  In-stably_sorted z (x ∷ ks) (inl e) = subst (λ k. In k (insert_before_ties cmp x (stably_sorted cmp ks))) (sym e) (In-insert_here x (stably_sorted cmp ks))
-  In-stably_sorted z (x ∷ ks) (inr m) = In-insert_later x z (stably_sorted cmp ks) (In-stably_sorted z ks m)
+  Has-stably_sorted z [] m = absurd m
+  Has-stably_sorted z (x ∷ ks) (inl e) = subst (λ k. Has (insert_before_ties cmp x (stably_sorted cmp ks)) k) e (Has-insert_here x (stably_sorted cmp ks))
+  Has-stably_sorted z (x ∷ ks) (inr m) = Has-insert_later x z (stably_sorted cmp ks) (Has-stably_sorted z ks m)
 
   -- ---- two runs
 

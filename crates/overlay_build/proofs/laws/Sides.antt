@@ -15,14 +15,15 @@ use Rattle.overlay_build.proofs.laws.WeightSums.{when, sum_of, sum_of-add}
 use Rattle.overlay_build.proofs.laws.ColumnLines.{le-test, le-test_false, le-tested, point_lt-cases, is_up_to, lies_up_to, leaves_upward, column_weights, column_weights_are, filter_weights_are, across_up_to}
 use Rattle.overlay_build.proofs.laws.ColumnOrder.{IsApart, is_apart, below_itself}
 use Rattle.overlay_build.proofs.laws.AlongSegments.{turn_upright, is_same_along}
-use Rattle.overlay_build.proofs.laws.Members.{In, IsArranged, single_sum}
+use Rattle.overlay_build.proofs.laws.Members.{IsArranged, single_sum}
 use Rattle.overlay_build.proofs.laws.Supports.{is_beneath, below_is_beneath, up_to_is_beneath, beneath-below}
+use Rattle.overlay_base.proofs.laws.Lists.{Has}
 
-pub sum_of-same_in : {X : Type 0} (f g : X → ℤ) (xs : List X) → ((x : X) → In x xs → f x ≡ g x) → sum_of f xs ≡ sum_of g xs
+pub sum_of-same_in : {X : Type 0} (f g : X → ℤ) (xs : List X) → ((x : X) → Has xs x → f x ≡ g x) → sum_of f xs ≡ sum_of g xs
 sum_of-same_in f g [] h = refl
 sum_of-same_in f g (x ∷ xs) h = omega (arith, ints, h x (inl refl), sum_of-same_in f g xs (λ y m. h y (inr m)))
 
-pub sum_of-zero_in : {X : Type 0} (f : X → ℤ) (xs : List X) → ((x : X) → In x xs → f x ≡ pos 0) → sum_of f xs ≡ pos 0
+pub sum_of-zero_in : {X : Type 0} (f : X → ℤ) (xs : List X) → ((x : X) → Has xs x → f x ≡ pos 0) → sum_of f xs ≡ pos 0
 sum_of-zero_in f [] h = refl
 sum_of-zero_in f (x ∷ xs) h = omega (arith, ints, h x (inl refl), sum_of-zero_in f xs (λ y m. h y (inr m)))
 
@@ -31,7 +32,7 @@ when_spans true l m z h = rw (h refl) refl
 when_spans false l m z h = refl
 
 -- two tests that agree on a column choose the same weights
-pub column_weights-same : (low high : Pair → Bool) (xs : List WholeSegment) (c : ℤ) → ((u : WholeSegment) → In u xs → spans c u.pair ≡ true → low u.pair ≡ high u.pair) → column_weights low xs c ≡ column_weights high xs c
+pub column_weights-same : (low high : Pair → Bool) (xs : List WholeSegment) (c : ℤ) → ((u : WholeSegment) → Has xs u → spans c u.pair ≡ true → low u.pair ≡ high u.pair) → column_weights low xs c ≡ column_weights high xs c
 column_weights-same low high xs c h =
     let same = λ (w : WholeSegment → ℤ). sum_of-same_in (λ u. when (spans c u.pair && low u.pair) (w u)) (λ u. when (spans c u.pair && high u.pair) (w u)) xs (λ u m. when_spans (spans c u.pair) (low u.pair) (high u.pair) (w u) (h u m)) in
     rw (column_weights_are low xs c, column_weights_are high xs c) (λ i. record { subj = same (λ u. u.count.subj) i; clip = same (λ u. u.count.clip) i; mask = 0 })
@@ -49,24 +50,24 @@ nothing false r z h = refl
 -- ---- the bottom
 
 module _ (xs : List WholeSegment) (arranged : IsArranged xs) (balanced : IsBalanced xs) where
-  pub apart_in : (s t : WholeSegment) → In s xs → In t xs → IsApart s.pair t.pair
+  pub apart_in : (s t : WholeSegment) → Has xs s → Has xs t → IsApart s.pair t.pair
   apart_in s t ms mt = is_apart s.pair t.pair (arranged.apart s t ms mt)
 
-  sort_of : (s : WholeSegment) → In s xs → (s.pair.a.x <ℤ s.pair.b.x) ⊎ ((s.pair.a.x ≡ s.pair.b.x) × (s.pair.a.y <ℤ s.pair.b.y))
+  sort_of : (s : WholeSegment) → Has xs s → (s.pair.a.x <ℤ s.pair.b.x) ⊎ ((s.pair.a.x ≡ s.pair.b.x) × (s.pair.a.y <ℤ s.pair.b.y))
   sort_of s m = point_lt-cases s.pair.a s.pair.b (arranged.ordered s m)
 
   -- ---- the bottom
 
-  column_bottom_is : (s : WholeSegment) → In s xs → s.pair.a.x <ℤ s.pair.b.x → column_bottom xs s.pair.a.x s ≡ column_weights (λ u. is_beneath s.pair u) xs s.pair.a.x
+  column_bottom_is : (s : WholeSegment) → Has xs s → s.pair.a.x <ℤ s.pair.b.x → column_bottom xs s.pair.a.x s ≡ column_weights (λ u. is_beneath s.pair u) xs s.pair.a.x
   unfolding column_bottom
   column_bottom_is s m w = column_weights-same (λ u. is_below_in_column s.pair.a.x u s.pair) (λ u. is_beneath s.pair u) xs s.pair.a.x (λ u n h. below_is_beneath s.pair u.pair h (apart_in s u m n) w)
 
-  right_winding_is : (s : WholeSegment) → In s xs → s.pair.a.x ≡ s.pair.b.x → s.pair.a.y <ℤ s.pair.b.y → right_winding xs s ≡ column_weights (λ u. is_beneath s.pair u) xs s.pair.a.x
+  right_winding_is : (s : WholeSegment) → Has xs s → s.pair.a.x ≡ s.pair.b.x → s.pair.a.y <ℤ s.pair.b.y → right_winding xs s ≡ column_weights (λ u. is_beneath s.pair u) xs s.pair.a.x
   unfolding right_winding weights_up_to
   right_winding_is s m e w = column_weights-same (is_up_to s.pair.a) (λ u. is_beneath s.pair u) xs s.pair.a.x (λ u n h. up_to_is_beneath s.pair u.pair h (apart_in s u m n) e w)
 
   -- the winding below a segment, or to the right of a vertical one, is the sum of the weights of what lies beneath it
-  pub side_bottom_is : (s : WholeSegment) → In s xs → side_bottom xs s ≡ column_weights (λ u. is_beneath s.pair u) xs s.pair.a.x
+  pub side_bottom_is : (s : WholeSegment) → Has xs s → side_bottom xs s ≡ column_weights (λ u. is_beneath s.pair u) xs s.pair.a.x
   unfolding side_bottom
   side_bottom_is s m = elim (sort_of s m) [
     | inl w ↦ rw (not_spanned s.pair w) (column_bottom_is s m w)
@@ -75,9 +76,9 @@ module _ (xs : List WholeSegment) (arranged : IsArranged xs) (balanced : IsBalan
 
   -- ---- the top
 
-  module _ (s : WholeSegment) (m : In s xs) (e : s.pair.a.x ≡ s.pair.b.x) (h : s.pair.a.y <ℤ s.pair.b.y) where
+  module _ (s : WholeSegment) (m : Has xs s) (e : s.pair.a.x ≡ s.pair.b.x) (h : s.pair.a.y <ℤ s.pair.b.y) where
     -- of the vertical segments only s leads upward from its lower end
-    only_one_rises : (u : WholeSegment) → In u xs → leaves_upward (lies_up_to s.pair.a) u.pair ≡ true → u.pair ≡ s.pair
+    only_one_rises : (u : WholeSegment) → Has xs u → leaves_upward (lies_up_to s.pair.a) u.pair ≡ true → u.pair ≡ s.pair
     only_one_rises u n k =
         let apart = apart_in s u m n in
         let first = and_parts (is_vertical u.pair) _ k in
@@ -106,7 +107,7 @@ module _ (xs : List WholeSegment) (arranged : IsArranged xs) (balanced : IsBalan
         let upper : lies_up_to s.pair.a s.pair.b ≡ false = and_right _ _ (le-test_false s.pair.b.y s.pair.a.y h) in
         and_from _ _ ((Decides-int_eq s.pair.a.x s.pair.b.x).1 e) (rw (lower, upper) refl)
 
-    pub rises_is : (u : WholeSegment) → In u xs → leaves_upward (lies_up_to s.pair.a) u.pair ≡ pair_eq u.pair s.pair
+    pub rises_is : (u : WholeSegment) → Has xs u → leaves_upward (lies_up_to s.pair.a) u.pair ≡ pair_eq u.pair s.pair
     rises_is u n = elim (cases_Bool (leaves_upward (lies_up_to s.pair.a) u.pair)) [
       | inl k ↦ k ∙ sym (ap (λ (p : Pair). pair_eq p s.pair) (only_one_rises u n k) ∙ pair_eq_same s.pair)
       | inr k ↦ k ∙ sym (from_not_same_pair u.pair s.pair (λ q. both_ways _ k (ap (leaves_upward (lies_up_to s.pair.a)) q ∙ itself_rises)))
@@ -124,7 +125,7 @@ module _ (xs : List WholeSegment) (arranged : IsArranged xs) (balanced : IsBalan
     left_winding_is = sym (across_up_to xs arranged.all_ordered balanced s.pair.a) ∙ ap (λ (w : Winding). add (weights_up_to xs s.pair.a.x s.pair.a) w) rising_weight
 
   -- the top of a segment has its own weight on its bottom
-  pub side_top_is : (s : WholeSegment) → In s xs → side_top xs s ≡ add (side_bottom xs s) (weight s.count)
+  pub side_top_is : (s : WholeSegment) → Has xs s → side_top xs s ≡ add (side_bottom xs s) (weight s.count)
   unfolding side_top side_bottom column_top
   side_top_is s m = elim (sort_of s m) [
     | inl w ↦ rw (not_spanned s.pair w) refl
@@ -135,24 +136,24 @@ module _ (xs : List WholeSegment) (arranged : IsArranged xs) (balanced : IsBalan
 
   -- of what lies beneath s, t is the highest
   pub record IsHighest (s t : WholeSegment) : Type 0 where
-    pub found : In t xs
+    pub found : Has xs t
     pub live : spans s.pair.a.x t.pair ≡ true
     pub beneath : is_beneath s.pair t.pair ≡ true
-    pub highest : (u : WholeSegment) → In u xs → spans s.pair.a.x u.pair ≡ true → is_beneath s.pair u.pair ≡ true → (t.pair ≡ u.pair → ⊥) → is_below_in_column s.pair.a.x u.pair t.pair ≡ true
+    pub highest : (u : WholeSegment) → Has xs u → spans s.pair.a.x u.pair ≡ true → is_beneath s.pair u.pair ≡ true → (t.pair ≡ u.pair → ⊥) → is_below_in_column s.pair.a.x u.pair t.pair ≡ true
 
   one_apart : (q l r k : Bool) (z : ℤ) → (q ≡ true → (l ≡ true) × (r ≡ true) × (k ≡ false)) → (q ≡ false → l ≡ true → r ≡ k) → when (l && r) z ≡ when (l && k) z +ℤ when q z
   one_apart true l r k z f g = let p = f refl in rw (p.0, p.1, p.2) (omega (arith, ints))
   one_apart false true r k z f g = rw (g refl refl) (omega (arith, ints))
   one_apart false false r k z f g = refl
 
-  module _ (s t : WholeSegment) (m : In s xs) (top : IsHighest s t) where
-    alike : (u : WholeSegment) → In u xs → spans s.pair.a.x u.pair ≡ true → (t.pair ≡ u.pair → ⊥) → is_beneath s.pair u.pair ≡ is_below_in_column s.pair.a.x u.pair t.pair
+  module _ (s t : WholeSegment) (m : Has xs s) (top : IsHighest s t) where
+    alike : (u : WholeSegment) → Has xs u → spans s.pair.a.x u.pair ≡ true → (t.pair ≡ u.pair → ⊥) → is_beneath s.pair u.pair ≡ is_below_in_column s.pair.a.x u.pair t.pair
     alike u n h other = elim (cases_Bool (is_beneath s.pair u.pair)) [
       | inl e ↦ e ∙ sym (top.highest u n h e other)
       | inr e ↦ e ∙ sym (false_from_ne_true _ (λ k. both_ways _ e (beneath-below s.pair t.pair u.pair (sort_of s m) top.live h (apart_in s t m top.found) (apart_in s u m n) top.beneath k)))
     ]
 
-    split_at : (w : WholeSegment → ℤ) (u : WholeSegment) → In u xs → when (spans s.pair.a.x u.pair && is_beneath s.pair u.pair) (w u) ≡ when (spans s.pair.a.x u.pair && is_below_in_column s.pair.a.x u.pair t.pair) (w u) +ℤ when (pair_eq u.pair t.pair) (w u)
+    split_at : (w : WholeSegment → ℤ) (u : WholeSegment) → Has xs u → when (spans s.pair.a.x u.pair && is_beneath s.pair u.pair) (w u) ≡ when (spans s.pair.a.x u.pair && is_below_in_column s.pair.a.x u.pair t.pair) (w u) +ℤ when (pair_eq u.pair t.pair) (w u)
     split_at w u n = one_apart (pair_eq u.pair t.pair) (spans s.pair.a.x u.pair) (is_beneath s.pair u.pair) (is_below_in_column s.pair.a.x u.pair t.pair) (w u)
         (λ e. let q = same_pair_by_eq u.pair t.pair e in (ap (spans s.pair.a.x) q ∙ top.live, ap (is_beneath s.pair) q ∙ top.beneath, ap (λ (p : Pair). is_below_in_column s.pair.a.x p t.pair) q ∙ below_itself s.pair.a.x t.pair))
         (λ e h. alike u n h (λ q. both_ways _ e (ap (λ (p : Pair). pair_eq p t.pair) (sym q) ∙ pair_eq_same t.pair)))
@@ -175,7 +176,7 @@ module _ (xs : List WholeSegment) (arranged : IsArranged xs) (balanced : IsBalan
     bottom_is_top = side_bottom_is s m ∙ column_top_is ∙ (is_same_along xs t (arranged.free t top.found) balanced).above s.pair.a.x top.live
 
   -- where nothing lies beneath s its bottom is empty
-  pub bottom_is_empty : (s : WholeSegment) → In s xs → ((u : WholeSegment) → In u xs → spans s.pair.a.x u.pair ≡ true → is_beneath s.pair u.pair ≡ false) → side_bottom xs s ≡ empty
+  pub bottom_is_empty : (s : WholeSegment) → Has xs s → ((u : WholeSegment) → Has xs u → spans s.pair.a.x u.pair ≡ true → is_beneath s.pair u.pair ≡ false) → side_bottom xs s ≡ empty
   bottom_is_empty s m none =
       let zero = λ (w : WholeSegment → ℤ). sum_of-zero_in (λ u. when (spans s.pair.a.x u.pair && is_beneath s.pair u.pair) (w u)) xs (λ u n. nothing (spans s.pair.a.x u.pair) (is_beneath s.pair u.pair) (w u) (none u n)) in
       side_bottom_is s m ∙ column_weights_are (λ u. is_beneath s.pair u) xs s.pair.a.x ∙ (λ i. record { subj = zero (λ u. u.count.subj) i; clip = zero (λ u. u.count.clip) i; mask = 0 })

@@ -14,9 +14,9 @@ use Rattle.overlay_base.proofs.laws.StableSorts.{stably_sorted-IsPermutation}
 use Rattle.overlay_build.specs.ChainWindings.{top, tops_leave_range}
 use Rattle.overlay_build.specs.Graph.{fills_of}
 use Rattle.overlay_build.specs.Sweep.{Visit, whole_of, fill_of, visits, handled, visited, visits_leave_range}
-use Rattle.overlay_build.proofs.laws.Boundaries.{AllByRecursion-from_In}
 use Rattle.overlay_build.proofs.laws.RunSorts.{AllByRecursion-stably_sorted}
 use Rattle.overlay_build.proofs.laws.Visits.{visit_cmp, listed_from, IsListed, is_listed, wholes, wholes-listed}
+use Rattle.overlay_base.proofs.laws.Lists.{AllByRecursion-from_Has}
 
 module _ {D : Type 0} where
   -- the fills after some visits
@@ -98,7 +98,7 @@ module _ {D : Type 0} where
       let f : ℕ → ℕ = λ k. get_or (fills_of rule xs) k 0 in
       let told : AllByRecursion (λ v. v.fill ≡ f v.index) (visits rule list) =
       AllByRecursion-stably_sorted visit_cmp (λ v. v.fill ≡ f v.index) (listed_from rule xs 0 list)
-      (AllByRecursion-from_In (λ v. v.fill ≡ f v.index) (listed_from rule xs 0 list) (λ v m. told_at v (is_listed rule xs list v m))) in
+      (AllByRecursion-from_Has (λ v. v.fill ≡ f v.index) (listed_from rule xs 0 list) (λ v m. told_at v (is_listed rule xs list v m))) in
       let n : length (fills_of rule xs) ≡ length list = length-map xs _ ∙ length-map list _ in
       let w : length (written fills (visits rule list)) ≡ length fills = length-written fills (visits rule list) in
       same_lists (written fills (visits rule list)) (fills_of rule xs) (w ∙ same ∙ sym n)

@@ -5,27 +5,27 @@ use Rattle.std.specs.List.{AllByRecursion, enumerate_from}
 use Rattle.std.specs.Option.{option_map_or}
 use Rattle.std.proofs.lemmas.Int.{ints}
 use Rattle.std.proofs.lemmas.Bool.{and_from}
-use Rattle.std.proofs.lemmas.List.{take-append-drop, append-nil, length-map, get_or-map}
+use Rattle.std.proofs.lemmas.List.{take-append-drop, take_all, append-nil, length-map, get_or-map}
 use Rattle.std.proofs.lemmas.List.FromFn.{length-enumerate_from}
 use Rattle.overlay_base.specs.Points.{Point, Pair, point_lt, stably_sorted}
 use Rattle.overlay_base.specs.Windings.{Winding, add, empty, weight, is_count_in_range, is_valid}
 use Rattle.overlay_base.specs.Segments.{WholeSegment, pairs}
 use Rattle.overlay_base.specs.EdgeData.{DataSegment, without_data}
 use Rattle.overlay_base.specs.declared.overlay_core.fill_rule.FillRule.{FillRule}
-use Rattle.overlay_base.proofs.laws.Lists.{AllByRecursion-append, take-all}
+use Rattle.overlay_base.proofs.laws.Lists.{AllByRecursion-append, AllByRecursion-at, Has, Has-map, Has-map_out}
 use Rattle.overlay_base.proofs.laws.Points.{before}
 use Rattle.overlay_build.specs.ChainWindings.{directly_below, top, top_within, bottom, support}
 use Rattle.overlay_build.specs.Fill.{fill_byte}
 use Rattle.overlay_build.specs.Sweep.{Visit, whole_of, visits, handled, visited, visits_leave_range, sum_below}
 use Rattle.overlay_build.specs.Live.{HoldSameFrom, AreFreeAt}
 use Rattle.overlay_build.specs.WayOf.{WholeWay, ways_between, by_angle}
-use Rattle.overlay_build.proofs.laws.Members.{In, In-map, IsArranged}
+use Rattle.overlay_build.proofs.laws.Members.{IsArranged}
 use Rattle.overlay_build.proofs.laws.ChainSums.{top_is_sum}
-use Rattle.overlay_build.proofs.laws.NodeChains.{IsChain, AllByRecursion-In, node_is_chain}
-use Rattle.overlay_build.proofs.laws.DirectlyBelow.{topped, free_at, sum_below_is, directly_below_is, In-map_out}
-use Rattle.overlay_build.proofs.laws.Boundaries.{IsRun, IsBoundary, below_begins_before, boundary_next, run_from_node, by_drop, drop_first, In-take}
+use Rattle.overlay_build.proofs.laws.NodeChains.{IsChain, node_is_chain}
+use Rattle.overlay_build.proofs.laws.DirectlyBelow.{topped, free_at, sum_below_is, directly_below_is}
+use Rattle.overlay_build.proofs.laws.Boundaries.{IsRun, IsBoundary, below_begins_before, boundary_next, run_from_node, by_drop, drop_first, Has-take}
 use Rattle.overlay_build.proofs.laws.Tops.{by_option}
-use Rattle.overlay_build.proofs.laws.LiveSums.{In-append, HoldSameFrom-trans, HoldSameFrom-later, HoldSameFrom-cons, HoldSameFrom-same, HoldSameFrom-push}
+use Rattle.overlay_build.proofs.laws.LiveSums.{Has-append, HoldSameFrom-trans, HoldSameFrom-later, HoldSameFrom-cons, HoldSameFrom-same, HoldSameFrom-push}
 use Rattle.overlay_build.proofs.laws.Handling.{IsHandledTo, IsHandledTo-more, handled_after, handled_break, handled_end, in_range_at_break, in_range_at_end, leaves_range_at}
 use Rattle.overlay_build.proofs.laws.Visits.{visits_cut, listed, visits_before, visits_of_run, visits_after, wholes, visit_way, IsListed, is_listed, before_next, members_of_run, run_is_node, listed_in_run, early_visited, known_before, ways_of_visits}
 
@@ -52,7 +52,7 @@ valid_from w r e = and_from (is_count_in_range w) (nat_lt w.mask 4) r (rw e refl
 abbrev pub start_at : List WholeSegment → ℕ → Point
 start_at xs i = (get_or (pairs xs) i (record { a = record { x = pos 0; y = pos 0 }; b = record { x = pos 0; y = pos 0 } })).a
 
-cut_at : {X P : Type 0} (k : ℕ) (xs : List X) → k < length xs → ((x : X) → drop k xs ≡ x ∷ drop (k + 1) xs → take (k + 1) xs ≡ take k xs ++ x ∷ [] → In x xs → ((d : X) → get_or xs k d ≡ x) → P) → P
+cut_at : {X P : Type 0} (k : ℕ) (xs : List X) → k < length xs → ((x : X) → drop k xs ≡ x ∷ drop (k + 1) xs → take (k + 1) xs ≡ take k xs ++ x ∷ [] → Has xs x → ((d : X) → get_or xs k d ≡ x) → P) → P
 cut_at k [] h f = absurd (omega (arith, h))
 cut_at zero (x ∷ xs) h f = f x refl refl (inl refl) (λ d. refl)
 cut_at (suc k) (x ∷ xs) h f =
@@ -82,7 +82,7 @@ module _ {D H O : Type 0} (handle : H → Visit D → H × Option O) (finalize :
     pub here : drop k (visits_of_run rule list arranged i next) ≡ v ∷ drop (k + 1) (visits_of_run rule list arranged i next)
     pub taken : take (k + 1) (visits_of_run rule list arranged i next) ≡ take k (visits_of_run rule list arranged i next) ++ v ∷ []
     pub is : IsListed rule (without_data list) list v
-    pub member : In (whole_of v.segment) (without_data list)
+    pub member : Has (without_data list) (whole_of v.segment)
     pub start : v.segment.pair.a ≡ p
 
   -- ---- the beginning
@@ -92,7 +92,7 @@ module _ {D H O : Type 0} (handle : H → Visit D → H × Option O) (finalize :
   swept_at_first x live e = record { went = refl; tops = tt; holds = subst (λ l. HoldSameFrom x l []) (sym e) (HoldSameFrom-same x []) }
 
   module _ (i next : ℕ) (p : Point) (order : i < next) (run : IsRun (without_data list) i next p) where
-    known_so_far : (s : WholeSegment) → In s (wholes (visits_before rule list arranged i)) → In s (without_data list)
+    known_so_far : (s : WholeSegment) → Has (wholes (visits_before rule list arranged i)) s → Has (without_data list) s
     known_so_far = known_before rule list arranged i
 
     -- the sum below the start of a node, and the node's chain on it
@@ -109,8 +109,8 @@ module _ {D H O : Type 0} (handle : H → Visit D → H × Option O) (finalize :
         (λ t found.
         let something : w ≡ top (without_data list) t = below ∙ rw found refl in
         let j = directly_below_is (without_data list) p t found in
-        let seen = In-map_out (λ (v : Visit D). whole_of v.segment) (visits_before rule list arranged i) t (early_visited rule list arranged i next p order run t j.0 (below_begins_before p t u.pair e j.1)) in
-        let in_range : is_count_in_range (top (without_data list) t) ≡ true = subst (λ z. is_count_in_range (top (without_data list) z) ≡ true) (sym seen.2) (AllByRecursion-In (λ v. is_count_in_range (top (without_data list) (whole_of v.segment)) ≡ true) (visits_before rule list arranged i) seen.0 swept.tops seen.1) in
+        let seen = Has-map_out (λ (v : Visit D). whole_of v.segment) (visits_before rule list arranged i) t (early_visited rule list arranged i next p order run t j.0 (below_begins_before p t u.pair e j.1)) in
+        let in_range : is_count_in_range (top (without_data list) t) ≡ true = subst (λ z. is_count_in_range (top (without_data list) z) ≡ true) seen.2 (AllByRecursion-at (λ v. is_count_in_range (top (without_data list) (whole_of v.segment)) ≡ true) (visits_before rule list arranged i) seen.0 swept.tops seen.1) in
         made nil below (subst (λ v. is_count_in_range v ≡ true) (sym something) in_range) (ap (λ (v : Winding). v.mask) something ∙ top_unmasked (without_data list) t))
       where
         made : visits_up_to i next 0 ≡ visits_before rule list arranged i → w ≡ option_map_or (λ t. top (without_data list) t) (directly_below (without_data list) p) empty → is_count_in_range w ≡ true → w.mask ≡ 0 → IsInNode i next 0 w p.x h left
@@ -127,8 +127,8 @@ module _ {D H O : Type 0} (handle : H → Visit D → H × Option O) (finalize :
         let as_visits = same ∙ ways_of_visits rule list arranged i next p order run in
         let within : k < length (visits_of_run rule list arranged i next) = subst (λ n. k < n) (ap length as_visits ∙ length-map (visits_of_run rule list arranged i next) visit_way) h in
         cut_at k (visits_of_run rule list arranged i next) within (λ v here taken m found.
-        let listed_here = AllByRecursion-In (λ v. In v (listed rule list arranged)) (visits_of_run rule list arranged i next) v (listed_in_run rule list arranged i next p order run) m in
-        let member = AllByRecursion-In (λ v. In (whole_of v.segment) (without_data list) × (v.segment.pair.a ≡ p)) (visits_of_run rule list arranged i next) v (members_of_run rule list arranged i next p order run) m in
+        let listed_here = AllByRecursion-at (λ v. Has (listed rule list arranged) v) (visits_of_run rule list arranged i next) v (listed_in_run rule list arranged i next p order run) m in
+        let member = AllByRecursion-at (λ v. Has (without_data list) (whole_of v.segment) × (v.segment.pair.a ≡ p)) (visits_of_run rule list arranged i next) v (members_of_run rule list arranged i next p order run) m in
         let way_is : e ≡ visit_way v = at ∙ ap (λ l. get_or l k e) as_visits ∙ get_or-map visit_way (visits_of_run rule list arranged i next) k v e within ∙ ap visit_way (found v) in
         f v (record { here = here; taken = taken; is = is_listed rule (without_data list) list v listed_here; member = member.0; start = member.1 }) (ap (λ (z : WholeWay). z.index) way_is))
 
@@ -177,14 +177,14 @@ module _ {D H O : Type 0} (handle : H → Visit D → H × Option O) (finalize :
       free_here = subst (λ z. AreFreeAt p.x (record { pair = v.segment.pair; count = z } ∷ live)) (sym top_here)
           (free_at (without_data list) arranged p.x (topped (without_data list) (whole_of v.segment) ∷ live) (whole_of v.segment ∷ wholes (visits_up_to i next k))
           (HoldSameFrom-cons p.x (topped (without_data list) (whole_of v.segment)) live (map (topped (without_data list)) (wholes (visits_up_to i next k))) state.swept.holds)
-          (λ s m. elim m [ inl same ↦ subst (λ z. In z (without_data list)) (sym same) at.member | inr n ↦ known_up_to s n ]))
+          (λ s m. elim m [ inl same ↦ subst (λ z. Has (without_data list) z) same at.member | inr n ↦ known_up_to s n ]))
         where
-          known_up_to : (s : WholeSegment) → In s (wholes (visits_up_to i next k)) → In s (without_data list)
+          known_up_to : (s : WholeSegment) → Has (wholes (visits_up_to i next k)) s → Has (without_data list) s
           known_up_to s n =
-              let found = In-map_out (λ (v : Visit D). whole_of v.segment) (visits_up_to i next k) s n in
-              subst (λ z. In z (without_data list)) (sym found.2) (elim (In-append (visits_before rule list arranged i) (take k (visits_of_run rule list arranged i next)) found.0 found.1) [
-                | inl m ↦ known_before rule list arranged i (whole_of found.0.segment) (In-map (λ v. whole_of v.segment) found.0 (visits_before rule list arranged i) m)
-                | inr m ↦ (AllByRecursion-In (λ v. In (whole_of v.segment) (without_data list) × (v.segment.pair.a ≡ p)) (visits_of_run rule list arranged i next) found.0 (members_of_run rule list arranged i next p order run) (In-take k (visits_of_run rule list arranged i next) found.0 m)).0
+              let found = Has-map_out (λ (v : Visit D). whole_of v.segment) (visits_up_to i next k) s n in
+              subst (λ z. Has (without_data list) z) found.2 (elim (Has-append (visits_before rule list arranged i) (take k (visits_of_run rule list arranged i next)) found.0 found.1) [
+                | inl m ↦ known_before rule list arranged i (whole_of found.0.segment) (Has-map (λ v. whole_of v.segment) (visits_before rule list arranged i) found.0 m)
+                | inr m ↦ (AllByRecursion-at (λ v. Has (without_data list) (whole_of v.segment) × (v.segment.pair.a ≡ p)) (visits_of_run rule list arranged i next) found.0 (members_of_run rule list arranged i next p order run) (Has-take k (visits_of_run rule list arranged i next) found.0 m)).0
               ])
 
       -- all visits, as those before this one, this one, and the rest
@@ -289,7 +289,7 @@ module _ {D H O : Type 0} (handle : H → Visit D → H × Option O) (finalize :
     x = (start_at (without_data list) i).x;
     reaches = later_start;
     swept = subst (λ vs. IsSwept vs (start_at (without_data list) i).x h live)
-        (ap (λ l. visits_before rule list arranged i ++ l) (take-all k (visits_of_run rule list arranged i next) past) ∙ sym (before_next rule list arranged i next (start_at (without_data list) i) state.order state.run))
+        (ap (λ l. visits_before rule list arranged i ++ l) (take_all k (visits_of_run rule list arranged i next) past) ∙ sym (before_next rule list arranged i next (start_at (without_data list) i) state.order state.run))
         state.node.swept;
     time = state.time;
   }
@@ -309,7 +309,7 @@ module _ {D H O : Type 0} (handle : H → Visit D → H × Option O) (finalize :
   unfolding visits
   all_at_end index past =
       let long : length (listed rule list arranged) ≤ index = subst (λ n. n ≤ index) (sym (length-map (enumerate_from 0 list) _ ∙ length-enumerate_from 0 list)) past in
-      ap (stably_sorted _) (sym (take-all index (listed rule list arranged) long)) ∙ sym (append-nil (visits_before rule list arranged index))
+      ap (stably_sorted _) (sym (take_all index (listed rule list arranged) long)) ∙ sym (append-nil (visits_before rule list arranged index))
 
   -- the end: what the handler makes of it
   pub finished : (index : ℕ) (h : H) (live : List WholeSegment) (may : ℤ → Type 0) → IsBeforeNode index h live may → length list ≤ index → handled handle finalize h0 (visits rule list) ≡ finalize h

@@ -15,9 +15,10 @@ use Rattle.overlay_build.specs.Laws.{ChainsAreColumns}
 use Rattle.overlay_base.proofs.laws.Points.{same_by_eq, turn_same_outer}
 use Rattle.overlay_build.proofs.laws.ColumnLines.{le-test, lt-test, le-tested, lt-tested, spans_parts, spans-true, is_under}
 use Rattle.overlay_build.proofs.laws.AlongSegments.{is_same_along}
-use Rattle.overlay_build.proofs.laws.Members.{In, In-filter, filter-In, greatest_is, greatest_none, All-from_In, IsArranged, is_arranged}
+use Rattle.overlay_build.proofs.laws.Members.{greatest_is, greatest_none, All-from_Has, IsArranged, is_arranged}
 use Rattle.overlay_build.proofs.laws.Supports.{is_beneath, is_earlier, angle_same, angle_asymmetric, angle-trans, first_same, first_asymmetric, first-trans, below_neighbor, below_highest, wide_from_angle, earlier-trans, earlier_itself, earlier_beneath}
 use Rattle.overlay_build.proofs.laws.Sides.{side_top_is, bottom_is_top, bottom_is_empty, IsHighest, apart_in}
+use Rattle.overlay_base.proofs.laws.Lists.{Has, Has-filter, Has-filter_out}
 
 pub by_option : {K P : Type 0} (o : Option K) → (o ≡ None → P) → ((t : K) → o ≡ Some t → P) → P
 by_option None f g = f refl
@@ -35,44 +36,44 @@ starts_before s t = point_eq t.pair.a s.pair.a && is_lt (angle_cmp t.pair s.pair
 abbrev pub lives_under : WholeSegment → WholeSegment → Bool
 lives_under s t = is_live s.pair.a.x t.pair && is_under s.pair.a t.pair
 
-module _ (xs : List WholeSegment) (arranged : IsArranged xs) (s : WholeSegment) (m : In s xs) where
+module _ (xs : List WholeSegment) (arranged : IsArranged xs) (s : WholeSegment) (m : Has xs s) where
   wide_here : (u : WholeSegment) → spans s.pair.a.x u.pair ≡ true → pos 0 <ℤ width u.pair
   wide_here u h = let p = spans_parts s.pair.a.x u.pair h in omega (arith, ints)
 
-  pub here_neighbor : (u : WholeSegment) → In u (filter (λ t. starts_before s t) xs) → In u xs × (spans s.pair.a.x u.pair ≡ true)
+  pub here_neighbor : (u : WholeSegment) → Has (filter (λ t. starts_before s t) xs) u → Has xs u × (spans s.pair.a.x u.pair ≡ true)
   here_neighbor u n =
-      let k = In-filter (λ t. starts_before s t) u xs n in
+      let k = Has-filter_out (λ t. starts_before s t) xs u n in
       let parts = and_parts (point_eq u.pair.a s.pair.a) _ k.1 in
       let start : u.pair.a.x ≡ s.pair.a.x = ap (λ (p : Point). p.x) (same_by_eq u.pair.a s.pair.a parts.0) in
       let wide = wide_from_angle u.pair s.pair (arranged.ordered u k.0) (arranged.ordered s m) parts.1 in
       (k.0, spans-true s.pair.a.x u.pair (omega (arith, ints)) (omega (arith, ints)))
 
-  pub neighbor_is : (t : WholeSegment) → neighbor_at_start xs s ≡ Some t → In t (filter (λ u. starts_before s u) xs) × ((u : WholeSegment) → In u (filter (λ u. starts_before s u) xs) → is_lt (angle_cmp t.pair u.pair) ≡ false)
+  pub neighbor_is : (t : WholeSegment) → neighbor_at_start xs s ≡ Some t → Has (filter (λ u. starts_before s u) xs) t × ((u : WholeSegment) → Has (filter (λ u. starts_before s u) xs) u → is_lt (angle_cmp t.pair u.pair) ≡ false)
   unfolding neighbor_at_start
-  neighbor_is t e = greatest_is (λ t u. angle_cmp t.pair u.pair) (λ u. In u xs × (spans s.pair.a.x u.pair ≡ true))
+  neighbor_is t e = greatest_is (λ t u. angle_cmp t.pair u.pair) (λ u. Has xs u × (spans s.pair.a.x u.pair ≡ true))
       (λ u h. angle_same u.pair) (λ u v h k l. angle_asymmetric u.pair v.pair l)
       (λ u v w h k l. angle-trans u.pair v.pair w.pair (wide_here u h.1) (wide_here v k.1) (wide_here w l.1))
       (filter (λ u. starts_before s u) xs) t here_neighbor e
 
-  pub here_live : (u : WholeSegment) → In u (filter (λ t. lives_under s t) xs) → In u xs × (spans s.pair.a.x u.pair ≡ true)
+  pub here_live : (u : WholeSegment) → Has (filter (λ t. lives_under s t) xs) u → Has xs u × (spans s.pair.a.x u.pair ≡ true)
   here_live u n =
-      let k = In-filter (λ t. lives_under s t) u xs n in
+      let k = Has-filter_out (λ t. lives_under s t) xs u n in
       (k.0, spans_live s.pair.a.x u.pair (and_parts (is_live s.pair.a.x u.pair) _ k.1).0)
 
-  pub directly_is : (t : WholeSegment) → directly_below xs s.pair.a ≡ Some t → In t (filter (λ u. lives_under s u) xs) × ((u : WholeSegment) → In u (filter (λ u. lives_under s u) xs) → is_lt (ordering_then (height_cmp s.pair.a.x t.pair u.pair) (angle_cmp t.pair u.pair)) ≡ false)
+  pub directly_is : (t : WholeSegment) → directly_below xs s.pair.a ≡ Some t → Has (filter (λ u. lives_under s u) xs) t × ((u : WholeSegment) → Has (filter (λ u. lives_under s u) xs) u → is_lt (ordering_then (height_cmp s.pair.a.x t.pair u.pair) (angle_cmp t.pair u.pair)) ≡ false)
   unfolding directly_below
-  directly_is t e = greatest_is (λ t u. ordering_then (height_cmp s.pair.a.x t.pair u.pair) (angle_cmp t.pair u.pair)) (λ u. In u xs × (spans s.pair.a.x u.pair ≡ true))
+  directly_is t e = greatest_is (λ t u. ordering_then (height_cmp s.pair.a.x t.pair u.pair) (angle_cmp t.pair u.pair)) (λ u. Has xs u × (spans s.pair.a.x u.pair ≡ true))
       (λ u h. first_same s.pair.a.x u.pair) (λ u v h k l. first_asymmetric s.pair.a.x u.pair v.pair l)
       (λ u v w h k l. first-trans u.pair v.pair w.pair (wide_here u h.1) (wide_here v k.1) (wide_here w l.1) s.pair.a.x)
       (filter (λ u. lives_under s u) xs) t here_live e
 
-  pub no_neighbor : neighbor_at_start xs s ≡ None → (u : WholeSegment) → In u xs → starts_before s u ≡ true → ⊥
+  pub no_neighbor : neighbor_at_start xs s ≡ None → (u : WholeSegment) → Has xs u → starts_before s u ≡ true → ⊥
   unfolding neighbor_at_start
-  no_neighbor e u n h = greatest_none (λ t u. angle_cmp t.pair u.pair) (filter (λ u. starts_before s u) xs) u e (filter-In (λ u. starts_before s u) u xs n h)
+  no_neighbor e u n h = greatest_none (λ t u. angle_cmp t.pair u.pair) (filter (λ u. starts_before s u) xs) u e (Has-filter (λ u. starts_before s u) xs u n h)
 
-  none_directly : directly_below xs s.pair.a ≡ None → (u : WholeSegment) → In u xs → lives_under s u ≡ true → ⊥
+  none_directly : directly_below xs s.pair.a ≡ None → (u : WholeSegment) → Has xs u → lives_under s u ≡ true → ⊥
   unfolding directly_below
-  none_directly e u n h = greatest_none (λ t u. ordering_then (height_cmp s.pair.a.x t.pair u.pair) (angle_cmp t.pair u.pair)) (filter (λ u. lives_under s u) xs) u e (filter-In (λ u. lives_under s u) u xs n h)
+  none_directly e u n h = greatest_none (λ t u. ordering_then (height_cmp s.pair.a.x t.pair u.pair) (angle_cmp t.pair u.pair)) (filter (λ u. lives_under s u) xs) u e (Has-filter (λ u. lives_under s u) xs u n h)
 
   not_under_start : (u : WholeSegment) → u.pair.a ≡ s.pair.a → is_under s.pair.a u.pair ≡ true → ⊥
   not_under_start u e h =
@@ -88,38 +89,38 @@ module _ (xs : List WholeSegment) (arranged : IsArranged xs) (s : WholeSegment) 
     highest_neighbor t e =
         let k = neighbor_is t e in
         let here = here_neighbor t k.0 in
-        let before = (In-filter (λ u. starts_before s u) t xs k.0).1 in
+        let before = (Has-filter_out (λ u. starts_before s u) xs t k.0).1 in
         let same = same_by_eq t.pair.a s.pair.a (and_parts (point_eq t.pair.a s.pair.a) _ before).0 in
         record {
           found = here.0;
           live = here.1;
           beneath = or_right (is_under s.pair.a t.pair) _ before;
-          highest = λ u n h q other. below_neighbor s.pair t.pair u.pair here.1 h (apart_in xs arranged balanced t u here.0 n) other same q (λ ua. k.1 u (filter-In (λ v. starts_before s v) u xs n (starts_from_beneath u ua q)));
+          highest = λ u n h q other. below_neighbor s.pair t.pair u.pair here.1 h (apart_in xs arranged balanced t u here.0 n) other same q (λ ua. k.1 u (Has-filter (λ v. starts_before s v) xs u n (starts_from_beneath u ua q)));
         }
 
     highest_directly : (t : WholeSegment) → neighbor_at_start xs s ≡ None → directly_below xs s.pair.a ≡ Some t → IsHighest xs arranged balanced s t
     highest_directly t none e =
         let k = directly_is t e in
         let here = here_live t k.0 in
-        let lives = (In-filter (λ u. lives_under s u) t xs k.0).1 in
+        let lives = (Has-filter_out (λ u. lives_under s u) xs t k.0).1 in
         record {
           found = here.0;
           live = here.1;
           beneath = or_left _ _ (and_parts (is_live s.pair.a.x t.pair) _ lives).1;
           highest = λ u n h q other. elim (or_cases (is_under s.pair.a u.pair) _ q) [
-            | inl under ↦ below_highest s.pair.a.x t.pair u.pair here.1 h (apart_in xs arranged balanced t u here.0 n) other (k.1 u (filter-In (λ v. lives_under s v) u xs n (and_from _ _ (live_spans s.pair.a.x u.pair h) under)))
+            | inl under ↦ below_highest s.pair.a.x t.pair u.pair here.1 h (apart_in xs arranged balanced t u here.0 n) other (k.1 u (Has-filter (λ v. lives_under s v) xs u n (and_from _ _ (live_spans s.pair.a.x u.pair h) under)))
             | inr before ↦ absurd (no_neighbor none u n before)
           ];
         }
 
-    nothing_beneath : neighbor_at_start xs s ≡ None → directly_below xs s.pair.a ≡ None → (u : WholeSegment) → In u xs → spans s.pair.a.x u.pair ≡ true → is_beneath s.pair u.pair ≡ false
+    nothing_beneath : neighbor_at_start xs s ≡ None → directly_below xs s.pair.a ≡ None → (u : WholeSegment) → Has xs u → spans s.pair.a.x u.pair ≡ true → is_beneath s.pair u.pair ≡ false
     nothing_beneath e f u n h = false_from_ne_true (is_beneath s.pair u.pair) (λ q. elim (or_cases (is_under s.pair.a u.pair) _ q) [
       | inl under ↦ none_directly f u n (and_from _ _ (live_spans s.pair.a.x u.pair h) under)
       | inr before ↦ no_neighbor e u n before
     ])
 
     -- what s stands on is the highest beneath it; where it stands on nothing, nothing lies beneath
-    pub by_support : {P : Type 0} → (support xs s ≡ None → ((u : WholeSegment) → In u xs → spans s.pair.a.x u.pair ≡ true → is_beneath s.pair u.pair ≡ false) → P) → ((t : WholeSegment) → support xs s ≡ Some t → IsHighest xs arranged balanced s t → P) → P
+    pub by_support : {P : Type 0} → (support xs s ≡ None → ((u : WholeSegment) → Has xs u → spans s.pair.a.x u.pair ≡ true → is_beneath s.pair u.pair ≡ false) → P) → ((t : WholeSegment) → support xs s ≡ Some t → IsHighest xs arranged balanced s t → P) → P
     unfolding support
     by_support f g = by_option (neighbor_at_start xs s)
         (λ e. by_option (directly_below xs s.pair.a) (λ d. f (rw (e, d) refl) (nothing_beneath e d)) (λ t d. g t (rw (e, d) refl) (highest_directly t e d)))
@@ -133,7 +134,7 @@ filter_le_step true false x y z h k = absurd (both_ways false refl (h refl))
 filter_le_step false true x y z h k = omega arith
 filter_le_step false false x y z h k = k
 
-pub length-filter_le : (p q : WholeSegment → Bool) (xs : List WholeSegment) → ((x : WholeSegment) → In x xs → p x ≡ true → q x ≡ true) → length (filter p xs) ≤ length (filter q xs)
+pub length-filter_le : (p q : WholeSegment → Bool) (xs : List WholeSegment) → ((x : WholeSegment) → Has xs x → p x ≡ true → q x ≡ true) → length (filter p xs) ≤ length (filter q xs)
 length-filter_le p q [] h = omega arith
 length-filter_le p q (x ∷ xs) h = filter_le_step (p x) (q x) (filter p xs) (filter q xs) x (h x (inl refl)) (length-filter_le p q xs (λ y m. h y (inr m)))
 
@@ -146,9 +147,9 @@ filter_less_step false false x y z h k = k
 filter_less_here : (a b : Bool) (x y : List WholeSegment) (z : WholeSegment) → a ≡ false → b ≡ true → length x ≤ length y → length (cond a (z ∷ x) x) < length (cond b (z ∷ y) y)
 filter_less_here a b x y z e f k = rw (e, f) (omega arith)
 
-pub length-filter_less : (p q : WholeSegment → Bool) (t : WholeSegment) (xs : List WholeSegment) → ((x : WholeSegment) → In x xs → p x ≡ true → q x ≡ true) → In t xs → p t ≡ false → q t ≡ true → length (filter p xs) < length (filter q xs)
+pub length-filter_less : (p q : WholeSegment → Bool) (t : WholeSegment) (xs : List WholeSegment) → ((x : WholeSegment) → Has xs x → p x ≡ true → q x ≡ true) → Has xs t → p t ≡ false → q t ≡ true → length (filter p xs) < length (filter q xs)
 length-filter_less p q t [] h m e f = absurd m
-length-filter_less p q t (x ∷ xs) h (inl s) e f = filter_less_here (p x) (q x) (filter p xs) (filter q xs) x (ap p (sym s) ∙ e) (ap q (sym s) ∙ f) (length-filter_le p q xs (λ y m. h y (inr m)))
+length-filter_less p q t (x ∷ xs) h (inl s) e f = filter_less_here (p x) (q x) (filter p xs) (filter q xs) x (ap p s ∙ e) (ap q s ∙ f) (length-filter_le p q xs (λ y m. h y (inr m)))
 length-filter_less p q t (x ∷ xs) h (inr m) e f = filter_less_step (p x) (q x) (filter p xs) (filter q xs) x (h x (inl refl)) (length-filter_less p q t xs (λ y n. h y (inr n)) m e f)
 
 pub filter_all : (xs : List WholeSegment) → length (filter (λ u. true) xs) ≤ length xs
@@ -165,7 +166,7 @@ module _ (xs : List WholeSegment) (arranged : IsArranged xs) (balanced : IsBalan
   rank : WholeSegment → ℕ
   rank s = length (filter (λ u. is_earlier u.pair s.pair) xs)
 
-  rank-less : (s t : WholeSegment) → In s xs → IsHighest xs arranged balanced s t → rank t < rank s
+  rank-less : (s t : WholeSegment) → Has xs s → IsHighest xs arranged balanced s t → rank t < rank s
   unfolding rank
   rank-less s t m top =
       let before = earlier_beneath s.pair t.pair top.live top.beneath in
@@ -177,7 +178,7 @@ module _ (xs : List WholeSegment) (arranged : IsArranged xs) (balanced : IsBalan
   unfolding rank
   rank-bound s = let h = length-filter_le (λ u. is_earlier u.pair s.pair) (λ u. true) xs (λ u m e. refl) in let k = filter_all xs in omega (arith, h, k)
 
-  top_within_is : (n : ℕ) (s : WholeSegment) → In s xs → rank s ≤ n → top_within n xs s ≡ side_top xs s
+  top_within_is : (n : ℕ) (s : WholeSegment) → Has xs s → rank s ≤ n → top_within n xs s ≡ side_top xs s
   unfolding top_within
   top_within_is zero s m h = by_support xs arranged s m balanced
       (λ e none. sym (side_top_is xs arranged balanced s m ∙ ap (λ (w : Winding). add w (weight s.count)) (bottom_is_empty xs arranged balanced s m none) ∙ empty_add s.count))
@@ -186,11 +187,11 @@ module _ (xs : List WholeSegment) (arranged : IsArranged xs) (balanced : IsBalan
       (λ e none. rw e (sym (side_top_is xs arranged balanced s m ∙ ap (λ (w : Winding). add w (weight s.count)) (bottom_is_empty xs arranged balanced s m none))))
       (λ t e top. rw e (ap (λ (w : Winding). add w (weight s.count)) (top_within_is n t top.found (let less = rank-less s t m top in omega (arith, less, h)) ∙ sym (bottom_is_top xs arranged balanced s t m top)) ∙ sym (side_top_is xs arranged balanced s m)))
 
-  pub top_is : (s : WholeSegment) → In s xs → top xs s ≡ side_top xs s
+  pub top_is : (s : WholeSegment) → Has xs s → top xs s ≡ side_top xs s
   unfolding top
   top_is s m = top_within_is (length xs) s m (rank-bound s)
 
-  pub bottom_is : (s : WholeSegment) → In s xs → bottom xs s ≡ side_bottom xs s
+  pub bottom_is : (s : WholeSegment) → Has xs s → bottom xs s ≡ side_bottom xs s
   unfolding bottom
   bottom_is s m = by_support xs arranged s m balanced
       (λ e none. rw e (sym (bottom_is_empty xs arranged balanced s m none)))
@@ -200,4 +201,4 @@ module _ (xs : List WholeSegment) (arranged : IsArranged xs) (balanced : IsBalan
 pub chains_are_columns : ChainsAreColumns
 chains_are_columns xs map planar balanced =
     let arranged = is_arranged xs map planar in
-    All-from_In (λ s. IsSameAlong xs s × (bottom xs s ≡ side_bottom xs s) × (top xs s ≡ side_top xs s)) xs (λ s m. (is_same_along xs s (arranged.free s m) balanced, bottom_is xs arranged balanced s m, top_is xs arranged balanced s m))
+    All-from_Has (λ s. IsSameAlong xs s × (bottom xs s ≡ side_bottom xs s) × (top xs s ≡ side_top xs s)) xs (λ s m. (is_same_along xs s (arranged.free s m) balanced, bottom_is xs arranged balanced s m, top_is xs arranged balanced s m))

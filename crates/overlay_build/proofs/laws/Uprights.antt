@@ -20,9 +20,10 @@ use Rattle.overlay_build.proofs.laws.ColumnLines.{le-test, le-test_false, lt-tes
 use Rattle.overlay_build.proofs.laws.Parity.{odd_of, differ_false, differ_same}
 use Rattle.overlay_build.proofs.laws.ColumnOrder.{IsApart}
 use Rattle.overlay_build.proofs.laws.AlongSegments.{turn_upright, turn_higher}
-use Rattle.overlay_build.proofs.laws.Members.{In, In-holds, IsArranged, sorted_all, sorted_tail, differ_when_less}
+use Rattle.overlay_build.proofs.laws.Members.{IsArranged, sorted_all, sorted_tail, differ_when_less}
 use Rattle.overlay_build.proofs.laws.Sides.{sum_of-zero_in, column_weights-same, apart_in, itself_rises, rises_is}
 use Rattle.overlay_build.proofs.laws.Vertices.{tells, tells_sides_of, odd_of-same_in}
+use Rattle.overlay_base.proofs.laws.Lists.{Has, list_all-at}
 
 -- ---- parities of parts of a list
 
@@ -52,24 +53,24 @@ pub odd_of-differ : {X : Type 0} (p q : X → Bool) (xs : List X) → odd_of (λ
 odd_of-differ p q [] = refl
 odd_of-differ p q (x ∷ xs) = ap (differ (differ (p x) (q x))) (odd_of-differ p q xs) ∙ four (p x) (q x) (odd_of p xs) (odd_of q xs)
 
-pub odd_of-nothing : {X : Type 0} (p : X → Bool) (xs : List X) → ((x : X) → In x xs → p x ≡ false) → odd_of p xs ≡ false
+pub odd_of-nothing : {X : Type 0} (p : X → Bool) (xs : List X) → ((x : X) → Has xs x → p x ≡ false) → odd_of p xs ≡ false
 odd_of-nothing p [] h = refl
 odd_of-nothing p (x ∷ xs) h = rw (h x (inl refl), odd_of-nothing p xs (λ y m. h y (inr m))) refl
 
 -- one segment of an arrangement
-pub single_odd : (k : WholeSegment → Bool) (t : WholeSegment) (xs : List WholeSegment) → is_strictly_sorted pair_cmp (pairs xs) ≡ true → In t xs → odd_of (λ u. pair_eq u.pair t.pair && k u) xs ≡ k t
+pub single_odd : (k : WholeSegment → Bool) (t : WholeSegment) (xs : List WholeSegment) → is_strictly_sorted pair_cmp (pairs xs) ≡ true → Has xs t → odd_of (λ u. pair_eq u.pair t.pair && k u) xs ≡ k t
 single_odd k t [] h m = absurd m
 single_odd k t (x ∷ xs) h (inl e) =
-    let rest : odd_of (λ u. pair_eq u.pair t.pair && k u) xs ≡ false = odd_of-nothing (λ u. pair_eq u.pair t.pair && k u) xs (λ y n. and_left _ _ (from_not_same_pair y.pair t.pair (λ q. differ_when_less x.pair y.pair (In-holds (λ z. pair_lt x.pair z.pair) y xs (sorted_all x xs h) n) (ap (λ (u : WholeSegment). u.pair) (sym e) ∙ sym q)))) in
-    let here : pair_eq x.pair t.pair ≡ true = ap (λ (u : WholeSegment). pair_eq u.pair t.pair) (sym e) ∙ pair_eq_same t.pair in
-    rw (here, rest) (differ_false (k x) ∙ ap k (sym e))
-single_odd k t (x ∷ xs) h (inr m) = rw (from_not_same_pair x.pair t.pair (differ_when_less x.pair t.pair (In-holds (λ z. pair_lt x.pair z.pair) t xs (sorted_all x xs h) m))) (single_odd k t xs (sorted_tail x xs h) m)
+    let rest : odd_of (λ u. pair_eq u.pair t.pair && k u) xs ≡ false = odd_of-nothing (λ u. pair_eq u.pair t.pair && k u) xs (λ y n. and_left _ _ (from_not_same_pair y.pair t.pair (λ q. differ_when_less x.pair y.pair (list_all-at (λ z. pair_lt x.pair z.pair) xs y (sorted_all x xs h) n) (ap (λ (u : WholeSegment). u.pair) e ∙ sym q)))) in
+    let here : pair_eq x.pair t.pair ≡ true = ap (λ (u : WholeSegment). pair_eq u.pair t.pair) e ∙ pair_eq_same t.pair in
+    rw (here, rest) (differ_false (k x) ∙ ap k e)
+single_odd k t (x ∷ xs) h (inr m) = rw (from_not_same_pair x.pair t.pair (differ_when_less x.pair t.pair (list_all-at (λ z. pair_lt x.pair z.pair) xs t (sorted_all x xs h) m))) (single_odd k t xs (sorted_tail x xs h) m)
 
-none_of : {X : Type 0} (p : X → Bool) (x : X) (xs : List X) → p x ≡ false → ((z : X) → In z xs → p z ≡ false) → (y : X) → In y (x ∷ xs) → p y ≡ false
-none_of p x xs e h y (inl q) = ap p q ∙ e
+none_of : {X : Type 0} (p : X → Bool) (x : X) (xs : List X) → p x ≡ false → ((z : X) → Has xs z → p z ≡ false) → (y : X) → Has (x ∷ xs) y → p y ≡ false
+none_of p x xs e h y (inl q) = ap p (sym q) ∙ e
 none_of p x xs e h y (inr m) = h y m
 
-pub by_any : {X P : Type 0} (p : X → Bool) (xs : List X) → ((x : X) → In x xs → p x ≡ true → P) → (((x : X) → In x xs → p x ≡ false) → P) → P
+pub by_any : {X P : Type 0} (p : X → Bool) (xs : List X) → ((x : X) → Has xs x → p x ≡ true → P) → (((x : X) → Has xs x → p x ≡ false) → P) → P
 by_any p [] f g = g (λ x m. absurd m)
 by_any p (x ∷ xs) f g = elim (cases_Bool (p x)) [
   | inl e ↦ f x (inl refl) e
@@ -82,7 +83,7 @@ same_value F b c = let p : b +ℤ pos 0 ≡ b = omega (arith, ints) in let q : c
 tells_nothing : (F : ℤ → ℤ → Bool) (r l u : Winding) → add r u ≡ l → u ≡ empty → tells F r l ≡ false
 tells_nothing F r l u e z = ap (tells F r) (sym e ∙ ap (λ (w : Winding). add r w) z) ∙ same_value F r.subj r.clip
 
-no_weight : (test : Pair → Bool) (xs : List WholeSegment) → ((u : WholeSegment) → In u xs → test u.pair ≡ false) → total_weight (filter (λ u. test u.pair) xs) ≡ empty
+no_weight : (test : Pair → Bool) (xs : List WholeSegment) → ((u : WholeSegment) → Has xs u → test u.pair ≡ false) → total_weight (filter (λ u. test u.pair) xs) ≡ empty
 no_weight test xs h =
     let zero = λ (w : WholeSegment → ℤ). sum_of-zero_in (λ u. when (test u.pair) (w u)) xs (λ u m. ap (λ (b : Bool). when b (w u)) (h u m)) in
     filter_weights_are test xs ∙ (λ i. record { subj = zero (λ u. u.count.subj) i; clip = zero (λ u. u.count.clip) i; mask = 0 })
@@ -138,22 +139,22 @@ module _ (s u : Pair) (e : s.a.x ≡ s.b.x) (h : s.a.y <ℤ s.b.y) (wu : u.a.x <
 
 -- ---- at a point that lies strictly inside no segment
 
-module _ (xs : List WholeSegment) (arranged : IsArranged xs) (balanced : IsBalanced xs) (p : Point) (free_point : (u : WholeSegment) → In u xs → is_strictly_inside u.pair p ≡ true → ⊥) (F : ℤ → ℤ → Bool) where
+module _ (xs : List WholeSegment) (arranged : IsArranged xs) (balanced : IsBalanced xs) (p : Point) (free_point : (u : WholeSegment) → Has xs u → is_strictly_inside u.pair p ≡ true → ⊥) (F : ℤ → ℤ → Bool) where
   abbrev starts_upright : WholeSegment → Bool
   starts_upright s = is_vertical s.pair && point_eq s.pair.a p
 
   abbrev ends_upright : WholeSegment → Bool
   ends_upright s = is_vertical s.pair && point_eq s.pair.b p
 
-  upright_of : (s : WholeSegment) → In s xs → is_vertical s.pair ≡ true → (s.pair.a.x ≡ s.pair.b.x) × (s.pair.a.y <ℤ s.pair.b.y)
+  upright_of : (s : WholeSegment) → Has xs s → is_vertical s.pair ≡ true → (s.pair.a.x ≡ s.pair.b.x) × (s.pair.a.y <ℤ s.pair.b.y)
   upright_of s m v =
       let e = (Decides-int_eq s.pair.a.x s.pair.b.x).0 v in
       elim (point_lt-cases s.pair.a s.pair.b (arranged.ordered s m)) [ inl w ↦ absurd (omega (arith, ints)) | inr h ↦ h ]
 
-  one_odd : (test : WholeSegment → Bool) (s : WholeSegment) → In s xs → ((u : WholeSegment) → In u xs → test u ≡ pair_eq u.pair s.pair) → odd_of (λ u. test u && tells_sides_of F xs u) xs ≡ tells_sides_of F xs s
+  one_odd : (test : WholeSegment → Bool) (s : WholeSegment) → Has xs s → ((u : WholeSegment) → Has xs u → test u ≡ pair_eq u.pair s.pair) → odd_of (λ u. test u && tells_sides_of F xs u) xs ≡ tells_sides_of F xs s
   one_odd test s m h = odd_of-same_in (λ u. test u && tells_sides_of F xs u) (λ u. pair_eq u.pair s.pair && tells_sides_of F xs u) xs (λ u n. ap (λ (b : Bool). b && tells_sides_of F xs u) (h u n)) ∙ single_odd (tells_sides_of F xs) s xs arranged.sorted m
 
-  none_odd : (test : WholeSegment → Bool) → ((u : WholeSegment) → In u xs → test u ≡ false) → odd_of (λ u. test u && tells_sides_of F xs u) xs ≡ false
+  none_odd : (test : WholeSegment → Bool) → ((u : WholeSegment) → Has xs u → test u ≡ false) → odd_of (λ u. test u && tells_sides_of F xs u) xs ≡ false
   none_odd test h = odd_of-nothing (λ u. test u && tells_sides_of F xs u) xs (λ u n. and_left _ _ (h u n))
 
   upright_sides : (s : WholeSegment) → is_vertical s.pair ≡ true → tells_sides_of F xs s ≡ tells F (right_winding xs s) (left_winding xs s)
@@ -161,7 +162,7 @@ module _ (xs : List WholeSegment) (arranged : IsArranged xs) (balanced : IsBalan
   upright_sides s v = rw v refl
 
   -- upward
-  start_only_one : (s u : WholeSegment) → In s xs → In u xs → starts_upright s ≡ true → starts_upright u ≡ pair_eq u.pair s.pair
+  start_only_one : (s u : WholeSegment) → Has xs s → Has xs u → starts_upright s ≡ true → starts_upright u ≡ pair_eq u.pair s.pair
   start_only_one s u m n h =
       let sp = and_parts (is_vertical s.pair) (point_eq s.pair.a p) h in
       let su = upright_of s m sp.0 in
@@ -181,12 +182,12 @@ module _ (xs : List WholeSegment) (arranged : IsArranged xs) (balanced : IsBalan
       let sp = and_parts (is_vertical s.pair) (point_eq s.pair.a p) h in
       upright_sides s sp.0 ∙ ap (λ (q : Point). tells F (weights_up_to xs q.x q) (weights_up_to xs (q.x -ℤ pos 1) q)) (same_by_eq s.pair.a p sp.1)
 
-  passes : (u : WholeSegment) → In u xs → is_vertical u.pair ≡ true → u.pair.a.x ≡ p.x → u.pair.a.y <ℤ p.y → p.y <ℤ u.pair.b.y → ⊥
+  passes : (u : WholeSegment) → Has xs u → is_vertical u.pair ≡ true → u.pair.a.x ≡ p.x → u.pair.a.y <ℤ p.y → p.y <ℤ u.pair.b.y → ⊥
   passes u n v x low high =
       let up = upright_of u n v in
       free_point u n (inside_from_order u.pair p (inr up) (upright_level u.pair p up.0 (sym x)) (inr (x, low)) (inr (sym x ∙ up.0, high)))
 
-  none_leaves_up : ((u : WholeSegment) → In u xs → starts_upright u ≡ false) → (u : WholeSegment) → In u xs → leaves_upward (lies_up_to p) u.pair ≡ false
+  none_leaves_up : ((u : WholeSegment) → Has xs u → starts_upright u ≡ false) → (u : WholeSegment) → Has xs u → leaves_upward (lies_up_to p) u.pair ≡ false
   none_leaves_up none u n = false_from_ne_true (leaves_upward (lies_up_to p) u.pair) (λ k.
       let first = and_parts (is_vertical u.pair) _ k in
       let second = and_parts (lies_up_to p u.pair.a) _ first.1 in
@@ -205,7 +206,7 @@ module _ (xs : List WholeSegment) (arranged : IsArranged xs) (balanced : IsBalan
       (λ none. none_odd starts_upright none ∙ sym (tells_nothing F _ _ _ (across_up_to xs arranged.all_ordered balanced p) (no_weight (leaves_upward (lies_up_to p)) xs (none_leaves_up none))))
 
   -- downward
-  end_only_one : (s u : WholeSegment) → In s xs → In u xs → ends_upright s ≡ true → ends_upright u ≡ true → u.pair ≡ s.pair
+  end_only_one : (s u : WholeSegment) → Has xs s → Has xs u → ends_upright s ≡ true → ends_upright u ≡ true → u.pair ≡ s.pair
   end_only_one s u m n h k =
       let sp = and_parts (is_vertical s.pair) (point_eq s.pair.b p) h in
       let up = and_parts (is_vertical u.pair) (point_eq u.pair.b p) k in
@@ -224,20 +225,20 @@ module _ (xs : List WholeSegment) (arranged : IsArranged xs) (balanced : IsBalan
       (λ (k : u.pair.a.y ≤ℤ s.pair.a.y). omega (arith, ints)))) in
       same_pair u.pair s.pair start same
 
-  end_only : (s u : WholeSegment) → In s xs → In u xs → ends_upright s ≡ true → ends_upright u ≡ pair_eq u.pair s.pair
+  end_only : (s u : WholeSegment) → Has xs s → Has xs u → ends_upright s ≡ true → ends_upright u ≡ pair_eq u.pair s.pair
   end_only s u m n h = elim (cases_Bool (ends_upright u)) [
     | inl e ↦ e ∙ sym (ap (λ (r : Pair). pair_eq r s.pair) (end_only_one s u m n h e) ∙ pair_eq_same s.pair)
     | inr e ↦ e ∙ sym (from_not_same_pair u.pair s.pair (λ q. both_ways _ e (ap (λ (r : Pair). is_vertical r && point_eq r.b p) q ∙ h)))
   ]
 
-  end_level : (s : WholeSegment) → In s xs → is_vertical s.pair ≡ true → (x : ℤ) → (x ≡ s.pair.a.x) ⊎ (x ≡ s.pair.a.x -ℤ pos 1) → weights_up_to xs x s.pair.a ≡ column_weights (is_under s.pair.b) xs x
+  end_level : (s : WholeSegment) → Has xs s → is_vertical s.pair ≡ true → (x : ℤ) → (x ≡ s.pair.a.x) ⊎ (x ≡ s.pair.a.x -ℤ pos 1) → weights_up_to xs x s.pair.a ≡ column_weights (is_under s.pair.b) xs x
   unfolding weights_up_to
   end_level s m v x near = column_weights-same (is_up_to s.pair.a) (is_under s.pair.b) xs x (λ u n h.
       let su = upright_of s m v in
       let k = spans_parts x u.pair h in
       up_to_is_under s.pair u.pair su.0 su.1 (omega (arith, ints)) (elim near [ inl e ↦ omega (arith, ints) | inr e ↦ omega (arith, ints) ]) (elim near [ inl e ↦ omega (arith, ints) | inr e ↦ omega (arith, ints) ]) (apart_in xs arranged balanced s u m n))
 
-  end_sides : (s : WholeSegment) → In s xs → ends_upright s ≡ true → tells_sides_of F xs s ≡ tells F (column_weights (is_under p) xs p.x) (column_weights (is_under p) xs (p.x -ℤ pos 1))
+  end_sides : (s : WholeSegment) → Has xs s → ends_upright s ≡ true → tells_sides_of F xs s ≡ tells F (column_weights (is_under p) xs p.x) (column_weights (is_under p) xs (p.x -ℤ pos 1))
   unfolding right_winding left_winding
   end_sides s m h =
       let sp = and_parts (is_vertical s.pair) (point_eq s.pair.b p) h in
@@ -247,7 +248,7 @@ module _ (xs : List WholeSegment) (arranged : IsArranged xs) (balanced : IsBalan
       ∙ ap (λ (z : ℤ). tells F (column_weights (is_under s.pair.b) xs z) (column_weights (is_under s.pair.b) xs (z -ℤ pos 1))) su.0
       ∙ ap (λ (q : Point). tells F (column_weights (is_under q) xs q.x) (column_weights (is_under q) xs (q.x -ℤ pos 1))) (same_by_eq s.pair.b p sp.1)
 
-  none_leaves_under : ((u : WholeSegment) → In u xs → ends_upright u ≡ false) → (u : WholeSegment) → In u xs → leaves_upward (lies_under p) u.pair ≡ false
+  none_leaves_under : ((u : WholeSegment) → Has xs u → ends_upright u ≡ false) → (u : WholeSegment) → Has xs u → leaves_upward (lies_under p) u.pair ≡ false
   none_leaves_under none u n = false_from_ne_true (leaves_upward (lies_under p) u.pair) (λ k.
       let first = and_parts (is_vertical u.pair) _ k in
       let second = and_parts (lies_under p u.pair.a) _ first.1 in

@@ -20,9 +20,10 @@ use Rattle.overlay_build.proofs.laws.Chains.{is_pairwise, odd_along_chain}
 use Rattle.overlay_build.proofs.laws.Heights.{gap, gap_back, gap_at_other_end, is_below_is}
 use Rattle.overlay_build.proofs.laws.ColumnOrder.{by_sign, crosses_in_column, low-right, low-second, one_is_below, below_itself, is_below-trans}
 use Rattle.overlay_build.proofs.laws.AlongSegments.{is_same_along, neg_of_neg, neg_of_pos}
-use Rattle.overlay_build.proofs.laws.Members.{In, In-holds, In-filter, IsArranged, list_all-from_In, sorted_all, sorted_tail, differ_when_less}
+use Rattle.overlay_build.proofs.laws.Members.{IsArranged, sorted_all, sorted_tail, differ_when_less}
 use Rattle.overlay_build.proofs.laws.Supports.{is_beneath, below_is_beneath, not_beneath}
 use Rattle.overlay_build.proofs.laws.Sides.{sum_of-same_in, apart_in}
+use Rattle.overlay_base.proofs.laws.Lists.{Has, Has-filter_out, list_all-at, list_all-from_Has}
 
 -- whether F tells two windings apart
 abbrev pub tells : (ℤ → ℤ → Bool) → Winding → Winding → Bool
@@ -32,17 +33,17 @@ tells F b t = differ (F b.subj b.clip) (F t.subj t.clip)
 abbrev pub tells_sides_of : (ℤ → ℤ → Bool) → List WholeSegment → WholeSegment → Bool
 tells_sides_of F xs s = tells F (side_bottom xs s) (side_top xs s)
 
-pub odd_of-same_in : {X : Type 0} (p q : X → Bool) (xs : List X) → ((x : X) → In x xs → p x ≡ q x) → odd_of p xs ≡ odd_of q xs
+pub odd_of-same_in : {X : Type 0} (p q : X → Bool) (xs : List X) → ((x : X) → Has xs x → p x ≡ q x) → odd_of p xs ≡ odd_of q xs
 odd_of-same_in p q [] h = refl
 odd_of-same_in p q (x ∷ xs) h = rw (h x (inl refl), odd_of-same_in p q xs (λ y m. h y (inr m))) refl
 
 -- members of a list that is sorted by pairs differ, so what holds of every two different ones holds pairwise
 pub pairwise_in : (below : WholeSegment → WholeSegment → Bool) (test : WholeSegment → Bool) (xs : List WholeSegment) → is_strictly_sorted pair_cmp (pairs xs) ≡ true →
-    ((s t : WholeSegment) → In s xs → In t xs → test s ≡ true → test t ≡ true → (s.pair ≡ t.pair → ⊥) → differ (below s t) (below t s) ≡ true) → is_pairwise below (filter test xs) ≡ true
+    ((s t : WholeSegment) → Has xs s → Has xs t → test s ≡ true → test t ≡ true → (s.pair ≡ t.pair → ⊥) → differ (below s t) (below t s) ≡ true) → is_pairwise below (filter test xs) ≡ true
 pairwise_in below test [] h k = refl
 pairwise_in below test (x ∷ xs) h k =
     let rest = pairwise_in below test xs (sorted_tail x xs h) (λ s t m n. k s t (inr m) (inr n)) in
-    pairwise_step below test x xs (test x) refl (λ e. list_all-from_In (λ y. differ (below x y) (below y x)) (filter test xs) (λ y n. let z = In-filter test y xs n in k x y (inl refl) (inr z.0) e z.1 (differ_when_less x.pair y.pair (In-holds _ y xs (sorted_all x xs h) z.0)))) rest
+    pairwise_step below test x xs (test x) refl (λ e. list_all-from_Has (λ y. differ (below x y) (below y x)) (filter test xs) (λ y n. let z = Has-filter_out test xs y n in k x y (inl refl) (inr z.0) e z.1 (differ_when_less x.pair y.pair (list_all-at _ xs y (sorted_all x xs h) z.0)))) rest
   where
     pairwise_step : (below : WholeSegment → WholeSegment → Bool) (test : WholeSegment → Bool) (x : WholeSegment) (xs : List WholeSegment) (b : Bool) → test x ≡ b → (test x ≡ true → list_all (λ y. differ (below x y) (below y x)) (filter test xs) ≡ true) → is_pairwise below (filter test xs) ≡ true → is_pairwise below (cond b (x ∷ filter test xs) (filter test xs)) ≡ true
     pairwise_step below test x xs true e f g = and_from _ _ (f e) g
@@ -65,10 +66,10 @@ in_two true up un at z h = elim (h refl) [
 ]
 
 module _ (xs : List WholeSegment) (arranged : IsArranged xs) (balanced : IsBalanced xs) (p : Point) (x : ℤ) (at : Pair → Bool)
-    (on : (u : WholeSegment) → In u xs → spans x u.pair ≡ true → at u.pair ≡ true → turn u.pair.a u.pair.b p ≡ pos 0)
-    (only : (u : WholeSegment) → In u xs → spans x u.pair ≡ true → turn u.pair.a u.pair.b p ≡ pos 0 → at u.pair ≡ true)
-    (under : (u s : WholeSegment) → In u xs → In s xs → spans x u.pair ≡ true → spans x s.pair ≡ true → at s.pair ≡ true → pos 0 <ℤ turn u.pair.a u.pair.b p → is_below_in_column x u.pair s.pair ≡ true)
-    (over : (u s : WholeSegment) → In u xs → In s xs → spans x u.pair ≡ true → spans x s.pair ≡ true → at s.pair ≡ true → turn u.pair.a u.pair.b p <ℤ pos 0 → is_below_in_column x u.pair s.pair ≡ false) where
+    (on : (u : WholeSegment) → Has xs u → spans x u.pair ≡ true → at u.pair ≡ true → turn u.pair.a u.pair.b p ≡ pos 0)
+    (only : (u : WholeSegment) → Has xs u → spans x u.pair ≡ true → turn u.pair.a u.pair.b p ≡ pos 0 → at u.pair ≡ true)
+    (under : (u s : WholeSegment) → Has xs u → Has xs s → spans x u.pair ≡ true → spans x s.pair ≡ true → at s.pair ≡ true → pos 0 <ℤ turn u.pair.a u.pair.b p → is_below_in_column x u.pair s.pair ≡ true)
+    (over : (u s : WholeSegment) → Has xs u → Has xs s → spans x u.pair ≡ true → spans x s.pair ≡ true → at s.pair ≡ true → turn u.pair.a u.pair.b p <ℤ pos 0 → is_below_in_column x u.pair s.pair ≡ false) where
   abbrev is_there : WholeSegment → Bool
   is_there s = spans x s.pair && at s.pair
 
@@ -78,11 +79,11 @@ module _ (xs : List WholeSegment) (arranged : IsArranged xs) (balanced : IsBalan
   abbrev lowest : (WholeSegment → ℤ) → ℤ
   lowest w = sum_of (λ u. when (spans x u.pair && is_under p u.pair) (w u)) xs
 
-  not_at : (u : WholeSegment) → In u xs → spans x u.pair ≡ true → (turn u.pair.a u.pair.b p ≡ pos 0 → ⊥) → at u.pair ≡ false
+  not_at : (u : WholeSegment) → Has xs u → spans x u.pair ≡ true → (turn u.pair.a u.pair.b p ≡ pos 0 → ⊥) → at u.pair ≡ false
   not_at u m h none = false_from_ne_true (at u.pair) (λ e. none (on u m h e))
 
   -- what is below a member is under p, or a member itself
-  below_split : (w : WholeSegment → ℤ) (s : WholeSegment) → In s xs → spans x s.pair ≡ true → at s.pair ≡ true →
+  below_split : (w : WholeSegment → ℤ) (s : WholeSegment) → Has xs s → spans x s.pair ≡ true → at s.pair ≡ true →
       sum_of (λ u. when (spans x u.pair && is_below_in_column x u.pair s.pair) (w u)) xs ≡ lowest w +ℤ sum_of (λ t. when (below_there t s) (w t)) (filter is_there xs)
   below_split w s m hs sat =
       let split = sum_of-same_in (λ u. when (spans x u.pair && is_below_in_column x u.pair s.pair) (w u)) (λ u. when (spans x u.pair && is_under p u.pair) (w u) +ℤ when (is_there u) (when (below_there u s) (w u))) xs
@@ -104,8 +105,8 @@ module _ (xs : List WholeSegment) (arranged : IsArranged xs) (balanced : IsBalan
       let sum = sum_of-add (λ u. when (spans x u.pair && is_under p u.pair) (w u) +ℤ when (is_there u) (w u)) (λ u. when (spans x u.pair && is_under p u.pair) (w u)) (λ u. when (is_there u) (w u)) xs (λ u. refl) in
       split ∙ sum ∙ ap (λ (z : ℤ). lowest w +ℤ z) (sym (sum_of-filter is_there w xs))
 
-  there_in : (s : WholeSegment) → In s (filter is_there xs) → In s xs × (spans x s.pair ≡ true) × (at s.pair ≡ true)
-  there_in s n = let k = In-filter is_there s xs n in let parts = and_parts (spans x s.pair) (at s.pair) k.1 in (k.0, parts.0, parts.1)
+  there_in : (s : WholeSegment) → Has (filter is_there xs) s → Has xs s × (spans x s.pair ≡ true) × (at s.pair ≡ true)
+  there_in s n = let k = Has-filter_out is_there xs s n in let parts = and_parts (spans x s.pair) (at s.pair) k.1 in (k.0, parts.0, parts.1)
 
   pairwise_there : is_pairwise below_there (filter is_there xs) ≡ true
   pairwise_there = pairwise_in below_there is_there xs arranged.sorted
@@ -115,7 +116,7 @@ module _ (xs : List WholeSegment) (arranged : IsArranged xs) (balanced : IsBalan
     same_sides : (b c b' c' d e d' e' : ℤ) → b ≡ b' → c ≡ c' → d ≡ d' → e ≡ e' → differ (F b c) (F d e) ≡ differ (F b' c') (F d' e')
     same_sides b c b' c' d e d' e' p q r s = rw (p, q, r, s) refl
 
-    column_sides : (s : WholeSegment) → In s xs → spans x s.pair ≡ true →
+    column_sides : (s : WholeSegment) → Has xs s → spans x s.pair ≡ true →
         tells_sides_of F xs s ≡ differ (F (sum_of (λ u. when (spans x u.pair && is_below_in_column x u.pair s.pair) u.count.subj) xs) (sum_of (λ u. when (spans x u.pair && is_below_in_column x u.pair s.pair) u.count.clip) xs))
         (F (sum_of (λ u. when (spans x u.pair && is_below_in_column x u.pair s.pair) u.count.subj) xs +ℤ s.count.subj) (sum_of (λ u. when (spans x u.pair && is_below_in_column x u.pair s.pair) u.count.clip) xs +ℤ s.count.clip))
     unfolding column_top column_bottom
@@ -127,7 +128,7 @@ module _ (xs : List WholeSegment) (arranged : IsArranged xs) (balanced : IsBalan
     chain_sides s = differ (F (lowest (λ u. u.count.subj) +ℤ sum_of (λ t. when (below_there t s) t.count.subj) (filter is_there xs)) (lowest (λ u. u.count.clip) +ℤ sum_of (λ t. when (below_there t s) t.count.clip) (filter is_there xs)))
         (F ((lowest (λ u. u.count.subj) +ℤ sum_of (λ t. when (below_there t s) t.count.subj) (filter is_there xs)) +ℤ s.count.subj) ((lowest (λ u. u.count.clip) +ℤ sum_of (λ t. when (below_there t s) t.count.clip) (filter is_there xs)) +ℤ s.count.clip))
 
-    sides_there : (s : WholeSegment) → In s (filter is_there xs) → tells_sides_of F xs s ≡ chain_sides s
+    sides_there : (s : WholeSegment) → Has (filter is_there xs) s → tells_sides_of F xs s ≡ chain_sides s
     sides_there s n =
         let k = there_in s n in
         let u = below_split (λ t. t.count.subj) s k.0 k.1 k.2 in
@@ -138,7 +139,7 @@ module _ (xs : List WholeSegment) (arranged : IsArranged xs) (balanced : IsBalan
     pub odd_there : odd_of (tells_sides_of F xs) (filter is_there xs) ≡ tells F (column_weights (is_under p) xs x) (weights_up_to xs x p)
     unfolding weights_up_to
     odd_there =
-        let there : list_all is_there (filter is_there xs) ≡ true = list_all-from_In is_there (filter is_there xs) (λ s n. (In-filter is_there s xs n).1) in
+        let there : list_all is_there (filter is_there xs) ≡ true = list_all-from_Has is_there (filter is_there xs) (λ s n. (Has-filter_out is_there xs s n).1) in
         let chain = odd_along_chain below_there is_there
         (λ s t u a b c h k. is_below-trans x s.pair t.pair u.pair (and_parts (spans x s.pair) (at s.pair) a).0 (and_parts (spans x t.pair) (at t.pair) b).0 (and_parts (spans x u.pair) (at u.pair) c).0 h k)
         (λ s a. below_itself x s.pair) F (λ s. s.count.subj) (λ s. s.count.clip) (lowest (λ s. s.count.subj)) (lowest (λ s. s.count.clip)) (filter is_there xs) there pairwise_there in
@@ -148,8 +149,8 @@ module _ (xs : List WholeSegment) (arranged : IsArranged xs) (balanced : IsBalan
 
 -- ---- the two chains at a point that lies strictly inside no segment
 
-module _ (xs : List WholeSegment) (arranged : IsArranged xs) (balanced : IsBalanced xs) (p : Point) (free_point : (u : WholeSegment) → In u xs → is_strictly_inside u.pair p ≡ true → ⊥) (F : ℤ → ℤ → Bool) where
-  starts_only : (u : WholeSegment) → In u xs → spans p.x u.pair ≡ true → turn u.pair.a u.pair.b p ≡ pos 0 → point_eq u.pair.a p ≡ true
+module _ (xs : List WholeSegment) (arranged : IsArranged xs) (balanced : IsBalanced xs) (p : Point) (free_point : (u : WholeSegment) → Has xs u → is_strictly_inside u.pair p ≡ true → ⊥) (F : ℤ → ℤ → Bool) where
+  starts_only : (u : WholeSegment) → Has xs u → spans p.x u.pair ≡ true → turn u.pair.a u.pair.b p ≡ pos 0 → point_eq u.pair.a p ≡ true
   starts_only u m h e =
       let k = spans_parts p.x u.pair h in
       by_lt_z u.pair.a.x p.x
@@ -158,7 +159,7 @@ module _ (xs : List WholeSegment) (arranged : IsArranged xs) (balanced : IsBalan
       let same = same_point u.pair.a p (sym x) (sym (at_a u.pair.a u.pair.b p (omega (arith, ints)) e x)) in
       ap (λ (q : Point). point_eq q p) same ∙ point_eq_same p)
 
-  ends_only : (u : WholeSegment) → In u xs → spans (p.x -ℤ pos 1) u.pair ≡ true → turn u.pair.a u.pair.b p ≡ pos 0 → point_eq u.pair.b p ≡ true
+  ends_only : (u : WholeSegment) → Has xs u → spans (p.x -ℤ pos 1) u.pair ≡ true → turn u.pair.a u.pair.b p ≡ pos 0 → point_eq u.pair.b p ≡ true
   ends_only u m h e =
       let k = spans_parts (p.x -ℤ pos 1) u.pair h in
       by_lt_z p.x u.pair.b.x
@@ -167,7 +168,7 @@ module _ (xs : List WholeSegment) (arranged : IsArranged xs) (balanced : IsBalan
       let same = same_point u.pair.b p (sym x) (sym (at_b u.pair.a u.pair.b p (omega (arith, ints)) e x)) in
       ap (λ (q : Point). point_eq q p) same ∙ point_eq_same p)
 
-  start_order : (u s : WholeSegment) → In u xs → In s xs → spans p.x u.pair ≡ true → spans p.x s.pair ≡ true → point_eq s.pair.a p ≡ true → is_below_in_column p.x u.pair s.pair ≡ is_beneath s.pair u.pair
+  start_order : (u s : WholeSegment) → Has xs u → Has xs s → spans p.x u.pair ≡ true → spans p.x s.pair ≡ true → point_eq s.pair.a p ≡ true → is_below_in_column p.x u.pair s.pair ≡ is_beneath s.pair u.pair
   start_order u s m n hu hs e =
       let same = same_by_eq s.pair.a p e in
       let x : s.pair.a.x ≡ p.x = ap (λ (q : Point). q.x) same in
@@ -189,7 +190,7 @@ module _ (xs : List WholeSegment) (arranged : IsArranged xs) (balanced : IsBalan
       let x : (p.x -ℤ pos 1) +ℤ pos 1 ≡ s.pair.b.x = (let y : s.pair.b.x ≡ p.x = ap (λ (q : Point). q.x) same in omega (arith, ints)) in
       ap (λ (z : ℤ). gap z u.pair s.pair) x ∙ gap_at_other_end u.pair s.pair ∙ ap (λ (q : Point). width s.pair *ℤ turn u.pair.a u.pair.b q) same
 
-  end_under : (u s : WholeSegment) → In u xs → In s xs → spans (p.x -ℤ pos 1) u.pair ≡ true → spans (p.x -ℤ pos 1) s.pair ≡ true → point_eq s.pair.b p ≡ true → pos 0 <ℤ turn u.pair.a u.pair.b p → is_below_in_column (p.x -ℤ pos 1) u.pair s.pair ≡ true
+  end_under : (u s : WholeSegment) → Has xs u → Has xs s → spans (p.x -ℤ pos 1) u.pair ≡ true → spans (p.x -ℤ pos 1) s.pair ≡ true → point_eq s.pair.b p ≡ true → pos 0 <ℤ turn u.pair.a u.pair.b p → is_below_in_column (p.x -ℤ pos 1) u.pair s.pair ≡ true
   end_under u s m n hu hs e up =
       let k = spans_parts (p.x -ℤ pos 1) s.pair hs in
       let g = end_gap u s e in
@@ -202,7 +203,7 @@ module _ (xs : List WholeSegment) (arranged : IsArranged xs) (balanced : IsBalan
       (λ (q : pos 0 ≤ℤ gap (p.x -ℤ pos 1) u.pair s.pair). q))
       right
 
-  end_over : (u s : WholeSegment) → In u xs → In s xs → spans (p.x -ℤ pos 1) u.pair ≡ true → spans (p.x -ℤ pos 1) s.pair ≡ true → point_eq s.pair.b p ≡ true → turn u.pair.a u.pair.b p <ℤ pos 0 → is_below_in_column (p.x -ℤ pos 1) u.pair s.pair ≡ false
+  end_over : (u s : WholeSegment) → Has xs u → Has xs s → spans (p.x -ℤ pos 1) u.pair ≡ true → spans (p.x -ℤ pos 1) s.pair ≡ true → point_eq s.pair.b p ≡ true → turn u.pair.a u.pair.b p <ℤ pos 0 → is_below_in_column (p.x -ℤ pos 1) u.pair s.pair ≡ false
   end_over u s m n hu hs e down =
       let k = spans_parts (p.x -ℤ pos 1) s.pair hs in
       let g = end_gap u s e in

@@ -5,24 +5,24 @@ use Rattle.std.specs.List.{AllByRecursion, enumerate_from, take-map, drop-map}
 use Rattle.std.specs.Ordering.{is_lt, is_eq, int_cmp, ordering_then, MatchOrdering}
 use Rattle.std.proofs.lemmas.Int.{ints}
 use Rattle.std.proofs.lemmas.Bool.{cases_Bool, both_ways}
-use Rattle.std.proofs.lemmas.List.{take-append-drop}
+use Rattle.std.proofs.lemmas.List.{take-append-drop, take_all}
 use Rattle.std.proofs.Common.{append_assoc}
 use Rattle.overlay_base.specs.Points.{Point, Pair, turn, step, cross_product, point_cmp, point_eq, point_lt, pair_cmp, pair_lt, is_ordered, is_strictly_sorted, stably_sorted}
 use Rattle.overlay_base.specs.Segments.{WholeSegment, pairs}
 use Rattle.overlay_base.specs.EdgeData.{DataSegment, without_data}
 use Rattle.overlay_base.specs.Below.{angle_cmp}
 use Rattle.overlay_base.specs.declared.overlay_core.fill_rule.FillRule.{FillRule}
-use Rattle.overlay_base.proofs.laws.Lists.{Pairwise, AllByRecursion-take, AllByRecursion-map, AllByRecursion-map_out, AllByRecursion-from_list_all, take-all}
+use Rattle.overlay_base.proofs.laws.Lists.{Pairwise, AllByRecursion-take, AllByRecursion-map, AllByRecursion-map_out, AllByRecursion-from_list_all, AllByRecursion-at, AllByRecursion-from_Has, Has, Has-map, Has-map_out}
 use Rattle.overlay_base.proofs.laws.Polynomials.{as_D, diffs, D-eq}
 use Rattle.overlay_base.proofs.laws.Points.{Before, before, point_ranked, same_pair, inside_from_order, turn_swaps_last, point_eq_same, point_lt-irreflexive}
 use Rattle.overlay_build.specs.Sweep.{Visit, whole_of, fill_of, visits}
 use Rattle.overlay_build.specs.WayOf.{WholeWay, ways_between, by_angle}
 use Rattle.overlay_build.proofs.laws.ColumnOrder.{IsApart}
-use Rattle.overlay_build.proofs.laws.Members.{In, In-map, sorted_all, sorted_tail, differ_when_less, IsArranged}
-use Rattle.overlay_build.proofs.laws.NodeChains.{IsNode, AllByRecursion-In, angle_trans}
-use Rattle.overlay_build.proofs.laws.RunSorts.{AllByRecursion-stably_sorted, In-stably_sorted, stably_sorted-append, stably_sorted-map, rising_sorted}
-use Rattle.overlay_build.proofs.laws.DirectlyBelow.{apart_members, In-map_out}
-use Rattle.overlay_build.proofs.laws.Boundaries.{In-take, In-drop, AllByRecursion-from_In, cut_twice, IsRun, run_complete, early_complete, boundary_next}
+use Rattle.overlay_build.proofs.laws.Members.{sorted_all, sorted_tail, differ_when_less, IsArranged}
+use Rattle.overlay_build.proofs.laws.NodeChains.{IsNode, angle_trans}
+use Rattle.overlay_build.proofs.laws.RunSorts.{AllByRecursion-stably_sorted, Has-stably_sorted, stably_sorted-append, stably_sorted-map, rising_sorted}
+use Rattle.overlay_build.proofs.laws.DirectlyBelow.{apart_members}
+use Rattle.overlay_build.proofs.laws.Boundaries.{Has-take, Has-drop, cut_twice, IsRun, run_complete, early_complete, boundary_next}
 
 -- ---- the order of visits
 
@@ -64,14 +64,14 @@ module _ {D : Type 0} (rule : FillRule) (xs : List WholeSegment) where
     pub segment : (d : DataSegment D) → get_or list v.index d ≡ v.segment
     pub fill : v.fill ≡ fill_of rule xs (whole_of v.segment)
 
-  listed_at : (n : ℕ) (list : List (DataSegment D)) (v : Visit D) → In v (listed_from n list) → (k : ℕ) × (v.index ≡ n + k) × (k < length list) × ((d : DataSegment D) → get_or list k d ≡ v.segment) × (v.fill ≡ fill_of rule xs (whole_of v.segment))
+  listed_at : (n : ℕ) (list : List (DataSegment D)) (v : Visit D) → Has (listed_from n list) v → (k : ℕ) × (v.index ≡ n + k) × (k < length list) × ((d : DataSegment D) → get_or list k d ≡ v.segment) × (v.fill ≡ fill_of rule xs (whole_of v.segment))
   listed_at n [] v m = absurd m
-  listed_at n (s ∷ ss) v (inl e) = (0, ap (λ (w : Visit D). w.index) e ∙ (let same : n ≡ n + 0 = omega arith in same), omega arith, λ d. ap (λ (w : Visit D). w.segment) (sym e), ap (λ (w : Visit D). w.fill) e ∙ ap (λ (w : Visit D). fill_of rule xs (whole_of w.segment)) (sym e))
+  listed_at n (s ∷ ss) v (inl e) = (0, ap (λ (w : Visit D). w.index) (sym e) ∙ (let same : n ≡ n + 0 = omega arith in same), omega arith, λ d. ap (λ (w : Visit D). w.segment) e, ap (λ (w : Visit D). w.fill) (sym e) ∙ ap (λ (w : Visit D). fill_of rule xs (whole_of w.segment)) e)
   listed_at n (s ∷ ss) v (inr m) =
       let k = listed_at (n + 1) ss v m in
       (suc k.0, k.1 ∙ (let same : (n + 1) + k.0 ≡ n + suc k.0 = omega arith in same), omega (arith, k.2), k.3, k.4)
 
-  pub is_listed : (list : List (DataSegment D)) (v : Visit D) → In v (listed_from 0 list) → IsListed list v
+  pub is_listed : (list : List (DataSegment D)) (v : Visit D) → Has (listed_from 0 list) v → IsListed list v
   is_listed list v m =
       let k = listed_at 0 list v m in
       let same : k.0 ≡ v.index = sym (k.1 ∙ zero-add k.0) in
@@ -180,8 +180,8 @@ Pairwise-under M R S f (x ∷ ks) m h = (AllByRecursion-under M (R x) (S x) (λ 
 
 -- ---- a run of a sweep
 
-visits_cross : {D : Type 0} (vs ws : List (Visit D)) → ((v w : Visit D) → In v vs → In w ws → point_lt v.segment.pair.a w.segment.pair.a ≡ true) → AllByRecursion (λ x. AllByRecursion (λ y. is_lt (visit_cmp y x) ≡ false) ws) vs
-visits_cross vs ws h = AllByRecursion-from_In (λ x. AllByRecursion (λ y. is_lt (visit_cmp y x) ≡ false) ws) vs (λ v m. AllByRecursion-from_In (λ y. is_lt (visit_cmp y v) ≡ false) ws (λ w n. is_not_less v.segment.pair.a w.segment.pair.a _ (h v w m n)))
+visits_cross : {D : Type 0} (vs ws : List (Visit D)) → ((v w : Visit D) → Has vs v → Has ws w → point_lt v.segment.pair.a w.segment.pair.a ≡ true) → AllByRecursion (λ x. AllByRecursion (λ y. is_lt (visit_cmp y x) ≡ false) ws) vs
+visits_cross vs ws h = AllByRecursion-from_Has (λ x. AllByRecursion (λ y. is_lt (visit_cmp y x) ≡ false) ws) vs (λ v m. AllByRecursion-from_Has (λ y. is_lt (visit_cmp y v) ≡ false) ws (λ w n. is_not_less v.segment.pair.a w.segment.pair.a _ (h v w m n)))
 
 module _ {D : Type 0} (rule : FillRule) (list : List (DataSegment D)) (arranged : IsArranged (without_data list)) where
   abbrev pub listed : List (Visit D)
@@ -197,21 +197,21 @@ module _ {D : Type 0} (rule : FillRule) (list : List (DataSegment D)) (arranged 
   abbrev pub visits_after : ℕ → List (Visit D)
   visits_after next = stably_sorted visit_cmp (drop next listed)
 
-  In-wholes : (vs : List (Visit D)) (ss : List WholeSegment) → wholes vs ≡ ss → (v : Visit D) → In v vs → In (whole_of v.segment) ss
-  In-wholes vs ss e v m = subst (λ l. In (whole_of v.segment) l) e (In-map (λ v. whole_of v.segment) v vs m)
+  Has-wholes : (vs : List (Visit D)) (ss : List WholeSegment) → wholes vs ≡ ss → (v : Visit D) → Has vs v → Has ss (whole_of v.segment)
+  Has-wholes vs ss e v m = subst (λ l. Has l (whole_of v.segment)) e (Has-map (λ v. whole_of v.segment) vs v m)
 
-  all_before : (P : WholeSegment → Type 0) (i : ℕ) → AllByRecursion P (take i (without_data list)) → (v : Visit D) → In v (take i listed) → P (whole_of v.segment)
-  all_before P i a v m = AllByRecursion-In P (take i (without_data list)) (whole_of v.segment) a (In-wholes (take i listed) _ (wholes_before rule (without_data list) list i) v m)
+  all_before : (P : WholeSegment → Type 0) (i : ℕ) → AllByRecursion P (take i (without_data list)) → (v : Visit D) → Has (take i listed) v → P (whole_of v.segment)
+  all_before P i a v m = AllByRecursion-at P (take i (without_data list)) (whole_of v.segment) a (Has-wholes (take i listed) _ (wholes_before rule (without_data list) list i) v m)
 
-  all_after : (P : WholeSegment → Type 0) (i : ℕ) → AllByRecursion P (drop i (without_data list)) → (v : Visit D) → In v (drop i listed) → P (whole_of v.segment)
-  all_after P i a v m = AllByRecursion-In P (drop i (without_data list)) (whole_of v.segment) a (In-wholes (drop i listed) _ (wholes_after rule (without_data list) list i) v m)
+  all_after : (P : WholeSegment → Type 0) (i : ℕ) → AllByRecursion P (drop i (without_data list)) → (v : Visit D) → Has (drop i listed) v → P (whole_of v.segment)
+  all_after P i a v m = AllByRecursion-at P (drop i (without_data list)) (whole_of v.segment) a (Has-wholes (drop i listed) _ (wholes_after rule (without_data list) list i) v m)
 
-  all_of_run : (P : WholeSegment → Type 0) (i next : ℕ) → AllByRecursion P (take (next - i) (drop i (without_data list))) → (v : Visit D) → In v (take (next - i) (drop i listed)) → P (whole_of v.segment)
-  all_of_run P i next a v m = AllByRecursion-In P (take (next - i) (drop i (without_data list))) (whole_of v.segment) a (In-wholes (take (next - i) (drop i listed)) _ (wholes_of_run rule (without_data list) list i next) v m)
+  all_of_run : (P : WholeSegment → Type 0) (i next : ℕ) → AllByRecursion P (take (next - i) (drop i (without_data list))) → (v : Visit D) → Has (take (next - i) (drop i listed)) v → P (whole_of v.segment)
+  all_of_run P i next a v m = AllByRecursion-at P (take (next - i) (drop i (without_data list))) (whole_of v.segment) a (Has-wholes (take (next - i) (drop i listed)) _ (wholes_of_run rule (without_data list) list i next) v m)
 
   pub visits_all : visits rule list ≡ visits_before (length listed)
   unfolding visits
-  visits_all = ap (stably_sorted visit_cmp) (sym (take-all (length listed) listed (omega arith)))
+  visits_all = ap (stably_sorted visit_cmp) (sym (take_all (length listed) listed (omega arith)))
 
   module _ (i next : ℕ) (p : Point) (order : i < next) (run : IsRun (without_data list) i next p) where
     pub before_next : visits_before next ≡ visits_before i ++ visits_of_run i next
@@ -220,11 +220,11 @@ module _ {D : Type 0} (rule : FillRule) (list : List (DataSegment D)) (arranged 
         ∙ stably_sorted-append visit_cmp (take i listed) (take (next - i) (drop i listed)) (visits_cross _ _ (λ v w m n.
         subst (λ q. point_lt v.segment.pair.a q ≡ true) (sym (all_of_run (λ s. s.pair.a ≡ p) i next run.here w n)) (all_before (λ s. point_lt s.pair.a p ≡ true) i run.early v m)))
 
-    in_run_before : (v : Visit D) → In v (take next listed) → (w : Visit D) → In w (drop next listed) → point_lt v.segment.pair.a w.segment.pair.a ≡ true
+    in_run_before : (v : Visit D) → Has (take next listed) v → (w : Visit D) → Has (drop next listed) w → point_lt v.segment.pair.a w.segment.pair.a ≡ true
     in_run_before v m w n =
-        AllByRecursion-In (λ t. point_lt v.segment.pair.a t.pair.a ≡ true) (drop next (without_data list)) (whole_of w.segment)
+        AllByRecursion-at (λ t. point_lt v.segment.pair.a t.pair.a ≡ true) (drop next (without_data list)) (whole_of w.segment)
         (all_before (λ s. AllByRecursion (λ t. point_lt s.pair.a t.pair.a ≡ true) (drop next (without_data list))) next (boundary_next (without_data list) arranged i next p order run) v m)
-        (In-wholes (drop next listed) _ (wholes_after rule (without_data list) list next) w n)
+        (Has-wholes (drop next listed) _ (wholes_after rule (without_data list) list next) w n)
 
     pub visits_cut : visits rule list ≡ visits_before i ++ (visits_of_run i next ++ visits_after next)
     unfolding visits
@@ -233,15 +233,15 @@ module _ {D : Type 0} (rule : FillRule) (list : List (DataSegment D)) (arranged 
         ∙ stably_sorted-append visit_cmp (take next listed) (drop next listed) (visits_cross _ _ (λ v w m n. in_run_before v m w n))
         ∙ ap (λ l. l ++ visits_after next) before_next ∙ append_assoc (visits_before i) (visits_of_run i next) (visits_after next)
 
-    starts_here : AllByRecursion (λ v. In (whole_of v.segment) (without_data list) × (v.segment.pair.a ≡ p)) (take (next - i) (drop i listed))
-    starts_here = AllByRecursion-from_In (λ v. In (whole_of v.segment) (without_data list) × (v.segment.pair.a ≡ p)) (take (next - i) (drop i listed)) (λ v m. (
-      In-drop i (without_data list) (whole_of v.segment) (In-take (next - i) (drop i (without_data list)) (whole_of v.segment) (In-wholes (take (next - i) (drop i listed)) _ (wholes_of_run rule (without_data list) list i next) v m)),
+    starts_here : AllByRecursion (λ v. Has (without_data list) (whole_of v.segment) × (v.segment.pair.a ≡ p)) (take (next - i) (drop i listed))
+    starts_here = AllByRecursion-from_Has (λ v. Has (without_data list) (whole_of v.segment) × (v.segment.pair.a ≡ p)) (take (next - i) (drop i listed)) (λ v m. (
+      Has-drop i (without_data list) (whole_of v.segment) (Has-take (next - i) (drop i (without_data list)) (whole_of v.segment) (Has-wholes (take (next - i) (drop i listed)) _ (wholes_of_run rule (without_data list) list i next) v m)),
       all_of_run (λ s. s.pair.a ≡ p) i next run.here v m,
     ))
 
     differ_in_run : Pairwise (λ v w. (is_lt (visit_cmp v w) ≡ true) ⊎ (is_lt (visit_cmp w v) ≡ true)) (take (next - i) (drop i listed))
     differ_in_run =
-        Pairwise-under (λ v. In (whole_of v.segment) (without_data list) × (v.segment.pair.a ≡ p)) (λ v w. pair_lt v.segment.pair w.segment.pair ≡ true) (λ v w. (is_lt (visit_cmp v w) ≡ true) ⊎ (is_lt (visit_cmp w v) ≡ true))
+        Pairwise-under (λ v. Has (without_data list) (whole_of v.segment) × (v.segment.pair.a ≡ p)) (λ v w. pair_lt v.segment.pair w.segment.pair ≡ true) (λ v w. (is_lt (visit_cmp v w) ≡ true) ⊎ (is_lt (visit_cmp w v) ≡ true))
         (λ v w m n h.
         let same = m.1 ∙ sym n.1 in
         elim (angles_differ v.segment.pair w.segment.pair (arranged.ordered (whole_of v.segment) m.0) (arranged.ordered (whole_of w.segment) n.0) (sym same) (apart_members (without_data list) arranged (whole_of v.segment) (whole_of w.segment) m.0 n.0) (differ_when_less v.segment.pair w.segment.pair h)) [
@@ -256,51 +256,51 @@ module _ {D : Type 0} (rule : FillRule) (list : List (DataSegment D)) (arranged 
     angle_at : (v w : Visit D) → v.segment.pair.a ≡ p → w.segment.pair.a ≡ p → is_lt (visit_cmp v w) ≡ is_lt (angle_cmp v.segment.pair w.segment.pair)
     angle_at v w e f = ap is_lt (visit_cmp_same v w (e ∙ sym f))
 
-    visit_trans : (u v w : Visit D) → In (whole_of u.segment) (without_data list) × (u.segment.pair.a ≡ p) → In (whole_of v.segment) (without_data list) × (v.segment.pair.a ≡ p) → In (whole_of w.segment) (without_data list) × (w.segment.pair.a ≡ p) →
+    visit_trans : (u v w : Visit D) → Has (without_data list) (whole_of u.segment) × (u.segment.pair.a ≡ p) → Has (without_data list) (whole_of v.segment) × (v.segment.pair.a ≡ p) → Has (without_data list) (whole_of w.segment) × (w.segment.pair.a ≡ p) →
         is_lt (visit_cmp u v) ≡ true → is_lt (visit_cmp v w) ≡ true → is_lt (visit_cmp u w) ≡ true
     visit_trans u v w mu mv mw h k =
         angle_at u w mu.1 mw.1 ∙ angle_trans (without_data list) arranged p (whole_of u.segment) (whole_of v.segment) (whole_of w.segment) mu.0 mv.0 mw.0 mu.1 mv.1 mw.1 (sym (angle_at u v mu.1 mv.1) ∙ h) (sym (angle_at v w mv.1 mw.1) ∙ k)
 
-    pub members_of_run : AllByRecursion (λ v. In (whole_of v.segment) (without_data list) × (v.segment.pair.a ≡ p)) (visits_of_run i next)
-    members_of_run = AllByRecursion-stably_sorted visit_cmp (λ v. In (whole_of v.segment) (without_data list) × (v.segment.pair.a ≡ p)) (take (next - i) (drop i listed)) starts_here
+    pub members_of_run : AllByRecursion (λ v. Has (without_data list) (whole_of v.segment) × (v.segment.pair.a ≡ p)) (visits_of_run i next)
+    members_of_run = AllByRecursion-stably_sorted visit_cmp (λ v. Has (without_data list) (whole_of v.segment) × (v.segment.pair.a ≡ p)) (take (next - i) (drop i listed)) starts_here
 
     -- the segments of a run are a node
     pub run_is_node : IsNode (without_data list) p (wholes (visits_of_run i next))
     run_is_node = record {
-      members = AllByRecursion-map (λ s. In s (without_data list) × (s.pair.a ≡ p)) (λ v. whole_of v.segment) (visits_of_run i next) members_of_run;
+      members = AllByRecursion-map (λ s. Has (without_data list) s × (s.pair.a ≡ p)) (λ v. whole_of v.segment) (visits_of_run i next) members_of_run;
       complete = λ s m e.
           let here = run_complete (without_data list) arranged i next p order run s m e in
-          let found = In-map_out (λ (v : Visit D). whole_of v.segment) (take (next - i) (drop i listed)) s (subst (λ l. In s l) (sym (wholes_of_run rule (without_data list) list i next)) here) in
-          subst (λ z. In z (wholes (visits_of_run i next))) (sym found.2) (In-map (λ v. whole_of v.segment) found.0 (visits_of_run i next) (In-stably_sorted visit_cmp found.0 (take (next - i) (drop i listed)) found.1));
+          let found = Has-map_out (λ (v : Visit D). whole_of v.segment) (take (next - i) (drop i listed)) s (subst (λ l. Has l s) (sym (wholes_of_run rule (without_data list) list i next)) here) in
+          subst (λ z. Has (wholes (visits_of_run i next)) z) found.2 (Has-map (λ v. whole_of v.segment) (visits_of_run i next) found.0 (Has-stably_sorted visit_cmp found.0 (take (next - i) (drop i listed)) found.1));
       rising = Pairwise-map (λ s t. is_lt (angle_cmp s.pair t.pair) ≡ true) (λ v. whole_of v.segment) (visits_of_run i next)
-          (Pairwise-under (λ v. In (whole_of v.segment) (without_data list) × (v.segment.pair.a ≡ p)) (λ v w. is_lt (visit_cmp v w) ≡ true) (λ v w. is_lt (angle_cmp v.segment.pair w.segment.pair) ≡ true)
+          (Pairwise-under (λ v. Has (without_data list) (whole_of v.segment) × (v.segment.pair.a ≡ p)) (λ v w. is_lt (visit_cmp v w) ≡ true) (λ v w. is_lt (angle_cmp v.segment.pair w.segment.pair) ≡ true)
           (λ v w m n h. sym (angle_at v w m.1 n.1) ∙ h) (visits_of_run i next) members_of_run
-          (rising_sorted visit_cmp (λ v. In (whole_of v.segment) (without_data list) × (v.segment.pair.a ≡ p)) visit_trans (take (next - i) (drop i listed)) starts_here differ_in_run));
+          (rising_sorted visit_cmp (λ v. Has (without_data list) (whole_of v.segment) × (v.segment.pair.a ≡ p)) visit_trans (take (next - i) (drop i listed)) starts_here differ_in_run));
     }
 
     -- the collected ways are those of the visits
     pub ways_of_visits : by_angle (ways_between (without_data list) i next) ≡ map visit_way (visits_of_run i next)
     ways_of_visits =
         ap by_angle (ways_of_run rule (without_data list) list i next)
-        ∙ stably_sorted-map visit_way visit_cmp (λ w z. angle_cmp w.pair z.pair) (λ v. In (whole_of v.segment) (without_data list) × (v.segment.pair.a ≡ p))
+        ∙ stably_sorted-map visit_way visit_cmp (λ w z. angle_cmp w.pair z.pair) (λ v. Has (without_data list) (whole_of v.segment) × (v.segment.pair.a ≡ p))
         (λ v w m n. sym (visit_cmp_same v w (m.1 ∙ sym n.1)))
         (take (next - i) (drop i listed)) starts_here
 
-    pub listed_in_run : AllByRecursion (λ v. In v listed) (visits_of_run i next)
-    listed_in_run = AllByRecursion-stably_sorted visit_cmp (λ v. In v listed) (take (next - i) (drop i listed)) (AllByRecursion-from_In (λ v. In v listed) (take (next - i) (drop i listed)) (λ v m. In-drop i listed v (In-take (next - i) (drop i listed) v m)))
+    pub listed_in_run : AllByRecursion (λ v. Has listed v) (visits_of_run i next)
+    listed_in_run = AllByRecursion-stably_sorted visit_cmp (λ v. Has listed v) (take (next - i) (drop i listed)) (AllByRecursion-from_Has (λ v. Has listed v) (take (next - i) (drop i listed)) (λ v m. Has-drop i listed v (Has-take (next - i) (drop i listed) v m)))
 
     -- all that begin earlier have been visited
-    pub early_visited : (s : WholeSegment) → In s (without_data list) → point_lt s.pair.a p ≡ true → In s (wholes (visits_before i))
+    pub early_visited : (s : WholeSegment) → Has (without_data list) s → point_lt s.pair.a p ≡ true → Has (wholes (visits_before i)) s
     early_visited s m h =
         let here = early_complete (without_data list) arranged i next p order run s m h in
-        let found = In-map_out (λ (v : Visit D). whole_of v.segment) (take i listed) s (subst (λ l. In s l) (sym (wholes_before rule (without_data list) list i)) here) in
-        subst (λ z. In z (wholes (visits_before i))) (sym found.2) (In-map (λ v. whole_of v.segment) found.0 (visits_before i) (In-stably_sorted visit_cmp found.0 (take i listed) found.1))
+        let found = Has-map_out (λ (v : Visit D). whole_of v.segment) (take i listed) s (subst (λ l. Has l s) (sym (wholes_before rule (without_data list) list i)) here) in
+        subst (λ z. Has (wholes (visits_before i)) z) found.2 (Has-map (λ v. whole_of v.segment) (visits_before i) found.0 (Has-stably_sorted visit_cmp found.0 (take i listed) found.1))
 
-  pub known_before : (i : ℕ) (s : WholeSegment) → In s (wholes (visits_before i)) → In s (without_data list)
+  pub known_before : (i : ℕ) (s : WholeSegment) → Has (wholes (visits_before i)) s → Has (without_data list) s
   known_before i s m =
-      let found = In-map_out (λ (v : Visit D). whole_of v.segment) (visits_before i) s m in
-      subst (λ z. In z (without_data list)) (sym found.2)
-      (AllByRecursion-In (λ v. In (whole_of v.segment) (without_data list)) (visits_before i) found.0
-      (AllByRecursion-stably_sorted visit_cmp (λ v. In (whole_of v.segment) (without_data list)) (take i listed) (AllByRecursion-from_In (λ v. In (whole_of v.segment) (without_data list)) (take i listed) (λ v n.
-      In-take i (without_data list) (whole_of v.segment) (In-wholes (take i listed) _ (wholes_before rule (without_data list) list i) v n))))
+      let found = Has-map_out (λ (v : Visit D). whole_of v.segment) (visits_before i) s m in
+      subst (λ z. Has (without_data list) z) found.2
+      (AllByRecursion-at (λ v. Has (without_data list) (whole_of v.segment)) (visits_before i) found.0
+      (AllByRecursion-stably_sorted visit_cmp (λ v. Has (without_data list) (whole_of v.segment)) (take i listed) (AllByRecursion-from_Has (λ v. Has (without_data list) (whole_of v.segment)) (take i listed) (λ v n.
+      Has-take i (without_data list) (whole_of v.segment) (Has-wholes (take i listed) _ (wholes_before rule (without_data list) list i) v n))))
       found.1)

@@ -1,11 +1,13 @@
 // The fill strategies for counts of polygons. Upstream: `build::boolean`.
-ghost use Rattle.std.specs.Prelude.{◌≡◌, ◌+◌, refl, pos};
+ghost use Rattle.std.specs.Prelude.{◌≡◌, refl};
+ghost use Rattle.overlay_base.specs.BooleanWinding.{boolean_winding};
 ghost use Rattle.overlay_base.specs.declared.overlay_core.fill_rule.FillRule.TheVariants.{EvenOdd, NonZero, Positive, Negative};
-ghost use Rattle.overlay_build.specs.Fill.{is_inside, flag_value};
+ghost use Rattle.overlay_build.specs.Fill.{is_inside, flag_value, fill_byte};
 
 use crate::build::fill_strategy::{
     EvenOddStrategy, FillStrategy, NegativeStrategy, NonZeroStrategy, PositiveStrategy,
 };
+use overlay_base::overlay_core::fill_rule::FillRule;
 use overlay_base::segm::boolean::ShapeCountBoolean;
 use overlay_base::segm::fault::Fault;
 use overlay_base::segm::segment_fill::{
@@ -13,57 +15,37 @@ use overlay_base::segm::segment_fill::{
 };
 use overlay_base::segm::winding::WindingCount;
 
-/// Whether a place is inside the subject, and inside the clip.
-#[derive(Clone, Copy)]
-struct Inside {
-    subj: bool,
-    clip: bool,
+/// Whether a place is inside, round which the contours wind this often.
+fn is_inside(fill_rule: FillRule, winding: i32) -> bool
+    ensures { result ≡ is_inside fill_rule winding }
+{
+    match fill_rule {
+        FillRule::EvenOdd => winding % 2 != 0,
+        FillRule::NonZero => winding != 0,
+        FillRule::Positive => winding > 0,
+        FillRule::Negative => winding < 0,
+    }
 }
 
-impl Inside {
-    /// Where the numbers are odd.
-    fn odd(count: ShapeCountBoolean) -> Inside
-        ensures subj { result.subj ≡ is_inside EvenOdd count.subj }
-        ensures clip { result.clip ≡ is_inside EvenOdd count.clip }
-    {
-        Inside {
-            subj: count.subj % 2 != 0,
-            clip: count.clip % 2 != 0,
-        }
-    }
+/// The fill of a segment with these windings below and above it.
+fn fill_between(
+    fill_rule: FillRule,
+    bottom: ShapeCountBoolean,
+    top: ShapeCountBoolean,
+) -> SegmentFill
+    ensures { result ≡ fill_byte fill_rule (boolean_winding bottom) (boolean_winding top) 0 }
+{
+    number_if(is_inside(fill_rule, top.subj), SUBJ_TOP)
+        + number_if(is_inside(fill_rule, bottom.subj), SUBJ_BOTTOM)
+        + number_if(is_inside(fill_rule, top.clip), CLIP_TOP)
+        + number_if(is_inside(fill_rule, bottom.clip), CLIP_BOTTOM)
+}
 
-    /// Where the numbers are not 0.
-    fn non_zero(count: ShapeCountBoolean) -> Inside
-        ensures subj { result.subj ≡ is_inside NonZero count.subj }
-        ensures clip { result.clip ≡ is_inside NonZero count.clip }
-    {
-        Inside {
-            subj: count.subj != 0,
-            clip: count.clip != 0,
-        }
-    }
-
-    /// Where the numbers are above 0.
-    fn positive(count: ShapeCountBoolean) -> Inside
-        ensures subj { result.subj ≡ is_inside Positive count.subj }
-        ensures clip { result.clip ≡ is_inside Positive count.clip }
-    {
-        Inside {
-            subj: count.subj > 0,
-            clip: count.clip > 0,
-        }
-    }
-
-    /// Where the numbers are below 0.
-    fn negative(count: ShapeCountBoolean) -> Inside
-        ensures subj { result.subj ≡ is_inside Negative count.subj }
-        ensures clip { result.clip ≡ is_inside Negative count.clip }
-    {
-        Inside {
-            subj: count.subj < 0,
-            clip: count.clip < 0,
-        }
-    }
+/// A side's number where the side is inside.
+fn number_if(inside: bool, number: SegmentFill) -> SegmentFill
+    ensures { result ≡ flag_value inside number }
+{
+    if inside { number } else { NONE }
 }
 
 impl FillStrategy<ShapeCountBoolean> for EvenOddStrategy {
@@ -76,7 +58,7 @@ impl FillStrategy<ShapeCountBoolean> for EvenOddStrategy {
         bot: ShapeCountBoolean,
     ) -> Result<(ShapeCountBoolean, SegmentFill), Fault> {
         let top = bot.add(this)?;
-        Ok((top, fill_of(Inside::odd(top), Inside::odd(bot))))
+        Ok((top, fill_between(FillRule::EvenOdd, bot, top)))
     }
 }
 
@@ -90,7 +72,7 @@ impl FillStrategy<ShapeCountBoolean> for NonZeroStrategy {
         bot: ShapeCountBoolean,
     ) -> Result<(ShapeCountBoolean, SegmentFill), Fault> {
         let top = bot.add(this)?;
-        Ok((top, fill_of(Inside::non_zero(top), Inside::non_zero(bot))))
+        Ok((top, fill_between(FillRule::NonZero, bot, top)))
     }
 }
 
@@ -104,7 +86,7 @@ impl FillStrategy<ShapeCountBoolean> for PositiveStrategy {
         bot: ShapeCountBoolean,
     ) -> Result<(ShapeCountBoolean, SegmentFill), Fault> {
         let top = bot.add(this)?;
-        Ok((top, fill_of(Inside::positive(top), Inside::positive(bot))))
+        Ok((top, fill_between(FillRule::Positive, bot, top)))
     }
 }
 
@@ -118,21 +100,6 @@ impl FillStrategy<ShapeCountBoolean> for NegativeStrategy {
         bot: ShapeCountBoolean,
     ) -> Result<(ShapeCountBoolean, SegmentFill), Fault> {
         let top = bot.add(this)?;
-        Ok((top, fill_of(Inside::negative(top), Inside::negative(bot))))
+        Ok((top, fill_between(FillRule::Negative, bot, top)))
     }
-}
-
-fn fill_of(top: Inside, bottom: Inside) -> SegmentFill
-    ensures { result ≡ flag_value top.subj 1 + flag_value bottom.subj 2 + flag_value top.clip 4 + flag_value bottom.clip 8 }
-{
-    number_if(top.subj, SUBJ_TOP)
-        + number_if(bottom.subj, SUBJ_BOTTOM)
-        + number_if(top.clip, CLIP_TOP)
-        + number_if(bottom.clip, CLIP_BOTTOM)
-}
-
-fn number_if(inside: bool, number: SegmentFill) -> SegmentFill
-    ensures { result ≡ flag_value inside number }
-{
-    if inside { number } else { NONE }
 }

@@ -1,7 +1,6 @@
 // Builds the graphs of overlays, one after another. Upstream: `build::builder`, and the builds of `build::boolean`.
-ghost use Rattle.std.specs.Prelude.{◌≡◌, ⊤, [], Bool, true, Option, Some, None, map, IsTrue, IsFalse, OnOk, OnErr, IfOk, IfErr};
-ghost use mathlib.Core.Option.{none};
-ghost use Rattle.std.specs.Borrow.{sem, follows_so};
+ghost use Rattle.std.specs.Prelude.{◌≡◌, [], Bool, true, Option, Some, None, map, IsTrue, IsFalse, OnOk, OnErr, IfOk, IfErr};
+ghost use Rattle.std.specs.Borrow.{sem};
 ghost use Rattle.overlay_base.specs.Rules.{holds, keeps_fill};
 ghost use Rattle.overlay_base.specs.Planar.{is_arranged};
 ghost use Rattle.overlay_base.specs.Balance.{IsBalanced};
@@ -130,10 +129,7 @@ impl<N: GraphNode, I: OverlayInt, D: Copy> GraphBuilder<ShapeCountBoolean, N, I,
 }
 
 impl<I: OverlayInt, D: Copy> GraphBuilder<ShapeCountBoolean, OverlayNode, I, D> {
-    ghost use Rattle.overlay_build.specs.contracts.build.builder.GraphBuilder.{the_row};
-    ghost use Rattle.overlay_build.specs.contracts.build.graph_node.OverlayNode.{the_row as node_row};
-    ghost use Rattle.overlay_base.specs.contracts.segm.boolean.ShapeCountBoolean.{the_row as boolean_row};
-    ghost use Rattle.overlay_base.specs.contracts.segm.boolean.ShapeCountBooleanWindingCount.TheImpl.{ghosts as boolean_ghosts};
+    ghost use Rattle.overlay_build.specs.BuilderOf.{HoldsAnswer};
 
     /// The graph of the last build.
     fn graph(&self) -> OverlayGraph<'_, I, D>
@@ -145,6 +141,9 @@ impl<I: OverlayInt, D: Copy> GraphBuilder<ShapeCountBoolean, OverlayNode, I, D> 
     }
 
     /// The graph of all segments of an arrangement, with their fills under the rule.
+    ///
+    /// The segments have to be arranged, as `is_arranged` tests; their counts need not balance. The solver's strategy
+    /// does not change the answer.
     ///
     /// Answers `Fault::CountOutOfRange` where a winding above a segment leaves the range, and `Fault::Memory` where a
     /// growth is refused. Nodes and links are empty then, and the builder can be used again.
@@ -159,11 +158,7 @@ impl<I: OverlayInt, D: Copy> GraphBuilder<ShapeCountBoolean, OverlayNode, I, D> 
         ensures edge_data { IfOk result (λ graph. map (λ l. l.edge_data) graph.links.now ≡ data_by (λ _. true) fill_rule (data_segments_of segments.now)) }
         ensures in_range { OnOk result (IsFalse (tops_leave_range (segments_of segments.now))) }
         ensures out_of_range { IfErr result (λ fault. fault ≡ CountOutOfRange → IsTrue (tops_leave_range (segments_of segments.now))) }
-        ensures* after { sem 𝓛 (follows_so (the_row boolean_row node_row I.row D.row boolean_ghosts I.OverlayInt.own I.Ord.own I.PartialEq I.PartialOrd.own)
-            (the_row boolean_row node_row I.row D.row boolean_ghosts I.OverlayInt.own I.Ord.own I.PartialEq I.PartialOrd.own)
-            self.entry.ghost_name none (λ _ _. ⊤) (λ builder.
-            IfOk result (λ graph. (builder.nodes.items ≡ graph.nodes.now) × (builder.links.items ≡ graph.links.now))
-            × OnErr result ((builder.nodes.items ≡ []) × (builder.links.items ≡ [])))) }
+        ensures* after { sem 𝓛 (HoldsAnswer I.row D.row I.OverlayInt.own I.Ord.own I.PartialEq I.PartialOrd.own result self.entry) }
     {
         self.build(fill_rule, None, solver, segments)?;
         Ok(self.graph())
@@ -172,6 +167,8 @@ impl<I: OverlayInt, D: Copy> GraphBuilder<ShapeCountBoolean, OverlayNode, I, D> 
     /// The graph of the segments of an arrangement that the rule keeps: those of whose two sides it says different
     /// things. With balanced counts these sides are told by the windings in the columns beside a segment, and evenly
     /// many links meet at each node.
+    ///
+    /// The segments have to be arranged, as `is_arranged` tests. The solver's strategy does not change the answer.
     ///
     /// Answers `Fault::CountOutOfRange` where a winding above a segment leaves the range, and `Fault::Memory` where a
     /// growth is refused. Nodes and links are empty then, and the builder can be used again.
@@ -188,11 +185,7 @@ impl<I: OverlayInt, D: Copy> GraphBuilder<ShapeCountBoolean, OverlayNode, I, D> 
         ensures balanced { IsBalanced (segments_of segments.now) → IsBalancedOverlay (holds overlay_rule) fill_rule (segments_of segments.now) (graph_by (keeps_fill (holds overlay_rule)) fill_rule (segments_of segments.now)) }
         ensures in_range { OnOk result (IsFalse (tops_leave_range (segments_of segments.now))) }
         ensures out_of_range { IfErr result (λ fault. fault ≡ CountOutOfRange → IsTrue (tops_leave_range (segments_of segments.now))) }
-        ensures* after { sem 𝓛 (follows_so (the_row boolean_row node_row I.row D.row boolean_ghosts I.OverlayInt.own I.Ord.own I.PartialEq I.PartialOrd.own)
-            (the_row boolean_row node_row I.row D.row boolean_ghosts I.OverlayInt.own I.Ord.own I.PartialEq I.PartialOrd.own)
-            self.entry.ghost_name none (λ _ _. ⊤) (λ builder.
-            IfOk result (λ graph. (builder.nodes.items ≡ graph.nodes.now) × (builder.links.items ≡ graph.links.now))
-            × OnErr result ((builder.nodes.items ≡ []) × (builder.links.items ≡ [])))) }
+        ensures* after { sem 𝓛 (HoldsAnswer I.row D.row I.OverlayInt.own I.Ord.own I.PartialEq I.PartialOrd.own result self.entry) }
     {
         self.build(fill_rule, Some(overlay_rule), solver, segments)?;
         Ok(self.graph())

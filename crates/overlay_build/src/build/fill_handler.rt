@@ -50,7 +50,7 @@ pub struct StoreFillsHandler<'a> {
 }
 
 impl<'a> StoreFillsHandler<'a> {
-    /// A handler that writes into this list, which has to be as long as the list of the segments.
+    /// A handler that writes into this list. For a run it has to have a place for each segment.
     pub fn new(fills: &'a mut Vec<SegmentFill>) -> StoreFillsHandler<'a>
         ensures { result.fills ≡ fills.entry }
     {

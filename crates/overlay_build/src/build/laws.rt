@@ -15,8 +15,8 @@ pub fn fill_laws()
 
 /// With balanced counts, for every truth function of "inside the subject" and "inside the clip": evenly many links meet
 /// at each node of its graph, so that it is valid, and its graph is that of the segments whose two sides it tells apart,
-/// by the windings in the columns beside them. Without any condition: the links that a test keeps of the graph of all segments are those
-/// of the test's own graph, but for the numbers of nodes.
+/// by the windings in the columns beside them. Without any condition: the links that a test keeps of the graph of all
+/// segments are those of the test's own graph, but for the numbers of nodes.
 pub fn graph_laws()
     ensures even { NodesAreEven }
     ensures valid { GraphsAreValid }

@@ -4,7 +4,7 @@ ghost use Rattle.overlay_base.specs.Points.{point_cmp, stably_sorted};
 ghost use Rattle.overlay_base.specs.PointOf.{point_of};
 ghost use Rattle.overlay_base.specs.declared.segm.fault.Fault.TheVariants.{Memory};
 ghost use Rattle.overlay_base.specs.declared.overlay_core.link.OverlayLink.{OverlayLink};
-ghost use Rattle.overlay_build.specs.NodeOf.{WholeEnd, ends_of};
+ghost use Rattle.overlay_build.specs.EndOf.{WholeEnd, ends_of};
 ghost use Rattle.overlay_build.specs.GraphOf.{pairs_of_links, with_node, names_node};
 ghost use Rattle.overlay_build.specs.LinkEnds.{numbered_starts, numbered_ends};
 

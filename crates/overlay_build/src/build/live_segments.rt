@@ -48,7 +48,7 @@ pub trait LiveSegments<C: WindingCount, I: OverlayInt> {
         ensures sums { HoldSameFrom (I.whole x) (sums self.new) (sums self.old) }
         ensures time { (y : ℤ) → I.whole x ≤ℤ y → may_go_on_at self.new y };
 
-    /// Drops all segments.
+    /// Drops all segments. The next call may be at any `x`.
     fn clear(&mut self)
         ensures sums { sums self.new ≡ [] }
         ensures time { (y : ℤ) → may_go_on_at self.new y };

@@ -44,8 +44,9 @@ impl<C: WindingCount, I: OverlayInt> SweepRunner<C, I> {
     ///
     /// The winding below a segment is the one above the segment just before it by angle at the same start, or else the
     /// one above the segment directly below its start, or 0; the winding above adds the segment's count. Balance is no
-    /// condition; with it these windings are those of the columns of the plane. The segments have to be arranged, and
-    /// the handler has to take each of their indexes.
+    /// condition; with it these windings are those of the columns of the plane. The segments have to be arranged, as
+    /// `is_arranged` tests, and the handler has to take each of their indexes. The solver does not change the answer:
+    /// every strategy sweeps over the same list for now.
     ///
     /// Answers `Fault::CountOutOfRange` exactly where a winding above a segment that is handed out leaves the range,
     /// and `Fault::Memory` where a growth is refused. The handler is spent then; the runner can be used again.

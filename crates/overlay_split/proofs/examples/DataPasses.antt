@@ -1,7 +1,9 @@
 -- Passes with data, with the calls of the hooks.
-use Rattle.std.specs.Prelude.{◌≡◌, refl, ℕ, ◌+◌, ℤ, pos, Bool, true, false, List, [], ◌∷◌, if◌then◌else◌}
-use Rattle.overlay_base.specs.EdgeData.{DataSegment, MergeCall, Hooks}
-use Rattle.overlay_split.specs.DataPass.{data_after_passes}
+use Rattle.std.proofs.Common.{arith}
+use Rattle.std.specs.Prelude.{◌≡◌, refl, IsTrue, IsFalse, ℕ, zero, suc, ◌+◌, ◌<◌, ℤ, pos, Bool, true, false, List, [], ◌∷◌, if◌then◌else◌}
+use Rattle.overlay_base.specs.EdgeData.{DataSegment, MergeCall, Hooks, without_data}
+use Rattle.overlay_split.specs.DataPass.{data_after_passes, IsStoppedRun}
+use Rattle.overlay_split.specs.Run.{goes_on, leaves_range_within}
 use Rattle.overlay_base.proofs.examples.Words.{neg, pair, count}
 use Rattle.overlay_split.proofs.examples.Computing.{computing}
 use Rattle.overlay_split.proofs.examples.Runs.{high}
@@ -46,3 +48,34 @@ bent_is_reversed : data_after_passes hooks (high 256) (colored (pos 0) (pos 0) (
     ≡ ((colored (pos 0) (pos 0) (pos 1) (neg 50) (neg 1) (pos 0) red ∷ colored (pos 0) (pos 0) (pos 1) (pos 50) (pos 1) (pos 0) red ∷ colored (pos 0) (pos 0) (pos 100) (pos 1) (pos 1) (pos 0) red ∷ []), record { splits = 1; reversals = 1; merges = [] })
 unfolding computing
 bent_is_reversed = refl
+
+-- Two overlaps, of which the second is too large: the four splits were made, and the first overlap was merged.
+abbrev two_overlaps : List (DataSegment Color)
+two_overlaps = colored (pos 0) (pos 0) (pos 4) (pos 0) (pos 1) (pos 0) red ∷ colored (pos 2) (pos 0) (pos 6) (pos 0) (pos 0) (pos 1) green ∷ colored (pos 10) (pos 0) (pos 14) (pos 0) (pos 2147483647) (pos 0) red ∷ colored (pos 12) (pos 0) (pos 16) (pos 0) (pos 1) (pos 0) green ∷ []
+
+stopped_between : IsStoppedRun hooks (high 256) two_overlaps no_calls (record { splits = 4; reversals = 0; merges = record { lhs_data = green; lhs_count = count (pos 0) (pos 1); rhs_data = red; rhs_count = count (pos 1) (pos 0); out_count = count (pos 1) (pos 1) } ∷ [] })
+unfolding computing
+stopped_between = record {
+  in_pass = 1;
+  made = made;
+  fits = fits;
+  stopped = record { stop = 6; before_end = let less : 6 < 8 = omega arith in less; fits = refl; leaves = refl; store = refl };
+}
+  where
+    made : (j : ℕ) → j < 1 → IsTrue (goes_on (high 256) (without_data two_overlaps) j)
+    made zero h = refl
+    made (suc j) h = absurd (omega arith)
+
+    fits : (j : ℕ) → j < 1 → IsFalse (leaves_range_within (high 256) (without_data two_overlaps) j)
+    fits zero h = refl
+    fits (suc j) h = absurd (omega arith)
+
+-- the given segments themselves: the first two are one pair and too large, so that no hook was called
+stopped_at_once : IsStoppedRun hooks (high 256) (colored (pos 0) (pos 0) (pos 4) (pos 0) (pos 2147483647) (pos 0) red ∷ colored (pos 0) (pos 0) (pos 4) (pos 0) (pos 1) (pos 0) green ∷ []) no_calls no_calls
+unfolding computing
+stopped_at_once = record {
+  in_pass = 0;
+  made = λ j h. absurd (omega arith);
+  fits = λ j h. absurd (omega arith);
+  stopped = record { stop = 1; before_end = let less : 1 < 2 = omega arith in less; fits = refl; leaves = refl; store = refl };
+}

@@ -1,39 +1,31 @@
 -- The columns of points, cut off one by one from the front, and the path through them.
-use Rattle.std.proofs.Common.{◌≡◌, ℕ, suc, ◌+◌, ◌-◌, ◌<◌, Bool, true, false, List, [], ◌∷◌, ◌++◌, map, length, take, drop, get_or, reverse, Result, Ok, Err, OnOk, Some, None, refl, sym, ap, ap₂, subst, ◌∙◌, arith, append_assoc, add-one}
+use Rattle.std.proofs.Common.{◌≡◌, ℕ, suc, ◌+◌, ◌-◌, ◌<◌, Bool, true, false, cond, List, [], ◌∷◌, ◌++◌, map, length, take, drop, reverse, Result, Ok, Err, OnOk, Some, None, refl, sym, ap, ap₂, subst, ◌∙◌, arith, append_assoc}
 use Rattle.std.specs.Prelude.{ℤ, int_lt, if◌then◌else◌, unwrap_or, slice_get}
 use Rattle.std.proofs.lemmas.List.{map-append, reverse-append, take-map, drop-map, length-drop}
+use Rattle.std.specs.List.{prefix_len}
 use Rattle.std.specs.Ordering.{int_eq}
 use Rattle.std.proofs.lemmas.Int.{ints}
 use Rattle.std.proofs.lemmas.Cmp.{int_eq_equiv}
 use Rattle.std.proofs.lemmas.Bool.Decides.{Decides-int_eq}
-use Rattle.std.proofs.Math.Seq.{drop-cons}
 use Rattle.overlay_base.specs.Points.{Point}
-use Rattle.overlay_split.specs.Path.{onto_columns, columns_in_order, next_point, last_point, run_through, path_from, run_len, first_point}
+use Rattle.overlay_split.specs.Path.{onto_columns, columns_in_order, next_point, last_point, run_through, path_from, first_point}
 use Rattle.overlay_split.proofs.laws.Pieces.{last_point-append}
 
 -- ---- how long the first column is
 
-pub run_len-nil : (x : ℤ) → run_len x [] ≡ 0
-unfolding run_len
-run_len-nil x = refl
+-- how many points in front have this x
+abbrev run_len : ℤ → List Point → ℕ
+run_len x points = prefix_len (λ p. int_eq p.x x) points
 
 run_len-same : (x : ℤ) (p : Point) (points : List Point) → int_eq p.x x ≡ true → run_len x (p ∷ points) ≡ suc (run_len x points)
-unfolding run_len
-run_len-same x p points e = ap (λ b. if b then suc (run_len x points) else 0) e
+run_len-same x p points e = ap (λ b. cond b (1 + run_len x points) 0) e ∙ omega arith
 
 run_len-other : (x : ℤ) (p : Point) (points : List Point) → int_eq p.x x ≡ false → run_len x (p ∷ points) ≡ 0
-unfolding run_len
-run_len-other x p points e = ap (λ b. if b then suc (run_len x points) else 0) e
+run_len-other x p points e = ap (λ b. cond b (1 + run_len x points) 0) e
 
-module _ {X : Type 0} (f : X → Point) (x : ℤ) (xs : List X) (index : ℕ) (m : X) (lt : index < length xs) (is : m ≡ get_or xs index m) where
-  from_index : map f (drop index xs) ≡ f m ∷ map f (drop (index + 1) xs)
-  from_index = rw (drop-cons xs index m lt, ← is, add-one) refl
-
-  pub run_len-more : int_eq (f m).x x ≡ true → run_len x (map f (drop index xs)) ≡ suc (run_len x (map f (drop (index + 1) xs)))
-  run_len-more e = ap (run_len x) from_index ∙ run_len-same x (f m) _ e
-
-  pub run_len-end : int_eq (f m).x x ≡ false → run_len x (map f (drop index xs)) ≡ 0
-  run_len-end e = ap (run_len x) from_index ∙ run_len-other x (f m) _ e
+prefix_len-map : {X Y : Type 0} (q : Y → Bool) (f : X → Y) (xs : List X) → prefix_len q (map f xs) ≡ prefix_len (λ x. q (f x)) xs
+prefix_len-map q f [] = refl
+prefix_len-map q f (x ∷ xs) = ap (λ (n : ℕ). cond (q (f x)) (1 + n) 0) (prefix_len-map q f xs)
 
 -- ---- the first column
 
@@ -65,7 +57,7 @@ one_column p = refl
 
 -- of some points, the column of the first is its run
 pub columns-first : (p : Point) (points : List Point) → columns_in_order (p ∷ points) ≡ (p ∷ column_of points p.x) ∷ columns_in_order (past_column points p.x)
-columns-first p [] = columns-cons p [] ∙ ap (onto_columns p) columns-nil ∙ one_column p ∙ rw (run_len-nil p.x, columns-nil) refl
+columns-first p [] = columns-cons p [] ∙ ap (onto_columns p) columns-nil ∙ one_column p ∙ rw columns-nil refl
 columns-first p (q ∷ points) = by (int_eq q.x p.x) refl (columns-first q points)
   where
     by : (b : Bool) → int_eq q.x p.x ≡ b → columns_in_order (q ∷ points) ≡ (q ∷ column_of points q.x) ∷ columns_in_order (past_column points q.x)
@@ -176,14 +168,14 @@ last_point-read f a (x ∷ y ∷ xs) =
 -- ---- one turn of a loop that collects a path: g is the point of a mark, h that of a path's point
 
 module _ {X Y : Type 0} (g : X → Point) (h : Y → Point) where
-  pub IsCollected-next : (a b : Point) (all rest : List X) (old new : List Y) (first : X) (n : ℕ) → slice_get rest 0 ≡ Some first → n ≡ run_len (g first).x (map g rest)
+  pub IsCollected-next : (a b : Point) (all rest : List X) (old new : List Y) (first : X) (n : ℕ) → slice_get rest 0 ≡ Some first → n ≡ prefix_len (λ m. int_eq (g m).x (g first).x) rest
       → IsCollected a b (map g all) (map h old) (map g rest)
       → map h new ≡ map h old ++ run_through (last_point a (map h old)) (map g (take n rest)) (first_point (map g (drop n rest)) b)
       → IsCollected a b (map g all) (map h new) (map g (drop n rest))
   IsCollected-next a b all [] old new first n f run c put = cc
   IsCollected-next a b all (x ∷ xs) old new first n f run c put =
       let same : x ≡ first = cc in
-      let run' : n ≡ run_len (g x).x (map g (x ∷ xs)) = run ∙ ap (λ y. run_len (g y).x (map g (x ∷ xs))) (sym same) in
+      let run' : n ≡ run_len (g x).x (map g (x ∷ xs)) = run ∙ ap (λ y. prefix_len (λ m. int_eq (g m).x (g y).x) (x ∷ xs)) (sym same) ∙ sym (prefix_len-map (λ p. int_eq p.x (g x).x) g (x ∷ xs)) in
       let step = IsCollected-column a b (map g all) (map h old) (map g (x ∷ xs)) (g x) (map g xs) n refl run' c in
       let front : take n (map g (x ∷ xs)) ≡ map g (take n (x ∷ xs)) = take-map g n (x ∷ xs) in
       let back : drop n (map g (x ∷ xs)) ≡ map g (drop n (x ∷ xs)) = drop-map g n (x ∷ xs) in
@@ -192,11 +184,11 @@ module _ {X Y : Type 0} (g : X → Point) (h : Y → Point) where
       let moved : IsCollected a b (map g all) (map h new) (drop n (map g (x ∷ xs))) = subst (λ l. IsCollected a b (map g all) l (drop n (map g (x ∷ xs)))) written step in
       subst (λ l. IsCollected a b (map g all) (map h new) l) back moved
 
-pub fewer : {X : Type 0} (g : X → Point) (rest : List X) (first : X) (n : ℕ) → slice_get rest 0 ≡ Some first → n ≡ run_len (g first).x (map g rest) → length (drop n rest) < length rest
+pub fewer : {X : Type 0} (g : X → Point) (rest : List X) (first : X) (n : ℕ) → slice_get rest 0 ≡ Some first → n ≡ prefix_len (λ m. int_eq (g m).x (g first).x) rest → length (drop n rest) < length rest
 fewer g [] first n f run = cc
 fewer g (x ∷ xs) first n f run =
     let same : x ≡ first = cc in
-    let some : n ≡ suc (run_len (g x).x (map g xs)) = run ∙ ap (λ y. run_len (g y).x (map g (x ∷ xs))) (sym same) ∙ run_len-same (g x).x (g x) (map g xs) (int_eq_equiv.refl (g x).x) in
+    let some : n ≡ suc (run_len (g x).x (map g xs)) = run ∙ ap (λ y. prefix_len (λ m. int_eq (g m).x (g y).x) (x ∷ xs)) (sym same) ∙ sym (prefix_len-map (λ p. int_eq p.x (g x).x) g (x ∷ xs)) ∙ run_len-same (g x).x (g x) (map g xs) (int_eq_equiv.refl (g x).x) in
     omega (arith, length-drop n (x ∷ xs))
 
 pub none_left : {X : Type 0} (xs : List X) → slice_get xs 0 ≡ None → xs ≡ []

@@ -6,22 +6,22 @@ use Rattle.std.specs.Cmp.{IsTotalOrder}
 use Rattle.std.specs.List.{AllByRecursion}
 use Rattle.std.specs.List.Sorted.{IsStrictlySortedBy}
 use Rattle.std.specs.Ordering.{ordering_reverse}
-use Rattle.std.proofs.lemmas.Bool.{and_parts, and_from, ne_eqb, lt-ltb}
+use Rattle.std.proofs.lemmas.Bool.{and_parts, ne_eqb, lt-ltb}
 use Rattle.std.proofs.lemmas.List.Elements.{All-from_recursion, recursion_from_All}
 use Rattle.std.proofs.lemmas.List.Sums.{sum_by-cons}
 use Rattle.overlay_base.specs.Points.{pair_cmp}
 use Rattle.overlay_base.specs.Windings.{is_valid, is_not_empty}
-use Rattle.overlay_base.specs.Segments.{WholeSegment, pairs, are_ordered, is_map}
+use Rattle.overlay_base.specs.Segments.{WholeSegment, pairs, is_map}
 use Rattle.overlay_base.specs.Join.{join}
 use Rattle.overlay_base.proofs.laws.Maps.{is_map-join}
 use Rattle.overlay_base.specs.Planar.{is_splittable, is_pair_in_range, is_point_in_range}
 use Rattle.overlay_base.specs.InRange.{IsPairInRange}
-use Rattle.overlay_base.specs.SegmentOf.{x_segment_of, ends_of, segments_of, segment_of, data_segments_of, data_segment_of, winding_of}
+use Rattle.overlay_base.specs.SegmentOf.{x_segment_of, ends_of, segments_of, segment_of, data_segments_of, winding_of}
 use Rattle.overlay_base.specs.declared.segm.segment.Segment.{Segment}
 use Rattle.overlay_base.proofs.laws.Lists.{AllByRecursion-from_list_all}
 use Rattle.overlay_base.proofs.laws.Keys.{IsStrictlySortedBy-from_test}
 use Rattle.overlay_base.specs.EdgeData.{Hooks, without_data}
-use Rattle.overlay_base.proofs.laws.Merges.{without_data-map}
+use Rattle.overlay_base.proofs.laws.Views.{segments_ordered, segments_of-bare}
 use Rattle.overlay_base.proofs.laws.Points.{pair_cmp_total}
 use Rattle.overlay_base.proofs.laws.Apart.{pairs-map}
 use Rattle.overlay_split.specs.Marks.{Placing}
@@ -75,9 +75,6 @@ module _ {C I D : Type 0} {m : _} {w : _} {o : _} {e : _} {p : _} (xs : List (Se
           let in_range = (and_parts (is_pair_in_range (w.whole least) (w.whole greatest) (ends_of y)) (is_valid (segment_of y).count) (and_parts _ (is_not_empty (segment_of y).count) k.0).0).0 in
           let ends = and_parts (is_point_in_range (w.whole least) (w.whole greatest) (ends_of y).a) (is_point_in_range (w.whole least) (w.whole greatest) (ends_of y).b) in_range in
           (record { a_in_range = ends.0; b_in_range = ends.1 }, go ys k.1)
-
-  pub segments_of-bare : segments_of xs ≡ without_data (data_segments_of xs)
-  segments_of-bare = sym (without_data-map data_segment_of xs)
 
 -- ---- whether a mark is made
 
@@ -154,19 +151,6 @@ module _ {C I D S : Type 0} {m : _} {w : _} {o : _} {e : _} {p : _} (hooks : Hoo
       out [] k = tt
       out (z ∷ zs) k = (k.0, out zs k.1)
 
-module _ {C I D : Type 0} {m : _} {w : _} {o : _} {e : _} {p : _} (xs : List (Segment C I D m w o e p)) where
-  -- what may be split may be joined
-  pub are_valid-splittable : (least greatest : ℤ) → IsTrue (is_splittable least greatest (segments_of xs)) → All (λ (s : Segment C I D m w o e p). IsTrue (is_valid (winding_of s))) xs
-  are_valid-splittable least greatest h = All-from_recursion (λ (s : Segment C I D m w o e p). IsTrue (is_valid (winding_of s))) xs (go xs (IsUsable-each xs least greatest h))
-    where
-      go : (ys : List (Segment C I D m w o e p)) → AllByRecursion IsUsable (data_segments_of ys) → AllByRecursion (λ (s : Segment C I D m w o e p). IsTrue (is_valid (winding_of s))) ys
-      go [] k = tt
-      go (y ∷ ys) k = (k.0.1, go ys k.1)
-
-  -- and is a map then
-  pub is_map-joined : (ys : List WholeSegment) → ys ≡ join (segments_of xs) → IsTrue (is_map ys)
-  is_map-joined ys is = subst (λ (l : List WholeSegment). IsTrue (is_map l)) (sym is) (is_map-join (segments_of xs) (ordered xs))
-    where
-      ordered : (zs : List (Segment C I D m w o e p)) → IsTrue (are_ordered (segments_of zs))
-      ordered [] = refl
-      ordered (z ∷ zs) = and_from _ _ z.ordered (ordered zs)
+-- the joined segments of a list are a map
+pub is_map-joined : {C I D : Type 0} {m : _} {w : _} {o : _} {e : _} {p : _} (xs : List (Segment C I D m w o e p)) (ys : List WholeSegment) → ys ≡ join (segments_of xs) → IsTrue (is_map ys)
+is_map-joined xs ys is = subst (λ (l : List WholeSegment). IsTrue (is_map l)) (sym is) (is_map-join (segments_of xs) (segments_ordered xs))

@@ -3,7 +3,7 @@ use Rattle.std.proofs.Common.{◌≡◌, refl, sym, ap, ap₂, subst, ◌∙◌,
 use Rattle.std.specs.Prelude.{ℤ, ◌≤ℤ◌, ◌-ℤ◌, unsigned_abs, nat_le, nat_lt}
 use Rattle.std.specs.Int.{from_bool}
 use Rattle.std.specs.List.{list_all}
-use Rattle.std.proofs.lemmas.Bool.{and_parts, and_from, or_from, or_right, both_ways, cases_lt, lt-leb, le-leb, cond-true, cond-false}
+use Rattle.std.proofs.lemmas.Bool.{and_parts, and_from, or_from, both_ways, false_from_ne_true, cases_lt, lt-leb, le-leb, cond-true, cond-false}
 use Rattle.std.proofs.lemmas.List.{length-map}
 use Rattle.std.proofs.lemmas.List.Sums.{sum_by-cons}
 use Rattle.overlay_base.specs.Points.{Pair, is_within_box_of, distinct_in_order, stably_sorted, has_repeat}
@@ -12,12 +12,12 @@ use Rattle.overlay_base.specs.Segments.{WholeSegment, pairs, ends, is_map, are_o
 use Rattle.overlay_base.specs.Join.{summed, join, join_leaves_range, has_equal_pairs}
 use Rattle.overlay_base.specs.Planar.{is_planar, is_splittable, is_arranged}
 use Rattle.overlay_base.specs.Balance.{KeepsBalance}
-use Rattle.overlay_base.specs.EdgeData.{DataSegment, Hooks, without_data, merge_sorted, data_join}
+use Rattle.overlay_base.specs.EdgeData.{DataSegment, Hooks, without_data, merge_sorted, data_join, IsRefusedJoin}
 use Rattle.overlay_base.specs.SegmentOf.{segment_of, segments_of, data_segments_of}
 use Rattle.overlay_base.specs.declared.segm.segment.Segment.{Segment}
 use Rattle.overlay_split.specs.Marks.{Placing, snapping, settling}
 use Rattle.overlay_split.specs.Pass.{cut, pass, is_rounded, mark_count}
-use Rattle.overlay_split.specs.DataPass.{data_pass, data_after_passes}
+use Rattle.overlay_split.specs.DataPass.{data_cut, data_pass, data_after_passes, data_joined_in, IsStoppedRun}
 use Rattle.overlay_split.specs.Run.{Settings, placing_of_pass, radius_of_pass, after_passes, goes_on, has_marked, has_changed, IsPassCount, IsRun, leaves_range_within, LeavesRange}
 use Rattle.overlay_split.specs.ExactInput.{is_exact_input, KeepsCounts}
 use Rattle.overlay_split.specs.Potential.{spread, potential}
@@ -49,10 +49,29 @@ pub record IsAt {D S : Type 0} (hooks : Hooks D S) (settings : Settings) (least 
   pub map : IsTrue (is_map now)
   pub splittable : IsTrue (is_splittable least greatest now)
 
--- a join whose sums leave the range
-pub refused_at_start : (settings : Settings) (given : List WholeSegment) → IsTrue (join_leaves_range given) → LeavesRange settings given
-unfolding leaves_range_within
-refused_at_start settings given h = (0, λ j l. absurd (omega arith), h)
+module _ (settings : Settings) (given : List WholeSegment) where
+  -- the passes so far, and the next one
+  made_next : (k : ℕ) → ((j : ℕ) → j < k → IsTrue (goes_on settings given j)) → IsTrue (goes_on settings given k) → (j : ℕ) → j < suc k → IsTrue (goes_on settings given j)
+  made_next k made goes j h = ⊎_elim (λ (l : j < k). made j l) (λ (l : k ≤ j). let i : k ≡ j = omega arith in subst (λ (i : ℕ). IsTrue (goes_on settings given i)) i goes) (cases_lt j k)
+
+  leaves_later : (k n : ℕ) → IsTrue (leaves_range_within settings given k) → IsTrue (leaves_range_within settings given (k + n))
+  unfolding leaves_range_within
+  leaves_later k zero h = let e : k + 0 ≡ k = omega arith in rw e h
+  leaves_later k (suc n) h = let e : k + suc n ≡ suc (k + n) = omega arith in rw e (or_first (leaves_range_within settings given (k + n)) _ (leaves_later k n h))
+    where
+      or_first : (a b : Bool) → a ≡ true → (a || b) ≡ true
+      or_first a b h = rw h refl
+
+  -- sums that are in range so far were in range before
+  fits_before : (k : ℕ) → IsFalse (leaves_range_within settings given k) → (j : ℕ) → j < suc k → IsFalse (leaves_range_within settings given j)
+  fits_before k fits j h = false_from_ne_true _ (λ leaves.
+      let e : j + (k - j) ≡ k = omega (arith, h) in
+      both_ways (leaves_range_within settings given k) fits (subst (λ (i : ℕ). IsTrue (leaves_range_within settings given i)) e (leaves_later j (k - j) leaves)))
+
+-- a run of which the join of the given segments is refused
+pub stopped_at_start : {D S : Type 0} (hooks : Hooks D S) (settings : Settings) (data_given : List (DataSegment D)) (from left : S) → IsRefusedJoin hooks data_given from left → IsStoppedRun hooks settings data_given from left
+unfolding data_joined_in
+stopped_at_start hooks settings data_given from left stopped = record { in_pass = 0; made = λ j h. absurd (omega arith); fits = λ j h. absurd (omega arith); stopped = stopped }
 
 module _ {D S : Type 0} (hooks : Hooks D S) (settings : Settings) (least greatest : ℤ) (given : List WholeSegment) (data_given : List (DataSegment D)) (from : S) where
   -- before the first pass
@@ -108,12 +127,9 @@ module _ {D S : Type 0} (hooks : Hooks D S) (settings : Settings) (least greates
       map_next : IsTrue (is_map next)
       map_next = subst (λ (l : List WholeSegment). IsTrue (is_map l)) (sym arrived) (is_map-after_passes settings given (suc k) o)
 
-      below : (j : ℕ) → j < suc k → IsTrue (goes_on settings given j)
-      below j h = ⊎_elim (λ (l : j < k). at.made j l) (λ (l : k ≤ j). let i : k ≡ j = omega arith in subst (λ (i : ℕ). IsTrue (goes_on settings given i)) i (sym at.goes_is ∙ g)) (cases_lt j k)
-
       here : IsAt hooks settings least greatest given next data_given data_next from left (suc k) changed' goes'
       here = record {
-        made = below;
+        made = made_next settings given k at.made (sym at.goes_is ∙ g);
         arrangement_is = arrived;
         edge_data_is = d ∙ ap (λ r. r.0) with_data;
         store_is = r ∙ ap (λ r. r.1) with_data;
@@ -124,25 +140,22 @@ module _ {D S : Type 0} (hooks : Hooks D S) (settings : Settings) (least greates
         splittable = subst (λ (l : List WholeSegment). IsTrue (is_splittable least greatest l)) (sym e) (is_splittable-pass least greatest placing now at.splittable f (subst (λ (l : List WholeSegment). IsTrue (is_map l)) e map_next));
       }
 
-  -- a pass whose sums leave the range
-  pub refused_at : (now : List WholeSegment) (data_now : List (DataSegment D)) (store : S) (k : ℕ) (changed goes : Bool) (placing : Placing) →
-      IsAt hooks settings least greatest given now data_given data_now from store k changed goes → goes ≡ true → placing ≡ placing_of_pass settings (suc k) → IsTrue (join_leaves_range (cut placing now)) → LeavesRange settings given
-  unfolding leaves_range_within
-  refused_at now data_now store k changed goes placing at g p leaves = (
-    suc k,
-    λ j h. ⊎_elim (λ (l : j < k). at.made j l) (λ (l : k ≤ j). let i : k ≡ j = omega arith in subst (λ (i : ℕ). IsTrue (goes_on settings given i)) i (sym at.goes_is ∙ g)) (cases_lt j k),
-    or_right (leaves_range_within settings given k) _ (sym (ap₂ (λ (q : Placing) (l : List WholeSegment). join_leaves_range (cut q l)) p at.arrangement_is) ∙ leaves),
-  )
+  -- a pass that is refused
+  pub stopped_at : (now : List WholeSegment) (data_now : List (DataSegment D)) (store : S) (k : ℕ) (changed goes : Bool) (placing : Placing) (left : S) → given ≡ without_data data_given →
+      IsAt hooks settings least greatest given now data_given data_now from store k changed goes → goes ≡ true → placing ≡ placing_of_pass settings (suc k) →
+      (let pieces : List (DataSegment D) × S = data_cut hooks placing data_now store in IsRefusedJoin hooks pieces.0 pieces.1 left) → IsStoppedRun hooks settings data_given from left
+  unfolding data_joined_in
+  stopped_at now data_now store k changed goes placing left bare at g p stopped = record {
+    in_pass = suc k;
+    made = subst (λ (l : List WholeSegment). (j : ℕ) → j < suc k → IsTrue (goes_on settings l j)) bare (made_next settings given k at.made (sym at.goes_is ∙ g));
+    fits = subst (λ (l : List WholeSegment). (j : ℕ) → j < suc k → IsFalse (leaves_range_within settings l j)) bare (fits_before settings given k at.fits);
+    stopped = subst (λ (r : List (DataSegment D) × S). IsRefusedJoin hooks r.0 r.1 left) pieces stopped;
+  }
+    where
+      pieces : data_cut hooks placing data_now store ≡ data_joined_in hooks settings data_given from (suc k)
+      pieces = ap (λ (q : Placing). data_cut hooks q data_now store) p ∙ ap₂ (λ (l : List (DataSegment D)) (s : S). data_cut hooks (placing_of_pass settings (suc k)) l s) at.edge_data_is at.store_is
 
   -- ---- where it ends
-
-  leaves_later : (k n : ℕ) → IsTrue (leaves_range_within settings given k) → IsTrue (leaves_range_within settings given (k + n))
-  unfolding leaves_range_within
-  leaves_later k zero h = let e : k + 0 ≡ k = omega arith in rw e h
-  leaves_later k (suc n) h = let e : k + suc n ≡ suc (k + n) = omega arith in rw e (or_first (leaves_range_within settings given (k + n)) _ (leaves_later k n h))
-    where
-      or_first : (a b : Bool) → a ≡ true → (a || b) ≡ true
-      or_first a b h = rw h refl
 
   pub record HasEnded (now : List WholeSegment) (k : ℕ) (changed : Bool) : Type 0 where
     pub run : IsRun settings given now k changed
@@ -170,21 +183,19 @@ module _ {D S : Type 0} (hooks : Hooks D S) (settings : Settings) (least greates
         exact_input = λ exact. exact_input_keeps_counts settings given now k changed o exact run;
         bound = ⊎_elim (λ (l : end.0 < k). absurd (both_ways (goes_on settings given end.0) end.1.no_more (at.made end.0 l))) (λ (l : k ≤ end.0). let b = end.2 in omega (arith, b, l)) (cases_lt end.0 k);
         fits = λ leaves. ⊎_elim (λ (l : k < leaves.0). both_ways (goes_on settings given k) stops (leaves.1 k l))
-            (λ (l : leaves.0 ≤ k).
-            let e : leaves.0 + (k - leaves.0) ≡ k = omega (arith, l) in
-            both_ways (leaves_range_within settings given k) at.fits (subst (λ (i : ℕ). IsTrue (leaves_range_within settings given i)) e (leaves_later leaves.0 (k - leaves.0) leaves.2)))
+            (λ (l : leaves.0 ≤ k). both_ways (leaves_range_within settings given leaves.0) (fits_before settings given k at.fits leaves.0 (omega (arith, l))) leaves.2)
             (cases_lt k leaves.0);
       }
 
   -- an arranged list stays as it is
-  pub stays_arranged : (now : List WholeSegment) (data_now : List (DataSegment D)) (store : S) (k : ℕ) (changed goes : Bool) → without_data data_given ≡ given → IsTrue (is_arranged least greatest given) → IsTrue (are_ordered given) →
+  pub stays_arranged : (now : List WholeSegment) (data_now : List (DataSegment D)) (store : S) (k : ℕ) (changed goes : Bool) → given ≡ without_data data_given → IsTrue (is_arranged least greatest given) → IsTrue (are_ordered given) →
       IsAt hooks settings least greatest given now data_given data_now from store k changed goes → goes ≡ false → (changed ≡ false) × (data_now ≡ data_given) × (store ≡ from)
   unfolding is_arranged
   stays_arranged now data_now store k changed goes bare a o at g =
       let parts = and_parts _ _ a in
       let map = (and_parts _ _ parts.0).0 in
       let one = run_is_one settings given now given k _ changed false (has_ended now data_now store k changed goes o at g).run (arranged_is_unchanged settings given map parts.1) in
-      let same = data_after_passes-arranged hooks settings data_given from k (subst (λ (l : List WholeSegment). IsTrue (is_map l)) (sym bare) map) (subst (λ (l : List WholeSegment). IsTrue (is_planar l)) (sym bare) parts.1) in
+      let same = data_after_passes-arranged hooks settings data_given from k (subst (λ (l : List WholeSegment). IsTrue (is_map l)) bare map) (subst (λ (l : List WholeSegment). IsTrue (is_planar l)) bare parts.1) in
       (one.2, at.edge_data_is ∙ ap (λ r. r.0) same, at.store_is ∙ ap (λ r. r.1) same)
 
 -- an empty list stays as it is
@@ -197,7 +208,11 @@ at_rest hooks settings least greatest [] (s ∷ data_given) from h k = absurd (o
 
 -- ---- the radius, and the kind of a pass
 
-pub snaps : (settings : Settings) (k current : ℕ) → k < settings.limit → min current settings.cap ≡ min (settings.start + k * settings.progression) settings.cap → snapping (2 ^ min current settings.cap) ≡ placing_of_pass settings (suc k)
+-- an exponent that stops at a greatest number, which is beyond the cap
+capped : (n most current cap : ℕ) → current ≡ min n most → cap ≤ most → min current cap ≡ min n cap
+capped n most current cap e h = omega (arith, e, h)
+
+snaps : (settings : Settings) (k current : ℕ) → k < settings.limit → min current settings.cap ≡ min (settings.start + k * settings.progression) settings.cap → snapping (2 ^ min current settings.cap) ≡ placing_of_pass settings (suc k)
 unfolding placing_of_pass
 snaps settings k current h e =
     let one : suc k - 1 ≡ k = omega arith in
@@ -205,26 +220,20 @@ snaps settings k current h e =
     ∙ ap (λ (i : ℕ). snapping (2 ^ min (settings.start + i * settings.progression) settings.cap)) one
     ∙ ap (λ (i : ℕ). snapping (2 ^ i)) (sym e))
 
+-- the same of a radius that has grown with a counter
+pub snaps_at : (settings : Settings) (placing : Placing) (k counter current most : ℕ) → k ≡ counter → counter < settings.limit → settings.cap ≤ most → current ≡ min (settings.start + counter * settings.progression) most →
+    placing ≡ snapping (2 ^ min current settings.cap) → placing ≡ placing_of_pass settings (suc k)
+snaps_at settings placing k counter current most m h l e p =
+    p ∙ snaps settings k current (omega (arith, h, m)) (capped (settings.start + counter * settings.progression) most current settings.cap e l ∙ ap (λ (i : ℕ). min (settings.start + i * settings.progression) settings.cap) (sym m))
+
 pub settles : (settings : Settings) (k : ℕ) → settings.limit ≤ k → settling ≡ placing_of_pass settings (suc k)
 unfolding placing_of_pass
 settles settings k h = sym (cond-false (nat_le (suc k) settings.limit) (snapping (radius_of_pass settings (suc k))) settling (lt-leb (suc k) settings.limit (omega (arith, h))))
-
--- an exponent that stops at a greatest number, which is beyond the cap
-pub capped : (n most current cap : ℕ) → current ≡ min n most → cap ≤ most → min current cap ≡ min n cap
-capped n most current cap e h = omega (arith, e, h)
 
 pub exponent_grows : (a i p most e next step : ℕ) → e ≡ min (a + i * p) most → step ≡ p → next ≡ min (e + step) most → next ≡ min (a + (i + 1) * p) most
 exponent_grows a i p most e next step h k l = let m : (i + 1) * p ≡ i * p + p = omega arith in omega (arith, h, k, l, m)
 
 -- ---- segments of a list
-
-pub segments_ordered : {C I D : Type 0} {m : _} {w : _} {o : _} {e : _} {p : _} (xs : List (Segment C I D m w o e p)) → IsTrue (are_ordered (segments_of xs))
-segments_ordered [] = refl
-segments_ordered (x ∷ xs) = and_from _ _ x.ordered (segments_ordered xs)
-
-pub without_data-is : {C I D : Type 0} {m : _} {w : _} {o : _} {e : _} {p : _} (xs : List (Segment C I D m w o e p)) → without_data (data_segments_of xs) ≡ segments_of xs
-without_data-is [] = refl
-without_data-is (x ∷ xs) = ap (λ (l : List WholeSegment). segment_of x ∷ l) (without_data-is xs)
 
 -- the test of two segments, on a list and on its whole segments
 pub goes_on-is : {C I D : Type 0} {m : _} {w : _} {o : _} {e : _} {p : _} (xs : List (Segment C I D m w o e p)) (goes rounded : Bool) → goes ≡ (nat_le 2 (length xs) && rounded) → goes ≡ (nat_le 2 (length (segments_of xs)) && rounded)

@@ -3,7 +3,7 @@
 ghost use Rattle.overlay_split.specs.Laws.{AnswersAreMarks, NoMarkIsAnEnd, NeverThreeZeros, ExactIsOnBothLines, TargetDoesNotMatter, PointsLieInBothBoxes, SnappedEndsAreOffTheLine, NoEndOfBoth, RoundingsAreAsMeant};
 ghost use Rattle.overlay_split.specs.Laws.{NumbersAreOdd, PiecesTelescope, PassKeepsLosses, PassKeepsBalance, RunKeepsBalance, RunKeepsPolygons};
 ghost use Rattle.overlay_split.specs.Laws.{SettlingLowers, RunEnds, RunIsOne, ExactPassIsPlanar, PlanarPassIsUnchanged, RunIsPlanar, ArrangedIsUnchanged, ResultIsUnchanged};
-ghost use Rattle.overlay_split.specs.Laws.{StaysInBox, ExactInputKeepsCounts, ExactRunsAgree, DataIsBeside, UnmarkedDataIsUnchanged, ArrangedDataIsUnchanged};
+ghost use Rattle.overlay_split.specs.Laws.{StaysInBox, ExactInputKeepsCounts, ExactRunsAgree, DataIsBeside, UnmarkedDataIsUnchanged, ArrangedDataIsUnchanged, StoppedRunLeavesRange, StoppedRunIsOne};
 
 /// The answer for two pairs, the smaller as target, stands for the marks that a pass puts on both, and no mark is an
 /// end of the pair that it marks.
@@ -85,4 +85,10 @@ pub fn data_pass_laws<D, S>()
     ensures beside { DataIsBeside D S }
     ensures unmarked { UnmarkedDataIsUnchanged D S }
     ensures arranged { ArrangedDataIsUnchanged D S }
+{}
+
+/// Where a run was refused some sum leaves the range, and there is one store that such a run leaves.
+pub fn stopped_run_laws<D, S>()
+    ensures leaves_range { StoppedRunLeavesRange D S }
+    ensures one { StoppedRunIsOne D S }
 {}

@@ -2,11 +2,10 @@
 // and `split::solver`, where marks are applied.
 ghost use Rattle.std.specs.Prelude.{◌≡◌, [], IsTrue, IsFalse, IfOk, IfErr, OnOk, OnErr, nat_lt};
 ghost use Rattle.overlay_base.specs.declared.segm.fault.Fault.TheVariants.{Memory, CountOutOfRange};
-ghost use Rattle.overlay_base.specs.Points.{pair_cmp, stably_sorted};
 ghost use Rattle.overlay_base.specs.Segments.{is_map};
 ghost use Rattle.overlay_base.specs.Planar.{is_splittable};
 ghost use Rattle.overlay_base.specs.Join.{join_leaves_range};
-ghost use Rattle.overlay_base.specs.EdgeData.{IsStoppedJoin};
+ghost use Rattle.overlay_base.specs.EdgeData.{IsRefusedJoin};
 ghost use Rattle.overlay_base.specs.HooksOf.{hooks_of};
 ghost use Rattle.overlay_base.specs.SegmentOf.{segments_of, data_segments_of};
 ghost use Rattle.overlay_split.specs.Pass.{cut, pass, is_rounded, mark_count};
@@ -61,8 +60,8 @@ pub struct Passed {
 /// empty, and a squared radius has to be at least 1.
 ///
 /// Answers `Fault::CountOutOfRange` only where a running sum of the counts of pieces on one pair leaves
-/// `-i32::MAX..=i32::MAX`, and, memory being found, wherever one does. Where a call is refused the list is empty, and
-/// the store is what the hooks called before left.
+/// `-i32::MAX..=i32::MAX`, and, memory being found, wherever one does; the store is then what the hooks called before
+/// that sum left. Where a call is refused the list is empty.
 pub fn pass<C: WindingCount, I: OverlayInt, D: OverlayEdgeData<C>>(
     list: &mut Vec<Segment<C, I, D>>,
     placing: Placing,
@@ -88,7 +87,7 @@ pub fn pass<C: WindingCount, I: OverlayInt, D: OverlayEdgeData<C>>(
     ensures stopped { IfErr result (λ fault. fault ≡ CountOutOfRange →
         (let hooks = hooks_of C.counted D.reversed_gives D.split_gives D.merge_gives in
         let pieces = data_cut hooks (placing_of placing) (data_segments_of list.old.items) store.old in
-        IsStoppedJoin hooks (stably_sorted (λ s t. pair_cmp s.pair t.pair) pieces.0) pieces.1 store.new)) }
+        IsRefusedJoin hooks pieces.0 pieces.1 store.new)) }
 {
     let passed = match cut(list, placing, buffers, store) {
         Ok(passed) => passed,

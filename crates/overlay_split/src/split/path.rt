@@ -1,7 +1,9 @@
 // The path of a segment through its marks. Upstream: `sort_sub_marks` of `split::solver`.
 ghost use Rattle.std.specs.Prelude.{◌≡◌, ◌++◌, ◌≤◌, ◌<◌, length, OnOk, map, reverse, int_lt};
+ghost use Rattle.std.specs.List.{prefix_len};
+ghost use Rattle.std.specs.Ordering.{int_eq};
 ghost use Rattle.overlay_base.specs.PointOf.{point_of};
-ghost use Rattle.overlay_split.specs.Path.{columns_in_order, path_from, run_through, last_point, first_point, run_len};
+ghost use Rattle.overlay_split.specs.Path.{columns_in_order, path_from, run_through, last_point, first_point};
 ghost use Rattle.overlay_split.specs.MarkOf.{points_of, mark_points_of};
 
 use crate::split::line_mark::LineMark;
@@ -36,7 +38,7 @@ pub fn collect_path<I: OverlayInt>(
 
 /// How many marks in front have this x.
 fn column_len<I: OverlayInt>(x: I, marks: &[LineMark<I>]) -> usize
-    ensures run { result ≡ run_len (I.whole x) (mark_points_of I.whole marks.now) }
+    ensures run { result ≡ prefix_len (λ m. int_eq (I.whole m.point.x) (I.whole x)) marks.now }
     ensures within { result ≤ length marks.now }
 {
     for (index, mark) in marks.iter().enumerate() {

@@ -8,12 +8,13 @@ ghost use Rattle.overlay_base.specs.Segments.{pairs, ends, is_map};
 ghost use Rattle.overlay_base.specs.Planar.{is_splittable, is_arranged};
 ghost use Rattle.overlay_base.specs.Join.{join, join_leaves_range};
 ghost use Rattle.overlay_base.specs.Balance.{KeepsBalance};
+ghost use Rattle.overlay_base.specs.EdgeData.{IsRefusedJoin};
 ghost use Rattle.overlay_base.specs.HooksOf.{hooks_of};
 ghost use Rattle.overlay_base.specs.SegmentOf.{segments_of, data_segments_of};
 ghost use Rattle.overlay_base.specs.Radius.{exponent_of, squared_radius};
 ghost use Rattle.overlay_split.specs.Marks.{snapping};
 ghost use Rattle.overlay_split.specs.Pass.{cut, pass, is_rounded, mark_count};
-ghost use Rattle.overlay_split.specs.DataPass.{data_pass, data_after_passes};
+ghost use Rattle.overlay_split.specs.DataPass.{data_cut, data_pass, data_after_passes, IsStoppedRun};
 ghost use Rattle.overlay_split.specs.Run.{IsRun, LeavesRange, after_passes};
 ghost use Rattle.overlay_split.specs.ExactInput.{is_exact_input, KeepsCounts};
 ghost use Rattle.overlay_split.specs.Potential.{potential};
@@ -135,8 +136,8 @@ impl<I: OverlayInt> SplitSolver<I> {
     ///
     /// Answers `Fault::CountOutOfRange` only where a running sum of counts on one pair of ends leaves
     /// `-i32::MAX..=i32::MAX`, in the given list or among the pieces of a pass, and, memory being found, wherever one
-    /// does. Where a call is refused the list is empty, `passes` is as it was, and the splitter can be used again; the
-    /// store is what the hooks called before left.
+    /// does; the store is then what the hooks called before that sum left. Where a call is refused the list is empty,
+    /// `passes` is as it was, and the splitter can be used again.
     pub fn split_segments_with_store<C: WindingCount, D: OverlayEdgeData<C>>(
         &mut self,
         list: &mut Vec<Segment<C, I, D>>,
@@ -162,6 +163,9 @@ impl<I: OverlayInt> SplitSolver<I> {
         ensures fits { OnOk result (LeavesRange (settings_of I.BITS solver.now self.old) (segments_of list.old.items) → ⊥) }
         ensures refused { IfErr result (λ fault. fault ≡ CountOutOfRange → LeavesRange (settings_of I.BITS solver.now self.old) (segments_of list.old.items)) }
         ensures emptied { OnErr result (list.new.items ≡ []) }
+        ensures stopped { IfErr result (λ fault. fault ≡ CountOutOfRange →
+            (let hooks = hooks_of C.counted D.reversed_gives D.split_gives D.merge_gives in
+            IsStoppedRun hooks (settings_of I.BITS solver.now self.old) (data_segments_of list.old.items) store.old store.new)) }
         ensures passes { OnErr result (passes_of self.new ≡ passes_of self.old) }
         ensures limit { snap_limit_of self.new ≡ snap_limit_of self.old }
         ensures empty { list.old.items ≡ [] → (result ≡ Ok false) × (passes_of self.new ≡ 0) }
@@ -220,8 +224,11 @@ impl Progress {
         ensures goes_on { IfOk result (λ after. after.goes_on ≡ (nat_le 2 (length list.new.items) && is_rounded (segments_of list.old.items))) }
 
         ensures fits { OnOk result (IsFalse (join_leaves_range (cut (placing_of placing) (segments_of list.old.items)))) }
-        ensures refused { IfErr result (λ fault. fault ≡ CountOutOfRange → IsTrue (join_leaves_range (cut (placing_of placing) (segments_of list.old.items)))) }
         ensures emptied { OnErr result (list.new.items ≡ []) }
+        ensures stopped { IfErr result (λ fault. fault ≡ CountOutOfRange →
+            (let hooks = hooks_of C.counted D.reversed_gives D.split_gives D.merge_gives in
+            let pieces = data_cut hooks (placing_of placing) (data_segments_of list.old.items) store.old in
+            IsRefusedJoin hooks pieces.0 pieces.1 store.new)) }
     {
         let passed = pass(list, placing, buffers, store)?;
         Ok(Progress {

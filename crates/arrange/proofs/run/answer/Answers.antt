@@ -1,8 +1,18 @@
 use Rattle.std.proofs.Common.{◌≡◌, ap, map, string_bytes}
 use Rattle.std.specs.Prelude.{IfSome}
 use Rattle.arrange.specs.Run.{least_of, greatest_of, bits_of}
-use Rattle.arrange.proofs.Runs.{texts, stops}
+use Rattle.arrange.proofs.Runs.{if_err, on_ok, texts, stops, stops_at_input}
 use Rattle.arrange.proofs.run.answer.Goals as goal
+
+pub returns-in_err-bytes-clause-stopped : goal.returns-in_err-bytes-clause-stopped
+returns-in_err-bytes-clause-stopped g c =
+    if_err _ _ _ c.from_residual-in_err-bytes.ensures.1 (stops_at_input (map string_bytes c.args.words.now) (g.R.Read.remaining c.args.input.now) c.in_err-bytes.field-0.0 (c.in_ok-command.command, c.in_ok-command.settings, c.in_ok-command.ensures.asked) c.in_err-bytes.ensures.stopped)
+
+pub returns-in-I16-clause-asked : goal.returns-in-I16-clause-asked
+returns-in-I16-clause-asked g c = on_ok c.answer_with.result (c.in_ok-command.command, c.in_ok-command.settings, c.in_ok-command.ensures.asked)
+
+pub returns-clause-asked : goal.returns-clause-asked
+returns-clause-asked g c = on_ok c.answer_with-in-I32.result (c.in_ok-command.command, c.in_ok-command.settings, c.in_ok-command.ensures.asked)
 
 pub returns-in-I16-clause-text : goal.returns-in-I16-clause-text
 returns-in-I16-clause-text g c =

@@ -1,7 +1,10 @@
 use Rattle.std.proofs.Common.{◌∙◌, sym, ap, map, string_bytes}
 use Rattle.std.specs.Result.{is_ok}
-use Rattle.arrange.proofs.Runs.{done}
+use Rattle.arrange.proofs.Runs.{on_ok, done}
 use Rattle.arrange.proofs.run.run.Goals as goal
+
+pub returns-clause-asked : goal.returns-clause-asked
+returns-clause-asked g c = on_ok c.map_err-2.result c.in_ok-text.ensures.asked
 
 pub returns-clause-done : goal.returns-clause-done
 returns-clause-done g c =

@@ -1,5 +1,5 @@
 use Rattle.std.proofs.Common.{◌≡◌, ◌∙◌, ap, sym, refl, map, filter, drop, List, [], ◌∷◌, ◌++◌, ◌+◌, true, false}
-use Rattle.std.proofs.lemmas.List.{map-append}
+use Rattle.std.proofs.lemmas.List.{drop_all, map-append}
 use Rattle.overlay_base.specs.PointOf.{point_of}
 use Rattle.overlay_base.specs.SegmentOf.{segment_of, data_segment_of, edge_data_of}
 use Rattle.overlay_base.specs.declared.geom.id_point.IdPoint.{IdPoint}
@@ -9,7 +9,7 @@ use Rattle.overlay_build.specs.Graph.{Filled}
 use Rattle.overlay_build.specs.GraphOf.{kept_of, link_of}
 use Rattle.overlay_build.specs.Laws.{without_nodes}
 use Rattle.overlay_build.specs.RuleOf.{keeps_by}
-use Rattle.overlay_build.proofs.laws.NodeLists.{rest-next, rest-over}
+use Rattle.overlay_build.proofs.laws.NodeLists.{rest-next}
 use Rattle.overlay_build.proofs.laws.KeptLinks.{kept_more, kept_skip, kept_over, fill_in, filled_in, fill_at, kept_are_filled, kept_data}
 use Rattle.overlay_build.proofs.build.kept_links.collect_links.Goals as goal
 use Rattle.overlay_build.proofs.build.kept_links.collect_links.Goals.{then-is_kept+in_ok-push, else-is_kept}
@@ -42,10 +42,10 @@ loop-index-preserved g c = λ fill_rule e.
 
 pub returns-clause-kept : goal.returns-clause-kept
 returns-clause-kept g c = λ fill_rule e.
-    kept_over _ _ _ _ _ (rest-over c.args.segments.now c.loop-index.index c.loop-index-test.false) (c.loop-index.invariant fill_rule e).0
+    kept_over _ _ _ _ _ (drop_all c.loop-index.index c.args.segments.now c.loop-index-test.false) (c.loop-index.invariant fill_rule e).0
     ∙ kept_are_filled segment_of data_segment_of (λ x. refl) (keeps_by c.args.rule) fill_rule c.args.segments.now
 
 pub returns-clause-data : goal.returns-clause-data
 returns-clause-data g c = λ fill_rule e.
-    kept_over _ _ _ _ _ (rest-over c.args.segments.now c.loop-index.index c.loop-index-test.false) (c.loop-index.invariant fill_rule e).1
+    kept_over _ _ _ _ _ (drop_all c.loop-index.index c.args.segments.now c.loop-index-test.false) (c.loop-index.invariant fill_rule e).1
     ∙ kept_data segment_of data_segment_of (λ x. refl) (keeps_by c.args.rule) fill_rule c.args.segments.now

@@ -2,7 +2,7 @@ use Rattle.std.proofs.Common.{◌∙◌, ap, sym, List, [], ◌∷◌, ◌++◌,
 use Rattle.std.proofs.lemmas.List.{map-append, append-nil}
 use Rattle.overlay_base.specs.PointOf.{point_of}
 use Rattle.overlay_base.specs.declared.overlay_core.link.OverlayLink.{OverlayLink}
-use Rattle.overlay_build.specs.NodeOf.{WholeEnd, end_of, ends_of}
+use Rattle.overlay_build.specs.EndOf.{WholeEnd, end_of, ends_of}
 use Rattle.overlay_build.specs.GraphOf.{link_of, pairs_of_links}
 use Rattle.overlay_build.specs.LinkEnds.{numbered_starts, numbered_ends}
 use Rattle.overlay_build.proofs.laws.NodeLists.{numbered-all, numbered-more}

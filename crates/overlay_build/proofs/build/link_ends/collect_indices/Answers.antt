@@ -1,6 +1,6 @@
 use Rattle.std.proofs.Common.{◌∙◌, ◌-◌, ap, sym, map, ℕ, List, [], ◌∷◌, ◌++◌}
 use Rattle.overlay_base.specs.declared.geom.end.End.{End}
-use Rattle.overlay_base.proofs.laws.Lists.{take-all}
+use Rattle.std.proofs.lemmas.List.{take_all}
 use Rattle.overlay_build.proofs.laws.NodeLists.{map-take_next, indexes-whole}
 use Rattle.overlay_build.proofs.build.link_ends.collect_indices.Goals as goal
 
@@ -13,5 +13,5 @@ loop-end-preserved g c =
 pub returns-clause-indexes : goal.returns-clause-indexes
 returns-clause-indexes g c =
     c.loop-end.invariant
-    ∙ ap (map (λ (e : End g.row.I.Denot). e.index)) (take-all c.loop-end.end-index _ c.loop-end-test.false)
+    ∙ ap (map (λ (e : End g.row.I.Denot). e.index)) (take_all c.loop-end.end-index _ c.loop-end-test.false)
     ∙ indexes-whole g.I.OverlayInt.whole (c.args.next - c.args.start) c.args.start c.args.ends.now

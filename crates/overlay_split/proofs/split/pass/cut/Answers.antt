@@ -7,7 +7,8 @@ use Rattle.overlay_base.specs.HooksOf.{hooks_of}
 use Rattle.overlay_base.specs.SegmentOf.{segments_of, data_segments_of, data_segment_of, winding_of, ends_of}
 use Rattle.overlay_split.specs.PlacingOf.{placing_of}
 use Rattle.overlay_split.specs.MarkOf.{AreMarks, mark_of, marks_of, points_of, mark_points_of}
-use Rattle.overlay_split.proofs.laws.Ready.{IsSortedByKey-is_map, IsPairInRange-each, IsUsable-each, segments_of-bare, marks_tell}
+use Rattle.overlay_base.proofs.laws.Views.{segments_of-bare}
+use Rattle.overlay_split.proofs.laws.Ready.{IsSortedByKey-is_map, IsPairInRange-each, IsUsable-each, marks_tell}
 use Rattle.std.specs.Vec.{vec_len}
 use Rattle.overlay_split.proofs.laws.CutWalks.{IsAtMark-from, IsCutSoFar-start, marks_in, path_collected, path_steps, path_is, IsCutSoFar-end, fewer_left}
 use Rattle.overlay_split.proofs.laws.Columns.{none_left}

@@ -6,7 +6,8 @@ use Rattle.overlay_split.specs.PlacingOf.{placing_of}
 use Rattle.overlay_split.specs.Pass.{cut, pass}
 use Rattle.overlay_split.specs.DataPass.{data_pass}
 use Rattle.overlay_split.proofs.laws.DataPasses.{bare-data_pass}
-use Rattle.overlay_split.proofs.laws.Ready.{segments_of-bare, are_valid-cut, cut_as_segments}
+use Rattle.overlay_base.proofs.laws.Views.{segments_of-bare}
+use Rattle.overlay_split.proofs.laws.Ready.{are_valid-cut, cut_as_segments}
 use Rattle.overlay_split.proofs.split.pass.pass.Goals as goal
 
 pub join_with_store-requires : goal.join_with_store-requires

@@ -1,11 +1,11 @@
 use Rattle.std.proofs.Common.{◌∙◌, ap, ap₂, sym, length, Bool}
 use Rattle.std.specs.Prelude.{nat_le}
-use Rattle.std.proofs.lemmas.List.{length-map}
+use Rattle.std.proofs.lemmas.List.{drop_all, length-map}
 use Rattle.overlay_base.proofs.laws.Rests.{passes, fails, none_left}
 use Rattle.overlay_build.specs.Graph.{Node}
 use Rattle.overlay_build.specs.GraphOf.{graph_with, link_of}
 use Rattle.overlay_build.specs.NodeIndexes.{indexes_of}
-use Rattle.overlay_build.proofs.laws.NodeLists.{is_sound, rest-next, rest-over, sound_is_valid}
+use Rattle.overlay_build.proofs.laws.NodeLists.{is_sound, rest-next, sound_is_valid}
 use Rattle.overlay_build.proofs.build.graph.OverlayGraph.validate.Goals as goal
 
 pub loop-node-preserved : goal.loop-node-preserved
@@ -25,6 +25,6 @@ pub returns : goal.returns
 returns g c =
     let enough : Bool = nat_le (length c.args.self.now.nodes.now) (length c.args.self.now.links.now) in
     let holds = c.args.self.now.holds in
-    none_left (λ n. is_sound enough (indexes_of n)) c.args.self.now.nodes.now _ c.loop-node.invariant (rest-over c.args.self.now.nodes.now c.loop-node.node-index c.loop-node-test.false)
+    none_left (λ n. is_sound enough (indexes_of n)) c.args.self.now.nodes.now _ c.loop-node.invariant (drop_all c.loop-node.node-index c.args.self.now.nodes.now c.loop-node-test.false)
     ∙ sound_is_valid indexes_of c.args.self.now.nodes.now (graph_with g.I.OverlayInt.whole c.args.self.now.links.now) enough holds.same_nodes
     (ap₂ nat_le (sym (length-map c.args.self.now.nodes.now indexes_of) ∙ ap length holds.same_nodes ∙ length-map _ (λ (n : Node). n.links)) (sym (length-map c.args.self.now.links.now (link_of g.I.OverlayInt.whole)) ∙ ap length holds.same_links))

@@ -1,82 +1,85 @@
-use Rattle.std.proofs.Common.{◌≡◌, ◌∙◌, ap, sym, subst, filter}
-use Rattle.std.specs.Prelude.{option_map, All, ◌≤ℤ◌}
+use Rattle.std.proofs.Common.{◌≡◌, ◌∙◌, ap, sym, subst, filter, List, map, ℕ, ◌≤◌, length, take}
+use Rattle.std.specs.Prelude.{ℤ, Option, option_map, All, ◌≤ℤ◌}
 use Rattle.std.specs.Option.{option_map_or}
-use Rattle.std.proofs.lemmas.List.{length-map}
+use Rattle.std.proofs.lemmas.List.{length-map, take_all}
 use Rattle.std.specs.Ordering.{is_lt, ordering_then}
 use Rattle.overlay_base.specs.Below.{height_cmp, angle_cmp, under_segment_order}
+use Rattle.overlay_base.specs.Points.{Point}
 use Rattle.overlay_base.specs.PointOf.{point_of}
 use Rattle.overlay_base.specs.Segments.{WholeSegment}
-use Rattle.overlay_base.proofs.laws.Lists.{filter-map, take-all}
+use Rattle.overlay_base.specs.Windings.{Winding}
+use Rattle.overlay_base.proofs.laws.Lists.{filter-map, Has}
 use Rattle.overlay_build.specs.EntryOf.{entry_of, entries_of}
-use Rattle.overlay_build.specs.Live.{HoldSameFrom}
-use Rattle.overlay_build.proofs.laws.Members.{In}
+use Rattle.overlay_build.specs.Live.{HoldSameFrom, AreFreeAt}
+use Rattle.overlay_build.specs.Sweep.{sum_below}
 use Rattle.overlay_build.proofs.laws.ScanSums.{leading, lasting, no_leading, scan_result, scan_new, scan_old, scan_skip, orders_agree, HoldSameFrom-lasting, begins_lasting}
 use Rattle.overlay_build.proofs.build.scan_list.ScanListLiveSegments.sum_below.Goals as goal
 use Rattle.overlay_build.proofs.build.scan_list.ScanListLiveSegments.sum_below.Goals.{then-is_below+then-is_not_under_best, else-is_below, else-is_below-via-then-is_below+else-is_not_under_best, else-is_below-via-else-is_below}
+
+-- ---- the shared part: the entries that last past x, of those that begin at x or earlier
+
+module _ {E : Type 0} (entry : E → WholeSegment) (x : ℤ) (old new : List E) (ended : new ≡ filter (λ e. lasting x (entry e)) old) (time : All (λ s. s.pair.a.x ≤ℤ x) (map entry old)) where
+  kept : map entry new ≡ filter (λ t. lasting x t) (map entry old)
+  kept = ap (map entry) ended ∙ sym (filter-map (λ t. lasting x t) entry old)
+
+  same_sums : HoldSameFrom x (map entry new) (map entry old)
+  same_sums = subst (λ l. HoldSameFrom x l (map entry old)) (sym kept) (HoldSameFrom-lasting x (map entry old))
+
+  later_times : (y : ℤ) → x ≤ℤ y → All (λ s. s.pair.a.x ≤ℤ y) (map entry new)
+  later_times y h = subst (λ l. All (λ s. s.pair.a.x ≤ℤ y) l) (sym kept) (begins_lasting x y (map entry old) h time)
+
+  agree : AreFreeAt x (map entry old) → (z : ℤ) → z ≡ x → (s t : WholeSegment) → Has (map entry new) s → Has (map entry new) t → is_lt (under_segment_order s.pair t.pair) ≡ is_lt (ordering_then (height_cmp z s.pair t.pair) (angle_cmp s.pair t.pair))
+  agree free z same =
+      subst (λ z. (s t : WholeSegment) → Has (map entry new) s → Has (map entry new) t → is_lt (under_segment_order s.pair t.pair) ≡ is_lt (ordering_then (height_cmp z s.pair t.pair) (angle_cmp s.pair t.pair))) (sym same)
+      (λ s t m n. orders_agree x (map entry old) time free s t (subst (λ l. Has l s) kept m) (subst (λ l. Has l t) kept n))
+
+  -- the best of all of them has the sum
+  found : (p : Point) → p.x ≡ x → (default : Winding) (best : Option E) (seen : ℕ) → length new ≤ seen → option_map entry best ≡ leading p (take seen (map entry new)) → option_map_or (λ (s : WholeSegment). s.count) (option_map entry best) default ≡ sum_below (map entry old) p default
+  found p same default best seen over is =
+      scan_result p (map entry old) (map entry new) (option_map entry best) default
+      (subst (λ z. All (λ s. s.pair.a.x ≤ℤ z) (map entry old)) (sym same) time) (subst (λ z. map entry new ≡ filter (λ t. lasting z t) (map entry old)) (sym same) kept)
+      (is ∙ ap (leading p) (take_all seen (map entry new) (rw length-map over)))
+
+-- ---- the answers
 
 pub loop-entry-init : goal.loop-entry-init
 loop-entry-init g c = no_leading (point_of g.I.OverlayInt.whole c.args.p) (entries_of c.deref-entry-items.result.now)
 
 pub loop-entry-preserved : goal.loop-entry-preserved
 loop-entry-preserved g c =
-    let x = g.I.OverlayInt.whole c.args.x in
-    let kept : entries_of c.deref-entry-items.result.now ≡ filter (λ t. lasting x t) (entries_of c.args.self.now.entries.items) = ap entries_of (c.deref-entry-items.ensures.value ∙ c.drop_ended.ensures) ∙ sym (filter-map (λ t. lasting x t) entry_of c.args.self.now.entries.items) in
-    let agree = subst (λ z. (s t : WholeSegment) → In s (entries_of c.deref-entry-items.result.now) → In t (entries_of c.deref-entry-items.result.now) → is_lt (under_segment_order s.pair t.pair) ≡ is_lt (ordering_then (height_cmp z s.pair t.pair) (angle_cmp s.pair t.pair))) (sym c.requires.same_x)
-    (λ s t m n. orders_agree x (entries_of c.args.self.now.entries.items) c.requires.time c.requires.free s t (subst (λ l. In s l) kept m) (subst (λ l. In t l) kept n)) in
+    let agreed = agree entry_of (g.I.OverlayInt.whole c.args.x) c.args.self.now.entries.items c.deref-entry-items.result.now (c.deref-entry-items.ensures.value ∙ c.drop_ended.ensures) c.requires.time c.requires.free _ c.requires.same_x in
     elim c.if-is_below.branch [
       | then-is_below+then-is_not_under_best w ↦
-          rw w.best-is (scan_new entry_of (point_of g.I.OverlayInt.whole c.args.p) c.deref-entry-items.result.now c.loop-entry.entry-index c.entry-item.result c.loop-entry-test.true c.entry-item.is c.loop-entry.best c.loop-entry.invariant agree
+          rw w.best-is (scan_new entry_of (point_of g.I.OverlayInt.whole c.args.p) c.deref-entry-items.result.now c.loop-entry.entry-index c.entry-item.result c.loop-entry-test.true c.entry-item.is c.loop-entry.best c.loop-entry.invariant agreed
           (sym c.is_below.ensures ∙ w.if-is_below.true) (sym w.is_not_under_best.ensures ∙ w.if-is_not_under_best.true))
       | else-is_below w ↦ elim w.else-is_below.branch [
         | else-is_below-via-then-is_below+else-is_not_under_best v ↦
-            rw w.best-is (scan_old entry_of (point_of g.I.OverlayInt.whole c.args.p) c.deref-entry-items.result.now c.loop-entry.entry-index c.entry-item.result c.loop-entry-test.true c.entry-item.is c.loop-entry.best c.loop-entry.invariant agree
+            rw w.best-is (scan_old entry_of (point_of g.I.OverlayInt.whole c.args.p) c.deref-entry-items.result.now c.loop-entry.entry-index c.entry-item.result c.loop-entry-test.true c.entry-item.is c.loop-entry.best c.loop-entry.invariant agreed
             (sym c.is_below.ensures ∙ v.if-is_below.true) (sym v.is_not_under_best.ensures ∙ v.if-is_not_under_best.false))
         | else-is_below-via-else-is_below v ↦
-            rw w.best-is (scan_skip entry_of (point_of g.I.OverlayInt.whole c.args.p) c.deref-entry-items.result.now c.loop-entry.entry-index c.entry-item.result c.loop-entry-test.true c.entry-item.is c.loop-entry.best c.loop-entry.invariant agree
+            rw w.best-is (scan_skip entry_of (point_of g.I.OverlayInt.whole c.args.p) c.deref-entry-items.result.now c.loop-entry.entry-index c.entry-item.result c.loop-entry-test.true c.entry-item.is c.loop-entry.best c.loop-entry.invariant agreed
             (sym c.is_below.ensures ∙ v.if-is_below.false))
       ]
     ]
 
 pub returns-in-Some-clause-sum : goal.returns-in-Some-clause-sum
 returns-in-Some-clause-sum g c =
-    let x = g.I.OverlayInt.whole c.args.x in
-    let p = point_of g.I.OverlayInt.whole c.args.p in
-    let kept : entries_of c.deref-entry-items.result.now ≡ filter (λ t. lasting x t) (entries_of c.args.self.now.entries.items) = ap entries_of (c.deref-entry-items.ensures.value ∙ c.drop_ended.ensures) ∙ sym (filter-map (λ t. lasting x t) entry_of c.args.self.now.entries.items) in
-    let best : option_map entry_of c.loop-entry.best ≡ leading p (entries_of c.deref-entry-items.result.now) = c.loop-entry.invariant ∙ ap (leading p) (take-all c.loop-entry.entry-index (entries_of c.deref-entry-items.result.now) (rw length-map c.loop-entry-test.false)) in
-    let found = scan_result p (entries_of c.args.self.now.entries.items) (entries_of c.deref-entry-items.result.now) (option_map entry_of c.loop-entry.best) (g.C.WindingCount.winding c.args.default)
-    (subst (λ z. All (λ s. s.pair.a.x ≤ℤ z) (entries_of c.args.self.now.entries.items)) (sym c.requires.same_x) c.requires.time) (subst (λ z. entries_of c.deref-entry-items.result.now ≡ filter (λ t. lasting z t) (entries_of c.args.self.now.entries.items)) (sym c.requires.same_x) kept) best in
-    ap (λ o. option_map_or (λ (s : WholeSegment). s.count) (option_map entry_of o) (g.C.WindingCount.winding c.args.default)) (sym c.in-Some.is) ∙ found
+    ap (λ o. option_map_or (λ (s : WholeSegment). s.count) (option_map entry_of o) (g.C.WindingCount.winding c.args.default)) (sym c.in-Some.is)
+    ∙ found entry_of (g.I.OverlayInt.whole c.args.x) c.args.self.now.entries.items c.deref-entry-items.result.now (c.deref-entry-items.ensures.value ∙ c.drop_ended.ensures) c.requires.time (point_of g.I.OverlayInt.whole c.args.p) c.requires.same_x _ c.loop-entry.best c.loop-entry.entry-index c.loop-entry-test.false c.loop-entry.invariant
 
 pub returns-in-Some-clause-sums : goal.returns-in-Some-clause-sums
-returns-in-Some-clause-sums g c =
-    let x = g.I.OverlayInt.whole c.args.x in
-    let kept : entries_of c.drop_ended.new.self.entries.items ≡ filter (λ t. lasting x t) (entries_of c.args.self.now.entries.items) = ap entries_of c.drop_ended.ensures ∙ sym (filter-map (λ t. lasting x t) entry_of c.args.self.now.entries.items) in
-    subst (λ l. HoldSameFrom x l (entries_of c.args.self.now.entries.items)) (sym kept) (HoldSameFrom-lasting x (entries_of c.args.self.now.entries.items))
+returns-in-Some-clause-sums g c = same_sums entry_of (g.I.OverlayInt.whole c.args.x) c.args.self.now.entries.items _ c.drop_ended.ensures c.requires.time
 
 pub returns-in-Some-clause-time : goal.returns-in-Some-clause-time
-returns-in-Some-clause-time g c = λ y h.
-    let x = g.I.OverlayInt.whole c.args.x in
-    let kept : entries_of c.drop_ended.new.self.entries.items ≡ filter (λ t. lasting x t) (entries_of c.args.self.now.entries.items) = ap entries_of c.drop_ended.ensures ∙ sym (filter-map (λ t. lasting x t) entry_of c.args.self.now.entries.items) in
-    subst (λ l. All (λ s. s.pair.a.x ≤ℤ y) l) (sym kept) (begins_lasting x y (entries_of c.args.self.now.entries.items) h c.requires.time)
+returns-in-Some-clause-time g c = later_times entry_of (g.I.OverlayInt.whole c.args.x) c.args.self.now.entries.items _ c.drop_ended.ensures c.requires.time
 
 pub returns-in-None-clause-sum : goal.returns-in-None-clause-sum
 returns-in-None-clause-sum g c =
-    let x = g.I.OverlayInt.whole c.args.x in
-    let p = point_of g.I.OverlayInt.whole c.args.p in
-    let kept : entries_of c.deref-entry-items.result.now ≡ filter (λ t. lasting x t) (entries_of c.args.self.now.entries.items) = ap entries_of (c.deref-entry-items.ensures.value ∙ c.drop_ended.ensures) ∙ sym (filter-map (λ t. lasting x t) entry_of c.args.self.now.entries.items) in
-    let best : option_map entry_of c.loop-entry.best ≡ leading p (entries_of c.deref-entry-items.result.now) = c.loop-entry.invariant ∙ ap (leading p) (take-all c.loop-entry.entry-index (entries_of c.deref-entry-items.result.now) (rw length-map c.loop-entry-test.false)) in
-    let found = scan_result p (entries_of c.args.self.now.entries.items) (entries_of c.deref-entry-items.result.now) (option_map entry_of c.loop-entry.best) (g.C.WindingCount.winding c.args.default)
-    (subst (λ z. All (λ s. s.pair.a.x ≤ℤ z) (entries_of c.args.self.now.entries.items)) (sym c.requires.same_x) c.requires.time) (subst (λ z. entries_of c.deref-entry-items.result.now ≡ filter (λ t. lasting z t) (entries_of c.args.self.now.entries.items)) (sym c.requires.same_x) kept) best in
-    ap (λ o. option_map_or (λ (s : WholeSegment). s.count) (option_map entry_of o) (g.C.WindingCount.winding c.args.default)) (sym c.in-None.is) ∙ found
+    ap (λ o. option_map_or (λ (s : WholeSegment). s.count) (option_map entry_of o) (g.C.WindingCount.winding c.args.default)) (sym c.in-None.is)
+    ∙ found entry_of (g.I.OverlayInt.whole c.args.x) c.args.self.now.entries.items c.deref-entry-items.result.now (c.deref-entry-items.ensures.value ∙ c.drop_ended.ensures) c.requires.time (point_of g.I.OverlayInt.whole c.args.p) c.requires.same_x _ c.loop-entry.best c.loop-entry.entry-index c.loop-entry-test.false c.loop-entry.invariant
 
 pub returns-in-None-clause-sums : goal.returns-in-None-clause-sums
-returns-in-None-clause-sums g c =
-    let x = g.I.OverlayInt.whole c.args.x in
-    let kept : entries_of c.drop_ended.new.self.entries.items ≡ filter (λ t. lasting x t) (entries_of c.args.self.now.entries.items) = ap entries_of c.drop_ended.ensures ∙ sym (filter-map (λ t. lasting x t) entry_of c.args.self.now.entries.items) in
-    subst (λ l. HoldSameFrom x l (entries_of c.args.self.now.entries.items)) (sym kept) (HoldSameFrom-lasting x (entries_of c.args.self.now.entries.items))
+returns-in-None-clause-sums g c = same_sums entry_of (g.I.OverlayInt.whole c.args.x) c.args.self.now.entries.items _ c.drop_ended.ensures c.requires.time
 
 pub returns-in-None-clause-time : goal.returns-in-None-clause-time
-returns-in-None-clause-time g c = λ y h.
-    let x = g.I.OverlayInt.whole c.args.x in
-    let kept : entries_of c.drop_ended.new.self.entries.items ≡ filter (λ t. lasting x t) (entries_of c.args.self.now.entries.items) = ap entries_of c.drop_ended.ensures ∙ sym (filter-map (λ t. lasting x t) entry_of c.args.self.now.entries.items) in
-    subst (λ l. All (λ s. s.pair.a.x ≤ℤ y) l) (sym kept) (begins_lasting x y (entries_of c.args.self.now.entries.items) h c.requires.time)
+returns-in-None-clause-time g c = later_times entry_of (g.I.OverlayInt.whole c.args.x) c.args.self.now.entries.items _ c.drop_ended.ensures c.requires.time

@@ -2,14 +2,15 @@ use Rattle.std.proofs.Common.{rules, ◌≡◌, ◌∙◌, sym, subst, All, true
 use Rattle.std.specs.Prelude.{IsTrue}
 use Rattle.overlay_base.specs.Windings.{is_valid}
 use Rattle.overlay_base.specs.Join.{join}
-use Rattle.overlay_base.specs.SegmentOf.{segments_of, winding_of}
-use Rattle.overlay_split.proofs.laws.Ready.{are_valid-splittable, is_map-joined}
+use Rattle.overlay_base.specs.SegmentOf.{segment_of, segments_of, winding_of}
+use Rattle.overlay_base.proofs.laws.Rests.{is_splittable-valid}
+use Rattle.overlay_split.proofs.laws.Ready.{is_map-joined}
 use Rattle.overlay_split.proofs.split.pass.tests.joined.Goals as goal
 
 pub join_with_store-requires : goal.join_with_store-requires
 join_with_store-requires g c =
     let tested : c.is_splittable.result ≡ true = search rules in
-    subst (λ l. All (λ s. IsTrue (is_valid (winding_of s))) l) c.deref.ensures.value (are_valid-splittable c.deref.result.now _ _ (sym c.is_splittable.ensures ∙ tested))
+    subst (λ l. All (λ s. IsTrue (is_valid (winding_of s))) l) c.deref.ensures.value (is_splittable-valid segment_of _ _ c.deref.result.now (sym c.is_splittable.ensures ∙ tested))
 
 pub returns : goal.returns
 returns g c =

@@ -1,15 +1,22 @@
-use Rattle.std.proofs.Common.{rules, ◌≡◌, refl, sym, ap, ◌∙◌, arith, ◌+◌, ◌*◌, ◌<◌, min, length}
+use Rattle.std.proofs.Common.{rules, ◌≡◌, refl, sym, ap, subst, ◌∙◌, arith, ℕ, List, ◌+◌, ◌-◌, ◌^◌, ◌<◌, ◌≤◌, length}
 use Rattle.std.specs.Prelude.{Result, Ok, Err, IfErr, IsErrAnd, nat_le}
 use Rattle.std.proofs.lemmas.Bool.{both_ways, not-true, not-false}
 use Rattle.std.proofs.lemmas.Grind.{common_steps}
+use Rattle.overlay_base.specs.declared.segm.fault.Fault.{Fault}
 use Rattle.overlay_base.specs.declared.segm.fault.Fault.TheVariants.{CountOutOfRange}
+use Rattle.overlay_base.specs.declared.segm.segment.Segment.{Segment}
+use Rattle.overlay_base.specs.Segments.{WholeSegment}
+use Rattle.overlay_base.specs.EdgeData.{Hooks}
 use Rattle.overlay_base.specs.HooksOf.{hooks_of}
-use Rattle.overlay_base.specs.Radius.{exponent_cap, exponent_of}
+use Rattle.overlay_base.specs.Radius.{exponent_cap}
 use Rattle.overlay_base.specs.SegmentOf.{segment_of, segments_of, data_segments_of}
 use Rattle.overlay_base.proofs.laws.Rests.{is_splittable-valid}
-use Rattle.overlay_split.specs.Run.{LeavesRange}
+use Rattle.overlay_base.proofs.laws.Views.{segments_ordered, segments_of-bare}
+use Rattle.overlay_split.specs.DataPass.{IsStoppedRun}
+use Rattle.overlay_split.specs.Run.{Settings, LeavesRange}
 use Rattle.overlay_split.specs.SettingsOf.{settings_of}
-use Rattle.overlay_split.proofs.laws.Splitting.{at_start, at_next, at_rest, refused_at_start, refused_at, has_ended, stays_arranged, snaps, settles, falls_from, potential_bound, capped, exponent_grows, segments_ordered, without_data-is, segments_none, goes_on-is, starts-is, keeps_room, few_enough}
+use Rattle.overlay_split.proofs.laws.StoppedRuns.{stopped_run_leaves_range}
+use Rattle.overlay_split.proofs.laws.Splitting.{at_start, at_next, at_rest, stopped_at_start, stopped_at, has_ended, stays_arranged, snaps_at, settles, falls_from, potential_bound, exponent_grows, segments_none, goes_on-is, starts-is, keeps_room, few_enough}
 use Rattle.overlay_split.proofs.split.solver.SplitSolver.split_segments_with_store.Goals as goal
 use Rattle.overlay_split.proofs.split.solver.SplitSolver.split_segments_with_store.Goals.{else-loop-test, then-loop-test+then-not-progress}
 
@@ -17,6 +24,16 @@ use Rattle.overlay_split.proofs.split.solver.SplitSolver.split_segments_with_sto
 refused_by : {A F : Type 0} (r : Result A F) (x : F) {out : F} (P : Type 0) → IsErrAnd r (λ e. e ≡ x) → (x ≡ out → P) → IfErr r (λ fault. fault ≡ out → P)
 refused_by (Ok a) x P h f = tt
 refused_by (Err e) x P h f = λ i. f (sym h ∙ i)
+
+-- the greatest exponent of a radius is beyond the cap
+cap_fits : (bits : ℕ) → bits ≤ 32 → exponent_cap bits ≤ 2 ^ 64 - 1
+cap_fits bits b = omega (arith, b)
+
+-- where a run stopped a sum leaves the range
+leaves_range : {T C I D S : Type 0} {m : _} {w : _} {o : _} {e : _} {p : _} (r : Result T Fault) (hooks : Hooks D S) (settings : Settings) (xs : List (Segment C I D m w o e p)) (from left : S) →
+    IfErr r (λ fault. fault ≡ CountOutOfRange → IsStoppedRun hooks settings (data_segments_of xs) from left) → IfErr r (λ fault. fault ≡ CountOutOfRange → LeavesRange settings (segments_of xs))
+leaves_range (Ok x) hooks settings xs from left h = tt
+leaves_range (Err f) hooks settings xs from left h = λ i. subst (λ (l : List WholeSegment). LeavesRange settings l) (sym (segments_of-bare xs)) (stopped_run_leaves_range hooks settings (data_segments_of xs) from left (h i))
 
 -- ---- an empty list
 
@@ -59,10 +76,16 @@ returns-then-is_empty-clause-fits g c =
 pub join_with_store-requires : goal.join_with_store-requires
 join_with_store-requires g c = is_splittable-valid segment_of _ _ c.args.list.now.items c.requires
 
+pub returns-in_err-repeated-clause-stopped : goal.returns-in_err-repeated-clause-stopped
+returns-in_err-repeated-clause-stopped g c =
+    let hooks = hooks_of g.C.WindingCount.counted g.D.OverlayEdgeData.reversed_gives g.D.OverlayEdgeData.split_gives g.D.OverlayEdgeData.merge_gives in
+    let settings = settings_of g.I.OverlayInt.BITS c.args.solver.now c.args.self.now in
+    let stopped : c.in_err-repeated.field-0.0 ≡ CountOutOfRange → IsStoppedRun hooks settings (data_segments_of c.args.list.now.items) c.args.store.now c.join_with_store.new.store =
+    λ e. stopped_at_start hooks settings (data_segments_of c.args.list.now.items) c.args.store.now c.join_with_store.new.store (c.in_err-repeated.ensures.stopped e) in
+    refused_by c.from_residual.result c.in_err-repeated.field-0.0 _ c.from_residual.ensures.1 stopped
+
 pub returns-in_err-repeated-clause-refused : goal.returns-in_err-repeated-clause-refused
-returns-in_err-repeated-clause-refused g c =
-    let leaves = λ (e : c.in_err-repeated.field-0.0 ≡ CountOutOfRange). refused_at_start (settings_of g.I.OverlayInt.BITS c.args.solver.now c.args.self.now) (segments_of c.args.list.now.items) (c.in_err-repeated.ensures.refused e) in
-    search (rules, leaves)
+returns-in_err-repeated-clause-refused g c = leaves_range _ _ _ c.args.list.now.items _ _ (returns-in_err-repeated-clause-stopped g c)
 
 pub loop-init : goal.loop-init
 loop-init g c = record {
@@ -78,10 +101,8 @@ loop-init g c = record {
 
 pub loop-preserved : goal.loop-preserved
 loop-preserved g c =
-    let within : c.loop.progress.passes < c.args.self.now.snap_limit = omega (arith, c.loop.invariant.made, c.loop-test.true, c.loop.invariant.limit) in
-    let cap = capped _ _ (exponent_of c.loop.radius) (exponent_cap g.I.OverlayInt.BITS) c.loop.invariant.exponent (let b = g.met.I.OverlayInt.most_bits in omega (arith, b)) in
-    let exponent = cap ∙ ap (λ n. min (c.args.solver.now.precision.start + n * c.args.solver.now.precision.progression) (exponent_cap g.I.OverlayInt.BITS)) (sym c.loop.invariant.made) in
-    let placing = c.snapping-placing.ensures.placing ∙ snaps (settings_of g.I.OverlayInt.BITS c.args.solver.now c.args.self.now) c.loop.progress.passes (exponent_of c.loop.radius) within exponent in
+    let limit : c.loop.counter < c.args.self.now.snap_limit = omega (arith, c.loop-test.true, c.loop.invariant.limit) in
+    let placing = snaps_at (settings_of g.I.OverlayInt.BITS c.args.solver.now c.args.self.now) _ _ _ _ _ c.loop.invariant.made limit (cap_fits _ g.met.I.OverlayInt.most_bits) c.loop.invariant.exponent c.snapping-placing.ensures.placing in
     record {
       at = at_next _ _ _ _ _ _ _ _ _ _ _ _ _ _ _ _ _ _ _ _ (segments_ordered c.args.list.now.items) c.loop.invariant.at (not-false _ c.if-not-progress.false) c.in_ok-progress.ensures.passes placing
           c.in_ok-progress.ensures.geometry c.in_ok-progress.ensures.edge_data c.in_ok-progress.ensures.store c.in_ok-progress.ensures.changed (goes_on-is c.after_pass.new.list.items _ _ c.in_ok-progress.ensures.goes_on) c.in_ok-progress.ensures.fits;
@@ -92,14 +113,18 @@ loop-preserved g c =
       passes = c.loop.invariant.passes;
     }
 
+pub returns-in_err-progress-clause-stopped : goal.returns-in_err-progress-clause-stopped
+returns-in_err-progress-clause-stopped g c =
+    let hooks = hooks_of g.C.WindingCount.counted g.D.OverlayEdgeData.reversed_gives g.D.OverlayEdgeData.split_gives g.D.OverlayEdgeData.merge_gives in
+    let settings = settings_of g.I.OverlayInt.BITS c.args.solver.now c.args.self.now in
+    let limit : c.loop.counter < c.args.self.now.snap_limit = omega (arith, c.loop-test.true, c.loop.invariant.limit) in
+    let placing = snaps_at settings _ _ _ _ _ c.loop.invariant.made limit (cap_fits _ g.met.I.OverlayInt.most_bits) c.loop.invariant.exponent c.snapping-placing.ensures.placing in
+    let stopped : c.in_err-progress.field-0.0 ≡ CountOutOfRange → IsStoppedRun hooks settings (data_segments_of c.args.list.now.items) c.args.store.now c.after_pass.new.store =
+    λ e. stopped_at _ _ _ _ _ _ _ _ _ _ _ _ _ _ _ (segments_of-bare c.args.list.now.items) c.loop.invariant.at (not-false _ c.if-not-progress.false) placing (c.in_err-progress.ensures.stopped e) in
+    refused_by c.from_residual-in_err-progress.result c.in_err-progress.field-0.0 _ c.from_residual-in_err-progress.ensures.1 stopped
+
 pub returns-in_err-progress-clause-refused : goal.returns-in_err-progress-clause-refused
-returns-in_err-progress-clause-refused g c =
-    let within : c.loop.progress.passes < c.args.self.now.snap_limit = omega (arith, c.loop.invariant.made, c.loop-test.true, c.loop.invariant.limit) in
-    let cap = capped _ _ (exponent_of c.loop.radius) (exponent_cap g.I.OverlayInt.BITS) c.loop.invariant.exponent (let b = g.met.I.OverlayInt.most_bits in omega (arith, b)) in
-    let exponent = cap ∙ ap (λ n. min (c.args.solver.now.precision.start + n * c.args.solver.now.precision.progression) (exponent_cap g.I.OverlayInt.BITS)) (sym c.loop.invariant.made) in
-    let placing = c.snapping-placing.ensures.placing ∙ snaps (settings_of g.I.OverlayInt.BITS c.args.solver.now c.args.self.now) c.loop.progress.passes (exponent_of c.loop.radius) within exponent in
-    let leaves : c.in_err-progress.field-0.0 ≡ CountOutOfRange → LeavesRange (settings_of g.I.OverlayInt.BITS c.args.solver.now c.args.self.now) (segments_of c.args.list.now.items) = λ e. refused_at _ _ _ _ _ _ _ _ _ _ _ _ _ _ c.loop.invariant.at (not-false _ c.if-not-progress.false) placing (c.in_err-progress.ensures.refused e) in
-    refused_by c.from_residual-in_err-progress.result c.in_err-progress.field-0.0 _ c.from_residual-in_err-progress.ensures.1 leaves
+returns-in_err-progress-clause-refused g c = leaves_range _ _ _ c.args.list.now.items _ _ (returns-in_err-progress-clause-stopped g c)
 
 -- ---- settling
 
@@ -134,11 +159,17 @@ loop-progress-preserved g c =
 pub loop-progress-smaller : goal.loop-progress-smaller
 loop-progress-smaller g c = falls_from _ _ _ _ c.loop-progress-test.true c.loop-progress.invariant.at.map c.in_ok-progress-2.ensures.geometry (goes_on-is c.after_pass-in-loop-progress.new.list.items _ _ c.in_ok-progress-2.ensures.goes_on)
 
+pub returns-in_err-progress-2-clause-stopped : goal.returns-in_err-progress-2-clause-stopped
+returns-in_err-progress-2-clause-stopped g c =
+    let hooks = hooks_of g.C.WindingCount.counted g.D.OverlayEdgeData.reversed_gives g.D.OverlayEdgeData.split_gives g.D.OverlayEdgeData.merge_gives in
+    let settings = settings_of g.I.OverlayInt.BITS c.args.solver.now c.args.self.now in
+    let placing = settles settings c.loop-progress.progress.passes (c.loop-progress.invariant.late c.loop-progress-test.true) in
+    let stopped : c.in_err-progress-2.field-0.0 ≡ CountOutOfRange → IsStoppedRun hooks settings (data_segments_of c.args.list.now.items) c.args.store.now c.after_pass-in-loop-progress.new.store =
+    λ e. stopped_at _ _ _ _ _ _ _ _ _ _ _ _ _ _ _ (segments_of-bare c.args.list.now.items) c.loop-progress.invariant.at c.loop-progress-test.true placing (c.in_err-progress-2.ensures.stopped e) in
+    refused_by c.from_residual-in_err-progress-2.result c.in_err-progress-2.field-0.0 _ c.from_residual-in_err-progress-2.ensures.1 stopped
+
 pub returns-in_err-progress-2-clause-refused : goal.returns-in_err-progress-2-clause-refused
-returns-in_err-progress-2-clause-refused g c =
-    let placing = settles (settings_of g.I.OverlayInt.BITS c.args.solver.now c.args.self.now) c.loop-progress.progress.passes (c.loop-progress.invariant.late c.loop-progress-test.true) in
-    let leaves : c.in_err-progress-2.field-0.0 ≡ CountOutOfRange → LeavesRange (settings_of g.I.OverlayInt.BITS c.args.solver.now c.args.self.now) (segments_of c.args.list.now.items) = λ e. refused_at _ _ _ _ _ _ _ _ _ _ _ _ _ _ c.loop-progress.invariant.at c.loop-progress-test.true placing (c.in_err-progress-2.ensures.refused e) in
-    search (rules, leaves)
+returns-in_err-progress-2-clause-refused g c = leaves_range _ _ _ c.args.list.now.items _ _ (returns-in_err-progress-2-clause-stopped g c)
 
 -- ---- the end
 
@@ -162,7 +193,7 @@ returns-clause-bound g c = (has_ended _ _ _ _ _ _ _ _ _ _ _ _ _ (segments_ordere
 
 pub returns-clause-unchanged : goal.returns-clause-unchanged
 returns-clause-unchanged g c = λ arranged.
-    stays_arranged _ _ _ _ _ _ _ _ _ _ _ _ _ (without_data-is c.args.list.now.items) arranged (segments_ordered c.args.list.now.items) c.loop-progress.invariant.at c.loop-progress-test.false
+    stays_arranged _ _ _ _ _ _ _ _ _ _ _ _ _ (segments_of-bare c.args.list.now.items) arranged (segments_ordered c.args.list.now.items) c.loop-progress.invariant.at c.loop-progress-test.false
 
 pub returns-clause-fits : goal.returns-clause-fits
 returns-clause-fits g c = (has_ended _ _ _ _ _ _ _ _ _ _ _ _ _ (segments_ordered c.args.list.now.items) c.loop-progress.invariant.at c.loop-progress-test.false).fits

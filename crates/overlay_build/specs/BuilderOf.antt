@@ -1,0 +1,25 @@
+-- What a builder holds once the graph that borrows its nodes and links is let go.
+use Rattle.std.specs.Prelude.{◌≡◌, [], Result, IfOk, OnErr}
+use Rattle.std.specs.Borrow.{RattleType, MutBor, Fml}
+use Rattle.std.specs.Io.BufRead.{Rests}
+use Rattle.std.specs.declared.cmp.Ord.{Ghosts as Order}
+use Rattle.std.specs.declared.cmp.PartialEq.{Ghosts as Equality}
+use Rattle.std.specs.declared.cmp.PartialOrd.{Ghosts as PartialOrder}
+use Rattle.overlay_base.specs.declared.num.OverlayInt.{Ghosts as Whole}
+use Rattle.overlay_base.specs.declared.segm.fault.Fault.{Fault}
+use Rattle.overlay_base.specs.contracts.segm.boolean.ShapeCountBoolean.{the_row as boolean_row}
+use Rattle.overlay_base.specs.contracts.segm.boolean.ShapeCountBooleanWindingCount.TheImpl.{ghosts as boolean_ghosts}
+use Rattle.overlay_build.specs.declared.build.graph.OverlayGraph.{OverlayGraph}
+use Rattle.overlay_build.specs.contracts.build.graph_node.OverlayNode.{the_row as node_row}
+use Rattle.overlay_build.specs.contracts.build.builder.GraphBuilder.{the_row}
+
+module _ (I D : RattleType) (whole : Whole I.Denot) (order : Order I.Denot) (equality : Equality I.Denot) (partial : PartialOrder I.Denot) where
+  -- the builder of overlays, with coordinates I and data D
+  abbrev pub builder_row : RattleType
+  builder_row = the_row boolean_row node_row I D boolean_ghosts whole order equality partial
+
+  -- the nodes and links of the graph that was answered, or none after a refusal
+  abbrev pub HoldsAnswer : Result (OverlayGraph I.Denot D.Denot whole order equality partial) Fault → MutBor builder_row.Denot → Fml
+  HoldsAnswer result builder = Rests builder_row builder (λ after.
+      IfOk result (λ graph. (after.nodes.items ≡ graph.nodes.now) × (after.links.items ≡ graph.links.now))
+      × OnErr result ((after.nodes.items ≡ []) × (after.links.items ≡ [])))
