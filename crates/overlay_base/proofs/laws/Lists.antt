@@ -315,13 +315,6 @@ filter-map test f (x ∷ xs) = by (test (f x)) (filter-map test f xs)
     by true ih = ap (λ l. f x ∷ l) ih
     by false ih = ih
 
--- as many elements as there are
-pub take-all : {X : Type 0} (n : ℕ) (xs : List X) → length xs ≤ n → take n xs ≡ xs
-take-all zero [] le = refl
-take-all zero (x ∷ xs) le = absurd (omega arith)
-take-all (suc n) [] le = refl
-take-all (suc n) (x ∷ xs) le = ap (λ l. x ∷ l) (take-all n xs (omega arith))
-
 -- lists that agree from one place on agree from each later place on
 pub drop-later : {X : Type 0} (xs ys : List X) (i j : ℕ) → i ≤ j → drop i xs ≡ drop i ys → drop j xs ≡ drop j ys
 drop-later {X} xs ys i j le e =

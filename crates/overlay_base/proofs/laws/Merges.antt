@@ -5,7 +5,7 @@ use Rattle.std.proofs.lemmas.Bool.{and_from, and_parts, not-true, not-false}
 use Rattle.std.proofs.Math.Bool.{and-true, or-false, or-true}
 use Rattle.std.proofs.lemmas.List.Elements.{recursion_from_All}
 use Rattle.std.specs.List.Sorted.{IsSortedByKey}
-use Rattle.std.proofs.lemmas.List.{length-map, take-append-drop, take_more, map-append, take-map, get_or-drop}
+use Rattle.std.proofs.lemmas.List.{length-map, take-append-drop, take_all, take_more, map-append, take-map, get_or-drop}
 use Rattle.std.proofs.lemmas.List.Sums.{fold-append}
 use Rattle.overlay_base.specs.Points.{pair_cmp, pair_eq, stably_sorted, distinct_in_order}
 use Rattle.overlay_base.specs.Windings.{add, is_count_in_range, is_valid}
@@ -13,7 +13,7 @@ use Rattle.overlay_base.specs.Segments.{pairs}
 use Rattle.overlay_base.specs.EdgeData.{DataSegment, Hooks, kept_sum, without_data, merged, merge_sorted, data_join, IsStoppedJoin}
 use Rattle.overlay_base.specs.Join.{join, summed, join_leaves_range, has_equal_neighbors}
 use Rattle.overlay_base.proofs.laws.Points.{pair_cmp_total}
-use Rattle.overlay_base.proofs.laws.Lists.{AllByRecursion-take, take-all, drop-later}
+use Rattle.overlay_base.proofs.laws.Lists.{AllByRecursion-take, drop-later}
 use Rattle.overlay_base.proofs.laws.Keys.{IsInOrder, IsInOrder-from_sort, IsInOrder-take}
 use Rattle.overlay_base.proofs.laws.StableSorts.{stably_sorted-in_order}
 use Rattle.overlay_base.proofs.laws.Ranges.{additions_leave_from, additions_leave_from-same, additions_leave_from-other, additions_leave_range, additions_leave_range-join}
@@ -281,7 +281,7 @@ module _ {X D S : Type 0} (f : X → DataSegment D) (hooks : Hooks D S) (all : L
       → map f (take kept' now') ≡ map f (take kept now) ++ kept_sum (f held) → AreInOrder (map f all)
       → (map f (take kept' now') ≡ (data_join hooks (map f all) from).0) × (store ≡ (data_join hooks (map f all) from).1) × IsFalse (join_leaves_range (without_data (map f all))) × (joined ≡ has_equal_neighbors (without_data (map f all)))
   IsWalked-end now now' held kept kept' index store joined w le put o =
-      let whole : take index all ≡ all = take-all index all (omega (arith, w.same_length)) in
+      let whole : take index all ≡ all = take_all index all (omega (arith, w.same_length)) in
       let walked : walk hooks (map f all) from ≡ at hooks (map f (take kept now)) (f held) store true joined = ap (λ l. walk hooks (map f l) from) (sym whole) ∙ w.walked in
       let done : ((map f (take kept now) ++ kept_sum (f held)), store) ≡ data_join hooks (map f all) from = ap (finished hooks) (sym walked) ∙ finished-data_join hooks (map f all) o from in (
         put ∙ ap (λ d. d.0) done,

@@ -1,5 +1,5 @@
 -- What an arrangement of code's segments tells of each of them.
-use Rattle.std.proofs.Common.{◌≡◌, ap, refl, sym, subst, ◌∙◌, arith, get_or}
+use Rattle.std.proofs.Common.{◌≡◌, ap, sym, subst, ◌∙◌, arith, get_or}
 use Rattle.std.specs.Prelude.{ℕ, zero, suc, ◌<◌, ℤ, pos, Bool, true, ◌&&◌, List, [], ◌∷◌, map, length}
 use Rattle.std.specs.List.{list_all}
 use Rattle.std.proofs.lemmas.Bool.{and_parts}
@@ -7,7 +7,7 @@ use Rattle.std.proofs.lemmas.List.{length-map, get_or-map}
 use Rattle.overlay_base.specs.Points.{Pair}
 use Rattle.overlay_base.specs.Windings.{is_valid, is_not_empty}
 use Rattle.overlay_base.specs.Segments.{WholeSegment}
-use Rattle.overlay_base.specs.EdgeData.{DataSegment, without_data}
+use Rattle.overlay_base.specs.EdgeData.{DataSegment}
 use Rattle.overlay_base.specs.Planar.{is_point_in_range, is_pair_in_range, is_splittable, is_arranged}
 use Rattle.overlay_base.specs.declared.overlay_core.fill_rule.FillRule.{FillRule}
 use Rattle.overlay_build.specs.Sweep.{Visit}
@@ -71,8 +71,3 @@ segment_is f xs rule whole index x v e same is =
 
 pub index_within : {X D : Type 0} (f : X → DataSegment D) (xs : List X) (rule : FillRule) (whole : List WholeSegment) (index : ℕ) (v : Visit D) → index ≡ v.index → IsListed rule whole (map f xs) v → index < length xs
 index_within f xs rule whole index v same is = subst (λ n. index < n) (length-map xs f) (subst (λ n. n < length (map f xs)) (sym same) is.within)
-
--- a list without its data
-pub whole_is : {X D : Type 0} (f : X → DataSegment D) (g : X → WholeSegment) → ((x : X) → record { pair = (f x).pair; count = (f x).count } ≡ g x) → (xs : List X) → without_data (map f xs) ≡ map g xs
-whole_is f g same [] = refl
-whole_is f g same (x ∷ xs) = λ i. same x i ∷ whole_is f g same xs i

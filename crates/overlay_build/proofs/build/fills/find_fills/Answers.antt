@@ -1,19 +1,19 @@
 use Rattle.std.proofs.Common.{◌≡◌, ◌∙◌, ap, sym, refl, length, arith, rules, ℕ, Vec, Global, MutBor}
 use Rattle.std.proofs.lemmas.List.{length-map}
 use Rattle.overlay_base.specs.EdgeData.{without_data}
-use Rattle.overlay_base.specs.SegmentOf.{segment_of, segments_of, data_segment_of, data_segments_of}
+use Rattle.overlay_base.specs.SegmentOf.{segments_of, data_segment_of, data_segments_of}
 use Rattle.overlay_build.specs.ChainWindings.{tops_leave_range}
 use Rattle.overlay_build.specs.Graph.{fills_of}
 use Rattle.overlay_build.specs.Sweep.{visits, visits_leave_range}
+use Rattle.overlay_base.proofs.laws.Views.{segments_of-bare}
 use Rattle.overlay_build.proofs.laws.StoredFills.{visits_all_seen, handled_writes, handled_keeps, tops_of_visits, fills_of_visits}
-use Rattle.overlay_build.proofs.laws.Arrangements.{whole_is}
 use Rattle.overlay_build.proofs.laws.Handling.{refused_as}
 use Rattle.overlay_build.specs.declared.build.fill_handler.StoreFillsHandler.{StoreFillsHandler}
 use Rattle.overlay_build.proofs.build.fills.find_fills.Goals as goal
 
 pub returns-clause-fills : goal.returns-clause-fills
 returns-clause-fills g c =
-    let same : without_data (data_segments_of c.args.segments.now) ≡ segments_of c.args.segments.now = whole_is data_segment_of segment_of (λ x. refl) c.args.segments.now in
+    let same : without_data (data_segments_of c.args.segments.now) ≡ segments_of c.args.segments.now = sym (segments_of-bare c.args.segments.now) in
     let made : c.new-handler.result.fills.now ≡ c.resize.new.self = ap (λ (b : MutBor (Vec ℕ Global)). b.now) c.new-handler.ensures in
     let as_long : length c.new-handler.result.fills.now.items ≡ length c.resize.new.self.items = ap (λ (v : Vec ℕ Global). length v.items) made in
     let resized = c.in_ok-resize.ensures.len in
@@ -31,7 +31,7 @@ returns-clause-fills g c =
 
 pub returns-clause-in_range : goal.returns-clause-in_range
 returns-clause-in_range g c =
-    let same : without_data (data_segments_of c.args.segments.now) ≡ segments_of c.args.segments.now = whole_is data_segment_of segment_of (λ x. refl) c.args.segments.now in
+    let same : without_data (data_segments_of c.args.segments.now) ≡ segments_of c.args.segments.now = sym (segments_of-bare c.args.segments.now) in
     sym (ap (visits_leave_range (segments_of c.args.segments.now)) (visits_all_seen _ (λ h v. refl) (visits c.args.fill_rule (data_segments_of c.args.segments.now)) c.new-handler.result)
     ∙ ap (λ l. visits_leave_range l (visits c.args.fill_rule (data_segments_of c.args.segments.now))) (sym same)
     ∙ tops_of_visits c.args.fill_rule (data_segments_of c.args.segments.now)
@@ -40,7 +40,7 @@ returns-clause-in_range g c =
 
 pub returns-in_err-run_with_fill_rule-clause-out_of_range : goal.returns-in_err-run_with_fill_rule-clause-out_of_range
 returns-in_err-run_with_fill_rule-clause-out_of_range g c =
-    let same : without_data (data_segments_of c.args.segments.now) ≡ segments_of c.args.segments.now = whole_is data_segment_of segment_of (λ x. refl) c.args.segments.now in
+    let same : without_data (data_segments_of c.args.segments.now) ≡ segments_of c.args.segments.now = sym (segments_of-bare c.args.segments.now) in
     refused_as c.from_residual-in_err-run_with_fill_rule.result _ _ c.from_residual-in_err-run_with_fill_rule.ensures.1
     (λ fault passed h.
     sym (ap (visits_leave_range (segments_of c.args.segments.now)) (visits_all_seen _ (λ h v. refl) (visits c.args.fill_rule (data_segments_of c.args.segments.now)) c.new-handler.result)

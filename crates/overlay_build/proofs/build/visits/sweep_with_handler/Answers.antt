@@ -1,4 +1,4 @@
-use Rattle.std.proofs.Common.{◌≡◌, ◌∙◌, ◌<◌, ◌≤◌, ap, ap₂, sym, subst, refl, arith, length}
+use Rattle.std.proofs.Common.{◌≡◌, ◌∙◌, ◌<◌, ◌≤◌, ap, ap₂, sym, subst, arith, length}
 use Rattle.std.specs.Prelude.{◌≤ℤ◌}
 use Rattle.std.proofs.lemmas.List.{length-map}
 use Rattle.overlay_base.specs.Points.{Point}
@@ -14,16 +14,17 @@ use Rattle.overlay_base.specs.SegmentOf.{segment_of, segments_of, data_segment_o
 use Rattle.overlay_build.specs.Sweep.{visits, visited, visits_leave_range, sum_below}
 use Rattle.overlay_build.specs.Live.{HoldSameFrom, AreFreeAt}
 use Rattle.overlay_build.specs.WayOf.{way_of, ways_of, ways_between, by_angle}
+use Rattle.overlay_base.proofs.laws.Views.{segments_of-bare}
 use Rattle.overlay_build.proofs.laws.Members.{IsArranged}
 use Rattle.overlay_build.proofs.laws.Handling.{refused_as}
-use Rattle.overlay_build.proofs.laws.Arrangements.{whole_is, whole_arranged, usable_at, usable_item, start_is, segment_is, index_within}
+use Rattle.overlay_build.proofs.laws.Arrangements.{whole_arranged, usable_at, usable_item, start_is, segment_is, index_within}
 use Rattle.overlay_build.proofs.laws.SweepStates.{start_at, before_first, run_at, free_at_start, enter, leave, finished, finished_in_range, amid_place, node_is_over, step, valid_from, free_here, answered_here, in_range_here, refused_here, visit_is}
 use Rattle.overlay_build.proofs.build.visits.sweep_with_handler.Goals as goal
 
 -- ---- the shared part: the segments with their data are those without it, and arranged
 
 same_list : {C I D : Type 0} {m : _} {w : _} {o : _} {e : _} {p : _} (list : List (Segment C I D m w o e p)) → without_data (data_segments_of list) ≡ segments_of list
-same_list list = whole_is data_segment_of segment_of (λ x. refl) list
+same_list list = sym (segments_of-bare list)
 
 arranged_list : {C I D : Type 0} {m : _} {w : _} {o : _} {e : _} {p : _} (least greatest : ℤ) (list : List (Segment C I D m w o e p)) → is_arranged least greatest (segments_of list) ≡ true → IsArranged (without_data (data_segments_of list))
 arranged_list least greatest list h = whole_arranged least greatest _ _ (same_list list) h
