@@ -12,19 +12,21 @@ use Rattle.overlay_base.specs.declared.segm.fault.Fault.{Fault}
 use Rattle.overlay_base.specs.declared.segm.fault.Fault.TheVariants.{CountOutOfRange}
 use Rattle.overlay_split.specs.Run.{Settings, IsPassCount, LeavesRange, after_passes}
 use Rattle.overlay_split.specs.ExactInput.{is_exact_input, KeepsCounts}
+use Rattle.overlay_split.specs.Nearness.{StaysNear}
 use Rattle.overlay_split.specs.Potential.{potential}
 use Rattle.overlay_build.specs.ChainWindings.{tops_leave_range}
 use Rattle.overlay_build.specs.Graph.{Graph, graph_by}
 use Rattle.overlay_build.specs.Sides.{IsBalancedOverlay}
 
 -- The segments are the one arrangement that the passes define: planar, with every point's balance kept, in the box of
--- what was given. There are no more passes than the bound allows, and exact input keeps its counts.
+-- what was given and near it. There are no more passes than the bound allows, and exact input keeps its counts.
 pub record IsSplit (settings : Settings) (given segments : List WholeSegment) (passes : ℕ) : Type 0 where
   pub count : IsPassCount settings given passes
   pub arrangement : segments ≡ after_passes settings given passes
   pub planar : IsTrue (is_map segments && is_planar segments)
   pub kept : KeepsBalance given segments
   pub in_box : IsTrue (list_all (λ p. is_within_box_of (ends (pairs (join given))) p) (ends (pairs segments)))
+  pub near : StaysNear settings given segments passes
   pub exact_input : IsTrue (is_exact_input given) → KeepsCounts given segments
   pub bound : passes ≤ settings.limit + potential (after_passes settings given settings.limit) + 1
 

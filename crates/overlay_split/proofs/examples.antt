@@ -6,3 +6,4 @@ pub mod Paths
 pub mod Runs
 pub mod DataPasses
 pub mod ExactInputs
+pub mod Nearness

@@ -1,8 +1,8 @@
 -- Laws over the definitions, each a statement that is proved once and named by a contract.
-use Rattle.std.specs.Prelude.{◌≡◌, ◌≢◌, ◌<◌, ◌≤◌, ℕ, ◌*◌, ℤ, pos, ◌+ℤ◌, ◌-ℤ◌, ◌*ℤ◌, ◌≤ℤ◌, ◌<ℤ◌, unsigned_abs, not, ◌&&◌, IsTrue, ◌+◌, ◌-◌, neg_ℤ, Bool, false, IsFalse, List, length, min}
+use Rattle.std.specs.Prelude.{◌≡◌, ◌≢◌, ◌<◌, ◌≤◌, ℕ, ◌*◌, ℤ, pos, ◌+ℤ◌, ◌-ℤ◌, ◌*ℤ◌, ◌≤ℤ◌, ◌<ℤ◌, unsigned_abs, not, ◌&&◌, ◌||◌, IsTrue, ◌+◌, ◌-◌, neg_ℤ, Bool, false, IsFalse, List, Contains, length, min, ◌^◌, ◌/◌}
 use Rattle.std.specs.List.{list_all}
 use Rattle.std.specs.Ordering.{int_eq}
-use Rattle.overlay_base.specs.Points.{Point, Pair, pair_lt, turn, is_end, is_in_box, is_within_box_of}
+use Rattle.overlay_base.specs.Points.{Point, Pair, pair_lt, turn, is_end, is_in_box, is_vertical, is_horizontal, is_within_box_of}
 use Rattle.overlay_base.specs.Meeting.{do_cross}
 use Rattle.overlay_base.specs.Windings.{Winding, inverse}
 use Rattle.overlay_base.specs.Segments.{WholeSegment, pairs, ends, is_map, are_ordered, are_polygons}
@@ -12,14 +12,15 @@ use Rattle.overlay_base.specs.Planar.{is_planar}
 use Rattle.overlay_base.specs.Balance.{KeepsBalance}
 use Rattle.overlay_base.specs.EdgeData.{Hooks, DataSegment, without_data}
 use Rattle.overlay_split.specs.Crossing.{Quotient, truncated, nearest, nearest_upward, is_exact, is_on_lines, snapping_point, settling_point}
-use Rattle.overlay_split.specs.Marks.{Placing, nearer_end, marks_by, settling}
+use Rattle.overlay_split.specs.Marks.{Placing, nearer_end, ordered_mark, marks_by, settling}
 use Rattle.overlay_split.specs.Counts.{count_of}
 use Rattle.overlay_split.specs.CrossAnswer.{cross_answer, target_marks, other_marks}
 use Rattle.overlay_split.specs.Path.{pieces}
-use Rattle.overlay_split.specs.Pass.{pass, is_rounded, mark_count}
+use Rattle.overlay_split.specs.Pass.{cut, pass, is_rounded, mark_count}
 use Rattle.overlay_split.specs.Run.{Settings, IsPassCount, IsRun, LeavesRange, after_passes}
 use Rattle.overlay_split.specs.Potential.{potential}
 use Rattle.overlay_split.specs.ExactInput.{is_exact_input, KeepsCounts}
+use Rattle.overlay_split.specs.Nearness.{Fraction, whole_point, point_along, exact_crossing, IsWithin, IsNear, LiesNear, LieNear, IsNearSome, StaysNear, are_lines, root, reach, reach_of_pass, reach_of_run, reach_of_passes}
 use Rattle.overlay_split.specs.DataPass.{data_pass, data_after_passes, IsStoppedRun}
 
 -- ---- marks and crossings
@@ -206,6 +207,77 @@ abbrev pub ExactRunsAgree : Type 0
 ExactRunsAgree =
     (settings other : Settings) (given first second : List WholeSegment) (j k : ℕ) (b c : Bool) → IsTrue (are_ordered given) → IsTrue (is_exact_input given) →
     IsRun settings given first j b → IsRun other given second k c → first ≡ second
+
+-- ---- nearness
+
+-- the root is what is meant by it
+abbrev pub RootIsMeant : Type 0
+RootIsMeant = (n : ℕ) → (root n * root n ≤ n) × (n < (root n + 1) * (root n + 1))
+
+-- the root of a squared radius, which is a power of two: at most the power of half the exponent, rounded up
+abbrev pub RootOfPower : Type 0
+RootOfPower = (e : ℕ) → root (2 ^ e) ≤ 2 ^ ((e + 1) / 2)
+
+-- a pair whose ends are near another lies near it
+abbrev pub NearEndsAreEnough : Type 0
+NearEndsAreEnough = (halves : ℕ) (r s : Pair) → IsNear halves (whole_point r.a) s → IsNear halves (whole_point r.b) s → LiesNear halves r s
+
+-- distances add up
+abbrev pub DistancesAddUp : Type 0
+DistancesAddUp = (first second : ℕ) (r s t : Pair) → LiesNear first r s → LiesNear second s t → LiesNear (first + second) r t
+
+-- the exact crossing lies on both pairs
+abbrev pub CrossingLiesOnBoth : Type 0
+CrossingLiesOnBoth = (s t : Pair) → IsTrue (do_cross s t) → IsNear 0 (exact_crossing s t) s × IsNear 0 (exact_crossing s t) t
+
+-- how far from the exact crossing a mark lies, and how far the points at which it is placed
+pub record IsMarkNear (placing : Placing) (s t : Pair) : Type 0 where
+  pub within : IsWithin (reach placing) (whole_point (ordered_mark placing s t)) (exact_crossing s t)
+  pub exact : IsTrue (is_exact s t) → IsWithin 0 (whole_point (ordered_mark placing s t)) (exact_crossing s t)
+  pub snapping_point_within : IsWithin 2 (whole_point (snapping_point s t)) (exact_crossing s t)
+  pub sloped : IsFalse (is_vertical s || is_horizontal s) → IsWithin 1 (whole_point (snapping_point s t)) (exact_crossing s t)
+  pub settling_point_within : IsWithin 1 (whole_point (settling_point s t)) (exact_crossing s t)
+
+abbrev pub MarkIsNear : Type 0
+MarkIsNear = (placing : Placing) (s t : Pair) → IsTrue (do_cross s t) → IsMarkNear placing s t
+
+-- every pair of a pass lies near one of the pairs before it: no farther than the pass moves crossings
+abbrev pub PassStaysNear : Type 0
+PassStaysNear =
+    (placing : Placing) (segments : List WholeSegment) → IsTrue (are_ordered segments) →
+    LieNear (reach_of_pass placing segments) (pairs segments) (pairs (pass placing segments))
+
+-- and every point of a pair lies near one of the pieces that a pass makes
+abbrev pub PiecesStayNear : Type 0
+PiecesStayNear =
+    (placing : Placing) (segments : List WholeSegment) (s : Pair) → IsTrue (are_ordered segments) → Contains (pairs segments) s → (f : Fraction) →
+    IsNearSome (reach_of_pass placing segments) (point_along s f) (pairs (cut placing segments))
+
+-- so what stands after k passes is near what is given, and the other way round but for counts that cancel
+abbrev pub RunStaysNear : Type 0
+RunStaysNear = (settings : Settings) (given : List WholeSegment) (k : ℕ) → IsTrue (are_ordered given) → StaysNear settings given (after_passes settings given k) k
+
+-- of lines nothing cancels: every point of them lies near the result
+abbrev pub LinesAreKept : Type 0
+LinesAreKept =
+    (settings : Settings) (given : List WholeSegment) (k : ℕ) (s : Pair) → IsTrue (are_ordered given) → IsTrue (are_lines given) → Contains (pairs given) s → (f : Fraction) →
+    IsNearSome (reach_of_run settings given k) (point_along s f) (pairs (after_passes settings given k))
+
+-- how near, by the settings and the number of passes alone
+abbrev pub ReachIsBounded : Type 0
+ReachIsBounded = (settings : Settings) (given : List WholeSegment) (k : ℕ) → reach_of_run settings given k ≤ reach_of_passes settings k
+
+-- the last pass of a run moves nothing, where two segments or more are left
+abbrev pub LastPassReachesNothing : Type 0
+LastPassReachesNothing =
+    (settings : Settings) (given result : List WholeSegment) (passes : ℕ) (flag : Bool) → IsRun settings given result passes flag → 2 ≤ length result →
+    reach_of_run settings given passes ≤ reach_of_passes settings (passes - 1)
+
+-- on exact input nothing is moved
+abbrev pub ExactInputReachesNothing : Type 0
+ExactInputReachesNothing =
+    (settings : Settings) (given result : List WholeSegment) (passes : ℕ) (flag : Bool) → IsTrue (are_ordered given) → IsTrue (is_exact_input given) → IsRun settings given result passes flag →
+    reach_of_run settings given passes ≡ 0
 
 -- ---- passes with data
 

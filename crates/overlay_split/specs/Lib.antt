@@ -14,10 +14,16 @@ pub mod Pass
 pub mod MarkOf
 pub mod PlacingOf
 pub mod Finder
+pub mod IntervalTree
+pub mod NodeOf
+pub mod Looked
+pub mod Swept
 pub mod Run
+pub mod RunLooks
 pub mod Potential
 pub mod DataPass
 pub mod DataCutAt
 pub mod SettingsOf
 pub mod ExactInput
+pub mod Nearness
 pub mod Laws

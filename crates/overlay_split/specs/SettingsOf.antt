@@ -12,6 +12,10 @@ snap_limit_of splitter = splitter.snap_limit
 abbrev pub passes_of : {I : Type 0} → SplitSolver I → ℕ
 passes_of splitter = splitter.passes
 
+-- how many pairs that call took up
+abbrev pub looked_of : {I : Type 0} → SplitSolver I → ℕ
+looked_of splitter = splitter.looked
+
 -- of the solver only the precision, of the engine its number of bits
 abbrev pub settings_of : {I : Type 0} → ℕ → Solver → SplitSolver I → Settings
 settings_of bits solver splitter = record {

@@ -15,6 +15,7 @@ use Rattle.overlay_base.specs.declared.segm.fault.Fault.{Fault}
 use Rattle.overlay_base.specs.declared.segm.fault.Fault.TheVariants.{CountOutOfRange}
 use Rattle.overlay_split.specs.Run.{Settings, IsRun, LeavesRange, after_passes}
 use Rattle.overlay_split.specs.ExactInput.{is_exact_input, KeepsCounts}
+use Rattle.overlay_split.specs.Nearness.{StaysNear}
 use Rattle.overlay_split.specs.Potential.{potential}
 use Rattle.overlay_build.specs.ChainWindings.{tops_leave_range}
 use Rattle.overlay_build.specs.Graph.{Graph, graph_by}
@@ -28,10 +29,10 @@ none_arranged least greatest = refl
 
 -- what a run ensures is a split: an arrangement is a planar map
 pub split_from : (settings : Settings) (given segments : List WholeSegment) (passes : ℕ) (flag : Bool) (least greatest : ℤ) → IsRun settings given segments passes flag → IsTrue (is_arranged least greatest segments) → KeepsBalance given segments
-    → IsTrue (list_all (λ p. is_within_box_of (ends (pairs (join given))) p) (ends (pairs segments))) → (IsTrue (is_exact_input given) → KeepsCounts given segments)
+    → IsTrue (list_all (λ p. is_within_box_of (ends (pairs (join given))) p) (ends (pairs segments))) → StaysNear settings given segments passes → (IsTrue (is_exact_input given) → KeepsCounts given segments)
     → passes ≤ settings.limit + potential (after_passes settings given settings.limit) + 1 → IsSplit settings given segments passes
 unfolding is_arranged
-split_from settings given segments passes flag least greatest run arranged kept in_box exact_input bound =
+split_from settings given segments passes flag least greatest run arranged kept in_box near exact_input bound =
     let outer = and_parts (is_map segments && is_splittable least greatest segments) (is_planar segments) arranged in
     let inner = and_parts (is_map segments) (is_splittable least greatest segments) outer.0 in
     record {
@@ -40,6 +41,7 @@ split_from settings given segments passes flag least greatest run arranged kept 
       planar = ap₂ (λ (a b : Bool). a && b) inner.0 outer.1;
       kept = kept;
       in_box = in_box;
+      near = near;
       exact_input = exact_input;
       bound = bound;
     }

@@ -29,18 +29,18 @@ use Rattle.overlay_split.proofs.laws.MarkSets.{mark_cmp, points_at_in_order, Has
 
 -- ---- a pair and itself
 
-none_on_itself : (placing : Placing) (s : Pair) → marks_by placing s s ≡ []
+pub none_on_itself : (placing : Placing) (s : Pair) → marks_by placing s s ≡ []
 none_on_itself placing s =
     marks_at_ends placing s s (no_cross_itself s)
     ∙ none_of_two (λ p. is_strictly_inside s p) s.a s.b
     (false_from_ne_true _ (λ h. (inside_parts s s.a h).3 refl))
     (false_from_ne_true _ (λ h. (inside_parts s s.b h).4 refl))
 
-exact_with_itself : (s : Pair) → cross_inexactly s s ≡ false
+pub exact_with_itself : (s : Pair) → cross_inexactly s s ≡ false
 unfolding cross_inexactly
 exact_with_itself s = rw (no_cross_itself s) refl
 
-cross_inexactly-back : (s t : Pair) → cross_inexactly s t ≡ cross_inexactly t s
+pub cross_inexactly-back : (s t : Pair) → cross_inexactly s t ≡ cross_inexactly t s
 unfolding cross_inexactly
 cross_inexactly-back s t =
     by_bool (do_cross s t)
@@ -53,17 +53,17 @@ abbrev pub StandsAt : ℕ → List Pair → ℕ → Pair → Type 0
 StandsAt i [] n s = ⊥
 StandsAt i (x ∷ xs) n s = ((i ≡ n) × (x ≡ s)) ⊎ StandsAt (i + 1) xs n s
 
-stands_within : (i : ℕ) (xs : List Pair) (n : ℕ) (s : Pair) → StandsAt i xs n s → (i ≤ n) × (n < i + length xs)
+pub stands_within : (i : ℕ) (xs : List Pair) (n : ℕ) (s : Pair) → StandsAt i xs n s → (i ≤ n) × (n < i + length xs)
 stands_within i [] n s h = absurd h
 stands_within i (x ∷ xs) n s (inl e) = let same = e.0 in (omega arith, omega arith)
 stands_within i (x ∷ xs) n s (inr h) = let r = stands_within (i + 1) xs n s h in (omega (arith, r.0), omega (arith, r.1))
 
-stands : (xs : List Pair) (i k : ℕ) (d : Pair) → k < length xs → StandsAt i xs (i + k) (get_or xs k d)
+pub stands : (xs : List Pair) (i k : ℕ) (d : Pair) → k < length xs → StandsAt i xs (i + k) (get_or xs k d)
 stands [] i k d lt = absurd (omega arith)
 stands (x ∷ xs) i zero d lt = inl (omega arith, refl)
 stands (x ∷ xs) i (suc k) d lt = inr (subst (λ (n : ℕ). StandsAt (i + 1) xs n (get_or xs k d)) (omega arith) (stands xs (i + 1) k d (omega arith)))
 
-stands_alone : (xs : List Pair) (i k : ℕ) (d s : Pair) → StandsAt i xs (i + k) s → get_or xs k d ≡ s
+pub stands_alone : (xs : List Pair) (i k : ℕ) (d s : Pair) → StandsAt i xs (i + k) s → get_or xs k d ≡ s
 stands_alone [] i k d s h = absurd h
 stands_alone (x ∷ xs) i zero d s (inl e) = e.1
 stands_alone (x ∷ xs) i zero d s (inr h) = let r = stands_within (i + 1) xs (i + zero) s h in absurd (omega (arith, r.0))
@@ -72,12 +72,12 @@ stands_alone (x ∷ xs) i (suc k) d s (inr h) = stands_alone xs (i + 1) k d s (s
 
 -- ---- the marks that are found
 
-at_out : (i : ℕ) (ps : List Point) (m : Mark) → Has (marks_at i ps) m → (i ≡ m.index) × Has ps m.point
+pub at_out : (i : ℕ) (ps : List Point) (m : Mark) → Has (marks_at i ps) m → (i ≡ m.index) × Has ps m.point
 at_out i ps m h =
     let r = Has-map_out (λ p. let made : Mark = record { index = i; point = p } in made) ps m h in
     (ap (λ (n : Mark). n.index) r.2, subst (Has ps) (ap (λ (n : Mark). n.point) r.2) r.1)
 
-at_in : (i : ℕ) (ps : List Point) (p : Point) → Has ps p → Has (marks_at i ps) (record { index = i; point = p })
+pub at_in : (i : ℕ) (ps : List Point) (p : Point) → Has ps p → Has (marks_at i ps) (record { index = i; point = p })
 at_in i ps p h = Has-map (λ q. let made : Mark = record { index = i; point = q } in made) ps p h
 
 -- a mark is put by one pair of the list on another
@@ -199,7 +199,7 @@ AreMarks-from_found placing segments marks found = record {
 
 -- ---- whether the pass is rounded
 
-some_out : (ss : List Pair) → some_cross_inexactly ss ≡ true → (s : Pair) × (t : Pair) × Has ss s × Has ss t × (cross_inexactly s t ≡ true)
+pub some_out : (ss : List Pair) → some_cross_inexactly ss ≡ true → (s : Pair) × (t : Pair) × Has ss s × Has ss t × (cross_inexactly s t ≡ true)
 unfolding some_cross_inexactly
 some_out [] h = absurd (both_ways false refl h)
 some_out (s ∷ ss) h = elim (or_cases (list_any (λ t. cross_inexactly s t) ss) (some_cross_inexactly ss) h) [
@@ -207,7 +207,7 @@ some_out (s ∷ ss) h = elim (or_cases (list_any (λ t. cross_inexactly s t) ss)
   | inr later ↦ let r = some_out ss later in (r.0, r.1, inr r.2, inr r.3, r.4)
 ]
 
-some_in : (ss : List Pair) (s t : Pair) → Has ss s → Has ss t → cross_inexactly s t ≡ true → some_cross_inexactly ss ≡ true
+pub some_in : (ss : List Pair) (s t : Pair) → Has ss s → Has ss t → cross_inexactly s t ≡ true → some_cross_inexactly ss ≡ true
 unfolding some_cross_inexactly
 some_in [] s t h k c = absurd h
 some_in (x ∷ ss) s t (inl e) (inl f) c = absurd (both_ways (cross_inexactly s t) (ap (cross_inexactly s) (sym f ∙ e) ∙ exact_with_itself s) c)

@@ -44,15 +44,22 @@ module _ {I : Type 0} (eq : I → I → Bool) (cmp : I → I → Ordering) (whol
       let points = same_by_eq (mark_of whole m).point (mark_of whole n).point (sym (same_points eq cmp whole e o m.point n.point) ∙ parts.1) in
       ap₂ (λ (i : ℕ) (p : Point). let made : Mark = record { index = i; point = p } in made) (eqb-true m.index n.index parts.0) points
 
-  -- what was found, sorted and without repeats, are the marks of the pass
-  pub AreMarks-from_sorted : (placing : Placing) (segments : List WholeSegment) (xs ys zs : List (LineMark I)) → marks_of whole xs ≡ marks_of_each placing 0 (pairs segments) →
+  -- what has the elements of what was found, sorted and without repeats, are the marks of the pass
+  pub AreMarks-from_elements : (placing : Placing) (segments : List WholeSegment) (xs ys zs : List (LineMark I)) →
+      ((m : Mark) → Has (marks_of whole xs) m → Has (marks_of_each placing 0 (pairs segments)) m) → ((m : Mark) → Has (marks_of_each placing 0 (pairs segments)) m → Has (marks_of whole xs) m) →
       IsPermutation xs ys → IsSorted by_mark ys → IsFiltered (DiffersFromLast (line_eq eq)) [] ys zs → AreMarks placing segments (marks_of whole zs)
-  AreMarks-from_sorted placing segments xs ys zs found p s d =
+  AreMarks-from_elements placing segments xs ys zs sound complete p s d =
       let is : zs ≡ dedup (line_eq eq) ys = dedup_is (line_eq eq) ys zs d in
       AreMarks-from_found placing segments (marks_of whole zs) (record {
         in_order = IsStrictlySortedBy-map (mark_of whole) mark_cmp zs (subst (λ (ls : List (LineMark I)). IsStrictlySortedBy by_mark ls) (sym is) (IsStrictlySortedBy-dedup (on_total (mark_of whole) mark_cmp_total) line_eq-ties ys s));
-        sound = λ m h. subst (λ (ms : List Mark). Has ms m) found
+        sound = λ m h. sound m
             (Has-permutation (mark_of whole) ys xs (IsPermutation-sym xs ys p) m (Has-dedup_out (mark_of whole) (line_eq eq) ys m (subst (λ (ls : List (LineMark I)). Has (map (mark_of whole) ls) m) is h)));
         complete = λ m h. subst (λ (ls : List (LineMark I)). Has (map (mark_of whole) ls) m) (sym is)
-            (Has-dedup (mark_of whole) (line_eq eq) line_eq-same ys m (Has-permutation (mark_of whole) xs ys p m (subst (λ (ms : List Mark). Has ms m) (sym found) h)));
+            (Has-dedup (mark_of whole) (line_eq eq) line_eq-same ys m (Has-permutation (mark_of whole) xs ys p m (complete m h)));
       })
+
+  -- so is what was found itself
+  pub AreMarks-from_sorted : (placing : Placing) (segments : List WholeSegment) (xs ys zs : List (LineMark I)) → marks_of whole xs ≡ marks_of_each placing 0 (pairs segments) →
+      IsPermutation xs ys → IsSorted by_mark ys → IsFiltered (DiffersFromLast (line_eq eq)) [] ys zs → AreMarks placing segments (marks_of whole zs)
+  AreMarks-from_sorted placing segments xs ys zs found p s d =
+      AreMarks-from_elements placing segments xs ys zs (λ m h. subst (λ (ms : List Mark). Has ms m) found h) (λ m h. subst (λ (ms : List Mark). Has ms m) (sym found) h) p s d

@@ -73,11 +73,11 @@ moved_up z t b r is = record { low = low_moved z t (pos b) r is.low; high = high
     high_moved : (z t b r : ℤ) → (pos 2 *ℤ t) <ℤ (pos 2 *ℤ (b *ℤ r) +ℤ b) → (pos 2 *ℤ (z *ℤ b +ℤ t)) <ℤ (pos 2 *ℤ (b *ℤ (z +ℤ r)) +ℤ b)
     high_moved z t b r h = let e : b *ℤ (z +ℤ r) ≡ z *ℤ b +ℤ b *ℤ r = rw (as_D z, as_D b, as_D r) (simp diffs (D-eq _ _ _ _ (omega arith))) in rw e (omega (arith, ints))
 
-settled_x : (s t : Pair) → IsTrue (do_cross s t) → IsRoundedUp (s.a.x *ℤ pos (scale s t) +ℤ (s.b.x -ℤ s.a.x) *ℤ share s t) (scale s t) (settling_point s t).x
+pub settled_x : (s t : Pair) → IsTrue (do_cross s t) → IsRoundedUp (s.a.x *ℤ pos (scale s t) +ℤ (s.b.x -ℤ s.a.x) *ℤ share s t) (scale s t) (settling_point s t).x
 unfolding settling_point placed_by
 settled_x s t h = rw (offset_x-is s t) (moved_up s.a.x _ (scale s t) _ (nearest_upward-is ((s.b.x -ℤ s.a.x) *ℤ share s t) (scale s t) (IsPart-share s t h).some))
 
-settled_y : (s t : Pair) → IsTrue (do_cross s t) → IsRoundedUp (s.a.y *ℤ pos (scale s t) +ℤ (s.b.y -ℤ s.a.y) *ℤ share s t) (scale s t) (settling_point s t).y
+pub settled_y : (s t : Pair) → IsTrue (do_cross s t) → IsRoundedUp (s.a.y *ℤ pos (scale s t) +ℤ (s.b.y -ℤ s.a.y) *ℤ share s t) (scale s t) (settling_point s t).y
 unfolding settling_point placed_by
 settled_y s t h = rw (offset_y-is s t) (moved_up s.a.y _ (scale s t) _ (nearest_upward-is ((s.b.y -ℤ s.a.y) *ℤ share s t) (scale s t) (IsPart-share s t h).some))
 
@@ -136,7 +136,15 @@ lies_between s p h =
     let j = and_parts (is_between s.a.x s.b.x p.x) (is_between s.a.y s.b.y p.y) i.1 in
     (i.0, j.0, j.1)
 
-on_pair : (s : Pair) (p : Point) → Before s.a s.b → turn s.a s.b p ≡ pos 0 → IsTrue (is_between s.a.x s.b.x p.x) → IsTrue (is_between s.a.y s.b.y p.y) → IsRoundedPoint s p
+-- p is the point part / whole of the way along s
+pub record IsPointAlong (s : Pair) (p : Point) : Type 0 where
+  pub part : ℤ
+  pub whole : ℕ
+  pub is_part : IsPart part whole
+  pub at_x : s.a.x *ℤ pos whole +ℤ (s.b.x -ℤ s.a.x) *ℤ part ≡ p.x *ℤ pos whole
+  pub at_y : s.a.y *ℤ pos whole +ℤ (s.b.y -ℤ s.a.y) *ℤ part ≡ p.y *ℤ pos whole
+
+on_pair : (s : Pair) (p : Point) → Before s.a s.b → turn s.a s.b p ≡ pos 0 → IsTrue (is_between s.a.x s.b.x p.x) → IsTrue (is_between s.a.y s.b.y p.y) → IsPointAlong s p
 unfolding turn
 on_pair s p (inl less) e hx hy =
     let d = s.b.x -ℤ s.a.x in
@@ -148,8 +156,8 @@ on_pair s p (inl less) e hx hy =
       part = p.x -ℤ s.a.x;
       whole = w;
       is_part = record { some = some; low = omega (arith, ints, i.0); high = rw f (omega (arith, ints, i.1)) };
-      at_x = rounded_at _ p.x w some (whole_x s.a.x d p.x w f);
-      at_y = rounded_at _ p.y w some (whole_y s.a.y (s.b.y -ℤ s.a.y) d p.y (p.x -ℤ s.a.x) w f e);
+      at_x = whole_x s.a.x d p.x w f;
+      at_y = whole_y s.a.y (s.b.y -ℤ s.a.y) d p.y (p.x -ℤ s.a.x) w f e;
     }
 on_pair s p (inr same) e hx hy =
     let d = s.b.y -ℤ s.a.y in
@@ -161,12 +169,17 @@ on_pair s p (inr same) e hx hy =
       part = p.y -ℤ s.a.y;
       whole = w;
       is_part = record { some = some; low = omega (arith, ints, i.0); high = rw f (omega (arith, ints, i.1)) };
-      at_x = rounded_at _ p.x w some (whole_there s.a.x s.b.x p.x (p.y -ℤ s.a.y) w same.0 (within_any s.a.x s.b.x p.x hx same.0));
-      at_y = rounded_at _ p.y w some (whole_x s.a.y d p.y w f);
+      at_x = whole_there s.a.x s.b.x p.x (p.y -ℤ s.a.y) w same.0 (within_any s.a.x s.b.x p.x hx same.0);
+      at_y = whole_x s.a.y d p.y w f;
     }
 
+pub lies_along : (s : Pair) (p : Point) → IsTrue (is_ordered s) → IsTrue (lies_on s p) → IsPointAlong s p
+lies_along s p o h = let i = lies_between s p h in on_pair s p (before s.a s.b o) i.0 i.1 i.2
+
 pub rounded_on_pair : (s : Pair) (p : Point) → IsTrue (is_ordered s) → IsTrue (lies_on s p) → IsRoundedPoint s p
-rounded_on_pair s p o h = let i = lies_between s p h in on_pair s p (before s.a s.b o) i.0 i.1 i.2
+rounded_on_pair s p o h =
+    let i = lies_along s p o h in
+    record { part = i.part; whole = i.whole; is_part = i.is_part; at_x = rounded_at _ p.x i.whole i.is_part.some i.at_x; at_y = rounded_at _ p.y i.whole i.is_part.some i.at_y }
 
 -- the ends themselves
 unfoldable pub rounded_start : (s : Pair) → IsRoundedPoint s s.a

@@ -3,6 +3,7 @@
 ghost use Rattle.overlay_split.specs.Laws.{AnswersAreMarks, NoMarkIsAnEnd, NeverThreeZeros, ExactIsOnBothLines, TargetDoesNotMatter, PointsLieInBothBoxes, SnappedEndsAreOffTheLine, NoEndOfBoth, RoundingsAreAsMeant};
 ghost use Rattle.overlay_split.specs.Laws.{NumbersAreOdd, PiecesTelescope, PassKeepsLosses, PassKeepsBalance, RunKeepsBalance, RunKeepsPolygons};
 ghost use Rattle.overlay_split.specs.Laws.{SettlingLowers, RunEnds, RunIsOne, ExactPassIsPlanar, PlanarPassIsUnchanged, RunIsPlanar, ArrangedIsUnchanged, ResultIsUnchanged};
+ghost use Rattle.overlay_split.specs.Laws.{RootIsMeant, RootOfPower, NearEndsAreEnough, DistancesAddUp, CrossingLiesOnBoth, MarkIsNear, PassStaysNear, PiecesStayNear, RunStaysNear, LinesAreKept, ReachIsBounded, LastPassReachesNothing, ExactInputReachesNothing};
 ghost use Rattle.overlay_split.specs.Laws.{StaysInBox, ExactInputKeepsCounts, ExactRunsAgree, DataIsBeside, UnmarkedDataIsUnchanged, ArrangedDataIsUnchanged, StoppedRunLeavesRange, StoppedRunIsOne};
 
 /// The answer for two pairs, the smaller as target, stands for the marks that a pass puts on both, and no mark is an
@@ -77,6 +78,26 @@ pub fn box_laws()
 pub fn exact_input_laws()
     ensures counts { ExactInputKeepsCounts }
     ensures agree { ExactRunsAgree }
+{}
+
+/// Each segment of a run lies near one given segment, and each point of a given segment lies near the result, or near
+/// where counts cancelled. How near: as far as the passes move crossings, added up. A pass in which every crossing is
+/// exact moves nothing; one that settles moves by a half; one that snaps by 1 and the radius. So exact input stays where
+/// it is, and the last pass of a run moves nothing, where two segments or more are left. The counts of lines never cancel.
+pub fn nearness_laws()
+    ensures root { RootIsMeant }
+    ensures root_of_power { RootOfPower }
+    ensures ends { NearEndsAreEnough }
+    ensures added { DistancesAddUp }
+    ensures crossing { CrossingLiesOnBoth }
+    ensures mark { MarkIsNear }
+    ensures pass { PassStaysNear }
+    ensures pieces { PiecesStayNear }
+    ensures run { RunStaysNear }
+    ensures lines { LinesAreKept }
+    ensures bound { ReachIsBounded }
+    ensures last_pass { LastPassReachesNothing }
+    ensures exact_input { ExactInputReachesNothing }
 {}
 
 /// Whatever the hooks do, passes with data are, without their data, the passes without. Where nothing is marked, data

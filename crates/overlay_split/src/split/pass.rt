@@ -1,8 +1,8 @@
 // One pass over a list: every segment is cut at its marks, and the pieces are joined. Upstream: `split::solver_list`
 // and `split::solver`, where marks are applied.
-ghost use Rattle.std.specs.Prelude.{◌≡◌, [], IsTrue, IsFalse, IfOk, IfErr, OnOk, OnErr, nat_lt};
+ghost use Rattle.std.specs.Prelude.{◌≡◌, ◌≤◌, ◌+◌, [], IsTrue, IsFalse, IfOk, IfErr, OnOk, OnErr, nat_lt};
 ghost use Rattle.overlay_base.specs.declared.segm.fault.Fault.TheVariants.{Memory, CountOutOfRange};
-ghost use Rattle.overlay_base.specs.Segments.{is_map};
+ghost use Rattle.overlay_base.specs.Segments.{pairs, is_map};
 ghost use Rattle.overlay_base.specs.Planar.{is_splittable};
 ghost use Rattle.overlay_base.specs.Join.{join_leaves_range};
 ghost use Rattle.overlay_base.specs.EdgeData.{IsRefusedJoin};
@@ -11,12 +11,14 @@ ghost use Rattle.overlay_base.specs.SegmentOf.{segments_of, data_segments_of};
 ghost use Rattle.overlay_split.specs.Pass.{cut, pass, is_rounded, mark_count};
 ghost use Rattle.overlay_split.specs.DataPass.{data_cut, data_pass};
 ghost use Rattle.overlay_split.specs.PlacingOf.{placing_of, HasRadius};
+ghost use Rattle.overlay_split.specs.Looked.{tree_looks};
 
 use crate::split::cut::{cut_segment, index_len};
+use crate::split::finder::Finder;
 use crate::split::line_mark::LineMark;
 use crate::split::path::collect_path;
 use crate::split::placing::Placing;
-use crate::split::solver_list::find_marks;
+use crate::split::solver_tree::TreeBuffers;
 use overlay_base::geom::point::IntPoint;
 use overlay_base::geom::x_segment::XSegment;
 use overlay_base::num::OverlayInt;
@@ -32,6 +34,7 @@ use std::alloc::Global;
 pub struct PassBuffers<I> {
     marks: Vec<LineMark<I>>,
     path: Vec<IntPoint<I>>,
+    tree: TreeBuffers<I>,
 }
 
 impl<I> PassBuffers<I> {
@@ -40,6 +43,7 @@ impl<I> PassBuffers<I> {
         PassBuffers {
             marks: Vec::new(alloc),
             path: Vec::new(alloc),
+            tree: TreeBuffers::new(alloc),
         }
     }
 }
@@ -65,7 +69,9 @@ pub struct Passed {
 pub fn pass<C: WindingCount, I: OverlayInt, D: OverlayEdgeData<C>>(
     list: &mut Vec<Segment<C, I, D>>,
     placing: Placing,
+    finder: Finder,
     buffers: &mut PassBuffers<I>,
+    looked: &mut u128,
     store: &mut D::Store,
 ) -> Result<Passed, Fault>
     requires map { IsTrue (is_map (segments_of list.old.items)) }
@@ -80,6 +86,7 @@ pub fn pass<C: WindingCount, I: OverlayInt, D: OverlayEdgeData<C>>(
         store.new ≡ (data_pass hooks (placing_of placing) (data_segments_of list.old.items) store.old).1) }
     ensures rounded { IfOk result (λ passed. passed.is_rounded ≡ is_rounded (segments_of list.old.items)) }
     ensures marked { IfOk result (λ passed. passed.has_marks ≡ nat_lt 0 (mark_count (placing_of placing) (segments_of list.old.items))) }
+    ensures looked { finder ≡ Finder.Tree → OnOk result (looked.new ≤ looked.old + tree_looks (pairs (segments_of list.old.items))) }
 
     ensures fits { OnOk result (IsFalse (join_leaves_range (cut (placing_of placing) (segments_of list.old.items)))) }
     ensures refused { IfErr result (λ fault. fault ≡ CountOutOfRange → IsTrue (join_leaves_range (cut (placing_of placing) (segments_of list.old.items)))) }
@@ -89,7 +96,7 @@ pub fn pass<C: WindingCount, I: OverlayInt, D: OverlayEdgeData<C>>(
         let pieces = data_cut hooks (placing_of placing) (data_segments_of list.old.items) store.old in
         IsRefusedJoin hooks pieces.0 pieces.1 store.new)) }
 {
-    let passed = match cut(list, placing, buffers, store) {
+    let passed = match cut(list, placing, finder, buffers, looked, store) {
         Ok(passed) => passed,
         Err(fault) => {
             list.clear();
@@ -104,7 +111,9 @@ pub fn pass<C: WindingCount, I: OverlayInt, D: OverlayEdgeData<C>>(
 fn cut<C: WindingCount, I: OverlayInt, D: OverlayEdgeData<C>>(
     list: &mut Vec<Segment<C, I, D>>,
     placing: Placing,
+    finder: Finder,
     buffers: &mut PassBuffers<I>,
+    looked: &mut u128,
     store: &mut D::Store,
 ) -> Result<Passed, Fault>
     requires map { IsTrue (is_map (segments_of list.old.items)) }
@@ -118,10 +127,11 @@ fn cut<C: WindingCount, I: OverlayInt, D: OverlayEdgeData<C>>(
         store.new ≡ (data_cut hooks (placing_of placing) (data_segments_of list.old.items) store.old).1) }
     ensures rounded { IfOk result (λ passed. passed.is_rounded ≡ is_rounded (segments_of list.old.items)) }
     ensures marked { IfOk result (λ passed. passed.has_marks ≡ nat_lt 0 (mark_count (placing_of placing) (segments_of list.old.items))) }
+    ensures looked { finder ≡ Finder.Tree → OnOk result (looked.new ≤ looked.old + tree_looks (pairs (segments_of list.old.items))) }
     ensures fault { IfErr result (λ fault. fault ≡ Memory) }
 {
-    let PassBuffers { marks, path } = buffers;
-    let is_rounded = find_marks(list.as_slice(), placing, marks)?;
+    let PassBuffers { marks, path, tree } = buffers;
+    let is_rounded = finder.find_marks(list.as_slice(), placing, tree, marks, looked)?;
     let mut rest = marks.as_slice();
     while let Some(first) = rest.first() {
         let index = first.index;

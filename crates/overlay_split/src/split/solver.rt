@@ -17,9 +17,14 @@ ghost use Rattle.overlay_split.specs.Pass.{cut, pass, is_rounded, mark_count};
 ghost use Rattle.overlay_split.specs.DataPass.{data_cut, data_pass, data_after_passes, IsStoppedRun};
 ghost use Rattle.overlay_split.specs.Run.{IsRun, LeavesRange, after_passes};
 ghost use Rattle.overlay_split.specs.ExactInput.{is_exact_input, KeepsCounts};
+ghost use Rattle.overlay_split.specs.Nearness.{StaysNear};
 ghost use Rattle.overlay_split.specs.Potential.{potential};
 ghost use Rattle.overlay_split.specs.PlacingOf.{placing_of, HasRadius};
+ghost use Rattle.overlay_split.specs.Looked.{tree_looks};
+ghost use Rattle.overlay_split.specs.RunLooks.{HasNoListPass, run_looks};
+ghost use Rattle.overlay_base.specs.Choices.{list_splits};
 
+use crate::split::finder::Finder;
 use crate::split::pass::{PassBuffers, pass};
 use crate::split::placing::Placing;
 use overlay_base::num::OverlayInt;
@@ -41,6 +46,7 @@ pub struct SplitSolver<I> {
     buffers: PassBuffers<I>,
     snap_limit: u32,
     passes: u128,
+    looked: u128,
 }
 
 /// How far a run has come.
@@ -56,12 +62,13 @@ struct Progress {
 
 impl<I> SplitSolver<I> {
     ghost use Rattle.std.specs.Prelude.{◌≡◌};
-    ghost use Rattle.overlay_split.specs.SettingsOf.{snap_limit_of, passes_of};
+    ghost use Rattle.overlay_split.specs.SettingsOf.{snap_limit_of, passes_of, looked_of};
 
     /// A splitter that snaps in the first 256 passes. It takes no memory yet.
     pub fn new(alloc: Global) -> Self
         ensures limit { snap_limit_of result ≡ 256 }
         ensures passes { passes_of result ≡ 0 }
+        ensures looked { looked_of result ≡ 0 }
     {
         SplitSolver::with_snap_limit(alloc, SNAP_LIMIT)
     }
@@ -73,11 +80,13 @@ impl<I> SplitSolver<I> {
     pub fn with_snap_limit(alloc: Global, snap_limit: u32) -> Self
         ensures limit { snap_limit_of result ≡ snap_limit }
         ensures passes { passes_of result ≡ 0 }
+        ensures looked { looked_of result ≡ 0 }
     {
         SplitSolver {
             buffers: PassBuffers::new(alloc),
             snap_limit,
             passes: 0,
+            looked: 0,
         }
     }
 
@@ -87,10 +96,18 @@ impl<I> SplitSolver<I> {
     {
         self.passes
     }
+
+    /// How often the last call that succeeded took up a pair of segments, even if only to compare their boxes; 0 at
+    /// first. It stops at `u128::MAX`.
+    pub fn looked(&self) -> u128
+        ensures { result ≡ looked_of self.now }
+    {
+        self.looked
+    }
 }
 
 impl<I: OverlayInt> SplitSolver<I> {
-    ghost use Rattle.overlay_split.specs.SettingsOf.{snap_limit_of, passes_of, settings_of};
+    ghost use Rattle.overlay_split.specs.SettingsOf.{snap_limit_of, passes_of, looked_of, settings_of};
 
     /// Splits a list as `split_segments_with_store` does, with a store of its own for the data, which begins as the
     /// store's default and is dropped.
@@ -109,6 +126,7 @@ impl<I: OverlayInt> SplitSolver<I> {
         ensures balance { OnOk result (KeepsBalance (segments_of list.old.items) (segments_of list.new.items)) }
         ensures in_box { OnOk result (IsTrue (list_all (λ p. is_within_box_of (ends (pairs (join (segments_of list.old.items)))) p) (ends (pairs (segments_of list.new.items))))) }
         ensures exact_input { IsTrue (is_exact_input (segments_of list.old.items)) → OnOk result (KeepsCounts (segments_of list.old.items) (segments_of list.new.items)) }
+        ensures near { OnOk result (StaysNear (settings_of I.BITS solver.now self.old) (segments_of list.old.items) (segments_of list.new.items) (passes_of self.new)) }
         ensures bound { OnOk result (passes_of self.new ≤ snap_limit_of self.old + potential (after_passes (settings_of I.BITS solver.now self.old) (segments_of list.old.items) (snap_limit_of self.old)) + 1) }
         ensures unchanged { IsTrue (is_arranged (I.whole I.MIN_COORD) (I.whole I.MAX_COORD) (segments_of list.old.items)) →
             IfOk result (λ flag. (flag ≡ false) × (data_segments_of list.new.items ≡ data_segments_of list.old.items)) }
@@ -117,6 +135,9 @@ impl<I: OverlayInt> SplitSolver<I> {
         ensures refused { IfErr result (λ fault. fault ≡ CountOutOfRange → LeavesRange (settings_of I.BITS solver.now self.old) (segments_of list.old.items)) }
         ensures emptied { OnErr result (list.new.items ≡ []) }
         ensures passes { OnErr result (passes_of self.new ≡ passes_of self.old) }
+        ensures looked { HasNoListPass solver.now.strategy (settings_of I.BITS solver.now self.old) (segments_of list.old.items) (passes_of self.new) →
+            OnOk result (looked_of self.new ≤ run_looks (settings_of I.BITS solver.now self.old) (segments_of list.old.items) (passes_of self.new)) }
+        ensures looked_before { OnErr result (looked_of self.new ≡ looked_of self.old) }
         ensures limit { snap_limit_of self.new ≡ snap_limit_of self.old }
         ensures empty { list.old.items ≡ [] → (result ≡ Ok false) × (passes_of self.new ≡ 0) }
     {
@@ -132,7 +153,8 @@ impl<I: OverlayInt> SplitSolver<I> {
     /// snap limit, and settles after it. The solver's strategy does not change the answer.
     ///
     /// A list that `is_arranged` stays as it is. Where no two given segments cross at a point without whole coordinates,
-    /// the counts along them are those given. An empty list takes no memory.
+    /// the counts along them are those given. In every case the result and the given segments lie near one another, but
+    /// for counts that cancel: as near as the passes move crossings. An empty list takes no memory.
     ///
     /// Answers `Fault::CountOutOfRange` only where a running sum of counts on one pair of ends leaves
     /// `-i32::MAX..=i32::MAX`, in the given list or among the pieces of a pass, and, memory being found, wherever one
@@ -156,6 +178,7 @@ impl<I: OverlayInt> SplitSolver<I> {
         ensures balance { OnOk result (KeepsBalance (segments_of list.old.items) (segments_of list.new.items)) }
         ensures in_box { OnOk result (IsTrue (list_all (λ p. is_within_box_of (ends (pairs (join (segments_of list.old.items)))) p) (ends (pairs (segments_of list.new.items))))) }
         ensures exact_input { IsTrue (is_exact_input (segments_of list.old.items)) → OnOk result (KeepsCounts (segments_of list.old.items) (segments_of list.new.items)) }
+        ensures near { OnOk result (StaysNear (settings_of I.BITS solver.now self.old) (segments_of list.old.items) (segments_of list.new.items) (passes_of self.new)) }
         ensures bound { OnOk result (passes_of self.new ≤ snap_limit_of self.old + potential (after_passes (settings_of I.BITS solver.now self.old) (segments_of list.old.items) (snap_limit_of self.old)) + 1) }
         ensures unchanged { IsTrue (is_arranged (I.whole I.MIN_COORD) (I.whole I.MAX_COORD) (segments_of list.old.items)) →
             IfOk result (λ flag. (flag ≡ false) × (data_segments_of list.new.items ≡ data_segments_of list.old.items) × (store.new ≡ store.old)) }
@@ -167,11 +190,15 @@ impl<I: OverlayInt> SplitSolver<I> {
             (let hooks = hooks_of C.counted D.reversed_gives D.split_gives D.merge_gives in
             IsStoppedRun hooks (settings_of I.BITS solver.now self.old) (data_segments_of list.old.items) store.old store.new)) }
         ensures passes { OnErr result (passes_of self.new ≡ passes_of self.old) }
+        ensures looked { HasNoListPass solver.now.strategy (settings_of I.BITS solver.now self.old) (segments_of list.old.items) (passes_of self.new) →
+            OnOk result (looked_of self.new ≤ run_looks (settings_of I.BITS solver.now self.old) (segments_of list.old.items) (passes_of self.new)) }
+        ensures looked_before { OnErr result (looked_of self.new ≡ looked_of self.old) }
         ensures limit { snap_limit_of self.new ≡ snap_limit_of self.old }
         ensures empty { list.old.items ≡ [] → (result ≡ Ok false) × (passes_of self.new ≡ 0) }
     {
         if list.is_empty() {
             self.passes = 0;
+            self.looked = 0;
             return Ok(false);
         }
         let repeated = join_with_store(list, store)?;
@@ -180,32 +207,52 @@ impl<I: OverlayInt> SplitSolver<I> {
             has_changed: repeated,
             goes_on: list.len() >= 2,
         };
+        let mut looked = 0;
         let mut radius = solver.snap_radius();
         for _ in 0..self.snap_limit {
             if !progress.goes_on {
                 break;
             }
             let placing = snapping::<I>(&radius);
-            progress = progress.after_pass(list, placing, &mut self.buffers, store)?;
+            let finder = finder(solver, list);
+            progress = progress.after_pass(
+                list,
+                placing,
+                finder,
+                &mut self.buffers,
+                &mut looked,
+                store,
+            )?;
             radius.increment();
         }
         while progress.goes_on {
-            progress = progress.after_pass(list, Placing::Settling, &mut self.buffers, store)?;
+            let finder = finder(solver, list);
+            progress = progress.after_pass(
+                list,
+                Placing::Settling,
+                finder,
+                &mut self.buffers,
+                &mut looked,
+                store,
+            )?;
         }
         self.passes = progress.passes;
+        self.looked = looked;
         Ok(progress.has_changed)
     }
 }
 
 impl Progress {
-    ghost use Rattle.std.specs.Prelude.{◌≡◌, ◌+◌, ◌<◌, ◌^◌, ◌||◌, ◌&&◌, [], IsTrue, IsFalse, IfOk, IfErr, OnOk, OnErr, length, nat_le, nat_lt};
+    ghost use Rattle.std.specs.Prelude.{◌≡◌, ◌+◌, ◌<◌, ◌≤◌, ◌^◌, ◌||◌, ◌&&◌, [], IsTrue, IsFalse, IfOk, IfErr, OnOk, OnErr, length, nat_le, nat_lt};
 
     /// Where a run stands after one more pass.
     fn after_pass<C: WindingCount, I: OverlayInt, D: OverlayEdgeData<C>>(
         self,
         list: &mut Vec<Segment<C, I, D>>,
         placing: Placing,
+        finder: Finder,
         buffers: &mut PassBuffers<I>,
+        looked: &mut u128,
         store: &mut D::Store,
     ) -> Result<Progress, Fault>
         requires map { IsTrue (is_map (segments_of list.old.items)) }
@@ -222,6 +269,7 @@ impl Progress {
         ensures passes { IfOk result (λ after. after.passes ≡ self.passes + 1) }
         ensures changed { IfOk result (λ after. after.has_changed ≡ (self.has_changed || nat_lt 0 (mark_count (placing_of placing) (segments_of list.old.items)))) }
         ensures goes_on { IfOk result (λ after. after.goes_on ≡ (nat_le 2 (length list.new.items) && is_rounded (segments_of list.old.items))) }
+        ensures looked { finder ≡ Finder.Tree → OnOk result (looked.new ≤ looked.old + tree_looks (pairs (segments_of list.old.items))) }
 
         ensures fits { OnOk result (IsFalse (join_leaves_range (cut (placing_of placing) (segments_of list.old.items)))) }
         ensures emptied { OnErr result (list.new.items ≡ []) }
@@ -230,12 +278,26 @@ impl Progress {
             let pieces = data_cut hooks (placing_of placing) (data_segments_of list.old.items) store.old in
             IsRefusedJoin hooks pieces.0 pieces.1 store.new)) }
     {
-        let passed = pass(list, placing, buffers, store)?;
+        let passed = pass(list, placing, finder, buffers, looked, store)?;
         Ok(Progress {
             passes: self.passes + 1,
             has_changed: self.has_changed || passed.has_marks,
             goes_on: list.len() >= 2 && passed.is_rounded,
         })
+    }
+}
+
+/// How a pass over these segments finds those that meet.
+fn finder<C: WindingCount, I: OverlayInt, D: OverlayEdgeData<C>>(
+    solver: &Solver,
+    list: &[Segment<C, I, D>],
+) -> Finder
+    ensures { IsFalse (list_splits solver.now.strategy (length list.now)) → result ≡ Finder.Tree }
+{
+    if solver.is_list_split(list) {
+        Finder::List
+    } else {
+        Finder::Tree
     }
 }
 

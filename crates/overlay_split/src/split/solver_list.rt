@@ -16,6 +16,7 @@ ghost use Rattle.overlay_split.specs.Finder.{marks_at, marks_of_overlap, marks_b
 
 use crate::split::cross_solver::{CrossSolver, CrossType};
 use crate::split::line_mark::LineMark;
+use crate::split::looks::take_up;
 use crate::split::placing::Placing;
 use overlay_base::geom::point::IntPoint;
 use overlay_base::geom::x_segment::XSegment;
@@ -27,22 +28,24 @@ use std::alloc::AllocError;
 
 /// A segment of a list, by its index.
 #[derive(Clone, Copy)]
-struct Indexed<I> {
-    index: usize,
-    x_segment: XSegment<I>,
+pub(crate) struct Indexed<I> {
+    pub index: usize,
+    pub x_segment: XSegment<I>,
 }
 
 /// Finds the marks of a pass: the points at which each segment is to be split, each once, by rising index and then in
 /// order of points. Answers whether two segments cross at a point without whole coordinates, so that the pass rounds.
 ///
 /// The list has to be sorted, as by `sort_by_ab`, and in range, and a squared radius at least 1. It looks at every two
-/// segments whose ranges in `x` and in `y` meet. What `marks` held before is dropped.
+/// segments whose ranges in `x` meet, which `looked` counts, and marks those whose ranges in `y` meet too. What `marks` held
+/// before is dropped.
 ///
 /// Answers `Fault::Memory` where a growth is refused; `marks` is of no use then.
 pub fn find_marks<C: WindingCount, I: OverlayInt, D: Copy>(
     segments: &[Segment<C, I, D>],
     placing: Placing,
     marks: &mut Vec<LineMark<I>>,
+    looked: &mut u128,
 ) -> Result<bool, Fault>
     requires sorted { IsSortedByKey ends_of pair_cmp segments.now }
     requires in_range { All (λ s. IsPairInRange I.whole I.MIN_COORD I.MAX_COORD (x_segment_of s)) segments.now }
@@ -54,7 +57,7 @@ pub fn find_marks<C: WindingCount, I: OverlayInt, D: Copy>(
     marks.clear();
     let mut rounded = false;
     for index in 0..segments.len() {
-        if mark_with_later(segments, index, placing, marks)? {
+        if mark_with_later(segments, index, placing, marks, looked)? {
             rounded = true;
         }
     }
@@ -70,6 +73,7 @@ fn mark_with_later<C: WindingCount, I: OverlayInt, D: Copy>(
     index: usize,
     placing: Placing,
     marks: &mut Vec<LineMark<I>>,
+    looked: &mut u128,
 ) -> Result<bool, AllocError>
     requires index { index < length segments.now }
     requires sorted { IsSortedByKey ends_of pair_cmp segments.now }
@@ -90,6 +94,7 @@ fn mark_with_later<C: WindingCount, I: OverlayInt, D: Copy>(
         if other.begins_past_end(&target) {
             break;
         }
+        take_up(looked);
         let second = Indexed {
             index: later,
             x_segment: other,
@@ -103,7 +108,7 @@ fn mark_with_later<C: WindingCount, I: OverlayInt, D: Copy>(
 
 /// Appends the marks that two segments put on one another, and answers whether they cross at a point without whole
 /// coordinates. The first is the target, and may not stand after the second.
-fn mark_both<I: OverlayInt>(
+pub(crate) fn mark_both<I: OverlayInt>(
     first: Indexed<I>,
     second: Indexed<I>,
     placing: Placing,

@@ -25,7 +25,7 @@ returns-clause-overlay g c =
     let given : List WholeSegment = segments_of c.args.segments.now.items in
     let segments : List WholeSegment = segments_of c.split_segments.new.list.items in
     let passes : ℕ = passes_of c.split_segments.new.self in
-    let split : IsSplit settings given segments passes = split_from _ _ _ _ _ _ _ e.run e.arranged e.balance e.in_box e.exact_input e.bound in
+    let split : IsSplit settings given segments passes = split_from _ _ _ _ _ _ _ e.run e.arranged e.balance e.in_box e.near e.exact_input e.bound in
     let balanced = rw c.deref.ensures.value at c.build_boolean_overlay.ensures.balanced in
     IfOk-weaker c.build_boolean_overlay.result
     (λ built. HoldGraph indexes_of is_canonical_node whole built.nodes.now built.links.now (graph_by keeps c.args.fill_rule segments))
@@ -58,5 +58,5 @@ returns-clause-refused g c =
     let given : List WholeSegment = segments_of c.args.segments.now.items in
     let segments : List WholeSegment = segments_of c.split_segments.new.list.items in
     let passes : ℕ = passes_of c.split_segments.new.self in
-    let split : IsSplit settings given segments passes = split_from _ _ _ _ _ _ _ e.run e.arranged e.balance e.in_box e.exact_input e.bound in
+    let split : IsSplit settings given segments passes = split_from _ _ _ _ _ _ _ e.run e.arranged e.balance e.in_box e.near e.exact_input e.bound in
     refused_build settings given segments (passes_of c.args.splitter.now) passes c.build_boolean_overlay.result split e.fits (rw c.deref.ensures.value at c.build_boolean_overlay.ensures.out_of_range)

@@ -40,7 +40,15 @@ fn once(
     let mut list = joined(rt, alloc, ends, 1);
     assert!(rt; is_splittable(&list));
     let mut buffers = PassBuffers::new(alloc);
-    let passed = pass(&mut list, placing, &mut buffers, &mut ()).expect(rt, "no refusal");
+    let passed = pass(
+        &mut list,
+        placing,
+        Finder::List,
+        &mut buffers,
+        &mut 0,
+        &mut (),
+    )
+    .expect(rt, "no refusal");
     let mut plain = Vec::new(alloc);
     for segment in list.iter() {
         let XSegment { a, b } = segment.x_segment();
@@ -236,7 +244,14 @@ fn counts_of_pieces_that_leave_the_range(rt: HostRuntime) {
     let mut list = joined(&rt, rt.alloc(), &[[0, 0, 4, 0], [2, 0, 6, 0]], i32::MAX);
     assert!(rt; is_splittable(&list));
     let mut buffers = PassBuffers::new(rt.alloc());
-    let refused = pass(&mut list, Placing::Settling, &mut buffers, &mut ());
+    let refused = pass(
+        &mut list,
+        Placing::Settling,
+        Finder::Tree,
+        &mut buffers,
+        &mut 0,
+        &mut (),
+    );
     assert_eq!(rt; refused, Err(Fault::CountOutOfRange));
     assert!(rt; list.is_empty());
 }

@@ -295,6 +295,33 @@ fn slivers(
     Ok((splitter.passes(), list.len()))
 }
 
+/// 4,000 lines above one another, under a strategy: the flag, the number of passes, and how many pairs were taken up.
+fn stacked(
+    rt: &(impl Abort + AllocGlobal),
+    strategy: Strategy,
+) -> Result<(bool, u128, u128), Fail> {
+    let mut list: Vec<Segment<ShapeCountBoolean, i32, ()>> = Vec::new(rt.alloc());
+    for line in 0..4000_u16 {
+        let y = i64::from(line);
+        list.push(segment(rt, ((0, y), (10, y), 1)))?;
+    }
+    let solver = Solver::with_strategy_and_precision(strategy, Precision::HIGH);
+    let mut splitter = SplitSolver::new(rt.alloc());
+    assert!(rt; is_splittable(&list));
+    let flag = splitter
+        .split_segments(&mut list, &solver)
+        .expect(rt, "no refusal");
+    Ok((flag, splitter.passes(), splitter.looked()))
+}
+
+#[test]
+fn lines_above_one_another(rt: HostRuntime) -> Result<(), Fail> {
+    assert_eq!(rt; stacked(&rt, Strategy::List)?, (false, 1, 7_998_000));
+    assert_eq!(rt; stacked(&rt, Strategy::Tree)?, (false, 1, 0));
+    assert_eq!(rt; stacked(&rt, Strategy::Auto)?, (false, 1, 0));
+    Ok(())
+}
+
 #[test]
 fn slivers_need_many_passes(rt: HostRuntime) -> Result<(), Fail> {
     assert_eq!(rt; slivers(&rt, 1, 0, Precision::HIGH)?, (278, 282));

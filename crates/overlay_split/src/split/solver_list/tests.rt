@@ -56,7 +56,7 @@ fn ask(
     sort_by_ab(&mut segments).expect(rt, "memory");
     assert!(rt; is_usable(&segments));
     let mut marks = Vec::new(alloc);
-    let rounded = find_marks(&segments, placing, &mut marks).expect(rt, "memory");
+    let rounded = find_marks(&segments, placing, &mut marks, &mut 0).expect(rt, "memory");
     let mut found = Vec::new(alloc);
     for mark in marks.iter() {
         found

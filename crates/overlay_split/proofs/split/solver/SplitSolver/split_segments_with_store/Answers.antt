@@ -17,6 +17,8 @@ use Rattle.overlay_split.specs.Run.{Settings, LeavesRange}
 use Rattle.overlay_split.specs.SettingsOf.{settings_of}
 use Rattle.overlay_split.proofs.laws.StoppedRuns.{stopped_run_leaves_range}
 use Rattle.overlay_split.proofs.laws.Splitting.{at_start, at_next, at_rest, stopped_at_start, stopped_at, has_ended, stays_arranged, snaps_at, settles, falls_from, potential_bound, exponent_grows, segments_none, goes_on-is, starts-is, keeps_room, few_enough}
+use Rattle.overlay_base.specs.Choices.{list_splits}
+use Rattle.overlay_split.proofs.laws.RunLooks.{AreFew-start, AreFew-more}
 use Rattle.overlay_split.proofs.split.solver.SplitSolver.split_segments_with_store.Goals as goal
 use Rattle.overlay_split.proofs.split.solver.SplitSolver.split_segments_with_store.Goals.{else-loop-test, then-loop-test+then-not-progress}
 
@@ -65,6 +67,12 @@ returns-then-is_empty-clause-exact_input g c =
     let at = at_rest (hooks_of g.C.WindingCount.counted g.D.OverlayEdgeData.reversed_gives g.D.OverlayEdgeData.split_gives g.D.OverlayEdgeData.merge_gives) (settings_of g.I.OverlayInt.BITS c.args.solver.now c.args.self.now) (g.I.OverlayInt.whole g.I.OverlayInt.MIN_COORD) (g.I.OverlayInt.whole g.I.OverlayInt.MAX_COORD) (segments_of c.args.list.now.items) (data_segments_of c.args.list.now.items) c.args.store.now (segments_none c.args.list.now.items none).0 (segments_none c.args.list.now.items none).1 in
     (has_ended _ _ _ _ _ _ _ _ _ _ _ _ _ (segments_ordered c.args.list.now.items) at refl).exact_input
 
+pub returns-then-is_empty-clause-near : goal.returns-then-is_empty-clause-near
+returns-then-is_empty-clause-near g c =
+    let none : length c.args.list.now.items ≡ 0 = grind (arith, common_steps, c.args.list.now.ok.0) in
+    let at = at_rest (hooks_of g.C.WindingCount.counted g.D.OverlayEdgeData.reversed_gives g.D.OverlayEdgeData.split_gives g.D.OverlayEdgeData.merge_gives) (settings_of g.I.OverlayInt.BITS c.args.solver.now c.args.self.now) (g.I.OverlayInt.whole g.I.OverlayInt.MIN_COORD) (g.I.OverlayInt.whole g.I.OverlayInt.MAX_COORD) (segments_of c.args.list.now.items) (data_segments_of c.args.list.now.items) c.args.store.now (segments_none c.args.list.now.items none).0 (segments_none c.args.list.now.items none).1 in
+    (has_ended _ _ _ _ _ _ _ _ _ _ _ _ _ (segments_ordered c.args.list.now.items) at refl).near
+
 pub returns-then-is_empty-clause-fits : goal.returns-then-is_empty-clause-fits
 returns-then-is_empty-clause-fits g c =
     let none : length c.args.list.now.items ≡ 0 = grind (arith, common_steps, c.args.list.now.ok.0) in
@@ -95,6 +103,8 @@ loop-init g c = record {
   step = c.snap_radius-radius.ensures.step;
   limit = refl;
   passes = refl;
+  looked = AreFew-start c.args.solver.now.strategy (settings_of g.I.OverlayInt.BITS c.args.solver.now c.args.self.now) (segments_of c.args.list.now.items);
+  looked_before = refl;
 }
 
 -- ---- snapping
@@ -111,6 +121,8 @@ loop-preserved g c =
       step = c.increment.ensures.step ∙ c.loop.invariant.step;
       limit = c.loop.invariant.limit;
       passes = c.loop.invariant.passes;
+      looked = AreFew-more c.args.solver.now.strategy (settings_of g.I.OverlayInt.BITS c.args.solver.now c.args.self.now) (segments_of c.args.list.now.items) c.loop.list.items c.loop.progress.passes _ c.loop.looked c.after_pass.new.looked c.finder-finder.result c.loop.invariant.looked c.in_ok-progress.ensures.passes c.loop.invariant.at.arrangement_is (λ h. c.finder-finder.ensures (ap (λ l. list_splits c.args.solver.now.strategy (length l)) c.deref.ensures.value ∙ h)) c.in_ok-progress.ensures.looked;
+      looked_before = c.loop.invariant.looked_before;
     }
 
 pub returns-in_err-progress-clause-stopped : goal.returns-in_err-progress-clause-stopped
@@ -142,6 +154,8 @@ loop-progress-init g c = record {
       few_enough c.loop.list.items c.loop.progress.passes few (omega (arith, c.loop.list.small, c.loop.list.ok)) (omega (arith, made, c.loop.auto.counter-end));
   limit = c.loop.invariant.limit;
   passes = c.loop.invariant.passes;
+  looked = c.loop.invariant.looked;
+  looked_before = c.loop.invariant.looked_before;
 }
 
 pub loop-progress-preserved : goal.loop-progress-preserved
@@ -154,6 +168,8 @@ loop-progress-preserved g c =
       room = λ h. keeps_room _ _ _ _ _ _ c.loop-progress.invariant.at.map c.in_ok-progress-2.ensures.geometry (goes_on-is c.after_pass-in-loop-progress.new.list.items _ _ c.in_ok-progress-2.ensures.goes_on) h c.in_ok-progress-2.ensures.passes (c.loop-progress.invariant.room c.loop-progress-test.true);
       limit = c.loop-progress.invariant.limit;
       passes = c.loop-progress.invariant.passes;
+      looked = AreFew-more c.args.solver.now.strategy (settings_of g.I.OverlayInt.BITS c.args.solver.now c.args.self.now) (segments_of c.args.list.now.items) c.loop-progress.list.items c.loop-progress.progress.passes _ c.loop-progress.looked c.after_pass-in-loop-progress.new.looked c.finder-finder-in-loop-progress.result c.loop-progress.invariant.looked c.in_ok-progress-2.ensures.passes c.loop-progress.invariant.at.arrangement_is (λ h. c.finder-finder-in-loop-progress.ensures (ap (λ l. list_splits c.args.solver.now.strategy (length l)) c.deref-in-loop-progress.ensures.value ∙ h)) c.in_ok-progress-2.ensures.looked;
+      looked_before = c.loop-progress.invariant.looked_before;
     }
 
 pub loop-progress-smaller : goal.loop-progress-smaller
@@ -188,6 +204,9 @@ returns-clause-in_box g c = (has_ended _ _ _ _ _ _ _ _ _ _ _ _ _ (segments_order
 pub returns-clause-exact_input : goal.returns-clause-exact_input
 returns-clause-exact_input g c = (has_ended _ _ _ _ _ _ _ _ _ _ _ _ _ (segments_ordered c.args.list.now.items) c.loop-progress.invariant.at c.loop-progress-test.false).exact_input
 
+pub returns-clause-near : goal.returns-clause-near
+returns-clause-near g c = (has_ended _ _ _ _ _ _ _ _ _ _ _ _ _ (segments_ordered c.args.list.now.items) c.loop-progress.invariant.at c.loop-progress-test.false).near
+
 pub returns-clause-bound : goal.returns-clause-bound
 returns-clause-bound g c = (has_ended _ _ _ _ _ _ _ _ _ _ _ _ _ (segments_ordered c.args.list.now.items) c.loop-progress.invariant.at c.loop-progress-test.false).bound
 
@@ -197,3 +216,6 @@ returns-clause-unchanged g c = λ arranged.
 
 pub returns-clause-fits : goal.returns-clause-fits
 returns-clause-fits g c = (has_ended _ _ _ _ _ _ _ _ _ _ _ _ _ (segments_ordered c.args.list.now.items) c.loop-progress.invariant.at c.loop-progress-test.false).fits
+
+pub after_pass-requires-in-loop-progress-clause-passes : goal.after_pass-requires-in-loop-progress-clause-passes
+after_pass-requires-in-loop-progress-clause-passes g c = let room = c.loop-progress.invariant.room c.loop-progress-test.true in omega (arith, room)

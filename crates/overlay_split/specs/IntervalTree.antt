@@ -1,0 +1,86 @@
+-- A tree over the heights of entries that expire: what a look-up takes up, finds and leaves.
+use Rattle.std.specs.Prelude.{⊤, ◌≡◌, ℕ, ◌/◌, ◌<◌, ◌==◌, ℤ, ◌≤ℤ◌, ◌<ℤ◌, int_lt, Bool, false, not, ◌&&◌, ◌||◌, IsTrue, IsFalse, ◌⊎◌, Option, None, Some, List, [], ◌∷◌, ◌++◌, length, map, filter}
+use Rattle.std.specs.Int.{int_max}
+use Rattle.std.specs.List.{AllByRecursion}
+
+-- the entry of a segment: its heights, the x of its end, its index, and whether it is live
+pub record Entry : Type 0 where
+  pub low : ℤ
+  pub high : ℤ
+  pub end_x : ℤ
+  pub index : ℕ
+  pub is_live : Bool
+
+-- a look-up between two heights, as the sweep stands at x
+pub record WholeQuery : Type 0 where
+  pub low : ℤ
+  pub high : ℤ
+  pub x : ℤ
+
+-- whether the heights of an entry meet those of a look-up
+abbrev pub is_at_heights : WholeQuery → Entry → Bool
+is_at_heights q e = not (int_lt e.high q.low) && not (int_lt q.high e.low)
+
+-- A look-up takes up the live entries whose heights it meets. Where one ends left of the sweep it is dropped, else found.
+abbrev pub is_taken_up : WholeQuery → Entry → Bool
+is_taken_up q e = e.is_live && is_at_heights q e
+
+abbrev pub is_found : WholeQuery → Entry → Bool
+is_found q e = is_taken_up q e && not (int_lt e.end_x q.x)
+
+abbrev pub is_dropped : WholeQuery → Entry → Bool
+is_dropped q e = is_taken_up q e && int_lt e.end_x q.x
+
+-- the indexes of those that it finds
+abbrev pub found : WholeQuery → List Entry → List ℕ
+found q entries = map (λ e. e.index) (filter (is_found q) entries)
+
+-- what it leaves of an entry
+abbrev pub left_by : WholeQuery → Entry → Entry
+left_by q e = record e { is_live = e.is_live && not (is_dropped q e) }
+
+-- what the insertion of an index leaves of an entry
+abbrev pub inserted : ℕ → Entry → Entry
+inserted index e = record e { is_live = e.is_live || e.index == index }
+
+-- entries stand by rising low, those of one low by rising index
+abbrev pub StandsBefore : Entry → Entry → Type 0
+StandsBefore e f = (e.low <ℤ f.low) ⊎ ((e.low ≡ f.low) × (e.index < f.index))
+
+abbrev pub AreRising : List Entry → Type 0
+AreRising [] = ⊤
+AreRising (e ∷ entries) = AllByRecursion (StandsBefore e) entries × AreRising entries
+
+-- A node: an entry, and the greatest height of the live entries of its subtree.
+pub record TreeNode : Type 0 where
+  pub entry : Entry
+  pub greatest : Option ℤ
+
+abbrev pub entries : List TreeNode → List Entry
+entries nodes = map (λ n. n.entry) nodes
+
+-- none is live, or a height that a live entry does not pass
+abbrev pub Reaches : Option ℤ → Entry → Type 0
+Reaches None e = IsFalse e.is_live
+Reaches (Some greatest) e = IsTrue e.is_live → e.high ≤ℤ greatest
+
+-- whether a greatest height reaches another
+abbrev pub is_reached : Option ℤ → ℤ → Bool
+is_reached None low = false
+is_reached (Some greatest) low = not (int_lt greatest low)
+
+-- where an entry has this index, this is its low
+abbrev pub IsAt : ℕ → ℤ → Entry → Type 0
+IsAt index low e = e.index ≡ index → e.low ≡ low
+
+-- the greater of two heights, where there are any
+abbrev pub further : Option ℤ → Option ℤ → Option ℤ
+further None b = b
+further (Some a) None = Some a
+further (Some a) (Some b) = Some (int_max a b)
+
+-- The tree stands in a list: its root in the middle, its subtrees before and after it. Every root reaches its subtree.
+pub data IsSummed : List TreeNode → Type 0 where
+  none : IsSummed []
+  rooted : (nodes left right : List TreeNode) (root : TreeNode) → nodes ≡ left ++ root ∷ right → length left ≡ length nodes / 2 →
+      IsSummed left → IsSummed right → AllByRecursion (Reaches root.greatest) (entries nodes) → IsSummed nodes

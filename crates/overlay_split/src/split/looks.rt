@@ -1,0 +1,9 @@
+// How often a pass takes up a pair of segments.
+ghost use Rattle.std.specs.Prelude.{◌≡◌, ◌+◌, ◌-◌, ◌^◌, min};
+
+/// Counts one pair more that is taken up, up to `u128::MAX`. Every strategy takes up pairs through this call alone.
+pub fn take_up(looked: &mut u128)
+    ensures { looked.new ≡ min (looked.old + 1) (2 ^ 128 - 1) }
+{
+    *looked = looked.saturating_add(1);
+}
