@@ -41,3 +41,14 @@ pub mod KeptLinks
 pub mod NodeSteps
 pub mod ConnectedLinks
 pub mod BuiltGraphs
+pub mod TreeNodes
+pub mod TreeTurns
+pub mod HighSides
+pub mod NearSides
+pub mod TreeRemovals
+pub mod TreeWays
+pub mod ScanReads
+pub mod ScanOrders
+pub mod TreeHeights
+pub mod ScanGrowth
+pub mod ScanAnswers

@@ -15,3 +15,6 @@ pub mod NodeIndexes
 pub mod LinkEnds
 pub mod RuleOf
 pub mod BuilderOf
+pub mod TreeShapes
+pub mod PlaceOf
+pub mod ScanTrees

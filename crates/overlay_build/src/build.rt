@@ -17,9 +17,12 @@ pub mod link_filter;
 pub mod live_segments;
 mod node;
 mod nodes;
+mod place;
 pub mod scan_list;
+pub mod scan_tree;
 pub mod sweep;
 #[cfg(test)]
 mod tests;
+mod tree_shape;
 mod visits;
 mod way;

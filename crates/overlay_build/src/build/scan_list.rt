@@ -11,9 +11,9 @@ use overlay_base::segm::winding::WindingCount;
 use std::alloc::{AllocError, Global};
 
 /// A segment that is not vertical, with the sum above it.
-struct Entry<C: WindingCount, I: OverlayInt> {
-    segment: VSegment<I>,
-    sum: C,
+pub(crate) struct Entry<C: WindingCount, I: OverlayInt> {
+    pub(crate) segment: VSegment<I>,
+    pub(crate) sum: C,
     ghost in_range: { IsVSegmentInRange I.whole I.MIN_COORD I.MAX_COORD segment },
     ghost wide: { I.whole segment.a.x <ℤ I.whole segment.b.x },
 }
@@ -43,7 +43,7 @@ impl<C: WindingCount, I: OverlayInt> Entry<C, I> {
     ghost use Rattle.overlay_base.specs.VSegmentOf.{v_pair_of};
 
     /// Whether the segment ends right of `x`.
-    fn lasts_past(&self, x: I) -> bool
+    pub(crate) fn lasts_past(&self, x: I) -> bool
         ensures { result ≡ int_lt (I.whole x) (I.whole self.now.segment.b.x) }
     {
         x < self.segment.b.x

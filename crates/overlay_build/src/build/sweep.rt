@@ -11,6 +11,7 @@ use crate::build::fill_strategy::{
     EvenOddStrategy, FillStrategy, NegativeStrategy, NonZeroStrategy, PositiveStrategy,
 };
 use crate::build::scan_list::ScanList;
+use crate::build::scan_tree::ScanTree;
 use crate::build::visits::sweep_with_handler;
 use crate::build::way::Way;
 use overlay_base::num::OverlayInt;
@@ -26,6 +27,7 @@ use std::alloc::Global;
 #[derive(Drop)]
 pub struct SweepRunner<C: WindingCount, I: OverlayInt> {
     list: ScanList<C, I>,
+    tree: ScanTree<C, I>,
     node: Vec<Way<I>>,
 }
 
@@ -34,6 +36,7 @@ impl<C: WindingCount, I: OverlayInt> SweepRunner<C, I> {
     pub fn new(alloc: Global) -> SweepRunner<C, I> {
         SweepRunner {
             list: ScanList::new(alloc),
+            tree: ScanTree::new(alloc),
             node: Vec::new(alloc),
         }
     }
@@ -46,13 +49,13 @@ impl<C: WindingCount, I: OverlayInt> SweepRunner<C, I> {
     /// one above the segment directly below its start, or 0; the winding above adds the segment's count. Balance is no
     /// condition; with it these windings are those of the columns of the plane. The segments have to be arranged, as
     /// `is_arranged` tests, and the handler has to take each of their indexes. The solver does not change the answer:
-    /// every strategy sweeps over the same list for now.
+    /// it chooses whether the live segments stand in a list or in a balanced tree.
     ///
     /// Answers `Fault::CountOutOfRange` exactly where a winding above a segment that is handed out leaves the range,
     /// and `Fault::Memory` where a growth is refused. The handler is spent then; the runner can be used again.
     pub fn run<D: Copy, F: FillStrategy<C>, H: FillHandler<C, I, D>>(
         &mut self,
-        _solver: &Solver,
+        solver: &Solver,
         segments: &[Segment<C, I, D>],
         handler: H,
     ) -> Result<H::Output, Fault>
@@ -63,9 +66,15 @@ impl<C: WindingCount, I: OverlayInt> SweepRunner<C, I> {
         ensures out_of_range { IfErr result (λ fault. fault ≡ Fault.CountOutOfRange → IsTrue (visits_leave_range (segments_of segments.now) (visited H.handle_gives handler (visits F.rule (data_segments_of segments.now))))) }
         ensures windings { IsBalanced (segments_of segments.now) → HaveColumnWindings (segments_of segments.now) }
     {
-        let list = &mut self.list;
         let node = &mut self.node;
-        sweep_with_handler::<C, I, D, F, ScanList<C, I>, H>(list, node, segments, handler)
+        if solver.is_list_fill(segments) {
+            let list = &mut self.list;
+            return sweep_with_handler::<C, I, D, F, ScanList<C, I>, H>(
+                list, node, segments, handler,
+            );
+        }
+        let tree = &mut self.tree;
+        sweep_with_handler::<C, I, D, F, ScanTree<C, I>, H>(tree, node, segments, handler)
     }
 }
 

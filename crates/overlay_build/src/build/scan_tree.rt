@@ -1,0 +1,238 @@
+// A balanced tree of the live segments. Upstream: `KeyExpTree` of `i_tree`.
+ghost use Rattle.std.specs.Prelude.{◌≡◌, ◌+◌, ◌≤◌};
+ghost use Rattle.overlay_base.specs.VSegmentOf.{v_pair_of};
+ghost use Rattle.overlay_build.specs.PlaceOf.{IsPlaceInRange, stands_before};
+
+use crate::build::live_segments::LiveSegments;
+use crate::build::place::Place;
+use crate::build::scan_list::Entry;
+use crate::build::tree_shape::{NONE, TreeShape};
+use overlay_base::geom::point::IntPoint;
+use overlay_base::geom::v_segment::VSegment;
+use overlay_base::num::OverlayInt;
+use overlay_base::segm::fault::Fault;
+use overlay_base::segm::winding::WindingCount;
+use std::alloc::Global;
+
+/// What came of a way down.
+#[derive(Clone, Copy)]
+struct Descent {
+    /// The top of the tree after it.
+    top: usize,
+    /// The last entry before the place.
+    last: usize,
+    /// Whether the way met an entry that has ended, and took it out.
+    is_stopped: bool,
+}
+
+/// The live segments from below, in a balanced tree. What has ended may stay in it until a way down meets it.
+#[derive(Drop)]
+pub struct ScanTree<C: WindingCount, I: OverlayInt> {
+    entries: Vec<Entry<C, I>>,
+    shape: TreeShape,
+    root: usize,
+    kept: usize,
+    compared: u128,
+}
+
+/// Asks whether an entry stands before a place. Every order of an entry is asked here.
+fn is_before<C: WindingCount, I: OverlayInt>(
+    compared: &mut u128,
+    entry: &Entry<C, I>,
+    place: &Place<I>,
+) -> bool
+    requires { IsPlaceInRange I.whole I.MIN_COORD I.MAX_COORD place.now }
+    ensures value { result ≡ stands_before I.whole place.now (v_pair_of I.whole entry.now.segment) }
+    ensures compared { compared.new ≤ compared.old + 1 }
+{
+    *compared = compared.saturating_add(1);
+    place.is_after(&entry.segment)
+}
+
+impl<C: WindingCount, I: OverlayInt> ScanTree<C, I> {
+    ghost use Rattle.std.specs.Prelude.{ℤ, ◌-◌, ◌/◌, ◌^◌, ◌<◌, [], ◌∷◌, ◌++◌, true, false, length, IfOk, OnOk, IfErr};
+    ghost use Rattle.overlay_build.specs.EntryOf.{entries_of};
+    ghost use Rattle.overlay_build.specs.TreeShapes.{none, height_at, MayGoDown, IsStopped, IsPlaced};
+    ghost use Rattle.overlay_build.specs.ScanTrees.{segment_at, lasts_past, IsScanTree, IsGrowing, IsGrown, IsAskedWithin};
+
+    /// An empty tree, which takes no memory yet.
+    pub fn new(alloc: Global) -> ScanTree<C, I>
+        ensures entries { result.entries.items ≡ [] }
+        ensures time { (x : ℤ) → IsScanTree x (entries_of result.entries.items) result.shape.nodes.items result.root result.kept }
+        ensures kept { result.kept ≡ 0 }
+        ensures compared { result.compared ≡ 0 }
+    {
+        ScanTree {
+            entries: Vec::new(alloc),
+            shape: TreeShape::new(alloc),
+            root: NONE,
+            kept: 0,
+            compared: 0,
+        }
+    }
+
+    /// Goes down from a node to a place among the entries, and puts the tree of `new` there. Where it meets an entry
+    /// that does not end right of `x`, it takes that one out in place of this.
+    fn go_down(&mut self, at: usize, x: I, place: &Place<I>, new: usize, given: usize) -> Descent
+        requires down { MayGoDown self.old.shape.nodes.items at new }
+        requires same_length { length self.old.shape.nodes.items ≡ length self.old.entries.items }
+        requires place { IsPlaceInRange I.whole I.MIN_COORD I.MAX_COORD place.now }
+        ensures entries { self.new.entries ≡ self.old.entries }
+        ensures root { self.new.root ≡ self.old.root }
+        ensures kept { self.new.kept ≡ self.old.kept }
+        ensures compared { (m : MayGoDown self.old.shape.nodes.items at new) → self.new.compared ≤ self.old.compared + m.sound.high }
+        ensures stopped { result.is_stopped ≡ true → (m : MayGoDown self.old.shape.nodes.items at new) → IsStopped (lasts_past (I.whole x) (entries_of self.old.entries.items)) self.old.shape.nodes.items self.new.shape.nodes.items result.top m.sound.order m.sound.high }
+        ensures placed { result.is_stopped ≡ false → (m : MayGoDown self.old.shape.nodes.items at new) → IsPlaced (lasts_past (I.whole x) (entries_of self.old.entries.items)) (λ i. stands_before I.whole place.now (segment_at (entries_of self.old.entries.items) i).pair) self.old.shape.nodes.items self.new.shape.nodes.items given result.last result.top m.sound.order m.placed m.sound.high }
+    {
+        if at == NONE {
+            return Descent {
+                top: new,
+                last: given,
+                is_stopped: false,
+            };
+        }
+        let entry = self.entries[at];
+        if !entry.lasts_past(x) {
+            return Descent {
+                top: self.shape.remove_top(at),
+                last: given,
+                is_stopped: true,
+            };
+        }
+        let node = self.shape.node(at);
+        if is_before(&mut self.compared, &entry, place) {
+            let below = self.go_down(node.right, x, place, new, at);
+            let top = self.shape.join(node.left, at, below.top);
+            Descent { top, ..below }
+        } else {
+            let below = self.go_down(node.left, x, place, new, given);
+            let top = self.shape.join(below.top, at, node.right);
+            Descent { top, ..below }
+        }
+    }
+
+    /// Goes down until a way meets no entry that has ended, and puts the tree of `new` at its place. Answers the last
+    /// entry before it.
+    fn settle(&mut self, x: I, place: &Place<I>, new: usize) -> usize
+        requires growing { IsGrowing (I.whole x) (entries_of self.old.entries.items) self.old.shape.nodes.items self.old.root new self.old.kept }
+        requires place { IsPlaceInRange I.whole I.MIN_COORD I.MAX_COORD place.now }
+        ensures entries { self.new.entries ≡ self.old.entries }
+        ensures kept { self.new.kept ≤ self.old.kept }
+        ensures grown { (m : IsGrowing (I.whole x) (entries_of self.old.entries.items) self.old.shape.nodes.items self.old.root new self.old.kept) → IsGrown (I.whole x) (entries_of self.old.entries.items) (λ i. stands_before I.whole place.now (segment_at (entries_of self.old.entries.items) i).pair) m.down.placed self.new.shape.nodes.items self.new.root self.new.kept result }
+        ensures compared { IsAskedWithin self.old.kept (self.old.kept - self.new.kept) self.new.compared }
+    {
+        self.compared = 0;
+        loop {
+            let descent = self.go_down(self.root, x, place, new, NONE);
+            self.root = descent.top;
+            if !descent.is_stopped {
+                return descent.last;
+            }
+            self.kept -= 1;
+        }
+    }
+
+    /// Adds an entry with a node of its own, which is in no tree yet. Answers its index.
+    fn push(&mut self, entry: Entry<C, I>) -> Result<usize, Fault>
+        ensures entries { OnOk result (self.new.entries.items ≡ self.old.entries.items ++ entry ∷ []) }
+        ensures nodes { OnOk result (self.new.shape.nodes.items ≡ self.old.shape.nodes.items ++ record { left = none; right = none; height = 1 } ∷ []) }
+        ensures root { self.new.root ≡ self.old.root }
+        ensures kept { self.new.kept ≡ self.old.kept }
+        ensures index { IfOk result (λ new. (new ≡ length self.old.entries.items) × (new < none)) }
+        ensures fault { IfErr result (λ fault. fault ≡ Fault.Memory) }
+    {
+        self.entries.push(entry)?;
+        self.shape.push()?;
+        Ok(self.entries.len() - 1)
+    }
+
+    /// How many entries the longest way down has.
+    pub fn depth(&self) -> usize
+        ensures longest { (x : ℤ) (t : IsScanTree x (entries_of self.now.entries.items) self.now.shape.nodes.items self.now.root self.now.kept) → result ≡ t.high }
+        ensures low { (x : ℤ) → IsScanTree x (entries_of self.now.entries.items) self.now.shape.nodes.items self.now.root self.now.kept → 2 ^ (result / 2) ≤ self.now.kept + 1 }
+    {
+        self.shape.height(self.root)
+    }
+
+    /// How many times the last `insert` or `sum_below` has asked the order of an entry: 0 at first and after `clear`,
+    /// and `u128::MAX` at most.
+    pub fn compared(&self) -> u128
+        ensures { result ≡ self.now.compared }
+    {
+        self.compared
+    }
+}
+
+impl<C: WindingCount, I: OverlayInt> LiveSegments<C, I> for ScanTree<C, I> {
+    ghost use Rattle.std.specs.Prelude.{◌≤ℤ◌, ◌<ℤ◌, ℤ, suc, ◌-◌, [], ◌∷◌, OnOk, OnErr, IfErr};
+    ghost use Rattle.overlay_base.specs.PointOf.{point_of};
+    ghost use Rattle.overlay_base.specs.InRange.{IsPointInRange};
+    ghost use Rattle.overlay_base.specs.VSegmentOf.{IsVSegmentInRange};
+    ghost use Rattle.overlay_build.specs.Sweep.{sum_below};
+    ghost use Rattle.overlay_build.specs.Live.{HoldSameFrom, AreFreeAt};
+    ghost use Rattle.overlay_build.specs.EntryOf.{entries_of};
+    ghost use Rattle.overlay_build.specs.ScanTrees.{IsScanTree, IsAskedWithin};
+
+    ghost sums = { λ tree. entries_of tree.entries.items };
+
+    ghost may_go_on_at = { λ tree x. IsScanTree x (entries_of tree.entries.items) tree.shape.nodes.items tree.root tree.kept };
+
+    fn insert(&mut self, segment: VSegment<I>, sum: C, x: I) -> Result<(), Fault>
+        requires in_range { IsVSegmentInRange I.whole I.MIN_COORD I.MAX_COORD segment }
+        requires start { I.whole segment.a.x ≡ I.whole x }
+        requires wide { I.whole x <ℤ I.whole segment.b.x }
+        requires time { IsScanTree (I.whole x) (entries_of self.old.entries.items) self.old.shape.nodes.items self.old.root self.old.kept }
+        requires free { AreFreeAt (I.whole x) (record { pair = v_pair_of I.whole segment; count = C.winding sum } ∷ entries_of self.old.entries.items) }
+        ensures sums { OnOk result (HoldSameFrom (I.whole x) (entries_of self.new.entries.items) (record { pair = v_pair_of I.whole segment; count = C.winding sum } ∷ entries_of self.old.entries.items)) }
+        ensures time { OnOk result ((y : ℤ) → I.whole x ≤ℤ y → IsScanTree y (entries_of self.new.entries.items) self.new.shape.nodes.items self.new.root self.new.kept) }
+        ensures fault { IfErr result (λ fault. fault ≡ Fault.Memory) }
+        ensures emptied { OnErr result (entries_of self.new.entries.items ≡ []) }
+        ensures cleared { OnErr result ((y : ℤ) → IsScanTree y (entries_of self.new.entries.items) self.new.shape.nodes.items self.new.root self.new.kept) }
+        ensures kept { OnOk result (self.new.kept ≤ suc self.old.kept) }
+        ensures compared { OnOk result (IsAskedWithin self.old.kept (suc self.old.kept - self.new.kept) self.new.compared) }
+    {
+        match self.push(Entry { segment, sum }) {
+            Ok(new) => {
+                self.settle(x, &Place::Segment(segment), new);
+                self.kept += 1;
+                Ok(())
+            }
+            Err(fault) => {
+                self.clear();
+                Err(fault)
+            }
+        }
+    }
+
+    fn sum_below(&mut self, x: I, p: IntPoint<I>, default: C) -> C
+        requires point { IsPointInRange I.whole I.MIN_COORD I.MAX_COORD p }
+        requires same_x { I.whole p.x ≡ I.whole x }
+        requires time { IsScanTree (I.whole x) (entries_of self.old.entries.items) self.old.shape.nodes.items self.old.root self.old.kept }
+        requires free { AreFreeAt (I.whole x) (entries_of self.old.entries.items) }
+        ensures sum { C.winding result ≡ sum_below (entries_of self.old.entries.items) (point_of I.whole p) (C.winding default) }
+        ensures sums { HoldSameFrom (I.whole x) (entries_of self.new.entries.items) (entries_of self.old.entries.items) }
+        ensures time { (y : ℤ) → I.whole x ≤ℤ y → IsScanTree y (entries_of self.new.entries.items) self.new.shape.nodes.items self.new.root self.new.kept }
+        ensures kept { self.new.kept ≤ self.old.kept }
+        ensures compared { IsAskedWithin self.old.kept (self.old.kept - self.new.kept) self.new.compared }
+    {
+        let last = self.settle(x, &Place::Point(p), NONE);
+        if last == NONE {
+            default
+        } else {
+            self.entries[last].sum
+        }
+    }
+
+    fn clear(&mut self)
+        ensures sums { entries_of self.new.entries.items ≡ [] }
+        ensures time { (y : ℤ) → IsScanTree y (entries_of self.new.entries.items) self.new.shape.nodes.items self.new.root self.new.kept }
+        ensures kept { self.new.kept ≡ 0 }
+        ensures compared { self.new.compared ≡ 0 }
+    {
+        self.entries.clear();
+        self.shape.clear();
+        self.root = NONE;
+        self.kept = 0;
+        self.compared = 0;
+    }
+}
