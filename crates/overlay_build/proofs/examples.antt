@@ -2,3 +2,4 @@
 pub mod Computing
 pub mod Sweeps
 pub mod Graphs
+pub mod Walks

@@ -52,3 +52,5 @@ pub mod ScanOrders
 pub mod TreeHeights
 pub mod ScanGrowth
 pub mod ScanAnswers
+pub mod Walks
+pub mod WalkSteps

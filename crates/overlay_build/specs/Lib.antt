@@ -18,3 +18,5 @@ pub mod BuilderOf
 pub mod TreeShapes
 pub mod PlaceOf
 pub mod ScanTrees
+pub mod Walks
+pub mod UnusedLinks

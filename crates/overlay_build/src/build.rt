@@ -25,4 +25,7 @@ pub mod sweep;
 mod tests;
 mod tree_shape;
 mod visits;
+#[cfg(test)]
+mod walk_tests;
+pub mod walks;
 mod way;

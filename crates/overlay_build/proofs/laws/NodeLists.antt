@@ -1,5 +1,5 @@
 -- Lists of nodes and of ends, element by element.
-use Rattle.std.proofs.Common.{◌≡◌, refl, sym, ap, ap₂, ◌∙◌, arith, ℕ, ◌+◌, ◌<◌, ◌≤◌, ◌==◌, zero-add, Bool, true, false, ◌&&◌, ◌||◌, List, [], ◌∷◌, ◌++◌, map, take, drop, length, get_or, set, if◌then◌else◌}
+use Rattle.std.proofs.Common.{◌≡◌, refl, sym, ap, ap₂, ◌∙◌, arith, ℕ, ◌+◌, ◌<◌, ◌≤◌, ◌%◌, ◌==◌, zero-add, Bool, true, false, ◌&&◌, ◌||◌, List, [], ◌∷◌, ◌++◌, map, take, drop, length, get_or, set, if◌then◌else◌}
 use Rattle.std.specs.Prelude.{nat_le, ℤ}
 use Rattle.std.specs.List.{list_all, enumerate_from, take-map, drop-map}
 use Rattle.std.proofs.lemmas.Bool.{eqb-true, eq-eqb, false≢true}
@@ -13,7 +13,7 @@ use Rattle.overlay_base.specs.declared.geom.end.End.{End}
 use Rattle.overlay_build.specs.EndOf.{WholeEnd, end_of, ends_of}
 use Rattle.overlay_base.specs.declared.overlay_core.link.OverlayLink.{OverlayLink}
 use Rattle.overlay_build.specs.GraphOf.{with_node, names_node}
-use Rattle.overlay_build.specs.Graph.{Node, Graph, is_bridge, is_valid_graph}
+use Rattle.overlay_build.specs.Graph.{Node, Graph, is_bridge, is_valid_graph, has_even_nodes}
 
 -- ---- what is left of a list
 
@@ -55,6 +55,12 @@ sound_is_valid indexes nodes graph enough same e =
     ∙ list_all-map (is_sound enough) (λ (n : Node). n.links) graph.nodes
     ∙ sound_each enough graph.nodes
     ∙ ap (λ b. list_all (λ n. is_bridge n || nat_le 2 (length n.links)) graph.nodes && (list_all is_bridge graph.nodes || b)) e
+
+-- and whether evenly many links meet at each node is told by these lists
+pub even_nodes-is : {N : Type 0} (indexes : N → List ℕ) (nodes : List N) (graph : Graph) → map indexes nodes ≡ map (λ n. n.links) graph.nodes → list_all (λ n. length (indexes n) % 2 == 0) nodes ≡ has_even_nodes graph
+unfolding has_even_nodes
+even_nodes-is indexes nodes graph same =
+    sym (list_all-map (λ (ks : List ℕ). length ks % 2 == 0) indexes nodes) ∙ ap (list_all (λ (ks : List ℕ). length ks % 2 == 0)) same ∙ list_all-map (λ (ks : List ℕ). length ks % 2 == 0) (λ (n : Node). n.links) graph.nodes
 
 -- ---- ends in whole numbers
 

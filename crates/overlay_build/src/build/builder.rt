@@ -7,7 +7,7 @@ ghost use Rattle.overlay_base.specs.Balance.{IsBalanced};
 ghost use Rattle.overlay_base.specs.SegmentOf.{segments_of, data_segments_of};
 ghost use Rattle.overlay_base.specs.declared.segm.fault.Fault.TheVariants.{CountOutOfRange};
 ghost use Rattle.overlay_build.specs.ChainWindings.{tops_leave_range};
-ghost use Rattle.overlay_build.specs.Graph.{graph_by, data_by};
+ghost use Rattle.overlay_build.specs.Graph.{graph_by, data_by, has_even_nodes};
 ghost use Rattle.overlay_build.specs.Sides.{IsBalancedOverlay};
 ghost use Rattle.overlay_build.specs.GraphOf.{HoldGraph, graph_with};
 ghost use Rattle.overlay_build.specs.NodeIndexes.{indexes_of, is_canonical_node};
@@ -183,6 +183,7 @@ impl<I: OverlayInt, D: Copy> GraphBuilder<ShapeCountBoolean, OverlayNode, I, D> 
         ensures graph { IfOk result (λ graph. HoldGraph indexes_of is_canonical_node I.whole graph.nodes.now graph.links.now (graph_by (keeps_fill (holds overlay_rule)) fill_rule (segments_of segments.now))) }
         ensures edge_data { IfOk result (λ graph. map (λ l. l.edge_data) graph.links.now ≡ data_by (keeps_fill (holds overlay_rule)) fill_rule (data_segments_of segments.now)) }
         ensures balanced { IsBalanced (segments_of segments.now) → IsBalancedOverlay (holds overlay_rule) fill_rule (segments_of segments.now) (graph_by (keeps_fill (holds overlay_rule)) fill_rule (segments_of segments.now)) }
+        ensures even { IfOk result (λ graph. IsBalanced (segments_of segments.now) → IsTrue (has_even_nodes (graph_with I.whole graph.links.now))) }
         ensures in_range { OnOk result (IsFalse (tops_leave_range (segments_of segments.now))) }
         ensures out_of_range { IfErr result (λ fault. fault ≡ CountOutOfRange → IsTrue (tops_leave_range (segments_of segments.now))) }
         ensures* after { sem 𝓛 (HoldsAnswer I.row D.row I.OverlayInt.own I.Ord.own I.PartialEq I.PartialOrd.own result self.entry) }

@@ -1,5 +1,6 @@
 // The graph of an overlay, which borrows its nodes and links from the builder. Upstream: `core::graph`.
-ghost use Rattle.std.specs.Prelude.{◌≡◌, ◌==◌, ◌&&◌, ◌||◌, nat_le, true, length};
+ghost use Rattle.std.specs.Prelude.{◌≡◌, ◌==◌, ◌%◌, ◌&&◌, ◌||◌, nat_le, true, length};
+ghost use Rattle.std.specs.List.{list_all};
 ghost use Rattle.overlay_build.specs.GraphOf.{HoldGraph, graph_with};
 ghost use Rattle.overlay_build.specs.NodeIndexes.{indexes_of, is_canonical_node};
 
@@ -20,7 +21,7 @@ pub struct OverlayGraph<'a, I: OverlayInt, D> {
 }
 
 impl<'a, I: OverlayInt, D: Copy> OverlayGraph<'a, I, D> {
-    ghost use Rattle.overlay_build.specs.Graph.{is_valid_graph};
+    ghost use Rattle.overlay_build.specs.Graph.{has_even_nodes, is_valid_graph};
 
     /// The graph of these links, which has to have these nodes.
     pub(crate) fn new(
@@ -60,6 +61,20 @@ impl<'a, I: OverlayInt, D: Copy> OverlayGraph<'a, I, D> {
         }
         true
     }
+
+    /// Whether evenly many links meet at each node.
+    pub fn has_even_nodes(&self) -> bool
+        ensures { result ≡ has_even_nodes (graph_with I.whole self.now.links.now) }
+    {
+        are_even(self.nodes)
+    }
+}
+
+/// Whether evenly many links meet at each of these nodes.
+fn are_even(nodes: &[OverlayNode]) -> bool
+    ensures { result ≡ list_all (λ n. length (indexes_of n) % 2 == 0) nodes.now }
+{
+    nodes.iter().all(|node| node.indices().len() % 2 == 0)
 }
 
 /// Whether a node is a bridge, or has two links or more where there are enough links.

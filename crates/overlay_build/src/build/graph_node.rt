@@ -46,3 +46,17 @@ impl GraphNode for OverlayNode {
         Ok(OverlayNode::Cross(several))
     }
 }
+
+impl OverlayNode {
+    ghost use Rattle.overlay_build.specs.NodeIndexes.{indexes_of};
+
+    /// The indexes of the links that meet there.
+    pub fn indices(&self) -> &[usize]
+        ensures { result.now ≡ indexes_of self.now }
+    {
+        match self {
+            OverlayNode::Bridge(two) => two.as_slice(),
+            OverlayNode::Cross(several) => several.as_slice(),
+        }
+    }
+}

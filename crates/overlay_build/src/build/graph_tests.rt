@@ -35,13 +35,13 @@ const FILL_RULES: [FillRule; 4] = [
     FillRule::Negative,
 ];
 
-fn lone_line() -> [Line; 1]
+pub fn lone_line() -> [Line; 1]
     ensures { IsTrue (is_arranged (negsuc 524287) (pos 524287) (segments_of result)) }
 {
     [line(0, 0, 4, 0, 1, 0)]
 }
 
-fn no_lines() -> [Line; 0]
+pub fn no_lines() -> [Line; 0]
     ensures { IsTrue (is_arranged (negsuc 524287) (pos 524287) (segments_of result)) }
 {
     []

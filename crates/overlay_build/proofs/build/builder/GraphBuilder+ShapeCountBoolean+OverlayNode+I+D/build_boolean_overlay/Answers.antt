@@ -1,9 +1,10 @@
-use Rattle.std.proofs.Common.{refl, rules}
+use Rattle.std.proofs.Common.{◌∙◌, ap, refl, rules}
 use Rattle.overlay_base.specs.Rules.{holds, keeps_fill}
 use Rattle.overlay_base.specs.SegmentOf.{segment_of, segments_of}
 use Rattle.overlay_build.specs.Graph.{graph_by, data_by}
+use Rattle.overlay_build.specs.GraphOf.{graph_with}
 use Rattle.overlay_build.specs.NodeIndexes.{indexes_of, is_canonical_node}
-use Rattle.overlay_build.proofs.laws.BuiltGraphs.{hold_own_graph, arranged_overlay, polygons_from}
+use Rattle.overlay_build.proofs.laws.BuiltGraphs.{hold_own_graph, graph_with_kept, arranged_overlay, polygons_from}
 use Rattle.std.proofs.lemmas.Result.{IfOk-from_err}
 use Rattle.overlay_build.proofs.build.builder.GraphBuilder+ShapeCountBoolean+OverlayNode+I+D.build_boolean_overlay.Goals as goal
 
@@ -12,7 +13,13 @@ graph-requires g c = hold_own_graph indexes_of is_canonical_node g.I.OverlayInt.
 
 pub returns : goal.returns
 unfolding graph_by data_by
-returns g c = (search rules, record { graph = search rules; edge_data = search rules; balanced = arranged_overlay _ _ (holds c.args.overlay_rule) c.args.fill_rule (segments_of c.args.segments.now) c.requires.arranged (polygons_from segment_of (λ s. refl) c.args.segments.now); in_range = search rules; out_of_range = search rules; after = search rules })
+returns g c =
+    let whole = g.I.OverlayInt.whole in
+    let keeps = keeps_fill (holds c.args.overlay_rule) in
+    let segments = segments_of c.args.segments.now in
+    let is = ap (graph_with whole) c.graph.ensures.links ∙ graph_with_kept indexes_of is_canonical_node whole _ _ keeps c.args.fill_rule segments c.in_ok-build.ensures.graph in
+    let balanced = arranged_overlay _ _ (holds c.args.overlay_rule) c.args.fill_rule segments c.requires.arranged (polygons_from segment_of (λ s. refl) c.args.segments.now) in
+    (search rules, record { graph = search rules; edge_data = search rules; balanced = balanced; even = λ balance. rw is (balanced balance).even; in_range = search rules; out_of_range = search rules; after = search rules })
 
 pub returns-in_err-build : goal.returns-in_err-build
-returns-in_err-build g c = ((refl, λ _. tt, (IfOk-from_err c.from_residual.result _ (search rules), search rules)), record { graph = search rules; edge_data = search rules; balanced = arranged_overlay _ _ (holds c.args.overlay_rule) c.args.fill_rule (segments_of c.args.segments.now) c.requires.arranged (polygons_from segment_of (λ s. refl) c.args.segments.now); in_range = search rules; out_of_range = search rules; after = search rules })
+returns-in_err-build g c = ((refl, λ _. tt, (IfOk-from_err c.from_residual.result _ (search rules), search rules)), record { graph = search rules; edge_data = search rules; balanced = arranged_overlay _ _ (holds c.args.overlay_rule) c.args.fill_rule (segments_of c.args.segments.now) c.requires.arranged (polygons_from segment_of (λ s. refl) c.args.segments.now); even = search rules; in_range = search rules; out_of_range = search rules; after = search rules })

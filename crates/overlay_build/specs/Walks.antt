@@ -1,0 +1,21 @@
+-- Closed walks over the links of a graph.
+use Rattle.std.specs.Prelude.{◌≡◌, ◌≢◌, ℕ, ◌<◌, ◌==◌, if◌then◌else◌, List, [], ◌∷◌, length, count_by, flat_map, All, Option, Some, None, option_and_then, slice_get}
+use Rattle.overlay_build.specs.Graph.{Link}
+
+-- the node to which a link leads from one of its ends
+abbrev pub other_node : ℕ → Link → Option ℕ
+other_node node link = if link.a_node == node then Some link.b_node else if link.b_node == node then Some link.a_node else None
+
+-- where a walk from a node ends, if its links follow one another
+unfoldable pub walk_end : List Link → ℕ → List ℕ → Option ℕ
+walk_end links node [] = Some node
+walk_end links node (i ∷ walk) = option_and_then (λ next. walk_end links next walk) (option_and_then (λ link. other_node node link) (slice_get links i))
+
+-- a list of links, not empty, that leads from some node back to it
+abbrev pub IsClosedWalk : List Link → List ℕ → Type 0
+IsClosedWalk links walk = (walk ≢ []) × ((node : ℕ) × (walk_end links node walk ≡ Some node))
+
+-- closed walks in which every link stands in exactly one place
+pub record AreClosedWalks (links : List Link) (walks : List (List ℕ)) : Type 0 where
+  pub closed : All (IsClosedWalk links) walks
+  pub once : (i : ℕ) → i < length links → count_by (λ j. j == i) (flat_map (λ walk. walk) walks) ≡ 1
