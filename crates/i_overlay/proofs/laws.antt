@@ -1,1 +1,3 @@
+pub mod PlaceColumns
+pub mod Regions
 pub mod Overlays

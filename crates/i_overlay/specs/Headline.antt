@@ -13,13 +13,16 @@ use Rattle.overlay_base.specs.declared.segm.fault.Fault.TheVariants.{CountOutOfR
 use Rattle.overlay_split.specs.Run.{Settings, IsPassCount, LeavesRange, after_passes}
 use Rattle.overlay_split.specs.ExactInput.{is_exact_input, KeepsCounts}
 use Rattle.overlay_split.specs.Nearness.{StaysNear}
+use Rattle.overlay_split.specs.Places.{KeepsWinding}
 use Rattle.overlay_split.specs.Potential.{potential}
 use Rattle.overlay_build.specs.ChainWindings.{tops_leave_range}
 use Rattle.overlay_build.specs.Graph.{Graph, graph_by}
 use Rattle.overlay_build.specs.Sides.{IsBalancedOverlay}
+use Rattle.i_overlay.specs.Regions.{EnclosesRegion, EnclosesFarRegion}
 
 -- The segments are the one arrangement that the passes define: planar, with every point's balance kept, in the box of
--- what was given and near it. There are no more passes than the bound allows, and exact input keeps its counts.
+-- what was given and near it, and winding as it does at each place that is not near. There are no more passes than the
+-- bound allows, and exact input keeps its counts.
 pub record IsSplit (settings : Settings) (given segments : List WholeSegment) (passes : ℕ) : Type 0 where
   pub count : IsPassCount settings given passes
   pub arrangement : segments ≡ after_passes settings given passes
@@ -27,15 +30,19 @@ pub record IsSplit (settings : Settings) (given segments : List WholeSegment) (p
   pub kept : KeepsBalance given segments
   pub in_box : IsTrue (list_all (λ p. is_within_box_of (ends (pairs (join given))) p) (ends (pairs segments)))
   pub near : StaysNear settings given segments passes
+  pub winding : KeepsWinding settings given segments passes
   pub exact_input : IsTrue (is_exact_input given) → KeepsCounts given segments
   pub bound : passes ≤ settings.limit + potential (after_passes settings given settings.limit) + 1
 
 -- The segments are split, and the graph is that of the kept fills. Where the given counts balance, it holds exactly the
--- segments whose sides the rule tells apart, with the fills of these sides, and evenly many links at every node.
+-- segments whose sides the rule tells apart, with the fills of these sides, and evenly many links at every node; and it
+-- encloses the places of which the rule holds, also by how the given segments wind, where these are not near.
 pub record IsOverlay (settings : Settings) (fill_rule : FillRule) (rule : Bool → Bool → Bool) (given segments : List WholeSegment) (passes : ℕ) (graph : Graph) : Type 0 where
   pub split : IsSplit settings given segments passes
   pub links : graph ≡ graph_by (keeps_fill rule) fill_rule segments
   pub balanced : IsBalanced given → IsBalancedOverlay rule fill_rule segments graph
+  pub region : IsBalanced given → EnclosesRegion rule fill_rule segments graph
+  pub far_region : IsBalanced given → EnclosesFarRegion settings rule fill_rule given passes graph
 
 -- The split was refused: nothing is left, and where a count was, a sum of the run is too large.
 pub record IsSplitRefused (settings : Settings) (given segments : List WholeSegment) (fault : Fault) : Type 0 where

@@ -1,3 +1,4 @@
+pub mod Regions
 pub mod Headline
 -- what the clauses of the crate cite of the crates below
 pub use Rattle.overlay_base.specs.Balance

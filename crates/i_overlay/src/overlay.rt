@@ -3,6 +3,7 @@ ghost use Rattle.std.specs.Prelude.{◌≡◌, ◌⊎◌, [], map, IsTrue, IsFal
 ghost use Rattle.overlay_base.specs.BooleanWinding.{boolean_counted};
 ghost use Rattle.overlay_base.specs.HooksOf.{hooks_of};
 ghost use Rattle.overlay_base.specs.Rules.{holds, keeps_fill};
+ghost use Rattle.overlay_base.specs.Balance.{IsBalanced};
 ghost use Rattle.overlay_base.specs.Planar.{is_splittable, is_arranged};
 ghost use Rattle.overlay_base.specs.SegmentOf.{segments_of, data_segments_of};
 ghost use Rattle.overlay_split.specs.Run.{LeavesRange};
@@ -12,6 +13,7 @@ ghost use Rattle.overlay_build.specs.ChainWindings.{tops_leave_range};
 ghost use Rattle.overlay_build.specs.Graph.{data_by};
 ghost use Rattle.overlay_build.specs.GraphOf.{HoldGraph, graph_with};
 ghost use Rattle.overlay_build.specs.NodeIndexes.{indexes_of, is_canonical_node};
+ghost use Rattle.i_overlay.specs.Regions.{EnclosesOverlay};
 ghost use Rattle.i_overlay.specs.Headline.{IsOverlay, IsSplitRefused, IsBuildRefused};
 
 use overlay_base::num::OverlayInt;
@@ -32,9 +34,12 @@ use overlay_split::split::solver::SplitSolver;
 ///
 /// The list has to be splittable, as `is_splittable` tests; afterwards it is the arrangement. Where the given counts
 /// balance at every point, as those of closed contours do, the graph holds exactly the segments of whose two sides the
-/// rule says different things, with the fills of these sides, and evenly many links meet at every node. The data of the
-/// list goes through the splits and merges of a store of its own, which begins as the store's default and is dropped;
-/// each link has the data of its segment. The solver's strategy does not change the answer.
+/// rule says different things, with the fills of these sides, and evenly many links meet at every node. Then the graph
+/// encloses exactly the places of which the rule holds, by how the arrangement winds there: oddly many links run below
+/// them. At every place that is farther from the given segments than the passes move crossings, that is how the given
+/// segments wind. The data of the list goes through the splits and merges of a store of its own, which begins as the
+/// store's default and is dropped; each link has the data of its segment. The solver's strategy does not change the
+/// answer.
 ///
 /// Answers `Fault::CountOutOfRange` only where a running sum of counts on one pair of ends leaves
 /// `-i32::MAX..=i32::MAX` in the split, or a winding above a segment in the build, and, memory being found, wherever one
@@ -51,6 +56,7 @@ pub fn split_and_build_overlay<'a, I: OverlayInt, D: OverlayEdgeData<ShapeCountB
 ) -> Result<OverlayGraph<'a, I, D>, Fault>
     requires { IsTrue (is_splittable (I.whole I.MIN_COORD) (I.whole I.MAX_COORD) (segments_of segments.old.items)) }
     ensures overlay { IfOk result (λ graph. IsOverlay (settings_of I.BITS solver.now splitter.old) fill_rule (holds overlay_rule) (segments_of segments.old.items) (segments_of segments.new.items) (passes_of splitter.new) (graph_with I.whole graph.links.now)) }
+    ensures region { IsBalanced (segments_of segments.old.items) → IfOk result (λ graph. EnclosesOverlay (settings_of I.BITS solver.now splitter.old) overlay_rule fill_rule (segments_of segments.old.items) (passes_of splitter.new) (graph_with I.whole graph.links.now)) }
     ensures graph { IfOk result (λ graph. HoldGraph indexes_of is_canonical_node I.whole graph.nodes.now graph.links.now (graph_with I.whole graph.links.now)) }
     ensures edge_data { IfOk result (λ graph. map (λ l. l.edge_data) graph.links.now ≡ data_by (keeps_fill (holds overlay_rule)) fill_rule (data_segments_of segments.new.items)) }
     ensures arranged { IsTrue (is_arranged (I.whole I.MIN_COORD) (I.whole I.MAX_COORD) (segments_of segments.new.items)) }

@@ -7,3 +7,4 @@ pub mod Runs
 pub mod DataPasses
 pub mod ExactInputs
 pub mod Nearness
+pub mod Places

@@ -64,3 +64,5 @@ pub mod NearMarks
 pub mod Nearness
 pub mod Coverings
 pub mod LineCounts
+pub mod OneSide
+pub mod Places

@@ -20,7 +20,8 @@ use Rattle.overlay_split.specs.Pass.{cut, pass, is_rounded, mark_count}
 use Rattle.overlay_split.specs.Run.{Settings, IsPassCount, IsRun, LeavesRange, after_passes}
 use Rattle.overlay_split.specs.Potential.{potential}
 use Rattle.overlay_split.specs.ExactInput.{is_exact_input, KeepsCounts}
-use Rattle.overlay_split.specs.Nearness.{Fraction, whole_point, point_along, exact_crossing, IsWithin, IsNear, LiesNear, LieNear, IsNearSome, StaysNear, are_lines, root, reach, reach_of_pass, reach_of_run, reach_of_passes}
+use Rattle.overlay_split.specs.Nearness.{RationalPoint, Fraction, whole_point, point_along, exact_crossing, IsWithin, IsNear, LiesNear, LieNear, IsNearSome, StaysNear, are_lines, root, reach, reach_of_pass, reach_of_run, reach_of_passes}
+use Rattle.overlay_split.specs.Places.{spans, lies_below, winding_below, IsFar, KeepsWinding}
 use Rattle.overlay_split.specs.DataPass.{data_pass, data_after_passes, IsStoppedRun}
 
 -- ---- marks and crossings
@@ -278,6 +279,35 @@ abbrev pub ExactInputReachesNothing : Type 0
 ExactInputReachesNothing =
     (settings : Settings) (given result : List WholeSegment) (passes : ℕ) (flag : Bool) → IsTrue (are_ordered given) → IsTrue (is_exact_input given) → IsRun settings given result passes flag →
     reach_of_run settings given passes ≡ 0
+
+-- ---- places
+
+-- Pairs that lie near s pass a place that is farther from s on one side: where one lies below it, each that meets the
+-- line through it does.
+abbrev pub PassOnOneSide : Type 0
+PassOnOneSide =
+    (halves : ℕ) (p : RationalPoint) (s r t : Pair) → (IsNear halves p s → ⊥) → LiesNear halves r s → LiesNear halves t s →
+    IsTrue (lies_below r p) → IsTrue (spans t p) → IsTrue (lies_below t p)
+
+-- a join changes no winding
+abbrev pub JoinKeepsWinding : Type 0
+JoinKeepsWinding = (bag : List WholeSegment) (p : RationalPoint) → winding_below (join bag) p ≡ winding_below bag p
+
+-- a pass changes none at a place that is farther from each segment than it moves crossings
+abbrev pub PassKeepsWinding : Type 0
+PassKeepsWinding =
+    (placing : Placing) (segments : List WholeSegment) (p : RationalPoint) → IsTrue (are_ordered segments) → IsFar (reach_of_pass placing segments) p (pairs segments) →
+    winding_below (pass placing segments) p ≡ winding_below segments p
+
+-- so what stands after k passes winds as what is given wherever that is farther away than the passes reach
+abbrev pub RunKeepsWinding : Type 0
+RunKeepsWinding = (settings : Settings) (given : List WholeSegment) (k : ℕ) → IsTrue (are_ordered given) → KeepsWinding settings given (after_passes settings given k) k
+
+-- on exact input at each place that lies on no given segment
+abbrev pub ExactInputKeepsWinding : Type 0
+ExactInputKeepsWinding =
+    (settings : Settings) (given result : List WholeSegment) (passes : ℕ) (flag : Bool) (p : RationalPoint) → IsTrue (are_ordered given) → IsTrue (is_exact_input given) → IsRun settings given result passes flag →
+    IsFar 0 p (pairs given) → winding_below result p ≡ winding_below given p
 
 -- ---- passes with data
 

@@ -26,4 +26,5 @@ pub mod DataCutAt
 pub mod SettingsOf
 pub mod ExactInput
 pub mod Nearness
+pub mod Places
 pub mod Laws

@@ -1,10 +1,11 @@
 -- A split and a build, joined to an overlay.
-use Rattle.std.proofs.Common.{◌≡◌, refl, sym, ap₂, ◌∙◌, subst, ◌⊎◌, inr, ℕ, ◌+◌, ◌≤◌, Bool, ◌&&◌, IsTrue, List, []}
+use Rattle.std.proofs.Common.{◌≡◌, refl, sym, ap, ap₂, ◌∙◌, subst, ◌⊎◌, inr, ℕ, ◌+◌, ◌≤◌, Bool, ◌&&◌, IsTrue, List, []}
 use Rattle.std.specs.Prelude.{ℤ, Result, IfErr}
 use Rattle.std.specs.List.{list_all}
 use Rattle.std.proofs.lemmas.Bool.{and_parts}
 use Rattle.std.proofs.lemmas.Result.{IfErr-weaker}
 use Rattle.overlay_base.specs.Points.{is_within_box_of, is_strictly_sorted}
+use Rattle.overlay_base.specs.Windings.{Winding, empty}
 use Rattle.overlay_base.specs.Segments.{WholeSegment, pairs, ends, is_map}
 use Rattle.overlay_base.specs.Join.{join}
 use Rattle.overlay_base.specs.Planar.{is_arranged, is_splittable, is_planar}
@@ -16,11 +17,14 @@ use Rattle.overlay_base.specs.declared.segm.fault.Fault.TheVariants.{CountOutOfR
 use Rattle.overlay_split.specs.Run.{Settings, IsRun, LeavesRange, after_passes}
 use Rattle.overlay_split.specs.ExactInput.{is_exact_input, KeepsCounts}
 use Rattle.overlay_split.specs.Nearness.{StaysNear}
+use Rattle.overlay_split.specs.Places.{KeepsWinding}
 use Rattle.overlay_split.specs.Potential.{potential}
 use Rattle.overlay_build.specs.ChainWindings.{tops_leave_range}
 use Rattle.overlay_build.specs.Graph.{Graph, graph_by}
-use Rattle.overlay_build.specs.Sides.{IsBalancedOverlay}
+use Rattle.overlay_build.specs.Sides.{IsBalancedOverlay, tells_apart}
+use Rattle.i_overlay.specs.Regions.{EnclosesRegion}
 use Rattle.i_overlay.specs.Headline.{IsSplit, IsOverlay, IsSplitRefused, IsBuildRefused}
+use Rattle.i_overlay.proofs.laws.Regions.{overlay_encloses}
 
 -- the empty list is an arrangement
 pub none_arranged : (least greatest : ℤ) → IsTrue (is_arranged least greatest [])
@@ -29,10 +33,10 @@ none_arranged least greatest = refl
 
 -- what a run ensures is a split: an arrangement is a planar map
 pub split_from : (settings : Settings) (given segments : List WholeSegment) (passes : ℕ) (flag : Bool) (least greatest : ℤ) → IsRun settings given segments passes flag → IsTrue (is_arranged least greatest segments) → KeepsBalance given segments
-    → IsTrue (list_all (λ p. is_within_box_of (ends (pairs (join given))) p) (ends (pairs segments))) → StaysNear settings given segments passes → (IsTrue (is_exact_input given) → KeepsCounts given segments)
+    → IsTrue (list_all (λ p. is_within_box_of (ends (pairs (join given))) p) (ends (pairs segments))) → StaysNear settings given segments passes → KeepsWinding settings given segments passes → (IsTrue (is_exact_input given) → KeepsCounts given segments)
     → passes ≤ settings.limit + potential (after_passes settings given settings.limit) + 1 → IsSplit settings given segments passes
 unfolding is_arranged
-split_from settings given segments passes flag least greatest run arranged kept in_box near exact_input bound =
+split_from settings given segments passes flag least greatest run arranged kept in_box near winding exact_input bound =
     let outer = and_parts (is_map segments && is_splittable least greatest segments) (is_planar segments) arranged in
     let inner = and_parts (is_map segments) (is_splittable least greatest segments) outer.0 in
     record {
@@ -42,6 +46,7 @@ split_from settings given segments passes flag least greatest run arranged kept 
       kept = kept;
       in_box = in_box;
       near = near;
+      winding = winding;
       exact_input = exact_input;
       bound = bound;
     }
@@ -49,11 +54,17 @@ split_from settings given segments passes flag least greatest run arranged kept 
 -- A split and the graph of what it leaves are an overlay: a balanced list is balanced after the split.
 pub overlay_from : (settings : Settings) (fill_rule : FillRule) (rule : Bool → Bool → Bool) (given segments : List WholeSegment) (passes : ℕ) (graph : Graph) → IsSplit settings given segments passes → graph ≡ graph_by (keeps_fill rule) fill_rule segments
     → (IsBalanced segments → IsBalancedOverlay rule fill_rule segments (graph_by (keeps_fill rule) fill_rule segments)) → IsOverlay settings fill_rule rule given segments passes graph
-overlay_from settings fill_rule rule given segments passes graph split links balanced = record {
-  split = split;
-  links = links;
-  balanced = λ balance. subst (IsBalancedOverlay rule fill_rule segments) (sym links) (balanced (λ p. split.kept p ∙ balance p));
-}
+overlay_from settings fill_rule rule given segments passes graph split links balanced =
+    let sides = λ (balance : IsBalanced given). subst (IsBalancedOverlay rule fill_rule segments) (sym links) (balanced (λ p. split.kept p ∙ balance p)) in
+    let planar = and_parts (is_map segments) (is_planar segments) split.planar in
+    let region = λ (balance : IsBalanced given). subst (EnclosesRegion rule fill_rule segments) (sym (sides balance).exactly) (overlay_encloses rule fill_rule segments planar.0 planar.1 (λ p. split.kept p ∙ balance p)) in
+    record {
+      split = split;
+      links = links;
+      balanced = sides;
+      region = region;
+      far_region = λ balance p some far. region balance p some ∙ ap (λ (w : Winding). tells_apart rule fill_rule empty w) (split.winding p far);
+    }
 
 -- a build that is refused after a split
 pub refused_build : {T : Type 0} (settings : Settings) (given segments : List WholeSegment) (before passes : ℕ) (built : Result T Fault) → IsSplit settings given segments passes → (LeavesRange settings given → ⊥) → IfErr built (λ fault. fault ≡ CountOutOfRange → IsTrue (tops_leave_range segments))

@@ -38,7 +38,7 @@ abbrev HasNear : ℕ → List Pair → Pair → Type 0
 HasNear h given r = (s : Pair) × Contains given s × LiesNear h r s
 
 -- the pieces through marks that are near a pair lie near it
-pieces_lie_near : (h : ℕ) (s : WholeSegment) (marks : List Point) → AreNear h marks s.pair → AllByRecursion (λ r. LiesNear h r.pair s.pair) (pieces s marks)
+pub pieces_lie_near : (h : ℕ) (s : WholeSegment) (marks : List Point) → AreNear h marks s.pair → AllByRecursion (λ r. LiesNear h r.pair s.pair) (pieces s marks)
 pieces_lie_near h s marks near =
     AllByRecursion-weaker (λ r. AtEnds (λ p. IsNear h (whole_point p) s.pair) r.pair) (λ r. LiesNear h r.pair s.pair) (λ r k. LiesNear-from_ends h r.pair s.pair k.0 k.1) (pieces s marks)
     (pieces_have (λ p. IsNear h (whole_point p) s.pair) s marks (IsNear-start h s.pair, IsNear-end h s.pair) near)

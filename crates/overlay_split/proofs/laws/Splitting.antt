@@ -21,6 +21,7 @@ use Rattle.overlay_split.specs.DataPass.{data_cut, data_pass, data_after_passes,
 use Rattle.overlay_split.specs.Run.{Settings, placing_of_pass, radius_of_pass, after_passes, goes_on, has_marked, has_changed, IsPassCount, IsRun, leaves_range_within, LeavesRange}
 use Rattle.overlay_split.specs.ExactInput.{is_exact_input, KeepsCounts}
 use Rattle.overlay_split.specs.Nearness.{StaysNear}
+use Rattle.overlay_split.specs.Places.{KeepsWinding}
 use Rattle.overlay_split.specs.Potential.{spread, potential}
 use Rattle.overlay_base.proofs.laws.Coordinates.{difference_bound, pair_parts, point_parts}
 use Rattle.overlay_base.proofs.laws.Maps.{is_map-join}
@@ -31,6 +32,7 @@ use Rattle.overlay_split.proofs.laws.Balances.{run_keeps_balance}
 use Rattle.overlay_split.proofs.laws.ExactInputs.{exact_input_keeps_counts}
 use Rattle.overlay_split.proofs.laws.Boxes.{stays_in_box}
 use Rattle.overlay_split.proofs.laws.Coverings.{run_stays_near}
+use Rattle.overlay_split.proofs.laws.Places.{run_keeps_winding}
 use Rattle.overlay_split.proofs.laws.Potentials.{settling_lowers}
 use Rattle.overlay_split.proofs.laws.PlanarRuns.{run_is_planar, run_is_one}
 use Rattle.overlay_split.proofs.laws.Arranged.{arranged_is_unchanged}
@@ -166,6 +168,7 @@ module _ {D S : Type 0} (hooks : Hooks D S) (settings : Settings) (least greates
     pub in_box : IsTrue (list_all (λ p. is_within_box_of (ends (pairs (join given))) p) (ends (pairs now)))
     pub exact_input : IsTrue (is_exact_input given) → KeepsCounts given now
     pub near : StaysNear settings given now k
+    pub winding : KeepsWinding settings given now k
     pub bound : k ≤ settings.limit + potential (after_passes settings given settings.limit) + 1
     pub fits : LeavesRange settings given → ⊥
 
@@ -185,6 +188,7 @@ module _ {D S : Type 0} (hooks : Hooks D S) (settings : Settings) (least greates
         in_box = subst (λ (l : List WholeSegment). IsTrue (list_all (λ p. is_within_box_of (ends (pairs (join given))) p) (ends (pairs l)))) (sym at.arrangement_is) (stays_in_box settings given k);
         exact_input = λ exact. exact_input_keeps_counts settings given now k changed o exact run;
         near = subst (λ (l : List WholeSegment). StaysNear settings given l k) (sym at.arrangement_is) (run_stays_near settings given k o);
+        winding = subst (λ (l : List WholeSegment). KeepsWinding settings given l k) (sym at.arrangement_is) (run_keeps_winding settings given k o);
         bound = ⊎_elim (λ (l : end.0 < k). absurd (both_ways (goes_on settings given end.0) end.1.no_more (at.made end.0 l))) (λ (l : k ≤ end.0). let b = end.2 in omega (arith, b, l)) (cases_lt end.0 k);
         fits = λ leaves. ⊎_elim (λ (l : k < leaves.0). both_ways (goes_on settings given k) stops (leaves.1 k l))
             (λ (l : leaves.0 ≤ k). both_ways (leaves_range_within settings given leaves.0) (fits_before settings given k at.fits leaves.0 (omega (arith, l))) leaves.2)

@@ -4,6 +4,7 @@ ghost use Rattle.overlay_split.specs.Laws.{AnswersAreMarks, NoMarkIsAnEnd, Never
 ghost use Rattle.overlay_split.specs.Laws.{NumbersAreOdd, PiecesTelescope, PassKeepsLosses, PassKeepsBalance, RunKeepsBalance, RunKeepsPolygons};
 ghost use Rattle.overlay_split.specs.Laws.{SettlingLowers, RunEnds, RunIsOne, ExactPassIsPlanar, PlanarPassIsUnchanged, RunIsPlanar, ArrangedIsUnchanged, ResultIsUnchanged};
 ghost use Rattle.overlay_split.specs.Laws.{RootIsMeant, RootOfPower, NearEndsAreEnough, DistancesAddUp, CrossingLiesOnBoth, MarkIsNear, PassStaysNear, PiecesStayNear, RunStaysNear, LinesAreKept, ReachIsBounded, LastPassReachesNothing, ExactInputReachesNothing};
+ghost use Rattle.overlay_split.specs.Laws.{PassOnOneSide, JoinKeepsWinding, PassKeepsWinding, RunKeepsWinding, ExactInputKeepsWinding};
 ghost use Rattle.overlay_split.specs.Laws.{StaysInBox, ExactInputKeepsCounts, ExactRunsAgree, DataIsBeside, UnmarkedDataIsUnchanged, ArrangedDataIsUnchanged, StoppedRunLeavesRange, StoppedRunIsOne};
 
 /// The answer for two pairs, the smaller as target, stands for the marks that a pass puts on both, and no mark is an
@@ -98,6 +99,17 @@ pub fn nearness_laws()
     ensures bound { ReachIsBounded }
     ensures last_pass { LastPassReachesNothing }
     ensures exact_input { ExactInputReachesNothing }
+{}
+
+/// Segments that lie near one segment pass each place that is farther from it on one side. So a pass changes the winding
+/// at no place that is farther from every segment than it moves crossings, and a run at none that is farther from every
+/// given segment than its passes reach together; on exact input at none that lies on no given segment.
+pub fn place_laws()
+    ensures side { PassOnOneSide }
+    ensures join { JoinKeepsWinding }
+    ensures pass { PassKeepsWinding }
+    ensures run { RunKeepsWinding }
+    ensures exact_input { ExactInputKeepsWinding }
 {}
 
 /// Whatever the hooks do, passes with data are, without their data, the passes without. Where nothing is marked, data

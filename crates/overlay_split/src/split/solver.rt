@@ -18,6 +18,7 @@ ghost use Rattle.overlay_split.specs.DataPass.{data_cut, data_pass, data_after_p
 ghost use Rattle.overlay_split.specs.Run.{IsRun, LeavesRange, after_passes};
 ghost use Rattle.overlay_split.specs.ExactInput.{is_exact_input, KeepsCounts};
 ghost use Rattle.overlay_split.specs.Nearness.{StaysNear};
+ghost use Rattle.overlay_split.specs.Places.{KeepsWinding};
 ghost use Rattle.overlay_split.specs.Potential.{potential};
 ghost use Rattle.overlay_split.specs.PlacingOf.{placing_of, HasRadius};
 ghost use Rattle.overlay_split.specs.Looked.{tree_looks};
@@ -127,6 +128,7 @@ impl<I: OverlayInt> SplitSolver<I> {
         ensures in_box { OnOk result (IsTrue (list_all (λ p. is_within_box_of (ends (pairs (join (segments_of list.old.items)))) p) (ends (pairs (segments_of list.new.items))))) }
         ensures exact_input { IsTrue (is_exact_input (segments_of list.old.items)) → OnOk result (KeepsCounts (segments_of list.old.items) (segments_of list.new.items)) }
         ensures near { OnOk result (StaysNear (settings_of I.BITS solver.now self.old) (segments_of list.old.items) (segments_of list.new.items) (passes_of self.new)) }
+        ensures winding { OnOk result (KeepsWinding (settings_of I.BITS solver.now self.old) (segments_of list.old.items) (segments_of list.new.items) (passes_of self.new)) }
         ensures bound { OnOk result (passes_of self.new ≤ snap_limit_of self.old + potential (after_passes (settings_of I.BITS solver.now self.old) (segments_of list.old.items) (snap_limit_of self.old)) + 1) }
         ensures unchanged { IsTrue (is_arranged (I.whole I.MIN_COORD) (I.whole I.MAX_COORD) (segments_of list.old.items)) →
             IfOk result (λ flag. (flag ≡ false) × (data_segments_of list.new.items ≡ data_segments_of list.old.items)) }
@@ -154,7 +156,8 @@ impl<I: OverlayInt> SplitSolver<I> {
     ///
     /// A list that `is_arranged` stays as it is. Where no two given segments cross at a point without whole coordinates,
     /// the counts along them are those given. In every case the result and the given segments lie near one another, but
-    /// for counts that cancel: as near as the passes move crossings. An empty list takes no memory.
+    /// for counts that cancel: as near as the passes move crossings. At every place that is farther than that from the
+    /// given segments the result winds as they do. An empty list takes no memory.
     ///
     /// Answers `Fault::CountOutOfRange` only where a running sum of counts on one pair of ends leaves
     /// `-i32::MAX..=i32::MAX`, in the given list or among the pieces of a pass, and, memory being found, wherever one
@@ -179,6 +182,7 @@ impl<I: OverlayInt> SplitSolver<I> {
         ensures in_box { OnOk result (IsTrue (list_all (λ p. is_within_box_of (ends (pairs (join (segments_of list.old.items)))) p) (ends (pairs (segments_of list.new.items))))) }
         ensures exact_input { IsTrue (is_exact_input (segments_of list.old.items)) → OnOk result (KeepsCounts (segments_of list.old.items) (segments_of list.new.items)) }
         ensures near { OnOk result (StaysNear (settings_of I.BITS solver.now self.old) (segments_of list.old.items) (segments_of list.new.items) (passes_of self.new)) }
+        ensures winding { OnOk result (KeepsWinding (settings_of I.BITS solver.now self.old) (segments_of list.old.items) (segments_of list.new.items) (passes_of self.new)) }
         ensures bound { OnOk result (passes_of self.new ≤ snap_limit_of self.old + potential (after_passes (settings_of I.BITS solver.now self.old) (segments_of list.old.items) (snap_limit_of self.old)) + 1) }
         ensures unchanged { IsTrue (is_arranged (I.whole I.MIN_COORD) (I.whole I.MAX_COORD) (segments_of list.old.items)) →
             IfOk result (λ flag. (flag ≡ false) × (data_segments_of list.new.items ≡ data_segments_of list.old.items) × (store.new ≡ store.old)) }

@@ -8,8 +8,10 @@ use Rattle.overlay_split.specs.SettingsOf.{passes_of, settings_of}
 use Rattle.overlay_build.specs.Graph.{graph_by}
 use Rattle.overlay_build.specs.GraphOf.{HoldGraph, graph_with}
 use Rattle.overlay_build.specs.NodeIndexes.{indexes_of, is_canonical_node}
+use Rattle.i_overlay.specs.Regions.{EnclosesOverlay}
 use Rattle.i_overlay.specs.Headline.{IsSplit, IsOverlay}
 use Rattle.overlay_build.proofs.laws.BuiltGraphs.{graph_with_kept}
+use Rattle.i_overlay.proofs.laws.Regions.{overlay_region}
 use Rattle.i_overlay.proofs.laws.Overlays.{none_arranged, split_from, overlay_from, refused_build}
 use Rattle.i_overlay.proofs.overlay.split_and_build_overlay.Goals as goal
 
@@ -25,13 +27,26 @@ returns-clause-overlay g c =
     let given : List WholeSegment = segments_of c.args.segments.now.items in
     let segments : List WholeSegment = segments_of c.split_segments.new.list.items in
     let passes : ℕ = passes_of c.split_segments.new.self in
-    let split : IsSplit settings given segments passes = split_from _ _ _ _ _ _ _ e.run e.arranged e.balance e.in_box e.near e.exact_input e.bound in
+    let split : IsSplit settings given segments passes = split_from _ _ _ _ _ _ _ e.run e.arranged e.balance e.in_box e.near e.winding e.exact_input e.bound in
     let balanced = rw c.deref.ensures.value at c.build_boolean_overlay.ensures.balanced in
     IfOk-weaker c.build_boolean_overlay.result
     (λ built. HoldGraph indexes_of is_canonical_node whole built.nodes.now built.links.now (graph_by keeps c.args.fill_rule segments))
     (λ built. IsOverlay settings c.args.fill_rule (holds c.args.overlay_rule) given segments passes (graph_with whole built.links.now))
     (λ built h. overlay_from settings c.args.fill_rule (holds c.args.overlay_rule) given segments passes _ split (graph_with_kept indexes_of is_canonical_node whole built.nodes.now built.links.now keeps c.args.fill_rule segments h) balanced)
     (rw c.deref.ensures.value at c.build_boolean_overlay.ensures.graph)
+
+pub returns-clause-region : goal.returns-clause-region
+returns-clause-region g c = λ balance.
+    let whole = g.I.OverlayInt.whole in
+    let settings : Settings = settings_of g.I.OverlayInt.BITS c.args.solver.now c.args.splitter.now in
+    let given : List WholeSegment = segments_of c.args.segments.now.items in
+    let segments : List WholeSegment = segments_of c.split_segments.new.list.items in
+    let passes : ℕ = passes_of c.split_segments.new.self in
+    IfOk-weaker c.build_boolean_overlay.result
+    (λ built. IsOverlay settings c.args.fill_rule (holds c.args.overlay_rule) given segments passes (graph_with whole built.links.now))
+    (λ built. EnclosesOverlay settings c.args.overlay_rule c.args.fill_rule given passes (graph_with whole built.links.now))
+    (λ built overlay. overlay_region settings c.args.overlay_rule c.args.fill_rule given passes (graph_with whole built.links.now) (overlay.far_region balance))
+    (returns-clause-overlay g c)
 
 pub returns-clause-graph : goal.returns-clause-graph
 returns-clause-graph g c =
@@ -58,5 +73,5 @@ returns-clause-refused g c =
     let given : List WholeSegment = segments_of c.args.segments.now.items in
     let segments : List WholeSegment = segments_of c.split_segments.new.list.items in
     let passes : ℕ = passes_of c.split_segments.new.self in
-    let split : IsSplit settings given segments passes = split_from _ _ _ _ _ _ _ e.run e.arranged e.balance e.in_box e.near e.exact_input e.bound in
+    let split : IsSplit settings given segments passes = split_from _ _ _ _ _ _ _ e.run e.arranged e.balance e.in_box e.near e.winding e.exact_input e.bound in
     refused_build settings given segments (passes_of c.args.splitter.now) passes c.build_boolean_overlay.result split e.fits (rw c.deref.ensures.value at c.build_boolean_overlay.ensures.out_of_range)

@@ -73,6 +73,12 @@ returns-then-is_empty-clause-near g c =
     let at = at_rest (hooks_of g.C.WindingCount.counted g.D.OverlayEdgeData.reversed_gives g.D.OverlayEdgeData.split_gives g.D.OverlayEdgeData.merge_gives) (settings_of g.I.OverlayInt.BITS c.args.solver.now c.args.self.now) (g.I.OverlayInt.whole g.I.OverlayInt.MIN_COORD) (g.I.OverlayInt.whole g.I.OverlayInt.MAX_COORD) (segments_of c.args.list.now.items) (data_segments_of c.args.list.now.items) c.args.store.now (segments_none c.args.list.now.items none).0 (segments_none c.args.list.now.items none).1 in
     (has_ended _ _ _ _ _ _ _ _ _ _ _ _ _ (segments_ordered c.args.list.now.items) at refl).near
 
+pub returns-then-is_empty-clause-winding : goal.returns-then-is_empty-clause-winding
+returns-then-is_empty-clause-winding g c =
+    let none : length c.args.list.now.items ≡ 0 = grind (arith, common_steps, c.args.list.now.ok.0) in
+    let at = at_rest (hooks_of g.C.WindingCount.counted g.D.OverlayEdgeData.reversed_gives g.D.OverlayEdgeData.split_gives g.D.OverlayEdgeData.merge_gives) (settings_of g.I.OverlayInt.BITS c.args.solver.now c.args.self.now) (g.I.OverlayInt.whole g.I.OverlayInt.MIN_COORD) (g.I.OverlayInt.whole g.I.OverlayInt.MAX_COORD) (segments_of c.args.list.now.items) (data_segments_of c.args.list.now.items) c.args.store.now (segments_none c.args.list.now.items none).0 (segments_none c.args.list.now.items none).1 in
+    (has_ended _ _ _ _ _ _ _ _ _ _ _ _ _ (segments_ordered c.args.list.now.items) at refl).winding
+
 pub returns-then-is_empty-clause-fits : goal.returns-then-is_empty-clause-fits
 returns-then-is_empty-clause-fits g c =
     let none : length c.args.list.now.items ≡ 0 = grind (arith, common_steps, c.args.list.now.ok.0) in
@@ -206,6 +212,9 @@ returns-clause-exact_input g c = (has_ended _ _ _ _ _ _ _ _ _ _ _ _ _ (segments_
 
 pub returns-clause-near : goal.returns-clause-near
 returns-clause-near g c = (has_ended _ _ _ _ _ _ _ _ _ _ _ _ _ (segments_ordered c.args.list.now.items) c.loop-progress.invariant.at c.loop-progress-test.false).near
+
+pub returns-clause-winding : goal.returns-clause-winding
+returns-clause-winding g c = (has_ended _ _ _ _ _ _ _ _ _ _ _ _ _ (segments_ordered c.args.list.now.items) c.loop-progress.invariant.at c.loop-progress-test.false).winding
 
 pub returns-clause-bound : goal.returns-clause-bound
 returns-clause-bound g c = (has_ended _ _ _ _ _ _ _ _ _ _ _ _ _ (segments_ordered c.args.list.now.items) c.loop-progress.invariant.at c.loop-progress-test.false).bound

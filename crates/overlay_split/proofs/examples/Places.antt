@@ -1,0 +1,65 @@
+-- Windings at places, and how far from the given segments a run changes them.
+use Rattle.std.proofs.Common.{inl, inr, sym, subst, arith, ◌≡◌, refl}
+use Rattle.std.specs.Prelude.{ℕ, ℤ, pos, [], ◌∷◌, List, map}
+use Rattle.std.proofs.lemmas.Int.{ints}
+use Rattle.overlay_base.specs.Points.{Pair}
+use Rattle.overlay_base.specs.Segments.{WholeSegment, pairs}
+use Rattle.overlay_base.proofs.laws.Lists.{Has}
+use Rattle.overlay_split.specs.Run.{after_passes}
+use Rattle.overlay_split.specs.Nearness.{RationalPoint, IsNear, reach_of_run}
+use Rattle.overlay_split.specs.Places.{winding_below, IsFar}
+use Rattle.overlay_split.proofs.laws.Nearness.{Has-from_Contains}
+use Rattle.overlay_split.proofs.laws.Places.{run_keeps_winding}
+use Rattle.overlay_base.proofs.examples.Words.{neg, pair, seg, count}
+use Rattle.overlay_split.proofs.examples.Computing.{computing}
+use Rattle.overlay_split.proofs.examples.Runs.{high}
+use Rattle.overlay_split.proofs.examples.Squares.{two_squares, twelve}
+
+abbrev place : ℤ → ℤ → ℕ → RationalPoint
+place x y bottom = record { x = x; y = y; bottom = bottom }
+
+-- in the subject, in both, in the clip, outside, and at half a unit from a corner
+squares_wind : map (winding_below two_squares) (place (pos 1) (pos 1) 1 ∷ place (pos 3) (pos 3) 1 ∷ place (pos 5) (pos 5) 1 ∷ place (pos 7) (pos 1) 1 ∷ place (pos 1) (pos 9) 2 ∷ [])
+    ≡ (count (pos 1) (pos 0) ∷ count (pos 1) (pos 1) ∷ count (pos 0) (pos 1) ∷ count (pos 0) (pos 0) ∷ count (pos 0) (pos 0) ∷ [])
+unfolding computing
+squares_wind = refl
+
+arranged_squares_wind : map (winding_below twelve) (place (pos 1) (pos 1) 1 ∷ place (pos 3) (pos 3) 1 ∷ place (pos 5) (pos 5) 1 ∷ place (pos 7) (pos 1) 1 ∷ place (pos 1) (pos 9) 2 ∷ [])
+    ≡ (count (pos 1) (pos 0) ∷ count (pos 1) (pos 1) ∷ count (pos 0) (pos 1) ∷ count (pos 0) (pos 0) ∷ count (pos 0) (pos 0) ∷ [])
+unfolding computing
+arranged_squares_wind = refl
+
+-- two that cross at (3/2, 3/2), which is marked at (2, 2): the second is bent upward there
+abbrev crossing : List WholeSegment
+crossing = (seg (pos 0) (pos 0) (pos 5) (pos 5) (pos 1) ∷ seg (pos 0) (pos 3) (pos 5) (neg 2) (pos 1) ∷ [])
+
+crossing_reach : reach_of_run (high 256) crossing 2 ≡ 4
+unfolding computing
+crossing_reach = refl
+
+-- so at (3/2, 2) the winding changes: that place is near
+near_before : winding_below crossing (place (pos 3) (pos 4) 2) ≡ count (pos 2) (pos 0)
+unfolding computing
+near_before = refl
+
+near_after : winding_below (after_passes (high 256) crossing 2) (place (pos 3) (pos 4) 2) ≡ count (pos 1) (pos 0)
+unfolding computing
+near_after = refl
+
+-- the place (3/2, 6) is farther than two units from both, so there it cannot
+far_place : IsFar 4 (place (pos 3) (pos 12) 2) (pairs crossing)
+far_place (s, i, near) = by (Has-from_Contains (pairs crossing) s i)
+  where
+    from_first : IsNear 4 (place (pos 3) (pos 12) 2) (pair (pos 0) (pos 0) (pos 5) (pos 5)) → ⊥
+    from_first (f, near) = omega (arith, ints, f.positive, near.in_x, near.in_y)
+
+    from_second : IsNear 4 (place (pos 3) (pos 12) 2) (pair (pos 0) (pos 3) (pos 5) (neg 2)) → ⊥
+    from_second (f, near) = omega (arith, ints, f.positive, f.at_most_one, near.in_x, near.in_y)
+
+    by : Has (pairs crossing) s → ⊥
+    by (inl e) = from_first (subst (λ (t : Pair). IsNear 4 (place (pos 3) (pos 12) 2) t) (sym e) near)
+    by (inr (inl e)) = from_second (subst (λ (t : Pair). IsNear 4 (place (pos 3) (pos 12) 2) t) (sym e) near)
+    by (inr (inr none)) = absurd none
+
+far_stays : winding_below (after_passes (high 256) crossing 2) (place (pos 3) (pos 12) 2) ≡ winding_below crossing (place (pos 3) (pos 12) 2)
+far_stays = run_keeps_winding (high 256) crossing 2 refl (place (pos 3) (pos 12) 2) (subst (λ (h : ℕ). IsFar h (place (pos 3) (pos 12) 2) (pairs crossing)) (sym crossing_reach) far_place)

@@ -1,0 +1,17 @@
+use Rattle.overlay_split.proofs.laws.Places.{pass_on_one_side, join_keeps_winding, pass_keeps_winding, run_keeps_winding, exact_input_keeps_winding}
+use Rattle.overlay_split.proofs.split.laws.place_laws.Goals as goal
+
+pub returns-clause-side : goal.returns-clause-side
+returns-clause-side c = pass_on_one_side
+
+pub returns-clause-join : goal.returns-clause-join
+returns-clause-join c = join_keeps_winding
+
+pub returns-clause-pass : goal.returns-clause-pass
+returns-clause-pass c = pass_keeps_winding
+
+pub returns-clause-run : goal.returns-clause-run
+returns-clause-run c = run_keeps_winding
+
+pub returns-clause-exact_input : goal.returns-clause-exact_input
+returns-clause-exact_input c = exact_input_keeps_winding
