@@ -1,8 +1,8 @@
 -- Laws over the definitions, each a statement that is proved once and named by a contract.
-use Rattle.std.specs.Prelude.{◌≡◌, ◌≢◌, ◌<◌, ◌≤◌, ℕ, ◌*◌, ℤ, pos, ◌+ℤ◌, ◌-ℤ◌, ◌*ℤ◌, ◌≤ℤ◌, ◌<ℤ◌, unsigned_abs, not, ◌&&◌, ◌||◌, IsTrue, ◌+◌, ◌-◌, neg_ℤ, Bool, false, IsFalse, List, Contains, length, min, ◌^◌, ◌/◌}
+use Rattle.std.specs.Prelude.{◌≡◌, ◌≢◌, ◌<◌, ◌≤◌, ℕ, ◌*◌, ℤ, pos, ◌+ℤ◌, ◌-ℤ◌, ◌*ℤ◌, ◌≤ℤ◌, ◌<ℤ◌, int_le, unsigned_abs, map, not, ◌&&◌, ◌||◌, IsTrue, ◌+◌, ◌-◌, neg_ℤ, Bool, false, IsFalse, List, Contains, length, min, ◌^◌, ◌/◌}
 use Rattle.std.specs.List.{list_all}
 use Rattle.std.specs.Ordering.{int_eq}
-use Rattle.overlay_base.specs.Points.{Point, Pair, pair_lt, turn, is_end, is_in_box, is_vertical, is_horizontal, is_within_box_of}
+use Rattle.overlay_base.specs.Points.{Point, Pair, pair_lt, turn, is_ordered, is_end, is_in_box, is_vertical, is_horizontal, is_within_box_of}
 use Rattle.overlay_base.specs.Meeting.{do_cross}
 use Rattle.overlay_base.specs.Windings.{Winding, inverse}
 use Rattle.overlay_base.specs.Segments.{WholeSegment, pairs, ends, is_map, are_ordered, are_polygons}
@@ -16,6 +16,7 @@ use Rattle.overlay_split.specs.Marks.{Placing, nearer_end, ordered_mark, marks_b
 use Rattle.overlay_split.specs.Counts.{count_of}
 use Rattle.overlay_split.specs.CrossAnswer.{cross_answer, target_marks, other_marks}
 use Rattle.overlay_split.specs.Path.{pieces}
+use Rattle.overlay_split.specs.Grid.{Layout, fragments, encloses, follow_on}
 use Rattle.overlay_split.specs.Pass.{cut, pass, is_rounded, mark_count}
 use Rattle.overlay_split.specs.Run.{Settings, IsPassCount, IsRun, LeavesRange, after_passes}
 use Rattle.overlay_split.specs.Potential.{potential}
@@ -340,3 +341,11 @@ abbrev pub StoppedRunIsOne : (D S : Type 0) → Type 0
 StoppedRunIsOne D S =
     (hooks : Hooks D S) (settings : Settings) (given : List (DataSegment D)) (from first second : S) → IsStoppedRun hooks settings given from first → IsStoppedRun hooks settings given from second →
     first ≡ second
+
+-- ---- the grid
+
+-- the fragments of a segment inside the grid follow one another from end to end, and each encloses its part of the segment
+abbrev pub FragmentsEnclose : Type 0
+FragmentsEnclose =
+    (l : Layout) (s : Pair) → IsTrue (is_ordered s) → IsFalse (is_vertical s) → IsTrue (int_le l.min_x s.a.x) →
+    IsTrue (list_all (λ f. encloses s f.rect) (fragments l s)) × IsTrue (follow_on s.a.x (map (λ f. f.rect) (fragments l s)) s.b.x)

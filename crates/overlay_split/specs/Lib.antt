@@ -28,3 +28,7 @@ pub mod ExactInput
 pub mod Nearness
 pub mod Places
 pub mod Laws
+pub mod Grid
+pub mod FragmentOf
+pub mod GroupsOf
+pub mod FragmentFinder

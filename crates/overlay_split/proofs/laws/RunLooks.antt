@@ -1,34 +1,55 @@
 -- How many pairs a run takes up, from one pass to the next.
-use Rattle.std.proofs.Common.{◌≡◌, sym, ap, subst, ◌∙◌, ℕ, suc, ◌+◌, ◌≤◌, arith, List, length, IsFalse}
+use Rattle.std.proofs.Common.{◌≡◌, sym, ap, subst, ◌∙◌, ℕ, suc, ◌+◌, ◌≤◌, arith, List, [], ◌∷◌, length, IsFalse}
+use Rattle.std.specs.Prelude.{Option, Some, None}
 use Rattle.std.proofs.lemmas.List.{length-map}
+use Rattle.overlay_base.specs.Points.{Pair, distinct_in_order, stably_sorted}
 use Rattle.overlay_base.specs.Segments.{WholeSegment, pairs}
 use Rattle.overlay_base.specs.Choices.{list_splits}
+use Rattle.overlay_base.specs.Join.{summed, join}
 use Rattle.overlay_base.specs.SegmentOf.{segment_of, segments_of}
 use Rattle.overlay_base.specs.declared.segm.segment.Segment.{Segment}
 use Rattle.overlay_base.specs.declared.overlay_core.solver.Strategy.{Strategy}
 use Rattle.overlay_split.specs.declared.split.finder.Finder.{Finder}
-use Rattle.overlay_split.specs.declared.split.finder.Finder.TheVariants.{Tree}
+use Rattle.overlay_split.specs.declared.split.finder.Finder.TheVariants.{Tree, Grid}
+use Rattle.overlay_split.specs.Grid.{Layout}
 use Rattle.overlay_split.specs.Run.{Settings, after_passes}
-use Rattle.overlay_split.specs.Looked.{tree_looks}
-use Rattle.overlay_split.specs.RunLooks.{HasNoListPass, run_looks}
+use Rattle.overlay_split.specs.Looked.{tree_looks, pass_looks}
+use Rattle.overlay_split.specs.RunLooks.{HasNoListPass, IsGridFor, finder_over, run_looks}
 
--- the looks of n passes are no more than the trees of these passes allow
-abbrev pub AreFew : Strategy → Settings → List WholeSegment → ℕ → ℕ → Type 0
-AreFew strategy settings given n looked = HasNoListPass strategy settings given n → looked ≤ run_looks settings given n
+-- the grid is that of the run, and the looks of n passes are no more than it allows
+pub record HasLooked (strategy : Strategy) (settings : Settings) (given : List WholeSegment) (grid : Option Layout) (n looked : ℕ) : Type 0 where
+  pub is_for : IsGridFor strategy (join given) grid
+  pub few : HasNoListPass strategy settings given n → looked ≤ run_looks settings grid given n
 
-pub AreFew-start : (strategy : Strategy) (settings : Settings) (given : List WholeSegment) → AreFew strategy settings given 0 0
-AreFew-start strategy settings given h = omega arith
+pub HasLooked-start : (strategy : Strategy) (settings : Settings) (given first : List WholeSegment) (grid : Option Layout) → first ≡ join given → IsGridFor strategy first grid → HasLooked strategy settings given grid 0 0
+HasLooked-start strategy settings given first grid e h = record { is_for = subst (λ (l : List WholeSegment). IsGridFor strategy l grid) e h; few = λ none. omega arith }
+
+-- of nothing
+pub HasLooked-none : (strategy : Strategy) (settings : Settings) (given : List WholeSegment) → length given ≡ 0 → HasLooked strategy settings given None 0 0
+unfolding join summed distinct_in_order stably_sorted
+HasLooked-none strategy settings [] h = record { is_for = λ t. tt; few = λ none. omega arith }
+HasLooked-none strategy settings (s ∷ given) h = absurd (omega (arith, h))
+
+looks_over : (grid : Option Layout) (finder : Finder) (old new : ℕ) (ps : List Pair) → finder ≡ finder_over grid → (finder ≡ Tree → new ≤ old + tree_looks ps) → (finder ≡ Grid → new ≤ old + pass_looks grid ps) → new ≤ old + pass_looks grid ps
+unfolding pass_looks
+looks_over None finder old new ps e tree over = tree e
+looks_over (Some l) finder old new ps e tree over = over e
 
 module _ {C I D : Type 0} {m : _} {w : _} {o : _} {e : _} {p : _} where
-  pub AreFew-more : (strategy : Strategy) (settings : Settings) (given : List WholeSegment) (list : List (Segment C I D m w o e p)) (n k old new : ℕ) (finder : Finder) → AreFew strategy settings given n old → k ≡ n + 1 → segments_of list ≡ after_passes settings given n →
-      (IsFalse (list_splits strategy (length list)) → finder ≡ Tree) → (finder ≡ Tree → new ≤ old + tree_looks (pairs (segments_of list))) → AreFew strategy settings given k new
+  pub HasLooked-more : (strategy : Strategy) (settings : Settings) (given : List WholeSegment) (list : List (Segment C I D m w o e p)) (grid later : Option Layout) (n k old new : ℕ) (finder : Finder) → HasLooked strategy settings given grid n old → later ≡ grid → k ≡ n + 1 →
+      segments_of list ≡ after_passes settings given n → (IsFalse (list_splits strategy (length list)) → finder ≡ finder_over grid) →
+      (finder ≡ Tree → new ≤ old + tree_looks (pairs (segments_of list))) → (finder ≡ Grid → new ≤ old + pass_looks grid (pairs (segments_of list))) → HasLooked strategy settings given later k new
   unfolding run_looks
-  AreFew-more strategy settings given list n k old new finder few next is chosen more none =
-      let here : IsFalse (list_splits strategy (length list)) = ap (list_splits strategy) (sym (length-map list segment_of) ∙ ap length is) ∙ none n (omega arith) in
-      let looks : new ≤ old + tree_looks (pairs (after_passes settings given n)) = subst (λ (l : List WholeSegment). new ≤ old + tree_looks (pairs l)) is (more (chosen here)) in
-      let before : old ≤ run_looks settings given n = few (λ i lt. none i (omega arith)) in
-      let all : new ≤ run_looks settings given (suc n) = omega arith in
-      subst (λ (i : ℕ). new ≤ run_looks settings given i) (suc_is n ∙ sym next) all
+  HasLooked-more strategy settings given list grid later n k old new finder before same next is chosen tree over =
+      rw same (record { is_for = before.is_for; few = few })
     where
       suc_is : (n : ℕ) → suc n ≡ n + 1
       suc_is n = omega arith
+
+      few : HasNoListPass strategy settings given k → new ≤ run_looks settings grid given k
+      few none =
+          let here : IsFalse (list_splits strategy (length list)) = ap (list_splits strategy) (sym (length-map list segment_of) ∙ ap length is) ∙ none n (omega (arith, next)) in
+          let looks : new ≤ old + pass_looks grid (pairs (after_passes settings given n)) = subst (λ (l : List WholeSegment). new ≤ old + pass_looks grid (pairs l)) is (looks_over grid finder old new (pairs (segments_of list)) (chosen here) tree over) in
+          let earlier : old ≤ run_looks settings grid given n = before.few (λ i lt. none i (omega (arith, next))) in
+          let all : new ≤ run_looks settings grid given (suc n) = omega (arith, looks, earlier) in
+          subst (λ (i : ℕ). new ≤ run_looks settings grid given i) (suc_is n ∙ sym next) all

@@ -5,6 +5,7 @@ ghost use Rattle.overlay_split.specs.Laws.{NumbersAreOdd, PiecesTelescope, PassK
 ghost use Rattle.overlay_split.specs.Laws.{SettlingLowers, RunEnds, RunIsOne, ExactPassIsPlanar, PlanarPassIsUnchanged, RunIsPlanar, ArrangedIsUnchanged, ResultIsUnchanged};
 ghost use Rattle.overlay_split.specs.Laws.{RootIsMeant, RootOfPower, NearEndsAreEnough, DistancesAddUp, CrossingLiesOnBoth, MarkIsNear, PassStaysNear, PiecesStayNear, RunStaysNear, LinesAreKept, ReachIsBounded, LastPassReachesNothing, ExactInputReachesNothing};
 ghost use Rattle.overlay_split.specs.Laws.{PassOnOneSide, JoinKeepsWinding, PassKeepsWinding, RunKeepsWinding, ExactInputKeepsWinding};
+ghost use Rattle.overlay_split.specs.Laws.{FragmentsEnclose};
 ghost use Rattle.overlay_split.specs.Laws.{StaysInBox, ExactInputKeepsCounts, ExactRunsAgree, DataIsBeside, UnmarkedDataIsUnchanged, ArrangedDataIsUnchanged, StoppedRunLeavesRange, StoppedRunIsOne};
 
 /// The answer for two pairs, the smaller as target, stands for the marks that a pass puts on both, and no mark is an
@@ -124,4 +125,10 @@ pub fn data_pass_laws<D, S>()
 pub fn stopped_run_laws<D, S>()
     ensures leaves_range { StoppedRunLeavesRange D S }
     ensures one { StoppedRunIsOne D S }
+{}
+
+/// The fragments of a segment that begins inside a grid follow one another from its start to its end, and the rectangle of
+/// each holds the segment's part there.
+pub fn fragment_laws()
+    ensures { FragmentsEnclose }
 {}

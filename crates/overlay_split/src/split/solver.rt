@@ -1,8 +1,8 @@
 // The split of a list into a planar arrangement: passes that snap, up to a limit, then passes that settle.
 // Upstream: `split::solver`. The settling passes, `passes` and the limit are this project's own.
-ghost use Rattle.std.specs.Prelude.{◌≡◌, ◌+◌, ◌≤◌, ◌||◌, ◌&&◌, [], false, IsTrue, IsFalse, IfOk, IfErr, OnOk, OnErr, Ok, length, nat_le, nat_lt};
+ghost use Rattle.std.specs.Prelude.{◌≡◌, ◌+◌, ◌≤◌, ◌||◌, ◌&&◌, [], false, IsTrue, IsFalse, IfOk, IfErr, OnOk, OnErr, Ok, All, Option, length, nat_le, nat_lt};
 ghost use Rattle.std.specs.List.{list_all};
-ghost use Rattle.overlay_base.specs.declared.segm.fault.Fault.TheVariants.{CountOutOfRange};
+ghost use Rattle.overlay_base.specs.declared.segm.fault.Fault.TheVariants.{Memory, CountOutOfRange};
 ghost use Rattle.overlay_base.specs.Points.{is_within_box_of};
 ghost use Rattle.overlay_base.specs.Segments.{pairs, ends, is_map};
 ghost use Rattle.overlay_base.specs.Planar.{is_splittable, is_arranged};
@@ -10,7 +10,7 @@ ghost use Rattle.overlay_base.specs.Join.{join, join_leaves_range};
 ghost use Rattle.overlay_base.specs.Balance.{KeepsBalance};
 ghost use Rattle.overlay_base.specs.EdgeData.{IsRefusedJoin};
 ghost use Rattle.overlay_base.specs.HooksOf.{hooks_of};
-ghost use Rattle.overlay_base.specs.SegmentOf.{segments_of, data_segments_of};
+ghost use Rattle.overlay_base.specs.SegmentOf.{segments_of, data_segments_of, x_segment_of};
 ghost use Rattle.overlay_base.specs.Radius.{exponent_of, squared_radius};
 ghost use Rattle.overlay_split.specs.Marks.{snapping};
 ghost use Rattle.overlay_split.specs.Pass.{cut, pass, is_rounded, mark_count};
@@ -21,11 +21,17 @@ ghost use Rattle.overlay_split.specs.Nearness.{StaysNear};
 ghost use Rattle.overlay_split.specs.Places.{KeepsWinding};
 ghost use Rattle.overlay_split.specs.Potential.{potential};
 ghost use Rattle.overlay_split.specs.PlacingOf.{placing_of, HasRadius};
-ghost use Rattle.overlay_split.specs.Looked.{tree_looks};
-ghost use Rattle.overlay_split.specs.RunLooks.{HasNoListPass, run_looks};
+ghost use Rattle.overlay_split.specs.Looked.{tree_looks, pass_looks};
+ghost use Rattle.overlay_split.specs.FragmentFinder.{LieInside};
+ghost use Rattle.overlay_split.specs.GroupsOf.{grid_in};
+ghost use Rattle.overlay_split.specs.Grid.{Layout};
+ghost use Rattle.overlay_split.specs.RunLooks.{HasNoListPass, IsGridFor, finder_over, run_looks};
+ghost use Rattle.overlay_base.specs.InRange.{IsPairInRange};
 ghost use Rattle.overlay_base.specs.Choices.{list_splits};
 
 use crate::split::finder::Finder;
+use crate::split::fragment_buffer::FragmentBuffer;
+use crate::split::grid_layout::GridLayout;
 use crate::split::pass::{PassBuffers, pass};
 use crate::split::placing::Placing;
 use overlay_base::num::OverlayInt;
@@ -44,6 +50,7 @@ const SNAP_LIMIT: u32 = 256;
 /// Splits lists of segments. It keeps its memory from one call to the next.
 #[derive(Drop)]
 pub struct SplitSolver<I> {
+    alloc: Global,
     buffers: PassBuffers<I>,
     snap_limit: u32,
     passes: u128,
@@ -84,6 +91,7 @@ impl<I> SplitSolver<I> {
         ensures looked { looked_of result ≡ 0 }
     {
         SplitSolver {
+            alloc,
             buffers: PassBuffers::new(alloc),
             snap_limit,
             passes: 0,
@@ -138,7 +146,8 @@ impl<I: OverlayInt> SplitSolver<I> {
         ensures emptied { OnErr result (list.new.items ≡ []) }
         ensures passes { OnErr result (passes_of self.new ≡ passes_of self.old) }
         ensures looked { HasNoListPass solver.now.strategy (settings_of I.BITS solver.now self.old) (segments_of list.old.items) (passes_of self.new) →
-            OnOk result (looked_of self.new ≤ run_looks (settings_of I.BITS solver.now self.old) (segments_of list.old.items) (passes_of self.new)) }
+            OnOk result ((grid : Option Layout) × IsGridFor solver.now.strategy (join (segments_of list.old.items)) grid ×
+            (looked_of self.new ≤ run_looks (settings_of I.BITS solver.now self.old) grid (segments_of list.old.items) (passes_of self.new))) }
         ensures looked_before { OnErr result (looked_of self.new ≡ looked_of self.old) }
         ensures limit { snap_limit_of self.new ≡ snap_limit_of self.old }
         ensures empty { list.old.items ≡ [] → (result ≡ Ok false) × (passes_of self.new ≡ 0) }
@@ -195,7 +204,8 @@ impl<I: OverlayInt> SplitSolver<I> {
             IsStoppedRun hooks (settings_of I.BITS solver.now self.old) (data_segments_of list.old.items) store.old store.new)) }
         ensures passes { OnErr result (passes_of self.new ≡ passes_of self.old) }
         ensures looked { HasNoListPass solver.now.strategy (settings_of I.BITS solver.now self.old) (segments_of list.old.items) (passes_of self.new) →
-            OnOk result (looked_of self.new ≤ run_looks (settings_of I.BITS solver.now self.old) (segments_of list.old.items) (passes_of self.new)) }
+            OnOk result ((grid : Option Layout) × IsGridFor solver.now.strategy (join (segments_of list.old.items)) grid ×
+            (looked_of self.new ≤ run_looks (settings_of I.BITS solver.now self.old) grid (segments_of list.old.items) (passes_of self.new))) }
         ensures looked_before { OnErr result (looked_of self.new ≡ looked_of self.old) }
         ensures limit { snap_limit_of self.new ≡ snap_limit_of self.old }
         ensures empty { list.old.items ≡ [] → (result ≡ Ok false) × (passes_of self.new ≡ 0) }
@@ -206,6 +216,13 @@ impl<I: OverlayInt> SplitSolver<I> {
             return Ok(false);
         }
         let repeated = join_with_store(list, store)?;
+        let mut grid = match grid_over(self.alloc, solver, list) {
+            Ok(grid) => grid,
+            Err(fault) => {
+                list.clear();
+                return Err(fault);
+            }
+        };
         let mut progress = Progress {
             passes: 0,
             has_changed: repeated,
@@ -218,11 +235,12 @@ impl<I: OverlayInt> SplitSolver<I> {
                 break;
             }
             let placing = snapping::<I>(&radius);
-            let finder = finder(solver, list);
+            let finder = finder(solver, list, &grid);
             progress = progress.after_pass(
                 list,
                 placing,
                 finder,
+                &mut grid,
                 &mut self.buffers,
                 &mut looked,
                 store,
@@ -230,11 +248,12 @@ impl<I: OverlayInt> SplitSolver<I> {
             radius.increment();
         }
         while progress.goes_on {
-            let finder = finder(solver, list);
+            let finder = finder(solver, list, &grid);
             progress = progress.after_pass(
                 list,
                 Placing::Settling,
                 finder,
+                &mut grid,
                 &mut self.buffers,
                 &mut looked,
                 store,
@@ -255,6 +274,7 @@ impl Progress {
         list: &mut Vec<Segment<C, I, D>>,
         placing: Placing,
         finder: Finder,
+        grid: &mut Option<FragmentBuffer<I>>,
         buffers: &mut PassBuffers<I>,
         looked: &mut u128,
         store: &mut D::Store,
@@ -263,6 +283,8 @@ impl Progress {
         requires splittable { IsTrue (is_splittable (I.whole I.MIN_COORD) (I.whole I.MAX_COORD) (segments_of list.old.items)) }
         requires radius { HasRadius placing }
         requires passes { self.passes + 1 < 2 ^ 128 }
+        requires inside { LieInside (grid_in grid.old) (pairs (segments_of list.old.items)) }
+        ensures grid { grid_in grid.new ≡ grid_in grid.old }
         ensures geometry { OnOk result (segments_of list.new.items ≡ pass (placing_of placing) (segments_of list.old.items)) }
         ensures edge_data { OnOk result
             (let hooks = hooks_of C.counted D.reversed_gives D.split_gives D.merge_gives in
@@ -274,6 +296,7 @@ impl Progress {
         ensures changed { IfOk result (λ after. after.has_changed ≡ (self.has_changed || nat_lt 0 (mark_count (placing_of placing) (segments_of list.old.items)))) }
         ensures goes_on { IfOk result (λ after. after.goes_on ≡ (nat_le 2 (length list.new.items) && is_rounded (segments_of list.old.items))) }
         ensures looked { finder ≡ Finder.Tree → OnOk result (looked.new ≤ looked.old + tree_looks (pairs (segments_of list.old.items))) }
+        ensures grid_looked { finder ≡ Finder.Grid → OnOk result (looked.new ≤ looked.old + pass_looks (grid_in grid.old) (pairs (segments_of list.old.items))) }
 
         ensures fits { OnOk result (IsFalse (join_leaves_range (cut (placing_of placing) (segments_of list.old.items)))) }
         ensures emptied { OnErr result (list.new.items ≡ []) }
@@ -282,7 +305,7 @@ impl Progress {
             let pieces = data_cut hooks (placing_of placing) (data_segments_of list.old.items) store.old in
             IsRefusedJoin hooks pieces.0 pieces.1 store.new)) }
     {
-        let passed = pass(list, placing, finder, buffers, looked, store)?;
+        let passed = pass(list, placing, finder, grid, buffers, looked, store)?;
         Ok(Progress {
             passes: self.passes + 1,
             has_changed: self.has_changed || passed.has_marks,
@@ -291,17 +314,45 @@ impl Progress {
     }
 }
 
+/// The grid of a run over these segments, where the solver asks for one and they are wide enough.
+fn grid_over<C: WindingCount, I: OverlayInt, D: OverlayEdgeData<C>>(
+    alloc: Global,
+    solver: &Solver,
+    list: &[Segment<C, I, D>],
+) -> Result<Option<FragmentBuffer<I>>, Fault>
+    requires in_range { All (λ s. IsPairInRange I.whole I.MIN_COORD I.MAX_COORD (x_segment_of s)) list.now }
+    ensures grid { IfOk result (λ grid. IsGridFor solver.now.strategy (segments_of list.now) (grid_in grid)) }
+    ensures fault { IfErr result (λ fault. fault ≡ Memory) }
+{
+    if list.is_empty() {
+        return Ok(None);
+    }
+    if !solver.is_fragmentation_required(list) {
+        return Ok(None);
+    }
+    match GridLayout::over_list(list) {
+        Some(layout) => {
+            let buffer = FragmentBuffer::new(alloc, layout)?;
+            Ok(Some(buffer))
+        }
+        None => Ok(None),
+    }
+}
+
 /// How a pass over these segments finds those that meet.
 fn finder<C: WindingCount, I: OverlayInt, D: OverlayEdgeData<C>>(
     solver: &Solver,
     list: &[Segment<C, I, D>],
+    grid: &Option<FragmentBuffer<I>>,
 ) -> Finder
-    ensures { IsFalse (list_splits solver.now.strategy (length list.now)) → result ≡ Finder.Tree }
+    ensures { IsFalse (list_splits solver.now.strategy (length list.now)) → result ≡ finder_over (grid_in grid.now) }
 {
     if solver.is_list_split(list) {
-        Finder::List
-    } else {
-        Finder::Tree
+        return Finder::List;
+    }
+    match grid {
+        Some(_) => Finder::Grid,
+        None => Finder::Tree,
     }
 }
 

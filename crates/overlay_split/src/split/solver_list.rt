@@ -178,7 +178,7 @@ fn mark_if<I: OverlayInt>(
     }
 }
 
-fn mark<I: OverlayInt>(
+pub(crate) fn mark<I: OverlayInt>(
     index: usize,
     point: IntPoint<I>,
     marks: &mut Vec<LineMark<I>>,

@@ -24,6 +24,9 @@ find_marks-requires-clause-sorted g c = rw (c.as_slice.ensures.value) (IsSortedB
 pub find_marks-requires-clause-in_range : goal.find_marks-requires-clause-in_range
 find_marks-requires-clause-in_range g c = rw (c.as_slice.ensures.value) (IsPairInRange-each c.args.list.now.items g.I.OverlayInt.MIN_COORD g.I.OverlayInt.MAX_COORD c.requires.splittable)
 
+pub find_marks-requires-clause-inside : goal.find_marks-requires-clause-inside
+find_marks-requires-clause-inside g c = rw (c.as_slice.ensures.value) c.requires.inside
+
 pub loop-first-init : goal.loop-first-init
 loop-first-init g c =
     let items = c.args.list.now.items in

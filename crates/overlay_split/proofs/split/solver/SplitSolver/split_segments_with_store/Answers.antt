@@ -1,5 +1,5 @@
 use Rattle.std.proofs.Common.{rules, ◌≡◌, refl, sym, ap, subst, ◌∙◌, arith, ℕ, List, ◌+◌, ◌-◌, ◌^◌, ◌<◌, ◌≤◌, length}
-use Rattle.std.specs.Prelude.{Result, Ok, Err, IfErr, IsErrAnd, nat_le}
+use Rattle.std.specs.Prelude.{Result, Ok, Err, None, IfErr, IsErrAnd, IsTrue, nat_le}
 use Rattle.std.proofs.lemmas.Bool.{both_ways, not-true, not-false}
 use Rattle.std.proofs.lemmas.Grind.{common_steps}
 use Rattle.overlay_base.specs.declared.segm.fault.Fault.{Fault}
@@ -18,7 +18,13 @@ use Rattle.overlay_split.specs.SettingsOf.{settings_of}
 use Rattle.overlay_split.proofs.laws.StoppedRuns.{stopped_run_leaves_range}
 use Rattle.overlay_split.proofs.laws.Splitting.{at_start, at_next, at_rest, stopped_at_start, stopped_at, has_ended, stays_arranged, snaps_at, settles, falls_from, potential_bound, exponent_grows, segments_none, goes_on-is, starts-is, keeps_room, few_enough}
 use Rattle.overlay_base.specs.Choices.{list_splits}
-use Rattle.overlay_split.proofs.laws.RunLooks.{AreFew-start, AreFew-more}
+use Rattle.overlay_base.specs.Planar.{is_splittable}
+use Rattle.overlay_base.proofs.laws.Maps.{is_map-join}
+use Rattle.overlay_split.proofs.laws.Splittable.{is_splittable-join}
+use Rattle.overlay_split.proofs.laws.Ready.{IsPairInRange-each}
+use Rattle.overlay_split.proofs.laws.RunLooks.{HasLooked-none, HasLooked-start, HasLooked-more}
+use Rattle.overlay_split.proofs.laws.GridRuns.{run_lies_inside}
+use Rattle.overlay_split.specs.GroupsOf.{grid_in}
 use Rattle.overlay_split.proofs.split.solver.SplitSolver.split_segments_with_store.Goals as goal
 use Rattle.overlay_split.proofs.split.solver.SplitSolver.split_segments_with_store.Goals.{else-loop-test, then-loop-test+then-not-progress}
 
@@ -85,6 +91,12 @@ returns-then-is_empty-clause-fits g c =
     let at = at_rest (hooks_of g.C.WindingCount.counted g.D.OverlayEdgeData.reversed_gives g.D.OverlayEdgeData.split_gives g.D.OverlayEdgeData.merge_gives) (settings_of g.I.OverlayInt.BITS c.args.solver.now c.args.self.now) (g.I.OverlayInt.whole g.I.OverlayInt.MIN_COORD) (g.I.OverlayInt.whole g.I.OverlayInt.MAX_COORD) (segments_of c.args.list.now.items) (data_segments_of c.args.list.now.items) c.args.store.now (segments_none c.args.list.now.items none).0 (segments_none c.args.list.now.items none).1 in
     (has_ended _ _ _ _ _ _ _ _ _ _ _ _ _ (segments_ordered c.args.list.now.items) at refl).fits
 
+pub returns-then-is_empty-clause-looked : goal.returns-then-is_empty-clause-looked
+returns-then-is_empty-clause-looked g c =
+    let none : length c.args.list.now.items ≡ 0 = grind (arith, common_steps, c.args.list.now.ok.0) in
+    let looks = HasLooked-none c.args.solver.now.strategy (settings_of g.I.OverlayInt.BITS c.args.solver.now c.args.self.now) (segments_of c.args.list.now.items) (segments_none c.args.list.now.items none).0 in
+    λ h. (None, looks.is_for, looks.few h)
+
 -- ---- the join
 
 pub join_with_store-requires : goal.join_with_store-requires
@@ -109,7 +121,7 @@ loop-init g c = record {
   step = c.snap_radius-radius.ensures.step;
   limit = refl;
   passes = refl;
-  looked = AreFew-start c.args.solver.now.strategy (settings_of g.I.OverlayInt.BITS c.args.solver.now c.args.self.now) (segments_of c.args.list.now.items);
+  looks = HasLooked-start c.args.solver.now.strategy (settings_of g.I.OverlayInt.BITS c.args.solver.now c.args.self.now) (segments_of c.args.list.now.items) (segments_of c.deref.result.now) (grid_in c.in-Ok.grid) (ap (λ l. segments_of l) c.deref.ensures.value ∙ c.in_ok-repeated.ensures.geometry) c.in-Ok.ensures.grid;
   looked_before = refl;
 }
 
@@ -127,7 +139,7 @@ loop-preserved g c =
       step = c.increment.ensures.step ∙ c.loop.invariant.step;
       limit = c.loop.invariant.limit;
       passes = c.loop.invariant.passes;
-      looked = AreFew-more c.args.solver.now.strategy (settings_of g.I.OverlayInt.BITS c.args.solver.now c.args.self.now) (segments_of c.args.list.now.items) c.loop.list.items c.loop.progress.passes _ c.loop.looked c.after_pass.new.looked c.finder-finder.result c.loop.invariant.looked c.in_ok-progress.ensures.passes c.loop.invariant.at.arrangement_is (λ h. c.finder-finder.ensures (ap (λ l. list_splits c.args.solver.now.strategy (length l)) c.deref.ensures.value ∙ h)) c.in_ok-progress.ensures.looked;
+      looks = HasLooked-more c.args.solver.now.strategy (settings_of g.I.OverlayInt.BITS c.args.solver.now c.args.self.now) (segments_of c.args.list.now.items) c.loop.list.items (grid_in c.loop.grid) (grid_in c.after_pass.new.grid) c.loop.progress.passes _ c.loop.looked c.after_pass.new.looked c.finder-finder.result c.loop.invariant.looks c.in_ok-progress.ensures.grid c.in_ok-progress.ensures.passes c.loop.invariant.at.arrangement_is (λ h. c.finder-finder.ensures (ap (λ l. list_splits c.args.solver.now.strategy (length l)) c.deref-in-loop.ensures.value ∙ h)) c.in_ok-progress.ensures.looked c.in_ok-progress.ensures.grid_looked;
       looked_before = c.loop.invariant.looked_before;
     }
 
@@ -160,7 +172,7 @@ loop-progress-init g c = record {
       few_enough c.loop.list.items c.loop.progress.passes few (omega (arith, c.loop.list.small, c.loop.list.ok)) (omega (arith, made, c.loop.auto.counter-end));
   limit = c.loop.invariant.limit;
   passes = c.loop.invariant.passes;
-  looked = c.loop.invariant.looked;
+  looks = c.loop.invariant.looks;
   looked_before = c.loop.invariant.looked_before;
 }
 
@@ -174,7 +186,7 @@ loop-progress-preserved g c =
       room = λ h. keeps_room _ _ _ _ _ _ c.loop-progress.invariant.at.map c.in_ok-progress-2.ensures.geometry (goes_on-is c.after_pass-in-loop-progress.new.list.items _ _ c.in_ok-progress-2.ensures.goes_on) h c.in_ok-progress-2.ensures.passes (c.loop-progress.invariant.room c.loop-progress-test.true);
       limit = c.loop-progress.invariant.limit;
       passes = c.loop-progress.invariant.passes;
-      looked = AreFew-more c.args.solver.now.strategy (settings_of g.I.OverlayInt.BITS c.args.solver.now c.args.self.now) (segments_of c.args.list.now.items) c.loop-progress.list.items c.loop-progress.progress.passes _ c.loop-progress.looked c.after_pass-in-loop-progress.new.looked c.finder-finder-in-loop-progress.result c.loop-progress.invariant.looked c.in_ok-progress-2.ensures.passes c.loop-progress.invariant.at.arrangement_is (λ h. c.finder-finder-in-loop-progress.ensures (ap (λ l. list_splits c.args.solver.now.strategy (length l)) c.deref-in-loop-progress.ensures.value ∙ h)) c.in_ok-progress-2.ensures.looked;
+      looks = HasLooked-more c.args.solver.now.strategy (settings_of g.I.OverlayInt.BITS c.args.solver.now c.args.self.now) (segments_of c.args.list.now.items) c.loop-progress.list.items (grid_in c.loop-progress.grid) (grid_in c.after_pass-in-loop-progress.new.grid) c.loop-progress.progress.passes _ c.loop-progress.looked c.after_pass-in-loop-progress.new.looked c.finder-finder-in-loop-progress.result c.loop-progress.invariant.looks c.in_ok-progress-2.ensures.grid c.in_ok-progress-2.ensures.passes c.loop-progress.invariant.at.arrangement_is (λ h. c.finder-finder-in-loop-progress.ensures (ap (λ l. list_splits c.args.solver.now.strategy (length l)) c.deref-in-loop-progress.ensures.value ∙ h)) c.in_ok-progress-2.ensures.looked c.in_ok-progress-2.ensures.grid_looked;
       looked_before = c.loop-progress.invariant.looked_before;
     }
 
@@ -228,3 +240,24 @@ returns-clause-fits g c = (has_ended _ _ _ _ _ _ _ _ _ _ _ _ _ (segments_ordered
 
 pub after_pass-requires-in-loop-progress-clause-passes : goal.after_pass-requires-in-loop-progress-clause-passes
 after_pass-requires-in-loop-progress-clause-passes g c = let room = c.loop-progress.invariant.room c.loop-progress-test.true in omega (arith, room)
+
+-- ---- the grid
+
+pub grid_over-requires : goal.grid_over-requires
+grid_over-requires g c =
+    let low = g.I.OverlayInt.whole g.I.OverlayInt.MIN_COORD in
+    let high = g.I.OverlayInt.whole g.I.OverlayInt.MAX_COORD in
+    let given = segments_of c.args.list.now.items in
+    let first = is_splittable-join low high given c.requires c.in_ok-repeated.ensures.fits (is_map-join given (segments_ordered c.args.list.now.items)) in
+    rw (c.deref.ensures.value) (record { in_range = IsPairInRange-each c.join_with_store.new.list.items g.I.OverlayInt.MIN_COORD g.I.OverlayInt.MAX_COORD (subst (λ (l : List WholeSegment). IsTrue (is_splittable low high l)) (sym c.in_ok-repeated.ensures.geometry) first) })
+
+pub returns-clause-looked : goal.returns-clause-looked
+returns-clause-looked g c = λ none. (grid_in c.loop-progress.grid, c.loop-progress.invariant.looks.is_for, c.loop-progress.invariant.looks.few none)
+
+pub after_pass-requires-clause-inside : goal.after_pass-requires-clause-inside
+after_pass-requires-clause-inside g c =
+    run_lies_inside c.args.solver.now.strategy (settings_of g.I.OverlayInt.BITS c.args.solver.now c.args.self.now) (segments_of c.args.list.now.items) (segments_of c.loop.list.items) (grid_in c.loop.grid) c.loop.progress.passes (segments_ordered c.args.list.now.items) c.loop.invariant.looks.is_for c.loop.invariant.at.arrangement_is
+
+pub after_pass-requires-in-loop-progress-clause-inside : goal.after_pass-requires-in-loop-progress-clause-inside
+after_pass-requires-in-loop-progress-clause-inside g c =
+    run_lies_inside c.args.solver.now.strategy (settings_of g.I.OverlayInt.BITS c.args.solver.now c.args.self.now) (segments_of c.args.list.now.items) (segments_of c.loop-progress.list.items) (grid_in c.loop-progress.grid) c.loop-progress.progress.passes (segments_ordered c.args.list.now.items) c.loop-progress.invariant.looks.is_for c.loop-progress.invariant.at.arrangement_is

@@ -5,7 +5,8 @@ use Rattle.overlay_base.specs.SegmentOf.{segments_of, data_segments_of}
 use Rattle.overlay_base.specs.Radius.{exponent_of, step_of}
 use Rattle.overlay_split.specs.SettingsOf.{settings_of}
 use Rattle.overlay_split.specs.Potential.{potential}
-use Rattle.overlay_split.specs.RunLooks.{HasNoListPass, run_looks}
+use Rattle.overlay_split.specs.GroupsOf.{grid_in}
+use Rattle.overlay_split.proofs.laws.RunLooks.{HasLooked}
 use Rattle.overlay_split.proofs.laws.Splitting.{IsAt}
 use Rattle.overlay_split.proofs.split.solver.SplitSolver.split_segments_with_store.Given as goal
 
@@ -20,7 +21,7 @@ invariant-loop g l = record {
   step : step_of l.radius ≡ l.solver.precision.progression;
   limit : l.self.snap_limit ≡ l.fn.self.snap_limit;
   passes : l.self.passes ≡ l.fn.self.passes;
-  looked : HasNoListPass l.solver.strategy (settings_of g.I.OverlayInt.BITS l.solver l.fn.self) (segments_of l.fn.list.items) l.progress.passes → l.looked ≤ run_looks (settings_of g.I.OverlayInt.BITS l.solver l.fn.self) (segments_of l.fn.list.items) l.progress.passes;
+  looks : HasLooked l.solver.strategy (settings_of g.I.OverlayInt.BITS l.solver l.fn.self) (segments_of l.fn.list.items) (grid_in l.grid) l.progress.passes l.looked;
   looked_before : l.self.looked ≡ l.fn.self.looked;
 }
 
@@ -34,7 +35,7 @@ invariant-loop-progress g l = record {
   room : l.progress.goes_on ≡ true → l.progress.passes + potential (segments_of l.list.items) < 2 ^ 127;
   limit : l.self.snap_limit ≡ l.fn.self.snap_limit;
   passes : l.self.passes ≡ l.fn.self.passes;
-  looked : HasNoListPass l.solver.strategy (settings_of g.I.OverlayInt.BITS l.solver l.fn.self) (segments_of l.fn.list.items) l.progress.passes → l.looked ≤ run_looks (settings_of g.I.OverlayInt.BITS l.solver l.fn.self) (segments_of l.fn.list.items) l.progress.passes;
+  looks : HasLooked l.solver.strategy (settings_of g.I.OverlayInt.BITS l.solver l.fn.self) (segments_of l.fn.list.items) (grid_in l.grid) l.progress.passes l.looked;
   looked_before : l.self.looked ≡ l.fn.self.looked;
 }
 
