@@ -1,6 +1,8 @@
 // Splits worked by hand, under each strategy and in both engines.
 use super::*;
 use overlay_base::geom::point::IntPoint;
+use overlay_base::geom::x_segment::XSegment;
+use overlay_base::overlay_core::edge_data::{EdgeDataMerge, EdgeDataSplit};
 use overlay_base::overlay_core::solver::{Precision, Strategy};
 use overlay_base::segm::arranged::{is_arranged, is_splittable};
 use overlay_base::segm::boolean::ShapeCountBoolean;
@@ -30,7 +32,7 @@ const SPLITS: [(
     &[Row],
     Result<(bool, u128), Fault>,
     &[Row],
-); 15] = [
+); 18] = [
     ("nothing", Precision::HIGH, 256, &[], Ok((false, 0)), &[]),
     (
         "two that cancel",
@@ -163,6 +165,78 @@ const SPLITS: [(
             ((0, 102), (8, 102), 1),
             ((4, 0), (4, 3), 1),
             ((4, 3), (4, 6), 1),
+        ],
+    ),
+    (
+        "right ends on borders of columns",
+        Precision::HIGH,
+        256,
+        &[
+            ((4, 0), (4, 6), 1),
+            ((8, 0), (8, 6), 1),
+            ((0, 1), (4, 1), 1),
+            ((6, 3), (8, 3), 1),
+            ((0, 100), (8, 100), 1),
+            ((0, 102), (8, 102), 1),
+        ],
+        Ok((true, 1)),
+        &[
+            ((0, 1), (4, 1), 1),
+            ((0, 100), (8, 100), 1),
+            ((0, 102), (8, 102), 1),
+            ((4, 0), (4, 1), 1),
+            ((4, 1), (4, 6), 1),
+            ((6, 3), (8, 3), 1),
+            ((8, 0), (8, 3), 1),
+            ((8, 3), (8, 6), 1),
+        ],
+    ),
+    (
+        "the same, moved to the left",
+        Precision::HIGH,
+        256,
+        &[
+            ((-7, 0), (-7, 6), 1),
+            ((-3, 0), (-3, 6), 1),
+            ((-11, 1), (-7, 1), 1),
+            ((-5, 3), (-3, 3), 1),
+            ((-11, 100), (-3, 100), 1),
+            ((-11, 102), (-3, 102), 1),
+        ],
+        Ok((true, 1)),
+        &[
+            ((-11, 1), (-7, 1), 1),
+            ((-11, 100), (-3, 100), 1),
+            ((-11, 102), (-3, 102), 1),
+            ((-7, 0), (-7, 1), 1),
+            ((-7, 1), (-7, 6), 1),
+            ((-5, 3), (-3, 3), 1),
+            ((-3, 0), (-3, 3), 1),
+            ((-3, 3), (-3, 6), 1),
+        ],
+    ),
+    (
+        "the same, moved to the right",
+        Precision::HIGH,
+        256,
+        &[
+            ((11, 0), (11, 6), 1),
+            ((15, 0), (15, 6), 1),
+            ((7, 1), (11, 1), 1),
+            ((13, 3), (15, 3), 1),
+            ((7, 100), (15, 100), 1),
+            ((7, 102), (15, 102), 1),
+        ],
+        Ok((true, 1)),
+        &[
+            ((7, 1), (11, 1), 1),
+            ((7, 100), (15, 100), 1),
+            ((7, 102), (15, 102), 1),
+            ((11, 0), (11, 1), 1),
+            ((11, 1), (11, 6), 1),
+            ((13, 3), (15, 3), 1),
+            ((15, 0), (15, 3), 1),
+            ((15, 3), (15, 6), 1),
         ],
     ),
     (
@@ -319,6 +393,142 @@ fn lines_above_one_another(rt: HostRuntime) -> Result<(), Fail> {
     assert_eq!(rt; stacked(&rt, Strategy::List)?, (false, 1, 7_998_000));
     assert_eq!(rt; stacked(&rt, Strategy::Tree)?, (false, 1, 0));
     assert_eq!(rt; stacked(&rt, Strategy::Auto)?, (false, 1, 0));
+    Ok(())
+}
+
+#[test]
+fn lines_above_one_another_in_columns(rt: HostRuntime) -> Result<(), Fail> {
+    let (flag, passes, looked) = stacked(&rt, Strategy::Frag)?;
+    assert_eq!(rt; (flag, passes), (false, 1));
+    assert!(rt; looked <= 20_000);
+    Ok(())
+}
+
+/// 16,000 lines above one another and one that crosses them all: the number of passes, and the list after the split.
+fn crossed(rt: &(impl Abort + AllocGlobal), strategy: Strategy) -> Result<(u128, Vec<Row>), Fail> {
+    let mut list: Vec<Segment<ShapeCountBoolean, i32, ()>> = Vec::new(rt.alloc());
+    for line in 0..16_000_u16 {
+        let y = i64::from(line);
+        list.push(segment(rt, ((0, y), (10, y), 1)))?;
+    }
+    list.push(segment(rt, ((5, -1), (5, 16_000), 1)))?;
+    let solver = Solver::with_strategy_and_precision(strategy, Precision::HIGH);
+    let mut splitter = SplitSolver::new(rt.alloc());
+    assert!(rt; is_splittable(&list));
+    assert_eq!(rt; splitter.split_segments(&mut list, &solver), Ok(true));
+    let after: Vec<Row> = list.iter().map(row).collect(rt.alloc())?;
+    Ok((splitter.passes(), after))
+}
+
+#[test]
+fn more_than_a_tree_is_given(rt: HostRuntime) -> Result<(), Fail> {
+    let (passes, by_grid) = crossed(&rt, Strategy::Auto)?;
+    let (_, by_list) = crossed(&rt, Strategy::List)?;
+    assert_eq!(rt; (passes, by_grid.len()), (1, 48_001));
+    assert!(rt; by_grid.as_slice() == by_list.as_slice());
+    Ok(())
+}
+
+/// Data of a user: colors as bits, and a store that counts the calls of each hook and keeps the last merge.
+#[derive(Clone, Copy, Debug, PartialEq, Eq)]
+struct Colors(u8);
+
+const RED: Colors = Colors(1);
+
+const GREEN: Colors = Colors(2);
+
+const BOTH: Colors = Colors(3);
+
+#[derive(Drop, Default)]
+struct Calls {
+    splits: u32,
+    reversals: u32,
+    merges: u32,
+    merged: Option<EdgeDataMerge<ShapeCountBoolean, Colors>>,
+}
+
+impl OverlayEdgeData<ShapeCountBoolean> for Colors {
+    type Store = Calls;
+
+    ghost use Rattle.std.specs.Prelude.{◌≡◌, ◌+◌, ◌-◌, ◌^◌, Some, min, bit_or};
+
+    ghost reversed_gives = { λ colors store. (colors, record store { reversals = min (store.reversals + 1) (2 ^ 32 - 1) }) };
+
+    ghost split_gives = { λ colors _ _ _ store. ((colors, colors), record store { splits = min (store.splits + 1) (2 ^ 32 - 1) }) };
+
+    ghost merge_gives = { λ merged store. (
+      record { 0 = bit_or merged.lhs_data.0 merged.rhs_data.0 },
+      record store { merges = min (store.merges + 1) (2 ^ 32 - 1); merged = Some merged },
+    ) };
+
+    fn reversed(self, store: &mut Calls) -> Colors {
+        store.reversals = store.reversals.saturating_add(1);
+        self
+    }
+
+    fn split<I: OverlayInt>(self, _at: EdgeDataSplit<I>, store: &mut Calls) -> (Colors, Colors) {
+        store.splits = store.splits.saturating_add(1);
+        (self, self)
+    }
+
+    fn merge(merged: EdgeDataMerge<ShapeCountBoolean, Colors>, store: &mut Calls) -> Colors
+        ensures answer { result ≡ record { 0 = bit_or merged.lhs_data.0 merged.rhs_data.0 } }
+        ensures store { store.new ≡ record store.old { merges = min (store.old.merges + 1) (2 ^ 32 - 1); merged = Some merged } }
+    {
+        let colors = Colors(merged.lhs_data.0 | merged.rhs_data.0);
+        store.merges = store.merges.saturating_add(1);
+        store.merged = Some(merged);
+        colors
+    }
+}
+
+fn colored(
+    rt: &impl Abort,
+    from: i32,
+    subj: i32,
+    clip: i32,
+    colors: Colors,
+) -> Segment<ShapeCountBoolean, i32, Colors> {
+    assert!(rt; 0 <= from && from <= 100);
+    let count = ShapeCountBoolean::new(subj, clip);
+    assert!(rt; count.is_valid());
+    let (a, b) = (IntPoint::new(from, 0), IntPoint::new(from + 4, 0));
+    assert!(rt; a != b);
+    Segment::create_and_validate_with_data(a, b, count, colors, &mut Calls::default())
+}
+
+#[test]
+fn colors_of_an_overlap(rt: HostRuntime) -> Result<(), Fail> {
+    for strategy in STRATEGIES {
+        let mut list = Vec::new(rt.alloc());
+        list.push(colored(&rt, 0, 1, 0, RED))?;
+        list.push(colored(&rt, 2, 0, 1, GREEN))?;
+        assert!(rt; is_splittable(&list));
+        let mut calls = Calls::default();
+        let mut splitter = SplitSolver::new(rt.alloc());
+        let solver = Solver::with_strategy_and_precision(strategy, Precision::HIGH);
+        let flag = splitter.split_segments_with_store(&mut list, &solver, &mut calls);
+        assert_eq!(rt; flag, Ok(true));
+        let mut after = Vec::new(rt.alloc());
+        for segment in list.iter() {
+            let count = segment.count();
+            let XSegment { a, b } = segment.x_segment();
+            after.push((a.x, b.x, count.subj, count.clip, segment.edge_data()))?;
+        }
+        let three = [(0, 2, 1, 0, RED), (2, 4, 1, 1, BOTH), (4, 6, 0, 1, GREEN)];
+        assert_eq!(rt; after.as_slice(), three.as_slice());
+        assert_eq!(rt; (calls.splits, calls.reversals, calls.merges), (2, 0, 1));
+        let merged = calls.merged.ok_or("no merge")?;
+        assert_eq!(rt;
+            (merged.lhs_data, merged.lhs_count),
+            (GREEN, ShapeCountBoolean { subj: 0, clip: 1 })
+        );
+        assert_eq!(rt;
+            (merged.rhs_data, merged.rhs_count),
+            (RED, ShapeCountBoolean { subj: 1, clip: 0 })
+        );
+        assert_eq!(rt; merged.out_count, ShapeCountBoolean { subj: 1, clip: 1 });
+    }
     Ok(())
 }
 
