@@ -83,3 +83,4 @@ pub mod GridFills
 pub mod GridFound
 pub mod GridLooks
 pub mod GridRuns
+pub mod FragmentCounts

@@ -47,14 +47,14 @@ is_group_rounded (f ∷ fs) = list_any (λ g. meet_inexactly f g) fs || is_group
 abbrev pub do_heights_meet : KeptFragment → KeptFragment → Bool
 do_heights_meet f g = ranges_meet f.rect.min_y f.rect.max_y g.rect.min_y g.rect.max_y
 
--- how many looks the first takes: one for each that follows it and meets its heights, and one that ends the row
+-- how many looks the first takes: one for each that follows it and meets its heights
 unfoldable pub looks_of_first : List KeptFragment → ℕ
 looks_of_first [] = 0
-looks_of_first (f ∷ fs) = 1 + count_by (λ g. do_heights_meet f g) fs
+looks_of_first (f ∷ fs) = count_by (λ g. do_heights_meet f g) fs
 
 -- how many looks a group takes
 abbrev pub looks_of_group : List KeptFragment → ℕ
-looks_of_group fs = length fs + count_twos do_heights_meet fs
+looks_of_group fs = count_twos do_heights_meet fs
 
 -- whether a fragment is one of a vertical segment at some x
 abbrev pub stands_at : ℤ → KeptFragment → Bool

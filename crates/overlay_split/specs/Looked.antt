@@ -34,13 +34,15 @@ is_on_border l s = is_vertical s && nat_lt 0 (column_index l s.a.x) && int_eq s.
 unfoldable pub border_contacts : Layout → List Pair → Pair → ℕ
 border_contacts l segments s = count_by (λ f. is_on_border l s && (f.column + 1 == column_index l s.a.x)) (all_fragments l segments)
 
--- a pass of the grid: the fragments, the twos in one column whose heights meet, and the contacts on borders
-unfoldable pub grid_bound : Layout → List Pair → ℕ
-grid_bound l segments =
-    length (all_fragments l segments) + count_twos fragments_meet (all_fragments l segments)
-    + sum_by (λ s. border_contacts l segments s) segments
+-- what a look at all fragments of a grid takes up: the twos in one column whose heights meet, and the contacts on borders
+unfoldable pub fragment_looks : Layout → List Pair → ℕ
+fragment_looks l segments = count_twos fragments_meet (all_fragments l segments) + sum_by (λ s. border_contacts l segments s) segments
+
+-- a pass of the grid may take up so many, and as many besides as there are fragments
+unfoldable pub grid_looks : Layout → List Pair → ℕ
+grid_looks l segments = length (all_fragments l segments) + fragment_looks l segments
 
 -- a pass over a grid, if there is one, and else over a tree
 unfoldable pub pass_looks : Option Layout → List Pair → ℕ
 pass_looks None segments = tree_looks segments
-pass_looks (Some l) segments = grid_bound l segments
+pass_looks (Some l) segments = grid_looks l segments

@@ -3,8 +3,6 @@ use Rattle.std.specs.Prelude.{ℕ, zero, suc, ◌+◌, ◌<◌, List, length, Op
 use Rattle.overlay_base.specs.Segments.{WholeSegment, pairs}
 use Rattle.overlay_base.specs.Choices.{list_splits, grid_splits}
 use Rattle.overlay_base.specs.declared.overlay_core.solver.Strategy.{Strategy}
-use Rattle.overlay_split.specs.declared.split.finder.Finder.{Finder}
-use Rattle.overlay_split.specs.declared.split.finder.Finder.TheVariants.{Tree, Grid}
 use Rattle.overlay_split.specs.Run.{Settings, after_passes}
 use Rattle.overlay_split.specs.Grid.{Layout, IsLayoutOf, IsTooNarrow}
 use Rattle.overlay_split.specs.Looked.{pass_looks}
@@ -18,11 +16,6 @@ HasNoListPass strategy settings given n = (k : ℕ) → k < n → IsFalse (list_
 abbrev pub IsGridFor : Strategy → List WholeSegment → Option Layout → Type 0
 IsGridFor strategy first (Some l) = IsTrue (grid_splits strategy (length first)) × IsLayoutOf (pairs first) (length first) l
 IsGridFor strategy first None = IsTrue (grid_splits strategy (length first)) → IsTooNarrow (pairs first)
-
--- the finder of a pass that does not look at all pairs
-abbrev pub finder_over : Option Layout → Finder
-finder_over None = Tree
-finder_over (Some l) = Grid
 
 -- what the first n passes may take up, each over what is left by those before it
 unfoldable pub run_looks : Settings → Option Layout → List WholeSegment → ℕ → ℕ

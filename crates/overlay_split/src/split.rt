@@ -24,3 +24,4 @@ pub mod solver;
 pub mod solver_fragment;
 pub mod solver_list;
 pub mod solver_tree;
+mod solver_tree_within;

@@ -9,12 +9,10 @@ use Rattle.overlay_base.specs.Join.{summed, join}
 use Rattle.overlay_base.specs.SegmentOf.{segment_of, segments_of}
 use Rattle.overlay_base.specs.declared.segm.segment.Segment.{Segment}
 use Rattle.overlay_base.specs.declared.overlay_core.solver.Strategy.{Strategy}
-use Rattle.overlay_split.specs.declared.split.finder.Finder.{Finder}
-use Rattle.overlay_split.specs.declared.split.finder.Finder.TheVariants.{Tree, Grid}
 use Rattle.overlay_split.specs.Grid.{Layout}
 use Rattle.overlay_split.specs.Run.{Settings, after_passes}
-use Rattle.overlay_split.specs.Looked.{tree_looks, pass_looks}
-use Rattle.overlay_split.specs.RunLooks.{HasNoListPass, IsGridFor, finder_over, run_looks}
+use Rattle.overlay_split.specs.Looked.{pass_looks}
+use Rattle.overlay_split.specs.RunLooks.{HasNoListPass, IsGridFor, run_looks}
 
 -- the grid is that of the run, and the looks of n passes are no more than it allows
 pub record HasLooked (strategy : Strategy) (settings : Settings) (given : List WholeSegment) (grid : Option Layout) (n looked : ℕ) : Type 0 where
@@ -30,17 +28,11 @@ unfolding join summed distinct_in_order stably_sorted
 HasLooked-none strategy settings [] h = record { is_for = λ t. tt; few = λ none. omega arith }
 HasLooked-none strategy settings (s ∷ given) h = absurd (omega (arith, h))
 
-looks_over : (grid : Option Layout) (finder : Finder) (old new : ℕ) (ps : List Pair) → finder ≡ finder_over grid → (finder ≡ Tree → new ≤ old + tree_looks ps) → (finder ≡ Grid → new ≤ old + pass_looks grid ps) → new ≤ old + pass_looks grid ps
-unfolding pass_looks
-looks_over None finder old new ps e tree over = tree e
-looks_over (Some l) finder old new ps e tree over = over e
-
 module _ {C I D : Type 0} {m : _} {w : _} {o : _} {e : _} {p : _} where
-  pub HasLooked-more : (strategy : Strategy) (settings : Settings) (given : List WholeSegment) (list : List (Segment C I D m w o e p)) (grid later : Option Layout) (n k old new : ℕ) (finder : Finder) → HasLooked strategy settings given grid n old → later ≡ grid → k ≡ n + 1 →
-      segments_of list ≡ after_passes settings given n → (IsFalse (list_splits strategy (length list)) → finder ≡ finder_over grid) →
-      (finder ≡ Tree → new ≤ old + tree_looks (pairs (segments_of list))) → (finder ≡ Grid → new ≤ old + pass_looks grid (pairs (segments_of list))) → HasLooked strategy settings given later k new
+  pub HasLooked-more : (strategy own : Strategy) (settings : Settings) (given : List WholeSegment) (list : List (Segment C I D m w o e p)) (grid later : Option Layout) (n k old new : ℕ) → HasLooked strategy settings given grid n old → own ≡ strategy → later ≡ grid → k ≡ n + 1 →
+      segments_of list ≡ after_passes settings given n → (IsFalse (list_splits own (length list)) → new ≤ old + pass_looks grid (pairs (segments_of list))) → HasLooked strategy settings given later k new
   unfolding run_looks
-  HasLooked-more strategy settings given list grid later n k old new finder before same next is chosen tree over =
+  HasLooked-more strategy own settings given list grid later n k old new before mine same next is looks =
       rw same (record { is_for = before.is_for; few = few })
     where
       suc_is : (n : ℕ) → suc n ≡ n + 1
@@ -49,7 +41,8 @@ module _ {C I D : Type 0} {m : _} {w : _} {o : _} {e : _} {p : _} where
       few : HasNoListPass strategy settings given k → new ≤ run_looks settings grid given k
       few none =
           let here : IsFalse (list_splits strategy (length list)) = ap (list_splits strategy) (sym (length-map list segment_of) ∙ ap length is) ∙ none n (omega (arith, next)) in
-          let looks : new ≤ old + pass_looks grid (pairs (after_passes settings given n)) = subst (λ (l : List WholeSegment). new ≤ old + pass_looks grid (pairs l)) is (looks_over grid finder old new (pairs (segments_of list)) (chosen here) tree over) in
+          let own_here : IsFalse (list_splits own (length list)) = subst (λ (s : Strategy). IsFalse (list_splits s (length list))) (sym mine) here in
+          let looks : new ≤ old + pass_looks grid (pairs (after_passes settings given n)) = subst (λ (l : List WholeSegment). new ≤ old + pass_looks grid (pairs l)) is (looks own_here) in
           let earlier : old ≤ run_looks settings grid given n = before.few (λ i lt. none i (omega (arith, next))) in
           let all : new ≤ run_looks settings grid given (suc n) = omega (arith, looks, earlier) in
           subst (λ (i : ℕ). new ≤ run_looks settings grid given i) (suc_is n ∙ sym next) all

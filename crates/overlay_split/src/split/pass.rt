@@ -1,6 +1,6 @@
 // One pass over a list: every segment is cut at its marks, and the pieces are joined. Upstream: `split::solver_list`
 // and `split::solver`, where marks are applied.
-ghost use Rattle.std.specs.Prelude.{◌≡◌, ◌≤◌, ◌+◌, [], IsTrue, IsFalse, IfOk, IfErr, OnOk, OnErr, nat_lt};
+ghost use Rattle.std.specs.Prelude.{◌≡◌, ◌≤◌, ◌+◌, [], IsTrue, IsFalse, IfOk, IfErr, OnOk, OnErr, length, nat_lt};
 ghost use Rattle.overlay_base.specs.declared.segm.fault.Fault.TheVariants.{Memory, CountOutOfRange};
 ghost use Rattle.overlay_base.specs.Segments.{pairs, is_map};
 ghost use Rattle.overlay_base.specs.Planar.{is_splittable};
@@ -8,16 +8,16 @@ ghost use Rattle.overlay_base.specs.Join.{join_leaves_range};
 ghost use Rattle.overlay_base.specs.EdgeData.{IsRefusedJoin};
 ghost use Rattle.overlay_base.specs.HooksOf.{hooks_of};
 ghost use Rattle.overlay_base.specs.SegmentOf.{segments_of, data_segments_of};
+ghost use Rattle.overlay_base.specs.Choices.{list_splits};
 ghost use Rattle.overlay_split.specs.Pass.{cut, pass, is_rounded, mark_count};
 ghost use Rattle.overlay_split.specs.DataPass.{data_cut, data_pass};
 ghost use Rattle.overlay_split.specs.PlacingOf.{placing_of, HasRadius};
-ghost use Rattle.overlay_split.specs.Looked.{tree_looks, pass_looks};
+ghost use Rattle.overlay_split.specs.Looked.{pass_looks};
 ghost use Rattle.overlay_split.specs.FragmentFinder.{LieInside};
 ghost use Rattle.overlay_split.specs.GroupsOf.{grid_in};
 
 use crate::split::cut::{cut_segment, index_len};
-use crate::split::finder::Finder;
-use crate::split::fragment_buffer::FragmentBuffer;
+use crate::split::finder::PairFinder;
 use crate::split::line_mark::LineMark;
 use crate::split::path::collect_path;
 use crate::split::placing::Placing;
@@ -64,7 +64,7 @@ pub struct Passed {
 /// the list is sorted and segments on one pair of ends are merged.
 ///
 /// The list has to be sorted, without two segments on one pair of ends, in range, with counts that are valid and not
-/// empty, and a squared radius has to be at least 1. It has to lie inside the grid, if there is one.
+/// empty, and a squared radius has to be at least 1. It has to lie inside the finder's grid, if there is one.
 ///
 /// Answers `Fault::CountOutOfRange` only where a running sum of the counts of pieces on one pair leaves
 /// `-i32::MAX..=i32::MAX`, and, memory being found, wherever one does; the store is then what the hooks called before
@@ -72,17 +72,16 @@ pub struct Passed {
 pub fn pass<C: WindingCount, I: OverlayInt, D: OverlayEdgeData<C>>(
     list: &mut Vec<Segment<C, I, D>>,
     placing: Placing,
-    finder: Finder,
-    grid: &mut Option<FragmentBuffer<I>>,
+    finder: &mut PairFinder<I>,
     buffers: &mut PassBuffers<I>,
-    looked: &mut u128,
     store: &mut D::Store,
 ) -> Result<Passed, Fault>
     requires map { IsTrue (is_map (segments_of list.old.items)) }
     requires splittable { IsTrue (is_splittable (I.whole I.MIN_COORD) (I.whole I.MAX_COORD) (segments_of list.old.items)) }
     requires radius { HasRadius placing }
-    requires inside { LieInside (grid_in grid.old) (pairs (segments_of list.old.items)) }
-    ensures grid { grid_in grid.new ≡ grid_in grid.old }
+    requires inside { LieInside (grid_in finder.old.grid) (pairs (segments_of list.old.items)) }
+    ensures solver { finder.new.solver ≡ finder.old.solver }
+    ensures grid { grid_in finder.new.grid ≡ grid_in finder.old.grid }
     ensures geometry { OnOk result (segments_of list.new.items ≡ pass (placing_of placing) (segments_of list.old.items)) }
     ensures edge_data { OnOk result
         (let hooks = hooks_of C.counted D.reversed_gives D.split_gives D.merge_gives in
@@ -92,8 +91,8 @@ pub fn pass<C: WindingCount, I: OverlayInt, D: OverlayEdgeData<C>>(
         store.new ≡ (data_pass hooks (placing_of placing) (data_segments_of list.old.items) store.old).1) }
     ensures rounded { IfOk result (λ passed. passed.is_rounded ≡ is_rounded (segments_of list.old.items)) }
     ensures marked { IfOk result (λ passed. passed.has_marks ≡ nat_lt 0 (mark_count (placing_of placing) (segments_of list.old.items))) }
-    ensures looked { finder ≡ Finder.Tree → OnOk result (looked.new ≤ looked.old + tree_looks (pairs (segments_of list.old.items))) }
-    ensures grid_looked { finder ≡ Finder.Grid → OnOk result (looked.new ≤ looked.old + pass_looks (grid_in grid.old) (pairs (segments_of list.old.items))) }
+    ensures looked { IsFalse (list_splits finder.old.solver.strategy (length list.old.items)) →
+        OnOk result (finder.new.looked ≤ finder.old.looked + pass_looks (grid_in finder.old.grid) (pairs (segments_of list.old.items))) }
 
     ensures fits { OnOk result (IsFalse (join_leaves_range (cut (placing_of placing) (segments_of list.old.items)))) }
     ensures refused { IfErr result (λ fault. fault ≡ CountOutOfRange → IsTrue (join_leaves_range (cut (placing_of placing) (segments_of list.old.items)))) }
@@ -103,7 +102,7 @@ pub fn pass<C: WindingCount, I: OverlayInt, D: OverlayEdgeData<C>>(
         let pieces = data_cut hooks (placing_of placing) (data_segments_of list.old.items) store.old in
         IsRefusedJoin hooks pieces.0 pieces.1 store.new)) }
 {
-    let passed = match cut(list, placing, finder, grid, buffers, looked, store) {
+    let passed = match cut(list, placing, finder, buffers, store) {
         Ok(passed) => passed,
         Err(fault) => {
             list.clear();
@@ -118,17 +117,16 @@ pub fn pass<C: WindingCount, I: OverlayInt, D: OverlayEdgeData<C>>(
 fn cut<C: WindingCount, I: OverlayInt, D: OverlayEdgeData<C>>(
     list: &mut Vec<Segment<C, I, D>>,
     placing: Placing,
-    finder: Finder,
-    grid: &mut Option<FragmentBuffer<I>>,
+    finder: &mut PairFinder<I>,
     buffers: &mut PassBuffers<I>,
-    looked: &mut u128,
     store: &mut D::Store,
 ) -> Result<Passed, Fault>
     requires map { IsTrue (is_map (segments_of list.old.items)) }
     requires splittable { IsTrue (is_splittable (I.whole I.MIN_COORD) (I.whole I.MAX_COORD) (segments_of list.old.items)) }
     requires radius { HasRadius placing }
-    requires inside { LieInside (grid_in grid.old) (pairs (segments_of list.old.items)) }
-    ensures grid { grid_in grid.new ≡ grid_in grid.old }
+    requires inside { LieInside (grid_in finder.old.grid) (pairs (segments_of list.old.items)) }
+    ensures solver { finder.new.solver ≡ finder.old.solver }
+    ensures grid { grid_in finder.new.grid ≡ grid_in finder.old.grid }
     ensures list { OnOk result
         (let hooks = hooks_of C.counted D.reversed_gives D.split_gives D.merge_gives in
         data_segments_of list.new.items ≡ (data_cut hooks (placing_of placing) (data_segments_of list.old.items) store.old).0) }
@@ -137,12 +135,12 @@ fn cut<C: WindingCount, I: OverlayInt, D: OverlayEdgeData<C>>(
         store.new ≡ (data_cut hooks (placing_of placing) (data_segments_of list.old.items) store.old).1) }
     ensures rounded { IfOk result (λ passed. passed.is_rounded ≡ is_rounded (segments_of list.old.items)) }
     ensures marked { IfOk result (λ passed. passed.has_marks ≡ nat_lt 0 (mark_count (placing_of placing) (segments_of list.old.items))) }
-    ensures looked { finder ≡ Finder.Tree → OnOk result (looked.new ≤ looked.old + tree_looks (pairs (segments_of list.old.items))) }
-    ensures grid_looked { finder ≡ Finder.Grid → OnOk result (looked.new ≤ looked.old + pass_looks (grid_in grid.old) (pairs (segments_of list.old.items))) }
+    ensures looked { IsFalse (list_splits finder.old.solver.strategy (length list.old.items)) →
+        OnOk result (finder.new.looked ≤ finder.old.looked + pass_looks (grid_in finder.old.grid) (pairs (segments_of list.old.items))) }
     ensures fault { IfErr result (λ fault. fault ≡ Memory) }
 {
     let PassBuffers { marks, path, tree } = buffers;
-    let is_rounded = finder.find_marks(list.as_slice(), placing, tree, grid, marks, looked)?;
+    let is_rounded = finder.find_marks(list.as_slice(), placing, tree, marks)?;
     let mut rest = marks.as_slice();
     while let Some(first) = rest.first() {
         let index = first.index;

@@ -21,17 +21,15 @@ ghost use Rattle.overlay_split.specs.Nearness.{StaysNear};
 ghost use Rattle.overlay_split.specs.Places.{KeepsWinding};
 ghost use Rattle.overlay_split.specs.Potential.{potential};
 ghost use Rattle.overlay_split.specs.PlacingOf.{placing_of, HasRadius};
-ghost use Rattle.overlay_split.specs.Looked.{tree_looks, pass_looks};
+ghost use Rattle.overlay_split.specs.Looked.{pass_looks};
 ghost use Rattle.overlay_split.specs.FragmentFinder.{LieInside};
 ghost use Rattle.overlay_split.specs.GroupsOf.{grid_in};
 ghost use Rattle.overlay_split.specs.Grid.{Layout};
-ghost use Rattle.overlay_split.specs.RunLooks.{HasNoListPass, IsGridFor, finder_over, run_looks};
+ghost use Rattle.overlay_split.specs.RunLooks.{HasNoListPass, IsGridFor, run_looks};
 ghost use Rattle.overlay_base.specs.InRange.{IsPairInRange};
 ghost use Rattle.overlay_base.specs.Choices.{list_splits};
 
-use crate::split::finder::Finder;
-use crate::split::fragment_buffer::FragmentBuffer;
-use crate::split::grid_layout::GridLayout;
+use crate::split::finder::PairFinder;
 use crate::split::pass::{PassBuffers, pass};
 use crate::split::placing::Placing;
 use overlay_base::num::OverlayInt;
@@ -216,8 +214,8 @@ impl<I: OverlayInt> SplitSolver<I> {
             return Ok(false);
         }
         let repeated = join_with_store(list, store)?;
-        let mut grid = match grid_over(self.alloc, solver, list) {
-            Ok(grid) => grid,
+        let mut finder = match PairFinder::new(self.alloc, solver, list) {
+            Ok(finder) => finder,
             Err(fault) => {
                 list.clear();
                 return Err(fault);
@@ -228,39 +226,21 @@ impl<I: OverlayInt> SplitSolver<I> {
             has_changed: repeated,
             goes_on: list.len() >= 2,
         };
-        let mut looked = 0;
         let mut radius = solver.snap_radius();
         for _ in 0..self.snap_limit {
             if !progress.goes_on {
                 break;
             }
             let placing = snapping::<I>(&radius);
-            let finder = finder(solver, list, &grid);
-            progress = progress.after_pass(
-                list,
-                placing,
-                finder,
-                &mut grid,
-                &mut self.buffers,
-                &mut looked,
-                store,
-            )?;
+            progress = progress.after_pass(list, placing, &mut finder, &mut self.buffers, store)?;
             radius.increment();
         }
         while progress.goes_on {
-            let finder = finder(solver, list, &grid);
-            progress = progress.after_pass(
-                list,
-                Placing::Settling,
-                finder,
-                &mut grid,
-                &mut self.buffers,
-                &mut looked,
-                store,
-            )?;
+            let placing = Placing::Settling;
+            progress = progress.after_pass(list, placing, &mut finder, &mut self.buffers, store)?;
         }
         self.passes = progress.passes;
-        self.looked = looked;
+        self.looked = finder.looked();
         Ok(progress.has_changed)
     }
 }
@@ -273,18 +253,17 @@ impl Progress {
         self,
         list: &mut Vec<Segment<C, I, D>>,
         placing: Placing,
-        finder: Finder,
-        grid: &mut Option<FragmentBuffer<I>>,
+        finder: &mut PairFinder<I>,
         buffers: &mut PassBuffers<I>,
-        looked: &mut u128,
         store: &mut D::Store,
     ) -> Result<Progress, Fault>
         requires map { IsTrue (is_map (segments_of list.old.items)) }
         requires splittable { IsTrue (is_splittable (I.whole I.MIN_COORD) (I.whole I.MAX_COORD) (segments_of list.old.items)) }
         requires radius { HasRadius placing }
         requires passes { self.passes + 1 < 2 ^ 128 }
-        requires inside { LieInside (grid_in grid.old) (pairs (segments_of list.old.items)) }
-        ensures grid { grid_in grid.new ≡ grid_in grid.old }
+        requires inside { LieInside (grid_in finder.old.grid) (pairs (segments_of list.old.items)) }
+        ensures solver { finder.new.solver ≡ finder.old.solver }
+        ensures grid { grid_in finder.new.grid ≡ grid_in finder.old.grid }
         ensures geometry { OnOk result (segments_of list.new.items ≡ pass (placing_of placing) (segments_of list.old.items)) }
         ensures edge_data { OnOk result
             (let hooks = hooks_of C.counted D.reversed_gives D.split_gives D.merge_gives in
@@ -295,8 +274,8 @@ impl Progress {
         ensures passes { IfOk result (λ after. after.passes ≡ self.passes + 1) }
         ensures changed { IfOk result (λ after. after.has_changed ≡ (self.has_changed || nat_lt 0 (mark_count (placing_of placing) (segments_of list.old.items)))) }
         ensures goes_on { IfOk result (λ after. after.goes_on ≡ (nat_le 2 (length list.new.items) && is_rounded (segments_of list.old.items))) }
-        ensures looked { finder ≡ Finder.Tree → OnOk result (looked.new ≤ looked.old + tree_looks (pairs (segments_of list.old.items))) }
-        ensures grid_looked { finder ≡ Finder.Grid → OnOk result (looked.new ≤ looked.old + pass_looks (grid_in grid.old) (pairs (segments_of list.old.items))) }
+        ensures looked { IsFalse (list_splits finder.old.solver.strategy (length list.old.items)) →
+            OnOk result (finder.new.looked ≤ finder.old.looked + pass_looks (grid_in finder.old.grid) (pairs (segments_of list.old.items))) }
 
         ensures fits { OnOk result (IsFalse (join_leaves_range (cut (placing_of placing) (segments_of list.old.items)))) }
         ensures emptied { OnErr result (list.new.items ≡ []) }
@@ -305,54 +284,12 @@ impl Progress {
             let pieces = data_cut hooks (placing_of placing) (data_segments_of list.old.items) store.old in
             IsRefusedJoin hooks pieces.0 pieces.1 store.new)) }
     {
-        let passed = pass(list, placing, finder, grid, buffers, looked, store)?;
+        let passed = pass(list, placing, finder, buffers, store)?;
         Ok(Progress {
             passes: self.passes + 1,
             has_changed: self.has_changed || passed.has_marks,
             goes_on: list.len() >= 2 && passed.is_rounded,
         })
-    }
-}
-
-/// The grid of a run over these segments, where the solver asks for one and they are wide enough.
-fn grid_over<C: WindingCount, I: OverlayInt, D: OverlayEdgeData<C>>(
-    alloc: Global,
-    solver: &Solver,
-    list: &[Segment<C, I, D>],
-) -> Result<Option<FragmentBuffer<I>>, Fault>
-    requires in_range { All (λ s. IsPairInRange I.whole I.MIN_COORD I.MAX_COORD (x_segment_of s)) list.now }
-    ensures grid { IfOk result (λ grid. IsGridFor solver.now.strategy (segments_of list.now) (grid_in grid)) }
-    ensures fault { IfErr result (λ fault. fault ≡ Memory) }
-{
-    if list.is_empty() {
-        return Ok(None);
-    }
-    if !solver.is_fragmentation_required(list) {
-        return Ok(None);
-    }
-    match GridLayout::over_list(list) {
-        Some(layout) => {
-            let buffer = FragmentBuffer::new(alloc, layout)?;
-            Ok(Some(buffer))
-        }
-        None => Ok(None),
-    }
-}
-
-/// How a pass over these segments finds those that meet.
-fn finder<C: WindingCount, I: OverlayInt, D: OverlayEdgeData<C>>(
-    solver: &Solver,
-    list: &[Segment<C, I, D>],
-    grid: &Option<FragmentBuffer<I>>,
-) -> Finder
-    ensures { IsFalse (list_splits solver.now.strategy (length list.now)) → result ≡ finder_over (grid_in grid.now) }
-{
-    if solver.is_list_split(list) {
-        return Finder::List;
-    }
-    match grid {
-        Some(_) => Finder::Grid,
-        None => Finder::Tree,
     }
 }
 

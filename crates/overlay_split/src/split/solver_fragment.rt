@@ -1,6 +1,7 @@
 // The finder that looks at fragments of segments, column by column of a grid. Upstream: `split::solver_fragment`.
-ghost use Rattle.std.specs.Prelude.{◌≡◌, ◌≢◌, ◌<◌, ◌≤◌, ◌+◌, ◌-◌, ◌++◌, ◌&&◌, ℕ, All, IsTrue, IfErr, IfOk, OnOk, IsSortedByKey, drop, length, int_lt, flat_map, sum_by};
+ghost use Rattle.std.specs.Prelude.{◌≡◌, ◌≢◌, ◌^◌, min, ◌<◌, ◌≤◌, ◌+◌, ◌-◌, ◌++◌, ◌&&◌, ℕ, All, IsTrue, IfErr, IfOk, OnOk, IsSortedByKey, drop, length, int_lt, int_le, flat_map, sum_by, ◌≤ℤ◌, ◌<ℤ◌};
 ghost use Rattle.std.specs.List.{AllByRecursion, list_any, range_with_len};
+ghost use Rattle.std.specs.List.Sorted.{IsPartitionPoint};
 ghost use Rattle.std.specs.Ordering.{int_eq};
 ghost use Rattle.overlay_base.specs.declared.segm.fault.Fault.TheVariants.{Memory};
 ghost use Rattle.overlay_base.specs.Points.{pair_cmp, pair_lt, is_ordered, is_vertical, is_strictly_inside};
@@ -10,7 +11,7 @@ ghost use Rattle.overlay_base.specs.PairOf.{pair_of};
 ghost use Rattle.overlay_base.specs.SegmentOf.{ends_of, segments_of, x_segment_of};
 ghost use Rattle.overlay_base.specs.InRange.{IsPairInRange};
 ghost use Rattle.overlay_split.specs.Grid.{pos_of, group_count};
-ghost use Rattle.overlay_split.specs.Looked.{grid_bound};
+ghost use Rattle.overlay_split.specs.Looked.{all_fragments, fragment_looks};
 ghost use Rattle.overlay_split.specs.Pass.{is_rounded};
 ghost use Rattle.overlay_split.specs.PlacingOf.{placing_of, HasRadius};
 ghost use Rattle.overlay_split.specs.MarkOf.{AreMarks, marks_of};
@@ -53,7 +54,7 @@ pub fn find_marks<C: WindingCount, I: OverlayInt, D: Copy>(
     ensures layout { grid_of buffer.new ≡ grid_of buffer.old }
     ensures marks { OnOk result (AreMarks (placing_of placing) (segments_of segments.now) (marks_of I.whole marks.new.items)) }
     ensures rounded { IfOk result (λ rounded. rounded ≡ is_rounded (segments_of segments.now)) }
-    ensures looked { OnOk result (looked.new ≤ looked.old + grid_bound (grid_of buffer.old) (pairs (segments_of segments.now))) }
+    ensures looked { OnOk result (looked.new ≤ looked.old + fragment_looks (grid_of buffer.old) (pairs (segments_of segments.now))) }
     ensures fault { IfErr result (λ fault. fault ≡ Memory) }
 {
     marks.clear();
@@ -64,6 +65,22 @@ pub fn find_marks<C: WindingCount, I: OverlayInt, D: Copy>(
     marks.sort()?;
     marks.dedup();
     Ok(rounded)
+}
+
+/// How many fragments segments have that lie inside the buffer's layout; `u128::MAX` if there are more.
+pub fn count_fragments<C: WindingCount, I: OverlayInt, D: Copy>(
+    segments: &[Segment<C, I, D>],
+    buffer: &FragmentBuffer<I>,
+) -> u128
+    requires { All (λ s. IsInside (grid_of buffer.now) (ends_of s)) segments.now }
+    ensures { result ≡ min (length (all_fragments (grid_of buffer.now) (pairs (segments_of segments.now)))) (2 ^ 128 - 1) }
+{
+    let mut count = 0_u128;
+    for index in 0..segments.len() {
+        let own = buffer.fragment_count(&segments[index].x_segment());
+        count = count.saturating_add(own as u128);
+    }
+    count
 }
 
 /// Empties the buffer, and adds the fragments of every segment. These have to be in range and inside the layout.
@@ -228,7 +245,7 @@ fn mark_group<I: OverlayInt>(
     Ok(rounded)
 }
 
-/// The same of one fragment and those that follow it, up to one that lies above it.
+/// The same of one fragment and those that follow it, up to the first that lies above it.
 fn mark_with_rest<I: OverlayInt>(
     group: &[Fragment<I>],
     first: usize,
@@ -246,18 +263,33 @@ fn mark_with_rest<I: OverlayInt>(
     ensures looked { OnOk result (looked.new ≤ looked.old + looks_of_first (drop first (fragments_of I.whole group.now))) }
 {
     let fragment = group[first];
+    let end = first_above(group, &fragment);
     let mut rounded = false;
-    for later in first + 1..group.len() {
+    for later in first + 1..end {
         let other = group[later];
         take_up(looked);
-        if is_below(&fragment, &other) {
-            break;
-        }
         if mark_two(&fragment, &other, placing, marks)? {
             rounded = true;
         }
     }
     Ok(rounded)
+}
+
+/// The place of the first fragment of a group that lies above another. The group has to be sorted by the fragments' least
+/// `y`.
+fn first_above<I: OverlayInt>(group: &[Fragment<I>], fragment: &Fragment<I>) -> usize
+    requires { Rises (fragments_of I.whole group.now) }
+    ensures within { result ≤ length group.now }
+    ensures parted { IsPartitionPoint (λ f. I.whole f.rect.min_y ≤ℤ I.whole fragment.now.rect.max_y) (λ f. I.whole fragment.now.rect.max_y <ℤ I.whole f.rect.min_y) group.now result }
+{
+    group.partition_point(|other| begins_within(other, fragment))
+}
+
+/// Whether a fragment begins no higher than another ends.
+fn begins_within<I: OverlayInt>(other: &Fragment<I>, fragment: &Fragment<I>) -> bool
+    ensures { result ≡ int_le (I.whole other.now.rect.min_y) (I.whole fragment.now.rect.max_y) }
+{
+    other.rect.min_y <= fragment.rect.max_y
 }
 
 /// Appends the marks that the segments of two fragments put on one another, if the rectangles meet, and answers whether
@@ -302,11 +334,4 @@ fn is_before<I: OverlayInt>(left: &XSegment<I>, right: &XSegment<I>) -> bool
     ensures { result ≡ pair_lt (pair_of I.whole left.now) (pair_of I.whole right.now) }
 {
     left < right
-}
-
-/// Whether all of a fragment lies below all of another.
-fn is_below<I: OverlayInt>(fragment: &Fragment<I>, other: &Fragment<I>) -> bool
-    ensures { result ≡ int_lt (I.whole fragment.now.rect.max_y) (I.whole other.now.rect.min_y) }
-{
-    fragment.rect.max_y < other.rect.min_y
 }

@@ -28,8 +28,8 @@ use std::alloc::{AllocError, Global};
 /// The memory of the finder, kept from one pass to the next.
 #[derive(Drop)]
 pub struct TreeBuffers<I> {
-    nodes: Vec<Node<I>>,
-    found: Vec<usize>,
+    pub(crate) nodes: Vec<Node<I>>,
+    pub(crate) found: Vec<usize>,
 }
 
 impl<I> TreeBuffers<I> {
@@ -91,7 +91,7 @@ pub fn find_marks<C: WindingCount, I: OverlayInt, D: Copy>(
 }
 
 /// Builds the tree of the entries of all segments, none of them live.
-fn build<C: WindingCount, I: OverlayInt, D: Copy>(
+pub(crate) fn build<C: WindingCount, I: OverlayInt, D: Copy>(
     segments: &[Segment<C, I, D>],
     nodes: &mut Vec<Node<I>>,
 ) -> Result<(), AllocError>
@@ -123,7 +123,7 @@ fn node_at<I: OverlayInt>(index: usize, segment: XSegment<I>) -> Node<I>
 
 /// Appends the marks that a segment and each of those found before it put on one another, and answers whether it crosses
 /// one of them at a point without whole coordinates.
-fn mark_with_found<C: WindingCount, I: OverlayInt, D: Copy>(
+pub(crate) fn mark_with_found<C: WindingCount, I: OverlayInt, D: Copy>(
     segments: &[Segment<C, I, D>],
     found: &[usize],
     index: usize,

@@ -5,6 +5,7 @@ ghost use Rattle.overlay_base.specs.SegmentOf.{segments_of};
 ghost use Rattle.overlay_split.specs.PlacingOf.{HasRadius};
 
 use super::*;
+use overlay_base::overlay_core::solver::Solver;
 use overlay_base::segm::arranged::is_splittable;
 use overlay_base::segm::boolean::ShapeCountBoolean;
 use std::process::Abort;
@@ -40,16 +41,11 @@ fn once(
     let mut list = joined(rt, alloc, ends, 1);
     assert!(rt; is_splittable(&list));
     let mut buffers = PassBuffers::new(alloc);
-    let passed = pass(
-        &mut list,
-        placing,
-        Finder::List,
-        &mut None,
-        &mut buffers,
-        &mut 0,
-        &mut (),
-    )
-    .expect(rt, "no refusal");
+    let mut finder = PairFinder::without_grid(&Solver::LIST);
+    let passed = pass(&mut list, placing, &mut finder, &mut buffers, &mut ()).expect(
+        rt,
+        "no refusal",
+    );
     let mut plain = Vec::new(alloc);
     for segment in list.iter() {
         let XSegment { a, b } = segment.x_segment();
@@ -245,13 +241,12 @@ fn counts_of_pieces_that_leave_the_range(rt: HostRuntime) {
     let mut list = joined(&rt, rt.alloc(), &[[0, 0, 4, 0], [2, 0, 6, 0]], i32::MAX);
     assert!(rt; is_splittable(&list));
     let mut buffers = PassBuffers::new(rt.alloc());
+    let mut finder = PairFinder::without_grid(&Solver::TREE);
     let refused = pass(
         &mut list,
         Placing::Settling,
-        Finder::Tree,
-        &mut None,
+        &mut finder,
         &mut buffers,
-        &mut 0,
         &mut (),
     );
     assert_eq!(rt; refused, Err(Fault::CountOutOfRange));

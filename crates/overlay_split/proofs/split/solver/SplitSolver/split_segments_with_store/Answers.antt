@@ -17,7 +17,7 @@ use Rattle.overlay_split.specs.Run.{Settings, LeavesRange}
 use Rattle.overlay_split.specs.SettingsOf.{settings_of}
 use Rattle.overlay_split.proofs.laws.StoppedRuns.{stopped_run_leaves_range}
 use Rattle.overlay_split.proofs.laws.Splitting.{at_start, at_next, at_rest, stopped_at_start, stopped_at, has_ended, stays_arranged, snaps_at, settles, falls_from, potential_bound, exponent_grows, segments_none, goes_on-is, starts-is, keeps_room, few_enough}
-use Rattle.overlay_base.specs.Choices.{list_splits}
+use Rattle.overlay_base.specs.declared.overlay_core.solver.Solver.{Solver}
 use Rattle.overlay_base.specs.Planar.{is_splittable}
 use Rattle.overlay_base.proofs.laws.Maps.{is_map-join}
 use Rattle.overlay_split.proofs.laws.Splittable.{is_splittable-join}
@@ -121,7 +121,8 @@ loop-init g c = record {
   step = c.snap_radius-radius.ensures.step;
   limit = refl;
   passes = refl;
-  looks = HasLooked-start c.args.solver.now.strategy (settings_of g.I.OverlayInt.BITS c.args.solver.now c.args.self.now) (segments_of c.args.list.now.items) (segments_of c.deref.result.now) (grid_in c.in-Ok.grid) (ap (λ l. segments_of l) c.deref.ensures.value ∙ c.in_ok-repeated.ensures.geometry) c.in-Ok.ensures.grid;
+  looks = rw (c.in-Ok.ensures.looked) (HasLooked-start c.args.solver.now.strategy (settings_of g.I.OverlayInt.BITS c.args.solver.now c.args.self.now) (segments_of c.args.list.now.items) (segments_of c.deref.result.now) (grid_in c.in-Ok.finder.grid) (ap (λ l. segments_of l) c.deref.ensures.value ∙ c.in_ok-repeated.ensures.geometry) c.in-Ok.ensures.grid);
+  solver = c.in-Ok.ensures.solver;
   looked_before = refl;
 }
 
@@ -139,7 +140,8 @@ loop-preserved g c =
       step = c.increment.ensures.step ∙ c.loop.invariant.step;
       limit = c.loop.invariant.limit;
       passes = c.loop.invariant.passes;
-      looks = HasLooked-more c.args.solver.now.strategy (settings_of g.I.OverlayInt.BITS c.args.solver.now c.args.self.now) (segments_of c.args.list.now.items) c.loop.list.items (grid_in c.loop.grid) (grid_in c.after_pass.new.grid) c.loop.progress.passes _ c.loop.looked c.after_pass.new.looked c.finder-finder.result c.loop.invariant.looks c.in_ok-progress.ensures.grid c.in_ok-progress.ensures.passes c.loop.invariant.at.arrangement_is (λ h. c.finder-finder.ensures (ap (λ l. list_splits c.args.solver.now.strategy (length l)) c.deref-in-loop.ensures.value ∙ h)) c.in_ok-progress.ensures.looked c.in_ok-progress.ensures.grid_looked;
+      looks = HasLooked-more c.args.solver.now.strategy c.loop.finder.solver.strategy (settings_of g.I.OverlayInt.BITS c.args.solver.now c.args.self.now) (segments_of c.args.list.now.items) c.loop.list.items (grid_in c.loop.finder.grid) (grid_in c.after_pass.new.finder.grid) c.loop.progress.passes _ c.loop.finder.looked c.after_pass.new.finder.looked c.loop.invariant.looks (ap (λ (s : Solver). s.strategy) c.loop.invariant.solver) c.in_ok-progress.ensures.grid c.in_ok-progress.ensures.passes c.loop.invariant.at.arrangement_is c.in_ok-progress.ensures.looked;
+      solver = c.in_ok-progress.ensures.solver ∙ c.loop.invariant.solver;
       looked_before = c.loop.invariant.looked_before;
     }
 
@@ -173,6 +175,7 @@ loop-progress-init g c = record {
   limit = c.loop.invariant.limit;
   passes = c.loop.invariant.passes;
   looks = c.loop.invariant.looks;
+  solver = c.loop.invariant.solver;
   looked_before = c.loop.invariant.looked_before;
 }
 
@@ -186,7 +189,8 @@ loop-progress-preserved g c =
       room = λ h. keeps_room _ _ _ _ _ _ c.loop-progress.invariant.at.map c.in_ok-progress-2.ensures.geometry (goes_on-is c.after_pass-in-loop-progress.new.list.items _ _ c.in_ok-progress-2.ensures.goes_on) h c.in_ok-progress-2.ensures.passes (c.loop-progress.invariant.room c.loop-progress-test.true);
       limit = c.loop-progress.invariant.limit;
       passes = c.loop-progress.invariant.passes;
-      looks = HasLooked-more c.args.solver.now.strategy (settings_of g.I.OverlayInt.BITS c.args.solver.now c.args.self.now) (segments_of c.args.list.now.items) c.loop-progress.list.items (grid_in c.loop-progress.grid) (grid_in c.after_pass-in-loop-progress.new.grid) c.loop-progress.progress.passes _ c.loop-progress.looked c.after_pass-in-loop-progress.new.looked c.finder-finder-in-loop-progress.result c.loop-progress.invariant.looks c.in_ok-progress-2.ensures.grid c.in_ok-progress-2.ensures.passes c.loop-progress.invariant.at.arrangement_is (λ h. c.finder-finder-in-loop-progress.ensures (ap (λ l. list_splits c.args.solver.now.strategy (length l)) c.deref-in-loop-progress.ensures.value ∙ h)) c.in_ok-progress-2.ensures.looked c.in_ok-progress-2.ensures.grid_looked;
+      looks = HasLooked-more c.args.solver.now.strategy c.loop-progress.finder.solver.strategy (settings_of g.I.OverlayInt.BITS c.args.solver.now c.args.self.now) (segments_of c.args.list.now.items) c.loop-progress.list.items (grid_in c.loop-progress.finder.grid) (grid_in c.after_pass-in-loop-progress.new.finder.grid) c.loop-progress.progress.passes _ c.loop-progress.finder.looked c.after_pass-in-loop-progress.new.finder.looked c.loop-progress.invariant.looks (ap (λ (s : Solver). s.strategy) c.loop-progress.invariant.solver) c.in_ok-progress-2.ensures.grid c.in_ok-progress-2.ensures.passes c.loop-progress.invariant.at.arrangement_is c.in_ok-progress-2.ensures.looked;
+      solver = c.in_ok-progress-2.ensures.solver ∙ c.loop-progress.invariant.solver;
       looked_before = c.loop-progress.invariant.looked_before;
     }
 
@@ -243,21 +247,21 @@ after_pass-requires-in-loop-progress-clause-passes g c = let room = c.loop-progr
 
 -- ---- the grid
 
-pub grid_over-requires : goal.grid_over-requires
-grid_over-requires g c =
+pub new-requires : goal.new-requires
+new-requires g c =
     let low = g.I.OverlayInt.whole g.I.OverlayInt.MIN_COORD in
     let high = g.I.OverlayInt.whole g.I.OverlayInt.MAX_COORD in
     let given = segments_of c.args.list.now.items in
     let first = is_splittable-join low high given c.requires c.in_ok-repeated.ensures.fits (is_map-join given (segments_ordered c.args.list.now.items)) in
-    rw (c.deref.ensures.value) (record { in_range = IsPairInRange-each c.join_with_store.new.list.items g.I.OverlayInt.MIN_COORD g.I.OverlayInt.MAX_COORD (subst (λ (l : List WholeSegment). IsTrue (is_splittable low high l)) (sym c.in_ok-repeated.ensures.geometry) first) })
+    rw (c.deref.ensures.value) (IsPairInRange-each c.join_with_store.new.list.items g.I.OverlayInt.MIN_COORD g.I.OverlayInt.MAX_COORD (subst (λ (l : List WholeSegment). IsTrue (is_splittable low high l)) (sym c.in_ok-repeated.ensures.geometry) first))
 
 pub returns-clause-looked : goal.returns-clause-looked
-returns-clause-looked g c = λ none. (grid_in c.loop-progress.grid, c.loop-progress.invariant.looks.is_for, c.loop-progress.invariant.looks.few none)
+returns-clause-looked g c = λ none. (grid_in c.loop-progress.finder.grid, c.loop-progress.invariant.looks.is_for, rw (c.looked-self.ensures) (c.loop-progress.invariant.looks.few none))
 
 pub after_pass-requires-clause-inside : goal.after_pass-requires-clause-inside
 after_pass-requires-clause-inside g c =
-    run_lies_inside c.args.solver.now.strategy (settings_of g.I.OverlayInt.BITS c.args.solver.now c.args.self.now) (segments_of c.args.list.now.items) (segments_of c.loop.list.items) (grid_in c.loop.grid) c.loop.progress.passes (segments_ordered c.args.list.now.items) c.loop.invariant.looks.is_for c.loop.invariant.at.arrangement_is
+    run_lies_inside c.args.solver.now.strategy (settings_of g.I.OverlayInt.BITS c.args.solver.now c.args.self.now) (segments_of c.args.list.now.items) (segments_of c.loop.list.items) (grid_in c.loop.finder.grid) c.loop.progress.passes (segments_ordered c.args.list.now.items) c.loop.invariant.looks.is_for c.loop.invariant.at.arrangement_is
 
 pub after_pass-requires-in-loop-progress-clause-inside : goal.after_pass-requires-in-loop-progress-clause-inside
 after_pass-requires-in-loop-progress-clause-inside g c =
-    run_lies_inside c.args.solver.now.strategy (settings_of g.I.OverlayInt.BITS c.args.solver.now c.args.self.now) (segments_of c.args.list.now.items) (segments_of c.loop-progress.list.items) (grid_in c.loop-progress.grid) c.loop-progress.progress.passes (segments_ordered c.args.list.now.items) c.loop-progress.invariant.looks.is_for c.loop-progress.invariant.at.arrangement_is
+    run_lies_inside c.args.solver.now.strategy (settings_of g.I.OverlayInt.BITS c.args.solver.now c.args.self.now) (segments_of c.args.list.now.items) (segments_of c.loop-progress.list.items) (grid_in c.loop-progress.finder.grid) c.loop-progress.progress.passes (segments_ordered c.args.list.now.items) c.loop-progress.invariant.looks.is_for c.loop-progress.invariant.at.arrangement_is

@@ -21,7 +21,8 @@ invariant-loop g l = record {
   step : step_of l.radius ≡ l.solver.precision.progression;
   limit : l.self.snap_limit ≡ l.fn.self.snap_limit;
   passes : l.self.passes ≡ l.fn.self.passes;
-  looks : HasLooked l.solver.strategy (settings_of g.I.OverlayInt.BITS l.solver l.fn.self) (segments_of l.fn.list.items) (grid_in l.grid) l.progress.passes l.looked;
+  looks : HasLooked l.solver.strategy (settings_of g.I.OverlayInt.BITS l.solver l.fn.self) (segments_of l.fn.list.items) (grid_in l.finder.grid) l.progress.passes l.finder.looked;
+  solver : l.finder.solver ≡ l.solver;
   looked_before : l.self.looked ≡ l.fn.self.looked;
 }
 
@@ -35,7 +36,8 @@ invariant-loop-progress g l = record {
   room : l.progress.goes_on ≡ true → l.progress.passes + potential (segments_of l.list.items) < 2 ^ 127;
   limit : l.self.snap_limit ≡ l.fn.self.snap_limit;
   passes : l.self.passes ≡ l.fn.self.passes;
-  looks : HasLooked l.solver.strategy (settings_of g.I.OverlayInt.BITS l.solver l.fn.self) (segments_of l.fn.list.items) (grid_in l.grid) l.progress.passes l.looked;
+  looks : HasLooked l.solver.strategy (settings_of g.I.OverlayInt.BITS l.solver l.fn.self) (segments_of l.fn.list.items) (grid_in l.finder.grid) l.progress.passes l.finder.looked;
+  solver : l.finder.solver ≡ l.solver;
   looked_before : l.self.looked ≡ l.fn.self.looked;
 }
 
