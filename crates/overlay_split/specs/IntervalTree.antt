@@ -1,5 +1,5 @@
 -- A tree over the heights of entries that expire: what a look-up takes up, finds and leaves.
-use Rattle.std.specs.Prelude.{⊤, ◌≡◌, ℕ, ◌/◌, ◌<◌, ◌==◌, ℤ, ◌≤ℤ◌, ◌<ℤ◌, int_lt, Bool, false, not, ◌&&◌, ◌||◌, IsTrue, IsFalse, ◌⊎◌, Option, None, Some, List, [], ◌∷◌, ◌++◌, length, map, filter}
+use Rattle.std.specs.Prelude.{⊤, ◌≡◌, ℕ, ◌/◌, ◌<◌, ◌==◌, ℤ, ◌<ℤ◌, int_lt, Bool, false, not, ◌&&◌, ◌||◌, if◌then◌else◌, ◌⊎◌, Option, None, Some, List, [], ◌∷◌, ◌++◌, length, map, filter}
 use Rattle.std.specs.Int.{int_max}
 use Rattle.std.specs.List.{AllByRecursion}
 
@@ -59,28 +59,36 @@ pub record TreeNode : Type 0 where
 abbrev pub entries : List TreeNode → List Entry
 entries nodes = map (λ n. n.entry) nodes
 
--- none is live, or a height that a live entry does not pass
-abbrev pub Reaches : Option ℤ → Entry → Type 0
-Reaches None e = IsFalse e.is_live
-Reaches (Some greatest) e = IsTrue e.is_live → e.high ≤ℤ greatest
-
--- whether a greatest height reaches another
-abbrev pub is_reached : Option ℤ → ℤ → Bool
-is_reached None low = false
-is_reached (Some greatest) low = not (int_lt greatest low)
-
--- where an entry has this index, this is its low
-abbrev pub IsAt : ℕ → ℤ → Entry → Type 0
-IsAt index low e = e.index ≡ index → e.low ≡ low
-
 -- the greater of two heights, where there are any
 abbrev pub further : Option ℤ → Option ℤ → Option ℤ
 further None b = b
 further (Some a) None = Some a
 further (Some a) (Some b) = Some (int_max a b)
 
--- The tree stands in a list: its root in the middle, its subtrees before and after it. Every root reaches its subtree.
+-- the greatest height of an entry, where it is live
+abbrev pub live_height : Entry → Option ℤ
+live_height e = if e.is_live then Some e.high else None
+
+-- the greatest height of the live entries, where there are any
+abbrev pub greatest_height : List Entry → Option ℤ
+greatest_height [] = None
+greatest_height (e ∷ entries) = further (live_height e) (greatest_height entries)
+
+-- whether a greatest height reaches another
+abbrev pub is_reached : Option ℤ → ℤ → Bool
+is_reached None low = false
+is_reached (Some greatest) low = not (int_lt greatest low)
+
+-- where an entry has this index, these are its heights
+abbrev pub IsAt : ℕ → ℤ → Entry → Type 0
+IsAt index low e = e.index ≡ index → e.low ≡ low
+
+abbrev pub IsUpTo : ℕ → ℤ → Entry → Type 0
+IsUpTo index high e = e.index ≡ index → e.high ≡ high
+
+-- The tree stands in a list: its root in the middle, its subtrees before and after it. Every root holds the greatest height of
+-- the live entries of its subtree.
 pub data IsSummed : List TreeNode → Type 0 where
   none : IsSummed []
   rooted : (nodes left right : List TreeNode) (root : TreeNode) → nodes ≡ left ++ root ∷ right → length left ≡ length nodes / 2 →
-      IsSummed left → IsSummed right → AllByRecursion (Reaches root.greatest) (entries nodes) → IsSummed nodes
+      IsSummed left → IsSummed right → root.greatest ≡ greatest_height (entries nodes) → IsSummed nodes

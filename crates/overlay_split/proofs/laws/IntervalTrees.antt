@@ -1,14 +1,15 @@
 -- Trees of entries that expire: their parts, what a look-up and an insertion leave, and what is not taken up.
 use Rattle.std.proofs.Common.{◌≡◌, refl, sym, ap, ap₂, subst, ◌∙◌, ◌⊎◌, inl, inr, ℕ, ◌+◌, ◌/◌, ◌<◌, ◌==◌, arith, Bool, true, false, not, ◌&&◌, ◌||◌, cond, List, [], ◌∷◌, ◌++◌, map, filter, length, get_or}
-use Rattle.std.specs.Prelude.{ℤ, ◌≤ℤ◌, ◌<ℤ◌, int_lt, nat_lt, Option, None, Some, count_by}
-use Rattle.std.specs.List.{AllByRecursion}
+use Rattle.std.specs.Int.{int_max}
+use Rattle.std.specs.Prelude.{IsTrue, IsFalse, ℤ, ◌≤ℤ◌, ◌<ℤ◌, int_lt, nat_lt, Option, None, Some, count_by}
+use Rattle.std.specs.List.{AllByRecursion, list_any}
 use Rattle.std.proofs.lemmas.Int.{ints, clamps}
-use Rattle.std.proofs.lemmas.Bool.{and_parts, not-true, not-false, both_ways, false_from_ne_true, eqb-true}
+use Rattle.std.proofs.lemmas.Bool.{or_cases, and_parts, not-true, not-false, both_ways, false_from_ne_true, eqb-true}
 use Rattle.std.proofs.lemmas.List.{map-append}
 use Rattle.std.proofs.lemmas.List.Elements.{filter-append}
-use Rattle.std.proofs.lemmas.List.Sums.{sum_by-append}
-use Rattle.overlay_base.proofs.laws.Lists.{AllByRecursion-weaker, AllByRecursion-both, AllByRecursion-append, AllByRecursion_cross, Pairwise_left, Pairwise_right}
-use Rattle.overlay_split.specs.IntervalTree.{Entry, WholeQuery, TreeNode, entries, is_at_heights, is_taken_up, is_found, found, left_by, inserted, StandsBefore, AreRising, Reaches, is_reached, IsAt, further, IsSummed, none, rooted}
+use Rattle.std.proofs.lemmas.List.Sums.{sum_by-append, sum_by-cons}
+use Rattle.overlay_base.proofs.laws.Lists.{list_any-from_none, none_from_list_any, AllByRecursion-weaker, AllByRecursion-both, AllByRecursion-append, AllByRecursion_cross, Pairwise_left, Pairwise_right}
+use Rattle.overlay_split.specs.IntervalTree.{Entry, WholeQuery, TreeNode, entries, is_at_heights, is_taken_up, is_found, is_dropped, found, left_by, inserted, StandsBefore, AreRising, live_height, greatest_height, is_reached, IsAt, IsUpTo, further, IsSummed, none, rooted}
 
 -- ---- the parts of a tree
 
@@ -26,7 +27,7 @@ same_parts (w ∷ xs) (z ∷ ys) x y us vs e l =
 pub record IsRooted (left : List TreeNode) (root : TreeNode) (right : List TreeNode) : Type 0 where
   pub left_summed : IsSummed left
   pub right_summed : IsSummed right
-  pub reached : AllByRecursion (Reaches root.greatest) (entries (left ++ root ∷ right))
+  pub greatest_is : root.greatest ≡ greatest_height (entries (left ++ root ∷ right))
 
 none_is_some : {X : Type 0} (xs : List X) (x : X) (ys : List X) → [] ≡ xs ++ x ∷ ys → ⊥
 none_is_some [] x ys e = cc
@@ -39,17 +40,17 @@ rooted_parts nodes left right root (rooted ns l s r is mid hl hs h) e le =
     record {
       left_summed = subst IsSummed p.0 hl;
       right_summed = subst IsSummed p.2 hs;
-      reached = subst (λ (t : TreeNode). AllByRecursion (Reaches t.greatest) (entries (left ++ root ∷ right))) p.1 (subst (λ (ns : List TreeNode). AllByRecursion (Reaches r.greatest) (entries ns)) e h);
+      greatest_is = ap (λ (t : TreeNode). t.greatest) (sym p.1) ∙ h ∙ ap (λ (ns : List TreeNode). greatest_height (entries ns)) e;
     }
 
 pub IsRooted-from : (left right : List TreeNode) (root : TreeNode) → IsSummed (left ++ root ∷ right) → length left ≡ length (left ++ root ∷ right) / 2 → IsRooted left root right
 IsRooted-from left right root h l = rooted_parts (left ++ root ∷ right) left right root h refl l
 
 pub IsSummed-from : (left right : List TreeNode) (root : TreeNode) → length left ≡ length (left ++ root ∷ right) / 2 → IsSummed left → IsSummed right →
-    AllByRecursion (Reaches root.greatest) (entries left ++ root.entry ∷ entries right) → IsSummed (left ++ root ∷ right)
+    root.greatest ≡ greatest_height (entries left ++ root.entry ∷ entries right) → IsSummed (left ++ root ∷ right)
 IsSummed-from left right root l hl hr h =
     rooted (left ++ root ∷ right) left right root refl l hl hr
-    (subst (AllByRecursion (Reaches root.greatest)) (sym (map-append (λ (n : TreeNode). n.entry) left (root ∷ right))) h)
+    (h ∙ ap greatest_height (sym (map-append (λ (n : TreeNode). n.entry) left (root ∷ right))))
 
 pub entries-parts : (left right : List TreeNode) (root : TreeNode) → entries (left ++ root ∷ right) ≡ entries left ++ root.entry ∷ entries right
 entries-parts left right root = map-append (λ (n : TreeNode). n.entry) left (root ∷ right)
@@ -73,31 +74,50 @@ AreParted-from left right root h =
 
 -- ---- greatest heights
 
-pub reached_first : (a b : Option ℤ) (e : Entry) → Reaches a e → Reaches (further a b) e
+int_max-assoc : (a b c : ℤ) → int_max (int_max a b) c ≡ int_max a (int_max b c)
+int_max-assoc a b c = omega (arith, ints, clamps)
+
+further-assoc : (a b c : Option ℤ) → further (further a b) c ≡ further a (further b c)
+further-assoc None b c = refl
+further-assoc (Some a) None c = refl
+further-assoc (Some a) (Some b) None = refl
+further-assoc (Some a) (Some b) (Some c) = ap Some (int_max-assoc a b c)
+
+pub greatest_height-append : (xs ys : List Entry) → greatest_height (xs ++ ys) ≡ further (greatest_height xs) (greatest_height ys)
+greatest_height-append [] ys = refl
+greatest_height-append (e ∷ xs) ys = ap (further (live_height e)) (greatest_height-append xs ys) ∙ sym (further-assoc (live_height e) (greatest_height xs) (greatest_height ys))
+
+pub none_live : (es : List Entry) → AllByRecursion (λ e. e.is_live ≡ false) es → greatest_height es ≡ None
+none_live [] h = refl
+none_live (e ∷ es) h = ap₂ (λ (b : Bool) (g : Option ℤ). further (cond b (Some e.high) None) g) h.0 (none_live es h.1)
+
+-- none is live, or a height that a live entry does not pass
+abbrev pub Reaches : Option ℤ → Entry → Type 0
+Reaches None e = IsFalse e.is_live
+Reaches (Some greatest) e = IsTrue e.is_live → e.high ≤ℤ greatest
+
+reached_first : (a b : Option ℤ) (e : Entry) → Reaches a e → Reaches (further a b) e
 reached_first None None e h = h
 reached_first None (Some b) e h = λ l. absurd (both_ways e.is_live h l)
 reached_first (Some a) None e h = h
 reached_first (Some a) (Some b) e h = λ l. let k = h l in omega (arith, ints, clamps)
 
-pub reached_second : (a b : Option ℤ) (e : Entry) → Reaches b e → Reaches (further a b) e
+reached_second : (a b : Option ℤ) (e : Entry) → Reaches b e → Reaches (further a b) e
 reached_second None None e h = h
 reached_second None (Some b) e h = h
 reached_second (Some a) None e h = λ l. absurd (both_ways e.is_live h l)
 reached_second (Some a) (Some b) e h = λ l. let k = h l in omega (arith, ints, clamps)
 
-pub all_reached : (own l r : Option ℤ) (left right : List Entry) (root : Entry) → AllByRecursion (Reaches l) left → Reaches own root → AllByRecursion (Reaches r) right →
-    AllByRecursion (Reaches (further own (further l r))) (left ++ root ∷ right)
-all_reached own l r left right root hl ho hr =
-    AllByRecursion-append (Reaches (further own (further l r))) left (root ∷ right)
-    (AllByRecursion-weaker (Reaches l) (Reaches (further own (further l r))) (λ e k. reached_second own (further l r) e (reached_first l r e k)) left hl)
-    (reached_first own (further l r) root ho, AllByRecursion-weaker (Reaches r) (Reaches (further own (further l r))) (λ e k. reached_second own (further l r) e (reached_second l r e k)) right hr)
+itself_reached : (e : Entry) (live : Bool) → e.is_live ≡ live → Reaches (cond live (Some e.high) None) e
+itself_reached e true h = λ l. omega (arith, ints)
+itself_reached e false h = h
 
--- an entry's own height, where it is live, and none where it is not
-pub itself_reached : (e : Entry) → Reaches (Some e.high) e
-itself_reached e l = omega (arith, ints)
-
-pub dead_reached : (e : Entry) → e.is_live ≡ false → Reaches None e
-dead_reached e h = h
+all_reached : (es : List Entry) → AllByRecursion (Reaches (greatest_height es)) es
+all_reached [] = tt
+all_reached (e ∷ es) = (
+  reached_first (live_height e) (greatest_height es) e (itself_reached e e.is_live refl),
+  AllByRecursion-weaker (Reaches (greatest_height es)) (Reaches (greatest_height (e ∷ es))) (λ f k. reached_second (live_height e) (greatest_height es) f k) es (all_reached es),
+)
 
 middle_of : (left right : List TreeNode) (root : TreeNode) (nodes : List TreeNode) (d : TreeNode) → nodes ≡ left ++ root ∷ right → get_or nodes (length left) d ≡ root
 middle_of left right root nodes d e = ap (λ (ns : List TreeNode). get_or ns (length left) d) e ∙ at left
@@ -107,10 +127,10 @@ middle_of left right root nodes d e = ap (λ (ns : List TreeNode). get_or ns (le
     at (x ∷ ls) = at ls
 
 -- the root is the node in the middle
-pub middle_reaches : (nodes : List TreeNode) (d : TreeNode) → IsSummed nodes → AllByRecursion (Reaches (get_or nodes (length nodes / 2) d).greatest) (entries nodes)
-middle_reaches nodes d none = tt
-middle_reaches nodes d (rooted ns left right root is mid hl hr h) =
-    subst (λ (t : TreeNode). AllByRecursion (Reaches t.greatest) (entries nodes)) (sym (ap (λ (n : ℕ). get_or nodes n d) (sym mid) ∙ middle_of left right root nodes d is)) h
+pub middle_is_greatest : (nodes : List TreeNode) (d : TreeNode) → IsSummed nodes → 0 < length nodes → (get_or nodes (length nodes / 2) d).greatest ≡ greatest_height (entries nodes)
+middle_is_greatest nodes d none lt = absurd (omega arith)
+middle_is_greatest nodes d (rooted ns left right root is mid hl hr h) lt =
+    ap (λ (t : TreeNode). t.greatest) (ap (λ (n : ℕ). get_or nodes n d) (sym mid) ∙ middle_of left right root nodes d is) ∙ h
 
 -- ---- entries that are not taken up
 
@@ -124,8 +144,8 @@ not_reached q (Some g) e n h = false_from_ne_true _ (λ t. let p = and_parts e.i
     off : (g low high : ℤ) → high ≤ℤ g → int_lt g low ≡ true → int_lt high low ≡ false → ⊥
     off g low high h k l = grind (arith, ints)
 
-pub none_reached : (q : WholeQuery) (greatest : Option ℤ) (es : List Entry) → is_reached greatest q.low ≡ false → AllByRecursion (Reaches greatest) es → AllByRecursion (IsNotTaken q) es
-none_reached q greatest es n h = AllByRecursion-weaker (Reaches greatest) (IsNotTaken q) (λ e k. not_reached q greatest e n k) es h
+pub none_reached : (q : WholeQuery) (es : List Entry) → is_reached (greatest_height es) q.low ≡ false → AllByRecursion (IsNotTaken q) es
+none_reached q es n = AllByRecursion-weaker (Reaches (greatest_height es)) (IsNotTaken q) (λ e k. not_reached q (greatest_height es) e n k) es (all_reached es)
 
 above : (q : WholeQuery) (e : Entry) → int_lt q.high e.low ≡ true → IsNotTaken q e
 above q e h = by e.is_live (int_lt e.high q.low) (int_lt q.high e.low) h
@@ -156,12 +176,34 @@ pub none_dropped : (q : WholeQuery) (es : List Entry) → AllByRecursion (IsNotT
 none_dropped q [] h = refl
 none_dropped q (e ∷ es) h = ap₂ (λ (x : Entry) (xs : List Entry). x ∷ xs) (left_alone q e h.0) (none_dropped q es h.1)
 
+pub none_is_dropped : (q : WholeQuery) (es : List Entry) → AllByRecursion (IsNotTaken q) es → list_any (is_dropped q) es ≡ false
+none_is_dropped q es h = list_any-from_none (is_dropped q) es (AllByRecursion-weaker (IsNotTaken q) (λ e. is_dropped q e ≡ false) (λ e n. ap (λ (b : Bool). b && int_lt e.end_x q.x) n) es h)
+
+-- where none is dropped, all stay as they are
+kept : (q : WholeQuery) (e : Entry) → is_dropped q e ≡ false → left_by q e ≡ e
+kept q e h = ap (λ (b : Bool). record e { is_live = b }) (by e.is_live (is_dropped q e) h)
+  where
+    by : (a d : Bool) → d ≡ false → (a && not d) ≡ a
+    by true d h = ap not h
+    by false d h = refl
+
+pub all_kept : (q : WholeQuery) (es : List Entry) → list_any (is_dropped q) es ≡ false → map (left_by q) es ≡ es
+all_kept q es h = each es (none_from_list_any (is_dropped q) es h)
+  where
+    each : (es : List Entry) → AllByRecursion (λ e. is_dropped q e ≡ false) es → map (left_by q) es ≡ es
+    each [] k = refl
+    each (e ∷ es) k = ap₂ (λ (x : Entry) (xs : List Entry). x ∷ xs) (kept q e k.0) (each es k.1)
+
 none_pass : {X : Type 0} (p : X → Bool) (xs : List X) → AllByRecursion (λ x. p x ≡ false) xs → filter p xs ≡ []
 none_pass p [] h = refl
 none_pass p (x ∷ xs) h = ap (λ (b : Bool). cond b (x ∷ filter p xs) (filter p xs)) h.0 ∙ none_pass p xs h.1
 
 pub none_found : (q : WholeQuery) (es : List Entry) → AllByRecursion (IsNotTaken q) es → found q es ≡ []
 none_found q es h = ap (map (λ (e : Entry). e.index)) (none_pass (is_found q) es (AllByRecursion-weaker (IsNotTaken q) (λ e. is_found q e ≡ false) (λ e n. ap (λ (b : Bool). b && not (int_lt e.end_x q.x)) n) es h))
+
+pub none_counted : (q : WholeQuery) (es : List Entry) → AllByRecursion (IsNotTaken q) es → count_by (is_taken_up q) es ≡ 0
+none_counted q [] h = refl
+none_counted q (e ∷ es) h = sum_by-cons (λ f. cond (is_taken_up q f) 1 0) e es ∙ ap₂ (λ (b : Bool) (n : ℕ). cond b 1 0 + n) h.0 (none_counted q es h.1)
 
 -- ---- lists in parts
 
@@ -245,3 +287,73 @@ pub none_other_before : (index : ℕ) (low : ℤ) (root : Entry) (left : List En
     AllByRecursion (λ e. e.index ≡ index → ⊥) left
 none_other_before index low root left i at k all =
     AllByRecursion-weaker (λ e. StandsBefore e root × IsAt index low e) (λ e. e.index ≡ index → ⊥) (λ e b. others_before index low root e i at b.1 b.0) left (AllByRecursion-both (λ e. StandsBefore e root) (IsAt index low) left k all)
+
+-- ---- greatest heights after an insertion
+
+abbrev pub is_of : ℕ → Entry → Bool
+is_of index e = e.index == index
+
+same_twice : (a b : ℤ) → a ≡ b → int_max a b ≡ b
+same_twice a b e = omega (arith, ints, clamps)
+
+raised : (high h : ℤ) (live here : Bool) → (here ≡ true → h ≡ high) → further (cond (live || here) (Some h) None) (Some high) ≡ further (cond live (Some h) None) (Some high)
+raised high h true here e = refl
+raised high h false false e = refl
+raised high h false true e = ap Some (same_twice h high (e refl))
+
+is_up_to : (index : ℕ) (high : ℤ) (e : Entry) → IsUpTo index high e → is_of index e ≡ true → e.high ≡ high
+is_up_to index high e up is = up (eqb-true e.index index is)
+
+-- beside the height of the entry that is inserted, all others stay
+further_up : (index : ℕ) (high : ℤ) (es : List Entry) → AllByRecursion (IsUpTo index high) es → further (greatest_height (map (inserted index) es)) (Some high) ≡ further (greatest_height es) (Some high)
+further_up index high [] h = refl
+further_up index high (e ∷ es) h =
+    swapped (live_height (inserted index e)) (greatest_height (map (inserted index) es)) high
+    ∙ ap (λ (g : Option ℤ). further g (greatest_height (map (inserted index) es))) (raised high e.high e.is_live (is_of index e) (is_up_to index high e h.0))
+    ∙ sym (swapped (live_height e) (greatest_height (map (inserted index) es)) high)
+    ∙ further-assoc (live_height e) (greatest_height (map (inserted index) es)) (Some high)
+    ∙ ap (further (live_height e)) (further_up index high es h.1)
+    ∙ sym (further-assoc (live_height e) (greatest_height es) (Some high))
+  where
+    turned : (a b c : ℤ) → int_max (int_max a b) c ≡ int_max (int_max a c) b
+    turned a b c = omega (arith, ints, clamps)
+
+    turned_two : (a b : ℤ) → int_max a b ≡ int_max b a
+    turned_two a b = omega (arith, ints, clamps)
+
+    swapped : (a b : Option ℤ) (h : ℤ) → further (further a b) (Some h) ≡ further (further a (Some h)) b
+    swapped None None h = refl
+    swapped None (Some b) h = ap Some (turned_two b h)
+    swapped (Some a) None h = refl
+    swapped (Some a) (Some b) h = ap Some (turned a b h)
+
+-- which it reaches
+includes : (index : ℕ) (high : ℤ) (es : List Entry) → AllByRecursion (IsUpTo index high) es → list_any (is_of index) es ≡ true → further (greatest_height (map (inserted index) es)) (Some high) ≡ greatest_height (map (inserted index) es)
+includes index high [] h k = absurd (both_ways false refl k)
+includes index high (e ∷ es) h k = elim (or_cases (is_of index e) (list_any (is_of index) es) k) [
+  | inl here ↦ let same = is_up_to index high e h.0 here in
+      let live : live_height (inserted index e) ≡ Some high = ap₂ (λ (b : Bool) (y : ℤ). cond (e.is_live || b) (Some y) None) here same ∙ ap (λ (b : Bool). cond b (Some high) None) (or_true e.is_live) in
+      ap (λ (g : Option ℤ). further (further g (greatest_height (map (inserted index) es))) (Some high)) live ∙ twice high (greatest_height (map (inserted index) es)) ∙ ap (λ (g : Option ℤ). further g (greatest_height (map (inserted index) es))) (sym live)
+  | inr there ↦ further-assoc (live_height (inserted index e)) (greatest_height (map (inserted index) es)) (Some high) ∙ ap (further (live_height (inserted index e))) (includes index high es h.1 there)
+]
+  where
+    or_true : (b : Bool) → (b || true) ≡ true
+    or_true true = refl
+    or_true false = refl
+
+    itself : (a b : ℤ) → int_max (int_max a b) a ≡ int_max a b
+    itself a b = omega (arith, ints, clamps)
+
+    itself_alone : (a : ℤ) → int_max a a ≡ a
+    itself_alone a = omega (arith, ints, clamps)
+
+    twice : (h : ℤ) (b : Option ℤ) → further (further (Some h) b) (Some h) ≡ further (Some h) b
+    twice h None = ap Some (itself_alone h)
+    twice h (Some b) = ap Some (itself h b)
+
+pub greatest_height-inserted : (index : ℕ) (high : ℤ) (es : List Entry) → AllByRecursion (IsUpTo index high) es → list_any (is_of index) es ≡ true →
+    further (greatest_height es) (Some high) ≡ greatest_height (map (inserted index) es)
+greatest_height-inserted index high es h k = sym (further_up index high es h) ∙ includes index high es h k
+
+pub none_of : (index : ℕ) (es : List Entry) → AllByRecursion (λ e. e.index ≡ index → ⊥) es → list_any (is_of index) es ≡ false
+none_of index es h = list_any-from_none (is_of index) es (AllByRecursion-weaker (λ e. e.index ≡ index → ⊥) (λ e. is_of index e ≡ false) (λ e k. false_from_ne_true (is_of index e) (λ t. k (eqb-true e.index index t))) es h)

@@ -19,7 +19,7 @@ use Rattle.overlay_base.specs.declared.segm.segment.Segment.{Segment}
 use Rattle.std.proofs.lemmas.List.{get_or-map, length-map}
 use Rattle.overlay_base.proofs.laws.Lists.{Has, AllByRecursion-at, AllByRecursion-from_Has, AllByRecursion-weaker, AllByRecursion-map, AllByRecursion-map_out, AllByRecursion-filter, Has-map, Has-map_out, Has-filter}
 use Rattle.overlay_base.proofs.laws.Elements.{Has-permutation}
-use Rattle.overlay_split.specs.IntervalTree.{Entry, WholeQuery, is_at_heights, is_taken_up, is_found, is_dropped, found, left_by, inserted, StandsBefore, AreRising, IsAt}
+use Rattle.overlay_split.specs.IntervalTree.{Entry, WholeQuery, is_at_heights, is_taken_up, is_found, is_dropped, found, left_by, inserted, StandsBefore, AreRising, IsAt, IsUpTo}
 use Rattle.overlay_split.specs.Swept.{nowhere, pair_at, entry_at, entry_of_pair, unswept}
 use Rattle.overlay_split.proofs.laws.ApartPairs.{AreApart, AreApart-back}
 
@@ -182,6 +182,9 @@ found_all_near ps es i j swept ordered lt w near =
 
 pub low_there : (ps : List Pair) (es : List Entry) (j : ℕ) → IsPermutation (unswept ps) (map unlive es) → AllByRecursion (IsAt j (query_at ps j).low) es
 low_there ps es j p = AllByRecursion-weaker (IsOf ps) (IsAt j (query_at ps j).low) (λ e h i. ap (λ (f : Entry). f.low) h.is ∙ ap (λ (n : ℕ). (entry_at ps n).low) i) es (entries_are ps es p)
+
+pub high_there : (ps : List Pair) (es : List Entry) (j : ℕ) → IsPermutation (unswept ps) (map unlive es) → AllByRecursion (IsUpTo j (query_at ps j).high) es
+high_there ps es j p = AllByRecursion-weaker (IsOf ps) (IsUpTo j (query_at ps j).high) (λ e h i. ap (λ (f : Entry). f.high) h.is ∙ ap (λ (n : ℕ). (entry_at ps n).high) i) es (entries_are ps es p)
 
 pub unlive_map : (f : Entry → Entry) → ((e : Entry) → unlive (f e) ≡ unlive e) → (es : List Entry) → map unlive (map f es) ≡ map unlive es
 unlive_map f h [] = refl

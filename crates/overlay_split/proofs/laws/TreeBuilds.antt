@@ -14,7 +14,8 @@ use Rattle.overlay_base.specs.Points.{Pair}
 use Rattle.overlay_base.proofs.laws.Keys.{IsInOrder, IsInOrder-from_sort}
 use Rattle.overlay_base.proofs.laws.Lists.{AllByRecursion-weaker, AllByRecursion-take, AllByRecursion-map}
 use Rattle.overlay_base.proofs.laws.Elements.{AllByRecursion-drop}
-use Rattle.overlay_split.specs.IntervalTree.{Entry, TreeNode, entries, StandsBefore, AreRising, Reaches, IsSummed, none, rooted}
+use Rattle.overlay_split.specs.IntervalTree.{Entry, TreeNode, entries, StandsBefore, AreRising, IsSummed, none, rooted}
+use Rattle.overlay_split.proofs.laws.IntervalTrees.{none_live}
 use Rattle.overlay_split.specs.Swept.{entry_at, alone, unswept}
 use Rattle.overlay_split.specs.NodeOf.{entry_of, nodes_of}
 use Rattle.overlay_split.specs.declared.split.interval_tree.Node.{Node}
@@ -24,10 +25,6 @@ use Rattle.overlay_split.proofs.laws.Sweeps.{AllByRecursion-get, permuted}
 
 abbrev pub IsDead : TreeNode → Type 0
 IsDead n = (n.entry.is_live ≡ false) × (n.greatest ≡ None)
-
-dead_reached : (g : Option ℤ) (e : Entry) → g ≡ None → e.is_live ≡ false → Reaches g e
-dead_reached None e h l = l
-dead_reached (Some y) e h l = cc
 
 dead_tree : (fuel : ℕ) (ns : List TreeNode) → length ns ≤ fuel → AllByRecursion IsDead ns → IsSummed ns
 dead_tree fuel [] le h = none
@@ -46,7 +43,7 @@ dead_tree (suc fuel) (n ∷ ns) le h =
     rooted all left right root is short
     (dead_tree fuel left (omega arith) (AllByRecursion-take IsDead m all h))
     (dead_tree fuel right (omega arith) (AllByRecursion-drop IsDead (suc m) all h))
-    (AllByRecursion-map (Reaches root.greatest) (λ (t : TreeNode). t.entry) all (AllByRecursion-weaker IsDead (λ t. Reaches root.greatest t.entry) (λ t d. dead_reached root.greatest t.entry dead.1 d.0) all h))
+    (dead.1 ∙ sym (none_live (entries all) (AllByRecursion-map (λ e. e.is_live ≡ false) (λ (t : TreeNode). t.entry) all (AllByRecursion-weaker IsDead (λ t. t.entry.is_live ≡ false) (λ t d. d.0) all h))))
   where
     half_less : (n : ℕ) → 0 < n → n / 2 < n
     half_less n h = omega arith

@@ -1,5 +1,5 @@
 // The finder that looks segments up in a tree over their heights. Upstream: `split::solver_tree`, whose tree is another.
-ghost use Rattle.std.specs.Prelude.{◌≡◌, ◌≢◌, ℕ, ◌<◌, ◌≤◌, ◌+◌, ◌++◌, [], ◌∷◌, All, IfErr, IfOk, OnOk, IsTrue, IsFalse, IsSortedByKey, IsPermutation, length};
+ghost use Rattle.std.specs.Prelude.{◌≡◌, ◌≢◌, ℕ, ◌<◌, ◌≤◌, ◌+◌, ◌-◌, ◌^◌, min, ◌++◌, [], ◌∷◌, All, IfErr, IfOk, OnOk, IsTrue, IsFalse, IsSortedByKey, IsPermutation, length};
 ghost use Rattle.overlay_base.specs.declared.segm.fault.Fault.TheVariants.{Memory};
 ghost use Rattle.overlay_base.specs.Points.{pair_cmp};
 ghost use Rattle.overlay_base.specs.Segments.{pairs};
@@ -11,7 +11,7 @@ ghost use Rattle.overlay_split.specs.PlacingOf.{placing_of, HasRadius};
 ghost use Rattle.overlay_split.specs.MarkOf.{AreMarks, marks_of};
 ghost use Rattle.overlay_split.specs.IntervalTree.{AreRising, IsSummed, entries};
 ghost use Rattle.overlay_split.specs.NodeOf.{nodes_of, node_of};
-ghost use Rattle.overlay_split.specs.Looked.{tree_looks};
+ghost use Rattle.overlay_split.specs.Looked.{boxes_meet, count_twos, tree_looks};
 ghost use Rattle.overlay_split.specs.Swept.{alone, entry_of_pair, unswept, marks_with_found, crosses_found};
 
 use crate::split::interval_tree::{Node, Query, insert, look_up};
@@ -64,8 +64,10 @@ pub fn find_marks<C: WindingCount, I: OverlayInt, D: Copy>(
     ensures marks { OnOk result (AreMarks (placing_of placing) (segments_of segments.now) (marks_of I.whole marks.new.items)) }
     ensures rounded { IfOk result (λ rounded. rounded ≡ is_rounded (segments_of segments.now)) }
     ensures looked { OnOk result (looked.new ≤ looked.old + tree_looks (pairs (segments_of segments.now))) }
+    ensures each_looked { OnOk result (min (looked.old + count_twos boxes_meet (pairs (segments_of segments.now))) (2 ^ 128 - 1) ≤ looked.new) }
     ensures fault { IfErr result (λ fault. fault ≡ Memory) }
 {
+    let _looked = *looked;
     let TreeBuffers { nodes, found } = buffers;
     build(segments, nodes)?;
     let nodes = nodes.as_mut_slice();
@@ -83,7 +85,7 @@ pub fn find_marks<C: WindingCount, I: OverlayInt, D: Copy>(
         if mark_with_found(segments, found, index, placing, marks)? {
             rounded = true;
         }
-        insert(nodes, heights.min, index);
+        insert(nodes, heights.min, heights.max, index);
     }
     marks.sort()?;
     marks.dedup();

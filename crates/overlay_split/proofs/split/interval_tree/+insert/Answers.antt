@@ -1,59 +1,92 @@
-use Rattle.std.proofs.Common.{refl, sym, ◌∙◌, ◌++◌, ◌∷◌, ◌<◌, length, arith}
-use Rattle.std.specs.List.{AllByRecursion}
+use Rattle.std.proofs.Common.{◌≡◌, true, sym, ap, ◌∙◌, ◌++◌, ◌∷◌, ◌<◌, length, arith}
 use Rattle.overlay_split.specs.NodeOf.{entry_of, greatest_of, nodes_of}
-use Rattle.overlay_split.specs.IntervalTree.{inserted, entries, Reaches}
-use Rattle.overlay_split.proofs.laws.TreeCuts.{IsCut-from, mapped, summed_again, AreAt-from, IsPut, IsPut-root, IsPut-left, IsPut-right}
+use Rattle.overlay_split.specs.IntervalTree.{Entry, inserted, entries, greatest_height}
+use Rattle.overlay_split.proofs.laws.IntervalTrees.{is_before}
+use Rattle.overlay_split.proofs.laws.TreeCuts.{IsCut-from, mapped, summed_again, greatest_put, there_left, there_right, AreAt-from, AreUpTo-from, IsPut, IsPut-root, IsPut-left, IsPut-right}
 use Rattle.overlay_split.proofs.split.interval_tree.+insert.Goals as goal
-use Rattle.overlay_split.proofs.split.interval_tree.+insert.Goals.{then-index-root, else-index-root+then-stands_before, else-index-root+else-stands_before}
 
 pub insert-requires : goal.insert-requires
 insert-requires g t c κs within =
     let whole = g.I.OverlayInt.whole in
-    let cut = IsCut-from whole c.args.nodes.now c.split_at_mut-left.result.0.now c.split_at_mut-left.result.1.now c.in-Some.root.now c.in-Some.right.now c.split_at_mut-left.ensures.value c.in-Some.ensures.cases.0 c.split_at_mut-left.ensures.front_len c.requires.rising c.requires.summed in
-    let at = AreAt-from whole c.args.index (whole c.args.low) c.args.nodes.now c.split_at_mut-left.result.0.now c.in-Some.root.now c.in-Some.right.now cut c.requires.low in
-    let less : length c.split_at_mut-left.result.0.now < t = omega (arith, cut.left_less) in
-    (less, (within, (cut.parted.left_rising, (cut.rooted.left_summed, at.left_at))))
+    let nodes = c.args.nodes.now in
+    let l = c.split_at_mut-left.result.0.now in
+    let r = c.in-Some.root.now in
+    let s = c.in-Some.right.now in
+    let low = whole c.args.low in
+    let cut = IsCut-from whole nodes l c.split_at_mut-left.result.1.now r s c.split_at_mut-left.ensures.value c.in-Some.ensures.cases.0 c.split_at_mut-left.ensures.front_len c.requires.rising c.requires.summed in
+    let at = AreAt-from whole c.args.index low nodes l r s cut c.requires.low in
+    let up = AreUpTo-from whole c.args.index (whole c.args.high) nodes l r s cut c.requires.high in
+    let before = ap (is_before low c.args.index) (sym c.raise.ensures.entry) ∙ sym c.stands_before.ensures ∙ c.if-stands_before.true in
+    let there = there_left whole c.args.index low nodes l r s cut c.requires.low before c.requires.there in
+    let less : length l < t = omega (arith, cut.left_less) in
+    (less, (within, (cut.parted.left_rising, (cut.rooted.left_summed, (at.left_at, (up.left_up, there))))))
 
 pub insert-requires-else-stands_before : goal.insert-requires-else-stands_before
 insert-requires-else-stands_before g t c κs within =
     let whole = g.I.OverlayInt.whole in
-    let cut = IsCut-from whole c.args.nodes.now c.split_at_mut-left.result.0.now c.split_at_mut-left.result.1.now c.in-Some.root.now c.in-Some.right.now c.split_at_mut-left.ensures.value c.in-Some.ensures.cases.0 c.split_at_mut-left.ensures.front_len c.requires.rising c.requires.summed in
-    let at = AreAt-from whole c.args.index (whole c.args.low) c.args.nodes.now c.split_at_mut-left.result.0.now c.in-Some.root.now c.in-Some.right.now cut c.requires.low in
-    let less : length c.in-Some.right.now < t = omega (arith, cut.right_less) in
-    (less, (within, (cut.parted.right_rising, (cut.rooted.right_summed, at.right_at))))
+    let nodes = c.args.nodes.now in
+    let l = c.split_at_mut-left.result.0.now in
+    let r = c.in-Some.root.now in
+    let s = c.in-Some.right.now in
+    let low = whole c.args.low in
+    let cut = IsCut-from whole nodes l c.split_at_mut-left.result.1.now r s c.split_at_mut-left.ensures.value c.in-Some.ensures.cases.0 c.split_at_mut-left.ensures.front_len c.requires.rising c.requires.summed in
+    let at = AreAt-from whole c.args.index low nodes l r s cut c.requires.low in
+    let up = AreUpTo-from whole c.args.index (whole c.args.high) nodes l r s cut c.requires.high in
+    let before = ap (is_before low c.args.index) (sym c.raise.ensures.entry) ∙ sym c.stands_before.ensures ∙ c.if-stands_before.false in
+    let other = λ (k : c.args.index ≡ r.index). c.if-index-root.false (k ∙ ap (λ (e : Entry). e.index) (sym c.raise.ensures.entry)) in
+    let there = there_right whole c.args.index low nodes l r s cut c.requires.low other before c.requires.there in
+    let less : length s < t = omega (arith, cut.right_less) in
+    (less, (within, (cut.parted.right_rising, (cut.rooted.right_summed, (at.right_at, (up.right_up, there))))))
 
-pub update_greatest-requires : goal.update_greatest-requires
-update_greatest-requires g t c =
+pub returns-then-index-root : goal.returns-then-index-root
+returns-then-index-root g t c =
     let whole = g.I.OverlayInt.whole in
     let nodes = c.args.nodes.now in
     let l = c.split_at_mut-left.result.0.now in
     let r = c.in-Some.root.now in
     let s = c.in-Some.right.now in
+    let index = c.args.index in
+    let low = whole c.args.low in
+    let high = whole c.args.high in
     let cut = IsCut-from whole nodes l c.split_at_mut-left.result.1.now r s c.split_at_mut-left.ensures.value c.in-Some.ensures.cases.0 c.split_at_mut-left.ensures.front_len c.requires.rising c.requires.summed in
-    let put : IsPut whole c.args.index l r s c.if-index-root.left c.if-index-root.root c.if-index-root.right = elim c.if-index-root.branch [
-      | then-index-root w ↦ rw (w.left-is, w.root-is, w.right-is) (IsPut-root whole c.args.index (whole c.args.low) nodes l r s _ cut c.requires.low w.if-index-root.true refl)
-      | else-index-root+then-stands_before w ↦ rw (w.left-is, w.root-is, w.right-is) (IsPut-left whole c.args.index (whole c.args.low) nodes l r s w.insert.new.nodes cut c.requires.low (sym w.stands_before.ensures ∙ w.if-stands_before.true) w.insert.ensures.entries w.insert.ensures.summed)
-      | else-index-root+else-stands_before w ↦ rw (w.left-is, w.root-is, w.right-is) (IsPut-right whole c.args.index (whole c.args.low) nodes l r s w.insert-else-stands_before.new.nodes cut c.requires.low w.if-index-root.false (sym w.stands_before.ensures ∙ w.if-stands_before.false) w.insert-else-stands_before.ensures.entries w.insert-else-stands_before.ensures.summed)
-    ] in
-    record { left = put.left_summed; right = put.right_summed }
+    let root = record c.raise.new.root { is_live = true } in
+    let here = c.if-index-root.true ∙ ap (λ (e : Entry). e.index) c.raise.ensures.entry in
+    let put = IsPut-root whole index low nodes l r s root cut c.requires.low here (ap (λ (e : Entry). record e { is_live = true }) c.raise.ensures.entry) in
+    let all = mapped whole (inserted index) nodes l s l s r root cut put.left_put put.root_put put.right_put in
+    let again = greatest_put whole index high nodes l r s l root s cut c.requires.high c.requires.there c.raise.ensures.greatest all in
+    record { entries = all; summed = summed_again whole (inserted index) nodes l s l s r root cut put.left_put put.right_put put.left_summed put.right_summed again }
 
-pub returns : goal.returns
-returns g t c =
+pub returns-then-stands_before : goal.returns-then-stands_before
+returns-then-stands_before g t c =
     let whole = g.I.OverlayInt.whole in
     let nodes = c.args.nodes.now in
     let l = c.split_at_mut-left.result.0.now in
     let r = c.in-Some.root.now in
     let s = c.in-Some.right.now in
+    let index = c.args.index in
+    let low = whole c.args.low in
+    let high = whole c.args.high in
     let cut = IsCut-from whole nodes l c.split_at_mut-left.result.1.now r s c.split_at_mut-left.ensures.value c.in-Some.ensures.cases.0 c.split_at_mut-left.ensures.front_len c.requires.rising c.requires.summed in
-    let put : IsPut whole c.args.index l r s c.if-index-root.left c.if-index-root.root c.if-index-root.right = elim c.if-index-root.branch [
-      | then-index-root w ↦ rw (w.left-is, w.root-is, w.right-is) (IsPut-root whole c.args.index (whole c.args.low) nodes l r s _ cut c.requires.low w.if-index-root.true refl)
-      | else-index-root+then-stands_before w ↦ rw (w.left-is, w.root-is, w.right-is) (IsPut-left whole c.args.index (whole c.args.low) nodes l r s w.insert.new.nodes cut c.requires.low (sym w.stands_before.ensures ∙ w.if-stands_before.true) w.insert.ensures.entries w.insert.ensures.summed)
-      | else-index-root+else-stands_before w ↦ rw (w.left-is, w.root-is, w.right-is) (IsPut-right whole c.args.index (whole c.args.low) nodes l r s w.insert-else-stands_before.new.nodes cut c.requires.low w.if-index-root.false (sym w.stands_before.ensures ∙ w.if-stands_before.false) w.insert-else-stands_before.ensures.entries w.insert-else-stands_before.ensures.summed)
-    ] in
-    let root_put = c.update_greatest.ensures.entry ∙ put.root_put in
-    let again : AllByRecursion (Reaches (greatest_of whole c.update_greatest.new.root.greatest)) (entries (nodes_of whole c.if-index-root.left) ++ entry_of whole c.update_greatest.new.root ∷ entries (nodes_of whole c.if-index-root.right)) =
-    rw c.update_greatest.ensures.entry c.update_greatest.ensures.reached in
-    record {
-      entries = mapped whole (inserted c.args.index) nodes l s c.if-index-root.left c.if-index-root.right r c.update_greatest.new.root cut put.left_put root_put put.right_put;
-      summed = summed_again whole (inserted c.args.index) nodes l s c.if-index-root.left c.if-index-root.right r c.update_greatest.new.root cut put.left_put put.right_put put.left_summed put.right_summed again;
-    }
+    let before = ap (is_before low index) (sym c.raise.ensures.entry) ∙ sym c.stands_before.ensures ∙ c.if-stands_before.true in
+    let put = IsPut-left whole index low nodes l r s c.insert.new.nodes c.raise.new.root cut c.requires.low c.raise.ensures.entry before c.insert.ensures.entries c.insert.ensures.summed in
+    let all = mapped whole (inserted index) nodes l s c.insert.new.nodes s r c.raise.new.root cut put.left_put put.root_put put.right_put in
+    let again = greatest_put whole index high nodes l r s c.insert.new.nodes c.raise.new.root s cut c.requires.high c.requires.there c.raise.ensures.greatest all in
+    record { entries = all; summed = summed_again whole (inserted index) nodes l s c.insert.new.nodes s r c.raise.new.root cut put.left_put put.right_put put.left_summed put.right_summed again }
+
+pub returns-else-stands_before : goal.returns-else-stands_before
+returns-else-stands_before g t c =
+    let whole = g.I.OverlayInt.whole in
+    let nodes = c.args.nodes.now in
+    let l = c.split_at_mut-left.result.0.now in
+    let r = c.in-Some.root.now in
+    let s = c.in-Some.right.now in
+    let index = c.args.index in
+    let low = whole c.args.low in
+    let high = whole c.args.high in
+    let cut = IsCut-from whole nodes l c.split_at_mut-left.result.1.now r s c.split_at_mut-left.ensures.value c.in-Some.ensures.cases.0 c.split_at_mut-left.ensures.front_len c.requires.rising c.requires.summed in
+    let before = ap (is_before low index) (sym c.raise.ensures.entry) ∙ sym c.stands_before.ensures ∙ c.if-stands_before.false in
+    let other = λ (k : index ≡ r.index). c.if-index-root.false (k ∙ ap (λ (e : Entry). e.index) (sym c.raise.ensures.entry)) in
+    let put = IsPut-right whole index low nodes l r s c.raise.new.root c.insert-else-stands_before.new.nodes cut c.requires.low c.raise.ensures.entry other before c.insert-else-stands_before.ensures.entries c.insert-else-stands_before.ensures.summed in
+    let all = mapped whole (inserted index) nodes l s l c.insert-else-stands_before.new.nodes r c.raise.new.root cut put.left_put put.root_put put.right_put in
+    let again = greatest_put whole index high nodes l r s l c.raise.new.root c.insert-else-stands_before.new.nodes cut c.requires.high c.requires.there c.raise.ensures.greatest all in
+    record { entries = all; summed = summed_again whole (inserted index) nodes l s l c.insert-else-stands_before.new.nodes r c.raise.new.root cut put.left_put put.right_put put.left_summed put.right_summed again }

@@ -1,9 +1,8 @@
-use Rattle.std.proofs.Common.{◌≡◌, sym, ap, subst, ◌∙◌, ◌/◌, length, get_or}
-use Rattle.std.specs.List.{AllByRecursion}
+use Rattle.std.proofs.Common.{◌≡◌, ◌<◌, sym, ap, ◌∙◌, ◌/◌, length, get_or, arith}
 use Rattle.std.proofs.lemmas.List.{get_or-map, length-map}
-use Rattle.overlay_split.specs.IntervalTree.{TreeNode, Reaches, entries}
+use Rattle.overlay_split.specs.IntervalTree.{TreeNode}
 use Rattle.overlay_split.specs.NodeOf.{node_of, nodes_of}
-use Rattle.overlay_split.proofs.laws.IntervalTrees.{middle_reaches}
+use Rattle.overlay_split.proofs.laws.IntervalTrees.{middle_is_greatest}
 use Rattle.overlay_split.proofs.split.interval_tree.greatest_in.Goals as goal
 
 pub returns-in-Some : goal.returns-in-Some
@@ -16,4 +15,5 @@ returns-in-Some g c =
     let at : get_or (nodes_of whole nodes) (length nodes / 2) (node_of whole root) ≡ node_of whole root =
     get_or-map (node_of whole) nodes (length nodes / 2) root (node_of whole root) there.0 ∙ ap (node_of whole) (sym (there.1 root)) in
     let is = ap (λ n. get_or (nodes_of whole nodes) (n / 2) (node_of whole root)) same ∙ at in
-    subst (λ (t : TreeNode). AllByRecursion (Reaches t.greatest) (entries (nodes_of whole nodes))) is (middle_reaches (nodes_of whole nodes) (node_of whole root) c.requires)
+    let some : 0 < length (nodes_of whole nodes) = omega (arith, same, there.0) in
+    ap (λ (t : TreeNode). t.greatest) (sym is) ∙ middle_is_greatest (nodes_of whole nodes) (node_of whole root) c.requires some
