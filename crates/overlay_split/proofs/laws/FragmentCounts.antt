@@ -80,7 +80,7 @@ length-swept ps es j swept =
     sym (length-map es unlive) ∙ length_permuted (unswept ps) (map unlive es) swept.base ∙ length-map-range_with_len (entry_at ps) 0 (length ps)
 
 -- so where as many are left, it stays within what may be taken up
-pub stays_within : (old most limit now next taken len : ℕ) → limit ≡ min (old + most) (2 ^ 128 - 1) → now ≤ old + most → next ≤ now + taken → taken ≤ len → len ≤ limit - now → next ≤ old + most
+pub stays_within : (old most limit now next taken len : ℕ) → limit ≡ min (old + most) (2 ^ 128 - 1) → now ≤ old + most → next ≡ min (now + taken) (2 ^ 128 - 1) → taken ≤ len → len ≤ limit - now → next ≤ old + most
 stays_within old most limit now next taken len l n h t r = omega arith
 
 -- ---- a tree first, and then the grid

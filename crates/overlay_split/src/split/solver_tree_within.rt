@@ -59,7 +59,7 @@ pub fn find_marks_within<C: WindingCount, I: OverlayInt, D: Copy>(
         if mark_with_found(segments, found, index, placing, marks)? {
             rounded = true;
         }
-        insert(nodes, heights.min, index);
+        insert(nodes, heights.min, heights.max, index);
     }
     marks.sort()?;
     marks.dedup();

@@ -9,7 +9,7 @@ use Rattle.overlay_split.specs.PlacingOf.{placing_of}
 use Rattle.overlay_split.specs.MarkOf.{marks_of}
 use Rattle.overlay_split.specs.NodeOf.{nodes_of}
 use Rattle.std.proofs.lemmas.List.Sums.{count_by-le-length}
-use Rattle.overlay_split.specs.IntervalTree.{WholeQuery, IsAt, entries, found, is_taken_up}
+use Rattle.overlay_split.specs.IntervalTree.{WholeQuery, IsAt, IsUpTo, entries, found, is_taken_up}
 use Rattle.overlay_split.specs.Swept.{pair_at}
 use Rattle.overlay_split.proofs.laws.FoundMarks.{or_true, or_false}
 use Rattle.overlay_split.proofs.laws.FoundEach.{some_cross_inexactly-is}
@@ -25,7 +25,7 @@ pub loop-index-init : goal.loop-index-init
 loop-index-init g c =
     let whole = g.I.OverlayInt.whole in
     let ps = pairs (segments_of c.args.segments.now) in
-    let start = IsUnderWay-start (placing_of c.args.placing) ps (nodes_of whole c.build.new.nodes.items) c.args.looked.now c.in_ok-build.ensures.rising c.in_ok-build.ensures.summed c.in_ok-build.ensures.listed in
+    let start = IsUnderWay-start (placing_of c.args.placing) ps (nodes_of whole c.build.new.nodes.items) c.args.looked.now (omega arith) c.in_ok-build.ensures.rising c.in_ok-build.ensures.summed c.in_ok-build.ensures.listed in
     rw (c.as_mut_slice-nodes.ensures.value, c.clear.ensures.items) (record { way = start; within = omega arith })
 
 pub mark_with_found-requires-clause-found : goal.mark_with_found-requires-clause-found
@@ -41,7 +41,7 @@ insert-requires-clause-rising g c =
     let whole = g.I.OverlayInt.whole in
     let q : WholeQuery = record { low = whole c.y_range-heights.result.min; high = whole c.y_range-heights.result.max; x = whole c.x_segment-later.result.a.x } in
     let way = c.loop-index.invariant.way in
-    let ready = IsReady-from (pairs (segments_of c.args.segments.now)) (entries (nodes_of whole c.loop-index.nodes)) (entries (nodes_of whole c.look_up.new.nodes)) c.loop-index.index q way.swept c.in_ok-look_up.ensures.entries in
+    let ready = IsReady-from (pairs (segments_of c.args.segments.now)) (entries (nodes_of whole c.loop-index.nodes)) (entries (nodes_of whole c.look_up.new.nodes)) c.loop-index.index q way.swept (omega (arith, length-pairs c.args.segments.now, c.loop-index-test.true)) c.in_ok-look_up.ensures.entries in
     ready.rising
 
 pub insert-requires-clause-low : goal.insert-requires-clause-low
@@ -54,8 +54,29 @@ insert-requires-clause-low g c =
     let q : WholeQuery = record { low = whole c.y_range-heights.result.min; high = whole c.y_range-heights.result.max; x = whole c.x_segment-later.result.a.x } in
     let is : q ≡ query_at ps j = query_is ps j t (range_of whole c.y_range-heights.result) here c.y_range-heights.ensures in
     let way = c.loop-index.invariant.way in
-    let ready = IsReady-from ps (entries (nodes_of whole c.loop-index.nodes)) (entries (nodes_of whole c.look_up.new.nodes)) j q way.swept c.in_ok-look_up.ensures.entries in
+    let ready = IsReady-from ps (entries (nodes_of whole c.loop-index.nodes)) (entries (nodes_of whole c.look_up.new.nodes)) j q way.swept (omega (arith, length-pairs c.args.segments.now, c.loop-index-test.true)) c.in_ok-look_up.ensures.entries in
     subst (λ (p : WholeQuery). AllByRecursion (IsAt j p.low) (entries (nodes_of whole c.look_up.new.nodes))) (sym is) ready.low
+
+pub insert-requires-clause-high : goal.insert-requires-clause-high
+insert-requires-clause-high g c =
+    let whole = g.I.OverlayInt.whole in
+    let ps = pairs (segments_of c.args.segments.now) in
+    let t = pair_of whole c.x_segment-later.result in
+    let j = c.loop-index.index in
+    let here : pair_at ps j ≡ t = pair_at-is c.args.segments.now j c.index-segments-index.result c.loop-index-test.true c.index-segments-index.is ∙ ap (pair_of whole) (sym c.x_segment-later.ensures) in
+    let q : WholeQuery = record { low = whole c.y_range-heights.result.min; high = whole c.y_range-heights.result.max; x = whole c.x_segment-later.result.a.x } in
+    let is : q ≡ query_at ps j = query_is ps j t (range_of whole c.y_range-heights.result) here c.y_range-heights.ensures in
+    let way = c.loop-index.invariant.way in
+    let ready = IsReady-from ps (entries (nodes_of whole c.loop-index.nodes)) (entries (nodes_of whole c.look_up.new.nodes)) j q way.swept (omega (arith, length-pairs c.args.segments.now, c.loop-index-test.true)) c.in_ok-look_up.ensures.entries in
+    subst (λ (p : WholeQuery). AllByRecursion (IsUpTo j p.high) (entries (nodes_of whole c.look_up.new.nodes))) (sym is) ready.high
+
+pub insert-requires-clause-there : goal.insert-requires-clause-there
+insert-requires-clause-there g c =
+    let whole = g.I.OverlayInt.whole in
+    let q : WholeQuery = record { low = whole c.y_range-heights.result.min; high = whole c.y_range-heights.result.max; x = whole c.x_segment-later.result.a.x } in
+    let way = c.loop-index.invariant.way in
+    let ready = IsReady-from (pairs (segments_of c.args.segments.now)) (entries (nodes_of whole c.loop-index.nodes)) (entries (nodes_of whole c.look_up.new.nodes)) c.loop-index.index q way.swept (omega (arith, length-pairs c.args.segments.now, c.loop-index-test.true)) c.in_ok-look_up.ensures.entries in
+    ready.there
 
 pub loop-index-preserved : goal.loop-index-preserved
 loop-index-preserved g c =
