@@ -532,6 +532,24 @@ fn colors_of_an_overlap(rt: HostRuntime) -> Result<(), Fail> {
     Ok(())
 }
 
+/// Parallel lines whose boxes meet: more pairs of boxes than there are fragments, so that no tree does for them.
+#[test]
+fn parallel_lines(rt: HostRuntime) -> Result<(), Fail> {
+    for strategy in STRATEGIES {
+        let mut list: Vec<Segment<ShapeCountBoolean, i32, ()>> = Vec::new(rt.alloc());
+        for line in 0..200_u16 {
+            let y = 40 * i64::from(line);
+            list.push(segment(&rt, ((0, y), (4000, y + 4000), 1)))?;
+        }
+        let solver = Solver::with_strategy_and_precision(strategy, Precision::HIGH);
+        let mut splitter = SplitSolver::new(rt.alloc());
+        assert!(rt; is_splittable(&list));
+        assert_eq!(rt; splitter.split_segments(&mut list, &solver), Ok(false));
+        assert_eq!(rt; (splitter.passes(), list.len()), (1, 200));
+    }
+    Ok(())
+}
+
 #[test]
 fn slivers_need_many_passes(rt: HostRuntime) -> Result<(), Fail> {
     assert_eq!(rt; slivers(&rt, 1, 0, Precision::HIGH)?, (278, 282));
