@@ -30,8 +30,11 @@ impl<I: OverlayInt> GridLayout<I> {
     ghost use Rattle.overlay_split.specs.Grid.{IsLayout, IsLayoutOf, IsTooNarrow, column_index, pos_of, group_count};
     ghost use Rattle.overlay_split.specs.FragmentOf.{layout_of};
 
-    /// The columns over segments in order and in range, for that many of them: from the first one's start to the greatest
-    /// `x` of an end. `None` where these are less than 4 apart.
+    /// The columns over segments, from the first one's start to the greatest `x` of an end, for that many segments: of a
+    /// number n there are about as many columns as its root. `None` where these `x` are less than 4 apart.
+    ///
+    /// At least one segment has to be given, and each has to be in range, ordered as by `sort_by_ab` if all are to lie
+    /// inside; the number has to be at least 1.
     pub fn new(segments: &[XSegment<I>], count: usize) -> Option<Self>
         requires some { 0 < length segments.now }
         requires in_range { All (λ s. IsPairInRange I.whole I.MIN_COORD I.MAX_COORD s) segments.now }
@@ -48,7 +51,7 @@ impl<I: OverlayInt> GridLayout<I> {
         GridLayout::with_min_max(a.x, max_x, count.ilog2() / 2)
     }
 
-    /// The same over a list of segments, for as many as it has.
+    /// The same over a list of segments, for as many as it has: at least one, each in range.
     pub fn over_list<C: WindingCount, D: Copy>(segments: &[Segment<C, I, D>]) -> Option<Self>
         requires some { 0 < length segments.now }
         requires in_range { All (λ s. IsPairInRange I.whole I.MIN_COORD I.MAX_COORD (x_segment_of s)) segments.now }
@@ -64,8 +67,9 @@ impl<I: OverlayInt> GridLayout<I> {
         GridLayout::with_min_max(a.x, max_x, segments.len().ilog2() / 2)
     }
 
-    /// The columns from one `x` to another, both in range, of which there are at most about `2 ^ max_power`. `None` where
-    /// the two are less than 4 apart.
+    /// The columns from one `x` to another, both in range. Their width is a power of two: of them as many fit between the
+    /// two as `2 ^ max_power`, and less than twice as many, but they are at least 2 wide. `None` where the two are less
+    /// than 4 apart.
     pub fn with_min_max(min_x: I, max_x: I, max_power: u32) -> Option<Self>
         requires from { IsTrue (is_coordinate (I.whole I.MIN_COORD) (I.whole I.MAX_COORD) (I.whole min_x)) }
         requires to { IsTrue (is_coordinate (I.whole I.MIN_COORD) (I.whole I.MAX_COORD) (I.whole max_x)) }
@@ -84,7 +88,7 @@ impl<I: OverlayInt> GridLayout<I> {
         })
     }
 
-    /// The column in which an `x` of the grid lies.
+    /// The column in which an `x` lies, from 0. The `x` has to lie from the least of the grid to the greatest.
     pub fn index(&self, x: I) -> usize
         requires from { I.whole self.now.min_x ≤ℤ I.whole x }
         requires to { I.whole x ≤ℤ I.whole self.now.max_x }
@@ -94,7 +98,7 @@ impl<I: OverlayInt> GridLayout<I> {
         offset >> self.power
     }
 
-    /// The column of the whole number before an `x` of the grid that is not its least.
+    /// The column of the whole number before an `x`, which has to lie above the least of the grid, up to the greatest.
     pub fn index_before(&self, x: I) -> usize
         requires from { I.whole self.now.min_x <ℤ I.whole x }
         requires to { I.whole x ≤ℤ I.whole self.now.max_x }
