@@ -54,7 +54,8 @@ pub fn find_marks<C: WindingCount, I: OverlayInt, D: Copy>(
     requires radius { HasRadius placing }
     ensures marks { OnOk result (AreMarks (placing_of placing) (segments_of segments.now) (marks_of I.whole marks.new.items)) }
     ensures rounded { IfOk result (λ rounded. rounded ≡ is_rounded (segments_of segments.now)) }
-    ensures looked { OnOk result (looked.new ≡ min (looked.old + count_twos x_ranges_meet (pairs (segments_of segments.now))) (2 ^ 128 - 1)) }
+    ensures looked { OnOk result (looked.new
+        ≡ min (looked.old + count_twos x_ranges_meet (pairs (segments_of segments.now))) (2 ^ 128 - 1)) }
     ensures fault { IfErr result (λ fault. fault ≡ Memory) }
 {
     let _looked = *looked;
@@ -85,7 +86,9 @@ fn mark_with_later<C: WindingCount, I: OverlayInt, D: Copy>(
     requires radius { HasRadius placing }
     ensures marks { OnOk result (marks_of I.whole marks.new.items ≡ marks_of I.whole marks.old.items ++ marks_of_first (placing_of placing) index (drop index (pairs (segments_of segments.now)))) }
     ensures rounded { IfOk result (λ rounded. rounded ≡ first_crosses_inexactly (drop index (pairs (segments_of segments.now)))) }
-    ensures looked { OnOk result (looked.new ≡ min (looked.old + count_by (x_ranges_meet (pair_at (pairs (segments_of segments.now)) index)) (drop (index + 1) (pairs (segments_of segments.now)))) (2 ^ 128 - 1)) }
+    ensures looked { OnOk result (looked.new ≡
+        (let ps = pairs (segments_of segments.now) in
+        min (looked.old + count_by (x_ranges_meet (pair_at ps index)) (drop (index + 1) ps)) (2 ^ 128 - 1))) }
 {
     let _looked = *looked;
     let target = segments[index].x_segment();
