@@ -1,10 +1,12 @@
 #!/usr/bin/env python3
-"""Times `arrange split strategy=list` on segments of four kinds.
+"""Times `arrange split` under the list and under the tree, on segments of four kinds.
 
 Usage, from the top of the repository: python3 bench/split.py [NUMBER ..]
 
-Each kind is made of the given numbers of segments (1,000, 4,000 and 16,000 if none are given), and for each run one
-line is printed: kind, segments given, segments answered, passes, seconds.
+Each kind is made of the given numbers of segments (1,000, 4,000, 16,000 and 50,000 if none are given). For each one line
+is printed: kind, segments given, segments answered, passes, and the user time in seconds, the least of three runs: of
+`join`, which reads, sorts, merges and prints as many, and of `split` with `strategy=list` and `strategy=tree`. A run over
+the list that takes longer than ten seconds is made once. The answers of both have to be the same.
 
 - random: short segments at random places, so that each meets a few others;
 - horizontal: segments one above another, none of which meet, all with one range of x: one scan of all pairs;
@@ -13,9 +15,9 @@ line is printed: kind, segments given, segments answered, passes, seconds.
 """
 import os
 import random
+import resource
 import subprocess
 import sys
-import time
 
 LIMIT = 500_000
 PROGRAM = os.path.join("crates", "arrange", "out", "arrange")
@@ -71,19 +73,36 @@ def build():
                    stdout=subprocess.DEVNULL, check=True)
 
 
+def run(words, text):
+    """What the program prints, and its user time in seconds."""
+    before = resource.getrusage(resource.RUSAGE_CHILDREN).ru_utime
+    printed = subprocess.run([PROGRAM, *words], input=text, text=True, capture_output=True, check=True).stdout
+    return printed, resource.getrusage(resource.RUSAGE_CHILDREN).ru_utime - before
+
+
+def least(words, text):
+    printed, seconds = run(words, text)
+    if seconds <= 10:
+        seconds = min(seconds, *(run(words, text)[1] for _ in range(2)))
+    return printed, seconds
+
+
 def measure(kind, number):
     text = "\n".join(KINDS[kind](number)) + "\n"
-    start = time.perf_counter()
-    run = subprocess.run([PROGRAM, "split", "strategy=list"], input=text, text=True, capture_output=True, check=True)
-    seconds = time.perf_counter() - start
-    lines = run.stdout.splitlines()
-    print(f"{kind:10} {number:6} {len(lines) - 2:8} {lines[-1].split()[1]:>3} {seconds:8.2f}", flush=True)
+    _, by_join = least(["join"], text)
+    listed, by_list = least(["split", "strategy=list"], text)
+    found, by_tree = least(["split", "strategy=tree"], text)
+    if listed != found:
+        sys.exit(f"{kind} {number}: the list and the tree answer differently")
+    lines = found.splitlines()
+    passes = lines[-1].split()[1]
+    print(f"{kind:10} {number:6} {len(lines) - 2:8} {passes:>6} {by_join:8.3f} {by_list:8.3f} {by_tree:8.3f}", flush=True)
 
 
 def main():
-    numbers = [int(word) for word in sys.argv[1:]] or [1_000, 4_000, 16_000]
+    numbers = [int(word) for word in sys.argv[1:]] or [1_000, 4_000, 16_000, 50_000]
     build()
-    print("kind        given   pieces passes  seconds")
+    print("kind        given   pieces passes     join     list     tree")
     for kind in KINDS:
         for number in numbers:
             measure(kind, number)

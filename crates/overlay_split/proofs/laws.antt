@@ -51,6 +51,7 @@ pub mod TreeCuts
 pub mod Sweeps
 pub mod TreeBuilds
 pub mod LookCounts
+pub mod ListLooks
 pub mod SweptMarks
 pub mod TreeFinder
 pub mod RunLooks

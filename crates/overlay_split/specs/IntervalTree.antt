@@ -90,5 +90,5 @@ IsUpTo index high e = e.index ≡ index → e.high ≡ high
 -- the live entries of its subtree.
 pub data IsSummed : List TreeNode → Type 0 where
   none : IsSummed []
-  rooted : (nodes left right : List TreeNode) (root : TreeNode) → nodes ≡ left ++ root ∷ right → length left ≡ length nodes / 2 →
-      IsSummed left → IsSummed right → root.greatest ≡ greatest_height (entries nodes) → IsSummed nodes
+  rooted : (nodes left right : List TreeNode) (root : TreeNode) → nodes ≡ left ++ root ∷ right →
+      length left ≡ length nodes / 2 → IsSummed left → IsSummed right → root.greatest ≡ greatest_height (entries nodes) → IsSummed nodes

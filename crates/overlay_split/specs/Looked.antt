@@ -16,6 +16,10 @@ ranges_meet u v u' v' = int_le (int_max (int_min u v) (int_min u' v')) (int_min 
 unfoldable pub boxes_meet : Pair → Pair → Bool
 boxes_meet s t = ranges_meet s.a.x s.b.x t.a.x t.b.x && ranges_meet s.a.y s.b.y t.a.y t.b.y
 
+-- whether the ranges in x alone meet
+unfoldable pub x_ranges_meet : Pair → Pair → Bool
+x_ranges_meet s t = ranges_meet s.a.x s.b.x t.a.x t.b.x
+
 -- a pass of the tree takes up each two whose boxes meet, and each segment once more, where it is dropped
 unfoldable pub tree_looks : List Pair → ℕ
 tree_looks segments = length segments + count_twos boxes_meet segments

@@ -98,7 +98,7 @@ meet s t hs ht a b c d =
     and_from _ _ (le_from (int_max (int_min s.a.x s.b.x) (int_min t.a.x t.b.x)) (int_min (int_max s.a.x s.b.x) (int_max t.a.x t.b.x)) (omega (arith, ints, clamps)))
     (le_from (int_max (int_min s.a.y s.b.y) (int_min t.a.y t.b.y)) (int_min (int_max s.a.y s.b.y) (int_max t.a.y t.b.y)) (omega (arith, ints, clamps)))
 
-ordered_x : (s : Pair) → IsTrue (is_ordered s) → s.a.x ≤ℤ s.b.x
+pub ordered_x : (s : Pair) → IsTrue (is_ordered s) → s.a.x ≤ℤ s.b.x
 ordered_x s h = elim (before s.a s.b h) [ inl less ↦ omega (arith, ints) | inr same ↦ let e = same.0 in omega (arith, ints) ]
 
 -- whether an entry is that of a pair before the one at an index whose box meets that one's

@@ -6,6 +6,7 @@ use Rattle.std.proofs.lemmas.List.{map-append, length-map}
 use Rattle.overlay_split.specs.IntervalTree.{Entry, TreeNode, entries, AreRising, further, greatest_height, IsSummed, WholeQuery, is_reached, is_taken_up, is_dropped, left_by, found, inserted, IsAt, IsUpTo}
 use Rattle.overlay_split.specs.NodeOf.{entry_of, node_of, nodes_of, greatest_of}
 use Rattle.overlay_split.specs.declared.split.interval_tree.Node.{Node}
+use Rattle.overlay_split.proofs.laws.FoundMarks.{or_false, or_assoc}
 use Rattle.overlay_split.proofs.laws.IntervalTrees.{IsRooted, IsRooted-from, IsSummed-from, entries-parts, AreParted, AreParted-from, IsNotTaken, none_reached, none_above, none_dropped, none_found, found-append, count_by-append, is_before, none_inserted, none_after, none_before, none_other_after, none_other_before, not_here, none_counted, none_is_dropped, all_kept, is_of, greatest_height-inserted, none_of}
 use Rattle.std.proofs.lemmas.Bool.{or_right, eq-eqb, eqb-true, false_from_ne_true}
 use Rattle.std.proofs.lemmas.List.Folds.{list_any-append}
@@ -17,14 +18,6 @@ none_more m c w h e = omega arith
 
 twice : (m a b c w : ℕ) → c ≡ a + b → min (min (m + a) w + b) w ≡ min (m + c) w
 twice m a b c w e = omega arith
-
-or_false : (a : Bool) → (a || false) ≡ a
-or_false true = refl
-or_false false = refl
-
-or_assoc : (a b c : Bool) → ((a || b) || c) ≡ (a || (b || c))
-or_assoc true b c = refl
-or_assoc false b c = refl
 
 module _ {I : Type 0} (whole : I → ℤ) where
   -- the entries of nodes
@@ -117,7 +110,7 @@ module _ {I : Type 0} (whole : I → ℤ) where
         summed = cut.rooted.right_summed;
         found_in = sym (append-nil before) ∙ ap (λ (ns : List ℕ). before ++ ns) (sym (none_found q (entry_of whole r ∷ entries_in s) off));
         looked_at = none_more m _ (2 ^ 128 - 1) fits (none_counted q (entry_of whole r ∷ entries_in s) off);
-        dropped_in = sym (ap (λ (b : Bool). d || b) (none_is_dropped q (entry_of whole r ∷ entries_in s) off) ∙ or_false d);
+        dropped_in = sym (ap (λ (b : Bool). d || b) (none_is_dropped q (entry_of whole r ∷ entries_in s) off) ∙ sym (or_false d));
       }
 
   -- they are looked at
@@ -204,7 +197,7 @@ module _ {I : Type 0} (whole : I → ℤ) where
   there_left index low nodes l r s cut h is there =
       let at = AreAt-from index low nodes l r s cut h in
       let off = none_of index (entry_of whole r ∷ entries_in s) (none_after low index (entry_of whole r) (entries_in s) is cut.parted.after (at.root_at, at.right_at)) in
-      sym (or_false (list_any (is_of index) (entries_in l))) ∙ ap (λ (b : Bool). list_any (is_of index) (entries_in l) || b) (sym off)
+      or_false (list_any (is_of index) (entries_in l)) ∙ ap (λ (b : Bool). list_any (is_of index) (entries_in l) || b) (sym off)
       ∙ sym (ap (list_any (is_of index)) cut.listed ∙ list_any-append (is_of index) (entries_in l) (entry_of whole r ∷ entries_in s)) ∙ there
 
   pub there_right : (index : ℕ) (low : ℤ) (nodes l : List (Node I)) (r : Node I) (s : List (Node I)) → IsCut nodes l r s → AllByRecursion (IsAt index low) (entries_in nodes) → (index ≡ r.index → ⊥) → is_before low index (entry_of whole r) ≡ false →

@@ -1,8 +1,10 @@
 // A tree over the heights of segments that are met by a sweep, for look-ups by a range of heights.
 // It stands in one list: the root in the middle, its subtrees before and after it.
-ghost use Rattle.std.specs.Prelude.{◌≡◌, ◌+◌, ◌-◌, ◌^◌, ◌++◌, [], ◌∷◌, IfOk, IsFalse, OnOk, Some, int_lt, nat_lt, min, not, ◌&&◌, ◌||◌, ◌==◌, map, count_by, true};
+ghost use Rattle.std.specs.Prelude.{◌≡◌, ◌+◌, ◌-◌, ◌^◌, ◌==◌, ◌++◌, [], ◌∷◌, map, count_by, min, int_lt, nat_lt};
+ghost use Rattle.std.specs.Prelude.{true, not, ◌&&◌, ◌||◌, IsFalse, Some, IfOk, OnOk};
 ghost use Rattle.std.specs.List.{AllByRecursion, list_any};
-ghost use Rattle.overlay_split.specs.IntervalTree.{AreRising, IsSummed, entries, found, further, greatest_height, inserted, is_dropped, is_reached, is_taken_up, left_by, IsAt, IsUpTo};
+ghost use Rattle.overlay_split.specs.IntervalTree.{AreRising, IsSummed, IsAt, IsUpTo, entries, greatest_height, further};
+ghost use Rattle.overlay_split.specs.IntervalTree.{found, inserted, is_dropped, is_reached, is_taken_up, left_by};
 ghost use Rattle.overlay_split.specs.NodeOf.{entry_of, greatest_of, node_of, nodes_of, query_of};
 
 use crate::split::looks::take_up;
@@ -38,11 +40,15 @@ pub fn look_up<I: OverlayInt>(
 ) -> Result<bool, AllocError>
     requires rising { AreRising (entries (nodes_of I.whole nodes.old)) }
     requires summed { IsSummed (nodes_of I.whole nodes.old) }
-    ensures entries { OnOk result (entries (nodes_of I.whole nodes.new) ≡ map (left_by (query_of I.whole query.now)) (entries (nodes_of I.whole nodes.old))) }
+    ensures entries { OnOk result (entries (nodes_of I.whole nodes.new)
+        ≡ map (left_by (query_of I.whole query.now)) (entries (nodes_of I.whole nodes.old))) }
     ensures summed { OnOk result (IsSummed (nodes_of I.whole nodes.new)) }
-    ensures found { OnOk result (indexes.new.items ≡ indexes.old.items ++ found (query_of I.whole query.now) (entries (nodes_of I.whole nodes.old))) }
-    ensures looked { OnOk result (looked.new ≡ min (looked.old + count_by (is_taken_up (query_of I.whole query.now)) (entries (nodes_of I.whole nodes.old))) (2 ^ 128 - 1)) }
-    ensures dropped { IfOk result (λ dropped. dropped ≡ list_any (is_dropped (query_of I.whole query.now)) (entries (nodes_of I.whole nodes.old))) }
+    ensures found { OnOk result (indexes.new.items
+        ≡ indexes.old.items ++ found (query_of I.whole query.now) (entries (nodes_of I.whole nodes.old))) }
+    ensures looked { OnOk result (looked.new
+        ≡ min (looked.old + count_by (is_taken_up (query_of I.whole query.now)) (entries (nodes_of I.whole nodes.old))) (2 ^ 128 - 1)) }
+    ensures dropped { IfOk result (λ dropped. dropped
+        ≡ list_any (is_dropped (query_of I.whole query.now)) (entries (nodes_of I.whole nodes.old))) }
 {
     let _looked = *looked;
     let (left, rest) = nodes.split_at_mut(nodes.len() / 2);
@@ -90,8 +96,10 @@ fn look_at<I: OverlayInt>(
     requires low { IsFalse (int_lt (I.whole query.now.heights.max) (I.whole node.old.low)) }
     ensures entry { OnOk result (entry_of I.whole node.new ≡ left_by (query_of I.whole query.now) (entry_of I.whole node.old)) }
     ensures greatest { OnOk result (node.new.greatest ≡ node.old.greatest) }
-    ensures found { OnOk result (indexes.new.items ≡ indexes.old.items ++ found (query_of I.whole query.now) (entry_of I.whole node.old ∷ [])) }
-    ensures looked { OnOk result (looked.new ≡ min (looked.old + count_by (is_taken_up (query_of I.whole query.now)) (entry_of I.whole node.old ∷ [])) (2 ^ 128 - 1)) }
+    ensures found { OnOk result (indexes.new.items
+        ≡ indexes.old.items ++ found (query_of I.whole query.now) (entry_of I.whole node.old ∷ [])) }
+    ensures looked { OnOk result (looked.new
+        ≡ min (looked.old + count_by (is_taken_up (query_of I.whole query.now)) (entry_of I.whole node.old ∷ [])) (2 ^ 128 - 1)) }
     ensures dropped { IfOk result (λ dropped. dropped ≡ is_dropped (query_of I.whole query.now) (entry_of I.whole node.old)) }
 {
     let _looked = *looked;
@@ -140,7 +148,8 @@ fn raise<I: OverlayInt>(root: &mut Node<I>, high: I)
 }
 
 fn stands_before<I: OverlayInt>(low: I, index: usize, node: &Node<I>) -> bool
-    ensures { result ≡ (int_lt (I.whole low) (I.whole node.now.low) || not (int_lt (I.whole node.now.low) (I.whole low)) && nat_lt index node.now.index) }
+    ensures { result ≡ (int_lt (I.whole low) (I.whole node.now.low)
+        || not (int_lt (I.whole node.now.low) (I.whole low)) && nat_lt index node.now.index) }
 {
     low < node.low || !(node.low < low) && index < node.index
 }
@@ -150,7 +159,8 @@ fn update_greatest<I: OverlayInt>(left: &[Node<I>], root: &mut Node<I>, right: &
     requires left { IsSummed (nodes_of I.whole left.now) }
     requires right { IsSummed (nodes_of I.whole right.now) }
     ensures entry { entry_of I.whole root.new ≡ entry_of I.whole root.old }
-    ensures greatest { greatest_of I.whole root.new.greatest ≡ greatest_height (entries (nodes_of I.whole left.now) ++ entry_of I.whole root.old ∷ entries (nodes_of I.whole right.now)) }
+    ensures greatest { greatest_of I.whole root.new.greatest
+        ≡ greatest_height (entries (nodes_of I.whole left.now) ++ entry_of I.whole root.old ∷ entries (nodes_of I.whole right.now)) }
 {
     let own = if root.is_live { Some(root.high) } else { None };
     root.greatest = further(greatest_in(left), further(own, greatest_in(right)));

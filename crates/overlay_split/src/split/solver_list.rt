@@ -1,5 +1,5 @@
 // The finder that looks at every two segments of a list. Upstream: `split::solver_list`.
-ghost use Rattle.std.specs.Prelude.{◌≡◌, ◌≢◌, ◌<◌, ◌+◌, ◌++◌, [], ◌∷◌, if◌then◌else◌, All, IfErr, IfOk, OnOk, IsTrue, IsFalse, IsSortedByKey, drop, length, int_lt};
+ghost use Rattle.std.specs.Prelude.{◌≡◌, ◌≢◌, ◌<◌, ◌+◌, ◌-◌, ◌^◌, min, count_by, ◌++◌, [], ◌∷◌, if◌then◌else◌, All, IfErr, IfOk, OnOk, IsTrue, IsFalse, IsSortedByKey, drop, length, int_lt};
 ghost use Rattle.overlay_base.specs.declared.segm.fault.Fault.TheVariants.{Memory};
 ghost use Rattle.overlay_base.specs.Points.{pair_cmp, pair_lt};
 ghost use Rattle.overlay_base.specs.Segments.{pairs};
@@ -12,6 +12,8 @@ ghost use Rattle.overlay_split.specs.Marks.{cross_inexactly};
 ghost use Rattle.overlay_split.specs.Pass.{is_rounded};
 ghost use Rattle.overlay_split.specs.PlacingOf.{placing_of, HasRadius};
 ghost use Rattle.overlay_split.specs.MarkOf.{AreMarks, marks_of};
+ghost use Rattle.overlay_split.specs.Looked.{count_twos, x_ranges_meet};
+ghost use Rattle.overlay_split.specs.Swept.{pair_at};
 ghost use Rattle.overlay_split.specs.Finder.{marks_at, marks_of_overlap, marks_between, marks_of_first, first_crosses_inexactly};
 
 use crate::split::cross_solver::{CrossSolver, CrossType};
@@ -52,8 +54,11 @@ pub fn find_marks<C: WindingCount, I: OverlayInt, D: Copy>(
     requires radius { HasRadius placing }
     ensures marks { OnOk result (AreMarks (placing_of placing) (segments_of segments.now) (marks_of I.whole marks.new.items)) }
     ensures rounded { IfOk result (λ rounded. rounded ≡ is_rounded (segments_of segments.now)) }
+    ensures looked { OnOk result (looked.new
+        ≡ min (looked.old + count_twos x_ranges_meet (pairs (segments_of segments.now))) (2 ^ 128 - 1)) }
     ensures fault { IfErr result (λ fault. fault ≡ Memory) }
 {
+    let _looked = *looked;
     marks.clear();
     let mut rounded = false;
     for index in 0..segments.len() {
@@ -81,7 +86,11 @@ fn mark_with_later<C: WindingCount, I: OverlayInt, D: Copy>(
     requires radius { HasRadius placing }
     ensures marks { OnOk result (marks_of I.whole marks.new.items ≡ marks_of I.whole marks.old.items ++ marks_of_first (placing_of placing) index (drop index (pairs (segments_of segments.now)))) }
     ensures rounded { IfOk result (λ rounded. rounded ≡ first_crosses_inexactly (drop index (pairs (segments_of segments.now)))) }
+    ensures looked { OnOk result (looked.new ≡
+        (let ps = pairs (segments_of segments.now) in
+        min (looked.old + count_by (x_ranges_meet (pair_at ps index)) (drop (index + 1) ps)) (2 ^ 128 - 1))) }
 {
+    let _looked = *looked;
     let target = segments[index].x_segment();
     let heights = target.y_range();
     let first = Indexed {

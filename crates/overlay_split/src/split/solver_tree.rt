@@ -64,7 +64,8 @@ pub fn find_marks<C: WindingCount, I: OverlayInt, D: Copy>(
     ensures marks { OnOk result (AreMarks (placing_of placing) (segments_of segments.now) (marks_of I.whole marks.new.items)) }
     ensures rounded { IfOk result (λ rounded. rounded ≡ is_rounded (segments_of segments.now)) }
     ensures looked { OnOk result (looked.new ≤ looked.old + tree_looks (pairs (segments_of segments.now))) }
-    ensures each_looked { OnOk result (min (looked.old + count_twos boxes_meet (pairs (segments_of segments.now))) (2 ^ 128 - 1) ≤ looked.new) }
+    ensures each_looked { OnOk result
+        (min (looked.old + count_twos boxes_meet (pairs (segments_of segments.now))) (2 ^ 128 - 1) ≤ looked.new) }
     ensures fault { IfErr result (λ fault. fault ≡ Memory) }
 {
     let _looked = *looked;
