@@ -2,6 +2,7 @@
 
 pub mod boolean;
 pub mod builder;
+mod entry;
 pub mod fill_handler;
 pub mod fill_strategy;
 mod fills;

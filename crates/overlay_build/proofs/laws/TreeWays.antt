@@ -1,10 +1,10 @@
 -- A way down a tree: what it leaves above a side that it has changed.
 use Rattle.std.proofs.Common.{◌≡◌, ◌≢◌, ap, ap₂, refl, sym, subst, ◌∙◌, arith, inl, inr, get_or}
-use Rattle.std.specs.Prelude.{ℕ, Bool, true, false, not, ◌+◌, ◌<◌, ◌≤◌, ◌⊎◌, max, List, [], ◌∷◌, ◌++◌, length}
+use Rattle.std.specs.Prelude.{ℕ, Bool, true, false, not, ◌+◌, ◌-◌, ◌/◌, ◌^◌, ◌<◌, ◌≤◌, ◌⊎◌, min, max, List, [], ◌∷◌, ◌++◌, length}
 use Rattle.std.proofs.lemmas.List.{append-nil}
 use Rattle.std.proofs.lemmas.Bool.{cases_lt, both_ways}
 use Rattle.overlay_build.specs.declared.build.tree_shape.TreeNode.{TreeNode}
-use Rattle.overlay_build.specs.TreeShapes.{Has, none, height_at, IsDistinct, IsTree, KeepsOthers, AreJoinable, IsJoined, IsTopRemoved, MayGoDown, IsStopped, HasLast, HasFirst, IsPlaced}
+use Rattle.overlay_build.specs.TreeShapes.{Has, none, height_at, IsDistinct, Stands, IsTree, KeepsOthers, AreJoinable, IsJoined, IsTopRemoved, MayGoDown, IsStopped, HasLast, HasFirst, IsPlaced}
 use Rattle.overlay_build.proofs.laws.TreeNodes.{Apart, apart, Has-left, Has-right, Has-parts, KeepsOthers-trans, KeepsOthers-wider}
 use Rattle.overlay_build.proofs.laws.HighSides.{assoc}
 use Rattle.overlay_build.proofs.laws.TreeTurns.{tree_within, tree_height}
@@ -376,6 +376,13 @@ module _ (nodes : List TreeNode) (at new : ℕ) (m : MayGoDown nodes at new) (n 
   pub left_lower : (parts nodes at new m n node read).left_high < m.sound.high
   left_lower = omega (arith, (parts nodes at new m n node read).height_is)
 
+  -- neither side is lower by three or more than the whole
+  pub right_deep : m.sound.high / 2 ≤ (parts nodes at new m n node read).right_high / 2 + 1
+  right_deep = omega (arith, (parts nodes at new m n node read).height_is, (parts nodes at new m n node read).left_near, (parts nodes at new m n node read).right_near)
+
+  pub left_deep : m.sound.high / 2 ≤ (parts nodes at new m n node read).left_high / 2 + 1
+  left_deep = omega (arith, (parts nodes at new m n node read).height_is, (parts nodes at new m n node read).left_near, (parts nodes at new m n node read).right_near)
+
   pub right_falls : height_at nodes node.right < height_at nodes at
   right_falls = omega (arith, right_lower, tree_height nodes node.right _ _ (parts nodes at new m n node read).right, tree_height nodes at _ _ m.sound.tree)
 
@@ -393,3 +400,13 @@ from_not_false false h = absurd (both_ways true h refl)
 pub from_not_true : (b : Bool) → not b ≡ true → b ≡ false
 from_not_true true h = absurd (both_ways false refl h)
 from_not_true false h = refl
+
+-- the orders asked on a way, one more than below
+pub asked_above : (old mid new below high : ℕ) → mid ≡ min (old + 1) (2 ^ 128 - 1) → min (mid + below / 2) (2 ^ 128 - 1) ≤ new → high / 2 ≤ below / 2 + 1 → min (old + high / 2) (2 ^ 128 - 1) ≤ new
+asked_above old mid new below high e h k = omega (arith, e, h, k)
+
+pub empty_reached : (nodes : List TreeNode) (at new : ℕ) (m : MayGoDown nodes at new) → at ≡ none → (asked : ℕ) → min (asked + m.sound.high / 2) (2 ^ 128 - 1) ≤ asked
+empty_reached nodes at new m e asked =
+    let t = m.sound.tree in
+    let low : m.sound.high ≡ 0 = sym t.height_is ∙ leaf_height nodes t.tree (subst (λ a. Stands nodes t.tree a) e t.stands) in
+    omega (arith, low)
