@@ -55,3 +55,4 @@ pub mod ScanGrowth
 pub mod ScanAnswers
 pub mod Walks
 pub mod WalkSteps
+pub mod LevelRows

@@ -20,6 +20,8 @@ mod node;
 mod nodes;
 mod place;
 pub mod scan_list;
+#[cfg(test)]
+mod scan_tests;
 pub mod scan_tree;
 pub mod sweep;
 #[cfg(test)]
