@@ -1,8 +1,8 @@
 // A balanced tree of the live segments. Upstream: `KeyExpTree` of `i_tree`.
-ghost use Rattle.std.specs.Prelude.{◌≡◌, ◌+◌, ◌/◌, ◌≤◌};
+ghost use Rattle.std.specs.Prelude.{◌≡◌, ◌+◌, ◌/◌, ◌≤◌, ◌==◌, ◌&&◌, not};
 ghost use Rattle.overlay_base.specs.VSegmentOf.{v_pair_of};
 ghost use Rattle.overlay_build.specs.PlaceOf.{IsPlaceInRange, stands_before};
-ghost use Rattle.overlay_build.specs.TreeShapes.{height_at};
+ghost use Rattle.overlay_build.specs.TreeShapes.{none, height_at};
 
 use crate::build::entry::Entry;
 use crate::build::live_segments::LiveSegments;
@@ -26,6 +26,15 @@ struct Descent {
     is_stopped: bool,
 }
 
+impl Descent {
+    /// Whether the way has left the tree as it was: it took nothing out, and there was nothing to put in.
+    fn is_same(&self, new: usize) -> bool
+        ensures { result ≡ (not self.now.is_stopped && (new == none)) }
+    {
+        !self.is_stopped && new == NONE
+    }
+}
+
 /// The live segments from below, in a balanced tree. What has ended may stay in it until a way down meets it.
 #[derive(Drop)]
 pub struct ScanTree<C: WindingCount, I: OverlayInt> {
@@ -39,7 +48,7 @@ pub struct ScanTree<C: WindingCount, I: OverlayInt> {
 impl<C: WindingCount, I: OverlayInt> ScanTree<C, I> {
     ghost use Rattle.std.specs.Prelude.{ℤ, ◌-◌, ◌^◌, ◌<◌, min, [], ◌∷◌, ◌++◌, true, false, length, IfOk, OnOk, IfErr};
     ghost use Rattle.overlay_build.specs.EntryOf.{entries_of};
-    ghost use Rattle.overlay_build.specs.TreeShapes.{none, MayGoDown, IsStopped, IsPlaced};
+    ghost use Rattle.overlay_build.specs.TreeShapes.{MayGoDown, IsStopped, IsPlaced};
     ghost use Rattle.overlay_build.specs.ScanTrees.{segment_at, lasts_past, IsScanTree, IsGrowing, IsGrown, IsAskedWithin};
 
     /// An empty tree, which takes no memory yet.
@@ -69,6 +78,7 @@ impl<C: WindingCount, I: OverlayInt> ScanTree<C, I> {
         ensures kept { self.new.kept ≡ self.old.kept }
         ensures compared { (m : MayGoDown self.old.shape.nodes.items at new) → self.new.compared ≤ self.old.compared + m.sound.high }
         ensures reached { result.is_stopped ≡ false → (m : MayGoDown self.old.shape.nodes.items at new) → min (self.old.compared + m.sound.high / 2) (2 ^ 128 - 1) ≤ self.new.compared }
+        ensures same { result.is_stopped ≡ false → new ≡ none → (self.new.shape.nodes.items ≡ self.old.shape.nodes.items) × (result.top ≡ at) }
         ensures stopped { result.is_stopped ≡ true → (m : MayGoDown self.old.shape.nodes.items at new) → IsStopped (lasts_past (I.whole x) (entries_of self.old.entries.items)) self.old.shape.nodes.items self.new.shape.nodes.items result.top m.sound.order m.sound.high }
         ensures placed { result.is_stopped ≡ false → (m : MayGoDown self.old.shape.nodes.items at new) → IsPlaced (lasts_past (I.whole x) (entries_of self.old.entries.items)) (λ i. stands_before I.whole place.now (segment_at (entries_of self.old.entries.items) i).pair) self.old.shape.nodes.items self.new.shape.nodes.items given result.last result.top m.sound.order m.placed m.sound.high }
     {
@@ -90,11 +100,15 @@ impl<C: WindingCount, I: OverlayInt> ScanTree<C, I> {
         let node = self.shape.node(at);
         if entry.is_before(place, &mut self.compared) {
             let below = self.go_down(node.right, x, place, new, at);
-            let top = self.shape.join(node.left, at, below.top);
+            let top = self
+                .shape
+                .rejoin(node.left, at, below.top, below.is_same(new));
             Descent { top, ..below }
         } else {
             let below = self.go_down(node.left, x, place, new, given);
-            let top = self.shape.join(below.top, at, node.right);
+            let top = self
+                .shape
+                .rejoin(below.top, at, node.right, below.is_same(new));
             Descent { top, ..below }
         }
     }
