@@ -1,6 +1,6 @@
 -- Rows of level segments: any two are apart, and what is live among them stays rows.
-use Rattle.std.proofs.Common.{◌≡◌, ◌∙◌, ap, sym, subst, refl, arith, inl, inr, rules}
-use Rattle.std.specs.Prelude.{ℕ, ◌+◌, ◌*◌, ◌<◌, ◌≤◌, ◌⊎◌, ℤ, pos, ◌≤ℤ◌, int_lt, Bool, true, false, ◌||◌, IsTrue, List, [], ◌∷◌}
+use Rattle.std.proofs.Common.{◌≡◌, ◌∙◌, ap, sym, subst, refl, arith, inl, inr}
+use Rattle.std.specs.Prelude.{ℕ, ◌*◌, ◌<◌, ◌⊎◌, ℤ, pos, ◌≤ℤ◌, int_lt, Bool, true, false, ◌||◌, IsTrue, List, [], ◌∷◌}
 use Rattle.std.specs.Int.{int_min, int_max}
 use Rattle.std.specs.List.{Contains}
 use Rattle.std.proofs.lemmas.Bool.{cases_lt, and_from}
@@ -12,7 +12,6 @@ use Rattle.overlay_base.specs.Ranges.{heights, is_off_range}
 use Rattle.overlay_base.proofs.laws.Apart.{are_apart-itself, apart_in_y}
 use Rattle.overlay_build.proofs.laws.ColumnLines.{lt-test}
 use Rattle.overlay_build.proofs.laws.LiveSums.{Has-from_Contains, Contains-from_Has}
-use Rattle.overlay_build.specs.ChainWindings.{is_live}
 use Rattle.overlay_build.specs.Live.{HoldSameFrom, AreFreeAt}
 use Rattle.overlay_build.specs.LevelRows.{level_pair, level_row, AreRows}
 

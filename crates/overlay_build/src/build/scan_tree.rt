@@ -38,9 +38,12 @@ impl Descent {
 /// The live segments from below, in a balanced tree. What has ended may stay in it until a way down meets it.
 #[derive(Drop)]
 pub struct ScanTree<C: WindingCount, I: OverlayInt> {
+    /// All entries since the last `clear`, those that were taken out of the tree too.
     entries: Vec<Entry<C, I>>,
+    /// A node for each entry, at the same index.
     shape: TreeShape,
     root: usize,
+    /// How many entries are in the tree.
     kept: usize,
     compared: u128,
 }

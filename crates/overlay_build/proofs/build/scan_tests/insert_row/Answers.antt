@@ -1,5 +1,4 @@
-use Rattle.std.proofs.Common.{◌≡◌, ap}
-use Rattle.std.specs.Prelude.{pos}
+use Rattle.std.proofs.Common.{ap}
 use Rattle.overlay_base.specs.Points.{Pair}
 use Rattle.overlay_build.proofs.laws.LevelRows.{row_free, row_added}
 use Rattle.overlay_build.proofs.build.scan_tests.insert_row.Goals as goal
