@@ -22,6 +22,7 @@ pub mod NodeChains
 pub mod DirectlyBelow
 pub mod Boundaries
 pub mod ScanSums
+pub mod ScanCounts
 pub mod RunSorts
 pub mod Visits
 pub mod Handling
@@ -54,3 +55,4 @@ pub mod ScanGrowth
 pub mod ScanAnswers
 pub mod Walks
 pub mod WalkSteps
+pub mod LevelRows

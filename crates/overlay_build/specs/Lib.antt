@@ -20,3 +20,4 @@ pub mod PlaceOf
 pub mod ScanTrees
 pub mod Walks
 pub mod UnusedLinks
+pub mod LevelRows

@@ -93,6 +93,12 @@ pub record IsJoined (old new : List TreeNode) (at : ℕ) (order : List ℕ) (lef
   pub at_most : (high ≤ 1 + left) ⊎ (high ≤ 1 + right)
   pub exact : left ≤ right + 1 → right ≤ left + 1 → high ≡ 1 + max left right
 
+-- `at` is the parent of both as it stands
+pub record IsParent (nodes : List TreeNode) (left at right : ℕ) : Type 0 where
+  pub node_is : node_at nodes at ≡ parent_of nodes left right
+  pub left_near : height_at nodes left ≤ height_at nodes right + 1
+  pub right_near : height_at nodes right ≤ height_at nodes left + 1
+
 -- a tree of nodes that are all different
 pub record IsSound (nodes : List TreeNode) (at : ℕ) : Type 0 where
   pub order : List ℕ

@@ -2,6 +2,7 @@
 
 pub mod boolean;
 pub mod builder;
+mod entry;
 pub mod fill_handler;
 pub mod fill_strategy;
 mod fills;
@@ -19,6 +20,8 @@ mod node;
 mod nodes;
 mod place;
 pub mod scan_list;
+#[cfg(test)]
+mod scan_tests;
 pub mod scan_tree;
 pub mod sweep;
 #[cfg(test)]

@@ -1,8 +1,9 @@
 -- Joining two trees of about one height, and which of two is too high.
-use Rattle.std.proofs.Common.{◌≡◌, ◌≢◌, ap₂, refl, sym, subst, ◌∙◌, arith, inl, inr}
+use Rattle.std.proofs.Common.{◌≡◌, ◌≢◌, ap, ap₂, refl, sym, subst, ◌∙◌, arith, inl, inr}
+use Rattle.std.proofs.lemmas.List.{set-get_or}
 use Rattle.std.specs.Prelude.{ℕ, ◌+◌, ◌^◌, ◌<◌, ◌≤◌, ◌⊎◌, max, List, [], ◌∷◌, ◌++◌, length, slice_set}
 use Rattle.overlay_build.specs.declared.build.tree_shape.TreeNode.{TreeNode}
-use Rattle.overlay_build.specs.TreeShapes.{none, fork, in_order, height, IsDistinct, height_at, parent_of, MayHaveSides, AreJoinable, IsJoined}
+use Rattle.overlay_build.specs.TreeShapes.{none, fork, in_order, height, IsDistinct, height_at, parent_of, MayHaveSides, AreJoinable, IsJoined, IsParent}
 use Rattle.overlay_build.proofs.laws.TreeNodes.{Apart, apart, ready, Stands-fork, KeepsOthers-set, KeepsOthers-wider, Has-right}
 use Rattle.overlay_build.proofs.laws.TreeTurns.{tree_height, tree_within}
 
@@ -69,3 +70,9 @@ module _ (nodes : List TreeNode) (left at right : ℕ) (j : AreJoinable nodes le
             | inl p ↦ inl (omega (arith, p, j.left_tree.height_is))
             | inr p ↦ inr (omega (arith, p, j.right_tree.height_is))
           ]
+
+-- where the node is the parent of both already
+pub parent_joined : (nodes : List TreeNode) (left at right : ℕ) (j : AreJoinable nodes left at right) → IsParent nodes left at right → IsJoined nodes nodes at (j.before ++ at ∷ j.after) j.left_height j.right_height
+parent_joined nodes left at right j p =
+    near_joined nodes left at right j (height_at nodes left) (height_at nodes right) refl refl p.left_near p.right_near nodes
+    (sym (set-get_or nodes at (record { left = 0; right = 0; height = 0 })) ∙ ap (λ (n : TreeNode). slice_set nodes at n) p.node_is)

@@ -1,6 +1,6 @@
 -- A scan tree from one way down to the next, and from one call to the next.
 use Rattle.std.proofs.Common.{◌≡◌, ap, refl, sym, subst, ◌∙◌, arith, inl, inr, get_or}
-use Rattle.std.specs.Prelude.{ℕ, zero, suc, ◌+◌, ◌-◌, ◌*◌, ◌/◌, ◌^◌, ◌<◌, ◌≤◌, ℤ, ◌≤ℤ◌, int_le, int_lt, Bool, true, ◌⊎◌, List, [], ◌∷◌, ◌++◌, length, All}
+use Rattle.std.specs.Prelude.{ℕ, zero, suc, ◌+◌, ◌-◌, ◌*◌, ◌/◌, ◌^◌, ◌<◌, ◌≤◌, ℤ, ◌≤ℤ◌, int_le, int_lt, Bool, true, ◌⊎◌, min, List, [], ◌∷◌, ◌++◌, length, All}
 use Rattle.std.proofs.lemmas.Int.{ints}
 use Rattle.std.proofs.lemmas.Bool.{and_parts, and_from, both_ways, cases_lt}
 use Rattle.std.proofs.lemmas.List.Elements.{All-contains}
@@ -8,12 +8,13 @@ use Rattle.overlay_base.specs.Segments.{WholeSegment}
 use Rattle.overlay_build.specs.ChainWindings.{is_live}
 use Rattle.overlay_build.specs.Live.{AreFreeAt}
 use Rattle.overlay_build.specs.declared.build.tree_shape.TreeNode.{TreeNode}
-use Rattle.overlay_build.specs.TreeShapes.{Has, none, Tree, leaf, fork, node_at, IsDistinct, Stands, IsTree, IsStopped, IsPlaced}
+use Rattle.overlay_build.specs.TreeShapes.{Has, none, Tree, leaf, fork, node_at, height_at, IsDistinct, Stands, IsTree, IsStopped, IsPlaced}
 use Rattle.overlay_build.specs.ScanTrees.{segment_at, lasts_past, is_live_at, IsFromBelow, IsScanTree, IsGrowing, IsGrown}
 use Rattle.overlay_build.proofs.laws.ColumnLines.{lt-tested, le-test, lt-test}
 use Rattle.overlay_build.proofs.laws.LiveSums.{begins_later, Has-append, Contains-from_Has, HoldSameFrom-push}
 use Rattle.overlay_build.proofs.laws.Members.{All-from_Has}
 use Rattle.overlay_build.proofs.laws.TreeNodes.{Has-left, Has-right, Has-parts}
+use Rattle.overlay_build.proofs.laws.TreeTurns.{tree_height}
 use Rattle.overlay_build.proofs.laws.TreeHeights.{tree_holds, height_low}
 use Rattle.overlay_build.proofs.laws.TreeRemovals.{IsTree-kept, Stands-member, distinct_without}
 use Rattle.overlay_build.proofs.laws.TreeWays.{distinct_between}
@@ -134,6 +135,10 @@ asked_more before after high d was kept a b c e f =
 
 pub asked_last : (before after high d was kept : ℕ) → before ≤ (was - kept) * d → after ≤ before + high → high ≤ d → after ≤ suc (was - kept) * d
 asked_last before after high d was kept a b c = rw (one_way_more (was - kept) d) (omega (arith, a, b, c))
+
+-- half the height that a way leaves is no more than the orders that it asked, and one
+pub asked_half : (nodes : List TreeNode) (top : ℕ) (order : List ℕ) (high was before after : ℕ) → IsTree nodes top order high → high ≤ was + 1 → was < 2 ^ 63 → min (before + was / 2) (2 ^ 128 - 1) ≤ after → height_at nodes top / 2 ≤ after + 1
+asked_half nodes top order high was before after t a b c = rw (tree_height nodes top order high t) (omega (arith, a, b, c))
 
 -- ---- the tree at a later x
 

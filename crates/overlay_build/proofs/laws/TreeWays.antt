@@ -1,10 +1,10 @@
 -- A way down a tree: what it leaves above a side that it has changed.
-use Rattle.std.proofs.Common.{◌≡◌, ◌≢◌, ap, ap₂, refl, sym, subst, ◌∙◌, arith, inl, inr, get_or}
-use Rattle.std.specs.Prelude.{ℕ, Bool, true, false, not, ◌+◌, ◌<◌, ◌≤◌, ◌⊎◌, max, List, [], ◌∷◌, ◌++◌, length}
-use Rattle.std.proofs.lemmas.List.{append-nil}
+use Rattle.std.proofs.Common.{◌≡◌, ◌≢◌, ap, ap₂, refl, sym, subst, ◌∙◌, arith, inl, inr, get_or, tests}
+use Rattle.std.specs.Prelude.{ℕ, Bool, true, false, not, ◌&&◌, ◌==◌, ◌+◌, ◌-◌, ◌/◌, ◌^◌, ◌<◌, ◌≤◌, ◌⊎◌, min, max, List, [], ◌∷◌, ◌++◌, length}
+use Rattle.std.proofs.lemmas.List.{append-nil, get_or_read}
 use Rattle.std.proofs.lemmas.Bool.{cases_lt, both_ways}
 use Rattle.overlay_build.specs.declared.build.tree_shape.TreeNode.{TreeNode}
-use Rattle.overlay_build.specs.TreeShapes.{Has, none, height_at, IsDistinct, IsTree, KeepsOthers, AreJoinable, IsJoined, IsTopRemoved, MayGoDown, IsStopped, HasLast, HasFirst, IsPlaced}
+use Rattle.overlay_build.specs.TreeShapes.{Has, none, Tree, leaf, fork, height, node_at, height_at, IsParent, IsDistinct, Stands, IsTree, KeepsOthers, AreJoinable, IsJoined, IsTopRemoved, MayGoDown, IsStopped, HasLast, HasFirst, IsPlaced}
 use Rattle.overlay_build.proofs.laws.TreeNodes.{Apart, apart, Has-left, Has-right, Has-parts, KeepsOthers-trans, KeepsOthers-wider}
 use Rattle.overlay_build.proofs.laws.HighSides.{assoc}
 use Rattle.overlay_build.proofs.laws.TreeTurns.{tree_within, tree_height}
@@ -369,12 +369,38 @@ placed_nowhere lasts before nodes at new given e =
 pub down_within : (nodes : List TreeNode) (at new : ℕ) → MayGoDown nodes at new → at ≢ none → at < length nodes
 down_within nodes at new m n = tree_within nodes at m.sound.order m.sound.high m.sound.tree n
 
+node_height : (nodes : List TreeNode) (at : ℕ) (t : Tree) → Stands nodes t at → at ≢ none → (node_at nodes at).height ≡ height t
+node_height nodes at leaf s n = absurd (n s)
+node_height nodes at (fork l i r) s n = rw s.0 s.3
+
 module _ (nodes : List TreeNode) (at new : ℕ) (m : MayGoDown nodes at new) (n : at ≢ none) (node : TreeNode) (read : node ≡ get_or nodes at node) where
   pub right_lower : (parts nodes at new m n node read).right_high < m.sound.high
   right_lower = omega (arith, (parts nodes at new m n node read).height_is)
 
   pub left_lower : (parts nodes at new m n node read).left_high < m.sound.high
   left_lower = omega (arith, (parts nodes at new m n node read).height_is)
+
+  -- neither side is lower by three or more than the whole
+  pub right_deep : m.sound.high / 2 ≤ (parts nodes at new m n node read).right_high / 2 + 1
+  right_deep = omega (arith, (parts nodes at new m n node read).height_is, (parts nodes at new m n node read).left_near, (parts nodes at new m n node read).right_near)
+
+  pub left_deep : m.sound.high / 2 ≤ (parts nodes at new m n node read).left_high / 2 + 1
+  left_deep = omega (arith, (parts nodes at new m n node read).height_is, (parts nodes at new m n node read).left_near, (parts nodes at new m n node read).right_near)
+
+  -- the node is the parent of its sides
+  pub still_parent : IsParent nodes node.left at node.right
+  still_parent =
+      let is : node ≡ node_at nodes at = get_or_read nodes at node (parts nodes at new m n node read).at_within read (record { left = 0; right = 0; height = 0 }) in
+      let l = tree_height nodes node.left _ _ (parts nodes at new m n node read).left in
+      let r = tree_height nodes node.right _ _ (parts nodes at new m n node read).right in
+      let high : (node_at nodes at).height ≡ m.sound.high = node_height nodes at m.sound.tree.tree m.sound.tree.stands n ∙ m.sound.tree.height_is in
+      let same : (node_at nodes at).height ≡ 1 + max (height_at nodes node.left) (height_at nodes node.right) =
+      high ∙ sym (parts nodes at new m n node read).height_is ∙ ap₂ (λ a b. 1 + max a b) (sym l) (sym r) in
+      record {
+        node_is = λ i. record { left = (sym is i).left; right = (sym is i).right; height = same i };
+        left_near = omega (arith, l, r, (parts nodes at new m n node read).left_near);
+        right_near = omega (arith, l, r, (parts nodes at new m n node read).right_near);
+      }
 
   pub right_falls : height_at nodes node.right < height_at nodes at
   right_falls = omega (arith, right_lower, tree_height nodes node.right _ _ (parts nodes at new m n node read).right, tree_height nodes at _ _ m.sound.tree)
@@ -393,3 +419,27 @@ from_not_false false h = absurd (both_ways true h refl)
 pub from_not_true : (b : Bool) → not b ≡ true → b ≡ false
 from_not_true true h = absurd (both_ways false refl h)
 from_not_true false h = refl
+
+-- the orders asked on a way, one more than below
+pub asked_above : (old mid new below high : ℕ) → mid ≡ min (old + 1) (2 ^ 128 - 1) → min (mid + below / 2) (2 ^ 128 - 1) ≤ new → high / 2 ≤ below / 2 + 1 → min (old + high / 2) (2 ^ 128 - 1) ≤ new
+asked_above old mid new below high e h k = omega (arith, e, h, k)
+
+pub empty_reached : (nodes : List TreeNode) (at new : ℕ) (m : MayGoDown nodes at new) → at ≡ none → (asked : ℕ) → min (asked + m.sound.high / 2) (2 ^ 128 - 1) ≤ asked
+empty_reached nodes at new m e asked =
+    let t = m.sound.tree in
+    let low : m.sound.high ≡ 0 = sym t.height_is ∙ leaf_height nodes t.tree (subst (λ a. Stands nodes t.tree a) e t.stands) in
+    omega (arith, low)
+
+-- what is below is as it was
+pub kept_parent : (nodes mid : List TreeNode) (left at right side : ℕ) → IsParent nodes left at right → (mid ≡ nodes) × (side ≡ right) → IsParent mid left at side
+kept_parent nodes mid left at right side p e = rw (e.0, e.1) p
+
+pub kept_parent_left : (nodes mid : List TreeNode) (left at right side : ℕ) → IsParent nodes left at right → (mid ≡ nodes) × (side ≡ left) → IsParent mid side at right
+kept_parent_left nodes mid left at right side p e = rw (e.0, e.1) p
+
+pub told_same : (stopped : Bool) (new : ℕ) (b : Bool) → b ≡ (not stopped && (new == none)) → b ≡ true → (stopped ≡ false) × (new ≡ none)
+told_same true new b e h = absurd (both_ways b e h)
+told_same false new b e h = (refl, search (tests, sym e ∙ h))
+
+pub is_told_same : (stopped : Bool) (new : ℕ) (b : Bool) → b ≡ (not stopped && (new == none)) → stopped ≡ false → new ≡ none → b ≡ true
+is_told_same stopped new b e s n = e ∙ rw (s, n) refl

@@ -6,7 +6,7 @@ ghost use Rattle.overlay_base.specs.SegmentOf.{segments_of};
 use crate::build::builder::GraphBuilder;
 use crate::build::graph_node::OverlayNode;
 use crate::build::link_filter::filter_by_overlay_into;
-use crate::build::tests::{Line, greatest_counts, line, two_squares};
+use crate::build::tests::{Line, STRATEGIES, greatest_counts, line, two_squares};
 use overlay_base::overlay_core::extract::VisitState;
 use overlay_base::overlay_core::fill_rule::FillRule;
 use overlay_base::overlay_core::overlay_rule::OverlayRule;
@@ -58,16 +58,18 @@ fn crossed(node: &OverlayNode) -> Option<&[usize]> {
 #[test]
 fn two_squares_cross_at_two_nodes(rt: HostRuntime) {
     let mut builder = Builder::new(rt.alloc());
-    let graph = builder
-        .build_boolean_all(FillRule::NonZero, &Solver::LIST, &two_squares())
-        .expect(&rt, "no refusal");
-    assert!(rt; graph.validate());
-    assert_eq!(rt; graph.links().len(), 12);
-    assert_eq!(rt; graph.nodes().len(), 10);
-    let mut crosses = graph.nodes().iter().filter_map(crossed);
-    assert_eq!(rt; crosses.next(), Some([5, 6, 2, 3].as_slice()));
-    assert_eq!(rt; crosses.next(), Some([9, 10, 4, 8].as_slice()));
-    assert_eq!(rt; crosses.next(), None);
+    for solver in STRATEGIES {
+        let graph = builder
+            .build_boolean_all(FillRule::NonZero, &solver, &two_squares())
+            .expect(&rt, "no refusal");
+        assert!(rt; graph.validate());
+        assert_eq!(rt; graph.links().len(), 12);
+        assert_eq!(rt; graph.nodes().len(), 10);
+        let mut crosses = graph.nodes().iter().filter_map(crossed);
+        assert_eq!(rt; crosses.next(), Some([5, 6, 2, 3].as_slice()));
+        assert_eq!(rt; crosses.next(), Some([9, 10, 4, 8].as_slice()));
+        assert_eq!(rt; crosses.next(), None);
+    }
 }
 
 #[test]
@@ -91,16 +93,18 @@ fn each_rule_visits_the_links_that_it_keeps(rt: HostRuntime) {
 #[test]
 fn a_line_alone_has_two_open_ends(rt: HostRuntime) {
     let mut builder = Builder::new(rt.alloc());
-    let graph = builder
-        .build_boolean_all(FillRule::EvenOdd, &Solver::LIST, &lone_line())
-        .expect(&rt, "no refusal");
-    assert!(rt; !graph.validate());
-    assert_eq!(rt; graph.links().len(), 1);
-    assert_eq!(rt; graph.links().first().map(|link| link.fill), Some(1));
-    let mut crosses = graph.nodes().iter().filter_map(crossed);
-    assert_eq!(rt; crosses.next(), Some([0].as_slice()));
-    assert_eq!(rt; crosses.next(), Some([0].as_slice()));
-    assert_eq!(rt; crosses.next(), None);
+    for solver in STRATEGIES {
+        let graph = builder
+            .build_boolean_all(FillRule::EvenOdd, &solver, &lone_line())
+            .expect(&rt, "no refusal");
+        assert!(rt; !graph.validate());
+        assert_eq!(rt; graph.links().len(), 1);
+        assert_eq!(rt; graph.links().first().map(|link| link.fill), Some(1));
+        let mut crosses = graph.nodes().iter().filter_map(crossed);
+        assert_eq!(rt; crosses.next(), Some([0].as_slice()));
+        assert_eq!(rt; crosses.next(), Some([0].as_slice()));
+        assert_eq!(rt; crosses.next(), None);
+    }
 }
 
 #[test]
@@ -125,9 +129,11 @@ fn a_builder_used_again_shows_nothing_of_the_build_before(rt: HostRuntime) {
     assert_eq!(rt; (builder.nodes().len(), builder.links().len()), (0, 0));
     build(&rt, &mut builder, OverlayRule::Xor, &two_squares());
     assert_eq!(rt; (builder.nodes().len(), builder.links().len()), (10, 12));
-    let refused = builder.build_boolean_all(FillRule::NonZero, &Solver::LIST, &greatest_counts());
-    assert_eq!(rt; refused.err(), Some(Fault::CountOutOfRange));
-    assert_eq!(rt; (builder.nodes().len(), builder.links().len()), (0, 0));
+    for solver in STRATEGIES {
+        let refused = builder.build_boolean_all(FillRule::NonZero, &solver, &greatest_counts());
+        assert_eq!(rt; refused.err(), Some(Fault::CountOutOfRange));
+        assert_eq!(rt; (builder.nodes().len(), builder.links().len()), (0, 0));
+    }
     build(&rt, &mut builder, OverlayRule::Union, &two_squares());
     assert_eq!(rt; (builder.nodes().len(), builder.links().len()), (8, 8));
 }

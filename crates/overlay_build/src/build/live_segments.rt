@@ -1,5 +1,5 @@
 // The segments over which a sweep stands, each with the winding above it. Upstream: the collections of `i_tree`.
-ghost use Rattle.std.specs.Prelude.{◌≡◌, ℤ, ◌≤ℤ◌, ◌<ℤ◌, List, [], ◌∷◌, OnOk, OnErr, IfErr};
+ghost use Rattle.std.specs.Prelude.{◌≡◌, ℕ, ℤ, ◌≤ℤ◌, ◌<ℤ◌, List, [], ◌∷◌, OnOk, OnErr, IfErr};
 ghost use Rattle.overlay_base.specs.Segments.{WholeSegment};
 ghost use Rattle.overlay_base.specs.PointOf.{point_of};
 ghost use Rattle.overlay_base.specs.InRange.{IsPointInRange};
@@ -23,6 +23,8 @@ pub trait LiveSegments<C: WindingCount, I: OverlayInt> {
 
     ghost may_go_on_at: { Self → ℤ → Type 0 };
 
+    ghost asked: { Self → ℕ };
+
     /// Adds a segment that starts at `x`, and is not vertical, with the sum above it.
     ///
     /// Answers `Fault::Memory` where a growth is refused; the collection is empty then.
@@ -35,7 +37,8 @@ pub trait LiveSegments<C: WindingCount, I: OverlayInt> {
         ensures sums { OnOk result (HoldSameFrom (I.whole x) (sums self.new) (record { pair = v_pair_of I.whole segment; count = C.winding sum } ∷ sums self.old)) }
         ensures time { OnOk result ((y : ℤ) → I.whole x ≤ℤ y → may_go_on_at self.new y) }
         ensures fault { IfErr result (λ fault. fault ≡ Fault.Memory) }
-        ensures emptied { OnErr result (sums self.new ≡ []) };
+        ensures emptied { OnErr result (sums self.new ≡ []) }
+        ensures none_asked { OnErr result (asked self.new ≡ 0) };
 
     /// The sum on the live segment directly below `p`, of several that start at one point there the last by angle, or
     /// the default where none lies below. `x` has to be that of `p`.
@@ -51,5 +54,11 @@ pub trait LiveSegments<C: WindingCount, I: OverlayInt> {
     /// Drops all segments. The next call may be at any `x`.
     fn clear(&mut self)
         ensures sums { sums self.new ≡ [] }
-        ensures time { (y : ℤ) → may_go_on_at self.new y };
+        ensures time { (y : ℤ) → may_go_on_at self.new y }
+        ensures asked { asked self.new ≡ 0 };
+
+    /// How many times the last `insert` or `sum_below` has asked the order of a segment: 0 at first, after `clear` and
+    /// after an insert that was refused, and `u128::MAX` at most.
+    fn compared(&self) -> u128
+        ensures { result ≡ asked self.now };
 }

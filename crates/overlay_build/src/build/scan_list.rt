@@ -1,70 +1,32 @@
 // A plain list of the live segments. Upstream: `KeyExpList` of `i_tree`.
-ghost use Rattle.std.specs.Prelude.{◌<ℤ◌};
-ghost use Rattle.overlay_base.specs.VSegmentOf.{IsVSegmentInRange};
+ghost use Rattle.std.specs.Prelude.{◌≡◌, ◌+◌, ◌-◌, ◌^◌, ◌<ℤ◌, min, not, true};
+ghost use Rattle.std.specs.Option.{option_map_or};
+ghost use Rattle.std.specs.Ordering.{is_lt};
+ghost use Rattle.overlay_base.specs.Below.{under_segment_order};
+ghost use Rattle.overlay_base.specs.VSegmentOf.{v_pair_of, IsVSegmentInRange};
 
+use crate::build::entry::Entry;
 use crate::build::live_segments::LiveSegments;
+use crate::build::place::Place;
 use overlay_base::geom::point::IntPoint;
 use overlay_base::geom::v_segment::VSegment;
 use overlay_base::num::OverlayInt;
 use overlay_base::segm::fault::Fault;
 use overlay_base::segm::winding::WindingCount;
-use std::alloc::{AllocError, Global};
+use std::alloc::Global;
 
-/// A segment that is not vertical, with the sum above it.
-pub(crate) struct Entry<C: WindingCount, I: OverlayInt> {
-    pub(crate) segment: VSegment<I>,
-    pub(crate) sum: C,
-    ghost in_range: { IsVSegmentInRange I.whole I.MIN_COORD I.MAX_COORD segment },
-    ghost wide: { I.whole segment.a.x <ℤ I.whole segment.b.x },
-}
-
-impl<C: WindingCount, I: OverlayInt> Clone for Entry<C, I> {
-    ghost use Rattle.std.specs.Prelude.{◌≡◌, ⊤};
-
-    ghost is_clone = { λ x y. y ≡ x };
-
-    ghost is_infallible = { λ _. ⊤ };
-
-    fn clone(&self) -> Result<Entry<C, I>, AllocError> {
-        Ok(*self)
-    }
-}
-
-impl<C: WindingCount, I: OverlayInt> Copy for Entry<C, I> {}
-
-impl<C: WindingCount, I: OverlayInt> Entry<C, I> {
-    ghost use Rattle.std.specs.Prelude.{◌≡◌, ◌&&◌, not, pos, int_lt, true};
-    ghost use Rattle.std.specs.Option.{option_map_or};
-    ghost use Rattle.std.specs.Ordering.{is_lt};
-    ghost use Rattle.overlay_base.specs.Points.{turn};
-    ghost use Rattle.overlay_base.specs.Below.{under_segment_order};
-    ghost use Rattle.overlay_base.specs.PointOf.{point_of};
-    ghost use Rattle.overlay_base.specs.InRange.{IsPointInRange};
-    ghost use Rattle.overlay_base.specs.VSegmentOf.{v_pair_of};
-
-    /// Whether the segment ends right of `x`.
-    pub(crate) fn lasts_past(&self, x: I) -> bool
-        ensures { result ≡ int_lt (I.whole x) (I.whole self.now.segment.b.x) }
-    {
-        x < self.segment.b.x
-    }
-
-    /// Whether the segment runs below the point.
-    fn is_below(&self, p: IntPoint<I>) -> bool
-        requires { IsPointInRange I.whole I.MIN_COORD I.MAX_COORD p }
-        ensures { result ≡ int_lt (pos 0) (turn (point_of I.whole self.now.segment.a) (point_of I.whole self.now.segment.b) (point_of I.whole p)) }
-    {
-        self.segment.is_under_point_order(p).is_lt()
-    }
-
-    /// Whether the segment does not run below the best one so far.
-    fn is_not_under_best(&self, best: &Option<Entry<C, I>>) -> bool
-        ensures { result ≡ option_map_or (λ highest. not (is_lt (under_segment_order (v_pair_of I.whole self.now.segment) (v_pair_of I.whole highest.segment)))) best.now true }
-    {
-        match best {
-            Some(highest) => !self.segment.is_under_segment(&highest.segment),
-            None => true,
-        }
+/// Whether the entry does not run below the best one so far. Asks no order where there is none.
+fn is_not_under_best<C: WindingCount, I: OverlayInt>(
+    entry: &Entry<C, I>,
+    best: &Option<Entry<C, I>>,
+    compared: &mut u128,
+) -> bool
+    ensures value { result ≡ option_map_or (λ highest. not (is_lt (under_segment_order (v_pair_of I.whole entry.now.segment) (v_pair_of I.whole highest.segment)))) best.now true }
+    ensures compared { compared.new ≡ option_map_or (λ _. min (compared.old + 1) (2 ^ 128 - 1)) best.now compared.old }
+{
+    match best {
+        Some(highest) => highest.is_before(&Place::Segment(entry.segment), compared),
+        None => true,
     }
 }
 
@@ -72,6 +34,7 @@ impl<C: WindingCount, I: OverlayInt> Entry<C, I> {
 #[derive(Drop)]
 pub struct ScanList<C: WindingCount, I: OverlayInt> {
     entries: Vec<Entry<C, I>>,
+    compared: u128,
 }
 
 impl<C: WindingCount, I: OverlayInt> ScanList<C, I> {
@@ -79,10 +42,12 @@ impl<C: WindingCount, I: OverlayInt> ScanList<C, I> {
 
     /// An empty list, which takes no memory yet.
     pub fn new(alloc: Global) -> ScanList<C, I>
-        ensures { result.entries.items ≡ [] }
+        ensures entries { result.entries.items ≡ [] }
+        ensures compared { result.compared ≡ 0 }
     {
         ScanList {
             entries: Vec::new(alloc),
+            compared: 0,
         }
     }
 
@@ -95,15 +60,17 @@ impl<C: WindingCount, I: OverlayInt> ScanList<C, I> {
 }
 
 impl<C: WindingCount, I: OverlayInt> LiveSegments<C, I> for ScanList<C, I> {
-    ghost use Rattle.std.specs.Prelude.{◌≡◌, ◌≤ℤ◌, ℤ, All, [], ◌∷◌, OnOk, OnErr, IfErr};
+    ghost use Rattle.std.specs.Prelude.{◌≤ℤ◌, ℤ, pos, int_lt, All, [], ◌∷◌, OnOk, OnErr, IfErr, length, count_by};
+    ghost use Rattle.overlay_base.specs.Points.{turn};
     ghost use Rattle.overlay_base.specs.PointOf.{point_of};
     ghost use Rattle.overlay_base.specs.InRange.{IsPointInRange};
-    ghost use Rattle.overlay_base.specs.VSegmentOf.{v_pair_of};
     ghost use Rattle.overlay_build.specs.Sweep.{sum_below};
     ghost use Rattle.overlay_build.specs.Live.{HoldSameFrom, AreFreeAt};
     ghost use Rattle.overlay_build.specs.EntryOf.{entries_of};
 
     ghost sums = { λ list. entries_of list.entries.items };
+
+    ghost asked = { λ list. list.compared };
 
     ghost may_go_on_at = { λ list x. All (λ s. s.pair.a.x ≤ℤ x) (entries_of list.entries.items) };
 
@@ -117,8 +84,11 @@ impl<C: WindingCount, I: OverlayInt> LiveSegments<C, I> for ScanList<C, I> {
         ensures time { OnOk result ((y : ℤ) → I.whole x ≤ℤ y → All (λ s. s.pair.a.x ≤ℤ y) (entries_of self.new.entries.items)) }
         ensures fault { IfErr result (λ fault. fault ≡ Fault.Memory) }
         ensures emptied { OnErr result (entries_of self.new.entries.items ≡ []) }
+        ensures none_asked { OnErr result (self.new.compared ≡ 0) }
+        ensures none_compared { self.new.compared ≡ 0 }
     {
         let _ = x;
+        self.compared = 0;
         let entry = Entry { segment, sum };
         if self.entries.push(entry).is_err() {
             self.clear();
@@ -135,14 +105,20 @@ impl<C: WindingCount, I: OverlayInt> LiveSegments<C, I> for ScanList<C, I> {
         ensures sum { C.winding result ≡ sum_below (entries_of self.old.entries.items) (point_of I.whole p) (C.winding default) }
         ensures sums { HoldSameFrom (I.whole x) (entries_of self.new.entries.items) (entries_of self.old.entries.items) }
         ensures time { (y : ℤ) → I.whole x ≤ℤ y → All (λ s. s.pair.a.x ≤ℤ y) (entries_of self.new.entries.items) }
+        ensures compared { self.new.compared ≡ length self.new.entries.items + (count_by (λ s. int_lt (pos 0) (turn s.pair.a s.pair.b (point_of I.whole p))) (entries_of self.new.entries.items) - 1) }
     {
         self.drop_ended(x);
+        let place = Place::Point(p);
+        let mut compared = 0;
         let mut best: Option<Entry<C, I>> = None;
         for entry in self.entries.iter() {
-            if entry.is_below(p) && entry.is_not_under_best(&best) {
+            if entry.is_before(&place, &mut compared)
+                && is_not_under_best(entry, &best, &mut compared)
+            {
                 best = Some(*entry);
             }
         }
+        self.compared = compared;
         match best {
             Some(highest) => highest.sum,
             None => default,
@@ -151,5 +127,10 @@ impl<C: WindingCount, I: OverlayInt> LiveSegments<C, I> for ScanList<C, I> {
 
     fn clear(&mut self) {
         self.entries.clear();
+        self.compared = 0;
+    }
+
+    fn compared(&self) -> u128 {
+        self.compared
     }
 }

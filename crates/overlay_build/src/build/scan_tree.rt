@@ -1,11 +1,12 @@
 // A balanced tree of the live segments. Upstream: `KeyExpTree` of `i_tree`.
-ghost use Rattle.std.specs.Prelude.{◌≡◌, ◌+◌, ◌≤◌};
+ghost use Rattle.std.specs.Prelude.{◌≡◌, ◌+◌, ◌/◌, ◌≤◌, ◌==◌, ◌&&◌, not};
 ghost use Rattle.overlay_base.specs.VSegmentOf.{v_pair_of};
 ghost use Rattle.overlay_build.specs.PlaceOf.{IsPlaceInRange, stands_before};
+ghost use Rattle.overlay_build.specs.TreeShapes.{none, height_at};
 
+use crate::build::entry::Entry;
 use crate::build::live_segments::LiveSegments;
 use crate::build::place::Place;
-use crate::build::scan_list::Entry;
 use crate::build::tree_shape::{NONE, TreeShape};
 use overlay_base::geom::point::IntPoint;
 use overlay_base::geom::v_segment::VSegment;
@@ -25,34 +26,32 @@ struct Descent {
     is_stopped: bool,
 }
 
+impl Descent {
+    /// Whether the way has left the tree as it was: it took nothing out, and there was nothing to put in.
+    fn is_same(&self, new: usize) -> bool
+        ensures { result ≡ (not self.now.is_stopped && (new == none)) }
+    {
+        !self.is_stopped && new == NONE
+    }
+}
+
 /// The live segments from below, in a balanced tree. What has ended may stay in it until a way down meets it.
 #[derive(Drop)]
 pub struct ScanTree<C: WindingCount, I: OverlayInt> {
+    /// All entries since the last `clear`, those that were taken out of the tree too.
     entries: Vec<Entry<C, I>>,
+    /// A node for each entry, at the same index.
     shape: TreeShape,
     root: usize,
+    /// How many entries are in the tree.
     kept: usize,
     compared: u128,
 }
 
-/// Asks whether an entry stands before a place. Every order of an entry is asked here.
-fn is_before<C: WindingCount, I: OverlayInt>(
-    compared: &mut u128,
-    entry: &Entry<C, I>,
-    place: &Place<I>,
-) -> bool
-    requires { IsPlaceInRange I.whole I.MIN_COORD I.MAX_COORD place.now }
-    ensures value { result ≡ stands_before I.whole place.now (v_pair_of I.whole entry.now.segment) }
-    ensures compared { compared.new ≤ compared.old + 1 }
-{
-    *compared = compared.saturating_add(1);
-    place.is_after(&entry.segment)
-}
-
 impl<C: WindingCount, I: OverlayInt> ScanTree<C, I> {
-    ghost use Rattle.std.specs.Prelude.{ℤ, ◌-◌, ◌/◌, ◌^◌, ◌<◌, [], ◌∷◌, ◌++◌, true, false, length, IfOk, OnOk, IfErr};
+    ghost use Rattle.std.specs.Prelude.{ℤ, ◌-◌, ◌^◌, ◌<◌, min, [], ◌∷◌, ◌++◌, true, false, length, IfOk, OnOk, IfErr};
     ghost use Rattle.overlay_build.specs.EntryOf.{entries_of};
-    ghost use Rattle.overlay_build.specs.TreeShapes.{none, height_at, MayGoDown, IsStopped, IsPlaced};
+    ghost use Rattle.overlay_build.specs.TreeShapes.{MayGoDown, IsStopped, IsPlaced};
     ghost use Rattle.overlay_build.specs.ScanTrees.{segment_at, lasts_past, IsScanTree, IsGrowing, IsGrown, IsAskedWithin};
 
     /// An empty tree, which takes no memory yet.
@@ -81,6 +80,8 @@ impl<C: WindingCount, I: OverlayInt> ScanTree<C, I> {
         ensures root { self.new.root ≡ self.old.root }
         ensures kept { self.new.kept ≡ self.old.kept }
         ensures compared { (m : MayGoDown self.old.shape.nodes.items at new) → self.new.compared ≤ self.old.compared + m.sound.high }
+        ensures reached { result.is_stopped ≡ false → (m : MayGoDown self.old.shape.nodes.items at new) → min (self.old.compared + m.sound.high / 2) (2 ^ 128 - 1) ≤ self.new.compared }
+        ensures same { result.is_stopped ≡ false → new ≡ none → (self.new.shape.nodes.items ≡ self.old.shape.nodes.items) × (result.top ≡ at) }
         ensures stopped { result.is_stopped ≡ true → (m : MayGoDown self.old.shape.nodes.items at new) → IsStopped (lasts_past (I.whole x) (entries_of self.old.entries.items)) self.old.shape.nodes.items self.new.shape.nodes.items result.top m.sound.order m.sound.high }
         ensures placed { result.is_stopped ≡ false → (m : MayGoDown self.old.shape.nodes.items at new) → IsPlaced (lasts_past (I.whole x) (entries_of self.old.entries.items)) (λ i. stands_before I.whole place.now (segment_at (entries_of self.old.entries.items) i).pair) self.old.shape.nodes.items self.new.shape.nodes.items given result.last result.top m.sound.order m.placed m.sound.high }
     {
@@ -100,13 +101,17 @@ impl<C: WindingCount, I: OverlayInt> ScanTree<C, I> {
             };
         }
         let node = self.shape.node(at);
-        if is_before(&mut self.compared, &entry, place) {
+        if entry.is_before(place, &mut self.compared) {
             let below = self.go_down(node.right, x, place, new, at);
-            let top = self.shape.join(node.left, at, below.top);
+            let top = self
+                .shape
+                .rejoin(node.left, at, below.top, below.is_same(new));
             Descent { top, ..below }
         } else {
             let below = self.go_down(node.left, x, place, new, given);
-            let top = self.shape.join(below.top, at, node.right);
+            let top = self
+                .shape
+                .rejoin(below.top, at, node.right, below.is_same(new));
             Descent { top, ..below }
         }
     }
@@ -120,6 +125,7 @@ impl<C: WindingCount, I: OverlayInt> ScanTree<C, I> {
         ensures kept { self.new.kept ≤ self.old.kept }
         ensures grown { (m : IsGrowing (I.whole x) (entries_of self.old.entries.items) self.old.shape.nodes.items self.old.root new self.old.kept) → IsGrown (I.whole x) (entries_of self.old.entries.items) (λ i. stands_before I.whole place.now (segment_at (entries_of self.old.entries.items) i).pair) m.down.placed self.new.shape.nodes.items self.new.root self.new.kept result }
         ensures compared { IsAskedWithin self.old.kept (self.old.kept - self.new.kept) self.new.compared }
+        ensures reached { height_at self.new.shape.nodes.items self.new.root / 2 ≤ self.new.compared + 1 }
     {
         self.compared = 0;
         loop {
@@ -153,14 +159,6 @@ impl<C: WindingCount, I: OverlayInt> ScanTree<C, I> {
     {
         self.shape.height(self.root)
     }
-
-    /// How many times the last `insert` or `sum_below` has asked the order of an entry: 0 at first and after `clear`,
-    /// and `u128::MAX` at most.
-    pub fn compared(&self) -> u128
-        ensures { result ≡ self.now.compared }
-    {
-        self.compared
-    }
 }
 
 impl<C: WindingCount, I: OverlayInt> LiveSegments<C, I> for ScanTree<C, I> {
@@ -175,6 +173,8 @@ impl<C: WindingCount, I: OverlayInt> LiveSegments<C, I> for ScanTree<C, I> {
 
     ghost sums = { λ tree. entries_of tree.entries.items };
 
+    ghost asked = { λ tree. tree.compared };
+
     ghost may_go_on_at = { λ tree x. IsScanTree x (entries_of tree.entries.items) tree.shape.nodes.items tree.root tree.kept };
 
     fn insert(&mut self, segment: VSegment<I>, sum: C, x: I) -> Result<(), Fault>
@@ -187,9 +187,11 @@ impl<C: WindingCount, I: OverlayInt> LiveSegments<C, I> for ScanTree<C, I> {
         ensures time { OnOk result ((y : ℤ) → I.whole x ≤ℤ y → IsScanTree y (entries_of self.new.entries.items) self.new.shape.nodes.items self.new.root self.new.kept) }
         ensures fault { IfErr result (λ fault. fault ≡ Fault.Memory) }
         ensures emptied { OnErr result (entries_of self.new.entries.items ≡ []) }
+        ensures none_asked { OnErr result (self.new.compared ≡ 0) }
         ensures cleared { OnErr result ((y : ℤ) → IsScanTree y (entries_of self.new.entries.items) self.new.shape.nodes.items self.new.root self.new.kept) }
         ensures kept { OnOk result (self.new.kept ≤ suc self.old.kept) }
         ensures compared { OnOk result (IsAskedWithin self.old.kept (suc self.old.kept - self.new.kept) self.new.compared) }
+        ensures reached { OnOk result (height_at self.new.shape.nodes.items self.new.root / 2 ≤ self.new.compared + 1) }
     {
         match self.push(Entry { segment, sum }) {
             Ok(new) => {
@@ -214,6 +216,7 @@ impl<C: WindingCount, I: OverlayInt> LiveSegments<C, I> for ScanTree<C, I> {
         ensures time { (y : ℤ) → I.whole x ≤ℤ y → IsScanTree y (entries_of self.new.entries.items) self.new.shape.nodes.items self.new.root self.new.kept }
         ensures kept { self.new.kept ≤ self.old.kept }
         ensures compared { IsAskedWithin self.old.kept (self.old.kept - self.new.kept) self.new.compared }
+        ensures reached { height_at self.new.shape.nodes.items self.new.root / 2 ≤ self.new.compared + 1 }
     {
         let last = self.settle(x, &Place::Point(p), NONE);
         if last == NONE {
@@ -227,12 +230,16 @@ impl<C: WindingCount, I: OverlayInt> LiveSegments<C, I> for ScanTree<C, I> {
         ensures sums { entries_of self.new.entries.items ≡ [] }
         ensures time { (y : ℤ) → IsScanTree y (entries_of self.new.entries.items) self.new.shape.nodes.items self.new.root self.new.kept }
         ensures kept { self.new.kept ≡ 0 }
-        ensures compared { self.new.compared ≡ 0 }
+        ensures asked { self.new.compared ≡ 0 }
     {
         self.entries.clear();
         self.shape.clear();
         self.root = NONE;
         self.kept = 0;
         self.compared = 0;
+    }
+
+    fn compared(&self) -> u128 {
+        self.compared
     }
 }

@@ -1,5 +1,5 @@
 // Sweeps over arrangements, with the buffers that they share. Upstream: `build::sweep`.
-ghost use Rattle.std.specs.Prelude.{◌≡◌, ℕ, ◌<◌, IsTrue, IsFalse, IfOk, OnOk, IfErr, length};
+ghost use Rattle.std.specs.Prelude.{◌≡◌, ℕ, ◌<◌, IsTrue, IsFalse, IfOk, OnOk, OnErr, IfErr, length};
 ghost use Rattle.overlay_base.specs.Planar.{is_arranged};
 ghost use Rattle.overlay_base.specs.Balance.{IsBalanced};
 ghost use Rattle.overlay_base.specs.SegmentOf.{segments_of, data_segments_of};
@@ -29,15 +29,19 @@ pub struct SweepRunner<C: WindingCount, I: OverlayInt> {
     list: ScanList<C, I>,
     tree: ScanTree<C, I>,
     node: Vec<Way<I>>,
+    compared: u128,
 }
 
 impl<C: WindingCount, I: OverlayInt> SweepRunner<C, I> {
     /// A runner, which takes no memory yet.
-    pub fn new(alloc: Global) -> SweepRunner<C, I> {
+    pub fn new(alloc: Global) -> SweepRunner<C, I>
+        ensures { result.compared ≡ 0 }
+    {
         SweepRunner {
             list: ScanList::new(alloc),
             tree: ScanTree::new(alloc),
             node: Vec::new(alloc),
+            compared: 0,
         }
     }
 
@@ -52,7 +56,8 @@ impl<C: WindingCount, I: OverlayInt> SweepRunner<C, I> {
     /// it chooses whether the live segments stand in a list or in a balanced tree.
     ///
     /// Answers `Fault::CountOutOfRange` exactly where a winding above a segment that is handed out leaves the range,
-    /// and `Fault::Memory` where a growth is refused. The handler is spent then; the runner can be used again.
+    /// and `Fault::Memory` where a growth is refused. The handler is spent then; the runner can be used again, and its
+    /// `compared` is that of the run before.
     pub fn run<D: Copy, F: FillStrategy<C>, H: FillHandler<C, I, D>>(
         &mut self,
         solver: &Solver,
@@ -65,16 +70,38 @@ impl<C: WindingCount, I: OverlayInt> SweepRunner<C, I> {
         ensures in_range { OnOk result (IsFalse (visits_leave_range (segments_of segments.now) (visited H.handle_gives handler (visits F.rule (data_segments_of segments.now))))) }
         ensures out_of_range { IfErr result (λ fault. fault ≡ Fault.CountOutOfRange → IsTrue (visits_leave_range (segments_of segments.now) (visited H.handle_gives handler (visits F.rule (data_segments_of segments.now))))) }
         ensures windings { IsBalanced (segments_of segments.now) → HaveColumnWindings (segments_of segments.now) }
+        ensures refused { OnErr result (self.new.compared ≡ self.old.compared) }
     {
         let node = &mut self.node;
-        if solver.is_list_fill(segments) {
+        let mut compared = 0;
+        let answer = if solver.is_list_fill(segments) {
             let list = &mut self.list;
-            return sweep_with_handler::<C, I, D, F, ScanList<C, I>, H>(
-                list, node, segments, handler,
-            );
-        }
-        let tree = &mut self.tree;
-        sweep_with_handler::<C, I, D, F, ScanTree<C, I>, H>(tree, node, segments, handler)
+            sweep_with_handler::<C, I, D, F, ScanList<C, I>, H>(
+                list,
+                node,
+                segments,
+                handler,
+                &mut compared,
+            )?
+        } else {
+            let tree = &mut self.tree;
+            sweep_with_handler::<C, I, D, F, ScanTree<C, I>, H>(
+                tree,
+                node,
+                segments,
+                handler,
+                &mut compared,
+            )?
+        };
+        self.compared = compared;
+        Ok(answer)
+    }
+
+    /// How many orders of live segments the last run that succeeded has asked: 0 at first, and `u128::MAX` at most.
+    pub fn compared(&self) -> u128
+        ensures { result ≡ self.now.compared }
+    {
+        self.compared
     }
 }
 
@@ -93,6 +120,7 @@ impl<I: OverlayInt> SweepRunner<ShapeCountBoolean, I> {
         ensures in_range { OnOk result (IsFalse (visits_leave_range (segments_of segments.now) (visited H.handle_gives handler (visits fill_rule (data_segments_of segments.now))))) }
         ensures out_of_range { IfErr result (λ fault. fault ≡ Fault.CountOutOfRange → IsTrue (visits_leave_range (segments_of segments.now) (visited H.handle_gives handler (visits fill_rule (data_segments_of segments.now))))) }
         ensures windings { IsBalanced (segments_of segments.now) → HaveColumnWindings (segments_of segments.now) }
+        ensures refused { OnErr result (self.new.compared ≡ self.old.compared) }
     {
         match fill_rule {
             FillRule::EvenOdd => self.run::<D, EvenOddStrategy, H>(solver, segments, handler),

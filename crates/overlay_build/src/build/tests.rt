@@ -20,6 +20,8 @@ use std::alloc::Global;
 use std::ops::ControlFlow;
 use std::process::Abort;
 
+pub const STRATEGIES: [Solver; 4] = [Solver::LIST, Solver::TREE, Solver::FRAG, Solver::AUTO];
+
 pub type Line = Segment<ShapeCountBoolean, i32, ()>;
 
 pub fn line(ax: i32, ay: i32, bx: i32, by: i32, subj: i32, clip: i32) -> Line
@@ -85,15 +87,32 @@ pub fn greatest_counts() -> [Line; 2]
     [line(0, 0, 4, 0, i32::MAX, 0), line(0, 1, 4, 1, i32::MAX, 0)]
 }
 
-// The fills by index.
+// The fills by index, which are the same under every strategy.
 fn fills(rt: &impl Abort, alloc: Global, segments: &[Line], fill_rule: FillRule) -> Vec<SegmentFill>
+    requires { IsTrue (is_arranged (negsuc 524287) (pos 524287) (segments_of segments.now)) }
+{
+    let found = fills_under(rt, alloc, &Solver::LIST, segments, fill_rule);
+    for solver in STRATEGIES {
+        let again = fills_under(rt, alloc, &solver, segments, fill_rule);
+        assert_eq!(rt; again.as_slice(), found.as_slice());
+    }
+    found
+}
+
+fn fills_under(
+    rt: &impl Abort,
+    alloc: Global,
+    solver: &Solver,
+    segments: &[Line],
+    fill_rule: FillRule,
+) -> Vec<SegmentFill>
     requires { IsTrue (is_arranged (negsuc 524287) (pos 524287) (segments_of segments.now)) }
 {
     let mut runner = SweepRunner::new(alloc);
     let mut fills = blank(rt, alloc, segments.len());
     let handler = StoreFillsHandler::new(&mut fills);
     runner
-        .run_with_fill_rule(fill_rule, &Solver::LIST, segments, handler)
+        .run_with_fill_rule(fill_rule, solver, segments, handler)
         .expect(rt, "no refusal");
     fills
 }
@@ -143,9 +162,9 @@ fn fills_of_lines(rt: HostRuntime) {
 
 /// Breaks with the index at the first fill with this bit. Keeps the indexes that it has seen, as digits to the base 16.
 #[derive(Drop)]
-struct FirstWith {
-    bit: SegmentFill,
-    seen: u64,
+pub struct FirstWith {
+    pub bit: SegmentFill,
+    pub seen: u64,
 }
 
 impl<C: WindingCount, I: OverlayInt, D: Copy> FillHandler<C, I, D> for FirstWith {
@@ -213,32 +232,38 @@ impl<C: WindingCount, I: OverlayInt, D: Copy> FillHandler<C, I, D> for First {
 fn a_handler_breaks_at_the_first_fill_that_it_looks_for(rt: HostRuntime) {
     let segments = two_squares();
     let mut runner = SweepRunner::new(rt.alloc());
-    let handler = FirstWith {
-        bit: CLIP_BOTTOM,
-        seen: 0,
-    };
-    let found = runner.run_with_fill_rule(FillRule::NonZero, &Solver::LIST, &segments, handler);
-    assert_eq!(rt; found, Ok((3, 0x10243)));
+    for solver in STRATEGIES {
+        let handler = FirstWith {
+            bit: CLIP_BOTTOM,
+            seen: 0,
+        };
+        let found = runner.run_with_fill_rule(FillRule::NonZero, &solver, &segments, handler);
+        assert_eq!(rt; found, Ok((3, 0x10243)));
+    }
 }
 
 #[test]
 fn a_count_that_leaves_the_range_after_the_break_is_not_refused(rt: HostRuntime) {
     let segments = greatest_counts();
     let mut runner = SweepRunner::new(rt.alloc());
-    let found = runner.run_with_fill_rule(FillRule::NonZero, &Solver::LIST, &segments, First);
-    assert_eq!(rt; found, Ok(0));
+    for solver in STRATEGIES {
+        let found = runner.run_with_fill_rule(FillRule::NonZero, &solver, &segments, First);
+        assert_eq!(rt; found, Ok(0));
+    }
 }
 
 #[test]
 fn a_runner_is_used_again_after_a_refusal(rt: HostRuntime) {
     let segments = greatest_counts();
     let mut runner = SweepRunner::new(rt.alloc());
-    let handler = FirstWith {
-        bit: CLIP_BOTTOM,
-        seen: 0,
-    };
-    let refused = runner.run_with_fill_rule(FillRule::NonZero, &Solver::LIST, &segments, handler);
-    assert_eq!(rt; refused, Err(Fault::CountOutOfRange));
-    let found = runner.run_with_fill_rule(FillRule::NonZero, &Solver::LIST, &segments, First);
-    assert_eq!(rt; found, Ok(0));
+    for solver in STRATEGIES {
+        let handler = FirstWith {
+            bit: CLIP_BOTTOM,
+            seen: 0,
+        };
+        let refused = runner.run_with_fill_rule(FillRule::NonZero, &solver, &segments, handler);
+        assert_eq!(rt; refused, Err(Fault::CountOutOfRange));
+        let found = runner.run_with_fill_rule(FillRule::NonZero, &solver, &segments, First);
+        assert_eq!(rt; found, Ok(0));
+    }
 }

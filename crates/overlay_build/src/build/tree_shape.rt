@@ -22,8 +22,8 @@ pub struct TreeShape {
 }
 
 impl TreeShape {
-    ghost use Rattle.std.specs.Prelude.{slice_set, slice_index_or, ◌-◌, [], OnOk, IfErr};
-    ghost use Rattle.overlay_build.specs.TreeShapes.{none, node_at, height_at, parent_of, MayHaveSides, AreJoinable, IsJoined, IsSound, IsFirstRemoved, IsTopRemoved};
+    ghost use Rattle.std.specs.Prelude.{slice_set, slice_index_or, ◌-◌, [], true, OnOk, IfErr};
+    ghost use Rattle.overlay_build.specs.TreeShapes.{none, node_at, height_at, parent_of, MayHaveSides, AreJoinable, IsJoined, IsParent, IsSound, IsFirstRemoved, IsTopRemoved};
 
     /// No nodes. This takes no memory yet.
     pub fn new(alloc: Global) -> TreeShape
@@ -139,6 +139,19 @@ impl TreeShape {
         }
         self.set_sides(at, left, right);
         at
+    }
+
+    /// The same, with nothing written where the node is the parent of both as it stands.
+    pub fn rejoin(&mut self, left: usize, at: usize, right: usize, is_parent: bool) -> usize
+        requires joinable { AreJoinable self.old.nodes.items left at right }
+        requires parent { is_parent ≡ true → IsParent self.old.nodes.items left at right }
+        ensures joined { (j : AreJoinable self.old.nodes.items left at right) → IsJoined self.old.nodes.items self.new.nodes.items result (j.before ++ at ∷ j.after) j.left_height j.right_height }
+        ensures same { is_parent ≡ true → (self.new.nodes.items ≡ self.old.nodes.items) × (result ≡ at) }
+    {
+        if is_parent {
+            return at;
+        }
+        self.join(left, at, right)
     }
 
     /// Takes the first node out of a tree. Answers that node, and the top of what is left.

@@ -148,7 +148,7 @@ returns-in-Break-clause-answer g c =
     sym (amid_place g.H.FillHandler.handle_gives g.H.FillHandler.finalize_gives g.F.FillStrategy.rule (data_segments_of c.args.segments.now) arr c.args.handler c.loop-index.index c.node_end-next.result c.loop-way.way-index (g.C.WindingCount.winding c.loop-way.sum) c.loop-way.handler (g.S.LiveSegments.sums c.loop-way.live) (g.S.LiveSegments.may_go_on_at c.loop-way.live) state way_of c.deref-way-items.result.now c.loop-way.invariant.2 c.loop-way-test.true c.way-item.result c.way-item.is (λ v at e.
     let own : data_segment_of c.index-segments-way.result ≡ v.segment = segment_is data_segment_of c.args.segments.now g.F.FillStrategy.rule (without_data (data_segments_of c.args.segments.now)) c.way-item.result.index c.index-segments-way.result v c.index-segments-way.is e at.is in
     let made = visit_is g.H.FillHandler.handle_gives g.H.FillHandler.finalize_gives g.F.FillStrategy.rule (data_segments_of c.args.segments.now) arr c.args.handler c.loop-index.index c.node_end-next.result c.loop-way.way-index (g.C.WindingCount.winding c.loop-way.sum) c.loop-way.handler (g.S.LiveSegments.sums c.loop-way.live) (g.S.LiveSegments.may_go_on_at c.loop-way.live) v at state c.way-item.result.index (data_segment_of c.index-segments-way.result) e own in
-    let answers = ap (λ u. (g.H.FillHandler.handle_gives c.loop-way.handler u).1) (sym made) ∙ sym c.in_ok-top.ensures.answer ∙ ap break_value c.in-Break.is in
+    let answers = ap (λ u. (g.H.FillHandler.handle_gives c.loop-way.handler u).1) (sym made) ∙ sym c.in_ok-seen.ensures.answer ∙ ap break_value c.in-Break.is in
     answered_here g.H.FillHandler.handle_gives g.H.FillHandler.finalize_gives g.F.FillStrategy.rule (data_segments_of c.args.segments.now) arr c.args.handler c.loop-index.index c.node_end-next.result (start_at (without_data (data_segments_of c.args.segments.now)) c.loop-index.index) state.order state.run c.loop-way.way-index (g.C.WindingCount.winding c.loop-way.sum) c.loop-way.handler (g.S.LiveSegments.sums c.loop-way.live) v at state.node c.in-Break.answer answers))
 
 pub returns-in-Break-clause-in_range : goal.returns-in-Break-clause-in_range
@@ -160,18 +160,18 @@ returns-in-Break-clause-in_range g c =
     let own : data_segment_of c.index-segments-way.result ≡ v.segment = segment_is data_segment_of c.args.segments.now g.F.FillStrategy.rule (without_data (data_segments_of c.args.segments.now)) c.way-item.result.index c.index-segments-way.result v c.index-segments-way.is e at.is in
     let made = visit_is g.H.FillHandler.handle_gives g.H.FillHandler.finalize_gives g.F.FillStrategy.rule (data_segments_of c.args.segments.now) arr c.args.handler c.loop-index.index c.node_end-next.result c.loop-way.way-index (g.C.WindingCount.winding c.loop-way.sum) c.loop-way.handler (g.S.LiveSegments.sums c.loop-way.live) (g.S.LiveSegments.may_go_on_at c.loop-way.live) v at state c.way-item.result.index (data_segment_of c.index-segments-way.result) e own in
     let count : winding_of c.index-segments-way.result ≡ v.segment.count = ap (λ (s : DataSegment g.row.D.Denot). s.count) own in
-    let answers = ap (λ u. (g.H.FillHandler.handle_gives c.loop-way.handler u).1) (sym made) ∙ sym c.in_ok-top.ensures.answer ∙ ap break_value c.in-Break.is in
-    in_range_here g.H.FillHandler.handle_gives g.H.FillHandler.finalize_gives g.F.FillStrategy.rule (data_segments_of c.args.segments.now) arr c.args.handler c.loop-index.index c.node_end-next.result (start_at (without_data (data_segments_of c.args.segments.now)) c.loop-index.index) state.order state.run c.loop-way.way-index (g.C.WindingCount.winding c.loop-way.sum) c.loop-way.handler (g.S.LiveSegments.sums c.loop-way.live) v at state.node c.in-Break.answer answers (subst (λ z. is_count_in_range (add (weight (g.C.WindingCount.winding c.loop-way.sum)) (weight z)) ≡ true) count c.in_ok-top.ensures.in_range))
+    let answers = ap (λ u. (g.H.FillHandler.handle_gives c.loop-way.handler u).1) (sym made) ∙ sym c.in_ok-seen.ensures.answer ∙ ap break_value c.in-Break.is in
+    in_range_here g.H.FillHandler.handle_gives g.H.FillHandler.finalize_gives g.F.FillStrategy.rule (data_segments_of c.args.segments.now) arr c.args.handler c.loop-index.index c.node_end-next.result (start_at (without_data (data_segments_of c.args.segments.now)) c.loop-index.index) state.order state.run c.loop-way.way-index (g.C.WindingCount.winding c.loop-way.sum) c.loop-way.handler (g.S.LiveSegments.sums c.loop-way.live) v at state.node c.in-Break.answer answers (subst (λ z. is_count_in_range (add (weight (g.C.WindingCount.winding c.loop-way.sum)) (weight z)) ≡ true) count c.in_ok-seen.ensures.in_range))
 
-pub returns-in_err-top-clause-out_of_range : goal.returns-in_err-top-clause-out_of_range
-returns-in_err-top-clause-out_of_range g c =
+pub returns-in_err-seen-clause-out_of_range : goal.returns-in_err-seen-clause-out_of_range
+returns-in_err-seen-clause-out_of_range g c =
     let arr = arranged_list (g.I.OverlayInt.whole g.I.OverlayInt.MIN_COORD) (g.I.OverlayInt.whole g.I.OverlayInt.MAX_COORD) c.args.segments.now c.requires.arranged in
     let state = c.loop-way.invariant.0 arr in
-    refused_as c.from_residual-in_err-top.result _ _ c.from_residual-in_err-top.ensures.1 (λ fault passed h. ap (λ l. visits_leave_range l (visited g.H.FillHandler.handle_gives c.args.handler (visits g.F.FillStrategy.rule (data_segments_of c.args.segments.now)))) (sym (same_list c.args.segments.now))
+    refused_as c.from_residual-in_err-seen.result _ _ c.from_residual-in_err-seen.ensures.1 (λ fault passed h. ap (λ l. visits_leave_range l (visited g.H.FillHandler.handle_gives c.args.handler (visits g.F.FillStrategy.rule (data_segments_of c.args.segments.now)))) (sym (same_list c.args.segments.now))
     ∙ amid_place g.H.FillHandler.handle_gives g.H.FillHandler.finalize_gives g.F.FillStrategy.rule (data_segments_of c.args.segments.now) arr c.args.handler c.loop-index.index c.node_end-next.result c.loop-way.way-index (g.C.WindingCount.winding c.loop-way.sum) c.loop-way.handler (g.S.LiveSegments.sums c.loop-way.live) (g.S.LiveSegments.may_go_on_at c.loop-way.live) state way_of c.deref-way-items.result.now c.loop-way.invariant.2 c.loop-way-test.true c.way-item.result c.way-item.is (λ v at e.
     let own : data_segment_of c.index-segments-way.result ≡ v.segment = segment_is data_segment_of c.args.segments.now g.F.FillStrategy.rule (without_data (data_segments_of c.args.segments.now)) c.way-item.result.index c.index-segments-way.result v c.index-segments-way.is e at.is in
     let count : winding_of c.index-segments-way.result ≡ v.segment.count = ap (λ (s : DataSegment g.row.D.Denot). s.count) own in
-    refused_here g.H.FillHandler.handle_gives g.H.FillHandler.finalize_gives g.F.FillStrategy.rule (data_segments_of c.args.segments.now) arr c.args.handler c.loop-index.index c.node_end-next.result (start_at (without_data (data_segments_of c.args.segments.now)) c.loop-index.index) state.order state.run c.loop-way.way-index (g.C.WindingCount.winding c.loop-way.sum) c.loop-way.handler (g.S.LiveSegments.sums c.loop-way.live) v at state.node (subst (λ z. is_count_in_range (add (weight (g.C.WindingCount.winding c.loop-way.sum)) (weight z)) ≡ false) count (c.in_err-top.ensures.range (sym passed ∙ h)))))
+    refused_here g.H.FillHandler.handle_gives g.H.FillHandler.finalize_gives g.F.FillStrategy.rule (data_segments_of c.args.segments.now) arr c.args.handler c.loop-index.index c.node_end-next.result (start_at (without_data (data_segments_of c.args.segments.now)) c.loop-index.index) state.order state.run c.loop-way.way-index (g.C.WindingCount.winding c.loop-way.sum) c.loop-way.handler (g.S.LiveSegments.sums c.loop-way.live) v at state.node (subst (λ z. is_count_in_range (add (weight (g.C.WindingCount.winding c.loop-way.sum)) (weight z)) ≡ false) count (c.in_err-seen.ensures.range (sym passed ∙ h)))))
 
 pub loop-way-preserved : goal.loop-way-preserved
 loop-way-preserved g c =
@@ -184,18 +184,18 @@ loop-way-preserved g c =
           let own : data_segment_of c.index-segments-way.result ≡ v.segment = segment_is data_segment_of c.args.segments.now g.F.FillStrategy.rule (without_data (data_segments_of c.args.segments.now)) c.way-item.result.index c.index-segments-way.result v c.index-segments-way.is e at.is in
           let made = visit_is g.H.FillHandler.handle_gives g.H.FillHandler.finalize_gives g.F.FillStrategy.rule (data_segments_of c.args.segments.now) arranged c.args.handler c.loop-index.index c.node_end-next.result c.loop-way.way-index (g.C.WindingCount.winding c.loop-way.sum) c.loop-way.handler (g.S.LiveSegments.sums c.loop-way.live) (g.S.LiveSegments.may_go_on_at c.loop-way.live) v at state c.way-item.result.index (data_segment_of c.index-segments-way.result) e own in
           let count : winding_of c.index-segments-way.result ≡ v.segment.count = ap (λ (s : DataSegment g.row.D.Denot). s.count) own in
-          let top = rw c.in-Continue.is at c.in_ok-top.ensures.top in
-          let left = rw c.in-Continue.is at c.in_ok-top.ensures.live in
-          let later = rw c.in-Continue.is at c.in_ok-top.ensures.time in
+          let top = rw c.in-Continue.is at c.in_ok-seen.ensures.top in
+          let left = rw c.in-Continue.is at c.in_ok-seen.ensures.live in
+          let later = rw c.in-Continue.is at c.in_ok-seen.ensures.time in
           step g.H.FillHandler.handle_gives g.H.FillHandler.finalize_gives g.F.FillStrategy.rule (data_segments_of c.args.segments.now) arranged c.args.handler c.loop-index.index c.node_end-next.result c.loop-way.way-index (g.C.WindingCount.winding c.loop-way.sum) (g.C.WindingCount.winding c.in-Continue.top) c.loop-way.handler c.visit.new.handler (g.S.LiveSegments.sums c.loop-way.live) (g.S.LiveSegments.sums c.visit.new.live) (g.S.LiveSegments.may_go_on_at c.loop-way.live) (g.S.LiveSegments.may_go_on_at c.visit.new.live) v at state
-          (ap (λ u. (g.H.FillHandler.handle_gives c.loop-way.handler u).1) (sym made) ∙ sym c.in_ok-top.ensures.answer ∙ ap break_value c.in-Continue.is)
-          (c.in_ok-top.ensures.handler ∙ ap (λ u. (g.H.FillHandler.handle_gives c.loop-way.handler u).0) made)
+          (ap (λ u. (g.H.FillHandler.handle_gives c.loop-way.handler u).1) (sym made) ∙ sym c.in_ok-seen.ensures.answer ∙ ap break_value c.in-Continue.is)
+          (c.in_ok-seen.ensures.handler ∙ ap (λ u. (g.H.FillHandler.handle_gives c.loop-way.handler u).0) made)
           (top ∙ ap (λ z. add (weight (g.C.WindingCount.winding c.loop-way.sum)) (weight z)) count)
-          (subst (λ z. is_count_in_range (add (weight (g.C.WindingCount.winding c.loop-way.sum)) (weight z)) ≡ true) count c.in_ok-top.ensures.in_range)
+          (subst (λ z. is_count_in_range (add (weight (g.C.WindingCount.winding c.loop-way.sum)) (weight z)) ≡ true) count c.in_ok-seen.ensures.in_range)
           (subst (λ (p : Point). HoldSameFrom p.x (g.S.LiveSegments.sums c.visit.new.live) (record { pair = v.segment.pair; count = add (weight (g.C.WindingCount.winding c.loop-way.sum)) (weight v.segment.count) } ∷ g.S.LiveSegments.sums c.loop-way.live)) at.start
           (subst (λ (s : DataSegment g.row.D.Denot). HoldSameFrom s.pair.a.x (g.S.LiveSegments.sums c.visit.new.live) (record { pair = s.pair; count = add (weight (g.C.WindingCount.winding c.loop-way.sum)) (weight s.count) } ∷ g.S.LiveSegments.sums c.loop-way.live)) own left))
           (λ y l. later y (subst (λ (p : Point). p.x ≤ℤ y) (sym (ap (λ (s : DataSegment g.row.D.Denot). s.pair.a) own ∙ at.start)) l)))),
-      (λ k l. subst (λ u. g.H.FillHandler.takes u k) (sym c.in_ok-top.ensures.handler) (g.met.H.FillHandler.keeps_taking c.loop-way.handler _ k (c.loop-way.invariant.1 c.way-item.result.index bound) (c.loop-way.invariant.1 k l))),
+      (λ k l. subst (λ u. g.H.FillHandler.takes u k) (sym c.in_ok-seen.ensures.handler) (g.met.H.FillHandler.keeps_taking c.loop-way.handler _ k (c.loop-way.invariant.1 c.way-item.result.index bound) (c.loop-way.invariant.1 k l))),
       c.loop-way.invariant.2,
     )
 

@@ -1,5 +1,6 @@
-use Rattle.std.proofs.Common.{◌≡◌, ◌∙◌, ap, sym, refl, subst}
+use Rattle.std.proofs.Common.{◌≡◌, ◌∙◌, ap, sym, refl, subst, arith}
 use Rattle.std.specs.Prelude.{◌≤ℤ◌}
+use Rattle.std.proofs.lemmas.Int.{ints}
 use Rattle.overlay_base.specs.Points.{Pair}
 use Rattle.overlay_base.specs.Segments.{WholeSegment}
 use Rattle.overlay_base.specs.Windings.{add, weight}
@@ -29,4 +30,14 @@ returns-clause-time g c =
     elim c.if-is_not_vertical.branch [
       | then-is_not_vertical+in_ok-insert w ↦ λ y h. rw w.live-is (w.in_ok-insert.ensures.time y (subst (λ (s : Pair). s.a.x ≤ℤ y) (sym own) h))
       | else-is_not_vertical w ↦ λ y h. rw w.live-is (c.requires.time y h)
+    ]
+
+pub returns-clause-asked : goal.returns-clause-asked
+returns-clause-asked g c =
+    let own : pair_of g.I.OverlayInt.whole c.x_segment-ends.result ≡ ends_of c.args.segment.now = ap (pair_of g.I.OverlayInt.whole) c.x_segment-ends.ensures in
+    elim c.if-is_not_vertical.branch [
+      | then-is_not_vertical+in_ok-insert w ↦ λ h. rw w.live-is (omega (arith, w.compared-is, w.saturating_add.ensures, w.compared.ensures))
+      | else-is_not_vertical w ↦ λ h.
+          let upright = vertical_same (pair_of g.I.OverlayInt.whole c.x_segment-ends.result) (sym c.is_not_vertical.ensures ∙ w.if-is_not_vertical.false) in
+          absurd (omega (arith, ints, h, subst (λ (s : Pair). s.a.x ≡ s.b.x) own upright))
     ]

@@ -1,4 +1,4 @@
-use Rattle.std.proofs.Common.{◌≡◌, ◌∙◌, ap, sym, subst, filter, List, map, ℕ, ◌≤◌, length, take}
+use Rattle.std.proofs.Common.{◌≡◌, ◌∙◌, ap, sym, refl, arith, subst, filter, List, map, ℕ, ◌≤◌, length, take}
 use Rattle.std.specs.Prelude.{ℤ, Option, option_map, All, ◌≤ℤ◌}
 use Rattle.std.specs.Option.{option_map_or}
 use Rattle.std.proofs.lemmas.List.{length-map, take_all}
@@ -13,8 +13,9 @@ use Rattle.overlay_build.specs.EntryOf.{entry_of, entries_of}
 use Rattle.overlay_build.specs.Live.{HoldSameFrom, AreFreeAt}
 use Rattle.overlay_build.specs.Sweep.{sum_below}
 use Rattle.overlay_build.proofs.laws.ScanSums.{leading, lasting, no_leading, scan_result, scan_new, scan_old, scan_skip, orders_agree, HoldSameFrom-lasting, begins_lasting}
+use Rattle.overlay_build.proofs.laws.ScanCounts.{none_asked, asked_skip, asked_new, asked_old, asked_all}
 use Rattle.overlay_build.proofs.build.scan_list.ScanListLiveSegments.sum_below.Goals as goal
-use Rattle.overlay_build.proofs.build.scan_list.ScanListLiveSegments.sum_below.Goals.{then-is_below+then-is_not_under_best, else-is_below, else-is_below-via-then-is_below+else-is_not_under_best, else-is_below-via-else-is_below}
+use Rattle.overlay_build.proofs.build.scan_list.ScanListLiveSegments.sum_below.Goals.{then-is_before+then-is_not_under_best, else-is_before, else-is_before-via-then-is_before+else-is_not_under_best, else-is_before-via-else-is_before}
 
 -- ---- the shared part: the entries that last past x, of those that begin at x or earlier
 
@@ -43,29 +44,38 @@ module _ {E : Type 0} (entry : E → WholeSegment) (x : ℤ) (old new : List E) 
 -- ---- the answers
 
 pub loop-entry-init : goal.loop-entry-init
-loop-entry-init g c = no_leading (point_of g.I.OverlayInt.whole c.args.p) (entries_of c.deref-entry-items.result.now)
+loop-entry-init g c = record {
+  best = no_leading (point_of g.I.OverlayInt.whole c.args.p) (entries_of c.deref-entry-items.result.now);
+  asked = none_asked (point_of g.I.OverlayInt.whole c.args.p) (entries_of c.deref-entry-items.result.now);
+}
 
 pub loop-entry-preserved : goal.loop-entry-preserved
 loop-entry-preserved g c =
     let agreed = agree entry_of (g.I.OverlayInt.whole c.args.x) c.args.self.now.entries.items c.deref-entry-items.result.now (c.deref-entry-items.ensures.value ∙ c.drop_ended.ensures) c.requires.time c.requires.free _ c.requires.same_x in
-    elim c.if-is_below.branch [
-      | then-is_below+then-is_not_under_best w ↦
-          rw w.best-is (scan_new entry_of (point_of g.I.OverlayInt.whole c.args.p) c.deref-entry-items.result.now c.loop-entry.entry-index c.entry-item.result c.loop-entry-test.true c.entry-item.is c.loop-entry.best c.loop-entry.invariant agreed
-          (sym c.is_below.ensures ∙ w.if-is_below.true) (sym w.is_not_under_best.ensures ∙ w.if-is_not_under_best.true))
-      | else-is_below w ↦ elim w.else-is_below.branch [
-        | else-is_below-via-then-is_below+else-is_not_under_best v ↦
-            rw w.best-is (scan_old entry_of (point_of g.I.OverlayInt.whole c.args.p) c.deref-entry-items.result.now c.loop-entry.entry-index c.entry-item.result c.loop-entry-test.true c.entry-item.is c.loop-entry.best c.loop-entry.invariant agreed
-            (sym c.is_below.ensures ∙ v.if-is_below.true) (sym v.is_not_under_best.ensures ∙ v.if-is_not_under_best.false))
-        | else-is_below-via-else-is_below v ↦
-            rw w.best-is (scan_skip entry_of (point_of g.I.OverlayInt.whole c.args.p) c.deref-entry-items.result.now c.loop-entry.entry-index c.entry-item.result c.loop-entry-test.true c.entry-item.is c.loop-entry.best c.loop-entry.invariant agreed
-            (sym c.is_below.ensures ∙ v.if-is_below.false))
+    elim c.if-is_before.branch [
+      | then-is_before+then-is_not_under_best w ↦ record {
+        best = rw w.best-is (scan_new entry_of (point_of g.I.OverlayInt.whole c.args.p) c.deref-entry-items.result.now c.loop-entry.entry-index c.entry-item.result c.loop-entry-test.true c.entry-item.is c.loop-entry.best c.loop-entry.invariant.best agreed
+            (sym c.is_before.ensures.value ∙ w.if-is_before.true) (sym w.is_not_under_best.ensures.value ∙ w.if-is_not_under_best.true));
+        asked = rw w.best-is (rw w.compared-is (asked_new entry_of (point_of g.I.OverlayInt.whole c.args.p) c.deref-entry-items.result.now c.loop-entry.entry-index c.entry-item.result c.loop-entry-test.true c.entry-item.is (omega arith) _ c.loop-entry.compared c.is_before.new.compared c.loop-entry.invariant.asked c.is_before.ensures.compared (sym c.is_before.ensures.value ∙ w.if-is_before.true) c.loop-entry.best refl _ w.is_not_under_best.ensures.compared));
+      }
+      | else-is_before w ↦ elim w.else-is_before.branch [
+        | else-is_before-via-then-is_before+else-is_not_under_best v ↦ record {
+          best = rw w.best-is (scan_old entry_of (point_of g.I.OverlayInt.whole c.args.p) c.deref-entry-items.result.now c.loop-entry.entry-index c.entry-item.result c.loop-entry-test.true c.entry-item.is c.loop-entry.best c.loop-entry.invariant.best agreed
+              (sym c.is_before.ensures.value ∙ v.if-is_before.true) (sym v.is_not_under_best.ensures.value ∙ v.if-is_not_under_best.false));
+          asked = rw w.best-is (rw w.compared-is (rw v.compared-is (asked_old entry_of (point_of g.I.OverlayInt.whole c.args.p) c.deref-entry-items.result.now c.loop-entry.entry-index c.entry-item.result c.loop-entry-test.true c.entry-item.is (omega arith) _ c.loop-entry.compared c.is_before.new.compared c.loop-entry.invariant.asked c.is_before.ensures.compared (sym c.is_before.ensures.value ∙ v.if-is_before.true) _ c.loop-entry.best (sym v.is_not_under_best.ensures.value ∙ v.if-is_not_under_best.false) refl _ v.is_not_under_best.ensures.compared)));
+        }
+        | else-is_before-via-else-is_before v ↦ record {
+          best = rw w.best-is (scan_skip entry_of (point_of g.I.OverlayInt.whole c.args.p) c.deref-entry-items.result.now c.loop-entry.entry-index c.entry-item.result c.loop-entry-test.true c.entry-item.is c.loop-entry.best c.loop-entry.invariant.best agreed
+              (sym c.is_before.ensures.value ∙ v.if-is_before.false));
+          asked = rw w.best-is (rw w.compared-is (rw v.compared-is (asked_skip entry_of (point_of g.I.OverlayInt.whole c.args.p) c.deref-entry-items.result.now c.loop-entry.entry-index c.entry-item.result c.loop-entry-test.true c.entry-item.is (omega arith) _ c.loop-entry.compared c.is_before.new.compared c.loop-entry.invariant.asked c.is_before.ensures.compared (sym c.is_before.ensures.value ∙ v.if-is_before.false))));
+        }
       ]
     ]
 
 pub returns-in-Some-clause-sum : goal.returns-in-Some-clause-sum
 returns-in-Some-clause-sum g c =
     ap (λ o. option_map_or (λ (s : WholeSegment). s.count) (option_map entry_of o) (g.C.WindingCount.winding c.args.default)) (sym c.in-Some.is)
-    ∙ found entry_of (g.I.OverlayInt.whole c.args.x) c.args.self.now.entries.items c.deref-entry-items.result.now (c.deref-entry-items.ensures.value ∙ c.drop_ended.ensures) c.requires.time (point_of g.I.OverlayInt.whole c.args.p) c.requires.same_x _ c.loop-entry.best c.loop-entry.entry-index c.loop-entry-test.false c.loop-entry.invariant
+    ∙ found entry_of (g.I.OverlayInt.whole c.args.x) c.args.self.now.entries.items c.deref-entry-items.result.now (c.deref-entry-items.ensures.value ∙ c.drop_ended.ensures) c.requires.time (point_of g.I.OverlayInt.whole c.args.p) c.requires.same_x _ c.loop-entry.best c.loop-entry.entry-index c.loop-entry-test.false c.loop-entry.invariant.best
 
 pub returns-in-Some-clause-sums : goal.returns-in-Some-clause-sums
 returns-in-Some-clause-sums g c = same_sums entry_of (g.I.OverlayInt.whole c.args.x) c.args.self.now.entries.items _ c.drop_ended.ensures c.requires.time
@@ -76,10 +86,16 @@ returns-in-Some-clause-time g c = later_times entry_of (g.I.OverlayInt.whole c.a
 pub returns-in-None-clause-sum : goal.returns-in-None-clause-sum
 returns-in-None-clause-sum g c =
     ap (λ o. option_map_or (λ (s : WholeSegment). s.count) (option_map entry_of o) (g.C.WindingCount.winding c.args.default)) (sym c.in-None.is)
-    ∙ found entry_of (g.I.OverlayInt.whole c.args.x) c.args.self.now.entries.items c.deref-entry-items.result.now (c.deref-entry-items.ensures.value ∙ c.drop_ended.ensures) c.requires.time (point_of g.I.OverlayInt.whole c.args.p) c.requires.same_x _ c.loop-entry.best c.loop-entry.entry-index c.loop-entry-test.false c.loop-entry.invariant
+    ∙ found entry_of (g.I.OverlayInt.whole c.args.x) c.args.self.now.entries.items c.deref-entry-items.result.now (c.deref-entry-items.ensures.value ∙ c.drop_ended.ensures) c.requires.time (point_of g.I.OverlayInt.whole c.args.p) c.requires.same_x _ c.loop-entry.best c.loop-entry.entry-index c.loop-entry-test.false c.loop-entry.invariant.best
 
 pub returns-in-None-clause-sums : goal.returns-in-None-clause-sums
 returns-in-None-clause-sums g c = same_sums entry_of (g.I.OverlayInt.whole c.args.x) c.args.self.now.entries.items _ c.drop_ended.ensures c.requires.time
 
 pub returns-in-None-clause-time : goal.returns-in-None-clause-time
 returns-in-None-clause-time g c = later_times entry_of (g.I.OverlayInt.whole c.args.x) c.args.self.now.entries.items _ c.drop_ended.ensures c.requires.time
+
+pub returns-in-Some-clause-compared : goal.returns-in-Some-clause-compared
+returns-in-Some-clause-compared g c = rw c.deref-entry-items.ensures.value at (asked_all entry_of (point_of g.I.OverlayInt.whole c.args.p) c.deref-entry-items.result.now c.loop-entry.entry-index _ c.loop-entry.compared c.loop-entry-test.false (omega arith) c.loop-entry.invariant.asked)
+
+pub returns-in-None-clause-compared : goal.returns-in-None-clause-compared
+returns-in-None-clause-compared g c = rw c.deref-entry-items.ensures.value at (asked_all entry_of (point_of g.I.OverlayInt.whole c.args.p) c.deref-entry-items.result.now c.loop-entry.entry-index _ c.loop-entry.compared c.loop-entry-test.false (omega arith) c.loop-entry.invariant.asked)
