@@ -7,11 +7,11 @@ use Rattle.overlay_base.specs.Meeting.{are_collinear}
 use Rattle.overlay_base.specs.Segments.{WholeSegment}
 use Rattle.overlay_base.specs.Windings.{is_valid, is_not_empty}
 use Rattle.overlay_base.specs.Planar.{is_pair_in_range, is_splittable}
-use Rattle.overlay_split.specs.Marks.{Placing}
-use Rattle.overlay_split.specs.CrossAnswer.{overlay, CrossAnswer, cross_answer}
-use Rattle.overlay_split.specs.AnswerOf.{answer_of, result_of}
-use Rattle.overlay_split.specs.declared.split.cross_solver.CrossResult.{CrossResult}
-use Rattle.overlay_split.proofs.laws.MarkedPairs.{overlay_is_collinear}
+use Rattle.overlay_marks.specs.Marks.{Placing}
+use Rattle.overlay_marks.specs.CrossAnswer.{overlay, CrossAnswer, cross_answer}
+use Rattle.overlay_marks.specs.AnswerOf.{answer_of, result_of}
+use Rattle.overlay_marks.specs.declared.split.cross_solver.CrossResult.{CrossResult}
+use Rattle.overlay_marks.proofs.laws.MarkedPairs.{overlay_is_collinear}
 
 -- a list of two
 pub are_two : {X : Type 0} (xs : List X) (x y : X) → 2 ≤ length xs → length xs < 3 → x ≡ get_or xs 0 x → y ≡ get_or xs 1 y → xs ≡ x ∷ y ∷ []

@@ -1,6 +1,7 @@
 pub mod examples
 pub mod Crossings
 pub mod GraphAnswers
+pub mod RuleWords
 pub mod GraphPoints
 pub mod Parts
 pub mod PrecisionWords

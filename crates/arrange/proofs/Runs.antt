@@ -8,20 +8,17 @@ use Rattle.std.specs.Option.{ok_or}
 use Rattle.std.specs.declared.result.Result.{Result}
 use Rattle.overlay_base.specs.Segments.{WholeSegment}
 use Rattle.overlay_base.specs.Join.{join, has_equal_pairs, join_leaves_range}
-use Rattle.overlay_build.specs.ChainWindings.{tops_leave_range}
-use Rattle.overlay_build.specs.Graph.{graph_by}
-use Rattle.overlay_build.specs.RuleOf.{keeps_by}
 use Rattle.overlay_base.specs.declared.segm.fault.Fault.{Fault}
 use Rattle.overlay_base.specs.declared.segm.fault.Fault.TheVariants.{CountOutOfRange, Memory}
 use Rattle.arrange.specs.declared.settings.Command.{Command}
-use Rattle.arrange.specs.declared.settings.Command.TheVariants.{Join, Cross, Split, Graph}
+use Rattle.arrange.specs.declared.settings.Command.TheVariants.{Join, Cross, Split, Graph, Walks}
 use Rattle.arrange.specs.declared.settings.Settings.{Settings}
 use Rattle.arrange.specs.declared.stop.Stop.{Stop}
 use Rattle.arrange.specs.declared.stop.Stop.TheVariants.{Usage, NotTwoSegments, Line, Refused, Input, Output}
-use Rattle.arrange.specs.Output.{segment_lines, flag_line, cross_text, graph_text}
+use Rattle.arrange.specs.Output.{segment_lines, flag_line, cross_text}
 use Rattle.arrange.specs.Status.{status_of}
 use Rattle.arrange.specs.Text.{lines_of, AskInTurnFor, IsFirstFault}
-use Rattle.arrange.specs.Run.{least_of, greatest_of, bits_of, arrangement_text, IsCommandAnswer, IsAnswer, IsRunAnswer, IsStop}
+use Rattle.arrange.specs.Run.{least_of, greatest_of, bits_of, IsCommandAnswer, IsAnswer, IsRunAnswer, IsStop}
 use Rattle.arrange.specs.Words.{WordsAsk, AskSomething}
 
 cross_text-other : (r2 : ℕ) (segments : List WholeSegment) → length segments ≢ 2 → cross_text r2 segments ≡ None
@@ -46,6 +43,12 @@ module _ (least greatest : ℤ) (bits : ℕ) (settings : Settings) (bytes : List
       inr (inl (segments, asked, ap Err other ∙ sym (ap (λ text. ok_or text NotTwoSegments) (cross_text-other (unsigned_abs settings.radius.squared) segments (two (ap Err other))))))
   stops_at_crossing (Err stop) segments asked two (inr refused) = inl refused
 
+  pub stops_at_command : {T : Type 0} (r : Result T Stop) (command : Command) (segments : List WholeSegment) → AskInTurnFor least greatest (lines_of bytes) segments
+      → IfErr r (λ stop. (stop ≡ Refused Memory) ⊎ IsCommandAnswer bits command settings segments (Err stop)) → IfErr r (λ stop. (stop ≡ Refused Memory) ⊎ IsAnswer least greatest bits command settings bytes (Err stop))
+  stops_at_command (Ok text) command segments asked stops = tt
+  stops_at_command (Err stop) command segments asked (inl refused) = inl refused
+  stops_at_command (Err stop) command segments asked (inr answer) = inr (inl (segments, asked, answer))
+
 refused_is_no_usage : (fault : Fault) (stop : Stop) → stop ≡ Refused fault → stop ≢ Usage
 refused_is_no_usage fault stop is usage = cc
 
@@ -56,10 +59,6 @@ by_test false text stop is usage = cc
 by_text : (text : Option (List ℕ)) (stop : Stop) → Err stop ≡ ok_or text NotTwoSegments → stop ≢ Usage
 by_text None stop is usage = cc
 by_text (Some text) stop is usage = cc
-
-by_arrangement : (settings : Settings) (arrangement : List WholeSegment) (stop : Stop) → Err stop ≡ arrangement_text settings arrangement → stop ≢ Usage
-unfolding arrangement_text
-by_arrangement settings arrangement stop is = by_test (tops_leave_range arrangement) (graph_text (graph_by (keeps_by settings.rule) settings.fill_rule arrangement)) stop is
 
 pub is_no_success : (stop : Stop) → status_of stop ≢ 0
 is_no_success Usage is = omega (arith, is)
@@ -75,8 +74,10 @@ by_command bits Join settings segments stop is usage = by_test (join_leaves_rang
 by_command bits Cross settings segments stop is usage = by_text (cross_text (unsigned_abs settings.radius.squared) segments) stop is usage
 by_command bits Split settings segments stop (inl run) usage = cc run.4
 by_command bits Split settings segments stop (inr leaves) usage = cc leaves.1
-by_command bits Graph settings segments stop (inl run) usage = by_arrangement settings run.0 stop run.4 usage
+by_command bits Graph settings segments stop (inl told) usage = cc told.2
 by_command bits Graph settings segments stop (inr leaves) usage = cc leaves.1
+by_command bits Walks settings segments stop (inl told) usage = cc told.4
+by_command bits Walks settings segments stop (inr leaves) usage = cc leaves.1
 
 is_no_usage : (least greatest : ℤ) (bits : ℕ) (settings : Settings) (bytes : List ℕ) (command : Command) (stop : Stop) → IsAnswer least greatest bits command settings bytes (Err stop) → stop ≢ Usage
 is_no_usage least greatest bits settings bytes command stop (inl answer) usage = by_command bits command settings answer.0 stop answer.2 usage

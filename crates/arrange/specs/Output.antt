@@ -1,11 +1,12 @@
 -- The text of the output: one item a line.
-use Rattle.std.specs.Prelude.{ℕ, ℤ, Bool, codes, if◌then◌else◌, List, [], ◌∷◌, ◌++◌, flat_map, Option, Some, None}
+use Rattle.std.specs.Prelude.{◌≡◌, ◌⊎◌, ℕ, ℤ, IsTrue, IsFalse, Bool, codes, if◌then◌else◌, List, [], ◌∷◌, ◌++◌, flat_map, Option, Some, None}
 use Rattle.std.specs.Fmt.{decimal, signed_decimal}
 use Rattle.overlay_base.specs.Points.{Point, Pair, pair_lt}
 use Rattle.overlay_base.specs.Segments.{WholeSegment}
-use Rattle.overlay_split.specs.Marks.{snapping}
-use Rattle.overlay_split.specs.CrossAnswer.{pure, target_end, other_end, overlay, CrossAnswer, cross_answer, ends_mask}
-use Rattle.overlay_build.specs.Graph.{Link, Node, Graph, is_bridge, is_valid_graph}
+use Rattle.overlay_marks.specs.Marks.{snapping}
+use Rattle.overlay_marks.specs.CrossAnswer.{pure, target_end, other_end, overlay, CrossAnswer, cross_answer, ends_mask}
+use Rattle.overlay_build.specs.Graph.{Link, Node, Graph, is_bridge, is_valid_graph, has_even_nodes}
+use Rattle.overlay_build.specs.Walks.{AreClosedWalks}
 
 -- two numbers, each after a space
 abbrev pub pair_text : ℤ → ℤ → List ℕ
@@ -75,3 +76,13 @@ node_line n = codes "node" ++ pair_text n.point.x n.point.y ++ (if is_bridge n t
 -- the links, then the nodes, then `valid true` or `valid false`
 unfoldable pub graph_text : Graph → List ℕ
 graph_text graph = flat_map link_line graph.links ++ flat_map node_line graph.nodes ++ codes "valid " ++ bool_text (is_valid_graph graph) ++ codes "\n"
+
+-- `walk I ..`
+unfoldable pub walk_line : List ℕ → List ℕ
+walk_line walk = codes "walk" ++ numbers_text walk ++ codes "\n"
+
+-- closed walks in which every link of the graph stands once, or `uneven nodes`
+abbrev pub IsWalksText : Graph → List ℕ → Type 0
+IsWalksText graph text =
+    (IsFalse (has_even_nodes graph) × (text ≡ codes "uneven nodes\n"))
+    ⊎ (IsTrue (has_even_nodes graph) × (walks : List (List ℕ)) × AreClosedWalks graph.links walks × (text ≡ flat_map walk_line walks))

@@ -1,23 +1,23 @@
 -- What a whole run answers: the text of its output, or why it stops.
-use Rattle.std.specs.Prelude.{Bool, ◌≡◌, ◌≢◌, ◌⊎◌, ◌++◌, ℕ, ℤ, pos, negsuc, if◌then◌else◌, List, Option, Ok, Err, IfSome, unsigned_abs}
+use Rattle.std.specs.Prelude.{Bool, ◌≡◌, ◌≢◌, ◌⊎◌, ◌++◌, ℕ, ℤ, pos, negsuc, if◌then◌else◌, List, Option, Ok, Err, IfSome, unsigned_abs, IsTrue, IsFalse}
 use Rattle.std.specs.Option.{ok_or}
 use Rattle.std.specs.declared.result.Result.{Result}
 use Rattle.overlay_base.specs.Segments.{WholeSegment}
 use Rattle.overlay_base.specs.Join.{join, has_equal_pairs, join_leaves_range}
 use Rattle.overlay_base.specs.Radius.{exponent_cap}
-use Rattle.overlay_split.specs.Run.{Settings as RunSettings, IsRun, LeavesRange}
+use Rattle.overlay_split.specs.Run.{Settings as RunSettings, IsPassCount, IsRun, LeavesRange, after_passes}
 use Rattle.overlay_build.specs.ChainWindings.{tops_leave_range}
-use Rattle.overlay_build.specs.Graph.{graph_by}
+use Rattle.overlay_build.specs.Graph.{Graph, graph_by}
 use Rattle.overlay_build.specs.RuleOf.{keeps_by}
 use Rattle.overlay_base.specs.declared.segm.fault.Fault.TheVariants.{CountOutOfRange, Memory}
 use Rattle.arrange.specs.declared.settings.Command.{Command}
-use Rattle.arrange.specs.declared.settings.Command.TheVariants.{Join, Cross, Split, Graph}
+use Rattle.arrange.specs.declared.settings.Command.TheVariants.{Join, Cross, Split, Graph as GraphCommand, Walks}
 use Rattle.arrange.specs.declared.settings.Engine.{Engine}
 use Rattle.arrange.specs.declared.settings.Engine.TheVariants.{I16, I32}
 use Rattle.arrange.specs.declared.settings.Settings.{Settings}
 use Rattle.arrange.specs.declared.stop.Stop.{Stop}
 use Rattle.arrange.specs.declared.stop.Stop.TheVariants.{Usage, NotTwoSegments, Refused, Input, Output}
-use Rattle.arrange.specs.Output.{segment_lines, flag_line, passes_line, cross_text, graph_text}
+use Rattle.arrange.specs.Output.{segment_lines, flag_line, passes_line, cross_text, graph_text, IsWalksText}
 use Rattle.arrange.specs.Words.{WordsAsk, AskSomething, AskNothing}
 use Rattle.arrange.specs.Text.{lines_of, AskInTurnFor, IsFirstFault}
 
@@ -44,11 +44,19 @@ split_settings bits settings = record {
   limit = settings.snap_limit;
 }
 
--- the graph of the kept segments of an arrangement, as text, or a count that leaves the range above some segment
-unfoldable pub arrangement_text : Settings → List WholeSegment → Result (List ℕ) Stop
-arrangement_text settings arrangement =
-    if tops_leave_range arrangement then Err (Refused CountOutOfRange)
-    else Ok (graph_text (graph_by (keeps_by settings.rule) settings.fill_rule arrangement))
+-- the graph that the settings choose of the arrangement that a split of the segments leaves, where no winding leaves the range
+abbrev pub IsGraphOf : ℕ → Settings → List WholeSegment → Graph → Type 0
+IsGraphOf bits settings segments graph =
+    (passes : ℕ) × IsPassCount (split_settings bits settings) segments passes
+    × IsFalse (tops_leave_range (after_passes (split_settings bits settings) segments passes))
+    × (graph ≡ graph_by (keeps_by settings.rule) settings.fill_rule (after_passes (split_settings bits settings) segments passes))
+
+-- a count leaves the range: in the split of the segments, or above some segment of the arrangement that it leaves
+abbrev pub CountsLeaveRange : ℕ → Settings → List WholeSegment → Type 0
+CountsLeaveRange bits settings segments =
+    LeavesRange (split_settings bits settings) segments
+    ⊎ ((passes : ℕ) × IsPassCount (split_settings bits settings) segments passes
+    × IsTrue (tops_leave_range (after_passes (split_settings bits settings) segments passes)))
 
 -- what a command makes of segments, in coordinates of so many bits
 abbrev pub IsCommandAnswer : ℕ → Command → Settings → List WholeSegment → Result (List ℕ) Stop → Type 0
@@ -60,10 +68,12 @@ IsCommandAnswer bits Split settings segments answer =
     ((result : List WholeSegment) × (passes : ℕ) × (flag : Bool) × IsRun (split_settings bits settings) segments result passes flag
     × (answer ≡ Ok (segment_lines result ++ flag_line flag ++ passes_line passes)))
     ⊎ (LeavesRange (split_settings bits settings) segments × (answer ≡ Err (Refused CountOutOfRange)))
-IsCommandAnswer bits Graph settings segments answer =
-    ((arrangement : List WholeSegment) × (passes : ℕ) × (flag : Bool) × IsRun (split_settings bits settings) segments arrangement passes flag
-    × (answer ≡ arrangement_text settings arrangement))
-    ⊎ (LeavesRange (split_settings bits settings) segments × (answer ≡ Err (Refused CountOutOfRange)))
+IsCommandAnswer bits GraphCommand settings segments answer =
+    ((graph : Graph) × IsGraphOf bits settings segments graph × (answer ≡ Ok (graph_text graph)))
+    ⊎ (CountsLeaveRange bits settings segments × (answer ≡ Err (Refused CountOutOfRange)))
+IsCommandAnswer bits Walks settings segments answer =
+    ((graph : Graph) × (text : List ℕ) × IsGraphOf bits settings segments graph × IsWalksText graph text × (answer ≡ Ok text))
+    ⊎ (CountsLeaveRange bits settings segments × (answer ≡ Err (Refused CountOutOfRange)))
 
 -- what a command makes of the segments for which a text asks, or the first fault of its lines
 abbrev pub IsAnswer : ℤ → ℤ → ℕ → Command → Settings → List ℕ → Result (List ℕ) Stop → Type 0

@@ -1,10 +1,10 @@
 -- What the words of a call ask for.
-use Rattle.std.specs.Prelude.{◌≡◌, ◌≢◌, ◌⊎◌, ◌≤◌, ◌<◌, ◌^◌, ℕ, ℤ, pos, not, ◌==◌, IsTrue, MatchResult, List, [], length, ◌∷◌, ◌++◌, All, Contains, Option, Some, None, codes}
+use Rattle.std.specs.Prelude.{◌≡◌, ◌≢◌, ◌⊎◌, ◌≤◌, ◌<◌, ◌^◌, ℕ, ℤ, pos, not, nat_lt, if◌then◌else◌, ◌==◌, IsTrue, MatchResult, List, [], length, ◌∷◌, ◌++◌, All, Contains, Option, Some, None, codes}
 use Rattle.std.specs.List.{list_all}
 use Rattle.std.specs.declared.result.Result.{Result}
 use Rattle.std.specs.Str.Parse.{IsNumeral, digits_value}
 use Rattle.arrange.specs.declared.settings.Command.{Command}
-use Rattle.arrange.specs.declared.settings.Command.TheVariants.{Join, Cross, Split, Graph}
+use Rattle.arrange.specs.declared.settings.Command.TheVariants.{Join, Cross, Split, Graph, Walks}
 use Rattle.arrange.specs.declared.settings.Engine.{Engine}
 use Rattle.arrange.specs.declared.settings.Engine.TheVariants.{I16, I32}
 use Rattle.arrange.specs.declared.settings.Settings.{Settings}
@@ -15,13 +15,16 @@ use Rattle.overlay_base.specs.declared.overlay_core.solver.Strategy.TheVariants.
 use Rattle.overlay_base.specs.declared.overlay_core.fill_rule.FillRule.{FillRule}
 use Rattle.overlay_base.specs.declared.overlay_core.fill_rule.FillRule.TheVariants.{EvenOdd, NonZero, Positive, Negative}
 use Rattle.overlay_base.specs.declared.overlay_core.overlay_rule.OverlayRule.{OverlayRule}
-use Rattle.overlay_base.specs.declared.overlay_core.overlay_rule.OverlayRule.TheVariants.{Subject, Clip, Intersect, Union, Difference, InverseDifference, Xor}
+use Rattle.overlay_base.specs.declared.overlay_core.overlay_rule.OverlayRule.TheVariants.{Subject, Clip, Intersect, Union, Difference, InverseDifference, Xor, Table}
+use Rattle.overlay_base.specs.declared.overlay_core.rule_table.RuleTable.{RuleTable}
+use Rattle.overlay_base.specs.Rules.{bits_of}
 
 abbrev pub NamesCommand : List ℕ → Command → Type 0
 NamesCommand word Join = word ≡ codes "join"
 NamesCommand word Cross = word ≡ codes "cross"
 NamesCommand word Split = word ≡ codes "split"
 NamesCommand word Graph = word ≡ codes "graph"
+NamesCommand word Walks = word ≡ codes "walks"
 
 abbrev pub NamesEngine : List ℕ → Engine → Type 0
 NamesEngine value I16 = value ≡ codes "i16"
@@ -40,15 +43,26 @@ NamesFillRule value Positive = value ≡ codes "positive"
 NamesFillRule value Negative = value ≡ codes "negative"
 
 -- a rule by its name, or none, which keeps all links
+abbrev pub IsRuleName : List ℕ → Option OverlayRule → Type 0
+IsRuleName value None = value ≡ codes "all"
+IsRuleName value (Some Subject) = value ≡ codes "subject"
+IsRuleName value (Some Clip) = value ≡ codes "clip"
+IsRuleName value (Some Intersect) = value ≡ codes "intersect"
+IsRuleName value (Some Union) = value ≡ codes "union"
+IsRuleName value (Some Difference) = value ≡ codes "difference"
+IsRuleName value (Some InverseDifference) = value ≡ codes "inverse-difference"
+IsRuleName value (Some Xor) = value ≡ codes "xor"
+IsRuleName value (Some (Table table)) = ⊥
+
+-- the number of a table, in no more digits than it needs
+abbrev pub WritesTable : List ℕ → RuleTable → Type 0
+WritesTable digits table =
+    IsNumeral 10 digits × (digits_value 10 digits ≡ bits_of table) × (length digits ≡ (if nat_lt (bits_of table) 10 then 1 else 2))
+
+-- a rule by its name, or as `table:N`
 abbrev pub NamesRule : List ℕ → Option OverlayRule → Type 0
-NamesRule value None = value ≡ codes "all"
-NamesRule value (Some Subject) = value ≡ codes "subject"
-NamesRule value (Some Clip) = value ≡ codes "clip"
-NamesRule value (Some Intersect) = value ≡ codes "intersect"
-NamesRule value (Some Union) = value ≡ codes "union"
-NamesRule value (Some Difference) = value ≡ codes "difference"
-NamesRule value (Some InverseDifference) = value ≡ codes "inverse-difference"
-NamesRule value (Some Xor) = value ≡ codes "xor"
+NamesRule value (Some (Table table)) = (digits : List ℕ) × (value ≡ codes "table:" ++ digits) × WritesTable digits table
+NamesRule value rule = IsRuleName value rule
 
 -- 1 to 2^56
 abbrev pub WritesSquare : List ℕ → ℤ → Type 0

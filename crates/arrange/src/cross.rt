@@ -5,8 +5,8 @@ ghost use Rattle.overlay_base.specs.InRange.{IsPairInRange};
 ghost use Rattle.overlay_base.specs.PairOf.{pair_of};
 ghost use Rattle.overlay_base.specs.Planar.{is_splittable};
 ghost use Rattle.overlay_base.specs.SegmentOf.{segments_of};
-ghost use Rattle.overlay_split.specs.CrossAnswer.{cross_answer};
-ghost use Rattle.overlay_split.specs.Marks.{snapping};
+ghost use Rattle.overlay_marks.specs.CrossAnswer.{cross_answer};
+ghost use Rattle.overlay_marks.specs.Marks.{snapping};
 ghost use Rattle.arrange.specs.Output.{answer_text, cross_text};
 
 use crate::output::write_place;

@@ -1,21 +1,22 @@
 // `arrange graph`: the graph of the arrangement, by an overlay rule or of all segments.
-ghost use Rattle.std.specs.Prelude.{◌≡◌, ◌⊎◌, Ok, Err, IsTrue, IsFalse, OnOk, IfOk, IfErr, string_bytes};
+ghost use Rattle.std.specs.Prelude.{◌≡◌, ◌⊎◌, true, Ok, Err, IsTrue, IsFalse, OnOk, IfOk, IfErr, string_bytes};
 ghost use Rattle.overlay_base.specs.declared.segm.fault.Fault.TheVariants.{Memory, CountOutOfRange};
 ghost use Rattle.overlay_base.specs.SegmentOf.{segments_of};
-ghost use Rattle.overlay_base.specs.Planar.{is_arranged, is_splittable};
+ghost use Rattle.overlay_base.specs.Planar.{is_splittable};
+ghost use Rattle.overlay_split.specs.Run.{IsPassCount, LeavesRange, after_passes};
+ghost use Rattle.overlay_split.specs.SettingsOf.{passes_of, settings_of};
 ghost use Rattle.overlay_build.specs.ChainWindings.{tops_leave_range};
 ghost use Rattle.overlay_build.specs.Graph.{graph_by};
 ghost use Rattle.overlay_build.specs.GraphOf.{graph_with};
-ghost use Rattle.overlay_build.specs.RuleOf.{keeps_by};
-ghost use Rattle.arrange.specs.Run.{IsCommandAnswer};
+ghost use Rattle.arrange.specs.Run.{IsGraphOf, CountsLeaveRange, IsCommandAnswer};
 ghost use Rattle.arrange.specs.declared.settings.Command.{Command};
 
 use crate::graph_output::write_graph;
 use crate::settings::Settings;
 use crate::stop::Stop;
+use i_overlay::overlay::split_and_build_overlay;
 use overlay_base::num::OverlayInt;
 use overlay_base::overlay_core::fill_rule::FillRule;
-use overlay_base::overlay_core::overlay_rule::OverlayRule;
 use overlay_base::overlay_core::solver::Solver;
 use overlay_base::segm::boolean::ShapeCountBoolean;
 use overlay_base::segm::fault::Fault;
@@ -26,7 +27,9 @@ use overlay_build::build::graph_node::OverlayNode;
 use overlay_split::split::solver::SplitSolver;
 use std::alloc::Global;
 
-type Builder<I> = GraphBuilder<ShapeCountBoolean, OverlayNode, I, ()>;
+pub type Builder<I> = GraphBuilder<ShapeCountBoolean, OverlayNode, I, ()>;
+
+pub type Lines<I> = Vec<Segment<ShapeCountBoolean, I, ()>>;
 
 /// The text of the graph of the planar arrangement: its links, its nodes, and whether it is valid. Links and fills are
 /// those that the settings choose.
@@ -35,44 +38,66 @@ type Builder<I> = GraphBuilder<ShapeCountBoolean, OverlayNode, I, ()>;
 /// arrangement.
 pub fn graph<I: OverlayInt>(
     alloc: Global,
-    mut segments: Vec<Segment<ShapeCountBoolean, I, ()>>,
+    segments: Lines<I>,
     settings: Settings,
 ) -> Result<String, Stop>
     requires { IsTrue (is_splittable (I.whole I.MIN_COORD) (I.whole I.MAX_COORD) (segments_of segments.items)) }
     ensures text { IfOk result (λ text. IsCommandAnswer I.BITS Command.Graph settings (segments_of segments.items) (Ok (string_bytes text))) }
     ensures stop { IfErr result (λ stop. (stop ≡ Stop.Refused Memory) ⊎ IsCommandAnswer I.BITS Command.Graph settings (segments_of segments.items) (Err stop)) }
 {
-    let solver = Solver::with_strategy_and_precision(settings.strategy, settings.precision);
-    let mut splitter = SplitSolver::with_snap_limit(alloc, settings.snap_limit);
-    splitter.split_segments(&mut segments, &solver)?;
     let mut builder = GraphBuilder::new(alloc);
-    let graph = build_graph(
-        &mut builder,
-        settings.fill_rule,
-        settings.rule,
-        &solver,
-        &segments,
-    )?;
+    let graph = build_graph(alloc, &mut builder, segments, settings)?;
     let mut text = String::new(alloc);
     write_graph(&mut text, &graph)?;
     Ok(text)
 }
 
-/// The graph of the segments of an arrangement that the rule keeps, or of all without a rule.
-fn build_graph<'a, I: OverlayInt>(
+/// Splits the segments, and builds the graph that the settings choose: of the segments that the rule keeps, or of all.
+pub fn build_graph<'a, I: OverlayInt>(
+    alloc: Global,
     builder: &'a mut Builder<I>,
-    fill_rule: FillRule,
-    rule: Option<OverlayRule>,
-    solver: &Solver,
-    segments: &[Segment<ShapeCountBoolean, I, ()>],
+    mut segments: Lines<I>,
+    settings: Settings,
 ) -> Result<OverlayGraph<'a, I, ()>, Fault>
-    requires arranged { IsTrue (is_arranged (I.whole I.MIN_COORD) (I.whole I.MAX_COORD) (segments_of segments.now)) }
-    ensures graph { IfOk result (λ graph. graph_with I.whole graph.links.now ≡ graph_by (keeps_by rule) fill_rule (segments_of segments.now)) }
-    ensures in_range { OnOk result (IsFalse (tops_leave_range (segments_of segments.now))) }
-    ensures out_of_range { IfErr result (λ fault. fault ≡ CountOutOfRange → IsTrue (tops_leave_range (segments_of segments.now))) }
+    requires { IsTrue (is_splittable (I.whole I.MIN_COORD) (I.whole I.MAX_COORD) (segments_of segments.items)) }
+    ensures graph { IfOk result (λ graph. IsGraphOf I.BITS settings (segments_of segments.items) (graph_with I.whole graph.links.now)) }
+    ensures out_of_range { IfErr result (λ fault. fault ≡ CountOutOfRange → CountsLeaveRange I.BITS settings (segments_of segments.items)) }
 {
-    match rule {
-        Some(rule) => builder.build_boolean_overlay(fill_rule, rule, solver, segments),
-        None => builder.build_boolean_all(fill_rule, solver, segments),
+    let solver = Solver::with_strategy_and_precision(settings.strategy, settings.precision);
+    let mut splitter = SplitSolver::with_snap_limit(alloc, settings.snap_limit);
+    let fill_rule = settings.fill_rule;
+    match settings.rule {
+        Some(rule) => split_and_build_overlay(
+            &mut splitter,
+            builder,
+            &mut segments,
+            &solver,
+            fill_rule,
+            rule,
+        ),
+        None => build_all(&mut splitter, builder, &mut segments, &solver, fill_rule),
     }
+}
+
+/// Splits the segments, and builds the graph of all of the arrangement.
+fn build_all<'a, I: OverlayInt>(
+    splitter: &mut SplitSolver<I>,
+    builder: &'a mut Builder<I>,
+    segments: &mut Lines<I>,
+    solver: &Solver,
+    fill_rule: FillRule,
+) -> Result<OverlayGraph<'a, I, ()>, Fault>
+    requires { IsTrue (is_splittable (I.whole I.MIN_COORD) (I.whole I.MAX_COORD) (segments_of segments.old.items)) }
+    ensures count { OnOk result (IsPassCount (settings_of I.BITS solver.now splitter.old) (segments_of segments.old.items) (passes_of splitter.new)) }
+    ensures arrangement { OnOk result (segments_of segments.new.items ≡ after_passes (settings_of I.BITS solver.now splitter.old) (segments_of segments.old.items) (passes_of splitter.new)) }
+    ensures graph { IfOk result (λ graph. graph_with I.whole graph.links.now ≡ graph_by (λ _. true) fill_rule (segments_of segments.new.items)) }
+    ensures in_range { OnOk result (IsFalse (tops_leave_range (segments_of segments.new.items))) }
+    ensures out_of_range { IfErr result (λ fault. fault ≡ CountOutOfRange →
+        LeavesRange (settings_of I.BITS solver.now splitter.old) (segments_of segments.old.items)
+        ⊎ (IsPassCount (settings_of I.BITS solver.now splitter.old) (segments_of segments.old.items) (passes_of splitter.new)
+        × (segments_of segments.new.items ≡ after_passes (settings_of I.BITS solver.now splitter.old) (segments_of segments.old.items) (passes_of splitter.new))
+        × IsTrue (tops_leave_range (segments_of segments.new.items)))) }
+{
+    splitter.split_segments(segments, solver)?;
+    builder.build_boolean_all(fill_rule, solver, segments)
 }

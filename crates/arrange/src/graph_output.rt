@@ -80,13 +80,13 @@ fn write_node<I: OverlayInt>(
         OverlayNode::Bridge(_) => " bridge",
         OverlayNode::Cross(_) => " cross",
     })?;
-    write_numbers(text, indexes(node))?;
+    write_numbers(text, node.indices())?;
     text.push_str("\n")?;
     Ok(())
 }
 
 /// Writes each number after a space.
-fn write_numbers(text: &mut String, numbers: &[usize]) -> Result<(), AllocError>
+pub fn write_numbers(text: &mut String, numbers: &[usize]) -> Result<(), AllocError>
     ensures { OnOk result (string_bytes text.new ≡ string_bytes text.old ++ numbers_text numbers.now) }
 {
     for number in numbers {
@@ -95,22 +95,12 @@ fn write_numbers(text: &mut String, numbers: &[usize]) -> Result<(), AllocError>
     Ok(())
 }
 
-/// The indexes of the links that meet at a node.
-fn indexes(node: &OverlayNode) -> &[usize]
-    ensures { result.now ≡ indexes_of node.now }
-{
-    match node {
-        OverlayNode::Bridge(two) => two,
-        OverlayNode::Cross(several) => several,
-    }
-}
-
 /// The point of the node with this number: the end that its first link has there.
 fn node_point<I: OverlayInt>(graph: &OverlayGraph<'_, I, ()>, id: usize) -> IntPoint<I>
     requires { id < length graph.now.nodes.now }
     ensures { (node : Node) → point_of I.whole result ≡ (slice_index_or (graph_with I.whole graph.now.links.now).nodes id node).point }
 {
-    let first = indexes(&graph.nodes()[id])[0];
+    let first = graph.nodes()[id].indices()[0];
     let link = graph.links()[first];
     if link.a.id == id {
         link.a.point

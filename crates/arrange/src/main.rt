@@ -12,6 +12,7 @@ mod run;
 mod settings;
 mod split;
 mod stop;
+mod walks;
 mod words;
 #[cfg(test)]
 mod worked;

@@ -16,6 +16,7 @@ use crate::lines::read_lines;
 use crate::settings::{Command, Engine, Settings};
 use crate::split::split;
 use crate::stop::Stop;
+use crate::walks::walks;
 use crate::words::read_words;
 use overlay_base::num::OverlayInt;
 use overlay_base::segm::fault::Fault;
@@ -120,6 +121,7 @@ fn answer_with<I: OverlayInt>(
         Command::Cross => cross(alloc, segments.as_slice(), settings.radius),
         Command::Split => split(alloc, segments, settings),
         Command::Graph => graph(alloc, segments, settings),
+        Command::Walks => walks(alloc, segments, settings),
     }
 }
 
@@ -154,5 +156,7 @@ fn stop_of(error: io::Error, otherwise: Stop) -> Stop
     }
 }
 
+#[cfg(test)]
+mod region_tests;
 #[cfg(test)]
 mod tests;

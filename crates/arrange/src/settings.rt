@@ -16,6 +16,8 @@ pub enum Command {
     Split,
     /// Splits the lines and tells the graph of those that a rule keeps.
     Graph,
+    /// The same, and tells closed walks through the graph.
+    Walks,
 }
 
 /// The type of coordinates.

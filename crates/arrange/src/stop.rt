@@ -26,7 +26,7 @@ pub enum LineFault {
 #[derive(Clone, Copy, Debug, PartialEq, Eq, Error)]
 pub enum Stop {
     /// The words after the program's name ask for nothing that the program does.
-    #[error("usage: arrange join|cross|split|graph [name=value ..]")]
+    #[error("usage: arrange join|cross|split|graph|walks [name=value ..]")]
     Usage,
     /// A crossing is asked for, and the lines are not two.
     #[error("cross needs two segments")]

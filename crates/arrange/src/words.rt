@@ -5,15 +5,17 @@ ghost use Rattle.arrange.specs.declared.settings.Command.{Command};
 ghost use Rattle.arrange.specs.declared.settings.Engine.{Engine};
 ghost use Rattle.overlay_base.specs.declared.overlay_core.fill_rule.FillRule.{FillRule};
 ghost use Rattle.overlay_base.specs.declared.overlay_core.overlay_rule.OverlayRule.{OverlayRule};
+ghost use Rattle.overlay_base.specs.declared.overlay_core.rule_table.RuleTable.{RuleTable};
 ghost use Rattle.overlay_base.specs.declared.overlay_core.solver.Precision.{Precision};
 ghost use Rattle.overlay_base.specs.declared.overlay_core.solver.Strategy.{Strategy};
-ghost use Rattle.arrange.specs.Words.{NamesCommand, NamesEngine, NamesStrategy, NamesFillRule, NamesRule, precision_of, IsPrecisionName, NamesPrecision, WritesLimit, WritesSquare, WritesRadius, setting, IsName, IsSetting, WordsAsk, AskNothing, ReadsWord};
+ghost use Rattle.arrange.specs.Words.{NamesCommand, NamesEngine, NamesStrategy, NamesFillRule, IsRuleName, WritesTable, NamesRule, precision_of, IsPrecisionName, NamesPrecision, WritesLimit, WritesSquare, WritesRadius, setting, IsName, IsSetting, WordsAsk, AskNothing, ReadsWord};
 
 use crate::number::{number, short_number};
 use crate::settings::{Command, Engine, Settings, SquaredRadius};
 use crate::stop::Stop;
 use overlay_base::overlay_core::fill_rule::FillRule;
 use overlay_base::overlay_core::overlay_rule::OverlayRule;
+use overlay_base::overlay_core::rule_table::RuleTable;
 use overlay_base::overlay_core::solver::{Precision, Strategy};
 
 const GREATEST_RADIUS: u64 = 1 << 56;
@@ -48,6 +50,7 @@ fn command(name: &str) -> Option<Command>
         "cross" => Some(Command::Cross),
         "split" => Some(Command::Split),
         "graph" => Some(Command::Graph),
+        "walks" => Some(Command::Walks),
         _ => None,
     }
 }
@@ -89,9 +92,22 @@ fn fill_rule(name: &str) -> Option<FillRule>
     }
 }
 
-/// The rule of that name. The name `all` asks for a graph without a rule.
-fn rule(name: &str) -> Option<Option<OverlayRule>>
-    ensures { MatchOption result ((rule : Option OverlayRule) → ¬ (NamesRule name.now rule)) (NamesRule name.now) }
+/// The rule that a word names: `all` asks for a graph without a rule, and `table:N` for the rule of a table.
+fn rule(value: &str) -> Option<Option<OverlayRule>>
+    ensures { MatchOption result ((rule : Option OverlayRule) → ¬ (NamesRule value.now rule)) (NamesRule value.now) }
+{
+    match value.strip_prefix("table:") {
+        Some(digits) => match rule_table(digits) {
+            Some(table) => Some(Some(OverlayRule::Table(table))),
+            None => None,
+        },
+        None => named_rule(value),
+    }
+}
+
+/// The rule of that name, or none, which keeps all links.
+fn named_rule(name: &str) -> Option<Option<OverlayRule>>
+    ensures { MatchOption result ((rule : Option OverlayRule) → ¬ (IsRuleName name.now rule)) (IsRuleName name.now) }
 {
     let rule = match name {
         "all" => return Some(None),
@@ -105,6 +121,18 @@ fn rule(name: &str) -> Option<Option<OverlayRule>>
         _ => return None,
     };
     Some(Some(rule))
+}
+
+/// The table of the number that the digits write: 0 to 15, without leading zeros.
+fn rule_table(digits: &str) -> Option<RuleTable>
+    ensures { MatchOption result ((table : RuleTable) → ¬ (WritesTable digits.now table)) (WritesTable digits.now) }
+{
+    let bits = number(digits)?;
+    let wanted = if bits < 10 { 1 } else { 2 };
+    if bits > 15 || digits.len() != wanted {
+        return None;
+    }
+    RuleTable::new(bits as u8)
 }
 
 /// The settings that words have chosen so far.
@@ -402,6 +430,7 @@ mod tests {
             ("cross", Command::Cross),
             ("split", Command::Split),
             ("graph", Command::Graph),
+            ("walks", Command::Walks),
         ] {
             let words = [String::from_str(rt.alloc(), name)?];
             assert_eq!(rt; read_words(&words), Ok((command, UNCHOSEN)));

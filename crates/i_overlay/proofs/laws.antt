@@ -1,3 +1,2 @@
-pub mod PlaceColumns
-pub mod Regions
+pub mod FarRegions
 pub mod Overlays

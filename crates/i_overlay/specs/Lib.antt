@@ -1,4 +1,4 @@
-pub mod Regions
+pub mod FarRegions
 pub mod Headline
 -- what the clauses of the crate cite of the crates below
 pub use Rattle.overlay_base.specs.Balance
@@ -15,3 +15,4 @@ pub use Rattle.overlay_build.specs.Graph
 pub use Rattle.overlay_build.specs.GraphOf
 pub use Rattle.overlay_build.specs.NodeIndexes
 pub use Rattle.overlay_build.specs.Sides
+pub use Rattle.overlay_build.specs.Regions

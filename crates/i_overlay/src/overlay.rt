@@ -13,7 +13,7 @@ ghost use Rattle.overlay_build.specs.ChainWindings.{tops_leave_range};
 ghost use Rattle.overlay_build.specs.Graph.{data_by};
 ghost use Rattle.overlay_build.specs.GraphOf.{HoldGraph, graph_with};
 ghost use Rattle.overlay_build.specs.NodeIndexes.{indexes_of, is_canonical_node};
-ghost use Rattle.i_overlay.specs.Regions.{EnclosesOverlay};
+ghost use Rattle.i_overlay.specs.FarRegions.{EnclosesOverlay};
 ghost use Rattle.i_overlay.specs.Headline.{IsOverlay, IsSplitRefused, IsBuildRefused};
 
 use overlay_base::num::OverlayInt;

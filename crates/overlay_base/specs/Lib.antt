@@ -24,5 +24,7 @@ pub mod Radius
 pub mod HooksOf
 pub mod SegmentOf
 pub mod Rules
+pub mod RuleLaws
 pub mod RuleNames
 pub mod Laws
+pub mod Places

@@ -34,6 +34,8 @@ pub mod GraphLaws
 pub mod GraphRuns
 pub mod FillSides
 pub mod GraphExact
+pub mod PlaceColumns
+pub mod Regions
 pub mod EvenNodes
 pub mod GraphValid
 pub mod NodeLists

@@ -10,7 +10,9 @@ use Rattle.overlay_build.specs.ColumnWindings.{IsSameAlong, side_bottom, side_to
 use Rattle.overlay_build.specs.ChainWindings.{bottom, top}
 use Rattle.overlay_build.specs.Fill.{fill_byte}
 use Rattle.overlay_build.specs.Graph.{Filled, Link, graph_by, has_even_nodes, is_valid_graph}
-use Rattle.overlay_build.specs.Sides.{tells_apart, overlay_graph}
+use Rattle.overlay_build.specs.Values.{tells_apart}
+use Rattle.overlay_build.specs.Regions.{EnclosesRegion}
+use Rattle.overlay_build.specs.Sides.{overlay_graph}
 
 -- The windings that a sweep finds are those of the columns: below and above each segment the same all along it, and beside a vertical one those to its right and left.
 abbrev pub HaveColumnWindings : List WholeSegment → Type 0
@@ -42,6 +44,12 @@ abbrev pub GraphsAreExact : Type 0
 GraphsAreExact =
     (fill_rule : FillRule) (rule : Bool → Bool → Bool) (segments : List WholeSegment) → IsTrue (is_map segments) → IsTrue (are_polygons segments) → IsTrue (is_planar segments) → IsBalanced segments →
     graph_by (keeps_fill rule) fill_rule segments ≡ overlay_graph rule fill_rule segments
+
+-- and its graph encloses exactly the places that it tells from those outside
+abbrev pub GraphsEncloseRegions : Type 0
+GraphsEncloseRegions =
+    (fill_rule : FillRule) (rule : Bool → Bool → Bool) (segments : List WholeSegment) → IsTrue (is_map segments) → IsTrue (are_polygons segments) → IsTrue (is_planar segments) → IsBalanced segments →
+    EnclosesRegion rule fill_rule segments (graph_by (keeps_fill rule) fill_rule segments)
 
 -- a link without the numbers of its nodes
 abbrev pub without_nodes : Link → Filled

@@ -9,6 +9,8 @@ pub mod EntryOf
 pub mod EndOf
 pub mod WayOf
 pub mod Graph
+pub mod Values
+pub mod Regions
 pub mod Sides
 pub mod GraphOf
 pub mod NodeIndexes

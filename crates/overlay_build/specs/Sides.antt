@@ -1,20 +1,12 @@
 -- What a rule says of the windings on the two sides of a segment, and the graph of the segments whose sides it tells apart.
 use Rattle.std.specs.Prelude.{◌≡◌, Bool, IsTrue, List, map, filter, All}
-use Rattle.overlay_base.specs.Windings.{Winding}
 use Rattle.overlay_base.specs.Segments.{WholeSegment}
-use Rattle.overlay_base.specs.Rules.{differ}
 use Rattle.overlay_base.specs.declared.overlay_core.fill_rule.FillRule.{FillRule}
 use Rattle.overlay_build.specs.ColumnWindings.{side_bottom, side_top, IsSameAlong}
-use Rattle.overlay_build.specs.Fill.{is_inside, fill_byte}
+use Rattle.overlay_build.specs.Fill.{fill_byte}
 use Rattle.overlay_build.specs.Graph.{Graph, Filled, graph_of, has_even_nodes}
-
--- what a truth function says of a place with these windings
-unfoldable pub value_at : (Bool → Bool → Bool) → FillRule → Winding → Bool
-value_at rule fill_rule w = rule (is_inside fill_rule w.subj) (is_inside fill_rule w.clip)
-
--- whether the truth function has another value on the one side than on the other
-unfoldable pub tells_apart : (Bool → Bool → Bool) → FillRule → Winding → Winding → Bool
-tells_apart rule fill_rule bottom top = differ (value_at rule fill_rule bottom) (value_at rule fill_rule top)
+use Rattle.overlay_build.specs.Values.{tells_apart}
+use Rattle.overlay_build.specs.Regions.{EnclosesRegion}
 
 -- whether the rule tells the two sides of a segment apart, by the windings in the columns beside it
 unfoldable pub has_sides_apart : (Bool → Bool → Bool) → FillRule → List WholeSegment → WholeSegment → Bool
@@ -29,8 +21,10 @@ unfoldable pub overlay_graph : (Bool → Bool → Bool) → FillRule → List Wh
 overlay_graph rule fill_rule segments = graph_of (map (λ s. with_sides fill_rule segments s) (filter (λ s. has_sides_apart rule fill_rule segments s) segments))
 
 -- Where counts balance: windings are the same all along a segment, the graph is that of the segments whose sides the
--- rule tells apart, with the fills of these sides, and evenly many links meet at every node.
+-- rule tells apart, with the fills of these sides, evenly many links meet at every node, and the graph encloses the
+-- region of the rule.
 pub record IsBalancedOverlay (rule : Bool → Bool → Bool) (fill_rule : FillRule) (segments : List WholeSegment) (graph : Graph) : Type 0 where
   pub windings : All (IsSameAlong segments) segments
   pub exactly : graph ≡ overlay_graph rule fill_rule segments
   pub even : IsTrue (has_even_nodes graph)
+  pub region : EnclosesRegion rule fill_rule segments graph

@@ -1,7 +1,6 @@
 -- Worked examples of the definitions, which hold by computation.
 pub mod Computing
 pub mod Squares
-pub mod Crossings
 pub mod Paths
 pub mod Runs
 pub mod DataPasses

@@ -5,8 +5,8 @@ use Rattle.overlay_base.specs.Points.{Point, Pair, point_eq, lies_on, is_ordered
 use Rattle.overlay_base.specs.Windings.{Winding, total}
 use Rattle.overlay_base.specs.Segments.{WholeSegment, pairs, counts, ends}
 use Rattle.overlay_base.specs.Meeting.{do_cross}
-use Rattle.overlay_split.specs.Crossing.{snapping_point}
-use Rattle.overlay_split.specs.Pass.{is_rounded}
+use Rattle.overlay_marks.specs.Crossing.{snapping_point}
+use Rattle.overlay_marks.specs.PassMarks.{is_rounded}
 
 -- no two segments cross at a point that is not exact
 unfoldable pub is_exact_input : List WholeSegment → Bool

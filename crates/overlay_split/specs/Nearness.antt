@@ -2,20 +2,16 @@
 use Rattle.std.specs.Prelude.{◌⊎◌, ◌<◌, ◌≤◌, IsFalse, Bool, ◌&&◌, nat_lt, ℕ, zero, suc, ◌+◌, ◌*◌, ℤ, pos, ◌+ℤ◌, ◌-ℤ◌, ◌*ℤ◌, unsigned_abs, nat_le, if◌then◌else◌, List, All, Contains}
 use Rattle.std.specs.List.{list_all}
 use Rattle.overlay_base.specs.Points.{Point, Pair}
+use Rattle.overlay_base.specs.Places.{RationalPoint}
 use Rattle.overlay_base.specs.Windings.{is_not_empty}
 use Rattle.overlay_base.specs.Segments.{WholeSegment, pairs, winding_at}
-use Rattle.overlay_split.specs.Crossing.{offset_x, offset_y}
-use Rattle.overlay_split.specs.Marks.{Placing, snapping, settling}
-use Rattle.overlay_split.specs.Pass.{cut, is_rounded}
+use Rattle.overlay_marks.specs.Crossing.{offset_x, offset_y}
+use Rattle.overlay_marks.specs.Marks.{Placing, snapping, settling}
+use Rattle.overlay_split.specs.Pass.{cut}
+use Rattle.overlay_marks.specs.PassMarks.{is_rounded}
 use Rattle.overlay_split.specs.Run.{Settings, placing_of_pass, after_passes}
 
 -- ---- points and pairs
-
--- A point with rational coordinates: x / bottom and y / bottom.
-pub record RationalPoint : Type 0 where
-  pub x : ℤ
-  pub y : ℤ
-  pub bottom : ℕ
 
 abbrev pub whole_point : Point → RationalPoint
 whole_point p = record { x = p.x; y = p.y; bottom = 1 }

@@ -1,21 +1,15 @@
 -- How many pairs the passes of a run may take up, where each goes over a grid or a tree.
-use Rattle.std.specs.Prelude.{ℕ, zero, suc, ◌+◌, ◌<◌, List, length, Option, Some, None, IsTrue, IsFalse}
+use Rattle.std.specs.Prelude.{ℕ, zero, suc, ◌+◌, ◌<◌, List, length, Option, IsFalse}
 use Rattle.overlay_base.specs.Segments.{WholeSegment, pairs}
-use Rattle.overlay_base.specs.Choices.{list_splits, grid_splits}
+use Rattle.overlay_base.specs.Choices.{list_splits}
 use Rattle.overlay_base.specs.declared.overlay_core.solver.Strategy.{Strategy}
 use Rattle.overlay_split.specs.Run.{Settings, after_passes}
-use Rattle.overlay_split.specs.Grid.{Layout, IsLayoutOf, IsTooNarrow}
-use Rattle.overlay_split.specs.Looked.{pass_looks}
+use Rattle.overlay_marks.specs.Grid.{Layout}
+use Rattle.overlay_marks.specs.Looked.{pass_looks}
 
 -- none of the first n passes looks at all pairs of a list
 abbrev pub HasNoListPass : Strategy → Settings → List WholeSegment → ℕ → Type 0
 HasNoListPass strategy settings given n = (k : ℕ) → k < n → IsFalse (list_splits strategy (length (after_passes settings given k)))
-
--- The grid of a run, which the first arrangement decides: its layout, where the passes are to go over a grid; none where they
--- are not, or where that arrangement is too narrow.
-abbrev pub IsGridFor : Strategy → List WholeSegment → Option Layout → Type 0
-IsGridFor strategy first (Some l) = IsTrue (grid_splits strategy (length first)) × IsLayoutOf (pairs first) (length first) l
-IsGridFor strategy first None = IsTrue (grid_splits strategy (length first)) → IsTooNarrow (pairs first)
 
 -- what the first n passes may take up, each over what is left by those before it
 unfoldable pub run_looks : Settings → Option Layout → List WholeSegment → ℕ → ℕ

@@ -1,27 +1,14 @@
-// Where segments meet, and the passes that split them there.
+// The passes that split segments where they meet. What a pass finds comes from the crate `overlay_marks`, whose modules
+// stand here too, as in upstream.
 
-mod contact;
-pub mod cross_solver;
-mod crossing_point;
 mod cut;
-pub mod finder;
-pub mod fragment;
-pub mod fragment_buffer;
-pub mod grid_layout;
-mod interval_tree;
 pub mod laws;
-pub mod line_mark;
-mod looks;
-mod nearer_end;
-mod offset;
 pub mod pass;
 pub mod path;
 pub mod piece;
-pub mod placing;
-mod rise;
-mod settled;
 pub mod solver;
-pub mod solver_fragment;
-pub mod solver_list;
-pub mod solver_tree;
-mod solver_tree_within;
+
+pub use overlay_marks::split::{
+    cross_solver, finder, fragment, fragment_buffer, grid_layout, line_mark, placing,
+    solver_fragment, solver_list, solver_tree,
+};

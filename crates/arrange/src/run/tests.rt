@@ -5,7 +5,7 @@ use std::alloc::AllocError;
 use std::process::Abort;
 use std::test::Fail;
 
-const USAGE: &str = "usage: arrange join|cross|split|graph [name=value ..]\n";
+const USAGE: &str = "usage: arrange join|cross|split|graph|walks [name=value ..]\n";
 
 /// Whole runs. Behind `#` stands what a run shows, behind `$` the words with bars between them, then the input, up to
 /// `>`, then the exit status, and below it what is written to the output, or to the faults where the status is not 0.
@@ -238,6 +238,90 @@ S 4 4 0 4
 S 0 4 0 0
 >0
 valid true
+# A table of the rule's values, or of their opposites, keeps what the rule keeps.
+$graph|rule=table:8
+S 0 0 4 0
+S 4 0 4 4
+S 4 4 0 4
+S 0 4 0 0
+C 2 2 6 2
+C 6 2 6 6
+C 6 6 2 6
+C 2 6 2 2
+>0
+link 2 2 2 4 11 0 1
+link 2 2 4 2 7 0 2
+link 2 4 4 4 14 1 3
+link 4 2 4 4 13 2 3
+node 2 2 bridge 0 1
+node 2 4 bridge 2 0
+node 4 2 bridge 3 1
+node 4 4 bridge 2 3
+valid true
+#
+$graph|rule=table:7
+S 0 0 4 0
+S 4 0 4 4
+S 4 4 0 4
+S 0 4 0 0
+C 2 2 6 2
+C 6 2 6 6
+C 6 6 2 6
+C 2 6 2 2
+>0
+link 2 2 2 4 11 0 1
+link 2 2 4 2 7 0 2
+link 2 4 4 4 14 1 3
+link 4 2 4 4 13 2 3
+node 2 2 bridge 0 1
+node 2 4 bridge 2 0
+node 4 2 bridge 3 1
+node 4 4 bridge 2 3
+valid true
+#
+$graph|rule=table:15
+S 0 0 4 0
+S 4 0 4 4
+S 4 4 0 4
+S 0 4 0 0
+C 2 2 6 2
+C 6 2 6 6
+C 6 6 2 6
+C 2 6 2 2
+>0
+valid true
+# Closed walks list the links that lead from a node back to it.
+$walks|rule=intersect
+S 0 0 4 0
+S 4 0 4 4
+S 4 4 0 4
+S 0 4 0 0
+C 2 2 6 2
+C 6 2 6 6
+C 6 6 2 6
+C 2 6 2 2
+>0
+walk 0 2 3 1
+#
+$walks|rule=table:7
+S 0 0 4 0
+S 4 0 4 4
+S 4 4 0 4
+S 0 4 0 0
+C 2 2 6 2
+C 6 2 6 6
+C 6 6 2 6
+C 2 6 2 2
+>0
+walk 0 2 3 1
+#
+$walks|rule=all
+S 0 0 4 0
+>0
+uneven nodes
+#
+$walks
+>0
 #
 $graph|rule=xor
 S 0 0 4 0
@@ -540,7 +624,7 @@ S 524288 0 524288 0";
 
 /// Words that are answered with the usage, with bars between them. The first line is one empty word.
 const FAULTY_WORDS: &str = "
-walks
+walk
 Join
 join\x20
 engine=i16
@@ -584,7 +668,12 @@ join|precision=1,1000000000
 join|fill=odd
 join|rule=none
 join|rule=inverse_difference
-join|rule=table:6
+join|rule=table:16
+join|rule=table:07
+join|rule=table:
+join|rule=table:+6
+join|rule=table:100000000000000000006
+join|rule=table
 join|limit=
 join|limit=4294967296
 join|limit=-1
@@ -604,7 +693,7 @@ graph|rule=intersect|rule=all
 graph|fill=Nonzero";
 
 /// Runs the program over words with bars between them.
-fn run_words<R: Read, W: Write, E: Write>(
+pub fn run_words<R: Read, W: Write, E: Write>(
     alloc: Global,
     words: &str,
     input: &mut R,
@@ -654,7 +743,7 @@ fn worked_runs(rt: HostRuntime) -> Result<(), Fail> {
         check_worked(&rt, run).ok_or("no run")??;
         runs = runs.saturating_add(1);
     }
-    assert_eq!(rt; runs, 57);
+    assert_eq!(rt; runs, 64);
     Ok(())
 }
 

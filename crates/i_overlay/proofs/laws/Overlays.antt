@@ -21,10 +21,9 @@ use Rattle.overlay_split.specs.Places.{KeepsWinding}
 use Rattle.overlay_split.specs.Potential.{potential}
 use Rattle.overlay_build.specs.ChainWindings.{tops_leave_range}
 use Rattle.overlay_build.specs.Graph.{Graph, graph_by}
-use Rattle.overlay_build.specs.Sides.{IsBalancedOverlay, tells_apart}
-use Rattle.i_overlay.specs.Regions.{EnclosesRegion}
+use Rattle.overlay_build.specs.Values.{tells_apart}
+use Rattle.overlay_build.specs.Sides.{IsBalancedOverlay}
 use Rattle.i_overlay.specs.Headline.{IsSplit, IsOverlay, IsSplitRefused, IsBuildRefused}
-use Rattle.i_overlay.proofs.laws.Regions.{overlay_encloses}
 
 -- the empty list is an arrangement
 pub none_arranged : (least greatest : ℤ) → IsTrue (is_arranged least greatest [])
@@ -56,14 +55,11 @@ pub overlay_from : (settings : Settings) (fill_rule : FillRule) (rule : Bool →
     → (IsBalanced segments → IsBalancedOverlay rule fill_rule segments (graph_by (keeps_fill rule) fill_rule segments)) → IsOverlay settings fill_rule rule given segments passes graph
 overlay_from settings fill_rule rule given segments passes graph split links balanced =
     let sides = λ (balance : IsBalanced given). subst (IsBalancedOverlay rule fill_rule segments) (sym links) (balanced (λ p. split.kept p ∙ balance p)) in
-    let planar = and_parts (is_map segments) (is_planar segments) split.planar in
-    let region = λ (balance : IsBalanced given). subst (EnclosesRegion rule fill_rule segments) (sym (sides balance).exactly) (overlay_encloses rule fill_rule segments planar.0 planar.1 (λ p. split.kept p ∙ balance p)) in
     record {
       split = split;
       links = links;
       balanced = sides;
-      region = region;
-      far_region = λ balance p some far. region balance p some ∙ ap (λ (w : Winding). tells_apart rule fill_rule empty w) (split.winding p far);
+      far_region = λ balance p some far. (sides balance).region p some ∙ ap (λ (w : Winding). tells_apart rule fill_rule empty w) (split.winding p far);
     }
 
 -- a build that is refused after a split

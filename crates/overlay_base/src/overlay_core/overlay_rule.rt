@@ -1,8 +1,9 @@
 // Which part of the subject and the clip an overlay answers. Upstream: `core::overlay_rule`.
-ghost use Rattle.std.specs.Prelude.{◌≡◌, ◌<◌};
-ghost use Rattle.overlay_base.specs.Rules.{is_fill_top};
+ghost use Rattle.std.specs.Prelude.{◌≡◌, ◌≢◌, not, IsTrue};
+ghost use Rattle.overlay_base.specs.Rules.{holds, top_value, bottom_value, keeps_fill};
 
-use crate::segm::segment_fill::{BOTH_BOTTOM, BOTH_TOP, CLIP_TOP, NONE, SUBJ_TOP, SegmentFill};
+use crate::overlay_core::rule_table::RuleTable;
+use crate::segm::segment_fill::{CLIP_BOTTOM, CLIP_TOP, NONE, SUBJ_BOTTOM, SUBJ_TOP, SegmentFill};
 use std::fmt;
 
 /// A truth function of "inside the subject" and "inside the clip".
@@ -22,25 +23,61 @@ pub enum OverlayRule {
     InverseDifference,
     /// Inside just one.
     Xor,
+    /// What the table says.
+    Table(RuleTable),
 }
 
 impl OverlayRule {
-    /// Whether the rule holds of the top side of a segment with this fill, below 16. Of `Union` it is the answer on the
-    /// fills that a union keeps, those whose two sides it tells apart.
-    pub fn is_fill_top(&self, fill: SegmentFill) -> bool
-        ensures { fill < 16 → result ≡ is_fill_top self.now fill }
+    /// What the rule says of a place that is inside the subject or not, and inside the clip or not.
+    pub fn holds(self, subj: bool, clip: bool) -> bool
+        ensures { result ≡ holds self subj clip }
     {
         match self {
-            OverlayRule::Subject => fill & SUBJ_TOP == SUBJ_TOP,
-            OverlayRule::Clip => fill & CLIP_TOP == CLIP_TOP,
-            OverlayRule::Intersect => fill & BOTH_TOP == BOTH_TOP,
-            OverlayRule::Union => fill & BOTH_BOTTOM == NONE,
-            OverlayRule::Difference => fill & BOTH_TOP == SUBJ_TOP,
-            OverlayRule::InverseDifference => fill & BOTH_TOP == CLIP_TOP,
-            OverlayRule::Xor => {
-                let top = fill & BOTH_TOP;
-                top == SUBJ_TOP || top == CLIP_TOP
-            }
+            OverlayRule::Subject => subj,
+            OverlayRule::Clip => clip,
+            OverlayRule::Intersect => subj && clip,
+            OverlayRule::Union => subj || clip,
+            OverlayRule::Difference => subj && !clip,
+            OverlayRule::InverseDifference => clip && !subj,
+            OverlayRule::Xor => subj != clip,
+            OverlayRule::Table(table) => table.holds(subj, clip),
+        }
+    }
+
+    /// What the rule says of the top side of a segment with this fill.
+    #[tactic(auto, unfolding(crate::specs::Rules::top_value))]
+    fn holds_of_top(self, fill: SegmentFill) -> bool
+        ensures { result ≡ top_value (holds self) fill }
+    {
+        self.holds(fill & SUBJ_TOP != NONE, fill & CLIP_TOP != NONE)
+    }
+
+    /// What the rule says of the bottom side of a segment with this fill.
+    #[tactic(auto, unfolding(crate::specs::Rules::bottom_value))]
+    fn holds_of_bottom(self, fill: SegmentFill) -> bool
+        ensures { result ≡ bottom_value (holds self) fill }
+    {
+        self.holds(fill & SUBJ_BOTTOM != NONE, fill & CLIP_BOTTOM != NONE)
+    }
+
+    /// Whether a segment with this fill is kept: whether the rule says different things of its two sides.
+    #[tactic(auto, unfolding(crate::specs::Rules::keeps_fill))]
+    pub fn is_included(self, fill: SegmentFill) -> bool
+        ensures { result ≡ keeps_fill (holds self) fill }
+    {
+        self.holds_of_top(fill) != self.holds_of_bottom(fill)
+    }
+
+    /// Whether the rule holds of the top side of a segment with this fill. `Union` is answered as upstream does, by whether it
+    /// does not hold of the bottom side, which is the same on the fills that it keeps.
+    pub fn is_fill_top(&self, fill: SegmentFill) -> bool
+        ensures side { IsTrue (keeps_fill (holds self.now) fill) → result ≡ top_value (holds self.now) fill }
+        ensures top { self.now ≢ OverlayRule.Union → result ≡ top_value (holds self.now) fill }
+        ensures union { self.now ≡ OverlayRule.Union → result ≡ not (bottom_value (holds self.now) fill) }
+    {
+        match self {
+            OverlayRule::Union => !self.holds_of_bottom(fill),
+            rule => rule.holds_of_top(fill),
         }
     }
 }
@@ -52,7 +89,7 @@ impl fmt::Display for OverlayRule {
     ghost output = { λ rule. Some (overlay_rule_name rule) };
 
     fn fmt<W: fmt::Write>(&self, f: &mut fmt::Formatter<W>) -> fmt::Result {
-        f.write_str(match self {
+        let name = match self {
             OverlayRule::Subject => "Subject",
             OverlayRule::Clip => "Clip",
             OverlayRule::Intersect => "Intersect",
@@ -60,6 +97,11 @@ impl fmt::Display for OverlayRule {
             OverlayRule::Difference => "Difference",
             OverlayRule::InverseDifference => "InverseDifference",
             OverlayRule::Xor => "Xor",
-        })
+            OverlayRule::Table(table) => {
+                let bits = table.bits();
+                return write!(f, "Table({bits})");
+            }
+        };
+        f.write_str(name)
     }
 }

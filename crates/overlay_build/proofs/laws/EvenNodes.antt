@@ -13,7 +13,7 @@ use Rattle.overlay_build.specs.ColumnWindings.{spans, weights_up_to}
 use Rattle.overlay_base.specs.declared.overlay_core.fill_rule.FillRule.{FillRule}
 use Rattle.overlay_build.specs.Fill.{flag_value, is_inside}
 use Rattle.overlay_base.specs.Rules.{differ}
-use Rattle.overlay_build.specs.Sides.{tells_apart, value_at}
+use Rattle.overlay_build.specs.Values.{tells_apart, value_at}
 use Rattle.overlay_build.specs.Sides.{has_sides_apart}
 use Rattle.overlay_base.proofs.laws.Points.{same_by_eq}
 use Rattle.overlay_build.proofs.laws.ColumnLines.{is_under, column_weights, spans-true, spans-false_before, spans-false_after, point_lt-cases}

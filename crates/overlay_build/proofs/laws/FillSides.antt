@@ -2,7 +2,7 @@
 use Rattle.std.proofs.Common.{◌≡◌, refl, ap₂, ◌∙◌, ℕ, ◌+◌, ◌*◌, Bool, true, false}
 use Rattle.overlay_base.specs.Rules.{differ, bit, top_value, bottom_value, keeps_fill}
 use Rattle.overlay_build.specs.Fill.{is_inside, flag_value, fill_byte}
-use Rattle.overlay_build.specs.Sides.{value_at, tells_apart}
+use Rattle.overlay_build.specs.Values.{value_at, tells_apart}
 use Rattle.overlay_build.specs.Laws.{FillsTellSides}
 
 -- ---- the four bits of a fill without a mask

@@ -76,14 +76,6 @@ graphs_are_exact-from_columns columns fill_rule rule segments mapped polygons pl
     graph_by-sides rule fill_rule segments polygons (All-sides segments (columns segments mapped planar balanced))
 
 -- and with even nodes the graph is that of a balanced overlay
-pub balanced_overlay : ChainsAreColumns → NodesAreEven → (rule : Bool → Bool → Bool) (fill_rule : FillRule) (segments : List WholeSegment)
-    → IsTrue (is_map segments) → IsTrue (are_polygons segments) → IsTrue (is_planar segments) → IsBalanced segments → IsBalancedOverlay rule fill_rule segments (graph_by (keeps_fill rule) fill_rule segments)
-balanced_overlay columns even rule fill_rule segments mapped polygons planar balanced = record {
-  windings = All-weaker (HasColumns segments) (IsSameAlong segments) (λ s h. h.0) segments (columns segments mapped planar balanced);
-  exactly = graphs_are_exact-from_columns columns fill_rule rule segments mapped polygons planar balanced;
-  even = even fill_rule rule segments mapped polygons planar balanced;
-}
-
 -- ---- even nodes, counted by sides
 
 kept_alike : (rule : Bool → Bool → Bool) (fill_rule : FillRule) (segments xs : List WholeSegment) (test : WholeSegment → Bool) → list_all (λ s. s.count.mask == 0) xs ≡ true → All (HasSides segments) xs
@@ -131,7 +123,3 @@ graphs_are_valid fill_rule rule segments mapped polygons planar balanced =
     let is = graph_by-is (keeps_fill rule) fill_rule segments in
     let even : IsTrue (has_even_nodes (graph_of (filter (λ f. keeps_fill rule f.fill) (filled fill_rule segments)))) = ap has_even_nodes (sym is) ∙ nodes_are_even fill_rule rule segments mapped polygons planar balanced in
     ap is_valid_graph is ∙ valid_by_even_nodes (filter (λ f. keeps_fill rule f.fill) (filled fill_rule segments)) even
-
-pub is_balanced_overlay : (rule : Bool → Bool → Bool) (fill_rule : FillRule) (segments : List WholeSegment)
-    → IsTrue (is_map segments) → IsTrue (are_polygons segments) → IsTrue (is_planar segments) → IsBalanced segments → IsBalancedOverlay rule fill_rule segments (graph_by (keeps_fill rule) fill_rule segments)
-is_balanced_overlay = balanced_overlay chains_are_columns nodes_are_even

@@ -1,13 +1,11 @@
 // Which segments an overlay rule keeps, by their fills: those whose two sides it tells apart. Upstream: the filters of
 // `build::boolean`, and `InclusionFilterStrategy` of `build::builder`.
 ghost use Rattle.std.specs.Prelude.{◌≡◌, Bool};
-ghost use Rattle.overlay_base.specs.Rules.{bit, holds, keeps_fill};
+ghost use Rattle.overlay_base.specs.Rules.{holds, keeps_fill};
 ghost use Rattle.overlay_base.specs.declared.overlay_core.overlay_rule.OverlayRule.TheVariants.{Subject, Clip, Intersect, Union, Difference, InverseDifference, Xor};
 
 use overlay_base::overlay_core::overlay_rule::OverlayRule;
-use overlay_base::segm::segment_fill::{
-    CLIP_BOTTOM, CLIP_TOP, NONE, SUBJ_BOTTOM, SUBJ_TOP, SegmentFill,
-};
+use overlay_base::segm::segment_fill::SegmentFill;
 
 /// A choice of fills: those of whose two sides a rule says different things.
 pub trait InclusionFilterStrategy {
@@ -18,105 +16,53 @@ pub trait InclusionFilterStrategy {
         ensures { result ≡ keeps_fill rule fill };
 }
 
-/// One side of a segment.
-#[derive(Clone, Copy)]
-struct Side {
-    subj: bool,
-    clip: bool,
-}
-
-/// Where the top side is inside.
-fn top(fill: SegmentFill) -> Side
-    ensures subj { result.subj ≡ bit fill 0 }
-    ensures clip { result.clip ≡ bit fill 2 }
-{
-    Side {
-        subj: fill & SUBJ_TOP != NONE,
-        clip: fill & CLIP_TOP != NONE,
-    }
-}
-
-/// Where the bottom side is inside.
-fn bottom(fill: SegmentFill) -> Side
-    ensures subj { result.subj ≡ bit fill 1 }
-    ensures clip { result.clip ≡ bit fill 3 }
-{
-    Side {
-        subj: fill & SUBJ_BOTTOM != NONE,
-        clip: fill & CLIP_BOTTOM != NONE,
-    }
-}
-
-/// What the rule says of a side.
-fn holds(rule: OverlayRule, side: Side) -> bool
-    ensures { result ≡ holds rule side.subj side.clip }
-{
-    match rule {
-        OverlayRule::Subject => side.subj,
-        OverlayRule::Clip => side.clip,
-        OverlayRule::Intersect => side.subj && side.clip,
-        OverlayRule::Union => side.subj || side.clip,
-        OverlayRule::Difference => side.subj && !side.clip,
-        OverlayRule::InverseDifference => side.clip && !side.subj,
-        OverlayRule::Xor => side.subj != side.clip,
-    }
-}
-
-/// Whether the rule says different things of the two sides of a segment with this fill.
-#[tactic(auto, unfolding(overlay_base::specs::Rules::keeps_fill))]
-pub(crate) fn keeps(rule: OverlayRule, fill: SegmentFill) -> bool
-    ensures { result ≡ keeps_fill (holds rule) fill }
-{
-    holds(rule, top(fill)) != holds(rule, bottom(fill))
-}
-
 /// Whether just one side is inside the subject.
 pub fn is_subject(fill: SegmentFill) -> bool
     ensures { result ≡ keeps_fill (holds Subject) fill }
 {
-    keeps(OverlayRule::Subject, fill)
+    OverlayRule::Subject.is_included(fill)
 }
 
 /// Whether just one side is inside the clip.
 pub fn is_clip(fill: SegmentFill) -> bool
     ensures { result ≡ keeps_fill (holds Clip) fill }
 {
-    keeps(OverlayRule::Clip, fill)
+    OverlayRule::Clip.is_included(fill)
 }
 
 /// Whether just one side is inside both.
 pub fn is_intersect(fill: SegmentFill) -> bool
     ensures { result ≡ keeps_fill (holds Intersect) fill }
 {
-    keeps(OverlayRule::Intersect, fill)
+    OverlayRule::Intersect.is_included(fill)
 }
 
 /// Whether just one side is inside one or both.
 pub fn is_union(fill: SegmentFill) -> bool
     ensures { result ≡ keeps_fill (holds Union) fill }
 {
-    keeps(OverlayRule::Union, fill)
+    OverlayRule::Union.is_included(fill)
 }
 
 /// Whether just one side is inside the subject and not the clip.
 pub fn is_difference(fill: SegmentFill) -> bool
     ensures { result ≡ keeps_fill (holds Difference) fill }
 {
-    keeps(OverlayRule::Difference, fill)
+    OverlayRule::Difference.is_included(fill)
 }
 
 /// Whether just one side is inside the clip and not the subject.
 pub fn is_inverse_difference(fill: SegmentFill) -> bool
     ensures { result ≡ keeps_fill (holds InverseDifference) fill }
 {
-    keeps(OverlayRule::InverseDifference, fill)
+    OverlayRule::InverseDifference.is_included(fill)
 }
 
 /// Whether just one side is inside exactly one of the two.
 pub fn is_xor(fill: SegmentFill) -> bool
     ensures { result ≡ keeps_fill (holds Xor) fill }
 {
-    keeps(OverlayRule::Xor, fill)
+    OverlayRule::Xor.is_included(fill)
 }
 
 /// Keeps what `is_subject` tells.

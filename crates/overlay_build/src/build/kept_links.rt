@@ -7,7 +7,6 @@ ghost use Rattle.overlay_build.specs.Graph.{filled, fills_of, data_by};
 ghost use Rattle.overlay_build.specs.GraphOf.{kept_of};
 ghost use Rattle.overlay_build.specs.RuleOf.{keeps_by};
 
-use crate::build::filter::keeps;
 use overlay_base::geom::id_point::IdPoint;
 use overlay_base::num::OverlayInt;
 use overlay_base::overlay_core::link::OverlayLink;
@@ -22,7 +21,7 @@ fn is_kept(rule: Option<OverlayRule>, fill: SegmentFill) -> bool
     ensures { result ≡ keeps_by rule fill }
 {
     match rule {
-        Some(rule) => keeps(rule, fill),
+        Some(rule) => rule.is_included(fill),
         None => true,
     }
 }

@@ -1,5 +1,5 @@
 // The laws of windings and graphs. Each function has an empty body, and its contract is proved for all whole numbers.
-ghost use Rattle.overlay_build.specs.Laws.{ChainsAreColumns, FillsTellSides, NodesAreEven, GraphsAreValid, GraphsAreExact, FilterGivesLinks};
+ghost use Rattle.overlay_build.specs.Laws.{ChainsAreColumns, FillsTellSides, NodesAreEven, GraphsAreValid, GraphsAreExact, GraphsEncloseRegions, FilterGivesLinks};
 
 /// With balanced counts the windings that a sweep finds by its chains are those of the columns of the plane: the sums
 /// of the weights below, in every column that a segment spans, and beside a vertical segment those to its right and
@@ -15,11 +15,13 @@ pub fn fill_laws()
 
 /// With balanced counts, for every truth function of "inside the subject" and "inside the clip": evenly many links meet
 /// at each node of its graph, so that it is valid, and its graph is that of the segments whose two sides it tells apart,
-/// by the windings in the columns beside them. Without any condition: the links that a test keeps of the graph of all
-/// segments are those of the test's own graph, but for the numbers of nodes.
+/// by the windings in the columns beside them; at every place of the plane oddly many of its links run below exactly
+/// where the function has another value there than outside. Without any condition: the links that a test keeps of the
+/// graph of all segments are those of the test's own graph, but for the numbers of nodes.
 pub fn graph_laws()
     ensures even { NodesAreEven }
     ensures valid { GraphsAreValid }
     ensures exact { GraphsAreExact }
+    ensures region { GraphsEncloseRegions }
     ensures filter { FilterGivesLinks }
 {}

@@ -4,7 +4,6 @@ ghost use Rattle.overlay_base.specs.Rules.{holds, keeps_fill};
 ghost use Rattle.overlay_base.specs.declared.segm.fault.Fault.TheVariants.{Memory};
 ghost use Rattle.overlay_base.specs.declared.overlay_core.extract.VisitState.TheVariants.{Unvisited, Skipped};
 
-use crate::build::filter::keeps;
 use overlay_base::overlay_core::extract::VisitState;
 use overlay_base::overlay_core::link::OverlayLink;
 use overlay_base::overlay_core::overlay_rule::OverlayRule;
@@ -25,7 +24,7 @@ pub fn filter_by_overlay_into<I, D>(
 {
     buffer.clear();
     for link in links {
-        let state = VisitState::new(!keeps(overlay_rule, link.fill));
+        let state = VisitState::new(!overlay_rule.is_included(link.fill));
         if buffer.push(state).is_err() {
             buffer.clear();
             return Err(Fault::Memory);

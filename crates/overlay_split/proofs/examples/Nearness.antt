@@ -1,8 +1,8 @@
 -- How far runs move things, in halves: the bound, and distances that attain it.
 use Rattle.std.proofs.Common.{arith}
-use Rattle.std.specs.Prelude.{◌≡◌, refl, pos, [], ◌∷◌, map}
+use Rattle.std.specs.Prelude.{◌≡◌, refl, ℕ, pos, List, [], ◌∷◌, map}
 use Rattle.std.proofs.lemmas.Int.{ints}
-use Rattle.overlay_split.specs.Marks.{snapping, settling}
+use Rattle.overlay_marks.specs.Marks.{snapping, settling}
 use Rattle.overlay_split.specs.Nearness.{whole_point, IsNear, root, reach, reach_of_run, reach_of_passes, Cancels}
 use Rattle.overlay_base.proofs.examples.Words.{neg, point, pair, seg}
 use Rattle.overlay_split.proofs.examples.Computing.{computing}
@@ -18,10 +18,34 @@ reaches : map reach (snapping 1 ∷ snapping 16 ∷ settling ∷ []) ≡ (4 ∷ 
 unfolding computing
 reaches = refl
 
--- the first passes of the greatest precision: two are 4 units, of which the last one moves nothing, so 2 are left
-first_passes : map (λ k. reach_of_passes (high 256) k) (1 ∷ 2 ∷ 3 ∷ 4 ∷ []) ≡ (4 ∷ 8 ∷ 14 ∷ 20 ∷ [])
+-- ---- the first passes of each named precision, in halves: what they move together at most
+
+abbrev first_six : ℕ → ℕ → List ℕ
+first_six start step = map (λ k. reach_of_passes (settings start step 256) k) (1 ∷ 2 ∷ 3 ∷ 4 ∷ 5 ∷ 6 ∷ [])
+
+absolute_passes : first_six 0 0 ≡ (4 ∷ 8 ∷ 12 ∷ 16 ∷ 20 ∷ 24 ∷ [])
 unfolding computing
-first_passes = refl
+absolute_passes = refl
+
+high_passes : first_six 0 1 ≡ (4 ∷ 8 ∷ 14 ∷ 20 ∷ 30 ∷ 42 ∷ [])
+unfolding computing
+high_passes = refl
+
+medium_high_passes : first_six 1 1 ≡ (4 ∷ 10 ∷ 16 ∷ 26 ∷ 38 ∷ 56 ∷ [])
+unfolding computing
+medium_high_passes = refl
+
+medium_passes : first_six 0 2 ≡ (4 ∷ 10 ∷ 20 ∷ 38 ∷ 72 ∷ 138 ∷ [])
+unfolding computing
+medium_passes = refl
+
+medium_low_passes : first_six 2 2 ≡ (6 ∷ 16 ∷ 34 ∷ 68 ∷ 134 ∷ 264 ∷ [])
+unfolding computing
+medium_low_passes = refl
+
+low_passes : map (λ k. reach_of_passes (settings 2 3 256) k) (1 ∷ 2 ∷ 3 ∷ 4 ∷ []) ≡ (6 ∷ 18 ∷ 52 ∷ 144 ∷ [])
+unfolding computing
+low_passes = refl
 
 -- the first one snaps, the others settle
 passes_that_settle : reach_of_passes (high 1) 5 ≡ 8

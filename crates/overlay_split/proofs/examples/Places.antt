@@ -6,8 +6,9 @@ use Rattle.overlay_base.specs.Points.{Pair}
 use Rattle.overlay_base.specs.Segments.{WholeSegment, pairs}
 use Rattle.overlay_base.proofs.laws.Lists.{Has}
 use Rattle.overlay_split.specs.Run.{after_passes}
-use Rattle.overlay_split.specs.Nearness.{RationalPoint, IsNear, reach_of_run}
-use Rattle.overlay_split.specs.Places.{winding_below, IsFar}
+use Rattle.overlay_base.specs.Places.{RationalPoint, winding_below}
+use Rattle.overlay_split.specs.Nearness.{IsNear, reach_of_run}
+use Rattle.overlay_split.specs.Places.{IsFar}
 use Rattle.overlay_split.proofs.laws.Nearness.{Has-from_Contains}
 use Rattle.overlay_split.proofs.laws.Places.{run_keeps_winding}
 use Rattle.overlay_base.proofs.examples.Words.{neg, pair, seg, count}

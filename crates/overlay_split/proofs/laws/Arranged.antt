@@ -9,16 +9,17 @@ use Rattle.overlay_base.specs.Windings.{Winding, inverse}
 use Rattle.overlay_base.specs.Segments.{WholeSegment, pairs, is_map, are_ordered}
 use Rattle.overlay_base.specs.Join.{join, has_equal_pairs}
 use Rattle.overlay_base.specs.Planar.{is_planar}
-use Rattle.overlay_split.specs.Marks.{Placing, marks_by, cross_inexactly}
+use Rattle.overlay_marks.specs.Marks.{Placing, marks_by, cross_inexactly}
 use Rattle.overlay_split.specs.Path.{path, piece, pieces_along, pieces}
-use Rattle.overlay_split.specs.Pass.{marks_on, pieces_of, cut, pass, is_rounded, mark_count}
+use Rattle.overlay_split.specs.Pass.{pieces_of, cut, pass}
+use Rattle.overlay_marks.specs.PassMarks.{marks_on, is_rounded, mark_count}
 use Rattle.overlay_split.specs.Run.{Settings, placing_of_pass, after_passes, goes_on, has_marked, has_changed, IsPassCount}
 use Rattle.overlay_split.specs.Laws.{PlanarPassIsUnchanged, ArrangedIsUnchanged}
 use Rattle.overlay_base.proofs.laws.Points.{Before, from_before}
 use Rattle.overlay_base.proofs.laws.Maps.{are_ordered-map, join-map}
 use Rattle.overlay_base.proofs.laws.Repeats.{has_equal_pairs-map}
 use Rattle.overlay_base.proofs.laws.Lists.{Has, Has-map, list_any-from_none, AllByRecursion-from_Has, list_all-from_Has}
-use Rattle.overlay_split.proofs.laws.ApartPairs.{apart_have_no_mark, apart_are_exact}
+use Rattle.overlay_marks.proofs.laws.ApartPairs.{apart_have_no_mark, apart_are_exact}
 use Rattle.overlay_split.proofs.laws.ExactMarks.{In, In-ordered}
 use Rattle.overlay_split.proofs.laws.OrderedPaths.{path_in_order}
 use Rattle.overlay_split.proofs.laws.PlanarPasses.{is_planar-each}

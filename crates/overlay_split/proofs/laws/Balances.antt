@@ -7,8 +7,9 @@ use Rattle.overlay_base.specs.Segments.{WholeSegment, total_weight}
 use Rattle.overlay_base.specs.Balance.{balance, IsBalanced, starting_at, ending_at}
 use Rattle.overlay_base.specs.Sums.{weighed}
 use Rattle.overlay_split.specs.Run.{Settings, placing_of_pass, after_passes}
-use Rattle.overlay_split.specs.Marks.{Placing}
-use Rattle.overlay_split.specs.Pass.{marks_on, pieces_of, cut, pass}
+use Rattle.overlay_marks.specs.Marks.{Placing}
+use Rattle.overlay_split.specs.Pass.{pieces_of, cut, pass}
+use Rattle.overlay_marks.specs.PassMarks.{marks_on}
 use Rattle.overlay_split.specs.Laws.{IsOdd, loss, PassKeepsLosses, PassKeepsBalance, RunKeepsBalance}
 use Rattle.overlay_base.proofs.laws.Monoids.{gathered-same}
 use Rattle.overlay_base.proofs.laws.Bags.{total_weight-total}

@@ -10,17 +10,18 @@ use Rattle.overlay_base.specs.Windings.{Winding}
 use Rattle.overlay_base.specs.Segments.{WholeSegment, pairs, ends}
 use Rattle.overlay_base.specs.Join.{join}
 use Rattle.overlay_base.specs.Meeting.{do_cross}
-use Rattle.overlay_split.specs.Crossing.{is_exact, snapping_point, settling_point}
-use Rattle.overlay_split.specs.Marks.{Placing, snapping, settling, nearer_end, nearest_end, snapped_to, crossing_mark, ordered_mark, marks_by}
+use Rattle.overlay_marks.specs.Crossing.{is_exact, snapping_point, settling_point}
+use Rattle.overlay_marks.specs.Marks.{Placing, snapping, settling, nearer_end, nearest_end, snapped_to, crossing_mark, ordered_mark, marks_by}
 use Rattle.overlay_split.specs.Path.{columns_of, next_point, run_through, path_from, path, piece, pieces_along, pieces}
-use Rattle.overlay_split.specs.Pass.{marks_on, pieces_of, cut, pass}
+use Rattle.overlay_split.specs.Pass.{pieces_of, cut, pass}
+use Rattle.overlay_marks.specs.PassMarks.{marks_on}
 use Rattle.overlay_split.specs.Run.{Settings, placing_of_pass, after_passes}
 use Rattle.overlay_split.specs.Laws.{StaysInBox}
 use Rattle.overlay_base.proofs.laws.Lists.{AllByRecursion-flat_map, AllByRecursion-map, list_any-implied, AllByRecursion-append, AllByRecursion-both, AllByRecursion-weaker, AllByRecursion-reverse, AllByRecursion_left, AllByRecursion_right, AllByRecursion-filter, list_all-from_AllByRecursion}
 use Rattle.overlay_base.proofs.laws.Keys.{AllByRecursion-distinct_in_order}
 use Rattle.overlay_split.proofs.laws.Cuts.{AllByRecursion-cut, AllByRecursion-join}
 use Rattle.overlay_split.proofs.laws.Paths.{all_of, all_of-columns_of, run_through_has}
-use Rattle.overlay_split.proofs.laws.Crossings.{int_le-to, settling_in_target, snapping_in_target, do_cross-swap}
+use Rattle.overlay_marks.proofs.laws.Crossings.{int_le-to, settling_in_target, snapping_in_target, do_cross-swap}
 
 -- ---- what holds of the ends of two pairs, and in their boxes, holds of the marks of their crossing
 

@@ -17,10 +17,12 @@ use Rattle.overlay_base.proofs.laws.Members.{holds-join}
 use Rattle.overlay_base.proofs.laws.Maps.{are_ordered-map}
 use Rattle.overlay_base.proofs.laws.Keys.{AllByRecursion-distinct_in_order}
 use Rattle.overlay_split.specs.Path.{columns_of, last_point, path_from, path, piece, pieces_along, pieces}
-use Rattle.overlay_split.specs.Marks.{Placing}
-use Rattle.overlay_split.specs.Pass.{marks_on, pieces_of, cut, pass, is_rounded}
+use Rattle.overlay_marks.specs.Marks.{Placing}
+use Rattle.overlay_split.specs.Pass.{pieces_of, cut, pass}
+use Rattle.overlay_marks.specs.PassMarks.{marks_on, is_rounded}
 use Rattle.overlay_split.specs.Run.{Settings, placing_of_pass, after_passes}
-use Rattle.overlay_split.specs.Nearness.{RationalPoint, whole_point, Fraction, point_along, IsWithin, IsNear, IsNearSome, Cancels, IsNearCancelled, reach, reach_of_pass, reach_of_run, joined_in}
+use Rattle.overlay_base.specs.Places.{RationalPoint}
+use Rattle.overlay_split.specs.Nearness.{whole_point, Fraction, point_along, IsWithin, IsNear, IsNearSome, Cancels, IsNearCancelled, reach, reach_of_pass, reach_of_run, joined_in}
 use Rattle.overlay_split.specs.Laws.{PiecesStayNear, RunStaysNear}
 use Rattle.overlay_split.proofs.laws.Distances.{no_way, whole_way, mean, IsWithin-start, IsWithin-end, IsNear-end, IsWithin-mean, IsWithin-swap, IsWithin-triangle, IsNear-from_point, LiesNear-itself}
 use Rattle.overlay_split.proofs.laws.NearMarks.{AreNear, marks_lie_near, exact_marks_lie_on}
@@ -28,7 +30,8 @@ use Rattle.overlay_split.proofs.laws.Nearness.{Contains-from_Has, Has-from_Conta
 use Rattle.overlay_split.proofs.laws.Runs.{is_map-after_passes}
 use Rattle.overlay_split.proofs.laws.Potentials.{ends_differ}
 use Rattle.overlay_split.proofs.laws.Boxes.{path_from_has}
-use Rattle.overlay_split.proofs.laws.Paths.{Differ, all_of-columns_of}
+use Rattle.overlay_split.proofs.laws.Paths.{all_of-columns_of}
+use Rattle.overlay_marks.proofs.laws.Marks.{Differ}
 use Rattle.overlay_split.proofs.laws.Pieces.{last_point-path_from}
 
 -- ---- between two fractions

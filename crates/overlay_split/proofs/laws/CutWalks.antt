@@ -12,17 +12,18 @@ use Rattle.overlay_base.specs.Segments.{WholeSegment}
 use Rattle.overlay_base.specs.EdgeData.{DataSegment, Hooks, without_data}
 use Rattle.overlay_base.proofs.laws.Elements.{AllByRecursion-drop}
 use Rattle.overlay_base.proofs.laws.Lists.{Steps}
-use Rattle.overlay_split.specs.Marks.{Placing}
-use Rattle.overlay_split.specs.Pass.{marks_on}
-use Rattle.overlay_split.specs.MarkOf.{Mark, AreMarks, points_at}
+use Rattle.overlay_marks.specs.Marks.{Placing}
+use Rattle.overlay_marks.specs.PassMarks.{marks_on}
+use Rattle.overlay_marks.specs.MarkOf.{Mark, AreMarks, points_at}
 use Rattle.overlay_split.specs.Path.{path_from, columns_in_order, columns_of, run_through, next_point, last_point, LeadsOn, IsPathOf}
 use Rattle.overlay_split.specs.DataPass.{data_pieces_of_each, data_cut}
 use Rattle.overlay_split.specs.DataCutAt.{data_cut_at}
-use Rattle.overlay_split.proofs.laws.Paths.{Differ, all_of, all_of-columns_of, steps_of_path}
+use Rattle.overlay_split.proofs.laws.Paths.{all_of, all_of-columns_of, steps_of_path}
+use Rattle.overlay_marks.proofs.laws.Marks.{Differ}
 use Rattle.overlay_split.proofs.laws.Pieces.{last_point-path_from}
-use Rattle.overlay_split.proofs.laws.Marks.{IsFree-marks_on}
+use Rattle.overlay_marks.proofs.laws.Marks.{IsFree-marks_on}
 use Rattle.overlay_split.proofs.laws.Potentials.{distinct-marks_on}
-use Rattle.overlay_split.proofs.laws.ApartPairs.{ends_differ}
+use Rattle.overlay_marks.proofs.laws.ApartPairs.{ends_differ}
 use Rattle.overlay_split.proofs.laws.MarkRuns.{AreRising, AreRising-from, IsFront, IsFront-from, points_at-own, points_at-below}
 use Rattle.overlay_split.proofs.laws.CutLists.{IsCutTo, IsCutTo-start, IsCutTo-cut, IsCutTo-whole, path_at, at_place, segment_at}
 

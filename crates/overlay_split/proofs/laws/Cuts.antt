@@ -8,7 +8,7 @@ use Rattle.overlay_base.specs.Windings.{is_not_empty}
 use Rattle.overlay_base.specs.Segments.{WholeSegment, pairs, winding_at}
 use Rattle.overlay_base.specs.Sums.{IsCommutativeMonoid, gathered}
 use Rattle.overlay_base.specs.Join.{summed, join}
-use Rattle.overlay_split.specs.Marks.{Placing}
+use Rattle.overlay_marks.specs.Marks.{Placing}
 use Rattle.overlay_split.specs.Pass.{pieces_of, cut}
 use Rattle.overlay_base.proofs.laws.Lists.{AllByRecursion-append, AllByRecursion-weaker, AllByRecursion_left, AllByRecursion_right, AllByRecursion-flat_map, AllByRecursion-filter_all, AllByRecursion-map}
 use Rattle.overlay_base.proofs.laws.Keys.{AllByRecursion-distinct_in_order}

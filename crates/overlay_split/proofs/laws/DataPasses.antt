@@ -10,9 +10,10 @@ use Rattle.overlay_base.specs.Segments.{WholeSegment, pairs, is_map}
 use Rattle.overlay_base.specs.Join.{join}
 use Rattle.overlay_base.specs.Planar.{is_planar}
 use Rattle.overlay_base.specs.EdgeData.{DataSegment, Hooks, without_data, data_piece, merge_runs, merge_sorted, data_join}
-use Rattle.overlay_split.specs.Marks.{Placing}
+use Rattle.overlay_marks.specs.Marks.{Placing}
 use Rattle.overlay_split.specs.Path.{path_from, path, columns_in_order, columns_of, piece, pieces_along, pieces}
-use Rattle.overlay_split.specs.Pass.{marks_on, pieces_of, cut, pass, mark_count}
+use Rattle.overlay_split.specs.Pass.{pieces_of, cut, pass}
+use Rattle.overlay_marks.specs.PassMarks.{marks_on, mark_count}
 use Rattle.overlay_split.specs.Run.{Settings, placing_of_pass, after_passes}
 use Rattle.overlay_split.specs.DataPass.{data_pieces, data_pieces_of_each, data_cut, data_pass, data_after_passes}
 use Rattle.overlay_split.specs.Laws.{DataIsBeside, UnmarkedDataIsUnchanged, ArrangedDataIsUnchanged}
@@ -20,7 +21,7 @@ use Rattle.overlay_base.proofs.laws.Keys.{is_lt-true}
 use Rattle.overlay_base.proofs.laws.Pairs.{pair_eq-less}
 use Rattle.overlay_base.proofs.laws.DataJoins.{bare, by_data_pair, bare-data_join}
 use Rattle.overlay_split.proofs.laws.Arranged.{planar_mark_count}
-use Rattle.overlay_split.proofs.laws.AnswerMarks.{pair_lt_back}
+use Rattle.overlay_marks.proofs.laws.AnswerMarks.{pair_lt_back}
 
 -- ---- lists of lists
 

@@ -4,7 +4,8 @@ use Rattle.std.specs.Prelude.{ℤ, pos, ◌+ℤ◌, ◌-ℤ◌, ◌*ℤ◌, ◌�
 use Rattle.std.proofs.lemmas.Int.{ints}
 use Rattle.overlay_base.specs.Points.{Pair}
 use Rattle.overlay_base.proofs.laws.Polynomials.{as_D, diffs, D-eq, mul-nonneg, mul-le_left, cancel-le}
-use Rattle.overlay_split.specs.Nearness.{RationalPoint, whole_point, Fraction, point_along, IsWithin, IsNear, LiesNear}
+use Rattle.overlay_base.specs.Places.{RationalPoint}
+use Rattle.overlay_split.specs.Nearness.{whole_point, Fraction, point_along, IsWithin, IsNear, LiesNear}
 
 -- ---- one coordinate
 

@@ -11,10 +11,11 @@ use Rattle.overlay_base.specs.Meeting.{do_cross, are_apart}
 use Rattle.overlay_base.specs.Planar.{is_planar}
 use Rattle.overlay_base.specs.Sums.{gathered}
 use Rattle.overlay_base.proofs.laws.Apart.{are_apart-itself}
-use Rattle.overlay_split.specs.Crossing.{snapping_point}
-use Rattle.overlay_split.specs.Marks.{Placing, settling, cross_inexactly}
+use Rattle.overlay_marks.specs.Crossing.{snapping_point}
+use Rattle.overlay_marks.specs.Marks.{Placing, settling, cross_inexactly}
 use Rattle.overlay_split.specs.Path.{last_point, piece, pieces_along, pieces}
-use Rattle.overlay_split.specs.Pass.{marks_on, pieces_of, cut, pass, is_rounded}
+use Rattle.overlay_split.specs.Pass.{pieces_of, cut, pass}
+use Rattle.overlay_marks.specs.PassMarks.{marks_on, is_rounded}
 use Rattle.overlay_split.specs.Run.{Settings, placing_of_pass, after_passes, goes_on, IsPassCount}
 use Rattle.overlay_split.specs.ExactInput.{is_exact_input, special_points, has_point, contains_pair, is_elementary, count_along, lies_on_input}
 use Rattle.overlay_split.specs.Laws.{ExactInputKeepsCounts}
@@ -29,8 +30,8 @@ use Rattle.overlay_split.proofs.laws.Pieces.{last_point-append}
 use Rattle.overlay_split.proofs.laws.Cuts.{gathered-cut, AllByRecursion-join}
 use Rattle.overlay_split.proofs.laws.Meetings.{MarksAt, MarksAt-inside, IsPart, IsPart-line, IsPart-a_on, IsPart-b_on}
 use Rattle.overlay_split.proofs.laws.Parts.{IsMarked, IsUndivided}
-use Rattle.overlay_split.proofs.laws.AnswerMarks.{end_cases}
-use Rattle.overlay_split.proofs.laws.ExactCrossings.{IsCrossingPoint-unique, from_both_lines, exact_snapping_point}
+use Rattle.overlay_marks.proofs.laws.AnswerMarks.{end_cases}
+use Rattle.overlay_marks.proofs.laws.ExactCrossings.{IsCrossingPoint-unique, from_both_lines, exact_snapping_point}
 use Rattle.overlay_split.proofs.laws.ExactMarks.{end_b, In, In-ordered, In-exact, marks_on-IsMarked}
 use Rattle.overlay_split.proofs.laws.OrderedPaths.{IsOnLine, ends_ordered, piece_forward, path_in_order}
 use Rattle.overlay_split.proofs.laws.PlanarPasses.{IsPieceOf, pieces_of_parts, pass_undivided, is_planar-from}

@@ -1,24 +1,21 @@
 -- Every arrangement of a run lies inside the grid that is laid over the first.
 use Rattle.std.proofs.Common.{◌≡◌, refl, ⊎_elim, arith, ℕ, zero, suc, ◌*◌, ◌^◌, ◌/◌, ◌<◌, ◌≤◌, List, [], ◌∷◌, length, ◌&&◌, IsTrue}
-use Rattle.std.specs.Prelude.{Option, Some, None, int_le, All}
+use Rattle.std.specs.Prelude.{Option, Some, None, int_le}
 use Rattle.std.specs.List.{list_all, AllByRecursion}
 use Rattle.std.proofs.lemmas.Bool.{cases_lt}
-use Rattle.std.proofs.lemmas.List.Elements.{All-from_recursion}
 use Rattle.overlay_base.specs.Points.{Point, Pair, pair_cmp, is_ordered, is_strictly_sorted, is_within_box_of}
 use Rattle.overlay_base.specs.Windings.{is_not_empty}
 use Rattle.overlay_base.specs.Segments.{WholeSegment, pairs, ends, is_map, are_ordered}
-use Rattle.overlay_base.specs.SegmentOf.{ends_of, segments_of}
 use Rattle.overlay_base.specs.Join.{join}
-use Rattle.overlay_base.specs.declared.segm.segment.Segment.{Segment}
 use Rattle.overlay_base.specs.declared.overlay_core.solver.Strategy.{Strategy}
 use Rattle.overlay_base.proofs.laws.Maps.{is_map-join}
-use Rattle.overlay_split.specs.Grid.{Layout, IsLog2, IsLayoutOf}
-use Rattle.overlay_split.specs.FragmentFinder.{IsInside, LieInside}
+use Rattle.overlay_marks.specs.Grid.{Layout, IsLog2, IsLayoutOf}
+use Rattle.overlay_marks.specs.FragmentFinder.{IsInside, LieInside}
 use Rattle.overlay_split.specs.Run.{Settings, after_passes}
-use Rattle.overlay_split.specs.RunLooks.{IsGridFor}
+use Rattle.overlay_marks.specs.GridFor.{IsGridFor}
 use Rattle.overlay_split.proofs.laws.Boxes.{stays_in_box}
-use Rattle.overlay_split.proofs.laws.MarkBoxes.{both, from_le, join_tests}
-use Rattle.overlay_split.proofs.laws.GridLayout.{is_over_grid, ends_over_grid, is_between_x-from_box}
+use Rattle.overlay_marks.proofs.laws.MarkBoxes.{both, from_le, join_tests}
+use Rattle.overlay_marks.proofs.laws.GridLayout.{is_over_grid, ends_over_grid, is_between_x-from_box}
 
 -- ---- logarithms
 
@@ -73,12 +70,3 @@ run_lies_inside strategy settings given now None k o h e = tt
 run_lies_inside strategy settings given now (Some l) k o h e =
     let over = first_over_grid l (join given) (is_map-join given o) h.1 in
     rw e (inside_box l (ends (pairs (join given))) (pairs (after_passes settings given k)) over (stays_in_box settings given k))
-
--- ---- segments of a list
-
-pub each_lies_inside : {C I D : Type 0} {m : _} {w : _} {o : _} {e : _} {p : _} (xs : List (Segment C I D m w o e p)) (l : Layout) → AllByRecursion (λ s. IsInside l s) (pairs (segments_of xs)) → All (λ (x : Segment C I D m w o e p). IsInside l (ends_of x)) xs
-each_lies_inside xs l h = All-from_recursion (λ (x : Segment _ _ _ _ _ _ _ _). IsInside l (ends_of x)) xs (go xs h)
-  where
-    go : {C I D : Type 0} {m : _} {w : _} {o : _} {e : _} {p : _} (ys : List (Segment C I D m w o e p)) → AllByRecursion (λ s. IsInside l s) (pairs (segments_of ys)) → AllByRecursion (λ (x : Segment C I D m w o e p). IsInside l (ends_of x)) ys
-    go [] k = tt
-    go (y ∷ ys) k = (k.0, go ys k.1)

@@ -8,7 +8,7 @@ use Rattle.overlay_base.specs.Meeting.{do_cross, are_collinear, has_end_inside}
 use Rattle.overlay_base.proofs.laws.Polynomials.{mul-pos, cancel-pos, mul-neg, cancel-neg, cancel-zero}
 use Rattle.overlay_base.proofs.laws.Points.{turn_same_last, turn_same_outer, Before, UpTo, Before-UpTo-trans, UpTo-Before-trans, UpTo-trans, UpTo-Before, weights, collinear, are_collinear_turns, are_collinear_from, are_collinear_swap, inside_order, inside_from_order, lies_on_from_order, inside_from_parts}
 use Rattle.overlay_base.proofs.laws.Apart.{Opposite, do_cross_parts, do_cross_from}
-use Rattle.overlay_split.proofs.laws.AnswerMarks.{collinear_do_not_cross, end_cases}
+use Rattle.overlay_marks.proofs.laws.AnswerMarks.{collinear_do_not_cross, end_cases}
 
 -- ---- signs
 

@@ -14,9 +14,10 @@ use Rattle.overlay_split.specs.Potential.{spread, potential}
 use Rattle.overlay_base.proofs.laws.Polynomials.{as_D, diffs, D-eq, mul-nonneg}
 use Rattle.overlay_base.proofs.laws.Points.{Before, same_point}
 use Rattle.overlay_base.proofs.laws.Lists.{Pairwise, Steps, AllByRecursion-weaker, AllByRecursion-both, AllByRecursion-append, AllByRecursion_left, AllByRecursion_right, AllByRecursion-reverse, AllByRecursion_cross, Pairwise_left, Pairwise_right, Pairwise-weaker, Pairwise-both, Pairwise-from_AllByRecursion, Pairwise-reverse, Steps-from_Pairwise}
-use Rattle.overlay_split.proofs.laws.Paths.{Differ, all_of, AreColumns, Steps-append, last_point_has, run_through_has}
-use Rattle.overlay_split.proofs.laws.Rounding.{IsRoundedUp-monotone}
-use Rattle.overlay_split.proofs.laws.Marks.{IsRoundedPoint, rounded_start, rounded_end}
+use Rattle.overlay_split.proofs.laws.Paths.{all_of, AreColumns, Steps-append, last_point_has, run_through_has}
+use Rattle.overlay_marks.proofs.laws.Marks.{Differ}
+use Rattle.overlay_marks.proofs.laws.Rounding.{IsRoundedUp-monotone}
+use Rattle.overlay_marks.proofs.laws.Marks.{IsRoundedPoint, rounded_start, rounded_end}
 
 -- ---- directions
 

@@ -12,16 +12,18 @@ use Rattle.overlay_base.specs.Segments.{WholeSegment, pairs}
 use Rattle.overlay_base.proofs.laws.Polynomials.{as_D, diffs, D-eq}
 use Rattle.overlay_base.proofs.laws.Lists.{AllByRecursion-filter, AllByRecursion-flat_map, AllByRecursion-from_Has}
 use Rattle.overlay_base.proofs.laws.Keys.{AllByRecursion-distinct_in_order}
-use Rattle.overlay_split.specs.Crossing.{Quotient, placed_by, truncated, nearest, is_exact, snapping_point, settling_point}
-use Rattle.overlay_split.specs.Marks.{Placing, snapping, settling, nearest_end, snapped_to, crossing_mark, ordered_mark, marks_by}
-use Rattle.overlay_split.specs.Pass.{marks_on, is_rounded}
-use Rattle.overlay_split.specs.Laws.{distance_from, CrossingLiesOnBoth, MarkIsNear, RootIsMeant, RootOfPower}
-use Rattle.overlay_split.specs.Nearness.{RationalPoint, whole_point, exact_crossing, IsWithin, IsNear, root, reach}
-use Rattle.overlay_split.proofs.laws.Rounding.{over, IsRoundedUp}
-use Rattle.overlay_split.proofs.laws.RoundingMeanings.{nearest_is_meant, truncated_is_meant}
-use Rattle.overlay_split.proofs.laws.Crossings.{IsPart, IsPart-share, share, scale, scale-swap, exact_x, exact_y, offset_x-is, offset_y-is, do_cross-swap}
-use Rattle.overlay_split.proofs.laws.ExactCrossings.{IsCrossingPoint, snapping_is_placed}
-use Rattle.overlay_split.proofs.laws.Marks.{IsPointAlong, lies_along, settled_x, settled_y}
+use Rattle.overlay_marks.specs.Crossing.{Quotient, placed_by, truncated, nearest, is_exact, snapping_point, settling_point}
+use Rattle.overlay_marks.specs.Marks.{Placing, snapping, settling, nearest_end, snapped_to, crossing_mark, ordered_mark, marks_by}
+use Rattle.overlay_marks.specs.PassMarks.{marks_on, is_rounded}
+use Rattle.overlay_split.specs.Laws.{CrossingLiesOnBoth, MarkIsNear, RootIsMeant, RootOfPower}
+use Rattle.overlay_marks.specs.Laws.{distance_from}
+use Rattle.overlay_base.specs.Places.{RationalPoint}
+use Rattle.overlay_split.specs.Nearness.{whole_point, exact_crossing, IsWithin, IsNear, root, reach}
+use Rattle.overlay_marks.proofs.laws.Rounding.{over, IsRoundedUp}
+use Rattle.overlay_marks.proofs.laws.RoundingMeanings.{nearest_is_meant, truncated_is_meant}
+use Rattle.overlay_marks.proofs.laws.Crossings.{IsPart, IsPart-share, share, scale, scale-swap, exact_x, exact_y, offset_x-is, offset_y-is, do_cross-swap}
+use Rattle.overlay_marks.proofs.laws.ExactCrossings.{IsCrossingPoint, snapping_is_placed}
+use Rattle.overlay_marks.proofs.laws.Marks.{IsPointAlong, lies_along, settled_x, settled_y}
 use Rattle.overlay_split.proofs.laws.WholeCrossings.{exact_ordered_mark}
 use Rattle.overlay_split.proofs.laws.ExactMarks.{In, In-mark}
 use Rattle.overlay_split.proofs.laws.Distances.{IsWithin-weaker, IsWithin-triangle, IsNear-weaker, IsNear-from_point, LiesNear-itself}

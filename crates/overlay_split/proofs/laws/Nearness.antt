@@ -9,9 +9,10 @@ use Rattle.overlay_base.specs.Segments.{WholeSegment, pairs, are_ordered}
 use Rattle.overlay_base.specs.Join.{join}
 use Rattle.overlay_base.proofs.laws.Lists.{AllByRecursion-weaker, AllByRecursion-map, AllByRecursion-at, AllByRecursion-from_Has, AllByRecursion-both, AllByRecursion-from_list_all, Has, Has-map}
 use Rattle.overlay_base.proofs.laws.Maps.{are_ordered-map}
-use Rattle.overlay_split.specs.Marks.{Placing}
+use Rattle.overlay_marks.specs.Marks.{Placing}
 use Rattle.overlay_split.specs.Path.{pieces}
-use Rattle.overlay_split.specs.Pass.{marks_on, pieces_of, cut, pass, is_rounded}
+use Rattle.overlay_split.specs.Pass.{pieces_of, cut, pass}
+use Rattle.overlay_marks.specs.PassMarks.{marks_on, is_rounded}
 use Rattle.overlay_split.specs.Run.{Settings, placing_of_pass, after_passes, goes_on}
 use Rattle.overlay_split.specs.Nearness.{whole_point, IsNear, LiesNear, LieNear, reach, reach_of_pass, reach_of_run, reach_of_passes}
 use Rattle.overlay_split.specs.Laws.{PassStaysNear, ReachIsBounded, LastPassReachesNothing, ExactInputReachesNothing}

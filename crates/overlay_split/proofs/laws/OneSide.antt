@@ -6,8 +6,8 @@ use Rattle.std.proofs.lemmas.Bool.{and_parts, cases_Bool}
 use Rattle.overlay_base.specs.Points.{Pair}
 use Rattle.overlay_base.specs.Below.{width}
 use Rattle.overlay_base.proofs.laws.Polynomials.{as_D, diffs, D-eq, mul-le_left}
-use Rattle.overlay_split.specs.Nearness.{RationalPoint, Fraction, point_along, IsWithin, IsNear, LiesNear}
-use Rattle.overlay_split.specs.Places.{spans, height_at, runs_below, lies_below}
+use Rattle.overlay_base.specs.Places.{RationalPoint, spans, height_at, runs_below, lies_below}
+use Rattle.overlay_split.specs.Nearness.{Fraction, point_along, IsWithin, IsNear, LiesNear}
 use Rattle.overlay_split.proofs.laws.Distances.{AreClose, IsWithin-to, IsWithin-from}
 
 -- ---- a mean of two rational numbers

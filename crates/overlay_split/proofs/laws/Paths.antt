@@ -11,6 +11,7 @@ use Rattle.std.specs.List.{AllByRecursion}
 use Rattle.overlay_base.specs.Points.{Point, Pair, point_cmp, point_lt, is_ordered, distinct_in_order}
 use Rattle.overlay_base.specs.Windings.{Winding}
 use Rattle.overlay_base.specs.Segments.{WholeSegment, are_ordered}
+use Rattle.overlay_marks.proofs.laws.Marks.{Differ}
 use Rattle.overlay_split.specs.Path.{onto_columns, columns_in_order, columns_of, next_point, last_point, run_through, path_from, path, piece, pieces_along, pieces}
 use Rattle.overlay_base.proofs.laws.Points.{Before, before, from_before, not_before, by_UpTo, point_cmp_total, Before-irreflexive}
 use Rattle.overlay_base.proofs.laws.Lists.{Pairwise, Steps, AllByRecursion-weaker, AllByRecursion-append, AllByRecursion_left, AllByRecursion_right, AllByRecursion-reverse, AllByRecursion_cross, Pairwise_left, Pairwise_right, Pairwise-append, Pairwise-weaker, Pairwise-reverse, Steps-from_Pairwise}
@@ -112,9 +113,6 @@ last_point_has P p (q ∷ points) h k = last_point_has P q points k.0 k.1
 pub run_through_has : (P : List Point → Type 0) (before : Point) (column : List Point) (next : Point) → P column → P (reverse column) → P (run_through before column next)
 unfolding run_through
 run_through_has P before column next h k = cond_both (int_lt next.y before.y) (reverse column) column P (λ e. k) (λ e. h)
-
-abbrev pub Differ : Point → Point → Type 0
-Differ p q = p ≡ q → ⊥
 
 -- where points before and in a path all differ, so do the ends of each step
 steps_differ : (columns : List (List Point)) (p b : Point) → AllByRecursion (Differ p) (all_of columns ++ b ∷ []) → Pairwise Differ (all_of columns ++ b ∷ []) → Steps Differ p (path_from p columns b)

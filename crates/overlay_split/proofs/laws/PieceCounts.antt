@@ -7,10 +7,11 @@ use Rattle.overlay_base.specs.Points.{Point, point_lt}
 use Rattle.overlay_base.specs.Windings.{Winding, inverse, swap_directions, is_count_in_range, is_valid}
 use Rattle.overlay_base.specs.Segments.{WholeSegment}
 use Rattle.overlay_base.proofs.laws.Lists.{AllByRecursion-weaker}
-use Rattle.overlay_split.specs.Marks.{Placing}
+use Rattle.overlay_marks.specs.Marks.{Placing}
 use Rattle.overlay_split.specs.Path.{path, path_from, columns_of, piece, pieces_along, pieces}
-use Rattle.overlay_split.specs.Pass.{marks_on, pieces_of, cut}
-use Rattle.overlay_split.proofs.laws.Crossings.{abs_neg}
+use Rattle.overlay_split.specs.Pass.{pieces_of, cut}
+use Rattle.overlay_marks.specs.PassMarks.{marks_on}
+use Rattle.overlay_marks.proofs.laws.Crossings.{abs_neg}
 use Rattle.overlay_split.proofs.laws.Cuts.{AllByRecursion-cut}
 
 -- what holds of the inverse of each count that it holds of

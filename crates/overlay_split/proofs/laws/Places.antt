@@ -18,11 +18,13 @@ use Rattle.overlay_base.proofs.laws.Functionals.{whole_numbers_add, total_weight
 use Rattle.overlay_base.proofs.laws.Windings.{same_windings}
 use Rattle.overlay_base.proofs.laws.Maps.{are_ordered-map}
 use Rattle.overlay_split.specs.Path.{path, piece, pieces_along, pieces}
-use Rattle.overlay_split.specs.Marks.{Placing}
-use Rattle.overlay_split.specs.Pass.{marks_on, pieces_of, cut, pass, is_rounded}
+use Rattle.overlay_marks.specs.Marks.{Placing}
+use Rattle.overlay_split.specs.Pass.{pieces_of, cut, pass}
+use Rattle.overlay_marks.specs.PassMarks.{marks_on, is_rounded}
 use Rattle.overlay_split.specs.Run.{placing_of_pass, after_passes}
-use Rattle.overlay_split.specs.Nearness.{RationalPoint, point_along, IsNear, LiesNear, LieNear, reach, reach_of_pass, reach_of_run}
-use Rattle.overlay_split.specs.Places.{spans, runs_below, lies_below, winding_below, IsFar}
+use Rattle.overlay_base.specs.Places.{RationalPoint, spans, runs_below, lies_below, winding_below}
+use Rattle.overlay_split.specs.Nearness.{point_along, IsNear, LiesNear, LieNear, reach, reach_of_pass, reach_of_run}
+use Rattle.overlay_split.specs.Places.{IsFar}
 use Rattle.overlay_split.specs.Laws.{IsOdd, loss, PassOnOneSide, JoinKeepsWinding, PassKeepsWinding, RunKeepsWinding, ExactInputKeepsWinding}
 use Rattle.overlay_split.proofs.laws.Cuts.{gathered-cut}
 use Rattle.overlay_split.proofs.laws.Pieces.{weighed-pieces}

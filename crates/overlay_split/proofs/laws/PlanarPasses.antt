@@ -5,8 +5,9 @@ use Rattle.overlay_base.specs.Points.{Pair}
 use Rattle.overlay_base.specs.Segments.{WholeSegment, pairs, are_ordered}
 use Rattle.overlay_base.specs.Meeting.{are_apart}
 use Rattle.overlay_base.specs.Planar.{is_planar}
-use Rattle.overlay_split.specs.Marks.{Placing}
-use Rattle.overlay_split.specs.Pass.{marks_on, pieces_of, cut, pass, is_rounded}
+use Rattle.overlay_marks.specs.Marks.{Placing}
+use Rattle.overlay_split.specs.Pass.{pieces_of, cut, pass}
+use Rattle.overlay_marks.specs.PassMarks.{marks_on, is_rounded}
 use Rattle.overlay_split.specs.Laws.{ExactPassIsPlanar}
 use Rattle.overlay_base.proofs.laws.Lists.{AllByRecursion-from_Has, AllByRecursion-weaker, Has, AllByRecursion-at, Has-map, list_all-from_Has, list_all-at, AllByRecursion-map}
 use Rattle.overlay_base.proofs.laws.Maps.{are_ordered-map}

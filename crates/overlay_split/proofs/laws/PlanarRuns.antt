@@ -6,15 +6,16 @@ use Rattle.overlay_base.specs.Segments.{WholeSegment, pairs, is_map, are_ordered
 use Rattle.overlay_base.specs.Join.{join}
 use Rattle.overlay_base.specs.Meeting.{do_cross}
 use Rattle.overlay_base.specs.Planar.{is_planar}
-use Rattle.overlay_split.specs.Marks.{Placing, ordered_mark, marks_by}
+use Rattle.overlay_marks.specs.Marks.{Placing, ordered_mark, marks_by}
 use Rattle.overlay_split.specs.Path.{pieces}
-use Rattle.overlay_split.specs.Pass.{marks_on, pieces_of, cut, pass, is_rounded}
+use Rattle.overlay_split.specs.Pass.{pieces_of, cut, pass}
+use Rattle.overlay_marks.specs.PassMarks.{marks_on, is_rounded}
 use Rattle.overlay_split.specs.Run.{Settings, placing_of_pass, after_passes, goes_on, has_changed, IsPassCount}
 use Rattle.overlay_split.specs.Laws.{RunIsOne, RunIsPlanar, ResultIsUnchanged, ExactRunsAgree}
 use Rattle.overlay_base.proofs.laws.Lists.{Has, Has-map}
 use Rattle.overlay_split.proofs.laws.Runs.{is_map-after_passes}
-use Rattle.overlay_split.proofs.laws.ExactCrossings.{IsCrossingPoint, IsCrossingPoint-unique}
-use Rattle.overlay_split.proofs.laws.Marks.{marks_at_crossing, marks_at_ends}
+use Rattle.overlay_marks.proofs.laws.ExactCrossings.{IsCrossingPoint, IsCrossingPoint-unique}
+use Rattle.overlay_marks.proofs.laws.Marks.{marks_at_crossing, marks_at_ends}
 use Rattle.overlay_split.proofs.laws.ExactMarks.{In, In-mark}
 use Rattle.overlay_split.proofs.laws.PlanarPasses.{exact_pass_is_planar}
 use Rattle.overlay_split.proofs.laws.Arranged.{flat_map-same, arranged_is_unchanged}

@@ -13,10 +13,11 @@ use Rattle.overlay_base.specs.Points.{Point, Pair, point_cmp, pair_lt, is_end, i
 use Rattle.overlay_base.specs.Segments.{WholeSegment, pairs, are_ordered}
 use Rattle.overlay_base.specs.Meeting.{do_cross}
 use Rattle.overlay_base.specs.Sums.{IsCommutativeMonoid, gathered}
-use Rattle.overlay_split.specs.Crossing.{is_exact}
-use Rattle.overlay_split.specs.Marks.{Placing, settling, ordered_mark, marks_by, cross_inexactly}
+use Rattle.overlay_marks.specs.Crossing.{is_exact}
+use Rattle.overlay_marks.specs.Marks.{Placing, settling, ordered_mark, marks_by, cross_inexactly}
 use Rattle.overlay_split.specs.Path.{columns_of, path_from, path, pieces}
-use Rattle.overlay_split.specs.Pass.{marks_on, pieces_of, cut, pass, is_rounded, mark_count}
+use Rattle.overlay_split.specs.Pass.{pieces_of, cut, pass}
+use Rattle.overlay_marks.specs.PassMarks.{marks_on, is_rounded, mark_count}
 use Rattle.overlay_split.specs.Potential.{spread, potential}
 use Rattle.overlay_split.specs.Laws.{SettlingLowers}
 use Rattle.overlay_base.proofs.laws.Points.{Before, before, Before-irreflexive, by_pair_order, point_cmp_total, point_same}
@@ -25,13 +26,14 @@ use Rattle.overlay_base.proofs.laws.Maps.{are_ordered-map}
 use Rattle.overlay_base.proofs.laws.Lists.{Pairwise, Steps, AllByRecursion-weaker, AllByRecursion-append, Pairwise-append, Pairwise-weaker, Pairwise-both, Pairwise-from_AllByRecursion, Has, Has-filter, Has-flat_map, Has-from_list_any, AllByRecursion-from_list_all}
 use Rattle.overlay_base.proofs.laws.Keys.{AllByRecursion-distinct_in_order, IsStrictlySortedBy-distinct, Has-distinct_in_order}
 use Rattle.overlay_base.proofs.laws.Members.{sum_by-join_le}
-use Rattle.overlay_split.proofs.laws.Paths.{Differ, all_of, AreColumns-columns_of, all_of-columns_of, Pairwise-distinct_in_order, steps_of_path}
+use Rattle.overlay_split.proofs.laws.Paths.{all_of, AreColumns-columns_of, all_of-columns_of, Pairwise-distinct_in_order, steps_of_path}
+use Rattle.overlay_marks.proofs.laws.Marks.{Differ}
 use Rattle.overlay_split.proofs.laws.Pieces.{last_point-path_from}
-use Rattle.overlay_split.proofs.laws.Marks.{IsFree, IsFree-marks_on, IsRoundedPoint, rounded-marks_on, marks_at_crossing}
+use Rattle.overlay_marks.proofs.laws.Marks.{IsFree, IsFree-marks_on, IsRoundedPoint, rounded-marks_on, marks_at_crossing}
 use Rattle.overlay_split.proofs.laws.Monotone.{Rises, Falls, Descends, IsDirection, Rises-is_direction, Falls-is_direction, rises_from_start, rises_to_end, falls_from_start, falls_to_end, rises_in_order, falls_in_order, path_rises, path_falls, reach, spread_is, potential-pieces_along, length-path_from}
-use Rattle.overlay_split.proofs.laws.Crossings.{do_cross-swap}
+use Rattle.overlay_marks.proofs.laws.Crossings.{do_cross-swap}
 use Rattle.overlay_split.proofs.laws.Cuts.{gathered-cut}
-use Rattle.overlay_split.proofs.laws.AnswerMarks.{pair_lt_back, crossing_ends_differ}
+use Rattle.overlay_marks.proofs.laws.AnswerMarks.{pair_lt_back, crossing_ends_differ}
 
 -- ---- the path of a pair through rounded points runs in one direction
 

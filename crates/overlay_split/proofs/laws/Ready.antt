@@ -24,10 +24,11 @@ use Rattle.overlay_base.specs.EdgeData.{Hooks, without_data}
 use Rattle.overlay_base.proofs.laws.Views.{segments_ordered, segments_of-bare}
 use Rattle.overlay_base.proofs.laws.Points.{pair_cmp_total}
 use Rattle.overlay_base.proofs.laws.Apart.{pairs-map}
-use Rattle.overlay_split.specs.Marks.{Placing}
-use Rattle.overlay_split.specs.Pass.{marks_on, mark_count, cut}
+use Rattle.overlay_marks.specs.Marks.{Placing}
+use Rattle.overlay_split.specs.Pass.{cut}
+use Rattle.overlay_marks.specs.PassMarks.{marks_on, mark_count}
 use Rattle.overlay_split.specs.DataPass.{data_cut}
-use Rattle.overlay_split.specs.MarkOf.{Mark, AreMarks, points_at}
+use Rattle.overlay_marks.specs.MarkOf.{Mark, AreMarks, points_at}
 use Rattle.overlay_split.proofs.laws.PieceCounts.{counts-cut, is_valid-inverse}
 use Rattle.overlay_split.proofs.laws.DataPasses.{bare-data_cut}
 use Rattle.overlay_split.proofs.laws.MarkRuns.{points_at-own}

@@ -9,10 +9,11 @@ use Rattle.overlay_base.specs.Join.{summed, join}
 use Rattle.overlay_base.specs.SegmentOf.{segment_of, segments_of}
 use Rattle.overlay_base.specs.declared.segm.segment.Segment.{Segment}
 use Rattle.overlay_base.specs.declared.overlay_core.solver.Strategy.{Strategy}
-use Rattle.overlay_split.specs.Grid.{Layout}
+use Rattle.overlay_marks.specs.Grid.{Layout}
 use Rattle.overlay_split.specs.Run.{Settings, after_passes}
-use Rattle.overlay_split.specs.Looked.{pass_looks}
-use Rattle.overlay_split.specs.RunLooks.{HasNoListPass, IsGridFor, run_looks}
+use Rattle.overlay_marks.specs.Looked.{pass_looks}
+use Rattle.overlay_split.specs.RunLooks.{HasNoListPass, run_looks}
+use Rattle.overlay_marks.specs.GridFor.{IsGridFor}
 
 -- the grid is that of the run, and the looks of n passes are no more than it allows
 pub record HasLooked (strategy : Strategy) (settings : Settings) (given : List WholeSegment) (grid : Option Layout) (n looked : ℕ) : Type 0 where

@@ -5,8 +5,9 @@ use Rattle.std.proofs.lemmas.Bool.{and_parts, cond-false, lt-leb, cases_Bool, ca
 use Rattle.std.specs.List.{AllByRecursion}
 use Rattle.overlay_base.specs.Points.{is_ordered}
 use Rattle.overlay_base.specs.Segments.{WholeSegment, is_map, are_ordered}
-use Rattle.overlay_split.specs.Marks.{Placing, snapping, settling}
-use Rattle.overlay_split.specs.Pass.{marks_on, pieces_of, cut, pass, is_rounded}
+use Rattle.overlay_marks.specs.Marks.{Placing, snapping, settling}
+use Rattle.overlay_split.specs.Pass.{pieces_of, cut, pass}
+use Rattle.overlay_marks.specs.PassMarks.{marks_on, is_rounded}
 use Rattle.overlay_split.specs.Potential.{potential}
 use Rattle.overlay_split.specs.Run.{Settings, placing_of_pass, radius_of_pass, after_passes, goes_on}
 use Rattle.overlay_split.specs.Laws.{RunEnds}
@@ -14,7 +15,7 @@ use Rattle.overlay_base.proofs.laws.Maps.{are_ordered-map, is_map-join}
 use Rattle.overlay_base.proofs.laws.Lists.{AllByRecursion-weaker, AllByRecursion-from_list_all, list_all-from_AllByRecursion}
 use Rattle.overlay_split.proofs.laws.Cuts.{AllByRecursion-cut}
 use Rattle.overlay_split.proofs.laws.Paths.{are_ordered-pieces}
-use Rattle.overlay_split.proofs.laws.Marks.{IsFree-marks_on}
+use Rattle.overlay_marks.proofs.laws.Marks.{IsFree-marks_on}
 use Rattle.overlay_split.proofs.laws.Potentials.{ends_differ, settling_lowers}
 
 -- ---- arrangements

@@ -8,7 +8,7 @@ use Rattle.overlay_base.specs.Windings.{swap_directions, is_valid, is_not_empty,
 use Rattle.overlay_base.specs.Segments.{WholeSegment, is_map}
 use Rattle.overlay_base.specs.Join.{join, join_leaves_range}
 use Rattle.overlay_base.specs.Planar.{is_point_in_range, is_pair_in_range, is_splittable}
-use Rattle.overlay_split.specs.Marks.{Placing, settling}
+use Rattle.overlay_marks.specs.Marks.{Placing, settling}
 use Rattle.overlay_split.specs.Pass.{cut, pass}
 use Rattle.overlay_split.specs.Potential.{spread, potential}
 use Rattle.overlay_base.proofs.laws.Coordinates.{pair_parts, in_box_in_range}

@@ -15,8 +15,9 @@ use Rattle.overlay_base.specs.Balance.{KeepsBalance}
 use Rattle.overlay_base.specs.EdgeData.{DataSegment, Hooks, without_data, merge_sorted, data_join, IsRefusedJoin}
 use Rattle.overlay_base.specs.SegmentOf.{segment_of, segments_of, data_segments_of}
 use Rattle.overlay_base.specs.declared.segm.segment.Segment.{Segment}
-use Rattle.overlay_split.specs.Marks.{Placing, snapping, settling}
-use Rattle.overlay_split.specs.Pass.{cut, pass, is_rounded, mark_count}
+use Rattle.overlay_marks.specs.Marks.{Placing, snapping, settling}
+use Rattle.overlay_split.specs.Pass.{cut, pass}
+use Rattle.overlay_marks.specs.PassMarks.{is_rounded, mark_count}
 use Rattle.overlay_split.specs.DataPass.{data_cut, data_pass, data_after_passes, data_joined_in, IsStoppedRun}
 use Rattle.overlay_split.specs.Run.{Settings, placing_of_pass, radius_of_pass, after_passes, goes_on, has_marked, has_changed, IsPassCount, IsRun, leaves_range_within, LeavesRange}
 use Rattle.overlay_split.specs.ExactInput.{is_exact_input, KeepsCounts}
@@ -26,7 +27,7 @@ use Rattle.overlay_split.specs.Potential.{spread, potential}
 use Rattle.overlay_base.proofs.laws.Coordinates.{difference_bound, pair_parts, point_parts}
 use Rattle.overlay_base.proofs.laws.Maps.{is_map-join}
 use Rattle.overlay_base.proofs.laws.Rests.{is_splittable-parts}
-use Rattle.overlay_split.proofs.laws.FoundMarks.{or_assoc, or_false}
+use Rattle.overlay_marks.proofs.laws.FoundMarks.{or_assoc, or_false}
 use Rattle.overlay_split.proofs.laws.Runs.{is_map-after_passes, run_ends}
 use Rattle.overlay_split.proofs.laws.Balances.{run_keeps_balance}
 use Rattle.overlay_split.proofs.laws.ExactInputs.{exact_input_keeps_counts}

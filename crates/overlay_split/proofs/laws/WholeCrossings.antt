@@ -4,11 +4,11 @@ use Rattle.std.proofs.lemmas.Bool.{cond_both}
 use Rattle.overlay_base.specs.Points.{Point, Pair, pair_lt, is_strictly_inside}
 use Rattle.overlay_base.specs.Meeting.{do_cross}
 use Rattle.overlay_base.proofs.laws.Apart.{do_cross_parts}
-use Rattle.overlay_split.specs.Crossing.{is_exact}
-use Rattle.overlay_split.specs.Marks.{Placing, snapping, settling, crossing_mark, ordered_mark}
+use Rattle.overlay_marks.specs.Crossing.{is_exact}
+use Rattle.overlay_marks.specs.Marks.{Placing, snapping, settling, crossing_mark, ordered_mark}
 use Rattle.overlay_base.proofs.laws.Points.{Before}
-use Rattle.overlay_split.proofs.laws.Crossings.{do_cross-swap}
-use Rattle.overlay_split.proofs.laws.ExactCrossings.{IsCrossingPoint, IsCrossingPoint-swap, on_both_lines, exact_snapping_point, exact_settling_point, is_exact_back}
+use Rattle.overlay_marks.proofs.laws.Crossings.{do_cross-swap}
+use Rattle.overlay_marks.proofs.laws.ExactCrossings.{IsCrossingPoint, IsCrossingPoint-swap, on_both_lines, exact_snapping_point, exact_settling_point, is_exact_back}
 use Rattle.overlay_split.proofs.laws.Parts.{separated_inside}
 
 -- p lies strictly inside both

@@ -1,38 +1,10 @@
-// The laws of crossings, of the marks that they stand for, of passes and of runs. Each function has an empty body, and
-// its contract is proved for all whole numbers, all lists and all hooks, whatever the engine.
-ghost use Rattle.overlay_split.specs.Laws.{AnswersAreMarks, NoMarkIsAnEnd, NeverThreeZeros, ExactIsOnBothLines, TargetDoesNotMatter, PointsLieInBothBoxes, SnappedEndsAreOffTheLine, NoEndOfBoth, RoundingsAreAsMeant};
+// The laws of passes and of runs. Each function has an empty body, and its contract is proved for all whole numbers, all
+// lists and all hooks, whatever the engine.
 ghost use Rattle.overlay_split.specs.Laws.{NumbersAreOdd, PiecesTelescope, PassKeepsLosses, PassKeepsBalance, RunKeepsBalance, RunKeepsPolygons};
 ghost use Rattle.overlay_split.specs.Laws.{SettlingLowers, RunEnds, RunIsOne, ExactPassIsPlanar, PlanarPassIsUnchanged, RunIsPlanar, ArrangedIsUnchanged, ResultIsUnchanged};
 ghost use Rattle.overlay_split.specs.Laws.{RootIsMeant, RootOfPower, NearEndsAreEnough, DistancesAddUp, CrossingLiesOnBoth, MarkIsNear, PassStaysNear, PiecesStayNear, RunStaysNear, LinesAreKept, ReachIsBounded, LastPassReachesNothing, ExactInputReachesNothing};
 ghost use Rattle.overlay_split.specs.Laws.{PassOnOneSide, JoinKeepsWinding, PassKeepsWinding, RunKeepsWinding, ExactInputKeepsWinding};
-ghost use Rattle.overlay_split.specs.Laws.{FragmentsEnclose};
 ghost use Rattle.overlay_split.specs.Laws.{StaysInBox, ExactInputKeepsCounts, ExactRunsAgree, DataIsBeside, UnmarkedDataIsUnchanged, ArrangedDataIsUnchanged, StoppedRunLeavesRange, StoppedRunIsOne};
-
-/// The answer for two pairs, the smaller as target, stands for the marks that a pass puts on both, and no mark is an
-/// end of the pair that it marks.
-pub fn mark_laws()
-    ensures answers { AnswersAreMarks }
-    ensures ends { NoMarkIsAnEnd }
-{}
-
-/// Never just three of the four turns of two pairs are 0. A crossing is exact where its point lies on both lines;
-/// whether it is, and where it settles, does not depend on which of the two is the target. Its points lie in the boxes
-/// of both. An end that it snaps to never lies on the other's line. No point is an end of both, so where it settles is
-/// an end of at most one.
-pub fn crossing_laws()
-    ensures turns { NeverThreeZeros }
-    ensures exact { ExactIsOnBothLines }
-    ensures target { TargetDoesNotMatter }
-    ensures boxes { PointsLieInBothBoxes }
-    ensures snapped_ends { SnappedEndsAreOffTheLine }
-    ensures settled_ends { NoEndOfBoth }
-{}
-
-/// The quotients by which offsets become whole are what is meant by them, and no other number is: the nearest whole
-/// number, of two as near the one farther from 0; the number with its rest cut off; the floor of one half more.
-pub fn rounding_laws()
-    ensures { RoundingsAreAsMeant }
-{}
 
 /// Take a function of points, and a number of the count that inversion negates, as `subj` and `clip`. The pieces of a
 /// segment, each with what the function loses from its start to its end times that number, add up to the segment. So a
@@ -125,10 +97,4 @@ pub fn data_pass_laws<D, S>()
 pub fn stopped_run_laws<D, S>()
     ensures leaves_range { StoppedRunLeavesRange D S }
     ensures one { StoppedRunIsOne D S }
-{}
-
-/// The fragments of a segment that begins inside a grid follow one another from its start to its end, and the rectangle of
-/// each holds the segment's part there.
-pub fn fragment_laws()
-    ensures { FragmentsEnclose }
 {}

@@ -9,19 +9,16 @@ ghost use Rattle.overlay_base.specs.EdgeData.{IsRefusedJoin};
 ghost use Rattle.overlay_base.specs.HooksOf.{hooks_of};
 ghost use Rattle.overlay_base.specs.SegmentOf.{segments_of, data_segments_of};
 ghost use Rattle.overlay_base.specs.Choices.{list_splits};
-ghost use Rattle.overlay_split.specs.Pass.{cut, pass, is_rounded, mark_count};
+ghost use Rattle.overlay_split.specs.Pass.{cut, pass};
+ghost use Rattle.overlay_marks.specs.PassMarks.{is_rounded, mark_count};
 ghost use Rattle.overlay_split.specs.DataPass.{data_cut, data_pass};
-ghost use Rattle.overlay_split.specs.PlacingOf.{placing_of, HasRadius};
-ghost use Rattle.overlay_split.specs.Looked.{pass_looks};
-ghost use Rattle.overlay_split.specs.FragmentFinder.{LieInside};
-ghost use Rattle.overlay_split.specs.GroupsOf.{grid_in};
+ghost use Rattle.overlay_marks.specs.PlacingOf.{placing_of, HasRadius};
+ghost use Rattle.overlay_marks.specs.Looked.{pass_looks};
+ghost use Rattle.overlay_marks.specs.FragmentFinder.{LieInside};
+ghost use Rattle.overlay_marks.specs.GroupsOf.{grid_in};
 
 use crate::split::cut::{cut_segment, index_len};
-use crate::split::finder::PairFinder;
-use crate::split::line_mark::LineMark;
 use crate::split::path::collect_path;
-use crate::split::placing::Placing;
-use crate::split::solver_tree::TreeBuffers;
 use overlay_base::geom::point::IntPoint;
 use overlay_base::geom::x_segment::XSegment;
 use overlay_base::num::OverlayInt;
@@ -30,6 +27,10 @@ use overlay_base::segm::fault::Fault;
 use overlay_base::segm::join::join_with_store;
 use overlay_base::segm::segment::Segment;
 use overlay_base::segm::winding::WindingCount;
+use overlay_marks::split::finder::PairFinder;
+use overlay_marks::split::line_mark::LineMark;
+use overlay_marks::split::placing::Placing;
+use overlay_marks::split::solver_tree::TreeBuffers;
 use std::alloc::Global;
 
 /// The memory of a pass, kept from one to the next.

@@ -7,7 +7,7 @@ ghost use Rattle.overlay_base.specs.HooksOf.{hooks_of};
 ghost use Rattle.overlay_base.specs.SegmentOf.{data_segments_of};
 ghost use Rattle.overlay_split.specs.Path.{last_point, LeadsOn};
 ghost use Rattle.overlay_split.specs.DataPass.{data_pieces};
-ghost use Rattle.overlay_split.specs.MarkOf.{points_of};
+ghost use Rattle.overlay_marks.specs.MarkOf.{points_of};
 
 use overlay_base::geom::point::IntPoint;
 use overlay_base::num::OverlayInt;

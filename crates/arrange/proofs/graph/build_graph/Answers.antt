@@ -1,21 +1,29 @@
-use Rattle.std.proofs.Common.{true}
-use Rattle.std.proofs.lemmas.Result.{IfOk-weaker}
-use Rattle.overlay_base.specs.Rules.{holds, keeps_fill}
+use Rattle.std.proofs.Common.{◌≡◌, refl}
 use Rattle.overlay_base.specs.SegmentOf.{segments_of}
-use Rattle.overlay_build.specs.NodeIndexes.{indexes_of, is_canonical_node}
-use Rattle.overlay_build.proofs.laws.BuiltGraphs.{graph_with_kept}
+use Rattle.overlay_split.specs.SettingsOf.{passes_of, settings_of}
+use Rattle.overlay_build.specs.GraphOf.{graph_with}
+use Rattle.arrange.specs.Run.{split_settings}
+use Rattle.arrange.proofs.GraphAnswers.{answered_by_rule, refusal_by_rule, refusal_all}
 use Rattle.arrange.proofs.graph.build_graph.Goals as goal
 
-pub returns-in-Some : goal.returns-in-Some
-returns-in-Some g c = rw c.in-Some.is (record {
-  graph = IfOk-weaker c.build_boolean_overlay.result _ _ (λ graph h. graph_with_kept indexes_of is_canonical_node g.I.OverlayInt.whole graph.nodes.now graph.links.now (keeps_fill (holds c.in-Some.rule)) c.args.fill_rule (segments_of c.args.segments.now) h) c.build_boolean_overlay.ensures.graph;
-  in_range = c.build_boolean_overlay.ensures.in_range;
-  out_of_range = c.build_boolean_overlay.ensures.out_of_range;
-})
+pub returns-in-Some-clause-graph : goal.returns-in-Some-clause-graph
+returns-in-Some-clause-graph g c =
+    let set : settings_of g.I.OverlayInt.BITS c.with_strategy_and_precision-solver.result c.with_snap_limit-splitter.result ≡ split_settings g.I.OverlayInt.BITS c.args.settings =
+    rw (c.with_snap_limit-splitter.ensures.limit, c.with_strategy_and_precision-solver.ensures.precision) refl in
+    let segments = segments_of c.split_and_build_overlay.new.segments.items in
+    answered_by_rule g.I.OverlayInt.BITS c.args.settings _ set (segments_of c.args.segments.items) segments (passes_of c.split_and_build_overlay.new.splitter) c.split_and_build_overlay.result
+    (λ graph. graph_with g.I.OverlayInt.whole graph.links.now) c.in-Some.rule c.in-Some.is c.split_and_build_overlay.ensures.overlay c.split_and_build_overlay.ensures.in_range
 
-pub returns-in-None : goal.returns-in-None
-returns-in-None g c = rw c.in-None.is (record {
-  graph = IfOk-weaker c.build_boolean_all.result _ _ (λ graph h. graph_with_kept indexes_of is_canonical_node g.I.OverlayInt.whole graph.nodes.now graph.links.now (λ _. true) c.args.fill_rule (segments_of c.args.segments.now) h) c.build_boolean_all.ensures.graph;
-  in_range = c.build_boolean_all.ensures.in_range;
-  out_of_range = c.build_boolean_all.ensures.out_of_range;
-})
+pub returns-in-Some-clause-out_of_range : goal.returns-in-Some-clause-out_of_range
+returns-in-Some-clause-out_of_range g c =
+    let set : settings_of g.I.OverlayInt.BITS c.with_strategy_and_precision-solver.result c.with_snap_limit-splitter.result ≡ split_settings g.I.OverlayInt.BITS c.args.settings =
+    rw (c.with_snap_limit-splitter.ensures.limit, c.with_strategy_and_precision-solver.ensures.precision) refl in
+    let segments = segments_of c.split_and_build_overlay.new.segments.items in
+    refusal_by_rule g.I.OverlayInt.BITS c.args.settings _ set (segments_of c.args.segments.items) segments (passes_of c.split_and_build_overlay.new.splitter) _ c.split_and_build_overlay.result c.split_and_build_overlay.ensures.refused
+
+pub returns-clause-out_of_range : goal.returns-clause-out_of_range
+returns-clause-out_of_range g c =
+    let set : settings_of g.I.OverlayInt.BITS c.with_strategy_and_precision-solver.result c.with_snap_limit-splitter.result ≡ split_settings g.I.OverlayInt.BITS c.args.settings =
+    rw (c.with_snap_limit-splitter.ensures.limit, c.with_strategy_and_precision-solver.ensures.precision) refl in
+    let segments = segments_of c.build_all.new.segments.items in
+    refusal_all g.I.OverlayInt.BITS c.args.settings _ set (segments_of c.args.segments.items) segments (passes_of c.build_all.new.splitter) c.build_all.result c.build_all.ensures.out_of_range

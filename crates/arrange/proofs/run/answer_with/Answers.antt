@@ -3,7 +3,8 @@ use Rattle.std.proofs.lemmas.List.{length-map}
 use Rattle.std.specs.Prelude.{IsErrOf}
 use Rattle.overlay_base.specs.SegmentOf.{segment_of, segments_of}
 use Rattle.arrange.specs.declared.stop.Stop.TheVariants.{NotTwoSegments}
-use Rattle.arrange.proofs.Runs.{if_err, stops_at_fault, stops_at_crossing}
+use Rattle.arrange.specs.declared.settings.Command.TheVariants.{Graph, Walks}
+use Rattle.arrange.proofs.Runs.{if_err, stops_at_fault, stops_at_crossing, stops_at_command}
 use Rattle.arrange.proofs.run.answer_with.Goals as goal
 
 pub returns-in_err-segments-clause-stop : goal.returns-in_err-segments-clause-stop
@@ -16,3 +17,11 @@ returns-in-Cross-clause-stop g c =
     let given = segments_of c.in_ok-segments.segments.items in
     let other : IsErrOf c.cross.result NotTwoSegments → length given ≢ 2 = λ e two. c.cross.ensures.two.0 e (ap length c.as_slice.ensures.value ∙ (sym (length-map c.in_ok-segments.segments.items segment_of) ∙ two)) in
     rw c.in-Cross.is (stops_at_crossing (g.I.OverlayInt.whole g.I.OverlayInt.MIN_COORD) (g.I.OverlayInt.whole g.I.OverlayInt.MAX_COORD) g.I.OverlayInt.BITS c.args.settings c.args.bytes.now c.cross.result given c.in_ok-segments.ensures.segments other c.cross.ensures.refused)
+
+pub returns-in-Graph-clause-stop : goal.returns-in-Graph-clause-stop
+returns-in-Graph-clause-stop g c =
+    rw c.in-Graph.is (stops_at_command (g.I.OverlayInt.whole g.I.OverlayInt.MIN_COORD) (g.I.OverlayInt.whole g.I.OverlayInt.MAX_COORD) g.I.OverlayInt.BITS c.args.settings c.args.bytes.now c.graph.result Graph (segments_of c.in_ok-segments.segments.items) c.in_ok-segments.ensures.segments c.graph.ensures.stop)
+
+pub returns-in-Walks-clause-stop : goal.returns-in-Walks-clause-stop
+returns-in-Walks-clause-stop g c =
+    rw c.in-Walks.is (stops_at_command (g.I.OverlayInt.whole g.I.OverlayInt.MIN_COORD) (g.I.OverlayInt.whole g.I.OverlayInt.MAX_COORD) g.I.OverlayInt.BITS c.args.settings c.args.bytes.now c.walks.result Walks (segments_of c.in_ok-segments.segments.items) c.in_ok-segments.ensures.segments c.walks.ensures.stop)

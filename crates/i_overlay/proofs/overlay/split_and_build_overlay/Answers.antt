@@ -8,10 +8,10 @@ use Rattle.overlay_split.specs.SettingsOf.{passes_of, settings_of}
 use Rattle.overlay_build.specs.Graph.{graph_by}
 use Rattle.overlay_build.specs.GraphOf.{HoldGraph, graph_with}
 use Rattle.overlay_build.specs.NodeIndexes.{indexes_of, is_canonical_node}
-use Rattle.i_overlay.specs.Regions.{EnclosesOverlay}
+use Rattle.i_overlay.specs.FarRegions.{EnclosesOverlay}
 use Rattle.i_overlay.specs.Headline.{IsSplit, IsOverlay}
 use Rattle.overlay_build.proofs.laws.BuiltGraphs.{graph_with_kept}
-use Rattle.i_overlay.proofs.laws.Regions.{overlay_region}
+use Rattle.i_overlay.proofs.laws.FarRegions.{overlay_region}
 use Rattle.i_overlay.proofs.laws.Overlays.{none_arranged, split_from, overlay_from, refused_build}
 use Rattle.i_overlay.proofs.overlay.split_and_build_overlay.Goals as goal
 

@@ -1,5 +1,6 @@
 use Rattle.overlay_build.proofs.laws.GraphLaws.{filter_of_all}
 use Rattle.overlay_build.proofs.laws.GraphExact.{nodes_are_even, graphs_are_valid, graphs_are_exact}
+use Rattle.overlay_build.proofs.laws.Regions.{graphs_enclose_regions}
 use Rattle.overlay_build.proofs.build.laws.graph_laws.Goals as goal
 
 pub returns-clause-even : goal.returns-clause-even
@@ -10,6 +11,9 @@ returns-clause-valid c = graphs_are_valid
 
 pub returns-clause-exact : goal.returns-clause-exact
 returns-clause-exact c = graphs_are_exact
+
+pub returns-clause-region : goal.returns-clause-region
+returns-clause-region c = graphs_enclose_regions
 
 pub returns-clause-filter : goal.returns-clause-filter
 returns-clause-filter c = filter_of_all

@@ -4,7 +4,7 @@ use Rattle.overlay_base.specs.Windings.{is_valid}
 use Rattle.overlay_base.specs.PointOf.{point_of}
 use Rattle.overlay_base.specs.HooksOf.{hooks_of}
 use Rattle.overlay_base.specs.SegmentOf.{data_segments_of, data_segment_of, ends_of, winding_of}
-use Rattle.overlay_split.specs.MarkOf.{points_of}
+use Rattle.overlay_marks.specs.MarkOf.{points_of}
 use Rattle.overlay_split.specs.Path.{IsPathOf, LeadsOn, last_point}
 use Rattle.overlay_split.specs.DataPass.{data_pieces}
 use Rattle.overlay_split.specs.DataCutAt.{data_cut_at}

@@ -5,8 +5,8 @@ use Rattle.overlay_split.proofs.laws.CutSteps.{All-at}
 use Rattle.overlay_base.specs.PointOf.{point_of}
 use Rattle.overlay_base.specs.HooksOf.{hooks_of}
 use Rattle.overlay_base.specs.SegmentOf.{segments_of, data_segments_of, data_segment_of, winding_of, ends_of}
-use Rattle.overlay_split.specs.PlacingOf.{placing_of}
-use Rattle.overlay_split.specs.MarkOf.{AreMarks, mark_of, marks_of, points_of, mark_points_of}
+use Rattle.overlay_marks.specs.PlacingOf.{placing_of}
+use Rattle.overlay_marks.specs.MarkOf.{AreMarks, mark_of, marks_of, points_of, mark_points_of}
 use Rattle.overlay_base.proofs.laws.Views.{segments_of-bare}
 use Rattle.overlay_split.proofs.laws.Ready.{IsSortedByKey-is_map, IsPairInRange-each, IsUsable-each, marks_tell}
 use Rattle.std.specs.Vec.{vec_len}

@@ -24,7 +24,7 @@ use Rattle.overlay_split.proofs.laws.Splittable.{is_splittable-join}
 use Rattle.overlay_split.proofs.laws.Ready.{IsPairInRange-each}
 use Rattle.overlay_split.proofs.laws.RunLooks.{HasLooked-none, HasLooked-start, HasLooked-more}
 use Rattle.overlay_split.proofs.laws.GridRuns.{run_lies_inside}
-use Rattle.overlay_split.specs.GroupsOf.{grid_in}
+use Rattle.overlay_marks.specs.GroupsOf.{grid_in}
 use Rattle.overlay_split.proofs.split.solver.SplitSolver.split_segments_with_store.Goals as goal
 use Rattle.overlay_split.proofs.split.solver.SplitSolver.split_segments_with_store.Goals.{else-loop-test, then-loop-test+then-not-progress}
 

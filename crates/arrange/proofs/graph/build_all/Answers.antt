@@ -1,0 +1,20 @@
+use Rattle.std.proofs.Common.{◌≡◌, true, inr}
+use Rattle.std.specs.Prelude.{IsTrue}
+use Rattle.std.proofs.lemmas.Result.{IfOk-weaker, IfErr-weaker}
+use Rattle.overlay_base.specs.SegmentOf.{segments_of}
+use Rattle.overlay_base.specs.declared.segm.fault.Fault.TheVariants.{CountOutOfRange}
+use Rattle.overlay_build.specs.ChainWindings.{tops_leave_range}
+use Rattle.overlay_build.specs.NodeIndexes.{indexes_of, is_canonical_node}
+use Rattle.overlay_build.proofs.laws.BuiltGraphs.{graph_with_kept}
+use Rattle.arrange.proofs.graph.build_all.Goals as goal
+
+pub returns-clause-graph : goal.returns-clause-graph
+returns-clause-graph g c =
+    rw (← c.deref.ensures.value)
+    (IfOk-weaker c.build_boolean_all.result _ _ (λ graph h. graph_with_kept indexes_of is_canonical_node g.I.OverlayInt.whole graph.nodes.now graph.links.now (λ _. true) c.args.fill_rule (segments_of c.deref.result.now) h) c.build_boolean_all.ensures.graph)
+
+pub returns-clause-out_of_range : goal.returns-clause-out_of_range
+returns-clause-out_of_range g c =
+    let run = c.in_ok-split_segments.ensures.run in
+    IfErr-weaker c.build_boolean_all.result (λ fault. fault ≡ CountOutOfRange → IsTrue (tops_leave_range (segments_of c.split_segments.new.list.items))) _
+    (λ fault tops e. inr (run.count, run.arrangement, tops e)) (rw c.deref.ensures.value at c.build_boolean_all.ensures.out_of_range)

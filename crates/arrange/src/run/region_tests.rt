@@ -1,0 +1,231 @@
+// What the links of an overlay enclose, asked at places of a lattice and compared with the contours that were given, by a
+// count of crossings of this file's own. All coordinates are doubled, so that places stand between whole points.
+
+use super::tests::run_words;
+use super::*;
+use crate::number::signed_number;
+use std::alloc::AllocError;
+use std::process::Abort;
+use std::test::Fail;
+
+/// Two triangles, a star and a bow tie, whose crossings are not at whole points.
+const INPUTS: [&str; 3] = [
+    "S 0 0 31 7\nS 31 7 5 29\nS 5 29 0 0\nC 30 0 33 31\nC 33 31 2 13\nC 2 13 30 0\n",
+    "S 0 11 40 14\nS 40 14 7 37\nS 7 37 21 0\nS 21 0 33 38\nS 33 38 0 11\nC 5 5 36 9\nC 36 9 30 33\nC 30 33 5 5\n",
+    "S 0 0 37 23\nS 37 23 37 2\nS 37 2 0 25\nS 0 25 0 0\nC 11 0 29 1\nC 29 1 26 27\nC 26 27 13 24\nC 13 24 11 0\n",
+];
+
+/// How far, in halves, passes of the default precision move things at most: those before the last one move them.
+const REACHES: [(&str, i64); 5] = [
+    ("passes 1\n", 0),
+    ("passes 2\n", 4),
+    ("passes 3\n", 8),
+    ("passes 4\n", 14),
+    ("passes 5\n", 20),
+];
+
+const RULES: [&str; 7] = [
+    "subject",
+    "clip",
+    "intersect",
+    "union",
+    "difference",
+    "inverse-difference",
+    "xor",
+];
+
+/// A point, with doubled coordinates.
+#[derive(Clone, Copy)]
+struct Place {
+    x: i64,
+    y: i64,
+}
+
+/// A way from one point to another.
+#[derive(Clone, Copy)]
+struct Way {
+    from: Place,
+    to: Place,
+}
+
+/// A number of a line, doubled.
+fn doubled(word: Option<&str>) -> Option<i64> {
+    Some(signed_number(word?)?.wrapping_mul(2))
+}
+
+/// The four numbers of a line that begins with this letter or word.
+fn way_of(line: &str, first: &str) -> Option<Way> {
+    let mut words = line.split(' ');
+    if words.next()? != first {
+        return None;
+    }
+    let from = Place {
+        x: doubled(words.next())?,
+        y: doubled(words.next())?,
+    };
+    let to = Place {
+        x: doubled(words.next())?,
+        y: doubled(words.next())?,
+    };
+    Some(Way { from, to })
+}
+
+fn ways_of(alloc: Global, text: &str, first: &str) -> Result<Vec<Way>, AllocError> {
+    let mut ways = Vec::new(alloc);
+    for line in text.split('\n') {
+        if let Some(way) = way_of(line, first) {
+            ways.push(way)?;
+        }
+    }
+    Ok(ways)
+}
+
+/// Above 0 where the place lies to the left of the way.
+fn turn(way: Way, place: Place) -> i64 {
+    let (dx, dy) = (
+        way.to.x.wrapping_sub(way.from.x),
+        way.to.y.wrapping_sub(way.from.y),
+    );
+    let (px, py) = (
+        place.x.wrapping_sub(way.from.x),
+        place.y.wrapping_sub(way.from.y),
+    );
+    dx.wrapping_mul(py).wrapping_sub(dy.wrapping_mul(px))
+}
+
+/// 1 where the way runs to the right below the place, -1 where it runs to the left below it, and else 0.
+fn passes_below(way: Way, place: Place) -> i64 {
+    let forward = way.from.x < place.x && place.x < way.to.x;
+    let backward = way.to.x < place.x && place.x < way.from.x;
+    match turn(way, place) {
+        left if left > 0 && forward => 1,
+        right if right < 0 && backward => -1,
+        _ => 0,
+    }
+}
+
+fn winding(ways: &[Way], place: Place) -> i64 {
+    let mut sum: i64 = 0;
+    for way in ways {
+        sum = sum.wrapping_add(passes_below(*way, place));
+    }
+    sum
+}
+
+/// Whether the way stays out of the square round the place.
+fn is_far(way: Way, place: Place, reach: i64) -> bool {
+    let (left, right) = (place.x.wrapping_sub(reach), place.x.wrapping_add(reach));
+    let (low, high) = (place.y.wrapping_sub(reach), place.y.wrapping_add(reach));
+    let beside = way.from.x.max(way.to.x) < left || right < way.from.x.min(way.to.x);
+    let above = way.from.y.max(way.to.y) < low || high < way.from.y.min(way.to.y);
+    let corners = [
+        turn(way, Place { x: left, y: low }),
+        turn(way, Place { x: left, y: high }),
+        turn(way, Place { x: right, y: low }),
+        turn(way, Place { x: right, y: high }),
+    ];
+    beside || above || corners.iter().all(|c| *c > 0) || corners.iter().all(|c| *c < 0)
+}
+
+/// What the rule wants at a place inside the subject or not, and inside the clip or not.
+fn wanted(rule: &str, subj: bool, clip: bool) -> bool {
+    match rule {
+        "subject" => subj,
+        "clip" => clip,
+        "intersect" => subj && clip,
+        "union" => subj || clip,
+        "difference" => subj && !clip,
+        "inverse-difference" => clip && !subj,
+        _ => subj != clip,
+    }
+}
+
+fn are_far(ways: &[Way], place: Place, reach: i64) -> bool {
+    for way in ways {
+        if !is_far(*way, place, reach) {
+            return false;
+        }
+    }
+    true
+}
+
+/// Whether oddly many links run below the place.
+fn is_enclosed(links: &[Way], place: Place) -> bool {
+    let mut odd = false;
+    for link in links {
+        if passes_below(*link, place) != 0 {
+            odd = !odd;
+        }
+    }
+    odd
+}
+
+/// The contours of one input, and by how many halves a split of them moves things at most.
+#[derive(Drop)]
+struct Given {
+    subject: Vec<Way>,
+    clip: Vec<Way>,
+    reach: i64,
+}
+
+/// Asks at the places of a lattice that are far from all that is given, and answers how many these are.
+fn ask_lattice<H: Abort>(rt: &H, given: &Given, rule: &str, links: &[Way]) -> usize {
+    let mut far: usize = 0;
+    for column in 0..15 {
+        for row in 0..15 {
+            let place = Place {
+                x: 6 * column - 5,
+                y: 6 * row - 5,
+            };
+            if are_far(&given.subject, place, given.reach) && are_far(&given.clip, place, given.reach) {
+                let subj = winding(&given.subject, place) != 0;
+                let clip = winding(&given.clip, place) != 0;
+                let enclosed = is_enclosed(links, place);
+                assert_eq!(rt; enclosed, wanted(rule, subj, clip), "{rule} {column} {row}");
+                far = far.wrapping_add(1);
+            }
+        }
+    }
+    far
+}
+
+/// What a run writes.
+fn written<H: Abort + AllocGlobal>(rt: &H, words: &str, lines: &str) -> Result<String, Fail> {
+    let mut input = lines.as_bytes();
+    let mut output = Vec::new(rt.alloc());
+    let mut faults = Vec::new(rt.alloc());
+    let status = run_words(rt.alloc(), words, &mut input, &mut output, &mut faults)?;
+    assert_eq!(rt; status, 0);
+    Ok(String::from_utf8(output)?)
+}
+
+/// The reach of the split that ends with this text.
+fn reach_of(text: &str) -> Option<i64> {
+    for (line, reach) in REACHES {
+        if text.ends_with(line) {
+            return Some(reach);
+        }
+    }
+    None
+}
+
+#[test]
+fn links_enclose_the_region_of_a_rule(rt: HostRuntime) -> Result<(), Fail> {
+    for lines in INPUTS {
+        let split = written(&rt, "split", lines)?;
+        let given = Given {
+            subject: ways_of(rt.alloc(), lines, "S")?,
+            clip: ways_of(rt.alloc(), lines, "C")?,
+            reach: reach_of(split.as_str()).ok_or("more passes than that")?,
+        };
+        assert!(rt; given.reach > 0, "nothing is snapped");
+        for rule in RULES {
+            let words = format!(in rt.alloc(); "graph|rule={rule}")?;
+            let graph = written(&rt, words.as_str(), lines)?;
+            let links = ways_of(rt.alloc(), graph.as_str(), "link")?;
+            let far = ask_lattice(&rt, &given, rule, &links);
+            assert!(rt; far > 60, "few places are far");
+        }
+    }
+    Ok(())
+}

@@ -1,0 +1,72 @@
+// `arrange walks`: closed walks through the graph of the arrangement.
+ghost use Rattle.std.specs.Prelude.{◌≡◌, ◌⊎◌, ◌++◌, Ok, Err, IsTrue, OnOk, IfOk, IfErr, string_bytes, flat_map};
+ghost use Rattle.overlay_base.specs.declared.segm.fault.Fault.TheVariants.{Memory};
+ghost use Rattle.overlay_base.specs.SegmentOf.{segments_of};
+ghost use Rattle.overlay_base.specs.Planar.{is_splittable};
+ghost use Rattle.overlay_build.specs.GraphOf.{graph_with};
+ghost use Rattle.arrange.specs.Output.{walk_line, IsWalksText};
+ghost use Rattle.arrange.specs.Run.{IsCommandAnswer};
+ghost use Rattle.arrange.specs.declared.settings.Command.{Command};
+
+use crate::graph::{Lines, build_graph};
+use crate::graph_output::write_numbers;
+use crate::settings::Settings;
+use crate::stop::Stop;
+use overlay_base::num::OverlayInt;
+use overlay_build::build::builder::GraphBuilder;
+use overlay_build::build::graph::OverlayGraph;
+use overlay_build::build::walks::closed_walks;
+use std::alloc::{AllocError, Global};
+
+/// The text of closed walks through the graph that the settings choose, in which every link stands in one place, or that
+/// some node has an odd number of links.
+///
+/// Answers `Fault::CountOutOfRange` as `graph` does.
+pub fn walks<I: OverlayInt>(
+    alloc: Global,
+    segments: Lines<I>,
+    settings: Settings,
+) -> Result<String, Stop>
+    requires { IsTrue (is_splittable (I.whole I.MIN_COORD) (I.whole I.MAX_COORD) (segments_of segments.items)) }
+    ensures text { IfOk result (λ text. IsCommandAnswer I.BITS Command.Walks settings (segments_of segments.items) (Ok (string_bytes text))) }
+    ensures stop { IfErr result (λ stop. (stop ≡ Stop.Refused Memory) ⊎ IsCommandAnswer I.BITS Command.Walks settings (segments_of segments.items) (Err stop)) }
+{
+    let mut builder = GraphBuilder::new(alloc);
+    let graph = build_graph(alloc, &mut builder, segments, settings)?;
+    walks_text(alloc, &graph)
+}
+
+/// The text of closed walks through a graph.
+fn walks_text<I: OverlayInt>(alloc: Global, graph: &OverlayGraph<'_, I, ()>) -> Result<String, Stop>
+    ensures text { IfOk result (λ text. IsWalksText (graph_with I.whole graph.now.links.now) (string_bytes text)) }
+    ensures stop { IfErr result (λ stop. stop ≡ Stop.Refused Memory) }
+{
+    let mut text = String::new(alloc);
+    if !graph.has_even_nodes() {
+        text.push_str("uneven nodes\n")?;
+        return Ok(text);
+    }
+    let walks = closed_walks(alloc, graph)?;
+    write_walks(&mut text, &walks)?;
+    Ok(text)
+}
+
+/// Writes `walk I ..` for each walk.
+fn write_walks(text: &mut String, walks: &[Vec<usize>]) -> Result<(), AllocError>
+    ensures { OnOk result (string_bytes text.new ≡ string_bytes text.old ++ flat_map (λ w. walk_line w.items) walks.now) }
+{
+    for walk in walks {
+        write_walk(text, walk)?;
+    }
+    Ok(())
+}
+
+#[tactic(auto, unfolding(crate::specs::Output::walk_line))]
+fn write_walk(text: &mut String, walk: &[usize]) -> Result<(), AllocError>
+    ensures { OnOk result (string_bytes text.new ≡ string_bytes text.old ++ walk_line walk.now) }
+{
+    text.push_str("walk")?;
+    write_numbers(text, walk)?;
+    text.push_str("\n")?;
+    Ok(())
+}

@@ -1,0 +1,27 @@
+-- Which places the graph of a split encloses, told by what was given.
+use Rattle.std.specs.Prelude.{◌≡◌, ℕ, ◌<◌, Bool, false, List}
+use Rattle.overlay_base.specs.Windings.{empty}
+use Rattle.overlay_base.specs.Segments.{WholeSegment, pairs}
+use Rattle.overlay_base.specs.Places.{RationalPoint, winding_below}
+use Rattle.overlay_base.specs.Rules.{differ, holds}
+use Rattle.overlay_base.specs.declared.overlay_core.fill_rule.FillRule.{FillRule}
+use Rattle.overlay_base.specs.declared.overlay_core.overlay_rule.OverlayRule.{OverlayRule}
+use Rattle.overlay_split.specs.Run.{Settings}
+use Rattle.overlay_split.specs.Nearness.{reach_of_run}
+use Rattle.overlay_split.specs.Places.{IsFar}
+use Rattle.overlay_build.specs.Graph.{Graph}
+use Rattle.overlay_build.specs.Values.{value_at, tells_apart}
+use Rattle.overlay_build.specs.Regions.{encloses}
+
+-- The graph encloses exactly the places that a rule tells from those outside, by how the given segments wind, at the
+-- places that are farther from them than the passes reach.
+abbrev pub EnclosesFarRegion : Settings → (Bool → Bool → Bool) → FillRule → List WholeSegment → ℕ → Graph → Type 0
+EnclosesFarRegion settings rule fill_rule given passes graph =
+    (p : RationalPoint) → 0 < p.bottom → IsFar (reach_of_run settings given passes) p (pairs given) → encloses graph p ≡ tells_apart rule fill_rule empty (winding_below given p)
+
+-- The same of an overlay's rule: it says something else of the place than of those outside. Every rule with a name says no of
+-- those outside, so there the graph encloses exactly the places of which the rule holds.
+abbrev pub EnclosesOverlay : Settings → OverlayRule → FillRule → List WholeSegment → ℕ → Graph → Type 0
+EnclosesOverlay settings overlay_rule fill_rule given passes graph =
+    (p : RationalPoint) → 0 < p.bottom → IsFar (reach_of_run settings given passes) p (pairs given) →
+    encloses graph p ≡ differ (holds overlay_rule false false) (value_at (holds overlay_rule) fill_rule (winding_below given p))

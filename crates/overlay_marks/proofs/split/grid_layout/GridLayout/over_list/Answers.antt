@@ -1,0 +1,42 @@
+use Rattle.std.proofs.Common.{sym, ap, subst, ◌∙◌, ◌+◌, ◌∷◌, drop, length}
+use Rattle.overlay_base.specs.PairOf.{pair_of}
+use Rattle.overlay_base.specs.PointOf.{point_of}
+use Rattle.overlay_base.specs.Segments.{pairs}
+use Rattle.overlay_base.specs.SegmentOf.{segments_of, x_segment_of}
+use Rattle.overlay_base.specs.InRange.{IsPairInRange}
+use Rattle.overlay_base.proofs.laws.Coordinates.{point_parts}
+use Rattle.overlay_base.proofs.laws.Apart.{pairs-next, pairs-none}
+use Rattle.overlay_marks.specs.FragmentOf.{layout_of}
+use Rattle.overlay_marks.specs.Grid.{greatest_x}
+use Rattle.overlay_marks.proofs.laws.GridSizes.{greatest_more, greatest_end, max_in_range, layout_of_list, narrow_list, if_some, if_none}
+use Rattle.overlay_marks.proofs.split.grid_layout.GridLayout.over_list.Goals as goal
+
+pub loop-index-preserved : goal.loop-index-preserved
+loop-index-preserved g c =
+    let low = g.I.OverlayInt.whole g.I.OverlayInt.MIN_COORD in
+    let high = g.I.OverlayInt.whole g.I.OverlayInt.MAX_COORD in
+    let ps = pairs (segments_of c.args.segments.now) in
+    let here = pairs-next c.args.segments.now c.loop-index.index c.index-segments-index.result c.loop-index-test.true c.index-segments-index.is ∙ ap (λ s. pair_of g.I.OverlayInt.whole s ∷ drop (c.loop-index.index + 1) ps) (sym c.x_segment-segment.ensures) in
+    let ends = subst (λ s. IsPairInRange g.I.OverlayInt.whole g.I.OverlayInt.MIN_COORD g.I.OverlayInt.MAX_COORD (x_segment_of s)) (sym c.index-segments-index.is) (c.requires.in_range c.loop-index.index c.index-segments-index.result c.loop-index-test.true) in
+    let ends' = subst (λ s. IsPairInRange g.I.OverlayInt.whole g.I.OverlayInt.MIN_COORD g.I.OverlayInt.MAX_COORD s) (sym c.x_segment-segment.ensures) ends in
+    let x = (point_parts low high (point_of g.I.OverlayInt.whole c.x_segment-segment.result.b) ends'.b_in_range).0 in
+    record {
+      greatest = greatest_more (g.I.OverlayInt.whole c.loop-index.max_x) (g.I.OverlayInt.whole c.greater-max_x.result) (pair_of g.I.OverlayInt.whole c.x_segment-segment.result) ps c.loop-index.index _ c.loop-index.invariant.greatest here c.greater-max_x.ensures;
+      in_range = rw c.greater-max_x.ensures (max_in_range low high _ _ c.loop-index.invariant.in_range x);
+    }
+
+pub returns-clause-layout : goal.returns-clause-layout
+returns-clause-layout g c =
+    let ps = pairs (segments_of c.args.segments.now) in
+    let first = pairs-next c.args.segments.now 0 c.index-segments-0.result c.requires.some c.index-segments-0.is ∙ ap (λ s. pair_of g.I.OverlayInt.whole s ∷ drop 1 ps) (sym c.x_segment-a.ensures) in
+    let greatest = greatest_end (g.I.OverlayInt.whole c.loop-index.max_x) ps c.loop-index.index (greatest_x (g.I.OverlayInt.whole c.x_segment-a.result.b.x) (drop 1 ps)) c.loop-index.invariant.greatest (pairs-none c.args.segments.now c.loop-index.index c.loop-index-test.false) in
+    if_some c.with_min_max.result _ _
+    (λ l h. layout_of_list ps (pair_of g.I.OverlayInt.whole c.x_segment-a.result) (length c.args.segments.now) c.ilog2.result (g.I.OverlayInt.whole c.loop-index.max_x) (layout_of l) first (record { reached = c.ilog2.ensures.power_le; not_passed = c.ilog2.ensures.next_power_gt }) greatest h)
+    c.with_min_max.ensures.layout
+
+pub returns-clause-none : goal.returns-clause-none
+returns-clause-none g c =
+    let ps = pairs (segments_of c.args.segments.now) in
+    let first = pairs-next c.args.segments.now 0 c.index-segments-0.result c.requires.some c.index-segments-0.is ∙ ap (λ s. pair_of g.I.OverlayInt.whole s ∷ drop 1 ps) (sym c.x_segment-a.ensures) in
+    let greatest = greatest_end (g.I.OverlayInt.whole c.loop-index.max_x) ps c.loop-index.index (greatest_x (g.I.OverlayInt.whole c.x_segment-a.result.b.x) (drop 1 ps)) c.loop-index.invariant.greatest (pairs-none c.args.segments.now c.loop-index.index c.loop-index-test.false) in
+    if_none c.with_min_max.result _ _ (narrow_list ps (pair_of g.I.OverlayInt.whole c.x_segment-a.result) (g.I.OverlayInt.whole c.loop-index.max_x) first greatest) c.with_min_max.ensures.none

@@ -1,0 +1,5 @@
+use Rattle.overlay_marks.proofs.laws.GridFragments.{fragments_enclose}
+use Rattle.overlay_marks.proofs.split.laws.fragment_laws.Goals as goal
+
+pub returns : goal.returns
+returns c = fragments_enclose

@@ -1,0 +1,25 @@
+use Rattle.std.proofs.Common.{◌≡◌, ap, ◌∙◌, sym, subst, length}
+use Rattle.overlay_base.specs.Segments.{pairs}
+use Rattle.overlay_base.specs.PairOf.{pair_of}
+use Rattle.overlay_base.specs.SegmentOf.{segments_of, ends_of}
+use Rattle.overlay_base.proofs.laws.Apart.{pairs-next, pairs-none}
+use Rattle.overlay_base.specs.Points.{Pair}
+use Rattle.overlay_marks.specs.Grid.{fragments}
+use Rattle.overlay_marks.specs.GroupsOf.{grid_of}
+use Rattle.overlay_marks.proofs.laws.FragmentCounts.{IsCounting-start, IsCounting-more, IsCounting-end}
+use Rattle.overlay_marks.proofs.split.solver_fragment.count_fragments.Goals as goal
+
+pub loop-index-init : goal.loop-index-init
+loop-index-init g c = IsCounting-start (grid_of c.args.buffer.now) (pairs (segments_of c.args.segments.now))
+
+pub loop-index-preserved : goal.loop-index-preserved
+loop-index-preserved g c =
+    let l = grid_of c.args.buffer.now in
+    let ps = pairs (segments_of c.args.segments.now) in
+    let here = pairs-next c.args.segments.now c.loop-index.index c.index-segments-index.result c.loop-index-test.true c.index-segments-index.is in
+    let own = c.fragment_count-own.ensures ∙ ap (λ (s : Pair). length (fragments l s)) (ap (pair_of g.I.OverlayInt.whole) c.x_segment.ensures) in
+    IsCounting-more l (ends_of c.index-segments-index.result) ps c.loop-index.count c.saturating_add-count.result c.fragment_count-own.result c.loop-index.index c.loop-index.invariant here own c.saturating_add-count.ensures
+
+pub returns : goal.returns
+returns g c =
+    IsCounting-end (grid_of c.args.buffer.now) (pairs (segments_of c.args.segments.now)) c.loop-index.count c.loop-index.index c.loop-index.invariant (pairs-none c.args.segments.now c.loop-index.index c.loop-index-test.false)

@@ -1,0 +1,22 @@
+use Rattle.std.proofs.Common.{ap, ◌∙◌}
+use Rattle.overlay_base.specs.Segments.{pairs}
+use Rattle.overlay_base.specs.PairOf.{pair_of}
+use Rattle.overlay_base.specs.SegmentOf.{segments_of, ends_of}
+use Rattle.overlay_base.proofs.laws.Apart.{pairs-next, pairs-none}
+use Rattle.overlay_marks.specs.GroupsOf.{group_of, grid_of}
+use Rattle.overlay_marks.proofs.laws.GridFills.{fill_more, fill_end}
+use Rattle.overlay_marks.proofs.split.solver_fragment.fill.Goals as goal
+
+pub loop-index-preserved : goal.loop-index-preserved
+loop-index-preserved g c =
+    let ps = pairs (segments_of c.args.segments.now) in
+    let here = pairs-next c.args.segments.now c.loop-index.index c.index-segments-index.result c.loop-index-test.true c.index-segments-index.is in
+    record {
+      layout = c.in_ok-add_segment.ensures.layout ∙ c.loop-index.invariant.layout;
+      added = λ column. fill_more (grid_of c.args.buffer.now) (grid_of c.loop-index.buffer) c.loop-index.index (ends_of c.index-segments-index.result) (pair_of g.I.OverlayInt.whole c.x_segment.result) ps
+          (group_of c.loop-index.buffer column) (group_of c.add_segment.new.self column) _ column c.loop-index.invariant.layout (ap (pair_of g.I.OverlayInt.whole) c.x_segment.ensures) here (c.in_ok-add_segment.ensures.added column) (c.loop-index.invariant.added column);
+    }
+
+pub returns-clause-groups : goal.returns-clause-groups
+returns-clause-groups g c column =
+    fill_end (grid_of c.args.buffer.now) c.loop-index.index (pairs (segments_of c.args.segments.now)) (group_of c.loop-index.buffer column) _ column (pairs-none c.args.segments.now c.loop-index.index c.loop-index-test.false) (c.loop-index.invariant.added column)

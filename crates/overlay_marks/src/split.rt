@@ -1,0 +1,22 @@
+// Where two segments meet, and the marks of a pass.
+
+mod contact;
+pub mod cross_solver;
+mod crossing_point;
+pub mod finder;
+pub mod fragment;
+pub mod fragment_buffer;
+pub mod grid_layout;
+mod interval_tree;
+pub mod laws;
+pub mod line_mark;
+mod looks;
+mod nearer_end;
+mod offset;
+pub mod placing;
+mod rise;
+mod settled;
+pub mod solver_fragment;
+pub mod solver_list;
+pub mod solver_tree;
+mod solver_tree_within;

@@ -1,0 +1,176 @@
+// The fragments of segments, column by column. Upstream: part of `split::grid_layout`.
+ghost use Rattle.std.specs.Prelude.{◌≡◌, length};
+ghost use Rattle.overlay_marks.specs.Grid.{pos_of, group_count, fragments};
+ghost use Rattle.overlay_marks.specs.FragmentOf.{layout_of};
+
+use crate::split::fragment::Fragment;
+use crate::split::grid_layout::GridLayout;
+use crate::split::rise::heights_at;
+use overlay_base::geom::point::IntPoint;
+use overlay_base::geom::x_segment::XSegment;
+use overlay_base::num::OverlayInt;
+use overlay_base::segm::fault::Fault;
+use std::alloc::{AllocError, Global};
+
+/// The fragments of segments in the columns of a layout: one group for each column. It keeps its memory when cleared.
+#[derive(Drop)]
+pub struct FragmentBuffer<I: OverlayInt> {
+    layout: GridLayout<I>,
+    groups: Vec<Vec<Fragment<I>>>,
+    ghost columns: { length groups.items ≡ group_count (layout_of layout) },
+}
+
+impl<I: OverlayInt> FragmentBuffer<I> {
+    ghost use Rattle.std.specs.Prelude.{◌<◌, ◌≤ℤ◌, IsPermutation, ◌++◌, [], ◌∷◌, ℕ, ◌==◌, IfOk, IfErr, OnOk, OnErr, if◌then◌else◌};
+    ghost use Rattle.overlay_base.specs.declared.segm.fault.Fault.TheVariants.{Memory};
+    ghost use Rattle.overlay_base.specs.PairOf.{pair_of};
+    ghost use Rattle.overlay_base.specs.InRange.{IsPairInRange};
+    ghost use Rattle.overlay_marks.specs.FragmentOf.{fragment_of, kept_in};
+    ghost use Rattle.overlay_marks.specs.FragmentFinder.{Rises};
+    ghost use Rattle.overlay_marks.specs.GroupsOf.{group_in, group_of, grid_of};
+
+    /// A buffer with one group for each column of a layout, all empty. Answers `Fault::Memory` where a growth is refused.
+    pub fn new(alloc: Global, layout: GridLayout<I>) -> Result<Self, Fault>
+        ensures layout { IfOk result (λ buffer. grid_of buffer ≡ layout_of layout) }
+        ensures empty { IfOk result (λ buffer. (column : ℕ) → group_of buffer column ≡ []) }
+        ensures fault { IfErr result (λ fault. fault ≡ Memory) }
+    {
+        let count = layout.column_count();
+        let groups = FragmentBuffer::<I>::empty_groups(alloc, count)?;
+        Ok(FragmentBuffer { layout, groups })
+    }
+
+    /// So many empty groups.
+    fn empty_groups(alloc: Global, count: usize) -> Result<Vec<Vec<Fragment<I>>>, Fault>
+        ensures count { IfOk result (λ groups. length groups.items ≡ count) }
+        ensures empty { IfOk result (λ groups. (column : ℕ) → group_in I.whole groups.items column ≡ []) }
+        ensures fault { IfErr result (λ fault. fault ≡ Memory) }
+    {
+        let mut groups = Vec::new(alloc);
+        for _ in 0..count {
+            groups.push(Vec::new(alloc))?;
+        }
+        Ok(groups)
+    }
+
+    /// The fragments that were added, column by column, in the order in which they were added or sorted.
+    pub fn groups(&self) -> &[Vec<Fragment<I>>]
+        ensures { result.now ≡ self.now.groups.items }
+    {
+        &self.groups
+    }
+
+    /// The left border of a column, of which there are more than its index.
+    pub fn border(&self, column: usize) -> I
+        requires { column < group_count (grid_of self.now) }
+        ensures { I.whole result ≡ pos_of (grid_of self.now) column }
+    {
+        self.layout.pos(column)
+    }
+
+    /// Empties every group.
+    pub fn clear(&mut self)
+        ensures layout { grid_of self.new ≡ grid_of self.old }
+        ensures empty { (column : ℕ) → group_of self.new column ≡ [] }
+    {
+        for column in 0..self.groups.len() {
+            self.groups[column].clear();
+        }
+    }
+
+    /// Sorts every group by the fragments' least `y`.
+    pub fn sort(&mut self)
+        ensures layout { grid_of self.new ≡ grid_of self.old }
+        ensures permutation { (column : ℕ) → IsPermutation (group_of self.old column) (group_of self.new column) }
+        ensures rises { (column : ℕ) → Rises (group_of self.new column) }
+    {
+        for column in 0..self.groups.len() {
+            self.groups[column].sort_unstable_by_key(|fragment| fragment.rect.min_y);
+        }
+    }
+
+    /// Appends the fragments of a segment, one to the group of each column that it enters. Each has a rectangle that holds
+    /// the segment's part there. The segment has to be in range and inside the layout, and its `a.x` may not be greater
+    /// than its `b.x`.
+    ///
+    /// Answers `Fault::Memory` where a growth is refused; every group is empty then.
+    pub fn add_segment(&mut self, index: usize, x_segment: XSegment<I>) -> Result<(), Fault>
+        requires in_range { IsPairInRange I.whole I.MIN_COORD I.MAX_COORD x_segment }
+        requires order { I.whole x_segment.a.x ≤ℤ I.whole x_segment.b.x }
+        requires from { (grid_of self.old).min_x ≤ℤ I.whole x_segment.a.x }
+        requires to { I.whole x_segment.b.x ≤ℤ (grid_of self.old).max_x }
+        ensures layout { grid_of self.new ≡ grid_of self.old }
+        ensures added { OnOk result ((column : ℕ) → group_of self.new column ≡ group_of self.old column ++ kept_in (grid_of self.old) index (pair_of I.whole x_segment) column) }
+        ensures emptied { OnErr result ((column : ℕ) → group_of self.new column ≡ []) }
+        ensures fault { IfErr result (λ fault. fault ≡ Memory) }
+    {
+        if self.add_fragments(index, x_segment).is_err() {
+            self.clear();
+            return Err(Fault::Memory);
+        }
+        Ok(())
+    }
+
+    /// How many fragments `add_segment` makes of a segment, under the same conditions.
+    pub fn fragment_count(&self, x_segment: &XSegment<I>) -> usize
+        requires order { I.whole x_segment.now.a.x ≤ℤ I.whole x_segment.now.b.x }
+        requires from { (grid_of self.now).min_x ≤ℤ I.whole x_segment.now.a.x }
+        requires to { I.whole x_segment.now.b.x ≤ℤ (grid_of self.now).max_x }
+        ensures { result ≡ length (fragments (grid_of self.now) (pair_of I.whole x_segment.now)) }
+    {
+        if !x_segment.is_not_vertical() {
+            return 1;
+        }
+        let first = self.layout.index(x_segment.a.x);
+        let last = self.layout.index_before(x_segment.b.x);
+        last - first + 1
+    }
+
+    fn add_fragments(&mut self, index: usize, x_segment: XSegment<I>) -> Result<(), AllocError>
+        requires in_range { IsPairInRange I.whole I.MIN_COORD I.MAX_COORD x_segment }
+        requires order { I.whole x_segment.a.x ≤ℤ I.whole x_segment.b.x }
+        requires from { (grid_of self.old).min_x ≤ℤ I.whole x_segment.a.x }
+        requires to { I.whole x_segment.b.x ≤ℤ (grid_of self.old).max_x }
+        ensures layout { grid_of self.new ≡ grid_of self.old }
+        ensures added { OnOk result ((column : ℕ) → group_of self.new column ≡ group_of self.old column ++ kept_in (grid_of self.old) index (pair_of I.whole x_segment) column) }
+    {
+        let is_vertical = !x_segment.is_not_vertical();
+        let XSegment { a, b } = x_segment;
+        let first = self.layout.index(a.x);
+        if is_vertical {
+            let whole = Fragment::between(index, a, b, XSegment { a, b });
+            return self.insert(first, whole);
+        }
+        let last = self.layout.index_before(b.x);
+        let mut corner = a;
+        for column in first..last {
+            let border = self.layout.pos(column + 1);
+            let heights = heights_at(&XSegment { a, b }, border);
+            let far = IntPoint {
+                x: border,
+                y: heights.far,
+            };
+            let part = Fragment::between(index, corner, far, XSegment { a, b });
+            self.insert(column, part)?;
+            corner = IntPoint {
+                x: border,
+                y: heights.near,
+            };
+        }
+        let part = Fragment::between(index, corner, b, XSegment { a, b });
+        self.insert(last, part)
+    }
+
+    /// Appends a fragment to the group of a column.
+    fn insert(&mut self, column: usize, fragment: Fragment<I>) -> Result<(), AllocError>
+        requires { column < length self.old.groups.items }
+        ensures layout { grid_of self.new ≡ grid_of self.old }
+        ensures added { OnOk result ((other : ℕ) → group_of self.new other ≡ group_of self.old other ++ (if column == other then fragment_of I.whole fragment ∷ [] else [])) }
+    {
+        self.groups[column].push(fragment)?;
+        Ok(())
+    }
+}
+
+#[cfg(test)]
+mod tests;

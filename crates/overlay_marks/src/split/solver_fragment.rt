@@ -1,0 +1,337 @@
+// The finder that looks at fragments of segments, column by column of a grid. Upstream: `split::solver_fragment`.
+ghost use Rattle.std.specs.Prelude.{◌≡◌, ◌≢◌, ◌^◌, min, ◌<◌, ◌≤◌, ◌+◌, ◌-◌, ◌++◌, ◌&&◌, ℕ, All, IsTrue, IfErr, IfOk, OnOk, IsSortedByKey, drop, length, int_lt, int_le, flat_map, sum_by, ◌≤ℤ◌, ◌<ℤ◌};
+ghost use Rattle.std.specs.List.{AllByRecursion, list_any, range_with_len};
+ghost use Rattle.std.specs.List.Sorted.{IsPartitionPoint};
+ghost use Rattle.std.specs.Ordering.{int_eq};
+ghost use Rattle.overlay_base.specs.declared.segm.fault.Fault.TheVariants.{Memory};
+ghost use Rattle.overlay_base.specs.Points.{pair_cmp, pair_lt, is_ordered, is_vertical, is_strictly_inside};
+ghost use Rattle.overlay_base.specs.Segments.{pairs};
+ghost use Rattle.overlay_base.specs.PointOf.{point_of};
+ghost use Rattle.overlay_base.specs.PairOf.{pair_of};
+ghost use Rattle.overlay_base.specs.SegmentOf.{ends_of, segments_of, x_segment_of};
+ghost use Rattle.overlay_base.specs.InRange.{IsPairInRange};
+ghost use Rattle.overlay_marks.specs.Grid.{pos_of, group_count};
+ghost use Rattle.overlay_marks.specs.Looked.{all_fragments, fragment_looks};
+ghost use Rattle.overlay_marks.specs.PassMarks.{is_rounded};
+ghost use Rattle.overlay_marks.specs.PlacingOf.{placing_of, HasRadius};
+ghost use Rattle.overlay_marks.specs.MarkOf.{AreMarks, marks_of};
+ghost use Rattle.overlay_marks.specs.FragmentOf.{fragment_of, fragments_of};
+ghost use Rattle.overlay_marks.specs.GroupsOf.{group_in, group_of, grid_of};
+ghost use Rattle.overlay_marks.specs.FragmentFinder.{IsInside, Rises, is_ready, stands_at, kept_group, marks_of_two, marks_with_first, marks_of_group, marks_of_ends, marks_of_border, meet_inexactly, is_first_rounded, is_group_rounded, looks_of_first, looks_of_group, looks_of_border};
+
+use crate::split::fragment::Fragment;
+use crate::split::fragment_buffer::FragmentBuffer;
+use crate::split::line_mark::LineMark;
+use crate::split::looks::take_up;
+use crate::split::placing::Placing;
+use crate::split::solver_list::{Indexed, mark, mark_both};
+use overlay_base::geom::point::IntPoint;
+use overlay_base::geom::x_segment::XSegment;
+use overlay_base::num::OverlayInt;
+use overlay_base::segm::fault::Fault;
+use overlay_base::segm::segment::Segment;
+use overlay_base::segm::winding::WindingCount;
+use std::alloc::AllocError;
+
+/// Finds the marks of a pass: the points at which each segment is to be split, each once, by rising index and then in
+/// order of points. Answers whether two segments cross at a point without whole coordinates, so that the pass rounds.
+///
+/// The segments have to be in range and inside the buffer's layout, and a squared radius at least 1. Those are looked at
+/// whose fragments meet in some column; a vertical segment on the left border of a column besides takes marks from the
+/// right ends in the column to its left. What `marks` and `buffer` held before is dropped.
+///
+/// Answers `Fault::Memory` where a growth is refused; `marks` is of no use then.
+pub fn find_marks<C: WindingCount, I: OverlayInt, D: Copy>(
+    segments: &[Segment<C, I, D>],
+    placing: Placing,
+    buffer: &mut FragmentBuffer<I>,
+    marks: &mut Vec<LineMark<I>>,
+    looked: &mut u128,
+) -> Result<bool, Fault>
+    requires in_range { All (λ s. IsPairInRange I.whole I.MIN_COORD I.MAX_COORD (x_segment_of s)) segments.now }
+    requires inside { All (λ s. IsInside (grid_of buffer.old) (ends_of s)) segments.now }
+    requires radius { HasRadius placing }
+    ensures layout { grid_of buffer.new ≡ grid_of buffer.old }
+    ensures marks { OnOk result (AreMarks (placing_of placing) (segments_of segments.now) (marks_of I.whole marks.new.items)) }
+    ensures rounded { IfOk result (λ rounded. rounded ≡ is_rounded (segments_of segments.now)) }
+    ensures looked { OnOk result (looked.new ≤ looked.old + fragment_looks (grid_of buffer.old) (pairs (segments_of segments.now))) }
+    ensures fault { IfErr result (λ fault. fault ≡ Memory) }
+{
+    marks.clear();
+    fill(segments, buffer)?;
+    buffer.sort();
+    let rounded = mark_columns(buffer.groups(), placing, marks, looked)?;
+    mark_borders(buffer, marks, looked)?;
+    marks.sort()?;
+    marks.dedup();
+    Ok(rounded)
+}
+
+/// How many fragments segments have that lie inside the buffer's layout; `u128::MAX` if there are more.
+pub fn count_fragments<C: WindingCount, I: OverlayInt, D: Copy>(
+    segments: &[Segment<C, I, D>],
+    buffer: &FragmentBuffer<I>,
+) -> u128
+    requires { All (λ s. IsInside (grid_of buffer.now) (ends_of s)) segments.now }
+    ensures { result ≡ min (length (all_fragments (grid_of buffer.now) (pairs (segments_of segments.now)))) (2 ^ 128 - 1) }
+{
+    let mut count = 0_u128;
+    for index in 0..segments.len() {
+        let own = buffer.fragment_count(&segments[index].x_segment());
+        count = count.saturating_add(own as u128);
+    }
+    count
+}
+
+/// Empties the buffer, and adds the fragments of every segment. These have to be in range and inside the layout.
+fn fill<C: WindingCount, I: OverlayInt, D: Copy>(
+    segments: &[Segment<C, I, D>],
+    buffer: &mut FragmentBuffer<I>,
+) -> Result<(), Fault>
+    requires in_range { All (λ s. IsPairInRange I.whole I.MIN_COORD I.MAX_COORD (x_segment_of s)) segments.now }
+    requires inside { All (λ s. IsInside (grid_of buffer.old) (ends_of s)) segments.now }
+    ensures layout { grid_of buffer.new ≡ grid_of buffer.old }
+    ensures groups { OnOk result ((column : ℕ) → group_of buffer.new column ≡ kept_group (grid_of buffer.old) 0 (pairs (segments_of segments.now)) column) }
+    ensures fault { IfErr result (λ fault. fault ≡ Memory) }
+{
+    buffer.clear();
+    for index in 0..segments.len() {
+        buffer.add_segment(index, segments[index].x_segment())?;
+    }
+    Ok(())
+}
+
+/// Appends the marks that segments put on one another of which two fragments meet in some column, and answers whether
+/// some two of these cross at a point without whole coordinates. The groups have to be sorted by the fragments' least `y`.
+fn mark_columns<I: OverlayInt>(
+    groups: &[Vec<Fragment<I>>],
+    placing: Placing,
+    marks: &mut Vec<LineMark<I>>,
+    looked: &mut u128,
+) -> Result<bool, AllocError>
+    requires radius { HasRadius placing }
+    requires ready { (column : ℕ) → AllByRecursion (λ f. IsTrue (is_ready (I.whole I.MIN_COORD) (I.whole I.MAX_COORD) f)) (group_in I.whole groups.now column) }
+    requires rises { (column : ℕ) → Rises (group_in I.whole groups.now column) }
+    ensures marks { OnOk result (marks_of I.whole marks.new.items ≡ marks_of I.whole marks.old.items
+        ++ flat_map (λ column. marks_of_group (placing_of placing) (group_in I.whole groups.now column)) (range_with_len 0 (length groups.now))) }
+    ensures rounded { IfOk result (λ rounded. rounded ≡ list_any (λ column. is_group_rounded (group_in I.whole groups.now column)) (range_with_len 0 (length groups.now))) }
+    ensures looked { OnOk result (looked.new ≤ looked.old
+        + sum_by (λ column. looks_of_group (group_in I.whole groups.now column)) (range_with_len 0 (length groups.now))) }
+{
+    let mut rounded = false;
+    for column in 0..groups.len() {
+        if mark_group(groups[column].as_slice(), placing, marks, looked)? {
+            rounded = true;
+        }
+    }
+    Ok(rounded)
+}
+
+/// Appends the marks on vertical segments that stand on the left border of a column, other than the first: the right ends
+/// at that `x` in the column to the left which lie strictly between their ends.
+fn mark_borders<I: OverlayInt>(
+    buffer: &FragmentBuffer<I>,
+    marks: &mut Vec<LineMark<I>>,
+    looked: &mut u128,
+) -> Result<(), AllocError>
+    requires ready { (column : ℕ) → AllByRecursion (λ f. IsTrue (is_ready (I.whole I.MIN_COORD) (I.whole I.MAX_COORD) f)) (group_of buffer.now column) }
+    ensures marks { OnOk result (marks_of I.whole marks.new.items ≡ marks_of I.whole marks.old.items
+        ++ flat_map (λ column. marks_of_border (pos_of (grid_of buffer.now) (column + 1)) (group_of buffer.now column) (group_of buffer.now (column + 1))) (range_with_len 0 (group_count (grid_of buffer.now) - 1))) }
+    ensures looked { OnOk result (looked.new ≤ looked.old
+        + sum_by (λ column. looks_of_border (pos_of (grid_of buffer.now) (column + 1)) (group_of buffer.now column) (group_of buffer.now (column + 1))) (range_with_len 0 (group_count (grid_of buffer.now) - 1))) }
+{
+    let groups = buffer.groups();
+    for column in 0..groups.len() - 1 {
+        let border = buffer.border(column + 1);
+        mark_border(
+            groups[column].as_slice(),
+            groups[column + 1].as_slice(),
+            border,
+            marks,
+            looked,
+        )?;
+    }
+    Ok(())
+}
+
+/// The same of one border and the groups beside it.
+fn mark_border<I: OverlayInt>(
+    left: &[Fragment<I>],
+    group: &[Fragment<I>],
+    border: I,
+    marks: &mut Vec<LineMark<I>>,
+    looked: &mut u128,
+) -> Result<(), AllocError>
+    requires ready { AllByRecursion (λ f. IsTrue (is_ready (I.whole I.MIN_COORD) (I.whole I.MAX_COORD) f)) (fragments_of I.whole group.now) }
+    ensures marks { OnOk result (marks_of I.whole marks.new.items ≡ marks_of I.whole marks.old.items ++ marks_of_border (I.whole border) (fragments_of I.whole left.now) (fragments_of I.whole group.now)) }
+    ensures looked { OnOk result (looked.new ≤ looked.old + looks_of_border (I.whole border) (fragments_of I.whole left.now) (fragments_of I.whole group.now)) }
+{
+    for index in 0..group.len() {
+        let fragment = group[index];
+        if stands_at(&fragment, border) {
+            mark_ends(&fragment, left, marks, looked)?;
+        }
+    }
+    Ok(())
+}
+
+/// Appends the marks that the right ends in a group put on a vertical segment.
+fn mark_ends<I: OverlayInt>(
+    vertical: &Fragment<I>,
+    left: &[Fragment<I>],
+    marks: &mut Vec<LineMark<I>>,
+    looked: &mut u128,
+) -> Result<(), AllocError>
+    requires vertical { IsTrue (is_vertical (fragment_of I.whole vertical.now).pair) }
+    requires ordered { IsTrue (is_ordered (fragment_of I.whole vertical.now).pair) }
+    ensures marks { OnOk result (marks_of I.whole marks.new.items ≡ marks_of I.whole marks.old.items ++ marks_of_ends (fragment_of I.whole vertical.now) (fragments_of I.whole left.now)) }
+    ensures looked { OnOk result (looked.new ≤ looked.old + length (fragments_of I.whole left.now)) }
+{
+    for index in 0..left.len() {
+        let fragment = left[index];
+        let point = fragment.x_segment.b;
+        take_up(looked);
+        if is_inside_vertical(&vertical.x_segment, point) {
+            mark(vertical.index, point, marks)?;
+        }
+    }
+    Ok(())
+}
+
+/// Whether a fragment is one of a vertical segment at this `x`.
+fn stands_at<I: OverlayInt>(fragment: &Fragment<I>, x: I) -> bool
+    ensures { result ≡ stands_at (I.whole x) (fragment_of I.whole fragment.now) }
+{
+    !fragment.x_segment.is_not_vertical() && fragment.x_segment.a.x.to_wide() == x.to_wide()
+}
+
+/// Whether a point lies strictly between the ends of a vertical segment.
+fn is_inside_vertical<I: OverlayInt>(vertical: &XSegment<I>, point: IntPoint<I>) -> bool
+    requires vertical { IsTrue (is_vertical (pair_of I.whole vertical.now)) }
+    requires ordered { IsTrue (is_ordered (pair_of I.whole vertical.now)) }
+    ensures { result ≡ is_strictly_inside (pair_of I.whole vertical.now) (point_of I.whole point) }
+{
+    is_between(vertical.a, point, vertical.b)
+}
+
+/// Whether a point lies straight above one and lower than another.
+fn is_between<I: OverlayInt>(low: IntPoint<I>, point: IntPoint<I>, high: IntPoint<I>) -> bool
+    ensures { result ≡ (int_eq (I.whole point.x) (I.whole low.x) && (int_lt (I.whole low.y) (I.whole point.y) && int_lt (I.whole point.y) (I.whole high.y))) }
+{
+    point.x == low.x && (low.y < point.y && point.y < high.y)
+}
+
+/// Appends the marks that segments put on one another of which two fragments in a group meet, and answers whether some
+/// two of these cross at a point without whole coordinates. The group has to be sorted by the fragments' least `y`.
+fn mark_group<I: OverlayInt>(
+    group: &[Fragment<I>],
+    placing: Placing,
+    marks: &mut Vec<LineMark<I>>,
+    looked: &mut u128,
+) -> Result<bool, AllocError>
+    requires radius { HasRadius placing }
+    requires ready { AllByRecursion (λ f. IsTrue (is_ready (I.whole I.MIN_COORD) (I.whole I.MAX_COORD) f)) (fragments_of I.whole group.now) }
+    requires rises { Rises (fragments_of I.whole group.now) }
+    ensures marks { OnOk result (marks_of I.whole marks.new.items ≡ marks_of I.whole marks.old.items ++ marks_of_group (placing_of placing) (fragments_of I.whole group.now)) }
+    ensures rounded { IfOk result (λ rounded. rounded ≡ is_group_rounded (fragments_of I.whole group.now)) }
+    ensures looked { OnOk result (looked.new ≤ looked.old + looks_of_group (fragments_of I.whole group.now)) }
+{
+    let mut rounded = false;
+    for first in 0..group.len() {
+        if mark_with_rest(group, first, placing, marks, looked)? {
+            rounded = true;
+        }
+    }
+    Ok(rounded)
+}
+
+/// The same of one fragment and those that follow it, up to the first that lies above it.
+fn mark_with_rest<I: OverlayInt>(
+    group: &[Fragment<I>],
+    first: usize,
+    placing: Placing,
+    marks: &mut Vec<LineMark<I>>,
+    looked: &mut u128,
+) -> Result<bool, AllocError>
+    requires first { first < length group.now }
+    requires radius { HasRadius placing }
+    requires ready { AllByRecursion (λ f. IsTrue (is_ready (I.whole I.MIN_COORD) (I.whole I.MAX_COORD) f)) (fragments_of I.whole group.now) }
+    requires rises { Rises (fragments_of I.whole group.now) }
+    ensures marks { OnOk result (marks_of I.whole marks.new.items ≡ marks_of I.whole marks.old.items
+        ++ marks_with_first (placing_of placing) (drop first (fragments_of I.whole group.now))) }
+    ensures rounded { IfOk result (λ rounded. rounded ≡ is_first_rounded (drop first (fragments_of I.whole group.now))) }
+    ensures looked { OnOk result (looked.new ≤ looked.old + looks_of_first (drop first (fragments_of I.whole group.now))) }
+{
+    let fragment = group[first];
+    let end = first_above(group, &fragment);
+    let mut rounded = false;
+    for later in first + 1..end {
+        let other = group[later];
+        take_up(looked);
+        if mark_two(&fragment, &other, placing, marks)? {
+            rounded = true;
+        }
+    }
+    Ok(rounded)
+}
+
+/// The place of the first fragment of a group that lies above another. The group has to be sorted by the fragments' least
+/// `y`.
+fn first_above<I: OverlayInt>(group: &[Fragment<I>], fragment: &Fragment<I>) -> usize
+    requires { Rises (fragments_of I.whole group.now) }
+    ensures within { result ≤ length group.now }
+    ensures parted { IsPartitionPoint (λ f. I.whole f.rect.min_y ≤ℤ I.whole fragment.now.rect.max_y) (λ f. I.whole fragment.now.rect.max_y <ℤ I.whole f.rect.min_y) group.now result }
+{
+    group.partition_point(|other| begins_within(other, fragment))
+}
+
+/// Whether a fragment begins no higher than another ends.
+fn begins_within<I: OverlayInt>(other: &Fragment<I>, fragment: &Fragment<I>) -> bool
+    ensures { result ≡ int_le (I.whole other.now.rect.min_y) (I.whole fragment.now.rect.max_y) }
+{
+    other.rect.min_y <= fragment.rect.max_y
+}
+
+/// Appends the marks that the segments of two fragments put on one another, if the rectangles meet, and answers whether
+/// they cross at a point without whole coordinates. The smaller pair of ends is the target.
+fn mark_two<I: OverlayInt>(
+    fragment: &Fragment<I>,
+    other: &Fragment<I>,
+    placing: Placing,
+    marks: &mut Vec<LineMark<I>>,
+) -> Result<bool, AllocError>
+    requires radius { HasRadius placing }
+    requires fragment { IsPairInRange I.whole I.MIN_COORD I.MAX_COORD fragment.now.x_segment }
+    requires other { IsPairInRange I.whole I.MIN_COORD I.MAX_COORD other.now.x_segment }
+    requires fragment_apart { (pair_of I.whole fragment.now.x_segment).a ≢ (pair_of I.whole fragment.now.x_segment).b }
+    requires other_apart { (pair_of I.whole other.now.x_segment).a ≢ (pair_of I.whole other.now.x_segment).b }
+    ensures marks { OnOk result (marks_of I.whole marks.new.items ≡ marks_of I.whole marks.old.items ++ marks_of_two (placing_of placing) (fragment_of I.whole fragment.now) (fragment_of I.whole other.now)) }
+    ensures rounded { IfOk result (λ rounded. rounded ≡ meet_inexactly (fragment_of I.whole fragment.now) (fragment_of I.whole other.now)) }
+{
+    if !fragment.rect.is_intersect_border_include(&other.rect) {
+        return Ok(false);
+    }
+    let left = indexed(fragment);
+    let right = indexed(other);
+    if is_before(&fragment.x_segment, &other.x_segment) {
+        mark_both(left, right, placing, marks)
+    } else {
+        mark_both(right, left, placing, marks)
+    }
+}
+
+fn indexed<I: OverlayInt>(fragment: &Fragment<I>) -> Indexed<I>
+    ensures index { result.index ≡ fragment.now.index }
+    ensures x_segment { result.x_segment ≡ fragment.now.x_segment }
+{
+    Indexed {
+        index: fragment.index,
+        x_segment: fragment.x_segment,
+    }
+}
+
+fn is_before<I: OverlayInt>(left: &XSegment<I>, right: &XSegment<I>) -> bool
+    ensures { result ≡ pair_lt (pair_of I.whole left.now) (pair_of I.whole right.now) }
+{
+    left < right
+}

@@ -1,0 +1,163 @@
+// The finder that looks segments up in a tree over their heights. Upstream: `split::solver_tree`, whose tree is another.
+ghost use Rattle.std.specs.Prelude.{◌≡◌, ◌≢◌, ℕ, ◌<◌, ◌≤◌, ◌+◌, ◌-◌, ◌^◌, min, ◌++◌, [], ◌∷◌, All, IfErr, IfOk, OnOk, IsTrue, IsFalse, IsSortedByKey, IsPermutation, length};
+ghost use Rattle.overlay_base.specs.declared.segm.fault.Fault.TheVariants.{Memory};
+ghost use Rattle.overlay_base.specs.Points.{pair_cmp};
+ghost use Rattle.overlay_base.specs.Segments.{pairs};
+ghost use Rattle.overlay_base.specs.PairOf.{pair_of};
+ghost use Rattle.overlay_base.specs.SegmentOf.{ends_of, segments_of, x_segment_of};
+ghost use Rattle.overlay_base.specs.InRange.{IsPairInRange};
+ghost use Rattle.overlay_marks.specs.PassMarks.{is_rounded};
+ghost use Rattle.overlay_marks.specs.PlacingOf.{placing_of, HasRadius};
+ghost use Rattle.overlay_marks.specs.MarkOf.{AreMarks, marks_of};
+ghost use Rattle.overlay_marks.specs.IntervalTree.{AreRising, IsSummed, entries};
+ghost use Rattle.overlay_marks.specs.NodeOf.{nodes_of, node_of};
+ghost use Rattle.overlay_marks.specs.Looked.{boxes_meet, count_twos, tree_looks};
+ghost use Rattle.overlay_marks.specs.Swept.{alone, entry_of_pair, unswept, marks_with_found, crosses_found};
+
+use crate::split::interval_tree::{Node, Query, insert, look_up};
+use crate::split::line_mark::LineMark;
+use crate::split::placing::Placing;
+use crate::split::solver_list::{Indexed, mark_both};
+use overlay_base::geom::x_segment::XSegment;
+use overlay_base::num::OverlayInt;
+use overlay_base::segm::fault::Fault;
+use overlay_base::segm::segment::Segment;
+use overlay_base::segm::winding::WindingCount;
+use std::alloc::{AllocError, Global};
+
+/// The memory of the finder, kept from one pass to the next.
+#[derive(Drop)]
+pub struct TreeBuffers<I> {
+    pub(crate) nodes: Vec<Node<I>>,
+    pub(crate) found: Vec<usize>,
+}
+
+impl<I> TreeBuffers<I> {
+    /// Buffers that have taken no memory yet.
+    pub fn new(alloc: Global) -> Self {
+        TreeBuffers {
+            nodes: Vec::new(alloc),
+            found: Vec::new(alloc),
+        }
+    }
+}
+
+/// Finds the marks of a pass, as `solver_list::find_marks` does, and answers whether the pass rounds. The conditions are
+/// the same.
+///
+/// A sweep over the list keeps the segments that it has met in a tree over their heights. Each segment takes up those
+/// whose heights it meets: those that end left of it are dropped, with the others it is marked. So besides one look at
+/// each segment that is dropped, it looks at those two alone whose ranges in `x` and in `y` meet; `looked` counts the
+/// looks.
+///
+/// Answers `Fault::Memory` where a growth is refused; `marks` is of no use then.
+pub fn find_marks<C: WindingCount, I: OverlayInt, D: Copy>(
+    segments: &[Segment<C, I, D>],
+    placing: Placing,
+    buffers: &mut TreeBuffers<I>,
+    marks: &mut Vec<LineMark<I>>,
+    looked: &mut u128,
+) -> Result<bool, Fault>
+    requires sorted { IsSortedByKey ends_of pair_cmp segments.now }
+    requires in_range { All (λ s. IsPairInRange I.whole I.MIN_COORD I.MAX_COORD (x_segment_of s)) segments.now }
+    requires radius { HasRadius placing }
+    ensures marks { OnOk result (AreMarks (placing_of placing) (segments_of segments.now) (marks_of I.whole marks.new.items)) }
+    ensures rounded { IfOk result (λ rounded. rounded ≡ is_rounded (segments_of segments.now)) }
+    ensures looked { OnOk result (looked.new ≤ looked.old + tree_looks (pairs (segments_of segments.now))) }
+    ensures each_looked { OnOk result
+        (min (looked.old + count_twos boxes_meet (pairs (segments_of segments.now))) (2 ^ 128 - 1) ≤ looked.new) }
+    ensures fault { IfErr result (λ fault. fault ≡ Memory) }
+{
+    let _looked = *looked;
+    let TreeBuffers { nodes, found } = buffers;
+    build(segments, nodes)?;
+    let nodes = nodes.as_mut_slice();
+    marks.clear();
+    let mut rounded = false;
+    for index in 0..segments.len() {
+        let later = segments[index].x_segment();
+        let heights = later.y_range();
+        let query = Query {
+            heights,
+            x: later.a.x,
+        };
+        found.clear();
+        look_up(nodes, &query, found, looked)?;
+        if mark_with_found(segments, found, index, placing, marks)? {
+            rounded = true;
+        }
+        insert(nodes, heights.min, heights.max, index);
+    }
+    marks.sort()?;
+    marks.dedup();
+    Ok(rounded)
+}
+
+/// Builds the tree of the entries of all segments, none of them live.
+pub(crate) fn build<C: WindingCount, I: OverlayInt, D: Copy>(
+    segments: &[Segment<C, I, D>],
+    nodes: &mut Vec<Node<I>>,
+) -> Result<(), AllocError>
+    ensures rising { OnOk result (AreRising (entries (nodes_of I.whole nodes.new.items))) }
+    ensures summed { OnOk result (IsSummed (nodes_of I.whole nodes.new.items)) }
+    ensures listed { OnOk result (IsPermutation (unswept (pairs (segments_of segments.now))) (entries (nodes_of I.whole nodes.new.items))) }
+{
+    nodes.clear();
+    for index in 0..segments.len() {
+        nodes.push(node_at(index, segments[index].x_segment()))?;
+    }
+    nodes.sort_by_key(|node| (node.low, node.index))?;
+    Ok(())
+}
+
+fn node_at<I: OverlayInt>(index: usize, segment: XSegment<I>) -> Node<I>
+    ensures { node_of I.whole result ≡ alone (entry_of_pair index (pair_of I.whole segment)) }
+{
+    let heights = segment.y_range();
+    Node {
+        low: heights.min,
+        high: heights.max,
+        end_x: segment.b.x,
+        index,
+        is_live: false,
+        greatest: None,
+    }
+}
+
+/// Appends the marks that a segment and each of those found before it put on one another, and answers whether it crosses
+/// one of them at a point without whole coordinates.
+pub(crate) fn mark_with_found<C: WindingCount, I: OverlayInt, D: Copy>(
+    segments: &[Segment<C, I, D>],
+    found: &[usize],
+    index: usize,
+    placing: Placing,
+    marks: &mut Vec<LineMark<I>>,
+) -> Result<bool, AllocError>
+    requires index { index < length segments.now }
+    requires found { All (λ earlier. earlier < index) found.now }
+    requires sorted { IsSortedByKey ends_of pair_cmp segments.now }
+    requires in_range { All (λ s. IsPairInRange I.whole I.MIN_COORD I.MAX_COORD (x_segment_of s)) segments.now }
+    requires radius { HasRadius placing }
+    ensures marks { OnOk result (marks_of I.whole marks.new.items ≡ marks_of I.whole marks.old.items
+        ++ marks_with_found (placing_of placing) (pairs (segments_of segments.now)) index found.now) }
+    ensures rounded { IfOk result (λ rounded. rounded ≡ crosses_found (pairs (segments_of segments.now)) index found.now) }
+{
+    let second = Indexed {
+        index,
+        x_segment: segments[index].x_segment(),
+    };
+    let mut rounded = false;
+    for earlier in found {
+        let first = Indexed {
+            index: *earlier,
+            x_segment: segments[*earlier].x_segment(),
+        };
+        if mark_both(first, second, placing, marks)? {
+            rounded = true;
+        }
+    }
+    Ok(rounded)
+}
+
+#[cfg(test)]
+mod tests;

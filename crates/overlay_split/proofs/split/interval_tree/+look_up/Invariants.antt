@@ -1,5 +1,0 @@
-use Rattle.std.proofs.Common.{length}
-use Rattle.overlay_split.proofs.split.interval_tree.+look_up.Given as goal
-
-abbrev pub decreases-look_up : goal.decreases-look_up
-decreases-look_up g l = length l.nodes.now
