@@ -25,20 +25,16 @@ pub record IsSplit (settings : Settings) (given segments : List WholeSegment) (p
   -- The segments are the one arrangement that the passes define: so many passes, one after another.
   pub count : IsPassCount settings given passes
   pub arrangement : segments ≡ after_passes settings given passes
-
   -- Every two of them share at most a common end; and at every point as much starts, less what ends, as was given.
   pub planar : IsTrue (is_map segments && is_planar segments)
   pub kept : KeepsBalance given segments
-
   -- They lie near what was given, and it near them, no farther than the passes reach, and in its box. Input whose
   -- crossings have whole coordinates is not moved, and keeps its counts.
   pub near : StaysNear settings given segments passes
   pub in_box : IsTrue (list_all (λ p. is_within_box_of (ends (pairs (join given))) p) (ends (pairs segments)))
   pub exact_input : IsTrue (is_exact_input given) → KeepsCounts given segments
-
   -- At each place that is farther from what was given than the passes reach they wind as it does.
   pub winding : KeepsWinding settings given segments passes
-
   -- There are no more passes than the snap limit, the potential of the arrangement reached there, and one.
   pub bound : passes ≤ settings.limit + potential (after_passes settings given settings.limit) + 1
 
@@ -46,14 +42,11 @@ pub record IsSplit (settings : Settings) (given segments : List WholeSegment) (p
 pub record IsOverlay (settings : Settings) (fill_rule : FillRule) (rule : Bool → Bool → Bool) (given segments : List WholeSegment) (passes : ℕ) (graph : Graph) : Type 0 where
   -- The segments are what the split leaves.
   pub split : IsSplit settings given segments passes
-
   -- The graph is that of the segments whose fill the rule keeps.
   pub links : graph ≡ graph_by (keeps_fill rule) fill_rule segments
-
   -- Where the given counts balance, it holds exactly the segments whose sides the rule tells apart, with the fills of
   -- these sides, evenly many links at every node, and it encloses the region of the rule in the arrangement.
   pub balanced : IsBalanced given → IsBalancedOverlay rule fill_rule segments graph
-
   -- Then, at each place that is farther from what was given than the passes reach, it encloses the region of the rule
   -- as the given segments wind.
   pub far_region : IsBalanced given → EnclosesFarRegion settings rule fill_rule given passes graph

@@ -3,7 +3,7 @@
 
 use super::tests::run_words;
 use super::*;
-use crate::number::signed_number;
+use crate::number::{short_number, signed_number};
 use std::alloc::AllocError;
 use std::process::Abort;
 use std::test::Fail;
@@ -171,20 +171,28 @@ struct Given {
 /// Asks at the places of a lattice that are far from all that is given, and answers how many these are.
 fn ask_lattice<H: Abort>(rt: &H, given: &Given, rule: &str, links: &[Way]) -> usize {
     let mut far: usize = 0;
-    for column in 0..15 {
-        for row in 0..15 {
-            let place = Place {
-                x: 6 * column - 5,
-                y: 6 * row - 5,
-            };
-            if are_far(&given.subject, place, given.reach) && are_far(&given.clip, place, given.reach) {
+    let mut place = Place { x: -5, y: -5 };
+    for _column in 0..15 {
+        place.y = -5;
+        for _row in 0..15 {
+            if are_far(&given.subject, place, given.reach)
+                && are_far(&given.clip, place, given.reach)
+            {
                 let subj = winding(&given.subject, place) != 0;
                 let clip = winding(&given.clip, place) != 0;
                 let enclosed = is_enclosed(links, place);
-                assert_eq!(rt; enclosed, wanted(rule, subj, clip), "{rule} {column} {row}");
+                assert_eq!(rt;
+                    enclosed,
+                    wanted(rule, subj, clip),
+                    "{rule} {} {}",
+                    place.x,
+                    place.y
+                );
                 far = far.wrapping_add(1);
             }
+            place.y = place.y.wrapping_add(6);
         }
+        place.x = place.x.wrapping_add(6);
     }
     far
 }
@@ -225,6 +233,99 @@ fn links_enclose_the_region_of_a_rule(rt: HostRuntime) -> Result<(), Fail> {
             let links = ways_of(rt.alloc(), graph.as_str(), "link")?;
             let far = ask_lattice(&rt, &given, rule, &links);
             assert!(rt; far > 60, "few places are far");
+        }
+    }
+    Ok(())
+}
+
+/// The next number of a row that looks like chance.
+fn next_number(state: u64) -> u64 {
+    state
+        .wrapping_mul(6364136223846793005)
+        .wrapping_add(1442695040888963407)
+}
+
+/// A coordinate from 0 to 99.
+fn coordinate_of(state: u64) -> u64 {
+    (state >> 33) % 100
+}
+
+/// Appends the sides of a closed contour with seven corners, and answers where the row of numbers stands.
+fn push_contour(text: &mut String, shape: &str, state: u64) -> Result<u64, AllocError> {
+    let mut state = next_number(state);
+    let (first_x, first_y) = (coordinate_of(state), coordinate_of(next_number(state)));
+    let (mut x, mut y) = (first_x, first_y);
+    for corner in 0..7 {
+        state = next_number(next_number(state));
+        let (next_x, next_y) = match corner {
+            6 => (first_x, first_y),
+            _ => (coordinate_of(state), coordinate_of(next_number(state))),
+        };
+        if next_x != x || next_y != y {
+            writeln!(text, "{shape} {x} {y} {next_x} {next_y}")?;
+        }
+        x = next_x;
+        y = next_y;
+    }
+    Ok(state)
+}
+
+/// Whether two links have an end in common.
+fn share_end(first: Way, second: Way) -> bool {
+    let same = |p: Place, q: Place| p.x == q.x && p.y == q.y;
+    same(first.from, second.from)
+        || same(first.from, second.to)
+        || same(first.to, second.from)
+        || same(first.to, second.to)
+}
+
+/// The links of one walk, by a line of the program's.
+fn walk_of(alloc: Global, line: &str, links: &[Way], used: &mut [bool]) -> Result<Vec<Way>, Fail> {
+    let mut walk = Vec::new(alloc);
+    for word in line.split(' ').skip(1) {
+        let index = short_number(word).ok_or("no number")? as usize;
+        walk.push(*links.get(index).ok_or("no link")?)?;
+        let flag = used.get_mut(index).ok_or("no link")?;
+        if *flag {
+            return Err(Fail::from("a link stands twice"));
+        }
+        *flag = true;
+    }
+    Ok(walk)
+}
+
+/// Asks that each link of a walk leads on to the next, the last one to the first, and that each link stands in one place.
+fn ask_walks<H: Abort + AllocGlobal>(rt: &H, text: &str, links: &[Way]) -> Result<(), Fail> {
+    let mut used = vec![in rt.alloc(); false; links.len()]?;
+    for line in text.split('\n') {
+        if line.is_empty() {
+            continue;
+        }
+        let walk = walk_of(rt.alloc(), line, links, &mut used)?;
+        let mut before = *walk.last().ok_or("an empty walk")?;
+        for link in &walk {
+            assert!(rt; share_end(before, *link), "{line}");
+            before = *link;
+        }
+    }
+    assert!(rt; used.iter().all(|flag| *flag), "a link is left out");
+    Ok(())
+}
+
+#[test]
+fn walks_of_contours_by_chance(rt: HostRuntime) -> Result<(), Fail> {
+    let mut state = 2026;
+    for _ in 0..6 {
+        let mut lines = String::new(rt.alloc());
+        state = push_contour(&mut lines, "S", state)?;
+        state = push_contour(&mut lines, "C", state)?;
+        for rule in RULES {
+            let graph_words = format!(in rt.alloc(); "graph|rule={rule}")?;
+            let graph = written(&rt, graph_words.as_str(), lines.as_str())?;
+            let links = ways_of(rt.alloc(), graph.as_str(), "link")?;
+            let walk_words = format!(in rt.alloc(); "walks|rule={rule}")?;
+            let walks = written(&rt, walk_words.as_str(), lines.as_str())?;
+            ask_walks(&rt, walks.as_str(), &links)?;
         }
     }
     Ok(())
