@@ -1,17 +1,19 @@
 #!/usr/bin/env python3
-"""Times `arrange split` under the list and under the tree, on segments of four kinds.
+"""Times `arrange split` under each strategy, on segments of five kinds.
 
 Usage, from the top of the repository: python3 bench/split.py [NUMBER ..]
 
 Each kind is made of the given numbers of segments (1,000, 4,000, 16,000 and 50,000 if none are given). For each one line
 is printed: kind, segments given, segments answered, passes, and the user time in seconds, the least of three runs: of
-`join`, which reads, sorts, merges and prints as many, and of `split` with `strategy=list` and `strategy=tree`. A run over
-the list that takes longer than ten seconds is made once. The answers of both have to be the same.
+`join`, which reads, sorts, merges and prints as many, and of `split` under `list`, `tree`, `frag` and `auto`; then the most
+memory in megabytes that a run over the list, and one over the grid, took. A run that takes longer than ten seconds is made
+once. All answers have to be the same. Above 16,000 segments `tree` and `auto` go over the grid, as `frag` does.
 
 - random: short segments at random places, so that each meets a few others;
 - horizontal: segments one above another, none of which meet, all with one range of x: one scan of all pairs;
 - grid: blocks of twenty horizontal and twenty vertical lines, each of which crosses the twenty others;
-- squares: squares in a row, each of which overlaps the next.
+- squares: squares in a row, each of which overlaps the next;
+- long: lines from end to end, of many heights and slopes, none of which meet.
 """
 import os
 import random
@@ -59,11 +61,20 @@ def square_lines(number):
         yield step(*corners[side], *corners[(side + 1) % 4])
 
 
+def long_lines(number):
+    for index in range(number):
+        height = 8 * index - 4 * number
+        yield step(-LIMIT, height, LIMIT, height + index % 7)
+
+
+STRATEGIES = ("list", "tree", "frag", "auto")
+
 KINDS = {
     "random": random_lines,
     "horizontal": horizontal_lines,
     "grid": grid_lines,
     "squares": square_lines,
+    "long": long_lines,
 }
 
 
@@ -90,19 +101,30 @@ def least(words, text):
 def measure(kind, number):
     text = "\n".join(KINDS[kind](number)) + "\n"
     _, by_join = least(["join"], text)
-    listed, by_list = least(["split", "strategy=list"], text)
-    found, by_tree = least(["split", "strategy=tree"], text)
-    if listed != found:
-        sys.exit(f"{kind} {number}: the list and the tree answer differently")
-    lines = found.splitlines()
+    answers, times = zip(*(least(["split", f"strategy={strategy}"], text) for strategy in STRATEGIES))
+    if len(set(answers)) > 1:
+        sys.exit(f"{kind} {number}: two strategies answer differently")
+    lines = answers[0].splitlines()
     passes = lines[-1].split()[1]
-    print(f"{kind:10} {number:6} {len(lines) - 2:8} {passes:>6} {by_join:8.3f} {by_list:8.3f} {by_tree:8.3f}", flush=True)
+    seconds = " ".join(f"{time:8.3f}" for time in (by_join, *times))
+    most = " ".join(f"{memory(strategy, text):5.0f}" for strategy in ("list", "frag"))
+    print(f"{kind:10} {number:6} {len(lines) - 2:8} {passes:>6} {seconds} {most}", flush=True)
+
+
+def memory(strategy, text):
+    """The most memory of one run, in megabytes, as its own process tells it."""
+    code = ("import resource, subprocess, sys; "
+            "subprocess.run(sys.argv[1:], stdin=sys.stdin, stdout=subprocess.DEVNULL, check=True); "
+            "print(resource.getrusage(resource.RUSAGE_CHILDREN).ru_maxrss)")
+    run = subprocess.run([sys.executable, "-c", code, PROGRAM, "split", f"strategy={strategy}"],
+                         input=text, text=True, capture_output=True, check=True)
+    return int(run.stdout) / 1024
 
 
 def main():
     numbers = [int(word) for word in sys.argv[1:]] or [1_000, 4_000, 16_000, 50_000]
     build()
-    print("kind        given   pieces passes     join     list     tree")
+    print("kind        given   pieces passes     join " + " ".join(f"{strategy:>8}" for strategy in STRATEGIES) + "  MB list frag")
     for kind in KINDS:
         for number in numbers:
             measure(kind, number)
