@@ -43,7 +43,7 @@ medium_low_passes : first_six 2 2 ≡ (6 ∷ 16 ∷ 34 ∷ 68 ∷ 134 ∷ 264 �
 unfolding computing
 medium_low_passes = refl
 
-low_passes : map (λ k. reach_of_passes (settings 2 3 256) k) (1 ∷ 2 ∷ 3 ∷ 4 ∷ []) ≡ (6 ∷ 18 ∷ 52 ∷ 144 ∷ [])
+low_passes : first_six 2 3 ≡ (6 ∷ 18 ∷ 52 ∷ 144 ∷ 402 ∷ 1128 ∷ [])
 unfolding computing
 low_passes = refl
 
