@@ -8,7 +8,7 @@ use Rattle.overlay_base.specs.declared.overlay_core.overlay_rule.OverlayRule.{Ov
 use Rattle.overlay_base.specs.declared.segm.fault.Fault.{Fault}
 use Rattle.overlay_base.specs.declared.segm.fault.Fault.TheVariants.{CountOutOfRange, Memory}
 use Rattle.overlay_split.specs.Run.{Settings as RunSettings, IsPassCount, LeavesRange, after_passes}
-use Rattle.overlay_build.specs.ChainWindings.{tops_leave_range}
+use Rattle.overlay_sweep.specs.ChainWindings.{tops_leave_range}
 use Rattle.overlay_build.specs.Graph.{Graph, graph_by}
 use Rattle.overlay_build.specs.RuleOf.{keeps_by}
 use Rattle.i_overlay.specs.Headline.{IsOverlay, IsSplitRefused, IsBuildRefused}

@@ -11,7 +11,7 @@ use Rattle.overlay_base.specs.declared.geom.point.IntPoint.{IntPoint}
 use Rattle.overlay_base.specs.declared.overlay_core.link.OverlayLink.{OverlayLink}
 use Rattle.overlay_build.specs.Graph.{Filled, Link, Node, Graph, node_points, links_at}
 use Rattle.overlay_build.specs.GraphOf.{HoldGraph, kept_of, graph_with, link_of as whole_link}
-use Rattle.overlay_build.specs.Laws.{without_nodes}
+use Rattle.overlay_build.specs.Graph.{without_nodes}
 use Rattle.overlay_build.proofs.laws.GraphLaws.{pairs_of, length-nodes, length-links_at, links_at-exactly, node_at, degree, NamesItsNodes, names_its_nodes, stands_at_its_nodes}
 use Rattle.overlay_build.proofs.laws.Indexes.{has_number}
 use Rattle.overlay_build.proofs.laws.GraphValid.{node_points-positive}

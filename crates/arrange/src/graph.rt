@@ -5,7 +5,7 @@ ghost use Rattle.overlay_base.specs.SegmentOf.{segments_of};
 ghost use Rattle.overlay_base.specs.Planar.{is_splittable};
 ghost use Rattle.overlay_split.specs.Run.{IsPassCount, LeavesRange, after_passes};
 ghost use Rattle.overlay_split.specs.SettingsOf.{passes_of, settings_of};
-ghost use Rattle.overlay_build.specs.ChainWindings.{tops_leave_range};
+ghost use Rattle.overlay_sweep.specs.ChainWindings.{tops_leave_range};
 ghost use Rattle.overlay_build.specs.Graph.{graph_by};
 ghost use Rattle.overlay_build.specs.GraphOf.{graph_with};
 ghost use Rattle.arrange.specs.Run.{IsGraphOf, CountsLeaveRange, IsCommandAnswer};

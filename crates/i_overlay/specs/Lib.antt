@@ -10,7 +10,7 @@ pub use Rattle.overlay_base.specs.SegmentOf
 pub use Rattle.overlay_split.specs.DataPass
 pub use Rattle.overlay_split.specs.Run
 pub use Rattle.overlay_split.specs.SettingsOf
-pub use Rattle.overlay_build.specs.ChainWindings
+pub use Rattle.overlay_sweep.specs.ChainWindings
 pub use Rattle.overlay_build.specs.Graph
 pub use Rattle.overlay_build.specs.GraphOf
 pub use Rattle.overlay_build.specs.NodeIndexes

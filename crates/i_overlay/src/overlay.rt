@@ -9,7 +9,7 @@ ghost use Rattle.overlay_base.specs.SegmentOf.{segments_of, data_segments_of};
 ghost use Rattle.overlay_split.specs.Run.{LeavesRange};
 ghost use Rattle.overlay_split.specs.DataPass.{data_after_passes};
 ghost use Rattle.overlay_split.specs.SettingsOf.{snap_limit_of, passes_of, settings_of};
-ghost use Rattle.overlay_build.specs.ChainWindings.{tops_leave_range};
+ghost use Rattle.overlay_sweep.specs.ChainWindings.{tops_leave_range};
 ghost use Rattle.overlay_build.specs.Graph.{data_by};
 ghost use Rattle.overlay_build.specs.GraphOf.{HoldGraph, graph_with};
 ghost use Rattle.overlay_build.specs.NodeIndexes.{indexes_of, is_canonical_node};

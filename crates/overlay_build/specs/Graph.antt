@@ -5,7 +5,7 @@ use Rattle.overlay_base.specs.Points.{Point, Pair, point_cmp, point_eq, distinct
 use Rattle.overlay_base.specs.Segments.{WholeSegment, ends}
 use Rattle.overlay_base.specs.EdgeData.{DataSegment, without_data}
 use Rattle.overlay_base.specs.declared.overlay_core.fill_rule.FillRule.{FillRule}
-use Rattle.overlay_build.specs.Sweep.{whole_of, fill_of}
+use Rattle.overlay_sweep.specs.Sweep.{whole_of, fill_of}
 
 -- a segment of an arrangement with its fill
 pub record Filled : Type 0 where
@@ -84,3 +84,7 @@ is_valid_graph graph =
 
 unfoldable pub has_even_nodes : Graph → Bool
 has_even_nodes graph = list_all (λ n. length n.links % 2 == 0) graph.nodes
+
+-- a link without the numbers of its nodes
+abbrev pub without_nodes : Link → Filled
+without_nodes l = record { pair = l.pair; fill = l.fill }

@@ -5,7 +5,7 @@ use Rattle.overlay_base.specs.Points.{Point, Pair, point_eq}
 use Rattle.overlay_base.specs.PointOf.{point_of}
 use Rattle.overlay_base.specs.declared.overlay_core.link.OverlayLink.{OverlayLink}
 use Rattle.overlay_build.specs.Graph.{Filled, Link, Graph, graph_of}
-use Rattle.overlay_build.specs.Laws.{without_nodes}
+use Rattle.overlay_build.specs.Graph.{without_nodes}
 
 -- a link in whole numbers
 abbrev pub link_of : {I D : Type 0} → (I → ℤ) → OverlayLink I D → Link

@@ -6,22 +6,11 @@ use Rattle.overlay_base.specs.Rules.{keeps_fill}
 use Rattle.overlay_base.specs.declared.overlay_core.fill_rule.FillRule.{FillRule}
 use Rattle.overlay_base.specs.Planar.{is_planar}
 use Rattle.overlay_base.specs.Balance.{IsBalanced}
-use Rattle.overlay_build.specs.ColumnWindings.{IsSameAlong, side_bottom, side_top}
-use Rattle.overlay_build.specs.ChainWindings.{bottom, top}
-use Rattle.overlay_build.specs.Fill.{fill_byte}
-use Rattle.overlay_build.specs.Graph.{Filled, Link, graph_by, has_even_nodes, is_valid_graph}
+use Rattle.overlay_sweep.specs.Fill.{fill_byte}
+use Rattle.overlay_build.specs.Graph.{graph_by, has_even_nodes, is_valid_graph, without_nodes}
 use Rattle.overlay_build.specs.Values.{tells_apart}
 use Rattle.overlay_build.specs.Regions.{EnclosesRegion}
 use Rattle.overlay_build.specs.Sides.{overlay_graph}
-
--- The windings that a sweep finds are those of the columns: below and above each segment the same all along it, and beside a vertical one those to its right and left.
-abbrev pub HaveColumnWindings : List WholeSegment → Type 0
-HaveColumnWindings segments =
-    All (λ s. IsSameAlong segments s × (bottom segments s ≡ side_bottom segments s) × (top segments s ≡ side_top segments s)) segments
-
--- with balance the chain's windings are those of the columns
-abbrev pub ChainsAreColumns : Type 0
-ChainsAreColumns = (segments : List WholeSegment) → IsTrue (is_map segments) → IsTrue (is_planar segments) → IsBalanced segments → HaveColumnWindings segments
 
 -- a fill without a mask is kept where the windings' values differ
 abbrev pub FillsTellSides : Type 0
@@ -50,10 +39,6 @@ abbrev pub GraphsEncloseRegions : Type 0
 GraphsEncloseRegions =
     (fill_rule : FillRule) (rule : Bool → Bool → Bool) (segments : List WholeSegment) → IsTrue (is_map segments) → IsTrue (are_polygons segments) → IsTrue (is_planar segments) → IsBalanced segments →
     EnclosesRegion rule fill_rule segments (graph_by (keeps_fill rule) fill_rule segments)
-
--- a link without the numbers of its nodes
-abbrev pub without_nodes : Link → Filled
-without_nodes l = record { pair = l.pair; fill = l.fill }
 
 -- The links that a test keeps of the graph of all segments are, but for the numbers of their nodes, those of the test's graph, in the same order.
 abbrev pub FilterGivesLinks : Type 0

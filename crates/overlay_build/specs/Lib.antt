@@ -1,13 +1,5 @@
-pub mod ColumnWindings
-pub mod ChainWindings
-pub mod Fill
-pub mod Sweep
 pub mod Laws
-pub mod Live
-pub mod VisitOf
-pub mod EntryOf
 pub mod EndOf
-pub mod WayOf
 pub mod Graph
 pub mod Values
 pub mod Regions
@@ -17,9 +9,5 @@ pub mod NodeIndexes
 pub mod LinkEnds
 pub mod RuleOf
 pub mod BuilderOf
-pub mod TreeShapes
-pub mod PlaceOf
-pub mod ScanTrees
 pub mod Walks
 pub mod UnusedLinks
-pub mod LevelRows

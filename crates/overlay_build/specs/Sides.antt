@@ -2,8 +2,8 @@
 use Rattle.std.specs.Prelude.{◌≡◌, Bool, IsTrue, List, map, filter, All}
 use Rattle.overlay_base.specs.Segments.{WholeSegment}
 use Rattle.overlay_base.specs.declared.overlay_core.fill_rule.FillRule.{FillRule}
-use Rattle.overlay_build.specs.ColumnWindings.{side_bottom, side_top, IsSameAlong}
-use Rattle.overlay_build.specs.Fill.{fill_byte}
+use Rattle.overlay_sweep.specs.ColumnWindings.{side_bottom, side_top, IsSameAlong}
+use Rattle.overlay_sweep.specs.Fill.{fill_byte}
 use Rattle.overlay_build.specs.Graph.{Graph, Filled, graph_of, has_even_nodes}
 use Rattle.overlay_build.specs.Values.{tells_apart}
 use Rattle.overlay_build.specs.Regions.{EnclosesRegion}

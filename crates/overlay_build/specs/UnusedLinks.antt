@@ -1,6 +1,6 @@
 -- Links that no walk has used, while walks are found.
 use Rattle.std.specs.Prelude.{◌≡◌, ℕ, ◌+◌, ◌<◌, ◌≤◌, ◌%◌, ◌==◌, ◌||◌, Bool, true, false, List, [], ◌∷◌, length, count_by, slice_index_or}
-use Rattle.overlay_build.specs.Fill.{flag_value}
+use Rattle.overlay_sweep.specs.Fill.{flag_value}
 use Rattle.overlay_build.specs.Graph.{Link}
 
 -- whether a link begins or ends at a node

@@ -3,7 +3,7 @@ use Rattle.std.specs.Prelude.{Bool}
 use Rattle.overlay_base.specs.Windings.{Winding}
 use Rattle.overlay_base.specs.Rules.{differ}
 use Rattle.overlay_base.specs.declared.overlay_core.fill_rule.FillRule.{FillRule}
-use Rattle.overlay_build.specs.Fill.{is_inside}
+use Rattle.overlay_sweep.specs.Fill.{is_inside}
 
 -- what a truth function says of a place with these windings
 unfoldable pub value_at : (Bool → Bool → Bool) → FillRule → Winding → Bool

@@ -1,10 +1,7 @@
-// The sweep over an arrangement, which tells what lies on the two sides of each segment, and the graphs of kept segments.
+// The graphs of kept segments, from the fills on their two sides. The sweep that finds these fills is the crate
+// `overlay_sweep`, whose modules stand here too, as in upstream.
 
-pub mod boolean;
 pub mod builder;
-mod entry;
-pub mod fill_handler;
-pub mod fill_strategy;
 mod fills;
 pub mod filter;
 pub mod graph;
@@ -15,20 +12,13 @@ mod kept_links;
 pub mod laws;
 mod link_ends;
 pub mod link_filter;
-pub mod live_segments;
-mod node;
 mod nodes;
-mod place;
-pub mod scan_list;
-#[cfg(test)]
-mod scan_tests;
-pub mod scan_tree;
-pub mod sweep;
-#[cfg(test)]
-mod tests;
-mod tree_shape;
-mod visits;
 #[cfg(test)]
 mod walk_tests;
 pub mod walks;
-mod way;
+#[cfg(test)]
+mod worked_lines;
+
+pub use overlay_sweep::build::{
+    boolean, fill_handler, fill_strategy, live_segments, scan_list, scan_tree, sweep,
+};

@@ -1,4 +1,4 @@
-// Fills and graphs of an arrangement. Modules are named as in upstream.
+// The graphs of an arrangement, over the fills that a sweep finds. Modules are named as in upstream.
 #![tactic(auto)]
 
 pub mod build;

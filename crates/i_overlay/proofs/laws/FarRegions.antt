@@ -9,7 +9,7 @@ use Rattle.overlay_base.specs.declared.overlay_core.fill_rule.FillRule.{FillRule
 use Rattle.overlay_base.specs.declared.overlay_core.fill_rule.FillRule.TheVariants.{EvenOdd, NonZero, Positive, Negative}
 use Rattle.overlay_base.specs.declared.overlay_core.overlay_rule.OverlayRule.{OverlayRule}
 use Rattle.overlay_split.specs.Run.{Settings}
-use Rattle.overlay_build.specs.Fill.{is_inside}
+use Rattle.overlay_sweep.specs.Fill.{is_inside}
 use Rattle.overlay_build.specs.Graph.{Graph}
 use Rattle.overlay_build.specs.Values.{value_at, tells_apart}
 use Rattle.i_overlay.specs.FarRegions.{EnclosesFarRegion, EnclosesOverlay}

@@ -1,16 +1,11 @@
 -- Opens every definition: a proof under the line `unfolding computing` computes with all of them.
 use Rattle.std.specs.Prelude.{⊤}
-use Rattle.overlay_base.proofs.examples.Computing.{computing as base_computing}
-use Rattle.overlay_base.specs.Below.{scaled_height, height_cmp, angle_cmp}
-use Rattle.overlay_build.specs.ColumnWindings.{is_below_in_column, column_bottom, column_top, weights_up_to, right_winding, left_winding, side_bottom, side_top}
-use Rattle.overlay_build.specs.ChainWindings.{neighbor_at_start, directly_below, support, top_within, top, bottom, tops_leave_range}
-use Rattle.overlay_build.specs.Fill.{fill_byte}
+use Rattle.overlay_sweep.proofs.examples.Computing.{computing as sweep_computing}
 use Rattle.overlay_base.specs.Rules.{top_value, bottom_value, keeps_fill}
-use Rattle.overlay_build.specs.Sweep.{visits, handled, visited, visits_leave_range, sum_below}
 use Rattle.overlay_build.specs.Graph.{filled, node_points, indexes_where, links_at, nodes_of, node_number, graph_of, graph_by, data_by, is_valid_graph, has_even_nodes}
 use Rattle.overlay_build.specs.Values.{value_at, tells_apart}
 use Rattle.overlay_build.specs.Sides.{has_sides_apart, with_sides, overlay_graph}
 
 unfoldable pub computing : Type 0
-unfolding base_computing scaled_height height_cmp angle_cmp is_below_in_column column_bottom column_top weights_up_to right_winding left_winding side_bottom side_top neighbor_at_start directly_below support top_within top bottom tops_leave_range fill_byte visits handled visited visits_leave_range sum_below top_value bottom_value keeps_fill filled node_points indexes_where links_at nodes_of node_number graph_of graph_by data_by is_valid_graph has_even_nodes value_at tells_apart has_sides_apart with_sides overlay_graph
+unfolding sweep_computing top_value bottom_value keeps_fill filled node_points indexes_where links_at nodes_of node_number graph_of graph_by data_by is_valid_graph has_even_nodes value_at tells_apart has_sides_apart with_sides overlay_graph
 computing = ⊤

@@ -8,7 +8,7 @@ use Rattle.overlay_base.specs.declared.overlay_core.overlay_rule.OverlayRule.The
 use Rattle.overlay_base.specs.declared.overlay_core.fill_rule.FillRule.TheVariants.{EvenOdd, NonZero}
 use Rattle.overlay_build.specs.Graph.{Link, Node, filled, indexes_where, graph_by, is_bridge, is_valid_graph, has_even_nodes}
 use Rattle.overlay_build.specs.Sides.{overlay_graph}
-use Rattle.overlay_build.proofs.examples.Sweeps.{pair, seg, twelve}
+use Rattle.overlay_sweep.proofs.examples.Sweeps.{pair, seg, twelve}
 use Rattle.overlay_build.proofs.examples.Computing.{computing}
 
 abbrev link : Pair → ℕ → ℕ → ℕ → Link

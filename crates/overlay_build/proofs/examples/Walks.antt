@@ -2,7 +2,7 @@
 use Rattle.std.specs.Prelude.{◌≡◌, refl, ℕ, pos, List, [], ◌∷◌, Some, None}
 use Rattle.overlay_build.specs.Graph.{Link}
 use Rattle.overlay_build.specs.Walks.{walk_end}
-use Rattle.overlay_build.proofs.examples.Sweeps.{pair}
+use Rattle.overlay_sweep.proofs.examples.Sweeps.{pair}
 
 abbrev joined : ℕ → ℕ → Link
 joined a b = record { pair = pair (pos 0) (pos 0) (pos 1) (pos 0); fill = 1; a_node = a; b_node = b }

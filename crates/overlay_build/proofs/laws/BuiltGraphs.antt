@@ -18,7 +18,7 @@ use Rattle.overlay_base.specs.declared.overlay_core.fill_rule.FillRule.{FillRule
 use Rattle.overlay_base.specs.declared.overlay_core.link.OverlayLink.{OverlayLink}
 use Rattle.overlay_build.specs.Graph.{Filled, Graph, filled, graph_of, graph_by}
 use Rattle.overlay_build.specs.GraphOf.{link_of, kept_of, graph_with, HoldGraph}
-use Rattle.overlay_build.specs.Laws.{without_nodes}
+use Rattle.overlay_build.specs.Graph.{without_nodes}
 use Rattle.overlay_build.specs.Sides.{IsBalancedOverlay}
 use Rattle.overlay_build.proofs.laws.GraphLaws.{links-back, graph_by-is}
 use Rattle.overlay_build.proofs.laws.Regions.{is_balanced_overlay}

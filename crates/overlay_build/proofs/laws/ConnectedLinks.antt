@@ -10,7 +10,7 @@ use Rattle.overlay_base.specs.declared.overlay_core.link.OverlayLink.{OverlayLin
 use Rattle.overlay_build.specs.EndOf.{WholeEnd}
 use Rattle.overlay_build.specs.Graph.{Filled, Node, node_points, node_number, links_at, graph_of, nodes_of}
 use Rattle.overlay_build.specs.GraphOf.{link_of, kept_of, graph_with, pairs_of_links, HoldGraph}
-use Rattle.overlay_build.specs.Laws.{without_nodes}
+use Rattle.overlay_build.specs.Graph.{without_nodes}
 use Rattle.overlay_base.proofs.laws.Pairs.{has_point}
 use Rattle.overlay_build.proofs.laws.GraphNodes.{has_start, has_end, node_number-of, node_number-at}
 use Rattle.overlay_build.proofs.laws.NodeSteps.{sorted_ends_of, rank, numbered_to, IsConnectedUpTo, node_has_end, by_less}

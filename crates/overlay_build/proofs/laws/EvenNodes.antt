@@ -9,17 +9,17 @@ use Rattle.overlay_base.specs.Windings.{Winding}
 use Rattle.overlay_base.specs.Segments.{WholeSegment, is_map}
 use Rattle.overlay_base.specs.Planar.{is_planar}
 use Rattle.overlay_base.specs.Balance.{IsBalanced}
-use Rattle.overlay_build.specs.ColumnWindings.{spans, weights_up_to}
+use Rattle.overlay_sweep.specs.ColumnWindings.{spans, weights_up_to}
 use Rattle.overlay_base.specs.declared.overlay_core.fill_rule.FillRule.{FillRule}
-use Rattle.overlay_build.specs.Fill.{flag_value, is_inside}
+use Rattle.overlay_sweep.specs.Fill.{flag_value, is_inside}
 use Rattle.overlay_base.specs.Rules.{differ}
 use Rattle.overlay_build.specs.Values.{tells_apart, value_at}
 use Rattle.overlay_build.specs.Sides.{has_sides_apart}
 use Rattle.overlay_base.proofs.laws.Points.{same_by_eq}
-use Rattle.overlay_build.proofs.laws.ColumnLines.{is_under, column_weights, spans-true, spans-false_before, spans-false_after, point_lt-cases}
-use Rattle.overlay_build.proofs.laws.Parity.{odd_of, odd_of_is}
-use Rattle.overlay_build.proofs.laws.Members.{IsArranged, is_arranged}
-use Rattle.overlay_build.proofs.laws.Sides.{apart_in}
+use Rattle.overlay_sweep.proofs.laws.ColumnLines.{is_under, column_weights, spans-true, spans-false_before, spans-false_after, point_lt-cases}
+use Rattle.overlay_sweep.proofs.laws.Parity.{odd_of, odd_of_is}
+use Rattle.overlay_sweep.proofs.laws.Members.{IsArranged, is_arranged}
+use Rattle.overlay_sweep.proofs.laws.Sides.{apart_in}
 use Rattle.overlay_build.proofs.laws.Vertices.{tells, tells_sides_of, odd_of-same_in, odd_right, odd_left}
 use Rattle.overlay_build.proofs.laws.Uprights.{odd_of-filter, odd_of-differ, odd_of-nothing, by_any, odd_up, odd_down}
 use Rattle.overlay_base.proofs.laws.Lists.{Has}

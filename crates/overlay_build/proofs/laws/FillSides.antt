@@ -1,7 +1,7 @@
 -- What the sixteen fills say: a fill without a mask is kept where the windings' values differ.
 use Rattle.std.proofs.Common.{◌≡◌, refl, ap₂, ◌∙◌, ℕ, ◌+◌, ◌*◌, Bool, true, false}
 use Rattle.overlay_base.specs.Rules.{differ, bit, top_value, bottom_value, keeps_fill}
-use Rattle.overlay_build.specs.Fill.{is_inside, flag_value, fill_byte}
+use Rattle.overlay_sweep.specs.Fill.{is_inside, flag_value, fill_byte}
 use Rattle.overlay_build.specs.Values.{value_at, tells_apart}
 use Rattle.overlay_build.specs.Laws.{FillsTellSides}
 

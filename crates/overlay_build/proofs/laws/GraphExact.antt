@@ -7,16 +7,17 @@ use Rattle.overlay_base.specs.Points.{Point, point_eq}
 use Rattle.overlay_base.specs.Segments.{WholeSegment, is_map, are_polygons}
 use Rattle.overlay_base.specs.Planar.{is_planar}
 use Rattle.overlay_base.specs.Balance.{IsBalanced}
-use Rattle.overlay_build.specs.ColumnWindings.{IsSameAlong, side_bottom, side_top}
-use Rattle.overlay_build.specs.ChainWindings.{bottom, top}
+use Rattle.overlay_sweep.specs.ColumnWindings.{IsSameAlong, side_bottom, side_top}
+use Rattle.overlay_sweep.specs.ChainWindings.{bottom, top}
 use Rattle.overlay_base.specs.declared.overlay_core.fill_rule.FillRule.{FillRule}
-use Rattle.overlay_build.specs.Fill.{fill_byte}
+use Rattle.overlay_sweep.specs.Fill.{fill_byte}
 use Rattle.overlay_base.specs.Rules.{keeps_fill}
-use Rattle.overlay_build.specs.Sweep.{fill_of}
+use Rattle.overlay_sweep.specs.Sweep.{fill_of}
 use Rattle.overlay_build.specs.Graph.{filled, graph_of, graph_by, has_even_nodes, is_valid_graph}
 use Rattle.overlay_build.specs.Sides.{has_sides_apart, with_sides, overlay_graph, IsBalancedOverlay}
-use Rattle.overlay_build.specs.Laws.{ChainsAreColumns, NodesAreEven, GraphsAreValid, GraphsAreExact}
-use Rattle.overlay_build.proofs.laws.Tops.{chains_are_columns}
+use Rattle.overlay_sweep.specs.Laws.{ChainsAreColumns}
+use Rattle.overlay_build.specs.Laws.{NodesAreEven, GraphsAreValid, GraphsAreExact}
+use Rattle.overlay_sweep.proofs.laws.Tops.{chains_are_columns}
 use Rattle.overlay_build.proofs.laws.EvenNodes.{even_sides}
 use Rattle.overlay_build.proofs.laws.FillSides.{fills_tell_sides}
 use Rattle.overlay_build.proofs.laws.GraphLaws.{kept_degree, has_even_nodes-kept, graph_by-is}

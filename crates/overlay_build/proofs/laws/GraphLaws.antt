@@ -8,9 +8,10 @@ use Rattle.std.proofs.lemmas.Bool.{lt-ltb, eq-eqb}
 use Rattle.overlay_base.specs.Points.{Point, Pair, point_eq}
 use Rattle.overlay_base.specs.Segments.{WholeSegment}
 use Rattle.overlay_base.specs.declared.overlay_core.fill_rule.FillRule.{FillRule}
-use Rattle.overlay_build.specs.Sweep.{fill_of}
+use Rattle.overlay_sweep.specs.Sweep.{fill_of}
 use Rattle.overlay_build.specs.Graph.{Filled, Link, Node, Graph, filled, node_points, indexes_where, links_at, nodes_of, node_number, graph_of, graph_by, has_even_nodes}
-use Rattle.overlay_build.specs.Laws.{without_nodes, FilterGivesLinks}
+use Rattle.overlay_build.specs.Graph.{without_nodes}
+use Rattle.overlay_build.specs.Laws.{FilterGivesLinks}
 use Rattle.overlay_base.proofs.laws.Pairs.{has_point}
 use Rattle.overlay_build.proofs.laws.GraphNodes.{has_start, has_end, node_number-of, node_number-is}
 use Rattle.overlay_build.proofs.laws.Indexes.{has_number, RisesFrom, indexes_where-rises, indexes_where-exactly, length-indexes_where}

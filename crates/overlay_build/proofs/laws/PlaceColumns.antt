@@ -6,10 +6,10 @@ use Rattle.overlay_base.specs.Points.{Pair}
 use Rattle.overlay_base.specs.Below.{width, scaled_height}
 use Rattle.overlay_base.proofs.laws.Polynomials.{as_D, diffs, D-eq, mul-le_left, mul-lt_left, mul-nonneg, cancel-lt}
 use Rattle.overlay_base.specs.Places.{RationalPoint, spans, height_at}
-use Rattle.overlay_build.specs.ColumnWindings.{spans as column_spans}
-use Rattle.overlay_build.proofs.laws.ColumnLines.{le-test, le-test_false, lt-test, lt-test_false}
-use Rattle.overlay_build.proofs.laws.Heights.{gap, slope}
-use Rattle.overlay_build.proofs.laws.ColumnOrder.{gap_step}
+use Rattle.overlay_sweep.specs.ColumnWindings.{spans as column_spans}
+use Rattle.overlay_sweep.proofs.laws.ColumnLines.{le-test, le-test_false, lt-test, lt-test_false}
+use Rattle.overlay_sweep.proofs.laws.Heights.{gap, slope}
+use Rattle.overlay_sweep.proofs.laws.ColumnOrder.{gap_step}
 
 -- ---- the column
 

@@ -19,25 +19,26 @@ use Rattle.overlay_base.specs.declared.overlay_core.overlay_rule.OverlayRule.{Ov
 use Rattle.overlay_base.specs.declared.overlay_core.overlay_rule.OverlayRule.TheVariants.{Subject, Clip, Intersect, Union, Difference, InverseDifference, Xor}
 use Rattle.overlay_base.proofs.laws.Lists.{Has, Has-filter_out, filter-map, list_all-from_Has}
 use Rattle.overlay_base.specs.Places.{RationalPoint, runs_below, lies_below, winding_below}
-use Rattle.overlay_build.specs.ColumnWindings.{IsSameAlong, spans as column_spans, is_below_in_column, column_bottom, column_top}
-use Rattle.overlay_build.specs.Fill.{is_inside, flag_value}
+use Rattle.overlay_sweep.specs.ColumnWindings.{IsSameAlong, spans as column_spans, is_below_in_column, column_bottom, column_top}
+use Rattle.overlay_sweep.specs.Fill.{is_inside, flag_value}
 use Rattle.overlay_build.specs.Graph.{Filled, Link, graph_of, graph_by}
 use Rattle.overlay_build.specs.Values.{value_at, tells_apart}
 use Rattle.overlay_build.specs.Sides.{has_sides_apart, with_sides, overlay_graph, IsBalancedOverlay}
-use Rattle.overlay_build.proofs.laws.WeightSums.{when, sum_of, sum_of-filter, sum_of-same}
-use Rattle.overlay_build.proofs.laws.ColumnLines.{column_weights, column_weights_are, filter_weights_are, spans_parts, lt-test, lt-tested}
-use Rattle.overlay_build.proofs.laws.Parity.{odd_of, odd_of_is}
-use Rattle.overlay_build.proofs.laws.Chains.{is_pairwise, odd_along_chain}
-use Rattle.overlay_build.proofs.laws.Heights.{gap, is_below_is}
-use Rattle.overlay_build.proofs.laws.ColumnOrder.{low_parts, one_is_below, below_itself, is_below-trans}
-use Rattle.overlay_build.proofs.laws.AlongSegments.{is_same_along}
-use Rattle.overlay_build.proofs.laws.Members.{IsArranged, is_arranged}
-use Rattle.overlay_build.proofs.laws.Sides.{sum_of-same_in, apart_in}
+use Rattle.overlay_sweep.proofs.laws.WeightSums.{when, sum_of, sum_of-filter, sum_of-same}
+use Rattle.overlay_sweep.proofs.laws.ColumnLines.{column_weights, column_weights_are, filter_weights_are, spans_parts, lt-test, lt-tested}
+use Rattle.overlay_sweep.proofs.laws.Parity.{odd_of, odd_of_is}
+use Rattle.overlay_sweep.proofs.laws.Chains.{is_pairwise, odd_along_chain}
+use Rattle.overlay_sweep.proofs.laws.Heights.{gap, is_below_is}
+use Rattle.overlay_sweep.proofs.laws.ColumnOrder.{low_parts, one_is_below, below_itself, is_below-trans}
+use Rattle.overlay_sweep.proofs.laws.AlongSegments.{is_same_along}
+use Rattle.overlay_sweep.proofs.laws.Members.{IsArranged, is_arranged}
+use Rattle.overlay_sweep.proofs.laws.Sides.{sum_of-same_in, apart_in}
 use Rattle.overlay_build.proofs.laws.Vertices.{tells, tells_sides_of, odd_of-same_in, pairwise_in}
 use Rattle.overlay_build.proofs.laws.Uprights.{odd_of-filter}
 use Rattle.overlay_build.specs.Regions.{encloses, EnclosesRegion}
-use Rattle.overlay_build.specs.Laws.{GraphsEncloseRegions, ChainsAreColumns}
-use Rattle.overlay_build.proofs.laws.Tops.{chains_are_columns}
+use Rattle.overlay_sweep.specs.Laws.{ChainsAreColumns}
+use Rattle.overlay_build.specs.Laws.{GraphsEncloseRegions}
+use Rattle.overlay_sweep.proofs.laws.Tops.{chains_are_columns}
 use Rattle.overlay_build.proofs.laws.GraphExact.{HasColumns, graphs_are_exact, nodes_are_even}
 use Rattle.overlay_build.proofs.laws.PlaceColumns.{IsInColumn, column_of, spans_alike, lower_in_column}
 

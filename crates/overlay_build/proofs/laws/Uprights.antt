@@ -10,18 +10,18 @@ use Rattle.overlay_base.specs.Windings.{Winding, add, empty}
 use Rattle.overlay_base.specs.Segments.{WholeSegment, pairs, total_weight}
 use Rattle.overlay_base.specs.Balance.{IsBalanced}
 use Rattle.overlay_base.specs.Below.{width}
-use Rattle.overlay_build.specs.ColumnWindings.{weights_up_to, right_winding, left_winding, side_bottom, side_top}
+use Rattle.overlay_sweep.specs.ColumnWindings.{weights_up_to, right_winding, left_winding, side_bottom, side_top}
 use Rattle.overlay_base.specs.Rules.{differ}
 use Rattle.overlay_base.proofs.laws.Polynomials.{mul-pos, mul-neg, cancel-pos, cancel-neg}
 use Rattle.overlay_base.proofs.laws.Points.{same_point, same_pair, same_by_eq, point_eq_same, pair_eq_same, from_not_same_pair, inside_from_order}
 use Rattle.overlay_base.proofs.laws.Apart.{do_cross_from}
-use Rattle.overlay_build.proofs.laws.WeightSums.{when}
-use Rattle.overlay_build.proofs.laws.ColumnLines.{le-test, le-test_false, lt-test, lt-test_false, le-tested, lt-tested, spans_parts, point_lt-cases, is_under, is_up_to, lies_under, lies_up_to, leaves_upward, turn_over_start, turn_over_end, column_weights, filter_weights_are, across_under, across_up_to}
-use Rattle.overlay_build.proofs.laws.Parity.{odd_of, differ_false, differ_same}
-use Rattle.overlay_build.proofs.laws.ColumnOrder.{IsApart}
-use Rattle.overlay_build.proofs.laws.AlongSegments.{turn_upright, turn_higher}
-use Rattle.overlay_build.proofs.laws.Members.{IsArranged, sorted_all, sorted_tail, differ_when_less}
-use Rattle.overlay_build.proofs.laws.Sides.{sum_of-zero_in, column_weights-same, apart_in, itself_rises, rises_is}
+use Rattle.overlay_sweep.proofs.laws.WeightSums.{when}
+use Rattle.overlay_sweep.proofs.laws.ColumnLines.{le-test, le-test_false, lt-test, lt-test_false, le-tested, lt-tested, spans_parts, point_lt-cases, is_under, is_up_to, lies_under, lies_up_to, leaves_upward, turn_over_start, turn_over_end, column_weights, filter_weights_are, across_under, across_up_to}
+use Rattle.overlay_sweep.proofs.laws.Parity.{odd_of, differ_false, differ_same}
+use Rattle.overlay_sweep.proofs.laws.ColumnOrder.{IsApart}
+use Rattle.overlay_sweep.proofs.laws.AlongSegments.{turn_upright, turn_higher}
+use Rattle.overlay_sweep.proofs.laws.Members.{IsArranged, sorted_all, sorted_tail, differ_when_less}
+use Rattle.overlay_sweep.proofs.laws.Sides.{sum_of-zero_in, column_weights-same, apart_in, itself_rises, rises_is}
 use Rattle.overlay_build.proofs.laws.Vertices.{tells, tells_sides_of, odd_of-same_in}
 use Rattle.overlay_base.proofs.laws.Lists.{Has, list_all-at}
 

@@ -9,20 +9,20 @@ use Rattle.overlay_base.specs.Windings.{Winding}
 use Rattle.overlay_base.specs.Segments.{WholeSegment, pairs}
 use Rattle.overlay_base.specs.Balance.{IsBalanced}
 use Rattle.overlay_base.specs.Below.{width}
-use Rattle.overlay_build.specs.ColumnWindings.{spans, is_below_in_column, column_bottom, column_top, weights_up_to, side_bottom, side_top}
+use Rattle.overlay_sweep.specs.ColumnWindings.{spans, is_below_in_column, column_bottom, column_top, weights_up_to, side_bottom, side_top}
 use Rattle.overlay_base.specs.Rules.{differ}
 use Rattle.overlay_base.proofs.laws.Polynomials.{mul-pos, mul-neg}
 use Rattle.overlay_base.proofs.laws.Points.{same_point, same_by_eq, point_eq_same, at_a, at_b, inside_from_order, turn_same_outer, turn_same_last}
-use Rattle.overlay_build.proofs.laws.WeightSums.{when, sum_of, sum_of-add, sum_of-filter}
-use Rattle.overlay_build.proofs.laws.ColumnLines.{le-test, le-test_false, lt-test, lt-test_false, spans_parts, is_under, is_up_to, column_weights, column_weights_are}
-use Rattle.overlay_build.proofs.laws.Parity.{odd_of}
-use Rattle.overlay_build.proofs.laws.Chains.{is_pairwise, odd_along_chain}
-use Rattle.overlay_build.proofs.laws.Heights.{gap, gap_back, gap_at_other_end, is_below_is}
-use Rattle.overlay_build.proofs.laws.ColumnOrder.{by_sign, crosses_in_column, low-right, low-second, one_is_below, below_itself, is_below-trans}
-use Rattle.overlay_build.proofs.laws.AlongSegments.{is_same_along, neg_of_neg, neg_of_pos}
-use Rattle.overlay_build.proofs.laws.Members.{IsArranged, sorted_all, sorted_tail, differ_when_less}
-use Rattle.overlay_build.proofs.laws.Supports.{is_beneath, below_is_beneath, not_beneath}
-use Rattle.overlay_build.proofs.laws.Sides.{sum_of-same_in, apart_in}
+use Rattle.overlay_sweep.proofs.laws.WeightSums.{when, sum_of, sum_of-add, sum_of-filter}
+use Rattle.overlay_sweep.proofs.laws.ColumnLines.{le-test, le-test_false, lt-test, lt-test_false, spans_parts, is_under, is_up_to, column_weights, column_weights_are}
+use Rattle.overlay_sweep.proofs.laws.Parity.{odd_of}
+use Rattle.overlay_sweep.proofs.laws.Chains.{is_pairwise, odd_along_chain}
+use Rattle.overlay_sweep.proofs.laws.Heights.{gap, gap_back, gap_at_other_end, is_below_is}
+use Rattle.overlay_sweep.proofs.laws.ColumnOrder.{by_sign, crosses_in_column, low-right, low-second, one_is_below, below_itself, is_below-trans}
+use Rattle.overlay_sweep.proofs.laws.AlongSegments.{is_same_along, neg_of_neg, neg_of_pos}
+use Rattle.overlay_sweep.proofs.laws.Members.{IsArranged, sorted_all, sorted_tail, differ_when_less}
+use Rattle.overlay_sweep.proofs.laws.Supports.{is_beneath, below_is_beneath, not_beneath}
+use Rattle.overlay_sweep.proofs.laws.Sides.{sum_of-same_in, apart_in}
 use Rattle.overlay_base.proofs.laws.Lists.{Has, Has-filter_out, list_all-at, list_all-from_Has}
 
 -- whether F tells two windings apart

@@ -7,7 +7,7 @@ use Rattle.std.proofs.lemmas.List.{length-map}
 use Rattle.std.proofs.lemmas.List.Folds.{list_all-map}
 use Rattle.std.proofs.lemmas.List.Sums.{list_all-from_AllPass, sum_by_push}
 use Rattle.overlay_base.specs.Points.{Point, Pair, point_eq}
-use Rattle.overlay_build.specs.Fill.{flag_value}
+use Rattle.overlay_sweep.specs.Fill.{flag_value}
 use Rattle.overlay_base.specs.Rules.{differ}
 use Rattle.overlay_build.specs.Graph.{Filled, Link, Node, node_points, node_number, graph_of, has_even_nodes}
 use Rattle.overlay_build.specs.UnusedLinks.{touches, unused_degree, AreCounted}

@@ -6,7 +6,7 @@ ghost use Rattle.overlay_base.specs.Planar.{is_arranged};
 ghost use Rattle.overlay_base.specs.Balance.{IsBalanced};
 ghost use Rattle.overlay_base.specs.SegmentOf.{segments_of, data_segments_of};
 ghost use Rattle.overlay_base.specs.declared.segm.fault.Fault.TheVariants.{CountOutOfRange};
-ghost use Rattle.overlay_build.specs.ChainWindings.{tops_leave_range};
+ghost use Rattle.overlay_sweep.specs.ChainWindings.{tops_leave_range};
 ghost use Rattle.overlay_build.specs.Graph.{graph_by, data_by, has_even_nodes};
 ghost use Rattle.overlay_build.specs.Sides.{IsBalancedOverlay};
 ghost use Rattle.overlay_build.specs.GraphOf.{HoldGraph, graph_with};
@@ -18,7 +18,6 @@ use crate::build::graph::OverlayGraph;
 use crate::build::graph_node::{GraphNode, OverlayNode};
 use crate::build::kept_links::collect_links;
 use crate::build::nodes::connect_links;
-use crate::build::sweep::SweepRunner;
 use overlay_base::geom::end::End;
 use overlay_base::num::OverlayInt;
 use overlay_base::overlay_core::fill_rule::FillRule;
@@ -30,6 +29,7 @@ use overlay_base::segm::fault::Fault;
 use overlay_base::segm::segment::Segment;
 use overlay_base::segm::segment_fill::SegmentFill;
 use overlay_base::segm::winding::WindingCount;
+use overlay_sweep::build::sweep::SweepRunner;
 use std::alloc::Global;
 
 /// Builds graphs of arrangements, one after another, and keeps their buffers. Nodes and links are those of the last

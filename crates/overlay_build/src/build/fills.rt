@@ -3,11 +3,9 @@ ghost use Rattle.std.specs.Prelude.{◌≡◌, IsTrue, IsFalse, OnOk, IfErr};
 ghost use Rattle.overlay_base.specs.Planar.{is_arranged};
 ghost use Rattle.overlay_base.specs.SegmentOf.{segments_of};
 ghost use Rattle.overlay_base.specs.declared.segm.fault.Fault.TheVariants.{CountOutOfRange};
-ghost use Rattle.overlay_build.specs.ChainWindings.{tops_leave_range};
+ghost use Rattle.overlay_sweep.specs.ChainWindings.{tops_leave_range};
 ghost use Rattle.overlay_build.specs.Graph.{fills_of};
 
-use crate::build::fill_handler::StoreFillsHandler;
-use crate::build::sweep::SweepRunner;
 use overlay_base::num::OverlayInt;
 use overlay_base::overlay_core::fill_rule::FillRule;
 use overlay_base::overlay_core::solver::Solver;
@@ -15,6 +13,8 @@ use overlay_base::segm::boolean::ShapeCountBoolean;
 use overlay_base::segm::fault::Fault;
 use overlay_base::segm::segment::Segment;
 use overlay_base::segm::segment_fill::{NONE, SegmentFill};
+use overlay_sweep::build::fill_handler::StoreFillsHandler;
+use overlay_sweep::build::sweep::SweepRunner;
 
 /// Finds the fills of the segments, in their order. After a refusal the list may hold anything.
 pub fn find_fills<I: OverlayInt, D: Copy>(

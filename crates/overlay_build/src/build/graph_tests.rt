@@ -6,7 +6,7 @@ ghost use Rattle.overlay_base.specs.SegmentOf.{segments_of};
 use crate::build::builder::GraphBuilder;
 use crate::build::graph_node::OverlayNode;
 use crate::build::link_filter::filter_by_overlay_into;
-use crate::build::tests::{Line, STRATEGIES, greatest_counts, line, two_squares};
+use crate::build::worked_lines::{Line, STRATEGIES, greatest_counts, line, two_squares};
 use overlay_base::overlay_core::extract::VisitState;
 use overlay_base::overlay_core::fill_rule::FillRule;
 use overlay_base::overlay_core::overlay_rule::OverlayRule;

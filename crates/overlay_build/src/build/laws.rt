@@ -1,12 +1,7 @@
-// The laws of windings and graphs. Each function has an empty body, and its contract is proved for all whole numbers.
-ghost use Rattle.overlay_build.specs.Laws.{ChainsAreColumns, FillsTellSides, NodesAreEven, GraphsAreValid, GraphsAreExact, GraphsEncloseRegions, FilterGivesLinks};
+// The laws of fills and graphs. Each function has an empty body, and its contract is proved for all whole numbers.
+ghost use Rattle.overlay_build.specs.Laws.{FillsTellSides, NodesAreEven, GraphsAreValid, GraphsAreExact, GraphsEncloseRegions, FilterGivesLinks};
 
-/// With balanced counts the windings that a sweep finds by its chains are those of the columns of the plane: the sums
-/// of the weights below, in every column that a segment spans, and beside a vertical segment those to its right and
-/// left.
-pub fn winding_laws()
-    ensures { ChainsAreColumns }
-{}
+pub use overlay_sweep::build::laws::winding_laws;
 
 /// A fill without a mask is kept by a truth function where it tells the windings of the two sides apart.
 pub fn fill_laws()

@@ -2,13 +2,13 @@ use Rattle.std.proofs.Common.{◌≡◌, ◌∙◌, ap, sym, refl, length, arith
 use Rattle.std.proofs.lemmas.List.{length-map}
 use Rattle.overlay_base.specs.EdgeData.{without_data}
 use Rattle.overlay_base.specs.SegmentOf.{segments_of, data_segment_of, data_segments_of}
-use Rattle.overlay_build.specs.ChainWindings.{tops_leave_range}
+use Rattle.overlay_sweep.specs.ChainWindings.{tops_leave_range}
 use Rattle.overlay_build.specs.Graph.{fills_of}
-use Rattle.overlay_build.specs.Sweep.{visits, visits_leave_range}
+use Rattle.overlay_sweep.specs.Sweep.{visits, visits_leave_range}
 use Rattle.overlay_base.proofs.laws.Views.{segments_of-bare}
 use Rattle.overlay_build.proofs.laws.StoredFills.{visits_all_seen, handled_writes, handled_keeps, tops_of_visits, fills_of_visits}
-use Rattle.overlay_build.proofs.laws.Handling.{refused_as}
-use Rattle.overlay_build.specs.declared.build.fill_handler.StoreFillsHandler.{StoreFillsHandler}
+use Rattle.overlay_sweep.proofs.laws.Handling.{refused_as}
+use Rattle.overlay_sweep.specs.declared.build.fill_handler.StoreFillsHandler.{StoreFillsHandler}
 use Rattle.overlay_build.proofs.build.fills.find_fills.Goals as goal
 
 pub returns-clause-fills : goal.returns-clause-fills

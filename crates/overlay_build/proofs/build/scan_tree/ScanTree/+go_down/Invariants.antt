@@ -1,5 +1,0 @@
-use Rattle.overlay_build.specs.TreeShapes.{height_at}
-use Rattle.overlay_build.proofs.build.scan_tree.ScanTree.+go_down.Given as goal
-
-abbrev pub decreases-go_down : goal.decreases-go_down
-decreases-go_down g l = height_at l.self.now.shape.nodes.items l.at

@@ -1,5 +1,0 @@
-use Rattle.overlay_build.specs.TreeShapes.{height_at}
-use Rattle.overlay_build.proofs.build.tree_shape.TreeShape.+remove_first.Given as goal
-
-abbrev pub decreases-remove_first : goal.decreases-remove_first
-decreases-remove_first l = height_at l.self.now.nodes.items l.at

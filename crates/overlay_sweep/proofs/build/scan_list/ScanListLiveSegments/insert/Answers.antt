@@ -1,0 +1,11 @@
+use Rattle.std.proofs.Common.{◌∙◌, ap}
+use Rattle.std.specs.Prelude.{not}
+use Rattle.overlay_sweep.specs.EntryOf.{entry_of}
+use Rattle.overlay_sweep.proofs.laws.LiveSums.{HoldSameFrom-pushed, begins_pushed}
+use Rattle.overlay_sweep.proofs.build.scan_list.ScanListLiveSegments.insert.Goals as goal
+
+pub returns-clause-sums : goal.returns-clause-sums
+returns-clause-sums g c = HoldSameFrom-pushed entry_of _ _ _ _ _ (c.is_err.ensures.negation ∙ ap not c.if-is_err.false) c.push.ensures.items
+
+pub returns-clause-time : goal.returns-clause-time
+returns-clause-time g c = λ y h. begins_pushed entry_of (g.I.OverlayInt.whole c.args.x) y _ _ _ _ (c.is_err.ensures.negation ∙ ap not c.if-is_err.false) c.push.ensures.items c.requires.start h c.requires.time

@@ -1,0 +1,65 @@
+use Rattle.std.proofs.Common.{◌∙◌, arith, refl}
+use Rattle.std.proofs.lemmas.List.{length-map}
+use Rattle.overlay_sweep.specs.EntryOf.{entry_of}
+use Rattle.overlay_sweep.proofs.laws.TreeWays.{from_not_false, from_not_true}
+use Rattle.overlay_sweep.proofs.laws.ScanGrowth.{still_begins, still_grows, at_last, some_kept, high_within, asked_more, asked_last, asked_half}
+use Rattle.overlay_sweep.proofs.build.scan_tree.ScanTree.settle.Goals as goal
+
+pub loop-x-init : goal.loop-x-init
+loop-x-init g c = record {
+  entries = refl;
+  kept = omega arith;
+  grows = λ m. still_begins _ _ _ _ _ _ m;
+  compared = λ d h. omega arith;
+}
+
+pub go_down-descent-requires-clause-down : goal.go_down-descent-requires-clause-down
+go_down-descent-requires-clause-down g c = (c.loop-x.invariant.grows c.requires.growing).now.down
+
+pub go_down-descent-requires-clause-same_length : goal.go_down-descent-requires-clause-same_length
+go_down-descent-requires-clause-same_length g c = rw c.loop-x.invariant.entries ((c.loop-x.invariant.grows c.requires.growing).now.same_length ∙ length-map c.args.self.now.entries.items entry_of)
+
+pub overflow_sub-self : goal.overflow_sub-self
+overflow_sub-self g c =
+    let n = (c.loop-x.invariant.grows c.requires.growing).now in
+    rw c.go_down-descent.ensures.kept
+    (some_kept _ _ _ _ _ _ n _ _ (rw c.loop-x.invariant.entries at (c.go_down-descent.ensures.stopped (from_not_false _ c.if-not-descent.false) n.down)))
+
+pub returns-then-not-descent-clause-grown : goal.returns-then-not-descent-clause-grown
+returns-then-not-descent-clause-grown g c = λ m.
+    let n = c.loop-x.invariant.grows m in
+    rw c.go_down-descent.ensures.kept
+    (at_last _ _ _ _ _ _ _ _ _ _ _ n (rw c.loop-x.invariant.entries at (c.go_down-descent.ensures.placed (from_not_true _ c.if-not-descent.true) n.now.down)))
+
+pub returns-then-not-descent-clause-compared : goal.returns-then-not-descent-clause-compared
+returns-then-not-descent-clause-compared g c = λ d h.
+    let n = (c.loop-x.invariant.grows c.requires.growing).now in
+    rw c.go_down-descent.ensures.kept
+    (asked_last c.loop-x.self.compared c.go_down-descent.new.self.compared n.down.sound.high d c.args.self.now.kept c.loop-x.self.kept (c.loop-x.invariant.compared d h) (c.go_down-descent.ensures.compared n.down) (high_within _ _ _ _ _ _ n d c.args.self.now.kept c.loop-x.invariant.kept h))
+
+pub returns-then-not-descent-clause-reached : goal.returns-then-not-descent-clause-reached
+returns-then-not-descent-clause-reached g c =
+    let n = (c.loop-x.invariant.grows c.requires.growing).now in
+    let p = c.go_down-descent.ensures.placed (from_not_true _ c.if-not-descent.true) n.down in
+    asked_half _ _ _ _ _ _ _ p.tree p.at_most n.down.sound.low (c.go_down-descent.ensures.reached (from_not_true _ c.if-not-descent.true) n.down)
+
+pub loop-x-smaller : goal.loop-x-smaller
+loop-x-smaller g c =
+    let n = (c.loop-x.invariant.grows c.requires.growing).now in
+    let k = some_kept _ _ _ _ _ _ n _ _ (rw c.loop-x.invariant.entries at (c.go_down-descent.ensures.stopped (from_not_false _ c.if-not-descent.false) n.down)) in
+    omega (arith, k, c.go_down-descent.ensures.kept)
+
+pub loop-x-preserved : goal.loop-x-preserved
+loop-x-preserved g c = record {
+  entries = c.go_down-descent.ensures.entries ∙ c.loop-x.invariant.entries;
+  kept = omega (arith, c.go_down-descent.ensures.kept, c.loop-x.invariant.kept);
+  grows = λ m.
+      let n = c.loop-x.invariant.grows m in
+      rw c.go_down-descent.ensures.kept
+      (still_grows _ _ _ _ _ _ _ _ _ n (rw c.loop-x.invariant.entries at (c.go_down-descent.ensures.stopped (from_not_false _ c.if-not-descent.false) n.now.down)));
+  compared = λ d h.
+      let n = (c.loop-x.invariant.grows c.requires.growing).now in
+      let k = some_kept _ _ _ _ _ _ n _ _ (rw c.loop-x.invariant.entries at (c.go_down-descent.ensures.stopped (from_not_false _ c.if-not-descent.false) n.down)) in
+      rw c.go_down-descent.ensures.kept
+      (asked_more c.loop-x.self.compared c.go_down-descent.new.self.compared n.down.sound.high d c.args.self.now.kept c.loop-x.self.kept (c.loop-x.invariant.compared d h) (c.go_down-descent.ensures.compared n.down) (high_within _ _ _ _ _ _ n d c.args.self.now.kept c.loop-x.invariant.kept h) k c.loop-x.invariant.kept);
+}

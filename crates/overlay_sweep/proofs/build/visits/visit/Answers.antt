@@ -1,0 +1,43 @@
+use Rattle.std.proofs.Common.{◌≡◌, ◌∙◌, ap, sym, refl, subst, arith}
+use Rattle.std.specs.Prelude.{◌≤ℤ◌}
+use Rattle.std.proofs.lemmas.Int.{ints}
+use Rattle.overlay_base.specs.Points.{Pair}
+use Rattle.overlay_base.specs.Segments.{WholeSegment}
+use Rattle.overlay_base.specs.Windings.{add, weight}
+use Rattle.overlay_base.specs.PairOf.{pair_of}
+use Rattle.overlay_base.specs.VSegmentOf.{v_pair_of}
+use Rattle.overlay_base.specs.SegmentOf.{ends_of, winding_of}
+use Rattle.overlay_sweep.proofs.laws.LiveSums.{HoldSameFrom-renamed, HoldSameFrom-vertical, vertical_same}
+use Rattle.overlay_sweep.proofs.build.visits.visit.Goals as goal
+use Rattle.overlay_sweep.proofs.build.visits.visit.Goals.{then-is_not_vertical+in_ok-insert, else-is_not_vertical}
+
+pub returns-clause-live : goal.returns-clause-live
+returns-clause-live g c =
+    let own : pair_of g.I.OverlayInt.whole c.x_segment-ends.result ≡ ends_of c.args.segment.now = ap (pair_of g.I.OverlayInt.whole) c.x_segment-ends.ensures in
+    let entry : WholeSegment = record { pair = ends_of c.args.segment.now; count = add (weight (g.C.WindingCount.winding c.args.bottom)) (weight (winding_of c.args.segment.now)) } in
+    elim c.if-is_not_vertical.branch [
+      | then-is_not_vertical+in_ok-insert w ↦
+          let pair : v_pair_of g.I.OverlayInt.whole w.from.result ≡ ends_of c.args.segment.now = ap (v_pair_of g.I.OverlayInt.whole) w.from.ensures ∙ own in
+          rw w.live-is (HoldSameFrom-renamed _ _ _ _ _ _ _ (ap (λ (s : Pair). s.a.x) own) refl (λ i. record { pair = pair i; count = (c.in_ok-top.ensures.sum ∙ ap (λ v. add (weight (g.C.WindingCount.winding c.args.bottom)) (weight (g.C.WindingCount.winding v))) c.count.ensures) i }) w.in_ok-insert.ensures.sums)
+      | else-is_not_vertical w ↦
+          let upright = vertical_same (pair_of g.I.OverlayInt.whole c.x_segment-ends.result) (sym c.is_not_vertical.ensures ∙ w.if-is_not_vertical.false) in
+          rw w.live-is (HoldSameFrom-vertical (ends_of c.args.segment.now).a.x entry _ (subst (λ (s : Pair). s.a.x ≡ s.b.x) own upright))
+    ]
+
+pub returns-clause-time : goal.returns-clause-time
+returns-clause-time g c =
+    let own : pair_of g.I.OverlayInt.whole c.x_segment-ends.result ≡ ends_of c.args.segment.now = ap (pair_of g.I.OverlayInt.whole) c.x_segment-ends.ensures in
+    elim c.if-is_not_vertical.branch [
+      | then-is_not_vertical+in_ok-insert w ↦ λ y h. rw w.live-is (w.in_ok-insert.ensures.time y (subst (λ (s : Pair). s.a.x ≤ℤ y) (sym own) h))
+      | else-is_not_vertical w ↦ λ y h. rw w.live-is (c.requires.time y h)
+    ]
+
+pub returns-clause-asked : goal.returns-clause-asked
+returns-clause-asked g c =
+    let own : pair_of g.I.OverlayInt.whole c.x_segment-ends.result ≡ ends_of c.args.segment.now = ap (pair_of g.I.OverlayInt.whole) c.x_segment-ends.ensures in
+    elim c.if-is_not_vertical.branch [
+      | then-is_not_vertical+in_ok-insert w ↦ λ h. rw w.live-is (omega (arith, w.compared-is, w.saturating_add.ensures, w.compared.ensures))
+      | else-is_not_vertical w ↦ λ h.
+          let upright = vertical_same (pair_of g.I.OverlayInt.whole c.x_segment-ends.result) (sym c.is_not_vertical.ensures ∙ w.if-is_not_vertical.false) in
+          absurd (omega (arith, ints, h, subst (λ (s : Pair). s.a.x ≡ s.b.x) own upright))
+    ]

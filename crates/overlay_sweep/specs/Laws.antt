@@ -1,0 +1,16 @@
+-- Laws over the definitions: statements that contracts name.
+use Rattle.std.specs.Prelude.{◌≡◌, IsTrue, List, All}
+use Rattle.overlay_base.specs.Segments.{WholeSegment, is_map}
+use Rattle.overlay_base.specs.Planar.{is_planar}
+use Rattle.overlay_base.specs.Balance.{IsBalanced}
+use Rattle.overlay_sweep.specs.ColumnWindings.{IsSameAlong, side_bottom, side_top}
+use Rattle.overlay_sweep.specs.ChainWindings.{bottom, top}
+
+-- The windings that a sweep finds are those of the columns: below and above each segment the same all along it, and beside a vertical one those to its right and left.
+abbrev pub HaveColumnWindings : List WholeSegment → Type 0
+HaveColumnWindings segments =
+    All (λ s. IsSameAlong segments s × (bottom segments s ≡ side_bottom segments s) × (top segments s ≡ side_top segments s)) segments
+
+-- with balance the chain's windings are those of the columns
+abbrev pub ChainsAreColumns : Type 0
+ChainsAreColumns = (segments : List WholeSegment) → IsTrue (is_map segments) → IsTrue (is_planar segments) → IsBalanced segments → HaveColumnWindings segments

@@ -1,0 +1,13 @@
+pub mod ColumnWindings
+pub mod ChainWindings
+pub mod Fill
+pub mod Sweep
+pub mod Live
+pub mod VisitOf
+pub mod EntryOf
+pub mod WayOf
+pub mod TreeShapes
+pub mod PlaceOf
+pub mod ScanTrees
+pub mod LevelRows
+pub mod Laws

@@ -1,0 +1,20 @@
+// The sweep line over an arrangement: it tells what lies on the two sides of each segment.
+
+pub mod boolean;
+mod entry;
+pub mod fill_handler;
+pub mod fill_strategy;
+pub mod laws;
+pub mod live_segments;
+mod node;
+mod place;
+pub mod scan_list;
+#[cfg(test)]
+mod scan_tests;
+pub mod scan_tree;
+pub mod sweep;
+#[cfg(test)]
+mod tests;
+mod tree_shape;
+mod visits;
+mod way;

@@ -1,0 +1,245 @@
+// A balanced tree of the live segments. Upstream: `KeyExpTree` of `i_tree`.
+ghost use Rattle.std.specs.Prelude.{◌≡◌, ◌+◌, ◌/◌, ◌≤◌, ◌==◌, ◌&&◌, not};
+ghost use Rattle.overlay_base.specs.VSegmentOf.{v_pair_of};
+ghost use Rattle.overlay_sweep.specs.PlaceOf.{IsPlaceInRange, stands_before};
+ghost use Rattle.overlay_sweep.specs.TreeShapes.{none, height_at};
+
+use crate::build::entry::Entry;
+use crate::build::live_segments::LiveSegments;
+use crate::build::place::Place;
+use crate::build::tree_shape::{NONE, TreeShape};
+use overlay_base::geom::point::IntPoint;
+use overlay_base::geom::v_segment::VSegment;
+use overlay_base::num::OverlayInt;
+use overlay_base::segm::fault::Fault;
+use overlay_base::segm::winding::WindingCount;
+use std::alloc::Global;
+
+/// What came of a way down.
+#[derive(Clone, Copy)]
+struct Descent {
+    /// The top of the tree after it.
+    top: usize,
+    /// The last entry before the place.
+    last: usize,
+    /// Whether the way met an entry that has ended, and took it out.
+    is_stopped: bool,
+}
+
+impl Descent {
+    /// Whether the way has left the tree as it was: it took nothing out, and there was nothing to put in.
+    fn is_same(&self, new: usize) -> bool
+        ensures { result ≡ (not self.now.is_stopped && (new == none)) }
+    {
+        !self.is_stopped && new == NONE
+    }
+}
+
+/// The live segments from below, in a balanced tree. What has ended may stay in it until a way down meets it.
+#[derive(Drop)]
+pub struct ScanTree<C: WindingCount, I: OverlayInt> {
+    /// All entries since the last `clear`, those that were taken out of the tree too.
+    entries: Vec<Entry<C, I>>,
+    /// A node for each entry, at the same index.
+    shape: TreeShape,
+    root: usize,
+    /// How many entries are in the tree.
+    kept: usize,
+    compared: u128,
+}
+
+impl<C: WindingCount, I: OverlayInt> ScanTree<C, I> {
+    ghost use Rattle.std.specs.Prelude.{ℤ, ◌-◌, ◌^◌, ◌<◌, min, [], ◌∷◌, ◌++◌, true, false, length, IfOk, OnOk, IfErr};
+    ghost use Rattle.overlay_sweep.specs.EntryOf.{entries_of};
+    ghost use Rattle.overlay_sweep.specs.TreeShapes.{MayGoDown, IsStopped, IsPlaced};
+    ghost use Rattle.overlay_sweep.specs.ScanTrees.{segment_at, lasts_past, IsScanTree, IsGrowing, IsGrown, IsAskedWithin};
+
+    /// An empty tree, which takes no memory yet.
+    pub fn new(alloc: Global) -> ScanTree<C, I>
+        ensures entries { result.entries.items ≡ [] }
+        ensures time { (x : ℤ) → IsScanTree x (entries_of result.entries.items) result.shape.nodes.items result.root result.kept }
+        ensures kept { result.kept ≡ 0 }
+        ensures compared { result.compared ≡ 0 }
+    {
+        ScanTree {
+            entries: Vec::new(alloc),
+            shape: TreeShape::new(alloc),
+            root: NONE,
+            kept: 0,
+            compared: 0,
+        }
+    }
+
+    /// Goes down from a node to a place among the entries, and puts the tree of `new` there. Where it meets an entry
+    /// that does not end right of `x`, it takes that one out in place of this.
+    fn go_down(&mut self, at: usize, x: I, place: &Place<I>, new: usize, given: usize) -> Descent
+        requires down { MayGoDown self.old.shape.nodes.items at new }
+        requires same_length { length self.old.shape.nodes.items ≡ length self.old.entries.items }
+        requires place { IsPlaceInRange I.whole I.MIN_COORD I.MAX_COORD place.now }
+        ensures entries { self.new.entries ≡ self.old.entries }
+        ensures root { self.new.root ≡ self.old.root }
+        ensures kept { self.new.kept ≡ self.old.kept }
+        ensures compared { (m : MayGoDown self.old.shape.nodes.items at new) → self.new.compared ≤ self.old.compared + m.sound.high }
+        ensures reached { result.is_stopped ≡ false → (m : MayGoDown self.old.shape.nodes.items at new) → min (self.old.compared + m.sound.high / 2) (2 ^ 128 - 1) ≤ self.new.compared }
+        ensures same { result.is_stopped ≡ false → new ≡ none → (self.new.shape.nodes.items ≡ self.old.shape.nodes.items) × (result.top ≡ at) }
+        ensures stopped { result.is_stopped ≡ true → (m : MayGoDown self.old.shape.nodes.items at new) → IsStopped (lasts_past (I.whole x) (entries_of self.old.entries.items)) self.old.shape.nodes.items self.new.shape.nodes.items result.top m.sound.order m.sound.high }
+        ensures placed { result.is_stopped ≡ false → (m : MayGoDown self.old.shape.nodes.items at new) → IsPlaced (lasts_past (I.whole x) (entries_of self.old.entries.items)) (λ i. stands_before I.whole place.now (segment_at (entries_of self.old.entries.items) i).pair) self.old.shape.nodes.items self.new.shape.nodes.items given result.last result.top m.sound.order m.placed m.sound.high }
+    {
+        if at == NONE {
+            return Descent {
+                top: new,
+                last: given,
+                is_stopped: false,
+            };
+        }
+        let entry = self.entries[at];
+        if !entry.lasts_past(x) {
+            return Descent {
+                top: self.shape.remove_top(at),
+                last: given,
+                is_stopped: true,
+            };
+        }
+        let node = self.shape.node(at);
+        if entry.is_before(place, &mut self.compared) {
+            let below = self.go_down(node.right, x, place, new, at);
+            let top = self
+                .shape
+                .rejoin(node.left, at, below.top, below.is_same(new));
+            Descent { top, ..below }
+        } else {
+            let below = self.go_down(node.left, x, place, new, given);
+            let top = self
+                .shape
+                .rejoin(below.top, at, node.right, below.is_same(new));
+            Descent { top, ..below }
+        }
+    }
+
+    /// Goes down until a way meets no entry that has ended, and puts the tree of `new` at its place. Answers the last
+    /// entry before it.
+    fn settle(&mut self, x: I, place: &Place<I>, new: usize) -> usize
+        requires growing { IsGrowing (I.whole x) (entries_of self.old.entries.items) self.old.shape.nodes.items self.old.root new self.old.kept }
+        requires place { IsPlaceInRange I.whole I.MIN_COORD I.MAX_COORD place.now }
+        ensures entries { self.new.entries ≡ self.old.entries }
+        ensures kept { self.new.kept ≤ self.old.kept }
+        ensures grown { (m : IsGrowing (I.whole x) (entries_of self.old.entries.items) self.old.shape.nodes.items self.old.root new self.old.kept) → IsGrown (I.whole x) (entries_of self.old.entries.items) (λ i. stands_before I.whole place.now (segment_at (entries_of self.old.entries.items) i).pair) m.down.placed self.new.shape.nodes.items self.new.root self.new.kept result }
+        ensures compared { IsAskedWithin self.old.kept (self.old.kept - self.new.kept) self.new.compared }
+        ensures reached { height_at self.new.shape.nodes.items self.new.root / 2 ≤ self.new.compared + 1 }
+    {
+        self.compared = 0;
+        loop {
+            let descent = self.go_down(self.root, x, place, new, NONE);
+            self.root = descent.top;
+            if !descent.is_stopped {
+                return descent.last;
+            }
+            self.kept -= 1;
+        }
+    }
+
+    /// Adds an entry with a node of its own, which is in no tree yet. Answers its index.
+    fn push(&mut self, entry: Entry<C, I>) -> Result<usize, Fault>
+        ensures entries { OnOk result (self.new.entries.items ≡ self.old.entries.items ++ entry ∷ []) }
+        ensures nodes { OnOk result (self.new.shape.nodes.items ≡ self.old.shape.nodes.items ++ record { left = none; right = none; height = 1 } ∷ []) }
+        ensures root { self.new.root ≡ self.old.root }
+        ensures kept { self.new.kept ≡ self.old.kept }
+        ensures index { IfOk result (λ new. (new ≡ length self.old.entries.items) × (new < none)) }
+        ensures fault { IfErr result (λ fault. fault ≡ Fault.Memory) }
+    {
+        self.entries.push(entry)?;
+        self.shape.push()?;
+        Ok(self.entries.len() - 1)
+    }
+
+    /// How many entries the longest way down has.
+    pub fn depth(&self) -> usize
+        ensures longest { (x : ℤ) (t : IsScanTree x (entries_of self.now.entries.items) self.now.shape.nodes.items self.now.root self.now.kept) → result ≡ t.high }
+        ensures low { (x : ℤ) → IsScanTree x (entries_of self.now.entries.items) self.now.shape.nodes.items self.now.root self.now.kept → 2 ^ (result / 2) ≤ self.now.kept + 1 }
+    {
+        self.shape.height(self.root)
+    }
+}
+
+impl<C: WindingCount, I: OverlayInt> LiveSegments<C, I> for ScanTree<C, I> {
+    ghost use Rattle.std.specs.Prelude.{◌≤ℤ◌, ◌<ℤ◌, ℤ, suc, ◌-◌, [], ◌∷◌, OnOk, OnErr, IfErr};
+    ghost use Rattle.overlay_base.specs.PointOf.{point_of};
+    ghost use Rattle.overlay_base.specs.InRange.{IsPointInRange};
+    ghost use Rattle.overlay_base.specs.VSegmentOf.{IsVSegmentInRange};
+    ghost use Rattle.overlay_sweep.specs.Sweep.{sum_below};
+    ghost use Rattle.overlay_sweep.specs.Live.{HoldSameFrom, AreFreeAt};
+    ghost use Rattle.overlay_sweep.specs.EntryOf.{entries_of};
+    ghost use Rattle.overlay_sweep.specs.ScanTrees.{IsScanTree, IsAskedWithin};
+
+    ghost sums = { λ tree. entries_of tree.entries.items };
+
+    ghost asked = { λ tree. tree.compared };
+
+    ghost may_go_on_at = { λ tree x. IsScanTree x (entries_of tree.entries.items) tree.shape.nodes.items tree.root tree.kept };
+
+    fn insert(&mut self, segment: VSegment<I>, sum: C, x: I) -> Result<(), Fault>
+        requires in_range { IsVSegmentInRange I.whole I.MIN_COORD I.MAX_COORD segment }
+        requires start { I.whole segment.a.x ≡ I.whole x }
+        requires wide { I.whole x <ℤ I.whole segment.b.x }
+        requires time { IsScanTree (I.whole x) (entries_of self.old.entries.items) self.old.shape.nodes.items self.old.root self.old.kept }
+        requires free { AreFreeAt (I.whole x) (record { pair = v_pair_of I.whole segment; count = C.winding sum } ∷ entries_of self.old.entries.items) }
+        ensures sums { OnOk result (HoldSameFrom (I.whole x) (entries_of self.new.entries.items) (record { pair = v_pair_of I.whole segment; count = C.winding sum } ∷ entries_of self.old.entries.items)) }
+        ensures time { OnOk result ((y : ℤ) → I.whole x ≤ℤ y → IsScanTree y (entries_of self.new.entries.items) self.new.shape.nodes.items self.new.root self.new.kept) }
+        ensures fault { IfErr result (λ fault. fault ≡ Fault.Memory) }
+        ensures emptied { OnErr result (entries_of self.new.entries.items ≡ []) }
+        ensures none_asked { OnErr result (self.new.compared ≡ 0) }
+        ensures cleared { OnErr result ((y : ℤ) → IsScanTree y (entries_of self.new.entries.items) self.new.shape.nodes.items self.new.root self.new.kept) }
+        ensures kept { OnOk result (self.new.kept ≤ suc self.old.kept) }
+        ensures compared { OnOk result (IsAskedWithin self.old.kept (suc self.old.kept - self.new.kept) self.new.compared) }
+        ensures reached { OnOk result (height_at self.new.shape.nodes.items self.new.root / 2 ≤ self.new.compared + 1) }
+    {
+        match self.push(Entry { segment, sum }) {
+            Ok(new) => {
+                self.settle(x, &Place::Segment(segment), new);
+                self.kept += 1;
+                Ok(())
+            }
+            Err(fault) => {
+                self.clear();
+                Err(fault)
+            }
+        }
+    }
+
+    fn sum_below(&mut self, x: I, p: IntPoint<I>, default: C) -> C
+        requires point { IsPointInRange I.whole I.MIN_COORD I.MAX_COORD p }
+        requires same_x { I.whole p.x ≡ I.whole x }
+        requires time { IsScanTree (I.whole x) (entries_of self.old.entries.items) self.old.shape.nodes.items self.old.root self.old.kept }
+        requires free { AreFreeAt (I.whole x) (entries_of self.old.entries.items) }
+        ensures sum { C.winding result ≡ sum_below (entries_of self.old.entries.items) (point_of I.whole p) (C.winding default) }
+        ensures sums { HoldSameFrom (I.whole x) (entries_of self.new.entries.items) (entries_of self.old.entries.items) }
+        ensures time { (y : ℤ) → I.whole x ≤ℤ y → IsScanTree y (entries_of self.new.entries.items) self.new.shape.nodes.items self.new.root self.new.kept }
+        ensures kept { self.new.kept ≤ self.old.kept }
+        ensures compared { IsAskedWithin self.old.kept (self.old.kept - self.new.kept) self.new.compared }
+        ensures reached { height_at self.new.shape.nodes.items self.new.root / 2 ≤ self.new.compared + 1 }
+    {
+        let last = self.settle(x, &Place::Point(p), NONE);
+        if last == NONE {
+            default
+        } else {
+            self.entries[last].sum
+        }
+    }
+
+    fn clear(&mut self)
+        ensures sums { entries_of self.new.entries.items ≡ [] }
+        ensures time { (y : ℤ) → IsScanTree y (entries_of self.new.entries.items) self.new.shape.nodes.items self.new.root self.new.kept }
+        ensures kept { self.new.kept ≡ 0 }
+        ensures asked { self.new.compared ≡ 0 }
+    {
+        self.entries.clear();
+        self.shape.clear();
+        self.root = NONE;
+        self.kept = 0;
+        self.compared = 0;
+    }
+
+    fn compared(&self) -> u128 {
+        self.compared
+    }
+}

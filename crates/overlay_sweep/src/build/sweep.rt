@@ -1,0 +1,132 @@
+// Sweeps over arrangements, with the buffers that they share. Upstream: `build::sweep`.
+ghost use Rattle.std.specs.Prelude.{◌≡◌, ℕ, ◌<◌, IsTrue, IsFalse, IfOk, OnOk, OnErr, IfErr, length};
+ghost use Rattle.overlay_base.specs.Planar.{is_arranged};
+ghost use Rattle.overlay_base.specs.Balance.{IsBalanced};
+ghost use Rattle.overlay_base.specs.SegmentOf.{segments_of, data_segments_of};
+ghost use Rattle.overlay_sweep.specs.Sweep.{visits, handled, visited, visits_leave_range};
+ghost use Rattle.overlay_sweep.specs.Laws.{HaveColumnWindings};
+
+use crate::build::fill_handler::FillHandler;
+use crate::build::fill_strategy::{
+    EvenOddStrategy, FillStrategy, NegativeStrategy, NonZeroStrategy, PositiveStrategy,
+};
+use crate::build::scan_list::ScanList;
+use crate::build::scan_tree::ScanTree;
+use crate::build::visits::sweep_with_handler;
+use crate::build::way::Way;
+use overlay_base::num::OverlayInt;
+use overlay_base::overlay_core::fill_rule::FillRule;
+use overlay_base::overlay_core::solver::Solver;
+use overlay_base::segm::boolean::ShapeCountBoolean;
+use overlay_base::segm::fault::Fault;
+use overlay_base::segm::segment::Segment;
+use overlay_base::segm::winding::WindingCount;
+use std::alloc::Global;
+
+/// Runs sweeps over arrangements, one after another, and keeps their buffers.
+#[derive(Drop)]
+pub struct SweepRunner<C: WindingCount, I: OverlayInt> {
+    list: ScanList<C, I>,
+    tree: ScanTree<C, I>,
+    node: Vec<Way<I>>,
+    compared: u128,
+}
+
+impl<C: WindingCount, I: OverlayInt> SweepRunner<C, I> {
+    /// A runner, which takes no memory yet.
+    pub fn new(alloc: Global) -> SweepRunner<C, I>
+        ensures { result.compared ≡ 0 }
+    {
+        SweepRunner {
+            list: ScanList::new(alloc),
+            tree: ScanTree::new(alloc),
+            node: Vec::new(alloc),
+            compared: 0,
+        }
+    }
+
+    /// Hands the segments of an arrangement to the handler, by their starts and then by angle from below, each with its
+    /// index and its fill under the strategy's rule. Answers what the handler first breaks with, or else what it makes
+    /// of the end.
+    ///
+    /// The winding below a segment is the one above the segment just before it by angle at the same start, or else the
+    /// one above the segment directly below its start, or 0; the winding above adds the segment's count. Balance is no
+    /// condition; with it these windings are those of the columns of the plane. The segments have to be arranged, as
+    /// `is_arranged` tests, and the handler has to take each of their indexes. The solver does not change the answer:
+    /// it chooses whether the live segments stand in a list or in a balanced tree.
+    ///
+    /// Answers `Fault::CountOutOfRange` exactly where a winding above a segment that is handed out leaves the range,
+    /// and `Fault::Memory` where a growth is refused. The handler is spent then; the runner can be used again, and its
+    /// `compared` is that of the run before.
+    pub fn run<D: Copy, F: FillStrategy<C>, H: FillHandler<C, I, D>>(
+        &mut self,
+        solver: &Solver,
+        segments: &[Segment<C, I, D>],
+        handler: H,
+    ) -> Result<H::Output, Fault>
+        requires arranged { IsTrue (is_arranged (I.whole I.MIN_COORD) (I.whole I.MAX_COORD) (segments_of segments.now)) }
+        requires takes { (index : ℕ) → index < length segments.now → H.takes handler index }
+        ensures answer { IfOk result (λ answer. answer ≡ handled H.handle_gives H.finalize_gives handler (visits F.rule (data_segments_of segments.now))) }
+        ensures in_range { OnOk result (IsFalse (visits_leave_range (segments_of segments.now) (visited H.handle_gives handler (visits F.rule (data_segments_of segments.now))))) }
+        ensures out_of_range { IfErr result (λ fault. fault ≡ Fault.CountOutOfRange → IsTrue (visits_leave_range (segments_of segments.now) (visited H.handle_gives handler (visits F.rule (data_segments_of segments.now))))) }
+        ensures windings { IsBalanced (segments_of segments.now) → HaveColumnWindings (segments_of segments.now) }
+        ensures refused { OnErr result (self.new.compared ≡ self.old.compared) }
+    {
+        let node = &mut self.node;
+        let mut compared = 0;
+        let answer = if solver.is_list_fill(segments) {
+            let list = &mut self.list;
+            sweep_with_handler::<C, I, D, F, ScanList<C, I>, H>(
+                list,
+                node,
+                segments,
+                handler,
+                &mut compared,
+            )?
+        } else {
+            let tree = &mut self.tree;
+            sweep_with_handler::<C, I, D, F, ScanTree<C, I>, H>(
+                tree,
+                node,
+                segments,
+                handler,
+                &mut compared,
+            )?
+        };
+        self.compared = compared;
+        Ok(answer)
+    }
+
+    /// How many orders of live segments the last run that succeeded has asked: 0 at first, and `u128::MAX` at most.
+    pub fn compared(&self) -> u128
+        ensures { result ≡ self.now.compared }
+    {
+        self.compared
+    }
+}
+
+impl<I: OverlayInt> SweepRunner<ShapeCountBoolean, I> {
+    /// The same as `run`, under a fill rule that is told at run time.
+    pub fn run_with_fill_rule<D: Copy, H: FillHandler<ShapeCountBoolean, I, D>>(
+        &mut self,
+        fill_rule: FillRule,
+        solver: &Solver,
+        segments: &[Segment<ShapeCountBoolean, I, D>],
+        handler: H,
+    ) -> Result<H::Output, Fault>
+        requires arranged { IsTrue (is_arranged (I.whole I.MIN_COORD) (I.whole I.MAX_COORD) (segments_of segments.now)) }
+        requires takes { (index : ℕ) → index < length segments.now → H.takes handler index }
+        ensures answer { IfOk result (λ answer. answer ≡ handled H.handle_gives H.finalize_gives handler (visits fill_rule (data_segments_of segments.now))) }
+        ensures in_range { OnOk result (IsFalse (visits_leave_range (segments_of segments.now) (visited H.handle_gives handler (visits fill_rule (data_segments_of segments.now))))) }
+        ensures out_of_range { IfErr result (λ fault. fault ≡ Fault.CountOutOfRange → IsTrue (visits_leave_range (segments_of segments.now) (visited H.handle_gives handler (visits fill_rule (data_segments_of segments.now))))) }
+        ensures windings { IsBalanced (segments_of segments.now) → HaveColumnWindings (segments_of segments.now) }
+        ensures refused { OnErr result (self.new.compared ≡ self.old.compared) }
+    {
+        match fill_rule {
+            FillRule::EvenOdd => self.run::<D, EvenOddStrategy, H>(solver, segments, handler),
+            FillRule::NonZero => self.run::<D, NonZeroStrategy, H>(solver, segments, handler),
+            FillRule::Positive => self.run::<D, PositiveStrategy, H>(solver, segments, handler),
+            FillRule::Negative => self.run::<D, NegativeStrategy, H>(solver, segments, handler),
+        }
+    }
+}
