@@ -19,3 +19,4 @@ pub mod ConnectedLinks
 pub mod BuiltGraphs
 pub mod Walks
 pub mod WalkSteps
+pub mod ContourLoops

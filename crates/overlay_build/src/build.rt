@@ -13,6 +13,7 @@ pub mod laws;
 mod link_ends;
 pub mod link_filter;
 mod nodes;
+pub mod util;
 #[cfg(test)]
 mod walk_tests;
 pub mod walks;

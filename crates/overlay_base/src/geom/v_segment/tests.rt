@@ -2,7 +2,7 @@
 
 use crate::geom::end::End;
 use crate::geom::point::IntPoint;
-use crate::geom::v_segment::VSegment;
+use crate::geom::v_segment::{VSegment, update_if_under};
 use std::cmp::Ordering;
 
 #[test]
@@ -30,6 +30,29 @@ fn one_segment_runs_under_another(rt: HostRuntime) {
     assert_eq!(rt; low.is_under_segment_order(&high), Ordering::Less);
     assert_eq!(rt; high.is_under_segment_order(&low), Ordering::Greater);
     assert!(rt; low.is_under_segment(&high));
+}
+
+#[test]
+fn the_lowest_of_some_segments_is_kept(rt: HostRuntime) {
+    let middle = VSegment {
+        a: IntPoint::new(0_i16, 0),
+        b: IntPoint::new(4, 0),
+    };
+    let high = VSegment {
+        a: IntPoint::new(1_i16, 1),
+        b: IntPoint::new(3, 1),
+    };
+    let low = VSegment {
+        a: IntPoint::new(2_i16, -1),
+        b: IntPoint::new(5, -1),
+    };
+    let mut best = None;
+    update_if_under(&mut best, middle);
+    assert_eq!(rt; best, Some(middle));
+    update_if_under(&mut best, high);
+    assert_eq!(rt; best, Some(middle));
+    update_if_under(&mut best, low);
+    assert_eq!(rt; best, Some(low));
 }
 
 #[test]

@@ -1,0 +1,13 @@
+use Rattle.std.proofs.Common.{◌∙◌, ap, map}
+use Rattle.overlay_base.specs.Points.{point_eq, has_repeat}
+use Rattle.std.proofs.lemmas.List.Sorted.{IsPermutation-map}
+use Rattle.overlay_base.specs.PointOf.{point_of}
+use Rattle.overlay_base.proofs.laws.Points.{point_cmp_total}
+use Rattle.overlay_build.proofs.laws.ContourLoops.{has_repeat-IsPermutation}
+use Rattle.overlay_build.proofs.build.builder.GraphBuilder.test_contour_for_loops.Goals as goal
+
+pub returns-in-Ok-clause-loops : goal.returns-in-Ok-clause-loops
+returns-in-Ok-clause-loops g c =
+    let at = point_of g.I.OverlayInt.whole in
+    c.has_equal_neighbors.ensures ∙ ap (λ xs. has_repeat point_eq (map at xs)) c.deref.ensures.value
+    ∙ has_repeat-IsPermutation point_cmp_total (map at c.args.contour.now) (map at c.sort_into.new.buffer.items) (IsPermutation-map at _ _ c.in-Ok.ensures.permutation)
