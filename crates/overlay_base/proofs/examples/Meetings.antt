@@ -78,10 +78,10 @@ too_far : is_splittable (neg 1073741824) (pos 1073741823) (seg (pos 0) (pos 0) (
 unfolding computing
 too_far = refl
 
-half_a_million : is_splittable (neg 1073741824) (pos 1073741823) (seg (pos 0) (pos 0) (pos 524288) (pos 0) (pos 1) ∷ [])
+beyond_twenty_bits : is_splittable (neg 1073741824) (pos 1073741823) (seg (pos 0) (pos 0) (pos 524288) (pos 0) (pos 1) ∷ [])
     ≡ true
 unfolding computing
-half_a_million = refl
+beyond_twenty_bits = refl
 
 too_far_narrow : is_splittable (neg 16384) (pos 16383) (seg (pos 0) (pos 0) (pos 16384) (pos 0) (pos 1) ∷ [])
     ≡ false
