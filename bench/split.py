@@ -1,7 +1,7 @@
 #!/usr/bin/env python3
-"""Times `arrange split` under each strategy, on segments of five kinds.
+"""Times `arrange split` under each strategy, on segments of six kinds.
 
-Usage, from the top of the repository: python3 bench/split.py [NUMBER ..]
+Usage, from the top of the repository: python3 bench/split.py [--against PROGRAM] [NUMBER ..]
 
 Each kind is made of the given numbers of segments (1,000, 4,000, 16,000 and 50,000 if none are given). For each one line
 is printed: kind, segments given, segments answered, passes, and the user time in seconds, the least of three runs: of
@@ -9,11 +9,16 @@ is printed: kind, segments given, segments answered, passes, and the user time i
 memory in megabytes that a run over the list, and one over the grid, took. A run that takes longer than ten seconds is made
 once. All answers have to be the same. Above 16,000 segments `tree` and `auto` go over the grid, as `frag` does.
 
+With `--against`, `split` under `auto` is timed by this build and by another one, PROGRAM, in turns: for each kind and number
+the least user time of nine runs of each, and how many times as long this build took. The answers have to be the same; `far`
+is left out where the other build refuses such coordinates.
+
 - random: short segments at random places, so that each meets a few others;
 - horizontal: segments one above another, none of which meet, all with one range of x: one scan of all pairs;
 - grid: blocks of twenty horizontal and twenty vertical lines, each of which crosses the twenty others;
 - squares: squares in a row, each of which overlaps the next;
-- long: lines from end to end, of many heights and slopes, none of which meet.
+- long: lines from end to end, of many heights and slopes, none of which meet;
+- far: as random, over the whole range of `i32`, where the numerators of crossings take 128 bits.
 """
 import os
 import random
@@ -22,6 +27,8 @@ import subprocess
 import sys
 
 LIMIT = 500_000
+FARTHEST = 2**30 - 1
+TURNS = 9
 PROGRAM = os.path.join("crates", "arrange", "out", "arrange")
 
 
@@ -29,11 +36,11 @@ def step(ax, ay, bx, by):
     return f"S {ax} {ay} {bx} {by}"
 
 
-def random_lines(number):
+def random_lines(number, limit=LIMIT):
     numbers = random.Random(number)
-    reach = int(8 * LIMIT / number**0.5)
+    reach = int(8 * limit / number**0.5)
     for _ in range(number):
-        ax, ay = (numbers.randint(-LIMIT, LIMIT - reach) for _ in range(2))
+        ax, ay = (numbers.randint(-limit, limit - reach) for _ in range(2))
         yield step(ax, ay, ax + numbers.randint(1, reach), ay + numbers.randint(0, reach))
 
 
@@ -67,6 +74,10 @@ def long_lines(number):
         yield step(-LIMIT, height, LIMIT, height + index % 7)
 
 
+def far_lines(number):
+    return random_lines(number, FARTHEST)
+
+
 STRATEGIES = ("list", "tree", "frag", "auto")
 
 KINDS = {
@@ -75,6 +86,7 @@ KINDS = {
     "grid": grid_lines,
     "squares": square_lines,
     "long": long_lines,
+    "far": far_lines,
 }
 
 
@@ -84,10 +96,10 @@ def build():
                    stdout=subprocess.DEVNULL, check=True)
 
 
-def run(words, text):
+def run(words, text, program=PROGRAM):
     """What the program prints, and its user time in seconds."""
     before = resource.getrusage(resource.RUSAGE_CHILDREN).ru_utime
-    printed = subprocess.run([PROGRAM, *words], input=text, text=True, capture_output=True, check=True).stdout
+    printed = subprocess.run([program, *words], input=text, text=True, capture_output=True, check=True).stdout
     return printed, resource.getrusage(resource.RUSAGE_CHILDREN).ru_utime - before
 
 
@@ -111,6 +123,21 @@ def measure(kind, number):
     print(f"{kind:10} {number:6} {len(lines) - 2:8} {passes:>6} {seconds} {most}", flush=True)
 
 
+def compare(other, kind, number):
+    text = "\n".join(KINDS[kind](number)) + "\n"
+    try:
+        turns = [[run(["split"], text, program) for program in (PROGRAM, other)] for _ in range(TURNS)]
+    except subprocess.CalledProcessError as failed:
+        if failed.cmd[0] == other and failed.stderr.endswith(": range\n"):
+            print(f"{kind:10} {number:6}  out of the other's range", flush=True)
+            return
+        raise
+    if any(answer != turns[0][0][0] for turn in turns for answer, _ in turn):
+        sys.exit(f"{kind} {number}: the two builds answer differently")
+    this, that = (min(turn[build][1] for turn in turns) for build in (0, 1))
+    print(f"{kind:10} {number:6} {this:8.3f} {that:8.3f} {this / that:6.2f}", flush=True)
+
+
 def memory(strategy, text):
     """The most memory of one run, in megabytes, as its own process tells it."""
     code = ("import resource, subprocess, sys; "
@@ -122,8 +149,16 @@ def memory(strategy, text):
 
 
 def main():
-    numbers = [int(word) for word in sys.argv[1:]] or [1_000, 4_000, 16_000, 50_000]
+    words = sys.argv[1:]
+    other = words[1] if words[:1] == ["--against"] else None
+    numbers = [int(word) for word in (words[2:] if other else words)] or [1_000, 4_000, 16_000, 50_000]
     build()
+    if other:
+        print("kind        given     this    other  times")
+        for kind in KINDS:
+            for number in numbers:
+                compare(other, kind, number)
+        return
     print("kind        given   pieces passes     join " + " ".join(f"{strategy:>8}" for strategy in STRATEGIES) + "  MB list frag")
     for kind in KINDS:
         for number in numbers:

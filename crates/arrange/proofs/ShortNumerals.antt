@@ -1,4 +1,4 @@
--- What nine digits can write, and that numerals are text.
+-- What nine and ten digits can write, and that numerals are text.
 use Rattle.std.proofs.Common.{◌≡◌, ℕ, zero, suc, ◌<◌, ◌≤◌, Bool, true, false, List, [], ◌∷◌, length, arith, refl, eqb-true}
 use Rattle.std.specs.Prelude.{◌==◌, if◌then◌else◌}
 use Rattle.std.specs.Str.{IsAscii, IsUtf8}
@@ -10,6 +10,9 @@ use Rattle.arrange.specs.Numbers.{without_minus, IsSignedNumeral}
 
 pub nine_digits_are_few : (ds : List ℕ) → IsNumeral 10 ds → length ds ≤ 9 → digits_value 10 ds < 1000000000
 nine_digits_are_few ds numeral short = digits_value_short (numerals_by_value (AllDigits 10) tells_digits) ds 9 numeral.1 short
+
+pub ten_digits_fit : (ds : List ℕ) → IsNumeral 10 ds → length ds ≤ 10 → digits_value 10 ds < 10000000000
+ten_digits_fit ds numeral short = digits_value_short (numerals_by_value (AllDigits 10) tells_digits) ds 10 numeral.1 short
 
 is_ascii_with : (c : ℕ) (cs : List ℕ) → c < 128 → IsAscii cs → IsAscii (c ∷ cs)
 is_ascii_with c cs below ascii zero = below

@@ -5,9 +5,9 @@ use Rattle.std.specs.Str.Parse.{IsNumeral, digits_value, starts_with_minus}
 abbrev pub without_minus : List ℕ → List ℕ
 without_minus text = if starts_with_minus text then drop 1 text else text
 
--- an optional minus and 1 to 9 digits
+-- an optional minus and 1 to 10 digits
 abbrev pub IsSignedNumeral : List ℕ → Type 0
-IsSignedNumeral text = IsNumeral 10 (without_minus text) × (length (without_minus text) ≤ 9)
+IsSignedNumeral text = IsNumeral 10 (without_minus text) × (length (without_minus text) ≤ 10)
 
 abbrev pub signed_value : List ℕ → ℤ
 signed_value text =

@@ -2,6 +2,7 @@
 use Rattle.std.specs.Prelude.{Bool, ◌≡◌, ◌≢◌, ◌⊎◌, ◌++◌, ℕ, ℤ, pos, negsuc, if◌then◌else◌, List, Option, Ok, Err, IfSome, unsigned_abs, IsTrue, IsFalse}
 use Rattle.std.specs.Option.{ok_or}
 use Rattle.std.specs.declared.result.Result.{Result}
+use Rattle.overlay_base.specs.Coordinates.{least_coordinate, greatest_coordinate}
 use Rattle.overlay_base.specs.Segments.{WholeSegment}
 use Rattle.overlay_base.specs.Join.{join, has_equal_pairs, join_leaves_range}
 use Rattle.overlay_base.specs.Radius.{exponent_cap}
@@ -24,11 +25,11 @@ use Rattle.arrange.specs.Text.{lines_of, AskInTurnFor, IsFirstFault}
 -- the least and the greatest coordinate of an engine
 abbrev pub least_of : Engine → ℤ
 least_of I16 = negsuc 16383
-least_of I32 = negsuc 524287
+least_of I32 = least_coordinate
 
 abbrev pub greatest_of : Engine → ℤ
 greatest_of I16 = pos 16383
-greatest_of I32 = pos 524287
+greatest_of I32 = greatest_coordinate
 
 -- the bits of an engine's coordinates
 abbrev pub bits_of : Engine → ℕ

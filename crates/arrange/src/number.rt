@@ -1,5 +1,5 @@
 // Decimal numbers in words and lines.
-ghost use Rattle.std.specs.Prelude.{◌<◌, ◌≤◌, ◌^◌, length};
+ghost use Rattle.std.specs.Prelude.{◌<◌, ◌≤◌, ◌^◌, pos, length};
 ghost use Rattle.std.specs.Option.{SomeIff};
 ghost use Rattle.std.specs.Str.Parse.{IsNumeral, digits_value};
 ghost use Rattle.arrange.specs.Numbers.{IsSignedNumeral, signed_value};
@@ -27,12 +27,27 @@ pub fn short_number(text: &str) -> Option<u32>
     Some(number as u32)
 }
 
-/// The number of an optional `-` and 1 to 9 digits.
+/// The number of an optional `-` and 1 to 10 digits.
 pub fn signed_number(text: &str) -> Option<i64>
     ensures { SomeIff result (IsSignedNumeral text.now) (signed_value text.now) }
 {
     match text.strip_prefix('-') {
-        Some(digits) => short_number(digits).map(|size| -i64::from(size)),
-        None => short_number(text).map(i64::from),
+        Some(digits) => {
+            let size = size_of_number(digits)?;
+            Some(-size)
+        }
+        None => size_of_number(text),
     }
+}
+
+/// The number of 1 to 10 digits.
+#[tactic(auto, using(crate::proofs::ShortNumerals::ten_digits_fit))]
+fn size_of_number(text: &str) -> Option<i64>
+    ensures { SomeIff result (IsNumeral 10 text.now × (length text.now ≤ 10)) (pos (digits_value 10 text.now)) }
+{
+    if text.len() > 10 {
+        return None;
+    }
+    let number = number(text)?;
+    Some(number as i64)
 }

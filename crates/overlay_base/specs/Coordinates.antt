@@ -1,12 +1,12 @@
 -- The range of coordinates.
 use Rattle.std.specs.Prelude.{ℕ, ◌*◌, ℤ, pos, negsuc, ◌-ℤ◌, unsigned_abs, int_le, Bool, ◌&&◌}
 
--- The widest engine's limits, -2^19 and 2^19 - 1. The sizes of all products follow from these two numbers.
+-- The widest engine's limits, -2^30 and 2^30 - 1. The sizes of all products follow from these two numbers.
 abbrev pub least_coordinate : ℤ
-least_coordinate = negsuc 524287
+least_coordinate = negsuc 1073741823
 
 abbrev pub greatest_coordinate : ℤ
-greatest_coordinate = pos 524287
+greatest_coordinate = pos 1073741823
 
 -- whether z lies from the least to the greatest coordinate of an engine
 abbrev pub is_coordinate : ℤ → ℤ → ℤ → Bool

@@ -6,14 +6,14 @@ ghost use Rattle.overlay_base.specs.Coordinates.{is_coordinate, least_coordinate
 
 /// An integer type whose values are coordinates.
 ///
-/// The limits leave room for the products that the engine forms: a difference of two coordinates has at most
-/// 20 bits, so a turn of three points has at most 41, and the numerator of a crossing point at most 61. Every
-/// intermediate result fits an `i64`.
+/// The limits leave room for the products that the engine forms: a difference of two coordinates stays below 2^31
+/// and a turn of three points or a squared distance below 2^63, so they fit an `i64`. The numerator of a crossing
+/// point stays below 2^94; it is taken in an `i128`, where a crossing is placed.
 ///
 /// | engine | `MIN_COORD` | `MAX_COORD` | `BITS` |
 /// |---|---|---|---|
 /// | `i16` | -16384 | 16383 | 16 |
-/// | `i32` | -524288 | 524287 | 32 |
+/// | `i32` | -1073741824 | 1073741823 | 32 |
 pub trait OverlayInt: Copy + Ord {
     ghost whole: { Self → ℤ };
 
@@ -116,7 +116,7 @@ impl OverlayInt for i16 {
 
 impl OverlayInt for i32 {
     ghost use Rattle.std.proofs.Common.{rules};
-    ghost use Rattle.std.specs.Prelude.{negsuc, refl};
+    ghost use Rattle.std.specs.Prelude.{refl};
 
     ghost whole = { λ z. z };
 
@@ -124,9 +124,9 @@ impl OverlayInt for i32 {
 
     ghost ZERO = { pos 0 };
 
-    ghost MIN_COORD = { negsuc 524287 };
+    ghost MIN_COORD = { least_coordinate };
 
-    ghost MAX_COORD = { pos 524287 };
+    ghost MAX_COORD = { greatest_coordinate };
 
     ghost injective = { λ a b e. e };
 
@@ -146,9 +146,9 @@ impl OverlayInt for i32 {
 
     const ZERO: i32 = 0;
 
-    const MIN_COORD: i32 = -524_288;
+    const MIN_COORD: i32 = -1_073_741_824;
 
-    const MAX_COORD: i32 = 524_287;
+    const MAX_COORD: i32 = 1_073_741_823;
 
     fn to_wide(self) -> i64 {
         self as i64

@@ -358,6 +358,30 @@ S -16384 -16384 16383 16383
 S -16384 16383 16383 -16384
 >0
 pure 0 0 rounded
+#
+$cross
+S -1073741824 -1073741824 1073741823 1073741823
+S -1073741824 1073741823 1073741823 -1073741824
+>0
+pure 0 0 rounded
+#
+$cross|radius=2
+S -1024000000 -1024000000 1024000000 1024000000
+S 512000000 -1024000000 512000000 1024000000
+>0
+pure 512000000 512000000 exact
+#
+$cross|radius=2
+S -8555798 -1599355 -1024000 0
+S -8571363 1513719 -1023948 -10239
+>0
+pure -1048691 -5243 rounded
+# The smaller pair is the target, which is the second line here.
+$cross|radius=2
+S -276659431 380789039 -221915258 435533212
+S -276659432 380789038 -276659430 380789040
+>0
+overlay 6
 # A crossing with whole coordinates, and the end of one inside the other.
 $cross
 S 0 0 2 0
@@ -493,15 +517,15 @@ seg 0 0 1 1 0 1
 flag false
 # Numbers.
 $join
-S -0 -5 000000001 -000000002
+S -0 -5 0000000001 -0000000002
 >0
 seg 0 -5 1 -2 1 0
 flag false
 #
 $join
-S 524287 -524288 -524288 524287
+S 1073741823 -1073741824 -1073741824 1073741823
 >0
-seg -524288 524287 524287 -524288 -1 0
+seg -1073741824 1073741823 1073741823 -1073741824 -1 0
 flag false
 #
 $join
@@ -608,19 +632,23 @@ S -+1 0 1 1
 S 1- 0 1 1
 S 0x1 0 1 1
 S 1.0 0 1 1
-S 0 0 1 0000000001
-S 0 0 1 -0000000001
-S 0 0 1 1000000000
-S 524288 0 524288 x";
+S 0 0 1 00000000001
+S 0 0 1 -00000000001
+S 0 0 1 10000000000
+S 1073741824 0 1073741824 x";
 
 /// Lines with a number outside the coordinates of `i32`.
-const RANGE_FAULTS: &str = "S 524288 0 0 0
-S 0 -524289 0 0
-S 0 0 -524289 0
-S 0 0 0 524288
-S 0 0 1 999999999
-S 0 0 1 -999999999
-S 524288 0 524288 0";
+const RANGE_FAULTS: &str = "S 1073741824 0 0 0
+S 0 -1073741825 0 0
+S 0 0 -1073741825 0
+S 0 0 0 1073741824
+S 0 0 1 2147483648
+S 0 0 1 -2147483649
+S 0 0 1 4294967296
+S 0 0 1 -4294967295
+S 0 0 1 9999999999
+S 0 0 1 -9999999999
+S 1073741824 0 1073741824 0";
 
 /// Words that are answered with the usage, with bars between them. The first line is one empty word.
 const FAULTY_WORDS: &str = "
@@ -816,7 +844,7 @@ fn faulty_lines(rt: HostRuntime) -> Result<(), Fail> {
     check(
         &rt,
         "join",
-        b"S 0 0 1 1\nC 2 2 2 2\nS 524288 0 0 0\nS x\n",
+        b"S 0 0 1 1\nC 2 2 2 2\nS 1073741824 0 0 0\nS x\n",
         3,
         "line 2: equal ends\n",
     )?;

@@ -409,7 +409,7 @@ fn shared_part_as_a_program_finds_it(rt: HostRuntime) -> Result<(), Fail> {
         .map(|(a, b)| ((a.x, a.y), (b.x, b.y)))
         .collect(rt.alloc())?;
     assert_eq!(rt; found.as_slice(), wanted.as_slice());
-    let too_far = side((0, 0), (524_288, 0), ShapeType::Subject).expect(&rt, "two corners");
+    let too_far = side((0, 0), (1_073_741_824, 0), ShapeType::Subject).expect(&rt, "two corners");
     let mut sides = Vec::new(rt.alloc());
     sides.push(too_far)?;
     let ends = shared_part(rt.alloc(), sides).expect(&rt, "no refusal");

@@ -55,13 +55,13 @@ meet_itself : meeting (pair (pos 0) (pos 0) (pos 4) (pos 2)) (pair (pos 0) (pos 
 unfolding computing
 meet_itself = refl
 
-planar_result : is_arranged (neg 524288) (pos 524287) (seg (pos 0) (pos 0) (pos 80) (pos 0) (pos 1) ∷ seg (pos 0) (pos 1000) (pos 150) (pos 1000) (pos 1) ∷ seg (pos 0) (pos 2000) (pos 150) (pos 2000) (pos 1) ∷ seg (pos 80) (pos 0) (pos 100) (pos 0) (pos 2) ∷ seg (pos 100) (pos 0) (pos 150) (pos 0) (pos 1) ∷ [])
+planar_result : is_arranged (neg 1073741824) (pos 1073741823) (seg (pos 0) (pos 0) (pos 80) (pos 0) (pos 1) ∷ seg (pos 0) (pos 1000) (pos 150) (pos 1000) (pos 1) ∷ seg (pos 0) (pos 2000) (pos 150) (pos 2000) (pos 1) ∷ seg (pos 80) (pos 0) (pos 100) (pos 0) (pos 2) ∷ seg (pos 100) (pos 0) (pos 150) (pos 0) (pos 1) ∷ [])
     ≡ true
 unfolding computing
 planar_result = refl
 
 -- apart, and not in order
-not_in_order : is_arranged (neg 524288) (pos 524287) (seg (pos 0) (pos 1000) (pos 150) (pos 1000) (pos 1) ∷ seg (pos 0) (pos 0) (pos 80) (pos 0) (pos 1) ∷ [])
+not_in_order : is_arranged (neg 1073741824) (pos 1073741823) (seg (pos 0) (pos 1000) (pos 150) (pos 1000) (pos 1) ∷ seg (pos 0) (pos 0) (pos 80) (pos 0) (pos 1) ∷ [])
     ≡ false
 unfolding computing
 not_in_order = refl
@@ -73,10 +73,15 @@ unfolding computing
 not_planar = refl
 
 -- a coordinate that is too large
-too_far : is_splittable (neg 524288) (pos 524287) (seg (pos 0) (pos 0) (pos 524288) (pos 0) (pos 1) ∷ [])
+too_far : is_splittable (neg 1073741824) (pos 1073741823) (seg (pos 0) (pos 0) (pos 1073741824) (pos 0) (pos 1) ∷ [])
     ≡ false
 unfolding computing
 too_far = refl
+
+beyond_twenty_bits : is_splittable (neg 1073741824) (pos 1073741823) (seg (pos 0) (pos 0) (pos 524288) (pos 0) (pos 1) ∷ [])
+    ≡ true
+unfolding computing
+beyond_twenty_bits = refl
 
 too_far_narrow : is_splittable (neg 16384) (pos 16383) (seg (pos 0) (pos 0) (pos 16384) (pos 0) (pos 1) ∷ [])
     ≡ false
@@ -88,22 +93,22 @@ as_far_as_can_be : is_splittable (neg 16384) (pos 16383) (seg (neg 16384) (pos 1
 unfolding computing
 as_far_as_can_be = refl
 
-count_too_low : is_splittable (neg 524288) (pos 524287) (seg (pos 0) (pos 0) (pos 4) (pos 0) (neg 2147483648) ∷ [])
+count_too_low : is_splittable (neg 1073741824) (pos 1073741823) (seg (pos 0) (pos 0) (pos 4) (pos 0) (neg 2147483648) ∷ [])
     ≡ false
 unfolding computing
 count_too_low = refl
 
-count_as_low_as_can_be : is_splittable (neg 524288) (pos 524287) (seg (pos 0) (pos 0) (pos 4) (pos 0) least ∷ [])
+count_as_low_as_can_be : is_splittable (neg 1073741824) (pos 1073741823) (seg (pos 0) (pos 0) (pos 4) (pos 0) least ∷ [])
     ≡ true
 unfolding computing
 count_as_low_as_can_be = refl
 
-mask_too_large : is_splittable (neg 524288) (pos 524287) (line (pos 0) (pos 0) (pos 4) (pos 0) (pos 1) 4 ∷ [])
+mask_too_large : is_splittable (neg 1073741824) (pos 1073741823) (line (pos 0) (pos 0) (pos 4) (pos 0) (pos 1) 4 ∷ [])
     ≡ false
 unfolding computing
 mask_too_large = refl
 
-count_empty : is_splittable (neg 524288) (pos 524287) (seg (pos 0) (pos 0) (pos 4) (pos 0) (pos 0) ∷ [])
+count_empty : is_splittable (neg 1073741824) (pos 1073741823) (seg (pos 0) (pos 0) (pos 4) (pos 0) (pos 0) ∷ [])
     ≡ false
 unfolding computing
 count_empty = refl

@@ -22,9 +22,9 @@ turn_straight : turn (point (pos 0) (pos 0)) (point (pos 2) (pos 2)) (point (pos
 unfolding computing
 turn_straight = refl
 
--- the widest engine: the square of 2^20 - 1
-turn_widest : turn (point (neg 524288) (neg 524288)) (point (pos 524287) (neg 524288)) (point (pos 524287) (pos 524287))
-    ≡ pos 1099509530625
+-- the widest engine: the square of 2^31 - 1
+turn_widest : turn (point (neg 1073741824) (neg 1073741824)) (point (pos 1073741823) (neg 1073741824)) (point (pos 1073741823) (pos 1073741823))
+    ≡ pos 4611686014132420609
 unfolding computing
 turn_widest = refl
 

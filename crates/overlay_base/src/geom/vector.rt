@@ -1,5 +1,6 @@
-// The way from one point to another, and the products of two such ways. A difference of two coordinates has at
-// most 20 bits, so no product here leaves an `i64`. Upstream: differences of `i_float::int::point`.
+// The way from one point to another, and the products of two such ways. A difference of two coordinates stays
+// below 2^31, so no product here leaves an `i64`, nor does a sum of two.
+// Upstream: differences of `i_float::int::point`.
 ghost use Rattle.std.specs.Prelude.{◌≡◌, ◌≤◌, ◌+◌, ◌*◌, ◌-ℤ◌, ◌*ℤ◌, pos, unsigned_abs, IsTrue};
 ghost use Rattle.overlay_base.specs.Coordinates.{is_coordinate, greatest_difference, greatest_product};
 

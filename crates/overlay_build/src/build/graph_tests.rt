@@ -1,5 +1,6 @@
 // Worked graphs, with ample memory.
-ghost use Rattle.std.specs.Prelude.{IsTrue, pos, negsuc};
+ghost use Rattle.std.specs.Prelude.{IsTrue};
+ghost use Rattle.overlay_base.specs.Coordinates.{least_coordinate, greatest_coordinate};
 ghost use Rattle.overlay_base.specs.Planar.{is_arranged};
 ghost use Rattle.overlay_base.specs.SegmentOf.{segments_of};
 
@@ -36,13 +37,13 @@ const FILL_RULES: [FillRule; 4] = [
 ];
 
 pub fn lone_line() -> [Line; 1]
-    ensures { IsTrue (is_arranged (negsuc 524287) (pos 524287) (segments_of result)) }
+    ensures { IsTrue (is_arranged least_coordinate greatest_coordinate (segments_of result)) }
 {
     [line(0, 0, 4, 0, 1, 0)]
 }
 
 pub fn no_lines() -> [Line; 0]
-    ensures { IsTrue (is_arranged (negsuc 524287) (pos 524287) (segments_of result)) }
+    ensures { IsTrue (is_arranged least_coordinate greatest_coordinate (segments_of result)) }
 {
     []
 }
@@ -139,7 +140,7 @@ fn a_builder_used_again_shows_nothing_of_the_build_before(rt: HostRuntime) {
 }
 
 fn build(rt: &impl Abort, builder: &mut Builder, rule: OverlayRule, segments: &[Line])
-    requires { IsTrue (is_arranged (negsuc 524287) (pos 524287) (segments_of segments.now)) }
+    requires { IsTrue (is_arranged least_coordinate greatest_coordinate (segments_of segments.now)) }
 {
     builder
         .build_boolean_overlay(FillRule::NonZero, rule, &Solver::LIST, segments)

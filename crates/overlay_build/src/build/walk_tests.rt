@@ -1,5 +1,6 @@
 // Worked closed walks, with ample memory.
-ghost use Rattle.std.specs.Prelude.{IsTrue, pos, negsuc};
+ghost use Rattle.std.specs.Prelude.{IsTrue};
+ghost use Rattle.overlay_base.specs.Coordinates.{least_coordinate, greatest_coordinate};
 ghost use Rattle.overlay_base.specs.Planar.{is_arranged};
 ghost use Rattle.overlay_base.specs.SegmentOf.{segments_of};
 
@@ -19,7 +20,7 @@ type Builder = GraphBuilder<ShapeCountBoolean, OverlayNode, i32, ()>;
 
 /// The closed walks through the graph of a rule.
 fn walks_of(rt: &impl Abort, alloc: Global, rule: OverlayRule, segments: &[Line]) -> Vec<Vec<usize>>
-    requires { IsTrue (is_arranged (negsuc 524287) (pos 524287) (segments_of segments.now)) }
+    requires { IsTrue (is_arranged least_coordinate greatest_coordinate (segments_of segments.now)) }
 {
     let mut builder = Builder::new(alloc);
     let graph = builder

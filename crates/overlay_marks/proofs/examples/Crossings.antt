@@ -1,4 +1,4 @@
--- Crossings worked by hand. Each holds by computation, beyond the engines' limits too.
+-- Crossings worked by hand. Each holds by computation.
 use Rattle.std.specs.Prelude.{◌≡◌, refl, pos, ℤ, Bool, true, false, Some, None}
 use Rattle.overlay_base.proofs.examples.Words.{neg, point, pair}
 use Rattle.overlay_marks.specs.Marks.{snapping, settling}
@@ -31,7 +31,7 @@ narrow_diagonals : cross_answer (snapping 1) (pair (neg 16384) (neg 16384) (pos 
 unfolding computing
 narrow_diagonals = refl
 
-wide_diagonals : cross_answer (snapping 1) (pair (neg 524288) (neg 524288) (pos 524287) (pos 524287)) (pair (neg 524288) (pos 524287) (pos 524287) (neg 524288))
+wide_diagonals : cross_answer (snapping 1) (pair (neg 1073741824) (neg 1073741824) (pos 1073741823) (pos 1073741823)) (pair (neg 1073741824) (pos 1073741823) (pos 1073741823) (neg 1073741824))
     ≡ Some (answer pure (pos 0) (pos 0) true)
 unfolding computing
 wide_diagonals = refl
@@ -79,30 +79,25 @@ half_along_an_axis : cross_answer (snapping 1) (pair (pos 0) (pos 0) (pos 2) (po
 unfolding computing
 half_along_an_axis = refl
 
-diagonals_of_thirty_bits : cross_answer (snapping 1) (pair (neg 1073741824) (neg 1073741824) (pos 1073741823) (pos 1073741823)) (pair (neg 1073741824) (pos 1073741823) (pos 1073741823) (neg 1073741824))
-    ≡ Some (answer pure (pos 0) (pos 0) true)
-unfolding computing
-diagonals_of_thirty_bits = refl
-
-exact_of_thirty_bits : cross_answer (snapping 2) (pair (neg 1024000000) (neg 1024000000) (pos 1024000000) (pos 1024000000)) (pair (pos 512000000) (neg 1024000000) (pos 512000000) (pos 1024000000))
+exact_far_out : cross_answer (snapping 2) (pair (neg 1024000000) (neg 1024000000) (pos 1024000000) (pos 1024000000)) (pair (pos 512000000) (neg 1024000000) (pos 512000000) (pos 1024000000))
     ≡ Some (answer pure (pos 512000000) (pos 512000000) false)
 unfolding computing
-exact_of_thirty_bits = refl
+exact_far_out = refl
 
-inexact_of_thirty_bits : cross_answer (snapping 2) (pair (neg 8555798) (neg 1599355) (neg 1024000) (pos 0)) (pair (neg 8571363) (pos 1513719) (neg 1023948) (neg 10239))
+inexact_far_out : cross_answer (snapping 2) (pair (neg 8555798) (neg 1599355) (neg 1024000) (pos 0)) (pair (neg 8571363) (pos 1513719) (neg 1023948) (neg 10239))
     ≡ Some (answer pure (neg 1048691) (neg 5243) true)
 unfolding computing
-inexact_of_thirty_bits = refl
+inexact_far_out = refl
 
-collinear_of_thirty_bits : cross_answer (snapping 2) (pair (neg 276659431) (pos 380789039) (neg 221915258) (pos 435533212)) (pair (neg 276659432) (pos 380789038) (neg 276659430) (pos 380789040))
+overlap_far_out : cross_answer (snapping 2) (pair (neg 276659431) (pos 380789039) (neg 221915258) (pos 435533212)) (pair (neg 276659432) (pos 380789038) (neg 276659430) (pos 380789040))
     ≡ Some (answer overlay (pos 0) (pos 0) false)
 unfolding computing
-collinear_of_thirty_bits = refl
+overlap_far_out = refl
 
-mask_of_thirty_bits : ends_mask (pair (neg 276659431) (pos 380789039) (neg 221915258) (pos 435533212)) (pair (neg 276659432) (pos 380789038) (neg 276659430) (pos 380789040))
+mask_far_out : ends_mask (pair (neg 276659431) (pos 380789039) (neg 221915258) (pos 435533212)) (pair (neg 276659432) (pos 380789038) (neg 276659430) (pos 380789040))
     ≡ 9
 unfolding computing
-mask_of_thirty_bits = refl
+mask_far_out = refl
 
 -- settled: a half goes upward, whichever way the target runs
 settled_upward : cross_answer settling (pair (neg 1) (pos 1) (pos 2) (neg 2)) (pair (pos 0) (neg 1) (pos 1) (pos 0))

@@ -1,7 +1,7 @@
 -- Offsets as code computes them: their sizes, and their quotients.
-use Rattle.std.proofs.Common.{◌≡◌, ◌≢◌, refl, ℕ, ◌+◌, ◌*◌, ◌≤◌, ◌<◌, arith, lit<, zero, suc, FitsSigned, w64, of_z}
-use Rattle.std.specs.Prelude.{ℤ, pos, negsuc, ◌+ℤ◌, ◌*ℤ◌, ◌<ℤ◌, unsigned_abs, int_div}
-use Rattle.std.specs.Int.{int_signum, int_div_euclid}
+use Rattle.std.proofs.Common.{◌≡◌, ◌≢◌, refl, ℕ, ◌+◌, ◌*◌, ◌≤◌, ◌<◌, arith, lit<, zero, suc, Bool, true, FitsSigned, w64, of_z}
+use Rattle.std.specs.Prelude.{ℤ, pos, negsuc, ◌+ℤ◌, ◌*ℤ◌, ◌<ℤ◌, unsigned_abs, int_div, int_le, ◌&&◌}
+use Rattle.std.specs.Int.{w128, int_signum, int_div_euclid}
 use Rattle.std.proofs.lemmas.Int.{ints, unsigned_abs-mul, fits_signed_mul, fits_signed_from_abs}
 use Rattle.std.proofs.Math.Nat.{mul-le-mul_left, mul-le-mul_right}
 use Rattle.overlay_base.specs.Coordinates.{greatest_difference, greatest_product}
@@ -14,8 +14,8 @@ use Rattle.overlay_marks.proofs.laws.Rounding.{over}
 pub numerator_bound : (v n : ℤ) → unsigned_abs v ≤ greatest_difference → unsigned_abs n ≤ 2 * greatest_product → unsigned_abs (v *ℤ n) ≤ greatest_numerator
 numerator_bound v n p q = rw unsigned_abs-mul (omega (arith, mul-le-mul_left (unsigned_abs v) q, mul-le-mul_right (2 * greatest_product) p))
 
-pub numerator_fits : (v n : ℤ) → unsigned_abs v ≤ greatest_difference → unsigned_abs n ≤ 2 * greatest_product → FitsSigned w64 (v *ℤ n)
-numerator_fits v n p q = fits_signed_mul w64 v n greatest_difference (2 * greatest_product) p q (lit< tt)
+pub numerator_fits : (v n : ℤ) → unsigned_abs v ≤ greatest_difference → unsigned_abs n ≤ 2 * greatest_product → FitsSigned w128 (v *ℤ n)
+numerator_fits v n p q = fits_signed_mul w128 v n greatest_difference (2 * greatest_product) p q (lit< tt)
 
 signum_bound : (z : ℤ) → unsigned_abs (int_signum z) ≤ 1
 signum_bound (pos zero) = omega arith
@@ -28,19 +28,31 @@ signum_times_bound z t m h = rw unsigned_abs-mul (omega (arith, mul-le-mul_right
 pub signum_fits : (z : ℤ) → FitsSigned w64 (int_signum z)
 signum_fits z = fits_signed_from_abs w64 (int_signum z) (omega (arith, signum_bound z))
 
-pub fits_below : (z : ℤ) (m : ℕ) → unsigned_abs z ≤ m → m < 9223372036854775808 → FitsSigned w64 z
-fits_below z m h k = fits_signed_from_abs w64 z (omega arith)
+pub wide_signum_fits : (z : ℤ) → FitsSigned w128 (int_signum z)
+wide_signum_fits z = fits_signed_from_abs w128 (int_signum z) (omega (arith, signum_bound z))
+
+pub fits_below : (z : ℤ) (m : ℕ) → unsigned_abs z ≤ m → m < 170141183460469231731687303715884105728 → FitsSigned w128 z
+fits_below z m h k = fits_signed_from_abs w128 z (omega arith)
+
+pub widened_fits : (z : ℤ) → FitsSigned w64 z → FitsSigned w128 z
+widened_fits (pos n) h = let k : n < 9223372036854775808 = h.sfits in record { sfits = omega arith }
+widened_fits (negsuc n) h = let k : n < 9223372036854775808 = h.sfits in record { sfits = omega arith }
+
+-- what the test for an `i64` tells
+pub narrow_fits : (z : ℤ) (b : Bool) → b ≡ (int_le (negsuc 9223372036854775807) z && int_le z (pos 9223372036854775807)) → b ≡ true → FitsSigned w64 z
+narrow_fits (pos n) b e t = record { sfits = grind (arith, ints) }
+narrow_fits (negsuc n) b e t = record { sfits = grind (arith, ints) }
 
 -- what code forms of an offset
 pub record OffsetFits (top bottom : ℤ) : Type 0 where
-  pub top_fits : FitsSigned w64 top
-  pub bottom_fits : FitsSigned w64 bottom
-  pub sign_fits : FitsSigned w64 (int_signum top)
-  pub twice_fits : FitsSigned w64 (pos 2 *ℤ top)
-  pub signed_fits : FitsSigned w64 (int_signum top *ℤ bottom)
-  pub sum_fits : FitsSigned w64 (pos 2 *ℤ top +ℤ int_signum top *ℤ bottom)
-  pub upward_fits : FitsSigned w64 (pos 2 *ℤ top +ℤ bottom)
-  pub divisor_fits : FitsSigned w64 (pos 2 *ℤ bottom)
+  pub top_fits : FitsSigned w128 top
+  pub bottom_fits : FitsSigned w128 bottom
+  pub sign_fits : FitsSigned w128 (int_signum top)
+  pub twice_fits : FitsSigned w128 (pos 2 *ℤ top)
+  pub signed_fits : FitsSigned w128 (int_signum top *ℤ bottom)
+  pub sum_fits : FitsSigned w128 (pos 2 *ℤ top +ℤ int_signum top *ℤ bottom)
+  pub upward_fits : FitsSigned w128 (pos 2 *ℤ top +ℤ bottom)
+  pub divisor_fits : FitsSigned w128 (pos 2 *ℤ bottom)
   pub divisor_positive : pos 0 <ℤ (pos 2 *ℤ bottom)
 
 pub offset_fits : (top bottom : ℤ) → unsigned_abs top ≤ greatest_numerator → unsigned_abs bottom ≤ 2 * greatest_product → pos 0 <ℤ bottom → OffsetFits top bottom
@@ -50,7 +62,7 @@ offset_fits t b ht hb p =
     record {
       top_fits = fits_below t greatest_numerator ht (lit< tt);
       bottom_fits = fits_below b (2 * greatest_product) hb (lit< tt);
-      sign_fits = signum_fits t;
+      sign_fits = wide_signum_fits t;
       twice_fits = fits_below (pos 2 *ℤ t) (2 * greatest_numerator) (twice t ht) (lit< tt);
       signed_fits = fits_below (int_signum t *ℤ b) (2 * greatest_product) g (lit< tt);
       sum_fits = fits_below _ (2 * greatest_numerator + 2 * greatest_product) s (lit< tt);
@@ -68,7 +80,7 @@ offset_fits t b ht hb p =
     twice_and : (t c : ℤ) → unsigned_abs t ≤ greatest_numerator → unsigned_abs c ≤ 2 * greatest_product → unsigned_abs (pos 2 *ℤ t +ℤ c) ≤ 2 * greatest_numerator + 2 * greatest_product
     twice_and t c h k = omega (arith, ints)
 
-pub positive_bits : (z : ℤ) → pos 0 <ℤ z → 0 < of_z w64 z
+pub positive_bits : (z : ℤ) → pos 0 <ℤ z → 0 < of_z w128 z
 positive_bits (pos n) h = omega (arith, ints)
 positive_bits (negsuc n) h = absurd (omega (arith, ints))
 

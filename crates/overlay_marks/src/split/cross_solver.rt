@@ -1,4 +1,4 @@
-// Where two segments meet. The answer is exact: products of coordinate differences stay in an `i64`.
+// Where two segments meet. The answer is exact: products of two coordinate differences stay in an `i64`.
 // Upstream: `split::cross_solver`.
 ghost use Rattle.std.specs.Prelude.{◌≡◌, ◌≢◌, ◌≤ℤ◌, pos, unsigned_abs, IsTrue};
 ghost use Rattle.overlay_base.specs.Points.{is_strictly_inside};

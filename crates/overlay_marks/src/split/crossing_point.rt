@@ -90,7 +90,7 @@ fn crossing_d<I: OverlayInt>(target: &XSegment<I>, other: &XSegment<I>) -> i64
 }
 
 /// The point so far from another.
-fn moved<I: OverlayInt>(from: IntPoint<I>, x: i64, y: i64) -> IntPoint<I>
+fn moved<I: OverlayInt>(from: IntPoint<I>, x: i128, y: i128) -> IntPoint<I>
     requires from { IsPointInRange I.whole I.MIN_COORD I.MAX_COORD from }
     requires to { IsTrue (is_point_in_range (I.whole I.MIN_COORD) (I.whole I.MAX_COORD) (moved (record { x = x; y = y }) (point_of I.whole from))) }
     ensures { point_of I.whole result ≡ moved (record { x = x; y = y }) (point_of I.whole from) }
@@ -98,10 +98,10 @@ fn moved<I: OverlayInt>(from: IntPoint<I>, x: i64, y: i64) -> IntPoint<I>
     IntPoint::new(coordinate(from.x, x), coordinate(from.y, y))
 }
 
-fn coordinate<I: OverlayInt>(from: I, by: i64) -> I
+fn coordinate<I: OverlayInt>(from: I, by: i128) -> I
     requires from { IsTrue (is_coordinate (I.whole I.MIN_COORD) (I.whole I.MAX_COORD) (I.whole from)) }
     requires to { IsTrue (is_coordinate (I.whole I.MIN_COORD) (I.whole I.MAX_COORD) (I.whole from +ℤ by)) }
     ensures { I.whole result ≡ I.whole from +ℤ by }
 {
-    I::from_wide(from.to_wide() + by)
+    I::from_wide((from.to_wide() as i128 + by) as i64)
 }

@@ -1,7 +1,8 @@
 // Worked sweeps, with ample memory.
-ghost use Rattle.std.specs.Prelude.{◌≡◌, ℕ, ◌+◌, ◌*◌, ◌/◌, ◌%◌, ◌^◌, ◌<◌, ⊤, IsTrue, pos, negsuc, bit_and, length, vec_len, None, Some, if◌then◌else◌, ◌==◌, OnOk, IfOk};
+ghost use Rattle.std.specs.Prelude.{◌≡◌, ℕ, ◌+◌, ◌*◌, ◌/◌, ◌%◌, ◌^◌, ◌<◌, ⊤, IsTrue, bit_and, length, vec_len, None, Some, if◌then◌else◌, ◌==◌, OnOk, IfOk};
 ghost use Rattle.overlay_base.specs.Points.{point_lt};
 ghost use Rattle.overlay_base.specs.Windings.{is_valid};
+ghost use Rattle.overlay_base.specs.Coordinates.{least_coordinate, greatest_coordinate};
 ghost use Rattle.overlay_base.specs.Planar.{is_arranged};
 ghost use Rattle.overlay_base.specs.SegmentOf.{segment_of, segments_of};
 
@@ -36,7 +37,7 @@ pub fn line(ax: i32, ay: i32, bx: i32, by: i32, subj: i32, clip: i32) -> Line
 
 // A subject square with corners (0, 0) and (4, 4) and a clip square with corners (2, 2) and (6, 6), split.
 pub fn two_squares() -> [Line; 12]
-    ensures { IsTrue (is_arranged (negsuc 524287) (pos 524287) (segments_of result)) }
+    ensures { IsTrue (is_arranged least_coordinate greatest_coordinate (segments_of result)) }
 {
     [
         line(0, 0, 0, 4, -1, 0),
@@ -56,7 +57,7 @@ pub fn two_squares() -> [Line; 12]
 
 // A subject square, run clockwise.
 fn clockwise_square() -> [Line; 4]
-    ensures { IsTrue (is_arranged (negsuc 524287) (pos 524287) (segments_of result)) }
+    ensures { IsTrue (is_arranged least_coordinate greatest_coordinate (segments_of result)) }
 {
     [
         line(0, 0, 0, 4, 1, 0),
@@ -68,28 +69,28 @@ fn clockwise_square() -> [Line; 4]
 
 // A line, and a shorter one above it.
 fn line_under_line() -> [Line; 2]
-    ensures { IsTrue (is_arranged (negsuc 524287) (pos 524287) (segments_of result)) }
+    ensures { IsTrue (is_arranged least_coordinate greatest_coordinate (segments_of result)) }
 {
     [line(0, 0, 4, 0, 1, 0), line(1, 1, 3, 1, 1, 0)]
 }
 
 // A line that ends below the start of another.
 fn line_beside_line() -> [Line; 2]
-    ensures { IsTrue (is_arranged (negsuc 524287) (pos 524287) (segments_of result)) }
+    ensures { IsTrue (is_arranged least_coordinate greatest_coordinate (segments_of result)) }
 {
     [line(0, 0, 4, 0, 1, 0), line(4, 1, 6, 1, 1, 0)]
 }
 
 // Two lines whose counts leave the range together.
 pub fn greatest_counts() -> [Line; 2]
-    ensures { IsTrue (is_arranged (negsuc 524287) (pos 524287) (segments_of result)) }
+    ensures { IsTrue (is_arranged least_coordinate greatest_coordinate (segments_of result)) }
 {
     [line(0, 0, 4, 0, i32::MAX, 0), line(0, 1, 4, 1, i32::MAX, 0)]
 }
 
 // The fills by index, which are the same under every strategy.
 fn fills(rt: &impl Abort, alloc: Global, segments: &[Line], fill_rule: FillRule) -> Vec<SegmentFill>
-    requires { IsTrue (is_arranged (negsuc 524287) (pos 524287) (segments_of segments.now)) }
+    requires { IsTrue (is_arranged least_coordinate greatest_coordinate (segments_of segments.now)) }
 {
     let found = fills_under(rt, alloc, &Solver::LIST, segments, fill_rule);
     for solver in STRATEGIES {
@@ -106,7 +107,7 @@ fn fills_under(
     segments: &[Line],
     fill_rule: FillRule,
 ) -> Vec<SegmentFill>
-    requires { IsTrue (is_arranged (negsuc 524287) (pos 524287) (segments_of segments.now)) }
+    requires { IsTrue (is_arranged least_coordinate greatest_coordinate (segments_of segments.now)) }
 {
     let mut runner = SweepRunner::new(alloc);
     let mut fills = blank(rt, alloc, segments.len());

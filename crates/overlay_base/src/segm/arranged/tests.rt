@@ -23,8 +23,10 @@ fn list<I: OverlayInt>(
 
 #[test]
 fn coordinates_at_the_limits(rt: HostRuntime) -> Result<(), Fail> {
-    assert!(rt; !is_splittable(&list(&rt, &[((0, 0), (524_288, 0))])?));
-    assert!(rt; is_splittable(&list(&rt, &[((0, 0), (524_287, -524_288))])?));
+    assert!(rt; is_splittable(&list(&rt, &[((0, 0), (524_288, 0))])?));
+    assert!(rt; !is_splittable(&list(&rt, &[((0, 0), (1_073_741_824, 0))])?));
+    assert!(rt; !is_splittable(&list(&rt, &[((0, -1_073_741_825), (0, 0))])?));
+    assert!(rt; is_splittable(&list(&rt, &[((0, 0), (1_073_741_823, -1_073_741_824))])?));
     let narrow: [Step<i16>; 1] = [((0, 16_384), (1, 0))];
     assert!(rt; !is_splittable(&list(&rt, &narrow)?));
     let narrow: [Step<i16>; 1] = [((-16_384, 16_383), (16_383, -16_384))];

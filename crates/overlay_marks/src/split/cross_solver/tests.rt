@@ -4,6 +4,8 @@ ghost use Rattle.overlay_base.specs.Meeting.{are_collinear};
 ghost use Rattle.overlay_base.specs.PairOf.{pair_of};
 ghost use Rattle.overlay_base.specs.InRange.{IsPairInRange};
 
+mod far_ends;
+
 use super::*;
 use overlay_base::geom::triangle::Triangle;
 use std::process::Abort;
@@ -21,7 +23,7 @@ struct Row {
     swapped: Answer,
 }
 
-const ROWS: [Row; 12] = [
+const ROWS: [Row; 17] = [
     Row {
         name: "no end within the radius",
         first: [0, 0, 5, 5],
@@ -56,11 +58,56 @@ const ROWS: [Row; 12] = [
     },
     Row {
         name: "the diagonals of the wide engine",
-        first: [-524288, -524288, 524287, 524287],
-        second: [-524288, 524287, 524287, -524288],
+        first: [-1_073_741_824, -1_073_741_824, 1_073_741_823, 1_073_741_823],
+        second: [-1_073_741_824, 1_073_741_823, 1_073_741_823, -1_073_741_824],
         radius_squared: 1,
         answer: Some((CrossType::Pure, 0, 0, true)),
         swapped: Some((CrossType::Pure, 0, -1, true)),
+    },
+    Row {
+        name: "a corner of the narrow engine that is cut off",
+        first: [-16384, -16384, 16383, 16383],
+        second: [-16384, -16383, -16383, -16384],
+        radius_squared: 1,
+        answer: Some((CrossType::OtherEnd, -16383, -16384, true)),
+        swapped: Some((CrossType::TargetEnd, -16383, -16384, true)),
+    },
+    Row {
+        name: "a corner of the wide engine that is cut off",
+        first: [-1_073_741_824, -1_073_741_824, 1_073_741_823, 1_073_741_823],
+        second: [
+            -1_073_741_824,
+            -1_073_741_823,
+            -1_073_741_823,
+            -1_073_741_824,
+        ],
+        radius_squared: 1,
+        answer: Some((CrossType::OtherEnd, -1_073_741_823, -1_073_741_824, true)),
+        swapped: Some((CrossType::TargetEnd, -1_073_741_823, -1_073_741_824, true)),
+    },
+    Row {
+        name: "far out, with whole coordinates",
+        first: [-1_024_000_000, -1_024_000_000, 1_024_000_000, 1_024_000_000],
+        second: [512_000_000, -1_024_000_000, 512_000_000, 1_024_000_000],
+        radius_squared: 2,
+        answer: Some((CrossType::Pure, 512_000_000, 512_000_000, false)),
+        swapped: Some((CrossType::Pure, 512_000_000, 512_000_000, false)),
+    },
+    Row {
+        name: "a crossing of long segments",
+        first: [-8_555_798, -1_599_355, -1_024_000, 0],
+        second: [-8_571_363, 1_513_719, -1_023_948, -10_239],
+        radius_squared: 2,
+        answer: Some((CrossType::Pure, -1_048_691, -5_243, true)),
+        swapped: Some((CrossType::Pure, -1_048_691, -5_243, true)),
+    },
+    Row {
+        name: "an overlap far out",
+        first: [-276_659_431, 380_789_039, -221_915_258, 435_533_212],
+        second: [-276_659_432, 380_789_038, -276_659_430, 380_789_040],
+        radius_squared: 2,
+        answer: Some((CrossType::Overlay, 0, 0, false)),
+        swapped: Some((CrossType::Overlay, 0, 0, false)),
     },
     Row {
         name: "nearly parallel",
@@ -201,7 +248,7 @@ fn rows_in_the_narrow_engine(rt: HostRuntime) {
             asked = asked.saturating_add(1);
         }
     }
-    assert_eq!(rt; asked, 9);
+    assert_eq!(rt; asked, 10);
 }
 
 #[test]
@@ -214,6 +261,16 @@ fn mask_of_an_overlap(rt: HostRuntime) {
     assert!(rt; are_collinear(&second, &first));
     assert_eq!(rt; CrossSolver::collinear(&first, &second).number(), 6);
     assert_eq!(rt; CrossSolver::collinear(&second, &first).number(), 9);
+}
+
+#[test]
+fn mask_of_an_overlap_far_out(rt: HostRuntime) {
+    let first = wide([-276_659_431, 380_789_039, -221_915_258, 435_533_212]);
+    let second = wide([-276_659_432, 380_789_038, -276_659_430, 380_789_040]);
+    assert!(rt; is_usable(&first));
+    assert!(rt; is_usable(&second));
+    assert!(rt; are_collinear(&first, &second));
+    assert_eq!(rt; CrossSolver::collinear(&first, &second).number(), 9);
 }
 
 fn are_collinear<I: OverlayInt>(target: &XSegment<I>, other: &XSegment<I>) -> bool

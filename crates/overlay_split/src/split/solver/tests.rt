@@ -9,6 +9,7 @@ use overlay_base::segm::boolean::ShapeCountBoolean;
 use std::process::Abort;
 use std::test::Fail;
 
+mod far_ends;
 mod long_lists;
 
 /// A segment as the tables write it: from, to, the count for the subject.
