@@ -2,6 +2,7 @@
 // `overlay_sweep`, whose modules stand here too, as in upstream.
 
 pub mod builder;
+pub mod clip_filter;
 mod fills;
 pub mod filter;
 pub mod graph;

@@ -1,5 +1,5 @@
 // Builds the graphs of overlays, one after another. Upstream: `build::builder`, and the builds of `build::boolean`.
-ghost use Rattle.std.specs.Prelude.{◌≡◌, [], Bool, true, Option, Some, None, map, IsTrue, IsFalse, OnOk, OnErr, IfOk, IfErr};
+ghost use Rattle.std.specs.Prelude.{◌≡◌, [], true, map, IsTrue, IsFalse, OnOk, OnErr, IfOk, IfErr};
 ghost use Rattle.std.specs.Borrow.{sem};
 ghost use Rattle.overlay_base.specs.Rules.{holds, keeps_fill};
 ghost use Rattle.overlay_base.specs.Planar.{is_arranged};
@@ -11,12 +11,12 @@ ghost use Rattle.overlay_build.specs.Graph.{graph_by, data_by, has_even_nodes};
 ghost use Rattle.overlay_build.specs.Sides.{IsBalancedOverlay};
 ghost use Rattle.overlay_build.specs.GraphOf.{HoldGraph, graph_with};
 ghost use Rattle.overlay_build.specs.NodeIndexes.{indexes_of, is_canonical_node};
-ghost use Rattle.overlay_build.specs.RuleOf.{keeps_by};
+ghost use Rattle.overlay_build.specs.LinkRules.{keeps_by};
 
 use crate::build::fills::find_fills;
 use crate::build::graph::OverlayGraph;
 use crate::build::graph_node::{GraphNode, OverlayNode};
-use crate::build::kept_links::collect_links;
+use crate::build::kept_links::{LinkRule, collect_links};
 use crate::build::nodes::connect_links;
 use overlay_base::geom::end::End;
 use overlay_base::num::OverlayInt;
@@ -82,7 +82,7 @@ impl<N: GraphNode, I: OverlayInt, D: Copy> GraphBuilder<ShapeCountBoolean, N, I,
     fn build(
         &mut self,
         fill_rule: FillRule,
-        rule: Option<OverlayRule>,
+        rule: LinkRule,
         solver: &Solver,
         segments: &[Segment<ShapeCountBoolean, I, D>],
     ) -> Result<(), Fault>
@@ -106,7 +106,7 @@ impl<N: GraphNode, I: OverlayInt, D: Copy> GraphBuilder<ShapeCountBoolean, N, I,
     fn try_build(
         &mut self,
         fill_rule: FillRule,
-        rule: Option<OverlayRule>,
+        rule: LinkRule,
         solver: &Solver,
         segments: &[Segment<ShapeCountBoolean, I, D>],
     ) -> Result<(), Fault>
@@ -160,7 +160,7 @@ impl<I: OverlayInt, D: Copy> GraphBuilder<ShapeCountBoolean, OverlayNode, I, D> 
         ensures out_of_range { IfErr result (λ fault. fault ≡ CountOutOfRange → IsTrue (tops_leave_range (segments_of segments.now))) }
         ensures* after { sem 𝓛 (HoldsAnswer I.row D.row I.OverlayInt.own I.Ord.own I.PartialEq I.PartialOrd.own result self.entry) }
     {
-        self.build(fill_rule, None, solver, segments)?;
+        self.build(fill_rule, LinkRule::Every, solver, segments)?;
         Ok(self.graph())
     }
 
@@ -188,7 +188,7 @@ impl<I: OverlayInt, D: Copy> GraphBuilder<ShapeCountBoolean, OverlayNode, I, D> 
         ensures out_of_range { IfErr result (λ fault. fault ≡ CountOutOfRange → IsTrue (tops_leave_range (segments_of segments.now))) }
         ensures* after { sem 𝓛 (HoldsAnswer I.row D.row I.OverlayInt.own I.Ord.own I.PartialEq I.PartialOrd.own result self.entry) }
     {
-        self.build(fill_rule, Some(overlay_rule), solver, segments)?;
+        self.build(fill_rule, LinkRule::Overlay(overlay_rule), solver, segments)?;
         Ok(self.graph())
     }
 }
