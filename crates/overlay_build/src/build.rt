@@ -14,6 +14,7 @@ pub mod laws;
 mod link_ends;
 pub mod link_filter;
 mod nodes;
+pub mod string_graph;
 #[cfg(test)]
 mod walk_tests;
 pub mod walks;
@@ -21,5 +22,5 @@ pub mod walks;
 mod worked_lines;
 
 pub use overlay_sweep::build::{
-    boolean, fill_handler, fill_strategy, live_segments, scan_list, scan_tree, sweep,
+    boolean, fill_handler, fill_strategy, live_segments, scan_list, scan_tree, string, sweep,
 };
