@@ -10,5 +10,6 @@ pub mod LinkEnds
 pub mod RuleOf
 pub mod LinkRules
 pub mod BuilderOf
+pub mod StringGraphOf
 pub mod Walks
 pub mod UnusedLinks

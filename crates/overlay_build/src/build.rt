@@ -16,6 +16,8 @@ pub mod link_filter;
 mod nodes;
 pub mod string_graph;
 #[cfg(test)]
+mod string_tests;
+#[cfg(test)]
 mod walk_tests;
 pub mod walks;
 #[cfg(test)]

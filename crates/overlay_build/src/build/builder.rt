@@ -200,12 +200,14 @@ impl<I: OverlayInt, D: Copy> GraphBuilder<ShapeCountBoolean, OverlayNode, I, D> 
 }
 
 impl<I: OverlayInt> GraphBuilder<ShapeCountString, Vec<usize>, I, ()> {
-    /// The graph of the last build, which lends the links out.
-    fn string_graph(&mut self) -> StringGraph<'_, I>
-        ensures nodes { result.nodes.now ≡ self.old.nodes.items }
-        ensures links { result.links.now ≡ self.old.links.items }
+    ghost use Rattle.overlay_build.specs.StringGraphOf.{HoldsLines, LendsBuiltLinks, nodes_of, links_of};
+
+    /// The links of the last build, to be written to.
+    pub(crate) fn links_mut(&mut self) -> &mut [OverlayLink<I, ()>]
+        ensures links { result.now ≡ self.old.links.items }
+        ensures* writes_back { sem 𝓛 (LendsBuiltLinks I.row I.OverlayInt.own I.Ord.own I.PartialEq I.PartialOrd.own self.entry result) }
     {
-        StringGraph::new(self.nodes.as_slice(), self.links.as_mut_slice())
+        self.links.as_mut_slice()
     }
 
     /// The graph of all segments of an arrangement of polygons and lines, with their fills under the rule: how the
@@ -223,13 +225,15 @@ impl<I: OverlayInt> GraphBuilder<ShapeCountString, Vec<usize>, I, ()> {
         segments: &[Segment<ShapeCountString, I, ()>],
     ) -> Result<StringGraph<'_, I>, Fault>
         requires arranged { IsTrue (is_arranged (I.whole I.MIN_COORD) (I.whole I.MAX_COORD) (segments_of segments.now)) }
-        ensures graph { IfOk result (λ graph. HoldGraph items_of is_any_node I.whole graph.nodes.now graph.links.now (graph_by (λ _. true) fill_rule (segments_of segments.now))) }
+        ensures graph { IfOk result (λ graph. HoldGraph items_of is_any_node I.whole (nodes_of graph) (links_of graph) (graph_by (λ _. true) fill_rule (segments_of segments.now))) }
         ensures in_range { OnOk result (IsFalse (tops_leave_range (segments_of segments.now))) }
         ensures out_of_range { IfErr result (λ fault. fault ≡ CountOutOfRange → IsTrue (tops_leave_range (segments_of segments.now))) }
+        ensures same_builder { IfOk result (λ graph. graph.builder.ghost_name ≡ self.entry.ghost_name) }
+        ensures* after { sem 𝓛 (HoldsLines I.row I.OverlayInt.own I.Ord.own I.PartialEq I.PartialOrd.own result self.entry) }
     {
         let every = LinkRule::Every;
         self.build(fill_rule, every, solver, segments)?;
-        Ok(self.string_graph())
+        Ok(StringGraph::new(self))
     }
 
     /// The graph of the segments of an arrangement of polygons and lines that the clip rule keeps: parts of lines, by
@@ -247,11 +251,13 @@ impl<I: OverlayInt> GraphBuilder<ShapeCountString, Vec<usize>, I, ()> {
         segments: &[Segment<ShapeCountString, I, ()>],
     ) -> Result<StringGraph<'_, I>, Fault>
         requires arranged { IsTrue (is_arranged (I.whole I.MIN_COORD) (I.whole I.MAX_COORD) (segments_of segments.now)) }
-        ensures graph { IfOk result (λ graph. HoldGraph items_of is_any_node I.whole graph.nodes.now graph.links.now (graph_by (keeps_clip clip_rule) fill_rule (segments_of segments.now))) }
+        ensures graph { IfOk result (λ graph. HoldGraph items_of is_any_node I.whole (nodes_of graph) (links_of graph) (graph_by (keeps_clip clip_rule) fill_rule (segments_of segments.now))) }
         ensures in_range { OnOk result (IsFalse (tops_leave_range (segments_of segments.now))) }
         ensures out_of_range { IfErr result (λ fault. fault ≡ CountOutOfRange → IsTrue (tops_leave_range (segments_of segments.now))) }
+        ensures same_builder { IfOk result (λ graph. graph.builder.ghost_name ≡ self.entry.ghost_name) }
+        ensures* after { sem 𝓛 (HoldsLines I.row I.OverlayInt.own I.Ord.own I.PartialEq I.PartialOrd.own result self.entry) }
     {
         self.build(fill_rule, LinkRule::Clip(clip_rule), solver, segments)?;
-        Ok(self.string_graph())
+        Ok(StringGraph::new(self))
     }
 }
