@@ -25,3 +25,4 @@ pub mod Rests
 pub mod Apart
 pub mod Shifts
 pub mod Fills
+pub mod ClipRules

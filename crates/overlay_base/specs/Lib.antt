@@ -11,6 +11,7 @@ pub mod VectorOf
 pub mod Windings
 pub mod ShapeWindings
 pub mod BooleanWinding
+pub mod StringWinding
 pub mod Segments
 pub mod Sums
 pub mod Join
@@ -25,6 +26,7 @@ pub mod HooksOf
 pub mod SegmentOf
 pub mod Rules
 pub mod RuleLaws
+pub mod ClipRules
 pub mod RuleNames
 pub mod Laws
 pub mod Places

@@ -1,5 +1,6 @@
 // What upstream keeps in its module `core`.
 
+pub mod clip_rule;
 pub mod edge_data;
 pub mod extract;
 pub mod fill_rule;

@@ -11,4 +11,5 @@ pub mod segment;
 pub mod segment_fill;
 pub mod shape_type;
 pub mod sort;
+pub mod string;
 pub mod winding;

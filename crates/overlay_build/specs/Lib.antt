@@ -8,6 +8,8 @@ pub mod GraphOf
 pub mod NodeIndexes
 pub mod LinkEnds
 pub mod RuleOf
+pub mod LinkRules
 pub mod BuilderOf
+pub mod StringGraphOf
 pub mod Walks
 pub mod UnusedLinks

@@ -2,6 +2,7 @@
 // `overlay_sweep`, whose modules stand here too, as in upstream.
 
 pub mod builder;
+pub mod clip_filter;
 mod fills;
 pub mod filter;
 pub mod graph;
@@ -13,6 +14,9 @@ pub mod laws;
 mod link_ends;
 pub mod link_filter;
 mod nodes;
+pub mod string_graph;
+#[cfg(test)]
+mod string_tests;
 pub mod util;
 #[cfg(test)]
 mod walk_tests;
@@ -21,5 +25,5 @@ pub mod walks;
 mod worked_lines;
 
 pub use overlay_sweep::build::{
-    boolean, fill_handler, fill_strategy, live_segments, scan_list, scan_tree, sweep,
+    boolean, fill_handler, fill_strategy, live_segments, scan_list, scan_tree, string, sweep,
 };

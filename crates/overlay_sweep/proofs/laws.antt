@@ -1,4 +1,5 @@
 -- The laws of the definitions, as lemmas that proofs here and in the crates above cite.
+pub mod FillBytes
 pub mod WeightSums
 pub mod BalancedSums
 pub mod Heights

@@ -12,6 +12,7 @@ pub mod scan_list;
 #[cfg(test)]
 mod scan_tests;
 pub mod scan_tree;
+pub mod string;
 pub mod sweep;
 #[cfg(test)]
 mod tests;

@@ -1,7 +1,9 @@
-// Builds the graphs of overlays, one after another. Upstream: `build::builder`, and the builds of `build::boolean`.
-ghost use Rattle.std.specs.Prelude.{◌≡◌, [], Bool, true, Option, Some, None, map, IsTrue, IsFalse, OnOk, OnErr, IfOk, IfErr};
+// Builds graphs of overlays and of lines, one after another. Upstream: `build::builder`, and the builds of
+// `build::boolean` and `build::string`.
+ghost use Rattle.std.specs.Prelude.{◌≡◌, [], true, map, IsTrue, IsFalse, OnOk, OnErr, IfOk, IfErr};
 ghost use Rattle.std.specs.Borrow.{sem};
 ghost use Rattle.overlay_base.specs.Rules.{holds, keeps_fill};
+ghost use Rattle.overlay_base.specs.ClipRules.{keeps_clip};
 ghost use Rattle.overlay_base.specs.Planar.{is_arranged};
 ghost use Rattle.overlay_base.specs.Balance.{IsBalanced};
 ghost use Rattle.overlay_base.specs.SegmentOf.{segments_of, data_segments_of};
@@ -10,16 +12,18 @@ ghost use Rattle.overlay_sweep.specs.ChainWindings.{tops_leave_range};
 ghost use Rattle.overlay_build.specs.Graph.{graph_by, data_by, has_even_nodes};
 ghost use Rattle.overlay_build.specs.Sides.{IsBalancedOverlay};
 ghost use Rattle.overlay_build.specs.GraphOf.{HoldGraph, graph_with};
-ghost use Rattle.overlay_build.specs.NodeIndexes.{indexes_of, is_canonical_node};
-ghost use Rattle.overlay_build.specs.RuleOf.{keeps_by};
+ghost use Rattle.overlay_build.specs.NodeIndexes.{indexes_of, is_canonical_node, items_of, is_any_node};
+ghost use Rattle.overlay_build.specs.LinkRules.{keeps_by};
 
 use crate::build::fills::find_fills;
 use crate::build::graph::OverlayGraph;
 use crate::build::graph_node::{GraphNode, OverlayNode};
-use crate::build::kept_links::collect_links;
+use crate::build::kept_links::{LinkRule, collect_links};
 use crate::build::nodes::connect_links;
+use crate::build::string_graph::StringGraph;
 use overlay_base::geom::end::End;
 use overlay_base::num::OverlayInt;
+use overlay_base::overlay_core::clip_rule::ClipRule;
 use overlay_base::overlay_core::fill_rule::FillRule;
 use overlay_base::overlay_core::link::OverlayLink;
 use overlay_base::overlay_core::overlay_rule::OverlayRule;
@@ -28,7 +32,9 @@ use overlay_base::segm::boolean::ShapeCountBoolean;
 use overlay_base::segm::fault::Fault;
 use overlay_base::segm::segment::Segment;
 use overlay_base::segm::segment_fill::SegmentFill;
+use overlay_base::segm::string::ShapeCountString;
 use overlay_base::segm::winding::WindingCount;
+use overlay_sweep::build::fill_strategy::FillCount;
 use overlay_sweep::build::sweep::SweepRunner;
 use std::alloc::Global;
 
@@ -77,14 +83,14 @@ impl<C: WindingCount, N: GraphNode, I: OverlayInt, D: Copy> GraphBuilder<C, N, I
     }
 }
 
-impl<N: GraphNode, I: OverlayInt, D: Copy> GraphBuilder<ShapeCountBoolean, N, I, D> {
+impl<C: FillCount, N: GraphNode, I: OverlayInt, D: Copy> GraphBuilder<C, N, I, D> {
     /// Builds the links and the nodes of the kept segments.
     fn build(
         &mut self,
         fill_rule: FillRule,
-        rule: Option<OverlayRule>,
+        rule: LinkRule,
         solver: &Solver,
-        segments: &[Segment<ShapeCountBoolean, I, D>],
+        segments: &[Segment<C, I, D>],
     ) -> Result<(), Fault>
         requires arranged { IsTrue (is_arranged (I.whole I.MIN_COORD) (I.whole I.MAX_COORD) (segments_of segments.now)) }
         ensures graph { OnOk result (HoldGraph N.indexes N.is_canonical I.whole self.new.nodes.items self.new.links.items (graph_by (keeps_by rule) fill_rule (segments_of segments.now))) }
@@ -106,9 +112,9 @@ impl<N: GraphNode, I: OverlayInt, D: Copy> GraphBuilder<ShapeCountBoolean, N, I,
     fn try_build(
         &mut self,
         fill_rule: FillRule,
-        rule: Option<OverlayRule>,
+        rule: LinkRule,
         solver: &Solver,
-        segments: &[Segment<ShapeCountBoolean, I, D>],
+        segments: &[Segment<C, I, D>],
     ) -> Result<(), Fault>
         requires arranged { IsTrue (is_arranged (I.whole I.MIN_COORD) (I.whole I.MAX_COORD) (segments_of segments.now)) }
         ensures graph { OnOk result (HoldGraph N.indexes N.is_canonical I.whole self.new.nodes.items self.new.links.items (graph_by (keeps_by rule) fill_rule (segments_of segments.now))) }
@@ -160,7 +166,7 @@ impl<I: OverlayInt, D: Copy> GraphBuilder<ShapeCountBoolean, OverlayNode, I, D> 
         ensures out_of_range { IfErr result (λ fault. fault ≡ CountOutOfRange → IsTrue (tops_leave_range (segments_of segments.now))) }
         ensures* after { sem 𝓛 (HoldsAnswer I.row D.row I.OverlayInt.own I.Ord.own I.PartialEq I.PartialOrd.own result self.entry) }
     {
-        self.build(fill_rule, None, solver, segments)?;
+        self.build(fill_rule, LinkRule::Every, solver, segments)?;
         Ok(self.graph())
     }
 
@@ -188,7 +194,70 @@ impl<I: OverlayInt, D: Copy> GraphBuilder<ShapeCountBoolean, OverlayNode, I, D> 
         ensures out_of_range { IfErr result (λ fault. fault ≡ CountOutOfRange → IsTrue (tops_leave_range (segments_of segments.now))) }
         ensures* after { sem 𝓛 (HoldsAnswer I.row D.row I.OverlayInt.own I.Ord.own I.PartialEq I.PartialOrd.own result self.entry) }
     {
-        self.build(fill_rule, Some(overlay_rule), solver, segments)?;
+        self.build(fill_rule, LinkRule::Overlay(overlay_rule), solver, segments)?;
         Ok(self.graph())
+    }
+}
+
+impl<I: OverlayInt> GraphBuilder<ShapeCountString, Vec<usize>, I, ()> {
+    ghost use Rattle.overlay_build.specs.StringGraphOf.{HoldsLines, LendsBuiltLinks, nodes_of, links_of};
+
+    /// The links of the last build, to be written to.
+    pub(crate) fn links_mut(&mut self) -> &mut [OverlayLink<I, ()>]
+        ensures links { result.now ≡ self.old.links.items }
+        ensures* writes_back { sem 𝓛 (LendsBuiltLinks I.row I.OverlayInt.own I.Ord.own I.PartialEq I.PartialOrd.own self.entry result) }
+    {
+        self.links.as_mut_slice()
+    }
+
+    /// The graph of all segments of an arrangement of polygons and lines, with their fills under the rule: how the
+    /// polygons wind on their two sides, and which ways lines run along them.
+    ///
+    /// The segments have to be arranged, as `is_arranged` tests; their counts need not balance. The solver's strategy
+    /// does not change the answer.
+    ///
+    /// Answers `Fault::CountOutOfRange` where a winding above a segment leaves the range, and `Fault::Memory` where a
+    /// growth is refused. Nodes and links are empty then, and the builder can be used again.
+    pub fn build_string_all(
+        &mut self,
+        fill_rule: FillRule,
+        solver: &Solver,
+        segments: &[Segment<ShapeCountString, I, ()>],
+    ) -> Result<StringGraph<'_, I>, Fault>
+        requires arranged { IsTrue (is_arranged (I.whole I.MIN_COORD) (I.whole I.MAX_COORD) (segments_of segments.now)) }
+        ensures graph { IfOk result (λ graph. HoldGraph items_of is_any_node I.whole (nodes_of graph) (links_of graph) (graph_by (λ _. true) fill_rule (segments_of segments.now))) }
+        ensures in_range { OnOk result (IsFalse (tops_leave_range (segments_of segments.now))) }
+        ensures out_of_range { IfErr result (λ fault. fault ≡ CountOutOfRange → IsTrue (tops_leave_range (segments_of segments.now))) }
+        ensures same_builder { IfOk result (λ graph. graph.builder.ghost_name ≡ self.entry.ghost_name) }
+        ensures* after { sem 𝓛 (HoldsLines I.row I.OverlayInt.own I.Ord.own I.PartialEq I.PartialOrd.own result self.entry) }
+    {
+        let every = LinkRule::Every;
+        self.build(fill_rule, every, solver, segments)?;
+        Ok(StringGraph::new(self))
+    }
+
+    /// The graph of the segments of an arrangement of polygons and lines that the clip rule keeps: parts of lines, by
+    /// whether the polygons wind on their two sides.
+    ///
+    /// The segments have to be arranged, as `is_arranged` tests. The solver's strategy does not change the answer.
+    ///
+    /// Answers `Fault::CountOutOfRange` where a winding above a segment leaves the range, and `Fault::Memory` where a
+    /// growth is refused. Nodes and links are empty then, and the builder can be used again.
+    pub fn build_string_clip(
+        &mut self,
+        fill_rule: FillRule,
+        clip_rule: ClipRule,
+        solver: &Solver,
+        segments: &[Segment<ShapeCountString, I, ()>],
+    ) -> Result<StringGraph<'_, I>, Fault>
+        requires arranged { IsTrue (is_arranged (I.whole I.MIN_COORD) (I.whole I.MAX_COORD) (segments_of segments.now)) }
+        ensures graph { IfOk result (λ graph. HoldGraph items_of is_any_node I.whole (nodes_of graph) (links_of graph) (graph_by (keeps_clip clip_rule) fill_rule (segments_of segments.now))) }
+        ensures in_range { OnOk result (IsFalse (tops_leave_range (segments_of segments.now))) }
+        ensures out_of_range { IfErr result (λ fault. fault ≡ CountOutOfRange → IsTrue (tops_leave_range (segments_of segments.now))) }
+        ensures same_builder { IfOk result (λ graph. graph.builder.ghost_name ≡ self.entry.ghost_name) }
+        ensures* after { sem 𝓛 (HoldsLines I.row I.OverlayInt.own I.Ord.own I.PartialEq I.PartialOrd.own result self.entry) }
+    {
+        self.build(fill_rule, LinkRule::Clip(clip_rule), solver, segments)?;
+        Ok(StringGraph::new(self))
     }
 }

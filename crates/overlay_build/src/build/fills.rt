@@ -9,19 +9,19 @@ ghost use Rattle.overlay_build.specs.Graph.{fills_of};
 use overlay_base::num::OverlayInt;
 use overlay_base::overlay_core::fill_rule::FillRule;
 use overlay_base::overlay_core::solver::Solver;
-use overlay_base::segm::boolean::ShapeCountBoolean;
 use overlay_base::segm::fault::Fault;
 use overlay_base::segm::segment::Segment;
 use overlay_base::segm::segment_fill::{NONE, SegmentFill};
 use overlay_sweep::build::fill_handler::StoreFillsHandler;
+use overlay_sweep::build::fill_strategy::FillCount;
 use overlay_sweep::build::sweep::SweepRunner;
 
 /// Finds the fills of the segments, in their order. After a refusal the list may hold anything.
-pub fn find_fills<I: OverlayInt, D: Copy>(
-    runner: &mut SweepRunner<ShapeCountBoolean, I>,
+pub fn find_fills<C: FillCount, I: OverlayInt, D: Copy>(
+    runner: &mut SweepRunner<C, I>,
     fill_rule: FillRule,
     solver: &Solver,
-    segments: &[Segment<ShapeCountBoolean, I, D>],
+    segments: &[Segment<C, I, D>],
     fills: &mut Vec<SegmentFill>,
 ) -> Result<(), Fault>
     requires arranged { IsTrue (is_arranged (I.whole I.MIN_COORD) (I.whole I.MAX_COORD) (segments_of segments.now)) }

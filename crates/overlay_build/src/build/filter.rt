@@ -1,19 +1,19 @@
 // Which segments an overlay rule keeps, by their fills: those whose two sides it tells apart. Upstream: the filters of
 // `build::boolean`, and `InclusionFilterStrategy` of `build::builder`.
-ghost use Rattle.std.specs.Prelude.{◌≡◌, Bool};
+ghost use Rattle.std.specs.Prelude.{◌≡◌, ℕ, Bool};
 ghost use Rattle.overlay_base.specs.Rules.{holds, keeps_fill};
 ghost use Rattle.overlay_base.specs.declared.overlay_core.overlay_rule.OverlayRule.TheVariants.{Subject, Clip, Intersect, Union, Difference, InverseDifference, Xor};
 
 use overlay_base::overlay_core::overlay_rule::OverlayRule;
 use overlay_base::segm::segment_fill::SegmentFill;
 
-/// A choice of fills: those of whose two sides a rule says different things.
+/// A choice of fills. An `impl` says which it keeps.
 pub trait InclusionFilterStrategy {
-    ghost rule: { Bool → Bool → Bool };
+    ghost keeps: { ℕ → Bool };
 
     /// Whether a segment with this fill is kept.
     fn is_included(fill: SegmentFill) -> bool
-        ensures { result ≡ keeps_fill rule fill };
+        ensures { result ≡ keeps fill };
 }
 
 /// Whether just one side is inside the subject.
@@ -69,7 +69,7 @@ pub fn is_xor(fill: SegmentFill) -> bool
 pub struct SubjectFilter;
 
 impl InclusionFilterStrategy for SubjectFilter {
-    ghost rule = { holds Subject };
+    ghost keeps = { keeps_fill (holds Subject) };
 
     fn is_included(fill: SegmentFill) -> bool {
         is_subject(fill)
@@ -80,7 +80,7 @@ impl InclusionFilterStrategy for SubjectFilter {
 pub struct ClipFilter;
 
 impl InclusionFilterStrategy for ClipFilter {
-    ghost rule = { holds Clip };
+    ghost keeps = { keeps_fill (holds Clip) };
 
     fn is_included(fill: SegmentFill) -> bool {
         is_clip(fill)
@@ -91,7 +91,7 @@ impl InclusionFilterStrategy for ClipFilter {
 pub struct IntersectFilter;
 
 impl InclusionFilterStrategy for IntersectFilter {
-    ghost rule = { holds Intersect };
+    ghost keeps = { keeps_fill (holds Intersect) };
 
     fn is_included(fill: SegmentFill) -> bool {
         is_intersect(fill)
@@ -102,7 +102,7 @@ impl InclusionFilterStrategy for IntersectFilter {
 pub struct UnionFilter;
 
 impl InclusionFilterStrategy for UnionFilter {
-    ghost rule = { holds Union };
+    ghost keeps = { keeps_fill (holds Union) };
 
     fn is_included(fill: SegmentFill) -> bool {
         is_union(fill)
@@ -113,7 +113,7 @@ impl InclusionFilterStrategy for UnionFilter {
 pub struct DifferenceFilter;
 
 impl InclusionFilterStrategy for DifferenceFilter {
-    ghost rule = { holds Difference };
+    ghost keeps = { keeps_fill (holds Difference) };
 
     fn is_included(fill: SegmentFill) -> bool {
         is_difference(fill)
@@ -124,7 +124,7 @@ impl InclusionFilterStrategy for DifferenceFilter {
 pub struct InverseDifferenceFilter;
 
 impl InclusionFilterStrategy for InverseDifferenceFilter {
-    ghost rule = { holds InverseDifference };
+    ghost keeps = { keeps_fill (holds InverseDifference) };
 
     fn is_included(fill: SegmentFill) -> bool {
         is_inverse_difference(fill)
@@ -135,7 +135,7 @@ impl InclusionFilterStrategy for InverseDifferenceFilter {
 pub struct XorFilter;
 
 impl InclusionFilterStrategy for XorFilter {
-    ghost rule = { holds Xor };
+    ghost keeps = { keeps_fill (holds Xor) };
 
     fn is_included(fill: SegmentFill) -> bool {
         is_xor(fill)

@@ -1,4 +1,5 @@
-// The nodes of a graph. Upstream: `core::graph::OverlayNode`, and `GraphNode` of `build::builder`.
+// The nodes of graphs. Upstream: `core::graph::OverlayNode`, `GraphNode` of `build::builder`, and the nodes of
+// `string::graph`.
 ghost use Rattle.std.specs.Prelude.{◌≡◌, ℕ, Bool, true, List, IfOk, IfErr};
 ghost use Rattle.overlay_base.specs.declared.segm.fault.Fault.TheVariants.{Memory};
 
@@ -44,6 +45,21 @@ impl GraphNode for OverlayNode {
         let mut several = Vec::new(alloc);
         several.extend_from_slice(indices)?;
         Ok(OverlayNode::Cross(several))
+    }
+}
+
+/// A node of the graph of lines: the same indexes in a list, however many.
+impl GraphNode for Vec<usize> {
+    ghost use Rattle.overlay_build.specs.NodeIndexes.{items_of, is_any_node};
+
+    ghost indexes = { items_of };
+
+    ghost is_canonical = { is_any_node };
+
+    fn with_indices(alloc: Global, indices: &[usize]) -> Result<Vec<usize>, Fault> {
+        let mut all = Vec::new(alloc);
+        all.extend_from_slice(indices)?;
+        Ok(all)
     }
 }
 

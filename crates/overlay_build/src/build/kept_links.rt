@@ -1,36 +1,49 @@
 // The links of the kept segments. Upstream: `build_links_all` and `build_links_by_filter` of `build::builder`.
-ghost use Rattle.std.specs.Prelude.{◌≡◌, Option, map, filter, length, OnOk, IfErr};
+ghost use Rattle.std.specs.Prelude.{◌≡◌, map, filter, length, OnOk, IfErr};
 ghost use Rattle.overlay_base.specs.SegmentOf.{segments_of, data_segments_of};
 ghost use Rattle.overlay_base.specs.declared.segm.fault.Fault.TheVariants.{Memory};
 ghost use Rattle.overlay_base.specs.declared.overlay_core.fill_rule.FillRule.{FillRule};
 ghost use Rattle.overlay_build.specs.Graph.{filled, fills_of, data_by};
 ghost use Rattle.overlay_build.specs.GraphOf.{kept_of};
-ghost use Rattle.overlay_build.specs.RuleOf.{keeps_by};
+ghost use Rattle.overlay_build.specs.LinkRules.{keeps_by};
 
 use overlay_base::geom::id_point::IdPoint;
 use overlay_base::num::OverlayInt;
+use overlay_base::overlay_core::clip_rule::ClipRule;
 use overlay_base::overlay_core::link::OverlayLink;
 use overlay_base::overlay_core::overlay_rule::OverlayRule;
-use overlay_base::segm::boolean::ShapeCountBoolean;
 use overlay_base::segm::fault::Fault;
 use overlay_base::segm::segment::Segment;
 use overlay_base::segm::segment_fill::SegmentFill;
+use overlay_base::segm::winding::WindingCount;
 
-/// Whether the rule keeps a fill. Without a rule every fill is kept.
-fn is_kept(rule: Option<OverlayRule>, fill: SegmentFill) -> bool
+/// Which segments become links, by their fills.
+#[derive(Clone, Copy)]
+pub enum LinkRule {
+    /// Every one.
+    Every,
+    /// Those that an overlay rule keeps.
+    Overlay(OverlayRule),
+    /// Those that a clip rule keeps.
+    Clip(ClipRule),
+}
+
+/// Whether a segment with this fill becomes a link.
+fn is_kept(rule: LinkRule, fill: SegmentFill) -> bool
     ensures { result ≡ keeps_by rule fill }
 {
     match rule {
-        Some(rule) => rule.is_included(fill),
-        None => true,
+        LinkRule::Every => true,
+        LinkRule::Overlay(rule) => rule.is_included(fill),
+        LinkRule::Clip(rule) => rule.is_included(fill),
     }
 }
 
 /// Makes a link of each segment whose fill is kept. The fills are those of the segments, in their order.
-pub fn collect_links<I: OverlayInt, D: Copy>(
-    segments: &[Segment<ShapeCountBoolean, I, D>],
+pub fn collect_links<C: WindingCount, I: OverlayInt, D: Copy>(
+    segments: &[Segment<C, I, D>],
     fills: &[SegmentFill],
-    rule: Option<OverlayRule>,
+    rule: LinkRule,
     links: &mut Vec<OverlayLink<I, D>>,
 ) -> Result<(), Fault>
     requires { length fills.now ≡ length segments.now }

@@ -1,6 +1,7 @@
 // The lines that worked graphs and walks are built of.
-ghost use Rattle.std.specs.Prelude.{◌≡◌, IsTrue, pos, negsuc};
+ghost use Rattle.std.specs.Prelude.{◌≡◌, IsTrue};
 ghost use Rattle.overlay_base.specs.Points.{point_lt};
+ghost use Rattle.overlay_base.specs.Coordinates.{least_coordinate, greatest_coordinate};
 ghost use Rattle.overlay_base.specs.Planar.{is_arranged};
 ghost use Rattle.overlay_base.specs.SegmentOf.{segment_of, segments_of};
 
@@ -25,7 +26,7 @@ pub fn line(ax: i32, ay: i32, bx: i32, by: i32, subj: i32, clip: i32) -> Line
 
 // A subject square with corners (0, 0) and (4, 4) and a clip square with corners (2, 2) and (6, 6), split.
 pub fn two_squares() -> [Line; 12]
-    ensures { IsTrue (is_arranged (negsuc 524287) (pos 524287) (segments_of result)) }
+    ensures { IsTrue (is_arranged least_coordinate greatest_coordinate (segments_of result)) }
 {
     [
         line(0, 0, 0, 4, -1, 0),
@@ -45,7 +46,7 @@ pub fn two_squares() -> [Line; 12]
 
 // Two lines whose counts leave the range together.
 pub fn greatest_counts() -> [Line; 2]
-    ensures { IsTrue (is_arranged (negsuc 524287) (pos 524287) (segments_of result)) }
+    ensures { IsTrue (is_arranged least_coordinate greatest_coordinate (segments_of result)) }
 {
     [line(0, 0, 4, 0, i32::MAX, 0), line(0, 1, 4, 1, i32::MAX, 0)]
 }

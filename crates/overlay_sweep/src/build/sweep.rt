@@ -8,7 +8,7 @@ ghost use Rattle.overlay_sweep.specs.Laws.{HaveColumnWindings};
 
 use crate::build::fill_handler::FillHandler;
 use crate::build::fill_strategy::{
-    EvenOddStrategy, FillStrategy, NegativeStrategy, NonZeroStrategy, PositiveStrategy,
+    EvenOddStrategy, FillCount, FillStrategy, NegativeStrategy, NonZeroStrategy, PositiveStrategy,
 };
 use crate::build::scan_list::ScanList;
 use crate::build::scan_tree::ScanTree;
@@ -17,7 +17,6 @@ use crate::build::way::Way;
 use overlay_base::num::OverlayInt;
 use overlay_base::overlay_core::fill_rule::FillRule;
 use overlay_base::overlay_core::solver::Solver;
-use overlay_base::segm::boolean::ShapeCountBoolean;
 use overlay_base::segm::fault::Fault;
 use overlay_base::segm::segment::Segment;
 use overlay_base::segm::winding::WindingCount;
@@ -105,13 +104,13 @@ impl<C: WindingCount, I: OverlayInt> SweepRunner<C, I> {
     }
 }
 
-impl<I: OverlayInt> SweepRunner<ShapeCountBoolean, I> {
+impl<C: FillCount, I: OverlayInt> SweepRunner<C, I> {
     /// The same as `run`, under a fill rule that is told at run time.
-    pub fn run_with_fill_rule<D: Copy, H: FillHandler<ShapeCountBoolean, I, D>>(
+    pub fn run_with_fill_rule<D: Copy, H: FillHandler<C, I, D>>(
         &mut self,
         fill_rule: FillRule,
         solver: &Solver,
-        segments: &[Segment<ShapeCountBoolean, I, D>],
+        segments: &[Segment<C, I, D>],
         handler: H,
     ) -> Result<H::Output, Fault>
         requires arranged { IsTrue (is_arranged (I.whole I.MIN_COORD) (I.whole I.MAX_COORD) (segments_of segments.now)) }

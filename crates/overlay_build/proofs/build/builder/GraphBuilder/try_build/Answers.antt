@@ -1,8 +1,8 @@
 use Rattle.std.proofs.Common.{◌∙◌}
 use Rattle.overlay_base.specs.SegmentOf.{segments_of}
-use Rattle.overlay_build.specs.RuleOf.{keeps_by}
+use Rattle.overlay_build.specs.LinkRules.{keeps_by}
 use Rattle.overlay_build.proofs.laws.BuiltGraphs.{hold_kept_graph, links_are_ordered}
-use Rattle.overlay_build.proofs.build.builder.GraphBuilder+ShapeCountBoolean+N+I+D.try_build.Goals as goal
+use Rattle.overlay_build.proofs.build.builder.GraphBuilder.try_build.Goals as goal
 
 pub connect_links-requires : goal.connect_links-requires
 connect_links-requires g c =
