@@ -1,5 +1,6 @@
 // Where two segments meet, and the marks of a pass.
 
+mod border_contacts;
 mod contact;
 pub mod cross_solver;
 mod crossing_point;

@@ -1,7 +1,9 @@
 // The fragments of segments, column by column. Upstream: part of `split::grid_layout`.
-ghost use Rattle.std.specs.Prelude.{◌≡◌, length};
+ghost use Rattle.std.specs.Prelude.{◌≡◌, ◌++◌, OnOk, length, map};
+ghost use Rattle.std.specs.Ordering.{int_eq};
 ghost use Rattle.overlay_marks.specs.Grid.{pos_of, group_count, fragments};
-ghost use Rattle.overlay_marks.specs.FragmentOf.{layout_of};
+ghost use Rattle.overlay_marks.specs.FragmentOf.{layout_of, fragments_of};
+ghost use Rattle.overlay_marks.specs.FragmentFinder.{heights_at};
 
 use crate::split::fragment::Fragment;
 use crate::split::grid_layout::GridLayout;
@@ -17,16 +19,17 @@ use std::alloc::{AllocError, Global};
 pub struct FragmentBuffer<I: OverlayInt> {
     layout: GridLayout<I>,
     groups: Vec<Vec<Fragment<I>>>,
+    right_ends: Vec<I>,
     ghost columns: { length groups.items ≡ group_count (layout_of layout) },
 }
 
 impl<I: OverlayInt> FragmentBuffer<I> {
-    ghost use Rattle.std.specs.Prelude.{◌<◌, ◌≤ℤ◌, IsPermutation, ◌++◌, [], ◌∷◌, ℕ, ◌==◌, IfOk, IfErr, OnOk, OnErr, if◌then◌else◌};
+    ghost use Rattle.std.specs.Prelude.{◌<◌, ◌+◌, ◌≤ℤ◌, IsPermutation, IsSorted, ◌++◌, [], ◌∷◌, ℕ, ◌==◌, IfOk, IfErr, OnOk, OnErr, if◌then◌else◌, map};
     ghost use Rattle.overlay_base.specs.declared.segm.fault.Fault.TheVariants.{Memory};
     ghost use Rattle.overlay_base.specs.PairOf.{pair_of};
     ghost use Rattle.overlay_base.specs.InRange.{IsPairInRange};
     ghost use Rattle.overlay_marks.specs.FragmentOf.{fragment_of, kept_in};
-    ghost use Rattle.overlay_marks.specs.FragmentFinder.{Rises};
+    ghost use Rattle.overlay_marks.specs.FragmentFinder.{Rises, heights_at};
     ghost use Rattle.overlay_marks.specs.GroupsOf.{group_in, group_of, grid_of};
 
     /// A buffer with one group for each column of a layout, all empty. Answers `Fault::Memory` where a growth is refused.
@@ -37,7 +40,11 @@ impl<I: OverlayInt> FragmentBuffer<I> {
     {
         let count = layout.column_count();
         let groups = FragmentBuffer::<I>::empty_groups(alloc, count)?;
-        Ok(FragmentBuffer { layout, groups })
+        Ok(FragmentBuffer {
+            layout,
+            groups,
+            right_ends: Vec::new(alloc),
+        })
     }
 
     /// So many empty groups.
@@ -66,6 +73,28 @@ impl<I: OverlayInt> FragmentBuffer<I> {
         ensures { I.whole result ≡ pos_of (grid_of self.now) column }
     {
         self.layout.pos(column)
+    }
+
+    /// The heights that `list_right_ends` listed.
+    pub(crate) fn right_ends(&self) -> &[I]
+        ensures { result.now ≡ self.now.right_ends.items }
+    {
+        &self.right_ends
+    }
+
+    /// Lists the heights at which segments with a fragment in a column end on its right border, from the lowest up.
+    pub(crate) fn list_right_ends(&mut self, column: usize) -> Result<(), AllocError>
+        requires { column + 1 < group_count (grid_of self.old) }
+        ensures layout { self.new.layout ≡ self.old.layout }
+        ensures groups { self.new.groups ≡ self.old.groups }
+        ensures ends { OnOk result (IsPermutation (heights_at (pos_of (grid_of self.old) (column + 1)) (group_of self.old column)) (map I.whole self.new.right_ends.items)) }
+        ensures sorted { OnOk result (IsSorted I.cmp self.new.right_ends.items) }
+    {
+        let border = self.border(column + 1);
+        self.right_ends.clear();
+        push_right_ends(self.groups[column].as_slice(), border, &mut self.right_ends)?;
+        self.right_ends.sort_unstable();
+        Ok(())
     }
 
     /// Empties every group.
@@ -170,6 +199,30 @@ impl<I: OverlayInt> FragmentBuffer<I> {
         self.groups[column].push(fragment)?;
         Ok(())
     }
+}
+
+/// Appends the heights of the right ends at an `x`.
+fn push_right_ends<I: OverlayInt>(
+    group: &[Fragment<I>],
+    x: I,
+    right_ends: &mut Vec<I>,
+) -> Result<(), AllocError>
+    ensures { OnOk result (map I.whole right_ends.new.items ≡ map I.whole right_ends.old.items ++ heights_at (I.whole x) (fragments_of I.whole group.now)) }
+{
+    for index in 0..group.len() {
+        let fragment = group[index];
+        if ends_at(&fragment, x) {
+            right_ends.push(fragment.x_segment.b.y)?;
+        }
+    }
+    Ok(())
+}
+
+/// Whether the segment of a fragment ends at this `x`.
+fn ends_at<I: OverlayInt>(fragment: &Fragment<I>, x: I) -> bool
+    ensures { result ≡ int_eq (I.whole fragment.now.x_segment.b.x) (I.whole x) }
+{
+    fragment.x_segment.b.x == x
 }
 
 #[cfg(test)]
