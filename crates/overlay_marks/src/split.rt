@@ -7,6 +7,7 @@ mod crossing_point;
 pub mod finder;
 pub mod fragment;
 pub mod fragment_buffer;
+pub mod fragment_memory;
 pub mod grid_layout;
 mod interval_tree;
 pub mod laws;

@@ -6,6 +6,7 @@ ghost use Rattle.overlay_marks.specs.FragmentOf.{layout_of, fragments_of};
 ghost use Rattle.overlay_marks.specs.FragmentFinder.{heights_at};
 
 use crate::split::fragment::Fragment;
+use crate::split::fragment_memory::{FragmentMemory, clear_groups, empty_groups};
 use crate::split::grid_layout::GridLayout;
 use crate::split::rise::heights_at;
 use overlay_base::geom::point::IntPoint;
@@ -30,7 +31,7 @@ impl<I: OverlayInt> FragmentBuffer<I> {
     ghost use Rattle.overlay_base.specs.InRange.{IsPairInRange};
     ghost use Rattle.overlay_marks.specs.FragmentOf.{fragment_of, kept_in};
     ghost use Rattle.overlay_marks.specs.FragmentFinder.{Rises, heights_at};
-    ghost use Rattle.overlay_marks.specs.GroupsOf.{group_in, group_of, grid_of};
+    ghost use Rattle.overlay_marks.specs.GroupsOf.{group_of, grid_of};
 
     /// A buffer with one group for each column of a layout, all empty. Answers `Fault::Memory` where a growth is refused.
     pub fn new(alloc: Global, layout: GridLayout<I>) -> Result<Self, Fault>
@@ -38,26 +39,40 @@ impl<I: OverlayInt> FragmentBuffer<I> {
         ensures empty { IfOk result (λ buffer. (column : ℕ) → group_of buffer column ≡ []) }
         ensures fault { IfErr result (λ fault. fault ≡ Memory) }
     {
+        FragmentBuffer::with_memory(alloc, layout, FragmentMemory::new(alloc))
+    }
+
+    /// The same in the memory of an earlier one.
+    pub fn with_memory(
+        alloc: Global,
+        layout: GridLayout<I>,
+        memory: FragmentMemory<I>,
+    ) -> Result<Self, Fault>
+        ensures layout { IfOk result (λ buffer. grid_of buffer ≡ layout_of layout) }
+        ensures empty { IfOk result (λ buffer. (column : ℕ) → group_of buffer column ≡ []) }
+        ensures fault { IfErr result (λ fault. fault ≡ Memory) }
+    {
+        let FragmentMemory {
+            mut groups,
+            right_ends,
+        } = memory;
         let count = layout.column_count();
-        let groups = FragmentBuffer::<I>::empty_groups(alloc, count)?;
+        empty_groups(alloc, &mut groups, count)?;
         Ok(FragmentBuffer {
             layout,
             groups,
-            right_ends: Vec::new(alloc),
+            right_ends,
         })
     }
 
-    /// So many empty groups.
-    fn empty_groups(alloc: Global, count: usize) -> Result<Vec<Vec<Fragment<I>>>, Fault>
-        ensures count { IfOk result (λ groups. length groups.items ≡ count) }
-        ensures empty { IfOk result (λ groups. (column : ℕ) → group_in I.whole groups.items column ≡ []) }
-        ensures fault { IfErr result (λ fault. fault ≡ Memory) }
-    {
-        let mut groups = Vec::new(alloc);
-        for _ in 0..count {
-            groups.push(Vec::new(alloc))?;
-        }
-        Ok(groups)
+    /// Its memory, for the next one.
+    pub fn into_memory(self) -> FragmentMemory<I> {
+        let FragmentBuffer {
+            layout: _,
+            groups,
+            right_ends,
+        } = self;
+        FragmentMemory { groups, right_ends }
     }
 
     /// The fragments that were added, column by column, in the order in which they were added or sorted.
@@ -102,9 +117,7 @@ impl<I: OverlayInt> FragmentBuffer<I> {
         ensures layout { grid_of self.new ≡ grid_of self.old }
         ensures empty { (column : ℕ) → group_of self.new column ≡ [] }
     {
-        for column in 0..self.groups.len() {
-            self.groups[column].clear();
-        }
+        clear_groups(&mut self.groups);
     }
 
     /// Sorts every group by the fragments' least `y`.
