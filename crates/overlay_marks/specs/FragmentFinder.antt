@@ -1,5 +1,5 @@
 -- What a look at every two fragments of a group finds, and at vertical segments on a border and the column to its left.
-use Rattle.std.specs.Prelude.{ℕ, ◌+◌, ℤ, Bool, false, ◌≤ℤ◌, ◌&&◌, ◌||◌, if◌then◌else◌, List, [], ◌∷◌, ◌++◌, flat_map, count_by, sum_by, length, Option, Some, None, ⊤}
+use Rattle.std.specs.Prelude.{ℕ, ◌+◌, ℤ, Bool, false, int_lt, ◌≤ℤ◌, ◌&&◌, ◌||◌, ◌↔◌, if◌then◌else◌, List, [], ◌∷◌, ◌++◌, map, filter, flat_map, Contains, count_by, sum_by, length, Option, Some, None, ⊤}
 use Rattle.std.specs.List.{list_any, AllByRecursion}
 use Rattle.std.specs.Ordering.{int_eq}
 use Rattle.overlay_base.specs.Points.{Pair, pair_lt, is_ordered, is_vertical, is_strictly_inside}
@@ -71,6 +71,22 @@ marks_of_border x left group = flat_map (λ f. if stands_at x f then marks_of_en
 -- how many looks a border takes: each vertical segment on it, and each fragment of the group to its left
 unfoldable pub looks_of_border : ℤ → List KeptFragment → List KeptFragment → ℕ
 looks_of_border x left group = sum_by (λ f. if stands_at x f then length left else 0) group
+
+-- the heights of the right ends at some x
+unfoldable pub heights_at : ℤ → List KeptFragment → List ℤ
+heights_at x left = map (λ e. e.pair.b.y) (filter (λ e. int_eq e.pair.b.x x) left)
+
+-- the marks on a vertical segment at those of some heights that lie strictly between its ends
+unfoldable pub marks_at_heights : KeptFragment → List ℤ → List Mark
+marks_at_heights f ys = map (λ y. record { index = f.index; point = record { x = f.pair.a.x; y = y } }) (filter (λ y. int_lt f.pair.a.y y && int_lt y f.pair.b.y) ys)
+
+-- those on the vertical segments of a group at some x
+unfoldable pub marks_of_heights : ℤ → List ℤ → List KeptFragment → List Mark
+marks_of_heights x ys group = flat_map (λ f. if stands_at x f then marks_at_heights f ys else []) group
+
+-- both have the same marks, in any order and number
+abbrev pub HoldSame : List Mark → List Mark → Type 0
+HoldSame ms ns = (m : Mark) → Contains ms m ↔ Contains ns m
 
 -- a segment lies between the ends of a layout
 pub record IsInside (l : Layout) (s : Pair) : Type 0 where

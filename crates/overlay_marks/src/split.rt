@@ -1,11 +1,13 @@
 // Where two segments meet, and the marks of a pass.
 
+mod border_contacts;
 mod contact;
 pub mod cross_solver;
 mod crossing_point;
 pub mod finder;
 pub mod fragment;
 pub mod fragment_buffer;
+pub mod fragment_memory;
 pub mod grid_layout;
 mod interval_tree;
 pub mod laws;

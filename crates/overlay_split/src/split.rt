@@ -9,6 +9,6 @@ pub mod piece;
 pub mod solver;
 
 pub use overlay_marks::split::{
-    cross_solver, finder, fragment, fragment_buffer, grid_layout, line_mark, placing,
-    solver_fragment, solver_list, solver_tree,
+    cross_solver, finder, fragment, fragment_buffer, fragment_memory, grid_layout, line_mark,
+    placing, solver_fragment, solver_list, solver_tree,
 };

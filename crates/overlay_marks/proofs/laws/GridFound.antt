@@ -180,7 +180,7 @@ group_rounded_in (x ∷ xs) f g (inr h) (inr k) e c = or_right _ _ (group_rounde
 
 -- ---- marks from borders
 
-ends_out : (f : KeptFragment) (left : List KeptFragment) (m : Mark) → Has (marks_of_ends f left) m → (e : KeptFragment) × Has left e × IsTrue (is_strictly_inside f.pair e.pair.b) × ((let made : Mark = record { index = f.index; point = e.pair.b } in made) ≡ m)
+pub ends_out : (f : KeptFragment) (left : List KeptFragment) (m : Mark) → Has (marks_of_ends f left) m → (e : KeptFragment) × Has left e × IsTrue (is_strictly_inside f.pair e.pair.b) × ((let made : Mark = record { index = f.index; point = e.pair.b } in made) ≡ m)
 unfolding marks_of_ends
 ends_out f left m h =
     let r = Has-flat_map_out (λ e. if is_strictly_inside f.pair e.pair.b then marks_at f.index (e.pair.b ∷ []) else []) left m h in
@@ -247,7 +247,7 @@ point_from placing s t p h = by (do_cross s t) refl
 
 -- ---- small steps
 
-same_has : {X : Type 0} (xs ys : List X) → IsPermutation xs ys → (x : X) → Has xs x → Has ys x
+pub same_has : {X : Type 0} (xs ys : List X) → IsPermutation xs ys → (x : X) → Has xs x → Has ys x
 same_has xs ys p x h = subst (λ (zs : List _). Has zs x) (map-id ys) (Has-permutation (λ y. y) xs ys p x (subst (λ (zs : List _). Has zs x) (sym (map-id xs)) h))
 
 stands_has : (i : ℕ) (ss : List Pair) (n : ℕ) (s : Pair) → StandsAt i ss n s → Has ss s

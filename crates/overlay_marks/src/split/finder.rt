@@ -15,6 +15,7 @@ ghost use Rattle.overlay_marks.specs.GroupsOf.{grid_in, grid_of};
 ghost use Rattle.overlay_marks.specs.GridFor.{IsGridFor};
 
 use crate::split::fragment_buffer::FragmentBuffer;
+use crate::split::fragment_memory::FragmentMemory;
 use crate::split::grid_layout::GridLayout;
 use crate::split::line_mark::LineMark;
 use crate::split::placing::Placing;
@@ -28,6 +29,7 @@ use overlay_base::segm::fault::Fault;
 use overlay_base::segm::segment::Segment;
 use overlay_base::segm::winding::WindingCount;
 use std::alloc::Global;
+use std::mem::replace;
 
 /// So many fragments a segment are many.
 const MANY_FRAGMENTS: u128 = 4;
@@ -42,14 +44,15 @@ pub struct PairFinder<I: OverlayInt> {
 }
 
 impl<I: OverlayInt> PairFinder<I> {
-    /// For a run whose first arrangement is this, which has to be in range: over a grid, where the solver asks for one and
-    /// these segments are wide enough.
+    /// For a run whose first arrangement is this, which has to be in range: over a grid, where the solver asks for one, and
+    /// not for a list, and these segments are wide enough. The grid takes the memory that is lent.
     ///
     /// Answers `Fault::Memory` where a growth is refused.
     pub fn new<C: WindingCount, D: Copy>(
         alloc: Global,
         solver: &Solver,
         first: &[Segment<C, I, D>],
+        memory: &mut FragmentMemory<I>,
     ) -> Result<Self, Fault>
         requires { All (λ s. IsPairInRange I.whole I.MIN_COORD I.MAX_COORD (x_segment_of s)) first.now }
         ensures solver { IfOk result (λ finder. finder.solver ≡ solver.now) }
@@ -57,7 +60,7 @@ impl<I: OverlayInt> PairFinder<I> {
         ensures looked { IfOk result (λ finder. finder.looked ≡ 0) }
         ensures fault { IfErr result (λ fault. fault ≡ Memory) }
     {
-        let grid = grid_over(alloc, solver, first)?;
+        let grid = grid_over(alloc, solver, first, memory)?;
         Ok(PairFinder {
             solver: *solver,
             grid,
@@ -75,6 +78,13 @@ impl<I: OverlayInt> PairFinder<I> {
             solver: *solver,
             grid: None,
             looked: 0,
+        }
+    }
+
+    /// Gives the memory of its grid back, if it has one.
+    pub fn give_back(self, memory: &mut FragmentMemory<I>) {
+        if let Some(grid) = self.grid {
+            *memory = grid.into_memory();
         }
     }
 
@@ -121,11 +131,13 @@ impl<I: OverlayInt> PairFinder<I> {
     }
 }
 
-/// The grid of a run over these segments, where the solver asks for one and they are wide enough.
+/// The grid of a run over these segments, where the solver asks for one, and not for a list, and they are wide enough. It
+/// takes the memory that is lent.
 fn grid_over<C: WindingCount, I: OverlayInt, D: Copy>(
     alloc: Global,
     solver: &Solver,
     first: &[Segment<C, I, D>],
+    memory: &mut FragmentMemory<I>,
 ) -> Result<Option<FragmentBuffer<I>>, Fault>
     requires in_range { All (λ s. IsPairInRange I.whole I.MIN_COORD I.MAX_COORD (x_segment_of s)) first.now }
     ensures grid { IfOk result (λ grid. IsGridFor solver.now.strategy (segments_of first.now) (grid_in grid)) }
@@ -137,9 +149,13 @@ fn grid_over<C: WindingCount, I: OverlayInt, D: Copy>(
     if !solver.is_fragmentation_required(first) {
         return Ok(None);
     }
+    if solver.is_list_split(first) {
+        return Ok(None);
+    }
     match GridLayout::over_list(first) {
         Some(layout) => {
-            let buffer = FragmentBuffer::new(alloc, layout)?;
+            let kept = replace(memory, FragmentMemory::new(alloc));
+            let buffer = FragmentBuffer::with_memory(alloc, layout, kept)?;
             Ok(Some(buffer))
         }
         None => Ok(None),

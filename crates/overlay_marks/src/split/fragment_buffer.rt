@@ -1,9 +1,12 @@
 // The fragments of segments, column by column. Upstream: part of `split::grid_layout`.
-ghost use Rattle.std.specs.Prelude.{◌≡◌, length};
+ghost use Rattle.std.specs.Prelude.{◌≡◌, ◌++◌, OnOk, length, map};
+ghost use Rattle.std.specs.Ordering.{int_eq};
 ghost use Rattle.overlay_marks.specs.Grid.{pos_of, group_count, fragments};
-ghost use Rattle.overlay_marks.specs.FragmentOf.{layout_of};
+ghost use Rattle.overlay_marks.specs.FragmentOf.{layout_of, fragments_of};
+ghost use Rattle.overlay_marks.specs.FragmentFinder.{heights_at};
 
 use crate::split::fragment::Fragment;
+use crate::split::fragment_memory::{FragmentMemory, clear_groups, empty_groups};
 use crate::split::grid_layout::GridLayout;
 use crate::split::rise::heights_at;
 use overlay_base::geom::point::IntPoint;
@@ -17,17 +20,18 @@ use std::alloc::{AllocError, Global};
 pub struct FragmentBuffer<I: OverlayInt> {
     layout: GridLayout<I>,
     groups: Vec<Vec<Fragment<I>>>,
+    right_ends: Vec<I>,
     ghost columns: { length groups.items ≡ group_count (layout_of layout) },
 }
 
 impl<I: OverlayInt> FragmentBuffer<I> {
-    ghost use Rattle.std.specs.Prelude.{◌<◌, ◌≤ℤ◌, IsPermutation, ◌++◌, [], ◌∷◌, ℕ, ◌==◌, IfOk, IfErr, OnOk, OnErr, if◌then◌else◌};
+    ghost use Rattle.std.specs.Prelude.{◌<◌, ◌+◌, ◌≤ℤ◌, IsPermutation, IsSorted, ◌++◌, [], ◌∷◌, ℕ, ◌==◌, IfOk, IfErr, OnOk, OnErr, if◌then◌else◌, map};
     ghost use Rattle.overlay_base.specs.declared.segm.fault.Fault.TheVariants.{Memory};
     ghost use Rattle.overlay_base.specs.PairOf.{pair_of};
     ghost use Rattle.overlay_base.specs.InRange.{IsPairInRange};
     ghost use Rattle.overlay_marks.specs.FragmentOf.{fragment_of, kept_in};
-    ghost use Rattle.overlay_marks.specs.FragmentFinder.{Rises};
-    ghost use Rattle.overlay_marks.specs.GroupsOf.{group_in, group_of, grid_of};
+    ghost use Rattle.overlay_marks.specs.FragmentFinder.{Rises, heights_at};
+    ghost use Rattle.overlay_marks.specs.GroupsOf.{group_of, grid_of};
 
     /// A buffer with one group for each column of a layout, all empty. Answers `Fault::Memory` where a growth is refused.
     pub fn new(alloc: Global, layout: GridLayout<I>) -> Result<Self, Fault>
@@ -35,22 +39,40 @@ impl<I: OverlayInt> FragmentBuffer<I> {
         ensures empty { IfOk result (λ buffer. (column : ℕ) → group_of buffer column ≡ []) }
         ensures fault { IfErr result (λ fault. fault ≡ Memory) }
     {
-        let count = layout.column_count();
-        let groups = FragmentBuffer::<I>::empty_groups(alloc, count)?;
-        Ok(FragmentBuffer { layout, groups })
+        FragmentBuffer::with_memory(alloc, layout, FragmentMemory::new(alloc))
     }
 
-    /// So many empty groups.
-    fn empty_groups(alloc: Global, count: usize) -> Result<Vec<Vec<Fragment<I>>>, Fault>
-        ensures count { IfOk result (λ groups. length groups.items ≡ count) }
-        ensures empty { IfOk result (λ groups. (column : ℕ) → group_in I.whole groups.items column ≡ []) }
+    /// The same in the memory of an earlier one.
+    pub fn with_memory(
+        alloc: Global,
+        layout: GridLayout<I>,
+        memory: FragmentMemory<I>,
+    ) -> Result<Self, Fault>
+        ensures layout { IfOk result (λ buffer. grid_of buffer ≡ layout_of layout) }
+        ensures empty { IfOk result (λ buffer. (column : ℕ) → group_of buffer column ≡ []) }
         ensures fault { IfErr result (λ fault. fault ≡ Memory) }
     {
-        let mut groups = Vec::new(alloc);
-        for _ in 0..count {
-            groups.push(Vec::new(alloc))?;
-        }
-        Ok(groups)
+        let FragmentMemory {
+            mut groups,
+            right_ends,
+        } = memory;
+        let count = layout.column_count();
+        empty_groups(alloc, &mut groups, count)?;
+        Ok(FragmentBuffer {
+            layout,
+            groups,
+            right_ends,
+        })
+    }
+
+    /// Its memory, for the next one.
+    pub fn into_memory(self) -> FragmentMemory<I> {
+        let FragmentBuffer {
+            layout: _,
+            groups,
+            right_ends,
+        } = self;
+        FragmentMemory { groups, right_ends }
     }
 
     /// The fragments that were added, column by column, in the order in which they were added or sorted.
@@ -68,14 +90,34 @@ impl<I: OverlayInt> FragmentBuffer<I> {
         self.layout.pos(column)
     }
 
+    /// The heights that `list_right_ends` listed.
+    pub(crate) fn right_ends(&self) -> &[I]
+        ensures { result.now ≡ self.now.right_ends.items }
+    {
+        &self.right_ends
+    }
+
+    /// Lists the heights at which segments with a fragment in a column end on its right border, from the lowest up.
+    pub(crate) fn list_right_ends(&mut self, column: usize) -> Result<(), AllocError>
+        requires { column + 1 < group_count (grid_of self.old) }
+        ensures layout { self.new.layout ≡ self.old.layout }
+        ensures groups { self.new.groups ≡ self.old.groups }
+        ensures ends { OnOk result (IsPermutation (heights_at (pos_of (grid_of self.old) (column + 1)) (group_of self.old column)) (map I.whole self.new.right_ends.items)) }
+        ensures sorted { OnOk result (IsSorted I.cmp self.new.right_ends.items) }
+    {
+        let border = self.border(column + 1);
+        self.right_ends.clear();
+        push_right_ends(self.groups[column].as_slice(), border, &mut self.right_ends)?;
+        self.right_ends.sort_unstable();
+        Ok(())
+    }
+
     /// Empties every group.
     pub fn clear(&mut self)
         ensures layout { grid_of self.new ≡ grid_of self.old }
         ensures empty { (column : ℕ) → group_of self.new column ≡ [] }
     {
-        for column in 0..self.groups.len() {
-            self.groups[column].clear();
-        }
+        clear_groups(&mut self.groups);
     }
 
     /// Sorts every group by the fragments' least `y`.
@@ -170,6 +212,30 @@ impl<I: OverlayInt> FragmentBuffer<I> {
         self.groups[column].push(fragment)?;
         Ok(())
     }
+}
+
+/// Appends the heights of the right ends at an `x`.
+fn push_right_ends<I: OverlayInt>(
+    group: &[Fragment<I>],
+    x: I,
+    right_ends: &mut Vec<I>,
+) -> Result<(), AllocError>
+    ensures { OnOk result (map I.whole right_ends.new.items ≡ map I.whole right_ends.old.items ++ heights_at (I.whole x) (fragments_of I.whole group.now)) }
+{
+    for index in 0..group.len() {
+        let fragment = group[index];
+        if ends_at(&fragment, x) {
+            right_ends.push(fragment.x_segment.b.y)?;
+        }
+    }
+    Ok(())
+}
+
+/// Whether the segment of a fragment ends at this `x`.
+fn ends_at<I: OverlayInt>(fragment: &Fragment<I>, x: I) -> bool
+    ensures { result ≡ int_eq (I.whole fragment.now.x_segment.b.x) (I.whole x) }
+{
+    fragment.x_segment.b.x == x
 }
 
 #[cfg(test)]

@@ -1,31 +1,28 @@
 // The finder that looks at fragments of segments, column by column of a grid. Upstream: `split::solver_fragment`.
-ghost use Rattle.std.specs.Prelude.{◌≡◌, ◌≢◌, ◌^◌, min, ◌<◌, ◌≤◌, ◌+◌, ◌-◌, ◌++◌, ◌&&◌, ℕ, All, IsTrue, IfErr, IfOk, OnOk, IsSortedByKey, drop, length, int_lt, int_le, flat_map, sum_by, ◌≤ℤ◌, ◌<ℤ◌};
+ghost use Rattle.std.specs.Prelude.{◌≡◌, ◌≢◌, ◌^◌, min, ◌<◌, ◌≤◌, ◌+◌, ◌-◌, ◌++◌, ℕ, All, IsTrue, IfErr, IfOk, OnOk, IsSortedByKey, drop, length, int_le, flat_map, sum_by, ◌≤ℤ◌, ◌<ℤ◌};
 ghost use Rattle.std.specs.List.{AllByRecursion, list_any, range_with_len};
 ghost use Rattle.std.specs.List.Sorted.{IsPartitionPoint};
-ghost use Rattle.std.specs.Ordering.{int_eq};
 ghost use Rattle.overlay_base.specs.declared.segm.fault.Fault.TheVariants.{Memory};
-ghost use Rattle.overlay_base.specs.Points.{pair_cmp, pair_lt, is_ordered, is_vertical, is_strictly_inside};
+ghost use Rattle.overlay_base.specs.Points.{pair_lt};
 ghost use Rattle.overlay_base.specs.Segments.{pairs};
-ghost use Rattle.overlay_base.specs.PointOf.{point_of};
 ghost use Rattle.overlay_base.specs.PairOf.{pair_of};
 ghost use Rattle.overlay_base.specs.SegmentOf.{ends_of, segments_of, x_segment_of};
 ghost use Rattle.overlay_base.specs.InRange.{IsPairInRange};
-ghost use Rattle.overlay_marks.specs.Grid.{pos_of, group_count};
 ghost use Rattle.overlay_marks.specs.Looked.{all_fragments, fragment_looks};
 ghost use Rattle.overlay_marks.specs.PassMarks.{is_rounded};
 ghost use Rattle.overlay_marks.specs.PlacingOf.{placing_of, HasRadius};
 ghost use Rattle.overlay_marks.specs.MarkOf.{AreMarks, marks_of};
 ghost use Rattle.overlay_marks.specs.FragmentOf.{fragment_of, fragments_of};
 ghost use Rattle.overlay_marks.specs.GroupsOf.{group_in, group_of, grid_of};
-ghost use Rattle.overlay_marks.specs.FragmentFinder.{IsInside, Rises, is_ready, stands_at, kept_group, marks_of_two, marks_with_first, marks_of_group, marks_of_ends, marks_of_border, meet_inexactly, is_first_rounded, is_group_rounded, looks_of_first, looks_of_group, looks_of_border};
+ghost use Rattle.overlay_marks.specs.FragmentFinder.{IsInside, Rises, is_ready, kept_group, marks_of_two, marks_with_first, marks_of_group, meet_inexactly, is_first_rounded, is_group_rounded, looks_of_first, looks_of_group};
 
+use crate::split::border_contacts::mark_borders;
 use crate::split::fragment::Fragment;
 use crate::split::fragment_buffer::FragmentBuffer;
 use crate::split::line_mark::LineMark;
 use crate::split::looks::take_up;
 use crate::split::placing::Placing;
-use crate::split::solver_list::{Indexed, mark, mark_both};
-use overlay_base::geom::point::IntPoint;
+use crate::split::solver_list::{Indexed, mark_both};
 use overlay_base::geom::x_segment::XSegment;
 use overlay_base::num::OverlayInt;
 use overlay_base::segm::fault::Fault;
@@ -125,100 +122,6 @@ fn mark_columns<I: OverlayInt>(
         }
     }
     Ok(rounded)
-}
-
-/// Appends the marks on vertical segments that stand on the left border of a column, other than the first: the right ends
-/// at that `x` in the column to the left which lie strictly between their ends.
-fn mark_borders<I: OverlayInt>(
-    buffer: &FragmentBuffer<I>,
-    marks: &mut Vec<LineMark<I>>,
-    looked: &mut u128,
-) -> Result<(), AllocError>
-    requires ready { (column : ℕ) → AllByRecursion (λ f. IsTrue (is_ready (I.whole I.MIN_COORD) (I.whole I.MAX_COORD) f)) (group_of buffer.now column) }
-    ensures marks { OnOk result (marks_of I.whole marks.new.items ≡ marks_of I.whole marks.old.items
-        ++ flat_map (λ column. marks_of_border (pos_of (grid_of buffer.now) (column + 1)) (group_of buffer.now column) (group_of buffer.now (column + 1))) (range_with_len 0 (group_count (grid_of buffer.now) - 1))) }
-    ensures looked { OnOk result (looked.new ≤ looked.old
-        + sum_by (λ column. looks_of_border (pos_of (grid_of buffer.now) (column + 1)) (group_of buffer.now column) (group_of buffer.now (column + 1))) (range_with_len 0 (group_count (grid_of buffer.now) - 1))) }
-{
-    let groups = buffer.groups();
-    for column in 0..groups.len() - 1 {
-        let border = buffer.border(column + 1);
-        mark_border(
-            groups[column].as_slice(),
-            groups[column + 1].as_slice(),
-            border,
-            marks,
-            looked,
-        )?;
-    }
-    Ok(())
-}
-
-/// The same of one border and the groups beside it.
-fn mark_border<I: OverlayInt>(
-    left: &[Fragment<I>],
-    group: &[Fragment<I>],
-    border: I,
-    marks: &mut Vec<LineMark<I>>,
-    looked: &mut u128,
-) -> Result<(), AllocError>
-    requires ready { AllByRecursion (λ f. IsTrue (is_ready (I.whole I.MIN_COORD) (I.whole I.MAX_COORD) f)) (fragments_of I.whole group.now) }
-    ensures marks { OnOk result (marks_of I.whole marks.new.items ≡ marks_of I.whole marks.old.items ++ marks_of_border (I.whole border) (fragments_of I.whole left.now) (fragments_of I.whole group.now)) }
-    ensures looked { OnOk result (looked.new ≤ looked.old + looks_of_border (I.whole border) (fragments_of I.whole left.now) (fragments_of I.whole group.now)) }
-{
-    for index in 0..group.len() {
-        let fragment = group[index];
-        if stands_at(&fragment, border) {
-            mark_ends(&fragment, left, marks, looked)?;
-        }
-    }
-    Ok(())
-}
-
-/// Appends the marks that the right ends in a group put on a vertical segment.
-fn mark_ends<I: OverlayInt>(
-    vertical: &Fragment<I>,
-    left: &[Fragment<I>],
-    marks: &mut Vec<LineMark<I>>,
-    looked: &mut u128,
-) -> Result<(), AllocError>
-    requires vertical { IsTrue (is_vertical (fragment_of I.whole vertical.now).pair) }
-    requires ordered { IsTrue (is_ordered (fragment_of I.whole vertical.now).pair) }
-    ensures marks { OnOk result (marks_of I.whole marks.new.items ≡ marks_of I.whole marks.old.items ++ marks_of_ends (fragment_of I.whole vertical.now) (fragments_of I.whole left.now)) }
-    ensures looked { OnOk result (looked.new ≤ looked.old + length (fragments_of I.whole left.now)) }
-{
-    for index in 0..left.len() {
-        let fragment = left[index];
-        let point = fragment.x_segment.b;
-        take_up(looked);
-        if is_inside_vertical(&vertical.x_segment, point) {
-            mark(vertical.index, point, marks)?;
-        }
-    }
-    Ok(())
-}
-
-/// Whether a fragment is one of a vertical segment at this `x`.
-fn stands_at<I: OverlayInt>(fragment: &Fragment<I>, x: I) -> bool
-    ensures { result ≡ stands_at (I.whole x) (fragment_of I.whole fragment.now) }
-{
-    !fragment.x_segment.is_not_vertical() && fragment.x_segment.a.x.to_wide() == x.to_wide()
-}
-
-/// Whether a point lies strictly between the ends of a vertical segment.
-fn is_inside_vertical<I: OverlayInt>(vertical: &XSegment<I>, point: IntPoint<I>) -> bool
-    requires vertical { IsTrue (is_vertical (pair_of I.whole vertical.now)) }
-    requires ordered { IsTrue (is_ordered (pair_of I.whole vertical.now)) }
-    ensures { result ≡ is_strictly_inside (pair_of I.whole vertical.now) (point_of I.whole point) }
-{
-    is_between(vertical.a, point, vertical.b)
-}
-
-/// Whether a point lies straight above one and lower than another.
-fn is_between<I: OverlayInt>(low: IntPoint<I>, point: IntPoint<I>, high: IntPoint<I>) -> bool
-    ensures { result ≡ (int_eq (I.whole point.x) (I.whole low.x) && (int_lt (I.whole low.y) (I.whole point.y) && int_lt (I.whole point.y) (I.whole high.y))) }
-{
-    point.x == low.x && (low.y < point.y && point.y < high.y)
 }
 
 /// Appends the marks that segments put on one another of which two fragments in a group meet, and answers whether some

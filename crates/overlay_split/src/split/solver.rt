@@ -41,6 +41,7 @@ use overlay_base::segm::join::join_with_store;
 use overlay_base::segm::segment::Segment;
 use overlay_base::segm::winding::WindingCount;
 use overlay_marks::split::finder::PairFinder;
+use overlay_marks::split::fragment_memory::FragmentMemory;
 use overlay_marks::split::placing::Placing;
 use std::alloc::Global;
 
@@ -52,6 +53,7 @@ const SNAP_LIMIT: u32 = 256;
 pub struct SplitSolver<I> {
     alloc: Global,
     buffers: PassBuffers<I>,
+    grid: FragmentMemory<I>,
     snap_limit: u32,
     passes: u128,
     looked: u128,
@@ -93,6 +95,7 @@ impl<I> SplitSolver<I> {
         SplitSolver {
             alloc,
             buffers: PassBuffers::new(alloc),
+            grid: FragmentMemory::new(alloc),
             snap_limit,
             passes: 0,
             looked: 0,
@@ -216,7 +219,7 @@ impl<I: OverlayInt> SplitSolver<I> {
             return Ok(false);
         }
         let repeated = join_with_store(list, store)?;
-        let mut finder = match PairFinder::new(self.alloc, solver, list) {
+        let mut finder = match PairFinder::new(self.alloc, solver, list, &mut self.grid) {
             Ok(finder) => finder,
             Err(fault) => {
                 list.clear();
@@ -243,6 +246,7 @@ impl<I: OverlayInt> SplitSolver<I> {
         }
         self.passes = progress.passes;
         self.looked = finder.looked();
+        finder.give_back(&mut self.grid);
         Ok(progress.has_changed)
     }
 }

@@ -6,17 +6,17 @@ use Rattle.overlay_base.specs.Segments.{pairs}
 use Rattle.overlay_base.specs.SegmentOf.{segments_of, x_segment_of}
 use Rattle.overlay_base.proofs.laws.Coordinates.{pair_in_range}
 use Rattle.overlay_base.proofs.laws.Apart.{are_ordered}
-use Rattle.overlay_base.proofs.laws.Lists.{Has}
 use Rattle.std.proofs.lemmas.List.Elements.{All-weaker}
 use Rattle.overlay_marks.specs.PlacingOf.{placing_of}
 use Rattle.overlay_marks.specs.MarkOf.{Mark, marks_of}
 use Rattle.overlay_marks.specs.Grid.{Layout, pos_of, group_count}
 use Rattle.overlay_marks.specs.FragmentOf.{KeptFragment}
 use Rattle.overlay_marks.specs.GroupsOf.{group_in, group_of, grid_of}
-use Rattle.overlay_marks.specs.FragmentFinder.{IsInside, is_ready, kept_group, marks_of_group, is_group_rounded, looks_of_group, marks_of_border, looks_of_border}
+use Rattle.overlay_marks.specs.FragmentFinder.{HoldSame, IsInside, is_ready, kept_group, marks_of_group, is_group_rounded, looks_of_group, marks_of_border, looks_of_border}
 use Rattle.overlay_marks.proofs.laws.GridFound.{all_pairs, all_ready, sound, complete, rounded_is}
 use Rattle.overlay_marks.proofs.laws.LineMarks.{AreMarks-from_elements}
 use Rattle.overlay_marks.proofs.laws.GridLooks.{within_bound}
+use Rattle.overlay_marks.proofs.laws.BorderMarks.{has_same, has_back}
 use Rattle.overlay_marks.proofs.split.solver_fragment.find_marks.Goals as goal
 
 pub mark_columns-requires-clause-ready : goal.mark_columns-requires-clause-ready
@@ -94,12 +94,12 @@ returns-clause-marks g c =
     let first : marks_of g.I.OverlayInt.whole c.mark_columns.new.marks.items ≡ columns =
     c.in_ok-rounded.ensures.marks ∙ ap₂ (λ (start list : List Mark). start ++ list) none
     (ap₂ (λ (gs : List _) (n : ℕ). flat_map (λ column. marks_of_group p (group_in g.I.OverlayInt.whole gs column)) (range_with_len 0 n)) c.groups.ensures count) in
-    let all : marks_of g.I.OverlayInt.whole c.mark_borders.new.marks.items ≡ columns ++ borders =
-    c.in_ok-mark_borders.ensures.marks ∙ ap₂ (λ (start list : List Mark). start ++ list) first
-    (ap (λ (m : Layout). flat_map (λ column. marks_of_border (pos_of m (column + 1)) (groups column) (groups (column + 1))) (range_with_len 0 (group_count m - 1))) layout) in
+    let now = marks_of g.I.OverlayInt.whole c.mark_borders.new.marks.items in
+    let at_borders = subst (λ (m : Layout). HoldSame (marks_of g.I.OverlayInt.whole c.mark_columns.new.marks.items ++ flat_map (λ column. marks_of_border (pos_of m (column + 1)) (groups column) (groups (column + 1))) (range_with_len 0 (group_count m - 1))) now) layout c.in_ok-mark_borders.ensures.marks in
+    let all = subst (λ (start : List Mark). HoldSame (start ++ borders) now) first at_borders in
     let sorted = simp g.met.I.OverlayInt.ordered at c.in_ok-sort.ensures.sorted in
     AreMarks-from_elements g.I.PartialEq.eq g.I.Ord.cmp g.I.OverlayInt.whole g.met.I.Ord.matches_eq g.met.I.OverlayInt.ordered p segments
     c.mark_borders.new.marks.items c.sort-2.new.self.items c.dedup.new.self.items
-    (λ m h. sound p l segments groups ordered within same m (subst (λ (ms : List Mark). Has ms m) all h))
-    (λ m h. subst (λ (ms : List Mark). Has ms m) (sym all) (complete p l segments groups ordered within same m h))
+    (λ m h. sound p l segments groups ordered within same m (has_back (columns ++ borders) now all m h))
+    (λ m h. has_same (columns ++ borders) now all m (complete p l segments groups ordered within same m h))
     c.in_ok-sort.ensures.permutation sorted c.dedup.ensures.filtered
