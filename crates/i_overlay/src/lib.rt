@@ -1,9 +1,15 @@
-// The overlay engine in one crate: the modules of the crates below under upstream's names, but for `overlay_core`,
-// which is upstream's `core`, and the whole overlay in one call.
+// The overlay engine in one crate: what the crates below have, at the paths where upstream has it, but for
+// `overlay_core`, which is upstream's `core`; and the whole overlay in one call.
 #![tactic(auto)]
 
-pub use overlay_base::{geom, num, overlay_core, segm};
-pub use overlay_build::build;
-pub use overlay_split::split;
+pub use overlay_base::{geom, num};
 
+pub mod build;
 pub mod overlay;
+pub mod overlay_core;
+pub mod prelude;
+#[cfg(test)]
+mod readme_tests;
+pub mod segm;
+pub mod split;
+pub mod string;

@@ -1,0 +1,27 @@
+// Rules, solvers, edge data, and the parts of a graph. Upstream: `core`.
+
+pub use overlay_base::overlay_core::{
+    clip_rule, edge_data, extract, fill_rule, laws, overlay_rule, rule_table, snap_radius, solver,
+};
+
+/// The graph of an overlay and its nodes.
+pub mod graph {
+    pub use overlay_build::build::graph::OverlayGraph;
+    pub use overlay_build::build::graph_node::OverlayNode;
+}
+
+/// Links of a graph, and which of them a rule keeps.
+pub mod link {
+    pub use overlay_base::overlay_core::link::OverlayLink;
+    pub use overlay_build::build::link_filter::filter_by_overlay_into;
+}
+
+/// The engines' coordinates.
+pub mod integer {
+    pub use overlay_base::num::OverlayInt;
+}
+
+/// Which of the two shapes a segment bounds.
+pub mod overlay {
+    pub use overlay_base::segm::shape_type::ShapeType;
+}
