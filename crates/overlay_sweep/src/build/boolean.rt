@@ -7,9 +7,7 @@ use crate::build::fill_strategy::{FillCount, is_inside, number_if};
 use overlay_base::overlay_core::fill_rule::FillRule;
 use overlay_base::segm::boolean::ShapeCountBoolean;
 use overlay_base::segm::fault::Fault;
-use overlay_base::segm::segment_fill::{
-    CLIP_BOTTOM, CLIP_TOP, SUBJ_BOTTOM, SUBJ_TOP, SegmentFill,
-};
+use overlay_base::segm::segment_fill::{CLIP_BOTTOM, CLIP_TOP, SUBJ_BOTTOM, SUBJ_TOP, SegmentFill};
 use overlay_base::segm::winding::WindingCount;
 
 /// The fill of a segment with these windings below and above it.
