@@ -25,6 +25,7 @@ pub mod TreeBuilds
 pub mod LookCounts
 pub mod ListLooks
 pub mod SweptMarks
+pub mod TreeRenewals
 pub mod TreeFinder
 pub mod MarkSets
 pub mod FoundEach

@@ -43,6 +43,10 @@ left_by q e = record e { is_live = e.is_live && not (is_dropped q e) }
 abbrev pub inserted : ℕ → Entry → Entry
 inserted index e = record e { is_live = e.is_live || e.index == index }
 
+-- whether an entry is live and does not end left of x
+abbrev pub stays_at : ℤ → Entry → Bool
+stays_at x e = e.is_live && not (int_lt e.end_x x)
+
 -- entries stand by rising low, those of one low by rising index
 abbrev pub StandsBefore : Entry → Entry → Type 0
 StandsBefore e f = (e.low <ℤ f.low) ⊎ ((e.low ≡ f.low) × (e.index < f.index))

@@ -1,5 +1,5 @@
 -- The segments of a list by their indexes: their entries in a tree, and the marks of those that a look-up finds.
-use Rattle.std.specs.Prelude.{ℕ, pos, Bool, false, None, List, map, flat_map, length, slice_index_or}
+use Rattle.std.specs.Prelude.{ℕ, ◌-◌, pos, Bool, false, None, List, map, flat_map, length, slice_index_or}
 use Rattle.std.specs.Int.{int_min, int_max}
 use Rattle.std.specs.List.{range_with_len, list_any}
 use Rattle.overlay_base.specs.Points.{Pair}
@@ -24,6 +24,10 @@ alone e = record { entry = e; greatest = None }
 
 abbrev pub entry_at : List Pair → ℕ → Entry
 entry_at ps index = entry_of_pair index (pair_at ps index)
+
+-- the entries of those from an index up to another, before they are live
+abbrev pub entries_between : List Pair → ℕ → ℕ → List Entry
+entries_between ps from until = map (entry_at ps) (range_with_len from (until - from))
 
 -- the entries of all, before the sweep
 abbrev pub unswept : List Pair → List Entry

@@ -25,7 +25,7 @@ use Rattle.overlay_marks.proofs.laws.Sweeps.{unlive, IsOf, Gone, IsSwept, query_
 abbrev pub one_if : Bool → ℕ
 one_if b = cond b 1 0
 
-count_by-cons : {X : Type 0} (p : X → Bool) (x : X) (xs : List X) → count_by p (x ∷ xs) ≡ one_if (p x) + count_by p xs
+pub count_by-cons : {X : Type 0} (p : X → Bool) (x : X) (xs : List X) → count_by p (x ∷ xs) ≡ one_if (p x) + count_by p xs
 count_by-cons p x xs = sum_by-cons (λ y. one_if (p y)) x xs
 
 one_at_most : (b c : Bool) → (b ≡ true → c ≡ true) → one_if b ≤ one_if c
@@ -70,7 +70,7 @@ balanced true false past = refl
 balanced true true true = refl
 balanced true true false = refl
 
-abbrev live_count : List Entry → ℕ
+abbrev pub live_count : List Entry → ℕ
 live_count es = count_by (λ e. e.is_live) es
 
 sums : (a b c d e f g h : ℕ) → a + b ≡ c + d → e + f ≡ g + h → (a + e) + (b + f) ≡ (c + g) + (d + h)

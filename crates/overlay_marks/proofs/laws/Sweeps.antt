@@ -83,12 +83,11 @@ Gone ps n e = e.index < n → e.is_live ≡ false → (k : ℕ) → n ≤ k → 
 
 -- Where the sweep stands: the entries are those of all pairs; those before the index are live, but where they end left of all that are to come.
 pub record IsSwept (ps : List Pair) (es : List Entry) (j : ℕ) : Type 0 where
-  pub rising : AreRising es
   pub base : IsPermutation (unswept ps) (map unlive es)
   pub live : AllByRecursion (λ e. e.is_live ≡ true → e.index < j) es
   pub gone : AllByRecursion (Gone ps j) es
 
-range_within : (a n m : ℕ) → a + n ≤ m → AllByRecursion (λ i. i < m) (range_with_len a n)
+pub range_within : (a n m : ℕ) → a + n ≤ m → AllByRecursion (λ i. i < m) (range_with_len a n)
 range_within a zero m h = tt
 range_within a (suc n) m h = (omega arith, range_within (a + 1) n m (omega arith))
 
@@ -127,11 +126,10 @@ unlive_list : (ps : List Pair) (is : List ℕ) → map unlive (map (entry_at ps)
 unlive_list ps [] = refl
 unlive_list ps (i ∷ is) = ap (λ (es : List Entry). entry_at ps i ∷ es) (unlive_list ps is)
 
-pub IsSwept-start : (ps : List Pair) (es : List Entry) → AreRising es → IsPermutation (unswept ps) es → IsSwept ps es 0
-IsSwept-start ps es rising p =
+pub IsSwept-start : (ps : List Pair) (es : List Entry) → IsPermutation (unswept ps) es → IsSwept ps es 0
+IsSwept-start ps es p =
     let dead = permuted (λ e. e.is_live ≡ false) (unswept ps) es p (AllByRecursion-map (λ e. e.is_live ≡ false) (entry_at ps) (range_with_len 0 (length ps)) (AllByRecursion-from_Has (λ i. false ≡ false) (range_with_len 0 (length ps)) (λ i h. refl))) in
     record {
-      rising = rising;
       base = subst (λ (xs : List Entry). IsPermutation xs (map unlive es)) (unlive_list ps (range_with_len 0 (length ps))) (IsPermutation-map unlive (unswept ps) es p);
       live = AllByRecursion-weaker (λ e. e.is_live ≡ false) (λ e. e.is_live ≡ true → e.index < 0) (λ e n t. absurd (both_ways e.is_live n t)) es dead;
       gone = AllByRecursion-weaker (λ e. e.is_live ≡ false) (Gone ps 0) (λ e n lt. absurd (omega arith)) es dead;
@@ -221,7 +219,6 @@ pub IsSwept-more : (ps : List Pair) (es : List Entry) (j : ℕ) → IsSwept ps e
 IsSwept-more ps es j swept order w =
     let q = query_at ps j in
     record {
-      rising = rising_map (inserted j) (λ e. refl) (map (left_by q) es) (rising_map (left_by q) (λ e. refl) es swept.rising);
       base = subst (IsPermutation (unswept ps)) (sym (unlive_map (inserted j) (λ e. refl) (map (left_by q) es) ∙ unlive_map (left_by q) (λ e. refl) es)) swept.base;
       live = AllByRecursion-map (λ e. e.is_live ≡ true → e.index < j + 1) (inserted j) (map (left_by q) es) (AllByRecursion-map (λ e. (inserted j e).is_live ≡ true → e.index < j + 1) (left_by q) es
           (AllByRecursion-weaker (λ e. e.is_live ≡ true → e.index < j) (λ e. (inserted j (left_by q e)).is_live ≡ true → e.index < j + 1) (λ e h. live_next q j e h) es swept.live));

@@ -1,5 +1,5 @@
 -- A tree in a list of nodes, cut at its middle; and put together again after a look-up or an insertion.
-use Rattle.std.proofs.Common.{◌≡◌, refl, sym, append_assoc, append-nil, Bool, true, false, ap, ap₂, subst, ◌∙◌, ℕ, ◌+◌, ◌≤◌, ◌/◌, ◌==◌, ◌<◌, suc, arith, List, [], ◌∷◌, ◌++◌, map, length, length-append}
+use Rattle.std.proofs.Common.{◌≡◌, refl, sym, append_assoc, append-nil, Bool, true, false, ap, ap₂, subst, ◌∙◌, ℕ, ◌+◌, ◌≤◌, ◌/◌, ◌==◌, ◌<◌, suc, arith, List, [], ◌∷◌, ◌++◌, map, length, length-append, zero, take, drop}
 use Rattle.std.specs.Prelude.{ℤ, Option, Some, int_lt, count_by, min, ◌-◌, ◌^◌, ◌||◌}
 use Rattle.std.specs.List.{AllByRecursion, list_any}
 use Rattle.std.proofs.lemmas.List.{map-append, length-map}
@@ -70,7 +70,7 @@ module _ {I : Type 0} (whole : I → ℤ) where
       ∙ ap₂ (λ (xs ys : List Entry). xs ++ ys) e1 (ap₂ (λ (x : Entry) (xs : List Entry). x ∷ xs) e2 e3)
       ∙ sym (ap (map f) cut.listed ∙ map-append f (entries_in l) (entry_of whole r ∷ entries_in s))
 
-  same_length : (f : Entry → Entry) (l l' : List (Node I)) → entries_in l' ≡ map f (entries_in l) → length l' ≡ length l
+  pub same_length : (f : Entry → Entry) (l l' : List (Node I)) → entries_in l' ≡ map f (entries_in l) → length l' ≡ length l
   same_length f l l' e =
       sym (length-map l' (node_of whole)) ∙ sym (length-map (nodes_of whole l') (λ (n : TreeNode). n.entry)) ∙ ap length e ∙ length-map (entries_in l) f ∙ length-map (nodes_of whole l) (λ (n : TreeNode). n.entry) ∙ length-map l (node_of whole)
 
@@ -84,6 +84,33 @@ module _ {I : Type 0} (whole : I → ℤ) where
       let half : length (nodes_of whole l') ≡ length (nodes_of whole l' ++ node_of whole r' ∷ nodes_of whole s') / 2 =
       length-map l' (node_of whole) ∙ m ∙ cut.middle ∙ ap (λ (k : ℕ). k / 2) (sym long ∙ sym (ap length (sym (parts l' s' r')) ∙ length-map (l' ++ r' ∷ s') (node_of whole))) in
       subst IsSummed (sym (parts l' s' r')) (IsSummed-from (nodes_of whole l') (nodes_of whole s') (node_of whole r') half hl hs h)
+
+  -- subtrees that are summed, with a root that is, make a tree
+  pub summed_up : (nodes l rest s l' s' : List (Node I)) (r r' : Node I) → nodes ≡ l ++ rest → rest ≡ r ∷ s → length l ≡ length nodes / 2 →
+      entries_in l' ≡ entries_in l → entry_of whole r' ≡ entry_of whole r → entries_in s' ≡ entries_in s → IsSummed (nodes_of whole l') → IsSummed (nodes_of whole s') →
+      greatest_of whole r'.greatest ≡ greatest_height (entries_in l' ++ entry_of whole r ∷ entries_in s') → (entries_in (l' ++ r' ∷ s') ≡ entries_in nodes) × IsSummed (nodes_of whole (l' ++ r' ∷ s'))
+  summed_up nodes l rest s l' s' r r' e f mid e1 e2 e3 hl hs h =
+      let is : nodes ≡ l ++ r ∷ s = e ∙ ap (λ (ns : List (Node I)). l ++ ns) f in
+      let all = entry_parts l' s' r' ∙ ap₂ (λ (xs ys : List Entry). xs ++ ys) e1 (ap₂ (λ (x : Entry) (xs : List Entry). x ∷ xs) e2 e3) ∙ sym (ap entries_in is ∙ entry_parts l s r) in
+      let m = same_count l l' e1 in
+      let half : length (nodes_of whole l') ≡ length (nodes_of whole l' ++ node_of whole r' ∷ nodes_of whole s') / 2 =
+      length-map l' (node_of whole) ∙ m ∙ mid ∙ ap (λ (k : ℕ). k / 2) (sym (same_count nodes (l' ++ r' ∷ s') all) ∙ sym (ap length (sym (parts l' s' r')) ∙ length-map (l' ++ r' ∷ s') (node_of whole))) in
+      let top = h ∙ ap (λ (x : Entry). greatest_height (entries_in l' ++ x ∷ entries_in s')) (sym e2) in
+      (all, subst IsSummed (sym (parts l' s' r')) (IsSummed-from (nodes_of whole l') (nodes_of whole s') (node_of whole r') half hl hs top))
+    where
+      same_count : (xs ys : List (Node I)) → entries_in ys ≡ entries_in xs → length ys ≡ length xs
+      same_count xs ys k =
+          sym (length-map ys (node_of whole)) ∙ sym (length-map (nodes_of whole ys) (λ (n : TreeNode). n.entry)) ∙ ap length k ∙ length-map (nodes_of whole xs) (λ (n : TreeNode). n.entry) ∙ length-map xs (node_of whole)
+
+  -- what is written back of a slice of as many
+  pub written : (xs ys : List (Node I)) (n : ℕ) → n ≡ length ys → length xs ≡ length ys → take n (xs ++ drop (length xs) ys) ≡ xs
+  written xs ys n e h = front xs (drop (length xs) ys) n (h ∙ sym e)
+    where
+      front : (xs zs : List (Node I)) (n : ℕ) → length xs ≡ n → take n (xs ++ zs) ≡ xs
+      front [] zs zero k = refl
+      front [] zs (suc n) k = absurd (omega arith)
+      front (x ∷ xs) zs zero k = absurd (omega arith)
+      front (x ∷ xs) zs (suc n) k = ap (λ (l : List (Node I)). x ∷ l) (front xs zs n (omega arith))
 
   -- ---- a look-up
 

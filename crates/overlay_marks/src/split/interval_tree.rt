@@ -4,7 +4,7 @@ ghost use Rattle.std.specs.Prelude.{◌≡◌, ◌+◌, ◌-◌, ◌^◌, ◌==�
 ghost use Rattle.std.specs.Prelude.{true, not, ◌&&◌, ◌||◌, IsFalse, Some, IfOk, OnOk};
 ghost use Rattle.std.specs.List.{AllByRecursion, list_any};
 ghost use Rattle.overlay_marks.specs.IntervalTree.{AreRising, IsSummed, IsAt, IsUpTo, entries, greatest_height, further};
-ghost use Rattle.overlay_marks.specs.IntervalTree.{found, inserted, is_dropped, is_reached, is_taken_up, left_by};
+ghost use Rattle.overlay_marks.specs.IntervalTree.{found, inserted, is_dropped, is_reached, is_taken_up, left_by, stays_at};
 ghost use Rattle.overlay_marks.specs.NodeOf.{entry_of, greatest_of, node_of, nodes_of, query_of};
 
 use crate::split::looks::take_up;
@@ -152,6 +152,27 @@ fn stands_before<I: OverlayInt>(low: I, index: usize, node: &Node<I>) -> bool
         || not (int_lt (I.whole node.now.low) (I.whole low)) && nat_lt index node.now.index) }
 {
     low < node.low || !(node.low < low) && index < node.index
+}
+
+/// Sets every greatest height, from the subtrees up.
+pub fn sum_up<I: OverlayInt>(nodes: &mut [Node<I>])
+    ensures entries { entries (nodes_of I.whole nodes.new) ≡ entries (nodes_of I.whole nodes.old) }
+    ensures summed { IsSummed (nodes_of I.whole nodes.new) }
+{
+    let (left, rest) = nodes.split_at_mut(nodes.len() / 2);
+    let Some((root, right)) = rest.split_first_mut() else {
+        return;
+    };
+    sum_up(left);
+    sum_up(right);
+    update_greatest(left, root, right);
+}
+
+/// Whether an entry is live and does not end left of an `x`.
+pub fn stays<I: OverlayInt>(node: &Node<I>, x: I) -> bool
+    ensures { result ≡ stays_at (I.whole x) (entry_of I.whole node.now) }
+{
+    node.is_live && !(node.end_x < x)
 }
 
 /// Sets the greatest height of a root, from its subtrees and its own entry.

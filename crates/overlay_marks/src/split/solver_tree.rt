@@ -1,5 +1,5 @@
 // The finder that looks segments up in a tree over their heights. Upstream: `split::solver_tree`, whose tree is another.
-ghost use Rattle.std.specs.Prelude.{◌≡◌, ◌≢◌, ℕ, ◌<◌, ◌≤◌, ◌+◌, ◌-◌, ◌^◌, min, ◌++◌, [], ◌∷◌, All, IfErr, IfOk, OnOk, IsTrue, IsFalse, IsSortedByKey, IsPermutation, length};
+ghost use Rattle.std.specs.Prelude.{◌≡◌, ◌≢◌, ℕ, ◌<◌, ◌≤◌, ◌+◌, ◌-◌, ◌^◌, min, ◌++◌, [], ◌∷◌, All, IfErr, IfOk, OnOk, IsTrue, IsFalse, IsSortedByKey, IsPermutation, length, map, filter, ◌==◌};
 ghost use Rattle.overlay_base.specs.declared.segm.fault.Fault.TheVariants.{Memory};
 ghost use Rattle.overlay_base.specs.Points.{pair_cmp};
 ghost use Rattle.overlay_base.specs.Segments.{pairs};
@@ -9,12 +9,13 @@ ghost use Rattle.overlay_base.specs.InRange.{IsPairInRange};
 ghost use Rattle.overlay_marks.specs.PassMarks.{is_rounded};
 ghost use Rattle.overlay_marks.specs.PlacingOf.{placing_of, HasRadius};
 ghost use Rattle.overlay_marks.specs.MarkOf.{AreMarks, marks_of};
-ghost use Rattle.overlay_marks.specs.IntervalTree.{AreRising, IsSummed, entries};
-ghost use Rattle.overlay_marks.specs.NodeOf.{nodes_of, node_of};
+ghost use Rattle.overlay_marks.specs.IntervalTree.{AreRising, IsSummed, entries, stays_at};
+ghost use Rattle.overlay_marks.specs.NodeOf.{nodes_of, node_of, entry_of};
 ghost use Rattle.overlay_marks.specs.Looked.{boxes_meet, count_twos, tree_looks};
-ghost use Rattle.overlay_marks.specs.Swept.{alone, entry_of_pair, unswept, marks_with_found, crosses_found};
+ghost use Rattle.overlay_marks.specs.Swept.{alone, entry_at, entry_of_pair, entries_between, pair_at, marks_with_found, crosses_found};
+ghost use Rattle.std.specs.List.{IsDistinct, range_with_len};
 
-use crate::split::interval_tree::{Node, Query, insert, look_up};
+use crate::split::interval_tree::{Node, Query, insert, look_up, stays, sum_up};
 use crate::split::line_mark::LineMark;
 use crate::split::placing::Placing;
 use crate::split::solver_list::{Indexed, mark_both};
@@ -45,7 +46,8 @@ impl<I> TreeBuffers<I> {
 /// Finds the marks of a pass, as `solver_list::find_marks` does, and answers whether the pass rounds. The conditions are
 /// the same.
 ///
-/// A sweep over the list keeps the segments that it has met in a tree over their heights. Each segment takes up those
+/// A sweep over the list keeps the segments that it has met in a tree over their heights, which is renewed from time to
+/// time, so that it has few that have ended. Each segment takes up those
 /// whose heights it meets: those that end left of it are dropped, with the others it is marked. So besides one look at
 /// each segment that is dropped, it looks at those two alone whose ranges in `x` and in `y` meet; `looked` counts the
 /// looks.
@@ -70,11 +72,15 @@ pub fn find_marks<C: WindingCount, I: OverlayInt, D: Copy>(
 {
     let _looked = *looked;
     let TreeBuffers { nodes, found } = buffers;
-    build(segments, nodes)?;
-    let nodes = nodes.as_mut_slice();
+    nodes.clear();
     marks.clear();
     let mut rounded = false;
+    let mut until = 0;
     for index in 0..segments.len() {
+        if index == until {
+            until = renew(segments, index, nodes)?;
+        }
+        let tree = nodes.as_mut_slice();
         let later = segments[index].x_segment();
         let heights = later.y_range();
         let query = Query {
@@ -82,31 +88,79 @@ pub fn find_marks<C: WindingCount, I: OverlayInt, D: Copy>(
             x: later.a.x,
         };
         found.clear();
-        look_up(nodes, &query, found, looked)?;
+        look_up(tree, &query, found, looked)?;
         if mark_with_found(segments, found, index, placing, marks)? {
             rounded = true;
         }
-        insert(nodes, heights.min, heights.max, index);
+        insert(tree, heights.min, heights.max, index);
     }
     marks.sort()?;
     marks.dedup();
     Ok(rounded)
 }
 
-/// Builds the tree of the entries of all segments, none of them live.
-pub(crate) fn build<C: WindingCount, I: OverlayInt, D: Copy>(
+/// So many segments at least are added to a tree at once.
+const LEAST_MORE: usize = 64;
+
+/// Takes those entries out of the tree that are not live or end left of the segment at an index, and adds the entries of
+/// segments from there on, none of them live. Answers up to which segment.
+///
+/// It adds as many as stay, but at least 64, if there are so many: so the tree stays near what is live in size, and what is
+/// sorted in all is no more than a few times the segments.
+pub(crate) fn renew<C: WindingCount, I: OverlayInt, D: Copy>(
     segments: &[Segment<C, I, D>],
+    from: usize,
+    nodes: &mut Vec<Node<I>>,
+) -> Result<usize, AllocError>
+    requires { from < length segments.now }
+    ensures further { IfOk result (λ until. from < until) }
+    ensures within { IfOk result (λ until. until ≤ length segments.now) }
+    ensures rising { OnOk result (IsDistinct (λ i j. i == j) (map (λ e. e.index) (entries (nodes_of I.whole nodes.new.items))) → AreRising (entries (nodes_of I.whole nodes.new.items))) }
+    ensures summed { OnOk result (IsSummed (nodes_of I.whole nodes.new.items)) }
+    ensures listed { IfOk result (λ until. (let ps = pairs (segments_of segments.now) in
+        IsPermutation (filter (stays_at (pair_at ps from).a.x) (entries (nodes_of I.whole nodes.old.items)) ++ entries_between ps from until) (entries (nodes_of I.whole nodes.new.items)))) }
+{
+    let first = segments[from].x_segment();
+    drop_ended(nodes, first.a.x);
+    let until = from + count_more(segments.len() - from, nodes.len());
+    push_nodes(segments, from, until, nodes)?;
+    nodes.sort_by_key(|node| (node.low, node.index))?;
+    sum_up(nodes.as_mut_slice());
+    Ok(until)
+}
+
+/// Leaves those entries that are live and do not end left of an `x`.
+fn drop_ended<I: OverlayInt>(nodes: &mut Vec<Node<I>>, x: I)
+    ensures { nodes.new.items ≡ filter (λ n. stays_at (I.whole x) (entry_of I.whole n)) nodes.old.items }
+{
+    nodes.retain(|node| stays(node, x));
+}
+
+/// How many of the segments that are left to add to a tree that has kept so many entries. One at least has to be left.
+fn count_more(left: usize, kept: usize) -> usize
+    requires { 0 < left }
+    ensures some { 0 < result }
+    ensures within { result ≤ left }
+{
+    let wanted = if kept < LEAST_MORE { LEAST_MORE } else { kept };
+    if left < wanted { left } else { wanted }
+}
+
+/// Appends the nodes of the segments from an index up to another.
+fn push_nodes<C: WindingCount, I: OverlayInt, D: Copy>(
+    segments: &[Segment<C, I, D>],
+    from: usize,
+    until: usize,
     nodes: &mut Vec<Node<I>>,
 ) -> Result<(), AllocError>
-    ensures rising { OnOk result (AreRising (entries (nodes_of I.whole nodes.new.items))) }
-    ensures summed { OnOk result (IsSummed (nodes_of I.whole nodes.new.items)) }
-    ensures listed { OnOk result (IsPermutation (unswept (pairs (segments_of segments.now))) (entries (nodes_of I.whole nodes.new.items))) }
+    requires order { from ≤ until }
+    requires within { until ≤ length segments.now }
+    ensures { OnOk result (nodes_of I.whole nodes.new.items ≡ nodes_of I.whole nodes.old.items
+        ++ map (λ i. alone (entry_at (pairs (segments_of segments.now)) i)) (range_with_len from (until - from))) }
 {
-    nodes.clear();
-    for index in 0..segments.len() {
+    for index in from..until {
         nodes.push(node_at(index, segments[index].x_segment()))?;
     }
-    nodes.sort_by_key(|node| (node.low, node.index))?;
     Ok(())
 }
 

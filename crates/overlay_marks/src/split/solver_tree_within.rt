@@ -11,7 +11,7 @@ ghost use Rattle.overlay_marks.specs.MarkOf.{AreMarks, marks_of};
 use crate::split::interval_tree::{Query, insert, look_up};
 use crate::split::line_mark::LineMark;
 use crate::split::placing::Placing;
-use crate::split::solver_tree::{TreeBuffers, build, mark_with_found};
+use crate::split::solver_tree::{TreeBuffers, mark_with_found, renew};
 use overlay_base::num::OverlayInt;
 use overlay_base::segm::fault::Fault;
 use overlay_base::segm::segment::Segment;
@@ -40,14 +40,18 @@ pub fn find_marks_within<C: WindingCount, I: OverlayInt, D: Copy>(
 {
     let limit = looked.saturating_add(most);
     let TreeBuffers { nodes, found } = buffers;
-    build(segments, nodes)?;
-    let nodes = nodes.as_mut_slice();
+    nodes.clear();
     marks.clear();
     let mut rounded = false;
+    let mut until = 0;
     for index in 0..segments.len() {
         if limit.saturating_sub(*looked) < segments.len() as u128 {
             return Ok(None);
         }
+        if index == until {
+            until = renew(segments, index, nodes)?;
+        }
+        let tree = nodes.as_mut_slice();
         let later = segments[index].x_segment();
         let heights = later.y_range();
         let query = Query {
@@ -55,11 +59,11 @@ pub fn find_marks_within<C: WindingCount, I: OverlayInt, D: Copy>(
             x: later.a.x,
         };
         found.clear();
-        look_up(nodes, &query, found, looked)?;
+        look_up(tree, &query, found, looked)?;
         if mark_with_found(segments, found, index, placing, marks)? {
             rounded = true;
         }
-        insert(nodes, heights.min, heights.max, index);
+        insert(tree, heights.min, heights.max, index);
     }
     marks.sort()?;
     marks.dedup();

@@ -7,4 +7,4 @@ use Rattle.overlay_marks.proofs.laws.TreeFinder.{IsUnderWay}
 use Rattle.overlay_marks.proofs.split.solver_tree.find_marks.Given as goal
 
 abbrev pub invariant-loop-index : goal.invariant-loop-index
-invariant-loop-index g l = IsUnderWay (placing_of l.placing) (pairs (segments_of l.segments)) (nodes_of g.I.OverlayInt.whole l.nodes) (marks_of g.I.OverlayInt.whole l.marks.items) l.rounded l.fn.looked l.looked l.index
+invariant-loop-index g l = IsUnderWay (placing_of l.placing) (pairs (segments_of l.segments)) (nodes_of g.I.OverlayInt.whole l.nodes.items) (marks_of g.I.OverlayInt.whole l.marks.items) l.rounded l.fn.looked l.looked l.index l.until

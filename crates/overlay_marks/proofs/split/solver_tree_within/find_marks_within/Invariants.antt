@@ -9,6 +9,6 @@ use Rattle.overlay_marks.proofs.split.solver_tree_within.find_marks_within.Given
 
 abbrev pub invariant-loop-index : goal.invariant-loop-index
 invariant-loop-index g l = record {
-  way : IsUnderWay (placing_of l.placing) (pairs (segments_of l.segments)) (nodes_of g.I.OverlayInt.whole l.nodes) (marks_of g.I.OverlayInt.whole l.marks.items) l.rounded l.fn.looked l.looked l.index;
+  way : IsUnderWay (placing_of l.placing) (pairs (segments_of l.segments)) (nodes_of g.I.OverlayInt.whole l.nodes.items) (marks_of g.I.OverlayInt.whole l.marks.items) l.rounded l.fn.looked l.looked l.index l.until;
   within : l.looked ≤ l.fn.looked + l.most;
 }
