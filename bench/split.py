@@ -10,7 +10,7 @@ memory in megabytes that a run over the list, and one over the grid, took. A run
 once. All answers have to be the same. Above 16,000 segments `tree` and `auto` go over the grid, as `frag` does.
 
 With `--against`, `split` under `auto` is timed by this build and by another one, PROGRAM, in turns: for each kind and number
-the least user time of nine runs of each, and how many times as long this build took. The answers have to be the same; `far`
+the least processor time of nine runs of each, and how many times as long this build took. The answers have to be the same; `far`
 is left out where the other build refuses such coordinates.
 
 - random: short segments at random places, so that each meets a few others;
@@ -96,10 +96,10 @@ def build():
                    stdout=subprocess.DEVNULL, check=True)
 
 
-def run(words, text, program=PROGRAM):
+def run(words, text):
     """What the program prints, and its user time in seconds."""
     before = resource.getrusage(resource.RUSAGE_CHILDREN).ru_utime
-    printed = subprocess.run([program, *words], input=text, text=True, capture_output=True, check=True).stdout
+    printed = subprocess.run([PROGRAM, *words], input=text, text=True, capture_output=True, check=True).stdout
     return printed, resource.getrusage(resource.RUSAGE_CHILDREN).ru_utime - before
 
 
@@ -123,10 +123,23 @@ def measure(kind, number):
     print(f"{kind:10} {number:6} {len(lines) - 2:8} {passes:>6} {seconds} {most}", flush=True)
 
 
+def processor_time():
+    """The processor's seconds of all runs so far, which are told more finely than those of the user alone."""
+    children = resource.getrusage(resource.RUSAGE_CHILDREN)
+    return children.ru_utime + children.ru_stime
+
+
+def split_by(program, text):
+    """What `split` of a build prints, and the processor's seconds."""
+    before = processor_time()
+    printed = subprocess.run([program, "split"], input=text, text=True, capture_output=True, check=True).stdout
+    return printed, processor_time() - before
+
+
 def compare(other, kind, number):
     text = "\n".join(KINDS[kind](number)) + "\n"
     try:
-        turns = [[run(["split"], text, program) for program in (PROGRAM, other)] for _ in range(TURNS)]
+        turns = [[split_by(program, text) for program in (PROGRAM, other)] for _ in range(TURNS)]
     except subprocess.CalledProcessError as failed:
         if failed.cmd[0] == other and failed.stderr.endswith(": range\n"):
             print(f"{kind:10} {number:6}  out of the other's range", flush=True)
