@@ -7,6 +7,7 @@ pub mod GraphLaws
 pub mod GraphRuns
 pub mod FillSides
 pub mod GraphExact
+pub mod LineSides
 pub mod PlaceColumns
 pub mod Regions
 pub mod EvenNodes

@@ -1,8 +1,10 @@
 -- Laws over the definitions: statements that contracts name.
-use Rattle.std.specs.Prelude.{◌≡◌, Bool, true, IsTrue, ℕ, List, All, map, filter}
+use Rattle.std.specs.Prelude.{◌≡◌, ◌==◌, ◌<◌, pos, Bool, true, not, ◌&&◌, IsTrue, ℕ, List, All, map, filter}
 use Rattle.overlay_base.specs.Windings.{Winding}
 use Rattle.overlay_base.specs.Segments.{WholeSegment, is_map, are_polygons}
 use Rattle.overlay_base.specs.Rules.{keeps_fill}
+use Rattle.overlay_base.specs.ClipRules.{keeps_clip}
+use Rattle.overlay_base.specs.declared.overlay_core.clip_rule.ClipRule.{ClipRule}
 use Rattle.overlay_base.specs.declared.overlay_core.fill_rule.FillRule.{FillRule}
 use Rattle.overlay_base.specs.Planar.{is_planar}
 use Rattle.overlay_base.specs.Balance.{IsBalanced}
@@ -11,10 +13,17 @@ use Rattle.overlay_build.specs.Graph.{graph_by, has_even_nodes, is_valid_graph, 
 use Rattle.overlay_build.specs.Values.{tells_apart}
 use Rattle.overlay_build.specs.Regions.{EnclosesRegion}
 use Rattle.overlay_build.specs.Sides.{overlay_graph}
+use Rattle.overlay_build.specs.Lines.{CountsLines, keeps_between, clip_graph}
 
 -- a fill without a mask is kept where the windings' values differ
 abbrev pub FillsTellSides : Type 0
 FillsTellSides = (rule : Bool → Bool → Bool) (fill_rule : FillRule) (b t : Winding) → keeps_fill rule (fill_byte fill_rule b t 0) ≡ tells_apart rule fill_rule b t
+
+-- a fill of lines is kept by a clip rule where a line runs along the segment and the rule keeps what lies between such windings
+abbrev pub FillsTellLines : Type 0
+FillsTellLines =
+    (rule : ClipRule) (fill_rule : FillRule) (b t : Winding) (mask : ℕ) → b.clip ≡ pos 0 → t.clip ≡ pos 0 → mask < 4 →
+    keeps_clip rule (fill_byte fill_rule b t mask) ≡ (not (mask == 0) && keeps_between rule fill_rule b t)
 
 -- with balance evenly many links meet at each node of a truth function's graph
 abbrev pub NodesAreEven : Type 0
@@ -34,7 +43,13 @@ GraphsAreExact =
     (fill_rule : FillRule) (rule : Bool → Bool → Bool) (segments : List WholeSegment) → IsTrue (is_map segments) → IsTrue (are_polygons segments) → IsTrue (is_planar segments) → IsBalanced segments →
     graph_by (keeps_fill rule) fill_rule segments ≡ overlay_graph rule fill_rule segments
 
--- and its graph encloses exactly the places that it tells from those outside
+-- the graph of a clip rule over polygons and lines is that of the parts of lines that it keeps by the windings on their sides
+abbrev pub ClipGraphsAreExact : Type 0
+ClipGraphsAreExact =
+    (fill_rule : FillRule) (rule : ClipRule) (segments : List WholeSegment) → IsTrue (is_map segments) → All CountsLines segments → IsTrue (is_planar segments) → IsBalanced segments →
+    graph_by (keeps_clip rule) fill_rule segments ≡ clip_graph rule fill_rule segments
+
+-- the graph of a truth function encloses exactly the places that it tells from those outside
 abbrev pub GraphsEncloseRegions : Type 0
 GraphsEncloseRegions =
     (fill_rule : FillRule) (rule : Bool → Bool → Bool) (segments : List WholeSegment) → IsTrue (is_map segments) → IsTrue (are_polygons segments) → IsTrue (is_planar segments) → IsBalanced segments →

@@ -4,6 +4,7 @@ pub mod Graph
 pub mod Values
 pub mod Regions
 pub mod Sides
+pub mod Lines
 pub mod GraphOf
 pub mod NodeIndexes
 pub mod LinkEnds

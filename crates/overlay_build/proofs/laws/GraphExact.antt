@@ -2,6 +2,7 @@
 use Rattle.std.proofs.Common.{◌≡◌, ℕ, ◌+◌, ◌%◌, ◌==◌, suc, Bool, true, false, ◌&&◌, IsTrue, List, [], ◌∷◌, map, filter, length, All, refl, sym, ap, ap₂, ◌∙◌}
 use Rattle.std.specs.List.{list_all}
 use Rattle.std.proofs.lemmas.Bool.{and_parts, eqb-true}
+use Rattle.std.proofs.lemmas.List.Sums.{AllPass-from_list_all}
 use Rattle.std.proofs.lemmas.List.Elements.{All-head, All-tail, All-weaker}
 use Rattle.overlay_base.specs.Points.{Point, point_eq}
 use Rattle.overlay_base.specs.Segments.{WholeSegment, is_map, are_polygons}
@@ -39,25 +40,30 @@ keeps_fill-sides rule fill_rule segments s h m =
     ∙ ap (λ n. keeps_fill rule (fill_byte fill_rule (side_bottom segments s) (side_top segments s) n)) m
     ∙ fills_tell_sides rule fill_rule (side_bottom segments s) (side_top segments s)
 
-exact_on : (rule : Bool → Bool → Bool) (fill_rule : FillRule) (segments xs : List WholeSegment) → list_all (λ s. s.count.mask == 0) xs ≡ true → All (HasSides segments) xs
-    → filter (λ f. keeps_fill rule f.fill) (map (λ s. record { pair = s.pair; fill = fill_of fill_rule segments s }) xs) ≡ map (λ s. with_sides fill_rule segments s) (filter (λ s. has_sides_apart rule fill_rule segments s) xs)
+-- the segments whose fills are kept, where a test of their sides says the same
+pub kept_on : (keeps : ℕ → Bool) (test : WholeSegment → Bool) (fill_rule : FillRule) (segments xs : List WholeSegment) → All (λ s. HasSides segments s × (keeps (fill_of fill_rule segments s) ≡ test s)) xs
+    → filter (λ f. keeps f.fill) (map (λ s. record { pair = s.pair; fill = fill_of fill_rule segments s }) xs) ≡ map (λ s. with_sides fill_rule segments s) (filter test xs)
 unfolding with_sides
-exact_on rule fill_rule segments [] m a = refl
-exact_on rule fill_rule segments (s ∷ xs) m a =
-    let parts = and_parts (s.count.mask == 0) (list_all (λ s. s.count.mask == 0) xs) m in
-    let sides : HasSides segments s = All-head (HasSides segments) s xs a in
-    by (has_sides_apart rule fill_rule segments s) refl sides (keeps_fill-sides rule fill_rule segments s sides (eqb-true s.count.mask 0 parts.0))
-    (exact_on rule fill_rule segments xs parts.1 (All-tail (HasSides segments) s xs a))
+kept_on keeps test fill_rule segments [] a = refl
+kept_on keeps test fill_rule segments (s ∷ xs) a =
+    let here = All-head (λ s. HasSides segments s × (keeps (fill_of fill_rule segments s) ≡ test s)) s xs a in
+    by (test s) refl here.0 here.1 (kept_on keeps test fill_rule segments xs (All-tail (λ s. HasSides segments s × (keeps (fill_of fill_rule segments s) ≡ test s)) s xs a))
   where
-    by : (b : Bool) → has_sides_apart rule fill_rule segments s ≡ b → HasSides segments s → keeps_fill rule (fill_of fill_rule segments s) ≡ has_sides_apart rule fill_rule segments s
-        → filter (λ f. keeps_fill rule f.fill) (map (λ s. record { pair = s.pair; fill = fill_of fill_rule segments s }) xs) ≡ map (λ s. with_sides fill_rule segments s) (filter (λ s. has_sides_apart rule fill_rule segments s) xs)
-        → filter (λ f. keeps_fill rule f.fill) (map (λ s. record { pair = s.pair; fill = fill_of fill_rule segments s }) (s ∷ xs)) ≡ map (λ s. with_sides fill_rule segments s) (filter (λ s. has_sides_apart rule fill_rule segments s) (s ∷ xs))
+    by : (b : Bool) → test s ≡ b → HasSides segments s → keeps (fill_of fill_rule segments s) ≡ test s
+        → filter (λ f. keeps f.fill) (map (λ s. record { pair = s.pair; fill = fill_of fill_rule segments s }) xs) ≡ map (λ s. with_sides fill_rule segments s) (filter test xs)
+        → filter (λ f. keeps f.fill) (map (λ s. record { pair = s.pair; fill = fill_of fill_rule segments s }) (s ∷ xs)) ≡ map (λ s. with_sides fill_rule segments s) (filter test (s ∷ xs))
     by true e sides k ih =
-        let u : keeps_fill rule (fill_of fill_rule segments s) ≡ true = k ∙ e in
+        let u : keeps (fill_of fill_rule segments s) ≡ true = k ∙ e in
         rw (u, e) (λ i. record { pair = s.pair; fill = fill_of-sides fill_rule segments s sides i } ∷ ih i)
     by false e sides k ih =
-        let u : keeps_fill rule (fill_of fill_rule segments s) ≡ false = k ∙ e in
+        let u : keeps (fill_of fill_rule segments s) ≡ false = k ∙ e in
         rw (u, e) ih
+
+exact_on : (rule : Bool → Bool → Bool) (fill_rule : FillRule) (segments xs : List WholeSegment) → list_all (λ s. s.count.mask == 0) xs ≡ true → All (HasSides segments) xs
+    → filter (λ f. keeps_fill rule f.fill) (map (λ s. record { pair = s.pair; fill = fill_of fill_rule segments s }) xs) ≡ map (λ s. with_sides fill_rule segments s) (filter (λ s. has_sides_apart rule fill_rule segments s) xs)
+exact_on rule fill_rule segments xs m a =
+    kept_on (keeps_fill rule) (λ s. has_sides_apart rule fill_rule segments s) fill_rule segments xs
+    (λ k d l. (a k d l, keeps_fill-sides rule fill_rule segments _ (a k d l) (eqb-true _ 0 (AllPass-from_list_all (λ (s : WholeSegment). s.count.mask == 0) xs m k d l))))
 
 -- the graph of the kept fills is that of the segments whose sides the rule tells apart
 pub graph_by-sides : (rule : Bool → Bool → Bool) (fill_rule : FillRule) (segments : List WholeSegment) → IsTrue (are_polygons segments) → All (HasSides segments) segments → graph_by (keeps_fill rule) fill_rule segments ≡ overlay_graph rule fill_rule segments

@@ -11,6 +11,7 @@ ghost use Rattle.overlay_base.specs.declared.segm.fault.Fault.TheVariants.{Count
 ghost use Rattle.overlay_sweep.specs.ChainWindings.{tops_leave_range};
 ghost use Rattle.overlay_build.specs.Graph.{graph_by, data_by, has_even_nodes};
 ghost use Rattle.overlay_build.specs.Sides.{IsBalancedOverlay};
+ghost use Rattle.overlay_build.specs.Lines.{IsBalancedClip};
 ghost use Rattle.overlay_build.specs.GraphOf.{HoldGraph, graph_with};
 ghost use Rattle.overlay_build.specs.NodeIndexes.{indexes_of, is_canonical_node, items_of, is_any_node};
 ghost use Rattle.overlay_build.specs.LinkRules.{keeps_by};
@@ -237,7 +238,8 @@ impl<I: OverlayInt> GraphBuilder<ShapeCountString, Vec<usize>, I, ()> {
     }
 
     /// The graph of the segments of an arrangement of polygons and lines that the clip rule keeps: parts of lines, by
-    /// whether the polygons wind on their two sides.
+    /// whether the polygons are on their two sides. With balanced counts, as of closed contours and whatever lines, these
+    /// sides are told by the windings in the columns beside a segment.
     ///
     /// The segments have to be arranged, as `is_arranged` tests. The solver's strategy does not change the answer.
     ///
@@ -252,6 +254,7 @@ impl<I: OverlayInt> GraphBuilder<ShapeCountString, Vec<usize>, I, ()> {
     ) -> Result<StringGraph<'_, I>, Fault>
         requires arranged { IsTrue (is_arranged (I.whole I.MIN_COORD) (I.whole I.MAX_COORD) (segments_of segments.now)) }
         ensures graph { IfOk result (λ graph. HoldGraph items_of is_any_node I.whole (nodes_of graph) (links_of graph) (graph_by (keeps_clip clip_rule) fill_rule (segments_of segments.now))) }
+        ensures balanced { IsBalanced (segments_of segments.now) → IsBalancedClip clip_rule fill_rule (segments_of segments.now) (graph_by (keeps_clip clip_rule) fill_rule (segments_of segments.now)) }
         ensures in_range { OnOk result (IsFalse (tops_leave_range (segments_of segments.now))) }
         ensures out_of_range { IfErr result (λ fault. fault ≡ CountOutOfRange → IsTrue (tops_leave_range (segments_of segments.now))) }
         ensures same_builder { IfOk result (λ graph. graph.builder.ghost_name ≡ self.entry.ghost_name) }

@@ -1,5 +1,5 @@
 // The laws of fills and graphs. Each function has an empty body, and its contract is proved for all whole numbers.
-ghost use Rattle.overlay_build.specs.Laws.{FillsTellSides, NodesAreEven, GraphsAreValid, GraphsAreExact, GraphsEncloseRegions, FilterGivesLinks};
+ghost use Rattle.overlay_build.specs.Laws.{FillsTellSides, FillsTellLines, ClipGraphsAreExact, NodesAreEven, GraphsAreValid, GraphsAreExact, GraphsEncloseRegions, FilterGivesLinks};
 
 pub use overlay_sweep::build::laws::winding_laws;
 
@@ -19,4 +19,12 @@ pub fn graph_laws()
     ensures exact { GraphsAreExact }
     ensures region { GraphsEncloseRegions }
     ensures filter { FilterGivesLinks }
+{}
+
+/// Of polygons and lines: a clip rule keeps a fill where a line runs along the segment and the rule keeps what has the
+/// polygons on these sides; with balanced counts its graph is that of the parts of lines that it keeps by the windings of the
+/// polygons in the columns beside them.
+pub fn line_laws()
+    ensures fills { FillsTellLines }
+    ensures exact { ClipGraphsAreExact }
 {}
