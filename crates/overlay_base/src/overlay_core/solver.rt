@@ -35,36 +35,54 @@ pub struct Precision {
 }
 
 impl Precision {
+    /// The squared radius is 1 in every pass.
     pub const ABSOLUTE: Precision = Precision {
         start: 0,
         progression: 0,
     };
 
+    /// The squared radius is 1 in the first pass, and doubled from pass to pass.
     pub const HIGH: Precision = Precision {
         start: 0,
         progression: 1,
     };
 
+    /// The squared radius is 2 in the first pass, and doubled from pass to pass.
     pub const MEDIUM_HIGH: Precision = Precision {
         start: 1,
         progression: 1,
     };
 
+    /// The squared radius is 1 in the first pass, and four times as much in each further one.
     pub const MEDIUM: Precision = Precision {
         start: 0,
         progression: 2,
     };
 
+    /// The squared radius is 4 in the first pass, and four times as much in each further one.
     pub const MEDIUM_LOW: Precision = Precision {
         start: 2,
         progression: 2,
     };
 
+    /// The squared radius is 4 in the first pass, and eight times as much in each further one.
     pub const LOW: Precision = Precision {
         start: 2,
         progression: 3,
     };
 }
+
+const _: () = prove!(Precision::ABSOLUTE.start == 0 && Precision::ABSOLUTE.progression == 0);
+
+const _: () = prove!(Precision::HIGH.start == 0 && Precision::HIGH.progression == 1);
+
+const _: () = prove!(Precision::MEDIUM_HIGH.start == 1 && Precision::MEDIUM_HIGH.progression == 1);
+
+const _: () = prove!(Precision::MEDIUM.start == 0 && Precision::MEDIUM.progression == 2);
+
+const _: () = prove!(Precision::MEDIUM_LOW.start == 2 && Precision::MEDIUM_LOW.progression == 2);
+
+const _: () = prove!(Precision::LOW.start == 2 && Precision::LOW.progression == 3);
 
 /// A strategy and a precision.
 #[derive(Clone, Copy)]
@@ -74,21 +92,25 @@ pub struct Solver {
 }
 
 impl Solver {
+    /// Every two segments whose ranges in `x` meet are looked at; high precision.
     pub const LIST: Solver = Solver {
         strategy: Strategy::List,
         precision: Precision::HIGH,
     };
 
+    /// An interval tree, or a grid where there are many segments; high precision.
     pub const TREE: Solver = Solver {
         strategy: Strategy::Tree,
         precision: Precision::HIGH,
     };
 
+    /// The columns of a grid; high precision.
     pub const FRAG: Solver = Solver {
         strategy: Strategy::Frag,
         precision: Precision::HIGH,
     };
 
+    /// A list, a tree or a grid, by the number of segments; high precision.
     pub const AUTO: Solver = Solver {
         strategy: Strategy::Auto,
         precision: Precision::HIGH,
@@ -178,3 +200,6 @@ impl Default for Solver {
         Solver::AUTO
     }
 }
+
+#[cfg(test)]
+mod tests;

@@ -11,14 +11,34 @@ pub struct ShapeCountBoolean {
 }
 
 impl ShapeCountBoolean {
+    /// A step of the subject, from `a` to `b`.
     pub const SUBJ_DIRECT: ShapeCountBoolean = ShapeCountBoolean { subj: 1, clip: 0 };
 
+    /// A step of the subject, from `b` to `a`.
     pub const SUBJ_INVERT: ShapeCountBoolean = ShapeCountBoolean { subj: -1, clip: 0 };
 
+    /// A step of the clip, from `a` to `b`.
     pub const CLIP_DIRECT: ShapeCountBoolean = ShapeCountBoolean { subj: 0, clip: 1 };
 
+    /// A step of the clip, from `b` to `a`.
     pub const CLIP_INVERT: ShapeCountBoolean = ShapeCountBoolean { subj: 0, clip: -1 };
 }
+
+const _: () = prove!(
+    ShapeCountBoolean::SUBJ_DIRECT.subj == 1 && ShapeCountBoolean::SUBJ_DIRECT.clip == 0
+);
+
+const _: () = prove!(
+    ShapeCountBoolean::SUBJ_INVERT.subj == -1 && ShapeCountBoolean::SUBJ_INVERT.clip == 0
+);
+
+const _: () = prove!(
+    ShapeCountBoolean::CLIP_DIRECT.subj == 0 && ShapeCountBoolean::CLIP_DIRECT.clip == 1
+);
+
+const _: () = prove!(
+    ShapeCountBoolean::CLIP_INVERT.subj == 0 && ShapeCountBoolean::CLIP_INVERT.clip == -1
+);
 
 impl WindingCount for ShapeCountBoolean {
     ghost use Rattle.std.specs.Prelude.{refl};

@@ -33,3 +33,13 @@ pub const BOTH_BOTTOM: SegmentFill = SUBJ_BOTTOM | CLIP_BOTTOM;
 
 /// Both are inside on both sides.
 pub const ALL: SegmentFill = SUBJ_BOTH | CLIP_BOTH;
+
+const _: () = prove!(SUBJ_BOTH == 3);
+
+const _: () = prove!(CLIP_BOTH == 12);
+
+const _: () = prove!(BOTH_TOP == 5);
+
+const _: () = prove!(BOTH_BOTTOM == 10);
+
+const _: () = prove!(ALL == 15);

@@ -5,8 +5,9 @@ use Rattle.std.proofs.lemmas.Bool.{and_parts, or_left, or_right}
 use Rattle.overlay_base.specs.Windings.{Winding, add, weight}
 use Rattle.overlay_base.specs.Segments.{WholeSegment}
 use Rattle.overlay_sweep.specs.ChainWindings.{neighbor_at_start, directly_below, support, top_within, top, bottom, is_live}
+use Rattle.overlay_sweep.specs.Laws.{TopsAddWeights}
 use Rattle.overlay_sweep.proofs.laws.ColumnLines.{is_under}
-use Rattle.overlay_sweep.proofs.laws.Members.{IsArranged}
+use Rattle.overlay_sweep.proofs.laws.Members.{IsArranged, All-from_Has, is_arranged}
 use Rattle.overlay_sweep.proofs.laws.Supports.{is_earlier, earlier-trans, earlier_itself, earlier_beneath}
 use Rattle.overlay_sweep.proofs.laws.Tops.{by_option, starts_before, lives_under, here_neighbor, neighbor_is, here_live, directly_is, length-filter_le, length-filter_less, filter_all, empty_add}
 use Rattle.overlay_base.proofs.laws.Lists.{Has, Has-filter_out}
@@ -64,3 +65,7 @@ module _ (xs : List WholeSegment) (arranged : IsArranged xs) where
   pub top_is_sum : (s : WholeSegment) → Has xs s → top xs s ≡ add (bottom xs s) (weight s.count)
   unfolding top bottom top_within
   top_is_sum s m = top_within-more (length xs) s m (place-bound s)
+
+-- of every segment of an arrangement
+pub tops_add_weights : TopsAddWeights
+tops_add_weights xs map planar = All-from_Has (λ s. top xs s ≡ add (bottom xs s) (weight s.count)) xs (top_is_sum xs (is_arranged xs map planar))

@@ -1,5 +1,9 @@
+use Rattle.overlay_sweep.proofs.laws.ChainSums.{tops_add_weights}
 use Rattle.overlay_sweep.proofs.laws.Tops.{chains_are_columns}
 use Rattle.overlay_sweep.proofs.build.laws.winding_laws.Goals as goal
 
-pub returns : goal.returns
-returns c = chains_are_columns
+pub returns-clause-columns : goal.returns-clause-columns
+returns-clause-columns c = chains_are_columns
+
+pub returns-clause-tops : goal.returns-clause-tops
+returns-clause-tops c = tops_add_weights
