@@ -124,7 +124,7 @@ pub(crate) fn renew<C: WindingCount, I: OverlayInt, D: Copy>(
     drop_ended(nodes, first.a.x);
     let until = from + count_more(segments.len() - from, nodes.len());
     push_nodes(segments, from, until, nodes)?;
-    nodes.sort_by_key(|node| (node.low, node.index))?;
+    nodes.sort_unstable_by_key(|node| (node.low, node.index));
     sum_up(nodes.as_mut_slice());
     Ok(until)
 }

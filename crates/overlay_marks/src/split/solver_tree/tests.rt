@@ -116,7 +116,8 @@ fn lines_beside_one_another(rt: HostRuntime) {
         let left = 10 * i32::from(place);
         push_side(&rt, &mut segments, (left, 0), (left + 5, 0));
     }
-    assert_eq!(rt; ask(&rt, rt.alloc(), &mut segments, SNAPPING), (0, 999));
+    // Each is dropped by the next one, but for those 15 that the tree is rid of where it is renewed, at every 64th.
+    assert_eq!(rt; ask(&rt, rt.alloc(), &mut segments, SNAPPING), (0, 984));
 }
 
 #[test]
