@@ -46,6 +46,9 @@ tab_is_no_space = refl
 digits_behind_minus : signed_value (codes "-012") ≡ negsuc 11
 digits_behind_minus = refl
 
+ten_digits_behind_minus : signed_value (codes "-1073741824") ≡ negsuc 1073741823
+ten_digits_behind_minus = refl
+
 -- a step of a clip's contour that runs back
 clip_backward : AsksFor (negsuc 16383) (pos 16383) (codes "C 5 6 1 -2")
     (record { pair = record { a = record { x = pos 1; y = negsuc 1 }; b = record { x = pos 5; y = pos 6 } }; count = record { subj = pos 0; clip = negsuc 0; mask = 0 } })

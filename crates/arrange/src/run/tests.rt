@@ -126,6 +126,28 @@ seg 80 0 100 0 2 0
 seg 100 0 150 0 1 0
 flag true
 passes 1
+# Over the whole range of coordinates.
+$split
+S -1073741824 0 1073741822 1
+S -1073741824 1 1073741822 0
+>0
+seg -1073741824 0 -1 1 1 0
+seg -1073741824 1 -1 1 1 0
+seg -1 1 1073741822 0 1 0
+seg -1 1 1073741822 1 1 0
+flag true
+passes 2
+#
+$split|limit=0
+S -1073741824 0 1073741822 1
+S -1073741824 1 1073741822 0
+>0
+seg -1073741824 0 -1 1 1 0
+seg -1073741824 1 -1 1 1 0
+seg -1 1 1073741822 0 1 0
+seg -1 1 1073741822 1 1 0
+flag true
+passes 2
 # The first radius is that of the precision.
 $split|precision=3,1
 S 0 0 5 5
