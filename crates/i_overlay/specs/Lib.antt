@@ -16,3 +16,5 @@ pub use Rattle.overlay_build.specs.GraphOf
 pub use Rattle.overlay_build.specs.NodeIndexes
 pub use Rattle.overlay_build.specs.Sides
 pub use Rattle.overlay_build.specs.Regions
+pub use Rattle.overlay_build.specs.Lines
+pub use Rattle.overlay_build.specs.StringGraphOf
