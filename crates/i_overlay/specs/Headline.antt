@@ -22,6 +22,7 @@ use Rattle.overlay_build.specs.Graph.{Graph, graph_by}
 use Rattle.overlay_build.specs.Sides.{IsBalancedOverlay}
 use Rattle.overlay_build.specs.Lines.{IsBalancedClip}
 use Rattle.i_overlay.specs.FarRegions.{EnclosesFarRegion}
+use Rattle.i_overlay.specs.LinesAlong.{KeepsLines}
 
 -- What a split leaves of what it is given.
 pub record IsSplit (settings : Settings) (given segments : List WholeSegment) (passes : ℕ) : Type 0 where
@@ -63,6 +64,9 @@ pub record IsClip (settings : Settings) (fill_rule : FillRule) (rule : ClipRule)
   -- Where the given counts balance, it holds exactly the parts of lines that the rule keeps by how the polygons wind on their
   -- two sides, with the fills of these sides.
   pub balanced : IsBalanced given → IsBalancedClip rule fill_rule segments graph
+  -- Where all crossings have whole coordinates, a line runs along a part of the given segments after the split exactly where
+  -- a given line does.
+  pub lines : IsTrue (is_exact_input given) → KeepsLines given segments
 
 -- The split was refused: nothing is left, and where a count was, a sum of the run is too large.
 pub record IsSplitRefused (settings : Settings) (given segments : List WholeSegment) (fault : Fault) : Type 0 where

@@ -1,4 +1,5 @@
 pub mod FarRegions
+pub mod LinesAlong
 pub mod Headline
 -- what the clauses of the crate cite of the crates below
 pub use Rattle.overlay_base.specs.Balance

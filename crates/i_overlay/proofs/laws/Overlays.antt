@@ -26,6 +26,7 @@ use Rattle.overlay_build.specs.Graph.{Graph, graph_by}
 use Rattle.overlay_build.specs.Values.{tells_apart}
 use Rattle.overlay_build.specs.Sides.{IsBalancedOverlay}
 use Rattle.overlay_build.specs.Lines.{IsBalancedClip}
+use Rattle.i_overlay.proofs.laws.LinesAlong.{lines_kept}
 use Rattle.i_overlay.specs.Headline.{IsSplit, IsOverlay, IsClip, IsSplitRefused, IsBuildRefused}
 
 -- the empty list is an arrangement
@@ -73,6 +74,7 @@ clip_from settings fill_rule rule given segments passes graph split links balanc
       split = split;
       links = links;
       balanced = λ balance. subst (IsBalancedClip rule fill_rule segments) (sym links) (balanced (λ p. split.kept p ∙ balance p));
+      lines = λ exact. lines_kept given segments (split.exact_input exact);
     }
 
 -- a build that is refused after a split
