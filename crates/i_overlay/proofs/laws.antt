@@ -1,2 +1,3 @@
 pub mod FarRegions
+pub mod LinesAlong
 pub mod Overlays

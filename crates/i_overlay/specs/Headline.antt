@@ -7,6 +7,8 @@ use Rattle.overlay_base.specs.Planar.{is_planar}
 use Rattle.overlay_base.specs.Join.{join}
 use Rattle.overlay_base.specs.Balance.{IsBalanced, KeepsBalance}
 use Rattle.overlay_base.specs.Rules.{keeps_fill}
+use Rattle.overlay_base.specs.ClipRules.{keeps_clip}
+use Rattle.overlay_base.specs.declared.overlay_core.clip_rule.ClipRule.{ClipRule}
 use Rattle.overlay_base.specs.declared.overlay_core.fill_rule.FillRule.{FillRule}
 use Rattle.overlay_base.specs.declared.segm.fault.Fault.{Fault}
 use Rattle.overlay_base.specs.declared.segm.fault.Fault.TheVariants.{CountOutOfRange}
@@ -18,7 +20,9 @@ use Rattle.overlay_split.specs.Potential.{potential}
 use Rattle.overlay_sweep.specs.ChainWindings.{tops_leave_range}
 use Rattle.overlay_build.specs.Graph.{Graph, graph_by}
 use Rattle.overlay_build.specs.Sides.{IsBalancedOverlay}
+use Rattle.overlay_build.specs.Lines.{IsBalancedClip}
 use Rattle.i_overlay.specs.FarRegions.{EnclosesFarRegion}
+use Rattle.i_overlay.specs.LinesAlong.{KeepsLines}
 
 -- What a split leaves of what it is given.
 pub record IsSplit (settings : Settings) (given segments : List WholeSegment) (passes : ℕ) : Type 0 where
@@ -50,6 +54,19 @@ pub record IsOverlay (settings : Settings) (fill_rule : FillRule) (rule : Bool �
   -- Then, at each place that is farther from what was given than the passes reach, it encloses the region of the rule
   -- as the given segments wind.
   pub far_region : IsBalanced given → EnclosesFarRegion settings rule fill_rule given passes graph
+
+-- What a split and a build make of polygons and lines, for a clip rule.
+pub record IsClip (settings : Settings) (fill_rule : FillRule) (rule : ClipRule) (given segments : List WholeSegment) (passes : ℕ) (graph : Graph) : Type 0 where
+  -- The segments are what the split leaves.
+  pub split : IsSplit settings given segments passes
+  -- The graph is that of the segments whose fill the rule keeps.
+  pub links : graph ≡ graph_by (keeps_clip rule) fill_rule segments
+  -- Where the given counts balance, it holds exactly the parts of lines that the rule keeps by how the polygons wind on their
+  -- two sides, with the fills of these sides.
+  pub balanced : IsBalanced given → IsBalancedClip rule fill_rule segments graph
+  -- Where all crossings have whole coordinates, a line runs along a part of the given segments after the split exactly where
+  -- a given line does.
+  pub lines : IsTrue (is_exact_input given) → KeepsLines given segments
 
 -- The split was refused: nothing is left, and where a count was, a sum of the run is too large.
 pub record IsSplitRefused (settings : Settings) (given segments : List WholeSegment) (fault : Fault) : Type 0 where

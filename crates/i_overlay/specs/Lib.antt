@@ -1,4 +1,5 @@
 pub mod FarRegions
+pub mod LinesAlong
 pub mod Headline
 -- what the clauses of the crate cite of the crates below
 pub use Rattle.overlay_base.specs.Balance
@@ -16,3 +17,5 @@ pub use Rattle.overlay_build.specs.GraphOf
 pub use Rattle.overlay_build.specs.NodeIndexes
 pub use Rattle.overlay_build.specs.Sides
 pub use Rattle.overlay_build.specs.Regions
+pub use Rattle.overlay_build.specs.Lines
+pub use Rattle.overlay_build.specs.StringGraphOf

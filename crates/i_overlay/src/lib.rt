@@ -1,10 +1,11 @@
 // The overlay engine in one crate: what the crates below have, at the paths where upstream has it, but for
-// `overlay_core`, which is upstream's `core`; and the whole overlay in one call.
+// `overlay_core`, which is upstream's `core`; and in one call each the whole overlay, and lines cut by polygons.
 #![tactic(auto)]
 
 pub use overlay_base::{geom, num};
 
 pub mod build;
+pub mod clip;
 pub mod overlay;
 pub mod overlay_core;
 pub mod prelude;

@@ -1,8 +1,10 @@
 // What a program that makes overlays names, in one place.
 
+pub use crate::clip::split_and_build_clip;
 pub use crate::overlay::split_and_build_overlay;
 pub use overlay_base::geom::point::IntPoint;
 pub use overlay_base::num::OverlayInt;
+pub use overlay_base::overlay_core::clip_rule::ClipRule;
 pub use overlay_base::overlay_core::fill_rule::FillRule;
 pub use overlay_base::overlay_core::overlay_rule::OverlayRule;
 pub use overlay_base::overlay_core::rule_table::RuleTable;
@@ -12,9 +14,11 @@ pub use overlay_base::segm::boolean::ShapeCountBoolean;
 pub use overlay_base::segm::fault::Fault;
 pub use overlay_base::segm::segment::Segment;
 pub use overlay_base::segm::shape_type::ShapeType;
+pub use overlay_base::segm::string::ShapeCountString;
 pub use overlay_base::segm::winding::WindingCount;
 pub use overlay_build::build::builder::GraphBuilder;
 pub use overlay_build::build::graph::OverlayGraph;
 pub use overlay_build::build::graph_node::OverlayNode;
+pub use overlay_build::build::string_graph::StringGraph;
 pub use overlay_build::build::walks::closed_walks;
 pub use overlay_split::split::solver::SplitSolver;

@@ -11,6 +11,8 @@ use Rattle.overlay_base.specs.Join.{join}
 use Rattle.overlay_base.specs.Planar.{is_arranged, is_splittable, is_planar}
 use Rattle.overlay_base.specs.Balance.{IsBalanced, KeepsBalance}
 use Rattle.overlay_base.specs.Rules.{keeps_fill}
+use Rattle.overlay_base.specs.ClipRules.{keeps_clip}
+use Rattle.overlay_base.specs.declared.overlay_core.clip_rule.ClipRule.{ClipRule}
 use Rattle.overlay_base.specs.declared.overlay_core.fill_rule.FillRule.{FillRule}
 use Rattle.overlay_base.specs.declared.segm.fault.Fault.{Fault}
 use Rattle.overlay_base.specs.declared.segm.fault.Fault.TheVariants.{CountOutOfRange}
@@ -23,7 +25,9 @@ use Rattle.overlay_sweep.specs.ChainWindings.{tops_leave_range}
 use Rattle.overlay_build.specs.Graph.{Graph, graph_by}
 use Rattle.overlay_build.specs.Values.{tells_apart}
 use Rattle.overlay_build.specs.Sides.{IsBalancedOverlay}
-use Rattle.i_overlay.specs.Headline.{IsSplit, IsOverlay, IsSplitRefused, IsBuildRefused}
+use Rattle.overlay_build.specs.Lines.{IsBalancedClip}
+use Rattle.i_overlay.proofs.laws.LinesAlong.{lines_kept}
+use Rattle.i_overlay.specs.Headline.{IsSplit, IsOverlay, IsClip, IsSplitRefused, IsBuildRefused}
 
 -- the empty list is an arrangement
 pub none_arranged : (least greatest : ℤ) → IsTrue (is_arranged least greatest [])
@@ -60,6 +64,17 @@ overlay_from settings fill_rule rule given segments passes graph split links bal
       links = links;
       balanced = sides;
       far_region = λ balance p some far. (sides balance).region p some ∙ ap (λ (w : Winding). tells_apart rule fill_rule empty w) (split.winding p far);
+    }
+
+-- the same of lines
+pub clip_from : (settings : Settings) (fill_rule : FillRule) (rule : ClipRule) (given segments : List WholeSegment) (passes : ℕ) (graph : Graph) → IsSplit settings given segments passes → graph ≡ graph_by (keeps_clip rule) fill_rule segments
+    → (IsBalanced segments → IsBalancedClip rule fill_rule segments (graph_by (keeps_clip rule) fill_rule segments)) → IsClip settings fill_rule rule given segments passes graph
+clip_from settings fill_rule rule given segments passes graph split links balanced =
+    record {
+      split = split;
+      links = links;
+      balanced = λ balance. subst (IsBalancedClip rule fill_rule segments) (sym links) (balanced (λ p. split.kept p ∙ balance p));
+      lines = λ exact. lines_kept given segments (split.exact_input exact);
     }
 
 -- a build that is refused after a split

@@ -1,0 +1,66 @@
+// A split of polygons and lines, and the graph of the parts of lines that the polygons keep, in one call. This project's own.
+ghost use Rattle.std.specs.Prelude.{◌≡◌, ◌⊎◌, IsTrue, IsFalse, OnOk, IfOk, IfErr};
+ghost use Rattle.overlay_base.specs.Planar.{is_splittable, is_arranged};
+ghost use Rattle.overlay_base.specs.SegmentOf.{segments_of, data_segments_of};
+ghost use Rattle.overlay_split.specs.Run.{LeavesRange};
+ghost use Rattle.overlay_split.specs.SettingsOf.{snap_limit_of, passes_of, settings_of};
+ghost use Rattle.overlay_sweep.specs.ChainWindings.{tops_leave_range};
+ghost use Rattle.overlay_build.specs.GraphOf.{HoldGraph, graph_with};
+ghost use Rattle.overlay_build.specs.NodeIndexes.{items_of, is_any_node};
+ghost use Rattle.overlay_build.specs.StringGraphOf.{nodes_of, links_of};
+ghost use Rattle.i_overlay.specs.Headline.{IsClip, IsSplitRefused, IsBuildRefused};
+
+use overlay_base::num::OverlayInt;
+use overlay_base::overlay_core::clip_rule::ClipRule;
+use overlay_base::overlay_core::fill_rule::FillRule;
+use overlay_base::overlay_core::solver::Solver;
+use overlay_base::segm::fault::Fault;
+use overlay_base::segm::segment::Segment;
+use overlay_base::segm::string::ShapeCountString;
+use overlay_build::build::builder::GraphBuilder;
+use overlay_build::build::string_graph::StringGraph;
+use overlay_split::split::solver::SplitSolver;
+
+/// Splits a list of polygons, the subject, and lines into a planar arrangement, and answers the graph of the parts of the
+/// lines that a clip rule keeps: those inside the subject under a fill rule, or, where the rule is inverted, those outside of
+/// it. The graph borrows the builder.
+///
+/// The list has to be splittable, as `is_splittable` tests; afterwards it is the arrangement. Where the counts of the
+/// polygons balance at every point, as those of closed contours do (lines have none), the graph holds exactly the segments
+/// along which a line runs and which the rule keeps by how the polygons wind on their two sides, in the columns beside
+/// them. Where all crossings of the given segments are at whole points, the arrangement counts along each part of a given
+/// segment what the given segments count there, masks included, and lies on them. The solver's strategy does not change the
+/// answer.
+///
+/// Answers `Fault::CountOutOfRange` only where a running sum of counts on one pair of ends leaves
+/// `-i32::MAX..=i32::MAX` in the split, or a winding above a segment in the build, and, memory being found, wherever one
+/// does; `Fault::Memory` where a growth is refused. Where the split was refused the list is empty and `passes` is as it
+/// was, and the builder was not called; where the build was refused the list is the arrangement. The splitter and the
+/// builder can be used again.
+pub fn split_and_build_clip<'a, I: OverlayInt>(
+    splitter: &mut SplitSolver<I>,
+    builder: &'a mut GraphBuilder<ShapeCountString, Vec<usize>, I, ()>,
+    segments: &mut Vec<Segment<ShapeCountString, I, ()>>,
+    solver: &Solver,
+    fill_rule: FillRule,
+    clip_rule: ClipRule,
+) -> Result<StringGraph<'a, I>, Fault>
+    requires { IsTrue (is_splittable (I.whole I.MIN_COORD) (I.whole I.MAX_COORD) (segments_of segments.old.items)) }
+    ensures clip { IfOk result (λ graph. IsClip (settings_of I.BITS solver.now splitter.old) fill_rule clip_rule (segments_of segments.old.items) (segments_of segments.new.items) (passes_of splitter.new) (graph_with I.whole (links_of graph))) }
+    ensures graph { IfOk result (λ graph. HoldGraph items_of is_any_node I.whole (nodes_of graph) (links_of graph) (graph_with I.whole (links_of graph))) }
+    ensures arranged { IsTrue (is_arranged (I.whole I.MIN_COORD) (I.whole I.MAX_COORD) (segments_of segments.new.items)) }
+    ensures unchanged { IsTrue (is_arranged (I.whole I.MIN_COORD) (I.whole I.MAX_COORD) (segments_of segments.old.items)) → OnOk result (data_segments_of segments.new.items ≡ data_segments_of segments.old.items) }
+
+    ensures fits { OnOk result (LeavesRange (settings_of I.BITS solver.now splitter.old) (segments_of segments.old.items) → ⊥) }
+    ensures in_range { OnOk result (IsFalse (tops_leave_range (segments_of segments.new.items))) }
+    ensures refused { IfErr result (λ fault.
+        (IsSplitRefused (settings_of I.BITS solver.now splitter.old) (segments_of segments.old.items) (segments_of segments.new.items) fault × (passes_of splitter.new ≡ passes_of splitter.old)) ⊎
+        IsBuildRefused (settings_of I.BITS solver.now splitter.old) (segments_of segments.old.items) (segments_of segments.new.items) (passes_of splitter.new) fault) }
+    ensures limit { snap_limit_of splitter.new ≡ snap_limit_of splitter.old }
+{
+    splitter.split_segments(segments, solver)?;
+    builder.build_string_clip(fill_rule, clip_rule, solver, segments)
+}
+
+#[cfg(test)]
+mod tests;
