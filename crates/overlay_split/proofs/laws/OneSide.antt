@@ -230,8 +230,8 @@ between h p s r t m n under over near_r near_t =
         plain : (x : ℤ) (k l w1 w2 : ℕ) → pos k *ℤ (pos w1 *ℤ x) +ℤ pos l *ℤ (pos w2 *ℤ x) ≡ pos (k * w1 + l * w2) *ℤ x
         plain x k l w1 w2 = rw (as_D x) (simp diffs (D-eq _ _ _ _ (omega arith)))
 
-    mean_y : (y : ℤ) (k l w1 w2 : ℕ) (y1 y2 W1 W2 h1 h2 : ℤ) → y1 ≡ h1 → y2 ≡ h2 → pos w1 ≡ W1 → pos w2 ≡ W2 → pos l ≡ y *ℤ W1 -ℤ h1 → pos k ≡ h2 -ℤ y *ℤ W2 → IsMean k w1 l w2 y1 y2 y
-    mean_y y k l w1 w2 y1 y2 W1 W2 h1 h2 e f u v under over = rw (e ∙ below h1 (y *ℤ W1) (pos l) under, f ∙ above h2 (y *ℤ W2) (pos k) over, ← u, ← v) (plain y k l w1 w2)
+    mean_y : (y : ℤ) (k l w1 w2 : ℕ) (y1 y2 m1 m2 h1 h2 : ℤ) → y1 ≡ h1 → y2 ≡ h2 → pos w1 ≡ m1 → pos w2 ≡ m2 → pos l ≡ y *ℤ m1 -ℤ h1 → pos k ≡ h2 -ℤ y *ℤ m2 → IsMean k w1 l w2 y1 y2 y
+    mean_y y k l w1 w2 y1 y2 m1 m2 h1 h2 e f u v under over = rw (e ∙ below h1 (y *ℤ m1) (pos l) under, f ∙ above h2 (y *ℤ m2) (pos k) over, ← u, ← v) (plain y k l w1 w2)
       where
         below : (h u l : ℤ) → l ≡ u -ℤ h → h ≡ u -ℤ l
         below h u l e = omega (arith, ints, e)
