@@ -793,7 +793,7 @@ fn worked_runs(rt: HostRuntime) -> Result<(), Fail> {
         check_worked(&rt, run).ok_or("no run")??;
         runs = runs.saturating_add(1);
     }
-    assert_eq!(rt; runs, 64);
+    assert_eq!(rt; runs, 70);
     Ok(())
 }
 
