@@ -4,10 +4,11 @@
 Usage, from the top of the repository: python3 bench/split.py [--against PROGRAM] [NUMBER ..]
 
 Each kind is made of the given numbers of segments (1,000, 4,000, 16,000 and 50,000 if none are given). For each one line
-is printed: kind, segments given, segments answered, passes, and the user time in seconds, the least of three runs: of
-`join`, which reads, sorts, merges and prints as many, and of `split` under `list`, `tree`, `frag` and `auto`; then the most
-memory in megabytes that a run over the list, and one over the grid, took. A run that takes longer than ten seconds is made
-once. All answers have to be the same. Above 16,000 segments `tree` and `auto` go over the grid, as `frag` does.
+is printed: kind, segments given, segments answered, passes, and the processor's time in seconds, the least of nine runs in
+turns: of `join`, which reads, sorts, merges and prints as many, and of `split` under `list`, `tree`, `frag` and `auto`; then
+the most memory in megabytes that a run over the list, and one over the grid, took. There are fewer turns where they take
+longer than twenty seconds in all. All answers have to be the same. Above 16,000 segments `tree` and `auto` go over the grid,
+as `frag` does.
 
 With `--against`, `split` under `auto` is timed by this build and by another one, PROGRAM, in turns: for each kind and number
 the least processor time of nine runs of each, and how many times as long this build took. The answers have to be the same; `far`
@@ -29,6 +30,7 @@ import sys
 LIMIT = 500_000
 FARTHEST = 2**30 - 1
 TURNS = 9
+ENOUGH = 20
 PROGRAM = os.path.join("crates", "arrange", "out", "arrange")
 
 
@@ -96,50 +98,40 @@ def build():
                    stdout=subprocess.DEVNULL, check=True)
 
 
-def run(words, text):
-    """What the program prints, and its user time in seconds."""
-    before = resource.getrusage(resource.RUSAGE_CHILDREN).ru_utime
-    printed = subprocess.run([PROGRAM, *words], input=text, text=True, capture_output=True, check=True).stdout
-    return printed, resource.getrusage(resource.RUSAGE_CHILDREN).ru_utime - before
-
-
-def least(words, text):
-    printed, seconds = run(words, text)
-    if seconds <= 10:
-        seconds = min(seconds, *(run(words, text)[1] for _ in range(2)))
-    return printed, seconds
-
-
-def measure(kind, number):
-    text = "\n".join(KINDS[kind](number)) + "\n"
-    _, by_join = least(["join"], text)
-    answers, times = zip(*(least(["split", f"strategy={strategy}"], text) for strategy in STRATEGIES))
-    if len(set(answers)) > 1:
-        sys.exit(f"{kind} {number}: two strategies answer differently")
-    lines = answers[0].splitlines()
-    passes = lines[-1].split()[1]
-    seconds = " ".join(f"{time:8.3f}" for time in (by_join, *times))
-    most = " ".join(f"{memory(strategy, text):5.0f}" for strategy in ("list", "frag"))
-    print(f"{kind:10} {number:6} {len(lines) - 2:8} {passes:>6} {seconds} {most}", flush=True)
-
-
 def processor_time():
     """The processor's seconds of all runs so far, which are told more finely than those of the user alone."""
     children = resource.getrusage(resource.RUSAGE_CHILDREN)
     return children.ru_utime + children.ru_stime
 
 
-def split_by(program, text):
-    """What `split` of a build prints, and the processor's seconds."""
+def run(program, words, text):
+    """What a program prints, and the processor's seconds."""
     before = processor_time()
-    printed = subprocess.run([program, "split"], input=text, text=True, capture_output=True, check=True).stdout
+    printed = subprocess.run([program, *words], input=text, text=True, capture_output=True, check=True).stdout
     return printed, processor_time() - before
+
+
+def measure(kind, number):
+    text = "\n".join(KINDS[kind](number)) + "\n"
+    commands = [["join"], *(["split", f"strategy={strategy}"] for strategy in STRATEGIES)]
+    turns = []
+    while len(turns) < TURNS and sum(seconds for turn in turns for _, seconds in turn) < ENOUGH:
+        turns.append([run(PROGRAM, words, text) for words in commands])
+    answers = {turn[command][0] for turn in turns for command in range(1, len(commands))}
+    if len(answers) > 1:
+        sys.exit(f"{kind} {number}: two strategies answer differently")
+    lines = answers.pop().splitlines()
+    passes = lines[-1].split()[1]
+    times = (min(turn[command][1] for turn in turns) for command in range(len(commands)))
+    seconds = " ".join(f"{time:8.3f}" for time in times)
+    most = " ".join(f"{memory(strategy, text):5.0f}" for strategy in ("list", "frag"))
+    print(f"{kind:10} {number:6} {len(lines) - 2:8} {passes:>6} {seconds} {most}", flush=True)
 
 
 def compare(other, kind, number):
     text = "\n".join(KINDS[kind](number)) + "\n"
     try:
-        turns = [[split_by(program, text) for program in (PROGRAM, other)] for _ in range(TURNS)]
+        turns = [[run(program, ["split"], text) for program in (PROGRAM, other)] for _ in range(TURNS)]
     except subprocess.CalledProcessError as failed:
         if failed.cmd[0] == other and failed.stderr.endswith(": range\n"):
             print(f"{kind:10} {number:6}  out of the other's range", flush=True)

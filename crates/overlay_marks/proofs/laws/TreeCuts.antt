@@ -3,11 +3,11 @@ use Rattle.std.proofs.Common.{◌≡◌, refl, sym, append_assoc, append-nil, Bo
 use Rattle.std.specs.Prelude.{ℤ, Option, Some, int_lt, count_by, min, ◌-◌, ◌^◌, ◌||◌}
 use Rattle.std.specs.List.{AllByRecursion, list_any}
 use Rattle.std.proofs.lemmas.List.{map-append, length-map}
-use Rattle.overlay_marks.specs.IntervalTree.{Entry, TreeNode, entries, AreRising, further, greatest_height, IsSummed, WholeQuery, is_reached, is_taken_up, is_dropped, left_by, found, inserted, IsAt, IsUpTo}
+use Rattle.overlay_marks.specs.IntervalTree.{Entry, TreeNode, entries, AreRising, further, greatest_height, IsSummed, WholeQuery, is_taken_up, is_dropped, left_by, found, inserted, IsAt, IsUpTo}
 use Rattle.overlay_marks.specs.NodeOf.{entry_of, node_of, nodes_of, greatest_of}
 use Rattle.overlay_marks.specs.declared.split.interval_tree.Node.{Node}
 use Rattle.overlay_marks.proofs.laws.FoundMarks.{or_false, or_assoc}
-use Rattle.overlay_marks.proofs.laws.IntervalTrees.{IsRooted, IsRooted-from, IsSummed-from, entries-parts, AreParted, AreParted-from, IsNotTaken, none_reached, none_above, none_dropped, none_found, found-append, count_by-append, is_before, none_inserted, none_after, none_before, none_other_after, none_other_before, not_here, none_counted, none_is_dropped, all_kept, is_of, greatest_height-inserted, none_of}
+use Rattle.overlay_marks.proofs.laws.IntervalTrees.{IsRooted, IsRooted-from, IsSummed-from, entries-parts, AreParted, AreParted-from, none_above, none_dropped, none_found, found-append, count_by-append, is_before, none_inserted, none_after, none_before, none_other_after, none_other_before, not_here, none_counted, none_is_dropped, all_kept, is_of, greatest_height-inserted, none_of}
 use Rattle.std.proofs.lemmas.Bool.{or_right, eq-eqb, eqb-true, false_from_ne_true}
 use Rattle.std.proofs.lemmas.List.Folds.{list_any-append}
 use Rattle.overlay_base.proofs.laws.Lists.{AllByRecursion_left, AllByRecursion_right}
@@ -159,10 +159,6 @@ module _ {I : Type 0} (whole : I → ℤ) where
         looked_at = l2 ∙ ap (λ (i : ℕ). min (i + count_by (is_taken_up q) (entries_in s)) (2 ^ 128 - 1)) l1 ∙ twice m (count_by (is_taken_up q) (entry_of whole r ∷ [])) _ _ (2 ^ 128 - 1) sum;
         dropped_in = d2 ∙ ap (λ (b : Bool). (d || b) || list_any (is_dropped q) (entries_in s)) d1 ∙ or_assoc d (is_dropped q (entry_of whole r)) (list_any (is_dropped q) (entries_in s));
       }
-
-  -- nothing is reached
-  pub unreached : (q : WholeQuery) (nodes l : List (Node I)) (r : Node I) (s : List (Node I)) → IsCut nodes l r s → is_reached (greatest_of whole r.greatest) q.low ≡ false → AllByRecursion (IsNotTaken q) (entries_in nodes)
-  unreached q nodes l r s cut h = none_reached q (entries_in nodes) (ap (λ (g : Option ℤ). is_reached g q.low) (sym cut.greatest_is) ∙ h)
 
   -- the whole tree
   pub found_all : (q : WholeQuery) (nodes l : List (Node I)) (r : Node I) (s : List (Node I)) (r' : Node I) (s' : List (Node I)) (first before after : List ℕ) (m n : ℕ) (d d' : Bool) → IsCut nodes l r s → before ≡ first ++ found q (entries_in l) →

@@ -32,7 +32,36 @@ pub struct Query<I> {
 
 /// Appends the indexes of the live entries whose heights meet those of the look-up, and that do not end left of the
 /// sweep. Those that do are dropped. Answers whether one was: if not, nothing is written to the nodes.
+#[cycle(look_up)]
 pub fn look_up<I: OverlayInt>(
+    nodes: &mut [Node<I>],
+    query: &Query<I>,
+    indexes: &mut Vec<usize>,
+    looked: &mut u128,
+) -> Result<bool, AllocError>
+    requires rising { AreRising (entries (nodes_of I.whole nodes.old)) }
+    requires summed { IsSummed (nodes_of I.whole nodes.old) }
+    ensures entries { OnOk result (entries (nodes_of I.whole nodes.new)
+        ≡ map (left_by (query_of I.whole query.now)) (entries (nodes_of I.whole nodes.old))) }
+    ensures summed { OnOk result (IsSummed (nodes_of I.whole nodes.new)) }
+    ensures found { OnOk result (indexes.new.items
+        ≡ indexes.old.items ++ found (query_of I.whole query.now) (entries (nodes_of I.whole nodes.old))) }
+    ensures looked { OnOk result (looked.new
+        ≡ min (looked.old + count_by (is_taken_up (query_of I.whole query.now)) (entries (nodes_of I.whole nodes.old))) (2 ^ 128 - 1)) }
+    ensures dropped { IfOk result (λ dropped. dropped
+        ≡ list_any (is_dropped (query_of I.whole query.now)) (entries (nodes_of I.whole nodes.old))) }
+{
+    let _looked = *looked;
+    if reaches(greatest_in(nodes), query.heights.min) {
+        look_into(nodes, query, indexes, looked)
+    } else {
+        Ok(false)
+    }
+}
+
+/// As `look_up`, without the test that some live entry reaches the look-up.
+#[cycle(look_up)]
+fn look_into<I: OverlayInt>(
     nodes: &mut [Node<I>],
     query: &Query<I>,
     indexes: &mut Vec<usize>,
@@ -55,9 +84,6 @@ pub fn look_up<I: OverlayInt>(
     let Some((root, right)) = rest.split_first_mut() else {
         return Ok(false);
     };
-    if !reaches(root.greatest, query.heights.min) {
-        return Ok(false);
-    }
     let mut has_dropped = look_up(left, query, indexes, looked)?;
     if !is_above(root.low, query.heights.max) {
         has_dropped |= look_at(root, query, indexes, looked)?;

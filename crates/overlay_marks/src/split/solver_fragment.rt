@@ -168,13 +168,16 @@ fn mark_with_rest<I: OverlayInt>(
     let fragment = group[first];
     let end = first_above(group, &fragment);
     let mut rounded = false;
+    // a count of its own, so that no look is written through the reference
+    let mut looks = *looked;
     for later in first + 1..end {
         let other = group[later];
-        take_up(looked);
+        take_up(&mut looks);
         if mark_two(&fragment, &other, placing, marks)? {
             rounded = true;
         }
     }
+    *looked = looks;
     Ok(rounded)
 }
 

@@ -100,12 +100,12 @@ pub fn find_marks<C: WindingCount, I: OverlayInt, D: Copy>(
 }
 
 /// So many segments at least are added to a tree at once.
-const LEAST_MORE: usize = 64;
+const LEAST_MORE: usize = 8;
 
 /// Takes those entries out of the tree that are not live or end left of the segment at an index, and adds the entries of
 /// segments from there on, none of them live. Answers up to which segment.
 ///
-/// It adds as many as stay, but at least 64, if there are so many: so the tree stays near what is live in size, and what is
+/// It adds as many as stay, but at least 8, if there are so many: so the tree stays near what is live in size, and what is
 /// sorted in all is no more than a few times the segments.
 pub(crate) fn renew<C: WindingCount, I: OverlayInt, D: Copy>(
     segments: &[Segment<C, I, D>],

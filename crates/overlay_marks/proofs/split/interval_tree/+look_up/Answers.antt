@@ -1,68 +1,36 @@
-use Rattle.std.proofs.Common.{Bool, ◌||◌, ◌≡◌, ◌-◌, ◌^◌, sym, ap, ◌∙◌, ◌++◌, ◌∷◌, ◌<◌, length, append-nil, arith}
+use Rattle.std.proofs.Common.{Bool, ◌||◌, ◌≡◌, ◌+◌, ◌*◌, ◌-◌, ◌^◌, sym, ap, ◌∙◌, ◌++◌, ◌∷◌, ◌<◌, length, append-nil, arith}
 use Rattle.overlay_marks.specs.NodeOf.{entry_of, greatest_of, nodes_of, query_of}
-use Rattle.overlay_marks.specs.IntervalTree.{left_by, entries, greatest_height}
-use Rattle.overlay_marks.proofs.laws.IntervalTrees.{none_dropped, none_found, none_counted, none_is_dropped}
-use Rattle.overlay_marks.proofs.laws.TreeCuts.{IsCut-from, mapped, summed_again, IsDone, IsDone-above, IsDone-both, unreached, found_all, looked_all, dropped_all, still_greatest, none_more}
+use Rattle.overlay_marks.specs.IntervalTree.{left_by, entries, greatest_height, is_reached}
+use Rattle.overlay_marks.proofs.laws.IntervalTrees.{none_reached, none_dropped, none_found, none_counted, none_is_dropped}
+use Rattle.overlay_marks.proofs.laws.TreeCuts.{IsCut-from, mapped, summed_again, IsDone, IsDone-above, IsDone-both, found_all, looked_all, dropped_all, still_greatest, none_more}
 use Rattle.overlay_marks.proofs.split.interval_tree.+look_up.Goals as goal
-use Rattle.overlay_marks.proofs.split.interval_tree.+look_up.Goals.{then-not-is_above+in_ok-has_dropped-2+in_ok-has_dropped-3, else-not-is_above}
+use Rattle.overlay_marks.proofs.split.interval_tree.+look_up.Goals.{look_into-then-not-is_above+in_ok-has_dropped-2+in_ok-has_dropped-3, look_into-else-not-is_above}
 
-pub returns-then-not-reaches-clause-entries : goal.returns-then-not-reaches-clause-entries
-returns-then-not-reaches-clause-entries g t c =
-    let whole = g.I.OverlayInt.whole in
-    let q = query_of whole c.args.query.now in
-    let cut = IsCut-from whole c.args.nodes.now c.split_at_mut-left.result.0.now c.split_at_mut-left.result.1.now c.in-Some.root.now c.in-Some.right.now c.split_at_mut-left.ensures.value c.in-Some.ensures.cases.0 c.split_at_mut-left.ensures.front_len c.requires.rising c.requires.summed in
-    let off = unreached whole q c.args.nodes.now c.split_at_mut-left.result.0.now c.in-Some.root.now c.in-Some.right.now cut (sym c.reaches.ensures ∙ c.if-not-reaches.true) in
-    ap (λ ns. entries (nodes_of whole ns)) (sym cut.is) ∙ sym (none_dropped q (entries (nodes_of whole c.args.nodes.now)) off)
-
-pub returns-then-not-reaches-clause-found : goal.returns-then-not-reaches-clause-found
-returns-then-not-reaches-clause-found g t c =
-    let whole = g.I.OverlayInt.whole in
-    let q = query_of whole c.args.query.now in
-    let cut = IsCut-from whole c.args.nodes.now c.split_at_mut-left.result.0.now c.split_at_mut-left.result.1.now c.in-Some.root.now c.in-Some.right.now c.split_at_mut-left.ensures.value c.in-Some.ensures.cases.0 c.split_at_mut-left.ensures.front_len c.requires.rising c.requires.summed in
-    let off = unreached whole q c.args.nodes.now c.split_at_mut-left.result.0.now c.in-Some.root.now c.in-Some.right.now cut (sym c.reaches.ensures ∙ c.if-not-reaches.true) in
-    sym (append-nil c.args.indexes.now.items) ∙ ap (λ ns. c.args.indexes.now.items ++ ns) (sym (none_found q (entries (nodes_of whole c.args.nodes.now)) off))
-
-pub look_up-requires : goal.look_up-requires
-look_up-requires g t c κs within =
+pub look_into-look_up-requires : goal.look_into-look_up-requires
+look_into-look_up-requires g t c κs within =
     let cut = IsCut-from g.I.OverlayInt.whole c.args.nodes.now c.split_at_mut-left.result.0.now c.split_at_mut-left.result.1.now c.in-Some.root.now c.in-Some.right.now c.split_at_mut-left.ensures.value c.in-Some.ensures.cases.0 c.split_at_mut-left.ensures.front_len c.requires.rising c.requires.summed in
-    let less : length c.split_at_mut-left.result.0.now < t = omega (arith, cut.left_less) in
+    let less : 2 * length c.split_at_mut-left.result.0.now + 1 < t = omega (arith, cut.left_less) in
     (less, (within, (cut.parted.left_rising, cut.rooted.left_summed)))
 
-pub look_at-requires : goal.look_at-requires
-look_at-requires g t c = record { low = sym c.is_above.ensures ∙ c.if-not-is_above.true }
+pub look_into-look_at-requires : goal.look_into-look_at-requires
+look_into-look_at-requires g t c = record { low = sym c.is_above.ensures ∙ c.if-not-is_above.true }
 
-pub look_up-requires-then-not-is_above : goal.look_up-requires-then-not-is_above
-look_up-requires-then-not-is_above g t c κs within =
+pub look_into-look_up-requires-then-not-is_above : goal.look_into-look_up-requires-then-not-is_above
+look_into-look_up-requires-then-not-is_above g t c κs within =
     let cut = IsCut-from g.I.OverlayInt.whole c.args.nodes.now c.split_at_mut-left.result.0.now c.split_at_mut-left.result.1.now c.in-Some.root.now c.in-Some.right.now c.split_at_mut-left.ensures.value c.in-Some.ensures.cases.0 c.split_at_mut-left.ensures.front_len c.requires.rising c.requires.summed in
-    let less : length c.in-Some.right.now < t = omega (arith, cut.right_less) in
+    let less : 2 * length c.in-Some.right.now + 1 < t = omega (arith, cut.right_less) in
     (less, (within, (cut.parted.right_rising, cut.rooted.right_summed)))
 
-pub returns-then-not-reaches-clause-looked : goal.returns-then-not-reaches-clause-looked
-returns-then-not-reaches-clause-looked g t c =
-    let whole = g.I.OverlayInt.whole in
-    let q = query_of whole c.args.query.now in
-    let cut = IsCut-from whole c.args.nodes.now c.split_at_mut-left.result.0.now c.split_at_mut-left.result.1.now c.in-Some.root.now c.in-Some.right.now c.split_at_mut-left.ensures.value c.in-Some.ensures.cases.0 c.split_at_mut-left.ensures.front_len c.requires.rising c.requires.summed in
-    let off = unreached whole q c.args.nodes.now c.split_at_mut-left.result.0.now c.in-Some.root.now c.in-Some.right.now cut (sym c.reaches.ensures ∙ c.if-not-reaches.true) in
-    none_more c.args.looked.now _ (2 ^ 128 - 1) (omega arith) (none_counted q (entries (nodes_of whole c.args.nodes.now)) off)
-
-pub returns-then-not-reaches-clause-dropped : goal.returns-then-not-reaches-clause-dropped
-returns-then-not-reaches-clause-dropped g t c =
-    let whole = g.I.OverlayInt.whole in
-    let q = query_of whole c.args.query.now in
-    let cut = IsCut-from whole c.args.nodes.now c.split_at_mut-left.result.0.now c.split_at_mut-left.result.1.now c.in-Some.root.now c.in-Some.right.now c.split_at_mut-left.ensures.value c.in-Some.ensures.cases.0 c.split_at_mut-left.ensures.front_len c.requires.rising c.requires.summed in
-    let off = unreached whole q c.args.nodes.now c.split_at_mut-left.result.0.now c.in-Some.root.now c.in-Some.right.now cut (sym c.reaches.ensures ∙ c.if-not-reaches.true) in
-    sym (none_is_dropped q (entries (nodes_of whole c.args.nodes.now)) off)
-
-pub update_greatest-requires-clause-right : goal.update_greatest-requires-clause-right
-update_greatest-requires-clause-right g t c =
+pub look_into-update_greatest-requires-clause-right : goal.look_into-update_greatest-requires-clause-right
+look_into-update_greatest-requires-clause-right g t c =
     let cut = IsCut-from g.I.OverlayInt.whole c.args.nodes.now c.split_at_mut-left.result.0.now c.split_at_mut-left.result.1.now c.in-Some.root.now c.in-Some.right.now c.split_at_mut-left.ensures.value c.in-Some.ensures.cases.0 c.split_at_mut-left.ensures.front_len c.requires.rising c.requires.summed in
     elim c.if-not-is_above.branch [
-      | then-not-is_above+in_ok-has_dropped-2+in_ok-has_dropped-3 w ↦ rw w.right-is w.in_ok-has_dropped-3.ensures.summed
-      | else-not-is_above w ↦ rw w.right-is cut.rooted.right_summed
+      | look_into-then-not-is_above+in_ok-has_dropped-2+in_ok-has_dropped-3 w ↦ rw w.right-is w.in_ok-has_dropped-3.ensures.summed
+      | look_into-else-not-is_above w ↦ rw w.right-is cut.rooted.right_summed
     ]
 
-pub returns-then-has_dropped : goal.returns-then-has_dropped
-returns-then-has_dropped g t c =
+pub look_into-returns-then-has_dropped : goal.look_into-returns-then-has_dropped
+look_into-returns-then-has_dropped g t c =
     let whole = g.I.OverlayInt.whole in
     let q = query_of whole c.args.query.now in
     let nodes = c.args.nodes.now in
@@ -71,13 +39,13 @@ returns-then-has_dropped g t c =
     let s = c.in-Some.right.now in
     let cut = IsCut-from whole nodes l c.split_at_mut-left.result.1.now r s c.split_at_mut-left.ensures.value c.in-Some.ensures.cases.0 c.split_at_mut-left.ensures.front_len c.requires.rising c.requires.summed in
     let done : IsDone whole q r s c.if-not-is_above.root c.if-not-is_above.right c.look_up.new.indexes.items c.if-not-is_above.indexes.items c.look_up.new.looked c.if-not-is_above.looked c.in_ok-has_dropped.has_dropped c.if-not-is_above.has_dropped = elim c.if-not-is_above.branch [
-      | then-not-is_above+in_ok-has_dropped-2+in_ok-has_dropped-3 w ↦
+      | look_into-then-not-is_above+in_ok-has_dropped-2+in_ok-has_dropped-3 w ↦
           rw (w.root-is, w.right-is, w.indexes-is, w.looked-is)
           (IsDone-both whole q r s w.look_at.new.node w.look_up-then-not-is_above.new.nodes c.look_up.new.indexes.items w.look_at.new.indexes.items w.look_up-then-not-is_above.new.indexes.items c.look_up.new.looked w.look_at.new.looked w.look_up-then-not-is_above.new.looked
           c.in_ok-has_dropped.has_dropped w.in_ok-has_dropped-2.field-0 c.if-not-is_above.has_dropped
           w.in_ok-has_dropped-2.ensures.entry w.in_ok-has_dropped-2.ensures.greatest w.in_ok-has_dropped-3.ensures.entries w.in_ok-has_dropped-3.ensures.summed w.in_ok-has_dropped-2.ensures.found w.in_ok-has_dropped-3.ensures.found w.in_ok-has_dropped-2.ensures.looked w.in_ok-has_dropped-3.ensures.looked
           w.in_ok-has_dropped-2.ensures.dropped (w.has_dropped-is ∙ ap (λ (b : Bool). (c.in_ok-has_dropped.has_dropped || w.in_ok-has_dropped-2.field-0) || b) w.in_ok-has_dropped-3.ensures.dropped))
-      | else-not-is_above w ↦
+      | look_into-else-not-is_above w ↦
           rw (w.root-is, w.right-is, w.indexes-is, w.looked-is, w.has_dropped-is) (IsDone-above whole q nodes l r s c.look_up.new.indexes.items c.look_up.new.looked c.in_ok-has_dropped.has_dropped cut (sym c.is_above.ensures ∙ w.if-not-is_above.false) (omega (arith, c.in_ok-has_dropped.ensures.looked)))
     ] in
     let own = c.in_ok-has_dropped.ensures in
@@ -92,8 +60,8 @@ returns-then-has_dropped g t c =
       dropped = dropped_all whole q nodes l r s c.if-not-is_above.root c.if-not-is_above.right c.look_up.new.indexes.items c.if-not-is_above.indexes.items c.look_up.new.looked c.if-not-is_above.looked _ _ cut own.dropped done;
     }
 
-pub returns-else-has_dropped : goal.returns-else-has_dropped
-returns-else-has_dropped g t c =
+pub look_into-returns-else-has_dropped : goal.look_into-returns-else-has_dropped
+look_into-returns-else-has_dropped g t c =
     let whole = g.I.OverlayInt.whole in
     let q = query_of whole c.args.query.now in
     let nodes = c.args.nodes.now in
@@ -102,13 +70,13 @@ returns-else-has_dropped g t c =
     let s = c.in-Some.right.now in
     let cut = IsCut-from whole nodes l c.split_at_mut-left.result.1.now r s c.split_at_mut-left.ensures.value c.in-Some.ensures.cases.0 c.split_at_mut-left.ensures.front_len c.requires.rising c.requires.summed in
     let done : IsDone whole q r s c.if-not-is_above.root c.if-not-is_above.right c.look_up.new.indexes.items c.if-not-is_above.indexes.items c.look_up.new.looked c.if-not-is_above.looked c.in_ok-has_dropped.has_dropped c.if-not-is_above.has_dropped = elim c.if-not-is_above.branch [
-      | then-not-is_above+in_ok-has_dropped-2+in_ok-has_dropped-3 w ↦
+      | look_into-then-not-is_above+in_ok-has_dropped-2+in_ok-has_dropped-3 w ↦
           rw (w.root-is, w.right-is, w.indexes-is, w.looked-is)
           (IsDone-both whole q r s w.look_at.new.node w.look_up-then-not-is_above.new.nodes c.look_up.new.indexes.items w.look_at.new.indexes.items w.look_up-then-not-is_above.new.indexes.items c.look_up.new.looked w.look_at.new.looked w.look_up-then-not-is_above.new.looked
           c.in_ok-has_dropped.has_dropped w.in_ok-has_dropped-2.field-0 c.if-not-is_above.has_dropped
           w.in_ok-has_dropped-2.ensures.entry w.in_ok-has_dropped-2.ensures.greatest w.in_ok-has_dropped-3.ensures.entries w.in_ok-has_dropped-3.ensures.summed w.in_ok-has_dropped-2.ensures.found w.in_ok-has_dropped-3.ensures.found w.in_ok-has_dropped-2.ensures.looked w.in_ok-has_dropped-3.ensures.looked
           w.in_ok-has_dropped-2.ensures.dropped (w.has_dropped-is ∙ ap (λ (b : Bool). (c.in_ok-has_dropped.has_dropped || w.in_ok-has_dropped-2.field-0) || b) w.in_ok-has_dropped-3.ensures.dropped))
-      | else-not-is_above w ↦
+      | look_into-else-not-is_above w ↦
           rw (w.root-is, w.right-is, w.indexes-is, w.looked-is, w.has_dropped-is) (IsDone-above whole q nodes l r s c.look_up.new.indexes.items c.look_up.new.looked c.in_ok-has_dropped.has_dropped cut (sym c.is_above.ensures ∙ w.if-not-is_above.false) (omega (arith, c.in_ok-has_dropped.ensures.looked)))
     ] in
     let own = c.in_ok-has_dropped.ensures in
@@ -122,3 +90,35 @@ returns-else-has_dropped g t c =
       looked = looked_all whole q nodes l r s c.if-not-is_above.root c.if-not-is_above.right c.look_up.new.indexes.items c.if-not-is_above.indexes.items c.args.looked.now c.look_up.new.looked c.if-not-is_above.looked _ _ cut own.looked done;
       dropped = all;
     }
+
+pub look_up-returns-else-reaches-clause-entries : goal.look_up-returns-else-reaches-clause-entries
+look_up-returns-else-reaches-clause-entries g t c =
+    let whole = g.I.OverlayInt.whole in
+    let q = query_of whole c.args.query.now in
+    let es = entries (nodes_of whole c.args.nodes.now) in
+    let off = none_reached q es (ap (λ h. is_reached h q.low) (sym c.greatest_in.ensures) ∙ sym c.reaches.ensures ∙ c.if-reaches.false) in
+    sym (none_dropped q es off)
+
+pub look_up-returns-else-reaches-clause-found : goal.look_up-returns-else-reaches-clause-found
+look_up-returns-else-reaches-clause-found g t c =
+    let whole = g.I.OverlayInt.whole in
+    let q = query_of whole c.args.query.now in
+    let es = entries (nodes_of whole c.args.nodes.now) in
+    let off = none_reached q es (ap (λ h. is_reached h q.low) (sym c.greatest_in.ensures) ∙ sym c.reaches.ensures ∙ c.if-reaches.false) in
+    sym (append-nil c.args.indexes.now.items) ∙ ap (λ ns. c.args.indexes.now.items ++ ns) (sym (none_found q es off))
+
+pub look_up-returns-else-reaches-clause-looked : goal.look_up-returns-else-reaches-clause-looked
+look_up-returns-else-reaches-clause-looked g t c =
+    let whole = g.I.OverlayInt.whole in
+    let q = query_of whole c.args.query.now in
+    let es = entries (nodes_of whole c.args.nodes.now) in
+    let off = none_reached q es (ap (λ h. is_reached h q.low) (sym c.greatest_in.ensures) ∙ sym c.reaches.ensures ∙ c.if-reaches.false) in
+    none_more c.args.looked.now _ (2 ^ 128 - 1) (omega arith) (none_counted q es off)
+
+pub look_up-returns-else-reaches-clause-dropped : goal.look_up-returns-else-reaches-clause-dropped
+look_up-returns-else-reaches-clause-dropped g t c =
+    let whole = g.I.OverlayInt.whole in
+    let q = query_of whole c.args.query.now in
+    let es = entries (nodes_of whole c.args.nodes.now) in
+    let off = none_reached q es (ap (λ h. is_reached h q.low) (sym c.greatest_in.ensures) ∙ sym c.reaches.ensures ∙ c.if-reaches.false) in
+    sym (none_is_dropped q es off)

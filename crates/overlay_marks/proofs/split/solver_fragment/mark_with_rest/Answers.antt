@@ -57,16 +57,16 @@ loop-later-preserved g c =
     let up = rises_to fs c.args.first c.loop-later.later f o left c.requires.rises before first later in
     let low = subst (λ (u : CodeFragment _). whole u.rect.min_y ≤ℤ whole c.index-group-first.result.rect.max_y) (sym c.index-group-later.is) (c.first_above-end.ensures.parted.0 c.loop-later.later c.index-group-later.result (omega arith) c.loop-later-test.true) in
     let meets = heights_share f o up low in
-    let walk = subst (λ (us : List KeptFragment). IsScanned (placing_of c.args.placing) f rest old now c.loop-later.rounded c.args.looked.now c.loop-later.looked us) later c.loop-later.invariant in
+    let walk = subst (λ (us : List KeptFragment). IsScanned (placing_of c.args.placing) f rest old now c.loop-later.rounded c.args.looked.now c.loop-later.looks us) later c.loop-later.invariant in
     let more = at_most_one_more _ _ _ c.take_up.ensures in
     elim c.if-branch.branch [
       | then-branch w ↦
           let crosses = sym c.in_ok-mark_two.ensures.rounded ∙ w.if-branch.true in
-          rw w.rounded-is (IsScanned-more (placing_of c.args.placing) f o rest old now next c.loop-later.rounded true c.args.looked.now c.loop-later.looked c.take_up.new.looked left walk meets c.in_ok-mark_two.ensures.marks
+          rw w.rounded-is (IsScanned-more (placing_of c.args.placing) f o rest old now next c.loop-later.rounded true c.args.looked.now c.loop-later.looks c.take_up.new.looked left walk meets c.in_ok-mark_two.ensures.marks
           (or_true c.loop-later.rounded ∙ ap (λ (b : Bool). c.loop-later.rounded || b) (sym crosses)) more)
       | else-branch w ↦
           let exact = sym c.in_ok-mark_two.ensures.rounded ∙ w.if-branch.false in
-          rw w.rounded-is (IsScanned-more (placing_of c.args.placing) f o rest old now next c.loop-later.rounded c.loop-later.rounded c.args.looked.now c.loop-later.looked c.take_up.new.looked left walk meets c.in_ok-mark_two.ensures.marks
+          rw w.rounded-is (IsScanned-more (placing_of c.args.placing) f o rest old now next c.loop-later.rounded c.loop-later.rounded c.args.looked.now c.loop-later.looks c.take_up.new.looked left walk meets c.in_ok-mark_two.ensures.marks
           (or_false c.loop-later.rounded ∙ ap (λ (b : Bool). c.loop-later.rounded || b) (sym exact)) more)
     ]
 
@@ -77,6 +77,6 @@ returns g c =
     let f = fragment_of whole c.index-group-first.result in
     let first = fragments-next whole c.args.group.now c.args.first c.index-group-first.result c.requires.first c.index-group-first.is in
     let above = above_from whole c.args.group.now (whole c.index-group-first.result.rect.max_y) c.first_above-end.result c.loop-later.later c.first_above-end.ensures.parted.1 c.loop-later-test.false in
-    let end = IsScanned-end (placing_of c.args.placing) f (drop (c.args.first + 1) fs) _ _ c.loop-later.rounded c.args.looked.now c.loop-later.looked _ c.loop-later.invariant above in
+    let end = IsScanned-end (placing_of c.args.placing) f (drop (c.args.first + 1) fs) _ _ c.loop-later.rounded c.args.looked.now c.loop-later.looks _ c.loop-later.invariant above in
     let found = scanned_found (placing_of c.args.placing) (drop c.args.first fs) f (drop (c.args.first + 1) fs) _ _ c.loop-later.rounded _ _ first end in
     record { marks = found.0; rounded = found.1; looked = found.2 }
