@@ -15,6 +15,7 @@ pub use Rattle.overlay_sweep.specs.ChainWindings
 pub use Rattle.overlay_build.specs.Graph
 pub use Rattle.overlay_build.specs.GraphOf
 pub use Rattle.overlay_build.specs.NodeIndexes
+pub use Rattle.overlay_build.specs.OverlayGraphOf
 pub use Rattle.overlay_build.specs.Sides
 pub use Rattle.overlay_build.specs.Regions
 pub use Rattle.overlay_build.specs.Lines
