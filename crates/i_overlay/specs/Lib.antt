@@ -2,6 +2,7 @@ pub mod FarRegions
 pub mod LinesAlong
 pub mod Headline
 -- what the clauses of the crate cite of the crates below
+pub use Rattle.overlay_base.specs.ArrangedOf
 pub use Rattle.overlay_base.specs.Balance
 pub use Rattle.overlay_base.specs.BooleanWinding
 pub use Rattle.overlay_base.specs.HooksOf

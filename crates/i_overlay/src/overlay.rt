@@ -1,10 +1,10 @@
 // A split and a build in one call. This project's own.
-ghost use Rattle.std.specs.Prelude.{◌≡◌, ◌⊎◌, [], map, IsTrue, IsFalse, OnOk, IfOk, IfErr};
+ghost use Rattle.std.specs.Prelude.{◌≡◌, ◌⊎◌, [], map, IsFalse, OnOk, IfOk, IfErr};
 ghost use Rattle.overlay_base.specs.BooleanWinding.{boolean_counted};
 ghost use Rattle.overlay_base.specs.HooksOf.{hooks_of};
 ghost use Rattle.overlay_base.specs.Rules.{holds, keeps_fill};
 ghost use Rattle.overlay_base.specs.Balance.{IsBalanced};
-ghost use Rattle.overlay_base.specs.Planar.{is_splittable, is_arranged};
+ghost use Rattle.overlay_base.specs.ArrangedOf.{IsSplittable, IsArranged};
 ghost use Rattle.overlay_base.specs.SegmentOf.{segments_of, data_segments_of};
 ghost use Rattle.overlay_split.specs.Run.{LeavesRange};
 ghost use Rattle.overlay_split.specs.SettingsOf.{snap_limit_of, passes_of, settings_of};
@@ -54,7 +54,7 @@ pub fn split_and_build_overlay<'a, I: OverlayInt, D: OverlayEdgeData<ShapeCountB
     fill_rule: FillRule,
     overlay_rule: OverlayRule,
 ) -> Result<OverlayGraph<'a, I, D>, Fault>
-    requires { IsTrue (is_splittable (I.whole I.MIN_COORD) (I.whole I.MAX_COORD) (segments_of segments.old.items)) }
+    requires { IsSplittable segments.old.items }
     ensures overlay { IfOk result (λ graph.
         IsOverlay (settings_of I.BITS solver.now splitter.old) fill_rule (holds overlay_rule)
         (segments_of segments.old.items) (segments_of segments.new.items) (passes_of splitter.new)
@@ -68,12 +68,12 @@ pub fn split_and_build_overlay<'a, I: OverlayInt, D: OverlayEdgeData<ShapeCountB
     ensures edge_data { IfOk result (λ graph.
         map (λ l. l.edge_data) (links_of graph)
         ≡ data_by (keeps_fill (holds overlay_rule)) fill_rule (data_segments_of segments.new.items)) }
-    ensures arranged { IsTrue (is_arranged (I.whole I.MIN_COORD) (I.whole I.MAX_COORD) (segments_of segments.new.items)) }
+    ensures arranged { IsArranged segments.new.items }
     ensures list_data { (segments.new.items ≡ []) ⊎
         IsDataAfter (hooks_of boolean_counted D.reversed_gives D.split_gives D.merge_gives) D.Store.is_default
         (settings_of I.BITS solver.now splitter.old) (data_segments_of segments.old.items) (data_segments_of segments.new.items)
         (passes_of splitter.new) }
-    ensures unchanged { IsTrue (is_arranged (I.whole I.MIN_COORD) (I.whole I.MAX_COORD) (segments_of segments.old.items)) →
+    ensures unchanged { IsArranged segments.old.items →
         OnOk result (data_segments_of segments.new.items ≡ data_segments_of segments.old.items) }
 
     ensures fits { OnOk result (LeavesRange (settings_of I.BITS solver.now splitter.old) (segments_of segments.old.items) → ⊥) }

@@ -4,7 +4,7 @@ ghost use Rattle.std.specs.Prelude.{◌≡◌, [], true, map, IsTrue, IsFalse, O
 ghost use Rattle.std.specs.Borrow.{sem};
 ghost use Rattle.overlay_base.specs.Rules.{holds, keeps_fill};
 ghost use Rattle.overlay_base.specs.ClipRules.{keeps_clip};
-ghost use Rattle.overlay_base.specs.Planar.{is_arranged};
+ghost use Rattle.overlay_base.specs.ArrangedOf.{IsArranged};
 ghost use Rattle.overlay_base.specs.Balance.{IsBalanced};
 ghost use Rattle.overlay_base.specs.SegmentOf.{segments_of, data_segments_of};
 ghost use Rattle.overlay_base.specs.declared.segm.fault.Fault.TheVariants.{CountOutOfRange};
@@ -94,7 +94,7 @@ impl<C: FillCount, N: GraphNode, I: OverlayInt, D: Copy> GraphBuilder<C, N, I, D
         solver: &Solver,
         segments: &[Segment<C, I, D>],
     ) -> Result<(), Fault>
-        requires arranged { IsTrue (is_arranged (I.whole I.MIN_COORD) (I.whole I.MAX_COORD) (segments_of segments.now)) }
+        requires arranged { IsArranged segments.now }
         ensures graph { OnOk result (HoldGraph N.indexes N.is_canonical I.whole self.new.nodes.items self.new.links.items (graph_by (keeps_by rule) fill_rule (segments_of segments.now))) }
         ensures edge_data { OnOk result (map (λ l. l.edge_data) self.new.links.items ≡ data_by (keeps_by rule) fill_rule (data_segments_of segments.now)) }
         ensures in_range { OnOk result (IsFalse (tops_leave_range (segments_of segments.now))) }
@@ -118,7 +118,7 @@ impl<C: FillCount, N: GraphNode, I: OverlayInt, D: Copy> GraphBuilder<C, N, I, D
         solver: &Solver,
         segments: &[Segment<C, I, D>],
     ) -> Result<(), Fault>
-        requires arranged { IsTrue (is_arranged (I.whole I.MIN_COORD) (I.whole I.MAX_COORD) (segments_of segments.now)) }
+        requires arranged { IsArranged segments.now }
         ensures graph { OnOk result (HoldGraph N.indexes N.is_canonical I.whole self.new.nodes.items self.new.links.items (graph_by (keeps_by rule) fill_rule (segments_of segments.now))) }
         ensures edge_data { OnOk result (map (λ l. l.edge_data) self.new.links.items ≡ data_by (keeps_by rule) fill_rule (data_segments_of segments.now)) }
         ensures in_range { OnOk result (IsFalse (tops_leave_range (segments_of segments.now))) }
@@ -163,7 +163,7 @@ impl<I: OverlayInt, D: Copy> GraphBuilder<ShapeCountBoolean, OverlayNode, I, D> 
         solver: &Solver,
         segments: &[Segment<ShapeCountBoolean, I, D>],
     ) -> Result<OverlayGraph<'_, I, D>, Fault>
-        requires arranged { IsTrue (is_arranged (I.whole I.MIN_COORD) (I.whole I.MAX_COORD) (segments_of segments.now)) }
+        requires arranged { IsArranged segments.now }
         ensures graph { IfOk result (λ graph.
             HoldGraph indexes_of is_canonical_node I.whole (nodes_of graph) (links_of graph)
             (graph_by (λ _. true) fill_rule (segments_of segments.now))) }
@@ -194,7 +194,7 @@ impl<I: OverlayInt, D: Copy> GraphBuilder<ShapeCountBoolean, OverlayNode, I, D> 
         solver: &Solver,
         segments: &[Segment<ShapeCountBoolean, I, D>],
     ) -> Result<OverlayGraph<'_, I, D>, Fault>
-        requires arranged { IsTrue (is_arranged (I.whole I.MIN_COORD) (I.whole I.MAX_COORD) (segments_of segments.now)) }
+        requires arranged { IsArranged segments.now }
         ensures graph { IfOk result (λ graph.
             HoldGraph indexes_of is_canonical_node I.whole (nodes_of graph) (links_of graph)
             (graph_by (keeps_fill (holds overlay_rule)) fill_rule (segments_of segments.now))) }
@@ -243,7 +243,7 @@ impl<I: OverlayInt> GraphBuilder<ShapeCountString, Vec<usize>, I, ()> {
         solver: &Solver,
         segments: &[Segment<ShapeCountString, I, ()>],
     ) -> Result<StringGraph<'_, I>, Fault>
-        requires arranged { IsTrue (is_arranged (I.whole I.MIN_COORD) (I.whole I.MAX_COORD) (segments_of segments.now)) }
+        requires arranged { IsArranged segments.now }
         ensures graph { IfOk result (λ graph.
             HoldGraph items_of is_any_node I.whole (nodes_of graph) (links_of graph)
             (graph_by (λ _. true) fill_rule (segments_of segments.now))) }
@@ -273,7 +273,7 @@ impl<I: OverlayInt> GraphBuilder<ShapeCountString, Vec<usize>, I, ()> {
         solver: &Solver,
         segments: &[Segment<ShapeCountString, I, ()>],
     ) -> Result<StringGraph<'_, I>, Fault>
-        requires arranged { IsTrue (is_arranged (I.whole I.MIN_COORD) (I.whole I.MAX_COORD) (segments_of segments.now)) }
+        requires arranged { IsArranged segments.now }
         ensures graph { IfOk result (λ graph.
             HoldGraph items_of is_any_node I.whole (nodes_of graph) (links_of graph)
             (graph_by (keeps_clip clip_rule) fill_rule (segments_of segments.now))) }

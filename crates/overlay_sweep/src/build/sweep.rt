@@ -1,6 +1,6 @@
 // Sweeps over arrangements, with the buffers that they share. Upstream: `build::sweep`.
 ghost use Rattle.std.specs.Prelude.{◌≡◌, ℕ, ◌<◌, IsTrue, IsFalse, IfOk, OnOk, OnErr, IfErr, length};
-ghost use Rattle.overlay_base.specs.Planar.{is_arranged};
+ghost use Rattle.overlay_base.specs.ArrangedOf.{IsArranged};
 ghost use Rattle.overlay_base.specs.Balance.{IsBalanced};
 ghost use Rattle.overlay_base.specs.SegmentOf.{segments_of, data_segments_of};
 ghost use Rattle.overlay_sweep.specs.Sweep.{visits, handled, visited, visits_leave_range};
@@ -64,7 +64,7 @@ impl<C: WindingCount, I: OverlayInt> SweepRunner<C, I> {
         segments: &[Segment<C, I, D>],
         handler: H,
     ) -> Result<H::Output, Fault>
-        requires arranged { IsTrue (is_arranged (I.whole I.MIN_COORD) (I.whole I.MAX_COORD) (segments_of segments.now)) }
+        requires arranged { IsArranged segments.now }
         requires takes { (index : ℕ) → index < length segments.now → H.takes handler index }
         ensures answer { IfOk result (λ answer.
             answer ≡ handled H.handle_gives H.finalize_gives handler (visits F.rule (data_segments_of segments.now))) }
@@ -118,7 +118,7 @@ impl<C: FillCount, I: OverlayInt> SweepRunner<C, I> {
         segments: &[Segment<C, I, D>],
         handler: H,
     ) -> Result<H::Output, Fault>
-        requires arranged { IsTrue (is_arranged (I.whole I.MIN_COORD) (I.whole I.MAX_COORD) (segments_of segments.now)) }
+        requires arranged { IsArranged segments.now }
         requires takes { (index : ℕ) → index < length segments.now → H.takes handler index }
         ensures answer { IfOk result (λ answer.
             answer ≡ handled H.handle_gives H.finalize_gives handler (visits fill_rule (data_segments_of segments.now))) }
