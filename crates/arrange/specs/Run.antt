@@ -88,9 +88,14 @@ IsRunAnswer words bytes answer =
     (command : Command) × (settings : Settings) × WordsAsk words command settings
     × IsAnswer (least_of settings.engine) (greatest_of settings.engine) (bits_of settings.engine) command settings bytes answer
 
--- why a run stops: with the usage exactly where the words ask for nothing, and else because the input or the output fails, memory is refused, or it is the answer to the input, where that is known
+-- the input, where it is known, is answered with a text
+abbrev pub HasOutput : List (List ℕ) → Option (List ℕ) → Type 0
+HasOutput words input = IfSome input (λ bytes. (text : List ℕ) × IsRunAnswer words bytes (Ok text))
+
+-- why a run stops: with the usage exactly where the words ask for nothing, and else because the input fails, memory is refused, the output fails that there is, or it is the answer to the input, where that is known
 abbrev pub IsStop : List (List ℕ) → Option (List ℕ) → Stop → Type 0
 IsStop words input stop =
     ((stop ≡ Usage) × AskNothing words)
     ⊎ (AskSomething words × (stop ≢ Usage)
-    × ((stop ≡ Input) ⊎ (stop ≡ Output) ⊎ (stop ≡ Refused Memory) ⊎ IfSome input (λ bytes. IsRunAnswer words bytes (Err stop))))
+    × ((stop ≡ Input) ⊎ ((stop ≡ Output) × HasOutput words input) ⊎ (stop ≡ Refused Memory)
+    ⊎ IfSome input (λ bytes. IsRunAnswer words bytes (Err stop))))

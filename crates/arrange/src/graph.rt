@@ -8,6 +8,7 @@ ghost use Rattle.overlay_split.specs.SettingsOf.{passes_of, settings_of};
 ghost use Rattle.overlay_sweep.specs.ChainWindings.{tops_leave_range};
 ghost use Rattle.overlay_build.specs.Graph.{graph_by};
 ghost use Rattle.overlay_build.specs.GraphOf.{graph_with};
+ghost use Rattle.overlay_build.specs.OverlayGraphOf.{links_of};
 ghost use Rattle.arrange.specs.Run.{IsGraphOf, CountsLeaveRange, IsCommandAnswer};
 ghost use Rattle.arrange.specs.declared.settings.Command.{Command};
 
@@ -60,7 +61,7 @@ pub fn build_graph<'a, I: OverlayInt>(
     settings: Settings,
 ) -> Result<OverlayGraph<'a, I, ()>, Fault>
     requires { IsTrue (is_splittable (I.whole I.MIN_COORD) (I.whole I.MAX_COORD) (segments_of segments.items)) }
-    ensures graph { IfOk result (λ graph. IsGraphOf I.BITS settings (segments_of segments.items) (graph_with I.whole graph.links.now)) }
+    ensures graph { IfOk result (λ graph. IsGraphOf I.BITS settings (segments_of segments.items) (graph_with I.whole (links_of graph))) }
     ensures out_of_range { IfErr result (λ fault. fault ≡ CountOutOfRange → CountsLeaveRange I.BITS settings (segments_of segments.items)) }
 {
     let solver = Solver::with_strategy_and_precision(settings.strategy, settings.precision);
@@ -90,7 +91,7 @@ fn build_all<'a, I: OverlayInt>(
     requires { IsTrue (is_splittable (I.whole I.MIN_COORD) (I.whole I.MAX_COORD) (segments_of segments.old.items)) }
     ensures count { OnOk result (IsPassCount (settings_of I.BITS solver.now splitter.old) (segments_of segments.old.items) (passes_of splitter.new)) }
     ensures arrangement { OnOk result (segments_of segments.new.items ≡ after_passes (settings_of I.BITS solver.now splitter.old) (segments_of segments.old.items) (passes_of splitter.new)) }
-    ensures graph { IfOk result (λ graph. graph_with I.whole graph.links.now ≡ graph_by (λ _. true) fill_rule (segments_of segments.new.items)) }
+    ensures graph { IfOk result (λ graph. graph_with I.whole (links_of graph) ≡ graph_by (λ _. true) fill_rule (segments_of segments.new.items)) }
     ensures in_range { OnOk result (IsFalse (tops_leave_range (segments_of segments.new.items))) }
     ensures out_of_range { IfErr result (λ fault. fault ≡ CountOutOfRange →
         LeavesRange (settings_of I.BITS solver.now splitter.old) (segments_of segments.old.items)

@@ -4,6 +4,7 @@ ghost use Rattle.overlay_base.specs.PointOf.{point_of};
 ghost use Rattle.overlay_build.specs.Graph.{Node};
 ghost use Rattle.overlay_build.specs.GraphOf.{link_of, graph_with};
 ghost use Rattle.overlay_build.specs.NodeIndexes.{indexes_of, is_canonical_node};
+ghost use Rattle.overlay_build.specs.OverlayGraphOf.{nodes_of, links_of};
 ghost use Rattle.arrange.specs.Output.{numbers_text, link_line, node_line, graph_text};
 
 use crate::output::write_point;
@@ -20,7 +21,7 @@ pub fn write_graph<I: OverlayInt>(
     text: &mut String,
     graph: &OverlayGraph<'_, I, ()>,
 ) -> Result<(), AllocError>
-    ensures { OnOk result (string_bytes text.new ≡ string_bytes text.old ++ graph_text (graph_with I.whole graph.now.links.now)) }
+    ensures { OnOk result (string_bytes text.new ≡ string_bytes text.old ++ graph_text (graph_with I.whole (links_of graph.now))) }
 {
     write_links(text, graph.links())?;
     write_nodes(text, graph)?;
@@ -57,7 +58,7 @@ fn write_nodes<I: OverlayInt>(
     text: &mut String,
     graph: &OverlayGraph<'_, I, ()>,
 ) -> Result<(), AllocError>
-    ensures { OnOk result (string_bytes text.new ≡ string_bytes text.old ++ flat_map node_line (graph_with I.whole graph.now.links.now).nodes) }
+    ensures { OnOk result (string_bytes text.new ≡ string_bytes text.old ++ flat_map node_line (graph_with I.whole (links_of graph.now)).nodes) }
 {
     for (id, node) in graph.nodes().iter().enumerate() {
         write_node(text, node_point(graph, id), node)?;
@@ -97,8 +98,8 @@ pub fn write_numbers(text: &mut String, numbers: &[usize]) -> Result<(), AllocEr
 
 /// The point of the node with this number: the end that its first link has there.
 fn node_point<I: OverlayInt>(graph: &OverlayGraph<'_, I, ()>, id: usize) -> IntPoint<I>
-    requires { id < length graph.now.nodes.now }
-    ensures { (node : Node) → point_of I.whole result ≡ (slice_index_or (graph_with I.whole graph.now.links.now).nodes id node).point }
+    requires { id < length (nodes_of graph.now) }
+    ensures { (node : Node) → point_of I.whole result ≡ (slice_index_or (graph_with I.whole (links_of graph.now)).nodes id node).point }
 {
     let first = graph.nodes()[id].indices()[0];
     let link = graph.links()[first];

@@ -14,8 +14,6 @@ mod split;
 mod stop;
 mod walks;
 mod words;
-#[cfg(test)]
-mod worked;
 
 use std::process::ExitCode;
 

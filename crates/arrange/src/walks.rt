@@ -4,6 +4,7 @@ ghost use Rattle.overlay_base.specs.declared.segm.fault.Fault.TheVariants.{Memor
 ghost use Rattle.overlay_base.specs.SegmentOf.{segments_of};
 ghost use Rattle.overlay_base.specs.Planar.{is_splittable};
 ghost use Rattle.overlay_build.specs.GraphOf.{graph_with};
+ghost use Rattle.overlay_build.specs.OverlayGraphOf.{links_of};
 ghost use Rattle.arrange.specs.Output.{walk_line, IsWalksText};
 ghost use Rattle.arrange.specs.Run.{IsCommandAnswer};
 ghost use Rattle.arrange.specs.declared.settings.Command.{Command};
@@ -38,7 +39,7 @@ pub fn walks<I: OverlayInt>(
 
 /// The text of closed walks through a graph.
 fn walks_text<I: OverlayInt>(alloc: Global, graph: &OverlayGraph<'_, I, ()>) -> Result<String, Stop>
-    ensures text { IfOk result (λ text. IsWalksText (graph_with I.whole graph.now.links.now) (string_bytes text)) }
+    ensures text { IfOk result (λ text. IsWalksText (graph_with I.whole (links_of graph.now)) (string_bytes text)) }
     ensures stop { IfErr result (λ stop. stop ≡ Stop.Refused Memory) }
 {
     let mut text = String::new(alloc);

@@ -1,8 +1,9 @@
 -- What a split and a build answer together, whichever strategy finds the pairs that meet.
-use Rattle.std.specs.Prelude.{◌≡◌, ◌≤◌, ◌+◌, ℕ, Bool, ◌&&◌, IsTrue, List, []}
+use Rattle.std.specs.Prelude.{◌≡◌, ◌⊎◌, ◌≤◌, ◌+◌, ℕ, Bool, ◌&&◌, IsTrue, List, []}
 use Rattle.std.specs.List.{list_all}
 use Rattle.overlay_base.specs.Points.{is_within_box_of}
 use Rattle.overlay_base.specs.Segments.{WholeSegment, pairs, ends, is_map}
+use Rattle.overlay_base.specs.EdgeData.{DataSegment, Hooks}
 use Rattle.overlay_base.specs.Planar.{is_planar}
 use Rattle.overlay_base.specs.Join.{join}
 use Rattle.overlay_base.specs.Balance.{IsBalanced, KeepsBalance}
@@ -13,6 +14,7 @@ use Rattle.overlay_base.specs.declared.overlay_core.fill_rule.FillRule.{FillRule
 use Rattle.overlay_base.specs.declared.segm.fault.Fault.{Fault}
 use Rattle.overlay_base.specs.declared.segm.fault.Fault.TheVariants.{CountOutOfRange}
 use Rattle.overlay_split.specs.Run.{Settings, IsPassCount, LeavesRange, after_passes}
+use Rattle.overlay_split.specs.DataPass.{data_after_passes}
 use Rattle.overlay_split.specs.ExactInput.{is_exact_input, KeepsCounts}
 use Rattle.overlay_split.specs.Nearness.{StaysNear}
 use Rattle.overlay_split.specs.Places.{KeepsWinding}
@@ -78,3 +80,12 @@ pub record IsBuildRefused (settings : Settings) (given segments : List WholeSegm
   pub split : IsSplit settings given segments passes
   pub fits : LeavesRange settings given → ⊥
   pub too_large : fault ≡ CountOutOfRange → IsTrue (tops_leave_range segments)
+
+-- A call was refused: in the split, and it made as many passes as the one before; or in the build.
+abbrev pub IsRefused : Settings → List WholeSegment → List WholeSegment → ℕ → ℕ → Fault → Type 0
+IsRefused settings given segments passes_before passes fault =
+    (IsSplitRefused settings given segments fault × (passes ≡ passes_before)) ⊎ IsBuildRefused settings given segments passes fault
+
+-- The data of the segments is what the hooks of so many passes make of what is given, from some store at first.
+abbrev pub IsDataAfter : {D S : Type 0} → Hooks D S → (S → Type 0) → Settings → List (DataSegment D) → List (DataSegment D) → ℕ → Type 0
+IsDataAfter {S = S} hooks IsFirst settings given segments passes = (store : S) × IsFirst store × (segments ≡ (data_after_passes hooks settings given store passes).0)

@@ -2,6 +2,7 @@ pub mod FarRegions
 pub mod LinesAlong
 pub mod Headline
 -- what the clauses of the crate cite of the crates below
+pub use Rattle.overlay_base.specs.ArrangedOf
 pub use Rattle.overlay_base.specs.Balance
 pub use Rattle.overlay_base.specs.BooleanWinding
 pub use Rattle.overlay_base.specs.HooksOf
@@ -15,6 +16,7 @@ pub use Rattle.overlay_sweep.specs.ChainWindings
 pub use Rattle.overlay_build.specs.Graph
 pub use Rattle.overlay_build.specs.GraphOf
 pub use Rattle.overlay_build.specs.NodeIndexes
+pub use Rattle.overlay_build.specs.OverlayGraphOf
 pub use Rattle.overlay_build.specs.Sides
 pub use Rattle.overlay_build.specs.Regions
 pub use Rattle.overlay_build.specs.Lines

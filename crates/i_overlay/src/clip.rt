@@ -1,6 +1,6 @@
 // A split of polygons and lines, and the graph of the parts of lines that the polygons keep, in one call. This project's own.
-ghost use Rattle.std.specs.Prelude.{◌≡◌, ◌⊎◌, IsTrue, IsFalse, OnOk, IfOk, IfErr};
-ghost use Rattle.overlay_base.specs.Planar.{is_splittable, is_arranged};
+ghost use Rattle.std.specs.Prelude.{◌≡◌, IsFalse, OnOk, IfOk, IfErr};
+ghost use Rattle.overlay_base.specs.ArrangedOf.{IsSplittable, IsArranged};
 ghost use Rattle.overlay_base.specs.SegmentOf.{segments_of, data_segments_of};
 ghost use Rattle.overlay_split.specs.Run.{LeavesRange};
 ghost use Rattle.overlay_split.specs.SettingsOf.{snap_limit_of, passes_of, settings_of};
@@ -8,7 +8,7 @@ ghost use Rattle.overlay_sweep.specs.ChainWindings.{tops_leave_range};
 ghost use Rattle.overlay_build.specs.GraphOf.{HoldGraph, graph_with};
 ghost use Rattle.overlay_build.specs.NodeIndexes.{items_of, is_any_node};
 ghost use Rattle.overlay_build.specs.StringGraphOf.{nodes_of, links_of};
-ghost use Rattle.i_overlay.specs.Headline.{IsClip, IsSplitRefused, IsBuildRefused};
+ghost use Rattle.i_overlay.specs.Headline.{IsClip, IsRefused};
 
 use overlay_base::num::OverlayInt;
 use overlay_base::overlay_core::clip_rule::ClipRule;
@@ -45,17 +45,23 @@ pub fn split_and_build_clip<'a, I: OverlayInt>(
     fill_rule: FillRule,
     clip_rule: ClipRule,
 ) -> Result<StringGraph<'a, I>, Fault>
-    requires { IsTrue (is_splittable (I.whole I.MIN_COORD) (I.whole I.MAX_COORD) (segments_of segments.old.items)) }
-    ensures clip { IfOk result (λ graph. IsClip (settings_of I.BITS solver.now splitter.old) fill_rule clip_rule (segments_of segments.old.items) (segments_of segments.new.items) (passes_of splitter.new) (graph_with I.whole (links_of graph))) }
-    ensures graph { IfOk result (λ graph. HoldGraph items_of is_any_node I.whole (nodes_of graph) (links_of graph) (graph_with I.whole (links_of graph))) }
-    ensures arranged { IsTrue (is_arranged (I.whole I.MIN_COORD) (I.whole I.MAX_COORD) (segments_of segments.new.items)) }
-    ensures unchanged { IsTrue (is_arranged (I.whole I.MIN_COORD) (I.whole I.MAX_COORD) (segments_of segments.old.items)) → OnOk result (data_segments_of segments.new.items ≡ data_segments_of segments.old.items) }
+    requires { IsSplittable segments.old.items }
+    ensures clip { IfOk result (λ graph.
+        IsClip (settings_of I.BITS solver.now splitter.old) fill_rule clip_rule
+        (segments_of segments.old.items) (segments_of segments.new.items) (passes_of splitter.new)
+        (graph_with I.whole (links_of graph))) }
+    ensures graph { IfOk result (λ graph.
+        HoldGraph items_of is_any_node I.whole (nodes_of graph) (links_of graph)
+        (graph_with I.whole (links_of graph))) }
+    ensures arranged { IsArranged segments.new.items }
+    ensures unchanged { IsArranged segments.old.items →
+        OnOk result (data_segments_of segments.new.items ≡ data_segments_of segments.old.items) }
 
     ensures fits { OnOk result (LeavesRange (settings_of I.BITS solver.now splitter.old) (segments_of segments.old.items) → ⊥) }
     ensures in_range { OnOk result (IsFalse (tops_leave_range (segments_of segments.new.items))) }
-    ensures refused { IfErr result (λ fault.
-        (IsSplitRefused (settings_of I.BITS solver.now splitter.old) (segments_of segments.old.items) (segments_of segments.new.items) fault × (passes_of splitter.new ≡ passes_of splitter.old)) ⊎
-        IsBuildRefused (settings_of I.BITS solver.now splitter.old) (segments_of segments.old.items) (segments_of segments.new.items) (passes_of splitter.new) fault) }
+    ensures refused { IfErr result
+        (IsRefused (settings_of I.BITS solver.now splitter.old) (segments_of segments.old.items) (segments_of segments.new.items)
+        (passes_of splitter.old) (passes_of splitter.new)) }
     ensures limit { snap_limit_of splitter.new ≡ snap_limit_of splitter.old }
 {
     splitter.split_segments(segments, solver)?;

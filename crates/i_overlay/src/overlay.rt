@@ -1,20 +1,20 @@
 // A split and a build in one call. This project's own.
-ghost use Rattle.std.specs.Prelude.{◌≡◌, ◌⊎◌, [], map, IsTrue, IsFalse, OnOk, IfOk, IfErr};
+ghost use Rattle.std.specs.Prelude.{◌≡◌, ◌⊎◌, [], map, IsFalse, OnOk, IfOk, IfErr};
 ghost use Rattle.overlay_base.specs.BooleanWinding.{boolean_counted};
 ghost use Rattle.overlay_base.specs.HooksOf.{hooks_of};
 ghost use Rattle.overlay_base.specs.Rules.{holds, keeps_fill};
 ghost use Rattle.overlay_base.specs.Balance.{IsBalanced};
-ghost use Rattle.overlay_base.specs.Planar.{is_splittable, is_arranged};
+ghost use Rattle.overlay_base.specs.ArrangedOf.{IsSplittable, IsArranged};
 ghost use Rattle.overlay_base.specs.SegmentOf.{segments_of, data_segments_of};
 ghost use Rattle.overlay_split.specs.Run.{LeavesRange};
-ghost use Rattle.overlay_split.specs.DataPass.{data_after_passes};
 ghost use Rattle.overlay_split.specs.SettingsOf.{snap_limit_of, passes_of, settings_of};
 ghost use Rattle.overlay_sweep.specs.ChainWindings.{tops_leave_range};
 ghost use Rattle.overlay_build.specs.Graph.{data_by};
 ghost use Rattle.overlay_build.specs.GraphOf.{HoldGraph, graph_with};
 ghost use Rattle.overlay_build.specs.NodeIndexes.{indexes_of, is_canonical_node};
+ghost use Rattle.overlay_build.specs.OverlayGraphOf.{nodes_of, links_of};
 ghost use Rattle.i_overlay.specs.FarRegions.{EnclosesOverlay};
-ghost use Rattle.i_overlay.specs.Headline.{IsOverlay, IsSplitRefused, IsBuildRefused};
+ghost use Rattle.i_overlay.specs.Headline.{IsOverlay, IsDataAfter, IsRefused};
 
 use overlay_base::num::OverlayInt;
 use overlay_base::overlay_core::edge_data::OverlayEdgeData;
@@ -54,23 +54,33 @@ pub fn split_and_build_overlay<'a, I: OverlayInt, D: OverlayEdgeData<ShapeCountB
     fill_rule: FillRule,
     overlay_rule: OverlayRule,
 ) -> Result<OverlayGraph<'a, I, D>, Fault>
-    requires { IsTrue (is_splittable (I.whole I.MIN_COORD) (I.whole I.MAX_COORD) (segments_of segments.old.items)) }
-    ensures overlay { IfOk result (λ graph. IsOverlay (settings_of I.BITS solver.now splitter.old) fill_rule (holds overlay_rule) (segments_of segments.old.items) (segments_of segments.new.items) (passes_of splitter.new) (graph_with I.whole graph.links.now)) }
-    ensures region { IsBalanced (segments_of segments.old.items) → IfOk result (λ graph. EnclosesOverlay (settings_of I.BITS solver.now splitter.old) overlay_rule fill_rule (segments_of segments.old.items) (passes_of splitter.new) (graph_with I.whole graph.links.now)) }
-    ensures graph { IfOk result (λ graph. HoldGraph indexes_of is_canonical_node I.whole graph.nodes.now graph.links.now (graph_with I.whole graph.links.now)) }
-    ensures edge_data { IfOk result (λ graph. map (λ l. l.edge_data) graph.links.now ≡ data_by (keeps_fill (holds overlay_rule)) fill_rule (data_segments_of segments.new.items)) }
-    ensures arranged { IsTrue (is_arranged (I.whole I.MIN_COORD) (I.whole I.MAX_COORD) (segments_of segments.new.items)) }
+    requires { IsSplittable segments.old.items }
+    ensures overlay { IfOk result (λ graph.
+        IsOverlay (settings_of I.BITS solver.now splitter.old) fill_rule (holds overlay_rule)
+        (segments_of segments.old.items) (segments_of segments.new.items) (passes_of splitter.new)
+        (graph_with I.whole (links_of graph))) }
+    ensures region { IsBalanced (segments_of segments.old.items) → IfOk result (λ graph.
+        EnclosesOverlay (settings_of I.BITS solver.now splitter.old) overlay_rule fill_rule
+        (segments_of segments.old.items) (passes_of splitter.new) (graph_with I.whole (links_of graph))) }
+    ensures graph { IfOk result (λ graph.
+        HoldGraph indexes_of is_canonical_node I.whole (nodes_of graph) (links_of graph)
+        (graph_with I.whole (links_of graph))) }
+    ensures edge_data { IfOk result (λ graph.
+        map (λ l. l.edge_data) (links_of graph)
+        ≡ data_by (keeps_fill (holds overlay_rule)) fill_rule (data_segments_of segments.new.items)) }
+    ensures arranged { IsArranged segments.new.items }
     ensures list_data { (segments.new.items ≡ []) ⊎
-        ((store : D.Store) × D.Store.is_default store ×
-        (let hooks = hooks_of boolean_counted D.reversed_gives D.split_gives D.merge_gives in
-        data_segments_of segments.new.items ≡ (data_after_passes hooks (settings_of I.BITS solver.now splitter.old) (data_segments_of segments.old.items) store (passes_of splitter.new)).0)) }
-    ensures unchanged { IsTrue (is_arranged (I.whole I.MIN_COORD) (I.whole I.MAX_COORD) (segments_of segments.old.items)) → OnOk result (data_segments_of segments.new.items ≡ data_segments_of segments.old.items) }
+        IsDataAfter (hooks_of boolean_counted D.reversed_gives D.split_gives D.merge_gives) D.Store.is_default
+        (settings_of I.BITS solver.now splitter.old) (data_segments_of segments.old.items) (data_segments_of segments.new.items)
+        (passes_of splitter.new) }
+    ensures unchanged { IsArranged segments.old.items →
+        OnOk result (data_segments_of segments.new.items ≡ data_segments_of segments.old.items) }
 
     ensures fits { OnOk result (LeavesRange (settings_of I.BITS solver.now splitter.old) (segments_of segments.old.items) → ⊥) }
     ensures in_range { OnOk result (IsFalse (tops_leave_range (segments_of segments.new.items))) }
-    ensures refused { IfErr result (λ fault.
-        (IsSplitRefused (settings_of I.BITS solver.now splitter.old) (segments_of segments.old.items) (segments_of segments.new.items) fault × (passes_of splitter.new ≡ passes_of splitter.old)) ⊎
-        IsBuildRefused (settings_of I.BITS solver.now splitter.old) (segments_of segments.old.items) (segments_of segments.new.items) (passes_of splitter.new) fault) }
+    ensures refused { IfErr result
+        (IsRefused (settings_of I.BITS solver.now splitter.old) (segments_of segments.old.items) (segments_of segments.new.items)
+        (passes_of splitter.old) (passes_of splitter.new)) }
     ensures limit { snap_limit_of splitter.new ≡ snap_limit_of splitter.old }
 {
     splitter.split_segments(segments, solver)?;

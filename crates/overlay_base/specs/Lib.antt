@@ -24,6 +24,7 @@ pub mod Choices
 pub mod Radius
 pub mod HooksOf
 pub mod SegmentOf
+pub mod ArrangedOf
 pub mod Rules
 pub mod RuleLaws
 pub mod ClipRules

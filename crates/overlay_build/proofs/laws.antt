@@ -4,6 +4,7 @@ pub mod Uprights
 pub mod Indexes
 pub mod GraphNodes
 pub mod GraphLaws
+pub mod LinkData
 pub mod GraphRuns
 pub mod FillSides
 pub mod GraphExact

@@ -1,17 +1,26 @@
--- What a builder holds once the graph that borrows its nodes and links is let go.
-use Rattle.std.specs.Prelude.{◌≡◌, [], Result, IfOk, OnErr}
+-- What a builder shows, and what it holds once the graph that borrows its nodes and links is let go.
+use Rattle.std.specs.Prelude.{◌≡◌, [], List, Result, IfOk, OnErr}
 use Rattle.std.specs.Borrow.{RattleType, MutBor, Fml}
 use Rattle.std.specs.Io.BufRead.{Rests}
 use Rattle.std.specs.declared.cmp.Ord.{Ghosts as Order}
 use Rattle.std.specs.declared.cmp.PartialEq.{Ghosts as Equality}
 use Rattle.std.specs.declared.cmp.PartialOrd.{Ghosts as PartialOrder}
 use Rattle.overlay_base.specs.declared.num.OverlayInt.{Ghosts as Whole}
+use Rattle.overlay_base.specs.declared.overlay_core.link.OverlayLink.{OverlayLink}
 use Rattle.overlay_base.specs.declared.segm.fault.Fault.{Fault}
 use Rattle.overlay_base.specs.contracts.segm.boolean.ShapeCountBoolean.{the_row as boolean_row}
 use Rattle.overlay_base.specs.contracts.segm.boolean.ShapeCountBooleanWindingCount.TheImpl.{ghosts as boolean_ghosts}
+use Rattle.overlay_build.specs.declared.build.builder.GraphBuilder.{GraphBuilder}
 use Rattle.overlay_build.specs.declared.build.graph.OverlayGraph.{OverlayGraph}
 use Rattle.overlay_build.specs.contracts.build.graph_node.OverlayNode.{the_row as node_row}
 use Rattle.overlay_build.specs.contracts.build.builder.GraphBuilder.{the_row}
+
+-- what its readers answer
+abbrev pub built_nodes : {C N I D : Type 0} {m : _} {w : _} {o : _} {e : _} {p : _} → GraphBuilder C N I D m w o e p → List N
+built_nodes builder = builder.nodes.items
+
+abbrev pub built_links : {C N I D : Type 0} {m : _} {w : _} {o : _} {e : _} {p : _} → GraphBuilder C N I D m w o e p → List (OverlayLink I D)
+built_links builder = builder.links.items
 
 module _ (I D : RattleType) (whole : Whole I.Denot) (order : Order I.Denot) (equality : Equality I.Denot) (partial : PartialOrder I.Denot) where
   -- the builder of overlays, with coordinates I and data D

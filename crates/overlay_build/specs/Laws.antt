@@ -1,7 +1,9 @@
 -- Laws over the definitions: statements that contracts name.
 use Rattle.std.specs.Prelude.{◌≡◌, ◌==◌, ◌<◌, pos, Bool, true, not, ◌&&◌, IsTrue, ℕ, List, All, map, filter}
+use Rattle.std.specs.List.{zip}
 use Rattle.overlay_base.specs.Windings.{Winding}
 use Rattle.overlay_base.specs.Segments.{WholeSegment, is_map, are_polygons}
+use Rattle.overlay_base.specs.EdgeData.{DataSegment, without_data}
 use Rattle.overlay_base.specs.Rules.{keeps_fill}
 use Rattle.overlay_base.specs.ClipRules.{keeps_clip}
 use Rattle.overlay_base.specs.declared.overlay_core.clip_rule.ClipRule.{ClipRule}
@@ -9,7 +11,7 @@ use Rattle.overlay_base.specs.declared.overlay_core.fill_rule.FillRule.{FillRule
 use Rattle.overlay_base.specs.Planar.{is_planar}
 use Rattle.overlay_base.specs.Balance.{IsBalanced}
 use Rattle.overlay_sweep.specs.Fill.{fill_byte}
-use Rattle.overlay_build.specs.Graph.{graph_by, has_even_nodes, is_valid_graph, without_nodes}
+use Rattle.overlay_build.specs.Graph.{graph_by, data_by, has_even_nodes, is_valid_graph, without_nodes}
 use Rattle.overlay_build.specs.Values.{tells_apart}
 use Rattle.overlay_build.specs.Regions.{EnclosesRegion}
 use Rattle.overlay_build.specs.Sides.{overlay_graph}
@@ -60,3 +62,10 @@ abbrev pub FilterGivesLinks : Type 0
 FilterGivesLinks =
     (keeps : ℕ → Bool) (fill_rule : FillRule) (segments : List WholeSegment) →
     map without_nodes (filter (λ l. keeps l.fill) (graph_by (λ f. true) fill_rule segments).links) ≡ map without_nodes (graph_by keeps fill_rule segments).links
+
+-- The data of the links that a test keeps of the graph of all segments is, in the same order, that of the links of the test's graph.
+abbrev pub FilterGivesData : Type 0 → Type 0
+FilterGivesData D =
+    (keeps : ℕ → Bool) (fill_rule : FillRule) (segments : List (DataSegment D)) →
+    map (λ e. e.1) (filter (λ e. keeps e.0.fill) (zip (graph_by (λ f. true) fill_rule (without_data segments)).links (data_by (λ f. true) fill_rule segments)))
+    ≡ data_by keeps fill_rule segments

@@ -6,6 +6,7 @@ pub mod Regions
 pub mod Sides
 pub mod Lines
 pub mod GraphOf
+pub mod OverlayGraphOf
 pub mod NodeIndexes
 pub mod LinkEnds
 pub mod RuleOf

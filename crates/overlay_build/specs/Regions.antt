@@ -1,5 +1,5 @@
 -- Which places of the plane a graph encloses.
-use Rattle.std.specs.Prelude.{◌≡◌, ℕ, ◌<◌, ◌%◌, ◌==◌, Bool, List, filter, length}
+use Rattle.std.specs.Prelude.{◌≡◌, ◌<◌, ◌%◌, ◌==◌, Bool, List, filter, length}
 use Rattle.overlay_base.specs.Windings.{empty}
 use Rattle.overlay_base.specs.Segments.{WholeSegment}
 use Rattle.overlay_base.specs.Places.{RationalPoint, lies_below, winding_below}

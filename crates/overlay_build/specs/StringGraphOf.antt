@@ -27,6 +27,10 @@ nodes_of graph = graph.builder.now.nodes.items
 abbrev pub links_of : {I : Type 0} {w : _} {o : _} {e : _} {p : _} → StringGraph I w o e p → List (OverlayLink I Unit)
 links_of graph = graph.builder.now.links.items
 
+-- the name of the reference to the builder
+abbrev pub builder_name : {I : Type 0} {w : _} {o : _} {e : _} {p : _} → StringGraph I w o e p → ℕ
+builder_name graph = graph.builder.ghost_name
+
 module _ (I : RattleType) (whole : Whole I.Denot) (order : Order I.Denot) (equality : Equality I.Denot) (partial : PartialOrder I.Denot) where
   -- the builder of lines, with coordinates I
   abbrev pub line_builder_row : RattleType

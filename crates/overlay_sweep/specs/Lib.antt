@@ -9,5 +9,6 @@ pub mod WayOf
 pub mod TreeShapes
 pub mod PlaceOf
 pub mod ScanTrees
+pub mod LiveOf
 pub mod LevelRows
 pub mod Laws

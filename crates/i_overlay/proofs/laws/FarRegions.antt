@@ -1,24 +1,17 @@
 -- What the graph of a split encloses, by how the given segments wind where the split does not reach.
-use Rattle.std.proofs.Common.{◌≡◌, refl, ap, ◌∙◌, ℕ}
-use Rattle.std.specs.Prelude.{pos, Bool, false, List}
+use Rattle.std.proofs.Common.{◌≡◌, ap, ◌∙◌, ℕ}
+use Rattle.std.specs.Prelude.{Bool, false, List}
 use Rattle.overlay_base.specs.Windings.{empty}
 use Rattle.overlay_base.specs.Segments.{WholeSegment}
 use Rattle.overlay_base.specs.Places.{winding_below}
 use Rattle.overlay_base.specs.Rules.{differ, holds}
 use Rattle.overlay_base.specs.declared.overlay_core.fill_rule.FillRule.{FillRule}
-use Rattle.overlay_base.specs.declared.overlay_core.fill_rule.FillRule.TheVariants.{EvenOdd, NonZero, Positive, Negative}
 use Rattle.overlay_base.specs.declared.overlay_core.overlay_rule.OverlayRule.{OverlayRule}
 use Rattle.overlay_split.specs.Run.{Settings}
-use Rattle.overlay_sweep.specs.Fill.{is_inside}
+use Rattle.overlay_sweep.proofs.laws.FillBytes.{inside_none}
 use Rattle.overlay_build.specs.Graph.{Graph}
 use Rattle.overlay_build.specs.Values.{value_at, tells_apart}
 use Rattle.i_overlay.specs.FarRegions.{EnclosesFarRegion, EnclosesOverlay}
-
-inside_none : (fill_rule : FillRule) → is_inside fill_rule (pos 0) ≡ false
-inside_none EvenOdd = refl
-inside_none NonZero = refl
-inside_none Positive = refl
-inside_none Negative = refl
 
 -- what a rule says where nothing winds
 value_outside : (overlay_rule : OverlayRule) (fill_rule : FillRule) → value_at (holds overlay_rule) fill_rule empty ≡ holds overlay_rule false false

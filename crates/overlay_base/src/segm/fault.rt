@@ -31,3 +31,6 @@ impl<T: Drop> From<AllocFailed<T>> for Fault {
         Fault::Memory
     }
 }
+
+#[cfg(test)]
+mod tests;

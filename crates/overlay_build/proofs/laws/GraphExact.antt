@@ -15,7 +15,7 @@ use Rattle.overlay_sweep.specs.Fill.{fill_byte}
 use Rattle.overlay_base.specs.Rules.{keeps_fill}
 use Rattle.overlay_sweep.specs.Sweep.{fill_of}
 use Rattle.overlay_build.specs.Graph.{filled, graph_of, graph_by, has_even_nodes, is_valid_graph}
-use Rattle.overlay_build.specs.Sides.{has_sides_apart, with_sides, overlay_graph, IsBalancedOverlay}
+use Rattle.overlay_build.specs.Sides.{has_sides_apart, with_sides, overlay_graph}
 use Rattle.overlay_sweep.specs.Laws.{ChainsAreColumns}
 use Rattle.overlay_build.specs.Laws.{NodesAreEven, GraphsAreValid, GraphsAreExact}
 use Rattle.overlay_sweep.proofs.laws.Tops.{chains_are_columns}

@@ -1,13 +1,13 @@
 -- What fills say of lines, and the graphs of the parts of lines that a clip rule keeps.
-use Rattle.std.proofs.Common.{◌≡◌, refl, sym, get_or, length, ltb-true, ap, ap₂, ◌∙◌, ℕ, ◌+◌, ◌*◌, ◌<◌, ◌==◌, zero, suc, Bool, true, false, not, ◌&&◌, ◌||◌, cond, IsTrue, List, [], ◌∷◌, map, filter, All, arith}
+use Rattle.std.proofs.Common.{◌≡◌, refl, ltb-true, ap, ap₂, ◌∙◌, ℕ, ◌+◌, ◌*◌, ◌<◌, ◌==◌, zero, suc, Bool, true, false, not, ◌&&◌, ◌||◌, IsTrue, List, [], ◌∷◌, map, filter, All, arith}
 use Rattle.std.specs.Prelude.{ℤ, pos, ◌+ℤ◌, if◌then◌else◌}
 use Rattle.std.proofs.lemmas.Bool.{and_parts}
 use Rattle.std.proofs.lemmas.List.Sums.{AllPass-from_list_all}
 use Rattle.std.proofs.lemmas.List.Elements.{All-head, All-tail, All-filter, All-map, All-weaker}
 use Rattle.overlay_base.specs.Points.{is_vertical}
-use Rattle.overlay_base.specs.Windings.{Winding, total, is_count_in_range, is_not_empty, is_valid}
-use Rattle.overlay_base.specs.Segments.{WholeSegment, total_weight, is_map}
-use Rattle.overlay_base.specs.Planar.{is_pair_in_range, is_planar, is_splittable, is_arranged}
+use Rattle.overlay_base.specs.Windings.{total, is_not_empty, is_valid}
+use Rattle.overlay_base.specs.Segments.{WholeSegment, total_weight}
+use Rattle.overlay_base.specs.Planar.{is_pair_in_range, is_splittable, is_arranged}
 use Rattle.overlay_base.specs.Balance.{IsBalanced}
 use Rattle.overlay_base.specs.Rules.{differ}
 use Rattle.overlay_base.specs.ClipRules.{has_line, is_in_polygon, keeps_clip}

@@ -14,9 +14,6 @@ use Rattle.overlay_base.specs.Planar.{is_planar}
 use Rattle.overlay_base.specs.Balance.{IsBalanced}
 use Rattle.overlay_base.specs.Rules.{differ, keeps_fill}
 use Rattle.overlay_base.specs.declared.overlay_core.fill_rule.FillRule.{FillRule}
-use Rattle.overlay_base.specs.declared.overlay_core.fill_rule.FillRule.TheVariants.{EvenOdd, NonZero, Positive, Negative}
-use Rattle.overlay_base.specs.declared.overlay_core.overlay_rule.OverlayRule.{OverlayRule}
-use Rattle.overlay_base.specs.declared.overlay_core.overlay_rule.OverlayRule.TheVariants.{Subject, Clip, Intersect, Union, Difference, InverseDifference, Xor}
 use Rattle.overlay_base.proofs.laws.Lists.{Has, Has-filter_out, filter-map, list_all-from_Has}
 use Rattle.overlay_base.specs.Places.{RationalPoint, runs_below, lies_below, winding_below}
 use Rattle.overlay_sweep.specs.ColumnWindings.{IsSameAlong, spans as column_spans, is_below_in_column, column_bottom, column_top}
@@ -36,7 +33,6 @@ use Rattle.overlay_sweep.proofs.laws.Sides.{sum_of-same_in, apart_in}
 use Rattle.overlay_build.proofs.laws.Vertices.{tells, tells_sides_of, odd_of-same_in, pairwise_in}
 use Rattle.overlay_build.proofs.laws.Uprights.{odd_of-filter}
 use Rattle.overlay_build.specs.Regions.{encloses, EnclosesRegion}
-use Rattle.overlay_sweep.specs.Laws.{ChainsAreColumns}
 use Rattle.overlay_build.specs.Laws.{GraphsEncloseRegions}
 use Rattle.overlay_sweep.proofs.laws.Tops.{chains_are_columns}
 use Rattle.overlay_build.proofs.laws.GraphExact.{HasColumns, graphs_are_exact, nodes_are_even}

@@ -4,7 +4,7 @@ ghost use Rattle.std.specs.Prelude.{◌≡◌, [], true, map, IsTrue, IsFalse, O
 ghost use Rattle.std.specs.Borrow.{sem};
 ghost use Rattle.overlay_base.specs.Rules.{holds, keeps_fill};
 ghost use Rattle.overlay_base.specs.ClipRules.{keeps_clip};
-ghost use Rattle.overlay_base.specs.Planar.{is_arranged};
+ghost use Rattle.overlay_base.specs.ArrangedOf.{IsArranged};
 ghost use Rattle.overlay_base.specs.Balance.{IsBalanced};
 ghost use Rattle.overlay_base.specs.SegmentOf.{segments_of, data_segments_of};
 ghost use Rattle.overlay_base.specs.declared.segm.fault.Fault.TheVariants.{CountOutOfRange};
@@ -15,6 +15,7 @@ ghost use Rattle.overlay_build.specs.Lines.{IsBalancedClip};
 ghost use Rattle.overlay_build.specs.GraphOf.{HoldGraph, graph_with};
 ghost use Rattle.overlay_build.specs.NodeIndexes.{indexes_of, is_canonical_node, items_of, is_any_node};
 ghost use Rattle.overlay_build.specs.LinkRules.{keeps_by};
+ghost use Rattle.overlay_build.specs.BuilderOf.{built_nodes, built_links};
 
 use crate::build::fills::find_fills;
 use crate::build::graph::OverlayGraph;
@@ -55,8 +56,8 @@ pub struct GraphBuilder<C: WindingCount, N: GraphNode, I: OverlayInt, D: Copy> {
 impl<C: WindingCount, N: GraphNode, I: OverlayInt, D: Copy> GraphBuilder<C, N, I, D> {
     /// A builder, which takes no memory yet.
     pub fn new(alloc: Global) -> GraphBuilder<C, N, I, D>
-        ensures links { result.links.items ≡ [] }
-        ensures nodes { result.nodes.items ≡ [] }
+        ensures links { built_links result ≡ [] }
+        ensures nodes { built_nodes result ≡ [] }
     {
         GraphBuilder {
             alloc,
@@ -71,14 +72,14 @@ impl<C: WindingCount, N: GraphNode, I: OverlayInt, D: Copy> GraphBuilder<C, N, I
 
     /// The nodes of the last build.
     pub fn nodes(&self) -> &[N]
-        ensures { result.now ≡ self.now.nodes.items }
+        ensures { result.now ≡ built_nodes self.now }
     {
         &self.nodes
     }
 
     /// The links of the last build.
     pub fn links(&self) -> &[OverlayLink<I, D>]
-        ensures { result.now ≡ self.now.links.items }
+        ensures { result.now ≡ built_links self.now }
     {
         &self.links
     }
@@ -93,7 +94,7 @@ impl<C: FillCount, N: GraphNode, I: OverlayInt, D: Copy> GraphBuilder<C, N, I, D
         solver: &Solver,
         segments: &[Segment<C, I, D>],
     ) -> Result<(), Fault>
-        requires arranged { IsTrue (is_arranged (I.whole I.MIN_COORD) (I.whole I.MAX_COORD) (segments_of segments.now)) }
+        requires arranged { IsArranged segments.now }
         ensures graph { OnOk result (HoldGraph N.indexes N.is_canonical I.whole self.new.nodes.items self.new.links.items (graph_by (keeps_by rule) fill_rule (segments_of segments.now))) }
         ensures edge_data { OnOk result (map (λ l. l.edge_data) self.new.links.items ≡ data_by (keeps_by rule) fill_rule (data_segments_of segments.now)) }
         ensures in_range { OnOk result (IsFalse (tops_leave_range (segments_of segments.now))) }
@@ -117,7 +118,7 @@ impl<C: FillCount, N: GraphNode, I: OverlayInt, D: Copy> GraphBuilder<C, N, I, D
         solver: &Solver,
         segments: &[Segment<C, I, D>],
     ) -> Result<(), Fault>
-        requires arranged { IsTrue (is_arranged (I.whole I.MIN_COORD) (I.whole I.MAX_COORD) (segments_of segments.now)) }
+        requires arranged { IsArranged segments.now }
         ensures graph { OnOk result (HoldGraph N.indexes N.is_canonical I.whole self.new.nodes.items self.new.links.items (graph_by (keeps_by rule) fill_rule (segments_of segments.now))) }
         ensures edge_data { OnOk result (map (λ l. l.edge_data) self.new.links.items ≡ data_by (keeps_by rule) fill_rule (data_segments_of segments.now)) }
         ensures in_range { OnOk result (IsFalse (tops_leave_range (segments_of segments.now))) }
@@ -137,12 +138,14 @@ impl<C: FillCount, N: GraphNode, I: OverlayInt, D: Copy> GraphBuilder<C, N, I, D
 
 impl<I: OverlayInt, D: Copy> GraphBuilder<ShapeCountBoolean, OverlayNode, I, D> {
     ghost use Rattle.overlay_build.specs.BuilderOf.{HoldsAnswer};
+    ghost use Rattle.overlay_build.specs.OverlayGraphOf.{nodes_of, links_of};
 
     /// The graph of the last build.
     fn graph(&self) -> OverlayGraph<'_, I, D>
-        requires { HoldGraph indexes_of is_canonical_node I.whole self.now.nodes.items self.now.links.items (graph_with I.whole self.now.links.items) }
-        ensures nodes { result.nodes.now ≡ self.now.nodes.items }
-        ensures links { result.links.now ≡ self.now.links.items }
+        requires { HoldGraph indexes_of is_canonical_node I.whole (built_nodes self.now) (built_links self.now)
+            (graph_with I.whole (built_links self.now)) }
+        ensures nodes { nodes_of result ≡ built_nodes self.now }
+        ensures links { links_of result ≡ built_links self.now }
     {
         OverlayGraph::new(self.nodes.as_slice(), self.links.as_slice())
     }
@@ -160,12 +163,17 @@ impl<I: OverlayInt, D: Copy> GraphBuilder<ShapeCountBoolean, OverlayNode, I, D> 
         solver: &Solver,
         segments: &[Segment<ShapeCountBoolean, I, D>],
     ) -> Result<OverlayGraph<'_, I, D>, Fault>
-        requires arranged { IsTrue (is_arranged (I.whole I.MIN_COORD) (I.whole I.MAX_COORD) (segments_of segments.now)) }
-        ensures graph { IfOk result (λ graph. HoldGraph indexes_of is_canonical_node I.whole graph.nodes.now graph.links.now (graph_by (λ _. true) fill_rule (segments_of segments.now))) }
-        ensures edge_data { IfOk result (λ graph. map (λ l. l.edge_data) graph.links.now ≡ data_by (λ _. true) fill_rule (data_segments_of segments.now)) }
+        requires arranged { IsArranged segments.now }
+        ensures graph { IfOk result (λ graph.
+            HoldGraph indexes_of is_canonical_node I.whole (nodes_of graph) (links_of graph)
+            (graph_by (λ _. true) fill_rule (segments_of segments.now))) }
+        ensures edge_data { IfOk result (λ graph.
+            map (λ l. l.edge_data) (links_of graph) ≡ data_by (λ _. true) fill_rule (data_segments_of segments.now)) }
         ensures in_range { OnOk result (IsFalse (tops_leave_range (segments_of segments.now))) }
-        ensures out_of_range { IfErr result (λ fault. fault ≡ CountOutOfRange → IsTrue (tops_leave_range (segments_of segments.now))) }
-        ensures* after { sem 𝓛 (HoldsAnswer I.row D.row I.OverlayInt.own I.Ord.own I.PartialEq I.PartialOrd.own result self.entry) }
+        ensures out_of_range { IfErr result (λ fault.
+            fault ≡ CountOutOfRange → IsTrue (tops_leave_range (segments_of segments.now))) }
+        ensures* after { sem 𝓛
+            (HoldsAnswer I.row D.row I.OverlayInt.own I.Ord.own I.PartialEq I.PartialOrd.own result self.entry) }
     {
         self.build(fill_rule, LinkRule::Every, solver, segments)?;
         Ok(self.graph())
@@ -186,14 +194,23 @@ impl<I: OverlayInt, D: Copy> GraphBuilder<ShapeCountBoolean, OverlayNode, I, D> 
         solver: &Solver,
         segments: &[Segment<ShapeCountBoolean, I, D>],
     ) -> Result<OverlayGraph<'_, I, D>, Fault>
-        requires arranged { IsTrue (is_arranged (I.whole I.MIN_COORD) (I.whole I.MAX_COORD) (segments_of segments.now)) }
-        ensures graph { IfOk result (λ graph. HoldGraph indexes_of is_canonical_node I.whole graph.nodes.now graph.links.now (graph_by (keeps_fill (holds overlay_rule)) fill_rule (segments_of segments.now))) }
-        ensures edge_data { IfOk result (λ graph. map (λ l. l.edge_data) graph.links.now ≡ data_by (keeps_fill (holds overlay_rule)) fill_rule (data_segments_of segments.now)) }
-        ensures balanced { IsBalanced (segments_of segments.now) → IsBalancedOverlay (holds overlay_rule) fill_rule (segments_of segments.now) (graph_by (keeps_fill (holds overlay_rule)) fill_rule (segments_of segments.now)) }
-        ensures even { IfOk result (λ graph. IsBalanced (segments_of segments.now) → IsTrue (has_even_nodes (graph_with I.whole graph.links.now))) }
+        requires arranged { IsArranged segments.now }
+        ensures graph { IfOk result (λ graph.
+            HoldGraph indexes_of is_canonical_node I.whole (nodes_of graph) (links_of graph)
+            (graph_by (keeps_fill (holds overlay_rule)) fill_rule (segments_of segments.now))) }
+        ensures edge_data { IfOk result (λ graph.
+            map (λ l. l.edge_data) (links_of graph)
+            ≡ data_by (keeps_fill (holds overlay_rule)) fill_rule (data_segments_of segments.now)) }
+        ensures balanced { IsBalanced (segments_of segments.now) →
+            IsBalancedOverlay (holds overlay_rule) fill_rule (segments_of segments.now)
+            (graph_by (keeps_fill (holds overlay_rule)) fill_rule (segments_of segments.now)) }
+        ensures even { IfOk result (λ graph.
+            IsBalanced (segments_of segments.now) → IsTrue (has_even_nodes (graph_with I.whole (links_of graph)))) }
         ensures in_range { OnOk result (IsFalse (tops_leave_range (segments_of segments.now))) }
-        ensures out_of_range { IfErr result (λ fault. fault ≡ CountOutOfRange → IsTrue (tops_leave_range (segments_of segments.now))) }
-        ensures* after { sem 𝓛 (HoldsAnswer I.row D.row I.OverlayInt.own I.Ord.own I.PartialEq I.PartialOrd.own result self.entry) }
+        ensures out_of_range { IfErr result (λ fault.
+            fault ≡ CountOutOfRange → IsTrue (tops_leave_range (segments_of segments.now))) }
+        ensures* after { sem 𝓛
+            (HoldsAnswer I.row D.row I.OverlayInt.own I.Ord.own I.PartialEq I.PartialOrd.own result self.entry) }
     {
         self.build(fill_rule, LinkRule::Overlay(overlay_rule), solver, segments)?;
         Ok(self.graph())
@@ -201,12 +218,13 @@ impl<I: OverlayInt, D: Copy> GraphBuilder<ShapeCountBoolean, OverlayNode, I, D> 
 }
 
 impl<I: OverlayInt> GraphBuilder<ShapeCountString, Vec<usize>, I, ()> {
-    ghost use Rattle.overlay_build.specs.StringGraphOf.{HoldsLines, LendsBuiltLinks, nodes_of, links_of};
+    ghost use Rattle.overlay_build.specs.StringGraphOf.{HoldsLines, LendsBuiltLinks, nodes_of, links_of, builder_name};
 
     /// The links of the last build, to be written to.
     pub(crate) fn links_mut(&mut self) -> &mut [OverlayLink<I, ()>]
-        ensures links { result.now ≡ self.old.links.items }
-        ensures* writes_back { sem 𝓛 (LendsBuiltLinks I.row I.OverlayInt.own I.Ord.own I.PartialEq I.PartialOrd.own self.entry result) }
+        ensures links { result.now ≡ built_links self.old }
+        ensures* writes_back { sem 𝓛
+            (LendsBuiltLinks I.row I.OverlayInt.own I.Ord.own I.PartialEq I.PartialOrd.own self.entry result) }
     {
         self.links.as_mut_slice()
     }
@@ -225,11 +243,14 @@ impl<I: OverlayInt> GraphBuilder<ShapeCountString, Vec<usize>, I, ()> {
         solver: &Solver,
         segments: &[Segment<ShapeCountString, I, ()>],
     ) -> Result<StringGraph<'_, I>, Fault>
-        requires arranged { IsTrue (is_arranged (I.whole I.MIN_COORD) (I.whole I.MAX_COORD) (segments_of segments.now)) }
-        ensures graph { IfOk result (λ graph. HoldGraph items_of is_any_node I.whole (nodes_of graph) (links_of graph) (graph_by (λ _. true) fill_rule (segments_of segments.now))) }
+        requires arranged { IsArranged segments.now }
+        ensures graph { IfOk result (λ graph.
+            HoldGraph items_of is_any_node I.whole (nodes_of graph) (links_of graph)
+            (graph_by (λ _. true) fill_rule (segments_of segments.now))) }
         ensures in_range { OnOk result (IsFalse (tops_leave_range (segments_of segments.now))) }
-        ensures out_of_range { IfErr result (λ fault. fault ≡ CountOutOfRange → IsTrue (tops_leave_range (segments_of segments.now))) }
-        ensures same_builder { IfOk result (λ graph. graph.builder.ghost_name ≡ self.entry.ghost_name) }
+        ensures out_of_range { IfErr result (λ fault.
+            fault ≡ CountOutOfRange → IsTrue (tops_leave_range (segments_of segments.now))) }
+        ensures same_builder { IfOk result (λ graph. builder_name graph ≡ self.entry.ghost_name) }
         ensures* after { sem 𝓛 (HoldsLines I.row I.OverlayInt.own I.Ord.own I.PartialEq I.PartialOrd.own result self.entry) }
     {
         let every = LinkRule::Every;
@@ -252,12 +273,17 @@ impl<I: OverlayInt> GraphBuilder<ShapeCountString, Vec<usize>, I, ()> {
         solver: &Solver,
         segments: &[Segment<ShapeCountString, I, ()>],
     ) -> Result<StringGraph<'_, I>, Fault>
-        requires arranged { IsTrue (is_arranged (I.whole I.MIN_COORD) (I.whole I.MAX_COORD) (segments_of segments.now)) }
-        ensures graph { IfOk result (λ graph. HoldGraph items_of is_any_node I.whole (nodes_of graph) (links_of graph) (graph_by (keeps_clip clip_rule) fill_rule (segments_of segments.now))) }
-        ensures balanced { IsBalanced (segments_of segments.now) → IsBalancedClip clip_rule fill_rule (segments_of segments.now) (graph_by (keeps_clip clip_rule) fill_rule (segments_of segments.now)) }
+        requires arranged { IsArranged segments.now }
+        ensures graph { IfOk result (λ graph.
+            HoldGraph items_of is_any_node I.whole (nodes_of graph) (links_of graph)
+            (graph_by (keeps_clip clip_rule) fill_rule (segments_of segments.now))) }
+        ensures balanced { IsBalanced (segments_of segments.now) →
+            IsBalancedClip clip_rule fill_rule (segments_of segments.now)
+            (graph_by (keeps_clip clip_rule) fill_rule (segments_of segments.now)) }
         ensures in_range { OnOk result (IsFalse (tops_leave_range (segments_of segments.now))) }
-        ensures out_of_range { IfErr result (λ fault. fault ≡ CountOutOfRange → IsTrue (tops_leave_range (segments_of segments.now))) }
-        ensures same_builder { IfOk result (λ graph. graph.builder.ghost_name ≡ self.entry.ghost_name) }
+        ensures out_of_range { IfErr result (λ fault.
+            fault ≡ CountOutOfRange → IsTrue (tops_leave_range (segments_of segments.now))) }
+        ensures same_builder { IfOk result (λ graph. builder_name graph ≡ self.entry.ghost_name) }
         ensures* after { sem 𝓛 (HoldsLines I.row I.OverlayInt.own I.Ord.own I.PartialEq I.PartialOrd.own result self.entry) }
     {
         self.build(fill_rule, LinkRule::Clip(clip_rule), solver, segments)?;

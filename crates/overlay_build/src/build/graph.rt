@@ -22,6 +22,7 @@ pub struct OverlayGraph<'a, I: OverlayInt, D> {
 
 impl<'a, I: OverlayInt, D: Copy> OverlayGraph<'a, I, D> {
     ghost use Rattle.overlay_build.specs.Graph.{has_even_nodes, is_valid_graph};
+    ghost use Rattle.overlay_build.specs.OverlayGraphOf.{nodes_of, links_of};
 
     /// The graph of these links, which has to have these nodes.
     pub(crate) fn new(
@@ -29,29 +30,29 @@ impl<'a, I: OverlayInt, D: Copy> OverlayGraph<'a, I, D> {
         links: &'a [OverlayLink<I, D>],
     ) -> OverlayGraph<'a, I, D>
         requires { HoldGraph indexes_of is_canonical_node I.whole nodes.now links.now (graph_with I.whole links.now) }
-        ensures nodes { result.nodes.now ≡ nodes.now }
-        ensures links { result.links.now ≡ links.now }
+        ensures nodes { nodes_of result ≡ nodes.now }
+        ensures links { links_of result ≡ links.now }
     {
         OverlayGraph { nodes, links }
     }
 
     /// The nodes.
     pub fn nodes(&self) -> &'a [OverlayNode]
-        ensures { result.now ≡ self.now.nodes.now }
+        ensures { result.now ≡ nodes_of self.now }
     {
         self.nodes
     }
 
     /// The links.
     pub fn links(&self) -> &'a [OverlayLink<I, D>]
-        ensures { result.now ≡ self.now.links.now }
+        ensures { result.now ≡ links_of self.now }
     {
         self.links
     }
 
     /// Whether no `Cross` has fewer than two links and, where there is a `Cross`, there are no more nodes than links.
     pub fn validate(&self) -> bool
-        ensures { result ≡ is_valid_graph (graph_with I.whole self.now.links.now) }
+        ensures { result ≡ is_valid_graph (graph_with I.whole (links_of self.now)) }
     {
         let enough = self.nodes.len() <= self.links.len();
         for node in self.nodes {
@@ -64,7 +65,7 @@ impl<'a, I: OverlayInt, D: Copy> OverlayGraph<'a, I, D> {
 
     /// Whether evenly many links meet at each node.
     pub fn has_even_nodes(&self) -> bool
-        ensures { result ≡ has_even_nodes (graph_with I.whole self.now.links.now) }
+        ensures { result ≡ has_even_nodes (graph_with I.whole (links_of self.now)) }
     {
         are_even(self.nodes)
     }

@@ -1,5 +1,5 @@
 // The laws of fills and graphs. Each function has an empty body, and its contract is proved for all whole numbers.
-ghost use Rattle.overlay_build.specs.Laws.{FillsTellSides, FillsTellLines, ClipGraphsAreExact, NodesAreEven, GraphsAreValid, GraphsAreExact, GraphsEncloseRegions, FilterGivesLinks};
+ghost use Rattle.overlay_build.specs.Laws.{FillsTellSides, FillsTellLines, ClipGraphsAreExact, NodesAreEven, GraphsAreValid, GraphsAreExact, GraphsEncloseRegions, FilterGivesLinks, FilterGivesData};
 
 pub use overlay_sweep::build::laws::winding_laws;
 
@@ -19,6 +19,12 @@ pub fn graph_laws()
     ensures exact { GraphsAreExact }
     ensures region { GraphsEncloseRegions }
     ensures filter { FilterGivesLinks }
+{}
+
+/// Whatever data segments carry: the data of the links that a test keeps of the graph of all segments is that of the links of
+/// the test's own graph, in the same order.
+pub fn link_data_laws<D>()
+    ensures { FilterGivesData D }
 {}
 
 /// Of polygons and lines: a clip rule keeps a fill where a line runs along the segment and the rule keeps what has the

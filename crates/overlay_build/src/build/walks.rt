@@ -4,6 +4,7 @@ ghost use Rattle.overlay_base.specs.declared.segm.fault.Fault.TheVariants.{Memor
 ghost use Rattle.overlay_build.specs.Graph.{Link, has_even_nodes};
 ghost use Rattle.overlay_build.specs.GraphOf.{graph_with, link_of};
 ghost use Rattle.overlay_build.specs.NodeIndexes.{indexes_of};
+ghost use Rattle.overlay_build.specs.OverlayGraphOf.{nodes_of, links_of};
 ghost use Rattle.overlay_build.specs.UnusedLinks.{meets, unused_degree, AreUnusedEven, AreCounted, ArePassed};
 ghost use Rattle.overlay_build.specs.Walks.{IsClosedWalk, AreClosedWalks};
 
@@ -22,8 +23,9 @@ pub fn closed_walks<I: OverlayInt, D: Copy>(
     alloc: Global,
     graph: &OverlayGraph<'_, I, D>,
 ) -> Result<Vec<Vec<usize>>, Fault>
-    requires even { IsTrue (has_even_nodes (graph_with I.whole graph.now.links.now)) }
-    ensures walks { IfOk result (λ walks. AreClosedWalks (map (link_of I.whole) graph.now.links.now) (map (λ w. w.items) walks.items)) }
+    requires even { IsTrue (has_even_nodes (graph_with I.whole (links_of graph.now))) }
+    ensures walks { IfOk result (λ walks.
+        AreClosedWalks (map (link_of I.whole) (links_of graph.now)) (map (λ w. w.items) walks.items)) }
     ensures fault { IfErr result (λ fault. fault ≡ Memory) }
 {
     let count = graph.links().len();
@@ -47,17 +49,17 @@ fn walk_from<I: OverlayInt, D: Copy>(
     cursors: &mut [usize],
     first: usize,
 ) -> Result<Vec<usize>, Fault>
-    requires first { first < length graph.now.links.now }
+    requires first { first < length (links_of graph.now) }
     requires unused { slice_index_or used.old first false ≡ false }
-    requires flags { length used.old ≡ length graph.now.links.now }
-    requires passed { ArePassed (map indexes_of graph.now.nodes.now) used.old cursors.old }
-    requires even { AreUnusedEven (map (link_of I.whole) graph.now.links.now) used.old }
-    ensures closed { IfOk result (λ walk. IsClosedWalk (map (link_of I.whole) graph.now.links.now) walk.items) }
+    requires flags { length used.old ≡ length (links_of graph.now) }
+    requires passed { ArePassed (map indexes_of (nodes_of graph.now)) used.old cursors.old }
+    requires even { AreUnusedEven (map (link_of I.whole) (links_of graph.now)) used.old }
+    ensures closed { IfOk result (λ walk. IsClosedWalk (map (link_of I.whole) (links_of graph.now)) walk.items) }
     ensures counted { IfOk result (λ walk. (walked : List ℕ) → AreCounted used.old walked → AreCounted used.new (walked ++ walk.items)) }
     ensures kept { OnOk result ((i : ℕ) → slice_index_or used.old i false ≡ true → slice_index_or used.new i false ≡ true) }
     ensures begun { OnOk result (slice_index_or used.new first false ≡ true) }
-    ensures passed { OnOk result (ArePassed (map indexes_of graph.now.nodes.now) used.new cursors.new) }
-    ensures even { OnOk result (AreUnusedEven (map (link_of I.whole) graph.now.links.now) used.new) }
+    ensures passed { OnOk result (ArePassed (map indexes_of (nodes_of graph.now)) used.new cursors.new) }
+    ensures even { OnOk result (AreUnusedEven (map (link_of I.whole) (links_of graph.now)) used.new) }
     ensures fault { IfErr result (λ fault. fault ≡ Memory) }
 {
     let links = graph.links();
@@ -82,15 +84,15 @@ fn take_link<I: OverlayInt, D: Copy>(
     cursors: &mut [usize],
     node: usize,
 ) -> usize
-    requires node { node < length graph.now.nodes.now }
-    requires flags { length used.old ≡ length graph.now.links.now }
-    requires passed { ArePassed (map indexes_of graph.now.nodes.now) used.old cursors.old }
-    requires left { 0 < unused_degree used.old (map (link_of I.whole) graph.now.links.now) node }
-    ensures link { result < length graph.now.links.now }
+    requires node { node < length (nodes_of graph.now) }
+    requires flags { length used.old ≡ length (links_of graph.now) }
+    requires passed { ArePassed (map indexes_of (nodes_of graph.now)) used.old cursors.old }
+    requires left { 0 < unused_degree used.old (map (link_of I.whole) (links_of graph.now)) node }
+    ensures link { result < length (links_of graph.now) }
     ensures unused { slice_index_or used.old result false ≡ false }
     ensures used { used.new ≡ slice_set used.old result true }
-    ensures meets { (d : Link) → IsTrue (meets (slice_index_or (map (link_of I.whole) graph.now.links.now) result d) node) }
-    ensures passed { ArePassed (map indexes_of graph.now.nodes.now) used.new cursors.new }
+    ensures meets { (d : Link) → IsTrue (meets (slice_index_or (map (link_of I.whole) (links_of graph.now)) result d) node) }
+    ensures passed { ArePassed (map indexes_of (nodes_of graph.now)) used.new cursors.new }
 {
     let indexes = graph.nodes()[node].indices();
     let place = next_unused(indexes, used, cursors[node]);

@@ -33,8 +33,10 @@ pub trait LiveSegments<C: WindingCount, I: OverlayInt> {
         requires start { I.whole segment.a.x ≡ I.whole x }
         requires wide { I.whole x <ℤ I.whole segment.b.x }
         requires time { may_go_on_at self.old (I.whole x) }
-        requires free { AreFreeAt (I.whole x) (record { pair = v_pair_of I.whole segment; count = C.winding sum } ∷ sums self.old) }
-        ensures sums { OnOk result (HoldSameFrom (I.whole x) (sums self.new) (record { pair = v_pair_of I.whole segment; count = C.winding sum } ∷ sums self.old)) }
+        requires free { AreFreeAt (I.whole x)
+            (record { pair = v_pair_of I.whole segment; count = C.winding sum } ∷ sums self.old) }
+        ensures sums { OnOk result (HoldSameFrom (I.whole x) (sums self.new)
+            (record { pair = v_pair_of I.whole segment; count = C.winding sum } ∷ sums self.old)) }
         ensures time { OnOk result ((y : ℤ) → I.whole x ≤ℤ y → may_go_on_at self.new y) }
         ensures fault { IfErr result (λ fault. fault ≡ Fault.Memory) }
         ensures emptied { OnErr result (sums self.new ≡ []) }

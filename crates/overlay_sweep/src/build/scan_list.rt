@@ -39,11 +39,12 @@ pub struct ScanList<C: WindingCount, I: OverlayInt> {
 
 impl<C: WindingCount, I: OverlayInt> ScanList<C, I> {
     ghost use Rattle.std.specs.Prelude.{◌≡◌, [], filter, int_lt};
+    ghost use Rattle.overlay_sweep.specs.LiveOf.{list_entries, list_asked};
 
     /// An empty list, which takes no memory yet.
     pub fn new(alloc: Global) -> ScanList<C, I>
-        ensures entries { result.entries.items ≡ [] }
-        ensures compared { result.compared ≡ 0 }
+        ensures entries { list_entries result ≡ [] }
+        ensures compared { list_asked result ≡ 0 }
     {
         ScanList {
             entries: Vec::new(alloc),
@@ -66,26 +67,28 @@ impl<C: WindingCount, I: OverlayInt> LiveSegments<C, I> for ScanList<C, I> {
     ghost use Rattle.overlay_base.specs.InRange.{IsPointInRange};
     ghost use Rattle.overlay_sweep.specs.Sweep.{sum_below};
     ghost use Rattle.overlay_sweep.specs.Live.{HoldSameFrom, AreFreeAt};
-    ghost use Rattle.overlay_sweep.specs.EntryOf.{entries_of};
+    ghost use Rattle.overlay_sweep.specs.LiveOf.{list_entries, list_sums, list_asked};
 
-    ghost sums = { λ list. entries_of list.entries.items };
+    ghost sums = { λ list. list_sums list };
 
-    ghost asked = { λ list. list.compared };
+    ghost asked = { λ list. list_asked list };
 
-    ghost may_go_on_at = { λ list x. All (λ s. s.pair.a.x ≤ℤ x) (entries_of list.entries.items) };
+    ghost may_go_on_at = { λ list x. All (λ s. s.pair.a.x ≤ℤ x) (list_sums list) };
 
     fn insert(&mut self, segment: VSegment<I>, sum: C, x: I) -> Result<(), Fault>
         requires in_range { IsVSegmentInRange I.whole I.MIN_COORD I.MAX_COORD segment }
         requires start { I.whole segment.a.x ≡ I.whole x }
         requires wide { I.whole x <ℤ I.whole segment.b.x }
-        requires time { All (λ s. s.pair.a.x ≤ℤ I.whole x) (entries_of self.old.entries.items) }
-        requires free { AreFreeAt (I.whole x) (record { pair = v_pair_of I.whole segment; count = C.winding sum } ∷ entries_of self.old.entries.items) }
-        ensures sums { OnOk result (HoldSameFrom (I.whole x) (entries_of self.new.entries.items) (record { pair = v_pair_of I.whole segment; count = C.winding sum } ∷ entries_of self.old.entries.items)) }
-        ensures time { OnOk result ((y : ℤ) → I.whole x ≤ℤ y → All (λ s. s.pair.a.x ≤ℤ y) (entries_of self.new.entries.items)) }
+        requires time { All (λ s. s.pair.a.x ≤ℤ I.whole x) (list_sums self.old) }
+        requires free { AreFreeAt (I.whole x)
+            (record { pair = v_pair_of I.whole segment; count = C.winding sum } ∷ list_sums self.old) }
+        ensures sums { OnOk result (HoldSameFrom (I.whole x) (list_sums self.new)
+            (record { pair = v_pair_of I.whole segment; count = C.winding sum } ∷ list_sums self.old)) }
+        ensures time { OnOk result ((y : ℤ) → I.whole x ≤ℤ y → All (λ s. s.pair.a.x ≤ℤ y) (list_sums self.new)) }
         ensures fault { IfErr result (λ fault. fault ≡ Fault.Memory) }
-        ensures emptied { OnErr result (entries_of self.new.entries.items ≡ []) }
-        ensures none_asked { OnErr result (self.new.compared ≡ 0) }
-        ensures none_compared { self.new.compared ≡ 0 }
+        ensures emptied { OnErr result (list_sums self.new ≡ []) }
+        ensures none_asked { OnErr result (list_asked self.new ≡ 0) }
+        ensures none_compared { list_asked self.new ≡ 0 }
     {
         let _ = x;
         self.compared = 0;
@@ -100,12 +103,13 @@ impl<C: WindingCount, I: OverlayInt> LiveSegments<C, I> for ScanList<C, I> {
     fn sum_below(&mut self, x: I, p: IntPoint<I>, default: C) -> C
         requires point { IsPointInRange I.whole I.MIN_COORD I.MAX_COORD p }
         requires same_x { I.whole p.x ≡ I.whole x }
-        requires time { All (λ s. s.pair.a.x ≤ℤ I.whole x) (entries_of self.old.entries.items) }
-        requires free { AreFreeAt (I.whole x) (entries_of self.old.entries.items) }
-        ensures sum { C.winding result ≡ sum_below (entries_of self.old.entries.items) (point_of I.whole p) (C.winding default) }
-        ensures sums { HoldSameFrom (I.whole x) (entries_of self.new.entries.items) (entries_of self.old.entries.items) }
-        ensures time { (y : ℤ) → I.whole x ≤ℤ y → All (λ s. s.pair.a.x ≤ℤ y) (entries_of self.new.entries.items) }
-        ensures compared { self.new.compared ≡ length self.new.entries.items + (count_by (λ s. int_lt (pos 0) (turn s.pair.a s.pair.b (point_of I.whole p))) (entries_of self.new.entries.items) - 1) }
+        requires time { All (λ s. s.pair.a.x ≤ℤ I.whole x) (list_sums self.old) }
+        requires free { AreFreeAt (I.whole x) (list_sums self.old) }
+        ensures sum { C.winding result ≡ sum_below (list_sums self.old) (point_of I.whole p) (C.winding default) }
+        ensures sums { HoldSameFrom (I.whole x) (list_sums self.new) (list_sums self.old) }
+        ensures time { (y : ℤ) → I.whole x ≤ℤ y → All (λ s. s.pair.a.x ≤ℤ y) (list_sums self.new) }
+        ensures compared { list_asked self.new ≡ length (list_entries self.new)
+            + (count_by (λ s. int_lt (pos 0) (turn s.pair.a s.pair.b (point_of I.whole p))) (list_sums self.new) - 1) }
     {
         self.drop_ended(x);
         let place = Place::Point(p);

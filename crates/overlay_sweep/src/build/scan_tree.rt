@@ -52,14 +52,15 @@ impl<C: WindingCount, I: OverlayInt> ScanTree<C, I> {
     ghost use Rattle.std.specs.Prelude.{ℤ, ◌-◌, ◌^◌, ◌<◌, min, [], ◌∷◌, ◌++◌, true, false, length, IfOk, OnOk, IfErr};
     ghost use Rattle.overlay_sweep.specs.EntryOf.{entries_of};
     ghost use Rattle.overlay_sweep.specs.TreeShapes.{MayGoDown, IsStopped, IsPlaced};
-    ghost use Rattle.overlay_sweep.specs.ScanTrees.{segment_at, lasts_past, IsScanTree, IsGrowing, IsGrown, IsAskedWithin};
+    ghost use Rattle.overlay_sweep.specs.ScanTrees.{segment_at, lasts_past, IsGrowing, IsGrown, IsAskedWithin};
+    ghost use Rattle.overlay_sweep.specs.LiveOf.{tree_entries, kept_in, IsSoundAt, tree_asked};
 
     /// An empty tree, which takes no memory yet.
     pub fn new(alloc: Global) -> ScanTree<C, I>
-        ensures entries { result.entries.items ≡ [] }
-        ensures time { (x : ℤ) → IsScanTree x (entries_of result.entries.items) result.shape.nodes.items result.root result.kept }
-        ensures kept { result.kept ≡ 0 }
-        ensures compared { result.compared ≡ 0 }
+        ensures entries { tree_entries result ≡ [] }
+        ensures time { (x : ℤ) → IsSoundAt x result }
+        ensures kept { kept_in result ≡ 0 }
+        ensures compared { tree_asked result ≡ 0 }
     {
         ScanTree {
             entries: Vec::new(alloc),
@@ -154,8 +155,8 @@ impl<C: WindingCount, I: OverlayInt> ScanTree<C, I> {
 
     /// How many entries the longest way down has.
     pub fn depth(&self) -> usize
-        ensures longest { (x : ℤ) (t : IsScanTree x (entries_of self.now.entries.items) self.now.shape.nodes.items self.now.root self.now.kept) → result ≡ t.high }
-        ensures low { (x : ℤ) → IsScanTree x (entries_of self.now.entries.items) self.now.shape.nodes.items self.now.root self.now.kept → 2 ^ (result / 2) ≤ self.now.kept + 1 }
+        ensures longest { (x : ℤ) (t : IsSoundAt x self.now) → result ≡ t.high }
+        ensures low { (x : ℤ) → IsSoundAt x self.now → 2 ^ (result / 2) ≤ kept_in self.now + 1 }
     {
         self.shape.height(self.root)
     }
@@ -168,30 +169,33 @@ impl<C: WindingCount, I: OverlayInt> LiveSegments<C, I> for ScanTree<C, I> {
     ghost use Rattle.overlay_base.specs.VSegmentOf.{IsVSegmentInRange};
     ghost use Rattle.overlay_sweep.specs.Sweep.{sum_below};
     ghost use Rattle.overlay_sweep.specs.Live.{HoldSameFrom, AreFreeAt};
-    ghost use Rattle.overlay_sweep.specs.EntryOf.{entries_of};
-    ghost use Rattle.overlay_sweep.specs.ScanTrees.{IsScanTree, IsAskedWithin};
+    ghost use Rattle.overlay_sweep.specs.ScanTrees.{IsAskedWithin};
+    ghost use Rattle.overlay_sweep.specs.LiveOf.{tree_sums, kept_in, IsSoundAt, height_of, tree_asked};
 
-    ghost sums = { λ tree. entries_of tree.entries.items };
+    ghost sums = { λ tree. tree_sums tree };
 
-    ghost asked = { λ tree. tree.compared };
+    ghost asked = { λ tree. tree_asked tree };
 
-    ghost may_go_on_at = { λ tree x. IsScanTree x (entries_of tree.entries.items) tree.shape.nodes.items tree.root tree.kept };
+    ghost may_go_on_at = { λ tree x. IsSoundAt x tree };
 
     fn insert(&mut self, segment: VSegment<I>, sum: C, x: I) -> Result<(), Fault>
         requires in_range { IsVSegmentInRange I.whole I.MIN_COORD I.MAX_COORD segment }
         requires start { I.whole segment.a.x ≡ I.whole x }
         requires wide { I.whole x <ℤ I.whole segment.b.x }
-        requires time { IsScanTree (I.whole x) (entries_of self.old.entries.items) self.old.shape.nodes.items self.old.root self.old.kept }
-        requires free { AreFreeAt (I.whole x) (record { pair = v_pair_of I.whole segment; count = C.winding sum } ∷ entries_of self.old.entries.items) }
-        ensures sums { OnOk result (HoldSameFrom (I.whole x) (entries_of self.new.entries.items) (record { pair = v_pair_of I.whole segment; count = C.winding sum } ∷ entries_of self.old.entries.items)) }
-        ensures time { OnOk result ((y : ℤ) → I.whole x ≤ℤ y → IsScanTree y (entries_of self.new.entries.items) self.new.shape.nodes.items self.new.root self.new.kept) }
+        requires time { IsSoundAt (I.whole x) self.old }
+        requires free { AreFreeAt (I.whole x)
+            (record { pair = v_pair_of I.whole segment; count = C.winding sum } ∷ tree_sums self.old) }
+        ensures sums { OnOk result (HoldSameFrom (I.whole x) (tree_sums self.new)
+            (record { pair = v_pair_of I.whole segment; count = C.winding sum } ∷ tree_sums self.old)) }
+        ensures time { OnOk result ((y : ℤ) → I.whole x ≤ℤ y → IsSoundAt y self.new) }
         ensures fault { IfErr result (λ fault. fault ≡ Fault.Memory) }
-        ensures emptied { OnErr result (entries_of self.new.entries.items ≡ []) }
-        ensures none_asked { OnErr result (self.new.compared ≡ 0) }
-        ensures cleared { OnErr result ((y : ℤ) → IsScanTree y (entries_of self.new.entries.items) self.new.shape.nodes.items self.new.root self.new.kept) }
-        ensures kept { OnOk result (self.new.kept ≤ suc self.old.kept) }
-        ensures compared { OnOk result (IsAskedWithin self.old.kept (suc self.old.kept - self.new.kept) self.new.compared) }
-        ensures reached { OnOk result (height_at self.new.shape.nodes.items self.new.root / 2 ≤ self.new.compared + 1) }
+        ensures emptied { OnErr result (tree_sums self.new ≡ []) }
+        ensures none_asked { OnErr result (tree_asked self.new ≡ 0) }
+        ensures cleared { OnErr result ((y : ℤ) → IsSoundAt y self.new) }
+        ensures kept { OnOk result (kept_in self.new ≤ suc (kept_in self.old)) }
+        ensures compared { OnOk result
+            (IsAskedWithin (kept_in self.old) (suc (kept_in self.old) - kept_in self.new) (tree_asked self.new)) }
+        ensures reached { OnOk result (height_of self.new / 2 ≤ tree_asked self.new + 1) }
     {
         match self.push(Entry { segment, sum }) {
             Ok(new) => {
@@ -209,14 +213,14 @@ impl<C: WindingCount, I: OverlayInt> LiveSegments<C, I> for ScanTree<C, I> {
     fn sum_below(&mut self, x: I, p: IntPoint<I>, default: C) -> C
         requires point { IsPointInRange I.whole I.MIN_COORD I.MAX_COORD p }
         requires same_x { I.whole p.x ≡ I.whole x }
-        requires time { IsScanTree (I.whole x) (entries_of self.old.entries.items) self.old.shape.nodes.items self.old.root self.old.kept }
-        requires free { AreFreeAt (I.whole x) (entries_of self.old.entries.items) }
-        ensures sum { C.winding result ≡ sum_below (entries_of self.old.entries.items) (point_of I.whole p) (C.winding default) }
-        ensures sums { HoldSameFrom (I.whole x) (entries_of self.new.entries.items) (entries_of self.old.entries.items) }
-        ensures time { (y : ℤ) → I.whole x ≤ℤ y → IsScanTree y (entries_of self.new.entries.items) self.new.shape.nodes.items self.new.root self.new.kept }
-        ensures kept { self.new.kept ≤ self.old.kept }
-        ensures compared { IsAskedWithin self.old.kept (self.old.kept - self.new.kept) self.new.compared }
-        ensures reached { height_at self.new.shape.nodes.items self.new.root / 2 ≤ self.new.compared + 1 }
+        requires time { IsSoundAt (I.whole x) self.old }
+        requires free { AreFreeAt (I.whole x) (tree_sums self.old) }
+        ensures sum { C.winding result ≡ sum_below (tree_sums self.old) (point_of I.whole p) (C.winding default) }
+        ensures sums { HoldSameFrom (I.whole x) (tree_sums self.new) (tree_sums self.old) }
+        ensures time { (y : ℤ) → I.whole x ≤ℤ y → IsSoundAt y self.new }
+        ensures kept { kept_in self.new ≤ kept_in self.old }
+        ensures compared { IsAskedWithin (kept_in self.old) (kept_in self.old - kept_in self.new) (tree_asked self.new) }
+        ensures reached { height_of self.new / 2 ≤ tree_asked self.new + 1 }
     {
         let last = self.settle(x, &Place::Point(p), NONE);
         if last == NONE {
@@ -227,10 +231,10 @@ impl<C: WindingCount, I: OverlayInt> LiveSegments<C, I> for ScanTree<C, I> {
     }
 
     fn clear(&mut self)
-        ensures sums { entries_of self.new.entries.items ≡ [] }
-        ensures time { (y : ℤ) → IsScanTree y (entries_of self.new.entries.items) self.new.shape.nodes.items self.new.root self.new.kept }
-        ensures kept { self.new.kept ≡ 0 }
-        ensures asked { self.new.compared ≡ 0 }
+        ensures sums { tree_sums self.new ≡ [] }
+        ensures time { (y : ℤ) → IsSoundAt y self.new }
+        ensures kept { kept_in self.new ≡ 0 }
+        ensures asked { tree_asked self.new ≡ 0 }
     {
         self.entries.clear();
         self.shape.clear();

@@ -1,10 +1,11 @@
 // Sweeps over arrangements, with the buffers that they share. Upstream: `build::sweep`.
 ghost use Rattle.std.specs.Prelude.{◌≡◌, ℕ, ◌<◌, IsTrue, IsFalse, IfOk, OnOk, OnErr, IfErr, length};
-ghost use Rattle.overlay_base.specs.Planar.{is_arranged};
+ghost use Rattle.overlay_base.specs.ArrangedOf.{IsArranged};
 ghost use Rattle.overlay_base.specs.Balance.{IsBalanced};
 ghost use Rattle.overlay_base.specs.SegmentOf.{segments_of, data_segments_of};
 ghost use Rattle.overlay_sweep.specs.Sweep.{visits, handled, visited, visits_leave_range};
 ghost use Rattle.overlay_sweep.specs.Laws.{HaveColumnWindings};
+ghost use Rattle.overlay_sweep.specs.LiveOf.{run_asked};
 
 use crate::build::fill_handler::FillHandler;
 use crate::build::fill_strategy::{
@@ -34,7 +35,7 @@ pub struct SweepRunner<C: WindingCount, I: OverlayInt> {
 impl<C: WindingCount, I: OverlayInt> SweepRunner<C, I> {
     /// A runner, which takes no memory yet.
     pub fn new(alloc: Global) -> SweepRunner<C, I>
-        ensures { result.compared ≡ 0 }
+        ensures { run_asked result ≡ 0 }
     {
         SweepRunner {
             list: ScanList::new(alloc),
@@ -63,13 +64,17 @@ impl<C: WindingCount, I: OverlayInt> SweepRunner<C, I> {
         segments: &[Segment<C, I, D>],
         handler: H,
     ) -> Result<H::Output, Fault>
-        requires arranged { IsTrue (is_arranged (I.whole I.MIN_COORD) (I.whole I.MAX_COORD) (segments_of segments.now)) }
+        requires arranged { IsArranged segments.now }
         requires takes { (index : ℕ) → index < length segments.now → H.takes handler index }
-        ensures answer { IfOk result (λ answer. answer ≡ handled H.handle_gives H.finalize_gives handler (visits F.rule (data_segments_of segments.now))) }
-        ensures in_range { OnOk result (IsFalse (visits_leave_range (segments_of segments.now) (visited H.handle_gives handler (visits F.rule (data_segments_of segments.now))))) }
-        ensures out_of_range { IfErr result (λ fault. fault ≡ Fault.CountOutOfRange → IsTrue (visits_leave_range (segments_of segments.now) (visited H.handle_gives handler (visits F.rule (data_segments_of segments.now))))) }
+        ensures answer { IfOk result (λ answer.
+            answer ≡ handled H.handle_gives H.finalize_gives handler (visits F.rule (data_segments_of segments.now))) }
+        ensures in_range { OnOk result (IsFalse (visits_leave_range (segments_of segments.now)
+            (visited H.handle_gives handler (visits F.rule (data_segments_of segments.now))))) }
+        ensures out_of_range { IfErr result (λ fault. fault ≡ Fault.CountOutOfRange →
+            IsTrue (visits_leave_range (segments_of segments.now)
+            (visited H.handle_gives handler (visits F.rule (data_segments_of segments.now))))) }
         ensures windings { IsBalanced (segments_of segments.now) → HaveColumnWindings (segments_of segments.now) }
-        ensures refused { OnErr result (self.new.compared ≡ self.old.compared) }
+        ensures refused { OnErr result (run_asked self.new ≡ run_asked self.old) }
     {
         let node = &mut self.node;
         let mut compared = 0;
@@ -98,7 +103,7 @@ impl<C: WindingCount, I: OverlayInt> SweepRunner<C, I> {
 
     /// How many orders of live segments the last run that succeeded has asked: 0 at first, and `u128::MAX` at most.
     pub fn compared(&self) -> u128
-        ensures { result ≡ self.now.compared }
+        ensures { result ≡ run_asked self.now }
     {
         self.compared
     }
@@ -113,13 +118,17 @@ impl<C: FillCount, I: OverlayInt> SweepRunner<C, I> {
         segments: &[Segment<C, I, D>],
         handler: H,
     ) -> Result<H::Output, Fault>
-        requires arranged { IsTrue (is_arranged (I.whole I.MIN_COORD) (I.whole I.MAX_COORD) (segments_of segments.now)) }
+        requires arranged { IsArranged segments.now }
         requires takes { (index : ℕ) → index < length segments.now → H.takes handler index }
-        ensures answer { IfOk result (λ answer. answer ≡ handled H.handle_gives H.finalize_gives handler (visits fill_rule (data_segments_of segments.now))) }
-        ensures in_range { OnOk result (IsFalse (visits_leave_range (segments_of segments.now) (visited H.handle_gives handler (visits fill_rule (data_segments_of segments.now))))) }
-        ensures out_of_range { IfErr result (λ fault. fault ≡ Fault.CountOutOfRange → IsTrue (visits_leave_range (segments_of segments.now) (visited H.handle_gives handler (visits fill_rule (data_segments_of segments.now))))) }
+        ensures answer { IfOk result (λ answer.
+            answer ≡ handled H.handle_gives H.finalize_gives handler (visits fill_rule (data_segments_of segments.now))) }
+        ensures in_range { OnOk result (IsFalse (visits_leave_range (segments_of segments.now)
+            (visited H.handle_gives handler (visits fill_rule (data_segments_of segments.now))))) }
+        ensures out_of_range { IfErr result (λ fault. fault ≡ Fault.CountOutOfRange →
+            IsTrue (visits_leave_range (segments_of segments.now)
+            (visited H.handle_gives handler (visits fill_rule (data_segments_of segments.now))))) }
         ensures windings { IsBalanced (segments_of segments.now) → HaveColumnWindings (segments_of segments.now) }
-        ensures refused { OnErr result (self.new.compared ≡ self.old.compared) }
+        ensures refused { OnErr result (run_asked self.new ≡ run_asked self.old) }
     {
         match fill_rule {
             FillRule::EvenOdd => self.run::<D, EvenOddStrategy, H>(solver, segments, handler),

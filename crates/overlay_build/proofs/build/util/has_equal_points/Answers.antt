@@ -1,5 +1,4 @@
 use Rattle.std.proofs.Common.{◌∙◌, sym, ap, map}
-use Rattle.std.specs.List.{list_any}
 use Rattle.std.proofs.lemmas.List.{nil_from_length}
 use Rattle.overlay_base.specs.Points.{point_eq}
 use Rattle.overlay_base.specs.PointOf.{point_of}

@@ -1,14 +1,14 @@
-// The worked vectors of the engine's calls: what goes in, and what has to come out.
+// Worked joins: a list is sorted and merged, and what has to come out. The hooks that are called.
 
-use overlay_base::geom::point::IntPoint;
-use overlay_base::num::OverlayInt;
-use overlay_base::overlay_core::edge_data::{EdgeDataMerge, EdgeDataSplit, OverlayEdgeData};
-use overlay_base::segm::boolean::ShapeCountBoolean;
-use overlay_base::segm::fault::Fault;
-use overlay_base::segm::merge::merge_if_needed_with_store;
-use overlay_base::segm::segment::Segment;
-use overlay_base::segm::sort::sort_by_ab;
-use overlay_base::segm::winding::WindingCount;
+use crate::geom::point::IntPoint;
+use crate::num::OverlayInt;
+use crate::overlay_core::edge_data::{EdgeDataMerge, EdgeDataSplit, OverlayEdgeData};
+use crate::segm::boolean::ShapeCountBoolean;
+use crate::segm::fault::Fault;
+use crate::segm::merge::merge_if_needed_with_store;
+use crate::segm::segment::Segment;
+use crate::segm::sort::sort_by_ab;
+use crate::segm::winding::WindingCount;
 use std::process::Abort;
 use std::test::Fail;
 
@@ -211,14 +211,5 @@ fn hooks(rt: HostRuntime) -> Result<(), Fail> {
     assert_eq!(rt; merged.lhs_count, ShapeCountBoolean { subj: 0, clip: 1 });
     assert_eq!(rt; merged.rhs_count, ShapeCountBoolean { subj: 1, clip: 0 });
     assert_eq!(rt; merged.out_count, ShapeCountBoolean { subj: 1, clip: 1 });
-    Ok(())
-}
-
-#[test]
-fn fault_texts(rt: HostRuntime) -> Result<(), Fail> {
-    let memory = format!(in rt.alloc(); "{}", Fault::Memory)?;
-    let count = format!(in rt.alloc(); "{}", Fault::CountOutOfRange)?;
-    assert_eq!(rt; memory.as_str(), "out of memory");
-    assert_eq!(rt; count.as_str(), "count out of range");
     Ok(())
 }

@@ -1,0 +1,44 @@
+-- What a list, a tree and a runner keep, as the clauses of their calls name it.
+use Rattle.std.specs.Prelude.{ℕ, ℤ, List}
+use Rattle.overlay_base.specs.Segments.{WholeSegment}
+use Rattle.overlay_sweep.specs.EntryOf.{entries_of}
+use Rattle.overlay_sweep.specs.TreeShapes.{height_at}
+use Rattle.overlay_sweep.specs.ScanTrees.{IsScanTree}
+use Rattle.overlay_sweep.specs.declared.build.entry.Entry.{Entry}
+use Rattle.overlay_sweep.specs.declared.build.scan_list.ScanList.{ScanList}
+use Rattle.overlay_sweep.specs.declared.build.scan_tree.ScanTree.{ScanTree}
+use Rattle.overlay_sweep.specs.declared.build.sweep.SweepRunner.{SweepRunner}
+
+-- the entries of a list, and their segments with the sums as counts
+abbrev pub list_entries : {C I : Type 0} {m : _} {w : _} {o : _} {e : _} {p : _} → ScanList C I m w o e p → List (Entry C I m w o e p)
+list_entries list = list.entries.items
+
+abbrev pub list_sums : {C I : Type 0} {m : _} {w : _} {o : _} {e : _} {p : _} → ScanList C I m w o e p → List WholeSegment
+list_sums list = entries_of (list_entries list)
+
+-- the entries of a tree since it was cleared, those that were taken out too; their segments with the sums as counts; and how many of them are in the tree
+abbrev pub tree_entries : {C I : Type 0} {m : _} {w : _} {o : _} {e : _} {p : _} → ScanTree C I m w o e p → List (Entry C I m w o e p)
+tree_entries tree = tree.entries.items
+
+abbrev pub tree_sums : {C I : Type 0} {m : _} {w : _} {o : _} {e : _} {p : _} → ScanTree C I m w o e p → List WholeSegment
+tree_sums tree = entries_of (tree_entries tree)
+
+abbrev pub kept_in : {C I : Type 0} {m : _} {w : _} {o : _} {e : _} {p : _} → ScanTree C I m w o e p → ℕ
+kept_in tree = tree.kept
+
+-- the tree is sound at x, and how high it stands
+abbrev pub IsSoundAt : {C I : Type 0} {m : _} {w : _} {o : _} {e : _} {p : _} → ℤ → ScanTree C I m w o e p → Type 0
+IsSoundAt x tree = IsScanTree x (tree_sums tree) tree.shape.nodes.items tree.root tree.kept
+
+abbrev pub height_of : {C I : Type 0} {m : _} {w : _} {o : _} {e : _} {p : _} → ScanTree C I m w o e p → ℕ
+height_of tree = height_at tree.shape.nodes.items tree.root
+
+-- how many orders the last call has asked, and the last run that succeeded
+abbrev pub list_asked : {C I : Type 0} {m : _} {w : _} {o : _} {e : _} {p : _} → ScanList C I m w o e p → ℕ
+list_asked list = list.compared
+
+abbrev pub tree_asked : {C I : Type 0} {m : _} {w : _} {o : _} {e : _} {p : _} → ScanTree C I m w o e p → ℕ
+tree_asked tree = tree.compared
+
+abbrev pub run_asked : {C I : Type 0} {m : _} {w : _} {o : _} {e : _} {p : _} → SweepRunner C I m w o e p → ℕ
+run_asked runner = runner.compared
