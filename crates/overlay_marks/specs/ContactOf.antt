@@ -8,9 +8,9 @@ use Rattle.overlay_marks.specs.Marks.{Placing}
 use Rattle.overlay_marks.specs.CrossAnswer.{cross_answer}
 use Rattle.overlay_marks.specs.Counts.{count_of}
 use Rattle.overlay_marks.specs.AnswerOf.{result_of}
-use Rattle.overlay_marks.specs.declared.split.contact.Sides.{Sides}
-use Rattle.overlay_marks.specs.declared.split.contact.Contact.{Contact}
-use Rattle.overlay_marks.specs.declared.split.contact.Contact.TheVariants.{Apart, At, Crossing}
+use Rattle.overlay_marks.specs.declared.split.cross.contact.Sides.{Sides}
+use Rattle.overlay_marks.specs.declared.split.cross.contact.Contact.{Contact}
+use Rattle.overlay_marks.specs.declared.split.cross.contact.Contact.TheVariants.{Apart, At, Crossing}
 
 -- the directions of the other's ends from the target, and of the target's ends from the other
 pub record AreSides (target other : Pair) (sides : Sides) : Type 0 where

@@ -3,7 +3,7 @@ use Rattle.std.specs.Prelude.{◌≡◌, ℤ, pos}
 use Rattle.overlay_base.specs.Points.{Point, Pair, sqr_distance}
 use Rattle.overlay_base.specs.PointOf.{point_of}
 use Rattle.overlay_marks.specs.Marks.{nearer_end}
-use Rattle.overlay_marks.specs.declared.split.nearer_end.NearerEnd.{NearerEnd}
+use Rattle.overlay_marks.specs.declared.split.cross.snapped.NearerEnd.{NearerEnd}
 
 pub record IsNearerEnd {I : Type 0} (whole : I → ℤ) (p : Point) (segment : Pair) (near : NearerEnd I) : Type 0 where
   pub point_is : point_of whole near.point ≡ nearer_end p segment
