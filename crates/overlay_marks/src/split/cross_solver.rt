@@ -8,7 +8,7 @@ ghost use Rattle.overlay_base.specs.PairOf.{pair_of};
 ghost use Rattle.overlay_base.specs.InRange.{IsPointInRange, IsPairInRange};
 ghost use Rattle.overlay_marks.specs.Marks.{snapping, settling};
 ghost use Rattle.overlay_marks.specs.CrossAnswer.{cross_answer, ends_mask};
-ghost use Rattle.overlay_marks.specs.Along.{along};
+ghost use Rattle.overlay_marks.specs.steps.Along.{along};
 ghost use Rattle.overlay_marks.specs.AnswerOf.{answer_of};
 ghost use Rattle.overlay_marks.specs.MaskOf.{number_of};
 

@@ -3,7 +3,7 @@
 ghost use Rattle.std.specs.Prelude.{◌≡◌, ◌≢◌, false};
 ghost use Rattle.overlay_base.specs.PairOf.{pair_of};
 ghost use Rattle.overlay_base.specs.InRange.{IsPairInRange};
-ghost use Rattle.overlay_marks.specs.ContactOf.{AreSides, IsContact, zeros_of, are_apart};
+ghost use Rattle.overlay_marks.specs.steps.ContactOf.{AreSides, IsContact, zeros_of, are_apart};
 
 use crate::split::cross::result::{CrossResult, CrossType};
 use overlay_base::geom::point::IntPoint;

@@ -10,7 +10,7 @@ ghost use Rattle.overlay_base.specs.PointOf.{point_of};
 ghost use Rattle.overlay_base.specs.PairOf.{pair_of};
 ghost use Rattle.overlay_base.specs.InRange.{IsPointInRange, IsPairInRange};
 ghost use Rattle.overlay_marks.specs.Crossing.{crossing_n, crossing_d, offset_x, offset_y, is_on_lines, snapping_point, settling_point};
-ghost use Rattle.overlay_marks.specs.OffsetOf.{quotient_of};
+ghost use Rattle.overlay_marks.specs.steps.OffsetOf.{quotient_of};
 
 use crate::split::cross::offset::Offset;
 use overlay_base::geom::point::IntPoint;

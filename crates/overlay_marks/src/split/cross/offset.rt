@@ -5,7 +5,7 @@ ghost use Rattle.std.specs.Prelude.{◌≡◌, ◌≢◌, ◌≤◌, ◌*◌, �
 ghost use Rattle.std.specs.Int.{int_signum, int_div_euclid};
 ghost use Rattle.overlay_base.specs.Coordinates.{greatest_difference, greatest_product};
 ghost use Rattle.overlay_marks.specs.Crossing.{quotient, truncated, nearest, nearest_upward};
-ghost use Rattle.overlay_marks.specs.Numerators.{greatest_numerator};
+ghost use Rattle.overlay_marks.specs.steps.Numerators.{greatest_numerator};
 
 use std::alloc::AllocError;
 
@@ -33,7 +33,7 @@ impl Clone for Offset {
 impl Copy for Offset {}
 
 impl Offset {
-    ghost use Rattle.overlay_marks.specs.OffsetOf.{quotient_of};
+    ghost use Rattle.overlay_marks.specs.steps.OffsetOf.{quotient_of};
 
     /// `length * n / d`.
     pub fn new(length: i64, n: i64, d: i64) -> Self

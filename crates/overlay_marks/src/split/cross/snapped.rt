@@ -9,7 +9,7 @@ ghost use Rattle.overlay_marks.specs.Crossing.{snapping_point, is_on_lines};
 ghost use Rattle.overlay_marks.specs.Marks.{snapping};
 ghost use Rattle.overlay_marks.specs.CrossAnswer.{crossing_answer};
 ghost use Rattle.overlay_marks.specs.AnswerOf.{result_of};
-ghost use Rattle.overlay_marks.specs.NearerEnd.{IsNearerEnd};
+ghost use Rattle.overlay_marks.specs.steps.NearerEnd.{IsNearerEnd};
 
 use crate::split::cross::crossing_point::{is_on_lines, snapping_point};
 use crate::split::cross::result::{CrossResult, CrossType};

@@ -1,6 +1,6 @@
 -- Nodes and look-ups as whole numbers.
 use Rattle.std.specs.Prelude.{ℤ, Option, None, Some, List, map}
-use Rattle.overlay_marks.specs.IntervalTree.{Entry, WholeQuery, TreeNode}
+use Rattle.overlay_marks.specs.steps.IntervalTree.{Entry, WholeQuery, TreeNode}
 use Rattle.overlay_marks.specs.declared.split.interval_tree.Node.{Node}
 use Rattle.overlay_marks.specs.declared.split.interval_tree.Query.{Query}
 

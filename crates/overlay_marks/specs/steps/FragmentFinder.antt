@@ -1,13 +1,13 @@
 -- What a look at every two fragments of a group finds, and at vertical segments on a border and the column to its left.
-use Rattle.std.specs.Prelude.{ℕ, ◌+◌, ℤ, Bool, false, int_lt, ◌≤ℤ◌, ◌&&◌, ◌||◌, ◌↔◌, if◌then◌else◌, List, [], ◌∷◌, ◌++◌, map, filter, flat_map, Contains, count_by, sum_by, length, Option, Some, None, ⊤}
-use Rattle.std.specs.List.{list_any, AllByRecursion}
+use Rattle.std.specs.Prelude.{ℕ, ◌+◌, ℤ, Bool, false, int_lt, ◌&&◌, ◌||◌, ◌↔◌, if◌then◌else◌, List, [], ◌∷◌, ◌++◌, map, filter, flat_map, Contains, count_by, sum_by, length}
+use Rattle.std.specs.List.{list_any}
 use Rattle.std.specs.Ordering.{int_eq}
 use Rattle.overlay_base.specs.Points.{Pair, pair_lt, is_ordered, is_vertical, is_strictly_inside}
 use Rattle.overlay_base.specs.Planar.{is_pair_in_range}
 use Rattle.overlay_base.specs.Ranges.{do_rects_meet}
 use Rattle.overlay_marks.specs.Marks.{Placing, cross_inexactly}
 use Rattle.overlay_marks.specs.MarkOf.{Mark}
-use Rattle.overlay_marks.specs.Finder.{marks_at, marks_between}
+use Rattle.overlay_marks.specs.steps.Finder.{marks_at, marks_between}
 use Rattle.overlay_marks.specs.Grid.{Layout}
 use Rattle.overlay_marks.specs.Looked.{ranges_meet, count_twos}
 use Rattle.overlay_marks.specs.FragmentOf.{KeptFragment, kept_in}
@@ -88,25 +88,10 @@ marks_of_heights x ys group = flat_map (λ f. if stands_at x f then marks_at_hei
 abbrev pub HoldSame : List Mark → List Mark → Type 0
 HoldSame ms ns = (m : Mark) → Contains ms m ↔ Contains ns m
 
--- a segment lies between the ends of a layout
-pub record IsInside (l : Layout) (s : Pair) : Type 0 where
-  pub from : l.min_x ≤ℤ s.a.x
-  pub to : s.b.x ≤ℤ l.max_x
-
--- segments lie inside a layout, if there is one
-abbrev pub LieInside : Option Layout → List Pair → Type 0
-LieInside None segments = ⊤
-LieInside (Some l) segments = AllByRecursion (λ s. IsInside l s) segments
-
 -- the fragments in a column of segments that are counted from an index on
 unfoldable pub kept_group : Layout → ℕ → List Pair → ℕ → List KeptFragment
 kept_group l i [] column = []
 kept_group l i (s ∷ ss) column = kept_in l i s column ++ kept_group l (i + 1) ss column
-
--- each fragment begins at or above those before it
-abbrev pub Rises : List KeptFragment → Type 0
-Rises [] = ⊤
-Rises (f ∷ fs) = AllByRecursion (λ g. f.rect.min_y ≤ℤ g.rect.min_y) fs × Rises fs
 
 -- whether the segment of a fragment is in range and runs from a to b
 abbrev pub is_ready : ℤ → ℤ → KeptFragment → Bool

@@ -5,8 +5,8 @@ use Rattle.std.specs.List.{range_with_len, list_any}
 use Rattle.overlay_base.specs.Points.{Pair}
 use Rattle.overlay_marks.specs.Marks.{Placing, cross_inexactly}
 use Rattle.overlay_marks.specs.MarkOf.{Mark}
-use Rattle.overlay_marks.specs.Finder.{marks_between}
-use Rattle.overlay_marks.specs.IntervalTree.{Entry, TreeNode}
+use Rattle.overlay_marks.specs.steps.Finder.{marks_between}
+use Rattle.overlay_marks.specs.steps.IntervalTree.{Entry, TreeNode}
 
 -- the pair at an index, and past the end one that is a point
 abbrev pub nowhere : Pair
