@@ -10,7 +10,7 @@ use Rattle.overlay_base.specs.Planar.{is_pair_in_range, is_splittable}
 use Rattle.overlay_marks.specs.Marks.{Placing}
 use Rattle.overlay_marks.specs.CrossAnswer.{overlay, CrossAnswer, cross_answer}
 use Rattle.overlay_marks.specs.AnswerOf.{answer_of, result_of}
-use Rattle.overlay_marks.specs.declared.split.cross_solver.CrossResult.{CrossResult}
+use Rattle.overlay_marks.specs.declared.split.cross.result.CrossResult.{CrossResult}
 use Rattle.overlay_marks.proofs.laws.MarkedPairs.{overlay_is_collinear}
 
 -- a list of two

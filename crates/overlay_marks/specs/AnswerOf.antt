@@ -2,9 +2,9 @@
 use Rattle.std.specs.Prelude.{ℤ, Option, Some, None}
 use Rattle.overlay_base.specs.PointOf.{point_of}
 use Rattle.overlay_marks.specs.CrossAnswer.{CrossKind, pure, target_end, other_end, overlay, CrossAnswer}
-use Rattle.overlay_marks.specs.declared.split.cross_solver.CrossType.{CrossType}
-use Rattle.overlay_marks.specs.declared.split.cross_solver.CrossType.TheVariants.{Pure, TargetEnd, OtherEnd, Overlay}
-use Rattle.overlay_marks.specs.declared.split.cross_solver.CrossResult.{CrossResult}
+use Rattle.overlay_marks.specs.declared.split.cross.result.CrossType.{CrossType}
+use Rattle.overlay_marks.specs.declared.split.cross.result.CrossType.TheVariants.{Pure, TargetEnd, OtherEnd, Overlay}
+use Rattle.overlay_marks.specs.declared.split.cross.result.CrossResult.{CrossResult}
 
 abbrev pub kind_of : CrossType → CrossKind
 kind_of Pure = pure

@@ -1,5 +1,6 @@
 -- Layouts, fragments and groups of code as whole numbers.
-use Rattle.std.specs.Prelude.{ℕ, ◌==◌, ℤ, List, map, filter}
+use Rattle.std.specs.Prelude.{ℕ, ◌==◌, ℤ, ◌≤ℤ◌, ⊤, List, [], ◌∷◌, map, filter}
+use Rattle.std.specs.List.{AllByRecursion}
 use Rattle.overlay_base.specs.Points.{Pair}
 use Rattle.overlay_base.specs.Ranges.{Rect}
 use Rattle.overlay_base.specs.PairOf.{pair_of}
@@ -34,3 +35,8 @@ in_column column parts = filter (λ f. f.column == column) parts
 -- the fragments of a segment in one column, as they are kept
 abbrev pub kept_in : Layout → ℕ → Pair → ℕ → List KeptFragment
 kept_in l index s column = kept index s (in_column column (fragments l s))
+
+-- each fragment begins at or above those before it
+abbrev pub Rises : List KeptFragment → Type 0
+Rises [] = ⊤
+Rises (f ∷ fs) = AllByRecursion (λ g. f.rect.min_y ≤ℤ g.rect.min_y) fs × Rises fs

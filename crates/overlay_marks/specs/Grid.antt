@@ -1,7 +1,7 @@
 -- The grid of columns of equal width, and the fragments of segments in it.
-use Rattle.std.specs.Prelude.{◌≡◌, ◌≤◌, ◌<◌, ℕ, ◌+◌, ◌-◌, ◌*◌, ◌/◌, ◌^◌, nat_lt, ℤ, pos, ◌+ℤ◌, ◌-ℤ◌, ◌*ℤ◌, ◌<ℤ◌, int_lt, int_le, unsigned_abs, Bool, ◌&&◌, if◌then◌else◌, List, [], ◌∷◌, map, fold, ⊤}
+use Rattle.std.specs.Prelude.{◌≡◌, ◌≤◌, ◌<◌, ℕ, ◌+◌, ◌-◌, ◌*◌, ◌/◌, ◌^◌, nat_lt, ℤ, pos, ◌+ℤ◌, ◌-ℤ◌, ◌*ℤ◌, ◌<ℤ◌, ◌≤ℤ◌, int_lt, int_le, unsigned_abs, Bool, ◌&&◌, if◌then◌else◌, Option, Some, None, List, [], ◌∷◌, map, fold, ⊤}
 use Rattle.std.specs.Int.{int_min, int_max, div_ceil}
-use Rattle.std.specs.List.{range_with_len}
+use Rattle.std.specs.List.{range_with_len, AllByRecursion}
 use Rattle.overlay_base.specs.Points.{Pair, is_vertical}
 use Rattle.overlay_base.specs.Below.{width, scaled_height}
 use Rattle.overlay_base.specs.Ranges.{Rect}
@@ -102,3 +102,13 @@ encloses s r = holds_height s r r.min_x && holds_height s r r.max_x
 unfoldable pub follow_on : ℤ → List Rect → ℤ → Bool
 follow_on x [] x' = int_eq x x'
 follow_on x (r ∷ rects) x' = int_eq r.min_x x && follow_on r.max_x rects x'
+
+-- a segment lies between the ends of a layout
+pub record IsInside (l : Layout) (s : Pair) : Type 0 where
+  pub from : l.min_x ≤ℤ s.a.x
+  pub to : s.b.x ≤ℤ l.max_x
+
+-- segments lie inside a layout, if there is one
+abbrev pub LieInside : Option Layout → List Pair → Type 0
+LieInside None segments = ⊤
+LieInside (Some l) segments = AllByRecursion (λ s. IsInside l s) segments

@@ -2,24 +2,20 @@ pub mod Crossing
 pub mod Marks
 pub mod PassMarks
 pub mod CrossAnswer
-pub mod Numerators
-pub mod OffsetOf
 pub mod AnswerOf
 pub mod Counts
-pub mod Along
-pub mod ContactOf
 pub mod MaskOf
-pub mod NearerEnd
 pub mod MarkOf
 pub mod PlacingOf
-pub mod Finder
-pub mod IntervalTree
-pub mod NodeOf
 pub mod Looked
-pub mod Swept
 pub mod Grid
 pub mod FragmentOf
 pub mod GroupsOf
-pub mod FragmentFinder
 pub mod GridFor
 pub mod Laws
+-- what private functions tell one another
+pub mod steps
+-- the steps of the tree are cited by these names too
+pub use Rattle.overlay_marks.specs.steps.IntervalTree
+pub use Rattle.overlay_marks.specs.steps.NodeOf
+pub use Rattle.overlay_marks.specs.steps.Swept

@@ -1,9 +1,8 @@
 // Where two segments meet, and the marks of a pass.
 
 mod border_contacts;
-mod contact;
+mod cross;
 pub mod cross_solver;
-mod crossing_point;
 pub mod finder;
 pub mod fragment;
 pub mod fragment_buffer;
@@ -13,11 +12,8 @@ mod interval_tree;
 pub mod laws;
 pub mod line_mark;
 mod looks;
-mod nearer_end;
-mod offset;
 pub mod placing;
 mod rise;
-mod settled;
 pub mod solver_fragment;
 pub mod solver_list;
 pub mod solver_tree;

@@ -4,9 +4,10 @@ pub mod Run
 pub mod RunLooks
 pub mod Potential
 pub mod DataPass
-pub mod DataCutAt
 pub mod SettingsOf
 pub mod ExactInput
 pub mod Nearness
 pub mod Places
 pub mod Laws
+-- what private functions tell one another
+pub mod steps

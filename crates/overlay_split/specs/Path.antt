@@ -60,16 +60,7 @@ pieces_along count (p ∷ q ∷ points) = piece count p q ∷ pieces_along count
 unfoldable pub pieces : WholeSegment → List Point → List WholeSegment
 pieces segment marks = pieces_along segment.count (path segment.pair marks)
 
--- the first of the points, or b where there is none
-abbrev pub first_point : List Point → Point → Point
-first_point [] b = b
-first_point (p ∷ points) b = p
-
 -- each step from p along the points leads to another point
 abbrev pub LeadsOn : Point → List Point → Type 0
 LeadsOn p [] = ⊤
 LeadsOn p (q ∷ points) = (p ≢ q) × LeadsOn q points
-
--- a path from the first end of a pair to the last, given without the first
-abbrev pub IsPathOf : Pair → List Point → Type 0
-IsPathOf pair points = LeadsOn pair.a points × (last_point pair.a points ≡ pair.b)

@@ -8,8 +8,8 @@ use Rattle.overlay_base.specs.Meeting.{do_cross}
 use Rattle.overlay_marks.specs.Marks.{Placing}
 use Rattle.overlay_marks.specs.Counts.{count_of}
 use Rattle.overlay_marks.specs.CrossAnswer.{target_end, other_end, overlay, answer_at, cross_answer}
-use Rattle.overlay_marks.specs.ContactOf.{AreSides, zeros_of, are_apart}
-use Rattle.overlay_marks.specs.declared.split.contact.Sides.{Sides}
+use Rattle.overlay_marks.specs.steps.ContactOf.{AreSides, zeros_of, are_apart}
+use Rattle.overlay_marks.specs.declared.split.cross.contact.Sides.{Sides}
 use Rattle.overlay_marks.proofs.laws.TurnSigns.{Tests, tests_of_directions, by_tests, do_cross_by_tests, answer_by_tests}
 
 -- two pairs, the ends of each apart, and the sides of their ends

@@ -19,9 +19,9 @@ use Rattle.overlay_base.proofs.laws.Lists.{Has, Has-append_left, Has-append_righ
 use Rattle.overlay_base.proofs.laws.Elements.{Has-append_out, Has-flat_map_out}
 use Rattle.overlay_base.specs.Points.{Point, Pair, is_vertical, is_ordered, is_strictly_inside, lies_on, is_in_box, is_end}
 use Rattle.overlay_marks.specs.MarkOf.{Mark}
-use Rattle.overlay_marks.specs.Finder.{marks_at}
+use Rattle.overlay_marks.specs.steps.Finder.{marks_at}
 use Rattle.overlay_marks.specs.FragmentOf.{KeptFragment}
-use Rattle.overlay_marks.specs.FragmentFinder.{HoldSame, is_ready, marks_of_ends, marks_of_border, looks_of_border, stands_at, heights_at, marks_at_heights, marks_of_heights}
+use Rattle.overlay_marks.specs.steps.FragmentFinder.{HoldSame, is_ready, marks_of_ends, marks_of_border, looks_of_border, stands_at, heights_at, marks_at_heights, marks_of_heights}
 use Rattle.overlay_marks.proofs.laws.GridFills.{range-next}
 use Rattle.overlay_marks.proofs.laws.GridFound.{ends_out, same_has}
 use Rattle.overlay_marks.proofs.laws.MarkBoxes.{inside}

@@ -6,7 +6,7 @@ use Rattle.std.proofs.lemmas.Int.{ints}
 use Rattle.std.proofs.lemmas.Bool.{false_from_ne_true}
 use Rattle.overlay_base.specs.Points.{Point, Pair, step, cross_product, turn, is_strictly_inside}
 use Rattle.overlay_base.specs.Meeting.{are_collinear, have_opposite_signs}
-use Rattle.overlay_marks.specs.Along.{along}
+use Rattle.overlay_marks.specs.steps.Along.{along}
 use Rattle.overlay_marks.specs.CrossAnswer.{ends_mask}
 use Rattle.overlay_base.proofs.laws.Polynomials.{as_D, diffs, D-eq}
 use Rattle.overlay_base.proofs.laws.Points.{collinear_apart, turn_same_outer, turn_same_last}

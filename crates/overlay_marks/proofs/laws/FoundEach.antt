@@ -18,7 +18,7 @@ use Rattle.overlay_base.proofs.laws.Apart.{do_cross_back, no_cross_itself}
 use Rattle.overlay_marks.specs.Marks.{Placing, marks_by, cross_inexactly}
 use Rattle.overlay_marks.specs.PassMarks.{marks_on, is_rounded}
 use Rattle.overlay_marks.specs.MarkOf.{Mark, AreMarks, points_at}
-use Rattle.overlay_marks.specs.Finder.{marks_at, marks_between, marks_with, marks_of_first, marks_of_each, first_crosses_inexactly, some_cross_inexactly}
+use Rattle.overlay_marks.specs.steps.Finder.{marks_at, marks_between, marks_with, marks_of_first, marks_of_each, first_crosses_inexactly, some_cross_inexactly}
 use Rattle.overlay_marks.proofs.laws.AnswerMarks.{by_bool}
 use Rattle.overlay_marks.proofs.laws.ExactCrossings.{is_exact_swap}
 use Rattle.overlay_marks.proofs.laws.Lines.{inside_parts}

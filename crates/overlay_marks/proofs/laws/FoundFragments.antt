@@ -14,11 +14,11 @@ use Rattle.overlay_marks.proofs.laws.ApartPairs.{ends_differ}
 use Rattle.overlay_base.specs.Ranges.{do_rects_meet}
 use Rattle.overlay_marks.specs.Marks.{Placing, cross_inexactly}
 use Rattle.overlay_marks.specs.MarkOf.{Mark}
-use Rattle.overlay_marks.specs.Finder.{marks_between}
+use Rattle.overlay_marks.specs.steps.Finder.{marks_between}
 use Rattle.overlay_marks.specs.Looked.{count_twos}
-use Rattle.overlay_marks.specs.FragmentOf.{KeptFragment, fragment_of, fragments_of}
+use Rattle.overlay_marks.specs.FragmentOf.{KeptFragment, fragment_of, fragments_of, Rises}
 use Rattle.overlay_marks.specs.declared.split.fragment.Fragment.{Fragment as CodeFragment}
-use Rattle.overlay_marks.specs.FragmentFinder.{marks_of_two, marks_with_first, marks_of_group, meet_inexactly, is_first_rounded, is_group_rounded, looks_of_first, do_heights_meet, Rises, is_ready}
+use Rattle.overlay_marks.specs.steps.FragmentFinder.{marks_of_two, marks_with_first, marks_of_group, meet_inexactly, is_first_rounded, is_group_rounded, looks_of_first, do_heights_meet, is_ready}
 use Rattle.overlay_marks.proofs.laws.MarkBoxes.{ranges_share}
 use Rattle.overlay_marks.proofs.laws.FoundMarks.{or_assoc, or_false}
 

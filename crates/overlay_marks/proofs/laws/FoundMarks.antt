@@ -17,7 +17,7 @@ use Rattle.overlay_base.proofs.laws.Elements.{IsInOrder-drop, AllByRecursion-dro
 use Rattle.overlay_base.proofs.laws.Apart.{pairs-map, apart_in_x}
 use Rattle.overlay_marks.specs.Marks.{Placing, cross_inexactly}
 use Rattle.overlay_marks.specs.MarkOf.{Mark}
-use Rattle.overlay_marks.specs.Finder.{marks_at, marks_between, marks_with, marks_of_first, first_crosses_inexactly}
+use Rattle.overlay_marks.specs.steps.Finder.{marks_at, marks_between, marks_with, marks_of_first, first_crosses_inexactly}
 use Rattle.overlay_marks.proofs.laws.ApartPairs.{AreApart, AreApart-back, apart_are_exact, apart_have_no_mark}
 
 -- ---- a list from an index on

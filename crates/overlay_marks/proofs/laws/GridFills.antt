@@ -8,7 +8,7 @@ use Rattle.overlay_base.specs.Points.{Pair}
 use Rattle.overlay_marks.specs.MarkOf.{Mark}
 use Rattle.overlay_marks.specs.Grid.{Layout}
 use Rattle.overlay_marks.specs.FragmentOf.{KeptFragment, kept_in}
-use Rattle.overlay_marks.specs.FragmentFinder.{kept_group}
+use Rattle.overlay_marks.specs.steps.FragmentFinder.{kept_group}
 
 pub fill_more : (l l' : Layout) (index : ℕ) (s s' : Pair) (ps : List Pair) (old next total : List KeptFragment) (column : ℕ) → l' ≡ l → s' ≡ s → drop index ps ≡ s ∷ drop (index + 1) ps → next ≡ old ++ kept_in l' index s' column →
     old ++ kept_group l index (drop index ps) column ≡ total → next ++ kept_group l (index + 1) (drop (index + 1) ps) column ≡ total

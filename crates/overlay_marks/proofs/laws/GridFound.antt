@@ -23,11 +23,11 @@ use Rattle.overlay_base.proofs.laws.Elements.{Has-append_out, Has-flat_map_out, 
 use Rattle.overlay_marks.specs.Marks.{Placing, marks_by, cross_inexactly}
 use Rattle.overlay_marks.specs.PassMarks.{is_rounded}
 use Rattle.overlay_marks.specs.MarkOf.{Mark}
-use Rattle.overlay_marks.specs.Finder.{marks_at, marks_between, marks_of_each}
-use Rattle.overlay_marks.specs.Grid.{Layout, Fragment, column_index, pos_of, group_count, rect_between, fragments}
+use Rattle.overlay_marks.specs.steps.Finder.{marks_at, marks_between, marks_of_each}
+use Rattle.overlay_marks.specs.Grid.{Layout, Fragment, column_index, pos_of, group_count, rect_between, fragments, IsInside}
 use Rattle.overlay_marks.specs.Looked.{is_on_border}
 use Rattle.overlay_marks.specs.FragmentOf.{KeptFragment, in_column, kept_in}
-use Rattle.overlay_marks.specs.FragmentFinder.{IsInside, kept_group, marks_of_two, marks_of_group, marks_of_ends, marks_of_border, meet_inexactly, is_group_rounded, stands_at, is_ready}
+use Rattle.overlay_marks.specs.steps.FragmentFinder.{kept_group, marks_of_two, marks_of_group, marks_of_ends, marks_of_border, meet_inexactly, is_group_rounded, stands_at, is_ready}
 use Rattle.overlay_marks.proofs.laws.FoundEach.{StandsAt, each_out, each_in, at_out, at_in, none_on_itself, some_out, some_in, some_cross_inexactly-is, cross_inexactly-back, exact_with_itself}
 use Rattle.overlay_marks.proofs.laws.FoundFragments.{two_first, two_second, two_apart}
 use Rattle.overlay_marks.proofs.laws.Marks.{marks_at_ends}

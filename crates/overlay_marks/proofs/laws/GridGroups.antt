@@ -8,12 +8,11 @@ use Rattle.std.proofs.lemmas.Int.{ints}
 use Rattle.std.proofs.lemmas.Cmp.{int_cmp_total}
 use Rattle.std.proofs.lemmas.List.Sorted.{IsPermutation-map, IsPermutation-trans, IsPermutation-refl}
 use Rattle.overlay_base.proofs.laws.Keys.{IsInOrder, IsInOrder-from_sort}
-use Rattle.overlay_marks.specs.FragmentFinder.{Rises}
 use Rattle.std.specs.declared.alloc.Global.{Global}
 use Rattle.std.proofs.lemmas.List.{get_or-map, get_or-set_same, get_or-set_other, map-set, map-append, length-map}
 use Rattle.std.proofs.lemmas.Bool.{eqb-true, eq-eqb}
 use Rattle.std.proofs.Math.Nat.{eq-zero-or-pos}
-use Rattle.overlay_marks.specs.FragmentOf.{KeptFragment, fragment_of, fragments_of}
+use Rattle.overlay_marks.specs.FragmentOf.{KeptFragment, fragment_of, fragments_of, Rises}
 use Rattle.overlay_marks.specs.GroupsOf.{group_in}
 use Rattle.overlay_marks.specs.declared.split.fragment.Fragment.{Fragment as CodeFragment}
 

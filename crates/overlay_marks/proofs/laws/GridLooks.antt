@@ -11,10 +11,10 @@ use Rattle.std.proofs.lemmas.List.Sums.{sum_by-cons, sum_by-append}
 use Rattle.std.proofs.lemmas.List.Sorted.{sum_by-IsPermutation}
 use Rattle.overlay_base.specs.Points.{Pair, is_ordered, is_vertical}
 use Rattle.overlay_base.specs.Ranges.{Rect}
-use Rattle.overlay_marks.specs.Grid.{Layout, Fragment, column_index, pos_of, group_count, rect_between, fragments}
+use Rattle.overlay_marks.specs.Grid.{Layout, Fragment, column_index, pos_of, group_count, rect_between, fragments, IsInside}
 use Rattle.overlay_marks.specs.Looked.{count_twos, ranges_meet, fragments_meet, all_fragments, is_on_border, border_contacts, fragment_looks}
 use Rattle.overlay_marks.specs.FragmentOf.{KeptFragment, kept, in_column, kept_in}
-use Rattle.overlay_marks.specs.FragmentFinder.{IsInside, kept_group, do_heights_meet, looks_of_group, looks_of_border, stands_at}
+use Rattle.overlay_marks.specs.steps.FragmentFinder.{kept_group, do_heights_meet, looks_of_group, looks_of_border, stands_at}
 use Rattle.overlay_marks.proofs.laws.MarkBoxes.{ranges_swap}
 use Rattle.overlay_marks.proofs.laws.GridCounts.{sum_by-plus, sum_by-alike, sum_by-before, sum_by-none, count_by-cons, length-by_column, fragments_meet-by_column, heights_meet, fragments_of_column, border_contacts-on_border, border_contacts-elsewhere}
 use Rattle.overlay_marks.proofs.laws.GridBounds.{fragments_within_grid}

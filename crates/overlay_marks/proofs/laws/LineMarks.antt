@@ -19,7 +19,7 @@ use Rattle.overlay_base.proofs.laws.Elements.{IsStrictlySortedBy-map, Has-permut
 use Rattle.overlay_marks.specs.declared.split.line_mark.LineMark.{LineMark}
 use Rattle.overlay_marks.specs.Marks.{Placing}
 use Rattle.overlay_marks.specs.MarkOf.{Mark, mark_of, marks_of, AreMarks}
-use Rattle.overlay_marks.specs.Finder.{marks_of_each}
+use Rattle.overlay_marks.specs.steps.Finder.{marks_of_each}
 use Rattle.overlay_marks.proofs.laws.Comparisons.{same_points}
 use Rattle.overlay_base.proofs.laws.Points.{is_eq-then}
 use Rattle.overlay_marks.proofs.laws.MarkSets.{mark_cmp, mark_cmp_total}

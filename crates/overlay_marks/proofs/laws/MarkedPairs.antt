@@ -9,7 +9,7 @@ use Rattle.overlay_base.proofs.laws.Points.{turn_same_outer, turn_same_last, pai
 use Rattle.overlay_marks.specs.Marks.{Placing, crossing_mark, marks_by, cross_inexactly}
 use Rattle.overlay_marks.specs.CrossAnswer.{CrossAnswer, pure, target_end, other_end, overlay, cross_answer, crossing_answer, touch_answer, kind_of_point, target_marks, other_marks}
 use Rattle.overlay_marks.specs.MarkOf.{Mark}
-use Rattle.overlay_marks.specs.Finder.{marks_at, marks_of_overlap, marks_between}
+use Rattle.overlay_marks.specs.steps.Finder.{marks_at, marks_of_overlap, marks_between}
 use Rattle.overlay_marks.proofs.laws.AnswerMarks.{by_bool, answers_are_marks, overlay_marks, collinear_from, collinear_do_not_cross}
 
 -- ---- whether the answer is rounded

@@ -6,7 +6,7 @@ use Rattle.std.proofs.lemmas.Int.{ints, unsigned_abs-mul, fits_signed_mul, fits_
 use Rattle.std.proofs.Math.Nat.{mul-le-mul_left, mul-le-mul_right}
 use Rattle.overlay_base.specs.Coordinates.{greatest_difference, greatest_product}
 use Rattle.overlay_marks.specs.Crossing.{quotient, truncated, nearest, nearest_upward}
-use Rattle.overlay_marks.specs.Numerators.{greatest_numerator}
+use Rattle.overlay_marks.specs.steps.Numerators.{greatest_numerator}
 use Rattle.overlay_marks.proofs.laws.Rounding.{over}
 
 -- ---- sizes

@@ -6,7 +6,7 @@ ghost use Rattle.overlay_marks.specs.Grid.{pos_of, group_count};
 ghost use Rattle.overlay_marks.specs.MarkOf.{marks_of};
 ghost use Rattle.overlay_marks.specs.FragmentOf.{fragment_of, fragments_of};
 ghost use Rattle.overlay_marks.specs.GroupsOf.{group_of, grid_of};
-ghost use Rattle.overlay_marks.specs.FragmentFinder.{HoldSame, is_ready, stands_at, marks_at_heights, marks_of_heights, marks_of_border, looks_of_border};
+ghost use Rattle.overlay_marks.specs.steps.FragmentFinder.{HoldSame, is_ready, stands_at, marks_at_heights, marks_of_heights, marks_of_border, looks_of_border};
 
 use crate::split::fragment::Fragment;
 use crate::split::fragment_buffer::FragmentBuffer;

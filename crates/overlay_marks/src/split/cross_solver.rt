@@ -8,39 +8,18 @@ ghost use Rattle.overlay_base.specs.PairOf.{pair_of};
 ghost use Rattle.overlay_base.specs.InRange.{IsPointInRange, IsPairInRange};
 ghost use Rattle.overlay_marks.specs.Marks.{snapping, settling};
 ghost use Rattle.overlay_marks.specs.CrossAnswer.{cross_answer, ends_mask};
-ghost use Rattle.overlay_marks.specs.Along.{along};
+ghost use Rattle.overlay_marks.specs.steps.Along.{along};
 ghost use Rattle.overlay_marks.specs.AnswerOf.{answer_of};
 ghost use Rattle.overlay_marks.specs.MaskOf.{number_of};
 
-use crate::split::contact::{Contact, contact_of};
-use crate::split::nearer_end::snapped;
-use crate::split::settled::settled;
+use crate::split::cross::contact::{Contact, contact_of};
+pub use crate::split::cross::result::{CrossResult, CrossType};
+use crate::split::cross::settled::settled;
+use crate::split::cross::snapped::snapped;
 use overlay_base::geom::point::IntPoint;
 use overlay_base::geom::vector::IntVector;
 use overlay_base::geom::x_segment::XSegment;
 use overlay_base::num::OverlayInt;
-
-/// What the point of an answer is.
-#[derive(Clone, Copy, Debug, PartialEq, Eq)]
-pub enum CrossType {
-    /// An end of neither.
-    Pure,
-    /// An end of the target.
-    TargetEnd,
-    /// An end of the other.
-    OtherEnd,
-    /// Nothing: the four ends lie on one line.
-    Overlay,
-}
-
-/// Where two segments meet.
-#[derive(Clone, Copy, Debug)]
-pub struct CrossResult<I> {
-    pub point: IntPoint<I>,
-    pub cross_type: CrossType,
-    /// Whether the point is not the exact crossing point.
-    pub is_round: bool,
-}
 
 /// Which ends of two segments on one line lie strictly inside the other segment.
 #[derive(Clone, Copy, Debug, PartialEq, Eq)]

@@ -10,7 +10,7 @@ ghost use Rattle.overlay_marks.specs.PassMarks.{is_rounded};
 ghost use Rattle.overlay_marks.specs.PlacingOf.{placing_of, HasRadius};
 ghost use Rattle.overlay_marks.specs.MarkOf.{AreMarks, marks_of};
 ghost use Rattle.overlay_marks.specs.Looked.{grid_looks, pass_looks};
-ghost use Rattle.overlay_marks.specs.FragmentFinder.{IsInside, LieInside};
+ghost use Rattle.overlay_marks.specs.Grid.{IsInside, LieInside};
 ghost use Rattle.overlay_marks.specs.GroupsOf.{grid_in, grid_of};
 ghost use Rattle.overlay_marks.specs.GridFor.{IsGridFor};
 

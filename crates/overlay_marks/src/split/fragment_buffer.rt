@@ -3,7 +3,7 @@ ghost use Rattle.std.specs.Prelude.{◌≡◌, ◌++◌, OnOk, length, map};
 ghost use Rattle.std.specs.Ordering.{int_eq};
 ghost use Rattle.overlay_marks.specs.Grid.{pos_of, group_count, fragments};
 ghost use Rattle.overlay_marks.specs.FragmentOf.{layout_of, fragments_of};
-ghost use Rattle.overlay_marks.specs.FragmentFinder.{heights_at};
+ghost use Rattle.overlay_marks.specs.steps.FragmentFinder.{heights_at};
 
 use crate::split::fragment::Fragment;
 use crate::split::fragment_memory::{FragmentMemory, clear_groups, empty_groups};
@@ -29,8 +29,8 @@ impl<I: OverlayInt> FragmentBuffer<I> {
     ghost use Rattle.overlay_base.specs.declared.segm.fault.Fault.TheVariants.{Memory};
     ghost use Rattle.overlay_base.specs.PairOf.{pair_of};
     ghost use Rattle.overlay_base.specs.InRange.{IsPairInRange};
-    ghost use Rattle.overlay_marks.specs.FragmentOf.{fragment_of, kept_in};
-    ghost use Rattle.overlay_marks.specs.FragmentFinder.{Rises, heights_at};
+    ghost use Rattle.overlay_marks.specs.FragmentOf.{fragment_of, kept_in, Rises};
+    ghost use Rattle.overlay_marks.specs.steps.FragmentFinder.{heights_at};
     ghost use Rattle.overlay_marks.specs.GroupsOf.{group_of, grid_of};
 
     /// A buffer with one group for each column of a layout, all empty. Answers `Fault::Memory` where a growth is refused.

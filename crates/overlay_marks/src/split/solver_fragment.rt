@@ -12,9 +12,10 @@ ghost use Rattle.overlay_marks.specs.Looked.{all_fragments, fragment_looks};
 ghost use Rattle.overlay_marks.specs.PassMarks.{is_rounded};
 ghost use Rattle.overlay_marks.specs.PlacingOf.{placing_of, HasRadius};
 ghost use Rattle.overlay_marks.specs.MarkOf.{AreMarks, marks_of};
-ghost use Rattle.overlay_marks.specs.FragmentOf.{fragment_of, fragments_of};
+ghost use Rattle.overlay_marks.specs.FragmentOf.{fragment_of, fragments_of, Rises};
 ghost use Rattle.overlay_marks.specs.GroupsOf.{group_in, group_of, grid_of};
-ghost use Rattle.overlay_marks.specs.FragmentFinder.{IsInside, Rises, is_ready, kept_group, marks_of_two, marks_with_first, marks_of_group, meet_inexactly, is_first_rounded, is_group_rounded, looks_of_first, looks_of_group};
+ghost use Rattle.overlay_marks.specs.steps.FragmentFinder.{is_ready, kept_group, marks_of_two, marks_with_first, marks_of_group, meet_inexactly, is_first_rounded, is_group_rounded, looks_of_first, looks_of_group};
+ghost use Rattle.overlay_marks.specs.Grid.{IsInside};
 
 use crate::split::border_contacts::mark_borders;
 use crate::split::fragment::Fragment;

@@ -8,7 +8,7 @@ use Rattle.overlay_base.specs.Windings.{Winding}
 use Rattle.overlay_base.specs.EdgeData.{DataSegment, Hooks}
 use Rattle.overlay_split.specs.Path.{path_from, columns_of, run_through, next_point, last_point}
 use Rattle.overlay_split.specs.DataPass.{data_pieces, data_pieces_of_each}
-use Rattle.overlay_split.specs.DataCutAt.{data_cut_at}
+use Rattle.overlay_split.specs.steps.DataCutAt.{data_cut_at}
 use Rattle.overlay_split.proofs.laws.DataPasses.{whole}
 use Rattle.overlay_split.proofs.laws.CutSteps.{data_cut_at-is}
 

@@ -5,7 +5,7 @@ use Rattle.std.proofs.Math.Seq.{drop-cons}
 use Rattle.overlay_base.specs.Points.{Point}
 use Rattle.overlay_base.specs.EdgeData.{DataSegment, Hooks}
 use Rattle.overlay_split.specs.DataPass.{data_pieces}
-use Rattle.overlay_split.specs.DataCutAt.{data_cut_at}
+use Rattle.overlay_split.specs.steps.DataCutAt.{data_cut_at}
 use Rattle.overlay_base.proofs.laws.Rests.{rest-more}
 
 -- ---- an element of a list, in its place

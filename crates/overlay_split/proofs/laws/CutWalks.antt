@@ -15,9 +15,10 @@ use Rattle.overlay_base.proofs.laws.Lists.{Steps}
 use Rattle.overlay_marks.specs.Marks.{Placing}
 use Rattle.overlay_marks.specs.PassMarks.{marks_on}
 use Rattle.overlay_marks.specs.MarkOf.{Mark, AreMarks, points_at}
-use Rattle.overlay_split.specs.Path.{path_from, columns_in_order, columns_of, run_through, next_point, last_point, LeadsOn, IsPathOf}
+use Rattle.overlay_split.specs.Path.{path_from, columns_in_order, columns_of, run_through, next_point, last_point, LeadsOn}
+use Rattle.overlay_split.specs.steps.PathSteps.{IsPathOf}
 use Rattle.overlay_split.specs.DataPass.{data_pieces_of_each, data_cut}
-use Rattle.overlay_split.specs.DataCutAt.{data_cut_at}
+use Rattle.overlay_split.specs.steps.DataCutAt.{data_cut_at}
 use Rattle.overlay_split.proofs.laws.Paths.{all_of, all_of-columns_of, steps_of_path}
 use Rattle.overlay_marks.proofs.laws.Marks.{Differ}
 use Rattle.overlay_split.proofs.laws.Pieces.{last_point-path_from}

@@ -9,8 +9,7 @@ use Rattle.overlay_base.specs.Segments.{WholeSegment, pairs, ends, is_map, are_o
 use Rattle.overlay_base.specs.Join.{join}
 use Rattle.overlay_base.specs.declared.overlay_core.solver.Strategy.{Strategy}
 use Rattle.overlay_base.proofs.laws.Maps.{is_map-join}
-use Rattle.overlay_marks.specs.Grid.{Layout, IsLog2, IsLayoutOf}
-use Rattle.overlay_marks.specs.FragmentFinder.{IsInside, LieInside}
+use Rattle.overlay_marks.specs.Grid.{Layout, IsLog2, IsLayoutOf, IsInside, LieInside}
 use Rattle.overlay_split.specs.Run.{Settings, after_passes}
 use Rattle.overlay_marks.specs.GridFor.{IsGridFor}
 use Rattle.overlay_split.proofs.laws.Boxes.{stays_in_box}

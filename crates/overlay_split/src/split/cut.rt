@@ -5,8 +5,8 @@ ghost use Rattle.overlay_base.specs.declared.segm.fault.Fault.TheVariants.{Memor
 ghost use Rattle.overlay_base.specs.Windings.{is_valid};
 ghost use Rattle.overlay_base.specs.HooksOf.{hooks_of};
 ghost use Rattle.overlay_base.specs.SegmentOf.{ends_of, winding_of, data_segments_of};
-ghost use Rattle.overlay_split.specs.Path.{IsPathOf};
-ghost use Rattle.overlay_split.specs.DataCutAt.{data_cut_at};
+ghost use Rattle.overlay_split.specs.steps.PathSteps.{IsPathOf};
+ghost use Rattle.overlay_split.specs.steps.DataCutAt.{data_cut_at};
 ghost use Rattle.overlay_marks.specs.MarkOf.{points_of};
 
 use crate::split::piece::push_pieces;

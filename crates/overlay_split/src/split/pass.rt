@@ -14,7 +14,7 @@ ghost use Rattle.overlay_marks.specs.PassMarks.{is_rounded, mark_count};
 ghost use Rattle.overlay_split.specs.DataPass.{data_cut, data_pass};
 ghost use Rattle.overlay_marks.specs.PlacingOf.{placing_of, HasRadius};
 ghost use Rattle.overlay_marks.specs.Looked.{pass_looks};
-ghost use Rattle.overlay_marks.specs.FragmentFinder.{LieInside};
+ghost use Rattle.overlay_marks.specs.Grid.{LieInside};
 ghost use Rattle.overlay_marks.specs.GroupsOf.{grid_in};
 
 use crate::split::cut::{cut_segment, index_len};

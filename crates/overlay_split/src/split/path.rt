@@ -3,7 +3,8 @@ ghost use Rattle.std.specs.Prelude.{◌≡◌, ◌++◌, ◌≤◌, ◌<◌, len
 ghost use Rattle.std.specs.List.{prefix_len};
 ghost use Rattle.std.specs.Ordering.{int_eq};
 ghost use Rattle.overlay_base.specs.PointOf.{point_of};
-ghost use Rattle.overlay_split.specs.Path.{columns_in_order, path_from, run_through, last_point, first_point};
+ghost use Rattle.overlay_split.specs.Path.{columns_in_order, path_from, run_through, last_point};
+ghost use Rattle.overlay_split.specs.steps.PathSteps.{first_point};
 ghost use Rattle.overlay_marks.specs.MarkOf.{points_of, mark_points_of};
 
 use overlay_base::geom::point::IntPoint;

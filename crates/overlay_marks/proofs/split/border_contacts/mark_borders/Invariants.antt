@@ -2,7 +2,7 @@ use Rattle.std.proofs.Common.{◌≡◌, ◌+◌}
 use Rattle.overlay_marks.specs.MarkOf.{marks_of}
 use Rattle.overlay_marks.specs.Grid.{pos_of}
 use Rattle.overlay_marks.specs.GroupsOf.{group_of, grid_of}
-use Rattle.overlay_marks.specs.FragmentFinder.{marks_of_border, looks_of_border}
+use Rattle.overlay_marks.specs.steps.FragmentFinder.{marks_of_border, looks_of_border}
 use Rattle.overlay_marks.proofs.laws.BorderMarks.{AreBordersSeen}
 use Rattle.overlay_marks.proofs.split.border_contacts.mark_borders.Given as goal
 

@@ -1,6 +1,6 @@
 use Rattle.std.proofs.Common.{◌≡◌, ◌++◌, drop, map}
 use Rattle.overlay_marks.specs.FragmentOf.{fragments_of}
-use Rattle.overlay_marks.specs.FragmentFinder.{heights_at}
+use Rattle.overlay_marks.specs.steps.FragmentFinder.{heights_at}
 use Rattle.overlay_marks.proofs.split.fragment_buffer.push_right_ends.Given as goal
 
 abbrev pub invariant-loop-index : goal.invariant-loop-index

@@ -2,7 +2,7 @@ use Rattle.std.proofs.Common.{◌≡◌, ◌++◌, ℕ, drop}
 use Rattle.overlay_base.specs.Segments.{pairs}
 use Rattle.overlay_base.specs.SegmentOf.{segments_of}
 use Rattle.overlay_marks.specs.GroupsOf.{group_of, grid_of}
-use Rattle.overlay_marks.specs.FragmentFinder.{kept_group}
+use Rattle.overlay_marks.specs.steps.FragmentFinder.{kept_group}
 use Rattle.overlay_marks.proofs.split.solver_fragment.fill.Given as goal
 
 abbrev pub invariant-loop-index : goal.invariant-loop-index

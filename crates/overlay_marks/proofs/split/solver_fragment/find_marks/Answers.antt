@@ -9,10 +9,10 @@ use Rattle.overlay_base.proofs.laws.Apart.{are_ordered}
 use Rattle.std.proofs.lemmas.List.Elements.{All-weaker}
 use Rattle.overlay_marks.specs.PlacingOf.{placing_of}
 use Rattle.overlay_marks.specs.MarkOf.{Mark, marks_of}
-use Rattle.overlay_marks.specs.Grid.{Layout, pos_of, group_count}
+use Rattle.overlay_marks.specs.Grid.{Layout, pos_of, group_count, IsInside}
 use Rattle.overlay_marks.specs.FragmentOf.{KeptFragment}
 use Rattle.overlay_marks.specs.GroupsOf.{group_in, group_of, grid_of}
-use Rattle.overlay_marks.specs.FragmentFinder.{HoldSame, IsInside, is_ready, kept_group, marks_of_group, is_group_rounded, looks_of_group, marks_of_border, looks_of_border}
+use Rattle.overlay_marks.specs.steps.FragmentFinder.{HoldSame, is_ready, kept_group, marks_of_group, is_group_rounded, looks_of_group, marks_of_border, looks_of_border}
 use Rattle.overlay_marks.proofs.laws.GridFound.{all_pairs, all_ready, sound, complete, rounded_is}
 use Rattle.overlay_marks.proofs.laws.LineMarks.{AreMarks-from_elements}
 use Rattle.overlay_marks.proofs.laws.GridLooks.{within_bound}

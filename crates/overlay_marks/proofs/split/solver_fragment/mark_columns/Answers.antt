@@ -3,9 +3,9 @@ use Rattle.std.specs.Prelude.{IsTrue}
 use Rattle.std.specs.List.{AllByRecursion}
 use Rattle.overlay_marks.specs.PlacingOf.{placing_of}
 use Rattle.overlay_marks.specs.MarkOf.{marks_of}
-use Rattle.overlay_marks.specs.FragmentOf.{KeptFragment, fragments_of}
+use Rattle.overlay_marks.specs.FragmentOf.{KeptFragment, fragments_of, Rises}
 use Rattle.overlay_marks.specs.GroupsOf.{group_in}
-use Rattle.overlay_marks.specs.FragmentFinder.{Rises, is_ready, marks_of_group, is_group_rounded, looks_of_group}
+use Rattle.overlay_marks.specs.steps.FragmentFinder.{is_ready, marks_of_group, is_group_rounded, looks_of_group}
 use Rattle.overlay_marks.proofs.laws.FoundMarks.{or_true, or_false}
 use Rattle.overlay_marks.proofs.laws.GridGroups.{group_in-at}
 use Rattle.overlay_marks.proofs.laws.GridFills.{over-more, over-end}

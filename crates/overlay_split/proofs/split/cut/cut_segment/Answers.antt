@@ -5,9 +5,10 @@ use Rattle.overlay_base.specs.PointOf.{point_of}
 use Rattle.overlay_base.specs.HooksOf.{hooks_of}
 use Rattle.overlay_base.specs.SegmentOf.{data_segments_of, data_segment_of, ends_of, winding_of}
 use Rattle.overlay_marks.specs.MarkOf.{points_of}
-use Rattle.overlay_split.specs.Path.{IsPathOf, LeadsOn, last_point}
+use Rattle.overlay_split.specs.Path.{LeadsOn, last_point}
+use Rattle.overlay_split.specs.steps.PathSteps.{IsPathOf}
 use Rattle.overlay_split.specs.DataPass.{data_pieces}
-use Rattle.overlay_split.specs.DataCutAt.{data_cut_at}
+use Rattle.overlay_split.specs.steps.DataCutAt.{data_cut_at}
 use Rattle.std.proofs.lemmas.List.{length-map}
 use Rattle.overlay_base.specs.EdgeData.{DataSegment}
 use Rattle.overlay_split.proofs.laws.PieceSteps.{pieces-step, last_point-next}

@@ -13,8 +13,8 @@ use Rattle.std.specs.Vec.{vec_len}
 use Rattle.overlay_split.proofs.laws.CutWalks.{IsAtMark-from, IsCutSoFar-start, marks_in, path_collected, path_steps, path_is, IsCutSoFar-end, fewer_left}
 use Rattle.overlay_split.proofs.laws.Columns.{none_left}
 use Rattle.overlay_split.proofs.laws.CutLists.{path_at}
-use Rattle.overlay_split.specs.Path.{IsPathOf}
-use Rattle.overlay_split.specs.DataCutAt.{data_cut_at}
+use Rattle.overlay_split.specs.steps.PathSteps.{IsPathOf}
+use Rattle.overlay_split.specs.steps.DataCutAt.{data_cut_at}
 use Rattle.std.proofs.lemmas.List.{length-map}
 use Rattle.overlay_split.proofs.split.pass.cut.Goals as goal
 

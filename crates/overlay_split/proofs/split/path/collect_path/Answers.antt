@@ -2,7 +2,8 @@ use Rattle.std.proofs.Common.{◌≡◌, ◌∙◌, take, drop, sym, ap, [], ◌
 use Rattle.std.specs.Prelude.{slice_get}
 use Rattle.std.proofs.lemmas.List.{map-append}
 use Rattle.overlay_base.specs.PointOf.{point_of}
-use Rattle.overlay_split.specs.Path.{run_through, first_point, last_point}
+use Rattle.overlay_split.specs.Path.{run_through, last_point}
+use Rattle.overlay_split.specs.steps.PathSteps.{first_point}
 use Rattle.overlay_marks.specs.MarkOf.{points_of, mark_points_of}
 use Rattle.overlay_split.proofs.laws.Columns.{IsCollected-start, IsCollected-next, IsCollected-end, fewer, none_left}
 use Rattle.overlay_split.proofs.split.path.collect_path.Goals as goal

@@ -2,9 +2,8 @@ use Rattle.std.proofs.Common.{◌+◌, ◌≤◌, ap, sym, subst, OnOk}
 use Rattle.std.specs.Prelude.{Option}
 use Rattle.overlay_base.specs.Segments.{pairs}
 use Rattle.overlay_base.specs.SegmentOf.{segments_of}
-use Rattle.overlay_marks.specs.Grid.{Layout}
+use Rattle.overlay_marks.specs.Grid.{Layout, LieInside}
 use Rattle.overlay_marks.specs.Looked.{pass_looks}
-use Rattle.overlay_marks.specs.FragmentFinder.{LieInside}
 use Rattle.overlay_marks.specs.GroupsOf.{grid_in}
 use Rattle.overlay_marks.proofs.laws.GridInside.{each_lies_inside}
 use Rattle.overlay_marks.proofs.split.finder.PairFinder.find_marks.Goals as goal

@@ -3,7 +3,7 @@ use Rattle.std.specs.Prelude.{IsPermutation, ℤ}
 use Rattle.overlay_marks.specs.Grid.{pos_of}
 use Rattle.overlay_marks.specs.FragmentOf.{KeptFragment, fragments_of}
 use Rattle.overlay_marks.specs.GroupsOf.{grid_of}
-use Rattle.overlay_marks.specs.FragmentFinder.{heights_at}
+use Rattle.overlay_marks.specs.steps.FragmentFinder.{heights_at}
 use Rattle.std.proofs.lemmas.List.Sorted.{IsPermutation-map}
 use Rattle.overlay_marks.proofs.laws.GridGroups.{group_in-at}
 use Rattle.overlay_marks.proofs.split.fragment_buffer.FragmentBuffer.list_right_ends.Goals as goal

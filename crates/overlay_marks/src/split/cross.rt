@@ -1,0 +1,9 @@
+// What `cross_solver` is made of, lowest first: what a call answers, the exact crossing point as two offsets and rounded,
+// what the sides tell, and the two ways to place a crossing.
+
+pub mod contact;
+pub mod crossing_point;
+pub mod offset;
+pub mod result;
+pub mod settled;
+pub mod snapped;
