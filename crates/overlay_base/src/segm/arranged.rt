@@ -34,7 +34,7 @@ pub fn is_splittable<C: WindingCount, I: OverlayInt, D: Copy>(segments: &[Segmen
 /// Whether a list is a planar arrangement: it may be split, it is sorted as by `sort_by_ab`, no two segments have one
 /// pair of ends, and every two share at most a common end. True of the empty list.
 ///
-/// It looks at every two segments whose ranges in `x` and in `y` meet, and not at neighbours in the list alone.
+/// It looks at every two segments whose ranges in `x` and in `y` meet, and not at neighbors in the list alone.
 pub fn is_arranged<C: WindingCount, I: OverlayInt, D: Copy>(segments: &[Segment<C, I, D>]) -> bool
     ensures { result ≡ is_arranged (I.whole I.MIN_COORD) (I.whole I.MAX_COORD) (segments_of segments.now) }
 {

@@ -100,7 +100,7 @@ at_or_above s t p r q e h = let f = turn_height s p in let a = r.forward in let 
 
 -- ---- the column in which two change places
 
--- the first of two tests at the start, the second at the end: neighbours with the first and then the second
+-- the first of two tests at the start, the second at the end: neighbors with the first and then the second
 change : (P Q : ℕ → Type 0) → ((i : ℕ) → P i ⊎ Q i) → (a n : ℕ) → P a → Q (a + n + 1) → (i : ℕ) × (a ≤ i) × (i ≤ a + n) × P i × Q (i + 1)
 change P Q total a zero p q = (a, omega arith, omega arith, p, subst Q (omega arith) q)
 change P Q total a (suc n) p q = elim (total (a + 1)) [
