@@ -10,7 +10,7 @@ use Rattle.overlay_base.specs.declared.segm.fault.Fault.TheVariants.{CountOutOfR
 use Rattle.overlay_split.specs.Run.{Settings as RunSettings, IsPassCount, LeavesRange, after_passes}
 use Rattle.overlay_sweep.specs.ChainWindings.{tops_leave_range}
 use Rattle.overlay_build.specs.Graph.{Graph, graph_by}
-use Rattle.overlay_build.specs.RuleOf.{keeps_by}
+use Rattle.arrange.specs.RuleOf.{keeps_by}
 use Rattle.i_overlay.specs.Headline.{IsOverlay, IsSplitRefused, IsBuildRefused}
 use Rattle.arrange.specs.declared.settings.Settings.{Settings}
 use Rattle.arrange.specs.declared.settings.Command.TheVariants.{Graph as GraphCommand, Walks}

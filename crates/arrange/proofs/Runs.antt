@@ -91,9 +91,10 @@ pub stops_at_input : (words : List (List ℕ)) (input : Option (List ℕ)) (stop
 stops_at_input words input stop asked (inl failed) = inr (asked, (λ usage. cc (failed, usage)), inl failed)
 stops_at_input words input stop asked (inr refused) = inr (asked, refused_is_no_usage Memory stop refused, inr (inr (inl refused)))
 
-pub stops_at_output : (words : List (List ℕ)) (input : Option (List ℕ)) (stop : Stop) (text : List ℕ) → AskSomething words → IfSome input (λ bytes. IsRunAnswer words bytes (Ok text)) → stop ≡ Output → IsStop words input stop
-stops_at_output words None stop text asked known is = inr (asked, (λ usage. cc (is, usage)), inr (inl (is, tt)))
-stops_at_output words (Some bytes) stop text asked known is = inr (asked, (λ usage. cc (is, usage)), inr (inl (is, (text, known))))
+pub stops_at_output : {T : Type 0} (words : List (List ℕ)) (input : Option (List ℕ)) (text : List ℕ) (r : Result T Stop) → AskSomething words → IfSome input (λ bytes. IsRunAnswer words bytes (Ok text)) → IfErr r (λ stop. stop ≡ Output) → IfErr r (IsStop words input)
+stops_at_output words input text (Ok t) asked known is = tt
+stops_at_output words None text (Err stop) asked known is = inr (asked, (λ usage. cc (is, usage)), inr (inl (is, tt)))
+stops_at_output words (Some bytes) text (Err stop) asked known is = inr (asked, (λ usage. cc (is, usage)), inr (inl (is, (text, known))))
 
 module _ (words : List (List ℕ)) (command : Command) (settings : Settings) (asked : WordsAsk words command settings) (least greatest : ℤ) (bits : ℕ) (least_is : least_of settings.engine ≡ least) (greatest_is : greatest_of settings.engine ≡ greatest) (bits_is : bits_of settings.engine ≡ bits) (bytes : List ℕ) where
   run_answer : (answer : Result (List ℕ) Stop) → IsAnswer least greatest bits command settings bytes answer → IsRunAnswer words bytes answer

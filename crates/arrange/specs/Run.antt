@@ -9,7 +9,7 @@ use Rattle.overlay_base.specs.Radius.{exponent_cap}
 use Rattle.overlay_split.specs.Run.{Settings as RunSettings, IsPassCount, IsRun, LeavesRange, after_passes}
 use Rattle.overlay_sweep.specs.ChainWindings.{tops_leave_range}
 use Rattle.overlay_build.specs.Graph.{Graph, graph_by}
-use Rattle.overlay_build.specs.RuleOf.{keeps_by}
+use Rattle.arrange.specs.RuleOf.{keeps_by}
 use Rattle.overlay_base.specs.declared.segm.fault.Fault.TheVariants.{CountOutOfRange, Memory}
 use Rattle.arrange.specs.declared.settings.Command.{Command}
 use Rattle.arrange.specs.declared.settings.Command.TheVariants.{Join, Cross, Split, Graph as GraphCommand, Walks}

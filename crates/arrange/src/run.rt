@@ -7,7 +7,7 @@ ghost use Rattle.overlay_base.specs.declared.segm.fault.Fault.TheVariants.{Memor
 ghost use Rattle.arrange.specs.Run.{IsAnswer, IsRunAnswer, IsStop};
 ghost use Rattle.arrange.specs.declared.stop.Stop.{Stop};
 ghost use Rattle.arrange.specs.Status.{status_of};
-ghost use Rattle.arrange.specs.Words.{AskSomething};
+ghost use Rattle.arrange.specs.Words.{AskSomething, AskNothing};
 
 use crate::cross::cross;
 use crate::graph::graph;
@@ -42,8 +42,8 @@ pub fn arrange<H: Env + AllocGlobal, R: Read, W: Write, E: Write>(
 /// nothing and for a crossing of other than two segments, 3 for a faulty line, 4 for a `Fault`, 5 where the input or
 /// the output failed.
 ///
-/// Nothing is written to `output` unless the status is 0 or 5. Any other status is told in one line on `faults`, where
-/// a failed write is passed over.
+/// Nothing is written to `output` unless the status is 0 or 5, and nothing to `faults` where it is 0. Any other status is
+/// told in one line on `faults`, where a failed write is passed over. Where the words ask for nothing, nothing is read.
 #[tactic(auto, using(crate::proofs::Runs::is_no_success))]
 pub fn arrange_run<R: Read, W: Write, E: Write>(
     alloc: Global,
@@ -58,6 +58,8 @@ pub fn arrange_run<R: Read, W: Write, E: Write>(
     ensures stopped { (result ≡ 0) ⊎ ((stop : Stop) × (result ≡ status_of stop)
         × IsStop (map string_bytes words.now) (R.remaining input.old) stop) }
     ensures untouched { (result ≡ 0) ⊎ (result ≡ 5) ⊎ (output.new ≡ output.old) }
+    ensures unread { AskNothing (map string_bytes words.now) → input.new ≡ input.old }
+    ensures quiet { result ≡ 0 → faults.new ≡ faults.old }
 {
     match run(alloc, words, input, output) {
         Ok(()) => 0,
@@ -84,6 +86,7 @@ fn run<R: Read, W: Write>(
         × IsRunAnswer (map string_bytes words.now) bytes (Ok text) × Appends (W.contents output.old) (W.contents output.new) text)) }
     ensures stopped { IfErr result (IsStop (map string_bytes words.now) (R.remaining input.old)) }
     ensures untouched { IfErr result (λ stop. (stop ≡ Stop.Output) ⊎ (output.new ≡ output.old)) }
+    ensures unread { AskNothing (map string_bytes words.now) → input.new ≡ input.old }
 {
     let text = answer(alloc, words, input)?;
     output.write_all(text.as_bytes()).map_err(|_| Stop::Output)?;
@@ -95,6 +98,7 @@ fn answer<R: Read>(alloc: Global, words: &[String], input: &mut R) -> Result<Str
     ensures text { IfOk result (λ text. IfSome (R.remaining input.old) (λ bytes. IsRunAnswer (map string_bytes words.now) bytes (Ok (string_bytes text)))) }
     ensures asked { OnOk result (AskSomething (map string_bytes words.now)) }
     ensures stopped { IfErr result (IsStop (map string_bytes words.now) (R.remaining input.old)) }
+    ensures unread { AskNothing (map string_bytes words.now) → input.new ≡ input.old }
 {
     let (command, settings) = read_words(words)?;
     let bytes = read_all(alloc, input)?;

@@ -9,7 +9,6 @@ pub mod GraphOf
 pub mod OverlayGraphOf
 pub mod NodeIndexes
 pub mod LinkEnds
-pub mod RuleOf
 pub mod LinkRules
 pub mod BuilderOf
 pub mod StringGraphOf

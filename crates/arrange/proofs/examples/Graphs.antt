@@ -6,7 +6,7 @@ use Rattle.overlay_base.specs.Segments.{WholeSegment}
 use Rattle.overlay_base.specs.declared.overlay_core.fill_rule.FillRule.TheVariants.{EvenOdd, NonZero}
 use Rattle.overlay_base.specs.declared.overlay_core.overlay_rule.OverlayRule.TheVariants.{Intersect}
 use Rattle.overlay_build.specs.Graph.{graph_by}
-use Rattle.overlay_build.specs.RuleOf.{keeps_by}
+use Rattle.arrange.specs.RuleOf.{keeps_by}
 use Rattle.overlay_sweep.proofs.examples.Sweeps.{seg, twelve}
 use Rattle.overlay_build.proofs.examples.Computing.{computing}
 use Rattle.arrange.specs.Output.{link_line, node_line, graph_text}

@@ -33,3 +33,12 @@ pub returns-clause-stopped : goal.returns-clause-stopped
 returns-clause-stopped g c =
     let known : IfSome (g.R.Read.remaining c.args.input.now) (λ given. c.as_slice-in-I32.result.now ≡ given) = rw c.as_slice-in-I32.ensures.value c.in_ok-bytes.ensures.all in
     stops (map string_bytes c.args.words.now) c.in_ok-command.command c.in_ok-command.settings c.in_ok-command.ensures.asked _ _ _ (ap least_of c.in-I32.is) (ap greatest_of c.in-I32.is) (ap bits_of c.in-I32.is) c.as_slice-in-I32.result.now (g.R.Read.remaining c.args.input.now) known c.answer_with-in-I32.result c.answer_with-in-I32.ensures.stop
+
+pub returns-in_err-bytes-clause-unread : goal.returns-in_err-bytes-clause-unread
+returns-in_err-bytes-clause-unread g c = λ nothing. absurd (nothing c.in_ok-command.command c.in_ok-command.settings c.in_ok-command.ensures.asked)
+
+pub returns-in-I16-clause-unread : goal.returns-in-I16-clause-unread
+returns-in-I16-clause-unread g c = λ nothing. absurd (nothing c.in_ok-command.command c.in_ok-command.settings c.in_ok-command.ensures.asked)
+
+pub returns-clause-unread : goal.returns-clause-unread
+returns-clause-unread g c = λ nothing. absurd (nothing c.in_ok-command.command c.in_ok-command.settings c.in_ok-command.ensures.asked)
