@@ -1,5 +1,4 @@
 pub mod Laws
-pub mod EndOf
 pub mod Graph
 pub mod Values
 pub mod Regions
@@ -7,10 +6,9 @@ pub mod Sides
 pub mod Lines
 pub mod GraphOf
 pub mod NodeIndexes
-pub mod LinkEnds
 pub mod RuleOf
-pub mod LinkRules
 pub mod BuilderOf
 pub mod StringGraphOf
 pub mod Walks
-pub mod UnusedLinks
+-- what private functions tell one another
+pub mod steps
