@@ -6,7 +6,8 @@ use Rattle.overlay_base.specs.Points.{Pair}
 use Rattle.overlay_base.specs.Meeting.{are_collinear}
 use Rattle.overlay_base.specs.Segments.{WholeSegment}
 use Rattle.overlay_base.specs.Windings.{is_valid, is_not_empty}
-use Rattle.overlay_base.specs.Planar.{is_pair_in_range, is_splittable}
+use Rattle.overlay_base.specs.Planar.{is_splittable}
+use Rattle.overlay_base.specs.Coordinates.{is_pair_in_range}
 use Rattle.overlay_marks.specs.Marks.{Placing}
 use Rattle.overlay_marks.specs.CrossAnswer.{overlay, CrossAnswer, cross_answer}
 use Rattle.overlay_marks.specs.AnswerOf.{answer_of, result_of}

@@ -3,10 +3,10 @@ ghost use Rattle.std.specs.Prelude.{◌≡◌, ◌≢◌, ◌⊎◌, ◌↔◌, 
 ghost use Rattle.std.specs.Result.{result_err};
 ghost use Rattle.std.specs.Str.Lines.{strip_carriage_return};
 ghost use Rattle.overlay_base.specs.declared.segm.fault.Fault.TheVariants.{Memory};
-ghost use Rattle.overlay_base.specs.Coordinates.{is_coordinate};
+ghost use Rattle.overlay_base.specs.Coordinates.{is_coordinate, is_point_in_range};
 ghost use Rattle.overlay_base.specs.PointOf.{point_of};
 ghost use Rattle.overlay_base.specs.SegmentOf.{segment_of, segments_of};
-ghost use Rattle.overlay_base.specs.Planar.{is_point_in_range, is_splittable};
+ghost use Rattle.overlay_base.specs.Planar.{is_splittable};
 ghost use Rattle.arrange.specs.Lines.{step_fault, step_segment};
 ghost use Rattle.std.specs.Option.{SomeIff, option_map_or};
 ghost use Rattle.overlay_base.specs.Points.{Point};

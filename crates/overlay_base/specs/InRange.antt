@@ -1,6 +1,6 @@
 -- Points and pairs whose coordinates are an engine's: from its MIN_COORD to its MAX_COORD.
 use Rattle.std.specs.Prelude.{ℤ, IsTrue}
-use Rattle.overlay_base.specs.Planar.{is_point_in_range}
+use Rattle.overlay_base.specs.Coordinates.{is_point_in_range}
 use Rattle.overlay_base.specs.PointOf.{point_of}
 use Rattle.overlay_base.specs.declared.geom.point.IntPoint.{IntPoint}
 use Rattle.overlay_base.specs.declared.geom.x_segment.XSegment.{XSegment}

@@ -6,7 +6,8 @@ use Rattle.std.specs.List.Sorted.{IsSorted, IsSortedByKey, IsStable, IsStableByK
 use Rattle.std.specs.declared.cmp.Ordering.{Ordering}
 use Rattle.std.specs.declared.cmp.Ordering.TheVariants.{Equal}
 use Rattle.std.specs.Ordering.{is_lt}
-use Rattle.overlay_base.specs.Points.{Point, Pair, point_cmp, point_lt, pair_cmp, pair_eq, turn, is_ordered, lies_on, is_strictly_inside, stably_sorted}
+use Rattle.overlay_base.specs.Points.{Point, Pair, point_cmp, point_lt, pair_cmp, pair_eq, moved, turn, is_ordered, lies_on, is_strictly_inside}
+use Rattle.overlay_base.specs.Sorting.{stably_sorted}
 use Rattle.overlay_base.specs.Windings.{Winding, add, empty, inverse, weight, is_valid, is_not_empty}
 use Rattle.overlay_base.specs.Segments.{WholeSegment, pairs, is_map, are_ordered, winding_at}
 use Rattle.overlay_base.specs.Sums.{IsCommutativeMonoid, IsLinear, weighed}
@@ -23,10 +24,6 @@ TurnRotates = (p q r : Point) → turn p q r ≡ turn q r p
 -- two points in each other's place: the turn changes its sign
 abbrev pub TurnChangesSign : Type 0
 TurnChangesSign = (p q r : Point) → (turn q p r ≡ neg_ℤ (turn p q r)) × (turn p r q ≡ neg_ℤ (turn p q r)) × (turn r q p ≡ neg_ℤ (turn p q r))
-
--- a point, moved by a vector
-abbrev pub moved : Point → Point → Point
-moved v p = record { x = p.x +ℤ v.x; y = p.y +ℤ v.y }
 
 -- three points that are moved alike turn as before
 abbrev pub TurnIsUnmoved : Type 0

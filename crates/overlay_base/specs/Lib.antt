@@ -1,4 +1,5 @@
 pub mod Coordinates
+pub mod Sorting
 pub mod Points
 pub mod PointOf
 pub mod PairOf

@@ -1,7 +1,7 @@
 -- Planar arrangements, and the lists of segments that may be split or swept.
-use Rattle.std.specs.Prelude.{Bool, ◌&&◌, List, ℤ, int_le}
+use Rattle.std.specs.Prelude.{Bool, ◌&&◌, List, ℤ}
 use Rattle.std.specs.List.{list_all}
-use Rattle.overlay_base.specs.Points.{Point, Pair}
+use Rattle.overlay_base.specs.Coordinates.{is_pair_in_range}
 use Rattle.overlay_base.specs.Windings.{is_valid, is_not_empty}
 use Rattle.overlay_base.specs.Segments.{WholeSegment, pairs, is_map}
 use Rattle.overlay_base.specs.Meeting.{are_apart}
@@ -9,13 +9,6 @@ use Rattle.overlay_base.specs.Meeting.{are_apart}
 -- Every two segments are apart. A segment is apart from itself.
 unfoldable pub is_planar : List WholeSegment → Bool
 is_planar segments = list_all (λ s. list_all (λ t. are_apart s t) (pairs segments)) (pairs segments)
-
--- both coordinates lie from the least to the greatest that an engine holds
-abbrev pub is_point_in_range : ℤ → ℤ → Point → Bool
-is_point_in_range least greatest p = int_le least p.x && int_le p.x greatest && int_le least p.y && int_le p.y greatest
-
-abbrev pub is_pair_in_range : ℤ → ℤ → Pair → Bool
-is_pair_in_range least greatest s = is_point_in_range least greatest s.a && is_point_in_range least greatest s.b
 
 -- in range, with valid counts that are not empty
 unfoldable pub is_splittable : ℤ → ℤ → List WholeSegment → Bool

@@ -1,5 +1,4 @@
 pub mod Laws
-pub mod EndOf
 pub mod Graph
 pub mod Values
 pub mod Regions
@@ -8,9 +7,8 @@ pub mod Lines
 pub mod GraphOf
 pub mod OverlayGraphOf
 pub mod NodeIndexes
-pub mod LinkEnds
-pub mod LinkRules
 pub mod BuilderOf
 pub mod StringGraphOf
 pub mod Walks
-pub mod UnusedLinks
+-- what private functions tell one another
+pub mod steps

@@ -1,7 +1,8 @@
 -- The marks that a pass makes, and whether it rounds.
 use Rattle.std.specs.Prelude.{ℕ, Bool, List, flat_map, length, sum_by}
 use Rattle.std.specs.List.{list_any}
-use Rattle.overlay_base.specs.Points.{Point, Pair, point_cmp, distinct_in_order}
+use Rattle.overlay_base.specs.Points.{Point, Pair, point_cmp}
+use Rattle.overlay_base.specs.Sorting.{distinct_in_order}
 use Rattle.overlay_base.specs.Segments.{WholeSegment, pairs}
 use Rattle.overlay_marks.specs.Marks.{Placing, marks_by, cross_inexactly}
 

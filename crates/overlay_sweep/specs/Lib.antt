@@ -5,10 +5,9 @@ pub mod Sweep
 pub mod Live
 pub mod VisitOf
 pub mod EntryOf
-pub mod WayOf
 pub mod TreeShapes
-pub mod PlaceOf
 pub mod ScanTrees
 pub mod LiveOf
-pub mod LevelRows
 pub mod Laws
+-- what private functions tell one another
+pub mod steps

@@ -3,7 +3,8 @@ use Rattle.std.specs.Prelude.{ℕ, Bool, not, List, [], ◌∷◌, map, Option, 
 use Rattle.std.specs.Option.{option_map_or}
 use Rattle.std.specs.List.{enumerate_from, list_any}
 use Rattle.std.specs.Ordering.{ordering_then}
-use Rattle.overlay_base.specs.Points.{Point, point_cmp, stably_sorted}
+use Rattle.overlay_base.specs.Points.{Point, point_cmp}
+use Rattle.overlay_base.specs.Sorting.{stably_sorted}
 use Rattle.overlay_base.specs.Windings.{Winding, is_count_in_range}
 use Rattle.overlay_base.specs.Segments.{WholeSegment}
 use Rattle.overlay_base.specs.EdgeData.{DataSegment, without_data}

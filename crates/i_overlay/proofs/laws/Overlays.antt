@@ -4,7 +4,8 @@ use Rattle.std.specs.Prelude.{ℤ, Result, IfErr}
 use Rattle.std.specs.List.{list_all}
 use Rattle.std.proofs.lemmas.Bool.{and_parts}
 use Rattle.std.proofs.lemmas.Result.{IfErr-weaker}
-use Rattle.overlay_base.specs.Points.{is_within_box_of, is_strictly_sorted}
+use Rattle.overlay_base.specs.Points.{is_within_box_of}
+use Rattle.overlay_base.specs.Sorting.{is_strictly_sorted}
 use Rattle.overlay_base.specs.Windings.{Winding, empty}
 use Rattle.overlay_base.specs.Segments.{WholeSegment, pairs, ends, is_map}
 use Rattle.overlay_base.specs.Join.{join}

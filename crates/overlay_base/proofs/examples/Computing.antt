@@ -1,6 +1,7 @@
 -- Opens every definition: a proof under the line `unfolding computing` computes with all of them.
 use Rattle.std.specs.Prelude.{⊤}
-use Rattle.overlay_base.specs.Points.{turn, sqr_distance, is_in_box, lies_on, is_strictly_inside, is_within_box_of, distinct_in_order, is_strictly_sorted, has_repeat, insert_before_ties, stably_sorted, greatest}
+use Rattle.overlay_base.specs.Points.{turn, sqr_distance, is_in_box, lies_on, is_strictly_inside, is_within_box_of}
+use Rattle.overlay_base.specs.Sorting.{distinct_in_order, is_strictly_sorted, has_repeat, insert_before_ties, stably_sorted, greatest}
 use Rattle.overlay_base.specs.Windings.{total}
 use Rattle.overlay_base.specs.Segments.{winding_at, total_weight, is_map}
 use Rattle.overlay_base.specs.Join.{summed, join, sums_from, running_sums, join_leaves_range}

@@ -6,7 +6,8 @@ use Rattle.std.specs.Ordering.{int_eq, is_lt}
 use Rattle.std.specs.List.{list_all, AllByRecursion}
 use Rattle.std.proofs.lemmas.Int.{ints, clamps}
 use Rattle.std.proofs.lemmas.Bool.{not-true, and_parts, and_from, or_cases, or_parts, or_from, both_ways, false_from_ne_true}
-use Rattle.overlay_base.specs.Points.{Point, Pair, pair_cmp, pair_lt, point_lt, turn, is_in_box, lies_on, is_ordered, is_strictly_inside, is_strictly_sorted}
+use Rattle.overlay_base.specs.Points.{Point, Pair, pair_cmp, pair_lt, point_lt, turn, is_in_box, lies_on, is_ordered, is_strictly_inside}
+use Rattle.overlay_base.specs.Sorting.{is_strictly_sorted}
 use Rattle.overlay_base.specs.Segments.{WholeSegment, pairs, is_map}
 use Rattle.overlay_base.specs.SegmentOf.{segments_of, ends_of}
 use Rattle.overlay_base.specs.Ranges.{heights, is_off_range}

@@ -5,7 +5,8 @@ use Rattle.std.specs.Ordering.{int_eq}
 use Rattle.std.specs.List.Sorted.{IsStrictlySortedBy}
 use Rattle.std.proofs.lemmas.Cmp.{int_ranked}
 use Rattle.std.proofs.lemmas.Bool.{and_parts, or_parts, or_left, or_right, not-false}
-use Rattle.overlay_base.specs.Points.{Pair, pair_cmp, pair_eq, distinct_in_order}
+use Rattle.overlay_base.specs.Points.{Pair, pair_cmp, pair_eq}
+use Rattle.overlay_base.specs.Sorting.{distinct_in_order}
 use Rattle.overlay_base.specs.Windings.{Winding, empty, add, weight, total, winding_eq, is_not_empty}
 use Rattle.overlay_base.specs.Segments.{WholeSegment, pairs, counts, segments_at, winding_at, total_weight}
 use Rattle.overlay_base.specs.Join.{summed, join}

@@ -8,8 +8,7 @@ use Rattle.overlay_base.specs.Points.{Point, Pair, is_between, is_in_box}
 use Rattle.overlay_base.specs.PairOf.{pair_of}
 use Rattle.overlay_base.specs.InRange.{IsPairInRange}
 use Rattle.overlay_base.specs.declared.geom.x_segment.XSegment.{XSegment}
-use Rattle.overlay_base.specs.Planar.{is_point_in_range, is_pair_in_range}
-use Rattle.overlay_base.specs.Coordinates.{least_coordinate, greatest_coordinate, is_coordinate, greatest_difference, greatest_product}
+use Rattle.overlay_base.specs.Coordinates.{least_coordinate, greatest_coordinate, is_coordinate, greatest_difference, greatest_product, is_point_in_range, is_pair_in_range}
 
 bounds_of_coordinate : (least greatest z : ℤ) → IsTrue (is_coordinate least greatest z) → (least ≤ℤ z) × (z ≤ℤ greatest)
 bounds_of_coordinate least greatest z h = grind (arith, ints)

@@ -4,7 +4,8 @@ use Rattle.std.specs.Ordering.{ordering_reverse, match_ordering}
 use Rattle.std.specs.BTreeSet.{insert_key}
 use Rattle.std.specs.List.{AllByRecursion}
 use Rattle.std.specs.List.Sorted.{IsStrictlySortedBy}
-use Rattle.overlay_base.specs.Points.{Pair, pair_cmp, pair_eq, insert_before_ties, stably_sorted, distinct_in_order}
+use Rattle.overlay_base.specs.Points.{Pair, pair_cmp, pair_eq}
+use Rattle.overlay_base.specs.Sorting.{insert_before_ties, stably_sorted, distinct_in_order}
 use Rattle.overlay_base.specs.Windings.{Winding, add, empty, is_not_empty}
 use Rattle.overlay_base.specs.Segments.{WholeSegment, pairs, winding_at}
 use Rattle.overlay_base.specs.Join.{summed, join}

@@ -10,7 +10,7 @@ use Rattle.std.specs.List.Sorted.{IsStrictlySortedBy}
 use Rattle.std.proofs.lemmas.Bool.{and_parts, and_from, or_parts, or_from}
 use Rattle.std.proofs.lemmas.Cmp.{upto, alike_right}
 use Rattle.std.proofs.lemmas.List.Sums.{sum_by-cons}
-use Rattle.overlay_base.specs.Points.{is_strictly_sorted, distinct_in_order, has_repeat}
+use Rattle.overlay_base.specs.Sorting.{is_strictly_sorted, distinct_in_order, has_repeat}
 use Rattle.overlay_base.proofs.laws.Lists.{Has, AllByRecursion-take, AllByRecursion-from_list_all, list_all-from_AllByRecursion, list_any-from_none, none_from_list_any}
 
 -- ---- answers of a comparison

@@ -6,7 +6,8 @@ use Rattle.std.specs.List.Sorted.{IsStrictlySortedBy}
 use Rattle.std.proofs.lemmas.Bool.{and_parts, and_from}
 use Rattle.std.proofs.lemmas.List.Kept.{IsStrictlySortedBy-filter}
 use Rattle.std.proofs.lemmas.List.Folds.{list_all-map}
-use Rattle.overlay_base.specs.Points.{Pair, pair_cmp, pair_eq, is_ordered, distinct_in_order}
+use Rattle.overlay_base.specs.Points.{Pair, pair_cmp, pair_eq, is_ordered}
+use Rattle.overlay_base.specs.Sorting.{distinct_in_order}
 use Rattle.overlay_base.specs.Windings.{Winding, empty, add, is_not_empty}
 use Rattle.overlay_base.specs.Segments.{WholeSegment, pairs, winding_at, is_map, are_ordered}
 use Rattle.overlay_base.specs.Join.{summed, join}

@@ -4,7 +4,8 @@ use Rattle.std.specs.List.{AllByRecursion, list_any, list_all}
 use Rattle.std.proofs.lemmas.Bool.{and_parts, or_parts, not-false}
 use Rattle.std.proofs.lemmas.Nat.{or_lt}
 use Rattle.std.proofs.lemmas.List.Folds.{list_all-map}
-use Rattle.overlay_base.specs.Points.{Pair, pair_cmp, pair_eq, distinct_in_order, Point, is_ordered}
+use Rattle.overlay_base.specs.Points.{Pair, pair_cmp, pair_eq, Point, is_ordered}
+use Rattle.overlay_base.specs.Sorting.{distinct_in_order}
 use Rattle.overlay_base.specs.Windings.{Winding, empty, add, is_not_empty, is_count_in_range}
 use Rattle.overlay_base.specs.Segments.{WholeSegment, pairs, winding_at, are_polygons, ends, is_map}
 use Rattle.overlay_base.specs.Join.{summed, join, join_leaves_range}

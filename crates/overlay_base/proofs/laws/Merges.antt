@@ -7,7 +7,8 @@ use Rattle.std.proofs.lemmas.List.Elements.{recursion_from_All}
 use Rattle.std.specs.List.Sorted.{IsSortedByKey}
 use Rattle.std.proofs.lemmas.List.{length-map, take-append-drop, take_all, take_more, map-append, take-map, get_or-drop}
 use Rattle.std.proofs.lemmas.List.Sums.{fold-append}
-use Rattle.overlay_base.specs.Points.{pair_cmp, pair_eq, stably_sorted, distinct_in_order}
+use Rattle.overlay_base.specs.Points.{pair_cmp, pair_eq}
+use Rattle.overlay_base.specs.Sorting.{stably_sorted, distinct_in_order}
 use Rattle.overlay_base.specs.Windings.{add, is_count_in_range, is_valid}
 use Rattle.overlay_base.specs.Segments.{pairs}
 use Rattle.overlay_base.specs.EdgeData.{DataSegment, Hooks, kept_sum, without_data, merged, merge_sorted, data_join, IsStoppedJoin}

@@ -8,9 +8,9 @@ use Rattle.std.proofs.lemmas.Bool.{or_parts, or_from, both_ways, false_from_ne_t
 use Rattle.std.specs.declared.cmp.Ordering.{Ordering}
 use Rattle.std.specs.declared.cmp.Ordering.TheVariants.{Less, Equal, Greater}
 use Rattle.std.specs.Ordering.{int_cmp, is_eq, is_lt, ordering_then, ordering_reverse, MatchOrdering}
-use Rattle.overlay_base.specs.Points.{Point, Pair, point_cmp, point_eq, point_lt, pair_cmp, pair_eq, pair_lt, turn, is_in_box, is_end, lies_on, is_strictly_inside}
+use Rattle.overlay_base.specs.Points.{Point, Pair, point_cmp, point_eq, point_lt, pair_cmp, pair_eq, pair_lt, turn, is_in_box, is_end, lies_on, is_strictly_inside, moved}
 use Rattle.overlay_base.specs.Meeting.{are_collinear}
-use Rattle.overlay_base.specs.Laws.{TurnChangesSign, moved, PointsAreOrdered, PairsAreOrdered, LiesOnByOrder, LiesInsideByOrder}
+use Rattle.overlay_base.specs.Laws.{TurnChangesSign, PointsAreOrdered, PairsAreOrdered, LiesOnByOrder, LiesInsideByOrder}
 use Rattle.overlay_base.proofs.laws.Keys.{is_lt-true}
 use Rattle.overlay_base.proofs.laws.Polynomials.{as_D, difference-pos, diffs, D-eq, mul-nonneg, mul-nonpos, mul-nonpos_left, mul-nonneg_both, cancel-nonneg, cancel-nonpos, cancel-zero}
 

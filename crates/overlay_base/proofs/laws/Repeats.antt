@@ -3,7 +3,8 @@ use Rattle.std.proofs.Common.{◌≡◌, Bool, true, false, ◌||◌, List, [], 
 use Rattle.std.specs.List.{list_any}
 use Rattle.std.proofs.lemmas.Map.Keys.{IsDistinct-IsPermutation, IsDistinct-from_sorted}
 use Rattle.std.proofs.lemmas.List.Sorted.{IsPermutation-map, IsPermutation-sym}
-use Rattle.overlay_base.specs.Points.{pair_cmp, pair_eq, has_repeat}
+use Rattle.overlay_base.specs.Points.{pair_cmp, pair_eq}
+use Rattle.overlay_base.specs.Sorting.{has_repeat}
 use Rattle.overlay_base.specs.Segments.{WholeSegment, pairs, is_map}
 use Rattle.overlay_base.specs.Join.{has_equal_pairs, has_equal_neighbors}
 use Rattle.overlay_base.proofs.laws.Points.{pair_cmp_total}

@@ -9,7 +9,8 @@ use Rattle.std.proofs.lemmas.Bool.{and_parts}
 use Rattle.overlay_base.specs.Points.{Pair}
 use Rattle.overlay_base.specs.Windings.{is_valid, is_not_empty}
 use Rattle.overlay_base.specs.Segments.{WholeSegment}
-use Rattle.overlay_base.specs.Planar.{is_pair_in_range, is_splittable}
+use Rattle.overlay_base.specs.Planar.{is_splittable}
+use Rattle.overlay_base.specs.Coordinates.{is_pair_in_range}
 use Rattle.overlay_base.specs.InRange.{IsPairInRange}
 use Rattle.overlay_base.specs.PairOf.{pair_of}
 use Rattle.overlay_base.specs.declared.geom.x_segment.XSegment.{XSegment}

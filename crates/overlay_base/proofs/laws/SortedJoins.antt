@@ -3,7 +3,8 @@ use Rattle.std.proofs.Common.{◌≡◌, List, map, filter, IsPermutation, IsSor
 use Rattle.std.specs.List.Sorted.{IsStableByKey}
 use Rattle.std.proofs.lemmas.List.Sorted.{IsPermutation-map}
 use Rattle.std.proofs.lemmas.Simd.{map-map}
-use Rattle.overlay_base.specs.Points.{pair_cmp, stably_sorted}
+use Rattle.overlay_base.specs.Points.{pair_cmp}
+use Rattle.overlay_base.specs.Sorting.{stably_sorted}
 use Rattle.overlay_base.specs.Windings.{is_not_empty}
 use Rattle.overlay_base.specs.Segments.{WholeSegment}
 use Rattle.overlay_base.specs.Join.{join, join_leaves_range, has_equal_pairs, has_equal_neighbors}

@@ -4,7 +4,8 @@ use Rattle.std.proofs.Math.Seq.{take-add}
 use Rattle.std.proofs.lemmas.Bool.{or_left, both_ways, cases_lt}
 use Rattle.std.proofs.lemmas.List.{map-append, take-append-drop}
 use Rattle.std.proofs.lemmas.List.Folds.{list_any-append}
-use Rattle.overlay_base.specs.Points.{Pair, pair_eq, stably_sorted}
+use Rattle.overlay_base.specs.Points.{Pair, pair_eq}
+use Rattle.overlay_base.specs.Sorting.{stably_sorted}
 use Rattle.overlay_base.specs.Windings.{Winding, empty, add}
 use Rattle.overlay_base.specs.Segments.{WholeSegment}
 use Rattle.overlay_base.specs.Join.{join_leaves_range}

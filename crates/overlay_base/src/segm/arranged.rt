@@ -1,11 +1,13 @@
 // Tests of lists: whether a list may be split, and whether it is a planar arrangement. This project's own.
 ghost use Rattle.std.specs.Prelude.{◌≡◌, ◌&&◌, int_lt, IsTrue};
 ghost use Rattle.std.specs.List.{list_all};
-ghost use Rattle.overlay_base.specs.Points.{pair_cmp, pair_lt, is_ordered, is_strictly_sorted};
+ghost use Rattle.overlay_base.specs.Points.{pair_cmp, pair_lt, is_ordered};
+ghost use Rattle.overlay_base.specs.Sorting.{is_strictly_sorted};
 ghost use Rattle.overlay_base.specs.Windings.{is_valid, is_not_empty};
 ghost use Rattle.overlay_base.specs.Segments.{pairs};
 ghost use Rattle.overlay_base.specs.Meeting.{are_apart};
-ghost use Rattle.overlay_base.specs.Planar.{is_pair_in_range, is_point_in_range, is_planar, is_splittable, is_arranged};
+ghost use Rattle.overlay_base.specs.Planar.{is_planar, is_splittable, is_arranged};
+ghost use Rattle.overlay_base.specs.Coordinates.{is_pair_in_range, is_point_in_range};
 ghost use Rattle.overlay_base.specs.InRange.{IsPairInRange};
 ghost use Rattle.overlay_base.specs.PointOf.{point_of};
 ghost use Rattle.overlay_base.specs.PairOf.{pair_of};

@@ -1,7 +1,8 @@
 // The order of a list of segments. Upstream: `segm::sort`, which takes an unstable sort of its own.
 ghost use Rattle.std.specs.Prelude.{◌≡◌, [], OnOk, OnErr, IfErr, IsSortedByKey, IsPermutation};
 ghost use Rattle.overlay_base.specs.declared.segm.fault.Fault.TheVariants.{Memory};
-ghost use Rattle.overlay_base.specs.Points.{pair_cmp, stably_sorted};
+ghost use Rattle.overlay_base.specs.Points.{pair_cmp};
+ghost use Rattle.overlay_base.specs.Sorting.{stably_sorted};
 ghost use Rattle.overlay_base.specs.SegmentOf.{ends_of};
 
 use crate::num::OverlayInt;

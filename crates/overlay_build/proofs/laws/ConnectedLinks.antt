@@ -7,7 +7,7 @@ use Rattle.std.proofs.lemmas.Simd.{map-map}
 use Rattle.overlay_base.specs.Points.{Point, Pair}
 use Rattle.overlay_base.specs.PointOf.{point_of}
 use Rattle.overlay_base.specs.declared.overlay_core.link.OverlayLink.{OverlayLink}
-use Rattle.overlay_build.specs.EndOf.{WholeEnd}
+use Rattle.overlay_build.specs.steps.EndOf.{WholeEnd}
 use Rattle.overlay_build.specs.Graph.{Filled, Node, node_points, node_number, links_at, graph_of, nodes_of}
 use Rattle.overlay_build.specs.GraphOf.{link_of, kept_of, graph_with, pairs_of_links, HoldGraph}
 use Rattle.overlay_build.specs.Graph.{without_nodes}

@@ -5,7 +5,7 @@ use Rattle.std.specs.Ordering.{ordering_reverse}
 use Rattle.std.specs.List.{list_any}
 use Rattle.std.proofs.lemmas.Map.Keys.{IsDistinct-IsPermutation}
 use Rattle.std.proofs.lemmas.List.Sorted.{IsPermutation-sym}
-use Rattle.overlay_base.specs.Points.{has_repeat}
+use Rattle.overlay_base.specs.Sorting.{has_repeat}
 use Rattle.overlay_base.proofs.laws.Lists.{same_from_false}
 use Rattle.overlay_base.proofs.laws.Keys.{has_key-below, Less-from_tests, IsInOrder, AllByRecursion-less_in_order, IsDistinct-from_test, has_repeat-distinct}
 

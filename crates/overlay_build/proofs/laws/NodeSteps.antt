@@ -8,20 +8,21 @@ use Rattle.std.proofs.lemmas.Bool.{both_ways, false_from_ne_true, eqb-true, eq-e
 use Rattle.std.proofs.lemmas.Bool.Decides.{nat_tests}
 use Rattle.std.proofs.lemmas.List.Folds.{list_any-append, list_all-append, list_any_at, Any-from_list_any}
 use Rattle.std.proofs.lemmas.Simd.{map-map}
-use Rattle.overlay_base.specs.Points.{Point, Pair, point_cmp, point_eq, point_lt, is_end, stably_sorted}
+use Rattle.overlay_base.specs.Points.{Point, Pair, point_cmp, point_eq, point_lt, is_end}
+use Rattle.overlay_base.specs.Sorting.{stably_sorted}
 use Rattle.overlay_base.specs.PointOf.{point_of}
 use Rattle.overlay_base.specs.declared.overlay_core.link.OverlayLink.{OverlayLink}
 use Rattle.overlay_base.proofs.laws.Points.{point_cmp_total, same_by_eq, point_eq_same, point_lt-irreflexive}
 use Rattle.overlay_base.proofs.laws.Lists.{filter-map}
 use Rattle.overlay_base.proofs.laws.StableSorts.{stably_sorted-IsPermutation, stably_sorted-stable, stably_sorted_is_stable}
-use Rattle.overlay_build.specs.EndOf.{WholeEnd}
+use Rattle.overlay_build.specs.steps.EndOf.{WholeEnd}
 use Rattle.std.specs.List.Sorted.{ties}
 use Rattle.std.specs.Ordering.{is_lt}
 use Rattle.std.proofs.lemmas.List.Elements.{filter_agree, filter-append}
 use Rattle.overlay_build.proofs.laws.GraphRuns.{tied_where_equal, IsRunOf, filter-run}
 use Rattle.overlay_build.specs.Graph.{node_points, node_number, links_at, indexes_where}
 use Rattle.overlay_build.specs.GraphOf.{pairs_of_links, link_of, with_node}
-use Rattle.overlay_build.specs.LinkEnds.{numbered_starts, numbered_ends}
+use Rattle.overlay_build.specs.steps.LinkEnds.{numbered_starts, numbered_ends}
 use Rattle.overlay_build.proofs.laws.GraphLaws.{links_at-exactly}
 use Rattle.overlay_base.proofs.laws.Pairs.{has_point}
 use Rattle.overlay_build.proofs.laws.GraphNodes.{has_start, has_end, sorted_at, sorted_ends, node_number-of, node_number-at, node_number-is, node_points-exactly}

@@ -5,7 +5,8 @@ use Rattle.std.specs.Ordering.{int_eq}
 use Rattle.std.proofs.lemmas.Int.{ints, by_lt_z}
 use Rattle.std.proofs.lemmas.Bool.{and_parts, and_from, and_left, cases_Bool, both_ways, false_from_ne_true, not-true}
 use Rattle.std.proofs.lemmas.Bool.Decides.{Decides-int_eq}
-use Rattle.overlay_base.specs.Points.{Point, Pair, turn, point_eq, pair_eq, pair_cmp, pair_lt, is_vertical, is_strictly_inside, is_strictly_sorted}
+use Rattle.overlay_base.specs.Points.{Point, Pair, turn, point_eq, pair_eq, pair_cmp, pair_lt, is_vertical, is_strictly_inside}
+use Rattle.overlay_base.specs.Sorting.{is_strictly_sorted}
 use Rattle.overlay_base.specs.Windings.{Winding, add, empty}
 use Rattle.overlay_base.specs.Segments.{WholeSegment, pairs, total_weight}
 use Rattle.overlay_base.specs.Balance.{IsBalanced}

@@ -4,7 +4,8 @@ use Rattle.std.specs.Prelude.{ℤ, pos, ◌+ℤ◌, ◌-ℤ◌, ◌*ℤ◌, ◌<
 use Rattle.std.specs.List.{list_all}
 use Rattle.std.proofs.lemmas.Int.{ints, by_lt_z}
 use Rattle.std.proofs.lemmas.Bool.{and_parts, and_from, or_left, false_from_ne_true}
-use Rattle.overlay_base.specs.Points.{Point, Pair, turn, point_eq, pair_cmp, is_strictly_inside, is_strictly_sorted}
+use Rattle.overlay_base.specs.Points.{Point, Pair, turn, point_eq, pair_cmp, is_strictly_inside}
+use Rattle.overlay_base.specs.Sorting.{is_strictly_sorted}
 use Rattle.overlay_base.specs.Windings.{Winding}
 use Rattle.overlay_base.specs.Segments.{WholeSegment, pairs}
 use Rattle.overlay_base.specs.Balance.{IsBalanced}

@@ -13,7 +13,7 @@ use Rattle.overlay_base.specs.Points.{Point}
 use Rattle.overlay_base.specs.declared.overlay_core.link.OverlayLink.{OverlayLink}
 use Rattle.overlay_build.specs.Graph.{Filled, Link, Node, node_points, graph_of, has_even_nodes}
 use Rattle.overlay_build.specs.GraphOf.{link_of, kept_of, graph_with, HoldGraph}
-use Rattle.overlay_build.specs.UnusedLinks.{meets, unused_degree, AreUnusedEven, AreCounted, ArePassed}
+use Rattle.overlay_build.specs.steps.UnusedLinks.{meets, unused_degree, AreUnusedEven, AreCounted, ArePassed}
 use Rattle.overlay_build.specs.Walks.{other_node, walk_end, IsClosedWalk, AreClosedWalks}
 use Rattle.overlay_build.proofs.laws.Indexes.{has_number}
 use Rattle.overlay_build.proofs.laws.GraphLaws.{pairs_of, node_of, length-links, length-nodes, node_at, links_at-exactly, names_its_nodes, stands_at_its_nodes}

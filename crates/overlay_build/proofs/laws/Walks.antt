@@ -10,7 +10,7 @@ use Rattle.overlay_base.specs.Points.{Point, Pair, point_eq}
 use Rattle.overlay_sweep.specs.Fill.{flag_value}
 use Rattle.overlay_base.specs.Rules.{differ}
 use Rattle.overlay_build.specs.Graph.{Filled, Link, Node, node_points, node_number, graph_of, has_even_nodes}
-use Rattle.overlay_build.specs.UnusedLinks.{touches, unused_degree, AreCounted}
+use Rattle.overlay_build.specs.steps.UnusedLinks.{touches, unused_degree, AreCounted}
 use Rattle.overlay_build.specs.Walks.{other_node, walk_end, IsClosedWalk, AreClosedWalks}
 use Rattle.overlay_base.proofs.laws.Pairs.{has_point}
 use Rattle.overlay_build.proofs.laws.GraphNodes.{has_start, has_end, node_number-of, node_number-is}

@@ -14,7 +14,7 @@ ghost use Rattle.overlay_build.specs.Sides.{IsBalancedOverlay};
 ghost use Rattle.overlay_build.specs.Lines.{IsBalancedClip};
 ghost use Rattle.overlay_build.specs.GraphOf.{HoldGraph, graph_with};
 ghost use Rattle.overlay_build.specs.NodeIndexes.{indexes_of, is_canonical_node, items_of, is_any_node};
-ghost use Rattle.overlay_build.specs.LinkRules.{keeps_by};
+ghost use Rattle.overlay_build.specs.steps.LinkRules.{keeps_by};
 ghost use Rattle.overlay_build.specs.BuilderOf.{built_nodes, built_links};
 
 use crate::build::fills::find_fills;

@@ -5,7 +5,7 @@ ghost use Rattle.overlay_base.specs.declared.segm.fault.Fault.TheVariants.{Memor
 ghost use Rattle.overlay_base.specs.declared.overlay_core.fill_rule.FillRule.{FillRule};
 ghost use Rattle.overlay_build.specs.Graph.{filled, fills_of, data_by};
 ghost use Rattle.overlay_build.specs.GraphOf.{kept_of};
-ghost use Rattle.overlay_build.specs.LinkRules.{keeps_by};
+ghost use Rattle.overlay_build.specs.steps.LinkRules.{keeps_by};
 
 use overlay_base::geom::id_point::IdPoint;
 use overlay_base::num::OverlayInt;

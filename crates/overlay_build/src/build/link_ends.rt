@@ -1,12 +1,13 @@
 // The ends of links in order of their points. Upstream: part of `build::graph`, which sorts the second ends alone.
 ghost use Rattle.std.specs.Prelude.{◌≡◌, ◌≢◌, ℕ, ◌-◌, ◌<◌, ◌≤◌, ◌++◌, map, take, drop, length, slice_index_or, OnOk, IfErr, All, if◌then◌else◌};
-ghost use Rattle.overlay_base.specs.Points.{point_cmp, stably_sorted};
+ghost use Rattle.overlay_base.specs.Points.{point_cmp};
+ghost use Rattle.overlay_base.specs.Sorting.{stably_sorted};
 ghost use Rattle.overlay_base.specs.PointOf.{point_of};
 ghost use Rattle.overlay_base.specs.declared.segm.fault.Fault.TheVariants.{Memory};
 ghost use Rattle.overlay_base.specs.declared.overlay_core.link.OverlayLink.{OverlayLink};
-ghost use Rattle.overlay_build.specs.EndOf.{WholeEnd, ends_of};
+ghost use Rattle.overlay_build.specs.steps.EndOf.{WholeEnd, ends_of};
 ghost use Rattle.overlay_build.specs.GraphOf.{pairs_of_links, with_node, names_node};
-ghost use Rattle.overlay_build.specs.LinkEnds.{numbered_starts, numbered_ends};
+ghost use Rattle.overlay_build.specs.steps.LinkEnds.{numbered_starts, numbered_ends};
 
 use overlay_base::geom::end::End;
 use overlay_base::geom::point::IntPoint;

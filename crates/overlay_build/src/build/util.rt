@@ -1,7 +1,8 @@
 // Whether a contour meets itself in a point. Upstream: `build::util`.
 ghost use Rattle.std.specs.Prelude.{◌≡◌, [], ◌<◌, ◌≤◌, map, length, IfOk, OnOk, IfErr, IsSortedByKey, IsPermutation};
 ghost use Rattle.std.specs.List.{list_any};
-ghost use Rattle.overlay_base.specs.Points.{point_cmp, point_eq, has_repeat, stably_sorted};
+ghost use Rattle.overlay_base.specs.Points.{point_cmp, point_eq};
+ghost use Rattle.overlay_base.specs.Sorting.{has_repeat, stably_sorted};
 ghost use Rattle.overlay_base.specs.PointOf.{point_of};
 ghost use Rattle.overlay_base.specs.declared.segm.fault.Fault.TheVariants.{Memory};
 

@@ -5,7 +5,7 @@ ghost use Rattle.overlay_build.specs.Graph.{Link, has_even_nodes};
 ghost use Rattle.overlay_build.specs.GraphOf.{graph_with, link_of};
 ghost use Rattle.overlay_build.specs.NodeIndexes.{indexes_of};
 ghost use Rattle.overlay_build.specs.OverlayGraphOf.{nodes_of, links_of};
-ghost use Rattle.overlay_build.specs.UnusedLinks.{meets, unused_degree, AreUnusedEven, AreCounted, ArePassed};
+ghost use Rattle.overlay_build.specs.steps.UnusedLinks.{meets, unused_degree, AreUnusedEven, AreCounted, ArePassed};
 ghost use Rattle.overlay_build.specs.Walks.{IsClosedWalk, AreClosedWalks};
 
 use crate::build::graph::OverlayGraph;

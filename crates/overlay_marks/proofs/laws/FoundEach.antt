@@ -7,7 +7,8 @@ use Rattle.std.proofs.lemmas.Bool.{or_cases, or_left, or_right, false_from_ne_tr
 use Rattle.std.proofs.lemmas.List.{get_or-map, length-map}
 use Rattle.std.proofs.lemmas.List.Elements.{All-from_recursion}
 use Rattle.std.specs.Cmp.{both_ways as same_tests}
-use Rattle.overlay_base.specs.Points.{Point, Pair, point_cmp, is_strictly_inside, distinct_in_order}
+use Rattle.overlay_base.specs.Points.{Point, Pair, point_cmp, is_strictly_inside}
+use Rattle.overlay_base.specs.Sorting.{distinct_in_order}
 use Rattle.overlay_base.specs.Meeting.{do_cross}
 use Rattle.overlay_base.specs.Segments.{WholeSegment, pairs}
 use Rattle.overlay_base.proofs.laws.Points.{point_cmp_total, point_same}

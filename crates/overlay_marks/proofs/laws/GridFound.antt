@@ -11,7 +11,7 @@ use Rattle.std.proofs.lemmas.List.Sorted.{IsPermutation-sym}
 use Rattle.overlay_base.specs.Points.{Point, Pair, pair_lt, turn, is_ordered, is_vertical, is_strictly_inside}
 use Rattle.overlay_base.specs.Ranges.{Rect, do_rects_meet}
 use Rattle.overlay_base.specs.Meeting.{do_cross}
-use Rattle.overlay_base.specs.Planar.{is_pair_in_range}
+use Rattle.overlay_base.specs.Coordinates.{is_pair_in_range}
 use Rattle.overlay_base.specs.SegmentOf.{segments_of, ends_of}
 use Rattle.overlay_base.specs.declared.segm.segment.Segment.{Segment}
 use Rattle.overlay_base.proofs.laws.Apart.{pairs-map}

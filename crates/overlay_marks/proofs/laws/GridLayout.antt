@@ -7,7 +7,8 @@ use Rattle.std.specs.List.{list_all, list_any}
 use Rattle.std.proofs.lemmas.Int.{ints, clamps}
 use Rattle.std.proofs.lemmas.Bool.{false≢true}
 use Rattle.std.proofs.lemmas.List.Folds.{list_all-append}
-use Rattle.overlay_base.specs.Points.{Point, Pair, pair_cmp, is_ordered, is_strictly_sorted, is_within_box_of}
+use Rattle.overlay_base.specs.Points.{Point, Pair, pair_cmp, is_ordered, is_within_box_of}
+use Rattle.overlay_base.specs.Sorting.{is_strictly_sorted}
 use Rattle.overlay_base.specs.Segments.{ends}
 use Rattle.overlay_marks.specs.Grid.{Layout, IsLayout, greatest_x, group_count, fragments}
 use Rattle.overlay_marks.specs.Looked.{all_fragments}

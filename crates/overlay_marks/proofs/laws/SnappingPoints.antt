@@ -1,10 +1,9 @@
 -- The snapping and the settling point as code places them, and that they are in range.
 use Rattle.std.proofs.Common.{◌≡◌, ◌≢◌, refl, ap, true, false, ◌||◌, IsTrue, arith}
 use Rattle.std.specs.Prelude.{ℤ, pos, unsigned_abs}
-use Rattle.overlay_base.specs.Points.{Pair, is_vertical, is_horizontal}
-use Rattle.overlay_base.specs.Laws.{moved}
+use Rattle.overlay_base.specs.Points.{Pair, is_vertical, is_horizontal, moved}
 use Rattle.overlay_base.specs.Meeting.{do_cross}
-use Rattle.overlay_base.specs.Planar.{is_point_in_range, is_pair_in_range}
+use Rattle.overlay_base.specs.Coordinates.{is_point_in_range, is_pair_in_range}
 use Rattle.overlay_base.proofs.laws.Coordinates.{in_box_in_range}
 use Rattle.overlay_marks.specs.Crossing.{truncated, nearest, nearest_upward, crossing_d, offset_x, offset_y, placed_by, snapping_point, settling_point}
 use Rattle.overlay_marks.proofs.laws.Crossings.{scale, IsPart-share, snapping_in_target, settling_in_target}

@@ -3,7 +3,7 @@ use Rattle.std.specs.Prelude.{ℕ, ◌+◌, ℤ, Bool, false, int_lt, ◌&&◌, 
 use Rattle.std.specs.List.{list_any}
 use Rattle.std.specs.Ordering.{int_eq}
 use Rattle.overlay_base.specs.Points.{Pair, pair_lt, is_ordered, is_vertical, is_strictly_inside}
-use Rattle.overlay_base.specs.Planar.{is_pair_in_range}
+use Rattle.overlay_base.specs.Coordinates.{is_pair_in_range}
 use Rattle.overlay_base.specs.Ranges.{do_rects_meet}
 use Rattle.overlay_marks.specs.Marks.{Placing, cross_inexactly}
 use Rattle.overlay_marks.specs.MarkOf.{Mark}

@@ -4,7 +4,8 @@ use Rattle.std.specs.Prelude.{flat_map}
 use Rattle.std.specs.List.{list_any}
 use Rattle.std.proofs.lemmas.Bool.{cond-true, or_from, and_right, leb-true, leb-false, eq-eqb, eqb-true}
 use Rattle.std.proofs.lemmas.List.Folds.{sum_by-zero}
-use Rattle.overlay_base.specs.Points.{Point, Pair, point_cmp, point_lt, distinct_in_order}
+use Rattle.overlay_base.specs.Points.{Point, Pair, point_cmp, point_lt}
+use Rattle.overlay_base.specs.Sorting.{distinct_in_order}
 use Rattle.overlay_base.specs.Windings.{Winding, inverse}
 use Rattle.overlay_base.specs.Segments.{WholeSegment, pairs, is_map, are_ordered}
 use Rattle.overlay_base.specs.Join.{join, has_equal_pairs}

@@ -7,7 +7,8 @@ use Rattle.std.proofs.lemmas.List.Elements.{recursion_from_All}
 use Rattle.std.proofs.lemmas.Bool.{cond_both}
 use Rattle.std.proofs.lemmas.Option.{slice_get_within, get_or_from_slice_get}
 use Rattle.overlay_base.specs.Windings.{is_valid}
-use Rattle.overlay_base.specs.Points.{Point, Pair, point_cmp, is_ordered, distinct_in_order}
+use Rattle.overlay_base.specs.Points.{Point, Pair, point_cmp, is_ordered}
+use Rattle.overlay_base.specs.Sorting.{distinct_in_order}
 use Rattle.overlay_base.specs.Segments.{WholeSegment}
 use Rattle.overlay_base.specs.EdgeData.{DataSegment, Hooks, without_data}
 use Rattle.overlay_base.proofs.laws.Elements.{AllByRecursion-drop}

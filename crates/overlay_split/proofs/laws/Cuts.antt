@@ -3,7 +3,8 @@ use Rattle.std.proofs.Common.{◌≡◌, refl, sym, ap, ap₂, subst, ◌∙◌,
 use Rattle.std.specs.Prelude.{flat_map}
 use Rattle.std.specs.List.{AllByRecursion}
 use Rattle.std.proofs.lemmas.List.{take-append-drop}
-use Rattle.overlay_base.specs.Points.{Pair, pair_cmp, distinct_in_order}
+use Rattle.overlay_base.specs.Points.{Pair, pair_cmp}
+use Rattle.overlay_base.specs.Sorting.{distinct_in_order}
 use Rattle.overlay_base.specs.Windings.{is_not_empty}
 use Rattle.overlay_base.specs.Segments.{WholeSegment, pairs, winding_at}
 use Rattle.overlay_base.specs.Sums.{IsCommutativeMonoid, gathered}

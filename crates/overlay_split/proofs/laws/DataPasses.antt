@@ -4,7 +4,8 @@ use Rattle.std.specs.List.{list_all}
 use Rattle.std.proofs.lemmas.List.{map-append, take-map}
 use Rattle.std.proofs.lemmas.List.Folds.{flat_map-map, sum_by-zero, list_all-map}
 use Rattle.std.proofs.lemmas.Bool.{and_parts, eqb-true, eq-eqb}
-use Rattle.overlay_base.specs.Points.{Point, Pair, point_lt, pair_cmp, pair_eq, is_ordered, is_strictly_sorted, insert_before_ties, stably_sorted, distinct_in_order}
+use Rattle.overlay_base.specs.Points.{Point, Pair, point_lt, pair_cmp, pair_eq, is_ordered}
+use Rattle.overlay_base.specs.Sorting.{is_strictly_sorted, insert_before_ties, stably_sorted, distinct_in_order}
 use Rattle.overlay_base.specs.Windings.{Winding, is_not_empty}
 use Rattle.overlay_base.specs.Segments.{WholeSegment, pairs, is_map}
 use Rattle.overlay_base.specs.Join.{join}

@@ -3,7 +3,8 @@ use Rattle.std.proofs.Common.{◌≡◌, refl, sym, ap, ap₂, ◌∙◌, ◌⊎
 use Rattle.std.specs.Prelude.{flat_map, pos}
 use Rattle.std.specs.List.{list_any, AllByRecursion}
 use Rattle.std.proofs.lemmas.Bool.{cond-false, cond-true, cases_Bool, and_from, and_parts, both_ways, not-true, false_from_ne_true, leb-false}
-use Rattle.overlay_base.specs.Points.{Point, Pair, point_cmp, point_eq, is_end, lies_on, is_strictly_inside, turn, distinct_in_order}
+use Rattle.overlay_base.specs.Points.{Point, Pair, point_cmp, point_eq, is_end, lies_on, is_strictly_inside, turn}
+use Rattle.overlay_base.specs.Sorting.{distinct_in_order}
 use Rattle.overlay_base.specs.Windings.{Winding, total, add, empty}
 use Rattle.overlay_base.specs.Segments.{WholeSegment, pairs, counts, ends, are_ordered}
 use Rattle.overlay_base.specs.Join.{join}

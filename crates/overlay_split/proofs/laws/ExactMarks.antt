@@ -3,7 +3,8 @@ use Rattle.std.proofs.Common.{◌≡◌, sym, ap, ◌⊎◌, ⊎_elim, inl, inr,
 use Rattle.std.specs.Prelude.{flat_map}
 use Rattle.std.specs.List.{list_any, AllByRecursion}
 use Rattle.std.proofs.lemmas.Bool.{or_right, not-false, cases_Bool}
-use Rattle.overlay_base.specs.Points.{Point, Pair, point_cmp, point_eq, is_ordered, is_end, is_strictly_inside, distinct_in_order}
+use Rattle.overlay_base.specs.Points.{Point, Pair, point_cmp, point_eq, is_ordered, is_end, is_strictly_inside}
+use Rattle.overlay_base.specs.Sorting.{distinct_in_order}
 use Rattle.overlay_base.specs.Segments.{WholeSegment, pairs, are_ordered}
 use Rattle.overlay_base.specs.Meeting.{do_cross}
 use Rattle.overlay_marks.specs.Crossing.{is_exact, snapping_point}

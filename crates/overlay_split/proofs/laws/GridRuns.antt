@@ -3,7 +3,8 @@ use Rattle.std.proofs.Common.{◌≡◌, refl, ⊎_elim, arith, ℕ, zero, suc, 
 use Rattle.std.specs.Prelude.{Option, Some, None, int_le}
 use Rattle.std.specs.List.{list_all, AllByRecursion}
 use Rattle.std.proofs.lemmas.Bool.{cases_lt}
-use Rattle.overlay_base.specs.Points.{Point, Pair, pair_cmp, is_ordered, is_strictly_sorted, is_within_box_of}
+use Rattle.overlay_base.specs.Points.{Point, Pair, pair_cmp, is_ordered, is_within_box_of}
+use Rattle.overlay_base.specs.Sorting.{is_strictly_sorted}
 use Rattle.overlay_base.specs.Windings.{is_not_empty}
 use Rattle.overlay_base.specs.Segments.{WholeSegment, pairs, ends, is_map, are_ordered}
 use Rattle.overlay_base.specs.Join.{join}

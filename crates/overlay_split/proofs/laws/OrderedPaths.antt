@@ -4,7 +4,8 @@ use Rattle.std.specs.Prelude.{ℤ, pos, ◌+ℤ◌, ◌-ℤ◌, ◌*ℤ◌, ◌<
 use Rattle.std.proofs.lemmas.Int.{ints}
 use Rattle.std.proofs.lemmas.Bool.{cond_both, cond-false, cond-true}
 use Rattle.std.specs.List.{AllByRecursion}
-use Rattle.overlay_base.specs.Points.{Point, Pair, point_cmp, point_lt, turn, is_end, is_strictly_inside, distinct_in_order}
+use Rattle.overlay_base.specs.Points.{Point, Pair, point_cmp, point_lt, turn, is_end, is_strictly_inside}
+use Rattle.overlay_base.specs.Sorting.{distinct_in_order}
 use Rattle.overlay_base.specs.Windings.{Winding, inverse}
 use Rattle.overlay_base.specs.Segments.{WholeSegment}
 use Rattle.overlay_split.specs.Path.{columns_of, next_point, last_point, run_through, path_from, path, piece, pieces_along, pieces}

@@ -8,7 +8,8 @@ use Rattle.std.proofs.lemmas.Int.{ints}
 use Rattle.std.proofs.lemmas.Bool.{cond_both, and_from}
 use Rattle.std.proofs.lemmas.Bool.Decides.{Decides-int_eq}
 use Rattle.std.specs.List.{AllByRecursion}
-use Rattle.overlay_base.specs.Points.{Point, Pair, point_cmp, point_lt, is_ordered, distinct_in_order}
+use Rattle.overlay_base.specs.Points.{Point, Pair, point_cmp, point_lt, is_ordered}
+use Rattle.overlay_base.specs.Sorting.{distinct_in_order}
 use Rattle.overlay_base.specs.Windings.{Winding}
 use Rattle.overlay_base.specs.Segments.{WholeSegment, are_ordered}
 use Rattle.overlay_marks.proofs.laws.Marks.{Differ}

@@ -1,7 +1,8 @@
 -- The result of a run is a planar arrangement, and a run has one number of passes. To split a result again changes nothing, and on exact input the settings do not matter.
 use Rattle.std.proofs.Common.{◌≡◌, sym, ap, ap₂, ◌∙◌, ⊎_elim, subst, not, IsTrue, IsFalse, List, [], ◌∷◌, ◌++◌, filter, take, drop, ℕ, zero, suc, length, nat_le}
 use Rattle.std.proofs.lemmas.Bool.{and_cases, both_ways, cases_order, cases_Bool}
-use Rattle.overlay_base.specs.Points.{Point, Pair, point_cmp, is_end, distinct_in_order}
+use Rattle.overlay_base.specs.Points.{Point, Pair, point_cmp, is_end}
+use Rattle.overlay_base.specs.Sorting.{distinct_in_order}
 use Rattle.overlay_base.specs.Segments.{WholeSegment, pairs, is_map, are_ordered}
 use Rattle.overlay_base.specs.Join.{join}
 use Rattle.overlay_base.specs.Meeting.{do_cross}

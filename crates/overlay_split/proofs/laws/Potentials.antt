@@ -9,7 +9,8 @@ use Rattle.std.proofs.lemmas.Int.{ints, by_lt_z}
 use Rattle.std.proofs.lemmas.List.Sums.{sum_by-cons}
 use Rattle.std.proofs.lemmas.Bool.{and_parts, cond-true, cond-false, cases_Bool}
 use Rattle.std.specs.List.Sorted.{IsStrictlySortedBy}
-use Rattle.overlay_base.specs.Points.{Point, Pair, point_cmp, pair_lt, is_end, is_ordered, distinct_in_order}
+use Rattle.overlay_base.specs.Points.{Point, Pair, point_cmp, pair_lt, is_end, is_ordered}
+use Rattle.overlay_base.specs.Sorting.{distinct_in_order}
 use Rattle.overlay_base.specs.Segments.{WholeSegment, pairs, are_ordered}
 use Rattle.overlay_base.specs.Meeting.{do_cross}
 use Rattle.overlay_base.specs.Sums.{IsCommutativeMonoid, gathered}

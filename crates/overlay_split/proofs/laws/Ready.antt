@@ -14,7 +14,8 @@ use Rattle.overlay_base.specs.Windings.{is_valid, is_not_empty}
 use Rattle.overlay_base.specs.Segments.{WholeSegment, pairs, is_map}
 use Rattle.overlay_base.specs.Join.{join}
 use Rattle.overlay_base.proofs.laws.Maps.{is_map-join}
-use Rattle.overlay_base.specs.Planar.{is_splittable, is_pair_in_range, is_point_in_range}
+use Rattle.overlay_base.specs.Planar.{is_splittable}
+use Rattle.overlay_base.specs.Coordinates.{is_pair_in_range, is_point_in_range}
 use Rattle.overlay_base.specs.InRange.{IsPairInRange}
 use Rattle.overlay_base.specs.SegmentOf.{x_segment_of, ends_of, segments_of, segment_of, data_segments_of, winding_of}
 use Rattle.overlay_base.specs.declared.segm.segment.Segment.{Segment}

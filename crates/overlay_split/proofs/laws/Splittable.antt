@@ -7,7 +7,8 @@ use Rattle.overlay_base.specs.Points.{Point, is_ordered}
 use Rattle.overlay_base.specs.Windings.{swap_directions, is_valid, is_not_empty, is_count_in_range}
 use Rattle.overlay_base.specs.Segments.{WholeSegment, is_map}
 use Rattle.overlay_base.specs.Join.{join, join_leaves_range}
-use Rattle.overlay_base.specs.Planar.{is_point_in_range, is_pair_in_range, is_splittable}
+use Rattle.overlay_base.specs.Planar.{is_splittable}
+use Rattle.overlay_base.specs.Coordinates.{is_point_in_range, is_pair_in_range}
 use Rattle.overlay_marks.specs.Marks.{Placing, settling}
 use Rattle.overlay_split.specs.Pass.{cut, pass}
 use Rattle.overlay_split.specs.Potential.{spread, potential}

@@ -6,7 +6,8 @@ use Rattle.std.specs.List.{list_all}
 use Rattle.std.proofs.lemmas.Bool.{and_parts, and_from, or_from, both_ways, false_from_ne_true, cases_lt, lt-leb, le-leb, cond-true, cond-false}
 use Rattle.std.proofs.lemmas.List.{length-map}
 use Rattle.std.proofs.lemmas.List.Sums.{sum_by-cons}
-use Rattle.overlay_base.specs.Points.{Pair, is_within_box_of, distinct_in_order, stably_sorted, has_repeat}
+use Rattle.overlay_base.specs.Points.{Pair, is_within_box_of}
+use Rattle.overlay_base.specs.Sorting.{distinct_in_order, stably_sorted, has_repeat}
 use Rattle.overlay_base.specs.Coordinates.{least_coordinate, greatest_coordinate, greatest_difference}
 use Rattle.overlay_base.specs.Segments.{WholeSegment, pairs, ends, is_map, are_ordered}
 use Rattle.overlay_base.specs.Join.{summed, join, join_leaves_range, has_equal_pairs}

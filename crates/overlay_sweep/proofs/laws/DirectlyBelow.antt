@@ -5,7 +5,8 @@ use Rattle.std.specs.Option.{option_map_or}
 use Rattle.std.specs.Ordering.{is_lt, ordering_then}
 use Rattle.std.proofs.lemmas.Int.{ints}
 use Rattle.std.proofs.lemmas.Bool.{and_parts, both_ways, cases_Bool}
-use Rattle.overlay_base.specs.Points.{Point, Pair, turn, pair_eq, pair_lt, pair_cmp, is_strictly_sorted}
+use Rattle.overlay_base.specs.Points.{Point, Pair, turn, pair_eq, pair_lt, pair_cmp}
+use Rattle.overlay_base.specs.Sorting.{is_strictly_sorted}
 use Rattle.overlay_base.specs.Windings.{empty}
 use Rattle.overlay_base.specs.Segments.{WholeSegment, pairs}
 use Rattle.overlay_base.specs.Meeting.{are_apart}

@@ -13,7 +13,7 @@ use Rattle.overlay_base.proofs.laws.Apart.{are_apart-itself, apart_in_y}
 use Rattle.overlay_sweep.proofs.laws.ColumnLines.{lt-test}
 use Rattle.overlay_sweep.proofs.laws.LiveSums.{Has-from_Contains, Contains-from_Has}
 use Rattle.overlay_sweep.specs.Live.{HoldSameFrom, AreFreeAt}
-use Rattle.overlay_sweep.specs.LevelRows.{level_pair, level_row, AreRows}
+use Rattle.overlay_sweep.specs.steps.LevelRows.{level_pair, level_row, AreRows}
 
 or_first : (a b : Bool) → a ≡ true → (a || b) ≡ true
 or_first a b h = rw h refl

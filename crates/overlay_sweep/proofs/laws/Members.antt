@@ -7,7 +7,8 @@ use Rattle.std.specs.Ordering.{is_lt}
 use Rattle.std.proofs.lemmas.Int.{ints}
 use Rattle.std.proofs.lemmas.Bool.{and_parts, and_from, both_ways}
 use Rattle.std.proofs.lemmas.List.Elements.{All-nil, All-cons}
-use Rattle.overlay_base.specs.Points.{Pair, pair_cmp, pair_eq, pair_lt, is_ordered, is_strictly_sorted, greatest}
+use Rattle.overlay_base.specs.Points.{Pair, pair_cmp, pair_eq, pair_lt, is_ordered}
+use Rattle.overlay_base.specs.Sorting.{is_strictly_sorted, greatest}
 use Rattle.overlay_base.specs.Windings.{is_not_empty}
 use Rattle.overlay_base.specs.Segments.{WholeSegment, pairs, is_map, are_ordered}
 use Rattle.overlay_base.specs.Meeting.{are_apart}

@@ -12,7 +12,7 @@ use Rattle.overlay_base.specs.Segments.{WholeSegment, pairs}
 use Rattle.overlay_base.specs.Below.{angle_cmp}
 use Rattle.overlay_base.specs.PointOf.{point_of}
 use Rattle.overlay_base.specs.declared.geom.point.IntPoint.{IntPoint}
-use Rattle.overlay_sweep.specs.WayOf.{WholeWay, ways_between}
+use Rattle.overlay_sweep.specs.steps.WayOf.{WholeWay, ways_between}
 use Rattle.overlay_sweep.proofs.laws.Supports.{angle_asymmetric, angle-chain}
 
 -- ---- equal points

@@ -10,7 +10,8 @@ use Rattle.std.proofs.lemmas.List.{map_more, append-nil}
 use Rattle.std.proofs.lemmas.List.Elements.{All-contains, filter-append}
 use Rattle.std.proofs.lemmas.List.Sums.{fold_push}
 use Rattle.std.specs.List.{take-map}
-use Rattle.overlay_base.specs.Points.{Point, turn, greatest}
+use Rattle.overlay_base.specs.Points.{Point, turn}
+use Rattle.overlay_base.specs.Sorting.{greatest}
 use Rattle.overlay_base.specs.Windings.{Winding}
 use Rattle.overlay_base.specs.Segments.{WholeSegment}
 use Rattle.overlay_base.specs.Below.{height_cmp, angle_cmp, under_segment_order}

@@ -7,7 +7,8 @@ use Rattle.std.proofs.lemmas.Int.{ints}
 use Rattle.std.proofs.lemmas.Bool.{and_from}
 use Rattle.std.proofs.lemmas.List.{take-append-drop, take_all, append-nil, length-map, get_or-map}
 use Rattle.std.proofs.lemmas.List.FromFn.{length-enumerate_from}
-use Rattle.overlay_base.specs.Points.{Point, Pair, point_lt, stably_sorted}
+use Rattle.overlay_base.specs.Points.{Point, Pair, point_lt}
+use Rattle.overlay_base.specs.Sorting.{stably_sorted}
 use Rattle.overlay_base.specs.Windings.{Winding, add, empty, weight, is_count_in_range, is_valid}
 use Rattle.overlay_base.specs.Segments.{WholeSegment, pairs}
 use Rattle.overlay_base.specs.EdgeData.{DataSegment, without_data}
@@ -18,7 +19,7 @@ use Rattle.overlay_sweep.specs.ChainWindings.{directly_below, top, top_within, b
 use Rattle.overlay_sweep.specs.Fill.{fill_byte}
 use Rattle.overlay_sweep.specs.Sweep.{Visit, whole_of, visits, handled, visited, visits_leave_range, sum_below}
 use Rattle.overlay_sweep.specs.Live.{HoldSameFrom, AreFreeAt}
-use Rattle.overlay_sweep.specs.WayOf.{WholeWay, ways_between, by_angle}
+use Rattle.overlay_sweep.specs.steps.WayOf.{WholeWay, ways_between, by_angle}
 use Rattle.overlay_sweep.proofs.laws.Members.{IsArranged}
 use Rattle.overlay_sweep.proofs.laws.ChainSums.{top_is_sum}
 use Rattle.overlay_sweep.proofs.laws.NodeChains.{IsChain, node_is_chain}

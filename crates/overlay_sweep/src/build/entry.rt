@@ -33,7 +33,7 @@ impl<C: WindingCount, I: OverlayInt> Copy for Entry<C, I> {}
 impl<C: WindingCount, I: OverlayInt> Entry<C, I> {
     ghost use Rattle.std.specs.Prelude.{◌≡◌, ◌+◌, ◌-◌, ◌^◌, min, int_lt};
     ghost use Rattle.overlay_base.specs.VSegmentOf.{v_pair_of};
-    ghost use Rattle.overlay_sweep.specs.PlaceOf.{IsPlaceInRange, stands_before};
+    ghost use Rattle.overlay_sweep.specs.steps.PlaceOf.{IsPlaceInRange, stands_before};
 
     /// Whether the segment ends right of `x`.
     pub(crate) fn lasts_past(&self, x: I) -> bool

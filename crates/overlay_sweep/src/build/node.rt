@@ -4,7 +4,7 @@ ghost use Rattle.overlay_base.specs.Points.{Pair};
 ghost use Rattle.overlay_base.specs.Segments.{pairs};
 ghost use Rattle.overlay_base.specs.InRange.{IsPairInRange};
 ghost use Rattle.overlay_base.specs.SegmentOf.{segments_of, x_segment_of};
-ghost use Rattle.overlay_sweep.specs.WayOf.{ways_of, ways_between, by_angle};
+ghost use Rattle.overlay_sweep.specs.steps.WayOf.{ways_of, ways_between, by_angle};
 
 use crate::build::way::Way;
 use overlay_base::num::OverlayInt;

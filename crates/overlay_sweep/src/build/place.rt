@@ -15,7 +15,7 @@ pub(crate) enum Place<I> {
 impl<I: OverlayInt> Place<I> {
     ghost use Rattle.std.specs.Prelude.{◌≡◌};
     ghost use Rattle.overlay_base.specs.VSegmentOf.{v_pair_of, IsVSegmentInRange};
-    ghost use Rattle.overlay_sweep.specs.PlaceOf.{IsPlaceInRange, stands_before};
+    ghost use Rattle.overlay_sweep.specs.steps.PlaceOf.{IsPlaceInRange, stands_before};
 
     /// Whether a segment stands before the place.
     pub(crate) fn is_after(&self, segment: &VSegment<I>) -> bool

@@ -3,7 +3,7 @@ ghost use Rattle.std.specs.Prelude.{◌≡◌, ◌+◌, ◌*◌, ◌<◌, ℤ, p
 ghost use Rattle.overlay_base.specs.Coordinates.{is_coordinate};
 ghost use Rattle.overlay_base.specs.BooleanWinding.{boolean_winding};
 ghost use Rattle.overlay_base.specs.VSegmentOf.{v_pair_of, IsVSegmentInRange};
-ghost use Rattle.overlay_sweep.specs.LevelRows.{level_pair, level_row, AreRows};
+ghost use Rattle.overlay_sweep.specs.steps.LevelRows.{level_pair, level_row, AreRows};
 
 use crate::build::live_segments::LiveSegments;
 use crate::build::scan_list::ScanList;

@@ -1,7 +1,7 @@
 // A balanced tree of the live segments. Upstream: `KeyExpTree` of `i_tree`.
 ghost use Rattle.std.specs.Prelude.{◌≡◌, ◌+◌, ◌/◌, ◌≤◌, ◌==◌, ◌&&◌, not};
 ghost use Rattle.overlay_base.specs.VSegmentOf.{v_pair_of};
-ghost use Rattle.overlay_sweep.specs.PlaceOf.{IsPlaceInRange, stands_before};
+ghost use Rattle.overlay_sweep.specs.steps.PlaceOf.{IsPlaceInRange, stands_before};
 ghost use Rattle.overlay_sweep.specs.TreeShapes.{none, height_at};
 
 use crate::build::entry::Entry;

@@ -25,7 +25,7 @@ impl<I: OverlayInt> Way<I> {
     ghost use Rattle.overlay_base.specs.Below.{angle_cmp};
     ghost use Rattle.overlay_base.specs.InRange.{IsPairInRange};
     ghost use Rattle.overlay_base.specs.SegmentOf.{ends_of, x_segment_of};
-    ghost use Rattle.overlay_sweep.specs.WayOf.{way_of};
+    ghost use Rattle.overlay_sweep.specs.steps.WayOf.{way_of};
 
     /// The way of the segment at an index. Its ends have to be in range.
     pub fn new<C: WindingCount, D: Copy>(index: usize, segment: &Segment<C, I, D>) -> Way<I>

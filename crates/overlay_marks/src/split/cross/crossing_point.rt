@@ -1,11 +1,9 @@
 // Where two segments cross: the exact point, as two offsets from the target's first end, and the point with whole
 // coordinates that it is rounded to. Upstream: `cross_point` of `split::cross_solver`.
 ghost use Rattle.std.specs.Prelude.{◌≡◌, ◌||◌, ◌≤◌, ◌*◌, ◌+ℤ◌, unsigned_abs, IsTrue};
-ghost use Rattle.overlay_base.specs.Coordinates.{is_coordinate, greatest_product};
-ghost use Rattle.overlay_base.specs.Points.{is_vertical, is_horizontal};
-ghost use Rattle.overlay_base.specs.Laws.{moved};
+ghost use Rattle.overlay_base.specs.Coordinates.{is_coordinate, greatest_product, is_point_in_range};
+ghost use Rattle.overlay_base.specs.Points.{is_vertical, is_horizontal, moved};
 ghost use Rattle.overlay_base.specs.Meeting.{do_cross};
-ghost use Rattle.overlay_base.specs.Planar.{is_point_in_range};
 ghost use Rattle.overlay_base.specs.PointOf.{point_of};
 ghost use Rattle.overlay_base.specs.PairOf.{pair_of};
 ghost use Rattle.overlay_base.specs.InRange.{IsPointInRange, IsPairInRange};

@@ -2,9 +2,9 @@ use Rattle.std.proofs.Common.{◌∙◌, ap, sym, List, [], ◌∷◌, ◌++◌,
 use Rattle.std.proofs.lemmas.List.{map-append, append-nil}
 use Rattle.overlay_base.specs.PointOf.{point_of}
 use Rattle.overlay_base.specs.declared.overlay_core.link.OverlayLink.{OverlayLink}
-use Rattle.overlay_build.specs.EndOf.{WholeEnd, end_of, ends_of}
+use Rattle.overlay_build.specs.steps.EndOf.{WholeEnd, end_of, ends_of}
 use Rattle.overlay_build.specs.GraphOf.{link_of, pairs_of_links}
-use Rattle.overlay_build.specs.LinkEnds.{numbered_starts, numbered_ends}
+use Rattle.overlay_build.specs.steps.LinkEnds.{numbered_starts, numbered_ends}
 use Rattle.overlay_build.proofs.laws.NodeLists.{numbered-all, numbered-more}
 use Rattle.overlay_build.proofs.build.link_ends.collect_ends.Goals as goal
 

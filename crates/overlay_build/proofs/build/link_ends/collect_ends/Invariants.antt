@@ -1,7 +1,7 @@
 use Rattle.std.proofs.Common.{◌≡◌, ◌++◌, take}
-use Rattle.overlay_build.specs.EndOf.{ends_of}
+use Rattle.overlay_build.specs.steps.EndOf.{ends_of}
 use Rattle.overlay_build.specs.GraphOf.{pairs_of_links}
-use Rattle.overlay_build.specs.LinkEnds.{numbered_starts, numbered_ends}
+use Rattle.overlay_build.specs.steps.LinkEnds.{numbered_starts, numbered_ends}
 use Rattle.overlay_build.proofs.build.link_ends.collect_ends.Given as goal
 
 abbrev pub invariant-loop-index : goal.invariant-loop-index

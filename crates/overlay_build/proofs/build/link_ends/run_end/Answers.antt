@@ -3,7 +3,7 @@ use Rattle.std.proofs.lemmas.Bool.{both_ways}
 use Rattle.overlay_base.specs.Points.{Point, point_eq}
 use Rattle.overlay_base.specs.PointOf.{point_of}
 use Rattle.overlay_base.proofs.laws.Points.{same_by_eq, point_eq_same}
-use Rattle.overlay_build.specs.EndOf.{WholeEnd, ends_of}
+use Rattle.overlay_build.specs.steps.EndOf.{WholeEnd, ends_of}
 use Rattle.overlay_sweep.proofs.laws.Nodes.{point_eq_is, each_more}
 use Rattle.overlay_build.proofs.laws.NodeLists.{end_point_at}
 use Rattle.overlay_build.proofs.build.link_ends.run_end.Goals as goal

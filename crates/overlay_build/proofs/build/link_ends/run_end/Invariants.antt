@@ -1,5 +1,5 @@
 use Rattle.std.proofs.Common.{◌≡◌, ℕ, ◌-◌, ◌<◌, ◌≤◌, length, slice_index_or}
-use Rattle.overlay_build.specs.EndOf.{WholeEnd, ends_of}
+use Rattle.overlay_build.specs.steps.EndOf.{WholeEnd, ends_of}
 use Rattle.overlay_build.proofs.build.link_ends.run_end.Given as goal
 
 abbrev pub invariant-loop-next : goal.invariant-loop-next

@@ -1,6 +1,7 @@
 use Rattle.std.proofs.Common.{◌∙◌, ◌++◌, ap, map, rules}
 use Rattle.std.proofs.lemmas.List.Sorted.{answers_always}
-use Rattle.overlay_base.specs.Points.{point_cmp, stably_sorted}
+use Rattle.overlay_base.specs.Points.{point_cmp}
+use Rattle.overlay_base.specs.Sorting.{stably_sorted}
 use Rattle.overlay_base.specs.PointOf.{point_of}
 use Rattle.overlay_base.proofs.laws.Points.{point_cmp_total}
 use Rattle.overlay_base.proofs.laws.StableSorts.{sorted_by_key-is, map-stably_sorted}

@@ -1,7 +1,7 @@
 use Rattle.std.proofs.Common.{◌≡◌, ◌≤◌, ◌+◌, ◌-◌, sym, ap, ap₂, subst, ◌∙◌, ◌++◌, List, ℕ, length}
 use Rattle.std.specs.Prelude.{IsTrue, IsPermutation, flat_map, sum_by}
 use Rattle.std.specs.List.{AllByRecursion, list_any, range_with_len}
-use Rattle.overlay_base.specs.Planar.{is_pair_in_range}
+use Rattle.overlay_base.specs.Coordinates.{is_pair_in_range}
 use Rattle.overlay_base.specs.Segments.{pairs}
 use Rattle.overlay_base.specs.SegmentOf.{segments_of, x_segment_of}
 use Rattle.overlay_base.proofs.laws.Coordinates.{pair_in_range}

@@ -4,7 +4,7 @@ use Rattle.std.proofs.lemmas.List.Sorted.{answers_always}
 use Rattle.overlay_base.specs.Below.{angle_cmp}
 use Rattle.overlay_base.specs.SegmentOf.{segment_of, segments_of}
 use Rattle.overlay_base.proofs.laws.StableSorts.{sorted_by-is, map-stably_sorted}
-use Rattle.overlay_sweep.specs.WayOf.{WholeWay, way_of, ways_of, ways_between, by_angle}
+use Rattle.overlay_sweep.specs.steps.WayOf.{WholeWay, way_of, ways_of, ways_between, by_angle}
 use Rattle.overlay_sweep.proofs.laws.Nodes.{ways_between-more, by_angle-ranks}
 use Rattle.overlay_sweep.proofs.build.node.collect_node.Goals as goal
 

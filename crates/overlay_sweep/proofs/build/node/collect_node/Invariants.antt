@@ -1,6 +1,6 @@
 use Rattle.std.proofs.Common.{◌≡◌, ◌≤◌}
 use Rattle.overlay_base.specs.SegmentOf.{segments_of}
-use Rattle.overlay_sweep.specs.WayOf.{ways_of, ways_between}
+use Rattle.overlay_sweep.specs.steps.WayOf.{ways_of, ways_between}
 use Rattle.overlay_sweep.proofs.build.node.collect_node.Given as goal
 
 abbrev pub invariant-loop-at : goal.invariant-loop-at

@@ -1,5 +1,5 @@
 use Rattle.std.specs.Prelude.{ℤ, pos, ◌≤ℤ◌}
-use Rattle.overlay_sweep.specs.LevelRows.{AreRows}
+use Rattle.overlay_sweep.specs.steps.LevelRows.{AreRows}
 use Rattle.overlay_sweep.proofs.build.scan_tests.look_at_rows.Given as goal
 
 abbrev pub invariant-loop-k : goal.invariant-loop-k

@@ -13,7 +13,7 @@ use Rattle.overlay_base.specs.PointOf.{point_of}
 use Rattle.overlay_base.specs.SegmentOf.{segment_of, segments_of, data_segment_of, data_segments_of, winding_of}
 use Rattle.overlay_sweep.specs.Sweep.{visits, visited, visits_leave_range, sum_below}
 use Rattle.overlay_sweep.specs.Live.{HoldSameFrom, AreFreeAt}
-use Rattle.overlay_sweep.specs.WayOf.{way_of, ways_of, ways_between, by_angle}
+use Rattle.overlay_sweep.specs.steps.WayOf.{way_of, ways_of, ways_between, by_angle}
 use Rattle.overlay_base.proofs.laws.Views.{segments_of-bare}
 use Rattle.overlay_sweep.proofs.laws.Members.{IsArranged}
 use Rattle.overlay_sweep.proofs.laws.Handling.{refused_as}

@@ -1,7 +1,7 @@
 use Rattle.std.proofs.Common.{◌≡◌, ℕ, ◌<◌, ◌-◌, length}
 use Rattle.overlay_base.specs.EdgeData.{without_data}
 use Rattle.overlay_base.specs.SegmentOf.{data_segments_of}
-use Rattle.overlay_sweep.specs.WayOf.{ways_of, ways_between, by_angle}
+use Rattle.overlay_sweep.specs.steps.WayOf.{ways_of, ways_between, by_angle}
 use Rattle.overlay_sweep.proofs.laws.Members.{IsArranged}
 use Rattle.overlay_sweep.proofs.laws.SweepStates.{IsBeforeNode, IsAmidNode}
 use Rattle.overlay_sweep.proofs.build.visits.sweep_with_handler.Given as goal

@@ -1,5 +1,6 @@
 use Rattle.std.proofs.Common.{◌∙◌, ap, map}
-use Rattle.overlay_base.specs.Points.{point_eq, has_repeat}
+use Rattle.overlay_base.specs.Points.{point_eq}
+use Rattle.overlay_base.specs.Sorting.{has_repeat}
 use Rattle.std.proofs.lemmas.List.Sorted.{IsPermutation-map}
 use Rattle.overlay_base.specs.PointOf.{point_of}
 use Rattle.overlay_base.proofs.laws.Points.{point_cmp_total}

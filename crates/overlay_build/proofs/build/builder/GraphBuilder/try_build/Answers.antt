@@ -1,6 +1,6 @@
 use Rattle.std.proofs.Common.{◌∙◌}
 use Rattle.overlay_base.specs.SegmentOf.{segments_of}
-use Rattle.overlay_build.specs.LinkRules.{keeps_by}
+use Rattle.overlay_build.specs.steps.LinkRules.{keeps_by}
 use Rattle.overlay_build.proofs.laws.BuiltGraphs.{hold_kept_graph, links_are_ordered}
 use Rattle.overlay_build.proofs.build.builder.GraphBuilder.try_build.Goals as goal
 

@@ -2,7 +2,7 @@
 use Rattle.std.specs.Prelude.{List, map}
 use Rattle.std.specs.List.{enumerate_from}
 use Rattle.overlay_base.specs.Points.{Pair}
-use Rattle.overlay_build.specs.EndOf.{WholeEnd}
+use Rattle.overlay_build.specs.steps.EndOf.{WholeEnd}
 
 -- the first ends, in the order of the links
 abbrev pub numbered_starts : List Pair → List WholeEnd

@@ -1,7 +1,8 @@
 -- The segments that start at one point, in order of their angles.
 use Rattle.std.specs.Prelude.{ℕ, ◌-◌, List, map, take, drop}
 use Rattle.std.specs.List.{enumerate_from}
-use Rattle.overlay_base.specs.Points.{Pair, stably_sorted}
+use Rattle.overlay_base.specs.Points.{Pair}
+use Rattle.overlay_base.specs.Sorting.{stably_sorted}
 use Rattle.overlay_base.specs.Segments.{WholeSegment}
 use Rattle.overlay_base.specs.Below.{angle_cmp}
 use Rattle.overlay_base.specs.VSegmentOf.{v_pair_of}

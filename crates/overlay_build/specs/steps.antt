@@ -1,0 +1,5 @@
+-- What private functions tell one another. No public contract speaks of it, so nobody has to believe it.
+pub mod EndOf
+pub mod LinkEnds
+pub mod LinkRules
+pub mod UnusedLinks
