@@ -15,7 +15,3 @@ pub mod GridFor
 pub mod Laws
 -- what private functions tell one another
 pub mod steps
--- the steps of the tree are cited by these names too
-pub use Rattle.overlay_marks.specs.steps.IntervalTree
-pub use Rattle.overlay_marks.specs.steps.NodeOf
-pub use Rattle.overlay_marks.specs.steps.Swept

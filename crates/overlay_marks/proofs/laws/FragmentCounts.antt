@@ -8,8 +8,8 @@ use Rattle.overlay_marks.specs.Grid.{Layout, Fragment, column_index, fragment_in
 use Rattle.overlay_marks.specs.Looked.{all_fragments, fragment_looks, grid_looks}
 use Rattle.overlay_marks.proofs.laws.GridAdding.{fragments_of_vertical}
 use Rattle.std.proofs.lemmas.List.{length-map}
-use Rattle.overlay_marks.specs.IntervalTree.{Entry}
-use Rattle.overlay_marks.specs.Swept.{unswept, entry_at}
+use Rattle.overlay_marks.specs.steps.IntervalTree.{Entry}
+use Rattle.overlay_marks.specs.steps.Swept.{unswept, entry_at}
 use Rattle.overlay_marks.proofs.laws.Sweeps.{IsSwept, unlive}
 use Rattle.overlay_marks.proofs.laws.GridLooks.{length_permuted}
 

@@ -8,7 +8,7 @@ use Rattle.std.proofs.lemmas.List.Sums.{sum_by-cons}
 use Rattle.overlay_base.specs.Points.{Pair, pair_cmp, is_ordered}
 use Rattle.overlay_base.proofs.laws.Keys.{IsInOrder}
 use Rattle.overlay_base.proofs.laws.Elements.{IsInOrder-drop, AllByRecursion-drop, AllByRecursion-drop_later}
-use Rattle.overlay_marks.specs.Swept.{pair_at}
+use Rattle.overlay_marks.specs.steps.Swept.{pair_at}
 use Rattle.overlay_marks.specs.Looked.{count_twos, ranges_meet, x_ranges_meet}
 use Rattle.overlay_marks.specs.Marks.{Placing}
 use Rattle.overlay_marks.specs.MarkOf.{Mark}

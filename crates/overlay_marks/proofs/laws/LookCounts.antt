@@ -13,8 +13,8 @@ use Rattle.overlay_base.specs.Points.{Pair, pair_cmp, is_ordered}
 use Rattle.overlay_base.proofs.laws.Keys.{IsInOrder}
 use Rattle.overlay_base.proofs.laws.Points.{before}
 use Rattle.overlay_base.proofs.laws.Lists.{AllByRecursion-weaker, AllByRecursion-both, sum_by-map}
-use Rattle.overlay_marks.specs.IntervalTree.{Entry, WholeQuery, is_at_heights, is_taken_up, is_found, is_dropped, left_by, inserted}
-use Rattle.overlay_marks.specs.Swept.{nowhere, pair_at, entry_at, unswept}
+use Rattle.overlay_marks.specs.steps.IntervalTree.{Entry, WholeQuery, is_at_heights, is_taken_up, is_found, is_dropped, left_by, inserted}
+use Rattle.overlay_marks.specs.steps.Swept.{nowhere, pair_at, entry_at, unswept}
 use Rattle.overlay_marks.specs.Looked.{count_twos, ranges_meet, boxes_meet, tree_looks}
 use Rattle.overlay_marks.proofs.laws.IntervalTrees.{count_by-append}
 use Rattle.overlay_marks.proofs.laws.Sweeps.{unlive, IsOf, Gone, IsSwept, query_at, entries_are, later_right, AllByRecursion-get}

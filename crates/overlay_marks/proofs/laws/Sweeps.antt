@@ -19,8 +19,8 @@ use Rattle.overlay_base.specs.declared.segm.segment.Segment.{Segment}
 use Rattle.std.proofs.lemmas.List.{get_or-map, length-map}
 use Rattle.overlay_base.proofs.laws.Lists.{Has, AllByRecursion-at, AllByRecursion-from_Has, AllByRecursion-weaker, AllByRecursion-map, AllByRecursion-map_out, AllByRecursion-filter, Has-map, Has-map_out, Has-filter}
 use Rattle.overlay_base.proofs.laws.Elements.{Has-permutation}
-use Rattle.overlay_marks.specs.IntervalTree.{Entry, WholeQuery, is_at_heights, is_taken_up, is_found, is_dropped, found, left_by, inserted, StandsBefore, AreRising, IsAt, IsUpTo}
-use Rattle.overlay_marks.specs.Swept.{nowhere, pair_at, entry_at, entry_of_pair, unswept}
+use Rattle.overlay_marks.specs.steps.IntervalTree.{Entry, WholeQuery, is_at_heights, is_taken_up, is_found, is_dropped, found, left_by, inserted, StandsBefore, AreRising, IsAt, IsUpTo}
+use Rattle.overlay_marks.specs.steps.Swept.{nowhere, pair_at, entry_at, entry_of_pair, unswept}
 use Rattle.overlay_marks.proofs.laws.ApartPairs.{AreApart, AreApart-back}
 
 -- ---- lists by their indexes

@@ -14,7 +14,7 @@ use Rattle.overlay_base.proofs.laws.Elements.{Has-append_out, Has-flat_map_out}
 use Rattle.overlay_marks.specs.Marks.{Placing, marks_by, cross_inexactly}
 use Rattle.overlay_marks.specs.MarkOf.{Mark}
 use Rattle.overlay_marks.specs.steps.Finder.{marks_at, marks_between, marks_of_each, some_cross_inexactly}
-use Rattle.overlay_marks.specs.Swept.{nowhere, pair_at, marks_with_found, crosses_found}
+use Rattle.overlay_marks.specs.steps.Swept.{nowhere, pair_at, marks_with_found, crosses_found}
 use Rattle.overlay_marks.proofs.laws.ApartPairs.{AreApart, AreApart-back, apart_have_no_mark, apart_are_exact}
 use Rattle.overlay_marks.proofs.laws.FoundEach.{StandsAt, stands, stands_alone, stands_within, at_in, at_out, each_in, each_out, some_in, some_out, none_on_itself, exact_with_itself, cross_inexactly-back}
 

@@ -10,9 +10,9 @@ use Rattle.std.proofs.lemmas.Map.Keys.{IsDistinct-IsPermutation}
 use Rattle.overlay_base.specs.Points.{Pair}
 use Rattle.overlay_base.proofs.laws.Keys.{IsInOrder, IsInOrder-from_sort}
 use Rattle.overlay_base.proofs.laws.Lists.{AllByRecursion-weaker, AllByRecursion_left}
-use Rattle.overlay_marks.specs.IntervalTree.{Entry, entries, StandsBefore, AreRising}
-use Rattle.overlay_marks.specs.Swept.{entry_at, alone, unswept}
-use Rattle.overlay_marks.specs.NodeOf.{entry_of, nodes_of}
+use Rattle.overlay_marks.specs.steps.IntervalTree.{Entry, entries, StandsBefore, AreRising}
+use Rattle.overlay_marks.specs.steps.Swept.{entry_at, alone, unswept}
+use Rattle.overlay_marks.specs.steps.NodeOf.{entry_of, nodes_of}
 use Rattle.overlay_marks.specs.declared.split.interval_tree.Node.{Node}
 
 -- ---- entries in order

@@ -3,8 +3,8 @@ use Rattle.std.proofs.Common.{◌≡◌, refl, sym, append_assoc, append-nil, Bo
 use Rattle.std.specs.Prelude.{ℤ, Option, Some, int_lt, count_by, min, ◌-◌, ◌^◌, ◌||◌}
 use Rattle.std.specs.List.{AllByRecursion, list_any}
 use Rattle.std.proofs.lemmas.List.{map-append, length-map}
-use Rattle.overlay_marks.specs.IntervalTree.{Entry, TreeNode, entries, AreRising, further, greatest_height, IsSummed, WholeQuery, is_taken_up, is_dropped, left_by, found, inserted, IsAt, IsUpTo}
-use Rattle.overlay_marks.specs.NodeOf.{entry_of, node_of, nodes_of, greatest_of}
+use Rattle.overlay_marks.specs.steps.IntervalTree.{Entry, TreeNode, entries, AreRising, further, greatest_height, IsSummed, WholeQuery, is_taken_up, is_dropped, left_by, found, inserted, IsAt, IsUpTo}
+use Rattle.overlay_marks.specs.steps.NodeOf.{entry_of, node_of, nodes_of, greatest_of}
 use Rattle.overlay_marks.specs.declared.split.interval_tree.Node.{Node}
 use Rattle.overlay_marks.proofs.laws.FoundMarks.{or_false, or_assoc}
 use Rattle.overlay_marks.proofs.laws.IntervalTrees.{IsRooted, IsRooted-from, IsSummed-from, entries-parts, AreParted, AreParted-from, none_above, none_dropped, none_found, found-append, count_by-append, is_before, none_inserted, none_after, none_before, none_other_after, none_other_before, not_here, none_counted, none_is_dropped, all_kept, is_of, greatest_height-inserted, none_of}

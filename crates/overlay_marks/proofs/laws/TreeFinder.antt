@@ -12,9 +12,9 @@ use Rattle.overlay_base.proofs.laws.Lists.{Has, AllByRecursion-at, AllByRecursio
 use Rattle.overlay_base.proofs.laws.Elements.{Has-append_out}
 use Rattle.overlay_marks.specs.Marks.{Placing}
 use Rattle.overlay_marks.specs.MarkOf.{Mark}
-use Rattle.overlay_marks.specs.IntervalTree.{Entry, TreeNode, entries, AreRising, IsSummed, none, WholeQuery, is_taken_up, found, left_by, inserted, stays_at, IsAt, IsUpTo}
+use Rattle.overlay_marks.specs.steps.IntervalTree.{Entry, TreeNode, entries, AreRising, IsSummed, none, WholeQuery, is_taken_up, found, left_by, inserted, stays_at, IsAt, IsUpTo}
 use Rattle.overlay_marks.proofs.laws.IntervalTrees.{is_of}
-use Rattle.overlay_marks.specs.Swept.{pair_at, entry_at, entries_between, unswept, marks_with_found, crosses_found}
+use Rattle.overlay_marks.specs.steps.Swept.{pair_at, entry_at, entries_between, unswept, marks_with_found, crosses_found}
 use Rattle.overlay_marks.proofs.laws.Sweeps.{IsSwept, IsSwept-start, IsSwept-more, query_at, all_earlier, found_all_near, unlive, entry_there, low_there, high_there, rising_map, unlive_map}
 use Rattle.overlay_marks.proofs.laws.TreeRenewals.{away, coming_asleep, away_asleep, away_other, left_with, found_with, count_with, inserted_with, renewed}
 use Rattle.overlay_marks.proofs.laws.FragmentCounts.{length-swept}

@@ -10,9 +10,9 @@ use Rattle.overlay_base.specs.Points.{Pair, pair_cmp}
 use Rattle.overlay_base.proofs.laws.Keys.{IsInOrder}
 use Rattle.overlay_base.proofs.laws.Apart.{int_lt-to}
 use Rattle.overlay_base.proofs.laws.Lists.{AllByRecursion-append, AllByRecursion_left, AllByRecursion_right, AllByRecursion-map, AllByRecursion-filter, AllByRecursion-weaker, AllByRecursion-from_Has, AllByRecursion-both}
-use Rattle.overlay_marks.specs.IntervalTree.{Entry, IsSummed, none, WholeQuery, is_at_heights, is_taken_up, found, left_by, inserted, stays_at}
-use Rattle.overlay_marks.specs.Swept.{pair_at, entry_at, entries_between, unswept}
-use Rattle.overlay_marks.specs.NodeOf.{nodes_of}
+use Rattle.overlay_marks.specs.steps.IntervalTree.{Entry, IsSummed, none, WholeQuery, is_at_heights, is_taken_up, found, left_by, inserted, stays_at}
+use Rattle.overlay_marks.specs.steps.Swept.{pair_at, entry_at, entries_between, unswept}
+use Rattle.overlay_marks.specs.steps.NodeOf.{nodes_of}
 use Rattle.overlay_marks.specs.declared.split.interval_tree.Node.{Node}
 use Rattle.overlay_marks.proofs.laws.IntervalTrees.{IsNotTaken, none_dropped, none_found, none_counted, none_inserted, found-append, count_by-append}
 use Rattle.overlay_marks.proofs.laws.Sweeps.{IsSwept, Gone, unlive, unlive_map, later_right, permuted, range_within}

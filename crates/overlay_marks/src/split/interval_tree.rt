@@ -3,9 +3,9 @@
 ghost use Rattle.std.specs.Prelude.{◌≡◌, ◌+◌, ◌-◌, ◌^◌, ◌==◌, ◌++◌, [], ◌∷◌, map, count_by, min, int_lt, nat_lt};
 ghost use Rattle.std.specs.Prelude.{true, not, ◌&&◌, ◌||◌, IsFalse, Some, IfOk, OnOk};
 ghost use Rattle.std.specs.List.{AllByRecursion, list_any};
-ghost use Rattle.overlay_marks.specs.IntervalTree.{AreRising, IsSummed, IsAt, IsUpTo, entries, greatest_height, further};
-ghost use Rattle.overlay_marks.specs.IntervalTree.{found, inserted, is_dropped, is_reached, is_taken_up, left_by, stays_at};
-ghost use Rattle.overlay_marks.specs.NodeOf.{entry_of, greatest_of, node_of, nodes_of, query_of};
+ghost use Rattle.overlay_marks.specs.steps.IntervalTree.{AreRising, IsSummed, IsAt, IsUpTo, entries, greatest_height, further};
+ghost use Rattle.overlay_marks.specs.steps.IntervalTree.{found, inserted, is_dropped, is_reached, is_taken_up, left_by, stays_at};
+ghost use Rattle.overlay_marks.specs.steps.NodeOf.{entry_of, greatest_of, node_of, nodes_of, query_of};
 
 use crate::split::looks::take_up;
 use overlay_base::geom::line_range::LineRange;

@@ -13,7 +13,7 @@ ghost use Rattle.overlay_marks.specs.PassMarks.{is_rounded};
 ghost use Rattle.overlay_marks.specs.PlacingOf.{placing_of, HasRadius};
 ghost use Rattle.overlay_marks.specs.MarkOf.{AreMarks, marks_of};
 ghost use Rattle.overlay_marks.specs.Looked.{count_twos, x_ranges_meet};
-ghost use Rattle.overlay_marks.specs.Swept.{pair_at};
+ghost use Rattle.overlay_marks.specs.steps.Swept.{pair_at};
 ghost use Rattle.overlay_marks.specs.steps.Finder.{marks_at, marks_of_overlap, marks_between, marks_of_first, first_crosses_inexactly};
 
 use crate::split::cross_solver::{CrossSolver, CrossType};

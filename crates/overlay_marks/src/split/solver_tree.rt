@@ -9,10 +9,10 @@ ghost use Rattle.overlay_base.specs.InRange.{IsPairInRange};
 ghost use Rattle.overlay_marks.specs.PassMarks.{is_rounded};
 ghost use Rattle.overlay_marks.specs.PlacingOf.{placing_of, HasRadius};
 ghost use Rattle.overlay_marks.specs.MarkOf.{AreMarks, marks_of};
-ghost use Rattle.overlay_marks.specs.IntervalTree.{AreRising, IsSummed, entries, stays_at};
-ghost use Rattle.overlay_marks.specs.NodeOf.{nodes_of, node_of, entry_of};
+ghost use Rattle.overlay_marks.specs.steps.IntervalTree.{AreRising, IsSummed, entries, stays_at};
+ghost use Rattle.overlay_marks.specs.steps.NodeOf.{nodes_of, node_of, entry_of};
 ghost use Rattle.overlay_marks.specs.Looked.{boxes_meet, count_twos, tree_looks};
-ghost use Rattle.overlay_marks.specs.Swept.{alone, entry_at, entry_of_pair, entries_between, pair_at, marks_with_found, crosses_found};
+ghost use Rattle.overlay_marks.specs.steps.Swept.{alone, entry_at, entry_of_pair, entries_between, pair_at, marks_with_found, crosses_found};
 ghost use Rattle.std.specs.List.{IsDistinct, range_with_len};
 
 use crate::split::interval_tree::{Node, Query, insert, look_up, stays, sum_up};

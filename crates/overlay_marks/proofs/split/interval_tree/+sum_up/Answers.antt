@@ -1,5 +1,5 @@
 use Rattle.std.proofs.Common.{◌≡◌, ap, ◌∙◌}
-use Rattle.overlay_marks.specs.NodeOf.{nodes_of}
+use Rattle.overlay_marks.specs.steps.NodeOf.{nodes_of}
 use Rattle.overlay_marks.proofs.laws.TreeCuts.{summed_up}
 use Rattle.overlay_marks.proofs.laws.TreeRenewals.{empty_tree}
 use Rattle.overlay_marks.proofs.split.interval_tree.+sum_up.Goals as goal

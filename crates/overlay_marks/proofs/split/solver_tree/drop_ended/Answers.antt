@@ -1,7 +1,7 @@
 use Rattle.std.proofs.Common.{rules}
 use Rattle.std.proofs.lemmas.Fn.{filter_same}
-use Rattle.overlay_marks.specs.IntervalTree.{stays_at}
-use Rattle.overlay_marks.specs.NodeOf.{entry_of}
+use Rattle.overlay_marks.specs.steps.IntervalTree.{stays_at}
+use Rattle.overlay_marks.specs.steps.NodeOf.{entry_of}
 use Rattle.overlay_marks.proofs.split.solver_tree.drop_ended.Goals as goal
 
 pub returns : goal.returns

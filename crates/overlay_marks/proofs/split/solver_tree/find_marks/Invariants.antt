@@ -2,7 +2,7 @@ use Rattle.overlay_base.specs.Segments.{pairs}
 use Rattle.overlay_base.specs.SegmentOf.{segments_of}
 use Rattle.overlay_marks.specs.PlacingOf.{placing_of}
 use Rattle.overlay_marks.specs.MarkOf.{marks_of}
-use Rattle.overlay_marks.specs.NodeOf.{nodes_of}
+use Rattle.overlay_marks.specs.steps.NodeOf.{nodes_of}
 use Rattle.overlay_marks.proofs.laws.TreeFinder.{IsUnderWay}
 use Rattle.overlay_marks.proofs.split.solver_tree.find_marks.Given as goal
 

@@ -5,7 +5,7 @@ use Rattle.overlay_base.specs.PairOf.{pair_of}
 use Rattle.overlay_base.specs.SegmentOf.{segments_of}
 use Rattle.overlay_marks.specs.PlacingOf.{placing_of}
 use Rattle.overlay_marks.specs.MarkOf.{marks_of}
-use Rattle.overlay_marks.specs.Swept.{pair_at}
+use Rattle.overlay_marks.specs.steps.Swept.{pair_at}
 use Rattle.overlay_marks.proofs.laws.ApartPairs.{ends_differ}
 use Rattle.overlay_marks.proofs.laws.FoundMarks.{or_true, or_false}
 use Rattle.overlay_marks.proofs.laws.Sweeps.{pair_at-is, pairs_in_order, length-pairs, later_not_less}

@@ -3,7 +3,7 @@ use Rattle.overlay_base.specs.Segments.{pairs}
 use Rattle.overlay_base.specs.SegmentOf.{segments_of}
 use Rattle.overlay_marks.specs.PlacingOf.{placing_of}
 use Rattle.overlay_marks.specs.MarkOf.{marks_of}
-use Rattle.overlay_marks.specs.Swept.{marks_with_found, crosses_found}
+use Rattle.overlay_marks.specs.steps.Swept.{marks_with_found, crosses_found}
 use Rattle.overlay_marks.proofs.split.solver_tree.mark_with_found.Given as goal
 
 abbrev pub invariant-loop-earlier : goal.invariant-loop-earlier

@@ -5,9 +5,9 @@ use Rattle.std.proofs.lemmas.List.FromFn.{map-range_with_len_more}
 use Rattle.overlay_base.specs.Segments.{pairs}
 use Rattle.overlay_base.specs.PairOf.{pair_of}
 use Rattle.overlay_base.specs.SegmentOf.{segments_of}
-use Rattle.overlay_marks.specs.IntervalTree.{TreeNode}
-use Rattle.overlay_marks.specs.NodeOf.{node_of, nodes_of}
-use Rattle.overlay_marks.specs.Swept.{alone, entry_at, entry_of_pair}
+use Rattle.overlay_marks.specs.steps.IntervalTree.{TreeNode}
+use Rattle.overlay_marks.specs.steps.NodeOf.{node_of, nodes_of}
+use Rattle.overlay_marks.specs.steps.Swept.{alone, entry_at, entry_of_pair}
 use Rattle.overlay_marks.proofs.laws.Sweeps.{pair_at-is}
 use Rattle.overlay_marks.proofs.split.solver_tree.push_nodes.Goals as goal
 

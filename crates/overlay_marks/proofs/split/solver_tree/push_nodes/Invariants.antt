@@ -2,8 +2,8 @@ use Rattle.std.proofs.Common.{◌≡◌, ◌-◌, ◌++◌, map}
 use Rattle.std.specs.List.{range_with_len}
 use Rattle.overlay_base.specs.Segments.{pairs}
 use Rattle.overlay_base.specs.SegmentOf.{segments_of}
-use Rattle.overlay_marks.specs.NodeOf.{nodes_of}
-use Rattle.overlay_marks.specs.Swept.{alone, entry_at}
+use Rattle.overlay_marks.specs.steps.NodeOf.{nodes_of}
+use Rattle.overlay_marks.specs.steps.Swept.{alone, entry_at}
 use Rattle.overlay_marks.proofs.split.solver_tree.push_nodes.Given as goal
 
 abbrev pub invariant-loop-index : goal.invariant-loop-index

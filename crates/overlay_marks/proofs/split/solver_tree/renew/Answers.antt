@@ -7,9 +7,9 @@ use Rattle.overlay_base.specs.Segments.{pairs}
 use Rattle.overlay_base.specs.Points.{Pair}
 use Rattle.overlay_base.specs.PairOf.{pair_of}
 use Rattle.overlay_base.specs.SegmentOf.{segments_of}
-use Rattle.overlay_marks.specs.IntervalTree.{Entry, TreeNode, AreRising, IsSummed, entries, stays_at}
-use Rattle.overlay_marks.specs.NodeOf.{entry_of, node_of, nodes_of}
-use Rattle.overlay_marks.specs.Swept.{alone, entry_at, entries_between, pair_at}
+use Rattle.overlay_marks.specs.steps.IntervalTree.{Entry, TreeNode, AreRising, IsSummed, entries, stays_at}
+use Rattle.overlay_marks.specs.steps.NodeOf.{entry_of, node_of, nodes_of}
+use Rattle.overlay_marks.specs.steps.Swept.{alone, entry_at, entries_between, pair_at}
 use Rattle.overlay_marks.proofs.laws.Sweeps.{pair_at-is}
 use Rattle.overlay_marks.proofs.laws.TreeBuilds.{rising_from, places_in_order, entries_of_alone, entries_filter}
 use Rattle.overlay_marks.proofs.laws.TreeCuts.{written, same_length}

@@ -7,11 +7,11 @@ use Rattle.overlay_base.proofs.laws.Apart.{are_ordered}
 use Rattle.std.specs.List.{AllByRecursion}
 use Rattle.overlay_marks.specs.PlacingOf.{placing_of}
 use Rattle.overlay_marks.specs.MarkOf.{marks_of}
-use Rattle.overlay_marks.specs.NodeOf.{nodes_of}
+use Rattle.overlay_marks.specs.steps.NodeOf.{nodes_of}
 use Rattle.std.proofs.lemmas.List.Sums.{count_by-le-length}
-use Rattle.overlay_marks.specs.IntervalTree.{WholeQuery, IsAt, IsUpTo, entries, found, inserted, left_by, is_taken_up}
+use Rattle.overlay_marks.specs.steps.IntervalTree.{WholeQuery, IsAt, IsUpTo, entries, found, inserted, left_by, is_taken_up}
 use Rattle.std.proofs.lemmas.Bool.{cases_order}
-use Rattle.overlay_marks.specs.Swept.{pair_at}
+use Rattle.overlay_marks.specs.steps.Swept.{pair_at}
 use Rattle.overlay_marks.proofs.laws.FoundMarks.{or_true, or_false}
 use Rattle.overlay_marks.proofs.laws.FoundEach.{some_cross_inexactly-is}
 use Rattle.overlay_marks.proofs.laws.FragmentCounts.{stays_within}
