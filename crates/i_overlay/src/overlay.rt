@@ -83,4 +83,6 @@ pub fn split_and_build_overlay<'a, I: OverlayInt, D: OverlayEdgeData<ShapeCountB
 }
 
 #[cfg(test)]
+mod provenance_tests;
+#[cfg(test)]
 mod tests;
