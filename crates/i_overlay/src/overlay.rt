@@ -1,11 +1,13 @@
 // A split and a build in one call. This project's own.
-ghost use Rattle.std.specs.Prelude.{◌≡◌, ◌⊎◌, [], map, IsFalse, OnOk, IfOk, IfErr};
+ghost use Rattle.std.specs.Prelude.{◌≡◌, ◌⊎◌, Bool, [], map, IsTrue, IsFalse, OnOk, IfOk, IfErr};
 ghost use Rattle.overlay_base.specs.BooleanWinding.{boolean_counted};
 ghost use Rattle.overlay_base.specs.HooksOf.{hooks_of};
 ghost use Rattle.overlay_base.specs.Rules.{holds, keeps_fill};
 ghost use Rattle.overlay_base.specs.Balance.{IsBalanced};
 ghost use Rattle.overlay_base.specs.ArrangedOf.{IsSplittable, IsArranged};
 ghost use Rattle.overlay_base.specs.SegmentOf.{segments_of, data_segments_of};
+ghost use Rattle.std.specs.List.{list_all};
+ghost use Rattle.overlay_split.specs.Laws.{HooksKeep};
 ghost use Rattle.overlay_split.specs.Run.{LeavesRange};
 ghost use Rattle.overlay_split.specs.SettingsOf.{snap_limit_of, passes_of, settings_of};
 ghost use Rattle.overlay_sweep.specs.ChainWindings.{tops_leave_range};
@@ -38,8 +40,8 @@ use overlay_split::split::solver::SplitSolver;
 /// encloses exactly the places of which the rule holds, by how the arrangement winds there: oddly many links run below
 /// them. At every place that is farther from the given segments than the passes move crossings, that is how the given
 /// segments wind. The data of the list goes through the splits and merges of a store of its own, which begins as the
-/// store's default and is dropped; each link has the data of its segment. The solver's strategy does not change the
-/// answer.
+/// store's default and is dropped; each link has the data of its segment. What the hooks keep of data, and what holds of
+/// all given data, holds of each link's (`kept_data`). The solver's strategy does not change the answer.
 ///
 /// Answers `Fault::CountOutOfRange` only where a running sum of counts on one pair of ends leaves
 /// `-i32::MAX..=i32::MAX` in the split, or a winding above a segment in the build, and, memory being found, wherever one
@@ -68,6 +70,10 @@ pub fn split_and_build_overlay<'a, I: OverlayInt, D: OverlayEdgeData<ShapeCountB
     ensures edge_data { IfOk result (λ graph.
         map (λ l. l.edge_data) (links_of graph)
         ≡ data_by (keeps_fill (holds overlay_rule)) fill_rule (data_segments_of segments.new.items)) }
+    ensures kept_data { let hooks = hooks_of boolean_counted D.reversed_gives D.split_gives D.merge_gives in
+        (has : D → Bool) → HooksKeep hooks has →
+        IsTrue (list_all (λ s. has s.edge_data) (data_segments_of segments.old.items)) →
+        IfOk result (λ graph. IsTrue (list_all (λ l. has l.edge_data) (links_of graph))) }
     ensures arranged { IsArranged segments.new.items }
     ensures list_data { (segments.new.items ≡ []) ⊎
         IsDataAfter (hooks_of boolean_counted D.reversed_gives D.split_gives D.merge_gives) D.Store.is_default
@@ -87,5 +93,7 @@ pub fn split_and_build_overlay<'a, I: OverlayInt, D: OverlayEdgeData<ShapeCountB
     builder.build_boolean_overlay(fill_rule, overlay_rule, solver, segments)
 }
 
+#[cfg(test)]
+mod provenance_tests;
 #[cfg(test)]
 mod tests;

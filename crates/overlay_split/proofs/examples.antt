@@ -4,6 +4,7 @@ pub mod Squares
 pub mod Paths
 pub mod Runs
 pub mod DataPasses
+pub mod Sources
 pub mod ExactInputs
 pub mod Nearness
 pub mod Places

@@ -38,3 +38,4 @@ pub mod LineCounts
 pub mod OneSide
 pub mod Places
 pub mod GridRuns
+pub mod DataInvariants

@@ -9,7 +9,7 @@ use Rattle.overlay_base.specs.Sums.{IsLinear, weighed}
 use Rattle.overlay_base.specs.Join.{join}
 use Rattle.overlay_base.specs.Planar.{is_planar}
 use Rattle.overlay_base.specs.Balance.{KeepsBalance}
-use Rattle.overlay_base.specs.EdgeData.{Hooks, DataSegment, without_data}
+use Rattle.overlay_base.specs.EdgeData.{Hooks, DataSegment, SplitCall, MergeCall, without_data}
 use Rattle.overlay_marks.specs.Crossing.{is_exact, snapping_point, settling_point}
 use Rattle.overlay_marks.specs.Marks.{Placing, ordered_mark, settling}
 use Rattle.overlay_split.specs.Path.{pieces}
@@ -252,6 +252,18 @@ abbrev pub ArrangedDataIsUnchanged : (D S : Type 0) → Type 0
 ArrangedDataIsUnchanged D S =
     (hooks : Hooks D S) (settings : Settings) (segments : List (DataSegment D)) (store : S) (k : ℕ) → IsTrue (is_map (without_data segments)) → IsTrue (is_planar (without_data segments)) →
     data_after_passes hooks settings segments store k ≡ (segments, store)
+
+-- What hooks keep of data: it stays when data is turned or split, and merged data has it where both have it.
+pub record HooksKeep {D S : Type 0} (hooks : Hooks D S) (has : D → Bool) : Type 0 where
+  pub reversed : (d : D) (store : S) → IsTrue (has d) → IsTrue (has (hooks.reversed d store).0)
+  pub split : (call : SplitCall D) (store : S) → IsTrue (has call.edge_data) → IsTrue (has (hooks.split call store).0.0) × IsTrue (has (hooks.split call store).0.1)
+  pub merge : (call : MergeCall D) (store : S) → IsTrue (has call.lhs_data) → IsTrue (has call.rhs_data) → IsTrue (has (hooks.merge call store).0)
+
+-- what the hooks keep holds of all data after a run where it holds of all that is given
+abbrev pub DataKeepsWhatHooksKeep : (D S : Type 0) → Type 0
+DataKeepsWhatHooksKeep D S =
+    (hooks : Hooks D S) (has : D → Bool) → HooksKeep hooks has → (settings : Settings) (given : List (DataSegment D)) (store : S) (k : ℕ) →
+    IsTrue (list_all (λ s. has s.edge_data) given) → IsTrue (list_all (λ s. has s.edge_data) (data_after_passes hooks settings given store k).0)
 
 -- where a run was refused some sum leaves the range
 abbrev pub StoppedRunLeavesRange : (D S : Type 0) → Type 0

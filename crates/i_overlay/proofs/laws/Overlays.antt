@@ -1,7 +1,8 @@
 -- A split and a build, joined to an overlay.
-use Rattle.std.proofs.Common.{◌≡◌, refl, sym, ap, ap₂, ◌∙◌, subst, ◌⊎◌, inr, ℕ, ◌+◌, ◌≤◌, Bool, ◌&&◌, IsTrue, List, []}
+use Rattle.std.proofs.Common.{◌≡◌, refl, sym, ap, ap₂, ◌∙◌, subst, ◌⊎◌, inr, ℕ, ◌+◌, ◌≤◌, Bool, true, ◌&&◌, IsTrue, List, [], map, filter}
 use Rattle.std.specs.Prelude.{ℤ, Result, IfErr}
 use Rattle.std.specs.List.{list_all}
+use Rattle.std.proofs.lemmas.List.Folds.{list_all-map}
 use Rattle.std.proofs.lemmas.Bool.{and_parts}
 use Rattle.std.proofs.lemmas.Result.{IfErr-weaker}
 use Rattle.overlay_base.specs.Points.{is_within_box_of}
@@ -23,7 +24,10 @@ use Rattle.overlay_split.specs.Nearness.{StaysNear}
 use Rattle.overlay_split.specs.Places.{KeepsWinding}
 use Rattle.overlay_split.specs.Potential.{potential}
 use Rattle.overlay_sweep.specs.ChainWindings.{tops_leave_range}
-use Rattle.overlay_build.specs.Graph.{Graph, graph_by}
+use Rattle.overlay_sweep.specs.Sweep.{fill_of, whole_of}
+use Rattle.overlay_build.specs.Graph.{Graph, graph_by, data_by}
+use Rattle.overlay_base.specs.EdgeData.{DataSegment, without_data}
+use Rattle.overlay_base.proofs.laws.Lists.{list_all-filter}
 use Rattle.overlay_build.specs.Values.{tells_apart}
 use Rattle.overlay_build.specs.Sides.{IsBalancedOverlay}
 use Rattle.overlay_build.specs.Lines.{IsBalancedClip}
@@ -83,3 +87,11 @@ pub refused_build : {T : Type 0} (settings : Settings) (given segments : List Wh
     → IfErr built (λ fault. (IsSplitRefused settings given segments fault × (passes ≡ before)) ⊎ IsBuildRefused settings given segments passes fault)
 refused_build settings given segments before passes built split fits tops =
     IfErr-weaker built (λ fault. fault ≡ CountOutOfRange → IsTrue (tops_leave_range segments)) _ (λ fault too_large. inr (record { split = split; fits = fits; too_large = too_large })) tops
+
+-- what holds of all data of a list holds of the data of the links that a test keeps
+pub data_of_links : {D L : Type 0} (has : D → Bool) (keeps : ℕ → Bool) (fill_rule : FillRule) (segments : List (DataSegment D)) (datum : L → D) (links : List L)
+    → map datum links ≡ data_by keeps fill_rule segments → list_all (λ s. has s.edge_data) segments ≡ true → list_all (λ l. has (datum l)) links ≡ true
+unfolding data_by
+data_of_links {D = D} has keeps fill_rule segments datum links e h =
+    let kept : DataSegment D → Bool = λ s. keeps (fill_of fill_rule (without_data segments) (whole_of s)) in
+    sym (list_all-map has datum links) ∙ ap (list_all has) e ∙ list_all-map has (λ s. s.edge_data) (filter kept segments) ∙ list_all-filter (λ s. has s.edge_data) kept segments h

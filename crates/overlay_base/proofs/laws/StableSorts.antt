@@ -1,5 +1,5 @@
 -- A stable sort is one list: what is in order, with ties in their old order, is the list that `stably_sorted` gives.
-use Rattle.std.proofs.Common.{◌≡◌, ℕ, ◌+◌, ◌<◌, ◌≤◌, Bool, true, false, not, ◌&&◌, List, [], ◌∷◌, map, IsPermutation, length, get_or, refl, sym, ap, ◌∙◌, arith, zero, suc}
+use Rattle.std.proofs.Common.{◌≡◌, ℕ, ◌+◌, ◌<◌, ◌≤◌, Bool, true, false, not, ◌&&◌, List, [], ◌∷◌, map, IsPermutation, length, get_or, refl, sym, ap, ◌∙◌, arith, zero, suc, inl, inr}
 use Rattle.std.specs.Prelude.{if◌then◌else◌}
 use native.Mathlib.Numerals.{unary_clauses}
 use Rattle.std.specs.List.{AllByRecursion, filter}
@@ -13,7 +13,7 @@ use Rattle.overlay_base.specs.Sorting.{insert_before_ties, stably_sorted}
 use Rattle.overlay_base.proofs.laws.Lists.{Pairwise}
 use Rattle.overlay_base.proofs.laws.Keys.{IsInOrder}
 use Rattle.overlay_base.specs.Laws.{StableSortIsUnique, StablySortedIsStable}
-use Rattle.std.proofs.lemmas.Bool.{false≢true}
+use Rattle.std.proofs.lemmas.Bool.{false≢true, cases_Bool}
 
 -- no element of the list is below x
 abbrev pub NoneBelow : {X : Type 0} → (X → X → Bool) → X → List X → Type 0
@@ -244,3 +244,17 @@ module _ {X Y : Type 0} (f : X → Y) (cmp : Y → Y → Ordering) where
   unfolding stably_sorted
   map-stably_sorted [] = refl
   map-stably_sorted (x ∷ xs) = map-insert_before_ties x (stably_sorted (λ a b. cmp (f a) (f b)) xs) ∙ ap (insert_before_ties cmp (f x)) (map-stably_sorted xs)
+
+-- what holds of all keys holds of the sorted ones
+pub AllByRecursion-insert : {K : Type 0} (cmp : K → K → Ordering) (P : K → Type 0) (x : K) (ks : List K) → P x → AllByRecursion P ks → AllByRecursion P (insert_before_ties cmp x ks)
+unfolding insert_before_ties
+AllByRecursion-insert cmp P x [] p a = (p, tt)
+AllByRecursion-insert cmp P x (y ∷ ys) p a = elim (cases_Bool (is_lt (cmp y x))) [
+  | inl e ↦ rw e (a.0, AllByRecursion-insert cmp P x ys p a.1)
+  | inr e ↦ rw e (p, a)
+]
+
+pub AllByRecursion-stably_sorted : {K : Type 0} (cmp : K → K → Ordering) (P : K → Type 0) (ks : List K) → AllByRecursion P ks → AllByRecursion P (stably_sorted cmp ks)
+unfolding stably_sorted
+AllByRecursion-stably_sorted cmp P [] a = tt
+AllByRecursion-stably_sorted cmp P (x ∷ ks) a = AllByRecursion-insert cmp P x (stably_sorted cmp ks) a.0 (AllByRecursion-stably_sorted cmp P ks a.1)

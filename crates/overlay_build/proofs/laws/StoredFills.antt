@@ -14,7 +14,7 @@ use Rattle.overlay_base.proofs.laws.StableSorts.{stably_sorted-IsPermutation}
 use Rattle.overlay_sweep.specs.ChainWindings.{top, tops_leave_range}
 use Rattle.overlay_build.specs.Graph.{fills_of}
 use Rattle.overlay_sweep.specs.Sweep.{Visit, whole_of, fill_of, visits, handled, visited, visits_leave_range}
-use Rattle.overlay_sweep.proofs.laws.RunSorts.{AllByRecursion-stably_sorted}
+use Rattle.overlay_base.proofs.laws.StableSorts.{AllByRecursion-stably_sorted}
 use Rattle.overlay_sweep.proofs.laws.Visits.{visit_cmp, listed_from, IsListed, is_listed, wholes, wholes-listed}
 use Rattle.overlay_base.proofs.laws.Lists.{AllByRecursion-from_Has}
 

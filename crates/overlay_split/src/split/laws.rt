@@ -4,7 +4,7 @@ ghost use Rattle.overlay_split.specs.Laws.{NumbersAreOdd, PiecesTelescope, PassK
 ghost use Rattle.overlay_split.specs.Laws.{SettlingLowers, RunEnds, RunIsOne, ExactPassIsPlanar, PlanarPassIsUnchanged, RunIsPlanar, ArrangedIsUnchanged, ResultIsUnchanged};
 ghost use Rattle.overlay_split.specs.Laws.{RootIsMeant, RootOfPower, NearEndsAreEnough, DistancesAddUp, CrossingLiesOnBoth, MarkIsNear, PassStaysNear, PiecesStayNear, RunStaysNear, LinesAreKept, ReachIsBounded, LastPassReachesNothing, ExactInputReachesNothing};
 ghost use Rattle.overlay_split.specs.Laws.{PassOnOneSide, JoinKeepsWinding, PassKeepsWinding, RunKeepsWinding, ExactInputKeepsWinding};
-ghost use Rattle.overlay_split.specs.Laws.{StaysInBox, ExactInputKeepsCounts, ExactRunsAgree, DataIsBeside, UnmarkedDataIsUnchanged, ArrangedDataIsUnchanged, StoppedRunLeavesRange, StoppedRunIsOne};
+ghost use Rattle.overlay_split.specs.Laws.{StaysInBox, ExactInputKeepsCounts, ExactRunsAgree, DataIsBeside, UnmarkedDataIsUnchanged, ArrangedDataIsUnchanged, DataKeepsWhatHooksKeep, StoppedRunLeavesRange, StoppedRunIsOne};
 
 /// Take a function of points, and a number of the count that inversion negates, as `subj` and `clip`. The pieces of a
 /// segment, each with what the function loses from its start to its end times that number, add up to the segment. So a
@@ -86,11 +86,12 @@ pub fn place_laws()
 {}
 
 /// Whatever the hooks do, passes with data are, without their data, the passes without. Where nothing is marked, data
-/// and store stay as they are.
+/// and store stay as they are. What the hooks keep of data holds of all data after a run, where it holds of all given.
 pub fn data_pass_laws<D, S>()
     ensures beside { DataIsBeside D S }
     ensures unmarked { UnmarkedDataIsUnchanged D S }
     ensures arranged { ArrangedDataIsUnchanged D S }
+    ensures keeps { DataKeepsWhatHooksKeep D S }
 {}
 
 /// Where a run was refused some sum leaves the range, and there is one store that such a run leaves.

@@ -1,6 +1,6 @@
 // The split of a list into a planar arrangement: passes that snap, up to a limit, then passes that settle.
 // Upstream: `split::solver`. The settling passes, `passes` and the limit are this project's own.
-ghost use Rattle.std.specs.Prelude.{◌≡◌, ◌+◌, ◌≤◌, ◌||◌, ◌&&◌, [], false, IsTrue, IsFalse, IfOk, IfErr, OnOk, OnErr, Ok, All, Option, length, nat_le, nat_lt};
+ghost use Rattle.std.specs.Prelude.{◌≡◌, ◌+◌, ◌≤◌, ◌||◌, ◌&&◌, [], false, IsTrue, IsFalse, IfOk, IfErr, OnOk, OnErr, Ok, All, Bool, Option, length, nat_le, nat_lt};
 ghost use Rattle.std.specs.List.{list_all};
 ghost use Rattle.overlay_base.specs.declared.segm.fault.Fault.TheVariants.{Memory, CountOutOfRange};
 ghost use Rattle.overlay_base.specs.Points.{is_within_box_of};
@@ -18,6 +18,7 @@ ghost use Rattle.overlay_marks.specs.PassMarks.{is_rounded, mark_count};
 ghost use Rattle.overlay_split.specs.DataPass.{data_cut, data_pass, data_after_passes, IsStoppedRun};
 ghost use Rattle.overlay_split.specs.Run.{IsRun, LeavesRange, after_passes};
 ghost use Rattle.overlay_split.specs.ExactInput.{is_exact_input, KeepsCounts};
+ghost use Rattle.overlay_split.specs.Laws.{HooksKeep};
 ghost use Rattle.overlay_split.specs.Nearness.{StaysNear};
 ghost use Rattle.overlay_split.specs.Places.{KeepsWinding};
 ghost use Rattle.overlay_split.specs.Potential.{potential};
@@ -133,6 +134,9 @@ impl<I: OverlayInt> SplitSolver<I> {
             ((store : D.Store) × D.Store.is_default store ×
             (let hooks = hooks_of C.counted D.reversed_gives D.split_gives D.merge_gives in
             data_segments_of list.new.items ≡ (data_after_passes hooks (settings_of I.BITS solver.now self.old) (data_segments_of list.old.items) store (passes_of self.new)).0)) }
+        ensures kept_data { let hooks = hooks_of C.counted D.reversed_gives D.split_gives D.merge_gives in
+            (has : D → Bool) → HooksKeep hooks has → IsTrue (list_all (λ s. has s.edge_data) (data_segments_of list.old.items)) →
+            OnOk result (IsTrue (list_all (λ s. has s.edge_data) (data_segments_of list.new.items))) }
         ensures arranged { OnOk result (IsTrue (is_arranged (I.whole I.MIN_COORD) (I.whole I.MAX_COORD) (segments_of list.new.items))) }
         ensures balance { OnOk result (KeepsBalance (segments_of list.old.items) (segments_of list.new.items)) }
         ensures in_box { OnOk result (IsTrue (list_all (λ p. is_within_box_of (ends (pairs (join (segments_of list.old.items)))) p) (ends (pairs (segments_of list.new.items))))) }
@@ -170,6 +174,10 @@ impl<I: OverlayInt> SplitSolver<I> {
     /// for counts that cancel: as near as the passes move crossings. At every place that is farther than that from the
     /// given segments the result winds as they do. An empty list takes no memory.
     ///
+    /// Each mark splits the data of what is left of its segment; a piece that is turned reverses its data; segments on the
+    /// same ends merge theirs from left to right, in the stable order of the list. What the hooks keep of data, and what
+    /// holds of all given data, holds of all data after the split (`kept_data`).
+    ///
     /// Answers `Fault::CountOutOfRange` only where a running sum of counts on one pair of ends leaves
     /// `-i32::MAX..=i32::MAX`, in the given list or among the pieces of a pass, and, memory being found, wherever one
     /// does; the store is then what the hooks called before that sum left. Where a call is refused the list is empty,
@@ -188,6 +196,9 @@ impl<I: OverlayInt> SplitSolver<I> {
         ensures store { OnOk result
             (let hooks = hooks_of C.counted D.reversed_gives D.split_gives D.merge_gives in
             store.new ≡ (data_after_passes hooks (settings_of I.BITS solver.now self.old) (data_segments_of list.old.items) store.old (passes_of self.new)).1) }
+        ensures kept_data { let hooks = hooks_of C.counted D.reversed_gives D.split_gives D.merge_gives in
+            (has : D → Bool) → HooksKeep hooks has → IsTrue (list_all (λ s. has s.edge_data) (data_segments_of list.old.items)) →
+            OnOk result (IsTrue (list_all (λ s. has s.edge_data) (data_segments_of list.new.items))) }
         ensures arranged { OnOk result (IsTrue (is_arranged (I.whole I.MIN_COORD) (I.whole I.MAX_COORD) (segments_of list.new.items))) }
         ensures balance { OnOk result (KeepsBalance (segments_of list.old.items) (segments_of list.new.items)) }
         ensures in_box { OnOk result (IsTrue (list_all (λ p. is_within_box_of (ends (pairs (join (segments_of list.old.items)))) p) (ends (pairs (segments_of list.new.items))))) }

@@ -6,21 +6,9 @@ use Rattle.std.specs.Ordering.{is_lt}
 use Rattle.std.proofs.lemmas.Bool.{cases_Bool, both_ways}
 use Rattle.overlay_base.specs.Sorting.{insert_before_ties, stably_sorted}
 use Rattle.overlay_base.proofs.laws.Lists.{Pairwise, Has}
+use Rattle.overlay_base.proofs.laws.StableSorts.{AllByRecursion-insert, AllByRecursion-stably_sorted}
 
 module _ {K : Type 0} (cmp : K → K → Ordering) where
-  AllByRecursion-insert : (P : K → Type 0) (x : K) (ks : List K) → P x → AllByRecursion P ks → AllByRecursion P (insert_before_ties cmp x ks)
-  unfolding insert_before_ties
-  AllByRecursion-insert P x [] p a = (p, tt)
-  AllByRecursion-insert P x (y ∷ ys) p a = elim (cases_Bool (is_lt (cmp y x))) [
-    | inl e ↦ rw e (a.0, AllByRecursion-insert P x ys p a.1)
-    | inr e ↦ rw e (p, a)
-  ]
-
-  pub AllByRecursion-stably_sorted : (P : K → Type 0) (ks : List K) → AllByRecursion P ks → AllByRecursion P (stably_sorted cmp ks)
-  unfolding stably_sorted
-  AllByRecursion-stably_sorted P [] a = tt
-  AllByRecursion-stably_sorted P (x ∷ ks) a = AllByRecursion-insert P x (stably_sorted cmp ks) a.0 (AllByRecursion-stably_sorted P ks a.1)
-
   Has-insert_here : (x : K) (ks : List K) → Has (insert_before_ties cmp x ks) x
   unfolding insert_before_ties
   Has-insert_here x [] = inl refl
@@ -56,7 +44,7 @@ module _ {K : Type 0} (cmp : K → K → Ordering) where
   stably_sorted-append [] ys a = refl
   stably_sorted-append (x ∷ xs) ys a =
       ap (insert_before_ties cmp x) (stably_sorted-append xs ys a.1)
-      ∙ insert-append x (stably_sorted cmp xs) (stably_sorted cmp ys) (AllByRecursion-stably_sorted (λ y. is_lt (cmp y x) ≡ false) ys a.0)
+      ∙ insert-append x (stably_sorted cmp xs) (stably_sorted cmp ys) (AllByRecursion-stably_sorted cmp (λ y. is_lt (cmp y x) ≡ false) ys a.0)
 
   -- ---- keys of which each two differ in order
 
@@ -69,7 +57,7 @@ module _ {K : Type 0} (cmp : K → K → Ordering) where
     unfolding insert_before_ties
     rising_insert x [] mx ms d r = (tt, tt)
     rising_insert x (y ∷ ys) mx ms d r = elim (cases_Bool (is_lt (cmp y x))) [
-      | inl e ↦ rw e (AllByRecursion-insert (λ z. is_lt (cmp y z) ≡ true) x ys e r.0, rising_insert x ys mx ms.1 d.1 r.1)
+      | inl e ↦ rw e (AllByRecursion-insert cmp (λ z. is_lt (cmp y z) ≡ true) x ys e r.0, rising_insert x ys mx ms.1 d.1 r.1)
       | inr e ↦ rw e (elim d.0 [
         | inl less ↦ ((less, rising_rest x y ys mx ms.0 ms.1 less r.0), r)
         | inr more ↦ absurd (both_ways (is_lt (cmp y x)) e more)
@@ -79,7 +67,7 @@ module _ {K : Type 0} (cmp : K → K → Ordering) where
     pub rising_sorted : (ks : List K) → AllByRecursion M ks → Pairwise (λ x y. (is_lt (cmp x y) ≡ true) ⊎ (is_lt (cmp y x) ≡ true)) ks → Pairwise (λ a b. is_lt (cmp a b) ≡ true) (stably_sorted cmp ks)
     unfolding stably_sorted
     rising_sorted [] ms d = tt
-    rising_sorted (x ∷ ks) ms d = rising_insert x (stably_sorted cmp ks) ms.0 (AllByRecursion-stably_sorted M ks ms.1) (AllByRecursion-stably_sorted (λ y. (is_lt (cmp x y) ≡ true) ⊎ (is_lt (cmp y x) ≡ true)) ks d.0) (rising_sorted ks ms.1 d.1)
+    rising_sorted (x ∷ ks) ms d = rising_insert x (stably_sorted cmp ks) ms.0 (AllByRecursion-stably_sorted cmp M ks ms.1) (AllByRecursion-stably_sorted cmp (λ y. (is_lt (cmp x y) ≡ true) ⊎ (is_lt (cmp y x) ≡ true)) ks d.0) (rising_sorted ks ms.1 d.1)
 
 -- ---- through a function that keeps the order
 

@@ -21,7 +21,8 @@ use Rattle.overlay_sweep.specs.steps.WayOf.{WholeWay, ways_between, by_angle}
 use Rattle.overlay_sweep.proofs.laws.ColumnOrder.{IsApart}
 use Rattle.overlay_sweep.proofs.laws.Members.{sorted_all, sorted_tail, differ_when_less, IsArranged}
 use Rattle.overlay_sweep.proofs.laws.NodeChains.{IsNode, angle_trans}
-use Rattle.overlay_sweep.proofs.laws.RunSorts.{AllByRecursion-stably_sorted, Has-stably_sorted, stably_sorted-append, stably_sorted-map, rising_sorted}
+use Rattle.overlay_base.proofs.laws.StableSorts.{AllByRecursion-stably_sorted}
+use Rattle.overlay_sweep.proofs.laws.RunSorts.{Has-stably_sorted, stably_sorted-append, stably_sorted-map, rising_sorted}
 use Rattle.overlay_sweep.proofs.laws.DirectlyBelow.{apart_members}
 use Rattle.overlay_sweep.proofs.laws.Boundaries.{Has-take, Has-drop, cut_twice, IsRun, run_complete, early_complete, boundary_next}
 

@@ -1,18 +1,20 @@
-use Rattle.std.proofs.Common.{ℕ, Bool, List}
+use Rattle.std.proofs.Common.{◌≡◌, ℕ, Bool, true, List, map, ap, ◌∙◌}
+use Rattle.std.specs.List.{list_all}
 use Rattle.std.proofs.lemmas.Result.{IfOk-weaker, on_ok_weaker}
 use Rattle.overlay_base.specs.Rules.{holds, keeps_fill}
 use Rattle.overlay_base.specs.Segments.{WholeSegment}
-use Rattle.overlay_base.specs.SegmentOf.{segments_of}
+use Rattle.overlay_base.specs.SegmentOf.{segments_of, data_segments_of}
 use Rattle.overlay_split.specs.Run.{Settings}
 use Rattle.overlay_split.specs.SettingsOf.{passes_of, settings_of}
-use Rattle.overlay_build.specs.Graph.{graph_by}
+use Rattle.overlay_build.specs.Graph.{graph_by, data_by}
 use Rattle.overlay_build.specs.GraphOf.{HoldGraph, graph_with}
 use Rattle.overlay_build.specs.NodeIndexes.{indexes_of, is_canonical_node}
 use Rattle.i_overlay.specs.FarRegions.{EnclosesOverlay}
 use Rattle.i_overlay.specs.Headline.{IsSplit, IsOverlay}
+use Rattle.overlay_split.proofs.laws.DataInvariants.{data_keeps_what_hooks_keep}
 use Rattle.overlay_build.proofs.laws.BuiltGraphs.{graph_with_kept}
 use Rattle.i_overlay.proofs.laws.FarRegions.{overlay_region}
-use Rattle.i_overlay.proofs.laws.Overlays.{none_arranged, split_from, overlay_from, refused_build}
+use Rattle.i_overlay.proofs.laws.Overlays.{data_of_links, none_arranged, split_from, overlay_from, refused_build}
 use Rattle.i_overlay.proofs.overlay.split_and_build_overlay.Goals as goal
 
 pub returns-in_err-split_segments-clause-arranged : goal.returns-in_err-split_segments-clause-arranged
@@ -59,6 +61,20 @@ returns-clause-graph g c =
 
 pub returns-clause-edge_data : goal.returns-clause-edge_data
 returns-clause-edge_data g c = rw (← c.deref.ensures.value) c.build_boolean_overlay.ensures.edge_data
+
+pub returns-clause-kept_data : goal.returns-clause-kept_data
+returns-clause-kept_data g c = λ has keeps given.
+    let e = c.in_ok-split_segments.ensures in
+    let settings : Settings = settings_of g.I.OverlayInt.BITS c.args.solver.now c.args.splitter.now in
+    let passes : ℕ = passes_of c.split_segments.new.self in
+    let segments = data_segments_of c.split_segments.new.list.items in
+    let rule : ℕ → Bool = keeps_fill (holds c.args.overlay_rule) in
+    let all : list_all (λ s. has s.edge_data) segments ≡ true = ap (list_all (λ s. has s.edge_data)) e.edge_data.2 ∙ data_keeps_what_hooks_keep _ has keeps settings (data_segments_of c.args.segments.now.items) e.edge_data.0 passes given in
+    IfOk-weaker c.build_boolean_overlay.result
+    (λ built. map (λ l. l.edge_data) built.links.now ≡ data_by rule c.args.fill_rule segments)
+    (λ built. list_all (λ l. has l.edge_data) built.links.now ≡ true)
+    (λ built same. data_of_links has rule c.args.fill_rule segments (λ l. l.edge_data) built.links.now same all)
+    (rw c.deref.ensures.value at c.build_boolean_overlay.ensures.edge_data)
 
 pub returns-clause-unchanged : goal.returns-clause-unchanged
 returns-clause-unchanged g c = λ arranged. on_ok_weaker _ (λ _. (c.in_ok-split_segments.ensures.unchanged arranged).1) c.build_boolean_overlay.ensures.in_range

@@ -1,3 +1,4 @@
+use Rattle.overlay_split.proofs.laws.DataInvariants.{data_keeps_what_hooks_keep}
 use Rattle.overlay_split.proofs.laws.DataPasses.{data_is_beside, unmarked_data_is_unchanged, arranged_data_is_unchanged}
 use Rattle.overlay_split.proofs.split.laws.data_pass_laws.Goals as goal
 
@@ -9,3 +10,6 @@ returns-clause-unmarked g c = unmarked_data_is_unchanged
 
 pub returns-clause-arranged : goal.returns-clause-arranged
 returns-clause-arranged g c = arranged_data_is_unchanged
+
+pub returns-clause-keeps : goal.returns-clause-keeps
+returns-clause-keeps g c = data_keeps_what_hooks_keep

@@ -1,5 +1,6 @@
 use Rattle.std.proofs.Common.{rules, ◌≡◌, refl, sym, ap, subst, ◌∙◌, arith, ℕ, List, ◌+◌, ◌-◌, ◌^◌, ◌<◌, ◌≤◌, length}
 use Rattle.std.specs.Prelude.{Result, Ok, Err, None, IfErr, IsErrAnd, IsTrue, nat_le}
+use Rattle.std.specs.List.{list_all}
 use Rattle.std.proofs.lemmas.Bool.{both_ways, not-true, not-false}
 use Rattle.std.proofs.lemmas.Grind.{common_steps}
 use Rattle.overlay_base.specs.declared.segm.fault.Fault.{Fault}
@@ -15,6 +16,7 @@ use Rattle.overlay_base.proofs.laws.Views.{segments_ordered, segments_of-bare}
 use Rattle.overlay_split.specs.DataPass.{IsStoppedRun}
 use Rattle.overlay_split.specs.Run.{Settings, LeavesRange}
 use Rattle.overlay_split.specs.SettingsOf.{settings_of}
+use Rattle.overlay_split.proofs.laws.DataInvariants.{data_keeps_what_hooks_keep}
 use Rattle.overlay_split.proofs.laws.StoppedRuns.{stopped_run_leaves_range}
 use Rattle.overlay_split.proofs.laws.Splitting.{at_start, at_next, at_rest, stopped_at_start, stopped_at, has_ended, stays_arranged, snaps_at, settles, falls_from, potential_bound, exponent_grows, segments_none, goes_on-is, starts-is, keeps_room, few_enough}
 use Rattle.overlay_base.specs.declared.overlay_core.solver.Solver.{Solver}
@@ -60,6 +62,9 @@ pub returns-then-is_empty-clause-store : goal.returns-then-is_empty-clause-store
 returns-then-is_empty-clause-store g c =
     let none : length c.args.list.now.items ≡ 0 = grind (arith, common_steps, c.args.list.now.ok.0) in
     (at_rest _ _ (g.I.OverlayInt.whole g.I.OverlayInt.MIN_COORD) (g.I.OverlayInt.whole g.I.OverlayInt.MAX_COORD) (segments_of c.args.list.now.items) (data_segments_of c.args.list.now.items) c.args.store.now (segments_none c.args.list.now.items none).0 (segments_none c.args.list.now.items none).1).store_is
+
+pub returns-then-is_empty-clause-kept_data : goal.returns-then-is_empty-clause-kept_data
+returns-then-is_empty-clause-kept_data g c = λ has keeps given. given
 
 pub returns-then-is_empty-clause-arranged : goal.returns-then-is_empty-clause-arranged
 returns-then-is_empty-clause-arranged g c =
@@ -219,6 +224,12 @@ returns-in_err-progress-2-clause-refused g c = leaves_range _ _ _ c.args.list.no
 
 pub returns-clause-run : goal.returns-clause-run
 returns-clause-run g c = (has_ended _ _ _ _ _ _ _ _ _ _ _ _ _ (segments_ordered c.args.list.now.items) c.loop-progress.invariant.at c.loop-progress-test.false).run
+
+pub returns-clause-kept_data : goal.returns-clause-kept_data
+returns-clause-kept_data g c = λ has keeps given.
+    let at = c.loop-progress.invariant.at in
+    let settings : Settings = settings_of g.I.OverlayInt.BITS c.args.solver.now c.args.self.now in
+    ap (list_all (λ s. has s.edge_data)) at.edge_data_is ∙ data_keeps_what_hooks_keep _ has keeps settings (data_segments_of c.args.list.now.items) c.args.store.now c.loop-progress.progress.passes given
 
 pub returns-clause-arranged : goal.returns-clause-arranged
 returns-clause-arranged g c = (has_ended _ _ _ _ _ _ _ _ _ _ _ _ _ (segments_ordered c.args.list.now.items) c.loop-progress.invariant.at c.loop-progress-test.false).arranged
