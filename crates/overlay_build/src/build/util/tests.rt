@@ -42,11 +42,12 @@ fn many_points_end_in_rising_order(rt: HostRuntime) {
     contour.reverse();
     assert_eq!(rt; buffer.as_slice(), contour.as_slice());
     contour.pop();
-    contour.push(IntPoint::new(5, 0)).expect(&rt, "memory");
+    contour.push(IntPoint::new(0, 0)).expect(&rt, "memory");
     let has_loop = builder.test_contour_for_loops(&contour, &mut buffer);
     assert_eq!(rt; has_loop, Ok(true));
     assert_eq!(rt; buffer.len(), 64);
-    assert_eq!(rt; buffer[4], IntPoint::new(4, 0));
-    assert_eq!(rt; buffer[5], IntPoint::new(5, 0));
-    assert_eq!(rt; buffer[6], IntPoint::new(5, 0));
+    assert_eq!(rt; buffer[0], IntPoint::new(0, 0));
+    assert_eq!(rt; buffer[1], IntPoint::new(0, 0));
+    assert_eq!(rt; buffer[2], IntPoint::new(1, 0));
+    assert_eq!(rt; buffer[63], IntPoint::new(62, 0));
 }

@@ -6,6 +6,7 @@ use overlay_base::overlay_core::edge_data::{EdgeDataMerge, EdgeDataSplit};
 use overlay_base::overlay_core::solver::{Precision, Strategy};
 use overlay_base::segm::arranged::{is_arranged, is_splittable};
 use overlay_base::segm::boolean::ShapeCountBoolean;
+use overlay_base::segm::shape_type::ShapeType;
 use std::process::Abort;
 use std::test::Fail;
 
@@ -531,6 +532,47 @@ fn colors_of_an_overlap(rt: HostRuntime) -> Result<(), Fail> {
             (RED, ShapeCountBoolean { subj: 1, clip: 0 })
         );
         assert_eq!(rt; merged.out_count, ShapeCountBoolean { subj: 1, clip: 1 });
+    }
+    Ok(())
+}
+
+fn red_line(
+    rt: &impl Abort,
+    from: (i32, i32),
+    to: (i32, i32),
+) -> Segment<ShapeCountBoolean, i32, Colors> {
+    let (a, b) = (IntPoint::new(from.0, from.1), IntPoint::new(to.0, to.1));
+    let line = Segment::try_ab_and_data(a, b, ShapeType::Subject, RED, &mut Calls::default());
+    line.expect(rt, "two ends")
+}
+
+/// A line that is bent through another's end: its lower half runs backward.
+#[test]
+fn colors_of_a_bent_line(rt: HostRuntime) -> Result<(), Fail> {
+    for strategy in STRATEGIES {
+        let mut list = Vec::new(rt.alloc());
+        list.push(red_line(&rt, (0, 0), (100, 1)))?;
+        list.push(red_line(&rt, (1, -50), (1, 50)))?;
+        assert!(rt; is_splittable(&list));
+        let mut calls = Calls::default();
+        let mut splitter = SplitSolver::new(rt.alloc());
+        let solver = Solver::with_strategy_and_precision(strategy, Precision::HIGH);
+        let flag = splitter.split_segments_with_store(&mut list, &solver, &mut calls);
+        assert_eq!(rt; flag, Ok(true));
+        let mut after = Vec::new(rt.alloc());
+        for segment in list.iter() {
+            let XSegment { a, b } = segment.x_segment();
+            after.push((a, b, segment.count().subj, segment.edge_data()))?;
+        }
+        let bend = IntPoint::new(0, 0);
+        let three = [
+            (bend, IntPoint::new(1, -50), -1, RED),
+            (bend, IntPoint::new(1, 50), 1, RED),
+            (bend, IntPoint::new(100, 1), 1, RED),
+        ];
+        assert_eq!(rt; after.as_slice(), three.as_slice());
+        assert_eq!(rt; (calls.splits, calls.reversals, calls.merges), (1, 1, 0));
+        assert!(rt; calls.merged.is_none());
     }
     Ok(())
 }
