@@ -9,3 +9,4 @@ pub mod IntervalTree
 pub mod NodeOf
 pub mod Swept
 pub mod FragmentFinder
+pub mod TreeSweep

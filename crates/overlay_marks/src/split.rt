@@ -3,6 +3,7 @@
 mod border_contacts;
 mod cross;
 pub mod cross_solver;
+mod few_entries;
 pub mod finder;
 pub mod fragment;
 pub mod fragment_buffer;

@@ -10,7 +10,7 @@ use Rattle.overlay_marks.proofs.laws.GridAdding.{fragments_of_vertical}
 use Rattle.std.proofs.lemmas.List.{length-map}
 use Rattle.overlay_marks.specs.steps.IntervalTree.{Entry}
 use Rattle.overlay_marks.specs.steps.Swept.{unswept, entry_at}
-use Rattle.overlay_marks.proofs.laws.Sweeps.{IsSwept, unlive}
+use Rattle.overlay_marks.specs.steps.TreeSweep.{IsSwept, unlive}
 use Rattle.overlay_marks.proofs.laws.GridLooks.{length_permuted}
 
 -- one where the segment is vertical

@@ -17,7 +17,8 @@ use Rattle.overlay_marks.specs.steps.IntervalTree.{Entry, WholeQuery, is_at_heig
 use Rattle.overlay_marks.specs.steps.Swept.{nowhere, pair_at, entry_at, unswept}
 use Rattle.overlay_marks.specs.Looked.{count_twos, ranges_meet, boxes_meet, tree_looks}
 use Rattle.overlay_marks.proofs.laws.IntervalTrees.{count_by-append}
-use Rattle.overlay_marks.proofs.laws.Sweeps.{unlive, IsOf, Gone, IsSwept, query_at, entries_are, later_right, AllByRecursion-get}
+use Rattle.overlay_marks.specs.steps.TreeSweep.{unlive, Gone, IsSwept, query_at, live_count, IsCounted}
+use Rattle.overlay_marks.proofs.laws.Sweeps.{IsOf, entries_are, later_right, AllByRecursion-get}
 
 -- ---- counts
 
@@ -69,9 +70,6 @@ balanced false near past = refl
 balanced true false past = refl
 balanced true true true = refl
 balanced true true false = refl
-
-abbrev pub live_count : List Entry → ℕ
-live_count es = count_by (λ e. e.is_live) es
 
 sums : (a b c d e f g h : ℕ) → a + b ≡ c + d → e + f ≡ g + h → (a + e) + (b + f) ≡ (c + g) + (d + h)
 sums a b c d e f g h k l = omega arith
@@ -273,12 +271,6 @@ inserted_one ps es q j p =
     omega arith
 
 -- ---- the whole sweep
-
--- The looks so far are the twos of the first segments whose boxes meet, and the entries that were dropped: each is live once.
-pub record IsCounted (ps : List Pair) (es : List Entry) (j old now : ℕ) : Type 0 where
-  pub dropped : ℕ
-  pub once : dropped + live_count es ≤ j
-  pub is : now ≡ min (old + (count_twos boxes_meet (take j ps) + dropped)) (2 ^ 128 - 1)
 
 pub IsCounted-start : (ps : List Pair) (es : List Entry) (old : ℕ) → old ≤ 2 ^ 128 - 1 → AllByRecursion (λ e. e.is_live ≡ false) es → IsCounted ps es 0 old old
 unfolding count_twos

@@ -20,6 +20,7 @@ use Rattle.std.proofs.lemmas.List.{get_or-map, length-map}
 use Rattle.overlay_base.proofs.laws.Lists.{Has, AllByRecursion-at, AllByRecursion-from_Has, AllByRecursion-weaker, AllByRecursion-map, AllByRecursion-map_out, AllByRecursion-filter, Has-map, Has-map_out, Has-filter}
 use Rattle.overlay_base.proofs.laws.Elements.{Has-permutation}
 use Rattle.overlay_marks.specs.steps.IntervalTree.{Entry, WholeQuery, is_at_heights, is_taken_up, is_found, is_dropped, found, left_by, inserted, StandsBefore, AreRising, IsAt, IsUpTo}
+use Rattle.overlay_marks.specs.steps.TreeSweep.{unlive, query_at, Gone, IsSwept}
 use Rattle.overlay_marks.specs.steps.Swept.{nowhere, pair_at, entry_at, entry_of_pair, unswept}
 use Rattle.overlay_marks.proofs.laws.ApartPairs.{AreApart, AreApart-back}
 
@@ -63,29 +64,10 @@ pairs_in_order xs sorted = subst (λ (ps : List Pair). IsInOrder pair_cmp ps) (s
 
 -- ---- entries by their indexes
 
-abbrev pub unlive : Entry → Entry
-unlive e = record e { is_live = false }
-
 -- the entry of a pair of the list
 pub record IsOf (ps : List Pair) (e : Entry) : Type 0 where
   pub within : e.index < length ps
   pub is : unlive e ≡ entry_at ps e.index
-
--- a look-up of the pair at an index
-abbrev pub query_at : List Pair → ℕ → WholeQuery
-query_at ps index =
-    let s = pair_at ps index in
-    record { low = int_min s.a.y s.b.y; high = int_max s.a.y s.b.y; x = s.a.x }
-
--- where it is among the first n and not live, it ends left of all that follow these
-abbrev pub Gone : List Pair → ℕ → Entry → Type 0
-Gone ps n e = e.index < n → e.is_live ≡ false → (k : ℕ) → n ≤ k → k < length ps → e.end_x <ℤ (pair_at ps k).a.x
-
--- Where the sweep stands: the entries are those of all pairs; those before the index are live, but where they end left of all that are to come.
-pub record IsSwept (ps : List Pair) (es : List Entry) (j : ℕ) : Type 0 where
-  pub base : IsPermutation (unswept ps) (map unlive es)
-  pub live : AllByRecursion (λ e. e.is_live ≡ true → e.index < j) es
-  pub gone : AllByRecursion (Gone ps j) es
 
 pub range_within : (a n m : ℕ) → a + n ≤ m → AllByRecursion (λ i. i < m) (range_with_len a n)
 range_within a zero m h = tt

@@ -1,9 +1,9 @@
 -- The marks that a sweep finds, each segment with those that a look-up finds before it, are those of the pass.
-use Rattle.std.proofs.Common.{◌≡◌, refl, sym, ap, ap₂, subst, ◌∙◌, ◌⊎◌, inl, inr, ℕ, zero, suc, ◌+◌, ◌<◌, arith, Bool, true, false, ◌||◌, List, [], ◌∷◌, ◌++◌, length, get_or, take, append_assoc, append-nil}
+use Rattle.std.proofs.Common.{◌≡◌, refl, sym, ap, ap₂, subst, ◌∙◌, ◌⊎◌, inl, inr, ℕ, zero, suc, ◌+◌, ◌<◌, ◌==◌, arith, Bool, true, false, ◌||◌, List, [], ◌∷◌, ◌++◌, length, get_or, take, append_assoc, append-nil}
 use Rattle.std.specs.Prelude.{flat_map}
 use Rattle.std.specs.List.{AllByRecursion}
 use Rattle.std.specs.Cmp.{both_ways as same_tests}
-use Rattle.std.proofs.lemmas.Bool.{or_cases, or_left, or_right, both_ways, cases_order}
+use Rattle.std.proofs.lemmas.Bool.{or_cases, or_left, or_right, both_ways, cases_order, false_from_ne_true, eqb-true}
 use Rattle.std.proofs.lemmas.List.{take_more}
 use Rattle.std.proofs.lemmas.List.Folds.{list_any_more}
 use Rattle.std.proofs.lemmas.List.Concat.{flat_map-cons}
@@ -14,6 +14,7 @@ use Rattle.overlay_base.proofs.laws.Elements.{Has-append_out, Has-flat_map_out}
 use Rattle.overlay_marks.specs.Marks.{Placing, marks_by, cross_inexactly}
 use Rattle.overlay_marks.specs.MarkOf.{Mark}
 use Rattle.overlay_marks.specs.steps.Finder.{marks_at, marks_between, marks_of_each, some_cross_inexactly}
+use Rattle.overlay_marks.specs.steps.TreeSweep.{AreFoundBefore}
 use Rattle.overlay_marks.specs.steps.Swept.{nowhere, pair_at, marks_with_found, crosses_found}
 use Rattle.overlay_marks.proofs.laws.ApartPairs.{AreApart, AreApart-back, apart_have_no_mark, apart_are_exact}
 use Rattle.overlay_marks.proofs.laws.FoundEach.{StandsAt, stands, stands_alone, stands_within, at_in, at_out, each_in, each_out, some_in, some_out, none_on_itself, exact_with_itself, cross_inexactly-back}
@@ -96,52 +97,62 @@ marked_near placing s t p h apart = subst (λ (ps : List Point). Has ps p) (apar
 crossing_near : (s t : Pair) → cross_inexactly s t ≡ true → AreApart s t → ⊥
 crossing_near s t h apart = both_ways (cross_inexactly s t) (apart_are_exact s t apart) h
 
--- those that are found before the one at an index
-pub record AreFoundBefore (ps : List Pair) (found : List ℕ) (j : ℕ) : Type 0 where
-  pub earlier : AllByRecursion (λ i. i < j) found
-  pub near : (i : ℕ) → i < j → (AreApart (pair_at ps i) (pair_at ps j) → ⊥) → Has found i
+-- those that are found before the one at an index, as elements
+record AreFound (ps : List Pair) (found : List ℕ) (j : ℕ) : Type 0 where
+  earlier : AllByRecursion (λ i. i < j) found
+  near : (i : ℕ) → i < j → (AreApart (pair_at ps i) (pair_at ps j) → ⊥) → Has found i
+
+AreFound-from : (ps : List Pair) (found : List ℕ) (j : ℕ) → AreFoundBefore ps found j → AreFound ps found j
+AreFound-from ps found j are = record {
+  earlier = are.earlier;
+  near = λ i lt near.
+      let r = Has-from_list_any (λ k. k == i) found (are.near i lt (false_from_ne_true _ near)) in
+      subst (Has found) (eqb-true r.0 i r.2) r.1;
+}
 
 last_or_before : (k j : ℕ) → k < j + 1 → (k ≡ j) ⊎ (k < j)
 last_or_before k j lt = elim (cases_order k j) [ inl e ↦ inl e | inr (inl l) ↦ inr l | inr (inr m) ↦ absurd (omega arith) ]
 
 pub IsMarked-more : (placing : Placing) (ps : List Pair) (now next : List Mark) (rounded b : Bool) (j : ℕ) (found : List ℕ) → IsMarked placing ps now rounded j → AreFoundBefore ps found j → j < length ps →
     next ≡ now ++ marks_with_found placing ps j found → b ≡ (rounded || crosses_found ps j found) → IsMarked placing ps next b (j + 1)
-IsMarked-more placing ps now next rounded b j found marked are w n r = record {
-  sound = λ m h. elim (Has-append_out now new m (subst (λ (ms : List Mark). Has ms m) n h)) [
-    | inl old ↦ marked.sound m old
-    | inr here ↦
-        let q = Has-flat_map_out made found m here in
-        between_out placing ps q.0 j m (below q.0 (AllByRecursion-at (λ i. i < j) found q.0 are.earlier q.1)) w q.2
-  ];
-  first = λ i k p lt wk h. elim (last_or_before k j wk) [
-    | inl e ↦
-        let here : Has (marks_by placing (pair_at ps i) (pair_at ps j)) p = subst (λ (l : ℕ). Has (marks_by placing (pair_at ps i) (pair_at ps l)) p) e h in
-        let there = are.near i (subst (λ (l : ℕ). i < l) e lt) (marked_near placing (pair_at ps i) (pair_at ps j) p here) in
-        into (record { index = i; point = p }) (Has-flat_map made found i (record { index = i; point = p }) there (between_first placing i (pair_at ps i) j (pair_at ps j) p here))
-    | inr less ↦ kept (record { index = i; point = p }) (marked.first i k p lt less h)
-  ];
-  second = λ i k p lt wk h. elim (last_or_before k j wk) [
-    | inl e ↦
-        let here : Has (marks_by placing (pair_at ps j) (pair_at ps i)) p = subst (λ (l : ℕ). Has (marks_by placing (pair_at ps l) (pair_at ps i)) p) e h in
-        let there = are.near i (subst (λ (l : ℕ). i < l) e lt) (λ apart. marked_near placing (pair_at ps j) (pair_at ps i) p here (AreApart-back (pair_at ps i) (pair_at ps j) apart)) in
-        subst (λ (l : ℕ). Has next (record { index = l; point = p })) (sym e)
-        (into (record { index = j; point = p }) (Has-flat_map made found i (record { index = j; point = p }) there (between_second placing i (pair_at ps i) j (pair_at ps j) p here)))
-    | inr less ↦ kept (record { index = k; point = p }) (marked.second i k p lt less h)
-  ];
-  told = λ h. elim (or_cases rounded (crosses_found ps j found) (sym r ∙ h)) [
-    | inl old ↦ marked.told old
-    | inr here ↦
-        let q = Has-from_list_any (λ i. cross_inexactly (pair_at ps i) (pair_at ps j)) found here in
-        some_in ps (pair_at ps q.0) (pair_at ps j) (Has-at ps q.0 nowhere (below q.0 (AllByRecursion-at (λ i. i < j) found q.0 are.earlier q.1))) (Has-at ps j nowhere w) q.2
-  ];
-  tells = λ i k lt wk h. elim (last_or_before k j wk) [
-    | inl e ↦
-        let here : cross_inexactly (pair_at ps i) (pair_at ps j) ≡ true = subst (λ (l : ℕ). cross_inexactly (pair_at ps i) (pair_at ps l) ≡ true) e h in
-        let there = are.near i (subst (λ (l : ℕ). i < l) e lt) (crossing_near (pair_at ps i) (pair_at ps j) here) in
-        r ∙ or_right rounded (crosses_found ps j found) (list_any-from_Has (λ l. cross_inexactly (pair_at ps l) (pair_at ps j)) found i there here)
-    | inr less ↦ r ∙ or_left rounded (crosses_found ps j found) (marked.tells i k lt less h)
-  ];
-}
+IsMarked-more placing ps now next rounded b j found marked before w n r =
+    let are = AreFound-from ps found j before in
+    record {
+      sound = λ m h. elim (Has-append_out now new m (subst (λ (ms : List Mark). Has ms m) n h)) [
+        | inl old ↦ marked.sound m old
+        | inr here ↦
+            let q = Has-flat_map_out made found m here in
+            between_out placing ps q.0 j m (below q.0 (AllByRecursion-at (λ i. i < j) found q.0 are.earlier q.1)) w q.2
+      ];
+      first = λ i k p lt wk h. elim (last_or_before k j wk) [
+        | inl e ↦
+            let here : Has (marks_by placing (pair_at ps i) (pair_at ps j)) p = subst (λ (l : ℕ). Has (marks_by placing (pair_at ps i) (pair_at ps l)) p) e h in
+            let there = are.near i (subst (λ (l : ℕ). i < l) e lt) (marked_near placing (pair_at ps i) (pair_at ps j) p here) in
+            into (record { index = i; point = p }) (Has-flat_map made found i (record { index = i; point = p }) there (between_first placing i (pair_at ps i) j (pair_at ps j) p here))
+        | inr less ↦ kept (record { index = i; point = p }) (marked.first i k p lt less h)
+      ];
+      second = λ i k p lt wk h. elim (last_or_before k j wk) [
+        | inl e ↦
+            let here : Has (marks_by placing (pair_at ps j) (pair_at ps i)) p = subst (λ (l : ℕ). Has (marks_by placing (pair_at ps l) (pair_at ps i)) p) e h in
+            let there = are.near i (subst (λ (l : ℕ). i < l) e lt) (λ apart. marked_near placing (pair_at ps j) (pair_at ps i) p here (AreApart-back (pair_at ps i) (pair_at ps j) apart)) in
+            subst (λ (l : ℕ). Has next (record { index = l; point = p })) (sym e)
+            (into (record { index = j; point = p }) (Has-flat_map made found i (record { index = j; point = p }) there (between_second placing i (pair_at ps i) j (pair_at ps j) p here)))
+        | inr less ↦ kept (record { index = k; point = p }) (marked.second i k p lt less h)
+      ];
+      told = λ h. elim (or_cases rounded (crosses_found ps j found) (sym r ∙ h)) [
+        | inl old ↦ marked.told old
+        | inr here ↦
+            let q = Has-from_list_any (λ i. cross_inexactly (pair_at ps i) (pair_at ps j)) found here in
+            some_in ps (pair_at ps q.0) (pair_at ps j) (Has-at ps q.0 nowhere (below q.0 (AllByRecursion-at (λ i. i < j) found q.0 are.earlier q.1))) (Has-at ps j nowhere w) q.2
+      ];
+      tells = λ i k lt wk h. elim (last_or_before k j wk) [
+        | inl e ↦
+            let here : cross_inexactly (pair_at ps i) (pair_at ps j) ≡ true = subst (λ (l : ℕ). cross_inexactly (pair_at ps i) (pair_at ps l) ≡ true) e h in
+            let there = are.near i (subst (λ (l : ℕ). i < l) e lt) (crossing_near (pair_at ps i) (pair_at ps j) here) in
+            r ∙ or_right rounded (crosses_found ps j found) (list_any-from_Has (λ l. cross_inexactly (pair_at ps l) (pair_at ps j)) found i there here)
+        | inr less ↦ r ∙ or_left rounded (crosses_found ps j found) (marked.tells i k lt less h)
+      ];
+    }
   where
     made : ℕ → List Mark
     made i = marks_between placing i (pair_at ps i) j (pair_at ps j)

@@ -1,5 +1,5 @@
 -- A tree in a list of nodes, cut at its middle; and put together again after a look-up or an insertion.
-use Rattle.std.proofs.Common.{◌≡◌, refl, sym, append_assoc, append-nil, Bool, true, false, ap, ap₂, subst, ◌∙◌, ℕ, ◌+◌, ◌≤◌, ◌/◌, ◌==◌, ◌<◌, suc, arith, List, [], ◌∷◌, ◌++◌, map, length, length-append, zero, take, drop}
+use Rattle.std.proofs.Common.{◌≡◌, refl, sym, append_assoc, append-nil, Bool, true, false, ap, ap₂, subst, ◌∙◌, ℕ, ◌+◌, ◌≤◌, ◌/◌, ◌==◌, ◌<◌, suc, arith, List, [], ◌∷◌, ◌++◌, map, length, length-append, zero, take, drop, get_or}
 use Rattle.std.specs.Prelude.{ℤ, Option, Some, int_lt, count_by, min, ◌-◌, ◌^◌, ◌||◌}
 use Rattle.std.specs.List.{AllByRecursion, list_any}
 use Rattle.std.proofs.lemmas.List.{map-append, length-map}
@@ -273,3 +273,43 @@ module _ {I : Type 0} (whole : I → ℤ) where
         left_summed = cut.rooted.left_summed;
         right_summed = hs;
       }
+
+  -- ---- a look at one entry after another
+
+  pub entries-next : (nodes : List (Node I)) (j : ℕ) (n : Node I) → j < length nodes → n ≡ get_or nodes j n → drop j (entries_in nodes) ≡ entry_of whole n ∷ drop (j + 1) (entries_in nodes)
+  entries-next [] j n lt e = absurd (omega arith)
+  entries-next (x ∷ nodes) zero n lt e = ap (λ (u : Node I). entry_of whole u ∷ entries_in nodes) (sym e)
+  entries-next (x ∷ nodes) (suc j) n lt e = entries-next nodes j n (omega arith) e ∙ ap (λ (k : ℕ). entry_of whole n ∷ drop k (entries_in (x ∷ nodes))) (let m : suc (j + 1) ≡ suc j + 1 = omega arith in m)
+
+  pub entries-none : (nodes : List (Node I)) (j : ℕ) → length nodes ≤ j → drop j (entries_in nodes) ≡ []
+  entries-none [] zero le = refl
+  entries-none [] (suc j) le = refl
+  entries-none (x ∷ nodes) zero le = absurd (omega arith)
+  entries-none (x ∷ nodes) (suc j) le = entries-none nodes j (omega arith)
+
+-- what is found and what is left to look at make up the whole, and so do the looks
+pub record IsLookedThrough (q : WholeQuery) (es : List Entry) (first now : List ℕ) (old looked : ℕ) (left : List Entry) : Type 0 where
+  pub fits : looked ≤ 2 ^ 128 - 1
+  pub all : now ++ found q left ≡ first ++ found q es
+  pub count : min (looked + count_by (is_taken_up q) left) (2 ^ 128 - 1) ≡ min (old + count_by (is_taken_up q) es) (2 ^ 128 - 1)
+
+pub IsLookedThrough-more : (q : WholeQuery) (es : List Entry) (e : Entry) (first now next : List ℕ) (old looked after : ℕ) (left : List Entry) → IsLookedThrough q es first now old looked (e ∷ left) →
+    next ≡ now ++ found q (e ∷ []) → after ≡ min (looked + count_by (is_taken_up q) (e ∷ [])) (2 ^ 128 - 1) → IsLookedThrough q es first next old after left
+IsLookedThrough-more q es e first now next old looked after left w n h = record {
+  fits = below after _ (2 ^ 128 - 1) h;
+  all = ap (λ (is : List ℕ). is ++ found q left) n ∙ append_assoc now (found q (e ∷ [])) (found q left) ∙ ap (λ (is : List ℕ). now ++ is) (sym (found-append q (e ∷ []) left)) ∙ w.all;
+  count = ap (λ (m : ℕ). min (m + count_by (is_taken_up q) left) (2 ^ 128 - 1)) h ∙ twice looked (count_by (is_taken_up q) (e ∷ [])) (count_by (is_taken_up q) left) (count_by (is_taken_up q) (e ∷ left)) (2 ^ 128 - 1) (count_by-append (is_taken_up q) (e ∷ []) left) ∙ w.count;
+}
+  where
+    below : (m n w : ℕ) → m ≡ min n w → m ≤ w
+    below m n w e = omega arith
+
+pub IsLookedThrough-end : (q : WholeQuery) (es : List Entry) (first now : List ℕ) (old looked : ℕ) (left : List Entry) → IsLookedThrough q es first now old looked left → left ≡ [] →
+    (now ≡ first ++ found q es) × (looked ≡ min (old + count_by (is_taken_up q) es) (2 ^ 128 - 1))
+IsLookedThrough-end q es first now old looked left w e =
+    let all = rw e at w.all in
+    let count = rw e at w.count in
+    (sym (append-nil now) ∙ all, none_left looked _ (2 ^ 128 - 1) w.fits count)
+  where
+    none_left : (m n w : ℕ) → m ≤ w → min (m + 0) w ≡ n → m ≡ n
+    none_left m n w le e = omega arith

@@ -15,8 +15,9 @@ use Rattle.overlay_marks.specs.steps.Swept.{pair_at, entry_at, entries_between, 
 use Rattle.overlay_marks.specs.steps.NodeOf.{nodes_of}
 use Rattle.overlay_marks.specs.declared.split.interval_tree.Node.{Node}
 use Rattle.overlay_marks.proofs.laws.IntervalTrees.{IsNotTaken, none_dropped, none_found, none_counted, none_inserted, found-append, count_by-append}
-use Rattle.overlay_marks.proofs.laws.Sweeps.{IsSwept, Gone, unlive, unlive_map, later_right, permuted, range_within}
-use Rattle.overlay_marks.proofs.laws.LookCounts.{IsCounted, live_count, one_if, count_by-cons}
+use Rattle.overlay_marks.specs.steps.TreeSweep.{IsSwept, Gone, unlive, live_count, IsCounted, away}
+use Rattle.overlay_marks.proofs.laws.Sweeps.{unlive_map, later_right, permuted, range_within}
+use Rattle.overlay_marks.proofs.laws.LookCounts.{one_if, count_by-cons}
 use Rattle.overlay_marks.proofs.laws.TreeBuilds.{above, distinct_front, all_distinct}
 
 -- ---- no tree
@@ -30,9 +31,6 @@ empty_tree whole (n ∷ ns) l rest e f mid = absurd (too_long (length (n ∷ ns)
     too_long a b c h k m p = omega arith
 
 -- ---- the entries that are not in the tree
-
-abbrev pub away : List Pair → List Entry → ℕ → List Entry
-away ps gone until = gone ++ entries_between ps until (length ps)
 
 pub coming_asleep : (ps : List Pair) (from until : ℕ) → AllByRecursion (λ e. e.is_live ≡ false) (entries_between ps from until)
 coming_asleep ps from until = AllByRecursion-map (λ e. e.is_live ≡ false) (entry_at ps) (range_with_len from (until - from)) (AllByRecursion-from_Has (λ i. false ≡ false) (range_with_len from (until - from)) (λ i h. refl))
@@ -121,7 +119,7 @@ pub record IsRenewed (ps : List Pair) (next gone : List Entry) (j until old now 
   pub counted : IsCounted ps (next ++ away ps gone until) j old now
   pub distinct : IsDistinct (λ i k. i == k) (map (λ (e : Entry). e.index) next)
 
-module _ (ps : List Pair) (E gone E' : List Entry) (j until old now : ℕ) (order : IsInOrder pair_cmp ps) (lt : j < until) (le : until ≤ length ps)
+module _ (ps : List Pair) (E gone E' : List Entry) (j until old now : ℕ) (order : IsInOrder pair_cmp ps) (lt : j ≤ until) (le : until ≤ length ps)
     (asleep : AllByRecursion (λ e. e.is_live ≡ false) gone) (behind : AllByRecursion (λ e. e.index < j) gone) (within : AllByRecursion (λ e. e.index < j) E)
     (swept : IsSwept ps (E ++ away ps gone j) j) (counted : IsCounted ps (E ++ away ps gone j) j old now)
     (listed : IsPermutation (filter (stays_at (pair_at ps j).a.x) E ++ entries_between ps j until) E') where

@@ -12,9 +12,11 @@ ghost use Rattle.overlay_marks.specs.MarkOf.{AreMarks, marks_of};
 ghost use Rattle.overlay_marks.specs.steps.IntervalTree.{AreRising, IsSummed, entries, stays_at};
 ghost use Rattle.overlay_marks.specs.steps.NodeOf.{nodes_of, node_of, entry_of};
 ghost use Rattle.overlay_marks.specs.Looked.{boxes_meet, count_twos, tree_looks};
+ghost use Rattle.overlay_marks.specs.steps.TreeSweep.{IsUnderWay, GoesOn, AreFoundBefore};
 ghost use Rattle.overlay_marks.specs.steps.Swept.{alone, entry_at, entry_of_pair, entries_between, pair_at, marks_with_found, crosses_found};
 ghost use Rattle.std.specs.List.{IsDistinct, range_with_len};
 
+use crate::split::few_entries::look_through;
 use crate::split::interval_tree::{Node, Query, insert, look_up, stays, sum_up};
 use crate::split::line_mark::LineMark;
 use crate::split::placing::Placing;
@@ -46,11 +48,10 @@ impl<I> TreeBuffers<I> {
 /// Finds the marks of a pass, as `solver_list::find_marks` does, and answers whether the pass rounds. The conditions are
 /// the same.
 ///
-/// A sweep over the list keeps the segments that it has met in a tree over their heights, which is renewed from time to
-/// time, so that it has few that have ended. Each segment takes up those
-/// whose heights it meets: those that end left of it are dropped, with the others it is marked. So besides one look at
-/// each segment that is dropped, it looks at those two alone whose ranges in `x` and in `y` meet; `looked` counts the
-/// looks.
+/// A sweep over the list keeps the segments that it has met: a few in a list, and more in a tree over their heights, which
+/// is renewed from time to time, so that it has few that have ended. Each segment takes up those whose heights it meets:
+/// those that end left of it are dropped, with the others it is marked. So besides one look at each segment that is
+/// dropped, it looks at those two alone whose ranges in `x` and in `y` meet; `looked` counts the looks.
 ///
 /// Answers `Fault::Memory` where a growth is refused; `marks` is of no use then.
 pub fn find_marks<C: WindingCount, I: OverlayInt, D: Copy>(
@@ -77,26 +78,107 @@ pub fn find_marks<C: WindingCount, I: OverlayInt, D: Copy>(
     let mut rounded = false;
     let mut until = 0;
     for index in 0..segments.len() {
-        if index == until {
-            until = renew(segments, index, nodes)?;
-        }
-        let tree = nodes.as_mut_slice();
-        let later = segments[index].x_segment();
-        let heights = later.y_range();
-        let query = Query {
-            heights,
-            x: later.a.x,
-        };
-        found.clear();
-        look_up(tree, &query, found, looked)?;
+        until = take_in(segments, index, until, nodes, found, looked)?;
         if mark_with_found(segments, found, index, placing, marks)? {
             rounded = true;
         }
-        insert(tree, heights.min, heights.max, index);
     }
     marks.sort()?;
     marks.dedup();
     Ok(rounded)
+}
+
+/// So few entries are looked at one by one, and stand in no tree.
+const FEW: usize = 48;
+
+/// Takes the segment at an index into the sweep: finds those before it that are live and whose heights it meets, and
+/// adds it. The tree has the entries of segments up to `until`; answers up to which it has them then.
+pub(crate) fn take_in<C: WindingCount, I: OverlayInt, D: Copy>(
+    segments: &[Segment<C, I, D>],
+    index: usize,
+    until: usize,
+    nodes: &mut Vec<Node<I>>,
+    found: &mut Vec<usize>,
+    looked: &mut u128,
+) -> Result<usize, AllocError>
+    requires index { index < length segments.now }
+    requires sorted { IsSortedByKey ends_of pair_cmp segments.now }
+    requires way { (old : ℕ) × IsUnderWay (pairs (segments_of segments.now)) (nodes_of I.whole nodes.old.items) old looked.old index until }
+    ensures way { IfOk result (λ until'. GoesOn (pairs (segments_of segments.now)) (nodes_of I.whole nodes.old.items) (nodes_of I.whole nodes.new.items) looked.old looked.new index until until') }
+    ensures found { OnOk result (AreFoundBefore (pairs (segments_of segments.now)) found.new.items index) }
+    ensures looked { OnOk result (looked.new ≤ looked.old + length segments.now) }
+{
+    if index < until {
+        take_into_tree(segments, index, until, nodes, found, looked)?;
+        return Ok(until);
+    }
+    if nodes.len() < FEW {
+        take_among_few(segments, index, until, nodes, found, looked)?;
+        return Ok(index + 1);
+    }
+    let further = renew(segments, index, nodes)?;
+    take_into_tree(segments, index, further, nodes, found, looked)?;
+    Ok(further)
+}
+
+/// The same where the tree has an entry of the segment.
+fn take_into_tree<C: WindingCount, I: OverlayInt, D: Copy>(
+    segments: &[Segment<C, I, D>],
+    index: usize,
+    until: usize,
+    nodes: &mut Vec<Node<I>>,
+    found: &mut Vec<usize>,
+    looked: &mut u128,
+) -> Result<(), AllocError>
+    requires index { index < length segments.now }
+    requires sorted { IsSortedByKey ends_of pair_cmp segments.now }
+    requires there { index < until }
+    requires way { (old : ℕ) × IsUnderWay (pairs (segments_of segments.now)) (nodes_of I.whole nodes.old.items) old looked.old index until }
+    ensures way { OnOk result (GoesOn (pairs (segments_of segments.now)) (nodes_of I.whole nodes.old.items) (nodes_of I.whole nodes.new.items) looked.old looked.new index until until) }
+    ensures found { OnOk result (AreFoundBefore (pairs (segments_of segments.now)) found.new.items index) }
+    ensures looked { OnOk result (looked.new ≤ looked.old + length segments.now) }
+{
+    let _looked = *looked;
+    let later = segments[index].x_segment();
+    let heights = later.y_range();
+    let query = Query {
+        heights,
+        x: later.a.x,
+    };
+    let tree = nodes.as_mut_slice();
+    found.clear();
+    look_up(tree, &query, found, looked)?;
+    insert(tree, heights.min, heights.max, index);
+    Ok(())
+}
+
+/// The same where no entry is to come: those that have ended are taken out, the others are looked at one by one.
+fn take_among_few<C: WindingCount, I: OverlayInt, D: Copy>(
+    segments: &[Segment<C, I, D>],
+    index: usize,
+    until: usize,
+    nodes: &mut Vec<Node<I>>,
+    found: &mut Vec<usize>,
+    looked: &mut u128,
+) -> Result<(), AllocError>
+    requires index { index < length segments.now }
+    requires sorted { IsSortedByKey ends_of pair_cmp segments.now }
+    requires none { index ≡ until }
+    requires way { (old : ℕ) × IsUnderWay (pairs (segments_of segments.now)) (nodes_of I.whole nodes.old.items) old looked.old index until }
+    ensures way { OnOk result (GoesOn (pairs (segments_of segments.now)) (nodes_of I.whole nodes.old.items) (nodes_of I.whole nodes.new.items) looked.old looked.new index until (index + 1)) }
+    ensures found { OnOk result (AreFoundBefore (pairs (segments_of segments.now)) found.new.items index) }
+    ensures looked { OnOk result (looked.new ≤ looked.old + length segments.now) }
+{
+    let _looked = *looked;
+    let later = segments[index].x_segment();
+    let heights = later.y_range();
+    let x = later.a.x;
+    let query = Query { heights, x };
+    drop_ended(nodes, x);
+    found.clear();
+    look_through(nodes.as_slice(), &query, found, looked)?;
+    nodes.push(node_at(index, segments[index].x_segment(), true))?;
+    Ok(())
 }
 
 /// So many segments at least are added to a tree at once.
@@ -159,13 +241,13 @@ fn push_nodes<C: WindingCount, I: OverlayInt, D: Copy>(
         ++ map (λ i. alone (entry_at (pairs (segments_of segments.now)) i)) (range_with_len from (until - from))) }
 {
     for index in from..until {
-        nodes.push(node_at(index, segments[index].x_segment()))?;
+        nodes.push(node_at(index, segments[index].x_segment(), false))?;
     }
     Ok(())
 }
 
-fn node_at<I: OverlayInt>(index: usize, segment: XSegment<I>) -> Node<I>
-    ensures { node_of I.whole result ≡ alone (entry_of_pair index (pair_of I.whole segment)) }
+fn node_at<I: OverlayInt>(index: usize, segment: XSegment<I>, is_live: bool) -> Node<I>
+    ensures { node_of I.whole result ≡ alone (record (entry_of_pair index (pair_of I.whole segment)) { is_live = is_live }) }
 {
     let heights = segment.y_range();
     Node {
@@ -173,7 +255,7 @@ fn node_at<I: OverlayInt>(index: usize, segment: XSegment<I>) -> Node<I>
         high: heights.max,
         end_x: segment.b.x,
         index,
-        is_live: false,
+        is_live,
         greatest: None,
     }
 }

@@ -8,10 +8,9 @@ ghost use Rattle.overlay_marks.specs.PassMarks.{is_rounded};
 ghost use Rattle.overlay_marks.specs.PlacingOf.{placing_of, HasRadius};
 ghost use Rattle.overlay_marks.specs.MarkOf.{AreMarks, marks_of};
 
-use crate::split::interval_tree::{Query, insert, look_up};
 use crate::split::line_mark::LineMark;
 use crate::split::placing::Placing;
-use crate::split::solver_tree::{TreeBuffers, mark_with_found, renew};
+use crate::split::solver_tree::{TreeBuffers, mark_with_found, take_in};
 use overlay_base::num::OverlayInt;
 use overlay_base::segm::fault::Fault;
 use overlay_base::segm::segment::Segment;
@@ -48,22 +47,10 @@ pub fn find_marks_within<C: WindingCount, I: OverlayInt, D: Copy>(
         if limit.saturating_sub(*looked) < segments.len() as u128 {
             return Ok(None);
         }
-        if index == until {
-            until = renew(segments, index, nodes)?;
-        }
-        let tree = nodes.as_mut_slice();
-        let later = segments[index].x_segment();
-        let heights = later.y_range();
-        let query = Query {
-            heights,
-            x: later.a.x,
-        };
-        found.clear();
-        look_up(tree, &query, found, looked)?;
+        until = take_in(segments, index, until, nodes, found, looked)?;
         if mark_with_found(segments, found, index, placing, marks)? {
             rounded = true;
         }
-        insert(tree, heights.min, heights.max, index);
     }
     marks.sort()?;
     marks.dedup();

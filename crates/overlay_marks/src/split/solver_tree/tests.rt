@@ -116,20 +116,34 @@ fn lines_beside_one_another(rt: HostRuntime) {
         let left = 10 * i32::from(place);
         push_side(&rt, &mut segments, (left, 0), (left + 5, 0));
     }
-    // Each is dropped by the next one, but for those 15 that the tree is rid of where it is renewed, at every 64th.
-    assert_eq!(rt; ask(&rt, rt.alloc(), &mut segments, SNAPPING), (0, 984));
+    // No two boxes meet: no more than one look at each, where it is dropped.
+    let (marks, looked) = ask(&rt, rt.alloc(), &mut segments, SNAPPING);
+    assert_eq!(rt; marks, 0);
+    assert!(rt; looked <= 1000);
+}
+
+/// Lines of a grid, so many each way: how many marks there are, and how many pairs the tree took up.
+fn grid(rt: &impl Abort, alloc: Global, size: u16) -> (usize, u128) {
+    let mut segments = Vec::new(alloc);
+    for place in 0..size {
+        let at = 2 * i32::from(place) + 1;
+        let far = 2 * i32::from(size);
+        push_side(rt, &mut segments, (0, at), (far, at));
+        push_side(rt, &mut segments, (at, 0), (at, far));
+    }
+    ask(rt, alloc, &mut segments, SNAPPING)
 }
 
 #[test]
-fn crossing_lines(rt: HostRuntime) {
-    let mut segments = Vec::new(rt.alloc());
-    for place in 0..20_u16 {
-        let at = 2 * i32::from(place) + 1;
-        push_side(&rt, &mut segments, (0, at), (40, at));
-        push_side(&rt, &mut segments, (at, 0), (at, 40));
-    }
-    assert_eq!(rt;
-        ask(&rt, rt.alloc(), &mut segments, SNAPPING),
-        (800, 400 + 19)
-    );
+fn few_crossing_lines(rt: HostRuntime) {
+    let (marks, looked) = grid(&rt, rt.alloc(), 20);
+    assert_eq!(rt; marks, 800);
+    assert!(rt; 400 <= looked && looked <= 400 + 40);
+}
+
+#[test]
+fn many_crossing_lines(rt: HostRuntime) {
+    let (marks, looked) = grid(&rt, rt.alloc(), 60);
+    assert_eq!(rt; marks, 7200);
+    assert!(rt; 3600 <= looked && looked <= 3600 + 120);
 }
