@@ -1,6 +1,6 @@
 -- How many fragments segments have, as code counts them.
-use Rattle.std.proofs.Common.{◌≡◌, refl, sym, ap, ap₂, subst, ◌∙◌, ℕ, ◌+◌, ◌-◌, ◌^◌, ◌≤◌, ◌<◌, arith, min, Bool, true, false, not, if◌then◌else◌, IsTrue, List, [], ◌∷◌, ◌++◌, map, drop, length, length-append}
-use Rattle.std.specs.Prelude.{ℤ, pos, ◌-ℤ◌}
+use Rattle.std.proofs.Common.{◌≡◌, refl, sym, ap, subst, ◌∙◌, ℕ, ◌+◌, ◌-◌, ◌^◌, ◌≤◌, arith, min, Bool, true, false, not, if◌then◌else◌, IsTrue, List, [], ◌∷◌, map, drop, length, length-append}
+use Rattle.std.specs.Prelude.{pos, ◌-ℤ◌}
 use Rattle.std.specs.List.{range_with_len}
 use Rattle.std.proofs.lemmas.List.FromFn.{length-map-range_with_len}
 use Rattle.overlay_base.specs.Points.{Pair, is_vertical}

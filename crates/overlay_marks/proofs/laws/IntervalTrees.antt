@@ -8,7 +8,7 @@ use Rattle.std.proofs.lemmas.Bool.{or_cases, and_parts, not-true, not-false, bot
 use Rattle.std.proofs.lemmas.List.{map-append}
 use Rattle.std.proofs.lemmas.List.Elements.{filter-append}
 use Rattle.std.proofs.lemmas.List.Sums.{sum_by-append, sum_by-cons}
-use Rattle.overlay_base.proofs.laws.Lists.{list_any-from_none, none_from_list_any, AllByRecursion-weaker, AllByRecursion-both, AllByRecursion-append, AllByRecursion_cross, Pairwise_left, Pairwise_right}
+use Rattle.overlay_base.proofs.laws.Lists.{list_any-from_none, none_from_list_any, AllByRecursion-weaker, AllByRecursion-both, AllByRecursion_cross, Pairwise_left, Pairwise_right}
 use Rattle.overlay_marks.specs.steps.IntervalTree.{Entry, WholeQuery, TreeNode, entries, is_at_heights, is_taken_up, is_found, is_dropped, found, left_by, inserted, StandsBefore, AreRising, live_height, greatest_height, is_reached, IsAt, IsUpTo, further, IsSummed, none, rooted}
 
 -- ---- the parts of a tree

@@ -1,19 +1,18 @@
 -- The finder over a tree: one segment more, in the tree or through a few entries, and what it has found at the end.
-use Rattle.std.proofs.Common.{◌≡◌, refl, sym, ap, ap₂, subst, append-nil, ◌∷◌, not, ◌&&◌, ◌∙◌, ℕ, ◌+◌, ◌-◌, true, ◌<◌, ◌≤◌, Bool, false, ◌||◌, inl, inr, ◌==◌, arith, IsTrue, List, [], ◌++◌, map, filter, length, length-append, IsPermutation}
+use Rattle.std.proofs.Common.{◌≡◌, refl, sym, ap, ap₂, subst, append-nil, ◌∷◌, not, ◌&&◌, ◌∙◌, ℕ, ◌+◌, ◌-◌, true, ◌<◌, ◌≤◌, Bool, false, inl, inr, ◌==◌, arith, IsTrue, List, [], ◌++◌, map, filter, length, length-append, IsPermutation}
 use Rattle.std.specs.Prelude.{count_by, min, ◌^◌, int_lt}
 use Rattle.std.specs.List.{AllByRecursion, IsDistinct, list_any, range_with_len}
 use Rattle.std.proofs.lemmas.List.Sorted.{IsPermutation-refl}
 use Rattle.std.proofs.lemmas.Bool.{eq-eqb, both_ways, and_parts, not-true}
 use Rattle.std.proofs.lemmas.List.{map-append}
-use Rattle.std.proofs.lemmas.List.Elements.{All-from_recursion}
 use Rattle.overlay_base.specs.Points.{Pair, pair_cmp, is_ordered}
 use Rattle.overlay_base.specs.Ranges.{WholeRange, heights}
 use Rattle.overlay_base.proofs.laws.Keys.{IsInOrder}
 use Rattle.overlay_base.proofs.laws.Lists.{Has, AllByRecursion-at, AllByRecursion-map, AllByRecursion-weaker, AllByRecursion_left, AllByRecursion-filter, list_any-from_Has, list_any-from_none}
 use Rattle.overlay_base.proofs.laws.Elements.{Has-append_out}
-use Rattle.overlay_marks.specs.steps.IntervalTree.{Entry, TreeNode, entries, AreRising, IsSummed, none, WholeQuery, is_taken_up, is_dropped, found, left_by, inserted, stays_at, IsAt, IsUpTo}
+use Rattle.overlay_marks.specs.steps.IntervalTree.{Entry, TreeNode, entries, AreRising, IsSummed, WholeQuery, is_taken_up, is_dropped, found, left_by, inserted, stays_at, IsAt, IsUpTo}
 use Rattle.overlay_marks.proofs.laws.IntervalTrees.{is_of, all_kept, none_inserted}
-use Rattle.overlay_marks.specs.steps.Swept.{pair_at, entry_at, entries_between, unswept, marks_with_found, crosses_found}
+use Rattle.overlay_marks.specs.steps.Swept.{pair_at, entry_at, entries_between, unswept}
 use Rattle.overlay_marks.specs.steps.TreeSweep.{unlive, query_at, IsSwept, IsCounted, away, AreUnderWay, IsUnderWay, AreFoundBefore}
 use Rattle.overlay_marks.proofs.laws.Sweeps.{IsSwept-start, IsSwept-more, all_earlier, found_all_near, entry_there, low_there, high_there, rising_map, unlive_map}
 use Rattle.overlay_marks.proofs.laws.TreeRenewals.{coming_asleep, away_asleep, away_other, left_with, found_with, count_with, inserted_with, renewed}

@@ -1,6 +1,6 @@
 -- A tree of a part of all entries: those that it holds, those that have gone, and those that are to come make up all.
 use Rattle.std.proofs.Common.{◌≡◌, refl, sym, ap, ap₂, subst, ◌∙◌, inl, inr, ℕ, zero, suc, ◌+◌, ◌-◌, ◌<◌, ◌≤◌, ◌==◌, arith, Bool, true, false, not, ◌&&◌, List, [], ◌∷◌, ◌++◌, map, filter, length, length-append, ◌/◌, append_assoc, append-nil, IsPermutation}
-use Rattle.std.specs.Prelude.{ℤ, ◌≤ℤ◌, ◌<ℤ◌, int_lt, count_by}
+use Rattle.std.specs.Prelude.{ℤ, ◌≤ℤ◌, int_lt, count_by}
 use Rattle.std.specs.List.{AllByRecursion, IsDistinct, range_with_len}
 use Rattle.std.proofs.lemmas.Int.{ints}
 use Rattle.std.proofs.lemmas.Bool.{not-false, not-true, cases_Bool, cases_order}
@@ -9,7 +9,7 @@ use Rattle.std.proofs.lemmas.List.Sorted.{IsPermutation-map, IsPermutation-trans
 use Rattle.overlay_base.specs.Points.{Pair, pair_cmp}
 use Rattle.overlay_base.proofs.laws.Keys.{IsInOrder}
 use Rattle.overlay_base.proofs.laws.Apart.{int_lt-to}
-use Rattle.overlay_base.proofs.laws.Lists.{AllByRecursion-append, AllByRecursion_left, AllByRecursion_right, AllByRecursion-map, AllByRecursion-filter, AllByRecursion-weaker, AllByRecursion-from_Has, AllByRecursion-both}
+use Rattle.overlay_base.proofs.laws.Lists.{AllByRecursion-append, AllByRecursion_left, AllByRecursion_right, AllByRecursion-map, AllByRecursion-filter, AllByRecursion-weaker, AllByRecursion-from_Has}
 use Rattle.overlay_marks.specs.steps.IntervalTree.{Entry, IsSummed, none, WholeQuery, is_at_heights, is_taken_up, found, left_by, inserted, stays_at}
 use Rattle.overlay_marks.specs.steps.Swept.{pair_at, entry_at, entries_between, unswept}
 use Rattle.overlay_marks.specs.steps.NodeOf.{nodes_of}

@@ -1,4 +1,4 @@
-use Rattle.std.proofs.Common.{◌≡◌, ◌<◌, ◌≤◌, ◌+◌, sym, ap, ap₂, subst, ◌∙◌, ◌++◌, ◌∷◌, [], filter, length, arith, List, ℕ, true}
+use Rattle.std.proofs.Common.{◌≡◌, ◌<◌, ◌+◌, sym, ap, ap₂, subst, ◌∙◌, ◌++◌, ◌∷◌, [], filter, length, arith, List, ℕ, true}
 use Rattle.std.specs.Prelude.{count_by, min, ◌^◌, ◌-◌}
 use Rattle.std.proofs.lemmas.List.{map-append}
 use Rattle.overlay_base.specs.Points.{Pair}
@@ -7,7 +7,7 @@ use Rattle.overlay_base.specs.PairOf.{pair_of}
 use Rattle.overlay_base.specs.RangeOf.{range_of}
 use Rattle.overlay_base.specs.SegmentOf.{segments_of}
 use Rattle.overlay_base.proofs.laws.Apart.{are_ordered}
-use Rattle.overlay_marks.specs.steps.NodeOf.{entry_of, node_of, nodes_of}
+use Rattle.overlay_marks.specs.steps.NodeOf.{node_of, nodes_of}
 use Rattle.overlay_marks.specs.steps.IntervalTree.{Entry, TreeNode, WholeQuery, entries, found, is_taken_up, stays_at}
 use Rattle.overlay_marks.specs.steps.Swept.{alone, entry_of_pair, pair_at}
 use Rattle.overlay_marks.specs.steps.TreeSweep.{AreFoundBefore, query_at}
