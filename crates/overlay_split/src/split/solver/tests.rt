@@ -433,67 +433,56 @@ fn more_than_a_tree_is_given(rt: HostRuntime) -> Result<(), Fail> {
     Ok(())
 }
 
-/// Data of a user: a color, and none where two colors have met.
+/// Data of a user: colors as bits, and a store that counts the calls of each hook and keeps the last merge.
 #[derive(Clone, Copy, Debug, PartialEq, Eq)]
-enum Color {
-    Red,
-    Green,
-    Undefined,
-}
+struct Colors(u8);
 
-/// A store that counts the calls of each hook and keeps the last merge.
+const RED: Colors = Colors(1);
+
+const GREEN: Colors = Colors(2);
+
+const BOTH: Colors = Colors(3);
+
 #[derive(Drop, Default)]
 struct Calls {
     splits: u32,
     reversals: u32,
     merges: u32,
-    merged: Option<EdgeDataMerge<ShapeCountBoolean, Color>>,
+    merged: Option<EdgeDataMerge<ShapeCountBoolean, Colors>>,
 }
 
-impl OverlayEdgeData<ShapeCountBoolean> for Color {
+impl OverlayEdgeData<ShapeCountBoolean> for Colors {
     type Store = Calls;
 
-    ghost use Rattle.std.specs.Prelude.{◌≡◌, ◌+◌, ◌-◌, ◌^◌, Some, min};
+    ghost use Rattle.std.specs.Prelude.{◌≡◌, ◌+◌, ◌-◌, ◌^◌, Some, min, bit_or};
 
-    ghost reversed_gives = { λ color store. (color, record store { reversals = min (store.reversals + 1) (2 ^ 32 - 1) }) };
+    ghost reversed_gives = { λ colors store. (colors, record store { reversals = min (store.reversals + 1) (2 ^ 32 - 1) }) };
 
-    ghost split_gives = { λ color _ _ _ store. ((color, color), record store { splits = min (store.splits + 1) (2 ^ 32 - 1) }) };
+    ghost split_gives = { λ colors _ _ _ store. ((colors, colors), record store { splits = min (store.splits + 1) (2 ^ 32 - 1) }) };
 
     ghost merge_gives = { λ merged store. (
-      (elim merged.lhs_data [
-        | Color.Red ↦ elim merged.rhs_data [ Color.Red ↦ Color.Red | Color.Green ↦ Color.Undefined | Color.Undefined ↦ Color.Undefined ]
-        | Color.Green ↦ elim merged.rhs_data [ Color.Red ↦ Color.Undefined | Color.Green ↦ Color.Green | Color.Undefined ↦ Color.Undefined ]
-        | Color.Undefined ↦ Color.Undefined
-      ]),
+      record { 0 = bit_or merged.lhs_data.0 merged.rhs_data.0 },
       record store { merges = min (store.merges + 1) (2 ^ 32 - 1); merged = Some merged },
     ) };
 
-    fn reversed(self, store: &mut Calls) -> Color {
+    fn reversed(self, store: &mut Calls) -> Colors {
         store.reversals = store.reversals.saturating_add(1);
         self
     }
 
-    fn split<I: OverlayInt>(self, _at: EdgeDataSplit<I>, store: &mut Calls) -> (Color, Color) {
+    fn split<I: OverlayInt>(self, _at: EdgeDataSplit<I>, store: &mut Calls) -> (Colors, Colors) {
         store.splits = store.splits.saturating_add(1);
         (self, self)
     }
 
-    fn merge(merged: EdgeDataMerge<ShapeCountBoolean, Color>, store: &mut Calls) -> Color
-        ensures answer { result ≡ (elim merged.lhs_data [
-          | Color.Red ↦ elim merged.rhs_data [ Color.Red ↦ Color.Red | Color.Green ↦ Color.Undefined | Color.Undefined ↦ Color.Undefined ]
-          | Color.Green ↦ elim merged.rhs_data [ Color.Red ↦ Color.Undefined | Color.Green ↦ Color.Green | Color.Undefined ↦ Color.Undefined ]
-          | Color.Undefined ↦ Color.Undefined
-        ]) }
+    fn merge(merged: EdgeDataMerge<ShapeCountBoolean, Colors>, store: &mut Calls) -> Colors
+        ensures answer { result ≡ record { 0 = bit_or merged.lhs_data.0 merged.rhs_data.0 } }
         ensures store { store.new ≡ record store.old { merges = min (store.old.merges + 1) (2 ^ 32 - 1); merged = Some merged } }
     {
-        let color = match (merged.lhs_data, merged.rhs_data) {
-            (Color::Red, Color::Red) => Color::Red,
-            (Color::Green, Color::Green) => Color::Green,
-            _ => Color::Undefined,
-        };
+        let colors = Colors(merged.lhs_data.0 | merged.rhs_data.0);
         store.merges = store.merges.saturating_add(1);
         store.merged = Some(merged);
-        color
+        colors
     }
 }
 
@@ -502,22 +491,22 @@ fn colored(
     from: i32,
     subj: i32,
     clip: i32,
-    color: Color,
-) -> Segment<ShapeCountBoolean, i32, Color> {
+    colors: Colors,
+) -> Segment<ShapeCountBoolean, i32, Colors> {
     assert!(rt; 0 <= from && from <= 100);
     let count = ShapeCountBoolean::new(subj, clip);
     assert!(rt; count.is_valid());
     let (a, b) = (IntPoint::new(from, 0), IntPoint::new(from + 4, 0));
     assert!(rt; a != b);
-    Segment::create_and_validate_with_data(a, b, count, color, &mut Calls::default())
+    Segment::create_and_validate_with_data(a, b, count, colors, &mut Calls::default())
 }
 
 #[test]
 fn colors_of_an_overlap(rt: HostRuntime) -> Result<(), Fail> {
     for strategy in STRATEGIES {
         let mut list = Vec::new(rt.alloc());
-        list.push(colored(&rt, 0, 1, 0, Color::Red))?;
-        list.push(colored(&rt, 2, 0, 1, Color::Green))?;
+        list.push(colored(&rt, 0, 1, 0, RED))?;
+        list.push(colored(&rt, 2, 0, 1, GREEN))?;
         assert!(rt; is_splittable(&list));
         let mut calls = Calls::default();
         let mut splitter = SplitSolver::new(rt.alloc());
@@ -530,21 +519,17 @@ fn colors_of_an_overlap(rt: HostRuntime) -> Result<(), Fail> {
             let XSegment { a, b } = segment.x_segment();
             after.push((a.x, b.x, count.subj, count.clip, segment.edge_data()))?;
         }
-        let three = [
-            (0, 2, 1, 0, Color::Red),
-            (2, 4, 1, 1, Color::Undefined),
-            (4, 6, 0, 1, Color::Green),
-        ];
+        let three = [(0, 2, 1, 0, RED), (2, 4, 1, 1, BOTH), (4, 6, 0, 1, GREEN)];
         assert_eq!(rt; after.as_slice(), three.as_slice());
         assert_eq!(rt; (calls.splits, calls.reversals, calls.merges), (2, 0, 1));
         let merged = calls.merged.ok_or("no merge")?;
         assert_eq!(rt;
             (merged.lhs_data, merged.lhs_count),
-            (Color::Green, ShapeCountBoolean { subj: 0, clip: 1 })
+            (GREEN, ShapeCountBoolean { subj: 0, clip: 1 })
         );
         assert_eq!(rt;
             (merged.rhs_data, merged.rhs_count),
-            (Color::Red, ShapeCountBoolean { subj: 1, clip: 0 })
+            (RED, ShapeCountBoolean { subj: 1, clip: 0 })
         );
         assert_eq!(rt; merged.out_count, ShapeCountBoolean { subj: 1, clip: 1 });
     }
@@ -555,15 +540,9 @@ fn red_line(
     rt: &impl Abort,
     from: (i32, i32),
     to: (i32, i32),
-) -> Segment<ShapeCountBoolean, i32, Color> {
+) -> Segment<ShapeCountBoolean, i32, Colors> {
     let (a, b) = (IntPoint::new(from.0, from.1), IntPoint::new(to.0, to.1));
-    let line = Segment::try_ab_and_data(
-        a,
-        b,
-        ShapeType::Subject,
-        Color::Red,
-        &mut Calls::default(),
-    );
+    let line = Segment::try_ab_and_data(a, b, ShapeType::Subject, RED, &mut Calls::default());
     line.expect(rt, "two ends")
 }
 
@@ -587,9 +566,9 @@ fn colors_of_a_bent_line(rt: HostRuntime) -> Result<(), Fail> {
         }
         let bend = IntPoint::new(0, 0);
         let three = [
-            (bend, IntPoint::new(1, -50), -1, Color::Red),
-            (bend, IntPoint::new(1, 50), 1, Color::Red),
-            (bend, IntPoint::new(100, 1), 1, Color::Red),
+            (bend, IntPoint::new(1, -50), -1, RED),
+            (bend, IntPoint::new(1, 50), 1, RED),
+            (bend, IntPoint::new(100, 1), 1, RED),
         ];
         assert_eq!(rt; after.as_slice(), three.as_slice());
         assert_eq!(rt; (calls.splits, calls.reversals, calls.merges), (1, 1, 0));
