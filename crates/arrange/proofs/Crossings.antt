@@ -12,7 +12,7 @@ use Rattle.overlay_marks.specs.Marks.{Placing}
 use Rattle.overlay_marks.specs.CrossAnswer.{overlay, CrossAnswer, cross_answer}
 use Rattle.overlay_marks.specs.AnswerOf.{answer_of, result_of}
 use Rattle.overlay_marks.specs.declared.split.cross.result.CrossResult.{CrossResult}
-use Rattle.overlay_marks.proofs.laws.MarkedPairs.{overlay_is_collinear}
+use Rattle.overlay_marks.proofs.laws.marks.MarkedPairs.{overlay_is_collinear}
 
 -- a list of two
 pub are_two : {X : Type 0} (xs : List X) (x y : X) → 2 ≤ length xs → length xs < 3 → x ≡ get_or xs 0 x → y ≡ get_or xs 1 y → xs ≡ x ∷ y ∷ []

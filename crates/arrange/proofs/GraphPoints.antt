@@ -12,9 +12,9 @@ use Rattle.overlay_base.specs.declared.overlay_core.link.OverlayLink.{OverlayLin
 use Rattle.overlay_build.specs.Graph.{Filled, Link, Node, Graph, node_points, links_at}
 use Rattle.overlay_build.specs.GraphOf.{HoldGraph, kept_of, graph_with, link_of as whole_link}
 use Rattle.overlay_build.specs.Graph.{without_nodes}
-use Rattle.overlay_build.proofs.laws.GraphLaws.{pairs_of, length-nodes, length-links_at, links_at-exactly, node_at, degree, NamesItsNodes, names_its_nodes, stands_at_its_nodes}
-use Rattle.overlay_build.proofs.laws.Indexes.{has_number}
-use Rattle.overlay_build.proofs.laws.GraphValid.{node_points-positive}
+use Rattle.overlay_build.proofs.laws.graphs.GraphLaws.{pairs_of, length-nodes, length-links_at, links_at-exactly, node_at, degree, NamesItsNodes, names_its_nodes, stands_at_its_nodes}
+use Rattle.overlay_build.proofs.laws.graphs.Indexes.{has_number}
+use Rattle.overlay_build.proofs.laws.graphs.GraphValid.{node_points-positive}
 
 abbrev pub no_node : Node
 no_node = record { point = record { x = pos 0; y = pos 0 }; links = [] }

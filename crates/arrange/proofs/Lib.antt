@@ -3,6 +3,8 @@ pub mod Crossings
 pub mod GraphAnswers
 pub mod RuleWords
 pub mod GraphPoints
+pub mod LineEnds
+pub mod Numerals
 pub mod Parts
 pub mod PrecisionWords
 pub mod ReadWords

@@ -13,7 +13,7 @@ use Rattle.overlay_base.specs.BooleanWinding.{boolean_made}
 use Rattle.overlay_base.specs.ShapeWindings.{direct_winding, inverted_winding}
 use Rattle.overlay_base.specs.declared.segm.shape_type.ShapeType.{ShapeType}
 use Rattle.overlay_base.specs.declared.segm.shape_type.ShapeType.TheVariants.{Subject, Clip}
-use Rattle.overlay_base.proofs.laws.DataJoins.{bare}
+use Rattle.overlay_base.proofs.laws.joins.DataJoins.{bare}
 use Rattle.arrange.specs.declared.stop.LineFault.TheVariants.{Range, EqualEnds}
 use Rattle.arrange.specs.Lines.{step_fault, step_segment}
 

@@ -27,7 +27,8 @@ pub fn cross<I: OverlayInt>(
     radius: SquaredRadius,
 ) -> Result<String, Stop>
     requires { IsTrue (is_splittable (I.whole I.MIN_COORD) (I.whole I.MAX_COORD) (segments_of segments.now)) }
-    ensures text { IfOk result (λ text. Some (string_bytes text) ≡ cross_text (unsigned_abs radius.squared) (segments_of segments.now)) }
+    ensures text { IfOk result (λ text. Some (string_bytes text)
+        ≡ cross_text (unsigned_abs radius.squared) (segments_of segments.now)) }
     ensures two { IsErrOf result Stop.NotTwoSegments ↔ (length segments.now ≢ 2) }
     ensures refused { IfErr result (λ stop. (stop ≡ Stop.NotTwoSegments) ⊎ (stop ≡ Stop.Refused Memory)) }
 {
@@ -55,7 +56,10 @@ fn write_answer<I: OverlayInt>(
     requires other { IsPairInRange I.whole I.MIN_COORD I.MAX_COORD other.now }
     requires target_apart { (pair_of I.whole target.now).a ≢ (pair_of I.whole target.now).b }
     requires other_apart { (pair_of I.whole other.now).a ≢ (pair_of I.whole other.now).b }
-    ensures { OnOk result (string_bytes text.new ≡ string_bytes text.old ++ answer_text (pair_of I.whole target.now) (pair_of I.whole other.now) (cross_answer (snapping (unsigned_abs radius.squared)) (pair_of I.whole target.now) (pair_of I.whole other.now))) }
+    ensures { OnOk result (string_bytes text.new ≡ string_bytes text.old
+        ++ answer_text (pair_of I.whole target.now) (pair_of I.whole other.now)
+        (cross_answer (snapping (unsigned_abs radius.squared)) (pair_of I.whole target.now)
+        (pair_of I.whole other.now))) }
 {
     let Some(place) = CrossSolver::cross(target, other, radius.squared) else {
         return writeln!(text, "none");

@@ -43,8 +43,10 @@ pub fn graph<I: OverlayInt>(
     settings: Settings,
 ) -> Result<String, Stop>
     requires { IsTrue (is_splittable (I.whole I.MIN_COORD) (I.whole I.MAX_COORD) (segments_of segments.items)) }
-    ensures text { IfOk result (λ text. IsCommandAnswer I.BITS Command.Graph settings (segments_of segments.items) (Ok (string_bytes text))) }
-    ensures stop { IfErr result (λ stop. (stop ≡ Stop.Refused Memory) ⊎ IsCommandAnswer I.BITS Command.Graph settings (segments_of segments.items) (Err stop)) }
+    ensures text { IfOk result (λ text. IsCommandAnswer I.BITS Command.Graph settings (segments_of segments.items)
+        (Ok (string_bytes text))) }
+    ensures stop { IfErr result (λ stop. (stop ≡ Stop.Refused Memory)
+        ⊎ IsCommandAnswer I.BITS Command.Graph settings (segments_of segments.items) (Err stop)) }
 {
     let mut builder = GraphBuilder::new(alloc);
     let graph = build_graph(alloc, &mut builder, segments, settings)?;
@@ -61,8 +63,10 @@ pub fn build_graph<'a, I: OverlayInt>(
     settings: Settings,
 ) -> Result<OverlayGraph<'a, I, ()>, Fault>
     requires { IsTrue (is_splittable (I.whole I.MIN_COORD) (I.whole I.MAX_COORD) (segments_of segments.items)) }
-    ensures graph { IfOk result (λ graph. IsGraphOf I.BITS settings (segments_of segments.items) (graph_with I.whole (links_of graph))) }
-    ensures out_of_range { IfErr result (λ fault. fault ≡ CountOutOfRange → CountsLeaveRange I.BITS settings (segments_of segments.items)) }
+    ensures graph { IfOk result (λ graph. IsGraphOf I.BITS settings (segments_of segments.items)
+        (graph_with I.whole (links_of graph))) }
+    ensures out_of_range { IfErr result (λ fault. fault ≡ CountOutOfRange
+        → CountsLeaveRange I.BITS settings (segments_of segments.items)) }
 {
     let solver = Solver::with_strategy_and_precision(settings.strategy, settings.precision);
     let mut splitter = SplitSolver::with_snap_limit(alloc, settings.snap_limit);
@@ -89,14 +93,19 @@ fn build_all<'a, I: OverlayInt>(
     fill_rule: FillRule,
 ) -> Result<OverlayGraph<'a, I, ()>, Fault>
     requires { IsTrue (is_splittable (I.whole I.MIN_COORD) (I.whole I.MAX_COORD) (segments_of segments.old.items)) }
-    ensures count { OnOk result (IsPassCount (settings_of I.BITS solver.now splitter.old) (segments_of segments.old.items) (passes_of splitter.new)) }
-    ensures arrangement { OnOk result (segments_of segments.new.items ≡ after_passes (settings_of I.BITS solver.now splitter.old) (segments_of segments.old.items) (passes_of splitter.new)) }
-    ensures graph { IfOk result (λ graph. graph_with I.whole (links_of graph) ≡ graph_by (λ _. true) fill_rule (segments_of segments.new.items)) }
+    ensures count { OnOk result (IsPassCount (settings_of I.BITS solver.now splitter.old)
+        (segments_of segments.old.items) (passes_of splitter.new)) }
+    ensures arrangement { OnOk result (segments_of segments.new.items
+        ≡ after_passes (settings_of I.BITS solver.now splitter.old) (segments_of segments.old.items)
+        (passes_of splitter.new)) }
+    ensures graph { IfOk result (λ graph. graph_with I.whole (links_of graph)
+        ≡ graph_by (λ _. true) fill_rule (segments_of segments.new.items)) }
     ensures in_range { OnOk result (IsFalse (tops_leave_range (segments_of segments.new.items))) }
     ensures out_of_range { IfErr result (λ fault. fault ≡ CountOutOfRange →
         LeavesRange (settings_of I.BITS solver.now splitter.old) (segments_of segments.old.items)
         ⊎ (IsPassCount (settings_of I.BITS solver.now splitter.old) (segments_of segments.old.items) (passes_of splitter.new)
-        × (segments_of segments.new.items ≡ after_passes (settings_of I.BITS solver.now splitter.old) (segments_of segments.old.items) (passes_of splitter.new))
+        × (segments_of segments.new.items ≡ after_passes (settings_of I.BITS solver.now splitter.old)
+        (segments_of segments.old.items) (passes_of splitter.new))
         × IsTrue (tops_leave_range (segments_of segments.new.items)))) }
 {
     splitter.split_segments(segments, solver)?;

@@ -1,5 +1,5 @@
 // The text of a graph: a line for each link, then for each node, then whether the graph is valid.
-ghost use Rattle.std.specs.Prelude.{◌≡◌, ◌<◌, ◌++◌, true, codes, flat_map, length, slice_index_or, OnOk, string_bytes};
+ghost use Rattle.std.specs.Prelude.{◌≡◌, ◌<◌, ◌≤◌, ◌++◌, true, codes, flat_map, length, slice_index_or, OnOk, string_bytes};
 ghost use Rattle.overlay_base.specs.PointOf.{point_of};
 ghost use Rattle.overlay_build.specs.Graph.{Node};
 ghost use Rattle.overlay_build.specs.GraphOf.{link_of, graph_with};
@@ -7,7 +7,8 @@ ghost use Rattle.overlay_build.specs.NodeIndexes.{indexes_of, is_canonical_node}
 ghost use Rattle.overlay_build.specs.OverlayGraphOf.{nodes_of, links_of};
 ghost use Rattle.arrange.specs.Output.{numbers_text, link_line, node_line, graph_text};
 
-use crate::output::write_point;
+use crate::line_end::{ROOM, append, put_last_word, put_number, put_word};
+use crate::output::put_point;
 use overlay_base::geom::point::IntPoint;
 use overlay_base::num::OverlayInt;
 use overlay_base::overlay_core::link::OverlayLink;
@@ -21,7 +22,8 @@ pub fn write_graph<I: OverlayInt>(
     text: &mut String,
     graph: &OverlayGraph<'_, I, ()>,
 ) -> Result<(), AllocError>
-    ensures { OnOk result (string_bytes text.new ≡ string_bytes text.old ++ graph_text (graph_with I.whole (links_of graph.now))) }
+    ensures { OnOk result (string_bytes text.new ≡ string_bytes text.old
+        ++ graph_text (graph_with I.whole (links_of graph.now))) }
 {
     write_links(text, graph.links())?;
     write_nodes(text, graph)?;
@@ -34,7 +36,8 @@ fn write_links<I: OverlayInt>(
     text: &mut String,
     links: &[OverlayLink<I, ()>],
 ) -> Result<(), AllocError>
-    ensures { OnOk result (string_bytes text.new ≡ string_bytes text.old ++ flat_map (λ l. link_line (link_of I.whole l)) links.now) }
+    ensures { OnOk result (string_bytes text.new ≡ string_bytes text.old
+        ++ flat_map (λ l. link_line (link_of I.whole l)) links.now) }
 {
     for link in links {
         write_link(text, link)?;
@@ -46,11 +49,16 @@ fn write_links<I: OverlayInt>(
 fn write_link<I: OverlayInt>(text: &mut String, link: &OverlayLink<I, ()>) -> Result<(), AllocError>
     ensures { OnOk result (string_bytes text.new ≡ string_bytes text.old ++ link_line (link_of I.whole link.now)) }
 {
-    text.push_str("link")?;
-    write_point(text, link.a.point)?;
-    write_point(text, link.b.point)?;
     let (fill, a, b) = (link.fill, link.a.id, link.b.id);
-    writeln!(text, " {fill} {a} {b}")
+    let mut room = [0; ROOM];
+    let end = put_last_word(&mut room, "\n");
+    let end = put_number(&mut room, end, b as u64);
+    let end = put_number(&mut room, end, a as u64);
+    let end = put_number(&mut room, end, fill as u64);
+    let end = put_point(&mut room, end, link.b.point);
+    let end = put_point(&mut room, end, link.a.point);
+    let begin = put_word(&mut room, end, "link");
+    append(text, &room, begin)
 }
 
 /// Writes `node X Y bridge I J` or `node X Y cross I ..` for each node.
@@ -58,7 +66,8 @@ fn write_nodes<I: OverlayInt>(
     text: &mut String,
     graph: &OverlayGraph<'_, I, ()>,
 ) -> Result<(), AllocError>
-    ensures { OnOk result (string_bytes text.new ≡ string_bytes text.old ++ flat_map node_line (graph_with I.whole (links_of graph.now)).nodes) }
+    ensures { OnOk result (string_bytes text.new ≡ string_bytes text.old
+        ++ flat_map node_line (graph_with I.whole (links_of graph.now)).nodes) }
 {
     for (id, node) in graph.nodes().iter().enumerate() {
         write_node(text, node_point(graph, id), node)?;
@@ -73,14 +82,18 @@ fn write_node<I: OverlayInt>(
     node: &OverlayNode,
 ) -> Result<(), AllocError>
     requires { is_canonical_node node.now ≡ true }
-    ensures { OnOk result (string_bytes text.new ≡ string_bytes text.old ++ node_line (record { point = point_of I.whole point; links = indexes_of node.now })) }
+    ensures { OnOk result (string_bytes text.new ≡ string_bytes text.old
+        ++ node_line (record { point = point_of I.whole point; links = indexes_of node.now })) }
 {
-    text.push_str("node")?;
-    write_point(text, point)?;
-    text.push_str(match node {
+    let kind = match node {
         OverlayNode::Bridge(_) => " bridge",
         OverlayNode::Cross(_) => " cross",
-    })?;
+    };
+    let mut room = [0; ROOM];
+    let end = put_last_word(&mut room, kind);
+    let end = put_point(&mut room, end, point);
+    let begin = put_word(&mut room, end, "node");
+    append(text, &room, begin)?;
     write_numbers(text, node.indices())?;
     text.push_str("\n")?;
     Ok(())
@@ -90,16 +103,35 @@ fn write_node<I: OverlayInt>(
 pub fn write_numbers(text: &mut String, numbers: &[usize]) -> Result<(), AllocError>
     ensures { OnOk result (string_bytes text.new ≡ string_bytes text.old ++ numbers_text numbers.now) }
 {
-    for number in numbers {
-        write!(text, " {number}")?;
+    let mut rest = numbers;
+    while !rest.is_empty() {
+        let (first, others) = rest.split_at(rest.len().min(7));
+        write_few_numbers(text, first)?;
+        rest = others;
     }
     Ok(())
+}
+
+/// Writes up to seven numbers, for which there is room, each after a space.
+fn write_few_numbers(text: &mut String, numbers: &[usize]) -> Result<(), AllocError>
+    requires { length numbers.now ≤ 7 }
+    ensures { OnOk result (string_bytes text.new ≡ string_bytes text.old ++ numbers_text numbers.now) }
+{
+    let mut room = [0; ROOM];
+    let mut begin = put_last_word(&mut room, "");
+    let mut left = numbers.len();
+    while left > 0 {
+        left -= 1;
+        begin = put_number(&mut room, begin, numbers[left] as u64);
+    }
+    append(text, &room, begin)
 }
 
 /// The point of the node with this number: the end that its first link has there.
 fn node_point<I: OverlayInt>(graph: &OverlayGraph<'_, I, ()>, id: usize) -> IntPoint<I>
     requires { id < length (nodes_of graph.now) }
-    ensures { (node : Node) → point_of I.whole result ≡ (slice_index_or (graph_with I.whole (links_of graph.now)).nodes id node).point }
+    ensures { (node : Node) → point_of I.whole result ≡ (slice_index_or
+        (graph_with I.whole (links_of graph.now)).nodes id node).point }
 {
     let first = graph.nodes()[id].indices()[0];
     let link = graph.links()[first];

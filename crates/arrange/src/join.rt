@@ -22,7 +22,8 @@ pub fn join<I: OverlayInt>(
     mut segments: Vec<Segment<ShapeCountBoolean, I, ()>>,
 ) -> Result<String, Stop>
     requires { IsTrue (is_splittable (I.whole I.MIN_COORD) (I.whole I.MAX_COORD) (segments_of segments.items)) }
-    ensures text { IfOk result (λ text. string_bytes text ≡ segment_lines (join (segments_of segments.items)) ++ flag_line (has_equal_pairs (segments_of segments.items))) }
+    ensures text { IfOk result (λ text. string_bytes text ≡ segment_lines (join (segments_of segments.items))
+        ++ flag_line (has_equal_pairs (segments_of segments.items))) }
     ensures in_range { OnOk result (IsFalse (join_leaves_range (segments_of segments.items))) }
     ensures refused { IfErr result (λ stop. (stop ≡ Stop.Refused Memory)
         ⊎ ((stop ≡ Stop.Refused CountOutOfRange) × IsTrue (join_leaves_range (segments_of segments.items)))) }

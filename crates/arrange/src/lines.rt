@@ -8,10 +8,9 @@ ghost use Rattle.overlay_base.specs.PointOf.{point_of};
 ghost use Rattle.overlay_base.specs.SegmentOf.{segment_of, segments_of};
 ghost use Rattle.overlay_base.specs.Planar.{is_splittable};
 ghost use Rattle.arrange.specs.Lines.{step_fault, step_segment};
-ghost use Rattle.std.specs.Option.{SomeIff, option_map_or};
+ghost use Rattle.std.specs.Option.{option_map_or};
 ghost use Rattle.overlay_base.specs.Points.{Point};
 ghost use Rattle.overlay_base.specs.declared.segm.shape_type.ShapeType.{ShapeType};
-ghost use Rattle.arrange.specs.Numbers.{IsSignedNumeral, signed_value};
 ghost use Rattle.arrange.specs.Text.{lines_of, words_of, words_of_line, NamesShape, WritesStep, AsksFor, IsFaulty, AskInTurnFor, IsFirstFault};
 
 use crate::number::signed_number;
@@ -22,7 +21,6 @@ use overlay_base::segm::boolean::ShapeCountBoolean;
 use overlay_base::segm::segment::Segment;
 use overlay_base::segm::shape_type::ShapeType;
 use std::alloc::Global;
-use std::str;
 
 /// The lines of a text. Line feeds stand between them, so there is one more line than line feeds.
 #[derive(Drop)]
@@ -99,8 +97,10 @@ pub fn read_lines<I: OverlayInt>(
     alloc: Global,
     bytes: &[u8],
 ) -> Result<Vec<Segment<ShapeCountBoolean, I, ()>>, Stop>
-    ensures segments { IfOk result (λ segments. AskInTurnFor (I.whole I.MIN_COORD) (I.whole I.MAX_COORD) (lines_of bytes.now) (segments_of segments.items)) }
-    ensures splittable { IfOk result (λ segments. IsTrue (is_splittable (I.whole I.MIN_COORD) (I.whole I.MAX_COORD) (segments_of segments.items))) }
+    ensures segments { IfOk result (λ segments. AskInTurnFor (I.whole I.MIN_COORD) (I.whole I.MAX_COORD)
+        (lines_of bytes.now) (segments_of segments.items)) }
+    ensures splittable { IfOk result (λ segments. IsTrue
+        (is_splittable (I.whole I.MIN_COORD) (I.whole I.MAX_COORD) (segments_of segments.items))) }
     ensures faulty { IfErr result (λ stop. (stop ≡ Stop.Refused Memory)
         ⊎ IsFirstFault (I.whole I.MIN_COORD) (I.whole I.MAX_COORD) (lines_of bytes.now) stop) }
 {
@@ -154,18 +154,20 @@ fn without_carriage_return(line: &[u8]) -> &[u8]
 /// What a letter and the words behind it write, of which there are to be four numbers.
 fn parse_line(letter: &[u8], words: &mut Words<'_>) -> Option<Line>
     ensures { MatchOption result
-        ((shape_type : ShapeType) (a b : Point) → ¬ (WritesStep (letter.now ∷ words_of words.old.rest.now) shape_type a b))
-        (λ line. WritesStep (letter.now ∷ words_of words.old.rest.now) line.shape_type (point_of (λ z. z) line.a) (point_of (λ z. z) line.b)) }
+        ((shape_type : ShapeType) (a b : Point) → ¬ (WritesStep
+        (letter.now ∷ words_of words.old.rest.now) shape_type a b))
+        (λ line. WritesStep (letter.now ∷ words_of words.old.rest.now) line.shape_type (point_of (λ z. z) line.a)
+        (point_of (λ z. z) line.b)) }
 {
     let line = Line {
         shape_type: shape_type(letter)?,
         a: IntPoint {
-            x: wide_number(words.next()?)?,
-            y: wide_number(words.next()?)?,
+            x: signed_number(words.next()?)?,
+            y: signed_number(words.next()?)?,
         },
         b: IntPoint {
-            x: wide_number(words.next()?)?,
-            y: wide_number(words.next()?)?,
+            x: signed_number(words.next()?)?,
+            y: signed_number(words.next()?)?,
         },
     };
     match words.next() {
@@ -174,15 +176,9 @@ fn parse_line(letter: &[u8], words: &mut Words<'_>) -> Option<Line>
     }
 }
 
-/// The number that a word writes.
-fn wide_number(word: &[u8]) -> Option<i64>
-    ensures { SomeIff result (IsSignedNumeral word.now) (signed_value word.now) }
-{
-    signed_number(str::from_utf8(word).ok()?)
-}
-
 fn shape_type(letter: &[u8]) -> Option<ShapeType>
-    ensures { MatchOption result ((shape_type : ShapeType) → ¬ (NamesShape letter.now shape_type)) (NamesShape letter.now) }
+    ensures { MatchOption result ((shape_type : ShapeType) → ¬ (NamesShape letter.now shape_type))
+        (NamesShape letter.now) }
 {
     match letter {
         b"S" => Some(ShapeType::Subject),
@@ -193,8 +189,10 @@ fn shape_type(letter: &[u8]) -> Option<ShapeType>
 
 /// The segment that a line asks for.
 fn segment<I: OverlayInt>(line: Line) -> Result<Segment<ShapeCountBoolean, I, ()>, LineFault>
-    ensures fault { result_err result ≡ step_fault (I.whole I.MIN_COORD) (I.whole I.MAX_COORD) (point_of (λ z. z) line.a) (point_of (λ z. z) line.b) }
-    ensures segment { IfOk result (λ segment. segment_of segment ≡ step_segment line.shape_type (point_of (λ z. z) line.a) (point_of (λ z. z) line.b)) }
+    ensures fault { result_err result ≡ step_fault (I.whole I.MIN_COORD) (I.whole I.MAX_COORD)
+        (point_of (λ z. z) line.a) (point_of (λ z. z) line.b) }
+    ensures segment { IfOk result (λ segment. segment_of segment
+        ≡ step_segment line.shape_type (point_of (λ z. z) line.a) (point_of (λ z. z) line.b)) }
 {
     let a = point(line.a).ok_or(LineFault::Range)?;
     let b = point(line.b).ok_or(LineFault::Range)?;
@@ -203,7 +201,8 @@ fn segment<I: OverlayInt>(line: Line) -> Result<Segment<ShapeCountBoolean, I, ()
 
 /// The point of the engine with these coordinates, or `None` where one is out of range.
 fn point<I: OverlayInt>(wide: IntPoint<i64>) -> Option<IntPoint<I>>
-    ensures in_range { IsSome result ↔ IsTrue (is_point_in_range (I.whole I.MIN_COORD) (I.whole I.MAX_COORD) (point_of (λ z. z) wide)) }
+    ensures in_range { IsSome result ↔ IsTrue (is_point_in_range (I.whole I.MIN_COORD) (I.whole I.MAX_COORD)
+        (point_of (λ z. z) wide)) }
     ensures same { IfSome result (λ point. point_of I.whole point ≡ point_of (λ z. z) wide) }
 {
     Some(IntPoint::new(coordinate(wide.x)?, coordinate(wide.y)?))

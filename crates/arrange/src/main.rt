@@ -5,6 +5,7 @@ mod cross;
 mod graph;
 mod graph_output;
 mod join;
+mod line_end;
 mod lines;
 mod number;
 mod output;

@@ -28,26 +28,31 @@ pub fn short_number(text: &str) -> Option<u32>
 }
 
 /// The number of an optional `-` and 1 to 10 digits.
-pub fn signed_number(text: &str) -> Option<i64>
-    ensures { SomeIff result (IsSignedNumeral text.now) (signed_value text.now) }
+pub fn signed_number(word: &[u8]) -> Option<i64>
+    ensures { SomeIff result (IsSignedNumeral word.now) (signed_value word.now) }
 {
-    match text.strip_prefix('-') {
-        Some(digits) => {
+    match word {
+        [b'-', digits @ ..] => {
             let size = size_of_number(digits)?;
             Some(-size)
         }
-        None => size_of_number(text),
+        _ => size_of_number(word),
     }
 }
 
 /// The number of 1 to 10 digits.
-#[tactic(auto, using(crate::proofs::ShortNumerals::ten_digits_fit))]
-fn size_of_number(text: &str) -> Option<i64>
-    ensures { SomeIff result (IsNumeral 10 text.now × (length text.now ≤ 10)) (pos (digits_value 10 text.now)) }
+fn size_of_number(digits: &[u8]) -> Option<i64>
+    ensures { SomeIff result (IsNumeral 10 digits.now × (length digits.now ≤ 10)) (pos (digits_value 10 digits.now)) }
 {
-    if text.len() > 10 {
+    if digits.is_empty() || digits.len() > 10 {
         return None;
     }
-    let number = number(text)?;
-    Some(number as i64)
+    let mut size: u64 = 0;
+    for digit in digits {
+        if !digit.is_ascii_digit() {
+            return None;
+        }
+        size = 10 * size + (*digit - b'0') as u64;
+    }
+    Some(size as i64)
 }

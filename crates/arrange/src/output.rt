@@ -1,9 +1,11 @@
 // The output: one item a line.
-ghost use Rattle.std.specs.Prelude.{◌≡◌, ◌++◌, OnOk, string_bytes};
+ghost use Rattle.std.specs.Prelude.{◌≡◌, ◌+◌, ◌≤◌, ◌++◌, drop, OnOk, string_bytes};
+ghost use Rattle.std.specs.Str.{IsUtf8};
 ghost use Rattle.overlay_base.specs.PointOf.{point_of};
 ghost use Rattle.overlay_base.specs.SegmentOf.{segment_of, segments_of};
 ghost use Rattle.arrange.specs.Output.{pair_text, segment_line, segment_lines, place_line};
 
+use crate::line_end::{ROOM, Room, append, put_last_word, put_signed, put_word};
 use overlay_base::geom::point::IntPoint;
 use overlay_base::geom::x_segment::XSegment;
 use overlay_base::num::OverlayInt;
@@ -33,12 +35,13 @@ fn write_segment<I: OverlayInt>(
     ensures { OnOk result (string_bytes text.new ≡ string_bytes text.old ++ segment_line (segment_of segment.now)) }
 {
     let XSegment { a, b } = segment.x_segment();
-    text.push_str("seg")?;
-    write_point(text, a)?;
-    write_point(text, b)?;
-    write_count(text, segment.count())?;
-    text.push_str("\n")?;
-    Ok(())
+    let mut room = [0; ROOM];
+    let end = put_last_word(&mut room, "\n");
+    let end = put_count(&mut room, end, segment.count());
+    let end = put_point(&mut room, end, b);
+    let end = put_point(&mut room, end, a);
+    let begin = put_word(&mut room, end, "seg");
+    append(text, &room, begin)
 }
 
 /// Writes `KIND X Y exact`, or `KIND X Y rounded`.
@@ -48,30 +51,43 @@ pub fn write_place<I: OverlayInt>(
     kind: &str,
     place: CrossResult<I>,
 ) -> Result<(), AllocError>
-    ensures { OnOk result (string_bytes text.new ≡ string_bytes text.old ++ place_line kind.now (point_of I.whole place.point) place.is_round) }
+    ensures { OnOk result (string_bytes text.new ≡ string_bytes text.old
+        ++ place_line kind.now (point_of I.whole place.point) place.is_round) }
 {
     text.push_str(kind)?;
-    write_point(text, place.point)?;
-    text.push_str(if place.is_round {
-        " rounded\n"
-    } else {
-        " exact\n"
-    })?;
-    Ok(())
+    let mut room = [0; ROOM];
+    let end = put_last_word(
+        &mut room,
+        if place.is_round {
+            " rounded\n"
+        } else {
+            " exact\n"
+        },
+    );
+    let begin = put_point(&mut room, end, place.point);
+    append(text, &room, begin)
 }
 
-/// Writes ` X Y`.
-pub fn write_point<I: OverlayInt>(text: &mut String, point: IntPoint<I>) -> Result<(), AllocError>
-    ensures { OnOk result (string_bytes text.new ≡ string_bytes text.old ++ pair_text (I.whole point.x) (I.whole point.y)) }
+/// Puts ` X Y` before what begins at `end`, and answers where that begins now.
+pub fn put_point<I: OverlayInt>(room: &mut Room, end: usize, point: IntPoint<I>) -> usize
+    requires { (42 ≤ end) × (end ≤ 160) }
+    ensures begin { (end ≤ result + 42) × (result ≤ end) }
+    ensures written { drop result room.new ≡ pair_text (I.whole point.x) (I.whole point.y) ++ drop end room.old }
+    ensures text { IsUtf8 (drop end room.old) → IsUtf8 (drop result room.new) }
 {
     let (x, y) = (point.x.to_wide(), point.y.to_wide());
-    write!(text, " {x} {y}")
+    let end = put_signed(room, end, y);
+    put_signed(room, end, x)
 }
 
-/// Writes ` SUBJ CLIP`.
-fn write_count(text: &mut String, count: ShapeCountBoolean) -> Result<(), AllocError>
-    ensures { OnOk result (string_bytes text.new ≡ string_bytes text.old ++ pair_text count.subj count.clip) }
+/// Puts ` SUBJ CLIP` in the same way.
+fn put_count(room: &mut Room, end: usize, count: ShapeCountBoolean) -> usize
+    requires { (42 ≤ end) × (end ≤ 160) }
+    ensures begin { (end ≤ result + 42) × (result ≤ end) }
+    ensures written { drop result room.new ≡ pair_text count.subj count.clip ++ drop end room.old }
+    ensures text { IsUtf8 (drop end room.old) → IsUtf8 (drop result room.new) }
 {
     let ShapeCountBoolean { subj, clip } = count;
-    write!(text, " {subj} {clip}")
+    let end = put_signed(room, end, clip as i64);
+    put_signed(room, end, subj as i64)
 }

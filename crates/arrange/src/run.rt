@@ -54,7 +54,8 @@ pub fn arrange_run<R: Read, W: Write, E: Write>(
 ) -> u8
     ensures asked { result ≡ 0 → AskSomething (map string_bytes words.now) }
     ensures done { result ≡ 0 → IfSome (R.remaining input.old) (λ bytes. (text : List ℕ)
-        × IsRunAnswer (map string_bytes words.now) bytes (Ok text) × Appends (W.contents output.old) (W.contents output.new) text) }
+        × IsRunAnswer (map string_bytes words.now) bytes (Ok text)
+        × Appends (W.contents output.old) (W.contents output.new) text) }
     ensures stopped { (result ≡ 0) ⊎ ((stop : Stop) × (result ≡ status_of stop)
         × IsStop (map string_bytes words.now) (R.remaining input.old) stop) }
     ensures untouched { (result ≡ 0) ⊎ (result ≡ 5) ⊎ (output.new ≡ output.old) }
@@ -83,7 +84,8 @@ fn run<R: Read, W: Write>(
 ) -> Result<(), Stop>
     ensures asked { OnOk result (AskSomething (map string_bytes words.now)) }
     ensures done { OnOk result (IfSome (R.remaining input.old) (λ bytes. (text : List ℕ)
-        × IsRunAnswer (map string_bytes words.now) bytes (Ok text) × Appends (W.contents output.old) (W.contents output.new) text)) }
+        × IsRunAnswer (map string_bytes words.now) bytes (Ok text)
+        × Appends (W.contents output.old) (W.contents output.new) text)) }
     ensures stopped { IfErr result (IsStop (map string_bytes words.now) (R.remaining input.old)) }
     ensures untouched { IfErr result (λ stop. (stop ≡ Stop.Output) ⊎ (output.new ≡ output.old)) }
     ensures unread { AskNothing (map string_bytes words.now) → input.new ≡ input.old }
@@ -95,7 +97,8 @@ fn run<R: Read, W: Write>(
 
 /// The whole output.
 fn answer<R: Read>(alloc: Global, words: &[String], input: &mut R) -> Result<String, Stop>
-    ensures text { IfOk result (λ text. IfSome (R.remaining input.old) (λ bytes. IsRunAnswer (map string_bytes words.now) bytes (Ok (string_bytes text)))) }
+    ensures text { IfOk result (λ text. IfSome (R.remaining input.old)
+        (λ bytes. IsRunAnswer (map string_bytes words.now) bytes (Ok (string_bytes text)))) }
     ensures asked { OnOk result (AskSomething (map string_bytes words.now)) }
     ensures stopped { IfErr result (IsStop (map string_bytes words.now) (R.remaining input.old)) }
     ensures unread { AskNothing (map string_bytes words.now) → input.new ≡ input.old }
@@ -115,7 +118,8 @@ fn answer_with<I: OverlayInt>(
     settings: Settings,
     bytes: &[u8],
 ) -> Result<String, Stop>
-    ensures text { IfOk result (λ text. IsAnswer (I.whole I.MIN_COORD) (I.whole I.MAX_COORD) I.BITS command settings bytes.now (Ok (string_bytes text))) }
+    ensures text { IfOk result (λ text. IsAnswer (I.whole I.MIN_COORD)
+        (I.whole I.MAX_COORD) I.BITS command settings bytes.now (Ok (string_bytes text))) }
     ensures stop { IfErr result (λ stop. (stop ≡ Stop.Refused Memory)
         ⊎ IsAnswer (I.whole I.MIN_COORD) (I.whole I.MAX_COORD) I.BITS command settings bytes.now (Err stop)) }
 {

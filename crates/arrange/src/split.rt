@@ -24,8 +24,10 @@ pub fn split<I: OverlayInt>(
     settings: Settings,
 ) -> Result<String, Stop>
     requires { IsTrue (is_splittable (I.whole I.MIN_COORD) (I.whole I.MAX_COORD) (segments_of segments.items)) }
-    ensures text { IfOk result (λ text. IsCommandAnswer I.BITS Command.Split settings (segments_of segments.items) (Ok (string_bytes text))) }
-    ensures stop { IfErr result (λ stop. (stop ≡ Stop.Refused Memory) ⊎ IsCommandAnswer I.BITS Command.Split settings (segments_of segments.items) (Err stop)) }
+    ensures text { IfOk result (λ text. IsCommandAnswer I.BITS Command.Split settings (segments_of segments.items)
+        (Ok (string_bytes text))) }
+    ensures stop { IfErr result (λ stop. (stop ≡ Stop.Refused Memory)
+        ⊎ IsCommandAnswer I.BITS Command.Split settings (segments_of segments.items) (Err stop)) }
 {
     let solver = Solver::with_strategy_and_precision(settings.strategy, settings.precision);
     let mut splitter = SplitSolver::with_snap_limit(alloc, settings.snap_limit);

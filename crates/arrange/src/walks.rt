@@ -29,8 +29,10 @@ pub fn walks<I: OverlayInt>(
     settings: Settings,
 ) -> Result<String, Stop>
     requires { IsTrue (is_splittable (I.whole I.MIN_COORD) (I.whole I.MAX_COORD) (segments_of segments.items)) }
-    ensures text { IfOk result (λ text. IsCommandAnswer I.BITS Command.Walks settings (segments_of segments.items) (Ok (string_bytes text))) }
-    ensures stop { IfErr result (λ stop. (stop ≡ Stop.Refused Memory) ⊎ IsCommandAnswer I.BITS Command.Walks settings (segments_of segments.items) (Err stop)) }
+    ensures text { IfOk result (λ text. IsCommandAnswer I.BITS Command.Walks settings (segments_of segments.items)
+        (Ok (string_bytes text))) }
+    ensures stop { IfErr result (λ stop. (stop ≡ Stop.Refused Memory)
+        ⊎ IsCommandAnswer I.BITS Command.Walks settings (segments_of segments.items) (Err stop)) }
 {
     let mut builder = GraphBuilder::new(alloc);
     let graph = build_graph(alloc, &mut builder, segments, settings)?;
@@ -54,7 +56,8 @@ fn walks_text<I: OverlayInt>(alloc: Global, graph: &OverlayGraph<'_, I, ()>) -> 
 
 /// Writes `walk I ..` for each walk.
 fn write_walks(text: &mut String, walks: &[Vec<usize>]) -> Result<(), AllocError>
-    ensures { OnOk result (string_bytes text.new ≡ string_bytes text.old ++ flat_map (λ w. walk_line w.items) walks.now) }
+    ensures { OnOk result (string_bytes text.new ≡ string_bytes text.old
+        ++ flat_map (λ w. walk_line w.items) walks.now) }
 {
     for walk in walks {
         write_walk(text, walk)?;

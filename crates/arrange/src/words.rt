@@ -36,7 +36,8 @@ pub fn read_words(words: &[String]) -> Result<(Command, Settings), Stop>
 
 /// The parts of a word `name=value`.
 fn name_and_value(word: &str) -> Option<(&str, &str)>
-    ensures { MatchOption result ((name value : List ℕ) → word.now ≢ setting name value) (λ parts. (word.now ≡ setting parts.0.now parts.1.now) × IsName parts.0.now) }
+    ensures { MatchOption result ((name value : List ℕ) → word.now ≢ setting name value)
+        (λ parts. (word.now ≡ setting parts.0.now parts.1.now) × IsName parts.0.now) }
 {
     word.split_once('=')
 }
@@ -68,7 +69,8 @@ fn engine(name: &str) -> Option<Engine>
 
 /// The strategy of that name.
 fn strategy(name: &str) -> Option<Strategy>
-    ensures { MatchOption result ((strategy : Strategy) → ¬ (NamesStrategy name.now strategy)) (NamesStrategy name.now) }
+    ensures { MatchOption result ((strategy : Strategy) → ¬ (NamesStrategy name.now strategy))
+        (NamesStrategy name.now) }
 {
     match name {
         "list" => Some(Strategy::List),
@@ -81,7 +83,8 @@ fn strategy(name: &str) -> Option<Strategy>
 
 /// The fill rule of that name.
 fn fill_rule(name: &str) -> Option<FillRule>
-    ensures { MatchOption result ((fill_rule : FillRule) → ¬ (NamesFillRule name.now fill_rule)) (NamesFillRule name.now) }
+    ensures { MatchOption result ((fill_rule : FillRule) → ¬ (NamesFillRule name.now fill_rule))
+        (NamesFillRule name.now) }
 {
     match name {
         "evenodd" => Some(FillRule::EvenOdd),
@@ -162,8 +165,10 @@ impl Choices {
     fn read(&mut self, word: &str) -> Result<(), Stop>
         ensures known { OnOk result (IsSetting word.now) }
         ensures engine { ReadsWord result (codes "engine") NamesEngine word.now self.old.engine self.new.engine }
-        ensures strategy { ReadsWord result (codes "strategy") NamesStrategy word.now self.old.strategy self.new.strategy }
-        ensures precision { ReadsWord result (codes "precision") NamesPrecision word.now self.old.precision self.new.precision }
+        ensures strategy { ReadsWord result
+            (codes "strategy") NamesStrategy word.now self.old.strategy self.new.strategy }
+        ensures precision { ReadsWord result
+            (codes "precision") NamesPrecision word.now self.old.precision self.new.precision }
         ensures fill { ReadsWord result (codes "fill") NamesFillRule word.now self.old.fill_rule self.new.fill_rule }
         ensures rule { ReadsWord result (codes "rule") NamesRule word.now self.old.rule self.new.rule }
         ensures limit { ReadsWord result (codes "limit") WritesLimit word.now self.old.snap_limit self.new.snap_limit }
@@ -221,7 +226,8 @@ fn choose<T: Copy>(slot: &mut Option<T>, value: Option<T>) -> Result<(), Stop>
 
 /// A precision by its name, or as `START,STEP`.
 fn precision(value: &str) -> Option<Precision>
-    ensures { MatchOption result ((precision : Precision) → ¬ (NamesPrecision value.now precision)) (NamesPrecision value.now) }
+    ensures { MatchOption result ((precision : Precision) → ¬ (NamesPrecision value.now precision))
+        (NamesPrecision value.now) }
 {
     match value.split_once(',') {
         Some((start, step)) => Some(Precision {
@@ -234,7 +240,8 @@ fn precision(value: &str) -> Option<Precision>
 
 /// The precision of that name.
 fn named_precision(name: &str) -> Option<Precision>
-    ensures { MatchOption result ((precision : Precision) → ¬ (IsPrecisionName name.now precision)) (IsPrecisionName name.now) }
+    ensures { MatchOption result ((precision : Precision) → ¬ (IsPrecisionName name.now precision))
+        (IsPrecisionName name.now) }
 {
     match name {
         "absolute" => Some(Precision::ABSOLUTE),

@@ -57,7 +57,8 @@ pub fn split_and_build_clip<'a, I: OverlayInt>(
     ensures unchanged { IsArranged segments.old.items →
         OnOk result (data_segments_of segments.new.items ≡ data_segments_of segments.old.items) }
 
-    ensures fits { OnOk result (LeavesRange (settings_of I.BITS solver.now splitter.old) (segments_of segments.old.items) → ⊥) }
+    ensures fits { OnOk result (LeavesRange (settings_of I.BITS solver.now splitter.old)
+        (segments_of segments.old.items) → ⊥) }
     ensures in_range { OnOk result (IsFalse (tops_leave_range (segments_of segments.new.items))) }
     ensures refused { IfErr result
         (IsRefused (settings_of I.BITS solver.now splitter.old) (segments_of segments.old.items) (segments_of segments.new.items)

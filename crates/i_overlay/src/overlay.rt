@@ -70,19 +70,20 @@ pub fn split_and_build_overlay<'a, I: OverlayInt, D: OverlayEdgeData<ShapeCountB
     ensures edge_data { IfOk result (λ graph.
         map (λ l. l.edge_data) (links_of graph)
         ≡ data_by (keeps_fill (holds overlay_rule)) fill_rule (data_segments_of segments.new.items)) }
-    ensures kept_data { let hooks = hooks_of boolean_counted D.reversed_gives D.split_gives D.merge_gives in
+    ensures kept_data { let hooks = hooks_of boolean_counted D.OverlayEdgeData.own in
         (has : D → Bool) → HooksKeep hooks has →
         IsTrue (list_all (λ s. has s.edge_data) (data_segments_of segments.old.items)) →
         IfOk result (λ graph. IsTrue (list_all (λ l. has l.edge_data) (links_of graph))) }
     ensures arranged { IsArranged segments.new.items }
     ensures list_data { (segments.new.items ≡ []) ⊎
-        IsDataAfter (hooks_of boolean_counted D.reversed_gives D.split_gives D.merge_gives) D.Store.is_default
+        IsDataAfter (hooks_of boolean_counted D.OverlayEdgeData.own) D.Store.is_default
         (settings_of I.BITS solver.now splitter.old) (data_segments_of segments.old.items) (data_segments_of segments.new.items)
         (passes_of splitter.new) }
     ensures unchanged { IsArranged segments.old.items →
         OnOk result (data_segments_of segments.new.items ≡ data_segments_of segments.old.items) }
 
-    ensures fits { OnOk result (LeavesRange (settings_of I.BITS solver.now splitter.old) (segments_of segments.old.items) → ⊥) }
+    ensures fits { OnOk result (LeavesRange (settings_of I.BITS solver.now splitter.old)
+        (segments_of segments.old.items) → ⊥) }
     ensures in_range { OnOk result (IsFalse (tops_leave_range (segments_of segments.new.items))) }
     ensures refused { IfErr result
         (IsRefused (settings_of I.BITS solver.now splitter.old) (segments_of segments.old.items) (segments_of segments.new.items)

@@ -3,6 +3,7 @@
 
 pub mod builder;
 pub mod clip_filter;
+mod connect_links;
 mod fills;
 pub mod filter;
 pub mod graph;
@@ -13,7 +14,6 @@ mod kept_links;
 pub mod laws;
 mod link_ends;
 pub mod link_filter;
-mod nodes;
 pub mod string_graph;
 #[cfg(test)]
 mod string_tests;

@@ -6,6 +6,8 @@ use Rattle.overlay_base.specs.Ranges.{Rect}
 use Rattle.overlay_base.specs.PairOf.{pair_of}
 use Rattle.overlay_base.specs.RangeOf.{rect_of}
 use Rattle.overlay_marks.specs.Grid.{Layout, Fragment as WholeFragment, fragments}
+use Rattle.overlay_marks.specs.declared.split.axis.Axis.{Axis}
+use Rattle.overlay_marks.specs.declared.split.axis.Axis.TheVariants.{X, Y}
 use Rattle.overlay_marks.specs.declared.split.grid_layout.GridLayout.{GridLayout}
 use Rattle.overlay_marks.specs.declared.split.fragment.Fragment.{Fragment}
 
@@ -36,7 +38,19 @@ in_column column parts = filter (λ f. f.column == column) parts
 abbrev pub kept_in : Layout → ℕ → Pair → ℕ → List KeptFragment
 kept_in l index s column = kept index s (in_column column (fragments l s))
 
--- each fragment begins at or above those before it
-abbrev pub Rises : List KeptFragment → Type 0
-Rises [] = ⊤
-Rises (f ∷ fs) = AllByRecursion (λ g. f.rect.min_y ≤ℤ g.rect.min_y) fs × Rises fs
+-- what lies along an axis, of something along each
+abbrev pub on_axis : {A : Type 0} → Axis → A → A → A
+on_axis X x y = x
+on_axis Y x y = y
+
+-- where a fragment begins along an axis, and where it ends
+abbrev pub least_along : Axis → KeptFragment → ℤ
+least_along axis f = on_axis axis f.rect.min_x f.rect.min_y
+
+abbrev pub greatest_along : Axis → KeptFragment → ℤ
+greatest_along axis f = on_axis axis f.rect.max_x f.rect.max_y
+
+-- along an axis no fragment begins before those that precede it
+abbrev pub IsSortedAlong : Axis → List KeptFragment → Type 0
+IsSortedAlong axis [] = ⊤
+IsSortedAlong axis (f ∷ fs) = AllByRecursion (λ g. least_along axis f ≤ℤ least_along axis g) fs × IsSortedAlong axis fs

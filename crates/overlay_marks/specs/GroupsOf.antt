@@ -10,7 +10,11 @@ use Rattle.overlay_marks.specs.declared.split.fragment_buffer.FragmentBuffer.{Fr
 abbrev pub group_in : {I : Type 0} → (I → ℤ) → List (Vec (CodeFragment I) Global) → ℕ → List KeptFragment
 group_in whole groups column = slice_index_or (map (λ v. fragments_of whole v.items) groups) column []
 
--- the same of a buffer
+-- the groups of a buffer, column by column
+abbrev pub groups_of : {I : Type 0} {w : _} {o : _} {e : _} {p : _} → FragmentBuffer I w o e p → List (Vec (CodeFragment I) Global)
+groups_of buffer = buffer.groups.items
+
+-- what a buffer keeps in a column
 abbrev pub group_of : {I : Type 0} {w : _} {o : _} {e : _} {p : _} → FragmentBuffer I w o e p → ℕ → List KeptFragment
 group_of {w = w} buffer column = group_in w.whole buffer.groups.items column
 

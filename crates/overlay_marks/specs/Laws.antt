@@ -1,13 +1,12 @@
 -- Laws over the definitions, each a statement that is proved once and named by a contract.
-use Rattle.std.specs.Prelude.{◌≡◌, ◌≢◌, ◌<◌, ◌≤◌, ℕ, ◌*◌, ℤ, pos, ◌+ℤ◌, ◌-ℤ◌, ◌*ℤ◌, ◌≤ℤ◌, ◌<ℤ◌, int_le, unsigned_abs, map, not, ◌&&◌, IsTrue, ◌+◌, ◌-◌, IsFalse}
+use Rattle.std.specs.Prelude.{◌≡◌, ◌≢◌, ◌<◌, ◌≤◌, ℕ, ◌*◌, ℤ, pos, ◌+ℤ◌, ◌-ℤ◌, ◌*ℤ◌, ◌≤ℤ◌, ◌<ℤ◌, int_le, unsigned_abs, map, not, ◌&&◌, IsTrue, IsFalse}
 use Rattle.std.specs.List.{list_all}
 use Rattle.std.specs.Ordering.{int_eq}
 use Rattle.overlay_base.specs.Points.{Point, Pair, pair_lt, turn, is_ordered, is_end, is_in_box, is_vertical}
 use Rattle.overlay_base.specs.Meeting.{do_cross}
-use Rattle.overlay_base.specs.Segments.{pairs, ends}
 use Rattle.overlay_marks.specs.Crossing.{Quotient, truncated, nearest, nearest_upward, is_exact, is_on_lines, snapping_point, settling_point}
-use Rattle.overlay_marks.specs.Marks.{Placing, nearer_end, marks_by, settling}
-use Rattle.overlay_marks.specs.Counts.{count_of}
+use Rattle.overlay_marks.specs.Marks.{Placing, nearer_end, marks_by}
+use Rattle.overlay_marks.specs.Counts.{count_true}
 use Rattle.overlay_marks.specs.CrossAnswer.{cross_answer, target_marks, other_marks}
 use Rattle.overlay_marks.specs.Grid.{Layout, fragments, encloses, follow_on}
 
@@ -27,7 +26,7 @@ NoMarkIsAnEnd = (placing : Placing) (s t : Pair) → IsTrue (list_all (λ p. not
 abbrev pub NeverThreeZeros : Type 0
 NeverThreeZeros =
     (s t : Pair) → s.a ≢ s.b → t.a ≢ t.b →
-    count_of (int_eq (turn s.a s.b t.a) (pos 0)) (int_eq (turn s.a s.b t.b) (pos 0)) (int_eq (turn t.a t.b s.a) (pos 0)) (int_eq (turn t.a t.b s.b) (pos 0)) ≢ 3
+    count_true (int_eq (turn s.a s.b t.a) (pos 0)) (int_eq (turn s.a s.b t.b) (pos 0)) (int_eq (turn t.a t.b s.a) (pos 0)) (int_eq (turn t.a t.b s.b) (pos 0)) ≢ 3
 
 -- the end that a crossing snaps to does not lie on the other's line
 abbrev pub SnappedEndsAreOffTheLine : Type 0

@@ -12,6 +12,7 @@ pub mod Grid
 pub mod FragmentOf
 pub mod GroupsOf
 pub mod GridFor
+pub mod FinderOf
 pub mod Laws
 -- what private functions tell one another
 pub mod steps

@@ -1,5 +1,6 @@
 // Where two segments meet, and the marks of a pass.
 
+pub mod axis;
 mod border_contacts;
 mod cross;
 pub mod cross_solver;

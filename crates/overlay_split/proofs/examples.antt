@@ -1,4 +1,4 @@
--- Worked examples of the definitions, which hold by computation.
+-- Worked examples of the definitions, which hold by computation; `Sources` is a theorem, which holds of every input.
 pub mod Computing
 pub mod Squares
 pub mod Paths

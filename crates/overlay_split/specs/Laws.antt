@@ -1,5 +1,5 @@
 -- Laws over the definitions, each a statement that is proved once and named by a contract.
-use Rattle.std.specs.Prelude.{◌≡◌, ◌<◌, ◌≤◌, ℕ, ◌*◌, ℤ, ◌-ℤ◌, ◌*ℤ◌, not, ◌||◌, IsTrue, ◌+◌, ◌-◌, neg_ℤ, Bool, false, IsFalse, List, Contains, length, min, ◌^◌, ◌/◌}
+use Rattle.std.specs.Prelude.{◌≡◌, ◌<◌, ◌≤◌, ℕ, ◌*◌, ℤ, ◌-ℤ◌, ◌*ℤ◌, ◌||◌, IsTrue, ◌+◌, ◌-◌, neg_ℤ, Bool, false, IsFalse, List, Contains, length, min, ◌^◌, ◌/◌}
 use Rattle.std.specs.List.{list_all}
 use Rattle.overlay_base.specs.Points.{Point, Pair, is_vertical, is_horizontal, is_within_box_of}
 use Rattle.overlay_base.specs.Meeting.{do_cross}

@@ -1,5 +1,5 @@
 -- How far a split moves segments. Distances are those in x and in y, whichever is more, and are counted in halves.
-use Rattle.std.specs.Prelude.{◌⊎◌, ◌<◌, ◌≤◌, IsFalse, Bool, ◌&&◌, nat_lt, ℕ, zero, suc, ◌+◌, ◌*◌, ℤ, pos, ◌+ℤ◌, ◌-ℤ◌, ◌*ℤ◌, unsigned_abs, nat_le, if◌then◌else◌, List, All, Contains}
+use Rattle.std.specs.Prelude.{◌⊎◌, ◌<◌, ◌≤◌, IsFalse, Bool, ◌&&◌, nat_lt, ℕ, zero, suc, ◌+◌, ◌*◌, pos, ◌+ℤ◌, ◌-ℤ◌, ◌*ℤ◌, unsigned_abs, nat_le, if◌then◌else◌, List, All, Contains}
 use Rattle.std.specs.List.{list_all}
 use Rattle.overlay_base.specs.Points.{Point, Pair}
 use Rattle.overlay_base.specs.Places.{RationalPoint}

@@ -1,5 +1,5 @@
 -- Windings by chains of supports: below a segment stands one other, below that one more, and so on. This needs no balance.
-use Rattle.std.specs.Prelude.{ℕ, zero, suc, ℤ, pos, int_le, int_lt, Bool, ◌&&◌, not, List, filter, length, Option}
+use Rattle.std.specs.Prelude.{◌≡◌, All, ℕ, zero, suc, ℤ, pos, int_le, int_lt, Bool, ◌&&◌, not, List, filter, length, Option}
 use Rattle.std.specs.Ordering.{is_lt, ordering_then}
 use Rattle.std.specs.List.{list_any}
 use Rattle.std.specs.Option.{option_map_or, option_or}
@@ -8,6 +8,7 @@ use Rattle.overlay_base.specs.Sorting.{greatest}
 use Rattle.overlay_base.specs.Windings.{Winding, add, empty, weight, is_count_in_range}
 use Rattle.overlay_base.specs.Segments.{WholeSegment}
 use Rattle.overlay_base.specs.Below.{height_cmp, angle_cmp}
+use Rattle.overlay_sweep.specs.ColumnWindings.{IsSameAlong, side_bottom, side_top}
 
 -- the segment just before s by angle among those with its start
 unfoldable pub neighbor_at_start : List WholeSegment → WholeSegment → Option WholeSegment
@@ -43,3 +44,8 @@ bottom segments s = option_map_or (λ t. top segments t) (support segments s) em
 -- whether some top is too large
 unfoldable pub tops_leave_range : List WholeSegment → Bool
 tops_leave_range segments = list_any (λ s. not (is_count_in_range (top segments s))) segments
+
+-- The windings that a sweep finds are those of the columns: below and above each segment the same all along it, and beside a vertical one those to its right and left.
+abbrev pub HaveColumnWindings : List WholeSegment → Type 0
+HaveColumnWindings segments =
+    All (λ s. IsSameAlong segments s × (bottom segments s ≡ side_bottom segments s) × (top segments s ≡ side_top segments s)) segments

@@ -4,13 +4,7 @@ use Rattle.overlay_base.specs.Windings.{add, weight}
 use Rattle.overlay_base.specs.Segments.{WholeSegment, is_map}
 use Rattle.overlay_base.specs.Planar.{is_planar}
 use Rattle.overlay_base.specs.Balance.{IsBalanced}
-use Rattle.overlay_sweep.specs.ColumnWindings.{IsSameAlong, side_bottom, side_top}
-use Rattle.overlay_sweep.specs.ChainWindings.{bottom, top}
-
--- The windings that a sweep finds are those of the columns: below and above each segment the same all along it, and beside a vertical one those to its right and left.
-abbrev pub HaveColumnWindings : List WholeSegment → Type 0
-HaveColumnWindings segments =
-    All (λ s. IsSameAlong segments s × (bottom segments s ≡ side_bottom segments s) × (top segments s ≡ side_top segments s)) segments
+use Rattle.overlay_sweep.specs.ChainWindings.{HaveColumnWindings, bottom, top}
 
 -- with balance the chain's windings are those of the columns
 abbrev pub ChainsAreColumns : Type 0

@@ -1,16 +1,15 @@
--- A sweep over an arrangement: in which order the segments are handed out, with which fills, and the sums that it keeps.
+-- A sweep over an arrangement: in which order the segments are handed out, and with which fills.
 use Rattle.std.specs.Prelude.{ℕ, Bool, not, List, [], ◌∷◌, map, Option, Some, None}
-use Rattle.std.specs.Option.{option_map_or}
 use Rattle.std.specs.List.{enumerate_from, list_any}
 use Rattle.std.specs.Ordering.{ordering_then}
-use Rattle.overlay_base.specs.Points.{Point, point_cmp}
+use Rattle.overlay_base.specs.Points.{point_cmp}
 use Rattle.overlay_base.specs.Sorting.{stably_sorted}
-use Rattle.overlay_base.specs.Windings.{Winding, is_count_in_range}
+use Rattle.overlay_base.specs.Windings.{is_count_in_range}
 use Rattle.overlay_base.specs.Segments.{WholeSegment}
 use Rattle.overlay_base.specs.EdgeData.{DataSegment, without_data}
 use Rattle.overlay_base.specs.Below.{angle_cmp}
 use Rattle.overlay_base.specs.declared.overlay_core.fill_rule.FillRule.{FillRule}
-use Rattle.overlay_sweep.specs.ChainWindings.{bottom, top, directly_below}
+use Rattle.overlay_sweep.specs.ChainWindings.{bottom, top}
 use Rattle.overlay_sweep.specs.Fill.{fill_byte}
 
 -- a segment as it is handed out: its place in the list, its data, and its fill
@@ -51,7 +50,3 @@ module _ {D H O : Type 0} (handle : H → Visit D → H × Option O) where
 -- whether one of the visits has a top that is too large
 unfoldable pub visits_leave_range : {D : Type 0} → List WholeSegment → List (Visit D) → Bool
 visits_leave_range segments vs = list_any (λ v. not (is_count_in_range (top segments (whole_of v.segment)))) vs
-
--- The sums kept during a sweep stand as the counts of their segments: what is stored with the live one directly below p, or the default.
-unfoldable pub sum_below : List WholeSegment → Point → Winding → Winding
-sum_below live p default = option_map_or (λ s. s.count) (directly_below live p) default

@@ -6,12 +6,12 @@ pub mod fill_handler;
 pub mod fill_strategy;
 pub mod laws;
 pub mod live_segments;
-mod node;
 mod place;
 pub mod scan_list;
 #[cfg(test)]
 mod scan_tests;
 pub mod scan_tree;
+mod start_point;
 pub mod string;
 pub mod sweep;
 #[cfg(test)]

@@ -1,4 +1,5 @@
-// The sweep over an arrangement. Modules are named as in upstream.
+// The sweep over an arrangement. Modules are named as in upstream, but
+// for those that docs/DIFFERENCES.md tells.
 #![tactic(auto)]
 
 pub mod build;

@@ -1,5 +1,5 @@
 -- What words choose.
-use Rattle.std.proofs.Common.{◌≡◌, refl, sym, ap, subst, get_or, ℕ, List, [], ◌∷◌, arith, inl, inr}
+use Rattle.std.proofs.Common.{◌≡◌, refl, sym, ap, subst, get_or, ℕ, [], ◌∷◌, arith, inl, inr}
 use Rattle.std.proofs.lemmas.List.Elements.{Contains-push_cases}
 use Rattle.std.specs.Prelude.{Contains, codes}
 use Rattle.arrange.specs.Words.{setting, IsSetting, IsChosen, NoneSets, WritesLimit}

@@ -50,7 +50,7 @@ struct Way {
 
 /// A number of a line, doubled.
 fn doubled(word: Option<&str>) -> Option<i64> {
-    Some(signed_number(word?)?.wrapping_mul(2))
+    Some(signed_number(word?.as_bytes())?.wrapping_mul(2))
 }
 
 /// The four numbers of a line that begins with this letter or word.

@@ -8,7 +8,7 @@ use Rattle.overlay_base.specs.Rules.{differ, holds}
 use Rattle.overlay_base.specs.declared.overlay_core.fill_rule.FillRule.{FillRule}
 use Rattle.overlay_base.specs.declared.overlay_core.overlay_rule.OverlayRule.{OverlayRule}
 use Rattle.overlay_split.specs.Run.{Settings}
-use Rattle.overlay_sweep.proofs.laws.FillBytes.{inside_none}
+use Rattle.overlay_sweep.proofs.laws.visits.FillBytes.{inside_none}
 use Rattle.overlay_build.specs.Graph.{Graph}
 use Rattle.overlay_build.specs.Values.{value_at, tells_apart}
 use Rattle.i_overlay.specs.FarRegions.{EnclosesFarRegion, EnclosesOverlay}

@@ -1,5 +1,5 @@
 -- Lines along the parts of what is given: where counts are kept, so are lines.
-use Rattle.std.proofs.Common.{◌≡◌, refl, sym, ap, ◌∙◌, ℕ, zero, suc, ◌<◌, ◌≤◌, ◌==◌, Bool, true, false, not, ◌&&◌, ◌||◌, cond, List, [], ◌∷◌, filter, arith}
+use Rattle.std.proofs.Common.{◌≡◌, refl, sym, ap, ◌∙◌, ℕ, zero, suc, ◌≤◌, ◌==◌, true, false, not, ◌&&◌, ◌||◌, cond, List, [], ◌∷◌, filter, arith}
 use Rattle.std.specs.Prelude.{bit_or}
 use Rattle.std.specs.List.{list_any}
 use Rattle.std.specs.Int.Bits.{or_zero_l}

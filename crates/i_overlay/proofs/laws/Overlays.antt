@@ -27,7 +27,7 @@ use Rattle.overlay_sweep.specs.ChainWindings.{tops_leave_range}
 use Rattle.overlay_sweep.specs.Sweep.{fill_of, whole_of}
 use Rattle.overlay_build.specs.Graph.{Graph, graph_by, data_by}
 use Rattle.overlay_base.specs.EdgeData.{DataSegment, without_data}
-use Rattle.overlay_base.proofs.laws.Lists.{list_all-filter}
+use Rattle.overlay_base.proofs.laws.lists.Lists.{list_all-filter}
 use Rattle.overlay_build.specs.Values.{tells_apart}
 use Rattle.overlay_build.specs.Sides.{IsBalancedOverlay}
 use Rattle.overlay_build.specs.Lines.{IsBalancedClip}

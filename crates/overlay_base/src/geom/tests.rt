@@ -20,6 +20,12 @@ fn turns_and_distances(rt: HostRuntime) {
 }
 
 #[test]
+fn the_origin(rt: HostRuntime) {
+    let origin: IntPoint<i16> = IntPoint::ZERO;
+    assert_eq!(rt; (origin.x, origin.y), (0, 0));
+}
+
+#[test]
 fn ranges(rt: HostRuntime) {
     let falling: XSegment<i16> = XSegment {
         a: IntPoint::new(0, 5),

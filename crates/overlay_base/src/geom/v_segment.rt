@@ -85,7 +85,9 @@ pub fn update_if_under<I: OverlayInt>(best: &mut Option<VSegment<I>>, segment: V
     requires best { IfSome best.now (IsVSegmentInRange I.whole I.MIN_COORD I.MAX_COORD) }
     requires segment { IsVSegmentInRange I.whole I.MIN_COORD I.MAX_COORD segment }
     ensures first { best.old ≡ None → best.new ≡ Some segment }
-    ensures lower { IfSome best.old (λ found. best.new ≡ Some (if is_lt (under_segment_order (v_pair_of I.whole segment) (v_pair_of I.whole found)) then segment else found)) }
+    ensures lower { IfSome best.old (λ found. best.new
+        ≡ Some (if is_lt (under_segment_order (v_pair_of I.whole segment)
+        (v_pair_of I.whole found)) then segment else found)) }
 {
     let is_lowest = match best {
         None => true,

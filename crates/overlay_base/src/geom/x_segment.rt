@@ -44,7 +44,7 @@ impl<I: OverlayInt> XSegment<I> {
         self.is_below(range.min) || self.is_above(range.max)
     }
 
-    /// Whether both ends lie right of the other's end `b`, where `a` stands before `b` in both.
+    /// Whether both ends lie right of the other's end `b`, where `a` stands before `b` in both. This project's own.
     pub fn begins_past_end(&self, other: &XSegment<I>) -> bool
         ensures { result ≡ int_lt (I.whole other.now.b.x) (I.whole self.now.a.x) }
     {

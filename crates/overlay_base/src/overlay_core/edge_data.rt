@@ -11,18 +11,26 @@ use crate::num::OverlayInt;
 /// A segment from `a` to `b` is split at `p`.
 #[derive(Clone, Copy, Debug)]
 pub struct EdgeDataSplit<I> {
+    /// Where the segment starts.
     pub a: IntPoint<I>,
+    /// Where it is split.
     pub p: IntPoint<I>,
+    /// Where it ends.
     pub b: IntPoint<I>,
 }
 
 /// Two segments on one pair of ends are merged: what was joined so far on the left, and the next one.
 #[derive(Clone, Copy, Debug)]
 pub struct EdgeDataMerge<C, D> {
+    /// The data of what was joined so far.
     pub lhs_data: D,
+    /// Its count.
     pub lhs_count: C,
+    /// The data of the next segment.
     pub rhs_data: D,
+    /// Its count.
     pub rhs_count: C,
+    /// The sum of both counts, which is that of what is joined then.
     pub out_count: C,
 }
 
@@ -48,8 +56,10 @@ pub trait OverlayEdgeData<C>: Copy + PartialEq {
 
     /// The data of the parts before and after the point of a split.
     fn split<I: OverlayInt>(self, at: EdgeDataSplit<I>, store: &mut Self::Store) -> (Self, Self)
-        ensures answer { result ≡ (split_gives self (point_of I.whole at.a) (point_of I.whole at.p) (point_of I.whole at.b) store.old).0 }
-        ensures store { store.new ≡ (split_gives self (point_of I.whole at.a) (point_of I.whole at.p) (point_of I.whole at.b) store.old).1 };
+        ensures answer { result ≡ (split_gives self (point_of I.whole at.a) (point_of I.whole at.p)
+            (point_of I.whole at.b) store.old).0 }
+        ensures store { store.new ≡ (split_gives self (point_of I.whole at.a) (point_of I.whole at.p)
+            (point_of I.whole at.b) store.old).1 };
 
     /// The data of two segments that become one.
     fn merge(merged: EdgeDataMerge<C, Self>, store: &mut Self::Store) -> Self

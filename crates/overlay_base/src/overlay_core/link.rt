@@ -7,9 +7,13 @@ use crate::segm::segment_fill::SegmentFill;
 /// A kept segment from `a` to `b`, with its fill and its data. Each end has the number of its node.
 #[derive(Clone, Copy, Debug)]
 pub struct OverlayLink<I, D> {
+    /// The smaller end, with the number of its node.
     pub a: IdPoint<I>,
+    /// The greater end, with the number of its node.
     pub b: IdPoint<I>,
+    /// On which sides the subject and the clip are.
     pub fill: SegmentFill,
+    /// The data of the segment.
     pub edge_data: D,
 }
 

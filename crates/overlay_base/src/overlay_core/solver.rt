@@ -87,7 +87,9 @@ const _: () = prove!(Precision::LOW.start == 2 && Precision::LOW.progression == 
 /// A strategy and a precision.
 #[derive(Clone, Copy)]
 pub struct Solver {
+    /// How the segments that meet are found.
     pub strategy: Strategy,
+    /// How far crossings may be moved.
     pub precision: Precision,
 }
 
@@ -194,7 +196,8 @@ impl Solver {
 impl Default for Solver {
     ghost use Rattle.overlay_base.specs.declared.overlay_core.solver.Strategy.TheVariants.{Auto};
 
-    ghost is_default = { λ solver. (solver.strategy ≡ Auto) × (solver.precision ≡ record { start = 0; progression = 1 }) };
+    ghost is_default = { λ solver. (solver.strategy ≡ Auto)
+        × (solver.precision ≡ record { start = 0; progression = 1 }) };
 
     fn default() -> Solver {
         Solver::AUTO

@@ -13,7 +13,7 @@ use crate::num::OverlayInt;
 
 /// Whether two segments share at most a common end: they do not cross, and no end of one lies strictly inside the
 /// other. Both have to be in range, with `a` before `b`.
-#[tactic(auto, using(crate::proofs::laws::Apart::are_apart_is))]
+#[tactic(auto, using(crate::proofs::laws::geometry::Apart::are_apart_is))]
 pub fn are_apart<I: OverlayInt>(first: &XSegment<I>, second: &XSegment<I>) -> bool
     requires first { IsPairInRange I.whole I.MIN_COORD I.MAX_COORD first.now }
     requires second { IsPairInRange I.whole I.MIN_COORD I.MAX_COORD second.now }
@@ -57,7 +57,7 @@ fn has_end_inside<I: OverlayInt>(segment: &XSegment<I>, other: &XSegment<I>) -> 
     is_strictly_inside(segment, other.a) || is_strictly_inside(segment, other.b)
 }
 
-#[tactic(auto, using(crate::proofs::laws::Apart::is_strictly_inside_by_order))]
+#[tactic(auto, using(crate::proofs::laws::geometry::Apart::is_strictly_inside_by_order))]
 fn is_strictly_inside<I: OverlayInt>(segment: &XSegment<I>, point: IntPoint<I>) -> bool
     requires segment { IsPairInRange I.whole I.MIN_COORD I.MAX_COORD segment.now }
     requires point { IsPointInRange I.whole I.MIN_COORD I.MAX_COORD point }
@@ -69,7 +69,8 @@ fn is_strictly_inside<I: OverlayInt>(segment: &XSegment<I>, point: IntPoint<I>) 
 
 /// Whether a point stands after `a` and before `b`.
 fn stands_between<I: OverlayInt>(segment: &XSegment<I>, point: IntPoint<I>) -> bool
-    ensures { result ≡ (point_lt (point_of I.whole segment.now.a) (point_of I.whole point) && point_lt (point_of I.whole point) (point_of I.whole segment.now.b)) }
+    ensures { result ≡ (point_lt (point_of I.whole segment.now.a) (point_of I.whole point)
+        && point_lt (point_of I.whole point) (point_of I.whole segment.now.b)) }
 {
     segment.a < point && point < segment.b
 }

@@ -44,7 +44,8 @@ pub fn is_arranged<C: WindingCount, I: OverlayInt, D: Copy>(segments: &[Segment<
 }
 
 fn is_usable<C: WindingCount, I: OverlayInt, D: Copy>(segment: &Segment<C, I, D>) -> bool
-    ensures { result ≡ (is_pair_in_range (I.whole I.MIN_COORD) (I.whole I.MAX_COORD) (ends_of segment.now) && is_valid (winding_of segment.now) && is_not_empty (winding_of segment.now)) }
+    ensures { result ≡ (is_pair_in_range (I.whole I.MIN_COORD) (I.whole I.MAX_COORD) (ends_of segment.now)
+        && is_valid (winding_of segment.now) && is_not_empty (winding_of segment.now)) }
 {
     let XSegment { a, b } = segment.x_segment();
     let count = segment.count();
@@ -85,7 +86,8 @@ fn is_before<I: OverlayInt>(left: &XSegment<I>, right: &XSegment<I>) -> bool
 
 /// Whether every two segments are apart.
 fn is_planar<C: WindingCount, I: OverlayInt, D: Copy>(segments: &[Segment<C, I, D>]) -> bool
-    requires splittable { IsTrue (is_splittable (I.whole I.MIN_COORD) (I.whole I.MAX_COORD) (segments_of segments.now)) }
+    requires splittable { IsTrue (is_splittable (I.whole I.MIN_COORD) (I.whole I.MAX_COORD)
+        (segments_of segments.now)) }
     requires sorted { IsTrue (is_strictly_sorted pair_cmp (pairs (segments_of segments.now))) }
     ensures { result ≡ is_planar (segments_of segments.now) }
 {

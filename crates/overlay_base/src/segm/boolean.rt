@@ -6,7 +6,9 @@ use crate::segm::winding::WindingCount;
 /// How a segment winds for the subject and for the clip.
 #[derive(Clone, Copy, Debug, PartialEq, Eq)]
 pub struct ShapeCountBoolean {
+    /// How often contours of the subject run from `a` to `b`, less how often they run back.
     pub subj: i32,
+    /// The same of the clip.
     pub clip: i32,
 }
 

@@ -21,7 +21,8 @@ use crate::segm::winding::WindingCount;
 ///
 /// Answers `Fault::CountOutOfRange` only where a running sum of the counts on one pair leaves
 /// `-i32::MAX..=i32::MAX`, and, memory being found, wherever one does; the store is then what the hooks called before
-/// that sum left. Where a call is refused the list is empty.
+/// that sum left. Answers `Fault::Memory` where a growth is refused. Where a call is refused the list is empty. This
+/// project's own: upstream sorts and merges in each place.
 pub fn join_with_store<C: WindingCount, I: OverlayInt, D: OverlayEdgeData<C>>(
     list: &mut Vec<Segment<C, I, D>>,
     store: &mut D::Store,
@@ -29,18 +30,19 @@ pub fn join_with_store<C: WindingCount, I: OverlayInt, D: OverlayEdgeData<C>>(
     requires { All (λ s. IsTrue (is_valid (winding_of s))) list.old.items }
     ensures geometry { OnOk result (segments_of list.new.items ≡ join (segments_of list.old.items)) }
     ensures edge_data { OnOk result
-        (let hooks = hooks_of C.counted D.reversed_gives D.split_gives D.merge_gives in
+        (let hooks = hooks_of C.counted D.OverlayEdgeData.own in
         data_segments_of list.new.items ≡ (data_join hooks (data_segments_of list.old.items) store.old).0) }
     ensures store { OnOk result
-        (let hooks = hooks_of C.counted D.reversed_gives D.split_gives D.merge_gives in
+        (let hooks = hooks_of C.counted D.OverlayEdgeData.own in
         store.new ≡ (data_join hooks (data_segments_of list.old.items) store.old).1) }
     ensures repeated { IfOk result (λ repeated. repeated ≡ has_equal_pairs (segments_of list.old.items)) }
 
     ensures fits { OnOk result (IsFalse (join_leaves_range (segments_of list.old.items))) }
-    ensures refused { IfErr result (λ fault. fault ≡ CountOutOfRange → IsTrue (join_leaves_range (segments_of list.old.items))) }
+    ensures refused { IfErr result (λ fault. fault ≡ CountOutOfRange
+        → IsTrue (join_leaves_range (segments_of list.old.items))) }
     ensures emptied { OnErr result (list.new.items ≡ []) }
     ensures stopped { IfErr result (λ fault. fault ≡ CountOutOfRange →
-        (let hooks = hooks_of C.counted D.reversed_gives D.split_gives D.merge_gives in
+        (let hooks = hooks_of C.counted D.OverlayEdgeData.own in
         IsRefusedJoin hooks (data_segments_of list.old.items) store.old store.new)) }
 {
     sort_by_ab(list)?;

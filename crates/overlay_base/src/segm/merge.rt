@@ -30,10 +30,10 @@ pub fn merge_if_needed_with_store<C: WindingCount, I: OverlayInt, D: OverlayEdge
     requires valid { All (λ s. IsTrue (is_valid (winding_of s))) list.old.items }
     ensures geometry { OnOk result (segments_of list.new.items ≡ join (segments_of list.old.items)) }
     ensures edge_data { OnOk result
-        (let hooks = hooks_of C.counted D.reversed_gives D.split_gives D.merge_gives in
+        (let hooks = hooks_of C.counted D.OverlayEdgeData.own in
         data_segments_of list.new.items ≡ (data_join hooks (data_segments_of list.old.items) store.old).0) }
     ensures store { OnOk result
-        (let hooks = hooks_of C.counted D.reversed_gives D.split_gives D.merge_gives in
+        (let hooks = hooks_of C.counted D.OverlayEdgeData.own in
         store.new ≡ (data_join hooks (data_segments_of list.old.items) store.old).1) }
     ensures repeated { IfOk result (λ repeated. repeated ≡ has_equal_neighbors (segments_of list.old.items)) }
 
@@ -41,7 +41,7 @@ pub fn merge_if_needed_with_store<C: WindingCount, I: OverlayInt, D: OverlayEdge
     ensures fault { IfErr result (λ fault. fault ≡ CountOutOfRange) }
     ensures emptied { OnErr result (list.new.items ≡ []) }
     ensures stopped { OnErr result
-        (let hooks = hooks_of C.counted D.reversed_gives D.split_gives D.merge_gives in
+        (let hooks = hooks_of C.counted D.OverlayEdgeData.own in
         IsStoppedJoin hooks (data_segments_of list.old.items) store.old store.new) }
 {
     if list.is_empty() {
@@ -88,11 +88,12 @@ fn joined<C: WindingCount, I: OverlayInt, D: OverlayEdgeData<C>>(
     store: &mut D::Store,
 ) -> Result<Segment<C, I, D>, Fault>
     ensures value { MatchResult result
-        (λ sum. let hooks = hooks_of C.counted D.reversed_gives D.split_gives D.merge_gives in
+        (λ sum. let hooks = hooks_of C.counted D.OverlayEdgeData.own in
         (is_count_in_range (add (winding_of left) (winding_of right)) ≡ true)
         × (data_segment_of sum ≡ (merged hooks (data_segment_of left) (data_segment_of right) store.old).0)
         × (store.new ≡ (merged hooks (data_segment_of left) (data_segment_of right) store.old).1))
-        (λ fault. (fault ≡ CountOutOfRange) × (is_count_in_range (add (winding_of left) (winding_of right)) ≡ false) × (store.new ≡ store.old)) }
+        (λ fault. (fault ≡ CountOutOfRange) × (is_count_in_range (add (winding_of left) (winding_of right)) ≡ false)
+        × (store.new ≡ store.old)) }
 {
     let lhs_count = left.count();
     let rhs_count = right.count();
@@ -115,7 +116,8 @@ fn keep<C: WindingCount, I: OverlayInt, D: Copy>(
     segment: Segment<C, I, D>,
 ) -> usize
     requires { kept < vec_len list.old }
-    ensures kept { data_segments_of (take result list.new.items) ≡ data_segments_of (take kept list.old.items) ++ kept_sum (data_segment_of segment) }
+    ensures kept { data_segments_of (take result list.new.items) ≡ data_segments_of (take kept list.old.items)
+        ++ kept_sum (data_segment_of segment) }
     ensures bound { result ≤ kept + 1 }
     ensures rest { drop (kept + 1) list.new.items ≡ drop (kept + 1) list.old.items }
     ensures len { length list.new.items ≡ length list.old.items }

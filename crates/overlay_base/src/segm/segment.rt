@@ -63,7 +63,7 @@ impl<C: WindingCount, I: OverlayInt, D: Copy> Segment<C, I, D> {
     ghost use Rattle.std.specs.Prelude.{◌≡◌};
     ghost use Rattle.overlay_base.specs.SegmentOf.{x_segment_of, count_of, edge_data_of};
 
-    /// The segment on the same ends with another count and other data.
+    /// The segment on the same ends with another count and other data. This project's own.
     pub fn with_count_and_data(self, count: C, edge_data: D) -> Segment<C, I, D>
         ensures x_segment { x_segment_of result ≡ x_segment_of self }
         ensures count { count_of result ≡ count }
@@ -100,11 +100,14 @@ impl<C: WindingCount, I: OverlayInt, D: OverlayEdgeData<C>> Segment<C, I, D> {
         store: &mut D::Store,
     ) -> Segment<C, I, D>
         requires ends { point_of I.whole a ≢ point_of I.whole b }
-        requires valid { IsTrue (point_lt (point_of I.whole b) (point_of I.whole a)) → IsTrue (is_valid (C.winding count)) }
-        ensures segment { let hooks = hooks_of C.counted D.reversed_gives D.split_gives D.merge_gives in
-            data_segment_of result ≡ (data_piece hooks (C.winding count) (point_of I.whole a) (point_of I.whole b) edge_data store.old).0 }
-        ensures store { let hooks = hooks_of C.counted D.reversed_gives D.split_gives D.merge_gives in
-            store.new ≡ (data_piece hooks (C.winding count) (point_of I.whole a) (point_of I.whole b) edge_data store.old).1 }
+        requires valid { IsTrue (point_lt (point_of I.whole b) (point_of I.whole a))
+            → IsTrue (is_valid (C.winding count)) }
+        ensures segment { let hooks = hooks_of C.counted D.OverlayEdgeData.own in
+            data_segment_of result ≡ (data_piece hooks (C.winding count) (point_of I.whole a)
+            (point_of I.whole b) edge_data store.old).0 }
+        ensures store { let hooks = hooks_of C.counted D.OverlayEdgeData.own in
+            store.new ≡ (data_piece hooks (C.winding count) (point_of I.whole a)
+            (point_of I.whole b) edge_data store.old).1 }
     {
         if a < b {
             Segment {
@@ -141,11 +144,13 @@ impl<I: OverlayInt, D: OverlayEdgeData<ShapeCountBoolean>> Segment<ShapeCountBoo
     ) -> Option<Segment<ShapeCountBoolean, I, D>>
         ensures none { IsNone result ↔ (point_of I.whole a ≡ point_of I.whole b) }
         ensures segment { IfSome result (λ segment.
-            let hooks = hooks_of boolean_counted D.reversed_gives D.split_gives D.merge_gives in
-            data_segment_of segment ≡ (data_piece hooks (direct_winding boolean_made shape_type) (point_of I.whole a) (point_of I.whole b) edge_data store.old).0) }
+            let hooks = hooks_of boolean_counted D.OverlayEdgeData.own in
+            data_segment_of segment ≡ (data_piece hooks (direct_winding boolean_made shape_type) (point_of I.whole a)
+            (point_of I.whole b) edge_data store.old).0) }
         ensures store { OnSome result
-            (let hooks = hooks_of boolean_counted D.reversed_gives D.split_gives D.merge_gives in
-            store.new ≡ (data_piece hooks (direct_winding boolean_made shape_type) (point_of I.whole a) (point_of I.whole b) edge_data store.old).1) }
+            (let hooks = hooks_of boolean_counted D.OverlayEdgeData.own in
+            store.new ≡ (data_piece hooks (direct_winding boolean_made shape_type) (point_of I.whole a)
+            (point_of I.whole b) edge_data store.old).1) }
         ensures store_unchanged { IfNone result (store.new ≡ store.old) }
     {
         if a == b {

@@ -17,7 +17,8 @@ use crate::segm::winding::WindingCount;
 pub fn sort_by_ab<C: WindingCount, I: OverlayInt, D: Copy>(
     list: &mut Vec<Segment<C, I, D>>,
 ) -> Result<(), Fault>
-    ensures sorted { OnOk result (list.new.items ≡ stably_sorted (λ s t. pair_cmp (ends_of s) (ends_of t)) list.old.items) }
+    ensures sorted { OnOk result (list.new.items ≡ stably_sorted
+        (λ s t. pair_cmp (ends_of s) (ends_of t)) list.old.items) }
     ensures in_order { OnOk result (IsSortedByKey ends_of pair_cmp list.new.items) }
     ensures permutation { OnOk result (IsPermutation list.old.items list.new.items) }
 

@@ -17,11 +17,11 @@ ghost use Rattle.overlay_build.specs.NodeIndexes.{indexes_of, is_canonical_node,
 ghost use Rattle.overlay_build.specs.steps.LinkRules.{keeps_by};
 ghost use Rattle.overlay_build.specs.BuilderOf.{built_nodes, built_links};
 
+use crate::build::connect_links::connect_links;
 use crate::build::fills::find_fills;
 use crate::build::graph::OverlayGraph;
 use crate::build::graph_node::{GraphNode, OverlayNode};
 use crate::build::kept_links::{LinkRule, collect_links};
-use crate::build::nodes::connect_links;
 use crate::build::string_graph::StringGraph;
 use overlay_base::geom::end::End;
 use overlay_base::num::OverlayInt;
@@ -95,10 +95,13 @@ impl<C: FillCount, N: GraphNode, I: OverlayInt, D: Copy> GraphBuilder<C, N, I, D
         segments: &[Segment<C, I, D>],
     ) -> Result<(), Fault>
         requires arranged { IsArranged segments.now }
-        ensures graph { OnOk result (HoldGraph N.indexes N.is_canonical I.whole self.new.nodes.items self.new.links.items (graph_by (keeps_by rule) fill_rule (segments_of segments.now))) }
-        ensures edge_data { OnOk result (map (λ l. l.edge_data) self.new.links.items ≡ data_by (keeps_by rule) fill_rule (data_segments_of segments.now)) }
+        ensures graph { OnOk result (HoldGraph N.indexes N.is_canonical I.whole self.new.nodes.items
+            self.new.links.items (graph_by (keeps_by rule) fill_rule (segments_of segments.now))) }
+        ensures edge_data { OnOk result (map (λ l. l.edge_data) self.new.links.items
+            ≡ data_by (keeps_by rule) fill_rule (data_segments_of segments.now)) }
         ensures in_range { OnOk result (IsFalse (tops_leave_range (segments_of segments.now))) }
-        ensures out_of_range { IfErr result (λ fault. fault ≡ CountOutOfRange → IsTrue (tops_leave_range (segments_of segments.now))) }
+        ensures out_of_range { IfErr result (λ fault. fault ≡ CountOutOfRange
+            → IsTrue (tops_leave_range (segments_of segments.now))) }
         ensures no_links { OnErr result (self.new.links.items ≡ []) }
         ensures no_nodes { OnErr result (self.new.nodes.items ≡ []) }
     {
@@ -119,10 +122,13 @@ impl<C: FillCount, N: GraphNode, I: OverlayInt, D: Copy> GraphBuilder<C, N, I, D
         segments: &[Segment<C, I, D>],
     ) -> Result<(), Fault>
         requires arranged { IsArranged segments.now }
-        ensures graph { OnOk result (HoldGraph N.indexes N.is_canonical I.whole self.new.nodes.items self.new.links.items (graph_by (keeps_by rule) fill_rule (segments_of segments.now))) }
-        ensures edge_data { OnOk result (map (λ l. l.edge_data) self.new.links.items ≡ data_by (keeps_by rule) fill_rule (data_segments_of segments.now)) }
+        ensures graph { OnOk result (HoldGraph N.indexes N.is_canonical I.whole self.new.nodes.items
+            self.new.links.items (graph_by (keeps_by rule) fill_rule (segments_of segments.now))) }
+        ensures edge_data { OnOk result (map (λ l. l.edge_data) self.new.links.items
+            ≡ data_by (keeps_by rule) fill_rule (data_segments_of segments.now)) }
         ensures in_range { OnOk result (IsFalse (tops_leave_range (segments_of segments.now))) }
-        ensures out_of_range { IfErr result (λ fault. fault ≡ CountOutOfRange → IsTrue (tops_leave_range (segments_of segments.now))) }
+        ensures out_of_range { IfErr result (λ fault. fault ≡ CountOutOfRange
+            → IsTrue (tops_leave_range (segments_of segments.now))) }
     {
         let runner = &mut self.sweep_runner;
         find_fills(runner, fill_rule, solver, segments, &mut self.fills)?;
@@ -251,7 +257,8 @@ impl<I: OverlayInt> GraphBuilder<ShapeCountString, Vec<usize>, I, ()> {
         ensures out_of_range { IfErr result (λ fault.
             fault ≡ CountOutOfRange → IsTrue (tops_leave_range (segments_of segments.now))) }
         ensures same_builder { IfOk result (λ graph. builder_name graph ≡ self.entry.ghost_name) }
-        ensures* after { sem 𝓛 (HoldsLines I.row I.OverlayInt.own I.Ord.own I.PartialEq I.PartialOrd.own result self.entry) }
+        ensures* after { sem 𝓛 (HoldsLines I.row I.OverlayInt.own I.Ord.own I.PartialEq I.PartialOrd.own result
+            self.entry) }
     {
         let every = LinkRule::Every;
         self.build(fill_rule, every, solver, segments)?;
@@ -284,7 +291,8 @@ impl<I: OverlayInt> GraphBuilder<ShapeCountString, Vec<usize>, I, ()> {
         ensures out_of_range { IfErr result (λ fault.
             fault ≡ CountOutOfRange → IsTrue (tops_leave_range (segments_of segments.now))) }
         ensures same_builder { IfOk result (λ graph. builder_name graph ≡ self.entry.ghost_name) }
-        ensures* after { sem 𝓛 (HoldsLines I.row I.OverlayInt.own I.Ord.own I.PartialEq I.PartialOrd.own result self.entry) }
+        ensures* after { sem 𝓛 (HoldsLines I.row I.OverlayInt.own I.Ord.own I.PartialEq I.PartialOrd.own result
+            self.entry) }
     {
         self.build(fill_rule, LinkRule::Clip(clip_rule), solver, segments)?;
         Ok(StringGraph::new(self))

@@ -1,6 +1,6 @@
 // The fills of all segments by a sweep. Upstream: `build_fills_with_strategy` of `build::builder`.
 ghost use Rattle.std.specs.Prelude.{◌≡◌, IsTrue, IsFalse, OnOk, IfErr};
-ghost use Rattle.overlay_base.specs.Planar.{is_arranged};
+ghost use Rattle.overlay_base.specs.ArrangedOf.{IsArranged};
 ghost use Rattle.overlay_base.specs.SegmentOf.{segments_of};
 ghost use Rattle.overlay_base.specs.declared.segm.fault.Fault.TheVariants.{CountOutOfRange};
 ghost use Rattle.overlay_sweep.specs.ChainWindings.{tops_leave_range};
@@ -24,10 +24,11 @@ pub fn find_fills<C: FillCount, I: OverlayInt, D: Copy>(
     segments: &[Segment<C, I, D>],
     fills: &mut Vec<SegmentFill>,
 ) -> Result<(), Fault>
-    requires arranged { IsTrue (is_arranged (I.whole I.MIN_COORD) (I.whole I.MAX_COORD) (segments_of segments.now)) }
+    requires arranged { IsArranged segments.now }
     ensures fills { OnOk result (fills.new.items ≡ fills_of fill_rule (segments_of segments.now)) }
     ensures in_range { OnOk result (IsFalse (tops_leave_range (segments_of segments.now))) }
-    ensures out_of_range { IfErr result (λ fault. fault ≡ CountOutOfRange → IsTrue (tops_leave_range (segments_of segments.now))) }
+    ensures out_of_range { IfErr result (λ fault. fault ≡ CountOutOfRange
+        → IsTrue (tops_leave_range (segments_of segments.now))) }
 {
     fills.clear();
     fills.resize(segments.len(), NONE)?;

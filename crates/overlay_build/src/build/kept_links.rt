@@ -47,8 +47,12 @@ pub fn collect_links<C: WindingCount, I: OverlayInt, D: Copy>(
     links: &mut Vec<OverlayLink<I, D>>,
 ) -> Result<(), Fault>
     requires { length fills.now ≡ length segments.now }
-    ensures kept { OnOk result ((fill_rule : FillRule) → fills.now ≡ fills_of fill_rule (segments_of segments.now) → kept_of I.whole links.new.items ≡ filter (λ f. keeps_by rule f.fill) (filled fill_rule (segments_of segments.now))) }
-    ensures data { OnOk result ((fill_rule : FillRule) → fills.now ≡ fills_of fill_rule (segments_of segments.now) → map (λ l. l.edge_data) links.new.items ≡ data_by (keeps_by rule) fill_rule (data_segments_of segments.now)) }
+    ensures kept { OnOk result ((fill_rule : FillRule) → fills.now ≡ fills_of fill_rule (segments_of segments.now)
+        → kept_of I.whole links.new.items ≡ filter (λ f. keeps_by rule f.fill)
+        (filled fill_rule (segments_of segments.now))) }
+    ensures data { OnOk result ((fill_rule : FillRule) → fills.now ≡ fills_of fill_rule (segments_of segments.now)
+        → map (λ l. l.edge_data) links.new.items ≡ data_by (keeps_by rule) fill_rule
+        (data_segments_of segments.now)) }
     ensures fault { IfErr result (λ fault. fault ≡ Memory) }
 {
     links.clear();

@@ -20,7 +20,8 @@ pub fn collect_ends<I: OverlayInt, D: Copy>(
     links: &[OverlayLink<I, D>],
     ends: &mut Vec<End<I>>,
 ) -> Result<(), Fault>
-    ensures ends { OnOk result (ends_of I.whole ends.new.items ≡ numbered_starts (pairs_of_links I.whole links.now) ++ numbered_ends (pairs_of_links I.whole links.now)) }
+    ensures ends { OnOk result (ends_of I.whole ends.new.items ≡ numbered_starts (pairs_of_links I.whole links.now)
+        ++ numbered_ends (pairs_of_links I.whole links.now)) }
     ensures fault { IfErr result (λ fault. fault ≡ Memory) }
 {
     ends.clear();
@@ -37,7 +38,8 @@ pub fn collect_ends<I: OverlayInt, D: Copy>(
 
 /// Sorts ends by their points. Ends at one point stay in their order.
 pub fn sort_by_point<I: OverlayInt>(ends: &mut Vec<End<I>>) -> Result<(), Fault>
-    ensures sorted { OnOk result (ends_of I.whole ends.new.items ≡ stably_sorted (λ e f. point_cmp e.point f.point) (ends_of I.whole ends.old.items)) }
+    ensures sorted { OnOk result (ends_of I.whole ends.new.items
+        ≡ stably_sorted (λ e f. point_cmp e.point f.point) (ends_of I.whole ends.old.items)) }
     ensures fault { IfErr result (λ fault. fault ≡ Memory) }
 {
     ends.sort_by_key(|end| end.point)?;
@@ -45,12 +47,16 @@ pub fn sort_by_point<I: OverlayInt>(ends: &mut Vec<End<I>>) -> Result<(), Fault>
 }
 
 /// The index after the last of the ends that lie where the end at an index does, of ends that stand side by side.
-pub fn run_end<I: OverlayInt>(ends: &[End<I>], start: usize) -> usize
+pub fn block_end<I: OverlayInt>(ends: &[End<I>], start: usize) -> usize
     requires { start < length ends.now }
     ensures after { start < result }
     ensures within { result ≤ length ends.now }
-    ensures same { (k : ℕ) (d : WholeEnd) → start ≤ k → k < result → (slice_index_or (ends_of I.whole ends.now) k d).point ≡ (slice_index_or (ends_of I.whole ends.now) start d).point }
-    ensures other { (d : WholeEnd) → result < length ends.now → (slice_index_or (ends_of I.whole ends.now) result d).point ≢ (slice_index_or (ends_of I.whole ends.now) start d).point }
+    ensures same { (k : ℕ) (d : WholeEnd) → start ≤ k → k < result
+        → (slice_index_or (ends_of I.whole ends.now) k d).point
+        ≡ (slice_index_or (ends_of I.whole ends.now) start d).point }
+    ensures other { (d : WholeEnd) → result < length ends.now
+        → (slice_index_or (ends_of I.whole ends.now) result d).point
+        ≢ (slice_index_or (ends_of I.whole ends.now) start d).point }
 {
     let point = ends[start].point;
     let mut next = start + 1;
@@ -69,7 +75,8 @@ pub fn collect_indices<I: OverlayInt>(
 ) -> Result<(), Fault>
     requires order { start ≤ next }
     requires within { next ≤ length ends.now }
-    ensures indexes { OnOk result (indices.new.items ≡ map (λ e. e.index) (take (next - start) (drop start (ends_of I.whole ends.now)))) }
+    ensures indexes { OnOk result (indices.new.items ≡ map (λ e. e.index)
+        (take (next - start) (drop start (ends_of I.whole ends.now)))) }
     ensures fault { IfErr result (λ fault. fault ≡ Memory) }
 {
     indices.clear();
@@ -89,7 +96,9 @@ pub fn number_ends<I: OverlayInt, D: Copy>(
 )
     requires { All (λ k. k < length links.old) indices.now }
     ensures length { length links.new ≡ length links.old }
-    ensures links { (k : ℕ) (d : OverlayLink I D) → k < length links.old → slice_index_or links.new k d ≡ (if names_node k indices.now then with_node I.whole (point_of I.whole point) id (slice_index_or links.old k d) else slice_index_or links.old k d) }
+    ensures links { (k : ℕ) (d : OverlayLink I D) → k < length links.old → slice_index_or links.new k d
+        ≡ (if names_node k indices.now then with_node I.whole (point_of I.whole point) id
+        (slice_index_or links.old k d) else slice_index_or links.old k d) }
 {
     for index in indices {
         let link = &mut links[*index];

@@ -18,7 +18,8 @@ pub fn filter_by_overlay_into<I, D>(
     overlay_rule: OverlayRule,
     buffer: &mut Vec<VisitState>,
 ) -> Result<(), Fault>
-    ensures states { OnOk result (buffer.new.items ≡ map (λ l. if keeps_fill (holds overlay_rule) l.fill then Unvisited else Skipped) links.now) }
+    ensures states { OnOk result (buffer.new.items ≡ map
+        (λ l. if keeps_fill (holds overlay_rule) l.fill then Unvisited else Skipped) links.now) }
     ensures fault { IfErr result (λ fault. fault ≡ Memory) }
     ensures emptied { OnErr result (buffer.new.items ≡ []) }
 {

@@ -49,7 +49,8 @@ impl<'a, I: OverlayInt> StringGraph<'a, I> {
     /// The links, to be written to.
     pub fn links_mut(&mut self) -> &mut [OverlayLink<I, ()>]
         ensures links { result.now ≡ links_of self.old }
-        ensures* writes_back { sem 𝓛 (LendsLinks I.row I.OverlayInt.own I.Ord.own I.PartialEq I.PartialOrd.own self.entry result) }
+        ensures* writes_back { sem 𝓛 (LendsLinks I.row I.OverlayInt.own I.Ord.own I.PartialEq I.PartialOrd.own
+            self.entry result) }
     {
         self.builder.links_mut()
     }

@@ -35,7 +35,12 @@ const INSIDE: ClipRule = ClipRule {
 
 fn line(ax: i32, ay: i32, bx: i32, by: i32, subj: i32, clip: u8) -> Line
     requires { IsTrue (point_lt (record { x = ax; y = ay }) (record { x = bx; y = by })) }
-    ensures { segment_of result ≡ record { pair = record { a = record { x = ax; y = ay }; b = record { x = bx; y = by } }; count = record { subj = subj; clip = pos 0; mask = clip } } }
+    ensures { segment_of result ≡ record {
+      pair = record
+          { a = record { x = ax; y = ay }; b = record { x = bx; y = by } };
+      count = record
+          { subj = subj; clip = pos 0; mask = clip };
+    } }
 {
     let a = IntPoint { x: ax, y: ay };
     let b = IntPoint { x: bx, y: by };

@@ -29,7 +29,8 @@ impl<C: WindingCount, N: GraphNode, I: OverlayInt, D: Copy> GraphBuilder<C, N, I
     ) -> Result<bool, Fault>
         ensures loops { IfOk result (λ answer. answer ≡ has_repeat point_eq (map (point_of I.whole) contour.now)) }
         ensures few { length contour.now < 64 → buffer.new ≡ buffer.old }
-        ensures rising { OnOk result (64 ≤ length contour.now → map (point_of I.whole) buffer.new.items ≡ stably_sorted point_cmp (map (point_of I.whole) contour.now)) }
+        ensures rising { OnOk result (64 ≤ length contour.now → map (point_of I.whole) buffer.new.items
+            ≡ stably_sorted point_cmp (map (point_of I.whole) contour.now)) }
         ensures refused { IfErr result (λ fault. fault ≡ Memory) }
         ensures emptied { IfErr result (λ fault. buffer.new.items ≡ []) }
         ensures takes_none { IfErr result (λ fault. 64 ≤ length contour.now) }
@@ -78,7 +79,8 @@ fn sort_into<I: OverlayInt>(
     points: &[IntPoint<I>],
     buffer: &mut Vec<IntPoint<I>>,
 ) -> Result<(), Fault>
-    ensures sorted { OnOk result (map (point_of I.whole) buffer.new.items ≡ stably_sorted point_cmp (map (point_of I.whole) points.now)) }
+    ensures sorted { OnOk result (map (point_of I.whole) buffer.new.items
+        ≡ stably_sorted point_cmp (map (point_of I.whole) points.now)) }
     ensures in_order { OnOk result (IsSortedByKey (point_of I.whole) point_cmp buffer.new.items) }
     ensures permutation { OnOk result (IsPermutation points.now buffer.new.items) }
     ensures fault { IfErr result (λ fault. fault ≡ Memory) }

@@ -55,8 +55,10 @@ fn walk_from<I: OverlayInt, D: Copy>(
     requires passed { ArePassed (map indexes_of (nodes_of graph.now)) used.old cursors.old }
     requires even { AreUnusedEven (map (link_of I.whole) (links_of graph.now)) used.old }
     ensures closed { IfOk result (λ walk. IsClosedWalk (map (link_of I.whole) (links_of graph.now)) walk.items) }
-    ensures counted { IfOk result (λ walk. (walked : List ℕ) → AreCounted used.old walked → AreCounted used.new (walked ++ walk.items)) }
-    ensures kept { OnOk result ((i : ℕ) → slice_index_or used.old i false ≡ true → slice_index_or used.new i false ≡ true) }
+    ensures counted { IfOk result (λ walk. (walked : List ℕ) → AreCounted used.old walked
+        → AreCounted used.new (walked ++ walk.items)) }
+    ensures kept { OnOk result ((i : ℕ) → slice_index_or used.old i false ≡ true → slice_index_or used.new i false
+        ≡ true) }
     ensures begun { OnOk result (slice_index_or used.new first false ≡ true) }
     ensures passed { OnOk result (ArePassed (map indexes_of (nodes_of graph.now)) used.new cursors.new) }
     ensures even { OnOk result (AreUnusedEven (map (link_of I.whole) (links_of graph.now)) used.new) }
@@ -91,7 +93,8 @@ fn take_link<I: OverlayInt, D: Copy>(
     ensures link { result < length (links_of graph.now) }
     ensures unused { slice_index_or used.old result false ≡ false }
     ensures used { used.new ≡ slice_set used.old result true }
-    ensures meets { (d : Link) → IsTrue (meets (slice_index_or (map (link_of I.whole) (links_of graph.now)) result d) node) }
+    ensures meets { (d : Link) → IsTrue (meets (slice_index_or
+        (map (link_of I.whole) (links_of graph.now)) result d) node) }
     ensures passed { ArePassed (map indexes_of (nodes_of graph.now)) used.new cursors.new }
 {
     let indexes = graph.nodes()[node].indices();
@@ -109,7 +112,8 @@ fn next_unused(indexes: &[usize], used: &[bool], from: usize) -> usize
     requires passed { (k : ℕ) → k < from → slice_index_or used.now (slice_index_or indexes.now k 0) false ≡ true }
     ensures within { result ≤ length indexes.now }
     ensures passed { (k : ℕ) → k < result → slice_index_or used.now (slice_index_or indexes.now k 0) false ≡ true }
-    ensures unused { result < length indexes.now → slice_index_or used.now (slice_index_or indexes.now result 0) false ≡ false }
+    ensures unused { result < length indexes.now → slice_index_or used.now (slice_index_or indexes.now result 0) false
+        ≡ false }
 {
     let mut place = from;
     while place < indexes.len() && used[indexes[place]] {

@@ -6,7 +6,7 @@ use Rattle.overlay_base.specs.Turns.{clock_direction}
 use Rattle.overlay_base.specs.Meeting.{do_cross}
 use Rattle.overlay_marks.specs.Marks.{Placing}
 use Rattle.overlay_marks.specs.CrossAnswer.{cross_answer}
-use Rattle.overlay_marks.specs.Counts.{count_of}
+use Rattle.overlay_marks.specs.Counts.{count_true}
 use Rattle.overlay_marks.specs.AnswerOf.{result_of}
 use Rattle.overlay_marks.specs.declared.split.cross.contact.Sides.{Sides}
 use Rattle.overlay_marks.specs.declared.split.cross.contact.Contact.{Contact}
@@ -21,11 +21,11 @@ pub record AreSides (target other : Pair) (sides : Sides) : Type 0 where
 
 -- how many ends lie on the line of the other segment
 abbrev pub zeros_of : Sides → ℕ
-zeros_of sides = count_of (int_eq sides.other_a (pos 0)) (int_eq sides.other_b (pos 0)) (int_eq sides.target_a (pos 0)) (int_eq sides.target_b (pos 0))
+zeros_of sides = count_true (int_eq sides.other_a (pos 0)) (int_eq sides.other_b (pos 0)) (int_eq sides.target_a (pos 0)) (int_eq sides.target_b (pos 0))
 
 -- whether an end is shared, or both ends of one lie on the same side of the other
-abbrev pub are_apart : Sides → Bool
-are_apart sides = nat_lt 1 (zeros_of sides) || (int_eq sides.other_a sides.other_b || int_eq sides.target_a sides.target_b)
+abbrev pub leave_no_contact : Sides → Bool
+leave_no_contact sides = nat_lt 1 (zeros_of sides) || (int_eq sides.other_a sides.other_b || int_eq sides.target_a sides.target_b)
 
 -- what the sides tell: the answer, but for a crossing strictly inside both, which is to be placed
 abbrev pub IsContact : {I : Type 0} → (I → ℤ) → Pair → Pair → Contact I → Type 0

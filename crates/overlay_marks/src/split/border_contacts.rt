@@ -24,13 +24,16 @@ pub(crate) fn mark_borders<I: OverlayInt>(
     marks: &mut Vec<LineMark<I>>,
     looked: &mut u128,
 ) -> Result<(), AllocError>
-    requires ready { (column : ℕ) → AllByRecursion (λ f. IsTrue (is_ready (I.whole I.MIN_COORD) (I.whole I.MAX_COORD) f)) (group_of buffer.old column) }
+    requires ready { (column : ℕ) → AllByRecursion (λ f. IsTrue
+        (is_ready (I.whole I.MIN_COORD) (I.whole I.MAX_COORD) f)) (group_of buffer.old column) }
     ensures layout { grid_of buffer.new ≡ grid_of buffer.old }
     ensures marks { OnOk result (HoldSame (marks_of I.whole marks.old.items
-        ++ flat_map (λ column. marks_of_border (pos_of (grid_of buffer.old) (column + 1)) (group_of buffer.old column) (group_of buffer.old (column + 1))) (range_with_len 0 (group_count (grid_of buffer.old) - 1)))
+        ++ flat_map (λ column. marks_of_border (pos_of (grid_of buffer.old) (column + 1)) (group_of buffer.old column)
+        (group_of buffer.old (column + 1))) (range_with_len 0 (group_count (grid_of buffer.old) - 1)))
         (marks_of I.whole marks.new.items)) }
     ensures looked { OnOk result (looked.new ≤ looked.old
-        + sum_by (λ column. looks_of_border (pos_of (grid_of buffer.old) (column + 1)) (group_of buffer.old column) (group_of buffer.old (column + 1))) (range_with_len 0 (group_count (grid_of buffer.old) - 1))) }
+        + sum_by (λ column. looks_of_border (pos_of (grid_of buffer.old) (column + 1)) (group_of buffer.old column)
+        (group_of buffer.old (column + 1))) (range_with_len 0 (group_count (grid_of buffer.old) - 1))) }
 {
     for column in 0..buffer.groups().len() - 1 {
         buffer.list_right_ends(column)?;
@@ -96,7 +99,8 @@ fn mark_heights<I: OverlayInt>(
 fn count_up_to<I: OverlayInt>(heights: &[I], top: I) -> usize
     requires { IsSorted I.cmp heights.now }
     ensures within { result ≤ length heights.now }
-    ensures parted { IsPartitionPoint (λ y. I.whole y ≤ℤ I.whole top) (λ y. I.whole top <ℤ I.whole y) heights.now result }
+    ensures parted { IsPartitionPoint (λ y. I.whole y ≤ℤ I.whole top)
+        (λ y. I.whole top <ℤ I.whole y) heights.now result }
 {
     heights.partition_point(|height| is_up_to(*height, top))
 }
@@ -105,7 +109,8 @@ fn count_up_to<I: OverlayInt>(heights: &[I], top: I) -> usize
 fn count_below<I: OverlayInt>(heights: &[I], top: I) -> usize
     requires { IsSorted I.cmp heights.now }
     ensures within { result ≤ length heights.now }
-    ensures parted { IsPartitionPoint (λ y. I.whole y <ℤ I.whole top) (λ y. I.whole top ≤ℤ I.whole y) heights.now result }
+    ensures parted { IsPartitionPoint (λ y. I.whole y <ℤ I.whole top)
+        (λ y. I.whole top ≤ℤ I.whole y) heights.now result }
 {
     heights.partition_point(|height| is_below(*height, top))
 }

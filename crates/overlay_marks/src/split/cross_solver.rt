@@ -24,9 +24,13 @@ use overlay_base::num::OverlayInt;
 /// Which ends of two segments on one line lie strictly inside the other segment.
 #[derive(Clone, Copy, Debug, PartialEq, Eq)]
 pub struct CollinearMask {
+    /// The target's first end.
     pub is_target_a: bool,
+    /// The target's second end.
     pub is_target_b: bool,
+    /// The other's first end.
     pub is_other_a: bool,
+    /// The other's second end.
     pub is_other_b: bool,
 }
 
@@ -67,7 +71,8 @@ impl CrossSolver {
         requires target_apart { (pair_of I.whole target.now).a ≢ (pair_of I.whole target.now).b }
         requires other_apart { (pair_of I.whole other.now).a ≢ (pair_of I.whole other.now).b }
         requires radius { pos 1 ≤ℤ radius_squared }
-        ensures { answer_of I.whole result ≡ cross_answer (snapping (unsigned_abs radius_squared)) (pair_of I.whole target.now) (pair_of I.whole other.now) }
+        ensures { answer_of I.whole result ≡ cross_answer (snapping (unsigned_abs radius_squared))
+            (pair_of I.whole target.now) (pair_of I.whole other.now) }
     {
         match contact_of(target, other) {
             Contact::Apart => None,
@@ -89,7 +94,8 @@ impl CrossSolver {
         requires other { IsPairInRange I.whole I.MIN_COORD I.MAX_COORD other.now }
         requires target_apart { (pair_of I.whole target.now).a ≢ (pair_of I.whole target.now).b }
         requires other_apart { (pair_of I.whole other.now).a ≢ (pair_of I.whole other.now).b }
-        ensures { answer_of I.whole result ≡ cross_answer settling (pair_of I.whole target.now) (pair_of I.whole other.now) }
+        ensures { answer_of I.whole result ≡ cross_answer settling (pair_of I.whole target.now)
+            (pair_of I.whole other.now) }
     {
         match contact_of(target, other) {
             Contact::Apart => None,
@@ -106,10 +112,14 @@ impl CrossSolver {
         requires target_apart { (pair_of I.whole target.now).a ≢ (pair_of I.whole target.now).b }
         requires other_apart { (pair_of I.whole other.now).a ≢ (pair_of I.whole other.now).b }
         requires line { IsTrue (are_collinear (pair_of I.whole target.now) (pair_of I.whole other.now)) }
-        ensures target_a { result.is_target_a ≡ is_strictly_inside (pair_of I.whole other.now) (point_of I.whole target.now.a) }
-        ensures target_b { result.is_target_b ≡ is_strictly_inside (pair_of I.whole other.now) (point_of I.whole target.now.b) }
-        ensures other_a { result.is_other_a ≡ is_strictly_inside (pair_of I.whole target.now) (point_of I.whole other.now.a) }
-        ensures other_b { result.is_other_b ≡ is_strictly_inside (pair_of I.whole target.now) (point_of I.whole other.now.b) }
+        ensures target_a { result.is_target_a ≡ is_strictly_inside (pair_of I.whole other.now)
+            (point_of I.whole target.now.a) }
+        ensures target_b { result.is_target_b ≡ is_strictly_inside (pair_of I.whole other.now)
+            (point_of I.whole target.now.b) }
+        ensures other_a { result.is_other_a ≡ is_strictly_inside (pair_of I.whole target.now)
+            (point_of I.whole other.now.a) }
+        ensures other_b { result.is_other_b ≡ is_strictly_inside (pair_of I.whole target.now)
+            (point_of I.whole other.now.b) }
         ensures number { number_of result ≡ ends_mask (pair_of I.whole target.now) (pair_of I.whole other.now) }
     {
         let a_past_a = past(other.a, target.a, other);
@@ -136,7 +146,8 @@ fn past<I: OverlayInt>(end: IntPoint<I>, point: IntPoint<I>, segment: &XSegment<
     requires end { IsPointInRange I.whole I.MIN_COORD I.MAX_COORD end }
     requires point { IsPointInRange I.whole I.MIN_COORD I.MAX_COORD point }
     requires segment { IsPairInRange I.whole I.MIN_COORD I.MAX_COORD segment.now }
-    ensures { result ≡ along (pair_of I.whole segment.now).a (pair_of I.whole segment.now).b (point_of I.whole end) (point_of I.whole point) }
+    ensures { result ≡ along (pair_of I.whole segment.now).a (pair_of I.whole segment.now).b (point_of I.whole end)
+        (point_of I.whole point) }
 {
     IntVector::between(end, point).dot_product(IntVector::between(segment.a, segment.b))
 }

@@ -18,7 +18,8 @@ pub fn look_through<I: OverlayInt>(
     ensures found { OnOk result (indexes.new.items
         ≡ indexes.old.items ++ found (query_of I.whole query.now) (entries (nodes_of I.whole nodes.now))) }
     ensures looked { OnOk result (looked.new
-        ≡ min (looked.old + count_by (is_taken_up (query_of I.whole query.now)) (entries (nodes_of I.whole nodes.now))) (2 ^ 128 - 1)) }
+        ≡ min (looked.old + count_by (is_taken_up (query_of I.whole query.now))
+        (entries (nodes_of I.whole nodes.now))) (2 ^ 128 - 1)) }
 {
     let _looked = *looked;
     for place in 0..nodes.len() {
@@ -38,7 +39,8 @@ fn look_at_one<I: OverlayInt>(
     ensures found { OnOk result (indexes.new.items
         ≡ indexes.old.items ++ found (query_of I.whole query.now) (entry_of I.whole node.now ∷ [])) }
     ensures looked { OnOk result (looked.new
-        ≡ min (looked.old + count_by (is_taken_up (query_of I.whole query.now)) (entry_of I.whole node.now ∷ [])) (2 ^ 128 - 1)) }
+        ≡ min (looked.old + count_by (is_taken_up (query_of I.whole query.now)) (entry_of I.whole node.now ∷ []))
+        (2 ^ 128 - 1)) }
 {
     let _looked = *looked;
     if !is_met(node, query) {

@@ -12,6 +12,7 @@ ghost use Rattle.overlay_marks.specs.MarkOf.{AreMarks, marks_of};
 ghost use Rattle.overlay_marks.specs.Looked.{grid_looks, pass_looks};
 ghost use Rattle.overlay_marks.specs.Grid.{IsInside, LieInside};
 ghost use Rattle.overlay_marks.specs.GroupsOf.{grid_in, grid_of};
+ghost use Rattle.overlay_marks.specs.FinderOf.{solver_in, layout_in, looks_in};
 ghost use Rattle.overlay_marks.specs.GridFor.{IsGridFor};
 
 use crate::split::fragment_buffer::FragmentBuffer;
@@ -55,9 +56,10 @@ impl<I: OverlayInt> PairFinder<I> {
         memory: &mut FragmentMemory<I>,
     ) -> Result<Self, Fault>
         requires { All (λ s. IsPairInRange I.whole I.MIN_COORD I.MAX_COORD (x_segment_of s)) first.now }
-        ensures solver { IfOk result (λ finder. finder.solver ≡ solver.now) }
-        ensures grid { IfOk result (λ finder. IsGridFor solver.now.strategy (segments_of first.now) (grid_in finder.grid)) }
-        ensures looked { IfOk result (λ finder. finder.looked ≡ 0) }
+        ensures solver { IfOk result (λ finder. solver_in finder ≡ solver.now) }
+        ensures grid { IfOk result (λ finder. IsGridFor solver.now.strategy (segments_of first.now)
+            (layout_in finder)) }
+        ensures looked { IfOk result (λ finder. looks_in finder ≡ 0) }
         ensures fault { IfErr result (λ fault. fault ≡ Memory) }
     {
         let grid = grid_over(alloc, solver, first, memory)?;
@@ -70,9 +72,9 @@ impl<I: OverlayInt> PairFinder<I> {
 
     /// Without a grid.
     pub fn without_grid(solver: &Solver) -> Self
-        ensures solver { result.solver ≡ solver.now }
-        ensures grid { grid_in result.grid ≡ None }
-        ensures looked { result.looked ≡ 0 }
+        ensures solver { solver_in result ≡ solver.now }
+        ensures grid { layout_in result ≡ None }
+        ensures looked { looks_in result ≡ 0 }
     {
         PairFinder {
             solver: *solver,
@@ -90,7 +92,7 @@ impl<I: OverlayInt> PairFinder<I> {
 
     /// How many pairs were taken up so far, up to `u128::MAX`.
     pub fn looked(&self) -> u128
-        ensures { result ≡ self.now.looked }
+        ensures { result ≡ looks_in self.now }
     {
         self.looked
     }
@@ -112,13 +114,14 @@ impl<I: OverlayInt> PairFinder<I> {
         requires sorted { IsSortedByKey ends_of pair_cmp segments.now }
         requires in_range { All (λ s. IsPairInRange I.whole I.MIN_COORD I.MAX_COORD (x_segment_of s)) segments.now }
         requires radius { HasRadius placing }
-        requires inside { LieInside (grid_in self.old.grid) (pairs (segments_of segments.now)) }
-        ensures solver { self.new.solver ≡ self.old.solver }
-        ensures grid { grid_in self.new.grid ≡ grid_in self.old.grid }
-        ensures marks { OnOk result (AreMarks (placing_of placing) (segments_of segments.now) (marks_of I.whole marks.new.items)) }
+        requires inside { LieInside (layout_in self.old) (pairs (segments_of segments.now)) }
+        ensures solver { solver_in self.new ≡ solver_in self.old }
+        ensures grid { layout_in self.new ≡ layout_in self.old }
+        ensures marks { OnOk result (AreMarks (placing_of placing) (segments_of segments.now)
+            (marks_of I.whole marks.new.items)) }
         ensures rounded { IfOk result (λ rounded. rounded ≡ is_rounded (segments_of segments.now)) }
-        ensures looked { IsFalse (list_splits self.old.solver.strategy (length segments.now)) →
-            OnOk result (self.new.looked ≤ self.old.looked + pass_looks (grid_in self.old.grid) (pairs (segments_of segments.now))) }
+        ensures looked { IsFalse (list_splits (solver_in self.old).strategy (length segments.now)) →
+            OnOk result (looks_in self.new ≤ looks_in self.old + pass_looks (layout_in self.old) (pairs (segments_of segments.now))) }
         ensures fault { IfErr result (λ fault. fault ≡ Memory) }
     {
         if self.solver.is_list_split(segments) {
@@ -178,9 +181,11 @@ fn find_over_grid<C: WindingCount, I: OverlayInt, D: Copy>(
     requires inside { All (λ s. IsInside (grid_of grid.old) (ends_of s)) segments.now }
     requires radius { HasRadius placing }
     ensures layout { grid_of grid.new ≡ grid_of grid.old }
-    ensures marks { OnOk result (AreMarks (placing_of placing) (segments_of segments.now) (marks_of I.whole marks.new.items)) }
+    ensures marks { OnOk result (AreMarks (placing_of placing) (segments_of segments.now)
+        (marks_of I.whole marks.new.items)) }
     ensures rounded { IfOk result (λ rounded. rounded ≡ is_rounded (segments_of segments.now)) }
-    ensures looked { OnOk result (looked.new ≤ looked.old + grid_looks (grid_of grid.old) (pairs (segments_of segments.now))) }
+    ensures looked { OnOk result (looked.new ≤ looked.old
+        + grid_looks (grid_of grid.old) (pairs (segments_of segments.now))) }
     ensures fault { IfErr result (λ fault. fault ≡ Memory) }
 {
     let fragments = count_fragments(segments, grid);

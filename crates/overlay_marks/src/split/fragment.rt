@@ -59,7 +59,8 @@ fn rect_between<I: OverlayInt>(p: IntPoint<I>, q: IntPoint<I>) -> IntRect<I>
 
 /// The lesser of two coordinates, then the greater.
 fn in_order<I: OverlayInt>(u: I, v: I) -> (I, I)
-    ensures { (I.whole result.0 ≡ int_min (I.whole u) (I.whole v)) × (I.whole result.1 ≡ int_max (I.whole u) (I.whole v)) }
+    ensures { (I.whole result.0 ≡ int_min (I.whole u) (I.whole v))
+        × (I.whole result.1 ≡ int_max (I.whole u) (I.whole v)) }
 {
     if v < u { (v, u) } else { (u, v) }
 }

@@ -1,10 +1,11 @@
 // The fragments of segments, column by column. Upstream: part of `split::grid_layout`.
-ghost use Rattle.std.specs.Prelude.{◌≡◌, ◌++◌, OnOk, length, map};
+ghost use Rattle.std.specs.Prelude.{◌≡◌, ◌++◌, OnOk, IsPermutation, length, map};
 ghost use Rattle.std.specs.Ordering.{int_eq};
 ghost use Rattle.overlay_marks.specs.Grid.{pos_of, group_count, fragments};
-ghost use Rattle.overlay_marks.specs.FragmentOf.{layout_of, fragments_of};
+ghost use Rattle.overlay_marks.specs.FragmentOf.{layout_of, fragments_of, IsSortedAlong};
 ghost use Rattle.overlay_marks.specs.steps.FragmentFinder.{heights_at};
 
+use crate::split::axis::Axis;
 use crate::split::fragment::Fragment;
 use crate::split::fragment_memory::{FragmentMemory, clear_groups, empty_groups};
 use crate::split::grid_layout::GridLayout;
@@ -25,13 +26,13 @@ pub struct FragmentBuffer<I: OverlayInt> {
 }
 
 impl<I: OverlayInt> FragmentBuffer<I> {
-    ghost use Rattle.std.specs.Prelude.{◌<◌, ◌+◌, ◌≤ℤ◌, IsPermutation, IsSorted, ◌++◌, [], ◌∷◌, ℕ, ◌==◌, IfOk, IfErr, OnOk, OnErr, if◌then◌else◌, map};
+    ghost use Rattle.std.specs.Prelude.{◌^◌, ◌<◌, ◌+◌, ◌≤ℤ◌, IsPermutation, IsSorted, ◌++◌, [], ◌∷◌, ℕ, ◌==◌, IfOk, IfErr, OnOk, OnErr, if◌then◌else◌, map};
     ghost use Rattle.overlay_base.specs.declared.segm.fault.Fault.TheVariants.{Memory};
     ghost use Rattle.overlay_base.specs.PairOf.{pair_of};
     ghost use Rattle.overlay_base.specs.InRange.{IsPairInRange};
-    ghost use Rattle.overlay_marks.specs.FragmentOf.{fragment_of, kept_in, Rises};
+    ghost use Rattle.overlay_marks.specs.FragmentOf.{fragment_of, kept_in, IsSortedAlong};
     ghost use Rattle.overlay_marks.specs.steps.FragmentFinder.{heights_at};
-    ghost use Rattle.overlay_marks.specs.GroupsOf.{group_of, grid_of};
+    ghost use Rattle.overlay_marks.specs.GroupsOf.{group_of, groups_of, grid_of};
 
     /// A buffer with one group for each column of a layout, all empty. Answers `Fault::Memory` where a growth is refused.
     pub fn new(alloc: Global, layout: GridLayout<I>) -> Result<Self, Fault>
@@ -77,9 +78,16 @@ impl<I: OverlayInt> FragmentBuffer<I> {
 
     /// The fragments that were added, column by column, in the order in which they were added or sorted.
     pub fn groups(&self) -> &[Vec<Fragment<I>>]
-        ensures { result.now ≡ self.now.groups.items }
+        ensures { result.now ≡ groups_of self.now }
     {
         &self.groups
+    }
+
+    /// How wide a column is.
+    pub(crate) fn column_width(&self) -> u64
+        ensures { result ≡ 2 ^ (grid_of self.now).power }
+    {
+        self.layout.column_width()
     }
 
     /// The left border of a column, of which there are more than its index.
@@ -102,7 +110,8 @@ impl<I: OverlayInt> FragmentBuffer<I> {
         requires { column + 1 < group_count (grid_of self.old) }
         ensures layout { self.new.layout ≡ self.old.layout }
         ensures groups { self.new.groups ≡ self.old.groups }
-        ensures ends { OnOk result (IsPermutation (heights_at (pos_of (grid_of self.old) (column + 1)) (group_of self.old column)) (map I.whole self.new.right_ends.items)) }
+        ensures ends { OnOk result (IsPermutation (heights_at (pos_of (grid_of self.old) (column + 1))
+            (group_of self.old column)) (map I.whole self.new.right_ends.items)) }
         ensures sorted { OnOk result (IsSorted I.cmp self.new.right_ends.items) }
     {
         let border = self.border(column + 1);
@@ -120,14 +129,14 @@ impl<I: OverlayInt> FragmentBuffer<I> {
         clear_groups(&mut self.groups);
     }
 
-    /// Sorts every group by the fragments' least `y`.
-    pub fn sort(&mut self)
+    /// Sorts every group by where the fragments begin along an axis.
+    pub fn sort(&mut self, axis: Axis)
         ensures layout { grid_of self.new ≡ grid_of self.old }
         ensures permutation { (column : ℕ) → IsPermutation (group_of self.old column) (group_of self.new column) }
-        ensures rises { (column : ℕ) → Rises (group_of self.new column) }
+        ensures sorted { (column : ℕ) → IsSortedAlong axis (group_of self.new column) }
     {
         for column in 0..self.groups.len() {
-            self.groups[column].sort_unstable_by_key(|fragment| fragment.rect.min_y);
+            sort_along(&mut self.groups[column], axis);
         }
     }
 
@@ -142,7 +151,8 @@ impl<I: OverlayInt> FragmentBuffer<I> {
         requires from { (grid_of self.old).min_x ≤ℤ I.whole x_segment.a.x }
         requires to { I.whole x_segment.b.x ≤ℤ (grid_of self.old).max_x }
         ensures layout { grid_of self.new ≡ grid_of self.old }
-        ensures added { OnOk result ((column : ℕ) → group_of self.new column ≡ group_of self.old column ++ kept_in (grid_of self.old) index (pair_of I.whole x_segment) column) }
+        ensures added { OnOk result ((column : ℕ) → group_of self.new column ≡ group_of self.old column
+            ++ kept_in (grid_of self.old) index (pair_of I.whole x_segment) column) }
         ensures emptied { OnErr result ((column : ℕ) → group_of self.new column ≡ []) }
         ensures fault { IfErr result (λ fault. fault ≡ Memory) }
     {
@@ -174,7 +184,8 @@ impl<I: OverlayInt> FragmentBuffer<I> {
         requires from { (grid_of self.old).min_x ≤ℤ I.whole x_segment.a.x }
         requires to { I.whole x_segment.b.x ≤ℤ (grid_of self.old).max_x }
         ensures layout { grid_of self.new ≡ grid_of self.old }
-        ensures added { OnOk result ((column : ℕ) → group_of self.new column ≡ group_of self.old column ++ kept_in (grid_of self.old) index (pair_of I.whole x_segment) column) }
+        ensures added { OnOk result ((column : ℕ) → group_of self.new column ≡ group_of self.old column
+            ++ kept_in (grid_of self.old) index (pair_of I.whole x_segment) column) }
     {
         let is_vertical = !x_segment.is_not_vertical();
         let XSegment { a, b } = x_segment;
@@ -207,10 +218,22 @@ impl<I: OverlayInt> FragmentBuffer<I> {
     fn insert(&mut self, column: usize, fragment: Fragment<I>) -> Result<(), AllocError>
         requires { column < length self.old.groups.items }
         ensures layout { grid_of self.new ≡ grid_of self.old }
-        ensures added { OnOk result ((other : ℕ) → group_of self.new other ≡ group_of self.old other ++ (if column == other then fragment_of I.whole fragment ∷ [] else [])) }
+        ensures added { OnOk result ((other : ℕ) → group_of self.new other ≡ group_of self.old other
+            ++ (if column == other then fragment_of I.whole fragment ∷ [] else [])) }
     {
         self.groups[column].push(fragment)?;
         Ok(())
+    }
+}
+
+/// Sorts fragments by where they begin along an axis.
+fn sort_along<I: OverlayInt>(group: &mut Vec<Fragment<I>>, axis: Axis)
+    ensures permutation { IsPermutation group.old.items group.new.items }
+    ensures sorted { IsSortedAlong axis (fragments_of I.whole group.new.items) }
+{
+    match axis {
+        Axis::X => group.sort_unstable_by_key(|fragment| fragment.rect.min_x),
+        Axis::Y => group.sort_unstable_by_key(|fragment| fragment.rect.min_y),
     }
 }
 
@@ -220,7 +243,8 @@ fn push_right_ends<I: OverlayInt>(
     x: I,
     right_ends: &mut Vec<I>,
 ) -> Result<(), AllocError>
-    ensures { OnOk result (map I.whole right_ends.new.items ≡ map I.whole right_ends.old.items ++ heights_at (I.whole x) (fragments_of I.whole group.now)) }
+    ensures { OnOk result (map I.whole right_ends.new.items ≡ map I.whole right_ends.old.items
+        ++ heights_at (I.whole x) (fragments_of I.whole group.now)) }
 {
     for index in 0..group.len() {
         let fragment = group[index];

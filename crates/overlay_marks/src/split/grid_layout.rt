@@ -55,7 +55,8 @@ impl<I: OverlayInt> GridLayout<I> {
     pub fn over_list<C: WindingCount, D: Copy>(segments: &[Segment<C, I, D>]) -> Option<Self>
         requires some { 0 < length segments.now }
         requires in_range { All (λ s. IsPairInRange I.whole I.MIN_COORD I.MAX_COORD (x_segment_of s)) segments.now }
-        ensures layout { IfSome result (λ l. IsLayoutOf (pairs (segments_of segments.now)) (length segments.now) (layout_of l)) }
+        ensures layout { IfSome result (λ l. IsLayoutOf (pairs (segments_of segments.now)) (length segments.now)
+            (layout_of l)) }
         ensures none { IfNone result (IsTooNarrow (pairs (segments_of segments.now))) }
     {
         let XSegment { a, b } = segments[0].x_segment();
@@ -90,8 +91,8 @@ impl<I: OverlayInt> GridLayout<I> {
 
     /// The column in which an `x` lies, from 0. The `x` has to lie from the least of the grid to the greatest.
     pub fn index(&self, x: I) -> usize
-        requires from { I.whole self.now.min_x ≤ℤ I.whole x }
-        requires to { I.whole x ≤ℤ I.whole self.now.max_x }
+        requires from { (layout_of self.now).min_x ≤ℤ I.whole x }
+        requires to { I.whole x ≤ℤ (layout_of self.now).max_x }
         ensures { result ≡ column_index (layout_of self.now) (I.whole x) }
     {
         let offset = (x.to_wide() - self.min_x.to_wide()) as usize;
@@ -100,8 +101,8 @@ impl<I: OverlayInt> GridLayout<I> {
 
     /// The column of the whole number before an `x`, which has to lie above the least of the grid, up to the greatest.
     pub fn index_before(&self, x: I) -> usize
-        requires from { I.whole self.now.min_x <ℤ I.whole x }
-        requires to { I.whole x ≤ℤ I.whole self.now.max_x }
+        requires from { (layout_of self.now).min_x <ℤ I.whole x }
+        requires to { I.whole x ≤ℤ (layout_of self.now).max_x }
         ensures { result ≡ column_index (layout_of self.now) (I.whole x -ℤ pos 1) }
     {
         let offset = (x.to_wide() - 1 - self.min_x.to_wide()) as usize;
@@ -113,6 +114,13 @@ impl<I: OverlayInt> GridLayout<I> {
         ensures { result ≡ group_count (layout_of self.now) }
     {
         self.index(self.max_x) + 1
+    }
+
+    /// How wide a column is.
+    pub(crate) fn column_width(&self) -> u64
+        ensures { result ≡ 2 ^ (layout_of self.now).power }
+    {
+        1 << self.power
     }
 
     /// The left border of a column, whose index may be at most that of the greatest `x`.

@@ -47,7 +47,8 @@ pub fn look_up<I: OverlayInt>(
     ensures found { OnOk result (indexes.new.items
         ≡ indexes.old.items ++ found (query_of I.whole query.now) (entries (nodes_of I.whole nodes.old))) }
     ensures looked { OnOk result (looked.new
-        ≡ min (looked.old + count_by (is_taken_up (query_of I.whole query.now)) (entries (nodes_of I.whole nodes.old))) (2 ^ 128 - 1)) }
+        ≡ min (looked.old + count_by (is_taken_up (query_of I.whole query.now))
+        (entries (nodes_of I.whole nodes.old))) (2 ^ 128 - 1)) }
     ensures dropped { IfOk result (λ dropped. dropped
         ≡ list_any (is_dropped (query_of I.whole query.now)) (entries (nodes_of I.whole nodes.old))) }
 {
@@ -75,7 +76,8 @@ fn look_into<I: OverlayInt>(
     ensures found { OnOk result (indexes.new.items
         ≡ indexes.old.items ++ found (query_of I.whole query.now) (entries (nodes_of I.whole nodes.old))) }
     ensures looked { OnOk result (looked.new
-        ≡ min (looked.old + count_by (is_taken_up (query_of I.whole query.now)) (entries (nodes_of I.whole nodes.old))) (2 ^ 128 - 1)) }
+        ≡ min (looked.old + count_by (is_taken_up (query_of I.whole query.now))
+        (entries (nodes_of I.whole nodes.old))) (2 ^ 128 - 1)) }
     ensures dropped { IfOk result (λ dropped. dropped
         ≡ list_any (is_dropped (query_of I.whole query.now)) (entries (nodes_of I.whole nodes.old))) }
 {
@@ -120,13 +122,16 @@ fn look_at<I: OverlayInt>(
     looked: &mut u128,
 ) -> Result<bool, AllocError>
     requires low { IsFalse (int_lt (I.whole query.now.heights.max) (I.whole node.old.low)) }
-    ensures entry { OnOk result (entry_of I.whole node.new ≡ left_by (query_of I.whole query.now) (entry_of I.whole node.old)) }
+    ensures entry { OnOk result (entry_of I.whole node.new
+        ≡ left_by (query_of I.whole query.now) (entry_of I.whole node.old)) }
     ensures greatest { OnOk result (node.new.greatest ≡ node.old.greatest) }
     ensures found { OnOk result (indexes.new.items
         ≡ indexes.old.items ++ found (query_of I.whole query.now) (entry_of I.whole node.old ∷ [])) }
     ensures looked { OnOk result (looked.new
-        ≡ min (looked.old + count_by (is_taken_up (query_of I.whole query.now)) (entry_of I.whole node.old ∷ [])) (2 ^ 128 - 1)) }
-    ensures dropped { IfOk result (λ dropped. dropped ≡ is_dropped (query_of I.whole query.now) (entry_of I.whole node.old)) }
+        ≡ min (looked.old + count_by (is_taken_up (query_of I.whole query.now)) (entry_of I.whole node.old ∷ []))
+        (2 ^ 128 - 1)) }
+    ensures dropped { IfOk result (λ dropped. dropped ≡ is_dropped (query_of I.whole query.now)
+        (entry_of I.whole node.old)) }
 {
     let _looked = *looked;
     if !node.is_live || node.high < query.heights.min {
@@ -148,7 +153,8 @@ pub fn insert<I: OverlayInt>(nodes: &mut [Node<I>], low: I, high: I, index: usiz
     requires low { AllByRecursion (IsAt index (I.whole low)) (entries (nodes_of I.whole nodes.old)) }
     requires high { AllByRecursion (IsUpTo index (I.whole high)) (entries (nodes_of I.whole nodes.old)) }
     requires there { list_any (λ e. e.index == index) (entries (nodes_of I.whole nodes.old)) ≡ true }
-    ensures entries { entries (nodes_of I.whole nodes.new) ≡ map (inserted index) (entries (nodes_of I.whole nodes.old)) }
+    ensures entries { entries (nodes_of I.whole nodes.new)
+        ≡ map (inserted index) (entries (nodes_of I.whole nodes.old)) }
     ensures summed { IsSummed (nodes_of I.whole nodes.new) }
 {
     let (left, rest) = nodes.split_at_mut(nodes.len() / 2);
@@ -168,7 +174,8 @@ pub fn insert<I: OverlayInt>(nodes: &mut [Node<I>], low: I, high: I, index: usiz
 /// Raises the greatest height of a root to that of an entry that is to be live in its subtree.
 fn raise<I: OverlayInt>(root: &mut Node<I>, high: I)
     ensures entry { entry_of I.whole root.new ≡ entry_of I.whole root.old }
-    ensures greatest { greatest_of I.whole root.new.greatest ≡ further (greatest_of I.whole root.old.greatest) (Some (I.whole high)) }
+    ensures greatest { greatest_of I.whole root.new.greatest
+        ≡ further (greatest_of I.whole root.old.greatest) (Some (I.whole high)) }
 {
     root.greatest = further(root.greatest, Some(high));
 }
@@ -207,7 +214,8 @@ fn update_greatest<I: OverlayInt>(left: &[Node<I>], root: &mut Node<I>, right: &
     requires right { IsSummed (nodes_of I.whole right.now) }
     ensures entry { entry_of I.whole root.new ≡ entry_of I.whole root.old }
     ensures greatest { greatest_of I.whole root.new.greatest
-        ≡ greatest_height (entries (nodes_of I.whole left.now) ++ entry_of I.whole root.old ∷ entries (nodes_of I.whole right.now)) }
+        ≡ greatest_height (entries (nodes_of I.whole left.now)
+        ++ entry_of I.whole root.old ∷ entries (nodes_of I.whole right.now)) }
 {
     let own = if root.is_live { Some(root.high) } else { None };
     root.greatest = further(greatest_in(left), further(own, greatest_in(right)));

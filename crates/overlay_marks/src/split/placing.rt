@@ -32,7 +32,8 @@ impl Placing {
         requires other { IsPairInRange I.whole I.MIN_COORD I.MAX_COORD other.now }
         requires target_apart { (pair_of I.whole target.now).a ≢ (pair_of I.whole target.now).b }
         requires other_apart { (pair_of I.whole other.now).a ≢ (pair_of I.whole other.now).b }
-        ensures { answer_of I.whole result ≡ cross_answer (placing_of self) (pair_of I.whole target.now) (pair_of I.whole other.now) }
+        ensures { answer_of I.whole result ≡ cross_answer (placing_of self) (pair_of I.whole target.now)
+            (pair_of I.whole other.now) }
     {
         match self {
             Placing::Snapping { radius_squared } => CrossSolver::cross(

@@ -21,8 +21,10 @@ pub fn heights_at<I: OverlayInt>(segment: &XSegment<I>, x: I) -> Heights<I>
     requires forward { I.whole segment.now.a.x <ℤ I.whole segment.now.b.x }
     requires from { I.whole segment.now.a.x ≤ℤ I.whole x }
     requires to { I.whole x ≤ℤ I.whole segment.now.b.x }
-    ensures near { I.whole result.near ≡ toward (pair_of I.whole segment.now) (least_rise (pair_of I.whole segment.now) (I.whole x)) }
-    ensures far { I.whole result.far ≡ toward (pair_of I.whole segment.now) (greatest_rise (pair_of I.whole segment.now) (I.whole x)) }
+    ensures near { I.whole result.near ≡ toward (pair_of I.whole segment.now)
+        (least_rise (pair_of I.whole segment.now) (I.whole x)) }
+    ensures far { I.whole result.far ≡ toward (pair_of I.whole segment.now)
+        (greatest_rise (pair_of I.whole segment.now) (I.whole x)) }
 {
     let width = difference(segment.a.x, segment.b.x);
     let height = difference(segment.a.y, segment.b.y);

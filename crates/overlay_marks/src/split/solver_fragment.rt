@@ -1,7 +1,6 @@
 // The finder that looks at fragments of segments, column by column of a grid. Upstream: `split::solver_fragment`.
-ghost use Rattle.std.specs.Prelude.{◌≡◌, ◌≢◌, ◌^◌, min, ◌<◌, ◌≤◌, ◌+◌, ◌-◌, ◌++◌, ℕ, All, IsTrue, IfErr, IfOk, OnOk, IsSortedByKey, drop, length, int_le, flat_map, sum_by, ◌≤ℤ◌, ◌<ℤ◌};
+ghost use Rattle.std.specs.Prelude.{◌≡◌, ◌≢◌, ◌^◌, min, ◌<◌, ◌≤◌, ◌+◌, ◌-◌, ◌++◌, ℕ, All, IsTrue, IfErr, IfOk, OnOk, IsSortedByKey, drop, length, int_le, int_lt, ◌&&◌, flat_map, sum_by};
 ghost use Rattle.std.specs.List.{AllByRecursion, list_any, range_with_len};
-ghost use Rattle.std.specs.List.Sorted.{IsPartitionPoint};
 ghost use Rattle.overlay_base.specs.declared.segm.fault.Fault.TheVariants.{Memory};
 ghost use Rattle.overlay_base.specs.Points.{pair_lt};
 ghost use Rattle.overlay_base.specs.Segments.{pairs};
@@ -12,11 +11,12 @@ ghost use Rattle.overlay_marks.specs.Looked.{all_fragments, fragment_looks};
 ghost use Rattle.overlay_marks.specs.PassMarks.{is_rounded};
 ghost use Rattle.overlay_marks.specs.PlacingOf.{placing_of, HasRadius};
 ghost use Rattle.overlay_marks.specs.MarkOf.{AreMarks, marks_of};
-ghost use Rattle.overlay_marks.specs.FragmentOf.{fragment_of, fragments_of, Rises};
+ghost use Rattle.overlay_marks.specs.FragmentOf.{fragment_of, fragments_of, least_along, greatest_along, IsSortedAlong};
 ghost use Rattle.overlay_marks.specs.GroupsOf.{group_in, group_of, grid_of};
 ghost use Rattle.overlay_marks.specs.steps.FragmentFinder.{is_ready, kept_group, marks_of_two, marks_with_first, marks_of_group, meet_inexactly, is_first_rounded, is_group_rounded, looks_of_first, looks_of_group};
 ghost use Rattle.overlay_marks.specs.Grid.{IsInside};
 
+use crate::split::axis::{Axis, Extents};
 use crate::split::border_contacts::mark_borders;
 use crate::split::fragment::Fragment;
 use crate::split::fragment_buffer::FragmentBuffer;
@@ -57,8 +57,9 @@ pub fn find_marks<C: WindingCount, I: OverlayInt, D: Copy>(
 {
     marks.clear();
     fill(segments, buffer)?;
-    buffer.sort();
-    let rounded = mark_columns(buffer.groups(), placing, marks, looked)?;
+    let axis = axis_of(segments, buffer);
+    buffer.sort(axis);
+    let rounded = mark_columns(buffer.groups(), axis, placing, marks, looked)?;
     mark_borders(buffer, marks, looked)?;
     marks.sort()?;
     marks.dedup();
@@ -71,7 +72,8 @@ pub fn count_fragments<C: WindingCount, I: OverlayInt, D: Copy>(
     buffer: &FragmentBuffer<I>,
 ) -> u128
     requires { All (λ s. IsInside (grid_of buffer.now) (ends_of s)) segments.now }
-    ensures { result ≡ min (length (all_fragments (grid_of buffer.now) (pairs (segments_of segments.now)))) (2 ^ 128 - 1) }
+    ensures { result ≡ min (length (all_fragments (grid_of buffer.now) (pairs (segments_of segments.now))))
+        (2 ^ 128 - 1) }
 {
     let mut count = 0_u128;
     for index in 0..segments.len() {
@@ -89,7 +91,8 @@ fn fill<C: WindingCount, I: OverlayInt, D: Copy>(
     requires in_range { All (λ s. IsPairInRange I.whole I.MIN_COORD I.MAX_COORD (x_segment_of s)) segments.now }
     requires inside { All (λ s. IsInside (grid_of buffer.old) (ends_of s)) segments.now }
     ensures layout { grid_of buffer.new ≡ grid_of buffer.old }
-    ensures groups { OnOk result ((column : ℕ) → group_of buffer.new column ≡ kept_group (grid_of buffer.old) 0 (pairs (segments_of segments.now)) column) }
+    ensures groups { OnOk result ((column : ℕ) → group_of buffer.new column
+        ≡ kept_group (grid_of buffer.old) 0 (pairs (segments_of segments.now)) column) }
     ensures fault { IfErr result (λ fault. fault ≡ Memory) }
 {
     buffer.clear();
@@ -99,26 +102,45 @@ fn fill<C: WindingCount, I: OverlayInt, D: Copy>(
     Ok(())
 }
 
+/// The axis along which fewer fragments of a column meet, as far as the extents of all segments tell: their heights beside
+/// the range of all heights, and their widths beside that of a column. It decides the time that a pass takes, and nothing
+/// else.
+fn axis_of<C: WindingCount, I: OverlayInt, D: Copy>(
+    segments: &[Segment<C, I, D>],
+    buffer: &FragmentBuffer<I>,
+) -> Axis {
+    let mut extents = Extents::new();
+    for segment in segments.iter() {
+        extents.add(&segment.x_segment());
+    }
+    extents.axis(buffer.column_width())
+}
+
 /// Appends the marks that segments put on one another of which two fragments meet in some column, and answers whether
-/// some two of these cross at a point without whole coordinates. The groups have to be sorted by the fragments' least `y`.
+/// some two of these cross at a point without whole coordinates. The groups have to be sorted along the axis.
 fn mark_columns<I: OverlayInt>(
     groups: &[Vec<Fragment<I>>],
+    axis: Axis,
     placing: Placing,
     marks: &mut Vec<LineMark<I>>,
     looked: &mut u128,
 ) -> Result<bool, AllocError>
     requires radius { HasRadius placing }
-    requires ready { (column : ℕ) → AllByRecursion (λ f. IsTrue (is_ready (I.whole I.MIN_COORD) (I.whole I.MAX_COORD) f)) (group_in I.whole groups.now column) }
-    requires rises { (column : ℕ) → Rises (group_in I.whole groups.now column) }
+    requires ready { (column : ℕ) → AllByRecursion (λ f. IsTrue
+        (is_ready (I.whole I.MIN_COORD) (I.whole I.MAX_COORD) f)) (group_in I.whole groups.now column) }
+    requires sorted { (column : ℕ) → IsSortedAlong axis (group_in I.whole groups.now column) }
     ensures marks { OnOk result (marks_of I.whole marks.new.items ≡ marks_of I.whole marks.old.items
-        ++ flat_map (λ column. marks_of_group (placing_of placing) (group_in I.whole groups.now column)) (range_with_len 0 (length groups.now))) }
-    ensures rounded { IfOk result (λ rounded. rounded ≡ list_any (λ column. is_group_rounded (group_in I.whole groups.now column)) (range_with_len 0 (length groups.now))) }
+        ++ flat_map (λ column. marks_of_group (placing_of placing) (group_in I.whole groups.now column))
+        (range_with_len 0 (length groups.now))) }
+    ensures rounded { IfOk result (λ rounded. rounded ≡ list_any
+        (λ column. is_group_rounded (group_in I.whole groups.now column)) (range_with_len 0 (length groups.now))) }
     ensures looked { OnOk result (looked.new ≤ looked.old
-        + sum_by (λ column. looks_of_group (group_in I.whole groups.now column)) (range_with_len 0 (length groups.now))) }
+        + sum_by (λ column. looks_of_group (group_in I.whole groups.now column))
+        (range_with_len 0 (length groups.now))) }
 {
     let mut rounded = false;
     for column in 0..groups.len() {
-        if mark_group(groups[column].as_slice(), placing, marks, looked)? {
+        if mark_group(groups[column].as_slice(), axis, placing, marks, looked)? {
             rounded = true;
         }
     }
@@ -126,77 +148,87 @@ fn mark_columns<I: OverlayInt>(
 }
 
 /// Appends the marks that segments put on one another of which two fragments in a group meet, and answers whether some
-/// two of these cross at a point without whole coordinates. The group has to be sorted by the fragments' least `y`.
+/// two of these cross at a point without whole coordinates. The group has to be sorted along the axis.
 fn mark_group<I: OverlayInt>(
     group: &[Fragment<I>],
+    axis: Axis,
     placing: Placing,
     marks: &mut Vec<LineMark<I>>,
     looked: &mut u128,
 ) -> Result<bool, AllocError>
     requires radius { HasRadius placing }
-    requires ready { AllByRecursion (λ f. IsTrue (is_ready (I.whole I.MIN_COORD) (I.whole I.MAX_COORD) f)) (fragments_of I.whole group.now) }
-    requires rises { Rises (fragments_of I.whole group.now) }
-    ensures marks { OnOk result (marks_of I.whole marks.new.items ≡ marks_of I.whole marks.old.items ++ marks_of_group (placing_of placing) (fragments_of I.whole group.now)) }
+    requires ready { AllByRecursion (λ f. IsTrue (is_ready (I.whole I.MIN_COORD) (I.whole I.MAX_COORD) f))
+        (fragments_of I.whole group.now) }
+    requires sorted { IsSortedAlong axis (fragments_of I.whole group.now) }
+    ensures marks { OnOk result (marks_of I.whole marks.new.items ≡ marks_of I.whole marks.old.items
+        ++ marks_of_group (placing_of placing) (fragments_of I.whole group.now)) }
     ensures rounded { IfOk result (λ rounded. rounded ≡ is_group_rounded (fragments_of I.whole group.now)) }
     ensures looked { OnOk result (looked.new ≤ looked.old + looks_of_group (fragments_of I.whole group.now)) }
 {
     let mut rounded = false;
     for first in 0..group.len() {
-        if mark_with_rest(group, first, placing, marks, looked)? {
+        if mark_with_rest(group, first, axis, placing, marks, looked)? {
             rounded = true;
         }
     }
     Ok(rounded)
 }
 
-/// The same of one fragment and those that follow it, up to the first that lies above it.
+/// The same of one fragment and those that follow it, up to the first that begins past its end along the axis. Those are
+/// taken up whose heights meet.
 fn mark_with_rest<I: OverlayInt>(
     group: &[Fragment<I>],
     first: usize,
+    axis: Axis,
     placing: Placing,
     marks: &mut Vec<LineMark<I>>,
     looked: &mut u128,
 ) -> Result<bool, AllocError>
     requires first { first < length group.now }
     requires radius { HasRadius placing }
-    requires ready { AllByRecursion (λ f. IsTrue (is_ready (I.whole I.MIN_COORD) (I.whole I.MAX_COORD) f)) (fragments_of I.whole group.now) }
-    requires rises { Rises (fragments_of I.whole group.now) }
+    requires ready { AllByRecursion (λ f. IsTrue (is_ready (I.whole I.MIN_COORD) (I.whole I.MAX_COORD) f))
+        (fragments_of I.whole group.now) }
+    requires sorted { IsSortedAlong axis (fragments_of I.whole group.now) }
     ensures marks { OnOk result (marks_of I.whole marks.new.items ≡ marks_of I.whole marks.old.items
         ++ marks_with_first (placing_of placing) (drop first (fragments_of I.whole group.now))) }
-    ensures rounded { IfOk result (λ rounded. rounded ≡ is_first_rounded (drop first (fragments_of I.whole group.now))) }
+    ensures rounded { IfOk result (λ rounded. rounded ≡ is_first_rounded
+        (drop first (fragments_of I.whole group.now))) }
     ensures looked { OnOk result (looked.new ≤ looked.old + looks_of_first (drop first (fragments_of I.whole group.now))) }
 {
     let fragment = group[first];
-    let end = first_above(group, &fragment);
     let mut rounded = false;
     // a count of its own, so that no look is written through the reference
     let mut looks = *looked;
-    for later in first + 1..end {
+    for later in first + 1..group.len() {
         let other = group[later];
-        take_up(&mut looks);
-        if mark_two(&fragment, &other, placing, marks)? {
-            rounded = true;
+        if begins_past(&other, &fragment, axis) {
+            break;
+        }
+        if share_heights(&fragment, &other) {
+            take_up(&mut looks);
+            if mark_two(&fragment, &other, placing, marks)? {
+                rounded = true;
+            }
         }
     }
     *looked = looks;
     Ok(rounded)
 }
 
-/// The place of the first fragment of a group that lies above another. The group has to be sorted by the fragments' least
-/// `y`.
-fn first_above<I: OverlayInt>(group: &[Fragment<I>], fragment: &Fragment<I>) -> usize
-    requires { Rises (fragments_of I.whole group.now) }
-    ensures within { result ≤ length group.now }
-    ensures parted { IsPartitionPoint (λ f. I.whole f.rect.min_y ≤ℤ I.whole fragment.now.rect.max_y) (λ f. I.whole fragment.now.rect.max_y <ℤ I.whole f.rect.min_y) group.now result }
+/// Whether a fragment begins past the end of another along an axis.
+fn begins_past<I: OverlayInt>(other: &Fragment<I>, fragment: &Fragment<I>, axis: Axis) -> bool
+    ensures { result ≡ int_lt (greatest_along axis (fragment_of I.whole fragment.now))
+        (least_along axis (fragment_of I.whole other.now)) }
 {
-    group.partition_point(|other| begins_within(other, fragment))
+    axis.greatest(&fragment.rect) < axis.least(&other.rect)
 }
 
-/// Whether a fragment begins no higher than another ends.
-fn begins_within<I: OverlayInt>(other: &Fragment<I>, fragment: &Fragment<I>) -> bool
-    ensures { result ≡ int_le (I.whole other.now.rect.min_y) (I.whole fragment.now.rect.max_y) }
+/// Whether the heights of two fragments meet, each from its least `y` to its greatest.
+fn share_heights<I: OverlayInt>(fragment: &Fragment<I>, other: &Fragment<I>) -> bool
+    ensures { result ≡ (int_le (I.whole fragment.now.rect.min_y) (I.whole other.now.rect.max_y)
+        && int_le (I.whole other.now.rect.min_y) (I.whole fragment.now.rect.max_y)) }
 {
-    other.rect.min_y <= fragment.rect.max_y
+    fragment.rect.min_y <= other.rect.max_y && other.rect.min_y <= fragment.rect.max_y
 }
 
 /// Appends the marks that the segments of two fragments put on one another, if the rectangles meet, and answers whether
@@ -212,8 +244,10 @@ fn mark_two<I: OverlayInt>(
     requires other { IsPairInRange I.whole I.MIN_COORD I.MAX_COORD other.now.x_segment }
     requires fragment_apart { (pair_of I.whole fragment.now.x_segment).a ≢ (pair_of I.whole fragment.now.x_segment).b }
     requires other_apart { (pair_of I.whole other.now.x_segment).a ≢ (pair_of I.whole other.now.x_segment).b }
-    ensures marks { OnOk result (marks_of I.whole marks.new.items ≡ marks_of I.whole marks.old.items ++ marks_of_two (placing_of placing) (fragment_of I.whole fragment.now) (fragment_of I.whole other.now)) }
-    ensures rounded { IfOk result (λ rounded. rounded ≡ meet_inexactly (fragment_of I.whole fragment.now) (fragment_of I.whole other.now)) }
+    ensures marks { OnOk result (marks_of I.whole marks.new.items ≡ marks_of I.whole marks.old.items
+        ++ marks_of_two (placing_of placing) (fragment_of I.whole fragment.now) (fragment_of I.whole other.now)) }
+    ensures rounded { IfOk result (λ rounded. rounded ≡ meet_inexactly (fragment_of I.whole fragment.now)
+        (fragment_of I.whole other.now)) }
 {
     if !fragment.rect.is_intersect_border_include(&other.rect) {
         return Ok(false);

@@ -52,7 +52,8 @@ pub fn find_marks<C: WindingCount, I: OverlayInt, D: Copy>(
     requires sorted { IsSortedByKey ends_of pair_cmp segments.now }
     requires in_range { All (λ s. IsPairInRange I.whole I.MIN_COORD I.MAX_COORD (x_segment_of s)) segments.now }
     requires radius { HasRadius placing }
-    ensures marks { OnOk result (AreMarks (placing_of placing) (segments_of segments.now) (marks_of I.whole marks.new.items)) }
+    ensures marks { OnOk result (AreMarks (placing_of placing) (segments_of segments.now)
+        (marks_of I.whole marks.new.items)) }
     ensures rounded { IfOk result (λ rounded. rounded ≡ is_rounded (segments_of segments.now)) }
     ensures looked { OnOk result (looked.new
         ≡ min (looked.old + count_twos x_ranges_meet (pairs (segments_of segments.now))) (2 ^ 128 - 1)) }
@@ -84,8 +85,10 @@ fn mark_with_later<C: WindingCount, I: OverlayInt, D: Copy>(
     requires sorted { IsSortedByKey ends_of pair_cmp segments.now }
     requires in_range { All (λ s. IsPairInRange I.whole I.MIN_COORD I.MAX_COORD (x_segment_of s)) segments.now }
     requires radius { HasRadius placing }
-    ensures marks { OnOk result (marks_of I.whole marks.new.items ≡ marks_of I.whole marks.old.items ++ marks_of_first (placing_of placing) index (drop index (pairs (segments_of segments.now)))) }
-    ensures rounded { IfOk result (λ rounded. rounded ≡ first_crosses_inexactly (drop index (pairs (segments_of segments.now)))) }
+    ensures marks { OnOk result (marks_of I.whole marks.new.items ≡ marks_of I.whole marks.old.items
+        ++ marks_of_first (placing_of placing) index (drop index (pairs (segments_of segments.now)))) }
+    ensures rounded { IfOk result (λ rounded. rounded ≡ first_crosses_inexactly
+        (drop index (pairs (segments_of segments.now)))) }
     ensures looked { OnOk result (looked.new ≡
         (let ps = pairs (segments_of segments.now) in
         min (looked.old + count_by (x_ranges_meet (pair_at ps index)) (drop (index + 1) ps)) (2 ^ 128 - 1))) }
@@ -131,7 +134,8 @@ pub(crate) fn mark_both<I: OverlayInt>(
     requires order { IsFalse (pair_lt (pair_of I.whole second.x_segment) (pair_of I.whole first.x_segment)) }
     ensures marks { OnOk result (marks_of I.whole marks.new.items ≡ marks_of I.whole marks.old.items
         ++ marks_between (placing_of placing) first.index (pair_of I.whole first.x_segment) second.index (pair_of I.whole second.x_segment)) }
-    ensures rounded { IfOk result (λ rounded. rounded ≡ cross_inexactly (pair_of I.whole first.x_segment) (pair_of I.whole second.x_segment)) }
+    ensures rounded { IfOk result (λ rounded. rounded ≡ cross_inexactly (pair_of I.whole first.x_segment)
+        (pair_of I.whole second.x_segment)) }
 {
     let Some(result) = placing.meet(&first.x_segment, &second.x_segment) else {
         return Ok(false);
@@ -178,7 +182,8 @@ fn mark_if<I: OverlayInt>(
     point: IntPoint<I>,
     marks: &mut Vec<LineMark<I>>,
 ) -> Result<(), AllocError>
-    ensures { OnOk result (marks_of I.whole marks.new.items ≡ marks_of I.whole marks.old.items ++ (if is_inside then marks_at index (point_of I.whole point ∷ []) else [])) }
+    ensures { OnOk result (marks_of I.whole marks.new.items ≡ marks_of I.whole marks.old.items
+        ++ (if is_inside then marks_at index (point_of I.whole point ∷ []) else [])) }
 {
     if is_inside {
         mark(index, point, marks)
@@ -192,7 +197,8 @@ pub(crate) fn mark<I: OverlayInt>(
     point: IntPoint<I>,
     marks: &mut Vec<LineMark<I>>,
 ) -> Result<(), AllocError>
-    ensures { OnOk result (marks_of I.whole marks.new.items ≡ marks_of I.whole marks.old.items ++ marks_at index (point_of I.whole point ∷ [])) }
+    ensures { OnOk result (marks_of I.whole marks.new.items ≡ marks_of I.whole marks.old.items
+        ++ marks_at index (point_of I.whole point ∷ [])) }
 {
     marks.push(LineMark { index, point })?;
     Ok(())

@@ -64,7 +64,8 @@ pub fn find_marks<C: WindingCount, I: OverlayInt, D: Copy>(
     requires sorted { IsSortedByKey ends_of pair_cmp segments.now }
     requires in_range { All (λ s. IsPairInRange I.whole I.MIN_COORD I.MAX_COORD (x_segment_of s)) segments.now }
     requires radius { HasRadius placing }
-    ensures marks { OnOk result (AreMarks (placing_of placing) (segments_of segments.now) (marks_of I.whole marks.new.items)) }
+    ensures marks { OnOk result (AreMarks (placing_of placing) (segments_of segments.now)
+        (marks_of I.whole marks.new.items)) }
     ensures rounded { IfOk result (λ rounded. rounded ≡ is_rounded (segments_of segments.now)) }
     ensures looked { OnOk result (looked.new ≤ looked.old + tree_looks (pairs (segments_of segments.now))) }
     ensures each_looked { OnOk result
@@ -103,8 +104,10 @@ pub(crate) fn take_in<C: WindingCount, I: OverlayInt, D: Copy>(
 ) -> Result<usize, AllocError>
     requires index { index < length segments.now }
     requires sorted { IsSortedByKey ends_of pair_cmp segments.now }
-    requires way { (old : ℕ) × IsUnderWay (pairs (segments_of segments.now)) (nodes_of I.whole nodes.old.items) old looked.old index until }
-    ensures way { IfOk result (λ until'. GoesOn (pairs (segments_of segments.now)) (nodes_of I.whole nodes.old.items) (nodes_of I.whole nodes.new.items) looked.old looked.new index until until') }
+    requires way { (old : ℕ) × IsUnderWay (pairs (segments_of segments.now))
+        (nodes_of I.whole nodes.old.items) old looked.old index until }
+    ensures way { IfOk result (λ until'. GoesOn (pairs (segments_of segments.now)) (nodes_of I.whole nodes.old.items)
+        (nodes_of I.whole nodes.new.items) looked.old looked.new index until until') }
     ensures found { OnOk result (AreFoundBefore (pairs (segments_of segments.now)) found.new.items index) }
     ensures looked { OnOk result (looked.new ≤ looked.old + length segments.now) }
 {
@@ -133,8 +136,10 @@ fn take_into_tree<C: WindingCount, I: OverlayInt, D: Copy>(
     requires index { index < length segments.now }
     requires sorted { IsSortedByKey ends_of pair_cmp segments.now }
     requires there { index < until }
-    requires way { (old : ℕ) × IsUnderWay (pairs (segments_of segments.now)) (nodes_of I.whole nodes.old.items) old looked.old index until }
-    ensures way { OnOk result (GoesOn (pairs (segments_of segments.now)) (nodes_of I.whole nodes.old.items) (nodes_of I.whole nodes.new.items) looked.old looked.new index until until) }
+    requires way { (old : ℕ) × IsUnderWay (pairs (segments_of segments.now))
+        (nodes_of I.whole nodes.old.items) old looked.old index until }
+    ensures way { OnOk result (GoesOn (pairs (segments_of segments.now)) (nodes_of I.whole nodes.old.items)
+        (nodes_of I.whole nodes.new.items) looked.old looked.new index until until) }
     ensures found { OnOk result (AreFoundBefore (pairs (segments_of segments.now)) found.new.items index) }
     ensures looked { OnOk result (looked.new ≤ looked.old + length segments.now) }
 {
@@ -164,8 +169,10 @@ fn take_among_few<C: WindingCount, I: OverlayInt, D: Copy>(
     requires index { index < length segments.now }
     requires sorted { IsSortedByKey ends_of pair_cmp segments.now }
     requires none { index ≡ until }
-    requires way { (old : ℕ) × IsUnderWay (pairs (segments_of segments.now)) (nodes_of I.whole nodes.old.items) old looked.old index until }
-    ensures way { OnOk result (GoesOn (pairs (segments_of segments.now)) (nodes_of I.whole nodes.old.items) (nodes_of I.whole nodes.new.items) looked.old looked.new index until (index + 1)) }
+    requires way { (old : ℕ) × IsUnderWay (pairs (segments_of segments.now))
+        (nodes_of I.whole nodes.old.items) old looked.old index until }
+    ensures way { OnOk result (GoesOn (pairs (segments_of segments.now)) (nodes_of I.whole nodes.old.items)
+        (nodes_of I.whole nodes.new.items) looked.old looked.new index until (index + 1)) }
     ensures found { OnOk result (AreFoundBefore (pairs (segments_of segments.now)) found.new.items index) }
     ensures looked { OnOk result (looked.new ≤ looked.old + length segments.now) }
 {
@@ -197,7 +204,9 @@ pub(crate) fn renew<C: WindingCount, I: OverlayInt, D: Copy>(
     requires { from < length segments.now }
     ensures further { IfOk result (λ until. from < until) }
     ensures within { IfOk result (λ until. until ≤ length segments.now) }
-    ensures rising { OnOk result (IsDistinct (λ i j. i == j) (map (λ e. e.index) (entries (nodes_of I.whole nodes.new.items))) → AreRising (entries (nodes_of I.whole nodes.new.items))) }
+    ensures rising { OnOk result (IsDistinct (λ i j. i == j)
+        (map (λ e. e.index) (entries (nodes_of I.whole nodes.new.items)))
+        → AreRising (entries (nodes_of I.whole nodes.new.items))) }
     ensures summed { OnOk result (IsSummed (nodes_of I.whole nodes.new.items)) }
     ensures listed { IfOk result (λ until. (let ps = pairs (segments_of segments.now) in
         IsPermutation (filter (stays_at (pair_at ps from).a.x) (entries (nodes_of I.whole nodes.old.items)) ++ entries_between ps from until) (entries (nodes_of I.whole nodes.new.items)))) }
@@ -247,7 +256,8 @@ fn push_nodes<C: WindingCount, I: OverlayInt, D: Copy>(
 }
 
 fn node_at<I: OverlayInt>(index: usize, segment: XSegment<I>, is_live: bool) -> Node<I>
-    ensures { node_of I.whole result ≡ alone (record (entry_of_pair index (pair_of I.whole segment)) { is_live = is_live }) }
+    ensures { node_of I.whole result
+        ≡ alone (record (entry_of_pair index (pair_of I.whole segment)) { is_live = is_live }) }
 {
     let heights = segment.y_range();
     Node {
@@ -276,7 +286,8 @@ pub(crate) fn mark_with_found<C: WindingCount, I: OverlayInt, D: Copy>(
     requires radius { HasRadius placing }
     ensures marks { OnOk result (marks_of I.whole marks.new.items ≡ marks_of I.whole marks.old.items
         ++ marks_with_found (placing_of placing) (pairs (segments_of segments.now)) index found.now) }
-    ensures rounded { IfOk result (λ rounded. rounded ≡ crosses_found (pairs (segments_of segments.now)) index found.now) }
+    ensures rounded { IfOk result (λ rounded. rounded ≡ crosses_found
+        (pairs (segments_of segments.now)) index found.now) }
 {
     let second = Indexed {
         index,

@@ -32,7 +32,8 @@ pub fn find_marks_within<C: WindingCount, I: OverlayInt, D: Copy>(
     requires sorted { IsSortedByKey ends_of pair_cmp segments.now }
     requires in_range { All (λ s. IsPairInRange I.whole I.MIN_COORD I.MAX_COORD (x_segment_of s)) segments.now }
     requires radius { HasRadius placing }
-    ensures marks { IfOk result (λ found. OnSome found (AreMarks (placing_of placing) (segments_of segments.now) (marks_of I.whole marks.new.items))) }
+    ensures marks { IfOk result (λ found. OnSome found
+        (AreMarks (placing_of placing) (segments_of segments.now) (marks_of I.whole marks.new.items))) }
     ensures rounded { IfOk result (λ found. IfSome found (λ rounded. rounded ≡ is_rounded (segments_of segments.now))) }
     ensures looked { OnOk result (looked.new ≤ looked.old + most) }
     ensures fault { IfErr result (λ fault. fault ≡ Memory) }

@@ -4,13 +4,13 @@ use Rattle.std.specs.Prelude.{ℕ, ℤ, pos, [], ◌∷◌, List, map}
 use Rattle.std.proofs.lemmas.Int.{ints}
 use Rattle.overlay_base.specs.Points.{Pair}
 use Rattle.overlay_base.specs.Segments.{WholeSegment, pairs}
-use Rattle.overlay_base.proofs.laws.Lists.{Has}
+use Rattle.overlay_base.proofs.laws.lists.Lists.{Has}
 use Rattle.overlay_split.specs.Run.{after_passes}
 use Rattle.overlay_base.specs.Places.{RationalPoint, winding_below}
 use Rattle.overlay_split.specs.Nearness.{IsNear, reach_of_run}
 use Rattle.overlay_split.specs.Places.{IsFar}
-use Rattle.overlay_split.proofs.laws.Nearness.{Has-from_Contains}
-use Rattle.overlay_split.proofs.laws.Places.{run_keeps_winding}
+use Rattle.overlay_split.proofs.laws.nearness.Nearness.{Has-from_Contains}
+use Rattle.overlay_split.proofs.laws.nearness.Places.{run_keeps_winding}
 use Rattle.overlay_base.proofs.examples.Words.{neg, pair, seg, count}
 use Rattle.overlay_split.proofs.examples.Computing.{computing}
 use Rattle.overlay_split.proofs.examples.Runs.{high}

@@ -1,13 +1,13 @@
 -- Data that numbers the given segments: parts have the number of the whole, and of two that merge the left one's is kept.
-use Rattle.std.specs.Prelude.{◌≡◌, refl, IsTrue, ℕ, Bool, true, List, [], ◌∷◌, nat_eq}
+use Rattle.std.specs.Prelude.{refl, IsTrue, ℕ, Bool, List, nat_eq}
 use Rattle.std.specs.List.{list_all, list_any}
 use Rattle.std.proofs.lemmas.Bool.{eq-eqb}
 use Rattle.overlay_base.specs.EdgeData.{DataSegment, Hooks}
-use Rattle.overlay_base.proofs.laws.Lists.{list_all-from_Has, list_any-from_Has}
+use Rattle.overlay_base.proofs.laws.lists.Lists.{list_all-from_Has, list_any-from_Has}
 use Rattle.overlay_split.specs.DataPass.{data_after_passes}
 use Rattle.overlay_split.specs.Laws.{HooksKeep}
 use Rattle.overlay_split.specs.Run.{Settings}
-use Rattle.overlay_split.proofs.laws.DataInvariants.{data_keeps_what_hooks_keep}
+use Rattle.overlay_split.proofs.laws.passes.DataInvariants.{data_keeps_what_hooks_keep}
 
 abbrev sources : {S : Type 0} → Hooks ℕ S
 sources = record {

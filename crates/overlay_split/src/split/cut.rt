@@ -32,11 +32,13 @@ pub fn cut_segment<C: WindingCount, I: OverlayInt, D: OverlayEdgeData<C>>(
     requires valid { All (λ s. IsTrue (is_valid (winding_of s))) (take 1 (drop index list.now.items)) }
     requires path { All (λ s. IsPathOf (ends_of s) (points_of I.whole path.now)) (take 1 (drop index list.now.items)) }
     ensures segments { OnOk result
-        (let hooks = hooks_of C.counted D.reversed_gives D.split_gives D.merge_gives in
-        data_segments_of list.new.items ≡ (data_cut_at hooks index (points_of I.whole path.now) (data_segments_of list.old.items) store.old).0) }
+        (let hooks = hooks_of C.counted D.OverlayEdgeData.own in
+        data_segments_of list.new.items ≡ (data_cut_at hooks index (points_of I.whole path.now)
+        (data_segments_of list.old.items) store.old).0) }
     ensures store { OnOk result
-        (let hooks = hooks_of C.counted D.reversed_gives D.split_gives D.merge_gives in
-        store.new ≡ (data_cut_at hooks index (points_of I.whole path.now) (data_segments_of list.old.items) store.old).1) }
+        (let hooks = hooks_of C.counted D.OverlayEdgeData.own in
+        store.new ≡ (data_cut_at hooks index (points_of I.whole path.now)
+        (data_segments_of list.old.items) store.old).1) }
     ensures fault { IfErr result (λ fault. fault ≡ Memory) }
 {
     let Some((first, later)) = path.split_first() else {

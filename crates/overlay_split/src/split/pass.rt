@@ -3,7 +3,7 @@
 ghost use Rattle.std.specs.Prelude.{◌≡◌, ◌≤◌, ◌+◌, [], IsTrue, IsFalse, IfOk, IfErr, OnOk, OnErr, length, nat_lt};
 ghost use Rattle.overlay_base.specs.declared.segm.fault.Fault.TheVariants.{Memory, CountOutOfRange};
 ghost use Rattle.overlay_base.specs.Segments.{pairs, is_map};
-ghost use Rattle.overlay_base.specs.Planar.{is_splittable};
+ghost use Rattle.overlay_base.specs.ArrangedOf.{IsSplittable};
 ghost use Rattle.overlay_base.specs.Join.{join_leaves_range};
 ghost use Rattle.overlay_base.specs.EdgeData.{IsRefusedJoin};
 ghost use Rattle.overlay_base.specs.HooksOf.{hooks_of};
@@ -33,7 +33,7 @@ use overlay_marks::split::placing::Placing;
 use overlay_marks::split::solver_tree::TreeBuffers;
 use std::alloc::Global;
 
-/// The memory of a pass, kept from one to the next.
+/// The memory of a pass, kept from one to the next. This project's own.
 #[derive(Drop)]
 pub struct PassBuffers<I> {
     marks: Vec<LineMark<I>>,
@@ -78,32 +78,36 @@ pub fn pass<C: WindingCount, I: OverlayInt, D: OverlayEdgeData<C>>(
     store: &mut D::Store,
 ) -> Result<Passed, Fault>
     requires map { IsTrue (is_map (segments_of list.old.items)) }
-    requires splittable { IsTrue (is_splittable (I.whole I.MIN_COORD) (I.whole I.MAX_COORD) (segments_of list.old.items)) }
+    requires splittable { IsSplittable list.old.items }
     requires radius { HasRadius placing }
     requires inside { LieInside (grid_in finder.old.grid) (pairs (segments_of list.old.items)) }
     ensures solver { finder.new.solver ≡ finder.old.solver }
     ensures grid { grid_in finder.new.grid ≡ grid_in finder.old.grid }
-    ensures geometry { OnOk result (segments_of list.new.items ≡ pass (placing_of placing) (segments_of list.old.items)) }
+    ensures geometry { OnOk result (segments_of list.new.items
+        ≡ pass (placing_of placing) (segments_of list.old.items)) }
     ensures edge_data { OnOk result
-        (let hooks = hooks_of C.counted D.reversed_gives D.split_gives D.merge_gives in
-        data_segments_of list.new.items ≡ (data_pass hooks (placing_of placing) (data_segments_of list.old.items) store.old).0) }
+        (let hooks = hooks_of C.counted D.OverlayEdgeData.own in
+        data_segments_of list.new.items ≡ (data_pass hooks (placing_of placing)
+        (data_segments_of list.old.items) store.old).0) }
     ensures store { OnOk result
-        (let hooks = hooks_of C.counted D.reversed_gives D.split_gives D.merge_gives in
+        (let hooks = hooks_of C.counted D.OverlayEdgeData.own in
         store.new ≡ (data_pass hooks (placing_of placing) (data_segments_of list.old.items) store.old).1) }
     ensures rounded { IfOk result (λ passed. passed.is_rounded ≡ is_rounded (segments_of list.old.items)) }
-    ensures marked { IfOk result (λ passed. passed.has_marks ≡ nat_lt 0 (mark_count (placing_of placing) (segments_of list.old.items))) }
+    ensures marked { IfOk result (λ passed. passed.has_marks
+        ≡ nat_lt 0 (mark_count (placing_of placing) (segments_of list.old.items))) }
     ensures looked { IsFalse (list_splits finder.old.solver.strategy (length list.old.items)) →
         OnOk result (finder.new.looked ≤ finder.old.looked + pass_looks (grid_in finder.old.grid) (pairs (segments_of list.old.items))) }
 
     ensures fits { OnOk result (IsFalse (join_leaves_range (cut (placing_of placing) (segments_of list.old.items)))) }
-    ensures refused { IfErr result (λ fault. fault ≡ CountOutOfRange → IsTrue (join_leaves_range (cut (placing_of placing) (segments_of list.old.items)))) }
+    ensures refused { IfErr result (λ fault. fault ≡ CountOutOfRange
+        → IsTrue (join_leaves_range (cut (placing_of placing) (segments_of list.old.items)))) }
     ensures emptied { OnErr result (list.new.items ≡ []) }
     ensures stopped { IfErr result (λ fault. fault ≡ CountOutOfRange →
-        (let hooks = hooks_of C.counted D.reversed_gives D.split_gives D.merge_gives in
+        (let hooks = hooks_of C.counted D.OverlayEdgeData.own in
         let pieces = data_cut hooks (placing_of placing) (data_segments_of list.old.items) store.old in
         IsRefusedJoin hooks pieces.0 pieces.1 store.new)) }
 {
-    let passed = match cut(list, placing, finder, buffers, store) {
+    let passed = match cut_at_marks(list, placing, finder, buffers, store) {
         Ok(passed) => passed,
         Err(fault) => {
             list.clear();
@@ -115,7 +119,7 @@ pub fn pass<C: WindingCount, I: OverlayInt, D: OverlayEdgeData<C>>(
 }
 
 /// Finds the marks of a pass, and cuts every segment at its own, by rising index.
-fn cut<C: WindingCount, I: OverlayInt, D: OverlayEdgeData<C>>(
+fn cut_at_marks<C: WindingCount, I: OverlayInt, D: OverlayEdgeData<C>>(
     list: &mut Vec<Segment<C, I, D>>,
     placing: Placing,
     finder: &mut PairFinder<I>,
@@ -123,19 +127,21 @@ fn cut<C: WindingCount, I: OverlayInt, D: OverlayEdgeData<C>>(
     store: &mut D::Store,
 ) -> Result<Passed, Fault>
     requires map { IsTrue (is_map (segments_of list.old.items)) }
-    requires splittable { IsTrue (is_splittable (I.whole I.MIN_COORD) (I.whole I.MAX_COORD) (segments_of list.old.items)) }
+    requires splittable { IsSplittable list.old.items }
     requires radius { HasRadius placing }
     requires inside { LieInside (grid_in finder.old.grid) (pairs (segments_of list.old.items)) }
     ensures solver { finder.new.solver ≡ finder.old.solver }
     ensures grid { grid_in finder.new.grid ≡ grid_in finder.old.grid }
     ensures list { OnOk result
-        (let hooks = hooks_of C.counted D.reversed_gives D.split_gives D.merge_gives in
-        data_segments_of list.new.items ≡ (data_cut hooks (placing_of placing) (data_segments_of list.old.items) store.old).0) }
+        (let hooks = hooks_of C.counted D.OverlayEdgeData.own in
+        data_segments_of list.new.items ≡ (data_cut hooks (placing_of placing)
+        (data_segments_of list.old.items) store.old).0) }
     ensures store { OnOk result
-        (let hooks = hooks_of C.counted D.reversed_gives D.split_gives D.merge_gives in
+        (let hooks = hooks_of C.counted D.OverlayEdgeData.own in
         store.new ≡ (data_cut hooks (placing_of placing) (data_segments_of list.old.items) store.old).1) }
     ensures rounded { IfOk result (λ passed. passed.is_rounded ≡ is_rounded (segments_of list.old.items)) }
-    ensures marked { IfOk result (λ passed. passed.has_marks ≡ nat_lt 0 (mark_count (placing_of placing) (segments_of list.old.items))) }
+    ensures marked { IfOk result (λ passed. passed.has_marks
+        ≡ nat_lt 0 (mark_count (placing_of placing) (segments_of list.old.items))) }
     ensures looked { IsFalse (list_splits finder.old.solver.strategy (length list.old.items)) →
         OnOk result (finder.new.looked ≤ finder.old.looked + pass_looks (grid_in finder.old.grid) (pairs (segments_of list.old.items))) }
     ensures fault { IfErr result (λ fault. fault ≡ Memory) }

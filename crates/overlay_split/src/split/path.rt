@@ -16,13 +16,16 @@ use std::alloc::AllocError;
 ///
 /// Marks go by rising x. Those of one x go by rising y, unless the path's point before them lies higher than the lowest
 /// mark of the next x, or than `b` where there is none; then by falling y.
+///
+/// What `path` held before is dropped. Where a growth is refused it has some of the points.
 pub fn collect_path<I: OverlayInt>(
     a: IntPoint<I>,
     marks: &[LineMark<I>],
     b: IntPoint<I>,
     path: &mut Vec<IntPoint<I>>,
 ) -> Result<(), AllocError>
-    ensures { OnOk result (points_of I.whole path.new.items ≡ path_from (point_of I.whole a) (columns_in_order (mark_points_of I.whole marks.now)) (point_of I.whole b)) }
+    ensures { OnOk result (points_of I.whole path.new.items
+        ≡ path_from (point_of I.whole a) (columns_in_order (mark_points_of I.whole marks.now)) (point_of I.whole b)) }
 {
     path.clear();
     let mut rest = marks;
@@ -39,7 +42,7 @@ pub fn collect_path<I: OverlayInt>(
 
 /// How many marks in front have this x.
 fn column_len<I: OverlayInt>(x: I, marks: &[LineMark<I>]) -> usize
-    ensures run { result ≡ prefix_len (λ m. int_eq (I.whole m.point.x) (I.whole x)) marks.now }
+    ensures block { result ≡ prefix_len (λ m. int_eq (I.whole m.point.x) (I.whole x)) marks.now }
     ensures within { result ≤ length marks.now }
 {
     for (index, mark) in marks.iter().enumerate() {
@@ -57,7 +60,8 @@ fn run_column<I: OverlayInt>(
     next: IntPoint<I>,
     path: &mut Vec<IntPoint<I>>,
 ) -> Result<(), AllocError>
-    ensures { OnOk result (points_of I.whole path.new.items ≡ points_of I.whole path.old.items ++ run_through (point_of I.whole before) (mark_points_of I.whole column.now) (point_of I.whole next)) }
+    ensures { OnOk result (points_of I.whole path.new.items ≡ points_of I.whole path.old.items
+        ++ run_through (point_of I.whole before) (mark_points_of I.whole column.now) (point_of I.whole next)) }
 {
     if is_lower(next.y, before.y) {
         append_downward(column, path)

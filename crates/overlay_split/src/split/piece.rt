@@ -18,6 +18,9 @@ use overlay_base::segm::winding::WindingCount;
 
 /// Appends the pieces from a point along the path that follows on it. Before each piece but the last the data is split.
 /// A piece that runs backwards is turned, its count inverted, its data reversed.
+///
+/// The count has to be valid, and no step of the path may stand still. Answers `Fault::Memory` where a growth is refused; the
+/// list then has some of the pieces, and the store is what the hooks called before left.
 pub fn push_pieces<C: WindingCount, I: OverlayInt, D: OverlayEdgeData<C>>(
     list: &mut Vec<Segment<C, I, D>>,
     from: IntPoint<I>,
@@ -29,13 +32,16 @@ pub fn push_pieces<C: WindingCount, I: OverlayInt, D: OverlayEdgeData<C>>(
     requires valid { IsTrue (is_valid (C.winding count)) }
     requires leads_on { LeadsOn (point_of I.whole from) (points_of I.whole path.now) }
     ensures pieces { OnOk result
-        (let hooks = hooks_of C.counted D.reversed_gives D.split_gives D.merge_gives in
+        (let hooks = hooks_of C.counted D.OverlayEdgeData.own in
         let b = last_point (point_of I.whole from) (points_of I.whole path.now) in
-        data_segments_of list.new.items ≡ data_segments_of list.old.items ++ (data_pieces hooks (C.winding count) (point_of I.whole from) (points_of I.whole path.now) b edge_data store.old).0) }
+        data_segments_of list.new.items ≡ data_segments_of list.old.items
+        ++ (data_pieces hooks (C.winding count) (point_of I.whole from)
+        (points_of I.whole path.now) b edge_data store.old).0) }
     ensures store { OnOk result
-        (let hooks = hooks_of C.counted D.reversed_gives D.split_gives D.merge_gives in
+        (let hooks = hooks_of C.counted D.OverlayEdgeData.own in
         let b = last_point (point_of I.whole from) (points_of I.whole path.now) in
-        store.new ≡ (data_pieces hooks (C.winding count) (point_of I.whole from) (points_of I.whole path.now) b edge_data store.old).1) }
+        store.new ≡ (data_pieces hooks (C.winding count) (point_of I.whole from)
+        (points_of I.whole path.now) b edge_data store.old).1) }
     ensures fault { IfErr result (λ fault. fault ≡ Memory) }
 {
     let Some((b, marks)) = path.split_last() else {

@@ -5,7 +5,7 @@ ghost use Rattle.std.specs.List.{list_all};
 ghost use Rattle.overlay_base.specs.declared.segm.fault.Fault.TheVariants.{Memory, CountOutOfRange};
 ghost use Rattle.overlay_base.specs.Points.{is_within_box_of};
 ghost use Rattle.overlay_base.specs.Segments.{pairs, ends, is_map};
-ghost use Rattle.overlay_base.specs.Planar.{is_splittable, is_arranged};
+ghost use Rattle.overlay_base.specs.ArrangedOf.{IsSplittable, IsArranged};
 ghost use Rattle.overlay_base.specs.Join.{join, join_leaves_range};
 ghost use Rattle.overlay_base.specs.Balance.{KeepsBalance};
 ghost use Rattle.overlay_base.specs.EdgeData.{IsRefusedJoin};
@@ -128,31 +128,45 @@ impl<I: OverlayInt> SplitSolver<I> {
         list: &mut Vec<Segment<C, I, D>>,
         solver: &Solver,
     ) -> Result<bool, Fault>
-        requires { IsTrue (is_splittable (I.whole I.MIN_COORD) (I.whole I.MAX_COORD) (segments_of list.old.items)) }
-        ensures run { IfOk result (λ flag. IsRun (settings_of I.BITS solver.now self.old) (segments_of list.old.items) (segments_of list.new.items) (passes_of self.new) flag) }
+        requires { IsSplittable list.old.items }
+        ensures run { IfOk result (λ flag. IsRun (settings_of I.BITS solver.now self.old) (segments_of list.old.items)
+            (segments_of list.new.items) (passes_of self.new) flag) }
         ensures edge_data { OnOk result
             ((store : D.Store) × D.Store.is_default store ×
-            (let hooks = hooks_of C.counted D.reversed_gives D.split_gives D.merge_gives in
-            data_segments_of list.new.items ≡ (data_after_passes hooks (settings_of I.BITS solver.now self.old) (data_segments_of list.old.items) store (passes_of self.new)).0)) }
-        ensures kept_data { let hooks = hooks_of C.counted D.reversed_gives D.split_gives D.merge_gives in
-            (has : D → Bool) → HooksKeep hooks has → IsTrue (list_all (λ s. has s.edge_data) (data_segments_of list.old.items)) →
+            (let hooks = hooks_of C.counted D.OverlayEdgeData.own in
+            data_segments_of list.new.items ≡ (data_after_passes hooks (settings_of I.BITS solver.now self.old)
+            (data_segments_of list.old.items) store (passes_of self.new)).0)) }
+        ensures kept_data { let hooks = hooks_of C.counted D.OverlayEdgeData.own in
+            (has : D → Bool) → HooksKeep hooks has → IsTrue
+            (list_all (λ s. has s.edge_data) (data_segments_of list.old.items)) →
             OnOk result (IsTrue (list_all (λ s. has s.edge_data) (data_segments_of list.new.items))) }
-        ensures arranged { OnOk result (IsTrue (is_arranged (I.whole I.MIN_COORD) (I.whole I.MAX_COORD) (segments_of list.new.items))) }
+        ensures arranged { OnOk result (IsArranged list.new.items) }
         ensures balance { OnOk result (KeepsBalance (segments_of list.old.items) (segments_of list.new.items)) }
-        ensures in_box { OnOk result (IsTrue (list_all (λ p. is_within_box_of (ends (pairs (join (segments_of list.old.items)))) p) (ends (pairs (segments_of list.new.items))))) }
-        ensures exact_input { IsTrue (is_exact_input (segments_of list.old.items)) → OnOk result (KeepsCounts (segments_of list.old.items) (segments_of list.new.items)) }
-        ensures near { OnOk result (StaysNear (settings_of I.BITS solver.now self.old) (segments_of list.old.items) (segments_of list.new.items) (passes_of self.new)) }
-        ensures winding { OnOk result (KeepsWinding (settings_of I.BITS solver.now self.old) (segments_of list.old.items) (segments_of list.new.items) (passes_of self.new)) }
-        ensures bound { OnOk result (passes_of self.new ≤ snap_limit_of self.old + potential (after_passes (settings_of I.BITS solver.now self.old) (segments_of list.old.items) (snap_limit_of self.old)) + 1) }
-        ensures unchanged { IsTrue (is_arranged (I.whole I.MIN_COORD) (I.whole I.MAX_COORD) (segments_of list.old.items)) →
+        ensures in_box { OnOk result (IsTrue (list_all
+            (λ p. is_within_box_of (ends (pairs (join (segments_of list.old.items)))) p)
+            (ends (pairs (segments_of list.new.items))))) }
+        ensures exact_input { IsTrue (is_exact_input (segments_of list.old.items))
+            → OnOk result (KeepsCounts (segments_of list.old.items) (segments_of list.new.items)) }
+        ensures near { OnOk result (StaysNear (settings_of I.BITS solver.now self.old) (segments_of list.old.items)
+            (segments_of list.new.items) (passes_of self.new)) }
+        ensures winding { OnOk result (KeepsWinding (settings_of I.BITS solver.now self.old)
+            (segments_of list.old.items) (segments_of list.new.items) (passes_of self.new)) }
+        ensures bound { OnOk result (passes_of self.new ≤ snap_limit_of self.old
+            + potential (after_passes (settings_of I.BITS solver.now self.old) (segments_of list.old.items)
+            (snap_limit_of self.old)) + 1) }
+        ensures unchanged { IsArranged list.old.items →
             IfOk result (λ flag. (flag ≡ false) × (data_segments_of list.new.items ≡ data_segments_of list.old.items)) }
 
-        ensures fits { OnOk result (LeavesRange (settings_of I.BITS solver.now self.old) (segments_of list.old.items) → ⊥) }
-        ensures refused { IfErr result (λ fault. fault ≡ CountOutOfRange → LeavesRange (settings_of I.BITS solver.now self.old) (segments_of list.old.items)) }
+        ensures fits { OnOk result (LeavesRange (settings_of I.BITS solver.now self.old) (segments_of list.old.items)
+            → ⊥) }
+        ensures refused { IfErr result (λ fault. fault ≡ CountOutOfRange
+            → LeavesRange (settings_of I.BITS solver.now self.old) (segments_of list.old.items)) }
         ensures emptied { OnErr result (list.new.items ≡ []) }
         ensures passes { OnErr result (passes_of self.new ≡ passes_of self.old) }
-        ensures looked { HasNoListPass solver.now.strategy (settings_of I.BITS solver.now self.old) (segments_of list.old.items) (passes_of self.new) →
-            OnOk result ((grid : Option Layout) × IsGridFor solver.now.strategy (join (segments_of list.old.items)) grid ×
+        ensures looked { HasNoListPass solver.now.strategy (settings_of I.BITS solver.now self.old)
+            (segments_of list.old.items) (passes_of self.new) →
+            OnOk result ((grid : Option Layout) × IsGridFor solver.now.strategy
+            (join (segments_of list.old.items)) grid ×
             (looked_of self.new ≤ run_looks (settings_of I.BITS solver.now self.old) grid (segments_of list.old.items) (passes_of self.new))) }
         ensures looked_before { OnErr result (looked_of self.new ≡ looked_of self.old) }
         ensures limit { snap_limit_of self.new ≡ snap_limit_of self.old }
@@ -188,36 +202,52 @@ impl<I: OverlayInt> SplitSolver<I> {
         solver: &Solver,
         store: &mut D::Store,
     ) -> Result<bool, Fault>
-        requires { IsTrue (is_splittable (I.whole I.MIN_COORD) (I.whole I.MAX_COORD) (segments_of list.old.items)) }
-        ensures run { IfOk result (λ flag. IsRun (settings_of I.BITS solver.now self.old) (segments_of list.old.items) (segments_of list.new.items) (passes_of self.new) flag) }
+        requires { IsSplittable list.old.items }
+        ensures run { IfOk result (λ flag. IsRun (settings_of I.BITS solver.now self.old) (segments_of list.old.items)
+            (segments_of list.new.items) (passes_of self.new) flag) }
         ensures edge_data { OnOk result
-            (let hooks = hooks_of C.counted D.reversed_gives D.split_gives D.merge_gives in
-            data_segments_of list.new.items ≡ (data_after_passes hooks (settings_of I.BITS solver.now self.old) (data_segments_of list.old.items) store.old (passes_of self.new)).0) }
+            (let hooks = hooks_of C.counted D.OverlayEdgeData.own in
+            data_segments_of list.new.items ≡ (data_after_passes hooks (settings_of I.BITS solver.now self.old)
+            (data_segments_of list.old.items) store.old (passes_of self.new)).0) }
         ensures store { OnOk result
-            (let hooks = hooks_of C.counted D.reversed_gives D.split_gives D.merge_gives in
-            store.new ≡ (data_after_passes hooks (settings_of I.BITS solver.now self.old) (data_segments_of list.old.items) store.old (passes_of self.new)).1) }
-        ensures kept_data { let hooks = hooks_of C.counted D.reversed_gives D.split_gives D.merge_gives in
-            (has : D → Bool) → HooksKeep hooks has → IsTrue (list_all (λ s. has s.edge_data) (data_segments_of list.old.items)) →
+            (let hooks = hooks_of C.counted D.OverlayEdgeData.own in
+            store.new ≡ (data_after_passes hooks (settings_of I.BITS solver.now self.old)
+            (data_segments_of list.old.items) store.old (passes_of self.new)).1) }
+        ensures kept_data { let hooks = hooks_of C.counted D.OverlayEdgeData.own in
+            (has : D → Bool) → HooksKeep hooks has → IsTrue
+            (list_all (λ s. has s.edge_data) (data_segments_of list.old.items)) →
             OnOk result (IsTrue (list_all (λ s. has s.edge_data) (data_segments_of list.new.items))) }
-        ensures arranged { OnOk result (IsTrue (is_arranged (I.whole I.MIN_COORD) (I.whole I.MAX_COORD) (segments_of list.new.items))) }
+        ensures arranged { OnOk result (IsArranged list.new.items) }
         ensures balance { OnOk result (KeepsBalance (segments_of list.old.items) (segments_of list.new.items)) }
-        ensures in_box { OnOk result (IsTrue (list_all (λ p. is_within_box_of (ends (pairs (join (segments_of list.old.items)))) p) (ends (pairs (segments_of list.new.items))))) }
-        ensures exact_input { IsTrue (is_exact_input (segments_of list.old.items)) → OnOk result (KeepsCounts (segments_of list.old.items) (segments_of list.new.items)) }
-        ensures near { OnOk result (StaysNear (settings_of I.BITS solver.now self.old) (segments_of list.old.items) (segments_of list.new.items) (passes_of self.new)) }
-        ensures winding { OnOk result (KeepsWinding (settings_of I.BITS solver.now self.old) (segments_of list.old.items) (segments_of list.new.items) (passes_of self.new)) }
-        ensures bound { OnOk result (passes_of self.new ≤ snap_limit_of self.old + potential (after_passes (settings_of I.BITS solver.now self.old) (segments_of list.old.items) (snap_limit_of self.old)) + 1) }
-        ensures unchanged { IsTrue (is_arranged (I.whole I.MIN_COORD) (I.whole I.MAX_COORD) (segments_of list.old.items)) →
-            IfOk result (λ flag. (flag ≡ false) × (data_segments_of list.new.items ≡ data_segments_of list.old.items) × (store.new ≡ store.old)) }
+        ensures in_box { OnOk result (IsTrue (list_all
+            (λ p. is_within_box_of (ends (pairs (join (segments_of list.old.items)))) p)
+            (ends (pairs (segments_of list.new.items))))) }
+        ensures exact_input { IsTrue (is_exact_input (segments_of list.old.items))
+            → OnOk result (KeepsCounts (segments_of list.old.items) (segments_of list.new.items)) }
+        ensures near { OnOk result (StaysNear (settings_of I.BITS solver.now self.old) (segments_of list.old.items)
+            (segments_of list.new.items) (passes_of self.new)) }
+        ensures winding { OnOk result (KeepsWinding (settings_of I.BITS solver.now self.old)
+            (segments_of list.old.items) (segments_of list.new.items) (passes_of self.new)) }
+        ensures bound { OnOk result (passes_of self.new ≤ snap_limit_of self.old
+            + potential (after_passes (settings_of I.BITS solver.now self.old) (segments_of list.old.items)
+            (snap_limit_of self.old)) + 1) }
+        ensures unchanged { IsArranged list.old.items →
+            IfOk result (λ flag. (flag ≡ false) × (data_segments_of list.new.items ≡ data_segments_of list.old.items)
+            × (store.new ≡ store.old)) }
 
-        ensures fits { OnOk result (LeavesRange (settings_of I.BITS solver.now self.old) (segments_of list.old.items) → ⊥) }
-        ensures refused { IfErr result (λ fault. fault ≡ CountOutOfRange → LeavesRange (settings_of I.BITS solver.now self.old) (segments_of list.old.items)) }
+        ensures fits { OnOk result (LeavesRange (settings_of I.BITS solver.now self.old) (segments_of list.old.items)
+            → ⊥) }
+        ensures refused { IfErr result (λ fault. fault ≡ CountOutOfRange
+            → LeavesRange (settings_of I.BITS solver.now self.old) (segments_of list.old.items)) }
         ensures emptied { OnErr result (list.new.items ≡ []) }
         ensures stopped { IfErr result (λ fault. fault ≡ CountOutOfRange →
-            (let hooks = hooks_of C.counted D.reversed_gives D.split_gives D.merge_gives in
+            (let hooks = hooks_of C.counted D.OverlayEdgeData.own in
             IsStoppedRun hooks (settings_of I.BITS solver.now self.old) (data_segments_of list.old.items) store.old store.new)) }
         ensures passes { OnErr result (passes_of self.new ≡ passes_of self.old) }
-        ensures looked { HasNoListPass solver.now.strategy (settings_of I.BITS solver.now self.old) (segments_of list.old.items) (passes_of self.new) →
-            OnOk result ((grid : Option Layout) × IsGridFor solver.now.strategy (join (segments_of list.old.items)) grid ×
+        ensures looked { HasNoListPass solver.now.strategy (settings_of I.BITS solver.now self.old)
+            (segments_of list.old.items) (passes_of self.new) →
+            OnOk result ((grid : Option Layout) × IsGridFor solver.now.strategy
+            (join (segments_of list.old.items)) grid ×
             (looked_of self.new ≤ run_looks (settings_of I.BITS solver.now self.old) grid (segments_of list.old.items) (passes_of self.new))) }
         ensures looked_before { OnErr result (looked_of self.new ≡ looked_of self.old) }
         ensures limit { snap_limit_of self.new ≡ snap_limit_of self.old }
@@ -274,29 +304,34 @@ impl Progress {
         store: &mut D::Store,
     ) -> Result<Progress, Fault>
         requires map { IsTrue (is_map (segments_of list.old.items)) }
-        requires splittable { IsTrue (is_splittable (I.whole I.MIN_COORD) (I.whole I.MAX_COORD) (segments_of list.old.items)) }
+        requires splittable { IsSplittable list.old.items }
         requires radius { HasRadius placing }
         requires passes { self.passes + 1 < 2 ^ 128 }
         requires inside { LieInside (grid_in finder.old.grid) (pairs (segments_of list.old.items)) }
         ensures solver { finder.new.solver ≡ finder.old.solver }
         ensures grid { grid_in finder.new.grid ≡ grid_in finder.old.grid }
-        ensures geometry { OnOk result (segments_of list.new.items ≡ pass (placing_of placing) (segments_of list.old.items)) }
+        ensures geometry { OnOk result (segments_of list.new.items
+            ≡ pass (placing_of placing) (segments_of list.old.items)) }
         ensures edge_data { OnOk result
-            (let hooks = hooks_of C.counted D.reversed_gives D.split_gives D.merge_gives in
-            data_segments_of list.new.items ≡ (data_pass hooks (placing_of placing) (data_segments_of list.old.items) store.old).0) }
+            (let hooks = hooks_of C.counted D.OverlayEdgeData.own in
+            data_segments_of list.new.items ≡ (data_pass hooks (placing_of placing)
+            (data_segments_of list.old.items) store.old).0) }
         ensures store { OnOk result
-            (let hooks = hooks_of C.counted D.reversed_gives D.split_gives D.merge_gives in
+            (let hooks = hooks_of C.counted D.OverlayEdgeData.own in
             store.new ≡ (data_pass hooks (placing_of placing) (data_segments_of list.old.items) store.old).1) }
         ensures passes { IfOk result (λ after. after.passes ≡ self.passes + 1) }
-        ensures changed { IfOk result (λ after. after.has_changed ≡ (self.has_changed || nat_lt 0 (mark_count (placing_of placing) (segments_of list.old.items)))) }
-        ensures goes_on { IfOk result (λ after. after.goes_on ≡ (nat_le 2 (length list.new.items) && is_rounded (segments_of list.old.items))) }
+        ensures changed { IfOk result (λ after. after.has_changed
+            ≡ (self.has_changed || nat_lt 0 (mark_count (placing_of placing) (segments_of list.old.items)))) }
+        ensures goes_on { IfOk result (λ after. after.goes_on
+            ≡ (nat_le 2 (length list.new.items) && is_rounded (segments_of list.old.items))) }
         ensures looked { IsFalse (list_splits finder.old.solver.strategy (length list.old.items)) →
             OnOk result (finder.new.looked ≤ finder.old.looked + pass_looks (grid_in finder.old.grid) (pairs (segments_of list.old.items))) }
 
-        ensures fits { OnOk result (IsFalse (join_leaves_range (cut (placing_of placing) (segments_of list.old.items)))) }
+        ensures fits { OnOk result (IsFalse (join_leaves_range
+            (cut (placing_of placing) (segments_of list.old.items)))) }
         ensures emptied { OnErr result (list.new.items ≡ []) }
         ensures stopped { IfErr result (λ fault. fault ≡ CountOutOfRange →
-            (let hooks = hooks_of C.counted D.reversed_gives D.split_gives D.merge_gives in
+            (let hooks = hooks_of C.counted D.OverlayEdgeData.own in
             let pieces = data_cut hooks (placing_of placing) (data_segments_of list.old.items) store.old in
             IsRefusedJoin hooks pieces.0 pieces.1 store.new)) }
     {

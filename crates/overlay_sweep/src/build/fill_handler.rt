@@ -40,7 +40,8 @@ pub trait FillHandler<C: WindingCount, I: OverlayInt, D: Copy>: Drop {
     fn finalize(self) -> Self::Output
         ensures { result ≡ finalize_gives self };
 
-    ghost keeps_taking: { (handler : Self) (visit : Visit D) (index : ℕ) → takes handler visit.index → takes handler index → takes (handle_gives handler visit).0 index };
+    ghost keeps_taking: { (handler : Self) (visit : Visit D) (index : ℕ) → takes handler visit.index
+        → takes handler index → takes (handle_gives handler visit).0 index };
 }
 
 /// Writes each fill at its index into a list that it borrows. The run answers the borrow.
@@ -63,7 +64,10 @@ impl<'a, C: WindingCount, I: OverlayInt, D: Copy> FillHandler<C, I, D> for Store
 
     ghost takes = { λ handler index. index < vec_len handler.fills.now };
 
-    ghost handle_gives = { λ handler visit. (record { fills = record handler.fills { now = with_item handler.fills.now visit.index visit.fill } }, None) };
+    ghost handle_gives = { λ handler visit. (
+      record { fills = record handler.fills { now = with_item handler.fills.now visit.index visit.fill } },
+      None,
+    ) };
 
     ghost finalize_gives = { λ handler. handler.fills };
 

@@ -22,9 +22,13 @@ pub trait FillStrategy<C: WindingCount> {
     fn add_and_fill(this: C, bot: C) -> Result<(C, SegmentFill), Fault>
         requires this { IsTrue (is_valid (C.winding this)) }
         requires bot { IsTrue (is_valid (C.winding bot)) }
-        ensures sum { IfOk result (λ answer. C.winding answer.0 ≡ add (weight (C.winding bot)) (weight (C.winding this))) }
-        ensures fill { IfOk result (λ answer. answer.1 ≡ fill_byte rule (C.winding bot) (add (weight (C.winding bot)) (weight (C.winding this))) (C.winding this).mask) }
-        ensures in_range { IsOk result ↔ IsTrue (is_count_in_range (add (weight (C.winding bot)) (weight (C.winding this)))) }
+        ensures sum { IfOk result (λ answer. C.winding answer.0
+            ≡ add (weight (C.winding bot)) (weight (C.winding this))) }
+        ensures fill { IfOk result (λ answer. answer.1
+            ≡ fill_byte rule (C.winding bot) (add (weight (C.winding bot)) (weight (C.winding this)))
+            (C.winding this).mask) }
+        ensures in_range { IsOk result ↔ IsTrue (is_count_in_range
+            (add (weight (C.winding bot)) (weight (C.winding this)))) }
         ensures fault { IfErr result (λ fault. fault ≡ Fault.CountOutOfRange) };
 
     ghost nothing: { C.made (pos 0) (pos 0) ≡ empty };
@@ -40,9 +44,13 @@ pub trait FillCount: WindingCount {
     ) -> Result<(Self, SegmentFill), Fault>
         requires this { IsTrue (is_valid (Self.winding this)) }
         requires bot { IsTrue (is_valid (Self.winding bot)) }
-        ensures sum { IfOk result (λ answer. Self.winding answer.0 ≡ add (weight (Self.winding bot)) (weight (Self.winding this))) }
-        ensures fill { IfOk result (λ answer. answer.1 ≡ fill_byte fill_rule (Self.winding bot) (add (weight (Self.winding bot)) (weight (Self.winding this))) (Self.winding this).mask) }
-        ensures in_range { IsOk result ↔ IsTrue (is_count_in_range (add (weight (Self.winding bot)) (weight (Self.winding this)))) }
+        ensures sum { IfOk result (λ answer. Self.winding answer.0
+            ≡ add (weight (Self.winding bot)) (weight (Self.winding this))) }
+        ensures fill { IfOk result (λ answer. answer.1
+            ≡ fill_byte fill_rule (Self.winding bot) (add (weight (Self.winding bot)) (weight (Self.winding this)))
+            (Self.winding this).mask) }
+        ensures in_range { IsOk result ↔ IsTrue (is_count_in_range
+            (add (weight (Self.winding bot)) (weight (Self.winding this)))) }
         ensures fault { IfErr result (λ fault. fault ≡ Fault.CountOutOfRange) };
 
     ghost without_winding: { Self.made (pos 0) (pos 0) ≡ empty };

@@ -4,7 +4,7 @@ ghost use Rattle.overlay_base.specs.Segments.{WholeSegment};
 ghost use Rattle.overlay_base.specs.PointOf.{point_of};
 ghost use Rattle.overlay_base.specs.InRange.{IsPointInRange};
 ghost use Rattle.overlay_base.specs.VSegmentOf.{v_pair_of, IsVSegmentInRange};
-ghost use Rattle.overlay_sweep.specs.Sweep.{sum_below};
+ghost use Rattle.overlay_sweep.specs.Live.{sum_below};
 ghost use Rattle.overlay_sweep.specs.Live.{HoldSameFrom, AreFreeAt};
 
 use overlay_base::geom::point::IntPoint;

@@ -21,7 +21,9 @@ fn is_not_under_best<C: WindingCount, I: OverlayInt>(
     best: &Option<Entry<C, I>>,
     compared: &mut u128,
 ) -> bool
-    ensures value { result ≡ option_map_or (λ highest. not (is_lt (under_segment_order (v_pair_of I.whole entry.now.segment) (v_pair_of I.whole highest.segment)))) best.now true }
+    ensures value { result ≡ option_map_or (λ highest. not
+        (is_lt (under_segment_order (v_pair_of I.whole entry.now.segment)
+        (v_pair_of I.whole highest.segment)))) best.now true }
     ensures compared { compared.new ≡ option_map_or (λ _. min (compared.old + 1) (2 ^ 128 - 1)) best.now compared.old }
 {
     match best {
@@ -54,7 +56,8 @@ impl<C: WindingCount, I: OverlayInt> ScanList<C, I> {
 
     /// Drops the segments that do not end right of `x`.
     fn drop_ended(&mut self, x: I)
-        ensures { self.new.entries.items ≡ filter (λ e. int_lt (I.whole x) (I.whole e.segment.b.x)) self.old.entries.items }
+        ensures { self.new.entries.items ≡ filter (λ e. int_lt (I.whole x)
+            (I.whole e.segment.b.x)) self.old.entries.items }
     {
         self.entries.retain(|entry| entry.lasts_past(x));
     }
@@ -65,7 +68,7 @@ impl<C: WindingCount, I: OverlayInt> LiveSegments<C, I> for ScanList<C, I> {
     ghost use Rattle.overlay_base.specs.Points.{turn};
     ghost use Rattle.overlay_base.specs.PointOf.{point_of};
     ghost use Rattle.overlay_base.specs.InRange.{IsPointInRange};
-    ghost use Rattle.overlay_sweep.specs.Sweep.{sum_below};
+    ghost use Rattle.overlay_sweep.specs.Live.{sum_below};
     ghost use Rattle.overlay_sweep.specs.Live.{HoldSameFrom, AreFreeAt};
     ghost use Rattle.overlay_sweep.specs.LiveOf.{list_entries, list_sums, list_asked};
 

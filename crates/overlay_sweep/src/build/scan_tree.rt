@@ -80,11 +80,21 @@ impl<C: WindingCount, I: OverlayInt> ScanTree<C, I> {
         ensures entries { self.new.entries ≡ self.old.entries }
         ensures root { self.new.root ≡ self.old.root }
         ensures kept { self.new.kept ≡ self.old.kept }
-        ensures compared { (m : MayGoDown self.old.shape.nodes.items at new) → self.new.compared ≤ self.old.compared + m.sound.high }
-        ensures reached { result.is_stopped ≡ false → (m : MayGoDown self.old.shape.nodes.items at new) → min (self.old.compared + m.sound.high / 2) (2 ^ 128 - 1) ≤ self.new.compared }
-        ensures same { result.is_stopped ≡ false → new ≡ none → (self.new.shape.nodes.items ≡ self.old.shape.nodes.items) × (result.top ≡ at) }
-        ensures stopped { result.is_stopped ≡ true → (m : MayGoDown self.old.shape.nodes.items at new) → IsStopped (lasts_past (I.whole x) (entries_of self.old.entries.items)) self.old.shape.nodes.items self.new.shape.nodes.items result.top m.sound.order m.sound.high }
-        ensures placed { result.is_stopped ≡ false → (m : MayGoDown self.old.shape.nodes.items at new) → IsPlaced (lasts_past (I.whole x) (entries_of self.old.entries.items)) (λ i. stands_before I.whole place.now (segment_at (entries_of self.old.entries.items) i).pair) self.old.shape.nodes.items self.new.shape.nodes.items given result.last result.top m.sound.order m.placed m.sound.high }
+        ensures compared { (m : MayGoDown self.old.shape.nodes.items at new) → self.new.compared ≤ self.old.compared
+            + m.sound.high }
+        ensures reached { result.is_stopped ≡ false → (m : MayGoDown self.old.shape.nodes.items at new)
+            → min (self.old.compared + m.sound.high / 2) (2 ^ 128 - 1) ≤ self.new.compared }
+        ensures same { result.is_stopped ≡ false → new ≡ none
+            → (self.new.shape.nodes.items ≡ self.old.shape.nodes.items) × (result.top ≡ at) }
+        ensures stopped { result.is_stopped ≡ true → (m : MayGoDown self.old.shape.nodes.items at new)
+            → IsStopped (lasts_past (I.whole x)
+            (entries_of self.old.entries.items)) self.old.shape.nodes.items self.new.shape.nodes.items result.top
+            m.sound.order m.sound.high }
+        ensures placed { result.is_stopped ≡ false → (m : MayGoDown self.old.shape.nodes.items at new)
+            → IsPlaced (lasts_past (I.whole x) (entries_of self.old.entries.items))
+            (λ i. stands_before I.whole place.now (segment_at
+            (entries_of self.old.entries.items) i).pair) self.old.shape.nodes.items self.new.shape.nodes.items given
+            result.last result.top m.sound.order m.placed m.sound.high }
     {
         if at == NONE {
             return Descent {
@@ -120,11 +130,17 @@ impl<C: WindingCount, I: OverlayInt> ScanTree<C, I> {
     /// Goes down until a way meets no entry that has ended, and puts the tree of `new` at its place. Answers the last
     /// entry before it.
     fn settle(&mut self, x: I, place: &Place<I>, new: usize) -> usize
-        requires growing { IsGrowing (I.whole x) (entries_of self.old.entries.items) self.old.shape.nodes.items self.old.root new self.old.kept }
+        requires growing { IsGrowing (I.whole x)
+            (entries_of self.old.entries.items) self.old.shape.nodes.items self.old.root new self.old.kept }
         requires place { IsPlaceInRange I.whole I.MIN_COORD I.MAX_COORD place.now }
         ensures entries { self.new.entries ≡ self.old.entries }
         ensures kept { self.new.kept ≤ self.old.kept }
-        ensures grown { (m : IsGrowing (I.whole x) (entries_of self.old.entries.items) self.old.shape.nodes.items self.old.root new self.old.kept) → IsGrown (I.whole x) (entries_of self.old.entries.items) (λ i. stands_before I.whole place.now (segment_at (entries_of self.old.entries.items) i).pair) m.down.placed self.new.shape.nodes.items self.new.root self.new.kept result }
+        ensures grown { (m : IsGrowing (I.whole x)
+            (entries_of self.old.entries.items) self.old.shape.nodes.items self.old.root new self.old.kept)
+            → IsGrown (I.whole x) (entries_of self.old.entries.items)
+            (λ i. stands_before I.whole place.now (segment_at
+            (entries_of self.old.entries.items) i).pair) m.down.placed self.new.shape.nodes.items self.new.root
+            self.new.kept result }
         ensures compared { IsAskedWithin self.old.kept (self.old.kept - self.new.kept) self.new.compared }
         ensures reached { height_at self.new.shape.nodes.items self.new.root / 2 ≤ self.new.compared + 1 }
     {
@@ -142,7 +158,8 @@ impl<C: WindingCount, I: OverlayInt> ScanTree<C, I> {
     /// Adds an entry with a node of its own, which is in no tree yet. Answers its index.
     fn push(&mut self, entry: Entry<C, I>) -> Result<usize, Fault>
         ensures entries { OnOk result (self.new.entries.items ≡ self.old.entries.items ++ entry ∷ []) }
-        ensures nodes { OnOk result (self.new.shape.nodes.items ≡ self.old.shape.nodes.items ++ record { left = none; right = none; height = 1 } ∷ []) }
+        ensures nodes { OnOk result (self.new.shape.nodes.items ≡ self.old.shape.nodes.items
+            ++ record { left = none; right = none; height = 1 } ∷ []) }
         ensures root { self.new.root ≡ self.old.root }
         ensures kept { self.new.kept ≡ self.old.kept }
         ensures index { IfOk result (λ new. (new ≡ length self.old.entries.items) × (new < none)) }
@@ -167,7 +184,7 @@ impl<C: WindingCount, I: OverlayInt> LiveSegments<C, I> for ScanTree<C, I> {
     ghost use Rattle.overlay_base.specs.PointOf.{point_of};
     ghost use Rattle.overlay_base.specs.InRange.{IsPointInRange};
     ghost use Rattle.overlay_base.specs.VSegmentOf.{IsVSegmentInRange};
-    ghost use Rattle.overlay_sweep.specs.Sweep.{sum_below};
+    ghost use Rattle.overlay_sweep.specs.Live.{sum_below};
     ghost use Rattle.overlay_sweep.specs.Live.{HoldSameFrom, AreFreeAt};
     ghost use Rattle.overlay_sweep.specs.ScanTrees.{IsAskedWithin};
     ghost use Rattle.overlay_sweep.specs.LiveOf.{tree_sums, kept_in, IsSoundAt, height_of, tree_asked};
@@ -219,7 +236,8 @@ impl<C: WindingCount, I: OverlayInt> LiveSegments<C, I> for ScanTree<C, I> {
         ensures sums { HoldSameFrom (I.whole x) (tree_sums self.new) (tree_sums self.old) }
         ensures time { (y : ℤ) → I.whole x ≤ℤ y → IsSoundAt y self.new }
         ensures kept { kept_in self.new ≤ kept_in self.old }
-        ensures compared { IsAskedWithin (kept_in self.old) (kept_in self.old - kept_in self.new) (tree_asked self.new) }
+        ensures compared { IsAskedWithin (kept_in self.old) (kept_in self.old - kept_in self.new)
+            (tree_asked self.new) }
         ensures reached { height_of self.new / 2 ≤ tree_asked self.new + 1 }
     {
         let last = self.settle(x, &Place::Point(p), NONE);

@@ -4,7 +4,7 @@ ghost use Rattle.overlay_base.specs.ArrangedOf.{IsArranged};
 ghost use Rattle.overlay_base.specs.Balance.{IsBalanced};
 ghost use Rattle.overlay_base.specs.SegmentOf.{segments_of, data_segments_of};
 ghost use Rattle.overlay_sweep.specs.Sweep.{visits, handled, visited, visits_leave_range};
-ghost use Rattle.overlay_sweep.specs.Laws.{HaveColumnWindings};
+ghost use Rattle.overlay_sweep.specs.ChainWindings.{HaveColumnWindings};
 ghost use Rattle.overlay_sweep.specs.LiveOf.{run_asked};
 
 use crate::build::fill_handler::FillHandler;
@@ -28,7 +28,7 @@ use std::alloc::Global;
 pub struct SweepRunner<C: WindingCount, I: OverlayInt> {
     list: ScanList<C, I>,
     tree: ScanTree<C, I>,
-    node: Vec<Way<I>>,
+    ways: Vec<Way<I>>,
     compared: u128,
 }
 
@@ -40,7 +40,7 @@ impl<C: WindingCount, I: OverlayInt> SweepRunner<C, I> {
         SweepRunner {
             list: ScanList::new(alloc),
             tree: ScanTree::new(alloc),
-            node: Vec::new(alloc),
+            ways: Vec::new(alloc),
             compared: 0,
         }
     }
@@ -76,13 +76,13 @@ impl<C: WindingCount, I: OverlayInt> SweepRunner<C, I> {
         ensures windings { IsBalanced (segments_of segments.now) → HaveColumnWindings (segments_of segments.now) }
         ensures refused { OnErr result (run_asked self.new ≡ run_asked self.old) }
     {
-        let node = &mut self.node;
+        let ways = &mut self.ways;
         let mut compared = 0;
         let answer = if solver.is_list_fill(segments) {
             let list = &mut self.list;
             sweep_with_handler::<C, I, D, F, ScanList<C, I>, H>(
                 list,
-                node,
+                ways,
                 segments,
                 handler,
                 &mut compared,
@@ -91,7 +91,7 @@ impl<C: WindingCount, I: OverlayInt> SweepRunner<C, I> {
             let tree = &mut self.tree;
             sweep_with_handler::<C, I, D, F, ScanTree<C, I>, H>(
                 tree,
-                node,
+                ways,
                 segments,
                 handler,
                 &mut compared,
@@ -121,7 +121,8 @@ impl<C: FillCount, I: OverlayInt> SweepRunner<C, I> {
         requires arranged { IsArranged segments.now }
         requires takes { (index : ℕ) → index < length segments.now → H.takes handler index }
         ensures answer { IfOk result (λ answer.
-            answer ≡ handled H.handle_gives H.finalize_gives handler (visits fill_rule (data_segments_of segments.now))) }
+            answer ≡ handled H.handle_gives H.finalize_gives handler
+            (visits fill_rule (data_segments_of segments.now))) }
         ensures in_range { OnOk result (IsFalse (visits_leave_range (segments_of segments.now)
             (visited H.handle_gives handler (visits fill_rule (data_segments_of segments.now))))) }
         ensures out_of_range { IfErr result (λ fault. fault ≡ Fault.CountOutOfRange →

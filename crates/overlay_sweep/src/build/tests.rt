@@ -27,7 +27,12 @@ pub type Line = Segment<ShapeCountBoolean, i32, ()>;
 
 pub fn line(ax: i32, ay: i32, bx: i32, by: i32, subj: i32, clip: i32) -> Line
     requires { IsTrue (point_lt (record { x = ax; y = ay }) (record { x = bx; y = by })) }
-    ensures { segment_of result ≡ record { pair = record { a = record { x = ax; y = ay }; b = record { x = bx; y = by } }; count = record { subj = subj; clip = clip; mask = 0 } } }
+    ensures { segment_of result ≡ record {
+      pair = record
+          { a = record { x = ax; y = ay }; b = record { x = bx; y = by } };
+      count = record
+          { subj = subj; clip = clip; mask = 0 };
+    } }
 {
     let a = IntPoint { x: ax, y: ay };
     let b = IntPoint { x: bx, y: by };

@@ -36,7 +36,8 @@ impl TreeShape {
 
     /// Adds a node with none below it, a tree of its own.
     pub fn push(&mut self) -> Result<(), Fault>
-        ensures nodes { OnOk result (self.new.nodes.items ≡ self.old.nodes.items ++ record { left = none; right = none; height = 1 } ∷ []) }
+        ensures nodes { OnOk result (self.new.nodes.items ≡ self.old.nodes.items
+            ++ record { left = none; right = none; height = 1 } ∷ []) }
         ensures fault { IfErr result (λ fault. fault ≡ Fault.Memory) }
     {
         let node = TreeNode {
@@ -90,7 +91,9 @@ impl TreeShape {
     fn join_to_high_left(&mut self, left: usize, at: usize, right: usize) -> usize
         requires joinable { AreJoinable self.old.nodes.items left at right }
         requires high { height_at self.old.nodes.items left ≡ 2 + height_at self.old.nodes.items right }
-        ensures { (j : AreJoinable self.old.nodes.items left at right) → IsJoined self.old.nodes.items self.new.nodes.items result (j.before ++ at ∷ j.after) j.left_height j.right_height }
+        ensures { (j : AreJoinable self.old.nodes.items left at right)
+            → IsJoined self.old.nodes.items self.new.nodes.items result
+            (j.before ++ at ∷ j.after) j.left_height j.right_height }
     {
         let top = self.nodes[left];
         if self.height(top.right) <= self.height(top.left) {
@@ -109,7 +112,9 @@ impl TreeShape {
     fn join_to_high_right(&mut self, left: usize, at: usize, right: usize) -> usize
         requires joinable { AreJoinable self.old.nodes.items left at right }
         requires high { height_at self.old.nodes.items right ≡ 2 + height_at self.old.nodes.items left }
-        ensures { (j : AreJoinable self.old.nodes.items left at right) → IsJoined self.old.nodes.items self.new.nodes.items result (j.before ++ at ∷ j.after) j.left_height j.right_height }
+        ensures { (j : AreJoinable self.old.nodes.items left at right)
+            → IsJoined self.old.nodes.items self.new.nodes.items result
+            (j.before ++ at ∷ j.after) j.left_height j.right_height }
     {
         let top = self.nodes[right];
         if self.height(top.left) <= self.height(top.right) {
@@ -127,7 +132,9 @@ impl TreeShape {
     /// Joins two trees by a node between them. Answers the top.
     pub fn join(&mut self, left: usize, at: usize, right: usize) -> usize
         requires { AreJoinable self.old.nodes.items left at right }
-        ensures { (j : AreJoinable self.old.nodes.items left at right) → IsJoined self.old.nodes.items self.new.nodes.items result (j.before ++ at ∷ j.after) j.left_height j.right_height }
+        ensures { (j : AreJoinable self.old.nodes.items left at right)
+            → IsJoined self.old.nodes.items self.new.nodes.items result
+            (j.before ++ at ∷ j.after) j.left_height j.right_height }
     {
         let left_height = self.height(left);
         let right_height = self.height(right);
@@ -145,7 +152,9 @@ impl TreeShape {
     pub fn rejoin(&mut self, left: usize, at: usize, right: usize, is_parent: bool) -> usize
         requires joinable { AreJoinable self.old.nodes.items left at right }
         requires parent { is_parent ≡ true → IsParent self.old.nodes.items left at right }
-        ensures joined { (j : AreJoinable self.old.nodes.items left at right) → IsJoined self.old.nodes.items self.new.nodes.items result (j.before ++ at ∷ j.after) j.left_height j.right_height }
+        ensures joined { (j : AreJoinable self.old.nodes.items left at right)
+            → IsJoined self.old.nodes.items self.new.nodes.items result
+            (j.before ++ at ∷ j.after) j.left_height j.right_height }
         ensures same { is_parent ≡ true → (self.new.nodes.items ≡ self.old.nodes.items) × (result ≡ at) }
     {
         if is_parent {
@@ -158,7 +167,8 @@ impl TreeShape {
     fn remove_first(&mut self, at: usize) -> (usize, usize)
         requires sound { IsSound self.old.nodes.items at }
         requires some { at ≢ none }
-        ensures { (t : IsSound self.old.nodes.items at) → IsFirstRemoved self.old.nodes.items self.new.nodes.items result.0 result.1 t.order t.high }
+        ensures { (t : IsSound self.old.nodes.items at)
+            → IsFirstRemoved self.old.nodes.items self.new.nodes.items result.0 result.1 t.order t.high }
     {
         let node = self.nodes[at];
         if node.left == NONE {
@@ -172,7 +182,8 @@ impl TreeShape {
     pub fn remove_top(&mut self, at: usize) -> usize
         requires sound { IsSound self.old.nodes.items at }
         requires some { at ≢ none }
-        ensures { (t : IsSound self.old.nodes.items at) → IsTopRemoved self.old.nodes.items self.new.nodes.items at result t.order t.high }
+        ensures { (t : IsSound self.old.nodes.items at)
+            → IsTopRemoved self.old.nodes.items self.new.nodes.items at result t.order t.high }
     {
         let node = self.nodes[at];
         if node.right == NONE {

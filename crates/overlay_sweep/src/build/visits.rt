@@ -2,7 +2,7 @@
 ghost use Rattle.std.specs.Prelude.{◌≡◌, ℕ, ◌+◌, ◌-◌, ◌^◌, ◌<◌, ◌≤ℤ◌, ◌<ℤ◌, min, ℤ, ◌∷◌, ⊤, IsTrue, IsFalse, IfOk, OnOk, IfErr, length};
 ghost use Rattle.std.specs.ControlFlow.{break_value, MatchControlFlow};
 ghost use Rattle.overlay_base.specs.Windings.{add, weight, is_valid, is_count_in_range};
-ghost use Rattle.overlay_base.specs.Planar.{is_arranged};
+ghost use Rattle.overlay_base.specs.ArrangedOf.{IsArranged};
 ghost use Rattle.overlay_base.specs.InRange.{IsPairInRange};
 ghost use Rattle.overlay_base.specs.SegmentOf.{segments_of, data_segments_of, x_segment_of, winding_of, ends_of as pair_of_segment};
 ghost use Rattle.overlay_sweep.specs.Fill.{fill_byte};
@@ -13,7 +13,7 @@ ghost use Rattle.overlay_sweep.specs.Live.{HoldSameFrom, AreFreeAt};
 use crate::build::fill_handler::FillHandler;
 use crate::build::fill_strategy::FillStrategy;
 use crate::build::live_segments::LiveSegments;
-use crate::build::node::{collect_node, node_end};
+use crate::build::start_point::{collect_ways, start_point_end};
 use crate::build::way::Way;
 use overlay_base::geom::v_segment::VSegment;
 use overlay_base::num::OverlayInt;
@@ -44,15 +44,37 @@ where
     requires bottom { IsTrue (is_valid (C.winding bottom)) }
     requires takes { H.takes handler.old index }
     requires time { (y : ℤ) → (pair_of_segment segment.now).a.x ≤ℤ y → S.may_go_on_at live.old y }
-    requires free { AreFreeAt (pair_of_segment segment.now).a.x (record { pair = pair_of_segment segment.now; count = add (weight (C.winding bottom)) (weight (winding_of segment.now)) } ∷ S.sums live.old) }
-    ensures range { IfErr result (λ fault. fault ≡ Fault.CountOutOfRange → IsFalse (is_count_in_range (add (weight (C.winding bottom)) (weight (winding_of segment.now))))) }
-    ensures in_range { OnOk result (IsTrue (is_count_in_range (add (weight (C.winding bottom)) (weight (winding_of segment.now))))) }
-    ensures top { IfOk result (λ flow. MatchControlFlow flow (λ top. C.winding top ≡ add (weight (C.winding bottom)) (weight (winding_of segment.now))) (λ _. ⊤)) }
-    ensures answer { IfOk result (λ flow. break_value flow ≡ (H.handle_gives handler.old (visit_of index segment.now (fill_byte F.rule (C.winding bottom) (add (weight (C.winding bottom)) (weight (winding_of segment.now))) (winding_of segment.now).mask))).1) }
-    ensures handler { OnOk result (handler.new ≡ (H.handle_gives handler.old (visit_of index segment.now (fill_byte F.rule (C.winding bottom) (add (weight (C.winding bottom)) (weight (winding_of segment.now))) (winding_of segment.now).mask))).0) }
-    ensures live { IfOk result (λ flow. MatchControlFlow flow (λ _. HoldSameFrom (pair_of_segment segment.now).a.x (S.sums live.new) (record { pair = pair_of_segment segment.now; count = add (weight (C.winding bottom)) (weight (winding_of segment.now)) } ∷ S.sums live.old)) (λ _. ⊤)) }
-    ensures time { IfOk result (λ flow. MatchControlFlow flow (λ _. (y : ℤ) → (pair_of_segment segment.now).a.x ≤ℤ y → S.may_go_on_at live.new y) (λ _. ⊤)) }
-    ensures asked { IfOk result (λ flow. MatchControlFlow flow (λ _. (pair_of_segment segment.now).a.x <ℤ (pair_of_segment segment.now).b.x → compared.new ≡ min (compared.old + S.asked live.new) (2 ^ 128 - 1)) (λ _. ⊤)) }
+    requires free { AreFreeAt (pair_of_segment segment.now).a.x
+        (record {
+          pair = pair_of_segment segment.now;
+          count = add (weight (C.winding bottom))
+              (weight (winding_of segment.now));
+        } ∷ S.sums live.old) }
+    ensures range { IfErr result (λ fault. fault ≡ Fault.CountOutOfRange
+        → IsFalse (is_count_in_range (add (weight (C.winding bottom)) (weight (winding_of segment.now))))) }
+    ensures in_range { OnOk result (IsTrue (is_count_in_range
+        (add (weight (C.winding bottom)) (weight (winding_of segment.now))))) }
+    ensures top { IfOk result (λ flow. MatchControlFlow flow
+        (λ top. C.winding top ≡ add (weight (C.winding bottom)) (weight (winding_of segment.now))) (λ _. ⊤)) }
+    ensures answer { IfOk result (λ flow. break_value flow
+        ≡ (H.handle_gives handler.old (visit_of index segment.now
+        (fill_byte F.rule (C.winding bottom) (add (weight (C.winding bottom)) (weight (winding_of segment.now)))
+        (winding_of segment.now).mask))).1) }
+    ensures handler { OnOk result (handler.new ≡ (H.handle_gives handler.old
+        (visit_of index segment.now (fill_byte F.rule (C.winding bottom)
+        (add (weight (C.winding bottom)) (weight (winding_of segment.now))) (winding_of segment.now).mask))).0) }
+    ensures live { IfOk result (λ flow. MatchControlFlow flow
+        (λ _. HoldSameFrom (pair_of_segment segment.now).a.x (S.sums live.new)
+        (record {
+          pair = pair_of_segment segment.now;
+          count = add (weight (C.winding bottom))
+              (weight (winding_of segment.now));
+        } ∷ S.sums live.old)) (λ _. ⊤)) }
+    ensures time { IfOk result (λ flow. MatchControlFlow flow
+        (λ _. (y : ℤ) → (pair_of_segment segment.now).a.x ≤ℤ y → S.may_go_on_at live.new y) (λ _. ⊤)) }
+    ensures asked { IfOk result (λ flow. MatchControlFlow flow
+        (λ _. (pair_of_segment segment.now).a.x <ℤ (pair_of_segment segment.now).b.x → compared.new
+        ≡ min (compared.old + S.asked live.new) (2 ^ 128 - 1)) (λ _. ⊤)) }
 {
     let (top, fill) = F::add_and_fill(segment.count(), bottom)?;
     if let ControlFlow::Break(answer) = handler.handle(index, segment, fill) {
@@ -70,7 +92,7 @@ where
 /// orders this asked of live segments, `u128::MAX` at most.
 pub fn sweep_with_handler<C, I, D, F, S, H>(
     live: &mut S,
-    node: &mut Vec<Way<I>>,
+    ways: &mut Vec<Way<I>>,
     segments: &[Segment<C, I, D>],
     mut handler: H,
     compared: &mut u128,
@@ -82,22 +104,26 @@ where
     F: FillStrategy<C>,
     S: LiveSegments<C, I>,
     H: FillHandler<C, I, D>,
-    requires arranged { IsTrue (is_arranged (I.whole I.MIN_COORD) (I.whole I.MAX_COORD) (segments_of segments.now)) }
+    requires arranged { IsArranged segments.now }
     requires takes { (index : ℕ) → index < length segments.now → H.takes handler index }
-    ensures answer { IfOk result (λ answer. answer ≡ handled H.handle_gives H.finalize_gives handler (visits F.rule (data_segments_of segments.now))) }
-    ensures in_range { OnOk result (IsFalse (visits_leave_range (segments_of segments.now) (visited H.handle_gives handler (visits F.rule (data_segments_of segments.now))))) }
-    ensures out_of_range { IfErr result (λ fault. fault ≡ Fault.CountOutOfRange → IsTrue (visits_leave_range (segments_of segments.now) (visited H.handle_gives handler (visits F.rule (data_segments_of segments.now))))) }
+    ensures answer { IfOk result (λ answer. answer ≡ handled H.handle_gives H.finalize_gives handler
+        (visits F.rule (data_segments_of segments.now))) }
+    ensures in_range { OnOk result (IsFalse (visits_leave_range (segments_of segments.now)
+        (visited H.handle_gives handler (visits F.rule (data_segments_of segments.now))))) }
+    ensures out_of_range { IfErr result (λ fault. fault ≡ Fault.CountOutOfRange
+        → IsTrue (visits_leave_range (segments_of segments.now)
+        (visited H.handle_gives handler (visits F.rule (data_segments_of segments.now))))) }
 {
     live.clear();
     *compared = 0;
     let mut index = 0;
     while index < segments.len() {
         let start = segments[index].x_segment().a;
-        let next = node_end(segments, index);
-        collect_node(segments, index, next, node)?;
+        let next = start_point_end(segments, index);
+        collect_ways(segments, index, next, ways)?;
         let mut sum = live.sum_below(start.x, start, C::new(0, 0));
         *compared = compared.saturating_add(live.compared());
-        for way in node.iter() {
+        for way in ways.iter() {
             let segment = &segments[way.index];
             let seen = visit::<C, I, D, F, S, H>(
                 live,

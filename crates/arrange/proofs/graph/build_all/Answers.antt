@@ -5,7 +5,7 @@ use Rattle.overlay_base.specs.SegmentOf.{segments_of}
 use Rattle.overlay_base.specs.declared.segm.fault.Fault.TheVariants.{CountOutOfRange}
 use Rattle.overlay_sweep.specs.ChainWindings.{tops_leave_range}
 use Rattle.overlay_build.specs.NodeIndexes.{indexes_of, is_canonical_node}
-use Rattle.overlay_build.proofs.laws.BuiltGraphs.{graph_with_kept}
+use Rattle.overlay_build.proofs.laws.graphs.BuiltGraphs.{graph_with_kept}
 use Rattle.arrange.proofs.graph.build_all.Goals as goal
 
 pub returns-clause-graph : goal.returns-clause-graph

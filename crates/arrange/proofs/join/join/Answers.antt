@@ -1,5 +1,5 @@
 use Rattle.overlay_base.specs.SegmentOf.{segment_of}
-use Rattle.overlay_base.proofs.laws.Rests.{is_splittable-valid}
+use Rattle.overlay_base.proofs.laws.joins.Rests.{is_splittable-valid}
 use Rattle.arrange.proofs.join.join.Goals as goal
 
 pub join_with_store-requires : goal.join_with_store-requires

@@ -1,4 +1,4 @@
-use Rattle.std.proofs.Common.{ℕ, List, subst, sym}
+use Rattle.std.proofs.Common.{ℕ, List}
 use Rattle.std.proofs.lemmas.Result.{IfOk-weaker, on_ok_weaker}
 use Rattle.overlay_base.specs.ClipRules.{keeps_clip}
 use Rattle.overlay_base.specs.Segments.{WholeSegment}
@@ -10,7 +10,7 @@ use Rattle.overlay_build.specs.GraphOf.{HoldGraph, graph_with}
 use Rattle.overlay_build.specs.NodeIndexes.{items_of, is_any_node}
 use Rattle.overlay_build.specs.StringGraphOf.{nodes_of, links_of}
 use Rattle.i_overlay.specs.Headline.{IsSplit, IsClip}
-use Rattle.overlay_build.proofs.laws.BuiltGraphs.{graph_with_kept, hold_own_graph}
+use Rattle.overlay_build.proofs.laws.graphs.BuiltGraphs.{graph_with_kept, hold_own_graph}
 use Rattle.i_overlay.proofs.laws.Overlays.{none_arranged, split_from, clip_from, refused_build}
 use Rattle.i_overlay.proofs.clip.split_and_build_clip.Goals as goal
 

@@ -11,8 +11,8 @@ use Rattle.overlay_build.specs.GraphOf.{HoldGraph, graph_with}
 use Rattle.overlay_build.specs.NodeIndexes.{indexes_of, is_canonical_node}
 use Rattle.i_overlay.specs.FarRegions.{EnclosesOverlay}
 use Rattle.i_overlay.specs.Headline.{IsSplit, IsOverlay}
-use Rattle.overlay_split.proofs.laws.DataInvariants.{data_keeps_what_hooks_keep}
-use Rattle.overlay_build.proofs.laws.BuiltGraphs.{graph_with_kept}
+use Rattle.overlay_split.proofs.laws.passes.DataInvariants.{data_keeps_what_hooks_keep}
+use Rattle.overlay_build.proofs.laws.graphs.BuiltGraphs.{graph_with_kept}
 use Rattle.i_overlay.proofs.laws.FarRegions.{overlay_region}
 use Rattle.i_overlay.proofs.laws.Overlays.{data_of_links, none_arranged, split_from, overlay_from, refused_build}
 use Rattle.i_overlay.proofs.overlay.split_and_build_overlay.Goals as goal

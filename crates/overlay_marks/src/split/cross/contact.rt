@@ -3,7 +3,7 @@
 ghost use Rattle.std.specs.Prelude.{◌≡◌, ◌≢◌, false};
 ghost use Rattle.overlay_base.specs.PairOf.{pair_of};
 ghost use Rattle.overlay_base.specs.InRange.{IsPairInRange};
-ghost use Rattle.overlay_marks.specs.steps.ContactOf.{AreSides, IsContact, zeros_of, are_apart};
+ghost use Rattle.overlay_marks.specs.steps.ContactOf.{AreSides, IsContact, zeros_of, leave_no_contact};
 
 use crate::split::cross::result::{CrossResult, CrossType};
 use overlay_base::geom::point::IntPoint;
@@ -43,7 +43,7 @@ pub fn contact_of<I: OverlayInt>(target: &XSegment<I>, other: &XSegment<I>) -> C
     let zeros = sides.zeros();
     if zeros == 4 {
         at(IntPoint::new(I::ZERO, I::ZERO), CrossType::Overlay)
-    } else if sides.are_apart() {
+    } else if sides.leave_no_contact() {
         Contact::Apart
     } else if zeros == 0 {
         Contact::Crossing
@@ -93,8 +93,8 @@ impl Sides {
     }
 
     /// Whether an end is shared, or both ends of one lie on the same side of the other.
-    fn are_apart(self) -> bool
-        ensures { result ≡ are_apart self }
+    fn leave_no_contact(self) -> bool
+        ensures { result ≡ leave_no_contact self }
     {
         self.zeros() > 1 || self.other_a == self.other_b || self.target_a == self.target_b
     }

@@ -105,7 +105,8 @@ fn crossing_d<I: OverlayInt>(target: &XSegment<I>, other: &XSegment<I>) -> i64
 /// The point so far from another.
 fn moved<I: OverlayInt>(from: IntPoint<I>, x: i128, y: i128) -> IntPoint<I>
     requires from { IsPointInRange I.whole I.MIN_COORD I.MAX_COORD from }
-    requires to { IsTrue (is_point_in_range (I.whole I.MIN_COORD) (I.whole I.MAX_COORD) (moved (record { x = x; y = y }) (point_of I.whole from))) }
+    requires to { IsTrue (is_point_in_range (I.whole I.MIN_COORD) (I.whole I.MAX_COORD)
+        (moved (record { x = x; y = y }) (point_of I.whole from))) }
     ensures { point_of I.whole result ≡ moved (record { x = x; y = y }) (point_of I.whole from) }
 {
     IntPoint::new(coordinate(from.x, x), coordinate(from.y, y))

@@ -17,7 +17,9 @@ pub enum CrossType {
 /// Where two segments meet.
 #[derive(Clone, Copy, Debug)]
 pub struct CrossResult<I> {
+    /// Where; of no meaning where all four ends lie on one line.
     pub point: IntPoint<I>,
+    /// What the point is.
     pub cross_type: CrossType,
     /// Whether the point is not the exact crossing point.
     pub is_round: bool,

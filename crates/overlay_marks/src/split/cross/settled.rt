@@ -21,7 +21,8 @@ pub fn settled<I: OverlayInt>(target: &XSegment<I>, other: &XSegment<I>) -> Cros
     requires target { IsPairInRange I.whole I.MIN_COORD I.MAX_COORD target.now }
     requires other { IsPairInRange I.whole I.MIN_COORD I.MAX_COORD other.now }
     requires crossing { IsTrue (do_cross (pair_of I.whole target.now) (pair_of I.whole other.now)) }
-    ensures { crossing_answer settling (pair_of I.whole target.now) (pair_of I.whole other.now) ≡ Some (result_of I.whole result) }
+    ensures { crossing_answer settling (pair_of I.whole target.now) (pair_of I.whole other.now)
+        ≡ Some (result_of I.whole result) }
 {
     let point = settling_point(target, other);
     CrossResult {
@@ -37,7 +38,8 @@ fn kind_of_point<I: OverlayInt>(
     other: &XSegment<I>,
     point: IntPoint<I>,
 ) -> CrossType
-    ensures { kind_of result ≡ kind_of_point (pair_of I.whole target.now) (pair_of I.whole other.now) (point_of I.whole point) }
+    ensures { kind_of result ≡ kind_of_point (pair_of I.whole target.now) (pair_of I.whole other.now)
+        (point_of I.whole point) }
 {
     if is_end(target, point) {
         CrossType::TargetEnd

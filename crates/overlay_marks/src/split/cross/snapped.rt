@@ -34,7 +34,8 @@ pub fn snapped<I: OverlayInt>(
     requires other { IsPairInRange I.whole I.MIN_COORD I.MAX_COORD other.now }
     requires crossing { IsTrue (do_cross (pair_of I.whole target.now) (pair_of I.whole other.now)) }
     requires radius { pos 0 ≤ℤ radius_squared }
-    ensures { crossing_answer (snapping (unsigned_abs radius_squared)) (pair_of I.whole target.now) (pair_of I.whole other.now) ≡ Some (result_of I.whole result) }
+    ensures { crossing_answer (snapping (unsigned_abs radius_squared)) (pair_of I.whole target.now)
+        (pair_of I.whole other.now) ≡ Some (result_of I.whole result) }
 {
     let point = snapping_point(target, other);
     if is_on_lines(target, other, point) {
@@ -61,9 +62,11 @@ fn snapped_to_end<I: OverlayInt>(
     requires point { IsPointInRange I.whole I.MIN_COORD I.MAX_COORD point }
     requires crossing { IsTrue (do_cross (pair_of I.whole target.now) (pair_of I.whole other.now)) }
     requires placed { point_of I.whole point ≡ snapping_point (pair_of I.whole target.now) (pair_of I.whole other.now) }
-    requires off { IsFalse (is_on_lines (pair_of I.whole target.now) (pair_of I.whole other.now) (point_of I.whole point)) }
+    requires off { IsFalse (is_on_lines (pair_of I.whole target.now) (pair_of I.whole other.now)
+        (point_of I.whole point)) }
     requires radius { pos 0 ≤ℤ radius_squared }
-    ensures { crossing_answer (snapping (unsigned_abs radius_squared)) (pair_of I.whole target.now) (pair_of I.whole other.now) ≡ Some (result_of I.whole result) }
+    ensures { crossing_answer (snapping (unsigned_abs radius_squared)) (pair_of I.whole target.now)
+        (pair_of I.whole other.now) ≡ Some (result_of I.whole result) }
 {
     let target_end = nearer_end(target, point);
     let other_end = nearer_end(other, point);

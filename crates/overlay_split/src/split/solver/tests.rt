@@ -456,9 +456,21 @@ impl OverlayEdgeData<ShapeCountBoolean> for Colors {
 
     ghost use Rattle.std.specs.Prelude.{◌≡◌, ◌+◌, ◌-◌, ◌^◌, Some, min, bit_or};
 
-    ghost reversed_gives = { λ colors store. (colors, record store { reversals = min (store.reversals + 1) (2 ^ 32 - 1) }) };
+    ghost reversed_gives = { λ colors store. (
+      colors,
+      record store {
+        reversals = min (store.reversals + 1)
+            (2 ^ 32 - 1);
+      },
+    ) };
 
-    ghost split_gives = { λ colors _ _ _ store. ((colors, colors), record store { splits = min (store.splits + 1) (2 ^ 32 - 1) }) };
+    ghost split_gives = { λ colors _ _ _ store. (
+      (colors, colors),
+      record store {
+        splits = min (store.splits + 1)
+            (2 ^ 32 - 1);
+      },
+    ) };
 
     ghost merge_gives = { λ merged store. (
       record { 0 = bit_or merged.lhs_data.0 merged.rhs_data.0 },
@@ -477,7 +489,11 @@ impl OverlayEdgeData<ShapeCountBoolean> for Colors {
 
     fn merge(merged: EdgeDataMerge<ShapeCountBoolean, Colors>, store: &mut Calls) -> Colors
         ensures answer { result ≡ record { 0 = bit_or merged.lhs_data.0 merged.rhs_data.0 } }
-        ensures store { store.new ≡ record store.old { merges = min (store.old.merges + 1) (2 ^ 32 - 1); merged = Some merged } }
+        ensures store { store.new ≡ record store.old {
+          merges = min (store.old.merges + 1)
+              (2 ^ 32 - 1);
+          merged = Some merged;
+        } }
     {
         let colors = Colors(merged.lhs_data.0 | merged.rhs_data.0);
         store.merges = store.merges.saturating_add(1);
@@ -651,4 +667,38 @@ fn radii_stop_at_the_cap(rt: HostRuntime) {
     assert_eq!(rt; radii(Precision::HIGH), [1, 2, 4]);
     assert_eq!(rt; radii(late), [8_388_608, 16_777_216, 16_777_216]);
     assert_eq!(rt; radii(huge), [16_777_216; 3]);
+}
+
+/// 250 squares in a row, each of which overlaps the next, under a strategy: the segments after, and how many pairs were
+/// taken up.
+fn row_of_squares(
+    rt: &(impl Abort + AllocGlobal),
+    strategy: Strategy,
+) -> Result<(Vec<Row>, u128), Fail> {
+    let mut list: Vec<Segment<ShapeCountBoolean, i32, ()>> = Vec::new(rt.alloc());
+    for square in 0..250_u16 {
+        let left = i64::from(square) * 20;
+        let right = left + 30;
+        list.push(segment(rt, ((left, 0), (right, 0), 1)))?;
+        list.push(segment(rt, ((right, 0), (right, 30), 1)))?;
+        list.push(segment(rt, ((right, 30), (left, 30), 1)))?;
+        list.push(segment(rt, ((left, 30), (left, 0), 1)))?;
+    }
+    let solver = Solver::with_strategy_and_precision(strategy, Precision::HIGH);
+    let mut splitter = SplitSolver::new(rt.alloc());
+    assert!(rt; is_splittable(&list));
+    assert!(rt; splitter.split_segments(&mut list, &solver).is_ok());
+    let rows = list.iter().map(row).collect(rt.alloc())?;
+    Ok((rows, splitter.looked()))
+}
+
+/// All heights meet, so looked through upward every column would take up every two. From left to right it takes up those
+/// whose boxes meet, each in at most two columns.
+#[test]
+fn squares_in_a_row(rt: HostRuntime) -> Result<(), Fail> {
+    let (by_list, list_looked) = row_of_squares(&rt, Strategy::List)?;
+    let (by_grid, grid_looked) = row_of_squares(&rt, Strategy::Frag)?;
+    assert_eq!(rt; by_grid.as_slice(), by_list.as_slice());
+    assert!(rt; grid_looked / 2 <= list_looked);
+    Ok(())
 }

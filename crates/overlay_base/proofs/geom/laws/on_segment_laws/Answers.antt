@@ -1,4 +1,4 @@
-use Rattle.overlay_base.proofs.laws.Points.{lies_on_by_order, lies_inside_by_order}
+use Rattle.overlay_base.proofs.laws.geometry.Points.{lies_on_by_order, lies_inside_by_order}
 use Rattle.overlay_base.proofs.geom.laws.on_segment_laws.Goals as goal
 
 pub returns-clause-lies_on : goal.returns-clause-lies_on

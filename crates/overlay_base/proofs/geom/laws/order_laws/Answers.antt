@@ -1,4 +1,4 @@
-use Rattle.overlay_base.proofs.laws.Points.{points_are_ordered, pairs_are_ordered}
+use Rattle.overlay_base.proofs.laws.geometry.Points.{points_are_ordered, pairs_are_ordered}
 use Rattle.overlay_base.proofs.geom.laws.order_laws.Goals as goal
 
 pub returns-clause-points : goal.returns-clause-points

@@ -1,4 +1,4 @@
-use Rattle.overlay_base.proofs.laws.Points.{turn_rotates, turn_changes_sign, turn_moved, turn_split}
+use Rattle.overlay_base.proofs.laws.geometry.Points.{turn_rotates, turn_changes_sign, turn_moved, turn_split}
 use Rattle.overlay_base.proofs.geom.laws.turn_laws.Goals as goal
 
 pub returns-clause-rotates : goal.returns-clause-rotates

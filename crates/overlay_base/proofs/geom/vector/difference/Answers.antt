@@ -1,6 +1,6 @@
 use Rattle.std.proofs.Common.{arith}
 use Rattle.std.proofs.lemmas.Int.{ints}
-use Rattle.overlay_base.proofs.laws.Coordinates.{difference_bound}
+use Rattle.overlay_base.proofs.laws.geometry.Coordinates.{difference_bound}
 use Rattle.overlay_base.proofs.geom.vector.difference.Goals as goal
 
 pub returns-clause-value : goal.returns-clause-value

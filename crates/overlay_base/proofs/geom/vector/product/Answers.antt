@@ -1,5 +1,5 @@
 use Rattle.std.proofs.Common.{to_z-of_z}
-use Rattle.overlay_base.proofs.laws.Coordinates.{product_bound, product_fits}
+use Rattle.overlay_base.proofs.laws.geometry.Coordinates.{product_bound, product_fits}
 use Rattle.overlay_base.proofs.geom.vector.product.Goals as goal
 
 pub returns-clause-value : goal.returns-clause-value

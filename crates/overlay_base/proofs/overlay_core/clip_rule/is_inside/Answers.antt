@@ -3,7 +3,7 @@ use Rattle.std.specs.Prelude.{bit_and}
 use Rattle.std.proofs.lemmas.Bool.{ne_eqb}
 use Rattle.overlay_base.specs.Rules.{bit}
 use Rattle.overlay_base.specs.ClipRules.{is_in_polygon}
-use Rattle.overlay_base.proofs.laws.Fills.{flag_tells}
+use Rattle.overlay_base.proofs.laws.counts.Fills.{flag_tells}
 use Rattle.overlay_base.proofs.overlay_core.clip_rule.is_inside.Goals as goal
 
 pub returns-else-top : goal.returns-else-top

@@ -2,7 +2,7 @@ use Rattle.std.proofs.Common.{◌≡◌, ◌∙◌, ap, sym, not, nat_eq, true, 
 use Rattle.std.specs.Prelude.{bit_and}
 use Rattle.std.proofs.lemmas.Bool.{ne_eqb}
 use Rattle.overlay_base.specs.Rules.{bit}
-use Rattle.overlay_base.proofs.laws.Fills.{flag_tells}
+use Rattle.overlay_base.proofs.laws.counts.Fills.{flag_tells}
 use Rattle.overlay_base.proofs.overlay_core.clip_rule.is_on_line.Goals as goal
 
 pub returns-then-fill-ne-NONE : goal.returns-then-fill-ne-NONE

@@ -1,4 +1,4 @@
-use Rattle.overlay_base.proofs.laws.Fills.{same_keep_the_same, opposites_keep_the_same, rules_are_their_tables, complements_are_opposite}
+use Rattle.overlay_base.proofs.laws.counts.Fills.{same_keep_the_same, opposites_keep_the_same, rules_are_their_tables, complements_are_opposite}
 use Rattle.overlay_base.proofs.overlay_core.laws.rule_laws.Goals as goal
 
 pub returns-clause-same : goal.returns-clause-same

@@ -5,8 +5,8 @@ use Rattle.overlay_base.specs.Ranges.{heights, is_off_range}
 use Rattle.overlay_base.specs.Meeting.{are_apart}
 use Rattle.overlay_base.specs.PairOf.{pair_of}
 use Rattle.overlay_base.specs.SegmentOf.{segments_of, segment_of, ends_of}
-use Rattle.overlay_base.proofs.laws.Rests.{rest-more, passes, fails, none_left, is_splittable-drop, first_in_range}
-use Rattle.overlay_base.proofs.laws.Apart.{apart_in_y, are_ordered, pairs-next, pairs-none, rest_apart_from}
+use Rattle.overlay_base.proofs.laws.joins.Rests.{rest-more, passes, fails, none_left, is_splittable-drop, first_in_range}
+use Rattle.overlay_base.proofs.laws.geometry.Apart.{apart_in_y, are_ordered, pairs-next, pairs-none, rest_apart_from}
 use Rattle.overlay_base.proofs.segm.arranged.is_apart_from_all.Goals as goal
 use Rattle.overlay_base.proofs.segm.arranged.is_apart_from_all.Goals.{else-not-is_not_intersect_y_range-via-then-not-is_not_intersect_y_range+else-not-are_apart, else-not-is_not_intersect_y_range-via-else-not-is_not_intersect_y_range}
 

@@ -1,7 +1,7 @@
 use Rattle.std.proofs.Common.{◌≡◌, refl, sym, ◌∙◌, Bool, true, false, ◌&&◌}
 use Rattle.std.proofs.lemmas.Bool.{both_ways}
 use Rattle.overlay_base.specs.SegmentOf.{segments_of}
-use Rattle.overlay_base.proofs.laws.Apart.{are_ordered, is_arranged-is}
+use Rattle.overlay_base.proofs.laws.geometry.Apart.{are_ordered, is_arranged-is}
 use Rattle.overlay_base.proofs.segm.arranged.is_arranged.Goals as goal
 use Rattle.overlay_base.proofs.segm.arranged.is_arranged.Goals.{then-is_splittable, else-is_splittable}
 

@@ -2,8 +2,8 @@ use Rattle.std.proofs.Common.{sym, ap, ◌∙◌, ◌∷◌}
 use Rattle.overlay_base.specs.Segments.{pairs}
 use Rattle.overlay_base.specs.PairOf.{pair_of}
 use Rattle.overlay_base.specs.SegmentOf.{segments_of, segment_of, ends_of}
-use Rattle.overlay_base.proofs.laws.Rests.{is_splittable-parts, first_in_range}
-use Rattle.overlay_base.proofs.laws.Apart.{is_planar-is, is_strictly_sorted-rest, first_apart, first_not_apart, none_apart, pairs-nil}
+use Rattle.overlay_base.proofs.laws.joins.Rests.{is_splittable-parts, first_in_range}
+use Rattle.overlay_base.proofs.laws.geometry.Apart.{is_planar-is, is_strictly_sorted-rest, first_apart, first_not_apart, none_apart, pairs-nil}
 use Rattle.overlay_base.proofs.segm.arranged.is_planar.Goals as goal
 
 pub is_apart_from_all-requires-clause-target : goal.is_apart_from_all-requires-clause-target

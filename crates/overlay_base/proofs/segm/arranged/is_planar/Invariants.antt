@@ -4,7 +4,7 @@ use Rattle.overlay_base.specs.Sorting.{is_strictly_sorted}
 use Rattle.overlay_base.specs.Segments.{pairs}
 use Rattle.overlay_base.specs.Planar.{is_splittable}
 use Rattle.overlay_base.specs.SegmentOf.{segments_of}
-use Rattle.overlay_base.proofs.laws.Apart.{are_all_apart}
+use Rattle.overlay_base.proofs.laws.geometry.Apart.{are_all_apart}
 use Rattle.overlay_base.proofs.segm.arranged.is_planar.Given as goal
 
 abbrev pub invariant-loop-first : goal.invariant-loop-first

@@ -1,6 +1,6 @@
 use Rattle.std.proofs.Common.{sym, ◌∙◌}
 use Rattle.overlay_base.specs.SegmentOf.{segments_of, segment_of}
-use Rattle.overlay_base.proofs.laws.Rests.{is_usable, rest-more, rest-none, passes, fails, none_left, is_splittable-is}
+use Rattle.overlay_base.proofs.laws.joins.Rests.{is_usable, rest-more, rest-none, passes, fails, none_left, is_splittable-is}
 use Rattle.overlay_base.proofs.segm.arranged.is_splittable.Goals as goal
 
 pub loop-segment-preserved : goal.loop-segment-preserved

@@ -1,7 +1,7 @@
 use Rattle.std.proofs.Common.{◌≡◌, drop}
 use Rattle.std.specs.List.{list_all}
 use Rattle.overlay_base.specs.SegmentOf.{segments_of}
-use Rattle.overlay_base.proofs.laws.Rests.{is_usable}
+use Rattle.overlay_base.proofs.laws.joins.Rests.{is_usable}
 use Rattle.overlay_base.proofs.segm.arranged.is_splittable.Given as goal
 
 abbrev pub invariant-loop-segment : goal.invariant-loop-segment

@@ -5,7 +5,7 @@ use Rattle.std.proofs.lemmas.List.Sorted.{All-permutation}
 use Rattle.overlay_base.specs.Windings.{is_valid}
 use Rattle.overlay_base.specs.HooksOf.{hooks_of}
 use Rattle.overlay_base.specs.SegmentOf.{segment_of, winding_of, data_segment_of}
-use Rattle.overlay_base.proofs.laws.SortedJoins.{join_leaves_range-sorted, join-sorted, has_equal_neighbors-moved, data-sorted, data_join-sorted}
+use Rattle.overlay_base.proofs.laws.joins.SortedJoins.{join_leaves_range-sorted, join-sorted, has_equal_neighbors-moved, data-sorted, data_join-sorted}
 use Rattle.overlay_base.proofs.segm.join.join_with_store.Goals as goal
 
 pub merge_if_needed_with_store-requires-clause-valid : goal.merge_if_needed_with_store-requires-clause-valid
@@ -19,13 +19,13 @@ returns-clause-geometry g c =
 pub returns-clause-edge_data : goal.returns-clause-edge_data
 returns-clause-edge_data g c =
     let sorted = c.in_ok-sort_by_ab.ensures in
-    let hooks = hooks_of g.C.WindingCount.counted g.D.OverlayEdgeData.reversed_gives g.D.OverlayEdgeData.split_gives g.D.OverlayEdgeData.merge_gives in
+    let hooks = hooks_of g.C.WindingCount.counted g.D.OverlayEdgeData in
     rw (sym (data_join-sorted data_segment_of c.args.list.now.items c.sort_by_ab.new.list.items sorted.sorted sorted.in_order hooks c.args.store.now)) c.merge_if_needed_with_store.ensures.edge_data
 
 pub returns-clause-store : goal.returns-clause-store
 returns-clause-store g c =
     let sorted = c.in_ok-sort_by_ab.ensures in
-    let hooks = hooks_of g.C.WindingCount.counted g.D.OverlayEdgeData.reversed_gives g.D.OverlayEdgeData.split_gives g.D.OverlayEdgeData.merge_gives in
+    let hooks = hooks_of g.C.WindingCount.counted g.D.OverlayEdgeData in
     rw (sym (data_join-sorted data_segment_of c.args.list.now.items c.sort_by_ab.new.list.items sorted.sorted sorted.in_order hooks c.args.store.now)) c.merge_if_needed_with_store.ensures.store
 
 pub returns-clause-repeated : goal.returns-clause-repeated

@@ -1,4 +1,4 @@
-use Rattle.overlay_base.proofs.laws.Repeats.{has_equal_neighbors-sorted}
+use Rattle.overlay_base.proofs.laws.joins.Repeats.{has_equal_neighbors-sorted}
 use Rattle.overlay_base.proofs.segm.laws.equal_pair_laws.Goals as goal
 
 pub returns : goal.returns

@@ -1,5 +1,5 @@
-use Rattle.overlay_base.proofs.laws.Members.{join-filter, holds-join, length-join_le}
-use Rattle.overlay_base.proofs.laws.Maps.{join_is_map, map_is_its_windings, join_is_only_map, join_from_windings, join-join, join-map, join_of_parts, join-IsPermutation}
+use Rattle.overlay_base.proofs.laws.joins.Members.{join-filter, holds-join, length-join_le}
+use Rattle.overlay_base.proofs.laws.joins.Maps.{join_is_map, map_is_its_windings, join_is_only_map, join_from_windings, join-join, join-map, join_of_parts, join-IsPermutation}
 use Rattle.overlay_base.proofs.segm.laws.join_laws.Goals as goal
 
 pub returns-clause-is_map : goal.returns-clause-is_map

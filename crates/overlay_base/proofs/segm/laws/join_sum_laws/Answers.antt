@@ -1,4 +1,4 @@
-use Rattle.overlay_base.proofs.laws.Functionals.{numbers_are_linear, weighed-join, balance-join}
+use Rattle.overlay_base.proofs.laws.joins.Functionals.{numbers_are_linear, weighed-join, balance-join}
 use Rattle.overlay_base.proofs.segm.laws.join_sum_laws.Goals as goal
 
 pub returns-clause-linear : goal.returns-clause-linear

@@ -1,4 +1,4 @@
-use Rattle.overlay_base.proofs.laws.Ranges.{stable_sort_keeps_sums}
+use Rattle.overlay_base.proofs.laws.joins.Ranges.{stable_sort_keeps_sums}
 use Rattle.overlay_base.proofs.segm.laws.running_sum_laws.Goals as goal
 
 pub returns : goal.returns

@@ -1,5 +1,5 @@
-use Rattle.overlay_base.proofs.laws.Bags.{windings_add}
-use Rattle.overlay_base.proofs.laws.Windings.{inverse_cancels, polygon_counts_are_group, inverse_twice, inverse_of_sum}
+use Rattle.overlay_base.proofs.laws.joins.Bags.{windings_add}
+use Rattle.overlay_base.proofs.laws.counts.Windings.{inverse_cancels, polygon_counts_are_group, inverse_twice, inverse_of_sum}
 use Rattle.overlay_base.proofs.segm.laws.winding_laws.Goals as goal
 
 pub returns-clause-adds_up : goal.returns-clause-adds_up

@@ -3,7 +3,7 @@ use Rattle.std.specs.Prelude.{ℤ}
 use Rattle.std.specs.Ordering.{int_cmp, eq_by_cmp}
 use Rattle.overlay_base.specs.PairOf.{pair_of}
 use Rattle.overlay_base.specs.Points.{Pair, pair_eq}
-use Rattle.overlay_base.proofs.laws.Points.{is_eq-then, point_eq-parts}
+use Rattle.overlay_base.proofs.laws.geometry.Points.{is_eq-then, point_eq-parts}
 use Rattle.overlay_base.proofs.segm.merge.has_same_ends.Goals as goal
 
 -- `==` of coordinates is that of their whole numbers

@@ -16,7 +16,7 @@ module _ {C D S : Type 0} (winding : C → Winding) (counted : Winding → C) (t
     (reversed_gives : D → S → D × S) (split_gives : D → Point → Point → Point → S → (D × D) × S) (merge_gives : EdgeDataMerge C D → S → D × S)
     (l r out : C) (sum : winding out ≡ add (winding l) (winding r)) (p q : Pair) (x y : D) (store : S) where
   abbrev both : DataSegment D × S
-  both = merged (hooks_of counted reversed_gives split_gives merge_gives) (record { pair = p; count = winding l; edge_data = x }) (record { pair = q; count = winding r; edge_data = y }) store
+  both = merged (hooks_of counted (record { reversed_gives = reversed_gives; split_gives = split_gives; merge_gives = merge_gives })) (record { pair = p; count = winding l; edge_data = x }) (record { pair = q; count = winding r; edge_data = y }) store
 
   merged-counts : both ≡ (record { pair = p; count = winding out; edge_data = (merge_gives (merge_of x l y r out) store).0 }, (merge_gives (merge_of x l y r out) store).1)
   unfolding merged

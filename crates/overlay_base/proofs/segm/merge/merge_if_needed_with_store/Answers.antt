@@ -4,7 +4,7 @@ use Rattle.std.proofs.lemmas.Bool.{both_ways}
 use Rattle.overlay_base.specs.Join.{join_leaves_range}
 use Rattle.overlay_base.specs.HooksOf.{hooks_of}
 use Rattle.overlay_base.specs.SegmentOf.{data_segment_of}
-use Rattle.overlay_base.proofs.laws.Merges.{IsWalked-start, IsWalked-same, IsWalked-other, IsWalked-refused, leaves_whole, AreInOrder-from, without_data-map, IsJoined-empty, IsJoined-end}
+use Rattle.overlay_base.proofs.laws.joins.Merges.{IsWalked-start, IsWalked-same, IsWalked-other, IsWalked-refused, leaves_whole, AreInOrder-from, without_data-map, IsJoined-empty, IsJoined-end}
 use Rattle.overlay_base.proofs.segm.merge.merge_if_needed_with_store.Goals as goal
 use Rattle.overlay_base.proofs.segm.merge.merge_if_needed_with_store.Goals.{then-has_same_ends+in-Ok, else-has_same_ends}
 
@@ -49,7 +49,7 @@ loop-index-preserved g c =
 pub returns-then-is_empty : goal.returns-then-is_empty
 returns-then-is_empty g c =
     let none : length c.args.list.now.items ≡ 0 = grind (arith, common_steps, c.args.list.now.ok.0) in
-    let j = IsJoined-empty data_segment_of (hooks_of g.C.WindingCount.counted g.D.OverlayEdgeData.reversed_gives g.D.OverlayEdgeData.split_gives g.D.OverlayEdgeData.merge_gives) c.args.list.now.items c.args.store.now none in
+    let j = IsJoined-empty data_segment_of (hooks_of g.C.WindingCount.counted g.D.OverlayEdgeData) c.args.list.now.items c.args.store.now none in
     record {
       geometry = j.geometry;
       edge_data = j.edge_data;

@@ -5,9 +5,9 @@ use Rattle.overlay_base.specs.SegmentOf.{segments_of, data_segment_of, data_segm
 use Rattle.overlay_sweep.specs.ChainWindings.{tops_leave_range}
 use Rattle.overlay_build.specs.Graph.{fills_of}
 use Rattle.overlay_sweep.specs.Sweep.{visits, visits_leave_range}
-use Rattle.overlay_base.proofs.laws.Views.{segments_of-bare}
-use Rattle.overlay_build.proofs.laws.StoredFills.{visits_all_seen, handled_writes, handled_keeps, tops_of_visits, fills_of_visits}
-use Rattle.overlay_sweep.proofs.laws.Handling.{refused_as}
+use Rattle.overlay_base.proofs.laws.joins.Views.{segments_of-bare}
+use Rattle.overlay_build.proofs.laws.graphs.StoredFills.{visits_all_seen, handled_writes, handled_keeps, tops_of_visits, fills_of_visits}
+use Rattle.overlay_sweep.proofs.laws.visits.Handling.{refused_as}
 use Rattle.overlay_sweep.specs.declared.build.fill_handler.StoreFillsHandler.{StoreFillsHandler}
 use Rattle.overlay_build.proofs.build.fills.find_fills.Goals as goal
 

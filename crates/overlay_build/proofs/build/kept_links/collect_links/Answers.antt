@@ -9,8 +9,8 @@ use Rattle.overlay_build.specs.Graph.{Filled}
 use Rattle.overlay_build.specs.GraphOf.{kept_of, link_of}
 use Rattle.overlay_build.specs.Graph.{without_nodes}
 use Rattle.overlay_build.specs.steps.LinkRules.{keeps_by}
-use Rattle.overlay_build.proofs.laws.NodeLists.{rest-next}
-use Rattle.overlay_build.proofs.laws.KeptLinks.{kept_more, kept_skip, kept_over, fill_in, filled_in, fill_at, kept_are_filled, kept_data}
+use Rattle.overlay_build.proofs.laws.graphs.NodeLists.{rest-next}
+use Rattle.overlay_build.proofs.laws.graphs.KeptLinks.{kept_more, kept_skip, kept_over, fill_in, filled_in, fill_at, kept_are_filled, kept_data}
 use Rattle.overlay_build.proofs.build.kept_links.collect_links.Goals as goal
 use Rattle.overlay_build.proofs.build.kept_links.collect_links.Goals.{then-is_kept+in_ok-push, else-is_kept}
 

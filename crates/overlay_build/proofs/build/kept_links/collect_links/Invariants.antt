@@ -4,7 +4,7 @@ use Rattle.overlay_base.specs.declared.overlay_core.fill_rule.FillRule.{FillRule
 use Rattle.overlay_build.specs.Graph.{fills_of}
 use Rattle.overlay_build.specs.GraphOf.{kept_of}
 use Rattle.overlay_build.specs.steps.LinkRules.{keeps_by}
-use Rattle.overlay_build.proofs.laws.KeptLinks.{fill_in, filled_in}
+use Rattle.overlay_build.proofs.laws.graphs.KeptLinks.{fill_in, filled_in}
 use Rattle.overlay_build.proofs.build.kept_links.collect_links.Given as goal
 
 abbrev pub invariant-loop-index : goal.invariant-loop-index

@@ -1,4 +1,4 @@
-use Rattle.overlay_build.proofs.laws.FillSides.{fills_tell_sides}
+use Rattle.overlay_build.proofs.laws.sides.FillSides.{fills_tell_sides}
 use Rattle.overlay_build.proofs.build.laws.fill_laws.Goals as goal
 
 pub returns : goal.returns

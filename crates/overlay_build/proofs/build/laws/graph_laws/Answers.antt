@@ -1,6 +1,6 @@
-use Rattle.overlay_build.proofs.laws.GraphLaws.{filter_of_all}
-use Rattle.overlay_build.proofs.laws.GraphExact.{nodes_are_even, graphs_are_valid, graphs_are_exact}
-use Rattle.overlay_build.proofs.laws.Regions.{graphs_enclose_regions}
+use Rattle.overlay_build.proofs.laws.graphs.GraphLaws.{filter_of_all}
+use Rattle.overlay_build.proofs.laws.graphs.GraphExact.{nodes_are_even, graphs_are_valid, graphs_are_exact}
+use Rattle.overlay_build.proofs.laws.regions.Regions.{graphs_enclose_regions}
 use Rattle.overlay_build.proofs.build.laws.graph_laws.Goals as goal
 
 pub returns-clause-even : goal.returns-clause-even

@@ -1,4 +1,4 @@
-use Rattle.overlay_build.proofs.laws.LineSides.{fills_tell_lines, clip_graphs_are_exact}
+use Rattle.overlay_build.proofs.laws.sides.LineSides.{fills_tell_lines, clip_graphs_are_exact}
 use Rattle.overlay_build.proofs.build.laws.line_laws.Goals as goal
 
 pub returns-clause-fills : goal.returns-clause-fills

@@ -5,7 +5,7 @@ use Rattle.overlay_base.specs.declared.overlay_core.link.OverlayLink.{OverlayLin
 use Rattle.overlay_build.specs.steps.EndOf.{WholeEnd, end_of, ends_of}
 use Rattle.overlay_build.specs.GraphOf.{link_of, pairs_of_links}
 use Rattle.overlay_build.specs.steps.LinkEnds.{numbered_starts, numbered_ends}
-use Rattle.overlay_build.proofs.laws.NodeLists.{numbered-all, numbered-more}
+use Rattle.overlay_build.proofs.laws.graphs.NodeLists.{numbered-all, numbered-more}
 use Rattle.overlay_build.proofs.build.link_ends.collect_ends.Goals as goal
 
 pub loop-index-preserved : goal.loop-index-preserved

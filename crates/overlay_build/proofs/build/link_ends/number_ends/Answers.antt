@@ -4,8 +4,8 @@ use Rattle.overlay_base.specs.Points.{Point}
 use Rattle.overlay_base.specs.PointOf.{point_of}
 use Rattle.overlay_base.specs.declared.overlay_core.link.OverlayLink.{OverlayLink}
 use Rattle.overlay_build.specs.GraphOf.{with_node, names_node}
-use Rattle.overlay_sweep.proofs.laws.Nodes.{point_eq_is}
-use Rattle.overlay_build.proofs.laws.NodeLists.{changed_next, with_node-twice, with_node-start, with_node-end}
+use Rattle.overlay_sweep.proofs.laws.live.StartPoints.{point_eq_is}
+use Rattle.overlay_build.proofs.laws.graphs.NodeLists.{changed_next, with_node-twice, with_node-start, with_node-end}
 use Rattle.overlay_build.proofs.build.link_ends.number_ends.Goals as goal
 use Rattle.overlay_build.proofs.build.link_ends.number_ends.Goals.{then-eq, else-eq}
 

@@ -2,7 +2,7 @@ use Rattle.std.proofs.Common.{◌≡◌, ◌∙◌, ◌<◌, sym, ap, [], ◌∷
 use Rattle.std.proofs.lemmas.List.{length-map, map-append, get_or_default, with_items_is}
 use Rattle.overlay_build.specs.GraphOf.{link_of}
 use Rattle.overlay_build.specs.NodeIndexes.{indexes_of, is_canonical_node}
-use Rattle.overlay_build.proofs.laws.WalkSteps.{AreUnusedEven-first, HaveWalked-none, HaveWalked-over, HaveWalked-more, HaveWalked-all}
+use Rattle.overlay_build.proofs.laws.walks.WalkSteps.{AreUnusedEven-first, HaveWalked-none, HaveWalked-over, HaveWalked-more, HaveWalked-all}
 use Rattle.overlay_build.proofs.build.walks.closed_walks.Goals as goal
 use Rattle.overlay_build.proofs.build.walks.closed_walks.Goals.{then-not-index+in_ok-walk+in_ok-push, else-not-index}
 

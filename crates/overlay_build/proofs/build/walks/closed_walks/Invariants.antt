@@ -1,7 +1,7 @@
 use Rattle.std.proofs.Common.{map}
 use Rattle.overlay_build.specs.GraphOf.{link_of}
 use Rattle.overlay_build.specs.NodeIndexes.{indexes_of}
-use Rattle.overlay_build.proofs.laws.WalkSteps.{HaveWalked}
+use Rattle.overlay_build.proofs.laws.walks.WalkSteps.{HaveWalked}
 use Rattle.overlay_build.proofs.build.walks.closed_walks.Given as goal
 
 abbrev pub invariant-loop-first : goal.invariant-loop-first

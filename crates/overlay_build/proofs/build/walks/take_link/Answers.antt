@@ -2,7 +2,7 @@ use Rattle.std.proofs.Common.{◌<◌, length, map}
 use Rattle.std.proofs.lemmas.List.{length-map}
 use Rattle.overlay_build.specs.GraphOf.{link_of}
 use Rattle.overlay_build.specs.NodeIndexes.{indexes_of, is_canonical_node}
-use Rattle.overlay_build.proofs.laws.WalkSteps.{ListLinks-held, ArePassed-step, one_is_left, list_of}
+use Rattle.overlay_build.proofs.laws.walks.WalkSteps.{ListLinks-held, ArePassed-step, one_is_left, list_of}
 use Rattle.overlay_build.proofs.build.walks.take_link.Goals as goal
 
 pub next_unused-place-requires-clause-links : goal.next_unused-place-requires-clause-links

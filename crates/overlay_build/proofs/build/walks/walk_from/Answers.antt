@@ -1,6 +1,6 @@
 use Rattle.std.proofs.Common.{◌≡◌, ◌∙◌, ap, [], map, get_or, set, true, false, get_or-set_same}
 use Rattle.overlay_build.specs.NodeIndexes.{indexes_of, is_canonical_node}
-use Rattle.overlay_build.proofs.laws.WalkSteps.{ListLinks-held, walk_begun, walk_gone_on, walk_is_some, set_keeps}
+use Rattle.overlay_build.proofs.laws.walks.WalkSteps.{ListLinks-held, walk_begun, walk_gone_on, walk_is_some, set_keeps}
 use Rattle.overlay_build.proofs.build.walks.walk_from.Goals as goal
 
 pub loop-node-init : goal.loop-node-init

@@ -2,7 +2,7 @@ use Rattle.std.proofs.Common.{◌≡◌, ◌≢◌, not, true, false, map, [], s
 use Rattle.std.specs.Prelude.{count_by}
 use Rattle.overlay_build.specs.GraphOf.{link_of}
 use Rattle.overlay_build.specs.NodeIndexes.{indexes_of}
-use Rattle.overlay_build.proofs.laws.WalkSteps.{IsUnderWay}
+use Rattle.overlay_build.proofs.laws.walks.WalkSteps.{IsUnderWay}
 use Rattle.overlay_build.proofs.build.walks.walk_from.Given as goal
 
 abbrev pub invariant-loop-node : goal.invariant-loop-node

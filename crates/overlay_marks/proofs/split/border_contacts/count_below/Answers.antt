@@ -1,7 +1,7 @@
 use Rattle.std.proofs.Common.{rules}
 use Rattle.std.specs.Prelude.{int_lt}
 use Rattle.std.proofs.lemmas.List.Sorted.{IsPartitionPoint-from_clause}
-use Rattle.overlay_marks.proofs.laws.BorderMarks.{parted_below, below, not_below}
+use Rattle.overlay_marks.proofs.laws.grid.BorderMarks.{parted_below, below, not_below}
 use Rattle.overlay_marks.proofs.split.border_contacts.count_below.Goals as goal
 
 pub returns : goal.returns

@@ -1,7 +1,7 @@
 use Rattle.std.proofs.Common.{rules}
 use Rattle.std.specs.Prelude.{int_le}
 use Rattle.std.proofs.lemmas.List.Sorted.{IsPartitionPoint-from_clause}
-use Rattle.overlay_marks.proofs.laws.BorderMarks.{parted_up_to, up_to, past}
+use Rattle.overlay_marks.proofs.laws.grid.BorderMarks.{parted_up_to, up_to, past}
 use Rattle.overlay_marks.proofs.split.border_contacts.count_up_to.Goals as goal
 
 pub returns : goal.returns

@@ -1,8 +1,8 @@
 use Rattle.std.proofs.Common.{◌+◌, sym, subst, ◌∙◌, drop, map, List}
 use Rattle.overlay_marks.specs.MarkOf.{marks_of}
 use Rattle.overlay_marks.specs.FragmentOf.{KeptFragment, fragment_of, fragments_of}
-use Rattle.overlay_marks.proofs.laws.FoundFragments.{fragments-next, fragments-none}
-use Rattle.overlay_marks.proofs.laws.BorderMarks.{IsBorderSeen, border-more, border-none, border-end}
+use Rattle.overlay_marks.proofs.laws.grid.FoundFragments.{fragments-next, fragments-none}
+use Rattle.overlay_marks.proofs.laws.grid.BorderMarks.{IsBorderSeen, border-more, border-none, border-end}
 use Rattle.overlay_marks.proofs.split.border_contacts.mark_border.Goals as goal
 use Rattle.overlay_marks.proofs.split.border_contacts.mark_border.Goals.{then-stands_at+in_ok-mark_heights, else-stands_at}
 

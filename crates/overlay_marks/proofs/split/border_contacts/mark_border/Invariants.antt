@@ -1,7 +1,7 @@
 use Rattle.std.proofs.Common.{drop, map}
 use Rattle.overlay_marks.specs.MarkOf.{marks_of}
 use Rattle.overlay_marks.specs.FragmentOf.{fragments_of}
-use Rattle.overlay_marks.proofs.laws.BorderMarks.{IsBorderSeen}
+use Rattle.overlay_marks.proofs.laws.grid.BorderMarks.{IsBorderSeen}
 use Rattle.overlay_marks.proofs.split.border_contacts.mark_border.Given as goal
 
 abbrev pub invariant-loop-index : goal.invariant-loop-index

@@ -5,8 +5,8 @@ use Rattle.overlay_marks.specs.Grid.{Layout, pos_of, group_count}
 use Rattle.overlay_marks.specs.FragmentOf.{KeptFragment, fragments_of, layout_of}
 use Rattle.overlay_marks.specs.GroupsOf.{group_in, group_of, grid_of}
 use Rattle.overlay_marks.specs.steps.FragmentFinder.{heights_at, marks_of_border, looks_of_border, marks_of_heights}
-use Rattle.overlay_marks.proofs.laws.GridGroups.{group_in-at}
-use Rattle.overlay_marks.proofs.laws.BorderMarks.{borders-start, borders-more, borders-end, border_to_heights, heights_to_border, few_on_border}
+use Rattle.overlay_marks.proofs.laws.grid.GridGroups.{group_in-at}
+use Rattle.overlay_marks.proofs.laws.grid.BorderMarks.{borders-start, borders-more, borders-end, border_to_heights, heights_to_border, few_on_border}
 use Rattle.overlay_marks.proofs.split.border_contacts.mark_borders.Goals as goal
 
 pub loop-column-init : goal.loop-column-init

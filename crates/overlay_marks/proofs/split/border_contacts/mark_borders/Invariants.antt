@@ -3,7 +3,7 @@ use Rattle.overlay_marks.specs.MarkOf.{marks_of}
 use Rattle.overlay_marks.specs.Grid.{pos_of}
 use Rattle.overlay_marks.specs.GroupsOf.{group_of, grid_of}
 use Rattle.overlay_marks.specs.steps.FragmentFinder.{marks_of_border, looks_of_border}
-use Rattle.overlay_marks.proofs.laws.BorderMarks.{AreBordersSeen}
+use Rattle.overlay_marks.proofs.laws.grid.BorderMarks.{AreBordersSeen}
 use Rattle.overlay_marks.proofs.split.border_contacts.mark_borders.Given as goal
 
 abbrev pub invariant-loop-column : goal.invariant-loop-column

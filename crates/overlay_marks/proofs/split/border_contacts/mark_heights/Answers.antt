@@ -2,8 +2,8 @@ use Rattle.std.proofs.Common.{◌+◌, ◌<◌, arith, sym, subst, drop, length,
 use Rattle.std.specs.Prelude.{ℤ, ◌<ℤ◌}
 use Rattle.overlay_marks.specs.MarkOf.{marks_of}
 use Rattle.overlay_marks.specs.FragmentOf.{fragment_of}
-use Rattle.overlay_marks.proofs.laws.FoundFragments.{at_most_one_more}
-use Rattle.overlay_marks.proofs.laws.BorderMarks.{AreHeightsSeen, mapped-next, low_skipped, high_none, heights-start, heights-more, heights-end}
+use Rattle.overlay_marks.proofs.laws.grid.FoundFragments.{at_most_one_more}
+use Rattle.overlay_marks.proofs.laws.grid.BorderMarks.{AreHeightsSeen, mapped-next, low_skipped, high_none, heights-start, heights-more, heights-end}
 use Rattle.overlay_marks.proofs.split.border_contacts.mark_heights.Goals as goal
 
 pub loop-place-init : goal.loop-place-init

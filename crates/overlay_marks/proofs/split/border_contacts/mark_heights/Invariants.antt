@@ -1,7 +1,7 @@
 use Rattle.std.proofs.Common.{drop, map}
 use Rattle.overlay_marks.specs.MarkOf.{marks_of}
 use Rattle.overlay_marks.specs.FragmentOf.{fragment_of}
-use Rattle.overlay_marks.proofs.laws.BorderMarks.{AreHeightsSeen}
+use Rattle.overlay_marks.proofs.laws.grid.BorderMarks.{AreHeightsSeen}
 use Rattle.overlay_marks.proofs.split.border_contacts.mark_heights.Given as goal
 
 abbrev pub invariant-loop-place : goal.invariant-loop-place

@@ -3,7 +3,7 @@ use Rattle.std.specs.Prelude.{int_lt, min, ◌^◌, ◌-◌}
 use Rattle.std.proofs.lemmas.Bool.{and_from}
 use Rattle.overlay_marks.specs.steps.IntervalTree.{is_taken_up, is_found}
 use Rattle.overlay_marks.specs.steps.NodeOf.{entry_of, query_of}
-use Rattle.overlay_marks.proofs.laws.IntervalTrees.{none_found, found_one, not_found, counted_one}
+use Rattle.overlay_marks.proofs.laws.tree.IntervalTrees.{none_found, found_one, not_found, counted_one}
 use Rattle.overlay_marks.proofs.split.few_entries.look_at_one.Goals as goal
 
 pub returns-then-not-is_met-clause-found : goal.returns-then-not-is_met-clause-found

@@ -1,7 +1,7 @@
 use Rattle.std.proofs.Common.{◌+◌, refl, subst, drop, List, arith}
 use Rattle.overlay_marks.specs.steps.IntervalTree.{Entry, entries}
 use Rattle.overlay_marks.specs.steps.NodeOf.{entry_of, nodes_of, query_of}
-use Rattle.overlay_marks.proofs.laws.TreeCuts.{IsLookedThrough, IsLookedThrough-more, IsLookedThrough-end, entries-next, entries-none}
+use Rattle.overlay_marks.proofs.laws.tree.TreeCuts.{IsLookedThrough, IsLookedThrough-more, IsLookedThrough-end, entries-next, entries-none}
 use Rattle.overlay_marks.proofs.split.few_entries.look_through.Goals as goal
 
 pub loop-place-init : goal.loop-place-init

@@ -1,7 +1,7 @@
 use Rattle.std.proofs.Common.{drop}
 use Rattle.overlay_marks.specs.steps.IntervalTree.{entries}
 use Rattle.overlay_marks.specs.steps.NodeOf.{nodes_of, query_of}
-use Rattle.overlay_marks.proofs.laws.TreeCuts.{IsLookedThrough}
+use Rattle.overlay_marks.proofs.laws.tree.TreeCuts.{IsLookedThrough}
 use Rattle.overlay_marks.proofs.split.few_entries.look_through.Given as goal
 
 abbrev pub invariant-loop-place : goal.invariant-loop-place

@@ -2,8 +2,8 @@ use Rattle.std.proofs.Common.{◌≤◌, ◌+◌, subst, sym, arith, ℕ}
 use Rattle.overlay_base.specs.Segments.{pairs}
 use Rattle.overlay_base.specs.SegmentOf.{segments_of}
 use Rattle.overlay_marks.specs.GroupsOf.{grid_of}
-use Rattle.overlay_marks.proofs.laws.GridAdding.{on_ok}
-use Rattle.overlay_marks.proofs.laws.FragmentCounts.{tree_within, both_within}
+use Rattle.overlay_marks.proofs.laws.grid.GridAdding.{on_ok}
+use Rattle.overlay_marks.proofs.laws.grid.FragmentCounts.{tree_within, both_within}
 use Rattle.overlay_marks.proofs.split.finder.find_over_grid.Goals as goal
 use Rattle.overlay_marks.proofs.split.finder.find_over_grid.Goals.{then-fragments-segments+in_ok-found+in_default, else-fragments-segments}
 

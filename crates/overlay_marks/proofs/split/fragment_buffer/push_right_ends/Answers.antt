@@ -2,8 +2,8 @@ use Rattle.std.proofs.Common.{◌≡◌, ◌+◌, sym, ap, subst, ◌∙◌, ◌
 use Rattle.std.proofs.lemmas.List.{map-append}
 use Rattle.overlay_marks.specs.FragmentOf.{KeptFragment, fragment_of, fragments_of}
 use Rattle.overlay_marks.specs.steps.FragmentFinder.{heights_at}
-use Rattle.overlay_marks.proofs.laws.FoundFragments.{fragments-next, fragments-none}
-use Rattle.overlay_marks.proofs.laws.BorderMarks.{ends-taken, ends-passed, ends-end}
+use Rattle.overlay_marks.proofs.laws.grid.FoundFragments.{fragments-next, fragments-none}
+use Rattle.overlay_marks.proofs.laws.grid.BorderMarks.{ends-taken, ends-passed, ends-end}
 use Rattle.overlay_marks.proofs.split.fragment_buffer.push_right_ends.Goals as goal
 use Rattle.overlay_marks.proofs.split.fragment_buffer.push_right_ends.Goals.{then-ends_at+in_ok-push, else-ends_at}
 

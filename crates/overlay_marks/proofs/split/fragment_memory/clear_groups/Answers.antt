@@ -1,6 +1,6 @@
 use Rattle.std.proofs.Common.{◌≡◌, ◌<◌, ◌≤◌, sym, subst, ◌∙◌, ℕ, length}
 use Rattle.std.proofs.lemmas.List.{length-set}
-use Rattle.overlay_marks.proofs.laws.GridGroups.{emptied_more, all_emptied}
+use Rattle.overlay_marks.proofs.laws.grid.GridGroups.{emptied_more, all_emptied}
 use Rattle.overlay_marks.proofs.split.fragment_memory.clear_groups.Goals as goal
 
 pub loop-column-preserved : goal.loop-column-preserved

@@ -1,6 +1,6 @@
 use Rattle.std.proofs.Common.{arith}
 use Rattle.std.proofs.lemmas.Grind.{common_steps}
-use Rattle.overlay_marks.proofs.laws.GridGroups.{group_in-new}
+use Rattle.overlay_marks.proofs.laws.grid.GridGroups.{group_in-new}
 use Rattle.overlay_marks.proofs.split.fragment_memory.empty_groups.Goals as goal
 
 pub loop-preserved : goal.loop-preserved

@@ -1,5 +1,5 @@
 use Rattle.std.proofs.Common.{◌≤◌, ◌^◌, ◌∙◌, sym, subst, ℕ}
-use Rattle.overlay_marks.proofs.laws.GridSizes.{power_for-fits, power_is, power_for-less, power_for-not_less}
+use Rattle.overlay_marks.proofs.laws.grid.GridSizes.{power_for-fits, power_is, power_for-less, power_for-not_less}
 use Rattle.overlay_marks.proofs.split.grid_layout.column_power.Goals as goal
 
 pub returns-then-max_power-log-clause-fits : goal.returns-then-max_power-log-clause-fits

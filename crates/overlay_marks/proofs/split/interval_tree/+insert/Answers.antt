@@ -1,8 +1,7 @@
-use Rattle.std.proofs.Common.{◌≡◌, true, sym, ap, ◌∙◌, ◌++◌, ◌∷◌, ◌<◌, length, arith}
-use Rattle.overlay_marks.specs.steps.NodeOf.{entry_of, greatest_of, nodes_of}
-use Rattle.overlay_marks.specs.steps.IntervalTree.{Entry, inserted, entries, greatest_height}
-use Rattle.overlay_marks.proofs.laws.IntervalTrees.{is_before}
-use Rattle.overlay_marks.proofs.laws.TreeCuts.{IsCut-from, mapped, summed_again, greatest_put, there_left, there_right, AreAt-from, AreUpTo-from, IsPut, IsPut-root, IsPut-left, IsPut-right}
+use Rattle.std.proofs.Common.{◌≡◌, true, sym, ap, ◌∙◌, ◌<◌, length, arith}
+use Rattle.overlay_marks.specs.steps.IntervalTree.{Entry, inserted}
+use Rattle.overlay_marks.proofs.laws.tree.IntervalTrees.{is_before}
+use Rattle.overlay_marks.proofs.laws.tree.TreeCuts.{IsCut-from, mapped, summed_again, greatest_put, there_left, there_right, AreAt-from, AreUpTo-from, IsPut-root, IsPut-left, IsPut-right}
 use Rattle.overlay_marks.proofs.split.interval_tree.+insert.Goals as goal
 
 pub insert-requires : goal.insert-requires

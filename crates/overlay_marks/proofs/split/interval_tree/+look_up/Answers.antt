@@ -1,8 +1,8 @@
 use Rattle.std.proofs.Common.{Bool, ◌||◌, ◌≡◌, ◌+◌, ◌*◌, ◌-◌, ◌^◌, sym, ap, ◌∙◌, ◌++◌, ◌∷◌, ◌<◌, length, append-nil, arith}
 use Rattle.overlay_marks.specs.steps.NodeOf.{entry_of, greatest_of, nodes_of, query_of}
 use Rattle.overlay_marks.specs.steps.IntervalTree.{left_by, entries, greatest_height, is_reached}
-use Rattle.overlay_marks.proofs.laws.IntervalTrees.{none_reached, none_dropped, none_found, none_counted, none_is_dropped}
-use Rattle.overlay_marks.proofs.laws.TreeCuts.{IsCut-from, mapped, summed_again, IsDone, IsDone-above, IsDone-both, found_all, looked_all, dropped_all, still_greatest, none_more}
+use Rattle.overlay_marks.proofs.laws.tree.IntervalTrees.{none_reached, none_dropped, none_found, none_counted, none_is_dropped}
+use Rattle.overlay_marks.proofs.laws.tree.TreeCuts.{IsCut-from, mapped, summed_again, IsDone, IsDone-above, IsDone-both, found_all, looked_all, dropped_all, still_greatest, none_more}
 use Rattle.overlay_marks.proofs.split.interval_tree.+look_up.Goals as goal
 use Rattle.overlay_marks.proofs.split.interval_tree.+look_up.Goals.{look_into-then-not-is_above+in_ok-has_dropped-2+in_ok-has_dropped-3, look_into-else-not-is_above}
 

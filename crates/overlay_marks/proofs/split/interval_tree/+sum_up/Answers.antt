@@ -1,7 +1,5 @@
-use Rattle.std.proofs.Common.{◌≡◌, ap, ◌∙◌}
-use Rattle.overlay_marks.specs.steps.NodeOf.{nodes_of}
-use Rattle.overlay_marks.proofs.laws.TreeCuts.{summed_up}
-use Rattle.overlay_marks.proofs.laws.TreeRenewals.{empty_tree}
+use Rattle.overlay_marks.proofs.laws.tree.TreeCuts.{summed_up}
+use Rattle.overlay_marks.proofs.laws.tree.TreeRenewals.{empty_tree}
 use Rattle.overlay_marks.proofs.split.interval_tree.+sum_up.Goals as goal
 
 pub returns-in_default-clause-summed : goal.returns-in_default-clause-summed

@@ -2,7 +2,7 @@ use Rattle.std.proofs.Common.{◌≡◌, ◌<◌, sym, ap, ◌∙◌, ◌/◌, l
 use Rattle.std.proofs.lemmas.List.{get_or-map, length-map}
 use Rattle.overlay_marks.specs.steps.IntervalTree.{TreeNode}
 use Rattle.overlay_marks.specs.steps.NodeOf.{node_of, nodes_of}
-use Rattle.overlay_marks.proofs.laws.IntervalTrees.{middle_is_greatest}
+use Rattle.overlay_marks.proofs.laws.tree.IntervalTrees.{middle_is_greatest}
 use Rattle.overlay_marks.proofs.split.interval_tree.greatest_in.Goals as goal
 
 pub returns-in-Some : goal.returns-in-Some

@@ -1,8 +1,8 @@
-use Rattle.std.proofs.Common.{◌≡◌, sym, ap, ap₂, ◌∙◌, ◌++◌, ◌∷◌, cond, Bool}
-use Rattle.std.specs.Prelude.{ℤ, Option, Some, None}
-use Rattle.overlay_marks.specs.steps.IntervalTree.{entries, further, live_height, greatest_height}
+use Rattle.std.proofs.Common.{◌≡◌, sym, ap, ap₂, ◌∙◌, ◌∷◌, cond, Bool}
+use Rattle.std.specs.Prelude.{Some, None}
+use Rattle.overlay_marks.specs.steps.IntervalTree.{entries, further, live_height}
 use Rattle.overlay_marks.specs.steps.NodeOf.{entry_of, greatest_of, nodes_of}
-use Rattle.overlay_marks.proofs.laws.IntervalTrees.{greatest_height-append}
+use Rattle.overlay_marks.proofs.laws.tree.IntervalTrees.{greatest_height-append}
 use Rattle.overlay_marks.proofs.split.interval_tree.update_greatest.Goals as goal
 use Rattle.overlay_marks.proofs.split.interval_tree.update_greatest.Goals.{then-root, else-root}
 

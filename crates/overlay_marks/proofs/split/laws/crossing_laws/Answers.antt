@@ -1,4 +1,4 @@
-use Rattle.overlay_marks.proofs.laws.CrossingLaws.{never_three_zeros, exact_is_on_both_lines, target_does_not_matter, points_lie_in_both_boxes, snapped_ends_are_off_the_line, no_end_of_both}
+use Rattle.overlay_marks.proofs.laws.crossings.CrossingLaws.{never_three_zeros, exact_is_on_both_lines, target_does_not_matter, points_lie_in_both_boxes, snapped_ends_are_off_the_line, no_end_of_both}
 use Rattle.overlay_marks.proofs.split.laws.crossing_laws.Goals as goal
 
 pub returns-clause-turns : goal.returns-clause-turns

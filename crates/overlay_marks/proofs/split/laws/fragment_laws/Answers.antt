@@ -1,4 +1,4 @@
-use Rattle.overlay_marks.proofs.laws.GridFragments.{fragments_enclose}
+use Rattle.overlay_marks.proofs.laws.grid.GridFragments.{fragments_enclose}
 use Rattle.overlay_marks.proofs.split.laws.fragment_laws.Goals as goal
 
 pub returns : goal.returns

@@ -1,5 +1,5 @@
-use Rattle.overlay_marks.proofs.laws.AnswerMarks.{answers_are_marks}
-use Rattle.overlay_marks.proofs.laws.CrossingLaws.{no_mark_is_an_end}
+use Rattle.overlay_marks.proofs.laws.crossings.AnswerMarks.{answers_are_marks}
+use Rattle.overlay_marks.proofs.laws.crossings.CrossingLaws.{no_mark_is_an_end}
 use Rattle.overlay_marks.proofs.split.laws.mark_laws.Goals as goal
 
 pub returns-clause-answers : goal.returns-clause-answers

@@ -1,4 +1,4 @@
-use Rattle.overlay_marks.proofs.laws.RoundingMeanings.{roundings_are_as_meant}
+use Rattle.overlay_marks.proofs.laws.crossings.RoundingMeanings.{roundings_are_as_meant}
 use Rattle.overlay_marks.proofs.split.laws.rounding_laws.Goals as goal
 
 pub returns : goal.returns

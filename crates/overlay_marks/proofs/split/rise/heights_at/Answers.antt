@@ -2,8 +2,8 @@ use Rattle.std.proofs.Common.{◌∙◌, ap, sym, subst, ◌≤◌, ℕ}
 use Rattle.std.specs.Prelude.{unsigned_abs, ◌-ℤ◌}
 use Rattle.overlay_base.specs.PairOf.{pair_of}
 use Rattle.overlay_marks.specs.Grid.{toward}
-use Rattle.overlay_marks.proofs.laws.GridBounds.{least_rise-le, greatest_rise-le}
-use Rattle.overlay_marks.proofs.laws.GridRises.{least_rise-is, greatest_rise-is}
+use Rattle.overlay_marks.proofs.laws.grid.GridBounds.{least_rise-le, greatest_rise-le}
+use Rattle.overlay_marks.proofs.laws.grid.GridRises.{least_rise-is, greatest_rise-is}
 use Rattle.overlay_marks.proofs.split.rise.heights_at.Goals as goal
 
 pub moved-requires-clause-amount : goal.moved-requires-clause-amount

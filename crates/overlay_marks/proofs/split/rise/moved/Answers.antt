@@ -1,9 +1,9 @@
 use Rattle.std.proofs.Common.{to_z-of_z, ◌∙◌, subst, sym, FitsSigned, w64}
 use Rattle.std.specs.Prelude.{ℤ, pos, ◌-ℤ◌, ◌+ℤ◌}
 use Rattle.overlay_base.specs.PairOf.{pair_of}
-use Rattle.overlay_base.proofs.laws.Coordinates.{point_parts, coordinate_fits}
-use Rattle.overlay_marks.proofs.laws.GridSizes.{to_z_of_pos}
-use Rattle.overlay_marks.proofs.laws.GridRises.{moved_fits, moved_down, moved_up, less_from, not_less_from}
+use Rattle.overlay_base.proofs.laws.geometry.Coordinates.{point_parts, coordinate_fits}
+use Rattle.overlay_marks.proofs.laws.grid.GridSizes.{to_z_of_pos}
+use Rattle.overlay_marks.proofs.laws.grid.GridRises.{moved_fits, moved_down, moved_up, less_from, not_less_from}
 use Rattle.overlay_marks.proofs.split.rise.moved.Goals as goal
 
 pub from_wide-requires : goal.from_wide-requires

@@ -1,12 +1,12 @@
-use Rattle.std.proofs.Common.{◌≡◌, ap, ◌∙◌, sym, subst, length}
+use Rattle.std.proofs.Common.{ap, ◌∙◌, length}
 use Rattle.overlay_base.specs.Segments.{pairs}
 use Rattle.overlay_base.specs.PairOf.{pair_of}
 use Rattle.overlay_base.specs.SegmentOf.{segments_of, ends_of}
-use Rattle.overlay_base.proofs.laws.Apart.{pairs-next, pairs-none}
+use Rattle.overlay_base.proofs.laws.geometry.Apart.{pairs-next, pairs-none}
 use Rattle.overlay_base.specs.Points.{Pair}
 use Rattle.overlay_marks.specs.Grid.{fragments}
 use Rattle.overlay_marks.specs.GroupsOf.{grid_of}
-use Rattle.overlay_marks.proofs.laws.FragmentCounts.{IsCounting-start, IsCounting-more, IsCounting-end}
+use Rattle.overlay_marks.proofs.laws.grid.FragmentCounts.{IsCounting-start, IsCounting-more, IsCounting-end}
 use Rattle.overlay_marks.proofs.split.solver_fragment.count_fragments.Goals as goal
 
 pub loop-index-init : goal.loop-index-init

@@ -1,7 +1,7 @@
 use Rattle.overlay_base.specs.Segments.{pairs}
 use Rattle.overlay_base.specs.SegmentOf.{segments_of}
 use Rattle.overlay_marks.specs.GroupsOf.{grid_of}
-use Rattle.overlay_marks.proofs.laws.FragmentCounts.{IsCounting}
+use Rattle.overlay_marks.proofs.laws.grid.FragmentCounts.{IsCounting}
 use Rattle.overlay_marks.proofs.split.solver_fragment.count_fragments.Given as goal
 
 abbrev pub invariant-loop-index : goal.invariant-loop-index

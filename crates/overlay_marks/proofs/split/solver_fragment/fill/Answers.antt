@@ -2,9 +2,9 @@ use Rattle.std.proofs.Common.{ap, ◌∙◌}
 use Rattle.overlay_base.specs.Segments.{pairs}
 use Rattle.overlay_base.specs.PairOf.{pair_of}
 use Rattle.overlay_base.specs.SegmentOf.{segments_of, ends_of}
-use Rattle.overlay_base.proofs.laws.Apart.{pairs-next, pairs-none}
+use Rattle.overlay_base.proofs.laws.geometry.Apart.{pairs-next, pairs-none}
 use Rattle.overlay_marks.specs.GroupsOf.{group_of, grid_of}
-use Rattle.overlay_marks.proofs.laws.GridFills.{fill_more, fill_end}
+use Rattle.overlay_marks.proofs.laws.grid.GridFills.{fill_more, fill_end}
 use Rattle.overlay_marks.proofs.split.solver_fragment.fill.Goals as goal
 
 pub loop-index-preserved : goal.loop-index-preserved

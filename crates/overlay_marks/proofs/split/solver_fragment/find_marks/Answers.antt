@@ -4,8 +4,8 @@ use Rattle.std.specs.List.{AllByRecursion, list_any, range_with_len}
 use Rattle.overlay_base.specs.Coordinates.{is_pair_in_range}
 use Rattle.overlay_base.specs.Segments.{pairs}
 use Rattle.overlay_base.specs.SegmentOf.{segments_of, x_segment_of}
-use Rattle.overlay_base.proofs.laws.Coordinates.{pair_in_range}
-use Rattle.overlay_base.proofs.laws.Apart.{are_ordered}
+use Rattle.overlay_base.proofs.laws.geometry.Coordinates.{pair_in_range}
+use Rattle.overlay_base.proofs.laws.geometry.Apart.{are_ordered}
 use Rattle.std.proofs.lemmas.List.Elements.{All-weaker}
 use Rattle.overlay_marks.specs.PlacingOf.{placing_of}
 use Rattle.overlay_marks.specs.MarkOf.{Mark, marks_of}
@@ -13,10 +13,10 @@ use Rattle.overlay_marks.specs.Grid.{Layout, pos_of, group_count, IsInside}
 use Rattle.overlay_marks.specs.FragmentOf.{KeptFragment}
 use Rattle.overlay_marks.specs.GroupsOf.{group_in, group_of, grid_of}
 use Rattle.overlay_marks.specs.steps.FragmentFinder.{HoldSame, is_ready, kept_group, marks_of_group, is_group_rounded, looks_of_group, marks_of_border, looks_of_border}
-use Rattle.overlay_marks.proofs.laws.GridFound.{all_pairs, all_ready, sound, complete, rounded_is}
-use Rattle.overlay_marks.proofs.laws.LineMarks.{AreMarks-from_elements}
-use Rattle.overlay_marks.proofs.laws.GridLooks.{within_bound}
-use Rattle.overlay_marks.proofs.laws.BorderMarks.{has_same, has_back}
+use Rattle.overlay_marks.proofs.laws.grid.GridFound.{all_pairs, all_ready, sound, complete, rounded_is}
+use Rattle.overlay_marks.proofs.laws.marks.LineMarks.{AreMarks-from_elements}
+use Rattle.overlay_marks.proofs.laws.grid.GridLooks.{within_bound}
+use Rattle.overlay_marks.proofs.laws.grid.BorderMarks.{has_same, has_back}
 use Rattle.overlay_marks.proofs.split.solver_fragment.find_marks.Goals as goal
 
 pub mark_columns-requires-clause-ready : goal.mark_columns-requires-clause-ready

@@ -3,12 +3,12 @@ use Rattle.std.specs.Prelude.{IsTrue}
 use Rattle.std.specs.List.{AllByRecursion}
 use Rattle.overlay_marks.specs.PlacingOf.{placing_of}
 use Rattle.overlay_marks.specs.MarkOf.{marks_of}
-use Rattle.overlay_marks.specs.FragmentOf.{KeptFragment, fragments_of, Rises}
+use Rattle.overlay_marks.specs.FragmentOf.{KeptFragment, fragments_of, IsSortedAlong}
 use Rattle.overlay_marks.specs.GroupsOf.{group_in}
 use Rattle.overlay_marks.specs.steps.FragmentFinder.{is_ready, marks_of_group, is_group_rounded, looks_of_group}
-use Rattle.overlay_marks.proofs.laws.FoundMarks.{or_true, or_false}
-use Rattle.overlay_marks.proofs.laws.GridGroups.{group_in-at}
-use Rattle.overlay_marks.proofs.laws.GridFills.{over-more, over-end}
+use Rattle.overlay_marks.proofs.laws.list.FoundMarks.{or_true, or_false}
+use Rattle.overlay_marks.proofs.laws.grid.GridGroups.{group_in-at}
+use Rattle.overlay_marks.proofs.laws.grid.GridFills.{over-more, over-end}
 use Rattle.overlay_marks.proofs.split.solver_fragment.mark_columns.Goals as goal
 use Rattle.overlay_marks.proofs.split.solver_fragment.mark_columns.Goals.{then-branch, else-branch}
 
@@ -17,10 +17,10 @@ mark_group-requires-clause-ready g c =
     let same = ap (fragments_of g.I.OverlayInt.whole) c.as_slice.ensures.value ∙ group_in-at g.I.OverlayInt.whole c.args.groups.now c.loop-column.column c.index-groups-column.result c.loop-column-test.true c.index-groups-column.is in
     subst (λ (fs : List KeptFragment). AllByRecursion (λ f. IsTrue (is_ready (g.I.OverlayInt.whole g.I.OverlayInt.MIN_COORD) (g.I.OverlayInt.whole g.I.OverlayInt.MAX_COORD) f)) fs) (sym same) (c.requires.ready c.loop-column.column)
 
-pub mark_group-requires-clause-rises : goal.mark_group-requires-clause-rises
-mark_group-requires-clause-rises g c =
+pub mark_group-requires-clause-sorted : goal.mark_group-requires-clause-sorted
+mark_group-requires-clause-sorted g c =
     let same = ap (fragments_of g.I.OverlayInt.whole) c.as_slice.ensures.value ∙ group_in-at g.I.OverlayInt.whole c.args.groups.now c.loop-column.column c.index-groups-column.result c.loop-column-test.true c.index-groups-column.is in
-    subst Rises (sym same) (c.requires.rises c.loop-column.column)
+    subst (IsSortedAlong c.args.axis) (sym same) (c.requires.sorted c.loop-column.column)
 
 pub loop-column-preserved : goal.loop-column-preserved
 loop-column-preserved g c =

@@ -2,7 +2,7 @@ use Rattle.overlay_marks.specs.PlacingOf.{placing_of}
 use Rattle.overlay_marks.specs.MarkOf.{marks_of}
 use Rattle.overlay_marks.specs.GroupsOf.{group_in}
 use Rattle.overlay_marks.specs.steps.FragmentFinder.{marks_of_group, is_group_rounded, looks_of_group}
-use Rattle.overlay_marks.proofs.laws.GridFills.{IsOver}
+use Rattle.overlay_marks.proofs.laws.grid.GridFills.{IsOver}
 use Rattle.overlay_marks.proofs.split.solver_fragment.mark_columns.Given as goal
 
 abbrev pub invariant-loop-column : goal.invariant-loop-column

@@ -2,8 +2,8 @@ use Rattle.std.proofs.Common.{◌+◌, sym, subst, ◌∙◌, drop, true, false,
 use Rattle.overlay_marks.specs.PlacingOf.{placing_of}
 use Rattle.overlay_marks.specs.MarkOf.{marks_of}
 use Rattle.overlay_marks.specs.FragmentOf.{KeptFragment, fragments_of}
-use Rattle.overlay_marks.proofs.laws.FoundMarks.{or_true, or_false}
-use Rattle.overlay_marks.proofs.laws.FoundFragments.{IsSearched, IsSearched-more, IsSearched-end, found_scanned, fragments-some, fragments-none}
+use Rattle.overlay_marks.proofs.laws.list.FoundMarks.{or_true, or_false}
+use Rattle.overlay_marks.proofs.laws.grid.FoundFragments.{IsSearched, IsSearched-more, IsSearched-end, found_scanned, fragments-some, fragments-none}
 use Rattle.overlay_marks.proofs.split.solver_fragment.mark_group.Goals as goal
 use Rattle.overlay_marks.proofs.split.solver_fragment.mark_group.Goals.{then-branch, else-branch}
 

@@ -2,7 +2,7 @@ use Rattle.std.proofs.Common.{drop}
 use Rattle.overlay_marks.specs.PlacingOf.{placing_of}
 use Rattle.overlay_marks.specs.MarkOf.{marks_of}
 use Rattle.overlay_marks.specs.FragmentOf.{fragments_of}
-use Rattle.overlay_marks.proofs.laws.FoundFragments.{IsSearched}
+use Rattle.overlay_marks.proofs.laws.grid.FoundFragments.{IsSearched}
 use Rattle.overlay_marks.proofs.split.solver_fragment.mark_group.Given as goal
 
 abbrev pub invariant-loop-first : goal.invariant-loop-first

@@ -4,9 +4,9 @@ use Rattle.overlay_marks.specs.PlacingOf.{placing_of}
 use Rattle.overlay_marks.specs.FragmentOf.{fragment_of}
 use Rattle.overlay_base.specs.PairOf.{pair_of}
 use Rattle.overlay_marks.specs.Marks.{cross_inexactly}
-use Rattle.overlay_marks.proofs.laws.FoundFragments.{two_apart, as_first, as_second, two_rounded}
-use Rattle.overlay_marks.proofs.laws.FoundEach.{cross_inexactly-back}
-use Rattle.overlay_marks.proofs.laws.GridAdding.{on_ok, if_ok}
+use Rattle.overlay_marks.proofs.laws.grid.FoundFragments.{two_apart, as_first, as_second, two_rounded}
+use Rattle.overlay_marks.proofs.laws.list.FoundEach.{cross_inexactly-back}
+use Rattle.overlay_marks.proofs.laws.grid.GridAdding.{on_ok, if_ok}
 use Rattle.overlay_marks.proofs.split.solver_fragment.mark_two.Goals as goal
 
 pub returns-then-not-is_intersect_border_include-clause-marks : goal.returns-then-not-is_intersect_border_include-clause-marks

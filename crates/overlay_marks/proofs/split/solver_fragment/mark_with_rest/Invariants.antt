@@ -2,7 +2,7 @@ use Rattle.std.proofs.Common.{◌+◌, drop}
 use Rattle.overlay_marks.specs.PlacingOf.{placing_of}
 use Rattle.overlay_marks.specs.MarkOf.{marks_of}
 use Rattle.overlay_marks.specs.FragmentOf.{fragment_of, fragments_of}
-use Rattle.overlay_marks.proofs.laws.FoundFragments.{IsScanned}
+use Rattle.overlay_marks.proofs.laws.grid.FoundFragments.{IsScanned}
 use Rattle.overlay_marks.proofs.split.solver_fragment.mark_with_rest.Given as goal
 
 abbrev pub invariant-loop-later : goal.invariant-loop-later

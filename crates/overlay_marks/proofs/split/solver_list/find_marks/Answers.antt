@@ -3,13 +3,13 @@ use Rattle.overlay_base.specs.Segments.{pairs}
 use Rattle.overlay_base.specs.SegmentOf.{segments_of}
 use Rattle.overlay_marks.specs.PlacingOf.{placing_of}
 use Rattle.overlay_marks.specs.MarkOf.{marks_of}
-use Rattle.overlay_marks.proofs.laws.FoundMarks.{pairs-some, all_passed, or_true, or_false}
-use Rattle.overlay_marks.proofs.laws.FoundEach.{IsWalked-more, IsWalked-end, some_cross_inexactly-is}
+use Rattle.overlay_marks.proofs.laws.list.FoundMarks.{pairs-some, all_passed, or_true, or_false}
+use Rattle.overlay_marks.proofs.laws.list.FoundEach.{IsWalked-more, IsWalked-end, some_cross_inexactly-is}
 use Rattle.std.specs.Prelude.{min, ◌^◌, count_by}
 use Rattle.overlay_base.specs.Points.{Pair}
 use Rattle.overlay_marks.specs.Looked.{x_ranges_meet}
-use Rattle.overlay_marks.proofs.laws.ListLooks.{AreTold, AreTold-more, AreTold-end, pair_at-first}
-use Rattle.overlay_marks.proofs.laws.LineMarks.{AreMarks-from_sorted}
+use Rattle.overlay_marks.proofs.laws.list.ListLooks.{AreTold, AreTold-more, AreTold-end, pair_at-first}
+use Rattle.overlay_marks.proofs.laws.marks.LineMarks.{AreMarks-from_sorted}
 use Rattle.overlay_marks.proofs.split.solver_list.find_marks.Goals as goal
 use Rattle.overlay_marks.proofs.split.solver_list.find_marks.Goals.{then-branch, else-branch}
 

@@ -2,7 +2,7 @@ use Rattle.overlay_base.specs.Segments.{pairs}
 use Rattle.overlay_base.specs.SegmentOf.{segments_of}
 use Rattle.overlay_marks.specs.PlacingOf.{placing_of}
 use Rattle.overlay_marks.specs.MarkOf.{marks_of}
-use Rattle.overlay_marks.proofs.laws.ListLooks.{AreWalking}
+use Rattle.overlay_marks.proofs.laws.list.ListLooks.{AreWalking}
 use Rattle.overlay_marks.proofs.split.solver_list.find_marks.Given as goal
 
 abbrev pub invariant-loop-index : goal.invariant-loop-index

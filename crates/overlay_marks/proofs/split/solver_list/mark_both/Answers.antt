@@ -4,7 +4,7 @@ use Rattle.overlay_base.specs.PointOf.{point_of}
 use Rattle.overlay_marks.specs.PlacingOf.{placing_of}
 use Rattle.overlay_marks.specs.MarkOf.{marks_of}
 use Rattle.overlay_marks.specs.steps.Finder.{marks_at}
-use Rattle.overlay_marks.proofs.laws.MarkedPairs.{answer_is_rounded, answer_is_rounded-is, between_none, between_pure, between_target_end, between_other_end, between_overlay, overlay_is_collinear, two_appended}
+use Rattle.overlay_marks.proofs.laws.marks.MarkedPairs.{answer_is_rounded, answer_is_rounded-is, between_none, between_pure, between_target_end, between_other_end, between_overlay, overlay_is_collinear, two_appended}
 use Rattle.overlay_marks.proofs.split.solver_list.mark_both.Goals as goal
 
 pub returns-in_default-clause-marks : goal.returns-in_default-clause-marks

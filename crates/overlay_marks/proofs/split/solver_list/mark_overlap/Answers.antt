@@ -1,6 +1,6 @@
 use Rattle.overlay_base.specs.PairOf.{pair_of}
 use Rattle.overlay_marks.specs.MarkOf.{marks_of}
-use Rattle.overlay_marks.proofs.laws.MarkedPairs.{AreInside, overlap_appended}
+use Rattle.overlay_marks.proofs.laws.marks.MarkedPairs.{AreInside, overlap_appended}
 use Rattle.overlay_marks.proofs.split.solver_list.mark_overlap.Goals as goal
 
 pub returns : goal.returns

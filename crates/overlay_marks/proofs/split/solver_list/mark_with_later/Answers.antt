@@ -4,14 +4,14 @@ use Rattle.overlay_base.specs.Segments.{pairs}
 use Rattle.overlay_base.specs.Ranges.{heights, is_off_range}
 use Rattle.overlay_base.specs.PairOf.{pair_of}
 use Rattle.overlay_base.specs.SegmentOf.{ends_of, segments_of}
-use Rattle.overlay_base.proofs.laws.Points.{pair_cmp_total}
-use Rattle.overlay_base.proofs.laws.Keys.{IsInOrder, IsInOrder-from_sort}
-use Rattle.overlay_base.proofs.laws.Apart.{pairs-map, pairs-next, are_ordered, apart_in_y, int_lt-to}
+use Rattle.overlay_base.proofs.laws.geometry.Points.{pair_cmp_total}
+use Rattle.overlay_base.proofs.laws.lists.Keys.{IsInOrder, IsInOrder-from_sort}
+use Rattle.overlay_base.proofs.laws.geometry.Apart.{pairs-map, pairs-next, are_ordered, apart_in_y, int_lt-to}
 use Rattle.overlay_marks.specs.PlacingOf.{placing_of}
 use Rattle.overlay_marks.specs.MarkOf.{marks_of}
-use Rattle.overlay_marks.proofs.laws.ApartPairs.{AreApart, ends_differ}
-use Rattle.overlay_marks.proofs.laws.FoundMarks.{IsLooked-more, IsLooked-apart, IsLooked-end, later_is_not_less, rest_is_apart, none_left, all_passed, or_true, or_false}
-use Rattle.overlay_marks.proofs.laws.ListLooks.{IsTold, IsTold-more, IsTold-end, later_starts_right, x_ranges_meet-from, not_past_le, none_past, none_counted_left, pair_at-first}
+use Rattle.overlay_marks.proofs.laws.marks.ApartPairs.{AreApart, ends_differ}
+use Rattle.overlay_marks.proofs.laws.list.FoundMarks.{IsLooked-more, IsLooked-apart, IsLooked-end, later_is_not_less, rest_is_apart, none_left, all_passed, or_true, or_false}
+use Rattle.overlay_marks.proofs.laws.list.ListLooks.{IsTold, IsTold-more, IsTold-end, later_starts_right, x_ranges_meet-from, not_past_le, none_past, none_counted_left, pair_at-first}
 use Rattle.overlay_marks.proofs.split.solver_list.mark_with_later.Goals as goal
 use Rattle.overlay_marks.proofs.split.solver_list.mark_with_later.Goals.{then-not-is_not_intersect_y_range+in_ok-mark_both+then-branch, else-not-is_not_intersect_y_range, else-not-is_not_intersect_y_range-via-then-not-is_not_intersect_y_range+in_ok-mark_both+else-branch, else-not-is_not_intersect_y_range-via-else-not-is_not_intersect_y_range}
 

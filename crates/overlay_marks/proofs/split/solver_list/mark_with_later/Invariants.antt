@@ -3,7 +3,7 @@ use Rattle.overlay_base.specs.PairOf.{pair_of}
 use Rattle.overlay_base.specs.SegmentOf.{segments_of}
 use Rattle.overlay_marks.specs.PlacingOf.{placing_of}
 use Rattle.overlay_marks.specs.MarkOf.{marks_of}
-use Rattle.overlay_marks.proofs.laws.ListLooks.{IsWalking}
+use Rattle.overlay_marks.proofs.laws.list.ListLooks.{IsWalking}
 use Rattle.overlay_marks.proofs.split.solver_list.mark_with_later.Given as goal
 
 abbrev pub invariant-loop-later : goal.invariant-loop-later

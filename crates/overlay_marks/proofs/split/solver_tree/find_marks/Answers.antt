@@ -7,12 +7,12 @@ use Rattle.overlay_marks.specs.PlacingOf.{placing_of}
 use Rattle.overlay_marks.specs.MarkOf.{marks_of}
 use Rattle.overlay_marks.specs.steps.NodeOf.{nodes_of}
 use Rattle.overlay_marks.specs.steps.TreeSweep.{AreFoundBefore}
-use Rattle.overlay_marks.proofs.laws.FoundMarks.{or_true, or_false}
-use Rattle.overlay_marks.proofs.laws.FoundEach.{some_cross_inexactly-is}
-use Rattle.overlay_marks.proofs.laws.LineMarks.{AreMarks-from_elements}
-use Rattle.overlay_marks.proofs.laws.Sweeps.{length-pairs}
-use Rattle.overlay_marks.proofs.laws.SweptMarks.{IsMarked-start, IsMarked-more, all_marked, all_told}
-use Rattle.overlay_marks.proofs.laws.TreeFinder.{IsUnderWay-start, IsUnderWay-end}
+use Rattle.overlay_marks.proofs.laws.list.FoundMarks.{or_true, or_false}
+use Rattle.overlay_marks.proofs.laws.list.FoundEach.{some_cross_inexactly-is}
+use Rattle.overlay_marks.proofs.laws.marks.LineMarks.{AreMarks-from_elements}
+use Rattle.overlay_marks.proofs.laws.tree.Sweeps.{length-pairs}
+use Rattle.overlay_marks.proofs.laws.tree.SweptMarks.{IsMarked-start, IsMarked-more, all_marked, all_told}
+use Rattle.overlay_marks.proofs.laws.tree.TreeFinder.{IsUnderWay-start, IsUnderWay-end}
 use Rattle.overlay_marks.proofs.split.solver_tree.find_marks.Goals as goal
 use Rattle.overlay_marks.proofs.split.solver_tree.find_marks.Goals.{then-branch, else-branch}
 

@@ -6,10 +6,10 @@ use Rattle.overlay_base.specs.SegmentOf.{segments_of}
 use Rattle.overlay_marks.specs.PlacingOf.{placing_of}
 use Rattle.overlay_marks.specs.MarkOf.{marks_of}
 use Rattle.overlay_marks.specs.steps.Swept.{pair_at}
-use Rattle.overlay_marks.proofs.laws.ApartPairs.{ends_differ}
-use Rattle.overlay_marks.proofs.laws.FoundMarks.{or_true, or_false}
-use Rattle.overlay_marks.proofs.laws.Sweeps.{pair_at-is, pairs_in_order, length-pairs, later_not_less}
-use Rattle.overlay_marks.proofs.laws.SweptMarks.{marks_with_found-more, crosses_found-more}
+use Rattle.overlay_marks.proofs.laws.marks.ApartPairs.{ends_differ}
+use Rattle.overlay_marks.proofs.laws.list.FoundMarks.{or_true, or_false}
+use Rattle.overlay_marks.proofs.laws.tree.Sweeps.{pair_at-is, pairs_in_order, length-pairs, later_not_less}
+use Rattle.overlay_marks.proofs.laws.tree.SweptMarks.{marks_with_found-more, crosses_found-more}
 use Rattle.overlay_marks.proofs.split.solver_tree.mark_with_found.Goals as goal
 use Rattle.overlay_marks.proofs.split.solver_tree.mark_with_found.Goals.{then-branch, else-branch}
 

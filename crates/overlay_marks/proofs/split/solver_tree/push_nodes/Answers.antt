@@ -8,7 +8,7 @@ use Rattle.overlay_base.specs.SegmentOf.{segments_of}
 use Rattle.overlay_marks.specs.steps.IntervalTree.{TreeNode}
 use Rattle.overlay_marks.specs.steps.NodeOf.{node_of, nodes_of}
 use Rattle.overlay_marks.specs.steps.Swept.{alone, entry_at, entry_of_pair}
-use Rattle.overlay_marks.proofs.laws.Sweeps.{pair_at-is}
+use Rattle.overlay_marks.proofs.laws.tree.Sweeps.{pair_at-is}
 use Rattle.overlay_marks.proofs.split.solver_tree.push_nodes.Goals as goal
 
 pub loop-index-init : goal.loop-index-init

@@ -1,5 +1,4 @@
-use Rattle.std.proofs.Common.{rules, ◌≡◌, ◌<◌, ◌≤◌, ◌+◌, ◌-◌, sym, ap, ap₂, subst, ◌∙◌, ◌++◌, ◌∷◌, [], ℕ, List, length, map, filter, take, drop, ◌==◌, IsPermutation, arith}
-use Rattle.std.specs.Prelude.{ℤ}
+use Rattle.std.proofs.Common.{rules, ◌≡◌, ◌+◌, ◌-◌, sym, ap, ap₂, subst, ◌∙◌, ◌++◌, List, length, map, filter, take, drop, ◌==◌, IsPermutation, arith}
 use Rattle.std.specs.List.{IsDistinct, range_with_len}
 use Rattle.std.proofs.lemmas.List.{map-append, map-id}
 use Rattle.std.proofs.lemmas.List.Sorted.{answers_always, IsPermutation-map}
@@ -8,11 +7,11 @@ use Rattle.overlay_base.specs.Points.{Pair}
 use Rattle.overlay_base.specs.PairOf.{pair_of}
 use Rattle.overlay_base.specs.SegmentOf.{segments_of}
 use Rattle.overlay_marks.specs.steps.IntervalTree.{Entry, TreeNode, AreRising, IsSummed, entries, stays_at}
-use Rattle.overlay_marks.specs.steps.NodeOf.{entry_of, node_of, nodes_of}
+use Rattle.overlay_marks.specs.steps.NodeOf.{node_of, nodes_of}
 use Rattle.overlay_marks.specs.steps.Swept.{alone, entry_at, entries_between, pair_at}
-use Rattle.overlay_marks.proofs.laws.Sweeps.{pair_at-is}
-use Rattle.overlay_marks.proofs.laws.TreeBuilds.{rising_from, places_in_order, entries_of_alone, entries_filter}
-use Rattle.overlay_marks.proofs.laws.TreeCuts.{written, same_length}
+use Rattle.overlay_marks.proofs.laws.tree.Sweeps.{pair_at-is}
+use Rattle.overlay_marks.proofs.laws.tree.TreeBuilds.{rising_from, places_in_order, entries_of_alone, entries_filter}
+use Rattle.overlay_marks.proofs.laws.tree.TreeCuts.{written, same_length}
 use Rattle.overlay_marks.proofs.split.solver_tree.renew.Goals as goal
 
 pub push_nodes-requires : goal.push_nodes-requires

@@ -6,15 +6,15 @@ use Rattle.overlay_base.specs.Segments.{pairs}
 use Rattle.overlay_base.specs.PairOf.{pair_of}
 use Rattle.overlay_base.specs.RangeOf.{range_of}
 use Rattle.overlay_base.specs.SegmentOf.{segments_of}
-use Rattle.overlay_base.proofs.laws.Apart.{are_ordered}
+use Rattle.overlay_base.proofs.laws.geometry.Apart.{are_ordered}
 use Rattle.overlay_marks.specs.steps.NodeOf.{node_of, nodes_of}
 use Rattle.overlay_marks.specs.steps.IntervalTree.{Entry, TreeNode, WholeQuery, entries, found, is_taken_up, stays_at}
 use Rattle.overlay_marks.specs.steps.Swept.{alone, entry_of_pair, pair_at}
 use Rattle.overlay_marks.specs.steps.TreeSweep.{AreFoundBefore, query_at}
 use Rattle.std.proofs.lemmas.List.Sums.{count_by-le-length, length-filter}
-use Rattle.overlay_marks.proofs.laws.Sweeps.{pair_at-is, pairs_in_order, length-pairs}
-use Rattle.overlay_marks.proofs.laws.TreeBuilds.{entries_filter}
-use Rattle.overlay_marks.proofs.laws.TreeFinder.{AreFoundBefore-through, IsUnderWay-through, query_is, length_within, live_at}
+use Rattle.overlay_marks.proofs.laws.tree.Sweeps.{pair_at-is, pairs_in_order, length-pairs}
+use Rattle.overlay_marks.proofs.laws.tree.TreeBuilds.{entries_filter}
+use Rattle.overlay_marks.proofs.laws.tree.TreeFinder.{AreFoundBefore-through, IsUnderWay-through, query_is, length_within, live_at}
 use Rattle.overlay_marks.proofs.split.solver_tree.take_among_few.Goals as goal
 
 pub returns : goal.returns

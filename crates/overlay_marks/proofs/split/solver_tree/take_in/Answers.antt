@@ -2,8 +2,8 @@ use Rattle.std.proofs.Common.{◌≡◌, arith}
 use Rattle.overlay_base.specs.Segments.{pairs}
 use Rattle.overlay_base.specs.SegmentOf.{segments_of}
 use Rattle.overlay_marks.specs.steps.NodeOf.{nodes_of}
-use Rattle.overlay_marks.proofs.laws.Sweeps.{pairs_in_order, length-pairs}
-use Rattle.overlay_marks.proofs.laws.TreeFinder.{IsUnderWay-renewed}
+use Rattle.overlay_marks.proofs.laws.tree.Sweeps.{pairs_in_order, length-pairs}
+use Rattle.overlay_marks.proofs.laws.tree.TreeFinder.{IsUnderWay-renewed}
 use Rattle.overlay_marks.proofs.split.solver_tree.take_in.Goals as goal
 
 pub take_into_tree-requires-2-clause-way : goal.take_into_tree-requires-2-clause-way

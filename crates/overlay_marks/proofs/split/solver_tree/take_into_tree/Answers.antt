@@ -4,15 +4,15 @@ use Rattle.overlay_base.specs.Segments.{pairs}
 use Rattle.overlay_base.specs.PairOf.{pair_of}
 use Rattle.overlay_base.specs.RangeOf.{range_of}
 use Rattle.overlay_base.specs.SegmentOf.{segments_of}
-use Rattle.overlay_base.proofs.laws.Apart.{are_ordered}
+use Rattle.overlay_base.proofs.laws.geometry.Apart.{are_ordered}
 use Rattle.overlay_marks.specs.steps.NodeOf.{nodes_of}
 use Rattle.overlay_marks.specs.steps.IntervalTree.{Entry, WholeQuery, AreRising, IsAt, IsUpTo, entries, found, inserted, left_by, is_taken_up}
 use Rattle.overlay_marks.specs.steps.Swept.{pair_at}
 use Rattle.overlay_marks.specs.steps.TreeSweep.{IsUnderWay, AreFoundBefore, query_at}
 use Rattle.std.proofs.lemmas.List.Sums.{count_by-le-length}
-use Rattle.overlay_marks.proofs.laws.Sweeps.{pair_at-is, pairs_in_order, length-pairs, rising_map}
-use Rattle.overlay_marks.proofs.laws.TreeCuts.{same_length, written}
-use Rattle.overlay_marks.proofs.laws.TreeFinder.{IsReady, IsReady-from, AreFoundBefore-from, IsUnderWay-more, query_is, length_within}
+use Rattle.overlay_marks.proofs.laws.tree.Sweeps.{pair_at-is, pairs_in_order, length-pairs, rising_map}
+use Rattle.overlay_marks.proofs.laws.tree.TreeCuts.{same_length, written}
+use Rattle.overlay_marks.proofs.laws.tree.TreeFinder.{IsReady, IsReady-from, AreFoundBefore-from, IsUnderWay-more, query_is, length_within}
 use Rattle.overlay_marks.proofs.split.solver_tree.take_into_tree.Goals as goal
 
 pub look_up-requires-clause-rising : goal.look_up-requires-clause-rising

@@ -5,7 +5,7 @@ use Rattle.overlay_marks.specs.PlacingOf.{placing_of}
 use Rattle.overlay_marks.specs.MarkOf.{marks_of}
 use Rattle.overlay_marks.specs.steps.NodeOf.{nodes_of}
 use Rattle.overlay_marks.specs.steps.TreeSweep.{IsUnderWay}
-use Rattle.overlay_marks.proofs.laws.SweptMarks.{IsMarked}
+use Rattle.overlay_marks.proofs.laws.tree.SweptMarks.{IsMarked}
 use Rattle.overlay_marks.proofs.split.solver_tree_within.find_marks_within.Given as goal
 
 abbrev pub invariant-loop-index : goal.invariant-loop-index

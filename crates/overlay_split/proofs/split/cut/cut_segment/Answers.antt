@@ -11,8 +11,8 @@ use Rattle.overlay_split.specs.DataPass.{data_pieces}
 use Rattle.overlay_split.specs.steps.DataCutAt.{data_cut_at}
 use Rattle.std.proofs.lemmas.List.{length-map}
 use Rattle.overlay_base.specs.EdgeData.{DataSegment}
-use Rattle.overlay_split.proofs.laws.PieceSteps.{pieces-step, last_point-next}
-use Rattle.overlay_split.proofs.laws.CutSteps.{data_cut_at-done, All-at_out}
+use Rattle.overlay_split.proofs.laws.passes.PieceSteps.{pieces-step, last_point-next}
+use Rattle.overlay_split.proofs.laws.passes.CutSteps.{data_cut_at-done, All-at_out}
 use Rattle.overlay_split.proofs.split.cut.cut_segment.Goals as goal
 
 pub create_and_validate_with_data-requires-clause-ends : goal.create_and_validate_with_data-requires-clause-ends
@@ -42,14 +42,14 @@ push_pieces-requires-clause-valid g c =
 -- the list with the first piece in its place and the later ones appended is the cut
 cut_is : (g : _) (c : goal.After-push_pieces g) →
     let whole = g.I.OverlayInt.whole in
-    let hooks = hooks_of g.C.WindingCount.counted g.D.OverlayEdgeData.reversed_gives g.D.OverlayEdgeData.split_gives g.D.OverlayEdgeData.merge_gives in
+    let hooks = hooks_of g.C.WindingCount.counted g.D.OverlayEdgeData in
     let later = points_of whole c.in-Some.later.now in
     let rest = data_pieces hooks (g.C.WindingCount.winding c.count-count.result) (point_of whole c.in-Some.first.now) later (last_point (point_of whole c.in-Some.first.now) later) c.split.result.1 c.create_and_validate_with_data.new.store in
     data_cut_at hooks c.args.index (points_of whole c.args.path.now) (data_segments_of c.args.list.now.items) c.args.store.now
     ≡ (data_segments_of (set c.args.list.now.items c.args.index c.create_and_validate_with_data.result) ++ rest.0, rest.1)
 cut_is g c =
     let f = point_of g.I.OverlayInt.whole in
-    let hooks = hooks_of g.C.WindingCount.counted g.D.OverlayEdgeData.reversed_gives g.D.OverlayEdgeData.split_gives g.D.OverlayEdgeData.merge_gives in
+    let hooks = hooks_of g.C.WindingCount.counted g.D.OverlayEdgeData in
     let x = c.index.result.now in
     let items = c.args.list.now.items in
     let first = f c.in-Some.first.now in

@@ -1,5 +1,5 @@
-use Rattle.overlay_split.proofs.laws.Pieces.{numbers_are_odd, pieces_telescope}
-use Rattle.overlay_split.proofs.laws.Balances.{pass_keeps_losses, pass_keeps_balance, run_keeps_balance}
+use Rattle.overlay_split.proofs.laws.paths.Pieces.{numbers_are_odd, pieces_telescope}
+use Rattle.overlay_split.proofs.laws.paths.Balances.{pass_keeps_losses, pass_keeps_balance, run_keeps_balance}
 use Rattle.overlay_split.proofs.split.laws.balance_laws.Goals as goal
 
 pub returns-clause-odd : goal.returns-clause-odd

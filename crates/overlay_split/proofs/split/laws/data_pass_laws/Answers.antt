@@ -1,5 +1,5 @@
-use Rattle.overlay_split.proofs.laws.DataInvariants.{data_keeps_what_hooks_keep}
-use Rattle.overlay_split.proofs.laws.DataPasses.{data_is_beside, unmarked_data_is_unchanged, arranged_data_is_unchanged}
+use Rattle.overlay_split.proofs.laws.passes.DataInvariants.{data_keeps_what_hooks_keep}
+use Rattle.overlay_split.proofs.laws.passes.DataPasses.{data_is_beside, unmarked_data_is_unchanged, arranged_data_is_unchanged}
 use Rattle.overlay_split.proofs.split.laws.data_pass_laws.Goals as goal
 
 pub returns-clause-beside : goal.returns-clause-beside

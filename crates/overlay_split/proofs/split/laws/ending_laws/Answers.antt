@@ -1,6 +1,6 @@
-use Rattle.overlay_split.proofs.laws.Potentials.{settling_lowers}
-use Rattle.overlay_split.proofs.laws.Runs.{run_ends}
-use Rattle.overlay_split.proofs.laws.PlanarRuns.{run_is_one}
+use Rattle.overlay_split.proofs.laws.paths.Potentials.{settling_lowers}
+use Rattle.overlay_split.proofs.laws.paths.Runs.{run_ends}
+use Rattle.overlay_split.proofs.laws.planar.PlanarRuns.{run_is_one}
 use Rattle.overlay_split.proofs.split.laws.ending_laws.Goals as goal
 
 pub returns-clause-settling : goal.returns-clause-settling

@@ -1,5 +1,5 @@
-use Rattle.overlay_split.proofs.laws.ExactInputs.{exact_input_keeps_counts}
-use Rattle.overlay_split.proofs.laws.PlanarRuns.{exact_runs_agree}
+use Rattle.overlay_split.proofs.laws.planar.ExactInputs.{exact_input_keeps_counts}
+use Rattle.overlay_split.proofs.laws.planar.PlanarRuns.{exact_runs_agree}
 use Rattle.overlay_split.proofs.split.laws.exact_input_laws.Goals as goal
 
 pub returns-clause-counts : goal.returns-clause-counts

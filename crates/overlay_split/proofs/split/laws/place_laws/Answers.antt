@@ -1,4 +1,4 @@
-use Rattle.overlay_split.proofs.laws.Places.{pass_on_one_side, join_keeps_winding, pass_keeps_winding, run_keeps_winding, exact_input_keeps_winding}
+use Rattle.overlay_split.proofs.laws.nearness.Places.{pass_on_one_side, join_keeps_winding, pass_keeps_winding, run_keeps_winding, exact_input_keeps_winding}
 use Rattle.overlay_split.proofs.split.laws.place_laws.Goals as goal
 
 pub returns-clause-side : goal.returns-clause-side

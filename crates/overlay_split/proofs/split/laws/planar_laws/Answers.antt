@@ -1,6 +1,6 @@
-use Rattle.overlay_split.proofs.laws.PlanarPasses.{exact_pass_is_planar}
-use Rattle.overlay_split.proofs.laws.Arranged.{planar_pass_is_unchanged, arranged_is_unchanged}
-use Rattle.overlay_split.proofs.laws.PlanarRuns.{run_is_planar, result_is_unchanged}
+use Rattle.overlay_split.proofs.laws.planar.PlanarPasses.{exact_pass_is_planar}
+use Rattle.overlay_split.proofs.laws.planar.Arranged.{planar_pass_is_unchanged, arranged_is_unchanged}
+use Rattle.overlay_split.proofs.laws.planar.PlanarRuns.{run_is_planar, result_is_unchanged}
 use Rattle.overlay_split.proofs.split.laws.planar_laws.Goals as goal
 
 pub returns-clause-exact_pass : goal.returns-clause-exact_pass

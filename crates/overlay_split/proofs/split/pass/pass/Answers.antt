@@ -5,39 +5,39 @@ use Rattle.overlay_base.specs.SegmentOf.{segments_of, data_segments_of}
 use Rattle.overlay_marks.specs.PlacingOf.{placing_of}
 use Rattle.overlay_split.specs.Pass.{cut, pass}
 use Rattle.overlay_split.specs.DataPass.{data_pass}
-use Rattle.overlay_split.proofs.laws.DataPasses.{bare-data_pass}
-use Rattle.overlay_base.proofs.laws.Views.{segments_of-bare}
-use Rattle.overlay_split.proofs.laws.Ready.{are_valid-cut, cut_as_segments}
+use Rattle.overlay_split.proofs.laws.passes.DataPasses.{bare-data_pass}
+use Rattle.overlay_base.proofs.laws.joins.Views.{segments_of-bare}
+use Rattle.overlay_split.proofs.laws.passes.Ready.{are_valid-cut, cut_as_segments}
 use Rattle.overlay_split.proofs.split.pass.pass.Goals as goal
 
 pub join_with_store-requires : goal.join_with_store-requires
 join_with_store-requires g c =
-    let hooks = hooks_of g.C.WindingCount.counted g.D.OverlayEdgeData.reversed_gives g.D.OverlayEdgeData.split_gives g.D.OverlayEdgeData.merge_gives in
+    let hooks = hooks_of g.C.WindingCount.counted g.D.OverlayEdgeData in
     let given = c.args.list.now.items in
-    are_valid-cut hooks (placing_of c.args.placing) given c.cut.new.list.items c.args.store.now c.in-Ok.ensures.list _ _ c.requires.splittable
+    are_valid-cut hooks (placing_of c.args.placing) given c.cut_at_marks.new.list.items c.args.store.now c.in-Ok.ensures.list _ _ c.requires.splittable
 
 pub returns-in_err-join_with_store-clause-refused : goal.returns-in_err-join_with_store-clause-refused
 returns-in_err-join_with_store-clause-refused g c =
-    let hooks = hooks_of g.C.WindingCount.counted g.D.OverlayEdgeData.reversed_gives g.D.OverlayEdgeData.split_gives g.D.OverlayEdgeData.merge_gives in
+    let hooks = hooks_of g.C.WindingCount.counted g.D.OverlayEdgeData in
     let given = c.args.list.now.items in
-    let pieces : segments_of c.cut.new.list.items ≡ cut (placing_of c.args.placing) (segments_of given) = cut_as_segments hooks (placing_of c.args.placing) given c.cut.new.list.items c.args.store.now c.in-Ok.ensures.list in
+    let pieces : segments_of c.cut_at_marks.new.list.items ≡ cut (placing_of c.args.placing) (segments_of given) = cut_as_segments hooks (placing_of c.args.placing) given c.cut_at_marks.new.list.items c.args.store.now c.in-Ok.ensures.list in
     rw (sym pieces) (search (rules, c.in_err-join_with_store.ensures.refused))
 
 -- what is joined is what the pass joins
 joined : (g : _) (c : goal.In_ok-join_with_store g) →
-    let hooks = hooks_of g.C.WindingCount.counted g.D.OverlayEdgeData.reversed_gives g.D.OverlayEdgeData.split_gives g.D.OverlayEdgeData.merge_gives in
+    let hooks = hooks_of g.C.WindingCount.counted g.D.OverlayEdgeData in
     (data_segments_of c.join_with_store.new.list.items, c.join_with_store.new.store) ≡ data_pass hooks (placing_of c.args.placing) (data_segments_of c.args.list.now.items) c.args.store.now
 unfolding data_pass
 joined g c =
-    let hooks = hooks_of g.C.WindingCount.counted g.D.OverlayEdgeData.reversed_gives g.D.OverlayEdgeData.split_gives g.D.OverlayEdgeData.merge_gives in
+    let hooks = hooks_of g.C.WindingCount.counted g.D.OverlayEdgeData in
     let given = c.args.list.now.items in
-    let made : (data_segments_of c.join_with_store.new.list.items, c.join_with_store.new.store) ≡ data_join hooks (data_segments_of c.cut.new.list.items) c.cut.new.store =
+    let made : (data_segments_of c.join_with_store.new.list.items, c.join_with_store.new.store) ≡ data_join hooks (data_segments_of c.cut_at_marks.new.list.items) c.cut_at_marks.new.store =
     λ i. (c.in_ok-join_with_store.ensures.edge_data i, c.in_ok-join_with_store.ensures.store i) in
     made ∙ (λ i. data_join hooks (c.in-Ok.ensures.list i) (c.in-Ok.ensures.store i))
 
 pub returns-clause-geometry : goal.returns-clause-geometry
 returns-clause-geometry g c =
-    let hooks = hooks_of g.C.WindingCount.counted g.D.OverlayEdgeData.reversed_gives g.D.OverlayEdgeData.split_gives g.D.OverlayEdgeData.merge_gives in
+    let hooks = hooks_of g.C.WindingCount.counted g.D.OverlayEdgeData in
     let given = c.args.list.now.items in
     segments_of-bare c.join_with_store.new.list.items ∙ ap (λ v. without_data v.0) (joined g c) ∙ bare-data_pass hooks (placing_of c.args.placing) (data_segments_of given) c.args.store.now ∙ ap (pass (placing_of c.args.placing)) (sym (segments_of-bare given))
 
@@ -49,7 +49,7 @@ returns-clause-store g c = ap (λ v. v.1) (joined g c)
 
 pub returns-clause-fits : goal.returns-clause-fits
 returns-clause-fits g c =
-    let hooks = hooks_of g.C.WindingCount.counted g.D.OverlayEdgeData.reversed_gives g.D.OverlayEdgeData.split_gives g.D.OverlayEdgeData.merge_gives in
+    let hooks = hooks_of g.C.WindingCount.counted g.D.OverlayEdgeData in
     let given = c.args.list.now.items in
-    let pieces : segments_of c.cut.new.list.items ≡ cut (placing_of c.args.placing) (segments_of given) = cut_as_segments hooks (placing_of c.args.placing) given c.cut.new.list.items c.args.store.now c.in-Ok.ensures.list in
+    let pieces : segments_of c.cut_at_marks.new.list.items ≡ cut (placing_of c.args.placing) (segments_of given) = cut_as_segments hooks (placing_of c.args.placing) given c.cut_at_marks.new.list.items c.args.store.now c.in-Ok.ensures.list in
     rw (sym pieces) c.in_ok-join_with_store.ensures.fits

@@ -5,7 +5,7 @@ use Rattle.overlay_base.specs.PointOf.{point_of}
 use Rattle.overlay_split.specs.Path.{run_through, last_point}
 use Rattle.overlay_split.specs.steps.PathSteps.{first_point}
 use Rattle.overlay_marks.specs.MarkOf.{points_of, mark_points_of}
-use Rattle.overlay_split.proofs.laws.Columns.{IsCollected-start, IsCollected-next, IsCollected-end, fewer, none_left}
+use Rattle.overlay_split.proofs.laws.passes.Columns.{IsCollected-start, IsCollected-next, IsCollected-end, fewer, none_left}
 use Rattle.overlay_split.proofs.split.path.collect_path.Goals as goal
 
 pub loop-first-init : goal.loop-first-init
@@ -14,7 +14,7 @@ loop-first-init g c = rw (c.clear.ensures.items) (IsCollected-start (point_of g.
 pub loop-first-smaller : goal.loop-first-smaller
 loop-first-smaller g c =
     let first : slice_get c.loop-first.rest.now 0 ≡ Some c.in-Some.first.now = sym c.in-Some.ensures.value in
-    rw (c.split_at.ensures.back) (fewer (λ m. point_of g.I.OverlayInt.whole m.point) c.loop-first.rest.now c.in-Some.first.now c.column_len.result first c.column_len.ensures.run)
+    rw (c.split_at.ensures.back) (fewer (λ m. point_of g.I.OverlayInt.whole m.point) c.loop-first.rest.now c.in-Some.first.now c.column_len.result first c.column_len.ensures.block)
 
 pub loop-first-preserved : goal.loop-first-preserved
 loop-first-preserved g c =
@@ -30,7 +30,7 @@ loop-first-preserved g c =
     let front = c.split_at.ensures.front in
     let put : points_of whole c.run_column.new.path.items ≡ points_of whole old ++ run_through (last_point a (points_of whole old)) (mark_points_of whole (take n rest)) (first_point (mark_points_of whole (drop n rest)) b) =
     c.in_ok-run_column.ensures ∙ (λ i. points_of whole old ++ run_through (before i) (mark_points_of whole (front i)) (next i)) in
-    rw (c.split_at.ensures.back) (IsCollected-next (λ m. point_of whole m.point) (point_of whole) a b c.args.marks.now rest old c.run_column.new.path.items c.in-Some.first.now n first c.column_len.ensures.run c.loop-first.invariant put)
+    rw (c.split_at.ensures.back) (IsCollected-next (λ m. point_of whole m.point) (point_of whole) a b c.args.marks.now rest old c.run_column.new.path.items c.in-Some.first.now n first c.column_len.ensures.block c.loop-first.invariant put)
 
 pub returns : goal.returns
 returns g c =

@@ -1,7 +1,7 @@
 use Rattle.std.proofs.Common.{length}
 use Rattle.overlay_base.specs.PointOf.{point_of}
 use Rattle.overlay_marks.specs.MarkOf.{points_of, mark_points_of}
-use Rattle.overlay_split.proofs.laws.Columns.{IsCollected}
+use Rattle.overlay_split.proofs.laws.passes.Columns.{IsCollected}
 use Rattle.overlay_split.proofs.split.path.collect_path.Given as goal
 
 abbrev pub invariant-loop-first : goal.invariant-loop-first

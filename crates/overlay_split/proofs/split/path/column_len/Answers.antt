@@ -7,8 +7,8 @@ flip : (a b : Bool) → a ≡ not b → (a ≡ true → b ≡ false) × (a ≡ f
 flip a true e = ((λ h. cc), λ h. refl)
 flip a false e = ((λ h. refl), λ h. cc)
 
-pub returns-then-ne-clause-run : goal.returns-then-ne-clause-run
-returns-then-ne-clause-run g c =
+pub returns-then-ne-clause-block : goal.returns-then-ne-clause-block
+returns-then-ne-clause-block g c =
     let x = g.I.OverlayInt.whole c.args.x in
     let m = c.index-marks-index.result in
     let same : g.I.PartialEq.eq m.point.x c.args.x ≡ int_eq (g.I.OverlayInt.whole m.point.x) x = g.met.I.Ord.matches_eq _ _ ∙ ap is_eq (g.met.I.OverlayInt.ordered _ _) in
@@ -27,8 +27,8 @@ loop-index-preserved g c =
     let i = c.loop-index.invariant in
     omega arith
 
-pub returns-clause-run : goal.returns-clause-run
-returns-clause-run g c =
+pub returns-clause-block : goal.returns-clause-block
+returns-clause-block g c =
     let x = g.I.OverlayInt.whole c.args.x in
     let last = prefix_len-drop_all (λ k. int_eq (g.I.OverlayInt.whole k.point.x) x) c.args.marks.now c.loop-index.index c.loop-index-test.false in
     let i = c.loop-index.invariant in

@@ -5,7 +5,7 @@ use Rattle.overlay_base.specs.HooksOf.{hooks_of}
 use Rattle.overlay_base.specs.SegmentOf.{data_segment_of, data_segments_of}
 use Rattle.overlay_split.specs.Path.{LeadsOn, last_point}
 use Rattle.overlay_split.specs.DataPass.{data_pieces}
-use Rattle.overlay_split.proofs.laws.PieceSteps.{pieces-none, ArePushed-start, ArePushed-next, ArePushed-last, ArePushed-differ, left_at, left_none, left_some, whole_path}
+use Rattle.overlay_split.proofs.laws.passes.PieceSteps.{pieces-none, ArePushed-start, ArePushed-next, ArePushed-last, ArePushed-differ, left_at, left_none, left_some, whole_path}
 use Rattle.overlay_split.proofs.split.piece.push_pieces.Goals as goal
 
 pub loop-mark-init : goal.loop-mark-init
@@ -40,7 +40,7 @@ no_path (x ∷ xs) e = absurd (omega arith)
 pub returns-in_default-clause-pieces : goal.returns-in_default-clause-pieces
 returns-in_default-clause-pieces g c =
     let f = point_of g.I.OverlayInt.whole in
-    let hooks = hooks_of g.C.WindingCount.counted g.D.OverlayEdgeData.reversed_gives g.D.OverlayEdgeData.split_gives g.D.OverlayEdgeData.merge_gives in
+    let hooks = hooks_of g.C.WindingCount.counted g.D.OverlayEdgeData in
     let none = no_path c.args.path.now c.in_default.ensures.cases in
     let given = data_segments_of c.args.list.now.items in
     sym (ap (λ l. given ++ (data_pieces hooks (g.C.WindingCount.winding c.args.count) (f c.args.from) (map f l) (last_point (f c.args.from) (map f l)) c.args.edge_data c.args.store.now).0) none
@@ -49,7 +49,7 @@ returns-in_default-clause-pieces g c =
 pub returns-in_default-clause-store : goal.returns-in_default-clause-store
 returns-in_default-clause-store g c =
     let f = point_of g.I.OverlayInt.whole in
-    let hooks = hooks_of g.C.WindingCount.counted g.D.OverlayEdgeData.reversed_gives g.D.OverlayEdgeData.split_gives g.D.OverlayEdgeData.merge_gives in
+    let hooks = hooks_of g.C.WindingCount.counted g.D.OverlayEdgeData in
     let none = no_path c.args.path.now c.in_default.ensures.cases in
     sym (ap (λ l. (data_pieces hooks (g.C.WindingCount.winding c.args.count) (f c.args.from) (map f l) (last_point (f c.args.from) (map f l)) c.args.edge_data c.args.store.now).1) none
     ∙ ap (λ v. v.1) (pieces-none hooks (g.C.WindingCount.winding c.args.count) (last_point (f c.args.from) []) (f c.args.from) c.args.edge_data c.args.store.now))
@@ -58,7 +58,7 @@ pub returns-clause-pieces : goal.returns-clause-pieces
 returns-clause-pieces g c =
     let f = point_of g.I.OverlayInt.whole in
     let b = f c.in-Some.b.now in
-    let hooks = hooks_of g.C.WindingCount.counted g.D.OverlayEdgeData.reversed_gives g.D.OverlayEdgeData.split_gives g.D.OverlayEdgeData.merge_gives in
+    let hooks = hooks_of g.C.WindingCount.counted g.D.OverlayEdgeData in
     let whole = whole_path f c.args.path.now c.in-Some.marks.now c.in-Some.b.now (f c.args.from) c.in-Some.ensures.cases.0 in
     let items = ap data_segments_of c.in_ok-push-2.ensures.items ∙ map-append data_segment_of c.loop-mark.list.items (c.create_and_validate_with_data-2.result ∷ []) in
     let end = ArePushed-last _ _ _ _ _ _ _ _ _ _ c.loop-mark.invariant b (left_none f c.in-Some.marks.now b c.loop-mark.mark-index c.loop-mark-test.false) _ _ c.create_and_validate_with_data-2.ensures.segment c.create_and_validate_with_data-2.ensures.store in
@@ -68,7 +68,7 @@ pub returns-clause-store : goal.returns-clause-store
 returns-clause-store g c =
     let f = point_of g.I.OverlayInt.whole in
     let b = f c.in-Some.b.now in
-    let hooks = hooks_of g.C.WindingCount.counted g.D.OverlayEdgeData.reversed_gives g.D.OverlayEdgeData.split_gives g.D.OverlayEdgeData.merge_gives in
+    let hooks = hooks_of g.C.WindingCount.counted g.D.OverlayEdgeData in
     let whole = whole_path f c.args.path.now c.in-Some.marks.now c.in-Some.b.now (f c.args.from) c.in-Some.ensures.cases.0 in
     let end = ArePushed-last _ _ _ _ _ _ _ _ _ _ c.loop-mark.invariant b (left_none f c.in-Some.marks.now b c.loop-mark.mark-index c.loop-mark-test.false) _ _ c.create_and_validate_with_data-2.ensures.segment c.create_and_validate_with_data-2.ensures.store in
     end.1 ∙ sym (λ i. (data_pieces hooks (g.C.WindingCount.winding c.args.count) (f c.args.from) (whole.0 i) (whole.1 i) c.args.edge_data c.args.store.now).1)

@@ -4,13 +4,13 @@ use Rattle.overlay_base.specs.HooksOf.{hooks_of}
 use Rattle.overlay_base.specs.SegmentOf.{data_segments_of}
 use Rattle.overlay_marks.specs.MarkOf.{points_of}
 use Rattle.overlay_split.specs.DataPass.{data_pieces}
-use Rattle.overlay_split.proofs.laws.PieceSteps.{ArePushed}
+use Rattle.overlay_split.proofs.laws.passes.PieceSteps.{ArePushed}
 use Rattle.overlay_split.proofs.split.piece.push_pieces.Given as goal
 
 abbrev pub invariant-loop-mark : goal.invariant-loop-mark
 invariant-loop-mark g l =
     let whole = g.I.OverlayInt.whole in
-    let hooks = hooks_of g.C.WindingCount.counted g.D.OverlayEdgeData.reversed_gives g.D.OverlayEdgeData.split_gives g.D.OverlayEdgeData.merge_gives in
+    let hooks = hooks_of g.C.WindingCount.counted g.D.OverlayEdgeData in
     let count = g.C.WindingCount.winding l.count in
     let b = point_of whole l.b in
     let all = data_pieces hooks count (point_of whole l.fn.from) (points_of whole l.marks ++ b ∷ []) b l.fn.edge_data l.fn.store in

@@ -1,5 +1,5 @@
-use Rattle.overlay_sweep.proofs.laws.ChainSums.{tops_add_weights}
-use Rattle.overlay_sweep.proofs.laws.Tops.{chains_are_columns}
+use Rattle.overlay_sweep.proofs.laws.columns.ChainSums.{tops_add_weights}
+use Rattle.overlay_sweep.proofs.laws.columns.Tops.{chains_are_columns}
 use Rattle.overlay_sweep.proofs.build.laws.winding_laws.Goals as goal
 
 pub returns-clause-columns : goal.returns-clause-columns

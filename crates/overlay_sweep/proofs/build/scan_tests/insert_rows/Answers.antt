@@ -1,5 +1,5 @@
 use Rattle.std.specs.Prelude.{pos}
-use Rattle.overlay_sweep.proofs.laws.LevelRows.{no_rows}
+use Rattle.overlay_sweep.proofs.laws.live.LevelRows.{no_rows}
 use Rattle.overlay_sweep.proofs.build.scan_tests.insert_rows.Goals as goal
 
 pub loop-j-init : goal.loop-j-init

@@ -1,7 +1,7 @@
 use Rattle.std.proofs.Common.{arith}
 use Rattle.std.specs.Prelude.{pos}
 use Rattle.std.proofs.lemmas.Int.{ints}
-use Rattle.overlay_sweep.proofs.laws.LevelRows.{rows_later}
+use Rattle.overlay_sweep.proofs.laws.live.LevelRows.{rows_later}
 use Rattle.overlay_sweep.proofs.build.scan_tests.look_at_rows.Goals as goal
 
 pub loop-k-init : goal.loop-k-init

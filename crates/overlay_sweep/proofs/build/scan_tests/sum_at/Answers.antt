@@ -1,5 +1,5 @@
 use Rattle.std.proofs.Common.{◌≡◌, to_z-of_z, FitsSigned, w64}
-use Rattle.overlay_sweep.proofs.laws.LevelRows.{rows_free, rows_kept}
+use Rattle.overlay_sweep.proofs.laws.live.LevelRows.{rows_free, rows_kept}
 use Rattle.overlay_sweep.proofs.build.scan_tests.sum_at.Goals as goal
 
 pub sum_below-requires-clause-free : goal.sum_below-requires-clause-free

@@ -1,6 +1,6 @@
 use Rattle.std.proofs.Common.{◌≡◌, ◌+◌, ◌*◌, ap, sym, rules}
 use Rattle.overlay_sweep.specs.Fill.{is_inside, flag_value, fill_byte}
-use Rattle.overlay_sweep.proofs.laws.FillBytes.{without_clip}
+use Rattle.overlay_sweep.proofs.laws.visits.FillBytes.{without_clip}
 use Rattle.overlay_sweep.proofs.build.string.fill_with_mask.Goals as goal
 
 pub returns : goal.returns

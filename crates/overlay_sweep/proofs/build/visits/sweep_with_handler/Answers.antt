@@ -11,14 +11,15 @@ use Rattle.overlay_base.specs.Planar.{is_arranged}
 use Rattle.overlay_base.specs.declared.segm.segment.Segment.{Segment}
 use Rattle.overlay_base.specs.PointOf.{point_of}
 use Rattle.overlay_base.specs.SegmentOf.{segment_of, segments_of, data_segment_of, data_segments_of, winding_of}
-use Rattle.overlay_sweep.specs.Sweep.{visits, visited, visits_leave_range, sum_below}
+use Rattle.overlay_sweep.specs.Sweep.{visits, visited, visits_leave_range}
+use Rattle.overlay_sweep.specs.Live.{sum_below}
 use Rattle.overlay_sweep.specs.Live.{HoldSameFrom, AreFreeAt}
 use Rattle.overlay_sweep.specs.steps.WayOf.{way_of, ways_of, ways_between, by_angle}
-use Rattle.overlay_base.proofs.laws.Views.{segments_of-bare}
-use Rattle.overlay_sweep.proofs.laws.Members.{IsArranged}
-use Rattle.overlay_sweep.proofs.laws.Handling.{refused_as}
-use Rattle.overlay_sweep.proofs.laws.Arrangements.{whole_arranged, usable_at, usable_item, start_is, segment_is, index_within}
-use Rattle.overlay_sweep.proofs.laws.SweepStates.{start_at, before_first, run_at, free_at_start, enter, leave, finished, finished_in_range, amid_place, node_is_over, step, valid_from, free_here, answered_here, in_range_here, refused_here, visit_is}
+use Rattle.overlay_base.proofs.laws.joins.Views.{segments_of-bare}
+use Rattle.overlay_sweep.proofs.laws.columns.Members.{IsArranged}
+use Rattle.overlay_sweep.proofs.laws.visits.Handling.{refused_as}
+use Rattle.overlay_sweep.proofs.laws.visits.Arrangements.{whole_arranged, usable_at, usable_item, start_is, segment_is, index_within}
+use Rattle.overlay_sweep.proofs.laws.visits.SweepStates.{start_at, before_first, block_at, free_at_start, enter, leave, finished, finished_in_range, amid_place, point_is_over, step, valid_from, free_here, answered_here, in_range_here, refused_here, visit_is}
 use Rattle.overlay_sweep.proofs.build.visits.sweep_with_handler.Goals as goal
 
 -- ---- the shared part: the segments with their data are those without it, and arranged
@@ -35,8 +36,8 @@ pub loop-index-init : goal.loop-index-init
 loop-index-init g c =
     ((λ arranged. before_first g.H.FillHandler.handle_gives g.H.FillHandler.finalize_gives g.F.FillStrategy.rule (data_segments_of c.args.segments.now) arranged c.args.handler (g.S.LiveSegments.sums c.clear.new.self) (g.S.LiveSegments.may_go_on_at c.clear.new.self) c.clear.ensures.sums c.clear.ensures.time), c.requires.takes)
 
-pub collect_node-requires-clause-in_range : goal.collect_node-requires-clause-in_range
-collect_node-requires-clause-in_range g c =
+pub collect_ways-requires-clause-in_range : goal.collect_ways-requires-clause-in_range
+collect_ways-requires-clause-in_range g c =
     λ k d l. let usable = usable_at segment_of c.args.segments.now (g.I.OverlayInt.whole g.I.OverlayInt.MIN_COORD) (g.I.OverlayInt.whole g.I.OverlayInt.MAX_COORD) c.requires.arranged k d l in
     record { a_in_range = usable.a; b_in_range = usable.b }
 
@@ -66,39 +67,39 @@ pub loop-way-init : goal.loop-way-init
 loop-way-init g c =
     let arr = arranged_list (g.I.OverlayInt.whole g.I.OverlayInt.MIN_COORD) (g.I.OverlayInt.whole g.I.OverlayInt.MAX_COORD) c.args.segments.now c.requires.arranged in
     let start : start_at (without_data (data_segments_of c.args.segments.now)) c.loop-index.index ≡ point_of g.I.OverlayInt.whole c.x_segment.result.a = start_is segment_of c.args.segments.now (without_data (data_segments_of c.args.segments.now)) (same_list c.args.segments.now) c.loop-index.index c.index-segments-index.result c.loop-index-test.true c.index-segments-index.is ∙ ap (λ v. (pair_of g.I.OverlayInt.whole v).a) (sym c.x_segment.ensures) in
-    let order : c.loop-index.index < c.node_end-next.result = c.node_end-next.ensures.after in
-    let within : c.node_end-next.result ≤ length (data_segments_of c.args.segments.now) = subst (λ n. c.node_end-next.result ≤ n) (sym (length-map c.args.segments.now data_segment_of)) c.node_end-next.ensures.within in (
+    let order : c.loop-index.index < c.start_point_end-next.result = c.start_point_end-next.ensures.after in
+    let within : c.start_point_end-next.result ≤ length (data_segments_of c.args.segments.now) = subst (λ n. c.start_point_end-next.result ≤ n) (sym (length-map c.args.segments.now data_segment_of)) c.start_point_end-next.ensures.within in (
       (λ arranged.
           let state = c.loop-index.invariant.0 arranged in
-          let run = run_at g.H.FillHandler.handle_gives g.H.FillHandler.finalize_gives g.F.FillStrategy.rule (data_segments_of c.args.segments.now) arranged c.args.handler (segments_of c.args.segments.now) (same_list c.args.segments.now) c.loop-index.index c.node_end-next.result order within state.boundary c.node_end-next.ensures.same
-          (λ d l. c.node_end-next.ensures.other d (subst (λ n. c.node_end-next.result < n) (length-map c.args.segments.now data_segment_of) l)) in
-          enter g.H.FillHandler.handle_gives g.H.FillHandler.finalize_gives g.F.FillStrategy.rule (data_segments_of c.args.segments.now) arranged c.args.handler c.loop-index.index c.node_end-next.result c.loop-index.handler (g.S.LiveSegments.sums c.loop-index.live) (g.S.LiveSegments.sums c.sum_below-sum.new.self) (g.S.LiveSegments.may_go_on_at c.loop-index.live) (g.S.LiveSegments.may_go_on_at c.sum_below-sum.new.self) (g.C.WindingCount.winding c.sum_below-sum.result) order within run state
+          let block = block_at g.H.FillHandler.handle_gives g.H.FillHandler.finalize_gives g.F.FillStrategy.rule (data_segments_of c.args.segments.now) arranged c.args.handler (segments_of c.args.segments.now) (same_list c.args.segments.now) c.loop-index.index c.start_point_end-next.result order within state.boundary c.start_point_end-next.ensures.same
+          (λ d l. c.start_point_end-next.ensures.other d (subst (λ n. c.start_point_end-next.result < n) (length-map c.args.segments.now data_segment_of) l)) in
+          enter g.H.FillHandler.handle_gives g.H.FillHandler.finalize_gives g.F.FillStrategy.rule (data_segments_of c.args.segments.now) arranged c.args.handler c.loop-index.index c.start_point_end-next.result c.loop-index.handler (g.S.LiveSegments.sums c.loop-index.live) (g.S.LiveSegments.sums c.sum_below-sum.new.self) (g.S.LiveSegments.may_go_on_at c.loop-index.live) (g.S.LiveSegments.may_go_on_at c.sum_below-sum.new.self) (g.C.WindingCount.winding c.sum_below-sum.result) order within block state
           (subst (λ (p : Point). HoldSameFrom p.x (g.S.LiveSegments.sums c.sum_below-sum.new.self) (g.S.LiveSegments.sums c.loop-index.live)) (sym start) c.sum_below-sum.ensures.sums)
           (c.sum_below-sum.ensures.sum ∙ ap₂ (sum_below (g.S.LiveSegments.sums c.loop-index.live)) (sym start) (c.new.ensures ∙ g.met.F.FillStrategy.nothing))
           (λ y l. c.sum_below-sum.ensures.time y (subst (λ (p : Point). p.x ≤ℤ y) start l))),
       c.loop-index.invariant.1,
-      ap ways_of c.deref-way-items.ensures.value ∙ c.in_ok-collect_node.ensures ∙ ap (λ l. by_angle (ways_between l c.loop-index.index c.node_end-next.result)) (sym (same_list c.args.segments.now)),
+      ap ways_of c.deref-way-items.ensures.value ∙ c.in_ok-collect_ways.ensures ∙ ap (λ l. by_angle (ways_between l c.loop-index.index c.start_point_end-next.result)) (sym (same_list c.args.segments.now)),
     )
 
 pub offset_bounds-segments-way : goal.offset_bounds-segments-way
 offset_bounds-segments-way g c =
     let arr = arranged_list (g.I.OverlayInt.whole g.I.OverlayInt.MIN_COORD) (g.I.OverlayInt.whole g.I.OverlayInt.MAX_COORD) c.args.segments.now c.requires.arranged in
     let state = c.loop-way.invariant.0 arr in
-    let bound : c.way-item.result.index < length c.args.segments.now = amid_place g.H.FillHandler.handle_gives g.H.FillHandler.finalize_gives g.F.FillStrategy.rule (data_segments_of c.args.segments.now) arr c.args.handler c.loop-index.index c.node_end-next.result c.loop-way.way-index (g.C.WindingCount.winding c.loop-way.sum) c.loop-way.handler (g.S.LiveSegments.sums c.loop-way.live) (g.S.LiveSegments.may_go_on_at c.loop-way.live) state way_of c.deref-way-items.result.now c.loop-way.invariant.2 c.loop-way-test.true c.way-item.result c.way-item.is (λ v at e. index_within data_segment_of c.args.segments.now g.F.FillStrategy.rule (without_data (data_segments_of c.args.segments.now)) c.way-item.result.index v e at.is) in
+    let bound : c.way-item.result.index < length c.args.segments.now = amid_place g.H.FillHandler.handle_gives g.H.FillHandler.finalize_gives g.F.FillStrategy.rule (data_segments_of c.args.segments.now) arr c.args.handler c.loop-index.index c.start_point_end-next.result c.loop-way.way-index (g.C.WindingCount.winding c.loop-way.sum) c.loop-way.handler (g.S.LiveSegments.sums c.loop-way.live) (g.S.LiveSegments.may_go_on_at c.loop-way.live) state way_of c.deref-way-items.result.now c.loop-way.invariant.2 c.loop-way-test.true c.way-item.result c.way-item.is (λ v at e. index_within data_segment_of c.args.segments.now g.F.FillStrategy.rule (without_data (data_segments_of c.args.segments.now)) c.way-item.result.index v e at.is) in
     omega (arith, bound)
 
 pub bounds-segments-way : goal.bounds-segments-way
 bounds-segments-way g c =
     let arr = arranged_list (g.I.OverlayInt.whole g.I.OverlayInt.MIN_COORD) (g.I.OverlayInt.whole g.I.OverlayInt.MAX_COORD) c.args.segments.now c.requires.arranged in
     let state = c.loop-way.invariant.0 arr in
-    let bound : c.way-item.result.index < length c.args.segments.now = amid_place g.H.FillHandler.handle_gives g.H.FillHandler.finalize_gives g.F.FillStrategy.rule (data_segments_of c.args.segments.now) arr c.args.handler c.loop-index.index c.node_end-next.result c.loop-way.way-index (g.C.WindingCount.winding c.loop-way.sum) c.loop-way.handler (g.S.LiveSegments.sums c.loop-way.live) (g.S.LiveSegments.may_go_on_at c.loop-way.live) state way_of c.deref-way-items.result.now c.loop-way.invariant.2 c.loop-way-test.true c.way-item.result c.way-item.is (λ v at e. index_within data_segment_of c.args.segments.now g.F.FillStrategy.rule (without_data (data_segments_of c.args.segments.now)) c.way-item.result.index v e at.is) in
+    let bound : c.way-item.result.index < length c.args.segments.now = amid_place g.H.FillHandler.handle_gives g.H.FillHandler.finalize_gives g.F.FillStrategy.rule (data_segments_of c.args.segments.now) arr c.args.handler c.loop-index.index c.start_point_end-next.result c.loop-way.way-index (g.C.WindingCount.winding c.loop-way.sum) c.loop-way.handler (g.S.LiveSegments.sums c.loop-way.live) (g.S.LiveSegments.may_go_on_at c.loop-way.live) state way_of c.deref-way-items.result.now c.loop-way.invariant.2 c.loop-way-test.true c.way-item.result c.way-item.is (λ v at e. index_within data_segment_of c.args.segments.now g.F.FillStrategy.rule (without_data (data_segments_of c.args.segments.now)) c.way-item.result.index v e at.is) in
     bound
 
 pub visit-requires-clause-in_range : goal.visit-requires-clause-in_range
 visit-requires-clause-in_range g c =
     let arr = arranged_list (g.I.OverlayInt.whole g.I.OverlayInt.MIN_COORD) (g.I.OverlayInt.whole g.I.OverlayInt.MAX_COORD) c.args.segments.now c.requires.arranged in
     let state = c.loop-way.invariant.0 arr in
-    let bound : c.way-item.result.index < length c.args.segments.now = amid_place g.H.FillHandler.handle_gives g.H.FillHandler.finalize_gives g.F.FillStrategy.rule (data_segments_of c.args.segments.now) arr c.args.handler c.loop-index.index c.node_end-next.result c.loop-way.way-index (g.C.WindingCount.winding c.loop-way.sum) c.loop-way.handler (g.S.LiveSegments.sums c.loop-way.live) (g.S.LiveSegments.may_go_on_at c.loop-way.live) state way_of c.deref-way-items.result.now c.loop-way.invariant.2 c.loop-way-test.true c.way-item.result c.way-item.is (λ v at e. index_within data_segment_of c.args.segments.now g.F.FillStrategy.rule (without_data (data_segments_of c.args.segments.now)) c.way-item.result.index v e at.is) in
+    let bound : c.way-item.result.index < length c.args.segments.now = amid_place g.H.FillHandler.handle_gives g.H.FillHandler.finalize_gives g.F.FillStrategy.rule (data_segments_of c.args.segments.now) arr c.args.handler c.loop-index.index c.start_point_end-next.result c.loop-way.way-index (g.C.WindingCount.winding c.loop-way.sum) c.loop-way.handler (g.S.LiveSegments.sums c.loop-way.live) (g.S.LiveSegments.may_go_on_at c.loop-way.live) state way_of c.deref-way-items.result.now c.loop-way.invariant.2 c.loop-way-test.true c.way-item.result c.way-item.is (λ v at e. index_within data_segment_of c.args.segments.now g.F.FillStrategy.rule (without_data (data_segments_of c.args.segments.now)) c.way-item.result.index v e at.is) in
     let usable = usable_item segment_of c.args.segments.now (g.I.OverlayInt.whole g.I.OverlayInt.MIN_COORD) (g.I.OverlayInt.whole g.I.OverlayInt.MAX_COORD) c.requires.arranged c.way-item.result.index c.index-segments-way.result bound c.index-segments-way.is in
     record { a_in_range = usable.a; b_in_range = usable.b }
 
@@ -106,7 +107,7 @@ pub visit-requires-clause-count : goal.visit-requires-clause-count
 visit-requires-clause-count g c =
     let arr = arranged_list (g.I.OverlayInt.whole g.I.OverlayInt.MIN_COORD) (g.I.OverlayInt.whole g.I.OverlayInt.MAX_COORD) c.args.segments.now c.requires.arranged in
     let state = c.loop-way.invariant.0 arr in
-    let bound : c.way-item.result.index < length c.args.segments.now = amid_place g.H.FillHandler.handle_gives g.H.FillHandler.finalize_gives g.F.FillStrategy.rule (data_segments_of c.args.segments.now) arr c.args.handler c.loop-index.index c.node_end-next.result c.loop-way.way-index (g.C.WindingCount.winding c.loop-way.sum) c.loop-way.handler (g.S.LiveSegments.sums c.loop-way.live) (g.S.LiveSegments.may_go_on_at c.loop-way.live) state way_of c.deref-way-items.result.now c.loop-way.invariant.2 c.loop-way-test.true c.way-item.result c.way-item.is (λ v at e. index_within data_segment_of c.args.segments.now g.F.FillStrategy.rule (without_data (data_segments_of c.args.segments.now)) c.way-item.result.index v e at.is) in
+    let bound : c.way-item.result.index < length c.args.segments.now = amid_place g.H.FillHandler.handle_gives g.H.FillHandler.finalize_gives g.F.FillStrategy.rule (data_segments_of c.args.segments.now) arr c.args.handler c.loop-index.index c.start_point_end-next.result c.loop-way.way-index (g.C.WindingCount.winding c.loop-way.sum) c.loop-way.handler (g.S.LiveSegments.sums c.loop-way.live) (g.S.LiveSegments.may_go_on_at c.loop-way.live) state way_of c.deref-way-items.result.now c.loop-way.invariant.2 c.loop-way-test.true c.way-item.result c.way-item.is (λ v at e. index_within data_segment_of c.args.segments.now g.F.FillStrategy.rule (without_data (data_segments_of c.args.segments.now)) c.way-item.result.index v e at.is) in
     let usable = usable_item segment_of c.args.segments.now (g.I.OverlayInt.whole g.I.OverlayInt.MIN_COORD) (g.I.OverlayInt.whole g.I.OverlayInt.MAX_COORD) c.requires.arranged c.way-item.result.index c.index-segments-way.result bound c.index-segments-way.is in
     usable.count
 
@@ -114,20 +115,20 @@ pub visit-requires-clause-bottom : goal.visit-requires-clause-bottom
 visit-requires-clause-bottom g c =
     let arr = arranged_list (g.I.OverlayInt.whole g.I.OverlayInt.MIN_COORD) (g.I.OverlayInt.whole g.I.OverlayInt.MAX_COORD) c.args.segments.now c.requires.arranged in
     let state = c.loop-way.invariant.0 arr in
-    valid_from (g.C.WindingCount.winding c.loop-way.sum) state.node.sum_in_range state.node.unmasked
+    valid_from (g.C.WindingCount.winding c.loop-way.sum) state.at_point.sum_in_range state.at_point.unmasked
 
 pub visit-requires-clause-takes : goal.visit-requires-clause-takes
 visit-requires-clause-takes g c =
     let arr = arranged_list (g.I.OverlayInt.whole g.I.OverlayInt.MIN_COORD) (g.I.OverlayInt.whole g.I.OverlayInt.MAX_COORD) c.args.segments.now c.requires.arranged in
     let state = c.loop-way.invariant.0 arr in
-    let bound : c.way-item.result.index < length c.args.segments.now = amid_place g.H.FillHandler.handle_gives g.H.FillHandler.finalize_gives g.F.FillStrategy.rule (data_segments_of c.args.segments.now) arr c.args.handler c.loop-index.index c.node_end-next.result c.loop-way.way-index (g.C.WindingCount.winding c.loop-way.sum) c.loop-way.handler (g.S.LiveSegments.sums c.loop-way.live) (g.S.LiveSegments.may_go_on_at c.loop-way.live) state way_of c.deref-way-items.result.now c.loop-way.invariant.2 c.loop-way-test.true c.way-item.result c.way-item.is (λ v at e. index_within data_segment_of c.args.segments.now g.F.FillStrategy.rule (without_data (data_segments_of c.args.segments.now)) c.way-item.result.index v e at.is) in
+    let bound : c.way-item.result.index < length c.args.segments.now = amid_place g.H.FillHandler.handle_gives g.H.FillHandler.finalize_gives g.F.FillStrategy.rule (data_segments_of c.args.segments.now) arr c.args.handler c.loop-index.index c.start_point_end-next.result c.loop-way.way-index (g.C.WindingCount.winding c.loop-way.sum) c.loop-way.handler (g.S.LiveSegments.sums c.loop-way.live) (g.S.LiveSegments.may_go_on_at c.loop-way.live) state way_of c.deref-way-items.result.now c.loop-way.invariant.2 c.loop-way-test.true c.way-item.result c.way-item.is (λ v at e. index_within data_segment_of c.args.segments.now g.F.FillStrategy.rule (without_data (data_segments_of c.args.segments.now)) c.way-item.result.index v e at.is) in
     c.loop-way.invariant.1 c.way-item.result.index bound
 
 pub visit-requires-clause-time : goal.visit-requires-clause-time
 visit-requires-clause-time g c =
     let arr = arranged_list (g.I.OverlayInt.whole g.I.OverlayInt.MIN_COORD) (g.I.OverlayInt.whole g.I.OverlayInt.MAX_COORD) c.args.segments.now c.requires.arranged in
     let state = c.loop-way.invariant.0 arr in
-    λ y l. amid_place g.H.FillHandler.handle_gives g.H.FillHandler.finalize_gives g.F.FillStrategy.rule (data_segments_of c.args.segments.now) arr c.args.handler c.loop-index.index c.node_end-next.result c.loop-way.way-index (g.C.WindingCount.winding c.loop-way.sum) c.loop-way.handler (g.S.LiveSegments.sums c.loop-way.live) (g.S.LiveSegments.may_go_on_at c.loop-way.live) state way_of c.deref-way-items.result.now c.loop-way.invariant.2 c.loop-way-test.true c.way-item.result c.way-item.is (λ v at e.
+    λ y l. amid_place g.H.FillHandler.handle_gives g.H.FillHandler.finalize_gives g.F.FillStrategy.rule (data_segments_of c.args.segments.now) arr c.args.handler c.loop-index.index c.start_point_end-next.result c.loop-way.way-index (g.C.WindingCount.winding c.loop-way.sum) c.loop-way.handler (g.S.LiveSegments.sums c.loop-way.live) (g.S.LiveSegments.may_go_on_at c.loop-way.live) state way_of c.deref-way-items.result.now c.loop-way.invariant.2 c.loop-way-test.true c.way-item.result c.way-item.is (λ v at e.
     let own : data_segment_of c.index-segments-way.result ≡ v.segment = segment_is data_segment_of c.args.segments.now g.F.FillStrategy.rule (without_data (data_segments_of c.args.segments.now)) c.way-item.result.index c.index-segments-way.result v c.index-segments-way.is e at.is in
     state.time y (subst (λ (p : Point). p.x ≤ℤ y) (ap (λ (s : DataSegment g.row.D.Denot). s.pair.a) own ∙ at.start) l))
 
@@ -135,59 +136,59 @@ pub visit-requires-clause-free : goal.visit-requires-clause-free
 visit-requires-clause-free g c =
     let arr = arranged_list (g.I.OverlayInt.whole g.I.OverlayInt.MIN_COORD) (g.I.OverlayInt.whole g.I.OverlayInt.MAX_COORD) c.args.segments.now c.requires.arranged in
     let state = c.loop-way.invariant.0 arr in
-    amid_place g.H.FillHandler.handle_gives g.H.FillHandler.finalize_gives g.F.FillStrategy.rule (data_segments_of c.args.segments.now) arr c.args.handler c.loop-index.index c.node_end-next.result c.loop-way.way-index (g.C.WindingCount.winding c.loop-way.sum) c.loop-way.handler (g.S.LiveSegments.sums c.loop-way.live) (g.S.LiveSegments.may_go_on_at c.loop-way.live) state way_of c.deref-way-items.result.now c.loop-way.invariant.2 c.loop-way-test.true c.way-item.result c.way-item.is (λ v at e.
+    amid_place g.H.FillHandler.handle_gives g.H.FillHandler.finalize_gives g.F.FillStrategy.rule (data_segments_of c.args.segments.now) arr c.args.handler c.loop-index.index c.start_point_end-next.result c.loop-way.way-index (g.C.WindingCount.winding c.loop-way.sum) c.loop-way.handler (g.S.LiveSegments.sums c.loop-way.live) (g.S.LiveSegments.may_go_on_at c.loop-way.live) state way_of c.deref-way-items.result.now c.loop-way.invariant.2 c.loop-way-test.true c.way-item.result c.way-item.is (λ v at e.
     let own : data_segment_of c.index-segments-way.result ≡ v.segment = segment_is data_segment_of c.args.segments.now g.F.FillStrategy.rule (without_data (data_segments_of c.args.segments.now)) c.way-item.result.index c.index-segments-way.result v c.index-segments-way.is e at.is in
     subst (λ (s : DataSegment g.row.D.Denot). AreFreeAt s.pair.a.x (record { pair = s.pair; count = add (weight (g.C.WindingCount.winding c.loop-way.sum)) (weight s.count) } ∷ g.S.LiveSegments.sums c.loop-way.live)) (sym own)
     (subst (λ (p : Point). AreFreeAt p.x (record { pair = v.segment.pair; count = add (weight (g.C.WindingCount.winding c.loop-way.sum)) (weight v.segment.count) } ∷ g.S.LiveSegments.sums c.loop-way.live)) (sym at.start)
-    (free_here g.H.FillHandler.handle_gives g.H.FillHandler.finalize_gives g.F.FillStrategy.rule (data_segments_of c.args.segments.now) arr c.args.handler c.loop-index.index c.node_end-next.result (start_at (without_data (data_segments_of c.args.segments.now)) c.loop-index.index) state.order state.run c.loop-way.way-index (g.C.WindingCount.winding c.loop-way.sum) c.loop-way.handler (g.S.LiveSegments.sums c.loop-way.live) v at state.node)))
+    (free_here g.H.FillHandler.handle_gives g.H.FillHandler.finalize_gives g.F.FillStrategy.rule (data_segments_of c.args.segments.now) arr c.args.handler c.loop-index.index c.start_point_end-next.result (start_at (without_data (data_segments_of c.args.segments.now)) c.loop-index.index) state.order state.block c.loop-way.way-index (g.C.WindingCount.winding c.loop-way.sum) c.loop-way.handler (g.S.LiveSegments.sums c.loop-way.live) v at state.at_point)))
 
 pub returns-in-Break-clause-answer : goal.returns-in-Break-clause-answer
 returns-in-Break-clause-answer g c =
     let arr = arranged_list (g.I.OverlayInt.whole g.I.OverlayInt.MIN_COORD) (g.I.OverlayInt.whole g.I.OverlayInt.MAX_COORD) c.args.segments.now c.requires.arranged in
     let state = c.loop-way.invariant.0 arr in
-    sym (amid_place g.H.FillHandler.handle_gives g.H.FillHandler.finalize_gives g.F.FillStrategy.rule (data_segments_of c.args.segments.now) arr c.args.handler c.loop-index.index c.node_end-next.result c.loop-way.way-index (g.C.WindingCount.winding c.loop-way.sum) c.loop-way.handler (g.S.LiveSegments.sums c.loop-way.live) (g.S.LiveSegments.may_go_on_at c.loop-way.live) state way_of c.deref-way-items.result.now c.loop-way.invariant.2 c.loop-way-test.true c.way-item.result c.way-item.is (λ v at e.
+    sym (amid_place g.H.FillHandler.handle_gives g.H.FillHandler.finalize_gives g.F.FillStrategy.rule (data_segments_of c.args.segments.now) arr c.args.handler c.loop-index.index c.start_point_end-next.result c.loop-way.way-index (g.C.WindingCount.winding c.loop-way.sum) c.loop-way.handler (g.S.LiveSegments.sums c.loop-way.live) (g.S.LiveSegments.may_go_on_at c.loop-way.live) state way_of c.deref-way-items.result.now c.loop-way.invariant.2 c.loop-way-test.true c.way-item.result c.way-item.is (λ v at e.
     let own : data_segment_of c.index-segments-way.result ≡ v.segment = segment_is data_segment_of c.args.segments.now g.F.FillStrategy.rule (without_data (data_segments_of c.args.segments.now)) c.way-item.result.index c.index-segments-way.result v c.index-segments-way.is e at.is in
-    let made = visit_is g.H.FillHandler.handle_gives g.H.FillHandler.finalize_gives g.F.FillStrategy.rule (data_segments_of c.args.segments.now) arr c.args.handler c.loop-index.index c.node_end-next.result c.loop-way.way-index (g.C.WindingCount.winding c.loop-way.sum) c.loop-way.handler (g.S.LiveSegments.sums c.loop-way.live) (g.S.LiveSegments.may_go_on_at c.loop-way.live) v at state c.way-item.result.index (data_segment_of c.index-segments-way.result) e own in
+    let made = visit_is g.H.FillHandler.handle_gives g.H.FillHandler.finalize_gives g.F.FillStrategy.rule (data_segments_of c.args.segments.now) arr c.args.handler c.loop-index.index c.start_point_end-next.result c.loop-way.way-index (g.C.WindingCount.winding c.loop-way.sum) c.loop-way.handler (g.S.LiveSegments.sums c.loop-way.live) (g.S.LiveSegments.may_go_on_at c.loop-way.live) v at state c.way-item.result.index (data_segment_of c.index-segments-way.result) e own in
     let answers = ap (λ u. (g.H.FillHandler.handle_gives c.loop-way.handler u).1) (sym made) ∙ sym c.in_ok-seen.ensures.answer ∙ ap break_value c.in-Break.is in
-    answered_here g.H.FillHandler.handle_gives g.H.FillHandler.finalize_gives g.F.FillStrategy.rule (data_segments_of c.args.segments.now) arr c.args.handler c.loop-index.index c.node_end-next.result (start_at (without_data (data_segments_of c.args.segments.now)) c.loop-index.index) state.order state.run c.loop-way.way-index (g.C.WindingCount.winding c.loop-way.sum) c.loop-way.handler (g.S.LiveSegments.sums c.loop-way.live) v at state.node c.in-Break.answer answers))
+    answered_here g.H.FillHandler.handle_gives g.H.FillHandler.finalize_gives g.F.FillStrategy.rule (data_segments_of c.args.segments.now) arr c.args.handler c.loop-index.index c.start_point_end-next.result (start_at (without_data (data_segments_of c.args.segments.now)) c.loop-index.index) state.order state.block c.loop-way.way-index (g.C.WindingCount.winding c.loop-way.sum) c.loop-way.handler (g.S.LiveSegments.sums c.loop-way.live) v at state.at_point c.in-Break.answer answers))
 
 pub returns-in-Break-clause-in_range : goal.returns-in-Break-clause-in_range
 returns-in-Break-clause-in_range g c =
     let arr = arranged_list (g.I.OverlayInt.whole g.I.OverlayInt.MIN_COORD) (g.I.OverlayInt.whole g.I.OverlayInt.MAX_COORD) c.args.segments.now c.requires.arranged in
     let state = c.loop-way.invariant.0 arr in
     ap (λ l. visits_leave_range l (visited g.H.FillHandler.handle_gives c.args.handler (visits g.F.FillStrategy.rule (data_segments_of c.args.segments.now)))) (sym (same_list c.args.segments.now))
-    ∙ amid_place g.H.FillHandler.handle_gives g.H.FillHandler.finalize_gives g.F.FillStrategy.rule (data_segments_of c.args.segments.now) arr c.args.handler c.loop-index.index c.node_end-next.result c.loop-way.way-index (g.C.WindingCount.winding c.loop-way.sum) c.loop-way.handler (g.S.LiveSegments.sums c.loop-way.live) (g.S.LiveSegments.may_go_on_at c.loop-way.live) state way_of c.deref-way-items.result.now c.loop-way.invariant.2 c.loop-way-test.true c.way-item.result c.way-item.is (λ v at e.
+    ∙ amid_place g.H.FillHandler.handle_gives g.H.FillHandler.finalize_gives g.F.FillStrategy.rule (data_segments_of c.args.segments.now) arr c.args.handler c.loop-index.index c.start_point_end-next.result c.loop-way.way-index (g.C.WindingCount.winding c.loop-way.sum) c.loop-way.handler (g.S.LiveSegments.sums c.loop-way.live) (g.S.LiveSegments.may_go_on_at c.loop-way.live) state way_of c.deref-way-items.result.now c.loop-way.invariant.2 c.loop-way-test.true c.way-item.result c.way-item.is (λ v at e.
     let own : data_segment_of c.index-segments-way.result ≡ v.segment = segment_is data_segment_of c.args.segments.now g.F.FillStrategy.rule (without_data (data_segments_of c.args.segments.now)) c.way-item.result.index c.index-segments-way.result v c.index-segments-way.is e at.is in
-    let made = visit_is g.H.FillHandler.handle_gives g.H.FillHandler.finalize_gives g.F.FillStrategy.rule (data_segments_of c.args.segments.now) arr c.args.handler c.loop-index.index c.node_end-next.result c.loop-way.way-index (g.C.WindingCount.winding c.loop-way.sum) c.loop-way.handler (g.S.LiveSegments.sums c.loop-way.live) (g.S.LiveSegments.may_go_on_at c.loop-way.live) v at state c.way-item.result.index (data_segment_of c.index-segments-way.result) e own in
+    let made = visit_is g.H.FillHandler.handle_gives g.H.FillHandler.finalize_gives g.F.FillStrategy.rule (data_segments_of c.args.segments.now) arr c.args.handler c.loop-index.index c.start_point_end-next.result c.loop-way.way-index (g.C.WindingCount.winding c.loop-way.sum) c.loop-way.handler (g.S.LiveSegments.sums c.loop-way.live) (g.S.LiveSegments.may_go_on_at c.loop-way.live) v at state c.way-item.result.index (data_segment_of c.index-segments-way.result) e own in
     let count : winding_of c.index-segments-way.result ≡ v.segment.count = ap (λ (s : DataSegment g.row.D.Denot). s.count) own in
     let answers = ap (λ u. (g.H.FillHandler.handle_gives c.loop-way.handler u).1) (sym made) ∙ sym c.in_ok-seen.ensures.answer ∙ ap break_value c.in-Break.is in
-    in_range_here g.H.FillHandler.handle_gives g.H.FillHandler.finalize_gives g.F.FillStrategy.rule (data_segments_of c.args.segments.now) arr c.args.handler c.loop-index.index c.node_end-next.result (start_at (without_data (data_segments_of c.args.segments.now)) c.loop-index.index) state.order state.run c.loop-way.way-index (g.C.WindingCount.winding c.loop-way.sum) c.loop-way.handler (g.S.LiveSegments.sums c.loop-way.live) v at state.node c.in-Break.answer answers (subst (λ z. is_count_in_range (add (weight (g.C.WindingCount.winding c.loop-way.sum)) (weight z)) ≡ true) count c.in_ok-seen.ensures.in_range))
+    in_range_here g.H.FillHandler.handle_gives g.H.FillHandler.finalize_gives g.F.FillStrategy.rule (data_segments_of c.args.segments.now) arr c.args.handler c.loop-index.index c.start_point_end-next.result (start_at (without_data (data_segments_of c.args.segments.now)) c.loop-index.index) state.order state.block c.loop-way.way-index (g.C.WindingCount.winding c.loop-way.sum) c.loop-way.handler (g.S.LiveSegments.sums c.loop-way.live) v at state.at_point c.in-Break.answer answers (subst (λ z. is_count_in_range (add (weight (g.C.WindingCount.winding c.loop-way.sum)) (weight z)) ≡ true) count c.in_ok-seen.ensures.in_range))
 
 pub returns-in_err-seen-clause-out_of_range : goal.returns-in_err-seen-clause-out_of_range
 returns-in_err-seen-clause-out_of_range g c =
     let arr = arranged_list (g.I.OverlayInt.whole g.I.OverlayInt.MIN_COORD) (g.I.OverlayInt.whole g.I.OverlayInt.MAX_COORD) c.args.segments.now c.requires.arranged in
     let state = c.loop-way.invariant.0 arr in
     refused_as c.from_residual-in_err-seen.result _ _ c.from_residual-in_err-seen.ensures.1 (λ fault passed h. ap (λ l. visits_leave_range l (visited g.H.FillHandler.handle_gives c.args.handler (visits g.F.FillStrategy.rule (data_segments_of c.args.segments.now)))) (sym (same_list c.args.segments.now))
-    ∙ amid_place g.H.FillHandler.handle_gives g.H.FillHandler.finalize_gives g.F.FillStrategy.rule (data_segments_of c.args.segments.now) arr c.args.handler c.loop-index.index c.node_end-next.result c.loop-way.way-index (g.C.WindingCount.winding c.loop-way.sum) c.loop-way.handler (g.S.LiveSegments.sums c.loop-way.live) (g.S.LiveSegments.may_go_on_at c.loop-way.live) state way_of c.deref-way-items.result.now c.loop-way.invariant.2 c.loop-way-test.true c.way-item.result c.way-item.is (λ v at e.
+    ∙ amid_place g.H.FillHandler.handle_gives g.H.FillHandler.finalize_gives g.F.FillStrategy.rule (data_segments_of c.args.segments.now) arr c.args.handler c.loop-index.index c.start_point_end-next.result c.loop-way.way-index (g.C.WindingCount.winding c.loop-way.sum) c.loop-way.handler (g.S.LiveSegments.sums c.loop-way.live) (g.S.LiveSegments.may_go_on_at c.loop-way.live) state way_of c.deref-way-items.result.now c.loop-way.invariant.2 c.loop-way-test.true c.way-item.result c.way-item.is (λ v at e.
     let own : data_segment_of c.index-segments-way.result ≡ v.segment = segment_is data_segment_of c.args.segments.now g.F.FillStrategy.rule (without_data (data_segments_of c.args.segments.now)) c.way-item.result.index c.index-segments-way.result v c.index-segments-way.is e at.is in
     let count : winding_of c.index-segments-way.result ≡ v.segment.count = ap (λ (s : DataSegment g.row.D.Denot). s.count) own in
-    refused_here g.H.FillHandler.handle_gives g.H.FillHandler.finalize_gives g.F.FillStrategy.rule (data_segments_of c.args.segments.now) arr c.args.handler c.loop-index.index c.node_end-next.result (start_at (without_data (data_segments_of c.args.segments.now)) c.loop-index.index) state.order state.run c.loop-way.way-index (g.C.WindingCount.winding c.loop-way.sum) c.loop-way.handler (g.S.LiveSegments.sums c.loop-way.live) v at state.node (subst (λ z. is_count_in_range (add (weight (g.C.WindingCount.winding c.loop-way.sum)) (weight z)) ≡ false) count (c.in_err-seen.ensures.range (sym passed ∙ h)))))
+    refused_here g.H.FillHandler.handle_gives g.H.FillHandler.finalize_gives g.F.FillStrategy.rule (data_segments_of c.args.segments.now) arr c.args.handler c.loop-index.index c.start_point_end-next.result (start_at (without_data (data_segments_of c.args.segments.now)) c.loop-index.index) state.order state.block c.loop-way.way-index (g.C.WindingCount.winding c.loop-way.sum) c.loop-way.handler (g.S.LiveSegments.sums c.loop-way.live) v at state.at_point (subst (λ z. is_count_in_range (add (weight (g.C.WindingCount.winding c.loop-way.sum)) (weight z)) ≡ false) count (c.in_err-seen.ensures.range (sym passed ∙ h)))))
 
 pub loop-way-preserved : goal.loop-way-preserved
 loop-way-preserved g c =
     let arr = arranged_list (g.I.OverlayInt.whole g.I.OverlayInt.MIN_COORD) (g.I.OverlayInt.whole g.I.OverlayInt.MAX_COORD) c.args.segments.now c.requires.arranged in
     let state = c.loop-way.invariant.0 arr in
-    let bound : c.way-item.result.index < length c.args.segments.now = amid_place g.H.FillHandler.handle_gives g.H.FillHandler.finalize_gives g.F.FillStrategy.rule (data_segments_of c.args.segments.now) arr c.args.handler c.loop-index.index c.node_end-next.result c.loop-way.way-index (g.C.WindingCount.winding c.loop-way.sum) c.loop-way.handler (g.S.LiveSegments.sums c.loop-way.live) (g.S.LiveSegments.may_go_on_at c.loop-way.live) state way_of c.deref-way-items.result.now c.loop-way.invariant.2 c.loop-way-test.true c.way-item.result c.way-item.is (λ v at e. index_within data_segment_of c.args.segments.now g.F.FillStrategy.rule (without_data (data_segments_of c.args.segments.now)) c.way-item.result.index v e at.is) in (
+    let bound : c.way-item.result.index < length c.args.segments.now = amid_place g.H.FillHandler.handle_gives g.H.FillHandler.finalize_gives g.F.FillStrategy.rule (data_segments_of c.args.segments.now) arr c.args.handler c.loop-index.index c.start_point_end-next.result c.loop-way.way-index (g.C.WindingCount.winding c.loop-way.sum) c.loop-way.handler (g.S.LiveSegments.sums c.loop-way.live) (g.S.LiveSegments.may_go_on_at c.loop-way.live) state way_of c.deref-way-items.result.now c.loop-way.invariant.2 c.loop-way-test.true c.way-item.result c.way-item.is (λ v at e. index_within data_segment_of c.args.segments.now g.F.FillStrategy.rule (without_data (data_segments_of c.args.segments.now)) c.way-item.result.index v e at.is) in (
       (λ arranged.
           let state = c.loop-way.invariant.0 arranged in
-          amid_place g.H.FillHandler.handle_gives g.H.FillHandler.finalize_gives g.F.FillStrategy.rule (data_segments_of c.args.segments.now) arranged c.args.handler c.loop-index.index c.node_end-next.result c.loop-way.way-index (g.C.WindingCount.winding c.loop-way.sum) c.loop-way.handler (g.S.LiveSegments.sums c.loop-way.live) (g.S.LiveSegments.may_go_on_at c.loop-way.live) state way_of c.deref-way-items.result.now c.loop-way.invariant.2 c.loop-way-test.true c.way-item.result c.way-item.is (λ v at e.
+          amid_place g.H.FillHandler.handle_gives g.H.FillHandler.finalize_gives g.F.FillStrategy.rule (data_segments_of c.args.segments.now) arranged c.args.handler c.loop-index.index c.start_point_end-next.result c.loop-way.way-index (g.C.WindingCount.winding c.loop-way.sum) c.loop-way.handler (g.S.LiveSegments.sums c.loop-way.live) (g.S.LiveSegments.may_go_on_at c.loop-way.live) state way_of c.deref-way-items.result.now c.loop-way.invariant.2 c.loop-way-test.true c.way-item.result c.way-item.is (λ v at e.
           let own : data_segment_of c.index-segments-way.result ≡ v.segment = segment_is data_segment_of c.args.segments.now g.F.FillStrategy.rule (without_data (data_segments_of c.args.segments.now)) c.way-item.result.index c.index-segments-way.result v c.index-segments-way.is e at.is in
-          let made = visit_is g.H.FillHandler.handle_gives g.H.FillHandler.finalize_gives g.F.FillStrategy.rule (data_segments_of c.args.segments.now) arranged c.args.handler c.loop-index.index c.node_end-next.result c.loop-way.way-index (g.C.WindingCount.winding c.loop-way.sum) c.loop-way.handler (g.S.LiveSegments.sums c.loop-way.live) (g.S.LiveSegments.may_go_on_at c.loop-way.live) v at state c.way-item.result.index (data_segment_of c.index-segments-way.result) e own in
+          let made = visit_is g.H.FillHandler.handle_gives g.H.FillHandler.finalize_gives g.F.FillStrategy.rule (data_segments_of c.args.segments.now) arranged c.args.handler c.loop-index.index c.start_point_end-next.result c.loop-way.way-index (g.C.WindingCount.winding c.loop-way.sum) c.loop-way.handler (g.S.LiveSegments.sums c.loop-way.live) (g.S.LiveSegments.may_go_on_at c.loop-way.live) v at state c.way-item.result.index (data_segment_of c.index-segments-way.result) e own in
           let count : winding_of c.index-segments-way.result ≡ v.segment.count = ap (λ (s : DataSegment g.row.D.Denot). s.count) own in
           let top = rw c.in-Continue.is at c.in_ok-seen.ensures.top in
           let left = rw c.in-Continue.is at c.in_ok-seen.ensures.live in
           let later = rw c.in-Continue.is at c.in_ok-seen.ensures.time in
-          step g.H.FillHandler.handle_gives g.H.FillHandler.finalize_gives g.F.FillStrategy.rule (data_segments_of c.args.segments.now) arranged c.args.handler c.loop-index.index c.node_end-next.result c.loop-way.way-index (g.C.WindingCount.winding c.loop-way.sum) (g.C.WindingCount.winding c.in-Continue.top) c.loop-way.handler c.visit.new.handler (g.S.LiveSegments.sums c.loop-way.live) (g.S.LiveSegments.sums c.visit.new.live) (g.S.LiveSegments.may_go_on_at c.loop-way.live) (g.S.LiveSegments.may_go_on_at c.visit.new.live) v at state
+          step g.H.FillHandler.handle_gives g.H.FillHandler.finalize_gives g.F.FillStrategy.rule (data_segments_of c.args.segments.now) arranged c.args.handler c.loop-index.index c.start_point_end-next.result c.loop-way.way-index (g.C.WindingCount.winding c.loop-way.sum) (g.C.WindingCount.winding c.in-Continue.top) c.loop-way.handler c.visit.new.handler (g.S.LiveSegments.sums c.loop-way.live) (g.S.LiveSegments.sums c.visit.new.live) (g.S.LiveSegments.may_go_on_at c.loop-way.live) (g.S.LiveSegments.may_go_on_at c.visit.new.live) v at state
           (ap (λ u. (g.H.FillHandler.handle_gives c.loop-way.handler u).1) (sym made) ∙ sym c.in_ok-seen.ensures.answer ∙ ap break_value c.in-Continue.is)
           (c.in_ok-seen.ensures.handler ∙ ap (λ u. (g.H.FillHandler.handle_gives c.loop-way.handler u).0) made)
           (top ∙ ap (λ z. add (weight (g.C.WindingCount.winding c.loop-way.sum)) (weight z)) count)
@@ -203,8 +204,8 @@ pub loop-index-preserved : goal.loop-index-preserved
 loop-index-preserved g c = (
   (λ arranged.
       let state = c.loop-way.invariant.0 arranged in
-      leave g.H.FillHandler.handle_gives g.H.FillHandler.finalize_gives g.F.FillStrategy.rule (data_segments_of c.args.segments.now) arranged c.args.handler c.loop-index.index c.node_end-next.result c.loop-way.way-index (g.C.WindingCount.winding c.loop-way.sum) c.loop-way.handler (g.S.LiveSegments.sums c.loop-way.live) (g.S.LiveSegments.may_go_on_at c.loop-way.live) state
-      (node_is_over g.H.FillHandler.handle_gives g.H.FillHandler.finalize_gives g.F.FillStrategy.rule (data_segments_of c.args.segments.now) arranged c.args.handler c.loop-index.index c.node_end-next.result c.loop-way.way-index (g.C.WindingCount.winding c.loop-way.sum) c.loop-way.handler (g.S.LiveSegments.sums c.loop-way.live) (g.S.LiveSegments.may_go_on_at c.loop-way.live) state way_of c.deref-way-items.result.now c.loop-way.invariant.2 c.loop-way-test.false)),
+      leave g.H.FillHandler.handle_gives g.H.FillHandler.finalize_gives g.F.FillStrategy.rule (data_segments_of c.args.segments.now) arranged c.args.handler c.loop-index.index c.start_point_end-next.result c.loop-way.way-index (g.C.WindingCount.winding c.loop-way.sum) c.loop-way.handler (g.S.LiveSegments.sums c.loop-way.live) (g.S.LiveSegments.may_go_on_at c.loop-way.live) state
+      (point_is_over g.H.FillHandler.handle_gives g.H.FillHandler.finalize_gives g.F.FillStrategy.rule (data_segments_of c.args.segments.now) arranged c.args.handler c.loop-index.index c.start_point_end-next.result c.loop-way.way-index (g.C.WindingCount.winding c.loop-way.sum) c.loop-way.handler (g.S.LiveSegments.sums c.loop-way.live) (g.S.LiveSegments.may_go_on_at c.loop-way.live) state way_of c.deref-way-items.result.now c.loop-way.invariant.2 c.loop-way-test.false)),
   c.loop-way.invariant.1,
 )
 

@@ -2,20 +2,20 @@ use Rattle.std.proofs.Common.{◌≡◌, ℕ, ◌<◌, ◌-◌, length}
 use Rattle.overlay_base.specs.EdgeData.{without_data}
 use Rattle.overlay_base.specs.SegmentOf.{data_segments_of}
 use Rattle.overlay_sweep.specs.steps.WayOf.{ways_of, ways_between, by_angle}
-use Rattle.overlay_sweep.proofs.laws.Members.{IsArranged}
-use Rattle.overlay_sweep.proofs.laws.SweepStates.{IsBeforeNode, IsAmidNode}
+use Rattle.overlay_sweep.proofs.laws.columns.Members.{IsArranged}
+use Rattle.overlay_sweep.proofs.laws.visits.SweepStates.{IsBeforePoint, IsAmidPoint}
 use Rattle.overlay_sweep.proofs.build.visits.sweep_with_handler.Given as goal
 
 abbrev pub invariant-loop-index : goal.invariant-loop-index
 invariant-loop-index g l =
     ((arranged : IsArranged (without_data (data_segments_of l.segments))) →
-    IsBeforeNode g.H.FillHandler.handle_gives g.H.FillHandler.finalize_gives g.F.FillStrategy.rule (data_segments_of l.segments) arranged l.fn.handler l.index l.handler (g.S.LiveSegments.sums l.live) (g.S.LiveSegments.may_go_on_at l.live))
+    IsBeforePoint g.H.FillHandler.handle_gives g.H.FillHandler.finalize_gives g.F.FillStrategy.rule (data_segments_of l.segments) arranged l.fn.handler l.index l.handler (g.S.LiveSegments.sums l.live) (g.S.LiveSegments.may_go_on_at l.live))
     × ((k : ℕ) → k < length l.segments → g.H.FillHandler.takes l.handler k)
 
 abbrev pub invariant-loop-way : goal.invariant-loop-way
 invariant-loop-way g l =
     ((arranged : IsArranged (without_data (data_segments_of l.segments))) →
-    IsAmidNode g.H.FillHandler.handle_gives g.H.FillHandler.finalize_gives g.F.FillStrategy.rule (data_segments_of l.segments) arranged l.fn.handler l.index l.next l.way-index (g.C.WindingCount.winding l.sum) l.handler (g.S.LiveSegments.sums l.live) (g.S.LiveSegments.may_go_on_at l.live))
+    IsAmidPoint g.H.FillHandler.handle_gives g.H.FillHandler.finalize_gives g.F.FillStrategy.rule (data_segments_of l.segments) arranged l.fn.handler l.index l.next l.way-index (g.C.WindingCount.winding l.sum) l.handler (g.S.LiveSegments.sums l.live) (g.S.LiveSegments.may_go_on_at l.live))
     × ((k : ℕ) → k < length l.segments → g.H.FillHandler.takes l.handler k)
     × (ways_of l.way-items ≡ by_angle (ways_between (without_data (data_segments_of l.segments)) l.index l.next))
 

@@ -7,7 +7,7 @@ use Rattle.overlay_base.specs.Windings.{add, weight}
 use Rattle.overlay_base.specs.PairOf.{pair_of}
 use Rattle.overlay_base.specs.VSegmentOf.{v_pair_of}
 use Rattle.overlay_base.specs.SegmentOf.{ends_of, winding_of}
-use Rattle.overlay_sweep.proofs.laws.LiveSums.{HoldSameFrom-renamed, HoldSameFrom-vertical, vertical_same}
+use Rattle.overlay_sweep.proofs.laws.live.LiveSums.{HoldSameFrom-renamed, HoldSameFrom-vertical, vertical_same}
 use Rattle.overlay_sweep.proofs.build.visits.visit.Goals as goal
 use Rattle.overlay_sweep.proofs.build.visits.visit.Goals.{then-is_not_vertical+in_ok-insert, else-is_not_vertical}
 

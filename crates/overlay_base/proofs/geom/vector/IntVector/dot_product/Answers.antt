@@ -1,6 +1,6 @@
 use Rattle.std.proofs.Common.{to_z-of_z, arith}
 use Rattle.std.proofs.lemmas.Int.{ints}
-use Rattle.overlay_base.proofs.laws.Coordinates.{small_fits}
+use Rattle.overlay_base.proofs.laws.geometry.Coordinates.{small_fits}
 use Rattle.overlay_base.proofs.geom.vector.IntVector.dot_product.Goals as goal
 
 pub returns : goal.returns

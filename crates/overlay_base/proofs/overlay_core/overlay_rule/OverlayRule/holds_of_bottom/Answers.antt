@@ -1,6 +1,6 @@
 use Rattle.std.proofs.Common.{◌∙◌, ap₂, lit<}
 use Rattle.overlay_base.specs.Rules.{holds, bottom_value}
-use Rattle.overlay_base.proofs.laws.Fills.{flag_tells}
+use Rattle.overlay_base.proofs.laws.counts.Fills.{flag_tells}
 use Rattle.overlay_base.proofs.overlay_core.overlay_rule.OverlayRule.holds_of_bottom.Goals as goal
 
 pub returns : goal.returns

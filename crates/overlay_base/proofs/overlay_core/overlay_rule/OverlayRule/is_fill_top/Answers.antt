@@ -1,6 +1,6 @@
 use Rattle.std.proofs.Common.{◌∙◌, ap, not}
 use Rattle.overlay_base.specs.Rules.{holds, keeps_fill, top_value, bottom_value}
-use Rattle.overlay_base.proofs.laws.Fills.{other_side}
+use Rattle.overlay_base.proofs.laws.counts.Fills.{other_side}
 use Rattle.overlay_base.proofs.overlay_core.overlay_rule.OverlayRule.is_fill_top.Goals as goal
 
 pub returns-in-Union-clause-side : goal.returns-in-Union-clause-side

@@ -1,6 +1,6 @@
-use Rattle.std.proofs.Common.{◌≡◌, ◌∙◌, ap₂, sym, lit<}
+use Rattle.std.proofs.Common.{◌∙◌, ap₂, sym, lit<}
 use Rattle.overlay_base.specs.Rules.{bits_of, table_holds}
-use Rattle.overlay_base.proofs.laws.Fills.{flag_tells}
+use Rattle.overlay_base.proofs.laws.counts.Fills.{flag_tells}
 use Rattle.overlay_base.proofs.overlay_core.rule_table.RuleTable.holds.Goals as goal
 
 pub returns-in-true-false : goal.returns-in-true-false

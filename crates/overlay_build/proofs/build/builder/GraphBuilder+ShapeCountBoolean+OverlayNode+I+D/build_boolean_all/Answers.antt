@@ -1,7 +1,7 @@
 use Rattle.std.proofs.Common.{true}
 use Rattle.overlay_base.specs.SegmentOf.{segments_of}
 use Rattle.overlay_build.specs.NodeIndexes.{indexes_of, is_canonical_node}
-use Rattle.overlay_build.proofs.laws.BuiltGraphs.{hold_own_graph}
+use Rattle.overlay_build.proofs.laws.graphs.BuiltGraphs.{hold_own_graph}
 use Rattle.overlay_build.proofs.build.builder.GraphBuilder+ShapeCountBoolean+OverlayNode+I+D.build_boolean_all.Goals as goal
 
 pub graph-requires : goal.graph-requires

@@ -4,7 +4,7 @@ use Rattle.overlay_base.specs.SegmentOf.{segment_of, segments_of}
 use Rattle.overlay_build.specs.Graph.{graph_by, data_by}
 use Rattle.overlay_build.specs.GraphOf.{graph_with}
 use Rattle.overlay_build.specs.NodeIndexes.{indexes_of, is_canonical_node}
-use Rattle.overlay_build.proofs.laws.BuiltGraphs.{hold_own_graph, graph_with_kept, arranged_overlay, polygons_from}
+use Rattle.overlay_build.proofs.laws.graphs.BuiltGraphs.{hold_own_graph, graph_with_kept, arranged_overlay, polygons_from}
 use Rattle.std.proofs.lemmas.Result.{IfOk-from_err}
 use Rattle.overlay_build.proofs.build.builder.GraphBuilder+ShapeCountBoolean+OverlayNode+I+D.build_boolean_overlay.Goals as goal
 

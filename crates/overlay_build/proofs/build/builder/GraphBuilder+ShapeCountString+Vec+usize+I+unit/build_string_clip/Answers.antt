@@ -1,6 +1,6 @@
 use Rattle.std.proofs.Common.{refl, rules}
 use Rattle.overlay_base.specs.SegmentOf.{segment_of}
-use Rattle.overlay_build.proofs.laws.LineSides.{arranged_clip}
+use Rattle.overlay_build.proofs.laws.sides.LineSides.{arranged_clip}
 use Rattle.overlay_build.proofs.build.builder.GraphBuilder+ShapeCountString+Vec+usize+I+unit.build_string_clip.Goals as goal
 
 pub returns : goal.returns

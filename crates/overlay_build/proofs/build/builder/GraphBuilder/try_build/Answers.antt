@@ -1,7 +1,7 @@
 use Rattle.std.proofs.Common.{◌∙◌}
 use Rattle.overlay_base.specs.SegmentOf.{segments_of}
 use Rattle.overlay_build.specs.steps.LinkRules.{keeps_by}
-use Rattle.overlay_build.proofs.laws.BuiltGraphs.{hold_kept_graph, links_are_ordered}
+use Rattle.overlay_build.proofs.laws.graphs.BuiltGraphs.{hold_kept_graph, links_are_ordered}
 use Rattle.overlay_build.proofs.build.builder.GraphBuilder.try_build.Goals as goal
 
 pub connect_links-requires : goal.connect_links-requires

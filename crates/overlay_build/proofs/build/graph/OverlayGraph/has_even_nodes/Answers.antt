@@ -1,7 +1,7 @@
 use Rattle.std.proofs.Common.{◌∙◌}
 use Rattle.overlay_build.specs.GraphOf.{graph_with}
 use Rattle.overlay_build.specs.NodeIndexes.{indexes_of}
-use Rattle.overlay_build.proofs.laws.NodeLists.{even_nodes-is}
+use Rattle.overlay_build.proofs.laws.graphs.NodeLists.{even_nodes-is}
 use Rattle.overlay_build.proofs.build.graph.OverlayGraph.has_even_nodes.Goals as goal
 
 pub returns : goal.returns

@@ -1,11 +1,11 @@
 use Rattle.std.proofs.Common.{◌∙◌, ap, ap₂, sym, length, Bool}
 use Rattle.std.specs.Prelude.{nat_le}
 use Rattle.std.proofs.lemmas.List.{drop_all, length-map}
-use Rattle.overlay_base.proofs.laws.Rests.{passes, fails, none_left}
+use Rattle.overlay_base.proofs.laws.joins.Rests.{passes, fails, none_left}
 use Rattle.overlay_build.specs.Graph.{Node}
 use Rattle.overlay_build.specs.GraphOf.{graph_with, link_of}
 use Rattle.overlay_build.specs.NodeIndexes.{indexes_of}
-use Rattle.overlay_build.proofs.laws.NodeLists.{is_sound, rest-next, sound_is_valid}
+use Rattle.overlay_build.proofs.laws.graphs.NodeLists.{is_sound, rest-next, sound_is_valid}
 use Rattle.overlay_build.proofs.build.graph.OverlayGraph.validate.Goals as goal
 
 pub loop-node-preserved : goal.loop-node-preserved

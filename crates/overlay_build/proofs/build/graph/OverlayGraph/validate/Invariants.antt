@@ -1,7 +1,7 @@
 use Rattle.std.proofs.Common.{◌≡◌, drop}
 use Rattle.std.specs.List.{list_all}
 use Rattle.overlay_build.specs.NodeIndexes.{indexes_of}
-use Rattle.overlay_build.proofs.laws.NodeLists.{is_sound}
+use Rattle.overlay_build.proofs.laws.graphs.NodeLists.{is_sound}
 use Rattle.overlay_build.proofs.build.graph.OverlayGraph.validate.Given as goal
 
 abbrev pub invariant-loop-node : goal.invariant-loop-node

@@ -3,8 +3,8 @@ use Rattle.overlay_base.specs.Points.{Point}
 use Rattle.overlay_base.specs.PairOf.{pair_of}
 use Rattle.std.specs.Prelude.{false}
 use Rattle.overlay_marks.specs.CrossAnswer.{overlay, answer_at}
-use Rattle.overlay_marks.proofs.laws.Bits.{zero_bits, some_bits}
-use Rattle.overlay_marks.proofs.laws.AnswerBranches.{Sided, Touching, when_overlay, when_apart, when_crossing, when_other_a, when_other_b, when_target_a, when_target_b}
+use Rattle.overlay_marks.proofs.laws.crossings.Bits.{zero_bits, some_bits}
+use Rattle.overlay_marks.proofs.laws.crossings.AnswerBranches.{Sided, Touching, when_overlay, when_apart, when_crossing, when_other_a, when_other_b, when_target_a, when_target_b}
 use Rattle.overlay_marks.proofs.split.cross.contact.contact_of.Goals as goal
 
 pub returns-then-zeros-eq4 : goal.returns-then-zeros-eq4
@@ -13,20 +13,20 @@ returns-then-zeros-eq4 g c =
     let origin = c.new.ensures ∙ rw (c.ZERO.ensures, c.ZERO-then-zeros-eq4.ensures, g.met.I.OverlayInt.zero) refl in
     rw c.at.ensures (λ placing. when_overlay placing (pair_of g.I.OverlayInt.whole c.args.target.now) (pair_of g.I.OverlayInt.whole c.args.other.now) c.sides_of-sides.result sided (sym c.zeros-zeros.ensures ∙ c.if-zeros-eq4.true) ∙ ap (λ (p : Point). answer_at overlay p false) (sym origin))
 
-pub returns-then-are_apart : goal.returns-then-are_apart
-returns-then-are_apart g c =
+pub returns-then-leave_no_contact : goal.returns-then-leave_no_contact
+returns-then-leave_no_contact g c =
     let sided : Sided (pair_of g.I.OverlayInt.whole c.args.target.now) (pair_of g.I.OverlayInt.whole c.args.other.now) c.sides_of-sides.result = record { s_apart = c.requires.target_apart; t_apart = c.requires.other_apart; are_sides = c.sides_of-sides.ensures } in
-    λ placing. when_apart placing (pair_of g.I.OverlayInt.whole c.args.target.now) (pair_of g.I.OverlayInt.whole c.args.other.now) c.sides_of-sides.result sided (λ e. c.if-zeros-eq4.false (c.zeros-zeros.ensures ∙ e)) (sym c.are_apart.ensures ∙ c.if-are_apart.true)
+    λ placing. when_apart placing (pair_of g.I.OverlayInt.whole c.args.target.now) (pair_of g.I.OverlayInt.whole c.args.other.now) c.sides_of-sides.result sided (λ e. c.if-zeros-eq4.false (c.zeros-zeros.ensures ∙ e)) (sym c.leave_no_contact.ensures ∙ c.if-leave_no_contact.true)
 
 pub returns-then-zeros-eq0 : goal.returns-then-zeros-eq0
 returns-then-zeros-eq0 g c =
     let sided : Sided (pair_of g.I.OverlayInt.whole c.args.target.now) (pair_of g.I.OverlayInt.whole c.args.other.now) c.sides_of-sides.result = record { s_apart = c.requires.target_apart; t_apart = c.requires.other_apart; are_sides = c.sides_of-sides.ensures } in
-    when_crossing (pair_of g.I.OverlayInt.whole c.args.target.now) (pair_of g.I.OverlayInt.whole c.args.other.now) c.sides_of-sides.result sided (sym c.are_apart.ensures ∙ c.if-are_apart.false) (sym c.zeros-zeros.ensures ∙ c.if-zeros-eq0.true)
+    when_crossing (pair_of g.I.OverlayInt.whole c.args.target.now) (pair_of g.I.OverlayInt.whole c.args.other.now) c.sides_of-sides.result sided (sym c.leave_no_contact.ensures ∙ c.if-leave_no_contact.false) (sym c.zeros-zeros.ensures ∙ c.if-zeros-eq0.true)
 
 pub returns-then-sides-eq0 : goal.returns-then-sides-eq0
 returns-then-sides-eq0 g c =
     let sided : Sided (pair_of g.I.OverlayInt.whole c.args.target.now) (pair_of g.I.OverlayInt.whole c.args.other.now) c.sides_of-sides.result = record { s_apart = c.requires.target_apart; t_apart = c.requires.other_apart; are_sides = c.sides_of-sides.ensures } in
-    let touching : Touching (pair_of g.I.OverlayInt.whole c.args.target.now) (pair_of g.I.OverlayInt.whole c.args.other.now) c.sides_of-sides.result = record { sided = sided; not_four = λ e. c.if-zeros-eq4.false (c.zeros-zeros.ensures ∙ e); not_apart = sym c.are_apart.ensures ∙ c.if-are_apart.false; not_none = λ e. c.if-zeros-eq0.false (c.zeros-zeros.ensures ∙ e) } in
+    let touching : Touching (pair_of g.I.OverlayInt.whole c.args.target.now) (pair_of g.I.OverlayInt.whole c.args.other.now) c.sides_of-sides.result = record { sided = sided; not_four = λ e. c.if-zeros-eq4.false (c.zeros-zeros.ensures ∙ e); not_apart = sym c.leave_no_contact.ensures ∙ c.if-leave_no_contact.false; not_none = λ e. c.if-zeros-eq0.false (c.zeros-zeros.ensures ∙ e) } in
     let other_a_fits : FitsSigned w64 c.sides_of-sides.result.other_a = search rules in
     let other_b_fits : FitsSigned w64 c.sides_of-sides.result.other_b = search rules in
     let target_a_fits : FitsSigned w64 c.sides_of-sides.result.target_a = search rules in
@@ -35,7 +35,7 @@ returns-then-sides-eq0 g c =
 pub returns-then-sides-eq0-2 : goal.returns-then-sides-eq0-2
 returns-then-sides-eq0-2 g c =
     let sided : Sided (pair_of g.I.OverlayInt.whole c.args.target.now) (pair_of g.I.OverlayInt.whole c.args.other.now) c.sides_of-sides.result = record { s_apart = c.requires.target_apart; t_apart = c.requires.other_apart; are_sides = c.sides_of-sides.ensures } in
-    let touching : Touching (pair_of g.I.OverlayInt.whole c.args.target.now) (pair_of g.I.OverlayInt.whole c.args.other.now) c.sides_of-sides.result = record { sided = sided; not_four = λ e. c.if-zeros-eq4.false (c.zeros-zeros.ensures ∙ e); not_apart = sym c.are_apart.ensures ∙ c.if-are_apart.false; not_none = λ e. c.if-zeros-eq0.false (c.zeros-zeros.ensures ∙ e) } in
+    let touching : Touching (pair_of g.I.OverlayInt.whole c.args.target.now) (pair_of g.I.OverlayInt.whole c.args.other.now) c.sides_of-sides.result = record { sided = sided; not_four = λ e. c.if-zeros-eq4.false (c.zeros-zeros.ensures ∙ e); not_apart = sym c.leave_no_contact.ensures ∙ c.if-leave_no_contact.false; not_none = λ e. c.if-zeros-eq0.false (c.zeros-zeros.ensures ∙ e) } in
     let other_a_fits : FitsSigned w64 c.sides_of-sides.result.other_a = search rules in
     let other_b_fits : FitsSigned w64 c.sides_of-sides.result.other_b = search rules in
     let target_a_fits : FitsSigned w64 c.sides_of-sides.result.target_a = search rules in
@@ -44,7 +44,7 @@ returns-then-sides-eq0-2 g c =
 pub returns-then-sides-eq0-3 : goal.returns-then-sides-eq0-3
 returns-then-sides-eq0-3 g c =
     let sided : Sided (pair_of g.I.OverlayInt.whole c.args.target.now) (pair_of g.I.OverlayInt.whole c.args.other.now) c.sides_of-sides.result = record { s_apart = c.requires.target_apart; t_apart = c.requires.other_apart; are_sides = c.sides_of-sides.ensures } in
-    let touching : Touching (pair_of g.I.OverlayInt.whole c.args.target.now) (pair_of g.I.OverlayInt.whole c.args.other.now) c.sides_of-sides.result = record { sided = sided; not_four = λ e. c.if-zeros-eq4.false (c.zeros-zeros.ensures ∙ e); not_apart = sym c.are_apart.ensures ∙ c.if-are_apart.false; not_none = λ e. c.if-zeros-eq0.false (c.zeros-zeros.ensures ∙ e) } in
+    let touching : Touching (pair_of g.I.OverlayInt.whole c.args.target.now) (pair_of g.I.OverlayInt.whole c.args.other.now) c.sides_of-sides.result = record { sided = sided; not_four = λ e. c.if-zeros-eq4.false (c.zeros-zeros.ensures ∙ e); not_apart = sym c.leave_no_contact.ensures ∙ c.if-leave_no_contact.false; not_none = λ e. c.if-zeros-eq0.false (c.zeros-zeros.ensures ∙ e) } in
     let other_a_fits : FitsSigned w64 c.sides_of-sides.result.other_a = search rules in
     let other_b_fits : FitsSigned w64 c.sides_of-sides.result.other_b = search rules in
     let target_a_fits : FitsSigned w64 c.sides_of-sides.result.target_a = search rules in
@@ -53,7 +53,7 @@ returns-then-sides-eq0-3 g c =
 pub returns-else-sides-eq0-3 : goal.returns-else-sides-eq0-3
 returns-else-sides-eq0-3 g c =
     let sided : Sided (pair_of g.I.OverlayInt.whole c.args.target.now) (pair_of g.I.OverlayInt.whole c.args.other.now) c.sides_of-sides.result = record { s_apart = c.requires.target_apart; t_apart = c.requires.other_apart; are_sides = c.sides_of-sides.ensures } in
-    let touching : Touching (pair_of g.I.OverlayInt.whole c.args.target.now) (pair_of g.I.OverlayInt.whole c.args.other.now) c.sides_of-sides.result = record { sided = sided; not_four = λ e. c.if-zeros-eq4.false (c.zeros-zeros.ensures ∙ e); not_apart = sym c.are_apart.ensures ∙ c.if-are_apart.false; not_none = λ e. c.if-zeros-eq0.false (c.zeros-zeros.ensures ∙ e) } in
+    let touching : Touching (pair_of g.I.OverlayInt.whole c.args.target.now) (pair_of g.I.OverlayInt.whole c.args.other.now) c.sides_of-sides.result = record { sided = sided; not_four = λ e. c.if-zeros-eq4.false (c.zeros-zeros.ensures ∙ e); not_apart = sym c.leave_no_contact.ensures ∙ c.if-leave_no_contact.false; not_none = λ e. c.if-zeros-eq0.false (c.zeros-zeros.ensures ∙ e) } in
     let other_a_fits : FitsSigned w64 c.sides_of-sides.result.other_a = search rules in
     let other_b_fits : FitsSigned w64 c.sides_of-sides.result.other_b = search rules in
     let target_a_fits : FitsSigned w64 c.sides_of-sides.result.target_a = search rules in

@@ -1,6 +1,6 @@
 use Rattle.std.proofs.Common.{◌∙◌, to_z-of_z}
-use Rattle.overlay_base.proofs.laws.Coordinates.{coordinate_fits}
-use Rattle.overlay_marks.proofs.laws.Offsets.{widened_fits}
+use Rattle.overlay_base.proofs.laws.geometry.Coordinates.{coordinate_fits}
+use Rattle.overlay_marks.proofs.laws.crossings.Offsets.{widened_fits}
 use Rattle.overlay_marks.proofs.split.cross.crossing_point.coordinate.Goals as goal
 
 pub overflow_add-to_wide : goal.overflow_add-to_wide

@@ -1,7 +1,7 @@
 use Rattle.std.proofs.Common.{to_z-of_z}
 use Rattle.overlay_base.specs.Points.{moved}
 use Rattle.overlay_base.specs.PointOf.{point_of}
-use Rattle.overlay_base.proofs.laws.Coordinates.{point_parts}
+use Rattle.overlay_base.proofs.laws.geometry.Coordinates.{point_parts}
 use Rattle.overlay_marks.proofs.split.cross.crossing_point.moved.Goals as goal
 
 pub coordinate-requires-2-clause-to : goal.coordinate-requires-2-clause-to

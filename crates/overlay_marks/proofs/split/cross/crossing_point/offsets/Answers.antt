@@ -2,8 +2,8 @@ use Rattle.std.proofs.Common.{sym, ap, ◌∙◌, to_z-of_z, FitsSigned, w64}
 use Rattle.overlay_base.specs.Points.{Point}
 use Rattle.overlay_base.specs.PairOf.{pair_of}
 use Rattle.overlay_marks.specs.Crossing.{offset_x, offset_y}
-use Rattle.overlay_marks.proofs.laws.Offsets.{same_quotient}
-use Rattle.overlay_marks.proofs.laws.SnappingPoints.{crossing_d_not_zero}
+use Rattle.overlay_marks.proofs.laws.crossings.Offsets.{same_quotient}
+use Rattle.overlay_marks.proofs.laws.crossings.SnappingPoints.{crossing_d_not_zero}
 use Rattle.overlay_marks.proofs.split.cross.crossing_point.offsets.Goals as goal
 
 pub new-requires-clause-divides : goal.new-requires-clause-divides

@@ -3,9 +3,9 @@ use Rattle.std.specs.Int.{w128}
 use Rattle.overlay_base.specs.Points.{Point}
 use Rattle.overlay_base.specs.PairOf.{pair_of}
 use Rattle.overlay_base.specs.Coordinates.{is_point_in_range}
-use Rattle.overlay_base.proofs.laws.Coordinates.{pair_in_range}
+use Rattle.overlay_base.proofs.laws.geometry.Coordinates.{pair_in_range}
 use Rattle.overlay_marks.specs.Crossing.{truncated, nearest}
-use Rattle.overlay_marks.proofs.laws.SnappingPoints.{placed_along_axis, placed_on_slope, snapping_in_range}
+use Rattle.overlay_marks.proofs.laws.crossings.SnappingPoints.{placed_along_axis, placed_on_slope, snapping_in_range}
 use Rattle.overlay_marks.proofs.split.cross.crossing_point.snapping_point.Goals as goal
 
 pub moved-requires-clause-to : goal.moved-requires-clause-to

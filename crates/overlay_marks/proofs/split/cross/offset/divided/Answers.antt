@@ -2,7 +2,7 @@ use Rattle.std.proofs.Common.{to_z-of_z, FitsSigned, w64}
 use Rattle.std.specs.Prelude.{int_div}
 use Rattle.std.specs.Int.{w128}
 use Rattle.std.proofs.lemmas.Int.{quot_fits}
-use Rattle.overlay_marks.proofs.laws.Offsets.{narrow_fits}
+use Rattle.overlay_marks.proofs.laws.crossings.Offsets.{narrow_fits}
 use Rattle.overlay_marks.proofs.split.cross.offset.divided.Goals as goal
 
 pub returns-then-is_narrow-2 : goal.returns-then-is_narrow-2

@@ -1,6 +1,6 @@
 use Rattle.std.proofs.Common.{to_z-of_z, lit<, ◌*◌}
 use Rattle.overlay_base.specs.Coordinates.{greatest_difference, greatest_product}
-use Rattle.overlay_marks.proofs.laws.Offsets.{numerator_bound, numerator_fits, fits_below}
+use Rattle.overlay_marks.proofs.laws.crossings.Offsets.{numerator_bound, numerator_fits, fits_below}
 use Rattle.overlay_marks.proofs.split.cross.offset.numerator.Goals as goal
 
 pub returns-clause-value : goal.returns-clause-value

@@ -2,7 +2,7 @@ use Rattle.std.proofs.Common.{to_z-of_z, lit<, FitsSigned}
 use Rattle.std.specs.Prelude.{◌*ℤ◌}
 use Rattle.std.specs.Int.{w128, int_signum}
 use Rattle.overlay_marks.specs.steps.Numerators.{greatest_numerator}
-use Rattle.overlay_marks.proofs.laws.Offsets.{signum_times_bound, signum_fits, wide_signum_fits, fits_below}
+use Rattle.overlay_marks.proofs.laws.crossings.Offsets.{signum_times_bound, signum_fits, wide_signum_fits, fits_below}
 use Rattle.overlay_marks.proofs.split.cross.offset.with_sign_of.Goals as goal
 
 pub returns-clause-value : goal.returns-clause-value

@@ -1,5 +1,5 @@
 use Rattle.std.proofs.Common.{sym, ◌∙◌}
-use Rattle.overlay_marks.proofs.laws.Comparisons.{same_points}
+use Rattle.overlay_marks.proofs.laws.marks.Comparisons.{same_points}
 use Rattle.overlay_marks.proofs.split.cross.settled.is_end.Goals as goal
 
 pub returns-else-eq : goal.returns-else-eq

@@ -1,5 +1,5 @@
 use Rattle.overlay_base.specs.PairOf.{pair_of}
-use Rattle.overlay_marks.proofs.laws.SnappedAnswers.{answer_when_settled}
+use Rattle.overlay_marks.proofs.laws.crossings.SnappedAnswers.{answer_when_settled}
 use Rattle.overlay_marks.proofs.split.cross.settled.settled.Goals as goal
 
 pub returns : goal.returns

@@ -2,7 +2,7 @@ use Rattle.std.proofs.Common.{sym, ◌∙◌}
 use Rattle.std.specs.Prelude.{unsigned_abs}
 use Rattle.overlay_base.specs.PointOf.{point_of}
 use Rattle.overlay_base.specs.PairOf.{pair_of}
-use Rattle.overlay_marks.proofs.laws.SnappedAnswers.{answer_when_on_lines}
+use Rattle.overlay_marks.proofs.laws.crossings.SnappedAnswers.{answer_when_on_lines}
 use Rattle.overlay_marks.proofs.split.cross.snapped.snapped.Goals as goal
 
 pub returns-then-is_on_lines : goal.returns-then-is_on_lines

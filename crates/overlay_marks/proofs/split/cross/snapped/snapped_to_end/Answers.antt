@@ -4,7 +4,7 @@ use Rattle.overlay_base.specs.Points.{Point}
 use Rattle.overlay_base.specs.PointOf.{point_of}
 use Rattle.overlay_base.specs.PairOf.{pair_of}
 use Rattle.overlay_marks.specs.CrossAnswer.{target_end, other_end, answer_at}
-use Rattle.overlay_marks.proofs.laws.SnappedAnswers.{both_far, first_near, second_near, answer_when_far, answer_at_target, answer_at_other}
+use Rattle.overlay_marks.proofs.laws.crossings.SnappedAnswers.{both_far, first_near, second_near, answer_when_far, answer_at_target, answer_at_other}
 use Rattle.overlay_marks.proofs.split.cross.snapped.snapped_to_end.Goals as goal
 
 pub returns-then-radius_squared-min : goal.returns-then-radius_squared-min

@@ -1,6 +1,6 @@
 use Rattle.std.proofs.Common.{sym, ◌∙◌, to_z-of_z, FitsSigned, w64}
 use Rattle.overlay_base.specs.PairOf.{pair_of}
-use Rattle.overlay_marks.proofs.laws.CollinearEnds.{inside_by_four, mask_of_bits}
+use Rattle.overlay_marks.proofs.laws.crossings.CollinearEnds.{inside_by_four, mask_of_bits}
 use Rattle.overlay_marks.proofs.split.cross_solver.CrossSolver.collinear.Goals as goal
 
 pub returns-clause-target_a : goal.returns-clause-target_a

@@ -2,7 +2,7 @@ use Rattle.std.proofs.Common.{sym, ◌∙◌, to_z-of_z}
 use Rattle.std.specs.Prelude.{unsigned_abs}
 use Rattle.overlay_base.specs.PairOf.{pair_of}
 use Rattle.overlay_marks.specs.Marks.{snapping}
-use Rattle.overlay_marks.proofs.laws.AnswerMarks.{answer_of_crossing}
+use Rattle.overlay_marks.proofs.laws.crossings.AnswerMarks.{answer_of_crossing}
 use Rattle.overlay_marks.proofs.split.cross_solver.CrossSolver.cross.Goals as goal
 
 pub returns-in-Crossing : goal.returns-in-Crossing

@@ -1,7 +1,7 @@
 use Rattle.std.proofs.Common.{sym, ◌∙◌}
 use Rattle.overlay_base.specs.PairOf.{pair_of}
 use Rattle.overlay_marks.specs.Marks.{settling}
-use Rattle.overlay_marks.proofs.laws.AnswerMarks.{answer_of_crossing}
+use Rattle.overlay_marks.proofs.laws.crossings.AnswerMarks.{answer_of_crossing}
 use Rattle.overlay_marks.proofs.split.cross_solver.CrossSolver.cross_settled.Goals as goal
 
 pub returns-in-Crossing : goal.returns-in-Crossing

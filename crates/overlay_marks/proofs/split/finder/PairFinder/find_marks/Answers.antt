@@ -5,7 +5,7 @@ use Rattle.overlay_base.specs.SegmentOf.{segments_of}
 use Rattle.overlay_marks.specs.Grid.{Layout, LieInside}
 use Rattle.overlay_marks.specs.Looked.{pass_looks}
 use Rattle.overlay_marks.specs.GroupsOf.{grid_in}
-use Rattle.overlay_marks.proofs.laws.GridInside.{each_lies_inside}
+use Rattle.overlay_marks.proofs.laws.grid.GridInside.{each_lies_inside}
 use Rattle.overlay_marks.proofs.split.finder.PairFinder.find_marks.Goals as goal
 
 pub find_over_grid-requires-clause-inside : goal.find_over_grid-requires-clause-inside

@@ -7,8 +7,8 @@ use Rattle.overlay_base.specs.PointOf.{point_of}
 use Rattle.overlay_marks.specs.Grid.{Layout, column_index, group_count, pos_of, rect_between}
 use Rattle.overlay_marks.specs.FragmentOf.{KeptFragment, fragment_of, layout_of}
 use Rattle.overlay_marks.specs.GroupsOf.{group_of}
-use Rattle.overlay_marks.proofs.laws.GridColumns.{then_less}
-use Rattle.overlay_marks.proofs.laws.GridAdding.{IsAdding, IsAdding-start, IsAdding-more, IsAdding-end, as_added, added_vertical, runs_forward, vertical_from, column_within, column_before_within, next_within, border_between, first_to_last, on_ok}
+use Rattle.overlay_marks.proofs.laws.grid.GridColumns.{then_less}
+use Rattle.overlay_marks.proofs.laws.grid.GridAdding.{IsAdding, IsAdding-start, IsAdding-more, IsAdding-end, as_added, added_vertical, runs_forward, vertical_from, column_within, column_before_within, next_within, border_between, first_to_last, on_ok}
 use Rattle.overlay_marks.proofs.split.fragment_buffer.FragmentBuffer.add_fragments.Goals as goal
 
 through : (u v w : ℤ) → u ≤ℤ v → v ≤ℤ w → u ≤ℤ w

@@ -1,7 +1,7 @@
 use Rattle.std.proofs.Common.{◌≡◌}
 use Rattle.overlay_base.specs.PointOf.{point_of}
 use Rattle.overlay_marks.specs.GroupsOf.{group_of, grid_of}
-use Rattle.overlay_marks.proofs.laws.GridAdding.{IsAdding}
+use Rattle.overlay_marks.proofs.laws.grid.GridAdding.{IsAdding}
 use Rattle.overlay_marks.proofs.split.fragment_buffer.FragmentBuffer.add_fragments.Given as goal
 
 abbrev pub invariant-loop-column : goal.invariant-loop-column

@@ -1,12 +1,12 @@
-use Rattle.std.proofs.Common.{◌≡◌, ◌<◌, ◌≤◌, ◌∙◌, sym, ap₂, subst, ℕ, length, arith, ◌-◌, ◌+◌}
+use Rattle.std.proofs.Common.{◌≤◌, ◌∙◌, sym, ap₂, ℕ, length, arith, ◌-◌, ◌+◌}
 use Rattle.std.specs.Prelude.{ℤ, ◌≤ℤ◌, pos, ◌-ℤ◌}
 use Rattle.std.proofs.lemmas.Int.{ints}
 use Rattle.overlay_base.specs.PairOf.{pair_of}
 use Rattle.overlay_marks.specs.Grid.{column_index}
 use Rattle.overlay_marks.specs.FragmentOf.{layout_of}
-use Rattle.overlay_marks.proofs.laws.GridColumns.{then_less}
-use Rattle.overlay_marks.proofs.laws.GridAdding.{runs_forward, vertical_from, column_before_within, first_to_last}
-use Rattle.overlay_marks.proofs.laws.FragmentCounts.{length-vertical, length-forward}
+use Rattle.overlay_marks.proofs.laws.grid.GridColumns.{then_less}
+use Rattle.overlay_marks.proofs.laws.grid.GridAdding.{runs_forward, vertical_from, column_before_within, first_to_last}
+use Rattle.overlay_marks.proofs.laws.grid.FragmentCounts.{length-vertical, length-forward}
 use Rattle.overlay_marks.proofs.split.fragment_buffer.FragmentBuffer.fragment_count.Goals as goal
 
 through : (u v w : ℤ) → u ≤ℤ v → v ≤ℤ w → u ≤ℤ w

@@ -1,4 +1,4 @@
-use Rattle.overlay_marks.proofs.laws.GridGroups.{group_in-pushed}
+use Rattle.overlay_marks.proofs.laws.grid.GridGroups.{group_in-pushed}
 use Rattle.overlay_marks.proofs.split.fragment_buffer.FragmentBuffer.insert.Goals as goal
 
 pub returns-clause-added : goal.returns-clause-added

@@ -5,7 +5,7 @@ use Rattle.overlay_marks.specs.FragmentOf.{KeptFragment, fragments_of}
 use Rattle.overlay_marks.specs.GroupsOf.{grid_of}
 use Rattle.overlay_marks.specs.steps.FragmentFinder.{heights_at}
 use Rattle.std.proofs.lemmas.List.Sorted.{IsPermutation-map}
-use Rattle.overlay_marks.proofs.laws.GridGroups.{group_in-at}
+use Rattle.overlay_marks.proofs.laws.grid.GridGroups.{group_in-at}
 use Rattle.overlay_marks.proofs.split.fragment_buffer.FragmentBuffer.list_right_ends.Goals as goal
 
 pub returns-clause-ends : goal.returns-clause-ends

@@ -1,12 +1,11 @@
-use Rattle.std.proofs.Common.{◌≡◌, ◌<◌, ◌≤◌, sym, ap, subst, ◌∙◌, ℕ, length, refl, rules}
-use Rattle.std.proofs.lemmas.List.Sorted.{answers_always}
+use Rattle.std.proofs.Common.{◌≡◌, ◌<◌, ◌≤◌, sym, ap, subst, ◌∙◌, ℕ, length, refl}
 use Rattle.overlay_marks.specs.Grid.{group_count, Layout}
 use Rattle.overlay_marks.specs.GroupsOf.{group_of}
-use Rattle.overlay_marks.proofs.laws.GridGroups.{AreSorted-start, AreSorted-more, all_sorted}
+use Rattle.overlay_marks.proofs.laws.grid.GridGroups.{AreSorted-start, AreSorted-more, all_sorted}
 use Rattle.overlay_marks.proofs.split.fragment_buffer.FragmentBuffer.sort.Goals as goal
 
 pub loop-column-init : goal.loop-column-init
-loop-column-init g c = record { layout = refl; sorted = AreSorted-start (group_of c.args.self.now) }
+loop-column-init g c = record { layout = refl; sorted = AreSorted-start c.args.axis (group_of c.args.self.now) }
 
 pub loop-column-preserved : goal.loop-column-preserved
 loop-column-preserved g c =
@@ -14,9 +13,8 @@ loop-column-preserved g c =
     let here = subst (λ (n : ℕ). c.loop-column.column < n) (c.len-column-end.ensures ∙ c.args.self.now.groups.ok.0 ∙ same) c.loop-column-test.true in
     record {
       layout = c.loop-column.invariant.layout;
-      sorted = AreSorted-more g.I.OverlayInt.whole (group_of c.args.self.now) c.loop-column.self.groups.items c.loop-column.column c.index_mut.result.now c.sort_unstable_by_key.new.self c.loop-column.invariant.sorted here
-          c.index_mut.ensures.value c.sort_unstable_by_key.ensures.permutation
-          (simp g.met.I.OverlayInt.ordered at (c.sort_unstable_by_key.ensures.sorted (λ f. f.rect.min_y) (answers_always _ _ _ (λ f a r f' h. search rules))));
+      sorted = AreSorted-more g.I.OverlayInt.whole c.args.axis (group_of c.args.self.now) c.loop-column.self.groups.items c.loop-column.column c.index_mut.result.now c.sort_along.new.group c.loop-column.invariant.sorted here
+          c.index_mut.ensures.value c.sort_along.ensures.permutation c.sort_along.ensures.sorted;
     }
 
 pub returns : goal.returns
@@ -26,5 +24,5 @@ returns g c =
     record {
       layout = c.loop-column.invariant.layout;
       permutation = c.loop-column.invariant.sorted.permutation;
-      rises = all_sorted g.I.OverlayInt.whole (group_of c.args.self.now) c.loop-column.self.groups.items c.loop-column.column c.loop-column.invariant.sorted passed;
+      sorted = all_sorted g.I.OverlayInt.whole c.args.axis (group_of c.args.self.now) c.loop-column.self.groups.items c.loop-column.column c.loop-column.invariant.sorted passed;
     }

@@ -1,6 +1,6 @@
 use Rattle.std.proofs.Common.{to_z-of_z}
 use Rattle.overlay_marks.specs.FragmentOf.{layout_of}
-use Rattle.overlay_marks.proofs.laws.GridSizes.{laid_out, offset_fits, power_fits, cast_fits, nonneg}
+use Rattle.overlay_marks.proofs.laws.grid.GridSizes.{laid_out, offset_fits, power_fits, cast_fits, nonneg}
 use Rattle.overlay_marks.proofs.split.grid_layout.GridLayout.index.Goals as goal
 
 pub overflow_cast-offset : goal.overflow_cast-offset

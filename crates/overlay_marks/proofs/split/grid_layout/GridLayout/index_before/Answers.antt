@@ -1,9 +1,9 @@
 use Rattle.std.proofs.Common.{to_z-of_z}
 use Rattle.overlay_marks.specs.FragmentOf.{layout_of}
-use Rattle.overlay_marks.proofs.laws.GridSizes.{laid_out, offset_fits, power_fits, cast_fits, nonneg, between, before_from, before_to}
+use Rattle.overlay_marks.proofs.laws.grid.GridSizes.{laid_out, offset_fits, power_fits, cast_fits, nonneg, between, before_from, before_to}
 use Rattle.std.specs.Prelude.{pos, ◌-ℤ◌}
-use Rattle.overlay_base.proofs.laws.Coordinates.{coordinate_fits}
-use Rattle.overlay_marks.proofs.laws.GridColumns.{less_weak}
+use Rattle.overlay_base.proofs.laws.geometry.Coordinates.{coordinate_fits}
+use Rattle.overlay_marks.proofs.laws.grid.GridColumns.{less_weak}
 use Rattle.overlay_marks.proofs.split.grid_layout.GridLayout.index_before.Goals as goal
 
 pub overflow_cast-offset : goal.overflow_cast-offset

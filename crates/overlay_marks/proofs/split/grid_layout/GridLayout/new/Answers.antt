@@ -3,9 +3,9 @@ use Rattle.std.specs.Prelude.{pos, ◌-ℤ◌, ◌<ℤ◌}
 use Rattle.overlay_base.specs.PairOf.{pair_of}
 use Rattle.overlay_base.specs.PointOf.{point_of}
 use Rattle.overlay_base.specs.InRange.{IsPairInRange}
-use Rattle.overlay_base.proofs.laws.Coordinates.{point_parts}
+use Rattle.overlay_base.proofs.laws.geometry.Coordinates.{point_parts}
 use Rattle.overlay_marks.specs.FragmentOf.{layout_of}
-use Rattle.overlay_marks.proofs.laws.GridSizes.{greatest_more, greatest_end, max_in_range, segments-next, segments-none, layout_of_list, same_head, narrow_list, if_some, if_none}
+use Rattle.overlay_marks.proofs.laws.grid.GridSizes.{greatest_more, greatest_end, max_in_range, segments-next, segments-none, layout_of_list, same_head, narrow_list, if_some, if_none}
 use Rattle.overlay_base.specs.Points.{Pair}
 use Rattle.overlay_marks.specs.Grid.{greatest_x, IsLayout}
 use Rattle.overlay_marks.proofs.split.grid_layout.GridLayout.new.Goals as goal

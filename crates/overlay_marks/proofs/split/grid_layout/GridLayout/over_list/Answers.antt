@@ -4,11 +4,11 @@ use Rattle.overlay_base.specs.PointOf.{point_of}
 use Rattle.overlay_base.specs.Segments.{pairs}
 use Rattle.overlay_base.specs.SegmentOf.{segments_of, x_segment_of}
 use Rattle.overlay_base.specs.InRange.{IsPairInRange}
-use Rattle.overlay_base.proofs.laws.Coordinates.{point_parts}
-use Rattle.overlay_base.proofs.laws.Apart.{pairs-next, pairs-none}
+use Rattle.overlay_base.proofs.laws.geometry.Coordinates.{point_parts}
+use Rattle.overlay_base.proofs.laws.geometry.Apart.{pairs-next, pairs-none}
 use Rattle.overlay_marks.specs.FragmentOf.{layout_of}
 use Rattle.overlay_marks.specs.Grid.{greatest_x}
-use Rattle.overlay_marks.proofs.laws.GridSizes.{greatest_more, greatest_end, max_in_range, layout_of_list, narrow_list, if_some, if_none}
+use Rattle.overlay_marks.proofs.laws.grid.GridSizes.{greatest_more, greatest_end, max_in_range, layout_of_list, narrow_list, if_some, if_none}
 use Rattle.overlay_marks.proofs.split.grid_layout.GridLayout.over_list.Goals as goal
 
 pub loop-index-preserved : goal.loop-index-preserved

@@ -1,6 +1,6 @@
 use Rattle.std.proofs.Common.{to_z-of_z, ◌∙◌}
 use Rattle.overlay_marks.specs.FragmentOf.{layout_of}
-use Rattle.overlay_marks.proofs.laws.GridSizes.{laid_out, border_fits, power_fits, mod_small, to_z_of_pos}
+use Rattle.overlay_marks.proofs.laws.grid.GridSizes.{laid_out, border_fits, power_fits, mod_small, to_z_of_pos}
 use Rattle.overlay_marks.proofs.split.grid_layout.GridLayout.pos.Goals as goal
 
 pub overflow_shl-offset : goal.overflow_shl-offset

@@ -1,5 +1,5 @@
 use Rattle.std.proofs.Common.{to_z-of_z, refl}
-use Rattle.overlay_marks.proofs.laws.GridSizes.{spread_fits, from_wide_spread}
+use Rattle.overlay_marks.proofs.laws.grid.GridSizes.{spread_fits, from_wide_spread}
 use Rattle.overlay_marks.proofs.split.grid_layout.GridLayout.with_min_max.Goals as goal
 
 pub invariant_of-result-clause-order : goal.invariant_of-result-clause-order

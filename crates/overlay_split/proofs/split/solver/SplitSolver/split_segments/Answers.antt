@@ -13,7 +13,7 @@ with_store D P (Err e) s d h = tt
 
 pub returns-clause-edge_data : goal.returns-clause-edge_data
 returns-clause-edge_data g c =
-    let hooks = hooks_of g.C.WindingCount.counted g.D.OverlayEdgeData.reversed_gives g.D.OverlayEdgeData.split_gives g.D.OverlayEdgeData.merge_gives in
+    let hooks = hooks_of g.C.WindingCount.counted g.D.OverlayEdgeData in
     let settings = settings_of g.I.OverlayInt.BITS c.args.solver.now c.args.self.now in
     with_store g.D.Store.Default.is_default
     (λ store. data_segments_of c.split_segments_with_store.new.list.items ≡ (data_after_passes hooks settings (data_segments_of c.args.list.now.items) store (passes_of c.split_segments_with_store.new.self)).0)

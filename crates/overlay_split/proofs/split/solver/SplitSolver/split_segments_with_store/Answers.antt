@@ -11,21 +11,21 @@ use Rattle.overlay_base.specs.EdgeData.{Hooks}
 use Rattle.overlay_base.specs.HooksOf.{hooks_of}
 use Rattle.overlay_base.specs.Radius.{exponent_cap}
 use Rattle.overlay_base.specs.SegmentOf.{segment_of, segments_of, data_segments_of}
-use Rattle.overlay_base.proofs.laws.Rests.{is_splittable-valid}
-use Rattle.overlay_base.proofs.laws.Views.{segments_ordered, segments_of-bare}
+use Rattle.overlay_base.proofs.laws.joins.Rests.{is_splittable-valid}
+use Rattle.overlay_base.proofs.laws.joins.Views.{segments_ordered, segments_of-bare}
 use Rattle.overlay_split.specs.DataPass.{IsStoppedRun}
 use Rattle.overlay_split.specs.Run.{Settings, LeavesRange}
 use Rattle.overlay_split.specs.SettingsOf.{settings_of}
-use Rattle.overlay_split.proofs.laws.DataInvariants.{data_keeps_what_hooks_keep}
-use Rattle.overlay_split.proofs.laws.StoppedRuns.{stopped_run_leaves_range}
-use Rattle.overlay_split.proofs.laws.Splitting.{at_start, at_next, at_rest, stopped_at_start, stopped_at, has_ended, stays_arranged, snaps_at, settles, falls_from, potential_bound, exponent_grows, segments_none, goes_on-is, starts-is, keeps_room, few_enough}
+use Rattle.overlay_split.proofs.laws.passes.DataInvariants.{data_keeps_what_hooks_keep}
+use Rattle.overlay_split.proofs.laws.passes.StoppedRuns.{stopped_run_leaves_range}
+use Rattle.overlay_split.proofs.laws.passes.Splitting.{at_start, at_next, at_rest, stopped_at_start, stopped_at, has_ended, stays_arranged, snaps_at, settles, falls_from, potential_bound, exponent_grows, segments_none, goes_on-is, starts-is, keeps_room, few_enough}
 use Rattle.overlay_base.specs.declared.overlay_core.solver.Solver.{Solver}
 use Rattle.overlay_base.specs.Planar.{is_splittable}
-use Rattle.overlay_base.proofs.laws.Maps.{is_map-join}
-use Rattle.overlay_split.proofs.laws.Splittable.{is_splittable-join}
-use Rattle.overlay_split.proofs.laws.Ready.{IsPairInRange-each}
-use Rattle.overlay_split.proofs.laws.RunLooks.{HasLooked-none, HasLooked-start, HasLooked-more}
-use Rattle.overlay_split.proofs.laws.GridRuns.{run_lies_inside}
+use Rattle.overlay_base.proofs.laws.joins.Maps.{is_map-join}
+use Rattle.overlay_split.proofs.laws.passes.Splittable.{is_splittable-join}
+use Rattle.overlay_split.proofs.laws.passes.Ready.{IsPairInRange-each}
+use Rattle.overlay_split.proofs.laws.passes.RunLooks.{HasLooked-none, HasLooked-start, HasLooked-more}
+use Rattle.overlay_split.proofs.laws.passes.GridRuns.{run_lies_inside}
 use Rattle.overlay_marks.specs.GroupsOf.{grid_in}
 use Rattle.overlay_split.proofs.split.solver.SplitSolver.split_segments_with_store.Goals as goal
 use Rattle.overlay_split.proofs.split.solver.SplitSolver.split_segments_with_store.Goals.{else-loop-test, then-loop-test+then-not-progress}
@@ -50,7 +50,7 @@ leaves_range (Err f) hooks settings xs from left h = λ i. subst (λ (l : List W
 pub returns-then-is_empty-clause-run : goal.returns-then-is_empty-clause-run
 returns-then-is_empty-clause-run g c =
     let none : length c.args.list.now.items ≡ 0 = grind (arith, common_steps, c.args.list.now.ok.0) in
-    let at = at_rest (hooks_of g.C.WindingCount.counted g.D.OverlayEdgeData.reversed_gives g.D.OverlayEdgeData.split_gives g.D.OverlayEdgeData.merge_gives) (settings_of g.I.OverlayInt.BITS c.args.solver.now c.args.self.now) (g.I.OverlayInt.whole g.I.OverlayInt.MIN_COORD) (g.I.OverlayInt.whole g.I.OverlayInt.MAX_COORD) (segments_of c.args.list.now.items) (data_segments_of c.args.list.now.items) c.args.store.now (segments_none c.args.list.now.items none).0 (segments_none c.args.list.now.items none).1 in
+    let at = at_rest (hooks_of g.C.WindingCount.counted g.D.OverlayEdgeData) (settings_of g.I.OverlayInt.BITS c.args.solver.now c.args.self.now) (g.I.OverlayInt.whole g.I.OverlayInt.MIN_COORD) (g.I.OverlayInt.whole g.I.OverlayInt.MAX_COORD) (segments_of c.args.list.now.items) (data_segments_of c.args.list.now.items) c.args.store.now (segments_none c.args.list.now.items none).0 (segments_none c.args.list.now.items none).1 in
     (has_ended _ _ _ _ _ _ _ _ _ _ _ _ _ (segments_ordered c.args.list.now.items) at refl).run
 
 pub returns-then-is_empty-clause-edge_data : goal.returns-then-is_empty-clause-edge_data
@@ -69,37 +69,37 @@ returns-then-is_empty-clause-kept_data g c = λ has keeps given. given
 pub returns-then-is_empty-clause-arranged : goal.returns-then-is_empty-clause-arranged
 returns-then-is_empty-clause-arranged g c =
     let none : length c.args.list.now.items ≡ 0 = grind (arith, common_steps, c.args.list.now.ok.0) in
-    let at = at_rest (hooks_of g.C.WindingCount.counted g.D.OverlayEdgeData.reversed_gives g.D.OverlayEdgeData.split_gives g.D.OverlayEdgeData.merge_gives) (settings_of g.I.OverlayInt.BITS c.args.solver.now c.args.self.now) (g.I.OverlayInt.whole g.I.OverlayInt.MIN_COORD) (g.I.OverlayInt.whole g.I.OverlayInt.MAX_COORD) (segments_of c.args.list.now.items) (data_segments_of c.args.list.now.items) c.args.store.now (segments_none c.args.list.now.items none).0 (segments_none c.args.list.now.items none).1 in
+    let at = at_rest (hooks_of g.C.WindingCount.counted g.D.OverlayEdgeData) (settings_of g.I.OverlayInt.BITS c.args.solver.now c.args.self.now) (g.I.OverlayInt.whole g.I.OverlayInt.MIN_COORD) (g.I.OverlayInt.whole g.I.OverlayInt.MAX_COORD) (segments_of c.args.list.now.items) (data_segments_of c.args.list.now.items) c.args.store.now (segments_none c.args.list.now.items none).0 (segments_none c.args.list.now.items none).1 in
     (has_ended _ _ _ _ _ _ _ _ _ _ _ _ _ (segments_ordered c.args.list.now.items) at refl).arranged
 
 pub returns-then-is_empty-clause-in_box : goal.returns-then-is_empty-clause-in_box
 returns-then-is_empty-clause-in_box g c =
     let none : length c.args.list.now.items ≡ 0 = grind (arith, common_steps, c.args.list.now.ok.0) in
-    let at = at_rest (hooks_of g.C.WindingCount.counted g.D.OverlayEdgeData.reversed_gives g.D.OverlayEdgeData.split_gives g.D.OverlayEdgeData.merge_gives) (settings_of g.I.OverlayInt.BITS c.args.solver.now c.args.self.now) (g.I.OverlayInt.whole g.I.OverlayInt.MIN_COORD) (g.I.OverlayInt.whole g.I.OverlayInt.MAX_COORD) (segments_of c.args.list.now.items) (data_segments_of c.args.list.now.items) c.args.store.now (segments_none c.args.list.now.items none).0 (segments_none c.args.list.now.items none).1 in
+    let at = at_rest (hooks_of g.C.WindingCount.counted g.D.OverlayEdgeData) (settings_of g.I.OverlayInt.BITS c.args.solver.now c.args.self.now) (g.I.OverlayInt.whole g.I.OverlayInt.MIN_COORD) (g.I.OverlayInt.whole g.I.OverlayInt.MAX_COORD) (segments_of c.args.list.now.items) (data_segments_of c.args.list.now.items) c.args.store.now (segments_none c.args.list.now.items none).0 (segments_none c.args.list.now.items none).1 in
     (has_ended _ _ _ _ _ _ _ _ _ _ _ _ _ (segments_ordered c.args.list.now.items) at refl).in_box
 
 pub returns-then-is_empty-clause-exact_input : goal.returns-then-is_empty-clause-exact_input
 returns-then-is_empty-clause-exact_input g c =
     let none : length c.args.list.now.items ≡ 0 = grind (arith, common_steps, c.args.list.now.ok.0) in
-    let at = at_rest (hooks_of g.C.WindingCount.counted g.D.OverlayEdgeData.reversed_gives g.D.OverlayEdgeData.split_gives g.D.OverlayEdgeData.merge_gives) (settings_of g.I.OverlayInt.BITS c.args.solver.now c.args.self.now) (g.I.OverlayInt.whole g.I.OverlayInt.MIN_COORD) (g.I.OverlayInt.whole g.I.OverlayInt.MAX_COORD) (segments_of c.args.list.now.items) (data_segments_of c.args.list.now.items) c.args.store.now (segments_none c.args.list.now.items none).0 (segments_none c.args.list.now.items none).1 in
+    let at = at_rest (hooks_of g.C.WindingCount.counted g.D.OverlayEdgeData) (settings_of g.I.OverlayInt.BITS c.args.solver.now c.args.self.now) (g.I.OverlayInt.whole g.I.OverlayInt.MIN_COORD) (g.I.OverlayInt.whole g.I.OverlayInt.MAX_COORD) (segments_of c.args.list.now.items) (data_segments_of c.args.list.now.items) c.args.store.now (segments_none c.args.list.now.items none).0 (segments_none c.args.list.now.items none).1 in
     (has_ended _ _ _ _ _ _ _ _ _ _ _ _ _ (segments_ordered c.args.list.now.items) at refl).exact_input
 
 pub returns-then-is_empty-clause-near : goal.returns-then-is_empty-clause-near
 returns-then-is_empty-clause-near g c =
     let none : length c.args.list.now.items ≡ 0 = grind (arith, common_steps, c.args.list.now.ok.0) in
-    let at = at_rest (hooks_of g.C.WindingCount.counted g.D.OverlayEdgeData.reversed_gives g.D.OverlayEdgeData.split_gives g.D.OverlayEdgeData.merge_gives) (settings_of g.I.OverlayInt.BITS c.args.solver.now c.args.self.now) (g.I.OverlayInt.whole g.I.OverlayInt.MIN_COORD) (g.I.OverlayInt.whole g.I.OverlayInt.MAX_COORD) (segments_of c.args.list.now.items) (data_segments_of c.args.list.now.items) c.args.store.now (segments_none c.args.list.now.items none).0 (segments_none c.args.list.now.items none).1 in
+    let at = at_rest (hooks_of g.C.WindingCount.counted g.D.OverlayEdgeData) (settings_of g.I.OverlayInt.BITS c.args.solver.now c.args.self.now) (g.I.OverlayInt.whole g.I.OverlayInt.MIN_COORD) (g.I.OverlayInt.whole g.I.OverlayInt.MAX_COORD) (segments_of c.args.list.now.items) (data_segments_of c.args.list.now.items) c.args.store.now (segments_none c.args.list.now.items none).0 (segments_none c.args.list.now.items none).1 in
     (has_ended _ _ _ _ _ _ _ _ _ _ _ _ _ (segments_ordered c.args.list.now.items) at refl).near
 
 pub returns-then-is_empty-clause-winding : goal.returns-then-is_empty-clause-winding
 returns-then-is_empty-clause-winding g c =
     let none : length c.args.list.now.items ≡ 0 = grind (arith, common_steps, c.args.list.now.ok.0) in
-    let at = at_rest (hooks_of g.C.WindingCount.counted g.D.OverlayEdgeData.reversed_gives g.D.OverlayEdgeData.split_gives g.D.OverlayEdgeData.merge_gives) (settings_of g.I.OverlayInt.BITS c.args.solver.now c.args.self.now) (g.I.OverlayInt.whole g.I.OverlayInt.MIN_COORD) (g.I.OverlayInt.whole g.I.OverlayInt.MAX_COORD) (segments_of c.args.list.now.items) (data_segments_of c.args.list.now.items) c.args.store.now (segments_none c.args.list.now.items none).0 (segments_none c.args.list.now.items none).1 in
+    let at = at_rest (hooks_of g.C.WindingCount.counted g.D.OverlayEdgeData) (settings_of g.I.OverlayInt.BITS c.args.solver.now c.args.self.now) (g.I.OverlayInt.whole g.I.OverlayInt.MIN_COORD) (g.I.OverlayInt.whole g.I.OverlayInt.MAX_COORD) (segments_of c.args.list.now.items) (data_segments_of c.args.list.now.items) c.args.store.now (segments_none c.args.list.now.items none).0 (segments_none c.args.list.now.items none).1 in
     (has_ended _ _ _ _ _ _ _ _ _ _ _ _ _ (segments_ordered c.args.list.now.items) at refl).winding
 
 pub returns-then-is_empty-clause-fits : goal.returns-then-is_empty-clause-fits
 returns-then-is_empty-clause-fits g c =
     let none : length c.args.list.now.items ≡ 0 = grind (arith, common_steps, c.args.list.now.ok.0) in
-    let at = at_rest (hooks_of g.C.WindingCount.counted g.D.OverlayEdgeData.reversed_gives g.D.OverlayEdgeData.split_gives g.D.OverlayEdgeData.merge_gives) (settings_of g.I.OverlayInt.BITS c.args.solver.now c.args.self.now) (g.I.OverlayInt.whole g.I.OverlayInt.MIN_COORD) (g.I.OverlayInt.whole g.I.OverlayInt.MAX_COORD) (segments_of c.args.list.now.items) (data_segments_of c.args.list.now.items) c.args.store.now (segments_none c.args.list.now.items none).0 (segments_none c.args.list.now.items none).1 in
+    let at = at_rest (hooks_of g.C.WindingCount.counted g.D.OverlayEdgeData) (settings_of g.I.OverlayInt.BITS c.args.solver.now c.args.self.now) (g.I.OverlayInt.whole g.I.OverlayInt.MIN_COORD) (g.I.OverlayInt.whole g.I.OverlayInt.MAX_COORD) (segments_of c.args.list.now.items) (data_segments_of c.args.list.now.items) c.args.store.now (segments_none c.args.list.now.items none).0 (segments_none c.args.list.now.items none).1 in
     (has_ended _ _ _ _ _ _ _ _ _ _ _ _ _ (segments_ordered c.args.list.now.items) at refl).fits
 
 pub returns-then-is_empty-clause-looked : goal.returns-then-is_empty-clause-looked
@@ -115,7 +115,7 @@ join_with_store-requires g c = is_splittable-valid segment_of _ _ c.args.list.no
 
 pub returns-in_err-repeated-clause-stopped : goal.returns-in_err-repeated-clause-stopped
 returns-in_err-repeated-clause-stopped g c =
-    let hooks = hooks_of g.C.WindingCount.counted g.D.OverlayEdgeData.reversed_gives g.D.OverlayEdgeData.split_gives g.D.OverlayEdgeData.merge_gives in
+    let hooks = hooks_of g.C.WindingCount.counted g.D.OverlayEdgeData in
     let settings = settings_of g.I.OverlayInt.BITS c.args.solver.now c.args.self.now in
     let stopped : c.in_err-repeated.field-0.0 ≡ CountOutOfRange → IsStoppedRun hooks settings (data_segments_of c.args.list.now.items) c.args.store.now c.join_with_store.new.store =
     λ e. stopped_at_start hooks settings (data_segments_of c.args.list.now.items) c.args.store.now c.join_with_store.new.store (c.in_err-repeated.ensures.stopped e) in
@@ -158,7 +158,7 @@ loop-preserved g c =
 
 pub returns-in_err-progress-clause-stopped : goal.returns-in_err-progress-clause-stopped
 returns-in_err-progress-clause-stopped g c =
-    let hooks = hooks_of g.C.WindingCount.counted g.D.OverlayEdgeData.reversed_gives g.D.OverlayEdgeData.split_gives g.D.OverlayEdgeData.merge_gives in
+    let hooks = hooks_of g.C.WindingCount.counted g.D.OverlayEdgeData in
     let settings = settings_of g.I.OverlayInt.BITS c.args.solver.now c.args.self.now in
     let limit : c.loop.counter < c.args.self.now.snap_limit = omega (arith, c.loop-test.true, c.loop.invariant.limit) in
     let placing = snaps_at settings _ _ _ _ _ c.loop.invariant.made limit (cap_fits _ g.met.I.OverlayInt.most_bits) c.loop.invariant.exponent c.snapping-placing.ensures.placing in
@@ -210,7 +210,7 @@ loop-progress-smaller g c = falls_from _ _ _ _ c.loop-progress-test.true c.loop-
 
 pub returns-in_err-progress-2-clause-stopped : goal.returns-in_err-progress-2-clause-stopped
 returns-in_err-progress-2-clause-stopped g c =
-    let hooks = hooks_of g.C.WindingCount.counted g.D.OverlayEdgeData.reversed_gives g.D.OverlayEdgeData.split_gives g.D.OverlayEdgeData.merge_gives in
+    let hooks = hooks_of g.C.WindingCount.counted g.D.OverlayEdgeData in
     let settings = settings_of g.I.OverlayInt.BITS c.args.solver.now c.args.self.now in
     let placing = settles settings c.loop-progress.progress.passes (c.loop-progress.invariant.late c.loop-progress-test.true) in
     let stopped : c.in_err-progress-2.field-0.0 ≡ CountOutOfRange → IsStoppedRun hooks settings (data_segments_of c.args.list.now.items) c.args.store.now c.after_pass-in-loop-progress.new.store =

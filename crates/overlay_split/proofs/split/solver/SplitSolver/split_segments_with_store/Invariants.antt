@@ -6,14 +6,14 @@ use Rattle.overlay_base.specs.Radius.{exponent_of, step_of}
 use Rattle.overlay_split.specs.SettingsOf.{settings_of}
 use Rattle.overlay_split.specs.Potential.{potential}
 use Rattle.overlay_marks.specs.GroupsOf.{grid_in}
-use Rattle.overlay_split.proofs.laws.RunLooks.{HasLooked}
-use Rattle.overlay_split.proofs.laws.Splitting.{IsAt}
+use Rattle.overlay_split.proofs.laws.passes.RunLooks.{HasLooked}
+use Rattle.overlay_split.proofs.laws.passes.Splitting.{IsAt}
 use Rattle.overlay_split.proofs.split.solver.SplitSolver.split_segments_with_store.Given as goal
 
 -- each pass so far has snapped
 abbrev pub invariant-loop : goal.invariant-loop
 invariant-loop g l = record {
-  at : IsAt (hooks_of g.C.WindingCount.counted g.D.OverlayEdgeData.reversed_gives g.D.OverlayEdgeData.split_gives g.D.OverlayEdgeData.merge_gives) (settings_of g.I.OverlayInt.BITS l.solver l.fn.self)
+  at : IsAt (hooks_of g.C.WindingCount.counted g.D.OverlayEdgeData) (settings_of g.I.OverlayInt.BITS l.solver l.fn.self)
       (g.I.OverlayInt.whole g.I.OverlayInt.MIN_COORD) (g.I.OverlayInt.whole g.I.OverlayInt.MAX_COORD) (segments_of l.fn.list.items) (segments_of l.list.items) (data_segments_of l.fn.list.items) (data_segments_of l.list.items)
       l.fn.store l.store l.progress.passes l.progress.has_changed l.progress.goes_on;
   made : l.progress.passes ≡ l.counter;
@@ -29,7 +29,7 @@ invariant-loop g l = record {
 -- if a pass follows, it settles
 abbrev pub invariant-loop-progress : goal.invariant-loop-progress
 invariant-loop-progress g l = record {
-  at : IsAt (hooks_of g.C.WindingCount.counted g.D.OverlayEdgeData.reversed_gives g.D.OverlayEdgeData.split_gives g.D.OverlayEdgeData.merge_gives) (settings_of g.I.OverlayInt.BITS l.solver l.fn.self)
+  at : IsAt (hooks_of g.C.WindingCount.counted g.D.OverlayEdgeData) (settings_of g.I.OverlayInt.BITS l.solver l.fn.self)
       (g.I.OverlayInt.whole g.I.OverlayInt.MIN_COORD) (g.I.OverlayInt.whole g.I.OverlayInt.MAX_COORD) (segments_of l.fn.list.items) (segments_of l.list.items) (data_segments_of l.fn.list.items) (data_segments_of l.list.items)
       l.fn.store l.store l.progress.passes l.progress.has_changed l.progress.goes_on;
   late : l.progress.goes_on ≡ true → l.fn.self.snap_limit ≤ l.progress.passes;

@@ -1,6 +1,6 @@
 use Rattle.std.proofs.Common.{rules}
 use Rattle.std.specs.Prelude.{int_lt}
-use Rattle.overlay_sweep.proofs.laws.LiveSums.{kept_by}
+use Rattle.overlay_sweep.proofs.laws.live.LiveSums.{kept_by}
 use Rattle.overlay_sweep.proofs.build.scan_list.ScanList.drop_ended.Goals as goal
 
 pub returns : goal.returns

@@ -1,7 +1,7 @@
 use Rattle.std.proofs.Common.{◌∙◌, ap}
 use Rattle.std.specs.Prelude.{not}
 use Rattle.overlay_sweep.specs.EntryOf.{entry_of}
-use Rattle.overlay_sweep.proofs.laws.LiveSums.{HoldSameFrom-pushed, begins_pushed}
+use Rattle.overlay_sweep.proofs.laws.live.LiveSums.{HoldSameFrom-pushed, begins_pushed}
 use Rattle.overlay_sweep.proofs.build.scan_list.ScanListLiveSegments.insert.Goals as goal
 
 pub returns-clause-sums : goal.returns-clause-sums

@@ -8,12 +8,12 @@ use Rattle.overlay_base.specs.Points.{Point}
 use Rattle.overlay_base.specs.PointOf.{point_of}
 use Rattle.overlay_base.specs.Segments.{WholeSegment}
 use Rattle.overlay_base.specs.Windings.{Winding}
-use Rattle.overlay_base.proofs.laws.Lists.{filter-map, Has}
+use Rattle.overlay_base.proofs.laws.lists.Lists.{filter-map, Has}
 use Rattle.overlay_sweep.specs.EntryOf.{entry_of, entries_of}
 use Rattle.overlay_sweep.specs.Live.{HoldSameFrom, AreFreeAt}
-use Rattle.overlay_sweep.specs.Sweep.{sum_below}
-use Rattle.overlay_sweep.proofs.laws.ScanSums.{leading, lasting, no_leading, scan_result, scan_new, scan_old, scan_skip, orders_agree, HoldSameFrom-lasting, begins_lasting}
-use Rattle.overlay_sweep.proofs.laws.ScanCounts.{none_asked, asked_skip, asked_new, asked_old, asked_all}
+use Rattle.overlay_sweep.specs.Live.{sum_below}
+use Rattle.overlay_sweep.proofs.laws.live.ScanSums.{leading, lasting, no_leading, scan_result, scan_new, scan_old, scan_skip, orders_agree, HoldSameFrom-lasting, begins_lasting}
+use Rattle.overlay_sweep.proofs.laws.live.ScanCounts.{none_asked, asked_skip, asked_new, asked_old, asked_all}
 use Rattle.overlay_sweep.proofs.build.scan_list.ScanListLiveSegments.sum_below.Goals as goal
 use Rattle.overlay_sweep.proofs.build.scan_list.ScanListLiveSegments.sum_below.Goals.{then-is_before+then-is_not_under_best, else-is_before, else-is_before-via-then-is_before+else-is_not_under_best, else-is_before-via-else-is_before}
 

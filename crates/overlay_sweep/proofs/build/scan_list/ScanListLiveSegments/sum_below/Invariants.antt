@@ -3,8 +3,8 @@ use Rattle.std.specs.Prelude.{option_map}
 use Rattle.std.specs.Option.{option_map_or}
 use Rattle.overlay_base.specs.PointOf.{point_of}
 use Rattle.overlay_sweep.specs.EntryOf.{entry_of, entries_of}
-use Rattle.overlay_sweep.proofs.laws.ScanSums.{leading}
-use Rattle.overlay_sweep.proofs.laws.ScanCounts.{HasAsked}
+use Rattle.overlay_sweep.proofs.laws.live.ScanSums.{leading}
+use Rattle.overlay_sweep.proofs.laws.live.ScanCounts.{HasAsked}
 use Rattle.overlay_sweep.proofs.build.scan_list.ScanListLiveSegments.sum_below.Given as goal
 
 abbrev pub invariant-loop-entry : goal.invariant-loop-entry

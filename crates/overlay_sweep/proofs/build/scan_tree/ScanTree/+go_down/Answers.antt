@@ -5,8 +5,8 @@ use Rattle.overlay_base.specs.Points.{Pair}
 use Rattle.overlay_sweep.specs.EntryOf.{entry_of, entries_of}
 use Rattle.overlay_sweep.specs.steps.PlaceOf.{stands_before}
 use Rattle.overlay_sweep.specs.ScanTrees.{segment_at, lasts_past}
-use Rattle.overlay_sweep.proofs.laws.ScanReads.{segment_read}
-use Rattle.overlay_sweep.proofs.laws.TreeWays.{placed_nowhere, down_within, stopped_here, left_may, right_may, right_stopped_joinable, right_stopped, left_stopped_joinable, left_stopped, right_placed_joinable, right_placed, left_placed_joinable, left_placed, right_lower, left_lower, right_deep, left_deep, asked_above, empty_reached, still_parent, kept_parent, kept_parent_left, told_same, is_told_same, right_falls, left_falls, either}
+use Rattle.overlay_sweep.proofs.laws.tree.ScanReads.{segment_read}
+use Rattle.overlay_sweep.proofs.laws.tree.TreeWays.{placed_nowhere, down_within, stopped_here, left_may, right_may, right_stopped_joinable, right_stopped, left_stopped_joinable, left_stopped, right_placed_joinable, right_placed, left_placed_joinable, left_placed, right_lower, left_lower, right_deep, left_deep, asked_above, empty_reached, still_parent, kept_parent, kept_parent_left, told_same, is_told_same, right_falls, left_falls, either}
 use Rattle.overlay_sweep.proofs.build.scan_tree.ScanTree.+go_down.Goals as goal
 
 -- what is read of an entry, as the specification says it

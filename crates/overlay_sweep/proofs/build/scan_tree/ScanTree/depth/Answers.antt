@@ -1,6 +1,6 @@
 use Rattle.std.proofs.Common.{◌∙◌}
-use Rattle.overlay_sweep.proofs.laws.TreeTurns.{tree_height}
-use Rattle.overlay_sweep.proofs.laws.ScanGrowth.{scan_depth}
+use Rattle.overlay_sweep.proofs.laws.tree.TreeTurns.{tree_height}
+use Rattle.overlay_sweep.proofs.laws.tree.ScanGrowth.{scan_depth}
 use Rattle.overlay_sweep.proofs.build.scan_tree.ScanTree.depth.Goals as goal
 
 pub returns-clause-longest : goal.returns-clause-longest

@@ -1,7 +1,7 @@
 use Rattle.std.proofs.Common.{ap, refl}
 use Rattle.std.specs.Prelude.{map}
 use Rattle.overlay_sweep.specs.EntryOf.{entry_of}
-use Rattle.overlay_sweep.proofs.laws.ScanGrowth.{scan_empty}
+use Rattle.overlay_sweep.proofs.laws.tree.ScanGrowth.{scan_empty}
 use Rattle.overlay_sweep.proofs.build.scan_tree.ScanTree.new.Goals as goal
 
 pub returns-clause-time : goal.returns-clause-time

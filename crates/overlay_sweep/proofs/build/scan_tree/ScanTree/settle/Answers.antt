@@ -1,8 +1,8 @@
 use Rattle.std.proofs.Common.{◌∙◌, arith, refl}
 use Rattle.std.proofs.lemmas.List.{length-map}
 use Rattle.overlay_sweep.specs.EntryOf.{entry_of}
-use Rattle.overlay_sweep.proofs.laws.TreeWays.{from_not_false, from_not_true}
-use Rattle.overlay_sweep.proofs.laws.ScanGrowth.{still_begins, still_grows, at_last, some_kept, high_within, asked_more, asked_last, asked_half}
+use Rattle.overlay_sweep.proofs.laws.tree.TreeWays.{from_not_false, from_not_true}
+use Rattle.overlay_sweep.proofs.laws.tree.ScanGrowth.{still_begins, still_grows, at_last, some_kept, high_within, asked_more, asked_last, asked_half}
 use Rattle.overlay_sweep.proofs.build.scan_tree.ScanTree.settle.Goals as goal
 
 pub loop-x-init : goal.loop-x-init

@@ -2,7 +2,7 @@ use Rattle.std.proofs.Common.{◌≡◌}
 use Rattle.std.specs.Prelude.{ℕ, ◌+◌, ◌-◌, ◌*◌, ◌/◌, ◌^◌, ◌≤◌}
 use Rattle.overlay_sweep.specs.EntryOf.{entries_of}
 use Rattle.overlay_sweep.specs.ScanTrees.{IsGrowing}
-use Rattle.overlay_sweep.proofs.laws.ScanGrowth.{StillGrows}
+use Rattle.overlay_sweep.proofs.laws.tree.ScanGrowth.{StillGrows}
 use Rattle.overlay_sweep.proofs.build.scan_tree.ScanTree.settle.Given as goal
 
 abbrev pub invariant-loop-x : goal.invariant-loop-x

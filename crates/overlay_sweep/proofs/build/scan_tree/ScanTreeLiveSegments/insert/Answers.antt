@@ -3,8 +3,8 @@ use Rattle.std.proofs.lemmas.Int.{ints}
 use Rattle.overlay_base.specs.Segments.{WholeSegment}
 use Rattle.overlay_base.specs.VSegmentOf.{v_pair_of}
 use Rattle.overlay_sweep.specs.EntryOf.{entry_of, entries_of}
-use Rattle.overlay_sweep.proofs.laws.ScanGrowth.{scan_later}
-use Rattle.overlay_sweep.proofs.laws.ScanAnswers.{pushed_grows, pushed_at, pushed_free, pushed_begun, pushed_live, pushed_room, pushed_short, pushed_sums, placed_scan, asked_by_insert}
+use Rattle.overlay_sweep.proofs.laws.tree.ScanGrowth.{scan_later}
+use Rattle.overlay_sweep.proofs.laws.tree.ScanAnswers.{pushed_grows, pushed_at, pushed_free, pushed_begun, pushed_live, pushed_room, pushed_short, pushed_sums, placed_scan, asked_by_insert}
 use Rattle.overlay_sweep.proofs.build.scan_tree.ScanTreeLiveSegments.insert.Goals as goal
 
 pub settle-requires-clause-growing : goal.settle-requires-clause-growing

@@ -4,9 +4,9 @@ use Rattle.std.proofs.lemmas.List.{length-map}
 use Rattle.overlay_base.specs.PointOf.{point_of}
 use Rattle.overlay_base.specs.Segments.{WholeSegment}
 use Rattle.overlay_sweep.specs.EntryOf.{entry_of}
-use Rattle.overlay_sweep.proofs.laws.ScanReads.{segment_read}
-use Rattle.overlay_sweep.proofs.laws.ScanGrowth.{looking, looked, scan_later}
-use Rattle.overlay_sweep.proofs.laws.ScanAnswers.{last_within, default_answers, last_answers}
+use Rattle.overlay_sweep.proofs.laws.tree.ScanReads.{segment_read}
+use Rattle.overlay_sweep.proofs.laws.tree.ScanGrowth.{looking, looked, scan_later}
+use Rattle.overlay_sweep.proofs.laws.tree.ScanAnswers.{last_within, default_answers, last_answers}
 use Rattle.overlay_sweep.proofs.build.scan_tree.ScanTreeLiveSegments.sum_below.Goals as goal
 
 mapped : {E : Type 0} (f : E → WholeSegment) (items : List E) (i : ℕ) → i < length (map f items) → i < length items

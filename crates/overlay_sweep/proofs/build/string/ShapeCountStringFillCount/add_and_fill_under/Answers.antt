@@ -1,4 +1,4 @@
-use Rattle.std.proofs.Common.{◌∙◌, ap, ap₂}
+use Rattle.std.proofs.Common.{◌∙◌, ap₂}
 use Rattle.overlay_base.specs.Windings.{add}
 use Rattle.overlay_sweep.specs.Fill.{fill_byte}
 use Rattle.overlay_sweep.proofs.build.string.ShapeCountStringFillCount.add_and_fill_under.Goals as goal

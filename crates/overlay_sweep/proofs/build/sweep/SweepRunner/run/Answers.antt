@@ -1,5 +1,5 @@
 use Rattle.overlay_base.specs.SegmentOf.{segments_of}
-use Rattle.overlay_sweep.proofs.laws.Arrangements.{column_windings}
+use Rattle.overlay_sweep.proofs.laws.visits.Arrangements.{column_windings}
 use Rattle.overlay_sweep.proofs.build.sweep.SweepRunner.run.Goals as goal
 
 pub returns-clause-windings : goal.returns-clause-windings

@@ -1,5 +1,5 @@
 use Rattle.std.proofs.Common.{arith}
-use Rattle.overlay_sweep.proofs.laws.TreeRemovals.{sound_within, left_sound, first_is_top, first_joinable, first_removed, left_height_less}
+use Rattle.overlay_sweep.proofs.laws.tree.TreeRemovals.{sound_within, left_sound, first_is_top, first_joinable, first_removed, left_height_less}
 use Rattle.overlay_sweep.proofs.build.tree_shape.TreeShape.+remove_first.Goals as goal
 
 pub index-node-requires : goal.index-node-requires

@@ -1,5 +1,5 @@
 use Rattle.std.proofs.Common.{arith}
-use Rattle.overlay_sweep.proofs.laws.NearSides.{left_fits, right_fits, left_too_high, right_too_high, near_ready, near_joined}
+use Rattle.overlay_sweep.proofs.laws.tree.NearSides.{left_fits, right_fits, left_too_high, right_too_high, near_ready, near_joined}
 use Rattle.overlay_sweep.proofs.build.tree_shape.TreeShape.join.Goals as goal
 
 pub overflow_add-right_height : goal.overflow_add-right_height

@@ -1,5 +1,5 @@
 use Rattle.std.proofs.Common.{refl}
-use Rattle.overlay_sweep.proofs.laws.HighSides.{left_inner_ready, left_outer_ready, left_turned, left_first_ready, left_second_ready, left_third_ready, left_turned_twice}
+use Rattle.overlay_sweep.proofs.laws.tree.HighSides.{left_inner_ready, left_outer_ready, left_turned, left_first_ready, left_second_ready, left_third_ready, left_turned_twice}
 use Rattle.overlay_sweep.proofs.build.tree_shape.TreeShape.join_to_high_left.Goals as goal
 
 pub set_sides-requires : goal.set_sides-requires

@@ -1,5 +1,5 @@
 use Rattle.std.proofs.Common.{refl}
-use Rattle.overlay_sweep.proofs.laws.HighSides.{right_inner_ready, right_outer_ready, right_turned, right_first_ready, right_second_ready, right_third_ready, right_turned_twice}
+use Rattle.overlay_sweep.proofs.laws.tree.HighSides.{right_inner_ready, right_outer_ready, right_turned, right_first_ready, right_second_ready, right_third_ready, right_turned_twice}
 use Rattle.overlay_sweep.proofs.build.tree_shape.TreeShape.join_to_high_right.Goals as goal
 
 pub set_sides-requires : goal.set_sides-requires

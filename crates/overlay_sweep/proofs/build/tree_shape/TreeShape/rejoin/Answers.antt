@@ -1,4 +1,4 @@
-use Rattle.overlay_sweep.proofs.laws.NearSides.{parent_joined}
+use Rattle.overlay_sweep.proofs.laws.tree.NearSides.{parent_joined}
 use Rattle.overlay_sweep.proofs.build.tree_shape.TreeShape.rejoin.Goals as goal
 
 pub returns-then-is_parent-clause-joined : goal.returns-then-is_parent-clause-joined

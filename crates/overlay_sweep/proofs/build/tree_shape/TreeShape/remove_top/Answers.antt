@@ -1,4 +1,4 @@
-use Rattle.overlay_sweep.proofs.laws.TreeRemovals.{sound_within, right_sound, top_is_last, next_joinable, top_removed}
+use Rattle.overlay_sweep.proofs.laws.tree.TreeRemovals.{sound_within, right_sound, top_is_last, next_joinable, top_removed}
 use Rattle.overlay_sweep.proofs.build.tree_shape.TreeShape.remove_top.Goals as goal
 
 pub index-node-requires : goal.index-node-requires

@@ -1,5 +1,5 @@
 use Rattle.std.proofs.Common.{refl, rules, FitsSigned, w64}
-use Rattle.overlay_marks.proofs.laws.Bits.{zero_test}
+use Rattle.overlay_marks.proofs.laws.crossings.Bits.{zero_test}
 use Rattle.overlay_marks.proofs.split.cross.contact.Sides.zeros.Goals as goal
 
 pub returns : goal.returns

@@ -1,6 +1,6 @@
 use Rattle.std.proofs.Common.{sym, ◌∙◌, to_z-of_z, FitsSigned}
 use Rattle.std.specs.Int.{w128}
-use Rattle.overlay_marks.proofs.laws.Offsets.{offset_fits, nearest_upward_is}
+use Rattle.overlay_marks.proofs.laws.crossings.Offsets.{offset_fits, nearest_upward_is}
 use Rattle.overlay_marks.proofs.split.cross.offset.Offset.nearest_upward.Goals as goal
 
 pub floor_divided-requires : goal.floor_divided-requires

@@ -3,7 +3,7 @@ use Rattle.std.specs.Prelude.{ℤ, pos, ◌<ℤ◌, unsigned_abs}
 use Rattle.std.specs.Int.{w128}
 use Rattle.overlay_base.specs.Coordinates.{greatest_product}
 use Rattle.overlay_marks.specs.Crossing.{quotient}
-use Rattle.overlay_marks.proofs.laws.Offsets.{abs_positive, fits_below}
+use Rattle.overlay_marks.proofs.laws.crossings.Offsets.{abs_positive, fits_below}
 use Rattle.overlay_marks.proofs.split.cross.offset.Offset.new.Goals as goal
 
 pub invariant_of-result-clause-bottom_positive : goal.invariant_of-result-clause-bottom_positive

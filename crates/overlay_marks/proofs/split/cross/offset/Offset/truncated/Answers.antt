@@ -1,6 +1,6 @@
 use Rattle.std.proofs.Common.{sym, ◌∙◌, to_z-of_z, FitsSigned}
 use Rattle.std.specs.Int.{w128}
-use Rattle.overlay_marks.proofs.laws.Offsets.{offset_fits, truncated_is}
+use Rattle.overlay_marks.proofs.laws.crossings.Offsets.{offset_fits, truncated_is}
 use Rattle.overlay_marks.proofs.split.cross.offset.Offset.truncated.Goals as goal
 
 pub returns : goal.returns

@@ -1,0 +1,7 @@
+-- Turns, orders, coordinates, and pairs that are apart.
+pub mod Polynomials
+pub mod Points
+pub mod Pairs
+pub mod Coordinates
+pub mod Shifts
+pub mod Apart

@@ -1,0 +1,69 @@
+-- Graphs as they are kept, and those of the kept segments.
+use Rattle.std.proofs.Common.{◌≡◌, refl, sym, ap, ◌∙◌, subst, ℕ, Bool, true, IsTrue, List, [], ◌∷◌, map, filter, length, get_or, ◌<◌}
+use Rattle.std.specs.Prelude.{ℤ}
+use Rattle.std.specs.List.{list_all}
+use Rattle.std.proofs.lemmas.Bool.{and_parts}
+use Rattle.std.proofs.lemmas.List.Sums.{AllPass-from_list_all}
+use Rattle.std.proofs.lemmas.List.Folds.{list_all-map}
+use Rattle.std.proofs.lemmas.Simd.{map-map}
+use Rattle.overlay_base.specs.Points.{point_lt, is_ordered}
+use Rattle.overlay_base.specs.PointOf.{point_of}
+use Rattle.overlay_base.specs.Windings.{is_not_empty}
+use Rattle.overlay_base.proofs.laws.lists.Lists.{list_all-and_parts, list_all-filter}
+use Rattle.overlay_base.specs.Segments.{WholeSegment, is_map, are_polygons}
+use Rattle.overlay_base.specs.Planar.{is_arranged}
+use Rattle.overlay_base.specs.Balance.{IsBalanced}
+use Rattle.overlay_base.specs.Rules.{keeps_fill}
+use Rattle.overlay_base.specs.declared.overlay_core.fill_rule.FillRule.{FillRule}
+use Rattle.overlay_base.specs.declared.overlay_core.link.OverlayLink.{OverlayLink}
+use Rattle.overlay_build.specs.Graph.{Filled, Graph, filled, graph_of, graph_by}
+use Rattle.overlay_build.specs.GraphOf.{link_of, kept_of, graph_with, HoldGraph}
+use Rattle.overlay_build.specs.Graph.{without_nodes}
+use Rattle.overlay_build.specs.Sides.{IsBalancedOverlay}
+use Rattle.overlay_build.proofs.laws.graphs.GraphLaws.{links-back, graph_by-is}
+use Rattle.overlay_build.proofs.laws.regions.Regions.{is_balanced_overlay}
+
+module _ {N I D : Type 0} (indexes : N → List ℕ) (is_canonical : N → Bool) (whole : I → ℤ) (nodes : List N) (links : List (OverlayLink I D)) (keeps : ℕ → Bool) (rule : FillRule) (segments : List WholeSegment) where
+  -- the graph of the links that stand for kept segments is that of these segments
+  pub graph_with_kept : HoldGraph indexes is_canonical whole nodes links (graph_by keeps rule segments) → graph_with whole links ≡ graph_by keeps rule segments
+  graph_with_kept h =
+      let kept : List Filled = filter (λ f. keeps f.fill) (filled rule segments) in
+      let is : graph_by keeps rule segments ≡ graph_of kept = graph_by-is keeps rule segments in
+      let same : kept_of whole links ≡ kept = sym (map-map without_nodes (link_of whole) links) ∙ ap (map without_nodes) h.same_links ∙ ap (λ (g : Graph). map without_nodes g.links) is ∙ links-back kept in
+      ap graph_of same ∙ sym is
+
+  -- so nodes and links that hold the one hold the other
+  pub hold_own_graph : HoldGraph indexes is_canonical whole nodes links (graph_by keeps rule segments) → HoldGraph indexes is_canonical whole nodes links (graph_with whole links)
+  hold_own_graph h = subst (HoldGraph indexes is_canonical whole nodes links) (sym (graph_with_kept h)) h
+
+  -- and the graph of links that stand for the kept segments is theirs
+  pub hold_kept_graph : (given : List (OverlayLink I D)) → kept_of whole given ≡ filter (λ f. keeps f.fill) (filled rule segments) →
+      HoldGraph indexes is_canonical whole nodes links (graph_with whole given) → HoldGraph indexes is_canonical whole nodes links (graph_by keeps rule segments)
+  hold_kept_graph given e h = subst (HoldGraph indexes is_canonical whole nodes links) (ap graph_of e ∙ sym (graph_by-is keeps rule segments)) h
+
+-- an arrangement of polygons with balanced counts has a balanced overlay for each rule
+pub arranged_overlay : (least greatest : ℤ) (rule : Bool → Bool → Bool) (fill_rule : FillRule) (segments : List WholeSegment) → IsTrue (is_arranged least greatest segments) → IsTrue (are_polygons segments) → IsBalanced segments →
+    IsBalancedOverlay rule fill_rule segments (graph_by (keeps_fill rule) fill_rule segments)
+unfolding is_arranged
+arranged_overlay least greatest rule fill_rule segments arranged polygons balanced =
+    let outer = and_parts _ _ arranged in
+    let inner = and_parts _ _ outer.0 in
+    is_balanced_overlay rule fill_rule segments inner.0 polygons outer.1 balanced
+
+-- where each element stands for a segment without a mask, the segments are those of polygons
+pub polygons_from : {X : Type 0} (whole : X → WholeSegment) → ((x : X) → (whole x).count.mask ≡ 0) → (xs : List X) → IsTrue (are_polygons (map whole xs))
+polygons_from whole none [] = refl
+polygons_from whole none (x ∷ xs) = rw (none x) (polygons_from whole none xs)
+
+-- links that stand for kept segments run from their lesser end to the greater one
+pub links_are_ordered : {I D : Type 0} (whole : I → ℤ) (links : List (OverlayLink I D)) (keeps : ℕ → Bool) (rule : FillRule) (least greatest : ℤ) (segments : List WholeSegment) → IsTrue (is_arranged least greatest segments) →
+    kept_of whole links ≡ filter (λ f. keeps f.fill) (filled rule segments) → (k : ℕ) (d : OverlayLink I D) → k < length links → IsTrue (point_lt (point_of whole (get_or links k d).a.point) (point_of whole (get_or links k d).b.point))
+unfolding is_arranged is_map filled
+links_are_ordered whole links keeps rule least greatest segments arranged e =
+    let outer = and_parts _ _ arranged in
+    let inner = and_parts _ _ outer.0 in
+    let parts = and_parts _ _ inner.0 in
+    let each = list_all-and_parts (λ (s : WholeSegment). is_ordered s.pair) (λ (s : WholeSegment). is_not_empty s.count) segments parts.1 in
+    let all : list_all (λ (f : Filled). is_ordered f.pair) (filled rule segments) ≡ true = list_all-map (λ (f : Filled). is_ordered f.pair) _ segments ∙ each.0 in
+    let kept : list_all (λ (f : Filled). is_ordered f.pair) (kept_of whole links) ≡ true = ap (list_all (λ (f : Filled). is_ordered f.pair)) e ∙ list_all-filter (λ (f : Filled). is_ordered f.pair) (λ f. keeps f.fill) (filled rule segments) all in
+    AllPass-from_list_all (λ l. point_lt (point_of whole l.a.point) (point_of whole l.b.point)) links (sym (list_all-map (λ (f : Filled). is_ordered f.pair) (λ l. without_nodes (link_of whole l)) links) ∙ kept)

@@ -1,0 +1,3 @@
+-- What a graph encloses.
+pub mod PlaceColumns
+pub mod Regions

@@ -1,0 +1,4 @@
+-- Walks along the links of a graph, and contours with loops.
+pub mod Walks
+pub mod WalkSteps
+pub mod ContourLoops

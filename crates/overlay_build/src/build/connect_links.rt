@@ -1,0 +1,45 @@
+// The nodes at the ends of links, and their numbers in the links. Upstream: `build::graph`.
+ghost use Rattle.std.specs.Prelude.{◌≡◌, IsTrue, All, map, OnOk, IfErr};
+ghost use Rattle.overlay_base.specs.Points.{point_lt};
+ghost use Rattle.overlay_base.specs.PointOf.{point_of};
+ghost use Rattle.overlay_base.specs.declared.segm.fault.Fault.TheVariants.{Memory};
+ghost use Rattle.overlay_build.specs.GraphOf.{HoldGraph, graph_with};
+
+use crate::build::graph_node::GraphNode;
+use crate::build::link_ends::{
+    block_end, collect_ends, collect_indices, number_ends, sort_by_point,
+};
+use overlay_base::geom::end::End;
+use overlay_base::num::OverlayInt;
+use overlay_base::overlay_core::link::OverlayLink;
+use overlay_base::segm::fault::Fault;
+use std::alloc::Global;
+
+/// Makes the nodes at the ends of the links, and gives both ends of each link the number of its node. The first end of
+/// each link has to stand before the second.
+pub fn connect_links<N: GraphNode, I: OverlayInt, D: Copy>(
+    alloc: Global,
+    links: &mut Vec<OverlayLink<I, D>>,
+    ends: &mut Vec<End<I>>,
+    indices: &mut Vec<usize>,
+    nodes: &mut Vec<N>,
+) -> Result<(), Fault>
+    requires { All (λ l. IsTrue (point_lt (point_of I.whole l.a.point) (point_of I.whole l.b.point))) links.old.items }
+    ensures graph { OnOk result (HoldGraph N.indexes N.is_canonical I.whole nodes.new.items links.new.items
+        (graph_with I.whole links.old.items)) }
+    ensures edge_data { OnOk result (map (λ l. l.edge_data) links.new.items ≡ map (λ l. l.edge_data) links.old.items) }
+    ensures fault { IfErr result (λ fault. fault ≡ Memory) }
+{
+    collect_ends(links, ends)?;
+    sort_by_point(ends)?;
+    nodes.clear();
+    let mut start = 0;
+    while start < ends.len() {
+        let next = block_end(ends, start);
+        collect_indices(ends, start, next, indices)?;
+        number_ends(links, indices, ends[start].point, nodes.len());
+        nodes.push(N::with_indices(alloc, indices)?)?;
+        start = next;
+    }
+    Ok(())
+}

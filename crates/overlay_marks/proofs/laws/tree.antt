@@ -1,0 +1,9 @@
+-- The finder over an interval tree.
+pub mod IntervalTrees
+pub mod TreeCuts
+pub mod TreeBuilds
+pub mod TreeRenewals
+pub mod Sweeps
+pub mod LookCounts
+pub mod SweptMarks
+pub mod TreeFinder

@@ -1,0 +1,8 @@
+-- How near the result lies.
+pub mod Distances
+pub mod NearMarks
+pub mod Nearness
+pub mod Coverings
+pub mod LineCounts
+pub mod OneSide
+pub mod Places

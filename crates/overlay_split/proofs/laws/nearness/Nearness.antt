@@ -1,0 +1,138 @@
+-- Every pair of a pass lies near one of the pairs before it, and every pair of a run near one of those given.
+use Rattle.std.proofs.Common.{◌≡◌, ⊎_elim, refl, subst, arith, ℕ, zero, suc, ◌+◌, ◌-◌, ◌≤◌, List, true, false}
+use Rattle.std.specs.Prelude.{IsTrue, IsFalse, Contains, length, nat_le}
+use Rattle.std.specs.List.{AllByRecursion}
+use Rattle.std.proofs.lemmas.Bool.{and_parts, and_cases, both_ways, cond_both, le-leb}
+use Rattle.std.proofs.lemmas.List.Elements.{All-from_recursion, recursion_from_All, All-contains, All-contains_itself}
+use Rattle.overlay_base.specs.Points.{Point, Pair, is_ordered}
+use Rattle.overlay_base.specs.Segments.{WholeSegment, pairs, are_ordered}
+use Rattle.overlay_base.specs.Join.{join}
+use Rattle.overlay_base.proofs.laws.lists.Lists.{AllByRecursion-weaker, AllByRecursion-map, AllByRecursion-at, AllByRecursion-from_Has, AllByRecursion-both, AllByRecursion-from_list_all, Has, Has-map}
+use Rattle.overlay_base.proofs.laws.joins.Maps.{are_ordered-map}
+use Rattle.overlay_marks.specs.Marks.{Placing}
+use Rattle.overlay_split.specs.Path.{pieces}
+use Rattle.overlay_split.specs.Pass.{pieces_of, cut, pass}
+use Rattle.overlay_marks.specs.PassMarks.{marks_on, is_rounded}
+use Rattle.overlay_split.specs.Run.{Settings, placing_of_pass, after_passes, goes_on}
+use Rattle.overlay_split.specs.Nearness.{whole_point, IsNear, LiesNear, LieNear, reach, reach_of_pass, reach_of_run, reach_of_passes}
+use Rattle.overlay_split.specs.Laws.{PassStaysNear, ReachIsBounded, LastPassReachesNothing, ExactInputReachesNothing}
+use Rattle.overlay_split.proofs.laws.paths.Cuts.{AllByRecursion-cut, AllByRecursion-join}
+use Rattle.overlay_split.proofs.laws.paths.Boxes.{AtEnds, pieces_have}
+use Rattle.overlay_split.proofs.laws.paths.Runs.{is_map-after_passes}
+use Rattle.overlay_split.proofs.laws.planar.ExactMarks.{In}
+use Rattle.overlay_split.proofs.laws.planar.ExactInputs.{exact_means, join_not_rounded}
+use Rattle.overlay_split.proofs.laws.nearness.Distances.{LiesNear-from_ends, LiesNear-trans, LiesNear-itself, IsNear-start, IsNear-end}
+use Rattle.overlay_split.proofs.laws.nearness.NearMarks.{AreNear, marks_lie_near, exact_marks_lie_on}
+
+-- ---- elements
+
+pub Contains-from_Has : {X : Type 0} (xs : List X) (x : X) → Has xs x → Contains xs x
+Contains-from_Has xs x h = AllByRecursion-at (Contains xs) xs x (recursion_from_All (Contains xs) xs (All-contains_itself xs)) h
+
+pub Has-from_Contains : {X : Type 0} (xs : List X) (x : X) → Contains xs x → Has xs x
+Has-from_Contains xs x h = All-contains (Has xs) xs x (All-from_recursion (Has xs) xs (AllByRecursion-from_Has (Has xs) xs (λ y i. i))) h
+
+-- ---- one segment
+
+-- r lies that near to one of the pairs
+abbrev HasNear : ℕ → List Pair → Pair → Type 0
+HasNear h given r = (s : Pair) × Contains given s × LiesNear h r s
+
+-- the pieces through marks that are near a pair lie near it
+pub pieces_lie_near : (h : ℕ) (s : WholeSegment) (marks : List Point) → AreNear h marks s.pair → AllByRecursion (λ r. LiesNear h r.pair s.pair) (pieces s marks)
+pieces_lie_near h s marks near =
+    AllByRecursion-weaker (λ r. AtEnds (λ p. IsNear h (whole_point p) s.pair) r.pair) (λ r. LiesNear h r.pair s.pair) (λ r k. LiesNear-from_ends h r.pair s.pair k.0 k.1) (pieces s marks)
+    (pieces_have (λ p. IsNear h (whole_point p) s.pair) s marks (IsNear-start h s.pair, IsNear-end h s.pair) near)
+
+-- ---- a pass
+
+piece_has_near : (h : ℕ) (placing : Placing) (segments : List WholeSegment) → ((s : Pair) → In segments s → IsTrue (is_ordered s) → AreNear h (marks_on placing segments s) s) → (s : WholeSegment) → Has segments s × IsTrue (is_ordered s.pair) → AllByRecursion (λ r. HasNear h (pairs segments) r.pair) (pieces_of placing segments s)
+unfolding pieces_of
+piece_has_near h placing segments near s (i, o) =
+    let here = Has-map (λ (t : WholeSegment). t.pair) segments s i in
+    AllByRecursion-weaker (λ r. LiesNear h r.pair s.pair) (λ r. HasNear h (pairs segments) r.pair) (λ r k. (s.pair, Contains-from_Has (pairs segments) s.pair here, k)) (pieces s (marks_on placing segments s.pair))
+    (pieces_lie_near h s (marks_on placing segments s.pair) (near s.pair here o))
+
+-- where the marks on each pair are near it, each pair of the pass lies near one before it
+pass_has_near : (h : ℕ) (placing : Placing) (segments : List WholeSegment) → ((s : Pair) → In segments s → IsTrue (is_ordered s) → AreNear h (marks_on placing segments s) s) → IsTrue (are_ordered segments) → AllByRecursion (λ r. HasNear h (pairs segments) r.pair) (pass placing segments)
+unfolding pass
+pass_has_near h placing segments near ordered =
+    AllByRecursion-join (HasNear h (pairs segments)) (cut placing segments)
+    (AllByRecursion-cut (λ r. HasNear h (pairs segments) r.pair) placing segments
+    (AllByRecursion-weaker (λ s. Has segments s × IsTrue (is_ordered s.pair)) (λ s. AllByRecursion (λ r. HasNear h (pairs segments) r.pair) (pieces_of placing segments s)) (piece_has_near h placing segments near) segments
+    (AllByRecursion-both (Has segments) (λ s. IsTrue (is_ordered s.pair)) segments (AllByRecursion-from_Has (Has segments) segments (λ s i. i)) (AllByRecursion-from_list_all (λ s. is_ordered s.pair) segments ordered))))
+
+LieNear-to : (h : ℕ) (given : List Pair) (result : List WholeSegment) → AllByRecursion (λ r. HasNear h given r.pair) result → LieNear h given (pairs result)
+LieNear-to h given result each = All-from_recursion (HasNear h given) (pairs result) (AllByRecursion-map (HasNear h given) (λ (r : WholeSegment). r.pair) result each)
+
+pub pass_stays_near : PassStaysNear
+unfolding reach_of_pass
+pass_stays_near placing segments ordered =
+    cond_both (is_rounded segments) (reach placing) 0 (λ (h : ℕ). LieNear h (pairs segments) (pairs (pass placing segments)))
+    (λ _. LieNear-to (reach placing) (pairs segments) (pass placing segments) (pass_has_near (reach placing) placing segments (λ s _ o. marks_lie_near placing segments s o) ordered))
+    (λ exact. LieNear-to 0 (pairs segments) (pass placing segments) (pass_has_near 0 placing segments (exact_marks_lie_on placing segments exact) ordered))
+
+-- ---- a run
+
+HasNear-trans : (h k : ℕ) (given before : List Pair) (r : Pair) → LieNear h given before → HasNear k before r → HasNear (h + k) given r
+HasNear-trans h k given before r near (s, i, on) =
+    let first = All-contains (HasNear h given) before s near i in
+    (first.0, first.1, subst (λ (n : ℕ). LiesNear n r first.0) (turned h k) (LiesNear-trans k h r s first.0 on first.2))
+  where
+    turned : (h k : ℕ) → k + h ≡ h + k
+    turned h k = omega arith
+
+LieNear-trans : (h k : ℕ) (given before result : List Pair) → LieNear h given before → LieNear k before result → LieNear (h + k) given result
+LieNear-trans h k given before result first second =
+    All-from_recursion (HasNear (h + k) given) result
+    (AllByRecursion-weaker (HasNear k before) (HasNear (h + k) given) (λ r on. HasNear-trans h k given before r first on) result (recursion_from_All (HasNear k before) result second))
+
+-- the pairs of the join are given
+join_stays : (given : List WholeSegment) → LieNear 0 (pairs given) (pairs (join given))
+join_stays given =
+    LieNear-to 0 (pairs given) (join given)
+    (AllByRecursion-join (HasNear 0 (pairs given)) given
+    (AllByRecursion-from_Has (λ (s : WholeSegment). HasNear 0 (pairs given) s.pair) given (λ s i. (s.pair, Contains-from_Has (pairs given) s.pair (Has-map (λ (t : WholeSegment). t.pair) given s i), LiesNear-itself s.pair))))
+
+-- what stands after k passes lies near what is given
+pub run_lies_near : (settings : Settings) (given : List WholeSegment) (k : ℕ) → IsTrue (are_ordered given) → LieNear (reach_of_run settings given k) (pairs given) (pairs (after_passes settings given k))
+unfolding after_passes reach_of_run
+run_lies_near settings given zero ordered = join_stays given
+run_lies_near settings given (suc k) ordered =
+    let before = after_passes settings given k in
+    LieNear-trans (reach_of_run settings given k) (reach_of_pass (placing_of_pass settings (suc k)) before) (pairs given) (pairs before) (pairs (pass (placing_of_pass settings (suc k)) before))
+    (run_lies_near settings given k ordered)
+    (pass_stays_near (placing_of_pass settings (suc k)) before (are_ordered-map before (is_map-after_passes settings given k ordered)))
+
+-- ---- how far that is
+
+reach_of_pass-bounded : (placing : Placing) (segments : List WholeSegment) → reach_of_pass placing segments ≤ reach placing
+unfolding reach_of_pass
+reach_of_pass-bounded placing segments = cond_both (is_rounded segments) (reach placing) 0 (λ (h : ℕ). h ≤ reach placing) (λ _. omega arith) (λ _. omega arith)
+
+reach_of_pass-exact : (placing : Placing) (segments : List WholeSegment) → IsFalse (is_rounded segments) → reach_of_pass placing segments ≡ 0
+unfolding reach_of_pass
+reach_of_pass-exact placing segments exact = rw exact refl
+
+pub reach_is_bounded : ReachIsBounded
+unfolding reach_of_run reach_of_passes
+reach_is_bounded settings given zero = omega arith
+reach_is_bounded settings given (suc k) = let here = reach_of_pass-bounded (placing_of_pass settings (suc k)) (after_passes settings given k) in omega (arith, reach_is_bounded settings given k, here)
+
+pub exact_input_reaches_nothing : ExactInputReachesNothing
+unfolding after_passes goes_on reach_of_run
+exact_input_reaches_nothing settings given result zero flag ordered exact run = refl
+exact_input_reaches_nothing settings given result (suc zero) flag ordered exact run = let none = reach_of_pass-exact (placing_of_pass settings 1) (join given) (join_not_rounded given (exact_means given exact)) in omega (arith, none)
+exact_input_reaches_nothing settings given result (suc (suc k)) flag ordered exact run =
+    absurd (both_ways (is_rounded (join given)) (join_not_rounded given (exact_means given exact)) (and_parts (nat_le 2 (length (after_passes settings given 1))) (is_rounded (join given)) (run.count.made 1 (omega arith))).1)
+
+-- where two segments or more are left the last pass was exact
+pub last_pass_reaches_nothing : LastPassReachesNothing
+unfolding goes_on reach_of_run
+last_pass_reaches_nothing settings given result zero flag run some = omega arith
+last_pass_reaches_nothing settings given result (suc k) flag run some =
+    let few = nat_le 2 (length (after_passes settings given (suc k))) in
+    let left : few ≡ true = le-leb 2 _ (subst (λ (l : List WholeSegment). 2 ≤ length l) run.arrangement some) in
+    let exact : IsFalse (is_rounded (after_passes settings given k)) = ⊎_elim (λ (none : few ≡ false). absurd (both_ways few none left)) (λ e. e) (and_cases few (is_rounded (after_passes settings given k)) run.count.no_more) in
+    let last : suc k - 1 ≡ k = omega arith in
+    rw last (omega (arith, reach_is_bounded settings given k, reach_of_pass-exact (placing_of_pass settings (suc k)) (after_passes settings given k) exact))

@@ -1,0 +1,265 @@
+-- A run changes no winding at a place that is farther from the given segments than it reaches.
+use Rattle.std.proofs.Common.{◌≡◌, refl, sym, ap, ap₂, subst, ◌∙◌, arith, ℕ, zero, suc, ◌+◌, Bool, true, false, inl, inr, List, [], ◌∷◌}
+use Rattle.std.specs.Prelude.{◌≤◌, Contains, ℤ, pos, ◌+ℤ◌, ◌-ℤ◌, ◌*ℤ◌, ◌≤ℤ◌, ◌<ℤ◌, int_le, int_lt, cond, ◌&&◌, IsTrue}
+use Rattle.std.specs.List.{AllByRecursion}
+use Rattle.std.proofs.lemmas.Int.{ints, by_lt_z}
+use Rattle.std.proofs.lemmas.Bool.{cond_both, and_from}
+use Rattle.std.proofs.lemmas.List.Elements.{All-contains}
+use Rattle.overlay_base.specs.Points.{Point, Pair, point_lt, is_ordered}
+use Rattle.overlay_base.specs.Windings.{Winding, empty, add, inverse, weight}
+use Rattle.overlay_base.specs.Segments.{WholeSegment, pairs, are_ordered}
+use Rattle.overlay_base.specs.Sums.{gathered, weighed}
+use Rattle.overlay_base.proofs.laws.geometry.Points.{Before, UpTo, before, not_before}
+use Rattle.overlay_base.proofs.laws.geometry.Polynomials.{mul-le_left}
+use Rattle.overlay_base.proofs.laws.lists.Lists.{AllByRecursion-weaker, AllByRecursion-both, AllByRecursion-at, AllByRecursion-from_Has, Has, Has-map, by_list_any, list_all-at}
+use Rattle.overlay_base.proofs.laws.lists.Monoids.{gathered-same, gathered-through}
+use Rattle.overlay_base.proofs.laws.joins.Bags.{total_weight-total}
+use Rattle.overlay_base.proofs.laws.joins.Functionals.{whole_numbers_add, total_weight-filter, total_weight-filter_join}
+use Rattle.overlay_base.proofs.laws.counts.Windings.{same_windings}
+use Rattle.overlay_base.proofs.laws.joins.Maps.{are_ordered-map}
+use Rattle.overlay_split.specs.Path.{path, piece, pieces_along, pieces}
+use Rattle.overlay_marks.specs.Marks.{Placing}
+use Rattle.overlay_split.specs.Pass.{pieces_of, cut, pass}
+use Rattle.overlay_marks.specs.PassMarks.{marks_on, is_rounded}
+use Rattle.overlay_split.specs.Run.{placing_of_pass, after_passes}
+use Rattle.overlay_base.specs.Places.{RationalPoint, spans, runs_below, lies_below, winding_below}
+use Rattle.overlay_split.specs.Nearness.{point_along, IsNear, LiesNear, LieNear, reach, reach_of_pass, reach_of_run}
+use Rattle.overlay_split.specs.Places.{IsFar}
+use Rattle.overlay_split.specs.Laws.{IsOdd, loss, PassOnOneSide, JoinKeepsWinding, PassKeepsWinding, RunKeepsWinding, ExactInputKeepsWinding}
+use Rattle.overlay_split.proofs.laws.paths.Cuts.{gathered-cut}
+use Rattle.overlay_split.proofs.laws.paths.Pieces.{weighed-pieces}
+use Rattle.overlay_split.proofs.laws.paths.Runs.{is_map-after_passes}
+use Rattle.overlay_split.proofs.laws.planar.ExactMarks.{In}
+use Rattle.overlay_split.proofs.laws.nearness.Distances.{LiesNear-from_ends, IsNear-start, IsNear-end, IsNear-weaker, IsNear-from_point}
+use Rattle.overlay_split.proofs.laws.nearness.NearMarks.{AreNear, marks_lie_near, exact_marks_lie_on}
+use Rattle.overlay_split.proofs.laws.nearness.Nearness.{Contains-from_Has, pieces_lie_near, run_lies_near, exact_input_reaches_nothing}
+use Rattle.overlay_split.proofs.laws.nearness.OneSide.{one_side}
+
+pub pass_on_one_side : PassOnOneSide
+pass_on_one_side h p s r t far near_r near_t below met = and_from (spans t p) (runs_below t p) met (one_side h p s r t far near_r near_t below met)
+
+-- ---- the winding as sums of numbers
+
+-- 1 for a pair that lies below p
+abbrev below_sign : RationalPoint → Pair → ℤ
+below_sign p s = cond (lies_below s p) (pos 1) (pos 0)
+
+at_subj : (b : Bool) (c : Winding) → (cond b (weight c) empty).subj ≡ cond b (pos 1) (pos 0) *ℤ c.subj
+at_subj true c = omega (arith, ints)
+at_subj false c = omega (arith, ints)
+
+at_clip : (b : Bool) (c : Winding) → (cond b (weight c) empty).clip ≡ cond b (pos 1) (pos 0) *ℤ c.clip
+at_clip true c = omega (arith, ints)
+at_clip false c = omega (arith, ints)
+
+winding_below-subj : (bag : List WholeSegment) (p : RationalPoint) → (winding_below bag p).subj ≡ weighed (below_sign p) (λ c. c.subj) bag
+unfolding winding_below
+winding_below-subj bag p =
+    ap (λ (c : Winding). c.subj) (total_weight-filter (λ s. lies_below s p) bag)
+    ∙ gathered-through add empty ◌+ℤ◌ (pos 0) (λ c. c.subj) refl (λ c d. refl) (λ (s : WholeSegment). cond (lies_below s.pair p) (weight s.count) empty) bag
+    ∙ gathered-same whole_numbers_add _ _ (λ s. at_subj (lies_below s.pair p) s.count) bag
+
+winding_below-clip : (bag : List WholeSegment) (p : RationalPoint) → (winding_below bag p).clip ≡ weighed (below_sign p) (λ c. c.clip) bag
+unfolding winding_below
+winding_below-clip bag p =
+    ap (λ (c : Winding). c.clip) (total_weight-filter (λ s. lies_below s p) bag)
+    ∙ gathered-through add empty ◌+ℤ◌ (pos 0) (λ c. c.clip) refl (λ c d. refl) (λ (s : WholeSegment). cond (lies_below s.pair p) (weight s.count) empty) bag
+    ∙ gathered-same whole_numbers_add _ _ (λ s. at_clip (lies_below s.pair p) s.count) bag
+
+winding_below-mask : (bag : List WholeSegment) (p : RationalPoint) → (winding_below bag p).mask ≡ 0
+unfolding winding_below
+winding_below-mask bag p = ap (λ (c : Winding). c.mask) (total_weight-total _)
+
+pub join_keeps_winding : JoinKeepsWinding
+unfolding winding_below
+join_keeps_winding bag p = total_weight-filter_join (λ s. lies_below s p) bag
+
+-- ---- sums of which each term is known
+
+gathered-each : {X M : Type 0} (op : M → M → M) (unit : M) (f g : X → M) (xs : List X) → AllByRecursion (λ x. f x ≡ g x) xs → gathered op unit f xs ≡ gathered op unit g xs
+gathered-each op unit f g [] h = refl
+gathered-each op unit f g (x ∷ xs) h = ap₂ op h.0 (gathered-each op unit f g xs h.1)
+
+weighed-each : (f g : Pair → ℤ) (part : Winding → ℤ) (segments : List WholeSegment) → AllByRecursion (λ s. f s.pair ≡ g s.pair) segments → weighed f part segments ≡ weighed g part segments
+weighed-each f g part segments h =
+    gathered-each ◌+ℤ◌ (pos 0) (λ s. f s.pair *ℤ part s.count) (λ s. g s.pair *ℤ part s.count) segments
+    (AllByRecursion-weaker (λ s. f s.pair ≡ g s.pair) (λ s. f s.pair *ℤ part s.count ≡ g s.pair *ℤ part s.count) (λ s e. ap (λ (z : ℤ). z *ℤ part s.count) e) segments h)
+
+no_times : (c : ℤ) → pos 0 *ℤ c ≡ pos 0
+no_times c = omega (arith, ints)
+
+weighed-none : (part : Winding → ℤ) (segments : List WholeSegment) → weighed (λ _. pos 0) part segments ≡ pos 0
+weighed-none part [] = refl
+weighed-none part (s ∷ segments) = ap₂ ◌+ℤ◌ (no_times (part s.count)) (weighed-none part segments)
+
+-- ---- pairs from left to right
+
+abbrev GoesRight : Pair → Type 0
+GoesRight s = s.a.x ≤ℤ s.b.x
+
+GoesRight-from_Before : (p q : Point) → Before p q → p.x ≤ℤ q.x
+GoesRight-from_Before p q (inl l) = omega (arith, ints, l)
+GoesRight-from_Before p q (inr e) = omega (arith, ints, e.0)
+
+GoesRight-from_UpTo : (p q : Point) → UpTo p q → p.x ≤ℤ q.x
+GoesRight-from_UpTo p q (inl l) = omega (arith, ints, l)
+GoesRight-from_UpTo p q (inr e) = omega (arith, ints, e.0)
+
+piece_goes_right : (count : Winding) (p q : Point) → GoesRight (piece count p q).pair
+unfolding piece
+piece_goes_right count p q =
+    cond_both (point_lt p q) (record { pair = record { a = p; b = q }; count = count }) (record { pair = record { a = q; b = p }; count = inverse count }) (λ (r : WholeSegment). GoesRight r.pair)
+    (λ e. GoesRight-from_Before p q (before p q e))
+    (λ e. GoesRight-from_UpTo q p (not_before p q e))
+
+pieces_along_go_right : (count : Winding) (points : List Point) → AllByRecursion (λ r. GoesRight r.pair) (pieces_along count points)
+unfolding pieces_along
+pieces_along_go_right count [] = tt
+pieces_along_go_right count (p ∷ []) = tt
+pieces_along_go_right count (p ∷ q ∷ points) = (piece_goes_right count p q, pieces_along_go_right count (q ∷ points))
+
+-- 1 for a point up to the line through p
+abbrev left_of : RationalPoint → Point → ℤ
+left_of p q = cond (int_le (q.x *ℤ pos p.bottom) p.x) (pos 1) (pos 0)
+
+-- a pair from left to right meets the line where it leads from one side to the other
+span_is_loss : (p : RationalPoint) (s : Pair) → GoesRight s → cond (spans s p) (pos 1) (pos 0) ≡ loss (left_of p) s
+span_is_loss p s right = plain (s.a.x *ℤ pos p.bottom) (s.b.x *ℤ pos p.bottom) p.x (scaled s.a.x s.b.x p.bottom right)
+  where
+    scaled : (a b : ℤ) (d : ℕ) → a ≤ℤ b → (a *ℤ pos d) ≤ℤ (b *ℤ pos d)
+    scaled a b d l = let m = mul-le_left (pos d) a b (omega (arith, ints)) l in omega (arith, ints, m)
+
+    lt_true : (u v : ℤ) → u <ℤ v → int_lt u v ≡ true
+    lt_true u v l = grind (arith, ints)
+
+    lt_false : (u v : ℤ) → v ≤ℤ u → int_lt u v ≡ false
+    lt_false u v l = grind (arith, ints)
+
+    le_true : (u v : ℤ) → u ≤ℤ v → int_le u v ≡ true
+    le_true u v l = grind (arith, ints)
+
+    le_false : (u v : ℤ) → v <ℤ u → int_le u v ≡ false
+    le_false u v l = grind (arith, ints)
+
+    up_to : (b : Bool) → cond (b && true) (pos 1) (pos 0) ≡ cond b (pos 1) (pos 0) -ℤ pos 0
+    up_to true = refl
+    up_to false = refl
+
+    plain : (u v x : ℤ) → u ≤ℤ v → cond (int_le u x && int_lt x v) (pos 1) (pos 0) ≡ cond (int_le u x) (pos 1) (pos 0) -ℤ cond (int_le v x) (pos 1) (pos 0)
+    plain u v x l =
+        by_lt_z x v
+        (λ (less : x <ℤ v). rw (lt_true x v less, le_false v x less) (up_to (int_le u x)))
+        (λ (more : v ≤ℤ x). let k : u ≤ℤ x = omega (arith, ints, l, more) in rw (lt_false x v more, le_true v x more, le_true u x k) refl)
+
+-- ---- the pieces of a segment
+
+-- where all that meet the line run below p
+below_is_span : (p : RationalPoint) (s : Pair) → (IsTrue (spans s p) → IsTrue (runs_below s p)) → below_sign p s ≡ cond (spans s p) (pos 1) (pos 0)
+below_is_span p s h = plain (spans s p) (runs_below s p) h
+  where
+    plain : (a b : Bool) → (a ≡ true → b ≡ true) → cond (a && b) (pos 1) (pos 0) ≡ cond a (pos 1) (pos 0)
+    plain true b h = rw (h refl) refl
+    plain false b h = refl
+
+module _ (h : ℕ) (p : RationalPoint) (s : WholeSegment) (marks : List Point) (right : GoesRight s.pair) (near : AreNear h marks s.pair) (far : IsNear h p s.pair → ⊥) where
+  all_near : AllByRecursion (λ r. LiesNear h r.pair s.pair) (s ∷ pieces s marks)
+  all_near = (LiesNear-from_ends h s.pair s.pair (IsNear-start h s.pair) (IsNear-end h s.pair), pieces_lie_near h s marks near)
+
+  all_go_right : AllByRecursion (λ r. GoesRight r.pair) (s ∷ pieces s marks)
+  unfolding pieces
+  all_go_right = (right, pieces_along_go_right s.count (path s.pair marks))
+
+  -- where one of them lies below p, all that meet the line do
+  all_below : (r : WholeSegment) → Has (s ∷ pieces s marks) r → IsTrue (lies_below r.pair p) → AllByRecursion (λ t. below_sign p t.pair ≡ loss (left_of p) t.pair) (s ∷ pieces s marks)
+  all_below r i below =
+      let here = AllByRecursion-at (λ t. LiesNear h t.pair s.pair) (s ∷ pieces s marks) r all_near i in
+      AllByRecursion-weaker (λ t. LiesNear h t.pair s.pair × GoesRight t.pair) (λ t. below_sign p t.pair ≡ loss (left_of p) t.pair)
+      (λ t k. below_is_span p t.pair (λ met. one_side h p s.pair r.pair t.pair far here k.0 below met) ∙ span_is_loss p t.pair k.1) (s ∷ pieces s marks)
+      (AllByRecursion-both (λ t. LiesNear h t.pair s.pair) (λ t. GoesRight t.pair) (s ∷ pieces s marks) all_near all_go_right)
+
+  none_below : ((r : WholeSegment) → Has (s ∷ pieces s marks) r → lies_below r.pair p ≡ false) → AllByRecursion (λ t. below_sign p t.pair ≡ pos 0) (s ∷ pieces s marks)
+  none_below none = AllByRecursion-from_Has (λ t. below_sign p t.pair ≡ pos 0) (s ∷ pieces s marks) (λ t i. ap (λ (b : Bool). cond b (pos 1) (pos 0)) (none t i))
+
+  -- the pieces below p weigh what the segment does there
+  pieces_weigh : (part : Winding → ℤ) → IsOdd part → weighed (below_sign p) part (pieces s marks) ≡ below_sign p s.pair *ℤ part s.count
+  pieces_weigh part odd =
+      by_list_any (λ r. lies_below r.pair p) (s ∷ pieces s marks)
+      (λ r i below.
+      let each = all_below r i below in
+      weighed-each (below_sign p) (loss (left_of p)) part (pieces s marks) each.1
+      ∙ weighed-pieces part odd (left_of p) s marks
+      ∙ ap (λ (z : ℤ). z *ℤ part s.count) (sym each.0))
+      (λ none.
+      let each = none_below none in
+      weighed-each (below_sign p) (λ _. pos 0) part (pieces s marks) each.1
+      ∙ weighed-none part (pieces s marks)
+      ∙ sym (ap (λ (z : ℤ). z *ℤ part s.count) each.0 ∙ no_times (part s.count)))
+
+-- ---- a pass
+
+-- a segment of a list from which p is far
+far_from : (h : ℕ) (p : RationalPoint) (segments : List WholeSegment) → IsFar h p (pairs segments) → (s : WholeSegment) → Has segments s → IsNear h p s.pair → ⊥
+far_from h p segments far s i near = far (s.pair, Contains-from_Has (pairs segments) s.pair (Has-map (λ (t : WholeSegment). t.pair) segments s i), near)
+
+-- the marks on each pair of a list lie near it
+abbrev MarksAreNear : ℕ → Placing → List WholeSegment → Type 0
+MarksAreNear h placing segments = (s : Pair) → In segments s → IsTrue (is_ordered s) → AreNear h (marks_on placing segments s) s
+
+cut_weighs : (h : ℕ) (placing : Placing) (segments : List WholeSegment) (p : RationalPoint) → IsTrue (are_ordered segments) → MarksAreNear h placing segments → IsFar h p (pairs segments) → (part : Winding → ℤ) → IsOdd part →
+    weighed (below_sign p) part (cut placing segments) ≡ weighed (below_sign p) part segments
+unfolding pieces_of
+cut_weighs h placing segments p ordered near far part odd =
+    gathered-cut whole_numbers_add (λ s. below_sign p s.pair *ℤ part s.count) placing segments
+    ∙ gathered-each ◌+ℤ◌ (pos 0) (λ (s : WholeSegment). weighed (below_sign p) part (pieces_of placing segments s)) (λ s. below_sign p s.pair *ℤ part s.count) segments
+    (AllByRecursion-from_Has (λ s. weighed (below_sign p) part (pieces_of placing segments s) ≡ below_sign p s.pair *ℤ part s.count) segments
+    (λ s i.
+    let order = list_all-at (λ (t : WholeSegment). is_ordered t.pair) segments s ordered i in
+    pieces_weigh h p s (marks_on placing segments s.pair) (GoesRight-from_Before s.pair.a s.pair.b (before s.pair.a s.pair.b order))
+    (near s.pair (Has-map (λ (t : WholeSegment). t.pair) segments s i) order) (far_from h p segments far s i) part odd))
+
+cut_winds : (h : ℕ) (placing : Placing) (segments : List WholeSegment) (p : RationalPoint) → IsTrue (are_ordered segments) → MarksAreNear h placing segments → IsFar h p (pairs segments) →
+    winding_below (cut placing segments) p ≡ winding_below segments p
+cut_winds h placing segments p ordered near far =
+    same_windings _ _
+    (winding_below-subj (cut placing segments) p ∙ cut_weighs h placing segments p ordered near far (λ c. c.subj) (λ c. refl) ∙ sym (winding_below-subj segments p))
+    (winding_below-clip (cut placing segments) p ∙ cut_weighs h placing segments p ordered near far (λ c. c.clip) (λ c. refl) ∙ sym (winding_below-clip segments p))
+    (winding_below-mask (cut placing segments) p ∙ sym (winding_below-mask segments p))
+
+pub pass_keeps_winding : PassKeepsWinding
+unfolding pass reach_of_pass
+pass_keeps_winding placing segments p ordered =
+    cond_both (is_rounded segments) (reach placing) 0 (λ (h : ℕ). IsFar h p (pairs segments) → winding_below (pass placing segments) p ≡ winding_below segments p)
+    (λ _ far. join_keeps_winding (cut placing segments) p ∙ cut_winds (reach placing) placing segments p ordered (λ s _ o. marks_lie_near placing segments s o) far)
+    (λ exact far. join_keeps_winding (cut placing segments) p ∙ cut_winds 0 placing segments p ordered (exact_marks_lie_on placing segments exact) far)
+
+-- ---- a run
+
+IsFar-nearer : (h k : ℕ) (p : RationalPoint) (list : List Pair) → h ≤ k → IsFar k p list → IsFar h p list
+IsFar-nearer h k p list l far (s, i, near) = far (s, i, IsNear-weaker h k p s l near)
+
+-- what is far from the given segments is far from those that lie near them
+IsFar-result : (h k : ℕ) (p : RationalPoint) (given result : List Pair) → LieNear h given result → IsFar (h + k) p given → IsFar k p result
+IsFar-result h k p given result near far (r, i, (f, within)) =
+    let first = All-contains (λ t. (s : Pair) × Contains given s × LiesNear h t s) result r near i in
+    let on = first.2 f in
+    far (first.0, first.1, subst (λ (n : ℕ). IsNear n p first.0) (turned h k) (IsNear-from_point k h p (point_along r f) first.0 f.positive within on))
+  where
+    turned : (h k : ℕ) → k + h ≡ h + k
+    turned h k = omega arith
+
+pub run_keeps_winding : RunKeepsWinding
+unfolding after_passes reach_of_run
+run_keeps_winding settings given zero ordered p far = join_keeps_winding given p
+run_keeps_winding settings given (suc k) ordered p far =
+    let before_it = after_passes settings given k in
+    let placing = placing_of_pass settings (suc k) in
+    let so_far = reach_of_run settings given k in
+    let more = reach_of_pass placing before_it in
+    pass_keeps_winding placing before_it p (are_ordered-map before_it (is_map-after_passes settings given k ordered))
+    (IsFar-result so_far more p (pairs given) (pairs before_it) (run_lies_near settings given k ordered) far)
+    ∙ run_keeps_winding settings given k ordered p (IsFar-nearer so_far (so_far + more) p (pairs given) (omega arith) far)
+
+pub exact_input_keeps_winding : ExactInputKeepsWinding
+exact_input_keeps_winding settings given result passes flag p ordered exact run far =
+    ap (λ (segments : List WholeSegment). winding_below segments p) run.arrangement
+    ∙ run_keeps_winding settings given passes ordered p (subst (λ (h : ℕ). IsFar h p (pairs given)) (sym (exact_input_reaches_nothing settings given result passes flag ordered exact run)) far)

@@ -1,0 +1,318 @@
+-- The path through rounded points of a pair runs one way in x and one way in y, so the lengths of its steps sum to that of the pair.
+use Rattle.std.proofs.Common.{◌≡◌, ◌⊎◌, inl, inr, refl, sym, ap, subst, ◌∙◌, arith, ℕ, zero, suc, ◌+◌, ◌<◌, List, [], ◌∷◌, ◌++◌, length, append_assoc}
+use Rattle.std.specs.Prelude.{ℤ, pos, negsuc, ◌+ℤ◌, ◌-ℤ◌, ◌*ℤ◌, ◌≤ℤ◌, ◌<ℤ◌, neg_ℤ, unsigned_abs, int_lt, IsTrue, IsFalse, reverse}
+use Rattle.std.proofs.lemmas.Int.{ints, by_lt_z}
+use Rattle.std.proofs.lemmas.List.{length-append, length-reverse}
+use Rattle.std.proofs.lemmas.List.Sums.{sum_by-cons}
+use Rattle.std.proofs.lemmas.Bool.{cond_both}
+use Rattle.std.specs.List.{AllByRecursion}
+use Rattle.overlay_base.specs.Points.{Point, Pair, point_lt}
+use Rattle.overlay_base.specs.Windings.{Winding}
+use Rattle.overlay_base.specs.Segments.{WholeSegment}
+use Rattle.overlay_split.specs.Path.{next_point, last_point, run_through, path_from, piece, pieces_along}
+use Rattle.overlay_split.specs.Potential.{spread, potential}
+use Rattle.overlay_base.proofs.laws.geometry.Polynomials.{as_D, diffs, D-eq, mul-nonneg}
+use Rattle.overlay_base.proofs.laws.geometry.Points.{Before, same_point}
+use Rattle.overlay_base.proofs.laws.lists.Lists.{Pairwise, Steps, AllByRecursion-weaker, AllByRecursion-both, AllByRecursion-append, AllByRecursion_left, AllByRecursion_right, AllByRecursion-reverse, AllByRecursion_cross, Pairwise_left, Pairwise_right, Pairwise-weaker, Pairwise-both, Pairwise-from_AllByRecursion, Pairwise-reverse, Steps-from_Pairwise}
+use Rattle.overlay_split.proofs.laws.paths.Paths.{all_of, AreColumns, Steps-append, last_point_has, run_through_has}
+use Rattle.overlay_marks.proofs.laws.marks.Marks.{Differ}
+use Rattle.overlay_marks.proofs.laws.crossings.Rounding.{IsRoundedUp-monotone}
+use Rattle.overlay_marks.proofs.laws.marks.Marks.{IsRoundedPoint, rounded_start, rounded_end}
+
+-- ---- directions
+
+abbrev pub Rises : Point → Point → Type 0
+Rises p q = (p.x ≤ℤ q.x) × (p.y ≤ℤ q.y)
+
+abbrev pub Falls : Point → Point → Type 0
+Falls p q = (p.x ≤ℤ q.x) × (q.y ≤ℤ p.y)
+
+-- ---- rounded points are in the order of their places
+
+difference_along : (a d n m w v : ℤ) → (a *ℤ v +ℤ d *ℤ m) *ℤ w ≡ (a *ℤ w +ℤ d *ℤ n) *ℤ v +ℤ d *ℤ (m *ℤ w -ℤ n *ℤ v)
+difference_along a d n m w v = rw (as_D a, as_D d, as_D n, as_D m, as_D w, as_D v) (simp diffs (D-eq _ _ _ _ (omega arith)))
+
+more_by : (x y z : ℤ) → y ≡ x +ℤ z → pos 0 ≤ℤ z → x ≤ℤ y
+more_by x y z e h = omega (arith, ints)
+
+along : (a d n m w v : ℤ) → pos 0 ≤ℤ d → (n *ℤ v) ≤ℤ (m *ℤ w) → ((a *ℤ w +ℤ d *ℤ n) *ℤ v) ≤ℤ ((a *ℤ v +ℤ d *ℤ m) *ℤ w)
+along a d n m w v p h = more_by _ _ (d *ℤ (m *ℤ w -ℤ n *ℤ v)) (difference_along a d n m w v) (mul-nonneg d (m *ℤ w -ℤ n *ℤ v) p (omega (arith, ints)))
+
+against : (a d n m w v : ℤ) → d ≤ℤ pos 0 → (n *ℤ v) ≤ℤ (m *ℤ w) → ((a *ℤ v +ℤ d *ℤ m) *ℤ w) ≤ℤ ((a *ℤ w +ℤ d *ℤ n) *ℤ v)
+against a d n m w v p h =
+    let k = mul-nonneg (neg_ℤ d) (m *ℤ w -ℤ n *ℤ v) (omega (arith, ints)) (omega (arith, ints)) in
+    more_by _ _ (neg_ℤ d *ℤ (m *ℤ w -ℤ n *ℤ v)) (back a d n m w v) k
+  where
+    back : (a d n m w v : ℤ) → (a *ℤ w +ℤ d *ℤ n) *ℤ v ≡ (a *ℤ v +ℤ d *ℤ m) *ℤ w +ℤ neg_ℤ d *ℤ (m *ℤ w -ℤ n *ℤ v)
+    back a d n m w v = rw (as_D a, as_D d, as_D n, as_D m, as_D w, as_D v) (simp diffs (D-eq _ _ _ _ (omega arith)))
+
+-- the place of p on s is not after that of q
+abbrev pub IsNotAfter : (s : Pair) (p q : Point) → IsRoundedPoint s p → IsRoundedPoint s q → Type 0
+IsNotAfter s p q i j = (i.part *ℤ pos j.whole) ≤ℤ (j.part *ℤ pos i.whole)
+
+x_along : (s : Pair) (p q : Point) (i : IsRoundedPoint s p) (j : IsRoundedPoint s q) → s.a.x ≤ℤ s.b.x → IsNotAfter s p q i j → p.x ≤ℤ q.x
+x_along s p q i j h k =
+    IsRoundedUp-monotone _ _ i.whole j.whole p.x q.x i.is_part.some j.is_part.some
+    (along s.a.x (s.b.x -ℤ s.a.x) i.part j.part (pos i.whole) (pos j.whole) (omega (arith, ints, h)) k) i.at_x j.at_x
+
+y_along : (s : Pair) (p q : Point) (i : IsRoundedPoint s p) (j : IsRoundedPoint s q) → s.a.y ≤ℤ s.b.y → IsNotAfter s p q i j → p.y ≤ℤ q.y
+y_along s p q i j h k =
+    IsRoundedUp-monotone _ _ i.whole j.whole p.y q.y i.is_part.some j.is_part.some
+    (along s.a.y (s.b.y -ℤ s.a.y) i.part j.part (pos i.whole) (pos j.whole) (omega (arith, ints, h)) k) i.at_y j.at_y
+
+y_against : (s : Pair) (p q : Point) (i : IsRoundedPoint s p) (j : IsRoundedPoint s q) → s.b.y ≤ℤ s.a.y → IsNotAfter s p q i j → q.y ≤ℤ p.y
+y_against s p q i j h k =
+    IsRoundedUp-monotone _ _ j.whole i.whole q.y p.y j.is_part.some i.is_part.some
+    (against s.a.y (s.b.y -ℤ s.a.y) i.part j.part (pos i.whole) (pos j.whole) (omega (arith, ints, h)) k) j.at_y i.at_y
+
+one_of : (s : Pair) (p q : Point) (i : IsRoundedPoint s p) (j : IsRoundedPoint s q) → IsNotAfter s p q i j ⊎ IsNotAfter s q p j i
+one_of s p q i j = by_lt_z (i.part *ℤ pos j.whole) (j.part *ℤ pos i.whole) (λ (less : (i.part *ℤ pos j.whole) <ℤ (j.part *ℤ pos i.whole)). inl (omega (arith, ints, less))) (λ more. inr more)
+
+start_first : (s : Pair) (p : Point) (i : IsRoundedPoint s p) → IsNotAfter s s.a p (rounded_start s) i
+unfolding rounded_start
+start_first s p i = let l = i.is_part.low in omega (arith, ints, l)
+
+end_last : (s : Pair) (p : Point) (i : IsRoundedPoint s p) → IsNotAfter s p s.b i (rounded_end s)
+unfolding rounded_end
+end_last s p i = let l = i.is_part.high in omega (arith, ints, l)
+
+pub rises_from_start : (s : Pair) (p : Point) → s.a.x ≤ℤ s.b.x → s.a.y ≤ℤ s.b.y → IsRoundedPoint s p → Rises s.a p
+rises_from_start s p h k i = let o = start_first s p i in (x_along s s.a p (rounded_start s) i h o, y_along s s.a p (rounded_start s) i k o)
+
+pub rises_to_end : (s : Pair) (p : Point) → s.a.x ≤ℤ s.b.x → s.a.y ≤ℤ s.b.y → IsRoundedPoint s p → Rises p s.b
+rises_to_end s p h k i = let o = end_last s p i in (x_along s p s.b i (rounded_end s) h o, y_along s p s.b i (rounded_end s) k o)
+
+pub falls_from_start : (s : Pair) (p : Point) → s.a.x ≤ℤ s.b.x → s.b.y ≤ℤ s.a.y → IsRoundedPoint s p → Falls s.a p
+falls_from_start s p h k i = let o = start_first s p i in (x_along s s.a p (rounded_start s) i h o, y_against s s.a p (rounded_start s) i k o)
+
+pub falls_to_end : (s : Pair) (p : Point) → s.a.x ≤ℤ s.b.x → s.b.y ≤ℤ s.a.y → IsRoundedPoint s p → Falls p s.b
+falls_to_end s p h k i = let o = end_last s p i in (x_along s p s.b i (rounded_end s) h o, y_against s p s.b i (rounded_end s) k o)
+
+-- of a pair that rises, rounded points in order rise
+pub rises_in_order : (s : Pair) (p q : Point) → s.a.x ≤ℤ s.b.x → s.a.y ≤ℤ s.b.y → IsRoundedPoint s p → IsRoundedPoint s q → Before p q → Rises p q
+rises_in_order s p q h k i j b = by_place (one_of s p q i j) b
+  where
+    by_place : IsNotAfter s p q i j ⊎ IsNotAfter s q p j i → Before p q → Rises p q
+    by_place (inl o) b = (x_along s p q i j h o, y_along s p q i j k o)
+    by_place (inr o) (inl l) = absurd (let m = x_along s q p j i h o in omega (arith, ints))
+    by_place (inr o) (inr l) = absurd (let m = y_along s q p j i k o in omega (arith, ints))
+
+-- of one that falls, they are lower where further on
+pub falls_in_order : (s : Pair) (p q : Point) → s.a.x ≤ℤ s.b.x → s.b.y ≤ℤ s.a.y → IsRoundedPoint s p → IsRoundedPoint s q → p.x <ℤ q.x → q.y ≤ℤ p.y
+falls_in_order s p q h k i j l = by_place (one_of s p q i j)
+  where
+    by_place : IsNotAfter s p q i j ⊎ IsNotAfter s q p j i → q.y ≤ℤ p.y
+    by_place (inl o) = y_against s p q i j k o
+    by_place (inr o) = absurd (let m = x_along s q p j i h o in omega (arith, ints))
+
+-- ---- the path of a pair that rises
+
+next_point_has : (P : Point → Type 0) (columns : List (List Point)) (b : Point) → AllByRecursion P (all_of columns ++ b ∷ []) → P (next_point columns b)
+unfolding next_point
+next_point_has P [] b h = h.0
+next_point_has P ([] ∷ columns) b h = (AllByRecursion_right P (all_of columns) (b ∷ []) h).0
+next_point_has P ((p ∷ column) ∷ columns) b h = h.0
+
+not_lower : (u v : ℤ) → IsTrue (int_lt u v) → v ≤ℤ u → ⊥
+not_lower u v h k = grind (arith, ints)
+
+not_less : (u v : ℤ) → IsFalse (int_lt u v) → v ≤ℤ u
+not_less u v h = grind (arith, ints)
+
+-- a column that is run upward where the next point is not lower
+run_through_up : (P : List Point → Type 0) (p : Point) (column : List Point) (next : Point) → p.y ≤ℤ next.y → P column → P (run_through p column next)
+unfolding run_through
+run_through_up P p column next h k = cond_both (int_lt next.y p.y) (reverse column) column P (λ e. absurd (not_lower next.y p.y e h)) (λ e. k)
+
+pub path_rises : (columns : List (List Point)) (p b : Point) → AllByRecursion (Rises p) (all_of columns ++ b ∷ []) → Pairwise Rises (all_of columns ++ b ∷ []) → Steps Rises p (path_from p columns b)
+unfolding path_from
+path_rises [] p b h k = (h.0, tt)
+path_rises (column ∷ columns) p b h k =
+    let rest = all_of columns ++ b ∷ [] in
+    let same : (column ++ all_of columns) ++ b ∷ [] ≡ column ++ rest = append_assoc column (all_of columns) (b ∷ []) in
+    let h' = subst (AllByRecursion (Rises p)) same h in
+    let k' = subst (Pairwise Rises) same k in
+    let each = AllByRecursion_left (Rises p) column rest h' in
+    let later = AllByRecursion_right (Rises p) column rest h' in
+    let across = AllByRecursion_cross Rises column rest k' in
+    let next = next_point columns b in
+    let up : p.y ≤ℤ next.y = next_point_has (λ z. p.y ≤ℤ z.y) columns b (AllByRecursion-weaker (Rises p) (λ z. p.y ≤ℤ z.y) (λ z r. r.1) rest later) in
+    Steps-append Rises p (run_through p column next) (path_from (last_point p (run_through p column next)) columns b)
+    (run_through_up (Steps Rises p) p column next up (Steps-from_Pairwise Rises p column each (Pairwise_left Rises column rest k')))
+    (path_rises columns (last_point p (run_through p column next)) b
+    (last_point_has (λ z. AllByRecursion (Rises z) rest) p (run_through p column next) later (run_through_up (AllByRecursion (λ z. AllByRecursion (Rises z) rest)) p column next up across))
+    (Pairwise_right Rises column rest k'))
+
+-- ---- the path of a pair that falls
+
+-- in order, and lower where further on in x
+abbrev pub Descends : Point → Point → Type 0
+Descends p q = Before p q × (p.x <ℤ q.x → q.y ≤ℤ p.y)
+
+down_column : (p q : Point) → Before p q × (p.x ≡ q.x) → Falls q p
+down_column p q (inl l, e) = absurd (omega (arith, ints))
+down_column p q (inr l, e) = (omega (arith, ints), omega (arith, ints, l.1))
+
+pub path_falls : (columns : List (List Point)) (p b : Point) → AreColumns columns → AllByRecursion (Falls p) (all_of columns ++ b ∷ []) → Pairwise Descends (all_of columns) → AllByRecursion (λ z. Falls z b) (all_of columns) → Steps Falls p (path_from p columns b)
+unfolding path_from run_through
+path_falls [] p b c h k l = (h.0, tt)
+path_falls ([] ∷ columns) p b c h k l = absurd c
+path_falls ((q ∷ column) ∷ columns) p b c h k l =
+    let whole = q ∷ column in
+    let others = all_of columns in
+    let rest = others ++ b ∷ [] in
+    let next = next_point columns b in
+    let points = run_through p whole next in
+    let h' = subst (AllByRecursion (Falls p)) (append_assoc whole others (b ∷ [])) h in
+    let each = AllByRecursion_left (Falls p) whole rest h' in
+    let later = AllByRecursion_right (Falls p) whole rest h' in
+    let same_x : AllByRecursion (λ z. q.x ≡ z.x) whole = (refl, c.0) in
+    let across : AllByRecursion (λ z. AllByRecursion (Falls z) rest) whole = column_falls q whole others b same_x c.1 (AllByRecursion_cross Descends whole others k) (AllByRecursion_left (λ z. Falls z b) whole others l) in
+    let turned : Pairwise Falls (reverse whole) = Pairwise-reverse _ Falls down_column whole
+    (Pairwise-both Before (λ x y. x.x ≡ y.x) whole (Pairwise-weaker Descends Before (λ x y d. d.0) whole (Pairwise_left Descends whole others k)) (Pairwise-from_AllByRecursion (λ z. q.x ≡ z.x) (λ x y. x.x ≡ y.x) (λ x y e f. sym e ∙ f) whole same_x)) in
+    Steps-append Falls p points (path_from (last_point p points) columns b)
+    (cond_both (int_lt next.y p.y) (reverse whole) whole (Steps Falls p)
+    (λ e. Steps-from_Pairwise Falls p (reverse whole) (AllByRecursion-reverse (Falls p) whole each) turned)
+    (λ e. Steps-from_Pairwise Falls p whole each (flat p next q whole (not_less next.y p.y e) each same_x (AllByRecursion-weaker (λ z. AllByRecursion (Falls z) rest) (λ z. Falls z next) (λ z f. next_point_has (Falls z) columns b f) whole across))))
+    (path_falls columns (last_point p points) b c.2
+    (last_point_has (λ z. AllByRecursion (Falls z) rest) p points later (run_through_has (AllByRecursion (λ z. AllByRecursion (Falls z) rest)) p whole next across (AllByRecursion-reverse (λ z. AllByRecursion (Falls z) rest) whole across)))
+    (Pairwise_right Descends whole others k) (AllByRecursion_right (λ z. Falls z b) whole others l))
+  where
+    further : (z q r : Point) → q.x ≡ z.x → Descends z r × (q.x <ℤ r.x) → Falls z r
+    further z q r e d = let lower = d.0.1 (omega (arith, ints, d.1)) in (omega (arith, ints, d.1), lower)
+
+    column_falls : (q : Point) (whole others : List Point) (b : Point) → AllByRecursion (λ z. q.x ≡ z.x) whole → AllByRecursion (λ r. q.x <ℤ r.x) others → AllByRecursion (λ z. AllByRecursion (Descends z) others) whole → AllByRecursion (λ z. Falls z b) whole → AllByRecursion (λ z. AllByRecursion (Falls z) (others ++ b ∷ [])) whole
+    column_falls q [] others b e f g h = tt
+    column_falls q (z ∷ whole) others b e f g h =
+        (AllByRecursion-append (Falls z) others (b ∷ []) (AllByRecursion-weaker _ (Falls z) (λ r d. further z q r e.0 d) others (AllByRecursion-both (Descends z) (λ r. q.x <ℤ r.x) others g.0 f)) (h.0, tt), column_falls q whole others b e.1 f g.1 h.1)
+
+    flat : (p next q : Point) (whole : List Point) → p.y ≤ℤ next.y → AllByRecursion (Falls p) whole → AllByRecursion (λ z. q.x ≡ z.x) whole → AllByRecursion (λ z. Falls z next) whole → Pairwise Falls whole
+    flat p next q whole up f e g =
+        Pairwise-from_AllByRecursion (λ z. (q.x ≡ z.x) × (z.y ≡ p.y)) Falls (λ x y a b. (omega (arith, ints, a.0, b.0), omega (arith, ints, a.1, b.1))) whole
+        (AllByRecursion-weaker (λ z. (Falls p z × Falls z next) × (q.x ≡ z.x)) (λ z. (q.x ≡ z.x) × (z.y ≡ p.y)) (λ z a. (a.1, omega (arith, ints, a.0.0.1, a.0.1.1))) whole
+        (AllByRecursion-both (λ z. Falls p z × Falls z next) (λ z. q.x ≡ z.x) whole (AllByRecursion-both (Falls p) (λ z. Falls z next) whole f g) e))
+
+-- ---- lengths of steps
+
+-- |dx| + |dy|
+unfoldable pub reach : Point → Point → ℕ
+reach p q = unsigned_abs (q.x -ℤ p.x) + unsigned_abs (q.y -ℤ p.y)
+
+abs_up : (z : ℤ) → pos 0 ≤ℤ z → pos (unsigned_abs z) ≡ z
+abs_up (pos n) h = refl
+abs_up (negsuc n) h = absurd (omega (arith, ints))
+
+abs_down : (z : ℤ) → z ≤ℤ pos 0 → pos (unsigned_abs z) ≡ neg_ℤ z
+abs_down (pos zero) h = refl
+abs_down (pos (suc n)) h = absurd (omega (arith, ints))
+abs_down (negsuc n) h = refl
+
+abs_zero : (z : ℤ) → unsigned_abs z ≡ 0 → z ≡ pos 0
+abs_zero (pos n) h = ap pos h
+abs_zero (negsuc n) h = absurd (omega arith)
+
+abs_back : (u v : ℤ) → unsigned_abs (u -ℤ v) ≡ unsigned_abs (v -ℤ u)
+abs_back u v = by_lt_z u v (λ (l : u <ℤ v). let e = abs_down (u -ℤ v) (omega (arith, ints, l)) in let f = abs_up (v -ℤ u) (omega (arith, ints, l)) in omega (arith, ints, e, f))
+    (λ (l : v ≤ℤ u). let e = abs_up (u -ℤ v) (omega (arith, ints, l)) in let f = abs_down (v -ℤ u) (omega (arith, ints, l)) in omega (arith, ints, e, f))
+
+-- a direction: steps in it can be joined, and their lengths then add up
+pub record IsDirection (R : Point → Point → Type 0) : Type 0 where
+  pub itself : (p : Point) → R p p
+  pub on : (p q r : Point) → R p q → R q r → R p r
+  pub adds : (p q r : Point) → R p q → R q r → reach p q + reach q r ≡ reach p r
+
+ups : (u v w : ℤ) → u ≤ℤ v → v ≤ℤ w → unsigned_abs (v -ℤ u) + unsigned_abs (w -ℤ v) ≡ unsigned_abs (w -ℤ u)
+ups u v w h k =
+    let e = abs_up (v -ℤ u) (omega (arith, ints, h)) in
+    let f = abs_up (w -ℤ v) (omega (arith, ints, k)) in
+    let g = abs_up (w -ℤ u) (omega (arith, ints, h, k)) in
+    omega (arith, ints, e, f, g)
+
+downs : (u v w : ℤ) → v ≤ℤ u → w ≤ℤ v → unsigned_abs (v -ℤ u) + unsigned_abs (w -ℤ v) ≡ unsigned_abs (w -ℤ u)
+downs u v w h k =
+    let e = abs_down (v -ℤ u) (omega (arith, ints, h)) in
+    let f = abs_down (w -ℤ v) (omega (arith, ints, k)) in
+    let g = abs_down (w -ℤ u) (omega (arith, ints, h, k)) in
+    omega (arith, ints, e, f, g)
+
+pub Rises-is_direction : IsDirection Rises
+unfolding reach
+Rises-is_direction = record {
+  itself = λ p. (omega (arith, ints), omega (arith, ints));
+  on = λ p q r h k. (omega (arith, ints, h.0, k.0), omega (arith, ints, h.1, k.1));
+  adds = λ p q r h k. let e = ups p.x q.x r.x h.0 k.0 in let f = ups p.y q.y r.y h.1 k.1 in omega (arith, e, f);
+}
+
+pub Falls-is_direction : IsDirection Falls
+unfolding reach
+Falls-is_direction = record {
+  itself = λ p. (omega (arith, ints), omega (arith, ints));
+  on = λ p q r h k. (omega (arith, ints, h.0, k.0), omega (arith, ints, h.1, k.1));
+  adds = λ p q r h k. let e = ups p.x q.x r.x h.0 k.0 in let f = downs p.y q.y r.y h.1 k.1 in omega (arith, e, f);
+}
+
+reach_some : (p q : Point) → Differ p q → 0 < reach p q
+unfolding reach
+reach_some p q d = not_nil (unsigned_abs (q.x -ℤ p.x)) (unsigned_abs (q.y -ℤ p.y))
+    (λ e f. d (same_point p q (let g = abs_zero (q.x -ℤ p.x) e in omega (arith, ints, g)) (let g = abs_zero (q.y -ℤ p.y) f in omega (arith, ints, g))))
+  where
+    not_nil : (m n : ℕ) → (m ≡ 0 → n ≡ 0 → ⊥) → 0 < m + n
+    not_nil zero zero f = absurd (f refl refl)
+    not_nil zero (suc n) f = omega arith
+    not_nil (suc m) n f = omega arith
+
+pub spread_is : (s : Pair) → Differ s.a s.b → spread s + 1 ≡ reach s.a s.b
+unfolding spread reach
+spread_is s d = let h = reach_some s.a s.b d in omega (arith, h)
+
+spread_back : (p q : Point) → spread (record { a = q; b = p }) ≡ spread (record { a = p; b = q })
+unfolding spread
+spread_back p q = let e = abs_back p.x q.x in let f = abs_back p.y q.y in rw (e, f) refl
+
+spread_of_piece : (count : Winding) (p q : Point) → Differ p q → spread (piece count p q).pair + 1 ≡ reach p q
+unfolding piece
+spread_of_piece count p q d =
+    cond_both (point_lt p q) _ _ (λ (s : WholeSegment). spread s.pair + 1 ≡ reach p q) (λ e. spread_is (record { a = p; b = q }) d)
+    (λ e. ap (λ (n : ℕ). n + 1) (spread_back p q) ∙ spread_is (record { a = p; b = q }) d)
+
+steps_last : (R : Point → Point → Type 0) → IsDirection R → (p : Point) (points : List Point) → Steps R p points → R p (last_point p points)
+unfolding last_point
+steps_last R is p [] h = is.itself p
+steps_last R is p (q ∷ points) h = is.on p q (last_point q points) h.0 (steps_last R is q points h.1)
+
+reach_nil : (p : Point) → reach p p ≡ 0
+unfolding reach
+reach_nil p = let e = abs_up (p.x -ℤ p.x) (omega (arith, ints)) in let f = abs_up (p.y -ℤ p.y) (omega (arith, ints)) in omega (arith, ints, e, f)
+
+-- the spreads of the pieces and their number, along a path in one direction
+pub potential-pieces_along : (R : Point → Point → Type 0) → IsDirection R → (count : Winding) (p : Point) (points : List Point) → Steps R p points → Steps Differ p points → potential (pieces_along count (p ∷ points)) + length points ≡ reach p (last_point p points)
+unfolding potential pieces_along last_point
+potential-pieces_along R is count p [] h d = sym (reach_nil p)
+potential-pieces_along R is count p (q ∷ points) h d =
+    let e = sum_by-cons (λ (s : WholeSegment). spread s.pair) (piece count p q) (pieces_along count (q ∷ points)) in
+    let f = potential-pieces_along R is count q points h.1 d.1 in
+    let g = spread_of_piece count p q d.0 in
+    let k = is.adds p q (last_point q points) h.0 (steps_last R is q points h.1) in
+    joined _ _ _ _ _ _ _ e f g k
+  where
+    joined : (all first others n u v w : ℕ) → all ≡ first + others → others + n ≡ v → first + 1 ≡ u → u + v ≡ w → all + suc n ≡ w
+    joined all first others n u v w e f g k = omega arith
+
+-- ---- the path has a point for each mark, and the end
+
+length-run_through : (p : Point) (column : List Point) (next : Point) → length (run_through p column next) ≡ length column
+length-run_through p column next = run_through_has (λ (ps : List Point). length ps ≡ length column) p column next refl (length-reverse column)
+
+pub length-path_from : (columns : List (List Point)) (p b : Point) → length (path_from p columns b) ≡ length (all_of columns) + 1
+unfolding path_from
+length-path_from [] p b = refl
+length-path_from (column ∷ columns) p b =
+    let points = run_through p column (next_point columns b) in
+    let e = length-append points (path_from (last_point p points) columns b) in
+    let f = length-run_through p column (next_point columns b) in
+    let g = length-path_from columns (last_point p points) b in
+    let h = length-append column (all_of columns) in
+    joined _ _ _ _ _ _ e f g h
+  where
+    joined : (all here on c o w : ℕ) → all ≡ here + on → here ≡ c → on ≡ o + 1 → w ≡ c + o → all ≡ w + 1
+    joined all here on c o w e f g h = omega arith

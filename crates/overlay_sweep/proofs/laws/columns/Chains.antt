@@ -1,0 +1,147 @@
+-- A chain given in any order: each member stands on all members below it. The law of parity for such chains.
+use Rattle.std.proofs.Common.{◌≡◌, ap, refl, sym, ◌∙◌, arith, inl, inr}
+use Rattle.std.specs.Prelude.{ℤ, pos, ◌+ℤ◌, Bool, true, false, cond, ◌&&◌, List, [], ◌∷◌}
+use Rattle.std.specs.List.{list_all}
+use Rattle.std.proofs.lemmas.Int.{ints}
+use Rattle.std.proofs.lemmas.Bool.{and_parts, and_from, cases_Bool, false_from_ne_true, both_ways}
+use Rattle.overlay_base.proofs.laws.lists.Lists.{list_all-implied, list_all-and}
+use Rattle.overlay_base.specs.Rules.{differ}
+use Rattle.overlay_sweep.proofs.laws.columns.WeightSums.{when, sum_of}
+use Rattle.overlay_sweep.proofs.laws.columns.Parity.{odd_of, odd_of-same, differ_same, differ_exchange, differ-trans}
+
+pub sum_of-same_on : {X : Type 0} (f g : X → ℤ) (member : X → Bool) (xs : List X) → list_all member xs ≡ true → ((x : X) → member x ≡ true → f x ≡ g x) → sum_of f xs ≡ sum_of g xs
+sum_of-same_on f g member [] a h = refl
+sum_of-same_on f g member (x ∷ xs) a h =
+    let ms = and_parts (member x) (list_all member xs) a in
+    omega (arith, ints, h x ms.0, sum_of-same_on f g member xs ms.1 h)
+
+pub sum_of-nothing : {X : Type 0} (f : X → ℤ) (member : X → Bool) (xs : List X) → list_all member xs ≡ true → ((x : X) → member x ≡ true → f x ≡ pos 0) → sum_of f xs ≡ pos 0
+sum_of-nothing f member [] a h = refl
+sum_of-nothing f member (x ∷ xs) a h =
+    let ms = and_parts (member x) (list_all member xs) a in
+    omega (arith, ints, h x ms.0, sum_of-nothing f member xs ms.1 h)
+
+and_exchange : (a b c : Bool) → (a && (b && c)) ≡ (b && (a && c))
+and_exchange true b c = refl
+and_exchange false true c = refl
+and_exchange false false c = refl
+
+module _ {X : Type 0} (below : X → X → Bool) where
+  -- exactly one of two comes first
+  abbrev pub are_compared : X → X → Bool
+  are_compared x y = differ (below x y) (below y x)
+
+  abbrev pub is_pairwise : List X → Bool
+  is_pairwise [] = true
+  is_pairwise (x ∷ xs) = list_all (λ y. are_compared x y) xs && is_pairwise xs
+
+  abbrev is_sorted : List X → Bool
+  is_sorted [] = true
+  is_sorted (x ∷ xs) = list_all (λ y. below x y) xs && is_sorted xs
+
+  abbrev inserted : X → List X → List X
+  inserted x [] = x ∷ []
+  inserted x (y ∷ ys) = cond (below x y) (x ∷ y ∷ ys) (y ∷ inserted x ys)
+
+  abbrev sorted : List X → List X
+  sorted [] = []
+  sorted (x ∷ xs) = inserted x (sorted xs)
+
+  -- ---- the order of a list changes neither sums nor parities
+
+  sum_of-inserted : (g : X → ℤ) (x : X) (ys : List X) → sum_of g (inserted x ys) ≡ g x +ℤ sum_of g ys
+  sum_of-inserted g x [] = refl
+  sum_of-inserted g x (y ∷ ys) = elim (below x y) as (λ b. sum_of g (cond b (x ∷ y ∷ ys) (y ∷ inserted x ys)) ≡ g x +ℤ (g y +ℤ sum_of g ys)) [ true ↦ refl | false ↦ omega (arith, ints, sum_of-inserted g x ys) ]
+
+  sum_of-sorted : (g : X → ℤ) (xs : List X) → sum_of g (sorted xs) ≡ sum_of g xs
+  sum_of-sorted g [] = refl
+  sum_of-sorted g (x ∷ xs) = sum_of-inserted g x (sorted xs) ∙ ap (λ (z : ℤ). g x +ℤ z) (sum_of-sorted g xs)
+
+  odd_of-inserted : (t : X → Bool) (x : X) (ys : List X) → odd_of t (inserted x ys) ≡ differ (t x) (odd_of t ys)
+  odd_of-inserted t x [] = refl
+  odd_of-inserted t x (y ∷ ys) = elim (below x y) as (λ b. odd_of t (cond b (x ∷ y ∷ ys) (y ∷ inserted x ys)) ≡ differ (t x) (differ (t y) (odd_of t ys))) [ true ↦ refl | false ↦ ap (differ (t y)) (odd_of-inserted t x ys) ∙ differ_exchange (t y) (t x) (odd_of t ys) ]
+
+  odd_of-sorted : (t : X → Bool) (xs : List X) → odd_of t (sorted xs) ≡ odd_of t xs
+  odd_of-sorted t [] = refl
+  odd_of-sorted t (x ∷ xs) = odd_of-inserted t x (sorted xs) ∙ ap (differ (t x)) (odd_of-sorted t xs)
+
+  list_all-inserted : (t : X → Bool) (x : X) (ys : List X) → list_all t (inserted x ys) ≡ (t x && list_all t ys)
+  list_all-inserted t x [] = refl
+  list_all-inserted t x (y ∷ ys) = elim (below x y) as (λ b. list_all t (cond b (x ∷ y ∷ ys) (y ∷ inserted x ys)) ≡ (t x && (t y && list_all t ys))) [ true ↦ refl | false ↦ ap (λ (c : Bool). t y && c) (list_all-inserted t x ys) ∙ and_exchange (t y) (t x) (list_all t ys) ]
+
+  list_all-sorted : (t : X → Bool) (xs : List X) → list_all t (sorted xs) ≡ list_all t xs
+  list_all-sorted t [] = refl
+  list_all-sorted t (x ∷ xs) = list_all-inserted t x (sorted xs) ∙ ap (λ (c : Bool). t x && c) (list_all-sorted t xs)
+
+  -- ---- sorting sorts, where members are pairwise compared and their order is transitive
+
+  other_first : (x y : X) → are_compared x y ≡ true → below x y ≡ false → below y x ≡ true
+  other_first x y c e = rw e at c
+
+  module _ (member : X → Bool) (trans : (x y z : X) → member x ≡ true → member y ≡ true → member z ≡ true → below x y ≡ true → below y z ≡ true → below x z ≡ true) where
+    is_sorted-inserted : (x : X) (ys : List X) → member x ≡ true → list_all member ys ≡ true → list_all (λ y. are_compared x y) ys ≡ true → is_sorted ys ≡ true → is_sorted (inserted x ys) ≡ true
+    is_sorted-inserted x [] mx my c o = refl
+    is_sorted-inserted x (y ∷ ys) mx my c o =
+        let ms = and_parts (member y) (list_all member ys) my in
+        let cs = and_parts (are_compared x y) (list_all (λ z. are_compared x z) ys) c in
+        let os = and_parts (list_all (λ z. below y z) ys) (is_sorted ys) o in
+        elim (cases_Bool (below x y)) [
+          | inl e ↦ rw e (and_from _ _ (and_from _ _ e (list_all-implied (λ z. below y z) (λ z. below x z) member ys ms.1 os.0 (λ z mz h. trans x y z mx ms.0 mz e h))) o)
+          | inr e ↦ rw e (and_from _ _ (list_all-inserted (λ z. below y z) x ys ∙ and_from _ _ (other_first x y cs.0 e) os.0) (is_sorted-inserted x ys mx ms.1 cs.1 os.1))
+        ]
+
+    is_sorted-sorted : (xs : List X) → list_all member xs ≡ true → is_pairwise xs ≡ true → is_sorted (sorted xs) ≡ true
+    is_sorted-sorted [] m c = refl
+    is_sorted-sorted (x ∷ xs) m c =
+        let ms = and_parts (member x) (list_all member xs) m in
+        let cs = and_parts (list_all (λ y. are_compared x y) xs) (is_pairwise xs) c in
+        is_sorted-inserted x (sorted xs) ms.0 (list_all-sorted member xs ∙ ms.1) (list_all-sorted (λ y. are_compared x y) xs ∙ cs.0) (is_sorted-sorted xs ms.1 cs.1)
+
+    -- ---- the law of parity
+
+    module _ (irreflexive : (x : X) → member x ≡ true → below x x ≡ false) where
+      asymmetric : (x y : X) → member x ≡ true → member y ≡ true → below x y ≡ true → below y x ≡ false
+      asymmetric x y mx my h = false_from_ne_true (below y x) (λ back. both_ways (below x x) (irreflexive x mx) (trans x y x mx my mx h back))
+
+      -- what the members below one add up to
+      abbrev pub sum_below : (X → ℤ) → X → List X → ℤ
+      sum_below g x xs = sum_of (λ t. when (below t x) (g t)) xs
+
+      sum_below-least : (g : X → ℤ) (y : X) (ys : List X) → member y ≡ true → list_all member ys ≡ true → list_all (λ z. below y z) ys ≡ true → sum_below g y (y ∷ ys) ≡ pos 0
+      sum_below-least g y ys my ms o =
+          let rest : sum_of (λ t. when (below t y) (g t)) ys ≡ pos 0 = sum_of-nothing (λ t. when (below t y) (g t)) (λ z. member z && below y z) ys (list_all-and member (λ z. below y z) ys ms o) (λ z h. let hs = and_parts (member z) (below y z) h in rw (asymmetric y z my hs.0 hs.1) refl) in
+          rw (irreflexive y my, rest) refl
+
+      module _ (F : ℤ → ℤ → Bool) (u v : X → ℤ) where
+        -- whether F tells the two sides of x apart, where the members of the chain stand on b and c
+        abbrev pub tells_sides : ℤ → ℤ → List X → X → Bool
+        tells_sides b c xs x = differ (F (b +ℤ sum_below u x xs) (c +ℤ sum_below v x xs)) (F ((b +ℤ sum_below u x xs) +ℤ u x) ((c +ℤ sum_below v x xs) +ℤ v x))
+
+        same_at : (b c b' c' d e d' e' : ℤ) → b ≡ b' → c ≡ c' → d ≡ d' → e ≡ e' → differ (F b c) (F d e) ≡ differ (F b' c') (F d' e')
+        same_at b c b' c' d e d' e' p q r s = rw (p, q, r, s) refl
+
+        tells_sides-least : (b c : ℤ) (y : X) (ys : List X) → sum_below u y (y ∷ ys) ≡ pos 0 → sum_below v y (y ∷ ys) ≡ pos 0 → tells_sides b c (y ∷ ys) y ≡ differ (F b c) (F (b +ℤ u y) (c +ℤ v y))
+        tells_sides-least b c y ys hu hv = same_at _ _ _ _ _ _ _ _ (omega (arith, ints, hu)) (omega (arith, ints, hv)) (omega (arith, ints, hu)) (omega (arith, ints, hv))
+
+        tells_sides-above : (b c : ℤ) (y x : X) (ys : List X) → below y x ≡ true → tells_sides b c (y ∷ ys) x ≡ tells_sides (b +ℤ u y) (c +ℤ v y) ys x
+        tells_sides-above b c y x ys h =
+            let hu : sum_below u x (y ∷ ys) ≡ u y +ℤ sum_below u x ys = rw h refl in
+            let hv : sum_below v x (y ∷ ys) ≡ v y +ℤ sum_below v x ys = rw h refl in
+            same_at _ _ _ _ _ _ _ _ (omega (arith, ints, hu)) (omega (arith, ints, hv)) (omega (arith, ints, hu)) (omega (arith, ints, hv))
+
+        in_order : (b c : ℤ) (ys : List X) → list_all member ys ≡ true → is_sorted ys ≡ true → odd_of (tells_sides b c ys) ys ≡ differ (F b c) (F (b +ℤ sum_of u ys) (c +ℤ sum_of v ys))
+        in_order b c [] m o = sym (differ_same (F b c)) ∙ same_at _ _ _ _ _ _ _ _ refl refl (omega (arith, ints)) (omega (arith, ints))
+        in_order b c (y ∷ ys) m o =
+            let ms = and_parts (member y) (list_all member ys) m in
+            let os = and_parts (list_all (λ z. below y z) ys) (is_sorted ys) o in
+            let first = tells_sides-least b c y ys (sum_below-least u y ys ms.0 ms.1 os.0) (sum_below-least v y ys ms.0 ms.1 os.0) in
+            let rest = odd_of-same (tells_sides b c (y ∷ ys)) (tells_sides (b +ℤ u y) (c +ℤ v y) ys) (λ z. below y z) ys os.0 (λ x h. tells_sides-above b c y x ys h) in
+            let more = in_order (b +ℤ u y) (c +ℤ v y) ys ms.1 os.1 in
+            rw (first, rest, more, differ-trans (F b c) (F (b +ℤ u y) (c +ℤ v y)) _) (same_at _ _ _ _ _ _ _ _ refl refl (omega (arith, ints)) (omega (arith, ints)))
+
+        -- Of the members of a chain an odd number have sides that F tells apart exactly when F tells the chain's two ends apart.
+        pub odd_along_chain : (b c : ℤ) (xs : List X) → list_all member xs ≡ true → is_pairwise xs ≡ true → odd_of (tells_sides b c xs) xs ≡ differ (F b c) (F (b +ℤ sum_of u xs) (c +ℤ sum_of v xs))
+        odd_along_chain b c xs m o =
+            let ms = list_all-sorted member xs ∙ m in
+            let same = odd_of-same (tells_sides b c xs) (tells_sides b c (sorted xs)) member (sorted xs) ms (λ x _. rw (sum_of-sorted (λ t. when (below t x) (u t)) xs, sum_of-sorted (λ t. when (below t x) (v t)) xs) refl) in
+            sym (odd_of-sorted (tells_sides b c xs) xs) ∙ same ∙ in_order b c (sorted xs) ms (is_sorted-sorted xs m o) ∙ rw (sum_of-sorted u xs, sum_of-sorted v xs) refl

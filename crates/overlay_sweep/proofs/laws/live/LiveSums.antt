@@ -1,0 +1,124 @@
+-- Lists of live sums that hold the same from some x on.
+use Rattle.std.proofs.Common.{◌≡◌, ap, refl, sym, subst, ◌∙◌, arith, inl, inr}
+use Rattle.std.specs.Prelude.{ℕ, zero, suc, ◌<◌, true, ℤ, ◌≤ℤ◌, ◌<ℤ◌, int_le, int_lt, ◌&&◌, ◌⊎◌, Bool, false, not, if◌then◌else◌, List, [], ◌∷◌, ◌++◌, length, map, filter, All}
+use Rattle.std.specs.List.{Contains}
+use Rattle.std.specs.List.Retain.{IsFiltered}
+use Rattle.std.proofs.lemmas.Fn.{filter_same}
+use Rattle.std.proofs.Common.{get_or}
+use Rattle.std.proofs.lemmas.Int.{ints}
+use Rattle.std.proofs.lemmas.Bool.{and_parts, both_ways}
+use Rattle.std.proofs.lemmas.List.{map-append}
+use Rattle.std.proofs.lemmas.List.Elements.{Contains-push, Contains-push_cases, Contains-append_left, All-contains}
+use Rattle.overlay_base.specs.Points.{Pair, is_vertical}
+use Rattle.overlay_base.specs.Segments.{WholeSegment}
+use Rattle.overlay_sweep.specs.Live.{HoldSameFrom}
+use Rattle.overlay_sweep.proofs.laws.columns.Members.{All-from_Has}
+use Rattle.overlay_sweep.proofs.laws.columns.ColumnLines.{le-tested, lt-tested}
+use Rattle.overlay_base.proofs.laws.lists.Lists.{Has}
+
+-- ---- members by index and by recursion
+
+in_at : {X : Type 0} (xs : List X) (x : X) (k : ℕ) → k < length xs → get_or xs k x ≡ x → Has xs x
+in_at [] x k h e = absurd (omega (arith, h))
+in_at (y ∷ ys) x zero h e = inl e
+in_at (y ∷ ys) x (suc k) h e = inr (in_at ys x k (omega (arith, h)) e)
+
+pub Has-from_Contains : {X : Type 0} (xs : List X) (x : X) → Contains xs x → Has xs x
+Has-from_Contains xs x c = in_at xs x c.0 c.1 c.2
+
+pub Contains-from_Has : {X : Type 0} (xs : List X) (x : X) → Has xs x → Contains xs x
+Contains-from_Has [] x m = absurd m
+Contains-from_Has (y ∷ ys) x (inl e) = (0, omega arith, e)
+Contains-from_Has (y ∷ ys) x (inr m) = let c = Contains-from_Has ys x m in (suc c.0, omega (arith, c.1), c.2)
+
+pub Contains-first : {X : Type 0} (x : X) (xs : List X) → Contains (x ∷ xs) x
+Contains-first x xs = (0, omega arith, refl)
+
+pub Contains-later : {X : Type 0} (y : X) (xs : List X) (x : X) → Contains xs x → Contains (y ∷ xs) x
+Contains-later y xs x c = (suc c.0, omega (arith, c.1), c.2)
+
+pub Contains-cases : {X P : Type 0} (y : X) (xs : List X) (x : X) → Contains (y ∷ xs) x → (x ≡ y → P) → (Contains xs x → P) → P
+Contains-cases y xs x c f g = elim (Has-from_Contains (y ∷ xs) x c) [ inl e ↦ f (sym e) | inr m ↦ g (Contains-from_Has xs x m) ]
+
+-- ---- the same sums
+
+pub HoldSameFrom-same : (x : ℤ) (xs : List WholeSegment) → HoldSameFrom x xs xs
+HoldSameFrom-same x xs s y h l = (λ m. m, λ m. m)
+
+pub HoldSameFrom-trans : (x : ℤ) (xs ys zs : List WholeSegment) → HoldSameFrom x xs ys → HoldSameFrom x ys zs → HoldSameFrom x xs zs
+HoldSameFrom-trans x xs ys zs f g s y h l = (λ m. (g s y h l).0 ((f s y h l).0 m), λ m. (f s y h l).1 ((g s y h l).1 m))
+
+le_trans : (x y z : ℤ) → x ≤ℤ y → y ≤ℤ z → x ≤ℤ z
+le_trans x y z h k = omega (arith, ints)
+
+pub HoldSameFrom-later : (x z : ℤ) (xs ys : List WholeSegment) → x ≤ℤ z → HoldSameFrom x xs ys → HoldSameFrom z xs ys
+HoldSameFrom-later x z xs ys k f s y h l = f s y (le_trans x z y k h) l
+
+pub HoldSameFrom-cons : (x : ℤ) (e : WholeSegment) (xs ys : List WholeSegment) → HoldSameFrom x xs ys → HoldSameFrom x (e ∷ xs) (e ∷ ys)
+HoldSameFrom-cons x e xs ys f s y h l = (
+  λ m. Contains-cases e xs s m (λ same. subst (λ v. Contains (e ∷ ys) v) (sym same) (Contains-first e ys)) (λ n. Contains-later e ys s ((f s y h l).0 n)),
+  λ m. Contains-cases e ys s m (λ same. subst (λ v. Contains (e ∷ xs) v) (sym same) (Contains-first e xs)) (λ n. Contains-later e xs s ((f s y h l).1 n)),
+)
+
+-- one more sum at the end is one more in front
+pub HoldSameFrom-push : (x : ℤ) (e : WholeSegment) (xs : List WholeSegment) → HoldSameFrom x (xs ++ e ∷ []) (e ∷ xs)
+HoldSameFrom-push x e xs s y h l = (
+  λ m. elim (Contains-push_cases xs e s m) [
+    | inl n ↦ Contains-later e xs s n
+    | inr same ↦ subst (λ v. Contains (e ∷ xs) v) same (Contains-first e xs)
+  ],
+  λ m. Contains-cases e xs s m (λ same. subst (λ v. Contains (xs ++ e ∷ []) v) (sym same) (Contains-push xs e)) (λ n. Contains-append_left xs (e ∷ []) s n),
+)
+
+live_is_wide : (y a b : ℤ) → int_le a y && int_lt y b ≡ true → a <ℤ b
+live_is_wide y a b h = let parts = and_parts (int_le a y) (int_lt y b) h in let p = le-tested a y parts.0 in let q = lt-tested y b parts.1 in omega (arith, ints)
+
+-- a vertical one is never live
+pub HoldSameFrom-vertical : (x : ℤ) (e : WholeSegment) (xs : List WholeSegment) → e.pair.a.x ≡ e.pair.b.x → HoldSameFrom x xs (e ∷ xs)
+HoldSameFrom-vertical x e xs same s y h l = (
+  λ m. Contains-later e xs s m,
+  λ m. Contains-cases e xs s m
+      (λ it. let wide = live_is_wide y s.pair.a.x s.pair.b.x l in let a : s.pair.a.x ≡ e.pair.a.x = ap (λ (v : WholeSegment). v.pair.a.x) it in let b : s.pair.b.x ≡ e.pair.b.x = ap (λ (v : WholeSegment). v.pair.b.x) it in absurd (omega (arith, ints)))
+      (λ n. n),
+)
+
+-- ---- a list that grows by one
+
+pushed_list : {X : Type 0} (xs ys zs : List X) (b : Bool) → b ≡ true → ys ≡ (if b then zs else xs) → ys ≡ zs
+pushed_list xs ys zs true t e = e
+pushed_list xs ys zs false t e = absurd (both_ways false refl t)
+
+pub HoldSameFrom-pushed : {X : Type 0} (f : X → WholeSegment) (x : ℤ) (entry : X) (xs ys : List X) (b : Bool) → b ≡ true → ys ≡ (if b then xs ++ entry ∷ [] else xs) → HoldSameFrom x (map f ys) (f entry ∷ map f xs)
+HoldSameFrom-pushed f x entry xs ys b t e =
+    subst (λ v. HoldSameFrom x v (f entry ∷ map f xs)) (sym (ap (map f) (pushed_list xs ys (xs ++ entry ∷ []) b t e) ∙ map-append f xs (entry ∷ []))) (HoldSameFrom-push x (f entry) (map f xs))
+
+begin_at : (x y : ℤ) (xs : List WholeSegment) → x ≤ℤ y → All (λ s. s.pair.a.x ≤ℤ x) xs → (s : WholeSegment) → Has xs s → s.pair.a.x ≤ℤ y
+begin_at x y xs h a s m = le_trans s.pair.a.x x y (All-contains (λ s. s.pair.a.x ≤ℤ x) xs s a (Contains-from_Has xs s m)) h
+
+-- what begins by x begins by each later y
+pub begins_later : (x y : ℤ) (xs : List WholeSegment) → x ≤ℤ y → All (λ s. s.pair.a.x ≤ℤ x) xs → All (λ s. s.pair.a.x ≤ℤ y) xs
+begins_later x y xs h a = All-from_Has (λ s. s.pair.a.x ≤ℤ y) xs (begin_at x y xs h a)
+
+pub Has-append : {X : Type 0} (xs ys : List X) (x : X) → Has (xs ++ ys) x → Has xs x ⊎ Has ys x
+Has-append [] ys x m = inr m
+Has-append (z ∷ zs) ys x (inl e) = inl (inl e)
+Has-append (z ∷ zs) ys x (inr m) = elim (Has-append zs ys x m) [ inl n ↦ inl (inr n) | inr n ↦ inr n ]
+
+pub begins_pushed : {X : Type 0} (f : X → WholeSegment) (x y : ℤ) (entry : X) (xs ys : List X) (b : Bool) → b ≡ true → ys ≡ (if b then xs ++ entry ∷ [] else xs) → (f entry).pair.a.x ≡ x → x ≤ℤ y → All (λ s. s.pair.a.x ≤ℤ x) (map f xs) → All (λ s. s.pair.a.x ≤ℤ y) (map f ys)
+begins_pushed f x y entry xs ys b t e start h a =
+    rw (ap (map f) (pushed_list xs ys (xs ++ entry ∷ []) b t e) ∙ map-append f xs (entry ∷ []))
+    (All-from_Has (λ s. s.pair.a.x ≤ℤ y) (map f xs ++ f entry ∷ []) (λ s m. elim (Has-append (map f xs) (f entry ∷ []) s m) [
+      | inl n ↦ begin_at x y (map f xs) h a s n
+      | inr n ↦ elim n [ inl same ↦ (let it : s.pair.a.x ≡ (f entry).pair.a.x = ap (λ (v : WholeSegment). v.pair.a.x) (sym same) in omega (arith, ints)) | inr none ↦ absurd none ]
+    ]))
+
+-- the same with another name for each part
+pub HoldSameFrom-renamed : (x z : ℤ) (xs ys old : List WholeSegment) (e f : WholeSegment) → z ≡ x → xs ≡ ys → f ≡ e → HoldSameFrom z ys (f ∷ old) → HoldSameFrom x xs (e ∷ old)
+HoldSameFrom-renamed x z xs ys old e f p q r h = subst (λ u. HoldSameFrom u xs (e ∷ old)) p (subst (λ v. HoldSameFrom z v (e ∷ old)) (sym q) (subst (λ w. HoldSameFrom z ys (w ∷ old)) r h))
+
+pub vertical_same : (s : Pair) → not (is_vertical s) ≡ false → s.a.x ≡ s.b.x
+vertical_same s h = grind (arith, ints)
+
+-- what `retain` keeps, where its test changes nothing
+pub kept_by : {X F : Type 0} (R : F → X → Bool → F → Type 0) (test : X → Bool) (f : F) (xs ys : List X) → IsFiltered R f xs ys → ((x : X) (b : Bool) (g : F) → R f x b g → (b ≡ test x) × (g ≡ f)) → ys ≡ filter test xs
+kept_by R test f xs ys kept h = filter_same R test f h xs ys kept

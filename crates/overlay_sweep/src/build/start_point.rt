@@ -1,0 +1,56 @@
+// The segments that start at one point, in order of their angles. Upstream: part of `build::sweep`.
+ghost use Rattle.std.specs.Prelude.{◌≡◌, ◌≢◌, ℕ, ◌<◌, ◌≤◌, All, OnOk, length, slice_index_or};
+ghost use Rattle.overlay_base.specs.Points.{Pair};
+ghost use Rattle.overlay_base.specs.Segments.{pairs};
+ghost use Rattle.overlay_base.specs.InRange.{IsPairInRange};
+ghost use Rattle.overlay_base.specs.SegmentOf.{segments_of, x_segment_of};
+ghost use Rattle.overlay_sweep.specs.steps.WayOf.{ways_of, ways_between, by_angle};
+
+use crate::build::way::Way;
+use overlay_base::num::OverlayInt;
+use overlay_base::segm::segment::Segment;
+use overlay_base::segm::winding::WindingCount;
+use std::alloc::AllocError;
+
+/// The index after the last of the segments that start where the segment at an index does.
+pub fn start_point_end<C: WindingCount, I: OverlayInt, D: Copy>(
+    segments: &[Segment<C, I, D>],
+    index: usize,
+) -> usize
+    requires { index < length segments.now }
+    ensures after { index < result }
+    ensures within { result ≤ length segments.now }
+    ensures same { (k : ℕ) (d : Pair) → index ≤ k → k < result
+        → (slice_index_or (pairs (segments_of segments.now)) k d).a
+        ≡ (slice_index_or (pairs (segments_of segments.now)) index d).a }
+    ensures other { (d : Pair) → result < length segments.now
+        → (slice_index_or (pairs (segments_of segments.now)) result d).a
+        ≢ (slice_index_or (pairs (segments_of segments.now)) index d).a }
+{
+    let start = segments[index].x_segment().a;
+    let mut next = index + 1;
+    while next < segments.len() && segments[next].x_segment().a == start {
+        next += 1;
+    }
+    next
+}
+
+/// Collects the ways of the segments from an index up to another, in order of their angles.
+pub fn collect_ways<C: WindingCount, I: OverlayInt, D: Copy>(
+    segments: &[Segment<C, I, D>],
+    index: usize,
+    next: usize,
+    ways: &mut Vec<Way<I>>,
+) -> Result<(), AllocError>
+    requires order { index ≤ next }
+    requires within { next ≤ length segments.now }
+    requires in_range { All (λ s. IsPairInRange I.whole I.MIN_COORD I.MAX_COORD (x_segment_of s)) segments.now }
+    ensures { OnOk result (ways_of ways.new.items ≡ by_angle (ways_between (segments_of segments.now) index next)) }
+{
+    ways.clear();
+    for at in index..next {
+        ways.push(Way::new(at, &segments[at]))?;
+    }
+    ways.sort_by(|way, other| way.cmp_by_angle(other))?;
+    Ok(())
+}
