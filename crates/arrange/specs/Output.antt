@@ -1,11 +1,11 @@
 -- The text of the output: one item a line.
-use Rattle.std.specs.Prelude.{◌≡◌, ◌⊎◌, ℕ, ℤ, IsTrue, IsFalse, Bool, codes, if◌then◌else◌, List, [], ◌∷◌, ◌++◌, flat_map, Option, Some, None}
+use Rattle.std.specs.Prelude.{◌≡◌, ◌⊎◌, ℕ, ℤ, IsTrue, IsFalse, Bool, codes, if◌then◌else◌, List, [], ◌∷◌, ◌++◌, flat_map, ◌==◌, length, Option, Some, None}
 use Rattle.std.specs.Fmt.{decimal, signed_decimal}
 use Rattle.overlay_base.specs.Points.{Point, Pair, pair_lt}
 use Rattle.overlay_base.specs.Segments.{WholeSegment}
 use Rattle.overlay_marks.specs.Marks.{snapping}
 use Rattle.overlay_marks.specs.CrossAnswer.{pure, target_end, other_end, overlay, CrossAnswer, cross_answer, ends_mask}
-use Rattle.overlay_build.specs.Graph.{Link, Node, Graph, is_bridge, is_valid_graph, has_even_nodes}
+use Rattle.overlay_build.specs.Graph.{Link, Node, Graph, is_valid_graph, has_even_nodes}
 use Rattle.overlay_build.specs.Walks.{AreClosedWalks}
 
 -- two numbers, each after a space
@@ -69,9 +69,13 @@ numbers_text numbers = flat_map (λ n. codes " " ++ decimal n) numbers
 unfoldable pub link_line : Link → List ℕ
 link_line l = codes "link" ++ pair_text l.pair.a.x l.pair.a.y ++ pair_text l.pair.b.x l.pair.b.y ++ numbers_text (l.fill ∷ l.a_node ∷ l.b_node ∷ []) ++ codes "\n"
 
+-- a node of two links is a bridge, any other a cross
+abbrev pub kind_text : List ℕ → List ℕ
+kind_text links = if length links == 2 then codes " bridge" else codes " cross"
+
 -- `node X Y bridge I J` or `node X Y cross I ..`
 unfoldable pub node_line : Node → List ℕ
-node_line n = codes "node" ++ pair_text n.point.x n.point.y ++ (if is_bridge n then codes " bridge" else codes " cross") ++ numbers_text n.links ++ codes "\n"
+node_line n = codes "node" ++ pair_text n.point.x n.point.y ++ kind_text n.links ++ numbers_text n.links ++ codes "\n"
 
 -- the links, then the nodes, then `valid true` or `valid false`
 unfoldable pub graph_text : Graph → List ℕ

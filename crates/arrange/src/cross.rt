@@ -1,9 +1,9 @@
 // `arrange cross`: where two segments meet.
-ghost use Rattle.std.specs.Prelude.{◌≡◌, ◌≢◌, ◌⊎◌, ◌↔◌, ◌++◌, Some, length, unsigned_abs, IsTrue, IfOk, OnOk, IfErr, IsErrOf, string_bytes};
+ghost use Rattle.std.specs.Prelude.{◌≡◌, ◌≢◌, ◌⊎◌, ◌↔◌, ◌++◌, Some, length, unsigned_abs, IfOk, OnOk, IfErr, IsErrOf, string_bytes};
 ghost use Rattle.overlay_base.specs.declared.segm.fault.Fault.TheVariants.{Memory};
 ghost use Rattle.overlay_base.specs.InRange.{IsPairInRange};
 ghost use Rattle.overlay_base.specs.PairOf.{pair_of};
-ghost use Rattle.overlay_base.specs.Planar.{is_splittable};
+ghost use Rattle.overlay_base.specs.ArrangedOf.{IsSplittable};
 ghost use Rattle.overlay_base.specs.SegmentOf.{segments_of};
 ghost use Rattle.overlay_marks.specs.CrossAnswer.{cross_answer};
 ghost use Rattle.overlay_marks.specs.Marks.{snapping};
@@ -26,7 +26,7 @@ pub fn cross<I: OverlayInt>(
     segments: &[Segment<ShapeCountBoolean, I, ()>],
     radius: SquaredRadius,
 ) -> Result<String, Stop>
-    requires { IsTrue (is_splittable (I.whole I.MIN_COORD) (I.whole I.MAX_COORD) (segments_of segments.now)) }
+    requires { IsSplittable segments.now }
     ensures text { IfOk result (λ text. Some (string_bytes text)
         ≡ cross_text (unsigned_abs radius.squared) (segments_of segments.now)) }
     ensures two { IsErrOf result Stop.NotTwoSegments ↔ (length segments.now ≢ 2) }

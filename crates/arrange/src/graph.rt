@@ -2,7 +2,7 @@
 ghost use Rattle.std.specs.Prelude.{◌≡◌, ◌⊎◌, true, Ok, Err, IsTrue, IsFalse, OnOk, IfOk, IfErr, string_bytes};
 ghost use Rattle.overlay_base.specs.declared.segm.fault.Fault.TheVariants.{Memory, CountOutOfRange};
 ghost use Rattle.overlay_base.specs.SegmentOf.{segments_of};
-ghost use Rattle.overlay_base.specs.Planar.{is_splittable};
+ghost use Rattle.overlay_base.specs.ArrangedOf.{IsSplittable};
 ghost use Rattle.overlay_split.specs.Run.{IsPassCount, LeavesRange, after_passes};
 ghost use Rattle.overlay_split.specs.SettingsOf.{passes_of, settings_of};
 ghost use Rattle.overlay_sweep.specs.ChainWindings.{tops_leave_range};
@@ -42,7 +42,7 @@ pub fn graph<I: OverlayInt>(
     segments: Lines<I>,
     settings: Settings,
 ) -> Result<String, Stop>
-    requires { IsTrue (is_splittable (I.whole I.MIN_COORD) (I.whole I.MAX_COORD) (segments_of segments.items)) }
+    requires { IsSplittable segments.items }
     ensures text { IfOk result (λ text. IsCommandAnswer I.BITS Command.Graph settings (segments_of segments.items)
         (Ok (string_bytes text))) }
     ensures stop { IfErr result (λ stop. (stop ≡ Stop.Refused Memory)
@@ -62,7 +62,7 @@ pub fn build_graph<'a, I: OverlayInt>(
     mut segments: Lines<I>,
     settings: Settings,
 ) -> Result<OverlayGraph<'a, I, ()>, Fault>
-    requires { IsTrue (is_splittable (I.whole I.MIN_COORD) (I.whole I.MAX_COORD) (segments_of segments.items)) }
+    requires { IsSplittable segments.items }
     ensures graph { IfOk result (λ graph. IsGraphOf I.BITS settings (segments_of segments.items)
         (graph_with I.whole (links_of graph))) }
     ensures out_of_range { IfErr result (λ fault. fault ≡ CountOutOfRange
@@ -92,7 +92,7 @@ fn build_all<'a, I: OverlayInt>(
     solver: &Solver,
     fill_rule: FillRule,
 ) -> Result<OverlayGraph<'a, I, ()>, Fault>
-    requires { IsTrue (is_splittable (I.whole I.MIN_COORD) (I.whole I.MAX_COORD) (segments_of segments.old.items)) }
+    requires { IsSplittable segments.old.items }
     ensures count { OnOk result (IsPassCount (settings_of I.BITS solver.now splitter.old)
         (segments_of segments.old.items) (passes_of splitter.new)) }
     ensures arrangement { OnOk result (segments_of segments.new.items

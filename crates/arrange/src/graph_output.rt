@@ -5,7 +5,7 @@ ghost use Rattle.overlay_build.specs.Graph.{Node};
 ghost use Rattle.overlay_build.specs.GraphOf.{link_of, graph_with};
 ghost use Rattle.overlay_build.specs.NodeIndexes.{indexes_of, is_canonical_node};
 ghost use Rattle.overlay_build.specs.OverlayGraphOf.{nodes_of, links_of};
-ghost use Rattle.arrange.specs.Output.{numbers_text, link_line, node_line, graph_text};
+ghost use Rattle.arrange.specs.Output.{numbers_text, link_line, kind_text, node_line, graph_text};
 
 use crate::line_end::{ROOM, append, put_last_word, put_number, put_word};
 use crate::output::put_point;
@@ -85,18 +85,25 @@ fn write_node<I: OverlayInt>(
     ensures { OnOk result (string_bytes text.new ≡ string_bytes text.old
         ++ node_line (record { point = point_of I.whole point; links = indexes_of node.now })) }
 {
-    let kind = match node {
-        OverlayNode::Bridge(_) => " bridge",
-        OverlayNode::Cross(_) => " cross",
-    };
     let mut room = [0; ROOM];
-    let end = put_last_word(&mut room, kind);
+    let end = put_last_word(&mut room, kind(node));
     let end = put_point(&mut room, end, point);
     let begin = put_word(&mut room, end, "node");
     append(text, &room, begin)?;
     write_numbers(text, node.indices())?;
     text.push_str("\n")?;
     Ok(())
+}
+
+/// The word for a node of this kind.
+fn kind(node: &OverlayNode) -> &'static str
+    requires { is_canonical_node node.now ≡ true }
+    ensures { result.now ≡ kind_text (indexes_of node.now) }
+{
+    match node {
+        OverlayNode::Bridge(_) => " bridge",
+        OverlayNode::Cross(_) => " cross",
+    }
 }
 
 /// Writes each number after a space.

@@ -3,7 +3,7 @@ ghost use Rattle.std.specs.Prelude.{◌≡◌, ◌⊎◌, ◌++◌, IsTrue, IsFa
 ghost use Rattle.overlay_base.specs.declared.segm.fault.Fault.TheVariants.{Memory, CountOutOfRange};
 ghost use Rattle.overlay_base.specs.Join.{join, has_equal_pairs, join_leaves_range};
 ghost use Rattle.overlay_base.specs.SegmentOf.{segments_of};
-ghost use Rattle.overlay_base.specs.Planar.{is_splittable};
+ghost use Rattle.overlay_base.specs.ArrangedOf.{IsSplittable};
 ghost use Rattle.arrange.specs.Output.{segment_lines, flag_line};
 
 use crate::output::write_segments;
@@ -21,7 +21,7 @@ pub fn join<I: OverlayInt>(
     alloc: Global,
     mut segments: Vec<Segment<ShapeCountBoolean, I, ()>>,
 ) -> Result<String, Stop>
-    requires { IsTrue (is_splittable (I.whole I.MIN_COORD) (I.whole I.MAX_COORD) (segments_of segments.items)) }
+    requires { IsSplittable segments.items }
     ensures text { IfOk result (λ text. string_bytes text ≡ segment_lines (join (segments_of segments.items))
         ++ flag_line (has_equal_pairs (segments_of segments.items))) }
     ensures in_range { OnOk result (IsFalse (join_leaves_range (segments_of segments.items))) }

@@ -6,7 +6,7 @@ ghost use Rattle.overlay_base.specs.declared.segm.fault.Fault.TheVariants.{Memor
 ghost use Rattle.overlay_base.specs.Coordinates.{is_coordinate, is_point_in_range};
 ghost use Rattle.overlay_base.specs.PointOf.{point_of};
 ghost use Rattle.overlay_base.specs.SegmentOf.{segment_of, segments_of};
-ghost use Rattle.overlay_base.specs.Planar.{is_splittable};
+ghost use Rattle.overlay_base.specs.ArrangedOf.{IsSplittable};
 ghost use Rattle.arrange.specs.Lines.{step_fault, step_segment};
 ghost use Rattle.std.specs.Option.{option_map_or};
 ghost use Rattle.overlay_base.specs.Points.{Point};
@@ -99,8 +99,7 @@ pub fn read_lines<I: OverlayInt>(
 ) -> Result<Vec<Segment<ShapeCountBoolean, I, ()>>, Stop>
     ensures segments { IfOk result (λ segments. AskInTurnFor (I.whole I.MIN_COORD) (I.whole I.MAX_COORD)
         (lines_of bytes.now) (segments_of segments.items)) }
-    ensures splittable { IfOk result (λ segments. IsTrue
-        (is_splittable (I.whole I.MIN_COORD) (I.whole I.MAX_COORD) (segments_of segments.items))) }
+    ensures splittable { IfOk result (λ segments. IsSplittable segments.items) }
     ensures faulty { IfErr result (λ stop. (stop ≡ Stop.Refused Memory)
         ⊎ IsFirstFault (I.whole I.MIN_COORD) (I.whole I.MAX_COORD) (lines_of bytes.now) stop) }
 {
@@ -125,8 +124,7 @@ fn read_line<I: OverlayInt>(
     ensures blank { IfOk result (λ found. IfNone found (words_of_line line.now ≡ [])) }
     ensures segment { IfOk result (λ found. IfSome found (λ segment.
         AsksFor (I.whole I.MIN_COORD) (I.whole I.MAX_COORD) line.now (segment_of segment))) }
-    ensures splittable { IfOk result (λ found. IfSome found (λ segment.
-        IsTrue (is_splittable (I.whole I.MIN_COORD) (I.whole I.MAX_COORD) (segment_of segment ∷ [])))) }
+    ensures splittable { IfOk result (λ found. IfSome found (λ segment. IsSplittable (segment ∷ []))) }
     ensures faulty { IfErr result (λ fault. IsFaulty (I.whole I.MIN_COORD) (I.whole I.MAX_COORD) line.now fault) }
 {
     let mut words = Words {

@@ -1,8 +1,8 @@
 // `arrange split`: the segments are split where they meet.
-ghost use Rattle.std.specs.Prelude.{◌≡◌, ◌⊎◌, Ok, Err, IsTrue, IfOk, IfErr, string_bytes};
+ghost use Rattle.std.specs.Prelude.{◌≡◌, ◌⊎◌, Ok, Err, IfOk, IfErr, string_bytes};
 ghost use Rattle.overlay_base.specs.declared.segm.fault.Fault.TheVariants.{Memory};
 ghost use Rattle.overlay_base.specs.SegmentOf.{segments_of};
-ghost use Rattle.overlay_base.specs.Planar.{is_splittable};
+ghost use Rattle.overlay_base.specs.ArrangedOf.{IsSplittable};
 ghost use Rattle.arrange.specs.Run.{IsCommandAnswer};
 ghost use Rattle.arrange.specs.declared.settings.Command.{Command};
 
@@ -23,7 +23,7 @@ pub fn split<I: OverlayInt>(
     mut segments: Vec<Segment<ShapeCountBoolean, I, ()>>,
     settings: Settings,
 ) -> Result<String, Stop>
-    requires { IsTrue (is_splittable (I.whole I.MIN_COORD) (I.whole I.MAX_COORD) (segments_of segments.items)) }
+    requires { IsSplittable segments.items }
     ensures text { IfOk result (λ text. IsCommandAnswer I.BITS Command.Split settings (segments_of segments.items)
         (Ok (string_bytes text))) }
     ensures stop { IfErr result (λ stop. (stop ≡ Stop.Refused Memory)

@@ -1,8 +1,8 @@
 // `arrange walks`: closed walks through the graph of the arrangement.
-ghost use Rattle.std.specs.Prelude.{◌≡◌, ◌⊎◌, ◌++◌, Ok, Err, IsTrue, OnOk, IfOk, IfErr, string_bytes, flat_map};
+ghost use Rattle.std.specs.Prelude.{◌≡◌, ◌⊎◌, ◌++◌, Ok, Err, OnOk, IfOk, IfErr, string_bytes, flat_map};
 ghost use Rattle.overlay_base.specs.declared.segm.fault.Fault.TheVariants.{Memory};
 ghost use Rattle.overlay_base.specs.SegmentOf.{segments_of};
-ghost use Rattle.overlay_base.specs.Planar.{is_splittable};
+ghost use Rattle.overlay_base.specs.ArrangedOf.{IsSplittable};
 ghost use Rattle.overlay_build.specs.GraphOf.{graph_with};
 ghost use Rattle.overlay_build.specs.OverlayGraphOf.{links_of};
 ghost use Rattle.arrange.specs.Output.{walk_line, IsWalksText};
@@ -28,7 +28,7 @@ pub fn walks<I: OverlayInt>(
     segments: Lines<I>,
     settings: Settings,
 ) -> Result<String, Stop>
-    requires { IsTrue (is_splittable (I.whole I.MIN_COORD) (I.whole I.MAX_COORD) (segments_of segments.items)) }
+    requires { IsSplittable segments.items }
     ensures text { IfOk result (λ text. IsCommandAnswer I.BITS Command.Walks settings (segments_of segments.items)
         (Ok (string_bytes text))) }
     ensures stop { IfErr result (λ stop. (stop ≡ Stop.Refused Memory)
