@@ -1,14 +1,10 @@
-use Rattle.std.proofs.Common.{◌≡◌, Bool, ◌&&◌, sym, ◌∙◌, ap, ap₂, Ordering, is_eq}
-use Rattle.std.specs.Prelude.{ℤ}
-use Rattle.std.specs.Ordering.{int_cmp, eq_by_cmp}
+use Rattle.std.proofs.Common.{◌≡◌, ◌&&◌, sym, ◌∙◌, ap₂, is_eq}
+use Rattle.std.specs.Ordering.{int_cmp}
 use Rattle.overlay_base.specs.PairOf.{pair_of}
 use Rattle.overlay_base.specs.Points.{Pair, pair_eq}
+use Rattle.overlay_base.proofs.laws.geometry.Comparisons.{whole_eq}
 use Rattle.overlay_base.proofs.laws.geometry.Points.{is_eq-then, point_eq-parts}
 use Rattle.overlay_base.proofs.segm.merge.has_same_ends.Goals as goal
-
--- `==` of coordinates is that of their whole numbers
-whole_eq : {I : Type 0} (eq : I → I → Bool) (cmp : I → I → Ordering) (whole : I → ℤ) → ((a b : I) → eq a b ≡ eq_by_cmp cmp a b) → ((a b : I) → cmp a b ≡ int_cmp (whole a) (whole b)) → (a b : I) → eq a b ≡ is_eq (int_cmp (whole a) (whole b))
-whole_eq eq cmp whole e o a b = e a b ∙ ap is_eq (o a b)
 
 pair_eq-parts : (s t : Pair) → pair_eq s t ≡ ((is_eq (int_cmp s.a.x t.a.x) && is_eq (int_cmp s.a.y t.a.y)) && (is_eq (int_cmp s.b.x t.b.x) && is_eq (int_cmp s.b.y t.b.y)))
 pair_eq-parts s t = is_eq-then _ _ ∙ ap₂ (λ a b. a && b) (point_eq-parts s.a t.a) (point_eq-parts s.b t.b)

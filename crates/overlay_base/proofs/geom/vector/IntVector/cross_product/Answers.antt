@@ -15,3 +15,6 @@ returns-clause-value c =
 
 pub returns-clause-bound : goal.returns-clause-bound
 returns-clause-bound c = omega (arith, ints, c.product.ensures.bound, c.product-2.ensures.bound)
+
+pub overflow_sub-result : goal.overflow_sub-result
+overflow_sub-result c = omega (arith, ints, c.product.ensures.bound, c.product-2.ensures.bound)

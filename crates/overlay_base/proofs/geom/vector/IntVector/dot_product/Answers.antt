@@ -12,3 +12,6 @@ returns c =
     let first = simp to_z-of_z at c.product.ensures.value in
     let second = simp to_z-of_z at c.product-2.ensures.value in
     rw (← first, ← second) (omega (arith, ints))
+
+pub overflow_add-result : goal.overflow_add-result
+overflow_add-result c = omega (arith, ints, c.product.ensures.bound, c.product-2.ensures.bound)
