@@ -1,5 +1,6 @@
 -- The finder over an interval tree.
 pub mod IntervalTrees
+pub mod HeightTests
 pub mod TreeCuts
 pub mod TreeBuilds
 pub mod TreeRenewals

@@ -1,10 +1,22 @@
-use Rattle.std.proofs.Common.{Bool, ◌||◌, ◌≡◌, ◌+◌, ◌*◌, ◌-◌, ◌^◌, sym, ap, ◌∙◌, ◌++◌, ◌∷◌, ◌<◌, length, append-nil, arith}
+use Rattle.std.proofs.Common.{Bool, ℕ, List, ◌||◌, ◌≡◌, ◌+◌, ◌*◌, ◌-◌, ◌/◌, ◌^◌, refl, sym, ap, ◌∙◌, [], ◌++◌, ◌∷◌, ◌<◌, ◌≤◌, length, length-append, append-nil, arith}
+use Rattle.std.proofs.lemmas.Result.{IfOk-from_err}
 use Rattle.overlay_marks.specs.steps.NodeOf.{entry_of, greatest_of, nodes_of, query_of}
 use Rattle.overlay_marks.specs.steps.IntervalTree.{left_by, entries, greatest_height, is_reached}
 use Rattle.overlay_marks.proofs.laws.tree.IntervalTrees.{none_reached, none_dropped, none_found, none_counted, none_is_dropped}
 use Rattle.overlay_marks.proofs.laws.tree.TreeCuts.{IsCut-from, mapped, summed_again, IsDone, IsDone-above, IsDone-both, found_all, looked_all, dropped_all, still_greatest, none_more}
 use Rattle.overlay_marks.proofs.split.interval_tree.+look_up.Goals as goal
 use Rattle.overlay_marks.proofs.split.interval_tree.+look_up.Goals.{look_into-then-not-is_above+in_ok-has_dropped-2+in_ok-has_dropped-3, look_into-else-not-is_above}
+
+half_within : (n : ℕ) → n / 2 ≤ n
+half_within n = omega arith
+
+-- a tree cut at its middle, with nothing from there on
+no_nodes : {X : Type 0} (nodes l rest : List X) → nodes ≡ l ++ rest → length l ≡ length nodes / 2 → length rest ≡ 0 → nodes ≡ []
+no_nodes [] l rest e mid none = refl
+no_nodes (x ∷ nodes) l rest e mid none =
+    let long = length-append l rest in
+    let whole = ap length e in
+    absurd (omega arith)
 
 pub look_into-look_up-requires : goal.look_into-look_up-requires
 look_into-look_up-requires g t c κs within =
@@ -122,3 +134,109 @@ look_up-returns-else-reaches-clause-dropped g t c =
     let es = entries (nodes_of whole c.args.nodes.now) in
     let off = none_reached q es (ap (λ h. is_reached h q.low) (sym c.greatest_in.ensures) ∙ sym c.reaches.ensures ∙ c.if-reaches.false) in
     sym (none_is_dropped q es off)
+
+pub look_into-split_at_mut-left-requires : goal.look_into-split_at_mut-left-requires
+look_into-split_at_mut-left-requires g t c = half_within _
+
+pub look_into-returns-in_err-has_dropped-clause-entries : goal.look_into-returns-in_err-has_dropped-clause-entries
+look_into-returns-in_err-has_dropped-clause-entries g t c = IfOk-from_err c.from_residual.result _ c.from_residual.ensures.0
+
+pub look_into-returns-in_err-has_dropped-clause-summed : goal.look_into-returns-in_err-has_dropped-clause-summed
+look_into-returns-in_err-has_dropped-clause-summed g t c = IfOk-from_err c.from_residual.result _ c.from_residual.ensures.0
+
+pub look_into-returns-in_err-has_dropped-clause-found : goal.look_into-returns-in_err-has_dropped-clause-found
+look_into-returns-in_err-has_dropped-clause-found g t c = IfOk-from_err c.from_residual.result _ c.from_residual.ensures.0
+
+pub look_into-returns-in_err-has_dropped-clause-looked : goal.look_into-returns-in_err-has_dropped-clause-looked
+look_into-returns-in_err-has_dropped-clause-looked g t c = IfOk-from_err c.from_residual.result _ c.from_residual.ensures.0
+
+pub look_into-returns-in_err-has_dropped-clause-dropped : goal.look_into-returns-in_err-has_dropped-clause-dropped
+look_into-returns-in_err-has_dropped-clause-dropped g t c = IfOk-from_err c.from_residual.result _ c.from_residual.ensures.0
+
+pub look_into-returns-in_err-has_dropped-2-clause-entries : goal.look_into-returns-in_err-has_dropped-2-clause-entries
+look_into-returns-in_err-has_dropped-2-clause-entries g t c = IfOk-from_err c.from_residual-in_err-has_dropped-2.result _ c.from_residual-in_err-has_dropped-2.ensures.0
+
+pub look_into-returns-in_err-has_dropped-2-clause-summed : goal.look_into-returns-in_err-has_dropped-2-clause-summed
+look_into-returns-in_err-has_dropped-2-clause-summed g t c = IfOk-from_err c.from_residual-in_err-has_dropped-2.result _ c.from_residual-in_err-has_dropped-2.ensures.0
+
+pub look_into-returns-in_err-has_dropped-2-clause-found : goal.look_into-returns-in_err-has_dropped-2-clause-found
+look_into-returns-in_err-has_dropped-2-clause-found g t c = IfOk-from_err c.from_residual-in_err-has_dropped-2.result _ c.from_residual-in_err-has_dropped-2.ensures.0
+
+pub look_into-returns-in_err-has_dropped-2-clause-looked : goal.look_into-returns-in_err-has_dropped-2-clause-looked
+look_into-returns-in_err-has_dropped-2-clause-looked g t c = IfOk-from_err c.from_residual-in_err-has_dropped-2.result _ c.from_residual-in_err-has_dropped-2.ensures.0
+
+pub look_into-returns-in_err-has_dropped-2-clause-dropped : goal.look_into-returns-in_err-has_dropped-2-clause-dropped
+look_into-returns-in_err-has_dropped-2-clause-dropped g t c = IfOk-from_err c.from_residual-in_err-has_dropped-2.result _ c.from_residual-in_err-has_dropped-2.ensures.0
+
+pub look_into-returns-in_err-has_dropped-3-clause-entries : goal.look_into-returns-in_err-has_dropped-3-clause-entries
+look_into-returns-in_err-has_dropped-3-clause-entries g t c = IfOk-from_err c.from_residual-in_err-has_dropped-3.result _ c.from_residual-in_err-has_dropped-3.ensures.0
+
+pub look_into-returns-in_err-has_dropped-3-clause-summed : goal.look_into-returns-in_err-has_dropped-3-clause-summed
+look_into-returns-in_err-has_dropped-3-clause-summed g t c = IfOk-from_err c.from_residual-in_err-has_dropped-3.result _ c.from_residual-in_err-has_dropped-3.ensures.0
+
+pub look_into-returns-in_err-has_dropped-3-clause-found : goal.look_into-returns-in_err-has_dropped-3-clause-found
+look_into-returns-in_err-has_dropped-3-clause-found g t c = IfOk-from_err c.from_residual-in_err-has_dropped-3.result _ c.from_residual-in_err-has_dropped-3.ensures.0
+
+pub look_into-returns-in_err-has_dropped-3-clause-looked : goal.look_into-returns-in_err-has_dropped-3-clause-looked
+look_into-returns-in_err-has_dropped-3-clause-looked g t c = IfOk-from_err c.from_residual-in_err-has_dropped-3.result _ c.from_residual-in_err-has_dropped-3.ensures.0
+
+pub look_into-returns-in_err-has_dropped-3-clause-dropped : goal.look_into-returns-in_err-has_dropped-3-clause-dropped
+look_into-returns-in_err-has_dropped-3-clause-dropped g t c = IfOk-from_err c.from_residual-in_err-has_dropped-3.result _ c.from_residual-in_err-has_dropped-3.ensures.0
+
+pub look_into-is_above-requires : goal.look_into-is_above-requires
+look_into-is_above-requires g t c κs = λ within. within
+
+pub look_into-update_greatest-requires-clause-left : goal.look_into-update_greatest-requires-clause-left
+look_into-update_greatest-requires-clause-left g t c = c.in_ok-has_dropped.ensures.summed
+
+pub look_up-greatest_in-requires : goal.look_up-greatest_in-requires
+look_up-greatest_in-requires g t c = c.requires.summed
+
+pub look_up-reaches-requires : goal.look_up-reaches-requires
+look_up-reaches-requires g t c κs = λ within. within
+
+pub look_up-look_into-requires : goal.look_up-look_into-requires
+look_up-look_into-requires g t c κs within =
+    let less : 2 * length c.args.nodes.now < t = omega (arith, c.decreases) in
+    (less, (within, (c.requires.rising, c.requires.summed)))
+
+pub look_up-returns-then-reaches-clause-entries : goal.look_up-returns-then-reaches-clause-entries
+look_up-returns-then-reaches-clause-entries g t c = c.look_into.ensures.entries
+
+pub look_up-returns-then-reaches-clause-summed : goal.look_up-returns-then-reaches-clause-summed
+look_up-returns-then-reaches-clause-summed g t c = c.look_into.ensures.summed
+
+pub look_up-returns-then-reaches-clause-found : goal.look_up-returns-then-reaches-clause-found
+look_up-returns-then-reaches-clause-found g t c = c.look_into.ensures.found
+
+pub look_up-returns-then-reaches-clause-looked : goal.look_up-returns-then-reaches-clause-looked
+look_up-returns-then-reaches-clause-looked g t c = c.look_into.ensures.looked
+
+pub look_up-returns-then-reaches-clause-dropped : goal.look_up-returns-then-reaches-clause-dropped
+look_up-returns-then-reaches-clause-dropped g t c = c.look_into.ensures.dropped
+
+pub look_up-returns-else-reaches-clause-summed : goal.look_up-returns-else-reaches-clause-summed
+look_up-returns-else-reaches-clause-summed g t c = c.requires.summed
+
+pub look_into-returns-in_default-clause-entries : goal.look_into-returns-in_default-clause-entries
+look_into-returns-in_default-clause-entries g t c =
+    let none = no_nodes c.args.nodes.now c.split_at_mut-left.result.0.now c.split_at_mut-left.result.1.now c.split_at_mut-left.ensures.value c.split_at_mut-left.ensures.front_len c.in_default.ensures.cases in
+    rw (← c.split_at_mut-left.ensures.value, none)
+
+pub look_into-returns-in_default-clause-summed : goal.look_into-returns-in_default-clause-summed
+look_into-returns-in_default-clause-summed g t c = rw (← c.split_at_mut-left.ensures.value) c.requires.summed
+
+pub look_into-returns-in_default-clause-found : goal.look_into-returns-in_default-clause-found
+look_into-returns-in_default-clause-found g t c =
+    let none = no_nodes c.args.nodes.now c.split_at_mut-left.result.0.now c.split_at_mut-left.result.1.now c.split_at_mut-left.ensures.value c.split_at_mut-left.ensures.front_len c.in_default.ensures.cases in
+    rw none (sym (append-nil c.args.indexes.now.items))
+
+pub look_into-returns-in_default-clause-looked : goal.look_into-returns-in_default-clause-looked
+look_into-returns-in_default-clause-looked g t c =
+    let none = no_nodes c.args.nodes.now c.split_at_mut-left.result.0.now c.split_at_mut-left.result.1.now c.split_at_mut-left.ensures.value c.split_at_mut-left.ensures.front_len c.in_default.ensures.cases in
+    rw none (none_more c.args.looked.now 0 (2 ^ 128 - 1) (omega arith) refl)
+
+pub look_into-returns-in_default-clause-dropped : goal.look_into-returns-in_default-clause-dropped
+look_into-returns-in_default-clause-dropped g t c =
+    let none = no_nodes c.args.nodes.now c.split_at_mut-left.result.0.now c.split_at_mut-left.result.1.now c.split_at_mut-left.ensures.value c.split_at_mut-left.ensures.front_len c.in_default.ensures.cases in
+    rw none

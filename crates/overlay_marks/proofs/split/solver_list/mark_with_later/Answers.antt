@@ -1,4 +1,7 @@
-use Rattle.std.proofs.Common.{◌≡◌, sym, ap, subst, ◌∙◌, ◌∷◌, ◌+◌, drop, IsTrue, Bool, true, ◌||◌}
+use Rattle.std.proofs.Common.{ℕ, ◌≡◌, ◌<◌, refl, sym, ap, subst, ◌∙◌, ◌∷◌, ◌+◌, drop, length, arith, IsTrue, Bool, true, ◌||◌}
+use Rattle.std.proofs.Math.Nat.{le_of_lt}
+use Rattle.std.proofs.lemmas.Result.{IfOk-from_err}
+use borrow.Author.Count.{falls}
 use Rattle.overlay_base.specs.Points.{pair_cmp, is_ordered}
 use Rattle.overlay_base.specs.Segments.{pairs}
 use Rattle.overlay_base.specs.Ranges.{heights, is_off_range}
@@ -14,6 +17,9 @@ use Rattle.overlay_marks.proofs.laws.list.FoundMarks.{IsLooked-more, IsLooked-ap
 use Rattle.overlay_marks.proofs.laws.list.ListLooks.{IsTold, IsTold-more, IsTold-end, later_starts_right, x_ranges_meet-from, not_past_le, none_past, none_counted_left, pair_at-first}
 use Rattle.overlay_marks.proofs.split.solver_list.mark_with_later.Goals as goal
 use Rattle.overlay_marks.proofs.split.solver_list.mark_with_later.Goals.{then-not-is_not_intersect_y_range+in_ok-mark_both+then-branch, else-not-is_not_intersect_y_range, else-not-is_not_intersect_y_range-via-then-not-is_not_intersect_y_range+in_ok-mark_both+else-branch, else-not-is_not_intersect_y_range-via-else-not-is_not_intersect_y_range}
+
+next_above : (i : ℕ) → i < i + 1
+next_above i = omega arith
 
 pub mark_both-requires-clause-first_apart : goal.mark_both-requires-clause-first_apart
 mark_both-requires-clause-first_apart g c =
@@ -121,3 +127,47 @@ returns-then-begins_past_end-clause-looked g c =
     let ordered : IsTrue (is_ordered s) = subst (λ v. IsTrue (is_ordered (pair_of g.I.OverlayInt.whole v))) (sym c.x_segment-target.ensures) c.index-segments-index.result.ordered in
     let none = none_past ps c.loop-later.later s t order (are_ordered c.args.segments.now) ordered second (int_lt-to _ _ (sym c.begins_past_end.ensures ∙ c.if-begins_past_end.true)) in
     rw (pair_at-first ps c.args.index s (drop (c.args.index + 1) ps) first) (IsTold-end s ps c.args.index c.args.looked.now c.loop-later.looked c.loop-later.later c.loop-later.invariant.told none)
+
+pub offset_bounds-segments-index : goal.offset_bounds-segments-index
+offset_bounds-segments-index g c = le_of_lt c.requires.index
+
+pub bounds-segments-index : goal.bounds-segments-index
+bounds-segments-index g c = c.requires.index
+
+pub loop-later-init : goal.loop-later-init
+loop-later-init g c = record {
+  walk = record { after = next_above c.args.index; found = refl; flag = refl };
+  told = record { fits = omega arith; whole = refl };
+}
+
+pub offset_bounds-segments-later : goal.offset_bounds-segments-later
+offset_bounds-segments-later g c = le_of_lt c.loop-later-test.true
+
+pub bounds-segments-later : goal.bounds-segments-later
+bounds-segments-later g c = c.loop-later-test.true
+
+pub mark_both-requires-clause-radius : goal.mark_both-requires-clause-radius
+mark_both-requires-clause-radius g c = c.requires.radius
+
+pub mark_both-requires-clause-first : goal.mark_both-requires-clause-first
+mark_both-requires-clause-first g c = rw (c.x_segment-target.ensures, c.index-segments-index.is) (c.requires.in_range c.args.index c.index-segments-index.result c.requires.index)
+
+pub mark_both-requires-clause-second : goal.mark_both-requires-clause-second
+mark_both-requires-clause-second g c = rw (c.x_segment-other.ensures, c.index-segments-later.is) (c.requires.in_range c.loop-later.later c.index-segments-later.result c.loop-later-test.true)
+
+pub mark_both-requires-clause-second_apart : goal.mark_both-requires-clause-second_apart
+mark_both-requires-clause-second_apart g c =
+    let ordered : IsTrue (is_ordered (pair_of g.I.OverlayInt.whole c.x_segment-other.result)) = subst (λ v. IsTrue (is_ordered (pair_of g.I.OverlayInt.whole v))) (sym c.x_segment-other.ensures) c.index-segments-later.result.ordered in
+    ends_differ (pair_of g.I.OverlayInt.whole c.x_segment-other.result) ordered
+
+pub returns-in_err-mark_both-clause-marks : goal.returns-in_err-mark_both-clause-marks
+returns-in_err-mark_both-clause-marks g c = IfOk-from_err c.from_residual.result _ c.from_residual.ensures.0
+
+pub returns-in_err-mark_both-clause-rounded : goal.returns-in_err-mark_both-clause-rounded
+returns-in_err-mark_both-clause-rounded g c = IfOk-from_err c.from_residual.result _ c.from_residual.ensures.0
+
+pub returns-in_err-mark_both-clause-looked : goal.returns-in_err-mark_both-clause-looked
+returns-in_err-mark_both-clause-looked g c = IfOk-from_err c.from_residual.result _ c.from_residual.ensures.0
+
+pub loop-later-smaller : goal.loop-later-smaller
+loop-later-smaller g c = falls (length c.args.segments.now) c.loop-later.later c.loop-later-test.true

@@ -1,4 +1,8 @@
-use Rattle.std.proofs.Common.{◌≡◌, ◌<◌, sym, ap, ap₂, subst, ◌∙◌, get_or, arith, IsTrue, Bool, ◌||◌}
+use Rattle.std.proofs.Common.{ℕ, ◌≡◌, ◌<◌, refl, sym, ap, ap₂, subst, ◌∙◌, get_or, length, append-nil, arith, IsTrue, Bool, ◌||◌}
+use Rattle.std.proofs.Math.Nat.{le_of_lt}
+use Rattle.std.proofs.lemmas.List.{take_all}
+use Rattle.std.proofs.lemmas.Result.{IfOk-from_err}
+use borrow.Author.Count.{falls}
 use Rattle.overlay_base.specs.Points.{Pair, pair_lt, is_ordered}
 use Rattle.overlay_base.specs.Segments.{pairs}
 use Rattle.overlay_base.specs.PairOf.{pair_of}
@@ -12,6 +16,9 @@ use Rattle.overlay_marks.proofs.laws.tree.Sweeps.{pair_at-is, pairs_in_order, le
 use Rattle.overlay_marks.proofs.laws.tree.SweptMarks.{marks_with_found-more, crosses_found-more}
 use Rattle.overlay_marks.proofs.split.solver_tree.mark_with_found.Goals as goal
 use Rattle.overlay_marks.proofs.split.solver_tree.mark_with_found.Goals.{then-branch, else-branch}
+
+further_below : {i j n : ℕ} → i < j → j < n → i < n
+further_below h k = omega arith
 
 pub mark_both-requires-clause-first_apart : goal.mark_both-requires-clause-first_apart
 mark_both-requires-clause-first_apart g c =
@@ -55,3 +62,48 @@ loop-earlier-preserved g c =
       marks_with_found-more placing ps c.args.index found i s t (marks_of whole c.args.marks.now.items) (marks_of whole c.loop-earlier.marks.items) (marks_of whole c.mark_both.new.marks.items) c.loop-earlier-test.true first second c.loop-earlier.invariant.0 c.in_ok-mark_both.ensures.marks,
       crosses_found-more ps c.args.index found i s t c.loop-earlier.rounded c.if-branch.rounded c.loop-earlier-test.true first second c.loop-earlier.invariant.1 (rounded ∙ ap (λ (b : Bool). c.loop-earlier.rounded || b) c.in_ok-mark_both.ensures.rounded),
     )
+
+pub offset_bounds-segments-index : goal.offset_bounds-segments-index
+offset_bounds-segments-index g c = le_of_lt c.requires.index
+
+pub bounds-segments-index : goal.bounds-segments-index
+bounds-segments-index g c = c.requires.index
+
+pub loop-earlier-init : goal.loop-earlier-init
+loop-earlier-init g c = (sym (append-nil _), refl)
+
+pub bounds-found-earlier-index : goal.bounds-found-earlier-index
+bounds-found-earlier-index g c = c.loop-earlier-test.true
+
+pub offset_bounds-segments-earlier : goal.offset_bounds-segments-earlier
+offset_bounds-segments-earlier g c = le_of_lt (further_below (c.requires.found c.loop-earlier.earlier-index 0 c.loop-earlier-test.true) c.requires.index)
+
+pub bounds-segments-earlier : goal.bounds-segments-earlier
+bounds-segments-earlier g c = further_below (c.requires.found c.loop-earlier.earlier-index 0 c.loop-earlier-test.true) c.requires.index
+
+pub mark_both-requires-clause-radius : goal.mark_both-requires-clause-radius
+mark_both-requires-clause-radius g c = c.requires.radius
+
+pub mark_both-requires-clause-first : goal.mark_both-requires-clause-first
+mark_both-requires-clause-first g c =
+    let earlier = get_or c.args.found.now c.loop-earlier.earlier-index 0 in
+    let within : earlier < length c.args.segments.now = further_below (c.requires.found c.loop-earlier.earlier-index 0 c.loop-earlier-test.true) c.requires.index in
+    rw (c.x_segment-in-loop-earlier.ensures, c.index-segments-earlier.is) (c.requires.in_range earlier c.index-segments-earlier.result within)
+
+pub mark_both-requires-clause-second : goal.mark_both-requires-clause-second
+mark_both-requires-clause-second g c = rw (c.x_segment.ensures, c.index-segments-index.is) (c.requires.in_range c.args.index c.index-segments-index.result c.requires.index)
+
+pub returns-in_err-mark_both-clause-marks : goal.returns-in_err-mark_both-clause-marks
+returns-in_err-mark_both-clause-marks g c = IfOk-from_err c.from_residual.result _ c.from_residual.ensures.0
+
+pub returns-in_err-mark_both-clause-rounded : goal.returns-in_err-mark_both-clause-rounded
+returns-in_err-mark_both-clause-rounded g c = IfOk-from_err c.from_residual.result _ c.from_residual.ensures.0
+
+pub loop-earlier-smaller : goal.loop-earlier-smaller
+loop-earlier-smaller g c = falls (length c.args.found.now) c.loop-earlier.earlier-index c.loop-earlier-test.true
+
+pub returns-clause-marks : goal.returns-clause-marks
+returns-clause-marks g c = rw (take_all c.loop-earlier.earlier-index c.args.found.now c.loop-earlier-test.false) at c.loop-earlier.invariant.0
+
+pub returns-clause-rounded : goal.returns-clause-rounded
+returns-clause-rounded g c = rw (take_all c.loop-earlier.earlier-index c.args.found.now c.loop-earlier-test.false) at c.loop-earlier.invariant.1
