@@ -1,5 +1,6 @@
-use Rattle.std.proofs.Common.{◌≡◌, ◌<◌, ◌≤◌, ◌+◌, ◌-◌, arith, ap, subst, ◌∙◌, ◌++◌, List, Vec, Global, length, map, refl}
-use Rattle.std.specs.Prelude.{IsPermutation, ℤ}
+use Rattle.std.proofs.Common.{◌≡◌, ◌<◌, ◌≤◌, ◌+◌, ◌-◌, arith, sym, ap, subst, ◌∙◌, ◌++◌, List, Vec, Global, length, map, refl}
+use Rattle.std.specs.Prelude.{IsPermutation, IsSorted, ℤ}
+use borrow.Author.Count.{falls}
 use Rattle.overlay_marks.specs.MarkOf.{Mark, marks_of}
 use Rattle.overlay_marks.specs.Grid.{Layout, pos_of, group_count}
 use Rattle.overlay_marks.specs.FragmentOf.{KeptFragment, fragments_of, layout_of}
@@ -66,3 +67,36 @@ returns g c =
     (λ column. looks_of_border (pos_of (grid_of first) (column + 1)) (group_of first column) (group_of first (column + 1)))
     (marks_of g.I.OverlayInt.whole c.args.marks.now.items) (marks_of g.I.OverlayInt.whole c.loop-column.marks.items) c.args.looked.now c.loop-column.looked c.loop-column.column (group_count (grid_of first) - 1) c.loop-column.invariant.seen last in
     record { layout = ap (λ (l : _). layout_of l) c.loop-column.invariant.layout; marks = end.found; looked = end.counted }
+
+pub overflow_sub-column-end : goal.overflow_sub-column-end
+overflow_sub-column-end g c =
+    let count : length c.groups.result.now ≡ group_count (grid_of c.args.buffer.now) = ap length c.groups.ensures ∙ c.args.buffer.now.columns in
+    omega arith
+
+pub overflow_add-column : goal.overflow_add-column
+overflow_add-column g c = record { fits = omega (arith, c.loop-column-test.true, c.groups.type_inv) }
+
+pub border-border-requires : goal.border-border-requires
+border-border-requires g c =
+    let count : length c.groups.result.now ≡ group_count (grid_of c.args.buffer.now) = ap length c.groups.ensures ∙ c.args.buffer.now.columns in
+    let same = ap (λ (l : _). group_count (layout_of l)) (c.in_ok-list_right_ends.ensures.layout ∙ c.loop-column.invariant.layout) in
+    let t = c.loop-column-test.true in
+    omega arith
+
+pub overflow_add-column-in-loop-column : goal.overflow_add-column-in-loop-column
+overflow_add-column-in-loop-column g c = record { fits = omega (arith, c.loop-column-test.true, c.groups.type_inv) }
+
+pub bounds-groups-column : goal.bounds-groups-column
+bounds-groups-column g c =
+    let groups = ap (λ (v : Vec _ Global). length v.items) (c.in_ok-list_right_ends.ensures.groups ∙ c.loop-column.invariant.groups) in
+    let t = c.loop-column-test.true in let a = ap length c.groups.ensures in let b = ap length c.groups-in-loop-column.ensures in
+    omega arith
+
+pub mark_border-requires : goal.mark_border-requires
+mark_border-requires g c = record { sorted = subst (λ (ys : List _). IsSorted g.I.Ord.cmp ys) (sym c.right_ends.ensures) c.in_ok-list_right_ends.ensures.sorted }
+
+pub returns-in_err-mark_border-clause-layout : goal.returns-in_err-mark_border-clause-layout
+returns-in_err-mark_border-clause-layout g c = ap (λ (l : _). layout_of l) (c.in_ok-list_right_ends.ensures.layout ∙ c.loop-column.invariant.layout)
+
+pub loop-column-smaller : goal.loop-column-smaller
+loop-column-smaller g c = falls _ _ c.loop-column-test.true

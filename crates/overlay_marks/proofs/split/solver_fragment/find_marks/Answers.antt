@@ -10,7 +10,7 @@ use Rattle.std.proofs.lemmas.List.Elements.{All-weaker}
 use Rattle.overlay_marks.specs.PlacingOf.{placing_of}
 use Rattle.overlay_marks.specs.MarkOf.{Mark, marks_of}
 use Rattle.overlay_marks.specs.Grid.{Layout, pos_of, group_count, IsInside}
-use Rattle.overlay_marks.specs.FragmentOf.{KeptFragment}
+use Rattle.overlay_marks.specs.FragmentOf.{KeptFragment, IsSortedAlong}
 use Rattle.overlay_marks.specs.GroupsOf.{group_in, group_of, grid_of}
 use Rattle.overlay_marks.specs.steps.FragmentFinder.{HoldSame, is_ready, kept_group, marks_of_group, is_group_rounded, looks_of_group, marks_of_border, looks_of_border}
 use Rattle.overlay_marks.proofs.laws.grid.GridFound.{all_pairs, all_ready, sound, complete, rounded_is}
@@ -103,3 +103,30 @@ returns-clause-marks g c =
     (λ m h. sound p l segments groups ordered within same m (has_back (columns ++ borders) now all m h))
     (λ m h. has_same (columns ++ borders) now all m (complete p l segments groups ordered within same m h))
     c.in_ok-sort.ensures.permutation sorted c.dedup.ensures.filtered
+
+pub fill-requires-clause-in_range : goal.fill-requires-clause-in_range
+fill-requires-clause-in_range g c = c.requires.in_range
+
+pub fill-requires-clause-inside : goal.fill-requires-clause-inside
+fill-requires-clause-inside g c = c.requires.inside
+
+pub mark_columns-requires-clause-radius : goal.mark_columns-requires-clause-radius
+mark_columns-requires-clause-radius g c = c.requires.radius
+
+pub mark_columns-requires-clause-sorted : goal.mark_columns-requires-clause-sorted
+mark_columns-requires-clause-sorted g c column = subst (λ (gs : List _). IsSortedAlong c.axis_of-axis.result (group_in g.I.OverlayInt.whole gs column)) (sym c.groups.ensures) (c.sort.ensures.sorted column)
+
+pub returns-in_err-fill-clause-layout : goal.returns-in_err-fill-clause-layout
+returns-in_err-fill-clause-layout g c = c.in_err-fill.ensures.layout
+
+pub returns-in_err-rounded-clause-layout : goal.returns-in_err-rounded-clause-layout
+returns-in_err-rounded-clause-layout g c = c.sort.ensures.layout ∙ c.in_ok-fill.ensures.layout
+
+pub returns-in_err-mark_borders-clause-layout : goal.returns-in_err-mark_borders-clause-layout
+returns-in_err-mark_borders-clause-layout g c = c.in_err-mark_borders.ensures.layout ∙ c.sort.ensures.layout ∙ c.in_ok-fill.ensures.layout
+
+pub returns-in_err-sort-clause-layout : goal.returns-in_err-sort-clause-layout
+returns-in_err-sort-clause-layout g c = c.in_ok-mark_borders.ensures.layout ∙ c.sort.ensures.layout ∙ c.in_ok-fill.ensures.layout
+
+pub returns-clause-layout : goal.returns-clause-layout
+returns-clause-layout g c = c.in_ok-mark_borders.ensures.layout ∙ c.sort.ensures.layout ∙ c.in_ok-fill.ensures.layout
