@@ -1,9 +1,10 @@
-use Rattle.std.proofs.Common.{◌≡◌, sym, ◌∙◌, rules, IsTrue, IsFalse}
+use Rattle.std.proofs.Common.{◌≡◌, sym, ◌∙◌, IsTrue, IsFalse}
 use Rattle.std.specs.Cmp.{Some-then}
 use Rattle.overlay_base.specs.EdgeData.{Hooks, data_piece}
-use Rattle.overlay_base.specs.Windings.{Winding, inverse}
+use Rattle.overlay_base.specs.Windings.{Winding}
 use Rattle.overlay_base.specs.Points.{Point, point_lt}
 use Rattle.overlay_base.specs.PointOf.{point_of}
+use Rattle.overlay_base.specs.HooksOf.{hooks_of}
 use Rattle.overlay_base.proofs.laws.geometry.Points.{not_before, by_UpTo, from_before}
 use Rattle.overlay_base.proofs.segm.segment.Segment.create_and_validate_with_data.Goals.{then-lt, else-lt}
 use Rattle.overlay_base.proofs.segm.segment.Segment.create_and_validate_with_data.Goals as goal
@@ -12,15 +13,7 @@ use Rattle.overlay_base.proofs.segm.segment.Segment.create_and_validate_with_dat
 turned_lt : (p q : Point) → (p ≡ q → ⊥) → IsFalse (point_lt p q) → IsTrue (point_lt q p)
 turned_lt p q d h = by_UpTo q p (not_before p q h) (from_before q p) (λ e. absurd (d (sym e)))
 
--- what is made from p to q, by whether p stands before q
-segment-true : {D S : Type 0} (hooks : Hooks D S) (count : Winding) (p q : Point) (edge_data : D) (store : S) → IsTrue (point_lt p q) → record { pair = record { a = p; b = q }; count = count; edge_data = edge_data } ≡ (data_piece hooks count p q edge_data store).0
-unfolding data_piece
-segment-true hooks count p q edge_data store h = rw (h, data_piece)
-
-segment-false : {D S : Type 0} (hooks : Hooks D S) (count : Winding) (p q : Point) (edge_data : D) (store : S) → IsFalse (point_lt p q) → record { pair = record { a = q; b = p }; count = inverse count; edge_data = (hooks.reversed edge_data store).0 } ≡ (data_piece hooks count p q edge_data store).0
-unfolding data_piece
-segment-false hooks count p q edge_data store h = rw (h, data_piece)
-
+-- the store after a segment is made from p to q, by whether p stands before q
 store-true : {D S : Type 0} (hooks : Hooks D S) (count : Winding) (p q : Point) (edge_data : D) (store : S) → IsTrue (point_lt p q) → store ≡ (data_piece hooks count p q edge_data store).1
 unfolding data_piece
 store-true hooks count p q edge_data store h = rw (h, data_piece)
@@ -28,12 +21,6 @@ store-true hooks count p q edge_data store h = rw (h, data_piece)
 store-false : {D S : Type 0} (hooks : Hooks D S) (count : Winding) (p q : Point) (edge_data : D) (store : S) → IsFalse (point_lt p q) → (hooks.reversed edge_data store).1 ≡ (data_piece hooks count p q edge_data store).1
 unfolding data_piece
 store-false hooks count p q edge_data store h = rw (h, data_piece)
-
-pub lt-requires : goal.lt-requires
-lt-requires g c κs = search rules
-
-pub reversed-requires : goal.reversed-requires
-reversed-requires g c κs = search rules
 
 pub invert-requires : goal.invert-requires
 invert-requires g c =
@@ -50,18 +37,14 @@ invariant_of-result g c =
       ];
     }
 
-pub returns-clause-segment : goal.returns-clause-segment
-returns-clause-segment g c =
-    let less : point_lt (point_of g.I.OverlayInt.whole c.args.a) (point_of g.I.OverlayInt.whole c.args.b) ≡ c.lt.result = sym (simp (g.met.I.Ord.matches_partial_cmp, g.met.I.OverlayInt.ordered, Some-then) at c.lt.ensures) in
-    elim c.if-lt.branch [
-      | then-lt w ↦ simp w.result-is (segment-true _ _ _ _ _ _ (less ∙ w.if-lt.true))
-      | else-lt w ↦ simp (w.result-is, w.invert.ensures, w.reversed.ensures.answer) (segment-false _ _ _ _ _ _ (less ∙ w.if-lt.false))
-    ]
-
 pub returns-clause-store : goal.returns-clause-store
 returns-clause-store g c =
-    let less : point_lt (point_of g.I.OverlayInt.whole c.args.a) (point_of g.I.OverlayInt.whole c.args.b) ≡ c.lt.result = sym (simp (g.met.I.Ord.matches_partial_cmp, g.met.I.OverlayInt.ordered, Some-then) at c.lt.ensures) in
+    let hooks = hooks_of g.C.WindingCount.counted g.D.OverlayEdgeData in
+    let a = point_of g.I.OverlayInt.whole c.args.a in
+    let b = point_of g.I.OverlayInt.whole c.args.b in
+    let count = g.C.WindingCount.winding c.args.count in
+    let less : point_lt a b ≡ c.lt.result = sym (simp (g.met.I.Ord.matches_partial_cmp, g.met.I.OverlayInt.ordered, Some-then) at c.lt.ensures) in
     elim c.if-lt.branch [
-      | then-lt w ↦ rw w.store-is (store-true _ _ _ _ _ _ (less ∙ w.if-lt.true))
-      | else-lt w ↦ rw (w.store-is, w.reversed.ensures.store) (store-false _ _ _ _ _ _ (less ∙ w.if-lt.false))
+      | then-lt w ↦ rw w.store-is (store-true hooks count a b c.args.edge_data c.args.store.now (less ∙ w.if-lt.true))
+      | else-lt w ↦ rw (w.store-is, w.reversed.ensures.store) (store-false hooks count a b c.args.edge_data c.args.store.now (less ∙ w.if-lt.false))
     ]
