@@ -1,8 +1,8 @@
 -- Tests of heights, as those of whole numbers.
-use Rattle.std.proofs.Common.{◌≡◌, refl, sym, ap, ◌∙◌, arith, Bool, true, false, not, cond, Ordering, Less, Greater, Equal}
+use Rattle.std.proofs.Common.{◌≡◌, refl, ap, ◌∙◌, arith, Bool, true, false, cond, Ordering, Less, Greater, Equal}
 use Rattle.std.specs.Prelude.{ℤ, int_lt, Option, Some}
 use Rattle.std.specs.Int.{int_max}
-use Rattle.std.specs.Ordering.{int_cmp, is_lt, is_le, is_some_and, partial_lt, partial_le}
+use Rattle.std.specs.Ordering.{int_cmp, is_lt, is_some_and, partial_lt}
 use Rattle.std.proofs.lemmas.Int.{ints}
 
 module _ {I : Type 0} (partial-cmp : I → I → Option Ordering) (cmp : I → I → Ordering) (whole : I → ℤ) (matches : (x y : I) → partial-cmp x y ≡ Some (cmp x y)) (ordered : (x y : I) → cmp x y ≡ int_cmp (whole x) (whole y)) (x y : I) where
@@ -13,17 +13,6 @@ module _ {I : Type 0} (partial-cmp : I → I → Option Ordering) (cmp : I → I
       first true c = refl
       first false true = refl
       first false false = refl
-
-  pub le_whole : partial_le partial-cmp x y ≡ not (int_lt (whole y) (whole x))
-  le_whole = ap (is_some_and is_le) (matches x y) ∙ ap is_le (ordered x y) ∙ first (int_lt (whole x) (whole y)) (int_lt (whole y) (whole x)) (one_way (whole x) (whole y))
-    where
-      first : (b c : Bool) → (b ≡ true → c ≡ false) → is_le (cond b Less (cond c Greater Equal)) ≡ not c
-      first true c h = sym (ap not (h refl))
-      first false true h = refl
-      first false false h = refl
-
-      one_way : (a b : ℤ) → int_lt a b ≡ true → int_lt b a ≡ false
-      one_way a b h = grind (arith, ints)
 
 -- the greater of two heights
 pub greater_first : (a b : ℤ) → int_lt a b ≡ false → a ≡ int_max a b
