@@ -77,3 +77,27 @@ returns-else-to-from g c =
     let fits : FitsSigned w64 (s.a.y +ℤ pos c.args.amount) = subst (λ (z : ℤ). FitsSigned w64 z) (sym (moved_up s c.args.amount climbs)) f.fits in
     let moved = simp to_z-of_z at (rw (c.to_wide-from.ensures, to_z_of_pos _ f.small) at c.from_wide-else-to-from.ensures) in
     moved ∙ moved_up s c.args.amount climbs
+
+pub overflow_cast-amount : goal.overflow_cast-amount
+overflow_cast-amount g c =
+    let low = g.I.OverlayInt.whole g.I.OverlayInt.MIN_COORD in
+    let high = g.I.OverlayInt.whole g.I.OverlayInt.MAX_COORD in
+    let s = pair_of g.I.OverlayInt.whole c.args.segment.now in
+    let a = (point_parts low high s.a c.requires.in_range.a_in_range).1 in
+    let b = (point_parts low high s.b c.requires.in_range.b_in_range).1 in
+    let f = moved_fits low high s c.args.amount g.met.I.OverlayInt.lowest g.met.I.OverlayInt.highest a b c.requires.amount in
+    record { sfits = f.small }
+
+pub overflow_sub-from : goal.overflow_sub-from
+overflow_sub-from g c =
+    let low = g.I.OverlayInt.whole g.I.OverlayInt.MIN_COORD in
+    let high = g.I.OverlayInt.whole g.I.OverlayInt.MAX_COORD in
+    let s = pair_of g.I.OverlayInt.whole c.args.segment.now in
+    let a = (point_parts low high s.a c.requires.in_range.a_in_range).1 in
+    let b = (point_parts low high s.b c.requires.in_range.b_in_range).1 in
+    let f = moved_fits low high s c.args.amount g.met.I.OverlayInt.lowest g.met.I.OverlayInt.highest a b c.requires.amount in
+    let from_fits = f.from_fits in
+    let to_fits = coordinate_fits low high s.b.y g.met.I.OverlayInt.lowest g.met.I.OverlayInt.highest b in
+    let falls = less_from s.b.y s.a.y (simp to_z-of_z at (rw (c.to_wide-from.ensures, c.to_wide-to.ensures) at c.if-to-from.true)) in
+    let fits : FitsSigned w64 (s.a.y -ℤ pos c.args.amount) = subst (λ (z : ℤ). FitsSigned w64 z) (sym (moved_down s c.args.amount falls)) f.fits in
+    rw (c.to_wide-from.ensures, to_z_of_pos _ f.small) (simp to_z-of_z fits)

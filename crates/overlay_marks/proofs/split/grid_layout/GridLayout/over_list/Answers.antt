@@ -1,4 +1,5 @@
-use Rattle.std.proofs.Common.{sym, ap, subst, ◌∙◌, ◌+◌, ◌∷◌, drop, length}
+use Rattle.std.proofs.Common.{refl, sym, ap, subst, ◌∙◌, ◌+◌, ◌∷◌, drop, length}
+use borrow.Author.Count.{falls}
 use Rattle.overlay_base.specs.PairOf.{pair_of}
 use Rattle.overlay_base.specs.PointOf.{point_of}
 use Rattle.overlay_base.specs.Segments.{pairs}
@@ -40,3 +41,31 @@ returns-clause-none g c =
     let first = pairs-next c.args.segments.now 0 c.index-segments-0.result c.requires.some c.index-segments-0.is ∙ ap (λ s. pair_of g.I.OverlayInt.whole s ∷ drop 1 ps) (sym c.x_segment-a.ensures) in
     let greatest = greatest_end (g.I.OverlayInt.whole c.loop-index.max_x) ps c.loop-index.index (greatest_x (g.I.OverlayInt.whole c.x_segment-a.result.b.x) (drop 1 ps)) c.loop-index.invariant.greatest (pairs-none c.args.segments.now c.loop-index.index c.loop-index-test.false) in
     if_none c.with_min_max.result _ _ (narrow_list ps (pair_of g.I.OverlayInt.whole c.x_segment-a.result) (g.I.OverlayInt.whole c.loop-index.max_x) first greatest) c.with_min_max.ensures.none
+
+pub bounds-segments-0 : goal.bounds-segments-0
+bounds-segments-0 g c = c.requires.some
+
+pub loop-index-init : goal.loop-index-init
+loop-index-init g c =
+    let low = g.I.OverlayInt.whole g.I.OverlayInt.MIN_COORD in
+    let high = g.I.OverlayInt.whole g.I.OverlayInt.MAX_COORD in
+    let ends = subst (λ s. IsPairInRange g.I.OverlayInt.whole g.I.OverlayInt.MIN_COORD g.I.OverlayInt.MAX_COORD (x_segment_of s)) (sym c.index-segments-0.is) (c.requires.in_range 0 c.index-segments-0.result c.requires.some) in
+    let ends' = subst (λ s. IsPairInRange g.I.OverlayInt.whole g.I.OverlayInt.MIN_COORD g.I.OverlayInt.MAX_COORD s) (sym c.x_segment-a.ensures) ends in
+    record { greatest = refl; in_range = (point_parts low high (point_of g.I.OverlayInt.whole c.x_segment-a.result.b) ends'.b_in_range).0 }
+
+pub bounds-segments-index : goal.bounds-segments-index
+bounds-segments-index g c = c.loop-index-test.true
+
+pub loop-index-smaller : goal.loop-index-smaller
+loop-index-smaller g c = falls _ _ c.loop-index-test.true
+
+pub with_min_max-requires-clause-from : goal.with_min_max-requires-clause-from
+with_min_max-requires-clause-from g c =
+    let low = g.I.OverlayInt.whole g.I.OverlayInt.MIN_COORD in
+    let high = g.I.OverlayInt.whole g.I.OverlayInt.MAX_COORD in
+    let ends = subst (λ s. IsPairInRange g.I.OverlayInt.whole g.I.OverlayInt.MIN_COORD g.I.OverlayInt.MAX_COORD (x_segment_of s)) (sym c.index-segments-0.is) (c.requires.in_range 0 c.index-segments-0.result c.requires.some) in
+    let ends' = subst (λ s. IsPairInRange g.I.OverlayInt.whole g.I.OverlayInt.MIN_COORD g.I.OverlayInt.MAX_COORD s) (sym c.x_segment-a.ensures) ends in
+    (point_parts low high (point_of g.I.OverlayInt.whole c.x_segment-a.result.a) ends'.a_in_range).0
+
+pub with_min_max-requires-clause-to : goal.with_min_max-requires-clause-to
+with_min_max-requires-clause-to g c = c.loop-index.invariant.in_range
