@@ -56,9 +56,11 @@ returns-in_ok-buffer-in-Some-clause-grid g c =
     let asked = grid_splits c.args.solver.now.strategy in
     let list = list_splits c.args.solver.now.strategy in
     let ps = pairs (segments_of c.args.first.now) in
+    let wanted : c.is_fragmentation_required.result ≡ true = cc in
+    let unlisted : c.is_list_split.result ≡ false = cc in
     let count : length (segments_of c.args.first.now) ≡ length c.args.first.now = length-map _ _ in (
       and_from (asked (length (segments_of c.args.first.now))) (not (list (length (segments_of c.args.first.now))))
-          (ap asked count ∙ (sym c.is_fragmentation_required.ensures ∙ c.if-not-is_fragmentation_required.false)) (ap not (ap list count ∙ (sym c.is_list_split.ensures ∙ c.if-is_list_split.false))),
+          (ap asked count ∙ (sym c.is_fragmentation_required.ensures ∙ wanted)) (ap not (ap list count ∙ (sym c.is_list_split.ensures ∙ unlisted))),
       subst (λ (n : ℕ). IsLayoutOf ps n (grid_of c.in_ok-buffer-in-Some.buffer)) (sym count) (subst (λ (l : Layout). IsLayoutOf ps (length c.args.first.now) l) (sym c.in_ok-buffer-in-Some.ensures.layout) c.in-Some.ensures.layout),
     )
 
