@@ -1,6 +1,6 @@
 // Where two segments meet, and the marks of a pass.
 
-pub mod axis;
+mod axis;
 mod border_contacts;
 mod cross;
 pub mod cross_solver;
@@ -15,6 +15,7 @@ pub mod laws;
 pub mod line_mark;
 mod looks;
 pub mod placing;
+mod reach;
 mod rise;
 pub mod solver_fragment;
 pub mod solver_list;

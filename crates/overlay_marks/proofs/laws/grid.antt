@@ -12,6 +12,7 @@ pub mod GridFills
 pub mod GridFinder
 pub mod FoundFragments
 pub mod BorderMarks
+pub mod GridReach
 pub mod GridFound
 pub mod GridCounts
 pub mod GridLooks

@@ -9,12 +9,16 @@ use crate::split::axis::Axis;
 use crate::split::fragment::Fragment;
 use crate::split::fragment_memory::{FragmentMemory, clear_groups, empty_groups};
 use crate::split::grid_layout::GridLayout;
+use crate::split::reach::count_reached;
 use crate::split::rise::heights_at;
 use overlay_base::geom::point::IntPoint;
 use overlay_base::geom::x_segment::XSegment;
 use overlay_base::num::OverlayInt;
 use overlay_base::segm::fault::Fault;
 use std::alloc::{AllocError, Global};
+
+/// So many looks a fragment are few.
+const FEW_LOOKS: u64 = 4;
 
 /// The fragments of segments in the columns of a layout: one group for each column. It keeps its memory when cleared.
 #[derive(Drop)]
@@ -26,7 +30,7 @@ pub struct FragmentBuffer<I: OverlayInt> {
 }
 
 impl<I: OverlayInt> FragmentBuffer<I> {
-    ghost use Rattle.std.specs.Prelude.{◌^◌, ◌<◌, ◌+◌, ◌≤ℤ◌, IsPermutation, IsSorted, ◌++◌, [], ◌∷◌, ℕ, ◌==◌, IfOk, IfErr, OnOk, OnErr, if◌then◌else◌, map};
+    ghost use Rattle.std.specs.Prelude.{◌<◌, ◌+◌, ◌≤ℤ◌, IsPermutation, IsSorted, ◌++◌, [], ◌∷◌, ℕ, ◌==◌, IfOk, IfErr, OnOk, OnErr, if◌then◌else◌, map};
     ghost use Rattle.overlay_base.specs.declared.segm.fault.Fault.TheVariants.{Memory};
     ghost use Rattle.overlay_base.specs.PairOf.{pair_of};
     ghost use Rattle.overlay_base.specs.InRange.{IsPairInRange};
@@ -83,13 +87,6 @@ impl<I: OverlayInt> FragmentBuffer<I> {
         &self.groups
     }
 
-    /// How wide a column is.
-    pub(crate) fn column_width(&self) -> u64
-        ensures { result ≡ 2 ^ (grid_of self.now).power }
-    {
-        self.layout.column_width()
-    }
-
     /// The left border of a column, of which there are more than its index.
     pub fn border(&self, column: usize) -> I
         requires { column < group_count (grid_of self.now) }
@@ -129,14 +126,43 @@ impl<I: OverlayInt> FragmentBuffer<I> {
         clear_groups(&mut self.groups);
     }
 
+    /// Sorts every group by where the fragments begin along one axis, and answers which: from the lowest up, unless a scan
+    /// compares many fragments so and fewer from left to right.
+    pub(crate) fn sort(&mut self) -> Axis
+        ensures layout { grid_of self.new ≡ grid_of self.old }
+        ensures permutation { (column : ℕ) → IsPermutation (group_of self.old column) (group_of self.new column) }
+        ensures sorted { (column : ℕ) → IsSortedAlong result (group_of self.new column) }
+    {
+        self.sort_along(Axis::Y);
+        let upward = count_reached(self.groups(), Axis::Y);
+        if upward <= self.few_looks() {
+            return Axis::Y;
+        }
+        self.sort_along(Axis::X);
+        if count_reached(self.groups(), Axis::X) < upward {
+            return Axis::X;
+        }
+        self.sort_along(Axis::Y);
+        Axis::Y
+    }
+
+    /// How many looks are few for so many fragments.
+    fn few_looks(&self) -> u64 {
+        let mut fragments = 0_u64;
+        for group in self.groups.iter() {
+            fragments = fragments.saturating_add(group.len() as u64);
+        }
+        fragments.saturating_mul(FEW_LOOKS)
+    }
+
     /// Sorts every group by where the fragments begin along an axis.
-    pub fn sort(&mut self, axis: Axis)
+    fn sort_along(&mut self, axis: Axis)
         ensures layout { grid_of self.new ≡ grid_of self.old }
         ensures permutation { (column : ℕ) → IsPermutation (group_of self.old column) (group_of self.new column) }
         ensures sorted { (column : ℕ) → IsSortedAlong axis (group_of self.new column) }
     {
         for column in 0..self.groups.len() {
-            sort_along(&mut self.groups[column], axis);
+            sort_group(&mut self.groups[column], axis);
         }
     }
 
@@ -227,7 +253,7 @@ impl<I: OverlayInt> FragmentBuffer<I> {
 }
 
 /// Sorts fragments by where they begin along an axis.
-fn sort_along<I: OverlayInt>(group: &mut Vec<Fragment<I>>, axis: Axis)
+fn sort_group<I: OverlayInt>(group: &mut Vec<Fragment<I>>, axis: Axis)
     ensures permutation { IsPermutation group.old.items group.new.items }
     ensures sorted { IsSortedAlong axis (fragments_of I.whole group.new.items) }
 {

@@ -116,13 +116,6 @@ impl<I: OverlayInt> GridLayout<I> {
         self.index(self.max_x) + 1
     }
 
-    /// How wide a column is.
-    pub(crate) fn column_width(&self) -> u64
-        ensures { result ≡ 2 ^ (layout_of self.now).power }
-    {
-        1 << self.power
-    }
-
     /// The left border of a column, whose index may be at most that of the greatest `x`.
     pub fn pos(&self, index: usize) -> I
         requires { index ≤ column_index (layout_of self.now) (layout_of self.now).max_x }

@@ -16,7 +16,7 @@ ghost use Rattle.overlay_marks.specs.GroupsOf.{group_in, group_of, grid_of};
 ghost use Rattle.overlay_marks.specs.steps.FragmentFinder.{is_ready, kept_group, marks_of_two, marks_with_first, marks_of_group, meet_inexactly, is_first_rounded, is_group_rounded, looks_of_first, looks_of_group};
 ghost use Rattle.overlay_marks.specs.Grid.{IsInside};
 
-use crate::split::axis::{Axis, Extents};
+use crate::split::axis::Axis;
 use crate::split::border_contacts::mark_borders;
 use crate::split::fragment::Fragment;
 use crate::split::fragment_buffer::FragmentBuffer;
@@ -57,8 +57,7 @@ pub fn find_marks<C: WindingCount, I: OverlayInt, D: Copy>(
 {
     marks.clear();
     fill(segments, buffer)?;
-    let axis = axis_of(segments, buffer);
-    buffer.sort(axis);
+    let axis = buffer.sort();
     let rounded = mark_columns(buffer.groups(), axis, placing, marks, looked)?;
     mark_borders(buffer, marks, looked)?;
     marks.sort()?;
@@ -100,20 +99,6 @@ fn fill<C: WindingCount, I: OverlayInt, D: Copy>(
         buffer.add_segment(index, segments[index].x_segment())?;
     }
     Ok(())
-}
-
-/// The axis along which fewer fragments of a column meet, as far as the extents of all segments tell: their heights beside
-/// the range of all heights, and their widths beside that of a column. It decides the time that a pass takes, and nothing
-/// else.
-fn axis_of<C: WindingCount, I: OverlayInt, D: Copy>(
-    segments: &[Segment<C, I, D>],
-    buffer: &FragmentBuffer<I>,
-) -> Axis {
-    let mut extents = Extents::new();
-    for segment in segments.iter() {
-        extents.add(&segment.x_segment());
-    }
-    extents.axis(buffer.column_width())
 }
 
 /// Appends the marks that segments put on one another of which two fragments meet in some column, and answers whether

@@ -85,3 +85,36 @@ fn layouts(rt: HostRuntime) {
     assert!(rt; layout.column_count() > 1);
     assert_eq!(rt; layout.pos(1), 32);
 }
+
+/// Whether the fragments of segments in columns of width 32 are sorted from left to right.
+fn is_sorted_across(
+    rt: &(impl Abort + AllocGlobal),
+    segments: impl Iterator<Item = ((i32, i32), (i32, i32))>,
+) -> bool {
+    let layout = GridLayout::with_min_max(0, 127, 1).expect(rt, "wide enough");
+    let mut buffer = FragmentBuffer::new(rt.alloc(), layout).expect(rt, "memory");
+    for (index, (a, b)) in segments.enumerate() {
+        let a = IntPoint::new(a.0, a.1);
+        let b = IntPoint::new(b.0, b.1);
+        assert!(rt; 0 <= a.x && a.x <= b.x && b.x <= 127);
+        let segment = XSegment { a, b };
+        assert!(rt; is_in_range(&segment));
+        buffer.add_segment(index, segment).expect(rt, "memory");
+    }
+    match buffer.sort() {
+        Axis::X => true,
+        Axis::Y => false,
+    }
+}
+
+#[test]
+fn columns_are_sorted_along_the_axis_of_fewer_looks(rt: HostRuntime) {
+    let beside = (0..40).map(|x| ((x, 0), (x, 9)));
+    let above = (0..40).map(|y| ((0, y), (40, y)));
+    let across = (0..40).map(|y| ((0, 0), (40, y)));
+    let few = (0..8).map(|x| ((x, 0), (x, 9)));
+    assert!(rt; is_sorted_across(&rt, beside));
+    assert!(rt; !is_sorted_across(&rt, above));
+    assert!(rt; !is_sorted_across(&rt, across));
+    assert!(rt; !is_sorted_across(&rt, few));
+}

@@ -24,10 +24,10 @@ mark_columns-requires-clause-ready g c column =
     let segments = segments_of c.args.segments.now in
     let ps = pairs segments in
     let l = grid_of c.args.buffer.now in
-    let groups = group_of c.sort.new.self in
+    let groups = group_of c.sort-axis.new.self in
     let ordered = are_ordered c.args.segments.now in
     let within = all_pairs (IsInside l) c.args.segments.now c.requires.inside in
-    let same : (column : ℕ) → IsPermutation (kept_group l 0 ps column) (groups column) = λ column. subst (λ (fs : List KeptFragment). IsPermutation fs (groups column)) (c.in_ok-fill.ensures.groups column) (c.sort.ensures.permutation column) in
+    let same : (column : ℕ) → IsPermutation (kept_group l 0 ps column) (groups column) = λ column. subst (λ (fs : List KeptFragment). IsPermutation fs (groups column)) (c.in_ok-fill.ensures.groups column) (c.sort-axis.ensures.permutation column) in
     let in_range = all_pairs (λ s. IsTrue (is_pair_in_range (g.I.OverlayInt.whole g.I.OverlayInt.MIN_COORD) (g.I.OverlayInt.whole g.I.OverlayInt.MAX_COORD) s)) c.args.segments.now (All-weaker _ _ (λ s h. pair_in_range g.I.OverlayInt.whole g.I.OverlayInt.MIN_COORD g.I.OverlayInt.MAX_COORD (x_segment_of s) h) c.args.segments.now c.requires.in_range) in
     let ready = all_ready (placing_of c.args.placing) l segments groups ordered within same (g.I.OverlayInt.whole g.I.OverlayInt.MIN_COORD) (g.I.OverlayInt.whole g.I.OverlayInt.MAX_COORD) in_range in
     subst (λ (gs : List _). AllByRecursion (λ f. IsTrue (is_ready (g.I.OverlayInt.whole g.I.OverlayInt.MIN_COORD) (g.I.OverlayInt.whole g.I.OverlayInt.MAX_COORD) f)) (group_in g.I.OverlayInt.whole gs column)) (sym c.groups.ensures) (ready column)
@@ -37,10 +37,10 @@ mark_borders-requires g c =
     let segments = segments_of c.args.segments.now in
     let ps = pairs segments in
     let l = grid_of c.args.buffer.now in
-    let groups = group_of c.sort.new.self in
+    let groups = group_of c.sort-axis.new.self in
     let ordered = are_ordered c.args.segments.now in
     let within = all_pairs (IsInside l) c.args.segments.now c.requires.inside in
-    let same : (column : ℕ) → IsPermutation (kept_group l 0 ps column) (groups column) = λ column. subst (λ (fs : List KeptFragment). IsPermutation fs (groups column)) (c.in_ok-fill.ensures.groups column) (c.sort.ensures.permutation column) in
+    let same : (column : ℕ) → IsPermutation (kept_group l 0 ps column) (groups column) = λ column. subst (λ (fs : List KeptFragment). IsPermutation fs (groups column)) (c.in_ok-fill.ensures.groups column) (c.sort-axis.ensures.permutation column) in
     let in_range = all_pairs (λ s. IsTrue (is_pair_in_range (g.I.OverlayInt.whole g.I.OverlayInt.MIN_COORD) (g.I.OverlayInt.whole g.I.OverlayInt.MAX_COORD) s)) c.args.segments.now (All-weaker _ _ (λ s h. pair_in_range g.I.OverlayInt.whole g.I.OverlayInt.MIN_COORD g.I.OverlayInt.MAX_COORD (x_segment_of s) h) c.args.segments.now c.requires.in_range) in
     let ready = all_ready (placing_of c.args.placing) l segments groups ordered within same (g.I.OverlayInt.whole g.I.OverlayInt.MIN_COORD) (g.I.OverlayInt.whole g.I.OverlayInt.MAX_COORD) in_range in
     record { ready = ready }
@@ -50,12 +50,12 @@ returns-clause-rounded g c =
     let segments = segments_of c.args.segments.now in
     let ps = pairs segments in
     let l = grid_of c.args.buffer.now in
-    let groups = group_of c.sort.new.self in
+    let groups = group_of c.sort-axis.new.self in
     let ordered = are_ordered c.args.segments.now in
     let within = all_pairs (IsInside l) c.args.segments.now c.requires.inside in
-    let same : (column : ℕ) → IsPermutation (kept_group l 0 ps column) (groups column) = λ column. subst (λ (fs : List KeptFragment). IsPermutation fs (groups column)) (c.in_ok-fill.ensures.groups column) (c.sort.ensures.permutation column) in
-    let layout = c.sort.ensures.layout ∙ c.in_ok-fill.ensures.layout in
-    let count : length c.groups.result.now ≡ group_count l = ap length c.groups.ensures ∙ c.sort.new.self.columns ∙ ap (λ (m : Layout). group_count m) layout in
+    let same : (column : ℕ) → IsPermutation (kept_group l 0 ps column) (groups column) = λ column. subst (λ (fs : List KeptFragment). IsPermutation fs (groups column)) (c.in_ok-fill.ensures.groups column) (c.sort-axis.ensures.permutation column) in
+    let layout = c.sort-axis.ensures.layout ∙ c.in_ok-fill.ensures.layout in
+    let count : length c.groups.result.now ≡ group_count l = ap length c.groups.ensures ∙ c.sort-axis.new.self.columns ∙ ap (λ (m : Layout). group_count m) layout in
     c.in_ok-rounded.ensures.rounded
     ∙ ap₂ (λ (gs : List _) (n : ℕ). list_any (λ column. is_group_rounded (group_in g.I.OverlayInt.whole gs column)) (range_with_len 0 n)) c.groups.ensures count
     ∙ rounded_is (placing_of c.args.placing) l segments groups ordered within same
@@ -65,12 +65,12 @@ returns-clause-looked g c =
     let segments = segments_of c.args.segments.now in
     let ps = pairs segments in
     let l = grid_of c.args.buffer.now in
-    let groups = group_of c.sort.new.self in
+    let groups = group_of c.sort-axis.new.self in
     let ordered = are_ordered c.args.segments.now in
     let within = all_pairs (IsInside l) c.args.segments.now c.requires.inside in
-    let same : (column : ℕ) → IsPermutation (kept_group l 0 ps column) (groups column) = λ column. subst (λ (fs : List KeptFragment). IsPermutation fs (groups column)) (c.in_ok-fill.ensures.groups column) (c.sort.ensures.permutation column) in
-    let layout = c.sort.ensures.layout ∙ c.in_ok-fill.ensures.layout in
-    let count : length c.groups.result.now ≡ group_count l = ap length c.groups.ensures ∙ c.sort.new.self.columns ∙ ap (λ (m : Layout). group_count m) layout in
+    let same : (column : ℕ) → IsPermutation (kept_group l 0 ps column) (groups column) = λ column. subst (λ (fs : List KeptFragment). IsPermutation fs (groups column)) (c.in_ok-fill.ensures.groups column) (c.sort-axis.ensures.permutation column) in
+    let layout = c.sort-axis.ensures.layout ∙ c.in_ok-fill.ensures.layout in
+    let count : length c.groups.result.now ≡ group_count l = ap length c.groups.ensures ∙ c.sort-axis.new.self.columns ∙ ap (λ (m : Layout). group_count m) layout in
     within_bound l ps groups ordered within same c.args.looked.now c.mark_columns.new.looked c.mark_borders.new.looked
     (subst (λ (n : ℕ). c.mark_columns.new.looked ≤ c.args.looked.now + n)
     (ap₂ (λ (gs : List _) (n : ℕ). sum_by (λ column. looks_of_group (group_in g.I.OverlayInt.whole gs column)) (range_with_len 0 n)) c.groups.ensures count) c.in_ok-rounded.ensures.looked)
@@ -81,12 +81,12 @@ returns-clause-marks g c =
     let segments = segments_of c.args.segments.now in
     let ps = pairs segments in
     let l = grid_of c.args.buffer.now in
-    let groups = group_of c.sort.new.self in
+    let groups = group_of c.sort-axis.new.self in
     let ordered = are_ordered c.args.segments.now in
     let within = all_pairs (IsInside l) c.args.segments.now c.requires.inside in
-    let same : (column : ℕ) → IsPermutation (kept_group l 0 ps column) (groups column) = λ column. subst (λ (fs : List KeptFragment). IsPermutation fs (groups column)) (c.in_ok-fill.ensures.groups column) (c.sort.ensures.permutation column) in
-    let layout = c.sort.ensures.layout ∙ c.in_ok-fill.ensures.layout in
-    let count : length c.groups.result.now ≡ group_count l = ap length c.groups.ensures ∙ c.sort.new.self.columns ∙ ap (λ (m : Layout). group_count m) layout in
+    let same : (column : ℕ) → IsPermutation (kept_group l 0 ps column) (groups column) = λ column. subst (λ (fs : List KeptFragment). IsPermutation fs (groups column)) (c.in_ok-fill.ensures.groups column) (c.sort-axis.ensures.permutation column) in
+    let layout = c.sort-axis.ensures.layout ∙ c.in_ok-fill.ensures.layout in
+    let count : length c.groups.result.now ≡ group_count l = ap length c.groups.ensures ∙ c.sort-axis.new.self.columns ∙ ap (λ (m : Layout). group_count m) layout in
     let p = placing_of c.args.placing in
     let columns = flat_map (λ column. marks_of_group p (groups column)) (range_with_len 0 (group_count l)) in
     let borders = flat_map (λ column. marks_of_border (pos_of l (column + 1)) (groups column) (groups (column + 1))) (range_with_len 0 (group_count l - 1)) in
@@ -99,7 +99,7 @@ returns-clause-marks g c =
     let all = subst (λ (start : List Mark). HoldSame (start ++ borders) now) first at_borders in
     let sorted = simp g.met.I.OverlayInt.ordered at c.in_ok-sort.ensures.sorted in
     AreMarks-from_elements g.I.PartialEq.eq g.I.Ord.cmp g.I.OverlayInt.whole g.met.I.Ord.matches_eq g.met.I.OverlayInt.ordered p segments
-    c.mark_borders.new.marks.items c.sort-2.new.self.items c.dedup.new.self.items
+    c.mark_borders.new.marks.items c.sort.new.self.items c.dedup.new.self.items
     (λ m h. sound p l segments groups ordered within same m (has_back (columns ++ borders) now all m h))
     (λ m h. has_same (columns ++ borders) now all m (complete p l segments groups ordered within same m h))
     c.in_ok-sort.ensures.permutation sorted c.dedup.ensures.filtered
@@ -114,19 +114,19 @@ pub mark_columns-requires-clause-radius : goal.mark_columns-requires-clause-radi
 mark_columns-requires-clause-radius g c = c.requires.radius
 
 pub mark_columns-requires-clause-sorted : goal.mark_columns-requires-clause-sorted
-mark_columns-requires-clause-sorted g c column = subst (λ (gs : List _). IsSortedAlong c.axis_of-axis.result (group_in g.I.OverlayInt.whole gs column)) (sym c.groups.ensures) (c.sort.ensures.sorted column)
+mark_columns-requires-clause-sorted g c column = subst (λ (gs : List _). IsSortedAlong c.sort-axis.result (group_in g.I.OverlayInt.whole gs column)) (sym c.groups.ensures) (c.sort-axis.ensures.sorted column)
 
 pub returns-in_err-fill-clause-layout : goal.returns-in_err-fill-clause-layout
 returns-in_err-fill-clause-layout g c = c.in_err-fill.ensures.layout
 
 pub returns-in_err-rounded-clause-layout : goal.returns-in_err-rounded-clause-layout
-returns-in_err-rounded-clause-layout g c = c.sort.ensures.layout ∙ c.in_ok-fill.ensures.layout
+returns-in_err-rounded-clause-layout g c = c.sort-axis.ensures.layout ∙ c.in_ok-fill.ensures.layout
 
 pub returns-in_err-mark_borders-clause-layout : goal.returns-in_err-mark_borders-clause-layout
-returns-in_err-mark_borders-clause-layout g c = c.in_err-mark_borders.ensures.layout ∙ c.sort.ensures.layout ∙ c.in_ok-fill.ensures.layout
+returns-in_err-mark_borders-clause-layout g c = c.in_err-mark_borders.ensures.layout ∙ c.sort-axis.ensures.layout ∙ c.in_ok-fill.ensures.layout
 
 pub returns-in_err-sort-clause-layout : goal.returns-in_err-sort-clause-layout
-returns-in_err-sort-clause-layout g c = c.in_ok-mark_borders.ensures.layout ∙ c.sort.ensures.layout ∙ c.in_ok-fill.ensures.layout
+returns-in_err-sort-clause-layout g c = c.in_ok-mark_borders.ensures.layout ∙ c.sort-axis.ensures.layout ∙ c.in_ok-fill.ensures.layout
 
 pub returns-clause-layout : goal.returns-clause-layout
-returns-clause-layout g c = c.in_ok-mark_borders.ensures.layout ∙ c.sort.ensures.layout ∙ c.in_ok-fill.ensures.layout
+returns-clause-layout g c = c.in_ok-mark_borders.ensures.layout ∙ c.sort-axis.ensures.layout ∙ c.in_ok-fill.ensures.layout

@@ -2,7 +2,7 @@ use Rattle.std.proofs.Common.{rules}
 use Rattle.std.proofs.lemmas.List.Sorted.{answers_always}
 use Rattle.overlay_marks.specs.declared.split.axis.Axis.TheVariants.{X, Y}
 use Rattle.overlay_marks.proofs.laws.grid.GridGroups.{IsSortedAlong-from_sort}
-use Rattle.overlay_marks.proofs.split.fragment_buffer.sort_along.Goals as goal
+use Rattle.overlay_marks.proofs.split.fragment_buffer.sort_group.Goals as goal
 
 pub returns-in-X-clause-sorted : goal.returns-in-X-clause-sorted
 returns-in-X-clause-sorted g c =
