@@ -103,7 +103,8 @@ fn build_all<'a, I: OverlayInt>(
     ensures in_range { OnOk result (IsFalse (tops_leave_range (segments_of segments.new.items))) }
     ensures out_of_range { IfErr result (λ fault. fault ≡ CountOutOfRange →
         LeavesRange (settings_of I.BITS solver.now splitter.old) (segments_of segments.old.items)
-        ⊎ (IsPassCount (settings_of I.BITS solver.now splitter.old) (segments_of segments.old.items) (passes_of splitter.new)
+        ⊎ (IsPassCount (settings_of I.BITS solver.now splitter.old) (segments_of segments.old.items)
+        (passes_of splitter.new)
         × (segments_of segments.new.items ≡ after_passes (settings_of I.BITS solver.now splitter.old)
         (segments_of segments.old.items) (passes_of splitter.new))
         × IsTrue (tops_leave_range (segments_of segments.new.items)))) }

@@ -42,8 +42,9 @@ pub fn arrange<H: Env + AllocGlobal, R: Read, W: Write, E: Write>(
 /// nothing and for a crossing of other than two segments, 3 for a faulty line, 4 for a `Fault`, 5 where the input or
 /// the output failed.
 ///
-/// Nothing is written to `output` unless the status is 0 or 5, and nothing to `faults` where it is 0. Any other status is
-/// told in one line on `faults`, where a failed write is passed over. Where the words ask for nothing, nothing is read.
+/// Nothing is written to `output` unless the status is 0 or 5, and nothing to `faults` where it is 0. Any other status
+/// is told in one line on `faults`, where a failed write is passed over. Where the words ask for nothing, nothing is
+/// read.
 #[tactic(auto, using(crate::proofs::Runs::is_no_success))]
 pub fn arrange_run<R: Read, W: Write, E: Write>(
     alloc: Global,

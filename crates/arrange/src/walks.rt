@@ -19,8 +19,8 @@ use overlay_build::build::graph::OverlayGraph;
 use overlay_build::build::walks::closed_walks;
 use std::alloc::{AllocError, Global};
 
-/// The text of closed walks through the graph that the settings choose, in which every link stands in one place, or that
-/// some node has an odd number of links.
+/// The text of closed walks through the graph that the settings choose, in which every link stands in one place, or
+/// that some node has an odd number of links.
 ///
 /// Answers `Fault::CountOutOfRange` as `graph` does.
 pub fn walks<I: OverlayInt>(

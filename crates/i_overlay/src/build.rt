@@ -1,9 +1,31 @@
 // Sweeps and graphs. Upstream: `build`.
 
 pub use overlay_build::build::{
-    boolean, clip_filter, fill_handler, fill_strategy, filter, graph, graph_node, laws,
-    link_filter, live_segments, scan_list, scan_tree, string, string_graph, util, walks,
+    clip_filter, fill_handler, fill_strategy, filter, graph, graph_node, laws, link_filter,
+    live_segments, scan_list, scan_tree, string_graph, util, walks,
 };
+
+/// Which fills an overlay rule keeps.
+pub mod boolean {
+    pub use overlay_build::build::filter::{
+        ClipFilter, DifferenceFilter, IntersectFilter, InverseDifferenceFilter, SubjectFilter,
+        UnionFilter, XorFilter, is_clip, is_difference, is_intersect, is_inverse_difference,
+        is_subject, is_union, is_xor,
+    };
+}
+
+/// Which fills a clip rule keeps, and the fill strategies, which are those of `sweep`.
+pub mod string {
+    pub use overlay_build::build::clip_filter::{
+        ClipInsideBoundaryExcludedFilter, ClipInsideBoundaryIncludedFilter,
+        ClipOutsideBoundaryExcludedFilter, ClipOutsideBoundaryIncludedFilter,
+        is_clip_inside_boundary_excluded, is_clip_inside_boundary_included,
+        is_clip_outside_boundary_excluded, is_clip_outside_boundary_included,
+    };
+    pub use overlay_build::build::fill_strategy::{
+        EvenOddStrategy, NegativeStrategy, NonZeroStrategy, PositiveStrategy,
+    };
+}
 
 /// Graphs of an arrangement, and what their builder needs.
 pub mod builder {

@@ -1,4 +1,5 @@
-// A split of polygons and lines, and the graph of the parts of lines that the polygons keep, in one call. This project's own.
+// A split of polygons and lines, and the graph of the parts of lines that the polygons keep, in one call. This
+// project's own.
 ghost use Rattle.std.specs.Prelude.{◌≡◌, IsFalse, OnOk, IfOk, IfErr};
 ghost use Rattle.overlay_base.specs.ArrangedOf.{IsSplittable, IsArranged};
 ghost use Rattle.overlay_base.specs.SegmentOf.{segments_of, data_segments_of};
@@ -21,22 +22,22 @@ use overlay_build::build::builder::GraphBuilder;
 use overlay_build::build::string_graph::StringGraph;
 use overlay_split::split::solver::SplitSolver;
 
-/// Splits a list of polygons, the subject, and lines into a planar arrangement, and answers the graph of the parts of the
-/// lines that a clip rule keeps: those inside the subject under a fill rule, or, where the rule is inverted, those outside of
-/// it. The graph borrows the builder.
+/// Splits a list of polygons, the subject, and lines into a planar arrangement, and answers the graph of the parts of
+/// the lines that a clip rule keeps: those inside the subject under a fill rule, or, where the rule is inverted, those
+/// outside of it. The graph borrows the builder.
 ///
 /// The list has to be splittable, as `is_splittable` tests; afterwards it is the arrangement. Where the counts of the
-/// polygons balance at every point, as those of closed contours do (lines have none), the graph holds exactly the segments
-/// along which a line runs and which the rule keeps by how the polygons wind on their two sides, in the columns beside
-/// them. Where all crossings of the given segments are at whole points, the arrangement counts along each part of a given
-/// segment what the given segments count there, masks included, and lies on them. The solver's strategy does not change the
-/// answer.
+/// polygons balance at every point, as those of closed contours do (lines have none), the graph holds exactly the
+/// segments along which a line runs and which the rule keeps by how the polygons wind on their two sides, in the
+/// columns beside them. Where all crossings of the given segments are at whole points, the arrangement counts along
+/// each part of a given segment what the given segments count there, masks included, and lies on them. The solver's
+/// strategy does not change the answer.
 ///
 /// Answers `Fault::CountOutOfRange` only where a running sum of counts on one pair of ends leaves
-/// `-i32::MAX..=i32::MAX` in the split, or a winding above a segment in the build, and, memory being found, wherever one
-/// does; `Fault::Memory` where a growth is refused. Where the split was refused the list is empty and `passes` is as it
-/// was, and the builder was not called; where the build was refused the list is the arrangement. The splitter and the
-/// builder can be used again.
+/// `-i32::MAX..=i32::MAX` in the split, or a winding above a segment in the build, and, memory being found, wherever
+/// one does; `Fault::Memory` where a growth is refused. Where the split was refused the list is empty and `passes` is
+/// as it was, and the builder was not called; where the build was refused the list is the arrangement. The splitter and
+/// the builder can be used again.
 pub fn split_and_build_clip<'a, I: OverlayInt>(
     splitter: &mut SplitSolver<I>,
     builder: &'a mut GraphBuilder<ShapeCountString, Vec<usize>, I, ()>,
@@ -61,8 +62,8 @@ pub fn split_and_build_clip<'a, I: OverlayInt>(
         (segments_of segments.old.items) → ⊥) }
     ensures in_range { OnOk result (IsFalse (tops_leave_range (segments_of segments.new.items))) }
     ensures refused { IfErr result
-        (IsRefused (settings_of I.BITS solver.now splitter.old) (segments_of segments.old.items) (segments_of segments.new.items)
-        (passes_of splitter.old) (passes_of splitter.new)) }
+        (IsRefused (settings_of I.BITS solver.now splitter.old) (segments_of segments.old.items)
+        (segments_of segments.new.items) (passes_of splitter.old) (passes_of splitter.new)) }
     ensures limit { snap_limit_of splitter.new ≡ snap_limit_of splitter.old }
 {
     splitter.split_segments(segments, solver)?;

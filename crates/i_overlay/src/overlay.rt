@@ -40,14 +40,14 @@ use overlay_split::split::solver::SplitSolver;
 /// encloses exactly the places of which the rule holds, by how the arrangement winds there: oddly many links run below
 /// them. At every place that is farther from the given segments than the passes move crossings, that is how the given
 /// segments wind. The data of the list goes through the splits and merges of a store of its own, which begins as the
-/// store's default and is dropped; each link has the data of its segment. What the hooks keep of data, and what holds of
-/// all given data, holds of each link's (`kept_data`). The solver's strategy does not change the answer.
+/// store's default and is dropped; each link has the data of its segment. What the hooks keep of data, and what holds
+/// of all given data, holds of each link's (`kept_data`). The solver's strategy does not change the answer.
 ///
 /// Answers `Fault::CountOutOfRange` only where a running sum of counts on one pair of ends leaves
-/// `-i32::MAX..=i32::MAX` in the split, or a winding above a segment in the build, and, memory being found, wherever one
-/// does; `Fault::Memory` where a growth is refused. Where the split was refused the list is empty and `passes` is as it
-/// was, and the builder was not called; where the build was refused the list is the arrangement. The splitter and the
-/// builder can be used again.
+/// `-i32::MAX..=i32::MAX` in the split, or a winding above a segment in the build, and, memory being found, wherever
+/// one does; `Fault::Memory` where a growth is refused. Where the split was refused the list is empty and `passes` is
+/// as it was, and the builder was not called; where the build was refused the list is the arrangement. The splitter and
+/// the builder can be used again.
 pub fn split_and_build_overlay<'a, I: OverlayInt, D: OverlayEdgeData<ShapeCountBoolean>>(
     splitter: &mut SplitSolver<I>,
     builder: &'a mut GraphBuilder<ShapeCountBoolean, OverlayNode, I, D>,
@@ -77,8 +77,8 @@ pub fn split_and_build_overlay<'a, I: OverlayInt, D: OverlayEdgeData<ShapeCountB
     ensures arranged { IsArranged segments.new.items }
     ensures list_data { (segments.new.items ≡ []) ⊎
         IsDataAfter (hooks_of boolean_counted D.OverlayEdgeData.own) D.Store.is_default
-        (settings_of I.BITS solver.now splitter.old) (data_segments_of segments.old.items) (data_segments_of segments.new.items)
-        (passes_of splitter.new) }
+        (settings_of I.BITS solver.now splitter.old) (data_segments_of segments.old.items)
+        (data_segments_of segments.new.items) (passes_of splitter.new) }
     ensures unchanged { IsArranged segments.old.items →
         OnOk result (data_segments_of segments.new.items ≡ data_segments_of segments.old.items) }
 
@@ -86,8 +86,8 @@ pub fn split_and_build_overlay<'a, I: OverlayInt, D: OverlayEdgeData<ShapeCountB
         (segments_of segments.old.items) → ⊥) }
     ensures in_range { OnOk result (IsFalse (tops_leave_range (segments_of segments.new.items))) }
     ensures refused { IfErr result
-        (IsRefused (settings_of I.BITS solver.now splitter.old) (segments_of segments.old.items) (segments_of segments.new.items)
-        (passes_of splitter.old) (passes_of splitter.new)) }
+        (IsRefused (settings_of I.BITS solver.now splitter.old) (segments_of segments.old.items)
+        (segments_of segments.new.items) (passes_of splitter.old) (passes_of splitter.new)) }
     ensures limit { snap_limit_of splitter.new ≡ snap_limit_of splitter.old }
 {
     splitter.split_segments(segments, solver)?;

@@ -1,9 +1,11 @@
 // The program of the README, by the prelude; and upstream's names at upstream's paths.
+use crate::build::boolean::{IntersectFilter, is_intersect};
 use crate::build::builder::{GraphNode, InclusionFilterStrategy};
-use crate::build::filter::IntersectFilter;
+use crate::build::string::{ClipInsideBoundaryExcludedFilter, is_clip_inside_boundary_excluded};
 use crate::build::sweep::{FillStrategy, NonZeroStrategy};
 use crate::prelude::*;
 use crate::segm::segment::{BOTH_TOP, SUBJ_TOP};
+use crate::split::grid_layout::{FragmentBuffer, GridLayout};
 use std::alloc::Global;
 use std::process::Abort;
 use std::test::Fail;
@@ -75,6 +77,9 @@ fn shared_part_as_a_program_finds_it(rt: HostRuntime) -> Result<(), Fail> {
 fn names_stand_where_upstream_has_them(rt: HostRuntime) {
     assert!(rt; IntersectFilter::is_included(BOTH_TOP));
     assert!(rt; !IntersectFilter::is_included(SUBJ_TOP));
+    assert!(rt; is_intersect(BOTH_TOP));
+    assert!(rt; !ClipInsideBoundaryExcludedFilter::is_included(SUBJ_TOP));
+    assert!(rt; !is_clip_inside_boundary_excluded(SUBJ_TOP));
     let (subject, nothing) = (ShapeCountBoolean::new(1, 0), ShapeCountBoolean::new(0, 0));
     assert!(rt; subject.is_valid() && nothing.is_valid());
     let filled = NonZeroStrategy::add_and_fill(subject, nothing);
@@ -82,4 +87,7 @@ fn names_stand_where_upstream_has_them(rt: HostRuntime) {
     let links: [usize; 2] = [3, 5];
     let node = OverlayNode::with_indices(rt.alloc(), &links);
     assert_eq!(rt; node.map(|node| node.indices().len()), Ok(2));
+    let layout = GridLayout::with_min_max(0, 12, 2).expect(&rt, "wide enough");
+    let buffer: FragmentBuffer<i32> = FragmentBuffer::new(rt.alloc(), layout).expect(&rt, "memory");
+    assert_eq!(rt; buffer.groups().len(), 7);
 }

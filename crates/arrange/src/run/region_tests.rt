@@ -1,5 +1,5 @@
-// What the links of an overlay enclose, asked at places of a lattice and compared with the contours that were given, by a
-// count of crossings of this file's own. All coordinates are doubled, so that places stand between whole points.
+// What the links of an overlay enclose, asked at places of a lattice and compared with the contours that were given, by
+// a count of crossings of this file's own. All coordinates are doubled, so that places stand between whole points.
 
 use super::tests::run_words;
 use super::*;
@@ -294,7 +294,8 @@ fn walk_of(alloc: Global, line: &str, links: &[Way], used: &mut [bool]) -> Resul
     Ok(walk)
 }
 
-/// Asks that each link of a walk leads on to the next, the last one to the first, and that each link stands in one place.
+/// Asks that each link of a walk leads on to the next, the last one to the first, and that each link stands in one
+/// place.
 fn ask_walks<H: Abort + AllocGlobal>(rt: &H, text: &str, links: &[Way]) -> Result<(), Fail> {
     let mut used = vec![in rt.alloc(); false; links.len()]?;
     for line in text.split('\n') {

@@ -70,8 +70,8 @@ fn side(from: (i32, i32), to: (i32, i32), shape: ShapeType, number: u32) -> Opti
     Segment::try_ab_and_data(a, b, shape, Source(number), &mut ())
 }
 
-/// The sides of the two squares, the subject's from 0 to 3, from below and counterclockwise, the clip's from 4 to 7. What
-/// both share is bounded by the clip's left and lower sides and by the subject's right and upper ones.
+/// The sides of the two squares, the subject's from 0 to 3, from below and counterclockwise, the clip's from 4 to 7.
+/// What both share is bounded by the clip's left and lower sides and by the subject's right and upper ones.
 #[test]
 fn each_link_names_the_side_it_came_from(rt: HostRuntime) -> Result<(), Fail> {
     let mut sides = Vec::new(rt.alloc());

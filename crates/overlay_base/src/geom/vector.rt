@@ -8,7 +8,8 @@ use crate::geom::point::IntPoint;
 use crate::num::OverlayInt;
 use std::alloc::AllocError;
 
-/// How far one point lies from another, in x and in y, as machine numbers that hold any such distance. This project's own.
+/// How far one point lies from another, in x and in y, as machine numbers that hold any such distance. This project's
+/// own.
 #[derive(Debug)]
 pub struct IntVector {
     x: i64,

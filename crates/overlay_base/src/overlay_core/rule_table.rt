@@ -16,8 +16,8 @@ const IN_CLIP: u8 = 4;
 /// The same inside both.
 const IN_BOTH: u8 = 8;
 
-/// A truth function of "inside the subject" and "inside the clip", as the four bits of a number from 0 to 15: bit 0 is its
-/// value outside of both, bit 1 inside the subject alone, bit 2 inside the clip alone, and bit 3 inside both.
+/// A truth function of "inside the subject" and "inside the clip", as the four bits of a number from 0 to 15: bit 0 is
+/// its value outside of both, bit 1 inside the subject alone, bit 2 inside the clip alone, and bit 3 inside both.
 #[derive(Clone, Copy, Debug, PartialEq, Eq)]
 pub struct RuleTable {
     bits: u8,

@@ -21,8 +21,8 @@ pub trait WindingCount: Copy {
     fn is_not_empty(&self) -> bool
         ensures { result ≡ is_not_empty (winding self.now) };
 
-    /// The count that winds `subj` times for the subject and `clip` times for the clip. A count of lines takes of `clip`
-    /// whether it is positive, negative or 0.
+    /// The count that winds `subj` times for the subject and `clip` times for the clip. A count of lines takes of
+    /// `clip` whether it is positive, negative or 0.
     fn new(subj: i32, clip: i32) -> Self
         ensures { winding result ≡ made subj clip };
 

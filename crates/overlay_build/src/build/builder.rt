@@ -266,8 +266,8 @@ impl<I: OverlayInt> GraphBuilder<ShapeCountString, Vec<usize>, I, ()> {
     }
 
     /// The graph of the segments of an arrangement of polygons and lines that the clip rule keeps: parts of lines, by
-    /// whether the polygons are on their two sides. With balanced counts, as of closed contours and whatever lines, these
-    /// sides are told by the windings in the columns beside a segment.
+    /// whether the polygons are on their two sides. With balanced counts, as of closed contours and whatever lines,
+    /// these sides are told by the windings in the columns beside a segment.
     ///
     /// The segments have to be arranged, as `is_arranged` tests. The solver's strategy does not change the answer.
     ///

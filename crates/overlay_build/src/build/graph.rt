@@ -11,13 +11,14 @@ use overlay_base::overlay_core::link::OverlayLink;
 /// The kept segments of an overlay as links, and their ends as nodes.
 ///
 /// Links stand in the order of the segments. Nodes are the ends of links, each once, in order of their points; a node
-/// lists the links that start there, then those that end there, both by rising index. A link's `a.id` and `b.id` are the
-/// numbers of the nodes at its ends.
+/// lists the links that start there, then those that end there, both by rising index. A link's `a.id` and `b.id` are
+/// the numbers of the nodes at its ends.
 #[derive(Drop)]
 pub struct OverlayGraph<'a, I: OverlayInt, D> {
     nodes: &'a [OverlayNode],
     links: &'a [OverlayLink<I, D>],
-    pub ghost holds: { HoldGraph indexes_of is_canonical_node I.whole nodes.now links.now (graph_with I.whole links.now) },
+    pub ghost holds: { HoldGraph indexes_of is_canonical_node I.whole nodes.now links.now
+        (graph_with I.whole links.now) },
 }
 
 impl<'a, I: OverlayInt, D: Copy> OverlayGraph<'a, I, D> {

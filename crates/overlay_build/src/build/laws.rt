@@ -9,10 +9,10 @@ pub fn fill_laws()
 {}
 
 /// With balanced counts, for every truth function of "inside the subject" and "inside the clip": evenly many links meet
-/// at each node of its graph, so that it is valid, and its graph is that of the segments whose two sides it tells apart,
-/// by the windings in the columns beside them; at every place of the plane oddly many of its links run below exactly
-/// where the function has another value there than outside. Without any condition: the links that a test keeps of the
-/// graph of all segments are those of the test's own graph, but for the numbers of nodes.
+/// at each node of its graph, so that it is valid, and its graph is that of the segments whose two sides it tells
+/// apart, by the windings in the columns beside them; at every place of the plane oddly many of its links run below
+/// exactly where the function has another value there than outside. Without any condition: the links that a test keeps
+/// of the graph of all segments are those of the test's own graph, but for the numbers of nodes.
 pub fn graph_laws()
     ensures even { NodesAreEven }
     ensures valid { GraphsAreValid }
@@ -21,15 +21,15 @@ pub fn graph_laws()
     ensures filter { FilterGivesLinks }
 {}
 
-/// Whatever data segments carry: the data of the links that a test keeps of the graph of all segments is that of the links of
-/// the test's own graph, in the same order.
+/// Whatever data segments carry: the data of the links that a test keeps of the graph of all segments is that of the
+/// links of the test's own graph, in the same order.
 pub fn link_data_laws<D>()
     ensures { FilterGivesData D }
 {}
 
 /// Of polygons and lines: a clip rule keeps a fill where a line runs along the segment and the rule keeps what has the
-/// polygons on these sides; with balanced counts its graph is that of the parts of lines that it keeps by the windings of the
-/// polygons in the columns beside them.
+/// polygons on these sides; with balanced counts its graph is that of the parts of lines that it keeps by the windings
+/// of the polygons in the columns beside them.
 pub fn line_laws()
     ensures fills { FillsTellLines }
     ensures exact { ClipGraphsAreExact }

@@ -19,9 +19,9 @@ const FEW_POINTS: usize = 64;
 impl<C: WindingCount, N: GraphNode, I: OverlayInt, D: Copy> GraphBuilder<C, N, I, D> {
     /// Whether two places of the contour hold one point.
     ///
-    /// Of fewer than 64 points each is compared with those after it; the buffer is left as it is, and no memory is taken.
-    /// From 64 points on they are sorted in the buffer, which ends with them in rising order, by `x`, then by `y`.
-    /// Answers `Fault::Memory` where the buffer's growth is refused; it is empty then.
+    /// Of fewer than 64 points each is compared with those after it; the buffer is left as it is, and no memory is
+    /// taken. From 64 points on they are sorted in the buffer, which ends with them in rising order, by `x`, then by
+    /// `y`. Answers `Fault::Memory` where the buffer's growth is refused; it is empty then.
     pub fn test_contour_for_loops(
         &self,
         contour: &[IntPoint<I>],

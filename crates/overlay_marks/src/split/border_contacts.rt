@@ -17,8 +17,8 @@ use overlay_base::geom::point::IntPoint;
 use overlay_base::num::OverlayInt;
 use std::alloc::AllocError;
 
-/// Appends the marks on vertical segments that stand on the left border of a column, other than the first: the right ends
-/// at that `x` in the column to the left which lie strictly between their ends.
+/// Appends the marks on vertical segments that stand on the left border of a column, other than the first: the right
+/// ends at that `x` in the column to the left which lie strictly between their ends.
 pub(crate) fn mark_borders<I: OverlayInt>(
     buffer: &mut FragmentBuffer<I>,
     marks: &mut Vec<LineMark<I>>,
@@ -68,8 +68,8 @@ fn mark_border<I: OverlayInt>(
     Ok(())
 }
 
-/// Appends the marks on a vertical segment at those heights that lie strictly between its ends. The heights have to be in
-/// order.
+/// Appends the marks on a vertical segment at those heights that lie strictly between its ends. The heights have to be
+/// in order.
 fn mark_heights<I: OverlayInt>(
     vertical: &Fragment<I>,
     heights: &[I],

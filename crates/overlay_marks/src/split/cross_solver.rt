@@ -81,11 +81,11 @@ impl CrossSolver {
         }
     }
 
-    /// Where the two meet in a pass that settles, without a radius. The conditions and the answers are those of `cross`,
-    /// but for a crossing strictly inside both: its point is the exact one with each coordinate to nearest, halves
-    /// upward, so it does not depend on which of the two is the target. It is an end of at most one of them:
-    /// `TargetEnd`, `OtherEnd`, and else `Pure`; not rounded where the crossing has whole coordinates.
-    /// This project's own.
+    /// Where the two meet in a pass that settles, without a radius. The conditions and the answers are those of
+    /// `cross`, but for a crossing strictly inside both: its point is the exact one with each coordinate to nearest,
+    /// halves upward, so it does not depend on which of the two is the target. It is an end of at most one of them:
+    /// `TargetEnd`, `OtherEnd`, and else `Pure`; not rounded where the crossing has whole coordinates. This project's
+    /// own.
     pub fn cross_settled<I: OverlayInt>(
         target: &XSegment<I>,
         other: &XSegment<I>,

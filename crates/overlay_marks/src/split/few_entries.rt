@@ -28,8 +28,8 @@ pub fn look_through<I: OverlayInt>(
     Ok(())
 }
 
-/// Takes up the entry of a node, where it is live and the look-up meets its heights, and appends its index where it does
-/// not end left of the sweep.
+/// Takes up the entry of a node, where it is live and the look-up meets its heights, and appends its index where it
+/// does not end left of the sweep.
 fn look_at_one<I: OverlayInt>(
     node: &Node<I>,
     query: &Query<I>,

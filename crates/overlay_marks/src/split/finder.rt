@@ -35,8 +35,8 @@ use std::mem::replace;
 /// So many fragments a segment are many.
 const MANY_FRAGMENTS: u128 = 4;
 
-/// What the passes of one run find the segments that meet by: a look at all pairs of a list, a tree over their heights, or
-/// the columns of a grid. The marks are the same.
+/// What the passes of one run find the segments that meet by: a look at all pairs of a list, a tree over their heights,
+/// or the columns of a grid. The marks are the same.
 #[derive(Drop)]
 pub struct PairFinder<I: OverlayInt> {
     solver: Solver,
@@ -45,8 +45,8 @@ pub struct PairFinder<I: OverlayInt> {
 }
 
 impl<I: OverlayInt> PairFinder<I> {
-    /// For a run whose first arrangement is this, which has to be in range: over a grid, where the solver asks for one, and
-    /// not for a list, and these segments are wide enough. The grid takes the memory that is lent.
+    /// For a run whose first arrangement is this, which has to be in range: over a grid, where the solver asks for one,
+    /// and not for a list, and these segments are wide enough. The grid takes the memory that is lent.
     ///
     /// Answers `Fault::Memory` where a growth is refused.
     pub fn new<C: WindingCount, D: Copy>(
@@ -97,11 +97,12 @@ impl<I: OverlayInt> PairFinder<I> {
         self.looked
     }
 
-    /// Finds the marks of a pass: the points at which each segment is to be split, each once, by rising index and then in
-    /// order of points. Answers whether two segments cross at a point without whole coordinates, so that the pass rounds.
+    /// Finds the marks of a pass: the points at which each segment is to be split, each once, by rising index and then
+    /// in order of points. Answers whether two segments cross at a point without whole coordinates, so that the pass
+    /// rounds.
     ///
-    /// The list has to be sorted, as by `sort_by_ab`, in range, and inside the grid, if there is one; a squared radius has
-    /// to be at least 1. What `marks` held before is dropped.
+    /// The list has to be sorted, as by `sort_by_ab`, in range, and inside the grid, if there is one; a squared radius
+    /// has to be at least 1. What `marks` held before is dropped.
     ///
     /// Answers `Fault::Memory` where a growth is refused; `marks` is of no use then.
     pub fn find_marks<C: WindingCount, D: Copy>(
@@ -121,7 +122,8 @@ impl<I: OverlayInt> PairFinder<I> {
             (marks_of I.whole marks.new.items)) }
         ensures rounded { IfOk result (λ rounded. rounded ≡ is_rounded (segments_of segments.now)) }
         ensures looked { IsFalse (list_splits (solver_in self.old).strategy (length segments.now)) →
-            OnOk result (looks_in self.new ≤ looks_in self.old + pass_looks (layout_in self.old) (pairs (segments_of segments.now))) }
+            OnOk result (looks_in self.new ≤ looks_in self.old
+            + pass_looks (layout_in self.old) (pairs (segments_of segments.now))) }
         ensures fault { IfErr result (λ fault. fault ≡ Memory) }
     {
         if self.solver.is_list_split(segments) {
@@ -134,8 +136,8 @@ impl<I: OverlayInt> PairFinder<I> {
     }
 }
 
-/// The grid of a run over these segments, where the solver asks for one, and not for a list, and they are wide enough. It
-/// takes the memory that is lent.
+/// The grid of a run over these segments, where the solver asks for one, and not for a list, and they are wide enough.
+/// It takes the memory that is lent.
 fn grid_over<C: WindingCount, I: OverlayInt, D: Copy>(
     alloc: Global,
     solver: &Solver,
@@ -165,9 +167,9 @@ fn grid_over<C: WindingCount, I: OverlayInt, D: Copy>(
     }
 }
 
-/// Finds the marks over a grid, inside which the segments have to lie. Where they have many fragments each, they are first
-/// looked up in a tree, which may take up as many pairs as there are fragments. Only where that does not do are fragments
-/// made.
+/// Finds the marks over a grid, inside which the segments have to lie. Where they have many fragments each, they are
+/// first looked up in a tree, which may take up as many pairs as there are fragments. Only where that does not do are
+/// fragments made.
 fn find_over_grid<C: WindingCount, I: OverlayInt, D: Copy>(
     segments: &[Segment<C, I, D>],
     placing: Placing,

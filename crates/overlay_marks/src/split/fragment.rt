@@ -22,8 +22,12 @@ pub struct Fragment<I> {
 impl<I: OverlayInt> Fragment<I> {
     /// The fragment whose rectangle is the segment's box.
     pub fn with_index_and_segment(index: usize, x_segment: XSegment<I>) -> Self
-        ensures { fragment_of I.whole result ≡
-            (let s = pair_of I.whole x_segment in record { index = index; pair = s; rect = rect_between s.a.x s.a.y s.b.x s.b.y }) }
+        ensures { let s = pair_of I.whole x_segment in
+            fragment_of I.whole result ≡ record {
+              index = index;
+              pair = s;
+              rect = rect_between s.a.x s.a.y s.b.x s.b.y;
+            } }
     {
         let XSegment { a, b } = x_segment;
         Fragment::between(index, a, b, XSegment { a, b })
@@ -31,8 +35,11 @@ impl<I: OverlayInt> Fragment<I> {
 
     /// The fragment whose rectangle has two points as opposite corners.
     pub fn between(index: usize, p: IntPoint<I>, q: IntPoint<I>, x_segment: XSegment<I>) -> Self
-        ensures { fragment_of I.whole result ≡
-            record { index = index; pair = pair_of I.whole x_segment; rect = rect_between (I.whole p.x) (I.whole p.y) (I.whole q.x) (I.whole q.y) } }
+        ensures { fragment_of I.whole result ≡ record {
+          index = index;
+          pair = pair_of I.whole x_segment;
+          rect = rect_between (I.whole p.x) (I.whole p.y) (I.whole q.x) (I.whole q.y);
+        } }
     {
         Fragment {
             index,

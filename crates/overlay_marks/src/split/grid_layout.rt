@@ -30,8 +30,8 @@ impl<I: OverlayInt> GridLayout<I> {
     ghost use Rattle.overlay_marks.specs.Grid.{IsLayout, IsLayoutOf, IsTooNarrow, column_index, pos_of, group_count};
     ghost use Rattle.overlay_marks.specs.FragmentOf.{layout_of};
 
-    /// The columns over segments, from the first one's start to the greatest `x` of an end, for that many segments: of a
-    /// number n there are about as many columns as its root. `None` where these `x` are less than 4 apart.
+    /// The columns over segments, from the first one's start to the greatest `x` of an end, for that many segments: of
+    /// a number n there are about as many columns as its root. `None` where these `x` are less than 4 apart.
     ///
     /// At least one segment has to be given, and each has to be in range, ordered as by `sort_by_ab` if all are to lie
     /// inside; the number has to be at least 1.
@@ -68,9 +68,9 @@ impl<I: OverlayInt> GridLayout<I> {
         GridLayout::with_min_max(a.x, max_x, segments.len().ilog2() / 2)
     }
 
-    /// The columns from one `x` to another, both in range. Their width is a power of two: of them as many fit between the
-    /// two as `2 ^ max_power`, and less than twice as many, but they are at least 2 wide. `None` where the two are less
-    /// than 4 apart.
+    /// The columns from one `x` to another, both in range. Their width is a power of two: of them as many fit between
+    /// the two as `2 ^ max_power`, and less than twice as many, but they are at least 2 wide. `None` where the two are
+    /// less than 4 apart.
     pub fn with_min_max(min_x: I, max_x: I, max_power: u32) -> Option<Self>
         requires from { IsTrue (is_coordinate (I.whole I.MIN_COORD) (I.whole I.MAX_COORD) (I.whole min_x)) }
         requires to { IsTrue (is_coordinate (I.whole I.MIN_COORD) (I.whole I.MAX_COORD) (I.whole max_x)) }

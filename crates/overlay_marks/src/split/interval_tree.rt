@@ -113,8 +113,8 @@ fn is_above<I: OverlayInt>(low: I, high: I) -> bool
     high < low
 }
 
-/// Takes up the entry of a node that does not begin above the look-up, where it is live and reaches it: drops it where it
-/// ends left of the sweep, and else appends its index. Answers whether it is dropped.
+/// Takes up the entry of a node that does not begin above the look-up, where it is live and reaches it: drops it where
+/// it ends left of the sweep, and else appends its index. Answers whether it is dropped.
 fn look_at<I: OverlayInt>(
     node: &mut Node<I>,
     query: &Query<I>,

@@ -29,8 +29,8 @@ pub fn rounding_laws()
     ensures { RoundingsAreAsMeant }
 {}
 
-/// The fragments of a segment that begins inside a grid follow one another from its start to its end, and the rectangle of
-/// each holds the segment's part there.
+/// The fragments of a segment that begins inside a grid follow one another from its start to its end, and the rectangle
+/// of each holds the segment's part there.
 pub fn fragment_laws()
     ensures { FragmentsEnclose }
 {}

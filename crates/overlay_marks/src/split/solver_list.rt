@@ -39,8 +39,8 @@ pub(crate) struct Indexed<I> {
 /// order of points. Answers whether two segments cross at a point without whole coordinates, so that the pass rounds.
 ///
 /// The list has to be sorted, as by `sort_by_ab`, and in range, and a squared radius at least 1. It looks at every two
-/// segments whose ranges in `x` meet, which `looked` counts, and marks those whose ranges in `y` meet too. What `marks` held
-/// before is dropped.
+/// segments whose ranges in `x` meet, which `looked` counts, and marks those whose ranges in `y` meet too. What `marks`
+/// held before is dropped.
 ///
 /// Answers `Fault::Memory` where a growth is refused; `marks` is of no use then.
 pub fn find_marks<C: WindingCount, I: OverlayInt, D: Copy>(
@@ -133,7 +133,8 @@ pub(crate) fn mark_both<I: OverlayInt>(
     requires second_apart { (pair_of I.whole second.x_segment).a ≢ (pair_of I.whole second.x_segment).b }
     requires order { IsFalse (pair_lt (pair_of I.whole second.x_segment) (pair_of I.whole first.x_segment)) }
     ensures marks { OnOk result (marks_of I.whole marks.new.items ≡ marks_of I.whole marks.old.items
-        ++ marks_between (placing_of placing) first.index (pair_of I.whole first.x_segment) second.index (pair_of I.whole second.x_segment)) }
+        ++ marks_between (placing_of placing) first.index (pair_of I.whole first.x_segment)
+        second.index (pair_of I.whole second.x_segment)) }
     ensures rounded { IfOk result (λ rounded. rounded ≡ cross_inexactly (pair_of I.whole first.x_segment)
         (pair_of I.whole second.x_segment)) }
 {
@@ -164,7 +165,8 @@ fn mark_overlap<I: OverlayInt>(
     requires second_apart { (pair_of I.whole second.x_segment).a ≢ (pair_of I.whole second.x_segment).b }
     requires line { IsTrue (are_collinear (pair_of I.whole first.x_segment) (pair_of I.whole second.x_segment)) }
     ensures { OnOk result (marks_of I.whole marks.new.items ≡ marks_of I.whole marks.old.items
-        ++ marks_of_overlap first.index (pair_of I.whole first.x_segment) second.index (pair_of I.whole second.x_segment)) }
+        ++ marks_of_overlap first.index (pair_of I.whole first.x_segment)
+        second.index (pair_of I.whole second.x_segment)) }
 {
     let target = first.x_segment;
     let other = second.x_segment;

@@ -1,4 +1,5 @@
-// The finder that looks segments up in a tree over their heights. Upstream: `split::solver_tree`, whose tree is another.
+// The finder that looks segments up in a tree over their heights. Upstream: `split::solver_tree`, whose tree is
+// another.
 ghost use Rattle.std.specs.Prelude.{◌≡◌, ◌≢◌, ℕ, ◌<◌, ◌≤◌, ◌+◌, ◌-◌, ◌^◌, min, ◌++◌, [], ◌∷◌, All, IfErr, IfOk, OnOk, IsTrue, IsFalse, IsSortedByKey, IsPermutation, length, map, filter, ◌==◌};
 ghost use Rattle.overlay_base.specs.declared.segm.fault.Fault.TheVariants.{Memory};
 ghost use Rattle.overlay_base.specs.Points.{pair_cmp};
@@ -45,13 +46,13 @@ impl<I> TreeBuffers<I> {
     }
 }
 
-/// Finds the marks of a pass, as `solver_list::find_marks` does, and answers whether the pass rounds. The conditions are
-/// the same.
+/// Finds the marks of a pass, as `solver_list::find_marks` does, and answers whether the pass rounds. The conditions
+/// are the same.
 ///
-/// A sweep over the list keeps the segments that it has met: a few in a list, and more in a tree over their heights, which
-/// is renewed from time to time, so that it has few that have ended. Each segment takes up those whose heights it meets:
-/// those that end left of it are dropped, with the others it is marked. So besides one look at each segment that is
-/// dropped, it looks at those two alone whose ranges in `x` and in `y` meet; `looked` counts the looks.
+/// A sweep over the list keeps the segments that it has met: a few in a list, and more in a tree over their heights,
+/// which is renewed from time to time, so that it has few that have ended. Each segment takes up those whose heights it
+/// meets: those that end left of it are dropped, with the others it is marked. So besides one look at each segment that
+/// is dropped, it looks at those two alone whose ranges in `x` and in `y` meet; `looked` counts the looks.
 ///
 /// Answers `Fault::Memory` where a growth is refused; `marks` is of no use then.
 pub fn find_marks<C: WindingCount, I: OverlayInt, D: Copy>(
@@ -191,11 +192,11 @@ fn take_among_few<C: WindingCount, I: OverlayInt, D: Copy>(
 /// So many segments at least are added to a tree at once.
 const LEAST_MORE: usize = 8;
 
-/// Takes those entries out of the tree that are not live or end left of the segment at an index, and adds the entries of
-/// segments from there on, none of them live. Answers up to which segment.
+/// Takes those entries out of the tree that are not live or end left of the segment at an index, and adds the entries
+/// of segments from there on, none of them live. Answers up to which segment.
 ///
-/// It adds as many as stay, but at least 8, if there are so many: so the tree stays near what is live in size, and what is
-/// sorted in all is no more than a few times the segments.
+/// It adds as many as stay, but at least 8, if there are so many: so the tree stays near what is live in size, and what
+/// is sorted in all is no more than a few times the segments.
 pub(crate) fn renew<C: WindingCount, I: OverlayInt, D: Copy>(
     segments: &[Segment<C, I, D>],
     from: usize,
@@ -209,7 +210,8 @@ pub(crate) fn renew<C: WindingCount, I: OverlayInt, D: Copy>(
         → AreRising (entries (nodes_of I.whole nodes.new.items))) }
     ensures summed { OnOk result (IsSummed (nodes_of I.whole nodes.new.items)) }
     ensures listed { IfOk result (λ until. (let ps = pairs (segments_of segments.now) in
-        IsPermutation (filter (stays_at (pair_at ps from).a.x) (entries (nodes_of I.whole nodes.old.items)) ++ entries_between ps from until) (entries (nodes_of I.whole nodes.new.items)))) }
+        let staying = filter (stays_at (pair_at ps from).a.x) (entries (nodes_of I.whole nodes.old.items)) in
+        IsPermutation (staying ++ entries_between ps from until) (entries (nodes_of I.whole nodes.new.items)))) }
 {
     let first = segments[from].x_segment();
     drop_ended(nodes, first.a.x);
@@ -270,8 +272,8 @@ fn node_at<I: OverlayInt>(index: usize, segment: XSegment<I>, is_live: bool) -> 
     }
 }
 
-/// Appends the marks that a segment and each of those found before it put on one another, and answers whether it crosses
-/// one of them at a point without whole coordinates.
+/// Appends the marks that a segment and each of those found before it put on one another, and answers whether it
+/// crosses one of them at a point without whole coordinates.
 pub(crate) fn mark_with_found<C: WindingCount, I: OverlayInt, D: Copy>(
     segments: &[Segment<C, I, D>],
     found: &[usize],

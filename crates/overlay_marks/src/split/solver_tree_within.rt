@@ -16,9 +16,9 @@ use overlay_base::segm::fault::Fault;
 use overlay_base::segm::segment::Segment;
 use overlay_base::segm::winding::WindingCount;
 
-/// Finds the marks of a pass as `solver_tree::find_marks` does, under the same conditions, if that takes up no more pairs
-/// than it may. It answers whether the pass rounds, and `None` where it gave up: before a segment that might take up more
-/// than are left, so that `marks` is of no use.
+/// Finds the marks of a pass as `solver_tree::find_marks` does, under the same conditions, if that takes up no more
+/// pairs than it may. It answers whether the pass rounds, and `None` where it gave up: before a segment that might take
+/// up more than are left, so that `marks` is of no use.
 ///
 /// Answers `Fault::Memory` where a growth is refused; `marks` is of no use then.
 pub fn find_marks_within<C: WindingCount, I: OverlayInt, D: Copy>(

@@ -1,5 +1,5 @@
-// The laws of passes and of runs. Each function has an empty body, and its contract is proved for all whole numbers, all
-// lists and all hooks, whatever the engine.
+// The laws of passes and of runs. Each function has an empty body, and its contract is proved for all whole numbers,
+// all lists and all hooks, whatever the engine.
 ghost use Rattle.overlay_split.specs.Laws.{NumbersAreOdd, PiecesTelescope, PassKeepsLosses, PassKeepsBalance, RunKeepsBalance, RunKeepsPolygons};
 ghost use Rattle.overlay_split.specs.Laws.{SettlingLowers, RunEnds, RunIsOne, ExactPassIsPlanar, PlanarPassIsUnchanged, RunIsPlanar, ArrangedIsUnchanged, ResultIsUnchanged};
 ghost use Rattle.overlay_split.specs.Laws.{RootIsMeant, RootOfPower, NearEndsAreEnough, DistancesAddUp, CrossingLiesOnBoth, MarkIsNear, PassStaysNear, PiecesStayNear, RunStaysNear, LinesAreKept, ReachIsBounded, LastPassReachesNothing, ExactInputReachesNothing};
@@ -56,8 +56,9 @@ pub fn exact_input_laws()
 
 /// Each segment of a run lies near one given segment, and each point of a given segment lies near the result, or near
 /// where counts cancelled. How near: as far as the passes move crossings, added up. A pass in which every crossing is
-/// exact moves nothing; one that settles moves by a half; one that snaps by 1 and the radius. So exact input stays where
-/// it is, and the last pass of a run moves nothing, where two segments or more are left. The counts of lines never cancel.
+/// exact moves nothing; one that settles moves by a half; one that snaps by 1 and the radius. So exact input stays
+/// where it is, and the last pass of a run moves nothing, where two segments or more are left. The counts of lines
+/// never cancel.
 pub fn nearness_laws()
     ensures root { RootIsMeant }
     ensures root_of_power { RootOfPower }
@@ -74,9 +75,9 @@ pub fn nearness_laws()
     ensures exact_input { ExactInputReachesNothing }
 {}
 
-/// Segments that lie near one segment pass each place that is farther from it on one side. So a pass changes the winding
-/// at no place that is farther from every segment than it moves crossings, and a run at none that is farther from every
-/// given segment than its passes reach together; on exact input at none that lies on no given segment.
+/// Segments that lie near one segment pass each place that is farther from it on one side. So a pass changes the
+/// winding at no place that is farther from every segment than it moves crossings, and a run at none that is farther
+/// from every given segment than its passes reach together; on exact input at none that lies on no given segment.
 pub fn place_laws()
     ensures side { PassOnOneSide }
     ensures join { JoinKeepsWinding }

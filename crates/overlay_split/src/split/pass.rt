@@ -15,7 +15,7 @@ ghost use Rattle.overlay_split.specs.DataPass.{data_cut, data_pass};
 ghost use Rattle.overlay_marks.specs.PlacingOf.{placing_of, HasRadius};
 ghost use Rattle.overlay_marks.specs.Looked.{pass_looks};
 ghost use Rattle.overlay_marks.specs.Grid.{LieInside};
-ghost use Rattle.overlay_marks.specs.GroupsOf.{grid_in};
+ghost use Rattle.overlay_marks.specs.FinderOf.{solver_in, layout_in, looks_in};
 
 use crate::split::cut::{cut_segment, index_len};
 use crate::split::path::collect_path;
@@ -80,9 +80,9 @@ pub fn pass<C: WindingCount, I: OverlayInt, D: OverlayEdgeData<C>>(
     requires map { IsTrue (is_map (segments_of list.old.items)) }
     requires splittable { IsSplittable list.old.items }
     requires radius { HasRadius placing }
-    requires inside { LieInside (grid_in finder.old.grid) (pairs (segments_of list.old.items)) }
-    ensures solver { finder.new.solver ≡ finder.old.solver }
-    ensures grid { grid_in finder.new.grid ≡ grid_in finder.old.grid }
+    requires inside { LieInside (layout_in finder.old) (pairs (segments_of list.old.items)) }
+    ensures solver { solver_in finder.new ≡ solver_in finder.old }
+    ensures grid { layout_in finder.new ≡ layout_in finder.old }
     ensures geometry { OnOk result (segments_of list.new.items
         ≡ pass (placing_of placing) (segments_of list.old.items)) }
     ensures edge_data { OnOk result
@@ -95,8 +95,9 @@ pub fn pass<C: WindingCount, I: OverlayInt, D: OverlayEdgeData<C>>(
     ensures rounded { IfOk result (λ passed. passed.is_rounded ≡ is_rounded (segments_of list.old.items)) }
     ensures marked { IfOk result (λ passed. passed.has_marks
         ≡ nat_lt 0 (mark_count (placing_of placing) (segments_of list.old.items))) }
-    ensures looked { IsFalse (list_splits finder.old.solver.strategy (length list.old.items)) →
-        OnOk result (finder.new.looked ≤ finder.old.looked + pass_looks (grid_in finder.old.grid) (pairs (segments_of list.old.items))) }
+    ensures looked { IsFalse (list_splits (solver_in finder.old).strategy (length list.old.items)) →
+        OnOk result (looks_in finder.new ≤ looks_in finder.old
+        + pass_looks (layout_in finder.old) (pairs (segments_of list.old.items))) }
 
     ensures fits { OnOk result (IsFalse (join_leaves_range (cut (placing_of placing) (segments_of list.old.items)))) }
     ensures refused { IfErr result (λ fault. fault ≡ CountOutOfRange
@@ -129,9 +130,9 @@ fn cut_at_marks<C: WindingCount, I: OverlayInt, D: OverlayEdgeData<C>>(
     requires map { IsTrue (is_map (segments_of list.old.items)) }
     requires splittable { IsSplittable list.old.items }
     requires radius { HasRadius placing }
-    requires inside { LieInside (grid_in finder.old.grid) (pairs (segments_of list.old.items)) }
-    ensures solver { finder.new.solver ≡ finder.old.solver }
-    ensures grid { grid_in finder.new.grid ≡ grid_in finder.old.grid }
+    requires inside { LieInside (layout_in finder.old) (pairs (segments_of list.old.items)) }
+    ensures solver { solver_in finder.new ≡ solver_in finder.old }
+    ensures grid { layout_in finder.new ≡ layout_in finder.old }
     ensures list { OnOk result
         (let hooks = hooks_of C.counted D.OverlayEdgeData.own in
         data_segments_of list.new.items ≡ (data_cut hooks (placing_of placing)
@@ -142,8 +143,9 @@ fn cut_at_marks<C: WindingCount, I: OverlayInt, D: OverlayEdgeData<C>>(
     ensures rounded { IfOk result (λ passed. passed.is_rounded ≡ is_rounded (segments_of list.old.items)) }
     ensures marked { IfOk result (λ passed. passed.has_marks
         ≡ nat_lt 0 (mark_count (placing_of placing) (segments_of list.old.items))) }
-    ensures looked { IsFalse (list_splits finder.old.solver.strategy (length list.old.items)) →
-        OnOk result (finder.new.looked ≤ finder.old.looked + pass_looks (grid_in finder.old.grid) (pairs (segments_of list.old.items))) }
+    ensures looked { IsFalse (list_splits (solver_in finder.old).strategy (length list.old.items)) →
+        OnOk result (looks_in finder.new ≤ looks_in finder.old
+        + pass_looks (layout_in finder.old) (pairs (segments_of list.old.items))) }
     ensures fault { IfErr result (λ fault. fault ≡ Memory) }
 {
     let PassBuffers { marks, path, tree } = buffers;

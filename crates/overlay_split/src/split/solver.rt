@@ -24,7 +24,7 @@ ghost use Rattle.overlay_split.specs.Places.{KeepsWinding};
 ghost use Rattle.overlay_split.specs.Potential.{potential};
 ghost use Rattle.overlay_marks.specs.PlacingOf.{placing_of, HasRadius};
 ghost use Rattle.overlay_marks.specs.Looked.{pass_looks};
-ghost use Rattle.overlay_marks.specs.GroupsOf.{grid_in};
+ghost use Rattle.overlay_marks.specs.FinderOf.{solver_in, layout_in, looks_in};
 ghost use Rattle.overlay_marks.specs.Grid.{Layout, LieInside};
 ghost use Rattle.overlay_split.specs.RunLooks.{HasNoListPass, run_looks};
 ghost use Rattle.overlay_marks.specs.GridFor.{IsGridFor};
@@ -167,7 +167,8 @@ impl<I: OverlayInt> SplitSolver<I> {
             (segments_of list.old.items) (passes_of self.new) →
             OnOk result ((grid : Option Layout) × IsGridFor solver.now.strategy
             (join (segments_of list.old.items)) grid ×
-            (looked_of self.new ≤ run_looks (settings_of I.BITS solver.now self.old) grid (segments_of list.old.items) (passes_of self.new))) }
+            (looked_of self.new ≤ run_looks (settings_of I.BITS solver.now self.old) grid
+            (segments_of list.old.items) (passes_of self.new))) }
         ensures looked_before { OnErr result (looked_of self.new ≡ looked_of self.old) }
         ensures limit { snap_limit_of self.new ≡ snap_limit_of self.old }
         ensures empty { list.old.items ≡ [] → (result ≡ Ok false) × (passes_of self.new ≡ 0) }
@@ -183,14 +184,14 @@ impl<I: OverlayInt> SplitSolver<I> {
     /// The list has to be splittable, as `is_splittable` tests. Pass k snaps, with the solver's precision, up to the
     /// snap limit, and settles after it. The solver's strategy does not change the answer.
     ///
-    /// A list that `is_arranged` stays as it is. Where no two given segments cross at a point without whole coordinates,
-    /// the counts along them are those given. In every case the result and the given segments lie near one another, but
-    /// for counts that cancel: as near as the passes move crossings. At every place that is farther than that from the
-    /// given segments the result winds as they do. An empty list takes no memory.
+    /// A list that `is_arranged` stays as it is. Where no two given segments cross at a point without whole
+    /// coordinates, the counts along them are those given. In every case the result and the given segments lie near one
+    /// another, but for counts that cancel: as near as the passes move crossings. At every place that is farther than
+    /// that from the given segments the result winds as they do. An empty list takes no memory.
     ///
-    /// Each mark splits the data of what is left of its segment; a piece that is turned reverses its data; segments on the
-    /// same ends merge theirs from left to right, in the stable order of the list. What the hooks keep of data, and what
-    /// holds of all given data, holds of all data after the split (`kept_data`).
+    /// Each mark splits the data of what is left of its segment; a piece that is turned reverses its data; segments on
+    /// the same ends merge theirs from left to right, in the stable order of the list. What the hooks keep of data, and
+    /// what holds of all given data, holds of all data after the split (`kept_data`).
     ///
     /// Answers `Fault::CountOutOfRange` only where a running sum of counts on one pair of ends leaves
     /// `-i32::MAX..=i32::MAX`, in the given list or among the pieces of a pass, and, memory being found, wherever one
@@ -242,13 +243,15 @@ impl<I: OverlayInt> SplitSolver<I> {
         ensures emptied { OnErr result (list.new.items ≡ []) }
         ensures stopped { IfErr result (λ fault. fault ≡ CountOutOfRange →
             (let hooks = hooks_of C.counted D.OverlayEdgeData.own in
-            IsStoppedRun hooks (settings_of I.BITS solver.now self.old) (data_segments_of list.old.items) store.old store.new)) }
+            IsStoppedRun hooks (settings_of I.BITS solver.now self.old) (data_segments_of list.old.items)
+            store.old store.new)) }
         ensures passes { OnErr result (passes_of self.new ≡ passes_of self.old) }
         ensures looked { HasNoListPass solver.now.strategy (settings_of I.BITS solver.now self.old)
             (segments_of list.old.items) (passes_of self.new) →
             OnOk result ((grid : Option Layout) × IsGridFor solver.now.strategy
             (join (segments_of list.old.items)) grid ×
-            (looked_of self.new ≤ run_looks (settings_of I.BITS solver.now self.old) grid (segments_of list.old.items) (passes_of self.new))) }
+            (looked_of self.new ≤ run_looks (settings_of I.BITS solver.now self.old) grid
+            (segments_of list.old.items) (passes_of self.new))) }
         ensures looked_before { OnErr result (looked_of self.new ≡ looked_of self.old) }
         ensures limit { snap_limit_of self.new ≡ snap_limit_of self.old }
         ensures empty { list.old.items ≡ [] → (result ≡ Ok false) × (passes_of self.new ≡ 0) }
@@ -307,9 +310,9 @@ impl Progress {
         requires splittable { IsSplittable list.old.items }
         requires radius { HasRadius placing }
         requires passes { self.passes + 1 < 2 ^ 128 }
-        requires inside { LieInside (grid_in finder.old.grid) (pairs (segments_of list.old.items)) }
-        ensures solver { finder.new.solver ≡ finder.old.solver }
-        ensures grid { grid_in finder.new.grid ≡ grid_in finder.old.grid }
+        requires inside { LieInside (layout_in finder.old) (pairs (segments_of list.old.items)) }
+        ensures solver { solver_in finder.new ≡ solver_in finder.old }
+        ensures grid { layout_in finder.new ≡ layout_in finder.old }
         ensures geometry { OnOk result (segments_of list.new.items
             ≡ pass (placing_of placing) (segments_of list.old.items)) }
         ensures edge_data { OnOk result
@@ -324,8 +327,9 @@ impl Progress {
             ≡ (self.has_changed || nat_lt 0 (mark_count (placing_of placing) (segments_of list.old.items)))) }
         ensures goes_on { IfOk result (λ after. after.goes_on
             ≡ (nat_le 2 (length list.new.items) && is_rounded (segments_of list.old.items))) }
-        ensures looked { IsFalse (list_splits finder.old.solver.strategy (length list.old.items)) →
-            OnOk result (finder.new.looked ≤ finder.old.looked + pass_looks (grid_in finder.old.grid) (pairs (segments_of list.old.items))) }
+        ensures looked { IsFalse (list_splits (solver_in finder.old).strategy (length list.old.items)) →
+            OnOk result (looks_in finder.new ≤ looks_in finder.old
+            + pass_looks (layout_in finder.old) (pairs (segments_of list.old.items))) }
 
         ensures fits { OnOk result (IsFalse (join_leaves_range
             (cut (placing_of placing) (segments_of list.old.items)))) }

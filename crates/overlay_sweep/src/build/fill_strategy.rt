@@ -17,8 +17,8 @@ pub trait FillStrategy<C: WindingCount> {
 
     /// The winding above a segment with this count, where that below it is `bot`, and the segment's fill.
     ///
-    /// Both counts have to be valid. Answers `Fault::CountOutOfRange` exactly where a number of the winding above leaves
-    /// `-i32::MAX..=i32::MAX`.
+    /// Both counts have to be valid. Answers `Fault::CountOutOfRange` exactly where a number of the winding above
+    /// leaves `-i32::MAX..=i32::MAX`.
     fn add_and_fill(this: C, bot: C) -> Result<(C, SegmentFill), Fault>
         requires this { IsTrue (is_valid (C.winding this)) }
         requires bot { IsTrue (is_valid (C.winding bot)) }

@@ -88,8 +88,8 @@ where
     Ok(ControlFlow::Continue(top))
 }
 
-/// Hands the segments of an arrangement out, by their starts and then by angle from below. Leaves in `compared` how many
-/// orders this asked of live segments, `u128::MAX` at most.
+/// Hands the segments of an arrangement out, by their starts and then by angle from below. Leaves in `compared` how
+/// many orders this asked of live segments, `u128::MAX` at most.
 pub fn sweep_with_handler<C, I, D, F, S, H>(
     live: &mut S,
     ways: &mut Vec<Way<I>>,

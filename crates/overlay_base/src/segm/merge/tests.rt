@@ -5,9 +5,8 @@ use crate::num::OverlayInt;
 use crate::overlay_core::edge_data::{EdgeDataMerge, EdgeDataSplit, OverlayEdgeData};
 use crate::segm::boolean::ShapeCountBoolean;
 use crate::segm::fault::Fault;
-use crate::segm::merge::merge_if_needed_with_store;
+use crate::segm::join::join_with_store;
 use crate::segm::segment::Segment;
-use crate::segm::sort::sort_by_ab;
 use crate::segm::winding::WindingCount;
 use std::process::Abort;
 use std::test::Fail;
@@ -130,9 +129,8 @@ fn joined<I: OverlayInt, D: OverlayEdgeData<ShapeCountBoolean>>(
     list: &mut Vec<Segment<ShapeCountBoolean, I, D>>,
     store: &mut D::Store,
 ) -> Result<bool, Fault> {
-    sort_by_ab(list)?;
     assert!(rt; list.iter().all(|segment| segment.count().is_valid()));
-    merge_if_needed_with_store(list, store)
+    join_with_store(list, store)
 }
 
 fn joins_with<I: OverlayInt>(rt: &(impl Abort + AllocGlobal)) -> Result<(), Fail> {

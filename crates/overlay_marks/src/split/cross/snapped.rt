@@ -1,5 +1,5 @@
-// The answer that snaps two segments that cross: the crossing itself, the nearest end within the radius, or the snapping
-// point. Upstream: `middle_cross` of `split::cross_solver`.
+// The answer that snaps two segments that cross: the crossing itself, the nearest end within the radius, or the
+// snapping point. Upstream: `middle_cross` of `split::cross_solver`.
 ghost use Rattle.std.specs.Prelude.{◌≡◌, ◌≤ℤ◌, pos, unsigned_abs, true, IsTrue, IsFalse, Some};
 ghost use Rattle.overlay_base.specs.Meeting.{do_cross};
 ghost use Rattle.overlay_base.specs.PointOf.{point_of};

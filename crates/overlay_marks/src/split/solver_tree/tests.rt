@@ -47,8 +47,8 @@ fn push_side(rt: &impl Abort, segments: &mut Vec<Side>, a: (i32, i32), b: (i32, 
     }
 }
 
-/// Asks both finders, wants the same marks and the same flag, and answers how many marks there are and how many pairs the
-/// tree took up.
+/// Asks both finders, wants the same marks and the same flag, and answers how many marks there are and how many pairs
+/// the tree took up.
 fn ask(rt: &impl Abort, alloc: Global, segments: &mut Vec<Side>, placing: Placing) -> (usize, u128)
     requires { HasRadius placing }
 {

@@ -692,8 +692,8 @@ fn row_of_squares(
     Ok((rows, splitter.looked()))
 }
 
-/// All heights meet, so looked through upward every column would take up every two. From left to right it takes up those
-/// whose boxes meet, each in at most two columns.
+/// All heights meet, so looked through upward every column would take up every two. From left to right it takes up
+/// those whose boxes meet, each in at most two columns.
 #[test]
 fn squares_in_a_row(rt: HostRuntime) -> Result<(), Fail> {
     let (by_list, list_looked) = row_of_squares(&rt, Strategy::List)?;

@@ -1,5 +1,5 @@
-// Segments from corner to corner and slivers over the whole range, at the limits of both engines. Each two cross strictly
-// inside both, far from every end, at a point without whole coordinates.
+// Segments from corner to corner and slivers over the whole range, at the limits of both engines. Each two cross
+// strictly inside both, far from every end, at a point without whole coordinates.
 
 use super::*;
 
