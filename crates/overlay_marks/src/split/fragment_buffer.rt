@@ -48,7 +48,7 @@ impl<I: OverlayInt> FragmentBuffer<I> {
     }
 
     /// The same in the memory of an earlier one.
-    pub fn with_memory(
+    pub(crate) fn with_memory(
         alloc: Global,
         layout: GridLayout<I>,
         memory: FragmentMemory<I>,
@@ -71,7 +71,7 @@ impl<I: OverlayInt> FragmentBuffer<I> {
     }
 
     /// Its memory, for the next one.
-    pub fn into_memory(self) -> FragmentMemory<I> {
+    pub(crate) fn into_memory(self) -> FragmentMemory<I> {
         let FragmentBuffer {
             layout: _,
             groups,
@@ -88,7 +88,7 @@ impl<I: OverlayInt> FragmentBuffer<I> {
     }
 
     /// The left border of a column, of which there are more than its index.
-    pub fn border(&self, column: usize) -> I
+    pub(crate) fn border(&self, column: usize) -> I
         requires { column < group_count (grid_of self.now) }
         ensures { I.whole result ≡ pos_of (grid_of self.now) column }
     {
@@ -190,7 +190,7 @@ impl<I: OverlayInt> FragmentBuffer<I> {
     }
 
     /// How many fragments `add_segment` makes of a segment, under the same conditions.
-    pub fn fragment_count(&self, x_segment: &XSegment<I>) -> usize
+    pub(crate) fn fragment_count(&self, x_segment: &XSegment<I>) -> usize
         requires order { I.whole x_segment.now.a.x ≤ℤ I.whole x_segment.now.b.x }
         requires from { (grid_of self.now).min_x ≤ℤ I.whole x_segment.now.a.x }
         requires to { I.whole x_segment.now.b.x ≤ℤ (grid_of self.now).max_x }
