@@ -1,5 +1,5 @@
 #!/usr/bin/env python3
-"""Times `arrange split` under each strategy, on segments of six kinds.
+"""Times `arrange split` under each strategy, on segments of eight kinds.
 
 Usage, from the top of the repository: python3 bench/split.py [--against PROGRAM] [NUMBER ..]
 
@@ -12,15 +12,18 @@ as `frag` does.
 
 With `--against`, `split` under `auto` is timed by this build and by another one, PROGRAM, in turns: for each kind and number
 the least processor time of nine runs of each, and how many times as long this build took. The answers have to be the same; `far`
-is left out where the other build refuses such coordinates.
+and `far-one` are left out where the other build refuses such coordinates.
 
 - random: short segments at random places, so that each meets a few others;
 - horizontal: segments one above another, none of which meet, all with one range of x: one scan of all pairs;
 - grid: blocks of twenty horizontal and twenty vertical lines, each of which crosses the twenty others;
 - squares: squares in a row, each of which overlaps the next;
 - long: lines from end to end, of many heights and slopes, none of which meet;
-- far: as random, over the whole range of `i32`, where the numerators of crossings take 128 bits.
+- far: as random, over the whole range of `i32`, where the numerators of crossings take 128 bits;
+- far-one: as horizontal, but the last one is short and far to the right, so that in a grid all others stand in one column;
+- rings: two rings of short edges, of one size, that cross in two places.
 """
+import math
 import os
 import random
 import resource
@@ -80,6 +83,19 @@ def far_lines(number):
     return random_lines(number, FARTHEST)
 
 
+def far_one_lines(number):
+    yield from horizontal_lines(number - 1)
+    yield step(FARTHEST // 2 + 1, 0, FARTHEST // 2 + 2, 1)
+
+
+def ring_lines(number):
+    for middle, edges in ((-LIMIT // 5, number - number // 2), (LIMIT // 5, number // 2)):
+        turns = (2 * math.pi * corner / edges for corner in range(edges))
+        corners = [(middle + round(0.8 * LIMIT * math.cos(turn)), round(0.8 * LIMIT * math.sin(turn))) for turn in turns]
+        for corner in range(edges):
+            yield step(*corners[corner], *corners[(corner + 1) % edges])
+
+
 STRATEGIES = ("list", "tree", "frag", "auto")
 
 KINDS = {
@@ -89,6 +105,8 @@ KINDS = {
     "squares": square_lines,
     "long": long_lines,
     "far": far_lines,
+    "far-one": far_one_lines,
+    "rings": ring_lines,
 }
 
 

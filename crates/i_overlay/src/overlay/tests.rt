@@ -3,7 +3,7 @@ use super::*;
 use overlay_base::geom::point::IntPoint;
 use overlay_base::overlay_core::link::OverlayLink;
 use overlay_base::overlay_core::solver::{Precision, Strategy};
-use overlay_base::segm::arranged::is_splittable;
+use overlay_base::segm::arranged::{is_arranged, is_splittable};
 use overlay_base::segm::segment_fill::SegmentFill;
 use overlay_base::segm::shape_type::ShapeType;
 use overlay_base::segm::winding::WindingCount;
@@ -318,6 +318,7 @@ fn overlay_again(
     splitter: &mut SplitSolver<i32>,
     builder: &mut GraphBuilder<ShapeCountBoolean, OverlayNode, i32, ()>,
     rows: &[Row],
+    strategy: Strategy,
     rule: OverlayRule,
 ) -> Result<(Result<(usize, usize), Fault>, Vec<Row>), Fail> {
     let mut list = segments(rt, rows)?;
@@ -326,7 +327,7 @@ fn overlay_again(
         splitter,
         builder,
         &mut list,
-        &Solver::AUTO,
+        &solver(strategy),
         FillRule::NonZero,
         rule,
     );
@@ -338,20 +339,45 @@ fn overlay_again(
 fn a_splitter_and_a_builder_are_used_again(rt: HostRuntime) -> Result<(), Fail> {
     let mut splitter = SplitSolver::new(rt.alloc());
     let mut builder = GraphBuilder::new(rt.alloc());
-    for call in CALLS {
-        let name = call.name;
-        let (sizes, after) = overlay_again(
-            &rt,
-            &mut splitter,
-            &mut builder,
-            call.given,
-            call.rule,
-        )?;
-        assert_eq!(rt; sizes, call.sizes, "{name}");
-        assert_eq!(rt; after.as_slice(), call.left, "{name}");
-        assert_eq!(rt; splitter.passes(), call.passes, "{name}");
-        let kept = (builder.links().len(), builder.nodes().len());
-        assert_eq!(rt; kept, call.kept, "{name}");
+    for strategy in STRATEGIES {
+        for call in CALLS {
+            let name = call.name;
+            let (sizes, after) = overlay_again(
+                &rt,
+                &mut splitter,
+                &mut builder,
+                call.given,
+                strategy,
+                call.rule,
+            )?;
+            assert_eq!(rt; sizes, call.sizes, "{name}");
+            assert_eq!(rt; after.as_slice(), call.left, "{name}");
+            assert_eq!(rt; splitter.passes(), call.passes, "{name}");
+            let kept = (builder.links().len(), builder.nodes().len());
+            assert_eq!(rt; kept, call.kept, "{name}");
+        }
+    }
+    Ok(())
+}
+
+/// Counts that the split leaves as they are, and that leave the range in the build of all links.
+#[test]
+fn greatest_counts_above_one_another(rt: HostRuntime) -> Result<(), Fail> {
+    for strategy in STRATEGIES {
+        let mut splitter: SplitSolver<i32> = SplitSolver::new(rt.alloc());
+        let mut builder: GraphBuilder<ShapeCountBoolean, OverlayNode, i32, ()> = GraphBuilder::new(
+            rt.alloc(),
+        );
+        let mut list = segments(&rt, &GREATEST_COUNTS)?;
+        assert!(rt; is_splittable(&list));
+        let flag = splitter.split_segments(&mut list, &solver(strategy));
+        assert_eq!(rt; flag, Ok(false));
+        let after: Vec<Row> = list.iter().map(row).collect(rt.alloc())?;
+        assert_eq!(rt; after.as_slice(), GREATEST_COUNTS.as_slice());
+        assert!(rt; is_arranged(&list));
+        let built = builder.build_boolean_all(FillRule::NonZero, &solver(strategy), &list);
+        assert!(rt; matches!(built, Err(Fault::CountOutOfRange)));
+        assert_eq!(rt; (builder.links().len(), builder.nodes().len()), (0, 0));
     }
     Ok(())
 }

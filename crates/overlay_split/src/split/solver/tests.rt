@@ -373,63 +373,42 @@ fn slivers(
     Ok((splitter.passes(), list.len()))
 }
 
-/// 4,000 lines above one another, under a strategy: the flag, the number of passes, and how many pairs were taken up.
-fn stacked(
-    rt: &(impl Abort + AllocGlobal),
-    strategy: Strategy,
-) -> Result<(bool, u128, u128), Fail> {
-    let mut list: Vec<Segment<ShapeCountBoolean, i32, ()>> = Vec::new(rt.alloc());
-    for line in 0..4000_u16 {
-        let y = i64::from(line);
-        list.push(segment(rt, ((0, y), (10, y), 1)))?;
+/// Segments on one pair of ends, some of them given from right to left: the counts of the one that is left.
+type Joined = (&'static [((i64, i64), (i64, i64), i32, i32)], (i32, i32));
+
+const JOINED: [Joined; 2] = [
+    (
+        &[
+            ((1, 2), (3, 4), 1, 0),
+            ((1, 2), (3, 4), 0, 1),
+            ((1, 2), (3, 4), 2, 2),
+        ],
+        (3, 3),
+    ),
+    (&[((3, 4), (1, 2), 1, 0), ((1, 2), (3, 4), 0, 1)], (-1, 1)),
+];
+
+#[test]
+fn segments_on_one_pair(rt: HostRuntime) -> Result<(), Fail> {
+    for strategy in STRATEGIES {
+        for (given, counts) in JOINED {
+            let mut list: Vec<Segment<ShapeCountBoolean, i32, ()>> = Vec::new(rt.alloc());
+            for ((ax, ay), (bx, by), subj, clip) in given.iter().copied() {
+                let a = IntPoint::new(coordinate(&rt, ax), coordinate(&rt, ay));
+                let b = IntPoint::new(coordinate(&rt, bx), coordinate(&rt, by));
+                let count = ShapeCountBoolean::new(subj, clip);
+                assert!(rt; a != b && count.is_valid());
+                list.push(Segment::create_and_validate_with_data(a, b, count, (), &mut ()))?;
+            }
+            let solver = Solver::with_strategy_and_precision(strategy, Precision::HIGH);
+            let mut splitter = SplitSolver::new(rt.alloc());
+            assert!(rt; is_splittable(&list));
+            assert_eq!(rt; splitter.split_segments(&mut list, &solver), Ok(true));
+            assert_eq!(rt; list.len(), 1);
+            assert_eq!(rt; row(&list[0]), ((1, 2), (3, 4), counts.0));
+            assert_eq!(rt; list[0].count().clip, counts.1);
+        }
     }
-    let solver = Solver::with_strategy_and_precision(strategy, Precision::HIGH);
-    let mut splitter = SplitSolver::new(rt.alloc());
-    assert!(rt; is_splittable(&list));
-    let flag = splitter
-        .split_segments(&mut list, &solver)
-        .expect(rt, "no refusal");
-    Ok((flag, splitter.passes(), splitter.looked()))
-}
-
-#[test]
-fn lines_above_one_another(rt: HostRuntime) -> Result<(), Fail> {
-    assert_eq!(rt; stacked(&rt, Strategy::List)?, (false, 1, 7_998_000));
-    assert_eq!(rt; stacked(&rt, Strategy::Tree)?, (false, 1, 0));
-    assert_eq!(rt; stacked(&rt, Strategy::Auto)?, (false, 1, 0));
-    Ok(())
-}
-
-#[test]
-fn lines_above_one_another_in_columns(rt: HostRuntime) -> Result<(), Fail> {
-    let (flag, passes, looked) = stacked(&rt, Strategy::Frag)?;
-    assert_eq!(rt; (flag, passes), (false, 1));
-    assert!(rt; looked <= 20_000);
-    Ok(())
-}
-
-/// 16,000 lines above one another and one that crosses them all: the number of passes, and the list after the split.
-fn crossed(rt: &(impl Abort + AllocGlobal), strategy: Strategy) -> Result<(u128, Vec<Row>), Fail> {
-    let mut list: Vec<Segment<ShapeCountBoolean, i32, ()>> = Vec::new(rt.alloc());
-    for line in 0..16_000_u16 {
-        let y = i64::from(line);
-        list.push(segment(rt, ((0, y), (10, y), 1)))?;
-    }
-    list.push(segment(rt, ((5, -1), (5, 16_000), 1)))?;
-    let solver = Solver::with_strategy_and_precision(strategy, Precision::HIGH);
-    let mut splitter = SplitSolver::new(rt.alloc());
-    assert!(rt; is_splittable(&list));
-    assert_eq!(rt; splitter.split_segments(&mut list, &solver), Ok(true));
-    let after: Vec<Row> = list.iter().map(row).collect(rt.alloc())?;
-    Ok((splitter.passes(), after))
-}
-
-#[test]
-fn more_than_a_tree_is_given(rt: HostRuntime) -> Result<(), Fail> {
-    let (passes, by_grid) = crossed(&rt, Strategy::Auto)?;
-    let (_, by_list) = crossed(&rt, Strategy::List)?;
-    assert_eq!(rt; (passes, by_grid.len()), (1, 48_001));
-    assert!(rt; by_grid.as_slice() == by_list.as_slice());
     Ok(())
 }
 

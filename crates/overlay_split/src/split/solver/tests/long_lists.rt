@@ -1,4 +1,5 @@
-// Long lists: under `Auto` the list of all pairs gives way to the tree at 4,000 segments, and every answer stays.
+// Long lists and many live segments: under `Tree` and `Auto` a tree or a grid takes the place of the list of all pairs, and
+// every answer stays.
 use super::*;
 
 /// Horizontal lines above one another, from x = 0 to x = 10.
@@ -28,6 +29,40 @@ fn steps(rt: &(impl Abort + AllocGlobal), count: u16) -> Result<Vec<Row>, Fail> 
     Ok(rows)
 }
 
+/// Ten lines, 128 wide, that cross in the point (left + 64, low + 9).
+fn push_fan(rows: &mut Vec<Row>, left: i64, low: i64) -> Result<(), Fail> {
+    for line in 0..10_u16 {
+        let rise = 2 * i64::from(line);
+        rows.push(((left, low + rise), (left + 128, low + 18 - rise), 1))?;
+    }
+    Ok(())
+}
+
+/// Rows of 34 fans each. No two fans touch.
+fn fans(rt: &(impl Abort + AllocGlobal), count: u16) -> Result<Vec<Row>, Fail> {
+    let mut rows = Vec::new(rt.alloc());
+    for place in 0..34_u16 {
+        for row in 0..count {
+            push_fan(&mut rows, 192 * i64::from(place), 100 * i64::from(row))?;
+        }
+    }
+    Ok(rows)
+}
+
+/// Sixty lines of many slopes from x = 0 to x = 1000 and farther, and twenty verticals across them.
+fn long_lines(rt: &(impl Abort + AllocGlobal)) -> Result<Vec<Row>, Fail> {
+    let mut rows = Vec::new(rt.alloc());
+    for line in 0..60_u16 {
+        let (from, to) = (i64::from(line), i64::from(line * 7 % 60));
+        rows.push(((0, 10 * from), (1000 + from, 10 * to), 1))?;
+    }
+    for line in 0..20_u16 {
+        let x = 50 * i64::from(line) + 3;
+        rows.push(((x, -5), (x, 605), 1))?;
+    }
+    Ok(rows)
+}
+
 /// What a split tells: the flag, the number of passes, and how many pairs were taken up.
 type Told = (bool, u128, u128);
 
@@ -47,33 +82,52 @@ fn split(
     Ok((after, (flag, splitter.passes(), splitter.looked())))
 }
 
-/// Splits under two strategies, wants one answer, and gives it with what the second one told.
-fn split_alike(
-    rt: &(impl Abort + AllocGlobal),
-    strategies: (Strategy, Strategy),
-    given: &[Row],
-) -> Result<(Vec<Row>, Told), Fail> {
-    let (by_first, first_told) = split(rt, strategies.0, given)?;
-    let (rows, told) = split(rt, strategies.1, given)?;
-    assert_eq!(rt; rows.as_slice(), by_first.as_slice());
-    assert_eq!(rt; (told.0, told.1), (first_told.0, first_told.1));
-    Ok((rows, told))
+/// What every strategy answers.
+#[derive(Drop)]
+struct Alike {
+    rows: Vec<Row>,
+    /// The flag and the number of passes.
+    told: (bool, u128),
+    /// How many pairs were taken up under `List`.
+    listed: u128,
+    /// The same under `Tree`, `Frag` and `Auto`.
+    looked: [u128; 3],
+}
+
+/// Splits under every strategy, and wants the answer of the list.
+fn split_alike(rt: &(impl Abort + AllocGlobal), given: &[Row]) -> Result<Alike, Fail> {
+    let (rows, (flag, passes, listed)) = split(rt, Strategy::List, given)?;
+    let mut looked = [0; 3];
+    for (place, strategy) in [Strategy::Tree, Strategy::Frag, Strategy::Auto]
+        .into_iter()
+        .enumerate()
+    {
+        let (others, told) = split(rt, strategy, given)?;
+        assert!(rt; others.as_slice() == rows.as_slice());
+        assert_eq!(rt; (told.0, told.1), (flag, passes));
+        assert!(rt; place < 3);
+        looked[place] = told.2;
+    }
+    Ok(Alike {
+        rows,
+        told: (flag, passes),
+        listed,
+        looked,
+    })
 }
 
 /// One segment fewer than the limit: `Auto` takes the list.
 #[test]
 fn crossed_lines_below_the_limit(rt: HostRuntime) -> Result<(), Fail> {
-    let given = crossed_lines(&rt, 3998)?;
-    let (rows, told) = split_alike(&rt, (Strategy::Tree, Strategy::Auto), &given)?;
-    assert_eq!(rt; (rows.len(), told.0, told.1), (11_995, true, 1));
+    let split = split_alike(&rt, &crossed_lines(&rt, 3998)?)?;
+    assert_eq!(rt; (split.rows.len(), split.told), (11_995, (true, 1)));
     Ok(())
 }
 
 #[test]
 fn crossed_lines_at_the_limit(rt: HostRuntime) -> Result<(), Fail> {
-    let given = crossed_lines(&rt, 3999)?;
-    let (rows, told) = split_alike(&rt, (Strategy::List, Strategy::Auto), &given)?;
-    assert_eq!(rt; (rows.len(), told.0, told.1), (11_998, true, 1));
+    let split = split_alike(&rt, &crossed_lines(&rt, 3999)?)?;
+    assert_eq!(rt; (split.rows.len(), split.told), (11_998, (true, 1)));
     Ok(())
 }
 
@@ -83,34 +137,82 @@ fn the_list_gives_way_to_the_tree(rt: HostRuntime) -> Result<(), Fail> {
     let mut given = crossed_lines(&rt, 3996)?;
     given.push(((200, 0), (300, 1), 1))?;
     given.push(((200, 1), (300, 0), 1))?;
-    let (rows, told) = split_alike(&rt, (Strategy::Tree, Strategy::Auto), &given)?;
-    assert_eq!(rt; (rows.len(), told.0, told.1), (11_993, true, 2));
+    let split = split_alike(&rt, &given)?;
+    assert_eq!(rt; (split.rows.len(), split.told), (11_993, (true, 2)));
     let four = [
         ((200, 0), (250, 1), 1),
         ((200, 1), (250, 1), 1),
         ((250, 1), (300, 0), 1),
         ((250, 1), (300, 1), 1),
     ];
-    assert!(rt; rows.ends_with(&four));
+    assert!(rt; split.rows.ends_with(&four));
     Ok(())
 }
 
+/// More than 16,000 segments have a grid. These have five fragments each, so a tree is asked first, and does.
+#[test]
+fn crossed_lines_of_many_fragments(rt: HostRuntime) -> Result<(), Fail> {
+    let split = split_alike(&rt, &crossed_lines(&rt, 16_000)?)?;
+    assert_eq!(rt; (split.rows.len(), split.told), (48_001, (true, 1)));
+    Ok(())
+}
+
+/// In each of 5 columns a line has a fragment, and no two of one column meet.
 #[test]
 fn lines_above_one_another(rt: HostRuntime) -> Result<(), Fail> {
     let given = lines(&rt, 4000)?;
-    let (rows, told) = split_alike(&rt, (Strategy::List, Strategy::Tree), &given)?;
-    assert_eq!(rt; rows.as_slice(), given.as_slice());
-    assert_eq!(rt; (told.0, told.1), (false, 1));
-    assert!(rt; told.2 <= 4000);
+    let split = split_alike(&rt, &given)?;
+    assert!(rt; split.rows.as_slice() == given.as_slice());
+    assert_eq!(rt; split.told, (false, 1));
+    assert_eq!(rt; split.listed, 4000 * 3999 / 2);
+    let [tree, grid, auto] = split.looked;
+    assert!(rt; tree <= 4000 && auto <= 4000);
+    assert!(rt; grid <= 20_000);
     Ok(())
 }
 
 #[test]
 fn segments_beside_one_another(rt: HostRuntime) -> Result<(), Fail> {
     let given = steps(&rt, 4000)?;
-    let (rows, told) = split_alike(&rt, (Strategy::List, Strategy::Tree), &given)?;
-    assert_eq!(rt; rows.as_slice(), given.as_slice());
-    assert_eq!(rt; (told.0, told.1), (false, 1));
-    assert!(rt; told.2 <= 4000);
+    let split = split_alike(&rt, &given)?;
+    assert!(rt; split.rows.as_slice() == given.as_slice());
+    assert_eq!(rt; split.told, (false, 1));
+    let [tree, _, auto] = split.looked;
+    assert!(rt; tree <= 4000 && auto <= 4000);
+    Ok(())
+}
+
+/// 48 rows of 34 fans: 16,320 segments, 45 twos of each fan meet, and columns are 64 wide. Each segment has two fragments,
+/// so no tree is asked before the grid, which looks at each of these twos in two columns: more often than a tree may, which
+/// looks at each once, and at each segment once more.
+#[test]
+fn fans_in_columns(rt: HostRuntime) -> Result<(), Fail> {
+    let split = split_alike(&rt, &fans(&rt, 48)?)?;
+    assert_eq!(rt; (split.rows.len(), split.told), (2 * 16_320, (true, 1)));
+    for looked in split.looked {
+        assert!(rt; 16_320 + 45 * 1632 < looked);
+        assert!(rt; looked <= 2 * 16_320 + 2 * 45 * 1632);
+    }
+    Ok(())
+}
+
+/// Sixty segments are live at once, more than are looked at one by one: so they stand in the tree.
+#[test]
+fn many_long_lines_at_once(rt: HostRuntime) -> Result<(), Fail> {
+    let split = split_alike(&rt, &long_lines(&rt)?)?;
+    assert!(rt; split.told.0);
+    Ok(())
+}
+
+/// One segment far to the right makes the columns so wide that all others are in one.
+#[test]
+fn one_segment_far_away(rt: HostRuntime) -> Result<(), Fail> {
+    let mut given = lines(&rt, 2000)?;
+    given.push(((536_870_912, 0), (536_870_913, 1), 1))?;
+    let split = split_alike(&rt, &given)?;
+    assert!(rt; split.rows.as_slice() == given.as_slice());
+    assert_eq!(rt; split.told, (false, 1));
+    let [tree, grid, _] = split.looked;
+    assert!(rt; tree <= 2001 && grid <= 2001);
     Ok(())
 }
