@@ -38,7 +38,8 @@ impl<I: OverlayInt> FragmentBuffer<I> {
     ghost use Rattle.overlay_marks.specs.steps.FragmentFinder.{heights_at};
     ghost use Rattle.overlay_marks.specs.GroupsOf.{group_of, groups_of, grid_of};
 
-    /// A buffer with one group for each column of a layout, all empty. Answers `Fault::Memory` where a growth is refused.
+    /// A buffer with one group for each column of a layout, all empty. Answers `Fault::Memory` where a growth is
+    /// refused.
     pub fn new(alloc: Global, layout: GridLayout<I>) -> Result<Self, Fault>
         ensures layout { IfOk result (λ buffer. grid_of buffer ≡ layout_of layout) }
         ensures empty { IfOk result (λ buffer. (column : ℕ) → group_of buffer column ≡ []) }
@@ -126,8 +127,8 @@ impl<I: OverlayInt> FragmentBuffer<I> {
         clear_groups(&mut self.groups);
     }
 
-    /// Sorts every group by where the fragments begin along one axis, and answers which: from the lowest up, unless a scan
-    /// compares many fragments so and fewer from left to right.
+    /// Sorts every group by where the fragments begin along one axis, and answers which: from the lowest up, unless a
+    /// scan compares many fragments so and fewer from left to right.
     pub(crate) fn sort(&mut self) -> Axis
         ensures layout { grid_of self.new ≡ grid_of self.old }
         ensures permutation { (column : ℕ) → IsPermutation (group_of self.old column) (group_of self.new column) }
@@ -166,9 +167,9 @@ impl<I: OverlayInt> FragmentBuffer<I> {
         }
     }
 
-    /// Appends the fragments of a segment, one to the group of each column that it enters. Each has a rectangle that holds
-    /// the segment's part there. The segment has to be in range and inside the layout, and its `a.x` may not be greater
-    /// than its `b.x`.
+    /// Appends the fragments of a segment, one to the group of each column that it enters. Each has a rectangle that
+    /// holds the segment's part there. The segment has to be in range and inside the layout, and its `a.x` may not be
+    /// greater than its `b.x`.
     ///
     /// Answers `Fault::Memory` where a growth is refused; every group is empty then.
     pub fn add_segment(&mut self, index: usize, x_segment: XSegment<I>) -> Result<(), Fault>

@@ -8,8 +8,8 @@ use crate::split::axis::Axis;
 use crate::split::fragment::Fragment;
 use overlay_base::num::OverlayInt;
 
-/// How many twos of fragments a scan of groups along an axis compares: each fragment with those after it in its group that
-/// begin up to where it ends. The groups have to be sorted along the axis.
+/// How many twos of fragments a scan of groups along an axis compares: each fragment with those after it in its group
+/// that begin up to where it ends; `u64::MAX` if there are more. The groups have to be sorted along the axis.
 pub(crate) fn count_reached<I: OverlayInt>(groups: &[Vec<Fragment<I>>], axis: Axis) -> u64
     requires sorted { (column : ℕ) → IsSortedAlong axis (group_in I.whole groups.now column) }
 {

@@ -34,9 +34,9 @@ use std::alloc::AllocError;
 /// Finds the marks of a pass: the points at which each segment is to be split, each once, by rising index and then in
 /// order of points. Answers whether two segments cross at a point without whole coordinates, so that the pass rounds.
 ///
-/// The segments have to be in range and inside the buffer's layout, and a squared radius at least 1. Those are looked at
-/// whose fragments meet in some column; a vertical segment on the left border of a column besides takes marks from the
-/// right ends in the column to its left. What `marks` and `buffer` held before is dropped.
+/// The segments have to be in range and inside the buffer's layout, and a squared radius at least 1. Those are looked
+/// at whose fragments meet in some column; a vertical segment on the left border of a column besides takes marks from
+/// the right ends in the column to its left. What `marks` and `buffer` held before is dropped.
 ///
 /// Answers `Fault::Memory` where a growth is refused; `marks` is of no use then.
 pub fn find_marks<C: WindingCount, I: OverlayInt, D: Copy>(
@@ -50,9 +50,11 @@ pub fn find_marks<C: WindingCount, I: OverlayInt, D: Copy>(
     requires inside { All (λ s. IsInside (grid_of buffer.old) (ends_of s)) segments.now }
     requires radius { HasRadius placing }
     ensures layout { grid_of buffer.new ≡ grid_of buffer.old }
-    ensures marks { OnOk result (AreMarks (placing_of placing) (segments_of segments.now) (marks_of I.whole marks.new.items)) }
+    ensures marks { OnOk result (AreMarks (placing_of placing) (segments_of segments.now)
+        (marks_of I.whole marks.new.items)) }
     ensures rounded { IfOk result (λ rounded. rounded ≡ is_rounded (segments_of segments.now)) }
-    ensures looked { OnOk result (looked.new ≤ looked.old + fragment_looks (grid_of buffer.old) (pairs (segments_of segments.now))) }
+    ensures looked { OnOk result (looked.new ≤ looked.old
+        + fragment_looks (grid_of buffer.old) (pairs (segments_of segments.now))) }
     ensures fault { IfErr result (λ fault. fault ≡ Memory) }
 {
     marks.clear();
@@ -159,8 +161,8 @@ fn mark_group<I: OverlayInt>(
     Ok(rounded)
 }
 
-/// The same of one fragment and those that follow it, up to the first that begins past its end along the axis. Those are
-/// taken up whose heights meet.
+/// The same of one fragment and those that follow it, up to the first that begins past its end along the axis. Those
+/// are taken up whose heights meet.
 fn mark_with_rest<I: OverlayInt>(
     group: &[Fragment<I>],
     first: usize,
@@ -178,7 +180,8 @@ fn mark_with_rest<I: OverlayInt>(
         ++ marks_with_first (placing_of placing) (drop first (fragments_of I.whole group.now))) }
     ensures rounded { IfOk result (λ rounded. rounded ≡ is_first_rounded
         (drop first (fragments_of I.whole group.now))) }
-    ensures looked { OnOk result (looked.new ≤ looked.old + looks_of_first (drop first (fragments_of I.whole group.now))) }
+    ensures looked { OnOk result (looked.new ≤ looked.old
+        + looks_of_first (drop first (fragments_of I.whole group.now))) }
 {
     let fragment = group[first];
     let mut rounded = false;

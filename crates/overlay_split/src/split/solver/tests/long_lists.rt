@@ -1,5 +1,5 @@
-// Long lists and many live segments: under `Tree` and `Auto` a tree or a grid takes the place of the list of all pairs, and
-// every answer stays.
+// Long lists and many live segments: under `Tree` and `Auto` a tree or a grid takes the place of the list of all pairs,
+// and every answer stays.
 use super::*;
 
 /// Horizontal lines above one another, from x = 0 to x = 10.
@@ -29,8 +29,9 @@ fn steps(rt: &(impl Abort + AllocGlobal), count: u16) -> Result<Vec<Row>, Fail> 
     Ok(rows)
 }
 
-/// Ten lines, 128 wide, that cross in the point (left + 64, low + 9).
-fn push_fan(rows: &mut Vec<Row>, left: i64, low: i64) -> Result<(), Fail> {
+/// Ten lines, 128 wide, that cross in one point. Fans of different places or rows do not touch.
+fn push_fan(rows: &mut Vec<Row>, place: u16, row: u16) -> Result<(), Fail> {
+    let (left, low) = (192 * i64::from(place), 100 * i64::from(row));
     for line in 0..10_u16 {
         let rise = 2 * i64::from(line);
         rows.push(((left, low + rise), (left + 128, low + 18 - rise), 1))?;
@@ -38,12 +39,12 @@ fn push_fan(rows: &mut Vec<Row>, left: i64, low: i64) -> Result<(), Fail> {
     Ok(())
 }
 
-/// Rows of 34 fans each. No two fans touch.
+/// Rows of 34 fans each.
 fn fans(rt: &(impl Abort + AllocGlobal), count: u16) -> Result<Vec<Row>, Fail> {
     let mut rows = Vec::new(rt.alloc());
-    for place in 0..34_u16 {
+    for place in 0..34 {
         for row in 0..count {
-            push_fan(&mut rows, 192 * i64::from(place), 100 * i64::from(row))?;
+            push_fan(&mut rows, place, row)?;
         }
     }
     Ok(rows)
@@ -182,9 +183,9 @@ fn segments_beside_one_another(rt: HostRuntime) -> Result<(), Fail> {
     Ok(())
 }
 
-/// 48 rows of 34 fans: 16,320 segments, 45 twos of each fan meet, and columns are 64 wide. Each segment has two fragments,
-/// so no tree is asked before the grid, which looks at each of these twos in two columns: more often than a tree may, which
-/// looks at each once, and at each segment once more.
+/// 48 rows of 34 fans: 16,320 segments, 45 twos of each fan meet, and columns are 64 wide. Each segment has two
+/// fragments, so no tree is asked before the grid, which looks at each of these twos in two columns: more often than a
+/// tree may, which looks at each once, and at each segment once more.
 #[test]
 fn fans_in_columns(rt: HostRuntime) -> Result<(), Fail> {
     let split = split_alike(&rt, &fans(&rt, 48)?)?;
