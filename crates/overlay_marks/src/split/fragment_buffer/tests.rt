@@ -86,17 +86,20 @@ fn layouts(rt: HostRuntime) {
     assert_eq!(rt; layout.pos(1), 32);
 }
 
+/// A line's two ends.
+type Line = ((i32, i32), (i32, i32));
+
 /// Whether the fragments of segments in columns of width 32 are sorted from left to right.
-fn is_sorted_across(
-    rt: &(impl Abort + AllocGlobal),
-    segments: impl Iterator<Item = ((i32, i32), (i32, i32))>,
-) -> bool {
+fn is_sorted_across(rt: &(impl Abort + AllocGlobal), lines: &[Line]) -> bool {
     let layout = GridLayout::with_min_max(0, 127, 1).expect(rt, "wide enough");
     let mut buffer = FragmentBuffer::new(rt.alloc(), layout).expect(rt, "memory");
-    for (index, (a, b)) in segments.enumerate() {
+    for index in 0..lines.len() {
+        let (a, b) = lines[index];
         let a = IntPoint::new(a.0, a.1);
         let b = IntPoint::new(b.0, b.1);
-        assert!(rt; 0 <= a.x && a.x <= b.x && b.x <= 127);
+        assert!(rt; 0 <= a.x);
+        assert!(rt; a.x <= b.x);
+        assert!(rt; b.x <= 127);
         let segment = XSegment { a, b };
         assert!(rt; is_in_range(&segment));
         buffer.add_segment(index, segment).expect(rt, "memory");
@@ -108,13 +111,14 @@ fn is_sorted_across(
 }
 
 #[test]
-fn columns_are_sorted_along_the_axis_of_fewer_looks(rt: HostRuntime) {
-    let beside = (0..40).map(|x| ((x, 0), (x, 9)));
-    let above = (0..40).map(|y| ((0, y), (40, y)));
-    let across = (0..40).map(|y| ((0, 0), (40, y)));
-    let few = (0..8).map(|x| ((x, 0), (x, 9)));
-    assert!(rt; is_sorted_across(&rt, beside));
-    assert!(rt; !is_sorted_across(&rt, above));
-    assert!(rt; !is_sorted_across(&rt, across));
-    assert!(rt; !is_sorted_across(&rt, few));
+fn columns_are_sorted_along_the_axis_of_fewer_looks(rt: HostRuntime) -> Result<(), Fail> {
+    let beside: Vec<Line> = (0..40).map(|x| ((x, 0), (x, 9))).collect(rt.alloc())?;
+    let above: Vec<Line> = (0..40).map(|y| ((0, y), (40, y))).collect(rt.alloc())?;
+    let across: Vec<Line> = (0..40).map(|y| ((0, 0), (40, y))).collect(rt.alloc())?;
+    assert!(rt; is_sorted_across(&rt, &beside));
+    assert!(rt; !is_sorted_across(&rt, &above));
+    assert!(rt; !is_sorted_across(&rt, &across));
+    let few: Vec<Line> = (0..8).map(|x| ((x, 0), (x, 9))).collect(rt.alloc())?;
+    assert!(rt; !is_sorted_across(&rt, &few));
+    Ok(())
 }
