@@ -179,10 +179,8 @@ impl<C: WindingCount, I: OverlayInt, D: Copy> FillHandler<C, I, D> for FirstWith
     ghost takes = { λ _ _. ⊤ };
 
     ghost handle_gives = { λ handler visit.
-        let seen = (handler.seen * 16 % 2 ^ 64 + visit.index) % 2 ^ 64 in (
-          record { bit = handler.bit; seen = seen },
-          (if bit_and visit.fill handler.bit == 0 then None else Some (record { 0 = visit.index; 1 = seen })),
-        ) };
+        let seen = (handler.seen * 16 % 2 ^ 64 + visit.index) % 2 ^ 64 in
+        (record { bit = handler.bit; seen = seen }, (if bit_and visit.fill handler.bit == 0 then None else Some (record { 0 = visit.index; 1 = seen }))) };
 
     ghost finalize_gives = { λ handler. record { 0 = 0; 1 = handler.seen } };
 
