@@ -5,7 +5,8 @@ Usage, from the top of the repository: python3 bench/split.py [--against PROGRAM
 
 Each kind is made of the given numbers of segments (1,000, 4,000, 16,000 and 50,000 if none are given). For each one line
 is printed: kind, segments given, segments answered, passes, and the processor's time in seconds, the least of nine runs in
-turns: of `join`, which reads, sorts, merges and prints as many, and of `split` under `list`, `tree`, `frag` and `auto`; then
+turns: of a sort of as many records by Python, a measure of the machine; of `join`, which reads, sorts, merges and prints as
+many; and of `split` under `list`, `tree`, `frag` and `auto`; then
 the most memory in megabytes that a run over the list, and one over the grid, took. There are fewer turns where they take
 longer than twenty seconds in all. All answers have to be the same. Above 16,000 segments `tree` and `auto` go over the grid,
 as `frag` does.
@@ -29,6 +30,7 @@ import random
 import resource
 import subprocess
 import sys
+import time
 
 LIMIT = 500_000
 FARTHEST = 2**30 - 1
@@ -129,6 +131,18 @@ def run(program, words, text):
     return printed, processor_time() - before
 
 
+def sort_seconds(number):
+    """The processor's seconds of a sort of records of four numbers, the least of nine."""
+    numbers = random.Random(number)
+    records = [tuple(numbers.randint(-LIMIT, LIMIT) for _ in range(4)) for _ in range(number)]
+    least = math.inf
+    for _ in range(TURNS):
+        before = time.process_time()
+        sorted(records)
+        least = min(least, time.process_time() - before)
+    return least
+
+
 def measure(kind, number):
     text = "\n".join(KINDS[kind](number)) + "\n"
     commands = [["join"], *(["split", f"strategy={strategy}"] for strategy in STRATEGIES)]
@@ -140,8 +154,8 @@ def measure(kind, number):
         sys.exit(f"{kind} {number}: two strategies answer differently")
     lines = answers.pop().splitlines()
     passes = lines[-1].split()[1]
-    times = (min(turn[command][1] for turn in turns) for command in range(len(commands)))
-    seconds = " ".join(f"{time:8.3f}" for time in times)
+    times = [sort_seconds(number), *(min(turn[command][1] for turn in turns) for command in range(len(commands)))]
+    seconds = " ".join(f"{each:8.3f}" for each in times)
     most = " ".join(f"{memory(strategy, text):5.0f}" for strategy in ("list", "frag"))
     print(f"{kind:10} {number:6} {len(lines) - 2:8} {passes:>6} {seconds} {most}", flush=True)
 
@@ -182,7 +196,7 @@ def main():
             for number in numbers:
                 compare(other, kind, number)
         return
-    print("kind        given   pieces passes     join " + " ".join(f"{strategy:>8}" for strategy in STRATEGIES) + "  MB list frag")
+    print("kind        given   pieces passes     sort     join " + " ".join(f"{strategy:>8}" for strategy in STRATEGIES) + "  MB list frag")
     for kind in KINDS:
         for number in numbers:
             measure(kind, number)

@@ -15,6 +15,10 @@ nowhere = record { a = record { x = pos 0; y = pos 0 }; b = record { x = pos 0; 
 abbrev pub pair_at : List Pair → ℕ → Pair
 pair_at ps index = slice_index_or ps index nowhere
 
+-- so few entries at most are looked at one by one, but for one
+abbrev pub few : ℕ
+few = 48
+
 -- the entry of a pair, before it is live, and a node without others
 abbrev pub entry_of_pair : ℕ → Pair → Entry
 entry_of_pair index s = record { low = int_min s.a.y s.b.y; high = int_max s.a.y s.b.y; end_x = s.b.x; index = index; is_live = false }

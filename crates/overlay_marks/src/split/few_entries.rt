@@ -1,20 +1,23 @@
 // Look-ups among a few entries, one after another, where a tree would be worth less than it costs.
-ghost use Rattle.std.specs.Prelude.{◌≡◌, ◌+◌, ◌-◌, ◌^◌, ◌++◌, [], ◌∷◌, count_by, min, int_lt, OnOk};
+ghost use Rattle.std.specs.Prelude.{◌≡◌, ◌<◌, ◌+◌, ◌-◌, ◌^◌, ◌++◌, [], ◌∷◌, count_by, length, min, int_lt, OnOk};
 ghost use Rattle.overlay_marks.specs.steps.IntervalTree.{entries, found, is_taken_up};
 ghost use Rattle.overlay_marks.specs.steps.NodeOf.{entry_of, nodes_of, query_of};
+ghost use Rattle.overlay_marks.specs.steps.Swept.{few};
 
 use crate::split::interval_tree::{Node, Query};
 use crate::split::looks::take_up;
 use overlay_base::num::OverlayInt;
 use std::alloc::AllocError;
 
-/// Appends the indexes that `look_up` finds, by a look at each node, in any order of the nodes. Drops none.
+/// Appends the indexes that `look_up` finds, by a look at each node, in any order of the nodes. Drops none. There have
+/// to be few nodes, since `looked` counts those alone whose heights are met.
 pub fn look_through<I: OverlayInt>(
     nodes: &[Node<I>],
     query: &Query<I>,
     indexes: &mut Vec<usize>,
     looked: &mut u128,
 ) -> Result<(), AllocError>
+    requires { length nodes.now < few }
     ensures found { OnOk result (indexes.new.items
         ≡ indexes.old.items ++ found (query_of I.whole query.now) (entries (nodes_of I.whole nodes.now))) }
     ensures looked { OnOk result (looked.new

@@ -62,12 +62,9 @@ impl<I: OverlayInt> PairFinder<I> {
         ensures looked { IfOk result (λ finder. looks_in finder ≡ 0) }
         ensures fault { IfErr result (λ fault. fault ≡ Memory) }
     {
-        let grid = grid_over(alloc, solver, first, memory)?;
-        Ok(PairFinder {
-            solver: *solver,
-            grid,
-            looked: 0,
-        })
+        let mut finder = PairFinder::without_grid(solver);
+        finder.grid = grid_over(alloc, solver, first, memory)?;
+        Ok(finder)
     }
 
     /// Without a grid.

@@ -30,12 +30,12 @@ pub struct FragmentBuffer<I: OverlayInt> {
 }
 
 impl<I: OverlayInt> FragmentBuffer<I> {
-    ghost use Rattle.std.specs.Prelude.{◌<◌, ◌+◌, ◌≤ℤ◌, IsPermutation, IsSorted, ◌++◌, [], ◌∷◌, ℕ, ◌==◌, IfOk, IfErr, OnOk, OnErr, if◌then◌else◌, map};
+    ghost use Rattle.std.specs.Prelude.{◌<◌, ◌≤◌, ◌+◌, ◌≤ℤ◌, IsPermutation, IsSorted, ◌++◌, [], ◌∷◌, ℕ, ◌==◌, IfOk, IfErr, OnOk, OnErr, if◌then◌else◌, map};
     ghost use Rattle.overlay_base.specs.declared.segm.fault.Fault.TheVariants.{Memory};
     ghost use Rattle.overlay_base.specs.PairOf.{pair_of};
     ghost use Rattle.overlay_base.specs.InRange.{IsPairInRange};
     ghost use Rattle.overlay_marks.specs.FragmentOf.{fragment_of, kept_in, IsSortedAlong};
-    ghost use Rattle.overlay_marks.specs.steps.FragmentFinder.{heights_at};
+    ghost use Rattle.overlay_marks.specs.steps.FragmentFinder.{heights_at, looks_of_groups, all_twos_in_height};
     ghost use Rattle.overlay_marks.specs.GroupsOf.{group_of, groups_of, grid_of};
 
     /// A buffer with one group for each column of a layout, all empty. Answers `Fault::Memory` where a growth is
@@ -128,11 +128,13 @@ impl<I: OverlayInt> FragmentBuffer<I> {
     }
 
     /// Sorts every group by where the fragments begin along one axis, and answers which: from the lowest up, unless a
-    /// scan compares many fragments so and fewer from left to right.
+    /// scan compares many fragments so and fewer from left to right. So it compares no more twos than share a height.
     pub(crate) fn sort(&mut self) -> Axis
         ensures layout { grid_of self.new ≡ grid_of self.old }
         ensures permutation { (column : ℕ) → IsPermutation (group_of self.old column) (group_of self.new column) }
         ensures sorted { (column : ℕ) → IsSortedAlong result (group_of self.new column) }
+        ensures looks { looks_of_groups result (group_of self.new) (group_count (grid_of self.new))
+            ≤ all_twos_in_height (group_of self.new) (group_count (grid_of self.new)) }
     {
         self.sort_along(Axis::Y);
         let upward = count_reached(self.groups(), Axis::Y);

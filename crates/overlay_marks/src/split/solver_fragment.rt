@@ -1,5 +1,5 @@
 // The finder that looks at fragments of segments, column by column of a grid. Upstream: `split::solver_fragment`.
-ghost use Rattle.std.specs.Prelude.{◌≡◌, ◌≢◌, ◌^◌, min, ◌<◌, ◌≤◌, ◌+◌, ◌-◌, ◌++◌, ℕ, All, IsTrue, IfErr, IfOk, OnOk, IsSortedByKey, drop, length, int_le, int_lt, ◌&&◌, flat_map, sum_by};
+ghost use Rattle.std.specs.Prelude.{◌≡◌, ◌≢◌, ◌^◌, min, ◌<◌, ◌≤◌, ◌+◌, ◌-◌, ◌++◌, ℕ, All, IsTrue, IfErr, IfOk, OnOk, IsSortedByKey, drop, length, int_lt, flat_map};
 ghost use Rattle.std.specs.List.{AllByRecursion, list_any, range_with_len};
 ghost use Rattle.overlay_base.specs.declared.segm.fault.Fault.TheVariants.{Memory};
 ghost use Rattle.overlay_base.specs.Points.{pair_lt};
@@ -13,7 +13,7 @@ ghost use Rattle.overlay_marks.specs.PlacingOf.{placing_of, HasRadius};
 ghost use Rattle.overlay_marks.specs.MarkOf.{AreMarks, marks_of};
 ghost use Rattle.overlay_marks.specs.FragmentOf.{fragment_of, fragments_of, least_along, greatest_along, IsSortedAlong};
 ghost use Rattle.overlay_marks.specs.GroupsOf.{group_in, group_of, grid_of};
-ghost use Rattle.overlay_marks.specs.steps.FragmentFinder.{is_ready, kept_group, marks_of_two, marks_with_first, marks_of_group, meet_inexactly, is_first_rounded, is_group_rounded, looks_of_first, looks_of_group};
+ghost use Rattle.overlay_marks.specs.steps.FragmentFinder.{is_ready, kept_group, marks_of_two, marks_with_first, marks_of_group, meet_inexactly, is_first_rounded, is_group_rounded, looks_of_first, looks_of_group, looks_of_groups};
 ghost use Rattle.overlay_marks.specs.Grid.{IsInside};
 
 use crate::split::axis::Axis;
@@ -122,8 +122,7 @@ fn mark_columns<I: OverlayInt>(
     ensures rounded { IfOk result (λ rounded. rounded ≡ list_any
         (λ column. is_group_rounded (group_in I.whole groups.now column)) (range_with_len 0 (length groups.now))) }
     ensures looked { OnOk result (looked.new ≤ looked.old
-        + sum_by (λ column. looks_of_group (group_in I.whole groups.now column))
-        (range_with_len 0 (length groups.now))) }
+        + looks_of_groups axis (group_in I.whole groups.now) (length groups.now)) }
 {
     let mut rounded = false;
     for column in 0..groups.len() {
@@ -150,7 +149,7 @@ fn mark_group<I: OverlayInt>(
     ensures marks { OnOk result (marks_of I.whole marks.new.items ≡ marks_of I.whole marks.old.items
         ++ marks_of_group (placing_of placing) (fragments_of I.whole group.now)) }
     ensures rounded { IfOk result (λ rounded. rounded ≡ is_group_rounded (fragments_of I.whole group.now)) }
-    ensures looked { OnOk result (looked.new ≤ looked.old + looks_of_group (fragments_of I.whole group.now)) }
+    ensures looked { OnOk result (looked.new ≤ looked.old + looks_of_group axis (fragments_of I.whole group.now)) }
 {
     let mut rounded = false;
     for first in 0..group.len() {
@@ -161,8 +160,7 @@ fn mark_group<I: OverlayInt>(
     Ok(rounded)
 }
 
-/// The same of one fragment and those that follow it, up to the first that begins past its end along the axis. Those
-/// are taken up whose heights meet.
+/// The same of one fragment and those that follow it, up to the first that begins past its end along the axis.
 fn mark_with_rest<I: OverlayInt>(
     group: &[Fragment<I>],
     first: usize,
@@ -181,7 +179,7 @@ fn mark_with_rest<I: OverlayInt>(
     ensures rounded { IfOk result (λ rounded. rounded ≡ is_first_rounded
         (drop first (fragments_of I.whole group.now))) }
     ensures looked { OnOk result (looked.new ≤ looked.old
-        + looks_of_first (drop first (fragments_of I.whole group.now))) }
+        + looks_of_first axis (drop first (fragments_of I.whole group.now))) }
 {
     let fragment = group[first];
     let mut rounded = false;
@@ -192,11 +190,9 @@ fn mark_with_rest<I: OverlayInt>(
         if begins_past(&other, &fragment, axis) {
             break;
         }
-        if share_heights(&fragment, &other) {
-            take_up(&mut looks);
-            if mark_two(&fragment, &other, placing, marks)? {
-                rounded = true;
-            }
+        take_up(&mut looks);
+        if mark_two(&fragment, &other, placing, marks)? {
+            rounded = true;
         }
     }
     *looked = looks;
@@ -209,14 +205,6 @@ fn begins_past<I: OverlayInt>(other: &Fragment<I>, fragment: &Fragment<I>, axis:
         (least_along axis (fragment_of I.whole other.now)) }
 {
     axis.greatest(&fragment.rect) < axis.least(&other.rect)
-}
-
-/// Whether the heights of two fragments meet, each from its least `y` to its greatest.
-fn share_heights<I: OverlayInt>(fragment: &Fragment<I>, other: &Fragment<I>) -> bool
-    ensures { result ≡ (int_le (I.whole fragment.now.rect.min_y) (I.whole other.now.rect.max_y)
-        && int_le (I.whole other.now.rect.min_y) (I.whole fragment.now.rect.max_y)) }
-{
-    fragment.rect.min_y <= other.rect.max_y && other.rect.min_y <= fragment.rect.max_y
 }
 
 /// Appends the marks that the segments of two fragments put on one another, if the rectangles meet, and answers whether

@@ -14,7 +14,7 @@ ghost use Rattle.overlay_marks.specs.steps.IntervalTree.{AreRising, IsSummed, en
 ghost use Rattle.overlay_marks.specs.steps.NodeOf.{nodes_of, node_of, entry_of};
 ghost use Rattle.overlay_marks.specs.Looked.{boxes_meet, count_twos, tree_looks};
 ghost use Rattle.overlay_marks.specs.steps.TreeSweep.{IsUnderWay, GoesOn, AreFoundBefore};
-ghost use Rattle.overlay_marks.specs.steps.Swept.{alone, entry_at, entry_of_pair, entries_between, pair_at, marks_with_found, crosses_found};
+ghost use Rattle.overlay_marks.specs.steps.Swept.{alone, few, entry_at, entry_of_pair, entries_between, pair_at, marks_with_found, crosses_found};
 ghost use Rattle.std.specs.List.{IsDistinct, range_with_len};
 
 use crate::split::few_entries::look_through;
@@ -52,7 +52,8 @@ impl<I> TreeBuffers<I> {
 /// A sweep over the list keeps the segments that it has met: a few in a list, and more in a tree over their heights,
 /// which is renewed from time to time, so that it has few that have ended. Each segment takes up those whose heights it
 /// meets: those that end left of it are dropped, with the others it is marked. So besides one look at each segment that
-/// is dropped, it looks at those two alone whose ranges in `x` and in `y` meet; `looked` counts the looks.
+/// is dropped, it looks at those two alone whose ranges in `x` and in `y` meet; `looked` counts the looks, and not the
+/// comparisons of heights on the way to them, in the tree or with each of the few.
 ///
 /// Answers `Fault::Memory` where a growth is refused; `marks` is of no use then.
 pub fn find_marks<C: WindingCount, I: OverlayInt, D: Copy>(
@@ -170,6 +171,7 @@ fn take_among_few<C: WindingCount, I: OverlayInt, D: Copy>(
     requires index { index < length segments.now }
     requires sorted { IsSortedByKey ends_of pair_cmp segments.now }
     requires none { index ≡ until }
+    requires few { length nodes.old.items < few }
     requires way { (old : ℕ) × IsUnderWay (pairs (segments_of segments.now))
         (nodes_of I.whole nodes.old.items) old looked.old index until }
     ensures way { OnOk result (GoesOn (pairs (segments_of segments.now)) (nodes_of I.whole nodes.old.items)

@@ -109,8 +109,9 @@ impl<I> SplitSolver<I> {
         self.passes
     }
 
-    /// How often the last call that succeeded took up a pair of segments, even if only to compare their boxes; 0 at
-    /// first. It stops at `u128::MAX`.
+    /// How often the last call that succeeded took up a pair of segments, or of parts of them in a column, even if only
+    /// to find that they do not meet; 0 at first. It stops at `u128::MAX`. A tree over heights is asked on the way to a
+    /// pair without being counted, and so is each of a few live segments, fewer than 48.
     pub fn looked(&self) -> u128
         ensures { result ≡ looked_of self.now }
     {

@@ -20,7 +20,7 @@ use Rattle.overlay_marks.specs.FragmentOf.{KeptFragment, fragment_of, fragments_
 use Rattle.overlay_marks.specs.declared.split.axis.Axis.{Axis}
 use Rattle.overlay_marks.specs.declared.split.axis.Axis.TheVariants.{X, Y}
 use Rattle.overlay_marks.specs.declared.split.fragment.Fragment.{Fragment as CodeFragment}
-use Rattle.overlay_marks.specs.steps.FragmentFinder.{marks_of_two, marks_with_first, marks_of_group, meet_inexactly, is_first_rounded, is_group_rounded, looks_of_first, do_heights_meet, is_ready}
+use Rattle.overlay_marks.specs.steps.FragmentFinder.{marks_of_two, marks_with_first, marks_of_group, meet_inexactly, is_first_rounded, is_group_rounded, looks_of_first, is_reached, is_ready}
 use Rattle.overlay_marks.proofs.laws.list.FoundMarks.{or_assoc, or_false}
 
 -- ---- two fragments
@@ -48,22 +48,20 @@ pub apart_past : (axis : Axis) (f g : KeptFragment) → greatest_along axis f <�
 apart_past X f g h = grind (arith, ints)
 apart_past Y f g h = grind (arith, ints)
 
--- one that begins above the other's top, or below whose bottom the other ends, does not meet it
-pub apart_in_height : (f g : KeptFragment) → (int_le f.rect.min_y g.rect.max_y && int_le g.rect.min_y f.rect.max_y) ≡ false → do_rects_meet f.rect g.rect ≡ false
-apart_in_height f g h = grind (arith, ints)
-
--- two of which neither begins above the other's top share a height
-pub heights_share : (f g : KeptFragment) → (int_le f.rect.min_y g.rect.max_y && int_le g.rect.min_y f.rect.max_y) ≡ true → do_heights_meet f g ≡ true
-unfolding ranges_meet
-heights_share f g h = grind (arith, ints, clamps)
+-- one that does not begin past the other's end is reached from it
+pub reached_from : (axis : Axis) (f g : KeptFragment) → int_lt (greatest_along axis f) (least_along axis g) ≡ false → is_reached axis f g ≡ true
+reached_from axis f g h = not_past (greatest_along axis f) (least_along axis g) h
+  where
+    not_past : (a b : ℤ) → int_lt a b ≡ false → int_le b a ≡ true
+    not_past a b k = grind (arith, ints)
 
 -- ---- the walk
 
 -- where the walk over those that follow one stands: what it has found and what is left make up the whole, and so do its looks
-pub record IsScanned (placing : Placing) (f : KeptFragment) (rest : List KeptFragment) (old now : List Mark) (rounded : Bool) (first looks : ℕ) (left : List KeptFragment) : Type 0 where
+pub record IsScanned (placing : Placing) (axis : Axis) (f : KeptFragment) (rest : List KeptFragment) (old now : List Mark) (rounded : Bool) (first looks : ℕ) (left : List KeptFragment) : Type 0 where
   pub found : now ++ flat_map (λ g. marks_of_two placing f g) left ≡ old ++ flat_map (λ g. marks_of_two placing f g) rest
   pub flag : (rounded || list_any (λ g. meet_inexactly f g) left) ≡ list_any (λ g. meet_inexactly f g) rest
-  pub count : looks + count_by (λ g. do_heights_meet f g) left ≤ first + count_by (λ g. do_heights_meet f g) rest
+  pub count : looks + count_by (λ g. is_reached axis f g) left ≤ first + count_by (λ g. is_reached axis f g) rest
 
 one_more : (b : Bool) (n : ℕ) → b ≡ true → (if b then 1 else 0) + n ≡ 1 + n
 one_more b n e = ap (λ (c : Bool). (if c then 1 else 0) + n) e
@@ -71,30 +69,14 @@ one_more b n e = ap (λ (c : Bool). (if c then 1 else 0) + n) e
 pub count_by-first : {X : Type 0} (p : X → Bool) (x : X) (xs : List X) → p x ≡ true → count_by p (x ∷ xs) ≡ 1 + count_by p xs
 count_by-first p x xs e = sum_by-cons (λ y. if p y then 1 else 0) x xs ∙ one_more (p x) (count_by p xs) e
 
-no_less : (b : Bool) (n : ℕ) → n ≤ (if b then 1 else 0) + n
-no_less true n = omega arith
-no_less false n = omega arith
-
-pub count_by-no_less : {X : Type 0} (p : X → Bool) (x : X) (xs : List X) → count_by p xs ≤ count_by p (x ∷ xs)
-count_by-no_less p x xs = subst (λ (n : ℕ). count_by p xs ≤ n) (sym (sum_by-cons (λ y. if p y then 1 else 0) x xs)) (no_less (p x) (count_by p xs))
-
 -- one more is looked at
-pub IsScanned-more : (placing : Placing) (f g : KeptFragment) (rest : List KeptFragment) (old now next : List Mark) (rounded b : Bool) (first looks looks' : ℕ) (left : List KeptFragment) →
-    IsScanned placing f rest old now rounded first looks (g ∷ left) → do_heights_meet f g ≡ true → next ≡ now ++ marks_of_two placing f g → b ≡ (rounded || meet_inexactly f g) → looks' ≤ looks + 1 →
-    IsScanned placing f rest old next b first looks' left
-IsScanned-more placing f g rest old now next rounded b first looks looks' left w h n r le = record {
+pub IsScanned-more : (placing : Placing) (axis : Axis) (f g : KeptFragment) (rest : List KeptFragment) (old now next : List Mark) (rounded b : Bool) (first looks looks' : ℕ) (left : List KeptFragment) →
+    IsScanned placing axis f rest old now rounded first looks (g ∷ left) → is_reached axis f g ≡ true → next ≡ now ++ marks_of_two placing f g → b ≡ (rounded || meet_inexactly f g) → looks' ≤ looks + 1 →
+    IsScanned placing axis f rest old next b first looks' left
+IsScanned-more placing axis f g rest old now next rounded b first looks looks' left w h n r le = record {
   found = ap (λ (ms : List Mark). ms ++ flat_map (λ u. marks_of_two placing f u) left) n ∙ append_assoc now (marks_of_two placing f g) (flat_map (λ u. marks_of_two placing f u) left) ∙ w.found;
   flag = ap (λ (c : Bool). c || list_any (λ u. meet_inexactly f u) left) r ∙ or_assoc rounded (meet_inexactly f g) (list_any (λ u. meet_inexactly f u) left) ∙ w.flag;
-  count = (let c = w.count in let e = count_by-first (λ u. do_heights_meet f u) g left h in omega arith);
-}
-
--- one is passed over
-pub IsScanned-apart : (placing : Placing) (f g : KeptFragment) (rest : List KeptFragment) (old now : List Mark) (rounded : Bool) (first looks : ℕ) (left : List KeptFragment) →
-    IsScanned placing f rest old now rounded first looks (g ∷ left) → do_rects_meet f.rect g.rect ≡ false → IsScanned placing f rest old now rounded first looks left
-IsScanned-apart placing f g rest old now rounded first looks left w e = record {
-  found = ap (λ (ms : List Mark). now ++ (ms ++ flat_map (λ u. marks_of_two placing f u) left)) (sym (two_apart placing f g e)) ∙ w.found;
-  flag = ap (λ (b : Bool). rounded || (b || list_any (λ u. meet_inexactly f u) left)) (sym (two_exact f g e)) ∙ w.flag;
-  count = (let c = w.count in let more = count_by-no_less (λ u. do_heights_meet f u) g left in omega arith);
+  count = (let c = w.count in let e = count_by-first (λ u. is_reached axis f u) g left h in omega arith);
 }
 
 -- none of what is left meets f
@@ -106,13 +88,13 @@ none_meet placing axis f (g ∷ left) h =
     (ap₂ (λ (ms ns : List Mark). ms ++ ns) (two_apart placing f g e) rest.0, ap₂ (λ (b c : Bool). b || c) (two_exact f g e) rest.1)
 
 -- what the walk has found at its end
-pub record IsScannedAll (placing : Placing) (f : KeptFragment) (rest : List KeptFragment) (old now : List Mark) (rounded : Bool) (first looks : ℕ) : Type 0 where
+pub record IsScannedAll (placing : Placing) (axis : Axis) (f : KeptFragment) (rest : List KeptFragment) (old now : List Mark) (rounded : Bool) (first looks : ℕ) : Type 0 where
   pub found : now ≡ old ++ flat_map (λ g. marks_of_two placing f g) rest
   pub flag : rounded ≡ list_any (λ g. meet_inexactly f g) rest
-  pub count : looks ≤ first + count_by (λ g. do_heights_meet f g) rest
+  pub count : looks ≤ first + count_by (λ g. is_reached axis f g) rest
 
 pub IsScanned-end : (placing : Placing) (axis : Axis) (f : KeptFragment) (rest : List KeptFragment) (old now : List Mark) (rounded : Bool) (first looks : ℕ) (left : List KeptFragment) →
-    IsScanned placing f rest old now rounded first looks left → AllByRecursion (λ g. greatest_along axis f <ℤ least_along axis g) left → IsScannedAll placing f rest old now rounded first looks
+    IsScanned placing axis f rest old now rounded first looks left → AllByRecursion (λ g. greatest_along axis f <ℤ least_along axis g) left → IsScannedAll placing axis f rest old now rounded first looks
 IsScanned-end placing axis f rest old now rounded first looks left w h =
     let none = none_meet placing axis f left h in
     record {
@@ -138,25 +120,25 @@ IsSortedAlong-drop axis (suc i) (f ∷ fs) r = IsSortedAlong-drop axis i fs r.1
 
 -- ---- the walk over all
 
-pub record IsSearched (placing : Placing) (group : List KeptFragment) (old now : List Mark) (rounded : Bool) (first looks : ℕ) (left : List KeptFragment) : Type 0 where
+pub record IsSearched (placing : Placing) (axis : Axis) (group : List KeptFragment) (old now : List Mark) (rounded : Bool) (first looks : ℕ) (left : List KeptFragment) : Type 0 where
   pub found : now ++ marks_of_group placing left ≡ old ++ marks_of_group placing group
   pub flag : (rounded || is_group_rounded left) ≡ is_group_rounded group
-  pub count : looks + count_twos do_heights_meet left ≤ first + count_twos do_heights_meet group
+  pub count : looks + count_twos (is_reached axis) left ≤ first + count_twos (is_reached axis) group
 
 -- one more with those that follow it
-pub IsSearched-more : (placing : Placing) (f : KeptFragment) (group : List KeptFragment) (old now next : List Mark) (rounded b c : Bool) (first looks looks' : ℕ) (left : List KeptFragment) →
-    IsSearched placing group old now rounded first looks (f ∷ left) → IsScannedAll placing f left now next c looks looks' → b ≡ (rounded || c) → IsSearched placing group old next b first looks' left
+pub IsSearched-more : (placing : Placing) (axis : Axis) (f : KeptFragment) (group : List KeptFragment) (old now next : List Mark) (rounded b c : Bool) (first looks looks' : ℕ) (left : List KeptFragment) →
+    IsSearched placing axis group old now rounded first looks (f ∷ left) → IsScannedAll placing axis f left now next c looks looks' → b ≡ (rounded || c) → IsSearched placing axis group old next b first looks' left
 unfolding marks_of_group is_group_rounded count_twos
-IsSearched-more placing f group old now next rounded b c first looks looks' left w s r = record {
+IsSearched-more placing axis f group old now next rounded b c first looks looks' left w s r = record {
   found = ap (λ (ms : List Mark). ms ++ marks_of_group placing left) s.found ∙ append_assoc now (flat_map (λ g. marks_of_two placing f g) left) (marks_of_group placing left) ∙ w.found;
   flag = ap (λ (d : Bool). d || is_group_rounded left) (r ∙ ap (λ (d : Bool). rounded || d) s.flag) ∙ or_assoc rounded (list_any (λ g. meet_inexactly f g) left) (is_group_rounded left) ∙ w.flag;
   count = (let m = w.count in let n = s.count in omega arith);
 }
 
-pub IsSearched-end : (placing : Placing) (group : List KeptFragment) (old now : List Mark) (rounded : Bool) (first looks : ℕ) (left : List KeptFragment) → IsSearched placing group old now rounded first looks left → left ≡ [] →
-    (now ≡ old ++ marks_of_group placing group) × (rounded ≡ is_group_rounded group) × (looks ≤ first + count_twos do_heights_meet group)
+pub IsSearched-end : (placing : Placing) (axis : Axis) (group : List KeptFragment) (old now : List Mark) (rounded : Bool) (first looks : ℕ) (left : List KeptFragment) → IsSearched placing axis group old now rounded first looks left → left ≡ [] →
+    (now ≡ old ++ marks_of_group placing group) × (rounded ≡ is_group_rounded group) × (looks ≤ first + count_twos (is_reached axis) group)
 unfolding marks_of_group is_group_rounded count_twos
-IsSearched-end placing group old now rounded first looks left w e =
+IsSearched-end placing axis group old now rounded first looks left w e =
     let found = rw e at w.found in
     let flag = rw e at w.flag in
     let count = rw e at w.count in
@@ -185,39 +167,39 @@ fragments-none whole (x ∷ group) (suc j) h = fragments-none whole group j (ome
 
 -- ---- what the walk over those that follow the first has found
 
-pub scanned_found : (placing : Placing) (fs : List KeptFragment) (f : KeptFragment) (rest : List KeptFragment) (old now : List Mark) (rounded : Bool) (first looks : ℕ) → fs ≡ f ∷ rest → IsScannedAll placing f rest old now rounded first looks →
-    (now ≡ old ++ marks_with_first placing fs) × (rounded ≡ is_first_rounded fs) × (looks ≤ first + looks_of_first fs)
+pub scanned_found : (placing : Placing) (axis : Axis) (fs : List KeptFragment) (f : KeptFragment) (rest : List KeptFragment) (old now : List Mark) (rounded : Bool) (first looks : ℕ) → fs ≡ f ∷ rest → IsScannedAll placing axis f rest old now rounded first looks →
+    (now ≡ old ++ marks_with_first placing fs) × (rounded ≡ is_first_rounded fs) × (looks ≤ first + looks_of_first axis fs)
 unfolding marks_with_first is_first_rounded looks_of_first
-scanned_found placing fs f rest old now rounded first looks e s = rw e (s.found, s.flag, (let c = s.count in omega arith))
+scanned_found placing axis fs f rest old now rounded first looks e s = rw e (s.found, s.flag, (let c = s.count in omega arith))
 
 -- the walk that has come to the end of a group, or to one that begins past the first's end
 pub scanned_all : (placing : Placing) (axis : Axis) (fs : List KeptFragment) (f : KeptFragment) (rest : List KeptFragment) (old now : List Mark) (rounded : Bool) (first looks : ℕ) (left : List KeptFragment) →
-    fs ≡ f ∷ rest → IsScanned placing f rest old now rounded first looks left → left ≡ [] → (now ≡ old ++ marks_with_first placing fs) × (rounded ≡ is_first_rounded fs) × (looks ≤ first + looks_of_first fs)
+    fs ≡ f ∷ rest → IsScanned placing axis f rest old now rounded first looks left → left ≡ [] → (now ≡ old ++ marks_with_first placing fs) × (rounded ≡ is_first_rounded fs) × (looks ≤ first + looks_of_first axis fs)
 scanned_all placing axis fs f rest old now rounded first looks left e w none =
-    scanned_found placing fs f rest old now rounded first looks e (IsScanned-end placing axis f rest old now rounded first looks left w (subst (AllByRecursion (λ u. greatest_along axis f <ℤ least_along axis u)) (sym none) tt))
+    scanned_found placing axis fs f rest old now rounded first looks e (IsScanned-end placing axis f rest old now rounded first looks left w (subst (AllByRecursion (λ u. greatest_along axis f <ℤ least_along axis u)) (sym none) tt))
 
 pub scanned_past : (placing : Placing) (axis : Axis) (group fs : List KeptFragment) (f g : KeptFragment) (rest : List KeptFragment) (old now : List Mark) (rounded : Bool) (first looks later : ℕ) (left : List KeptFragment) →
-    fs ≡ f ∷ rest → IsScanned placing f rest old now rounded first looks (drop later group) → IsSortedAlong axis group → drop later group ≡ g ∷ left → int_lt (greatest_along axis f) (least_along axis g) ≡ true →
-    (now ≡ old ++ marks_with_first placing fs) × (rounded ≡ is_first_rounded fs) × (looks ≤ first + looks_of_first fs)
+    fs ≡ f ∷ rest → IsScanned placing axis f rest old now rounded first looks (drop later group) → IsSortedAlong axis group → drop later group ≡ g ∷ left → int_lt (greatest_along axis f) (least_along axis g) ≡ true →
+    (now ≡ old ++ marks_with_first placing fs) × (rounded ≡ is_first_rounded fs) × (looks ≤ first + looks_of_first axis fs)
 scanned_past placing axis group fs f g rest old now rounded first looks later left e w sorted here past =
     let here_sorted = subst (IsSortedAlong axis) here (IsSortedAlong-drop axis later group sorted) in
     let all = past_from axis (greatest_along axis f) g left here_sorted (int_lt-to _ _ past) in
-    scanned_found placing fs f rest old now rounded first looks e (IsScanned-end placing axis f rest old now rounded first looks (drop later group) w (subst (AllByRecursion (λ u. greatest_along axis f <ℤ least_along axis u)) (sym here) all))
+    scanned_found placing axis fs f rest old now rounded first looks e (IsScanned-end placing axis f rest old now rounded first looks (drop later group) w (subst (AllByRecursion (λ u. greatest_along axis f <ℤ least_along axis u)) (sym here) all))
 
-pub found_scanned : (placing : Placing) (fs : List KeptFragment) (f : KeptFragment) (rest : List KeptFragment) (old now : List Mark) (rounded : Bool) (first looks : ℕ) → fs ≡ f ∷ rest →
-    now ≡ old ++ marks_with_first placing fs → rounded ≡ is_first_rounded fs → looks ≤ first + looks_of_first fs → IsScannedAll placing f rest old now rounded first looks
+pub found_scanned : (placing : Placing) (axis : Axis) (fs : List KeptFragment) (f : KeptFragment) (rest : List KeptFragment) (old now : List Mark) (rounded : Bool) (first looks : ℕ) → fs ≡ f ∷ rest →
+    now ≡ old ++ marks_with_first placing fs → rounded ≡ is_first_rounded fs → looks ≤ first + looks_of_first axis fs → IsScannedAll placing axis f rest old now rounded first looks
 unfolding marks_with_first is_first_rounded looks_of_first
-found_scanned placing fs f rest old now rounded first looks e a b c =
+found_scanned placing axis fs f rest old now rounded first looks e a b c =
     let a' = rw e at a in
     let b' = rw e at b in
     let c' = rw e at c in
     record { found = a'; flag = b'; count = omega arith }
 
-pub IsScanned-start : (placing : Placing) (f : KeptFragment) (rest : List KeptFragment) (old : List Mark) (first : ℕ) → IsScanned placing f rest old old false first first rest
-IsScanned-start placing f rest old first = record { found = refl; flag = refl; count = omega arith }
+pub IsScanned-start : (placing : Placing) (axis : Axis) (f : KeptFragment) (rest : List KeptFragment) (old : List Mark) (first : ℕ) → IsScanned placing axis f rest old old false first first rest
+IsScanned-start placing axis f rest old first = record { found = refl; flag = refl; count = omega arith }
 
-pub IsSearched-start : (placing : Placing) (group : List KeptFragment) (old : List Mark) (first : ℕ) → IsSearched placing group old old false first first group
-IsSearched-start placing group old first = record { found = refl; flag = refl; count = omega arith }
+pub IsSearched-start : (placing : Placing) (axis : Axis) (group : List KeptFragment) (old : List Mark) (first : ℕ) → IsSearched placing axis group old old false first first group
+IsSearched-start placing axis group old first = record { found = refl; flag = refl; count = omega arith }
 
 -- ---- what the conditions on a group tell of its fragments
 

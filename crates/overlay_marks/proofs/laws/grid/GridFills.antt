@@ -57,11 +57,13 @@ or_nothing false = refl
 plus_nothing : (n : ℕ) → n + 0 ≡ n
 plus_nothing n = omega arith
 
+pub sum-next : (f : ℕ → ℕ) (n : ℕ) → sum_by f (range_with_len 0 (n + 1)) ≡ sum_by f (range_with_len 0 n) + f n
+sum-next f n = ap (sum_by f) (range-next n) ∙ sum_by-append f (range_with_len 0 n) (n ∷ []) ∙ ap (λ (k : ℕ). sum_by f (range_with_len 0 n) + k) (sum_by-cons f n [] ∙ plus_nothing (f n))
+
 pub over-more : (marks : ℕ → List Mark) (rounds : ℕ → Bool) (looks : ℕ → ℕ) (old now next : List Mark) (rounded b : Bool) (first count count' : ℕ) (n : ℕ) → IsOver marks rounds looks old now rounded first count n →
     next ≡ now ++ marks n → b ≡ (rounded || rounds n) → count' ≤ count + looks n → IsOver marks rounds looks old next b first count' (n + 1)
 over-more marks rounds looks old now next rounded b first count count' n w m r c =
-    let sums : sum_by looks (range_with_len 0 (n + 1)) ≡ sum_by looks (range_with_len 0 n) + looks n =
-    ap (sum_by looks) (range-next n) ∙ sum_by-append looks (range_with_len 0 n) (n ∷ []) ∙ ap (λ (k : ℕ). sum_by looks (range_with_len 0 n) + k) (sum_by-cons looks n [] ∙ plus_nothing (looks n)) in
+    let sums = sum-next looks n in
     record {
       found = m ∙ ap (λ (list : List Mark). list ++ marks n) w.found ∙ append_assoc old (flat_map marks (range_with_len 0 n)) (marks n)
           ∙ ap (λ (list : List Mark). old ++ list) (sym (ap (flat_map marks) (range-next n) ∙ flat_map-append marks (range_with_len 0 n) (n ∷ []) ∙ ap (λ (list : List Mark). flat_map marks (range_with_len 0 n) ++ list) (one_list marks n)));

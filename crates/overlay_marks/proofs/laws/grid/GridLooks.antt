@@ -14,7 +14,7 @@ use Rattle.overlay_base.specs.Ranges.{Rect}
 use Rattle.overlay_marks.specs.Grid.{Layout, Fragment, column_index, pos_of, group_count, rect_between, fragments, IsInside}
 use Rattle.overlay_marks.specs.Looked.{count_twos, ranges_meet, fragments_meet, all_fragments, is_on_border, border_contacts, fragment_looks}
 use Rattle.overlay_marks.specs.FragmentOf.{KeptFragment, kept, in_column, kept_in}
-use Rattle.overlay_marks.specs.steps.FragmentFinder.{kept_group, do_heights_meet, looks_of_group, looks_of_border, stands_at}
+use Rattle.overlay_marks.specs.steps.FragmentFinder.{kept_group, do_heights_meet, twos_in_height, all_twos_in_height, looks_of_border, stands_at}
 use Rattle.overlay_marks.proofs.laws.marks.MarkBoxes.{ranges_swap}
 use Rattle.overlay_marks.proofs.laws.grid.GridCounts.{sum_by-plus, sum_by-alike, sum_by-before, sum_by-none, count_by-cons, fragments_meet-by_column, heights_meet, fragments_of_column, border_contacts-on_border, border_contacts-elsewhere}
 use Rattle.overlay_marks.proofs.laws.grid.GridBounds.{fragments_within_grid}
@@ -81,7 +81,7 @@ length_permuted xs ys p = sym (length-sum ys) ∙ sum_by-IsPermutation (λ x. 1)
 abbrev rects_meet : Rect → Rect → Bool
 rects_meet r q = ranges_meet r.min_y r.max_y q.min_y q.max_y
 
-count-map : {X Y : Type 0} (p : Y → Bool) (f : X → Y) (xs : List X) → count_by p (map f xs) ≡ count_by (λ x. p (f x)) xs
+pub count-map : {X Y : Type 0} (p : Y → Bool) (f : X → Y) (xs : List X) → count_by p (map f xs) ≡ count_by (λ x. p (f x)) xs
 count-map p f [] = refl
 count-map p f (x ∷ xs) = count_by-cons p (f x) (map f xs) ∙ ap (λ (n : ℕ). (if p (f x) then 1 else 0) + n) (count-map p f xs) ∙ sym (count_by-cons (λ y. p (f y)) x xs)
 
@@ -117,14 +117,14 @@ within_grid l [] o h = refl
 within_grid l (s ∷ ss) o h = rw (list_all-append (λ f. nat_lt f.column (group_count l)) (fragments l s) (all_fragments l ss)) (and_from _ _ (fragments_within_grid l s o.0 h.0.from h.0.to) (within_grid l ss o.1 h.1))
 
 pub columns_bound : (l : Layout) (ss : List Pair) (groups : ℕ → List KeptFragment) → AllByRecursion (λ s. IsTrue (is_ordered s)) ss → AllByRecursion (IsInside l) ss → ((c : ℕ) → IsPermutation (kept_group l 0 ss c) (groups c)) →
-    sum_by (λ c. looks_of_group (groups c)) (range_with_len 0 (group_count l)) ≡ count_twos fragments_meet (all_fragments l ss)
+    all_twos_in_height groups (group_count l) ≡ count_twos fragments_meet (all_fragments l ss)
 columns_bound l ss groups o h same =
     let all = all_fragments l ss in
     let n = group_count l in
     let inside = within_grid l ss o h in
-    let each : (c : ℕ) → looks_of_group (groups c) ≡ count_twos heights_meet (fragments_of_column all c) = λ c.
+    let each : (c : ℕ) → twos_in_height (groups c) ≡ count_twos heights_meet (fragments_of_column all c) = λ c.
     twos_permuted do_heights_meet heights_back (kept_group l 0 ss c) (groups c) (same c) ∙ group_twos l ss c in
-    sum_by-alike (λ c. looks_of_group (groups c)) (λ c. count_twos heights_meet (fragments_of_column all c)) each (range_with_len 0 n) ∙ fragments_meet-by_column all n inside
+    sum_by-alike (λ c. twos_in_height (groups c)) (λ c. count_twos heights_meet (fragments_of_column all c)) each (range_with_len 0 n) ∙ fragments_meet-by_column all n inside
 
 -- ---- borders
 
@@ -252,7 +252,7 @@ borders_bound l ss groups same =
 
 -- the looks of both walks together
 pub within_bound : (l : Layout) (ss : List Pair) (groups : ℕ → List KeptFragment) → AllByRecursion (λ s. IsTrue (is_ordered s)) ss → AllByRecursion (IsInside l) ss → ((c : ℕ) → IsPermutation (kept_group l 0 ss c) (groups c)) →
-    (first middle last : ℕ) → middle ≤ first + sum_by (λ c. looks_of_group (groups c)) (range_with_len 0 (group_count l)) →
+    (first middle last : ℕ) → middle ≤ first + all_twos_in_height groups (group_count l) →
     last ≤ middle + sum_by (λ c. looks_of_border (pos_of l (c + 1)) (groups c) (groups (c + 1))) (range_with_len 0 (group_count l - 1)) → last ≤ first + fragment_looks l ss
 unfolding fragment_looks
 within_bound l ss groups o h same first middle last a b =

@@ -1,4 +1,4 @@
-use Rattle.std.proofs.Common.{◌≡◌, ◌≤◌, ◌+◌, ◌-◌, sym, ap, ap₂, subst, ◌∙◌, ◌++◌, List, ℕ, length}
+use Rattle.std.proofs.Common.{◌≡◌, ◌≤◌, ◌+◌, ◌-◌, arith, sym, ap, ap₂, subst, ◌∙◌, ◌++◌, List, ℕ, length}
 use Rattle.std.specs.Prelude.{IsTrue, IsPermutation, flat_map, sum_by}
 use Rattle.std.specs.List.{AllByRecursion, list_any, range_with_len}
 use Rattle.overlay_base.specs.Coordinates.{is_pair_in_range}
@@ -12,7 +12,7 @@ use Rattle.overlay_marks.specs.MarkOf.{Mark, marks_of}
 use Rattle.overlay_marks.specs.Grid.{Layout, pos_of, group_count, IsInside}
 use Rattle.overlay_marks.specs.FragmentOf.{KeptFragment, IsSortedAlong}
 use Rattle.overlay_marks.specs.GroupsOf.{group_in, group_of, grid_of}
-use Rattle.overlay_marks.specs.steps.FragmentFinder.{HoldSame, is_ready, kept_group, marks_of_group, is_group_rounded, looks_of_group, marks_of_border, looks_of_border}
+use Rattle.overlay_marks.specs.steps.FragmentFinder.{HoldSame, is_ready, kept_group, marks_of_group, is_group_rounded, looks_of_groups, all_twos_in_height, marks_of_border, looks_of_border}
 use Rattle.overlay_marks.proofs.laws.grid.GridFound.{all_pairs, all_ready, sound, complete, rounded_is}
 use Rattle.overlay_marks.proofs.laws.marks.LineMarks.{AreMarks-from_elements}
 use Rattle.overlay_marks.proofs.laws.grid.GridLooks.{within_bound}
@@ -71,9 +71,10 @@ returns-clause-looked g c =
     let same : (column : ℕ) → IsPermutation (kept_group l 0 ps column) (groups column) = λ column. subst (λ (fs : List KeptFragment). IsPermutation fs (groups column)) (c.in_ok-fill.ensures.groups column) (c.sort-axis.ensures.permutation column) in
     let layout = c.sort-axis.ensures.layout ∙ c.in_ok-fill.ensures.layout in
     let count : length c.groups.result.now ≡ group_count l = ap length c.groups.ensures ∙ c.sort-axis.new.self.columns ∙ ap (λ (m : Layout). group_count m) layout in
-    within_bound l ps groups ordered within same c.args.looked.now c.mark_columns.new.looked c.mark_borders.new.looked
-    (subst (λ (n : ℕ). c.mark_columns.new.looked ≤ c.args.looked.now + n)
-    (ap₂ (λ (gs : List _) (n : ℕ). sum_by (λ column. looks_of_group (group_in g.I.OverlayInt.whole gs column)) (range_with_len 0 n)) c.groups.ensures count) c.in_ok-rounded.ensures.looked)
+    let looks = subst (λ (m : Layout). looks_of_groups c.sort-axis.result groups (group_count m) ≤ all_twos_in_height groups (group_count m)) layout c.sort-axis.ensures.looks in
+    let seen = subst (λ (n : ℕ). c.mark_columns.new.looked ≤ c.args.looked.now + n)
+    (ap₂ (λ (gs : List _) (n : ℕ). looks_of_groups c.sort-axis.result (group_in g.I.OverlayInt.whole gs) n) c.groups.ensures count) c.in_ok-rounded.ensures.looked in
+    within_bound l ps groups ordered within same c.args.looked.now c.mark_columns.new.looked c.mark_borders.new.looked (omega (arith, looks, seen))
     (subst (λ (m : Layout). c.mark_borders.new.looked ≤ c.mark_columns.new.looked + sum_by (λ column. looks_of_border (pos_of m (column + 1)) (groups column) (groups (column + 1))) (range_with_len 0 (group_count m - 1))) layout c.in_ok-mark_borders.ensures.looked)
 
 pub returns-clause-marks : goal.returns-clause-marks

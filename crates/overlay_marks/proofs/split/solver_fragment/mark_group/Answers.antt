@@ -15,19 +15,19 @@ loop-first-preserved g c =
     let old = marks_of g.I.OverlayInt.whole c.args.marks.now.items in
     let now = marks_of g.I.OverlayInt.whole c.loop-first.marks.items in
     let next = marks_of g.I.OverlayInt.whole c.mark_with_rest.new.marks.items in
-    let walk = subst (λ (us : List KeptFragment). IsSearched (placing_of c.args.placing) fs old now c.loop-first.rounded c.args.looked.now c.loop-first.looked us) here c.loop-first.invariant in
+    let walk = subst (λ (us : List KeptFragment). IsSearched (placing_of c.args.placing) c.args.axis fs old now c.loop-first.rounded c.args.looked.now c.loop-first.looked us) here c.loop-first.invariant in
     elim c.if-branch.branch [
       | then-branch w ↦
           let crosses = sym w.if-branch.true ∙ c.in_ok-mark_with_rest.ensures.rounded in
-          let s = found_scanned (placing_of c.args.placing) (drop c.loop-first.first fs) f left now next true c.loop-first.looked c.mark_with_rest.new.looked here c.in_ok-mark_with_rest.ensures.marks crosses c.in_ok-mark_with_rest.ensures.looked in
-          rw w.rounded-is (IsSearched-more (placing_of c.args.placing) f fs old now next c.loop-first.rounded true true c.args.looked.now c.loop-first.looked c.mark_with_rest.new.looked left walk s (or_true c.loop-first.rounded))
+          let s = found_scanned (placing_of c.args.placing) c.args.axis (drop c.loop-first.first fs) f left now next true c.loop-first.looked c.mark_with_rest.new.looked here c.in_ok-mark_with_rest.ensures.marks crosses c.in_ok-mark_with_rest.ensures.looked in
+          rw w.rounded-is (IsSearched-more (placing_of c.args.placing) c.args.axis f fs old now next c.loop-first.rounded true true c.args.looked.now c.loop-first.looked c.mark_with_rest.new.looked left walk s (or_true c.loop-first.rounded))
       | else-branch w ↦
           let exact = sym w.if-branch.false ∙ c.in_ok-mark_with_rest.ensures.rounded in
-          let s = found_scanned (placing_of c.args.placing) (drop c.loop-first.first fs) f left now next false c.loop-first.looked c.mark_with_rest.new.looked here c.in_ok-mark_with_rest.ensures.marks exact c.in_ok-mark_with_rest.ensures.looked in
-          rw w.rounded-is (IsSearched-more (placing_of c.args.placing) f fs old now next c.loop-first.rounded c.loop-first.rounded false c.args.looked.now c.loop-first.looked c.mark_with_rest.new.looked left walk s (or_false c.loop-first.rounded))
+          let s = found_scanned (placing_of c.args.placing) c.args.axis (drop c.loop-first.first fs) f left now next false c.loop-first.looked c.mark_with_rest.new.looked here c.in_ok-mark_with_rest.ensures.marks exact c.in_ok-mark_with_rest.ensures.looked in
+          rw w.rounded-is (IsSearched-more (placing_of c.args.placing) c.args.axis f fs old now next c.loop-first.rounded c.loop-first.rounded false c.args.looked.now c.loop-first.looked c.mark_with_rest.new.looked left walk s (or_false c.loop-first.rounded))
     ]
 
 pub returns : goal.returns
 returns g c =
-    let end = IsSearched-end (placing_of c.args.placing) (fragments_of g.I.OverlayInt.whole c.args.group.now) _ _ c.loop-first.rounded c.args.looked.now c.loop-first.looked _ c.loop-first.invariant (fragments-none g.I.OverlayInt.whole c.args.group.now c.loop-first.first c.loop-first-test.false) in
+    let end = IsSearched-end (placing_of c.args.placing) c.args.axis (fragments_of g.I.OverlayInt.whole c.args.group.now) _ _ c.loop-first.rounded c.args.looked.now c.loop-first.looked _ c.loop-first.invariant (fragments-none g.I.OverlayInt.whole c.args.group.now c.loop-first.first c.loop-first-test.false) in
     record { marks = end.0; rounded = end.1; looked = end.2 }

@@ -6,4 +6,4 @@ use Rattle.overlay_marks.proofs.laws.grid.FoundFragments.{IsSearched}
 use Rattle.overlay_marks.proofs.split.solver_fragment.mark_group.Given as goal
 
 abbrev pub invariant-loop-first : goal.invariant-loop-first
-invariant-loop-first g l = IsSearched (placing_of l.placing) (fragments_of g.I.OverlayInt.whole l.group) (marks_of g.I.OverlayInt.whole l.fn.marks.items) (marks_of g.I.OverlayInt.whole l.marks.items) l.rounded l.fn.looked l.looked (drop l.first (fragments_of g.I.OverlayInt.whole l.group))
+invariant-loop-first g l = IsSearched (placing_of l.placing) l.axis (fragments_of g.I.OverlayInt.whole l.group) (marks_of g.I.OverlayInt.whole l.fn.marks.items) (marks_of g.I.OverlayInt.whole l.marks.items) l.rounded l.fn.looked l.looked (drop l.first (fragments_of g.I.OverlayInt.whole l.group))

@@ -3,9 +3,9 @@ use Rattle.overlay_marks.specs.PlacingOf.{placing_of}
 use Rattle.overlay_marks.specs.MarkOf.{marks_of}
 use Rattle.overlay_marks.specs.FragmentOf.{KeptFragment, fragment_of, fragments_of}
 use Rattle.overlay_marks.proofs.laws.list.FoundMarks.{or_true, or_false}
-use Rattle.overlay_marks.proofs.laws.grid.FoundFragments.{IsScanned, IsScanned-more, IsScanned-apart, scanned_all, scanned_past, fragments-next, fragments-none, heights_share, apart_in_height, ready_at, ready_range, ready_apart, at_most_one_more}
+use Rattle.overlay_marks.proofs.laws.grid.FoundFragments.{IsScanned, IsScanned-more, scanned_all, scanned_past, fragments-next, fragments-none, reached_from, ready_at, ready_range, ready_apart, at_most_one_more}
 use Rattle.overlay_marks.proofs.split.solver_fragment.mark_with_rest.Goals as goal
-use Rattle.overlay_marks.proofs.split.solver_fragment.mark_with_rest.Goals.{then-share_heights+in_ok-mark_two+then-branch, then-share_heights+in_ok-mark_two+else-branch, else-share_heights}
+use Rattle.overlay_marks.proofs.split.solver_fragment.mark_with_rest.Goals.{then-branch, else-branch}
 
 pub mark_two-requires-clause-fragment : goal.mark_two-requires-clause-fragment
 mark_two-requires-clause-fragment g c =
@@ -46,21 +46,17 @@ loop-later-preserved g c =
     let left = drop (c.loop-later.later + 1) fs in
     let old = marks_of whole c.args.marks.now.items in
     let now = marks_of whole c.loop-later.marks.items in
-    let walk = subst (λ (us : List KeptFragment). IsScanned (placing_of c.args.placing) f rest old now c.loop-later.rounded c.args.looked.now c.loop-later.looks us) later c.loop-later.invariant in
-    elim c.if-share_heights.branch [
-      | then-share_heights+in_ok-mark_two+then-branch w ↦
-          let meets = heights_share f o (sym c.share_heights.ensures ∙ w.if-share_heights.true) in
-          let crosses = sym w.in_ok-mark_two.ensures.rounded ∙ w.if-branch.true in
-          rw (w.marks-is, w.rounded-is, w.looks-is) (IsScanned-more (placing_of c.args.placing) f o rest old now (marks_of whole w.mark_two.new.marks.items) c.loop-later.rounded true c.args.looked.now c.loop-later.looks w.take_up.new.looked left walk meets w.in_ok-mark_two.ensures.marks
-          (or_true c.loop-later.rounded ∙ ap (λ (b : Bool). c.loop-later.rounded || b) (sym crosses)) (at_most_one_more _ _ _ w.take_up.ensures))
-      | then-share_heights+in_ok-mark_two+else-branch w ↦
-          let meets = heights_share f o (sym c.share_heights.ensures ∙ w.if-share_heights.true) in
-          let exact = sym w.in_ok-mark_two.ensures.rounded ∙ w.if-branch.false in
-          rw (w.marks-is, w.rounded-is, w.looks-is) (IsScanned-more (placing_of c.args.placing) f o rest old now (marks_of whole w.mark_two.new.marks.items) c.loop-later.rounded c.loop-later.rounded c.args.looked.now c.loop-later.looks w.take_up.new.looked left walk meets w.in_ok-mark_two.ensures.marks
-          (or_false c.loop-later.rounded ∙ ap (λ (b : Bool). c.loop-later.rounded || b) (sym exact)) (at_most_one_more _ _ _ w.take_up.ensures))
-      | else-share_heights w ↦
-          let apart = apart_in_height f o (sym c.share_heights.ensures ∙ w.if-share_heights.false) in
-          rw (w.marks-is, w.rounded-is, w.looks-is) (IsScanned-apart (placing_of c.args.placing) f o rest old now c.loop-later.rounded c.args.looked.now c.loop-later.looks left walk apart)
+    let walk = subst (λ (us : List KeptFragment). IsScanned (placing_of c.args.placing) c.args.axis f rest old now c.loop-later.rounded c.args.looked.now c.loop-later.looks us) later c.loop-later.invariant in
+    let reached = reached_from c.args.axis f o (sym c.begins_past.ensures ∙ c.if-begins_past.false) in
+    elim c.if-branch.branch [
+      | then-branch w ↦
+          let crosses = sym c.in_ok-mark_two.ensures.rounded ∙ w.if-branch.true in
+          rw w.rounded-is (IsScanned-more (placing_of c.args.placing) c.args.axis f o rest old now (marks_of whole c.mark_two.new.marks.items) c.loop-later.rounded true c.args.looked.now c.loop-later.looks c.take_up.new.looked left walk reached c.in_ok-mark_two.ensures.marks
+          (or_true c.loop-later.rounded ∙ ap (λ (b : Bool). c.loop-later.rounded || b) (sym crosses)) (at_most_one_more _ _ _ c.take_up.ensures))
+      | else-branch w ↦
+          let exact = sym c.in_ok-mark_two.ensures.rounded ∙ w.if-branch.false in
+          rw w.rounded-is (IsScanned-more (placing_of c.args.placing) c.args.axis f o rest old now (marks_of whole c.mark_two.new.marks.items) c.loop-later.rounded c.loop-later.rounded c.args.looked.now c.loop-later.looks c.take_up.new.looked left walk reached c.in_ok-mark_two.ensures.marks
+          (or_false c.loop-later.rounded ∙ ap (λ (b : Bool). c.loop-later.rounded || b) (sym exact)) (at_most_one_more _ _ _ c.take_up.ensures))
     ]
 
 pub returns-after-loop-later-clause-marks : goal.returns-after-loop-later-clause-marks

@@ -6,4 +6,4 @@ use Rattle.overlay_marks.proofs.laws.grid.FoundFragments.{IsScanned}
 use Rattle.overlay_marks.proofs.split.solver_fragment.mark_with_rest.Given as goal
 
 abbrev pub invariant-loop-later : goal.invariant-loop-later
-invariant-loop-later g l = IsScanned (placing_of l.placing) (fragment_of g.I.OverlayInt.whole l.fragment) (drop (l.first + 1) (fragments_of g.I.OverlayInt.whole l.group)) (marks_of g.I.OverlayInt.whole l.fn.marks.items) (marks_of g.I.OverlayInt.whole l.marks.items) l.rounded l.fn.looked l.looks (drop l.later (fragments_of g.I.OverlayInt.whole l.group))
+invariant-loop-later g l = IsScanned (placing_of l.placing) l.axis (fragment_of g.I.OverlayInt.whole l.fragment) (drop (l.first + 1) (fragments_of g.I.OverlayInt.whole l.group)) (marks_of g.I.OverlayInt.whole l.fn.marks.items) (marks_of g.I.OverlayInt.whole l.marks.items) l.rounded l.fn.looked l.looks (drop l.later (fragments_of g.I.OverlayInt.whole l.group))

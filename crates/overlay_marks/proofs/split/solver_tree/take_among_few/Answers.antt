@@ -7,7 +7,7 @@ use Rattle.overlay_base.specs.PairOf.{pair_of}
 use Rattle.overlay_base.specs.RangeOf.{range_of}
 use Rattle.overlay_base.specs.SegmentOf.{segments_of}
 use Rattle.overlay_base.proofs.laws.geometry.Apart.{are_ordered}
-use Rattle.overlay_marks.specs.steps.NodeOf.{node_of, nodes_of}
+use Rattle.overlay_marks.specs.steps.NodeOf.{entry_of, node_of, nodes_of}
 use Rattle.overlay_marks.specs.steps.IntervalTree.{Entry, TreeNode, WholeQuery, entries, found, is_taken_up, stays_at}
 use Rattle.overlay_marks.specs.steps.Swept.{alone, entry_of_pair, pair_at}
 use Rattle.overlay_marks.specs.steps.TreeSweep.{AreFoundBefore, query_at}
@@ -16,6 +16,12 @@ use Rattle.overlay_marks.proofs.laws.tree.Sweeps.{pair_at-is, pairs_in_order, le
 use Rattle.overlay_marks.proofs.laws.tree.TreeBuilds.{entries_filter}
 use Rattle.overlay_marks.proofs.laws.tree.TreeFinder.{AreFoundBefore-through, IsUnderWay-through, query_is, length_within, live_at}
 use Rattle.overlay_marks.proofs.split.solver_tree.take_among_few.Goals as goal
+
+pub look_through-requires : goal.look_through-requires
+look_through-requires g c =
+    let left = ap length (c.as_slice.ensures.value ∙ c.drop_ended.ensures) ∙ length-filter (λ n. stays_at (g.I.OverlayInt.whole c.x_segment-later.result.a.x) (entry_of g.I.OverlayInt.whole n)) c.args.nodes.now.items in
+    let fewer = count_by-le-length (λ n. stays_at (g.I.OverlayInt.whole c.x_segment-later.result.a.x) (entry_of g.I.OverlayInt.whole n)) c.args.nodes.now.items in
+    omega (arith, left, fewer, c.requires.few)
 
 pub returns : goal.returns
 returns g c =
