@@ -4,19 +4,19 @@
 Usage: arrange graph rule=xor < INPUT | python3 tools/picture.py > PICTURE.svg
 
 Links are drawn by their fill: blue where they bound the subject alone, red the clip alone, purple both; dashed where one of
-the two has the same on both sides. Segments of a split are drawn by their counts in the same colours. Nodes are white dots
+the two has the same on both sides. Segments of a split are drawn by their counts in the same colors. Nodes are white dots
 where two links meet, and black squares elsewhere. It needs Python's standard library alone.
 """
 import sys
 
 SIZE = 640
 MARGIN = 24
-BLUE, RED, PURPLE, GREY = "#2563eb", "#dc2626", "#7e22ce", "#6b7280"
+BLUE, RED, PURPLE, GRAY = "#2563eb", "#dc2626", "#7e22ce", "#6b7280"
 
 
-def colour(subject, clip):
-    """The colour of what bounds the subject, the clip, both or none of them."""
-    return {(True, False): BLUE, (False, True): RED, (True, True): PURPLE}.get((subject, clip), GREY)
+def color(subject, clip):
+    """The color of what bounds the subject, the clip, both or none of them."""
+    return {(True, False): BLUE, (False, True): RED, (True, True): PURPLE}.get((subject, clip), GRAY)
 
 
 def read_link(words):
@@ -24,17 +24,17 @@ def read_link(words):
     fill = int(words[4])
     subject, clip = fill & 3, fill >> 2 & 3
     dashed = subject == 3 or clip == 3
-    return ends, colour(subject in (1, 2), clip in (1, 2)), dashed
+    return ends, color(subject in (1, 2), clip in (1, 2)), dashed
 
 
 def read_segment(words):
     ends = tuple(int(word) for word in words[:4])
     subject, clip = (int(word) != 0 for word in words[4:6])
-    return ends, colour(subject, clip), False
+    return ends, color(subject, clip), False
 
 
 def read(lines):
-    """The segments as (ends, colour, whether dashed), and the nodes as (x, y, whether a bridge)."""
+    """The segments as (ends, color, whether dashed), and the nodes as (x, y, whether a bridge)."""
     segments, nodes = [], []
     for line in lines:
         kind, *words = line.split() or [""]

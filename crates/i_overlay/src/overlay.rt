@@ -37,11 +37,12 @@ use overlay_split::split::solver::SplitSolver;
 /// The list has to be splittable, as `is_splittable` tests; afterwards it is the arrangement. Where the given counts
 /// balance at every point, as those of closed contours do, the graph holds exactly the segments of whose two sides the
 /// rule says different things, with the fills of these sides, and evenly many links meet at every node. Then the graph
-/// encloses exactly the places of which the rule holds, by how the arrangement winds there: oddly many links run below
-/// them. At every place that is farther from the given segments than the passes move crossings, that is how the given
-/// segments wind. The data of the list goes through the splits and merges of a store of its own, which begins as the
-/// store's default and is dropped; each link has the data of its segment. What the hooks keep of data, and what holds
-/// of all given data, holds of each link's (`kept_data`). The solver's strategy does not change the answer.
+/// encloses (oddly many links run below) exactly the places of which the rule says something else than of those
+/// outside, so for a rule with a name those of which it holds, by how the arrangement winds there. At every place that
+/// is farther from the given segments than the passes move crossings, that is how the given segments wind. The data of
+/// the list goes through the splits and merges of a store of its own, which begins as the store's default and is
+/// dropped; each link has the data of its segment. What the hooks keep of data, and what holds of all given data, holds
+/// of each link's (`kept_data`). The solver's strategy does not change the answer.
 ///
 /// Answers `Fault::CountOutOfRange` only where a running sum of counts on one pair of ends leaves
 /// `-i32::MAX..=i32::MAX` in the split, or a winding above a segment in the build, and, memory being found, wherever

@@ -6,7 +6,9 @@ use crate::num::OverlayInt;
 /// The end of the segment at an index of a list. By default index 0 at the origin.
 #[derive(Clone, Copy)]
 pub struct End<I> {
+    /// The index of the segment.
     pub index: usize,
+    /// Where the end lies.
     pub point: IntPoint<I>,
 }
 

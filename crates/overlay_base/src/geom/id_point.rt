@@ -6,7 +6,9 @@ use crate::num::OverlayInt;
 /// A point, with the number of the node there.
 #[derive(Clone, Copy, Debug, PartialEq, Eq)]
 pub struct IdPoint<I> {
+    /// The number of the node.
     pub id: usize,
+    /// Where it lies.
     pub point: IntPoint<I>,
 }
 

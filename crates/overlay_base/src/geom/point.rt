@@ -6,7 +6,9 @@ use crate::num::OverlayInt;
 /// A point. Points are ordered by `x`, then by `y`.
 #[derive(Clone, Copy, Debug, PartialEq, Eq, PartialOrd, Ord)]
 pub struct IntPoint<I> {
+    /// How far to the right.
     pub x: I,
+    /// How far up.
     pub y: I,
 }
 

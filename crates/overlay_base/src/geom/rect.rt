@@ -6,9 +6,13 @@ use crate::num::OverlayInt;
 /// The points from `min_x` to `max_x` and from `min_y` to `max_y`, borders included.
 #[derive(Clone, Copy, Debug, PartialEq, Eq)]
 pub struct IntRect<I> {
+    /// The left border.
     pub min_x: I,
+    /// The right border.
     pub max_x: I,
+    /// The lower border.
     pub min_y: I,
+    /// The upper border.
     pub max_y: I,
 }
 

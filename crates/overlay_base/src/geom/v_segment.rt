@@ -15,7 +15,9 @@ use std::cmp::Ordering;
 /// compare two that share a column of the plane and do not cross, a segment and a point, or two ways by their angle.
 #[derive(Clone, Copy, Debug, PartialEq, Eq)]
 pub struct VSegment<I> {
+    /// Where it starts.
     pub a: IntPoint<I>,
+    /// Where it ends.
     pub b: IntPoint<I>,
 }
 

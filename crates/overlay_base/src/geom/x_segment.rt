@@ -7,7 +7,9 @@ use crate::num::OverlayInt;
 /// The two ends of a segment. Pairs are ordered by `a`, then by `b`.
 #[derive(Clone, Copy, Debug, PartialEq, Eq, PartialOrd, Ord)]
 pub struct XSegment<I> {
+    /// The first end; in a list of segments the one that stands before the other in the order of points.
     pub a: IntPoint<I>,
+    /// The second end.
     pub b: IntPoint<I>,
 }
 

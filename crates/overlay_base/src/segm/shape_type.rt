@@ -3,6 +3,8 @@
 /// Whether a shape is a subject or a clip.
 #[derive(Clone, Copy, Debug, PartialEq, Eq)]
 pub enum ShapeType {
+    /// The first of the two: `subj` of a count winds for it.
     Subject,
+    /// The second: `clip` of a count winds for it, or, of a count of lines, tells the lines.
     Clip,
 }

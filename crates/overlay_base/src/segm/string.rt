@@ -18,6 +18,7 @@ const _: () = prove!(STRING_BACK_CLIP == 1);
 /// How a segment winds for the subject, and which ways lines run along it.
 #[derive(Clone, Copy, Debug, PartialEq, Eq)]
 pub struct ShapeCountString {
+    /// How often it winds for the subject, below 0 where it does so backward.
     pub subj: i32,
     /// The mask: a sum of `STRING_FORWARD_CLIP` and `STRING_BACK_CLIP`, or 0 where no line runs.
     pub clip: u8,

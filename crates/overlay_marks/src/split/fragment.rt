@@ -14,8 +14,11 @@ use overlay_base::num::OverlayInt;
 /// The part of a segment in one column: the segment's index, a rectangle that holds the part, and the whole segment.
 #[derive(Clone, Copy)]
 pub struct Fragment<I> {
+    /// The index of the segment in the list of the pass.
     pub index: usize,
+    /// The rectangle that holds the part.
     pub rect: IntRect<I>,
+    /// The whole segment.
     pub x_segment: XSegment<I>,
 }
 

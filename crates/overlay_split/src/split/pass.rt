@@ -69,7 +69,8 @@ pub struct Passed {
 ///
 /// Answers `Fault::CountOutOfRange` only where a running sum of the counts of pieces on one pair leaves
 /// `-i32::MAX..=i32::MAX`, and, memory being found, wherever one does; the store is then what the hooks called before
-/// that sum left. Where a call is refused the list is empty.
+/// that sum left. Answers `Fault::Memory` where a growth is refused; nothing is promised of the store then. Where a
+/// call is refused the list is empty, and the finder keeps its solver and its grid.
 pub fn pass<C: WindingCount, I: OverlayInt, D: OverlayEdgeData<C>>(
     list: &mut Vec<Segment<C, I, D>>,
     placing: Placing,

@@ -196,8 +196,9 @@ impl<I: OverlayInt> SplitSolver<I> {
     ///
     /// Answers `Fault::CountOutOfRange` only where a running sum of counts on one pair of ends leaves
     /// `-i32::MAX..=i32::MAX`, in the given list or among the pieces of a pass, and, memory being found, wherever one
-    /// does; the store is then what the hooks called before that sum left. Where a call is refused the list is empty,
-    /// `passes` is as it was, and the splitter can be used again.
+    /// does; the store is then what the hooks called before that sum left. Answers `Fault::Memory` where a growth is
+    /// refused; nothing is promised of the store then. Where a call is refused the list is empty, `passes` and `looked`
+    /// are as they were, and the splitter can be used again.
     pub fn split_segments_with_store<C: WindingCount, D: OverlayEdgeData<C>>(
         &mut self,
         list: &mut Vec<Segment<C, I, D>>,

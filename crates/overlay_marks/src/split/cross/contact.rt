@@ -1,5 +1,6 @@
 // What the sides on which the ends of two segments lie tell of their meeting. Upstream: `cross` of
-// `split::cross_solver`.
+// `split::cross_solver`. Whether they meet `segm::apart` tells another way, so that the test of an answer does not
+// depend on this code.
 ghost use Rattle.std.specs.Prelude.{◌≡◌, ◌≢◌, false};
 ghost use Rattle.overlay_base.specs.PairOf.{pair_of};
 ghost use Rattle.overlay_base.specs.InRange.{IsPairInRange};
