@@ -25,13 +25,24 @@ use std::io::{ErrorKind, Read, Write};
 use std::rt::Env;
 use std::{env, io};
 
-/// Runs the program over the words that the process was started with, and answers the exit status.
+/// Runs the program over the words that the process was started with, and answers the exit status, as `arrange_run`
+/// does over some words, or 2 or 4 where the words cannot be had. No clause can say which words those are.
+#[tactic(auto, using(crate::proofs::Runs::is_no_success))]
 pub fn arrange<H: Env + AllocGlobal, R: Read, W: Write, E: Write>(
     rt: &H,
     input: &mut R,
     output: &mut W,
     faults: &mut E,
-) -> u8 {
+) -> u8
+    ensures done { result ≡ 0 → (words : List (List ℕ)) × AskSomething words
+        × IfSome (R.remaining input.old) (λ bytes. (text : List ℕ) × IsRunAnswer words bytes (Ok text)
+        × Appends (W.contents output.old) (W.contents output.new) text) }
+    ensures stopped { (result ≡ 0) ⊎ ((stop : Stop) × (result ≡ status_of stop)
+        × ((stop ≡ Stop.Usage) ⊎ (stop ≡ Stop.Refused Memory)
+        ⊎ ((words : List (List ℕ)) × IsStop words (R.remaining input.old) stop))) }
+    ensures untouched { (result ≡ 0) ⊎ (result ≡ 5) ⊎ (output.new ≡ output.old) }
+    ensures quiet { result ≡ 0 → faults.new ≡ faults.old }
+{
     match started_words(rt) {
         Ok(words) => arrange_run(rt.alloc(), words.as_slice(), input, output, faults),
         Err(stop) => refuse(stop, faults),
@@ -145,7 +156,10 @@ fn read_all<R: Read>(alloc: Global, input: &mut R) -> Result<Vec<u8>, Stop>
     }
 }
 
-fn started_words<H: Env + AllocGlobal>(rt: &H) -> Result<Vec<String>, Stop> {
+/// The words after the program's name.
+fn started_words<H: Env + AllocGlobal>(rt: &H) -> Result<Vec<String>, Stop>
+    ensures stopped { IfErr result (λ stop. (stop ≡ Stop.Usage) ⊎ (stop ≡ Stop.Refused Memory)) }
+{
     let mut words = Vec::new(rt.alloc());
     let started = env::args(rt).map_err(|error| stop_of(error, Stop::Usage))?;
     for word in started.skip(1) {

@@ -890,6 +890,20 @@ fn faulty_words(rt: HostRuntime) -> Result<(), Fail> {
 }
 
 #[test]
+fn refusals_are_told(rt: HostRuntime) -> Result<(), Fail> {
+    let texts = [
+        (Fault::Memory, "out of memory\n"),
+        (Fault::CountOutOfRange, "count out of range\n"),
+    ];
+    for (fault, text) in texts {
+        let mut faults = Vec::new(rt.alloc());
+        assert_eq!(rt; refuse(Stop::Refused(fault), &mut faults), 4);
+        assert_eq!(rt; faults.as_slice(), text.as_bytes());
+    }
+    Ok(())
+}
+
+#[test]
 fn no_words(rt: HostRuntime) -> Result<(), Fail> {
     let mut input: &[u8] = b"x\n";
     let mut output = Vec::new(rt.alloc());

@@ -1,0 +1,10 @@
+use Rattle.std.proofs.Common.{map, string_bytes}
+use Rattle.arrange.proofs.Runs.{stops_over_some}
+use Rattle.arrange.proofs.run.arrange.Goals as goal
+
+pub returns-in-Ok-clause-done : goal.returns-in-Ok-clause-done
+returns-in-Ok-clause-done g c = λ ends. (map string_bytes c.as_slice.result.now, c.arrange_run.ensures.asked ends, c.arrange_run.ensures.done ends)
+
+pub returns-in-Ok-clause-stopped : goal.returns-in-Ok-clause-stopped
+returns-in-Ok-clause-stopped g c =
+    stops_over_some (map string_bytes c.as_slice.result.now) (g.R.Read.remaining c.args.input.now) c.arrange_run.result c.arrange_run.ensures.stopped
