@@ -193,6 +193,51 @@ fn lines_on_one_pair(rt: HostRuntime) -> Result<(), Fail> {
     Ok(())
 }
 
+/// Lists whose counts leave the range, on one pair of ends in the split, or one above the other in the build: the list
+/// and the number of passes after the refusal.
+const REFUSALS: [(&str, &[Row], &[Row], u128); 2] = [
+    (
+        "a split that is refused",
+        &[((0, 0), (4, 0), i32::MAX, 2), ((0, 0), (4, 0), 1, 0)],
+        &[],
+        0,
+    ),
+    (
+        "a build that is refused",
+        &[((0, 0), (4, 0), i32::MAX, 0), ((0, 1), (4, 1), i32::MAX, 2)],
+        &[((0, 0), (4, 0), i32::MAX, 0), ((0, 1), (4, 1), i32::MAX, 2)],
+        1,
+    ),
+];
+
+#[test]
+fn counts_of_lines_out_of_range(rt: HostRuntime) -> Result<(), Fail> {
+    for strategy in STRATEGIES {
+        for (name, rows, left, passes) in REFUSALS {
+            let mut splitter = SplitSolver::new(rt.alloc());
+            let mut builder = GraphBuilder::new(rt.alloc());
+            let mut list = segments(&rt, rows)?;
+            assert!(rt; is_splittable(&list));
+            let built = split_and_build_clip(
+                &mut splitter,
+                &mut builder,
+                &mut list,
+                &Solver::with_strategy_and_precision(strategy, Precision::HIGH),
+                FillRule::NonZero,
+                ClipRule {
+                    invert: false,
+                    boundary_included: false,
+                },
+            );
+            assert!(rt; built.err() == Some(Fault::CountOutOfRange), "{name}");
+            let after: Vec<Row> = list.iter().map(row).collect(rt.alloc())?;
+            assert_eq!(rt; after.as_slice(), left, "{name}");
+            assert_eq!(rt; splitter.passes(), passes, "{name}");
+        }
+    }
+    Ok(())
+}
+
 type Ends = (IntPoint<i32>, IntPoint<i32>);
 
 /// The parts of lines inside polygons, the boundary aside. `None` where a segment is out of range.
