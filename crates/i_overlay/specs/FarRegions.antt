@@ -12,6 +12,7 @@ use Rattle.overlay_split.specs.Places.{IsFar}
 use Rattle.overlay_build.specs.Graph.{Graph}
 use Rattle.overlay_build.specs.Values.{value_at, tells_apart}
 use Rattle.overlay_build.specs.Regions.{encloses}
+use Rattle.overlay_build.specs.Boundary.{of_subject, directed_links, times_round}
 
 -- The graph encloses exactly the places that a rule tells from those outside, by how the given segments wind, at the
 -- places that are farther from them than the passes reach.
@@ -25,3 +26,9 @@ abbrev pub EnclosesOverlay : Settings → OverlayRule → FillRule → List Whol
 EnclosesOverlay settings overlay_rule fill_rule given passes graph =
     (p : RationalPoint) → 0 < p.bottom → IsFar (reach_of_run settings given passes) p (pairs given) →
     encloses graph p ≡ differ (holds overlay_rule false false) (value_at (holds overlay_rule) fill_rule (winding_below given p))
+
+-- The links of the graph, each in the direction that has the region on its left, wind once round the region of a rule, by how
+-- the given segments wind, at the same places.
+abbrev pub WindsRoundFarRegion : Settings → (Bool → Bool → Bool) → FillRule → List WholeSegment → ℕ → Graph → Type 0
+WindsRoundFarRegion settings rule fill_rule given passes graph =
+    (p : RationalPoint) → 0 < p.bottom → IsFar (reach_of_run settings given passes) p (pairs given) → winding_below (directed_links rule graph) p ≡ of_subject (times_round rule fill_rule (winding_below given p))

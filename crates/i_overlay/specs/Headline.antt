@@ -23,7 +23,7 @@ use Rattle.overlay_sweep.specs.ChainWindings.{tops_leave_range}
 use Rattle.overlay_build.specs.Graph.{Graph, graph_by}
 use Rattle.overlay_build.specs.Sides.{IsBalancedOverlay}
 use Rattle.overlay_build.specs.Lines.{IsBalancedClip}
-use Rattle.i_overlay.specs.FarRegions.{EnclosesFarRegion}
+use Rattle.i_overlay.specs.FarRegions.{EnclosesFarRegion, WindsRoundFarRegion}
 use Rattle.i_overlay.specs.LinesAlong.{KeepsLines}
 
 -- What a split leaves of what it is given.
@@ -51,11 +51,14 @@ pub record IsOverlay (settings : Settings) (fill_rule : FillRule) (rule : Bool �
   -- The graph is that of the segments whose fill the rule keeps.
   pub links : graph ≡ graph_by (keeps_fill rule) fill_rule segments
   -- Where the given counts balance, it holds exactly the segments whose sides the rule tells apart, with the fills of
-  -- these sides, evenly many links at every node, and it encloses the region of the rule in the arrangement.
+  -- these sides, evenly many links at every node, it encloses the region of the rule in the arrangement, and its links are
+  -- the directed boundary of that region.
   pub balanced : IsBalanced given → IsBalancedOverlay rule fill_rule segments graph
   -- Then, at each place that is farther from what was given than the passes reach, it encloses the region of the rule
   -- as the given segments wind.
   pub far_region : IsBalanced given → EnclosesFarRegion settings rule fill_rule given passes graph
+  -- And there its links, each in the direction that has the region on its left, wind once round that region.
+  pub far_boundary : IsBalanced given → WindsRoundFarRegion settings rule fill_rule given passes graph
 
 -- What a split and a build make of polygons and lines, for a clip rule.
 pub record IsClip (settings : Settings) (fill_rule : FillRule) (rule : ClipRule) (given segments : List WholeSegment) (passes : ℕ) (graph : Graph) : Type 0 where

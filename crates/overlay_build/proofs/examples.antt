@@ -1,4 +1,5 @@
 -- Worked examples of the definitions, which hold by computation.
 pub mod Computing
 pub mod Graphs
+pub mod Boundaries
 pub mod Walks

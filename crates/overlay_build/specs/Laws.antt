@@ -14,6 +14,7 @@ use Rattle.overlay_sweep.specs.Fill.{fill_byte}
 use Rattle.overlay_build.specs.Graph.{graph_by, data_by, has_even_nodes, is_valid_graph, without_nodes}
 use Rattle.overlay_build.specs.Values.{tells_apart}
 use Rattle.overlay_build.specs.Regions.{EnclosesRegion}
+use Rattle.overlay_build.specs.Boundary.{BoundsRegion}
 use Rattle.overlay_build.specs.Sides.{overlay_graph}
 use Rattle.overlay_build.specs.Lines.{CountsLines, keeps_between, clip_graph}
 
@@ -56,6 +57,12 @@ abbrev pub GraphsEncloseRegions : Type 0
 GraphsEncloseRegions =
     (fill_rule : FillRule) (rule : Bool → Bool → Bool) (segments : List WholeSegment) → IsTrue (is_map segments) → IsTrue (are_polygons segments) → IsTrue (is_planar segments) → IsBalanced segments →
     EnclosesRegion rule fill_rule segments (graph_by (keeps_fill rule) fill_rule segments)
+
+-- The links of its graph, each with the region on its left, are the boundary of the region: they are balanced, and wind once round it.
+abbrev pub GraphsBoundRegions : Type 0
+GraphsBoundRegions =
+    (fill_rule : FillRule) (rule : Bool → Bool → Bool) (segments : List WholeSegment) → IsTrue (is_map segments) → IsTrue (are_polygons segments) → IsTrue (is_planar segments) → IsBalanced segments →
+    BoundsRegion rule fill_rule segments (graph_by (keeps_fill rule) fill_rule segments)
 
 -- The links that a test keeps of the graph of all segments are, but for the numbers of their nodes, those of the test's graph, in the same order.
 abbrev pub FilterGivesLinks : Type 0

@@ -2,6 +2,7 @@ pub mod Laws
 pub mod Graph
 pub mod Values
 pub mod Regions
+pub mod Boundary
 pub mod Sides
 pub mod Lines
 pub mod GraphOf

@@ -7,6 +7,7 @@ use Rattle.overlay_sweep.specs.Fill.{fill_byte}
 use Rattle.overlay_build.specs.Graph.{Graph, Filled, graph_of, has_even_nodes}
 use Rattle.overlay_build.specs.Values.{tells_apart}
 use Rattle.overlay_build.specs.Regions.{EnclosesRegion}
+use Rattle.overlay_build.specs.Boundary.{BoundsRegion}
 
 -- whether the rule tells the two sides of a segment apart, by the windings in the columns beside it
 unfoldable pub has_sides_apart : (Bool → Bool → Bool) → FillRule → List WholeSegment → WholeSegment → Bool
@@ -21,10 +22,11 @@ unfoldable pub overlay_graph : (Bool → Bool → Bool) → FillRule → List Wh
 overlay_graph rule fill_rule segments = graph_of (map (λ s. with_sides fill_rule segments s) (filter (λ s. has_sides_apart rule fill_rule segments s) segments))
 
 -- Where counts balance: windings are the same all along a segment, the graph is that of the segments whose sides the
--- rule tells apart, with the fills of these sides, evenly many links meet at every node, and the graph encloses the
--- region of the rule.
+-- rule tells apart, with the fills of these sides, evenly many links meet at every node, the graph encloses the region
+-- of the rule, and its links, each in the direction that has the region on its left, are the region's boundary.
 pub record IsBalancedOverlay (rule : Bool → Bool → Bool) (fill_rule : FillRule) (segments : List WholeSegment) (graph : Graph) : Type 0 where
   pub windings : All (IsSameAlong segments) segments
   pub exactly : graph ≡ overlay_graph rule fill_rule segments
   pub even : IsTrue (has_even_nodes graph)
   pub region : EnclosesRegion rule fill_rule segments graph
+  pub boundary : BoundsRegion rule fill_rule segments graph

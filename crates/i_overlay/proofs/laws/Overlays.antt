@@ -29,6 +29,7 @@ use Rattle.overlay_build.specs.Graph.{Graph, graph_by, data_by}
 use Rattle.overlay_base.specs.EdgeData.{DataSegment, without_data}
 use Rattle.overlay_base.proofs.laws.lists.Lists.{list_all-filter}
 use Rattle.overlay_build.specs.Values.{tells_apart}
+use Rattle.overlay_build.specs.Boundary.{of_subject, times_round}
 use Rattle.overlay_build.specs.Sides.{IsBalancedOverlay}
 use Rattle.overlay_build.specs.Lines.{IsBalancedClip}
 use Rattle.i_overlay.proofs.laws.LinesAlong.{lines_kept}
@@ -69,6 +70,7 @@ overlay_from settings fill_rule rule given segments passes graph split links bal
       links = links;
       balanced = sides;
       far_region = λ balance p some far. (sides balance).region p some ∙ ap (λ (w : Winding). tells_apart rule fill_rule empty w) (split.winding p far);
+      far_boundary = λ balance p some far. (sides balance).boundary.winds p some ∙ ap (λ (w : Winding). of_subject (times_round rule fill_rule w)) (split.winding p far);
     }
 
 -- the same of lines

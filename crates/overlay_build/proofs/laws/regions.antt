@@ -1,3 +1,4 @@
 -- What a graph encloses.
 pub mod PlaceColumns
 pub mod Regions
+pub mod Boundaries

@@ -186,8 +186,9 @@ impl<I: OverlayInt, D: Copy> GraphBuilder<ShapeCountBoolean, OverlayNode, I, D> 
     }
 
     /// The graph of the segments of an arrangement that the rule keeps: those of whose two sides it says different
-    /// things. With balanced counts these sides are told by the windings in the columns beside a segment, and evenly
-    /// many links meet at each node.
+    /// things. With balanced counts these sides are told by the windings in the columns beside a segment, evenly many
+    /// links meet at each node, and the links, each in the direction that has what the rule holds of on its left, are the
+    /// boundary of the rule's region.
     ///
     /// The segments have to be arranged, as `is_arranged` tests. The solver's strategy does not change the answer.
     ///

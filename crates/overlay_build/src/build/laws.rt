@@ -1,5 +1,5 @@
 // The laws of fills and graphs. Each function has an empty body, and its contract is proved for all whole numbers.
-ghost use Rattle.overlay_build.specs.Laws.{FillsTellSides, FillsTellLines, ClipGraphsAreExact, NodesAreEven, GraphsAreValid, GraphsAreExact, GraphsEncloseRegions, FilterGivesLinks, FilterGivesData};
+ghost use Rattle.overlay_build.specs.Laws.{FillsTellSides, FillsTellLines, ClipGraphsAreExact, NodesAreEven, GraphsAreValid, GraphsAreExact, GraphsEncloseRegions, GraphsBoundRegions, FilterGivesLinks, FilterGivesData};
 
 pub use overlay_sweep::build::laws::winding_laws;
 
@@ -19,6 +19,14 @@ pub fn graph_laws()
     ensures exact { GraphsAreExact }
     ensures region { GraphsEncloseRegions }
     ensures filter { FilterGivesLinks }
+{}
+
+/// With balanced counts, for every truth function: the links of its graph, each in the direction that has what the
+/// function holds of on its left, are the boundary of its region. The function holds on the left of each and not on its
+/// right; at every point as many start as end; and round every place of the plane they wind once where the function
+/// holds there, and not at all where it does not, less what it says of places outside.
+pub fn boundary_laws()
+    ensures { GraphsBoundRegions }
 {}
 
 /// Whatever data segments carry: the data of the links that a test keeps of the graph of all segments is that of the

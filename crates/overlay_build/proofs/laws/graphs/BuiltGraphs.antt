@@ -21,7 +21,7 @@ use Rattle.overlay_build.specs.GraphOf.{link_of, kept_of, graph_with, HoldGraph}
 use Rattle.overlay_build.specs.Graph.{without_nodes}
 use Rattle.overlay_build.specs.Sides.{IsBalancedOverlay}
 use Rattle.overlay_build.proofs.laws.graphs.GraphLaws.{links-back, graph_by-is}
-use Rattle.overlay_build.proofs.laws.regions.Regions.{is_balanced_overlay}
+use Rattle.overlay_build.proofs.laws.regions.Boundaries.{is_balanced_overlay}
 
 module _ {N I D : Type 0} (indexes : N → List ℕ) (is_canonical : N → Bool) (whole : I → ℤ) (nodes : List N) (links : List (OverlayLink I D)) (keeps : ℕ → Bool) (rule : FillRule) (segments : List WholeSegment) where
   -- the graph of the links that stand for kept segments is that of these segments

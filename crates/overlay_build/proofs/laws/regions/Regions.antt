@@ -5,37 +5,35 @@ use Rattle.std.specs.List.{list_all}
 use Rattle.std.proofs.lemmas.Int.{ints}
 use Rattle.std.proofs.lemmas.Bool.{and_parts}
 use Rattle.std.proofs.lemmas.List.{length-map}
-use Rattle.std.proofs.lemmas.List.Elements.{All-weaker}
 use Rattle.overlay_base.specs.Points.{Pair}
 use Rattle.overlay_base.specs.Windings.{Winding, empty}
-use Rattle.overlay_base.specs.Segments.{WholeSegment, is_map, are_polygons}
+use Rattle.overlay_base.specs.Segments.{WholeSegment, is_map}
 use Rattle.overlay_base.specs.Below.{width}
 use Rattle.overlay_base.specs.Planar.{is_planar}
 use Rattle.overlay_base.specs.Balance.{IsBalanced}
-use Rattle.overlay_base.specs.Rules.{differ, keeps_fill}
 use Rattle.overlay_base.specs.declared.overlay_core.fill_rule.FillRule.{FillRule}
 use Rattle.overlay_base.proofs.laws.lists.Lists.{Has, Has-filter_out, filter-map, list_all-from_Has}
 use Rattle.overlay_base.specs.Places.{RationalPoint, runs_below, lies_below, winding_below}
-use Rattle.overlay_sweep.specs.ColumnWindings.{IsSameAlong, spans as column_spans, is_below_in_column, column_bottom, column_top}
+use Rattle.overlay_sweep.specs.ColumnWindings.{spans as column_spans, is_below_in_column, column_bottom, column_top, side_bottom, side_top}
 use Rattle.overlay_sweep.specs.Fill.{is_inside, flag_value}
-use Rattle.overlay_build.specs.Graph.{Filled, Link, graph_of, graph_by}
+use Rattle.overlay_build.specs.Graph.{Filled, Link, graph_of}
 use Rattle.overlay_build.specs.Values.{value_at, tells_apart}
-use Rattle.overlay_build.specs.Sides.{has_sides_apart, with_sides, overlay_graph, IsBalancedOverlay}
+use Rattle.overlay_build.specs.Boundary.{truth}
+use Rattle.overlay_build.specs.Sides.{has_sides_apart, with_sides, overlay_graph}
 use Rattle.overlay_sweep.proofs.laws.columns.WeightSums.{when, sum_of, sum_of-filter, sum_of-same}
 use Rattle.overlay_sweep.proofs.laws.columns.ColumnLines.{column_weights, column_weights_are, filter_weights_are, spans_parts, lt-test, lt-tested}
 use Rattle.overlay_sweep.proofs.laws.columns.Parity.{odd_of, odd_of_is}
-use Rattle.overlay_sweep.proofs.laws.columns.Chains.{is_pairwise, odd_along_chain}
+use Rattle.overlay_sweep.proofs.laws.columns.Chains.{is_pairwise, gain_along_chain}
 use Rattle.overlay_sweep.proofs.laws.columns.Heights.{gap, is_below_is}
 use Rattle.overlay_sweep.proofs.laws.columns.ColumnOrder.{low_parts, one_is_below, below_itself, is_below-trans}
 use Rattle.overlay_sweep.proofs.laws.columns.AlongSegments.{is_same_along}
 use Rattle.overlay_sweep.proofs.laws.columns.Members.{IsArranged, is_arranged}
 use Rattle.overlay_sweep.proofs.laws.live.Sides.{sum_of-same_in, apart_in}
-use Rattle.overlay_build.proofs.laws.sides.Vertices.{tells, tells_sides_of, odd_of-same_in, pairwise_in}
-use Rattle.overlay_build.proofs.laws.sides.Uprights.{odd_of-filter}
+use Rattle.overlay_build.proofs.laws.sides.Vertices.{gain, gain_of, pairwise_in}
+use Rattle.overlay_build.proofs.laws.sides.Parities.{tells, tells_sides_of, odd_of-filter, same_parity, parity_of_sum, parity_of_gain, parity_where}
 use Rattle.overlay_build.specs.Regions.{encloses, EnclosesRegion}
 use Rattle.overlay_build.specs.Laws.{GraphsEncloseRegions}
-use Rattle.overlay_sweep.proofs.laws.columns.Tops.{chains_are_columns}
-use Rattle.overlay_build.proofs.laws.graphs.GraphExact.{HasColumns, graphs_are_exact, nodes_are_even}
+use Rattle.overlay_build.proofs.laws.graphs.GraphExact.{graphs_are_exact}
 use Rattle.overlay_build.proofs.laws.regions.PlaceColumns.{IsInColumn, column_of, spans_alike, lower_in_column}
 
 -- ---- the lower part of a column
@@ -76,41 +74,41 @@ module _ (xs : List WholeSegment) (arranged : IsArranged xs) (balanced : IsBalan
   pairwise_there = pairwise_in below_there is_there xs arranged.sorted
       (λ s t m n a b other. one_is_below x s.pair t.pair (spans_there s a) (spans_there t b) (apart_in xs arranged balanced s t m n) other)
 
-  module _ (F : ℤ → ℤ → Bool) where
-    same_sides : (b c b' c' d e d' e' : ℤ) → b ≡ b' → c ≡ c' → d ≡ d' → e ≡ e' → differ (F b c) (F d e) ≡ differ (F b' c') (F d' e')
-    same_sides b c b' c' d e d' e' p q r s = rw (p, q, r, s) refl
+  module _ (G : ℤ → ℤ → ℤ) where
+    same_gain : (b c b' c' d e d' e' : ℤ) → b ≡ b' → c ≡ c' → d ≡ d' → e ≡ e' → G d e -ℤ G b c ≡ G d' e' -ℤ G b' c'
+    same_gain b c b' c' d e d' e' p q r s = rw (p, q, r, s) refl
 
-    column_sides : (s : WholeSegment) → Has xs s → IsTrue (column_spans x s.pair) →
-        tells_sides_of F xs s ≡ differ (F (sum_of (λ u. when (column_spans x u.pair && is_below_in_column x u.pair s.pair) u.count.subj) xs) (sum_of (λ u. when (column_spans x u.pair && is_below_in_column x u.pair s.pair) u.count.clip) xs))
-        (F (sum_of (λ u. when (column_spans x u.pair && is_below_in_column x u.pair s.pair) u.count.subj) xs +ℤ s.count.subj) (sum_of (λ u. when (column_spans x u.pair && is_below_in_column x u.pair s.pair) u.count.clip) xs +ℤ s.count.clip))
+    column_gain : (s : WholeSegment) → Has xs s → IsTrue (column_spans x s.pair) →
+        gain_of G xs s ≡ G (sum_of (λ u. when (column_spans x u.pair && is_below_in_column x u.pair s.pair) u.count.subj) xs +ℤ s.count.subj) (sum_of (λ u. when (column_spans x u.pair && is_below_in_column x u.pair s.pair) u.count.clip) xs +ℤ s.count.clip)
+        -ℤ G (sum_of (λ u. when (column_spans x u.pair && is_below_in_column x u.pair s.pair) u.count.subj) xs) (sum_of (λ u. when (column_spans x u.pair && is_below_in_column x u.pair s.pair) u.count.clip) xs)
     unfolding column_top column_bottom
-    column_sides s m h =
+    column_gain s m h =
         let along = is_same_along xs s (arranged.free s m) balanced in
         rw (← along.below x h, ← along.above x h, column_weights_are (λ u. is_below_in_column x u s.pair) xs x) refl
 
-    abbrev chain_sides : WholeSegment → Bool
-    chain_sides s = differ (F (pos 0 +ℤ sum_of (λ t. when (below_there t s) t.count.subj) (filter is_there xs)) (pos 0 +ℤ sum_of (λ t. when (below_there t s) t.count.clip) (filter is_there xs)))
-        (F ((pos 0 +ℤ sum_of (λ t. when (below_there t s) t.count.subj) (filter is_there xs)) +ℤ s.count.subj) ((pos 0 +ℤ sum_of (λ t. when (below_there t s) t.count.clip) (filter is_there xs)) +ℤ s.count.clip))
+    abbrev chain_gain : WholeSegment → ℤ
+    chain_gain s = G ((pos 0 +ℤ sum_of (λ t. when (below_there t s) t.count.subj) (filter is_there xs)) +ℤ s.count.subj) ((pos 0 +ℤ sum_of (λ t. when (below_there t s) t.count.clip) (filter is_there xs)) +ℤ s.count.clip)
+        -ℤ G (pos 0 +ℤ sum_of (λ t. when (below_there t s) t.count.subj) (filter is_there xs)) (pos 0 +ℤ sum_of (λ t. when (below_there t s) t.count.clip) (filter is_there xs))
 
     from_nothing : (u v : ℤ) → u ≡ v → u ≡ pos 0 +ℤ v
     from_nothing u v e = omega (arith, ints, e)
 
-    sides_there : (s : WholeSegment) → Has (filter is_there xs) s → tells_sides_of F xs s ≡ chain_sides s
-    sides_there s n =
+    gain_there : (s : WholeSegment) → Has (filter is_there xs) s → gain_of G xs s ≡ chain_gain s
+    gain_there s n =
         let k = there_in s n in
         let u = from_nothing _ _ (below_members (λ t. t.count.subj) s k.0 k.1 k.2) in
         let v = from_nothing _ _ (below_members (λ t. t.count.clip) s k.0 k.1 k.2) in
-        column_sides s k.0 k.1 ∙ same_sides _ _ _ _ _ _ _ _ u v (ap (λ (z : ℤ). z +ℤ s.count.subj) u) (ap (λ (z : ℤ). z +ℤ s.count.clip) v)
+        column_gain s k.0 k.1 ∙ same_gain _ _ _ _ _ _ _ _ u v (ap (λ (z : ℤ). z +ℤ s.count.subj) u) (ap (λ (z : ℤ). z +ℤ s.count.clip) v)
 
-    -- of the members an odd number have sides that F tells apart exactly when it tells nothing from what is above them all
-    pub odd_lower : odd_of (tells_sides_of F xs) (filter is_there xs) ≡ tells F empty (column_weights low xs x)
-    odd_lower =
+    -- the gains of the members add up to that from nothing to what is above them all
+    pub sum_lower : sum_of (gain_of G xs) (filter is_there xs) ≡ gain G empty (column_weights low xs x)
+    sum_lower =
         let there : list_all is_there (filter is_there xs) ≡ true = list_all-from_Has is_there (filter is_there xs) (λ s n. (Has-filter_out is_there xs s n).1) in
-        let chain = odd_along_chain below_there is_there
+        let chain = gain_along_chain below_there is_there
         (λ s t u a b c h k. is_below-trans x s.pair t.pair u.pair (spans_there s a) (spans_there t b) (spans_there u c) h k)
-        (λ s a. below_itself x s.pair) F (λ s. s.count.subj) (λ s. s.count.clip) (pos 0) (pos 0) (filter is_there xs) there pairwise_there in
-        odd_of-same_in (tells_sides_of F xs) chain_sides (filter is_there xs) sides_there ∙ chain
-        ∙ same_sides _ _ _ _ _ _ _ _ refl refl
+        (λ s a. below_itself x s.pair) G (λ s. s.count.subj) (λ s. s.count.clip) (pos 0) (pos 0) (filter is_there xs) there pairwise_there in
+        sum_of-same_in (gain_of G xs) chain_gain (filter is_there xs) gain_there ∙ chain
+        ∙ same_gain _ _ _ _ _ _ _ _ refl refl
         (sym (from_nothing _ _ (ap (λ (w : Winding). w.subj) (column_weights_are low xs x) ∙ sym (sum_of-filter is_there (λ s. s.count.subj) xs))))
         (sym (from_nothing _ _ (ap (λ (w : Winding). w.clip) (column_weights_are low xs x) ∙ sym (sum_of-filter is_there (λ s. s.count.clip) xs))))
 
@@ -138,20 +136,23 @@ module _ (xs : List WholeSegment) (arranged : IsArranged xs) (balanced : IsBalan
       alike : (w : WholeSegment → ℤ) → sum_of (λ s. when (column_spans x s.pair && runs_below s.pair p) (w s)) xs ≡ sum_of (λ s. when (lies_below s.pair p) (w s)) xs
       alike w = sum_of-same (λ s. when (column_spans x s.pair && runs_below s.pair p) (w s)) (λ s. when (lies_below s.pair p) (w s)) xs (λ s. ap (λ (b : Bool). when (b && runs_below s.pair p) (w s)) (sym (spans_alike p x s.pair at)))
 
-  swapped : (a b : Bool) → (a && b) ≡ (b && a)
-  swapped true true = refl
-  swapped true false = refl
-  swapped false true = refl
-  swapped false false = refl
+  -- the gains of the segments below p add up to that from nothing to the winding at p
+  pub sum_below : (G : ℤ → ℤ → ℤ) → sum_of (λ s. when (lies_below s.pair p) (gain_of G xs s)) xs ≡ gain G empty (winding_below xs p)
+  sum_below G =
+      sum_of-same (λ s. when (lies_below s.pair p) (gain_of G xs s)) (λ s. when (column_spans x s.pair && runs_below s.pair p) (gain_of G xs s)) xs
+      (λ s. ap (λ (b : Bool). when (b && runs_below s.pair p) (gain_of G xs s)) (spans_alike p x s.pair at))
+      ∙ sym (sum_of-filter (λ s. column_spans x s.pair && runs_below s.pair p) (gain_of G xs) xs)
+      ∙ sum_lower xs arranged balanced x (λ s. runs_below s p) below_is_lower G
+      ∙ ap (λ (w : Winding). gain G empty w) same_weights
 
-  -- of the segments below p an odd number have sides that F tells apart exactly when it tells nothing from the winding at p
+  -- so of the segments below p an odd number have sides that F tells apart exactly when it tells nothing from the winding at p
   pub odd_below : (F : ℤ → ℤ → Bool) → odd_of (λ s. tells_sides_of F xs s && lies_below s.pair p) xs ≡ tells F empty (winding_below xs p)
   odd_below F =
-      odd_of-same_in (λ s. tells_sides_of F xs s && lies_below s.pair p) (λ s. (column_spans x s.pair && runs_below s.pair p) && tells_sides_of F xs s) xs
-      (λ s m. swapped (tells_sides_of F xs s) (lies_below s.pair p) ∙ ap (λ (b : Bool). (b && runs_below s.pair p) && tells_sides_of F xs s) (spans_alike p x s.pair at))
-      ∙ sym (odd_of-filter (λ s. column_spans x s.pair && runs_below s.pair p) (tells_sides_of F xs) xs)
-      ∙ odd_lower xs arranged balanced x (λ s. runs_below s p) below_is_lower F
-      ∙ ap (λ (w : Winding). tells F empty w) same_weights
+      let G : ℤ → ℤ → ℤ = λ b c. truth (F b c) in
+      let sum = parity_of_sum (λ s. when (lies_below s.pair p) (gain_of G xs s)) (λ s. tells_sides_of F xs s && lies_below s.pair p) xs
+      (λ s. parity_where (lies_below s.pair p) (tells_sides_of F xs s) (gain_of G xs s) (parity_of_gain (F (side_bottom xs s).subj (side_bottom xs s).clip) (F (side_top xs s).subj (side_top xs s).clip))) in
+      let whole = parity_of_gain (F (pos 0) (pos 0)) (F (winding_below xs p).subj (winding_below xs p).clip) in
+      same_parity (gain G empty (winding_below xs p)) _ _ (sum.0, sym (sum_below G) ∙ sum.1) whole
 
 -- ---- graphs
 
@@ -185,12 +186,3 @@ pub graphs_enclose_regions : GraphsEncloseRegions
 graphs_enclose_regions fill_rule rule segments mapped polygons planar balanced =
     subst (EnclosesRegion rule fill_rule segments) (sym (graphs_are_exact fill_rule rule segments mapped polygons planar balanced))
     (overlay_encloses rule fill_rule segments mapped planar balanced)
-
-pub is_balanced_overlay : (rule : Bool → Bool → Bool) (fill_rule : FillRule) (segments : List WholeSegment)
-    → IsTrue (is_map segments) → IsTrue (are_polygons segments) → IsTrue (is_planar segments) → IsBalanced segments → IsBalancedOverlay rule fill_rule segments (graph_by (keeps_fill rule) fill_rule segments)
-is_balanced_overlay rule fill_rule segments mapped polygons planar balanced = record {
-  windings = All-weaker (HasColumns segments) (IsSameAlong segments) (λ s h. h.0) segments (chains_are_columns segments mapped planar balanced);
-  exactly = graphs_are_exact fill_rule rule segments mapped polygons planar balanced;
-  even = nodes_are_even fill_rule rule segments mapped polygons planar balanced;
-  region = graphs_enclose_regions fill_rule rule segments mapped polygons planar balanced;
-}

@@ -1,71 +1,52 @@
 -- Evenly many segments whose sides a rule tells apart meet at each point of a planar, balanced arrangement.
 use Rattle.std.proofs.Common.{◌≡◌, ap, refl, sym, ◌∙◌, arith, inl, inr}
-use Rattle.std.specs.Prelude.{ℕ, ◌+◌, ◌%◌, ℤ, pos, ◌-ℤ◌, ◌<ℤ◌, IsTrue, Bool, true, false, ◌&&◌, ◌||◌, ◌⊎◌, List, filter, length}
+use Rattle.std.specs.Prelude.{ℕ, ◌+◌, ◌%◌, ℤ, pos, ◌+ℤ◌, ◌-ℤ◌, ◌<ℤ◌, IsTrue, Bool, true, false, ◌&&◌, ◌||◌, ◌⊎◌, List, filter, length}
 use Rattle.std.proofs.lemmas.Int.{ints}
-use Rattle.std.proofs.lemmas.Bool.{and_right, or_cases, or_parts, both_ways, false_from_ne_true}
+use Rattle.std.proofs.lemmas.Bool.{or_cases, or_parts, both_ways, false_from_ne_true}
 use Rattle.std.proofs.lemmas.Bool.Decides.{Decides-int_eq}
 use Rattle.overlay_base.specs.Points.{Point, point_eq, is_vertical, is_strictly_inside}
 use Rattle.overlay_base.specs.Windings.{Winding}
 use Rattle.overlay_base.specs.Segments.{WholeSegment, is_map}
 use Rattle.overlay_base.specs.Planar.{is_planar}
 use Rattle.overlay_base.specs.Balance.{IsBalanced}
-use Rattle.overlay_sweep.specs.ColumnWindings.{spans, weights_up_to}
+use Rattle.overlay_sweep.specs.ColumnWindings.{spans, weights_up_to, side_bottom, side_top}
 use Rattle.overlay_base.specs.declared.overlay_core.fill_rule.FillRule.{FillRule}
 use Rattle.overlay_sweep.specs.Fill.{flag_value, is_inside}
-use Rattle.overlay_base.specs.Rules.{differ}
 use Rattle.overlay_build.specs.Values.{tells_apart, value_at}
+use Rattle.overlay_build.specs.Boundary.{truth}
 use Rattle.overlay_build.specs.Sides.{has_sides_apart}
 use Rattle.overlay_base.proofs.laws.geometry.Points.{same_by_eq}
+use Rattle.overlay_sweep.proofs.laws.columns.WeightSums.{when, sum_of, sum_of-add, sum_of-filter}
 use Rattle.overlay_sweep.proofs.laws.columns.ColumnLines.{is_under, column_weights, spans-true, spans-false_before, spans-false_after, point_lt-cases}
 use Rattle.overlay_sweep.proofs.laws.columns.Parity.{odd_of, odd_of_is}
 use Rattle.overlay_sweep.proofs.laws.columns.Members.{IsArranged, is_arranged}
-use Rattle.overlay_sweep.proofs.laws.live.Sides.{apart_in}
-use Rattle.overlay_build.proofs.laws.sides.Vertices.{tells, tells_sides_of, odd_of-same_in, odd_right, odd_left}
-use Rattle.overlay_build.proofs.laws.sides.Uprights.{odd_of-filter, odd_of-differ, odd_of-nothing, by_any, odd_up, odd_down}
+use Rattle.overlay_sweep.proofs.laws.live.Sides.{sum_of-same_in, sum_of-zero_in, apart_in}
+use Rattle.overlay_build.proofs.laws.sides.Vertices.{gain, gain_of, gain_right, gain_left}
+use Rattle.overlay_build.proofs.laws.sides.Uprights.{when_nothing, by_any, gain_up, gain_down}
+use Rattle.overlay_build.proofs.laws.sides.Parities.{tells_sides_of, HasParity, same_parity, parity_of_sum, parity_of_gain, parity_where}
 use Rattle.overlay_base.proofs.laws.lists.Lists.{Has}
 
-round_vertex : (r0 r1 l0 l1 : Bool) → differ (differ (differ r0 r1) (differ r1 l1)) (differ (differ l0 l1) (differ r0 l0)) ≡ false
-round_vertex true true true true = refl
-round_vertex true true true false = refl
-round_vertex true true false true = refl
-round_vertex true true false false = refl
-round_vertex true false true true = refl
-round_vertex true false true false = refl
-round_vertex true false false true = refl
-round_vertex true false false false = refl
-round_vertex false true true true = refl
-round_vertex false true true false = refl
-round_vertex false true false true = refl
-round_vertex false true false false = refl
-round_vertex false false true true = refl
-round_vertex false false true false = refl
-round_vertex false false false true = refl
-round_vertex false false false false = refl
+round_vertex : (r0 r1 l0 l1 : ℤ) → (r1 -ℤ r0) +ℤ (l1 -ℤ r1) ≡ (l1 -ℤ l0) +ℤ (l0 -ℤ r0)
+round_vertex r0 r1 l0 l1 = omega (arith, ints)
 
-even_by_flags : (m n : ℕ) (a b : Bool) → m % 2 ≡ flag_value a 1 → n % 2 ≡ flag_value b 1 → differ a b ≡ false → (m + n) % 2 ≡ 0
+even_by_flags : (m n : ℕ) (a b : Bool) → m % 2 ≡ flag_value a 1 → n % 2 ≡ flag_value b 1 → a ≡ b → (m + n) % 2 ≡ 0
 even_by_flags m n true true p q e = omega arith
 even_by_flags m n true false p q e = absurd (cc)
 even_by_flags m n false true p q e = absurd (cc)
 even_by_flags m n false false p q e = omega arith
 
 -- a segment is upright or spans the column, one of the two
-two_kinds : (sp v k at : Bool) → (at ≡ true → ((sp ≡ true) × (v ≡ false)) ⊎ ((sp ≡ false) × (v ≡ true))) → (k && at) ≡ differ ((sp && at) && k) ((v && at) && k)
-two_kinds true true k true h = elim (h refl) [ inl e ↦ absurd (both_ways true e.1 refl) | inr e ↦ absurd (both_ways true e.0 refl) ]
-two_kinds true false true true h = refl
-two_kinds true false false true h = refl
-two_kinds false true true true h = refl
-two_kinds false true false true h = refl
-two_kinds false false k true h = elim (h refl) [ inl e ↦ absurd (both_ways false refl e.0) | inr e ↦ absurd (both_ways false refl e.1) ]
-two_kinds true true true false h = refl
-two_kinds true true false false h = refl
-two_kinds true false true false h = refl
-two_kinds true false false false h = refl
-two_kinds false true true false h = refl
-two_kinds false true false false h = refl
-two_kinds false false true false h = refl
-two_kinds false false false false h = refl
+two_kinds : (sp v at : Bool) (z : ℤ) → (at ≡ true → ((sp ≡ true) × (v ≡ false)) ⊎ ((sp ≡ false) × (v ≡ true))) → when at z ≡ when (sp && at) z +ℤ when (v && at) z
+two_kinds true true true z h = elim (h refl) [ inl e ↦ absurd (both_ways true e.1 refl) | inr e ↦ absurd (both_ways true e.0 refl) ]
+two_kinds true false true z h = omega (arith, ints)
+two_kinds false true true z h = omega (arith, ints)
+two_kinds false false true z h = elim (h refl) [ inl e ↦ absurd (both_ways false refl e.0) | inr e ↦ absurd (both_ways false refl e.1) ]
+two_kinds true true false z h = refl
+two_kinds true false false z h = refl
+two_kinds false true false z h = refl
+two_kinds false false false z h = refl
 
-module _ (xs : List WholeSegment) (arranged : IsArranged xs) (balanced : IsBalanced xs) (p : Point) (F : ℤ → ℤ → Bool) where
+module _ (xs : List WholeSegment) (arranged : IsArranged xs) (balanced : IsBalanced xs) (p : Point) where
   level : (u : WholeSegment) → u.pair.a.x ≡ u.pair.b.x → is_vertical u.pair ≡ true
   level u e = (Decides-int_eq u.pair.a.x u.pair.b.x).1 e
 
@@ -88,28 +69,37 @@ module _ (xs : List WholeSegment) (arranged : IsArranged xs) (balanced : IsBalan
         | inr h ↦ (let same = h.0 in inr (spans-false_before (p.x -ℤ pos 1) u.pair (omega (arith, ints)), level u h.0))
       ]
 
-  module _ (free_point : (u : WholeSegment) → Has xs u → is_strictly_inside u.pair p ≡ true → ⊥) where
-    odd_starts : odd_of (λ u. tells_sides_of F xs u && point_eq u.pair.a p) xs ≡ differ (odd_of (tells_sides_of F xs) (filter (λ s. spans p.x s.pair && point_eq s.pair.a p) xs)) (odd_of (λ u. (is_vertical u.pair && point_eq u.pair.a p) && tells_sides_of F xs u) xs)
-    odd_starts =
-        odd_of-same_in (λ u. tells_sides_of F xs u && point_eq u.pair.a p) (λ u. differ ((spans p.x u.pair && point_eq u.pair.a p) && tells_sides_of F xs u) ((is_vertical u.pair && point_eq u.pair.a p) && tells_sides_of F xs u)) xs (λ u m. two_kinds (spans p.x u.pair) (is_vertical u.pair) (tells_sides_of F xs u) (point_eq u.pair.a p) (start_kinds u m))
-        ∙ odd_of-differ (λ u. (spans p.x u.pair && point_eq u.pair.a p) && tells_sides_of F xs u) (λ u. (is_vertical u.pair && point_eq u.pair.a p) && tells_sides_of F xs u) xs
-        ∙ ap (λ (b : Bool). differ b (odd_of (λ u. (is_vertical u.pair && point_eq u.pair.a p) && tells_sides_of F xs u) xs)) (sym (odd_of-filter (λ s. spans p.x s.pair && point_eq s.pair.a p) (tells_sides_of F xs) xs))
+  module _ (G : ℤ → ℤ → ℤ) where
+    -- what is gained along the segments that start at p, and along those that end there
+    abbrev pub gain_out : ℤ
+    gain_out = sum_of (λ u. when (point_eq u.pair.a p) (gain_of G xs u)) xs
 
-    odd_ends : odd_of (λ u. tells_sides_of F xs u && point_eq u.pair.b p) xs ≡ differ (odd_of (tells_sides_of F xs) (filter (λ s. spans (p.x -ℤ pos 1) s.pair && point_eq s.pair.b p) xs)) (odd_of (λ u. (is_vertical u.pair && point_eq u.pair.b p) && tells_sides_of F xs u) xs)
-    odd_ends =
-        odd_of-same_in (λ u. tells_sides_of F xs u && point_eq u.pair.b p) (λ u. differ ((spans (p.x -ℤ pos 1) u.pair && point_eq u.pair.b p) && tells_sides_of F xs u) ((is_vertical u.pair && point_eq u.pair.b p) && tells_sides_of F xs u)) xs (λ u m. two_kinds (spans (p.x -ℤ pos 1) u.pair) (is_vertical u.pair) (tells_sides_of F xs u) (point_eq u.pair.b p) (end_kinds u m))
-        ∙ odd_of-differ (λ u. (spans (p.x -ℤ pos 1) u.pair && point_eq u.pair.b p) && tells_sides_of F xs u) (λ u. (is_vertical u.pair && point_eq u.pair.b p) && tells_sides_of F xs u) xs
-        ∙ ap (λ (b : Bool). differ b (odd_of (λ u. (is_vertical u.pair && point_eq u.pair.b p) && tells_sides_of F xs u) xs)) (sym (odd_of-filter (λ s. spans (p.x -ℤ pos 1) s.pair && point_eq s.pair.b p) (tells_sides_of F xs) xs))
+    abbrev pub gain_in : ℤ
+    gain_in = sum_of (λ u. when (point_eq u.pair.b p) (gain_of G xs u)) xs
 
-    round_windings : (r0 r1 l0 l1 : Winding) → differ (differ (tells F r0 r1) (tells F r1 l1)) (differ (tells F l0 l1) (tells F r0 l0)) ≡ false
-    round_windings r0 r1 l0 l1 = round_vertex (F r0.subj r0.clip) (F r1.subj r1.clip) (F l0.subj l0.clip) (F l1.subj l1.clip)
+    module _ (free_point : (u : WholeSegment) → Has xs u → is_strictly_inside u.pair p ≡ true → ⊥) where
+      sum_starts : gain_out ≡ sum_of (gain_of G xs) (filter (λ s. spans p.x s.pair && point_eq s.pair.a p) xs) +ℤ sum_of (λ u. when (is_vertical u.pair && point_eq u.pair.a p) (gain_of G xs u)) xs
+      sum_starts =
+          sum_of-same_in (λ u. when (point_eq u.pair.a p) (gain_of G xs u)) (λ u. when (spans p.x u.pair && point_eq u.pair.a p) (gain_of G xs u) +ℤ when (is_vertical u.pair && point_eq u.pair.a p) (gain_of G xs u)) xs (λ u m. two_kinds (spans p.x u.pair) (is_vertical u.pair) (point_eq u.pair.a p) (gain_of G xs u) (start_kinds u m))
+          ∙ sum_of-add _ (λ u. when (spans p.x u.pair && point_eq u.pair.a p) (gain_of G xs u)) (λ u. when (is_vertical u.pair && point_eq u.pair.a p) (gain_of G xs u)) xs (λ u. refl)
+          ∙ ap (λ (z : ℤ). z +ℤ sum_of (λ u. when (is_vertical u.pair && point_eq u.pair.a p) (gain_of G xs u)) xs) (sym (sum_of-filter (λ s. spans p.x s.pair && point_eq s.pair.a p) (gain_of G xs) xs))
 
-    together : differ (odd_of (λ u. tells_sides_of F xs u && point_eq u.pair.a p) xs) (odd_of (λ u. tells_sides_of F xs u && point_eq u.pair.b p) xs) ≡ false
-    together = rw (odd_starts, odd_ends, odd_right xs arranged balanced p free_point F, odd_left xs arranged balanced p free_point F, odd_up xs arranged balanced p free_point F, odd_down xs arranged balanced p free_point F) (round_windings (column_weights (is_under p) xs p.x) (weights_up_to xs p.x p) (column_weights (is_under p) xs (p.x -ℤ pos 1)) (weights_up_to xs (p.x -ℤ pos 1) p))
+      sum_ends : gain_in ≡ sum_of (gain_of G xs) (filter (λ s. spans (p.x -ℤ pos 1) s.pair && point_eq s.pair.b p) xs) +ℤ sum_of (λ u. when (is_vertical u.pair && point_eq u.pair.b p) (gain_of G xs u)) xs
+      sum_ends =
+          sum_of-same_in (λ u. when (point_eq u.pair.b p) (gain_of G xs u)) (λ u. when (spans (p.x -ℤ pos 1) u.pair && point_eq u.pair.b p) (gain_of G xs u) +ℤ when (is_vertical u.pair && point_eq u.pair.b p) (gain_of G xs u)) xs (λ u m. two_kinds (spans (p.x -ℤ pos 1) u.pair) (is_vertical u.pair) (point_eq u.pair.b p) (gain_of G xs u) (end_kinds u m))
+          ∙ sum_of-add _ (λ u. when (spans (p.x -ℤ pos 1) u.pair && point_eq u.pair.b p) (gain_of G xs u)) (λ u. when (is_vertical u.pair && point_eq u.pair.b p) (gain_of G xs u)) xs (λ u. refl)
+          ∙ ap (λ (z : ℤ). z +ℤ sum_of (λ u. when (is_vertical u.pair && point_eq u.pair.b p) (gain_of G xs u)) xs) (sym (sum_of-filter (λ s. spans (p.x -ℤ pos 1) s.pair && point_eq s.pair.b p) (gain_of G xs) xs))
 
-  nowhere : ((u : WholeSegment) → Has xs u → (point_eq u.pair.a p || point_eq u.pair.b p) ≡ false) → differ (odd_of (λ u. tells_sides_of F xs u && point_eq u.pair.a p) xs) (odd_of (λ u. tells_sides_of F xs u && point_eq u.pair.b p) xs) ≡ false
-  nowhere none =
-      rw (odd_of-nothing (λ u. tells_sides_of F xs u && point_eq u.pair.a p) xs (λ u m. and_right _ _ (or_parts (point_eq u.pair.a p) (point_eq u.pair.b p) (none u m)).0), odd_of-nothing (λ u. tells_sides_of F xs u && point_eq u.pair.b p) xs (λ u m. and_right _ _ (or_parts (point_eq u.pair.a p) (point_eq u.pair.b p) (none u m)).1)) refl
+      round_windings : (r0 r1 l0 l1 : Winding) → gain G r0 r1 +ℤ gain G r1 l1 ≡ gain G l0 l1 +ℤ gain G r0 l0
+      round_windings r0 r1 l0 l1 = round_vertex (G r0.subj r0.clip) (G r1.subj r1.clip) (G l0.subj l0.clip) (G l1.subj l1.clip)
+
+      together : gain_out ≡ gain_in
+      together = rw (sum_starts, sum_ends, gain_right xs arranged balanced p free_point G, gain_up xs arranged balanced p free_point G, gain_left xs arranged balanced p free_point G, gain_down xs arranged balanced p free_point G) (round_windings (column_weights (is_under p) xs p.x) (weights_up_to xs p.x p) (column_weights (is_under p) xs (p.x -ℤ pos 1)) (weights_up_to xs (p.x -ℤ pos 1) p))
+
+    nowhere : ((u : WholeSegment) → Has xs u → (point_eq u.pair.a p || point_eq u.pair.b p) ≡ false) → gain_out ≡ gain_in
+    nowhere none =
+        sum_of-zero_in (λ u. when (point_eq u.pair.a p) (gain_of G xs u)) xs (λ u m. when_nothing _ (gain_of G xs u) (or_parts (point_eq u.pair.a p) (point_eq u.pair.b p) (none u m)).0)
+        ∙ sym (sum_of-zero_in (λ u. when (point_eq u.pair.b p) (gain_of G xs u)) xs (λ u m. when_nothing _ (gain_of G xs u) (or_parts (point_eq u.pair.a p) (point_eq u.pair.b p) (none u m)).1))
 
   -- an end of a segment lies strictly inside no other
   ends_are_free : (s : WholeSegment) → Has xs s → (point_eq s.pair.a p || point_eq s.pair.b p) ≡ true → (u : WholeSegment) → Has xs u → is_strictly_inside u.pair p ≡ true → ⊥
@@ -120,11 +110,24 @@ module _ (xs : List WholeSegment) (arranged : IsArranged xs) (balanced : IsBalan
         | inr e ↦ apart.b_around (ap (is_strictly_inside u.pair) (same_by_eq s.pair.b p e) ∙ inside)
       ]
 
-  even_at_point : differ (odd_of (λ u. tells_sides_of F xs u && point_eq u.pair.a p) xs) (odd_of (λ u. tells_sides_of F xs u && point_eq u.pair.b p) xs) ≡ false
-  even_at_point = by_any (λ u. point_eq u.pair.a p || point_eq u.pair.b p) xs (λ s m h. together (ends_are_free s m h)) nowhere
+  -- round a point nothing is gained: as much along what starts there as along what ends there
+  pub gain_at_point : (G : ℤ → ℤ → ℤ) → gain_out G ≡ gain_in G
+  gain_at_point G = by_any (λ u. point_eq u.pair.a p || point_eq u.pair.b p) xs (λ s m h. together G (ends_are_free s m h)) (nowhere G)
 
-  pub even_degree_at : (length (filter (λ u. tells_sides_of F xs u && point_eq u.pair.a p) xs) + length (filter (λ u. tells_sides_of F xs u && point_eq u.pair.b p) xs)) % 2 ≡ 0
-  even_degree_at = even_by_flags (length (filter (λ u. tells_sides_of F xs u && point_eq u.pair.a p) xs)) (length (filter (λ u. tells_sides_of F xs u && point_eq u.pair.b p) xs)) _ _ (odd_of_is (λ u. tells_sides_of F xs u && point_eq u.pair.a p) xs) (odd_of_is (λ u. tells_sides_of F xs u && point_eq u.pair.b p) xs) even_at_point
+  -- so of the segments whose sides a truth function tells apart evenly many start or end there
+  module _ (F : ℤ → ℤ → Bool) where
+    odd_at_point : (test : WholeSegment → Bool) → HasParity (sum_of (λ u. when (test u) (gain_of (λ b c. truth (F b c)) xs u)) xs) (odd_of (λ u. tells_sides_of F xs u && test u) xs)
+    odd_at_point test = parity_of_sum (λ u. when (test u) (gain_of (λ b c. truth (F b c)) xs u)) (λ u. tells_sides_of F xs u && test u) xs
+        (λ u. parity_where (test u) (tells_sides_of F xs u) (gain_of (λ b c. truth (F b c)) xs u) (parity_of_gain (F (side_bottom xs u).subj (side_bottom xs u).clip) (F (side_top xs u).subj (side_top xs u).clip)))
+
+    odd_alike : odd_of (λ u. tells_sides_of F xs u && point_eq u.pair.a p) xs ≡ odd_of (λ u. tells_sides_of F xs u && point_eq u.pair.b p) xs
+    odd_alike =
+        let start = odd_at_point (λ u. point_eq u.pair.a p) in
+        let end = odd_at_point (λ u. point_eq u.pair.b p) in
+        same_parity (gain_in (λ b c. truth (F b c))) _ _ (start.0, sym (gain_at_point (λ b c. truth (F b c))) ∙ start.1) end
+
+    pub even_degree_at : (length (filter (λ u. tells_sides_of F xs u && point_eq u.pair.a p) xs) + length (filter (λ u. tells_sides_of F xs u && point_eq u.pair.b p) xs)) % 2 ≡ 0
+    even_degree_at = even_by_flags (length (filter (λ u. tells_sides_of F xs u && point_eq u.pair.a p) xs)) (length (filter (λ u. tells_sides_of F xs u && point_eq u.pair.b p) xs)) _ _ (odd_of_is (λ u. tells_sides_of F xs u && point_eq u.pair.a p) xs) (odd_of_is (λ u. tells_sides_of F xs u && point_eq u.pair.b p) xs) odd_alike
 
 -- how many segments whose sides a rule tells apart start or end at a point: an even number
 pub even_sides : (fill_rule : FillRule) (rule : Bool → Bool → Bool) (segments : List WholeSegment) → IsTrue (is_map segments) → IsTrue (is_planar segments) → IsBalanced segments → (p : Point) →

@@ -1,9 +1,9 @@
--- Round a point, the vertical segments: from below and upward at most one each, with the windings of the two chains beside it. Together evenly many segments meet at a point whose sides a truth function tells apart.
+-- Round a point, the vertical segments: from below and upward at most one each, with the windings of the two chains beside it. Along each a number of windings gains what it gains between the two columns.
 use Rattle.std.proofs.Common.{◌≡◌, ap, refl, sym, ◌∙◌, arith, inl, inr}
-use Rattle.std.specs.Prelude.{ℤ, pos, ◌+ℤ◌, ◌-ℤ◌, ◌*ℤ◌, ◌<ℤ◌, ◌≤ℤ◌, Bool, true, false, cond, ◌&&◌, ◌⊎◌, List, [], ◌∷◌, filter}
+use Rattle.std.specs.Prelude.{ℤ, pos, ◌+ℤ◌, ◌-ℤ◌, ◌*ℤ◌, ◌<ℤ◌, ◌≤ℤ◌, Bool, true, false, ◌&&◌, ◌⊎◌, List, [], ◌∷◌, filter}
 use Rattle.std.specs.Ordering.{int_eq}
 use Rattle.std.proofs.lemmas.Int.{ints, by_lt_z}
-use Rattle.std.proofs.lemmas.Bool.{and_parts, and_from, and_left, cases_Bool, both_ways, false_from_ne_true, not-true}
+use Rattle.std.proofs.lemmas.Bool.{and_parts, and_from, cases_Bool, both_ways, false_from_ne_true, not-true}
 use Rattle.std.proofs.lemmas.Bool.Decides.{Decides-int_eq}
 use Rattle.overlay_base.specs.Points.{Point, Pair, turn, point_eq, pair_eq, pair_cmp, pair_lt, is_vertical, is_strictly_inside}
 use Rattle.overlay_base.specs.Sorting.{is_strictly_sorted}
@@ -12,60 +12,37 @@ use Rattle.overlay_base.specs.Segments.{WholeSegment, pairs, total_weight}
 use Rattle.overlay_base.specs.Balance.{IsBalanced}
 use Rattle.overlay_base.specs.Below.{width}
 use Rattle.overlay_sweep.specs.ColumnWindings.{weights_up_to, right_winding, left_winding, side_bottom, side_top}
-use Rattle.overlay_base.specs.Rules.{differ}
 use Rattle.overlay_base.proofs.laws.geometry.Polynomials.{mul-pos, mul-neg, cancel-pos, cancel-neg}
 use Rattle.overlay_base.proofs.laws.geometry.Points.{same_point, same_pair, same_by_eq, point_eq_same, pair_eq_same, from_not_same_pair, inside_from_order}
 use Rattle.overlay_base.proofs.laws.geometry.Apart.{do_cross_from}
-use Rattle.overlay_sweep.proofs.laws.columns.WeightSums.{when}
+use Rattle.overlay_sweep.proofs.laws.columns.WeightSums.{when, sum_of}
 use Rattle.overlay_sweep.proofs.laws.columns.ColumnLines.{le-test, le-test_false, lt-test, lt-test_false, le-tested, lt-tested, spans_parts, point_lt-cases, is_under, is_up_to, lies_under, lies_up_to, leaves_upward, turn_over_start, turn_over_end, column_weights, filter_weights_are, across_under, across_up_to}
-use Rattle.overlay_sweep.proofs.laws.columns.Parity.{odd_of, differ_false, differ_same}
 use Rattle.overlay_sweep.proofs.laws.columns.ColumnOrder.{IsApart}
 use Rattle.overlay_sweep.proofs.laws.columns.AlongSegments.{turn_upright, turn_higher}
 use Rattle.overlay_sweep.proofs.laws.columns.Members.{IsArranged, sorted_all, sorted_tail, differ_when_less}
-use Rattle.overlay_sweep.proofs.laws.live.Sides.{sum_of-zero_in, column_weights-same, apart_in, itself_rises, rises_is}
-use Rattle.overlay_build.proofs.laws.sides.Vertices.{tells, tells_sides_of, odd_of-same_in}
+use Rattle.overlay_sweep.proofs.laws.live.Sides.{sum_of-same_in, sum_of-zero_in, column_weights-same, apart_in, itself_rises, rises_is}
+use Rattle.overlay_build.proofs.laws.sides.Vertices.{gain, gain_of}
 use Rattle.overlay_base.proofs.laws.lists.Lists.{Has, list_all-at}
 
--- ---- parities of parts of a list
+-- ---- sums over parts of a list
 
-pub odd_of-filter : {X : Type 0} (test k : X → Bool) (xs : List X) → odd_of k (filter test xs) ≡ odd_of (λ x. test x && k x) xs
-odd_of-filter test k [] = refl
-odd_of-filter test k (x ∷ xs) = elim (test x) as (λ b. odd_of k (cond b (x ∷ filter test xs) (filter test xs)) ≡ differ (b && k x) (odd_of (λ y. test y && k y) xs)) [ true ↦ ap (differ (k x)) (odd_of-filter test k xs) | false ↦ odd_of-filter test k xs ]
-
-four : (a b c d : Bool) → differ (differ a b) (differ c d) ≡ differ (differ a c) (differ b d)
-four true true true true = refl
-four true true true false = refl
-four true true false true = refl
-four true true false false = refl
-four true false true true = refl
-four true false true false = refl
-four true false false true = refl
-four true false false false = refl
-four false true true true = refl
-four false true true false = refl
-four false true false true = refl
-four false true false false = refl
-four false false true true = refl
-four false false true false = refl
-four false false false true = refl
-four false false false false = refl
-
-pub odd_of-differ : {X : Type 0} (p q : X → Bool) (xs : List X) → odd_of (λ x. differ (p x) (q x)) xs ≡ differ (odd_of p xs) (odd_of q xs)
-odd_of-differ p q [] = refl
-odd_of-differ p q (x ∷ xs) = ap (differ (differ (p x) (q x))) (odd_of-differ p q xs) ∙ four (p x) (q x) (odd_of p xs) (odd_of q xs)
-
-pub odd_of-nothing : {X : Type 0} (p : X → Bool) (xs : List X) → ((x : X) → Has xs x → p x ≡ false) → odd_of p xs ≡ false
-odd_of-nothing p [] h = refl
-odd_of-nothing p (x ∷ xs) h = rw (h x (inl refl), odd_of-nothing p xs (λ y m. h y (inr m))) refl
+pub when_nothing : (b : Bool) (z : ℤ) → b ≡ false → when b z ≡ pos 0
+when_nothing b z e = rw e refl
 
 -- one segment of an arrangement
-pub single_odd : (k : WholeSegment → Bool) (t : WholeSegment) (xs : List WholeSegment) → is_strictly_sorted pair_cmp (pairs xs) ≡ true → Has xs t → odd_of (λ u. pair_eq u.pair t.pair && k u) xs ≡ k t
-single_odd k t [] h m = absurd m
-single_odd k t (x ∷ xs) h (inl e) =
-    let rest : odd_of (λ u. pair_eq u.pair t.pair && k u) xs ≡ false = odd_of-nothing (λ u. pair_eq u.pair t.pair && k u) xs (λ y n. and_left _ _ (from_not_same_pair y.pair t.pair (λ q. differ_when_less x.pair y.pair (list_all-at (λ z. pair_lt x.pair z.pair) xs y (sorted_all x xs h) n) (ap (λ (u : WholeSegment). u.pair) e ∙ sym q)))) in
+pub single_sum : (g : WholeSegment → ℤ) (t : WholeSegment) (xs : List WholeSegment) → is_strictly_sorted pair_cmp (pairs xs) ≡ true → Has xs t → sum_of (λ u. when (pair_eq u.pair t.pair) (g u)) xs ≡ g t
+single_sum g t [] h m = absurd m
+single_sum g t (x ∷ xs) h (inl e) =
+    let rest : sum_of (λ u. when (pair_eq u.pair t.pair) (g u)) xs ≡ pos 0 = sum_of-zero_in (λ u. when (pair_eq u.pair t.pair) (g u)) xs (λ y n. when_nothing _ (g y) (from_not_same_pair y.pair t.pair (λ q. differ_when_less x.pair y.pair (list_all-at (λ z. pair_lt x.pair z.pair) xs y (sorted_all x xs h) n) (ap (λ (u : WholeSegment). u.pair) e ∙ sym q)))) in
     let here : pair_eq x.pair t.pair ≡ true = ap (λ (u : WholeSegment). pair_eq u.pair t.pair) e ∙ pair_eq_same t.pair in
-    rw (here, rest) (differ_false (k x) ∙ ap k e)
-single_odd k t (x ∷ xs) h (inr m) = rw (from_not_same_pair x.pair t.pair (differ_when_less x.pair t.pair (list_all-at (λ z. pair_lt x.pair z.pair) xs t (sorted_all x xs h) m))) (single_odd k t xs (sorted_tail x xs h) m)
+    rw (here, rest) (plus_nothing (g x) ∙ ap g e)
+  where
+    plus_nothing : (z : ℤ) → z +ℤ pos 0 ≡ z
+    plus_nothing z = omega (arith, ints)
+single_sum g t (x ∷ xs) h (inr m) = rw (from_not_same_pair x.pair t.pair (differ_when_less x.pair t.pair (list_all-at (λ z. pair_lt x.pair z.pair) xs t (sorted_all x xs h) m))) (nothing_plus _ ∙ single_sum g t xs (sorted_tail x xs h) m)
+  where
+    nothing_plus : (z : ℤ) → pos 0 +ℤ z ≡ z
+    nothing_plus z = omega (arith, ints)
 
 none_of : {X : Type 0} (p : X → Bool) (x : X) (xs : List X) → p x ≡ false → ((z : X) → Has xs z → p z ≡ false) → (y : X) → Has (x ∷ xs) y → p y ≡ false
 none_of p x xs e h y (inl q) = ap p (sym q) ∙ e
@@ -78,11 +55,14 @@ by_any p (x ∷ xs) f g = elim (cases_Bool (p x)) [
   | inr e ↦ by_any p xs (λ y m k. f y (inr m) k) (λ h. g (none_of p x xs e h))
 ]
 
-same_value : (F : ℤ → ℤ → Bool) (b c : ℤ) → differ (F b c) (F (b +ℤ pos 0) (c +ℤ pos 0)) ≡ false
-same_value F b c = let p : b +ℤ pos 0 ≡ b = omega (arith, ints) in let q : c +ℤ pos 0 ≡ c = omega (arith, ints) in rw (p, q) (differ_same (F b c))
+same_value : (G : ℤ → ℤ → ℤ) (b c : ℤ) → G (b +ℤ pos 0) (c +ℤ pos 0) -ℤ G b c ≡ pos 0
+same_value G b c = let p : b +ℤ pos 0 ≡ b = omega (arith, ints) in let q : c +ℤ pos 0 ≡ c = omega (arith, ints) in rw (p, q) (no_gain (G b c))
+  where
+    no_gain : (z : ℤ) → z -ℤ z ≡ pos 0
+    no_gain z = omega (arith, ints)
 
-tells_nothing : (F : ℤ → ℤ → Bool) (r l u : Winding) → add r u ≡ l → u ≡ empty → tells F r l ≡ false
-tells_nothing F r l u e z = ap (tells F r) (sym e ∙ ap (λ (w : Winding). add r w) z) ∙ same_value F r.subj r.clip
+gains_nothing : (G : ℤ → ℤ → ℤ) (r l u : Winding) → add r u ≡ l → u ≡ empty → gain G r l ≡ pos 0
+gains_nothing G r l u e z = ap (gain G r) (sym e ∙ ap (λ (w : Winding). add r w) z) ∙ same_value G r.subj r.clip
 
 no_weight : (test : Pair → Bool) (xs : List WholeSegment) → ((u : WholeSegment) → Has xs u → test u.pair ≡ false) → total_weight (filter (λ u. test u.pair) xs) ≡ empty
 no_weight test xs h =
@@ -140,7 +120,7 @@ module _ (s u : Pair) (e : s.a.x ≡ s.b.x) (h : s.a.y <ℤ s.b.y) (wu : u.a.x <
 
 -- ---- at a point that lies strictly inside no segment
 
-module _ (xs : List WholeSegment) (arranged : IsArranged xs) (balanced : IsBalanced xs) (p : Point) (free_point : (u : WholeSegment) → Has xs u → is_strictly_inside u.pair p ≡ true → ⊥) (F : ℤ → ℤ → Bool) where
+module _ (xs : List WholeSegment) (arranged : IsArranged xs) (balanced : IsBalanced xs) (p : Point) (free_point : (u : WholeSegment) → Has xs u → is_strictly_inside u.pair p ≡ true → ⊥) (G : ℤ → ℤ → ℤ) where
   abbrev starts_upright : WholeSegment → Bool
   starts_upright s = is_vertical s.pair && point_eq s.pair.a p
 
@@ -152,13 +132,13 @@ module _ (xs : List WholeSegment) (arranged : IsArranged xs) (balanced : IsBalan
       let e = (Decides-int_eq s.pair.a.x s.pair.b.x).0 v in
       elim (point_lt-cases s.pair.a s.pair.b (arranged.ordered s m)) [ inl w ↦ absurd (omega (arith, ints)) | inr h ↦ h ]
 
-  one_odd : (test : WholeSegment → Bool) (s : WholeSegment) → Has xs s → ((u : WholeSegment) → Has xs u → test u ≡ pair_eq u.pair s.pair) → odd_of (λ u. test u && tells_sides_of F xs u) xs ≡ tells_sides_of F xs s
-  one_odd test s m h = odd_of-same_in (λ u. test u && tells_sides_of F xs u) (λ u. pair_eq u.pair s.pair && tells_sides_of F xs u) xs (λ u n. ap (λ (b : Bool). b && tells_sides_of F xs u) (h u n)) ∙ single_odd (tells_sides_of F xs) s xs arranged.sorted m
+  one_gain : (test : WholeSegment → Bool) (s : WholeSegment) → Has xs s → ((u : WholeSegment) → Has xs u → test u ≡ pair_eq u.pair s.pair) → sum_of (λ u. when (test u) (gain_of G xs u)) xs ≡ gain_of G xs s
+  one_gain test s m h = sum_of-same_in (λ u. when (test u) (gain_of G xs u)) (λ u. when (pair_eq u.pair s.pair) (gain_of G xs u)) xs (λ u n. ap (λ (b : Bool). when b (gain_of G xs u)) (h u n)) ∙ single_sum (gain_of G xs) s xs arranged.sorted m
 
-  none_odd : (test : WholeSegment → Bool) → ((u : WholeSegment) → Has xs u → test u ≡ false) → odd_of (λ u. test u && tells_sides_of F xs u) xs ≡ false
-  none_odd test h = odd_of-nothing (λ u. test u && tells_sides_of F xs u) xs (λ u n. and_left _ _ (h u n))
+  none_gains : (test : WholeSegment → Bool) → ((u : WholeSegment) → Has xs u → test u ≡ false) → sum_of (λ u. when (test u) (gain_of G xs u)) xs ≡ pos 0
+  none_gains test h = sum_of-zero_in (λ u. when (test u) (gain_of G xs u)) xs (λ u n. when_nothing (test u) (gain_of G xs u) (h u n))
 
-  upright_sides : (s : WholeSegment) → is_vertical s.pair ≡ true → tells_sides_of F xs s ≡ tells F (right_winding xs s) (left_winding xs s)
+  upright_sides : (s : WholeSegment) → is_vertical s.pair ≡ true → gain_of G xs s ≡ gain G (right_winding xs s) (left_winding xs s)
   unfolding side_bottom side_top
   upright_sides s v = rw v refl
 
@@ -177,11 +157,11 @@ module _ (xs : List WholeSegment) (arranged : IsArranged xs) (balanced : IsBalan
         | inr e ↦ e ∙ sym (from_not_same_pair u.pair s.pair (λ q. both_ways _ e (ap (λ (r : Pair). is_vertical r && point_eq r.a p) q ∙ h)))
       ]
 
-  start_sides : (s : WholeSegment) → starts_upright s ≡ true → tells_sides_of F xs s ≡ tells F (weights_up_to xs p.x p) (weights_up_to xs (p.x -ℤ pos 1) p)
+  start_sides : (s : WholeSegment) → starts_upright s ≡ true → gain_of G xs s ≡ gain G (weights_up_to xs p.x p) (weights_up_to xs (p.x -ℤ pos 1) p)
   unfolding right_winding left_winding
   start_sides s h =
       let sp = and_parts (is_vertical s.pair) (point_eq s.pair.a p) h in
-      upright_sides s sp.0 ∙ ap (λ (q : Point). tells F (weights_up_to xs q.x q) (weights_up_to xs (q.x -ℤ pos 1) q)) (same_by_eq s.pair.a p sp.1)
+      upright_sides s sp.0 ∙ ap (λ (q : Point). gain G (weights_up_to xs q.x q) (weights_up_to xs (q.x -ℤ pos 1) q)) (same_by_eq s.pair.a p sp.1)
 
   passes : (u : WholeSegment) → Has xs u → is_vertical u.pair ≡ true → u.pair.a.x ≡ p.x → u.pair.a.y <ℤ p.y → p.y <ℤ u.pair.b.y → ⊥
   passes u n v x low high =
@@ -201,10 +181,10 @@ module _ (xs : List WholeSegment) (arranged : IsArranged xs) (balanced : IsBalan
       by_lt_z u.pair.a.y p.y (λ (l : u.pair.a.y <ℤ p.y). passes u n first.0 x l high)
       (λ (g : p.y ≤ℤ u.pair.a.y). both_ways (starts_upright u) (none u n) (and_from _ _ first.0 (ap (λ (q : Point). point_eq q p) (same_point u.pair.a p x (omega (arith, ints))) ∙ point_eq_same p))))
 
-  pub odd_up : odd_of (λ u. starts_upright u && tells_sides_of F xs u) xs ≡ tells F (weights_up_to xs p.x p) (weights_up_to xs (p.x -ℤ pos 1) p)
-  odd_up = by_any starts_upright xs
-      (λ s m h. one_odd starts_upright s m (λ u n. start_only_one s u m n h) ∙ start_sides s h)
-      (λ none. none_odd starts_upright none ∙ sym (tells_nothing F _ _ _ (across_up_to xs arranged.all_ordered balanced p) (no_weight (leaves_upward (lies_up_to p)) xs (none_leaves_up none))))
+  pub gain_up : sum_of (λ u. when (starts_upright u) (gain_of G xs u)) xs ≡ gain G (weights_up_to xs p.x p) (weights_up_to xs (p.x -ℤ pos 1) p)
+  gain_up = by_any starts_upright xs
+      (λ s m h. one_gain starts_upright s m (λ u n. start_only_one s u m n h) ∙ start_sides s h)
+      (λ none. none_gains starts_upright none ∙ sym (gains_nothing G _ _ _ (across_up_to xs arranged.all_ordered balanced p) (no_weight (leaves_upward (lies_up_to p)) xs (none_leaves_up none))))
 
   -- downward
   end_only_one : (s u : WholeSegment) → Has xs s → Has xs u → ends_upright s ≡ true → ends_upright u ≡ true → u.pair ≡ s.pair
@@ -239,15 +219,15 @@ module _ (xs : List WholeSegment) (arranged : IsArranged xs) (balanced : IsBalan
       let k = spans_parts x u.pair h in
       up_to_is_under s.pair u.pair su.0 su.1 (omega (arith, ints)) (elim near [ inl e ↦ omega (arith, ints) | inr e ↦ omega (arith, ints) ]) (elim near [ inl e ↦ omega (arith, ints) | inr e ↦ omega (arith, ints) ]) (apart_in xs arranged balanced s u m n))
 
-  end_sides : (s : WholeSegment) → Has xs s → ends_upright s ≡ true → tells_sides_of F xs s ≡ tells F (column_weights (is_under p) xs p.x) (column_weights (is_under p) xs (p.x -ℤ pos 1))
+  end_sides : (s : WholeSegment) → Has xs s → ends_upright s ≡ true → gain_of G xs s ≡ gain G (column_weights (is_under p) xs p.x) (column_weights (is_under p) xs (p.x -ℤ pos 1))
   unfolding right_winding left_winding
   end_sides s m h =
       let sp = and_parts (is_vertical s.pair) (point_eq s.pair.b p) h in
       let su = upright_of s m sp.0 in
       upright_sides s sp.0
       ∙ rw (end_level s m sp.0 s.pair.a.x (inl refl), end_level s m sp.0 (s.pair.a.x -ℤ pos 1) (inr refl)) refl
-      ∙ ap (λ (z : ℤ). tells F (column_weights (is_under s.pair.b) xs z) (column_weights (is_under s.pair.b) xs (z -ℤ pos 1))) su.0
-      ∙ ap (λ (q : Point). tells F (column_weights (is_under q) xs q.x) (column_weights (is_under q) xs (q.x -ℤ pos 1))) (same_by_eq s.pair.b p sp.1)
+      ∙ ap (λ (z : ℤ). gain G (column_weights (is_under s.pair.b) xs z) (column_weights (is_under s.pair.b) xs (z -ℤ pos 1))) su.0
+      ∙ ap (λ (q : Point). gain G (column_weights (is_under q) xs q.x) (column_weights (is_under q) xs (q.x -ℤ pos 1))) (same_by_eq s.pair.b p sp.1)
 
   none_leaves_under : ((u : WholeSegment) → Has xs u → ends_upright u ≡ false) → (u : WholeSegment) → Has xs u → leaves_upward (lies_under p) u.pair ≡ false
   none_leaves_under none u n = false_from_ne_true (leaves_upward (lies_under p) u.pair) (λ k.
@@ -262,7 +242,7 @@ module _ (xs : List WholeSegment) (arranged : IsArranged xs) (balanced : IsBalan
       by_lt_z p.y u.pair.b.y (λ (l : p.y <ℤ u.pair.b.y). passes u n first.0 x low l)
       (λ (g : u.pair.b.y ≤ℤ p.y). both_ways (ends_upright u) (none u n) (and_from _ _ first.0 (ap (λ (q : Point). point_eq q p) (same_point u.pair.b p (sym up.0 ∙ x) (omega (arith, ints))) ∙ point_eq_same p))))
 
-  pub odd_down : odd_of (λ u. ends_upright u && tells_sides_of F xs u) xs ≡ tells F (column_weights (is_under p) xs p.x) (column_weights (is_under p) xs (p.x -ℤ pos 1))
-  odd_down = by_any ends_upright xs
-      (λ s m h. one_odd ends_upright s m (λ u n. end_only s u m n h) ∙ end_sides s m h)
-      (λ none. none_odd ends_upright none ∙ sym (tells_nothing F _ _ _ (across_under xs arranged.all_ordered balanced p) (no_weight (leaves_upward (lies_under p)) xs (none_leaves_under none))))
+  pub gain_down : sum_of (λ u. when (ends_upright u) (gain_of G xs u)) xs ≡ gain G (column_weights (is_under p) xs p.x) (column_weights (is_under p) xs (p.x -ℤ pos 1))
+  gain_down = by_any ends_upright xs
+      (λ s m h. one_gain ends_upright s m (λ u n. end_only s u m n h) ∙ end_sides s m h)
+      (λ none. none_gains ends_upright none ∙ sym (gains_nothing G _ _ _ (across_under xs arranged.all_ordered balanced p) (no_weight (leaves_upward (lies_under p)) xs (none_leaves_under none))))

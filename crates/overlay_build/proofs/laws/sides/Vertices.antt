@@ -16,8 +16,7 @@ use Rattle.overlay_base.proofs.laws.geometry.Polynomials.{mul-pos, mul-neg}
 use Rattle.overlay_base.proofs.laws.geometry.Points.{same_point, same_by_eq, point_eq_same, at_a, at_b, inside_from_order, turn_same_outer, turn_same_last}
 use Rattle.overlay_sweep.proofs.laws.columns.WeightSums.{when, sum_of, sum_of-add, sum_of-filter}
 use Rattle.overlay_sweep.proofs.laws.columns.ColumnLines.{le-test, le-test_false, lt-test, lt-test_false, spans_parts, is_under, is_up_to, column_weights, column_weights_are}
-use Rattle.overlay_sweep.proofs.laws.columns.Parity.{odd_of}
-use Rattle.overlay_sweep.proofs.laws.columns.Chains.{is_pairwise, odd_along_chain}
+use Rattle.overlay_sweep.proofs.laws.columns.Chains.{is_pairwise, gain_along_chain}
 use Rattle.overlay_sweep.proofs.laws.columns.Heights.{gap, gap_back, gap_at_other_end, is_below_is}
 use Rattle.overlay_sweep.proofs.laws.columns.ColumnOrder.{by_sign, crosses_in_column, low-right, low-second, one_is_below, below_itself, is_below-trans}
 use Rattle.overlay_sweep.proofs.laws.columns.AlongSegments.{is_same_along, neg_of_neg, neg_of_pos}
@@ -26,17 +25,13 @@ use Rattle.overlay_sweep.proofs.laws.live.Supports.{is_beneath, below_is_beneath
 use Rattle.overlay_sweep.proofs.laws.live.Sides.{sum_of-same_in, apart_in}
 use Rattle.overlay_base.proofs.laws.lists.Lists.{Has, Has-filter_out, list_all-at, list_all-from_Has}
 
--- whether F tells two windings apart
-abbrev pub tells : (ℤ → ℤ → Bool) → Winding → Winding → Bool
-tells F b t = differ (F b.subj b.clip) (F t.subj t.clip)
+-- how much more G is at the one winding than at the other
+abbrev pub gain : (ℤ → ℤ → ℤ) → Winding → Winding → ℤ
+gain G b t = G t.subj t.clip -ℤ G b.subj b.clip
 
--- whether it tells the two sides of a segment apart
-abbrev pub tells_sides_of : (ℤ → ℤ → Bool) → List WholeSegment → WholeSegment → Bool
-tells_sides_of F xs s = tells F (side_bottom xs s) (side_top xs s)
-
-pub odd_of-same_in : {X : Type 0} (p q : X → Bool) (xs : List X) → ((x : X) → Has xs x → p x ≡ q x) → odd_of p xs ≡ odd_of q xs
-odd_of-same_in p q [] h = refl
-odd_of-same_in p q (x ∷ xs) h = rw (h x (inl refl), odd_of-same_in p q xs (λ y m. h y (inr m))) refl
+-- how much more it is at the top of a segment than at its bottom
+abbrev pub gain_of : (ℤ → ℤ → ℤ) → List WholeSegment → WholeSegment → ℤ
+gain_of G xs s = gain G (side_bottom xs s) (side_top xs s)
 
 -- members of a list that is sorted by pairs differ, so what holds of every two different ones holds pairwise
 pub pairwise_in : (below : WholeSegment → WholeSegment → Bool) (test : WholeSegment → Bool) (xs : List WholeSegment) → is_strictly_sorted pair_cmp (pairs xs) ≡ true →
@@ -113,44 +108,44 @@ module _ (xs : List WholeSegment) (arranged : IsArranged xs) (balanced : IsBalan
   pairwise_there = pairwise_in below_there is_there xs arranged.sorted
       (λ s t m n a b other. one_is_below x s.pair t.pair (and_parts (spans x s.pair) (at s.pair) a).0 (and_parts (spans x t.pair) (at t.pair) b).0 (apart_in xs arranged balanced s t m n) other)
 
-  module _ (F : ℤ → ℤ → Bool) where
-    same_sides : (b c b' c' d e d' e' : ℤ) → b ≡ b' → c ≡ c' → d ≡ d' → e ≡ e' → differ (F b c) (F d e) ≡ differ (F b' c') (F d' e')
-    same_sides b c b' c' d e d' e' p q r s = rw (p, q, r, s) refl
+  module _ (G : ℤ → ℤ → ℤ) where
+    same_gain : (b c b' c' d e d' e' : ℤ) → b ≡ b' → c ≡ c' → d ≡ d' → e ≡ e' → G d e -ℤ G b c ≡ G d' e' -ℤ G b' c'
+    same_gain b c b' c' d e d' e' p q r s = rw (p, q, r, s) refl
 
-    column_sides : (s : WholeSegment) → Has xs s → spans x s.pair ≡ true →
-        tells_sides_of F xs s ≡ differ (F (sum_of (λ u. when (spans x u.pair && is_below_in_column x u.pair s.pair) u.count.subj) xs) (sum_of (λ u. when (spans x u.pair && is_below_in_column x u.pair s.pair) u.count.clip) xs))
-        (F (sum_of (λ u. when (spans x u.pair && is_below_in_column x u.pair s.pair) u.count.subj) xs +ℤ s.count.subj) (sum_of (λ u. when (spans x u.pair && is_below_in_column x u.pair s.pair) u.count.clip) xs +ℤ s.count.clip))
+    column_gain : (s : WholeSegment) → Has xs s → spans x s.pair ≡ true →
+        gain_of G xs s ≡ G (sum_of (λ u. when (spans x u.pair && is_below_in_column x u.pair s.pair) u.count.subj) xs +ℤ s.count.subj) (sum_of (λ u. when (spans x u.pair && is_below_in_column x u.pair s.pair) u.count.clip) xs +ℤ s.count.clip)
+        -ℤ G (sum_of (λ u. when (spans x u.pair && is_below_in_column x u.pair s.pair) u.count.subj) xs) (sum_of (λ u. when (spans x u.pair && is_below_in_column x u.pair s.pair) u.count.clip) xs)
     unfolding column_top column_bottom
-    column_sides s m h =
+    column_gain s m h =
         let along = is_same_along xs s (arranged.free s m) balanced in
         rw (← along.below x h, ← along.above x h, column_weights_are (λ u. is_below_in_column x u s.pair) xs x) refl
 
-    abbrev chain_sides : WholeSegment → Bool
-    chain_sides s = differ (F (lowest (λ u. u.count.subj) +ℤ sum_of (λ t. when (below_there t s) t.count.subj) (filter is_there xs)) (lowest (λ u. u.count.clip) +ℤ sum_of (λ t. when (below_there t s) t.count.clip) (filter is_there xs)))
-        (F ((lowest (λ u. u.count.subj) +ℤ sum_of (λ t. when (below_there t s) t.count.subj) (filter is_there xs)) +ℤ s.count.subj) ((lowest (λ u. u.count.clip) +ℤ sum_of (λ t. when (below_there t s) t.count.clip) (filter is_there xs)) +ℤ s.count.clip))
+    abbrev chain_gain : WholeSegment → ℤ
+    chain_gain s = G ((lowest (λ u. u.count.subj) +ℤ sum_of (λ t. when (below_there t s) t.count.subj) (filter is_there xs)) +ℤ s.count.subj) ((lowest (λ u. u.count.clip) +ℤ sum_of (λ t. when (below_there t s) t.count.clip) (filter is_there xs)) +ℤ s.count.clip)
+        -ℤ G (lowest (λ u. u.count.subj) +ℤ sum_of (λ t. when (below_there t s) t.count.subj) (filter is_there xs)) (lowest (λ u. u.count.clip) +ℤ sum_of (λ t. when (below_there t s) t.count.clip) (filter is_there xs))
 
-    sides_there : (s : WholeSegment) → Has (filter is_there xs) s → tells_sides_of F xs s ≡ chain_sides s
-    sides_there s n =
+    gain_there : (s : WholeSegment) → Has (filter is_there xs) s → gain_of G xs s ≡ chain_gain s
+    gain_there s n =
         let k = there_in s n in
         let u = below_split (λ t. t.count.subj) s k.0 k.1 k.2 in
         let v = below_split (λ t. t.count.clip) s k.0 k.1 k.2 in
-        column_sides s k.0 k.1 ∙ same_sides _ _ _ _ _ _ _ _ u v (ap (λ (z : ℤ). z +ℤ s.count.subj) u) (ap (λ (z : ℤ). z +ℤ s.count.clip) v)
+        column_gain s k.0 k.1 ∙ same_gain _ _ _ _ _ _ _ _ u v (ap (λ (z : ℤ). z +ℤ s.count.subj) u) (ap (λ (z : ℤ). z +ℤ s.count.clip) v)
 
-    -- of the members an odd number have sides that F tells apart exactly when it tells what is just below p from what is just above
-    pub odd_there : odd_of (tells_sides_of F xs) (filter is_there xs) ≡ tells F (column_weights (is_under p) xs x) (weights_up_to xs x p)
+    -- the gains of the members add up to that from just below p to just above
+    pub sum_there : sum_of (gain_of G xs) (filter is_there xs) ≡ gain G (column_weights (is_under p) xs x) (weights_up_to xs x p)
     unfolding weights_up_to
-    odd_there =
+    sum_there =
         let there : list_all is_there (filter is_there xs) ≡ true = list_all-from_Has is_there (filter is_there xs) (λ s n. (Has-filter_out is_there xs s n).1) in
-        let chain = odd_along_chain below_there is_there
+        let chain = gain_along_chain below_there is_there
         (λ s t u a b c h k. is_below-trans x s.pair t.pair u.pair (and_parts (spans x s.pair) (at s.pair) a).0 (and_parts (spans x t.pair) (at t.pair) b).0 (and_parts (spans x u.pair) (at u.pair) c).0 h k)
-        (λ s a. below_itself x s.pair) F (λ s. s.count.subj) (λ s. s.count.clip) (lowest (λ s. s.count.subj)) (lowest (λ s. s.count.clip)) (filter is_there xs) there pairwise_there in
-        odd_of-same_in (tells_sides_of F xs) chain_sides (filter is_there xs) sides_there ∙ chain
-        ∙ same_sides _ _ _ _ _ _ _ _ (ap (λ (w : Winding). w.subj) (sym (column_weights_are (is_under p) xs x))) (ap (λ (w : Winding). w.clip) (sym (column_weights_are (is_under p) xs x)))
+        (λ s a. below_itself x s.pair) G (λ s. s.count.subj) (λ s. s.count.clip) (lowest (λ s. s.count.subj)) (lowest (λ s. s.count.clip)) (filter is_there xs) there pairwise_there in
+        sum_of-same_in (gain_of G xs) chain_gain (filter is_there xs) gain_there ∙ chain
+        ∙ same_gain _ _ _ _ _ _ _ _ (ap (λ (w : Winding). w.subj) (sym (column_weights_are (is_under p) xs x))) (ap (λ (w : Winding). w.clip) (sym (column_weights_are (is_under p) xs x)))
         (sym (up_to_split (λ s. s.count.subj)) ∙ ap (λ (w : Winding). w.subj) (sym (column_weights_are (is_up_to p) xs x))) (sym (up_to_split (λ s. s.count.clip)) ∙ ap (λ (w : Winding). w.clip) (sym (column_weights_are (is_up_to p) xs x)))
 
 -- ---- the two chains at a point that lies strictly inside no segment
 
-module _ (xs : List WholeSegment) (arranged : IsArranged xs) (balanced : IsBalanced xs) (p : Point) (free_point : (u : WholeSegment) → Has xs u → is_strictly_inside u.pair p ≡ true → ⊥) (F : ℤ → ℤ → Bool) where
+module _ (xs : List WholeSegment) (arranged : IsArranged xs) (balanced : IsBalanced xs) (p : Point) (free_point : (u : WholeSegment) → Has xs u → is_strictly_inside u.pair p ≡ true → ⊥) (G : ℤ → ℤ → ℤ) where
   starts_only : (u : WholeSegment) → Has xs u → spans p.x u.pair ≡ true → turn u.pair.a u.pair.b p ≡ pos 0 → point_eq u.pair.a p ≡ true
   starts_only u m h e =
       let k = spans_parts p.x u.pair h in
@@ -177,13 +172,13 @@ module _ (xs : List WholeSegment) (arranged : IsArranged xs) (balanced : IsBalan
       ap (λ (z : ℤ). is_below_in_column z u.pair s.pair) (sym x) ∙ below_is_beneath s.pair u.pair (ap (λ (z : ℤ). spans z u.pair) x ∙ hu) (apart_in xs arranged balanced s u n m) (omega (arith, ints))
 
   -- the segments that start at p, in the column to its right
-  pub odd_right : odd_of (tells_sides_of F xs) (filter (λ s. spans p.x s.pair && point_eq s.pair.a p) xs) ≡ tells F (column_weights (is_under p) xs p.x) (weights_up_to xs p.x p)
-  odd_right = odd_there xs arranged balanced p p.x (λ u. point_eq u.a p)
+  pub gain_right : sum_of (gain_of G xs) (filter (λ s. spans p.x s.pair && point_eq s.pair.a p) xs) ≡ gain G (column_weights (is_under p) xs p.x) (weights_up_to xs p.x p)
+  gain_right = sum_there xs arranged balanced p p.x (λ u. point_eq u.a p)
       (λ u m h e. ap (turn u.pair.a u.pair.b) (sym (same_by_eq u.pair.a p e)) ∙ turn_same_outer u.pair.a u.pair.b)
       starts_only
       (λ u s m n hu hs e up. start_order u s m n hu hs e ∙ or_left _ _ (lt-test (pos 0) (turn u.pair.a u.pair.b s.pair.a) (let same = ap (turn u.pair.a u.pair.b) (same_by_eq s.pair.a p e) in omega (arith, ints))))
       (λ u s m n hu hs e down. start_order u s m n hu hs e ∙ not_beneath s.pair u.pair (let same = ap (turn u.pair.a u.pair.b) (same_by_eq s.pair.a p e) in omega (arith, ints)))
-      F
+      G
 
   end_gap : (u s : WholeSegment) → point_eq s.pair.b p ≡ true → gap ((p.x -ℤ pos 1) +ℤ pos 1) u.pair s.pair ≡ width s.pair *ℤ turn u.pair.a u.pair.b p
   end_gap u s e =
@@ -212,7 +207,7 @@ module _ (xs : List WholeSegment) (arranged : IsArranged xs) (balanced : IsBalan
       is_below_is (p.x -ℤ pos 1) u.pair s.pair ∙ low-right (gap (p.x -ℤ pos 1) u.pair s.pair) (gap ((p.x -ℤ pos 1) +ℤ pos 1) u.pair s.pair) (omega (arith, ints))
 
   -- the segments that end at p, in the column to its left
-  pub odd_left : odd_of (tells_sides_of F xs) (filter (λ s. spans (p.x -ℤ pos 1) s.pair && point_eq s.pair.b p) xs) ≡ tells F (column_weights (is_under p) xs (p.x -ℤ pos 1)) (weights_up_to xs (p.x -ℤ pos 1) p)
-  odd_left = odd_there xs arranged balanced p (p.x -ℤ pos 1) (λ u. point_eq u.b p)
+  pub gain_left : sum_of (gain_of G xs) (filter (λ s. spans (p.x -ℤ pos 1) s.pair && point_eq s.pair.b p) xs) ≡ gain G (column_weights (is_under p) xs (p.x -ℤ pos 1)) (weights_up_to xs (p.x -ℤ pos 1) p)
+  gain_left = sum_there xs arranged balanced p (p.x -ℤ pos 1) (λ u. point_eq u.b p)
       (λ u m h e. ap (turn u.pair.a u.pair.b) (sym (same_by_eq u.pair.b p e)) ∙ turn_same_last u.pair.a u.pair.b)
-      ends_only end_under end_over F
+      ends_only end_under end_over G

@@ -1,13 +1,12 @@
--- A chain given in any order: each member stands on all members below it. The law of parity for such chains.
+-- A chain given in any order: each member stands on all members below it. Along it what a number gains from each member to the next adds up to what it gains between the two ends.
 use Rattle.std.proofs.Common.{◌≡◌, ap, refl, sym, ◌∙◌, arith, inl, inr}
-use Rattle.std.specs.Prelude.{ℤ, pos, ◌+ℤ◌, Bool, true, false, cond, ◌&&◌, List, [], ◌∷◌}
+use Rattle.std.specs.Prelude.{ℤ, pos, ◌+ℤ◌, ◌-ℤ◌, Bool, true, false, cond, ◌&&◌, List, [], ◌∷◌}
 use Rattle.std.specs.List.{list_all}
 use Rattle.std.proofs.lemmas.Int.{ints}
 use Rattle.std.proofs.lemmas.Bool.{and_parts, and_from, cases_Bool, false_from_ne_true, both_ways}
 use Rattle.overlay_base.proofs.laws.lists.Lists.{list_all-implied, list_all-and}
 use Rattle.overlay_base.specs.Rules.{differ}
 use Rattle.overlay_sweep.proofs.laws.columns.WeightSums.{when, sum_of}
-use Rattle.overlay_sweep.proofs.laws.columns.Parity.{odd_of, odd_of-same, differ_same, differ_exchange, differ-trans}
 
 pub sum_of-same_on : {X : Type 0} (f g : X → ℤ) (member : X → Bool) (xs : List X) → list_all member xs ≡ true → ((x : X) → member x ≡ true → f x ≡ g x) → sum_of f xs ≡ sum_of g xs
 sum_of-same_on f g member [] a h = refl
@@ -47,7 +46,7 @@ module _ {X : Type 0} (below : X → X → Bool) where
   sorted [] = []
   sorted (x ∷ xs) = inserted x (sorted xs)
 
-  -- ---- the order of a list changes neither sums nor parities
+  -- ---- the order of a list changes no sum
 
   sum_of-inserted : (g : X → ℤ) (x : X) (ys : List X) → sum_of g (inserted x ys) ≡ g x +ℤ sum_of g ys
   sum_of-inserted g x [] = refl
@@ -56,14 +55,6 @@ module _ {X : Type 0} (below : X → X → Bool) where
   sum_of-sorted : (g : X → ℤ) (xs : List X) → sum_of g (sorted xs) ≡ sum_of g xs
   sum_of-sorted g [] = refl
   sum_of-sorted g (x ∷ xs) = sum_of-inserted g x (sorted xs) ∙ ap (λ (z : ℤ). g x +ℤ z) (sum_of-sorted g xs)
-
-  odd_of-inserted : (t : X → Bool) (x : X) (ys : List X) → odd_of t (inserted x ys) ≡ differ (t x) (odd_of t ys)
-  odd_of-inserted t x [] = refl
-  odd_of-inserted t x (y ∷ ys) = elim (below x y) as (λ b. odd_of t (cond b (x ∷ y ∷ ys) (y ∷ inserted x ys)) ≡ differ (t x) (differ (t y) (odd_of t ys))) [ true ↦ refl | false ↦ ap (differ (t y)) (odd_of-inserted t x ys) ∙ differ_exchange (t y) (t x) (odd_of t ys) ]
-
-  odd_of-sorted : (t : X → Bool) (xs : List X) → odd_of t (sorted xs) ≡ odd_of t xs
-  odd_of-sorted t [] = refl
-  odd_of-sorted t (x ∷ xs) = odd_of-inserted t x (sorted xs) ∙ ap (differ (t x)) (odd_of-sorted t xs)
 
   list_all-inserted : (t : X → Bool) (x : X) (ys : List X) → list_all t (inserted x ys) ≡ (t x && list_all t ys)
   list_all-inserted t x [] = refl
@@ -97,7 +88,7 @@ module _ {X : Type 0} (below : X → X → Bool) where
         let cs = and_parts (list_all (λ y. are_compared x y) xs) (is_pairwise xs) c in
         is_sorted-inserted x (sorted xs) ms.0 (list_all-sorted member xs ∙ ms.1) (list_all-sorted (λ y. are_compared x y) xs ∙ cs.0) (is_sorted-sorted xs ms.1 cs.1)
 
-    -- ---- the law of parity
+    -- ---- the law of gains
 
     module _ (irreflexive : (x : X) → member x ≡ true → below x x ≡ false) where
       asymmetric : (x y : X) → member x ≡ true → member y ≡ true → below x y ≡ true → below y x ≡ false
@@ -112,36 +103,42 @@ module _ {X : Type 0} (below : X → X → Bool) where
           let rest : sum_of (λ t. when (below t y) (g t)) ys ≡ pos 0 = sum_of-nothing (λ t. when (below t y) (g t)) (λ z. member z && below y z) ys (list_all-and member (λ z. below y z) ys ms o) (λ z h. let hs = and_parts (member z) (below y z) h in rw (asymmetric y z my hs.0 hs.1) refl) in
           rw (irreflexive y my, rest) refl
 
-      module _ (F : ℤ → ℤ → Bool) (u v : X → ℤ) where
-        -- whether F tells the two sides of x apart, where the members of the chain stand on b and c
-        abbrev pub tells_sides : ℤ → ℤ → List X → X → Bool
-        tells_sides b c xs x = differ (F (b +ℤ sum_below u x xs) (c +ℤ sum_below v x xs)) (F ((b +ℤ sum_below u x xs) +ℤ u x) ((c +ℤ sum_below v x xs) +ℤ v x))
+      module _ (G : ℤ → ℤ → ℤ) (u v : X → ℤ) where
+        -- how much more G is above x than below it, where the members of the chain stand on b and c
+        abbrev pub gain_at : ℤ → ℤ → List X → X → ℤ
+        gain_at b c xs x = G ((b +ℤ sum_below u x xs) +ℤ u x) ((c +ℤ sum_below v x xs) +ℤ v x) -ℤ G (b +ℤ sum_below u x xs) (c +ℤ sum_below v x xs)
 
-        same_at : (b c b' c' d e d' e' : ℤ) → b ≡ b' → c ≡ c' → d ≡ d' → e ≡ e' → differ (F b c) (F d e) ≡ differ (F b' c') (F d' e')
-        same_at b c b' c' d e d' e' p q r s = rw (p, q, r, s) refl
+        same_gain : (b c b' c' d e d' e' : ℤ) → b ≡ b' → c ≡ c' → d ≡ d' → e ≡ e' → G d e -ℤ G b c ≡ G d' e' -ℤ G b' c'
+        same_gain b c b' c' d e d' e' p q r s = rw (p, q, r, s) refl
 
-        tells_sides-least : (b c : ℤ) (y : X) (ys : List X) → sum_below u y (y ∷ ys) ≡ pos 0 → sum_below v y (y ∷ ys) ≡ pos 0 → tells_sides b c (y ∷ ys) y ≡ differ (F b c) (F (b +ℤ u y) (c +ℤ v y))
-        tells_sides-least b c y ys hu hv = same_at _ _ _ _ _ _ _ _ (omega (arith, ints, hu)) (omega (arith, ints, hv)) (omega (arith, ints, hu)) (omega (arith, ints, hv))
+        gain_at-least : (b c : ℤ) (y : X) (ys : List X) → sum_below u y (y ∷ ys) ≡ pos 0 → sum_below v y (y ∷ ys) ≡ pos 0 → gain_at b c (y ∷ ys) y ≡ G (b +ℤ u y) (c +ℤ v y) -ℤ G b c
+        gain_at-least b c y ys hu hv = same_gain _ _ _ _ _ _ _ _ (omega (arith, ints, hu)) (omega (arith, ints, hv)) (omega (arith, ints, hu)) (omega (arith, ints, hv))
 
-        tells_sides-above : (b c : ℤ) (y x : X) (ys : List X) → below y x ≡ true → tells_sides b c (y ∷ ys) x ≡ tells_sides (b +ℤ u y) (c +ℤ v y) ys x
-        tells_sides-above b c y x ys h =
+        gain_at-above : (b c : ℤ) (y x : X) (ys : List X) → below y x ≡ true → gain_at b c (y ∷ ys) x ≡ gain_at (b +ℤ u y) (c +ℤ v y) ys x
+        gain_at-above b c y x ys h =
             let hu : sum_below u x (y ∷ ys) ≡ u y +ℤ sum_below u x ys = rw h refl in
             let hv : sum_below v x (y ∷ ys) ≡ v y +ℤ sum_below v x ys = rw h refl in
-            same_at _ _ _ _ _ _ _ _ (omega (arith, ints, hu)) (omega (arith, ints, hv)) (omega (arith, ints, hu)) (omega (arith, ints, hv))
+            same_gain _ _ _ _ _ _ _ _ (omega (arith, ints, hu)) (omega (arith, ints, hv)) (omega (arith, ints, hu)) (omega (arith, ints, hv))
 
-        in_order : (b c : ℤ) (ys : List X) → list_all member ys ≡ true → is_sorted ys ≡ true → odd_of (tells_sides b c ys) ys ≡ differ (F b c) (F (b +ℤ sum_of u ys) (c +ℤ sum_of v ys))
-        in_order b c [] m o = sym (differ_same (F b c)) ∙ same_at _ _ _ _ _ _ _ _ refl refl (omega (arith, ints)) (omega (arith, ints))
-        in_order b c (y ∷ ys) m o =
+        no_gain : (z : ℤ) → pos 0 ≡ z -ℤ z
+        no_gain z = omega (arith, ints)
+
+        two_gains : (x y z : ℤ) → (y -ℤ x) +ℤ (z -ℤ y) ≡ z -ℤ x
+        two_gains x y z = omega (arith, ints)
+
+        gains_in_order : (b c : ℤ) (ys : List X) → list_all member ys ≡ true → is_sorted ys ≡ true → sum_of (gain_at b c ys) ys ≡ G (b +ℤ sum_of u ys) (c +ℤ sum_of v ys) -ℤ G b c
+        gains_in_order b c [] m o = no_gain (G b c) ∙ same_gain _ _ _ _ _ _ _ _ refl refl (omega (arith, ints)) (omega (arith, ints))
+        gains_in_order b c (y ∷ ys) m o =
             let ms = and_parts (member y) (list_all member ys) m in
             let os = and_parts (list_all (λ z. below y z) ys) (is_sorted ys) o in
-            let first = tells_sides-least b c y ys (sum_below-least u y ys ms.0 ms.1 os.0) (sum_below-least v y ys ms.0 ms.1 os.0) in
-            let rest = odd_of-same (tells_sides b c (y ∷ ys)) (tells_sides (b +ℤ u y) (c +ℤ v y) ys) (λ z. below y z) ys os.0 (λ x h. tells_sides-above b c y x ys h) in
-            let more = in_order (b +ℤ u y) (c +ℤ v y) ys ms.1 os.1 in
-            rw (first, rest, more, differ-trans (F b c) (F (b +ℤ u y) (c +ℤ v y)) _) (same_at _ _ _ _ _ _ _ _ refl refl (omega (arith, ints)) (omega (arith, ints)))
+            let first = gain_at-least b c y ys (sum_below-least u y ys ms.0 ms.1 os.0) (sum_below-least v y ys ms.0 ms.1 os.0) in
+            let rest = sum_of-same_on (gain_at b c (y ∷ ys)) (gain_at (b +ℤ u y) (c +ℤ v y) ys) (λ z. below y z) ys os.0 (λ x h. gain_at-above b c y x ys h) in
+            let more = gains_in_order (b +ℤ u y) (c +ℤ v y) ys ms.1 os.1 in
+            rw (first, rest, more) (two_gains (G b c) (G (b +ℤ u y) (c +ℤ v y)) _ ∙ same_gain _ _ _ _ _ _ _ _ refl refl (omega (arith, ints)) (omega (arith, ints)))
 
-        -- Of the members of a chain an odd number have sides that F tells apart exactly when F tells the chain's two ends apart.
-        pub odd_along_chain : (b c : ℤ) (xs : List X) → list_all member xs ≡ true → is_pairwise xs ≡ true → odd_of (tells_sides b c xs) xs ≡ differ (F b c) (F (b +ℤ sum_of u xs) (c +ℤ sum_of v xs))
-        odd_along_chain b c xs m o =
+        -- The gains of the members of a chain add up to the gain from the chain's one end to its other.
+        pub gain_along_chain : (b c : ℤ) (xs : List X) → list_all member xs ≡ true → is_pairwise xs ≡ true → sum_of (gain_at b c xs) xs ≡ G (b +ℤ sum_of u xs) (c +ℤ sum_of v xs) -ℤ G b c
+        gain_along_chain b c xs m o =
             let ms = list_all-sorted member xs ∙ m in
-            let same = odd_of-same (tells_sides b c xs) (tells_sides b c (sorted xs)) member (sorted xs) ms (λ x _. rw (sum_of-sorted (λ t. when (below t x) (u t)) xs, sum_of-sorted (λ t. when (below t x) (v t)) xs) refl) in
-            sym (odd_of-sorted (tells_sides b c xs) xs) ∙ same ∙ in_order b c (sorted xs) ms (is_sorted-sorted xs m o) ∙ rw (sum_of-sorted u xs, sum_of-sorted v xs) refl
+            let same = sum_of-same_on (gain_at b c xs) (gain_at b c (sorted xs)) member (sorted xs) ms (λ x _. rw (sum_of-sorted (λ t. when (below t x) (u t)) xs, sum_of-sorted (λ t. when (below t x) (v t)) xs) refl) in
+            sym (sum_of-sorted (gain_at b c xs) xs) ∙ same ∙ gains_in_order b c (sorted xs) ms (is_sorted-sorted xs m o) ∙ rw (sum_of-sorted u xs, sum_of-sorted v xs) refl
