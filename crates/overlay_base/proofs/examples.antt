@@ -7,3 +7,4 @@ pub mod Counts
 pub mod Joins
 pub mod DataJoins
 pub mod Rules
+pub mod Rays

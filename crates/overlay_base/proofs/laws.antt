@@ -3,3 +3,4 @@ pub mod lists
 pub mod geometry
 pub mod counts
 pub mod joins
+pub mod rays

@@ -1,5 +1,5 @@
 -- Laws over the definitions: statements that the contracts of `segm::laws` and `geom::laws` name.
-use Rattle.std.specs.Prelude.{◌≡◌, ◌↔◌, ℤ, pos, ◌+ℤ◌, neg_ℤ, Bool, IsTrue, IsFalse, List, ◌++◌, filter, length, ◌≤◌, IsPermutation}
+use Rattle.std.specs.Prelude.{◌≡◌, ◌↔◌, ◌<◌, ℤ, pos, ◌+ℤ◌, ◌-ℤ◌, neg_ℤ, Bool, IsTrue, IsFalse, List, [], ◌++◌, filter, length, ◌≤◌, IsPermutation}
 use Rattle.std.specs.List.{list_any}
 use Rattle.std.specs.Cmp.{IsTotalOrder, IsStrictWeakOrder}
 use Rattle.std.specs.List.Sorted.{IsSorted, IsSortedByKey, IsStable, IsStableByKey}
@@ -12,7 +12,10 @@ use Rattle.overlay_base.specs.Windings.{Winding, add, empty, inverse, weight, is
 use Rattle.overlay_base.specs.Segments.{WholeSegment, pairs, is_map, are_ordered, winding_at}
 use Rattle.overlay_base.specs.Sums.{IsCommutativeMonoid, IsLinear, weighed}
 use Rattle.overlay_base.specs.Join.{join, has_equal_pairs, has_equal_neighbors, running_sums, join_leaves_range}
-use Rattle.overlay_base.specs.Balance.{KeepsBalance}
+use Rattle.overlay_base.specs.Balance.{IsBalanced, KeepsBalance}
+use Rattle.overlay_base.specs.Places.{RationalPoint, winding_below}
+use Rattle.overlay_base.specs.Rays.{is_on_none, winding_above, winding_left, winding_right}
+use Rattle.overlay_base.specs.BalanceTest.{end_counts}
 use Rattle.overlay_base.specs.EdgeData.{Hooks, DataSegment, without_data, data_join}
 
 -- ---- turns
@@ -162,3 +165,22 @@ StableSortIsUnique X = (cmp : X → X → Ordering) → IsStrictWeakOrder (λ x 
 -- and that list has the elements of the given one, in order, with ties as they stood
 abbrev pub StablySortedIsStable : (X : Type 0) → Type 0
 StablySortedIsStable X = (cmp : X → X → Ordering) → IsStrictWeakOrder (λ x y. is_lt (cmp x y)) → (xs : List X) → IsSorted cmp (stably_sorted cmp xs) × IsStable cmp xs (stably_sorted cmp xs) × IsPermutation xs (stably_sorted cmp xs)
+
+-- ---- rays
+
+-- Whatever number a function gives each point: along balanced segments as much of it is lost as is gained.
+abbrev pub BalancedLosesNothing : Type 0
+BalancedLosesNothing =
+    (f : Point → ℤ) (segments : List WholeSegment) → IsBalanced segments →
+    (weighed (λ s. f s.a -ℤ f s.b) (λ c. c.subj) segments ≡ pos 0) × (weighed (λ s. f s.a -ℤ f s.b) (λ c. c.clip) segments ≡ pos 0)
+
+-- The winding round a place is told by any of its four rays: balanced segments, none of which goes through p, wind there by what is above it, to the left of it
+-- and to the right of it as by what is below it.
+abbrev pub AnyRayWillDo : Type 0
+AnyRayWillDo =
+    (segments : List WholeSegment) (p : RationalPoint) → IsTrue (are_ordered segments) → IsBalanced segments → 0 < p.bottom → IsTrue (is_on_none segments p) →
+    (winding_above segments p ≡ winding_below segments p) × (winding_left segments p ≡ winding_below segments p) × (winding_right segments p ≡ winding_below segments p)
+
+-- A list is balanced exactly where the counts at its ends, joined, are none.
+abbrev pub BalanceIsTested : Type 0
+BalanceIsTested = (segments : List WholeSegment) → (join (end_counts segments) ≡ []) ↔ IsBalanced segments

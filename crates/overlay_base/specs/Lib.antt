@@ -32,3 +32,5 @@ pub mod ClipRules
 pub mod RuleNames
 pub mod Laws
 pub mod Places
+pub mod Rays
+pub mod BalanceTest

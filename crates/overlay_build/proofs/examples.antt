@@ -3,3 +3,4 @@ pub mod Computing
 pub mod Graphs
 pub mod Boundaries
 pub mod Walks
+pub mod Beside

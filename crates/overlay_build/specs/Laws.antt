@@ -10,12 +10,14 @@ use Rattle.overlay_base.specs.declared.overlay_core.clip_rule.ClipRule.{ClipRule
 use Rattle.overlay_base.specs.declared.overlay_core.fill_rule.FillRule.{FillRule}
 use Rattle.overlay_base.specs.Planar.{is_planar}
 use Rattle.overlay_base.specs.Balance.{IsBalanced}
+use Rattle.overlay_base.specs.Places.{RationalPoint}
 use Rattle.overlay_sweep.specs.Fill.{fill_byte}
 use Rattle.overlay_build.specs.Graph.{graph_by, data_by, has_even_nodes, is_valid_graph, without_nodes}
 use Rattle.overlay_build.specs.Values.{tells_apart}
 use Rattle.overlay_build.specs.Regions.{EnclosesRegion}
 use Rattle.overlay_build.specs.Boundary.{BoundsRegion}
 use Rattle.overlay_build.specs.Sides.{overlay_graph}
+use Rattle.overlay_build.specs.Beside.{is_on_top_of, is_at_bottom_of, TellsPlaces, FillTellsPlaces}
 use Rattle.overlay_build.specs.Lines.{CountsLines, keeps_between, clip_graph}
 
 -- a fill without a mask is kept where the windings' values differ
@@ -63,6 +65,16 @@ abbrev pub GraphsBoundRegions : Type 0
 GraphsBoundRegions =
     (fill_rule : FillRule) (rule : Bool → Bool → Bool) (segments : List WholeSegment) → IsTrue (is_map segments) → IsTrue (are_polygons segments) → IsTrue (is_planar segments) → IsBalanced segments →
     BoundsRegion rule fill_rule segments (graph_by (keeps_fill rule) fill_rule segments)
+-- Of balanced, planar segments: the windings of the two sides of each are those of the places directly beside it.
+abbrev pub SidesTellPlaces : Type 0
+SidesTellPlaces = (segments : List WholeSegment) → IsTrue (is_map segments) → IsTrue (is_planar segments) → IsBalanced segments → All (TellsPlaces segments) segments
+
+-- So the fill of each tells how the segments wind at any two places directly beside it, one on each side.
+abbrev pub FillsTellPlaces : Type 0
+FillsTellPlaces =
+    (fill_rule : FillRule) (rule : Bool → Bool → Bool) (segments : List WholeSegment) → IsTrue (is_map segments) → IsTrue (is_planar segments) → IsBalanced segments →
+    (p q : RationalPoint) → 0 < p.bottom → 0 < q.bottom →
+    All (λ s. IsTrue (is_on_top_of segments s.pair p) → IsTrue (is_at_bottom_of segments s.pair q) → FillTellsPlaces rule fill_rule segments s p q) segments
 
 -- The links that a test keeps of the graph of all segments are, but for the numbers of their nodes, those of the test's graph, in the same order.
 abbrev pub FilterGivesLinks : Type 0

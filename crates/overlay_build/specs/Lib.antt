@@ -4,6 +4,7 @@ pub mod Values
 pub mod Regions
 pub mod Boundary
 pub mod Sides
+pub mod Beside
 pub mod Lines
 pub mod GraphOf
 pub mod OverlayGraphOf

@@ -1,5 +1,5 @@
 -- Laws over the definitions, each a statement that is proved once and named by a contract.
-use Rattle.std.specs.Prelude.{◌≡◌, ◌<◌, ◌≤◌, ℕ, ◌*◌, ℤ, ◌-ℤ◌, ◌*ℤ◌, ◌||◌, IsTrue, ◌+◌, ◌-◌, neg_ℤ, Bool, false, IsFalse, List, Contains, length, min, ◌^◌, ◌/◌}
+use Rattle.std.specs.Prelude.{◌≡◌, ◌<◌, ◌≤◌, ℕ, ◌*◌, ℤ, ◌-ℤ◌, ◌*ℤ◌, ◌||◌, IsTrue, ◌+◌, ◌-◌, neg_ℤ, Bool, false, IsFalse, List, Contains, IsPermutation, length, min, ◌^◌, ◌/◌}
 use Rattle.std.specs.List.{list_all}
 use Rattle.overlay_base.specs.Points.{Point, Pair, is_vertical, is_horizontal, is_within_box_of}
 use Rattle.overlay_base.specs.Meeting.{do_cross}
@@ -8,7 +8,7 @@ use Rattle.overlay_base.specs.Segments.{WholeSegment, pairs, ends, is_map, are_o
 use Rattle.overlay_base.specs.Sums.{IsLinear, weighed}
 use Rattle.overlay_base.specs.Join.{join}
 use Rattle.overlay_base.specs.Planar.{is_planar}
-use Rattle.overlay_base.specs.Balance.{KeepsBalance}
+use Rattle.overlay_base.specs.Balance.{IsBalanced, KeepsBalance}
 use Rattle.overlay_base.specs.EdgeData.{Hooks, DataSegment, SplitCall, MergeCall, without_data}
 use Rattle.overlay_marks.specs.Crossing.{is_exact, snapping_point, settling_point}
 use Rattle.overlay_marks.specs.Marks.{Placing, ordered_mark, settling}
@@ -19,6 +19,7 @@ use Rattle.overlay_split.specs.Run.{Settings, IsPassCount, IsRun, LeavesRange, a
 use Rattle.overlay_split.specs.Potential.{potential}
 use Rattle.overlay_split.specs.ExactInput.{is_exact_input, KeepsCounts}
 use Rattle.overlay_base.specs.Places.{RationalPoint, spans, lies_below, winding_below}
+use Rattle.overlay_base.specs.Rays.{is_on_none, winding_above, winding_left, winding_right}
 use Rattle.overlay_split.specs.Nearness.{Fraction, whole_point, point_along, exact_crossing, IsWithin, IsNear, LiesNear, LieNear, IsNearSome, StaysNear, are_lines, root, reach, reach_of_pass, reach_of_run, reach_of_passes}
 use Rattle.overlay_split.specs.Places.{IsFar, KeepsWinding}
 use Rattle.overlay_split.specs.DataPass.{data_pass, data_after_passes, IsStoppedRun}
@@ -90,6 +91,16 @@ abbrev pub RunKeepsBalance : Type 0
 RunKeepsBalance =
     (settings : Settings) (given result : List WholeSegment) (passes : ℕ) (flag : Bool) → IsRun settings given result passes flag →
     KeepsBalance given result
+
+-- The order of the given segments does not count: what stands after k passes is the same.
+abbrev pub PassesIgnoreOrder : Type 0
+PassesIgnoreOrder = (settings : Settings) (given other : List WholeSegment) (k : ℕ) → IsPermutation given other → after_passes settings other k ≡ after_passes settings given k
+
+-- so a run answers the same, after as many passes, and tells the same of changes
+abbrev pub RunIgnoresOrder : Type 0
+RunIgnoresOrder =
+    (settings : Settings) (given other result : List WholeSegment) (passes : ℕ) (flag : Bool) → IsPermutation given other → IsRun settings given result passes flag →
+    IsRun settings other result passes flag
 
 -- no mask appears
 abbrev pub RunKeepsPolygons : Type 0
@@ -232,6 +243,17 @@ abbrev pub ExactInputKeepsWinding : Type 0
 ExactInputKeepsWinding =
     (settings : Settings) (given result : List WholeSegment) (passes : ℕ) (flag : Bool) (p : RationalPoint) → IsTrue (are_ordered given) → IsTrue (is_exact_input given) → IsRun settings given result passes flag →
     IsFar 0 p (pairs given) → winding_below result p ≡ winding_below given p
+
+-- a place that is far lies on no segment
+abbrev pub FarLiesOnNone : Type 0
+FarLiesOnNone = (segments : List WholeSegment) (p : RationalPoint) → IsTrue (are_ordered segments) → 0 < p.bottom → IsFar 0 p (pairs segments) → IsTrue (is_on_none segments p)
+
+-- so where counts balance, the winding that stands there after k passes is told by any ray from there through what is given
+abbrev pub RunKeepsRays : Type 0
+RunKeepsRays =
+    (settings : Settings) (given : List WholeSegment) (k : ℕ) (p : RationalPoint) → IsTrue (are_ordered given) → IsBalanced given → 0 < p.bottom → IsFar (reach_of_run settings given k) p (pairs given) →
+    (winding_below (after_passes settings given k) p ≡ winding_above given p) × (winding_below (after_passes settings given k) p ≡ winding_left given p)
+    × (winding_below (after_passes settings given k) p ≡ winding_right given p)
 
 -- ---- passes with data
 

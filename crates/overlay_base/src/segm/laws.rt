@@ -2,6 +2,7 @@
 // proved for all whole numbers, all lists and all hooks.
 ghost use Rattle.overlay_base.specs.Laws.{CountsAddUp, InverseCancels, PolygonCountsAreGroup, InverseTwice, InverseOfSum};
 ghost use Rattle.overlay_base.specs.Laws.{JoinIsMap, MapIsItsWindings, JoinIsOnlyMap, JoinDependsOnWindings, JoinOfJoin, JoinOfMap, JoinOfParts, JoinOfPart, JoinOfPermutation, JoinHoldsPair, JoinIsNoLonger, NumbersAreLinear, JoinKeepsSums, JoinKeepsBalance, StableSortKeepsSums, NeighborsTellEqualPairs};
+ghost use Rattle.overlay_base.specs.Laws.{BalanceIsTested, BalancedLosesNothing, AnyRayWillDo};
 ghost use Rattle.overlay_base.specs.Laws.{DataJoinIsBeside, StableSortIsUnique, StablySortedIsStable};
 
 /// Counts are a commutative monoid, and those without a mask a group. A valid count is its inverse's inverse, and an
@@ -42,6 +43,20 @@ pub fn join_sum_laws()
 /// A stable sort by pair keeps the running sums of the counts at each pair, and with them whether one is too large.
 pub fn running_sum_laws()
     ensures { StableSortKeepsSums }
+{}
+
+/// Of balanced segments: whatever number a function gives each point, as much of it is lost along them as is gained. So
+/// the winding round a place on none of them is told by any of its four rays, straight down, straight up, to the left
+/// or to the right: by the segments that the ray meets, each counted by the side to which it crosses the ray.
+pub fn ray_laws()
+    ensures losses { BalancedLosesNothing }
+    ensures any_ray { AnyRayWillDo }
+{}
+
+/// A list is balanced exactly where the counts at its ends cancel in a join: each segment's weight at its first end and
+/// the inverse at its second one. So one sort and one walk tell balance at all points.
+pub fn balance_test_laws()
+    ensures { BalanceIsTested }
 {}
 
 /// After a sort by pair, two neighbors have one pair exactly where two segments of the bag have.

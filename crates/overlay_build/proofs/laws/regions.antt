@@ -2,3 +2,5 @@
 pub mod PlaceColumns
 pub mod Regions
 pub mod Boundaries
+pub mod Beside
+pub mod BesideUprights

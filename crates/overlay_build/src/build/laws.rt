@@ -1,5 +1,6 @@
 // The laws of fills and graphs. Each function has an empty body, and its contract is proved for all whole numbers.
 ghost use Rattle.overlay_build.specs.Laws.{FillsTellSides, FillsTellLines, ClipGraphsAreExact, NodesAreEven, GraphsAreValid, GraphsAreExact, GraphsEncloseRegions, GraphsBoundRegions, FilterGivesLinks, FilterGivesData};
+ghost use Rattle.overlay_build.specs.Laws.{SidesTellPlaces, FillsTellPlaces};
 
 pub use overlay_sweep::build::laws::winding_laws;
 
@@ -27,6 +28,14 @@ pub fn graph_laws()
 /// holds there, and not at all where it does not, less what it says of places outside.
 pub fn boundary_laws()
     ensures { GraphsBoundRegions }
+{}
+
+/// With balanced counts the windings of the two sides of a segment, by which its fill is made, are those of the places
+/// directly beside it: just above and just below it, or to the left and to the right of a vertical one, with no other
+/// segment between. A place winds by the segments below it, or by those that another of its rays meets.
+pub fn side_laws()
+    ensures sides { SidesTellPlaces }
+    ensures fills { FillsTellPlaces }
 {}
 
 /// Whatever data segments carry: the data of the links that a test keeps of the graph of all segments is that of the

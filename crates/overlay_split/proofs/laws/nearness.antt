@@ -6,3 +6,4 @@ pub mod Coverings
 pub mod LineCounts
 pub mod OneSide
 pub mod Places
+pub mod FarRays

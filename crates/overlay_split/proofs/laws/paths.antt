@@ -9,3 +9,4 @@ pub mod Monotone
 pub mod Potentials
 pub mod Runs
 pub mod Boxes
+pub mod Orders

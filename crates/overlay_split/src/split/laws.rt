@@ -4,6 +4,7 @@ ghost use Rattle.overlay_split.specs.Laws.{NumbersAreOdd, PiecesTelescope, PassK
 ghost use Rattle.overlay_split.specs.Laws.{SettlingLowers, RunEnds, RunIsOne, ExactPassIsPlanar, PlanarPassIsUnchanged, RunIsPlanar, ArrangedIsUnchanged, ResultIsUnchanged};
 ghost use Rattle.overlay_split.specs.Laws.{RootIsMeant, RootOfPower, NearEndsAreEnough, DistancesAddUp, CrossingLiesOnBoth, MarkIsNear, PassStaysNear, PiecesStayNear, RunStaysNear, LinesAreKept, ReachIsBounded, LastPassReachesNothing, ExactInputReachesNothing};
 ghost use Rattle.overlay_split.specs.Laws.{PassOnOneSide, JoinKeepsWinding, PassKeepsWinding, RunKeepsWinding, ExactInputKeepsWinding};
+ghost use Rattle.overlay_split.specs.Laws.{PassesIgnoreOrder, RunIgnoresOrder, FarLiesOnNone, RunKeepsRays};
 ghost use Rattle.overlay_split.specs.Laws.{StaysInBox, ExactInputKeepsCounts, ExactRunsAgree, DataIsBeside, UnmarkedDataIsUnchanged, ArrangedDataIsUnchanged, DataKeepsWhatHooksKeep, StoppedRunLeavesRange, StoppedRunIsOne};
 
 /// Take a function of points, and a number of the count that inversion negates, as `subj` and `clip`. The pieces of a
@@ -15,6 +16,13 @@ pub fn balance_laws()
     ensures pass_losses { PassKeepsLosses }
     ensures pass_balance { PassKeepsBalance }
     ensures run_balance { RunKeepsBalance }
+{}
+
+/// The order of the given segments does not count: what stands after so many passes is the same, and so is what a run
+/// answers. Whether a sum leaves the range on the way is not said here, since sums are made in the order of the list.
+pub fn order_laws()
+    ensures passes { PassesIgnoreOrder }
+    ensures run { RunIgnoresOrder }
 {}
 
 /// A run over counts without a mask answers counts without a mask.
@@ -77,13 +85,17 @@ pub fn nearness_laws()
 
 /// Segments that lie near one segment pass each place that is farther from it on one side. So a pass changes the
 /// winding at no place that is farther from every segment than it moves crossings, and a run at none that is farther
-/// from every given segment than its passes reach together; on exact input at none that lies on no given segment.
+/// from every given segment than its passes reach together; on exact input at none that lies on no given segment. A
+/// place that is far lies on no segment, so where the given counts balance, any ray from it through the given segments
+/// tells the winding there after so many passes.
 pub fn place_laws()
     ensures side { PassOnOneSide }
     ensures join { JoinKeepsWinding }
     ensures pass { PassKeepsWinding }
     ensures run { RunKeepsWinding }
     ensures exact_input { ExactInputKeepsWinding }
+    ensures on_none { FarLiesOnNone }
+    ensures rays { RunKeepsRays }
 {}
 
 /// Whatever the hooks do, passes with data are, without their data, the passes without. Where nothing is marked, data

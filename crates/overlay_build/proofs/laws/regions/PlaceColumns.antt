@@ -134,15 +134,14 @@ gap_at c u s p =
     plain : (d e hs hu ds du wu ws : ℤ) → (d *ℤ hs +ℤ e *ℤ ds) *ℤ wu -ℤ (d *ℤ hu +ℤ e *ℤ du) *ℤ ws ≡ d *ℤ (hs *ℤ wu -ℤ hu *ℤ ws) +ℤ e *ℤ (ds *ℤ wu -ℤ du *ℤ ws)
     plain d e hs hu ds du wu ws = rw (as_D d, as_D e, as_D hs, as_D hu, as_D ds, as_D du, as_D wu, as_D ws) (simp diffs (D-eq _ _ _ _ (omega arith)))
 
--- u is at most as high as s at both borders, so at p; where s is lower than p there, u is
-pub lower_in_column : (p : RationalPoint) (c : ℤ) (u s : Pair) → IsInColumn p.x p.bottom c → pos 0 <ℤ width u → pos 0 <ℤ width s → pos 0 ≤ℤ gap c u s → pos 0 ≤ℤ gap (c +ℤ pos 1) u s →
-    (height_at s p) <ℤ (p.y *ℤ width s) → (height_at u p) <ℤ (p.y *ℤ width u)
-lower_in_column p c u s at wu ws left right low =
+-- u is at most as high as s at both borders, so at p
+pub not_higher_in_column : (p : RationalPoint) (c : ℤ) (u s : Pair) → IsInColumn p.x p.bottom c → pos 0 ≤ℤ gap c u s → pos 0 ≤ℤ gap (c +ℤ pos 1) u s →
+    (height_at u p *ℤ width s) ≤ℤ (height_at s p *ℤ width u)
+not_higher_in_column p c u s at left right =
     let e = p.x -ℤ c *ℤ pos p.bottom in
     let more = mul-nonneg e (gap (c +ℤ pos 1) u s) (past _ _ at.low) right in
     let less = mul-nonneg (pos p.bottom -ℤ e) (gap c u s) (short p.x (c *ℤ pos p.bottom) p.bottom _ (one_more c p.bottom) at.high) left in
-    let higher : (height_at u p *ℤ width s) ≤ℤ (height_at s p *ℤ width u) = compare _ _ _ (gap_at c u s p) (weigh (pos p.bottom) e (gap c u s) (slope u s) (gap (c +ℤ pos 1) u s) (gap_step c u s) less more) in
-    cancel-lt (width s) (height_at u p) (p.y *ℤ width u) ws (through (height_at u p) (height_at s p) (width s) (width u) p.y higher (mul-lt_left (width u) (height_at s p) (p.y *ℤ width s) wu low))
+    compare _ _ _ (gap_at c u s p) (weigh (pos p.bottom) e (gap c u s) (slope u s) (gap (c +ℤ pos 1) u s) (gap_step c u s) less more)
   where
     past : (u v : ℤ) → u ≤ℤ v → pos 0 ≤ℤ (v -ℤ u)
     past u v l = omega (arith, ints, l)
@@ -162,6 +161,12 @@ lower_in_column p c u s at wu ws left right low =
     compare : (x y z : ℤ) → x -ℤ y ≡ z → pos 0 ≤ℤ z → y ≤ℤ x
     compare x y z e l = omega (arith, ints, e, l)
 
+-- where s is lower than p there, u is
+pub lower_in_column : (p : RationalPoint) (c : ℤ) (u s : Pair) → IsInColumn p.x p.bottom c → pos 0 <ℤ width u → pos 0 <ℤ width s → pos 0 ≤ℤ gap c u s → pos 0 ≤ℤ gap (c +ℤ pos 1) u s →
+    (height_at s p) <ℤ (p.y *ℤ width s) → (height_at u p) <ℤ (p.y *ℤ width u)
+lower_in_column p c u s at wu ws left right low =
+    cancel-lt (width s) (height_at u p) (p.y *ℤ width u) ws (through (height_at u p) (height_at s p) (width s) (width u) p.y (not_higher_in_column p c u s at left right) (mul-lt_left (width u) (height_at s p) (p.y *ℤ width s) wu low))
+  where
     through : (hu hs ws wu y : ℤ) → (hu *ℤ ws) ≤ℤ (hs *ℤ wu) → (wu *ℤ hs) <ℤ (wu *ℤ (y *ℤ ws)) → (ws *ℤ hu) <ℤ (ws *ℤ (y *ℤ wu))
     through hu hs ws wu y l k = rw (around wu y ws) at (both (hu *ℤ ws) (hs *ℤ wu) (ws *ℤ hu) (wu *ℤ hs) (wu *ℤ (y *ℤ ws)) (turned hu ws) (turned hs wu) l k)
       where

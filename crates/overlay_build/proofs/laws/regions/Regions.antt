@@ -115,7 +115,7 @@ module _ (xs : List WholeSegment) (arranged : IsArranged xs) (balanced : IsBalan
 -- ---- what lies below a place
 
 module _ (xs : List WholeSegment) (arranged : IsArranged xs) (balanced : IsBalanced xs) (p : RationalPoint) (x : ℤ) (at : IsInColumn p.x p.bottom x) where
-  wide : (s : Pair) → IsTrue (column_spans x s) → pos 0 <ℤ width s
+  pub wide : (s : Pair) → IsTrue (column_spans x s) → pos 0 <ℤ width s
   wide s h = let k = spans_parts x s h in plain s.a.x s.b.x x k.0 k.1
     where
       plain : (a b x : ℤ) → a ≤ℤ x → x <ℤ b → pos 0 <ℤ (b -ℤ a)
@@ -126,7 +126,7 @@ module _ (xs : List WholeSegment) (arranged : IsArranged xs) (balanced : IsBalan
       let parts = low_parts (gap x u.pair s.pair) (gap (x +ℤ pos 1) u.pair s.pair) (sym (is_below_is x u.pair s.pair) ∙ below) in
       lt-test _ _ (lower_in_column p x u.pair s.pair at (wide u.pair hu) (wide s.pair hs) parts.0 parts.1 (lt-tested _ _ low))
 
-  same_weights : column_weights (λ s. runs_below s p) xs x ≡ winding_below xs p
+  pub same_weights : column_weights (λ s. runs_below s p) xs x ≡ winding_below xs p
   unfolding winding_below
   same_weights =
       column_weights_are (λ s. runs_below s p) xs x

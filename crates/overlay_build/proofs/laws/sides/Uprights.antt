@@ -80,7 +80,7 @@ sign_down w m g h e p = cancel-neg w m h (omega (arith, ints))
 sign_up : (w m g : ℤ) → pos 0 <ℤ w → g ≡ w *ℤ m → pos 0 <ℤ g → pos 0 <ℤ m
 sign_up w m g h e p = cancel-pos w m h (omega (arith, ints))
 
-upright_level : (t : Pair) (q : Point) → t.a.x ≡ t.b.x → q.x ≡ t.a.x → turn t.a t.b q ≡ pos 0
+pub upright_level : (t : Pair) (q : Point) → t.a.x ≡ t.b.x → q.x ≡ t.a.x → turn t.a t.b q ≡ pos 0
 upright_level t q e x = turn_upright t q e ∙ times_level (t.b.y -ℤ t.a.y) (t.a.x -ℤ q.x) (omega (arith, ints))
 
 module _ (s u : Pair) (e : s.a.x ≡ s.b.x) (h : s.a.y <ℤ s.b.y) (wu : u.a.x <ℤ u.b.x) (ua : u.a.x ≤ℤ s.a.x) (ub : s.a.x ≤ℤ u.b.x) (apart : IsApart s u) where
@@ -104,7 +104,7 @@ module _ (s u : Pair) (e : s.a.x ≡ s.b.x) (h : s.a.y <ℤ s.b.y) (wu : u.a.x <
       let n = mul-neg (s.b.y -ℤ s.a.y) (s.a.x -ℤ u.b.x) (omega (arith, ints)) (omega (arith, ints)) in
       apart.cross (do_cross_from s u (inr (omega (arith, ints), omega (arith, ints))) (inl (p, q)))
 
-  none_between : turn u.a u.b s.a <ℤ pos 0 → pos 0 <ℤ turn u.a u.b s.b → ⊥
+  pub none_between : turn u.a u.b s.a <ℤ pos 0 → pos 0 <ℤ turn u.a u.b s.b → ⊥
   none_between p q =
       by_lt_z u.a.x s.a.x
       (λ (l : u.a.x <ℤ s.a.x). by_lt_z s.a.x u.b.x (λ (r : s.a.x <ℤ u.b.x). through_middle l r p q) (λ (r : u.b.x ≤ℤ s.a.x). through_end (omega (arith, ints)) p q))

@@ -198,7 +198,7 @@ module _ (h : ℕ) (p : RationalPoint) (s : WholeSegment) (marks : List Point) (
 -- ---- a pass
 
 -- a segment of a list from which p is far
-far_from : (h : ℕ) (p : RationalPoint) (segments : List WholeSegment) → IsFar h p (pairs segments) → (s : WholeSegment) → Has segments s → IsNear h p s.pair → ⊥
+pub far_from : (h : ℕ) (p : RationalPoint) (segments : List WholeSegment) → IsFar h p (pairs segments) → (s : WholeSegment) → Has segments s → IsNear h p s.pair → ⊥
 far_from h p segments far s i near = far (s.pair, Contains-from_Has (pairs segments) s.pair (Has-map (λ (t : WholeSegment). t.pair) segments s i), near)
 
 -- the marks on each pair of a list lie near it
@@ -234,7 +234,7 @@ pass_keeps_winding placing segments p ordered =
 
 -- ---- a run
 
-IsFar-nearer : (h k : ℕ) (p : RationalPoint) (list : List Pair) → h ≤ k → IsFar k p list → IsFar h p list
+pub IsFar-nearer : (h k : ℕ) (p : RationalPoint) (list : List Pair) → h ≤ k → IsFar k p list → IsFar h p list
 IsFar-nearer h k p list l far (s, i, near) = far (s, i, IsNear-weaker h k p s l near)
 
 -- what is far from the given segments is far from those that lie near them

@@ -78,7 +78,7 @@ module _ (xs : List WholeSegment) (arranged : IsArranged xs) (balanced : IsBalan
 
   module _ (s : WholeSegment) (m : Has xs s) (e : s.pair.a.x ≡ s.pair.b.x) (h : s.pair.a.y <ℤ s.pair.b.y) where
     -- of the vertical segments only s leads upward from its lower end
-    only_one_rises : (u : WholeSegment) → Has xs u → leaves_upward (lies_up_to s.pair.a) u.pair ≡ true → u.pair ≡ s.pair
+    pub only_one_rises : (u : WholeSegment) → Has xs u → leaves_upward (lies_up_to s.pair.a) u.pair ≡ true → u.pair ≡ s.pair
     only_one_rises u n k =
         let apart = apart_in s u m n in
         let first = and_parts (is_vertical u.pair) _ k in

@@ -1,4 +1,5 @@
 use Rattle.overlay_split.proofs.laws.nearness.Places.{pass_on_one_side, join_keeps_winding, pass_keeps_winding, run_keeps_winding, exact_input_keeps_winding}
+use Rattle.overlay_split.proofs.laws.nearness.FarRays.{far_lies_on_none, run_keeps_rays}
 use Rattle.overlay_split.proofs.split.laws.place_laws.Goals as goal
 
 pub returns-clause-side : goal.returns-clause-side
@@ -15,3 +16,9 @@ returns-clause-run c = run_keeps_winding
 
 pub returns-clause-exact_input : goal.returns-clause-exact_input
 returns-clause-exact_input c = exact_input_keeps_winding
+
+pub returns-clause-on_none : goal.returns-clause-on_none
+returns-clause-on_none c = far_lies_on_none
+
+pub returns-clause-rays : goal.returns-clause-rays
+returns-clause-rays c = run_keeps_rays
