@@ -1,0 +1,9 @@
+pub mod Steps
+pub mod Balances
+pub mod Windings
+pub mod Walking
+pub mod Numbering
+pub mod Counting
+pub mod Extracts
+pub mod Overlays
+pub mod Parities

@@ -1,0 +1,268 @@
+-- Contours, their segments, the overlay of these and its contours, joined.
+use Rattle.std.proofs.Common.{◌≡◌, refl, sym, ap, ap₂, subst, ◌∙◌, ℕ, ◌<◌, ◌≤◌, Bool, true, false, not, cond, IsTrue, List, [], ◌∷◌, ◌++◌, map, filter, arith, inl, inr, Less}
+use Rattle.std.specs.Prelude.{ℤ, count_by, Contains, Result, Ok, Err, IfErr}
+use Rattle.std.specs.Result.{IsErrAnd}
+use Rattle.std.specs.List.{AllByRecursion, list_all}
+use Rattle.std.specs.List.Sorted.{IsStrictlySortedBy}
+use Rattle.std.proofs.lemmas.Bool.{and_parts, and_from}
+use Rattle.std.proofs.lemmas.Int.{ints}
+use Rattle.std.proofs.lemmas.List.{map-append}
+use Rattle.std.proofs.lemmas.List.Elements.{All-from_recursion}
+use Rattle.std.proofs.lemmas.List.Folds.{list_all-map, list_all-append}
+use Rattle.std.proofs.lemmas.List.Sums.{sum_by-cons}
+use Rattle.std.proofs.lemmas.Simd.{map-map}
+use Rattle.overlay_base.specs.Points.{Point, Pair, pair_eq, pair_cmp, is_ordered, point_lt, point_eq}
+use Rattle.overlay_base.specs.Sorting.{is_strictly_sorted}
+use Rattle.overlay_base.specs.Places.{RationalPoint, winding_below}
+use Rattle.overlay_base.specs.Segments.{WholeSegment, pairs, is_map, are_ordered}
+use Rattle.overlay_base.specs.Planar.{is_planar}
+use Rattle.overlay_base.specs.Meeting.{are_apart}
+use Rattle.overlay_base.specs.Rules.{holds, differ, keeps_fill}
+use Rattle.overlay_base.specs.Windings.{is_not_empty, Winding}
+use Rattle.overlay_base.specs.ShapeWindings.{direct_winding, inverted_winding}
+use Rattle.overlay_base.specs.BooleanWinding.{boolean_made}
+use Rattle.overlay_base.specs.declared.segm.shape_type.ShapeType.{ShapeType}
+use Rattle.overlay_base.specs.declared.segm.shape_type.ShapeType.TheVariants.{Subject, Clip}
+use Rattle.overlay_base.specs.declared.overlay_core.fill_rule.FillRule.{FillRule}
+use Rattle.overlay_base.specs.declared.overlay_core.overlay_rule.OverlayRule.{OverlayRule}
+use Rattle.overlay_base.proofs.laws.geometry.Points.{pair_cmp_total, pair_eq_same, same_pair_by_eq}
+use Rattle.overlay_base.proofs.laws.geometry.Pairs.{pair_eq-less, pair_eq-comm}
+use Rattle.overlay_base.proofs.laws.lists.Keys.{IsStrictlySortedBy-from_test}
+use Rattle.overlay_base.proofs.laws.lists.Lists.{Has, Has-map, Has-map_out, Has-filter_out, AllByRecursion-from_Has, list_all-from_Has, list_all-at, list_all-and_parts, sum_by-map, sum_by-filter_le}
+use Rattle.overlay_base.specs.Radius.{exponent_cap}
+use Rattle.overlay_base.specs.declared.overlay_core.link.OverlayLink.{OverlayLink}
+use Rattle.overlay_base.specs.declared.overlay_core.solver.Solver.{Solver}
+use Rattle.overlay_base.specs.declared.segm.fault.Fault.{Fault}
+use Rattle.overlay_base.specs.declared.segm.fault.Fault.TheVariants.{Memory, CountOutOfRange}
+use Rattle.overlay_split.specs.Run.{Settings, IsPassCount, LeavesRange, after_passes, has_changed}
+use Rattle.overlay_split.specs.SettingsOf.{snap_limit_of, settings_of}
+use Rattle.overlay_split.specs.declared.split.solver.SplitSolver.{SplitSolver}
+use Rattle.overlay_sweep.specs.ChainWindings.{tops_leave_range}
+use Rattle.overlay_build.specs.GraphOf.{link_of, graph_with, pairs_of_links}
+use Rattle.overlay_split.specs.Nearness.{reach_of_run}
+use Rattle.overlay_split.specs.Places.{IsFar}
+use Rattle.overlay_split.proofs.laws.nearness.Nearness.{Contains-from_Has, reach_is_bounded, exact_input_reaches_nothing}
+use Rattle.overlay_build.specs.Graph.{Graph, Link, Filled, graph_of, graph_by, filled}
+use Rattle.overlay_build.specs.Regions.{encloses}
+use Rattle.overlay_build.specs.Values.{value_at}
+use Rattle.i_overlay.specs.FarRegions.{EnclosesOverlay}
+use Rattle.i_overlay.specs.Headline.{IsOverlay, IsRefused}
+use Rattle.overlay_contours.specs.Contours.{steps, is_edge, in_order, turned, edges, is_painted}
+use Rattle.overlay_contours.specs.ContourSegments.{step_segment, contour_segments, overlay_segments, overlay_winding}
+use Rattle.overlay_contours.specs.Polygons.{settings_for, IsPolygonOverlay, IsFarFrom, is_in_overlay}
+use Rattle.overlay_contours.specs.Refusals.{IsReason}
+use Rattle.overlay_contours.specs.declared.fault.ContourFault.{ContourFault}
+use Rattle.overlay_contours.specs.declared.fault.ContourFault.TheVariants.{Refused}
+use Rattle.overlay_contours.proofs.laws.Windings.{overlay_winds}
+
+-- ---- the pairs of the segments are the edges
+
+pair_of_step : (shape_type : ShapeType) (s : Pair) → (step_segment shape_type s).pair ≡ in_order s
+pair_of_step shape_type s = by (point_lt s.a s.b)
+  where
+    by : (b : Bool) → (let w : WholeSegment = cond b (record { pair = s; count = direct_winding boolean_made shape_type }) (record { pair = turned s; count = inverted_winding boolean_made shape_type }) in w.pair) ≡ cond b s (turned s)
+    by true = refl
+    by false = refl
+
+contour_pairs : (shape_type : ShapeType) (contours : List (List Point)) → pairs (contour_segments shape_type contours) ≡ edges contours
+unfolding contour_segments
+contour_pairs shape_type contours = map-map (λ (s : WholeSegment). s.pair) (step_segment shape_type) (filter is_edge (steps contours)) ∙ (λ i. map (λ s. pair_of_step shape_type s i) (filter is_edge (steps contours)))
+
+overlay_pairs : (subject clip : List (List Point)) → pairs (overlay_segments subject clip) ≡ edges subject ++ edges clip
+unfolding overlay_segments
+overlay_pairs subject clip = map-append (λ (s : WholeSegment). s.pair) (contour_segments Subject subject) (contour_segments Clip clip) ∙ ap₂ (λ (u v : List Pair). u ++ v) (contour_pairs Subject subject) (contour_pairs Clip clip)
+
+other_way : (p q : Point) → not (point_eq p q) ≡ true → point_lt p q ≡ false → point_lt q p ≡ true
+other_way p q h e = grind (arith, ints)
+
+-- each segment's ends are in order
+ordered_edges : (list : List Pair) → list_all is_ordered (map in_order (filter is_edge list)) ≡ true
+ordered_edges list = list_all-from_Has is_ordered (map in_order (filter is_edge list)) (λ e i.
+    let there = Has-map_out in_order (filter is_edge list) e i in
+    let kept = Has-filter_out is_edge list there.0 there.1 in
+    ap is_ordered (sym there.2) ∙ by there.0 kept.1 (point_lt there.0.a there.0.b) refl)
+  where
+    by : (s : Pair) → is_edge s ≡ true → (b : Bool) → point_lt s.a s.b ≡ b → is_ordered (in_order s) ≡ true
+    by s h true e = rw e e
+    by s h false e = rw e (other_way s.a s.b h e)
+
+overlay_is_ordered : (subject clip : List (List Point)) → are_ordered (overlay_segments subject clip) ≡ true
+overlay_is_ordered subject clip =
+    sym (list_all-map is_ordered (λ (s : WholeSegment). s.pair) (overlay_segments subject clip))
+    ∙ ap (list_all is_ordered) (overlay_pairs subject clip)
+    ∙ list_all-append is_ordered (edges subject) (edges clip)
+    ∙ and_from _ _ (ordered_edges (steps subject)) (ordered_edges (steps clip))
+
+-- ---- the links of a rule are segments of the arrangement
+
+abbrev link_pairs : Graph → List Pair
+link_pairs graph = map (λ l. l.pair) graph.links
+
+kept_pairs : (keeps : ℕ → Bool) (rule : FillRule) (segments : List WholeSegment) → link_pairs (graph_by keeps rule segments) ≡ map (λ f. f.pair) (filter (λ f. keeps f.fill) (filled rule segments))
+unfolding graph_by graph_of
+kept_pairs keeps rule segments = map-map (λ (l : Link). l.pair) _ (filter (λ f. keeps f.fill) (filled rule segments))
+
+filled_pairs : (rule : FillRule) (segments : List WholeSegment) → map (λ f. f.pair) (filled rule segments) ≡ pairs segments
+unfolding filled
+filled_pairs rule segments = map-map (λ (f : Filled). f.pair) _ segments
+
+links_stand : (keeps : ℕ → Bool) (rule : FillRule) (segments : List WholeSegment) (e : Pair) → Has (link_pairs (graph_by keeps rule segments)) e → Has (pairs segments) e
+links_stand keeps rule segments e i =
+    let there = Has-map_out (λ (f : Filled). f.pair) (filter (λ f. keeps f.fill) (filled rule segments)) e (subst (λ (l : List Pair). Has l e) (kept_pairs keeps rule segments) i) in
+    let kept = Has-filter_out (λ (f : Filled). keeps f.fill) (filled rule segments) there.0 there.1 in
+    subst (λ (l : List Pair). Has l e) (filled_pairs rule segments) (subst (Has (map (λ (f : Filled). f.pair) (filled rule segments))) there.2 (Has-map (λ (f : Filled). f.pair) (filled rule segments) there.0 kept.0))
+
+links_are_few : (keeps : ℕ → Bool) (rule : FillRule) (segments : List WholeSegment) (test : Pair → Bool) → count_by test (link_pairs (graph_by keeps rule segments)) ≤ count_by test (pairs segments)
+links_are_few keeps rule segments test =
+    let all : count_by test (pairs segments) ≡ count_by (λ (f : Filled). test f.pair) (filled rule segments) = sym (ap (count_by test) (filled_pairs rule segments)) ∙ sum_by-map (λ (e : Pair). cond (test e) 1 0) (λ (f : Filled). f.pair) (filled rule segments) in
+    let some : count_by test (link_pairs (graph_by keeps rule segments)) ≡ count_by (λ (f : Filled). test f.pair) (filter (λ f. keeps f.fill) (filled rule segments)) = ap (count_by test) (kept_pairs keeps rule segments) ∙ sum_by-map (λ (e : Pair). cond (test e) 1 0) (λ (f : Filled). f.pair) (filter (λ f. keeps f.fill) (filled rule segments)) in
+    let fewer : count_by (λ (f : Filled). test f.pair) (filter (λ f. keeps f.fill) (filled rule segments)) ≤ count_by (λ (f : Filled). test f.pair) (filled rule segments) = sum_by-filter_le (λ f. cond (test f.pair) 1 0) (λ f. keeps f.fill) (filled rule segments) in
+    omega (arith, all, some, fewer)
+
+-- ---- what stands in a list, by counts
+
+abbrev flag : Bool → ℕ
+flag b = cond b 1 0
+
+counted_from_Has : (xs : List Pair) (e : Pair) → Has xs e → 0 < count_by (λ s. pair_eq s e) xs
+counted_from_Has [] e i = absurd i
+counted_from_Has (x ∷ xs) e (inl same) =
+    let more = sum_by-cons (λ s. flag (pair_eq s e)) x xs in
+    let here : flag (pair_eq x e) ≡ 1 = ap flag (ap (λ (s : Pair). pair_eq s e) same ∙ pair_eq_same e) in
+    omega (arith, more, here)
+counted_from_Has (x ∷ xs) e (inr i) =
+    let more = sum_by-cons (λ s. flag (pair_eq s e)) x xs in
+    let rest = counted_from_Has xs e i in
+    omega (arith, more, rest)
+
+Has-from_count : (xs : List Pair) (e : Pair) → 0 < count_by (λ s. pair_eq s e) xs → Has xs e
+Has-from_count [] e h = absurd (omega (arith, h))
+Has-from_count (x ∷ xs) e h = by (Has-from_count xs e) (pair_eq x e) refl
+  where
+    by : (0 < count_by (λ s. pair_eq s e) xs → Has xs e) → (b : Bool) → pair_eq x e ≡ b → Has (x ∷ xs) e
+    by ih true t = inl (same_pair_by_eq x e t)
+    by ih false t =
+        let more = sum_by-cons (λ s. flag (pair_eq s e)) x xs in
+        let here : flag (pair_eq x e) ≡ 0 = ap flag t in
+        inr (ih (omega (arith, h, more, here)))
+
+none_counted : (xs : List Pair) (e : Pair) → AllByRecursion (λ s. pair_eq s e ≡ false) xs → count_by (λ s. pair_eq s e) xs ≡ 0
+none_counted [] e h = refl
+none_counted (x ∷ xs) e h =
+    let more = sum_by-cons (λ s. flag (pair_eq s e)) x xs in
+    let here : flag (pair_eq x e) ≡ 0 = ap flag h.0 in
+    let rest = none_counted xs e h.1 in
+    omega (arith, more, here, rest)
+
+later_differ : (x e : Pair) (xs : List Pair) → pair_eq x e ≡ true → AllByRecursion (λ y. pair_cmp x y ≡ Less) xs → AllByRecursion (λ s. pair_eq s e ≡ false) xs
+later_differ x e [] t h = tt
+later_differ x e (y ∷ xs) t h =
+    let apart : pair_eq y e ≡ false = pair_eq-comm y e ∙ ap (λ (s : Pair). pair_eq s y) (sym (same_pair_by_eq x e t)) ∙ pair_eq-less x y h.0 in
+    (apart, later_differ x e xs t h.1)
+
+-- in strict order a pair stands at most once
+once_in_order : (xs : List Pair) (e : Pair) → IsStrictlySortedBy pair_cmp xs → count_by (λ s. pair_eq s e) xs ≤ 1
+unfolding IsStrictlySortedBy
+once_in_order [] e s = omega arith
+once_in_order (x ∷ xs) e s = by (once_in_order xs e s.1) (pair_eq x e) refl
+  where
+    by : count_by (λ t. pair_eq t e) xs ≤ 1 → (b : Bool) → pair_eq x e ≡ b → count_by (λ t. pair_eq t e) (x ∷ xs) ≤ 1
+    by ih true t =
+        let more = sum_by-cons (λ s. flag (pair_eq s e)) x xs in
+        let here : flag (pair_eq x e) ≡ 1 = ap flag t in
+        let rest = none_counted xs e (later_differ x e xs t s.0) in
+        omega (arith, more, here, rest)
+    by ih false t =
+        let more = sum_by-cons (λ s. flag (pair_eq s e)) x xs in
+        let here : flag (pair_eq x e) ≡ 0 = ap flag t in
+        omega (arith, more, here, ih)
+
+-- ---- an arrangement
+
+map_parts : (segments : List WholeSegment) → is_map segments ≡ true → IsStrictlySortedBy pair_cmp (pairs segments) × (list_all is_ordered (pairs segments) ≡ true)
+unfolding is_map
+map_parts segments h =
+    let parts = and_parts (is_strictly_sorted pair_cmp (pairs segments)) _ h in
+    let ordered = list_all-and_parts (λ (s : WholeSegment). is_ordered s.pair) (λ s. is_not_empty s.count) segments parts.1 in
+    (IsStrictlySortedBy-from_test pair_cmp_total (pairs segments) parts.0, list_all-map is_ordered (λ (s : WholeSegment). s.pair) segments ∙ ordered.0)
+
+planar_pairs : (segments : List WholeSegment) → is_planar segments ≡ true → list_all (λ s. list_all (λ t. are_apart s t) (pairs segments)) (pairs segments) ≡ true
+unfolding is_planar
+planar_pairs segments h = h
+
+-- the links of an overlay are ordered
+pub links_are_ordered : (settings : Settings) (fill_rule : FillRule) (rule : Bool → Bool → Bool) (given segments : List WholeSegment) (passes : ℕ) (graph : Graph) → IsOverlay settings fill_rule rule given segments passes graph → list_all is_ordered (link_pairs graph) ≡ true
+links_are_ordered settings fill_rule rule given segments passes graph o =
+    let planar = and_parts (is_map segments) (is_planar segments) o.split.planar in
+    list_all-from_Has is_ordered (link_pairs graph)
+    (λ e i. list_all-at is_ordered (pairs segments) e (map_parts segments planar.0).1 (links_stand (keeps_fill rule) fill_rule segments e (subst (λ (g : Graph). Has (link_pairs g) e) o.links i)))
+
+-- the links of a graph of code
+pub graph_pairs : {I D : Type 0} (whole : I → ℤ) (links : List (OverlayLink I D)) → map (link_of whole) links ≡ (graph_with whole links).links → link_pairs (graph_with whole links) ≡ pairs_of_links whole links
+graph_pairs whole links same = ap (map (λ (l : Link). l.pair)) (sym same) ∙ map-map (λ (l : Link). l.pair) (link_of whole) links
+
+-- why a split and a build were refused
+pub reason : (settings : Settings) (subject clip : List (List Point)) (given segments : List WholeSegment) (before passes : ℕ) (fault : Fault) → given ≡ overlay_segments subject clip → IsRefused settings given segments before passes fault → IsReason settings subject clip fault
+reason settings subject clip given segments before passes Memory e r = tt
+reason settings subject clip given segments before passes CountOutOfRange e (inl r) = inl (subst (LeavesRange settings) e (r.0.too_large refl))
+reason settings subject clip given segments before passes CountOutOfRange e (inr r) =
+    let left : segments ≡ after_passes settings (overlay_segments subject clip) passes = r.split.arrangement ∙ ap (λ (l : List WholeSegment). after_passes settings l passes) e in
+    inr (passes, subst (λ (l : List WholeSegment). IsPassCount settings l passes) e r.split.count, subst (λ (l : List WholeSegment). IsTrue (tops_leave_range l)) left (r.too_large refl))
+
+-- what holds of a refusal holds of the answer that `?` makes of it
+pub refused_as : {T : Type 0} (result : Result T ContourFault) (P : ContourFault → Type 0) (fault : Fault) → IsErrAnd result (λ refused. refused ≡ Refused fault) → P (Refused fault) → IfErr result P
+refused_as (Ok x) P fault h k = tt
+refused_as (Err e) P fault h k = subst P (sym h) k
+
+pub settings_are : {I : Type 0} (bits : ℕ) (solver : Solver) (splitter : SplitSolver I) → snap_limit_of splitter ≡ 256 → settings_of bits solver splitter ≡ settings_for bits solver
+settings_are bits solver splitter e = ap (λ (n : ℕ). record { start = solver.precision.start; progression = solver.precision.progression; cap = exponent_cap bits; limit = n }) e
+
+-- ---- the polygon theorem
+
+module _ (settings : Settings) (rule : OverlayRule) (fill_rule : FillRule) (subject clip answer : List (List Point)) (given segments : List WholeSegment) (passes : ℕ) (graph : Graph)
+    (is_given : given ≡ overlay_segments subject clip) (o : IsOverlay settings fill_rule (holds rule) given segments passes graph) (region : EnclosesOverlay settings rule fill_rule given passes graph)
+    (count : (test : Pair → Bool) → count_by test (edges answer) ≡ count_by test (link_pairs graph)) (paints : (p : RationalPoint) → is_painted answer p ≡ encloses graph p) where
+  planar : (is_map segments ≡ true) × (is_planar segments ≡ true)
+  planar = and_parts (is_map segments) (is_planar segments) o.split.planar
+
+  edge_stands : (e : Pair) → Has (edges answer) e → Has (pairs segments) e
+  edge_stands e i =
+      let some : 0 < count_by (λ s. pair_eq s e) (link_pairs graph) = subst (λ (n : ℕ). 0 < n) (count (λ s. pair_eq s e)) (counted_from_Has (edges answer) e i) in
+      links_stand (keeps_fill (holds rule)) fill_rule segments e (subst (λ (g : Graph). Has (link_pairs g) e) o.links (Has-from_count (link_pairs graph) e some))
+
+  arrangement : pairs segments ≡ pairs (after_passes settings (overlay_segments subject clip) passes)
+  arrangement = ap pairs o.split.arrangement ∙ ap (λ (l : List WholeSegment). pairs (after_passes settings l passes)) is_given
+
+  region_here : (p : RationalPoint) → 0 < p.bottom → IsFarFrom settings subject clip passes p → is_painted answer p ≡ differ (holds rule false false) (is_in_overlay rule fill_rule subject clip p)
+  unfolding value_at
+  region_here p some far =
+      let far_given : IsFar (reach_of_run settings given passes) p (pairs given) =
+      subst (λ (l : List WholeSegment). IsFar (reach_of_run settings l passes) p (pairs l)) (sym is_given)
+      (subst (λ (l : List Pair). IsFar (reach_of_run settings (overlay_segments subject clip) passes) p l) (sym (overlay_pairs subject clip)) far) in
+      let wind : winding_below given p ≡ overlay_winding subject clip p = ap (λ (l : List WholeSegment). winding_below l p) is_given ∙ overlay_winds subject clip p in
+      paints p ∙ region p some far_given ∙ ap (λ (w : Winding). differ (holds rule false false) (value_at (holds rule) fill_rule w)) wind
+
+  pub polygon_overlay : IsPolygonOverlay settings rule fill_rule subject clip answer
+  polygon_overlay = record {
+    passes = passes;
+    count = subst (λ (l : List WholeSegment). IsPassCount settings l passes) is_given o.split.count;
+    region = region_here;
+    named = λ outside p some far. region_here p some far ∙ ap (λ (b : Bool). differ b (is_in_overlay rule fill_rule subject clip p)) outside;
+    reach = reach_is_bounded settings (overlay_segments subject clip) passes;
+    exact = λ whole_crossings.
+        exact_input_reaches_nothing settings (overlay_segments subject clip) (after_passes settings (overlay_segments subject clip) passes) passes (has_changed settings (overlay_segments subject clip) passes) (overlay_is_ordered subject clip) whole_crossings
+        (record { count = subst (λ (l : List WholeSegment). IsPassCount settings l passes) is_given o.split.count; arrangement = refl; changed = refl });
+    arranged =
+        All-from_recursion (Contains (pairs (after_passes settings (overlay_segments subject clip) passes))) (edges answer)
+        (AllByRecursion-from_Has (Contains (pairs (after_passes settings (overlay_segments subject clip) passes))) (edges answer) (λ e i. Contains-from_Has _ e (subst (λ (l : List Pair). Has l e) arrangement (edge_stands e i))));
+    apart =
+        list_all-from_Has (λ s. list_all (λ t. are_apart s t) (edges answer)) (edges answer)
+        (λ s i. list_all-from_Has (λ t. are_apart s t) (edges answer)
+        (λ t j. list_all-at (λ t. are_apart s t) (pairs segments) t (list_all-at (λ s. list_all (λ t. are_apart s t) (pairs segments)) (pairs segments) s (planar_pairs segments planar.1) (edge_stands s i)) (edge_stands t j)));
+    once = λ e.
+        let as_links = count (λ s. pair_eq s e) in
+        let few = links_are_few (keeps_fill (holds rule)) fill_rule segments (λ s. pair_eq s e) in
+        let one = once_in_order (pairs segments) e (map_parts segments planar.0).0 in
+        let same : count_by (λ s. pair_eq s e) (link_pairs graph) ≡ count_by (λ s. pair_eq s e) (link_pairs (graph_by (keeps_fill (holds rule)) fill_rule segments)) = ap (λ (g : Graph). count_by (λ s. pair_eq s e) (link_pairs g)) o.links in
+        omega (arith, as_links, few, one, same);
+  }

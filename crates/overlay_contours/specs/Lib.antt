@@ -1,0 +1,7 @@
+pub mod Contours
+pub mod ContoursOf
+pub mod ContourSegments
+pub mod Polygons
+pub mod WalkPairs
+pub mod Refusals
+pub mod Laws

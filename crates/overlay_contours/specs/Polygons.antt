@@ -1,0 +1,55 @@
+-- The overlay of polygons: contours in, contours out.
+use Rattle.std.specs.Prelude.{◌≡◌, ◌≤◌, ◌<◌, ℕ, Bool, false, IsTrue, List, ◌++◌, All, Contains, count_by}
+use Rattle.std.specs.List.{list_all}
+use Rattle.overlay_base.specs.Points.{Point, Pair, pair_eq}
+use Rattle.overlay_base.specs.Places.{RationalPoint}
+use Rattle.overlay_base.specs.Segments.{pairs}
+use Rattle.overlay_base.specs.Meeting.{are_apart}
+use Rattle.overlay_base.specs.Rules.{differ, holds}
+use Rattle.overlay_base.specs.Radius.{exponent_cap}
+use Rattle.overlay_base.specs.declared.overlay_core.fill_rule.FillRule.{FillRule}
+use Rattle.overlay_base.specs.declared.overlay_core.overlay_rule.OverlayRule.{OverlayRule}
+use Rattle.overlay_base.specs.declared.overlay_core.solver.Solver.{Solver}
+use Rattle.overlay_split.specs.Run.{Settings, IsPassCount, after_passes}
+use Rattle.overlay_split.specs.Nearness.{reach_of_run, reach_of_passes}
+use Rattle.overlay_split.specs.ExactInput.{is_exact_input}
+use Rattle.overlay_split.specs.Places.{IsFar}
+use Rattle.overlay_sweep.specs.Fill.{is_inside}
+use Rattle.overlay_contours.specs.Contours.{edges, winding_number, is_painted}
+use Rattle.overlay_contours.specs.ContourSegments.{overlay_segments}
+
+-- what a run is set to in coordinates of so many bits: the precision of the solver, and 256 passes that may snap
+abbrev pub settings_for : ℕ → Solver → Settings
+settings_for bits solver = record {
+  start = solver.precision.start;
+  progression = solver.precision.progression;
+  cap = exponent_cap bits;
+  limit = 256;
+}
+
+-- what the rule says of p, by whether p is inside the subject and inside the clip under the fill rule
+abbrev pub is_in_overlay : OverlayRule → FillRule → List (List Point) → List (List Point) → RationalPoint → Bool
+is_in_overlay rule fill_rule subject clip p = holds rule (is_inside fill_rule (winding_number subject p)) (is_inside fill_rule (winding_number clip p))
+
+-- p is farther from the edges of the given contours than so many passes of a run over them move things
+abbrev pub IsFarFrom : Settings → List (List Point) → List (List Point) → ℕ → RationalPoint → Type 0
+IsFarFrom settings subject clip passes p = IsFar (reach_of_run settings (overlay_segments subject clip) passes) p (edges subject ++ edges clip)
+
+-- what an overlay answers for the contours of a subject and of a clip
+pub record IsPolygonOverlay (settings : Settings) (rule : OverlayRule) (fill_rule : FillRule) (subject clip answer : List (List Point)) : Type 0 where
+  -- the number of passes that the run makes
+  pub passes : ℕ
+  pub count : IsPassCount settings (overlay_segments subject clip) passes
+  -- The answer encloses exactly the far places of which the rule says something else than of those outside.
+  pub region : (p : RationalPoint) → 0 < p.bottom → IsFarFrom settings subject clip passes p → is_painted answer p ≡ differ (holds rule false false) (is_in_overlay rule fill_rule subject clip p)
+  -- A rule that says no of those outside, as each with a name does: exactly the far places of which it holds.
+  pub named : holds rule false false ≡ false → (p : RationalPoint) → 0 < p.bottom → IsFarFrom settings subject clip passes p → is_painted answer p ≡ is_in_overlay rule fill_rule subject clip p
+  -- How far the passes move things at most, by the settings and the number of passes alone; nothing where no two of the
+  -- given edges cross at a point that is not whole, so that then each place on no given edge is a far one.
+  pub reach : reach_of_run settings (overlay_segments subject clip) passes ≤ reach_of_passes settings passes
+  pub exact : IsTrue (is_exact_input (overlay_segments subject clip)) → reach_of_run settings (overlay_segments subject clip) passes ≡ 0
+  -- Its edges are segments of the arrangement that the passes leave of the given edges.
+  pub arranged : All (Contains (pairs (after_passes settings (overlay_segments subject clip) passes))) (edges answer)
+  -- No two of its edges share more than an end, and none stands twice.
+  pub apart : IsTrue (list_all (λ s. list_all (λ t. are_apart s t) (edges answer)) (edges answer))
+  pub once : (e : Pair) → count_by (λ s. pair_eq s e) (edges answer) ≤ 1

@@ -1,0 +1,39 @@
+-- Why an overlay of contours is refused.
+use Rattle.std.specs.Prelude.{◌≡◌, ◌⊎◌, ⊤, ℕ, ℤ, IsTrue, List}
+use Rattle.overlay_base.specs.Points.{Point}
+use Rattle.overlay_base.specs.declared.segm.fault.Fault.{Fault}
+use Rattle.overlay_base.specs.declared.segm.fault.Fault.TheVariants.{Memory, CountOutOfRange}
+use Rattle.overlay_base.specs.declared.segm.shape_type.ShapeType.{ShapeType}
+use Rattle.overlay_base.specs.declared.segm.shape_type.ShapeType.TheVariants.{Subject, Clip}
+use Rattle.overlay_split.specs.Run.{Settings, IsPassCount, LeavesRange, after_passes}
+use Rattle.overlay_sweep.specs.ChainWindings.{tops_leave_range}
+use Rattle.overlay_contours.specs.declared.fault.ContourFault.{ContourFault}
+use Rattle.overlay_contours.specs.declared.fault.ContourFault.TheVariants.{OutOfRange, Refused}
+use Rattle.overlay_contours.specs.ContourSegments.{overlay_segments, are_in_range, IsFirstOutside}
+
+-- of the two lists of contours the one of a shape
+abbrev pub of_shape : ShapeType → List (List Point) → List (List Point) → List (List Point)
+of_shape Subject subject clip = subject
+of_shape Clip subject clip = clip
+
+-- A count leaves the range: a sum of the run over the segments, or the top of a segment of the arrangement that it leaves.
+abbrev pub CountsLeaveRange : Settings → List (List Point) → List (List Point) → Type 0
+CountsLeaveRange settings subject clip =
+    LeavesRange settings (overlay_segments subject clip)
+    ⊎ ((passes : ℕ) × IsPassCount settings (overlay_segments subject clip) passes × IsTrue (tops_leave_range (after_passes settings (overlay_segments subject clip) passes)))
+
+-- what else is known of a refusal by a fault
+abbrev pub IsReason : Settings → List (List Point) → List (List Point) → Fault → Type 0
+IsReason settings subject clip Memory = ⊤
+IsReason settings subject clip CountOutOfRange = CountsLeaveRange settings subject clip
+
+-- The first point out of range is named, where there is one; else a growth was refused, or a count leaves the range.
+abbrev pub IsRefusal : ℤ → ℤ → Settings → List (List Point) → List (List Point) → ContourFault → Type 0
+IsRefusal least greatest settings subject clip (OutOfRange shape_type contour point) = IsFirstOutside least greatest (of_shape shape_type subject clip) contour point
+IsRefusal least greatest settings subject clip (Refused fault) =
+    IsTrue (are_in_range least greatest subject) × IsTrue (are_in_range least greatest clip) × IsReason settings subject clip fault
+
+-- the first point out of range of a shape's contours is named
+abbrev pub IsShapeOutside : ℤ → ℤ → ShapeType → List (List Point) → ContourFault → Type 0
+IsShapeOutside least greatest shape_type contours fault =
+    (contour : ℕ) × (point : ℕ) × IsFirstOutside least greatest contours contour point × (fault ≡ OutOfRange shape_type contour point)

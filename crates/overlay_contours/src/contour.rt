@@ -1,0 +1,150 @@
+// Contours: whether their points are in range, and the segments of their edges.
+ghost use Rattle.std.specs.Prelude.{◌≡◌, ◌<◌, ◌++◌, ◌∷◌, [], IsTrue, IsFalse, IfOk, IfErr, OnOk, IfSome, IfNone, MatchOption, map, take, length, slice_index_or};
+ghost use Rattle.std.specs.List.{list_all};
+ghost use Rattle.overlay_base.specs.Balance.{IsBalanced};
+ghost use Rattle.overlay_base.specs.Points.{Pair};
+ghost use Rattle.overlay_base.specs.Places.{RationalPoint, winding_below};
+ghost use Rattle.overlay_base.specs.PointOf.{point_of};
+ghost use Rattle.overlay_base.specs.SegmentOf.{segments_of};
+ghost use Rattle.overlay_base.specs.ArrangedOf.{IsSplittable};
+ghost use Rattle.overlay_base.specs.Coordinates.{is_point_in_range};
+ghost use Rattle.overlay_base.specs.declared.segm.fault.Fault.TheVariants.{Memory};
+ghost use Rattle.overlay_base.specs.declared.segm.shape_type.ShapeType.TheVariants.{Subject, Clip};
+ghost use Rattle.overlay_contours.specs.Contours.{steps_of};
+ghost use Rattle.overlay_contours.specs.ContoursOf.{points_of, contours_of};
+ghost use Rattle.overlay_contours.specs.ContourSegments.{step_segments, contour_segments, overlay_segments, overlay_winding, are_in_range, IsFirstPointOutside, IsFirstOutside};
+
+use overlay_base::geom::point::IntPoint;
+use overlay_base::num::OverlayInt;
+use overlay_base::segm::boolean::ShapeCountBoolean;
+use overlay_base::segm::fault::Fault;
+use overlay_base::segm::segment::Segment;
+use overlay_base::segm::shape_type::ShapeType;
+use std::alloc::Global;
+
+pub mod laws;
+
+/// A contour: each point is joined to the next one, and the last to the first.
+pub type IntContour<I> = Vec<IntPoint<I>>;
+
+/// A segment of contours.
+pub type Side<I> = Segment<ShapeCountBoolean, I, ()>;
+
+/// The indexes of the first contour with a point out of range, and of its first such point. `None` where all points
+/// lie from the engine's `MIN_COORD` to its `MAX_COORD`.
+pub fn find_out_of_range<I: OverlayInt>(contours: &[IntContour<I>]) -> Option<(usize, usize)>
+    ensures none { IfNone result (IsTrue (are_in_range (I.whole I.MIN_COORD) (I.whole I.MAX_COORD)
+        (contours_of I.whole contours.now))) }
+    ensures first { IfSome result (λ found. IsFirstOutside (I.whole I.MIN_COORD) (I.whole I.MAX_COORD)
+        (contours_of I.whole contours.now) found.0 found.1) }
+{
+    for (index, contour) in contours.iter().enumerate() {
+        if let Some(point) = find_point_out_of_range(contour) {
+            return Some((index, point));
+        }
+    }
+    None
+}
+
+/// The index of the first point out of range.
+fn find_point_out_of_range<I: OverlayInt>(points: &[IntPoint<I>]) -> Option<usize>
+    ensures none { IfNone result (IsTrue (list_all (is_point_in_range (I.whole I.MIN_COORD) (I.whole I.MAX_COORD))
+        (points_of I.whole points.now))) }
+    ensures first { IfSome result (λ point. IsFirstPointOutside (I.whole I.MIN_COORD) (I.whole I.MAX_COORD)
+        (points_of I.whole points.now) point) }
+{
+    for (index, point) in points.iter().enumerate() {
+        if !is_in_range(*point) {
+            return Some(index);
+        }
+    }
+    None
+}
+
+fn is_in_range<I: OverlayInt>(point: IntPoint<I>) -> bool
+    ensures { result ≡ is_point_in_range (I.whole I.MIN_COORD) (I.whole I.MAX_COORD) (point_of I.whole point) }
+{
+    point.x.is_in_range() && point.y.is_in_range()
+}
+
+/// The segments of a subject's and of a clip's contours: one for each step between two different points.
+///
+/// All points have to be in range, as `find_out_of_range` tests. The counts balance at every point, and at every place
+/// the segments wind as often as the contours run round it.
+///
+/// Answers `Fault::Memory` where a growth is refused.
+pub fn segments_of_contours<I: OverlayInt>(
+    alloc: Global,
+    subject: &[IntContour<I>],
+    clip: &[IntContour<I>],
+) -> Result<Vec<Side<I>>, Fault>
+    requires subject { IsTrue (are_in_range (I.whole I.MIN_COORD) (I.whole I.MAX_COORD)
+        (contours_of I.whole subject.now)) }
+    requires clip { IsTrue (are_in_range (I.whole I.MIN_COORD) (I.whole I.MAX_COORD)
+        (contours_of I.whole clip.now)) }
+    ensures segments { IfOk result (λ sides. segments_of sides.items
+        ≡ overlay_segments (contours_of I.whole subject.now) (contours_of I.whole clip.now)) }
+    ensures balanced { IfOk result (λ sides. IsBalanced (segments_of sides.items)) }
+    ensures splittable { IfOk result (λ sides. IsSplittable sides.items) }
+    ensures windings { IfOk result (λ sides. (p : RationalPoint) → winding_below (segments_of sides.items) p
+        ≡ overlay_winding (contours_of I.whole subject.now) (contours_of I.whole clip.now) p) }
+    ensures fault { IfErr result (λ fault. fault ≡ Memory) }
+{
+    let mut sides = Vec::new(alloc);
+    push_contours(&mut sides, subject, ShapeType::Subject)?;
+    push_contours(&mut sides, clip, ShapeType::Clip)?;
+    Ok(sides)
+}
+
+fn push_contours<I: OverlayInt>(
+    sides: &mut Vec<Side<I>>,
+    contours: &[IntContour<I>],
+    shape_type: ShapeType,
+) -> Result<(), Fault>
+    ensures sides { OnOk result (segments_of sides.new.items
+        ≡ segments_of sides.old.items ++ contour_segments shape_type (contours_of I.whole contours.now)) }
+    ensures fault { IfErr result (λ fault. fault ≡ Memory) }
+{
+    for contour in contours {
+        push_contour(sides, contour, shape_type)?;
+    }
+    Ok(())
+}
+
+/// Appends the steps of a contour.
+fn push_contour<I: OverlayInt>(
+    sides: &mut Vec<Side<I>>,
+    contour: &[IntPoint<I>],
+    shape_type: ShapeType,
+) -> Result<(), Fault>
+    ensures sides { OnOk result (segments_of sides.new.items
+        ≡ segments_of sides.old.items ++ step_segments shape_type (steps_of (points_of I.whole contour.now))) }
+    ensures fault { IfErr result (λ fault. fault ≡ Memory) }
+{
+    let Some((first, later)) = contour.split_first() else {
+        return Ok(());
+    };
+    let mut from = *first;
+    for point in later {
+        push_step(sides, from, *point, shape_type)?;
+        from = *point;
+    }
+    push_step(sides, from, *first, shape_type)
+}
+
+/// Appends the segment of a step, where its two points differ.
+fn push_step<I: OverlayInt>(
+    sides: &mut Vec<Side<I>>,
+    from: IntPoint<I>,
+    to: IntPoint<I>,
+    shape_type: ShapeType,
+) -> Result<(), Fault>
+    ensures sides { OnOk result (segments_of sides.new.items ≡ segments_of sides.old.items ++ step_segments shape_type
+        (record { a = point_of I.whole from; b = point_of I.whole to } ∷ [])) }
+    ensures fault { IfErr result (λ fault. fault ≡ Memory) }
+{
+    if let Some(side) = Segment::try_ab_and_data(from, to, shape_type, (), &mut ()) {
+        sides.push(side)?;
+    }
+    Ok(())
+}

@@ -1,0 +1,7 @@
+// Polygons in, polygons out: contours are made to segments, and the graph of an overlay to contours.
+#![tactic(auto)]
+
+pub mod contour;
+pub mod extract;
+pub mod fault;
+pub mod overlay;
