@@ -1,0 +1,4 @@
+pub mod Handles
+pub mod Overlays
+pub mod Steps
+pub mod Values

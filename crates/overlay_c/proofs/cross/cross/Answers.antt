@@ -1,0 +1,29 @@
+use Rattle.std.proofs.Common.{◌≢◌, ◌∙◌, sym, ap, subst, unsigned_abs, IsTrue, to_z-of_z}
+use Rattle.overlay_base.specs.Coordinates.{least_coordinate, greatest_coordinate, is_pair_in_range}
+use Rattle.overlay_base.specs.Points.{Pair}
+use Rattle.overlay_base.specs.PairOf.{pair_of}
+use Rattle.overlay_base.proofs.laws.geometry.Coordinates.{ends_in_range}
+use Rattle.overlay_marks.specs.CrossAnswer.{cross_answer}
+use Rattle.overlay_marks.specs.Marks.{snapping}
+use Rattle.overlay_c.specs.Crosses.{pair_by}
+use Rattle.overlay_c.proofs.cross.cross.Goals as goal
+
+pub cross-requires-clause-target : goal.cross-requires-clause-target
+cross-requires-clause-target c =
+    ends_in_range (λ z. z) least_coordinate greatest_coordinate c.ends-first.result (subst (λ (p : Pair). IsTrue (is_pair_in_range least_coordinate greatest_coordinate p)) (sym c.ends-first.ensures) c.requires.target)
+
+pub cross-requires-clause-other : goal.cross-requires-clause-other
+cross-requires-clause-other c =
+    ends_in_range (λ z. z) least_coordinate greatest_coordinate c.ends-second.result (subst (λ (p : Pair). IsTrue (is_pair_in_range least_coordinate greatest_coordinate p)) (sym c.ends-second.ensures) c.requires.other)
+
+pub cross-requires-clause-target_apart : goal.cross-requires-clause-target_apart
+cross-requires-clause-target_apart c = subst (λ (p : Pair). p.a ≢ p.b) (sym c.ends-first.ensures) c.requires.target_apart
+
+pub cross-requires-clause-other_apart : goal.cross-requires-clause-other_apart
+cross-requires-clause-other_apart c = subst (λ (p : Pair). p.a ≢ p.b) (sym c.ends-second.ensures) c.requires.other_apart
+
+pub returns-in-Some : goal.returns-in-Some
+returns-in-Some c =
+    let near = snapping (unsigned_abs c.args.radius_squared) in
+    c.found.ensures ∙ (simp (to_z-of_z, c.ranges.radius_squared) at c.in-Some.ensures) ∙ ap (λ (p : Pair). cross_answer near p (pair_of (λ z. z) c.ends-second.result)) c.ends-first.ensures
+    ∙ ap (λ (p : Pair). cross_answer near (pair_by c.args.target.now) p) c.ends-second.ensures

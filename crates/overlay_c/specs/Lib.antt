@@ -1,0 +1,5 @@
+pub mod Crosses
+pub mod Kept
+pub mod Owned
+pub mod Records
+pub mod Status

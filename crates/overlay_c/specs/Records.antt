@@ -1,0 +1,80 @@
+-- What the records that cross to C stand for, in whole numbers.
+use Rattle.std.specs.Prelude.{◌==◌, ℕ, pos, Bool, ◌&&◌, not, if◌then◌else◌}
+use Rattle.std.specs.Ordering.{int_eq}
+use Rattle.overlay_base.specs.Points.{Point, point_lt}
+use Rattle.overlay_base.specs.Windings.{Winding, inverse, is_valid}
+use Rattle.overlay_base.specs.Segments.{WholeSegment}
+use Rattle.overlay_base.specs.Radius.{exponent_cap}
+use Rattle.overlay_base.specs.declared.overlay_core.fill_rule.FillRule.{FillRule}
+use Rattle.overlay_base.specs.declared.overlay_core.fill_rule.FillRule.TheVariants as fill
+use Rattle.overlay_base.specs.declared.overlay_core.overlay_rule.OverlayRule.{OverlayRule}
+use Rattle.overlay_base.specs.declared.overlay_core.overlay_rule.OverlayRule.TheVariants as rule
+use Rattle.overlay_split.specs.Run.{Settings}
+use Rattle.overlay_build.specs.Graph.{Link}
+use Rattle.overlay_c.specs.declared.records.SegmentRecord.{SegmentRecord}
+use Rattle.overlay_c.specs.declared.records.LineRecord.{LineRecord}
+use Rattle.overlay_c.specs.declared.records.LinkRecord.{LinkRecord}
+use Rattle.overlay_c.specs.declared.records.SettingsRecord.{SettingsRecord}
+
+-- its ends and its count
+abbrev pub start_of : SegmentRecord → Point
+start_of r = record { x = r.ax; y = r.ay }
+
+abbrev pub end_of : SegmentRecord → Point
+end_of r = record { x = r.bx; y = r.by }
+
+abbrev pub count_of : SegmentRecord → Winding
+count_of r = record { subj = r.subj; clip = r.clip; mask = 0 }
+
+-- the segment from p to q with a count: where it runs backward it is turned, and its count inverted
+abbrev pub piece_of : Winding → Point → Point → WholeSegment
+piece_of count p q =
+    if point_lt p q
+    then record { pair = record { a = p; b = q }; count = count }
+    else record { pair = record { a = q; b = p }; count = inverse count }
+
+-- whether it asks for a segment: its ends differ, and its count is valid
+abbrev pub asks : SegmentRecord → Bool
+asks r = not (int_eq r.ax r.bx && int_eq r.ay r.by) && is_valid (count_of r)
+
+-- the segment that it asks for
+abbrev pub asked_by : SegmentRecord → WholeSegment
+asked_by r = piece_of (count_of r) (start_of r) (end_of r)
+
+-- the same of a line or a polygon's side
+abbrev pub line_start_of : LineRecord → Point
+line_start_of r = record { x = r.ax; y = r.ay }
+
+abbrev pub line_end_of : LineRecord → Point
+line_end_of r = record { x = r.bx; y = r.by }
+
+abbrev pub line_count_of : LineRecord → Winding
+line_count_of r = record { subj = r.subj; clip = pos 0; mask = r.mask }
+
+abbrev pub line_asks : LineRecord → Bool
+line_asks r = not (int_eq r.ax r.bx && int_eq r.ay r.by) && is_valid (line_count_of r)
+
+abbrev pub line_asked_by : LineRecord → WholeSegment
+line_asked_by r = piece_of (line_count_of r) (line_start_of r) (line_end_of r)
+
+-- the segment that it tells, as it stands
+abbrev pub told_by : SegmentRecord → WholeSegment
+told_by r = record { pair = record { a = start_of r; b = end_of r }; count = count_of r }
+
+-- the link that it tells
+abbrev pub link_by : LinkRecord → Link
+link_by r = record { pair = record { a = record { x = r.ax; y = r.ay }; b = record { x = r.bx; y = r.by } }; fill = r.fill; a_node = r.a_node; b_node = r.b_node }
+
+-- the fill rule of a code
+abbrev pub fill_rule_of : ℕ → FillRule
+fill_rule_of code = if code == 0 then fill.EvenOdd else if code == 1 then fill.NonZero else if code == 2 then fill.Positive else fill.Negative
+
+-- the settings that these and a snap limit make, for coordinates of 32 bits
+abbrev pub settings_by : SettingsRecord → ℕ → Settings
+settings_by r limit = record { start = r.start; progression = r.progression; cap = exponent_cap 32; limit = limit }
+
+-- the overlay rule of a code
+abbrev pub overlay_rule_of : ℕ → OverlayRule
+overlay_rule_of code =
+    if code == 0 then rule.Subject else if code == 1 then rule.Clip else if code == 2 then rule.Intersect else if code == 3 then rule.Union
+    else if code == 4 then rule.Difference else if code == 5 then rule.InverseDifference else rule.Xor

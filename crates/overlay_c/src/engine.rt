@@ -1,0 +1,275 @@
+// The engine behind a handle: a splitter, builders, and the records of their last answers.
+ghost use Rattle.std.specs.Prelude.{◌≡◌, true, IsTrue, OnOk, IfOk, map, length, flat_map};
+ghost use Rattle.std.specs.List.{list_all};
+ghost use Rattle.overlay_base.specs.SegmentOf.{segments_of};
+ghost use Rattle.overlay_build.specs.GraphOf.{link_of};
+ghost use Rattle.overlay_build.specs.NodeIndexes.{indexes_of};
+ghost use Rattle.overlay_c.specs.Records.{asks, asked_by, line_asked_by, link_by};
+
+use crate::lines::{self, Line};
+use crate::records::{
+    LineRecord, LinkRecord, SegmentRecord, SettingsRecord, Side, asked, fill_rule, link, solver,
+};
+use crate::refusal::Refusal;
+use i_overlay::clip::split_and_build_clip;
+use i_overlay::overlay::split_and_build_overlay;
+use overlay_base::overlay_core::clip_rule::ClipRule;
+use overlay_base::overlay_core::link::OverlayLink;
+use overlay_base::overlay_core::overlay_rule::OverlayRule;
+use overlay_base::segm::arranged::is_splittable;
+use overlay_base::segm::boolean::ShapeCountBoolean;
+use overlay_base::segm::join::join_with_store;
+use overlay_base::segm::string::ShapeCountString;
+use overlay_build::build::builder::GraphBuilder;
+use overlay_build::build::graph_node::OverlayNode;
+use overlay_build::build::walks::closed_walks;
+use overlay_split::split::solver::SplitSolver;
+use std::alloc::{AllocError, Global};
+
+/// What is kept from one call to the next.
+#[derive(Drop)]
+pub struct Engine {
+    pub splitter: SplitSolver<i32>,
+    pub builder: GraphBuilder<ShapeCountBoolean, OverlayNode, i32, ()>,
+    pub line_builder: GraphBuilder<ShapeCountString, Vec<usize>, i32, ()>,
+    /// The arrangement.
+    pub segments: Vec<Side>,
+    /// The arrangement of polygons and lines.
+    pub lines: Vec<Line>,
+    /// Whether the last split joined equal segments or split one, or the last join joined some.
+    pub has_changed: bool,
+    /// The links of the graph.
+    pub links: Vec<LinkRecord>,
+    /// How many links meet at each node.
+    pub degrees: Vec<usize>,
+    /// The indexes of the links at the first node, then of those at the next, and so on.
+    pub indexes: Vec<usize>,
+    /// Whether closed walks were asked for and found.
+    pub has_walks: bool,
+    /// How many links each walk has.
+    pub walk_lengths: Vec<usize>,
+    /// The indexes of the links of the first walk, then of those of the next, and so on.
+    pub walk_links: Vec<usize>,
+}
+
+impl Engine {
+    ghost use Rattle.std.specs.Prelude.{◌≡◌, Err, IsTrue, IsFalse, OnOk, IfErr};
+    ghost use Rattle.overlay_base.specs.declared.segm.fault.Fault.TheVariants.{CountOutOfRange};
+    ghost use Rattle.overlay_base.specs.ArrangedOf.{IsArranged};
+    ghost use Rattle.overlay_base.specs.Join.{join, join_leaves_range, has_equal_pairs};
+    ghost use Rattle.overlay_split.specs.Run.{LeavesRange};
+    ghost use Rattle.overlay_split.specs.SettingsOf.{snap_limit_of};
+    ghost use Rattle.overlay_c.specs.Kept.{given_by, are_usable, are_lines_usable, engine_settings, KeepsSplit, KeepsAll, KeepsOverlay, KeepsClip, IsCountRefused};
+    ghost use Rattle.overlay_c.specs.declared.refusal.Refusal.TheVariants.{Refused, NotSplittable};
+
+    /// An engine, which takes no memory yet.
+    pub fn new(alloc: Global, snap_limit: u32) -> Engine
+        ensures { snap_limit_of result.splitter ≡ snap_limit }
+    {
+        Engine {
+            splitter: SplitSolver::with_snap_limit(alloc, snap_limit),
+            builder: GraphBuilder::new(alloc),
+            line_builder: GraphBuilder::new(alloc),
+            segments: Vec::new(alloc),
+            lines: Vec::new(alloc),
+            has_changed: false,
+            links: Vec::new(alloc),
+            degrees: Vec::new(alloc),
+            indexes: Vec::new(alloc),
+            has_walks: false,
+            walk_lengths: Vec::new(alloc),
+            walk_links: Vec::new(alloc),
+        }
+    }
+
+    /// Splits the segments that records ask for, and keeps the arrangement, the graph of the segments that an overlay rule
+    /// keeps, and closed walks through it where they are asked for and evenly many links meet at each node.
+    ///
+    /// After a refusal the engine can be used again, and nothing is promised of what it keeps.
+    pub fn overlay(
+        &mut self,
+        alloc: Global,
+        given: &[SegmentRecord],
+        settings: &SettingsRecord,
+        rule: OverlayRule,
+        walks: bool,
+    ) -> Result<(), Refusal>
+        ensures kept { OnOk result (KeepsOverlay settings.now rule walks (given_by given.now) self.new) }
+        ensures usable { OnOk result (IsTrue (are_usable given.now)) }
+        ensures unusable { IfErr result (λ refusal. refusal ≡ NotSplittable → IsFalse (are_usable given.now)) }
+        ensures too_large { IfErr result (λ refusal. refusal ≡ Refused CountOutOfRange
+            → IsCountRefused settings.now (given_by given.now) self.old self.new) }
+        ensures limit { snap_limit_of self.new.splitter ≡ snap_limit_of self.old.splitter }
+    {
+        if !load(given, &mut self.segments)? || !is_splittable(&self.segments) {
+            return Err(Refusal::NotSplittable);
+        }
+        let solver = solver(settings);
+        let fill_rule = fill_rule(settings.fill_rule);
+        let (splitter, builder) = (&mut self.splitter, &mut self.builder);
+        let segments = &mut self.segments;
+        let graph = split_and_build_overlay(splitter, builder, segments, &solver, fill_rule, rule)?;
+        keep_links(graph.links(), &mut self.links)?;
+        keep_nodes(graph.nodes(), &mut self.degrees, &mut self.indexes)?;
+        self.has_walks = walks && graph.has_even_nodes();
+        if self.has_walks {
+            let found = closed_walks(alloc, &graph)?;
+            keep_lists(&found, &mut self.walk_lengths, &mut self.walk_links)?;
+        }
+        Ok(())
+    }
+
+    /// Splits the segments that records ask for, and keeps the arrangement.
+    pub fn split(
+        &mut self,
+        given: &[SegmentRecord],
+        settings: &SettingsRecord,
+    ) -> Result<(), Refusal>
+        ensures kept { OnOk result (KeepsSplit settings.now (given_by given.now) self.new) }
+        ensures arranged { OnOk result (IsArranged self.new.segments.items) }
+        ensures usable { OnOk result (IsTrue (are_usable given.now)) }
+        ensures unusable { IfErr result (λ refusal. refusal ≡ NotSplittable → IsFalse (are_usable given.now)) }
+        ensures too_large { IfErr result (λ refusal. refusal ≡ Refused CountOutOfRange
+            → LeavesRange (engine_settings settings.now self.old) (given_by given.now)) }
+        ensures limit { snap_limit_of self.new.splitter ≡ snap_limit_of self.old.splitter }
+    {
+        if !load(given, &mut self.segments)? || !is_splittable(&self.segments) {
+            return Err(Refusal::NotSplittable);
+        }
+        let solver = solver(settings);
+        self.has_changed = self.splitter.split_segments(&mut self.segments, &solver)?;
+        Ok(())
+    }
+
+    /// Splits the segments that records ask for, and keeps the arrangement and the graph of all of it.
+    pub fn all(&mut self, given: &[SegmentRecord], settings: &SettingsRecord) -> Result<(), Refusal>
+        ensures kept { OnOk result (KeepsAll settings.now (given_by given.now) self.new) }
+        ensures usable { OnOk result (IsTrue (are_usable given.now)) }
+        ensures unusable { IfErr result (λ refusal. refusal ≡ NotSplittable → IsFalse (are_usable given.now)) }
+        ensures limit { snap_limit_of self.new.splitter ≡ snap_limit_of self.old.splitter }
+    {
+        self.split(given, settings)?;
+        let solver = solver(settings);
+        let fill_rule = fill_rule(settings.fill_rule);
+        let graph = self
+            .builder
+            .build_boolean_all(fill_rule, &solver, &self.segments)?;
+        keep_links(graph.links(), &mut self.links)?;
+        keep_nodes(graph.nodes(), &mut self.degrees, &mut self.indexes)?;
+        Ok(())
+    }
+
+    /// Joins the segments on each pair of ends, and keeps them.
+    pub fn join(&mut self, given: &[SegmentRecord]) -> Result<(), Refusal>
+        ensures joined { OnOk result (segments_of self.new.segments.items ≡ join (given_by given.now)) }
+        ensures repeated { OnOk result (self.new.has_changed ≡ has_equal_pairs (given_by given.now)) }
+        ensures usable { OnOk result (IsTrue (are_usable given.now)) }
+        ensures unusable { IfErr result (λ refusal. refusal ≡ NotSplittable → IsFalse (are_usable given.now)) }
+        ensures too_large { IfErr result (λ refusal. refusal ≡ Refused CountOutOfRange
+            → IsTrue (join_leaves_range (given_by given.now))) }
+        ensures splitter { self.new.splitter ≡ self.old.splitter }
+    {
+        if !load(given, &mut self.segments)? || !is_splittable(&self.segments) {
+            return Err(Refusal::NotSplittable);
+        }
+        self.has_changed = join_with_store(&mut self.segments, &mut ())?;
+        Ok(())
+    }
+
+    /// Splits the polygons and lines that records ask for, and keeps the arrangement and the graph of the parts of the
+    /// lines that a clip rule keeps.
+    pub fn clip(
+        &mut self,
+        given: &[LineRecord],
+        settings: &SettingsRecord,
+        rule: ClipRule,
+    ) -> Result<(), Refusal>
+        ensures kept { OnOk result (KeepsClip settings.now rule (map line_asked_by given.now) self.new) }
+        ensures usable { OnOk result (IsTrue (are_lines_usable given.now)) }
+        ensures unusable { IfErr result (λ refusal. refusal ≡ NotSplittable → IsFalse (are_lines_usable given.now)) }
+        ensures limit { snap_limit_of self.new.splitter ≡ snap_limit_of self.old.splitter }
+    {
+        if !lines::load(given, &mut self.lines)? || !is_splittable(&self.lines) {
+            return Err(Refusal::NotSplittable);
+        }
+        let solver = solver(settings);
+        let fill_rule = fill_rule(settings.fill_rule);
+        let (splitter, builder) = (&mut self.splitter, &mut self.line_builder);
+        let graph = split_and_build_clip(
+            splitter,
+            builder,
+            &mut self.lines,
+            &solver,
+            fill_rule,
+            rule,
+        )?;
+        keep_links(graph.links(), &mut self.links)?;
+        keep_lists(graph.nodes(), &mut self.degrees, &mut self.indexes)?;
+        Ok(())
+    }
+}
+
+/// Loads the segments that records ask for. Answers whether each asks for one.
+pub fn load(records: &[SegmentRecord], list: &mut Vec<Side>) -> Result<bool, AllocError>
+    ensures asks { IfOk result (λ all. all ≡ list_all asks records.now) }
+    ensures segments { IfOk result (λ all. IsTrue all → segments_of list.new.items ≡ map asked_by records.now) }
+{
+    list.clear();
+    for given in records {
+        match asked(given) {
+            Some(segment) => list.push(segment)?,
+            None => return Ok(false),
+        }
+    }
+    Ok(true)
+}
+
+/// Keeps the records of links.
+pub fn keep_links(
+    links: &[OverlayLink<i32, ()>],
+    kept: &mut Vec<LinkRecord>,
+) -> Result<(), AllocError>
+    ensures { OnOk result (map link_by kept.new.items ≡ map (link_of (λ z. z)) links.now) }
+{
+    kept.clear();
+    for each in links {
+        kept.push(link(each))?;
+    }
+    Ok(())
+}
+
+/// Keeps the indexes of the links at each node.
+pub fn keep_nodes(
+    nodes: &[OverlayNode],
+    degrees: &mut Vec<usize>,
+    indexes: &mut Vec<usize>,
+) -> Result<(), AllocError>
+    ensures degrees { OnOk result (degrees.new.items ≡ map length (map indexes_of nodes.now)) }
+    ensures indexes { OnOk result (indexes.new.items ≡ flat_map (λ list. list) (map indexes_of nodes.now)) }
+{
+    degrees.clear();
+    indexes.clear();
+    for node in nodes {
+        degrees.push(node.indices().len())?;
+        indexes.extend_from_slice(node.indices())?;
+    }
+    Ok(())
+}
+
+/// Keeps lists of indexes.
+pub fn keep_lists(
+    lists: &[Vec<usize>],
+    lengths: &mut Vec<usize>,
+    indexes: &mut Vec<usize>,
+) -> Result<(), AllocError>
+    ensures lengths { OnOk result (lengths.new.items ≡ map length (map (λ l. l.items) lists.now)) }
+    ensures indexes { OnOk result (indexes.new.items ≡ flat_map (λ list. list) (map (λ l. l.items) lists.now)) }
+{
+    lengths.clear();
+    indexes.clear();
+    for list in lists {
+        lengths.push(list.len())?;
+        indexes.extend_from_slice(list)?;
+    }
+    Ok(())
+}

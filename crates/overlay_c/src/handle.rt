@@ -1,0 +1,71 @@
+// A handle.
+ghost use Rattle.std.specs.Prelude.{◌≡◌, true, Some, None, IsSome};
+ghost use Rattle.std.specs.declared.option.Option.{Option};
+ghost use Rattle.overlay_c.specs.Owned.{held};
+ghost use Rattle.overlay_c.specs.declared.engine.Engine.{Engine};
+ghost use Rattle.overlay_c.specs.contracts.engine.Engine.{the_row};
+
+use crate::engine::Engine;
+use crate::loose::Loose;
+use std::alloc::Global;
+use std::marker::Model;
+
+/// The place of an engine.
+#[repr(C)]
+#[derive(Drop)]
+pub struct Handle {
+    at: *mut u8,
+    alloc: Global,
+    pub ghost engine: { Option Engine },
+}
+
+impl Model for Handle {
+    ghost also_owns = { λ h. held the_row h.alloc h.at h.engine };
+}
+
+/// Takes the engine out.
+pub(crate) fn take(alloc: Global, handle: &mut Handle) -> Box<Engine>
+    requires { IsSome handle.old.engine }
+    ensures engine { handle.old.engine ≡ Some result.value }
+    ensures none { handle.new.engine ≡ None }
+{
+    let full = std::mem::replace(handle, empty(alloc));
+    full_loose(full).into_box()
+}
+
+/// Puts an engine in.
+pub(crate) fn put(handle: &mut Handle, engine: Box<Engine>)
+    ensures { handle.new.engine ≡ Some engine.value }
+{
+    *handle = of_loose(Loose::of(engine));
+}
+
+fn empty(alloc: Global) -> Handle
+    ensures { result.engine ≡ None }
+{
+    Handle {
+        at: std::ptr::null_mut(),
+        alloc,
+    }
+}
+
+fn of_loose(loose: Loose<Engine, Global>) -> Handle
+    ensures { result.engine ≡ Some loose.value }
+{
+    let Loose { at, alloc } = loose;
+    Handle {
+        at: at as *mut u8,
+        alloc,
+    }
+}
+
+fn full_loose(handle: Handle) -> Loose<Engine, Global>
+    requires { IsSome handle.engine }
+    ensures { handle.engine ≡ Some result.value }
+{
+    let Handle { at, alloc } = handle;
+    Loose {
+        at: at as *mut Engine,
+        alloc,
+    }
+}

@@ -1,0 +1,299 @@
+// The overlay engine for C: exports over an engine behind a handle, for coordinates of 32 bits.
+#![tactic(auto)]
+
+ghost use Rattle.std.specs.Prelude.{◌≡◌, ◌≢◌, ◌≤ℤ◌, pos, unsigned_abs, ◌↔◌, ◌<◌, ◌^◌, None, IsSome, IsTrue, IsFalse, IfSome, length, map};
+ghost use Rattle.overlay_base.specs.SegmentOf.{segments_of};
+ghost use Rattle.overlay_base.specs.Join.{join, join_leaves_range, has_equal_pairs};
+ghost use Rattle.overlay_split.specs.Run.{LeavesRange};
+ghost use Rattle.overlay_split.specs.SettingsOf.{snap_limit_of, passes_of};
+ghost use Rattle.overlay_c.specs.Records.{start_of, end_of, line_asked_by, told_by, overlay_rule_of};
+ghost use Rattle.overlay_c.specs.Crosses.{pair_by, cross_by};
+ghost use Rattle.overlay_base.specs.Coordinates.{least_coordinate, greatest_coordinate, is_pair_in_range};
+ghost use Rattle.overlay_marks.specs.CrossAnswer.{cross_answer};
+ghost use Rattle.overlay_marks.specs.Marks.{snapping};
+ghost use Rattle.overlay_c.specs.Kept.{given_by, are_usable, are_lines_usable, engine_settings, KeepsSplit, KeepsAll, KeepsOverlay, KeepsClip, IsCountRefused};
+
+pub mod cross;
+pub mod engine;
+pub mod handle;
+pub mod lines;
+pub(crate) mod loose;
+pub mod records;
+pub mod refusal;
+
+use crate::cross::{CrossRecord, cross};
+use crate::engine::Engine;
+use crate::handle::{Handle, put, take};
+use crate::records::{
+    LineRecord, LinkRecord, SegmentRecord, SettingsRecord, SizesRecord, overlay_rule, tell_all,
+};
+use crate::refusal::status;
+use overlay_base::overlay_core::clip_rule::ClipRule;
+use std::alloc::Global;
+
+/// Makes an engine, in an empty handle. Answers whether there was memory.
+#[unsafe(no_mangle)]
+pub extern "C" fn overlay_c_new(alloc: Global, handle: &mut Handle, snap_limit: u32) -> bool
+    requires { handle.old.engine ≡ None }
+    ensures made { IsTrue result ↔ IsSome handle.new.engine }
+    ensures limit { IfSome handle.new.engine (λ engine. snap_limit_of engine.splitter ≡ snap_limit) }
+{
+    match Box::new(alloc, Engine::new(alloc, snap_limit)) {
+        Ok(engine) => {
+            put(handle, engine);
+            true
+        }
+        Err(_) => false,
+    }
+}
+
+/// Frees the engine of a handle, which is empty then.
+#[unsafe(no_mangle)]
+pub extern "C" fn overlay_c_free(alloc: Global, handle: &mut Handle)
+    requires { IsSome handle.old.engine }
+    ensures { handle.new.engine ≡ None }
+{
+    drop(take(alloc, handle));
+}
+
+/// The overlay of the segments that records ask for. Answers 0 where it is done, 1 where memory was refused, 2 where a
+/// count left the range, and 3 where the segments may not be split.
+#[unsafe(no_mangle)]
+pub extern "C" fn overlay_c_overlay(
+    alloc: Global,
+    handle: &mut Handle,
+    given: &[SegmentRecord],
+    settings: &SettingsRecord,
+    rule: u8,
+    walks: bool,
+) -> u8
+    requires { IsSome handle.old.engine }
+    ensures full { IsSome handle.new.engine }
+    ensures done { result ≡ 0 → IfSome handle.new.engine
+        (KeepsOverlay settings.now (overlay_rule_of rule) walks (given_by given.now)) }
+    ensures usable { result ≡ 0 → IsTrue (are_usable given.now) }
+    ensures unusable { result ≡ 3 → IsFalse (are_usable given.now) }
+    ensures too_large { result ≡ 2 → IfSome handle.old.engine (λ before. IfSome handle.new.engine
+        (IsCountRefused settings.now (given_by given.now) before)) }
+    ensures limit { IfSome handle.old.engine (λ before. IfSome handle.new.engine
+        (λ after. snap_limit_of after.splitter ≡ snap_limit_of before.splitter)) }
+{
+    let mut engine = take(alloc, handle);
+    let outcome = engine.overlay(alloc, given, settings, overlay_rule(rule), walks);
+    put(handle, engine);
+    status(outcome)
+}
+
+/// The split of the segments that records ask for. Answers as `overlay_c_overlay` does.
+#[unsafe(no_mangle)]
+pub extern "C" fn overlay_c_split(
+    alloc: Global,
+    handle: &mut Handle,
+    given: &[SegmentRecord],
+    settings: &SettingsRecord,
+) -> u8
+    requires { IsSome handle.old.engine }
+    ensures full { IsSome handle.new.engine }
+    ensures done { result ≡ 0 → IfSome handle.new.engine (KeepsSplit settings.now (given_by given.now)) }
+    ensures usable { result ≡ 0 → IsTrue (are_usable given.now) }
+    ensures unusable { result ≡ 3 → IsFalse (are_usable given.now) }
+    ensures too_large { result ≡ 2 → IfSome handle.old.engine (λ before.
+        LeavesRange (engine_settings settings.now before) (given_by given.now)) }
+    ensures limit { IfSome handle.old.engine (λ before. IfSome handle.new.engine
+        (λ after. snap_limit_of after.splitter ≡ snap_limit_of before.splitter)) }
+{
+    let mut engine = take(alloc, handle);
+    let outcome = engine.split(given, settings);
+    put(handle, engine);
+    status(outcome)
+}
+
+/// The graph of all of the arrangement of the segments that records ask for. Answers as `overlay_c_overlay` does.
+#[unsafe(no_mangle)]
+pub extern "C" fn overlay_c_all(
+    alloc: Global,
+    handle: &mut Handle,
+    given: &[SegmentRecord],
+    settings: &SettingsRecord,
+) -> u8
+    requires { IsSome handle.old.engine }
+    ensures full { IsSome handle.new.engine }
+    ensures done { result ≡ 0 → IfSome handle.new.engine (KeepsAll settings.now (given_by given.now)) }
+    ensures usable { result ≡ 0 → IsTrue (are_usable given.now) }
+    ensures unusable { result ≡ 3 → IsFalse (are_usable given.now) }
+    ensures limit { IfSome handle.old.engine (λ before. IfSome handle.new.engine
+        (λ after. snap_limit_of after.splitter ≡ snap_limit_of before.splitter)) }
+{
+    let mut engine = take(alloc, handle);
+    let outcome = engine.all(given, settings);
+    put(handle, engine);
+    status(outcome)
+}
+
+/// The join of the segments that records ask for. Answers as `overlay_c_overlay` does.
+#[unsafe(no_mangle)]
+pub extern "C" fn overlay_c_join(alloc: Global, handle: &mut Handle, given: &[SegmentRecord]) -> u8
+    requires { IsSome handle.old.engine }
+    ensures full { IsSome handle.new.engine }
+    ensures done { result ≡ 0 → IfSome handle.new.engine (λ engine.
+        segments_of engine.segments.items ≡ join (given_by given.now)) }
+    ensures repeated { result ≡ 0 → IfSome handle.new.engine (λ engine.
+        engine.has_changed ≡ has_equal_pairs (given_by given.now)) }
+    ensures usable { result ≡ 0 → IsTrue (are_usable given.now) }
+    ensures unusable { result ≡ 3 → IsFalse (are_usable given.now) }
+    ensures too_large { result ≡ 2 → IsTrue (join_leaves_range (given_by given.now)) }
+{
+    let mut engine = take(alloc, handle);
+    let outcome = engine.join(given);
+    put(handle, engine);
+    status(outcome)
+}
+
+/// The parts of lines that a clip rule keeps. Answers as `overlay_c_overlay` does.
+#[unsafe(no_mangle)]
+pub extern "C" fn overlay_c_clip(
+    alloc: Global,
+    handle: &mut Handle,
+    given: &[LineRecord],
+    settings: &SettingsRecord,
+    invert: bool,
+    boundary_included: bool,
+) -> u8
+    requires { IsSome handle.old.engine }
+    ensures full { IsSome handle.new.engine }
+    ensures done { result ≡ 0 → IfSome handle.new.engine
+        (KeepsClip settings.now (record { invert = invert; boundary_included = boundary_included })
+        (map line_asked_by given.now)) }
+    ensures usable { result ≡ 0 → IsTrue (are_lines_usable given.now) }
+    ensures unusable { result ≡ 3 → IsFalse (are_lines_usable given.now) }
+    ensures limit { IfSome handle.old.engine (λ before. IfSome handle.new.engine
+        (λ after. snap_limit_of after.splitter ≡ snap_limit_of before.splitter)) }
+{
+    let mut engine = take(alloc, handle);
+    let rule = ClipRule {
+        invert,
+        boundary_included,
+    };
+    let outcome = engine.clip(given, settings, rule);
+    put(handle, engine);
+    status(outcome)
+}
+
+/// Where a target and another segment meet, with a squared radius within which a crossing is moved to an end. The
+/// counts are not looked at.
+#[unsafe(no_mangle)]
+pub extern "C" fn overlay_c_cross(
+    target: &SegmentRecord,
+    other: &SegmentRecord,
+    radius_squared: i64,
+) -> CrossRecord
+    requires target { IsTrue (is_pair_in_range least_coordinate greatest_coordinate (pair_by target.now)) }
+    requires other { IsTrue (is_pair_in_range least_coordinate greatest_coordinate (pair_by other.now)) }
+    requires target_apart { start_of target.now ≢ end_of target.now }
+    requires other_apart { start_of other.now ≢ end_of other.now }
+    requires radius { pos 1 ≤ℤ radius_squared }
+    ensures { cross_by result ≡ cross_answer (snapping (unsigned_abs radius_squared)) (pair_by target.now)
+        (pair_by other.now) }
+{
+    cross(target, other, radius_squared)
+}
+
+/// How much the engine keeps of its last answer.
+#[unsafe(no_mangle)]
+pub extern "C" fn overlay_c_sizes(alloc: Global, handle: &mut Handle) -> SizesRecord
+    requires { IsSome handle.old.engine }
+    ensures same { handle.new.engine ≡ handle.old.engine }
+    ensures segments { IfSome handle.old.engine (λ engine. result.segments ≡ length engine.segments.items) }
+    ensures links { IfSome handle.old.engine (λ engine. result.links ≡ length engine.links.items) }
+    ensures nodes { IfSome handle.old.engine (λ engine. result.nodes ≡ length engine.degrees.items) }
+    ensures node_links { IfSome handle.old.engine (λ engine. result.node_links ≡ length engine.indexes.items) }
+    ensures walks { IfSome handle.old.engine (λ engine. result.walks ≡ length engine.walk_lengths.items) }
+    ensures walk_links { IfSome handle.old.engine (λ engine. result.walk_links ≡ length engine.walk_links.items) }
+    ensures has_walks { IfSome handle.old.engine (λ engine. result.has_walks ≡ engine.has_walks) }
+    ensures has_changed { IfSome handle.old.engine (λ engine. result.has_changed ≡ engine.has_changed) }
+    ensures passes { IfSome handle.old.engine (λ engine. passes_of engine.splitter < 2 ^ 64
+        → result.passes ≡ passes_of engine.splitter) }
+{
+    let engine = take(alloc, handle);
+    let sizes = SizesRecord {
+        segments: engine.segments.len(),
+        links: engine.links.len(),
+        nodes: engine.degrees.len(),
+        node_links: engine.indexes.len(),
+        walks: engine.walk_lengths.len(),
+        walk_links: engine.walk_links.len(),
+        has_walks: engine.has_walks,
+        has_changed: engine.has_changed,
+        passes: u64::try_from(engine.splitter.passes()).unwrap_or(u64::MAX),
+    };
+    put(handle, engine);
+    sizes
+}
+
+/// Copies the arrangement out.
+#[unsafe(no_mangle)]
+pub extern "C" fn overlay_c_segments(alloc: Global, handle: &mut Handle, out: &mut [SegmentRecord])
+    requires engine { IsSome handle.old.engine }
+    requires length { IfSome handle.old.engine (λ engine. length out.old ≡ length engine.segments.items) }
+    ensures same { handle.new.engine ≡ handle.old.engine }
+    ensures copied { IfSome handle.old.engine (λ engine. map told_by out.new ≡ segments_of engine.segments.items) }
+{
+    let engine = take(alloc, handle);
+    tell_all(&engine.segments, out);
+    put(handle, engine);
+}
+
+/// Copies the links out.
+#[unsafe(no_mangle)]
+pub extern "C" fn overlay_c_links(alloc: Global, handle: &mut Handle, out: &mut [LinkRecord])
+    requires engine { IsSome handle.old.engine }
+    requires length { IfSome handle.old.engine (λ engine. length out.old ≡ length engine.links.items) }
+    ensures same { handle.new.engine ≡ handle.old.engine }
+    ensures copied { IfSome handle.old.engine (λ engine. out.new ≡ engine.links.items) }
+{
+    let engine = take(alloc, handle);
+    out.copy_from_slice(&engine.links);
+    put(handle, engine);
+}
+
+/// Copies out how many links meet at each node, and the indexes of these links, node by node.
+#[unsafe(no_mangle)]
+pub extern "C" fn overlay_c_nodes(
+    alloc: Global,
+    handle: &mut Handle,
+    degrees: &mut [usize],
+    indexes: &mut [usize],
+)
+    requires engine { IsSome handle.old.engine }
+    requires degrees { IfSome handle.old.engine (λ engine. length degrees.old ≡ length engine.degrees.items) }
+    requires indexes { IfSome handle.old.engine (λ engine. length indexes.old ≡ length engine.indexes.items) }
+    ensures same { handle.new.engine ≡ handle.old.engine }
+    ensures degrees { IfSome handle.old.engine (λ engine. degrees.new ≡ engine.degrees.items) }
+    ensures indexes { IfSome handle.old.engine (λ engine. indexes.new ≡ engine.indexes.items) }
+{
+    let engine = take(alloc, handle);
+    degrees.copy_from_slice(&engine.degrees);
+    indexes.copy_from_slice(&engine.indexes);
+    put(handle, engine);
+}
+
+/// Copies out how many links each walk has, and the indexes of these links, walk by walk.
+#[unsafe(no_mangle)]
+pub extern "C" fn overlay_c_walks(
+    alloc: Global,
+    handle: &mut Handle,
+    lengths: &mut [usize],
+    indexes: &mut [usize],
+)
+    requires engine { IsSome handle.old.engine }
+    requires lengths { IfSome handle.old.engine (λ engine. length lengths.old ≡ length engine.walk_lengths.items) }
+    requires indexes { IfSome handle.old.engine (λ engine. length indexes.old ≡ length engine.walk_links.items) }
+    ensures same { handle.new.engine ≡ handle.old.engine }
+    ensures lengths { IfSome handle.old.engine (λ engine. lengths.new ≡ engine.walk_lengths.items) }
+    ensures indexes { IfSome handle.old.engine (λ engine. indexes.new ≡ engine.walk_links.items) }
+{
+    let engine = take(alloc, handle);
+    lengths.copy_from_slice(&engine.walk_lengths);
+    indexes.copy_from_slice(&engine.walk_links);
+    put(handle, engine);
+}

@@ -1,0 +1,87 @@
+// Lines and the polygons that cut them, as records ask for them.
+ghost use Rattle.std.specs.Prelude.{◌≡◌, ◌&&◌, IsTrue, IfSome, IfOk, is_some, map};
+ghost use Rattle.std.specs.Ordering.{int_eq};
+ghost use Rattle.std.specs.List.{list_all};
+ghost use Rattle.overlay_base.specs.PointOf.{point_of};
+ghost use Rattle.overlay_base.specs.StringWinding.{string_winding};
+ghost use Rattle.overlay_base.specs.SegmentOf.{segment_of, segments_of};
+ghost use Rattle.overlay_c.specs.Records.{line_start_of, line_end_of, line_count_of, line_asks, line_asked_by};
+
+use crate::records::LineRecord;
+use overlay_base::geom::point::IntPoint;
+use overlay_base::segm::segment::Segment;
+use overlay_base::segm::string::ShapeCountString;
+use overlay_base::segm::winding::WindingCount;
+use std::alloc::AllocError;
+
+/// A segment of polygons and lines, with coordinates of 32 bits.
+pub type Line = Segment<ShapeCountString, i32, ()>;
+
+/// Loads the segments that records ask for. Answers whether each asks for one.
+pub fn load(records: &[LineRecord], list: &mut Vec<Line>) -> Result<bool, AllocError>
+    ensures asks { IfOk result (λ all. all ≡ list_all line_asks records.now) }
+    ensures segments { IfOk result (λ all. IsTrue all → segments_of list.new.items ≡ map line_asked_by records.now) }
+{
+    list.clear();
+    for given in records {
+        match asked(given) {
+            Some(segment) => list.push(segment)?,
+            None => return Ok(false),
+        }
+    }
+    Ok(true)
+}
+
+/// The segment that a record asks for. `None` where the ends are equal, the count is `i32::MIN`, or the mask has other
+/// bits than its two.
+pub fn asked(given: &LineRecord) -> Option<Line>
+    ensures asks { is_some result ≡ line_asks given.now }
+    ensures segment { IfSome result (λ segment. segment_of segment ≡ line_asked_by given.now) }
+{
+    if has_equal_ends(given) {
+        return None;
+    }
+    let count = count(given);
+    if !count.is_valid() {
+        return None;
+    }
+    let (a, b) = (start(given), end(given));
+    Some(Segment::create_and_validate_with_data(a, b, count, (), &mut ()))
+}
+
+/// Whether the two ends of a record are one point.
+fn has_equal_ends(given: &LineRecord) -> bool
+    ensures { result ≡ (int_eq given.now.ax given.now.bx && int_eq given.now.ay given.now.by) }
+{
+    given.ax == given.bx && given.ay == given.by
+}
+
+/// The count of a record.
+fn count(given: &LineRecord) -> ShapeCountString
+    ensures { string_winding result ≡ line_count_of given.now }
+{
+    ShapeCountString {
+        subj: given.subj,
+        clip: given.mask,
+    }
+}
+
+/// The first end of a record.
+fn start(given: &LineRecord) -> IntPoint<i32>
+    ensures { point_of (λ z. z) result ≡ line_start_of given.now }
+{
+    IntPoint {
+        x: given.ax,
+        y: given.ay,
+    }
+}
+
+/// The second end of a record.
+fn end(given: &LineRecord) -> IntPoint<i32>
+    ensures { point_of (λ z. z) result ≡ line_end_of given.now }
+{
+    IntPoint {
+        x: given.bx,
+        y: given.by,
+    }
+}

@@ -1,0 +1,234 @@
+// What crosses between C and the engine, laid out as C does it.
+ghost use Rattle.std.specs.Prelude.{◌≡◌, ◌&&◌, IfSome, is_some, length, map};
+ghost use Rattle.std.specs.Ordering.{int_eq};
+ghost use Rattle.overlay_base.specs.PointOf.{point_of};
+ghost use Rattle.overlay_base.specs.BooleanWinding.{boolean_winding};
+ghost use Rattle.overlay_base.specs.SegmentOf.{segment_of, segments_of};
+ghost use Rattle.overlay_build.specs.GraphOf.{link_of};
+ghost use Rattle.overlay_c.specs.Records.{start_of, end_of, count_of, asks, asked_by, told_by, link_by, fill_rule_of, overlay_rule_of};
+
+use overlay_base::geom::point::IntPoint;
+use overlay_base::overlay_core::fill_rule::FillRule;
+use overlay_base::overlay_core::link::OverlayLink;
+use overlay_base::overlay_core::overlay_rule::OverlayRule;
+use overlay_base::overlay_core::solver::{Precision, Solver, Strategy};
+use overlay_base::segm::boolean::ShapeCountBoolean;
+use overlay_base::segm::segment::Segment;
+use overlay_base::segm::winding::WindingCount;
+
+/// A segment of polygons, with coordinates of 32 bits.
+pub type Side = Segment<ShapeCountBoolean, i32, ()>;
+
+/// A segment, and how it winds for the subject and for the clip.
+#[repr(C)]
+#[derive(Clone, Copy)]
+pub struct SegmentRecord {
+    pub ax: i32,
+    pub ay: i32,
+    pub bx: i32,
+    pub by: i32,
+    pub subj: i32,
+    pub clip: i32,
+}
+
+/// A side of a polygon, which winds for the subject, or a step of a line, which has a mask.
+#[repr(C)]
+#[derive(Clone, Copy)]
+pub struct LineRecord {
+    pub ax: i32,
+    pub ay: i32,
+    pub bx: i32,
+    pub by: i32,
+    pub subj: i32,
+    /// 2 for a line from the first end to the second, 1 for one that runs back, 3 for both, 0 for none.
+    pub mask: u8,
+}
+
+/// A link of a graph.
+#[repr(C)]
+#[derive(Clone, Copy)]
+pub struct LinkRecord {
+    /// The number of the node at the first end.
+    pub a_node: usize,
+    pub ax: i32,
+    pub ay: i32,
+    /// The number of the node at the second end.
+    pub b_node: usize,
+    pub bx: i32,
+    pub by: i32,
+    pub fill: u8,
+}
+
+/// What a call is set to.
+#[repr(C)]
+#[derive(Clone, Copy)]
+pub struct SettingsRecord {
+    /// The exponent of the first pass.
+    pub start: usize,
+    /// What each further pass adds to it.
+    pub progression: usize,
+    /// 0 for `List`, 1 for `Tree`, 2 for `Frag`, 3 for `Auto`.
+    pub strategy: u8,
+    /// 0 for `EvenOdd`, 1 for `NonZero`, 2 for `Positive`, 3 for `Negative`.
+    pub fill_rule: u8,
+}
+
+/// The segment that a record asks for. `None` where the ends are equal or a count is `i32::MIN`.
+pub fn asked(given: &SegmentRecord) -> Option<Side>
+    ensures asks { is_some result ≡ asks given.now }
+    ensures segment { IfSome result (λ segment. segment_of segment ≡ asked_by given.now) }
+{
+    if has_equal_ends(given) {
+        return None;
+    }
+    let count = count(given);
+    if !count.is_valid() {
+        return None;
+    }
+    let (a, b) = (start(given), end(given));
+    Some(Segment::create_and_validate_with_data(a, b, count, (), &mut ()))
+}
+
+/// Whether the two ends of a record are one point.
+fn has_equal_ends(given: &SegmentRecord) -> bool
+    ensures { result ≡ (int_eq given.now.ax given.now.bx && int_eq given.now.ay given.now.by) }
+{
+    given.ax == given.bx && given.ay == given.by
+}
+
+/// The count of a record.
+fn count(given: &SegmentRecord) -> ShapeCountBoolean
+    ensures { boolean_winding result ≡ count_of given.now }
+{
+    ShapeCountBoolean {
+        subj: given.subj,
+        clip: given.clip,
+    }
+}
+
+/// The first end of a record.
+pub fn start(given: &SegmentRecord) -> IntPoint<i32>
+    ensures { point_of (λ z. z) result ≡ start_of given.now }
+{
+    IntPoint {
+        x: given.ax,
+        y: given.ay,
+    }
+}
+
+/// The second end of a record.
+pub fn end(given: &SegmentRecord) -> IntPoint<i32>
+    ensures { point_of (λ z. z) result ≡ end_of given.now }
+{
+    IntPoint {
+        x: given.bx,
+        y: given.by,
+    }
+}
+
+/// The record of a segment.
+pub fn told(segment: &Side) -> SegmentRecord
+    ensures { told_by result ≡ segment_of segment.now }
+{
+    let ends = segment.x_segment();
+    let count = segment.count();
+    SegmentRecord {
+        ax: ends.a.x,
+        ay: ends.a.y,
+        bx: ends.b.x,
+        by: ends.b.y,
+        subj: count.subj,
+        clip: count.clip,
+    }
+}
+
+/// Writes the records of segments.
+pub fn tell_all(segments: &[Side], out: &mut [SegmentRecord])
+    requires { length out.old ≡ length segments.now }
+    ensures { map told_by out.new ≡ segments_of segments.now }
+{
+    for (index, segment) in segments.iter().enumerate() {
+        out[index] = told(segment);
+    }
+}
+
+/// The record of a link.
+pub fn link(link: &OverlayLink<i32, ()>) -> LinkRecord
+    ensures { link_by result ≡ link_of (λ z. z) link.now }
+{
+    LinkRecord {
+        a_node: link.a.id,
+        ax: link.a.point.x,
+        ay: link.a.point.y,
+        b_node: link.b.id,
+        bx: link.b.point.x,
+        by: link.b.point.y,
+        fill: link.fill,
+    }
+}
+
+/// The fill rule of a code.
+pub fn fill_rule(code: u8) -> FillRule
+    ensures { result ≡ fill_rule_of code }
+{
+    match code {
+        0 => FillRule::EvenOdd,
+        1 => FillRule::NonZero,
+        2 => FillRule::Positive,
+        _ => FillRule::Negative,
+    }
+}
+
+/// The overlay rule of a code.
+pub fn overlay_rule(code: u8) -> OverlayRule
+    ensures { result ≡ overlay_rule_of code }
+{
+    match code {
+        0 => OverlayRule::Subject,
+        1 => OverlayRule::Clip,
+        2 => OverlayRule::Intersect,
+        3 => OverlayRule::Union,
+        4 => OverlayRule::Difference,
+        5 => OverlayRule::InverseDifference,
+        _ => OverlayRule::Xor,
+    }
+}
+
+/// The solver of these settings. A code of no strategy is `Auto`.
+pub fn solver(settings: &SettingsRecord) -> Solver
+    ensures start { result.precision.start ≡ settings.now.start }
+    ensures progression { result.precision.progression ≡ settings.now.progression }
+{
+    let strategy = match settings.strategy {
+        0 => Strategy::List,
+        1 => Strategy::Tree,
+        2 => Strategy::Frag,
+        _ => Strategy::Auto,
+    };
+    let precision = Precision {
+        start: settings.start,
+        progression: settings.progression,
+    };
+    Solver {
+        strategy,
+        precision,
+    }
+}
+
+/// How much an engine keeps of its last answer.
+#[repr(C)]
+#[derive(Clone, Copy)]
+pub struct SizesRecord {
+    pub segments: usize,
+    pub links: usize,
+    pub nodes: usize,
+    pub node_links: usize,
+    pub walks: usize,
+    pub walk_links: usize,
+    /// Whether there are closed walks: they were asked for, and evenly many links meet at each node.
+    pub has_walks: bool,
+    /// Whether the last split joined equal segments or split one, or the last join joined some.
+    pub has_changed: bool,
+    /// How many passes the last split made, up to `u64::MAX`.
+    pub passes: u64,
+}

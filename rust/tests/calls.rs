@@ -1,0 +1,258 @@
+//! Calls the proved core from safe Rust: the examples of the README, random input, and input that is refused.
+
+use i_overlay_core::{
+    cross, square, Change, ClipRule, CrossResult, CrossType, Error, Fault, FillRule, IntPoint, LineSegment, Overlay,
+    OverlayNode, OverlayRule, Precision, Segment, SegmentFault, ShapeCountBoolean, ShapeType, Solver, Strategy,
+    MAX_COORD, MIN_COORD,
+};
+use std::collections::HashMap;
+
+const RULES: [OverlayRule; 7] = [
+    OverlayRule::Subject,
+    OverlayRule::Clip,
+    OverlayRule::Intersect,
+    OverlayRule::Union,
+    OverlayRule::Difference,
+    OverlayRule::InverseDifference,
+    OverlayRule::Xor,
+];
+
+const FILLS: [FillRule; 4] = [FillRule::EvenOdd, FillRule::NonZero, FillRule::Positive, FillRule::Negative];
+
+fn two_squares() -> Vec<Segment> {
+    let mut segments = Vec::new();
+    ShapeType::Subject.push_contour(&square(0, 4), &mut segments);
+    ShapeType::Clip.push_contour(&square(2, 6), &mut segments);
+    segments
+}
+
+#[test]
+fn two_squares_share_a_square() {
+    let mut overlay = Overlay::new().unwrap();
+    let graph = overlay.build_graph(&two_squares(), FillRule::NonZero, OverlayRule::Intersect).unwrap();
+    let ends: Vec<_> = graph.links().iter().map(|link| (link.a.point, link.b.point, link.fill)).collect();
+    let point = IntPoint::new;
+    let wanted = [
+        (point(2, 2), point(2, 4), 11),
+        (point(2, 2), point(4, 2), 7),
+        (point(2, 4), point(4, 4), 14),
+        (point(4, 2), point(4, 4), 13),
+    ];
+    assert_eq!(ends, wanted);
+    let nodes: Vec<_> = graph.nodes().collect();
+    let bridges = [[0, 1], [2, 0], [3, 1], [2, 3]].map(OverlayNode::Bridge);
+    assert_eq!(nodes, bridges);
+}
+
+#[test]
+fn a_line_cut_by_a_square() {
+    let corners = square(0, 10);
+    let mut segments: Vec<LineSegment> =
+        (0..4).map(|index| LineSegment::side(corners[index], corners[(index + 1) % 4])).collect();
+    segments.push(LineSegment::line(IntPoint::new(-5, 5), IntPoint::new(15, 5)));
+    let mut overlay = Overlay::new().unwrap();
+    let mut parts = |invert| {
+        let rule = ClipRule { invert, boundary_included: false };
+        let graph = overlay.build_clip(&segments, FillRule::NonZero, rule, Solver::AUTO).unwrap();
+        let ends = graph.links().iter().map(|link| (link.a.point.x, link.b.point.x));
+        ends.collect::<Vec<_>>()
+    };
+    assert_eq!(parts(false), [(0, 10)]);
+    assert_eq!(parts(true), [(-5, 0), (10, 15)]);
+    segments[2].mask = 4;
+    let refused = overlay.build_clip(&segments, FillRule::NonZero, ClipRule::default(), Solver::AUTO).err();
+    assert_eq!(refused, Some(Error::Segment { index: 2, fault: SegmentFault::Count }));
+}
+
+#[test]
+fn where_two_segments_meet() {
+    let step = |ax, ay, bx, by| Segment {
+        a: IntPoint::new(ax, ay),
+        b: IntPoint::new(bx, by),
+        count: ShapeCountBoolean::default(),
+    };
+    let found = |point: (i32, i32), cross_type, is_round| {
+        Ok(Some(CrossResult { point: IntPoint::new(point.0, point.1), cross_type, is_round }))
+    };
+    let rising = step(0, 0, 10, 10);
+    assert_eq!(cross(&rising, &step(0, 10, 10, 0), 1), found((5, 5), CrossType::Pure, false));
+    assert_eq!(cross(&rising, &step(4, 4, 9, 0), 1), found((4, 4), CrossType::OtherEnd, false));
+    assert_eq!(cross(&step(4, 4, 9, 0), &rising, i64::MIN), found((4, 4), CrossType::TargetEnd, false));
+    assert_eq!(cross(&rising, &step(2, 2, 12, 12), 1), found((0, 0), CrossType::Overlay, false));
+    assert_eq!(cross(&rising, &step(1, 0, 11, 10), 1), Ok(None));
+    assert!(cross(&step(0, 0, 10, 3), &step(0, 10, 7, -10), 1).unwrap().unwrap().is_round);
+    let equal = Error::Segment { index: 1, fault: SegmentFault::EqualEnds };
+    assert_eq!(cross(&rising, &step(3, 3, 3, 3), 1), Err(equal));
+    let range = Error::Segment { index: 0, fault: SegmentFault::Range };
+    assert_eq!(cross(&step(0, i32::MIN, 1, 1), &rising, 1), Err(range));
+}
+
+#[test]
+fn splits_and_joins() {
+    let mut overlay = Overlay::new().unwrap();
+    let change = overlay.split(&two_squares(), Solver::AUTO).unwrap();
+    assert_eq!(change, Change { has_changed: true, passes: 1 });
+    assert_eq!(overlay.segments().len(), 12);
+    let arrangement = overlay.segments().to_vec();
+    assert!(!overlay.split(&arrangement, Solver::AUTO).unwrap().has_changed);
+    assert_eq!(overlay.segments(), arrangement);
+    let twice = [two_squares(), two_squares()].concat();
+    assert!(overlay.join(&twice).unwrap().has_changed);
+    assert_eq!(overlay.segments().len(), 8);
+    assert!(overlay.segments().iter().all(|segment| segment.count.subj.abs() + segment.count.clip.abs() == 2));
+    assert!(!overlay.join(&two_squares()).unwrap().has_changed);
+    let all = overlay.build_all(&two_squares(), FillRule::NonZero, Solver::AUTO).unwrap();
+    assert_eq!((all.links().len(), all.node_count()), (12, 10));
+}
+
+#[test]
+fn contours_of_each_rule() {
+    let mut overlay = Overlay::new().unwrap();
+    let areas = RULES.map(|rule| {
+        let contours = overlay.build_contours(&two_squares(), FillRule::NonZero, rule, Solver::AUTO).unwrap().unwrap();
+        contours.iter().map(|contour| doubled_area(contour).abs()).sum::<i64>() / 2
+    });
+    assert_eq!(areas, [16, 16, 4, 28, 12, 12, 24]);
+}
+
+fn doubled_area(contour: &[IntPoint]) -> i64 {
+    let mut last = contour[contour.len() - 1];
+    let mut sum = 0;
+    for &point in contour {
+        sum += i64::from(last.x) * i64::from(point.y) - i64::from(last.y) * i64::from(point.x);
+        last = point;
+    }
+    sum
+}
+
+#[test]
+fn the_arrangement() {
+    let mut overlay = Overlay::new().unwrap();
+    assert!(overlay.segments().is_empty());
+    overlay.build_graph(&two_squares(), FillRule::NonZero, OverlayRule::Union).unwrap();
+    let segments = overlay.segments();
+    assert_eq!(segments.len(), 12);
+    assert!(segments.iter().all(|segment| segment.a < segment.b));
+}
+
+#[test]
+fn nothing() {
+    let mut overlay = Overlay::new().unwrap();
+    let graph = overlay.build_graph(&[], FillRule::EvenOdd, OverlayRule::Xor).unwrap();
+    assert!(graph.links().is_empty());
+    assert_eq!(graph.node_count(), 0);
+    assert_eq!(graph.node(0), None);
+    let contours = overlay.build_contours(&[], FillRule::EvenOdd, OverlayRule::Xor, Solver::AUTO).unwrap();
+    assert_eq!(contours, Some(Vec::new()));
+    assert!(overlay.segments().is_empty());
+}
+
+#[test]
+fn bad_segments() {
+    let mut overlay = Overlay::new().unwrap();
+    let good = two_squares();
+    let step = |a: (i32, i32), b: (i32, i32), subj, clip| Segment {
+        a: IntPoint::new(a.0, a.1),
+        b: IntPoint::new(b.0, b.1),
+        count: ShapeCountBoolean { subj, clip },
+    };
+    let cases = [
+        (step((0, 0), (MAX_COORD + 1, 0), 1, 0), SegmentFault::Range),
+        (step((0, MIN_COORD - 1), (1, 0), 1, 0), SegmentFault::Range),
+        (step((i32::MIN, 0), (i32::MAX, 0), 1, 0), SegmentFault::Range),
+        (step((7, 7), (7, 7), 1, 0), SegmentFault::EqualEnds),
+        (step((0, 0), (1, 0), 0, 0), SegmentFault::Count),
+        (step((0, 0), (1, 0), i32::MIN, 0), SegmentFault::Count),
+        (step((1, 0), (0, 0), 0, i32::MIN), SegmentFault::Count),
+    ];
+    for (bad, fault) in cases {
+        let mut segments = good.clone();
+        segments.insert(3, bad);
+        let refused = overlay.build_graph(&segments, FillRule::NonZero, OverlayRule::Union).err();
+        assert_eq!(refused, Some(Error::Segment { index: 3, fault }));
+        assert!(overlay.segments().is_empty());
+        // The engine can be used again.
+        assert!(overlay.build_graph(&good, FillRule::NonZero, OverlayRule::Union).is_ok());
+    }
+    let edge = [step((MIN_COORD, MIN_COORD), (MAX_COORD, MAX_COORD), -i32::MAX, i32::MAX)];
+    assert!(overlay.build_graph(&edge, FillRule::NonZero, OverlayRule::Union).is_ok());
+}
+
+#[test]
+fn counts_that_leave_the_range() {
+    let mut overlay = Overlay::new().unwrap();
+    let (a, b) = (IntPoint::ZERO, IntPoint::new(5, 0));
+    let big = Segment { a, b, count: ShapeCountBoolean { subj: i32::MAX, clip: 0 } };
+    let refused = overlay.build_graph(&[big, big], FillRule::NonZero, OverlayRule::Union).err();
+    assert_eq!(refused, Some(Error::Fault(Fault::CountOutOfRange)));
+    assert_eq!(refused.unwrap().to_string(), "count out of range");
+}
+
+#[test]
+fn a_path_that_does_not_close() {
+    let mut overlay = Overlay::new().unwrap();
+    let open = &two_squares()[..3];
+    let contours = overlay.build_contours(open, FillRule::NonZero, OverlayRule::Subject, Solver::AUTO);
+    assert_eq!(contours, Ok(None));
+    assert!(overlay.build_graph(open, FillRule::NonZero, OverlayRule::Subject).is_ok());
+}
+
+/// A linear congruential generator.
+struct Random(u64);
+
+impl Random {
+    fn below(&mut self, bound: u32) -> i32 {
+        self.0 = self.0.wrapping_mul(6_364_136_223_846_793_005).wrapping_add(1_442_695_040_888_963_407);
+        ((self.0 >> 33) % u64::from(bound)) as i32
+    }
+}
+
+#[test]
+fn random_polygons() {
+    let mut overlay = Overlay::new().unwrap();
+    let mut random = Random(7);
+    for round in 0..300 {
+        let mut segments = Vec::new();
+        for shape in [ShapeType::Subject, ShapeType::Clip] {
+            let size = 3 + random.below(30);
+            let range = 4 + random.below(if round % 2 == 0 { 12 } else { 1000 }) as u32;
+            let contour: Vec<IntPoint> =
+                (0..size).map(|_| IntPoint::new(random.below(range), random.below(range))).collect();
+            shape.push_contour(&contour, &mut segments);
+        }
+        for fill in FILLS {
+            for rule in RULES {
+                well_formed(&mut overlay, &segments, fill, rule);
+            }
+        }
+    }
+}
+
+/// Looks at an answer: links in order, ends at nodes in order, indexes that fit, even nodes, walks that pass each link
+/// once, and the same answer by each strategy.
+fn well_formed(overlay: &mut Overlay, segments: &[Segment], fill: FillRule, rule: OverlayRule) {
+    let graph = overlay.build_graph(segments, fill, rule).unwrap();
+    let links = graph.links().to_vec();
+    assert!(links.windows(2).all(|pair| (pair[0].a.point, pair[0].b.point) < (pair[1].a.point, pair[1].b.point)));
+    let mut points = HashMap::new();
+    for end in links.iter().flat_map(|link| [link.a, link.b]) {
+        assert_eq!(*points.entry(end.id).or_insert(end.point), end.point);
+    }
+    assert_eq!(points.len(), graph.node_count());
+    for (id, node) in graph.nodes().enumerate() {
+        let indexes = match &node {
+            OverlayNode::Bridge(two) => two.as_slice(),
+            OverlayNode::Cross(several) => several,
+        };
+        assert_eq!(indexes.len() % 2, 0);
+        assert!(indexes.iter().all(|&index| links[index].a.id == id || links[index].b.id == id));
+        assert!(id == 0 || points[&(id - 1)] < points[&id]);
+    }
+    let contours = overlay.build_contours(segments, fill, rule, Solver::AUTO).unwrap().unwrap();
+    assert_eq!(contours.iter().map(Vec::len).sum::<usize>(), links.len());
+    for strategy in [Strategy::List, Strategy::Tree, Strategy::Frag] {
+        let solver = Solver { strategy, precision: Precision::HIGH };
+        let again = overlay.build_graph_with_solver(segments, fill, rule, solver).unwrap();
+        assert_eq!(again.links(), links);
+    }
+}
