@@ -4,3 +4,4 @@ pub mod Graphs
 pub mod Boundaries
 pub mod Walks
 pub mod Beside
+pub mod DirectedWalks

@@ -12,10 +12,11 @@ use Rattle.overlay_base.specs.Planar.{is_planar}
 use Rattle.overlay_base.specs.Balance.{IsBalanced}
 use Rattle.overlay_base.specs.Places.{RationalPoint}
 use Rattle.overlay_sweep.specs.Fill.{fill_byte}
-use Rattle.overlay_build.specs.Graph.{graph_by, data_by, has_even_nodes, is_valid_graph, without_nodes}
+use Rattle.overlay_build.specs.Graph.{Filled, graph_of, graph_by, data_by, has_even_nodes, is_valid_graph, without_nodes}
 use Rattle.overlay_build.specs.Values.{tells_apart}
 use Rattle.overlay_build.specs.Regions.{EnclosesRegion}
 use Rattle.overlay_build.specs.Boundary.{BoundsRegion}
+use Rattle.overlay_build.specs.DirectedWalks.{arcs, IsFlow, along, IsDirectedWalk, contour, edges}
 use Rattle.overlay_build.specs.Sides.{overlay_graph}
 use Rattle.overlay_build.specs.Beside.{is_on_top_of, is_at_bottom_of, TellsPlaces, FillTellsPlaces}
 use Rattle.overlay_build.specs.Lines.{CountsLines, keeps_between, clip_graph}
@@ -75,6 +76,18 @@ FillsTellPlaces =
     (fill_rule : FillRule) (rule : Bool → Bool → Bool) (segments : List WholeSegment) → IsTrue (is_map segments) → IsTrue (is_planar segments) → IsBalanced segments →
     (p q : RationalPoint) → 0 < p.bottom → 0 < q.bottom →
     All (λ s. IsTrue (is_on_top_of segments s.pair p) → IsTrue (is_at_bottom_of segments s.pair q) → FillTellsPlaces rule fill_rule segments s p q) segments
+
+-- In these directions as many links start as end at every node.
+abbrev pub GraphsFlow : Type 0
+GraphsFlow =
+    (fill_rule : FillRule) (rule : Bool → Bool → Bool) (segments : List WholeSegment) → IsTrue (is_map segments) → IsTrue (are_polygons segments) → IsTrue (is_planar segments) → IsBalanced segments →
+    IsFlow (arcs rule (graph_by (keeps_fill rule) fill_rule segments).links)
+
+-- The edges of the contour of a directed walk through a graph are just the links of the walk, in their directions and in order.
+abbrev pub ContoursFollowLinks : Type 0
+ContoursFollowLinks =
+    (rule : Bool → Bool → Bool) (kept : List Filled) (walk : List ℕ) → IsDirectedWalk (arcs rule (graph_of kept).links) walk →
+    edges (contour (arcs rule (graph_of kept).links) walk) ≡ map (λ l. l.pair) (along (arcs rule (graph_of kept).links) walk)
 
 -- The links that a test keeps of the graph of all segments are, but for the numbers of their nodes, those of the test's graph, in the same order.
 abbrev pub FilterGivesLinks : Type 0

@@ -12,5 +12,6 @@ pub mod NodeIndexes
 pub mod BuilderOf
 pub mod StringGraphOf
 pub mod Walks
+pub mod DirectedWalks
 -- what private functions tell one another
 pub mod steps

@@ -3,3 +3,4 @@ pub mod EndOf
 pub mod LinkEnds
 pub mod LinkRules
 pub mod UnusedLinks
+pub mod FreeArcs

@@ -4,6 +4,7 @@
 pub mod builder;
 pub mod clip_filter;
 mod connect_links;
+pub mod directed_walks;
 mod fills;
 pub mod filter;
 pub mod graph;

@@ -1,6 +1,6 @@
 // The laws of fills and graphs. Each function has an empty body, and its contract is proved for all whole numbers.
-ghost use Rattle.overlay_build.specs.Laws.{FillsTellSides, FillsTellLines, ClipGraphsAreExact, NodesAreEven, GraphsAreValid, GraphsAreExact, GraphsEncloseRegions, GraphsBoundRegions, FilterGivesLinks, FilterGivesData};
 ghost use Rattle.overlay_build.specs.Laws.{SidesTellPlaces, FillsTellPlaces};
+ghost use Rattle.overlay_build.specs.Laws.{FillsTellSides, FillsTellLines, ClipGraphsAreExact, NodesAreEven, GraphsAreValid, GraphsAreExact, GraphsEncloseRegions, GraphsBoundRegions, GraphsFlow, ContoursFollowLinks, FilterGivesLinks, FilterGivesData};
 
 pub use overlay_sweep::build::laws::winding_laws;
 
@@ -36,6 +36,18 @@ pub fn boundary_laws()
 pub fn side_laws()
     ensures sides { SidesTellPlaces }
     ensures fills { FillsTellPlaces }
+{}
+
+/// With balanced counts, for every truth function: as many links of its graph start as end at every node, each in the
+/// direction that has what the function holds of on its left. So `directed_walks` may be called.
+pub fn flow_laws()
+    ensures { GraphsFlow }
+{}
+
+/// The edges of the contour of a directed walk through a graph are just the links of the walk, in their directions and in
+/// order.
+pub fn contour_laws()
+    ensures { ContoursFollowLinks }
 {}
 
 /// Whatever data segments carry: the data of the links that a test keeps of the graph of all segments is that of the

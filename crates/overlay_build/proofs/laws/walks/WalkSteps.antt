@@ -27,6 +27,7 @@ pub record ListLinks (links : List Link) (nodes : List (List ℕ)) : Type 0 wher
   pub b_in : (i : ℕ) (d : Link) → i < length links → (get_or links i d).b_node < length nodes
   pub listed : (u k : ℕ) → u < length nodes → k < length (get_or nodes u []) → get_or (get_or nodes u []) k 0 < length links
   pub meet : (u k : ℕ) (d : Link) → u < length nodes → k < length (get_or nodes u []) → IsTrue (meets (get_or links (get_or (get_or nodes u []) k 0) d) u)
+  pub complete : (i u : ℕ) (d : Link) → i < length links → u < length nodes → IsTrue (meets (get_or links i d) u) → has_number i (get_or nodes u []) ≡ true
   pub none_unused : (used : List Bool) (u : ℕ) → u < length nodes → ((k : ℕ) → k < length (get_or nodes u []) → get_or used (get_or (get_or nodes u []) k 0) false ≡ true) → unused_degree used links u ≡ 0
 
 has_own : (ks : List ℕ) (k : ℕ) → k < length ks → has_number (get_or ks k 0) ks ≡ true
@@ -73,6 +74,7 @@ module _ (kept : List Filled) where
         let i : ℕ = get_or (get_or lists u []) k 0 in
         let low = link_in i u h (has_own (get_or lists u []) k l) in
         sym (stands_at_its_nodes kept i u d no_node low (rw many at h)) ∙ sym (ap (has_number i) (listed_at u h)) ∙ has_own (get_or lists u []) k l;
+    complete = λ i u d h l m. let low : i < length kept = rw (length-links kept) at h in ap (has_number i) (listed_at u l) ∙ stands_at_its_nodes kept i u d no_node low (rw many at l) ∙ m;
     none_unused = λ used u h all. none_left kept used u no_node (rw many at h) (λ i e.
         let found = Any-from_list_any (λ k. k == i) (get_or lists u []) (ap (has_number i) (listed_at u h) ∙ e) in
         let is : get_or (get_or lists u []) found.0 0 ≡ i = get_or_default (get_or lists u []) found.0 0 found.1 found.2 ∙ found.3 ∙ eqb-true found.1 i found.4 in
