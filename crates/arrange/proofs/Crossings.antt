@@ -2,17 +2,17 @@
 use Rattle.std.proofs.Common.{◌≡◌, ◌<◌, ◌≤◌, ℤ, Bool, true, ◌&&◌, List, [], ◌∷◌, length, get_or, map, Some, Option, sym, ap, ◌∙◌, arith}
 use Rattle.std.proofs.lemmas.Bool.{and_parts}
 use Rattle.std.specs.Prelude.{IsTrue}
-use Rattle.overlay_base.specs.Points.{Pair}
-use Rattle.overlay_base.specs.Meeting.{are_collinear}
+use Rattle.overlay_geometry.specs.Points.{Pair}
+use Rattle.overlay_geometry.specs.Meeting.{are_collinear}
 use Rattle.overlay_base.specs.Segments.{WholeSegment}
 use Rattle.overlay_base.specs.Windings.{is_valid, is_not_empty}
 use Rattle.overlay_base.specs.Planar.{is_splittable}
-use Rattle.overlay_base.specs.Coordinates.{is_pair_in_range}
-use Rattle.overlay_marks.specs.Marks.{Placing}
-use Rattle.overlay_marks.specs.CrossAnswer.{overlay, CrossAnswer, cross_answer}
-use Rattle.overlay_marks.specs.AnswerOf.{answer_of, result_of}
-use Rattle.overlay_marks.specs.declared.split.cross.result.CrossResult.{CrossResult}
-use Rattle.overlay_marks.proofs.laws.marks.MarkedPairs.{overlay_is_collinear}
+use Rattle.overlay_geometry.specs.Coordinates.{is_pair_in_range}
+use Rattle.overlay_intersections.specs.Marks.{Placing}
+use Rattle.overlay_intersections.specs.CrossAnswer.{overlay, CrossAnswer, cross_answer}
+use Rattle.overlay_intersections.specs.AnswerOf.{answer_of, result_of}
+use Rattle.overlay_intersections.specs.declared.split.cross.result.CrossResult.{CrossResult}
+use Rattle.overlay_intersections.proofs.laws.marks.MarkedPairs.{overlay_is_collinear}
 
 -- a list of two
 pub are_two : {X : Type 0} (xs : List X) (x y : X) → 2 ≤ length xs → length xs < 3 → x ≡ get_or xs 0 x → y ≡ get_or xs 1 y → xs ≡ x ∷ y ∷ []

@@ -4,11 +4,11 @@ use Rattle.std.proofs.lemmas.Grind.{common_steps}
 use Rattle.std.proofs.lemmas.Bool.{and_parts}
 use Rattle.std.proofs.lemmas.List.Folds.{list_all-append}
 use Rattle.std.specs.Prelude.{IsTrue}
-use Rattle.overlay_base.specs.Points.{Point, point_lt, point_eq}
+use Rattle.overlay_geometry.specs.Points.{Point, point_lt, point_eq}
 use Rattle.overlay_base.specs.Segments.{WholeSegment}
 use Rattle.overlay_base.specs.EdgeData.{Hooks, data_piece}
 use Rattle.overlay_base.specs.Planar.{is_splittable}
-use Rattle.overlay_base.specs.Coordinates.{is_point_in_range}
+use Rattle.overlay_geometry.specs.Coordinates.{is_point_in_range}
 use Rattle.overlay_base.specs.BooleanWinding.{boolean_made}
 use Rattle.overlay_base.specs.ShapeWindings.{direct_winding, inverted_winding}
 use Rattle.overlay_base.specs.declared.segm.shape_type.ShapeType.{ShapeType}

@@ -1,6 +1,6 @@
 -- What a line asks for, from its words, and what the lines of a text ask for, one line more at a time.
 use Rattle.std.proofs.Common.{rules, ◌≡◌, ◌≢◌, inl, inr, ℤ, ◌+◌, length, arith, append-nil, append_assoc, length-append, List, [], ◌∷◌, ◌++◌, ℕ, Some, None, refl, sym, ap, ◌∙◌, subst}
-use Rattle.overlay_base.specs.Points.{Point}
+use Rattle.overlay_geometry.specs.Points.{Point}
 use Rattle.overlay_base.specs.Segments.{WholeSegment}
 use Rattle.overlay_base.specs.declared.segm.shape_type.ShapeType.{ShapeType}
 use Rattle.arrange.specs.declared.stop.LineFault.{LineFault}

@@ -1,8 +1,8 @@
 -- What a line asks for: one step of a contour, from a to b.
 use Rattle.std.specs.Prelude.{ℤ, not, if◌then◌else◌, Option, Some, None}
-use Rattle.overlay_base.specs.Points.{Point, point_eq, point_lt}
+use Rattle.overlay_geometry.specs.Points.{Point, point_eq, point_lt}
 use Rattle.overlay_base.specs.Segments.{WholeSegment}
-use Rattle.overlay_base.specs.Coordinates.{is_pair_in_range}
+use Rattle.overlay_geometry.specs.Coordinates.{is_pair_in_range}
 use Rattle.overlay_base.specs.BooleanWinding.{boolean_made}
 use Rattle.overlay_base.specs.ShapeWindings.{direct_winding, inverted_winding}
 use Rattle.overlay_base.specs.declared.segm.shape_type.ShapeType.{ShapeType}

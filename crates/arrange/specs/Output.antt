@@ -1,10 +1,10 @@
 -- The text of the output: one item a line.
 use Rattle.std.specs.Prelude.{◌≡◌, ◌⊎◌, ℕ, ℤ, IsTrue, IsFalse, Bool, codes, if◌then◌else◌, List, [], ◌∷◌, ◌++◌, flat_map, ◌==◌, length, Option, Some, None}
 use Rattle.std.specs.Fmt.{decimal, signed_decimal}
-use Rattle.overlay_base.specs.Points.{Point, Pair, pair_lt}
+use Rattle.overlay_geometry.specs.Points.{Point, Pair, pair_lt}
 use Rattle.overlay_base.specs.Segments.{WholeSegment}
-use Rattle.overlay_marks.specs.Marks.{snapping}
-use Rattle.overlay_marks.specs.CrossAnswer.{pure, target_end, other_end, overlay, CrossAnswer, cross_answer, ends_mask}
+use Rattle.overlay_intersections.specs.Marks.{snapping}
+use Rattle.overlay_intersections.specs.CrossAnswer.{pure, target_end, other_end, overlay, CrossAnswer, cross_answer, ends_mask}
 use Rattle.overlay_build.specs.Graph.{Link, Node, Graph, is_valid_graph, has_even_nodes}
 use Rattle.overlay_build.specs.Walks.{AreClosedWalks}
 

@@ -2,7 +2,7 @@
 use Rattle.std.specs.Prelude.{Bool, ◌≡◌, ◌≢◌, ◌⊎◌, ◌++◌, ℕ, ℤ, pos, negsuc, if◌then◌else◌, List, Option, Ok, Err, IfSome, unsigned_abs, IsTrue, IsFalse}
 use Rattle.std.specs.Option.{ok_or}
 use Rattle.std.specs.declared.result.Result.{Result}
-use Rattle.overlay_base.specs.Coordinates.{least_coordinate, greatest_coordinate}
+use Rattle.overlay_geometry.specs.Coordinates.{least_coordinate, greatest_coordinate}
 use Rattle.overlay_base.specs.Segments.{WholeSegment}
 use Rattle.overlay_base.specs.Join.{join, has_equal_pairs, join_leaves_range}
 use Rattle.overlay_base.specs.Radius.{exponent_cap}

@@ -1,19 +1,19 @@
 // `arrange cross`: where two segments meet.
 ghost use Rattle.std.specs.Prelude.{◌≡◌, ◌≢◌, ◌⊎◌, ◌↔◌, ◌++◌, Some, length, unsigned_abs, IfOk, OnOk, IfErr, IsErrOf, string_bytes};
 ghost use Rattle.overlay_base.specs.declared.segm.fault.Fault.TheVariants.{Memory};
-ghost use Rattle.overlay_base.specs.InRange.{IsPairInRange};
-ghost use Rattle.overlay_base.specs.PairOf.{pair_of};
+ghost use Rattle.overlay_geometry.specs.InRange.{IsPairInRange};
+ghost use Rattle.overlay_geometry.specs.PairOf.{pair_of};
 ghost use Rattle.overlay_base.specs.ArrangedOf.{IsSplittable};
 ghost use Rattle.overlay_base.specs.SegmentOf.{segments_of};
-ghost use Rattle.overlay_marks.specs.CrossAnswer.{cross_answer};
-ghost use Rattle.overlay_marks.specs.Marks.{snapping};
+ghost use Rattle.overlay_intersections.specs.CrossAnswer.{cross_answer};
+ghost use Rattle.overlay_intersections.specs.Marks.{snapping};
 ghost use Rattle.arrange.specs.Output.{answer_text, cross_text};
 
 use crate::output::write_place;
 use crate::settings::SquaredRadius;
 use crate::stop::Stop;
-use overlay_base::geom::x_segment::XSegment;
-use overlay_base::num::OverlayInt;
+use overlay_geometry::geom::x_segment::XSegment;
+use overlay_geometry::num::OverlayInt;
 use overlay_base::segm::boolean::ShapeCountBoolean;
 use overlay_base::segm::segment::Segment;
 use overlay_split::split::cross_solver::{CrossSolver, CrossType};

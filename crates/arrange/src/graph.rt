@@ -16,7 +16,7 @@ use crate::graph_output::write_graph;
 use crate::settings::Settings;
 use crate::stop::Stop;
 use i_overlay::overlay::split_and_build_overlay;
-use overlay_base::num::OverlayInt;
+use overlay_geometry::num::OverlayInt;
 use overlay_base::overlay_core::fill_rule::FillRule;
 use overlay_base::overlay_core::solver::Solver;
 use overlay_base::segm::boolean::ShapeCountBoolean;

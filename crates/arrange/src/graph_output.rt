@@ -1,6 +1,6 @@
 // The text of a graph: a line for each link, then for each node, then whether the graph is valid.
 ghost use Rattle.std.specs.Prelude.{◌≡◌, ◌<◌, ◌≤◌, ◌++◌, true, codes, flat_map, length, slice_index_or, OnOk, string_bytes};
-ghost use Rattle.overlay_base.specs.PointOf.{point_of};
+ghost use Rattle.overlay_geometry.specs.PointOf.{point_of};
 ghost use Rattle.overlay_build.specs.Graph.{Node};
 ghost use Rattle.overlay_build.specs.GraphOf.{link_of, graph_with};
 ghost use Rattle.overlay_build.specs.NodeIndexes.{indexes_of, is_canonical_node};
@@ -9,8 +9,8 @@ ghost use Rattle.arrange.specs.Output.{numbers_text, link_line, kind_text, node_
 
 use crate::line_end::{ROOM, append, put_last_word, put_number, put_word};
 use crate::output::put_point;
-use overlay_base::geom::point::IntPoint;
-use overlay_base::num::OverlayInt;
+use overlay_geometry::geom::point::IntPoint;
+use overlay_geometry::num::OverlayInt;
 use overlay_base::overlay_core::link::OverlayLink;
 use overlay_build::build::graph::OverlayGraph;
 use overlay_build::build::graph_node::OverlayNode;

@@ -8,7 +8,7 @@ ghost use Rattle.arrange.specs.Output.{segment_lines, flag_line};
 
 use crate::output::write_segments;
 use crate::stop::Stop;
-use overlay_base::num::OverlayInt;
+use overlay_geometry::num::OverlayInt;
 use overlay_base::segm::boolean::ShapeCountBoolean;
 use overlay_base::segm::join::join_with_store;
 use overlay_base::segm::segment::Segment;

@@ -3,20 +3,20 @@ ghost use Rattle.std.specs.Prelude.{◌≡◌, ◌≢◌, ◌⊎◌, ◌↔◌, 
 ghost use Rattle.std.specs.Result.{result_err};
 ghost use Rattle.std.specs.Str.Lines.{strip_carriage_return};
 ghost use Rattle.overlay_base.specs.declared.segm.fault.Fault.TheVariants.{Memory};
-ghost use Rattle.overlay_base.specs.Coordinates.{is_coordinate, is_point_in_range};
-ghost use Rattle.overlay_base.specs.PointOf.{point_of};
+ghost use Rattle.overlay_geometry.specs.Coordinates.{is_coordinate, is_point_in_range};
+ghost use Rattle.overlay_geometry.specs.PointOf.{point_of};
 ghost use Rattle.overlay_base.specs.SegmentOf.{segment_of, segments_of};
 ghost use Rattle.overlay_base.specs.ArrangedOf.{IsSplittable};
 ghost use Rattle.arrange.specs.Lines.{step_fault, step_segment};
 ghost use Rattle.std.specs.Option.{option_map_or};
-ghost use Rattle.overlay_base.specs.Points.{Point};
+ghost use Rattle.overlay_geometry.specs.Points.{Point};
 ghost use Rattle.overlay_base.specs.declared.segm.shape_type.ShapeType.{ShapeType};
 ghost use Rattle.arrange.specs.Text.{lines_of, words_of, words_of_line, NamesShape, WritesStep, AsksFor, IsFaulty, AskInTurnFor, IsFirstFault};
 
 use crate::number::signed_number;
 use crate::stop::{LineFault, Stop};
-use overlay_base::geom::point::IntPoint;
-use overlay_base::num::OverlayInt;
+use overlay_geometry::geom::point::IntPoint;
+use overlay_geometry::num::OverlayInt;
 use overlay_base::segm::boolean::ShapeCountBoolean;
 use overlay_base::segm::segment::Segment;
 use overlay_base::segm::shape_type::ShapeType;

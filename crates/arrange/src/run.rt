@@ -18,7 +18,7 @@ use crate::split::split;
 use crate::stop::Stop;
 use crate::walks::walks;
 use crate::words::read_words;
-use overlay_base::num::OverlayInt;
+use overlay_geometry::num::OverlayInt;
 use overlay_base::segm::fault::Fault;
 use std::alloc::Global;
 use std::io::{ErrorKind, Read, Write};

@@ -9,7 +9,7 @@ ghost use Rattle.arrange.specs.declared.settings.Command.{Command};
 use crate::output::write_segments;
 use crate::settings::Settings;
 use crate::stop::Stop;
-use overlay_base::num::OverlayInt;
+use overlay_geometry::num::OverlayInt;
 use overlay_base::overlay_core::solver::Solver;
 use overlay_base::segm::boolean::ShapeCountBoolean;
 use overlay_base::segm::segment::Segment;

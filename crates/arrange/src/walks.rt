@@ -13,7 +13,7 @@ use crate::graph::{Lines, build_graph};
 use crate::graph_output::write_numbers;
 use crate::settings::Settings;
 use crate::stop::Stop;
-use overlay_base::num::OverlayInt;
+use overlay_geometry::num::OverlayInt;
 use overlay_build::build::builder::GraphBuilder;
 use overlay_build::build::graph::OverlayGraph;
 use overlay_build::build::walks::closed_walks;

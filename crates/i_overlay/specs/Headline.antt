@@ -1,7 +1,7 @@
 -- What a split and a build answer together, whichever strategy finds the pairs that meet.
 use Rattle.std.specs.Prelude.{◌≡◌, ◌⊎◌, ◌≤◌, ◌+◌, ℕ, Bool, ◌&&◌, IsTrue, List, []}
 use Rattle.std.specs.List.{list_all}
-use Rattle.overlay_base.specs.Points.{is_within_box_of}
+use Rattle.overlay_geometry.specs.Points.{is_within_box_of}
 use Rattle.overlay_base.specs.Segments.{WholeSegment, pairs, ends, is_map}
 use Rattle.overlay_base.specs.EdgeData.{DataSegment, Hooks}
 use Rattle.overlay_base.specs.Planar.{is_planar}

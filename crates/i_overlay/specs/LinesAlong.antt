@@ -1,7 +1,7 @@
 -- What runs along a part of what is given.
 use Rattle.std.specs.Prelude.{◌≡◌, ◌==◌, Bool, not, ◌&&◌, IsTrue, List}
 use Rattle.std.specs.List.{list_any}
-use Rattle.overlay_base.specs.Points.{Pair}
+use Rattle.overlay_geometry.specs.Points.{Pair}
 use Rattle.overlay_base.specs.Segments.{WholeSegment}
 use Rattle.overlay_split.specs.ExactInput.{is_elementary, contains_pair}
 

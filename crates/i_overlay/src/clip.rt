@@ -11,7 +11,7 @@ ghost use Rattle.overlay_build.specs.NodeIndexes.{items_of, is_any_node};
 ghost use Rattle.overlay_build.specs.StringGraphOf.{nodes_of, links_of};
 ghost use Rattle.i_overlay.specs.Headline.{IsClip, IsRefused};
 
-use overlay_base::num::OverlayInt;
+use overlay_geometry::num::OverlayInt;
 use overlay_base::overlay_core::clip_rule::ClipRule;
 use overlay_base::overlay_core::fill_rule::FillRule;
 use overlay_base::overlay_core::solver::Solver;

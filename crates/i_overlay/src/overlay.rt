@@ -18,7 +18,7 @@ ghost use Rattle.overlay_build.specs.OverlayGraphOf.{nodes_of, links_of};
 ghost use Rattle.i_overlay.specs.FarRegions.{EnclosesOverlay};
 ghost use Rattle.i_overlay.specs.Headline.{IsOverlay, IsDataAfter, IsRefused};
 
-use overlay_base::num::OverlayInt;
+use overlay_geometry::num::OverlayInt;
 use overlay_base::overlay_core::edge_data::OverlayEdgeData;
 use overlay_base::overlay_core::fill_rule::FillRule;
 use overlay_base::overlay_core::overlay_rule::OverlayRule;

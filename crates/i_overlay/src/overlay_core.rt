@@ -18,7 +18,7 @@ pub mod link {
 
 /// The engines' coordinates.
 pub mod integer {
-    pub use overlay_base::num::OverlayInt;
+    pub use overlay_geometry::num::OverlayInt;
 }
 
 /// Which of the two shapes a segment bounds.

@@ -2,8 +2,8 @@
 
 pub use crate::clip::split_and_build_clip;
 pub use crate::overlay::split_and_build_overlay;
-pub use overlay_base::geom::point::IntPoint;
-pub use overlay_base::num::OverlayInt;
+pub use overlay_geometry::geom::point::IntPoint;
+pub use overlay_geometry::num::OverlayInt;
 pub use overlay_base::overlay_core::clip_rule::ClipRule;
 pub use overlay_base::overlay_core::fill_rule::FillRule;
 pub use overlay_base::overlay_core::overlay_rule::OverlayRule;

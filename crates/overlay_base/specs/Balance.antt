@@ -1,6 +1,6 @@
 -- Balance: what comes in at a point goes out again.
 use Rattle.std.specs.Prelude.{◌≡◌, List, filter}
-use Rattle.overlay_base.specs.Points.{Point, point_eq}
+use Rattle.overlay_geometry.specs.Points.{Point, point_eq}
 use Rattle.overlay_base.specs.Windings.{Winding, add, inverse, empty}
 use Rattle.overlay_base.specs.Segments.{WholeSegment, total_weight}
 

@@ -1,6 +1,6 @@
 -- A test of balance: what starts and what ends at a point, as counts on a pair of which both ends are that point.
 use Rattle.std.specs.Prelude.{List, [], ◌∷◌, flat_map}
-use Rattle.overlay_base.specs.Points.{Point, Pair}
+use Rattle.overlay_geometry.specs.Points.{Point, Pair}
 use Rattle.overlay_base.specs.Windings.{inverse, weight}
 use Rattle.overlay_base.specs.Segments.{WholeSegment}
 

@@ -1,8 +1,8 @@
 -- Data that segments carry, and the hooks that are called where segments are turned, split and merged.
 -- Each hook is a function of its arguments and of a store, and answers the new store beside its result.
 use Rattle.std.specs.Prelude.{◌≡◌, ℕ, ◌+◌, ◌<◌, true, false, IsTrue, IsFalse, List, [], ◌∷◌, map, filter, length, take, if◌then◌else◌}
-use Rattle.overlay_base.specs.Points.{Point, Pair, point_lt, pair_cmp, pair_eq}
-use Rattle.overlay_base.specs.Sorting.{stably_sorted}
+use Rattle.overlay_geometry.specs.Points.{Point, Pair, point_lt, pair_cmp, pair_eq}
+use Rattle.overlay_geometry.specs.Sorting.{stably_sorted}
 use Rattle.overlay_base.specs.Windings.{Winding, add, inverse, is_not_empty}
 use Rattle.overlay_base.specs.Segments.{WholeSegment}
 use Rattle.overlay_base.specs.Join.{join_leaves_range}

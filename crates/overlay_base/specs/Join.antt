@@ -1,8 +1,8 @@
 -- The join of a bag of segments, and the sums that are made on the way.
 use Rattle.std.specs.Prelude.{Bool, false, not, ◌||◌, List, [], ◌∷◌, map, filter}
 use Rattle.std.specs.List.{list_any}
-use Rattle.overlay_base.specs.Points.{Pair, pair_cmp, pair_eq}
-use Rattle.overlay_base.specs.Sorting.{distinct_in_order, has_repeat}
+use Rattle.overlay_geometry.specs.Points.{Pair, pair_cmp, pair_eq}
+use Rattle.overlay_geometry.specs.Sorting.{distinct_in_order, has_repeat}
 use Rattle.overlay_base.specs.Windings.{Winding, add, empty, is_not_empty, is_count_in_range}
 use Rattle.overlay_base.specs.Segments.{WholeSegment, pairs, counts, segments_at, winding_at}
 

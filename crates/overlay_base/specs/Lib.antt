@@ -1,14 +1,3 @@
-pub mod Coordinates
-pub mod Sorting
-pub mod Points
-pub mod PointOf
-pub mod PairOf
-pub mod Turns
-pub mod Below
-pub mod VSegmentOf
-pub mod Ranges
-pub mod RangeOf
-pub mod VectorOf
 pub mod Windings
 pub mod ShapeWindings
 pub mod BooleanWinding
@@ -16,9 +5,7 @@ pub mod StringWinding
 pub mod Segments
 pub mod Sums
 pub mod Join
-pub mod Meeting
 pub mod Planar
-pub mod InRange
 pub mod Balance
 pub mod EdgeData
 pub mod Choices

@@ -1,7 +1,7 @@
 -- Places of the plane, and how segments wind there.
 use Rattle.std.specs.Prelude.{ℕ, ℤ, pos, ◌+ℤ◌, ◌-ℤ◌, ◌*ℤ◌, int_le, int_lt, Bool, ◌&&◌, List, filter}
-use Rattle.overlay_base.specs.Points.{Pair}
-use Rattle.overlay_base.specs.Below.{width}
+use Rattle.overlay_geometry.specs.Points.{Pair}
+use Rattle.overlay_geometry.specs.Below.{width}
 use Rattle.overlay_base.specs.Windings.{Winding}
 use Rattle.overlay_base.specs.Segments.{WholeSegment, total_weight}
 

@@ -1,10 +1,10 @@
 -- Planar arrangements, and the lists of segments that may be split or swept.
 use Rattle.std.specs.Prelude.{Bool, ◌&&◌, List, ℤ}
 use Rattle.std.specs.List.{list_all}
-use Rattle.overlay_base.specs.Coordinates.{is_pair_in_range}
+use Rattle.overlay_geometry.specs.Coordinates.{is_pair_in_range}
 use Rattle.overlay_base.specs.Windings.{is_valid, is_not_empty}
 use Rattle.overlay_base.specs.Segments.{WholeSegment, pairs, is_map}
-use Rattle.overlay_base.specs.Meeting.{are_apart}
+use Rattle.overlay_geometry.specs.Meeting.{are_apart}
 
 -- Every two segments are apart. A segment is apart from itself.
 unfoldable pub is_planar : List WholeSegment → Bool

@@ -3,8 +3,8 @@
 use Rattle.std.specs.Prelude.{ℤ, pos, ◌-ℤ◌, ◌*ℤ◌, int_le, int_lt, Bool, not, ◌&&◌, List, filter}
 use Rattle.std.specs.List.{list_all}
 use Rattle.std.specs.Ordering.{int_eq}
-use Rattle.overlay_base.specs.Points.{Pair, is_between}
-use Rattle.overlay_base.specs.Below.{width}
+use Rattle.overlay_geometry.specs.Points.{Pair, is_between}
+use Rattle.overlay_geometry.specs.Below.{width}
 use Rattle.overlay_base.specs.Windings.{Winding, add, inverse}
 use Rattle.overlay_base.specs.Segments.{WholeSegment, total_weight}
 use Rattle.overlay_base.specs.Places.{RationalPoint, spans, height_at}

@@ -1,11 +1,11 @@
 -- Segments as whole numbers: their ends, their winding, their data.
 use Rattle.std.specs.Prelude.{List, map}
-use Rattle.overlay_base.specs.Points.{Pair}
+use Rattle.overlay_geometry.specs.Points.{Pair}
 use Rattle.overlay_base.specs.Windings.{Winding}
 use Rattle.overlay_base.specs.Segments.{WholeSegment}
 use Rattle.overlay_base.specs.EdgeData.{DataSegment}
-use Rattle.overlay_base.specs.PairOf.{pair_of}
-use Rattle.overlay_base.specs.declared.geom.x_segment.XSegment.{XSegment}
+use Rattle.overlay_geometry.specs.PairOf.{pair_of}
+use Rattle.overlay_geometry.specs.declared.geom.x_segment.XSegment.{XSegment}
 use Rattle.overlay_base.specs.declared.segm.segment.Segment.{Segment}
 
 -- what a segment's readers answer

@@ -1,8 +1,8 @@
 -- Segments: pairs with counts. A list of segments is a bag; in order, without repeats and empty counts, it is an arrangement.
 use Rattle.std.specs.Prelude.{◌==◌, Bool, ◌&&◌, List, [], ◌∷◌, map, flat_map, filter}
 use Rattle.std.specs.List.{list_all}
-use Rattle.overlay_base.specs.Points.{Point, Pair, pair_cmp, pair_eq, is_ordered}
-use Rattle.overlay_base.specs.Sorting.{is_strictly_sorted}
+use Rattle.overlay_geometry.specs.Points.{Point, Pair, pair_cmp, pair_eq, is_ordered}
+use Rattle.overlay_geometry.specs.Sorting.{is_strictly_sorted}
 use Rattle.overlay_base.specs.Windings.{Winding, is_not_empty, total, weight}
 
 pub record WholeSegment : Type 0 where

@@ -1,6 +1,6 @@
 -- Sums over lists in a commutative monoid, and the linear sums over the segments of a bag.
 use Rattle.std.specs.Prelude.{◌≡◌, ℤ, pos, ◌+ℤ◌, ◌*ℤ◌, List, [], ◌∷◌}
-use Rattle.overlay_base.specs.Points.{Pair}
+use Rattle.overlay_geometry.specs.Points.{Pair}
 use Rattle.overlay_base.specs.Windings.{Winding, add, empty}
 use Rattle.overlay_base.specs.Segments.{WholeSegment}
 

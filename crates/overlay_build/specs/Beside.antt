@@ -1,8 +1,8 @@
 -- Which places lie directly beside a segment, with no other segment between, and that they wind as its sides say.
 use Rattle.std.specs.Prelude.{◌≡◌, ◌<◌, pos, ◌*ℤ◌, int_lt, Bool, IsTrue, not, ◌&&◌, ◌||◌, List}
 use Rattle.std.specs.List.{list_all}
-use Rattle.overlay_base.specs.Points.{Pair, pair_eq, is_vertical}
-use Rattle.overlay_base.specs.Below.{width}
+use Rattle.overlay_geometry.specs.Points.{Pair, pair_eq, is_vertical}
+use Rattle.overlay_geometry.specs.Below.{width}
 use Rattle.overlay_base.specs.Segments.{WholeSegment}
 use Rattle.overlay_base.specs.Places.{RationalPoint, spans, height_at, runs_below, lies_below, winding_below}
 use Rattle.overlay_base.specs.Rays.{lies_above, is_on_none, rises_left_of, falls_left_of, rises_right_of, falls_right_of}

@@ -5,7 +5,7 @@ use Rattle.std.specs.Io.BufRead.{Rests}
 use Rattle.std.specs.declared.cmp.Ord.{Ghosts as Order}
 use Rattle.std.specs.declared.cmp.PartialEq.{Ghosts as Equality}
 use Rattle.std.specs.declared.cmp.PartialOrd.{Ghosts as PartialOrder}
-use Rattle.overlay_base.specs.declared.num.OverlayInt.{Ghosts as Whole}
+use Rattle.overlay_geometry.specs.declared.num.OverlayInt.{Ghosts as Whole}
 use Rattle.overlay_base.specs.declared.overlay_core.link.OverlayLink.{OverlayLink}
 use Rattle.overlay_base.specs.declared.segm.fault.Fault.{Fault}
 use Rattle.overlay_base.specs.contracts.segm.boolean.ShapeCountBoolean.{the_row as boolean_row}

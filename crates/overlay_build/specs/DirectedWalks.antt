@@ -1,7 +1,7 @@
 -- Closed walks that follow each link in its direction: the one that has what a truth function holds of on its left.
 use Rattle.std.specs.Prelude.{◌≡◌, ◌≢◌, ℕ, pos, ◌<◌, ◌==◌, Bool, if◌then◌else◌, List, [], ◌∷◌, ◌++◌, map, filter, length, All, slice_index_or}
 use Rattle.std.specs.List.{zip, count_by, flat_map}
-use Rattle.overlay_base.specs.Points.{Point, Pair}
+use Rattle.overlay_geometry.specs.Points.{Point, Pair}
 use Rattle.overlay_base.specs.Rules.{top_value}
 use Rattle.overlay_build.specs.Graph.{Link}
 

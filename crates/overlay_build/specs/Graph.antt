@@ -1,8 +1,8 @@
 -- The graph of the kept segments: a link for each, a node for each of their ends.
 use Rattle.std.specs.Prelude.{ℕ, ◌==◌, ◌%◌, nat_le, Bool, ◌&&◌, ◌||◌, List, ◌++◌, filter, map, length, position, unwrap_or}
 use Rattle.std.specs.List.{enumerate_from, list_all}
-use Rattle.overlay_base.specs.Points.{Point, Pair, point_cmp, point_eq}
-use Rattle.overlay_base.specs.Sorting.{distinct_in_order}
+use Rattle.overlay_geometry.specs.Points.{Point, Pair, point_cmp, point_eq}
+use Rattle.overlay_geometry.specs.Sorting.{distinct_in_order}
 use Rattle.overlay_base.specs.Segments.{WholeSegment, ends}
 use Rattle.overlay_base.specs.EdgeData.{DataSegment, without_data}
 use Rattle.overlay_base.specs.declared.overlay_core.fill_rule.FillRule.{FillRule}

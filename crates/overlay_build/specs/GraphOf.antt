@@ -1,8 +1,8 @@
 -- A graph as it is kept: links with numbered ends, and nodes that list indexes of links.
 use Rattle.std.specs.Prelude.{◌≡◌, ◌==◌, ℕ, ℤ, Bool, true, List, map, if◌then◌else◌}
 use Rattle.std.specs.List.{list_all, list_any}
-use Rattle.overlay_base.specs.Points.{Point, Pair, point_eq}
-use Rattle.overlay_base.specs.PointOf.{point_of}
+use Rattle.overlay_geometry.specs.Points.{Point, Pair, point_eq}
+use Rattle.overlay_geometry.specs.PointOf.{point_of}
 use Rattle.overlay_base.specs.declared.overlay_core.link.OverlayLink.{OverlayLink}
 use Rattle.overlay_build.specs.Graph.{Filled, Link, Graph, graph_of}
 use Rattle.overlay_build.specs.Graph.{without_nodes}

@@ -10,7 +10,7 @@ use Rattle.std.specs.contracts.impls.GlobalAllocator.TheImpl.{ghosts}
 use Rattle.std.specs.declared.cmp.Ord.{Ghosts as Order}
 use Rattle.std.specs.declared.cmp.PartialEq.{Ghosts as Equality}
 use Rattle.std.specs.declared.cmp.PartialOrd.{Ghosts as PartialOrder}
-use Rattle.overlay_base.specs.declared.num.OverlayInt.{Ghosts as Whole}
+use Rattle.overlay_geometry.specs.declared.num.OverlayInt.{Ghosts as Whole}
 use Rattle.overlay_base.specs.declared.overlay_core.link.OverlayLink.{OverlayLink}
 use Rattle.overlay_base.specs.declared.segm.fault.Fault.{Fault}
 use Rattle.overlay_base.specs.contracts.overlay_core.link.OverlayLink.{the_row as link_row}

@@ -1,7 +1,7 @@
 -- Steps of the proofs of several functions.
 use Rattle.std.proofs.Common.{◌≡◌, ◌∙◌, arith, ap}
 use Rattle.std.proofs.lemmas.Grind.{common_steps}
-use Rattle.overlay_base.specs.Points.{Point}
+use Rattle.overlay_geometry.specs.Points.{Point}
 use Rattle.overlay_base.specs.Windings.{Winding}
 use Rattle.overlay_base.specs.EdgeData.{Hooks, data_piece}
 use Rattle.overlay_base.proofs.laws.joins.DataJoins.{bare}

@@ -1,7 +1,7 @@
 -- What the record of a meeting stands for, in whole numbers.
 use Rattle.std.specs.Prelude.{◌==◌, ℕ, Option, Some, None, if◌then◌else◌}
-use Rattle.overlay_base.specs.Points.{Pair}
-use Rattle.overlay_marks.specs.CrossAnswer.{CrossKind, pure, target_end, other_end, overlay, CrossAnswer}
+use Rattle.overlay_geometry.specs.Points.{Pair}
+use Rattle.overlay_intersections.specs.CrossAnswer.{CrossKind, pure, target_end, other_end, overlay, CrossAnswer}
 use Rattle.overlay_c.specs.Records.{start_of, end_of}
 use Rattle.overlay_c.specs.declared.records.SegmentRecord.{SegmentRecord}
 use Rattle.overlay_c.specs.declared.cross.CrossRecord.{CrossRecord}

@@ -1,7 +1,7 @@
 -- What an engine keeps of its last answer.
 use Rattle.std.specs.Prelude.{◌≡◌, ℕ, ◌&&◌, Bool, true, List, IsTrue, map, flat_map, length}
 use Rattle.std.specs.List.{list_all}
-use Rattle.overlay_base.specs.Coordinates.{least_coordinate, greatest_coordinate}
+use Rattle.overlay_geometry.specs.Coordinates.{least_coordinate, greatest_coordinate}
 use Rattle.overlay_base.specs.Planar.{is_splittable}
 use Rattle.overlay_base.specs.Rules.{holds}
 use Rattle.overlay_base.specs.Balance.{IsBalanced}

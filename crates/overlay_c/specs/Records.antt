@@ -1,7 +1,7 @@
 -- What the records that cross to C stand for, in whole numbers.
 use Rattle.std.specs.Prelude.{◌==◌, ℕ, pos, Bool, ◌&&◌, not, if◌then◌else◌}
 use Rattle.std.specs.Ordering.{int_eq}
-use Rattle.overlay_base.specs.Points.{Point, point_lt}
+use Rattle.overlay_geometry.specs.Points.{Point, point_lt}
 use Rattle.overlay_base.specs.Windings.{Winding, inverse, is_valid}
 use Rattle.overlay_base.specs.Segments.{WholeSegment}
 use Rattle.overlay_base.specs.Radius.{exponent_cap}

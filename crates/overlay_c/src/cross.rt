@@ -1,15 +1,15 @@
 // Where two segments meet, as records.
 ghost use Rattle.std.specs.Prelude.{◌≡◌, ◌≢◌, ◌==◌, ◌≤ℤ◌, pos, unsigned_abs, false, Some, IsTrue};
-ghost use Rattle.overlay_base.specs.Coordinates.{least_coordinate, greatest_coordinate, is_pair_in_range};
-ghost use Rattle.overlay_base.specs.PairOf.{pair_of};
-ghost use Rattle.overlay_marks.specs.AnswerOf.{kind_of, result_of};
-ghost use Rattle.overlay_marks.specs.CrossAnswer.{cross_answer};
-ghost use Rattle.overlay_marks.specs.Marks.{snapping};
+ghost use Rattle.overlay_geometry.specs.Coordinates.{least_coordinate, greatest_coordinate, is_pair_in_range};
+ghost use Rattle.overlay_geometry.specs.PairOf.{pair_of};
+ghost use Rattle.overlay_intersections.specs.AnswerOf.{kind_of, result_of};
+ghost use Rattle.overlay_intersections.specs.CrossAnswer.{cross_answer};
+ghost use Rattle.overlay_intersections.specs.Marks.{snapping};
 ghost use Rattle.overlay_c.specs.Records.{start_of, end_of};
 ghost use Rattle.overlay_c.specs.Crosses.{pair_by, kind_by, cross_by};
 
 use crate::records::{SegmentRecord, end, start};
-use overlay_base::geom::x_segment::XSegment;
+use overlay_geometry::geom::x_segment::XSegment;
 use overlay_split::split::cross_solver::{CrossResult, CrossSolver, CrossType};
 
 /// Where two segments meet.

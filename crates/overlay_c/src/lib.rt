@@ -8,9 +8,9 @@ ghost use Rattle.overlay_split.specs.Run.{LeavesRange};
 ghost use Rattle.overlay_split.specs.SettingsOf.{snap_limit_of, passes_of};
 ghost use Rattle.overlay_c.specs.Records.{start_of, end_of, line_asked_by, told_by, overlay_rule_of};
 ghost use Rattle.overlay_c.specs.Crosses.{pair_by, cross_by};
-ghost use Rattle.overlay_base.specs.Coordinates.{least_coordinate, greatest_coordinate, is_pair_in_range};
-ghost use Rattle.overlay_marks.specs.CrossAnswer.{cross_answer};
-ghost use Rattle.overlay_marks.specs.Marks.{snapping};
+ghost use Rattle.overlay_geometry.specs.Coordinates.{least_coordinate, greatest_coordinate, is_pair_in_range};
+ghost use Rattle.overlay_intersections.specs.CrossAnswer.{cross_answer};
+ghost use Rattle.overlay_intersections.specs.Marks.{snapping};
 ghost use Rattle.overlay_c.specs.Kept.{given_by, are_usable, are_lines_usable, engine_settings, KeepsSplit, KeepsAll, KeepsOverlay, KeepsClip, IsCountRefused};
 
 pub mod cross;

@@ -1,8 +1,8 @@
 -- The segments of contours: one for each edge, with a count that tells which way its step runs.
 use Rattle.std.specs.Prelude.{◌≡◌, ℕ, ℤ, Bool, IsTrue, IsFalse, if◌then◌else◌, List, ◌∷◌, ◌++◌, map, filter, length}
 use Rattle.std.specs.List.{list_all}
-use Rattle.overlay_base.specs.Points.{Point, Pair, point_lt}
-use Rattle.overlay_base.specs.Coordinates.{is_point_in_range}
+use Rattle.overlay_geometry.specs.Points.{Point, Pair, point_lt}
+use Rattle.overlay_geometry.specs.Coordinates.{is_point_in_range}
 use Rattle.overlay_base.specs.Places.{RationalPoint}
 use Rattle.overlay_base.specs.Windings.{Winding}
 use Rattle.overlay_base.specs.Segments.{WholeSegment}

@@ -1,6 +1,6 @@
 -- Contours: lists of points, each joined to the next one and the last to the first. Which places they run round.
 use Rattle.std.specs.Prelude.{◌%◌, ◌==◌, ℤ, pos, negsuc, ◌+ℤ◌, Bool, not, if◌then◌else◌, List, [], ◌∷◌, ◌++◌, map, filter, flat_map, count_by}
-use Rattle.overlay_base.specs.Points.{Point, Pair, point_eq, point_lt}
+use Rattle.overlay_geometry.specs.Points.{Point, Pair, point_eq, point_lt}
 use Rattle.overlay_base.specs.Places.{RationalPoint, lies_below}
 use Rattle.overlay_base.specs.Sums.{gathered}
 

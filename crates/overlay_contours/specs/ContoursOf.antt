@@ -1,9 +1,9 @@
 -- Contours of code as lists of whole points.
 use Rattle.std.specs.Prelude.{ℤ, List, map, Vec}
 use Rattle.std.specs.Global.{Global}
-use Rattle.overlay_base.specs.Points.{Point}
-use Rattle.overlay_base.specs.PointOf.{point_of}
-use Rattle.overlay_base.specs.declared.geom.point.IntPoint.{IntPoint}
+use Rattle.overlay_geometry.specs.Points.{Point}
+use Rattle.overlay_geometry.specs.PointOf.{point_of}
+use Rattle.overlay_geometry.specs.declared.geom.point.IntPoint.{IntPoint}
 
 abbrev pub points_of : {I : Type 0} → (I → ℤ) → List (IntPoint I) → List Point
 points_of whole points = map (point_of whole) points

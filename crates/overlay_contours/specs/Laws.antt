@@ -1,6 +1,6 @@
 -- Laws of contours that functions of `laws` name in their contracts.
 use Rattle.std.specs.Prelude.{◌≡◌, List}
-use Rattle.overlay_base.specs.Points.{Point}
+use Rattle.overlay_geometry.specs.Points.{Point}
 use Rattle.overlay_base.specs.Places.{RationalPoint}
 use Rattle.overlay_sweep.specs.Fill.{is_inside}
 use Rattle.overlay_base.specs.declared.overlay_core.fill_rule.FillRule.TheVariants.{EvenOdd}

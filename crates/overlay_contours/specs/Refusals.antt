@@ -1,6 +1,6 @@
 -- Why an overlay of contours is refused.
 use Rattle.std.specs.Prelude.{◌≡◌, ◌⊎◌, ⊤, ℕ, ℤ, IsTrue, List}
-use Rattle.overlay_base.specs.Points.{Point}
+use Rattle.overlay_geometry.specs.Points.{Point}
 use Rattle.overlay_base.specs.declared.segm.fault.Fault.{Fault}
 use Rattle.overlay_base.specs.declared.segm.fault.Fault.TheVariants.{Memory, CountOutOfRange}
 use Rattle.overlay_base.specs.declared.segm.shape_type.ShapeType.{ShapeType}

@@ -1,6 +1,6 @@
 -- The ends of links that a walk names.
 use Rattle.std.specs.Prelude.{ℕ, pos, List, map, slice_index_or}
-use Rattle.overlay_base.specs.Points.{Point, Pair}
+use Rattle.overlay_geometry.specs.Points.{Point, Pair}
 use Rattle.overlay_build.specs.Graph.{node_points}
 
 abbrev pub origin : Point

@@ -2,20 +2,20 @@
 ghost use Rattle.std.specs.Prelude.{◌≡◌, ◌<◌, ◌++◌, ◌∷◌, [], IsTrue, IsFalse, IfOk, IfErr, OnOk, IfSome, IfNone, MatchOption, map, take, length, slice_index_or};
 ghost use Rattle.std.specs.List.{list_all};
 ghost use Rattle.overlay_base.specs.Balance.{IsBalanced};
-ghost use Rattle.overlay_base.specs.Points.{Pair};
+ghost use Rattle.overlay_geometry.specs.Points.{Pair};
 ghost use Rattle.overlay_base.specs.Places.{RationalPoint, winding_below};
-ghost use Rattle.overlay_base.specs.PointOf.{point_of};
+ghost use Rattle.overlay_geometry.specs.PointOf.{point_of};
 ghost use Rattle.overlay_base.specs.SegmentOf.{segments_of};
 ghost use Rattle.overlay_base.specs.ArrangedOf.{IsSplittable};
-ghost use Rattle.overlay_base.specs.Coordinates.{is_point_in_range};
+ghost use Rattle.overlay_geometry.specs.Coordinates.{is_point_in_range};
 ghost use Rattle.overlay_base.specs.declared.segm.fault.Fault.TheVariants.{Memory};
 ghost use Rattle.overlay_base.specs.declared.segm.shape_type.ShapeType.TheVariants.{Subject, Clip};
 ghost use Rattle.overlay_contours.specs.Contours.{steps_of};
 ghost use Rattle.overlay_contours.specs.ContoursOf.{points_of, contours_of};
 ghost use Rattle.overlay_contours.specs.ContourSegments.{step_segments, contour_segments, overlay_segments, overlay_winding, are_in_range, IsFirstPointOutside, IsFirstOutside};
 
-use overlay_base::geom::point::IntPoint;
-use overlay_base::num::OverlayInt;
+use overlay_geometry::geom::point::IntPoint;
+use overlay_geometry::num::OverlayInt;
 use overlay_base::segm::boolean::ShapeCountBoolean;
 use overlay_base::segm::fault::Fault;
 use overlay_base::segm::segment::Segment;

@@ -1,9 +1,9 @@
 // The contours of a graph: its closed walks, as lists of points. Upstream's `core::extract` answers shapes with holes.
 ghost use Rattle.std.specs.Prelude.{◌≡◌, ◌≢◌, ◌<◌, IsTrue, IfOk, IfErr, IfSome, IfNone, Some, Bool, All, map, length, count_by};
 ghost use Rattle.std.specs.List.{list_all};
-ghost use Rattle.overlay_base.specs.Points.{Pair, is_ordered};
+ghost use Rattle.overlay_geometry.specs.Points.{Pair, is_ordered};
 ghost use Rattle.overlay_base.specs.Places.{RationalPoint};
-ghost use Rattle.overlay_base.specs.PointOf.{point_of};
+ghost use Rattle.overlay_geometry.specs.PointOf.{point_of};
 ghost use Rattle.overlay_base.specs.declared.segm.fault.Fault.TheVariants.{Memory};
 ghost use Rattle.overlay_build.specs.Graph.{has_even_nodes};
 ghost use Rattle.overlay_build.specs.GraphOf.{graph_with, link_of, pairs_of_links};
@@ -15,8 +15,8 @@ ghost use Rattle.overlay_contours.specs.ContoursOf.{points_of, contours_of};
 ghost use Rattle.overlay_contours.specs.WalkPairs.{walk_pairs, node_point};
 
 use crate::contour::IntContour;
-use overlay_base::geom::id_point::IdPoint;
-use overlay_base::num::OverlayInt;
+use overlay_geometry::geom::id_point::IdPoint;
+use overlay_geometry::num::OverlayInt;
 use overlay_base::segm::fault::Fault;
 use overlay_build::build::graph::OverlayGraph;
 use overlay_build::build::walks::closed_walks;

@@ -1,10 +1,10 @@
 -- The same passes over segments with data: which hook is called when, and what the store holds after.
 use Rattle.std.specs.Prelude.{ℕ, zero, suc, ◌<◌, IsTrue, IsFalse, List, [], ◌∷◌, ◌++◌, flat_map, take, drop}
-use Rattle.overlay_base.specs.Points.{Point, Pair}
+use Rattle.overlay_geometry.specs.Points.{Point, Pair}
 use Rattle.overlay_base.specs.Windings.{Winding}
-use Rattle.overlay_marks.specs.Marks.{Placing}
+use Rattle.overlay_intersections.specs.Marks.{Placing}
 use Rattle.overlay_split.specs.Path.{path_from, columns_of}
-use Rattle.overlay_marks.specs.PassMarks.{marks_on}
+use Rattle.overlay_intersections.specs.PassMarks.{marks_on}
 use Rattle.overlay_split.specs.Run.{Settings, placing_of_pass, goes_on, leaves_range_within}
 use Rattle.overlay_base.specs.EdgeData.{DataSegment, Hooks, without_data, data_piece, data_join, IsRefusedJoin}
 

@@ -1,12 +1,12 @@
 -- Input whose crossings all lie at whole points. There a split changes no count anywhere along a segment.
 use Rattle.std.specs.Prelude.{◌≡◌, IsTrue, Bool, not, ◌&&◌, List, ◌++◌, filter, map, flat_map}
 use Rattle.std.specs.List.{list_any, list_all}
-use Rattle.overlay_base.specs.Points.{Point, Pair, point_eq, lies_on, is_ordered, is_strictly_inside}
+use Rattle.overlay_geometry.specs.Points.{Point, Pair, point_eq, lies_on, is_ordered, is_strictly_inside}
 use Rattle.overlay_base.specs.Windings.{Winding, total}
 use Rattle.overlay_base.specs.Segments.{WholeSegment, pairs, counts, ends}
-use Rattle.overlay_base.specs.Meeting.{do_cross}
-use Rattle.overlay_marks.specs.Crossing.{snapping_point}
-use Rattle.overlay_marks.specs.PassMarks.{is_rounded}
+use Rattle.overlay_geometry.specs.Meeting.{do_cross}
+use Rattle.overlay_intersections.specs.Crossing.{snapping_point}
+use Rattle.overlay_intersections.specs.PassMarks.{is_rounded}
 
 -- no two segments cross at a point that is not exact
 unfoldable pub is_exact_input : List WholeSegment → Bool

@@ -1,8 +1,8 @@
 -- Laws over the definitions, each a statement that is proved once and named by a contract.
 use Rattle.std.specs.Prelude.{◌≡◌, ◌<◌, ◌≤◌, ℕ, ◌*◌, ℤ, ◌-ℤ◌, ◌*ℤ◌, ◌||◌, IsTrue, ◌+◌, ◌-◌, neg_ℤ, Bool, false, IsFalse, List, Contains, IsPermutation, length, min, ◌^◌, ◌/◌}
 use Rattle.std.specs.List.{list_all}
-use Rattle.overlay_base.specs.Points.{Point, Pair, is_vertical, is_horizontal, is_within_box_of}
-use Rattle.overlay_base.specs.Meeting.{do_cross}
+use Rattle.overlay_geometry.specs.Points.{Point, Pair, is_vertical, is_horizontal, is_within_box_of}
+use Rattle.overlay_geometry.specs.Meeting.{do_cross}
 use Rattle.overlay_base.specs.Windings.{Winding, inverse}
 use Rattle.overlay_base.specs.Segments.{WholeSegment, pairs, ends, is_map, are_ordered, are_polygons}
 use Rattle.overlay_base.specs.Sums.{IsLinear, weighed}
@@ -10,11 +10,11 @@ use Rattle.overlay_base.specs.Join.{join}
 use Rattle.overlay_base.specs.Planar.{is_planar}
 use Rattle.overlay_base.specs.Balance.{IsBalanced, KeepsBalance}
 use Rattle.overlay_base.specs.EdgeData.{Hooks, DataSegment, SplitCall, MergeCall, without_data}
-use Rattle.overlay_marks.specs.Crossing.{is_exact, snapping_point, settling_point}
-use Rattle.overlay_marks.specs.Marks.{Placing, ordered_mark, settling}
+use Rattle.overlay_intersections.specs.Crossing.{is_exact, snapping_point, settling_point}
+use Rattle.overlay_intersections.specs.Marks.{Placing, ordered_mark, settling}
 use Rattle.overlay_split.specs.Path.{pieces}
 use Rattle.overlay_split.specs.Pass.{cut, pass}
-use Rattle.overlay_marks.specs.PassMarks.{is_rounded, mark_count}
+use Rattle.overlay_intersections.specs.PassMarks.{is_rounded, mark_count}
 use Rattle.overlay_split.specs.Run.{Settings, IsPassCount, IsRun, LeavesRange, after_passes}
 use Rattle.overlay_split.specs.Potential.{potential}
 use Rattle.overlay_split.specs.ExactInput.{is_exact_input, KeepsCounts}

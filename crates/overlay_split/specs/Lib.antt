@@ -1,6 +1,8 @@
 pub mod Path
 pub mod Pass
 pub mod Run
+pub mod FinderOf
+pub mod PassLooks
 pub mod RunLooks
 pub mod Potential
 pub mod DataPass

@@ -1,14 +1,14 @@
 -- How far a split moves segments. Distances are those in x and in y, whichever is more, and are counted in halves.
 use Rattle.std.specs.Prelude.{◌⊎◌, ◌<◌, ◌≤◌, IsFalse, Bool, ◌&&◌, nat_lt, ℕ, zero, suc, ◌+◌, ◌*◌, pos, ◌+ℤ◌, ◌-ℤ◌, ◌*ℤ◌, unsigned_abs, nat_le, if◌then◌else◌, List, All, Contains}
 use Rattle.std.specs.List.{list_all}
-use Rattle.overlay_base.specs.Points.{Point, Pair}
+use Rattle.overlay_geometry.specs.Points.{Point, Pair}
 use Rattle.overlay_base.specs.Places.{RationalPoint}
 use Rattle.overlay_base.specs.Windings.{is_not_empty}
 use Rattle.overlay_base.specs.Segments.{WholeSegment, pairs, winding_at}
-use Rattle.overlay_marks.specs.Crossing.{offset_x, offset_y}
-use Rattle.overlay_marks.specs.Marks.{Placing, snapping, settling}
+use Rattle.overlay_intersections.specs.Crossing.{offset_x, offset_y}
+use Rattle.overlay_intersections.specs.Marks.{Placing, snapping, settling}
 use Rattle.overlay_split.specs.Pass.{cut}
-use Rattle.overlay_marks.specs.PassMarks.{is_rounded}
+use Rattle.overlay_intersections.specs.PassMarks.{is_rounded}
 use Rattle.overlay_split.specs.Run.{Settings, placing_of_pass, after_passes}
 
 -- ---- points and pairs

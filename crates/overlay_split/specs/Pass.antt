@@ -2,8 +2,8 @@
 use Rattle.std.specs.Prelude.{List, ◌++◌, flat_map, take, drop}
 use Rattle.overlay_base.specs.Segments.{WholeSegment}
 use Rattle.overlay_base.specs.Join.{join}
-use Rattle.overlay_marks.specs.Marks.{Placing}
-use Rattle.overlay_marks.specs.PassMarks.{marks_on}
+use Rattle.overlay_intersections.specs.Marks.{Placing}
+use Rattle.overlay_intersections.specs.PassMarks.{marks_on}
 use Rattle.overlay_split.specs.Path.{pieces}
 
 unfoldable pub pieces_of : Placing → List WholeSegment → WholeSegment → List WholeSegment

@@ -1,8 +1,8 @@
 -- The path of a segment through its marks, and the pieces into which it falls.
 use Rattle.std.specs.Prelude.{◌≢◌, ⊤, int_lt, if◌then◌else◌, List, [], ◌∷◌, ◌++◌, reverse}
 use Rattle.std.specs.Ordering.{int_eq}
-use Rattle.overlay_base.specs.Points.{Point, Pair, point_cmp, point_lt}
-use Rattle.overlay_base.specs.Sorting.{distinct_in_order}
+use Rattle.overlay_geometry.specs.Points.{Point, Pair, point_cmp, point_lt}
+use Rattle.overlay_geometry.specs.Sorting.{distinct_in_order}
 use Rattle.overlay_base.specs.Windings.{Winding, inverse}
 use Rattle.overlay_base.specs.Segments.{WholeSegment}
 

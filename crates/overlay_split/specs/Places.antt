@@ -1,6 +1,6 @@
 -- What it means that a place of the plane is far from a list of segments, and that a run keeps the winding there.
 use Rattle.std.specs.Prelude.{◌≡◌, ℕ, List}
-use Rattle.overlay_base.specs.Points.{Pair}
+use Rattle.overlay_geometry.specs.Points.{Pair}
 use Rattle.overlay_base.specs.Segments.{WholeSegment, pairs}
 use Rattle.overlay_base.specs.Places.{RationalPoint, winding_below}
 use Rattle.overlay_split.specs.Run.{Settings}

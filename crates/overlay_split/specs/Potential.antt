@@ -1,6 +1,6 @@
 -- A number that rounded settling passes lower.
 use Rattle.std.specs.Prelude.{ℕ, ◌+◌, ◌-◌, ◌-ℤ◌, unsigned_abs, List, sum_by}
-use Rattle.overlay_base.specs.Points.{Pair}
+use Rattle.overlay_geometry.specs.Points.{Pair}
 use Rattle.overlay_base.specs.Segments.{WholeSegment}
 
 -- |dx| + |dy| - 1; the ends differ, so this is at least 0

@@ -2,9 +2,9 @@
 use Rattle.std.specs.Prelude.{◌≡◌, ℕ, zero, suc, ◌+◌, ◌-◌, ◌*◌, ◌^◌, ◌<◌, nat_le, nat_lt, min, Bool, false, if◌then◌else◌, ◌&&◌, ◌||◌, List, length, IsTrue, IsFalse}
 use Rattle.overlay_base.specs.Segments.{WholeSegment}
 use Rattle.overlay_base.specs.Join.{join, has_equal_pairs, join_leaves_range}
-use Rattle.overlay_marks.specs.Marks.{Placing, snapping, settling}
+use Rattle.overlay_intersections.specs.Marks.{Placing, snapping, settling}
 use Rattle.overlay_split.specs.Pass.{cut, pass}
-use Rattle.overlay_marks.specs.PassMarks.{is_rounded, mark_count}
+use Rattle.overlay_intersections.specs.PassMarks.{is_rounded, mark_count}
 
 -- What a run is set to: the precision's start and progression, the cap of the radius exponent, and how many passes may snap.
 pub record Settings : Type 0 where

@@ -4,8 +4,8 @@ use Rattle.overlay_base.specs.Segments.{WholeSegment, pairs}
 use Rattle.overlay_base.specs.Choices.{list_splits}
 use Rattle.overlay_base.specs.declared.overlay_core.solver.Strategy.{Strategy}
 use Rattle.overlay_split.specs.Run.{Settings, after_passes}
-use Rattle.overlay_marks.specs.Grid.{Layout}
-use Rattle.overlay_marks.specs.Looked.{pass_looks}
+use Rattle.overlay_grid.specs.Grid.{Layout}
+use Rattle.overlay_split.specs.PassLooks.{pass_looks}
 
 -- none of the first n passes looks at all pairs of a list
 abbrev pub HasNoListPass : Strategy → Settings → List WholeSegment → ℕ → Type 0

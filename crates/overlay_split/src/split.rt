@@ -1,14 +1,16 @@
-// The passes that split segments where they meet. What a pass finds comes from the crate `overlay_marks`, whose modules
-// stand here too, as in upstream.
+// The passes that split segments where they meet. How two segments meet, and the finders over a list, a tree and a grid,
+// come from crates of their own; their modules stand here too, as in upstream.
 
 mod cut;
+pub mod finder;
 pub mod laws;
 pub mod pass;
 pub mod path;
 pub mod piece;
 pub mod solver;
 
-pub use overlay_marks::split::{
-    cross_solver, finder, fragment, fragment_buffer, fragment_memory, grid_layout, line_mark,
-    placing, solver_fragment, solver_list, solver_tree,
+pub use overlay_grid::split::{
+    fragment, fragment_buffer, fragment_memory, grid_layout, solver_fragment,
 };
+pub use overlay_intersections::split::{cross_solver, line_mark, placing};
+pub use overlay_tree::split::{solver_list, solver_tree};

@@ -3,11 +3,11 @@ use Rattle.std.specs.Prelude.{◌≡◌, All, ℕ, zero, suc, ℤ, pos, int_le, 
 use Rattle.std.specs.Ordering.{is_lt, ordering_then}
 use Rattle.std.specs.List.{list_any}
 use Rattle.std.specs.Option.{option_map_or, option_or}
-use Rattle.overlay_base.specs.Points.{Point, Pair, turn, point_eq}
-use Rattle.overlay_base.specs.Sorting.{greatest}
+use Rattle.overlay_geometry.specs.Points.{Point, Pair, turn, point_eq}
+use Rattle.overlay_geometry.specs.Sorting.{greatest}
 use Rattle.overlay_base.specs.Windings.{Winding, add, empty, weight, is_count_in_range}
 use Rattle.overlay_base.specs.Segments.{WholeSegment}
-use Rattle.overlay_base.specs.Below.{height_cmp, angle_cmp}
+use Rattle.overlay_geometry.specs.Below.{height_cmp, angle_cmp}
 use Rattle.overlay_sweep.specs.ColumnWindings.{IsSameAlong, side_bottom, side_top}
 
 -- the segment just before s by angle among those with its start

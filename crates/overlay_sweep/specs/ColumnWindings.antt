@@ -1,10 +1,10 @@
 -- Windings by column sums: the weights of the segments below a place, added. A column lies between two neighboring whole x.
 use Rattle.std.specs.Prelude.{◌≡◌, IsTrue, ℤ, pos, ◌+ℤ◌, ◌-ℤ◌, int_le, Bool, ◌&&◌, ◌||◌, if◌then◌else◌, List, filter}
 use Rattle.std.specs.Ordering.{is_le, is_lt}
-use Rattle.overlay_base.specs.Points.{Point, Pair, turn, is_vertical}
+use Rattle.overlay_geometry.specs.Points.{Point, Pair, turn, is_vertical}
 use Rattle.overlay_base.specs.Windings.{Winding, add, weight}
 use Rattle.overlay_base.specs.Segments.{WholeSegment, total_weight}
-use Rattle.overlay_base.specs.Below.{height_cmp}
+use Rattle.overlay_geometry.specs.Below.{height_cmp}
 
 -- whether s spans the column from x to x + 1; a vertical segment spans none
 abbrev pub spans : ℤ → Pair → Bool

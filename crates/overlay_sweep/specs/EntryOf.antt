@@ -1,7 +1,7 @@
 -- An entry of a list or a tree of live segments as a segment with its sum.
 use Rattle.std.specs.Prelude.{List, map}
 use Rattle.overlay_base.specs.Segments.{WholeSegment}
-use Rattle.overlay_base.specs.VSegmentOf.{v_pair_of}
+use Rattle.overlay_geometry.specs.VSegmentOf.{v_pair_of}
 use Rattle.overlay_sweep.specs.declared.build.entry.Entry.{Entry}
 
 abbrev pub entry_of : {C I : Type 0} {m : _} {w : _} {o : _} {e : _} {p : _} → Entry C I m w o e p → WholeSegment

@@ -3,7 +3,7 @@ use Rattle.std.specs.Prelude.{◌≡◌, ℕ, suc, pos, ◌+◌, ◌*◌, ◌/�
 use Rattle.std.specs.Ordering.{is_lt}
 use Rattle.overlay_base.specs.Segments.{WholeSegment}
 use Rattle.overlay_base.specs.Windings.{empty}
-use Rattle.overlay_base.specs.Below.{under_segment_order}
+use Rattle.overlay_geometry.specs.Below.{under_segment_order}
 use Rattle.overlay_sweep.specs.ChainWindings.{is_live}
 use Rattle.overlay_sweep.specs.declared.build.tree_shape.TreeNode.{TreeNode}
 use Rattle.overlay_sweep.specs.TreeShapes.{Has, none, IsTree, IsDistinct, MayGoDown, HasLast, HasFirst}

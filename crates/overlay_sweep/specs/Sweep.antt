@@ -2,12 +2,12 @@
 use Rattle.std.specs.Prelude.{ℕ, Bool, not, List, [], ◌∷◌, map, Option, Some, None}
 use Rattle.std.specs.List.{enumerate_from, list_any}
 use Rattle.std.specs.Ordering.{ordering_then}
-use Rattle.overlay_base.specs.Points.{point_cmp}
-use Rattle.overlay_base.specs.Sorting.{stably_sorted}
+use Rattle.overlay_geometry.specs.Points.{point_cmp}
+use Rattle.overlay_geometry.specs.Sorting.{stably_sorted}
 use Rattle.overlay_base.specs.Windings.{is_count_in_range}
 use Rattle.overlay_base.specs.Segments.{WholeSegment}
 use Rattle.overlay_base.specs.EdgeData.{DataSegment, without_data}
-use Rattle.overlay_base.specs.Below.{angle_cmp}
+use Rattle.overlay_geometry.specs.Below.{angle_cmp}
 use Rattle.overlay_base.specs.declared.overlay_core.fill_rule.FillRule.{FillRule}
 use Rattle.overlay_sweep.specs.ChainWindings.{bottom, top}
 use Rattle.overlay_sweep.specs.Fill.{fill_byte}

@@ -1,7 +1,7 @@
 -- Lines, words, and what lines ask for.
 use Rattle.std.proofs.Common.{◌≡◌, refl, List, [], ◌∷◌, ◌++◌, ℕ, arith, inl, inr}
 use Rattle.std.specs.Prelude.{pos, negsuc, codes}
-use Rattle.overlay_base.specs.Points.{Point}
+use Rattle.overlay_geometry.specs.Points.{Point}
 use Rattle.overlay_base.specs.declared.segm.shape_type.ShapeType.TheVariants.{Subject, Clip}
 use Rattle.arrange.specs.declared.stop.LineFault.TheVariants.{Range, EqualEnds}
 use Rattle.arrange.specs.declared.stop.Stop.TheVariants.{Line}

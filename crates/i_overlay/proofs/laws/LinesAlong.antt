@@ -5,7 +5,7 @@ use Rattle.std.specs.List.{list_any}
 use Rattle.std.specs.Int.Bits.{or_zero_l}
 use Rattle.std.proofs.lemmas.Bool.{ne_eqb, or_left}
 use Rattle.std.proofs.lemmas.Nat.{le_or_l}
-use Rattle.overlay_base.specs.Points.{Pair}
+use Rattle.overlay_geometry.specs.Points.{Pair}
 use Rattle.overlay_base.specs.Windings.{Winding, total}
 use Rattle.overlay_base.specs.Segments.{WholeSegment, counts}
 use Rattle.overlay_split.specs.ExactInput.{contains_pair, count_along, KeepsCounts}

@@ -5,8 +5,8 @@ use Rattle.std.specs.List.{list_all}
 use Rattle.std.proofs.lemmas.List.Folds.{list_all-map}
 use Rattle.std.proofs.lemmas.Bool.{and_parts}
 use Rattle.std.proofs.lemmas.Result.{IfErr-weaker}
-use Rattle.overlay_base.specs.Points.{is_within_box_of}
-use Rattle.overlay_base.specs.Sorting.{is_strictly_sorted}
+use Rattle.overlay_geometry.specs.Points.{is_within_box_of}
+use Rattle.overlay_geometry.specs.Sorting.{is_strictly_sorted}
 use Rattle.overlay_base.specs.Windings.{Winding, empty}
 use Rattle.overlay_base.specs.Segments.{WholeSegment, pairs, ends, is_map}
 use Rattle.overlay_base.specs.Join.{join}
@@ -27,7 +27,7 @@ use Rattle.overlay_sweep.specs.ChainWindings.{tops_leave_range}
 use Rattle.overlay_sweep.specs.Sweep.{fill_of, whole_of}
 use Rattle.overlay_build.specs.Graph.{Graph, graph_by, data_by}
 use Rattle.overlay_base.specs.EdgeData.{DataSegment, without_data}
-use Rattle.overlay_base.proofs.laws.lists.Lists.{list_all-filter}
+use Rattle.overlay_geometry.proofs.laws.lists.Lists.{list_all-filter}
 use Rattle.overlay_build.specs.Values.{tells_apart}
 use Rattle.overlay_build.specs.Boundary.{of_subject, times_round}
 use Rattle.overlay_build.specs.Sides.{IsBalancedOverlay}

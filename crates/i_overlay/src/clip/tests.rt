@@ -1,6 +1,6 @@
 // Lines cut by a square, worked by hand, under each strategy.
 use super::*;
-use overlay_base::geom::point::IntPoint;
+use overlay_geometry::geom::point::IntPoint;
 use overlay_base::overlay_core::solver::{Precision, Strategy};
 use overlay_base::segm::arranged::is_splittable;
 use overlay_base::segm::segment_fill::SegmentFill;

@@ -2,7 +2,7 @@
 ghost use Rattle.std.specs.Prelude.{◌≡◌};
 
 use super::*;
-use overlay_base::geom::point::IntPoint;
+use overlay_geometry::geom::point::IntPoint;
 use overlay_base::overlay_core::edge_data::{EdgeDataMerge, EdgeDataSplit};
 use overlay_base::segm::arranged::is_splittable;
 use overlay_base::segm::shape_type::ShapeType;

@@ -1,6 +1,6 @@
 // Overlays worked by hand, under each strategy and in both engines.
 use super::*;
-use overlay_base::geom::point::IntPoint;
+use overlay_geometry::geom::point::IntPoint;
 use overlay_base::overlay_core::link::OverlayLink;
 use overlay_base::overlay_core::solver::{Precision, Strategy};
 use overlay_base::segm::arranged::{is_arranged, is_splittable};

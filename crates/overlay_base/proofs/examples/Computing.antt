@@ -1,11 +1,11 @@
 -- Opens every definition: a proof under the line `unfolding computing` computes with all of them.
 use Rattle.std.specs.Prelude.{⊤}
-use Rattle.overlay_base.specs.Points.{turn, sqr_distance, is_in_box, lies_on, is_strictly_inside, is_within_box_of}
-use Rattle.overlay_base.specs.Sorting.{distinct_in_order, is_strictly_sorted, has_repeat, insert_before_ties, stably_sorted, greatest}
+use Rattle.overlay_geometry.specs.Points.{turn, sqr_distance, is_in_box, lies_on, is_strictly_inside, is_within_box_of}
+use Rattle.overlay_geometry.specs.Sorting.{distinct_in_order, is_strictly_sorted, has_repeat, insert_before_ties, stably_sorted, greatest}
 use Rattle.overlay_base.specs.Windings.{total}
 use Rattle.overlay_base.specs.Segments.{winding_at, total_weight, is_map}
 use Rattle.overlay_base.specs.Join.{summed, join, sums_from, running_sums, join_leaves_range}
-use Rattle.overlay_base.specs.Meeting.{separates, do_cross, are_collinear, has_end_inside, meeting, are_apart}
+use Rattle.overlay_geometry.specs.Meeting.{separates, do_cross, are_collinear, has_end_inside, meeting, are_apart}
 use Rattle.overlay_base.specs.Planar.{is_planar, is_splittable, is_arranged}
 use Rattle.overlay_base.specs.Balance.{balance}
 use Rattle.overlay_base.specs.BalanceTest.{end_counts}

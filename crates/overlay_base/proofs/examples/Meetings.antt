@@ -1,7 +1,7 @@
 -- How two pairs meet, and lists that are planar, arranged or fit to be split.
 use Rattle.overlay_base.proofs.examples.Computing.{computing}
 use Rattle.std.specs.Prelude.{◌≡◌, refl, pos, true, false, [], ◌∷◌}
-use Rattle.overlay_base.specs.Meeting.{meeting, crossing, touch, overlap, apart}
+use Rattle.overlay_geometry.specs.Meeting.{meeting, crossing, touch, overlap, apart}
 use Rattle.overlay_base.specs.Planar.{is_planar, is_splittable, is_arranged}
 use Rattle.overlay_base.proofs.examples.Words.{neg, pair, seg, line, least}
 

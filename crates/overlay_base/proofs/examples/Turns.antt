@@ -1,7 +1,7 @@
 -- Turns, distances, and points on a pair.
 use Rattle.overlay_base.proofs.examples.Computing.{computing}
 use Rattle.std.specs.Prelude.{◌≡◌, refl, pos, true, false}
-use Rattle.overlay_base.specs.Points.{turn, sqr_distance, lies_on, is_strictly_inside}
+use Rattle.overlay_geometry.specs.Points.{turn, sqr_distance, lies_on, is_strictly_inside}
 use Rattle.overlay_base.proofs.examples.Words.{neg, point, pair}
 
 -- to the left

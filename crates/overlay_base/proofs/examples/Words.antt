@@ -1,6 +1,6 @@
 -- Short ways to write numbers, points, pairs and segments.
 use Rattle.std.specs.Prelude.{ℕ, ℤ, pos, neg_ℤ}
-use Rattle.overlay_base.specs.Points.{Point, Pair}
+use Rattle.overlay_geometry.specs.Points.{Point, Pair}
 use Rattle.overlay_base.specs.Windings.{Winding}
 use Rattle.overlay_base.specs.Segments.{WholeSegment}
 

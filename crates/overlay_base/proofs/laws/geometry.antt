@@ -1,8 +1,3 @@
--- Turns, orders, coordinates, and pairs that are apart.
-pub mod Polynomials
-pub mod Comparisons
-pub mod Points
+-- Segments by their pairs, and pairs that are apart.
 pub mod Pairs
-pub mod Coordinates
-pub mod Shifts
 pub mod Apart

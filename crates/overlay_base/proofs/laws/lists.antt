@@ -1,6 +1,3 @@
--- Lists, keys, sorts and sums over them.
-pub mod Lists
-pub mod Elements
-pub mod Keys
+-- Stable sorts, and sums over lists.
 pub mod StableSorts
 pub mod Monoids

@@ -1,12 +1,12 @@
 // Data that segments carry, and the three hooks that are called where segments are turned, split and merged.
 // Upstream: `core::edge_data`.
 ghost use Rattle.std.specs.Prelude.{◌≡◌};
-ghost use Rattle.overlay_base.specs.Points.{Point};
-ghost use Rattle.overlay_base.specs.PointOf.{point_of};
+ghost use Rattle.overlay_geometry.specs.Points.{Point};
+ghost use Rattle.overlay_geometry.specs.PointOf.{point_of};
 ghost use Rattle.overlay_base.specs.declared.overlay_core.edge_data.EdgeDataMerge.{EdgeDataMerge};
 
-use crate::geom::point::IntPoint;
-use crate::num::OverlayInt;
+use overlay_geometry::geom::point::IntPoint;
+use overlay_geometry::num::OverlayInt;
 
 /// A segment from `a` to `b` is split at `p`.
 #[derive(Clone, Copy, Debug)]

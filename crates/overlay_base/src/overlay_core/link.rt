@@ -1,8 +1,8 @@
 // The links of a graph: segments that an overlay keeps. Upstream: `core::link`.
 
-use crate::geom::id_point::IdPoint;
-use crate::num::OverlayInt;
 use crate::segm::segment_fill::SegmentFill;
+use overlay_geometry::geom::id_point::IdPoint;
+use overlay_geometry::num::OverlayInt;
 
 /// A kept segment from `a` to `b`, with its fill and its data. Each end has the number of its node.
 #[derive(Clone, Copy, Debug)]
@@ -19,8 +19,8 @@ pub struct OverlayLink<I, D> {
 
 impl<I: OverlayInt, D: Copy> OverlayLink<I, D> {
     ghost use Rattle.std.specs.Prelude.{◌≡◌, ◌==◌, if◌then◌else◌};
-    ghost use Rattle.overlay_base.specs.Points.{point_lt};
-    ghost use Rattle.overlay_base.specs.PointOf.{point_of};
+    ghost use Rattle.overlay_geometry.specs.Points.{point_lt};
+    ghost use Rattle.overlay_geometry.specs.PointOf.{point_of};
 
     /// The link between two numbered points.
     pub fn new_with_data(

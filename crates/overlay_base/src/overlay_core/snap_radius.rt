@@ -1,7 +1,7 @@
 // The snap radius of a pass. Upstream: `split::snap_radius`.
 ghost use Rattle.std.specs.Prelude.{◌≡◌, ◌+◌, pos, min};
 
-use crate::num::OverlayInt;
+use overlay_geometry::num::OverlayInt;
 
 /// A squared radius, as a power of two, and how its exponent grows.
 #[derive(Clone, Copy)]

@@ -3,10 +3,10 @@ ghost use Rattle.std.specs.Prelude.{◌≡◌, length};
 ghost use Rattle.overlay_base.specs.Choices.{list_splits, grid_splits, list_fills};
 ghost use Rattle.overlay_base.specs.Radius.{exponent_of, step_of};
 
-use crate::num::OverlayInt;
 use crate::overlay_core::snap_radius::SnapRadius;
 use crate::segm::segment::Segment;
 use crate::segm::winding::WindingCount;
+use overlay_geometry::num::OverlayInt;
 
 /// How the segments that meet are found. The answer of a call does not depend on it.
 #[derive(Clone, Copy, Debug, PartialEq)]

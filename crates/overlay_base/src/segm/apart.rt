@@ -2,16 +2,16 @@
 // `split::cross::contact` tells it by counting turns of zero, as a crossing has to be placed; here, without a count or
 // a rounding, so that the test of an answer does not depend on the code that makes it.
 ghost use Rattle.std.specs.Prelude.{◌≡◌, ◌&&◌, IsTrue};
-ghost use Rattle.overlay_base.specs.Points.{point_lt, is_ordered, is_strictly_inside};
-ghost use Rattle.overlay_base.specs.Meeting.{separates, do_cross, has_end_inside, are_apart};
-ghost use Rattle.overlay_base.specs.InRange.{IsPairInRange, IsPointInRange};
-ghost use Rattle.overlay_base.specs.PointOf.{point_of};
-ghost use Rattle.overlay_base.specs.PairOf.{pair_of};
+ghost use Rattle.overlay_geometry.specs.Points.{point_lt, is_ordered, is_strictly_inside};
+ghost use Rattle.overlay_geometry.specs.Meeting.{separates, do_cross, has_end_inside, are_apart};
+ghost use Rattle.overlay_geometry.specs.InRange.{IsPairInRange, IsPointInRange};
+ghost use Rattle.overlay_geometry.specs.PointOf.{point_of};
+ghost use Rattle.overlay_geometry.specs.PairOf.{pair_of};
 
-use crate::geom::point::IntPoint;
-use crate::geom::triangle::Triangle;
-use crate::geom::x_segment::XSegment;
-use crate::num::OverlayInt;
+use overlay_geometry::geom::point::IntPoint;
+use overlay_geometry::geom::triangle::Triangle;
+use overlay_geometry::geom::x_segment::XSegment;
+use overlay_geometry::num::OverlayInt;
 
 /// Whether two segments share at most a common end: they do not cross, and no end of one lies strictly inside the
 /// other. Both have to be in range, with `a` before `b`.
@@ -27,7 +27,7 @@ pub fn are_apart<I: OverlayInt>(first: &XSegment<I>, second: &XSegment<I>) -> bo
 }
 
 /// Whether each separates the ends of the other, so that they cross at a point strictly inside both.
-#[tactic(auto, unfolding(crate::specs::Meeting::do_cross))]
+#[tactic(auto, unfolding(overlay_geometry::specs::Meeting::do_cross))]
 fn do_cross<I: OverlayInt>(first: &XSegment<I>, second: &XSegment<I>) -> bool
     requires first { IsPairInRange I.whole I.MIN_COORD I.MAX_COORD first.now }
     requires second { IsPairInRange I.whole I.MIN_COORD I.MAX_COORD second.now }
@@ -37,7 +37,7 @@ fn do_cross<I: OverlayInt>(first: &XSegment<I>, second: &XSegment<I>) -> bool
 }
 
 /// Whether the ends of the other lie on the two sides of the line through the segment.
-#[tactic(auto, unfolding(crate::specs::Meeting::separates))]
+#[tactic(auto, unfolding(overlay_geometry::specs::Meeting::separates))]
 fn separates<I: OverlayInt>(segment: &XSegment<I>, other: &XSegment<I>) -> bool
     requires segment { IsPairInRange I.whole I.MIN_COORD I.MAX_COORD segment.now }
     requires other { IsPairInRange I.whole I.MIN_COORD I.MAX_COORD other.now }
@@ -49,7 +49,7 @@ fn separates<I: OverlayInt>(segment: &XSegment<I>, other: &XSegment<I>) -> bool
 }
 
 /// Whether an end of the other lies strictly inside the segment.
-#[tactic(auto, unfolding(crate::specs::Meeting::has_end_inside))]
+#[tactic(auto, unfolding(overlay_geometry::specs::Meeting::has_end_inside))]
 fn has_end_inside<I: OverlayInt>(segment: &XSegment<I>, other: &XSegment<I>) -> bool
     requires segment { IsPairInRange I.whole I.MIN_COORD I.MAX_COORD segment.now }
     requires other { IsPairInRange I.whole I.MIN_COORD I.MAX_COORD other.now }

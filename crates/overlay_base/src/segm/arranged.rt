@@ -1,24 +1,24 @@
 // Tests of lists: whether a list may be split, and whether it is a planar arrangement. This project's own.
 ghost use Rattle.std.specs.Prelude.{◌≡◌, ◌&&◌, int_lt, IsTrue};
 ghost use Rattle.std.specs.List.{list_all};
-ghost use Rattle.overlay_base.specs.Points.{pair_cmp, pair_lt, is_ordered};
-ghost use Rattle.overlay_base.specs.Sorting.{is_strictly_sorted};
+ghost use Rattle.overlay_geometry.specs.Points.{pair_cmp, pair_lt, is_ordered};
+ghost use Rattle.overlay_geometry.specs.Sorting.{is_strictly_sorted};
 ghost use Rattle.overlay_base.specs.Windings.{is_valid, is_not_empty};
 ghost use Rattle.overlay_base.specs.Segments.{pairs};
-ghost use Rattle.overlay_base.specs.Meeting.{are_apart};
+ghost use Rattle.overlay_geometry.specs.Meeting.{are_apart};
 ghost use Rattle.overlay_base.specs.Planar.{is_planar, is_splittable, is_arranged};
-ghost use Rattle.overlay_base.specs.Coordinates.{is_pair_in_range, is_point_in_range};
-ghost use Rattle.overlay_base.specs.InRange.{IsPairInRange};
-ghost use Rattle.overlay_base.specs.PointOf.{point_of};
-ghost use Rattle.overlay_base.specs.PairOf.{pair_of};
+ghost use Rattle.overlay_geometry.specs.Coordinates.{is_pair_in_range, is_point_in_range};
+ghost use Rattle.overlay_geometry.specs.InRange.{IsPairInRange};
+ghost use Rattle.overlay_geometry.specs.PointOf.{point_of};
+ghost use Rattle.overlay_geometry.specs.PairOf.{pair_of};
 ghost use Rattle.overlay_base.specs.SegmentOf.{segments_of, ends_of, winding_of};
 
-use crate::geom::point::IntPoint;
-use crate::geom::x_segment::XSegment;
-use crate::num::OverlayInt;
 use crate::segm::apart::are_apart;
 use crate::segm::segment::Segment;
 use crate::segm::winding::WindingCount;
+use overlay_geometry::geom::point::IntPoint;
+use overlay_geometry::geom::x_segment::XSegment;
+use overlay_geometry::num::OverlayInt;
 
 /// Whether a list may be split: every coordinate lies from the engine's `MIN_COORD` to its `MAX_COORD`, and every
 /// count is valid and not empty. The list needs no order. True of the empty list.

@@ -8,13 +8,13 @@ ghost use Rattle.overlay_base.specs.EdgeData.{data_join, IsRefusedJoin};
 ghost use Rattle.overlay_base.specs.HooksOf.{hooks_of};
 ghost use Rattle.overlay_base.specs.SegmentOf.{winding_of, segments_of, data_segments_of};
 
-use crate::num::OverlayInt;
 use crate::overlay_core::edge_data::OverlayEdgeData;
 use crate::segm::fault::Fault;
 use crate::segm::merge::merge_if_needed_with_store;
 use crate::segm::segment::Segment;
 use crate::segm::sort::sort_by_ab;
 use crate::segm::winding::WindingCount;
+use overlay_geometry::num::OverlayInt;
 
 /// Sorts a list by pair of ends, then joins the segments on one pair. Counts have to be valid. Answers whether two
 /// segments had one pair.

@@ -2,18 +2,18 @@
 // cancel. Upstream: `segm::merge`.
 ghost use Rattle.std.specs.Prelude.{◌≡◌, ◌+◌, ◌<◌, ◌≤◌, ◌↔◌, [], ◌++◌, length, take, drop, All, vec_len, true, false, IsTrue, IsErr, IfOk, OnOk, IfErr, OnErr, MatchResult, IsSortedByKey};
 ghost use Rattle.overlay_base.specs.declared.segm.fault.Fault.TheVariants.{CountOutOfRange};
-ghost use Rattle.overlay_base.specs.Points.{pair_cmp, pair_eq};
+ghost use Rattle.overlay_geometry.specs.Points.{pair_cmp, pair_eq};
 ghost use Rattle.overlay_base.specs.Windings.{add, is_count_in_range, is_valid};
 ghost use Rattle.overlay_base.specs.Join.{join, join_leaves_range, has_equal_neighbors};
 ghost use Rattle.overlay_base.specs.EdgeData.{merged, kept_sum, data_join, IsStoppedJoin};
 ghost use Rattle.overlay_base.specs.HooksOf.{hooks_of};
 ghost use Rattle.overlay_base.specs.SegmentOf.{ends_of, winding_of, segments_of, data_segment_of, data_segments_of};
 
-use crate::num::OverlayInt;
 use crate::overlay_core::edge_data::{EdgeDataMerge, OverlayEdgeData};
 use crate::segm::fault::Fault;
 use crate::segm::segment::Segment;
 use crate::segm::winding::WindingCount;
+use overlay_geometry::num::OverlayInt;
 
 /// Joins each run of segments on one pair of ends, from left to right: counts are added, then the data's hook `merge`
 /// is called. A segment whose count is empty is dropped. Answers whether two neighbors had one pair.

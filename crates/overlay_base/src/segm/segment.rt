@@ -1,15 +1,15 @@
 // Segments: two ends in order, a winding count, and data. Upstream: `segm::segment`.
 ghost use Rattle.std.specs.Prelude.{◌≡◌, ⊤, IsTrue};
-ghost use Rattle.overlay_base.specs.Points.{is_ordered};
-ghost use Rattle.overlay_base.specs.PairOf.{pair_of};
+ghost use Rattle.overlay_geometry.specs.Points.{is_ordered};
+ghost use Rattle.overlay_geometry.specs.PairOf.{pair_of};
 
-use crate::geom::point::IntPoint;
-use crate::geom::x_segment::XSegment;
-use crate::num::OverlayInt;
 use crate::overlay_core::edge_data::OverlayEdgeData;
 use crate::segm::boolean::ShapeCountBoolean;
 use crate::segm::shape_type::ShapeType;
 use crate::segm::winding::WindingCount;
+use overlay_geometry::geom::point::IntPoint;
+use overlay_geometry::geom::x_segment::XSegment;
+use overlay_geometry::num::OverlayInt;
 use std::alloc::AllocError;
 
 /// Two ends, of which `a` stands before `b`, with a count and data.
@@ -80,10 +80,10 @@ impl<C: WindingCount, I: OverlayInt, D: Copy> Segment<C, I, D> {
 
 impl<C: WindingCount, I: OverlayInt, D: OverlayEdgeData<C>> Segment<C, I, D> {
     ghost use Rattle.std.specs.Prelude.{◌≡◌, ◌≢◌, IsTrue};
-    ghost use Rattle.overlay_base.specs.Points.{point_lt};
+    ghost use Rattle.overlay_geometry.specs.Points.{point_lt};
     ghost use Rattle.overlay_base.specs.Windings.{is_valid};
     ghost use Rattle.overlay_base.specs.EdgeData.{data_piece};
-    ghost use Rattle.overlay_base.specs.PointOf.{point_of};
+    ghost use Rattle.overlay_geometry.specs.PointOf.{point_of};
     ghost use Rattle.overlay_base.specs.HooksOf.{hooks_of};
     ghost use Rattle.overlay_base.specs.SegmentOf.{data_segment_of};
 
@@ -128,7 +128,7 @@ impl<C: WindingCount, I: OverlayInt, D: OverlayEdgeData<C>> Segment<C, I, D> {
 impl<I: OverlayInt, D: OverlayEdgeData<ShapeCountBoolean>> Segment<ShapeCountBoolean, I, D> {
     ghost use Rattle.std.specs.Prelude.{◌≡◌, ◌↔◌, IsNone, IfSome, OnSome, IfNone};
     ghost use Rattle.overlay_base.specs.EdgeData.{data_piece};
-    ghost use Rattle.overlay_base.specs.PointOf.{point_of};
+    ghost use Rattle.overlay_geometry.specs.PointOf.{point_of};
     ghost use Rattle.overlay_base.specs.HooksOf.{hooks_of};
     ghost use Rattle.overlay_base.specs.BooleanWinding.{boolean_counted, boolean_made};
     ghost use Rattle.overlay_base.specs.ShapeWindings.{direct_winding};

@@ -1,14 +1,14 @@
 // The order of a list of segments. Upstream: `segm::sort`, which takes an unstable sort of its own.
 ghost use Rattle.std.specs.Prelude.{◌≡◌, [], OnOk, OnErr, IfErr, IsSortedByKey, IsPermutation};
 ghost use Rattle.overlay_base.specs.declared.segm.fault.Fault.TheVariants.{Memory};
-ghost use Rattle.overlay_base.specs.Points.{pair_cmp};
-ghost use Rattle.overlay_base.specs.Sorting.{stably_sorted};
+ghost use Rattle.overlay_geometry.specs.Points.{pair_cmp};
+ghost use Rattle.overlay_geometry.specs.Sorting.{stably_sorted};
 ghost use Rattle.overlay_base.specs.SegmentOf.{ends_of};
 
-use crate::num::OverlayInt;
 use crate::segm::fault::Fault;
 use crate::segm::segment::Segment;
 use crate::segm::winding::WindingCount;
+use overlay_geometry::num::OverlayInt;
 
 /// Sorts segments by the first end, then by the second. Segments on one pair of ends stay in their order, so that the
 /// calls of hooks on them have one order too.

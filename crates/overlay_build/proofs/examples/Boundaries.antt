@@ -1,6 +1,6 @@
 -- Worked examples of boundaries: the directions of links, and how often they wind round places. Each holds by computation.
 use Rattle.std.specs.Prelude.{◌≡◌, refl, ℤ, pos, negsuc, Bool, true, not, ◌||◌, List, [], ◌∷◌, map}
-use Rattle.overlay_base.specs.Points.{Point}
+use Rattle.overlay_geometry.specs.Points.{Point}
 use Rattle.overlay_base.specs.Windings.{empty}
 use Rattle.overlay_base.specs.Segments.{WholeSegment, is_map}
 use Rattle.overlay_base.specs.Places.{winding_below}

@@ -1,6 +1,6 @@
 -- Worked examples of graphs. Each holds by computation.
 use Rattle.std.specs.Prelude.{◌≡◌, refl, ℕ, ℤ, pos, true, false, not, List, [], ◌∷◌, filter, length}
-use Rattle.overlay_base.specs.Points.{Pair}
+use Rattle.overlay_geometry.specs.Points.{Pair}
 use Rattle.overlay_base.specs.Segments.{WholeSegment}
 use Rattle.overlay_base.specs.Rules.{holds, keeps_fill}
 use Rattle.overlay_base.specs.declared.overlay_core.overlay_rule.OverlayRule.{OverlayRule}

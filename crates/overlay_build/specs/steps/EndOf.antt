@@ -1,8 +1,8 @@
 -- Ends with their indexes, as whole numbers.
 use Rattle.std.specs.Prelude.{ℕ, ℤ, List, map}
-use Rattle.overlay_base.specs.Points.{Point}
-use Rattle.overlay_base.specs.PointOf.{point_of}
-use Rattle.overlay_base.specs.declared.geom.end.End.{End}
+use Rattle.overlay_geometry.specs.Points.{Point}
+use Rattle.overlay_geometry.specs.PointOf.{point_of}
+use Rattle.overlay_geometry.specs.declared.geom.end.End.{End}
 
 -- an end of a link, with its index
 pub record WholeEnd : Type 0 where

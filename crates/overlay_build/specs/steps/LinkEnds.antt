@@ -1,7 +1,7 @@
 -- The ends of links with the links' indexes.
 use Rattle.std.specs.Prelude.{List, map}
 use Rattle.std.specs.List.{enumerate_from}
-use Rattle.overlay_base.specs.Points.{Pair}
+use Rattle.overlay_geometry.specs.Points.{Pair}
 use Rattle.overlay_build.specs.steps.EndOf.{WholeEnd}
 
 -- the first ends, in the order of the links

@@ -1,7 +1,7 @@
 // The nodes at the ends of links, and their numbers in the links. Upstream: `build::graph`.
 ghost use Rattle.std.specs.Prelude.{◌≡◌, IsTrue, All, map, OnOk, IfErr};
-ghost use Rattle.overlay_base.specs.Points.{point_lt};
-ghost use Rattle.overlay_base.specs.PointOf.{point_of};
+ghost use Rattle.overlay_geometry.specs.Points.{point_lt};
+ghost use Rattle.overlay_geometry.specs.PointOf.{point_of};
 ghost use Rattle.overlay_base.specs.declared.segm.fault.Fault.TheVariants.{Memory};
 ghost use Rattle.overlay_build.specs.GraphOf.{HoldGraph, graph_with};
 
@@ -9,8 +9,8 @@ use crate::build::graph_node::GraphNode;
 use crate::build::link_ends::{
     block_end, collect_ends, collect_indices, number_ends, sort_by_point,
 };
-use overlay_base::geom::end::End;
-use overlay_base::num::OverlayInt;
+use overlay_geometry::geom::end::End;
+use overlay_geometry::num::OverlayInt;
 use overlay_base::overlay_core::link::OverlayLink;
 use overlay_base::segm::fault::Fault;
 use std::alloc::Global;

@@ -10,7 +10,7 @@ ghost use Rattle.overlay_build.specs.steps.FreeArcs.{unused_starts, starts_of, A
 ghost use Rattle.overlay_build.specs.steps.UnusedLinks.{AreCounted};
 
 use crate::build::graph::OverlayGraph;
-use overlay_base::num::OverlayInt;
+use overlay_geometry::num::OverlayInt;
 use overlay_base::overlay_core::link::OverlayLink;
 use overlay_base::overlay_core::overlay_rule::OverlayRule;
 use overlay_base::segm::fault::Fault;

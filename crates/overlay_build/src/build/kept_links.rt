@@ -7,8 +7,8 @@ ghost use Rattle.overlay_build.specs.Graph.{filled, fills_of, data_by};
 ghost use Rattle.overlay_build.specs.GraphOf.{kept_of};
 ghost use Rattle.overlay_build.specs.steps.LinkRules.{keeps_by};
 
-use overlay_base::geom::id_point::IdPoint;
-use overlay_base::num::OverlayInt;
+use overlay_geometry::geom::id_point::IdPoint;
+use overlay_geometry::num::OverlayInt;
 use overlay_base::overlay_core::clip_rule::ClipRule;
 use overlay_base::overlay_core::link::OverlayLink;
 use overlay_base::overlay_core::overlay_rule::OverlayRule;

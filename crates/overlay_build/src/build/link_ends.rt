@@ -1,17 +1,17 @@
 // The ends of links in order of their points. Upstream: part of `build::graph`, which sorts the second ends alone.
 ghost use Rattle.std.specs.Prelude.{◌≡◌, ◌≢◌, ℕ, ◌-◌, ◌<◌, ◌≤◌, ◌++◌, map, take, drop, length, slice_index_or, OnOk, IfErr, All, if◌then◌else◌};
-ghost use Rattle.overlay_base.specs.Points.{point_cmp};
-ghost use Rattle.overlay_base.specs.Sorting.{stably_sorted};
-ghost use Rattle.overlay_base.specs.PointOf.{point_of};
+ghost use Rattle.overlay_geometry.specs.Points.{point_cmp};
+ghost use Rattle.overlay_geometry.specs.Sorting.{stably_sorted};
+ghost use Rattle.overlay_geometry.specs.PointOf.{point_of};
 ghost use Rattle.overlay_base.specs.declared.segm.fault.Fault.TheVariants.{Memory};
 ghost use Rattle.overlay_base.specs.declared.overlay_core.link.OverlayLink.{OverlayLink};
 ghost use Rattle.overlay_build.specs.steps.EndOf.{WholeEnd, ends_of};
 ghost use Rattle.overlay_build.specs.GraphOf.{pairs_of_links, with_node, names_node};
 ghost use Rattle.overlay_build.specs.steps.LinkEnds.{numbered_starts, numbered_ends};
 
-use overlay_base::geom::end::End;
-use overlay_base::geom::point::IntPoint;
-use overlay_base::num::OverlayInt;
+use overlay_geometry::geom::end::End;
+use overlay_geometry::geom::point::IntPoint;
+use overlay_geometry::num::OverlayInt;
 use overlay_base::overlay_core::link::OverlayLink;
 use overlay_base::segm::fault::Fault;
 

@@ -1,13 +1,13 @@
 // Lines over a square, with ample memory.
 ghost use Rattle.std.specs.Prelude.{◌≡◌, IsTrue, pos};
-ghost use Rattle.overlay_base.specs.Points.{point_lt};
-ghost use Rattle.overlay_base.specs.Coordinates.{least_coordinate, greatest_coordinate};
+ghost use Rattle.overlay_geometry.specs.Points.{point_lt};
+ghost use Rattle.overlay_geometry.specs.Coordinates.{least_coordinate, greatest_coordinate};
 ghost use Rattle.overlay_base.specs.Planar.{is_arranged};
 ghost use Rattle.overlay_base.specs.SegmentOf.{segment_of, segments_of};
 
 use crate::build::builder::GraphBuilder;
 use crate::build::worked_lines::STRATEGIES;
-use overlay_base::geom::point::IntPoint;
+use overlay_geometry::geom::point::IntPoint;
 use overlay_base::overlay_core::clip_rule::ClipRule;
 use overlay_base::overlay_core::fill_rule::FillRule;
 use overlay_base::overlay_core::solver::Solver;

@@ -1,15 +1,15 @@
 // Whether a contour meets itself in a point. Upstream: `build::util`.
 ghost use Rattle.std.specs.Prelude.{◌≡◌, [], ◌<◌, ◌≤◌, map, length, IfOk, OnOk, IfErr, IsSortedByKey, IsPermutation};
 ghost use Rattle.std.specs.List.{list_any};
-ghost use Rattle.overlay_base.specs.Points.{point_cmp, point_eq};
-ghost use Rattle.overlay_base.specs.Sorting.{has_repeat, stably_sorted};
-ghost use Rattle.overlay_base.specs.PointOf.{point_of};
+ghost use Rattle.overlay_geometry.specs.Points.{point_cmp, point_eq};
+ghost use Rattle.overlay_geometry.specs.Sorting.{has_repeat, stably_sorted};
+ghost use Rattle.overlay_geometry.specs.PointOf.{point_of};
 ghost use Rattle.overlay_base.specs.declared.segm.fault.Fault.TheVariants.{Memory};
 
 use crate::build::builder::GraphBuilder;
 use crate::build::graph_node::GraphNode;
-use overlay_base::geom::point::IntPoint;
-use overlay_base::num::OverlayInt;
+use overlay_geometry::geom::point::IntPoint;
+use overlay_geometry::num::OverlayInt;
 use overlay_base::segm::fault::Fault;
 use overlay_base::segm::winding::WindingCount;
 

@@ -1,6 +1,6 @@
 // Worked closed walks, with ample memory.
 ghost use Rattle.std.specs.Prelude.{IsTrue};
-ghost use Rattle.overlay_base.specs.Coordinates.{least_coordinate, greatest_coordinate};
+ghost use Rattle.overlay_geometry.specs.Coordinates.{least_coordinate, greatest_coordinate};
 ghost use Rattle.overlay_base.specs.Planar.{is_arranged};
 ghost use Rattle.overlay_base.specs.SegmentOf.{segments_of};
 

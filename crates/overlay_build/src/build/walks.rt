@@ -9,7 +9,7 @@ ghost use Rattle.overlay_build.specs.steps.UnusedLinks.{meets, unused_degree, Ar
 ghost use Rattle.overlay_build.specs.Walks.{IsClosedWalk, AreClosedWalks};
 
 use crate::build::graph::OverlayGraph;
-use overlay_base::num::OverlayInt;
+use overlay_geometry::num::OverlayInt;
 use overlay_base::segm::fault::Fault;
 use std::alloc::Global;
 

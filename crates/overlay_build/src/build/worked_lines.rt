@@ -1,11 +1,11 @@
 // The lines that worked graphs and walks are built of.
 ghost use Rattle.std.specs.Prelude.{◌≡◌, IsTrue};
-ghost use Rattle.overlay_base.specs.Points.{point_lt};
-ghost use Rattle.overlay_base.specs.Coordinates.{least_coordinate, greatest_coordinate};
+ghost use Rattle.overlay_geometry.specs.Points.{point_lt};
+ghost use Rattle.overlay_geometry.specs.Coordinates.{least_coordinate, greatest_coordinate};
 ghost use Rattle.overlay_base.specs.Planar.{is_arranged};
 ghost use Rattle.overlay_base.specs.SegmentOf.{segment_of, segments_of};
 
-use overlay_base::geom::point::IntPoint;
+use overlay_geometry::geom::point::IntPoint;
 use overlay_base::overlay_core::solver::Solver;
 use overlay_base::segm::boolean::ShapeCountBoolean;
 use overlay_base::segm::segment::Segment;

@@ -1,6 +1,6 @@
 -- Worked examples of contours: a square, one given twice, a bow tie, a contour of equal points. Each holds by computation.
 use Rattle.std.specs.Prelude.{◌≡◌, refl, ℕ, pos, negsuc, true, false, List, [], ◌∷◌}
-use Rattle.overlay_base.specs.Points.{Point, Pair}
+use Rattle.overlay_geometry.specs.Points.{Point, Pair}
 use Rattle.overlay_base.specs.Places.{RationalPoint}
 use Rattle.overlay_base.specs.declared.overlay_core.fill_rule.FillRule.TheVariants.{EvenOdd, NonZero, Positive}
 use Rattle.overlay_base.specs.declared.overlay_core.overlay_rule.OverlayRule.TheVariants.{Intersect, Union, Difference, Xor, Subject}

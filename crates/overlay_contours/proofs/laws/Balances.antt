@@ -1,7 +1,7 @@
 -- The counts of contours balance: what comes in at a point by one step goes out by the next.
 use Rattle.std.proofs.Common.{◌≡◌, refl, sym, ap, ap₂, ◌∙◌, Bool, true, false, not, cond, List, [], ◌∷◌, ◌++◌, filter}
 use Rattle.std.specs.Prelude.{pos, negsuc}
-use Rattle.overlay_base.specs.Points.{Point, Pair, point_lt, point_eq}
+use Rattle.overlay_geometry.specs.Points.{Point, Pair, point_lt, point_eq}
 use Rattle.overlay_base.specs.Windings.{Winding, add, inverse, empty}
 use Rattle.overlay_base.specs.Segments.{WholeSegment}
 use Rattle.overlay_base.specs.Sums.{gathered}
@@ -10,7 +10,7 @@ use Rattle.overlay_base.specs.BooleanWinding.{boolean_made}
 use Rattle.overlay_base.specs.ShapeWindings.{direct_winding}
 use Rattle.overlay_base.specs.declared.segm.shape_type.ShapeType.{ShapeType}
 use Rattle.overlay_base.specs.declared.segm.shape_type.ShapeType.TheVariants.{Subject, Clip}
-use Rattle.overlay_base.proofs.laws.geometry.Points.{same_by_eq}
+use Rattle.overlay_geometry.proofs.laws.geometry.Points.{same_by_eq}
 use Rattle.overlay_base.proofs.laws.lists.Monoids.{gathered-append, gathered-filter, gathered-map, gathered-same}
 use Rattle.overlay_base.proofs.laws.joins.Bags.{windings_add}
 use Rattle.overlay_base.proofs.laws.joins.Functionals.{flow, balance-gathered}

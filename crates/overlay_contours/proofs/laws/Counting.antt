@@ -4,7 +4,7 @@ use Rattle.std.specs.Prelude.{count_by}
 use Rattle.std.specs.List.{AllByRecursion}
 use Rattle.std.proofs.lemmas.Bool.{eqb-true, eq-eqb, ne_eqb}
 use Rattle.std.proofs.lemmas.List.Sums.{sum_by-cons}
-use Rattle.overlay_base.proofs.laws.lists.Lists.{sum_by-map}
+use Rattle.overlay_geometry.proofs.laws.lists.Lists.{sum_by-map}
 
 -- f of each index below n, added up
 abbrev total : (ℕ → ℕ) → ℕ → ℕ

@@ -6,10 +6,10 @@ use Rattle.std.proofs.lemmas.Bool.{and_parts, and_from}
 use Rattle.std.proofs.lemmas.List.{map-append, length-map}
 use Rattle.std.proofs.lemmas.List.Elements.{recursion_from_All}
 use Rattle.std.proofs.lemmas.List.Sums.{length-filter}
-use Rattle.overlay_base.specs.Points.{Point, Pair, is_ordered}
+use Rattle.overlay_geometry.specs.Points.{Point, Pair, is_ordered}
 use Rattle.overlay_base.specs.Places.{RationalPoint, lies_below}
 use Rattle.overlay_base.specs.declared.overlay_core.link.OverlayLink.{OverlayLink}
-use Rattle.overlay_base.proofs.laws.lists.Lists.{sum_by-map, AllByRecursion-weaker, AllByRecursion-flat_map}
+use Rattle.overlay_geometry.proofs.laws.lists.Lists.{sum_by-map, AllByRecursion-weaker, AllByRecursion-flat_map}
 use Rattle.overlay_build.specs.Graph.{Link}
 use Rattle.overlay_build.specs.GraphOf.{link_of, graph_with, pairs_of_links}
 use Rattle.overlay_build.specs.Regions.{encloses}

@@ -5,7 +5,7 @@ use Rattle.std.specs.List.{list_all}
 use Rattle.std.proofs.lemmas.Bool.{and_parts}
 use Rattle.std.proofs.lemmas.List.{length-map}
 use Rattle.std.proofs.lemmas.Simd.{map-map}
-use Rattle.overlay_base.specs.Points.{Pair, is_ordered}
+use Rattle.overlay_geometry.specs.Points.{Pair, is_ordered}
 use Rattle.overlay_base.specs.declared.overlay_core.link.OverlayLink.{OverlayLink}
 use Rattle.overlay_build.specs.Graph.{Filled, Link, graph_of, node_number, node_points, without_nodes}
 use Rattle.overlay_build.specs.GraphOf.{link_of, kept_of, graph_with, pairs_of_links}

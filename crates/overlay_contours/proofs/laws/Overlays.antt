@@ -11,12 +11,12 @@ use Rattle.std.proofs.lemmas.List.Elements.{All-from_recursion}
 use Rattle.std.proofs.lemmas.List.Folds.{list_all-map, list_all-append}
 use Rattle.std.proofs.lemmas.List.Sums.{sum_by-cons}
 use Rattle.std.proofs.lemmas.Simd.{map-map}
-use Rattle.overlay_base.specs.Points.{Point, Pair, pair_eq, pair_cmp, is_ordered, point_lt, point_eq}
-use Rattle.overlay_base.specs.Sorting.{is_strictly_sorted}
+use Rattle.overlay_geometry.specs.Points.{Point, Pair, pair_eq, pair_cmp, is_ordered, point_lt, point_eq}
+use Rattle.overlay_geometry.specs.Sorting.{is_strictly_sorted}
 use Rattle.overlay_base.specs.Places.{RationalPoint, winding_below}
 use Rattle.overlay_base.specs.Segments.{WholeSegment, pairs, is_map, are_ordered}
 use Rattle.overlay_base.specs.Planar.{is_planar}
-use Rattle.overlay_base.specs.Meeting.{are_apart}
+use Rattle.overlay_geometry.specs.Meeting.{are_apart}
 use Rattle.overlay_base.specs.Rules.{holds, differ, keeps_fill}
 use Rattle.overlay_base.specs.Windings.{is_not_empty, Winding}
 use Rattle.overlay_base.specs.ShapeWindings.{direct_winding, inverted_winding}
@@ -25,10 +25,10 @@ use Rattle.overlay_base.specs.declared.segm.shape_type.ShapeType.{ShapeType}
 use Rattle.overlay_base.specs.declared.segm.shape_type.ShapeType.TheVariants.{Subject, Clip}
 use Rattle.overlay_base.specs.declared.overlay_core.fill_rule.FillRule.{FillRule}
 use Rattle.overlay_base.specs.declared.overlay_core.overlay_rule.OverlayRule.{OverlayRule}
-use Rattle.overlay_base.proofs.laws.geometry.Points.{pair_cmp_total, pair_eq_same, same_pair_by_eq}
+use Rattle.overlay_geometry.proofs.laws.geometry.Points.{pair_cmp_total, pair_eq_same, same_pair_by_eq}
 use Rattle.overlay_base.proofs.laws.geometry.Pairs.{pair_eq-less, pair_eq-comm}
-use Rattle.overlay_base.proofs.laws.lists.Keys.{IsStrictlySortedBy-from_test}
-use Rattle.overlay_base.proofs.laws.lists.Lists.{Has, Has-map, Has-map_out, Has-filter_out, AllByRecursion-from_Has, list_all-from_Has, list_all-at, list_all-and_parts, sum_by-map, sum_by-filter_le}
+use Rattle.overlay_geometry.proofs.laws.lists.Keys.{IsStrictlySortedBy-from_test}
+use Rattle.overlay_geometry.proofs.laws.lists.Lists.{Has, Has-map, Has-map_out, Has-filter_out, AllByRecursion-from_Has, list_all-from_Has, list_all-at, list_all-and_parts, sum_by-map, sum_by-filter_le}
 use Rattle.overlay_base.specs.Radius.{exponent_cap}
 use Rattle.overlay_base.specs.declared.overlay_core.link.OverlayLink.{OverlayLink}
 use Rattle.overlay_base.specs.declared.overlay_core.solver.Solver.{Solver}

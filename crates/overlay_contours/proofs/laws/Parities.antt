@@ -3,11 +3,11 @@ use Rattle.std.proofs.Common.{◌≡◌, refl, sym, ap, ap₂, ◌∙◌, ℕ, �
 use Rattle.std.specs.Prelude.{ℤ, pos, negsuc, ◌+ℤ◌, unsigned_abs, count_by, sum_by}
 use Rattle.std.proofs.lemmas.Int.{ints}
 use Rattle.std.proofs.lemmas.List.Sums.{sum_by-cons}
-use Rattle.overlay_base.specs.Points.{Pair, point_lt, point_eq}
+use Rattle.overlay_geometry.specs.Points.{Pair, point_lt, point_eq}
 use Rattle.overlay_base.specs.Places.{RationalPoint, lies_below}
 use Rattle.overlay_base.specs.Sums.{gathered}
-use Rattle.overlay_base.proofs.laws.geometry.Points.{same_by_eq}
-use Rattle.overlay_base.proofs.laws.lists.Lists.{sum_by-map}
+use Rattle.overlay_geometry.proofs.laws.geometry.Points.{same_by_eq}
+use Rattle.overlay_geometry.proofs.laws.lists.Lists.{sum_by-map}
 use Rattle.overlay_contours.specs.Contours.{steps, is_edge, in_order, turned, step_winding, winding_number, is_painted}
 use Rattle.overlay_contours.specs.Laws.{PaintsByEvenOdd}
 use Rattle.overlay_contours.proofs.laws.Windings.{not_below, right, left, upright}

@@ -7,18 +7,18 @@ use Rattle.std.proofs.lemmas.Bool.{and_parts, and_from}
 use Rattle.std.proofs.lemmas.List.{map-append}
 use Rattle.std.proofs.lemmas.List.Elements.{filter-append}
 use Rattle.std.proofs.lemmas.List.Folds.{list_all-append}
-use Rattle.overlay_base.specs.Points.{Point, Pair, point_lt, point_eq}
+use Rattle.overlay_geometry.specs.Points.{Point, Pair, point_lt, point_eq}
 use Rattle.overlay_base.specs.Segments.{WholeSegment}
 use Rattle.overlay_base.specs.EdgeData.{Hooks, data_piece}
 use Rattle.overlay_base.specs.Planar.{is_splittable}
-use Rattle.overlay_base.specs.Coordinates.{is_point_in_range, is_pair_in_range}
+use Rattle.overlay_geometry.specs.Coordinates.{is_point_in_range, is_pair_in_range}
 use Rattle.overlay_base.specs.BooleanWinding.{boolean_made}
 use Rattle.overlay_base.specs.ShapeWindings.{direct_winding}
 use Rattle.overlay_base.specs.declared.segm.shape_type.ShapeType.{ShapeType}
 use Rattle.overlay_base.specs.declared.segm.shape_type.ShapeType.TheVariants.{Subject, Clip}
-use Rattle.overlay_base.proofs.laws.geometry.Points.{same_by_eq}
+use Rattle.overlay_geometry.proofs.laws.geometry.Points.{same_by_eq}
 use Rattle.overlay_base.proofs.laws.joins.DataJoins.{bare}
-use Rattle.overlay_base.proofs.laws.lists.Lists.{list_all-filter}
+use Rattle.overlay_geometry.proofs.laws.lists.Lists.{list_all-filter}
 use Rattle.overlay_contours.specs.Contours.{steps_from, steps_of, steps, is_edge, turned}
 use Rattle.overlay_contours.specs.ContourSegments.{step_segment, step_segments, contour_segments, overlay_segments, are_in_range}
 

@@ -5,8 +5,8 @@ use Rattle.std.proofs.lemmas.Option.{slice_get_within}
 use Rattle.std.specs.List.{AllByRecursion}
 use Rattle.std.proofs.lemmas.Bool.{eqb-true, eq-eqb}
 use Rattle.std.proofs.lemmas.List.{map-append}
-use Rattle.overlay_base.specs.Points.{Point, Pair, point_lt, point_eq, is_ordered}
-use Rattle.overlay_base.proofs.laws.geometry.Points.{point_lt-trans, point_lt-irreflexive, same_by_eq}
+use Rattle.overlay_geometry.specs.Points.{Point, Pair, point_lt, point_eq, is_ordered}
+use Rattle.overlay_geometry.proofs.laws.geometry.Points.{point_lt-trans, point_lt-irreflexive, same_by_eq}
 use Rattle.overlay_build.specs.Graph.{Link}
 use Rattle.overlay_build.specs.Walks.{other_node, walk_end, IsClosedWalk}
 use Rattle.overlay_contours.specs.Contours.{steps_from, steps_of, is_edge, turned, in_order}

@@ -2,7 +2,7 @@
 use Rattle.std.proofs.Common.{◌≡◌, refl, sym, ap, ap₂, ◌∙◌, ℕ, Bool, true, false, not, cond, ◌&&◌, List, ◌++◌, filter, inl, inr, arith}
 use Rattle.std.specs.Prelude.{ℤ, pos, negsuc, ◌+ℤ◌, ◌*ℤ◌, ◌≤ℤ◌, int_le, int_lt}
 use Rattle.std.proofs.lemmas.Int.{ints}
-use Rattle.overlay_base.specs.Points.{Point, Pair, point_lt, point_eq}
+use Rattle.overlay_geometry.specs.Points.{Point, Pair, point_lt, point_eq}
 use Rattle.overlay_base.specs.Places.{RationalPoint, lies_below, runs_below, winding_below}
 use Rattle.overlay_base.specs.Windings.{Winding, add, weight, empty}
 use Rattle.overlay_base.specs.Segments.{WholeSegment}
@@ -11,8 +11,8 @@ use Rattle.overlay_base.specs.BooleanWinding.{boolean_made}
 use Rattle.overlay_base.specs.ShapeWindings.{direct_winding}
 use Rattle.overlay_base.specs.declared.segm.shape_type.ShapeType.{ShapeType}
 use Rattle.overlay_base.specs.declared.segm.shape_type.ShapeType.TheVariants.{Subject, Clip}
-use Rattle.overlay_base.proofs.laws.geometry.Points.{Before, UpTo, before, not_before, same_by_eq}
-use Rattle.overlay_base.proofs.laws.geometry.Polynomials.{mul-le_left}
+use Rattle.overlay_geometry.proofs.laws.geometry.Points.{Before, UpTo, before, not_before, same_by_eq}
+use Rattle.overlay_geometry.proofs.laws.geometry.Polynomials.{mul-le_left}
 use Rattle.overlay_base.proofs.laws.lists.Monoids.{gathered-append, gathered-filter, gathered-map, gathered-same, gathered-through}
 use Rattle.overlay_base.proofs.laws.joins.Bags.{windings_add}
 use Rattle.overlay_base.proofs.laws.joins.Functionals.{total_weight-filter}

@@ -1,6 +1,6 @@
 // Overlays of small contours, worked by hand.
 use super::*;
-use overlay_base::geom::point::IntPoint;
+use overlay_geometry::geom::point::IntPoint;
 use overlay_base::segm::fault::Fault;
 use std::test::Fail;
 

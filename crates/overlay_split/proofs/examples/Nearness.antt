@@ -2,7 +2,7 @@
 use Rattle.std.proofs.Common.{arith}
 use Rattle.std.specs.Prelude.{◌≡◌, refl, ℕ, pos, List, [], ◌∷◌, map}
 use Rattle.std.proofs.lemmas.Int.{ints}
-use Rattle.overlay_marks.specs.Marks.{snapping, settling}
+use Rattle.overlay_intersections.specs.Marks.{snapping, settling}
 use Rattle.overlay_split.specs.Nearness.{whole_point, IsNear, root, reach, reach_of_run, reach_of_passes, Cancels}
 use Rattle.overlay_base.proofs.examples.Words.{neg, point, pair, seg}
 use Rattle.overlay_split.proofs.examples.Computing.{computing}

@@ -2,9 +2,9 @@
 use Rattle.std.proofs.Common.{inl, inr, sym, subst, arith, ◌≡◌, refl}
 use Rattle.std.specs.Prelude.{ℕ, ℤ, pos, [], ◌∷◌, List, map}
 use Rattle.std.proofs.lemmas.Int.{ints}
-use Rattle.overlay_base.specs.Points.{Pair}
+use Rattle.overlay_geometry.specs.Points.{Pair}
 use Rattle.overlay_base.specs.Segments.{WholeSegment, pairs}
-use Rattle.overlay_base.proofs.laws.lists.Lists.{Has}
+use Rattle.overlay_geometry.proofs.laws.lists.Lists.{Has}
 use Rattle.overlay_split.specs.Run.{after_passes}
 use Rattle.overlay_base.specs.Places.{RationalPoint, winding_below}
 use Rattle.overlay_split.specs.Nearness.{IsNear, reach_of_run}

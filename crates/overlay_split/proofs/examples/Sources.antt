@@ -3,7 +3,7 @@ use Rattle.std.specs.Prelude.{refl, IsTrue, ℕ, Bool, List, nat_eq}
 use Rattle.std.specs.List.{list_all, list_any}
 use Rattle.std.proofs.lemmas.Bool.{eq-eqb}
 use Rattle.overlay_base.specs.EdgeData.{DataSegment, Hooks}
-use Rattle.overlay_base.proofs.laws.lists.Lists.{list_all-from_Has, list_any-from_Has}
+use Rattle.overlay_geometry.proofs.laws.lists.Lists.{list_all-from_Has, list_any-from_Has}
 use Rattle.overlay_split.specs.DataPass.{data_after_passes}
 use Rattle.overlay_split.specs.Laws.{HooksKeep}
 use Rattle.overlay_split.specs.Run.{Settings}

@@ -1,6 +1,6 @@
 -- A path that is given point by point.
 use Rattle.std.specs.Prelude.{◌≡◌, List, [], ◌∷◌}
-use Rattle.overlay_base.specs.Points.{Point, Pair}
+use Rattle.overlay_geometry.specs.Points.{Point, Pair}
 use Rattle.overlay_split.specs.Path.{last_point, LeadsOn}
 
 -- the first of the points, or b where there is none

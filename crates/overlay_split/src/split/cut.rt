@@ -7,17 +7,17 @@ ghost use Rattle.overlay_base.specs.HooksOf.{hooks_of};
 ghost use Rattle.overlay_base.specs.SegmentOf.{ends_of, winding_of, data_segments_of};
 ghost use Rattle.overlay_split.specs.steps.PathSteps.{IsPathOf};
 ghost use Rattle.overlay_split.specs.steps.DataCutAt.{data_cut_at};
-ghost use Rattle.overlay_marks.specs.MarkOf.{points_of};
+ghost use Rattle.overlay_intersections.specs.MarkOf.{points_of};
 
 use crate::split::piece::push_pieces;
-use overlay_base::geom::point::IntPoint;
-use overlay_base::geom::x_segment::XSegment;
-use overlay_base::num::OverlayInt;
 use overlay_base::overlay_core::edge_data::{EdgeDataSplit, OverlayEdgeData};
 use overlay_base::segm::fault::Fault;
 use overlay_base::segm::segment::Segment;
 use overlay_base::segm::winding::WindingCount;
-use overlay_marks::split::line_mark::LineMark;
+use overlay_geometry::geom::point::IntPoint;
+use overlay_geometry::geom::x_segment::XSegment;
+use overlay_geometry::num::OverlayInt;
+use overlay_intersections::split::line_mark::LineMark;
 
 /// Cuts a segment of a list, given with its index, along a path of two steps or more from its first end to its last:
 /// the first piece takes its place, the others are appended. Answers `Fault::Memory` where a growth is refused.

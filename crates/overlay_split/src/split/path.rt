@@ -2,14 +2,14 @@
 ghost use Rattle.std.specs.Prelude.{◌≡◌, ◌++◌, ◌≤◌, ◌<◌, length, OnOk, map, reverse, int_lt};
 ghost use Rattle.std.specs.List.{prefix_len};
 ghost use Rattle.std.specs.Ordering.{int_eq};
-ghost use Rattle.overlay_base.specs.PointOf.{point_of};
+ghost use Rattle.overlay_geometry.specs.PointOf.{point_of};
 ghost use Rattle.overlay_split.specs.Path.{columns_in_order, path_from, run_through, last_point};
 ghost use Rattle.overlay_split.specs.steps.PathSteps.{first_point};
-ghost use Rattle.overlay_marks.specs.MarkOf.{points_of, mark_points_of};
+ghost use Rattle.overlay_intersections.specs.MarkOf.{points_of, mark_points_of};
 
-use overlay_base::geom::point::IntPoint;
-use overlay_base::num::OverlayInt;
-use overlay_marks::split::line_mark::LineMark;
+use overlay_geometry::geom::point::IntPoint;
+use overlay_geometry::num::OverlayInt;
+use overlay_intersections::split::line_mark::LineMark;
 use std::alloc::AllocError;
 
 /// Collects the path that follows on `a`: the marks, which are given in order of points, and then `b`.

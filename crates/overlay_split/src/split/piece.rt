@@ -2,19 +2,19 @@
 ghost use Rattle.std.specs.Prelude.{◌≡◌, ◌++◌, IsTrue, OnOk, IfErr};
 ghost use Rattle.overlay_base.specs.declared.segm.fault.Fault.TheVariants.{Memory};
 ghost use Rattle.overlay_base.specs.Windings.{is_valid};
-ghost use Rattle.overlay_base.specs.PointOf.{point_of};
+ghost use Rattle.overlay_geometry.specs.PointOf.{point_of};
 ghost use Rattle.overlay_base.specs.HooksOf.{hooks_of};
 ghost use Rattle.overlay_base.specs.SegmentOf.{data_segments_of};
 ghost use Rattle.overlay_split.specs.Path.{last_point, LeadsOn};
 ghost use Rattle.overlay_split.specs.DataPass.{data_pieces};
-ghost use Rattle.overlay_marks.specs.MarkOf.{points_of};
+ghost use Rattle.overlay_intersections.specs.MarkOf.{points_of};
 
-use overlay_base::geom::point::IntPoint;
-use overlay_base::num::OverlayInt;
 use overlay_base::overlay_core::edge_data::{EdgeDataSplit, OverlayEdgeData};
 use overlay_base::segm::fault::Fault;
 use overlay_base::segm::segment::Segment;
 use overlay_base::segm::winding::WindingCount;
+use overlay_geometry::geom::point::IntPoint;
+use overlay_geometry::num::OverlayInt;
 
 /// Appends the pieces from a point along the path that follows on it. Before each piece but the last the data is split.
 /// A piece that runs backwards is turned, its count inverted, its data reversed.

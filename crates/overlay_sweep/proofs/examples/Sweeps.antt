@@ -2,11 +2,11 @@
 use Rattle.std.specs.Prelude.{◌≡◌, refl, ℕ, pos, negsuc, ℤ, Bool, true, not, ◌&&◌, ◌||◌, List, [], ◌∷◌, map}
 use Rattle.std.specs.List.{list_all}
 use Rattle.std.specs.declared.cmp.Ordering.TheVariants.{Less}
-use Rattle.overlay_base.specs.Points.{Pair, is_vertical}
+use Rattle.overlay_geometry.specs.Points.{Pair, is_vertical}
 use Rattle.overlay_base.specs.Windings.{winding_eq}
 use Rattle.overlay_base.specs.Segments.{WholeSegment}
 use Rattle.overlay_base.specs.EdgeData.{DataSegment}
-use Rattle.overlay_base.specs.Below.{under_point_order}
+use Rattle.overlay_geometry.specs.Below.{under_point_order}
 use Rattle.overlay_base.specs.declared.overlay_core.fill_rule.FillRule.{FillRule}
 use Rattle.overlay_base.specs.declared.overlay_core.fill_rule.FillRule.TheVariants.{EvenOdd, NonZero, Positive, Negative}
 use Rattle.overlay_sweep.specs.ColumnWindings.{spans, column_bottom, column_top, right_winding, left_winding}

@@ -1,7 +1,7 @@
 -- The rows that tests keep live: level segments from x 0 to x 10, one above the other.
 use Rattle.std.specs.Prelude.{◌≡◌, ℕ, ◌+◌, ◌*◌, ℤ, pos, ◌≤ℤ◌, IsTrue, List}
 use Rattle.std.specs.List.{Contains}
-use Rattle.overlay_base.specs.Points.{Pair}
+use Rattle.overlay_geometry.specs.Points.{Pair}
 use Rattle.overlay_base.specs.Segments.{WholeSegment}
 use Rattle.overlay_sweep.specs.ChainWindings.{is_live}
 

@@ -1,11 +1,11 @@
 -- A place among live segments, in their order from below.
 use Rattle.std.specs.Prelude.{ℤ, pos, int_lt, Bool, not}
 use Rattle.std.specs.Ordering.{is_lt}
-use Rattle.overlay_base.specs.Points.{Pair, turn}
-use Rattle.overlay_base.specs.Below.{under_segment_order}
-use Rattle.overlay_base.specs.PointOf.{point_of}
-use Rattle.overlay_base.specs.VSegmentOf.{v_pair_of, IsVSegmentInRange}
-use Rattle.overlay_base.specs.InRange.{IsPointInRange}
+use Rattle.overlay_geometry.specs.Points.{Pair, turn}
+use Rattle.overlay_geometry.specs.Below.{under_segment_order}
+use Rattle.overlay_geometry.specs.PointOf.{point_of}
+use Rattle.overlay_geometry.specs.VSegmentOf.{v_pair_of, IsVSegmentInRange}
+use Rattle.overlay_geometry.specs.InRange.{IsPointInRange}
 use Rattle.overlay_sweep.specs.declared.build.place.Place.{Place}
 use Rattle.overlay_sweep.specs.declared.build.place.Place.TheVariants.{Point, Segment}
 

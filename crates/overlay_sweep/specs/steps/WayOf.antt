@@ -1,11 +1,11 @@
 -- The segments that start at one point, in order of their angles.
 use Rattle.std.specs.Prelude.{ℕ, ◌-◌, List, map, take, drop}
 use Rattle.std.specs.List.{enumerate_from}
-use Rattle.overlay_base.specs.Points.{Pair}
-use Rattle.overlay_base.specs.Sorting.{stably_sorted}
+use Rattle.overlay_geometry.specs.Points.{Pair}
+use Rattle.overlay_geometry.specs.Sorting.{stably_sorted}
 use Rattle.overlay_base.specs.Segments.{WholeSegment}
-use Rattle.overlay_base.specs.Below.{angle_cmp}
-use Rattle.overlay_base.specs.VSegmentOf.{v_pair_of}
+use Rattle.overlay_geometry.specs.Below.{angle_cmp}
+use Rattle.overlay_geometry.specs.VSegmentOf.{v_pair_of}
 use Rattle.overlay_sweep.specs.declared.build.way.Way.{Way}
 
 -- a segment's ends with its index

@@ -1,10 +1,10 @@
 // A segment that is live in a sweep, with the sum above it.
 ghost use Rattle.std.specs.Prelude.{◌<ℤ◌};
-ghost use Rattle.overlay_base.specs.VSegmentOf.{IsVSegmentInRange};
+ghost use Rattle.overlay_geometry.specs.VSegmentOf.{IsVSegmentInRange};
 
 use crate::build::place::Place;
-use overlay_base::geom::v_segment::VSegment;
-use overlay_base::num::OverlayInt;
+use overlay_geometry::geom::v_segment::VSegment;
+use overlay_geometry::num::OverlayInt;
 use overlay_base::segm::winding::WindingCount;
 use std::alloc::AllocError;
 
@@ -32,7 +32,7 @@ impl<C: WindingCount, I: OverlayInt> Copy for Entry<C, I> {}
 
 impl<C: WindingCount, I: OverlayInt> Entry<C, I> {
     ghost use Rattle.std.specs.Prelude.{◌≡◌, ◌+◌, ◌-◌, ◌^◌, min, int_lt};
-    ghost use Rattle.overlay_base.specs.VSegmentOf.{v_pair_of};
+    ghost use Rattle.overlay_geometry.specs.VSegmentOf.{v_pair_of};
     ghost use Rattle.overlay_sweep.specs.steps.PlaceOf.{IsPlaceInRange, stands_before};
 
     /// Whether the segment ends right of `x`.

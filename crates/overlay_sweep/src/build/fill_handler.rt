@@ -5,7 +5,7 @@ ghost use Rattle.std.specs.ControlFlow.{break_value};
 ghost use Rattle.overlay_sweep.specs.Sweep.{Visit};
 ghost use Rattle.overlay_sweep.specs.VisitOf.{visit_of};
 
-use overlay_base::num::OverlayInt;
+use overlay_geometry::num::OverlayInt;
 use overlay_base::segm::segment::Segment;
 use overlay_base::segm::segment_fill::SegmentFill;
 use overlay_base::segm::winding::WindingCount;

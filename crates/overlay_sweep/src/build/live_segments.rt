@@ -1,15 +1,15 @@
 // The segments over which a sweep stands, each with the winding above it. Upstream: the collections of `i_tree`.
 ghost use Rattle.std.specs.Prelude.{◌≡◌, ℕ, ℤ, ◌≤ℤ◌, ◌<ℤ◌, List, [], ◌∷◌, OnOk, OnErr, IfErr};
 ghost use Rattle.overlay_base.specs.Segments.{WholeSegment};
-ghost use Rattle.overlay_base.specs.PointOf.{point_of};
-ghost use Rattle.overlay_base.specs.InRange.{IsPointInRange};
-ghost use Rattle.overlay_base.specs.VSegmentOf.{v_pair_of, IsVSegmentInRange};
+ghost use Rattle.overlay_geometry.specs.PointOf.{point_of};
+ghost use Rattle.overlay_geometry.specs.InRange.{IsPointInRange};
+ghost use Rattle.overlay_geometry.specs.VSegmentOf.{v_pair_of, IsVSegmentInRange};
 ghost use Rattle.overlay_sweep.specs.Live.{sum_below};
 ghost use Rattle.overlay_sweep.specs.Live.{HoldSameFrom, AreFreeAt};
 
-use overlay_base::geom::point::IntPoint;
-use overlay_base::geom::v_segment::VSegment;
-use overlay_base::num::OverlayInt;
+use overlay_geometry::geom::point::IntPoint;
+use overlay_geometry::geom::v_segment::VSegment;
+use overlay_geometry::num::OverlayInt;
 use overlay_base::segm::fault::Fault;
 use overlay_base::segm::winding::WindingCount;
 

@@ -1,8 +1,8 @@
 // What a way down a tree of segments looks for.
 
-use overlay_base::geom::point::IntPoint;
-use overlay_base::geom::v_segment::VSegment;
-use overlay_base::num::OverlayInt;
+use overlay_geometry::geom::point::IntPoint;
+use overlay_geometry::geom::v_segment::VSegment;
+use overlay_geometry::num::OverlayInt;
 
 /// A place among live segments, in their order from below: that of a point, above each segment that runs below it, or
 /// that of a segment, above each one that it does not run below.
@@ -14,7 +14,7 @@ pub(crate) enum Place<I> {
 
 impl<I: OverlayInt> Place<I> {
     ghost use Rattle.std.specs.Prelude.{◌≡◌};
-    ghost use Rattle.overlay_base.specs.VSegmentOf.{v_pair_of, IsVSegmentInRange};
+    ghost use Rattle.overlay_geometry.specs.VSegmentOf.{v_pair_of, IsVSegmentInRange};
     ghost use Rattle.overlay_sweep.specs.steps.PlaceOf.{IsPlaceInRange, stands_before};
 
     /// Whether a segment stands before the place.

@@ -2,15 +2,15 @@
 ghost use Rattle.std.specs.Prelude.{◌≡◌, ◌+◌, ◌-◌, ◌^◌, ◌<ℤ◌, min, not, true};
 ghost use Rattle.std.specs.Option.{option_map_or};
 ghost use Rattle.std.specs.Ordering.{is_lt};
-ghost use Rattle.overlay_base.specs.Below.{under_segment_order};
-ghost use Rattle.overlay_base.specs.VSegmentOf.{v_pair_of, IsVSegmentInRange};
+ghost use Rattle.overlay_geometry.specs.Below.{under_segment_order};
+ghost use Rattle.overlay_geometry.specs.VSegmentOf.{v_pair_of, IsVSegmentInRange};
 
 use crate::build::entry::Entry;
 use crate::build::live_segments::LiveSegments;
 use crate::build::place::Place;
-use overlay_base::geom::point::IntPoint;
-use overlay_base::geom::v_segment::VSegment;
-use overlay_base::num::OverlayInt;
+use overlay_geometry::geom::point::IntPoint;
+use overlay_geometry::geom::v_segment::VSegment;
+use overlay_geometry::num::OverlayInt;
 use overlay_base::segm::fault::Fault;
 use overlay_base::segm::winding::WindingCount;
 use std::alloc::Global;
@@ -65,9 +65,9 @@ impl<C: WindingCount, I: OverlayInt> ScanList<C, I> {
 
 impl<C: WindingCount, I: OverlayInt> LiveSegments<C, I> for ScanList<C, I> {
     ghost use Rattle.std.specs.Prelude.{◌≤ℤ◌, ℤ, pos, int_lt, All, [], ◌∷◌, OnOk, OnErr, IfErr, length, count_by};
-    ghost use Rattle.overlay_base.specs.Points.{turn};
-    ghost use Rattle.overlay_base.specs.PointOf.{point_of};
-    ghost use Rattle.overlay_base.specs.InRange.{IsPointInRange};
+    ghost use Rattle.overlay_geometry.specs.Points.{turn};
+    ghost use Rattle.overlay_geometry.specs.PointOf.{point_of};
+    ghost use Rattle.overlay_geometry.specs.InRange.{IsPointInRange};
     ghost use Rattle.overlay_sweep.specs.Live.{sum_below};
     ghost use Rattle.overlay_sweep.specs.Live.{HoldSameFrom, AreFreeAt};
     ghost use Rattle.overlay_sweep.specs.LiveOf.{list_entries, list_sums, list_asked};

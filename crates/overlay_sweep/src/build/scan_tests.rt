@@ -1,8 +1,8 @@
 // Rows of level segments, kept in a list and in a tree: sums, the tree's depth, and how many orders are asked.
 ghost use Rattle.std.specs.Prelude.{◌≡◌, ◌+◌, ◌*◌, ◌<◌, ℤ, pos, ◌≤ℤ◌, IsTrue};
-ghost use Rattle.overlay_base.specs.Coordinates.{is_coordinate};
+ghost use Rattle.overlay_geometry.specs.Coordinates.{is_coordinate};
 ghost use Rattle.overlay_base.specs.BooleanWinding.{boolean_winding};
-ghost use Rattle.overlay_base.specs.VSegmentOf.{v_pair_of, IsVSegmentInRange};
+ghost use Rattle.overlay_geometry.specs.VSegmentOf.{v_pair_of, IsVSegmentInRange};
 ghost use Rattle.overlay_sweep.specs.steps.LevelRows.{level_pair, level_row, AreRows};
 
 use crate::build::live_segments::LiveSegments;
@@ -10,9 +10,9 @@ use crate::build::scan_list::ScanList;
 use crate::build::scan_tree::ScanTree;
 use crate::build::sweep::SweepRunner;
 use crate::build::tests::{FirstWith, Line, greatest_counts, line};
-use overlay_base::geom::point::IntPoint;
-use overlay_base::geom::v_segment::VSegment;
-use overlay_base::num::OverlayInt;
+use overlay_geometry::geom::point::IntPoint;
+use overlay_geometry::geom::v_segment::VSegment;
+use overlay_geometry::num::OverlayInt;
 use overlay_base::overlay_core::fill_rule::FillRule;
 use overlay_base::overlay_core::solver::Solver;
 use overlay_base::segm::arranged::is_arranged;

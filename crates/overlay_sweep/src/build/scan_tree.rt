@@ -1,6 +1,6 @@
 // A balanced tree of the live segments. Upstream: `KeyExpTree` of `i_tree`.
 ghost use Rattle.std.specs.Prelude.{◌≡◌, ◌+◌, ◌/◌, ◌≤◌, ◌==◌, ◌&&◌, not};
-ghost use Rattle.overlay_base.specs.VSegmentOf.{v_pair_of};
+ghost use Rattle.overlay_geometry.specs.VSegmentOf.{v_pair_of};
 ghost use Rattle.overlay_sweep.specs.steps.PlaceOf.{IsPlaceInRange, stands_before};
 ghost use Rattle.overlay_sweep.specs.TreeShapes.{none, height_at};
 
@@ -8,9 +8,9 @@ use crate::build::entry::Entry;
 use crate::build::live_segments::LiveSegments;
 use crate::build::place::Place;
 use crate::build::tree_shape::{NONE, TreeShape};
-use overlay_base::geom::point::IntPoint;
-use overlay_base::geom::v_segment::VSegment;
-use overlay_base::num::OverlayInt;
+use overlay_geometry::geom::point::IntPoint;
+use overlay_geometry::geom::v_segment::VSegment;
+use overlay_geometry::num::OverlayInt;
 use overlay_base::segm::fault::Fault;
 use overlay_base::segm::winding::WindingCount;
 use std::alloc::Global;
@@ -181,9 +181,9 @@ impl<C: WindingCount, I: OverlayInt> ScanTree<C, I> {
 
 impl<C: WindingCount, I: OverlayInt> LiveSegments<C, I> for ScanTree<C, I> {
     ghost use Rattle.std.specs.Prelude.{◌≤ℤ◌, ◌<ℤ◌, ℤ, suc, ◌-◌, [], ◌∷◌, OnOk, OnErr, IfErr};
-    ghost use Rattle.overlay_base.specs.PointOf.{point_of};
-    ghost use Rattle.overlay_base.specs.InRange.{IsPointInRange};
-    ghost use Rattle.overlay_base.specs.VSegmentOf.{IsVSegmentInRange};
+    ghost use Rattle.overlay_geometry.specs.PointOf.{point_of};
+    ghost use Rattle.overlay_geometry.specs.InRange.{IsPointInRange};
+    ghost use Rattle.overlay_geometry.specs.VSegmentOf.{IsVSegmentInRange};
     ghost use Rattle.overlay_sweep.specs.Live.{sum_below};
     ghost use Rattle.overlay_sweep.specs.Live.{HoldSameFrom, AreFreeAt};
     ghost use Rattle.overlay_sweep.specs.ScanTrees.{IsAskedWithin};

@@ -1,13 +1,13 @@
 // The segments that start at one point, in order of their angles. Upstream: part of `build::sweep`.
 ghost use Rattle.std.specs.Prelude.{◌≡◌, ◌≢◌, ℕ, ◌<◌, ◌≤◌, All, OnOk, length, slice_index_or};
-ghost use Rattle.overlay_base.specs.Points.{Pair};
+ghost use Rattle.overlay_geometry.specs.Points.{Pair};
 ghost use Rattle.overlay_base.specs.Segments.{pairs};
-ghost use Rattle.overlay_base.specs.InRange.{IsPairInRange};
+ghost use Rattle.overlay_geometry.specs.InRange.{IsPairInRange};
 ghost use Rattle.overlay_base.specs.SegmentOf.{segments_of, x_segment_of};
 ghost use Rattle.overlay_sweep.specs.steps.WayOf.{ways_of, ways_between, by_angle};
 
 use crate::build::way::Way;
-use overlay_base::num::OverlayInt;
+use overlay_geometry::num::OverlayInt;
 use overlay_base::segm::segment::Segment;
 use overlay_base::segm::winding::WindingCount;
 use std::alloc::AllocError;

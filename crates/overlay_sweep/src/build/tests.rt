@@ -1,15 +1,15 @@
 // Worked sweeps, with ample memory.
 ghost use Rattle.std.specs.Prelude.{◌≡◌, ℕ, ◌+◌, ◌*◌, ◌/◌, ◌%◌, ◌^◌, ◌<◌, ⊤, IsTrue, bit_and, length, vec_len, None, Some, if◌then◌else◌, ◌==◌, OnOk, IfOk};
-ghost use Rattle.overlay_base.specs.Points.{point_lt};
+ghost use Rattle.overlay_geometry.specs.Points.{point_lt};
 ghost use Rattle.overlay_base.specs.Windings.{is_valid};
-ghost use Rattle.overlay_base.specs.Coordinates.{least_coordinate, greatest_coordinate};
+ghost use Rattle.overlay_geometry.specs.Coordinates.{least_coordinate, greatest_coordinate};
 ghost use Rattle.overlay_base.specs.Planar.{is_arranged};
 ghost use Rattle.overlay_base.specs.SegmentOf.{segment_of, segments_of};
 
 use crate::build::fill_handler::{FillHandler, StoreFillsHandler};
 use crate::build::sweep::SweepRunner;
-use overlay_base::geom::point::IntPoint;
-use overlay_base::num::OverlayInt;
+use overlay_geometry::geom::point::IntPoint;
+use overlay_geometry::num::OverlayInt;
 use overlay_base::overlay_core::fill_rule::FillRule;
 use overlay_base::overlay_core::solver::Solver;
 use overlay_base::segm::boolean::ShapeCountBoolean;

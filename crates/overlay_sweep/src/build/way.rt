@@ -1,10 +1,10 @@
 // The ends of a segment with its index, for the order by angle. Upstream: `geom::end` and part of `build::sweep`.
 ghost use Rattle.std.specs.Prelude.{IsTrue};
-ghost use Rattle.overlay_base.specs.Points.{is_ordered};
-ghost use Rattle.overlay_base.specs.VSegmentOf.{v_pair_of, IsVSegmentInRange};
+ghost use Rattle.overlay_geometry.specs.Points.{is_ordered};
+ghost use Rattle.overlay_geometry.specs.VSegmentOf.{v_pair_of, IsVSegmentInRange};
 
-use overlay_base::geom::v_segment::VSegment;
-use overlay_base::num::OverlayInt;
+use overlay_geometry::geom::v_segment::VSegment;
+use overlay_geometry::num::OverlayInt;
 use overlay_base::segm::segment::Segment;
 use overlay_base::segm::winding::WindingCount;
 use std::cmp::Ordering;
@@ -22,8 +22,8 @@ pub struct Way<I: OverlayInt> {
 
 impl<I: OverlayInt> Way<I> {
     ghost use Rattle.std.specs.Prelude.{◌≡◌};
-    ghost use Rattle.overlay_base.specs.Below.{angle_cmp};
-    ghost use Rattle.overlay_base.specs.InRange.{IsPairInRange};
+    ghost use Rattle.overlay_geometry.specs.Below.{angle_cmp};
+    ghost use Rattle.overlay_geometry.specs.InRange.{IsPairInRange};
     ghost use Rattle.overlay_base.specs.SegmentOf.{ends_of, x_segment_of};
     ghost use Rattle.overlay_sweep.specs.steps.WayOf.{way_of};
 

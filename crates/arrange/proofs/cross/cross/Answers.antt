@@ -1,10 +1,10 @@
 use Rattle.std.proofs.Common.{rules, ◌≡◌, refl, sym, ◌∙◌}
-use Rattle.overlay_base.specs.Points.{pair_lt}
-use Rattle.overlay_base.specs.PairOf.{pair_of}
+use Rattle.overlay_geometry.specs.Points.{pair_lt}
+use Rattle.overlay_geometry.specs.PairOf.{pair_of}
 use Rattle.overlay_base.specs.SegmentOf.{segment_of}
 use Rattle.arrange.specs.Output.{meeting_text}
-use Rattle.overlay_base.proofs.laws.geometry.Coordinates.{ends_in_range}
-use Rattle.overlay_marks.proofs.laws.marks.ApartPairs.{ends_differ}
+use Rattle.overlay_geometry.proofs.laws.geometry.Coordinates.{ends_in_range}
+use Rattle.overlay_intersections.proofs.laws.marks.ApartPairs.{ends_differ}
 use Rattle.arrange.proofs.Crossings.{are_two, two_in_range}
 use Rattle.arrange.proofs.cross.cross.Goals as goal
 use Rattle.arrange.proofs.cross.cross.Goals.{then-lt+in_ok-write_answer, else-lt+in_ok-write_answer-2}

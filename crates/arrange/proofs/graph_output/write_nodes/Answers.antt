@@ -1,6 +1,6 @@
 use Rattle.std.proofs.Common.{◌∙◌, ◌++◌, flat_map, take, sym, ap, List, ℕ, string_bytes}
 use Rattle.std.proofs.lemmas.List.{flat_map_more}
-use Rattle.overlay_base.specs.PointOf.{point_of}
+use Rattle.overlay_geometry.specs.PointOf.{point_of}
 use Rattle.overlay_build.specs.Graph.{Node}
 use Rattle.overlay_build.specs.GraphOf.{graph_with}
 use Rattle.overlay_build.specs.NodeIndexes.{indexes_of, is_canonical_node}

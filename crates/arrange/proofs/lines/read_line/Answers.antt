@@ -1,5 +1,5 @@
 use Rattle.std.proofs.Common.{rules, ◌≡◌, ◌∷◌, ap, sym, ◌∙◌}
-use Rattle.overlay_base.specs.PointOf.{point_of}
+use Rattle.overlay_geometry.specs.PointOf.{point_of}
 use Rattle.overlay_base.specs.SegmentOf.{segment_of}
 use Rattle.arrange.specs.Text.{words_of, words_of_line}
 use Rattle.arrange.proofs.Steps.{is_splittable-step}

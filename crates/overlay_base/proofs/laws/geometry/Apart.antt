@@ -6,18 +6,18 @@ use Rattle.std.specs.Ordering.{int_eq, is_lt}
 use Rattle.std.specs.List.{list_all, AllByRecursion}
 use Rattle.std.proofs.lemmas.Int.{ints, clamps}
 use Rattle.std.proofs.lemmas.Bool.{not-true, and_parts, and_from, or_cases, or_parts, or_from, both_ways, false_from_ne_true}
-use Rattle.overlay_base.specs.Points.{Point, Pair, pair_cmp, pair_lt, point_lt, turn, is_in_box, lies_on, is_ordered, is_strictly_inside}
-use Rattle.overlay_base.specs.Sorting.{is_strictly_sorted}
+use Rattle.overlay_geometry.specs.Points.{Point, Pair, pair_cmp, pair_lt, point_lt, turn, is_in_box, lies_on, is_ordered, is_strictly_inside}
+use Rattle.overlay_geometry.specs.Sorting.{is_strictly_sorted}
 use Rattle.overlay_base.specs.Segments.{WholeSegment, pairs, is_map}
 use Rattle.overlay_base.specs.SegmentOf.{segments_of, ends_of}
-use Rattle.overlay_base.specs.Ranges.{heights, is_off_range}
-use Rattle.overlay_base.specs.Meeting.{crossing, touch, overlap, apart, have_opposite_signs, separates, do_cross, has_end_inside, are_collinear, meeting, are_apart}
+use Rattle.overlay_geometry.specs.Ranges.{heights, is_off_range}
+use Rattle.overlay_geometry.specs.Meeting.{crossing, touch, overlap, apart, have_opposite_signs, separates, do_cross, has_end_inside, are_collinear, meeting, are_apart}
 use Rattle.overlay_base.specs.Planar.{is_planar, is_splittable, is_arranged}
 use Rattle.overlay_base.specs.Windings.{is_not_empty}
 use Rattle.overlay_base.specs.declared.segm.segment.Segment.{Segment}
-use Rattle.overlay_base.proofs.laws.lists.Elements.{AllByRecursion-drop}
-use Rattle.overlay_base.proofs.laws.geometry.Polynomials.{as_D, diffs, D-eq, mul-pos, mul-nonneg}
-use Rattle.overlay_base.proofs.laws.geometry.Points.{before, lies_inside_by_order, turn_same_outer, inside_parts, lies_on_parts, point_eq_same}
+use Rattle.overlay_geometry.proofs.laws.lists.Elements.{AllByRecursion-drop}
+use Rattle.overlay_geometry.proofs.laws.geometry.Polynomials.{as_D, diffs, D-eq, mul-pos, mul-nonneg}
+use Rattle.overlay_geometry.proofs.laws.geometry.Points.{before, lies_inside_by_order, turn_same_outer, inside_parts, lies_on_parts, point_eq_same}
 use Rattle.overlay_base.proofs.laws.joins.Rests.{rest-more, rest-none, is_splittable-parts}
 
 -- ---- the test

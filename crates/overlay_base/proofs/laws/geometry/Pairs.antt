@@ -2,12 +2,12 @@
 use Rattle.std.proofs.Common.{◌≡◌, Bool, false, List, ◌∷◌, Ordering, Less, Equal, Greater, is_eq, ap, refl, ◌∙◌}
 use Rattle.std.specs.Ordering.{ordering_reverse}
 use Rattle.std.specs.List.{AllByRecursion, list_any}
-use Rattle.overlay_base.specs.Points.{Point, Pair, point_cmp, point_eq, pair_cmp, pair_eq}
-use Rattle.overlay_base.specs.Sorting.{distinct_in_order}
+use Rattle.overlay_geometry.specs.Points.{Point, Pair, point_cmp, point_eq, pair_cmp, pair_eq}
+use Rattle.overlay_geometry.specs.Sorting.{distinct_in_order}
 use Rattle.overlay_base.specs.Windings.{add}
 use Rattle.overlay_base.specs.Segments.{WholeSegment, pairs}
-use Rattle.overlay_base.proofs.laws.geometry.Points.{point_cmp_total, pair_cmp_total}
-use Rattle.overlay_base.proofs.laws.lists.Keys.{has_key-distinct, Less-from_tests, IsInOrder, AllByRecursion-less_in_order}
+use Rattle.overlay_geometry.proofs.laws.geometry.Points.{point_cmp_total, pair_cmp_total}
+use Rattle.overlay_geometry.proofs.laws.lists.Keys.{has_key-distinct, Less-from_tests, IsInOrder, AllByRecursion-less_in_order}
 
 -- ---- equal pairs
 

@@ -5,17 +5,17 @@ use Rattle.std.specs.Ordering.{int_eq}
 use Rattle.std.specs.List.Sorted.{IsStrictlySortedBy}
 use Rattle.std.proofs.lemmas.Cmp.{int_ranked}
 use Rattle.std.proofs.lemmas.Bool.{and_parts, or_parts, or_left, or_right, not-false}
-use Rattle.overlay_base.specs.Points.{Pair, pair_cmp, pair_eq}
-use Rattle.overlay_base.specs.Sorting.{distinct_in_order}
+use Rattle.overlay_geometry.specs.Points.{Pair, pair_cmp, pair_eq}
+use Rattle.overlay_geometry.specs.Sorting.{distinct_in_order}
 use Rattle.overlay_base.specs.Windings.{Winding, empty, add, weight, total, winding_eq, is_not_empty}
 use Rattle.overlay_base.specs.Segments.{WholeSegment, pairs, counts, segments_at, winding_at, total_weight}
 use Rattle.overlay_base.specs.Join.{summed, join}
 use Rattle.overlay_base.specs.Sums.{IsCommutativeMonoid, gathered}
 use Rattle.overlay_base.specs.Laws.{CountsAddUp}
 use Rattle.overlay_base.proofs.laws.counts.Windings.{cond-empty, cond-add, add_comm, add_assoc, empty-add, same_windings, weight-add}
-use Rattle.overlay_base.proofs.laws.geometry.Points.{pair_cmp_total, pair_eq_same, same_pair_by_eq}
+use Rattle.overlay_geometry.proofs.laws.geometry.Points.{pair_cmp_total, pair_eq_same, same_pair_by_eq}
 use Rattle.overlay_base.proofs.laws.geometry.Pairs.{pair_eq-less, pair_eq-comm, holds, holds-distinct}
-use Rattle.overlay_base.proofs.laws.lists.Keys.{is_eq-true, IsStrictlySortedBy-distinct}
+use Rattle.overlay_geometry.proofs.laws.lists.Keys.{is_eq-true, IsStrictlySortedBy-distinct}
 use Rattle.overlay_base.proofs.laws.lists.Monoids.{gathered-append, gathered-unit, gathered-op, gathered-same, gathered-filter, gathered-IsPermutation, gathered-map, gathered-through}
 
 -- ---- totals

@@ -4,16 +4,16 @@ use Rattle.std.specs.Ordering.{ordering_reverse, match_ordering}
 use Rattle.std.specs.BTreeSet.{insert_key}
 use Rattle.std.specs.List.{AllByRecursion}
 use Rattle.std.specs.List.Sorted.{IsStrictlySortedBy}
-use Rattle.overlay_base.specs.Points.{Pair, pair_cmp, pair_eq}
-use Rattle.overlay_base.specs.Sorting.{insert_before_ties, stably_sorted, distinct_in_order}
+use Rattle.overlay_geometry.specs.Points.{Pair, pair_cmp, pair_eq}
+use Rattle.overlay_geometry.specs.Sorting.{insert_before_ties, stably_sorted, distinct_in_order}
 use Rattle.overlay_base.specs.Windings.{Winding, add, empty, is_not_empty}
 use Rattle.overlay_base.specs.Segments.{WholeSegment, pairs, winding_at}
 use Rattle.overlay_base.specs.Join.{summed, join}
 use Rattle.overlay_base.specs.EdgeData.{DataSegment, Hooks, without_data, merged, merge_runs, merge_sorted, data_join}
 use Rattle.overlay_base.specs.Laws.{DataJoinIsBeside}
-use Rattle.overlay_base.proofs.laws.geometry.Points.{pair_cmp_total, pair_same, same_pair_by_eq}
+use Rattle.overlay_geometry.proofs.laws.geometry.Points.{pair_cmp_total, pair_same, same_pair_by_eq}
 use Rattle.overlay_base.proofs.laws.geometry.Pairs.{holds, holds-distinct, plus}
-use Rattle.overlay_base.proofs.laws.lists.Keys.{AllByRecursion-less, IsStrictlySortedBy-distinct, has_key-below}
+use Rattle.overlay_geometry.proofs.laws.lists.Keys.{AllByRecursion-less, IsStrictlySortedBy-distinct, has_key-below}
 use Rattle.overlay_base.proofs.laws.joins.Bags.{winding_at-here, winding_at-other, winding_at-absent}
 use Rattle.overlay_base.proofs.laws.counts.Windings.{add_assoc, add-empty}
 

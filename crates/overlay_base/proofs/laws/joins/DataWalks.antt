@@ -1,6 +1,6 @@
 -- The join with data as one walk over a sorted list: neighbors on one pair are merged, and a sum is written down where its run ends, unless it is empty.
 use Rattle.std.proofs.Common.{◌≡◌, Bool, true, false, List, [], ◌∷◌, ◌++◌, filter, refl, ap, ◌∙◌}
-use Rattle.overlay_base.specs.Points.{pair_eq}
+use Rattle.overlay_geometry.specs.Points.{pair_eq}
 use Rattle.overlay_base.specs.Windings.{is_not_empty}
 use Rattle.overlay_base.specs.EdgeData.{DataSegment, Hooks, kept_sum, merged, merge_runs, merge_sorted}
 

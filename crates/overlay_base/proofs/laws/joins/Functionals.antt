@@ -3,14 +3,14 @@
 use Rattle.std.proofs.Common.{◌≡◌, Bool, true, false, cond, List, filter, refl, sym, ap, ap₂, ◌∙◌, arith}
 use Rattle.std.specs.Prelude.{ℤ, pos, ◌+ℤ◌, ◌-ℤ◌, ◌*ℤ◌, neg_ℤ}
 use Rattle.std.proofs.lemmas.Int.{ints}
-use Rattle.overlay_base.specs.Points.{Point, Pair, point_eq}
+use Rattle.overlay_geometry.specs.Points.{Point, Pair, point_eq}
 use Rattle.overlay_base.specs.Windings.{Winding, empty, add, inverse, weight}
 use Rattle.overlay_base.specs.Segments.{WholeSegment, total_weight}
 use Rattle.overlay_base.specs.Join.{join}
 use Rattle.overlay_base.specs.Sums.{IsCommutativeMonoid, gathered, IsLinear, weighed}
 use Rattle.overlay_base.specs.Laws.{NumbersAreLinear}
 use Rattle.overlay_base.specs.Balance.{balance}
-use Rattle.overlay_base.proofs.laws.geometry.Polynomials.{as_D, diffs, D-eq}
+use Rattle.overlay_geometry.proofs.laws.geometry.Polynomials.{as_D, diffs, D-eq}
 use Rattle.overlay_base.proofs.laws.counts.Windings.{cond-empty, inverse-add}
 use Rattle.overlay_base.proofs.laws.lists.Monoids.{four, gathered-op, gathered-same, gathered-filter, gathered-through}
 use Rattle.overlay_base.proofs.laws.joins.Bags.{windings_add, total_weight-gathered, gathered-join}

@@ -6,17 +6,17 @@ use Rattle.std.specs.List.Sorted.{IsStrictlySortedBy}
 use Rattle.std.proofs.lemmas.Bool.{and_parts, and_from}
 use Rattle.std.proofs.lemmas.List.Kept.{IsStrictlySortedBy-filter}
 use Rattle.std.proofs.lemmas.List.Folds.{list_all-map}
-use Rattle.overlay_base.specs.Points.{Pair, pair_cmp, pair_eq, is_ordered}
-use Rattle.overlay_base.specs.Sorting.{distinct_in_order}
+use Rattle.overlay_geometry.specs.Points.{Pair, pair_cmp, pair_eq, is_ordered}
+use Rattle.overlay_geometry.specs.Sorting.{distinct_in_order}
 use Rattle.overlay_base.specs.Windings.{Winding, empty, add, is_not_empty}
 use Rattle.overlay_base.specs.Segments.{WholeSegment, pairs, winding_at, is_map, are_ordered}
 use Rattle.overlay_base.specs.Join.{summed, join}
 use Rattle.overlay_base.specs.Laws.{JoinIsMap, MapIsItsWindings, JoinIsOnlyMap, JoinOfParts}
-use Rattle.overlay_base.proofs.laws.geometry.Points.{pair_cmp_total, pair_same, pair_eq_same, same_pair_by_eq}
+use Rattle.overlay_geometry.proofs.laws.geometry.Points.{pair_cmp_total, pair_same, pair_eq_same, same_pair_by_eq}
 use Rattle.overlay_base.proofs.laws.counts.Windings.{empty-add, add-empty}
 use Rattle.overlay_base.proofs.laws.geometry.Pairs.{pair_eq-greater}
-use Rattle.overlay_base.proofs.laws.lists.Lists.{list_all-and, list_all-and_parts, list_all-filter_itself, list_all-filter}
-use Rattle.overlay_base.proofs.laws.lists.Keys.{AllByRecursion-less, IsStrictlySortedBy-distinct, is_strictly_sorted-from, IsStrictlySortedBy-from_test, list_all-distinct_in_order}
+use Rattle.overlay_geometry.proofs.laws.lists.Lists.{list_all-and, list_all-and_parts, list_all-filter_itself, list_all-filter}
+use Rattle.overlay_geometry.proofs.laws.lists.Keys.{AllByRecursion-less, IsStrictlySortedBy-distinct, is_strictly_sorted-from, IsStrictlySortedBy-from_test, list_all-distinct_in_order}
 use Rattle.overlay_base.proofs.laws.joins.Bags.{winding_at-nil, winding_at-cons, winding_at-append, winding_at-IsPermutation, winding_at-join}
 
 -- ---- lists like a join's

@@ -4,17 +4,17 @@ use Rattle.std.specs.List.{AllByRecursion, list_any, list_all}
 use Rattle.std.proofs.lemmas.Bool.{and_parts, or_parts, not-false}
 use Rattle.std.proofs.lemmas.Nat.{or_lt}
 use Rattle.std.proofs.lemmas.List.Folds.{list_all-map}
-use Rattle.overlay_base.specs.Points.{Pair, pair_cmp, pair_eq, Point, is_ordered}
-use Rattle.overlay_base.specs.Sorting.{distinct_in_order}
+use Rattle.overlay_geometry.specs.Points.{Pair, pair_cmp, pair_eq, Point, is_ordered}
+use Rattle.overlay_geometry.specs.Sorting.{distinct_in_order}
 use Rattle.overlay_base.specs.Windings.{Winding, empty, add, is_not_empty, is_count_in_range}
 use Rattle.overlay_base.specs.Segments.{WholeSegment, pairs, winding_at, are_polygons, ends, is_map}
 use Rattle.overlay_base.specs.Join.{summed, join, join_leaves_range}
 use Rattle.overlay_base.specs.Sums.{gathered}
 use Rattle.overlay_base.proofs.laws.counts.Windings.{cond-empty, empty-add, add-empty, add_assoc}
-use Rattle.overlay_base.proofs.laws.geometry.Points.{same_pair_by_eq}
+use Rattle.overlay_geometry.proofs.laws.geometry.Points.{same_pair_by_eq}
 use Rattle.overlay_base.proofs.laws.geometry.Pairs.{pair_eq-less, pair_eq-comm, holds}
-use Rattle.overlay_base.proofs.laws.lists.Lists.{AllByRecursion-filter_all, AllByRecursion-from_list_all, list_all-from_AllByRecursion, list_all-filter, sum_by-map, sum_by-filter_le, sum_by-ones}
-use Rattle.overlay_base.proofs.laws.lists.Keys.{list_all-distinct_in_order, sum_by-distinct_in_order_le, IsStrictlySortedBy-map_filter}
+use Rattle.overlay_geometry.proofs.laws.lists.Lists.{AllByRecursion-filter_all, AllByRecursion-from_list_all, list_all-from_AllByRecursion, list_all-filter, sum_by-map, sum_by-filter_le, sum_by-ones}
+use Rattle.overlay_geometry.proofs.laws.lists.Keys.{list_all-distinct_in_order, sum_by-distinct_in_order_le, IsStrictlySortedBy-map_filter}
 use Rattle.overlay_base.proofs.laws.joins.Bags.{winding_at-absent, winding_at-other, winding_at-nil, winding_at-cons, winding_at-join, winding_at-gathered, windings_add, count_at}
 use Rattle.overlay_base.proofs.laws.joins.Maps.{IsSummed, IsSummed-join, IsSummed-tail, winding_at-head, tail_sorted, is_join, is_map-from, IsSummed-from_map, are_ordered-map}
 use Rattle.overlay_base.proofs.laws.joins.Ranges.{sums_leave, sums_leave-same, sums_leave-other, join_leaves_range-sums}

@@ -7,15 +7,15 @@ use Rattle.std.proofs.lemmas.List.Elements.{recursion_from_All}
 use Rattle.std.specs.List.Sorted.{IsSortedByKey}
 use Rattle.std.proofs.lemmas.List.{length-map, take-append-drop, take_all, take_more, map-append, take-map, get_or-drop}
 use Rattle.std.proofs.lemmas.List.Sums.{fold-append}
-use Rattle.overlay_base.specs.Points.{pair_cmp, pair_eq}
-use Rattle.overlay_base.specs.Sorting.{stably_sorted, distinct_in_order}
+use Rattle.overlay_geometry.specs.Points.{pair_cmp, pair_eq}
+use Rattle.overlay_geometry.specs.Sorting.{stably_sorted, distinct_in_order}
 use Rattle.overlay_base.specs.Windings.{add, is_count_in_range, is_valid}
 use Rattle.overlay_base.specs.Segments.{pairs}
 use Rattle.overlay_base.specs.EdgeData.{DataSegment, Hooks, kept_sum, without_data, merged, merge_sorted, data_join, IsStoppedJoin}
 use Rattle.overlay_base.specs.Join.{join, summed, join_leaves_range, has_equal_neighbors}
-use Rattle.overlay_base.proofs.laws.geometry.Points.{pair_cmp_total}
-use Rattle.overlay_base.proofs.laws.lists.Lists.{AllByRecursion-take, drop-later}
-use Rattle.overlay_base.proofs.laws.lists.Keys.{IsInOrder, IsInOrder-from_sort, IsInOrder-take}
+use Rattle.overlay_geometry.proofs.laws.geometry.Points.{pair_cmp_total}
+use Rattle.overlay_geometry.proofs.laws.lists.Lists.{AllByRecursion-take, drop-later}
+use Rattle.overlay_geometry.proofs.laws.lists.Keys.{IsInOrder, IsInOrder-from_sort, IsInOrder-take}
 use Rattle.overlay_base.proofs.laws.lists.StableSorts.{stably_sorted-in_order}
 use Rattle.overlay_base.proofs.laws.joins.Ranges.{additions_leave_from, additions_leave_from-same, additions_leave_from-other, additions_leave_range, additions_leave_range-join}
 use Rattle.overlay_base.proofs.laws.joins.DataJoins.{bare, bare-data_join}

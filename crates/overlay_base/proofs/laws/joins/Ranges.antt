@@ -6,16 +6,16 @@ use Rattle.std.specs.List.Sorted.{IsStableByKey}
 use Rattle.std.proofs.Math.Bool.{or_assoc, or-false}
 use Rattle.std.proofs.lemmas.Bool.{and_parts}
 use Rattle.std.proofs.lemmas.List.Sorted.{list_any-IsPermutation}
-use Rattle.overlay_base.specs.Points.{Pair, pair_cmp, pair_eq}
+use Rattle.overlay_geometry.specs.Points.{Pair, pair_cmp, pair_eq}
 use Rattle.overlay_base.specs.Windings.{Winding, empty, add, is_count_in_range}
 use Rattle.overlay_base.specs.Segments.{WholeSegment, pairs, counts, segments_at}
 use Rattle.overlay_base.specs.Join.{sums_from, running_sums, join_leaves_range}
 use Rattle.overlay_base.specs.Laws.{StableSortKeepsSums}
-use Rattle.overlay_base.proofs.laws.geometry.Points.{pair_cmp_total, pair_eq_same, same_pair_by_eq}
+use Rattle.overlay_geometry.proofs.laws.geometry.Points.{pair_cmp_total, pair_eq_same, same_pair_by_eq}
 use Rattle.overlay_base.proofs.laws.counts.Windings.{empty-add}
-use Rattle.overlay_base.proofs.laws.lists.Lists.{or_itself, or-list_any}
+use Rattle.overlay_geometry.proofs.laws.lists.Lists.{or_itself, or-list_any}
 use Rattle.overlay_base.proofs.laws.geometry.Pairs.{pair_eq-less, pair_eq-greater, plus, below_rest}
-use Rattle.overlay_base.proofs.laws.lists.Keys.{IsInOrder}
+use Rattle.overlay_geometry.proofs.laws.lists.Keys.{IsInOrder}
 
 -- ---- the walk's running sums
 

@@ -3,15 +3,15 @@ use Rattle.std.proofs.Common.{◌≡◌, Bool, true, false, ◌||◌, List, [], 
 use Rattle.std.specs.List.{list_any}
 use Rattle.std.proofs.lemmas.Map.Keys.{IsDistinct-IsPermutation, IsDistinct-from_sorted}
 use Rattle.std.proofs.lemmas.List.Sorted.{IsPermutation-map, IsPermutation-sym}
-use Rattle.overlay_base.specs.Points.{pair_cmp, pair_eq}
-use Rattle.overlay_base.specs.Sorting.{has_repeat}
+use Rattle.overlay_geometry.specs.Points.{pair_cmp, pair_eq}
+use Rattle.overlay_geometry.specs.Sorting.{has_repeat}
 use Rattle.overlay_base.specs.Segments.{WholeSegment, pairs, is_map}
 use Rattle.overlay_base.specs.Join.{has_equal_pairs, has_equal_neighbors}
-use Rattle.overlay_base.proofs.laws.geometry.Points.{pair_cmp_total}
+use Rattle.overlay_geometry.proofs.laws.geometry.Points.{pair_cmp_total}
 use Rattle.overlay_base.proofs.laws.geometry.Pairs.{pair_eq-comm, below_rest}
 use Rattle.overlay_base.proofs.laws.joins.Maps.{IsSummed, IsSummed-from_map}
-use Rattle.overlay_base.proofs.laws.lists.Lists.{same_from_false}
-use Rattle.overlay_base.proofs.laws.lists.Keys.{has_key-below, IsInOrder, IsInOrder-from_sort, IsDistinct-from_test, has_repeat-distinct}
+use Rattle.overlay_geometry.proofs.laws.lists.Lists.{same_from_false}
+use Rattle.overlay_geometry.proofs.laws.lists.Keys.{has_key-below, IsInOrder, IsInOrder-from_sort, IsDistinct-from_test, has_repeat-distinct}
 
 -- the order of a bag does not count
 pub has_equal_pairs-IsPermutation : (xs ys : List WholeSegment) → IsPermutation xs ys → has_equal_pairs ys ≡ has_equal_pairs xs

@@ -6,15 +6,15 @@ use Rattle.std.proofs.lemmas.List.Elements.{All-from_recursion}
 use Rattle.std.proofs.Math.Seq.{drop-cons}
 use Rattle.std.proofs.lemmas.List.{get_or-map, length-map}
 use Rattle.std.proofs.lemmas.Bool.{and_parts}
-use Rattle.overlay_base.specs.Points.{Pair}
+use Rattle.overlay_geometry.specs.Points.{Pair}
 use Rattle.overlay_base.specs.Windings.{is_valid, is_not_empty}
 use Rattle.overlay_base.specs.Segments.{WholeSegment}
 use Rattle.overlay_base.specs.Planar.{is_splittable}
-use Rattle.overlay_base.specs.Coordinates.{is_pair_in_range}
-use Rattle.overlay_base.specs.InRange.{IsPairInRange}
-use Rattle.overlay_base.specs.PairOf.{pair_of}
-use Rattle.overlay_base.specs.declared.geom.x_segment.XSegment.{XSegment}
-use Rattle.overlay_base.proofs.laws.geometry.Coordinates.{ends_in_range}
+use Rattle.overlay_geometry.specs.Coordinates.{is_pair_in_range}
+use Rattle.overlay_geometry.specs.InRange.{IsPairInRange}
+use Rattle.overlay_geometry.specs.PairOf.{pair_of}
+use Rattle.overlay_geometry.specs.declared.geom.x_segment.XSegment.{XSegment}
+use Rattle.overlay_geometry.proofs.laws.geometry.Coordinates.{ends_in_range}
 
 -- the element at an index, and what follows
 pub rest-more : {X Y : Type 0} (f : X → Y) (xs : List X) (j : ℕ) (x : X) → j < length xs → x ≡ get_or xs j x → drop j (map f xs) ≡ f x ∷ drop (j + 1) (map f xs)

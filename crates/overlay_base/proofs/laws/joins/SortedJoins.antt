@@ -3,14 +3,14 @@ use Rattle.std.proofs.Common.{◌≡◌, List, map, filter, IsPermutation, IsSor
 use Rattle.std.specs.List.Sorted.{IsStableByKey}
 use Rattle.std.proofs.lemmas.List.Sorted.{IsPermutation-map}
 use Rattle.std.proofs.lemmas.Simd.{map-map}
-use Rattle.overlay_base.specs.Points.{pair_cmp}
-use Rattle.overlay_base.specs.Sorting.{stably_sorted}
+use Rattle.overlay_geometry.specs.Points.{pair_cmp}
+use Rattle.overlay_geometry.specs.Sorting.{stably_sorted}
 use Rattle.overlay_base.specs.Windings.{is_not_empty}
 use Rattle.overlay_base.specs.Segments.{WholeSegment}
 use Rattle.overlay_base.specs.Join.{join, join_leaves_range, has_equal_pairs, has_equal_neighbors}
 use Rattle.overlay_base.specs.EdgeData.{DataSegment, Hooks, merge_sorted, data_join}
-use Rattle.overlay_base.proofs.laws.geometry.Points.{pair_cmp_total}
-use Rattle.overlay_base.proofs.laws.lists.Keys.{IsInOrder, IsInOrder-from_sort}
+use Rattle.overlay_geometry.proofs.laws.geometry.Points.{pair_cmp_total}
+use Rattle.overlay_geometry.proofs.laws.lists.Keys.{IsInOrder, IsInOrder-from_sort}
 use Rattle.overlay_base.proofs.laws.joins.Maps.{join-IsPermutation}
 use Rattle.overlay_base.proofs.laws.joins.Ranges.{join_leaves_range-stable}
 use Rattle.overlay_base.proofs.laws.joins.Repeats.{has_equal_neighbors-in_order, has_equal_pairs-IsPermutation}

@@ -4,14 +4,14 @@ use Rattle.std.proofs.Math.Seq.{take-add}
 use Rattle.std.proofs.lemmas.Bool.{or_left, both_ways, cases_lt}
 use Rattle.std.proofs.lemmas.List.{map-append, take-append-drop}
 use Rattle.std.proofs.lemmas.List.Folds.{list_any-append}
-use Rattle.overlay_base.specs.Points.{Pair, pair_eq}
-use Rattle.overlay_base.specs.Sorting.{stably_sorted}
+use Rattle.overlay_geometry.specs.Points.{Pair, pair_eq}
+use Rattle.overlay_geometry.specs.Sorting.{stably_sorted}
 use Rattle.overlay_base.specs.Windings.{Winding, empty, add}
 use Rattle.overlay_base.specs.Segments.{WholeSegment}
 use Rattle.overlay_base.specs.Join.{join_leaves_range}
 use Rattle.overlay_base.specs.EdgeData.{DataSegment, Hooks, without_data, data_join, IsStoppedJoin, IsRefusedJoin}
-use Rattle.overlay_base.proofs.laws.lists.Lists.{list_any-implied}
-use Rattle.overlay_base.proofs.laws.geometry.Points.{pair_cmp_total}
+use Rattle.overlay_geometry.proofs.laws.lists.Lists.{list_any-implied}
+use Rattle.overlay_geometry.proofs.laws.geometry.Points.{pair_cmp_total}
 use Rattle.overlay_base.proofs.laws.joins.Ranges.{is_too_large, sums_leave, sums_leave-nil, sums_leave-same, sums_leave-other, join_leaves_range-sums, join_leaves_range-stable}
 use Rattle.overlay_base.proofs.laws.lists.StableSorts.{stably_sorted-stable, stably_sorted-IsPermutation}
 use Rattle.overlay_base.proofs.laws.joins.DataJoins.{bare, by_pair, by_data_pair, bare-sorted}

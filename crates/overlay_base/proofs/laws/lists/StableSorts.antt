@@ -9,9 +9,9 @@ use Rattle.std.specs.declared.cmp.Ordering.{Ordering}
 use Rattle.std.specs.declared.cmp.Ordering.TheVariants.{Less, Equal, Greater}
 use Rattle.std.specs.Ordering.{is_lt, is_gt, ordering_reverse}
 use Rattle.std.proofs.lemmas.List.Sorted.{sorted_far, ranks_by, IsPermutation-refl, IsPermutation-cons, IsPermutation-trans, IsPermutation-middle}
-use Rattle.overlay_base.specs.Sorting.{insert_before_ties, stably_sorted}
-use Rattle.overlay_base.proofs.laws.lists.Lists.{Pairwise}
-use Rattle.overlay_base.proofs.laws.lists.Keys.{IsInOrder}
+use Rattle.overlay_geometry.specs.Sorting.{insert_before_ties, stably_sorted}
+use Rattle.overlay_geometry.proofs.laws.lists.Lists.{Pairwise}
+use Rattle.overlay_geometry.proofs.laws.lists.Keys.{IsInOrder}
 use Rattle.overlay_base.specs.Laws.{StableSortIsUnique, StablySortedIsStable}
 use Rattle.std.proofs.lemmas.Bool.{false≢true, cases_Bool}
 

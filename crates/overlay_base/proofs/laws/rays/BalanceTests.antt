@@ -5,16 +5,16 @@ use Rattle.std.specs.declared.cmp.Ordering.{Ordering}
 use Rattle.std.proofs.Common.{Less, Equal, Greater}
 use Rattle.std.specs.Ordering.{is_eq, ordering_then}
 use Rattle.std.proofs.lemmas.Bool.{and_parts, cases_Bool, both_ways, false_from_ne_true}
-use Rattle.overlay_base.specs.Points.{Point, Pair, point_cmp, point_eq, pair_eq}
+use Rattle.overlay_geometry.specs.Points.{Point, Pair, point_cmp, point_eq, pair_eq}
 use Rattle.overlay_base.specs.Windings.{Winding, empty, add, inverse, weight}
 use Rattle.overlay_base.specs.Segments.{WholeSegment, winding_at}
-use Rattle.overlay_base.specs.Sorting.{distinct_in_order}
+use Rattle.overlay_geometry.specs.Sorting.{distinct_in_order}
 use Rattle.overlay_base.specs.Join.{summed, join}
 use Rattle.overlay_base.specs.Balance.{balance, IsBalanced}
 use Rattle.overlay_base.specs.BalanceTest.{point_pair, end_counts}
 use Rattle.overlay_base.specs.Sums.{gathered}
 use Rattle.overlay_base.specs.Laws.{BalanceIsTested}
-use Rattle.overlay_base.proofs.laws.geometry.Points.{same_by_eq}
+use Rattle.overlay_geometry.proofs.laws.geometry.Points.{same_by_eq}
 use Rattle.overlay_base.proofs.laws.counts.Windings.{add_assoc, empty-add}
 use Rattle.overlay_base.proofs.laws.joins.Bags.{winding_at-nil, winding_at-cons, winding_at-join}
 use Rattle.overlay_base.proofs.laws.joins.Maps.{join_from_windings}

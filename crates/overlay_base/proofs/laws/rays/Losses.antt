@@ -4,14 +4,14 @@ use Rattle.std.specs.Prelude.{ℤ, pos, ◌+ℤ◌, ◌-ℤ◌, ◌*ℤ◌, neg_
 use Rattle.std.specs.List.{list_any, list_all}
 use Rattle.std.proofs.lemmas.Int.{ints}
 use Rattle.std.proofs.lemmas.Bool.{and_parts, or_left, or_right, cases_Bool}
-use Rattle.overlay_base.specs.Points.{Point, Pair, point_eq}
+use Rattle.overlay_geometry.specs.Points.{Point, Pair, point_eq}
 use Rattle.overlay_base.specs.Windings.{Winding}
 use Rattle.overlay_base.specs.Segments.{WholeSegment, pairs, ends}
 use Rattle.overlay_base.specs.Sums.{weighed}
 use Rattle.overlay_base.specs.Laws.{BalancedLosesNothing}
-use Rattle.overlay_base.proofs.laws.geometry.Polynomials.{as_D, diffs, D-eq}
-use Rattle.overlay_base.proofs.laws.geometry.Points.{same_by_eq, point_eq_same}
-use Rattle.overlay_base.proofs.laws.lists.Lists.{Has}
+use Rattle.overlay_geometry.proofs.laws.geometry.Polynomials.{as_D, diffs, D-eq}
+use Rattle.overlay_geometry.proofs.laws.geometry.Points.{same_by_eq, point_eq_same}
+use Rattle.overlay_geometry.proofs.laws.lists.Lists.{Has}
 use Rattle.overlay_base.proofs.laws.lists.Monoids.{gathered-same}
 use Rattle.overlay_base.proofs.laws.joins.Functionals.{whole_numbers_add, balance-subj, balance-clip}
 

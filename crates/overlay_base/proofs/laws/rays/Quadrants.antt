@@ -2,7 +2,7 @@
 use Rattle.std.proofs.Common.{◌≡◌, refl, arith, ℕ, ◌<◌, inl, inr}
 use Rattle.std.specs.Prelude.{ℤ, pos, ◌+ℤ◌, ◌-ℤ◌, ◌*ℤ◌, neg_ℤ, ◌≤ℤ◌, ◌<ℤ◌, int_le, int_lt, Bool, true, false, cond, not, ◌&&◌, ◌⊎◌}
 use Rattle.std.proofs.lemmas.Int.{ints, by_lt_z}
-use Rattle.overlay_base.proofs.laws.geometry.Polynomials.{as_D, diffs, D-eq, mul-pos, mul-neg, mul-nonneg, mul-nonpos, mul-nonpos_left, cancel-pos, cancel-neg, cancel-nonneg, cancel-nonpos}
+use Rattle.overlay_geometry.proofs.laws.geometry.Polynomials.{as_D, diffs, D-eq, mul-pos, mul-neg, mul-nonneg, mul-nonpos, mul-nonpos_left, cancel-pos, cancel-neg, cancel-nonneg, cancel-nonpos}
 
 -- ---- tests
 

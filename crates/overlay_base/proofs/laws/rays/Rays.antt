@@ -5,8 +5,8 @@ use Rattle.std.specs.List.{list_all}
 use Rattle.std.proofs.lemmas.Int.{ints}
 use Rattle.std.proofs.lemmas.Bool.{and_parts, and_from, not-true}
 use Rattle.std.proofs.lemmas.Bool.Decides.{Decides-int_eq}
-use Rattle.overlay_base.specs.Points.{Point, Pair, is_between, is_ordered}
-use Rattle.overlay_base.specs.Below.{width}
+use Rattle.overlay_geometry.specs.Points.{Point, Pair, is_between, is_ordered}
+use Rattle.overlay_geometry.specs.Below.{width}
 use Rattle.overlay_base.specs.Windings.{Winding, empty, add, inverse, weight, swap_directions}
 use Rattle.overlay_base.specs.Segments.{WholeSegment, are_ordered, total_weight}
 use Rattle.overlay_base.specs.Balance.{IsBalanced}
@@ -14,8 +14,8 @@ use Rattle.overlay_base.specs.Sums.{weighed}
 use Rattle.overlay_base.specs.Places.{RationalPoint, height_at, lies_below, winding_below}
 use Rattle.overlay_base.specs.Rays.{place_turn, goes_through, is_on_none, lies_above, winding_above, rises_left_of, falls_left_of, rises_right_of, falls_right_of, winding_left, winding_right}
 use Rattle.overlay_base.specs.Laws.{AnyRayWillDo}
-use Rattle.overlay_base.proofs.laws.geometry.Polynomials.{as_D, diffs, D-eq, mul-le_left}
-use Rattle.overlay_base.proofs.laws.geometry.Points.{before}
+use Rattle.overlay_geometry.proofs.laws.geometry.Polynomials.{as_D, diffs, D-eq, mul-le_left}
+use Rattle.overlay_geometry.proofs.laws.geometry.Points.{before}
 use Rattle.overlay_base.proofs.laws.counts.Windings.{same_windings}
 use Rattle.overlay_base.proofs.laws.lists.Monoids.{gathered-same, gathered-through}
 use Rattle.overlay_base.proofs.laws.joins.Bags.{total_weight-total}

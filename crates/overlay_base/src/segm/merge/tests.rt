@@ -1,13 +1,13 @@
 // Worked joins: a list is sorted and merged, and what has to come out. The hooks that are called.
 
-use crate::geom::point::IntPoint;
-use crate::num::OverlayInt;
 use crate::overlay_core::edge_data::{EdgeDataMerge, EdgeDataSplit, OverlayEdgeData};
 use crate::segm::boolean::ShapeCountBoolean;
 use crate::segm::fault::Fault;
 use crate::segm::join::join_with_store;
 use crate::segm::segment::Segment;
 use crate::segm::winding::WindingCount;
+use overlay_geometry::geom::point::IntPoint;
+use overlay_geometry::num::OverlayInt;
 use std::process::Abort;
 use std::test::Fail;
 

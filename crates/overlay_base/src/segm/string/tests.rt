@@ -1,9 +1,9 @@
 // Counts of lines: turned, added, and told to be valid or not.
 use super::*;
-use crate::geom::point::IntPoint;
 use crate::segm::arranged::is_splittable;
 use crate::segm::segment::Segment;
 use crate::segm::shape_type::ShapeType;
+use overlay_geometry::geom::point::IntPoint;
 use std::test::Fail;
 
 fn count(subj: i32, clip: u8) -> ShapeCountString {

@@ -6,10 +6,10 @@ use Rattle.std.proofs.lemmas.Bool.{and_parts}
 use Rattle.std.proofs.lemmas.List.Sums.{AllPass-from_list_all}
 use Rattle.std.proofs.lemmas.List.Folds.{list_all-map}
 use Rattle.std.proofs.lemmas.Simd.{map-map}
-use Rattle.overlay_base.specs.Points.{point_lt, is_ordered}
-use Rattle.overlay_base.specs.PointOf.{point_of}
+use Rattle.overlay_geometry.specs.Points.{point_lt, is_ordered}
+use Rattle.overlay_geometry.specs.PointOf.{point_of}
 use Rattle.overlay_base.specs.Windings.{is_not_empty}
-use Rattle.overlay_base.proofs.laws.lists.Lists.{list_all-and_parts, list_all-filter}
+use Rattle.overlay_geometry.proofs.laws.lists.Lists.{list_all-and_parts, list_all-filter}
 use Rattle.overlay_base.specs.Segments.{WholeSegment, is_map, are_polygons}
 use Rattle.overlay_base.specs.Planar.{is_arranged}
 use Rattle.overlay_base.specs.Balance.{IsBalanced}

@@ -4,8 +4,8 @@ use Rattle.std.specs.Prelude.{ℤ, pos, nat_lt}
 use Rattle.std.proofs.lemmas.List.{take_all, length-map, get_or-map, get_or_default}
 use Rattle.std.proofs.lemmas.Bool.{lt-ltb}
 use Rattle.std.proofs.lemmas.Simd.{map-map}
-use Rattle.overlay_base.specs.Points.{Point, Pair}
-use Rattle.overlay_base.specs.PointOf.{point_of}
+use Rattle.overlay_geometry.specs.Points.{Point, Pair}
+use Rattle.overlay_geometry.specs.PointOf.{point_of}
 use Rattle.overlay_base.specs.declared.overlay_core.link.OverlayLink.{OverlayLink}
 use Rattle.overlay_build.specs.steps.EndOf.{WholeEnd}
 use Rattle.overlay_build.specs.Graph.{Filled, Node, node_points, node_number, links_at, graph_of, nodes_of}

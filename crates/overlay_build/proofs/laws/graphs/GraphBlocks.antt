@@ -1,8 +1,8 @@
 -- Blocks in order: elements that pass a test side by side, and points that are tied in an order.
 use Rattle.std.proofs.Common.{◌≡◌, ℕ, ◌+◌, ◌<◌, ◌≤◌, zero, suc, Bool, true, false, not, ◌&&◌, List, [], ◌∷◌, filter, take, drop, length, get_or, Ordering, Less, Equal, Greater, is_lt, refl, ap, ◌∙◌, arith}
 use Rattle.std.specs.Ordering.{ordering_reverse}
-use Rattle.overlay_base.specs.Points.{Point, point_cmp, point_eq}
-use Rattle.overlay_base.proofs.laws.geometry.Points.{point_cmp_total}
+use Rattle.overlay_geometry.specs.Points.{Point, point_cmp, point_eq}
+use Rattle.overlay_geometry.proofs.laws.geometry.Points.{point_cmp_total}
 
 -- ---- a block of elements that pass
 

@@ -4,7 +4,7 @@ use Rattle.std.specs.List.{list_all}
 use Rattle.std.proofs.lemmas.Bool.{and_parts, eqb-true}
 use Rattle.std.proofs.lemmas.List.Sums.{AllPass-from_list_all}
 use Rattle.std.proofs.lemmas.List.Elements.{All-head, All-tail, All-weaker}
-use Rattle.overlay_base.specs.Points.{Point, point_eq}
+use Rattle.overlay_geometry.specs.Points.{Point, point_eq}
 use Rattle.overlay_base.specs.Segments.{WholeSegment, is_map, are_polygons}
 use Rattle.overlay_base.specs.Planar.{is_planar}
 use Rattle.overlay_base.specs.Balance.{IsBalanced}

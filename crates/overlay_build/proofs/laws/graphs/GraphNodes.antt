@@ -7,13 +7,13 @@ use Rattle.std.proofs.lemmas.List.{get_or_default}
 use Rattle.std.proofs.lemmas.Bool.{or_left, or_right, lt-ltb, eq-eqb, ne_eqb, false≢true}
 use Rattle.std.proofs.lemmas.List.Sums.{position_or_len_is}
 use Rattle.std.proofs.lemmas.List.Folds.{list_any_at, Any-from_list_any}
-use Rattle.overlay_base.specs.Points.{Point, Pair, point_cmp, point_eq, is_end}
-use Rattle.overlay_base.specs.Sorting.{is_strictly_sorted}
+use Rattle.overlay_geometry.specs.Points.{Point, Pair, point_cmp, point_eq, is_end}
+use Rattle.overlay_geometry.specs.Sorting.{is_strictly_sorted}
 use Rattle.overlay_base.specs.Segments.{ends}
 use Rattle.overlay_build.specs.Graph.{node_points, node_number}
 use Rattle.overlay_base.proofs.laws.geometry.Pairs.{has_point, has_point-distinct}
-use Rattle.overlay_base.proofs.laws.geometry.Points.{point_cmp_total, same_by_eq, point_eq_same}
-use Rattle.overlay_base.proofs.laws.lists.Keys.{IsStrictlySortedBy-distinct, is_strictly_sorted-from}
+use Rattle.overlay_geometry.proofs.laws.geometry.Points.{point_cmp_total, same_by_eq, point_eq_same}
+use Rattle.overlay_geometry.proofs.laws.lists.Keys.{IsStrictlySortedBy-distinct, is_strictly_sorted-from}
 
 -- ---- the ends, in strict order
 

@@ -8,9 +8,9 @@ use Rattle.std.proofs.lemmas.Bool.{and_parts, and_from, or_parts, or_right, le-l
 use Rattle.std.proofs.lemmas.List.{length-map}
 use Rattle.std.proofs.lemmas.List.Sums.{AllPass-from_list_all, list_all-from_AllPass}
 use Rattle.std.proofs.lemmas.List.Folds.{list_any_at, list_all-map}
-use Rattle.overlay_base.specs.Points.{Point, Pair, point_cmp, point_eq, is_end}
+use Rattle.overlay_geometry.specs.Points.{Point, Pair, point_cmp, point_eq, is_end}
 use Rattle.overlay_build.specs.Graph.{Filled, node_points, nodes_of, links_at, graph_of, node_number, is_bridge, is_valid_graph, has_even_nodes}
-use Rattle.overlay_base.proofs.laws.geometry.Points.{point_cmp_total, same_by_eq, point_eq_same}
+use Rattle.overlay_geometry.proofs.laws.geometry.Points.{point_cmp_total, same_by_eq, point_eq_same}
 use Rattle.overlay_base.proofs.laws.geometry.Pairs.{has_point}
 use Rattle.overlay_build.proofs.laws.graphs.GraphNodes.{sorted_ends, node_points-exactly, has_start, has_end, node_number-of}
 use Rattle.overlay_build.proofs.laws.graphs.GraphLaws.{pairs_of, node_of, degree, length-links, length-nodes, length-links_at, has_even_nodes-is}

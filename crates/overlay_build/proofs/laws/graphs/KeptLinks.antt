@@ -4,7 +4,7 @@ use Rattle.std.proofs.lemmas.List.{get_or-map, length-map, append-nil}
 use Rattle.overlay_base.specs.Segments.{WholeSegment}
 use Rattle.overlay_base.specs.EdgeData.{DataSegment, without_data}
 use Rattle.overlay_base.specs.declared.overlay_core.fill_rule.FillRule.{FillRule}
-use Rattle.overlay_base.proofs.laws.lists.Lists.{filter-map}
+use Rattle.overlay_geometry.proofs.laws.lists.Lists.{filter-map}
 use Rattle.overlay_sweep.specs.Sweep.{whole_of, fill_of}
 use Rattle.overlay_build.specs.Graph.{Filled, filled, fills_of, data_by}
 

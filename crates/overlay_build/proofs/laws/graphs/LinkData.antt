@@ -1,7 +1,7 @@
 -- The data of a graph's links: what a test keeps of the data of all links is the data of the test's graph.
 use Rattle.std.proofs.Common.{◌≡◌, ℕ, Bool, true, false, List, [], ◌∷◌, map, filter, refl, ap}
 use Rattle.std.specs.List.{zip}
-use Rattle.overlay_base.specs.Points.{Pair}
+use Rattle.overlay_geometry.specs.Points.{Pair}
 use Rattle.overlay_base.specs.Segments.{WholeSegment}
 use Rattle.overlay_base.specs.EdgeData.{DataSegment, without_data}
 use Rattle.overlay_sweep.specs.Sweep.{whole_of, fill_of}

@@ -8,12 +8,12 @@ use Rattle.std.proofs.lemmas.Bool.{both_ways, false_from_ne_true, eqb-true, eq-e
 use Rattle.std.proofs.lemmas.Bool.Decides.{nat_tests}
 use Rattle.std.proofs.lemmas.List.Folds.{list_any-append, list_all-append, list_any_at, Any-from_list_any}
 use Rattle.std.proofs.lemmas.Simd.{map-map}
-use Rattle.overlay_base.specs.Points.{Point, Pair, point_cmp, point_eq, point_lt, is_end}
-use Rattle.overlay_base.specs.Sorting.{stably_sorted}
-use Rattle.overlay_base.specs.PointOf.{point_of}
+use Rattle.overlay_geometry.specs.Points.{Point, Pair, point_cmp, point_eq, point_lt, is_end}
+use Rattle.overlay_geometry.specs.Sorting.{stably_sorted}
+use Rattle.overlay_geometry.specs.PointOf.{point_of}
 use Rattle.overlay_base.specs.declared.overlay_core.link.OverlayLink.{OverlayLink}
-use Rattle.overlay_base.proofs.laws.geometry.Points.{point_cmp_total, same_by_eq, point_eq_same, point_lt-irreflexive}
-use Rattle.overlay_base.proofs.laws.lists.Lists.{filter-map}
+use Rattle.overlay_geometry.proofs.laws.geometry.Points.{point_cmp_total, same_by_eq, point_eq_same, point_lt-irreflexive}
+use Rattle.overlay_geometry.proofs.laws.lists.Lists.{filter-map}
 use Rattle.overlay_base.proofs.laws.lists.StableSorts.{stably_sorted-IsPermutation, stably_sorted-stable, stably_sorted_is_stable}
 use Rattle.overlay_build.specs.steps.EndOf.{WholeEnd}
 use Rattle.std.specs.List.Sorted.{ties}

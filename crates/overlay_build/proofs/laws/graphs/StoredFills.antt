@@ -16,7 +16,7 @@ use Rattle.overlay_build.specs.Graph.{fills_of}
 use Rattle.overlay_sweep.specs.Sweep.{Visit, whole_of, fill_of, visits, handled, visited, visits_leave_range}
 use Rattle.overlay_base.proofs.laws.lists.StableSorts.{AllByRecursion-stably_sorted}
 use Rattle.overlay_sweep.proofs.laws.visits.Visits.{visit_cmp, listed_from, IsListed, is_listed, wholes, wholes-listed}
-use Rattle.overlay_base.proofs.laws.lists.Lists.{AllByRecursion-from_Has}
+use Rattle.overlay_geometry.proofs.laws.lists.Lists.{AllByRecursion-from_Has}
 
 module _ {D : Type 0} where
   -- the fills after some visits

@@ -5,15 +5,15 @@ use Rattle.std.specs.Prelude.{ℤ, pos, ◌+ℤ◌, ◌*ℤ◌, ◌<ℤ◌, ◌�
 use Rattle.std.specs.List.{list_all}
 use Rattle.std.proofs.lemmas.Int.{ints}
 use Rattle.std.proofs.lemmas.Bool.{and_parts, or_cases, cases_Bool, both_ways, false_from_ne_true}
-use Rattle.overlay_base.specs.Points.{Pair, pair_eq}
+use Rattle.overlay_geometry.specs.Points.{Pair, pair_eq}
 use Rattle.overlay_base.specs.Segments.{WholeSegment}
-use Rattle.overlay_base.specs.Below.{width}
+use Rattle.overlay_geometry.specs.Below.{width}
 use Rattle.overlay_base.specs.Balance.{IsBalanced}
 use Rattle.overlay_base.specs.Places.{RationalPoint, spans, height_at, runs_below, lies_below, winding_below}
 use Rattle.overlay_base.specs.Rays.{lies_above}
 use Rattle.overlay_base.specs.Rules.{differ}
-use Rattle.overlay_base.proofs.laws.geometry.Points.{same_pair_by_eq, pair_eq_same}
-use Rattle.overlay_base.proofs.laws.lists.Lists.{Has, list_all-at}
+use Rattle.overlay_geometry.proofs.laws.geometry.Points.{same_pair_by_eq, pair_eq_same}
+use Rattle.overlay_geometry.proofs.laws.lists.Lists.{Has, list_all-at}
 use Rattle.overlay_sweep.specs.ColumnWindings.{spans as column_spans, is_below_in_column, column_bottom, column_top, side_bottom, side_top}
 use Rattle.overlay_sweep.proofs.laws.columns.WeightSums.{when, sum_of, sum_of-add}
 use Rattle.overlay_sweep.proofs.laws.columns.ColumnLines.{column_weights, column_weights_are, lt-test, lt-tested}

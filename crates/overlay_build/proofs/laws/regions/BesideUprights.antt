@@ -9,17 +9,17 @@ use Rattle.std.proofs.lemmas.Bool.{and_parts, and_from, and_left, or_left, or_ri
 use Rattle.std.proofs.lemmas.Bool.Decides.{Decides-int_eq}
 use Rattle.std.proofs.lemmas.List.Elements.{All-weaker}
 use Rattle.overlay_base.specs.declared.overlay_core.fill_rule.FillRule.{FillRule}
-use Rattle.overlay_base.specs.Points.{Point, Pair, turn, pair_eq, is_vertical, is_between}
+use Rattle.overlay_geometry.specs.Points.{Point, Pair, turn, pair_eq, is_vertical, is_between}
 use Rattle.overlay_base.specs.Windings.{Winding, add, weight}
 use Rattle.overlay_base.specs.Segments.{WholeSegment}
-use Rattle.overlay_base.specs.Below.{width}
+use Rattle.overlay_geometry.specs.Below.{width}
 use Rattle.overlay_base.specs.Balance.{IsBalanced}
 use Rattle.overlay_base.specs.Sums.{weighed}
 use Rattle.overlay_base.specs.Places.{RationalPoint, spans, height_at, runs_below, lies_below, winding_below}
 use Rattle.overlay_base.specs.Rays.{place_turn, goes_through, is_on_none, rises_past, falls_past, has_on_left, has_on_right, rises_left_of, falls_left_of, rises_right_of, falls_right_of, winding_left, winding_right}
-use Rattle.overlay_base.proofs.laws.geometry.Polynomials.{as_D, diffs, D-eq, mul-pos, mul-neg, mul-le_left, cancel-lt, cancel-le, mul-nonneg, mul-nonpos}
-use Rattle.overlay_base.proofs.laws.geometry.Points.{same_pair_by_eq, pair_eq_same, inside_from_order}
-use Rattle.overlay_base.proofs.laws.lists.Lists.{Has, list_all-at}
+use Rattle.overlay_geometry.proofs.laws.geometry.Polynomials.{as_D, diffs, D-eq, mul-pos, mul-neg, mul-le_left, cancel-lt, cancel-le, mul-nonneg, mul-nonpos}
+use Rattle.overlay_geometry.proofs.laws.geometry.Points.{same_pair_by_eq, pair_eq_same, inside_from_order}
+use Rattle.overlay_geometry.proofs.laws.lists.Lists.{Has, list_all-at}
 use Rattle.overlay_base.proofs.laws.counts.Windings.{same_windings}
 use Rattle.overlay_base.proofs.laws.rays.Quadrants.{one, lt-test, lt-test_false, le-test}
 use Rattle.overlay_base.proofs.laws.rays.Losses.{lost, weighed-in, weighed-sum, weighed-neg, balanced_loses_nothing}

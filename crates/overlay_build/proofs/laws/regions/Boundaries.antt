@@ -6,7 +6,7 @@ use Rattle.std.proofs.lemmas.Int.{ints}
 use Rattle.std.proofs.lemmas.Bool.{and_parts, eqb-true}
 use Rattle.std.proofs.lemmas.List.Elements.{All-weaker}
 use Rattle.std.proofs.lemmas.Simd.{map-map}
-use Rattle.overlay_base.specs.Points.{Point, point_eq}
+use Rattle.overlay_geometry.specs.Points.{Point, point_eq}
 use Rattle.overlay_base.specs.Windings.{Winding, empty}
 use Rattle.overlay_base.specs.Segments.{WholeSegment, is_map, are_polygons}
 use Rattle.overlay_base.specs.Places.{RationalPoint, lies_below, winding_below}

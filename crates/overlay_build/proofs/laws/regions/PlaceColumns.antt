@@ -2,9 +2,9 @@
 use Rattle.std.proofs.Common.{◌≡◌, ap, ap₂, sym, subst, ◌∙◌, arith, ℕ, zero, suc, ◌<◌}
 use Rattle.std.specs.Prelude.{ℤ, pos, negsuc, ◌+ℤ◌, ◌-ℤ◌, ◌*ℤ◌, ◌≤ℤ◌, ◌<ℤ◌, int_le, int_lt, ◌&&◌}
 use Rattle.std.proofs.lemmas.Int.{ints, by_lt_z}
-use Rattle.overlay_base.specs.Points.{Pair}
-use Rattle.overlay_base.specs.Below.{width, scaled_height}
-use Rattle.overlay_base.proofs.laws.geometry.Polynomials.{as_D, diffs, D-eq, mul-le_left, mul-lt_left, mul-nonneg, cancel-lt}
+use Rattle.overlay_geometry.specs.Points.{Pair}
+use Rattle.overlay_geometry.specs.Below.{width, scaled_height}
+use Rattle.overlay_geometry.proofs.laws.geometry.Polynomials.{as_D, diffs, D-eq, mul-le_left, mul-lt_left, mul-nonneg, cancel-lt}
 use Rattle.overlay_base.specs.Places.{RationalPoint, spans, height_at}
 use Rattle.overlay_sweep.specs.ColumnWindings.{spans as column_spans}
 use Rattle.overlay_sweep.proofs.laws.columns.ColumnLines.{le-test, le-test_false, lt-test, lt-test_false}

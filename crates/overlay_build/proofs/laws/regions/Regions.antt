@@ -5,14 +5,14 @@ use Rattle.std.specs.List.{list_all}
 use Rattle.std.proofs.lemmas.Int.{ints}
 use Rattle.std.proofs.lemmas.Bool.{and_parts}
 use Rattle.std.proofs.lemmas.List.{length-map}
-use Rattle.overlay_base.specs.Points.{Pair}
+use Rattle.overlay_geometry.specs.Points.{Pair}
 use Rattle.overlay_base.specs.Windings.{Winding, empty}
 use Rattle.overlay_base.specs.Segments.{WholeSegment, is_map}
-use Rattle.overlay_base.specs.Below.{width}
+use Rattle.overlay_geometry.specs.Below.{width}
 use Rattle.overlay_base.specs.Planar.{is_planar}
 use Rattle.overlay_base.specs.Balance.{IsBalanced}
 use Rattle.overlay_base.specs.declared.overlay_core.fill_rule.FillRule.{FillRule}
-use Rattle.overlay_base.proofs.laws.lists.Lists.{Has, Has-filter_out, filter-map, list_all-from_Has}
+use Rattle.overlay_geometry.proofs.laws.lists.Lists.{Has, Has-filter_out, filter-map, list_all-from_Has}
 use Rattle.overlay_base.specs.Places.{RationalPoint, runs_below, lies_below, winding_below}
 use Rattle.overlay_sweep.specs.ColumnWindings.{spans as column_spans, is_below_in_column, column_bottom, column_top, side_bottom, side_top}
 use Rattle.overlay_sweep.specs.Fill.{is_inside, flag_value}

@@ -4,7 +4,7 @@ use Rattle.std.specs.Prelude.{ℕ, ◌+◌, ◌%◌, ℤ, pos, ◌+ℤ◌, ◌-�
 use Rattle.std.proofs.lemmas.Int.{ints}
 use Rattle.std.proofs.lemmas.Bool.{or_cases, or_parts, both_ways, false_from_ne_true}
 use Rattle.std.proofs.lemmas.Bool.Decides.{Decides-int_eq}
-use Rattle.overlay_base.specs.Points.{Point, point_eq, is_vertical, is_strictly_inside}
+use Rattle.overlay_geometry.specs.Points.{Point, point_eq, is_vertical, is_strictly_inside}
 use Rattle.overlay_base.specs.Windings.{Winding}
 use Rattle.overlay_base.specs.Segments.{WholeSegment, is_map}
 use Rattle.overlay_base.specs.Planar.{is_planar}
@@ -15,7 +15,7 @@ use Rattle.overlay_sweep.specs.Fill.{flag_value, is_inside}
 use Rattle.overlay_build.specs.Values.{tells_apart, value_at}
 use Rattle.overlay_build.specs.Boundary.{truth}
 use Rattle.overlay_build.specs.Sides.{has_sides_apart}
-use Rattle.overlay_base.proofs.laws.geometry.Points.{same_by_eq}
+use Rattle.overlay_geometry.proofs.laws.geometry.Points.{same_by_eq}
 use Rattle.overlay_sweep.proofs.laws.columns.WeightSums.{when, sum_of, sum_of-add, sum_of-filter}
 use Rattle.overlay_sweep.proofs.laws.columns.ColumnLines.{is_under, column_weights, spans-true, spans-false_before, spans-false_after, point_lt-cases}
 use Rattle.overlay_sweep.proofs.laws.columns.Parity.{odd_of, odd_of_is}
@@ -24,7 +24,7 @@ use Rattle.overlay_sweep.proofs.laws.live.Sides.{sum_of-same_in, sum_of-zero_in,
 use Rattle.overlay_build.proofs.laws.sides.Vertices.{gain, gain_of, gain_right, gain_left}
 use Rattle.overlay_build.proofs.laws.sides.Uprights.{when_nothing, by_any, gain_up, gain_down}
 use Rattle.overlay_build.proofs.laws.sides.Parities.{tells_sides_of, HasParity, same_parity, parity_of_sum, parity_of_gain, parity_where}
-use Rattle.overlay_base.proofs.laws.lists.Lists.{Has}
+use Rattle.overlay_geometry.proofs.laws.lists.Lists.{Has}
 
 round_vertex : (r0 r1 l0 l1 : ℤ) → (r1 -ℤ r0) +ℤ (l1 -ℤ r1) ≡ (l1 -ℤ l0) +ℤ (l0 -ℤ r0)
 round_vertex r0 r1 l0 l1 = omega (arith, ints)

@@ -4,11 +4,11 @@ use Rattle.std.specs.Prelude.{ℤ, pos, ◌+ℤ◌, if◌then◌else◌}
 use Rattle.std.proofs.lemmas.Bool.{and_parts}
 use Rattle.std.proofs.lemmas.List.Sums.{AllPass-from_list_all}
 use Rattle.std.proofs.lemmas.List.Elements.{All-head, All-tail, All-filter, All-map, All-weaker}
-use Rattle.overlay_base.specs.Points.{is_vertical}
+use Rattle.overlay_geometry.specs.Points.{is_vertical}
 use Rattle.overlay_base.specs.Windings.{total, is_not_empty, is_valid}
 use Rattle.overlay_base.specs.Segments.{WholeSegment, total_weight}
 use Rattle.overlay_base.specs.Planar.{is_splittable, is_arranged}
-use Rattle.overlay_base.specs.Coordinates.{is_pair_in_range}
+use Rattle.overlay_geometry.specs.Coordinates.{is_pair_in_range}
 use Rattle.overlay_base.specs.Balance.{IsBalanced}
 use Rattle.overlay_base.specs.Rules.{differ}
 use Rattle.overlay_base.specs.ClipRules.{has_line, is_in_polygon, keeps_clip}

@@ -5,15 +5,15 @@ use Rattle.std.specs.Ordering.{int_eq}
 use Rattle.std.proofs.lemmas.Int.{ints, by_lt_z}
 use Rattle.std.proofs.lemmas.Bool.{and_parts, and_from, cases_Bool, both_ways, false_from_ne_true, not-true}
 use Rattle.std.proofs.lemmas.Bool.Decides.{Decides-int_eq}
-use Rattle.overlay_base.specs.Points.{Point, Pair, turn, point_eq, pair_eq, pair_cmp, pair_lt, is_vertical, is_strictly_inside}
-use Rattle.overlay_base.specs.Sorting.{is_strictly_sorted}
+use Rattle.overlay_geometry.specs.Points.{Point, Pair, turn, point_eq, pair_eq, pair_cmp, pair_lt, is_vertical, is_strictly_inside}
+use Rattle.overlay_geometry.specs.Sorting.{is_strictly_sorted}
 use Rattle.overlay_base.specs.Windings.{Winding, add, empty}
 use Rattle.overlay_base.specs.Segments.{WholeSegment, pairs, total_weight}
 use Rattle.overlay_base.specs.Balance.{IsBalanced}
-use Rattle.overlay_base.specs.Below.{width}
+use Rattle.overlay_geometry.specs.Below.{width}
 use Rattle.overlay_sweep.specs.ColumnWindings.{weights_up_to, right_winding, left_winding, side_bottom, side_top}
-use Rattle.overlay_base.proofs.laws.geometry.Polynomials.{mul-pos, mul-neg, cancel-pos, cancel-neg}
-use Rattle.overlay_base.proofs.laws.geometry.Points.{same_point, same_pair, same_by_eq, point_eq_same, pair_eq_same, from_not_same_pair, inside_from_order}
+use Rattle.overlay_geometry.proofs.laws.geometry.Polynomials.{mul-pos, mul-neg, cancel-pos, cancel-neg}
+use Rattle.overlay_geometry.proofs.laws.geometry.Points.{same_point, same_pair, same_by_eq, point_eq_same, pair_eq_same, from_not_same_pair, inside_from_order}
 use Rattle.overlay_base.proofs.laws.geometry.Apart.{do_cross_from}
 use Rattle.overlay_sweep.proofs.laws.columns.WeightSums.{when, sum_of}
 use Rattle.overlay_sweep.proofs.laws.columns.ColumnLines.{le-test, le-test_false, lt-test, lt-test_false, le-tested, lt-tested, spans_parts, point_lt-cases, is_under, is_up_to, lies_under, lies_up_to, leaves_upward, turn_over_start, turn_over_end, column_weights, filter_weights_are, across_under, across_up_to}
@@ -22,7 +22,7 @@ use Rattle.overlay_sweep.proofs.laws.columns.AlongSegments.{turn_upright, turn_h
 use Rattle.overlay_sweep.proofs.laws.columns.Members.{IsArranged, sorted_all, sorted_tail, differ_when_less}
 use Rattle.overlay_sweep.proofs.laws.live.Sides.{sum_of-same_in, sum_of-zero_in, column_weights-same, apart_in, itself_rises, rises_is}
 use Rattle.overlay_build.proofs.laws.sides.Vertices.{gain, gain_of}
-use Rattle.overlay_base.proofs.laws.lists.Lists.{Has, list_all-at}
+use Rattle.overlay_geometry.proofs.laws.lists.Lists.{Has, list_all-at}
 
 -- ---- sums over parts of a list
 

@@ -4,16 +4,16 @@ use Rattle.std.specs.Prelude.{ℤ, pos, ◌+ℤ◌, ◌-ℤ◌, ◌*ℤ◌, ◌<
 use Rattle.std.specs.List.{list_all}
 use Rattle.std.proofs.lemmas.Int.{ints, by_lt_z}
 use Rattle.std.proofs.lemmas.Bool.{and_parts, and_from, or_left, false_from_ne_true}
-use Rattle.overlay_base.specs.Points.{Point, Pair, turn, point_eq, pair_cmp, is_strictly_inside}
-use Rattle.overlay_base.specs.Sorting.{is_strictly_sorted}
+use Rattle.overlay_geometry.specs.Points.{Point, Pair, turn, point_eq, pair_cmp, is_strictly_inside}
+use Rattle.overlay_geometry.specs.Sorting.{is_strictly_sorted}
 use Rattle.overlay_base.specs.Windings.{Winding}
 use Rattle.overlay_base.specs.Segments.{WholeSegment, pairs}
 use Rattle.overlay_base.specs.Balance.{IsBalanced}
-use Rattle.overlay_base.specs.Below.{width}
+use Rattle.overlay_geometry.specs.Below.{width}
 use Rattle.overlay_sweep.specs.ColumnWindings.{spans, is_below_in_column, column_bottom, column_top, weights_up_to, side_bottom, side_top}
 use Rattle.overlay_base.specs.Rules.{differ}
-use Rattle.overlay_base.proofs.laws.geometry.Polynomials.{mul-pos, mul-neg}
-use Rattle.overlay_base.proofs.laws.geometry.Points.{same_point, same_by_eq, point_eq_same, at_a, at_b, inside_from_order, turn_same_outer, turn_same_last}
+use Rattle.overlay_geometry.proofs.laws.geometry.Polynomials.{mul-pos, mul-neg}
+use Rattle.overlay_geometry.proofs.laws.geometry.Points.{same_point, same_by_eq, point_eq_same, at_a, at_b, inside_from_order, turn_same_outer, turn_same_last}
 use Rattle.overlay_sweep.proofs.laws.columns.WeightSums.{when, sum_of, sum_of-add, sum_of-filter}
 use Rattle.overlay_sweep.proofs.laws.columns.ColumnLines.{le-test, le-test_false, lt-test, lt-test_false, spans_parts, is_under, is_up_to, column_weights, column_weights_are}
 use Rattle.overlay_sweep.proofs.laws.columns.Chains.{is_pairwise, gain_along_chain}
@@ -23,7 +23,7 @@ use Rattle.overlay_sweep.proofs.laws.columns.AlongSegments.{is_same_along, neg_o
 use Rattle.overlay_sweep.proofs.laws.columns.Members.{IsArranged, sorted_all, sorted_tail, differ_when_less}
 use Rattle.overlay_sweep.proofs.laws.live.Supports.{is_beneath, below_is_beneath, not_beneath}
 use Rattle.overlay_sweep.proofs.laws.live.Sides.{sum_of-same_in, apart_in}
-use Rattle.overlay_base.proofs.laws.lists.Lists.{Has, Has-filter_out, list_all-at, list_all-from_Has}
+use Rattle.overlay_geometry.proofs.laws.lists.Lists.{Has, Has-filter_out, list_all-at, list_all-from_Has}
 
 -- how much more G is at the one winding than at the other
 abbrev pub gain : (ℤ → ℤ → ℤ) → Winding → Winding → ℤ

@@ -5,9 +5,9 @@ use Rattle.std.specs.Ordering.{ordering_reverse}
 use Rattle.std.specs.List.{list_any}
 use Rattle.std.proofs.lemmas.Map.Keys.{IsDistinct-IsPermutation}
 use Rattle.std.proofs.lemmas.List.Sorted.{IsPermutation-sym}
-use Rattle.overlay_base.specs.Sorting.{has_repeat}
-use Rattle.overlay_base.proofs.laws.lists.Lists.{same_from_false}
-use Rattle.overlay_base.proofs.laws.lists.Keys.{has_key-below, Less-from_tests, IsInOrder, AllByRecursion-less_in_order, IsDistinct-from_test, has_repeat-distinct}
+use Rattle.overlay_geometry.specs.Sorting.{has_repeat}
+use Rattle.overlay_geometry.proofs.laws.lists.Lists.{same_from_false}
+use Rattle.overlay_geometry.proofs.laws.lists.Keys.{has_key-below, Less-from_tests, IsInOrder, AllByRecursion-less_in_order, IsDistinct-from_test, has_repeat-distinct}
 
 pub list_any-map : {X Y : Type 0} (f : X → Y) (test : Y → Bool) (xs : List X) → list_any test (map f xs) ≡ list_any (λ x. test (f x)) xs
 list_any-map f test [] = refl

@@ -3,7 +3,7 @@ use Rattle.std.proofs.Common.{◌≡◌, ℕ, ◌<◌, Bool, true, false, List, 
 use Rattle.std.specs.List.{zip, AllByRecursion}
 use Rattle.std.proofs.lemmas.List.{length-map, map-append, get_or-map}
 use Rattle.std.proofs.lemmas.List.Elements.{recursion_from_All}
-use Rattle.overlay_base.specs.Points.{Point, Pair}
+use Rattle.overlay_geometry.specs.Points.{Point, Pair}
 use Rattle.overlay_base.specs.Rules.{top_value}
 use Rattle.overlay_build.specs.Graph.{Filled, Link, Node, graph_of}
 use Rattle.overlay_build.specs.DirectedWalks.{turned, in_direction, arcs, no_link, along, GoesRound, contour, rotated, edges}

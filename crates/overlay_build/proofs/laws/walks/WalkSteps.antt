@@ -9,7 +9,7 @@ use Rattle.std.proofs.lemmas.List.Sums.{sum_by-set}
 use Rattle.std.proofs.lemmas.List.Elements.{All-append, All-from_recursion}
 use Rattle.std.proofs.lemmas.Option.{slice_get-get_or}
 use Rattle.std.proofs.lemmas.Grind.{flat_map-append}
-use Rattle.overlay_base.specs.Points.{Point}
+use Rattle.overlay_geometry.specs.Points.{Point}
 use Rattle.overlay_base.specs.declared.overlay_core.link.OverlayLink.{OverlayLink}
 use Rattle.overlay_build.specs.Graph.{Filled, Link, Node, node_points, graph_of, has_even_nodes}
 use Rattle.overlay_build.specs.GraphOf.{link_of, kept_of, graph_with, HoldGraph}

@@ -6,7 +6,7 @@ use Rattle.std.proofs.lemmas.Bool.{and_parts, or_parts, eqb-true, eq-eqb, ne_eqb
 use Rattle.std.proofs.lemmas.List.{length-map}
 use Rattle.std.proofs.lemmas.List.Folds.{list_all-map}
 use Rattle.std.proofs.lemmas.List.Sums.{list_all-from_AllPass, sum_by_push}
-use Rattle.overlay_base.specs.Points.{Point, Pair, point_eq}
+use Rattle.overlay_geometry.specs.Points.{Point, Pair, point_eq}
 use Rattle.overlay_sweep.specs.Fill.{flag_value}
 use Rattle.overlay_base.specs.Rules.{differ}
 use Rattle.overlay_build.specs.Graph.{Filled, Link, Node, node_points, node_number, graph_of, has_even_nodes}
@@ -17,7 +17,7 @@ use Rattle.overlay_build.proofs.laws.graphs.GraphNodes.{has_start, has_end, node
 use Rattle.overlay_build.proofs.laws.graphs.GraphLaws.{pairs_of, link_of, degree, length-links, stands_at_its_nodes}
 use Rattle.overlay_build.proofs.laws.graphs.Indexes.{has_number}
 use Rattle.overlay_build.proofs.laws.graphs.GraphValid.{even_degree}
-use Rattle.overlay_base.proofs.laws.lists.Lists.{filter-map}
+use Rattle.overlay_geometry.proofs.laws.lists.Lists.{filter-map}
 
 -- ---- links at a node, and those of them that no walk has used
 

@@ -2,7 +2,7 @@
 
 use crate::build::builder::GraphBuilder;
 use crate::build::graph_node::OverlayNode;
-use overlay_base::geom::point::IntPoint;
+use overlay_geometry::geom::point::IntPoint;
 use overlay_base::segm::boolean::ShapeCountBoolean;
 use std::alloc::Global;
 use std::process::Abort;

@@ -1,10 +1,10 @@
 use Rattle.std.proofs.Common.{◌≢◌, ◌∙◌, sym, ap, subst, unsigned_abs, IsTrue, to_z-of_z}
-use Rattle.overlay_base.specs.Coordinates.{least_coordinate, greatest_coordinate, is_pair_in_range}
-use Rattle.overlay_base.specs.Points.{Pair}
-use Rattle.overlay_base.specs.PairOf.{pair_of}
-use Rattle.overlay_base.proofs.laws.geometry.Coordinates.{ends_in_range}
-use Rattle.overlay_marks.specs.CrossAnswer.{cross_answer}
-use Rattle.overlay_marks.specs.Marks.{snapping}
+use Rattle.overlay_geometry.specs.Coordinates.{least_coordinate, greatest_coordinate, is_pair_in_range}
+use Rattle.overlay_geometry.specs.Points.{Pair}
+use Rattle.overlay_geometry.specs.PairOf.{pair_of}
+use Rattle.overlay_geometry.proofs.laws.geometry.Coordinates.{ends_in_range}
+use Rattle.overlay_intersections.specs.CrossAnswer.{cross_answer}
+use Rattle.overlay_intersections.specs.Marks.{snapping}
 use Rattle.overlay_c.specs.Crosses.{pair_by}
 use Rattle.overlay_c.proofs.cross.cross.Goals as goal
 

@@ -1,5 +1,5 @@
 use Rattle.std.proofs.Common.{sym, ◌∙◌, suc, take, drop}
-use Rattle.overlay_base.specs.PointOf.{point_of}
+use Rattle.overlay_geometry.specs.PointOf.{point_of}
 use Rattle.overlay_contours.specs.ContoursOf.{points_of}
 use Rattle.overlay_contours.proofs.laws.Steps.{mapped_parts, taken}
 use Rattle.overlay_contours.proofs.contour.find_point_out_of_range.Goals as goal

@@ -1,6 +1,6 @@
 use Rattle.std.proofs.Common.{IsTrue, take}
 use Rattle.std.specs.List.{list_all}
-use Rattle.overlay_base.specs.Coordinates.{is_point_in_range}
+use Rattle.overlay_geometry.specs.Coordinates.{is_point_in_range}
 use Rattle.overlay_contours.specs.ContoursOf.{points_of}
 use Rattle.overlay_contours.proofs.contour.find_point_out_of_range.Given as goal
 

@@ -1,8 +1,8 @@
 use Rattle.std.proofs.Common.{◌≡◌, ap, ◌++◌, ◌∙◌}
 use Rattle.std.proofs.lemmas.List.{map-append}
-use Rattle.overlay_base.specs.PointOf.{point_of}
+use Rattle.overlay_geometry.specs.PointOf.{point_of}
 use Rattle.overlay_base.specs.SegmentOf.{segments_of, segment_of}
-use Rattle.overlay_base.specs.Points.{Pair}
+use Rattle.overlay_geometry.specs.Points.{Pair}
 use Rattle.overlay_base.proofs.laws.joins.DataJoins.{bare}
 use Rattle.overlay_contours.specs.ContourSegments.{step_segment}
 use Rattle.overlay_contours.proofs.laws.Steps.{data_piece-step, one_step}

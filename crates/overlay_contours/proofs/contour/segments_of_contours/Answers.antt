@@ -2,7 +2,7 @@ use Rattle.std.proofs.Common.{◌≡◌, sym, ap, subst, ◌∙◌, ◌++◌, Li
 use Rattle.overlay_base.specs.Balance.{IsBalanced}
 use Rattle.overlay_base.specs.Places.{winding_below}
 use Rattle.overlay_base.specs.Planar.{is_splittable}
-use Rattle.overlay_base.specs.Points.{Point}
+use Rattle.overlay_geometry.specs.Points.{Point}
 use Rattle.overlay_base.specs.Segments.{WholeSegment}
 use Rattle.overlay_base.specs.SegmentOf.{segments_of}
 use Rattle.overlay_base.specs.declared.segm.shape_type.ShapeType.TheVariants.{Subject, Clip}

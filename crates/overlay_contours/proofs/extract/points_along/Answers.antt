@@ -1,9 +1,9 @@
 use Rattle.std.proofs.Common.{◌≡◌, sym, ap, ◌∙◌, subst, ℕ, ◌<◌, ◌+◌, get_or, length, List, [], ◌∷◌, ◌++◌, map}
 use Rattle.std.proofs.lemmas.Bool.{ne_eqb}
 use Rattle.std.proofs.lemmas.List.{length-map, map-append, get_or_default}
-use Rattle.overlay_base.specs.Points.{Point, Pair}
-use Rattle.overlay_base.specs.PointOf.{point_of}
-use Rattle.overlay_base.specs.declared.geom.id_point.IdPoint.{IdPoint}
+use Rattle.overlay_geometry.specs.Points.{Point, Pair}
+use Rattle.overlay_geometry.specs.PointOf.{point_of}
+use Rattle.overlay_geometry.specs.declared.geom.id_point.IdPoint.{IdPoint}
 use Rattle.overlay_build.specs.Graph.{Link}
 use Rattle.overlay_build.specs.GraphOf.{link_of, pairs_of_links}
 use Rattle.overlay_build.specs.OverlayGraphOf.{links_of}

@@ -1,5 +1,5 @@
 use Rattle.std.proofs.Common.{map}
-use Rattle.overlay_base.specs.PointOf.{point_of}
+use Rattle.overlay_geometry.specs.PointOf.{point_of}
 use Rattle.overlay_build.specs.GraphOf.{link_of, pairs_of_links}
 use Rattle.overlay_build.specs.OverlayGraphOf.{links_of}
 use Rattle.overlay_contours.specs.ContoursOf.{points_of}

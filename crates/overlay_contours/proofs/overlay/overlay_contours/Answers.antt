@@ -1,7 +1,7 @@
 use Rattle.std.proofs.Common.{sym, ap, subst, ◌∙◌, ℕ, IsTrue, List}
 use Rattle.std.specs.Prelude.{count_by}
 use Rattle.std.specs.List.{list_all}
-use Rattle.overlay_base.specs.Points.{Point, Pair, is_ordered}
+use Rattle.overlay_geometry.specs.Points.{Point, Pair, is_ordered}
 use Rattle.overlay_base.specs.Rules.{holds}
 use Rattle.overlay_base.specs.Segments.{WholeSegment}
 use Rattle.overlay_base.specs.SegmentOf.{segments_of}

@@ -5,21 +5,21 @@ use Rattle.std.specs.List.{AllByRecursion}
 use Rattle.std.proofs.lemmas.Int.{ints}
 use Rattle.std.proofs.lemmas.Bool.{cond_both, cases_lt, cases_Bool}
 use Rattle.std.proofs.lemmas.List.{take-append-drop}
-use Rattle.overlay_base.specs.Points.{Point, Pair, point_cmp, point_lt, pair_eq, is_ordered}
+use Rattle.overlay_geometry.specs.Points.{Point, Pair, point_cmp, point_lt, pair_eq, is_ordered}
 use Rattle.overlay_base.specs.Windings.{Winding, inverse, is_not_empty}
 use Rattle.overlay_base.specs.Segments.{WholeSegment, pairs, are_ordered, winding_at}
 use Rattle.overlay_base.specs.Join.{join}
-use Rattle.overlay_base.proofs.laws.geometry.Polynomials.{as_D, diffs, D-eq}
-use Rattle.overlay_base.proofs.laws.lists.Lists.{Has, Has-append_left, Has-append_right, Has-flat_map, Has-map, Has-map_out, Has-from_list_any, list_all-at}
-use Rattle.overlay_base.proofs.laws.lists.Elements.{Has-append_out}
-use Rattle.overlay_base.proofs.laws.geometry.Points.{same_pair_by_eq}
+use Rattle.overlay_geometry.proofs.laws.geometry.Polynomials.{as_D, diffs, D-eq}
+use Rattle.overlay_geometry.proofs.laws.lists.Lists.{Has, Has-append_left, Has-append_right, Has-flat_map, Has-map, Has-map_out, Has-from_list_any, list_all-at}
+use Rattle.overlay_geometry.proofs.laws.lists.Elements.{Has-append_out}
+use Rattle.overlay_geometry.proofs.laws.geometry.Points.{same_pair_by_eq}
 use Rattle.overlay_base.proofs.laws.joins.Members.{holds-join}
 use Rattle.overlay_base.proofs.laws.joins.Maps.{are_ordered-map}
-use Rattle.overlay_base.proofs.laws.lists.Keys.{AllByRecursion-distinct_in_order}
+use Rattle.overlay_geometry.proofs.laws.lists.Keys.{AllByRecursion-distinct_in_order}
 use Rattle.overlay_split.specs.Path.{columns_of, last_point, path_from, path, piece, pieces_along, pieces}
-use Rattle.overlay_marks.specs.Marks.{Placing}
+use Rattle.overlay_intersections.specs.Marks.{Placing}
 use Rattle.overlay_split.specs.Pass.{pieces_of, cut, pass}
-use Rattle.overlay_marks.specs.PassMarks.{marks_on, is_rounded}
+use Rattle.overlay_intersections.specs.PassMarks.{marks_on, is_rounded}
 use Rattle.overlay_split.specs.Run.{Settings, placing_of_pass, after_passes}
 use Rattle.overlay_base.specs.Places.{RationalPoint}
 use Rattle.overlay_split.specs.Nearness.{whole_point, Fraction, point_along, IsWithin, IsNear, IsNearSome, Cancels, IsNearCancelled, reach, reach_of_pass, reach_of_run, joined_in}
@@ -31,7 +31,7 @@ use Rattle.overlay_split.proofs.laws.paths.Runs.{is_map-after_passes}
 use Rattle.overlay_split.proofs.laws.paths.Potentials.{ends_differ}
 use Rattle.overlay_split.proofs.laws.paths.Boxes.{path_from_has}
 use Rattle.overlay_split.proofs.laws.paths.Paths.{all_of-columns_of}
-use Rattle.overlay_marks.proofs.laws.marks.Marks.{Differ}
+use Rattle.overlay_intersections.proofs.laws.marks.Marks.{Differ}
 use Rattle.overlay_split.proofs.laws.paths.Pieces.{last_point-path_from}
 
 -- ---- between two fractions

@@ -2,8 +2,8 @@
 use Rattle.std.proofs.Common.{◌≡◌, subst, arith, ℕ, zero, suc, ◌+◌, ◌*◌, ◌-◌, ◌<◌, ◌≤◌}
 use Rattle.std.specs.Prelude.{ℤ, pos, ◌+ℤ◌, ◌-ℤ◌, ◌*ℤ◌, ◌≤ℤ◌, unsigned_abs}
 use Rattle.std.proofs.lemmas.Int.{ints}
-use Rattle.overlay_base.specs.Points.{Pair}
-use Rattle.overlay_base.proofs.laws.geometry.Polynomials.{as_D, diffs, D-eq, mul-nonneg, mul-le_left, cancel-le}
+use Rattle.overlay_geometry.specs.Points.{Pair}
+use Rattle.overlay_geometry.proofs.laws.geometry.Polynomials.{as_D, diffs, D-eq, mul-nonneg, mul-le_left, cancel-le}
 use Rattle.overlay_base.specs.Places.{RationalPoint}
 use Rattle.overlay_split.specs.Nearness.{whole_point, Fraction, point_along, IsWithin, IsNear, LiesNear}
 

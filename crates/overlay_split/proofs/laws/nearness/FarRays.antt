@@ -5,14 +5,14 @@ use Rattle.std.specs.Ordering.{int_eq}
 use Rattle.std.proofs.lemmas.Int.{ints}
 use Rattle.std.proofs.lemmas.Bool.{and_parts, false_from_ne_true, not_from_false}
 use Rattle.std.proofs.lemmas.Bool.Decides.{Decides-int_eq}
-use Rattle.overlay_base.specs.Points.{Pair, is_ordered, is_between}
-use Rattle.overlay_base.specs.Below.{width}
+use Rattle.overlay_geometry.specs.Points.{Pair, is_ordered, is_between}
+use Rattle.overlay_geometry.specs.Below.{width}
 use Rattle.overlay_base.specs.Segments.{WholeSegment, pairs}
 use Rattle.overlay_base.specs.Places.{RationalPoint}
 use Rattle.overlay_base.specs.Rays.{place_turn, goes_through}
-use Rattle.overlay_base.proofs.laws.geometry.Polynomials.{as_D, diffs, D-eq, mul-pos, mul-le_left}
-use Rattle.overlay_base.proofs.laws.geometry.Points.{before}
-use Rattle.overlay_base.proofs.laws.lists.Lists.{list_all-at, list_all-from_Has}
+use Rattle.overlay_geometry.proofs.laws.geometry.Polynomials.{as_D, diffs, D-eq, mul-pos, mul-le_left}
+use Rattle.overlay_geometry.proofs.laws.geometry.Points.{before}
+use Rattle.overlay_geometry.proofs.laws.lists.Lists.{list_all-at, list_all-from_Has}
 use Rattle.overlay_base.proofs.laws.rays.Rays.{any_ray_will_do}
 use Rattle.overlay_split.specs.Nearness.{Fraction, IsNear, reach_of_run}
 use Rattle.overlay_split.specs.Laws.{FarLiesOnNone, RunKeepsRays}

@@ -5,11 +5,11 @@ use Rattle.std.specs.Ordering.{int_eq}
 use Rattle.std.specs.List.{AllByRecursion}
 use Rattle.std.proofs.lemmas.Bool.{and_parts, both_ways, false_from_ne_true, ltb-true, eqb-true}
 use Rattle.std.proofs.lemmas.Nat.{le_or_l, le_or_r, or_lt}
-use Rattle.overlay_base.specs.Points.{Pair}
+use Rattle.overlay_geometry.specs.Points.{Pair}
 use Rattle.overlay_base.specs.Windings.{Winding, empty, add, inverse, swap_directions, is_not_empty}
 use Rattle.overlay_base.specs.Segments.{WholeSegment, pairs, winding_at}
 use Rattle.overlay_base.specs.Join.{summed, join}
-use Rattle.overlay_base.proofs.laws.lists.Lists.{Has, AllByRecursion-weaker, AllByRecursion-both, AllByRecursion-from_list_all, list_all-filter_itself}
+use Rattle.overlay_geometry.proofs.laws.lists.Lists.{Has, AllByRecursion-weaker, AllByRecursion-both, AllByRecursion-from_list_all, list_all-filter_itself}
 use Rattle.overlay_base.proofs.laws.counts.Windings.{empty-add}
 use Rattle.overlay_base.proofs.laws.joins.Bags.{count_at, winding_at-here, winding_at-cons}
 use Rattle.overlay_base.proofs.laws.joins.Members.{counts-join}

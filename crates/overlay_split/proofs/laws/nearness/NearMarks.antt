@@ -6,24 +6,24 @@ use Rattle.std.proofs.Math.Nat.{pow-le-pow_right}
 use Rattle.std.proofs.lemmas.Nat.{pow-add}
 use Rattle.std.proofs.lemmas.Int.{ints}
 use Rattle.std.proofs.lemmas.Bool.{and_parts, cond_both, leb-true, leb-false, cases_lt}
-use Rattle.overlay_base.specs.Points.{Point, Pair, point_cmp, pair_lt, is_end, is_vertical, is_horizontal, is_ordered, is_strictly_inside, lies_on, squared, sqr_distance}
-use Rattle.overlay_base.specs.Meeting.{do_cross}
+use Rattle.overlay_geometry.specs.Points.{Point, Pair, point_cmp, pair_lt, is_end, is_vertical, is_horizontal, is_ordered, is_strictly_inside, lies_on, squared, sqr_distance}
+use Rattle.overlay_geometry.specs.Meeting.{do_cross}
 use Rattle.overlay_base.specs.Segments.{WholeSegment, pairs}
-use Rattle.overlay_base.proofs.laws.geometry.Polynomials.{as_D, diffs, D-eq}
-use Rattle.overlay_base.proofs.laws.lists.Lists.{AllByRecursion-filter, AllByRecursion-flat_map, AllByRecursion-from_Has}
-use Rattle.overlay_base.proofs.laws.lists.Keys.{AllByRecursion-distinct_in_order}
-use Rattle.overlay_marks.specs.Crossing.{Quotient, placed_by, truncated, nearest, is_exact, snapping_point, settling_point}
-use Rattle.overlay_marks.specs.Marks.{Placing, snapping, settling, nearest_end, snapped_to, crossing_mark, ordered_mark, marks_by}
-use Rattle.overlay_marks.specs.PassMarks.{marks_on, is_rounded}
+use Rattle.overlay_geometry.proofs.laws.geometry.Polynomials.{as_D, diffs, D-eq}
+use Rattle.overlay_geometry.proofs.laws.lists.Lists.{AllByRecursion-filter, AllByRecursion-flat_map, AllByRecursion-from_Has}
+use Rattle.overlay_geometry.proofs.laws.lists.Keys.{AllByRecursion-distinct_in_order}
+use Rattle.overlay_intersections.specs.Crossing.{Quotient, placed_by, truncated, nearest, is_exact, snapping_point, settling_point}
+use Rattle.overlay_intersections.specs.Marks.{Placing, snapping, settling, nearest_end, snapped_to, crossing_mark, ordered_mark, marks_by}
+use Rattle.overlay_intersections.specs.PassMarks.{marks_on, is_rounded}
 use Rattle.overlay_split.specs.Laws.{CrossingLiesOnBoth, MarkIsNear, RootIsMeant, RootOfPower}
-use Rattle.overlay_marks.specs.Laws.{distance_from}
+use Rattle.overlay_intersections.specs.Laws.{distance_from}
 use Rattle.overlay_base.specs.Places.{RationalPoint}
 use Rattle.overlay_split.specs.Nearness.{whole_point, exact_crossing, IsWithin, IsNear, root, reach}
-use Rattle.overlay_marks.proofs.laws.crossings.Rounding.{over, IsRoundedUp}
-use Rattle.overlay_marks.proofs.laws.crossings.RoundingMeanings.{nearest_is_meant, truncated_is_meant}
-use Rattle.overlay_marks.proofs.laws.crossings.Crossings.{IsPart, IsPart-share, share, scale, scale-swap, exact_x, exact_y, offset_x-is, offset_y-is, do_cross-swap}
-use Rattle.overlay_marks.proofs.laws.crossings.ExactCrossings.{IsCrossingPoint, snapping_is_placed}
-use Rattle.overlay_marks.proofs.laws.marks.Marks.{IsPointAlong, lies_along, settled_x, settled_y}
+use Rattle.overlay_intersections.proofs.laws.crossings.Rounding.{over, IsRoundedUp}
+use Rattle.overlay_intersections.proofs.laws.crossings.RoundingMeanings.{nearest_is_meant, truncated_is_meant}
+use Rattle.overlay_intersections.proofs.laws.crossings.Crossings.{IsPart, IsPart-share, share, scale, scale-swap, exact_x, exact_y, offset_x-is, offset_y-is, do_cross-swap}
+use Rattle.overlay_intersections.proofs.laws.crossings.ExactCrossings.{IsCrossingPoint, snapping_is_placed}
+use Rattle.overlay_intersections.proofs.laws.marks.Marks.{IsPointAlong, lies_along, settled_x, settled_y}
 use Rattle.overlay_split.proofs.laws.planar.WholeCrossings.{exact_ordered_mark}
 use Rattle.overlay_split.proofs.laws.planar.ExactMarks.{In, In-mark}
 use Rattle.overlay_split.proofs.laws.nearness.Distances.{IsWithin-weaker, IsWithin-triangle, IsNear-weaker, IsNear-from_point, LiesNear-itself}

@@ -4,15 +4,15 @@ use Rattle.std.specs.Prelude.{IsTrue, IsFalse, Contains, length, nat_le}
 use Rattle.std.specs.List.{AllByRecursion}
 use Rattle.std.proofs.lemmas.Bool.{and_parts, and_cases, both_ways, cond_both, le-leb}
 use Rattle.std.proofs.lemmas.List.Elements.{All-from_recursion, recursion_from_All, All-contains, All-contains_itself}
-use Rattle.overlay_base.specs.Points.{Point, Pair, is_ordered}
+use Rattle.overlay_geometry.specs.Points.{Point, Pair, is_ordered}
 use Rattle.overlay_base.specs.Segments.{WholeSegment, pairs, are_ordered}
 use Rattle.overlay_base.specs.Join.{join}
-use Rattle.overlay_base.proofs.laws.lists.Lists.{AllByRecursion-weaker, AllByRecursion-map, AllByRecursion-at, AllByRecursion-from_Has, AllByRecursion-both, AllByRecursion-from_list_all, Has, Has-map}
+use Rattle.overlay_geometry.proofs.laws.lists.Lists.{AllByRecursion-weaker, AllByRecursion-map, AllByRecursion-at, AllByRecursion-from_Has, AllByRecursion-both, AllByRecursion-from_list_all, Has, Has-map}
 use Rattle.overlay_base.proofs.laws.joins.Maps.{are_ordered-map}
-use Rattle.overlay_marks.specs.Marks.{Placing}
+use Rattle.overlay_intersections.specs.Marks.{Placing}
 use Rattle.overlay_split.specs.Path.{pieces}
 use Rattle.overlay_split.specs.Pass.{pieces_of, cut, pass}
-use Rattle.overlay_marks.specs.PassMarks.{marks_on, is_rounded}
+use Rattle.overlay_intersections.specs.PassMarks.{marks_on, is_rounded}
 use Rattle.overlay_split.specs.Run.{Settings, placing_of_pass, after_passes, goes_on}
 use Rattle.overlay_split.specs.Nearness.{whole_point, IsNear, LiesNear, LieNear, reach, reach_of_pass, reach_of_run, reach_of_passes}
 use Rattle.overlay_split.specs.Laws.{PassStaysNear, ReachIsBounded, LastPassReachesNothing, ExactInputReachesNothing}

@@ -3,9 +3,9 @@ use Rattle.std.proofs.Common.{◌≡◌, sym, ap, ap₂, subst, ◌∙◌, arith
 use Rattle.std.specs.Prelude.{ℤ, pos, ◌+ℤ◌, ◌-ℤ◌, ◌*ℤ◌, ◌≤ℤ◌, ◌<ℤ◌, unsigned_abs, int_le, int_lt, IsTrue}
 use Rattle.std.proofs.lemmas.Int.{ints, by_lt_z}
 use Rattle.std.proofs.lemmas.Bool.{and_parts, cases_Bool}
-use Rattle.overlay_base.specs.Points.{Pair}
-use Rattle.overlay_base.specs.Below.{width}
-use Rattle.overlay_base.proofs.laws.geometry.Polynomials.{as_D, diffs, D-eq, mul-le_left}
+use Rattle.overlay_geometry.specs.Points.{Pair}
+use Rattle.overlay_geometry.specs.Below.{width}
+use Rattle.overlay_geometry.proofs.laws.geometry.Polynomials.{as_D, diffs, D-eq, mul-le_left}
 use Rattle.overlay_base.specs.Places.{RationalPoint, spans, height_at, runs_below, lies_below}
 use Rattle.overlay_split.specs.Nearness.{Fraction, point_along, IsWithin, IsNear, LiesNear}
 use Rattle.overlay_split.proofs.laws.nearness.Distances.{AreClose, IsWithin-to, IsWithin-from}

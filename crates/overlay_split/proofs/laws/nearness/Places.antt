@@ -5,22 +5,22 @@ use Rattle.std.specs.List.{AllByRecursion}
 use Rattle.std.proofs.lemmas.Int.{ints, by_lt_z}
 use Rattle.std.proofs.lemmas.Bool.{cond_both, and_from}
 use Rattle.std.proofs.lemmas.List.Elements.{All-contains}
-use Rattle.overlay_base.specs.Points.{Point, Pair, point_lt, is_ordered}
+use Rattle.overlay_geometry.specs.Points.{Point, Pair, point_lt, is_ordered}
 use Rattle.overlay_base.specs.Windings.{Winding, empty, add, inverse, weight}
 use Rattle.overlay_base.specs.Segments.{WholeSegment, pairs, are_ordered}
 use Rattle.overlay_base.specs.Sums.{gathered, weighed}
-use Rattle.overlay_base.proofs.laws.geometry.Points.{Before, UpTo, before, not_before}
-use Rattle.overlay_base.proofs.laws.geometry.Polynomials.{mul-le_left}
-use Rattle.overlay_base.proofs.laws.lists.Lists.{AllByRecursion-weaker, AllByRecursion-both, AllByRecursion-at, AllByRecursion-from_Has, Has, Has-map, by_list_any, list_all-at}
+use Rattle.overlay_geometry.proofs.laws.geometry.Points.{Before, UpTo, before, not_before}
+use Rattle.overlay_geometry.proofs.laws.geometry.Polynomials.{mul-le_left}
+use Rattle.overlay_geometry.proofs.laws.lists.Lists.{AllByRecursion-weaker, AllByRecursion-both, AllByRecursion-at, AllByRecursion-from_Has, Has, Has-map, by_list_any, list_all-at}
 use Rattle.overlay_base.proofs.laws.lists.Monoids.{gathered-same, gathered-through}
 use Rattle.overlay_base.proofs.laws.joins.Bags.{total_weight-total}
 use Rattle.overlay_base.proofs.laws.joins.Functionals.{whole_numbers_add, total_weight-filter, total_weight-filter_join}
 use Rattle.overlay_base.proofs.laws.counts.Windings.{same_windings}
 use Rattle.overlay_base.proofs.laws.joins.Maps.{are_ordered-map}
 use Rattle.overlay_split.specs.Path.{path, piece, pieces_along, pieces}
-use Rattle.overlay_marks.specs.Marks.{Placing}
+use Rattle.overlay_intersections.specs.Marks.{Placing}
 use Rattle.overlay_split.specs.Pass.{pieces_of, cut, pass}
-use Rattle.overlay_marks.specs.PassMarks.{marks_on, is_rounded}
+use Rattle.overlay_intersections.specs.PassMarks.{marks_on, is_rounded}
 use Rattle.overlay_split.specs.Run.{placing_of_pass, after_passes}
 use Rattle.overlay_base.specs.Places.{RationalPoint, spans, runs_below, lies_below, winding_below}
 use Rattle.overlay_split.specs.Nearness.{point_along, IsNear, LiesNear, LieNear, reach, reach_of_pass, reach_of_run}

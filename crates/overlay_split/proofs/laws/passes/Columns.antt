@@ -7,7 +7,7 @@ use Rattle.std.specs.Ordering.{int_eq}
 use Rattle.std.proofs.lemmas.Int.{ints}
 use Rattle.std.proofs.lemmas.Cmp.{int_eq_equiv}
 use Rattle.std.proofs.lemmas.Bool.Decides.{Decides-int_eq}
-use Rattle.overlay_base.specs.Points.{Point}
+use Rattle.overlay_geometry.specs.Points.{Point}
 use Rattle.overlay_split.specs.Path.{onto_columns, columns_in_order, next_point, last_point, run_through, path_from}
 use Rattle.overlay_split.specs.steps.PathSteps.{first_point}
 use Rattle.overlay_split.proofs.laws.paths.Pieces.{last_point-append}

@@ -3,7 +3,7 @@ use Rattle.std.proofs.Common.{◌≡◌, refl, sym, ap, ◌∙◌, ℕ, zero, su
 use Rattle.std.specs.Prelude.{IsTrue}
 use Rattle.std.proofs.lemmas.List.{take_at, drop_at, length-drop}
 use Rattle.std.proofs.lemmas.Grind.{flat_map-append}
-use Rattle.overlay_base.specs.Points.{Point, Pair, is_ordered}
+use Rattle.overlay_geometry.specs.Points.{Point, Pair, is_ordered}
 use Rattle.overlay_base.specs.Windings.{Winding}
 use Rattle.overlay_base.specs.EdgeData.{DataSegment, Hooks}
 use Rattle.overlay_split.specs.Path.{path_from, columns_of, run_through, next_point, last_point}

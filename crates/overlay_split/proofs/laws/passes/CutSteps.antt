@@ -2,7 +2,7 @@
 use Rattle.std.proofs.Common.{◌≡◌, sym, ap, ap₂, subst, ◌∙◌, ℕ, zero, suc, ◌+◌, ◌<◌, arith, List, [], ◌∷◌, ◌++◌, map, take, drop, length, set, get_or, append_assoc, All}
 use Rattle.std.proofs.lemmas.List.{map-set, take-append-drop, take-set, drop-set, length-map}
 use Rattle.std.proofs.Math.Seq.{drop-cons}
-use Rattle.overlay_base.specs.Points.{Point}
+use Rattle.overlay_geometry.specs.Points.{Point}
 use Rattle.overlay_base.specs.EdgeData.{DataSegment, Hooks}
 use Rattle.overlay_split.specs.DataPass.{data_pieces}
 use Rattle.overlay_split.specs.steps.DataCutAt.{data_cut_at}

@@ -7,25 +7,25 @@ use Rattle.std.proofs.lemmas.List.Elements.{recursion_from_All}
 use Rattle.std.proofs.lemmas.Bool.{cond_both}
 use Rattle.std.proofs.lemmas.Option.{slice_get_within, get_or_from_slice_get}
 use Rattle.overlay_base.specs.Windings.{is_valid}
-use Rattle.overlay_base.specs.Points.{Point, Pair, point_cmp, is_ordered}
-use Rattle.overlay_base.specs.Sorting.{distinct_in_order}
+use Rattle.overlay_geometry.specs.Points.{Point, Pair, point_cmp, is_ordered}
+use Rattle.overlay_geometry.specs.Sorting.{distinct_in_order}
 use Rattle.overlay_base.specs.Segments.{WholeSegment}
 use Rattle.overlay_base.specs.EdgeData.{DataSegment, Hooks, without_data}
-use Rattle.overlay_base.proofs.laws.lists.Elements.{AllByRecursion-drop}
-use Rattle.overlay_base.proofs.laws.lists.Lists.{Steps}
-use Rattle.overlay_marks.specs.Marks.{Placing}
-use Rattle.overlay_marks.specs.PassMarks.{marks_on}
-use Rattle.overlay_marks.specs.MarkOf.{Mark, AreMarks, points_at}
+use Rattle.overlay_geometry.proofs.laws.lists.Elements.{AllByRecursion-drop}
+use Rattle.overlay_geometry.proofs.laws.lists.Lists.{Steps}
+use Rattle.overlay_intersections.specs.Marks.{Placing}
+use Rattle.overlay_intersections.specs.PassMarks.{marks_on}
+use Rattle.overlay_intersections.specs.MarkOf.{Mark, AreMarks, points_at}
 use Rattle.overlay_split.specs.Path.{path_from, columns_in_order, columns_of, run_through, next_point, last_point, LeadsOn}
 use Rattle.overlay_split.specs.steps.PathSteps.{IsPathOf}
 use Rattle.overlay_split.specs.DataPass.{data_pieces_of_each, data_cut}
 use Rattle.overlay_split.specs.steps.DataCutAt.{data_cut_at}
 use Rattle.overlay_split.proofs.laws.paths.Paths.{all_of, all_of-columns_of, steps_of_path}
-use Rattle.overlay_marks.proofs.laws.marks.Marks.{Differ}
+use Rattle.overlay_intersections.proofs.laws.marks.Marks.{Differ}
 use Rattle.overlay_split.proofs.laws.paths.Pieces.{last_point-path_from}
-use Rattle.overlay_marks.proofs.laws.marks.Marks.{IsFree-marks_on}
+use Rattle.overlay_intersections.proofs.laws.marks.Marks.{IsFree-marks_on}
 use Rattle.overlay_split.proofs.laws.paths.Potentials.{distinct-marks_on}
-use Rattle.overlay_marks.proofs.laws.marks.ApartPairs.{ends_differ}
+use Rattle.overlay_intersections.proofs.laws.marks.ApartPairs.{ends_differ}
 use Rattle.overlay_split.proofs.laws.passes.MarkBlocks.{AreRising, AreRising-from, IsFront, IsFront-from, points_at-own, points_at-below}
 use Rattle.overlay_split.proofs.laws.passes.CutLists.{IsCutTo, IsCutTo-start, IsCutTo-cut, IsCutTo-whole, path_at, at_place, segment_at}
 

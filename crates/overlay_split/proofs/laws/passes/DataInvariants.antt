@@ -1,17 +1,17 @@
 -- What hooks keep of data holds of all data after a run where it holds of all that is given.
 use Rattle.std.proofs.Common.{◌≡◌, ℕ, zero, suc, Bool, true, false, List, [], ◌∷◌, take, drop, flat_map, refl}
 use Rattle.std.specs.List.{AllByRecursion}
-use Rattle.overlay_base.specs.Points.{Point, Pair, point_lt, pair_cmp, pair_eq}
+use Rattle.overlay_geometry.specs.Points.{Point, Pair, point_lt, pair_cmp, pair_eq}
 use Rattle.overlay_base.specs.Windings.{Winding, is_not_empty}
 use Rattle.overlay_base.specs.EdgeData.{DataSegment, SplitCall, Hooks, without_data, data_piece, merged, merge_runs, merge_sorted, data_join}
-use Rattle.overlay_marks.specs.Marks.{Placing}
-use Rattle.overlay_marks.specs.PassMarks.{marks_on}
+use Rattle.overlay_intersections.specs.Marks.{Placing}
+use Rattle.overlay_intersections.specs.PassMarks.{marks_on}
 use Rattle.overlay_split.specs.Path.{path_from, columns_of}
 use Rattle.overlay_split.specs.Run.{Settings, placing_of_pass}
 use Rattle.overlay_split.specs.DataPass.{data_pieces, data_pieces_of_each, data_cut, data_pass, data_after_passes}
 use Rattle.overlay_split.specs.Laws.{HooksKeep, DataKeepsWhatHooksKeep}
-use Rattle.overlay_base.proofs.laws.lists.Lists.{AllByRecursion-append, AllByRecursion-filter_all, AllByRecursion-flat_map, AllByRecursion-take, AllByRecursion-from_list_all, list_all-from_AllByRecursion}
-use Rattle.overlay_base.proofs.laws.lists.Elements.{AllByRecursion-drop}
+use Rattle.overlay_geometry.proofs.laws.lists.Lists.{AllByRecursion-append, AllByRecursion-filter_all, AllByRecursion-flat_map, AllByRecursion-take, AllByRecursion-from_list_all, list_all-from_AllByRecursion}
+use Rattle.overlay_geometry.proofs.laws.lists.Elements.{AllByRecursion-drop}
 use Rattle.overlay_base.proofs.laws.lists.StableSorts.{AllByRecursion-stably_sorted}
 
 module _ {D S : Type 0} (hooks : Hooks D S) (has : D → Bool) (keeps : HooksKeep hooks has) where

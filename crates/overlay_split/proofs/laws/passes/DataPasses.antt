@@ -4,25 +4,25 @@ use Rattle.std.specs.List.{list_all}
 use Rattle.std.proofs.lemmas.List.{map-append, take-map}
 use Rattle.std.proofs.lemmas.List.Folds.{flat_map-map, sum_by-zero, list_all-map}
 use Rattle.std.proofs.lemmas.Bool.{and_parts, eqb-true, eq-eqb}
-use Rattle.overlay_base.specs.Points.{Point, Pair, point_lt, pair_cmp, pair_eq, is_ordered}
-use Rattle.overlay_base.specs.Sorting.{is_strictly_sorted, insert_before_ties, stably_sorted, distinct_in_order}
+use Rattle.overlay_geometry.specs.Points.{Point, Pair, point_lt, pair_cmp, pair_eq, is_ordered}
+use Rattle.overlay_geometry.specs.Sorting.{is_strictly_sorted, insert_before_ties, stably_sorted, distinct_in_order}
 use Rattle.overlay_base.specs.Windings.{Winding, is_not_empty}
 use Rattle.overlay_base.specs.Segments.{WholeSegment, pairs, is_map}
 use Rattle.overlay_base.specs.Join.{join}
 use Rattle.overlay_base.specs.Planar.{is_planar}
 use Rattle.overlay_base.specs.EdgeData.{DataSegment, Hooks, without_data, data_piece, merge_runs, merge_sorted, data_join}
-use Rattle.overlay_marks.specs.Marks.{Placing}
+use Rattle.overlay_intersections.specs.Marks.{Placing}
 use Rattle.overlay_split.specs.Path.{path_from, path, columns_in_order, columns_of, piece, pieces_along, pieces}
 use Rattle.overlay_split.specs.Pass.{pieces_of, cut, pass}
-use Rattle.overlay_marks.specs.PassMarks.{marks_on, mark_count}
+use Rattle.overlay_intersections.specs.PassMarks.{marks_on, mark_count}
 use Rattle.overlay_split.specs.Run.{Settings, placing_of_pass, after_passes}
 use Rattle.overlay_split.specs.DataPass.{data_pieces, data_pieces_of_each, data_cut, data_pass, data_after_passes}
 use Rattle.overlay_split.specs.Laws.{DataIsBeside, UnmarkedDataIsUnchanged, ArrangedDataIsUnchanged}
-use Rattle.overlay_base.proofs.laws.lists.Keys.{is_lt-true}
+use Rattle.overlay_geometry.proofs.laws.lists.Keys.{is_lt-true}
 use Rattle.overlay_base.proofs.laws.geometry.Pairs.{pair_eq-less}
 use Rattle.overlay_base.proofs.laws.joins.DataJoins.{bare, by_data_pair, bare-data_join}
 use Rattle.overlay_split.proofs.laws.planar.Arranged.{planar_mark_count}
-use Rattle.overlay_marks.proofs.laws.crossings.AnswerMarks.{pair_lt_back}
+use Rattle.overlay_intersections.proofs.laws.crossings.AnswerMarks.{pair_lt_back}
 
 -- ---- lists of lists
 

@@ -3,19 +3,19 @@ use Rattle.std.proofs.Common.{◌≡◌, refl, ⊎_elim, arith, ℕ, zero, suc, 
 use Rattle.std.specs.Prelude.{Option, Some, None, int_le}
 use Rattle.std.specs.List.{list_all, AllByRecursion}
 use Rattle.std.proofs.lemmas.Bool.{cases_lt}
-use Rattle.overlay_base.specs.Points.{Point, Pair, pair_cmp, is_ordered, is_within_box_of}
-use Rattle.overlay_base.specs.Sorting.{is_strictly_sorted}
+use Rattle.overlay_geometry.specs.Points.{Point, Pair, pair_cmp, is_ordered, is_within_box_of}
+use Rattle.overlay_geometry.specs.Sorting.{is_strictly_sorted}
 use Rattle.overlay_base.specs.Windings.{is_not_empty}
 use Rattle.overlay_base.specs.Segments.{WholeSegment, pairs, ends, is_map, are_ordered}
 use Rattle.overlay_base.specs.Join.{join}
 use Rattle.overlay_base.specs.declared.overlay_core.solver.Strategy.{Strategy}
 use Rattle.overlay_base.proofs.laws.joins.Maps.{is_map-join}
-use Rattle.overlay_marks.specs.Grid.{Layout, IsLog2, IsLayoutOf, IsInside, LieInside}
+use Rattle.overlay_grid.specs.Grid.{Layout, IsLog2, IsLayoutOf, IsInside, LieInside}
 use Rattle.overlay_split.specs.Run.{Settings, after_passes}
-use Rattle.overlay_marks.specs.GridFor.{IsGridFor}
+use Rattle.overlay_grid.specs.GridFor.{IsGridFor}
 use Rattle.overlay_split.proofs.laws.paths.Boxes.{stays_in_box}
-use Rattle.overlay_marks.proofs.laws.marks.MarkBoxes.{both, from_le, join_tests}
-use Rattle.overlay_marks.proofs.laws.grid.GridLayout.{is_over_grid, ends_over_grid, is_between_x-from_box}
+use Rattle.overlay_intersections.proofs.laws.marks.MarkBoxes.{both, from_le, join_tests}
+use Rattle.overlay_grid.proofs.laws.grid.GridLayout.{is_over_grid, ends_over_grid, is_between_x-from_box}
 
 -- ---- logarithms
 

@@ -6,9 +6,9 @@ use Rattle.std.specs.List.{AllByRecursion, AllWithin}
 use Rattle.std.proofs.lemmas.Cmp.{nat_cmp_total}
 use Rattle.std.specs.Cmp.{nat_cmp_is}
 use Rattle.std.proofs.lemmas.Bool.{eq-eqb, ne_eqb, cases_lt}
-use Rattle.overlay_base.proofs.laws.lists.Lists.{AllByRecursion-weaker}
-use Rattle.overlay_base.proofs.laws.lists.Keys.{IsInOrder, IsInOrder-from_sort}
-use Rattle.overlay_marks.specs.MarkOf.{Mark, points_at}
+use Rattle.overlay_geometry.proofs.laws.lists.Lists.{AllByRecursion-weaker}
+use Rattle.overlay_geometry.proofs.laws.lists.Keys.{IsInOrder, IsInOrder-from_sort}
+use Rattle.overlay_intersections.specs.MarkOf.{Mark, points_at}
 
 -- no mark is followed by one of a lesser index
 abbrev pub AreRising : List Mark → Type 0

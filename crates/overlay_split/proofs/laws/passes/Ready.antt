@@ -9,27 +9,27 @@ use Rattle.std.specs.Ordering.{ordering_reverse}
 use Rattle.std.proofs.lemmas.Bool.{and_parts, ne_eqb, lt-ltb}
 use Rattle.std.proofs.lemmas.List.Elements.{All-from_recursion, recursion_from_All}
 use Rattle.std.proofs.lemmas.List.Sums.{sum_by-cons}
-use Rattle.overlay_base.specs.Points.{pair_cmp}
+use Rattle.overlay_geometry.specs.Points.{pair_cmp}
 use Rattle.overlay_base.specs.Windings.{is_valid, is_not_empty}
 use Rattle.overlay_base.specs.Segments.{WholeSegment, pairs, is_map}
 use Rattle.overlay_base.specs.Join.{join}
 use Rattle.overlay_base.proofs.laws.joins.Maps.{is_map-join}
 use Rattle.overlay_base.specs.Planar.{is_splittable}
-use Rattle.overlay_base.specs.Coordinates.{is_pair_in_range, is_point_in_range}
-use Rattle.overlay_base.specs.InRange.{IsPairInRange}
+use Rattle.overlay_geometry.specs.Coordinates.{is_pair_in_range, is_point_in_range}
+use Rattle.overlay_geometry.specs.InRange.{IsPairInRange}
 use Rattle.overlay_base.specs.SegmentOf.{x_segment_of, ends_of, segments_of, segment_of, data_segments_of, winding_of}
 use Rattle.overlay_base.specs.declared.segm.segment.Segment.{Segment}
-use Rattle.overlay_base.proofs.laws.lists.Lists.{AllByRecursion-from_list_all}
-use Rattle.overlay_base.proofs.laws.lists.Keys.{IsStrictlySortedBy-from_test}
+use Rattle.overlay_geometry.proofs.laws.lists.Lists.{AllByRecursion-from_list_all}
+use Rattle.overlay_geometry.proofs.laws.lists.Keys.{IsStrictlySortedBy-from_test}
 use Rattle.overlay_base.specs.EdgeData.{Hooks, without_data}
 use Rattle.overlay_base.proofs.laws.joins.Views.{segments_ordered, segments_of-bare}
-use Rattle.overlay_base.proofs.laws.geometry.Points.{pair_cmp_total}
+use Rattle.overlay_geometry.proofs.laws.geometry.Points.{pair_cmp_total}
 use Rattle.overlay_base.proofs.laws.geometry.Apart.{pairs-map}
-use Rattle.overlay_marks.specs.Marks.{Placing}
+use Rattle.overlay_intersections.specs.Marks.{Placing}
 use Rattle.overlay_split.specs.Pass.{cut}
-use Rattle.overlay_marks.specs.PassMarks.{marks_on, mark_count}
+use Rattle.overlay_intersections.specs.PassMarks.{marks_on, mark_count}
 use Rattle.overlay_split.specs.DataPass.{data_cut}
-use Rattle.overlay_marks.specs.MarkOf.{Mark, AreMarks, points_at}
+use Rattle.overlay_intersections.specs.MarkOf.{Mark, AreMarks, points_at}
 use Rattle.overlay_split.proofs.laws.paths.PieceCounts.{counts-cut, is_valid-inverse}
 use Rattle.overlay_split.proofs.laws.passes.DataPasses.{bare-data_cut}
 use Rattle.overlay_split.proofs.laws.passes.MarkBlocks.{points_at-own}

@@ -2,18 +2,18 @@
 use Rattle.std.proofs.Common.{◌≡◌, sym, ap, subst, ◌∙◌, ℕ, suc, ◌+◌, ◌≤◌, arith, List, [], ◌∷◌, length, IsFalse}
 use Rattle.std.specs.Prelude.{Option, None}
 use Rattle.std.proofs.lemmas.List.{length-map}
-use Rattle.overlay_base.specs.Sorting.{distinct_in_order, stably_sorted}
+use Rattle.overlay_geometry.specs.Sorting.{distinct_in_order, stably_sorted}
 use Rattle.overlay_base.specs.Segments.{WholeSegment, pairs}
 use Rattle.overlay_base.specs.Choices.{list_splits}
 use Rattle.overlay_base.specs.Join.{summed, join}
 use Rattle.overlay_base.specs.SegmentOf.{segment_of, segments_of}
 use Rattle.overlay_base.specs.declared.segm.segment.Segment.{Segment}
 use Rattle.overlay_base.specs.declared.overlay_core.solver.Strategy.{Strategy}
-use Rattle.overlay_marks.specs.Grid.{Layout}
+use Rattle.overlay_grid.specs.Grid.{Layout}
 use Rattle.overlay_split.specs.Run.{Settings, after_passes}
-use Rattle.overlay_marks.specs.Looked.{pass_looks}
+use Rattle.overlay_split.specs.PassLooks.{pass_looks}
 use Rattle.overlay_split.specs.RunLooks.{HasNoListPass, run_looks}
-use Rattle.overlay_marks.specs.GridFor.{IsGridFor}
+use Rattle.overlay_grid.specs.GridFor.{IsGridFor}
 
 -- the grid is that of the run, and the looks of n passes are no more than it allows
 pub record HasLooked (strategy : Strategy) (settings : Settings) (given : List WholeSegment) (grid : Option Layout) (n looked : ℕ) : Type 0 where

@@ -3,17 +3,17 @@ use Rattle.std.proofs.Common.{◌≡◌, ◌≤◌, arith, ℕ, List, true, ◌&
 use Rattle.std.specs.Prelude.{ℤ, nat_lt}
 use Rattle.std.specs.List.{AllByRecursion}
 use Rattle.std.proofs.lemmas.Bool.{and_parts, and_from, lt-ltb}
-use Rattle.overlay_base.specs.Points.{Point, is_ordered}
+use Rattle.overlay_geometry.specs.Points.{Point, is_ordered}
 use Rattle.overlay_base.specs.Windings.{swap_directions, is_valid, is_not_empty, is_count_in_range}
 use Rattle.overlay_base.specs.Segments.{WholeSegment, is_map}
 use Rattle.overlay_base.specs.Join.{join, join_leaves_range}
 use Rattle.overlay_base.specs.Planar.{is_splittable}
-use Rattle.overlay_base.specs.Coordinates.{is_point_in_range, is_pair_in_range}
-use Rattle.overlay_marks.specs.Marks.{Placing, settling}
+use Rattle.overlay_geometry.specs.Coordinates.{is_point_in_range, is_pair_in_range}
+use Rattle.overlay_intersections.specs.Marks.{Placing, settling}
 use Rattle.overlay_split.specs.Pass.{cut, pass}
 use Rattle.overlay_split.specs.Potential.{spread, potential}
-use Rattle.overlay_base.proofs.laws.geometry.Coordinates.{pair_parts, in_box_in_range}
-use Rattle.overlay_base.proofs.laws.lists.Lists.{AllByRecursion-weaker, AllByRecursion-both, AllByRecursion-from_list_all, list_all-from_AllByRecursion}
+use Rattle.overlay_geometry.proofs.laws.geometry.Coordinates.{pair_parts, in_box_in_range}
+use Rattle.overlay_geometry.proofs.laws.lists.Lists.{AllByRecursion-weaker, AllByRecursion-both, AllByRecursion-from_list_all, list_all-from_AllByRecursion}
 use Rattle.overlay_base.proofs.laws.joins.Maps.{are_ordered-map}
 use Rattle.overlay_base.proofs.laws.joins.Members.{masks-join, counts_in_range-join, sum_by-join_le}
 use Rattle.overlay_split.proofs.laws.paths.Cuts.{AllByRecursion-join}

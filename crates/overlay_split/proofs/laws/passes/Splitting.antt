@@ -6,9 +6,9 @@ use Rattle.std.specs.List.{list_all}
 use Rattle.std.proofs.lemmas.Bool.{and_parts, and_from, or_from, both_ways, false_from_ne_true, cases_lt, lt-leb, le-leb, cond-true, cond-false}
 use Rattle.std.proofs.lemmas.List.{length-map}
 use Rattle.std.proofs.lemmas.List.Sums.{sum_by-cons}
-use Rattle.overlay_base.specs.Points.{Pair, is_within_box_of}
-use Rattle.overlay_base.specs.Sorting.{distinct_in_order, stably_sorted, has_repeat}
-use Rattle.overlay_base.specs.Coordinates.{least_coordinate, greatest_coordinate, greatest_difference}
+use Rattle.overlay_geometry.specs.Points.{Pair, is_within_box_of}
+use Rattle.overlay_geometry.specs.Sorting.{distinct_in_order, stably_sorted, has_repeat}
+use Rattle.overlay_geometry.specs.Coordinates.{least_coordinate, greatest_coordinate, greatest_difference}
 use Rattle.overlay_base.specs.Segments.{WholeSegment, pairs, ends, is_map, are_ordered}
 use Rattle.overlay_base.specs.Join.{summed, join, join_leaves_range, has_equal_pairs}
 use Rattle.overlay_base.specs.Planar.{is_planar, is_splittable, is_arranged}
@@ -16,19 +16,19 @@ use Rattle.overlay_base.specs.Balance.{KeepsBalance}
 use Rattle.overlay_base.specs.EdgeData.{DataSegment, Hooks, without_data, merge_sorted, data_join, IsRefusedJoin}
 use Rattle.overlay_base.specs.SegmentOf.{segment_of, segments_of, data_segments_of}
 use Rattle.overlay_base.specs.declared.segm.segment.Segment.{Segment}
-use Rattle.overlay_marks.specs.Marks.{Placing, snapping, settling}
+use Rattle.overlay_intersections.specs.Marks.{Placing, snapping, settling}
 use Rattle.overlay_split.specs.Pass.{cut, pass}
-use Rattle.overlay_marks.specs.PassMarks.{is_rounded, mark_count}
+use Rattle.overlay_intersections.specs.PassMarks.{is_rounded, mark_count}
 use Rattle.overlay_split.specs.DataPass.{data_cut, data_pass, data_after_passes, data_joined_in, IsStoppedRun}
 use Rattle.overlay_split.specs.Run.{Settings, placing_of_pass, radius_of_pass, after_passes, goes_on, has_marked, has_changed, IsPassCount, IsRun, leaves_range_within, LeavesRange}
 use Rattle.overlay_split.specs.ExactInput.{is_exact_input, KeepsCounts}
 use Rattle.overlay_split.specs.Nearness.{StaysNear}
 use Rattle.overlay_split.specs.Places.{KeepsWinding}
 use Rattle.overlay_split.specs.Potential.{spread, potential}
-use Rattle.overlay_base.proofs.laws.geometry.Coordinates.{difference_bound, pair_parts, point_parts}
+use Rattle.overlay_geometry.proofs.laws.geometry.Coordinates.{difference_bound, pair_parts, point_parts}
 use Rattle.overlay_base.proofs.laws.joins.Maps.{is_map-join}
 use Rattle.overlay_base.proofs.laws.joins.Rests.{is_splittable-parts}
-use Rattle.overlay_marks.proofs.laws.list.FoundMarks.{or_assoc, or_false}
+use Rattle.overlay_intersections.proofs.laws.marks.FoundMarks.{or_assoc, or_false}
 use Rattle.overlay_split.proofs.laws.paths.Runs.{is_map-after_passes, run_ends}
 use Rattle.overlay_split.proofs.laws.paths.Balances.{run_keeps_balance}
 use Rattle.overlay_split.proofs.laws.planar.ExactInputs.{exact_input_keeps_counts}

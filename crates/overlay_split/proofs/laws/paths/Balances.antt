@@ -1,15 +1,15 @@
 -- A pass changes no balance.
 use Rattle.std.proofs.Common.{◌≡◌, refl, sym, ap, ap₂, ◌∙◌, List}
 use Rattle.std.specs.Prelude.{ℕ, zero, suc, ℤ, pos, ◌*ℤ◌, cond, bit_or}
-use Rattle.overlay_base.specs.Points.{Point, point_eq}
+use Rattle.overlay_geometry.specs.Points.{Point, point_eq}
 use Rattle.overlay_base.specs.Windings.{Winding, swap_directions}
 use Rattle.overlay_base.specs.Segments.{WholeSegment, total_weight}
 use Rattle.overlay_base.specs.Balance.{balance, IsBalanced, starting_at, ending_at}
 use Rattle.overlay_base.specs.Sums.{weighed}
 use Rattle.overlay_split.specs.Run.{Settings, placing_of_pass, after_passes}
-use Rattle.overlay_marks.specs.Marks.{Placing}
+use Rattle.overlay_intersections.specs.Marks.{Placing}
 use Rattle.overlay_split.specs.Pass.{pieces_of, cut, pass}
-use Rattle.overlay_marks.specs.PassMarks.{marks_on}
+use Rattle.overlay_intersections.specs.PassMarks.{marks_on}
 use Rattle.overlay_split.specs.Laws.{IsOdd, loss, PassKeepsLosses, PassKeepsBalance, RunKeepsBalance}
 use Rattle.overlay_base.proofs.laws.lists.Monoids.{gathered-same}
 use Rattle.overlay_base.proofs.laws.joins.Bags.{total_weight-total}

@@ -5,23 +5,23 @@ use Rattle.std.specs.List.{list_any, AllByRecursion}
 use Rattle.std.specs.Int.{int_min, int_max}
 use Rattle.std.proofs.lemmas.Int.{ints, clamps, by_lt_z}
 use Rattle.std.proofs.lemmas.Bool.{and_parts, and_from, or_left, or_right, cond_both}
-use Rattle.overlay_base.specs.Points.{Point, Pair, point_cmp, pair_lt, point_lt, is_end, is_in_box, is_between, is_strictly_inside, is_within_box_of, sqr_distance}
+use Rattle.overlay_geometry.specs.Points.{Point, Pair, point_cmp, pair_lt, point_lt, is_end, is_in_box, is_between, is_strictly_inside, is_within_box_of, sqr_distance}
 use Rattle.overlay_base.specs.Windings.{Winding}
 use Rattle.overlay_base.specs.Segments.{WholeSegment, pairs, ends}
 use Rattle.overlay_base.specs.Join.{join}
-use Rattle.overlay_base.specs.Meeting.{do_cross}
-use Rattle.overlay_marks.specs.Crossing.{is_exact, snapping_point, settling_point}
-use Rattle.overlay_marks.specs.Marks.{Placing, snapping, settling, nearer_end, nearest_end, snapped_to, crossing_mark, ordered_mark, marks_by}
+use Rattle.overlay_geometry.specs.Meeting.{do_cross}
+use Rattle.overlay_intersections.specs.Crossing.{is_exact, snapping_point, settling_point}
+use Rattle.overlay_intersections.specs.Marks.{Placing, snapping, settling, nearer_end, nearest_end, snapped_to, crossing_mark, ordered_mark, marks_by}
 use Rattle.overlay_split.specs.Path.{columns_of, next_point, run_through, path_from, path, piece, pieces_along, pieces}
 use Rattle.overlay_split.specs.Pass.{pieces_of, cut, pass}
-use Rattle.overlay_marks.specs.PassMarks.{marks_on}
+use Rattle.overlay_intersections.specs.PassMarks.{marks_on}
 use Rattle.overlay_split.specs.Run.{Settings, placing_of_pass, after_passes}
 use Rattle.overlay_split.specs.Laws.{StaysInBox}
-use Rattle.overlay_base.proofs.laws.lists.Lists.{AllByRecursion-flat_map, AllByRecursion-map, list_any-implied, AllByRecursion-append, AllByRecursion-both, AllByRecursion-weaker, AllByRecursion-reverse, AllByRecursion_left, AllByRecursion_right, AllByRecursion-filter, list_all-from_AllByRecursion}
-use Rattle.overlay_base.proofs.laws.lists.Keys.{AllByRecursion-distinct_in_order}
+use Rattle.overlay_geometry.proofs.laws.lists.Lists.{AllByRecursion-flat_map, AllByRecursion-map, list_any-implied, AllByRecursion-append, AllByRecursion-both, AllByRecursion-weaker, AllByRecursion-reverse, AllByRecursion_left, AllByRecursion_right, AllByRecursion-filter, list_all-from_AllByRecursion}
+use Rattle.overlay_geometry.proofs.laws.lists.Keys.{AllByRecursion-distinct_in_order}
 use Rattle.overlay_split.proofs.laws.paths.Cuts.{AllByRecursion-cut, AllByRecursion-join}
 use Rattle.overlay_split.proofs.laws.paths.Paths.{all_of, all_of-columns_of, run_through_has}
-use Rattle.overlay_marks.proofs.laws.crossings.Crossings.{int_le-to, settling_in_target, snapping_in_target, do_cross-swap}
+use Rattle.overlay_intersections.proofs.laws.crossings.Crossings.{int_le-to, settling_in_target, snapping_in_target, do_cross-swap}
 
 -- ---- what holds of the ends of two pairs, and in their boxes, holds of the marks of their crossing
 

@@ -6,10 +6,10 @@ use Rattle.std.specs.List.{AllByRecursion}
 use Rattle.overlay_base.specs.Windings.{swap_directions}
 use Rattle.overlay_base.specs.Segments.{WholeSegment, are_polygons}
 use Rattle.overlay_split.specs.Laws.{RunKeepsPolygons}
-use Rattle.overlay_marks.specs.Marks.{Placing}
+use Rattle.overlay_intersections.specs.Marks.{Placing}
 use Rattle.overlay_split.specs.Pass.{cut, pass}
 use Rattle.overlay_split.specs.Run.{Settings, placing_of_pass, after_passes}
-use Rattle.overlay_base.proofs.laws.lists.Lists.{AllByRecursion-weaker, AllByRecursion-from_list_all, list_all-from_AllByRecursion}
+use Rattle.overlay_geometry.proofs.laws.lists.Lists.{AllByRecursion-weaker, AllByRecursion-from_list_all, list_all-from_AllByRecursion}
 use Rattle.overlay_base.proofs.laws.joins.Members.{are_polygons-join}
 use Rattle.overlay_split.proofs.laws.paths.PieceCounts.{counts-cut}
 

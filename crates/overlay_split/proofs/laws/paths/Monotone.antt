@@ -6,18 +6,18 @@ use Rattle.std.proofs.lemmas.List.{length-append, length-reverse}
 use Rattle.std.proofs.lemmas.List.Sums.{sum_by-cons}
 use Rattle.std.proofs.lemmas.Bool.{cond_both}
 use Rattle.std.specs.List.{AllByRecursion}
-use Rattle.overlay_base.specs.Points.{Point, Pair, point_lt}
+use Rattle.overlay_geometry.specs.Points.{Point, Pair, point_lt}
 use Rattle.overlay_base.specs.Windings.{Winding}
 use Rattle.overlay_base.specs.Segments.{WholeSegment}
 use Rattle.overlay_split.specs.Path.{next_point, last_point, run_through, path_from, piece, pieces_along}
 use Rattle.overlay_split.specs.Potential.{spread, potential}
-use Rattle.overlay_base.proofs.laws.geometry.Polynomials.{as_D, diffs, D-eq, mul-nonneg}
-use Rattle.overlay_base.proofs.laws.geometry.Points.{Before, same_point}
-use Rattle.overlay_base.proofs.laws.lists.Lists.{Pairwise, Steps, AllByRecursion-weaker, AllByRecursion-both, AllByRecursion-append, AllByRecursion_left, AllByRecursion_right, AllByRecursion-reverse, AllByRecursion_cross, Pairwise_left, Pairwise_right, Pairwise-weaker, Pairwise-both, Pairwise-from_AllByRecursion, Pairwise-reverse, Steps-from_Pairwise}
+use Rattle.overlay_geometry.proofs.laws.geometry.Polynomials.{as_D, diffs, D-eq, mul-nonneg}
+use Rattle.overlay_geometry.proofs.laws.geometry.Points.{Before, same_point}
+use Rattle.overlay_geometry.proofs.laws.lists.Lists.{Pairwise, Steps, AllByRecursion-weaker, AllByRecursion-both, AllByRecursion-append, AllByRecursion_left, AllByRecursion_right, AllByRecursion-reverse, AllByRecursion_cross, Pairwise_left, Pairwise_right, Pairwise-weaker, Pairwise-both, Pairwise-from_AllByRecursion, Pairwise-reverse, Steps-from_Pairwise}
 use Rattle.overlay_split.proofs.laws.paths.Paths.{all_of, AreColumns, Steps-append, last_point_has, run_through_has}
-use Rattle.overlay_marks.proofs.laws.marks.Marks.{Differ}
-use Rattle.overlay_marks.proofs.laws.crossings.Rounding.{IsRoundedUp-monotone}
-use Rattle.overlay_marks.proofs.laws.marks.Marks.{IsRoundedPoint, rounded_start, rounded_end}
+use Rattle.overlay_intersections.proofs.laws.marks.Marks.{Differ}
+use Rattle.overlay_intersections.proofs.laws.crossings.Rounding.{IsRoundedUp-monotone}
+use Rattle.overlay_intersections.proofs.laws.marks.Marks.{IsRoundedPoint, rounded_start, rounded_end}
 
 -- ---- directions
 

@@ -4,7 +4,7 @@ use Rattle.std.specs.Prelude.{Bool, ◌||◌, ◌&&◌, nat_le, nat_lt, List, le
 use Rattle.overlay_base.specs.Segments.{WholeSegment}
 use Rattle.overlay_base.proofs.laws.joins.Maps.{join-IsPermutation}
 use Rattle.overlay_base.proofs.laws.joins.Repeats.{has_equal_pairs-IsPermutation}
-use Rattle.overlay_marks.specs.PassMarks.{is_rounded, mark_count}
+use Rattle.overlay_intersections.specs.PassMarks.{is_rounded, mark_count}
 use Rattle.overlay_split.specs.Pass.{pass}
 use Rattle.overlay_split.specs.Run.{Settings, placing_of_pass, after_passes, goes_on, has_marked, has_changed}
 use Rattle.overlay_split.specs.Laws.{PassesIgnoreOrder, RunIgnoresOrder}

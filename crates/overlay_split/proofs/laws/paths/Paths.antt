@@ -8,15 +8,15 @@ use Rattle.std.proofs.lemmas.Int.{ints}
 use Rattle.std.proofs.lemmas.Bool.{cond_both, and_from}
 use Rattle.std.proofs.lemmas.Bool.Decides.{Decides-int_eq}
 use Rattle.std.specs.List.{AllByRecursion}
-use Rattle.overlay_base.specs.Points.{Point, Pair, point_cmp, point_lt, is_ordered}
-use Rattle.overlay_base.specs.Sorting.{distinct_in_order}
+use Rattle.overlay_geometry.specs.Points.{Point, Pair, point_cmp, point_lt, is_ordered}
+use Rattle.overlay_geometry.specs.Sorting.{distinct_in_order}
 use Rattle.overlay_base.specs.Windings.{Winding}
 use Rattle.overlay_base.specs.Segments.{WholeSegment, are_ordered}
-use Rattle.overlay_marks.proofs.laws.marks.Marks.{Differ}
+use Rattle.overlay_intersections.proofs.laws.marks.Marks.{Differ}
 use Rattle.overlay_split.specs.Path.{onto_columns, columns_in_order, columns_of, next_point, last_point, run_through, path_from, path, piece, pieces_along, pieces}
-use Rattle.overlay_base.proofs.laws.geometry.Points.{Before, before, from_before, not_before, by_UpTo, point_cmp_total, Before-irreflexive}
-use Rattle.overlay_base.proofs.laws.lists.Lists.{Pairwise, Steps, AllByRecursion-weaker, AllByRecursion-append, AllByRecursion_left, AllByRecursion_right, AllByRecursion-reverse, AllByRecursion_cross, Pairwise_left, Pairwise_right, Pairwise-append, Pairwise-weaker, Pairwise-reverse, Steps-from_Pairwise}
-use Rattle.overlay_base.proofs.laws.lists.Keys.{IsStrictlySortedBy-distinct, AllByRecursion-distinct_in_order}
+use Rattle.overlay_geometry.proofs.laws.geometry.Points.{Before, before, from_before, not_before, by_UpTo, point_cmp_total, Before-irreflexive}
+use Rattle.overlay_geometry.proofs.laws.lists.Lists.{Pairwise, Steps, AllByRecursion-weaker, AllByRecursion-append, AllByRecursion_left, AllByRecursion_right, AllByRecursion-reverse, AllByRecursion_cross, Pairwise_left, Pairwise_right, Pairwise-append, Pairwise-weaker, Pairwise-reverse, Steps-from_Pairwise}
+use Rattle.overlay_geometry.proofs.laws.lists.Keys.{IsStrictlySortedBy-distinct, AllByRecursion-distinct_in_order}
 
 -- ---- the distinct keys in order
 

@@ -3,15 +3,15 @@ use Rattle.std.proofs.Common.{◌∙◌, arith, ◌&&◌, List, [], ◌∷◌}
 use Rattle.std.specs.Prelude.{◌^◌, nat_lt, IsTrue}
 use Rattle.std.specs.List.{AllByRecursion}
 use Rattle.std.proofs.lemmas.Bool.{cond_both, and_parts, and_from, lt-ltb}
-use Rattle.overlay_base.specs.Points.{Point, point_lt}
+use Rattle.overlay_geometry.specs.Points.{Point, point_lt}
 use Rattle.overlay_base.specs.Windings.{Winding, inverse, swap_directions, is_count_in_range, is_valid}
 use Rattle.overlay_base.specs.Segments.{WholeSegment}
-use Rattle.overlay_base.proofs.laws.lists.Lists.{AllByRecursion-weaker}
-use Rattle.overlay_marks.specs.Marks.{Placing}
+use Rattle.overlay_geometry.proofs.laws.lists.Lists.{AllByRecursion-weaker}
+use Rattle.overlay_intersections.specs.Marks.{Placing}
 use Rattle.overlay_split.specs.Path.{path, path_from, columns_of, piece, pieces_along, pieces}
 use Rattle.overlay_split.specs.Pass.{pieces_of, cut}
-use Rattle.overlay_marks.specs.PassMarks.{marks_on}
-use Rattle.overlay_marks.proofs.laws.crossings.Crossings.{abs_neg}
+use Rattle.overlay_intersections.specs.PassMarks.{marks_on}
+use Rattle.overlay_intersections.proofs.laws.crossings.Crossings.{abs_neg}
 use Rattle.overlay_split.proofs.laws.paths.Cuts.{AllByRecursion-cut}
 
 -- what holds of the inverse of each count that it holds of

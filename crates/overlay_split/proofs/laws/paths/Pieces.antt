@@ -3,12 +3,12 @@ use Rattle.std.proofs.Common.{◌≡◌, refl, ap, ◌∙◌, arith, List, [], �
 use Rattle.std.specs.Prelude.{ℤ, pos, ◌+ℤ◌, ◌-ℤ◌, ◌*ℤ◌, neg_ℤ}
 use Rattle.std.proofs.lemmas.Bool.{cond_both}
 use Rattle.overlay_base.specs.Sums.{weighed}
-use Rattle.overlay_base.specs.Points.{Point, point_lt}
+use Rattle.overlay_geometry.specs.Points.{Point, point_lt}
 use Rattle.overlay_base.specs.Windings.{Winding}
 use Rattle.overlay_base.specs.Segments.{WholeSegment}
 use Rattle.overlay_split.specs.Laws.{IsOdd, loss, NumbersAreOdd, PiecesTelescope}
 use Rattle.overlay_split.specs.Path.{path_from, last_point, run_through, next_point, columns_of, path, piece, pieces_along, pieces}
-use Rattle.overlay_base.proofs.laws.geometry.Polynomials.{as_D, D-eq, diffs}
+use Rattle.overlay_geometry.proofs.laws.geometry.Polynomials.{as_D, D-eq, diffs}
 
 turned : (c u v : ℤ) → (v -ℤ u) *ℤ neg_ℤ c ≡ (u -ℤ v) *ℤ c
 turned c u v = rw (as_D c, as_D u, as_D v) (simp diffs (D-eq _ _ _ _ (omega arith)))

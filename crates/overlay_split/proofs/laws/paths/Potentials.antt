@@ -9,32 +9,32 @@ use Rattle.std.proofs.lemmas.Int.{ints, by_lt_z}
 use Rattle.std.proofs.lemmas.List.Sums.{sum_by-cons}
 use Rattle.std.proofs.lemmas.Bool.{and_parts, cond-true, cond-false, cases_Bool}
 use Rattle.std.specs.List.Sorted.{IsStrictlySortedBy}
-use Rattle.overlay_base.specs.Points.{Point, Pair, point_cmp, pair_lt, is_end, is_ordered}
-use Rattle.overlay_base.specs.Sorting.{distinct_in_order}
+use Rattle.overlay_geometry.specs.Points.{Point, Pair, point_cmp, pair_lt, is_end, is_ordered}
+use Rattle.overlay_geometry.specs.Sorting.{distinct_in_order}
 use Rattle.overlay_base.specs.Segments.{WholeSegment, pairs, are_ordered}
-use Rattle.overlay_base.specs.Meeting.{do_cross}
+use Rattle.overlay_geometry.specs.Meeting.{do_cross}
 use Rattle.overlay_base.specs.Sums.{IsCommutativeMonoid, gathered}
-use Rattle.overlay_marks.specs.Crossing.{is_exact}
-use Rattle.overlay_marks.specs.Marks.{Placing, settling, ordered_mark, marks_by, cross_inexactly}
+use Rattle.overlay_intersections.specs.Crossing.{is_exact}
+use Rattle.overlay_intersections.specs.Marks.{Placing, settling, ordered_mark, marks_by, cross_inexactly}
 use Rattle.overlay_split.specs.Path.{columns_of, path_from, path, pieces}
 use Rattle.overlay_split.specs.Pass.{pieces_of, cut, pass}
-use Rattle.overlay_marks.specs.PassMarks.{marks_on, is_rounded, mark_count}
+use Rattle.overlay_intersections.specs.PassMarks.{marks_on, is_rounded, mark_count}
 use Rattle.overlay_split.specs.Potential.{spread, potential}
 use Rattle.overlay_split.specs.Laws.{SettlingLowers}
-use Rattle.overlay_base.proofs.laws.geometry.Points.{Before, before, Before-irreflexive, by_pair_order, point_cmp_total, point_same}
+use Rattle.overlay_geometry.proofs.laws.geometry.Points.{Before, before, Before-irreflexive, by_pair_order, point_cmp_total, point_same}
 use Rattle.overlay_base.proofs.laws.lists.Monoids.{gathered-map}
 use Rattle.overlay_base.proofs.laws.joins.Maps.{are_ordered-map}
-use Rattle.overlay_base.proofs.laws.lists.Lists.{Pairwise, Steps, AllByRecursion-weaker, AllByRecursion-append, Pairwise-append, Pairwise-weaker, Pairwise-both, Pairwise-from_AllByRecursion, Has, Has-filter, Has-flat_map, Has-from_list_any, AllByRecursion-from_list_all}
-use Rattle.overlay_base.proofs.laws.lists.Keys.{AllByRecursion-distinct_in_order, IsStrictlySortedBy-distinct, Has-distinct_in_order}
+use Rattle.overlay_geometry.proofs.laws.lists.Lists.{Pairwise, Steps, AllByRecursion-weaker, AllByRecursion-append, Pairwise-append, Pairwise-weaker, Pairwise-both, Pairwise-from_AllByRecursion, Has, Has-filter, Has-flat_map, Has-from_list_any, AllByRecursion-from_list_all}
+use Rattle.overlay_geometry.proofs.laws.lists.Keys.{AllByRecursion-distinct_in_order, IsStrictlySortedBy-distinct, Has-distinct_in_order}
 use Rattle.overlay_base.proofs.laws.joins.Members.{sum_by-join_le}
 use Rattle.overlay_split.proofs.laws.paths.Paths.{all_of, AreColumns-columns_of, all_of-columns_of, Pairwise-distinct_in_order, steps_of_path}
-use Rattle.overlay_marks.proofs.laws.marks.Marks.{Differ}
+use Rattle.overlay_intersections.proofs.laws.marks.Marks.{Differ}
 use Rattle.overlay_split.proofs.laws.paths.Pieces.{last_point-path_from}
-use Rattle.overlay_marks.proofs.laws.marks.Marks.{IsFree, IsFree-marks_on, IsRoundedPoint, rounded-marks_on, marks_at_crossing}
+use Rattle.overlay_intersections.proofs.laws.marks.Marks.{IsFree, IsFree-marks_on, IsRoundedPoint, rounded-marks_on, marks_at_crossing}
 use Rattle.overlay_split.proofs.laws.paths.Monotone.{Rises, Falls, Descends, IsDirection, Rises-is_direction, Falls-is_direction, rises_from_start, rises_to_end, falls_from_start, falls_to_end, rises_in_order, falls_in_order, path_rises, path_falls, reach, spread_is, potential-pieces_along, length-path_from}
-use Rattle.overlay_marks.proofs.laws.crossings.Crossings.{do_cross-swap}
+use Rattle.overlay_intersections.proofs.laws.crossings.Crossings.{do_cross-swap}
 use Rattle.overlay_split.proofs.laws.paths.Cuts.{gathered-cut}
-use Rattle.overlay_marks.proofs.laws.crossings.AnswerMarks.{pair_lt_back, crossing_ends_differ}
+use Rattle.overlay_intersections.proofs.laws.crossings.AnswerMarks.{pair_lt_back, crossing_ends_differ}
 
 -- ---- the path of a pair through rounded points runs in one direction
 

@@ -3,19 +3,19 @@ use Rattle.std.proofs.Common.{◌≡◌, ◌⊎◌, inl, inr, ⊎_elim, ap, subs
 use Rattle.std.specs.Prelude.{IsTrue, nat_le, length}
 use Rattle.std.proofs.lemmas.Bool.{and_parts, cond-false, lt-leb, cases_Bool, cases_lt}
 use Rattle.std.specs.List.{AllByRecursion}
-use Rattle.overlay_base.specs.Points.{is_ordered}
+use Rattle.overlay_geometry.specs.Points.{is_ordered}
 use Rattle.overlay_base.specs.Segments.{WholeSegment, is_map, are_ordered}
-use Rattle.overlay_marks.specs.Marks.{Placing, snapping, settling}
+use Rattle.overlay_intersections.specs.Marks.{Placing, snapping, settling}
 use Rattle.overlay_split.specs.Pass.{pieces_of, cut, pass}
-use Rattle.overlay_marks.specs.PassMarks.{marks_on, is_rounded}
+use Rattle.overlay_intersections.specs.PassMarks.{marks_on, is_rounded}
 use Rattle.overlay_split.specs.Potential.{potential}
 use Rattle.overlay_split.specs.Run.{Settings, placing_of_pass, radius_of_pass, after_passes, goes_on}
 use Rattle.overlay_split.specs.Laws.{RunEnds}
 use Rattle.overlay_base.proofs.laws.joins.Maps.{are_ordered-map, is_map-join}
-use Rattle.overlay_base.proofs.laws.lists.Lists.{AllByRecursion-weaker, AllByRecursion-from_list_all, list_all-from_AllByRecursion}
+use Rattle.overlay_geometry.proofs.laws.lists.Lists.{AllByRecursion-weaker, AllByRecursion-from_list_all, list_all-from_AllByRecursion}
 use Rattle.overlay_split.proofs.laws.paths.Cuts.{AllByRecursion-cut}
 use Rattle.overlay_split.proofs.laws.paths.Paths.{are_ordered-pieces}
-use Rattle.overlay_marks.proofs.laws.marks.Marks.{IsFree-marks_on}
+use Rattle.overlay_intersections.proofs.laws.marks.Marks.{IsFree-marks_on}
 use Rattle.overlay_split.proofs.laws.paths.Potentials.{ends_differ, settling_lowers}
 
 -- ---- arrangements

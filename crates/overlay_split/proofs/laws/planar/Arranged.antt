@@ -4,23 +4,23 @@ use Rattle.std.specs.Prelude.{flat_map}
 use Rattle.std.specs.List.{list_any}
 use Rattle.std.proofs.lemmas.Bool.{cond-true, or_from, and_right, leb-true, leb-false, eq-eqb, eqb-true}
 use Rattle.std.proofs.lemmas.List.Folds.{sum_by-zero}
-use Rattle.overlay_base.specs.Points.{Point, Pair, point_cmp, point_lt}
-use Rattle.overlay_base.specs.Sorting.{distinct_in_order}
+use Rattle.overlay_geometry.specs.Points.{Point, Pair, point_cmp, point_lt}
+use Rattle.overlay_geometry.specs.Sorting.{distinct_in_order}
 use Rattle.overlay_base.specs.Windings.{Winding, inverse}
 use Rattle.overlay_base.specs.Segments.{WholeSegment, pairs, is_map, are_ordered}
 use Rattle.overlay_base.specs.Join.{join, has_equal_pairs}
 use Rattle.overlay_base.specs.Planar.{is_planar}
-use Rattle.overlay_marks.specs.Marks.{Placing, marks_by, cross_inexactly}
+use Rattle.overlay_intersections.specs.Marks.{Placing, marks_by, cross_inexactly}
 use Rattle.overlay_split.specs.Path.{path, piece, pieces_along, pieces}
 use Rattle.overlay_split.specs.Pass.{pieces_of, cut, pass}
-use Rattle.overlay_marks.specs.PassMarks.{marks_on, is_rounded, mark_count}
+use Rattle.overlay_intersections.specs.PassMarks.{marks_on, is_rounded, mark_count}
 use Rattle.overlay_split.specs.Run.{Settings, placing_of_pass, after_passes, goes_on, has_marked, has_changed, IsPassCount}
 use Rattle.overlay_split.specs.Laws.{PlanarPassIsUnchanged, ArrangedIsUnchanged}
-use Rattle.overlay_base.proofs.laws.geometry.Points.{Before, from_before}
+use Rattle.overlay_geometry.proofs.laws.geometry.Points.{Before, from_before}
 use Rattle.overlay_base.proofs.laws.joins.Maps.{are_ordered-map, join-map}
 use Rattle.overlay_base.proofs.laws.joins.Repeats.{has_equal_pairs-map}
-use Rattle.overlay_base.proofs.laws.lists.Lists.{Has, Has-map, list_any-from_none, AllByRecursion-from_Has, list_all-from_Has}
-use Rattle.overlay_marks.proofs.laws.marks.ApartPairs.{apart_have_no_mark, apart_are_exact}
+use Rattle.overlay_geometry.proofs.laws.lists.Lists.{Has, Has-map, list_any-from_none, AllByRecursion-from_Has, list_all-from_Has}
+use Rattle.overlay_intersections.proofs.laws.marks.ApartPairs.{apart_have_no_mark, apart_are_exact}
 use Rattle.overlay_split.proofs.laws.planar.ExactMarks.{In, In-ordered}
 use Rattle.overlay_split.proofs.laws.planar.OrderedPaths.{path_in_order}
 use Rattle.overlay_split.proofs.laws.planar.PlanarPasses.{is_planar-each}

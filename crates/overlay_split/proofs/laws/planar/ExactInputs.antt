@@ -3,36 +3,36 @@ use Rattle.std.proofs.Common.{◌≡◌, refl, sym, ap, ap₂, ◌∙◌, ◌⊎
 use Rattle.std.specs.Prelude.{flat_map, pos}
 use Rattle.std.specs.List.{list_any, AllByRecursion}
 use Rattle.std.proofs.lemmas.Bool.{cond-false, cond-true, cases_Bool, and_from, and_parts, both_ways, not-true, false_from_ne_true, leb-false}
-use Rattle.overlay_base.specs.Points.{Point, Pair, point_cmp, point_eq, is_end, lies_on, is_strictly_inside, turn}
-use Rattle.overlay_base.specs.Sorting.{distinct_in_order}
+use Rattle.overlay_geometry.specs.Points.{Point, Pair, point_cmp, point_eq, is_end, lies_on, is_strictly_inside, turn}
+use Rattle.overlay_geometry.specs.Sorting.{distinct_in_order}
 use Rattle.overlay_base.specs.Windings.{Winding, total, add, empty}
 use Rattle.overlay_base.specs.Segments.{WholeSegment, pairs, counts, ends, are_ordered}
 use Rattle.overlay_base.specs.Join.{join}
-use Rattle.overlay_base.specs.Meeting.{do_cross, are_apart}
+use Rattle.overlay_geometry.specs.Meeting.{do_cross, are_apart}
 use Rattle.overlay_base.specs.Planar.{is_planar}
 use Rattle.overlay_base.specs.Sums.{gathered}
 use Rattle.overlay_base.proofs.laws.geometry.Apart.{are_apart-itself}
-use Rattle.overlay_marks.specs.Crossing.{snapping_point}
-use Rattle.overlay_marks.specs.Marks.{Placing, settling, cross_inexactly}
+use Rattle.overlay_intersections.specs.Crossing.{snapping_point}
+use Rattle.overlay_intersections.specs.Marks.{Placing, settling, cross_inexactly}
 use Rattle.overlay_split.specs.Path.{last_point, piece, pieces_along, pieces}
 use Rattle.overlay_split.specs.Pass.{pieces_of, cut, pass}
-use Rattle.overlay_marks.specs.PassMarks.{marks_on, is_rounded}
+use Rattle.overlay_intersections.specs.PassMarks.{marks_on, is_rounded}
 use Rattle.overlay_split.specs.Run.{Settings, placing_of_pass, after_passes, goes_on, IsPassCount}
 use Rattle.overlay_split.specs.ExactInput.{is_exact_input, special_points, has_point, contains_pair, is_elementary, count_along, lies_on_input}
 use Rattle.overlay_split.specs.Laws.{ExactInputKeepsCounts}
-use Rattle.overlay_base.proofs.laws.lists.Lists.{Pairwise, AllByRecursion-append, AllByRecursion-weaker, Has, AllByRecursion-at, AllByRecursion-from_Has, Has-append_left, Has-append_right, Has-flat_map, Has-map, Has-filter, list_any-at, list_all-from_Has, AllByRecursion-map, list_any-from_Has}
-use Rattle.overlay_base.proofs.laws.lists.Keys.{AllByRecursion-distinct_in_order}
+use Rattle.overlay_geometry.proofs.laws.lists.Lists.{Pairwise, AllByRecursion-append, AllByRecursion-weaker, Has, AllByRecursion-at, AllByRecursion-from_Has, Has-append_left, Has-append_right, Has-flat_map, Has-map, Has-filter, list_any-at, list_all-from_Has, AllByRecursion-map, list_any-from_Has}
+use Rattle.overlay_geometry.proofs.laws.lists.Keys.{AllByRecursion-distinct_in_order}
 use Rattle.overlay_base.proofs.laws.counts.Windings.{empty-add, add-empty, cond-empty, cond-add}
 use Rattle.overlay_base.proofs.laws.joins.Bags.{windings_add, gathered-join}
 use Rattle.overlay_base.proofs.laws.joins.Maps.{is_map-join, are_ordered-join}
-use Rattle.overlay_base.proofs.laws.geometry.Points.{Before, before, UpTo, UpTo-same, UpTo-Before, UpTo-trans, UpTo-not_Before, by_order, point_eq_same, collinear, lies_on_order, lies_on_from_order, inside_order, inside_from_order, turn_same_outer, turn_same_last}
+use Rattle.overlay_geometry.proofs.laws.geometry.Points.{Before, before, UpTo, UpTo-same, UpTo-Before, UpTo-trans, UpTo-not_Before, by_order, point_eq_same, collinear, lies_on_order, lies_on_from_order, inside_order, inside_from_order, turn_same_outer, turn_same_last}
 use Rattle.overlay_split.proofs.laws.paths.Paths.{Pairwise-distinct_in_order}
 use Rattle.overlay_split.proofs.laws.paths.Pieces.{last_point-append}
 use Rattle.overlay_split.proofs.laws.paths.Cuts.{gathered-cut, AllByRecursion-join}
 use Rattle.overlay_split.proofs.laws.planar.Meetings.{MarksAt, MarksAt-inside, IsPart, IsPart-line, IsPart-a_on, IsPart-b_on}
 use Rattle.overlay_split.proofs.laws.planar.Parts.{IsMarked, IsUndivided}
-use Rattle.overlay_marks.proofs.laws.crossings.AnswerMarks.{end_cases}
-use Rattle.overlay_marks.proofs.laws.crossings.ExactCrossings.{IsCrossingPoint-unique, from_both_lines, exact_snapping_point}
+use Rattle.overlay_intersections.proofs.laws.crossings.AnswerMarks.{end_cases}
+use Rattle.overlay_intersections.proofs.laws.crossings.ExactCrossings.{IsCrossingPoint-unique, from_both_lines, exact_snapping_point}
 use Rattle.overlay_split.proofs.laws.planar.ExactMarks.{end_b, In, In-ordered, In-exact, marks_on-IsMarked}
 use Rattle.overlay_split.proofs.laws.planar.OrderedPaths.{IsOnLine, ends_ordered, piece_forward, path_in_order}
 use Rattle.overlay_split.proofs.laws.planar.PlanarPasses.{IsPieceOf, pieces_of_parts, pass_undivided, is_planar-from}

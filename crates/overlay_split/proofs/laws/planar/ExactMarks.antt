@@ -3,19 +3,19 @@ use Rattle.std.proofs.Common.{◌≡◌, sym, ap, ◌⊎◌, ⊎_elim, inl, inr,
 use Rattle.std.specs.Prelude.{flat_map}
 use Rattle.std.specs.List.{list_any, AllByRecursion}
 use Rattle.std.proofs.lemmas.Bool.{or_right, not-false, cases_Bool}
-use Rattle.overlay_base.specs.Points.{Point, Pair, point_cmp, point_eq, is_ordered, is_end, is_strictly_inside}
-use Rattle.overlay_base.specs.Sorting.{distinct_in_order}
+use Rattle.overlay_geometry.specs.Points.{Point, Pair, point_cmp, point_eq, is_ordered, is_end, is_strictly_inside}
+use Rattle.overlay_geometry.specs.Sorting.{distinct_in_order}
 use Rattle.overlay_base.specs.Segments.{WholeSegment, pairs, are_ordered}
-use Rattle.overlay_base.specs.Meeting.{do_cross}
-use Rattle.overlay_marks.specs.Crossing.{is_exact, snapping_point}
-use Rattle.overlay_marks.specs.Marks.{Placing, ordered_mark, marks_by, cross_inexactly}
-use Rattle.overlay_marks.specs.PassMarks.{marks_on, is_rounded}
-use Rattle.overlay_base.proofs.laws.lists.Lists.{AllByRecursion-from_Has, AllByRecursion-weaker, Has, AllByRecursion-at, AllByRecursion-flat_map, Has-flat_map, AllByRecursion-filter, Has-filter, list_any-at, list_all-at, Has-map_out}
-use Rattle.overlay_base.proofs.laws.lists.Keys.{AllByRecursion-distinct_in_order, Has-distinct_in_order}
-use Rattle.overlay_base.proofs.laws.geometry.Points.{point_cmp_total, point_same, Before, before, point_eq_same, inside_order, inside_parts}
-use Rattle.overlay_marks.proofs.laws.crossings.AnswerMarks.{end_cases}
-use Rattle.overlay_marks.proofs.laws.crossings.ExactCrossings.{IsCrossingPoint, IsCrossingPoint-unique, from_both_lines, exact_snapping_point}
-use Rattle.overlay_marks.proofs.laws.marks.Marks.{marks_at_crossing, marks_at_ends}
+use Rattle.overlay_geometry.specs.Meeting.{do_cross}
+use Rattle.overlay_intersections.specs.Crossing.{is_exact, snapping_point}
+use Rattle.overlay_intersections.specs.Marks.{Placing, ordered_mark, marks_by, cross_inexactly}
+use Rattle.overlay_intersections.specs.PassMarks.{marks_on, is_rounded}
+use Rattle.overlay_geometry.proofs.laws.lists.Lists.{AllByRecursion-from_Has, AllByRecursion-weaker, Has, AllByRecursion-at, AllByRecursion-flat_map, Has-flat_map, AllByRecursion-filter, Has-filter, list_any-at, list_all-at, Has-map_out}
+use Rattle.overlay_geometry.proofs.laws.lists.Keys.{AllByRecursion-distinct_in_order, Has-distinct_in_order}
+use Rattle.overlay_geometry.proofs.laws.geometry.Points.{point_cmp_total, point_same, Before, before, point_eq_same, inside_order, inside_parts}
+use Rattle.overlay_intersections.proofs.laws.crossings.AnswerMarks.{end_cases}
+use Rattle.overlay_intersections.proofs.laws.crossings.ExactCrossings.{IsCrossingPoint, IsCrossingPoint-unique, from_both_lines, exact_snapping_point}
+use Rattle.overlay_intersections.proofs.laws.marks.Marks.{marks_at_crossing, marks_at_ends}
 use Rattle.overlay_split.proofs.laws.planar.Meetings.{MarksAt}
 use Rattle.overlay_split.proofs.laws.planar.Parts.{IsMarked, HasWholeCrossings}
 use Rattle.overlay_split.proofs.laws.planar.WholeCrossings.{IsInsideBoth, IsCrossingPoint-inside, exact_ordered_mark}

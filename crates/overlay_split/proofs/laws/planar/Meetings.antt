@@ -3,12 +3,12 @@ use Rattle.std.proofs.Common.{◌≡◌, refl, sym, ◌⊎◌, ⊎_elim, inl, in
 use Rattle.std.specs.Prelude.{ℤ, pos, ◌+ℤ◌, ◌*ℤ◌, ◌≤ℤ◌, ◌<ℤ◌}
 use Rattle.std.proofs.lemmas.Int.{ints, by_lt_z}
 use Rattle.std.proofs.lemmas.Bool.{or_from, both_ways, false_from_ne_true, cases_Bool}
-use Rattle.overlay_base.specs.Points.{Point, Pair, turn, is_end, lies_on, is_strictly_inside}
-use Rattle.overlay_base.specs.Meeting.{do_cross, are_collinear, has_end_inside}
-use Rattle.overlay_base.proofs.laws.geometry.Polynomials.{mul-pos, cancel-pos, mul-neg, cancel-neg, cancel-zero}
-use Rattle.overlay_base.proofs.laws.geometry.Points.{turn_same_last, turn_same_outer, Before, UpTo, Before-UpTo-trans, UpTo-Before-trans, UpTo-trans, UpTo-Before, weights, collinear, are_collinear_turns, are_collinear_from, are_collinear_swap, inside_order, inside_from_order, lies_on_from_order, inside_from_parts}
+use Rattle.overlay_geometry.specs.Points.{Point, Pair, turn, is_end, lies_on, is_strictly_inside}
+use Rattle.overlay_geometry.specs.Meeting.{do_cross, are_collinear, has_end_inside}
+use Rattle.overlay_geometry.proofs.laws.geometry.Polynomials.{mul-pos, cancel-pos, mul-neg, cancel-neg, cancel-zero}
+use Rattle.overlay_geometry.proofs.laws.geometry.Points.{turn_same_last, turn_same_outer, Before, UpTo, Before-UpTo-trans, UpTo-Before-trans, UpTo-trans, UpTo-Before, weights, collinear, are_collinear_turns, are_collinear_from, are_collinear_swap, inside_order, inside_from_order, lies_on_from_order, inside_from_parts}
 use Rattle.overlay_base.proofs.laws.geometry.Apart.{Opposite, do_cross_parts, do_cross_from}
-use Rattle.overlay_marks.proofs.laws.crossings.AnswerMarks.{collinear_do_not_cross, end_cases}
+use Rattle.overlay_intersections.proofs.laws.crossings.AnswerMarks.{collinear_do_not_cross, end_cases}
 
 -- ---- signs
 

@@ -4,15 +4,15 @@ use Rattle.std.specs.Prelude.{ℤ, pos, ◌+ℤ◌, ◌-ℤ◌, ◌*ℤ◌, ◌<
 use Rattle.std.proofs.lemmas.Int.{ints}
 use Rattle.std.proofs.lemmas.Bool.{cond_both, cond-false, cond-true}
 use Rattle.std.specs.List.{AllByRecursion}
-use Rattle.overlay_base.specs.Points.{Point, Pair, point_cmp, point_lt, turn, is_end, is_strictly_inside}
-use Rattle.overlay_base.specs.Sorting.{distinct_in_order}
+use Rattle.overlay_geometry.specs.Points.{Point, Pair, point_cmp, point_lt, turn, is_end, is_strictly_inside}
+use Rattle.overlay_geometry.specs.Sorting.{distinct_in_order}
 use Rattle.overlay_base.specs.Windings.{Winding, inverse}
 use Rattle.overlay_base.specs.Segments.{WholeSegment}
 use Rattle.overlay_split.specs.Path.{columns_of, next_point, last_point, run_through, path_from, path, piece, pieces_along, pieces}
-use Rattle.overlay_base.proofs.laws.lists.Lists.{Pairwise, AllByRecursion-append, AllByRecursion-weaker, AllByRecursion_left, AllByRecursion_right, AllByRecursion_cross, Pairwise_left, Pairwise_right, Pairwise-append, Has, AllByRecursion-at, AllByRecursion-from_Has, Has-append_left}
-use Rattle.overlay_base.proofs.laws.lists.Keys.{AllByRecursion-distinct_in_order, Has-distinct_in_order}
-use Rattle.overlay_base.proofs.laws.geometry.Points.{point_cmp_total, point_same, Before, UpTo, Before-trans, Before-irreflexive, UpTo-Before, UpTo-same, UpTo-trans, UpTo-not_Before, from_before, on_vertical, inside_order, turn_same_outer, turn_same_last}
-use Rattle.overlay_base.proofs.laws.geometry.Polynomials.{as_D, diffs, D-eq, cancel-zero}
+use Rattle.overlay_geometry.proofs.laws.lists.Lists.{Pairwise, AllByRecursion-append, AllByRecursion-weaker, AllByRecursion_left, AllByRecursion_right, AllByRecursion_cross, Pairwise_left, Pairwise_right, Pairwise-append, Has, AllByRecursion-at, AllByRecursion-from_Has, Has-append_left}
+use Rattle.overlay_geometry.proofs.laws.lists.Keys.{AllByRecursion-distinct_in_order, Has-distinct_in_order}
+use Rattle.overlay_geometry.proofs.laws.geometry.Points.{point_cmp_total, point_same, Before, UpTo, Before-trans, Before-irreflexive, UpTo-Before, UpTo-same, UpTo-trans, UpTo-not_Before, from_before, on_vertical, inside_order, turn_same_outer, turn_same_last}
+use Rattle.overlay_geometry.proofs.laws.geometry.Polynomials.{as_D, diffs, D-eq, cancel-zero}
 use Rattle.overlay_split.proofs.laws.paths.Paths.{all_of, AreColumns, AreColumns-columns_of, all_of-columns_of, last_point_has, Pairwise-distinct_in_order}
 use Rattle.overlay_split.proofs.laws.planar.Meetings.{MarksAt-inside}
 use Rattle.overlay_split.proofs.laws.planar.Parts.{IsMarked, IsUndivided}

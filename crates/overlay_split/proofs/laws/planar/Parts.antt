@@ -3,10 +3,10 @@ use Rattle.std.proofs.Common.{◌≡◌, ◌∙◌, ◌⊎◌, ⊎_elim, inl, in
 use Rattle.std.specs.Prelude.{ℤ, pos, ◌+ℤ◌, ◌*ℤ◌, ◌≤ℤ◌, ◌<ℤ◌}
 use Rattle.std.proofs.lemmas.Int.{ints, by_lt_z}
 use Rattle.std.proofs.lemmas.Bool.{false_from_ne_true, cases_Bool}
-use Rattle.overlay_base.specs.Points.{Point, Pair, turn, is_end, lies_on, is_strictly_inside}
-use Rattle.overlay_base.specs.Meeting.{do_cross, are_collinear, has_end_inside, are_apart}
-use Rattle.overlay_base.proofs.laws.geometry.Polynomials.{as_D, diffs, D-eq, mul-pos, mul-nonneg, cancel-pos, mul-neg, mul-nonneg_both, mul-nonpos, cancel-neg}
-use Rattle.overlay_base.proofs.laws.geometry.Points.{turn_rotates, turn_same_last, turn_same_outer, Before, by_order, UpTo-Before-trans, weights, collinear, inside_order, inside_from_order}
+use Rattle.overlay_geometry.specs.Points.{Point, Pair, turn, is_end, lies_on, is_strictly_inside}
+use Rattle.overlay_geometry.specs.Meeting.{do_cross, are_collinear, has_end_inside, are_apart}
+use Rattle.overlay_geometry.proofs.laws.geometry.Polynomials.{as_D, diffs, D-eq, mul-pos, mul-nonneg, cancel-pos, mul-neg, mul-nonneg_both, mul-nonpos, cancel-neg}
+use Rattle.overlay_geometry.proofs.laws.geometry.Points.{turn_rotates, turn_same_last, turn_same_outer, Before, by_order, UpTo-Before-trans, weights, collinear, inside_order, inside_from_order}
 use Rattle.overlay_base.proofs.laws.geometry.Apart.{Opposite, do_cross_parts, do_cross_from, are_apart_from}
 use Rattle.overlay_split.proofs.laws.planar.Meetings.{are_collinear_symmetric, no_end_inside_from, on_and_inside, MarksAt, MarksAt-end, MarksAt-cross, MarksAt-moves, IsPart, IsPart-line_back, IsPart-inside, IsPart-a_on, IsPart-b_on}
 

@@ -1,15 +1,15 @@
 -- A pass that is not rounded leaves a planar arrangement: its pieces are parts that no mark divides.
 use Rattle.std.proofs.Common.{IsTrue, IsFalse, List}
 use Rattle.std.specs.List.{list_all, AllByRecursion}
-use Rattle.overlay_base.specs.Points.{Pair}
+use Rattle.overlay_geometry.specs.Points.{Pair}
 use Rattle.overlay_base.specs.Segments.{WholeSegment, pairs, are_ordered}
-use Rattle.overlay_base.specs.Meeting.{are_apart}
+use Rattle.overlay_geometry.specs.Meeting.{are_apart}
 use Rattle.overlay_base.specs.Planar.{is_planar}
-use Rattle.overlay_marks.specs.Marks.{Placing}
+use Rattle.overlay_intersections.specs.Marks.{Placing}
 use Rattle.overlay_split.specs.Pass.{pieces_of, cut, pass}
-use Rattle.overlay_marks.specs.PassMarks.{marks_on, is_rounded}
+use Rattle.overlay_intersections.specs.PassMarks.{marks_on, is_rounded}
 use Rattle.overlay_split.specs.Laws.{ExactPassIsPlanar}
-use Rattle.overlay_base.proofs.laws.lists.Lists.{AllByRecursion-from_Has, AllByRecursion-weaker, Has, AllByRecursion-at, Has-map, list_all-from_Has, list_all-at, AllByRecursion-map}
+use Rattle.overlay_geometry.proofs.laws.lists.Lists.{AllByRecursion-from_Has, AllByRecursion-weaker, Has, AllByRecursion-at, Has-map, list_all-from_Has, list_all-at, AllByRecursion-map}
 use Rattle.overlay_base.proofs.laws.joins.Maps.{are_ordered-map}
 use Rattle.overlay_split.proofs.laws.planar.Parts.{IsUndivided, undivided_apart}
 use Rattle.overlay_split.proofs.laws.planar.ExactMarks.{In, In-ordered, has_whole_crossings, marks_on-IsMarked, IsMarked-marks_on}

@@ -1,22 +1,22 @@
 -- The result of a run is a planar arrangement, and a run has one number of passes. To split a result again changes nothing, and on exact input the settings do not matter.
 use Rattle.std.proofs.Common.{◌≡◌, sym, ap, ap₂, ◌∙◌, ⊎_elim, subst, not, IsTrue, IsFalse, List, [], ◌∷◌, ◌++◌, filter, take, drop, ℕ, zero, suc, length, nat_le}
 use Rattle.std.proofs.lemmas.Bool.{and_cases, both_ways, cases_order, cases_Bool}
-use Rattle.overlay_base.specs.Points.{Point, Pair, point_cmp, is_end}
-use Rattle.overlay_base.specs.Sorting.{distinct_in_order}
+use Rattle.overlay_geometry.specs.Points.{Point, Pair, point_cmp, is_end}
+use Rattle.overlay_geometry.specs.Sorting.{distinct_in_order}
 use Rattle.overlay_base.specs.Segments.{WholeSegment, pairs, is_map, are_ordered}
 use Rattle.overlay_base.specs.Join.{join}
-use Rattle.overlay_base.specs.Meeting.{do_cross}
+use Rattle.overlay_geometry.specs.Meeting.{do_cross}
 use Rattle.overlay_base.specs.Planar.{is_planar}
-use Rattle.overlay_marks.specs.Marks.{Placing, ordered_mark, marks_by}
+use Rattle.overlay_intersections.specs.Marks.{Placing, ordered_mark, marks_by}
 use Rattle.overlay_split.specs.Path.{pieces}
 use Rattle.overlay_split.specs.Pass.{pieces_of, cut, pass}
-use Rattle.overlay_marks.specs.PassMarks.{marks_on, is_rounded}
+use Rattle.overlay_intersections.specs.PassMarks.{marks_on, is_rounded}
 use Rattle.overlay_split.specs.Run.{Settings, placing_of_pass, after_passes, goes_on, has_changed, IsPassCount}
 use Rattle.overlay_split.specs.Laws.{RunIsOne, RunIsPlanar, ResultIsUnchanged, ExactRunsAgree}
-use Rattle.overlay_base.proofs.laws.lists.Lists.{Has, Has-map}
+use Rattle.overlay_geometry.proofs.laws.lists.Lists.{Has, Has-map}
 use Rattle.overlay_split.proofs.laws.paths.Runs.{is_map-after_passes}
-use Rattle.overlay_marks.proofs.laws.crossings.ExactCrossings.{IsCrossingPoint, IsCrossingPoint-unique}
-use Rattle.overlay_marks.proofs.laws.marks.Marks.{marks_at_crossing, marks_at_ends}
+use Rattle.overlay_intersections.proofs.laws.crossings.ExactCrossings.{IsCrossingPoint, IsCrossingPoint-unique}
+use Rattle.overlay_intersections.proofs.laws.marks.Marks.{marks_at_crossing, marks_at_ends}
 use Rattle.overlay_split.proofs.laws.planar.ExactMarks.{In, In-mark}
 use Rattle.overlay_split.proofs.laws.planar.PlanarPasses.{exact_pass_is_planar}
 use Rattle.overlay_split.proofs.laws.planar.Arranged.{flat_map-same, arranged_is_unchanged}

@@ -1,14 +1,14 @@
 -- Two pairs that cross at a whole point are marked there, whichever way crossings are placed: the point lies strictly inside both.
 use Rattle.std.proofs.Common.{◌≡◌, true, IsTrue}
 use Rattle.std.proofs.lemmas.Bool.{cond_both}
-use Rattle.overlay_base.specs.Points.{Point, Pair, pair_lt, is_strictly_inside}
-use Rattle.overlay_base.specs.Meeting.{do_cross}
+use Rattle.overlay_geometry.specs.Points.{Point, Pair, pair_lt, is_strictly_inside}
+use Rattle.overlay_geometry.specs.Meeting.{do_cross}
 use Rattle.overlay_base.proofs.laws.geometry.Apart.{do_cross_parts}
-use Rattle.overlay_marks.specs.Crossing.{is_exact}
-use Rattle.overlay_marks.specs.Marks.{Placing, snapping, settling, crossing_mark, ordered_mark}
-use Rattle.overlay_base.proofs.laws.geometry.Points.{Before}
-use Rattle.overlay_marks.proofs.laws.crossings.Crossings.{do_cross-swap}
-use Rattle.overlay_marks.proofs.laws.crossings.ExactCrossings.{IsCrossingPoint, IsCrossingPoint-swap, on_both_lines, exact_snapping_point, exact_settling_point, is_exact_back}
+use Rattle.overlay_intersections.specs.Crossing.{is_exact}
+use Rattle.overlay_intersections.specs.Marks.{Placing, snapping, settling, crossing_mark, ordered_mark}
+use Rattle.overlay_geometry.proofs.laws.geometry.Points.{Before}
+use Rattle.overlay_intersections.proofs.laws.crossings.Crossings.{do_cross-swap}
+use Rattle.overlay_intersections.proofs.laws.crossings.ExactCrossings.{IsCrossingPoint, IsCrossingPoint-swap, on_both_lines, exact_snapping_point, exact_settling_point, is_exact_back}
 use Rattle.overlay_split.proofs.laws.planar.Parts.{separated_inside}
 
 -- p lies strictly inside both

@@ -2,7 +2,7 @@
 ghost use Rattle.std.specs.Prelude.{pos, ◌≤ℤ◌, IsTrue};
 ghost use Rattle.overlay_base.specs.Segments.{is_map};
 ghost use Rattle.overlay_base.specs.SegmentOf.{segments_of};
-ghost use Rattle.overlay_marks.specs.PlacingOf.{HasRadius};
+ghost use Rattle.overlay_intersections.specs.PlacingOf.{HasRadius};
 
 use super::*;
 use overlay_base::overlay_core::solver::Solver;

@@ -1,12 +1,12 @@
 // Splits worked by hand, under each strategy and in both engines.
 use super::*;
-use overlay_base::geom::point::IntPoint;
-use overlay_base::geom::x_segment::XSegment;
 use overlay_base::overlay_core::edge_data::{EdgeDataMerge, EdgeDataSplit};
 use overlay_base::overlay_core::solver::{Precision, Strategy};
 use overlay_base::segm::arranged::{is_arranged, is_splittable};
 use overlay_base::segm::boolean::ShapeCountBoolean;
 use overlay_base::segm::shape_type::ShapeType;
+use overlay_geometry::geom::point::IntPoint;
+use overlay_geometry::geom::x_segment::XSegment;
 use std::process::Abort;
 use std::test::Fail;
 

@@ -6,15 +6,15 @@ use Rattle.std.specs.Ordering.{int_eq}
 use Rattle.std.proofs.lemmas.Int.{ints, by_lt_z}
 use Rattle.std.proofs.lemmas.Bool.{and_parts, and_from, and_left, false_from_ne_true}
 use Rattle.std.proofs.lemmas.Bool.Decides.{Decides-int_eq}
-use Rattle.overlay_base.specs.Points.{Point, Pair, turn, is_ordered, is_vertical}
+use Rattle.overlay_geometry.specs.Points.{Point, Pair, turn, is_ordered, is_vertical}
 use Rattle.overlay_base.specs.Windings.{Winding, add, weight}
 use Rattle.overlay_base.specs.Segments.{WholeSegment, are_ordered}
 use Rattle.overlay_base.specs.Balance.{IsBalanced}
-use Rattle.overlay_base.specs.Below.{width}
-use Rattle.overlay_base.specs.Meeting.{do_cross, are_apart}
+use Rattle.overlay_geometry.specs.Below.{width}
+use Rattle.overlay_geometry.specs.Meeting.{do_cross, are_apart}
 use Rattle.overlay_sweep.specs.ColumnWindings.{spans, is_below_in_column, column_bottom, column_top, side_bottom, side_top, IsSameAlong}
-use Rattle.overlay_base.proofs.laws.geometry.Polynomials.{as_D, diffs, D-eq, mul-pos, mul-neg, cancel-zero}
-use Rattle.overlay_base.proofs.laws.geometry.Points.{inside_from_order}
+use Rattle.overlay_geometry.proofs.laws.geometry.Polynomials.{as_D, diffs, D-eq, mul-pos, mul-neg, cancel-zero}
+use Rattle.overlay_geometry.proofs.laws.geometry.Points.{inside_from_order}
 use Rattle.overlay_base.proofs.laws.geometry.Apart.{do_cross_from}
 use Rattle.overlay_sweep.proofs.laws.columns.WeightSums.{when, sum_of}
 use Rattle.overlay_sweep.proofs.laws.columns.BalancedSums.{flow, subj_flow-balanced, clip_flow-balanced}

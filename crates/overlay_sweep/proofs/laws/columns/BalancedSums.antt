@@ -9,7 +9,7 @@ use Rattle.std.proofs.lemmas.Int.{ints}
 use Rattle.std.proofs.lemmas.Bool.{and_parts, and_from, or_left, or_right, cases_Bool, not-true}
 use Rattle.std.proofs.lemmas.Bool.Decides.{Decides-int_eq}
 use mathlib.Core.Path.{fun_ext}
-use Rattle.overlay_base.specs.Points.{Point, point_eq}
+use Rattle.overlay_geometry.specs.Points.{Point, point_eq}
 use Rattle.overlay_base.specs.Windings.{Winding, empty, add, inverse}
 use Rattle.overlay_base.specs.Segments.{WholeSegment, pairs, ends, total_weight}
 use Rattle.overlay_base.specs.Balance.{balance, IsBalanced}

@@ -10,7 +10,7 @@ use Rattle.overlay_sweep.proofs.laws.columns.ColumnLines.{is_under}
 use Rattle.overlay_sweep.proofs.laws.columns.Members.{IsArranged, All-from_Has, is_arranged}
 use Rattle.overlay_sweep.proofs.laws.live.Supports.{is_earlier, earlier-trans, earlier_itself, earlier_beneath}
 use Rattle.overlay_sweep.proofs.laws.columns.Tops.{by_option, starts_before, lives_under, here_neighbor, neighbor_is, here_live, directly_is, length-filter_le, length-filter_less, filter_all, empty_add}
-use Rattle.overlay_base.proofs.laws.lists.Lists.{Has, Has-filter_out}
+use Rattle.overlay_geometry.proofs.laws.lists.Lists.{Has, Has-filter_out}
 
 same_some : {X : Type 0} (x y : X) (o : Option X) → o ≡ Some x → o ≡ Some y → x ≡ y
 same_some x y o e f = cc

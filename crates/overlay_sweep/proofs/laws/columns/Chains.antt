@@ -4,7 +4,7 @@ use Rattle.std.specs.Prelude.{ℤ, pos, ◌+ℤ◌, ◌-ℤ◌, Bool, true, fals
 use Rattle.std.specs.List.{list_all}
 use Rattle.std.proofs.lemmas.Int.{ints}
 use Rattle.std.proofs.lemmas.Bool.{and_parts, and_from, cases_Bool, false_from_ne_true, both_ways}
-use Rattle.overlay_base.proofs.laws.lists.Lists.{list_all-implied, list_all-and}
+use Rattle.overlay_geometry.proofs.laws.lists.Lists.{list_all-implied, list_all-and}
 use Rattle.overlay_base.specs.Rules.{differ}
 use Rattle.overlay_sweep.proofs.laws.columns.WeightSums.{when, sum_of}
 

@@ -8,12 +8,12 @@ use Rattle.std.proofs.lemmas.Int.{ints, by_lt_z}
 use Rattle.std.proofs.lemmas.Cmp.{int_ranked}
 use Rattle.std.proofs.lemmas.Bool.{and_parts, and_from, and_left, and_right, false_from_ne_true}
 use Rattle.std.proofs.lemmas.Bool.Decides.{Decides-int_eq}
-use Rattle.overlay_base.specs.Points.{Point, Pair, turn, is_ordered, is_vertical, point_lt}
+use Rattle.overlay_geometry.specs.Points.{Point, Pair, turn, is_ordered, is_vertical, point_lt}
 use Rattle.overlay_base.specs.Windings.{Winding, add}
 use Rattle.overlay_base.specs.Segments.{WholeSegment, are_ordered, total_weight}
 use Rattle.overlay_base.specs.Balance.{IsBalanced}
 use Rattle.overlay_sweep.specs.ColumnWindings.{spans, column, weights_up_to}
-use Rattle.overlay_base.proofs.laws.geometry.Polynomials.{as_D, diffs, D-eq, mul-pos, mul-neg, mul-nonneg, mul-le_left}
+use Rattle.overlay_geometry.proofs.laws.geometry.Polynomials.{as_D, diffs, D-eq, mul-pos, mul-neg, mul-nonneg, mul-le_left}
 use Rattle.overlay_sweep.proofs.laws.columns.WeightSums.{when, sum_of, sum_of-filter, sum_of-same, total_weight_is}
 use Rattle.overlay_sweep.proofs.laws.columns.BalancedSums.{flow, subj_flow-balanced, clip_flow-balanced}
 

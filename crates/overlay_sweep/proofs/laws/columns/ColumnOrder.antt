@@ -3,13 +3,13 @@ use Rattle.std.proofs.Common.{◌≡◌, refl, sym, ◌∙◌, arith, inl, inr}
 use Rattle.std.specs.Prelude.{ℤ, pos, ◌+ℤ◌, ◌-ℤ◌, ◌*ℤ◌, ◌<ℤ◌, ◌≤ℤ◌, neg_ℤ, int_le, int_lt, Bool, true, false, ◌&&◌, ◌||◌, ◌⊎◌}
 use Rattle.std.proofs.lemmas.Int.{ints, by_lt_z}
 use Rattle.std.proofs.lemmas.Bool.{and_parts, and_from, and_left, and_right, or_left, or_right, or_from, or_cases, both_ways}
-use Rattle.overlay_base.specs.Points.{Pair, turn, is_strictly_inside}
-use Rattle.overlay_base.specs.Below.{width, scaled_height}
-use Rattle.overlay_base.specs.Meeting.{do_cross, are_apart}
+use Rattle.overlay_geometry.specs.Points.{Pair, turn, is_strictly_inside}
+use Rattle.overlay_geometry.specs.Below.{width, scaled_height}
+use Rattle.overlay_geometry.specs.Meeting.{do_cross, are_apart}
 use Rattle.overlay_sweep.specs.ColumnWindings.{spans, is_below_in_column}
 use Rattle.overlay_base.specs.Rules.{differ}
-use Rattle.overlay_base.proofs.laws.geometry.Polynomials.{mul-neg, cancel-pos, fractions-trans, fractions-trans_lt, from_difference-nonneg, difference-nonneg, from_difference-pos, difference-pos, cancel-zero, cancel-neg, mul-nonneg_both}
-use Rattle.overlay_base.proofs.laws.geometry.Points.{same_point, same_pair, at_a, at_b, inside_from_order}
+use Rattle.overlay_geometry.proofs.laws.geometry.Polynomials.{mul-neg, cancel-pos, fractions-trans, fractions-trans_lt, from_difference-nonneg, difference-nonneg, from_difference-pos, difference-pos, cancel-zero, cancel-neg, mul-nonneg_both}
+use Rattle.overlay_geometry.proofs.laws.geometry.Points.{same_point, same_pair, at_a, at_b, inside_from_order}
 use Rattle.overlay_base.proofs.laws.geometry.Apart.{do_cross_back, do_cross_from, are_apart_parts, no_end_inside_parts}
 use Rattle.overlay_sweep.proofs.laws.columns.ColumnLines.{le-test, le-test_false, lt-test, lt-test_false, lt-tested, le-tested, spans_parts}
 use Rattle.overlay_sweep.proofs.laws.columns.Heights.{gap, slope, gap_back, gap_same, gap_along, gap_at_start, gap_at_end, gap_at_other_start, gap_at_other_end, is_below_is}

@@ -3,10 +3,10 @@ use Rattle.std.proofs.Common.{◌≡◌, refl, sym, ◌∙◌, arith}
 use Rattle.std.specs.Prelude.{ℤ, pos, ◌+ℤ◌, ◌-ℤ◌, ◌*ℤ◌, neg_ℤ, int_le, int_lt, ◌&&◌, ◌||◌}
 use Rattle.std.specs.Ordering.{int_cmp, is_lt, is_le}
 use Rattle.std.proofs.lemmas.Int.{ints}
-use Rattle.overlay_base.specs.Points.{Pair, turn}
-use Rattle.overlay_base.specs.Below.{width, scaled_height, height_cmp}
+use Rattle.overlay_geometry.specs.Points.{Pair, turn}
+use Rattle.overlay_geometry.specs.Below.{width, scaled_height, height_cmp}
 use Rattle.overlay_sweep.specs.ColumnWindings.{is_below_in_column}
-use Rattle.overlay_base.proofs.laws.geometry.Polynomials.{as_D, diffs, D-eq}
+use Rattle.overlay_geometry.proofs.laws.geometry.Polynomials.{as_D, diffs, D-eq}
 
 -- how far t is above s at x, times both widths
 unfoldable pub gap : ℤ → Pair → Pair → ℤ

@@ -7,15 +7,15 @@ use Rattle.std.specs.Ordering.{is_lt}
 use Rattle.std.proofs.lemmas.Int.{ints}
 use Rattle.std.proofs.lemmas.Bool.{and_parts, and_from, both_ways}
 use Rattle.std.proofs.lemmas.List.Elements.{All-nil, All-cons}
-use Rattle.overlay_base.specs.Points.{Pair, pair_cmp, pair_eq, pair_lt, is_ordered}
-use Rattle.overlay_base.specs.Sorting.{is_strictly_sorted, greatest}
+use Rattle.overlay_geometry.specs.Points.{Pair, pair_cmp, pair_eq, pair_lt, is_ordered}
+use Rattle.overlay_geometry.specs.Sorting.{is_strictly_sorted, greatest}
 use Rattle.overlay_base.specs.Windings.{is_not_empty}
 use Rattle.overlay_base.specs.Segments.{WholeSegment, pairs, is_map, are_ordered}
-use Rattle.overlay_base.specs.Meeting.{are_apart}
+use Rattle.overlay_geometry.specs.Meeting.{are_apart}
 use Rattle.overlay_base.specs.Planar.{is_planar}
-use Rattle.overlay_base.proofs.laws.geometry.Points.{pair_eq_same, pair_lt-trans, pair_lt-irreflexive, from_not_same_pair}
+use Rattle.overlay_geometry.proofs.laws.geometry.Points.{pair_eq_same, pair_lt-trans, pair_lt-irreflexive, from_not_same_pair}
 use Rattle.overlay_sweep.proofs.laws.columns.WeightSums.{when, sum_of}
-use Rattle.overlay_base.proofs.laws.lists.Lists.{list_all-implied, Has, Has-map, list_all-at, list_all-from_Has}
+use Rattle.overlay_geometry.proofs.laws.lists.Lists.{list_all-implied, Has, Has-map, list_all-at, list_all-from_Has}
 use Rattle.overlay_sweep.proofs.laws.columns.Chains.{sum_of-nothing}
 use Rattle.overlay_sweep.proofs.laws.columns.AlongSegments.{is_free}
 

@@ -4,21 +4,21 @@ use Rattle.std.specs.Prelude.{ℕ, zero, suc, ◌<◌, ◌≤◌, ℤ, pos, ◌+
 use Rattle.std.specs.Ordering.{is_lt, ordering_then}
 use Rattle.std.proofs.lemmas.Int.{ints}
 use Rattle.std.proofs.lemmas.Bool.{and_parts, and_from, or_left, or_right, or_cases, both_ways, false_from_ne_true}
-use Rattle.overlay_base.specs.Points.{Point, Pair, turn, point_eq}
+use Rattle.overlay_geometry.specs.Points.{Point, Pair, turn, point_eq}
 use Rattle.overlay_base.specs.Windings.{Winding, add, empty, weight}
 use Rattle.overlay_base.specs.Segments.{WholeSegment}
 use Rattle.overlay_base.specs.Balance.{IsBalanced}
-use Rattle.overlay_base.specs.Below.{width, height_cmp, angle_cmp}
+use Rattle.overlay_geometry.specs.Below.{width, height_cmp, angle_cmp}
 use Rattle.overlay_sweep.specs.ColumnWindings.{spans, side_bottom, side_top, IsSameAlong}
 use Rattle.overlay_sweep.specs.ChainWindings.{neighbor_at_start, directly_below, support, top_within, top, bottom, is_live}
 use Rattle.overlay_sweep.specs.Laws.{ChainsAreColumns}
-use Rattle.overlay_base.proofs.laws.geometry.Points.{same_by_eq, turn_same_outer}
+use Rattle.overlay_geometry.proofs.laws.geometry.Points.{same_by_eq, turn_same_outer}
 use Rattle.overlay_sweep.proofs.laws.columns.ColumnLines.{le-test, lt-test, le-tested, lt-tested, spans_parts, spans-true, is_under}
 use Rattle.overlay_sweep.proofs.laws.columns.AlongSegments.{is_same_along}
 use Rattle.overlay_sweep.proofs.laws.columns.Members.{greatest_is, greatest_none, All-from_Has, IsArranged, is_arranged}
 use Rattle.overlay_sweep.proofs.laws.live.Supports.{is_beneath, is_earlier, angle_same, angle_asymmetric, angle-trans, first_same, first_asymmetric, first-trans, below_neighbor, below_highest, wide_from_angle, earlier-trans, earlier_itself, earlier_beneath}
 use Rattle.overlay_sweep.proofs.laws.live.Sides.{side_top_is, bottom_is_top, bottom_is_empty, IsHighest, apart_in}
-use Rattle.overlay_base.proofs.laws.lists.Lists.{Has, Has-filter, Has-filter_out}
+use Rattle.overlay_geometry.proofs.laws.lists.Lists.{Has, Has-filter, Has-filter_out}
 
 pub by_option : {K P : Type 0} (o : Option K) → (o ≡ None → P) → ((t : K) → o ≡ Some t → P) → P
 by_option None f g = f refl

@@ -3,9 +3,9 @@ use Rattle.std.proofs.Common.{◌≡◌, ◌∙◌, arith}
 use Rattle.std.specs.Prelude.{ℤ, pos, int_lt, neg_ℤ}
 use Rattle.std.specs.Ordering.{is_lt}
 use Rattle.std.proofs.lemmas.Int.{ints}
-use Rattle.overlay_base.specs.Points.{Point, turn}
-use Rattle.overlay_base.specs.Turns.{clock_order}
-use Rattle.overlay_base.proofs.laws.geometry.Points.{turn_swaps_last}
+use Rattle.overlay_geometry.specs.Points.{Point, turn}
+use Rattle.overlay_geometry.specs.Turns.{clock_order}
+use Rattle.overlay_geometry.proofs.laws.geometry.Points.{turn_swaps_last}
 use Rattle.overlay_sweep.proofs.laws.columns.Heights.{is_lt-cmp}
 
 opposite_test : (m n : ℤ) → m ≡ neg_ℤ n → int_lt m (pos 0) ≡ int_lt (pos 0) n

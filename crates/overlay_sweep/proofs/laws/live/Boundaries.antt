@@ -7,11 +7,11 @@ use Rattle.std.proofs.Math.Seq.{take-add}
 use Rattle.std.proofs.lemmas.Bool.{and_parts, both_ways, or_left}
 use Rattle.overlay_sweep.specs.ColumnWindings.{spans}
 use Rattle.std.specs.List.{take-map, drop-map}
-use Rattle.overlay_base.specs.Points.{Point, Pair, turn, point_lt, pair_cmp, pair_lt}
-use Rattle.overlay_base.specs.Sorting.{is_strictly_sorted}
+use Rattle.overlay_geometry.specs.Points.{Point, Pair, turn, point_lt, pair_cmp, pair_lt}
+use Rattle.overlay_geometry.specs.Sorting.{is_strictly_sorted}
 use Rattle.overlay_base.specs.Segments.{WholeSegment, pairs}
-use Rattle.overlay_base.proofs.laws.lists.Lists.{AllByRecursion-weaker, AllByRecursion-map_out, AllByRecursion-from_list_all, AllByRecursion-at, AllByRecursion-from_Has, Has}
-use Rattle.overlay_base.proofs.laws.geometry.Points.{from_before, pair_before, turn_same_outer, point_lt-trans, point_lt-irreflexive}
+use Rattle.overlay_geometry.proofs.laws.lists.Lists.{AllByRecursion-weaker, AllByRecursion-map_out, AllByRecursion-from_list_all, AllByRecursion-at, AllByRecursion-from_Has, Has}
+use Rattle.overlay_geometry.proofs.laws.geometry.Points.{from_before, pair_before, turn_same_outer, point_lt-trans, point_lt-irreflexive}
 use Rattle.overlay_sweep.specs.ChainWindings.{is_live}
 use Rattle.overlay_sweep.proofs.laws.columns.Members.{sorted_all, sorted_tail, IsArranged}
 use Rattle.overlay_sweep.proofs.laws.live.Supports.{earlier-cases, earlier_beneath}

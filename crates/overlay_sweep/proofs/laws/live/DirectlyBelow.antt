@@ -5,13 +5,13 @@ use Rattle.std.specs.Option.{option_map_or}
 use Rattle.std.specs.Ordering.{is_lt, ordering_then}
 use Rattle.std.proofs.lemmas.Int.{ints}
 use Rattle.std.proofs.lemmas.Bool.{and_parts, both_ways, cases_Bool}
-use Rattle.overlay_base.specs.Points.{Point, Pair, turn, pair_eq, pair_lt, pair_cmp}
-use Rattle.overlay_base.specs.Sorting.{is_strictly_sorted}
+use Rattle.overlay_geometry.specs.Points.{Point, Pair, turn, pair_eq, pair_lt, pair_cmp}
+use Rattle.overlay_geometry.specs.Sorting.{is_strictly_sorted}
 use Rattle.overlay_base.specs.Windings.{empty}
 use Rattle.overlay_base.specs.Segments.{WholeSegment, pairs}
-use Rattle.overlay_base.specs.Meeting.{are_apart}
-use Rattle.overlay_base.specs.Below.{height_cmp, angle_cmp}
-use Rattle.overlay_base.proofs.laws.geometry.Points.{same_pair_by_eq, not_same_pair}
+use Rattle.overlay_geometry.specs.Meeting.{are_apart}
+use Rattle.overlay_geometry.specs.Below.{height_cmp, angle_cmp}
+use Rattle.overlay_geometry.proofs.laws.geometry.Points.{same_pair_by_eq, not_same_pair}
 use Rattle.overlay_base.specs.Rules.{differ}
 use Rattle.overlay_sweep.specs.ColumnWindings.{spans, is_below_in_column}
 use Rattle.overlay_sweep.specs.ChainWindings.{directly_below, is_live, top}
@@ -23,7 +23,7 @@ use Rattle.overlay_sweep.proofs.laws.columns.Members.{greatest_is, greatest_none
 use Rattle.overlay_sweep.proofs.laws.live.Supports.{below_highest, first_same, first_asymmetric, first-trans}
 use Rattle.overlay_sweep.proofs.laws.columns.Tops.{by_option, spans_live}
 use Rattle.overlay_sweep.proofs.laws.live.LiveSums.{Has-from_Contains, Contains-from_Has}
-use Rattle.overlay_base.proofs.laws.lists.Lists.{Has, Has-filter, Has-filter_out, Has-map, Has-map_out, list_all-at}
+use Rattle.overlay_geometry.proofs.laws.lists.Lists.{Has, Has-filter, Has-filter_out, Has-map, Has-map_out, list_all-at}
 
 -- the order of segments from below at one x
 abbrev first_cmp : ℤ → WholeSegment → WholeSegment → Bool

@@ -5,10 +5,10 @@ use Rattle.std.specs.Int.{int_min, int_max}
 use Rattle.std.specs.List.{Contains}
 use Rattle.std.proofs.lemmas.Bool.{cases_lt, and_from}
 use Rattle.std.proofs.lemmas.Int.{ints, clamps}
-use Rattle.overlay_base.specs.Points.{Pair}
+use Rattle.overlay_geometry.specs.Points.{Pair}
 use Rattle.overlay_base.specs.Segments.{WholeSegment}
-use Rattle.overlay_base.specs.Meeting.{are_apart}
-use Rattle.overlay_base.specs.Ranges.{heights, is_off_range}
+use Rattle.overlay_geometry.specs.Meeting.{are_apart}
+use Rattle.overlay_geometry.specs.Ranges.{heights, is_off_range}
 use Rattle.overlay_base.proofs.laws.geometry.Apart.{are_apart-itself, apart_in_y}
 use Rattle.overlay_sweep.proofs.laws.columns.ColumnLines.{lt-test}
 use Rattle.overlay_sweep.proofs.laws.live.LiveSums.{Has-from_Contains, Contains-from_Has}

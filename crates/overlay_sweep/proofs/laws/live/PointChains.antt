@@ -5,12 +5,12 @@ use Rattle.std.specs.List.{AllByRecursion}
 use Rattle.std.specs.Option.{option_map_or}
 use Rattle.std.specs.Ordering.{is_lt}
 use Rattle.std.proofs.lemmas.Bool.{and_parts, and_from, both_ways}
-use Rattle.overlay_base.specs.Points.{Point, point_eq, point_lt}
+use Rattle.overlay_geometry.specs.Points.{Point, point_eq, point_lt}
 use Rattle.overlay_base.specs.Windings.{Winding, empty}
 use Rattle.overlay_base.specs.Segments.{WholeSegment}
-use Rattle.overlay_base.specs.Below.{angle_cmp}
-use Rattle.overlay_base.proofs.laws.lists.Lists.{Pairwise, AllByRecursion-at, Has, Has-filter, Has-filter_out}
-use Rattle.overlay_base.proofs.laws.geometry.Points.{same_by_eq, point_eq_same, point_lt-irreflexive}
+use Rattle.overlay_geometry.specs.Below.{angle_cmp}
+use Rattle.overlay_geometry.proofs.laws.lists.Lists.{Pairwise, AllByRecursion-at, Has, Has-filter, Has-filter_out}
+use Rattle.overlay_geometry.proofs.laws.geometry.Points.{same_by_eq, point_eq_same, point_lt-irreflexive}
 use Rattle.overlay_sweep.specs.ChainWindings.{neighbor_at_start, directly_below, support, top, bottom}
 use Rattle.overlay_sweep.proofs.laws.columns.Members.{IsArranged}
 use Rattle.overlay_sweep.proofs.laws.live.Supports.{earlier-trans, earlier-cases, earlier_at_start, angle_same, angle_asymmetric}

@@ -10,11 +10,11 @@ use Rattle.std.proofs.lemmas.List.{map_more, append-nil}
 use Rattle.std.proofs.lemmas.List.Elements.{All-contains, filter-append}
 use Rattle.std.proofs.lemmas.List.Sums.{fold_push}
 use Rattle.std.specs.List.{take-map}
-use Rattle.overlay_base.specs.Points.{Point, turn}
-use Rattle.overlay_base.specs.Sorting.{greatest}
+use Rattle.overlay_geometry.specs.Points.{Point, turn}
+use Rattle.overlay_geometry.specs.Sorting.{greatest}
 use Rattle.overlay_base.specs.Windings.{Winding}
 use Rattle.overlay_base.specs.Segments.{WholeSegment}
-use Rattle.overlay_base.specs.Below.{height_cmp, angle_cmp, under_segment_order}
+use Rattle.overlay_geometry.specs.Below.{height_cmp, angle_cmp, under_segment_order}
 use Rattle.overlay_sweep.specs.ChainWindings.{is_live, directly_below}
 use Rattle.overlay_sweep.specs.Live.{sum_below}
 use Rattle.overlay_sweep.specs.Live.{HoldSameFrom, AreFreeAt}
@@ -25,7 +25,7 @@ use Rattle.overlay_sweep.proofs.laws.columns.Members.{All-from_Has}
 use Rattle.overlay_sweep.proofs.laws.live.UnderOrders.{under_is_first}
 use Rattle.overlay_sweep.proofs.laws.live.LiveSums.{Has-from_Contains, Contains-from_Has, begins_later}
 use Rattle.overlay_sweep.proofs.laws.live.Boundaries.{Has-take}
-use Rattle.overlay_base.proofs.laws.lists.Lists.{Has, Has-filter, Has-filter_out, Has-map}
+use Rattle.overlay_geometry.proofs.laws.lists.Lists.{Has, Has-filter, Has-filter_out, Has-map}
 
 abbrev first_cmp : ℤ → WholeSegment → WholeSegment → Ordering
 first_cmp x t u = ordering_then (height_cmp x t.pair u.pair) (angle_cmp t.pair u.pair)

@@ -5,19 +5,19 @@ use Rattle.std.specs.Ordering.{int_eq}
 use Rattle.std.proofs.lemmas.Int.{ints, by_lt_z}
 use Rattle.std.proofs.lemmas.Bool.{and_parts, and_from, and_right, cases_Bool, both_ways, not-true, false_from_ne_true}
 use Rattle.std.proofs.lemmas.Bool.Decides.{Decides-int_eq}
-use Rattle.overlay_base.specs.Points.{Point, Pair, pair_eq, is_vertical}
+use Rattle.overlay_geometry.specs.Points.{Point, Pair, pair_eq, is_vertical}
 use Rattle.overlay_base.specs.Windings.{Winding, add, weight, empty}
 use Rattle.overlay_base.specs.Segments.{WholeSegment, total_weight}
 use Rattle.overlay_base.specs.Balance.{IsBalanced}
 use Rattle.overlay_sweep.specs.ColumnWindings.{spans, is_below_in_column, column_bottom, column_top, weights_up_to, right_winding, left_winding, side_bottom, side_top}
-use Rattle.overlay_base.proofs.laws.geometry.Points.{same_point, same_pair, same_pair_by_eq, pair_eq_same, from_not_same_pair, inside_from_order}
+use Rattle.overlay_geometry.proofs.laws.geometry.Points.{same_point, same_pair, same_pair_by_eq, pair_eq_same, from_not_same_pair, inside_from_order}
 use Rattle.overlay_sweep.proofs.laws.columns.WeightSums.{when, sum_of, sum_of-add}
 use Rattle.overlay_sweep.proofs.laws.columns.ColumnLines.{le-test, le-test_false, le-tested, point_lt-cases, is_up_to, lies_up_to, leaves_upward, column_weights, column_weights_are, filter_weights_are, across_up_to}
 use Rattle.overlay_sweep.proofs.laws.columns.ColumnOrder.{IsApart, is_apart, below_itself}
 use Rattle.overlay_sweep.proofs.laws.columns.AlongSegments.{turn_upright, is_same_along}
 use Rattle.overlay_sweep.proofs.laws.columns.Members.{IsArranged, single_sum}
 use Rattle.overlay_sweep.proofs.laws.live.Supports.{is_beneath, below_is_beneath, up_to_is_beneath, beneath-below}
-use Rattle.overlay_base.proofs.laws.lists.Lists.{Has}
+use Rattle.overlay_geometry.proofs.laws.lists.Lists.{Has}
 
 pub sum_of-same_in : {X : Type 0} (f g : X → ℤ) (xs : List X) → ((x : X) → Has xs x → f x ≡ g x) → sum_of f xs ≡ sum_of g xs
 sum_of-same_in f g [] h = refl

@@ -7,11 +7,11 @@ use Rattle.std.specs.Cmp.{IsStrictWeakOrder}
 use Rattle.std.proofs.lemmas.List.FromFn.{length-enumerate_from, get_or-enumerate_from}
 use Rattle.std.specs.Ordering.{int_cmp, eq_by_cmp, ordering_then, is_lt}
 use Rattle.std.proofs.lemmas.List.{get_or-map, length-map, get_or-drop, length-drop, take_more}
-use Rattle.overlay_base.specs.Points.{Point, Pair, point_eq, is_ordered}
+use Rattle.overlay_geometry.specs.Points.{Point, Pair, point_eq, is_ordered}
 use Rattle.overlay_base.specs.Segments.{WholeSegment, pairs}
-use Rattle.overlay_base.specs.Below.{angle_cmp}
-use Rattle.overlay_base.specs.PointOf.{point_of}
-use Rattle.overlay_base.specs.declared.geom.point.IntPoint.{IntPoint}
+use Rattle.overlay_geometry.specs.Below.{angle_cmp}
+use Rattle.overlay_geometry.specs.PointOf.{point_of}
+use Rattle.overlay_geometry.specs.declared.geom.point.IntPoint.{IntPoint}
 use Rattle.overlay_sweep.specs.steps.WayOf.{WholeWay, ways_between}
 use Rattle.overlay_sweep.proofs.laws.live.Supports.{angle_asymmetric, angle-chain}
 

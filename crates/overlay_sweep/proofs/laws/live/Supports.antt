@@ -6,12 +6,12 @@ use Rattle.std.proofs.Common.{Less, Equal, Greater}
 use Rattle.std.specs.declared.cmp.Ordering.{Ordering}
 use Rattle.std.proofs.lemmas.Int.{ints, by_lt_z}
 use Rattle.std.proofs.lemmas.Bool.{and_parts, and_from, and_left, and_right, or_left, or_right, or_from, or_cases, both_ways, cases_Bool}
-use Rattle.overlay_base.specs.Points.{Point, Pair, turn, point_eq, point_lt, is_ordered}
-use Rattle.overlay_base.specs.Below.{width, scaled_height, height_cmp, angle_cmp}
+use Rattle.overlay_geometry.specs.Points.{Point, Pair, turn, point_eq, point_lt, is_ordered}
+use Rattle.overlay_geometry.specs.Below.{width, scaled_height, height_cmp, angle_cmp}
 use Rattle.overlay_sweep.specs.ColumnWindings.{spans, is_below_in_column}
 use Rattle.overlay_base.specs.Rules.{differ}
-use Rattle.overlay_base.proofs.laws.geometry.Polynomials.{as_D, diffs, D-eq, mul-pos, mul-neg, mul-nonneg, cancel-pos, cancel-neg, cancel-nonpos, cancel-nonneg, mul-nonpos}
-use Rattle.overlay_base.proofs.laws.geometry.Points.{same_point, same_by_eq, point_eq_same, from_not_same, at_a, inside_from_order, turn_same_outer, from_before, point_lt-trans, point_lt-irreflexive}
+use Rattle.overlay_geometry.proofs.laws.geometry.Polynomials.{as_D, diffs, D-eq, mul-pos, mul-neg, mul-nonneg, cancel-pos, cancel-neg, cancel-nonpos, cancel-nonneg, mul-nonpos}
+use Rattle.overlay_geometry.proofs.laws.geometry.Points.{same_point, same_by_eq, point_eq_same, from_not_same, at_a, inside_from_order, turn_same_outer, from_before, point_lt-trans, point_lt-irreflexive}
 use Rattle.overlay_sweep.proofs.laws.columns.ColumnLines.{le-test, le-test_false, lt-test, lt-test_false, lt-tested, le-tested, spans_parts, spans-true, point_lt-cases, turn_over_start, is_under, is_up_to}
 use Rattle.overlay_sweep.proofs.laws.columns.Heights.{gap, slope, gap_back, gap_same, gap_at_other_start, is_below_is, is_lt-cmp, is_lt-height_cmp, is_le-height_cmp}
 use Rattle.overlay_sweep.proofs.laws.columns.ColumnOrder.{by_sign, IsApart, apart_back, gap_step, crosses_in_column, is_low, low-left, low-right, low-first, low-level, low-second, low_parts, one_is_below, is_below-trans}

@@ -4,10 +4,10 @@ use Rattle.std.specs.Prelude.{ℕ, zero, suc, ℤ, pos, ◌+ℤ◌, ◌-ℤ◌, 
 use Rattle.std.specs.Ordering.{is_lt, is_eq, ordering_then, MatchOrdering}
 use Rattle.std.proofs.lemmas.Int.{ints}
 use Rattle.std.proofs.lemmas.Bool.{both_ways, cases_Bool}
-use Rattle.overlay_base.specs.Points.{Point, Pair, turn, step, cross_product, point_cmp, point_eq, pair_eq}
-use Rattle.overlay_base.specs.Turns.{clock_order}
-use Rattle.overlay_base.specs.Below.{height_cmp, angle_cmp, under_segment_order}
-use Rattle.overlay_base.proofs.laws.geometry.Points.{Before, point_ranked, point_eq_same, from_not_same, same_pair_by_eq, not_same_pair, turn_same_outer, turn_same_last}
+use Rattle.overlay_geometry.specs.Points.{Point, Pair, turn, step, cross_product, point_cmp, point_eq, pair_eq}
+use Rattle.overlay_geometry.specs.Turns.{clock_order}
+use Rattle.overlay_geometry.specs.Below.{height_cmp, angle_cmp, under_segment_order}
+use Rattle.overlay_geometry.proofs.laws.geometry.Points.{Before, point_ranked, point_eq_same, from_not_same, same_pair_by_eq, not_same_pair, turn_same_outer, turn_same_last}
 use Rattle.overlay_base.specs.Rules.{differ}
 use Rattle.overlay_sweep.specs.ColumnWindings.{spans, is_below_in_column}
 use Rattle.overlay_sweep.proofs.laws.live.Below.{is_below_point}

@@ -5,11 +5,11 @@ use Rattle.std.specs.Ordering.{is_lt}
 use Rattle.std.proofs.lemmas.Bool.{and_from}
 use Rattle.std.proofs.lemmas.List.{length-map, map-append}
 use Rattle.std.proofs.lemmas.List.Elements.{All-contains}
-use Rattle.overlay_base.specs.Points.{Point, Pair, turn}
+use Rattle.overlay_geometry.specs.Points.{Point, Pair, turn}
 use Rattle.overlay_base.specs.Segments.{WholeSegment}
 use Rattle.overlay_base.specs.Windings.{Winding}
-use Rattle.overlay_base.specs.Below.{under_segment_order}
-use Rattle.overlay_base.proofs.laws.lists.Lists as lists
+use Rattle.overlay_geometry.specs.Below.{under_segment_order}
+use Rattle.overlay_geometry.proofs.laws.lists.Lists as lists
 use Rattle.overlay_sweep.specs.ChainWindings.{is_live}
 use Rattle.overlay_sweep.specs.Live.{sum_below}
 use Rattle.overlay_sweep.specs.Live.{AreFreeAt, HoldSameFrom}

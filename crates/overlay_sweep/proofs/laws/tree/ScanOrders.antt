@@ -7,12 +7,12 @@ use Rattle.std.specs.declared.cmp.Ordering.{Ordering}
 use Rattle.std.proofs.Common.{Less, Equal, Greater}
 use Rattle.std.proofs.lemmas.Int.{ints, by_lt_z}
 use Rattle.std.proofs.lemmas.Bool.{and_parts, and_from, both_ways}
-use Rattle.overlay_base.specs.Points.{Point, Pair, turn}
+use Rattle.overlay_geometry.specs.Points.{Point, Pair, turn}
 use Rattle.overlay_base.specs.Segments.{WholeSegment}
 use Rattle.overlay_base.specs.Windings.{Winding}
-use Rattle.overlay_base.specs.Below.{width, height_cmp, angle_cmp, under_segment_order}
-use Rattle.overlay_base.proofs.laws.geometry.Polynomials.{mul-pos, mul-nonpos}
-use Rattle.overlay_base.proofs.laws.lists.Lists as lists
+use Rattle.overlay_geometry.specs.Below.{width, height_cmp, angle_cmp, under_segment_order}
+use Rattle.overlay_geometry.proofs.laws.geometry.Polynomials.{mul-pos, mul-nonpos}
+use Rattle.overlay_geometry.proofs.laws.lists.Lists as lists
 use Rattle.overlay_sweep.specs.ChainWindings.{is_live, directly_below}
 use Rattle.overlay_sweep.specs.Live.{sum_below}
 use Rattle.overlay_sweep.specs.Live.{AreFreeAt}

@@ -4,12 +4,12 @@ use Rattle.std.specs.Prelude.{ℕ, zero, suc, ◌<◌, ℤ, pos, Bool, true, ◌
 use Rattle.std.specs.List.{list_all}
 use Rattle.std.proofs.lemmas.Bool.{and_parts}
 use Rattle.std.proofs.lemmas.List.{length-map, get_or-map}
-use Rattle.overlay_base.specs.Points.{Pair}
+use Rattle.overlay_geometry.specs.Points.{Pair}
 use Rattle.overlay_base.specs.Windings.{is_valid, is_not_empty}
 use Rattle.overlay_base.specs.Segments.{WholeSegment}
 use Rattle.overlay_base.specs.EdgeData.{DataSegment}
 use Rattle.overlay_base.specs.Planar.{is_splittable, is_arranged}
-use Rattle.overlay_base.specs.Coordinates.{is_point_in_range, is_pair_in_range}
+use Rattle.overlay_geometry.specs.Coordinates.{is_point_in_range, is_pair_in_range}
 use Rattle.overlay_base.specs.declared.overlay_core.fill_rule.FillRule.{FillRule}
 use Rattle.overlay_sweep.specs.Sweep.{Visit}
 use Rattle.overlay_sweep.specs.ChainWindings.{HaveColumnWindings}

@@ -4,8 +4,8 @@ use Rattle.std.specs.Prelude.{true, false, ◌⊎◌, List, [], ◌∷◌, ◌++
 use Rattle.std.specs.List.{AllByRecursion}
 use Rattle.std.specs.Ordering.{is_lt}
 use Rattle.std.proofs.lemmas.Bool.{cases_Bool, both_ways}
-use Rattle.overlay_base.specs.Sorting.{insert_before_ties, stably_sorted}
-use Rattle.overlay_base.proofs.laws.lists.Lists.{Pairwise, Has}
+use Rattle.overlay_geometry.specs.Sorting.{insert_before_ties, stably_sorted}
+use Rattle.overlay_geometry.proofs.laws.lists.Lists.{Pairwise, Has}
 use Rattle.overlay_base.proofs.laws.lists.StableSorts.{AllByRecursion-insert, AllByRecursion-stably_sorted}
 
 module _ {K : Type 0} (cmp : K → K → Ordering) where

@@ -7,14 +7,14 @@ use Rattle.std.proofs.lemmas.Int.{ints}
 use Rattle.std.proofs.lemmas.Bool.{and_from}
 use Rattle.std.proofs.lemmas.List.{take-append-drop, take_all, append-nil, length-map, get_or-map}
 use Rattle.std.proofs.lemmas.List.FromFn.{length-enumerate_from}
-use Rattle.overlay_base.specs.Points.{Point, Pair, point_lt}
-use Rattle.overlay_base.specs.Sorting.{stably_sorted}
+use Rattle.overlay_geometry.specs.Points.{Point, Pair, point_lt}
+use Rattle.overlay_geometry.specs.Sorting.{stably_sorted}
 use Rattle.overlay_base.specs.Windings.{Winding, add, empty, weight, is_count_in_range, is_valid}
 use Rattle.overlay_base.specs.Segments.{WholeSegment, pairs}
 use Rattle.overlay_base.specs.EdgeData.{DataSegment, without_data}
 use Rattle.overlay_base.specs.declared.overlay_core.fill_rule.FillRule.{FillRule}
-use Rattle.overlay_base.proofs.laws.lists.Lists.{AllByRecursion-append, AllByRecursion-at, Has, Has-map, Has-map_out}
-use Rattle.overlay_base.proofs.laws.geometry.Points.{before}
+use Rattle.overlay_geometry.proofs.laws.lists.Lists.{AllByRecursion-append, AllByRecursion-at, Has, Has-map, Has-map_out}
+use Rattle.overlay_geometry.proofs.laws.geometry.Points.{before}
 use Rattle.overlay_sweep.specs.ChainWindings.{directly_below, top, top_within, bottom, support}
 use Rattle.overlay_sweep.specs.Fill.{fill_byte}
 use Rattle.overlay_sweep.specs.Sweep.{Visit, whole_of, visits, handled, visited, visits_leave_range}

@@ -7,15 +7,15 @@ use Rattle.std.proofs.lemmas.Int.{ints}
 use Rattle.std.proofs.lemmas.Bool.{cases_Bool, both_ways}
 use Rattle.std.proofs.lemmas.List.{take-append-drop, take_all}
 use Rattle.std.proofs.Common.{append_assoc}
-use Rattle.overlay_base.specs.Points.{Point, Pair, turn, step, cross_product, point_cmp, point_eq, point_lt, pair_cmp, pair_lt, is_ordered}
-use Rattle.overlay_base.specs.Sorting.{is_strictly_sorted, stably_sorted}
+use Rattle.overlay_geometry.specs.Points.{Point, Pair, turn, step, cross_product, point_cmp, point_eq, point_lt, pair_cmp, pair_lt, is_ordered}
+use Rattle.overlay_geometry.specs.Sorting.{is_strictly_sorted, stably_sorted}
 use Rattle.overlay_base.specs.Segments.{WholeSegment, pairs}
 use Rattle.overlay_base.specs.EdgeData.{DataSegment, without_data}
-use Rattle.overlay_base.specs.Below.{angle_cmp}
+use Rattle.overlay_geometry.specs.Below.{angle_cmp}
 use Rattle.overlay_base.specs.declared.overlay_core.fill_rule.FillRule.{FillRule}
-use Rattle.overlay_base.proofs.laws.lists.Lists.{Pairwise, AllByRecursion-take, AllByRecursion-map, AllByRecursion-map_out, AllByRecursion-from_list_all, AllByRecursion-at, AllByRecursion-from_Has, Has, Has-map, Has-map_out}
-use Rattle.overlay_base.proofs.laws.geometry.Polynomials.{as_D, diffs, D-eq}
-use Rattle.overlay_base.proofs.laws.geometry.Points.{Before, before, point_ranked, same_pair, inside_from_order, turn_swaps_last, point_eq_same, point_lt-irreflexive}
+use Rattle.overlay_geometry.proofs.laws.lists.Lists.{Pairwise, AllByRecursion-take, AllByRecursion-map, AllByRecursion-map_out, AllByRecursion-from_list_all, AllByRecursion-at, AllByRecursion-from_Has, Has, Has-map, Has-map_out}
+use Rattle.overlay_geometry.proofs.laws.geometry.Polynomials.{as_D, diffs, D-eq}
+use Rattle.overlay_geometry.proofs.laws.geometry.Points.{Before, before, point_ranked, same_pair, inside_from_order, turn_swaps_last, point_eq_same, point_lt-irreflexive}
 use Rattle.overlay_sweep.specs.Sweep.{Visit, whole_of, fill_of, visits}
 use Rattle.overlay_sweep.specs.steps.WayOf.{WholeWay, ways_between, by_angle}
 use Rattle.overlay_sweep.proofs.laws.columns.ColumnOrder.{IsApart}

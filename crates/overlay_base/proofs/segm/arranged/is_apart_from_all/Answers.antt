@@ -1,9 +1,9 @@
 use Rattle.std.proofs.Common.{sym, ap, ◌∙◌, subst, IsTrue, drop, ◌+◌}
 use Rattle.std.specs.Prelude.{int_lt}
 use Rattle.overlay_base.specs.Segments.{pairs}
-use Rattle.overlay_base.specs.Ranges.{heights, is_off_range}
-use Rattle.overlay_base.specs.Meeting.{are_apart}
-use Rattle.overlay_base.specs.PairOf.{pair_of}
+use Rattle.overlay_geometry.specs.Ranges.{heights, is_off_range}
+use Rattle.overlay_geometry.specs.Meeting.{are_apart}
+use Rattle.overlay_geometry.specs.PairOf.{pair_of}
 use Rattle.overlay_base.specs.SegmentOf.{segments_of, segment_of, ends_of}
 use Rattle.overlay_base.proofs.laws.joins.Rests.{rest-more, passes, fails, none_left, is_splittable-drop, first_in_range}
 use Rattle.overlay_base.proofs.laws.geometry.Apart.{apart_in_y, are_ordered, pairs-next, pairs-none, rest_apart_from}

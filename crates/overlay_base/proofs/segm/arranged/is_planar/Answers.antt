@@ -1,6 +1,6 @@
 use Rattle.std.proofs.Common.{sym, ap, ◌∙◌, ◌∷◌}
 use Rattle.overlay_base.specs.Segments.{pairs}
-use Rattle.overlay_base.specs.PairOf.{pair_of}
+use Rattle.overlay_geometry.specs.PairOf.{pair_of}
 use Rattle.overlay_base.specs.SegmentOf.{segments_of, segment_of, ends_of}
 use Rattle.overlay_base.proofs.laws.joins.Rests.{is_splittable-parts, first_in_range}
 use Rattle.overlay_base.proofs.laws.geometry.Apart.{is_planar-is, is_strictly_sorted-rest, first_apart, first_not_apart, none_apart, pairs-nil}

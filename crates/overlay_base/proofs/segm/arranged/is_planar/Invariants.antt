@@ -1,6 +1,6 @@
 use Rattle.std.proofs.Common.{◌≡◌, IsTrue, length}
-use Rattle.overlay_base.specs.Points.{pair_cmp}
-use Rattle.overlay_base.specs.Sorting.{is_strictly_sorted}
+use Rattle.overlay_geometry.specs.Points.{pair_cmp}
+use Rattle.overlay_geometry.specs.Sorting.{is_strictly_sorted}
 use Rattle.overlay_base.specs.Segments.{pairs}
 use Rattle.overlay_base.specs.Planar.{is_splittable}
 use Rattle.overlay_base.specs.SegmentOf.{segments_of}

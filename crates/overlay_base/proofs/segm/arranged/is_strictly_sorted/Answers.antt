@@ -1,6 +1,6 @@
 use Rattle.std.proofs.Common.{sym, ap, ◌∙◌, ◌∷◌, ◌+◌, drop}
 use Rattle.overlay_base.specs.Segments.{pairs}
-use Rattle.overlay_base.specs.PairOf.{pair_of}
+use Rattle.overlay_geometry.specs.PairOf.{pair_of}
 use Rattle.overlay_base.specs.SegmentOf.{segments_of}
 use Rattle.overlay_base.proofs.laws.geometry.Apart.{pairs-next, pairs-none, pairs-nil, sorted_more, sorted_fails, sorted_end, sorted_none}
 use Rattle.overlay_base.proofs.segm.arranged.is_strictly_sorted.Goals as goal

@@ -1,9 +1,9 @@
 use Rattle.std.proofs.Common.{◌≡◌, ◌&&◌, sym, ◌∙◌, ap₂, is_eq}
 use Rattle.std.specs.Ordering.{int_cmp}
-use Rattle.overlay_base.specs.PairOf.{pair_of}
-use Rattle.overlay_base.specs.Points.{Pair, pair_eq}
-use Rattle.overlay_base.proofs.laws.geometry.Comparisons.{whole_eq}
-use Rattle.overlay_base.proofs.laws.geometry.Points.{is_eq-then, point_eq-parts}
+use Rattle.overlay_geometry.specs.PairOf.{pair_of}
+use Rattle.overlay_geometry.specs.Points.{Pair, pair_eq}
+use Rattle.overlay_geometry.proofs.laws.geometry.Comparisons.{whole_eq}
+use Rattle.overlay_geometry.proofs.laws.geometry.Points.{is_eq-then, point_eq-parts}
 use Rattle.overlay_base.proofs.segm.merge.has_same_ends.Goals as goal
 
 pair_eq-parts : (s t : Pair) → pair_eq s t ≡ ((is_eq (int_cmp s.a.x t.a.x) && is_eq (int_cmp s.a.y t.a.y)) && (is_eq (int_cmp s.b.x t.b.x) && is_eq (int_cmp s.b.y t.b.y)))

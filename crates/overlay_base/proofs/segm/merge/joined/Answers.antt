@@ -1,9 +1,9 @@
 use Rattle.std.proofs.Common.{rules, ◌≡◌, refl, sym, ap, ap₂, ◌∙◌}
-use Rattle.overlay_base.specs.Points.{Point, Pair}
+use Rattle.overlay_geometry.specs.Points.{Point, Pair}
 use Rattle.overlay_base.specs.Windings.{Winding, add}
 use Rattle.overlay_base.specs.EdgeData.{DataSegment, merged}
 use Rattle.overlay_base.specs.HooksOf.{hooks_of}
-use Rattle.overlay_base.specs.PairOf.{pair_of}
+use Rattle.overlay_geometry.specs.PairOf.{pair_of}
 use Rattle.overlay_base.specs.SegmentOf.{ends_of, winding_of}
 use Rattle.overlay_base.specs.declared.overlay_core.edge_data.EdgeDataMerge.{EdgeDataMerge}
 use Rattle.overlay_base.proofs.segm.merge.joined.Goals as goal

@@ -1,8 +1,8 @@
 use Rattle.std.proofs.Common.{rules}
 use Rattle.std.proofs.lemmas.List.Sorted.{answers_always}
-use Rattle.overlay_base.specs.Points.{pair_cmp}
+use Rattle.overlay_geometry.specs.Points.{pair_cmp}
 use Rattle.overlay_base.specs.SegmentOf.{ends_of}
-use Rattle.overlay_base.proofs.laws.geometry.Points.{pair_cmp_total}
+use Rattle.overlay_geometry.proofs.laws.geometry.Points.{pair_cmp_total}
 use Rattle.overlay_base.proofs.laws.lists.StableSorts.{sorted_by_key-is}
 use Rattle.overlay_base.proofs.segm.sort.sort_by_ab.Goals as goal
 

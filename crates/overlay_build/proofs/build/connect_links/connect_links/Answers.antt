@@ -2,12 +2,12 @@ use Rattle.std.proofs.Common.{◌≡◌, ◌∙◌, ap, sym, rules, if◌then◌
 use Rattle.std.specs.Prelude.{ℤ}
 use Rattle.std.proofs.lemmas.List.{length-map}
 use Rattle.std.proofs.Math.Seq.{take-append_seam}
-use Rattle.overlay_base.specs.Points.{Pair, point_cmp}
-use Rattle.overlay_base.specs.Sorting.{stably_sorted}
-use Rattle.overlay_base.specs.PointOf.{point_of}
+use Rattle.overlay_geometry.specs.Points.{Pair, point_cmp}
+use Rattle.overlay_geometry.specs.Sorting.{stably_sorted}
+use Rattle.overlay_geometry.specs.PointOf.{point_of}
 use Rattle.overlay_build.specs.steps.EndOf.{WholeEnd, end_of, ends_of}
 use Rattle.overlay_build.specs.steps.LinkEnds.{numbered_starts, numbered_ends}
-use Rattle.overlay_base.specs.declared.geom.end.End.{End}
+use Rattle.overlay_geometry.specs.declared.geom.end.End.{End}
 use Rattle.overlay_base.specs.declared.overlay_core.link.OverlayLink.{OverlayLink}
 use Rattle.overlay_build.specs.GraphOf.{link_of, pairs_of_links, names_node, with_node}
 use Rattle.overlay_build.proofs.laws.graphs.NodeLists.{end_point_at}

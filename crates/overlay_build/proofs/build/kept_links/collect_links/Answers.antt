@@ -1,9 +1,9 @@
 use Rattle.std.proofs.Common.{◌≡◌, ◌∙◌, ap, sym, refl, map, filter, drop, List, [], ◌∷◌, ◌++◌, ◌+◌, true, false}
 use Rattle.std.proofs.lemmas.List.{drop_all, map-append}
-use Rattle.overlay_base.specs.PointOf.{point_of}
+use Rattle.overlay_geometry.specs.PointOf.{point_of}
 use Rattle.overlay_base.specs.SegmentOf.{segment_of, data_segment_of, edge_data_of}
-use Rattle.overlay_base.specs.declared.geom.id_point.IdPoint.{IdPoint}
-use Rattle.overlay_base.specs.declared.geom.x_segment.XSegment.{XSegment}
+use Rattle.overlay_geometry.specs.declared.geom.id_point.IdPoint.{IdPoint}
+use Rattle.overlay_geometry.specs.declared.geom.x_segment.XSegment.{XSegment}
 use Rattle.overlay_base.specs.declared.overlay_core.link.OverlayLink.{OverlayLink}
 use Rattle.overlay_build.specs.Graph.{Filled}
 use Rattle.overlay_build.specs.GraphOf.{kept_of, link_of}

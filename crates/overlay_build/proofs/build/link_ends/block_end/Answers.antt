@@ -1,8 +1,8 @@
 use Rattle.std.proofs.Common.{◌≡◌, ◌∙◌, ap, sym, arith, ℕ, ◌≤◌, get_or}
 use Rattle.std.proofs.lemmas.Bool.{both_ways}
-use Rattle.overlay_base.specs.Points.{Point, point_eq}
-use Rattle.overlay_base.specs.PointOf.{point_of}
-use Rattle.overlay_base.proofs.laws.geometry.Points.{same_by_eq, point_eq_same}
+use Rattle.overlay_geometry.specs.Points.{Point, point_eq}
+use Rattle.overlay_geometry.specs.PointOf.{point_of}
+use Rattle.overlay_geometry.proofs.laws.geometry.Points.{same_by_eq, point_eq_same}
 use Rattle.overlay_build.specs.steps.EndOf.{WholeEnd, ends_of}
 use Rattle.overlay_sweep.proofs.laws.live.StartPoints.{point_eq_is, each_more}
 use Rattle.overlay_build.proofs.laws.graphs.NodeLists.{end_point_at}

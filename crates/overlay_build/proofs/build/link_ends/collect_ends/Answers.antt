@@ -1,6 +1,6 @@
 use Rattle.std.proofs.Common.{◌∙◌, ap, sym, List, [], ◌∷◌, ◌++◌, append_assoc, take}
 use Rattle.std.proofs.lemmas.List.{map-append, append-nil}
-use Rattle.overlay_base.specs.PointOf.{point_of}
+use Rattle.overlay_geometry.specs.PointOf.{point_of}
 use Rattle.overlay_base.specs.declared.overlay_core.link.OverlayLink.{OverlayLink}
 use Rattle.overlay_build.specs.steps.EndOf.{WholeEnd, end_of, ends_of}
 use Rattle.overlay_build.specs.GraphOf.{link_of, pairs_of_links}

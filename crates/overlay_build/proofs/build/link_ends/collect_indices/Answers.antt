@@ -1,5 +1,5 @@
 use Rattle.std.proofs.Common.{◌∙◌, ◌-◌, ap, sym, map, ℕ, List, [], ◌∷◌, ◌++◌}
-use Rattle.overlay_base.specs.declared.geom.end.End.{End}
+use Rattle.overlay_geometry.specs.declared.geom.end.End.{End}
 use Rattle.std.proofs.lemmas.List.{take_all}
 use Rattle.overlay_build.proofs.laws.graphs.NodeLists.{map-take_next, indexes-whole}
 use Rattle.overlay_build.proofs.build.link_ends.collect_indices.Goals as goal

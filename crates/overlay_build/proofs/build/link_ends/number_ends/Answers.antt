@@ -1,7 +1,7 @@
 use Rattle.std.proofs.Common.{◌≡◌, ◌∙◌, ap, sym, ℕ, ◌<◌, length, take, get_or, if◌then◌else◌, List}
 use Rattle.std.proofs.lemmas.List.{get_or_default, length-set, take_more}
-use Rattle.overlay_base.specs.Points.{Point}
-use Rattle.overlay_base.specs.PointOf.{point_of}
+use Rattle.overlay_geometry.specs.Points.{Point}
+use Rattle.overlay_geometry.specs.PointOf.{point_of}
 use Rattle.overlay_base.specs.declared.overlay_core.link.OverlayLink.{OverlayLink}
 use Rattle.overlay_build.specs.GraphOf.{with_node, names_node}
 use Rattle.overlay_sweep.proofs.laws.live.StartPoints.{point_eq_is}

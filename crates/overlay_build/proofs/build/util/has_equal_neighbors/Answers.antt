@@ -2,10 +2,10 @@ use Rattle.std.proofs.Common.{◌≡◌, ◌∙◌, ◌∷◌, true, false, sym,
 use Rattle.std.specs.List.{list_any}
 use Rattle.std.proofs.lemmas.Bool.{both_ways}
 use Rattle.std.proofs.lemmas.List.{nil_from_length}
-use Rattle.overlay_base.specs.Points.{point_cmp, point_eq}
-use Rattle.overlay_base.specs.PointOf.{point_of}
-use Rattle.overlay_base.proofs.laws.geometry.Points.{point_cmp_total}
-use Rattle.overlay_base.proofs.laws.lists.Keys.{IsInOrder, IsInOrder-from_sort}
+use Rattle.overlay_geometry.specs.Points.{point_cmp, point_eq}
+use Rattle.overlay_geometry.specs.PointOf.{point_of}
+use Rattle.overlay_geometry.proofs.laws.geometry.Points.{point_cmp_total}
+use Rattle.overlay_geometry.proofs.laws.lists.Keys.{IsInOrder, IsInOrder-from_sort}
 use Rattle.overlay_build.proofs.laws.walks.ContourLoops.{has_repeat-found, has_repeat-rest, has_repeat-none, one_after_neighbor, none_after_neighbor, none_without_neighbor}
 use Rattle.overlay_build.proofs.build.util.has_equal_neighbors.Goals as goal
 use Rattle.overlay_build.proofs.build.util.has_equal_neighbors.Goals.{in-None, in-Some-split_first}

@@ -1,7 +1,7 @@
 use Rattle.std.proofs.Common.{◌∙◌, sym, ap, map}
 use Rattle.std.proofs.lemmas.List.{nil_from_length}
-use Rattle.overlay_base.specs.Points.{point_eq}
-use Rattle.overlay_base.specs.PointOf.{point_of}
+use Rattle.overlay_geometry.specs.Points.{point_eq}
+use Rattle.overlay_geometry.specs.PointOf.{point_of}
 use Rattle.overlay_build.proofs.laws.walks.ContourLoops.{list_any-map, has_repeat-found, has_repeat-rest, has_repeat-none}
 use Rattle.overlay_build.proofs.build.util.has_equal_points.Goals as goal
 

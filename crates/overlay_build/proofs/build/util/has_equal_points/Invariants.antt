@@ -1,7 +1,7 @@
 use Rattle.std.proofs.Common.{◌≡◌, map, length}
-use Rattle.overlay_base.specs.Points.{point_eq}
-use Rattle.overlay_base.specs.Sorting.{has_repeat}
-use Rattle.overlay_base.specs.PointOf.{point_of}
+use Rattle.overlay_geometry.specs.Points.{point_eq}
+use Rattle.overlay_geometry.specs.Sorting.{has_repeat}
+use Rattle.overlay_geometry.specs.PointOf.{point_of}
 use Rattle.overlay_build.proofs.build.util.has_equal_points.Given as goal
 
 abbrev pub invariant-loop-first : goal.invariant-loop-first

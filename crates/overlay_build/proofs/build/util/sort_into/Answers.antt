@@ -1,9 +1,9 @@
 use Rattle.std.proofs.Common.{◌∙◌, ◌++◌, ap, map, rules}
 use Rattle.std.proofs.lemmas.List.Sorted.{answers_always}
-use Rattle.overlay_base.specs.Points.{point_cmp}
-use Rattle.overlay_base.specs.Sorting.{stably_sorted}
-use Rattle.overlay_base.specs.PointOf.{point_of}
-use Rattle.overlay_base.proofs.laws.geometry.Points.{point_cmp_total}
+use Rattle.overlay_geometry.specs.Points.{point_cmp}
+use Rattle.overlay_geometry.specs.Sorting.{stably_sorted}
+use Rattle.overlay_geometry.specs.PointOf.{point_of}
+use Rattle.overlay_geometry.proofs.laws.geometry.Points.{point_cmp_total}
 use Rattle.overlay_base.proofs.laws.lists.StableSorts.{sorted_by_key-is, map-stably_sorted}
 use Rattle.overlay_build.proofs.build.util.sort_into.Goals as goal
 

@@ -1,5 +1,5 @@
 use Rattle.std.proofs.Common.{◌∙◌, ap, sym}
-use Rattle.overlay_base.specs.Coordinates.{least_coordinate, greatest_coordinate}
+use Rattle.overlay_geometry.specs.Coordinates.{least_coordinate, greatest_coordinate}
 use Rattle.overlay_base.specs.Planar.{is_splittable}
 use Rattle.overlay_base.specs.SegmentOf.{segment_of, segments_of}
 use Rattle.overlay_base.proofs.laws.joins.Rests.{is_splittable-valid}

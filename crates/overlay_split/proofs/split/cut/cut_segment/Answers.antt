@@ -1,10 +1,10 @@
 use Rattle.std.proofs.Common.{set, ◌≡◌, ◌<◌, ◌∙◌, sym, ap, subst, length, arith, ◌∷◌, ◌++◌, map}
 use Rattle.std.specs.Prelude.{IsTrue}
 use Rattle.overlay_base.specs.Windings.{is_valid}
-use Rattle.overlay_base.specs.PointOf.{point_of}
+use Rattle.overlay_geometry.specs.PointOf.{point_of}
 use Rattle.overlay_base.specs.HooksOf.{hooks_of}
 use Rattle.overlay_base.specs.SegmentOf.{data_segments_of, data_segment_of, ends_of, winding_of}
-use Rattle.overlay_marks.specs.MarkOf.{points_of}
+use Rattle.overlay_intersections.specs.MarkOf.{points_of}
 use Rattle.overlay_split.specs.Path.{LeadsOn, last_point}
 use Rattle.overlay_split.specs.steps.PathSteps.{IsPathOf}
 use Rattle.overlay_split.specs.DataPass.{data_pieces}

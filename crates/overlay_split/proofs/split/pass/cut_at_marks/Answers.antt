@@ -2,11 +2,11 @@ use Rattle.std.proofs.Common.{◌≡◌, ◌∙◌, sym, ap, subst, length, ◌<
 use Rattle.std.specs.Prelude.{IsTrue}
 use Rattle.overlay_base.specs.Windings.{is_valid}
 use Rattle.overlay_split.proofs.laws.passes.CutSteps.{All-at}
-use Rattle.overlay_base.specs.PointOf.{point_of}
+use Rattle.overlay_geometry.specs.PointOf.{point_of}
 use Rattle.overlay_base.specs.HooksOf.{hooks_of}
 use Rattle.overlay_base.specs.SegmentOf.{segments_of, data_segments_of, data_segment_of, winding_of, ends_of}
-use Rattle.overlay_marks.specs.PlacingOf.{placing_of}
-use Rattle.overlay_marks.specs.MarkOf.{AreMarks, mark_of, marks_of, points_of, mark_points_of}
+use Rattle.overlay_intersections.specs.PlacingOf.{placing_of}
+use Rattle.overlay_intersections.specs.MarkOf.{AreMarks, mark_of, marks_of, points_of, mark_points_of}
 use Rattle.overlay_base.proofs.laws.joins.Views.{segments_of-bare}
 use Rattle.overlay_split.proofs.laws.passes.Ready.{IsSortedByKey-is_map, IsPairInRange-each, IsUsable-each, marks_tell}
 use Rattle.std.specs.Vec.{vec_len}

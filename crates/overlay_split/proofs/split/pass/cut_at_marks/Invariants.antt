@@ -1,8 +1,8 @@
 use Rattle.std.proofs.Common.{length}
 use Rattle.overlay_base.specs.HooksOf.{hooks_of}
 use Rattle.overlay_base.specs.SegmentOf.{data_segments_of}
-use Rattle.overlay_marks.specs.PlacingOf.{placing_of}
-use Rattle.overlay_marks.specs.MarkOf.{marks_of}
+use Rattle.overlay_intersections.specs.PlacingOf.{placing_of}
+use Rattle.overlay_intersections.specs.MarkOf.{marks_of}
 use Rattle.overlay_split.proofs.laws.passes.CutWalks.{IsCutSoFar, marks_in}
 use Rattle.overlay_split.proofs.split.pass.cut_at_marks.Given as goal
 

@@ -2,7 +2,7 @@ use Rattle.std.proofs.Common.{rules, ◌≡◌, ◌∙◌, sym, ap}
 use Rattle.overlay_base.specs.EdgeData.{data_join, without_data}
 use Rattle.overlay_base.specs.HooksOf.{hooks_of}
 use Rattle.overlay_base.specs.SegmentOf.{segments_of, data_segments_of}
-use Rattle.overlay_marks.specs.PlacingOf.{placing_of}
+use Rattle.overlay_intersections.specs.PlacingOf.{placing_of}
 use Rattle.overlay_split.specs.Pass.{cut, pass}
 use Rattle.overlay_split.specs.DataPass.{data_pass}
 use Rattle.overlay_split.proofs.laws.passes.DataPasses.{bare-data_pass}

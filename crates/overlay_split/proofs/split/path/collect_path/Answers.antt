@@ -1,10 +1,10 @@
 use Rattle.std.proofs.Common.{◌≡◌, ◌∙◌, take, drop, sym, ap, [], ◌∷◌, ◌++◌, Some}
 use Rattle.std.specs.Prelude.{slice_get}
 use Rattle.std.proofs.lemmas.List.{map-append}
-use Rattle.overlay_base.specs.PointOf.{point_of}
+use Rattle.overlay_geometry.specs.PointOf.{point_of}
 use Rattle.overlay_split.specs.Path.{run_through, last_point}
 use Rattle.overlay_split.specs.steps.PathSteps.{first_point}
-use Rattle.overlay_marks.specs.MarkOf.{points_of, mark_points_of}
+use Rattle.overlay_intersections.specs.MarkOf.{points_of, mark_points_of}
 use Rattle.overlay_split.proofs.laws.passes.Columns.{IsCollected-start, IsCollected-next, IsCollected-end, fewer, none_left}
 use Rattle.overlay_split.proofs.split.path.collect_path.Goals as goal
 

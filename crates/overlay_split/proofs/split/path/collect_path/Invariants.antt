@@ -1,6 +1,6 @@
 use Rattle.std.proofs.Common.{length}
-use Rattle.overlay_base.specs.PointOf.{point_of}
-use Rattle.overlay_marks.specs.MarkOf.{points_of, mark_points_of}
+use Rattle.overlay_geometry.specs.PointOf.{point_of}
+use Rattle.overlay_intersections.specs.MarkOf.{points_of, mark_points_of}
 use Rattle.overlay_split.proofs.laws.passes.Columns.{IsCollected}
 use Rattle.overlay_split.proofs.split.path.collect_path.Given as goal
 

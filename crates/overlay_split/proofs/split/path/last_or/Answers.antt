@@ -1,6 +1,6 @@
 use Rattle.std.proofs.Common.{◌∙◌, sym, ap}
 use Rattle.std.specs.Prelude.{unwrap_or}
-use Rattle.overlay_base.specs.PointOf.{point_of}
+use Rattle.overlay_geometry.specs.PointOf.{point_of}
 use Rattle.overlay_split.proofs.laws.passes.Columns.{last_point-read}
 use Rattle.overlay_split.proofs.split.path.last_or.Goals as goal
 

@@ -1,6 +1,6 @@
 use Rattle.std.proofs.Common.{◌≡◌, ◌+◌, ◌∙◌, length, map, drop, refl, sym, ap, subst, arith, append-nil, List, [], ◌∷◌, ◌++◌}
 use Rattle.std.proofs.lemmas.List.{map-append}
-use Rattle.overlay_base.specs.PointOf.{point_of}
+use Rattle.overlay_geometry.specs.PointOf.{point_of}
 use Rattle.overlay_base.specs.HooksOf.{hooks_of}
 use Rattle.overlay_base.specs.SegmentOf.{data_segment_of, data_segments_of}
 use Rattle.overlay_split.specs.Path.{LeadsOn, last_point}

@@ -1,8 +1,8 @@
 use Rattle.std.proofs.Common.{[], ◌∷◌, ◌++◌, drop}
-use Rattle.overlay_base.specs.PointOf.{point_of}
+use Rattle.overlay_geometry.specs.PointOf.{point_of}
 use Rattle.overlay_base.specs.HooksOf.{hooks_of}
 use Rattle.overlay_base.specs.SegmentOf.{data_segments_of}
-use Rattle.overlay_marks.specs.MarkOf.{points_of}
+use Rattle.overlay_intersections.specs.MarkOf.{points_of}
 use Rattle.overlay_split.specs.DataPass.{data_pieces}
 use Rattle.overlay_split.proofs.laws.passes.PieceSteps.{ArePushed}
 use Rattle.overlay_split.proofs.split.piece.push_pieces.Given as goal

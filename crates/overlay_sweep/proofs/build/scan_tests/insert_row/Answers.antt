@@ -1,5 +1,5 @@
 use Rattle.std.proofs.Common.{ap}
-use Rattle.overlay_base.specs.Points.{Pair}
+use Rattle.overlay_geometry.specs.Points.{Pair}
 use Rattle.overlay_sweep.proofs.laws.live.LevelRows.{row_free, row_added}
 use Rattle.overlay_sweep.proofs.build.scan_tests.insert_row.Goals as goal
 

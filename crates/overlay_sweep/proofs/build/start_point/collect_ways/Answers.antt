@@ -1,7 +1,7 @@
 use Rattle.std.proofs.Common.{◌≡◌, ◌∙◌, ◌∷◌, ◌++◌, [], List, ap, sym, arith, rules}
 use Rattle.std.proofs.lemmas.List.{map-append}
 use Rattle.std.proofs.lemmas.List.Sorted.{answers_always}
-use Rattle.overlay_base.specs.Below.{angle_cmp}
+use Rattle.overlay_geometry.specs.Below.{angle_cmp}
 use Rattle.overlay_base.specs.SegmentOf.{segment_of, segments_of}
 use Rattle.overlay_base.proofs.laws.lists.StableSorts.{sorted_by-is, map-stably_sorted}
 use Rattle.overlay_sweep.specs.steps.WayOf.{WholeWay, way_of, ways_of, ways_between, by_angle}

@@ -1,10 +1,10 @@
 use Rattle.std.proofs.Common.{◌≡◌, ◌∙◌, ap, sym, arith}
 use Rattle.std.proofs.lemmas.Bool.{both_ways}
-use Rattle.overlay_base.specs.PointOf.{point_of}
-use Rattle.overlay_base.specs.PairOf.{pair_of}
-use Rattle.overlay_base.specs.Points.{Pair, point_eq}
+use Rattle.overlay_geometry.specs.PointOf.{point_of}
+use Rattle.overlay_geometry.specs.PairOf.{pair_of}
+use Rattle.overlay_geometry.specs.Points.{Pair, point_eq}
 use Rattle.overlay_base.specs.SegmentOf.{segment_of}
-use Rattle.overlay_base.proofs.laws.geometry.Points.{same_by_eq, point_eq_same}
+use Rattle.overlay_geometry.proofs.laws.geometry.Points.{same_by_eq, point_eq_same}
 use Rattle.overlay_sweep.proofs.laws.live.StartPoints.{point_eq_is, pair_at, same_start_first, same_start_more}
 use Rattle.overlay_sweep.proofs.build.start_point.start_point_end.Goals as goal
 

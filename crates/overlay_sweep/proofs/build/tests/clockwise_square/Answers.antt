@@ -1,5 +1,5 @@
 use Rattle.std.proofs.Common.{◌∙◌, refl, [], ◌∷◌}
-use Rattle.overlay_base.specs.Coordinates.{least_coordinate, greatest_coordinate}
+use Rattle.overlay_geometry.specs.Coordinates.{least_coordinate, greatest_coordinate}
 use Rattle.overlay_base.specs.Planar.{is_arranged}
 use Rattle.overlay_base.proofs.examples.Computing.{computing}
 use Rattle.overlay_sweep.proofs.build.tests.clockwise_square.Goals as goal

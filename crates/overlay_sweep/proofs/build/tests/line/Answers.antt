@@ -1,5 +1,5 @@
 use Rattle.std.proofs.Common.{◌≡◌, ◌∙◌, ap, refl, true, to_z-of_z, FitsSigned, w32}
-use Rattle.overlay_base.specs.Points.{Point, point_lt}
+use Rattle.overlay_geometry.specs.Points.{Point, point_lt}
 use Rattle.overlay_base.specs.Windings.{Winding}
 use Rattle.overlay_base.specs.EdgeData.{Hooks, data_piece}
 use Rattle.overlay_sweep.specs.Sweep.{whole_of}

@@ -1,15 +1,15 @@
 use Rattle.std.proofs.Common.{◌≡◌, ◌∙◌, ◌<◌, ◌≤◌, ap, ap₂, sym, subst, arith, length}
 use Rattle.std.specs.Prelude.{◌≤ℤ◌}
 use Rattle.std.proofs.lemmas.List.{length-map}
-use Rattle.overlay_base.specs.Points.{Point}
+use Rattle.overlay_geometry.specs.Points.{Point}
 use Rattle.std.specs.Prelude.{ℤ, true, false, List, ◌∷◌}
 use Rattle.std.specs.ControlFlow.{break_value}
 use Rattle.overlay_base.specs.Windings.{add, weight, is_count_in_range}
 use Rattle.overlay_base.specs.EdgeData.{DataSegment, without_data}
-use Rattle.overlay_base.specs.PairOf.{pair_of}
+use Rattle.overlay_geometry.specs.PairOf.{pair_of}
 use Rattle.overlay_base.specs.Planar.{is_arranged}
 use Rattle.overlay_base.specs.declared.segm.segment.Segment.{Segment}
-use Rattle.overlay_base.specs.PointOf.{point_of}
+use Rattle.overlay_geometry.specs.PointOf.{point_of}
 use Rattle.overlay_base.specs.SegmentOf.{segment_of, segments_of, data_segment_of, data_segments_of, winding_of}
 use Rattle.overlay_sweep.specs.Sweep.{visits, visited, visits_leave_range}
 use Rattle.overlay_sweep.specs.Live.{sum_below}

@@ -1,11 +1,11 @@
 use Rattle.std.proofs.Common.{◌≡◌, ◌∙◌, ap, sym, refl, subst, arith}
 use Rattle.std.specs.Prelude.{◌≤ℤ◌}
 use Rattle.std.proofs.lemmas.Int.{ints}
-use Rattle.overlay_base.specs.Points.{Pair}
+use Rattle.overlay_geometry.specs.Points.{Pair}
 use Rattle.overlay_base.specs.Segments.{WholeSegment}
 use Rattle.overlay_base.specs.Windings.{add, weight}
-use Rattle.overlay_base.specs.PairOf.{pair_of}
-use Rattle.overlay_base.specs.VSegmentOf.{v_pair_of}
+use Rattle.overlay_geometry.specs.PairOf.{pair_of}
+use Rattle.overlay_geometry.specs.VSegmentOf.{v_pair_of}
 use Rattle.overlay_base.specs.SegmentOf.{ends_of, winding_of}
 use Rattle.overlay_sweep.proofs.laws.live.LiveSums.{HoldSameFrom-renamed, HoldSameFrom-vertical, vertical_same}
 use Rattle.overlay_sweep.proofs.build.visits.visit.Goals as goal

@@ -1,7 +1,7 @@
 use Rattle.std.proofs.Common.{◌≡◌, ◌-◌, ◌*◌, ◌≤◌, ◌^◌, arith, ap, ◌∙◌, min}
 use Rattle.std.specs.Prelude.{pos}
 use Rattle.overlay_base.specs.Radius.{exponent_of, exponent_cap}
-use Rattle.overlay_base.proofs.laws.geometry.Shifts.{shifted_one}
+use Rattle.overlay_geometry.proofs.laws.geometry.Shifts.{shifted_one}
 use Rattle.overlay_base.proofs.overlay_core.snap_radius.SnapRadius.radius_squared.Goals as goal
 
 pub returns : goal.returns

@@ -1,14 +1,14 @@
 use Rattle.std.proofs.Common.{◌≡◌, refl, sym, subst, ◌∙◌, rules, true, IsTrue}
 use Rattle.std.proofs.lemmas.Bool.{both_ways}
-use Rattle.overlay_base.specs.Points.{point_eq}
-use Rattle.overlay_base.specs.PointOf.{point_of}
+use Rattle.overlay_geometry.specs.Points.{point_eq}
+use Rattle.overlay_geometry.specs.PointOf.{point_of}
 use Rattle.overlay_base.specs.Windings.{Winding, is_valid}
 use Rattle.overlay_base.specs.BooleanWinding.{boolean_made}
 use Rattle.overlay_base.specs.ShapeWindings.{direct_winding}
 use Rattle.overlay_base.specs.declared.segm.shape_type.ShapeType.{ShapeType}
 use Rattle.overlay_base.specs.declared.segm.shape_type.ShapeType.TheVariants.{Subject, Clip}
-use Rattle.overlay_base.proofs.laws.geometry.Comparisons.{whole_eq}
-use Rattle.overlay_base.proofs.laws.geometry.Points.{same_by_eq, not_same, point_eq-parts}
+use Rattle.overlay_geometry.proofs.laws.geometry.Comparisons.{whole_eq}
+use Rattle.overlay_geometry.proofs.laws.geometry.Points.{same_by_eq, not_same, point_eq-parts}
 use Rattle.overlay_base.proofs.segm.segment.Segment+ShapeCountBoolean+I+D.try_ab_and_data.Goals as goal
 
 direct_is_valid : (shape_type : ShapeType) → IsTrue (is_valid (direct_winding boolean_made shape_type))

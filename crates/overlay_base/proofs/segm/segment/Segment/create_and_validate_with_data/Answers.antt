@@ -2,10 +2,10 @@ use Rattle.std.proofs.Common.{◌≡◌, sym, ◌∙◌, IsTrue, IsFalse}
 use Rattle.std.specs.Cmp.{Some-then}
 use Rattle.overlay_base.specs.EdgeData.{Hooks, data_piece}
 use Rattle.overlay_base.specs.Windings.{Winding}
-use Rattle.overlay_base.specs.Points.{Point, point_lt}
-use Rattle.overlay_base.specs.PointOf.{point_of}
+use Rattle.overlay_geometry.specs.Points.{Point, point_lt}
+use Rattle.overlay_geometry.specs.PointOf.{point_of}
 use Rattle.overlay_base.specs.HooksOf.{hooks_of}
-use Rattle.overlay_base.proofs.laws.geometry.Points.{not_before, by_UpTo, from_before}
+use Rattle.overlay_geometry.proofs.laws.geometry.Points.{not_before, by_UpTo, from_before}
 use Rattle.overlay_base.proofs.segm.segment.Segment.create_and_validate_with_data.Goals.{then-lt, else-lt}
 use Rattle.overlay_base.proofs.segm.segment.Segment.create_and_validate_with_data.Goals as goal
 

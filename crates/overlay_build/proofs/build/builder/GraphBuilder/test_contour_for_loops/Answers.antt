@@ -1,9 +1,9 @@
 use Rattle.std.proofs.Common.{◌∙◌, ap, map}
-use Rattle.overlay_base.specs.Points.{point_eq}
-use Rattle.overlay_base.specs.Sorting.{has_repeat}
+use Rattle.overlay_geometry.specs.Points.{point_eq}
+use Rattle.overlay_geometry.specs.Sorting.{has_repeat}
 use Rattle.std.proofs.lemmas.List.Sorted.{IsPermutation-map}
-use Rattle.overlay_base.specs.PointOf.{point_of}
-use Rattle.overlay_base.proofs.laws.geometry.Points.{point_cmp_total}
+use Rattle.overlay_geometry.specs.PointOf.{point_of}
+use Rattle.overlay_geometry.proofs.laws.geometry.Points.{point_cmp_total}
 use Rattle.overlay_build.proofs.laws.walks.ContourLoops.{has_repeat-IsPermutation}
 use Rattle.overlay_build.proofs.build.builder.GraphBuilder.test_contour_for_loops.Goals as goal
 

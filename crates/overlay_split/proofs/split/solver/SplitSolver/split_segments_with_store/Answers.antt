@@ -26,7 +26,7 @@ use Rattle.overlay_split.proofs.laws.passes.Splittable.{is_splittable-join}
 use Rattle.overlay_split.proofs.laws.passes.Ready.{IsPairInRange-each}
 use Rattle.overlay_split.proofs.laws.passes.RunLooks.{HasLooked-none, HasLooked-start, HasLooked-more}
 use Rattle.overlay_split.proofs.laws.passes.GridRuns.{run_lies_inside}
-use Rattle.overlay_marks.specs.GroupsOf.{grid_in}
+use Rattle.overlay_grid.specs.GroupsOf.{grid_in}
 use Rattle.overlay_split.proofs.split.solver.SplitSolver.split_segments_with_store.Goals as goal
 use Rattle.overlay_split.proofs.split.solver.SplitSolver.split_segments_with_store.Goals.{else-loop-test, then-loop-test+then-not-progress}
 

@@ -5,7 +5,7 @@ use Rattle.overlay_base.specs.SegmentOf.{segments_of, data_segments_of}
 use Rattle.overlay_base.specs.Radius.{exponent_of, step_of}
 use Rattle.overlay_split.specs.SettingsOf.{settings_of}
 use Rattle.overlay_split.specs.Potential.{potential}
-use Rattle.overlay_marks.specs.GroupsOf.{grid_in}
+use Rattle.overlay_grid.specs.GroupsOf.{grid_in}
 use Rattle.overlay_split.proofs.laws.passes.RunLooks.{HasLooked}
 use Rattle.overlay_split.proofs.laws.passes.Splitting.{IsAt}
 use Rattle.overlay_split.proofs.split.solver.SplitSolver.split_segments_with_store.Given as goal

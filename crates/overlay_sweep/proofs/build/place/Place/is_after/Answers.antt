@@ -1,6 +1,6 @@
 use Rattle.std.proofs.Common.{◌∙◌, ap, sym}
 use Rattle.std.specs.Ordering.{is_lt}
-use Rattle.overlay_base.specs.VSegmentOf.{v_pair_of}
+use Rattle.overlay_geometry.specs.VSegmentOf.{v_pair_of}
 use Rattle.overlay_sweep.specs.steps.PlaceOf.{stands_before}
 use Rattle.overlay_sweep.proofs.laws.live.Below.{is_below_point}
 use Rattle.overlay_sweep.proofs.build.place.Place.is_after.Goals as goal

@@ -3,12 +3,12 @@ use Rattle.std.specs.Prelude.{ℤ, Option, option_map, All, ◌≤ℤ◌}
 use Rattle.std.specs.Option.{option_map_or}
 use Rattle.std.proofs.lemmas.List.{length-map, take_all}
 use Rattle.std.specs.Ordering.{is_lt, ordering_then}
-use Rattle.overlay_base.specs.Below.{height_cmp, angle_cmp, under_segment_order}
-use Rattle.overlay_base.specs.Points.{Point}
-use Rattle.overlay_base.specs.PointOf.{point_of}
+use Rattle.overlay_geometry.specs.Below.{height_cmp, angle_cmp, under_segment_order}
+use Rattle.overlay_geometry.specs.Points.{Point}
+use Rattle.overlay_geometry.specs.PointOf.{point_of}
 use Rattle.overlay_base.specs.Segments.{WholeSegment}
 use Rattle.overlay_base.specs.Windings.{Winding}
-use Rattle.overlay_base.proofs.laws.lists.Lists.{filter-map, Has}
+use Rattle.overlay_geometry.proofs.laws.lists.Lists.{filter-map, Has}
 use Rattle.overlay_sweep.specs.EntryOf.{entry_of, entries_of}
 use Rattle.overlay_sweep.specs.Live.{HoldSameFrom, AreFreeAt}
 use Rattle.overlay_sweep.specs.Live.{sum_below}

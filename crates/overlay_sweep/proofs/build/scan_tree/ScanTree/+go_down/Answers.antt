@@ -1,7 +1,7 @@
 use Rattle.std.proofs.Common.{◌≡◌, ◌∙◌, ap, sym, arith, List, ◌<◌, length, get_or}
 use Rattle.std.specs.Prelude.{ℕ, ℤ, int_lt, Bool, true, false, map}
 use Rattle.overlay_base.specs.Segments.{WholeSegment}
-use Rattle.overlay_base.specs.Points.{Pair}
+use Rattle.overlay_geometry.specs.Points.{Pair}
 use Rattle.overlay_sweep.specs.EntryOf.{entry_of, entries_of}
 use Rattle.overlay_sweep.specs.steps.PlaceOf.{stands_before}
 use Rattle.overlay_sweep.specs.ScanTrees.{segment_at, lasts_past}

@@ -1,7 +1,7 @@
 use Rattle.std.proofs.Common.{ap, arith}
 use Rattle.std.proofs.lemmas.Int.{ints}
 use Rattle.overlay_base.specs.Segments.{WholeSegment}
-use Rattle.overlay_base.specs.VSegmentOf.{v_pair_of}
+use Rattle.overlay_geometry.specs.VSegmentOf.{v_pair_of}
 use Rattle.overlay_sweep.specs.EntryOf.{entry_of, entries_of}
 use Rattle.overlay_sweep.proofs.laws.tree.ScanGrowth.{scan_later}
 use Rattle.overlay_sweep.proofs.laws.tree.ScanAnswers.{pushed_grows, pushed_at, pushed_free, pushed_begun, pushed_live, pushed_room, pushed_short, pushed_sums, placed_scan, asked_by_insert}

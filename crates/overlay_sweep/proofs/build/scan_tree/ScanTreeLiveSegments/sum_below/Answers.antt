@@ -1,7 +1,7 @@
 use Rattle.std.proofs.Common.{List, ◌∙◌, ap, sym, arith, length}
 use Rattle.std.specs.Prelude.{ℕ, ◌<◌, map}
 use Rattle.std.proofs.lemmas.List.{length-map}
-use Rattle.overlay_base.specs.PointOf.{point_of}
+use Rattle.overlay_geometry.specs.PointOf.{point_of}
 use Rattle.overlay_base.specs.Segments.{WholeSegment}
 use Rattle.overlay_sweep.specs.EntryOf.{entry_of}
 use Rattle.overlay_sweep.proofs.laws.tree.ScanReads.{segment_read}

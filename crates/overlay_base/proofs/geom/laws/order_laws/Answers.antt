@@ -1,8 +1,0 @@
-use Rattle.overlay_base.proofs.laws.geometry.Points.{points_are_ordered, pairs_are_ordered}
-use Rattle.overlay_base.proofs.geom.laws.order_laws.Goals as goal
-
-pub returns-clause-points : goal.returns-clause-points
-returns-clause-points c = points_are_ordered
-
-pub returns-clause-pairs : goal.returns-clause-pairs
-returns-clause-pairs c = pairs_are_ordered

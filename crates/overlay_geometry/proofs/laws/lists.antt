@@ -1,0 +1,4 @@
+-- Lists, and keys in order.
+pub mod Lists
+pub mod Elements
+pub mod Keys

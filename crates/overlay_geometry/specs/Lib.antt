@@ -1,0 +1,14 @@
+pub mod Coordinates
+pub mod Sorting
+pub mod Points
+pub mod PointOf
+pub mod PairOf
+pub mod Turns
+pub mod Below
+pub mod VSegmentOf
+pub mod Ranges
+pub mod RangeOf
+pub mod VectorOf
+pub mod Meeting
+pub mod InRange
+pub mod Laws

@@ -1,0 +1,42 @@
+// Points with integer coordinates. Upstream: `i_float::int::point`.
+
+use crate::geom::vector::IntVector;
+use crate::num::OverlayInt;
+
+/// A point. Points are ordered by `x`, then by `y`.
+#[derive(Clone, Copy, Debug, PartialEq, Eq, PartialOrd, Ord)]
+pub struct IntPoint<I> {
+    /// How far to the right.
+    pub x: I,
+    /// How far up.
+    pub y: I,
+}
+
+impl<I: OverlayInt> IntPoint<I> {
+    ghost use Rattle.std.specs.Prelude.{◌≡◌, pos};
+    ghost use Rattle.overlay_geometry.specs.Points.{sqr_distance};
+    ghost use Rattle.overlay_geometry.specs.PointOf.{point_of};
+    ghost use Rattle.overlay_geometry.specs.InRange.{IsPointInRange};
+
+    /// The origin.
+    pub const ZERO: Self = IntPoint {
+        x: I::ZERO,
+        y: I::ZERO,
+    };
+
+    /// The point with these coordinates.
+    pub fn new(x: I, y: I) -> Self
+        ensures { point_of I.whole result ≡ record { x = I.whole x; y = I.whole y } }
+    {
+        IntPoint { x, y }
+    }
+
+    /// The squared distance to another point. Both have to be in range.
+    pub fn sqr_distance(self, other: Self) -> i64
+        requires own { IsPointInRange I.whole I.MIN_COORD I.MAX_COORD self }
+        requires other { IsPointInRange I.whole I.MIN_COORD I.MAX_COORD other }
+        ensures { result ≡ pos (sqr_distance (point_of I.whole self) (point_of I.whole other)) }
+    {
+        IntVector::between(self, other).sqr_length()
+    }
+}

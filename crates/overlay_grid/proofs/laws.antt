@@ -1,0 +1,2 @@
+-- The laws of the definitions, as lemmas that proofs here and in the crates above cite.
+pub mod grid

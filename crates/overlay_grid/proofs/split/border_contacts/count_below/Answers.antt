@@ -1,0 +1,16 @@
+use Rattle.std.proofs.Common.{rules}
+use Rattle.std.specs.Prelude.{int_lt}
+use Rattle.std.proofs.lemmas.List.Sorted.{IsPartitionPoint-from_clause}
+use Rattle.overlay_grid.proofs.laws.grid.BorderMarks.{parted_below, below, not_below}
+use Rattle.overlay_grid.proofs.split.border_contacts.count_below.Goals as goal
+
+pub returns : goal.returns
+returns g c =
+    let whole = g.I.OverlayInt.whole in
+    let sorted = simp g.met.I.OverlayInt.ordered at c.requires in
+    let parted = parted_below whole c.args.heights.now sorted (whole c.args.top) in
+    let point = IsPartitionPoint-from_clause (λ y. int_lt (whole y) (whole c.args.top)) c.args.heights.now c.partition_point.result c.partition_point.ensures.partitioned parted (λ a r f' h. search rules) in
+    record {
+      within = c.partition_point.ensures.bound;
+      parted = (λ k d low high. below _ _ (point.0 k d low high), λ k d low high. not_below _ _ (point.1 k d low high));
+    }

@@ -1,0 +1,12 @@
+// The grid, the fragments of segments in its columns, and the finder over them.
+
+mod axis;
+mod border_contacts;
+pub mod fragment;
+pub mod fragment_buffer;
+pub mod fragment_memory;
+pub mod grid_layout;
+pub mod laws;
+mod reach;
+mod rise;
+pub mod solver_fragment;

@@ -1,0 +1,37 @@
+// Along which axis the fragments of a column are looked through. This project's own; upstream goes along `y` alone.
+ghost use Rattle.std.specs.Prelude.{◌≡◌};
+ghost use Rattle.overlay_grid.specs.FragmentOf.{on_axis};
+
+use overlay_geometry::geom::rect::IntRect;
+use overlay_geometry::num::OverlayInt;
+
+/// One of the two axes.
+#[derive(Clone, Copy)]
+pub(crate) enum Axis {
+    /// From left to right.
+    X,
+    /// From the lowest up.
+    Y,
+}
+
+impl Axis {
+    /// Where a rectangle begins along this axis.
+    pub(crate) fn least<I: OverlayInt>(self, rect: &IntRect<I>) -> I
+        ensures { result ≡ on_axis self rect.now.min_x rect.now.min_y }
+    {
+        match self {
+            Axis::X => rect.min_x,
+            Axis::Y => rect.min_y,
+        }
+    }
+
+    /// Where it ends.
+    pub(crate) fn greatest<I: OverlayInt>(self, rect: &IntRect<I>) -> I
+        ensures { result ≡ on_axis self rect.now.max_x rect.now.max_y }
+    {
+        match self {
+            Axis::X => rect.max_x,
+            Axis::Y => rect.max_y,
+        }
+    }
+}

@@ -1,0 +1,51 @@
+// How many twos of fragments a scan of groups along an axis compares. This project's own.
+ghost use Rattle.std.specs.Prelude.{◌≡◌, ◌-◌, ◌^◌, ℕ, count_by, int_le, length, min};
+ghost use Rattle.overlay_grid.specs.FragmentOf.{fragment_of, fragments_of, least_along, IsSortedAlong};
+ghost use Rattle.overlay_grid.specs.GroupsOf.{group_in};
+ghost use Rattle.overlay_grid.specs.steps.FragmentFinder.{looks_of_group, looks_of_groups};
+
+use crate::split::axis::Axis;
+use crate::split::fragment::Fragment;
+use overlay_geometry::num::OverlayInt;
+
+/// How many twos of fragments a scan of groups along an axis compares: each fragment with those after it in its group
+/// that begin up to where it ends; `u64::MAX` if there are more. The groups have to be sorted along the axis.
+pub(crate) fn count_reached<I: OverlayInt>(groups: &[Vec<Fragment<I>>], axis: Axis) -> u64
+    requires sorted { (column : ℕ) → IsSortedAlong axis (group_in I.whole groups.now column) }
+    ensures { result ≡ min (looks_of_groups axis (group_in I.whole groups.now) (length groups.now)) (2 ^ 64 - 1) }
+{
+    let mut count = 0_u64;
+    for column in 0..groups.len() {
+        let own = count_in_group(groups[column].as_slice(), axis);
+        count = count.saturating_add(own);
+    }
+    count
+}
+
+/// The same of one group.
+fn count_in_group<I: OverlayInt>(group: &[Fragment<I>], axis: Axis) -> u64
+    requires sorted { IsSortedAlong axis (fragments_of I.whole group.now) }
+    ensures { result ≡ min (looks_of_group axis (fragments_of I.whole group.now)) (2 ^ 64 - 1) }
+{
+    let mut count = 0_u64;
+    for first in 0..group.len() {
+        let end = axis.greatest(&group[first].rect);
+        let own = count_begun(&group[first + 1..], end, axis);
+        count = count.saturating_add(own as u64);
+    }
+    count
+}
+
+/// How many fragments, which have to be sorted along an axis, begin up to a place on it.
+fn count_begun<I: OverlayInt>(group: &[Fragment<I>], end: I, axis: Axis) -> usize
+    requires sorted { IsSortedAlong axis (fragments_of I.whole group.now) }
+    ensures { result ≡ count_by (λ f. int_le (least_along axis f) (I.whole end)) (fragments_of I.whole group.now) }
+{
+    group.partition_point(|fragment| begins_by(fragment, end, axis))
+}
+
+fn begins_by<I: OverlayInt>(fragment: &Fragment<I>, end: I, axis: Axis) -> bool
+    ensures { result ≡ int_le (least_along axis (fragment_of I.whole fragment.now)) (I.whole end) }
+{
+    axis.least(&fragment.rect) <= end
+}

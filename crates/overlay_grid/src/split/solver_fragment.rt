@@ -1,0 +1,254 @@
+// The finder that looks at fragments of segments, column by column of a grid. Upstream: `split::solver_fragment`.
+ghost use Rattle.std.specs.Prelude.{◌≡◌, ◌≢◌, ◌^◌, min, ◌<◌, ◌≤◌, ◌+◌, ◌-◌, ◌++◌, ℕ, All, IsTrue, IfErr, IfOk, OnOk, IsSortedByKey, drop, length, int_lt, flat_map};
+ghost use Rattle.std.specs.List.{AllByRecursion, list_any, range_with_len};
+ghost use Rattle.overlay_base.specs.declared.segm.fault.Fault.TheVariants.{Memory};
+ghost use Rattle.overlay_geometry.specs.Points.{pair_lt};
+ghost use Rattle.overlay_base.specs.Segments.{pairs};
+ghost use Rattle.overlay_geometry.specs.PairOf.{pair_of};
+ghost use Rattle.overlay_base.specs.SegmentOf.{ends_of, segments_of, x_segment_of};
+ghost use Rattle.overlay_geometry.specs.InRange.{IsPairInRange};
+ghost use Rattle.overlay_grid.specs.GridLooks.{all_fragments, fragment_looks};
+ghost use Rattle.overlay_intersections.specs.PassMarks.{is_rounded};
+ghost use Rattle.overlay_intersections.specs.PlacingOf.{placing_of, HasRadius};
+ghost use Rattle.overlay_intersections.specs.MarkOf.{AreMarks, marks_of};
+ghost use Rattle.overlay_grid.specs.FragmentOf.{fragment_of, fragments_of, least_along, greatest_along, IsSortedAlong};
+ghost use Rattle.overlay_grid.specs.GroupsOf.{group_in, group_of, grid_of};
+ghost use Rattle.overlay_grid.specs.steps.FragmentFinder.{is_ready, kept_group, marks_of_two, marks_with_first, marks_of_group, meet_inexactly, is_first_rounded, is_group_rounded, looks_of_first, looks_of_group, looks_of_groups};
+ghost use Rattle.overlay_grid.specs.Grid.{IsInside};
+
+use crate::split::axis::Axis;
+use crate::split::border_contacts::mark_borders;
+use crate::split::fragment::Fragment;
+use crate::split::fragment_buffer::FragmentBuffer;
+use overlay_base::segm::fault::Fault;
+use overlay_base::segm::segment::Segment;
+use overlay_base::segm::winding::WindingCount;
+use overlay_geometry::geom::x_segment::XSegment;
+use overlay_geometry::num::OverlayInt;
+use overlay_intersections::split::line_mark::LineMark;
+use overlay_intersections::split::looks::take_up;
+use overlay_intersections::split::marking::{Indexed, mark_both};
+use overlay_intersections::split::placing::Placing;
+use std::alloc::AllocError;
+
+/// Finds the marks of a pass: the points at which each segment is to be split, each once, by rising index and then in
+/// order of points. Answers whether two segments cross at a point without whole coordinates, so that the pass rounds.
+///
+/// The segments have to be in range and inside the buffer's layout, and a squared radius at least 1. Those are looked
+/// at whose fragments meet in some column; a vertical segment on the left border of a column besides takes marks from
+/// the right ends in the column to its left. What `marks` and `buffer` held before is dropped.
+///
+/// Answers `Fault::Memory` where a growth is refused; `marks` is of no use then.
+pub fn find_marks<C: WindingCount, I: OverlayInt, D: Copy>(
+    segments: &[Segment<C, I, D>],
+    placing: Placing,
+    buffer: &mut FragmentBuffer<I>,
+    marks: &mut Vec<LineMark<I>>,
+    looked: &mut u128,
+) -> Result<bool, Fault>
+    requires in_range { All (λ s. IsPairInRange I.whole I.MIN_COORD I.MAX_COORD (x_segment_of s)) segments.now }
+    requires inside { All (λ s. IsInside (grid_of buffer.old) (ends_of s)) segments.now }
+    requires radius { HasRadius placing }
+    ensures layout { grid_of buffer.new ≡ grid_of buffer.old }
+    ensures marks { OnOk result (AreMarks (placing_of placing) (segments_of segments.now)
+        (marks_of I.whole marks.new.items)) }
+    ensures rounded { IfOk result (λ rounded. rounded ≡ is_rounded (segments_of segments.now)) }
+    ensures looked { OnOk result (looked.new ≤ looked.old
+        + fragment_looks (grid_of buffer.old) (pairs (segments_of segments.now))) }
+    ensures fault { IfErr result (λ fault. fault ≡ Memory) }
+{
+    marks.clear();
+    fill(segments, buffer)?;
+    let axis = buffer.sort();
+    let rounded = mark_columns(buffer.groups(), axis, placing, marks, looked)?;
+    mark_borders(buffer, marks, looked)?;
+    marks.sort()?;
+    marks.dedup();
+    Ok(rounded)
+}
+
+/// How many fragments segments have that lie inside the buffer's layout; `u128::MAX` if there are more.
+pub fn count_fragments<C: WindingCount, I: OverlayInt, D: Copy>(
+    segments: &[Segment<C, I, D>],
+    buffer: &FragmentBuffer<I>,
+) -> u128
+    requires { All (λ s. IsInside (grid_of buffer.now) (ends_of s)) segments.now }
+    ensures { result ≡ min (length (all_fragments (grid_of buffer.now) (pairs (segments_of segments.now))))
+        (2 ^ 128 - 1) }
+{
+    let mut count = 0_u128;
+    for index in 0..segments.len() {
+        let own = buffer.fragment_count(&segments[index].x_segment());
+        count = count.saturating_add(own as u128);
+    }
+    count
+}
+
+/// Empties the buffer, and adds the fragments of every segment. These have to be in range and inside the layout.
+fn fill<C: WindingCount, I: OverlayInt, D: Copy>(
+    segments: &[Segment<C, I, D>],
+    buffer: &mut FragmentBuffer<I>,
+) -> Result<(), Fault>
+    requires in_range { All (λ s. IsPairInRange I.whole I.MIN_COORD I.MAX_COORD (x_segment_of s)) segments.now }
+    requires inside { All (λ s. IsInside (grid_of buffer.old) (ends_of s)) segments.now }
+    ensures layout { grid_of buffer.new ≡ grid_of buffer.old }
+    ensures groups { OnOk result ((column : ℕ) → group_of buffer.new column
+        ≡ kept_group (grid_of buffer.old) 0 (pairs (segments_of segments.now)) column) }
+    ensures fault { IfErr result (λ fault. fault ≡ Memory) }
+{
+    buffer.clear();
+    for index in 0..segments.len() {
+        buffer.add_segment(index, segments[index].x_segment())?;
+    }
+    Ok(())
+}
+
+/// Appends the marks that segments put on one another of which two fragments meet in some column, and answers whether
+/// some two of these cross at a point without whole coordinates. The groups have to be sorted along the axis.
+fn mark_columns<I: OverlayInt>(
+    groups: &[Vec<Fragment<I>>],
+    axis: Axis,
+    placing: Placing,
+    marks: &mut Vec<LineMark<I>>,
+    looked: &mut u128,
+) -> Result<bool, AllocError>
+    requires radius { HasRadius placing }
+    requires ready { (column : ℕ) → AllByRecursion (λ f. IsTrue
+        (is_ready (I.whole I.MIN_COORD) (I.whole I.MAX_COORD) f)) (group_in I.whole groups.now column) }
+    requires sorted { (column : ℕ) → IsSortedAlong axis (group_in I.whole groups.now column) }
+    ensures marks { OnOk result (marks_of I.whole marks.new.items ≡ marks_of I.whole marks.old.items
+        ++ flat_map (λ column. marks_of_group (placing_of placing) (group_in I.whole groups.now column))
+        (range_with_len 0 (length groups.now))) }
+    ensures rounded { IfOk result (λ rounded. rounded ≡ list_any
+        (λ column. is_group_rounded (group_in I.whole groups.now column)) (range_with_len 0 (length groups.now))) }
+    ensures looked { OnOk result (looked.new ≤ looked.old
+        + looks_of_groups axis (group_in I.whole groups.now) (length groups.now)) }
+{
+    let mut rounded = false;
+    for column in 0..groups.len() {
+        if mark_group(groups[column].as_slice(), axis, placing, marks, looked)? {
+            rounded = true;
+        }
+    }
+    Ok(rounded)
+}
+
+/// Appends the marks that segments put on one another of which two fragments in a group meet, and answers whether some
+/// two of these cross at a point without whole coordinates. The group has to be sorted along the axis.
+fn mark_group<I: OverlayInt>(
+    group: &[Fragment<I>],
+    axis: Axis,
+    placing: Placing,
+    marks: &mut Vec<LineMark<I>>,
+    looked: &mut u128,
+) -> Result<bool, AllocError>
+    requires radius { HasRadius placing }
+    requires ready { AllByRecursion (λ f. IsTrue (is_ready (I.whole I.MIN_COORD) (I.whole I.MAX_COORD) f))
+        (fragments_of I.whole group.now) }
+    requires sorted { IsSortedAlong axis (fragments_of I.whole group.now) }
+    ensures marks { OnOk result (marks_of I.whole marks.new.items ≡ marks_of I.whole marks.old.items
+        ++ marks_of_group (placing_of placing) (fragments_of I.whole group.now)) }
+    ensures rounded { IfOk result (λ rounded. rounded ≡ is_group_rounded (fragments_of I.whole group.now)) }
+    ensures looked { OnOk result (looked.new ≤ looked.old + looks_of_group axis (fragments_of I.whole group.now)) }
+{
+    let mut rounded = false;
+    for first in 0..group.len() {
+        if mark_with_rest(group, first, axis, placing, marks, looked)? {
+            rounded = true;
+        }
+    }
+    Ok(rounded)
+}
+
+/// The same of one fragment and those that follow it, up to the first that begins past its end along the axis.
+fn mark_with_rest<I: OverlayInt>(
+    group: &[Fragment<I>],
+    first: usize,
+    axis: Axis,
+    placing: Placing,
+    marks: &mut Vec<LineMark<I>>,
+    looked: &mut u128,
+) -> Result<bool, AllocError>
+    requires first { first < length group.now }
+    requires radius { HasRadius placing }
+    requires ready { AllByRecursion (λ f. IsTrue (is_ready (I.whole I.MIN_COORD) (I.whole I.MAX_COORD) f))
+        (fragments_of I.whole group.now) }
+    requires sorted { IsSortedAlong axis (fragments_of I.whole group.now) }
+    ensures marks { OnOk result (marks_of I.whole marks.new.items ≡ marks_of I.whole marks.old.items
+        ++ marks_with_first (placing_of placing) (drop first (fragments_of I.whole group.now))) }
+    ensures rounded { IfOk result (λ rounded. rounded ≡ is_first_rounded
+        (drop first (fragments_of I.whole group.now))) }
+    ensures looked { OnOk result (looked.new ≤ looked.old
+        + looks_of_first axis (drop first (fragments_of I.whole group.now))) }
+{
+    let fragment = group[first];
+    let mut rounded = false;
+    // a count of its own, so that no look is written through the reference
+    let mut looks = *looked;
+    for later in first + 1..group.len() {
+        let other = group[later];
+        if begins_past(&other, &fragment, axis) {
+            break;
+        }
+        take_up(&mut looks);
+        if mark_two(&fragment, &other, placing, marks)? {
+            rounded = true;
+        }
+    }
+    *looked = looks;
+    Ok(rounded)
+}
+
+/// Whether a fragment begins past the end of another along an axis.
+fn begins_past<I: OverlayInt>(other: &Fragment<I>, fragment: &Fragment<I>, axis: Axis) -> bool
+    ensures { result ≡ int_lt (greatest_along axis (fragment_of I.whole fragment.now))
+        (least_along axis (fragment_of I.whole other.now)) }
+{
+    axis.greatest(&fragment.rect) < axis.least(&other.rect)
+}
+
+/// Appends the marks that the segments of two fragments put on one another, if the rectangles meet, and answers whether
+/// they cross at a point without whole coordinates. The smaller pair of ends is the target.
+fn mark_two<I: OverlayInt>(
+    fragment: &Fragment<I>,
+    other: &Fragment<I>,
+    placing: Placing,
+    marks: &mut Vec<LineMark<I>>,
+) -> Result<bool, AllocError>
+    requires radius { HasRadius placing }
+    requires fragment { IsPairInRange I.whole I.MIN_COORD I.MAX_COORD fragment.now.x_segment }
+    requires other { IsPairInRange I.whole I.MIN_COORD I.MAX_COORD other.now.x_segment }
+    requires fragment_apart { (pair_of I.whole fragment.now.x_segment).a ≢ (pair_of I.whole fragment.now.x_segment).b }
+    requires other_apart { (pair_of I.whole other.now.x_segment).a ≢ (pair_of I.whole other.now.x_segment).b }
+    ensures marks { OnOk result (marks_of I.whole marks.new.items ≡ marks_of I.whole marks.old.items
+        ++ marks_of_two (placing_of placing) (fragment_of I.whole fragment.now) (fragment_of I.whole other.now)) }
+    ensures rounded { IfOk result (λ rounded. rounded ≡ meet_inexactly (fragment_of I.whole fragment.now)
+        (fragment_of I.whole other.now)) }
+{
+    if !fragment.rect.is_intersect_border_include(&other.rect) {
+        return Ok(false);
+    }
+    let left = indexed(fragment);
+    let right = indexed(other);
+    if is_before(&fragment.x_segment, &other.x_segment) {
+        mark_both(left, right, placing, marks)
+    } else {
+        mark_both(right, left, placing, marks)
+    }
+}
+
+fn indexed<I: OverlayInt>(fragment: &Fragment<I>) -> Indexed<I>
+    ensures index { result.index ≡ fragment.now.index }
+    ensures x_segment { result.x_segment ≡ fragment.now.x_segment }
+{
+    Indexed {
+        index: fragment.index,
+        x_segment: fragment.x_segment,
+    }
+}
+
+fn is_before<I: OverlayInt>(left: &XSegment<I>, right: &XSegment<I>) -> bool
+    ensures { result ≡ pair_lt (pair_of I.whole left.now) (pair_of I.whole right.now) }
+{
+    left < right
+}

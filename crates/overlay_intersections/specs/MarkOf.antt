@@ -1,0 +1,38 @@
+-- Marks as whole numbers.
+use Rattle.std.specs.Prelude.{◌≡◌, ℕ, ◌<◌, ◌==◌, ℤ, List, All, map, filter, length, slice_index_or, IsSortedByKey}
+use Rattle.std.specs.Ordering.{nat_cmp}
+use Rattle.overlay_geometry.specs.Points.{Point}
+use Rattle.overlay_base.specs.Segments.{WholeSegment}
+use Rattle.overlay_intersections.specs.Marks.{Placing}
+use Rattle.overlay_intersections.specs.PassMarks.{marks_on}
+use Rattle.overlay_geometry.specs.PointOf.{point_of}
+use Rattle.overlay_geometry.specs.declared.geom.point.IntPoint.{IntPoint}
+use Rattle.overlay_intersections.specs.declared.split.line_mark.LineMark.{LineMark}
+
+abbrev pub points_of : {I : Type 0} → (I → ℤ) → List (IntPoint I) → List Point
+points_of whole points = map (point_of whole) points
+
+-- the points of marks, as they stand
+abbrev pub mark_points_of : {I : Type 0} → (I → ℤ) → List (LineMark I) → List Point
+mark_points_of whole marks = map (λ m. point_of whole m.point) marks
+
+-- a mark: the index of a segment, and a point at which it is split
+pub record Mark : Type 0 where
+  pub index : ℕ
+  pub point : Point
+
+abbrev pub mark_of : {I : Type 0} → (I → ℤ) → LineMark I → Mark
+mark_of whole m = record { index = m.index; point = point_of whole m.point }
+
+abbrev pub marks_of : {I : Type 0} → (I → ℤ) → List (LineMark I) → List Mark
+marks_of whole marks = map (mark_of whole) marks
+
+-- the points of the marks with an index, as they stand
+abbrev pub points_at : ℕ → List Mark → List Point
+points_at index marks = map (λ m. m.point) (filter (λ m. m.index == index) marks)
+
+-- marks by rising index, those of each segment the marks that a pass makes on its pair, in order of points
+pub record AreMarks (placing : Placing) (segments : List WholeSegment) (marks : List Mark) : Type 0 where
+  pub in_order : IsSortedByKey (λ m. m.index) nat_cmp marks
+  pub within : All (λ m. m.index < length segments) marks
+  pub each : (index : ℕ) (d : WholeSegment) → index < length segments → points_at index marks ≡ marks_on placing segments (slice_index_or segments index d).pair

@@ -1,0 +1,102 @@
+// What the sides on which the ends of two segments lie tell of their meeting. Upstream: `cross` of
+// `split::cross_solver`. Whether they meet `segm::apart` tells another way, so that the test of an answer does not
+// depend on this code.
+ghost use Rattle.std.specs.Prelude.{◌≡◌, ◌≢◌, false};
+ghost use Rattle.overlay_geometry.specs.PairOf.{pair_of};
+ghost use Rattle.overlay_geometry.specs.InRange.{IsPairInRange};
+ghost use Rattle.overlay_intersections.specs.steps.ContactOf.{AreSides, IsContact, zeros_of, leave_no_contact};
+
+use crate::split::cross::result::{CrossResult, CrossType};
+use overlay_geometry::geom::point::IntPoint;
+use overlay_geometry::geom::triangle::Triangle;
+use overlay_geometry::geom::x_segment::XSegment;
+use overlay_geometry::num::OverlayInt;
+
+/// The directions of the other's ends from the target, and of the target's ends from the other.
+#[derive(Clone, Copy)]
+struct Sides {
+    other_a: i64,
+    other_b: i64,
+    target_a: i64,
+    target_b: i64,
+}
+
+/// What the sides tell of two segments.
+#[derive(Clone, Copy)]
+pub enum Contact<I> {
+    /// They have no point in common, or only ends.
+    Apart,
+    /// They meet in an end of one, or lie on one line.
+    At(CrossResult<I>),
+    /// They cross strictly inside both.
+    Crossing,
+}
+
+/// What the sides tell of two segments, the ends of each apart. Three of the four turns are never 0 without the fourth.
+pub fn contact_of<I: OverlayInt>(target: &XSegment<I>, other: &XSegment<I>) -> Contact<I>
+    requires target { IsPairInRange I.whole I.MIN_COORD I.MAX_COORD target.now }
+    requires other { IsPairInRange I.whole I.MIN_COORD I.MAX_COORD other.now }
+    requires target_apart { (pair_of I.whole target.now).a ≢ (pair_of I.whole target.now).b }
+    requires other_apart { (pair_of I.whole other.now).a ≢ (pair_of I.whole other.now).b }
+    ensures { IsContact I.whole (pair_of I.whole target.now) (pair_of I.whole other.now) result }
+{
+    let sides = sides_of(target, other);
+    let zeros = sides.zeros();
+    if zeros == 4 {
+        at(IntPoint::new(I::ZERO, I::ZERO), CrossType::Overlay)
+    } else if sides.leave_no_contact() {
+        Contact::Apart
+    } else if zeros == 0 {
+        Contact::Crossing
+    } else if sides.other_a == 0 {
+        at(other.a, CrossType::OtherEnd)
+    } else if sides.other_b == 0 {
+        at(other.b, CrossType::OtherEnd)
+    } else if sides.target_a == 0 {
+        at(target.a, CrossType::TargetEnd)
+    } else {
+        at(target.b, CrossType::TargetEnd)
+    }
+}
+
+fn at<I: OverlayInt>(point: IntPoint<I>, cross_type: CrossType) -> Contact<I>
+    ensures { result ≡ Contact.At (record { point = point; cross_type = cross_type; is_round = false }) }
+{
+    Contact::At(CrossResult {
+        point,
+        cross_type,
+        is_round: false,
+    })
+}
+
+fn sides_of<I: OverlayInt>(target: &XSegment<I>, other: &XSegment<I>) -> Sides
+    requires target { IsPairInRange I.whole I.MIN_COORD I.MAX_COORD target.now }
+    requires other { IsPairInRange I.whole I.MIN_COORD I.MAX_COORD other.now }
+    ensures { AreSides (pair_of I.whole target.now) (pair_of I.whole other.now) result }
+{
+    Sides {
+        other_a: Triangle::clock_direction(target.a, target.b, other.a),
+        other_b: Triangle::clock_direction(target.a, target.b, other.b),
+        target_a: Triangle::clock_direction(other.a, other.b, target.a),
+        target_b: Triangle::clock_direction(other.a, other.b, target.b),
+    }
+}
+
+impl Sides {
+    /// How many ends lie on the line of the other segment.
+    fn zeros(self) -> u32
+        ensures { result ≡ zeros_of self }
+    {
+        u32::from(self.other_a == 0)
+            + u32::from(self.other_b == 0)
+            + u32::from(self.target_a == 0)
+            + u32::from(self.target_b == 0)
+    }
+
+    /// Whether an end is shared, or both ends of one lie on the same side of the other.
+    fn leave_no_contact(self) -> bool
+        ensures { result ≡ leave_no_contact self }
+    {
+        self.zeros() > 1 || self.other_a == self.other_b || self.target_a == self.target_b
+    }
+}

@@ -1,0 +1,118 @@
+// The marks that two segments put on one another. Upstream: `split::solver_list` and its callers.
+ghost use Rattle.std.specs.Prelude.{◌≡◌, ◌≢◌, ◌<◌, ◌+◌, ◌-◌, ◌++◌, [], ◌∷◌, if◌then◌else◌, IfOk, OnOk, IsTrue, IsFalse};
+ghost use Rattle.overlay_geometry.specs.Points.{pair_lt};
+ghost use Rattle.overlay_geometry.specs.Meeting.{are_collinear};
+ghost use Rattle.overlay_geometry.specs.PointOf.{point_of};
+ghost use Rattle.overlay_geometry.specs.PairOf.{pair_of};
+ghost use Rattle.overlay_geometry.specs.InRange.{IsPairInRange};
+ghost use Rattle.overlay_intersections.specs.Marks.{cross_inexactly};
+ghost use Rattle.overlay_intersections.specs.PlacingOf.{placing_of, HasRadius};
+ghost use Rattle.overlay_intersections.specs.MarkOf.{marks_of};
+ghost use Rattle.overlay_intersections.specs.MarksBetween.{marks_at, marks_of_overlap, marks_between};
+
+use crate::split::cross_solver::{CrossSolver, CrossType};
+use crate::split::line_mark::LineMark;
+use crate::split::placing::Placing;
+use overlay_geometry::geom::point::IntPoint;
+use overlay_geometry::geom::x_segment::XSegment;
+use overlay_geometry::num::OverlayInt;
+use std::alloc::AllocError;
+
+/// A segment of a list, with its index there.
+#[derive(Clone, Copy)]
+pub struct Indexed<I> {
+    /// The index in the list of the pass.
+    pub index: usize,
+    /// The segment.
+    pub x_segment: XSegment<I>,
+}
+
+/// Appends the marks that two segments put on one another, and answers whether they cross at a point without whole
+/// coordinates. The first is the target, and may not stand after the second.
+pub fn mark_both<I: OverlayInt>(
+    first: Indexed<I>,
+    second: Indexed<I>,
+    placing: Placing,
+    marks: &mut Vec<LineMark<I>>,
+) -> Result<bool, AllocError>
+    requires radius { HasRadius placing }
+    requires first { IsPairInRange I.whole I.MIN_COORD I.MAX_COORD first.x_segment }
+    requires second { IsPairInRange I.whole I.MIN_COORD I.MAX_COORD second.x_segment }
+    requires first_apart { (pair_of I.whole first.x_segment).a ≢ (pair_of I.whole first.x_segment).b }
+    requires second_apart { (pair_of I.whole second.x_segment).a ≢ (pair_of I.whole second.x_segment).b }
+    requires order { IsFalse (pair_lt (pair_of I.whole second.x_segment) (pair_of I.whole first.x_segment)) }
+    ensures marks { OnOk result (marks_of I.whole marks.new.items ≡ marks_of I.whole marks.old.items
+        ++ marks_between (placing_of placing) first.index (pair_of I.whole first.x_segment)
+        second.index (pair_of I.whole second.x_segment)) }
+    ensures rounded { IfOk result (λ rounded. rounded ≡ cross_inexactly (pair_of I.whole first.x_segment)
+        (pair_of I.whole second.x_segment)) }
+{
+    let Some(result) = placing.meet(&first.x_segment, &second.x_segment) else {
+        return Ok(false);
+    };
+    match result.cross_type {
+        CrossType::Pure => {
+            mark(first.index, result.point, marks)?;
+            mark(second.index, result.point, marks)?;
+        }
+        CrossType::TargetEnd => mark(second.index, result.point, marks)?,
+        CrossType::OtherEnd => mark(first.index, result.point, marks)?,
+        CrossType::Overlay => mark_overlap(first, second, marks)?,
+    }
+    Ok(result.is_round)
+}
+
+/// Appends marks at those ends of each that lie strictly inside the other, of two segments on one line.
+fn mark_overlap<I: OverlayInt>(
+    first: Indexed<I>,
+    second: Indexed<I>,
+    marks: &mut Vec<LineMark<I>>,
+) -> Result<(), AllocError>
+    requires first { IsPairInRange I.whole I.MIN_COORD I.MAX_COORD first.x_segment }
+    requires second { IsPairInRange I.whole I.MIN_COORD I.MAX_COORD second.x_segment }
+    requires first_apart { (pair_of I.whole first.x_segment).a ≢ (pair_of I.whole first.x_segment).b }
+    requires second_apart { (pair_of I.whole second.x_segment).a ≢ (pair_of I.whole second.x_segment).b }
+    requires line { IsTrue (are_collinear (pair_of I.whole first.x_segment) (pair_of I.whole second.x_segment)) }
+    ensures { OnOk result (marks_of I.whole marks.new.items ≡ marks_of I.whole marks.old.items
+        ++ marks_of_overlap first.index (pair_of I.whole first.x_segment)
+        second.index (pair_of I.whole second.x_segment)) }
+{
+    let target = first.x_segment;
+    let other = second.x_segment;
+    let mask = CrossSolver::collinear(&target, &other);
+    mark_if(mask.is_other_a, first.index, other.a, marks)?;
+    mark_if(mask.is_other_b, first.index, other.b, marks)?;
+    mark_if(mask.is_target_a, second.index, target.a, marks)?;
+    mark_if(mask.is_target_b, second.index, target.b, marks)?;
+    Ok(())
+}
+
+/// Appends a mark where the point lies inside.
+fn mark_if<I: OverlayInt>(
+    is_inside: bool,
+    index: usize,
+    point: IntPoint<I>,
+    marks: &mut Vec<LineMark<I>>,
+) -> Result<(), AllocError>
+    ensures { OnOk result (marks_of I.whole marks.new.items ≡ marks_of I.whole marks.old.items
+        ++ (if is_inside then marks_at index (point_of I.whole point ∷ []) else [])) }
+{
+    if is_inside {
+        mark(index, point, marks)
+    } else {
+        Ok(())
+    }
+}
+
+/// Appends one mark.
+pub fn mark<I: OverlayInt>(
+    index: usize,
+    point: IntPoint<I>,
+    marks: &mut Vec<LineMark<I>>,
+) -> Result<(), AllocError>
+    ensures { OnOk result (marks_of I.whole marks.new.items ≡ marks_of I.whole marks.old.items
+        ++ marks_at index (point_of I.whole point ∷ [])) }
+{
+    marks.push(LineMark { index, point })?;
+    Ok(())
+}

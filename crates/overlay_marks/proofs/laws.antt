@@ -1,6 +1,0 @@
--- The laws of the definitions, as lemmas that proofs here and in the crates above cite.
-pub mod crossings
-pub mod marks
-pub mod list
-pub mod tree
-pub mod grid

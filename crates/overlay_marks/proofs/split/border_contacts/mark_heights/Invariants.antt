@@ -1,8 +1,0 @@
-use Rattle.std.proofs.Common.{drop, map}
-use Rattle.overlay_marks.specs.MarkOf.{marks_of}
-use Rattle.overlay_marks.specs.FragmentOf.{fragment_of}
-use Rattle.overlay_marks.proofs.laws.grid.BorderMarks.{AreHeightsSeen}
-use Rattle.overlay_marks.proofs.split.border_contacts.mark_heights.Given as goal
-
-abbrev pub invariant-loop-place : goal.invariant-loop-place
-invariant-loop-place g l = AreHeightsSeen (fragment_of g.I.OverlayInt.whole l.vertical) (map g.I.OverlayInt.whole l.heights) (marks_of g.I.OverlayInt.whole l.fn.marks.items) (marks_of g.I.OverlayInt.whole l.marks.items) l.fn.looked l.looked (drop l.place (map g.I.OverlayInt.whole l.heights))

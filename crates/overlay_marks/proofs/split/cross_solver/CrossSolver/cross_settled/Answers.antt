@@ -1,9 +1,0 @@
-use Rattle.std.proofs.Common.{sym, ◌∙◌}
-use Rattle.overlay_base.specs.PairOf.{pair_of}
-use Rattle.overlay_marks.specs.Marks.{settling}
-use Rattle.overlay_marks.proofs.laws.crossings.AnswerMarks.{answer_of_crossing}
-use Rattle.overlay_marks.proofs.split.cross_solver.CrossSolver.cross_settled.Goals as goal
-
-pub returns-in-Crossing : goal.returns-in-Crossing
-returns-in-Crossing g c =
-    sym (answer_of_crossing settling (pair_of g.I.OverlayInt.whole c.args.target.now) (pair_of g.I.OverlayInt.whole c.args.other.now) c.in-Crossing.ensures ∙ c.settled.ensures)

@@ -1,9 +1,0 @@
-use Rattle.std.proofs.Common.{drop}
-use Rattle.overlay_marks.specs.steps.IntervalTree.{entries}
-use Rattle.overlay_marks.specs.steps.NodeOf.{nodes_of, query_of}
-use Rattle.overlay_marks.proofs.laws.tree.TreeCuts.{IsLookedThrough}
-use Rattle.overlay_marks.proofs.split.few_entries.look_through.Given as goal
-
-abbrev pub invariant-loop-place : goal.invariant-loop-place
-invariant-loop-place g l =
-    IsLookedThrough (query_of g.I.OverlayInt.whole l.query) (entries (nodes_of g.I.OverlayInt.whole l.nodes)) l.fn.indexes.items l.indexes.items l.fn.looked l.looked (drop l.place (entries (nodes_of g.I.OverlayInt.whole l.nodes)))

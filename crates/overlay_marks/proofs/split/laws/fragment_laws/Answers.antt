@@ -1,5 +1,0 @@
-use Rattle.overlay_marks.proofs.laws.grid.GridFragments.{fragments_enclose}
-use Rattle.overlay_marks.proofs.split.laws.fragment_laws.Goals as goal
-
-pub returns : goal.returns
-returns c = fragments_enclose

@@ -1,5 +1,0 @@
-use Rattle.overlay_marks.proofs.laws.crossings.RoundingMeanings.{roundings_are_as_meant}
-use Rattle.overlay_marks.proofs.split.laws.rounding_laws.Goals as goal
-
-pub returns : goal.returns
-returns c = roundings_are_as_meant

@@ -1,7 +1,0 @@
-use Rattle.std.proofs.Common.{drop}
-use Rattle.overlay_marks.specs.FragmentOf.{fragments_of}
-use Rattle.overlay_marks.proofs.laws.grid.GridReach.{IsReaching}
-use Rattle.overlay_marks.proofs.split.reach.count_in_group.Given as goal
-
-abbrev pub invariant-loop-first : goal.invariant-loop-first
-invariant-loop-first g l = let fs = fragments_of g.I.OverlayInt.whole l.group in IsReaching l.axis fs l.count (drop l.first fs)

@@ -1,7 +1,0 @@
-use Rattle.std.proofs.Common.{◌≡◌, ◌-◌, ◌^◌, min}
-use Rattle.overlay_marks.specs.GroupsOf.{group_in}
-use Rattle.overlay_marks.specs.steps.FragmentFinder.{looks_of_groups}
-use Rattle.overlay_marks.proofs.split.reach.count_reached.Given as goal
-
-abbrev pub invariant-loop-column : goal.invariant-loop-column
-invariant-loop-column g l = l.count ≡ min (looks_of_groups l.axis (group_in g.I.OverlayInt.whole l.groups) l.column) (2 ^ 64 - 1)

@@ -1,9 +1,0 @@
-use Rattle.std.proofs.Common.{drop}
-use Rattle.overlay_marks.specs.PlacingOf.{placing_of}
-use Rattle.overlay_marks.specs.MarkOf.{marks_of}
-use Rattle.overlay_marks.specs.FragmentOf.{fragments_of}
-use Rattle.overlay_marks.proofs.laws.grid.FoundFragments.{IsSearched}
-use Rattle.overlay_marks.proofs.split.solver_fragment.mark_group.Given as goal
-
-abbrev pub invariant-loop-first : goal.invariant-loop-first
-invariant-loop-first g l = IsSearched (placing_of l.placing) l.axis (fragments_of g.I.OverlayInt.whole l.group) (marks_of g.I.OverlayInt.whole l.fn.marks.items) (marks_of g.I.OverlayInt.whole l.marks.items) l.rounded l.fn.looked l.looked (drop l.first (fragments_of g.I.OverlayInt.whole l.group))

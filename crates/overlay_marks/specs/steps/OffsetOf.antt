@@ -1,7 +1,0 @@
--- An offset as a quotient of whole numbers.
-use Rattle.std.specs.Prelude.{unsigned_abs}
-use Rattle.overlay_marks.specs.Crossing.{Quotient}
-use Rattle.overlay_marks.specs.declared.split.cross.offset.Offset.{Offset}
-
-abbrev pub quotient_of : Offset → Quotient
-quotient_of offset = record { top = offset.top; bottom = unsigned_abs offset.bottom }

@@ -1,5 +1,0 @@
-// Where segments meet, and what a pass finds there: crossings, and the marks at which segments are to be cut. Modules
-// are named as in upstream, but for those that docs/DIFFERENCES.md tells.
-#![tactic(auto)]
-
-pub mod split;

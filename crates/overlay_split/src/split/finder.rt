@@ -1,0 +1,200 @@
+// How the passes of a run find the segments that meet.
+ghost use Rattle.std.specs.Prelude.{◌≡◌, ◌≤◌, ◌+◌, All, None, IfErr, IfOk, OnOk, IsFalse, IsSortedByKey, length};
+ghost use Rattle.overlay_base.specs.declared.segm.fault.Fault.TheVariants.{Memory};
+ghost use Rattle.overlay_geometry.specs.Points.{pair_cmp};
+ghost use Rattle.overlay_base.specs.Segments.{pairs};
+ghost use Rattle.overlay_base.specs.SegmentOf.{ends_of, segments_of, x_segment_of};
+ghost use Rattle.overlay_geometry.specs.InRange.{IsPairInRange};
+ghost use Rattle.overlay_base.specs.Choices.{list_splits};
+ghost use Rattle.overlay_intersections.specs.PassMarks.{is_rounded};
+ghost use Rattle.overlay_intersections.specs.PlacingOf.{placing_of, HasRadius};
+ghost use Rattle.overlay_intersections.specs.MarkOf.{AreMarks, marks_of};
+ghost use Rattle.overlay_grid.specs.GridLooks.{grid_looks};
+ghost use Rattle.overlay_split.specs.PassLooks.{pass_looks};
+ghost use Rattle.overlay_grid.specs.Grid.{IsInside, LieInside};
+ghost use Rattle.overlay_grid.specs.GroupsOf.{grid_in, grid_of};
+ghost use Rattle.overlay_split.specs.FinderOf.{solver_in, layout_in, looks_in};
+ghost use Rattle.overlay_grid.specs.GridFor.{IsGridFor};
+
+use overlay_base::overlay_core::solver::Solver;
+use overlay_base::segm::fault::Fault;
+use overlay_base::segm::segment::Segment;
+use overlay_base::segm::winding::WindingCount;
+use overlay_geometry::num::OverlayInt;
+use overlay_grid::split::fragment_buffer::FragmentBuffer;
+use overlay_grid::split::fragment_memory::FragmentMemory;
+use overlay_grid::split::grid_layout::GridLayout;
+use overlay_grid::split::solver_fragment;
+use overlay_grid::split::solver_fragment::count_fragments;
+use overlay_intersections::split::line_mark::LineMark;
+use overlay_intersections::split::placing::Placing;
+use overlay_tree::split::solver_tree::TreeBuffers;
+use overlay_tree::split::solver_tree_within::find_marks_within;
+use overlay_tree::split::{solver_list, solver_tree};
+use std::alloc::Global;
+use std::mem::replace;
+
+/// So many fragments a segment are many.
+const MANY_FRAGMENTS: u128 = 4;
+
+/// What the passes of one run find the segments that meet by: a look at all pairs of a list, a tree over their heights,
+/// or the columns of a grid. The marks are the same.
+#[derive(Drop)]
+pub struct PairFinder<I: OverlayInt> {
+    solver: Solver,
+    grid: Option<FragmentBuffer<I>>,
+    looked: u128,
+}
+
+impl<I: OverlayInt> PairFinder<I> {
+    /// For a run whose first arrangement is this, which has to be in range: over a grid, where the solver asks for one,
+    /// and not for a list, and these segments are wide enough. The grid takes the memory that is lent.
+    ///
+    /// Answers `Fault::Memory` where a growth is refused.
+    pub fn new<C: WindingCount, D: Copy>(
+        alloc: Global,
+        solver: &Solver,
+        first: &[Segment<C, I, D>],
+        memory: &mut FragmentMemory<I>,
+    ) -> Result<Self, Fault>
+        requires { All (λ s. IsPairInRange I.whole I.MIN_COORD I.MAX_COORD (x_segment_of s)) first.now }
+        ensures solver { IfOk result (λ finder. solver_in finder ≡ solver.now) }
+        ensures grid { IfOk result (λ finder. IsGridFor solver.now.strategy (segments_of first.now)
+            (layout_in finder)) }
+        ensures looked { IfOk result (λ finder. looks_in finder ≡ 0) }
+        ensures fault { IfErr result (λ fault. fault ≡ Memory) }
+    {
+        let mut finder = PairFinder::without_grid(solver);
+        finder.grid = grid_over(alloc, solver, first, memory)?;
+        Ok(finder)
+    }
+
+    /// Without a grid.
+    pub fn without_grid(solver: &Solver) -> Self
+        ensures solver { solver_in result ≡ solver.now }
+        ensures grid { layout_in result ≡ None }
+        ensures looked { looks_in result ≡ 0 }
+    {
+        PairFinder {
+            solver: *solver,
+            grid: None,
+            looked: 0,
+        }
+    }
+
+    /// Gives the memory of its grid back, if it has one.
+    pub fn give_back(self, memory: &mut FragmentMemory<I>) {
+        if let Some(grid) = self.grid {
+            *memory = grid.into_memory();
+        }
+    }
+
+    /// How many pairs were taken up so far, up to `u128::MAX`.
+    pub fn looked(&self) -> u128
+        ensures { result ≡ looks_in self.now }
+    {
+        self.looked
+    }
+
+    /// Finds the marks of a pass: the points at which each segment is to be split, each once, by rising index and then
+    /// in order of points. Answers whether two segments cross at a point without whole coordinates, so that the pass
+    /// rounds.
+    ///
+    /// The list has to be sorted, as by `sort_by_ab`, in range, and inside the grid, if there is one; a squared radius
+    /// has to be at least 1. What `marks` held before is dropped.
+    ///
+    /// Answers `Fault::Memory` where a growth is refused; `marks` is of no use then.
+    pub fn find_marks<C: WindingCount, D: Copy>(
+        &mut self,
+        segments: &[Segment<C, I, D>],
+        placing: Placing,
+        tree: &mut TreeBuffers<I>,
+        marks: &mut Vec<LineMark<I>>,
+    ) -> Result<bool, Fault>
+        requires sorted { IsSortedByKey ends_of pair_cmp segments.now }
+        requires in_range { All (λ s. IsPairInRange I.whole I.MIN_COORD I.MAX_COORD (x_segment_of s)) segments.now }
+        requires radius { HasRadius placing }
+        requires inside { LieInside (layout_in self.old) (pairs (segments_of segments.now)) }
+        ensures solver { solver_in self.new ≡ solver_in self.old }
+        ensures grid { layout_in self.new ≡ layout_in self.old }
+        ensures marks { OnOk result (AreMarks (placing_of placing) (segments_of segments.now)
+            (marks_of I.whole marks.new.items)) }
+        ensures rounded { IfOk result (λ rounded. rounded ≡ is_rounded (segments_of segments.now)) }
+        ensures looked { IsFalse (list_splits (solver_in self.old).strategy (length segments.now)) →
+            OnOk result (looks_in self.new ≤ looks_in self.old
+            + pass_looks (layout_in self.old) (pairs (segments_of segments.now))) }
+        ensures fault { IfErr result (λ fault. fault ≡ Memory) }
+    {
+        if self.solver.is_list_split(segments) {
+            return solver_list::find_marks(segments, placing, marks, &mut self.looked);
+        }
+        match &mut self.grid {
+            Some(grid) => find_over_grid(segments, placing, grid, tree, marks, &mut self.looked),
+            None => solver_tree::find_marks(segments, placing, tree, marks, &mut self.looked),
+        }
+    }
+}
+
+/// The grid of a run over these segments, where the solver asks for one, and not for a list, and they are wide enough.
+/// It takes the memory that is lent.
+fn grid_over<C: WindingCount, I: OverlayInt, D: Copy>(
+    alloc: Global,
+    solver: &Solver,
+    first: &[Segment<C, I, D>],
+    memory: &mut FragmentMemory<I>,
+) -> Result<Option<FragmentBuffer<I>>, Fault>
+    requires in_range { All (λ s. IsPairInRange I.whole I.MIN_COORD I.MAX_COORD (x_segment_of s)) first.now }
+    ensures grid { IfOk result (λ grid. IsGridFor solver.now.strategy (segments_of first.now) (grid_in grid)) }
+    ensures fault { IfErr result (λ fault. fault ≡ Memory) }
+{
+    if first.is_empty() {
+        return Ok(None);
+    }
+    if !solver.is_fragmentation_required(first) {
+        return Ok(None);
+    }
+    if solver.is_list_split(first) {
+        return Ok(None);
+    }
+    match GridLayout::over_list(first) {
+        Some(layout) => {
+            let kept = replace(memory, FragmentMemory::new(alloc));
+            let buffer = FragmentBuffer::with_memory(alloc, layout, kept)?;
+            Ok(Some(buffer))
+        }
+        None => Ok(None),
+    }
+}
+
+/// Finds the marks over a grid, inside which the segments have to lie. Where they have many fragments each, they are
+/// first looked up in a tree, which may take up as many pairs as there are fragments. Only where that does not do are
+/// fragments made.
+fn find_over_grid<C: WindingCount, I: OverlayInt, D: Copy>(
+    segments: &[Segment<C, I, D>],
+    placing: Placing,
+    grid: &mut FragmentBuffer<I>,
+    tree: &mut TreeBuffers<I>,
+    marks: &mut Vec<LineMark<I>>,
+    looked: &mut u128,
+) -> Result<bool, Fault>
+    requires sorted { IsSortedByKey ends_of pair_cmp segments.now }
+    requires in_range { All (λ s. IsPairInRange I.whole I.MIN_COORD I.MAX_COORD (x_segment_of s)) segments.now }
+    requires inside { All (λ s. IsInside (grid_of grid.old) (ends_of s)) segments.now }
+    requires radius { HasRadius placing }
+    ensures layout { grid_of grid.new ≡ grid_of grid.old }
+    ensures marks { OnOk result (AreMarks (placing_of placing) (segments_of segments.now)
+        (marks_of I.whole marks.new.items)) }
+    ensures rounded { IfOk result (λ rounded. rounded ≡ is_rounded (segments_of segments.now)) }
+    ensures looked { OnOk result (looked.new ≤ looked.old
+        + grid_looks (grid_of grid.old) (pairs (segments_of segments.now))) }
+    ensures fault { IfErr result (λ fault. fault ≡ Memory) }
+{
+    let fragments = count_fragments(segments, grid);
+    if fragments >= MANY_FRAGMENTS * segments.len() as u128 {
+        let found = find_marks_within(segments, placing, fragments, tree, marks, looked)?;
+        if let Some(rounded) = found {
+            return Ok(rounded);
+        }
+    }
+    solver_fragment::find_marks(segments, placing, grid, marks, looked)
+}

@@ -1,0 +1,2 @@
+-- The finder over a list.
+pub mod ListLooks

@@ -1,0 +1,152 @@
+-- How many pairs the walk over a list takes up: each two whose ranges in x meet.
+use Rattle.std.proofs.Common.{◌≡◌, refl, sym, ap, ap₂, subst, ◌∙◌, ℕ, ◌+◌, ◌-◌, ◌<◌, ◌≤◌, zero, suc, arith, Bool, true, false, cond, IsTrue, List, [], ◌∷◌, drop, length, is_gt}
+use Rattle.std.specs.Prelude.{◌≤ℤ◌, ◌<ℤ◌, ℤ, int_le, int_lt, min, ◌^◌, count_by}
+use Rattle.std.specs.Int.{int_min, int_max}
+use Rattle.std.specs.List.{AllByRecursion}
+use Rattle.std.proofs.lemmas.Int.{ints, clamps}
+use Rattle.std.proofs.lemmas.List.Sums.{sum_by-cons}
+use Rattle.overlay_geometry.specs.Points.{Pair, pair_cmp, is_ordered}
+use Rattle.overlay_geometry.proofs.laws.lists.Keys.{IsInOrder}
+use Rattle.overlay_geometry.proofs.laws.lists.Elements.{IsInOrder-drop, AllByRecursion-drop, AllByRecursion-drop_later}
+use Rattle.overlay_tree.specs.steps.Swept.{pair_at}
+use Rattle.overlay_intersections.specs.Looked.{count_twos, ranges_meet, x_ranges_meet}
+use Rattle.overlay_intersections.specs.Marks.{Placing}
+use Rattle.overlay_intersections.specs.MarkOf.{Mark}
+use Rattle.overlay_intersections.proofs.laws.marks.FoundMarks.{IsLooked}
+use Rattle.overlay_intersections.proofs.laws.marks.FoundEach.{IsWalked}
+use Rattle.overlay_geometry.proofs.laws.geometry.Points.{ordered_x}
+
+-- ---- ranges of two
+
+le_from : (u v : ℤ) → u ≤ℤ v → int_le u v ≡ true
+le_from u v h = grind (arith, ints)
+
+not_le_from : (u v : ℤ) → v <ℤ u → int_le u v ≡ false
+not_le_from u v h = grind (arith, ints)
+
+-- a pair that starts between the start and the end of another
+pub x_ranges_meet-from : (s t : Pair) → IsTrue (is_ordered s) → IsTrue (is_ordered t) → s.a.x ≤ℤ t.a.x → t.a.x ≤ℤ s.b.x → x_ranges_meet s t ≡ true
+unfolding x_ranges_meet ranges_meet
+x_ranges_meet-from s t hs ht h k =
+    let os = ordered_x s hs in
+    let ot = ordered_x t ht in
+    le_from (int_max (int_min s.a.x s.b.x) (int_min t.a.x t.b.x)) (int_min (int_max s.a.x s.b.x) (int_max t.a.x t.b.x)) (omega (arith, ints, clamps))
+
+-- and one that starts right of it
+pub x_ranges_meet-past : (s t : Pair) → IsTrue (is_ordered s) → IsTrue (is_ordered t) → s.b.x <ℤ t.a.x → x_ranges_meet s t ≡ false
+unfolding x_ranges_meet ranges_meet
+x_ranges_meet-past s t hs ht h =
+    let os = ordered_x s hs in
+    let ot = ordered_x t ht in
+    not_le_from (int_max (int_min s.a.x s.b.x) (int_min t.a.x t.b.x)) (int_min (int_max s.a.x s.b.x) (int_max t.a.x t.b.x)) (omega (arith, ints, clamps))
+
+pub not_past_le : (u v : ℤ) → int_lt u v ≡ false → v ≤ℤ u
+not_past_le u v h = grind (arith, ints)
+
+starts_up : (t u : Pair) → is_gt (pair_cmp t u) ≡ false → t.a.x ≤ℤ u.a.x
+starts_up t u h = grind (arith, ints)
+
+-- a later pair does not start further left
+pub later_starts_right : (ps : List Pair) (i j : ℕ) (s t : Pair) → IsInOrder pair_cmp ps → i < j → drop i ps ≡ s ∷ drop (i + 1) ps → drop j ps ≡ t ∷ drop (j + 1) ps → s.a.x ≤ℤ t.a.x
+later_starts_right ps i j s t o lt d e =
+    let here = subst (λ (ks : List Pair). IsInOrder pair_cmp ks) d (IsInOrder-drop pair_cmp i ps o) in
+    let later = AllByRecursion-drop_later (λ u. is_gt (pair_cmp s u) ≡ false) (i + 1) j ps (omega arith) here.0 in
+    let first = subst (λ (ks : List Pair). AllByRecursion (λ u. is_gt (pair_cmp s u) ≡ false) ks) e later in
+    starts_up s t first.0
+
+pub pair_at-first : (ps : List Pair) (j : ℕ) (s : Pair) (ss : List Pair) → drop j ps ≡ s ∷ ss → pair_at ps j ≡ s
+pair_at-first [] zero s ss d = cc
+pair_at-first [] (suc j) s ss d = cc
+pair_at-first (p ∷ ps) zero s ss d = cc
+pair_at-first (p ∷ ps) (suc j) s ss d = pair_at-first ps j s ss d
+
+-- ---- what is left
+
+none_counted : (s : Pair) (us : List Pair) → AllByRecursion (λ u. x_ranges_meet s u ≡ false) us → count_by (x_ranges_meet s) us ≡ 0
+none_counted s [] h = refl
+none_counted s (u ∷ us) h = sum_by-cons (λ v. cond (x_ranges_meet s v) 1 0) u us ∙ ap₂ (λ (b : Bool) (n : ℕ). cond b 1 0 + n) h.0 (none_counted s us h.1)
+
+all_past : (s t : Pair) (us : List Pair) → IsTrue (is_ordered s) → s.b.x <ℤ t.a.x → AllByRecursion (λ u. is_gt (pair_cmp t u) ≡ false) us → AllByRecursion (λ u. IsTrue (is_ordered u)) us → AllByRecursion (λ u. x_ranges_meet s u ≡ false) us
+all_past s t [] hs less h k = tt
+all_past s t (u ∷ us) hs less h k = (let up = starts_up t u h.0 in x_ranges_meet-past s u hs k.0 (omega (arith, ints)), all_past s t us hs less h.1 k.1)
+
+-- from a pair that starts right of the end of s on, none is counted
+pub none_past : (ps : List Pair) (j : ℕ) (s t : Pair) → IsInOrder pair_cmp ps → AllByRecursion (λ u. IsTrue (is_ordered u)) ps → IsTrue (is_ordered s) → drop j ps ≡ t ∷ drop (j + 1) ps → s.b.x <ℤ t.a.x →
+    count_by (x_ranges_meet s) (drop j ps) ≡ 0
+none_past ps j s t o all hs d less =
+    let here = subst (λ (ks : List Pair). IsInOrder pair_cmp ks) d (IsInOrder-drop pair_cmp j ps o) in
+    let ordered = subst (λ (ks : List Pair). AllByRecursion (λ u. IsTrue (is_ordered u)) ks) d (AllByRecursion-drop (λ u. IsTrue (is_ordered u)) j ps all) in
+    none_counted s (drop j ps) (subst (λ (ks : List Pair). AllByRecursion (λ u. x_ranges_meet s u ≡ false) ks) (sym d) (x_ranges_meet-past s t hs ordered.0 less, all_past s t (drop (j + 1) ps) hs less here.0 ordered.1))
+
+-- nothing is left at the end
+pub none_counted_left : (s : Pair) (ps : List Pair) (j : ℕ) → length ps ≤ j → count_by (x_ranges_meet s) (drop j ps) ≡ 0
+none_counted_left s [] zero le = refl
+none_counted_left s [] (suc j) le = refl
+none_counted_left s (p ∷ ps) zero le = absurd (omega arith)
+none_counted_left s (p ∷ ps) (suc j) le = none_counted_left s ps j (omega arith)
+
+-- ---- the walk over those that follow one
+
+-- what it has counted and what is left to count make up the whole, up to the limit
+pub record IsTold (s : Pair) (ps : List Pair) (i old now j : ℕ) : Type 0 where
+  pub fits : now ≤ 2 ^ 128 - 1
+  pub whole : min (now + count_by (x_ranges_meet s) (drop j ps)) (2 ^ 128 - 1) ≡ min (old + count_by (x_ranges_meet s) (drop (i + 1) ps)) (2 ^ 128 - 1)
+
+pub IsTold-more : (s t : Pair) (ps : List Pair) (i old now next j : ℕ) → IsTold s ps i old now j → drop j ps ≡ t ∷ drop (j + 1) ps → x_ranges_meet s t ≡ true → next ≡ min (now + 1) (2 ^ 128 - 1) → IsTold s ps i old next (j + 1)
+IsTold-more s t ps i old now next j told d meets e =
+    let count : count_by (x_ranges_meet s) (drop j ps) ≡ 1 + count_by (x_ranges_meet s) (drop (j + 1) ps) =
+    ap (count_by (x_ranges_meet s)) d ∙ sum_by-cons (λ v. cond (x_ranges_meet s v) 1 0) t (drop (j + 1) ps) ∙ ap (λ (b : Bool). cond b 1 0 + count_by (x_ranges_meet s) (drop (j + 1) ps)) meets in
+    record { fits = below now next (2 ^ 128 - 1) e; whole = one_more now next _ _ (2 ^ 128 - 1) e count ∙ told.whole }
+  where
+    below : (m n w : ℕ) → n ≡ min (m + 1) w → n ≤ w
+    below m n w e = omega arith
+
+    one_more : (m n c d w : ℕ) → n ≡ min (m + 1) w → c ≡ 1 + d → min (n + d) w ≡ min (m + c) w
+    one_more m n c d w e h = omega arith
+
+pub IsTold-end : (s : Pair) (ps : List Pair) (i old now j : ℕ) → IsTold s ps i old now j → count_by (x_ranges_meet s) (drop j ps) ≡ 0 → now ≡ min (old + count_by (x_ranges_meet s) (drop (i + 1) ps)) (2 ^ 128 - 1)
+IsTold-end s ps i old now j told none = nothing_more now _ (2 ^ 128 - 1) told.fits none ∙ told.whole
+  where
+    nothing_more : (m c w : ℕ) → m ≤ w → c ≡ 0 → m ≡ min (m + c) w
+    nothing_more m c w h e = omega arith
+
+-- ---- the walk over all
+
+pub record AreTold (ps : List Pair) (old now j : ℕ) : Type 0 where
+  pub fits : now ≤ 2 ^ 128 - 1
+  pub whole : min (now + count_twos x_ranges_meet (drop j ps)) (2 ^ 128 - 1) ≡ min (old + count_twos x_ranges_meet ps) (2 ^ 128 - 1)
+
+pub AreTold-more : (s : Pair) (ps : List Pair) (old now next j : ℕ) → AreTold ps old now j → drop j ps ≡ s ∷ drop (j + 1) ps → next ≡ min (now + count_by (x_ranges_meet s) (drop (j + 1) ps)) (2 ^ 128 - 1) → AreTold ps old next (j + 1)
+unfolding count_twos
+AreTold-more s ps old now next j told d e =
+    let count : count_twos x_ranges_meet (drop j ps) ≡ count_by (x_ranges_meet s) (drop (j + 1) ps) + count_twos x_ranges_meet (drop (j + 1) ps) = ap (count_twos x_ranges_meet) d in
+    record { fits = below now next _ (2 ^ 128 - 1) e; whole = more now next _ _ _ (2 ^ 128 - 1) e count ∙ told.whole }
+  where
+    below : (m n c w : ℕ) → n ≡ min (m + c) w → n ≤ w
+    below m n c w e = omega arith
+
+    more : (m n c d f w : ℕ) → n ≡ min (m + d) w → c ≡ d + f → min (n + f) w ≡ min (m + c) w
+    more m n c d f w e h = omega arith
+
+pub AreTold-end : (ps : List Pair) (old now j : ℕ) → AreTold ps old now j → length ps ≤ j → now ≡ min (old + count_twos x_ranges_meet ps) (2 ^ 128 - 1)
+unfolding count_twos
+AreTold-end ps old now j told all = nothing_more now _ (2 ^ 128 - 1) told.fits (no_twos ps j all) ∙ told.whole
+  where
+    nothing_more : (m c w : ℕ) → m ≤ w → c ≡ 0 → m ≡ min (m + c) w
+    nothing_more m c w h e = omega arith
+
+    no_twos : (ps : List Pair) (j : ℕ) → length ps ≤ j → count_twos x_ranges_meet (drop j ps) ≡ 0
+    no_twos [] zero le = refl
+    no_twos [] (suc j) le = refl
+    no_twos (p ∷ ps) zero le = absurd (omega arith)
+    no_twos (p ∷ ps) (suc j) le = no_twos ps j (omega arith)
+
+-- where the walk over those that follow one stands: what it has found, and what it has counted
+pub record IsWalking (placing : Placing) (i : ℕ) (s : Pair) (ps : List Pair) (old now : List Mark) (rounded : Bool) (before looked j : ℕ) : Type 0 where
+  pub walk : IsLooked placing i s ps old now rounded j
+  pub told : IsTold s ps i before looked j
+
+-- where the walk over all stands
+pub record AreWalking (placing : Placing) (ps : List Pair) (marks : List Mark) (rounded : Bool) (before looked j : ℕ) : Type 0 where
+  pub walk : IsWalked placing ps marks rounded j
+  pub told : AreTold ps before looked j

@@ -1,0 +1,27 @@
+use Rattle.std.proofs.Common.{◌+◌, refl, subst, drop, List, arith}
+use Rattle.overlay_tree.specs.steps.IntervalTree.{Entry, entries}
+use Rattle.overlay_tree.specs.steps.NodeOf.{entry_of, nodes_of, query_of}
+use Rattle.overlay_tree.proofs.laws.tree.TreeCuts.{IsLookedThrough, IsLookedThrough-more, IsLookedThrough-end, entries-next, entries-none}
+use Rattle.overlay_tree.proofs.split.few_entries.look_through.Goals as goal
+
+pub loop-place-init : goal.loop-place-init
+loop-place-init g c = record { fits = omega arith; all = refl; count = refl }
+
+pub loop-place-preserved : goal.loop-place-preserved
+loop-place-preserved g c =
+    let whole = g.I.OverlayInt.whole in
+    let q = query_of whole c.args.query.now in
+    let es = entries (nodes_of whole c.args.nodes.now) in
+    let node = c.index-nodes-place.result in
+    let here = entries-next whole c.args.nodes.now c.loop-place.place node c.loop-place-test.true c.index-nodes-place.is in
+    let walk = subst (λ (left : List Entry). IsLookedThrough q es c.args.indexes.now.items c.loop-place.indexes.items c.args.looked.now c.loop-place.looked left) here c.loop-place.invariant in
+    IsLookedThrough-more q es (entry_of whole node) c.args.indexes.now.items c.loop-place.indexes.items c.look_at_one.new.indexes.items c.args.looked.now c.loop-place.looked c.look_at_one.new.looked (drop (c.loop-place.place + 1) es) walk
+    c.in_ok-look_at_one.ensures.found c.in_ok-look_at_one.ensures.looked
+
+pub returns : goal.returns
+returns g c =
+    let whole = g.I.OverlayInt.whole in
+    let q = query_of whole c.args.query.now in
+    let es = entries (nodes_of whole c.args.nodes.now) in
+    let end = IsLookedThrough-end q es c.args.indexes.now.items c.loop-place.indexes.items c.args.looked.now c.loop-place.looked (drop c.loop-place.place es) c.loop-place.invariant (entries-none whole c.args.nodes.now c.loop-place.place c.loop-place-test.false) in
+    record { found = end.0; looked = end.1 }

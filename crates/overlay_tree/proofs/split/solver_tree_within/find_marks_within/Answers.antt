@@ -1,0 +1,75 @@
+use Rattle.std.proofs.Common.{◌≡◌, ap, sym, subst, ◌∙◌, ◌<◌, ◌≤◌, ◌+◌, ◌-◌, ◌^◌, length, arith, Bool, ◌||◌, List, ℕ}
+use Rattle.std.specs.Prelude.{All, min}
+use Rattle.std.proofs.lemmas.List.Elements.{All-from_recursion}
+use Rattle.overlay_base.specs.Segments.{pairs}
+use Rattle.overlay_base.specs.SegmentOf.{segments_of}
+use Rattle.overlay_intersections.specs.PlacingOf.{placing_of}
+use Rattle.overlay_intersections.specs.MarkOf.{marks_of}
+use Rattle.overlay_tree.specs.steps.TreeSweep.{AreFoundBefore}
+use Rattle.overlay_intersections.proofs.laws.marks.FoundMarks.{or_true, or_false}
+use Rattle.overlay_intersections.proofs.laws.marks.FoundEach.{some_cross_inexactly-is}
+use Rattle.overlay_intersections.proofs.laws.marks.LineMarks.{AreMarks-from_elements}
+use Rattle.overlay_tree.proofs.laws.tree.Sweeps.{length-pairs}
+use Rattle.overlay_tree.proofs.laws.tree.SweptMarks.{IsMarked-start, IsMarked-more, all_marked, all_told}
+use Rattle.overlay_tree.proofs.laws.tree.TreeFinder.{IsUnderWay-start}
+use Rattle.overlay_tree.proofs.split.solver_tree_within.find_marks_within.Goals as goal
+use Rattle.overlay_tree.proofs.split.solver_tree_within.find_marks_within.Goals.{then-branch, else-branch}
+
+within_most : (old most limit now next len : ℕ) → limit ≡ min (old + most) (2 ^ 128 - 1) → now ≤ old + most → next ≤ now + len → len ≤ limit - now → next ≤ old + most
+within_most old most limit now next len l n h r = omega arith
+
+pub loop-index-init : goal.loop-index-init
+loop-index-init g c =
+    let ps = pairs (segments_of c.args.segments.now) in
+    rw (c.clear.ensures.items, c.clear-2.ensures.items) (record {
+      way = IsUnderWay-start ps c.args.looked.now (omega arith);
+      marked = IsMarked-start (placing_of c.args.placing) ps;
+      within = omega arith;
+    })
+
+pub take_in-requires-clause-way : goal.take_in-requires-clause-way
+take_in-requires-clause-way g c = (c.args.looked.now, c.loop-index.invariant.way)
+
+pub mark_with_found-requires-clause-found : goal.mark_with_found-requires-clause-found
+mark_with_found-requires-clause-found g c =
+    subst (λ (is : List ℕ). All (λ i. i < c.loop-index.index) is) (sym c.deref.ensures.value)
+    (All-from_recursion (λ i. i < c.loop-index.index) c.take_in.new.found.items c.in_ok-until.ensures.found.earlier)
+
+pub loop-index-preserved : goal.loop-index-preserved
+loop-index-preserved g c =
+    let whole = g.I.OverlayInt.whole in
+    let xs = c.args.segments.now in
+    let ps = pairs (segments_of xs) in
+    let placing = placing_of c.args.placing in
+    let j = c.loop-index.index in
+    let inside : j < length ps = omega (arith, length-pairs xs, c.loop-index-test.true) in
+    let found = subst (λ (is : List ℕ). AreFoundBefore ps is j) (sym c.deref.ensures.value) c.in_ok-until.ensures.found in
+    let rounded : c.if-branch.rounded ≡ (c.loop-index.rounded || c.in_ok-mark_with_found.field-0) = elim c.if-branch.branch [
+      | then-branch w ↦ rw (w.rounded-is, w.if-branch.true) (or_true c.loop-index.rounded)
+      | else-branch w ↦ rw (w.rounded-is, w.if-branch.false) (or_false c.loop-index.rounded)
+    ] in
+    let room : length xs ≤ c.saturating_add-limit.result - c.loop-index.looked = let t = c.if-saturating_sub-segments.false in let left = c.saturating_sub.ensures in omega arith in
+    record {
+      within = within_most c.args.looked.now c.args.most c.saturating_add-limit.result c.loop-index.looked c.take_in.new.looked (length xs) c.saturating_add-limit.ensures c.loop-index.invariant.within c.in_ok-until.ensures.looked room;
+      way = c.in_ok-until.ensures.way c.args.looked.now c.loop-index.invariant.way;
+      marked = IsMarked-more placing ps (marks_of whole c.loop-index.marks.items) (marks_of whole c.mark_with_found.new.marks.items) c.loop-index.rounded c.if-branch.rounded j c.deref.result.now
+          c.loop-index.invariant.marked found inside c.in_ok-mark_with_found.ensures.marks (rounded ∙ ap (λ (b : Bool). c.loop-index.rounded || b) c.in_ok-mark_with_found.ensures.rounded);
+    }
+
+pub returns : goal.returns
+returns g c =
+    let whole = g.I.OverlayInt.whole in
+    let xs = c.args.segments.now in
+    let ps = pairs (segments_of xs) in
+    let placing = placing_of c.args.placing in
+    let all : length ps ≡ c.loop-index.index = omega (arith, length-pairs xs, c.loop-index-test.false, c.loop-index.auto.index-end) in
+    let marked = rw (sym all) at c.loop-index.invariant.marked in
+    let sorted = simp g.met.I.OverlayInt.ordered at c.in_ok-sort.ensures.sorted in
+    record {
+      marks = AreMarks-from_elements g.I.PartialEq.eq g.I.Ord.cmp whole g.met.I.Ord.matches_eq g.met.I.OverlayInt.ordered placing (segments_of xs)
+          c.loop-index.marks.items c.sort.new.self.items c.dedup.new.self.items marked.sound (all_marked placing ps (marks_of whole c.loop-index.marks.items) c.loop-index.rounded marked)
+          c.in_ok-sort.ensures.permutation sorted c.dedup.ensures.filtered;
+      rounded = all_told placing ps (marks_of whole c.loop-index.marks.items) c.loop-index.rounded marked ∙ some_cross_inexactly-is (segments_of xs);
+      looked = c.loop-index.invariant.within;
+      fault = tt;
+    }

@@ -1,0 +1,2 @@
+-- what private functions tell one another
+pub mod steps

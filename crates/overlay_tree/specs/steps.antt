@@ -1,0 +1,5 @@
+-- What private functions tell one another. No public contract speaks of it, so nobody has to believe it.
+pub mod IntervalTree
+pub mod NodeOf
+pub mod Swept
+pub mod TreeSweep

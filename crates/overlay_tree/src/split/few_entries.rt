@@ -1,0 +1,72 @@
+// Look-ups among a few entries, one after another, where a tree would be worth less than it costs.
+ghost use Rattle.std.specs.Prelude.{◌≡◌, ◌<◌, ◌+◌, ◌-◌, ◌^◌, ◌++◌, [], ◌∷◌, count_by, length, min, int_lt, OnOk};
+ghost use Rattle.overlay_tree.specs.steps.IntervalTree.{entries, found, is_taken_up};
+ghost use Rattle.overlay_tree.specs.steps.NodeOf.{entry_of, nodes_of, query_of};
+ghost use Rattle.overlay_tree.specs.steps.Swept.{few};
+
+use crate::split::interval_tree::{Node, Query};
+use overlay_geometry::num::OverlayInt;
+use overlay_intersections::split::looks::take_up;
+use std::alloc::AllocError;
+
+/// Appends the indexes that `look_up` finds, by a look at each node, in any order of the nodes. Drops none. There have
+/// to be few nodes, since `looked` counts those alone whose heights are met.
+pub fn look_through<I: OverlayInt>(
+    nodes: &[Node<I>],
+    query: &Query<I>,
+    indexes: &mut Vec<usize>,
+    looked: &mut u128,
+) -> Result<(), AllocError>
+    requires { length nodes.now < few }
+    ensures found { OnOk result (indexes.new.items
+        ≡ indexes.old.items ++ found (query_of I.whole query.now) (entries (nodes_of I.whole nodes.now))) }
+    ensures looked { OnOk result (looked.new
+        ≡ min (looked.old + count_by (is_taken_up (query_of I.whole query.now))
+        (entries (nodes_of I.whole nodes.now))) (2 ^ 128 - 1)) }
+{
+    let _looked = *looked;
+    for place in 0..nodes.len() {
+        look_at_one(&nodes[place], query, indexes, looked)?;
+    }
+    Ok(())
+}
+
+/// Takes up the entry of a node, where it is live and the look-up meets its heights, and appends its index where it
+/// does not end left of the sweep.
+fn look_at_one<I: OverlayInt>(
+    node: &Node<I>,
+    query: &Query<I>,
+    indexes: &mut Vec<usize>,
+    looked: &mut u128,
+) -> Result<(), AllocError>
+    ensures found { OnOk result (indexes.new.items
+        ≡ indexes.old.items ++ found (query_of I.whole query.now) (entry_of I.whole node.now ∷ [])) }
+    ensures looked { OnOk result (looked.new
+        ≡ min (looked.old + count_by (is_taken_up (query_of I.whole query.now)) (entry_of I.whole node.now ∷ []))
+        (2 ^ 128 - 1)) }
+{
+    let _looked = *looked;
+    if !is_met(node, query) {
+        return Ok(());
+    }
+    take_up(looked);
+    if has_ended(node, query.x) {
+        return Ok(());
+    }
+    indexes.push(node.index)?;
+    Ok(())
+}
+
+/// Whether the entry of a node is live, and a look-up meets its heights.
+fn is_met<I: OverlayInt>(node: &Node<I>, query: &Query<I>) -> bool
+    ensures { result ≡ is_taken_up (query_of I.whole query.now) (entry_of I.whole node.now) }
+{
+    node.is_live && !(node.high < query.heights.min) && !(query.heights.max < node.low)
+}
+
+/// Whether the entry of a node ends left of an `x`.
+fn has_ended<I: OverlayInt>(node: &Node<I>, x: I) -> bool
+    ensures { result ≡ int_lt (entry_of I.whole node.now).end_x (I.whole x) }
+{
+    node.end_x < x
+}

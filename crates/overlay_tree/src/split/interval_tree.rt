@@ -1,0 +1,243 @@
+// A tree over the heights of segments that are met by a sweep, for look-ups by a range of heights.
+// It stands in one list: the root in the middle, its subtrees before and after it.
+ghost use Rattle.std.specs.Prelude.{◌≡◌, ◌+◌, ◌-◌, ◌^◌, ◌==◌, ◌++◌, [], ◌∷◌, map, count_by, min, int_lt, nat_lt};
+ghost use Rattle.std.specs.Prelude.{true, not, ◌&&◌, ◌||◌, IsFalse, Some, IfOk, OnOk};
+ghost use Rattle.std.specs.List.{AllByRecursion, list_any};
+ghost use Rattle.overlay_tree.specs.steps.IntervalTree.{AreRising, IsSummed, IsAt, IsUpTo, entries, greatest_height, further};
+ghost use Rattle.overlay_tree.specs.steps.IntervalTree.{found, inserted, is_dropped, is_reached, is_taken_up, left_by, stays_at};
+ghost use Rattle.overlay_tree.specs.steps.NodeOf.{entry_of, greatest_of, node_of, nodes_of, query_of};
+
+use overlay_geometry::geom::line_range::LineRange;
+use overlay_geometry::num::OverlayInt;
+use overlay_intersections::split::looks::take_up;
+use std::alloc::AllocError;
+
+/// The entry of a segment, and the greatest height of the live entries of its subtree.
+#[derive(Clone, Copy, Debug)]
+pub struct Node<I> {
+    pub index: usize,
+    pub low: I,
+    pub high: I,
+    pub end_x: I,
+    pub greatest: Option<I>,
+    pub is_live: bool,
+}
+
+/// A look-up: the heights that it meets, and where the sweep stands.
+#[derive(Clone, Copy, Debug)]
+pub struct Query<I> {
+    pub heights: LineRange<I>,
+    pub x: I,
+}
+
+/// Appends the indexes of the live entries whose heights meet those of the look-up, and that do not end left of the
+/// sweep. Those that do are dropped. Answers whether one was: if not, nothing is written to the nodes.
+#[cycle(look_up)]
+pub fn look_up<I: OverlayInt>(
+    nodes: &mut [Node<I>],
+    query: &Query<I>,
+    indexes: &mut Vec<usize>,
+    looked: &mut u128,
+) -> Result<bool, AllocError>
+    requires rising { AreRising (entries (nodes_of I.whole nodes.old)) }
+    requires summed { IsSummed (nodes_of I.whole nodes.old) }
+    ensures entries { OnOk result (entries (nodes_of I.whole nodes.new)
+        ≡ map (left_by (query_of I.whole query.now)) (entries (nodes_of I.whole nodes.old))) }
+    ensures summed { OnOk result (IsSummed (nodes_of I.whole nodes.new)) }
+    ensures found { OnOk result (indexes.new.items
+        ≡ indexes.old.items ++ found (query_of I.whole query.now) (entries (nodes_of I.whole nodes.old))) }
+    ensures looked { OnOk result (looked.new
+        ≡ min (looked.old + count_by (is_taken_up (query_of I.whole query.now))
+        (entries (nodes_of I.whole nodes.old))) (2 ^ 128 - 1)) }
+    ensures dropped { IfOk result (λ dropped. dropped
+        ≡ list_any (is_dropped (query_of I.whole query.now)) (entries (nodes_of I.whole nodes.old))) }
+{
+    let _looked = *looked;
+    if reaches(greatest_in(nodes), query.heights.min) {
+        look_into(nodes, query, indexes, looked)
+    } else {
+        Ok(false)
+    }
+}
+
+/// As `look_up`, without the test that some live entry reaches the look-up.
+#[cycle(look_up)]
+fn look_into<I: OverlayInt>(
+    nodes: &mut [Node<I>],
+    query: &Query<I>,
+    indexes: &mut Vec<usize>,
+    looked: &mut u128,
+) -> Result<bool, AllocError>
+    requires rising { AreRising (entries (nodes_of I.whole nodes.old)) }
+    requires summed { IsSummed (nodes_of I.whole nodes.old) }
+    ensures entries { OnOk result (entries (nodes_of I.whole nodes.new)
+        ≡ map (left_by (query_of I.whole query.now)) (entries (nodes_of I.whole nodes.old))) }
+    ensures summed { OnOk result (IsSummed (nodes_of I.whole nodes.new)) }
+    ensures found { OnOk result (indexes.new.items
+        ≡ indexes.old.items ++ found (query_of I.whole query.now) (entries (nodes_of I.whole nodes.old))) }
+    ensures looked { OnOk result (looked.new
+        ≡ min (looked.old + count_by (is_taken_up (query_of I.whole query.now))
+        (entries (nodes_of I.whole nodes.old))) (2 ^ 128 - 1)) }
+    ensures dropped { IfOk result (λ dropped. dropped
+        ≡ list_any (is_dropped (query_of I.whole query.now)) (entries (nodes_of I.whole nodes.old))) }
+{
+    let _looked = *looked;
+    let (left, rest) = nodes.split_at_mut(nodes.len() / 2);
+    let Some((root, right)) = rest.split_first_mut() else {
+        return Ok(false);
+    };
+    let mut has_dropped = look_up(left, query, indexes, looked)?;
+    if !is_above(root.low, query.heights.max) {
+        has_dropped |= look_at(root, query, indexes, looked)?;
+        has_dropped |= look_up(right, query, indexes, looked)?;
+    }
+    if has_dropped {
+        update_greatest(left, root, right);
+    }
+    Ok(has_dropped)
+}
+
+/// Whether some live entry reaches the height.
+fn reaches<I: OverlayInt>(greatest: Option<I>, low: I) -> bool
+    ensures { result ≡ is_reached (greatest_of I.whole greatest) (I.whole low) }
+{
+    match greatest {
+        Some(high) => low <= high,
+        None => false,
+    }
+}
+
+fn is_above<I: OverlayInt>(low: I, high: I) -> bool
+    ensures { result ≡ int_lt (I.whole high) (I.whole low) }
+{
+    high < low
+}
+
+/// Takes up the entry of a node that does not begin above the look-up, where it is live and reaches it: drops it where
+/// it ends left of the sweep, and else appends its index. Answers whether it is dropped.
+fn look_at<I: OverlayInt>(
+    node: &mut Node<I>,
+    query: &Query<I>,
+    indexes: &mut Vec<usize>,
+    looked: &mut u128,
+) -> Result<bool, AllocError>
+    requires low { IsFalse (int_lt (I.whole query.now.heights.max) (I.whole node.old.low)) }
+    ensures entry { OnOk result (entry_of I.whole node.new
+        ≡ left_by (query_of I.whole query.now) (entry_of I.whole node.old)) }
+    ensures greatest { OnOk result (node.new.greatest ≡ node.old.greatest) }
+    ensures found { OnOk result (indexes.new.items
+        ≡ indexes.old.items ++ found (query_of I.whole query.now) (entry_of I.whole node.old ∷ [])) }
+    ensures looked { OnOk result (looked.new
+        ≡ min (looked.old + count_by (is_taken_up (query_of I.whole query.now)) (entry_of I.whole node.old ∷ []))
+        (2 ^ 128 - 1)) }
+    ensures dropped { IfOk result (λ dropped. dropped ≡ is_dropped (query_of I.whole query.now)
+        (entry_of I.whole node.old)) }
+{
+    let _looked = *looked;
+    if !node.is_live || node.high < query.heights.min {
+        return Ok(false);
+    }
+    take_up(looked);
+    if node.end_x < query.x {
+        node.is_live = false;
+        return Ok(true);
+    }
+    indexes.push(node.index)?;
+    Ok(false)
+}
+
+/// Makes the entry of a segment live. It is found by its least height and its index, and there has to be one.
+pub fn insert<I: OverlayInt>(nodes: &mut [Node<I>], low: I, high: I, index: usize)
+    requires rising { AreRising (entries (nodes_of I.whole nodes.old)) }
+    requires summed { IsSummed (nodes_of I.whole nodes.old) }
+    requires low { AllByRecursion (IsAt index (I.whole low)) (entries (nodes_of I.whole nodes.old)) }
+    requires high { AllByRecursion (IsUpTo index (I.whole high)) (entries (nodes_of I.whole nodes.old)) }
+    requires there { list_any (λ e. e.index == index) (entries (nodes_of I.whole nodes.old)) ≡ true }
+    ensures entries { entries (nodes_of I.whole nodes.new)
+        ≡ map (inserted index) (entries (nodes_of I.whole nodes.old)) }
+    ensures summed { IsSummed (nodes_of I.whole nodes.new) }
+{
+    let (left, rest) = nodes.split_at_mut(nodes.len() / 2);
+    let Some((root, right)) = rest.split_first_mut() else {
+        return;
+    };
+    raise(root, high);
+    if index == root.index {
+        root.is_live = true;
+    } else if stands_before(low, index, root) {
+        insert(left, low, high, index);
+    } else {
+        insert(right, low, high, index);
+    }
+}
+
+/// Raises the greatest height of a root to that of an entry that is to be live in its subtree.
+fn raise<I: OverlayInt>(root: &mut Node<I>, high: I)
+    ensures entry { entry_of I.whole root.new ≡ entry_of I.whole root.old }
+    ensures greatest { greatest_of I.whole root.new.greatest
+        ≡ further (greatest_of I.whole root.old.greatest) (Some (I.whole high)) }
+{
+    root.greatest = further(root.greatest, Some(high));
+}
+
+fn stands_before<I: OverlayInt>(low: I, index: usize, node: &Node<I>) -> bool
+    ensures { result ≡ (int_lt (I.whole low) (I.whole node.now.low)
+        || not (int_lt (I.whole node.now.low) (I.whole low)) && nat_lt index node.now.index) }
+{
+    low < node.low || !(node.low < low) && index < node.index
+}
+
+/// Sets every greatest height, from the subtrees up.
+pub fn sum_up<I: OverlayInt>(nodes: &mut [Node<I>])
+    ensures entries { entries (nodes_of I.whole nodes.new) ≡ entries (nodes_of I.whole nodes.old) }
+    ensures summed { IsSummed (nodes_of I.whole nodes.new) }
+{
+    let (left, rest) = nodes.split_at_mut(nodes.len() / 2);
+    let Some((root, right)) = rest.split_first_mut() else {
+        return;
+    };
+    sum_up(left);
+    sum_up(right);
+    update_greatest(left, root, right);
+}
+
+/// Whether an entry is live and does not end left of an `x`.
+pub fn stays<I: OverlayInt>(node: &Node<I>, x: I) -> bool
+    ensures { result ≡ stays_at (I.whole x) (entry_of I.whole node.now) }
+{
+    node.is_live && !(node.end_x < x)
+}
+
+/// Sets the greatest height of a root, from its subtrees and its own entry.
+fn update_greatest<I: OverlayInt>(left: &[Node<I>], root: &mut Node<I>, right: &[Node<I>])
+    requires left { IsSummed (nodes_of I.whole left.now) }
+    requires right { IsSummed (nodes_of I.whole right.now) }
+    ensures entry { entry_of I.whole root.new ≡ entry_of I.whole root.old }
+    ensures greatest { greatest_of I.whole root.new.greatest
+        ≡ greatest_height (entries (nodes_of I.whole left.now)
+        ++ entry_of I.whole root.old ∷ entries (nodes_of I.whole right.now)) }
+{
+    let own = if root.is_live { Some(root.high) } else { None };
+    root.greatest = further(greatest_in(left), further(own, greatest_in(right)));
+}
+
+/// The greatest height of the live entries of a tree.
+fn greatest_in<I: OverlayInt>(nodes: &[Node<I>]) -> Option<I>
+    requires { IsSummed (nodes_of I.whole nodes.now) }
+    ensures { greatest_of I.whole result ≡ greatest_height (entries (nodes_of I.whole nodes.now)) }
+{
+    match nodes.get(nodes.len() / 2) {
+        Some(root) => root.greatest,
+        None => None,
+    }
+}
+
+fn further<I: OverlayInt>(a: Option<I>, b: Option<I>) -> Option<I>
+    ensures { greatest_of I.whole result ≡ further (greatest_of I.whole a) (greatest_of I.whole b) }
+{
+    match (a, b) {
+        (Some(x), Some(y)) => Some(if x < y { y } else { x }),
+        (Some(_), None) => a,
+        (None, _) => b,
+    }
+}

@@ -1,0 +1,314 @@
+// The finder that looks segments up in a tree over their heights. Upstream: `split::solver_tree`, whose tree is
+// another.
+ghost use Rattle.std.specs.Prelude.{◌≡◌, ◌≢◌, ℕ, ◌<◌, ◌≤◌, ◌+◌, ◌-◌, ◌^◌, min, ◌++◌, [], ◌∷◌, All, IfErr, IfOk, OnOk, IsTrue, IsFalse, IsSortedByKey, IsPermutation, length, map, filter, ◌==◌};
+ghost use Rattle.overlay_base.specs.declared.segm.fault.Fault.TheVariants.{Memory};
+ghost use Rattle.overlay_geometry.specs.Points.{pair_cmp};
+ghost use Rattle.overlay_base.specs.Segments.{pairs};
+ghost use Rattle.overlay_geometry.specs.PairOf.{pair_of};
+ghost use Rattle.overlay_base.specs.SegmentOf.{ends_of, segments_of, x_segment_of};
+ghost use Rattle.overlay_geometry.specs.InRange.{IsPairInRange};
+ghost use Rattle.overlay_intersections.specs.PassMarks.{is_rounded};
+ghost use Rattle.overlay_intersections.specs.PlacingOf.{placing_of, HasRadius};
+ghost use Rattle.overlay_intersections.specs.MarkOf.{AreMarks, marks_of};
+ghost use Rattle.overlay_tree.specs.steps.IntervalTree.{AreRising, IsSummed, entries, stays_at};
+ghost use Rattle.overlay_tree.specs.steps.NodeOf.{nodes_of, node_of, entry_of};
+ghost use Rattle.overlay_intersections.specs.Looked.{boxes_meet, count_twos, tree_looks};
+ghost use Rattle.overlay_tree.specs.steps.TreeSweep.{IsUnderWay, GoesOn, AreFoundBefore};
+ghost use Rattle.overlay_tree.specs.steps.Swept.{alone, few, entry_at, entry_of_pair, entries_between, pair_at, marks_with_found, crosses_found};
+ghost use Rattle.std.specs.List.{IsDistinct, range_with_len};
+
+use crate::split::few_entries::look_through;
+use crate::split::interval_tree::{Node, Query, insert, look_up, stays, sum_up};
+use overlay_base::segm::fault::Fault;
+use overlay_base::segm::segment::Segment;
+use overlay_base::segm::winding::WindingCount;
+use overlay_geometry::geom::x_segment::XSegment;
+use overlay_geometry::num::OverlayInt;
+use overlay_intersections::split::line_mark::LineMark;
+use overlay_intersections::split::marking::{Indexed, mark_both};
+use overlay_intersections::split::placing::Placing;
+use std::alloc::{AllocError, Global};
+
+/// The memory of the finder, kept from one pass to the next.
+#[derive(Drop)]
+pub struct TreeBuffers<I> {
+    pub(crate) nodes: Vec<Node<I>>,
+    pub(crate) found: Vec<usize>,
+}
+
+impl<I> TreeBuffers<I> {
+    /// Buffers that have taken no memory yet.
+    pub fn new(alloc: Global) -> Self {
+        TreeBuffers {
+            nodes: Vec::new(alloc),
+            found: Vec::new(alloc),
+        }
+    }
+}
+
+/// Finds the marks of a pass, as `solver_list::find_marks` does, and answers whether the pass rounds. The conditions
+/// are the same.
+///
+/// A sweep over the list keeps the segments that it has met: a few in a list, and more in a tree over their heights,
+/// which is renewed from time to time, so that it has few that have ended. Each segment takes up those whose heights it
+/// meets: those that end left of it are dropped, with the others it is marked. So besides one look at each segment that
+/// is dropped, it looks at those two alone whose ranges in `x` and in `y` meet; `looked` counts the looks, and not the
+/// comparisons of heights on the way to them, in the tree or with each of the few.
+///
+/// Answers `Fault::Memory` where a growth is refused; `marks` is of no use then.
+pub fn find_marks<C: WindingCount, I: OverlayInt, D: Copy>(
+    segments: &[Segment<C, I, D>],
+    placing: Placing,
+    buffers: &mut TreeBuffers<I>,
+    marks: &mut Vec<LineMark<I>>,
+    looked: &mut u128,
+) -> Result<bool, Fault>
+    requires sorted { IsSortedByKey ends_of pair_cmp segments.now }
+    requires in_range { All (λ s. IsPairInRange I.whole I.MIN_COORD I.MAX_COORD (x_segment_of s)) segments.now }
+    requires radius { HasRadius placing }
+    ensures marks { OnOk result (AreMarks (placing_of placing) (segments_of segments.now)
+        (marks_of I.whole marks.new.items)) }
+    ensures rounded { IfOk result (λ rounded. rounded ≡ is_rounded (segments_of segments.now)) }
+    ensures looked { OnOk result (looked.new ≤ looked.old + tree_looks (pairs (segments_of segments.now))) }
+    ensures each_looked { OnOk result
+        (min (looked.old + count_twos boxes_meet (pairs (segments_of segments.now))) (2 ^ 128 - 1) ≤ looked.new) }
+    ensures fault { IfErr result (λ fault. fault ≡ Memory) }
+{
+    let _looked = *looked;
+    let TreeBuffers { nodes, found } = buffers;
+    nodes.clear();
+    marks.clear();
+    let mut rounded = false;
+    let mut until = 0;
+    for index in 0..segments.len() {
+        until = take_in(segments, index, until, nodes, found, looked)?;
+        if mark_with_found(segments, found, index, placing, marks)? {
+            rounded = true;
+        }
+    }
+    marks.sort()?;
+    marks.dedup();
+    Ok(rounded)
+}
+
+/// So few entries are looked at one by one, and stand in no tree.
+const FEW: usize = 48;
+
+/// Takes the segment at an index into the sweep: finds those before it that are live and whose heights it meets, and
+/// adds it. The tree has the entries of segments up to `until`; answers up to which it has them then.
+pub(crate) fn take_in<C: WindingCount, I: OverlayInt, D: Copy>(
+    segments: &[Segment<C, I, D>],
+    index: usize,
+    until: usize,
+    nodes: &mut Vec<Node<I>>,
+    found: &mut Vec<usize>,
+    looked: &mut u128,
+) -> Result<usize, AllocError>
+    requires index { index < length segments.now }
+    requires sorted { IsSortedByKey ends_of pair_cmp segments.now }
+    requires way { (old : ℕ) × IsUnderWay (pairs (segments_of segments.now))
+        (nodes_of I.whole nodes.old.items) old looked.old index until }
+    ensures way { IfOk result (λ until'. GoesOn (pairs (segments_of segments.now)) (nodes_of I.whole nodes.old.items)
+        (nodes_of I.whole nodes.new.items) looked.old looked.new index until until') }
+    ensures found { OnOk result (AreFoundBefore (pairs (segments_of segments.now)) found.new.items index) }
+    ensures looked { OnOk result (looked.new ≤ looked.old + length segments.now) }
+{
+    if index < until {
+        take_into_tree(segments, index, until, nodes, found, looked)?;
+        return Ok(until);
+    }
+    if nodes.len() < FEW {
+        take_among_few(segments, index, until, nodes, found, looked)?;
+        return Ok(index + 1);
+    }
+    let further = renew(segments, index, nodes)?;
+    take_into_tree(segments, index, further, nodes, found, looked)?;
+    Ok(further)
+}
+
+/// The same where the tree has an entry of the segment.
+fn take_into_tree<C: WindingCount, I: OverlayInt, D: Copy>(
+    segments: &[Segment<C, I, D>],
+    index: usize,
+    until: usize,
+    nodes: &mut Vec<Node<I>>,
+    found: &mut Vec<usize>,
+    looked: &mut u128,
+) -> Result<(), AllocError>
+    requires index { index < length segments.now }
+    requires sorted { IsSortedByKey ends_of pair_cmp segments.now }
+    requires there { index < until }
+    requires way { (old : ℕ) × IsUnderWay (pairs (segments_of segments.now))
+        (nodes_of I.whole nodes.old.items) old looked.old index until }
+    ensures way { OnOk result (GoesOn (pairs (segments_of segments.now)) (nodes_of I.whole nodes.old.items)
+        (nodes_of I.whole nodes.new.items) looked.old looked.new index until until) }
+    ensures found { OnOk result (AreFoundBefore (pairs (segments_of segments.now)) found.new.items index) }
+    ensures looked { OnOk result (looked.new ≤ looked.old + length segments.now) }
+{
+    let _looked = *looked;
+    let later = segments[index].x_segment();
+    let heights = later.y_range();
+    let query = Query {
+        heights,
+        x: later.a.x,
+    };
+    let tree = nodes.as_mut_slice();
+    found.clear();
+    look_up(tree, &query, found, looked)?;
+    insert(tree, heights.min, heights.max, index);
+    Ok(())
+}
+
+/// The same where no entry is to come: those that have ended are taken out, the others are looked at one by one.
+fn take_among_few<C: WindingCount, I: OverlayInt, D: Copy>(
+    segments: &[Segment<C, I, D>],
+    index: usize,
+    until: usize,
+    nodes: &mut Vec<Node<I>>,
+    found: &mut Vec<usize>,
+    looked: &mut u128,
+) -> Result<(), AllocError>
+    requires index { index < length segments.now }
+    requires sorted { IsSortedByKey ends_of pair_cmp segments.now }
+    requires none { index ≡ until }
+    requires few { length nodes.old.items < few }
+    requires way { (old : ℕ) × IsUnderWay (pairs (segments_of segments.now))
+        (nodes_of I.whole nodes.old.items) old looked.old index until }
+    ensures way { OnOk result (GoesOn (pairs (segments_of segments.now)) (nodes_of I.whole nodes.old.items)
+        (nodes_of I.whole nodes.new.items) looked.old looked.new index until (index + 1)) }
+    ensures found { OnOk result (AreFoundBefore (pairs (segments_of segments.now)) found.new.items index) }
+    ensures looked { OnOk result (looked.new ≤ looked.old + length segments.now) }
+{
+    let _looked = *looked;
+    let later = segments[index].x_segment();
+    let heights = later.y_range();
+    let x = later.a.x;
+    let query = Query { heights, x };
+    drop_ended(nodes, x);
+    found.clear();
+    look_through(nodes.as_slice(), &query, found, looked)?;
+    nodes.push(node_at(index, segments[index].x_segment(), true))?;
+    Ok(())
+}
+
+/// So many segments at least are added to a tree at once.
+const LEAST_MORE: usize = 8;
+
+/// Takes those entries out of the tree that are not live or end left of the segment at an index, and adds the entries
+/// of segments from there on, none of them live. Answers up to which segment.
+///
+/// It adds as many as stay, but at least 8, if there are so many: so the tree stays near what is live in size, and what
+/// is sorted in all is no more than a few times the segments.
+pub(crate) fn renew<C: WindingCount, I: OverlayInt, D: Copy>(
+    segments: &[Segment<C, I, D>],
+    from: usize,
+    nodes: &mut Vec<Node<I>>,
+) -> Result<usize, AllocError>
+    requires { from < length segments.now }
+    ensures further { IfOk result (λ until. from < until) }
+    ensures within { IfOk result (λ until. until ≤ length segments.now) }
+    ensures rising { OnOk result (IsDistinct (λ i j. i == j)
+        (map (λ e. e.index) (entries (nodes_of I.whole nodes.new.items)))
+        → AreRising (entries (nodes_of I.whole nodes.new.items))) }
+    ensures summed { OnOk result (IsSummed (nodes_of I.whole nodes.new.items)) }
+    ensures listed { IfOk result (λ until. (let ps = pairs (segments_of segments.now) in
+        let staying = filter (stays_at (pair_at ps from).a.x) (entries (nodes_of I.whole nodes.old.items)) in
+        IsPermutation (staying ++ entries_between ps from until) (entries (nodes_of I.whole nodes.new.items)))) }
+{
+    let first = segments[from].x_segment();
+    drop_ended(nodes, first.a.x);
+    let until = from + count_more(segments.len() - from, nodes.len());
+    push_nodes(segments, from, until, nodes)?;
+    nodes.sort_unstable_by_key(|node| (node.low, node.index));
+    sum_up(nodes.as_mut_slice());
+    Ok(until)
+}
+
+/// Leaves those entries that are live and do not end left of an `x`.
+fn drop_ended<I: OverlayInt>(nodes: &mut Vec<Node<I>>, x: I)
+    ensures { nodes.new.items ≡ filter (λ n. stays_at (I.whole x) (entry_of I.whole n)) nodes.old.items }
+{
+    nodes.retain(|node| stays(node, x));
+}
+
+/// How many of the segments that are left to add to a tree that has kept so many entries. One at least has to be left.
+fn count_more(left: usize, kept: usize) -> usize
+    requires { 0 < left }
+    ensures some { 0 < result }
+    ensures within { result ≤ left }
+{
+    let wanted = if kept < LEAST_MORE { LEAST_MORE } else { kept };
+    if left < wanted { left } else { wanted }
+}
+
+/// Appends the nodes of the segments from an index up to another.
+fn push_nodes<C: WindingCount, I: OverlayInt, D: Copy>(
+    segments: &[Segment<C, I, D>],
+    from: usize,
+    until: usize,
+    nodes: &mut Vec<Node<I>>,
+) -> Result<(), AllocError>
+    requires order { from ≤ until }
+    requires within { until ≤ length segments.now }
+    ensures { OnOk result (nodes_of I.whole nodes.new.items ≡ nodes_of I.whole nodes.old.items
+        ++ map (λ i. alone (entry_at (pairs (segments_of segments.now)) i)) (range_with_len from (until - from))) }
+{
+    for index in from..until {
+        nodes.push(node_at(index, segments[index].x_segment(), false))?;
+    }
+    Ok(())
+}
+
+fn node_at<I: OverlayInt>(index: usize, segment: XSegment<I>, is_live: bool) -> Node<I>
+    ensures { node_of I.whole result
+        ≡ alone (record (entry_of_pair index (pair_of I.whole segment)) { is_live = is_live }) }
+{
+    let heights = segment.y_range();
+    Node {
+        low: heights.min,
+        high: heights.max,
+        end_x: segment.b.x,
+        index,
+        is_live,
+        greatest: None,
+    }
+}
+
+/// Appends the marks that a segment and each of those found before it put on one another, and answers whether it
+/// crosses one of them at a point without whole coordinates.
+pub(crate) fn mark_with_found<C: WindingCount, I: OverlayInt, D: Copy>(
+    segments: &[Segment<C, I, D>],
+    found: &[usize],
+    index: usize,
+    placing: Placing,
+    marks: &mut Vec<LineMark<I>>,
+) -> Result<bool, AllocError>
+    requires index { index < length segments.now }
+    requires found { All (λ earlier. earlier < index) found.now }
+    requires sorted { IsSortedByKey ends_of pair_cmp segments.now }
+    requires in_range { All (λ s. IsPairInRange I.whole I.MIN_COORD I.MAX_COORD (x_segment_of s)) segments.now }
+    requires radius { HasRadius placing }
+    ensures marks { OnOk result (marks_of I.whole marks.new.items ≡ marks_of I.whole marks.old.items
+        ++ marks_with_found (placing_of placing) (pairs (segments_of segments.now)) index found.now) }
+    ensures rounded { IfOk result (λ rounded. rounded ≡ crosses_found
+        (pairs (segments_of segments.now)) index found.now) }
+{
+    let second = Indexed {
+        index,
+        x_segment: segments[index].x_segment(),
+    };
+    let mut rounded = false;
+    for earlier in found {
+        let first = Indexed {
+            index: *earlier,
+            x_segment: segments[*earlier].x_segment(),
+        };
+        if mark_both(first, second, placing, marks)? {
+            rounded = true;
+        }
+    }
+    Ok(rounded)
+}
+
+#[cfg(test)]
+mod tests;

@@ -1,0 +1,59 @@
+// The finder over a tree that gives up where it would take up too many pairs.
+ghost use Rattle.std.specs.Prelude.{◌≡◌, ◌≤◌, ◌+◌, All, IfErr, IfOk, OnOk, IfSome, OnSome, IsSortedByKey};
+ghost use Rattle.overlay_base.specs.declared.segm.fault.Fault.TheVariants.{Memory};
+ghost use Rattle.overlay_geometry.specs.Points.{pair_cmp};
+ghost use Rattle.overlay_base.specs.SegmentOf.{ends_of, segments_of, x_segment_of};
+ghost use Rattle.overlay_geometry.specs.InRange.{IsPairInRange};
+ghost use Rattle.overlay_intersections.specs.PassMarks.{is_rounded};
+ghost use Rattle.overlay_intersections.specs.PlacingOf.{placing_of, HasRadius};
+ghost use Rattle.overlay_intersections.specs.MarkOf.{AreMarks, marks_of};
+
+use crate::split::solver_tree::{TreeBuffers, mark_with_found, take_in};
+use overlay_base::segm::fault::Fault;
+use overlay_base::segm::segment::Segment;
+use overlay_base::segm::winding::WindingCount;
+use overlay_geometry::num::OverlayInt;
+use overlay_intersections::split::line_mark::LineMark;
+use overlay_intersections::split::placing::Placing;
+
+/// Finds the marks of a pass as `solver_tree::find_marks` does, under the same conditions, if that takes up no more
+/// pairs than it may. It answers whether the pass rounds, and `None` where it gave up: before a segment that might take
+/// up more than are left, so that `marks` is of no use.
+///
+/// Answers `Fault::Memory` where a growth is refused; `marks` is of no use then.
+pub fn find_marks_within<C: WindingCount, I: OverlayInt, D: Copy>(
+    segments: &[Segment<C, I, D>],
+    placing: Placing,
+    most: u128,
+    buffers: &mut TreeBuffers<I>,
+    marks: &mut Vec<LineMark<I>>,
+    looked: &mut u128,
+) -> Result<Option<bool>, Fault>
+    requires sorted { IsSortedByKey ends_of pair_cmp segments.now }
+    requires in_range { All (λ s. IsPairInRange I.whole I.MIN_COORD I.MAX_COORD (x_segment_of s)) segments.now }
+    requires radius { HasRadius placing }
+    ensures marks { IfOk result (λ found. OnSome found
+        (AreMarks (placing_of placing) (segments_of segments.now) (marks_of I.whole marks.new.items))) }
+    ensures rounded { IfOk result (λ found. IfSome found (λ rounded. rounded ≡ is_rounded (segments_of segments.now))) }
+    ensures looked { OnOk result (looked.new ≤ looked.old + most) }
+    ensures fault { IfErr result (λ fault. fault ≡ Memory) }
+{
+    let limit = looked.saturating_add(most);
+    let TreeBuffers { nodes, found } = buffers;
+    nodes.clear();
+    marks.clear();
+    let mut rounded = false;
+    let mut until = 0;
+    for index in 0..segments.len() {
+        if limit.saturating_sub(*looked) < segments.len() as u128 {
+            return Ok(None);
+        }
+        until = take_in(segments, index, until, nodes, found, looked)?;
+        if mark_with_found(segments, found, index, placing, marks)? {
+            rounded = true;
+        }
+    }
+    marks.sort()?;
+    marks.dedup();
+    Ok(Some(rounded))
+}
