@@ -69,6 +69,3 @@ pub fn split_and_build_clip<'a, I: OverlayInt>(
     splitter.split_segments(segments, solver)?;
     builder.build_string_clip(fill_rule, clip_rule, solver, segments)
 }
-
-#[cfg(test)]
-mod tests;

@@ -9,8 +9,6 @@ pub mod clip;
 pub mod overlay;
 pub mod overlay_core;
 pub mod prelude;
-#[cfg(test)]
-mod readme_tests;
 pub mod segm;
 pub mod split;
 pub mod string;

@@ -97,8 +97,3 @@ pub fn split_and_build_overlay<'a, I: OverlayInt, D: OverlayEdgeData<ShapeCountB
     splitter.split_segments(segments, solver)?;
     builder.build_boolean_overlay(fill_rule, overlay_rule, solver, segments)
 }
-
-#[cfg(test)]
-mod provenance_tests;
-#[cfg(test)]
-mod tests;

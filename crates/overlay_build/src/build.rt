@@ -9,21 +9,13 @@ mod fills;
 pub mod filter;
 pub mod graph;
 pub mod graph_node;
-#[cfg(test)]
-mod graph_tests;
 mod kept_links;
 pub mod laws;
 mod link_ends;
 pub mod link_filter;
 pub mod string_graph;
-#[cfg(test)]
-mod string_tests;
 pub mod util;
-#[cfg(test)]
-mod walk_tests;
 pub mod walks;
-#[cfg(test)]
-mod worked_lines;
 
 pub use overlay_sweep::build::{
     boolean, fill_handler, fill_strategy, live_segments, scan_list, scan_tree, string, sweep,

@@ -87,6 +87,3 @@ fn test_range<I: OverlayInt>(
         None => Ok(()),
     }
 }
-
-#[cfg(test)]
-mod tests;

@@ -6,8 +6,6 @@ pub mod laws;
 pub mod line_range;
 pub mod point;
 pub mod rect;
-#[cfg(test)]
-mod tests;
 pub mod triangle;
 pub mod v_segment;
 pub mod vector;

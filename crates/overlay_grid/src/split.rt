@@ -1,6 +1,6 @@
 // The grid, the fragments of segments in its columns, and the finder over them.
 
-mod axis;
+pub mod axis;
 mod border_contacts;
 pub mod fragment;
 pub mod fragment_buffer;

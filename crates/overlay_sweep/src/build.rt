@@ -8,14 +8,10 @@ pub mod laws;
 pub mod live_segments;
 mod place;
 pub mod scan_list;
-#[cfg(test)]
-mod scan_tests;
 pub mod scan_tree;
 mod start_point;
 pub mod string;
 pub mod sweep;
-#[cfg(test)]
-mod tests;
 mod tree_shape;
 mod visits;
 mod way;

@@ -203,6 +203,3 @@ impl Default for Solver {
         Solver::AUTO
     }
 }
-
-#[cfg(test)]
-mod tests;

@@ -125,6 +125,3 @@ fn is_apart_from_all<C: WindingCount, I: OverlayInt, D: Copy>(
     }
     true
 }
-
-#[cfg(test)]
-mod tests;

@@ -128,6 +128,3 @@ fn keep<C: WindingCount, I: OverlayInt, D: Copy>(
     list[kept] = segment;
     kept + 1
 }
-
-#[cfg(test)]
-mod tests;

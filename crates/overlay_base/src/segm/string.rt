@@ -74,6 +74,3 @@ impl WindingCount for ShapeCountString {
         self.subj != i32::MIN && self.clip < 4
     }
 }
-
-#[cfg(test)]
-mod tests;

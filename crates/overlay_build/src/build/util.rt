@@ -109,6 +109,3 @@ fn has_equal_neighbors<I: OverlayInt>(points: &[IntPoint<I>]) -> bool
     }
     false
 }
-
-#[cfg(test)]
-mod tests;

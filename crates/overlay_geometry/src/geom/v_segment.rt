@@ -112,6 +112,3 @@ impl<I> From<XSegment<I>> for VSegment<I> {
         }
     }
 }
-
-#[cfg(test)]
-mod tests;

@@ -7,7 +7,7 @@ use overlay_geometry::num::OverlayInt;
 
 /// One of the two axes.
 #[derive(Clone, Copy)]
-pub(crate) enum Axis {
+pub enum Axis {
     /// From left to right.
     X,
     /// From the lowest up.
@@ -16,7 +16,7 @@ pub(crate) enum Axis {
 
 impl Axis {
     /// Where a rectangle begins along this axis.
-    pub(crate) fn least<I: OverlayInt>(self, rect: &IntRect<I>) -> I
+    pub fn least<I: OverlayInt>(self, rect: &IntRect<I>) -> I
         ensures { result ≡ on_axis self rect.now.min_x rect.now.min_y }
     {
         match self {
@@ -26,7 +26,7 @@ impl Axis {
     }
 
     /// Where it ends.
-    pub(crate) fn greatest<I: OverlayInt>(self, rect: &IntRect<I>) -> I
+    pub fn greatest<I: OverlayInt>(self, rect: &IntRect<I>) -> I
         ensures { result ≡ on_axis self rect.now.max_x rect.now.max_y }
     {
         match self {

@@ -74,6 +74,3 @@ fn in_order<I: OverlayInt>(u: I, v: I) -> (I, I)
 {
     if v < u { (v, u) } else { (u, v) }
 }
-
-#[cfg(test)]
-mod tests;

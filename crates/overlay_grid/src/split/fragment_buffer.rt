@@ -48,8 +48,9 @@ impl<I: OverlayInt> FragmentBuffer<I> {
         FragmentBuffer::with_memory(alloc, layout, FragmentMemory::new(alloc))
     }
 
-    /// The same in the memory of an earlier one.
-    pub(crate) fn with_memory(
+    /// A buffer with one group for each column of a layout, all empty, in the memory of an earlier buffer. Answers
+    /// `Fault::Memory` where a growth is refused.
+    pub fn with_memory(
         alloc: Global,
         layout: GridLayout<I>,
         memory: FragmentMemory<I>,
@@ -71,8 +72,8 @@ impl<I: OverlayInt> FragmentBuffer<I> {
         })
     }
 
-    /// Its memory, for the next one.
-    pub(crate) fn into_memory(self) -> FragmentMemory<I> {
+    /// Gives up the buffer and returns its memory, for the next one.
+    pub fn into_memory(self) -> FragmentMemory<I> {
         let FragmentBuffer {
             layout: _,
             groups,
@@ -129,7 +130,7 @@ impl<I: OverlayInt> FragmentBuffer<I> {
 
     /// Sorts every group by where the fragments begin along one axis, and answers which: from the lowest up, unless a
     /// scan compares many fragments so and fewer from left to right. So it compares no more twos than share a height.
-    pub(crate) fn sort(&mut self) -> Axis
+    pub fn sort(&mut self) -> Axis
         ensures layout { grid_of self.new ≡ grid_of self.old }
         ensures permutation { (column : ℕ) → IsPermutation (group_of self.old column) (group_of self.new column) }
         ensures sorted { (column : ℕ) → IsSortedAlong result (group_of self.new column) }
@@ -290,6 +291,3 @@ fn ends_at<I: OverlayInt>(fragment: &Fragment<I>, x: I) -> bool
 {
     fragment.x_segment.b.x == x
 }
-
-#[cfg(test)]
-mod tests;

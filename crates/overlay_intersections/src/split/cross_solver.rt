@@ -151,6 +151,3 @@ fn past<I: OverlayInt>(end: IntPoint<I>, point: IntPoint<I>, segment: &XSegment<
 {
     IntVector::between(end, point).dot_product(IntVector::between(segment.a, segment.b))
 }
-
-#[cfg(test)]
-mod tests;

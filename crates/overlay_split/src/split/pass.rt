@@ -165,6 +165,3 @@ fn cut_at_marks<C: WindingCount, I: OverlayInt, D: OverlayEdgeData<C>>(
         has_marks: !marks.is_empty(),
     })
 }
-
-#[cfg(test)]
-mod tests;

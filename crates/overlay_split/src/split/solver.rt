@@ -359,6 +359,3 @@ fn snapping<I: OverlayInt>(radius: &SnapRadius) -> Placing
         radius_squared: radius.radius_squared::<I>(),
     }
 }
-
-#[cfg(test)]
-mod tests;

@@ -104,6 +104,3 @@ fn mark_with_later<C: WindingCount, I: OverlayInt, D: Copy>(
     }
     Ok(rounded)
 }
-
-#[cfg(test)]
-mod tests;

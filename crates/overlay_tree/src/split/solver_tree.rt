@@ -309,6 +309,3 @@ pub(crate) fn mark_with_found<C: WindingCount, I: OverlayInt, D: Copy>(
     }
     Ok(rounded)
 }
-
-#[cfg(test)]
-mod tests;

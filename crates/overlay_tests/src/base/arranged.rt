@@ -1,0 +1,74 @@
+// Lists that may be split or not, and that are arranged or not.
+ghost use Rattle.overlay_base.specs.Planar.{is_splittable, is_arranged};
+
+use overlay_base::segm::arranged::*;
+use overlay_base::segm::boolean::ShapeCountBoolean;
+use overlay_base::segm::segment::Segment;
+use overlay_base::segm::shape_type::ShapeType;
+use overlay_geometry::geom::point::IntPoint;
+use overlay_geometry::num::OverlayInt;
+use std::process::Abort;
+use std::test::Fail;
+
+/// From, to.
+type Step<I> = ((I, I), (I, I));
+
+fn list<I: OverlayInt>(
+    rt: &(impl Abort + AllocGlobal),
+    steps: &[Step<I>],
+) -> Result<Vec<Segment<ShapeCountBoolean, I, ()>>, Fail> {
+    let mut list = Vec::new(rt.alloc());
+    for ((ax, ay), (bx, by)) in steps.iter().copied() {
+        let (a, b) = (IntPoint::new(ax, ay), IntPoint::new(bx, by));
+        let step = Segment::try_ab_and_data(a, b, ShapeType::Subject, (), &mut ());
+        list.push(step.ok_or("equal ends")?)?;
+    }
+    Ok(list)
+}
+
+#[test]
+fn coordinates_at_the_limits(rt: HostRuntime) -> Result<(), Fail> {
+    assert!(rt; is_splittable(&list(&rt, &[((0, 0), (524_288, 0))])?));
+    assert!(rt; !is_splittable(&list(&rt, &[((0, 0), (1_073_741_824, 0))])?));
+    assert!(rt; !is_splittable(&list(&rt, &[((0, -1_073_741_825), (0, 0))])?));
+    assert!(rt; is_splittable(&list(&rt, &[((0, 0), (1_073_741_823, -1_073_741_824))])?));
+    let narrow: [Step<i16>; 1] = [((0, 16_384), (1, 0))];
+    assert!(rt; !is_splittable(&list(&rt, &narrow)?));
+    let narrow: [Step<i16>; 1] = [((-16_384, 16_383), (16_383, -16_384))];
+    assert!(rt; is_splittable(&list(&rt, &narrow)?));
+    Ok(())
+}
+
+#[test]
+fn arranged_lists(rt: HostRuntime) -> Result<(), Fail> {
+    let lists: [(&str, &[Step<i32>], bool); 8] = [
+        ("nothing", &[], true),
+        ("a shared end", &[((0, 0), (4, 0)), ((4, 0), (4, 4))], true),
+        ("not in order", &[((4, 0), (4, 4)), ((0, 0), (4, 0))], false),
+        (
+            "one pair twice",
+            &[((0, 0), (4, 0)), ((0, 0), (4, 0))],
+            false,
+        ),
+        ("an overlap", &[((0, 0), (4, 0)), ((2, 0), (6, 0))], false),
+        (
+            "a touch at a right end",
+            &[((0, 0), (4, 0)), ((4, -1), (4, 1))],
+            false,
+        ),
+        (
+            "a crossing of two that are no neighbors",
+            &[((0, 0), (10, 0)), ((1, 5), (2, 5)), ((3, -1), (3, 1))],
+            false,
+        ),
+        (
+            "side by side, and one above the other",
+            &[((0, 0), (10, 0)), ((1, 5), (2, 5)), ((11, -1), (11, 1))],
+            true,
+        ),
+    ];
+    for (name, steps, arranged) in lists {
+        assert_eq!(rt; is_arranged(&list(&rt, steps)?), arranged, "{name}");
+    }
+    Ok(())
+}

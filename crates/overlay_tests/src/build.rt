@@ -1,0 +1,7 @@
+mod contour_loops;
+mod graphs;
+mod scans;
+mod string_graphs;
+mod sweeps;
+mod walks;
+mod worked_lines;

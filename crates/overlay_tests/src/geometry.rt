@@ -1,0 +1,2 @@
+mod points;
+mod v_segments;

@@ -1,0 +1,75 @@
+// Each order once, at segments of the narrow engine.
+
+use overlay_geometry::geom::end::End;
+use overlay_geometry::geom::point::IntPoint;
+use overlay_geometry::geom::v_segment::{VSegment, update_if_under};
+use std::cmp::Ordering;
+
+#[test]
+fn a_segment_runs_under_a_higher_point(rt: HostRuntime) {
+    let level = VSegment {
+        a: IntPoint::new(-10_i16, -10),
+        b: IntPoint::new(10, -10),
+    };
+    assert_eq!(rt;
+        level.is_under_point_order(IntPoint::new(-10, 10)),
+        Ordering::Less
+    );
+}
+
+#[test]
+fn one_segment_runs_under_another(rt: HostRuntime) {
+    let low = VSegment {
+        a: IntPoint::new(0_i16, 0),
+        b: IntPoint::new(4, 0),
+    };
+    let high = VSegment {
+        a: IntPoint::new(1_i16, 1),
+        b: IntPoint::new(3, 1),
+    };
+    assert_eq!(rt; low.is_under_segment_order(&high), Ordering::Less);
+    assert_eq!(rt; high.is_under_segment_order(&low), Ordering::Greater);
+    assert!(rt; low.is_under_segment(&high));
+}
+
+#[test]
+fn the_lowest_of_some_segments_is_kept(rt: HostRuntime) {
+    let middle = VSegment {
+        a: IntPoint::new(0_i16, 0),
+        b: IntPoint::new(4, 0),
+    };
+    let high = VSegment {
+        a: IntPoint::new(1_i16, 1),
+        b: IntPoint::new(3, 1),
+    };
+    let low = VSegment {
+        a: IntPoint::new(2_i16, -1),
+        b: IntPoint::new(5, -1),
+    };
+    let mut best = None;
+    update_if_under(&mut best, middle);
+    assert_eq!(rt; best, Some(middle));
+    update_if_under(&mut best, high);
+    assert_eq!(rt; best, Some(middle));
+    update_if_under(&mut best, low);
+    assert_eq!(rt; best, Some(low));
+}
+
+#[test]
+fn angles_go_from_below_to_above(rt: HostRuntime) {
+    let level = VSegment {
+        a: IntPoint::new(0_i16, 0),
+        b: IntPoint::new(4, 0),
+    };
+    let upright = VSegment {
+        a: IntPoint::new(0_i16, 0),
+        b: IntPoint::new(0, 4),
+    };
+    assert_eq!(rt; level.cmp_by_angle(&upright), Ordering::Less);
+}
+
+#[test]
+fn a_default_end_is_the_origin(rt: HostRuntime) {
+    let end: End<i16> = End::default();
+    assert_eq!(rt; (end.index, end.point.x, end.point.y), (0, 0, 0));
+}

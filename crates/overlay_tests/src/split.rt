@@ -1,0 +1,7 @@
+mod cross_solver;
+mod fragment;
+mod fragment_buffer;
+mod pass;
+mod solver;
+mod solver_list;
+mod solver_tree;

@@ -1,0 +1,5 @@
+mod clip;
+mod contours;
+mod overlay;
+mod provenance;
+mod readme;

@@ -1,0 +1,219 @@
+// Overlays of small contours, worked by hand.
+
+use overlay_base::overlay_core::fill_rule::FillRule;
+use overlay_base::overlay_core::overlay_rule::OverlayRule;
+use overlay_base::overlay_core::solver::Solver;
+use overlay_base::segm::fault::Fault;
+use overlay_base::segm::shape_type::ShapeType;
+use overlay_contours::contour::IntContour;
+use overlay_contours::fault::ContourFault;
+use overlay_contours::overlay::*;
+use overlay_geometry::geom::point::IntPoint;
+use std::alloc::Global;
+use std::test::Fail;
+
+/// A contour as the tables write it.
+type Corners = &'static [(i32, i32)];
+
+const SQUARE: Corners = &[(0, 0), (4, 0), (4, 4), (0, 4)];
+
+const OTHER_SQUARE: Corners = &[(2, 2), (6, 2), (6, 6), (2, 6)];
+
+const BOW_TIE: Corners = &[(0, 0), (4, 4), (4, 0), (0, 4)];
+
+/// What a call is given, and what it answers.
+#[derive(Clone, Copy)]
+struct Case {
+    name: &'static str,
+    subject: &'static [Corners],
+    clip: &'static [Corners],
+    fill_rule: FillRule,
+    rule: OverlayRule,
+    answer: Result<&'static [Corners], ContourFault>,
+}
+
+const CASES: [Case; 12] = [
+    Case {
+        name: "what two squares share",
+        subject: &[SQUARE],
+        clip: &[OTHER_SQUARE],
+        fill_rule: FillRule::NonZero,
+        rule: OverlayRule::Intersect,
+        answer: Ok(&[&[(2, 2), (2, 4), (4, 4), (4, 2)]]),
+    },
+    Case {
+        name: "two squares together",
+        subject: &[SQUARE],
+        clip: &[OTHER_SQUARE],
+        fill_rule: FillRule::NonZero,
+        rule: OverlayRule::Union,
+        answer: Ok(&[&[
+            (0, 0),
+            (0, 4),
+            (2, 4),
+            (2, 6),
+            (6, 6),
+            (6, 2),
+            (4, 2),
+            (4, 0),
+        ]]),
+    },
+    Case {
+        name: "a square alone",
+        subject: &[SQUARE],
+        clip: &[],
+        fill_rule: FillRule::EvenOdd,
+        rule: OverlayRule::Subject,
+        answer: Ok(&[&[(0, 0), (0, 4), (4, 4), (4, 0)]]),
+    },
+    Case {
+        name: "a square given twice, by even-odd",
+        subject: &[SQUARE, SQUARE],
+        clip: &[],
+        fill_rule: FillRule::EvenOdd,
+        rule: OverlayRule::Subject,
+        answer: Ok(&[]),
+    },
+    Case {
+        name: "a square given twice, by nonzero",
+        subject: &[SQUARE, SQUARE],
+        clip: &[],
+        fill_rule: FillRule::NonZero,
+        rule: OverlayRule::Subject,
+        answer: Ok(&[&[(0, 0), (0, 4), (4, 4), (4, 0)]]),
+    },
+    Case {
+        name: "the left half of a bow tie runs counterclockwise",
+        subject: &[BOW_TIE],
+        clip: &[],
+        fill_rule: FillRule::Positive,
+        rule: OverlayRule::Subject,
+        answer: Ok(&[&[(0, 0), (0, 4), (2, 2)]]),
+    },
+    Case {
+        name: "the right one does not",
+        subject: &[BOW_TIE],
+        clip: &[],
+        fill_rule: FillRule::Negative,
+        rule: OverlayRule::Subject,
+        answer: Ok(&[&[(2, 2), (4, 0), (4, 4)]]),
+    },
+    Case {
+        name: "points that are repeated, and contours of few points",
+        subject: &[
+            &[(0, 0), (0, 0), (4, 0), (4, 4), (4, 4)],
+            &[(9, 9)],
+            &[],
+            &[(7, 7), (8, 8)],
+        ],
+        clip: &[],
+        fill_rule: FillRule::NonZero,
+        rule: OverlayRule::Subject,
+        answer: Ok(&[&[(0, 0), (4, 0), (4, 4)]]),
+    },
+    Case {
+        name: "nothing",
+        subject: &[],
+        clip: &[],
+        fill_rule: FillRule::NonZero,
+        rule: OverlayRule::Xor,
+        answer: Ok(&[]),
+    },
+    Case {
+        name: "a point of the subject out of range",
+        subject: &[SQUARE, &[(0, 0), (1_073_741_824, 0), (0, i32::MIN)]],
+        clip: &[&[(0, i32::MIN)]],
+        fill_rule: FillRule::NonZero,
+        rule: OverlayRule::Union,
+        answer: Err(ContourFault::OutOfRange {
+            shape_type: ShapeType::Subject,
+            contour: 1,
+            point: 1,
+        }),
+    },
+    Case {
+        name: "a point of the clip out of range",
+        subject: &[SQUARE],
+        clip: &[
+            &[],
+            &[(0, 0)],
+            &[(0, 0), (4, 0), (-1_073_741_824, -1_073_741_825)],
+        ],
+        fill_rule: FillRule::NonZero,
+        rule: OverlayRule::Union,
+        answer: Err(ContourFault::OutOfRange {
+            shape_type: ShapeType::Clip,
+            contour: 2,
+            point: 2,
+        }),
+    },
+    Case {
+        name: "the corners of the range",
+        subject: &[&[
+            (-1_073_741_824, -1_073_741_824),
+            (1_073_741_823, -1_073_741_824),
+            (1_073_741_823, 1_073_741_823),
+        ]],
+        clip: &[],
+        fill_rule: FillRule::NonZero,
+        rule: OverlayRule::Subject,
+        answer: Ok(&[&[
+            (-1_073_741_824, -1_073_741_824),
+            (1_073_741_823, -1_073_741_824),
+            (1_073_741_823, 1_073_741_823),
+        ]]),
+    },
+];
+
+fn contours_from(alloc: Global, lists: &[Corners]) -> Result<Vec<IntContour<i32>>, Fault> {
+    let mut contours = Vec::new(alloc);
+    for corners in lists {
+        let mut contour = Vec::new(alloc);
+        for (x, y) in *corners {
+            contour.push(IntPoint::new(*x, *y))?;
+        }
+        contours.push(contour)?;
+    }
+    Ok(contours)
+}
+
+/// The points of all contours as the tables write them.
+fn rows(alloc: Global, contours: &[IntContour<i32>]) -> Result<Vec<Vec<(i32, i32)>>, Fault> {
+    let mut rows = Vec::new(alloc);
+    for contour in contours {
+        let mut row = Vec::new(alloc);
+        for point in contour {
+            row.push((point.x, point.y))?;
+        }
+        rows.push(row)?;
+    }
+    Ok(rows)
+}
+
+#[test]
+fn small_contours(rt: HostRuntime) -> Result<(), Fail> {
+    let alloc = rt.alloc();
+    for case in CASES {
+        let subject = contours_from(alloc, case.subject)?;
+        let clip = contours_from(alloc, case.clip)?;
+        let answer = overlay_contours(
+            alloc,
+            &subject,
+            &clip,
+            &Solver::AUTO,
+            case.fill_rule,
+            case.rule,
+        );
+        let name = case.name;
+        match answer {
+            Ok(contours) => {
+                let found = rows(alloc, &contours)?;
+                let wanted = rows(alloc, &contours_from(alloc, case.answer.unwrap_or(&[]))?)?;
+                assert!(rt; case.answer.is_ok(), "{name}");
+                assert_eq!(rt; found, wanted, "{name}");
+            }
+            Err(fault) => assert_eq!(rt; case.answer.err(), Some(fault), "{name}"),
+        }
+    }
+    Ok(())
+}
