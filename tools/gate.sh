@@ -1,13 +1,46 @@
 #!/usr/bin/env bash
-# All proofs, tests and must-fail edits from nothing, by `rt ci`. The last line is `N passed, M failed`.
+# Proofs, tests and must-fail edits from nothing, by `rt ci`. The last line is `N passed, M failed`.
 #
-# Left alone, `rt ci` sets how many checks run side by side by an estimate of memory two or three times above what they
-# take. Here it is one a processor, as long as each has four gigabytes; the largest check takes less than three.
+#     bash tools/gate.sh                  the whole gate
+#     bash tools/gate.sh --since COMMIT   every proof and test, and of the edits only those of crates that changed since COMMIT
+#
+# Where a stage ends, its line begins with the seconds since the start.
 set -euo pipefail
 cd "$(dirname "$0")/.."
+
+# Runs on a copy of the tree, without the edits of crates in which nothing changed since the commit $1.
+keep_edits_since() {
+    local changed copy
+    changed=$(git diff --name-only "$1" -- crates; git ls-files --others --exclude-standard -- crates)
+    copy=$(mktemp -d)
+    trap 'rm -rf "$copy"' EXIT
+    git ls-files -z --cached --others --exclude-standard | while IFS= read -r -d '' file; do
+        if [[ -e $file ]]; then cp --parents "$file" "$copy"; fi
+    done
+    cd "$copy"
+    for crate in crates/*; do
+        grep -q "^$crate/" <<<"$changed" || rm -rf "$crate/must-fail"
+    done
+}
+
+if [[ ${1:-} == --since && $# == 2 ]]; then
+    keep_edits_since "$2"
+elif (($#)); then
+    echo "usage: bash tools/gate.sh [--since COMMIT]" >&2
+    exit 2
+fi
+
+# Left alone, `rt ci` sets how many checks run side by side by an estimate of memory two or three times above what they
+# take. Here it is one a processor, as long as each has four gigabytes; the largest check takes less than three.
 available=$(awk '/^MemAvailable:/ { print $2 }' /proc/meminfo)
 rooms=$((available / 4000000))
 lanes=$(nproc)
 if ((lanes > rooms)); then lanes=$((rooms > 0 ? rooms : 1)); fi
 export RT_JOBS="${RT_JOBS:-$lanes}"
-exec rt ci
+
+rt ci | while IFS= read -r line; do
+    case $line in
+    *" proved" | *" NOT PROVED" | *"trying its must-fail edits"*) printf '%5d s: %s\n' "$SECONDS" "$line" ;;
+    *) printf '%s\n' "$line" ;;
+    esac
+done
