@@ -12,10 +12,10 @@ ghost use Rattle.arrange.specs.Output.{answer_text, cross_text};
 use crate::output::write_place;
 use crate::settings::SquaredRadius;
 use crate::stop::Stop;
-use overlay_geometry::geom::x_segment::XSegment;
-use overlay_geometry::num::OverlayInt;
 use overlay_base::segm::boolean::ShapeCountBoolean;
 use overlay_base::segm::segment::Segment;
+use overlay_geometry::geom::x_segment::XSegment;
+use overlay_geometry::num::OverlayInt;
 use overlay_split::split::cross_solver::{CrossSolver, CrossType};
 use std::alloc::{AllocError, Global};
 

@@ -16,7 +16,6 @@ use crate::graph_output::write_graph;
 use crate::settings::Settings;
 use crate::stop::Stop;
 use i_overlay::overlay::split_and_build_overlay;
-use overlay_geometry::num::OverlayInt;
 use overlay_base::overlay_core::fill_rule::FillRule;
 use overlay_base::overlay_core::solver::Solver;
 use overlay_base::segm::boolean::ShapeCountBoolean;
@@ -25,6 +24,7 @@ use overlay_base::segm::segment::Segment;
 use overlay_build::build::builder::GraphBuilder;
 use overlay_build::build::graph::OverlayGraph;
 use overlay_build::build::graph_node::OverlayNode;
+use overlay_geometry::num::OverlayInt;
 use overlay_split::split::solver::SplitSolver;
 use std::alloc::Global;
 

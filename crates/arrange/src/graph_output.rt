@@ -9,11 +9,11 @@ ghost use Rattle.arrange.specs.Output.{numbers_text, link_line, kind_text, node_
 
 use crate::line_end::{ROOM, append, put_last_word, put_number, put_word};
 use crate::output::put_point;
-use overlay_geometry::geom::point::IntPoint;
-use overlay_geometry::num::OverlayInt;
 use overlay_base::overlay_core::link::OverlayLink;
 use overlay_build::build::graph::OverlayGraph;
 use overlay_build::build::graph_node::OverlayNode;
+use overlay_geometry::geom::point::IntPoint;
+use overlay_geometry::num::OverlayInt;
 use std::alloc::AllocError;
 
 /// Writes the links, then the nodes, then `valid true` or `valid false`.

@@ -8,10 +8,10 @@ ghost use Rattle.arrange.specs.Output.{segment_lines, flag_line};
 
 use crate::output::write_segments;
 use crate::stop::Stop;
-use overlay_geometry::num::OverlayInt;
 use overlay_base::segm::boolean::ShapeCountBoolean;
 use overlay_base::segm::join::join_with_store;
 use overlay_base::segm::segment::Segment;
+use overlay_geometry::num::OverlayInt;
 use std::alloc::Global;
 
 /// The text of the joined segments, and of the flag that tells whether two given ones had one pair of ends.

@@ -15,11 +15,11 @@ ghost use Rattle.arrange.specs.Text.{lines_of, words_of, words_of_line, NamesSha
 
 use crate::number::signed_number;
 use crate::stop::{LineFault, Stop};
-use overlay_geometry::geom::point::IntPoint;
-use overlay_geometry::num::OverlayInt;
 use overlay_base::segm::boolean::ShapeCountBoolean;
 use overlay_base::segm::segment::Segment;
 use overlay_base::segm::shape_type::ShapeType;
+use overlay_geometry::geom::point::IntPoint;
+use overlay_geometry::num::OverlayInt;
 use std::alloc::Global;
 
 /// The lines of a text. Line feeds stand between them, so there is one more line than line feeds.

@@ -6,11 +6,11 @@ ghost use Rattle.overlay_base.specs.SegmentOf.{segment_of, segments_of};
 ghost use Rattle.arrange.specs.Output.{pair_text, segment_line, segment_lines, place_line};
 
 use crate::line_end::{ROOM, Room, append, put_last_word, put_signed, put_word};
+use overlay_base::segm::boolean::ShapeCountBoolean;
+use overlay_base::segm::segment::Segment;
 use overlay_geometry::geom::point::IntPoint;
 use overlay_geometry::geom::x_segment::XSegment;
 use overlay_geometry::num::OverlayInt;
-use overlay_base::segm::boolean::ShapeCountBoolean;
-use overlay_base::segm::segment::Segment;
 use overlay_split::split::cross_solver::CrossResult;
 use std::alloc::AllocError;
 

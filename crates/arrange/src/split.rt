@@ -9,10 +9,10 @@ ghost use Rattle.arrange.specs.declared.settings.Command.{Command};
 use crate::output::write_segments;
 use crate::settings::Settings;
 use crate::stop::Stop;
-use overlay_geometry::num::OverlayInt;
 use overlay_base::overlay_core::solver::Solver;
 use overlay_base::segm::boolean::ShapeCountBoolean;
 use overlay_base::segm::segment::Segment;
+use overlay_geometry::num::OverlayInt;
 use overlay_split::split::solver::SplitSolver;
 use std::alloc::Global;
 

@@ -13,10 +13,10 @@ use crate::graph::{Lines, build_graph};
 use crate::graph_output::write_numbers;
 use crate::settings::Settings;
 use crate::stop::Stop;
-use overlay_geometry::num::OverlayInt;
 use overlay_build::build::builder::GraphBuilder;
 use overlay_build::build::graph::OverlayGraph;
 use overlay_build::build::walks::closed_walks;
+use overlay_geometry::num::OverlayInt;
 use std::alloc::{AllocError, Global};
 
 /// The text of closed walks through the graph that the settings choose, in which every link stands in one place, or

@@ -11,7 +11,6 @@ ghost use Rattle.overlay_build.specs.NodeIndexes.{items_of, is_any_node};
 ghost use Rattle.overlay_build.specs.StringGraphOf.{nodes_of, links_of};
 ghost use Rattle.i_overlay.specs.Headline.{IsClip, IsRefused};
 
-use overlay_geometry::num::OverlayInt;
 use overlay_base::overlay_core::clip_rule::ClipRule;
 use overlay_base::overlay_core::fill_rule::FillRule;
 use overlay_base::overlay_core::solver::Solver;
@@ -20,6 +19,7 @@ use overlay_base::segm::segment::Segment;
 use overlay_base::segm::string::ShapeCountString;
 use overlay_build::build::builder::GraphBuilder;
 use overlay_build::build::string_graph::StringGraph;
+use overlay_geometry::num::OverlayInt;
 use overlay_split::split::solver::SplitSolver;
 
 /// Splits a list of polygons, the subject, and lines into a planar arrangement, and answers the graph of the parts of

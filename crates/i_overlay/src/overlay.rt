@@ -18,7 +18,6 @@ ghost use Rattle.overlay_build.specs.OverlayGraphOf.{nodes_of, links_of};
 ghost use Rattle.i_overlay.specs.FarRegions.{EnclosesOverlay};
 ghost use Rattle.i_overlay.specs.Headline.{IsOverlay, IsDataAfter, IsRefused};
 
-use overlay_geometry::num::OverlayInt;
 use overlay_base::overlay_core::edge_data::OverlayEdgeData;
 use overlay_base::overlay_core::fill_rule::FillRule;
 use overlay_base::overlay_core::overlay_rule::OverlayRule;
@@ -29,6 +28,7 @@ use overlay_base::segm::segment::Segment;
 use overlay_build::build::builder::GraphBuilder;
 use overlay_build::build::graph::OverlayGraph;
 use overlay_build::build::graph_node::OverlayNode;
+use overlay_geometry::num::OverlayInt;
 use overlay_split::split::solver::SplitSolver;
 
 /// Splits a list into a planar arrangement, and answers the graph of the segments that an overlay rule keeps under a

@@ -2,8 +2,6 @@
 
 pub use crate::clip::split_and_build_clip;
 pub use crate::overlay::split_and_build_overlay;
-pub use overlay_geometry::geom::point::IntPoint;
-pub use overlay_geometry::num::OverlayInt;
 pub use overlay_base::overlay_core::clip_rule::ClipRule;
 pub use overlay_base::overlay_core::fill_rule::FillRule;
 pub use overlay_base::overlay_core::overlay_rule::OverlayRule;
@@ -21,4 +19,6 @@ pub use overlay_build::build::graph::OverlayGraph;
 pub use overlay_build::build::graph_node::OverlayNode;
 pub use overlay_build::build::string_graph::StringGraph;
 pub use overlay_build::build::walks::closed_walks;
+pub use overlay_geometry::geom::point::IntPoint;
+pub use overlay_geometry::num::OverlayInt;
 pub use overlay_split::split::solver::SplitSolver;

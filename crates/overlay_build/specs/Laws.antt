@@ -66,6 +66,7 @@ abbrev pub GraphsBoundRegions : Type 0
 GraphsBoundRegions =
     (fill_rule : FillRule) (rule : Bool → Bool → Bool) (segments : List WholeSegment) → IsTrue (is_map segments) → IsTrue (are_polygons segments) → IsTrue (is_planar segments) → IsBalanced segments →
     BoundsRegion rule fill_rule segments (graph_by (keeps_fill rule) fill_rule segments)
+
 -- Of balanced, planar segments: the windings of the two sides of each are those of the places directly beside it.
 abbrev pub SidesTellPlaces : Type 0
 SidesTellPlaces = (segments : List WholeSegment) → IsTrue (is_map segments) → IsTrue (is_planar segments) → IsBalanced segments → All (TellsPlaces segments) segments

@@ -8,10 +8,10 @@ ghost use Rattle.overlay_base.specs.SegmentOf.{segment_of, segments_of};
 ghost use Rattle.overlay_c.specs.Records.{line_start_of, line_end_of, line_count_of, line_asks, line_asked_by};
 
 use crate::records::LineRecord;
-use overlay_geometry::geom::point::IntPoint;
 use overlay_base::segm::segment::Segment;
 use overlay_base::segm::string::ShapeCountString;
 use overlay_base::segm::winding::WindingCount;
+use overlay_geometry::geom::point::IntPoint;
 use std::alloc::AllocError;
 
 /// A segment of polygons and lines, with coordinates of 32 bits.

@@ -7,7 +7,6 @@ ghost use Rattle.overlay_base.specs.SegmentOf.{segment_of, segments_of};
 ghost use Rattle.overlay_build.specs.GraphOf.{link_of};
 ghost use Rattle.overlay_c.specs.Records.{start_of, end_of, count_of, asks, asked_by, told_by, link_by, fill_rule_of, overlay_rule_of};
 
-use overlay_geometry::geom::point::IntPoint;
 use overlay_base::overlay_core::fill_rule::FillRule;
 use overlay_base::overlay_core::link::OverlayLink;
 use overlay_base::overlay_core::overlay_rule::OverlayRule;
@@ -15,6 +14,7 @@ use overlay_base::overlay_core::solver::{Precision, Solver, Strategy};
 use overlay_base::segm::boolean::ShapeCountBoolean;
 use overlay_base::segm::segment::Segment;
 use overlay_base::segm::winding::WindingCount;
+use overlay_geometry::geom::point::IntPoint;
 
 /// A segment of polygons, with coordinates of 32 bits.
 pub type Side = Segment<ShapeCountBoolean, i32, ()>;

@@ -14,12 +14,12 @@ ghost use Rattle.overlay_contours.specs.Contours.{steps_of};
 ghost use Rattle.overlay_contours.specs.ContoursOf.{points_of, contours_of};
 ghost use Rattle.overlay_contours.specs.ContourSegments.{step_segments, contour_segments, overlay_segments, overlay_winding, are_in_range, IsFirstPointOutside, IsFirstOutside};
 
-use overlay_geometry::geom::point::IntPoint;
-use overlay_geometry::num::OverlayInt;
 use overlay_base::segm::boolean::ShapeCountBoolean;
 use overlay_base::segm::fault::Fault;
 use overlay_base::segm::segment::Segment;
 use overlay_base::segm::shape_type::ShapeType;
+use overlay_geometry::geom::point::IntPoint;
+use overlay_geometry::num::OverlayInt;
 use std::alloc::Global;
 
 pub mod laws;

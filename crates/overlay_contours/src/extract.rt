@@ -15,11 +15,11 @@ ghost use Rattle.overlay_contours.specs.ContoursOf.{points_of, contours_of};
 ghost use Rattle.overlay_contours.specs.WalkPairs.{walk_pairs, node_point};
 
 use crate::contour::IntContour;
-use overlay_geometry::geom::id_point::IdPoint;
-use overlay_geometry::num::OverlayInt;
 use overlay_base::segm::fault::Fault;
 use overlay_build::build::graph::OverlayGraph;
 use overlay_build::build::walks::closed_walks;
+use overlay_geometry::geom::id_point::IdPoint;
+use overlay_geometry::num::OverlayInt;
 use std::alloc::Global;
 
 /// The closed walks of a graph as contours: each link is an edge of one contour, once. So oddly many edges run below

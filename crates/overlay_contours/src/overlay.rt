@@ -9,12 +9,12 @@ use crate::contour::{IntContour, find_out_of_range, segments_of_contours};
 use crate::extract::contours_of_graph;
 use crate::fault::ContourFault;
 use i_overlay::overlay::split_and_build_overlay;
-use overlay_geometry::num::OverlayInt;
 use overlay_base::overlay_core::fill_rule::FillRule;
 use overlay_base::overlay_core::overlay_rule::OverlayRule;
 use overlay_base::overlay_core::solver::Solver;
 use overlay_base::segm::shape_type::ShapeType;
 use overlay_build::build::builder::GraphBuilder;
+use overlay_geometry::num::OverlayInt;
 use overlay_split::split::solver::SplitSolver;
 use std::alloc::Global;
 

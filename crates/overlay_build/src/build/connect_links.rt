@@ -9,10 +9,10 @@ use crate::build::graph_node::GraphNode;
 use crate::build::link_ends::{
     block_end, collect_ends, collect_indices, number_ends, sort_by_point,
 };
-use overlay_geometry::geom::end::End;
-use overlay_geometry::num::OverlayInt;
 use overlay_base::overlay_core::link::OverlayLink;
 use overlay_base::segm::fault::Fault;
+use overlay_geometry::geom::end::End;
+use overlay_geometry::num::OverlayInt;
 use std::alloc::Global;
 
 /// Makes the nodes at the ends of the links, and gives both ends of each link the number of its node. The first end of

@@ -10,11 +10,11 @@ ghost use Rattle.overlay_build.specs.steps.FreeArcs.{unused_starts, starts_of, A
 ghost use Rattle.overlay_build.specs.steps.UnusedLinks.{AreCounted};
 
 use crate::build::graph::OverlayGraph;
-use overlay_geometry::num::OverlayInt;
 use overlay_base::overlay_core::link::OverlayLink;
 use overlay_base::overlay_core::overlay_rule::OverlayRule;
 use overlay_base::segm::fault::Fault;
 use overlay_base::segm::segment_fill::{CLIP_TOP, NONE, SUBJ_TOP, SegmentFill};
+use overlay_geometry::num::OverlayInt;
 use std::alloc::Global;
 
 /// Closed walks along the links of a graph, each in its direction: from `a` to `b` where the rule holds of the top of its

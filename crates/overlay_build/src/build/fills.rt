@@ -6,12 +6,12 @@ ghost use Rattle.overlay_base.specs.declared.segm.fault.Fault.TheVariants.{Count
 ghost use Rattle.overlay_sweep.specs.ChainWindings.{tops_leave_range};
 ghost use Rattle.overlay_build.specs.Graph.{fills_of};
 
-use overlay_geometry::num::OverlayInt;
 use overlay_base::overlay_core::fill_rule::FillRule;
 use overlay_base::overlay_core::solver::Solver;
 use overlay_base::segm::fault::Fault;
 use overlay_base::segm::segment::Segment;
 use overlay_base::segm::segment_fill::{NONE, SegmentFill};
+use overlay_geometry::num::OverlayInt;
 use overlay_sweep::build::fill_handler::StoreFillsHandler;
 use overlay_sweep::build::fill_strategy::FillCount;
 use overlay_sweep::build::sweep::SweepRunner;

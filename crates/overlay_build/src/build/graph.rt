@@ -5,8 +5,8 @@ ghost use Rattle.overlay_build.specs.GraphOf.{HoldGraph, graph_with};
 ghost use Rattle.overlay_build.specs.NodeIndexes.{indexes_of, is_canonical_node};
 
 use crate::build::graph_node::OverlayNode;
-use overlay_geometry::num::OverlayInt;
 use overlay_base::overlay_core::link::OverlayLink;
+use overlay_geometry::num::OverlayInt;
 
 /// The kept segments of an overlay as links, and their ends as nodes.
 ///

@@ -7,8 +7,6 @@ ghost use Rattle.overlay_build.specs.Graph.{filled, fills_of, data_by};
 ghost use Rattle.overlay_build.specs.GraphOf.{kept_of};
 ghost use Rattle.overlay_build.specs.steps.LinkRules.{keeps_by};
 
-use overlay_geometry::geom::id_point::IdPoint;
-use overlay_geometry::num::OverlayInt;
 use overlay_base::overlay_core::clip_rule::ClipRule;
 use overlay_base::overlay_core::link::OverlayLink;
 use overlay_base::overlay_core::overlay_rule::OverlayRule;
@@ -16,6 +14,8 @@ use overlay_base::segm::fault::Fault;
 use overlay_base::segm::segment::Segment;
 use overlay_base::segm::segment_fill::SegmentFill;
 use overlay_base::segm::winding::WindingCount;
+use overlay_geometry::geom::id_point::IdPoint;
+use overlay_geometry::num::OverlayInt;
 
 /// Which segments become links, by their fills.
 #[derive(Clone, Copy)]

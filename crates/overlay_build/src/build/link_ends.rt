@@ -9,11 +9,11 @@ ghost use Rattle.overlay_build.specs.steps.EndOf.{WholeEnd, ends_of};
 ghost use Rattle.overlay_build.specs.GraphOf.{pairs_of_links, with_node, names_node};
 ghost use Rattle.overlay_build.specs.steps.LinkEnds.{numbered_starts, numbered_ends};
 
+use overlay_base::overlay_core::link::OverlayLink;
+use overlay_base::segm::fault::Fault;
 use overlay_geometry::geom::end::End;
 use overlay_geometry::geom::point::IntPoint;
 use overlay_geometry::num::OverlayInt;
-use overlay_base::overlay_core::link::OverlayLink;
-use overlay_base::segm::fault::Fault;
 
 /// Collects the first ends of all links, then the second ends, each with its link's index.
 pub fn collect_ends<I: OverlayInt, D: Copy>(

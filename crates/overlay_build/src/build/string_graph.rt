@@ -3,9 +3,9 @@ ghost use Rattle.std.specs.Prelude.{◌≡◌};
 ghost use Rattle.std.specs.Borrow.{sem};
 
 use crate::build::builder::GraphBuilder;
-use overlay_geometry::num::OverlayInt;
 use overlay_base::overlay_core::link::OverlayLink;
 use overlay_base::segm::string::ShapeCountString;
+use overlay_geometry::num::OverlayInt;
 
 /// A builder of graphs of lines.
 pub type LineBuilder<I> = GraphBuilder<ShapeCountString, Vec<usize>, I, ()>;

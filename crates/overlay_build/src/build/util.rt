@@ -8,10 +8,10 @@ ghost use Rattle.overlay_base.specs.declared.segm.fault.Fault.TheVariants.{Memor
 
 use crate::build::builder::GraphBuilder;
 use crate::build::graph_node::GraphNode;
-use overlay_geometry::geom::point::IntPoint;
-use overlay_geometry::num::OverlayInt;
 use overlay_base::segm::fault::Fault;
 use overlay_base::segm::winding::WindingCount;
+use overlay_geometry::geom::point::IntPoint;
+use overlay_geometry::num::OverlayInt;
 
 /// Contours of fewer points are looked at point by point; longer ones are sorted.
 const FEW_POINTS: usize = 64;

@@ -9,8 +9,8 @@ ghost use Rattle.overlay_build.specs.steps.UnusedLinks.{meets, unused_degree, Ar
 ghost use Rattle.overlay_build.specs.Walks.{IsClosedWalk, AreClosedWalks};
 
 use crate::build::graph::OverlayGraph;
-use overlay_geometry::num::OverlayInt;
 use overlay_base::segm::fault::Fault;
+use overlay_geometry::num::OverlayInt;
 use std::alloc::Global;
 
 /// Closed walks over the links of a graph: each walk lists the indexes of links that lead from a node back to it, and

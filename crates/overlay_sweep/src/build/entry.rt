@@ -3,9 +3,9 @@ ghost use Rattle.std.specs.Prelude.{◌<ℤ◌};
 ghost use Rattle.overlay_geometry.specs.VSegmentOf.{IsVSegmentInRange};
 
 use crate::build::place::Place;
+use overlay_base::segm::winding::WindingCount;
 use overlay_geometry::geom::v_segment::VSegment;
 use overlay_geometry::num::OverlayInt;
-use overlay_base::segm::winding::WindingCount;
 use std::alloc::AllocError;
 
 /// A segment that is not vertical, with the sum above it.

@@ -5,10 +5,10 @@ ghost use Rattle.std.specs.ControlFlow.{break_value};
 ghost use Rattle.overlay_sweep.specs.Sweep.{Visit};
 ghost use Rattle.overlay_sweep.specs.VisitOf.{visit_of};
 
-use overlay_geometry::num::OverlayInt;
 use overlay_base::segm::segment::Segment;
 use overlay_base::segm::segment_fill::SegmentFill;
 use overlay_base::segm::winding::WindingCount;
+use overlay_geometry::num::OverlayInt;
 use std::ops::ControlFlow;
 
 /// A handler of the segments of a sweep with their fills.

@@ -7,11 +7,11 @@ ghost use Rattle.overlay_geometry.specs.VSegmentOf.{v_pair_of, IsVSegmentInRange
 ghost use Rattle.overlay_sweep.specs.Live.{sum_below};
 ghost use Rattle.overlay_sweep.specs.Live.{HoldSameFrom, AreFreeAt};
 
+use overlay_base::segm::fault::Fault;
+use overlay_base::segm::winding::WindingCount;
 use overlay_geometry::geom::point::IntPoint;
 use overlay_geometry::geom::v_segment::VSegment;
 use overlay_geometry::num::OverlayInt;
-use overlay_base::segm::fault::Fault;
-use overlay_base::segm::winding::WindingCount;
 
 /// A collection of live segments with sums, for a sweep from left to right.
 ///

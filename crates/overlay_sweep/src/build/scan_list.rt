@@ -8,11 +8,11 @@ ghost use Rattle.overlay_geometry.specs.VSegmentOf.{v_pair_of, IsVSegmentInRange
 use crate::build::entry::Entry;
 use crate::build::live_segments::LiveSegments;
 use crate::build::place::Place;
+use overlay_base::segm::fault::Fault;
+use overlay_base::segm::winding::WindingCount;
 use overlay_geometry::geom::point::IntPoint;
 use overlay_geometry::geom::v_segment::VSegment;
 use overlay_geometry::num::OverlayInt;
-use overlay_base::segm::fault::Fault;
-use overlay_base::segm::winding::WindingCount;
 use std::alloc::Global;
 
 /// Whether the entry does not run below the best one so far. Asks no order where there is none.

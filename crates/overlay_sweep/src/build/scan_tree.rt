@@ -8,11 +8,11 @@ use crate::build::entry::Entry;
 use crate::build::live_segments::LiveSegments;
 use crate::build::place::Place;
 use crate::build::tree_shape::{NONE, TreeShape};
+use overlay_base::segm::fault::Fault;
+use overlay_base::segm::winding::WindingCount;
 use overlay_geometry::geom::point::IntPoint;
 use overlay_geometry::geom::v_segment::VSegment;
 use overlay_geometry::num::OverlayInt;
-use overlay_base::segm::fault::Fault;
-use overlay_base::segm::winding::WindingCount;
 use std::alloc::Global;
 
 /// What came of a way down.

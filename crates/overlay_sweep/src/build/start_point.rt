@@ -7,9 +7,9 @@ ghost use Rattle.overlay_base.specs.SegmentOf.{segments_of, x_segment_of};
 ghost use Rattle.overlay_sweep.specs.steps.WayOf.{ways_of, ways_between, by_angle};
 
 use crate::build::way::Way;
-use overlay_geometry::num::OverlayInt;
 use overlay_base::segm::segment::Segment;
 use overlay_base::segm::winding::WindingCount;
+use overlay_geometry::num::OverlayInt;
 use std::alloc::AllocError;
 
 /// The index after the last of the segments that start where the segment at an index does.

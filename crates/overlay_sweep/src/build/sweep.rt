@@ -15,12 +15,12 @@ use crate::build::scan_list::ScanList;
 use crate::build::scan_tree::ScanTree;
 use crate::build::visits::sweep_with_handler;
 use crate::build::way::Way;
-use overlay_geometry::num::OverlayInt;
 use overlay_base::overlay_core::fill_rule::FillRule;
 use overlay_base::overlay_core::solver::Solver;
 use overlay_base::segm::fault::Fault;
 use overlay_base::segm::segment::Segment;
 use overlay_base::segm::winding::WindingCount;
+use overlay_geometry::num::OverlayInt;
 use std::alloc::Global;
 
 /// Runs sweeps over arrangements, one after another, and keeps their buffers.

@@ -15,11 +15,11 @@ use crate::build::fill_strategy::FillStrategy;
 use crate::build::live_segments::LiveSegments;
 use crate::build::start_point::{collect_ways, start_point_end};
 use crate::build::way::Way;
-use overlay_geometry::geom::v_segment::VSegment;
-use overlay_geometry::num::OverlayInt;
 use overlay_base::segm::fault::Fault;
 use overlay_base::segm::segment::Segment;
 use overlay_base::segm::winding::WindingCount;
+use overlay_geometry::geom::v_segment::VSegment;
+use overlay_geometry::num::OverlayInt;
 use std::ops::ControlFlow;
 
 /// Hands one segment out with the winding below it. Answers the winding above it, or what the handler broke with. A

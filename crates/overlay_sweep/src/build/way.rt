@@ -3,10 +3,10 @@ ghost use Rattle.std.specs.Prelude.{IsTrue};
 ghost use Rattle.overlay_geometry.specs.Points.{is_ordered};
 ghost use Rattle.overlay_geometry.specs.VSegmentOf.{v_pair_of, IsVSegmentInRange};
 
-use overlay_geometry::geom::v_segment::VSegment;
-use overlay_geometry::num::OverlayInt;
 use overlay_base::segm::segment::Segment;
 use overlay_base::segm::winding::WindingCount;
+use overlay_geometry::geom::v_segment::VSegment;
+use overlay_geometry::num::OverlayInt;
 use std::cmp::Ordering;
 
 /// The way from the start of a segment to its end, with the segment's index.
