@@ -50,6 +50,11 @@ path_from_some p (column ∷ columns) b =
 regroup : {X : Type 0} (ws bs cs ds : List X) → ws ++ (bs ++ cs) ++ ds ≡ ws ++ bs ++ (cs ++ ds)
 regroup ws bs cs ds = ap (λ l. l ++ ds) (sym (append_assoc ws bs cs)) ∙ append_assoc (ws ++ bs) cs ds
 
+-- an element in its place, as the first and only piece of itself
+put_alone : {X S : Type 0} (f r o : List X) (x : X) (now : List X) (store : S) (cut : List X × S) → cut ≡ (x ∷ [], store) → now ≡ f ++ (x ∷ r) ++ o → now ≡ f ++ take 1 cut.0 ++ (r ++ o) ++ drop 1 cut.0
+put_alone f r o x now store cut alone is =
+    is ∙ ap (λ l. l ++ o) (sym (append_assoc f (x ∷ []) r)) ∙ append_assoc (f ++ x ∷ []) r o ∙ sym (append-nil (f ++ x ∷ [] ++ (r ++ o))) ∙ ap (λ v. f ++ take 1 v.0 ++ (r ++ o) ++ drop 1 v.0) (sym alone)
+
 module _ {D S : Type 0} (hooks : Hooks D S) (marks : Pair → List Point) where
   abbrev each_of : List (DataSegment D) → S → List (List (DataSegment D)) × S
   each_of = data_pieces_of_each hooks marks
@@ -146,8 +151,4 @@ module _ {D S : Type 0} (hooks : Hooks D S) (marks : Pair → List Point) where
       pub IsCutTo-whole : marks s.pair ≡ [] → IsTrue (is_ordered s.pair) → IsCutTo now left (suc k)
       IsCutTo-whole none ordered =
           let alone : pieces_at s left ≡ (s ∷ [], left) = ap (λ (l : List Point). data_pieces hooks s.count s.pair.a (path_from s.pair.a (columns_of l) s.pair.b) s.pair.b s.edge_data left) none ∙ whole hooks s left ordered in
-          let f = firsts (done k).0 in
-          let o = others (done k).0 in
-          let r = drop (suc k) given in
-          let same : now ≡ f ++ s ∷ [] ++ (r ++ o) ++ [] = cut.items ∙ ap (λ l. f ++ l ++ o) is ∙ ap (λ l. l ++ o) (sym (append_assoc f (s ∷ []) r)) ∙ append_assoc (f ++ s ∷ []) r o ∙ sym (append-nil (f ++ s ∷ [] ++ (r ++ o))) in
-          next now left (same ∙ ap (λ (v : List (DataSegment D) × S). f ++ take 1 v.0 ++ (r ++ o) ++ drop 1 v.0) (sym alone)) (sym (ap (λ v. v.1) alone))
+          next now left (put_alone (firsts (done k).0) (drop (suc k) given) (others (done k).0) s now left (pieces_at s left) alone (cut.items ∙ ap (λ l. firsts (done k).0 ++ l ++ others (done k).0) is)) (sym (ap (λ v. v.1) alone))

@@ -66,15 +66,15 @@ loop-start-preserved g c =
     let sorted = all_sorted g.I.OverlayInt.whole c.args.links.now.items _ _ _ c.deref.ensures.value c.in_ok-collect_ends.ensures.ends c.in_ok-sort_by_point.ensures.sorted in
     let block = block_listed g.I.OverlayInt.whole _ _ _ (sorted_ends_of pairs) c.loop-start.start c.block_end-next.result _ sorted c.deref-in-loop-start.ensures.value c.deref-in-loop-start-2.ensures.value
     c.block_end-next.ensures.within c.block_end-next.ensures.same c.block_end-next.ensures.other c.in_ok-collect_indices.ensures.indexes in
-    let full : c.loop-start.links.len ≡ length c.loop-start.links.items = search rules in
-    let counted : c.len-in-loop-start.result ≡ length c.loop-start.nodes.items = search rules in
+    let full : c.loop-start.links.len ≡ length c.loop-start.links.items = c.loop-start.links.ok.0 in
+    let counted : c.len-in-loop-start.result ≡ length c.loop-start.nodes.items = c.len-in-loop-start.ensures ∙ c.loop-start.nodes.ok.0 in
     let kept : length c.number_ends.new.links ≡ length c.loop-start.links.items = c.number_ends.ensures.length ∙ ap length c.deref_mut.ensures.value in
     let more_is : take c.loop-start.links.len (c.number_ends.new.links ++ drop (length c.number_ends.new.links) c.loop-start.links.items) ≡ c.number_ends.new.links =
     ap (λ n. take n (c.number_ends.new.links ++ drop (length c.number_ends.new.links) c.loop-start.links.items)) (full ∙ sym kept) ∙ take-append_seam c.number_ends.new.links _ in
     let e : WholeEnd = end_of g.I.OverlayInt.whole c.index.result.now in
     let its = c.in_ok-with_indices.ensures.indexes ∙ c.deref-in-loop-start-4.ensures.value in
     let named : c.deref-in-loop-start-3.result.now ≡ g.N.GraphNode.indexes c.in_ok-with_indices.field-0 = c.deref-in-loop-start-3.ensures.value ∙ sym its in
-    let here : c.loop-start.start < length c.sort_by_point.new.ends.items = search rules in
+    let here : c.loop-start.start < length c.sort_by_point.new.ends.items = subst (λ n. c.loop-start.start < n) (c.len.ensures ∙ c.sort_by_point.new.ends.ok.0) c.loop-start-test.true in
     let at : point_of g.I.OverlayInt.whole c.index.result.now.point ≡ (get_or (sorted_ends_of pairs) c.loop-start.start e).point =
     ap (λ (x : End g.row.I.Denot). point_of g.I.OverlayInt.whole x.point) c.index.ensures
     ∙ sym (end_point_at g.I.OverlayInt.whole c.sort_by_point.new.ends.items c.loop-start.start c.index.result.now e here)
@@ -95,7 +95,7 @@ loop-start-preserved g c =
 pub returns-clause-graph : goal.returns-clause-graph
 returns-clause-graph g c =
     let sorted = all_sorted g.I.OverlayInt.whole c.args.links.now.items _ _ _ c.deref.ensures.value c.in_ok-collect_ends.ensures.ends c.in_ok-sort_by_point.ensures.sorted in
-    let done : length c.sort_by_point.new.ends.items ≤ c.loop-start.start = search rules in
+    let done : length c.sort_by_point.new.ends.items ≤ c.loop-start.start = subst (λ n. n ≤ c.loop-start.start) (c.len.ensures ∙ c.sort_by_point.new.ends.ok.0) c.loop-start-test.false in
     let as_long = length-map c.sort_by_point.new.ends.items (end_of g.I.OverlayInt.whole) in
     let all = ap length sorted in
     holds_graph g.N.GraphNode.indexes g.N.GraphNode.is_canonical g.I.OverlayInt.whole c.args.links.now.items c.loop-start.start c.loop-start.nodes.items c.loop-start.links.items c.loop-start.invariant (omega (arith, done, as_long, all))

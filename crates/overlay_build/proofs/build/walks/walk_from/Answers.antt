@@ -1,7 +1,51 @@
-use Rattle.std.proofs.Common.{◌≡◌, ◌∙◌, ap, [], map, get_or, set, true, false, get_or-set_same}
+use Rattle.std.proofs.Common.{cond, ◌≡◌, ◌≢◌, ◌==◌, ◌∙◌, sym, ap, ℕ, ◌+◌, ◌<◌, ◌%◌, Bool, List, Some, [], map, length, get_or, set, true, false, not, refl, arith, get_or-set_same}
+use Rattle.std.specs.Prelude.{count_by}
+use Rattle.std.proofs.lemmas.Bool.{eqb-true, eq-eqb}
+use Rattle.std.proofs.lemmas.List.{length-map}
+use Rattle.std.proofs.lemmas.List.Sums.{sum_by-set}
+use Rattle.overlay_base.specs.Rules.{differ}
+use Rattle.overlay_sweep.specs.Fill.{flag_value}
+use Rattle.overlay_build.specs.Graph.{Link}
+use Rattle.overlay_build.specs.GraphOf.{link_of}
+use Rattle.overlay_build.specs.Walks.{walk_end, IsClosedWalk}
+use Rattle.overlay_build.specs.steps.UnusedLinks.{unused_degree, AreUnusedEven}
+use Rattle.overlay_build.proofs.laws.walks.Walks.{IsWalking}
 use Rattle.overlay_build.specs.NodeIndexes.{indexes_of, is_canonical_node}
 use Rattle.overlay_build.proofs.laws.walks.WalkSteps.{ListLinks-held, walk_begun, walk_gone_on, walk_is_some, set_keeps}
 use Rattle.overlay_build.proofs.build.walks.walk_from.Goals as goal
+
+-- ---- a walk under way, and one that has come back
+
+-- each use of a link leaves fewer unused
+fewer_left : (used : List Bool) (i : ℕ) → i < length used → get_or used i false ≡ false → count_by not (set used i true) < count_by not used
+fewer_left used i h free =
+    let sums = sum_by-set (λ b. cond (not b) 1 0) used i true false h in
+    let sum : count_by not (set used i true) + 1 ≡ count_by not used + 0 = rw free at sums in
+    omega (arith, sum)
+
+-- where a walk has not come back, an unused link is left
+one_left : (links : List Link) (used : List Bool) (start node : ℕ) → IsWalking links used start node → node ≢ start → 0 < unused_degree used links node
+one_left links used start node w away = by (node == start) refl
+  where
+    by : (b : Bool) → (node == start) ≡ b → 0 < unused_degree used links node
+    by true e = absurd (away (eqb-true node start e))
+    by false e =
+        let same : (node == node) ≡ true = eq-eqb node node refl in
+        let odd : unused_degree used links node % 2 ≡ 1 = rw (e, same) at (w.parity node) in
+        omega (arith, odd)
+
+-- where it has, it is closed, and evenly many unused links are at each node
+closed_at : (links : List Link) (start node : ℕ) (walk : List ℕ) → walk_end links start walk ≡ Some node → node ≡ start → walk ≢ [] → IsClosedWalk links walk
+closed_at links start node walk leads back some = (some, (start, leads ∙ ap (λ n. Some n) back))
+
+even_at : (links : List Link) (used : List Bool) (start node : ℕ) → IsWalking links used start node → node ≡ start → AreUnusedEven links used
+even_at links used start node w back = record { even = λ u. w.parity u ∙ ap (λ n. flag_value (differ (u == start) (u == n)) 1) back ∙ ap (λ b. flag_value b 1) (same (u == start)) }
+  where
+    same : (b : Bool) → differ b b ≡ false
+    same true = refl
+    same false = refl
+
+-- ---- the answers
 
 pub loop-node-init : goal.loop-node-init
 loop-node-init g c =
@@ -25,3 +69,19 @@ loop-node-preserved g c =
     let kept = c.loop-node.invariant in
     let gone = walk_gone_on whole graph.links.now (map indexes_of graph.nodes.now) lists c.args.used.now c.loop-node.used c.loop-node.cursors next.new.cursors _ c.loop-node.node next.result c.loop-node.walk.items link.result link.result kept.0 next.ensures.link is next.ensures.unused next.ensures.meets (rw next.ensures.used at next.ensures.passed) in
     rw (c.in_ok-push-2.ensures.items, c.other-node.ensures, next.ensures.used) (gone, walk_is_some c.loop-node.walk.items next.result, set_keeps c.loop-node.used next.result c.args.first kept.2)
+
+pub loop-node-smaller : goal.loop-node-smaller
+loop-node-smaller g c =
+    let next = c.take_link-next in
+    let flags = c.loop-node.invariant.0.flags in
+    let many = length-map c.args.graph.now.links.now (link_of g.I.OverlayInt.whole) in
+    rw next.ensures.used (fewer_left c.loop-node.used next.result (rw (flags, many) next.ensures.link) next.ensures.unused)
+
+pub take_link-next-requires-clause-left : goal.take_link-next-requires-clause-left
+take_link-next-requires-clause-left g c = one_left _ c.loop-node.used _ c.loop-node.node c.loop-node.invariant.0.walking c.loop-node-test.true
+
+pub returns-clause-closed : goal.returns-clause-closed
+returns-clause-closed g c = closed_at _ _ c.loop-node.node c.loop-node.walk.items c.loop-node.invariant.0.leads c.loop-node-test.false c.loop-node.invariant.1
+
+pub returns-clause-even : goal.returns-clause-even
+returns-clause-even g c = even_at _ c.loop-node.used _ c.loop-node.node c.loop-node.invariant.0.walking c.loop-node-test.false

@@ -1,8 +1,7 @@
-use Rattle.std.proofs.Common.{rules, ◌≡◌, refl, sym, ap, subst, ◌∙◌, arith, ℕ, List, ◌+◌, ◌-◌, ◌^◌, ◌<◌, ◌≤◌, length}
-use Rattle.std.specs.Prelude.{Result, Ok, Err, None, IfErr, IsErrAnd, IsTrue, nat_le}
+use Rattle.std.proofs.Common.{rules, ◌≡◌, ◌==◌, Bool, true, false, refl, sym, ap, subst, ◌∙◌, arith, ℕ, List, ◌+◌, ◌-◌, ◌^◌, ◌<◌, ◌≤◌, length}
+use Rattle.std.specs.Prelude.{ℤ, Result, Ok, Err, None, IfErr, IsErrAnd, IsTrue, nat_le}
 use Rattle.std.specs.List.{list_all}
-use Rattle.std.proofs.lemmas.Bool.{both_ways, not-true, not-false}
-use Rattle.std.proofs.lemmas.Grind.{common_steps}
+use Rattle.std.proofs.lemmas.Bool.{both_ways, not-true, not-false, eqb-true}
 use Rattle.overlay_base.specs.declared.segm.fault.Fault.{Fault}
 use Rattle.overlay_base.specs.declared.segm.fault.Fault.TheVariants.{CountOutOfRange}
 use Rattle.overlay_base.specs.declared.segm.segment.Segment.{Segment}
@@ -18,7 +17,7 @@ use Rattle.overlay_split.specs.Run.{Settings, LeavesRange}
 use Rattle.overlay_split.specs.SettingsOf.{settings_of}
 use Rattle.overlay_split.proofs.laws.passes.DataInvariants.{data_keeps_what_hooks_keep}
 use Rattle.overlay_split.proofs.laws.passes.StoppedRuns.{stopped_run_leaves_range}
-use Rattle.overlay_split.proofs.laws.passes.Splitting.{at_start, at_next, at_rest, stopped_at_start, stopped_at, has_ended, stays_arranged, snaps_at, settles, falls_from, potential_bound, exponent_grows, segments_none, goes_on-is, starts-is, keeps_room, few_enough}
+use Rattle.overlay_split.proofs.laws.passes.Splitting.{IsAt, HasEnded, at_rest, at_start, at_next, stopped_at_start, stopped_at, has_ended, stays_arranged, snaps_at, settles, falls_from, potential_bound, exponent_grows, segments_none, goes_on-is, starts-is, keeps_room, few_enough}
 use Rattle.overlay_base.specs.declared.overlay_core.solver.Solver.{Solver}
 use Rattle.overlay_base.specs.Planar.{is_splittable}
 use Rattle.overlay_base.proofs.laws.joins.Maps.{is_map-join}
@@ -47,64 +46,69 @@ leaves_range (Err f) hooks settings xs from left h = λ i. subst (λ (l : List W
 
 -- ---- an empty list
 
+-- a list that is told to be empty
+none_given : (n len : ℕ) (told : Bool) → len ≡ n → told ≡ (len == 0) → told ≡ true → n ≡ 0
+none_given n len told same is empty = sym same ∙ eqb-true len 0 (sym is ∙ empty)
+
+-- a run over no segments stands at its start, and has ended
+module _ {C I D S : Type 0} {m : _} {w : _} {o : _} {e : _} {p : _} (hooks : Hooks D S) (settings : Settings) (least greatest : ℤ) (xs : List (Segment C I D m w o e p)) (from : S) (none : length xs ≡ 0) where
+  at_empty : IsAt hooks settings least greatest (segments_of xs) (segments_of xs) (data_segments_of xs) (data_segments_of xs) from from 0 false false
+  at_empty = at_rest hooks settings least greatest (segments_of xs) (data_segments_of xs) from (segments_none xs none).0 (segments_none xs none).1
+
+  ended_empty : HasEnded hooks settings least greatest (segments_of xs) (data_segments_of xs) from (segments_of xs) 0 false
+  ended_empty = has_ended hooks settings least greatest (segments_of xs) (data_segments_of xs) from (segments_of xs) (data_segments_of xs) from 0 false false (segments_ordered xs) at_empty refl
+
 pub returns-then-is_empty-clause-run : goal.returns-then-is_empty-clause-run
 returns-then-is_empty-clause-run g c =
-    let none : length c.args.list.now.items ≡ 0 = grind (arith, common_steps, c.args.list.now.ok.0) in
-    let at = at_rest (hooks_of g.C.WindingCount.counted g.D.OverlayEdgeData) (settings_of g.I.OverlayInt.BITS c.args.solver.now c.args.self.now) (g.I.OverlayInt.whole g.I.OverlayInt.MIN_COORD) (g.I.OverlayInt.whole g.I.OverlayInt.MAX_COORD) (segments_of c.args.list.now.items) (data_segments_of c.args.list.now.items) c.args.store.now (segments_none c.args.list.now.items none).0 (segments_none c.args.list.now.items none).1 in
-    (has_ended _ _ _ _ _ _ _ _ _ _ _ _ _ (segments_ordered c.args.list.now.items) at refl).run
+    let none = none_given (length c.args.list.now.items) c.args.list.now.len c.is_empty.result c.args.list.now.ok.0 c.is_empty.ensures c.if-is_empty.true in
+    (ended_empty (hooks_of g.C.WindingCount.counted g.D.OverlayEdgeData) (settings_of g.I.OverlayInt.BITS c.args.solver.now c.args.self.now) (g.I.OverlayInt.whole g.I.OverlayInt.MIN_COORD) (g.I.OverlayInt.whole g.I.OverlayInt.MAX_COORD) c.args.list.now.items c.args.store.now none).run
+
+pub returns-then-is_empty-clause-arranged : goal.returns-then-is_empty-clause-arranged
+returns-then-is_empty-clause-arranged g c =
+    let none = none_given (length c.args.list.now.items) c.args.list.now.len c.is_empty.result c.args.list.now.ok.0 c.is_empty.ensures c.if-is_empty.true in
+    (ended_empty (hooks_of g.C.WindingCount.counted g.D.OverlayEdgeData) (settings_of g.I.OverlayInt.BITS c.args.solver.now c.args.self.now) (g.I.OverlayInt.whole g.I.OverlayInt.MIN_COORD) (g.I.OverlayInt.whole g.I.OverlayInt.MAX_COORD) c.args.list.now.items c.args.store.now none).arranged
+
+pub returns-then-is_empty-clause-in_box : goal.returns-then-is_empty-clause-in_box
+returns-then-is_empty-clause-in_box g c =
+    let none = none_given (length c.args.list.now.items) c.args.list.now.len c.is_empty.result c.args.list.now.ok.0 c.is_empty.ensures c.if-is_empty.true in
+    (ended_empty (hooks_of g.C.WindingCount.counted g.D.OverlayEdgeData) (settings_of g.I.OverlayInt.BITS c.args.solver.now c.args.self.now) (g.I.OverlayInt.whole g.I.OverlayInt.MIN_COORD) (g.I.OverlayInt.whole g.I.OverlayInt.MAX_COORD) c.args.list.now.items c.args.store.now none).in_box
+
+pub returns-then-is_empty-clause-exact_input : goal.returns-then-is_empty-clause-exact_input
+returns-then-is_empty-clause-exact_input g c =
+    let none = none_given (length c.args.list.now.items) c.args.list.now.len c.is_empty.result c.args.list.now.ok.0 c.is_empty.ensures c.if-is_empty.true in
+    (ended_empty (hooks_of g.C.WindingCount.counted g.D.OverlayEdgeData) (settings_of g.I.OverlayInt.BITS c.args.solver.now c.args.self.now) (g.I.OverlayInt.whole g.I.OverlayInt.MIN_COORD) (g.I.OverlayInt.whole g.I.OverlayInt.MAX_COORD) c.args.list.now.items c.args.store.now none).exact_input
+
+pub returns-then-is_empty-clause-near : goal.returns-then-is_empty-clause-near
+returns-then-is_empty-clause-near g c =
+    let none = none_given (length c.args.list.now.items) c.args.list.now.len c.is_empty.result c.args.list.now.ok.0 c.is_empty.ensures c.if-is_empty.true in
+    (ended_empty (hooks_of g.C.WindingCount.counted g.D.OverlayEdgeData) (settings_of g.I.OverlayInt.BITS c.args.solver.now c.args.self.now) (g.I.OverlayInt.whole g.I.OverlayInt.MIN_COORD) (g.I.OverlayInt.whole g.I.OverlayInt.MAX_COORD) c.args.list.now.items c.args.store.now none).near
+
+pub returns-then-is_empty-clause-winding : goal.returns-then-is_empty-clause-winding
+returns-then-is_empty-clause-winding g c =
+    let none = none_given (length c.args.list.now.items) c.args.list.now.len c.is_empty.result c.args.list.now.ok.0 c.is_empty.ensures c.if-is_empty.true in
+    (ended_empty (hooks_of g.C.WindingCount.counted g.D.OverlayEdgeData) (settings_of g.I.OverlayInt.BITS c.args.solver.now c.args.self.now) (g.I.OverlayInt.whole g.I.OverlayInt.MIN_COORD) (g.I.OverlayInt.whole g.I.OverlayInt.MAX_COORD) c.args.list.now.items c.args.store.now none).winding
+
+pub returns-then-is_empty-clause-fits : goal.returns-then-is_empty-clause-fits
+returns-then-is_empty-clause-fits g c =
+    let none = none_given (length c.args.list.now.items) c.args.list.now.len c.is_empty.result c.args.list.now.ok.0 c.is_empty.ensures c.if-is_empty.true in
+    (ended_empty (hooks_of g.C.WindingCount.counted g.D.OverlayEdgeData) (settings_of g.I.OverlayInt.BITS c.args.solver.now c.args.self.now) (g.I.OverlayInt.whole g.I.OverlayInt.MIN_COORD) (g.I.OverlayInt.whole g.I.OverlayInt.MAX_COORD) c.args.list.now.items c.args.store.now none).fits
 
 pub returns-then-is_empty-clause-edge_data : goal.returns-then-is_empty-clause-edge_data
 returns-then-is_empty-clause-edge_data g c =
-    let none : length c.args.list.now.items ≡ 0 = grind (arith, common_steps, c.args.list.now.ok.0) in
-    (at_rest _ _ (g.I.OverlayInt.whole g.I.OverlayInt.MIN_COORD) (g.I.OverlayInt.whole g.I.OverlayInt.MAX_COORD) (segments_of c.args.list.now.items) (data_segments_of c.args.list.now.items) c.args.store.now (segments_none c.args.list.now.items none).0 (segments_none c.args.list.now.items none).1).edge_data_is
+    let none = none_given (length c.args.list.now.items) c.args.list.now.len c.is_empty.result c.args.list.now.ok.0 c.is_empty.ensures c.if-is_empty.true in
+    (at_empty (hooks_of g.C.WindingCount.counted g.D.OverlayEdgeData) (settings_of g.I.OverlayInt.BITS c.args.solver.now c.args.self.now) (g.I.OverlayInt.whole g.I.OverlayInt.MIN_COORD) (g.I.OverlayInt.whole g.I.OverlayInt.MAX_COORD) c.args.list.now.items c.args.store.now none).edge_data_is
 
 pub returns-then-is_empty-clause-store : goal.returns-then-is_empty-clause-store
 returns-then-is_empty-clause-store g c =
-    let none : length c.args.list.now.items ≡ 0 = grind (arith, common_steps, c.args.list.now.ok.0) in
-    (at_rest _ _ (g.I.OverlayInt.whole g.I.OverlayInt.MIN_COORD) (g.I.OverlayInt.whole g.I.OverlayInt.MAX_COORD) (segments_of c.args.list.now.items) (data_segments_of c.args.list.now.items) c.args.store.now (segments_none c.args.list.now.items none).0 (segments_none c.args.list.now.items none).1).store_is
+    let none = none_given (length c.args.list.now.items) c.args.list.now.len c.is_empty.result c.args.list.now.ok.0 c.is_empty.ensures c.if-is_empty.true in
+    (at_empty (hooks_of g.C.WindingCount.counted g.D.OverlayEdgeData) (settings_of g.I.OverlayInt.BITS c.args.solver.now c.args.self.now) (g.I.OverlayInt.whole g.I.OverlayInt.MIN_COORD) (g.I.OverlayInt.whole g.I.OverlayInt.MAX_COORD) c.args.list.now.items c.args.store.now none).store_is
 
 pub returns-then-is_empty-clause-kept_data : goal.returns-then-is_empty-clause-kept_data
 returns-then-is_empty-clause-kept_data g c = λ has keeps given. given
 
-pub returns-then-is_empty-clause-arranged : goal.returns-then-is_empty-clause-arranged
-returns-then-is_empty-clause-arranged g c =
-    let none : length c.args.list.now.items ≡ 0 = grind (arith, common_steps, c.args.list.now.ok.0) in
-    let at = at_rest (hooks_of g.C.WindingCount.counted g.D.OverlayEdgeData) (settings_of g.I.OverlayInt.BITS c.args.solver.now c.args.self.now) (g.I.OverlayInt.whole g.I.OverlayInt.MIN_COORD) (g.I.OverlayInt.whole g.I.OverlayInt.MAX_COORD) (segments_of c.args.list.now.items) (data_segments_of c.args.list.now.items) c.args.store.now (segments_none c.args.list.now.items none).0 (segments_none c.args.list.now.items none).1 in
-    (has_ended _ _ _ _ _ _ _ _ _ _ _ _ _ (segments_ordered c.args.list.now.items) at refl).arranged
-
-pub returns-then-is_empty-clause-in_box : goal.returns-then-is_empty-clause-in_box
-returns-then-is_empty-clause-in_box g c =
-    let none : length c.args.list.now.items ≡ 0 = grind (arith, common_steps, c.args.list.now.ok.0) in
-    let at = at_rest (hooks_of g.C.WindingCount.counted g.D.OverlayEdgeData) (settings_of g.I.OverlayInt.BITS c.args.solver.now c.args.self.now) (g.I.OverlayInt.whole g.I.OverlayInt.MIN_COORD) (g.I.OverlayInt.whole g.I.OverlayInt.MAX_COORD) (segments_of c.args.list.now.items) (data_segments_of c.args.list.now.items) c.args.store.now (segments_none c.args.list.now.items none).0 (segments_none c.args.list.now.items none).1 in
-    (has_ended _ _ _ _ _ _ _ _ _ _ _ _ _ (segments_ordered c.args.list.now.items) at refl).in_box
-
-pub returns-then-is_empty-clause-exact_input : goal.returns-then-is_empty-clause-exact_input
-returns-then-is_empty-clause-exact_input g c =
-    let none : length c.args.list.now.items ≡ 0 = grind (arith, common_steps, c.args.list.now.ok.0) in
-    let at = at_rest (hooks_of g.C.WindingCount.counted g.D.OverlayEdgeData) (settings_of g.I.OverlayInt.BITS c.args.solver.now c.args.self.now) (g.I.OverlayInt.whole g.I.OverlayInt.MIN_COORD) (g.I.OverlayInt.whole g.I.OverlayInt.MAX_COORD) (segments_of c.args.list.now.items) (data_segments_of c.args.list.now.items) c.args.store.now (segments_none c.args.list.now.items none).0 (segments_none c.args.list.now.items none).1 in
-    (has_ended _ _ _ _ _ _ _ _ _ _ _ _ _ (segments_ordered c.args.list.now.items) at refl).exact_input
-
-pub returns-then-is_empty-clause-near : goal.returns-then-is_empty-clause-near
-returns-then-is_empty-clause-near g c =
-    let none : length c.args.list.now.items ≡ 0 = grind (arith, common_steps, c.args.list.now.ok.0) in
-    let at = at_rest (hooks_of g.C.WindingCount.counted g.D.OverlayEdgeData) (settings_of g.I.OverlayInt.BITS c.args.solver.now c.args.self.now) (g.I.OverlayInt.whole g.I.OverlayInt.MIN_COORD) (g.I.OverlayInt.whole g.I.OverlayInt.MAX_COORD) (segments_of c.args.list.now.items) (data_segments_of c.args.list.now.items) c.args.store.now (segments_none c.args.list.now.items none).0 (segments_none c.args.list.now.items none).1 in
-    (has_ended _ _ _ _ _ _ _ _ _ _ _ _ _ (segments_ordered c.args.list.now.items) at refl).near
-
-pub returns-then-is_empty-clause-winding : goal.returns-then-is_empty-clause-winding
-returns-then-is_empty-clause-winding g c =
-    let none : length c.args.list.now.items ≡ 0 = grind (arith, common_steps, c.args.list.now.ok.0) in
-    let at = at_rest (hooks_of g.C.WindingCount.counted g.D.OverlayEdgeData) (settings_of g.I.OverlayInt.BITS c.args.solver.now c.args.self.now) (g.I.OverlayInt.whole g.I.OverlayInt.MIN_COORD) (g.I.OverlayInt.whole g.I.OverlayInt.MAX_COORD) (segments_of c.args.list.now.items) (data_segments_of c.args.list.now.items) c.args.store.now (segments_none c.args.list.now.items none).0 (segments_none c.args.list.now.items none).1 in
-    (has_ended _ _ _ _ _ _ _ _ _ _ _ _ _ (segments_ordered c.args.list.now.items) at refl).winding
-
-pub returns-then-is_empty-clause-fits : goal.returns-then-is_empty-clause-fits
-returns-then-is_empty-clause-fits g c =
-    let none : length c.args.list.now.items ≡ 0 = grind (arith, common_steps, c.args.list.now.ok.0) in
-    let at = at_rest (hooks_of g.C.WindingCount.counted g.D.OverlayEdgeData) (settings_of g.I.OverlayInt.BITS c.args.solver.now c.args.self.now) (g.I.OverlayInt.whole g.I.OverlayInt.MIN_COORD) (g.I.OverlayInt.whole g.I.OverlayInt.MAX_COORD) (segments_of c.args.list.now.items) (data_segments_of c.args.list.now.items) c.args.store.now (segments_none c.args.list.now.items none).0 (segments_none c.args.list.now.items none).1 in
-    (has_ended _ _ _ _ _ _ _ _ _ _ _ _ _ (segments_ordered c.args.list.now.items) at refl).fits
-
 pub returns-then-is_empty-clause-looked : goal.returns-then-is_empty-clause-looked
 returns-then-is_empty-clause-looked g c =
-    let none : length c.args.list.now.items ≡ 0 = grind (arith, common_steps, c.args.list.now.ok.0) in
+    let none = none_given (length c.args.list.now.items) c.args.list.now.len c.is_empty.result c.args.list.now.ok.0 c.is_empty.ensures c.if-is_empty.true in
     let looks = HasLooked-none c.args.solver.now.strategy (settings_of g.I.OverlayInt.BITS c.args.solver.now c.args.self.now) (segments_of c.args.list.now.items) (segments_none c.args.list.now.items none).0 in
     λ h. (None, looks.is_for, looks.few h)
 
