@@ -30,6 +30,8 @@ elif (($#)); then
     exit 2
 fi
 
+python3 tools/unused_lemmas.py
+
 # Left alone, `rt ci` sets how many checks run side by side by an estimate of memory two or three times above what they
 # take. Here it is one a processor, as long as each has four gigabytes; the largest check takes less than three.
 available=$(awk '/^MemAvailable:/ { print $2 }' /proc/meminfo)

@@ -1,5 +1,5 @@
 -- What a graph of the program is, from what the calls that split and build answer.
-use Rattle.std.proofs.Common.{◌≡◌, ◌⊎◌, inl, inr, ℕ, true, IsTrue, List, Option, Some, None, refl, sym, ap, ◌∙◌, subst}
+use Rattle.std.proofs.Common.{◌≡◌, ◌⊎◌, inl, inr, ℕ, IsTrue, List, Option, Some, refl, sym, ap, ◌∙◌, subst}
 use Rattle.std.specs.Prelude.{IsFalse, IfOk, IfErr, OnOk, Ok, Err}
 use Rattle.std.specs.declared.result.Result.{Result}
 use Rattle.overlay_base.specs.Segments.{WholeSegment}
@@ -44,11 +44,6 @@ module _ (bits : ℕ) (settings : Settings) (s : RunSettings) (set : s ≡ split
   refused_by_rule fault (inl split) e = leave (inl (split.0.too_large e))
   refused_by_rule fault (inr build) e = leave (inr (passes, build.split.count, subst (λ xs. IsTrue (tops_leave_range xs)) build.split.arrangement (build.too_large e)))
 
-  -- a split, and the graph of all
-  pub of_all : (graph : Graph) → settings.rule ≡ None → IsPassCount s given passes → segments ≡ after_passes s given passes → graph ≡ graph_by (λ _. true) settings.fill_rule segments → IsFalse (tops_leave_range segments) → IsGraphOf bits settings given graph
-  of_all graph chosen count is links fits =
-      counted graph count is fits (links ∙ ap (λ (r : Option OverlayRule). graph_by (keeps_by r) settings.fill_rule segments) (sym chosen))
-
   pub refused_all : (fault : Fault) → (fault ≡ CountOutOfRange → LeavesRange s given ⊎ (IsPassCount s given passes × (segments ≡ after_passes s given passes) × IsTrue (tops_leave_range segments))) → fault ≡ CountOutOfRange → CountsLeaveRange bits settings given
   refused_all fault h e = by (h e)
     where
@@ -66,11 +61,6 @@ module _ (bits : ℕ) (settings : Settings) (s : RunSettings) (set : s ≡ split
   pub refusal_by_rule : {G : Type 0} (X : Type 0) (r : Result G Fault) → IfErr r (λ fault. (IsSplitRefused s given segments fault × X) ⊎ IsBuildRefused s given segments passes fault) → IfErr r (λ fault. fault ≡ CountOutOfRange → CountsLeaveRange bits settings given)
   refusal_by_rule X (Ok g) h = tt
   refusal_by_rule X (Err fault) h = refused_by_rule fault h
-
-  pub answered_all : {G : Type 0} (r : Result G Fault) (graph_of : G → Graph) → settings.rule ≡ None → OnOk r (IsPassCount s given passes) → OnOk r (segments ≡ after_passes s given passes) → IfOk r (λ g. graph_of g ≡ graph_by (λ _. true) settings.fill_rule segments) → OnOk r (IsFalse (tops_leave_range segments))
-      → IfOk r (λ g. IsGraphOf bits settings given (graph_of g))
-  answered_all (Ok g) graph_of chosen count is links fits = of_all (graph_of g) chosen count is links fits
-  answered_all (Err fault) graph_of chosen count is links fits = tt
 
   pub refusal_all : {G : Type 0} (r : Result G Fault) → IfErr r (λ fault. fault ≡ CountOutOfRange → LeavesRange s given ⊎ (IsPassCount s given passes × (segments ≡ after_passes s given passes) × IsTrue (tops_leave_range segments)))
       → IfErr r (λ fault. fault ≡ CountOutOfRange → CountsLeaveRange bits settings given)

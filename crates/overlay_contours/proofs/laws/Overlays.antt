@@ -41,7 +41,7 @@ use Rattle.overlay_sweep.specs.ChainWindings.{tops_leave_range}
 use Rattle.overlay_build.specs.GraphOf.{link_of, graph_with, pairs_of_links}
 use Rattle.overlay_split.specs.Nearness.{reach_of_run}
 use Rattle.overlay_split.specs.Places.{IsFar}
-use Rattle.overlay_split.proofs.laws.nearness.Nearness.{Contains-from_Has, reach_is_bounded, exact_input_reaches_nothing}
+use Rattle.overlay_split.proofs.laws.nearness.Nearness.{reach_is_bounded, exact_input_reaches_nothing}
 use Rattle.overlay_build.specs.Graph.{Graph, Link, Filled, graph_of, graph_by, filled}
 use Rattle.overlay_build.specs.Regions.{encloses}
 use Rattle.overlay_build.specs.Values.{value_at}
@@ -54,6 +54,7 @@ use Rattle.overlay_contours.specs.Refusals.{IsReason}
 use Rattle.overlay_contours.specs.declared.fault.ContourFault.{ContourFault}
 use Rattle.overlay_contours.specs.declared.fault.ContourFault.TheVariants.{Refused}
 use Rattle.overlay_contours.proofs.laws.Windings.{overlay_winds}
+use Rattle.overlay_geometry.proofs.laws.lists.Elements.{Contains-from_Has}
 
 -- ---- the pairs of the segments are the edges
 

@@ -97,9 +97,6 @@ got (y ∷ ys) zero x h e = ap Some (sym e)
 got (y ∷ ys) (suc i) x h e = got ys i x (omega arith) e
 
 module _ (links : List Link) (pairs : List Pair) (point : ℕ → Point) (walk : List ℕ) (start : ℕ) where
-  pub under_way-first : (here : Point) → here ≡ point start → IsUnderWay links pairs point walk start 0 [] start here
-  under_way-first here e = record { at_node = e; rest = refl; between = refl; begins = ap (λ (p : Point). p ∷ []) e }
-
   module _ (k : ℕ) (points : List Point) (node : ℕ) (here : Point) (way : IsUnderWay links pairs point walk start k points node here) where
     module _ (i : ℕ) (l : Link) (more : k < length walk) (is_next : i ≡ get_or walk k i) (low : i < length links) (is_link : l ≡ get_or links i l) (is_pair : pair_at pairs i ≡ l.pair) where
       ahead : walk_end links node (drop k walk) ≡ option_and_then (λ next. walk_end links next (drop (k + 1) walk)) (other_node node l)

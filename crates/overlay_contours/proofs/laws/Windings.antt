@@ -1,5 +1,5 @@
 -- The segments of contours wind round a place as often as the contours run round it.
-use Rattle.std.proofs.Common.{◌≡◌, refl, sym, ap, ap₂, ◌∙◌, ℕ, Bool, true, false, not, cond, ◌&&◌, List, ◌++◌, filter, inl, inr, arith}
+use Rattle.std.proofs.Common.{◌≡◌, refl, sym, ap, ap₂, ◌∙◌, Bool, true, false, not, cond, ◌&&◌, List, ◌++◌, filter, inl, inr, arith}
 use Rattle.std.specs.Prelude.{ℤ, pos, negsuc, ◌+ℤ◌, ◌*ℤ◌, ◌≤ℤ◌, int_le, int_lt}
 use Rattle.std.proofs.lemmas.Int.{ints}
 use Rattle.overlay_geometry.specs.Points.{Point, Pair, point_lt, point_eq}
@@ -12,23 +12,20 @@ use Rattle.overlay_base.specs.ShapeWindings.{direct_winding}
 use Rattle.overlay_base.specs.declared.segm.shape_type.ShapeType.{ShapeType}
 use Rattle.overlay_base.specs.declared.segm.shape_type.ShapeType.TheVariants.{Subject, Clip}
 use Rattle.overlay_geometry.proofs.laws.geometry.Points.{Before, UpTo, before, not_before, same_by_eq}
-use Rattle.overlay_geometry.proofs.laws.geometry.Polynomials.{mul-le_left}
 use Rattle.overlay_base.proofs.laws.lists.Monoids.{gathered-append, gathered-filter, gathered-map, gathered-same, gathered-through}
 use Rattle.overlay_base.proofs.laws.joins.Bags.{windings_add}
 use Rattle.overlay_base.proofs.laws.joins.Functionals.{total_weight-filter}
 use Rattle.overlay_contours.specs.Contours.{steps, is_edge, turned, step_winding, winding_number}
 use Rattle.overlay_contours.specs.ContourSegments.{step_segment, contour_segments, overlay_segments, overlay_winding}
+use Rattle.overlay_geometry.proofs.laws.integers.Products.{scaled_le}
 
 -- ---- a step that does not lead to the right has nothing below it, but its reverse
-
-scaled : (a b : ℤ) (d : ℕ) → a ≤ℤ b → (a *ℤ pos d) ≤ℤ (b *ℤ pos d)
-scaled a b d l = let m = mul-le_left (pos d) a b (omega (arith, ints)) l in omega (arith, ints, m)
 
 no_span : (u v x : ℤ) → v ≤ℤ u → (int_le u x && int_lt x v) ≡ false
 no_span u v x l = grind (arith, ints)
 
 pub not_below : (s : Pair) (p : RationalPoint) → s.b.x ≤ℤ s.a.x → lies_below s p ≡ false
-not_below s p l = ap (λ (b : Bool). b && runs_below s p) (no_span (s.a.x *ℤ pos p.bottom) (s.b.x *ℤ pos p.bottom) p.x (scaled s.b.x s.a.x p.bottom l))
+not_below s p l = ap (λ (b : Bool). b && runs_below s p) (no_span (s.a.x *ℤ pos p.bottom) (s.b.x *ℤ pos p.bottom) p.x (scaled_le s.b.x s.a.x p.bottom l))
 
 pub right : (s : Pair) → point_lt s.a s.b ≡ true → s.a.x ≤ℤ s.b.x
 right s h = by (before s.a s.b h)

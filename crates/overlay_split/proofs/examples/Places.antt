@@ -9,12 +9,12 @@ use Rattle.overlay_split.specs.Run.{after_passes}
 use Rattle.overlay_base.specs.Places.{RationalPoint, winding_below}
 use Rattle.overlay_split.specs.Nearness.{IsNear, reach_of_run}
 use Rattle.overlay_split.specs.Places.{IsFar}
-use Rattle.overlay_split.proofs.laws.nearness.Nearness.{Has-from_Contains}
 use Rattle.overlay_split.proofs.laws.nearness.Places.{run_keeps_winding}
 use Rattle.overlay_base.proofs.examples.Words.{neg, pair, seg, count}
 use Rattle.overlay_split.proofs.examples.Computing.{computing}
 use Rattle.overlay_split.proofs.examples.Runs.{high}
 use Rattle.overlay_split.proofs.examples.Squares.{two_squares, twelve}
+use Rattle.overlay_geometry.proofs.laws.lists.Elements.{Has-from_Contains}
 
 abbrev place : ℤ → ℤ → ℕ → RationalPoint
 place x y bottom = record { x = x; y = y; bottom = bottom }

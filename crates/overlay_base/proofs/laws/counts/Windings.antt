@@ -9,6 +9,7 @@ use Rattle.std.specs.Int.{bit_at}
 use lib.Bits.{or_zero_l}
 use Rattle.overlay_base.specs.Windings.{Winding, empty, add, swap_directions, inverse, weight, is_valid}
 use Rattle.overlay_base.specs.Laws.{InverseTwice, InverseOfSum, InverseCancels, PolygonCountsAreGroup}
+use Rattle.overlay_geometry.proofs.laws.integers.Products.{zero_plus, plus_comm}
 
 -- ---- addition
 
@@ -24,14 +25,8 @@ or_assoc a b c = same_from_bits _ _ (λ i.
 pub same_windings : (c d : Winding) → c.subj ≡ d.subj → c.clip ≡ d.clip → c.mask ≡ d.mask → c ≡ d
 same_windings c d p q r = λ i. record { subj = p i; clip = q i; mask = r i }
 
-add-ℤ_comm : (a b : ℤ) → a +ℤ b ≡ b +ℤ a
-add-ℤ_comm a b = omega (arith, ints)
-
 add-ℤ_assoc : (a b c : ℤ) → (a +ℤ b) +ℤ c ≡ a +ℤ (b +ℤ c)
 add-ℤ_assoc a b c = omega (arith, ints)
-
-add-ℤ_zero : (a : ℤ) → pos 0 +ℤ a ≡ a
-add-ℤ_zero a = omega (arith, ints)
 
 add-ℤ_neg : (a : ℤ) → a +ℤ neg_ℤ a ≡ pos 0
 add-ℤ_neg a = omega (arith, ints)
@@ -43,13 +38,13 @@ neg-neg : (a : ℤ) → neg_ℤ (neg_ℤ a) ≡ a
 neg-neg a = omega (arith, ints)
 
 pub add_comm : (c d : Winding) → add c d ≡ add d c
-add_comm c d = same_windings _ _ (add-ℤ_comm c.subj d.subj) (add-ℤ_comm c.clip d.clip) (or_comm c.mask d.mask)
+add_comm c d = same_windings _ _ (plus_comm c.subj d.subj) (plus_comm c.clip d.clip) (or_comm c.mask d.mask)
 
 pub add_assoc : (c d e : Winding) → add (add c d) e ≡ add c (add d e)
 add_assoc c d e = same_windings _ _ (add-ℤ_assoc c.subj d.subj e.subj) (add-ℤ_assoc c.clip d.clip e.clip) (or_assoc c.mask d.mask e.mask)
 
 pub empty-add : (c : Winding) → add empty c ≡ c
-empty-add c = same_windings _ _ (add-ℤ_zero c.subj) (add-ℤ_zero c.clip) (or_zero_l c.mask)
+empty-add c = same_windings _ _ (zero_plus c.subj) (zero_plus c.clip) (or_zero_l c.mask)
 
 pub add-empty : (c : Winding) → add c empty ≡ c
 add-empty c = add_comm c empty ∙ empty-add c

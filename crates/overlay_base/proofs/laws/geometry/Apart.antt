@@ -5,7 +5,7 @@ use Rattle.std.specs.Int.{int_min, int_max}
 use Rattle.std.specs.Ordering.{int_eq, is_lt}
 use Rattle.std.specs.List.{list_all, AllByRecursion}
 use Rattle.std.proofs.lemmas.Int.{ints, clamps}
-use Rattle.std.proofs.lemmas.Bool.{not-true, and_parts, and_from, or_cases, or_parts, or_from, both_ways, false_from_ne_true}
+use Rattle.std.proofs.lemmas.Bool.{not-true, and_parts, and_from, or_cases, or_parts, or_from, both_ways, false_from_ne_true, or_left, or_right}
 use Rattle.overlay_geometry.specs.Points.{Point, Pair, pair_cmp, pair_lt, point_lt, turn, is_in_box, lies_on, is_ordered, is_strictly_inside}
 use Rattle.overlay_geometry.specs.Sorting.{is_strictly_sorted}
 use Rattle.overlay_base.specs.Segments.{WholeSegment, pairs, is_map}
@@ -17,8 +17,10 @@ use Rattle.overlay_base.specs.Windings.{is_not_empty}
 use Rattle.overlay_base.specs.declared.segm.segment.Segment.{Segment}
 use Rattle.overlay_geometry.proofs.laws.lists.Elements.{AllByRecursion-drop}
 use Rattle.overlay_geometry.proofs.laws.geometry.Polynomials.{as_D, diffs, D-eq, mul-pos, mul-nonneg}
-use Rattle.overlay_geometry.proofs.laws.geometry.Points.{before, lies_inside_by_order, turn_same_outer, inside_parts, lies_on_parts, point_eq_same}
+use Rattle.overlay_geometry.proofs.laws.geometry.Points.{lies_inside_by_order, turn_same_outer, inside_parts, lies_on_parts, point_eq_same, ordered_x}
 use Rattle.overlay_base.proofs.laws.joins.Rests.{rest-more, rest-none, is_splittable-parts}
+use Rattle.overlay_geometry.proofs.laws.integers.Tests.{lt-tested}
+use Rattle.overlay_geometry.proofs.laws.integers.Products.{times_nothing}
 
 -- ---- the test
 
@@ -82,18 +84,11 @@ no_cross_itself s = rw (no_opposite (turn s.a s.b s.a) (turn s.a s.b s.b) (turn_
 
 no_end_inside_itself : (s : Pair) → has_end_inside s s ≡ false
 unfolding has_end_inside is_strictly_inside
-no_end_inside_itself s = or_from _ _ (off (lies_on s s.a) _ (or_first _ _ (point_eq_same s.a))) (off (lies_on s s.b) _ (or_second _ _ (point_eq_same s.b)))
+no_end_inside_itself s = or_from _ _ (off (lies_on s s.a) _ (or_left _ _ (point_eq_same s.a))) (off (lies_on s s.b) _ (or_right _ _ (point_eq_same s.b)))
   where
     off : (a b : Bool) → b ≡ true → (a && not b) ≡ false
     off true b h = rw h refl
     off false b h = refl
-
-    or_first : (a b : Bool) → a ≡ true → (a || b) ≡ true
-    or_first a b h = rw h refl
-
-    or_second : (a b : Bool) → b ≡ true → (a || b) ≡ true
-    or_second true b h = refl
-    or_second false b h = h
 
 pub are_apart-itself : (s : Pair) → are_apart s s ≡ true
 are_apart-itself s = are_apart_is s s ∙ ap₂ (λ b c. not b && not c && not c) (no_cross_itself s) (no_end_inside_itself s)
@@ -129,9 +124,6 @@ opposite f g h = grind (arith, ints)
 pub from_opposite : (f g : ℤ) → Opposite f g → IsTrue (have_opposite_signs f g)
 from_opposite f g h = grind (arith, ints)
 
-times_zero : (m z : ℤ) → z ≡ pos 0 → m *ℤ z ≡ pos 0
-times_zero m z h = rw h (omega (arith, ints))
-
 -- the ends of one lie up to m, those of the other beyond it
 no_mean_up : (m a b p q f g h k : ℤ) → a ≤ℤ m → b ≤ℤ m → m <ℤ p → m <ℤ q → f <ℤ pos 0 → pos 0 <ℤ g → Opposite h k
     → ((a *ℤ g -ℤ b *ℤ f) +ℤ p *ℤ k) -ℤ q *ℤ h ≡ pos 0 → ((g -ℤ f) +ℤ k) -ℤ h ≡ pos 0 → ⊥
@@ -143,7 +135,7 @@ no_mean_up m a b p q f g h k am bm mp mq fn gp (inr down) e d =
     let second = mul-nonneg (m -ℤ b) (neg_ℤ f) (omega (arith, ints)) (omega (arith, ints)) in
     let third = mul-pos (p -ℤ m) (neg_ℤ k) (omega (arith, ints)) (omega (arith, ints)) in
     let fourth = mul-pos (q -ℤ m) h (omega (arith, ints)) hp in
-    sums _ _ _ _ _ _ first second third fourth (weighed_from m a b p q f g h k) (times_zero m _ d) e
+    sums _ _ _ _ _ _ first second third fourth (weighed_from m a b p q f g h k) (times_nothing m _ d) e
   where
     sums : (u v w x y z : ℤ) → pos 0 ≤ℤ u → pos 0 ≤ℤ v → pos 0 <ℤ w → pos 0 <ℤ x → ((u +ℤ v) +ℤ w) +ℤ x ≡ y -ℤ z → y ≡ pos 0 → z ≡ pos 0 → ⊥
     sums u v w x y z h1 h2 h3 h4 e1 e2 e3 = omega (arith, ints)
@@ -222,29 +214,23 @@ apart_past_y s t m h1 h2 h3 h4 =
     (no_end s t (λ i. let b = in_box_y s t.a i in omega (arith, ints, clamps, b)) (λ i. let b = in_box_y s t.b i in omega (arith, ints, clamps, b)))
     (no_end t s (λ i. let b = in_box_y t s.a i in omega (arith, ints, clamps, b)) (λ i. let b = in_box_y t s.b i in omega (arith, ints, clamps, b)))
 
-ordered_x : (s : Pair) → IsTrue (is_ordered s) → s.a.x ≤ℤ s.b.x
-ordered_x s h = elim (before s.a s.b h) [ inl less ↦ omega (arith, ints) | inr same ↦ let e = same.0 in omega (arith, ints) ]
-
 pub apart_in_x : (s t : Pair) → IsTrue (is_ordered s) → IsTrue (is_ordered t) → s.b.x <ℤ t.a.x → are_apart s t ≡ true
 apart_in_x s t hs ht less =
     let u = ordered_x s hs in
     let v = ordered_x t ht in
     apart_past_x s t s.b.x u (omega (arith, ints)) less (omega (arith, ints))
 
-pub int_lt-to : (u v : ℤ) → int_lt u v ≡ true → u <ℤ v
-int_lt-to u v h = grind (arith, ints)
-
 pub apart_in_y : (s t : Pair) → IsTrue (is_off_range (heights s) t) → are_apart s t ≡ true
 apart_in_y s t off = elim (or_cases _ _ off) [
   | inl low ↦
       let parts = and_parts _ _ low in
-      let a = int_lt-to t.a.y (int_min s.a.y s.b.y) parts.0 in
-      let b = int_lt-to t.b.y (int_min s.a.y s.b.y) parts.1 in
+      let a = lt-tested t.a.y (int_min s.a.y s.b.y) parts.0 in
+      let b = lt-tested t.b.y (int_min s.a.y s.b.y) parts.1 in
       are_apart-back s t ∙ apart_past_y t s (int_max t.a.y t.b.y) (omega (arith, ints, clamps)) (omega (arith, ints, clamps)) (omega (arith, ints, clamps)) (omega (arith, ints, clamps))
   | inr high ↦
       let parts = and_parts _ _ high in
-      let a = int_lt-to (int_max s.a.y s.b.y) t.a.y parts.0 in
-      let b = int_lt-to (int_max s.a.y s.b.y) t.b.y parts.1 in
+      let a = lt-tested (int_max s.a.y s.b.y) t.a.y parts.0 in
+      let b = lt-tested (int_max s.a.y s.b.y) t.b.y parts.1 in
       apart_past_y s t (int_max s.a.y s.b.y) (omega (arith, ints, clamps)) (omega (arith, ints, clamps)) a b
 ]
 
@@ -340,7 +326,7 @@ pub rest_apart_from : (s t : Pair) (ss : List Pair) (j : ℕ) → IsTrue (is_ord
 rest_apart_from s t ss j hs o sorted d less =
     let here = rw d at (is_strictly_sorted-drop j ss sorted) in
     let ordered = rw d at (AllByRecursion-drop (λ t. IsTrue (is_ordered t)) j ss o) in
-    rw d (rest_is_apart s t (drop (j + 1) ss) hs ordered here (int_lt-to s.b.x t.a.x less))
+    rw d (rest_is_apart s t (drop (j + 1) ss) hs ordered here (lt-tested s.b.x t.a.x less))
 
 -- ---- the walk over all
 

@@ -1,5 +1,5 @@
 -- Whether two pairs are equal, whether a pair or a point stands in a list, and neighbors in order of the pairs.
-use Rattle.std.proofs.Common.{◌≡◌, Bool, false, List, ◌∷◌, Ordering, Less, Equal, Greater, is_eq, ap, refl, ◌∙◌}
+use Rattle.std.proofs.Common.{◌≡◌, Bool, false, List, ◌∷◌, Less, is_eq, ap, ◌∙◌}
 use Rattle.std.specs.Ordering.{ordering_reverse}
 use Rattle.std.specs.List.{AllByRecursion, list_any}
 use Rattle.overlay_geometry.specs.Points.{Point, Pair, point_cmp, point_eq, pair_cmp, pair_eq}
@@ -7,7 +7,7 @@ use Rattle.overlay_geometry.specs.Sorting.{distinct_in_order}
 use Rattle.overlay_base.specs.Windings.{add}
 use Rattle.overlay_base.specs.Segments.{WholeSegment, pairs}
 use Rattle.overlay_geometry.proofs.laws.geometry.Points.{point_cmp_total, pair_cmp_total}
-use Rattle.overlay_geometry.proofs.laws.lists.Keys.{has_key-distinct, Less-from_tests, IsInOrder, AllByRecursion-less_in_order}
+use Rattle.overlay_geometry.proofs.laws.lists.Keys.{has_key-distinct, Less-from_tests, IsInOrder, AllByRecursion-less_in_order, is_eq-reverse}
 
 -- ---- equal pairs
 
@@ -19,12 +19,7 @@ pub pair_eq-greater : (s t : Pair) → pair_cmp t s ≡ Less → pair_eq s t ≡
 pair_eq-greater s t h = ap is_eq (pair_cmp_total.antisymm s t ∙ ap ordering_reverse h)
 
 pub pair_eq-comm : (s t : Pair) → pair_eq s t ≡ pair_eq t s
-pair_eq-comm s t = ap is_eq (pair_cmp_total.antisymm s t) ∙ turned (pair_cmp t s)
-  where
-    turned : (o : Ordering) → is_eq (ordering_reverse o) ≡ is_eq o
-    turned Less = refl
-    turned Equal = refl
-    turned Greater = refl
+pair_eq-comm s t = ap is_eq (pair_cmp_total.antisymm s t) ∙ is_eq-reverse (pair_cmp t s)
 
 -- ---- pairs and points in a list
 

@@ -1,9 +1,7 @@
 -- Sums over bags of segments, and that the join of a bag has the sums of the bag.
-use Rattle.std.proofs.Common.{◌≡◌, Bool, true, false, cond, ◌||◌, List, [], ◌∷◌, ◌++◌, map, IsPermutation, ℤ, Equal, refl, sym, ap, ap₂, subst, ◌∙◌, Less, eqb-true}
+use Rattle.std.proofs.Common.{◌≡◌, Bool, true, false, cond, ◌||◌, List, [], ◌∷◌, ◌++◌, map, IsPermutation, refl, sym, ap, ap₂, subst, ◌∙◌, Less, eqb-true}
 use Rattle.std.specs.List.{AllByRecursion}
-use Rattle.std.specs.Ordering.{int_eq}
 use Rattle.std.specs.List.Sorted.{IsStrictlySortedBy}
-use Rattle.std.proofs.lemmas.Cmp.{int_ranked}
 use Rattle.std.proofs.lemmas.Bool.{and_parts, or_parts, or_left, or_right, not-false}
 use Rattle.overlay_geometry.specs.Points.{Pair, pair_cmp, pair_eq}
 use Rattle.overlay_geometry.specs.Sorting.{distinct_in_order}
@@ -15,8 +13,9 @@ use Rattle.overlay_base.specs.Laws.{CountsAddUp}
 use Rattle.overlay_base.proofs.laws.counts.Windings.{cond-empty, cond-add, add_comm, add_assoc, empty-add, same_windings, weight-add}
 use Rattle.overlay_geometry.proofs.laws.geometry.Points.{pair_cmp_total, pair_eq_same, same_pair_by_eq}
 use Rattle.overlay_base.proofs.laws.geometry.Pairs.{pair_eq-less, pair_eq-comm, holds, holds-distinct}
-use Rattle.overlay_geometry.proofs.laws.lists.Keys.{is_eq-true, IsStrictlySortedBy-distinct}
+use Rattle.overlay_geometry.proofs.laws.lists.Keys.{IsStrictlySortedBy-distinct}
 use Rattle.overlay_base.proofs.laws.lists.Monoids.{gathered-append, gathered-unit, gathered-op, gathered-same, gathered-filter, gathered-IsPermutation, gathered-map, gathered-through}
+use Rattle.overlay_geometry.proofs.laws.integers.Tests.{eq-tested}
 
 -- ---- totals
 
@@ -77,14 +76,11 @@ total_weight-total bag = total_weight-gathered bag ∙ sym (ap weight (total-map
 
 -- ---- what adds up over a bag adds up to the same over its join
 
-same_int_eq : (x y : ℤ) → int_eq x y ≡ true → x ≡ y
-same_int_eq x y h = int_ranked x y Equal (sym (is_eq-true _ h))
-
 pub winding_eq-true : (c d : Winding) → winding_eq c d ≡ true → c ≡ d
 winding_eq-true c d h =
     let rest = and_parts _ _ h in
     let parts = and_parts _ _ rest.0 in
-    same_windings c d (same_int_eq _ _ parts.0) (same_int_eq _ _ parts.1) (eqb-true _ _ rest.1)
+    same_windings c d (eq-tested _ _ parts.0) (eq-tested _ _ parts.1) (eqb-true _ _ rest.1)
 
 pub is_not_empty-false : (c : Winding) → is_not_empty c ≡ false → c ≡ empty
 is_not_empty-false c h = winding_eq-true c empty (not-false _ h)

@@ -14,6 +14,7 @@ use Rattle.overlay_geometry.proofs.laws.geometry.Polynomials.{as_D, diffs, D-eq}
 use Rattle.overlay_base.proofs.laws.counts.Windings.{cond-empty, inverse-add}
 use Rattle.overlay_base.proofs.laws.lists.Monoids.{four, gathered-op, gathered-same, gathered-filter, gathered-through}
 use Rattle.overlay_base.proofs.laws.joins.Bags.{windings_add, total_weight-gathered, gathered-join}
+use Rattle.overlay_geometry.proofs.laws.integers.Products.{times_zero, zero_times}
 
 -- ---- sums of whole numbers
 
@@ -22,9 +23,6 @@ whole_numbers_add = record { comm = λ a b. omega (arith, ints); assoc = λ a b 
 
 pub numbers_are_linear : NumbersAreLinear
 numbers_are_linear = (record { at_empty = refl; at_sum = λ c d. refl }, record { at_empty = refl; at_sum = λ c d. refl })
-
-times_zero : (a : ℤ) → a *ℤ pos 0 ≡ pos 0
-times_zero a = omega (arith, ints)
 
 times_sum : (a b c : ℤ) → a *ℤ (b +ℤ c) ≡ a *ℤ b +ℤ a *ℤ c
 times_sum a b c = rw (as_D a, as_D b, as_D c) (simp diffs (D-eq _ _ _ _ (omega arith)))
@@ -43,14 +41,11 @@ at_weight false c d = refl
 one_times : (a : ℤ) → pos 1 *ℤ a ≡ a
 one_times a = omega (arith, ints)
 
-zero_times : (a : ℤ) → pos 0 *ℤ a ≡ pos 0
-zero_times a = omega (arith, ints)
-
-at_subj : (b : Bool) (c : Winding) → (cond b (weight c) empty).subj ≡ cond b (pos 1) (pos 0) *ℤ c.subj
+pub at_subj : (b : Bool) (c : Winding) → (cond b (weight c) empty).subj ≡ cond b (pos 1) (pos 0) *ℤ c.subj
 at_subj true c = sym (one_times c.subj)
 at_subj false c = sym (zero_times c.subj)
 
-at_clip : (b : Bool) (c : Winding) → (cond b (weight c) empty).clip ≡ cond b (pos 1) (pos 0) *ℤ c.clip
+pub at_clip : (b : Bool) (c : Winding) → (cond b (weight c) empty).clip ≡ cond b (pos 1) (pos 0) *ℤ c.clip
 at_clip true c = sym (one_times c.clip)
 at_clip false c = sym (zero_times c.clip)
 

@@ -1,47 +1,25 @@
 -- The members of a join: which pairs stand in it, and what holds of its counts.
-use Rattle.std.proofs.Common.{◌≡◌, ℕ, ◌≤◌, Bool, true, false, cond, ◌||◌, List, [], ◌∷◌, map, filter, length, sum_by, refl, sym, ap, ap₂, subst, ◌∙◌, Less, arith, IsTrue, IsFalse, eqb-true, nat_lt, ◌==◌, bit_or, ltb-true, lt-ltb, All, ◌&&◌}
+use Rattle.std.proofs.Common.{◌≡◌, ℕ, ◌≤◌, Bool, true, false, cond, ◌||◌, List, [], ◌∷◌, map, filter, length, sum_by, refl, sym, ap, ap₂, subst, ◌∙◌, arith, IsTrue, IsFalse, eqb-true, nat_lt, ◌==◌, bit_or, ltb-true, lt-ltb}
 use Rattle.std.specs.List.{AllByRecursion, list_any, list_all}
 use Rattle.std.proofs.lemmas.Bool.{and_parts, or_parts, not-false}
 use Rattle.std.proofs.lemmas.Nat.{or_lt}
-use Rattle.std.proofs.lemmas.List.Folds.{list_all-map}
-use Rattle.overlay_geometry.specs.Points.{Pair, pair_cmp, pair_eq, Point, is_ordered}
+use Rattle.overlay_geometry.specs.Points.{Pair, pair_cmp, pair_eq}
 use Rattle.overlay_geometry.specs.Sorting.{distinct_in_order}
 use Rattle.overlay_base.specs.Windings.{Winding, empty, add, is_not_empty, is_count_in_range}
-use Rattle.overlay_base.specs.Segments.{WholeSegment, pairs, winding_at, are_polygons, ends, is_map}
+use Rattle.overlay_base.specs.Segments.{WholeSegment, pairs, winding_at, are_polygons}
 use Rattle.overlay_base.specs.Join.{summed, join, join_leaves_range}
 use Rattle.overlay_base.specs.Sums.{gathered}
 use Rattle.overlay_base.proofs.laws.counts.Windings.{cond-empty, empty-add, add-empty, add_assoc}
 use Rattle.overlay_geometry.proofs.laws.geometry.Points.{same_pair_by_eq}
-use Rattle.overlay_base.proofs.laws.geometry.Pairs.{pair_eq-less, pair_eq-comm, holds}
+use Rattle.overlay_base.proofs.laws.geometry.Pairs.{pair_eq-comm, holds}
 use Rattle.overlay_geometry.proofs.laws.lists.Lists.{AllByRecursion-filter_all, AllByRecursion-from_list_all, list_all-from_AllByRecursion, list_all-filter, sum_by-map, sum_by-filter_le, sum_by-ones}
-use Rattle.overlay_geometry.proofs.laws.lists.Keys.{list_all-distinct_in_order, sum_by-distinct_in_order_le, IsStrictlySortedBy-map_filter}
+use Rattle.overlay_geometry.proofs.laws.lists.Keys.{sum_by-distinct_in_order_le, IsStrictlySortedBy-map_filter}
 use Rattle.overlay_base.proofs.laws.joins.Bags.{winding_at-absent, winding_at-other, winding_at-nil, winding_at-cons, winding_at-join, winding_at-gathered, windings_add, count_at}
-use Rattle.overlay_base.proofs.laws.joins.Maps.{IsSummed, IsSummed-join, IsSummed-tail, winding_at-head, tail_sorted, is_join, is_map-from, IsSummed-from_map, are_ordered-map}
+use Rattle.overlay_base.proofs.laws.joins.Maps.{IsSummed, IsSummed-join, IsSummed-tail, winding_at-head, is_join}
 use Rattle.overlay_base.proofs.laws.joins.Ranges.{sums_leave, sums_leave-same, sums_leave-other, join_leaves_range-sums}
 use Rattle.overlay_base.proofs.laws.lists.Monoids.{gathered-filter, gathered-same, gathered-unit}
-use Rattle.std.proofs.lemmas.List.Elements.{All-from_recursion}
 
 -- ---- pairs
-
--- a test that the pairs of a bag pass, those of the join pass
-pub list_all_pairs-join : (test : Pair → Bool) (bag : List WholeSegment) → list_all (λ s. test s.pair) bag ≡ true → list_all (λ s. test s.pair) (join bag) ≡ true
-unfolding join summed
-list_all_pairs-join test bag h =
-    list_all-filter (λ s. test s.pair) (λ s. is_not_empty s.count) (summed bag)
-    (list_all-map (λ s. test s.pair) (λ pair. record { pair = pair; count = winding_at bag pair }) (distinct_in_order pair_cmp (pairs bag))
-    ∙ list_all-distinct_in_order pair_cmp test (pairs bag) (list_all-map test (λ s. s.pair) bag ∙ h))
-
-list_all_ends : (test : Point → Bool) (segments : List WholeSegment) → list_all test (ends (pairs segments)) ≡ list_all (λ s. test s.pair.a && test s.pair.b) segments
-list_all_ends test [] = refl
-list_all_ends test (s ∷ ss) = ap (λ b. test s.pair.a && (test s.pair.b && b)) (list_all_ends test ss) ∙ by (test s.pair.a) (test s.pair.b) (list_all (λ s. test s.pair.a && test s.pair.b) ss)
-  where
-    by : (a b c : Bool) → (a && (b && c)) ≡ ((a && b) && c)
-    by true b c = refl
-    by false b c = refl
-
--- and a test that the ends pass
-pub list_all_ends-join : (test : Point → Bool) (bag : List WholeSegment) → list_all test (ends (pairs bag)) ≡ true → list_all test (ends (pairs (join bag))) ≡ true
-list_all_ends-join test bag h = list_all_ends test (join bag) ∙ list_all_pairs-join (λ p. test p.a && test p.b) bag (sym (list_all_ends test bag) ∙ h)
 
 -- a pair stands in a map where its winding is not empty
 pub holds-summed : (segments : List WholeSegment) → IsSummed segments → (q : Pair) → holds (pairs segments) q ≡ is_not_empty (winding_at segments q)
@@ -55,26 +33,10 @@ holds-summed (s ∷ ss) o q = by (pair_eq q s.pair) refl (holds-summed ss (IsSum
 pub holds-join : (bag : List WholeSegment) (q : Pair) → holds (pairs (join bag)) q ≡ is_not_empty (winding_at bag q)
 holds-join bag q = holds-summed (join bag) (IsSummed-join bag) q ∙ ap is_not_empty (winding_at-join bag q)
 
--- in a map each segment has the winding of its pair
-pub winding_at-members : (segments : List WholeSegment) → IsSummed segments → AllByRecursion (λ s. winding_at segments s.pair ≡ s.count) segments
-winding_at-members [] o = tt
-winding_at-members (s ∷ ss) o = (winding_at-head s ss o, later ss (tail_sorted s ss o).0 (winding_at-members ss (IsSummed-tail s ss o)))
-  where
-    later : (us : List WholeSegment) → AllByRecursion (λ k. pair_cmp s.pair k ≡ Less) (pairs us) → AllByRecursion (λ u. winding_at ss u.pair ≡ u.count) us → AllByRecursion (λ u. winding_at (s ∷ ss) u.pair ≡ u.count) us
-    later [] a h = tt
-    later (u ∷ us) a h = (winding_at-other s ss u.pair (pair_eq-less s.pair u.pair a.0) ∙ h.0, later us a.1 h.1)
-
-pub All-winding_at : (segments : List WholeSegment) → IsSummed segments → All (λ s. winding_at segments s.pair ≡ s.count) segments
-All-winding_at segments o = All-from_recursion (λ s. winding_at segments s.pair ≡ s.count) segments (winding_at-members segments o)
-
 -- ---- parts of a bag
 
 pub IsSummed-filter : (test : WholeSegment → Bool) (segments : List WholeSegment) → IsSummed segments → IsSummed (filter test segments)
 IsSummed-filter test segments o = record { sorted = IsStrictlySortedBy-map_filter (λ (s : WholeSegment). s.pair) pair_cmp test segments o.sorted; none_empty = list_all-filter (λ s. is_not_empty s.count) test segments o.none_empty }
-
--- a part of a map is a map
-pub is_map-filter : (test : WholeSegment → Bool) (segments : List WholeSegment) → IsTrue (is_map segments) → IsTrue (is_map (filter test segments))
-is_map-filter test segments h = is_map-from (filter test segments) (IsSummed-filter test segments (IsSummed-from_map segments h)) (list_all-filter (λ s. is_ordered s.pair) test segments (are_ordered-map segments h))
 
 pub winding_at-filter : (test : Pair → Bool) (bag : List WholeSegment) (q : Pair) → winding_at (filter (λ s. test s.pair) bag) q ≡ cond (test q) (winding_at bag q) empty
 winding_at-filter test bag q =

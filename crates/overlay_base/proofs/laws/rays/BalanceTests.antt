@@ -1,9 +1,6 @@
 -- A list is balanced where the counts at its ends, joined, are none: the winding of these counts at a point is the balance there.
 use Rattle.std.proofs.Common.{◌≡◌, refl, sym, ap, ap₂, ◌∙◌, Bool, true, false, cond, List, [], ◌∷◌, inl, inr}
 use Rattle.std.specs.Prelude.{◌&&◌}
-use Rattle.std.specs.declared.cmp.Ordering.{Ordering}
-use Rattle.std.proofs.Common.{Less, Equal, Greater}
-use Rattle.std.specs.Ordering.{is_eq, ordering_then}
 use Rattle.std.proofs.lemmas.Bool.{and_parts, cases_Bool, both_ways, false_from_ne_true}
 use Rattle.overlay_geometry.specs.Points.{Point, Pair, point_cmp, point_eq, pair_eq}
 use Rattle.overlay_base.specs.Windings.{Winding, empty, add, inverse, weight}
@@ -14,19 +11,14 @@ use Rattle.overlay_base.specs.Balance.{balance, IsBalanced}
 use Rattle.overlay_base.specs.BalanceTest.{point_pair, end_counts}
 use Rattle.overlay_base.specs.Sums.{gathered}
 use Rattle.overlay_base.specs.Laws.{BalanceIsTested}
-use Rattle.overlay_geometry.proofs.laws.geometry.Points.{same_by_eq}
+use Rattle.overlay_geometry.proofs.laws.geometry.Points.{same_by_eq, is_eq-then}
 use Rattle.overlay_base.proofs.laws.counts.Windings.{add_assoc, empty-add}
 use Rattle.overlay_base.proofs.laws.joins.Bags.{winding_at-nil, winding_at-cons, winding_at-join}
 use Rattle.overlay_base.proofs.laws.joins.Maps.{join_from_windings}
 use Rattle.overlay_base.proofs.laws.joins.Functionals.{flow, balance-gathered}
 
-eq_then : (o u : Ordering) → is_eq (ordering_then o u) ≡ (is_eq o && is_eq u)
-eq_then Less u = refl
-eq_then Equal u = refl
-eq_then Greater u = refl
-
 pair_eq_points : (a : Point) (pair : Pair) → pair_eq (point_pair a) pair ≡ (point_eq a pair.a && point_eq a pair.b)
-pair_eq_points a pair = eq_then (point_cmp a pair.a) (point_cmp a pair.b)
+pair_eq_points a pair = is_eq-then (point_cmp a pair.a) (point_cmp a pair.b)
 
 twice : (b : Bool) → (b && b) ≡ b
 twice true = refl

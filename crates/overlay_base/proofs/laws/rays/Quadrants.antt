@@ -3,26 +3,9 @@ use Rattle.std.proofs.Common.{◌≡◌, refl, arith, ℕ, ◌<◌, inl, inr}
 use Rattle.std.specs.Prelude.{ℤ, pos, ◌+ℤ◌, ◌-ℤ◌, ◌*ℤ◌, neg_ℤ, ◌≤ℤ◌, ◌<ℤ◌, int_le, int_lt, Bool, true, false, cond, not, ◌&&◌, ◌⊎◌}
 use Rattle.std.proofs.lemmas.Int.{ints, by_lt_z}
 use Rattle.overlay_geometry.proofs.laws.geometry.Polynomials.{as_D, diffs, D-eq, mul-pos, mul-neg, mul-nonneg, mul-nonpos, mul-nonpos_left, cancel-pos, cancel-neg, cancel-nonneg, cancel-nonpos}
+use Rattle.overlay_geometry.proofs.laws.integers.Tests.{lt-test, lt-test_false, le-tested, le-tested_false, le_weak}
 
 -- ---- tests
-
-pub le-test : (a b : ℤ) → a ≤ℤ b → int_le a b ≡ true
-le-test a b h = grind (arith, ints)
-
-pub lt-test : (a b : ℤ) → a <ℤ b → int_lt a b ≡ true
-lt-test a b h = grind (arith, ints)
-
-pub lt-test_false : (a b : ℤ) → b ≤ℤ a → int_lt a b ≡ false
-lt-test_false a b h = grind (arith, ints)
-
-pub le-tested : (a b : ℤ) → int_le a b ≡ true → a ≤ℤ b
-le-tested a b e = omega (arith, ints)
-
-pub lt-from_not_le : (a b : ℤ) → int_le a b ≡ false → b <ℤ a
-lt-from_not_le a b e = grind (arith, ints)
-
-lt-not_le : (a b : ℤ) → int_lt a b ≡ not (int_le b a)
-lt-not_le a b = grind (arith, ints)
 
 -- 1 where a test passes
 abbrev pub one : Bool → ℤ
@@ -89,13 +72,10 @@ module _ (d : ℕ) (u w v z t : ℤ) (seen : Seen d u w v z t) where
   both_left_rising : u <ℤ pos 0 → pos 0 ≤ℤ v → z <ℤ pos 0 → pos 0 <ℤ t
   both_left_rising h p q =
       let o = seen.ordered in
-      let m = above (neg_ℤ u) (neg_ℤ z) (omega (arith, ints, h)) (omega (arith, ints, q)) in
+      let m = mul-pos (neg_ℤ u) (neg_ℤ z) (omega (arith, ints, h)) (omega (arith, ints, q)) in
       let n = mul-nonpos_left w v (omega (arith, ints, h, o)) p in
       positive (join u z (w *ℤ v) m n)
     where
-      above : (u z : ℤ) → pos 0 <ℤ u → pos 0 <ℤ z → pos 0 <ℤ (u *ℤ z)
-      above u z h k = mul-pos u z h k
-
       join : (u z n : ℤ) → pos 0 <ℤ (neg_ℤ u *ℤ neg_ℤ z) → n ≤ℤ pos 0 → pos 0 <ℤ (u *ℤ z -ℤ n)
       join u z n h k = let e : neg_ℤ u *ℤ neg_ℤ z ≡ u *ℤ z = rw (as_D u, as_D z) (simp diffs (D-eq _ _ _ _ (omega arith))) in omega (arith, ints, e, h, k)
 
@@ -121,9 +101,6 @@ module _ (d : ℕ) (u w v z t : ℤ) (seen : Seen d u w v z t) where
   difference_neg : (m n : ℤ) → m <ℤ pos 0 → pos 0 ≤ℤ n → (m -ℤ n) <ℤ pos 0
   difference_neg m n h k = omega (arith, ints, h, k)
 
-  weakly : (a b : ℤ) → a <ℤ b → a ≤ℤ b
-  weakly a b h = omega (arith, ints, h)
-
   -- p is at most as far left as both ends
   both_right_rising : pos 0 ≤ℤ w → pos 0 ≤ℤ v → z <ℤ pos 0 → t <ℤ pos 0
   both_right_rising h p q =
@@ -131,7 +108,7 @@ module _ (d : ℕ) (u w v z t : ℤ) (seen : Seen d u w v z t) where
       let here : pos 0 ≤ℤ u = omega (arith, ints, h, o) in
       by_lt_z (pos 0) w
       (λ (m : pos 0 <ℤ w). negative (difference_neg (u *ℤ z) (w *ℤ v) (mul-neg u z (omega (arith, ints, m, o)) q) (mul-nonneg w v h p)))
-      (λ (m : w ≤ℤ pos 0). strictly_negative (not_positive (difference_nonpos (u *ℤ z) (w *ℤ v) (mul-nonpos u z here (weakly z (pos 0) q)) (mul-nonneg w v h p))) here m (inl (p, weakly z (pos 0) q)))
+      (λ (m : w ≤ℤ pos 0). strictly_negative (not_positive (difference_nonpos (u *ℤ z) (w *ℤ v) (mul-nonpos u z here (le_weak z (pos 0) q)) (mul-nonneg w v h p))) here m (inl (p, le_weak z (pos 0) q)))
 
   both_right_falling : pos 0 ≤ℤ w → v <ℤ pos 0 → pos 0 ≤ℤ z → pos 0 <ℤ t
   both_right_falling h p q =
@@ -139,20 +116,20 @@ module _ (d : ℕ) (u w v z t : ℤ) (seen : Seen d u w v z t) where
       let here : pos 0 ≤ℤ u = omega (arith, ints, h, o) in
       by_lt_z (pos 0) w
       (λ (m : pos 0 <ℤ w). positive (difference_pos (u *ℤ z) (w *ℤ v) (mul-nonneg u z here q) (mul-neg w v m p)))
-      (λ (m : w ≤ℤ pos 0). strictly_positive (not_negative (difference_nonneg (u *ℤ z) (w *ℤ v) (mul-nonneg u z here q) (mul-nonpos w v h (weakly v (pos 0) p)))) here m (inr (weakly v (pos 0) p, q)))
+      (λ (m : w ≤ℤ pos 0). strictly_positive (not_negative (difference_nonneg (u *ℤ z) (w *ℤ v) (mul-nonneg u z here q) (mul-nonpos w v h (le_weak v (pos 0) p)))) here m (inr (le_weak v (pos 0) p, q)))
 
   -- p lies between the ends in x, and above both or below both
   between_over : pos 0 ≤ℤ u → w <ℤ pos 0 → pos 0 ≤ℤ v → pos 0 ≤ℤ z → pos 0 <ℤ t
   between_over h k p q =
       by_lt_z (pos 0) v
       (λ (m : pos 0 <ℤ v). positive (difference_pos (u *ℤ z) (w *ℤ v) (mul-nonneg u z h q) (turned_neg w v k m)))
-      (λ (m : v ≤ℤ pos 0). strictly_positive (not_negative (difference_nonneg (u *ℤ z) (w *ℤ v) (mul-nonneg u z h q) (mul-nonpos_left w v (weakly w (pos 0) k) p))) h (weakly w (pos 0) k) (inr (m, q)))
+      (λ (m : v ≤ℤ pos 0). strictly_positive (not_negative (difference_nonneg (u *ℤ z) (w *ℤ v) (mul-nonneg u z h q) (mul-nonpos_left w v (le_weak w (pos 0) k) p))) h (le_weak w (pos 0) k) (inr (m, q)))
     where
       turned_neg : (w v : ℤ) → w <ℤ pos 0 → pos 0 <ℤ v → (w *ℤ v) <ℤ pos 0
       turned_neg w v h k = let m = mul-neg v w k h in let e : v *ℤ w ≡ w *ℤ v = omega (arith, ints) in omega (arith, ints, e, m)
 
   between_under : pos 0 ≤ℤ u → w <ℤ pos 0 → v <ℤ pos 0 → z <ℤ pos 0 → t <ℤ pos 0
-  between_under h k p q = negative (join w v (u *ℤ z) (mul-pos (neg_ℤ w) (neg_ℤ v) (omega (arith, ints, k)) (omega (arith, ints, p))) (mul-nonpos u z h (weakly z (pos 0) q)))
+  between_under h k p q = negative (join w v (u *ℤ z) (mul-pos (neg_ℤ w) (neg_ℤ v) (omega (arith, ints, k)) (omega (arith, ints, p))) (mul-nonpos u z h (le_weak z (pos 0) q)))
     where
       join : (w v m : ℤ) → pos 0 <ℤ (neg_ℤ w *ℤ neg_ℤ v) → m ≤ℤ pos 0 → (m -ℤ w *ℤ v) <ℤ pos 0
       join w v m h k = let e : neg_ℤ w *ℤ neg_ℤ v ≡ w *ℤ v = rw (as_D w, as_D v) (simp diffs (D-eq _ _ _ _ (omega arith))) in omega (arith, ints, e, h, k)
@@ -163,10 +140,10 @@ module _ (d : ℕ) (u w v z t : ℤ) (seen : Seen d u w v z t) where
   Here a b c e = Agree a b c e (int_lt (pos 0) t) (int_lt t (pos 0))
 
   on_left : (a b c e : Bool) → pos 0 <ℤ t → Agree a b c e true false → Here a b c e
-  on_left a b c e h k = rw (lt-test (pos 0) t h, lt-test_false t (pos 0) (weakly (pos 0) t h)) k
+  on_left a b c e h k = rw (lt-test (pos 0) t h, lt-test_false t (pos 0) (le_weak (pos 0) t h)) k
 
   on_right : (a b c e : Bool) → t <ℤ pos 0 → Agree a b c e false true → Here a b c e
-  on_right a b c e h k = rw (lt-test t (pos 0) h, lt-test_false (pos 0) t (weakly t (pos 0) h)) k
+  on_right a b c e h k = rw (lt-test t (pos 0) h, lt-test_false (pos 0) t (le_weak t (pos 0) h)) k
 
   either : (a b c e : Bool) → (t ≡ pos 0 → ⊥) → Agree a b c e true false → Agree a b c e false true → Here a b c e
   either a b c e h k m = by_lt_z t (pos 0) (λ (l : t <ℤ pos 0). on_right a b c e l m)
@@ -182,7 +159,7 @@ module _ (d : ℕ) (u w v z t : ℤ) (seen : Seen d u w v z t) where
   yes x h = le-tested (pos 0) x h
 
   no : (x : ℤ) → int_le (pos 0) x ≡ false → x <ℤ pos 0
-  no x h = lt-from_not_le (pos 0) x h
+  no x h = le-tested_false (pos 0) x h
 
   pub by_ends : (a b c e : Bool) → int_le (pos 0) u ≡ a → int_le (pos 0) w ≡ b → int_le (pos 0) v ≡ c → int_le (pos 0) z ≡ e → Here a b c e
   by_ends true true true true ha hb hc he = same_side true true _ _
@@ -195,6 +172,6 @@ module _ (d : ℕ) (u w v z t : ℤ) (seen : Seen d u w v z t) where
   by_ends false false false true ha hb hc he = on_right false false false true (both_left_falling (no u ha) (no v hc) (yes z he)) (record { up = refl; left = refl; right = refl })
   by_ends true false true true ha hb hc he = on_left true false true true (between_over (yes u ha) (no w hb) (yes v hc) (yes z he)) (record { up = refl; left = refl; right = refl })
   by_ends true false false false ha hb hc he = on_right true false false false (between_under (yes u ha) (no w hb) (no v hc) (no z he)) (record { up = refl; left = refl; right = refl })
-  by_ends true false true false ha hb hc he = either true false true false (λ s. seen.not_on s (yes u ha) (weakly _ _ (no w hb)) (inl (yes v hc, weakly _ _ (no z he)))) (record { up = refl; left = refl; right = refl }) (record { up = refl; left = refl; right = refl })
-  by_ends true false false true ha hb hc he = either true false false true (λ s. seen.not_on s (yes u ha) (weakly _ _ (no w hb)) (inr (weakly _ _ (no v hc), yes z he))) (record { up = refl; left = refl; right = refl }) (record { up = refl; left = refl; right = refl })
+  by_ends true false true false ha hb hc he = either true false true false (λ s. seen.not_on s (yes u ha) (le_weak _ _ (no w hb)) (inl (yes v hc, le_weak _ _ (no z he)))) (record { up = refl; left = refl; right = refl }) (record { up = refl; left = refl; right = refl })
+  by_ends true false false true ha hb hc he = either true false false true (λ s. seen.not_on s (yes u ha) (le_weak _ _ (no w hb)) (inr (le_weak _ _ (no v hc), yes z he))) (record { up = refl; left = refl; right = refl }) (record { up = refl; left = refl; right = refl })
   by_ends false true c e ha hb hc he = absurd (let o = seen.ordered in let h = no u ha in let k = yes w hb in omega (arith, ints, o, h, k))

@@ -14,7 +14,7 @@ use Rattle.overlay_base.specs.Sums.{weighed}
 use Rattle.overlay_base.specs.Places.{RationalPoint, height_at, lies_below, winding_below}
 use Rattle.overlay_base.specs.Rays.{place_turn, goes_through, is_on_none, lies_above, winding_above, rises_left_of, falls_left_of, rises_right_of, falls_right_of, winding_left, winding_right}
 use Rattle.overlay_base.specs.Laws.{AnyRayWillDo}
-use Rattle.overlay_geometry.proofs.laws.geometry.Polynomials.{as_D, diffs, D-eq, mul-le_left}
+use Rattle.overlay_geometry.proofs.laws.geometry.Polynomials.{as_D, diffs, D-eq, mul-le_left, from_difference-nonneg}
 use Rattle.overlay_geometry.proofs.laws.geometry.Points.{before}
 use Rattle.overlay_base.proofs.laws.counts.Windings.{same_windings}
 use Rattle.overlay_base.proofs.laws.lists.Monoids.{gathered-same, gathered-through}
@@ -140,18 +140,15 @@ module _ (s : Pair) (p : RationalPoint) where
     unfolding goes_through
     not_on zero after past heights = not_both _ (and_from _ _ (and_from _ _ ((Decides-int_eq (place_turn s p) (pos 0)).1 zero) in_x) (in_y heights)) off
       where
-        at_most : (u z : ℤ) → pos 0 ≤ℤ (z -ℤ u) → u ≤ℤ z
-        at_most u z h = omega (arith, ints, h)
-
         at_least : (u z : ℤ) → (z -ℤ u) ≤ℤ pos 0 → z ≤ℤ u
         at_least u z h = omega (arith, ints, h)
 
         in_x : is_between (s.a.x *ℤ pos p.bottom) (s.b.x *ℤ pos p.bottom) p.x ≡ true
-        in_x = between_up _ _ p.x (at_most _ _ after) (at_least _ _ past)
+        in_x = between_up _ _ p.x (from_difference-nonneg _ _ after) (at_least _ _ past)
 
         in_y : ((pos 0 ≤ℤ over_a) × (over_b ≤ℤ pos 0)) ⊎ ((over_a ≤ℤ pos 0) × (pos 0 ≤ℤ over_b)) → is_between (s.a.y *ℤ pos p.bottom) (s.b.y *ℤ pos p.bottom) p.y ≡ true
-        in_y (inl h) = between_up _ _ p.y (at_most _ _ h.0) (at_least _ _ h.1)
-        in_y (inr h) = between_down _ _ p.y (at_most _ _ h.1) (at_least _ _ h.0)
+        in_y (inl h) = between_up _ _ p.y (from_difference-nonneg _ _ h.0) (at_least _ _ h.1)
+        in_y (inr h) = between_down _ _ p.y (from_difference-nonneg _ _ h.1) (at_least _ _ h.0)
 
     agree : Agree (int_le (s.a.x *ℤ pos p.bottom) p.x) (int_le (s.b.x *ℤ pos p.bottom) p.x) (int_le (s.a.y *ℤ pos p.bottom) p.y) (int_le (s.b.y *ℤ pos p.bottom) p.y) (int_lt (pos 0) (place_turn s p)) (int_lt (place_turn s p) (pos 0))
     agree =

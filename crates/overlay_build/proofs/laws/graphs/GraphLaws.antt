@@ -1,5 +1,5 @@
 -- Laws of graphs: which links meet at a node, how many, and how a rule's graph stands to that of all segments.
-use Rattle.std.proofs.Common.{◌≡◌, ℕ, ◌+◌, ◌<◌, ◌%◌, ◌==◌, suc, Bool, true, false, ◌&&◌, ◌||◌, IsTrue, List, [], ◌∷◌, ◌++◌, map, filter, length, get_or, length-append, refl, sym, ap, ap₂, ◌∙◌}
+use Rattle.std.proofs.Common.{◌≡◌, ℕ, ◌+◌, ◌<◌, ◌%◌, ◌==◌, suc, Bool, true, false, ◌&&◌, ◌||◌, IsTrue, List, [], ◌∷◌, map, filter, length, get_or, length-append, refl, sym, ap, ap₂, ◌∙◌}
 use Rattle.std.specs.Prelude.{nat_lt}
 use Rattle.std.specs.List.{list_all}
 use Rattle.std.proofs.lemmas.List.{get_or-map, length-map}
@@ -14,31 +14,9 @@ use Rattle.overlay_build.specs.Graph.{without_nodes}
 use Rattle.overlay_build.specs.Laws.{FilterGivesLinks}
 use Rattle.overlay_base.proofs.laws.geometry.Pairs.{has_point}
 use Rattle.overlay_build.proofs.laws.graphs.GraphNodes.{has_start, has_end, node_number-of, node_number-is}
-use Rattle.overlay_build.proofs.laws.graphs.Indexes.{has_number, RisesFrom, indexes_where-rises, indexes_where-exactly, length-indexes_where}
+use Rattle.overlay_build.proofs.laws.graphs.Indexes.{has_number, indexes_where-exactly, length-indexes_where}
 
 -- ---- the links that meet at a point
-
--- they are the indexes of those that start there, by rising index, then of those that end there, by rising index
-pub record IsStartsThenEnds (links : List Pair) (p : Point) (indexes : List ℕ) : Type 0 where
-  pub starts : List ℕ
-  pub ends : List ℕ
-  pub all : indexes ≡ starts ++ ends
-  pub starts_rise : RisesFrom 0 starts
-  pub ends_rise : RisesFrom 0 ends
-  pub starts_there : (i : ℕ) (d : Pair) → has_number i starts ≡ (nat_lt i (length links) && point_eq (get_or links i d).a p)
-  pub ends_there : (i : ℕ) (d : Pair) → has_number i ends ≡ (nat_lt i (length links) && point_eq (get_or links i d).b p)
-
-pub links_at-starts_then_ends : (links : List Pair) (p : Point) → IsStartsThenEnds links p (links_at links p)
-unfolding links_at
-links_at-starts_then_ends links p = record {
-  starts = indexes_where (λ l. point_eq l.a p) links;
-  ends = indexes_where (λ l. point_eq l.b p) links;
-  all = refl;
-  starts_rise = indexes_where-rises (λ l. point_eq l.a p) links;
-  ends_rise = indexes_where-rises (λ l. point_eq l.b p) links;
-  starts_there = λ i d. indexes_where-exactly (λ l. point_eq l.a p) i d links;
-  ends_there = λ i d. indexes_where-exactly (λ l. point_eq l.b p) i d links;
-}
 
 or_of_ands : (c a b : Bool) → ((c && a) || (c && b)) ≡ (c && (a || b))
 or_of_ands true a b = refl
@@ -141,16 +119,6 @@ stands_at_its_nodes kept i m d e h l =
 abbrev pub degree : List Pair → Point → ℕ
 degree links p = length (filter (λ l. point_eq l.a p) links) + length (filter (λ l. point_eq l.b p) links)
 
--- whether each node has evenly many links is told by the nodes
-pub has_even_nodes-by_nodes : (g h : Graph) → g.nodes ≡ h.nodes → has_even_nodes g ≡ has_even_nodes h
-unfolding has_even_nodes
-has_even_nodes-by_nodes g h e = ap (λ (ns : List Node). list_all (λ n. length n.links % 2 == 0) ns) e
-
--- and these by the pairs of the links
-pub nodes-by_pairs : (kept other : List Filled) → pairs_of kept ≡ pairs_of other → (graph_of kept).nodes ≡ (graph_of other).nodes
-unfolding graph_of
-nodes-by_pairs kept other e = ap nodes_of e
-
 pub has_even_nodes-is : (kept : List Filled) → has_even_nodes (graph_of kept) ≡ list_all (λ p. degree (pairs_of kept) p % 2 == 0) (node_points (pairs_of kept))
 unfolding has_even_nodes graph_of nodes_of
 has_even_nodes-is kept =
@@ -232,10 +200,6 @@ pub degree-kept : (keeps : ℕ → Bool) (rule : FillRule) (segments : List Whol
 unfolding filled
 degree-kept keeps rule segments p =
     ap₂ (λ m n. m + n) (length_through keeps (λ l. point_eq l.a p) (λ s. fill_of rule segments s) segments) (length_through keeps (λ l. point_eq l.b p) (λ s. fill_of rule segments s) segments)
-
--- The links at a node of a rule's graph are as many as the kept segments that start there and that end there.
-pub links_at-kept : (keeps : ℕ → Bool) (rule : FillRule) (segments : List WholeSegment) (p : Point) → length (links_at (pairs_of (filter (λ f. keeps f.fill) (filled rule segments))) p) ≡ kept_degree keeps rule segments p
-links_at-kept keeps rule segments p = length-links_at (pairs_of (filter (λ f. keeps f.fill) (filled rule segments))) p ∙ degree-kept keeps rule segments p
 
 -- Where evenly many kept segments meet at every point, each node of the rule's graph has evenly many links.
 pub has_even_nodes-kept : (keeps : ℕ → Bool) (rule : FillRule) (segments : List WholeSegment) → ((p : Point) → kept_degree keeps rule segments p % 2 ≡ 0) → IsTrue (has_even_nodes (graph_by keeps rule segments))

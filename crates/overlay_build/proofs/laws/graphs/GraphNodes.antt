@@ -1,5 +1,5 @@
 -- The nodes of a graph: the ends of its links in strict order, each once, and their numbers.
-use Rattle.std.proofs.Common.{◌≡◌, ℕ, ◌<◌, ◌==◌, zero, suc, Bool, true, false, ◌||◌, IsTrue, List, [], ◌∷◌, length, get_or, Less, is_eq, refl, sym, ap, ◌∙◌, arith}
+use Rattle.std.proofs.Common.{◌≡◌, ℕ, ◌<◌, ◌==◌, zero, suc, Bool, true, false, ◌||◌, List, [], ◌∷◌, length, get_or, Less, is_eq, refl, sym, ap, ◌∙◌, arith}
 use Rattle.std.specs.Prelude.{position, unwrap_or}
 use Rattle.std.specs.List.{AllByRecursion, list_any, position_or_len}
 use Rattle.std.specs.List.Sorted.{IsStrictlySortedBy}
@@ -8,21 +8,17 @@ use Rattle.std.proofs.lemmas.Bool.{or_left, or_right, lt-ltb, eq-eqb, ne_eqb, fa
 use Rattle.std.proofs.lemmas.List.Sums.{position_or_len_is}
 use Rattle.std.proofs.lemmas.List.Folds.{list_any_at, Any-from_list_any}
 use Rattle.overlay_geometry.specs.Points.{Point, Pair, point_cmp, point_eq, is_end}
-use Rattle.overlay_geometry.specs.Sorting.{is_strictly_sorted}
 use Rattle.overlay_base.specs.Segments.{ends}
 use Rattle.overlay_build.specs.Graph.{node_points, node_number}
 use Rattle.overlay_base.proofs.laws.geometry.Pairs.{has_point, has_point-distinct}
 use Rattle.overlay_geometry.proofs.laws.geometry.Points.{point_cmp_total, same_by_eq, point_eq_same}
-use Rattle.overlay_geometry.proofs.laws.lists.Keys.{IsStrictlySortedBy-distinct, is_strictly_sorted-from}
+use Rattle.overlay_geometry.proofs.laws.lists.Keys.{IsStrictlySortedBy-distinct}
 
 -- ---- the ends, in strict order
 
 pub sorted_ends : (links : List Pair) → IsStrictlySortedBy point_cmp (node_points links)
 unfolding node_points
 sorted_ends links = IsStrictlySortedBy-distinct point_cmp_total (ends links)
-
-pub node_points-sorted : (links : List Pair) → IsTrue (is_strictly_sorted point_cmp (node_points links))
-node_points-sorted links = is_strictly_sorted-from point_cmp_total (node_points links) (sorted_ends links)
 
 -- ---- just the ends
 

@@ -1,7 +1,6 @@
 -- A graph with evenly many links at each node is valid: the links at all nodes are twice the links.
-use Rattle.std.proofs.Common.{◌≡◌, ℕ, ◌+◌, ◌*◌, ◌<◌, ◌≤◌, ◌%◌, ◌==◌, Bool, true, false, ◌||◌, IsTrue, List, [], ◌∷◌, filter, length, get_or, Ordering, Less, Equal, Greater, is_eq, refl, sym, ap, ap₂, ◌∙◌, arith}
+use Rattle.std.proofs.Common.{◌≡◌, ℕ, ◌+◌, ◌*◌, ◌<◌, ◌≤◌, ◌%◌, ◌==◌, Bool, true, false, ◌||◌, IsTrue, List, [], ◌∷◌, filter, length, get_or, Less, is_eq, refl, sym, ap, ap₂, ◌∙◌, arith}
 use Rattle.std.specs.Prelude.{nat_le}
-use Rattle.std.specs.Ordering.{ordering_reverse}
 use Rattle.std.specs.List.{AllByRecursion, list_all, list_any}
 use Rattle.std.specs.List.Sorted.{IsStrictlySortedBy}
 use Rattle.std.proofs.lemmas.Bool.{and_parts, and_from, or_parts, or_right, le-leb, eqb-true, leb-true}
@@ -14,6 +13,7 @@ use Rattle.overlay_geometry.proofs.laws.geometry.Points.{point_cmp_total, same_b
 use Rattle.overlay_base.proofs.laws.geometry.Pairs.{has_point}
 use Rattle.overlay_build.proofs.laws.graphs.GraphNodes.{sorted_ends, node_points-exactly, has_start, has_end, node_number-of}
 use Rattle.overlay_build.proofs.laws.graphs.GraphLaws.{pairs_of, node_of, degree, length-links, length-nodes, length-links_at, has_even_nodes-is}
+use Rattle.overlay_geometry.proofs.laws.lists.Keys.{is_eq-reverse}
 
 -- ---- sums over points
 
@@ -84,12 +84,7 @@ sum_of_degrees links =
 -- ---- ends have a positive degree, and other points none
 
 point_eq-comm : (p q : Point) → point_eq p q ≡ point_eq q p
-point_eq-comm p q = ap is_eq (point_cmp_total.antisymm p q) ∙ turned (point_cmp q p)
-  where
-    turned : (o : Ordering) → is_eq (ordering_reverse o) ≡ is_eq o
-    turned Less = refl
-    turned Equal = refl
-    turned Greater = refl
+point_eq-comm p q = ap is_eq (point_cmp_total.antisymm p q) ∙ is_eq-reverse (point_cmp q p)
 
 positive_degree : (links : List Pair) (p : Point) → list_any (λ l. is_end l p) links ≡ true → 0 < degree links p
 positive_degree [] p h = cc

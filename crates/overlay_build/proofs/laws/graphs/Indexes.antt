@@ -2,7 +2,6 @@
 use Rattle.std.proofs.Common.{◌≡◌, ℕ, ◌+◌, ◌<◌, ◌≤◌, ◌==◌, zero, suc, Bool, true, false, ◌&&◌, List, [], ◌∷◌, map, filter, length, get_or, refl, ap, arith}
 use Rattle.std.specs.Prelude.{nat_lt}
 use Rattle.std.specs.List.{enumerate_from, list_any}
-use Rattle.std.specs.List.Sorted.{IsStrictlyIncreasing}
 use Rattle.std.proofs.lemmas.Bool.{ne_eqb, eq-eqb}
 use Rattle.std.proofs.lemmas.Bool.Decides.{nat_tests}
 use Rattle.overlay_build.specs.Graph.{indexes_where}
@@ -31,28 +30,7 @@ below_rising i n (k ∷ ks) h r =
     let e : (k == i) ≡ false = ne_eqb k i (λ q. omega arith) in
     rw e (below_rising i (k + 1) ks (omega arith) r.1)
 
-increasing-cons : (k j : ℕ) (ks : List ℕ) → k < j → IsStrictlyIncreasing (j ∷ ks) → IsStrictlyIncreasing (k ∷ j ∷ ks)
-increasing-cons k j ks h s zero l = h
-increasing-cons k j ks h s (suc i) l = let e : suc i + 1 ≡ suc (i + 1) = omega arith in rw e (s i (omega arith))
-
-increasing-single : (k : ℕ) → IsStrictlyIncreasing (k ∷ [])
-increasing-single k i l = absurd (omega arith)
-
--- in std's words
-pub IsStrictlyIncreasing-rising : (n : ℕ) (ks : List ℕ) → RisesFrom n ks → IsStrictlyIncreasing ks
-IsStrictlyIncreasing-rising n [] r = λ i l. absurd (omega arith)
-IsStrictlyIncreasing-rising n (k ∷ []) r = increasing-single k
-IsStrictlyIncreasing-rising n (k ∷ j ∷ ks) r =
-    let next : k + 1 ≤ j = r.1.0 in
-    increasing-cons k j ks (omega arith) (IsStrictlyIncreasing-rising (k + 1) (j ∷ ks) r.1)
-
 module _ {X : Type 0} (test : X → Bool) where
-  pub indexes_from-yes : (n : ℕ) (x : X) (xs : List X) → test x ≡ true → indexes_from n test (x ∷ xs) ≡ n ∷ indexes_from (n + 1) test xs
-  indexes_from-yes n x xs e = rw e refl
-
-  pub indexes_from-no : (n : ℕ) (x : X) (xs : List X) → test x ≡ false → indexes_from n test (x ∷ xs) ≡ indexes_from (n + 1) test xs
-  indexes_from-no n x xs e = rw e refl
-
   indexes_from-rises : (n : ℕ) (xs : List X) → RisesFrom n (indexes_from n test xs)
   indexes_from-rises n [] = tt
   indexes_from-rises n (x ∷ xs) = by (test x) refl (indexes_from-rises (n + 1) xs)
@@ -60,11 +38,6 @@ module _ {X : Type 0} (test : X → Bool) where
       by : (b : Bool) → test x ≡ b → RisesFrom (n + 1) (indexes_from (n + 1) test xs) → RisesFrom n (indexes_from n test (x ∷ xs))
       by true e ih = rw e (omega arith, ih)
       by false e ih = rw e (RisesFrom-less n (n + 1) (indexes_from (n + 1) test xs) (omega arith) ih)
-
-  -- they rise
-  pub indexes_where-rises : (xs : List X) → RisesFrom 0 (indexes_where test xs)
-  unfolding indexes_where
-  indexes_where-rises xs = indexes_from-rises 0 xs
 
   indexes_from-exactly : (n j m : ℕ) (d : X) (xs : List X) → m ≡ n + j → has_number m (indexes_from n test xs) ≡ (nat_lt j (length xs) && test (get_or xs j d))
   indexes_from-exactly n j m d [] q = grind (arith, nat_tests)

@@ -14,6 +14,7 @@ use Rattle.overlay_build.specs.steps.EndOf.{WholeEnd, end_of, ends_of}
 use Rattle.overlay_base.specs.declared.overlay_core.link.OverlayLink.{OverlayLink}
 use Rattle.overlay_build.specs.GraphOf.{with_node, names_node}
 use Rattle.overlay_build.specs.Graph.{Node, Graph, is_bridge, is_valid_graph, has_even_nodes}
+use Rattle.std.proofs.Math.Bool.{or-true}
 
 -- ---- what is left of a list
 
@@ -95,10 +96,6 @@ indexes-whole whole n i ends =
 
 -- ---- elements changed at some indexes
 
-or_true : (a : Bool) → (a || true) ≡ true
-or_true true = refl
-or_true false = refl
-
 or_false : (a b : Bool) → b ≡ false → (a || (b || false)) ≡ a
 or_false true b e = refl
 or_false false b e = rw e refl
@@ -119,7 +116,7 @@ changed_next change twice given seen done j y same before earlier made k d l =
     by : (b : Bool) → (j == k) ≡ b → get_or (set seen j y) k d ≡ (if names_node k done || ((j == k) || false) then change (get_or given k d) else get_or given k d)
     by true e =
         let jk : j ≡ k = eqb-true j k e in
-        let named : (names_node k done || ((j == k) || false)) ≡ true = ap (λ b. names_node k done || (b || false)) e ∙ or_true (names_node k done) in
+        let named : (names_node k done || ((j == k) || false)) ≡ true = ap (λ b. names_node k done || (b || false)) e ∙ or-true (names_node k done) in
         ap (λ n. get_or (set seen j y) n d) (sym jk) ∙ get_or-set_same seen j y d before ∙ made d ∙ ap (λ n. change (get_or seen n d)) jk ∙ ap change (earlier k d l) ∙ settle (names_node k done) (get_or given k d)
         ∙ ap (λ b. if b then change (get_or given k d) else get_or given k d) (sym named)
     by false e =

@@ -17,6 +17,7 @@ use Rattle.overlay_sweep.specs.Sweep.{Visit, whole_of, fill_of, visits, handled,
 use Rattle.overlay_base.proofs.laws.lists.StableSorts.{AllByRecursion-stably_sorted}
 use Rattle.overlay_sweep.proofs.laws.visits.Visits.{visit_cmp, listed_from, IsListed, is_listed, wholes, wholes-listed}
 use Rattle.overlay_geometry.proofs.laws.lists.Lists.{AllByRecursion-from_Has}
+use Rattle.std.proofs.Math.Bool.{or-true}
 
 module _ {D : Type 0} where
   -- the fills after some visits
@@ -46,11 +47,7 @@ module _ {D : Type 0} where
   listed_has : (rule : FillRule) (xs : List WholeSegment) (n j k : ℕ) (list : List (DataSegment D)) → k ≡ n + j → j < length list → list_any (λ v. v.index == k) (listed_from rule xs n list) ≡ true
   listed_has rule xs n j k [] e h = absurd (omega arith)
   listed_has rule xs n zero k (s ∷ ss) e h = let here : (n == k) ≡ true = eq-eqb n k (omega arith) in rw here refl
-  listed_has rule xs n (suc j) k (s ∷ ss) e h = rw (listed_has rule xs (n + 1) j k ss (omega arith) (omega arith)) (or_true (n == k))
-    where
-      or_true : (b : Bool) → (b || true) ≡ true
-      or_true true = refl
-      or_true false = refl
+  listed_has rule xs n (suc j) k (s ∷ ss) e h = rw (listed_has rule xs (n + 1) j k ss (omega arith) (omega arith)) (or-true (n == k))
 
   -- ---- the handler of a sweep
 

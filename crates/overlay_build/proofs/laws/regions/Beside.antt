@@ -4,7 +4,7 @@ use Rattle.std.proofs.Common.{◌≡◌, ap, refl, sym, ◌∙◌, arith, ◌<�
 use Rattle.std.specs.Prelude.{ℤ, pos, ◌+ℤ◌, ◌*ℤ◌, ◌<ℤ◌, ◌≤ℤ◌, int_lt, IsTrue, Bool, true, false, not, ◌&&◌, ◌||◌, List}
 use Rattle.std.specs.List.{list_all}
 use Rattle.std.proofs.lemmas.Int.{ints}
-use Rattle.std.proofs.lemmas.Bool.{and_parts, or_cases, cases_Bool, both_ways, false_from_ne_true}
+use Rattle.std.proofs.lemmas.Bool.{and_parts, cases_Bool, both_ways, false_from_ne_true}
 use Rattle.overlay_geometry.specs.Points.{Pair, pair_eq}
 use Rattle.overlay_base.specs.Segments.{WholeSegment}
 use Rattle.overlay_geometry.specs.Below.{width}
@@ -16,7 +16,7 @@ use Rattle.overlay_geometry.proofs.laws.geometry.Points.{same_pair_by_eq, pair_e
 use Rattle.overlay_geometry.proofs.laws.lists.Lists.{Has, list_all-at}
 use Rattle.overlay_sweep.specs.ColumnWindings.{spans as column_spans, is_below_in_column, column_bottom, column_top, side_bottom, side_top}
 use Rattle.overlay_sweep.proofs.laws.columns.WeightSums.{when, sum_of, sum_of-add}
-use Rattle.overlay_sweep.proofs.laws.columns.ColumnLines.{column_weights, column_weights_are, lt-test, lt-tested}
+use Rattle.overlay_sweep.proofs.laws.columns.ColumnLines.{column_weights, column_weights_are}
 use Rattle.overlay_sweep.proofs.laws.columns.Heights.{gap, is_below_is}
 use Rattle.overlay_sweep.proofs.laws.columns.ColumnOrder.{low_parts, one_is_below, below_itself}
 use Rattle.overlay_sweep.proofs.laws.columns.AlongSegments.{is_same_along}
@@ -25,26 +25,16 @@ use Rattle.overlay_sweep.proofs.laws.live.Sides.{sum_of-same_in, apart_in, colum
 use Rattle.overlay_build.specs.Beside.{is_lower_at, is_directly_above, is_directly_below}
 use Rattle.overlay_build.proofs.laws.regions.PlaceColumns.{IsInColumn, column_of, spans_alike, not_higher_in_column, lower_in_column}
 use Rattle.overlay_build.proofs.laws.regions.Regions.{wide, same_weights}
-
-or_else : (a b : Bool) → (a || b) ≡ true → a ≡ false → b ≡ true
-or_else a b h e = elim (or_cases a b h) [ inl k ↦ absurd (both_ways a e k) | inr k ↦ k ]
+use Rattle.overlay_geometry.proofs.laws.integers.Tests.{lt-test, lt-tested, lt_not_le}
 
 first_of_two : (a b : Bool) → differ a b ≡ true → b ≡ false → a ≡ true
 first_of_two true b h e = refl
 first_of_two false b h e = absurd (cc)
 
-second_of_two : (a b : Bool) → differ a b ≡ true → a ≡ false → b ≡ true
-second_of_two a true h e = refl
-second_of_two true false h e = absurd (cc)
-second_of_two false false h e = absurd (cc)
-
 with_itself : (q l r k : Bool) (z : ℤ) → (q ≡ true → (l ≡ true) × (r ≡ true) × (k ≡ false)) → (q ≡ false → l ≡ true → r ≡ k) → when (l && r) z ≡ when (l && k) z +ℤ when q z
 with_itself true l r k z f g = let p = f refl in rw (p.0, p.1, p.2) (omega (arith, ints))
 with_itself false true r k z f g = rw (g refl refl) (omega (arith, ints))
 with_itself false false r k z f g = refl
-
-not_less : (u v : ℤ) → u <ℤ v → v ≤ℤ u → ⊥
-not_less u v h k = omega (arith, ints, h, k)
 
 module _ (xs : List WholeSegment) (arranged : IsArranged xs) (balanced : IsBalanced xs) (s : WholeSegment) (m : Has xs s) (p : RationalPoint) (x : ℤ) (at : IsInColumn p.x p.bottom x) where
   module _ (hs : IsTrue (column_spans x s.pair)) where
@@ -82,7 +72,7 @@ module _ (xs : List WholeSegment) (arranged : IsArranged xs) (balanced : IsBalan
 
       alike_above : (u : WholeSegment) → Has xs u → pair_eq u.pair s.pair ≡ false → IsTrue (column_spans x u.pair) → runs_below u.pair p ≡ is_below_in_column x u.pair s.pair
       alike_above u n e hu = elim (cases_Bool (runs_below u.pair p)) [
-        | inl k ↦ k ∙ sym (first_of_two _ _ (one_of_two u n hu e) (false_from_ne_true _ (λ back. not_less _ _ (lower_of u n hu e k) (not_higher s.pair u.pair back))))
+        | inl k ↦ k ∙ sym (first_of_two _ _ (one_of_two u n hu e) (false_from_ne_true _ (λ back. lt_not_le _ _ (lower_of u n hu e k) (not_higher s.pair u.pair back))))
         | inr k ↦ k ∙ sym (false_from_ne_true _ (λ below. both_ways _ k (follows u.pair s.pair hu hs below low)))
       ]
 
@@ -123,7 +113,7 @@ module _ (xs : List WholeSegment) (arranged : IsArranged xs) (balanced : IsBalan
         | inl e ↦ let q = same_pair_by_eq u.pair s.pair e in ap (λ (r : Pair). runs_below r p) q ∙ high ∙ sym (ap (λ (r : Pair). is_below_in_column x r s.pair) q ∙ below_itself x s.pair)
         | inr e ↦ elim (cases_Bool (runs_below u.pair p)) [
           | inl k ↦ k ∙ sym (first_of_two _ _ (one_of_two u n hu e) (false_from_ne_true _ (λ back. both_ways _ high (follows s.pair u.pair hs hu back k))))
-          | inr k ↦ k ∙ sym (false_from_ne_true _ (λ below. not_less _ _ (higher_of u n hu e k) (not_higher u.pair s.pair below)))
+          | inr k ↦ k ∙ sym (false_from_ne_true _ (λ below. lt_not_le _ _ (higher_of u n hu e k) (not_higher u.pair s.pair below)))
         ]
       ]
 

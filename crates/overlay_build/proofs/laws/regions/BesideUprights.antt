@@ -5,7 +5,7 @@ use Rattle.std.specs.Prelude.{ℤ, pos, ◌+ℤ◌, ◌-ℤ◌, ◌*ℤ◌, neg_
 use Rattle.std.specs.List.{list_all}
 use Rattle.std.specs.Ordering.{int_eq}
 use Rattle.std.proofs.lemmas.Int.{ints, by_lt_z}
-use Rattle.std.proofs.lemmas.Bool.{and_parts, and_from, and_left, or_left, or_right, or_cases, cases_Bool, both_ways, false_from_ne_true}
+use Rattle.std.proofs.lemmas.Bool.{and_parts, and_from, and_left, or_left, or_right, or_cases, cases_Bool, both_ways, false_from_ne_true, and_right}
 use Rattle.std.proofs.lemmas.Bool.Decides.{Decides-int_eq}
 use Rattle.std.proofs.lemmas.List.Elements.{All-weaker}
 use Rattle.overlay_base.specs.declared.overlay_core.fill_rule.FillRule.{FillRule}
@@ -17,15 +17,15 @@ use Rattle.overlay_base.specs.Balance.{IsBalanced}
 use Rattle.overlay_base.specs.Sums.{weighed}
 use Rattle.overlay_base.specs.Places.{RationalPoint, spans, height_at, runs_below, lies_below, winding_below}
 use Rattle.overlay_base.specs.Rays.{place_turn, goes_through, is_on_none, rises_past, falls_past, has_on_left, has_on_right, rises_left_of, falls_left_of, rises_right_of, falls_right_of, winding_left, winding_right}
-use Rattle.overlay_geometry.proofs.laws.geometry.Polynomials.{as_D, diffs, D-eq, mul-pos, mul-neg, mul-le_left, cancel-lt, cancel-le, mul-nonneg, mul-nonpos}
+use Rattle.overlay_geometry.proofs.laws.geometry.Polynomials.{as_D, diffs, D-eq, mul-pos, mul-neg, mul-le_left, cancel-lt, cancel-le, mul-nonneg, mul-nonpos, difference-pos}
 use Rattle.overlay_geometry.proofs.laws.geometry.Points.{same_pair_by_eq, pair_eq_same, inside_from_order}
 use Rattle.overlay_geometry.proofs.laws.lists.Lists.{Has, list_all-at}
 use Rattle.overlay_base.proofs.laws.counts.Windings.{same_windings}
-use Rattle.overlay_base.proofs.laws.rays.Quadrants.{one, lt-test, lt-test_false, le-test}
+use Rattle.overlay_base.proofs.laws.rays.Quadrants.{one}
 use Rattle.overlay_base.proofs.laws.rays.Losses.{lost, weighed-in, weighed-sum, weighed-neg, balanced_loses_nothing}
 use Rattle.overlay_base.proofs.laws.rays.Rays.{tested-subj, tested-clip, tested-mask, difference-subj, difference-clip, difference-mask, turn_is_height, lt-difference, left_agrees, right_agrees, any_ray_will_do}
 use Rattle.overlay_sweep.specs.ColumnWindings.{weights_up_to, right_winding, side_bottom, side_top}
-use Rattle.overlay_sweep.proofs.laws.columns.ColumnLines.{le-test_false, lt-tested, le-tested, spans_parts, point_lt-cases, is_up_to, lies_up_to, leaves_upward, filter_weights_are}
+use Rattle.overlay_sweep.proofs.laws.columns.ColumnLines.{spans_parts, point_lt-cases, is_up_to, lies_up_to, leaves_upward, filter_weights_are}
 use Rattle.overlay_sweep.proofs.laws.columns.ColumnOrder.{IsApart}
 use Rattle.overlay_sweep.proofs.laws.columns.Members.{All-from_Has, IsArranged, is_arranged, single_sum}
 use Rattle.overlay_sweep.proofs.laws.live.Sides.{apart_in, column_weights-same, only_one_rises, side_top_is}
@@ -38,6 +38,8 @@ use Rattle.overlay_build.proofs.laws.sides.Uprights.{none_between, upright_level
 use Rattle.overlay_build.proofs.laws.regions.PlaceColumns.{IsInColumn}
 use Rattle.overlay_build.proofs.laws.regions.Regions.{same_weights}
 use Rattle.overlay_build.proofs.laws.regions.Beside.{directly_above, directly_below}
+use Rattle.overlay_geometry.proofs.laws.integers.Tests.{le_itself, le_equal, le_weak, lt-test, lt-test_false, le-test, le-test_false, lt-tested, le-tested}
+use Rattle.overlay_geometry.proofs.laws.integers.Products.{pos_nonneg}
 
 -- ---- lists and tests
 
@@ -81,11 +83,8 @@ module _ (t : Pair) (p : RationalPoint) (some : 0 < p.bottom) where
       let parts = and_parts (int_le (t.a.y *ℤ pos p.bottom) p.y) (int_lt p.y (t.b.y *ℤ pos p.bottom)) h in
       let l = le-tested _ _ parts.0 in
       let k = lt-tested _ _ parts.1 in
-      plain t.a.y t.b.y (cancel-lt (pos p.bottom) t.a.y t.b.y (above_zero p.bottom some) (through t.a.y t.b.y (pos p.bottom) p.y l k))
+      difference-pos t.a.y t.b.y (cancel-lt (pos p.bottom) t.a.y t.b.y (above_zero p.bottom some) (through t.a.y t.b.y (pos p.bottom) p.y l k))
     where
-      plain : (a b : ℤ) → a <ℤ b → pos 0 <ℤ (b -ℤ a)
-      plain a b h = omega (arith, ints, h)
-
       through : (a b d y : ℤ) → (a *ℤ d) ≤ℤ y → y <ℤ (b *ℤ d) → (d *ℤ a) <ℤ (d *ℤ b)
       through a b d y h k = let e : d *ℤ a ≡ a *ℤ d = omega (arith, ints) in let f : d *ℤ b ≡ b *ℤ d = omega (arith, ints) in omega (arith, ints, e, f, h, k)
 
@@ -181,9 +180,6 @@ module _ (xs : List WholeSegment) (s : Pair) (p : RationalPoint) (some : 0 < p.b
 one_more_column : (c : ℤ) (d : ℕ) → 0 < d → (c *ℤ pos d) <ℤ ((c +ℤ pos 1) *ℤ pos d)
 one_more_column c d h = let e : (c +ℤ pos 1) *ℤ pos d ≡ c *ℤ pos d +ℤ pos d = rw (as_D c) (simp diffs (D-eq _ _ _ _ (omega arith))) in omega (arith, ints, e, h)
 
-not_above : (u v : ℤ) → u ≤ℤ v → v <ℤ u → ⊥
-not_above u v h k = omega (arith, ints, h, k)
-
 no_more : (x : ℤ) → x ≡ x +ℤ neg_ℤ (pos 0)
 no_more x = omega (arith, ints)
 
@@ -222,21 +218,15 @@ module _ (xs : List WholeSegment) (arranged : IsArranged xs) (balanced : IsBalan
 
     -- what is up to the lower end is below the foot
     foot_over : pos 0 ≤ℤ turn u.a u.b s.pair.a → pos 0 <ℤ place_turn u q
-    foot_over h = rw (turn_at_foot u s.pair.a refl) (plain _ _ (mul-nonneg (pos p.bottom) (turn u.a u.b s.pair.a) (weakly p.bottom) h) (mul-pos (width u) (p.y -ℤ s.pair.a.y *ℤ pos p.bottom) wide_u over_by))
+    foot_over h = rw (turn_at_foot u s.pair.a refl) (plain _ _ (mul-nonneg (pos p.bottom) (turn u.a u.b s.pair.a) (pos_nonneg p.bottom) h) (mul-pos (width u) (p.y -ℤ s.pair.a.y *ℤ pos p.bottom) wide_u over_by))
       where
-        weakly : (d : ℕ) → pos 0 ≤ℤ pos d
-        weakly d = omega (arith, ints)
-
         plain : (a b : ℤ) → pos 0 ≤ℤ a → pos 0 <ℤ b → pos 0 <ℤ (a +ℤ b)
         plain a b h k = omega (arith, ints, h, k)
 
     -- what is not below the upper end is above the foot
     foot_under : turn u.a u.b s.pair.b ≤ℤ pos 0 → place_turn u q <ℤ pos 0
-    foot_under h = rw (turn_at_foot u s.pair.b (sym e)) (plain _ _ (mul-nonpos (pos p.bottom) (turn u.a u.b s.pair.b) (weakly p.bottom) h) (mul-neg (width u) (p.y -ℤ s.pair.b.y *ℤ pos p.bottom) wide_u under_by))
+    foot_under h = rw (turn_at_foot u s.pair.b (sym e)) (plain _ _ (mul-nonpos (pos p.bottom) (turn u.a u.b s.pair.b) (pos_nonneg p.bottom) h) (mul-neg (width u) (p.y -ℤ s.pair.b.y *ℤ pos p.bottom) wide_u under_by))
       where
-        weakly : (d : ℕ) → pos 0 ≤ℤ pos d
-        weakly d = omega (arith, ints)
-
         plain : (a b : ℤ) → a ≤ℤ pos 0 → b <ℤ pos 0 → (a +ℤ b) <ℤ pos 0
         plain a b h k = omega (arith, ints, h, k)
 
@@ -311,12 +301,8 @@ module _ (xs : List WholeSegment) (arranged : IsArranged xs) (balanced : IsBalan
         rises : u.pair.a.x ≡ u.pair.b.x → u.pair.a.x ≡ s.pair.a.x → u.pair.a.y ≤ℤ s.pair.a.y → s.pair.a.y <ℤ u.pair.b.y → leaves_upward (lies_up_to s.pair.a) u.pair ≡ true
         rises ux at l past =
             let lower : lies_up_to s.pair.a u.pair.a ≡ true = and_from _ _ ((Decides-int_eq u.pair.a.x s.pair.a.x).1 at) (le-test u.pair.a.y s.pair.a.y l) in
-            let upper : lies_up_to s.pair.a u.pair.b ≡ false = right_false _ _ (le-test_false u.pair.b.y s.pair.a.y past) in
+            let upper : lies_up_to s.pair.a u.pair.b ≡ false = and_right _ _ (le-test_false u.pair.b.y s.pair.a.y past) in
             and_from _ _ ((Decides-int_eq u.pair.a.x u.pair.b.x).1 ux) (rw (lower, upper) refl)
-          where
-            right_false : (a b : Bool) → b ≡ false → (a && b) ≡ false
-            right_false true b h = h
-            right_false false b h = refl
 
     off_foot : goes_through u.pair q ≡ false
     unfolding goes_through
@@ -326,20 +312,14 @@ module _ (xs : List WholeSegment) (arranged : IsArranged xs) (balanced : IsBalan
         let zero = (Decides-int_eq (place_turn u.pair q) (pos 0)).0 first.0 in
         elim (point_lt-cases u.pair.a u.pair.b (arranged.ordered u n)) [
           | inl w ↦
-              let across = between_parts _ _ _ (scaled_le u.pair.a.x u.pair.b.x (weakly u.pair.a.x u.pair.b.x w)) first.1 in
+              let across = between_parts _ _ _ (scaled_le u.pair.a.x u.pair.b.x (le_weak u.pair.a.x u.pair.b.x w)) first.1 in
               off_sloped u.pair w (apart_in xs arranged balanced s u m n) (unscaled_le u.pair.a.x s.pair.a.x across.0) (unscaled_le s.pair.a.x u.pair.b.x across.1) zero
           | inr w ↦
-              let across = between_parts _ _ _ (scaled_le u.pair.a.x u.pair.b.x (same_le u.pair.a.x u.pair.b.x w.0)) first.1 in
-              let upward = between_parts _ _ _ (scaled_le u.pair.a.y u.pair.b.y (weakly u.pair.a.y u.pair.b.y w.1)) parts.1 in
+              let across = between_parts _ _ _ (scaled_le u.pair.a.x u.pair.b.x (le_equal u.pair.a.x u.pair.b.x w.0)) first.1 in
+              let upward = between_parts _ _ _ (scaled_le u.pair.a.y u.pair.b.y (le_weak u.pair.a.y u.pair.b.y w.1)) parts.1 in
               off_upright w.0 (both u.pair.a.x s.pair.a.x u.pair.b.x w.0 (unscaled_le u.pair.a.x s.pair.a.x across.0) (unscaled_le s.pair.a.x u.pair.b.x across.1)) upward.0 upward.1
         ])
       where
-        weakly : (a b : ℤ) → a <ℤ b → a ≤ℤ b
-        weakly a b h = omega (arith, ints, h)
-
-        same_le : (a b : ℤ) → a ≡ b → a ≤ℤ b
-        same_le a b h = omega (arith, ints, h)
-
         both : (a b c : ℤ) → a ≡ c → a ≤ℤ b → b ≤ℤ c → a ≡ b
         both a b c h k l = omega (arith, ints, h, k, l)
 
@@ -378,34 +358,20 @@ module _ (xs : List WholeSegment) (arranged : IsArranged xs) (balanced : IsBalan
   not_on_right : has_on_right s.pair q ≡ false
   not_on_right = rw flat_turn refl
 
-  up_to_itself : (x : ℤ) → x ≤ℤ x
-  up_to_itself x = omega (arith, ints)
-
   same_x : s.pair.b.x *ℤ pos p.bottom ≡ s.pair.a.x *ℤ pos p.bottom
   same_x = ap (λ (z : ℤ). z *ℤ pos p.bottom) (sym e)
 
   a_left : point_left s.pair.a ≡ true
-  a_left = le-test (s.pair.a.x *ℤ pos p.bottom) (s.pair.a.x *ℤ pos p.bottom) (up_to_itself _)
+  a_left = le-test (s.pair.a.x *ℤ pos p.bottom) (s.pair.a.x *ℤ pos p.bottom) (le_itself _)
 
   a_under : point_under s.pair.a ≡ true
-  a_under = le-test (s.pair.a.y *ℤ pos p.bottom) p.y (plain _ _ over)
-    where
-      plain : (x y : ℤ) → x <ℤ y → x ≤ℤ y
-      plain x y h = omega (arith, ints, h)
+  a_under = le-test (s.pair.a.y *ℤ pos p.bottom) p.y (le_weak _ _ over)
 
   b_over : point_under s.pair.b ≡ false
   b_over = le-test_false (s.pair.b.y *ℤ pos p.bottom) p.y under
 
   not_spanned : spans s.pair q ≡ false
-  not_spanned = right_false _ _ (lt-test_false q.x (s.pair.b.x *ℤ pos p.bottom) (rw same_x (up_to_itself _)))
-    where
-      right_false : (a b : Bool) → b ≡ false → (a && b) ≡ false
-      right_false true b h = h
-      right_false false b h = refl
-
-  and_false : (a b : Bool) → b ≡ false → (a && b) ≡ false
-  and_false true b h = h
-  and_false false b h = refl
+  not_spanned = and_right _ _ (lt-test_false q.x (s.pair.b.x *ℤ pos p.bottom) (rw same_x (le_itself _)))
 
   by_values : (below falls rises here there : Bool) → below ≡ false → falls ≡ false → rises ≡ false → here ≡ true → there ≡ false →
       one below ≡ ((one falls +ℤ neg_ℤ (one rises)) +ℤ (one here -ℤ one there)) +ℤ neg_ℤ (one true)
@@ -419,7 +385,7 @@ module _ (xs : List WholeSegment) (arranged : IsArranged xs) (balanced : IsBalan
   a_here = and_from _ _ a_left a_under
 
   b_not_here : (point_left s.pair.b && point_under s.pair.b) ≡ false
-  b_not_here = and_false (point_left s.pair.b) (point_under s.pair.b) b_over
+  b_not_here = and_right (point_left s.pair.b) (point_under s.pair.b) b_over
 
   not_below : lies_below s.pair q ≡ false
   not_below = and_left (spans s.pair q) (runs_below s.pair q) not_spanned
@@ -427,12 +393,12 @@ module _ (xs : List WholeSegment) (arranged : IsArranged xs) (balanced : IsBalan
   left_itself : LeftAt s.pair
   left_itself = rw (pair_eq_same s.pair)
       (by_values (lies_below s.pair q) (falls_left_of s.pair q) (rises_left_of s.pair q) (point_left s.pair.a && point_under s.pair.a) (point_left s.pair.b && point_under s.pair.b)
-      not_below (and_false (falls_past s.pair q) (has_on_left s.pair q) not_on_left) (and_false (rises_past s.pair q) (has_on_right s.pair q) not_on_right) a_here b_not_here)
+      not_below (and_right (falls_past s.pair q) (has_on_left s.pair q) not_on_left) (and_right (rises_past s.pair q) (has_on_right s.pair q) not_on_right) a_here b_not_here)
 
   right_itself : RightAt s.pair
   right_itself =
       by_values_right (lies_below s.pair q) (rises_right_of s.pair q) (falls_right_of s.pair q) (point_left s.pair.a && point_under s.pair.a) (point_under s.pair.a) (point_left s.pair.b && point_under s.pair.b) (point_under s.pair.b)
-      not_below (and_false (rises_past s.pair q) (has_on_left s.pair q) not_on_left) (and_false (falls_past s.pair q) (has_on_right s.pair q) not_on_right) a_here a_under b_not_here b_over
+      not_below (and_right (rises_past s.pair q) (has_on_left s.pair q) not_on_left) (and_right (falls_past s.pair q) (has_on_right s.pair q) not_on_right) a_here a_under b_not_here b_over
 
   other_than : (u : WholeSegment) → pair_eq u.pair s.pair ≡ false → u.pair ≡ s.pair → ⊥
   other_than u f g = both_ways _ f (ap (λ (r : Pair). pair_eq r s.pair) g ∙ pair_eq_same s.pair)

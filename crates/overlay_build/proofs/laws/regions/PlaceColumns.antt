@@ -4,12 +4,13 @@ use Rattle.std.specs.Prelude.{ℤ, pos, negsuc, ◌+ℤ◌, ◌-ℤ◌, ◌*ℤ�
 use Rattle.std.proofs.lemmas.Int.{ints, by_lt_z}
 use Rattle.overlay_geometry.specs.Points.{Pair}
 use Rattle.overlay_geometry.specs.Below.{width, scaled_height}
-use Rattle.overlay_geometry.proofs.laws.geometry.Polynomials.{as_D, diffs, D-eq, mul-le_left, mul-lt_left, mul-nonneg, cancel-lt}
+use Rattle.overlay_geometry.proofs.laws.geometry.Polynomials.{as_D, diffs, D-eq, mul-lt_left, mul-nonneg, cancel-lt, difference-nonneg}
 use Rattle.overlay_base.specs.Places.{RationalPoint, spans, height_at}
 use Rattle.overlay_sweep.specs.ColumnWindings.{spans as column_spans}
-use Rattle.overlay_sweep.proofs.laws.columns.ColumnLines.{le-test, le-test_false, lt-test, lt-test_false}
 use Rattle.overlay_sweep.proofs.laws.columns.Heights.{gap, slope}
 use Rattle.overlay_sweep.proofs.laws.columns.ColumnOrder.{gap_step}
+use Rattle.overlay_geometry.proofs.laws.integers.Tests.{le-test, le-test_false, lt-test, lt-test_false, le_through, lt_through}
+use Rattle.overlay_geometry.proofs.laws.integers.Products.{plus_nonneg, times_comm, minus_times, scaled_le}
 
 -- ---- the column
 
@@ -22,11 +23,8 @@ one_more : (c : ℤ) (d : ℕ) → (c +ℤ pos 1) *ℤ pos d ≡ c *ℤ pos d +�
 one_more c d = rw (as_D c) (simp diffs (D-eq _ _ _ _ (omega arith)))
 
 one_less : (c : ℤ) (d : ℕ) → (c -ℤ pos 1) *ℤ pos d ≡ c *ℤ pos d -ℤ pos d
-one_less c d = plain c (pos 1) (pos d) ∙ ap (λ (z : ℤ). c *ℤ pos d -ℤ z) (single d)
+one_less c d = minus_times c (pos 1) (pos d) ∙ ap (λ (z : ℤ). c *ℤ pos d -ℤ z) (single d)
   where
-    plain : (c one d : ℤ) → (c -ℤ one) *ℤ d ≡ c *ℤ d -ℤ one *ℤ d
-    plain c one d = rw (as_D c, as_D one, as_D d) (simp diffs (D-eq _ _ _ _ (omega arith)))
-
     single : (d : ℕ) → pos 1 *ℤ pos d ≡ pos d
     single d = omega (arith, ints)
 
@@ -84,32 +82,17 @@ column_of (negsuc n) d some = column_down d some n
 
 -- ---- what spans it
 
-scaled : (a b : ℤ) (d : ℕ) → a ≤ℤ b → (a *ℤ pos d) ≤ℤ (b *ℤ pos d)
-scaled a b d l = let m = mul-le_left (pos d) a b (omega (arith, ints)) l in omega (arith, ints, m)
-
 starts_alike : (a z : ℤ) (d : ℕ) (c : ℤ) → IsInColumn z d c → int_le (a *ℤ pos d) z ≡ int_le a c
 starts_alike a z d c at =
     by_lt_z c a
-    (λ (later : c <ℤ a). le-test_false (a *ℤ pos d) z (beyond _ _ _ at.high (scaled (c +ℤ pos 1) a d (omega (arith, ints, later)))) ∙ sym (le-test_false a c later))
-    (λ (earlier : a ≤ℤ c). le-test (a *ℤ pos d) z (up_to _ _ _ (scaled a c d earlier) at.low) ∙ sym (le-test a c earlier))
-  where
-    beyond : (z u v : ℤ) → z <ℤ u → u ≤ℤ v → z <ℤ v
-    beyond z u v l k = omega (arith, ints, l, k)
-
-    up_to : (u v z : ℤ) → u ≤ℤ v → v ≤ℤ z → u ≤ℤ z
-    up_to u v z l k = omega (arith, ints, l, k)
+    (λ (later : c <ℤ a). le-test_false (a *ℤ pos d) z (lt_through _ _ _ at.high (scaled_le (c +ℤ pos 1) a d (omega (arith, ints, later)))) ∙ sym (le-test_false a c later))
+    (λ (earlier : a ≤ℤ c). le-test (a *ℤ pos d) z (le_through _ _ _ (scaled_le a c d earlier) at.low) ∙ sym (le-test a c earlier))
 
 ends_alike : (b z : ℤ) (d : ℕ) (c : ℤ) → IsInColumn z d c → int_lt z (b *ℤ pos d) ≡ int_le (c +ℤ pos 1) b
 ends_alike b z d c at =
     by_lt_z b (c +ℤ pos 1)
-    (λ (earlier : b <ℤ (c +ℤ pos 1)). lt-test_false z (b *ℤ pos d) (up_to _ _ _ (scaled b c d (omega (arith, ints, earlier))) at.low) ∙ sym (le-test_false (c +ℤ pos 1) b earlier))
-    (λ (later : (c +ℤ pos 1) ≤ℤ b). lt-test z (b *ℤ pos d) (beyond _ _ _ at.high (scaled (c +ℤ pos 1) b d later)) ∙ sym (le-test (c +ℤ pos 1) b later))
-  where
-    beyond : (z u v : ℤ) → z <ℤ u → u ≤ℤ v → z <ℤ v
-    beyond z u v l k = omega (arith, ints, l, k)
-
-    up_to : (u v z : ℤ) → u ≤ℤ v → v ≤ℤ z → u ≤ℤ z
-    up_to u v z l k = omega (arith, ints, l, k)
+    (λ (earlier : b <ℤ (c +ℤ pos 1)). lt-test_false z (b *ℤ pos d) (le_through _ _ _ (scaled_le b c d (omega (arith, ints, earlier))) at.low) ∙ sym (le-test_false (c +ℤ pos 1) b earlier))
+    (λ (later : (c +ℤ pos 1) ≤ℤ b). lt-test z (b *ℤ pos d) (lt_through _ _ _ at.high (scaled_le (c +ℤ pos 1) b d later)) ∙ sym (le-test (c +ℤ pos 1) b later))
 
 -- a segment meets the line through p where it spans the column of p
 pub spans_alike : (p : RationalPoint) (c : ℤ) (s : Pair) → IsInColumn p.x p.bottom c → spans s p ≡ column_spans c s
@@ -139,24 +122,18 @@ pub not_higher_in_column : (p : RationalPoint) (c : ℤ) (u s : Pair) → IsInCo
     (height_at u p *ℤ width s) ≤ℤ (height_at s p *ℤ width u)
 not_higher_in_column p c u s at left right =
     let e = p.x -ℤ c *ℤ pos p.bottom in
-    let more = mul-nonneg e (gap (c +ℤ pos 1) u s) (past _ _ at.low) right in
+    let more = mul-nonneg e (gap (c +ℤ pos 1) u s) (difference-nonneg _ _ at.low) right in
     let less = mul-nonneg (pos p.bottom -ℤ e) (gap c u s) (short p.x (c *ℤ pos p.bottom) p.bottom _ (one_more c p.bottom) at.high) left in
     compare _ _ _ (gap_at c u s p) (weigh (pos p.bottom) e (gap c u s) (slope u s) (gap (c +ℤ pos 1) u s) (gap_step c u s) less more)
   where
-    past : (u v : ℤ) → u ≤ℤ v → pos 0 ≤ℤ (v -ℤ u)
-    past u v l = omega (arith, ints, l)
-
     short : (x u : ℤ) (d : ℕ) (v : ℤ) → v ≡ u +ℤ pos d → x <ℤ v → pos 0 ≤ℤ (pos d -ℤ (x -ℤ u))
     short x u d v e l = omega (arith, ints, e, l)
 
     weigh : (d e g k h : ℤ) → h ≡ g +ℤ k → pos 0 ≤ℤ ((d -ℤ e) *ℤ g) → pos 0 ≤ℤ (e *ℤ h) → pos 0 ≤ℤ (d *ℤ g +ℤ e *ℤ k)
-    weigh d e g k h f l m = subst (λ (z : ℤ). pos 0 ≤ℤ z) (apart d e g k) (sum _ _ l (subst (λ (z : ℤ). pos 0 ≤ℤ (e *ℤ z)) f m))
+    weigh d e g k h f l m = subst (λ (z : ℤ). pos 0 ≤ℤ z) (apart d e g k) (plus_nonneg _ _ l (subst (λ (z : ℤ). pos 0 ≤ℤ (e *ℤ z)) f m))
       where
         apart : (d e g k : ℤ) → (d -ℤ e) *ℤ g +ℤ e *ℤ (g +ℤ k) ≡ d *ℤ g +ℤ e *ℤ k
         apart d e g k = rw (as_D d, as_D e, as_D g, as_D k) (simp diffs (D-eq _ _ _ _ (omega arith)))
-
-        sum : (x y : ℤ) → pos 0 ≤ℤ x → pos 0 ≤ℤ y → pos 0 ≤ℤ (x +ℤ y)
-        sum x y p q = omega (arith, ints, p, q)
 
     compare : (x y z : ℤ) → x -ℤ y ≡ z → pos 0 ≤ℤ z → y ≤ℤ x
     compare x y z e l = omega (arith, ints, e, l)
@@ -168,11 +145,8 @@ lower_in_column p c u s at wu ws left right low =
     cancel-lt (width s) (height_at u p) (p.y *ℤ width u) ws (through (height_at u p) (height_at s p) (width s) (width u) p.y (not_higher_in_column p c u s at left right) (mul-lt_left (width u) (height_at s p) (p.y *ℤ width s) wu low))
   where
     through : (hu hs ws wu y : ℤ) → (hu *ℤ ws) ≤ℤ (hs *ℤ wu) → (wu *ℤ hs) <ℤ (wu *ℤ (y *ℤ ws)) → (ws *ℤ hu) <ℤ (ws *ℤ (y *ℤ wu))
-    through hu hs ws wu y l k = rw (around wu y ws) at (both (hu *ℤ ws) (hs *ℤ wu) (ws *ℤ hu) (wu *ℤ hs) (wu *ℤ (y *ℤ ws)) (turned hu ws) (turned hs wu) l k)
+    through hu hs ws wu y l k = rw (around wu y ws) at (both (hu *ℤ ws) (hs *ℤ wu) (ws *ℤ hu) (wu *ℤ hs) (wu *ℤ (y *ℤ ws)) (times_comm hu ws) (times_comm hs wu) l k)
       where
-        turned : (x y : ℤ) → x *ℤ y ≡ y *ℤ x
-        turned x y = omega (arith, ints)
-
         around : (u y s : ℤ) → u *ℤ (y *ℤ s) ≡ s *ℤ (y *ℤ u)
         around u y s = rw (as_D u, as_D y, as_D s) (simp diffs (D-eq _ _ _ _ (omega arith)))
 

@@ -21,7 +21,7 @@ use Rattle.overlay_build.specs.Values.{value_at, tells_apart}
 use Rattle.overlay_build.specs.Boundary.{truth}
 use Rattle.overlay_build.specs.Sides.{has_sides_apart, with_sides, overlay_graph}
 use Rattle.overlay_sweep.proofs.laws.columns.WeightSums.{when, sum_of, sum_of-filter, sum_of-same}
-use Rattle.overlay_sweep.proofs.laws.columns.ColumnLines.{column_weights, column_weights_are, filter_weights_are, spans_parts, lt-test, lt-tested}
+use Rattle.overlay_sweep.proofs.laws.columns.ColumnLines.{column_weights, column_weights_are, filter_weights_are, spans_parts}
 use Rattle.overlay_sweep.proofs.laws.columns.Parity.{odd_of, odd_of_is}
 use Rattle.overlay_sweep.proofs.laws.columns.Chains.{is_pairwise, gain_along_chain}
 use Rattle.overlay_sweep.proofs.laws.columns.Heights.{gap, is_below_is}
@@ -35,6 +35,7 @@ use Rattle.overlay_build.specs.Regions.{encloses, EnclosesRegion}
 use Rattle.overlay_build.specs.Laws.{GraphsEncloseRegions}
 use Rattle.overlay_build.proofs.laws.graphs.GraphExact.{graphs_are_exact}
 use Rattle.overlay_build.proofs.laws.regions.PlaceColumns.{IsInColumn, column_of, spans_alike, lower_in_column}
+use Rattle.overlay_geometry.proofs.laws.integers.Tests.{lt-test, lt-tested}
 
 -- ---- the lower part of a column
 

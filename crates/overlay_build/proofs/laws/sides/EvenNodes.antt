@@ -22,9 +22,9 @@ use Rattle.overlay_sweep.proofs.laws.columns.Parity.{odd_of, odd_of_is}
 use Rattle.overlay_sweep.proofs.laws.columns.Members.{IsArranged, is_arranged}
 use Rattle.overlay_sweep.proofs.laws.live.Sides.{sum_of-same_in, sum_of-zero_in, apart_in}
 use Rattle.overlay_build.proofs.laws.sides.Vertices.{gain, gain_of, gain_right, gain_left}
-use Rattle.overlay_build.proofs.laws.sides.Uprights.{when_nothing, by_any, gain_up, gain_down}
+use Rattle.overlay_build.proofs.laws.sides.Uprights.{when_nothing, gain_up, gain_down}
 use Rattle.overlay_build.proofs.laws.sides.Parities.{tells_sides_of, HasParity, same_parity, parity_of_sum, parity_of_gain, parity_where}
-use Rattle.overlay_geometry.proofs.laws.lists.Lists.{Has}
+use Rattle.overlay_geometry.proofs.laws.lists.Lists.{Has, by_list_any}
 
 round_vertex : (r0 r1 l0 l1 : ℤ) → (r1 -ℤ r0) +ℤ (l1 -ℤ r1) ≡ (l1 -ℤ l0) +ℤ (l0 -ℤ r0)
 round_vertex r0 r1 l0 l1 = omega (arith, ints)
@@ -112,7 +112,7 @@ module _ (xs : List WholeSegment) (arranged : IsArranged xs) (balanced : IsBalan
 
   -- round a point nothing is gained: as much along what starts there as along what ends there
   pub gain_at_point : (G : ℤ → ℤ → ℤ) → gain_out G ≡ gain_in G
-  gain_at_point G = by_any (λ u. point_eq u.pair.a p || point_eq u.pair.b p) xs (λ s m h. together G (ends_are_free s m h)) (nowhere G)
+  gain_at_point G = by_list_any (λ u. point_eq u.pair.a p || point_eq u.pair.b p) xs (λ s m h. together G (ends_are_free s m h)) (nowhere G)
 
   -- so of the segments whose sides a truth function tells apart evenly many start or end there
   module _ (F : ℤ → ℤ → Bool) where

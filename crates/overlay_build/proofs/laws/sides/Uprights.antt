@@ -16,13 +16,15 @@ use Rattle.overlay_geometry.proofs.laws.geometry.Polynomials.{mul-pos, mul-neg, 
 use Rattle.overlay_geometry.proofs.laws.geometry.Points.{same_point, same_pair, same_by_eq, point_eq_same, pair_eq_same, from_not_same_pair, inside_from_order}
 use Rattle.overlay_base.proofs.laws.geometry.Apart.{do_cross_from}
 use Rattle.overlay_sweep.proofs.laws.columns.WeightSums.{when, sum_of}
-use Rattle.overlay_sweep.proofs.laws.columns.ColumnLines.{le-test, le-test_false, lt-test, lt-test_false, le-tested, lt-tested, spans_parts, point_lt-cases, is_under, is_up_to, lies_under, lies_up_to, leaves_upward, turn_over_start, turn_over_end, column_weights, filter_weights_are, across_under, across_up_to}
+use Rattle.overlay_sweep.proofs.laws.columns.ColumnLines.{spans_parts, point_lt-cases, is_under, is_up_to, lies_under, lies_up_to, leaves_upward, turn_over_start, turn_over_end, column_weights, filter_weights_are, across_under, across_up_to}
 use Rattle.overlay_sweep.proofs.laws.columns.ColumnOrder.{IsApart}
 use Rattle.overlay_sweep.proofs.laws.columns.AlongSegments.{turn_upright, turn_higher}
 use Rattle.overlay_sweep.proofs.laws.columns.Members.{IsArranged, sorted_all, sorted_tail, differ_when_less}
 use Rattle.overlay_sweep.proofs.laws.live.Sides.{sum_of-same_in, sum_of-zero_in, column_weights-same, apart_in, itself_rises, rises_is}
 use Rattle.overlay_build.proofs.laws.sides.Vertices.{gain, gain_of}
-use Rattle.overlay_geometry.proofs.laws.lists.Lists.{Has, list_all-at}
+use Rattle.overlay_geometry.proofs.laws.lists.Lists.{Has, list_all-at, by_list_any}
+use Rattle.overlay_geometry.proofs.laws.integers.Tests.{le-test, le-test_false, lt-test, lt-test_false, le-tested, lt-tested}
+use Rattle.overlay_geometry.proofs.laws.integers.Products.{zero_plus, minus_itself, times_nothing}
 
 -- ---- sums over parts of a list
 
@@ -39,27 +41,10 @@ single_sum g t (x ∷ xs) h (inl e) =
   where
     plus_nothing : (z : ℤ) → z +ℤ pos 0 ≡ z
     plus_nothing z = omega (arith, ints)
-single_sum g t (x ∷ xs) h (inr m) = rw (from_not_same_pair x.pair t.pair (differ_when_less x.pair t.pair (list_all-at (λ z. pair_lt x.pair z.pair) xs t (sorted_all x xs h) m))) (nothing_plus _ ∙ single_sum g t xs (sorted_tail x xs h) m)
-  where
-    nothing_plus : (z : ℤ) → pos 0 +ℤ z ≡ z
-    nothing_plus z = omega (arith, ints)
-
-none_of : {X : Type 0} (p : X → Bool) (x : X) (xs : List X) → p x ≡ false → ((z : X) → Has xs z → p z ≡ false) → (y : X) → Has (x ∷ xs) y → p y ≡ false
-none_of p x xs e h y (inl q) = ap p (sym q) ∙ e
-none_of p x xs e h y (inr m) = h y m
-
-pub by_any : {X P : Type 0} (p : X → Bool) (xs : List X) → ((x : X) → Has xs x → p x ≡ true → P) → (((x : X) → Has xs x → p x ≡ false) → P) → P
-by_any p [] f g = g (λ x m. absurd m)
-by_any p (x ∷ xs) f g = elim (cases_Bool (p x)) [
-  | inl e ↦ f x (inl refl) e
-  | inr e ↦ by_any p xs (λ y m k. f y (inr m) k) (λ h. g (none_of p x xs e h))
-]
+single_sum g t (x ∷ xs) h (inr m) = rw (from_not_same_pair x.pair t.pair (differ_when_less x.pair t.pair (list_all-at (λ z. pair_lt x.pair z.pair) xs t (sorted_all x xs h) m))) (zero_plus _ ∙ single_sum g t xs (sorted_tail x xs h) m)
 
 same_value : (G : ℤ → ℤ → ℤ) (b c : ℤ) → G (b +ℤ pos 0) (c +ℤ pos 0) -ℤ G b c ≡ pos 0
-same_value G b c = let p : b +ℤ pos 0 ≡ b = omega (arith, ints) in let q : c +ℤ pos 0 ≡ c = omega (arith, ints) in rw (p, q) (no_gain (G b c))
-  where
-    no_gain : (z : ℤ) → z -ℤ z ≡ pos 0
-    no_gain z = omega (arith, ints)
+same_value G b c = let p : b +ℤ pos 0 ≡ b = omega (arith, ints) in let q : c +ℤ pos 0 ≡ c = omega (arith, ints) in rw (p, q) (minus_itself (G b c))
 
 gains_nothing : (G : ℤ → ℤ → ℤ) (r l u : Winding) → add r u ≡ l → u ≡ empty → gain G r l ≡ pos 0
 gains_nothing G r l u e z = ap (gain G r) (sym e ∙ ap (λ (w : Winding). add r w) z) ∙ same_value G r.subj r.clip
@@ -71,9 +56,6 @@ no_weight test xs h =
 
 -- ---- beside a vertical segment: what is at most as high as its lower end is strictly under its upper end
 
-times_level : (h d : ℤ) → d ≡ pos 0 → h *ℤ d ≡ pos 0
-times_level h d e = rw e (omega (arith, ints))
-
 sign_down : (w m g : ℤ) → pos 0 <ℤ w → g ≡ w *ℤ m → g <ℤ pos 0 → m <ℤ pos 0
 sign_down w m g h e p = cancel-neg w m h (omega (arith, ints))
 
@@ -81,7 +63,7 @@ sign_up : (w m g : ℤ) → pos 0 <ℤ w → g ≡ w *ℤ m → pos 0 <ℤ g →
 sign_up w m g h e p = cancel-pos w m h (omega (arith, ints))
 
 pub upright_level : (t : Pair) (q : Point) → t.a.x ≡ t.b.x → q.x ≡ t.a.x → turn t.a t.b q ≡ pos 0
-upright_level t q e x = turn_upright t q e ∙ times_level (t.b.y -ℤ t.a.y) (t.a.x -ℤ q.x) (omega (arith, ints))
+upright_level t q e x = turn_upright t q e ∙ times_nothing (t.b.y -ℤ t.a.y) (t.a.x -ℤ q.x) (omega (arith, ints))
 
 module _ (s u : Pair) (e : s.a.x ≡ s.b.x) (h : s.a.y <ℤ s.b.y) (wu : u.a.x <ℤ u.b.x) (ua : u.a.x ≤ℤ s.a.x) (ub : s.a.x ≤ℤ u.b.x) (apart : IsApart s u) where
   through_start : u.a.x ≡ s.a.x → turn u.a u.b s.a <ℤ pos 0 → pos 0 <ℤ turn u.a u.b s.b → ⊥
@@ -182,7 +164,7 @@ module _ (xs : List WholeSegment) (arranged : IsArranged xs) (balanced : IsBalan
       (λ (g : p.y ≤ℤ u.pair.a.y). both_ways (starts_upright u) (none u n) (and_from _ _ first.0 (ap (λ (q : Point). point_eq q p) (same_point u.pair.a p x (omega (arith, ints))) ∙ point_eq_same p))))
 
   pub gain_up : sum_of (λ u. when (starts_upright u) (gain_of G xs u)) xs ≡ gain G (weights_up_to xs p.x p) (weights_up_to xs (p.x -ℤ pos 1) p)
-  gain_up = by_any starts_upright xs
+  gain_up = by_list_any starts_upright xs
       (λ s m h. one_gain starts_upright s m (λ u n. start_only_one s u m n h) ∙ start_sides s h)
       (λ none. none_gains starts_upright none ∙ sym (gains_nothing G _ _ _ (across_up_to xs arranged.all_ordered balanced p) (no_weight (leaves_upward (lies_up_to p)) xs (none_leaves_up none))))
 
@@ -243,6 +225,6 @@ module _ (xs : List WholeSegment) (arranged : IsArranged xs) (balanced : IsBalan
       (λ (g : u.pair.b.y ≤ℤ p.y). both_ways (ends_upright u) (none u n) (and_from _ _ first.0 (ap (λ (q : Point). point_eq q p) (same_point u.pair.b p (sym up.0 ∙ x) (omega (arith, ints))) ∙ point_eq_same p))))
 
   pub gain_down : sum_of (λ u. when (ends_upright u) (gain_of G xs u)) xs ≡ gain G (column_weights (is_under p) xs p.x) (column_weights (is_under p) xs (p.x -ℤ pos 1))
-  gain_down = by_any ends_upright xs
+  gain_down = by_list_any ends_upright xs
       (λ s m h. one_gain ends_upright s m (λ u n. end_only s u m n h) ∙ end_sides s m h)
       (λ none. none_gains ends_upright none ∙ sym (gains_nothing G _ _ _ (across_under xs arranged.all_ordered balanced p) (no_weight (leaves_upward (lies_under p)) xs (none_leaves_under none))))

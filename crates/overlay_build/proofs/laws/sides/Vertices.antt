@@ -15,15 +15,16 @@ use Rattle.overlay_base.specs.Rules.{differ}
 use Rattle.overlay_geometry.proofs.laws.geometry.Polynomials.{mul-pos, mul-neg}
 use Rattle.overlay_geometry.proofs.laws.geometry.Points.{same_point, same_by_eq, point_eq_same, at_a, at_b, inside_from_order, turn_same_outer, turn_same_last}
 use Rattle.overlay_sweep.proofs.laws.columns.WeightSums.{when, sum_of, sum_of-add, sum_of-filter}
-use Rattle.overlay_sweep.proofs.laws.columns.ColumnLines.{le-test, le-test_false, lt-test, lt-test_false, spans_parts, is_under, is_up_to, column_weights, column_weights_are}
+use Rattle.overlay_sweep.proofs.laws.columns.ColumnLines.{spans_parts, is_under, is_up_to, column_weights, column_weights_are}
 use Rattle.overlay_sweep.proofs.laws.columns.Chains.{is_pairwise, gain_along_chain}
 use Rattle.overlay_sweep.proofs.laws.columns.Heights.{gap, gap_back, gap_at_other_end, is_below_is}
-use Rattle.overlay_sweep.proofs.laws.columns.ColumnOrder.{by_sign, crosses_in_column, low-right, low-second, one_is_below, below_itself, is_below-trans}
+use Rattle.overlay_sweep.proofs.laws.columns.ColumnOrder.{crosses_in_column, low-right, low-second, one_is_below, below_itself, is_below-trans}
 use Rattle.overlay_sweep.proofs.laws.columns.AlongSegments.{is_same_along, neg_of_neg, neg_of_pos}
 use Rattle.overlay_sweep.proofs.laws.columns.Members.{IsArranged, sorted_all, sorted_tail, differ_when_less}
 use Rattle.overlay_sweep.proofs.laws.live.Supports.{is_beneath, below_is_beneath, not_beneath}
 use Rattle.overlay_sweep.proofs.laws.live.Sides.{sum_of-same_in, apart_in}
 use Rattle.overlay_geometry.proofs.laws.lists.Lists.{Has, Has-filter_out, list_all-at, list_all-from_Has}
+use Rattle.overlay_geometry.proofs.laws.integers.Tests.{le-test, le-test_false, lt-test, lt-test_false, by_sign}
 
 -- how much more G is at the one winding than at the other
 abbrev pub gain : (ℤ → ℤ → ℤ) → Winding → Winding → ℤ

@@ -1,13 +1,12 @@
 -- Whether two places of a list hold one key: the order of the list does not count, and in order of the keys it shows between neighbors.
-use Rattle.std.proofs.Common.{◌≡◌, Bool, true, false, ◌||◌, List, [], ◌∷◌, map, IsPermutation, Ordering, Less, Equal, Greater, is_eq, refl, sym, ap, ◌∙◌, subst}
+use Rattle.std.proofs.Common.{◌≡◌, Bool, true, false, ◌||◌, List, [], ◌∷◌, map, IsPermutation, Ordering, is_eq, refl, sym, ap, ◌∙◌, subst}
 use Rattle.std.specs.Cmp.{IsTotalOrder}
-use Rattle.std.specs.Ordering.{ordering_reverse}
 use Rattle.std.specs.List.{list_any}
 use Rattle.std.proofs.lemmas.Map.Keys.{IsDistinct-IsPermutation}
 use Rattle.std.proofs.lemmas.List.Sorted.{IsPermutation-sym}
 use Rattle.overlay_geometry.specs.Sorting.{has_repeat}
 use Rattle.overlay_geometry.proofs.laws.lists.Lists.{same_from_false}
-use Rattle.overlay_geometry.proofs.laws.lists.Keys.{has_key-below, Less-from_tests, IsInOrder, AllByRecursion-less_in_order, IsDistinct-from_test, has_repeat-distinct}
+use Rattle.overlay_geometry.proofs.laws.lists.Keys.{has_key-below, Less-from_tests, IsInOrder, AllByRecursion-less_in_order, IsDistinct-from_test, has_repeat-distinct, is_eq-reverse}
 
 pub list_any-map : {X Y : Type 0} (f : X → Y) (test : Y → Bool) (xs : List X) → list_any test (map f xs) ≡ list_any (λ x. test (f x)) xs
 list_any-map f test [] = refl
@@ -34,12 +33,7 @@ has_repeat-none eq all rest same is = sym (ap (has_repeat eq) is) ∙ same
 
 module _ {K : Type 0} {cmp : K → K → Ordering} (o : IsTotalOrder cmp) where
   eq-comm : (x y : K) → is_eq (cmp x y) ≡ is_eq (cmp y x)
-  eq-comm x y = ap is_eq (o.antisymm x y) ∙ turned (cmp y x)
-    where
-      turned : (r : Ordering) → is_eq (ordering_reverse r) ≡ is_eq r
-      turned Less = refl
-      turned Equal = refl
-      turned Greater = refl
+  eq-comm x y = ap is_eq (o.antisymm x y) ∙ is_eq-reverse (cmp y x)
 
   pub has_repeat-IsPermutation : (xs ys : List K) → IsPermutation xs ys → has_repeat (λ x y. is_eq (cmp x y)) ys ≡ has_repeat (λ x y. is_eq (cmp x y)) xs
   has_repeat-IsPermutation xs ys p = same_from_false _ _ (across ys xs (IsPermutation-sym xs ys p)) (across xs ys p)

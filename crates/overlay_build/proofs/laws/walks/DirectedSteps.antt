@@ -2,7 +2,7 @@
 use Rattle.std.proofs.Common.{◌≡◌, ◌≢◌, ℕ, ◌+◌, ◌<◌, ◌≤◌, ◌==◌, ◌⊎◌, inl, inr, zero, suc, Bool, true, false, ◌||◌, List, [], ◌∷◌, ◌++◌, map, filter, length, get_or, set, replicate, refl, sym, ap, subst, ◌∙◌, arith, get_or-set_same, get_or-set_other, if◌then◌else◌}
 use Rattle.std.specs.Prelude.{ℤ}
 use Rattle.std.specs.List.{flat_map, All}
-use Rattle.std.proofs.lemmas.Bool.{eqb-true, eq-eqb, ne_eqb, or_left, or_right, cases_lt, false≢true}
+use Rattle.std.proofs.lemmas.Bool.{eqb-true, eq-eqb, or_left, or_right, cases_lt, false≢true}
 use Rattle.std.proofs.lemmas.List.{length-map, length-set, get_or-map, map-append, get_or_default, length-replicate, append_assoc, append-nil}
 use Rattle.std.proofs.lemmas.List.Folds.{Any-from_list_any}
 use Rattle.std.proofs.lemmas.List.Elements.{All-append, All-from_recursion}
@@ -114,21 +114,6 @@ IsRunning-step arcs used start node i w h e o = record {
       (unused_at-set (λ l. l.a_node) used arcs i u no_link h e ∙ ap (λ n. flag_value (n == u) 1 + unused_starts (set used i true) arcs u) o)
       (unused_at-set (λ l. l.b_node) used arcs i u no_link h e);
 }
-
--- where it has not come back, an unused link starts there
-pub not_stuck : (arcs : List Link) (used : List Bool) (start node : ℕ) → IsRunning arcs used start node → node ≢ start → 0 < unused_starts used arcs node
-not_stuck arcs used start node w away =
-    let other : (start == node) ≡ false = ne_eqb start node (λ e. away (sym e)) in
-    let same : (node == node) ≡ true = eq-eqb node node refl in
-    let p : unused_starts used arcs node + flag_value false 1 ≡ unused_ends used arcs node + flag_value true 1 = rw (other, same) at (w.level node) in
-    omega (arith, p)
-
-level_again : (s e p : ℕ) → s + p ≡ e + p → s ≡ e
-level_again s e p h = omega (arith, h)
-
--- where it has come back, there is a flow again
-pub IsRunning-closed : (arcs : List Link) (used : List Bool) (start : ℕ) → IsRunning arcs used start start → AreUnusedFlow arcs used
-IsRunning-closed arcs used start w = record { level = λ u. level_again (unused_starts used arcs u) (unused_ends used arcs u) (flag_value (start == u) 1) (w.level u) }
 
 -- ---- used links and cursors
 
@@ -270,9 +255,6 @@ IsOnWay-step arcs nodes before used cursors after start node i walk g w away h f
 -- where it has come back, it is closed
 pub IsOnWay-closed : (arcs : List Link) (nodes : List (List ℕ)) (before used : List Bool) (cursors : List ℕ) (start node : ℕ) (walk : List ℕ) → IsOnWay arcs nodes before used cursors start node walk → node ≡ start → IsDirectedWalk arcs walk
 IsOnWay-closed arcs nodes before used cursors start node walk w back = (start, (w.rest, record { within = w.within; starts = w.starts; ends = w.ends ∙ ap (λ n. w.rest ++ (n ∷ [])) back; apart = w.apart }))
-
-pub IsOnWay-level : (arcs : List Link) (nodes : List (List ℕ)) (before used : List Bool) (cursors : List ℕ) (start node : ℕ) (walk : List ℕ) → IsOnWay arcs nodes before used cursors start node walk → node ≡ start → AreUnusedFlow arcs used
-IsOnWay-level arcs nodes before used cursors start node walk w back = IsRunning-closed arcs used start (subst (IsRunning arcs used start) back w.running)
 
 -- ---- between walks
 

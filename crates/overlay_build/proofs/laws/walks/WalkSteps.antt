@@ -1,11 +1,10 @@
 -- Walks found link by link: what holds while a walk is under way, and between walks.
-use Rattle.std.proofs.Common.{cond, ◌≡◌, ◌≢◌, ℕ, ◌+◌, ◌<◌, ◌≤◌, ◌%◌, ◌==◌, ◌⊎◌, inl, inr, zero, suc, Bool, true, false, not, IsTrue, List, [], ◌∷◌, ◌++◌, map, length, get_or, set, replicate, Some, refl, sym, ap, subst, ◌∙◌, arith, get_or-set_same, get_or-set_other, if◌then◌else◌}
+use Rattle.std.proofs.Common.{◌≡◌, ◌≢◌, ℕ, ◌+◌, ◌<◌, ◌≤◌, ◌%◌, ◌==◌, ◌⊎◌, inl, inr, zero, suc, Bool, true, false, IsTrue, List, [], ◌∷◌, ◌++◌, map, length, get_or, set, replicate, Some, refl, sym, ap, subst, ◌∙◌, arith, get_or-set_same, get_or-set_other, if◌then◌else◌}
 use Rattle.std.specs.Prelude.{ℤ, pos}
-use Rattle.std.specs.List.{count_by, flat_map, All}
+use Rattle.std.specs.List.{flat_map, All}
 use Rattle.std.proofs.lemmas.Bool.{and_parts, eqb-true, eq-eqb, ltb-true, cases_lt, false≢true}
 use Rattle.std.proofs.lemmas.List.{length-map, length-set, get_or-map, get_or_default, length-replicate, append_assoc, append-nil}
 use Rattle.std.proofs.lemmas.List.Folds.{list_any_at, Any-from_list_any}
-use Rattle.std.proofs.lemmas.List.Sums.{sum_by-set}
 use Rattle.std.proofs.lemmas.List.Elements.{All-append, All-from_recursion}
 use Rattle.std.proofs.lemmas.Option.{slice_get-get_or}
 use Rattle.std.proofs.lemmas.Grind.{flat_map-append}
@@ -17,7 +16,7 @@ use Rattle.overlay_build.specs.steps.UnusedLinks.{meets, unused_degree, AreUnuse
 use Rattle.overlay_build.specs.Walks.{other_node, walk_end, IsClosedWalk, AreClosedWalks}
 use Rattle.overlay_build.proofs.laws.graphs.Indexes.{has_number}
 use Rattle.overlay_build.proofs.laws.graphs.GraphLaws.{pairs_of, node_of, length-links, length-nodes, node_at, links_at-exactly, names_its_nodes, stands_at_its_nodes}
-use Rattle.overlay_build.proofs.laws.walks.Walks.{link_degree-even, unused_degree-all, none_left, IsWalking, IsWalking-start, IsWalking-closed, IsWalking-step, walk_end-push, AreCounted-none, AreCounted-push, AreClosedWalks-from}
+use Rattle.overlay_build.proofs.laws.walks.Walks.{link_degree-even, unused_degree-all, none_left, IsWalking, IsWalking-start, IsWalking-step, walk_end-push, AreCounted-none, AreCounted-push, AreClosedWalks-from}
 
 -- ---- links, and nodes that list their indexes
 
@@ -117,13 +116,6 @@ set_keeps (b ∷ used) zero (suc j) h = h
 set_keeps (b ∷ used) (suc i) zero h = h
 set_keeps (b ∷ used) (suc i) (suc j) h = set_keeps used i j h
 
--- each use of a link leaves fewer unused
-pub fewer_unused : (used : List Bool) (i : ℕ) → i < length used → get_or used i false ≡ false → count_by not (set used i true) < count_by not used
-fewer_unused used i h e =
-    let sums = sum_by-set (λ b. cond (not b) 1 0) used i true false h in
-    let sum : count_by not (set used i true) + 1 ≡ count_by not used + 0 = rw e at sums in
-    omega (arith, sum)
-
 pub ArePassed-none : (nodes : List (List ℕ)) (used : List Bool) (n : ℕ) → n ≡ length nodes → ArePassed nodes used (replicate n 0)
 ArePassed-none nodes used n same = record {
   each = length-replicate n 0 ∙ same;
@@ -213,27 +205,9 @@ IsUnderWay-step links nodes before used cursors after start node next i walk d w
       kept = λ j e. set_keeps used i j (w.kept j e);
     }
 
--- where it has not come back, an unused link is left
-pub not_stuck : (links : List Link) (used : List Bool) (start node : ℕ) → IsWalking links used start node → node ≢ start → 0 < unused_degree used links node
-not_stuck links used start node w away = by (node == start) refl
-  where
-    by : (b : Bool) → (node == start) ≡ b → 0 < unused_degree used links node
-    by true e = absurd (away (eqb-true node start e))
-    by false e =
-        let same : (node == node) ≡ true = eq-eqb node node refl in
-        let p : unused_degree used links node % 2 ≡ 1 = rw (e, same) at (w.parity node) in
-        omega (arith, p)
-
 pub walk_is_some : (walk : List ℕ) (i : ℕ) → walk ++ (i ∷ []) ≢ []
 walk_is_some [] i e = cc
 walk_is_some (j ∷ walk) i e = cc
-
--- where it has come back, it is closed, and evenly many unused links are at each node
-pub IsUnderWay-closed : (links : List Link) (nodes : List (List ℕ)) (before used : List Bool) (cursors : List ℕ) (start : ℕ) (walk : List ℕ) → IsUnderWay links nodes before used cursors start start walk → walk ≢ [] → IsClosedWalk links walk
-IsUnderWay-closed links nodes before used cursors start walk w some = (some, (start, w.leads))
-
-pub IsUnderWay-even : (links : List Link) (nodes : List (List ℕ)) (before used : List Bool) (cursors : List ℕ) (start : ℕ) (walk : List ℕ) → IsUnderWay links nodes before used cursors start start walk → AreUnusedEven links used
-IsUnderWay-even links nodes before used cursors start walk w = record { even = IsWalking-closed links used start w.walking }
 
 -- ---- between walks
 

@@ -18,6 +18,7 @@ use Rattle.overlay_build.proofs.laws.graphs.GraphLaws.{pairs_of, link_of, degree
 use Rattle.overlay_build.proofs.laws.graphs.Indexes.{has_number}
 use Rattle.overlay_build.proofs.laws.graphs.GraphValid.{even_degree}
 use Rattle.overlay_geometry.proofs.laws.lists.Lists.{filter-map}
+use Rattle.overlay_geometry.proofs.laws.integers.Tests.{eqb-turned}
 
 -- ---- links at a node, and those of them that no walk has used
 
@@ -71,10 +72,6 @@ differ_same false = refl
 pub IsWalking-start : (links : List Link) (used : List Bool) (start : ℕ) → ((u : ℕ) → unused_degree used links u % 2 ≡ 0) → IsWalking links used start start
 IsWalking-start links used start h = record { parity = λ u. h u ∙ ap (λ b. flag_value b 1) (sym (differ_same (u == start))) }
 
--- and so it is again where a walk has come back
-pub IsWalking-closed : (links : List Link) (used : List Bool) (start : ℕ) → IsWalking links used start start → (u : ℕ) → unused_degree used links u % 2 ≡ 0
-IsWalking-closed links used start w u = w.parity u ∙ ap (λ b. flag_value b 1) (differ_same (u == start))
-
 passed_on : (p q r : Bool) (x y : ℕ) → x % 2 ≡ flag_value (differ p q) 1 → x ≡ flag_value q 1 + flag_value r 1 + y → y % 2 ≡ flag_value (differ p r) 1
 passed_on true true true x y h e = omega (arith, h, e)
 passed_on true true false x y h e = omega (arith, h, e)
@@ -84,13 +81,6 @@ passed_on false true true x y h e = omega (arith, h, e)
 passed_on false true false x y h e = omega (arith, h, e)
 passed_on false false true x y h e = omega (arith, h, e)
 passed_on false false false x y h e = omega (arith, h, e)
-
-turned : (m n : ℕ) → (m == n) ≡ (n == m)
-turned m n = by (n == m) refl
-  where
-    by : (b : Bool) → (n == m) ≡ b → (m == n) ≡ b
-    by true e = eq-eqb m n (sym (eqb-true n m e))
-    by false e = ne_eqb m n (λ k. let t : (n == m) ≡ true = eq-eqb n m (sym k) in let c : true ≡ false = sym t ∙ e in cc)
 
 exchanged : (m n k : ℕ) → m + n + k ≡ n + m + k
 exchanged m n k = omega arith
@@ -111,26 +101,15 @@ IsWalking-step links used start node next i d w h e o = record { parity = λ u. 
         let there : next ≡ l.b_node = sym (given some) in
         passed_on (u == start) (u == node) (u == next) _ _ (w.parity u)
         (unused_degree-set used links i u d h e
-        ∙ ap₂ (λ m n. flag_value m 1 + flag_value n 1 + unused_degree (set used i true) links u) (ap (λ n. n == u) (eqb-true l.a_node node x) ∙ turned node u) (ap (λ n. n == u) (sym there) ∙ turned next u))
+        ∙ ap₂ (λ m n. flag_value m 1 + flag_value n 1 + unused_degree (set used i true) links u) (ap (λ n. n == u) (eqb-true l.a_node node x) ∙ eqb-turned node u) (ap (λ n. n == u) (sym there) ∙ eqb-turned next u))
     by u false x true y =
         let some : Some l.a_node ≡ Some next = rw (x, y) at o in
         let there : next ≡ l.a_node = sym (given some) in
         passed_on (u == start) (u == node) (u == next) _ _ (w.parity u)
         (unused_degree-set used links i u d h e
-        ∙ ap₂ (λ m n. flag_value m 1 + flag_value n 1 + unused_degree (set used i true) links u) (ap (λ n. n == u) (sym there) ∙ turned next u) (ap (λ n. n == u) (eqb-true l.b_node node y) ∙ turned node u)
+        ∙ ap₂ (λ m n. flag_value m 1 + flag_value n 1 + unused_degree (set used i true) links u) (ap (λ n. n == u) (sym there) ∙ eqb-turned next u) (ap (λ n. n == u) (eqb-true l.b_node node y) ∙ eqb-turned node u)
         ∙ exchanged (flag_value (u == next) 1) (flag_value (u == node) 1) (unused_degree (set used i true) links u))
     by u false x false y = let none : None ≡ Some next = rw (x, y) at o in cc
-
--- where no unused link is left, the walk is where it began
-pub IsWalking-stuck : (links : List Link) (used : List Bool) (start node : ℕ) → IsWalking links used start node → unused_degree used links node ≡ 0 → node ≡ start
-IsWalking-stuck links used start node w h = by (node == start) refl
-  where
-    by : (b : Bool) → (node == start) ≡ b → node ≡ start
-    by true e = eqb-true node start e
-    by false e =
-        let same : (node == node) ≡ true = eq-eqb node node refl in
-        let p : unused_degree used links node % 2 ≡ 1 = rw (e, same) at (w.parity node) in
-        absurd (omega (arith, p, h))
 
 -- ---- the links of a graph with even nodes
 
@@ -192,12 +171,6 @@ link_degree-even kept u even = by (cases_lt u (length (node_points (pairs_of kep
     by : ((u < length (node_points (pairs_of kept))) ⊎ (length (node_points (pairs_of kept)) ≤ u)) → link_degree (graph_of kept).links u % 2 ≡ 0
     by (inl h) = ap (λ n. n % 2) (link_degree-is kept u d h) ∙ even_degree kept (get_or (node_points (pairs_of kept)) u d) even
     by (inr h) = ap (λ n. n % 2) (link_degree-past kept u h)
-
--- so with even nodes a walk may begin at every node
-pub IsWalking-first : (kept : List Filled) (start : ℕ) → IsTrue (has_even_nodes (graph_of kept)) → IsWalking (graph_of kept).links (replicate (length (graph_of kept).links) false) start start
-IsWalking-first kept start even =
-    IsWalking-start (graph_of kept).links (replicate (length (graph_of kept).links) false) start
-    (λ u. ap (λ n. n % 2) (unused_degree-all (graph_of kept).links u) ∙ link_degree-even kept u even)
 
 no_touch : (l : Link) (u : ℕ) → ((l.a_node == u) || (l.b_node == u)) ≡ false → touches l u ≡ 0
 no_touch l u e =

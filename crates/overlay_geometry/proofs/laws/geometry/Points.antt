@@ -7,12 +7,14 @@ use Rattle.std.specs.Cmp.{IsTotalOrder}
 use Rattle.std.proofs.lemmas.Bool.{or_parts, or_from, both_ways, false_from_ne_true}
 use Rattle.std.specs.declared.cmp.Ordering.{Ordering}
 use Rattle.std.specs.declared.cmp.Ordering.TheVariants.{Less, Equal, Greater}
-use Rattle.std.specs.Ordering.{int_cmp, is_eq, is_lt, ordering_then, ordering_reverse, MatchOrdering}
-use Rattle.overlay_geometry.specs.Points.{Point, Pair, point_cmp, point_eq, point_lt, pair_cmp, pair_eq, pair_lt, turn, is_in_box, is_end, lies_on, is_strictly_inside, moved, is_ordered}
+use Rattle.std.specs.Ordering.{int_cmp, is_eq, is_lt, is_gt, ordering_then, ordering_reverse, MatchOrdering}
+use Rattle.overlay_geometry.specs.Points.{Point, Pair, point_cmp, point_eq, point_lt, pair_cmp, pair_eq, pair_lt, is_ordered, turn, is_in_box, is_end, lies_on, is_strictly_inside, moved}
 use Rattle.overlay_geometry.specs.Meeting.{are_collinear}
 use Rattle.overlay_geometry.specs.Laws.{TurnChangesSign, PointsAreOrdered, PairsAreOrdered, LiesOnByOrder, LiesInsideByOrder}
 use Rattle.overlay_geometry.proofs.laws.lists.Keys.{is_lt-true}
 use Rattle.overlay_geometry.proofs.laws.geometry.Polynomials.{as_D, difference-pos, diffs, D-eq, mul-nonneg, mul-nonpos, mul-nonpos_left, mul-nonneg_both, cancel-nonneg, cancel-nonpos, cancel-zero}
+use Rattle.overlay_geometry.proofs.laws.integers.Tests.{le_equal}
+use Rattle.overlay_geometry.proofs.laws.integers.Products.{minus_from, neg_zero, neg_swap}
 
 -- ---- turns
 
@@ -32,11 +34,6 @@ turn_swaps_last p q r = rw (as_D p.x, as_D p.y, as_D q.x, as_D q.y, as_D r.x, as
 pub turn_swaps_outer : (p q r : Point) → turn p q r ≡ neg_ℤ (turn r q p)
 unfolding turn
 turn_swaps_outer p q r = rw (as_D p.x, as_D p.y, as_D q.x, as_D q.y, as_D r.x, as_D r.y) (simp diffs (D-eq _ _ _ _ (omega arith)))
-
--- two equal points: no turn
-pub turn_same_first : (p r : Point) → turn p p r ≡ pos 0
-unfolding turn
-turn_same_first p r = rw (as_D p.x, as_D p.y, as_D r.x, as_D r.y) (simp diffs (D-eq _ _ _ _ (omega arith)))
 
 pub turn_same_last : (p q : Point) → turn p q q ≡ pos 0
 unfolding turn
@@ -136,9 +133,6 @@ UpTo-Before-trans p q r h k = grind (arith, ints)
 pub UpTo-trans : (p q r : Point) → UpTo p q → UpTo q r → UpTo p r
 UpTo-trans p q r h k = grind (arith, ints)
 
-pub UpTo-antisymmetric : (p q : Point) → UpTo p q → UpTo q p → p ≡ q
-UpTo-antisymmetric p q h k = same_point p q (omega (arith, ints)) (omega (arith, ints))
-
 pub UpTo-not_Before : (p q : Point) → UpTo p q → Before q p → ⊥
 UpTo-not_Before p q h k = omega (arith, ints)
 
@@ -150,17 +144,14 @@ mean_plain wx wy ax ay bx by px py = rw (as_D wx, as_D wy, as_D ax, as_D ay, as_
 mean_plain_y : (wx wy ax ay bx by px py : ℤ) → (by -ℤ ay) *ℤ (wx *ℤ py -ℤ wy *ℤ px) ≡ (by -ℤ py) *ℤ (wx *ℤ ay -ℤ wy *ℤ ax) +ℤ (py -ℤ ay) *ℤ (wx *ℤ by -ℤ wy *ℤ bx) +ℤ wy *ℤ ((bx -ℤ ax) *ℤ (py -ℤ ay) -ℤ (by -ℤ ay) *ℤ (px -ℤ ax))
 mean_plain_y wx wy ax ay bx by px py = rw (as_D wx, as_D wy, as_D ax, as_D ay, as_D bx, as_D by, as_D px, as_D py) (simp diffs (D-eq _ _ _ _ (omega arith)))
 
-from_there : (u a b : ℤ) → b -ℤ a ≡ (b -ℤ u) -ℤ (a -ℤ u)
-from_there u a b = omega (arith, ints)
-
 -- For every line through two points u, v: a point's turn is a mean of those of a and b, by its distances in x from the two, but for a multiple of its turn from a and b. The same by distances in y.
 pub mean_x : (u v a b p : Point) → (b.x -ℤ a.x) *ℤ turn u v p ≡ (b.x -ℤ p.x) *ℤ turn u v a +ℤ (p.x -ℤ a.x) *ℤ turn u v b +ℤ (v.x -ℤ u.x) *ℤ turn a b p
 unfolding turn
-mean_x u v a b p = rw (from_there u.x a.x b.x, from_there u.x p.x b.x, from_there u.x a.x p.x, from_there u.y a.y p.y, from_there u.y a.y b.y) (mean_plain (v.x -ℤ u.x) (v.y -ℤ u.y) (a.x -ℤ u.x) (a.y -ℤ u.y) (b.x -ℤ u.x) (b.y -ℤ u.y) (p.x -ℤ u.x) (p.y -ℤ u.y))
+mean_x u v a b p = rw (minus_from u.x a.x b.x, minus_from u.x p.x b.x, minus_from u.x a.x p.x, minus_from u.y a.y p.y, minus_from u.y a.y b.y) (mean_plain (v.x -ℤ u.x) (v.y -ℤ u.y) (a.x -ℤ u.x) (a.y -ℤ u.y) (b.x -ℤ u.x) (b.y -ℤ u.y) (p.x -ℤ u.x) (p.y -ℤ u.y))
 
 pub mean_y : (u v a b p : Point) → (b.y -ℤ a.y) *ℤ turn u v p ≡ (b.y -ℤ p.y) *ℤ turn u v a +ℤ (p.y -ℤ a.y) *ℤ turn u v b +ℤ (v.y -ℤ u.y) *ℤ turn a b p
 unfolding turn
-mean_y u v a b p = rw (from_there u.y a.y b.y, from_there u.y p.y b.y, from_there u.y a.y p.y, from_there u.x a.x p.x, from_there u.x a.x b.x) (mean_plain_y (v.x -ℤ u.x) (v.y -ℤ u.y) (a.x -ℤ u.x) (a.y -ℤ u.y) (b.x -ℤ u.x) (b.y -ℤ u.y) (p.x -ℤ u.x) (p.y -ℤ u.y))
+mean_y u v a b p = rw (minus_from u.y a.y b.y, minus_from u.y p.y b.y, minus_from u.y a.y p.y, minus_from u.x a.x p.x, minus_from u.x a.x b.x) (mean_plain_y (v.x -ℤ u.x) (v.y -ℤ u.y) (a.x -ℤ u.x) (a.y -ℤ u.y) (b.x -ℤ u.x) (b.y -ℤ u.y) (p.x -ℤ u.x) (p.y -ℤ u.y))
 
 -- ---- slopes: c times the rise m is d times the run n
 
@@ -295,20 +286,26 @@ inside_from_parts s p h k = grind (arith, ints)
 UpTo-by_x : (p q : Point) → p.x ≤ℤ q.x → (p.x ≡ q.x → p.y ≤ℤ q.y) → UpTo p q
 UpTo-by_x p q h tells = by_lt_z p.x q.x (λ less. inl less) (λ (back : q.x ≤ℤ p.x). let e : p.x ≡ q.x = omega (arith, ints) in inr (e, tells e))
 
-same_up_to : (m n : ℤ) → m ≡ n → m ≤ℤ n
-same_up_to m n e = omega (arith, ints)
-
 box_order : (s : Pair) (p : Point) → Before s.a s.b → turn s.a s.b p ≡ pos 0 → IsTrue (is_in_box s p) → UpTo s.a p × UpTo p s.b
 box_order s p (inl w) h b =
     let r = box_across s p b (omega (arith, ints)) in
-    (UpTo-by_x s.a p r.0 (λ e. same_up_to _ _ (sym (at_a s.a s.b p w h (sym e)))), UpTo-by_x p s.b r.1 (λ e. same_up_to _ _ (at_b s.a s.b p w h e)))
+    (UpTo-by_x s.a p r.0 (λ e. le_equal _ _ (sym (at_a s.a s.b p w h (sym e)))), UpTo-by_x p s.b r.1 (λ e. le_equal _ _ (at_b s.a s.b p w h e)))
 box_order s p (inr (v, w)) h b =
     let r = box_upward s p b (omega (arith, ints)) in
     let x = on_vertical s.a s.b p v w h in
     (inr (sym x, r.0), inr (x ∙ v, r.1))
 
-UpTo-x : (p q : Point) → UpTo p q → p.x ≤ℤ q.x
+pub UpTo-x : (p q : Point) → UpTo p q → p.x ≤ℤ q.x
 UpTo-x p q h = omega (arith, ints)
+
+pub Before-x : (p q : Point) → Before p q → p.x ≤ℤ q.x
+Before-x p q h = omega (arith, ints)
+
+pub ordered_x : (s : Pair) → IsTrue (is_ordered s) → s.a.x ≤ℤ s.b.x
+ordered_x s h = Before-x s.a s.b (before s.a s.b h)
+
+pub starts_in_order : (s t : Pair) → is_gt (pair_cmp s t) ≡ false → s.a.x ≤ℤ t.a.x
+starts_in_order s t h = grind (arith, ints)
 
 equal_sides : (c d m n : ℤ) → c *ℤ m -ℤ d *ℤ n ≡ pos 0 → c *ℤ m ≡ d *ℤ n
 equal_sides c d m n h = omega (arith, ints)
@@ -383,9 +380,6 @@ mean_zero k m n f g z p e hf hg = cancel-zero k z p (let i = rw (hf, hg) at e in
 pub Weights-zero : (a b p u v : Point) → Weights a b p → turn u v a ≡ pos 0 → turn u v b ≡ pos 0 → turn u v p ≡ pos 0
 Weights-zero a b p u v w h k = mean_zero (w.of_a +ℤ w.of_b) w.of_a w.of_b (turn u v a) (turn u v b) (turn u v p) w.total (w.mean u v) h k
 
-neg_zero : (m n : ℤ) → m ≡ neg_ℤ n → n ≡ pos 0 → m ≡ pos 0
-neg_zero m n h k = omega (arith, ints)
-
 -- all points of one line: with two different ones, no three of the others turn
 pub collinear : (a b p q r : Point) → Before a b → turn a b p ≡ pos 0 → turn a b q ≡ pos 0 → turn a b r ≡ pos 0 → turn p q r ≡ pos 0
 collinear a b p q r o hp hq hr =
@@ -435,11 +429,6 @@ then_equal Equal Equal h = (refl, refl)
 then_equal Equal Greater h = absurd (both_ways false refl h)
 then_equal Greater r h = absurd (both_ways false refl h)
 
-then_greater : (o r : Ordering) → ordering_then o r ≡ Greater → (o ≡ Greater) ⊎ ((o ≡ Equal) × (r ≡ Greater))
-then_greater Less r h = absurd (both_ways false refl (sym (ap is_lt h)))
-then_greater Equal r h = inr (refl, h)
-then_greater Greater r h = inl refl
-
 pub pair_before : (s t : Pair) → IsTrue (pair_lt s t) → PairBefore s t
 pair_before s t h = ⊎_elim (λ e. inl (before s.a t.a (ap is_lt e))) (λ e. inr (same_by_eq s.a t.a (ap is_eq e.0), before s.b t.b (ap is_lt e.1))) (then_less (point_cmp s.a t.a) (point_cmp s.b t.b) h)
 
@@ -487,9 +476,6 @@ by_pair_order s t f g h =
 
 -- ---- the laws of turns and orders, as contracts name them
 
-neg_swap : (m n : ℤ) → m ≡ neg_ℤ n → n ≡ neg_ℤ m
-neg_swap m n h = omega (arith, ints)
-
 pub turn_changes_sign : TurnChangesSign
 turn_changes_sign p q r = (neg_swap _ _ (turn_swaps_first p q r), neg_swap _ _ (turn_swaps_last p q r), neg_swap _ _ (turn_swaps_outer p q r))
 
@@ -523,8 +509,3 @@ is_eq-then Greater b = refl
 
 pub point_eq-parts : (p q : Point) → point_eq p q ≡ (is_eq (int_cmp p.x q.x) && is_eq (int_cmp p.y q.y))
 point_eq-parts p q = is_eq-then (int_cmp p.x q.x) (int_cmp p.y q.y)
-
--- ---- ordered pairs
-
-pub ordered_x : (s : Pair) → IsTrue (is_ordered s) → s.a.x ≤ℤ s.b.x
-ordered_x s h = elim (before s.a s.b h) [ inl less ↦ omega (arith, ints) | inr same ↦ let e = same.0 in omega (arith, ints) ]

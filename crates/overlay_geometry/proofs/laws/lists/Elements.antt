@@ -1,8 +1,8 @@
 -- Elements of lists, lists that are known by them, and what holds of the rest of a list.
-use Rattle.std.proofs.Common.{◌≡◌, refl, sym, ap, subst, ◌∙◌, ◌⊎◌, inl, inr, ℕ, ◌≤◌, zero, suc, arith, Bool, true, List, [], ◌∷◌, ◌++◌, map, drop, Ordering, Less}
+use Rattle.std.proofs.Common.{◌≡◌, refl, sym, ap, subst, ◌∙◌, ◌⊎◌, inl, inr, ℕ, ◌<◌, ◌≤◌, zero, suc, arith, Bool, true, List, [], ◌∷◌, ◌++◌, map, drop, length, get_or, Ordering, Less}
 use Rattle.std.specs.Prelude.{flat_map, All, IsPermutation}
 use Rattle.std.specs.Cmp.{IsTotalOrder}
-use Rattle.std.specs.List.{AllByRecursion, dedup, dedup_from}
+use Rattle.std.specs.List.{AllByRecursion, Contains, dedup, dedup_from}
 use Rattle.std.specs.List.Sorted.{IsStrictlySortedBy}
 use Rattle.std.proofs.lemmas.Bool.{cond_both}
 use Rattle.std.proofs.lemmas.Cmp.{tied_itself}
@@ -13,6 +13,19 @@ use Rattle.overlay_geometry.proofs.laws.lists.Lists.{Has, AllByRecursion-at, All
 use Rattle.overlay_geometry.proofs.laws.lists.Keys.{IsInOrder}
 
 -- ---- membership
+
+pub Contains-from_Has : {X : Type 0} (xs : List X) (x : X) → Has xs x → Contains xs x
+Contains-from_Has [] x m = absurd m
+Contains-from_Has (y ∷ ys) x (inl e) = (0, omega arith, e)
+Contains-from_Has (y ∷ ys) x (inr m) = let c = Contains-from_Has ys x m in (suc c.0, omega (arith, c.1), c.2)
+
+pub Has-from_Contains : {X : Type 0} (xs : List X) (x : X) → Contains xs x → Has xs x
+Has-from_Contains {X} xs x c = at xs c.0 c.1 c.2
+  where
+    at : (ys : List X) (k : ℕ) → k < length ys → get_or ys k x ≡ x → Has ys x
+    at [] k h e = absurd (omega (arith, h))
+    at (y ∷ ys) zero h e = inl e
+    at (y ∷ ys) (suc k) h e = inr (at ys k (omega (arith, h)) e)
 
 pub Has-append_out : {X : Type 0} (xs ys : List X) (x : X) → Has (xs ++ ys) x → Has xs x ⊎ Has ys x
 Has-append_out [] ys x i = inr i

@@ -25,6 +25,11 @@ is_eq-true Less h = cc
 is_eq-true Equal h = refl
 is_eq-true Greater h = cc
 
+pub is_eq-reverse : (r : Ordering) → is_eq (ordering_reverse r) ≡ is_eq r
+is_eq-reverse Less = refl
+is_eq-reverse Equal = refl
+is_eq-reverse Greater = refl
+
 -- neither above nor equal is below
 pub Less-from_tests : (r : Ordering) → is_gt r ≡ false → is_eq r ≡ false → r ≡ Less
 Less-from_tests Less h e = refl

@@ -1,13 +1,12 @@
 -- Lists: what holds of each element, of each two and of each step; membership; tests of all and of some; sums.
 -- std says `All` and `Contains` by index, which code meets; proofs by recursion on a list take `AllByRecursion` and `Has`.
 -- `All-from_recursion` and `recursion_from_All` of std's `List.Elements` go between the two forms.
-use Rattle.std.proofs.Common.{◌≡◌, ℕ, zero, suc, ◌+◌, ◌-◌, ◌≤◌, Bool, true, false, cond, not, ◌&&◌, ◌||◌, ◌⊎◌, inl, inr, List, [], ◌∷◌, ◌++◌, map, filter, length, take, drop, sum_by, flat_map, IsPermutation, refl, sym, ap, subst, ◌∙◌, arith}
+use Rattle.std.proofs.Common.{◌≡◌, ℕ, zero, suc, ◌+◌, ◌-◌, ◌≤◌, Bool, true, false, cond, not, ◌&&◌, ◌||◌, ◌⊎◌, inl, inr, List, [], ◌∷◌, ◌++◌, map, filter, length, take, drop, sum_by, flat_map, refl, sym, ap, subst, ◌∙◌, arith}
 use Rattle.std.specs.Prelude.{⊤, reverse}
 use Rattle.std.specs.List.{AllByRecursion, list_any, list_all}
 use Rattle.std.proofs.lemmas.Bool.{and_parts, and_from, or_parts, or_from, or_left, or_right, or_cases, cond_both, both_ways, cases_Bool}
 use Rattle.std.proofs.lemmas.List.{reverse-append, drop-drop}
 use Rattle.std.proofs.lemmas.List.Concat.{flat_map-cons}
-use Rattle.std.proofs.lemmas.List.Sorted.{list_any-IsPermutation}
 use Rattle.std.proofs.lemmas.List.Sums.{sum_by-cons}
 use Rattle.std.proofs.lemmas.List.Filters.{sum_by-filter_both}
 
@@ -75,11 +74,6 @@ AllByRecursion-filter_all p P xs h = AllByRecursion-filter p P xs (AllByRecursio
 pub AllByRecursion-flat_map : {X Y : Type 0} (f : X → List Y) (P : Y → Type 0) (xs : List X) → AllByRecursion (λ x. AllByRecursion P (f x)) xs → AllByRecursion P (flat_map f xs)
 AllByRecursion-flat_map f P [] h = tt
 AllByRecursion-flat_map f P (x ∷ xs) h = subst (λ (ys : List _). AllByRecursion P ys) (sym (flat_map-cons f x xs)) (AllByRecursion-append P (f x) (flat_map f xs) h.0 (AllByRecursion-flat_map f P xs h.1))
-
--- of the last element, as a function f finds it from the first and the rest
-pub AllByRecursion_last : {X : Type 0} (P : X → Type 0) (f : X → List X → X) → ((x : X) → f x [] ≡ x) → ((x y : X) (xs : List X) → f x (y ∷ xs) ≡ f y xs) → (x : X) (xs : List X) → P x → AllByRecursion P xs → P (f x xs)
-AllByRecursion_last P f e g x [] h k = subst P (sym (e x)) h
-AllByRecursion_last P f e g x (y ∷ xs) h k = subst P (sym (g x y xs)) (AllByRecursion_last P f e g y xs k.0 k.1)
 
 -- of a list's first elements
 pub AllByRecursion-take : {X : Type 0} (P : X → Type 0) (n : ℕ) (xs : List X) → AllByRecursion P xs → AllByRecursion P (take n xs)
@@ -245,19 +239,6 @@ list_all-filter_itself p xs = list_all-from_Has p (filter p xs) (λ x i. (Has-fi
 
 pub list_all-filter : {X : Type 0} (p q : X → Bool) (xs : List X) → list_all p xs ≡ true → list_all p (filter q xs) ≡ true
 list_all-filter p q xs h = list_all-from_AllByRecursion p (filter q xs) (AllByRecursion-filter_all q (λ x. p x ≡ true) xs (AllByRecursion-from_list_all p xs h))
-
--- all pass where none fails
-pub list_all-not : {X : Type 0} (p : X → Bool) (xs : List X) → list_all p xs ≡ not (list_any (λ x. not (p x)) xs)
-list_all-not p [] = refl
-list_all-not p (x ∷ xs) = ap (λ b. p x && b) (list_all-not p xs) ∙ by (p x) (list_any (λ x. not (p x)) xs)
-  where
-    by : (a b : Bool) → (a && not b) ≡ not (not a || b)
-    by true b = refl
-    by false b = refl
-
--- in any order
-pub list_all-IsPermutation : {X : Type 0} (p : X → Bool) (xs ys : List X) → IsPermutation xs ys → list_all p ys ≡ list_all p xs
-list_all-IsPermutation p xs ys m = list_all-not p ys ∙ ap not (sym (list_any-IsPermutation (λ x. not (p x)) xs ys m)) ∙ sym (list_all-not p xs)
 
 -- ---- a test of some
 

@@ -1,6 +1,6 @@
 -- Marks on vertical segments on a border.
 use Rattle.std.proofs.Common.{◌≡◌, refl, sym, ap, ap₂, subst, ◌∙◌, inl, inr, ℕ, zero, suc, ◌+◌, ◌-◌, ◌<◌, ◌≤◌, arith, append_assoc, append-nil, Bool, true, false, ◌&&◌, not, if◌then◌else◌, IsTrue, List, [], ◌∷◌, ◌++◌, drop, get_or, is_lt, length, map, filter}
-use Rattle.std.specs.Prelude.{ℤ, pos, ◌-ℤ◌, ◌*ℤ◌, ◌≤ℤ◌, ◌<ℤ◌, flat_map, sum_by, int_lt, int_le, IsPermutation, IsSortedByKey}
+use Rattle.std.specs.Prelude.{ℤ, ◌-ℤ◌, ◌≤ℤ◌, ◌<ℤ◌, flat_map, sum_by, int_lt, int_le, IsPermutation, IsSortedByKey}
 use Rattle.std.specs.List.{AllByRecursion, AllWithin, range_with_len}
 use Rattle.std.specs.List.Sorted.{IsPartitionedBy}
 use Rattle.std.specs.Ordering.{int_cmp}
@@ -10,13 +10,11 @@ use Rattle.std.specs.Cmp.{both_ways as same_tests}
 use Rattle.std.proofs.lemmas.Int.{ints, clamps, by_lt_z}
 use Rattle.std.proofs.lemmas.Bool.{and_parts, and_from}
 use Rattle.std.proofs.lemmas.List.{length-append, length-map}
-use Rattle.std.proofs.lemmas.List.Elements.{All-contains, All-contains_itself, All-from_recursion, recursion_from_All}
 use Rattle.std.proofs.lemmas.List.Sorted.{IsPermutation-sym, length_permutation}
 use Rattle.std.proofs.lemmas.List.Sums.{sum_by-cons, sum_by-append, count_by-le-length, length-filter}
 use Rattle.std.proofs.lemmas.Grind.{flat_map-append}
-use Rattle.std.specs.Prelude.{Contains}
-use Rattle.overlay_geometry.proofs.laws.lists.Lists.{Has, Has-append_left, Has-append_right, Has-map, Has-map_out, Has-filter, Has-filter_out, Has-flat_map, AllByRecursion-at, AllByRecursion-from_Has}
-use Rattle.overlay_geometry.proofs.laws.lists.Elements.{Has-append_out, Has-flat_map_out}
+use Rattle.overlay_geometry.proofs.laws.lists.Lists.{Has, Has-append_left, Has-append_right, Has-map, Has-map_out, Has-filter, Has-filter_out, Has-flat_map, AllByRecursion-at}
+use Rattle.overlay_geometry.proofs.laws.lists.Elements.{Has-append_out, Has-flat_map_out, Contains-from_Has, Has-from_Contains}
 use Rattle.overlay_geometry.specs.Points.{Point, Pair, is_vertical, is_ordered, is_strictly_inside, lies_on, is_in_box, is_end}
 use Rattle.overlay_intersections.specs.MarkOf.{Mark}
 use Rattle.overlay_intersections.specs.MarksBetween.{marks_at}
@@ -27,6 +25,9 @@ use Rattle.overlay_grid.proofs.laws.grid.GridFound.{ends_out, same_has}
 use Rattle.overlay_intersections.proofs.laws.marks.MarkBoxes.{inside}
 use Rattle.overlay_grid.proofs.laws.grid.GridFragments.{RunsUp}
 use Rattle.overlay_grid.proofs.laws.grid.GridFinder.{turn_upright, upright_inside}
+use Rattle.overlay_geometry.proofs.laws.integers.Tests.{le-test, eq-test, lt-tested, eq-tested, le_through}
+use Rattle.overlay_geometry.proofs.laws.integers.Products.{times_nothing}
+use Rattle.std.proofs.Math.Nat.{add-zero}
 
 -- ---- a point strictly inside a vertical segment
 
@@ -49,17 +50,11 @@ strict_low a b x x' h n e = by_lt_z a b (λ less. grind (arith, ints)) (λ more.
 strict_high : (a b x x' : ℤ) → a ≤ℤ b → (x ≡ x' → a ≡ b → ⊥) → x ≡ x' → IsTrue (int_lt a b)
 strict_high a b x x' h n e = by_lt_z a b (λ less. grind (arith, ints)) (λ more. absurd (n e (omega (arith, ints))))
 
-eq_test : (a b : ℤ) → a ≡ b → IsTrue (int_eq a b)
-eq_test a b e = grind (arith, ints)
-
 between_from : (s : Pair) (p : Point) → RunsUp s → IsTrue (is_strictly_inside s p) → IsTrue (is_between_ends s p)
 between_from s p u h =
     let i = inside s p h in
     let (x, low, high) = upright_inside s p u i in
-    and_from _ _ (eq_test _ _ x) (and_from _ _ (strict_low s.a.y p.y p.x s.a.x low i.not_a x) (strict_high p.y s.b.y p.x s.b.x high i.not_b (x ∙ u.upright)))
-
-zero_product : (u v : ℤ) → v ≡ pos 0 → u *ℤ v ≡ pos 0
-zero_product u v e = rw e (omega (arith, ints))
+    and_from _ _ (eq-test _ _ x) (and_from _ _ (strict_low s.a.y p.y p.x s.a.x low i.not_a x) (strict_high p.y s.b.y p.x s.b.x high i.not_b (x ∙ u.upright)))
 
 not_ends : (s : Pair) (p : Point) → s.a.y <ℤ p.y → p.y <ℤ s.b.y → IsTrue (not (is_end s p))
 not_ends s p h k = grind (arith, ints)
@@ -67,28 +62,19 @@ not_ends s p h k = grind (arith, ints)
 in_its_box : (s : Pair) (p : Point) → s.a.x ≡ s.b.x → p.x ≡ s.a.x → s.a.y <ℤ p.y → p.y <ℤ s.b.y → IsTrue (is_in_box s p)
 unfolding is_in_box
 in_its_box s p e x h k = and_from _ _
-    (and_from _ _ (le_test (int_min s.a.x s.b.x) p.x (omega (arith, ints, clamps))) (le_test p.x (int_max s.a.x s.b.x) (omega (arith, ints, clamps))))
-    (and_from _ _ (le_test (int_min s.a.y s.b.y) p.y (omega (arith, ints, clamps))) (le_test p.y (int_max s.a.y s.b.y) (omega (arith, ints, clamps))))
-  where
-    le_test : (a b : ℤ) → a ≤ℤ b → IsTrue (int_le a b)
-    le_test a b l = grind (arith, ints)
+    (and_from _ _ (le-test (int_min s.a.x s.b.x) p.x (omega (arith, ints, clamps))) (le-test p.x (int_max s.a.x s.b.x) (omega (arith, ints, clamps))))
+    (and_from _ _ (le-test (int_min s.a.y s.b.y) p.y (omega (arith, ints, clamps))) (le-test p.y (int_max s.a.y s.b.y) (omega (arith, ints, clamps))))
 
 inside_from : (s : Pair) (p : Point) → RunsUp s → IsTrue (is_between_ends s p) → IsTrue (is_strictly_inside s p)
 unfolding is_strictly_inside lies_on
 inside_from s p u h =
     let parts = and_parts (int_eq p.x s.a.x) (int_lt s.a.y p.y && int_lt p.y s.b.y) h in
     let ys = and_parts (int_lt s.a.y p.y) (int_lt p.y s.b.y) parts.1 in
-    let x : p.x ≡ s.a.x = eq_from p.x s.a.x parts.0 in
-    let low = lt_from s.a.y p.y ys.0 in
-    let high = lt_from p.y s.b.y ys.1 in
-    let z = turn_upright s p u ∙ zero_product (s.b.y -ℤ s.a.y) (s.a.x -ℤ p.x) (omega (arith, ints)) in
-    and_from _ _ (and_from _ _ (eq_test _ _ z) (in_its_box s p u.upright x low high)) (not_ends s p low high)
-  where
-    eq_from : (a b : ℤ) → IsTrue (int_eq a b) → a ≡ b
-    eq_from a b e = grind (arith, ints)
-
-    lt_from : (a b : ℤ) → IsTrue (int_lt a b) → a <ℤ b
-    lt_from a b e = grind (arith, ints)
+    let x : p.x ≡ s.a.x = eq-tested p.x s.a.x parts.0 in
+    let low = lt-tested s.a.y p.y ys.0 in
+    let high = lt-tested p.y s.b.y ys.1 in
+    let z = turn_upright s p u ∙ times_nothing (s.b.y -ℤ s.a.y) (s.a.x -ℤ p.x) (omega (arith, ints)) in
+    and_from _ _ (and_from _ _ (eq-test _ _ z) (in_its_box s p u.upright x low high)) (not_ends s p low high)
 
 pub inside_is : (s : Pair) (p : Point) → IsTrue (is_vertical s) → IsTrue (is_ordered s) → is_between_ends s p ≡ is_strictly_inside s p
 inside_is s p v o = let u = runs_up s v o in same_tests (is_between_ends s p) (is_strictly_inside s p) (λ h. inside_from s p u h) (λ h. between_from s p u h)
@@ -100,16 +86,7 @@ mapped-next v [] j x lt e = absurd (omega arith)
 mapped-next v (y ∷ xs) zero x lt e = ap (λ (u : _). v u ∷ map v xs) (sym e)
 mapped-next v (y ∷ xs) (suc j) x lt e = mapped-next v xs j x (omega arith) e ∙ ap (λ (n : ℕ). v x ∷ drop n (map v (y ∷ xs))) (let m : suc (j + 1) ≡ suc j + 1 = omega arith in m)
 
-pub mapped-none : {X Y : Type 0} (v : X → Y) (xs : List X) (j : ℕ) → length xs ≤ j → drop j (map v xs) ≡ []
-mapped-none v [] zero h = refl
-mapped-none v [] (suc j) h = refl
-mapped-none v (x ∷ xs) zero h = absurd (omega arith)
-mapped-none v (x ∷ xs) (suc j) h = mapped-none v xs j (omega arith)
-
 -- ---- heights in order
-
-le_each : (a b c : ℤ) → a ≤ℤ b → b ≤ℤ c → a ≤ℤ c
-le_each a b c h k = omega (arith, ints)
 
 not_less : (a b : ℤ) → is_lt (int_cmp b a) ≡ false → a ≤ℤ b
 not_less a b e = grind (arith, ints)
@@ -119,7 +96,7 @@ module _ {I : Type 0} (whole : I → ℤ) (hs : List I) (sorted : IsSortedByKey 
   ascends_by zero i d lt = subst (λ (k : ℕ). whole (get_or hs i d) ≤ℤ whole (get_or hs k d)) (let e : i ≡ i + 0 = omega arith in e) (omega (arith, ints))
   ascends_by (suc n) i d lt =
       let step = not_less _ _ (sorted (i + n) d (omega arith) (omega arith)) in
-      subst (λ (k : ℕ). whole (get_or hs i d) ≤ℤ whole (get_or hs k d)) (let e : i + n + 1 ≡ i + suc n = omega arith in e) (le_each _ _ _ (ascends_by n i d (omega arith)) step)
+      subst (λ (k : ℕ). whole (get_or hs i d) ≤ℤ whole (get_or hs k d)) (let e : i + n + 1 ≡ i + suc n = omega arith in e) (le_through _ _ _ (ascends_by n i d (omega arith)) step)
 
   ascends_at : (i j : ℕ) (d : I) → i ≤ j → j < length hs → whole (get_or hs i d) ≤ℤ whole (get_or hs j d)
   ascends_at i j d le lt = subst (λ (k : ℕ). whole (get_or hs i d) ≤ℤ whole (get_or hs k d)) (let e : i + (j - i) ≡ j = omega arith in e) (ascends_by (j - i) i d (omega arith))
@@ -135,18 +112,6 @@ module _ {I : Type 0} (whole : I → ℤ) (hs : List I) (sorted : IsSortedByKey 
     where
       low_enough : (u v : ℤ) → u ≤ℤ v → int_lt v top ≡ true → int_lt u top ≡ true
       low_enough u v h e = grind (arith, ints)
-
-pub up_to : (u v : ℤ) → int_le u v ≡ true → u ≤ℤ v
-up_to u v e = grind (arith, ints)
-
-pub past : (u v : ℤ) → int_le u v ≡ false → v <ℤ u
-past u v e = grind (arith, ints)
-
-pub below : (u v : ℤ) → int_lt u v ≡ true → u <ℤ v
-below u v e = grind (arith, ints)
-
-pub not_below : (u v : ℤ) → int_lt u v ≡ false → v ≤ℤ u
-not_below u v e = grind (arith, ints)
 
 -- ---- the walk over the heights on one vertical segment
 
@@ -223,9 +188,6 @@ pub record IsBorderSeen (x : ℤ) (ys : List ℤ) (group : List KeptFragment) (o
   pub found : now ++ marks_of_heights x ys rest ≡ old ++ marks_of_heights x ys group
   pub count : looks + length (marks_of_heights x ys rest) ≤ first + length (marks_of_heights x ys group)
 
-pub border-start : (x : ℤ) (ys : List ℤ) (group : List KeptFragment) (old : List Mark) (first : ℕ) → IsBorderSeen x ys group old old first first group
-border-start x ys group old first = record { found = refl; count = omega arith }
-
 marks_first : (x : ℤ) (ys : List ℤ) (f : KeptFragment) (rest : List KeptFragment) (b : Bool) → stands_at x f ≡ b → marks_of_heights x ys (f ∷ rest) ≡ (if b then marks_at_heights f ys else []) ++ marks_of_heights x ys rest
 unfolding marks_of_heights
 marks_first x ys f rest b e = ap (λ (c : Bool). (if c then marks_at_heights f ys else []) ++ marks_of_heights x ys rest) e
@@ -264,9 +226,6 @@ unfolding heights_at
 heights_first x e rest true h = ap (λ (c : Bool). map (λ (u : KeptFragment). u.pair.b.y) (if c then e ∷ filter (λ u. int_eq u.pair.b.x x) rest else filter (λ u. int_eq u.pair.b.x x) rest)) h
 heights_first x e rest false h = ap (λ (c : Bool). map (λ (u : KeptFragment). u.pair.b.y) (if c then e ∷ filter (λ u. int_eq u.pair.b.x x) rest else filter (λ u. int_eq u.pair.b.x x) rest)) h
 
-pub ends-start : (x : ℤ) (group : List KeptFragment) (old : List ℤ) → old ++ heights_at x group ≡ old ++ heights_at x group
-ends-start x group old = refl
-
 pub ends-taken : (x : ℤ) (e : KeptFragment) (rest : List KeptFragment) (now next all : List ℤ) → now ++ heights_at x (e ∷ rest) ≡ all → int_eq e.pair.b.x x ≡ true → next ≡ now ++ e.pair.b.y ∷ [] → next ++ heights_at x rest ≡ all
 ends-taken x e rest now next all w h n =
     ap (λ (ys : List ℤ). ys ++ heights_at x rest) n ∙ append_assoc now (e.pair.b.y ∷ []) (heights_at x rest) ∙ ap (λ (ys : List ℤ). now ++ ys) (sym (heights_first x e rest true h)) ∙ w
@@ -289,10 +248,7 @@ unfolding heights_at
 height_out x left y h =
     let r = Has-map_out (λ (u : KeptFragment). u.pair.b.y) (filter (λ u. int_eq u.pair.b.x x) left) y h in
     let k = Has-filter_out (λ u. int_eq u.pair.b.x x) left r.0 r.1 in
-    (r.0, k.0, eq_from r.0.pair.b.x x k.1, r.2)
-  where
-    eq_from : (a b : ℤ) → int_eq a b ≡ true → a ≡ b
-    eq_from a b e = grind (arith, ints)
+    (r.0, k.0, eq-tested r.0.pair.b.x x k.1, r.2)
 
 mark_in : (f : KeptFragment) (ys : List ℤ) (y : ℤ) → Has ys y → lies_between f y ≡ true → Has (marks_at_heights f ys) (height_mark f y)
 unfolding marks_at_heights
@@ -311,14 +267,8 @@ end_in f e left h i =
     Has-flat_map (λ u. if is_strictly_inside f.pair u.pair.b then marks_at f.index (u.pair.b ∷ []) else []) left e _ h
     (subst (λ (b : Bool). Has (if b then marks_at f.index (e.pair.b ∷ []) else []) (record { index = f.index; point = e.pair.b })) (sym i) (inl refl))
 
-same_x : (a b c : ℤ) → int_eq a b ≡ true → int_eq c b ≡ true → a ≡ c
-same_x a b c h k = grind (arith, ints)
-
 eq_through : (a b c : ℤ) → int_eq a b ≡ true → int_eq b c ≡ true → int_eq a c ≡ true
 eq_through a b c h k = grind (arith, ints)
-
-equal_of : (a b : ℤ) → int_eq a b ≡ true → a ≡ b
-equal_of a b h = grind (arith, ints)
 
 on_its_x : (a b x : ℤ) → a ≡ x → int_eq b x ≡ true → int_eq a b ≡ true
 on_its_x a b x h k = grind (arith, ints)
@@ -330,7 +280,7 @@ ends_to_heights x f left ys o s p m h =
     let r = ends_out f left m h in
     let b = and_parts (int_eq r.0.pair.b.x f.pair.a.x) (int_lt f.pair.a.y r.0.pair.b.y && int_lt r.0.pair.b.y f.pair.b.y) (inside_is f.pair r.0.pair.b v o ∙ r.2) in
     let there = same_has (heights_at x left) ys p r.0.pair.b.y (height_in x left r.0 r.1 (eq_through r.0.pair.b.x f.pair.a.x x b.0 at)) in
-    let made : height_mark f r.0.pair.b.y ≡ m = ap (λ (z : ℤ). let n : Mark = record { index = f.index; point = record { x = z; y = r.0.pair.b.y } } in n) (sym (equal_of r.0.pair.b.x f.pair.a.x b.0)) ∙ r.3 in
+    let made : height_mark f r.0.pair.b.y ≡ m = ap (λ (z : ℤ). let n : Mark = record { index = f.index; point = record { x = z; y = r.0.pair.b.y } } in n) (sym (eq-tested r.0.pair.b.x f.pair.a.x b.0)) ∙ r.3 in
     subst (λ (n : Mark). Has (marks_at_heights f ys) n) made (mark_in f ys r.0.pair.b.y there b.1)
 
 heights_to_ends : (x : ℤ) (f : KeptFragment) (left : List KeptFragment) (ys : List ℤ) → IsTrue (is_ordered f.pair) → stands_at x f ≡ true → IsPermutation (heights_at x left) ys → (m : Mark) → Has (marks_at_heights f ys) m → Has (marks_of_ends f left) m
@@ -341,7 +291,7 @@ heights_to_ends x f left ys o s p m h =
     let on = on_its_x e.0.pair.b.x f.pair.a.x x e.2 at in
     let between = subst (λ (y : ℤ). lies_between f y ≡ true) (sym e.3) r.2 in
     let inside' = sym (inside_is f.pair e.0.pair.b v o) ∙ and_from _ _ on between in
-    let made = ap₂ (λ (z y : ℤ). let n : Mark = record { index = f.index; point = record { x = z; y = y } } in n) (equal_of e.0.pair.b.x f.pair.a.x on) e.3 ∙ r.3 in
+    let made = ap₂ (λ (z y : ℤ). let n : Mark = record { index = f.index; point = record { x = z; y = y } } in n) (eq-tested e.0.pair.b.x f.pair.a.x on) e.3 ∙ r.3 in
     subst (λ (n : Mark). Has (marks_of_ends f left) n) made (end_in f e.0 left e.1 inside')
 
 which : (b : Bool) (ms : List Mark) (m : Mark) → Has (if b then ms else []) m → (b ≡ true) × Has ms m
@@ -401,20 +351,14 @@ few_on_border x left (f ∷ group) ys p =
 
 -- ---- the walk over all borders
 
-contained : {X : Type 0} (xs : List X) (x : X) → Has xs x → Contains xs x
-contained xs x h = AllByRecursion-at (Contains xs) xs x (recursion_from_All (Contains xs) xs (All-contains_itself xs)) h
-
-has_of : {X : Type 0} (xs : List X) (x : X) → Contains xs x → Has xs x
-has_of xs x h = All-contains (Has xs) xs x (All-from_recursion (Has xs) xs (AllByRecursion-from_Has (Has xs) xs (λ y i. i))) h
-
 pub has_same : (ms ns : List Mark) → HoldSame ms ns → (m : Mark) → Has ms m → Has ns m
-has_same ms ns s m h = has_of ns m ((s m).0 (contained ms m h))
+has_same ms ns s m h = Has-from_Contains ns m ((s m).0 (Contains-from_Has ms m h))
 
 pub has_back : (ms ns : List Mark) → HoldSame ms ns → (m : Mark) → Has ns m → Has ms m
-has_back ms ns s m h = has_of ms m ((s m).1 (contained ns m h))
+has_back ms ns s m h = Has-from_Contains ms m ((s m).1 (Contains-from_Has ns m h))
 
 hold_same : (ms ns : List Mark) → ((m : Mark) → Has ms m → Has ns m) → ((m : Mark) → Has ns m → Has ms m) → HoldSame ms ns
-hold_same ms ns f g = λ m. (λ h. contained ns m (f m (has_of ms m h)), λ h. contained ms m (g m (has_of ns m h)))
+hold_same ms ns f g = λ m. (λ h. Contains-from_Has ns m (f m (Has-from_Contains ms m h)), λ h. Contains-from_Has ms m (g m (Has-from_Contains ns m h)))
 
 pub record AreBordersSeen (marks : ℕ → List Mark) (looks : ℕ → ℕ) (old now : List Mark) (first count : ℕ) (n : ℕ) : Type 0 where
   pub found : HoldSame (old ++ flat_map marks (range_with_len 0 n)) now
@@ -436,7 +380,7 @@ pub borders-more : (marks : ℕ → List Mark) (looks : ℕ → ℕ) (old now ne
 borders-more marks looks old now next made first count count' n w f g e c =
     let before = old ++ flat_map marks (range_with_len 0 n) in
     let sums : sum_by looks (range_with_len 0 (n + 1)) ≡ sum_by looks (range_with_len 0 n) + looks n =
-    ap (sum_by looks) (range-next n) ∙ sum_by-append looks (range_with_len 0 n) (n ∷ []) ∙ ap (λ (k : ℕ). sum_by looks (range_with_len 0 n) + k) (sum_by-cons looks n [] ∙ plus_nothing (looks n)) in
+    ap (sum_by looks) (range-next n) ∙ sum_by-append looks (range_with_len 0 n) (n ∷ []) ∙ ap (λ (k : ℕ). sum_by looks (range_with_len 0 n) + k) (sum_by-cons looks n [] ∙ add-zero (looks n)) in
     let there : (m : Mark) → Has (before ++ marks n) m → Has (now ++ made) m = λ m h. elim (Has-append_out before (marks n) m h) [
       | inl a ↦ Has-append_left now made m (has_same before now w.found m a)
       | inr b ↦ Has-append_right now made m (f m b)
@@ -449,9 +393,6 @@ borders-more marks looks old now next made first count count' n w f g e c =
       found = subst (λ (ms : List Mark). HoldSame ms next) (sym (ended marks old n)) (subst (λ (ms : List Mark). HoldSame (before ++ marks n) ms) (sym e) (hold_same (before ++ marks n) (now ++ made) there back));
       counted = (let k = w.counted in omega arith);
     }
-  where
-    plus_nothing : (k : ℕ) → k + 0 ≡ k
-    plus_nothing k = omega arith
 
 pub borders-end : (marks : ℕ → List Mark) (looks : ℕ → ℕ) (old now : List Mark) (first count : ℕ) (n m : ℕ) → AreBordersSeen marks looks old now first count n → n ≡ m → AreBordersSeen marks looks old now first count m
 borders-end marks looks old now first count n m w e = subst (λ (k : ℕ). AreBordersSeen marks looks old now first count k) e w

@@ -9,7 +9,6 @@ use Rattle.std.proofs.lemmas.Bool.{and_parts}
 use Rattle.overlay_geometry.proofs.laws.lists.Elements.{AllByRecursion-drop}
 use Rattle.overlay_geometry.proofs.laws.geometry.Coordinates.{ends_in_range}
 use Rattle.overlay_geometry.specs.InRange.{IsPairInRange}
-use Rattle.overlay_base.proofs.laws.geometry.Apart.{int_lt-to}
 use Rattle.overlay_intersections.proofs.laws.marks.ApartPairs.{ends_differ}
 use Rattle.overlay_geometry.specs.Ranges.{do_rects_meet}
 use Rattle.overlay_intersections.specs.Marks.{Placing, cross_inexactly}
@@ -22,6 +21,7 @@ use Rattle.overlay_grid.specs.declared.split.axis.Axis.TheVariants.{X, Y}
 use Rattle.overlay_grid.specs.declared.split.fragment.Fragment.{Fragment as CodeFragment}
 use Rattle.overlay_grid.specs.steps.FragmentFinder.{marks_of_two, marks_with_first, marks_of_group, meet_inexactly, is_first_rounded, is_group_rounded, looks_of_first, is_reached, is_ready}
 use Rattle.overlay_intersections.proofs.laws.marks.FoundMarks.{or_assoc, or_false}
+use Rattle.overlay_geometry.proofs.laws.integers.Tests.{lt-tested}
 
 -- ---- two fragments
 
@@ -183,7 +183,7 @@ pub scanned_past : (placing : Placing) (axis : Axis) (group fs : List KeptFragme
     (now ≡ old ++ marks_with_first placing fs) × (rounded ≡ is_first_rounded fs) × (looks ≤ first + looks_of_first axis fs)
 scanned_past placing axis group fs f g rest old now rounded first looks later left e w sorted here past =
     let here_sorted = subst (IsSortedAlong axis) here (IsSortedAlong-drop axis later group sorted) in
-    let all = past_from axis (greatest_along axis f) g left here_sorted (int_lt-to _ _ past) in
+    let all = past_from axis (greatest_along axis f) g left here_sorted (lt-tested _ _ past) in
     scanned_found placing axis fs f rest old now rounded first looks e (IsScanned-end placing axis f rest old now rounded first looks (drop later group) w (subst (AllByRecursion (λ u. greatest_along axis f <ℤ least_along axis u)) (sym here) all))
 
 pub found_scanned : (placing : Placing) (axis : Axis) (fs : List KeptFragment) (f : KeptFragment) (rest : List KeptFragment) (old now : List Mark) (rounded : Bool) (first looks : ℕ) → fs ≡ f ∷ rest →
@@ -194,12 +194,6 @@ found_scanned placing axis fs f rest old now rounded first looks e a b c =
     let b' = rw e at b in
     let c' = rw e at c in
     record { found = a'; flag = b'; count = omega arith }
-
-pub IsScanned-start : (placing : Placing) (axis : Axis) (f : KeptFragment) (rest : List KeptFragment) (old : List Mark) (first : ℕ) → IsScanned placing axis f rest old old false first first rest
-IsScanned-start placing axis f rest old first = record { found = refl; flag = refl; count = omega arith }
-
-pub IsSearched-start : (placing : Placing) (axis : Axis) (group : List KeptFragment) (old : List Mark) (first : ℕ) → IsSearched placing axis group old old false first first group
-IsSearched-start placing axis group old first = record { found = refl; flag = refl; count = omega arith }
 
 -- ---- what the conditions on a group tell of its fragments
 

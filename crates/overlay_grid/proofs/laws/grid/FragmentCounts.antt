@@ -7,6 +7,7 @@ use Rattle.overlay_geometry.specs.Points.{Pair, is_vertical}
 use Rattle.overlay_grid.specs.Grid.{Layout, Fragment, column_index, fragment_in, rect_between, fragments}
 use Rattle.overlay_grid.specs.GridLooks.{all_fragments, fragment_looks, grid_looks}
 use Rattle.overlay_grid.proofs.laws.grid.GridAdding.{fragments_of_vertical}
+use Rattle.std.proofs.Math.Nat.{zero-add}
 
 -- one where the segment is vertical
 pub length-vertical : (l : Layout) (s : Pair) → IsTrue (is_vertical s) → 1 ≡ length (fragments l s)
@@ -36,10 +37,7 @@ pub record IsCounting (l : Layout) (ps : List Pair) (count index : ℕ) : Type 0
   pub fits : count ≤ 2 ^ 128 - 1
 
 pub IsCounting-start : (l : Layout) (ps : List Pair) → IsCounting l ps 0 0
-IsCounting-start l ps = record { total = ap (λ (n : ℕ). min n (2 ^ 128 - 1)) (none_yet (length (all_fragments l ps))); fits = omega arith }
-  where
-    none_yet : (n : ℕ) → 0 + n ≡ n
-    none_yet n = omega arith
+IsCounting-start l ps = record { total = ap (λ (n : ℕ). min n (2 ^ 128 - 1)) (zero-add (length (all_fragments l ps))); fits = omega arith }
 
 all_first : (l : Layout) (s : Pair) (ps : List Pair) → length (all_fragments l (s ∷ ps)) ≡ length (fragments l s) + length (all_fragments l ps)
 unfolding all_fragments

@@ -10,9 +10,11 @@ use Rattle.overlay_geometry.specs.Points.{Point, Pair, is_vertical}
 use Rattle.overlay_geometry.specs.Ranges.{Rect}
 use Rattle.overlay_grid.specs.Grid.{Layout, Fragment, column_index, pos_of, group_count, rect_between, toward, least_rise, greatest_rise, fragment_in, fragments}
 use Rattle.overlay_grid.specs.FragmentOf.{KeptFragment, kept, in_column, kept_in}
-use Rattle.overlay_grid.proofs.laws.grid.GridColumns.{pos_of-column_index, pos_of-column_index_next, pos_of-monotone, column_index-monotone, abs_nonneg, less_to, less_weak, le_through, less_then, one_less}
-use Rattle.overlay_grid.proofs.laws.grid.GridFragments.{RunsRight, RunsRight-not_vertical, left_in, right_in, fragments_flat, column_count, column_count-end, toward_up, toward_down, abs_neg}
+use Rattle.overlay_grid.proofs.laws.grid.GridColumns.{pos_of-column_index, pos_of-column_index_next, pos_of-monotone, column_index-monotone, less_to}
+use Rattle.overlay_grid.proofs.laws.grid.GridFragments.{RunsRight, RunsRight-not_vertical, left_in, right_in, fragments_flat, column_count, column_count-end, toward_up, toward_down, abs_neg, max_right, min_left, fragment_in-column}
 use Rattle.overlay_grid.proofs.laws.grid.GridBounds.{least_rise-at_a, greatest_rise-at_b}
+use Rattle.overlay_geometry.proofs.laws.integers.Tests.{le_weak, le_through, lt_through, lt_before}
+use Rattle.overlay_geometry.proofs.laws.integers.Products.{abs_nonneg}
 
 -- a fragment, as it is added to the group of its column
 abbrev pub added_to : ℕ → ℕ → Pair → Rect → ℕ → List KeptFragment
@@ -22,7 +24,7 @@ added_to column index s rect other = if column == other then (let part : KeptFra
 abbrev pub parts : Layout → Pair → ℕ → List Fragment
 parts l s n = map (λ i. fragment_in l s i) (range_with_len (column_index l s.a.x) n)
 
-range-more : (a n : ℕ) → range_with_len a (n + 1) ≡ range_with_len a n ++ (a + n) ∷ []
+pub range-more : (a n : ℕ) → range_with_len a (n + 1) ≡ range_with_len a n ++ (a + n) ∷ []
 range-more a zero = ap (λ (k : ℕ). k ∷ []) (omega arith)
 range-more a (suc n) = ap (range_with_len a) (let e : suc n + 1 ≡ suc (n + 1) = omega arith in e) ∙ ap (λ (ks : List ℕ). a ∷ ks) (range-more (a + 1) n ∙ ap (λ (k : ℕ). range_with_len (a + 1) n ++ k ∷ []) (omega arith))
 
@@ -61,14 +63,8 @@ pub record IsAdding (l : Layout) (index : ℕ) (s : Pair) (old now : ℕ → Lis
 max_is_left : (u v : ℤ) → v ≤ℤ u → u ≡ int_max u v
 max_is_left u v h = omega (arith, ints, clamps)
 
-max_is_right : (u v : ℤ) → u ≤ℤ v → int_max u v ≡ v
-max_is_right u v h = omega (arith, ints, clamps)
-
 min_is_right : (u v : ℤ) → v ≤ℤ u → int_min u v ≡ v
 min_is_right u v h = omega (arith, ints, clamps)
-
-min_is_left : (u v : ℤ) → u ≤ℤ v → int_min u v ≡ u
-min_is_left u v h = omega (arith, ints, clamps)
 
 toward_none : (s : Pair) → toward s 0 ≡ s.a.y
 toward_none s = by_lt_z s.b.y s.a.y
@@ -98,10 +94,6 @@ fragment_in-rect : (l : Layout) (s : Pair) (k : ℕ) (corner : Point) (x y : ℤ
 unfolding fragment_in
 fragment_in-rect l s k corner x y a b c d = rw (a, b, c, d) refl
 
-column_is : (l : Layout) (s : Pair) (k : ℕ) → (fragment_in l s k).column ≡ k
-unfolding fragment_in
-column_is l s k = refl
-
 next_count : (a k : ℕ) → a ≤ k → k + 1 - a ≡ (k - a) + 1
 next_count a k h = omega arith
 
@@ -115,7 +107,7 @@ groups_more l index s old now next corner k rect w e n other =
     let first : ℕ = column_index l s.a.x in
     let before : List KeptFragment = kept index s (in_column other (parts l s (k - first))) in
     let one : kept index s (in_column other (fragment_in l s (first + (k - first)) ∷ [])) ≡ added_to k index s rect other =
-    ap (λ (j : ℕ). kept index s (in_column other (fragment_in l s j ∷ []))) (here_again first k w.from) ∙ one_kept index s (fragment_in l s k) rect k other (column_is l s k) e in
+    ap (λ (j : ℕ). kept index s (in_column other (fragment_in l s j ∷ []))) (here_again first k w.from) ∙ one_kept index s (fragment_in l s k) rect k other (fragment_in-column l s k) e in
     n other ∙ ap (λ (list : List KeptFragment). list ++ added_to k index s rect other) (w.groups other) ∙ append_assoc (old other) before (added_to k index s rect other)
     ∙ ap (λ (list : List KeptFragment). old other ++ list)
     (ap (λ (list : List KeptFragment). before ++ list) (sym one) ∙ sym (kept_parts-more l s index (k - first) other)
@@ -130,7 +122,7 @@ IsAdding-more l index s old now next corner corner' k far rect r h w lt x y f e 
     let past_a = pos_of-column_index_next l s.a.x h in
     let up_to_last = pos_of-monotone l (k + 1) (column_index l (s.b.x -ℤ pos 1)) (omega arith) in
     let at_last = pos_of-column_index l (s.b.x -ℤ pos 1) (less_to l.min_x s.a.x s.b.x h r.forward) in
-    let left : pos_of l (k + 1) ≡ left_in l s (k + 1) = sym (max_is_right s.a.x (pos_of l (k + 1)) (less_weak _ _ (less_then _ _ _ past_a after_first))) in
+    let left : pos_of l (k + 1) ≡ left_in l s (k + 1) = sym (max_right s.a.x (pos_of l (k + 1)) (le_weak _ _ (lt_through _ _ _ past_a after_first))) in
     let before_b : pos_of l (k + 1) ≤ℤ s.b.x = (let m = le_through _ _ _ up_to_last at_last in let o : (s.b.x -ℤ pos 1) ≤ℤ s.b.x = omega (arith, ints) in le_through _ _ _ m o) in
     let right : pos_of l (k + 1) ≡ right_in l s k = sym (min_is_right s.b.x (pos_of l (k + 1)) before_b) in
     let box = fragment_in-rect l s k corner corner'.x far w.x w.y (x ∙ right) (f ∙ ap (λ (z : ℤ). toward s (greatest_rise s z)) (x ∙ right)) in
@@ -150,7 +142,7 @@ pub IsAdding-end : (l : Layout) (index : ℕ) (s : Pair) (old now next : ℕ →
 IsAdding-end l index s old now next corner k rect r h w last e n other =
     let past_b = pos_of-column_index_next l (s.b.x -ℤ pos 1) (less_to l.min_x s.a.x s.b.x h r.forward) in
     let b_first : s.b.x ≤ℤ pos_of l (k + 1) = subst (λ (j : ℕ). s.b.x ≤ℤ pos_of l (j + 1)) (sym last) (let m : s.b.x ≤ℤ pos_of l (column_index l (s.b.x -ℤ pos 1) + 1) = omega (arith, ints) in m) in
-    let right : s.b.x ≡ right_in l s k = sym (min_is_left s.b.x (pos_of l (k + 1)) b_first) in
+    let right : s.b.x ≡ right_in l s k = sym (min_left s.b.x (pos_of l (k + 1)) b_first) in
     let top : s.b.y ≡ toward s (greatest_rise s s.b.x) = sym (ap (toward s) (greatest_rise-at_b s r) ∙ toward_all s) in
     let box = fragment_in-rect l s k corner s.b.x s.b.y w.x w.y right (top ∙ ap (λ (z : ℤ). toward s (greatest_rise s z)) right) in
     groups_more l index s old now next corner k rect w (box ∙ sym e) n other
@@ -204,7 +196,7 @@ border_between l s k r h from lt =
     let past_a = pos_of-column_index_next l s.a.x h in
     let up_to_last = pos_of-monotone l (k + 1) (column_index l (s.b.x -ℤ pos 1)) (omega arith) in
     let at_last = pos_of-column_index l (s.b.x -ℤ pos 1) (less_to l.min_x s.a.x s.b.x h r.forward) in
-    (less_weak _ _ (less_then _ _ _ past_a after_first), le_through _ _ _ (le_through _ _ _ up_to_last at_last) (let o : (s.b.x -ℤ pos 1) ≤ℤ s.b.x = omega (arith, ints) in o))
+    (le_weak _ _ (lt_through _ _ _ past_a after_first), le_through _ _ _ (le_through _ _ _ up_to_last at_last) (let o : (s.b.x -ℤ pos 1) ≤ℤ s.b.x = omega (arith, ints) in o))
 
 pub on_ok : {X E : Type 0} (r : Result X E) (P Q : Type 0) → (P → Q) → OnOk r P → OnOk r Q
 on_ok (Ok x) P Q f h = f h
@@ -215,7 +207,7 @@ pub as_added : (column k index : ℕ) (s : Pair) (rect : Rect) (f : KeptFragment
 as_added column k index s rect f other e p = ap₂ (λ (j : ℕ) (part : KeptFragment). if j == other then part ∷ [] else []) e p
 
 pub first_to_last : (l : Layout) (s : Pair) → RunsRight s → l.min_x ≤ℤ s.a.x → column_index l s.a.x ≤ column_index l (s.b.x -ℤ pos 1)
-first_to_last l s r h = column_index-monotone l s.a.x (s.b.x -ℤ pos 1) h (one_less _ _ r.forward)
+first_to_last l s r h = column_index-monotone l s.a.x (s.b.x -ℤ pos 1) h (lt_before _ _ r.forward)
 
 pub if_ok : {X E : Type 0} (r : Result X E) (P Q : X → Type 0) → ((x : X) → P x → Q x) → IfOk r P → IfOk r Q
 if_ok (Ok x) P Q f h = f x h

@@ -1,40 +1,22 @@
 -- Columns of the grid: the column of an x, and the borders of a column.
-use Rattle.std.proofs.Common.{◌≡◌, refl, ap, subst, ℕ, zero, suc, ◌+◌, ◌-◌, ◌^◌, ◌<◌, ◌≤◌, ◌∙◌, arith}
-use Rattle.std.specs.Prelude.{ℤ, pos, negsuc, ◌-ℤ◌, ◌≤ℤ◌, ◌<ℤ◌, unsigned_abs}
+use Rattle.std.proofs.Common.{◌≡◌, ap, subst, ℕ, zero, suc, ◌+◌, ◌-◌, ◌^◌, ◌<◌, ◌≤◌, ◌∙◌, arith}
+use Rattle.std.specs.Prelude.{ℤ, pos, ◌-ℤ◌, ◌≤ℤ◌, ◌<ℤ◌, unsigned_abs}
 use Rattle.std.proofs.lemmas.Int.{ints}
 use Rattle.std.proofs.lemmas.Nat.{div_below, le-div, mul-le, pow_pos}
 use Rattle.std.proofs.Math.Nat.{lt-div-mul-add, div-mul-le_self}
 use Rattle.overlay_grid.specs.Grid.{Layout, column_index, pos_of}
+use Rattle.overlay_geometry.proofs.laws.integers.Tests.{lt_before}
+use Rattle.overlay_geometry.proofs.laws.integers.Products.{abs_nonneg}
 
 -- ---- orders of whole numbers
 
-pub le_same : (u : ℤ) → u ≤ℤ u
-le_same u = omega (arith, ints)
-
-pub less_weak : (u v : ℤ) → u <ℤ v → u ≤ℤ v
-less_weak u v h = omega (arith, ints)
-
-pub le_through : (u v w : ℤ) → u ≤ℤ v → v ≤ℤ w → u ≤ℤ w
-le_through u v w h k = omega (arith, ints)
-
-pub less_then : (u v w : ℤ) → u <ℤ v → v ≤ℤ w → u <ℤ w
-less_then u v w h k = omega (arith, ints)
-
 pub then_less : (u v w : ℤ) → u ≤ℤ v → v <ℤ w → u <ℤ w
 then_less u v w h k = omega (arith, ints)
-
--- what is less than v is at most v - 1
-pub one_less : (u v : ℤ) → u <ℤ v → u ≤ℤ (v -ℤ pos 1)
-one_less u v h = omega (arith, ints)
 
 pub less_to : (m u v : ℤ) → m ≤ℤ u → u <ℤ v → m ≤ℤ (v -ℤ pos 1)
 less_to m u v h k = omega (arith, ints)
 
 -- ---- columns
-
-pub abs_nonneg : (z : ℤ) → pos 0 ≤ℤ z → pos (unsigned_abs z) ≡ z
-abs_nonneg (pos n) h = refl
-abs_nonneg (negsuc n) h = absurd (omega (arith, ints))
 
 -- how far x lies to the right of the grid's left end
 pub offset : (l : Layout) (x : ℤ) → l.min_x ≤ℤ x → pos (unsigned_abs (x -ℤ l.min_x)) ≡ x -ℤ l.min_x
@@ -79,15 +61,6 @@ less_by_one v x e = omega (arith, ints)
 nat_between : (n i : ℕ) → i - 1 ≤ n → n < i → 0 < i → n + 1 ≡ i
 nat_between n i h k p = omega arith
 
-nat_pinned : (n i : ℕ) → i ≤ n → n < i + 1 → n ≡ i
-nat_pinned n i h k = omega arith
-
-step_before : (x v : ℤ) → x <ℤ v → (x -ℤ pos 1) <ℤ v
-step_before x v h = omega (arith, ints)
-
-left_end : (l : Layout) (i : ℕ) (x : ℤ) → pos_of l i <ℤ x → l.min_x ≤ℤ (x -ℤ pos 1)
-left_end l i x h = omega (arith, ints)
-
 -- a border right of the grid's left end is not the first one
 first_border : (l : Layout) (i : ℕ) (x : ℤ) → l.min_x <ℤ x → pos_of l i ≡ x → 0 < i
 first_border l zero x h e = absurd (omega (arith, ints))
@@ -104,12 +77,6 @@ column_index-left_of_border l x h e =
     let back : i - 1 + 1 ≡ i = omega arith in
     let border : pos_of l (i - 1 + 1) ≡ x = ap (pos_of l) back ∙ e in
     let step = pos_of-next l (i - 1) in
-    let low : i - 1 ≤ column_index l (x -ℤ pos 1) = column_index-from l (i - 1) (x -ℤ pos 1) (one_less _ _ (subst (λ (z : ℤ). pos_of l (i - 1) <ℤ z) border step)) in
+    let low : i - 1 ≤ column_index l (x -ℤ pos 1) = column_index-from l (i - 1) (x -ℤ pos 1) (lt_before _ _ (subst (λ (z : ℤ). pos_of l (i - 1) <ℤ z) border step)) in
     let high : column_index l (x -ℤ pos 1) < i = column_index-before l i (x -ℤ pos 1) (omega (arith, ints)) (less_by_one _ _ e) in
     nat_between (column_index l (x -ℤ pos 1)) i low high some
-
-pub column_index-left_inside : (l : Layout) (x : ℤ) → l.min_x ≤ℤ x → pos_of l (column_index l x) <ℤ x → column_index l (x -ℤ pos 1) ≡ column_index l x
-column_index-left_inside l x h e =
-    nat_pinned (column_index l (x -ℤ pos 1)) (column_index l x)
-    (column_index-from l (column_index l x) (x -ℤ pos 1) (one_less _ _ e))
-    (column_index-before l (column_index l x + 1) (x -ℤ pos 1) (left_end l (column_index l x) x e) (step_before _ _ (pos_of-column_index_next l x h)))

@@ -1,16 +1,16 @@
 -- Counts of a pass of the grid, column by column.
-use Rattle.std.proofs.Common.{◌≡◌, refl, sym, ap, ap₂, if◌then◌else◌, ℕ, zero, suc, ◌+◌, ◌-◌, ◌<◌, ◌≤◌, ◌==◌, ◌∙◌, ◌⊎◌, inl, inr, arith, Bool, true, false, ◌&&◌, IsTrue, IsFalse, List, [], ◌∷◌, length, ◌++◌, get_or, take}
+use Rattle.std.proofs.Common.{◌≡◌, refl, sym, ap, ap₂, if◌then◌else◌, ℕ, zero, suc, ◌+◌, ◌-◌, ◌<◌, ◌≤◌, ◌==◌, ◌∙◌, ◌⊎◌, inl, inr, arith, Bool, true, false, ◌&&◌, IsTrue, IsFalse, List, [], ◌∷◌, length}
 use Rattle.std.specs.Prelude.{nat_lt, filter, sum_by, count_by}
 use Rattle.std.specs.List.{list_all, range_with_len}
-use Rattle.std.proofs.lemmas.List.Sums.{sum_by-cons, sum_by-append, sum_by-le-sum_by, length-filter}
-use Rattle.std.proofs.lemmas.List.{take_more}
+use Rattle.std.proofs.lemmas.List.Sums.{sum_by-cons, length-filter}
 use Rattle.std.proofs.lemmas.Bool.{false≢true}
-use Rattle.std.proofs.Math.Nat.{eq-zero-or-pos}
+use Rattle.std.proofs.Math.Nat.{eq-zero-or-pos, add-zero, zero-add}
 use Rattle.overlay_geometry.specs.Points.{Pair}
 use Rattle.overlay_grid.specs.Grid.{Layout, Fragment, column_index}
 use Rattle.overlay_intersections.specs.Looked.{count_twos, ranges_meet}
 use Rattle.overlay_grid.specs.GridLooks.{fragments_meet, is_on_border, border_contacts, all_fragments}
 use Rattle.overlay_intersections.proofs.laws.marks.MarkBoxes.{both}
+use Rattle.overlay_geometry.proofs.laws.integers.Tests.{eqb-less, eqb-turned}
 
 -- ---- sums over a range of columns
 
@@ -33,9 +33,6 @@ sum_by-none (x ∷ xs) = sum_by-cons (λ c. 0) x xs ∙ ap (λ (n : ℕ). 0 + n)
 pub equal_test : (k c : ℕ) → k ≡ c → (k == c) ≡ true
 equal_test k c e = grind arith
 
-unequal_test : (k c : ℕ) → k < c → (k == c) ≡ false
-unequal_test k c h = grind arith
-
 unequal_test_above : (k c : ℕ) → c < k → (k == c) ≡ false
 unequal_test_above k c h = grind arith
 
@@ -44,13 +41,7 @@ pick m e = ap (λ (c : Bool). if c then m else 0) e
 
 pub sum_by-before : (k : ℕ) (g : ℕ → ℕ) (a n : ℕ) → k < a → sum_by (λ c. if k == c then g c else 0) (range_with_len a n) ≡ 0
 sum_by-before k g a zero h = refl
-sum_by-before k g a (suc n) h = sum_by-cons (λ c. if k == c then g c else 0) a (range_with_len (a + 1) n) ∙ ap₂ (λ (x y : ℕ). x + y) (pick (g a) (unequal_test k a h)) (sum_by-before k g (a + 1) n (omega arith))
-
-plus_zero : (m : ℕ) → m + 0 ≡ m
-plus_zero m = omega arith
-
-zero_plus : (m : ℕ) → 0 + m ≡ m
-zero_plus m = omega arith
+sum_by-before k g a (suc n) h = sum_by-cons (λ c. if k == c then g c else 0) a (range_with_len (a + 1) n) ∙ ap₂ (λ (x y : ℕ). x + y) (pick (g a) (eqb-less k a h)) (sum_by-before k g (a + 1) n (omega arith))
 
 same_or_later : (a k : ℕ) → a ≤ k → (k ≡ a) ⊎ (a < k)
 same_or_later a k h = elim (eq-zero-or-pos (k - a)) [ inl e ↦ inl (omega arith) | inr more ↦ inr (omega arith) ]
@@ -59,8 +50,8 @@ same_or_later a k h = elim (eq-zero-or-pos (k - a)) [ inl e ↦ inl (omega arith
 pub sum_by-only : (k : ℕ) (g : ℕ → ℕ) (a n : ℕ) → a ≤ k → k < a + n → sum_by (λ c. if k == c then g c else 0) (range_with_len a n) ≡ g k
 sum_by-only k g a zero h l = absurd (omega arith)
 sum_by-only k g a (suc n) h l = sum_by-cons (λ c. if k == c then g c else 0) a (range_with_len (a + 1) n) ∙ elim (same_or_later a k h) [
-  | inl e ↦ ap₂ (λ (x y : ℕ). x + y) (pick (g a) (equal_test k a e)) (sum_by-before k g (a + 1) n (omega arith)) ∙ plus_zero (g a) ∙ ap g (sym e)
-  | inr more ↦ ap₂ (λ (x y : ℕ). x + y) (pick (g a) (unequal_test_above k a more)) (sum_by-only k g (a + 1) n (omega arith) (omega arith)) ∙ zero_plus (g k)
+  | inl e ↦ ap₂ (λ (x y : ℕ). x + y) (pick (g a) (equal_test k a e)) (sum_by-before k g (a + 1) n (omega arith)) ∙ add-zero (g a) ∙ ap g (sym e)
+  | inr more ↦ ap₂ (λ (x y : ℕ). x + y) (pick (g a) (unequal_test_above k a more)) (sum_by-only k g (a + 1) n (omega arith) (omega arith)) ∙ zero-add (g k)
 ]
 
 pub count_by-cons : {X : Type 0} (p : X → Bool) (x : X) (xs : List X) → count_by p (x ∷ xs) ≡ (if p x then 1 else 0) + count_by p xs
@@ -72,53 +63,14 @@ count_by-filter {X} p q (x ∷ xs) = by (q x) (count_by-filter p q xs) ∙ sym (
   where
     by : (b : Bool) → count_by p (filter q xs) ≡ count_by (λ y. q y && p y) xs → count_by p (if b then x ∷ filter q xs else filter q xs) ≡ (if b && p x then 1 else 0) + count_by (λ y. q y && p y) xs
     by true e = count_by-cons p x (filter q xs) ∙ ap (λ (n : ℕ). (if p x then 1 else 0) + n) e
-    by false e = e ∙ sym (zero_plus (count_by (λ y. q y && p y) xs))
+    by false e = e ∙ sym (zero-add (count_by (λ y. q y && p y) xs))
 
 pub count_by-alike : {X : Type 0} (p q : X → Bool) → ((x : X) → p x ≡ q x) → (xs : List X) → count_by p xs ≡ count_by q xs
 count_by-alike p q h [] = refl
 count_by-alike p q h (x ∷ xs) = count_by-cons p x xs ∙ ap₂ (λ (b : Bool) (n : ℕ). (if b then 1 else 0) + n) (h x) (count_by-alike p q h xs) ∙ sym (count_by-cons q x xs)
 
-equal_turned : (k c : ℕ) → (k == c) ≡ (c == k)
-equal_turned k c = grind arith
-
 less_from : (k n : ℕ) → IsTrue (nat_lt k n) → k < 0 + n
 less_from k n h = grind arith
-
--- ---- twos, counted in a loop
-
-count_by-append : {X : Type 0} (p : X → Bool) (xs ys : List X) → count_by p (xs ++ ys) ≡ count_by p xs + count_by p ys
-count_by-append p xs ys = sum_by-append (λ x. if p x then 1 else 0) xs ys
-
-sum_pushed : (a b c d : ℕ) → (a + (b + 0)) + (c + d) ≡ (a + c) + (b + d)
-sum_pushed a b c d = omega arith
-
--- a new last element makes a two with each one before it that passes
-pub count_twos_push : {X : Type 0} (test : X → X → Bool) (xs : List X) (y : X) → count_twos test (xs ++ y ∷ []) ≡ count_twos test xs + count_by (λ x. test x y) xs
-unfolding count_twos
-count_twos_push test [] y = refl
-count_twos_push test (x ∷ xs) y =
-    let one : count_by (λ z. test x z) (xs ++ y ∷ []) ≡ count_by (λ z. test x z) xs + ((if test x y then 1 else 0) + 0) = count_by-append (λ z. test x z) xs (y ∷ []) ∙ ap (λ (n : ℕ). count_by (λ z. test x z) xs + n) (count_by-cons (λ z. test x z) y []) in
-    ap₂ (λ (m n : ℕ). m + n) one (count_twos_push test xs y)
-    ∙ sum_pushed (count_by (λ z. test x z) xs) (if test x y then 1 else 0) (count_twos test xs) (count_by (λ z. test z y) xs)
-    ∙ ap (λ (n : ℕ). count_by (λ z. test x z) xs + count_twos test xs + n) (sym (count_by-cons (λ z. test z y) x xs))
-
--- a loop's step
-pub count_twos_more : {X : Type 0} (test : X → X → Bool) (xs : List X) (i : ℕ) (d : X) → i < length xs → count_twos test (take (i + 1) xs) ≡ count_twos test (take i xs) + count_by (λ x. test x (get_or xs i d)) (take i xs)
-count_twos_more test xs i d h = ap (count_twos test) (take_more xs i d h) ∙ count_twos_push test (take i xs) (get_or xs i d)
-
-one_at_most : (b c : Bool) → (IsTrue b → IsTrue c) → (if b then 1 else 0) ≤ (if c then 1 else 0)
-one_at_most false c h = omega arith
-one_at_most true true h = omega arith
-one_at_most true false h = absurd (false≢true (h refl))
-
--- where one test passes only what another does, it counts no more
-pub count_by-le_implied : {X : Type 0} (p q : X → Bool) → ((x : X) → IsTrue (p x) → IsTrue (q x)) → (xs : List X) → count_by p xs ≤ count_by q xs
-count_by-le_implied p q h xs = sum_by-le-sum_by (λ x. if p x then 1 else 0) (λ x. if q x then 1 else 0) xs (λ x. one_at_most (p x) (q x) (h x))
-
-pub count_twos-le_implied : {X : Type 0} (p q : X → X → Bool) → ((x y : X) → IsTrue (p x y) → IsTrue (q x y)) → (xs : List X) → count_twos p xs ≤ count_twos q xs
-unfolding count_twos
-count_twos-le_implied p q h [] = omega arith
-count_twos-le_implied p q h (x ∷ xs) = let first = count_by-le_implied (λ y. p x y) (λ y. q x y) (λ y. h x y) xs in let rest = count_twos-le_implied p q h xs in omega arith
 
 -- ---- twos of elements in one column
 
@@ -126,7 +78,7 @@ count_twos-le_implied p q h (x ∷ xs) = let first = count_by-le_implied (λ y. 
 count_twos-filter_cons : {X : Type 0} (m : X → X → Bool) (b : Bool) (x : X) (ys : List X) → count_twos m (if b then x ∷ ys else ys) ≡ (if b then count_by (λ y. m x y) ys else 0) + count_twos m ys
 unfolding count_twos
 count_twos-filter_cons m true x ys = refl
-count_twos-filter_cons m false x ys = sym (zero_plus (count_twos m ys))
+count_twos-filter_cons m false x ys = sym (zero-add (count_twos m ys))
 
 -- The twos of elements of one column that pass, counted column by column.
 pub count_twos-by_column : {X : Type 0} (column : X → ℕ) (m : X → X → Bool) (xs : List X) (n : ℕ) → IsTrue (list_all (λ x. nat_lt (column x) n) xs) →
@@ -142,7 +94,7 @@ count_twos-by_column {X} column m (x ∷ xs) n h =
     ∙ ap₂ (λ (k l : ℕ). k + l)
     (sum_by-only (column x) own 0 n (omega arith) (less_from (column x) n first)
     ∙ count_by-filter (λ y. m x y) (λ y. column y == column x) xs
-    ∙ count_by-alike (λ y. (column y == column x) && m x y) (λ y. (column x == column y) && m x y) (λ y. ap (λ (b : Bool). b && m x y) (equal_turned (column y) (column x))) xs)
+    ∙ count_by-alike (λ y. (column y == column x) && m x y) (λ y. (column x == column y) && m x y) (λ y. ap (λ (b : Bool). b && m x y) (eqb-turned (column y) (column x))) xs)
     (count_twos-by_column column m xs n rest)
 
 count_by-none : (all : List Fragment) → count_by (λ f. false) all ≡ 0
@@ -177,24 +129,3 @@ border_contacts-on_border l segments s c h e =
 pub border_contacts-elsewhere : (l : Layout) (segments : List Pair) (s : Pair) → IsFalse (is_on_border l s) → border_contacts l segments s ≡ 0
 unfolding border_contacts
 border_contacts-elsewhere l segments s h = count_by-alike (λ f. is_on_border l s && (f.column + 1 == column_index l s.a.x)) (λ f. false) (λ f. ap (λ (b : Bool). b && (f.column + 1 == column_index l s.a.x)) h) (all_fragments l segments) ∙ count_by-none (all_fragments l segments)
-
--- ---- elements of one column
-
-length-filter_cons : {X : Type 0} (b : Bool) (x : X) (ys : List X) → length (if b then x ∷ ys else ys) ≡ (if b then 1 else 0) + length ys
-length-filter_cons true x ys = omega arith
-length-filter_cons false x ys = omega arith
-
--- The elements, counted column by column.
-pub length-by_column : {X : Type 0} (column : X → ℕ) (xs : List X) (n : ℕ) → IsTrue (list_all (λ x. nat_lt (column x) n) xs) →
-    sum_by (λ c. length (filter (λ x. column x == c) xs)) (range_with_len 0 n) ≡ length xs
-length-by_column column [] n h = sum_by-none (range_with_len 0 n)
-length-by_column {X} column (x ∷ xs) n h =
-    let (first, rest) = both (nat_lt (column x) n) (list_all (λ y. nat_lt (column y) n) xs) h in
-    let others : ℕ → ℕ = λ c. length (filter (λ y. column y == c) xs) in
-    sum_by-alike (λ c. length (filter (λ y. column y == c) (x ∷ xs))) (λ c. (if column x == c then 1 else 0) + others c) (λ c. length-filter_cons (column x == c) x (filter (λ y. column y == c) xs)) (range_with_len 0 n)
-    ∙ sum_by-plus (λ c. if column x == c then 1 else 0) others (range_with_len 0 n)
-    ∙ ap₂ (λ (k l : ℕ). k + l) (sum_by-only (column x) (λ c. 1) 0 n (omega arith) (less_from (column x) n first)) (length-by_column column xs n rest)
-    ∙ one_more (length xs) (length (x ∷ xs)) refl
-  where
-    one_more : (a b : ℕ) → b ≡ suc a → 1 + a ≡ b
-    one_more a b e = omega arith

@@ -1,5 +1,5 @@
 -- The fragments of all segments, column by column.
-use Rattle.std.proofs.Common.{◌≡◌, refl, sym, ap, ap₂, subst, ◌∙◌, ℕ, ◌+◌, ◌≤◌, zero, suc, arith, append_assoc, append-nil, Bool, true, false, ◌||◌, List, [], ◌∷◌, ◌++◌, drop}
+use Rattle.std.proofs.Common.{◌≡◌, refl, sym, ap, ap₂, subst, ◌∙◌, ℕ, ◌+◌, ◌≤◌, arith, append_assoc, append-nil, Bool, true, false, ◌||◌, List, [], ◌∷◌, ◌++◌, drop}
 use Rattle.std.specs.Prelude.{flat_map, sum_by}
 use Rattle.std.specs.List.{list_any, range_with_len}
 use Rattle.std.proofs.lemmas.List.Sums.{sum_by-cons, sum_by-append}
@@ -9,6 +9,8 @@ use Rattle.overlay_intersections.specs.MarkOf.{Mark}
 use Rattle.overlay_grid.specs.Grid.{Layout}
 use Rattle.overlay_grid.specs.FragmentOf.{KeptFragment, kept_in}
 use Rattle.overlay_grid.specs.steps.FragmentFinder.{kept_group}
+use Rattle.std.proofs.Math.Nat.{add-zero}
+use Rattle.overlay_grid.proofs.laws.grid.GridAdding.{range-more}
 
 pub fill_more : (l l' : Layout) (index : ℕ) (s s' : Pair) (ps : List Pair) (old next total : List KeptFragment) (column : ℕ) → l' ≡ l → s' ≡ s → drop index ps ≡ s ∷ drop (index + 1) ps → next ≡ old ++ kept_in l' index s' column →
     old ++ kept_group l index (drop index ps) column ≡ total → next ++ kept_group l (index + 1) (drop (index + 1) ps) column ≡ total
@@ -18,18 +20,11 @@ fill_more l l' index s s' ps old next total column e f d n h =
     ap (λ (list : List KeptFragment). list ++ kept_group l (index + 1) (drop (index + 1) ps) column) (n ∙ ap₂ (λ (m : Layout) (t : Pair). old ++ kept_in m index t column) e f)
     ∙ append_assoc old (kept_in l index s column) (kept_group l (index + 1) (drop (index + 1) ps) column) ∙ start
 
-pub fill_start : (l : Layout) (ps : List Pair) (old : List KeptFragment) (column : ℕ) → old ≡ [] → old ++ kept_group l 0 ps column ≡ kept_group l 0 ps column
-fill_start l ps old column e = ap (λ (list : List KeptFragment). list ++ kept_group l 0 ps column) e
-
 pub fill_end : (l : Layout) (index : ℕ) (ps : List Pair) (old total : List KeptFragment) (column : ℕ) → drop index ps ≡ [] → old ++ kept_group l index (drop index ps) column ≡ total → old ≡ total
 unfolding kept_group
 fill_end l index ps old total column d h = let end = rw d at h in sym (append-nil old) ∙ end
 
 -- ---- a walk over columns
-
-range-more : (a n : ℕ) → range_with_len a (n + 1) ≡ range_with_len a n ++ (a + n) ∷ []
-range-more a zero = ap (λ (k : ℕ). k ∷ []) (omega arith)
-range-more a (suc n) = ap (range_with_len a) (let e : suc n + 1 ≡ suc (n + 1) = omega arith in e) ∙ ap (λ (ks : List ℕ). a ∷ ks) (range-more (a + 1) n ∙ ap (λ (k : ℕ). range_with_len (a + 1) n ++ k ∷ []) (omega arith))
 
 pub range-next : (n : ℕ) → range_with_len 0 (n + 1) ≡ range_with_len 0 n ++ n ∷ []
 range-next n = range-more 0 n ∙ ap (λ (k : ℕ). range_with_len 0 n ++ k ∷ []) (omega arith)
@@ -44,9 +39,6 @@ pub record IsOver (marks : ℕ → List Mark) (rounds : ℕ → Bool) (looks : �
   pub flag : rounded ≡ list_any rounds (range_with_len 0 n)
   pub counted : count ≤ first + sum_by looks (range_with_len 0 n)
 
-pub over-start : (marks : ℕ → List Mark) (rounds : ℕ → Bool) (looks : ℕ → ℕ) (old : List Mark) (first : ℕ) → IsOver marks rounds looks old old false first first 0
-over-start marks rounds looks old first = record { found = sym (append-nil old); flag = refl; counted = omega arith }
-
 one_list : {X Y : Type 0} (f : X → List Y) (x : X) → flat_map f (x ∷ []) ≡ f x
 one_list f x = append-nil (f x)
 
@@ -54,11 +46,8 @@ or_nothing : (b : Bool) → (b || false) ≡ b
 or_nothing true = refl
 or_nothing false = refl
 
-plus_nothing : (n : ℕ) → n + 0 ≡ n
-plus_nothing n = omega arith
-
 pub sum-next : (f : ℕ → ℕ) (n : ℕ) → sum_by f (range_with_len 0 (n + 1)) ≡ sum_by f (range_with_len 0 n) + f n
-sum-next f n = ap (sum_by f) (range-next n) ∙ sum_by-append f (range_with_len 0 n) (n ∷ []) ∙ ap (λ (k : ℕ). sum_by f (range_with_len 0 n) + k) (sum_by-cons f n [] ∙ plus_nothing (f n))
+sum-next f n = ap (sum_by f) (range-next n) ∙ sum_by-append f (range_with_len 0 n) (n ∷ []) ∙ ap (λ (k : ℕ). sum_by f (range_with_len 0 n) + k) (sum_by-cons f n [] ∙ add-zero (f n))
 
 pub over-more : (marks : ℕ → List Mark) (rounds : ℕ → Bool) (looks : ℕ → ℕ) (old now next : List Mark) (rounded b : Bool) (first count count' : ℕ) (n : ℕ) → IsOver marks rounds looks old now rounded first count n →
     next ≡ now ++ marks n → b ≡ (rounded || rounds n) → count' ≤ count + looks n → IsOver marks rounds looks old next b first count' (n + 1)

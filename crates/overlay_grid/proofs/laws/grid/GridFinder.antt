@@ -1,6 +1,6 @@
 -- The grid looks at every two pairs of which one marks the other.
-use Rattle.std.proofs.Common.{◌≡◌, refl, sym, ap, subst, ℕ, zero, suc, ◌+◌, ◌-◌, ◌<◌, ◌≤◌, ◌∙◌, ◌⊎◌, inl, inr, arith, IsTrue, length, map}
-use Rattle.std.specs.Prelude.{ℤ, pos, ◌+ℤ◌, ◌-ℤ◌, ◌*ℤ◌, ◌≤ℤ◌, ◌<ℤ◌, neg_ℤ, nat_lt}
+use Rattle.std.proofs.Common.{◌≡◌, refl, sym, ap, subst, ℕ, zero, suc, ◌+◌, ◌-◌, ◌<◌, ◌≤◌, ◌∙◌, ◌⊎◌, inl, inr, arith, IsTrue, map}
+use Rattle.std.specs.Prelude.{ℤ, pos, ◌+ℤ◌, ◌-ℤ◌, ◌*ℤ◌, ◌≤ℤ◌, ◌<ℤ◌, neg_ℤ}
 use Rattle.std.specs.Int.{int_min, int_max}
 use Rattle.std.specs.List.{range_with_len}
 use Rattle.std.proofs.Math.Nat.{eq-zero-or-pos}
@@ -9,15 +9,15 @@ use Rattle.std.proofs.lemmas.Int.{ints, by_lt_z, clamps}
 use Rattle.overlay_geometry.specs.Points.{Point, Pair, is_ordered, turn, is_strictly_inside}
 use Rattle.overlay_geometry.specs.Below.{width, scaled_height}
 use Rattle.overlay_geometry.specs.Meeting.{do_cross}
-use Rattle.overlay_intersections.specs.Marks.{Placing, marks_by}
 use Rattle.overlay_grid.specs.Grid.{Layout, column_index, pos_of, Fragment, rect_between, fragment_in, fragments}
 use Rattle.overlay_geometry.specs.Ranges.{Rect}
 use Rattle.overlay_grid.specs.GridLooks.{is_on_border}
-use Rattle.overlay_geometry.proofs.laws.geometry.Polynomials.{as_D, diffs, D-eq, mul-pos, mul-nonneg, mul-le_left, cancel-le, cancel-eq}
+use Rattle.overlay_geometry.proofs.laws.geometry.Polynomials.{as_D, diffs, D-eq, mul-pos, mul-nonneg, mul-le_left, cancel-le, cancel-eq, mul-nonpos}
 use Rattle.overlay_geometry.proofs.laws.geometry.Points.{turn_same_outer, turn_same_last}
-use Rattle.overlay_grid.proofs.laws.grid.GridColumns.{pos_of-column_index, pos_of-column_index_next, column_index-monotone, column_index-positive, column_index-left_of_border, pos_of-next, le_same, less_weak, le_through, then_less, less_to}
-use Rattle.overlay_grid.proofs.laws.grid.GridFragments.{RunsRight, Holds, Enters, enters, Enters-wider, left_in, right_in, left_in-right_in, fragment_in-min_x, fragment_in-max_x, border, clip_low, clip_high, fragment_in-holds, fragment_in-column, RunsUp, runs, RunsUp-vertical, upright_fragment, fragments_upright, fragments_flat, column_count, column_count-end, RunsRight-not_vertical, Enters-first, Enters-last, to_eq}
-use Rattle.overlay_intersections.proofs.laws.marks.MarkBoxes.{join_tests, Inside, inside, RisesThrough, crossing_rises, marks_by_from, crossing_turns, crossing_mean_x, means_apart_first, means_apart_last, zero_times}
+use Rattle.overlay_grid.proofs.laws.grid.GridColumns.{pos_of-column_index, pos_of-column_index_next, column_index-monotone, column_index-positive, column_index-left_of_border, pos_of-next, then_less, less_to}
+use Rattle.overlay_grid.proofs.laws.grid.GridFragments.{RunsRight, Holds, Enters, enters, Enters-wider, left_in, right_in, left_in-right_in, fragment_in-min_x, fragment_in-max_x, border, clip_low, clip_high, fragment_in-holds, fragment_in-column, RunsUp, runs, RunsUp-vertical, upright_fragment, fragments_upright, fragments_flat, column_count, column_count-end, RunsRight-not_vertical, Enters-first, Enters-last}
+use Rattle.overlay_intersections.proofs.laws.marks.MarkBoxes.{join_tests, Inside, inside, RisesThrough, crossing_rises, crossing_turns, crossing_mean_x, means_apart_first, means_apart_last, zero_times}
+use Rattle.overlay_geometry.proofs.laws.integers.Tests.{eq-test, nat_lt-test, le_itself, le_weak, le_through}
 
 -- ---- where two pairs are looked at
 
@@ -208,7 +208,7 @@ together_where_changed l s t u v hs ht a b p q =
     let first : ℕ = column_index l u in
     let last : ℕ = column_index l (v -ℤ pos 1) in
     let hu : l.min_x ≤ℤ u = le_through _ _ _ hs a.from_u in
-    let m : first ≤ last = column_index-monotone l u (v -ℤ pos 1) hu (less_to u u v (le_same u) a.wide) in
+    let m : first ≤ last = column_index-monotone l u (v -ℤ pos 1) hu (less_to u u v (le_itself u) a.wide) in
     let eu : border l u v first ≡ u = clip_low u v (pos_of l first) (pos_of-column_index l u hu) a.wide in
     let ev : border l u v (last + 1) ≡ v = clip_high u v (pos_of l (last + 1)) (pos_of-column_index_next l (v -ℤ pos 1) (less_to _ u v hu a.wide)) a.wide in
     let ew : border l u v (first + (last - first) + 1) ≡ v = ap (border l u v) (rest_of first last m) ∙ ev in
@@ -271,14 +271,14 @@ min_is u v = by_lt_z u v (λ less. inl (omega (arith, ints, clamps))) (λ more. 
 -- where t rises through s it is not above s at the left, and not below at the right
 rises_left : (s t : Pair) → RunsRight s → RunsRight t → RisesThrough s t → NotAbove t s (common_left s t)
 rises_left s t a b r = elim (max_is s.a.x t.a.x) [
-  | inl e ↦ subst (NotAbove t s) (sym e) (at_or_above t s s.a b a (height_at_a s) (less_weak _ _ r.left_above))
-  | inr e ↦ subst (NotAbove t s) (sym e) (at_or_below s t t.a a b (height_at_a t) (less_weak _ _ r.start_below))
+  | inl e ↦ subst (NotAbove t s) (sym e) (at_or_above t s s.a b a (height_at_a s) (le_weak _ _ r.left_above))
+  | inr e ↦ subst (NotAbove t s) (sym e) (at_or_below s t t.a a b (height_at_a t) (le_weak _ _ r.start_below))
 ]
 
 rises_right : (s t : Pair) → RunsRight s → RunsRight t → RisesThrough s t → NotAbove s t (common_right s t)
 rises_right s t a b r = elim (min_is s.b.x t.b.x) [
-  | inl e ↦ subst (NotAbove s t) (sym e) (at_or_below t s s.b b a (height_at_b s) (less_weak _ _ r.right_below))
-  | inr e ↦ subst (NotAbove s t) (sym e) (at_or_above s t t.b a b (height_at_b t) (less_weak _ _ r.end_above))
+  | inl e ↦ subst (NotAbove s t) (sym e) (at_or_below t s s.b b a (height_at_b s) (le_weak _ _ r.right_below))
+  | inr e ↦ subst (NotAbove s t) (sym e) (at_or_above s t t.b a b (height_at_b t) (le_weak _ _ r.end_above))
 ]
 
 spans_first : (s t : Pair) → RunsRight s → RunsRight t → s.a.x <ℤ t.b.x → t.a.x <ℤ s.b.x → Spans s (common_left s t) (common_right s t)
@@ -406,7 +406,7 @@ reaches_at l s x p q r hs h k a b =
     let hx : l.min_x ≤ℤ x = le_through _ _ _ hs h in
     right_reaches l s (column_index l x) x p q r hs (enters_at l s x hs h k)
     (max_below _ _ _ h (pos_of-column_index l x hx))
-    (min_above _ _ _ (less_weak _ _ k) (less_weak _ _ (pos_of-column_index_next l x hx))) a b
+    (min_above _ _ _ (le_weak _ _ k) (le_weak _ _ (pos_of-column_index_next l x hx))) a b
 
 -- of a vertical pair the turn tells the side
 turn_sides : (s : Pair) (p : Point) → turn s.a s.b p ≡ (s.b.x -ℤ s.a.x) *ℤ (p.y -ℤ s.a.y) +ℤ (s.b.y -ℤ s.a.y) *ℤ (s.a.x -ℤ p.x)
@@ -427,14 +427,11 @@ right_of_upright s p u h = by_lt_z s.a.x p.x (λ less. less) (λ (more : p.x ≤
     let m = mul-nonneg (s.b.y -ℤ s.a.y) (s.a.x -ℤ p.x) (omega (arith, ints)) (omega (arith, ints)) in
     omega (arith, ints)))
 
-product_up_to : (u v : ℤ) → pos 0 ≤ℤ u → v ≤ℤ pos 0 → (u *ℤ v) ≤ℤ pos 0
-product_up_to u v h k = let m = mul-le_left u v (pos 0) h k in omega (arith, ints)
-
 left_of_upright : (s : Pair) (p : Point) → RunsUp s → pos 0 <ℤ turn s.a s.b p → p.x <ℤ s.a.x
 left_of_upright s p u h = by_lt_z p.x s.a.x (λ less. less) (λ (more : s.a.x ≤ℤ p.x). absurd (
     let e = turn_upright s p u in
     let g = u.upward in
-    let m = product_up_to (s.b.y -ℤ s.a.y) (s.a.x -ℤ p.x) (omega (arith, ints)) (omega (arith, ints)) in
+    let m = mul-nonpos (s.b.y -ℤ s.a.y) (s.a.x -ℤ p.x) (omega (arith, ints)) (omega (arith, ints)) in
     omega (arith, ints)))
 
 -- nothing that runs rightward rises through a vertical pair
@@ -456,7 +453,7 @@ together_where_upright_rises l s t r u hs c =
     let ta = c.start_below in
     let tb = c.end_above in
     together_by_reach l s t (column_index l t.a.x) t.a.x t.b.y t.a.y t.a.y t.b.y
-    (reaches_at l s t.a.x t.b.y t.a.y r hs (less_weak _ _ x1) x2 (omega (arith, ints)) (omega (arith, ints)))
+    (reaches_at l s t.a.x t.b.y t.a.y r hs (le_weak _ _ x1) x2 (omega (arith, ints)) (omega (arith, ints)))
     (upright_reaches l t u) (omega (arith, ints)) (omega (arith, ints))
 
 right_to_right : (t : Pair) → RunsUp t ⊎ RunsRight t → t.a.x ≤ℤ t.b.x
@@ -507,7 +504,7 @@ together_upright_end l s t p r v hs i e h k =
     let f = turn_height s p in
     let c : t.a.x ≡ p.x = sym e in
     together_by_reach l s t (column_index l p.x) p.x p.y p.y t.a.y t.b.y
-    (reaches_at l s p.x p.y p.y r hs (less_weak _ _ x1) x2 (omega (arith, ints)) (omega (arith, ints)))
+    (reaches_at l s p.x p.y p.y r hs (le_weak _ _ x1) x2 (omega (arith, ints)) (omega (arith, ints)))
     (subst (λ (z : ℤ). Reaches l t (column_index l z) z t.a.y t.b.y) c (upright_reaches l t v)) k h
 
 -- one that is not vertical begins on a vertical pair
@@ -519,7 +516,7 @@ together_begins_on l s t u r ht i =
     let c : s.a.x ≡ t.a.x = sym x in
     together_by_reach l s t (column_index l t.a.x) t.a.x s.a.y s.b.y t.a.y t.a.y
     (subst (λ (z : ℤ). Reaches l s (column_index l z) z s.a.y s.b.y) c (upright_reaches l s u))
-    (reaches_at l t t.a.x t.a.y t.a.y r ht (le_same t.a.x) f (omega (arith, ints)) (omega (arith, ints))) y1 y2
+    (reaches_at l t t.a.x t.a.y t.a.y r ht (le_itself t.a.x) f (omega (arith, ints)) (omega (arith, ints))) y1 y2
 
 -- one that is not vertical ends on a vertical pair: within the column, or on its left border
 together_ends_within : (l : Layout) (s t : Pair) → RunsUp s → RunsRight t → l.min_x ≤ℤ t.a.x → Inside s t.b → pos_of l (column_index l t.b.x) <ℤ t.b.x → Together l s t
@@ -527,20 +524,17 @@ together_ends_within l s t u r ht i w =
     let (x, y1, y2) = upright_inside s t.b u i in
     let f = r.forward in
     let g = height_at_b t in
-    let hx : l.min_x ≤ℤ t.b.x = le_through _ _ _ ht (less_weak _ _ f) in
+    let hx : l.min_x ≤ℤ t.b.x = le_through _ _ _ ht (le_weak _ _ f) in
     let next = pos_of-column_index_next l t.b.x hx in
     let c : s.a.x ≡ t.b.x = sym x in
-    let enter : Enters l t.a.x t.b.x (column_index l t.b.x) = record { begins = w; ends = then_less _ _ _ (less_weak _ _ f) next } in
+    let enter : Enters l t.a.x t.b.x (column_index l t.b.x) = record { begins = w; ends = then_less _ _ _ (le_weak _ _ f) next } in
     together_by_reach l s t (column_index l t.b.x) t.b.x s.a.y s.b.y t.b.y t.b.y
     (subst (λ (z : ℤ). Reaches l s (column_index l z) z s.a.y s.b.y) c (upright_reaches l s u))
-    (right_reaches l t (column_index l t.b.x) t.b.x t.b.y t.b.y r ht enter (max_below _ _ _ (less_weak _ _ f) (less_weak _ _ w)) (min_above _ _ _ (le_same t.b.x) (less_weak _ _ next)) (omega (arith, ints)) (omega (arith, ints))) y1 y2
-
-nat_lt_test : (m n : ℕ) → m < n → IsTrue (nat_lt m n)
-nat_lt_test m n h = grind arith
+    (right_reaches l t (column_index l t.b.x) t.b.x t.b.y t.b.y r ht enter (max_below _ _ _ (le_weak _ _ f) (le_weak _ _ w)) (min_above _ _ _ (le_itself t.b.x) (le_weak _ _ next)) (omega (arith, ints)) (omega (arith, ints))) y1 y2
 
 is_on_border-from : (l : Layout) (s : Pair) → RunsUp s → 0 < column_index l s.a.x → s.a.x ≡ pos_of l (column_index l s.a.x) → IsTrue (is_on_border l s)
 unfolding is_on_border
-is_on_border-from l s u h e = join_tests _ _ (join_tests _ _ (RunsUp-vertical s u) (nat_lt_test _ _ h)) (to_eq _ _ e)
+is_on_border-from l s u h e = join_tests _ _ (join_tests _ _ (RunsUp-vertical s u) (nat_lt-test _ _ h)) (eq-test _ _ e)
 
 ends_on_border : (l : Layout) (s t : Pair) → RunsUp s → RunsRight t → l.min_x ≤ℤ t.a.x → IsTrue (is_strictly_inside s t.b) → pos_of l (column_index l t.b.x) ≡ t.b.x → TouchesOnBorder l s t
 ends_on_border l s t u r ht i e =
@@ -548,7 +542,7 @@ ends_on_border l s t u r ht i e =
     let f = r.forward in
     let more = column_index-positive l t.b.x (then_less _ _ _ ht f) e in
     let j : ℕ = column_index l (t.b.x -ℤ pos 1) in
-    let enter : Enters l t.a.x t.b.x j = enters l t.a.x t.b.x j ht f (column_index-monotone l t.a.x (t.b.x -ℤ pos 1) ht (less_to _ _ _ (le_same t.a.x) f)) (omega arith) in
+    let enter : Enters l t.a.x t.b.x j = enters l t.a.x t.b.x j ht f (column_index-monotone l t.a.x (t.b.x -ℤ pos 1) ht (less_to _ _ _ (le_itself t.a.x) f)) (omega arith) in
     let left : j + 1 ≡ column_index l t.b.x = column_index-left_of_border l t.b.x (then_less _ _ _ ht f) e in
     let more' : 0 < column_index l s.a.x = subst (λ (z : ℤ). 0 < column_index l z) x more in
     let border' : s.a.x ≡ pos_of l (column_index l s.a.x) = subst (λ (z : ℤ). z ≡ pos_of l (column_index l z)) x (sym e) in
@@ -570,11 +564,11 @@ found_by_a l s t os ot hs ht i =
     let p = inside s t.a i in
     elim (runs s os) [
       | inl u ↦ elim (runs t ot) [
-        | inl v ↦ together_upright l s t t.a u v p refl (le_same t.a.y) (less_weak _ _ v.upward)
+        | inl v ↦ together_upright l s t t.a u v p refl (le_itself t.a.y) (le_weak _ _ v.upward)
         | inr r ↦ together_begins_on l s t u r ht p
       ]
       | inr r ↦ elim (runs t ot) [
-        | inl v ↦ together_upright_end l s t t.a r v hs p refl (le_same t.a.y) (less_weak _ _ v.upward)
+        | inl v ↦ together_upright_end l s t t.a r v hs p refl (le_itself t.a.y) (le_weak _ _ v.upward)
         | inr r' ↦ together_where_a_touches l s t r r' hs ht p
       ]
     ]
@@ -584,25 +578,14 @@ found_by_b l s t os ot hs ht i =
     let p = inside s t.b i in
     elim (runs s os) [
       | inl u ↦ elim (runs t ot) [
-        | inl v ↦ inl (together_upright l s t t.b u v p (sym v.upright) (less_weak _ _ v.upward) (le_same t.b.y))
-        | inr r ↦ elim (at_or_after _ _ (pos_of-column_index l t.b.x (le_through _ _ _ ht (less_weak _ _ r.forward)))) [
+        | inl v ↦ inl (together_upright l s t t.b u v p (sym v.upright) (le_weak _ _ v.upward) (le_itself t.b.y))
+        | inr r ↦ elim (at_or_after _ _ (pos_of-column_index l t.b.x (le_through _ _ _ ht (le_weak _ _ r.forward)))) [
           | inl within ↦ inl (together_ends_within l s t u r ht p within)
           | inr on ↦ inr (ends_on_border l s t u r ht i on)
         ]
       ]
       | inr r ↦ elim (runs t ot) [
-        | inl v ↦ inl (together_upright_end l s t t.b r v hs p (sym v.upright) (less_weak _ _ v.upward) (le_same t.b.y))
+        | inl v ↦ inl (together_upright_end l s t t.b r v hs p (sym v.upright) (le_weak _ _ v.upward) (le_itself t.b.y))
         | inr r' ↦ inl (together_where_b_touches l s t r r' hs ht p)
       ]
     ]
-
--- Of two pairs inside the grid, of which t marks s, both have fragments in one column whose rectangles meet, or t ends on s, which is vertical on a border.
-pub marks_are_found : (placing : Placing) (l : Layout) (s t : Pair) → IsTrue (is_ordered s) → IsTrue (is_ordered t) → l.min_x ≤ℤ s.a.x → l.min_x ≤ℤ t.a.x → 0 < length (marks_by placing s t) →
-    Together l s t ⊎ TouchesOnBorder l s t
-marks_are_found placing l s t os ot hs ht m = elim (marks_by_from placing s t m) [
-  | inl crossing ↦ inl (together_where_crossing l s t os ot hs ht crossing)
-  | inr end ↦ elim end [
-    | inl a ↦ inl (found_by_a l s t os ot hs ht a)
-    | inr b ↦ found_by_b l s t os ot hs ht b
-  ]
-]

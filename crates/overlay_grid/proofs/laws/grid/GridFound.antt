@@ -5,7 +5,7 @@ use Rattle.std.specs.List.{list_any, AllByRecursion, range_with_len}
 use Rattle.std.specs.Ordering.{int_eq}
 use Rattle.std.specs.Cmp.{both_ways as same_tests}
 use Rattle.std.proofs.lemmas.Int.{ints}
-use Rattle.std.proofs.lemmas.Bool.{and_parts, and_from, or_left, or_right, or_cases, eqb-true, eq-eqb}
+use Rattle.std.proofs.lemmas.Bool.{and_parts, and_from, or_left, or_right, or_cases, eqb-true, eq-eqb, false≢true}
 use Rattle.std.proofs.lemmas.List.{map-id}
 use Rattle.std.proofs.lemmas.List.Sorted.{IsPermutation-sym}
 use Rattle.overlay_geometry.specs.Points.{Point, Pair, pair_lt, turn, is_ordered, is_vertical, is_strictly_inside}
@@ -35,6 +35,7 @@ use Rattle.overlay_intersections.proofs.laws.marks.MarkBoxes.{inside, crossing_r
 use Rattle.overlay_grid.proofs.laws.grid.GridFinder.{Together, TouchesOnBorder, together_where_crossing, found_by_a, found_by_b, Has-range}
 use Rattle.overlay_grid.proofs.laws.grid.GridAdding.{fragments_of_vertical}
 use Rattle.overlay_grid.proofs.laws.grid.GridBounds.{fragments_within_grid}
+use Rattle.overlay_geometry.proofs.laws.integers.Tests.{eq-tested}
 
 -- ---- fragments that are kept
 
@@ -165,10 +166,7 @@ group_rounded_out (f ∷ fs) h = elim (or_cases (list_any (λ g. meet_inexactly 
 ]
 
 not_itself : (s : Pair) → cross_inexactly s s ≡ true → ⊥
-not_itself s h = false_true (sym (exact_with_itself s) ∙ h)
-  where
-    false_true : false ≡ true → ⊥
-    false_true e = cc
+not_itself s h = false≢true (sym (exact_with_itself s) ∙ h)
 
 group_rounded_in : (fs : List KeptFragment) (f g : KeptFragment) → Has fs f → Has fs g → do_rects_meet f.rect g.rect ≡ true → cross_inexactly f.pair g.pair ≡ true → is_group_rounded fs ≡ true
 unfolding is_group_rounded
@@ -277,10 +275,7 @@ border_parts : (l : Layout) (s : Pair) → IsTrue (is_on_border l s) → IsTrue 
 unfolding is_on_border
 border_parts l s h =
     let p = and_parts (is_vertical s && nat_lt 0 (column_index l s.a.x)) (int_eq s.a.x (pos_of l (column_index l s.a.x))) h in
-    ((and_parts (is_vertical s) (nat_lt 0 (column_index l s.a.x)) p.0).0, eq_from _ _ p.1)
-  where
-    eq_from : (a b : ℤ) → IsTrue (int_eq a b) → a ≡ b
-    eq_from a b e = grind (arith, ints)
+    ((and_parts (is_vertical s) (nat_lt 0 (column_index l s.a.x)) p.0).0, eq-tested _ _ p.1)
 
 eq_at : (a b c : ℤ) → a ≡ b → b ≡ c → int_eq a c ≡ true
 eq_at a b c e f = grind (arith, ints)

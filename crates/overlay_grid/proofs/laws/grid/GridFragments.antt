@@ -1,21 +1,22 @@
 -- Fragments: each lies in its column, encloses its part of the segment, and begins where the one before ends.
-use Rattle.std.proofs.Common.{◌≡◌, refl, sym, ap, subst, if◌then◌else◌, ℕ, zero, suc, ◌+◌, ◌-◌, ◌*◌, ◌<◌, ◌≤◌, ◌∙◌, ◌⊎◌, inl, inr, arith, Bool, true, false, ◌||◌, IsTrue, IsFalse, List, [], ◌∷◌, map}
+use Rattle.std.proofs.Common.{◌≡◌, refl, sym, ap, subst, if◌then◌else◌, ℕ, zero, suc, ◌+◌, ◌-◌, ◌*◌, ◌<◌, ◌≤◌, ◌∙◌, ◌⊎◌, inl, inr, arith, Bool, true, false, IsTrue, IsFalse, List, [], ◌∷◌, map}
 use Rattle.std.specs.Prelude.{ℤ, pos, negsuc, ◌+ℤ◌, ◌-ℤ◌, ◌*ℤ◌, ◌≤ℤ◌, ◌<ℤ◌, neg_ℤ, unsigned_abs}
 use Rattle.std.specs.Int.{int_min, int_max}
-use Rattle.std.specs.List.{list_all, list_any, range_with_len}
-use Rattle.std.specs.Ordering.{int_eq}
+use Rattle.std.specs.List.{list_all, range_with_len}
 use Rattle.std.proofs.lemmas.Int.{ints, by_lt_z, clamps}
 use Rattle.std.proofs.lemmas.Nat.{mul-le}
 use Rattle.std.proofs.lemmas.Grind.{div_ceil_times}
-use Rattle.std.proofs.Math.Nat.{add-zero, div-mul-le_self, eq-zero-or-pos}
+use Rattle.std.proofs.Math.Nat.{add-zero, div-mul-le_self}
 use Rattle.overlay_geometry.specs.Points.{Pair, is_ordered, is_vertical}
 use Rattle.overlay_geometry.specs.Below.{width, scaled_height}
 use Rattle.overlay_grid.specs.Grid.{Layout, column_index, pos_of, Fragment, rect_between, toward, least_rise, greatest_rise, fragment_in, fragments, holds_height, encloses, follow_on}
 use Rattle.overlay_geometry.specs.Ranges.{Rect}
 use Rattle.overlay_grid.specs.Laws.{FragmentsEnclose}
 use Rattle.overlay_geometry.proofs.laws.geometry.Polynomials.{as_D, diffs, D-eq, mul-le_left}
-use Rattle.overlay_grid.proofs.laws.grid.GridColumns.{abs_nonneg, pos_of-column_index, pos_of-column_index_next, column_index-from, column_index-before, column_index-monotone, pos_of-monotone, pos_of-next, less_then, then_less, one_less, less_to}
-use Rattle.overlay_intersections.proofs.laws.marks.MarkBoxes.{to_le, from_le, join_tests}
+use Rattle.overlay_grid.proofs.laws.grid.GridColumns.{pos_of-column_index, pos_of-column_index_next, column_index-from, column_index-before, column_index-monotone, pos_of-monotone, pos_of-next, then_less, less_to}
+use Rattle.overlay_intersections.proofs.laws.marks.MarkBoxes.{join_tests}
+use Rattle.overlay_geometry.proofs.laws.integers.Tests.{le-test, eq-test, le-tested, lt_through, lt_before}
+use Rattle.overlay_geometry.proofs.laws.integers.Products.{abs_nonneg, minus_times}
 
 -- ---- pairs from left to right
 
@@ -99,16 +100,13 @@ pub record Holds (s : Pair) (r : Rect) (x : ℤ) : Type 0 where
 
 pub holds_height-from_Holds : (s : Pair) (r : Rect) (x : ℤ) → Holds s r x → IsTrue (holds_height s r x)
 unfolding holds_height
-holds_height-from_Holds s r x h = join_tests _ _ (to_le _ _ h.low) (to_le _ _ h.high)
+holds_height-from_Holds s r x h = join_tests _ _ (le-test _ _ h.low) (le-test _ _ h.high)
 
 mul-le_right : (a b w : ℤ) → pos 0 ≤ℤ w → a ≤ℤ b → (a *ℤ w) ≤ℤ (b *ℤ w)
 mul-le_right a b w h k = let m = mul-le_left w a b h k in omega (arith, ints)
 
 times_plus : (u v w : ℤ) → (u +ℤ v) *ℤ w ≡ u *ℤ w +ℤ v *ℤ w
 times_plus u v w = rw (as_D u, as_D v, as_D w) (simp diffs (D-eq _ _ _ _ (omega arith)))
-
-times_minus : (u v w : ℤ) → (u -ℤ v) *ℤ w ≡ u *ℤ w -ℤ v *ℤ w
-times_minus u v w = rw (as_D u, as_D v, as_D w) (simp diffs (D-eq _ _ _ _ (omega arith)))
 
 within_up : (p q w h : ℤ) → pos 0 ≤ℤ w → (p *ℤ w) ≤ℤ h → h ≤ℤ (q *ℤ w) → ((int_min p q *ℤ w) ≤ℤ h) × (h ≤ℤ (int_max p q *ℤ w))
 within_up p q w h k l m =
@@ -131,8 +129,8 @@ heights_up y w d m n h k l o e =
 
 heights_down : (y w d m n h : ℤ) → pos 0 ≤ℤ w → (m *ℤ w) ≤ℤ d → d ≤ℤ (n *ℤ w) → h ≡ y *ℤ w +ℤ neg_ℤ d → ((int_min (y -ℤ m) (y -ℤ n) *ℤ w) ≤ℤ h) × (h ≤ℤ (int_max (y -ℤ m) (y -ℤ n) *ℤ w))
 heights_down y w d m n h k l o e =
-    let f = times_minus y m w in
-    let g = times_minus y n w in
+    let f = minus_times y m w in
+    let g = minus_times y n w in
     within_down (y -ℤ m) (y -ℤ n) w h k (omega (arith, ints)) (omega (arith, ints))
 
 pub toward_up : (s : Pair) (n : ℕ) → s.a.y ≤ℤ s.b.y → toward s n ≡ s.a.y +ℤ pos n
@@ -171,10 +169,10 @@ rect_holds s x y z r h k l =
     (λ (climbs : s.a.y ≤ℤ s.b.y). rw (toward_up s (least_rise s x) climbs, toward_up s (greatest_rise s y) climbs)
     (heights_up s.a.y (width s) (pos (rise s z)) (pos (least_rise s x)) (pos (greatest_rise s y)) _ wide low high (ap (λ (d : ℤ). s.a.y *ℤ width s +ℤ d) (sym (rise_up s z (omega (arith, ints)) climbs)))))
 
-min_left : (u v : ℤ) → u ≤ℤ v → int_min u v ≡ u
+pub min_left : (u v : ℤ) → u ≤ℤ v → int_min u v ≡ u
 min_left u v h = grind (arith, ints)
 
-max_right : (u v : ℤ) → u ≤ℤ v → int_max u v ≡ v
+pub max_right : (u v : ℤ) → u ≤ℤ v → int_max u v ≡ v
 max_right u v h = grind (arith, ints)
 
 -- the borders of s in a column
@@ -247,16 +245,16 @@ enters l u v i h k m n =
     let b2 = pos_of-monotone l i (column_index l (v -ℤ pos 1)) n in
     let c1 = pos_of-column_index_next l u h in
     let c2 = pos_of-monotone l (column_index l u + 1) (i + 1) (omega arith) in
-    record { begins = entered_before _ _ _ b2 b1; ends = less_then _ _ _ c1 c2 }
+    record { begins = entered_before _ _ _ b2 b1; ends = lt_through _ _ _ c1 c2 }
 
 pub Enters-first : (l : Layout) (u v : ℤ) (i : ℕ) → l.min_x ≤ℤ u → Enters l u v i → column_index l u ≤ i
 Enters-first l u v i h e = let c = column_index-before l (i + 1) u h e.ends in omega arith
 
 pub Enters-last : (l : Layout) (u v : ℤ) (i : ℕ) → Enters l u v i → i ≤ column_index l (v -ℤ pos 1)
-Enters-last l u v i e = column_index-from l i (v -ℤ pos 1) (one_less _ _ e.begins)
+Enters-last l u v i e = column_index-from l i (v -ℤ pos 1) (lt_before _ _ e.begins)
 
 pub Enters-wider : (l : Layout) (u v u' v' : ℤ) (i : ℕ) → u' ≤ℤ u → v ≤ℤ v' → Enters l u v i → Enters l u' v' i
-Enters-wider l u v u' v' i h k e = record { begins = less_then _ _ _ e.begins k; ends = then_less _ _ _ h e.ends }
+Enters-wider l u v u' v' i h k e = record { begins = lt_through _ _ _ e.begins k; ends = then_less _ _ _ h e.ends }
 
 -- a border, moved into a range
 abbrev pub border : Layout → ℤ → ℤ → ℕ → ℤ
@@ -273,34 +271,13 @@ left_in-right_in l s i r e = let n = pos_of-next l i in borders_follow s.a.x s.b
 
 -- ---- lists over a range of columns
 
-first_or_later : (a i : ℕ) → a ≤ i → (a ≡ i) ⊎ (a + 1 ≤ i)
-first_or_later a i h = elim (eq-zero-or-pos (i - a)) [ inl e ↦ inl (omega arith) | inr more ↦ inr (omega arith) ]
-
-pub or_left : (b c : Bool) → IsTrue b → IsTrue (b || c)
-or_left true c h = h
-or_left false c h = absurd (grind arith)
-
-pub or_right : (b c : Bool) → IsTrue c → IsTrue (b || c)
-or_right true c h = grind arith
-or_right false c h = h
-
 pub all_in_range : {X : Type 0} (p : X → Bool) (f : ℕ → X) (a n : ℕ) → ((i : ℕ) → a ≤ i → i < a + n → IsTrue (p (f i))) → IsTrue (list_all p (map f (range_with_len a n)))
 all_in_range p f a zero h = refl
 all_in_range p f a (suc n) h = join_tests _ _ (h a (omega arith) (omega arith)) (all_in_range p f (a + 1) n (λ i k m. h i (omega arith) (omega arith)))
 
-any_in_range : {X : Type 0} (p : X → Bool) (f : ℕ → X) (a n i : ℕ) → a ≤ i → i < a + n → IsTrue (p (f i)) → IsTrue (list_any p (map f (range_with_len a n)))
-any_in_range p f a zero i h k t = absurd (omega arith)
-any_in_range p f a (suc n) i h k t = elim (first_or_later a i h) [
-  | inl e ↦ or_left _ _ (subst (λ (j : ℕ). IsTrue (p (f j))) (sym e) t)
-  | inr later ↦ or_right _ _ (any_in_range p f (a + 1) n i later (omega arith) t)
-]
-
-pub to_eq : (a b : ℤ) → a ≡ b → IsTrue (int_eq a b)
-to_eq a b h = grind (arith, ints)
-
 follow_none : (x y : ℤ) → x ≡ y → IsTrue (follow_on x [] y)
 unfolding follow_on
-follow_none x y e = to_eq x y e
+follow_none x y e = eq-test x y e
 
 follow_rest : {x x' y y' : ℤ} (rects : List Rect) → x ≡ x' → y ≡ y' → IsTrue (follow_on x rects y) → IsTrue (follow_on x' rects y')
 follow_rest {x} {x'} {y} {y'} rects e f h = subst (λ (z : ℤ). IsTrue (follow_on z rects y')) e (subst (λ (z : ℤ). IsTrue (follow_on x rects z)) f h)
@@ -313,7 +290,7 @@ follow_in_range : (f : ℕ → Fragment) (g : ℕ → ℤ) (a n : ℕ) → ((i :
 unfolding follow_on
 follow_in_range f g a zero h k = follow_none (g a) (g (a + 0)) (ap g (sym (add-zero a)))
 follow_in_range f g a (suc n) h k =
-    join_tests _ _ (to_eq _ _ (h a (omega arith) (omega arith)))
+    join_tests _ _ (eq-test _ _ (h a (omega arith) (omega arith)))
     (follow_rest (map (λ r. r.rect) (map f (range_with_len (a + 1) n))) (sym (k a (omega arith) (omega arith))) (next_place g a n)
     (follow_in_range f g (a + 1) n (λ i m o. h i (omega arith) (omega arith)) (λ i m o. k i (omega arith) (omega arith))))
 
@@ -323,9 +300,6 @@ choose_false false x y h = refl
 
 sum_of_rest : (m n : ℕ) → m ≤ n → m + (n + 1 - m) ≡ n + 1
 sum_of_rest m n h = omega arith
-
-below_end : (a n e i : ℕ) → a + n ≡ e + 1 → i ≤ e → i < a + n
-below_end a n e i h k = omega arith
 
 up_to_end : (a n e i : ℕ) → a + n ≡ e + 1 → i < a + n → i ≤ e
 up_to_end a n e i h k = omega arith
@@ -343,14 +317,8 @@ fragments_flat l s h = choose_false _ _ _ h
 pub column_count-end : (l : Layout) (s : Pair) → RunsRight s → l.min_x ≤ℤ s.a.x → column_index l s.a.x + column_count l s ≡ column_index l (s.b.x -ℤ pos 1) + 1
 unfolding column_count
 column_count-end l s r h =
-    let m = column_index-monotone l s.a.x (s.b.x -ℤ pos 1) h (one_less _ _ r.forward) in
+    let m = column_index-monotone l s.a.x (s.b.x -ℤ pos 1) h (lt_before _ _ r.forward) in
     sum_of_rest _ _ m
-
-pub list_any-fragments : (l : Layout) (s : Pair) (p : Fragment → Bool) (i : ℕ) → RunsRight s → l.min_x ≤ℤ s.a.x → Enters l s.a.x s.b.x i → IsTrue (p (fragment_in l s i)) → IsTrue (list_any p (fragments l s))
-list_any-fragments l s p i r h e t =
-    let last = Enters-last l s.a.x s.b.x i e in
-    let end = column_count-end l s r h in
-    rw (fragments_flat l s (RunsRight-not_vertical s r)) (any_in_range p (λ i. fragment_in l s i) (column_index l s.a.x) (column_count l s) i (Enters-first l s.a.x s.b.x i h e) (below_end _ _ _ _ end last) t)
 
 pub entered_column : (l : Layout) (s : Pair) (i : ℕ) → RunsRight s → l.min_x ≤ℤ s.a.x → column_index l s.a.x ≤ i → i < column_index l s.a.x + column_count l s → Enters l s.a.x s.b.x i
 entered_column l s i r h k m = enters l s.a.x s.b.x i h r.forward k (up_to_end _ _ _ _ (column_count-end l s r h) m)
@@ -370,7 +338,7 @@ follow_between l s rects r h f = follow_rest rects (border_first l s r h) (borde
 pub fragments_enclose : FragmentsEnclose
 fragments_enclose l s o f low =
     let r = runs_right s o f in
-    let h : l.min_x ≤ℤ s.a.x = from_le _ _ low in
+    let h : l.min_x ≤ℤ s.a.x = le-tested _ _ low in
     let first : ℕ = column_index l s.a.x in
     let count : ℕ = column_count l s in
     let inside : (i : ℕ) → first ≤ i → i < first + count → Enters l s.a.x s.b.x i = λ i k m. entered_column l s i r h k m in
@@ -389,7 +357,7 @@ unfoldable pub upright_fragment : Layout → Pair → Fragment
 upright_fragment l s = record { column = column_index l s.a.x; rect = rect_between s.a.x s.a.y s.b.x s.b.y }
 
 pub RunsUp-vertical : (s : Pair) → RunsUp s → IsTrue (is_vertical s)
-RunsUp-vertical s u = let e = u.upright in to_eq _ _ e
+RunsUp-vertical s u = let e = u.upright in eq-test _ _ e
 
 choose_true : {X : Type 0} (c : Bool) (x y : X) → IsTrue c → (if c then x else y) ≡ x
 choose_true true x y h = refl

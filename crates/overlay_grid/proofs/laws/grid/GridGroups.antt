@@ -9,7 +9,7 @@ use Rattle.std.proofs.lemmas.List.Sorted.{IsPermutation-map, IsPermutation-trans
 use Rattle.overlay_geometry.proofs.laws.lists.Keys.{IsInOrder, IsInOrder-from_sort}
 use Rattle.std.specs.declared.alloc.Global.{Global}
 use Rattle.std.proofs.lemmas.List.{get_or-map, get_or-set_same, get_or-set_other, map-set, map-append, length-map}
-use Rattle.std.proofs.lemmas.Bool.{eqb-true, eq-eqb}
+use Rattle.std.proofs.lemmas.Bool.{eqb-true, eq-eqb, false≢true}
 use Rattle.std.proofs.Math.Nat.{eq-zero-or-pos}
 use Rattle.overlay_grid.specs.FragmentOf.{KeptFragment, fragment_of, fragments_of, on_axis, least_along, IsSortedAlong}
 use Rattle.overlay_grid.specs.declared.split.axis.Axis.{Axis}
@@ -29,10 +29,7 @@ module _ {X : Type 0} where
     where
       by : (b : Bool) → (i == j) ≡ b → get_or (slice_set groups i (get_or groups i [] ++ more)) j [] ≡ get_or groups j [] ++ (if b then more else [])
       by true e = let same : j ≡ i = sym (eqb-true i j e) in at_same groups i j _ same h ∙ ap (λ (k : ℕ). get_or groups k [] ++ more) (sym same)
-      by false e = get_or-set_other groups i j (get_or groups i [] ++ more) [] (λ same. false_true (sym e ∙ eq-eqb i j (sym same))) ∙ sym (append-nil (get_or groups j []))
-        where
-          false_true : false ≡ true → ⊥
-          false_true p = cc
+      by false e = get_or-set_other groups i j (get_or groups i [] ++ more) [] (λ same. false≢true (sym e ∙ eq-eqb i j (sym same))) ∙ sym (append-nil (get_or groups j []))
 
   pub none_beyond : (groups : List (List X)) (i : ℕ) → length groups ≤ i → get_or groups i [] ≡ []
   none_beyond [] i h = refl
@@ -51,9 +48,6 @@ module _ {I : Type 0} (whole : I → ℤ) where
   -- the group of a column as code reads it
   pub group_in-at : (groups : List (Vec (CodeFragment I) Global)) (column : ℕ) (v : Vec (CodeFragment I) Global) → column < length groups → v ≡ get_or groups column v → fragments_of whole v.items ≡ group_in whole groups column
   group_in-at groups column v h e = ap (λ (u : Vec (CodeFragment I) Global). fragments_of whole u.items) e ∙ sym (get_or-map (λ (u : Vec (CodeFragment I) Global). fragments_of whole u.items) groups column v [] h)
-
-  as_groups : List (Vec (CodeFragment I) Global) → List (List KeptFragment)
-  as_groups groups = map (λ v. fragments_of whole v.items) groups
 
   same_length : (groups : List (Vec (CodeFragment I) Global)) (column : ℕ) → column < length groups → column < length (map (λ v. fragments_of whole v.items) groups)
   same_length groups column h = subst (λ (n : ℕ). column < n) (sym (length-map groups (λ v. fragments_of whole v.items))) h
@@ -143,10 +137,7 @@ module _ {I : Type 0} (whole : I → ℤ) (axis : Axis) where
 
       by : (b : Bool) → (other : ℕ) → (column == other) ≡ b → IsPermutation (old other) (group_in whole (slice_set groups column v') other)
       by true other t = subst (λ (k : ℕ). IsPermutation (old k) (group_in whole (slice_set groups column v') k)) (eqb-true column other t) here
-      by false other t = subst (IsPermutation (old other)) (sym (group_in-other whole groups column v' other (λ same. apart (sym t ∙ eq-eqb column other (sym same))))) (w.permutation other)
-        where
-          apart : false ≡ true → ⊥
-          apart q = cc
+      by false other t = subst (IsPermutation (old other)) (sym (group_in-other whole groups column v' other (λ same. false≢true (sym t ∙ eq-eqb column other (sym same))))) (w.permutation other)
 
   pub all_sorted : (old : ℕ → List KeptFragment) (groups : List (Vec (CodeFragment I) Global)) (column : ℕ) → AreSorted axis old (group_in whole groups) column → length groups ≤ column → (other : ℕ) → IsSortedAlong axis (group_in whole groups other)
   all_sorted old groups column w h other = elim (eq-zero-or-pos (column - other)) [

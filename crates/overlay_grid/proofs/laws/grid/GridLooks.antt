@@ -21,6 +21,7 @@ use Rattle.overlay_grid.proofs.laws.grid.GridCounts.{sum_by-plus, sum_by-alike, 
 use Rattle.overlay_grid.proofs.laws.grid.GridBounds.{fragments_within_grid}
 use Rattle.overlay_grid.proofs.laws.grid.GridAdding.{fragments_of_vertical}
 use Rattle.std.proofs.lemmas.List.Folds.{list_all-append}
+use Rattle.std.proofs.Math.Nat.{add-zero}
 
 -- ---- twos in any order
 
@@ -36,13 +37,6 @@ sum_plus f g (x ∷ xs) =
     let c = sum_by-cons g x xs in
     let d = sum_plus f g xs in
     omega arith
-
--- all twos, each in both orders, and each element with itself
-both_ways_count : {X : Type 0} → (X → X → Bool) → List X → ℕ
-both_ways_count test xs = sum_by (λ x. count_by (λ y. test x y) xs) xs
-
-own_count : {X : Type 0} → (X → X → Bool) → List X → ℕ
-own_count test xs = sum_by (λ x. if test x x then 1 else 0) xs
 
 twice_twos : {X : Type 0} (test : X → X → Bool) → ((x y : X) → test x y ≡ test y x) → (xs : List X) → sum_by (λ x. count_by (λ y. test x y) xs) xs ≡ count_twos test xs + count_twos test xs + sum_by (λ x. if test x x then 1 else 0) xs
 unfolding count_twos
@@ -141,10 +135,7 @@ one_stands l x n i s c v =
     ∙ by (column_index l s.a.x == c)
   where
     by : (b : Bool) → sum_by (λ f. if stands_at x f then n else 0) (kept i s (if b then (let part : Fragment = record { column = column_index l s.a.x; rect = rect_between s.a.x s.a.y s.b.x s.b.y } in part) ∷ [] else [])) ≡ (if b then (if int_eq s.a.x x then n else 0) else 0)
-    by true = sum_by-cons (λ f. if stands_at x f then n else 0) (let part : KeptFragment = record { index = i; pair = s; rect = rect_between s.a.x s.a.y s.b.x s.b.y } in part) [] ∙ plus_none (if is_vertical s && int_eq s.a.x x then n else 0) ∙ ap (λ (b : Bool). if b && int_eq s.a.x x then n else 0) v
-      where
-        plus_none : (k : ℕ) → k + 0 ≡ k
-        plus_none k = omega arith
+    by true = sum_by-cons (λ f. if stands_at x f then n else 0) (let part : KeptFragment = record { index = i; pair = s; rect = rect_between s.a.x s.a.y s.b.x s.b.y } in part) [] ∙ add-zero (if is_vertical s && int_eq s.a.x x then n else 0) ∙ ap (λ (b : Bool). if b && int_eq s.a.x x then n else 0) v
     by false = refl
 
 only_one : (k : ℕ) (g : ℕ → ℕ) (a m : ℕ) → sum_by (λ c. if k == c then g c else 0) (range_with_len a m) ≤ g k

@@ -19,6 +19,7 @@ use Rattle.overlay_grid.proofs.laws.grid.FoundFragments.{IsSortedAlong-drop}
 use Rattle.overlay_grid.proofs.laws.grid.GridCounts.{count_by-cons, sum_by-alike}
 use Rattle.overlay_grid.proofs.laws.grid.GridFills.{sum-next}
 use Rattle.overlay_grid.proofs.laws.grid.GridLooks.{twos_permuted, heights_back, count-map}
+use Rattle.std.proofs.Math.Nat.{zero-add}
 
 -- those from an index on, as a slice has them
 pub rest_of : {I : Type 0} (whole : I → ℤ) (fs : List (CodeFragment I)) (i : ℕ) → drop i (fragments_of whole fs) ≡ fragments_of whole (take (length fs - i) (drop i fs))
@@ -74,10 +75,7 @@ pub record IsReaching (axis : Axis) (fs : List KeptFragment) (count : ℕ) (left
   pub total : min (count + looks_of_group axis left) (2 ^ 64 - 1) ≡ min (looks_of_group axis fs) (2 ^ 64 - 1)
 
 pub IsReaching-start : (axis : Axis) (fs : List KeptFragment) → IsReaching axis fs 0 fs
-IsReaching-start axis fs = record { fits = omega arith; total = ap (λ (n : ℕ). min n (2 ^ 64 - 1)) (none_yet (looks_of_group axis fs)) }
-  where
-    none_yet : (n : ℕ) → 0 + n ≡ n
-    none_yet n = omega arith
+IsReaching-start axis fs = record { fits = omega arith; total = ap (λ (n : ℕ). min n (2 ^ 64 - 1)) (zero-add (looks_of_group axis fs)) }
 
 one_further : (count own rest total most next : ℕ) → min (count + (own + rest)) most ≡ total → next ≡ min (count + own) most → min (next + rest) most ≡ total
 one_further count own rest total most next h n = omega arith

@@ -15,7 +15,8 @@ use Rattle.std.proofs.lemmas.Nat.{mul-le}
 use Rattle.overlay_geometry.specs.Coordinates.{least_coordinate, greatest_coordinate, is_coordinate, greatest_difference}
 use Rattle.overlay_geometry.proofs.laws.geometry.Coordinates.{difference_bound, small_fits, coordinate_fits}
 use Rattle.overlay_grid.specs.Grid.{Layout, IsLog2, spread_of_x, power_for, column_index, pos_of, greatest_x, IsLayout, IsLayoutOf, IsTooNarrow}
-use Rattle.overlay_grid.proofs.laws.grid.GridColumns.{abs_nonneg}
+use Rattle.overlay_geometry.proofs.laws.integers.Tests.{nat_lt-test, nat_lt-test_false}
+use Rattle.overlay_geometry.proofs.laws.integers.Products.{abs_nonneg}
 
 -- a power of two that is no greater than a difference of coordinates
 pub power_below : (power n : ℕ) → 2 ^ power ≤ n → n ≤ greatest_difference → power < 64
@@ -120,9 +121,6 @@ border_fits least greatest l i h le =
       value = omega (arith, ints);
     }
 
-pub nonneg : (a b : ℤ) → a ≤ℤ b → pos 0 ≤ℤ (b -ℤ a)
-nonneg a b h = omega (arith, ints)
-
 pub mod_small : (n : ℕ) → n < 2 ^ 63 → n % 18446744073709551616 ≡ n
 mod_small n h = mod-eq_of_lt {n = n} {m = 18446744073709551616} (omega arith)
 
@@ -139,17 +137,11 @@ power_for-fits n log max_power h k = by (nat_lt max_power log)
 pub power_is : (n log max_power : ℕ) (log' : ℕ) → IsLog2 n log → IsLog2 n log' → power_for log max_power ≡ power_for log' max_power
 power_is n log max_power log' h k = ap (λ (i : ℕ). power_for i max_power) (log_alone n log log' h k)
 
-less_test : (m n : ℕ) → m < n → nat_lt m n ≡ true
-less_test m n h = grind arith
-
-not_less_test : (m n : ℕ) → n ≤ m → nat_lt m n ≡ false
-not_less_test m n h = grind arith
-
 pub power_for-less : (log max_power : ℕ) → max_power < log → power_for log max_power ≡ log - max_power
-power_for-less log max_power h = ap (λ (b : Bool). if b then log - max_power else 1) (less_test max_power log h)
+power_for-less log max_power h = ap (λ (b : Bool). if b then log - max_power else 1) (nat_lt-test max_power log h)
 
 pub power_for-not_less : (log max_power : ℕ) → log ≤ max_power → power_for log max_power ≡ 1
-power_for-not_less log max_power h = ap (λ (b : Bool). if b then log - max_power else 1) (not_less_test max_power log h)
+power_for-not_less log max_power h = ap (λ (b : Bool). if b then log - max_power else 1) (nat_lt-test_false max_power log h)
 
 -- how far apart two coordinates are
 pub record SpreadFits (a b : ℤ) : Type 0 where
@@ -169,9 +161,6 @@ from_wide_spread a b h =
     let k : pos 4 ≤ℤ (b -ℤ a) = grind (arith, ints) in
     let e = abs_nonneg (b -ℤ a) (omega (arith, ints)) in
     (omega (arith, ints), omega (arith, ints))
-
-pub before_from : (a b : ℤ) → a <ℤ b → a ≤ℤ (b -ℤ pos 1)
-before_from a b h = omega (arith, ints)
 
 pub before_to : (a b : ℤ) → a ≤ℤ b → (a -ℤ pos 1) ≤ℤ b
 before_to a b h = omega (arith, ints)

@@ -158,12 +158,6 @@ touch_marks s t off =
 
 -- ---- the law
 
-pub collinear_back : (s t : Pair) → s.a ≢ s.b → are_collinear s t ≡ true → are_collinear t s ≡ true
-collinear_back s t apart h =
-    let parts = collinear_parts s t h in
-    let l = line_back t.a t.b s.a s.b apart parts.0 parts.1 in
-    collinear_from t s l.0 l.1
-
 pub overlay_marks : (placing : Placing) (s t : Pair) → are_collinear s t ≡ true → (target_marks s t (cross_answer placing s t) ≡ marks_by placing s t) × (other_marks s t (cross_answer placing s t) ≡ marks_by placing t s)
 unfolding target_marks other_marks cross_answer marks_by
 overlay_marks placing s t h =

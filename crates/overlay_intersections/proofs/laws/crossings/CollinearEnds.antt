@@ -12,6 +12,7 @@ use Rattle.overlay_geometry.proofs.laws.geometry.Polynomials.{as_D, diffs, D-eq}
 use Rattle.overlay_geometry.proofs.laws.geometry.Points.{collinear_apart, turn_same_outer, turn_same_last}
 use Rattle.overlay_intersections.proofs.laws.crossings.Lines.{same_by_steps, by_zero, cancel_factor, inside_by_weights, inside_parts}
 use Rattle.overlay_intersections.proofs.laws.crossings.AnswerMarks.{collinear_parts, line_back}
+use Rattle.overlay_geometry.proofs.laws.integers.Products.{minus_turned}
 
 -- ---- distances along a line
 
@@ -24,9 +25,6 @@ weighed_y vx vy px py qx qy = rw (as_D vx, as_D vy, as_D px, as_D py, as_D qx, a
 
 last_gone : (x y k z : ℤ) → x ≡ y +ℤ k *ℤ z → z ≡ pos 0 → x ≡ y
 last_gone x y k z e h = let f = rw h at e in omega (arith, ints, f)
-
-turned_back : (a b : ℤ) → a -ℤ b ≡ neg_ℤ (b -ℤ a)
-turned_back a b = omega (arith, ints)
 
 turn_from_c : (s : Pair) (c : Point) → turn s.a s.b c ≡ (c.x -ℤ s.a.x) *ℤ (c.y -ℤ s.b.y) -ℤ (c.y -ℤ s.a.y) *ℤ (c.x -ℤ s.b.x)
 unfolding turn
@@ -93,8 +91,8 @@ inside_by_dots u w s c apart ends ha hb hc =
     (λ nm. by_zero (along u w s.b c)
     (λ n. false_from_ne_true _ (λ k. (inside_parts s c k).4 (sym (same_along u w s.b c apart hb hc n))) ∙ sym (opposite_zero_right (along u w s.a c) (along u w s.b c) n))
     (λ nn. inside_by_weights s c (along u w s.a c) (along u w s.b c) ends on nm nn
-    (rw (turned_back s.b.x c.x, turned_back s.a.x c.x) (last_gone _ _ _ _ (weighed_x (w.x -ℤ u.x) (w.y -ℤ u.y) (c.x -ℤ s.a.x) (c.y -ℤ s.a.y) (c.x -ℤ s.b.x) (c.y -ℤ s.b.y)) z))
-    (rw (turned_back s.b.y c.y, turned_back s.a.y c.y) (last_gone _ _ _ _ (weighed_y (w.x -ℤ u.x) (w.y -ℤ u.y) (c.x -ℤ s.a.x) (c.y -ℤ s.a.y) (c.x -ℤ s.b.x) (c.y -ℤ s.b.y)) z))))
+    (rw (minus_turned s.b.x c.x, minus_turned s.a.x c.x) (last_gone _ _ _ _ (weighed_x (w.x -ℤ u.x) (w.y -ℤ u.y) (c.x -ℤ s.a.x) (c.y -ℤ s.a.y) (c.x -ℤ s.b.x) (c.y -ℤ s.b.y)) z))
+    (rw (minus_turned s.b.y c.y, minus_turned s.a.y c.y) (last_gone _ _ _ _ (weighed_y (w.x -ℤ u.x) (w.y -ℤ u.y) (c.x -ℤ s.a.x) (c.y -ℤ s.a.y) (c.x -ℤ s.b.x) (c.y -ℤ s.b.y)) z))))
 
 -- ---- the four ends
 

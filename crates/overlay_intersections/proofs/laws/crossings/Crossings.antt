@@ -1,6 +1,6 @@
 -- Where two pairs cross: the exact point lies strictly inside both, and a rounded one in both boxes.
 use Rattle.std.proofs.Common.{◌≡◌, ◌⊎◌, inl, inr, refl, sym, ap, subst, ◌∙◌, arith, ℕ, zero, suc, ◌<◌}
-use Rattle.std.specs.Prelude.{ℤ, pos, negsuc, ◌+ℤ◌, ◌-ℤ◌, ◌*ℤ◌, ◌≤ℤ◌, ◌<ℤ◌, neg_ℤ, unsigned_abs, int_le, min, IsTrue, ◌||◌}
+use Rattle.std.specs.Prelude.{ℤ, pos, negsuc, ◌+ℤ◌, ◌-ℤ◌, ◌*ℤ◌, ◌≤ℤ◌, ◌<ℤ◌, neg_ℤ, unsigned_abs, min, IsTrue, ◌||◌}
 use Rattle.std.specs.Int.{int_signum, int_min, int_max}
 use Rattle.std.proofs.lemmas.Int.{ints, clamps}
 use Rattle.std.proofs.lemmas.Bool.{and_parts, and_from, cond_both}
@@ -11,6 +11,8 @@ use Rattle.overlay_intersections.specs.Crossing.{Quotient, quotient, crossing_n,
 use Rattle.overlay_geometry.proofs.laws.geometry.Polynomials.{as_D, diffs, D-eq, mul-nonneg}
 use Rattle.overlay_geometry.proofs.laws.geometry.Points.{turn_rotates}
 use Rattle.overlay_intersections.proofs.laws.crossings.Rounding.{over, IsRounding, round-from, round-to, truncated-is_rounding, nearest-is_rounding, nearest_upward-is_rounding}
+use Rattle.overlay_geometry.proofs.laws.integers.Tests.{le-test}
+use Rattle.overlay_geometry.proofs.laws.integers.Products.{minus_turned, minus_from}
 
 -- ---- signs
 
@@ -48,22 +50,16 @@ same_point_plain_y ux uy vx vy wx wy = rw (as_D ux, as_D uy, as_D vx, as_D vy, a
 by_way : (p q r : ℤ) → r -ℤ p ≡ (q -ℤ p) +ℤ (r -ℤ q)
 by_way p q r = omega (arith, ints)
 
-back : (p q : ℤ) → p -ℤ q ≡ neg_ℤ (q -ℤ p)
-back p q = omega (arith, ints)
-
-aside : (p q r : ℤ) → r -ℤ q ≡ (r -ℤ p) -ℤ (q -ℤ p)
-aside p q r = omega (arith, ints)
-
 exact_along_x : (s t : Pair) → (s.b.x -ℤ s.a.x) *ℤ crossing_n s t ≡ (t.a.x -ℤ s.a.x) *ℤ crossing_d s t -ℤ (t.b.x -ℤ t.a.x) *ℤ crossing_n t s
 unfolding turn
 exact_along_x s t =
-    rw (by_way s.a.x t.a.x t.b.x, by_way s.a.y t.a.y t.b.y, back s.a.x t.a.x, back s.a.y t.a.y, aside s.a.x t.a.x s.b.x, aside s.a.y t.a.y s.b.y)
+    rw (by_way s.a.x t.a.x t.b.x, by_way s.a.y t.a.y t.b.y, minus_turned s.a.x t.a.x, minus_turned s.a.y t.a.y, minus_from s.a.x t.a.x s.b.x, minus_from s.a.y t.a.y s.b.y)
     (same_point_plain (s.b.x -ℤ s.a.x) (s.b.y -ℤ s.a.y) (t.b.x -ℤ t.a.x) (t.b.y -ℤ t.a.y) (t.a.x -ℤ s.a.x) (t.a.y -ℤ s.a.y))
 
 exact_along_y : (s t : Pair) → (s.b.y -ℤ s.a.y) *ℤ crossing_n s t ≡ (t.a.y -ℤ s.a.y) *ℤ crossing_d s t -ℤ (t.b.y -ℤ t.a.y) *ℤ crossing_n t s
 unfolding turn
 exact_along_y s t =
-    rw (by_way s.a.x t.a.x t.b.x, by_way s.a.y t.a.y t.b.y, back s.a.x t.a.x, back s.a.y t.a.y, aside s.a.x t.a.x s.b.x, aside s.a.y t.a.y s.b.y)
+    rw (by_way s.a.x t.a.x t.b.x, by_way s.a.y t.a.y t.b.y, minus_turned s.a.x t.a.x, minus_turned s.a.y t.a.y, minus_from s.a.x t.a.x s.b.x, minus_from s.a.y t.a.y s.b.y)
     (same_point_plain_y (s.b.x -ℤ s.a.x) (s.b.y -ℤ s.a.y) (t.b.x -ℤ t.a.x) (t.b.y -ℤ t.a.y) (t.a.x -ℤ s.a.x) (t.a.y -ℤ s.a.y))
 
 -- ---- the same with a positive denominator
@@ -219,14 +215,8 @@ max_first u v = omega (arith, ints, clamps)
 max_second : (u v : ℤ) → v ≤ℤ int_max u v
 max_second u v = omega (arith, ints, clamps)
 
-int_le-from : (u v : ℤ) → u ≤ℤ v → IsTrue (int_le u v)
-int_le-from u v h = grind (arith, ints)
-
-pub int_le-to : (u v : ℤ) → IsTrue (int_le u v) → u ≤ℤ v
-int_le-to u v h = grind (arith, ints)
-
 pub is_between-from : (u v z : ℤ) → int_min u v ≤ℤ z → z ≤ℤ int_max u v → IsTrue (is_between u v z)
-is_between-from u v z h k = and_from _ _ (int_le-from _ _ h) (int_le-from _ _ k)
+is_between-from u v z h k = and_from _ _ (le-test _ _ h) (le-test _ _ k)
 
 -- the rounded coordinate of a crossing, from a along a to b, where c and d are the ends of either pair
 placed_between : (round : Quotient → ℤ) → IsRounding round → (a b c d m n : ℤ) (w : ℕ) → IsPart n w → IsPart m w → a *ℤ pos w +ℤ (b -ℤ a) *ℤ n ≡ c *ℤ pos w +ℤ (d -ℤ c) *ℤ m → IsTrue (is_between c d (a +ℤ round (over ((b -ℤ a) *ℤ n) w)))

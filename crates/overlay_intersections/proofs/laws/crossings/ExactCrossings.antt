@@ -15,6 +15,7 @@ use Rattle.overlay_geometry.proofs.laws.geometry.Polynomials.{as_D, diffs, D-eq,
 use Rattle.overlay_geometry.proofs.laws.geometry.Points.{same_point}
 use Rattle.overlay_intersections.proofs.laws.crossings.Rounding.{over, IsRounding, IsRoundedUp, IsRoundedUp-unique, nearest_upward-is, truncated-is_rounding, nearest-is_rounding, nearest_upward-is_rounding}
 use Rattle.overlay_intersections.proofs.laws.crossings.Crossings.{signum_times, share, scale, scale-swap, exact_x, exact_y, IsPart-share, do_cross-swap, offset_x-is, offset_y-is}
+use Rattle.overlay_geometry.proofs.laws.integers.Products.{minus_times}
 
 -- ---- whole quotients
 
@@ -25,11 +26,8 @@ small_multiple (pos (suc m)) (negsuc r) b e h = absurd (omega (arith, ints))
 small_multiple (negsuc m) (pos r) b e h = absurd (omega (arith, ints))
 small_multiple (negsuc m) (negsuc r) b e h = absurd (omega (arith, ints))
 
-spread : (q z c : ℤ) → (q -ℤ z) *ℤ c ≡ q *ℤ c -ℤ z *ℤ c
-spread q z c = rw (as_D q, as_D z, as_D c) (simp diffs (D-eq _ _ _ _ (omega arith)))
-
 difference_multiple : (q z r : ℤ) (b : ℕ) → q *ℤ pos b +ℤ r ≡ z *ℤ pos b → (q -ℤ z) *ℤ pos b +ℤ r ≡ pos 0
-difference_multiple q z r b e = rw (spread q z (pos b)) (omega (arith, ints))
+difference_multiple q z r b e = rw (minus_times q z (pos b)) (omega (arith, ints))
 
 pub multiple_is_whole : (z t : ℤ) (b : ℕ) → 0 < b → t ≡ z *ℤ pos b → is_whole (over t b) ≡ true
 unfolding is_whole
@@ -54,7 +52,7 @@ pub record IsCrossingPoint (s t : Pair) (p : Point) : Type 0 where
   pub at_y : (p.y -ℤ s.a.y) *ℤ pos (scale s t) ≡ (s.b.y -ℤ s.a.y) *ℤ share s t
 
 measured_again : (p a c b u v : ℤ) → (p -ℤ a) *ℤ b ≡ u → a *ℤ b +ℤ u ≡ c *ℤ b +ℤ v → (p -ℤ c) *ℤ b ≡ v
-measured_again p a c b u v h e = let k = rw (spread p a b) at h in rw (spread p c b) (omega (arith, ints, k))
+measured_again p a c b u v h e = let k = rw (minus_times p a b) at h in rw (minus_times p c b) (omega (arith, ints, k))
 
 -- measured from t it is the same
 pub IsCrossingPoint-swap : (s t : Pair) (p : Point) → IsCrossingPoint s t p → IsCrossingPoint t s p

@@ -1,14 +1,15 @@
 -- Points on lines: which of them lie on one line, and when one lies strictly inside a segment.
 use Rattle.std.proofs.Common.{◌≡◌, refl, sym, ◌∙◌, ◌⊎◌, ◌≢◌, inl, inr, arith, true, false, not, IsTrue, zero, suc}
-use Rattle.std.specs.Prelude.{ℤ, pos, negsuc, ◌+ℤ◌, ◌-ℤ◌, ◌*ℤ◌, ◌≤ℤ◌, ◌<ℤ◌, neg_ℤ}
+use Rattle.std.specs.Prelude.{ℤ, pos, negsuc, ◌+ℤ◌, ◌-ℤ◌, ◌*ℤ◌, ◌<ℤ◌, neg_ℤ}
 use Rattle.std.specs.Ordering.{int_eq}
-use Rattle.std.proofs.lemmas.Int.{ints, by_lt_z}
+use Rattle.std.proofs.lemmas.Int.{ints}
 use Rattle.std.proofs.lemmas.Bool.{and_parts, false_from_ne_true, not-true}
 use Rattle.std.proofs.lemmas.Bool.Decides.{Decides-int_eq}
 use Rattle.overlay_geometry.specs.Points.{Point, Pair, point_eq, turn, is_between, is_in_box, is_end, lies_on, is_strictly_inside}
 use Rattle.overlay_geometry.specs.Meeting.{have_opposite_signs}
 use Rattle.overlay_geometry.proofs.laws.geometry.Polynomials.{as_D, diffs, D-eq, mul-neg_left}
 use Rattle.overlay_geometry.proofs.laws.geometry.Points.{same_point, same_by_eq, mean_x, mean_y, not_end}
+use Rattle.overlay_geometry.proofs.laws.integers.Tests.{by_sign}
 
 -- ---- factors that are not 0
 
@@ -118,9 +119,6 @@ outside_of_alike s c m n apart hm hn hx hy inside =
 
 negated : (m n u w : ℤ) → m *ℤ u ≡ n *ℤ w → neg_ℤ m *ℤ u ≡ neg_ℤ n *ℤ w
 negated m n u w e = rw (mul-neg_left m u, mul-neg_left n w, e) refl
-
-pub by_sign : {P : Type 0} (z : ℤ) → (z <ℤ pos 0 → P) → (z ≡ pos 0 → P) → (pos 0 <ℤ z → P) → P
-by_sign z f g h = by_lt_z z (pos 0) f (λ (up : pos 0 ≤ℤ z). by_lt_z (pos 0) z h (λ (down : z ≤ℤ pos 0). g (omega (arith, ints))))
 
 opposite_down_up : (m n : ℤ) → m <ℤ pos 0 → pos 0 <ℤ n → have_opposite_signs m n ≡ true
 opposite_down_up m n h k = grind (arith, ints)

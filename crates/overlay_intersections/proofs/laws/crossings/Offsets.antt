@@ -1,5 +1,5 @@
 -- Offsets as code computes them: their sizes, and their quotients.
-use Rattle.std.proofs.Common.{◌≡◌, ◌≢◌, refl, ℕ, ◌+◌, ◌*◌, ◌≤◌, ◌<◌, arith, lit<, zero, suc, Bool, true, FitsSigned, w64, of_z}
+use Rattle.std.proofs.Common.{◌≡◌, ◌≢◌, refl, ℕ, ◌+◌, ◌*◌, ◌≤◌, ◌<◌, arith, lit<, zero, suc, Bool, true, FitsSigned, w64}
 use Rattle.std.specs.Prelude.{ℤ, pos, negsuc, ◌+ℤ◌, ◌*ℤ◌, ◌<ℤ◌, unsigned_abs, int_div, int_le, ◌&&◌}
 use Rattle.std.specs.Int.{w128, int_signum, int_div_euclid}
 use Rattle.std.proofs.lemmas.Int.{ints, unsigned_abs-mul, fits_signed_mul, fits_signed_from_abs}
@@ -79,10 +79,6 @@ offset_fits t b ht hb p =
 
     twice_and : (t c : ℤ) → unsigned_abs t ≤ greatest_numerator → unsigned_abs c ≤ 2 * greatest_product → unsigned_abs (pos 2 *ℤ t +ℤ c) ≤ 2 * greatest_numerator + 2 * greatest_product
     twice_and t c h k = omega (arith, ints)
-
-pub positive_bits : (z : ℤ) → pos 0 <ℤ z → 0 < of_z w128 z
-positive_bits (pos n) h = omega (arith, ints)
-positive_bits (negsuc n) h = absurd (omega (arith, ints))
 
 pub abs_positive : (z : ℤ) → z ≢ pos 0 → pos 0 <ℤ pos (unsigned_abs z)
 abs_positive (pos zero) h = absurd (h refl)

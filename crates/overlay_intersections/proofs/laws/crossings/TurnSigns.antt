@@ -8,16 +8,17 @@ use Rattle.std.proofs.lemmas.Int.{ints}
 use Rattle.std.proofs.lemmas.Bool.{false_from_ne_true, both_ways, false≢true}
 use Rattle.std.proofs.lemmas.Bool.Decides.{Decides-int_eq}
 use Rattle.std.proofs.Math.IntN.{*ℤ_comm}
-use Rattle.overlay_geometry.specs.Points.{Point, Pair, turn, point_eq, is_strictly_inside}
+use Rattle.overlay_geometry.specs.Points.{Point, Pair, turn, is_strictly_inside}
 use Rattle.overlay_geometry.specs.Turns.{clock_direction}
 use Rattle.overlay_geometry.specs.Meeting.{are_collinear, have_opposite_signs, separates, do_cross}
 use Rattle.overlay_intersections.specs.Marks.{Placing}
 use Rattle.overlay_intersections.specs.Counts.{count_true}
 use Rattle.overlay_intersections.specs.CrossAnswer.{CrossAnswer, target_end, other_end, overlay, answer_at, cross_answer, crossing_answer, touch_answer}
 use Rattle.overlay_geometry.proofs.laws.geometry.Polynomials.{mul-neg_right}
-use Rattle.overlay_geometry.proofs.laws.geometry.Points.{same_by_eq, not_same, mean_x, mean_y, turn_same_outer, turn_same_last}
+use Rattle.overlay_geometry.proofs.laws.geometry.Points.{mean_x, mean_y, turn_same_outer, turn_same_last}
 use Rattle.overlay_intersections.proofs.laws.crossings.Lines.{inside_parts, inside_by_weights}
-use Rattle.overlay_intersections.proofs.laws.crossings.AnswerMarks.{by_bool, crossing_is_clear, collinear_parts, collinear_from, line_back, on_line_by_end, zero_swapped}
+use Rattle.overlay_intersections.proofs.laws.crossings.AnswerMarks.{crossing_is_clear, collinear_parts, collinear_from, line_back, on_line_by_end, zero_swapped}
+use Rattle.overlay_geometry.proofs.laws.integers.Products.{times_zero}
 
 -- ---- signs
 
@@ -41,9 +42,6 @@ same_direction : (u v : ℤ) → int_eq (neg_ℤ (int_signum u)) (neg_ℤ (int_s
 same_direction u v = grind (arith, ints)
 
 -- ---- an end of t on the line of s, with the other segment's ends off the line of t: it lies strictly inside s where these ends are on two sides of t
-
-times_zero : (a : ℤ) → a *ℤ pos 0 ≡ pos 0
-times_zero a = omega (arith, ints)
 
 weights_plain : (k t l o1 m o2 n o3 r : ℤ) → k *ℤ t ≡ l *ℤ o1 +ℤ m *ℤ o2 +ℤ n *ℤ o3 → t ≡ pos 0 → o3 ≡ pos 0 → r ≡ neg_ℤ m → o1 *ℤ l ≡ o2 *ℤ r
 weights_plain k t l o1 m o2 n o3 r e ht h3 hr =
@@ -276,13 +274,6 @@ tests_of_directions s t o1 o2 o3 o4 e1 e2 e3 e4 = record {
 
 -- ---- how many of the four turns are 0
 
--- all four are where the ends lie on one line
-pub all_zero_when_collinear : (s t : Pair) → s.a ≢ s.b → are_collinear s t ≡ true → (turn s.a s.b t.a ≡ pos 0) × (turn s.a s.b t.b ≡ pos 0) × (turn t.a t.b s.a ≡ pos 0) × (turn t.a t.b s.b ≡ pos 0)
-all_zero_when_collinear s t apart h =
-    let p = collinear_parts s t h in
-    let q = line_back t.a t.b s.a s.b apart p.0 p.1 in
-    (p.0, p.1, q.0, q.1)
-
 at_most_one : (b : Bool) → from_bool b ≤ 1
 at_most_one true = omega arith
 at_most_one false = omega arith
@@ -299,10 +290,3 @@ never_three s t false b2 true true c d hs ht k e =
 never_three s t true false true true c d hs ht k e =
     false≢true (k.zero_other_b.1 (line_back s.a s.b t.a t.b ht (k.zero_target_a.0 refl) (k.zero_target_b.0 refl)).1)
 never_three s t b1 b2 b3 b4 c d hs ht k e = omega (arith, at_most_one b1, at_most_one b2, at_most_one b3, at_most_one b4)
-
--- where two are, and the ends do not lie on one line, they are a shared end
-pub zeros_share : (s t : Pair) (e f : Point) → are_collinear s t ≡ false → (e ≡ s.a) ⊎ (e ≡ s.b) → (f ≡ t.a) ⊎ (f ≡ t.b) → turn s.a s.b f ≡ pos 0 → turn t.a t.b e ≡ pos 0 → e ≡ f
-zeros_share s t e f off he hf zf ze =
-    by_bool (point_eq e f)
-    (same_by_eq e f)
-    (λ n. absurd (one_point s t e f off hf (end_on s e he) ze zf (not_same e f n)))

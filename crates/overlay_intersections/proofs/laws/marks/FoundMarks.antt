@@ -1,6 +1,6 @@
 -- The walk over the segments that follow one in a list, and what it finds.
 use Rattle.std.proofs.Common.{◌≡◌, refl, sym, ap, ap₂, subst, ◌∙◌, ℕ, ◌+◌, ◌<◌, ◌≤◌, zero, suc, arith, append_assoc, append-nil, add-one, Bool, true, false, ◌||◌, IsTrue, List, [], ◌∷◌, ◌++◌, drop, length, get_or, Ordering, Less, Equal, Greater, is_lt, is_gt}
-use Rattle.std.specs.Prelude.{◌≤ℤ◌, ◌<ℤ◌}
+use Rattle.std.specs.Prelude.{◌<ℤ◌}
 use Rattle.std.specs.Ordering.{ordering_reverse}
 use Rattle.std.specs.List.{list_any, AllByRecursion}
 use Rattle.std.proofs.lemmas.Int.{ints}
@@ -11,7 +11,7 @@ use Rattle.overlay_geometry.specs.Points.{Point, Pair, pair_cmp, pair_lt, is_ord
 use Rattle.overlay_base.specs.Segments.{pairs}
 use Rattle.overlay_base.specs.SegmentOf.{segments_of, ends_of}
 use Rattle.overlay_base.specs.declared.segm.segment.Segment.{Segment}
-use Rattle.overlay_geometry.proofs.laws.geometry.Points.{pair_cmp_total}
+use Rattle.overlay_geometry.proofs.laws.geometry.Points.{pair_cmp_total, starts_in_order}
 use Rattle.overlay_geometry.proofs.laws.lists.Keys.{IsInOrder}
 use Rattle.overlay_geometry.proofs.laws.lists.Elements.{IsInOrder-drop, AllByRecursion-drop, AllByRecursion-drop_later}
 use Rattle.overlay_base.proofs.laws.geometry.Apart.{pairs-map, apart_in_x}
@@ -109,12 +109,9 @@ later_is_not_less ps i j s t o lt d e =
     by Equal h = refl
     by Greater h = cc
 
-starts_up : (t u : Pair) → is_gt (pair_cmp t u) ≡ false → t.a.x ≤ℤ u.a.x
-starts_up t u h = grind (arith, ints)
-
 all_right : (s t : Pair) (us : List Pair) → IsTrue (is_ordered s) → s.b.x <ℤ t.a.x → AllByRecursion (λ u. is_gt (pair_cmp t u) ≡ false) us → AllByRecursion (λ u. IsTrue (is_ordered u)) us → AllByRecursion (AreApart s) us
 all_right s t [] hs less h k = tt
-all_right s t (u ∷ us) hs less h k = (let up = starts_up t u h.0 in apart_in_x s u hs k.0 (omega (arith, ints)), all_right s t us hs less h.1 k.1)
+all_right s t (u ∷ us) hs less h k = (let up = starts_in_order t u h.0 in apart_in_x s u hs k.0 (omega (arith, ints)), all_right s t us hs less h.1 k.1)
 
 -- from a pair that starts right of the end of s on, all are apart from s
 pub rest_is_apart : (ps : List Pair) (j : ℕ) (s t : Pair) → IsInOrder pair_cmp ps → AllByRecursion (λ u. IsTrue (is_ordered u)) ps → IsTrue (is_ordered s) → drop j ps ≡ t ∷ drop (j + 1) ps → s.b.x <ℤ t.a.x →

@@ -1,35 +1,19 @@
 -- Two pairs of which one marks the other have closed boxes that meet.
-use Rattle.std.proofs.Common.{◌≡◌, sym, ◌<◌, ◌⊎◌, inl, inr, arith, Bool, true, false, not, if◌then◌else◌, ◌&&◌, ◌||◌, IsTrue, List, [], ◌∷◌, length}
-use Rattle.std.specs.Prelude.{ℤ, pos, ◌+ℤ◌, ◌-ℤ◌, ◌*ℤ◌, ◌≤ℤ◌, ◌<ℤ◌, neg_ℤ, int_le, filter}
+use Rattle.std.proofs.Common.{◌≡◌, ◌<◌, ◌⊎◌, inl, inr, arith, Bool, true, false, not, ◌&&◌, ◌||◌, IsTrue}
+use Rattle.std.specs.Prelude.{ℤ, pos, ◌+ℤ◌, ◌-ℤ◌, ◌*ℤ◌, ◌≤ℤ◌, ◌<ℤ◌, neg_ℤ}
 use Rattle.std.specs.Int.{int_min, int_max}
-use Rattle.std.specs.Ordering.{int_eq}
 use Rattle.std.proofs.lemmas.Int.{ints, by_lt_z, clamps}
 use Rattle.overlay_geometry.specs.Points.{Point, Pair, turn, is_in_box, is_end, lies_on, is_strictly_inside}
 use Rattle.overlay_geometry.specs.Meeting.{have_opposite_signs, separates, do_cross}
-use Rattle.overlay_intersections.specs.Marks.{Placing, marks_by}
-use Rattle.overlay_intersections.specs.Looked.{ranges_meet, boxes_meet}
+use Rattle.overlay_intersections.specs.Looked.{ranges_meet}
 use Rattle.overlay_geometry.proofs.laws.geometry.Polynomials.{as_D, diffs, D-eq, mul-pos, mul-nonneg}
+use Rattle.overlay_geometry.proofs.laws.integers.Tests.{le-test, le-tested, eq-tested}
 
 -- ---- what a mark says
-
-choice_length : (c : Bool) (xs ys : List Point) → 0 < length (if c then xs else ys) → IsTrue c ⊎ (0 < length ys)
-choice_length true xs ys h = inl (grind arith)
-choice_length false xs ys h = inr h
-
-filter_two : (f : Point → Bool) (p q : Point) → 0 < length (filter f (p ∷ q ∷ [])) → IsTrue (f p || f q)
-filter_two f p q h = grind arith
 
 pub from_or : (b c : Bool) → IsTrue (b || c) → IsTrue b ⊎ IsTrue c
 from_or true c h = inl h
 from_or false c h = inr h
-
--- a mark comes from a crossing or from an end that lies strictly inside
-pub marks_by_from : (placing : Placing) (s t : Pair) → 0 < length (marks_by placing s t) → IsTrue (do_cross s t) ⊎ (IsTrue (is_strictly_inside s t.a) ⊎ IsTrue (is_strictly_inside s t.b))
-unfolding marks_by
-marks_by_from placing s t h = elim (choice_length _ _ _ h) [
-  | inl crossing ↦ inl crossing
-  | inr some ↦ inr (from_or _ _ (filter_two (λ p. is_strictly_inside s p) t.a t.b some))
-]
 
 -- a point strictly inside a pair
 pub record Inside (s : Pair) (p : Point) : Type 0 where
@@ -44,15 +28,6 @@ pub record Inside (s : Pair) (p : Point) : Type 0 where
 pub both : (b c : Bool) → IsTrue (b && c) → IsTrue b × IsTrue c
 both true c h = (grind arith, h)
 both false c h = absurd (grind arith)
-
-pub from_le : (a b : ℤ) → IsTrue (int_le a b) → a ≤ℤ b
-from_le a b h = grind (arith, ints)
-
-pub to_le : (a b : ℤ) → a ≤ℤ b → IsTrue (int_le a b)
-to_le a b h = grind (arith, ints)
-
-from_eq : (a b : ℤ) → IsTrue (int_eq a b) → a ≡ b
-from_eq a b h = grind (arith, ints)
 
 not_end_a : (s : Pair) (p : Point) → IsTrue (not (is_end s p)) → p.x ≡ s.a.x → p.y ≡ s.a.y → ⊥
 not_end_a s p h e f = grind (arith, ints)
@@ -69,11 +44,11 @@ inside s p h =
     let (x1, x2) = both _ _ xs in
     let (y1, y2) = both _ _ ys in
     record {
-      on_line = from_eq _ _ line;
-      left = from_le _ _ x1;
-      right = from_le _ _ x2;
-      low = from_le _ _ y1;
-      high = from_le _ _ y2;
+      on_line = eq-tested _ _ line;
+      left = le-tested _ _ x1;
+      right = le-tested _ _ x2;
+      low = le-tested _ _ y1;
+      high = le-tested _ _ y2;
       not_a = λ e f. not_end_a s p off e f;
       not_b = λ e f. not_end_b s p off e f;
     }
@@ -103,26 +78,13 @@ crossing_rises s t h = elim (signs (turn s.a s.b t.a) (turn s.a s.b t.b) (turn t
 
 -- ---- boxes
 
--- two means with weights of one sum are equal: the numbers of the one cannot all be below those of the other
 weigh : (k l m n p q r s c : ℤ) → k *ℤ (p -ℤ c) +ℤ l *ℤ (q -ℤ c) +ℤ m *ℤ (c -ℤ r) +ℤ n *ℤ (c -ℤ s) ≡ (k *ℤ p +ℤ l *ℤ q) -ℤ (m *ℤ r +ℤ n *ℤ s) -ℤ ((k +ℤ l) -ℤ (m +ℤ n)) *ℤ c
 weigh k l m n p q r s c = rw (as_D k, as_D l, as_D m, as_D n, as_D p, as_D q, as_D r, as_D s, as_D c) (simp diffs (D-eq _ _ _ _ (omega arith)))
 
 pub zero_times : (z c : ℤ) → z ≡ pos 0 → z *ℤ c ≡ pos 0
 zero_times z c e = rw e (omega (arith, ints))
 
-pub means_meet : (k l m n p q r s : ℤ) → pos 0 <ℤ k → pos 0 <ℤ l → pos 0 <ℤ m → pos 0 <ℤ n → k +ℤ l ≡ m +ℤ n → k *ℤ p +ℤ l *ℤ q ≡ m *ℤ r +ℤ n *ℤ s →
-    r <ℤ p → r <ℤ q → s <ℤ p → s <ℤ q → ⊥
-means_meet k l m n p q r s hk hl hm hn e f rp rq sp sq =
-    let c : ℤ = int_max r s in
-    let a1 : pos 0 <ℤ (k *ℤ (p -ℤ c)) = mul-pos k (p -ℤ c) hk (omega (arith, ints, clamps)) in
-    let a2 : pos 0 <ℤ (l *ℤ (q -ℤ c)) = mul-pos l (q -ℤ c) hl (omega (arith, ints, clamps)) in
-    let a3 : pos 0 ≤ℤ (m *ℤ (c -ℤ r)) = mul-nonneg m (c -ℤ r) (omega (arith, ints)) (omega (arith, ints, clamps)) in
-    let a4 : pos 0 ≤ℤ (n *ℤ (c -ℤ s)) = mul-nonneg n (c -ℤ s) (omega (arith, ints)) (omega (arith, ints, clamps)) in
-    let z = zero_times ((k +ℤ l) -ℤ (m +ℤ n)) c (omega (arith, ints)) in
-    let w = weigh k l m n p q r s c in
-    omega (arith, ints)
-
--- the same, where none of the one lies below c and none of the other above it
+-- two means of one sum of weights differ where the numbers of the one are c or more, those of the other c or less, and the first is not c
 pub means_apart_first : (k l m n p q r s c : ℤ) → pos 0 <ℤ k → pos 0 <ℤ l → pos 0 <ℤ m → pos 0 <ℤ n → k +ℤ l ≡ m +ℤ n → k *ℤ p +ℤ l *ℤ q ≡ m *ℤ r +ℤ n *ℤ s →
     c <ℤ p → c ≤ℤ q → r ≤ℤ c → s ≤ℤ c → ⊥
 means_apart_first k l m n p q r s c hk hl hm hn e f cp cq rc sc =
@@ -148,23 +110,11 @@ means_apart_last k l m n p q r s c hk hl hm hn e f cp cq rc sc =
 -- the boxes of two pairs, as inequalities
 pub ranges_from : (u v u' v' : ℤ) → int_max (int_min u v) (int_min u' v') ≤ℤ int_min (int_max u v) (int_max u' v') → IsTrue (ranges_meet u v u' v')
 unfolding ranges_meet
-ranges_from u v u' v' h = to_le _ _ h
-
--- ranges that share a number meet
-pub ranges_share : (u v u' v' z : ℤ) → int_min u v ≤ℤ z → z ≤ℤ int_max u v → int_min u' v' ≤ℤ z → z ≤ℤ int_max u' v' → IsTrue (ranges_meet u v u' v')
-ranges_share u v u' v' z h k l m = ranges_from u v u' v' (omega (arith, ints, clamps))
-
--- so do ranges of which neither lies below the other
-pub ranges_close : (u v u' v' : ℤ) → (u <ℤ u' → u <ℤ v' → v <ℤ u' → v <ℤ v' → ⊥) → (u' <ℤ u → u' <ℤ v → v' <ℤ u → v' <ℤ v → ⊥) → IsTrue (ranges_meet u v u' v')
-ranges_close u v u' v' f g = by_lt_z (int_max u v) (int_min u' v')
-    (λ less. absurd (f (omega (arith, ints, clamps)) (omega (arith, ints, clamps)) (omega (arith, ints, clamps)) (omega (arith, ints, clamps))))
-    (λ more. by_lt_z (int_max u' v') (int_min u v)
-    (λ less. absurd (g (omega (arith, ints, clamps)) (omega (arith, ints, clamps)) (omega (arith, ints, clamps)) (omega (arith, ints, clamps))))
-    (λ other. ranges_from u v u' v' (omega (arith, ints, clamps))))
+ranges_from u v u' v' h = le-test _ _ h
 
 pub from_ranges_meet : (u v u' v' : ℤ) → IsTrue (ranges_meet u v u' v') → int_max (int_min u v) (int_min u' v') ≤ℤ int_min (int_max u v) (int_max u' v')
 unfolding ranges_meet
-from_ranges_meet u v u' v' h = from_le _ _ h
+from_ranges_meet u v u' v' h = le-tested _ _ h
 
 pub ranges_swap : (u v u' v' : ℤ) → IsTrue (ranges_meet u v u' v') → IsTrue (ranges_meet u' v' u v)
 ranges_swap u v u' v' h = let k = from_ranges_meet u v u' v' h in ranges_from u' v' u v (omega (arith, ints, clamps))
@@ -173,54 +123,7 @@ pub join_tests : (b c : Bool) → IsTrue b → IsTrue c → IsTrue (b && c)
 join_tests true c h k = k
 join_tests false c h k = h
 
-pub boxes_meet_swap : (s t : Pair) → IsTrue (boxes_meet s t) → IsTrue (boxes_meet t s)
-unfolding boxes_meet
-boxes_meet_swap s t h = let (x, y) = both _ _ h in join_tests _ _ (ranges_swap _ _ _ _ x) (ranges_swap _ _ _ _ y)
-
--- with an end strictly inside
-pub boxes_meet_at : (s t : Pair) (p : Point) → Inside s p → int_min t.a.x t.b.x ≤ℤ p.x → p.x ≤ℤ int_max t.a.x t.b.x → int_min t.a.y t.b.y ≤ℤ p.y → p.y ≤ℤ int_max t.a.y t.b.y → IsTrue (boxes_meet s t)
-unfolding boxes_meet
-boxes_meet_at s t p i h k l m = join_tests _ _ (ranges_share _ _ _ _ p.x i.left i.right h k) (ranges_share _ _ _ _ p.y i.low i.high l m)
-
 -- The point at which they cross is a mean of the ends of t, by their turns from s, and of those of s, by their turns from t.
 pub crossing_mean_x : (s t : Pair) → turn s.a s.b t.b *ℤ (t.a.x -ℤ s.a.x) +ℤ neg_ℤ (turn s.a s.b t.a) *ℤ (t.b.x -ℤ s.a.x) ≡ turn t.a t.b s.a *ℤ (s.b.x -ℤ s.a.x) +ℤ neg_ℤ (turn t.a t.b s.b) *ℤ pos 0
 unfolding turn
 crossing_mean_x s t = rw (as_D s.a.x, as_D s.a.y, as_D s.b.x, as_D s.b.y, as_D t.a.x, as_D t.a.y, as_D t.b.x, as_D t.b.y) (simp diffs (D-eq _ _ _ _ (omega arith)))
-
-pub crossing_mean_y : (s t : Pair) → turn s.a s.b t.b *ℤ (t.a.y -ℤ s.a.y) +ℤ neg_ℤ (turn s.a s.b t.a) *ℤ (t.b.y -ℤ s.a.y) ≡ turn t.a t.b s.a *ℤ (s.b.y -ℤ s.a.y) +ℤ neg_ℤ (turn t.a t.b s.b) *ℤ pos 0
-unfolding turn
-crossing_mean_y s t = rw (as_D s.a.x, as_D s.a.y, as_D s.b.x, as_D s.b.y, as_D t.a.x, as_D t.a.y, as_D t.b.x, as_D t.b.y) (simp diffs (D-eq _ _ _ _ (omega arith)))
-
-pub boxes_meet_rises : (s t : Pair) → RisesThrough s t → IsTrue (boxes_meet s t)
-unfolding boxes_meet
-boxes_meet_rises s t r =
-    let k : ℤ = turn s.a s.b t.b in
-    let l : ℤ = neg_ℤ (turn s.a s.b t.a) in
-    let m : ℤ = turn t.a t.b s.a in
-    let n : ℤ = neg_ℤ (turn t.a t.b s.b) in
-    let e = crossing_turns s t in
-    let hk : pos 0 <ℤ k = r.end_above in
-    let hl : pos 0 <ℤ l = omega (arith, ints) in
-    let hm : pos 0 <ℤ m = r.left_above in
-    let hn : pos 0 <ℤ n = omega (arith, ints) in
-    let sum : k +ℤ l ≡ m +ℤ n = omega (arith, ints) in
-    join_tests _ _
-    (ranges_close _ _ _ _
-    (λ f g h i. means_meet k l m n (t.a.x -ℤ s.a.x) (t.b.x -ℤ s.a.x) (s.b.x -ℤ s.a.x) (pos 0) hk hl hm hn sum (crossing_mean_x s t) (omega (arith, ints)) (omega (arith, ints)) (omega (arith, ints)) (omega (arith, ints)))
-    (λ f g h i. means_meet m n k l (s.b.x -ℤ s.a.x) (pos 0) (t.a.x -ℤ s.a.x) (t.b.x -ℤ s.a.x) hm hn hk hl (sym sum) (sym (crossing_mean_x s t)) (omega (arith, ints)) (omega (arith, ints)) (omega (arith, ints)) (omega (arith, ints))))
-    (ranges_close _ _ _ _
-    (λ f g h i. means_meet k l m n (t.a.y -ℤ s.a.y) (t.b.y -ℤ s.a.y) (s.b.y -ℤ s.a.y) (pos 0) hk hl hm hn sum (crossing_mean_y s t) (omega (arith, ints)) (omega (arith, ints)) (omega (arith, ints)) (omega (arith, ints)))
-    (λ f g h i. means_meet m n k l (s.b.y -ℤ s.a.y) (pos 0) (t.a.y -ℤ s.a.y) (t.b.y -ℤ s.a.y) hm hn hk hl (sym sum) (sym (crossing_mean_y s t)) (omega (arith, ints)) (omega (arith, ints)) (omega (arith, ints)) (omega (arith, ints))))
-
--- Two pairs of which one marks the other have boxes that meet.
-pub marked_boxes_meet : (placing : Placing) (s t : Pair) → 0 < length (marks_by placing s t) → IsTrue (boxes_meet s t)
-marked_boxes_meet placing s t h = elim (marks_by_from placing s t h) [
-  | inl crossing ↦ elim (crossing_rises s t crossing) [
-    | inl rises ↦ boxes_meet_rises s t rises
-    | inr rises ↦ boxes_meet_swap t s (boxes_meet_rises t s rises)
-  ]
-  | inr end ↦ elim end [
-    | inl a ↦ boxes_meet_at s t t.a (inside s t.a a) (omega (arith, ints, clamps)) (omega (arith, ints, clamps)) (omega (arith, ints, clamps)) (omega (arith, ints, clamps))
-    | inr b ↦ boxes_meet_at s t t.b (inside s t.b b) (omega (arith, ints, clamps)) (omega (arith, ints, clamps)) (omega (arith, ints, clamps)) (omega (arith, ints, clamps))
-  ]
-]

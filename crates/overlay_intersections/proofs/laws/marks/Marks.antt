@@ -16,7 +16,8 @@ use Rattle.overlay_geometry.proofs.laws.geometry.Points.{lies_on_parts, point_eq
 use Rattle.overlay_geometry.proofs.laws.lists.Keys.{AllByRecursion-distinct_in_order}
 use Rattle.overlay_geometry.proofs.laws.lists.Lists.{AllByRecursion-from_Has, AllByRecursion-filter, AllByRecursion-flat_map}
 use Rattle.overlay_intersections.proofs.laws.crossings.Rounding.{IsRoundedUp, IsRoundedUp-whole, nearest_upward-is}
-use Rattle.overlay_intersections.proofs.laws.crossings.Crossings.{int_le-to, IsPart, IsPart-share, do_cross-swap, share, scale, scale-swap, exact_x, exact_y, offset_x-is, offset_y-is}
+use Rattle.overlay_intersections.proofs.laws.crossings.Crossings.{IsPart, IsPart-share, do_cross-swap, share, scale, scale-swap, exact_x, exact_y, offset_x-is, offset_y-is}
+use Rattle.overlay_geometry.proofs.laws.integers.Tests.{le-tested}
 
 -- ---- the marks that one pair puts on another
 
@@ -124,8 +125,8 @@ rounded_at t z w p e = subst (λ (u : ℤ). IsRoundedUp u w z) (sym e) (IsRounde
 within : (a b p : ℤ) → IsTrue (is_between a b p) → a ≤ℤ b → (a ≤ℤ p) × (p ≤ℤ b)
 within a b p h k =
     let i = and_parts (int_le (int_min a b) p) (int_le p (int_max a b)) h in
-    let l : int_min a b ≤ℤ p = int_le-to (int_min a b) p i.0 in
-    let m : p ≤ℤ int_max a b = int_le-to p (int_max a b) i.1 in
+    let l : int_min a b ≤ℤ p = le-tested (int_min a b) p i.0 in
+    let m : p ≤ℤ int_max a b = le-tested p (int_max a b) i.1 in
     (omega (arith, ints, clamps, l), omega (arith, ints, clamps, m))
 
 within_any : (a b p : ℤ) → IsTrue (is_between a b p) → a ≡ b → p ≡ a

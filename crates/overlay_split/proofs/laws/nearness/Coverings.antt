@@ -11,7 +11,7 @@ use Rattle.overlay_base.specs.Segments.{WholeSegment, pairs, are_ordered, windin
 use Rattle.overlay_base.specs.Join.{join}
 use Rattle.overlay_geometry.proofs.laws.geometry.Polynomials.{as_D, diffs, D-eq}
 use Rattle.overlay_geometry.proofs.laws.lists.Lists.{Has, Has-append_left, Has-append_right, Has-flat_map, Has-map, Has-map_out, Has-from_list_any, list_all-at}
-use Rattle.overlay_geometry.proofs.laws.lists.Elements.{Has-append_out}
+use Rattle.overlay_geometry.proofs.laws.lists.Elements.{Has-append_out, Contains-from_Has, Has-from_Contains}
 use Rattle.overlay_geometry.proofs.laws.geometry.Points.{same_pair_by_eq}
 use Rattle.overlay_base.proofs.laws.joins.Members.{holds-join}
 use Rattle.overlay_base.proofs.laws.joins.Maps.{are_ordered-map}
@@ -26,13 +26,14 @@ use Rattle.overlay_split.specs.Nearness.{whole_point, Fraction, point_along, IsW
 use Rattle.overlay_split.specs.Laws.{PiecesStayNear, RunStaysNear}
 use Rattle.overlay_split.proofs.laws.nearness.Distances.{no_way, whole_way, mean, IsWithin-start, IsWithin-end, IsNear-end, IsWithin-mean, IsWithin-swap, IsWithin-triangle, IsNear-from_point, LiesNear-itself}
 use Rattle.overlay_split.proofs.laws.nearness.NearMarks.{AreNear, marks_lie_near, exact_marks_lie_on}
-use Rattle.overlay_split.proofs.laws.nearness.Nearness.{Contains-from_Has, Has-from_Contains, run_lies_near}
+use Rattle.overlay_split.proofs.laws.nearness.Nearness.{run_lies_near}
 use Rattle.overlay_split.proofs.laws.paths.Runs.{is_map-after_passes}
 use Rattle.overlay_split.proofs.laws.paths.Potentials.{ends_differ}
 use Rattle.overlay_split.proofs.laws.paths.Boxes.{path_from_has}
 use Rattle.overlay_split.proofs.laws.paths.Paths.{all_of-columns_of}
 use Rattle.overlay_intersections.proofs.laws.marks.Marks.{Differ}
 use Rattle.overlay_split.proofs.laws.paths.Pieces.{last_point-path_from}
+use Rattle.std.proofs.Math.Nat.{add-zero}
 
 -- ---- between two fractions
 
@@ -125,11 +126,8 @@ step_covers h r s g f k first last low high =
     let b = between g f k low high in
     let m = mean b.way g k in
     let there = IsWithin-triangle h 0 (point_along r b.way) (point_along s m) (point_along s f) m.positive (IsWithin-mean h r s b.way g k first last) (IsWithin-same s m f b.is_same) in
-    let plain : IsWithin h (point_along r b.way) (point_along s f) = subst (λ (i : ℕ). IsWithin i (point_along r b.way) (point_along s f)) (no_more h) there in
+    let plain : IsWithin h (point_along r b.way) (point_along s f) = subst (λ (i : ℕ). IsWithin i (point_along r b.way) (point_along s f)) (add-zero h) there in
     (b.way, IsWithin-swap h (point_along r b.way) (point_along s f) plain)
-  where
-    no_more : (h : ℕ) → h + 0 ≡ h
-    no_more h = omega arith
 
 -- ---- pieces
 

@@ -6,6 +6,7 @@ use Rattle.overlay_geometry.specs.Points.{Pair}
 use Rattle.overlay_geometry.proofs.laws.geometry.Polynomials.{as_D, diffs, D-eq, mul-nonneg, mul-le_left, cancel-le}
 use Rattle.overlay_base.specs.Places.{RationalPoint}
 use Rattle.overlay_split.specs.Nearness.{whole_point, Fraction, point_along, IsWithin, IsNear, LiesNear}
+use Rattle.overlay_geometry.proofs.laws.integers.Products.{plus_le, plus_nonneg}
 
 -- ---- one coordinate
 
@@ -45,10 +46,7 @@ IsUnder-triangle : (h k : ℕ) (u : ℤ) (m : ℕ) (v : ℤ) (n : ℕ) (w : ℤ)
 IsUnder-triangle h k u m v n w l p first second =
     let one = mul-le_left (pos l) _ _ (omega (arith, ints)) first in
     let two = mul-le_left (pos m) _ _ (omega (arith, ints)) second in
-    cancel-le (pos n) _ _ (omega (arith, ints)) (rw (over_left u v w (pos m) (pos n) (pos l), over_right h k m n l) (both _ _ _ _ one two))
-  where
-    both : (a b c d : ℤ) → a ≤ℤ b → c ≤ℤ d → (a +ℤ c) ≤ℤ (b +ℤ d)
-    both a b c d p q = omega (arith, ints)
+    cancel-le (pos n) _ _ (omega (arith, ints)) (rw (over_left u v w (pos m) (pos n) (pos l), over_right h k m n l) (plus_le _ _ _ _ one two))
 
 pub AreClose-triangle : (h k : ℕ) (u : ℤ) (m : ℕ) (v : ℤ) (n : ℕ) (w : ℤ) (l : ℕ) → 0 < n → AreClose h u m v n → AreClose k v n w l → AreClose (h + k) u m w l
 AreClose-triangle h k u m v n w l p c d = record {
@@ -83,10 +81,7 @@ gap_positive : (m a b : ℕ) (x y : ℤ) → pos 0 ≤ℤ x → pos 0 ≤ℤ y �
 gap_positive m a b x y p q =
     let f = mul-nonneg (pos a) x (omega (arith, ints)) p in
     let g = mul-nonneg (pos b) y (omega (arith, ints)) q in
-    mul-nonneg (pos m) _ (omega (arith, ints)) (sum_positive _ _ f g)
-  where
-    sum_positive : (x y : ℤ) → pos 0 ≤ℤ x → pos 0 ≤ℤ y → pos 0 ≤ℤ (x +ℤ y)
-    sum_positive x y p q = omega (arith, ints)
+    mul-nonneg (pos m) _ (omega (arith, ints)) (plus_nonneg _ _ f g)
 
 less_by : (x y z : ℤ) → y ≡ x +ℤ z → pos 0 ≤ℤ z → x ≤ℤ y
 less_by x y z e p = omega (arith, ints)

@@ -10,13 +10,15 @@ use Rattle.overlay_geometry.specs.Below.{width}
 use Rattle.overlay_base.specs.Segments.{WholeSegment, pairs}
 use Rattle.overlay_base.specs.Places.{RationalPoint}
 use Rattle.overlay_base.specs.Rays.{place_turn, goes_through}
-use Rattle.overlay_geometry.proofs.laws.geometry.Polynomials.{as_D, diffs, D-eq, mul-pos, mul-le_left}
+use Rattle.overlay_geometry.proofs.laws.geometry.Polynomials.{as_D, diffs, D-eq, mul-pos, mul-le_left, difference-nonneg}
 use Rattle.overlay_geometry.proofs.laws.geometry.Points.{before}
 use Rattle.overlay_geometry.proofs.laws.lists.Lists.{list_all-at, list_all-from_Has}
 use Rattle.overlay_base.proofs.laws.rays.Rays.{any_ray_will_do}
 use Rattle.overlay_split.specs.Nearness.{Fraction, IsNear, reach_of_run}
 use Rattle.overlay_split.specs.Laws.{FarLiesOnNone, RunKeepsRays}
 use Rattle.overlay_split.proofs.laws.nearness.Places.{IsFar-nearer, far_from, run_keeps_winding}
+use Rattle.overlay_geometry.proofs.laws.integers.Tests.{le_equal, le_weak}
+use Rattle.overlay_geometry.proofs.laws.integers.Products.{abs_nonneg}
 
 -- ---- a place on a segment is a point along it
 
@@ -26,15 +28,12 @@ no_distance u v n e = omega (arith, ints, e)
 between_parts : (a b z : ℤ) → a ≤ℤ b → is_between a b z ≡ true → (a ≤ℤ z) × (z ≤ℤ b)
 between_parts a b z h k = grind (arith, ints)
 
-natural : (z : ℤ) → pos 0 ≤ℤ z → pos (unsigned_abs z) ≡ z
-natural z h = omega (arith, ints, h)
-
 -- i / m of the way along s
 at_fraction : (s : Pair) (p : RationalPoint) (i m : ℤ) → pos 0 ≤ℤ i → i ≤ℤ m → pos 0 <ℤ m →
     p.x *ℤ m ≡ (s.a.x *ℤ m +ℤ (s.b.x -ℤ s.a.x) *ℤ i) *ℤ pos p.bottom → p.y *ℤ m ≡ (s.a.y *ℤ m +ℤ (s.b.y -ℤ s.a.y) *ℤ i) *ℤ pos p.bottom → IsNear 0 p s
 at_fraction s p i m some_i within some_m in_x in_y =
-    let is_i = natural i some_i in
-    let is_m = natural m (weakly m some_m) in
+    let is_i = abs_nonneg i some_i in
+    let is_m = abs_nonneg m (weakly m some_m) in
     let f : Fraction = record { part = unsigned_abs i; whole = unsigned_abs m; positive = positive m some_m; at_most_one = at_most i m some_i within } in
     let along_x : p.x *ℤ pos (unsigned_abs m) ≡ (s.a.x *ℤ pos (unsigned_abs m) +ℤ (s.b.x -ℤ s.a.x) *ℤ pos (unsigned_abs i)) *ℤ pos p.bottom = rw (is_m, is_i) in_x in
     let along_y : p.y *ℤ pos (unsigned_abs m) ≡ (s.a.y *ℤ pos (unsigned_abs m) +ℤ (s.b.y -ℤ s.a.y) *ℤ pos (unsigned_abs i)) *ℤ pos p.bottom = rw (is_m, is_i) in_y in
@@ -57,9 +56,6 @@ module _ (s : Pair) (p : RationalPoint) (some : 0 < p.bottom) (zero : place_turn
   stretch : (a b : ℤ) → (b -ℤ a) *ℤ pos p.bottom ≡ b *ℤ pos p.bottom -ℤ a *ℤ pos p.bottom
   stretch a b = rw (as_D a, as_D b) (simp diffs (D-eq _ _ _ _ (omega arith)))
 
-  from_start : (u z : ℤ) → u ≤ℤ z → pos 0 ≤ℤ (z -ℤ u)
-  from_start u z h = omega (arith, ints, h)
-
   to_end : (u v w z : ℤ) → w ≡ v -ℤ u → z ≤ℤ v → (z -ℤ u) ≤ℤ w
   to_end u v w z e h = omega (arith, ints, e, h)
 
@@ -68,14 +64,11 @@ module _ (s : Pair) (p : RationalPoint) (some : 0 < p.bottom) (zero : place_turn
 
   sloped : s.a.x <ℤ s.b.x → IsNear 0 p s
   sloped w =
-      let across = between_parts (s.a.x *ℤ pos p.bottom) (s.b.x *ℤ pos p.bottom) p.x (scaled_le s.a.x s.b.x (weakly s.a.x s.b.x w)) in_x in
-      at_fraction s p (p.x -ℤ s.a.x *ℤ pos p.bottom) ((s.b.x -ℤ s.a.x) *ℤ pos p.bottom) (from_start _ _ across.0) (to_end _ _ _ _ (stretch s.a.x s.b.x) across.1) (some_stretch s.a.x s.b.x w)
+      let across = between_parts (s.a.x *ℤ pos p.bottom) (s.b.x *ℤ pos p.bottom) p.x (scaled_le s.a.x s.b.x (le_weak s.a.x s.b.x w)) in_x in
+      at_fraction s p (p.x -ℤ s.a.x *ℤ pos p.bottom) ((s.b.x -ℤ s.a.x) *ℤ pos p.bottom) (difference-nonneg _ _ across.0) (to_end _ _ _ _ (stretch s.a.x s.b.x) across.1) (some_stretch s.a.x s.b.x w)
       (run s.a.x (s.b.x -ℤ s.a.x) p.x (pos p.bottom))
       (rise s.a.x s.a.y (width s) (s.b.y -ℤ s.a.y) p.x p.y (pos p.bottom) zero)
     where
-      weakly : (a b : ℤ) → a <ℤ b → a ≤ℤ b
-      weakly a b h = omega (arith, ints, h)
-
       run : (a w x d : ℤ) → x *ℤ (w *ℤ d) ≡ (a *ℤ (w *ℤ d) +ℤ w *ℤ (x -ℤ a *ℤ d)) *ℤ d
       run a w x d = rw (as_D a, as_D w, as_D x, as_D d) (simp diffs (D-eq _ _ _ _ (omega arith)))
 
@@ -90,18 +83,12 @@ module _ (s : Pair) (p : RationalPoint) (some : 0 < p.bottom) (zero : place_turn
 
   upright : s.a.x ≡ s.b.x → s.a.y <ℤ s.b.y → IsNear 0 p s
   upright e h =
-      let across = between_parts (s.a.x *ℤ pos p.bottom) (s.b.x *ℤ pos p.bottom) p.x (scaled_le s.a.x s.b.x (same s.a.x s.b.x e)) in_x in
-      let upward = between_parts (s.a.y *ℤ pos p.bottom) (s.b.y *ℤ pos p.bottom) p.y (scaled_le s.a.y s.b.y (weakly s.a.y s.b.y h)) in_y in
-      at_fraction s p (p.y -ℤ s.a.y *ℤ pos p.bottom) ((s.b.y -ℤ s.a.y) *ℤ pos p.bottom) (from_start _ _ upward.0) (to_end _ _ _ _ (stretch s.a.y s.b.y) upward.1) (some_stretch s.a.y s.b.y h)
+      let across = between_parts (s.a.x *ℤ pos p.bottom) (s.b.x *ℤ pos p.bottom) p.x (scaled_le s.a.x s.b.x (le_equal s.a.x s.b.x e)) in_x in
+      let upward = between_parts (s.a.y *ℤ pos p.bottom) (s.b.y *ℤ pos p.bottom) p.y (scaled_le s.a.y s.b.y (le_weak s.a.y s.b.y h)) in_y in
+      at_fraction s p (p.y -ℤ s.a.y *ℤ pos p.bottom) ((s.b.y -ℤ s.a.y) *ℤ pos p.bottom) (difference-nonneg _ _ upward.0) (to_end _ _ _ _ (stretch s.a.y s.b.y) upward.1) (some_stretch s.a.y s.b.y h)
       (level s.a.x s.b.x p.x (pos p.bottom) ((s.b.y -ℤ s.a.y) *ℤ pos p.bottom) (p.y -ℤ s.a.y *ℤ pos p.bottom) e (both _ _ _ (ap (λ (z : ℤ). z *ℤ pos p.bottom) e) across.0 across.1))
       (run s.a.y (s.b.y -ℤ s.a.y) p.y (pos p.bottom))
     where
-      same : (a b : ℤ) → a ≡ b → a ≤ℤ b
-      same a b h = omega (arith, ints, h)
-
-      weakly : (a b : ℤ) → a <ℤ b → a ≤ℤ b
-      weakly a b h = omega (arith, ints, h)
-
       both : (u v z : ℤ) → u ≡ v → u ≤ℤ z → z ≤ℤ v → z ≡ u
       both u v z e h k = omega (arith, ints, e, h, k)
 

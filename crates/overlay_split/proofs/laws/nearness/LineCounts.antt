@@ -18,8 +18,8 @@ use Rattle.overlay_split.specs.Run.{Settings, placing_of_pass, after_passes}
 use Rattle.overlay_split.specs.Nearness.{Cancels, joined_in, are_lines}
 use Rattle.overlay_split.specs.Laws.{LinesAreKept}
 use Rattle.overlay_split.proofs.laws.paths.PieceCounts.{counts-cut}
-use Rattle.overlay_split.proofs.laws.nearness.Nearness.{Has-from_Contains}
 use Rattle.overlay_split.proofs.laws.nearness.Coverings.{run_keeps_near}
+use Rattle.overlay_geometry.proofs.laws.lists.Elements.{Has-from_Contains}
 
 -- a mask of two bits that is not 0
 abbrev IsLine : Winding → Type 0

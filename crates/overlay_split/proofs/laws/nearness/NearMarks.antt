@@ -2,7 +2,7 @@
 use Rattle.std.proofs.Common.{◌≡◌, inl, inr, refl, sym, subst, ◌∙◌, arith, ℕ, zero, suc, ◌+◌, ◌*◌, ◌-◌, ◌<◌, ◌≤◌, List, [], ◌∷◌, true, lit<, ◌^◌, ◌/◌}
 use Rattle.std.specs.Prelude.{ℤ, pos, negsuc, ◌+ℤ◌, ◌-ℤ◌, ◌*ℤ◌, ◌≤ℤ◌, ◌<ℤ◌, neg_ℤ, unsigned_abs, nat_le, IsTrue, IsFalse, not, ◌||◌}
 use Rattle.std.specs.List.{AllByRecursion}
-use Rattle.std.proofs.Math.Nat.{pow-le-pow_right}
+use Rattle.std.proofs.Math.Nat.{pow-le-pow_right, add-zero}
 use Rattle.std.proofs.lemmas.Nat.{pow-add}
 use Rattle.std.proofs.lemmas.Int.{ints}
 use Rattle.std.proofs.lemmas.Bool.{and_parts, cond_both, leb-true, leb-false, cases_lt}
@@ -27,6 +27,7 @@ use Rattle.overlay_intersections.proofs.laws.marks.Marks.{IsPointAlong, lies_alo
 use Rattle.overlay_split.proofs.laws.planar.WholeCrossings.{exact_ordered_mark}
 use Rattle.overlay_split.proofs.laws.planar.ExactMarks.{In, In-mark}
 use Rattle.overlay_split.proofs.laws.nearness.Distances.{IsWithin-weaker, IsWithin-triangle, IsNear-weaker, IsNear-from_point, LiesNear-itself}
+use Rattle.overlay_geometry.proofs.laws.integers.Products.{times_comm}
 
 -- ---- the exact crossing
 
@@ -93,11 +94,8 @@ exact_within s t p at = within_crossing 0 s t p (exact_about _ p.x (scale s t) (
 -- ---- settling
 
 rounded_about : (t z : ℤ) (w : ℕ) → IsRoundedUp t w z → IsAbout 1 t w z
-rounded_about t z w is = plain t (z *ℤ pos w) (pos w *ℤ z) w (turned z (pos w)) is.low is.high
+rounded_about t z w is = plain t (z *ℤ pos w) (pos w *ℤ z) w (times_comm z (pos w)) is.low is.high
   where
-    turned : (z w : ℤ) → z *ℤ w ≡ w *ℤ z
-    turned z w = rw (as_D z, as_D w) (simp diffs (D-eq _ _ _ _ (omega arith)))
-
     plain : (t x y : ℤ) (w : ℕ) → x ≡ y → (pos 2 *ℤ y) ≤ℤ (pos 2 *ℤ t +ℤ pos w) → (pos 2 *ℤ t) <ℤ (pos 2 *ℤ y +ℤ pos w) → 2 * unsigned_abs (x -ℤ t) ≤ 1 * w
     plain t x y w e l k = omega (arith, ints, e, l, k)
 
@@ -251,10 +249,7 @@ mark_is_near placing s t h = record {
 
 -- what is near the crossing is near both
 near_crossing : (h : ℕ) (s t : Pair) (p : Point) → IsTrue (do_cross s t) → IsWithin h (whole_point p) (exact_crossing s t) → IsNear h (whole_point p) s
-near_crossing h s t p c within = subst (λ (i : ℕ). IsNear i (whole_point p) s) (no_more h) (IsNear-from_point h 0 (whole_point p) (exact_crossing s t) s (crossing_positive s t c) within (crossing_lies_on_both s t c).0)
-  where
-    no_more : (h : ℕ) → h + 0 ≡ h
-    no_more h = omega arith
+near_crossing h s t p c within = subst (λ (i : ℕ). IsNear i (whole_point p) s) (add-zero h) (IsNear-from_point h 0 (whole_point p) (exact_crossing s t) s (crossing_positive s t c) within (crossing_lies_on_both s t c).0)
 
 ordered_mark_near : (placing : Placing) (s t : Pair) → IsTrue (do_cross s t) → IsNear (reach placing) (whole_point (ordered_mark placing s t)) s
 ordered_mark_near placing s t h = near_crossing (reach placing) s t (ordered_mark placing s t) h (ordered_mark_within placing s t h)

@@ -3,11 +3,11 @@ use Rattle.std.proofs.Common.{◌≡◌, ⊎_elim, refl, subst, arith, ℕ, zero
 use Rattle.std.specs.Prelude.{IsTrue, IsFalse, Contains, length, nat_le}
 use Rattle.std.specs.List.{AllByRecursion}
 use Rattle.std.proofs.lemmas.Bool.{and_parts, and_cases, both_ways, cond_both, le-leb}
-use Rattle.std.proofs.lemmas.List.Elements.{All-from_recursion, recursion_from_All, All-contains, All-contains_itself}
+use Rattle.std.proofs.lemmas.List.Elements.{All-from_recursion, recursion_from_All, All-contains}
 use Rattle.overlay_geometry.specs.Points.{Point, Pair, is_ordered}
 use Rattle.overlay_base.specs.Segments.{WholeSegment, pairs, are_ordered}
 use Rattle.overlay_base.specs.Join.{join}
-use Rattle.overlay_geometry.proofs.laws.lists.Lists.{AllByRecursion-weaker, AllByRecursion-map, AllByRecursion-at, AllByRecursion-from_Has, AllByRecursion-both, AllByRecursion-from_list_all, Has, Has-map}
+use Rattle.overlay_geometry.proofs.laws.lists.Lists.{AllByRecursion-weaker, AllByRecursion-map, AllByRecursion-from_Has, AllByRecursion-both, AllByRecursion-from_list_all, Has, Has-map}
 use Rattle.overlay_base.proofs.laws.joins.Maps.{are_ordered-map}
 use Rattle.overlay_intersections.specs.Marks.{Placing}
 use Rattle.overlay_split.specs.Path.{pieces}
@@ -23,14 +23,9 @@ use Rattle.overlay_split.proofs.laws.planar.ExactMarks.{In}
 use Rattle.overlay_split.proofs.laws.planar.ExactInputs.{exact_means, join_not_rounded}
 use Rattle.overlay_split.proofs.laws.nearness.Distances.{LiesNear-from_ends, LiesNear-trans, LiesNear-itself, IsNear-start, IsNear-end}
 use Rattle.overlay_split.proofs.laws.nearness.NearMarks.{AreNear, marks_lie_near, exact_marks_lie_on}
+use Rattle.overlay_geometry.proofs.laws.lists.Elements.{Contains-from_Has}
 
 -- ---- elements
-
-pub Contains-from_Has : {X : Type 0} (xs : List X) (x : X) → Has xs x → Contains xs x
-Contains-from_Has xs x h = AllByRecursion-at (Contains xs) xs x (recursion_from_All (Contains xs) xs (All-contains_itself xs)) h
-
-pub Has-from_Contains : {X : Type 0} (xs : List X) (x : X) → Contains xs x → Has xs x
-Has-from_Contains xs x h = All-contains (Has xs) xs x (All-from_recursion (Has xs) xs (AllByRecursion-from_Has (Has xs) xs (λ y i. i))) h
 
 -- ---- one segment
 

@@ -1,5 +1,5 @@
 -- All pairs that lie near one pair pass a place that is farther from it on one side: they all run below it, or none does.
-use Rattle.std.proofs.Common.{◌≡◌, sym, ap, ap₂, subst, ◌∙◌, arith, ℕ, zero, suc, ◌+◌, ◌*◌, ◌-◌, ◌<◌, ◌≤◌, true, false, inl, inr}
+use Rattle.std.proofs.Common.{◌≡◌, sym, ap, ap₂, subst, ◌∙◌, arith, ℕ, zero, suc, ◌+◌, ◌*◌, ◌-◌, ◌<◌, ◌≤◌, inl, inr}
 use Rattle.std.specs.Prelude.{ℤ, pos, ◌+ℤ◌, ◌-ℤ◌, ◌*ℤ◌, ◌≤ℤ◌, ◌<ℤ◌, unsigned_abs, int_le, int_lt, IsTrue}
 use Rattle.std.proofs.lemmas.Int.{ints, by_lt_z}
 use Rattle.std.proofs.lemmas.Bool.{and_parts, cases_Bool}
@@ -9,6 +9,8 @@ use Rattle.overlay_geometry.proofs.laws.geometry.Polynomials.{as_D, diffs, D-eq,
 use Rattle.overlay_base.specs.Places.{RationalPoint, spans, height_at, runs_below, lies_below}
 use Rattle.overlay_split.specs.Nearness.{Fraction, point_along, IsWithin, IsNear, LiesNear}
 use Rattle.overlay_split.proofs.laws.nearness.Distances.{AreClose, IsWithin-to, IsWithin-from}
+use Rattle.overlay_geometry.proofs.laws.integers.Tests.{le-tested, lt-tested, lt-tested_false}
+use Rattle.overlay_geometry.proofs.laws.integers.Products.{plus_le, pos_nonneg}
 
 -- ---- a mean of two rational numbers
 
@@ -39,22 +41,16 @@ bounds_above h k l w1 w2 m1 m2 b = omega (arith, ints)
 bounds_under : (h k l w1 w2 m1 m2 b : ℕ) → pos (k * m2) *ℤ pos (h * (m1 * (w1 * b))) +ℤ pos (l * m1) *ℤ pos (h * (m2 * (w2 * b))) ≡ pos (h * ((k * w1 + l * w2) * (m1 * m2) * b))
 bounds_under h k l w1 w2 m1 m2 b = omega (arith, ints)
 
-both : (a b c d : ℤ) → a ≤ℤ b → c ≤ℤ d → (a +ℤ c) ≤ℤ (b +ℤ d)
-both a b c d p q = omega (arith, ints, p, q)
-
-not_negative : (n : ℕ) → pos 0 ≤ℤ pos n
-not_negative n = omega (arith, ints)
-
 -- what is close to two numbers at two others is close to their mean at that of the others
 AreClose-means : (h : ℕ) (v1 v2 u1 u2 v : ℤ) (k l w1 w2 m1 m2 b : ℕ) → IsMean k w1 l w2 v1 v2 v → AreClose h v1 (w1 * b) u1 m1 → AreClose h v2 (w2 * b) u2 m2 →
     AreClose h v b (mean_of k w1 l w2 u1 m1 u2 m2) ((k * w1 + l * w2) * (m1 * m2))
 AreClose-means h v1 v2 u1 u2 v k l w1 w2 m1 m2 b e c d = record {
   low =
-      let sum = both _ _ _ _ (mul-le_left (pos (k * m2)) _ _ (not_negative (k * m2)) c.low) (mul-le_left (pos (l * m1)) _ _ (not_negative (l * m1)) d.low) in
+      let sum = plus_le _ _ _ _ (mul-le_left (pos (k * m2)) _ _ (pos_nonneg (k * m2)) c.low) (mul-le_left (pos (l * m1)) _ _ (pos_nonneg (l * m1)) d.low) in
       subst (λ (z : ℤ). (pos 2 *ℤ (z -ℤ mean_of k w1 l w2 u1 m1 u2 m2 *ℤ pos b)) ≤ℤ pos (h * (b * ((k * w1 + l * w2) * (m1 * m2))))) there
       (rw (← mean_above v1 v2 u1 u2 k l w1 w2 m1 m2 b, ← bounds_above h k l w1 w2 m1 m2 b) sum);
   high =
-      let sum = both _ _ _ _ (mul-le_left (pos (k * m2)) _ _ (not_negative (k * m2)) c.high) (mul-le_left (pos (l * m1)) _ _ (not_negative (l * m1)) d.high) in
+      let sum = plus_le _ _ _ _ (mul-le_left (pos (k * m2)) _ _ (pos_nonneg (k * m2)) c.high) (mul-le_left (pos (l * m1)) _ _ (pos_nonneg (l * m1)) d.high) in
       subst (λ (z : ℤ). (pos 2 *ℤ (mean_of k w1 l w2 u1 m1 u2 m2 *ℤ pos b -ℤ z)) ≤ℤ pos (h * ((k * w1 + l * w2) * (m1 * m2) * b))) there
       (rw (← mean_under v1 v2 u1 u2 k l w1 w2 m1 m2 b, ← bounds_under h k l w1 w2 m1 m2 b) sum);
 }
@@ -110,15 +106,6 @@ IsWithin-means h p x1 y1 x2 y2 k l w1 w2 s f g some in_x in_y first second =
 
 -- ---- where a pair meets the vertical line through a place
 
-lt_to : (u v : ℤ) → int_lt u v ≡ true → u <ℤ v
-lt_to u v h = grind (arith, ints)
-
-not_lt_to : (u v : ℤ) → int_lt u v ≡ false → v ≤ℤ u
-not_lt_to u v h = grind (arith, ints)
-
-le_to : (u v : ℤ) → int_le u v ≡ true → u ≤ℤ v
-le_to u v h = grind (arith, ints)
-
 -- part / (wide * bottom) of the way along r
 record Meeting (r : Pair) (p : RationalPoint) : Type 0 where
   wide : ℕ
@@ -132,8 +119,8 @@ record Meeting (r : Pair) (p : RationalPoint) : Type 0 where
 meeting : (r : Pair) (p : RationalPoint) → IsTrue (spans r p) → Meeting r p
 meeting r p h =
     let parts = and_parts (int_le (r.a.x *ℤ pos p.bottom) p.x) (int_lt p.x (r.b.x *ℤ pos p.bottom)) h in
-    let from = le_to (r.a.x *ℤ pos p.bottom) p.x parts.0 in
-    let to = lt_to p.x (r.b.x *ℤ pos p.bottom) parts.1 in
+    let from = le-tested (r.a.x *ℤ pos p.bottom) p.x parts.0 in
+    let to = lt-tested p.x (r.b.x *ℤ pos p.bottom) parts.1 in
     let wide = unsigned_abs (width r) in
     let part = unsigned_abs (p.x -ℤ r.a.x *ℤ pos p.bottom) in
     let less = to_the_right r.a.x r.b.x p.x p.bottom from to in
@@ -150,7 +137,7 @@ meeting r p h =
     }
   where
     to_the_right : (a b x : ℤ) (d : ℕ) → (a *ℤ pos d) ≤ℤ x → x <ℤ (b *ℤ pos d) → a <ℤ b
-    to_the_right a b x d l k = by_lt_z a b (λ (less : a <ℤ b). less) (λ (more : b ≤ℤ a). absurd (let back = mul-le_left (pos d) b a (not_negative d) more in omega (arith, ints, back, l, k)))
+    to_the_right a b x d l k = by_lt_z a b (λ (less : a <ℤ b). less) (λ (more : b ≤ℤ a). absurd (let back = mul-le_left (pos d) b a (pos_nonneg d) more in omega (arith, ints, back, l, k)))
 
     width_of : (a b : ℤ) → a <ℤ b → pos (unsigned_abs (b -ℤ a)) ≡ b -ℤ a
     width_of a b l = omega (arith, ints, l)
@@ -255,5 +242,5 @@ one_side h p s r t far near_r near_t below met =
       | inl under ↦ under
       | inr over ↦
           let parts = and_parts (spans r p) (runs_below r p) below in
-          absurd (far (between h p s r t (meeting r p parts.0) (meeting t p met) (lt_to (height_at r p) (p.y *ℤ width r) parts.1) (not_lt_to (height_at t p) (p.y *ℤ width t) over) near_r near_t))
+          absurd (far (between h p s r t (meeting r p parts.0) (meeting t p met) (lt-tested (height_at r p) (p.y *ℤ width r) parts.1) (lt-tested_false (height_at t p) (p.y *ℤ width t) over) near_r near_t))
     ]

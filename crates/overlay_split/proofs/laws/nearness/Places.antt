@@ -1,5 +1,5 @@
 -- A run changes no winding at a place that is farther from the given segments than it reaches.
-use Rattle.std.proofs.Common.{◌≡◌, refl, sym, ap, ap₂, subst, ◌∙◌, arith, ℕ, zero, suc, ◌+◌, Bool, true, false, inl, inr, List, [], ◌∷◌}
+use Rattle.std.proofs.Common.{◌≡◌, refl, sym, ap, ap₂, subst, ◌∙◌, arith, ℕ, zero, suc, ◌+◌, Bool, true, false, List, [], ◌∷◌}
 use Rattle.std.specs.Prelude.{◌≤◌, Contains, ℤ, pos, ◌+ℤ◌, ◌-ℤ◌, ◌*ℤ◌, ◌≤ℤ◌, ◌<ℤ◌, int_le, int_lt, cond, ◌&&◌, IsTrue}
 use Rattle.std.specs.List.{AllByRecursion}
 use Rattle.std.proofs.lemmas.Int.{ints, by_lt_z}
@@ -9,12 +9,11 @@ use Rattle.overlay_geometry.specs.Points.{Point, Pair, point_lt, is_ordered}
 use Rattle.overlay_base.specs.Windings.{Winding, empty, add, inverse, weight}
 use Rattle.overlay_base.specs.Segments.{WholeSegment, pairs, are_ordered}
 use Rattle.overlay_base.specs.Sums.{gathered, weighed}
-use Rattle.overlay_geometry.proofs.laws.geometry.Points.{Before, UpTo, before, not_before}
-use Rattle.overlay_geometry.proofs.laws.geometry.Polynomials.{mul-le_left}
+use Rattle.overlay_geometry.proofs.laws.geometry.Points.{before, not_before, Before-x, UpTo-x}
 use Rattle.overlay_geometry.proofs.laws.lists.Lists.{AllByRecursion-weaker, AllByRecursion-both, AllByRecursion-at, AllByRecursion-from_Has, Has, Has-map, by_list_any, list_all-at}
 use Rattle.overlay_base.proofs.laws.lists.Monoids.{gathered-same, gathered-through}
 use Rattle.overlay_base.proofs.laws.joins.Bags.{total_weight-total}
-use Rattle.overlay_base.proofs.laws.joins.Functionals.{whole_numbers_add, total_weight-filter, total_weight-filter_join}
+use Rattle.overlay_base.proofs.laws.joins.Functionals.{whole_numbers_add, total_weight-filter, total_weight-filter_join, at_subj, at_clip}
 use Rattle.overlay_base.proofs.laws.counts.Windings.{same_windings}
 use Rattle.overlay_base.proofs.laws.joins.Maps.{are_ordered-map}
 use Rattle.overlay_split.specs.Path.{path, piece, pieces_along, pieces}
@@ -32,8 +31,11 @@ use Rattle.overlay_split.proofs.laws.paths.Runs.{is_map-after_passes}
 use Rattle.overlay_split.proofs.laws.planar.ExactMarks.{In}
 use Rattle.overlay_split.proofs.laws.nearness.Distances.{LiesNear-from_ends, IsNear-start, IsNear-end, IsNear-weaker, IsNear-from_point}
 use Rattle.overlay_split.proofs.laws.nearness.NearMarks.{AreNear, marks_lie_near, exact_marks_lie_on}
-use Rattle.overlay_split.proofs.laws.nearness.Nearness.{Contains-from_Has, pieces_lie_near, run_lies_near, exact_input_reaches_nothing}
+use Rattle.overlay_split.proofs.laws.nearness.Nearness.{pieces_lie_near, run_lies_near, exact_input_reaches_nothing}
 use Rattle.overlay_split.proofs.laws.nearness.OneSide.{one_side}
+use Rattle.overlay_geometry.proofs.laws.integers.Tests.{le-test, le-test_false, lt-test, lt-test_false}
+use Rattle.overlay_geometry.proofs.laws.integers.Products.{zero_times, scaled_le}
+use Rattle.overlay_geometry.proofs.laws.lists.Elements.{Contains-from_Has}
 
 pub pass_on_one_side : PassOnOneSide
 pass_on_one_side h p s r t far near_r near_t below met = and_from (spans t p) (runs_below t p) met (one_side h p s r t far near_r near_t below met)
@@ -43,14 +45,6 @@ pass_on_one_side h p s r t far near_r near_t below met = and_from (spans t p) (r
 -- 1 for a pair that lies below p
 abbrev below_sign : RationalPoint → Pair → ℤ
 below_sign p s = cond (lies_below s p) (pos 1) (pos 0)
-
-at_subj : (b : Bool) (c : Winding) → (cond b (weight c) empty).subj ≡ cond b (pos 1) (pos 0) *ℤ c.subj
-at_subj true c = omega (arith, ints)
-at_subj false c = omega (arith, ints)
-
-at_clip : (b : Bool) (c : Winding) → (cond b (weight c) empty).clip ≡ cond b (pos 1) (pos 0) *ℤ c.clip
-at_clip true c = omega (arith, ints)
-at_clip false c = omega (arith, ints)
 
 winding_below-subj : (bag : List WholeSegment) (p : RationalPoint) → (winding_below bag p).subj ≡ weighed (below_sign p) (λ c. c.subj) bag
 unfolding winding_below
@@ -85,32 +79,21 @@ weighed-each f g part segments h =
     gathered-each ◌+ℤ◌ (pos 0) (λ s. f s.pair *ℤ part s.count) (λ s. g s.pair *ℤ part s.count) segments
     (AllByRecursion-weaker (λ s. f s.pair ≡ g s.pair) (λ s. f s.pair *ℤ part s.count ≡ g s.pair *ℤ part s.count) (λ s e. ap (λ (z : ℤ). z *ℤ part s.count) e) segments h)
 
-no_times : (c : ℤ) → pos 0 *ℤ c ≡ pos 0
-no_times c = omega (arith, ints)
-
 weighed-none : (part : Winding → ℤ) (segments : List WholeSegment) → weighed (λ _. pos 0) part segments ≡ pos 0
 weighed-none part [] = refl
-weighed-none part (s ∷ segments) = ap₂ ◌+ℤ◌ (no_times (part s.count)) (weighed-none part segments)
+weighed-none part (s ∷ segments) = ap₂ ◌+ℤ◌ (zero_times (part s.count)) (weighed-none part segments)
 
 -- ---- pairs from left to right
 
 abbrev GoesRight : Pair → Type 0
 GoesRight s = s.a.x ≤ℤ s.b.x
 
-GoesRight-from_Before : (p q : Point) → Before p q → p.x ≤ℤ q.x
-GoesRight-from_Before p q (inl l) = omega (arith, ints, l)
-GoesRight-from_Before p q (inr e) = omega (arith, ints, e.0)
-
-GoesRight-from_UpTo : (p q : Point) → UpTo p q → p.x ≤ℤ q.x
-GoesRight-from_UpTo p q (inl l) = omega (arith, ints, l)
-GoesRight-from_UpTo p q (inr e) = omega (arith, ints, e.0)
-
 piece_goes_right : (count : Winding) (p q : Point) → GoesRight (piece count p q).pair
 unfolding piece
 piece_goes_right count p q =
     cond_both (point_lt p q) (record { pair = record { a = p; b = q }; count = count }) (record { pair = record { a = q; b = p }; count = inverse count }) (λ (r : WholeSegment). GoesRight r.pair)
-    (λ e. GoesRight-from_Before p q (before p q e))
-    (λ e. GoesRight-from_UpTo q p (not_before p q e))
+    (λ e. Before-x p q (before p q e))
+    (λ e. UpTo-x q p (not_before p q e))
 
 pieces_along_go_right : (count : Winding) (points : List Point) → AllByRecursion (λ r. GoesRight r.pair) (pieces_along count points)
 unfolding pieces_along
@@ -124,23 +107,8 @@ left_of p q = cond (int_le (q.x *ℤ pos p.bottom) p.x) (pos 1) (pos 0)
 
 -- a pair from left to right meets the line where it leads from one side to the other
 span_is_loss : (p : RationalPoint) (s : Pair) → GoesRight s → cond (spans s p) (pos 1) (pos 0) ≡ loss (left_of p) s
-span_is_loss p s right = plain (s.a.x *ℤ pos p.bottom) (s.b.x *ℤ pos p.bottom) p.x (scaled s.a.x s.b.x p.bottom right)
+span_is_loss p s right = plain (s.a.x *ℤ pos p.bottom) (s.b.x *ℤ pos p.bottom) p.x (scaled_le s.a.x s.b.x p.bottom right)
   where
-    scaled : (a b : ℤ) (d : ℕ) → a ≤ℤ b → (a *ℤ pos d) ≤ℤ (b *ℤ pos d)
-    scaled a b d l = let m = mul-le_left (pos d) a b (omega (arith, ints)) l in omega (arith, ints, m)
-
-    lt_true : (u v : ℤ) → u <ℤ v → int_lt u v ≡ true
-    lt_true u v l = grind (arith, ints)
-
-    lt_false : (u v : ℤ) → v ≤ℤ u → int_lt u v ≡ false
-    lt_false u v l = grind (arith, ints)
-
-    le_true : (u v : ℤ) → u ≤ℤ v → int_le u v ≡ true
-    le_true u v l = grind (arith, ints)
-
-    le_false : (u v : ℤ) → v <ℤ u → int_le u v ≡ false
-    le_false u v l = grind (arith, ints)
-
     up_to : (b : Bool) → cond (b && true) (pos 1) (pos 0) ≡ cond b (pos 1) (pos 0) -ℤ pos 0
     up_to true = refl
     up_to false = refl
@@ -148,8 +116,8 @@ span_is_loss p s right = plain (s.a.x *ℤ pos p.bottom) (s.b.x *ℤ pos p.botto
     plain : (u v x : ℤ) → u ≤ℤ v → cond (int_le u x && int_lt x v) (pos 1) (pos 0) ≡ cond (int_le u x) (pos 1) (pos 0) -ℤ cond (int_le v x) (pos 1) (pos 0)
     plain u v x l =
         by_lt_z x v
-        (λ (less : x <ℤ v). rw (lt_true x v less, le_false v x less) (up_to (int_le u x)))
-        (λ (more : v ≤ℤ x). let k : u ≤ℤ x = omega (arith, ints, l, more) in rw (lt_false x v more, le_true v x more, le_true u x k) refl)
+        (λ (less : x <ℤ v). rw (lt-test x v less, le-test_false v x less) (up_to (int_le u x)))
+        (λ (more : v ≤ℤ x). let k : u ≤ℤ x = omega (arith, ints, l, more) in rw (lt-test_false x v more, le-test v x more, le-test u x k) refl)
 
 -- ---- the pieces of a segment
 
@@ -193,7 +161,7 @@ module _ (h : ℕ) (p : RationalPoint) (s : WholeSegment) (marks : List Point) (
       let each = none_below none in
       weighed-each (below_sign p) (λ _. pos 0) part (pieces s marks) each.1
       ∙ weighed-none part (pieces s marks)
-      ∙ sym (ap (λ (z : ℤ). z *ℤ part s.count) each.0 ∙ no_times (part s.count)))
+      ∙ sym (ap (λ (z : ℤ). z *ℤ part s.count) each.0 ∙ zero_times (part s.count)))
 
 -- ---- a pass
 
@@ -214,7 +182,7 @@ cut_weighs h placing segments p ordered near far part odd =
     (AllByRecursion-from_Has (λ s. weighed (below_sign p) part (pieces_of placing segments s) ≡ below_sign p s.pair *ℤ part s.count) segments
     (λ s i.
     let order = list_all-at (λ (t : WholeSegment). is_ordered t.pair) segments s ordered i in
-    pieces_weigh h p s (marks_on placing segments s.pair) (GoesRight-from_Before s.pair.a s.pair.b (before s.pair.a s.pair.b order))
+    pieces_weigh h p s (marks_on placing segments s.pair) (Before-x s.pair.a s.pair.b (before s.pair.a s.pair.b order))
     (near s.pair (Has-map (λ (t : WholeSegment). t.pair) segments s i) order) (far_from h p segments far s i) part odd))
 
 cut_winds : (h : ℕ) (placing : Placing) (segments : List WholeSegment) (p : RationalPoint) → IsTrue (are_ordered segments) → MarksAreNear h placing segments → IsFar h p (pairs segments) →

@@ -20,12 +20,6 @@ take_next [] (suc k) x rest e = let n : 0 ≡ suc (length rest) = ap length e in
 take_next (y ∷ xs) zero x rest e = ap (λ l. take 1 l) e
 take_next (y ∷ xs) (suc k) x rest e = ap (λ l. y ∷ l) (take_next xs k x rest e)
 
-drop_next : {X : Type 0} (xs : List X) (k : ℕ) (x : X) (rest : List X) → drop k xs ≡ x ∷ rest → drop (suc k) xs ≡ rest
-drop_next [] zero x rest e = let n : 0 ≡ suc (length rest) = ap length e in absurd (omega (arith, n))
-drop_next [] (suc k) x rest e = let n : 0 ≡ suc (length rest) = ap length e in absurd (omega (arith, n))
-drop_next (y ∷ xs) zero x rest e = ap (λ l. drop 1 l) e
-drop_next (y ∷ xs) (suc k) x rest e = drop_next xs k x rest e
-
 pub at_place : {X : Type 0} (xs : List X) (k : ℕ) → k < length xs → (x : X) × (drop k xs ≡ x ∷ drop (suc k) xs)
 at_place [] k lt = absurd (omega arith)
 at_place (x ∷ xs) zero lt = (x, refl)

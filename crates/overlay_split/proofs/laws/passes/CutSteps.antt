@@ -10,18 +10,6 @@ use Rattle.overlay_base.proofs.laws.joins.Rests.{rest-more}
 
 -- ---- an element of a list, in its place
 
-module _ {X Y : Type 0} (f : X → Y) (xs : List X) (i : ℕ) (x : X) (lt : i < length xs) (is : x ≡ get_or xs i x) where
-  -- the list from there on, as what is made of it
-  pub mapped_at : (y : Y) (ys : List Y) → drop i (map f xs) ≡ y ∷ ys → f x ≡ y
-  mapped_at y ys e = head (sym (rest-more f xs i x lt is) ∙ e)
-    where
-      first : List Y → Y
-      first [] = y
-      first (z ∷ zs) = z
-
-      head : {zs : List Y} → f x ∷ zs ≡ y ∷ ys → f x ≡ y
-      head h = ap first h
-
 module _ {X : Type 0} (P : X → Type 0) (xs : List X) (i : ℕ) (x : X) (lt : i < length xs) (is : x ≡ get_or xs i x) where
   alone_at : take 1 (drop i xs) ≡ x ∷ []
   alone_at = ap (take 1) (drop-cons xs i x lt) ∙ ap (λ z. z ∷ []) (sym is)

@@ -14,8 +14,9 @@ use Rattle.overlay_grid.specs.Grid.{Layout, IsLog2, IsLayoutOf, IsInside, LieIns
 use Rattle.overlay_split.specs.Run.{Settings, after_passes}
 use Rattle.overlay_grid.specs.GridFor.{IsGridFor}
 use Rattle.overlay_split.proofs.laws.paths.Boxes.{stays_in_box}
-use Rattle.overlay_intersections.proofs.laws.marks.MarkBoxes.{both, from_le, join_tests}
+use Rattle.overlay_intersections.proofs.laws.marks.MarkBoxes.{both, join_tests}
 use Rattle.overlay_grid.proofs.laws.grid.GridLayout.{is_over_grid, ends_over_grid, is_between_x-from_box}
+use Rattle.overlay_geometry.proofs.laws.integers.Tests.{le-tested}
 
 -- ---- logarithms
 
@@ -62,7 +63,7 @@ inside_box l points (s ∷ ps) over h =
     let (b, h'') = both (is_within_box_of points s.b) (list_all (λ p. is_within_box_of points p) (ends ps)) h' in
     let start = is_between_x-from_box l.min_x l.max_x points s.a over a in
     let end = is_between_x-from_box l.min_x l.max_x points s.b over b in
-    (record { from = from_le _ _ (both (int_le l.min_x s.a.x) (int_le s.a.x l.max_x) start).0; to = from_le _ _ (both (int_le l.min_x s.b.x) (int_le s.b.x l.max_x) end).1 }, inside_box l points ps over h'')
+    (record { from = le-tested _ _ (both (int_le l.min_x s.a.x) (int_le s.a.x l.max_x) start).0; to = le-tested _ _ (both (int_le l.min_x s.b.x) (int_le s.b.x l.max_x) end).1 }, inside_box l points ps over h'')
 
 pub run_lies_inside : (strategy : Strategy) (settings : Settings) (given now : List WholeSegment) (grid : Option Layout) (k : ℕ) → IsTrue (are_ordered given) → IsGridFor strategy (join given) grid → now ≡ after_passes settings given k →
     LieInside grid (pairs now)

@@ -19,7 +19,7 @@ use Rattle.overlay_geometry.specs.Coordinates.{is_pair_in_range, is_point_in_ran
 use Rattle.overlay_geometry.specs.InRange.{IsPairInRange}
 use Rattle.overlay_base.specs.SegmentOf.{x_segment_of, ends_of, segments_of, segment_of, data_segments_of, winding_of}
 use Rattle.overlay_base.specs.declared.segm.segment.Segment.{Segment}
-use Rattle.overlay_geometry.proofs.laws.lists.Lists.{AllByRecursion-from_list_all}
+use Rattle.overlay_geometry.proofs.laws.lists.Lists.{AllByRecursion-from_list_all, sum_by-map}
 use Rattle.overlay_geometry.proofs.laws.lists.Keys.{IsStrictlySortedBy-from_test}
 use Rattle.overlay_base.specs.EdgeData.{Hooks, without_data}
 use Rattle.overlay_base.proofs.laws.joins.Views.{segments_ordered, segments_of-bare}
@@ -83,10 +83,6 @@ module _ {C I D : Type 0} {m : _} {w : _} {o : _} {e : _} {p : _} (xs : List (Se
 at_places : {X : Type 0} (P : X → Type 0) (xs : List X) → ((j : ℕ) (x : X) (rest : List X) → drop j xs ≡ x ∷ rest → P x) → AllByRecursion P xs
 at_places P [] h = tt
 at_places P (x ∷ xs) h = (h 0 x xs refl, at_places P xs (λ j y rest e. h (suc j) y rest e))
-
-sum_by-map : {X Y : Type 0} (f : Y → ℕ) (g : X → Y) (xs : List X) → sum_by f (map g xs) ≡ sum_by (λ x. f (g x)) xs
-sum_by-map f g [] = refl
-sum_by-map f g (x ∷ xs) = omega (arith, sum_by-cons f (g x) (map g xs), sum_by-cons (λ y. f (g y)) x xs, sum_by-map f g xs)
 
 sum_zero : {X : Type 0} (f : X → ℕ) (xs : List X) → AllByRecursion (λ x. f x ≡ 0) xs → sum_by f xs ≡ 0
 sum_zero f [] h = refl

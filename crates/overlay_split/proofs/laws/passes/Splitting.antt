@@ -3,7 +3,7 @@ use Rattle.std.proofs.Common.{◌≡◌, refl, sym, ap, ap₂, subst, ◌∙◌,
 use Rattle.std.specs.Prelude.{ℤ, ◌≤ℤ◌, ◌-ℤ◌, unsigned_abs, nat_le, nat_lt}
 use Rattle.std.specs.Int.{from_bool}
 use Rattle.std.specs.List.{list_all}
-use Rattle.std.proofs.lemmas.Bool.{and_parts, and_from, or_from, both_ways, false_from_ne_true, cases_lt, lt-leb, le-leb, cond-true, cond-false}
+use Rattle.std.proofs.lemmas.Bool.{and_parts, and_from, or_from, both_ways, false_from_ne_true, cases_lt, lt-leb, le-leb, cond-true, cond-false, or_left}
 use Rattle.std.proofs.lemmas.List.{length-map}
 use Rattle.std.proofs.lemmas.List.Sums.{sum_by-cons}
 use Rattle.overlay_geometry.specs.Points.{Pair, is_within_box_of}
@@ -63,10 +63,7 @@ module _ (settings : Settings) (given : List WholeSegment) where
   leaves_later : (k n : ℕ) → IsTrue (leaves_range_within settings given k) → IsTrue (leaves_range_within settings given (k + n))
   unfolding leaves_range_within
   leaves_later k zero h = let e : k + 0 ≡ k = omega arith in rw e h
-  leaves_later k (suc n) h = let e : k + suc n ≡ suc (k + n) = omega arith in rw e (or_first (leaves_range_within settings given (k + n)) _ (leaves_later k n h))
-    where
-      or_first : (a b : Bool) → a ≡ true → (a || b) ≡ true
-      or_first a b h = rw h refl
+  leaves_later k (suc n) h = let e : k + suc n ≡ suc (k + n) = omega arith in rw e (or_left (leaves_range_within settings given (k + n)) _ (leaves_later k n h))
 
   -- sums that are in range so far were in range before
   fits_before : (k : ℕ) → IsFalse (leaves_range_within settings given k) → (j : ℕ) → j < suc k → IsFalse (leaves_range_within settings given j)

@@ -4,7 +4,7 @@ use Rattle.std.specs.Prelude.{ℕ, zero, suc, ℤ, pos, ◌*ℤ◌, cond, bit_or
 use Rattle.overlay_geometry.specs.Points.{Point, point_eq}
 use Rattle.overlay_base.specs.Windings.{Winding, swap_directions}
 use Rattle.overlay_base.specs.Segments.{WholeSegment, total_weight}
-use Rattle.overlay_base.specs.Balance.{balance, IsBalanced, starting_at, ending_at}
+use Rattle.overlay_base.specs.Balance.{balance, starting_at, ending_at}
 use Rattle.overlay_base.specs.Sums.{weighed}
 use Rattle.overlay_split.specs.Run.{Settings, placing_of_pass, after_passes}
 use Rattle.overlay_intersections.specs.Marks.{Placing}
@@ -59,9 +59,6 @@ balance-after_passes settings given (suc k) p =
     balance-join (cut (placing_of_pass settings (suc k)) (after_passes settings given k)) p
     ∙ balance-cut (placing_of_pass settings (suc k)) (after_passes settings given k) p
     ∙ balance-after_passes settings given k p
-
-pub IsBalanced-after_passes : (settings : Settings) (given : List WholeSegment) (k : ℕ) → IsBalanced given → IsBalanced (after_passes settings given k)
-IsBalanced-after_passes settings given k h p = balance-after_passes settings given k p ∙ h p
 
 pub run_keeps_balance : RunKeepsBalance
 run_keeps_balance settings given result passes flag run p = ap (λ (segments : List WholeSegment). balance segments p) run.arrangement ∙ balance-after_passes settings given passes p

@@ -21,7 +21,8 @@ use Rattle.overlay_geometry.proofs.laws.lists.Lists.{AllByRecursion-flat_map, Al
 use Rattle.overlay_geometry.proofs.laws.lists.Keys.{AllByRecursion-distinct_in_order}
 use Rattle.overlay_split.proofs.laws.paths.Cuts.{AllByRecursion-cut, AllByRecursion-join}
 use Rattle.overlay_split.proofs.laws.paths.Paths.{all_of, all_of-columns_of, run_through_has}
-use Rattle.overlay_intersections.proofs.laws.crossings.Crossings.{int_le-to, settling_in_target, snapping_in_target, do_cross-swap}
+use Rattle.overlay_intersections.proofs.laws.crossings.Crossings.{settling_in_target, snapping_in_target, do_cross-swap}
+use Rattle.overlay_geometry.proofs.laws.integers.Tests.{le-tested}
 
 -- ---- what holds of the ends of two pairs, and in their boxes, holds of the marks of their crossing
 
@@ -111,10 +112,10 @@ le_itself u = grind (arith, ints)
 
 -- a number between two others is not less than one of them, and not more than one
 from_one : (u v z : ℤ) → IsTrue (is_between u v z) → (u ≤ℤ z) ⊎ (v ≤ℤ z)
-from_one u v z h = let k = int_le-to (int_min u v) z ((and_parts (int_le (int_min u v) z) (int_le z (int_max u v)) h).0) in by_lt_z u v (λ (l : u <ℤ v). inl (omega (arith, ints, clamps, k, l))) (λ (l : v ≤ℤ u). inr (omega (arith, ints, clamps, k, l)))
+from_one u v z h = let k = le-tested (int_min u v) z ((and_parts (int_le (int_min u v) z) (int_le z (int_max u v)) h).0) in by_lt_z u v (λ (l : u <ℤ v). inl (omega (arith, ints, clamps, k, l))) (λ (l : v ≤ℤ u). inr (omega (arith, ints, clamps, k, l)))
 
 to_one : (u v z : ℤ) → IsTrue (is_between u v z) → (z ≤ℤ u) ⊎ (z ≤ℤ v)
-to_one u v z h = let k = int_le-to z (int_max u v) ((and_parts (int_le (int_min u v) z) (int_le z (int_max u v)) h).1) in by_lt_z u v (λ (l : u <ℤ v). inr (omega (arith, ints, clamps, k, l))) (λ (l : v ≤ℤ u). inl (omega (arith, ints, clamps, k, l)))
+to_one u v z h = let k = le-tested z (int_max u v) ((and_parts (int_le (int_min u v) z) (int_le z (int_max u v)) h).1) in by_lt_z u v (λ (l : u <ℤ v). inr (omega (arith, ints, clamps, k, l))) (λ (l : v ≤ℤ u). inl (omega (arith, ints, clamps, k, l)))
 
 -- the four tests
 record IsWithin (points : List Point) (p : Point) : Type 0 where

@@ -18,6 +18,7 @@ use Rattle.overlay_split.proofs.laws.paths.Paths.{all_of, AreColumns, Steps-appe
 use Rattle.overlay_intersections.proofs.laws.marks.Marks.{Differ}
 use Rattle.overlay_intersections.proofs.laws.crossings.Rounding.{IsRoundedUp-monotone}
 use Rattle.overlay_intersections.proofs.laws.marks.Marks.{IsRoundedPoint, rounded_start, rounded_end}
+use Rattle.overlay_geometry.proofs.laws.integers.Products.{abs_nonneg}
 
 -- ---- directions
 
@@ -198,10 +199,6 @@ path_falls ((q ∷ column) ∷ columns) p b c h k l =
 unfoldable pub reach : Point → Point → ℕ
 reach p q = unsigned_abs (q.x -ℤ p.x) + unsigned_abs (q.y -ℤ p.y)
 
-abs_up : (z : ℤ) → pos 0 ≤ℤ z → pos (unsigned_abs z) ≡ z
-abs_up (pos n) h = refl
-abs_up (negsuc n) h = absurd (omega (arith, ints))
-
 abs_down : (z : ℤ) → z ≤ℤ pos 0 → pos (unsigned_abs z) ≡ neg_ℤ z
 abs_down (pos zero) h = refl
 abs_down (pos (suc n)) h = absurd (omega (arith, ints))
@@ -212,8 +209,8 @@ abs_zero (pos n) h = ap pos h
 abs_zero (negsuc n) h = absurd (omega arith)
 
 abs_back : (u v : ℤ) → unsigned_abs (u -ℤ v) ≡ unsigned_abs (v -ℤ u)
-abs_back u v = by_lt_z u v (λ (l : u <ℤ v). let e = abs_down (u -ℤ v) (omega (arith, ints, l)) in let f = abs_up (v -ℤ u) (omega (arith, ints, l)) in omega (arith, ints, e, f))
-    (λ (l : v ≤ℤ u). let e = abs_up (u -ℤ v) (omega (arith, ints, l)) in let f = abs_down (v -ℤ u) (omega (arith, ints, l)) in omega (arith, ints, e, f))
+abs_back u v = by_lt_z u v (λ (l : u <ℤ v). let e = abs_down (u -ℤ v) (omega (arith, ints, l)) in let f = abs_nonneg (v -ℤ u) (omega (arith, ints, l)) in omega (arith, ints, e, f))
+    (λ (l : v ≤ℤ u). let e = abs_nonneg (u -ℤ v) (omega (arith, ints, l)) in let f = abs_down (v -ℤ u) (omega (arith, ints, l)) in omega (arith, ints, e, f))
 
 -- a direction: steps in it can be joined, and their lengths then add up
 pub record IsDirection (R : Point → Point → Type 0) : Type 0 where
@@ -223,9 +220,9 @@ pub record IsDirection (R : Point → Point → Type 0) : Type 0 where
 
 ups : (u v w : ℤ) → u ≤ℤ v → v ≤ℤ w → unsigned_abs (v -ℤ u) + unsigned_abs (w -ℤ v) ≡ unsigned_abs (w -ℤ u)
 ups u v w h k =
-    let e = abs_up (v -ℤ u) (omega (arith, ints, h)) in
-    let f = abs_up (w -ℤ v) (omega (arith, ints, k)) in
-    let g = abs_up (w -ℤ u) (omega (arith, ints, h, k)) in
+    let e = abs_nonneg (v -ℤ u) (omega (arith, ints, h)) in
+    let f = abs_nonneg (w -ℤ v) (omega (arith, ints, k)) in
+    let g = abs_nonneg (w -ℤ u) (omega (arith, ints, h, k)) in
     omega (arith, ints, e, f, g)
 
 downs : (u v w : ℤ) → v ≤ℤ u → w ≤ℤ v → unsigned_abs (v -ℤ u) + unsigned_abs (w -ℤ v) ≡ unsigned_abs (w -ℤ u)
@@ -282,7 +279,7 @@ steps_last R is p (q ∷ points) h = is.on p q (last_point q points) h.0 (steps_
 
 reach_nil : (p : Point) → reach p p ≡ 0
 unfolding reach
-reach_nil p = let e = abs_up (p.x -ℤ p.x) (omega (arith, ints)) in let f = abs_up (p.y -ℤ p.y) (omega (arith, ints)) in omega (arith, ints, e, f)
+reach_nil p = let e = abs_nonneg (p.x -ℤ p.x) (omega (arith, ints)) in let f = abs_nonneg (p.y -ℤ p.y) (omega (arith, ints)) in omega (arith, ints, e, f)
 
 -- the spreads of the pieces and their number, along a path in one direction
 pub potential-pieces_along : (R : Point → Point → Type 0) → IsDirection R → (count : Winding) (p : Point) (points : List Point) → Steps R p points → Steps Differ p points → potential (pieces_along count (p ∷ points)) + length points ≡ reach p (last_point p points)

@@ -21,7 +21,7 @@ use Rattle.overlay_split.specs.Pass.{pieces_of, cut, pass}
 use Rattle.overlay_intersections.specs.PassMarks.{marks_on, is_rounded, mark_count}
 use Rattle.overlay_split.specs.Potential.{spread, potential}
 use Rattle.overlay_split.specs.Laws.{SettlingLowers}
-use Rattle.overlay_geometry.proofs.laws.geometry.Points.{Before, before, Before-irreflexive, by_pair_order, point_cmp_total, point_same}
+use Rattle.overlay_geometry.proofs.laws.geometry.Points.{Before, before, Before-irreflexive, by_pair_order, point_cmp_total, point_same, Before-x}
 use Rattle.overlay_base.proofs.laws.lists.Monoids.{gathered-map}
 use Rattle.overlay_base.proofs.laws.joins.Maps.{are_ordered-map}
 use Rattle.overlay_geometry.proofs.laws.lists.Lists.{Pairwise, Steps, AllByRecursion-weaker, AllByRecursion-append, Pairwise-append, Pairwise-weaker, Pairwise-both, Pairwise-from_AllByRecursion, Has, Has-filter, Has-flat_map, Has-from_list_any, AllByRecursion-from_list_all}
@@ -82,15 +82,11 @@ counted R is segment marks ends free steps =
 pub ends_differ : (s : Pair) → IsTrue (is_ordered s) → Differ s.a s.b
 ends_differ s o e = Before-irreflexive s.b (subst (λ (z : Point). Before z s.b) e (before s.a s.b o))
 
-no_turn_back : (p q : Point) → Before p q → p.x ≤ℤ q.x
-no_turn_back p q (inl l) = omega (arith, ints)
-no_turn_back p q (inr l) = omega (arith, ints, l.0)
-
 -- the spreads of the pieces, and a unit for each mark, sum to the spread of the segment
 pub potential-pieces : (segment : WholeSegment) (marks : List Point) → IsTrue (is_ordered segment.pair) → AllByRecursion (IsFree segment.pair) marks → AllByRecursion (IsRoundedPoint segment.pair) marks → potential (pieces segment marks) + length (distinct_in_order point_cmp marks) ≡ spread segment.pair
 potential-pieces segment marks o free rounded =
     let s = segment.pair in
-    let x = no_turn_back s.a s.b (before s.a s.b o) in
+    let x = Before-x s.a s.b (before s.a s.b o) in
     let d = ends_differ s o in
     by_lt_z s.b.y s.a.y
     (λ (l : s.b.y <ℤ s.a.y). counted Falls Falls-is_direction segment marks d free (runs_down s marks x (omega (arith, ints, l)) rounded))

@@ -1,7 +1,7 @@
 -- How two ordered pairs meet: by signs of turns, apart or not, where one marks the other, and parts of pairs.
 use Rattle.std.proofs.Common.{◌≡◌, refl, sym, ◌⊎◌, ⊎_elim, inl, inr, arith, true, false, Bool, IsTrue, IsFalse}
-use Rattle.std.specs.Prelude.{ℤ, pos, ◌+ℤ◌, ◌*ℤ◌, ◌≤ℤ◌, ◌<ℤ◌}
-use Rattle.std.proofs.lemmas.Int.{ints, by_lt_z}
+use Rattle.std.specs.Prelude.{ℤ, pos, ◌+ℤ◌, ◌*ℤ◌, ◌<ℤ◌}
+use Rattle.std.proofs.lemmas.Int.{ints}
 use Rattle.std.proofs.lemmas.Bool.{or_from, both_ways, false_from_ne_true, cases_Bool}
 use Rattle.overlay_geometry.specs.Points.{Point, Pair, turn, is_end, lies_on, is_strictly_inside}
 use Rattle.overlay_geometry.specs.Meeting.{do_cross, are_collinear, has_end_inside}
@@ -9,11 +9,9 @@ use Rattle.overlay_geometry.proofs.laws.geometry.Polynomials.{mul-pos, cancel-po
 use Rattle.overlay_geometry.proofs.laws.geometry.Points.{turn_same_last, turn_same_outer, Before, UpTo, Before-UpTo-trans, UpTo-Before-trans, UpTo-trans, UpTo-Before, weights, collinear, are_collinear_turns, are_collinear_from, are_collinear_swap, inside_order, inside_from_order, lies_on_from_order, inside_from_parts}
 use Rattle.overlay_base.proofs.laws.geometry.Apart.{Opposite, do_cross_parts, do_cross_from}
 use Rattle.overlay_intersections.proofs.laws.crossings.AnswerMarks.{collinear_do_not_cross, end_cases}
+use Rattle.overlay_geometry.proofs.laws.integers.Tests.{by_sign}
 
 -- ---- signs
-
-by_sign : {P : Type 0} (z : ℤ) → (z <ℤ pos 0 → P) → (z ≡ pos 0 → P) → (pos 0 <ℤ z → P) → P
-by_sign z f g h = by_lt_z z (pos 0) f (λ (up : pos 0 ≤ℤ z). by_lt_z (pos 0) z h (λ (down : z ≤ℤ pos 0). g (omega (arith, ints))))
 
 opposite_sums : (m n f g k z : ℤ) → pos 0 <ℤ m → pos 0 <ℤ n → k *ℤ z ≡ m *ℤ f +ℤ n *ℤ g → z ≡ pos 0 → Opposite f g ⊎ ((f ≡ pos 0) × (g ≡ pos 0))
 opposite_sums m n f g k z hm hn e hz =

@@ -5,18 +5,13 @@ use Rattle.std.proofs.lemmas.Int.{ints, by_lt_z}
 use Rattle.std.proofs.lemmas.Bool.{false_from_ne_true, cases_Bool}
 use Rattle.overlay_geometry.specs.Points.{Point, Pair, turn, is_end, lies_on, is_strictly_inside}
 use Rattle.overlay_geometry.specs.Meeting.{do_cross, are_collinear, has_end_inside, are_apart}
-use Rattle.overlay_geometry.proofs.laws.geometry.Polynomials.{as_D, diffs, D-eq, mul-pos, mul-nonneg, cancel-pos, mul-neg, mul-nonneg_both, mul-nonpos, cancel-neg}
+use Rattle.overlay_geometry.proofs.laws.geometry.Polynomials.{mul-pos, mul-nonneg, cancel-pos, mul-neg, mul-nonneg_both, mul-nonpos, cancel-neg}
 use Rattle.overlay_geometry.proofs.laws.geometry.Points.{turn_rotates, turn_same_last, turn_same_outer, Before, by_order, UpTo-Before-trans, weights, collinear, inside_order, inside_from_order}
 use Rattle.overlay_base.proofs.laws.geometry.Apart.{Opposite, do_cross_parts, do_cross_from, are_apart_from}
 use Rattle.overlay_split.proofs.laws.planar.Meetings.{are_collinear_symmetric, no_end_inside_from, on_and_inside, MarksAt, MarksAt-end, MarksAt-cross, MarksAt-moves, IsPart, IsPart-line_back, IsPart-inside, IsPart-a_on, IsPart-b_on}
+use Rattle.overlay_geometry.proofs.laws.integers.Products.{plus_comm, times_comm}
 
 -- ---- signs of means
-
-times_swap : (a b : ℤ) → a *ℤ b ≡ b *ℤ a
-times_swap a b = rw (as_D a, as_D b) (simp diffs (D-eq _ _ _ _ (omega arith)))
-
-plus_swap : (a b : ℤ) → a +ℤ b ≡ b +ℤ a
-plus_swap a b = omega (arith, ints)
 
 mean_below : (k m n f g z : ℤ) → pos 0 <ℤ k → pos 0 <ℤ m → pos 0 ≤ℤ n → k *ℤ z ≡ m *ℤ f +ℤ n *ℤ g → z <ℤ pos 0 → pos 0 ≤ℤ g → f <ℤ pos 0
 mean_below k m n f g z hk hm hn e hz hg = cancel-neg m f hm (let a = mul-neg k z hk hz in let b = mul-nonneg n g hn hg in omega (arith, ints))
@@ -52,7 +47,7 @@ part_follows p s x h =
     let first = weights s.a p.b p.a (part_starts p s h) (collinear s.a s.b s.a p.b p.a h.whole (turn_same_outer s.a s.b) h.b_on_line h.a_on_line) in
     let second = weights s.a s.b p.b h.whole h.b_on_line in
     let one = mean_with_zero (first.of_a +ℤ first.of_b) first.of_a first.of_b (turn p.b x s.a) (turn p.b x p.b) (turn p.b x p.a) first.total (first.before_b h.ordered) (first.mean p.b x) (turn_same_outer p.b x) in
-    let two = mean_with_zero (second.of_a +ℤ second.of_b) second.of_b second.of_a (turn x s.a s.b) (turn x s.a s.a) (turn x s.a p.b) second.total (second.after_a (part_starts p s h)) (second.mean x s.a ∙ plus_swap (second.of_a *ℤ turn x s.a s.a) (second.of_b *ℤ turn x s.a s.b)) (turn_same_last x s.a) in
+    let two = mean_with_zero (second.of_a +ℤ second.of_b) second.of_b second.of_a (turn x s.a s.b) (turn x s.a s.a) (turn x s.a p.b) second.total (second.after_a (part_starts p s h)) (second.mean x s.a ∙ plus_comm (second.of_a *ℤ turn x s.a s.a) (second.of_b *ℤ turn x s.a s.b)) (turn_same_last x s.a) in
     rw (turn_rotates p.a p.b x, turn_rotates s.a s.b x, turn_rotates s.b x s.a) (Follows-trans _ _ _ one (rw (turn_rotates p.b x s.a) two))
 
 -- ---- a line that separates a part's ends separates the pair's
@@ -62,8 +57,8 @@ widen_first k m n f g z hk hm hn e (inl o) = inl (mean_below k m n f g z hk hm h
 widen_first k m n f g z hk hm hn e (inr o) = inr (mean_above k m n f g z hk hm hn e o.0 (omega (arith, ints)), o.1)
 
 widen_second : (k m n f g z : ℤ) → pos 0 <ℤ k → pos 0 ≤ℤ m → pos 0 <ℤ n → k *ℤ z ≡ m *ℤ f +ℤ n *ℤ g → Opposite f z → Opposite f g
-widen_second k m n f g z hk hm hn e (inl o) = inl (o.0, mean_above k n m g f z hk hn hm (e ∙ plus_swap (m *ℤ f) (n *ℤ g)) o.1 (omega (arith, ints)))
-widen_second k m n f g z hk hm hn e (inr o) = inr (o.0, mean_below k n m g f z hk hn hm (e ∙ plus_swap (m *ℤ f) (n *ℤ g)) o.1 (omega (arith, ints)))
+widen_second k m n f g z hk hm hn e (inl o) = inl (o.0, mean_above k n m g f z hk hn hm (e ∙ plus_comm (m *ℤ f) (n *ℤ g)) o.1 (omega (arith, ints)))
+widen_second k m n f g z hk hm hn e (inr o) = inr (o.0, mean_below k n m g f z hk hn hm (e ∙ plus_comm (m *ℤ f) (n *ℤ g)) o.1 (omega (arith, ints)))
 
 Opposite-widens : (q t : Pair) (u v : Point) → IsPart q t → Opposite (turn u v q.a) (turn u v q.b) → Opposite (turn u v t.a) (turn u v t.b)
 Opposite-widens q t u v h o =
@@ -90,12 +85,12 @@ positive_weights m n f g k z hs e hz hf hg =
     let b = mul-pos n g (omega (arith, ints)) hg in
     absurd (omega (arith, ints))) in
     let a = mul-neg m f m_above hf in
-    (m_above, cancel-pos g n hg (rw (times_swap g n) (omega (arith, ints))))
+    (m_above, cancel-pos g n hg (rw (times_comm g n) (omega (arith, ints))))
 
 opposite_weights : (m n f g k z : ℤ) → pos 0 <ℤ (m +ℤ n) → k *ℤ z ≡ m *ℤ f +ℤ n *ℤ g → z ≡ pos 0 → Opposite f g → (pos 0 <ℤ m) × (pos 0 <ℤ n)
 opposite_weights m n f g k z hs e hz (inl o) = positive_weights m n f g k z hs e hz o.0 o.1
 opposite_weights m n f g k z hs e hz (inr o) =
-    let r = positive_weights n m g f k z (rw (plus_swap n m) hs) (e ∙ plus_swap (m *ℤ f) (n *ℤ g)) hz o.1 o.0 in
+    let r = positive_weights n m g f k z (rw (plus_comm n m) hs) (e ∙ plus_comm (m *ℤ f) (n *ℤ g)) hz o.1 o.0 in
     (r.1, r.0)
 
 not_both : (z : ℤ) → pos 0 <ℤ z → z <ℤ pos 0 → ⊥

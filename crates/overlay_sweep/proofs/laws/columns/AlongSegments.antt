@@ -18,19 +18,18 @@ use Rattle.overlay_geometry.proofs.laws.geometry.Points.{inside_from_order}
 use Rattle.overlay_base.proofs.laws.geometry.Apart.{do_cross_from}
 use Rattle.overlay_sweep.proofs.laws.columns.WeightSums.{when, sum_of}
 use Rattle.overlay_sweep.proofs.laws.columns.BalancedSums.{flow, subj_flow-balanced, clip_flow-balanced}
-use Rattle.overlay_sweep.proofs.laws.columns.ColumnLines.{lt-test, lt-test_false, lt-tested, spans_parts, spans-true, point_lt-cases, IsLowSide, leaves_upward, across_line-balanced, column_weights_are}
+use Rattle.overlay_sweep.proofs.laws.columns.ColumnLines.{spans_parts, spans-true, point_lt-cases, IsLowSide, leaves_upward, across_line-balanced, column_weights_are}
 use Rattle.overlay_sweep.proofs.laws.columns.Chains.{sum_of-same_on, sum_of-nothing}
 use Rattle.overlay_sweep.proofs.laws.columns.Heights.{gap, slope, gap_back, gap_same, gap_at_start, gap_at_end, gap_at_other_start, gap_at_other_end, is_below_is}
-use Rattle.overlay_sweep.proofs.laws.columns.ColumnOrder.{by_sign, IsApart, is_apart, apart_back, crosses_downward, same_from_level, gap_level, gap_left_strict, crosses_in_column, is_low, low-left, low-right, low-level, low-first, low-second}
+use Rattle.overlay_sweep.proofs.laws.columns.ColumnOrder.{IsApart, is_apart, apart_back, crosses_downward, same_from_level, gap_level, gap_left_strict, crosses_in_column, is_low, low-left, low-right, low-level, low-first, low-second}
+use Rattle.overlay_geometry.proofs.laws.integers.Tests.{lt-test, lt-test_false, lt-tested, by_sign}
+use Rattle.overlay_geometry.proofs.laws.integers.Products.{minus_turned, neg_zero, times_zero}
 
 -- ---- at an x strictly inside s
 
-slope_plain : (m n : ℤ) → m -ℤ n ≡ neg_ℤ (n -ℤ m)
-slope_plain m n = omega (arith, ints)
-
 pub slope_back : (s t : Pair) → slope s t ≡ neg_ℤ (slope t s)
 unfolding slope
-slope_back s t = slope_plain ((t.b.y -ℤ t.a.y) *ℤ width s) ((s.b.y -ℤ s.a.y) *ℤ width t)
+slope_back s t = minus_turned ((t.b.y -ℤ t.a.y) *ℤ width s) ((s.b.y -ℤ s.a.y) *ℤ width t)
 
 -- two that are at one height strictly inside both cross, where the difference of the heights falls
 falls_across : (x : ℤ) (s t : Pair) → s.a.x <ℤ x → x <ℤ s.b.x → t.a.x <ℤ x → x <ℤ t.b.x → gap x s t ≡ pos 0 → slope s t <ℤ pos 0 → do_cross s t ≡ true
@@ -83,9 +82,6 @@ low_is_second u v up level =
 gap_of_same : (x : ℤ) (s t : Pair) → s ≡ t → gap x t s ≡ pos 0
 gap_of_same x s t e = rw e (gap_same x t)
 
-pub neg_of_zero : (m n : ℤ) → m ≡ neg_ℤ n → n ≡ pos 0 → m ≡ pos 0
-neg_of_zero m n e h = omega (arith, ints)
-
 pub neg_of_neg : (m n : ℤ) → m ≡ neg_ℤ n → n <ℤ pos 0 → pos 0 <ℤ m
 neg_of_neg m n e h = omega (arith, ints)
 
@@ -103,7 +99,7 @@ module _ (x : ℤ) (s : Pair) (from_a : s.a.x <ℤ x) (to_b : x <ℤ s.b.x) (t :
   next = omega (arith, ints)
 
   same_at : t.a.x <ℤ t.b.x → t.a.x ≤ℤ x → x ≤ℤ t.b.x → gap x t s ≡ pos 0 → s ≡ t
-  same_at wt ta tb e = same_from_meeting x s from_a to_b t wt apart ta tb (neg_of_zero _ _ (gap_back x s t) e)
+  same_at wt ta tb e = same_from_meeting x s from_a to_b t wt apart ta tb (neg_zero _ _ (gap_back x s t) e)
 
   pub below_in_right_column : spans x t ≡ true → is_below_in_column x t s ≡ int_lt (pos 0) (gap x t s)
   below_in_right_column h =
@@ -128,9 +124,6 @@ lies_lower x s q = int_eq q.x x && int_lt (turn s.a s.b q) (pos 0)
 
 abbrev is_lower : ℤ → Pair → Pair → Bool
 is_lower x s t = int_lt (pos 0) (gap x t s)
-
-times_zero : (w : ℤ) → w *ℤ pos 0 ≡ pos 0
-times_zero w = omega (arith, ints)
 
 lt-neg_scaled : (w m g : ℤ) → pos 0 <ℤ w → g ≡ neg_ℤ (w *ℤ m) → int_lt (pos 0) g ≡ int_lt m (pos 0)
 lt-neg_scaled w m g h e =

@@ -2,25 +2,19 @@
 use Rattle.std.proofs.Common.{◌≡◌, ap, refl, sym, ◌∙◌, arith, inl, inr}
 use Rattle.std.specs.Prelude.{ℤ, pos, ◌+ℤ◌, ◌-ℤ◌, neg_ℤ, Bool, true, false, not, ◌&&◌, ◌||◌, List, [], ◌∷◌, filter}
 use Rattle.std.specs.List.{list_any}
-use Rattle.std.specs.declared.cmp.Ordering.{Ordering}
-use Rattle.std.proofs.Common.{Less, Equal, Greater}
-use Rattle.std.specs.Ordering.{int_cmp, int_eq, is_eq, ordering_then}
+use Rattle.std.specs.Ordering.{int_cmp, int_eq}
 use Rattle.std.proofs.lemmas.Int.{ints}
 use Rattle.std.proofs.lemmas.Bool.{and_parts, and_from, or_left, or_right, cases_Bool, not-true}
 use Rattle.std.proofs.lemmas.Bool.Decides.{Decides-int_eq}
 use mathlib.Core.Path.{fun_ext}
 use Rattle.overlay_geometry.specs.Points.{Point, point_eq}
-use Rattle.overlay_base.specs.Windings.{Winding, empty, add, inverse}
+use Rattle.overlay_base.specs.Windings.{Winding, add, inverse}
 use Rattle.overlay_base.specs.Segments.{WholeSegment, pairs, ends, total_weight}
 use Rattle.overlay_base.specs.Balance.{balance, IsBalanced}
 use Rattle.overlay_sweep.proofs.laws.columns.WeightSums.{when, sum_of, sum_of-add, sum_of-sub, sum_of-filter, total_weight_is, when-or, and_true, and_false}
+use Rattle.overlay_geometry.proofs.laws.geometry.Points.{is_eq-then}
 
 -- ---- equal points
-
-is_eq-then : (o u : Ordering) → is_eq (ordering_then o u) ≡ (is_eq o && is_eq u)
-is_eq-then Less u = refl
-is_eq-then Equal u = refl
-is_eq-then Greater u = refl
 
 pub point_eq_is : (p q : Point) → point_eq p q ≡ (int_eq p.x q.x && int_eq p.y q.y)
 point_eq_is p q = is_eq-then (int_cmp p.x q.x) (int_cmp p.y q.y)
@@ -127,7 +121,3 @@ module _ (xs : List WholeSegment) (balanced : IsBalanced xs) (f : Point → Bool
 
   pub clip_flow-balanced : flow (λ s. s.count.clip) f xs ≡ pos 0
   clip_flow-balanced = flow-balanced (λ s. s.count.clip) xs (λ p. ap (λ (c : Winding). c.clip) (sym (balance_is xs p) ∙ balanced p)) f
-
-  -- the weights of the segments that start in a set, less those of the segments that end in it, are empty
-  pub balance_over_set : add (total_weight (filter (λ s. f s.pair.a) xs)) (inverse (total_weight (filter (λ s. f s.pair.b) xs))) ≡ empty
-  balance_over_set = flow_weights f xs ∙ rw (subj_flow-balanced, clip_flow-balanced) refl

@@ -1,6 +1,6 @@
 -- The windings of chains without balance: the top of each segment is its own weight on top of its bottom.
 use Rattle.std.proofs.Common.{◌≡◌, ap, refl, sym, arith}
-use Rattle.std.specs.Prelude.{ℕ, zero, suc, ◌<◌, ◌≤◌, true, List, filter, length, Option, Some, None}
+use Rattle.std.specs.Prelude.{ℕ, zero, suc, ◌<◌, ◌≤◌, true, List, filter, length, Some, None}
 use Rattle.std.proofs.lemmas.Bool.{and_parts, or_left, or_right}
 use Rattle.overlay_base.specs.Windings.{Winding, add, weight}
 use Rattle.overlay_base.specs.Segments.{WholeSegment}
@@ -11,9 +11,6 @@ use Rattle.overlay_sweep.proofs.laws.columns.Members.{IsArranged, All-from_Has, 
 use Rattle.overlay_sweep.proofs.laws.live.Supports.{is_earlier, earlier-trans, earlier_itself, earlier_beneath}
 use Rattle.overlay_sweep.proofs.laws.columns.Tops.{by_option, starts_before, lives_under, here_neighbor, neighbor_is, here_live, directly_is, length-filter_le, length-filter_less, filter_all, empty_add}
 use Rattle.overlay_geometry.proofs.laws.lists.Lists.{Has, Has-filter_out}
-
-same_some : {X : Type 0} (x y : X) (o : Option X) → o ≡ Some x → o ≡ Some y → x ≡ y
-same_some x y o e f = cc
 
 module _ (xs : List WholeSegment) (arranged : IsArranged xs) where
   earlier_neighbor : (s t : WholeSegment) → Has xs s → neighbor_at_start xs s ≡ Some t → Has xs t × (is_earlier t.pair s.pair ≡ true)

@@ -16,14 +16,9 @@ use Rattle.overlay_sweep.specs.ColumnWindings.{spans, column, weights_up_to}
 use Rattle.overlay_geometry.proofs.laws.geometry.Polynomials.{as_D, diffs, D-eq, mul-pos, mul-neg, mul-nonneg, mul-le_left}
 use Rattle.overlay_sweep.proofs.laws.columns.WeightSums.{when, sum_of, sum_of-filter, sum_of-same, total_weight_is}
 use Rattle.overlay_sweep.proofs.laws.columns.BalancedSums.{flow, subj_flow-balanced, clip_flow-balanced}
+use Rattle.overlay_geometry.proofs.laws.integers.Tests.{le-test, le-test_false, lt-test, lt-test_false, le-tested, lt-tested}
 
 -- ---- tests on whole numbers
-
-pub le-test : (a b : ℤ) → a ≤ℤ b → int_le a b ≡ true
-le-test a b h = grind (arith, ints)
-
-pub le-test_false : (a b : ℤ) → b <ℤ a → int_le a b ≡ false
-le-test_false a b h = grind (arith, ints)
 
 pub spans-true : (x : ℤ) (s : Pair) → s.a.x ≤ℤ x → x <ℤ s.b.x → spans x s ≡ true
 spans-true x s h k = and_from _ _ (le-test s.a.x x h) (le-test (x +ℤ pos 1) s.b.x (omega (arith, ints)))
@@ -160,18 +155,6 @@ lies_under p q = int_eq q.x p.x && int_lt q.y p.y
 
 abbrev pub lies_up_to : Point → Point → Bool
 lies_up_to p q = int_eq q.x p.x && int_le q.y p.y
-
-pub lt-test : (a b : ℤ) → a <ℤ b → int_lt a b ≡ true
-lt-test a b h = grind (arith, ints)
-
-pub lt-test_false : (a b : ℤ) → b ≤ℤ a → int_lt a b ≡ false
-lt-test_false a b h = grind (arith, ints)
-
-pub lt-tested : (a b : ℤ) → int_lt a b ≡ true → a <ℤ b
-lt-tested a b e = omega (arith, ints)
-
-pub le-tested : (a b : ℤ) → int_le a b ≡ true → a ≤ℤ b
-le-tested a b e = omega (arith, ints)
 
 mul-nonpos : (w d : ℤ) → pos 0 <ℤ w → d ≤ℤ pos 0 → (w *ℤ d) ≤ℤ pos 0
 mul-nonpos w d h k = let m = mul-le_left w d (pos 0) (omega (arith, ints)) k in let e : w *ℤ pos 0 ≡ pos 0 = omega (arith, ints) in rw e at m

@@ -11,11 +11,9 @@ use Rattle.overlay_base.specs.Rules.{differ}
 use Rattle.overlay_geometry.proofs.laws.geometry.Polynomials.{mul-neg, cancel-pos, fractions-trans, fractions-trans_lt, from_difference-nonneg, difference-nonneg, from_difference-pos, difference-pos, cancel-zero, cancel-neg, mul-nonneg_both}
 use Rattle.overlay_geometry.proofs.laws.geometry.Points.{same_point, same_pair, at_a, at_b, inside_from_order}
 use Rattle.overlay_base.proofs.laws.geometry.Apart.{do_cross_back, do_cross_from, are_apart_parts, no_end_inside_parts}
-use Rattle.overlay_sweep.proofs.laws.columns.ColumnLines.{le-test, le-test_false, lt-test, lt-test_false, lt-tested, le-tested, spans_parts}
+use Rattle.overlay_sweep.proofs.laws.columns.ColumnLines.{spans_parts}
 use Rattle.overlay_sweep.proofs.laws.columns.Heights.{gap, slope, gap_back, gap_same, gap_along, gap_at_start, gap_at_end, gap_at_other_start, gap_at_other_end, is_below_is}
-
-pub by_sign : {P : Type 0} (z : ℤ) → (z <ℤ pos 0 → P) → (z ≡ pos 0 → P) → (pos 0 <ℤ z → P) → P
-by_sign z f g h = by_lt_z z (pos 0) f (λ (up : pos 0 ≤ℤ z). by_lt_z (pos 0) z h (λ (down : z ≤ℤ pos 0). g (omega (arith, ints))))
+use Rattle.overlay_geometry.proofs.laws.integers.Tests.{le-test, le-test_false, lt-test, lt-test_false, le-tested, lt-tested, by_sign}
 
 -- ---- two that are apart
 

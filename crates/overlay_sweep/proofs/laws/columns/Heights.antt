@@ -7,6 +7,7 @@ use Rattle.overlay_geometry.specs.Points.{Pair, turn}
 use Rattle.overlay_geometry.specs.Below.{width, scaled_height, height_cmp}
 use Rattle.overlay_sweep.specs.ColumnWindings.{is_below_in_column}
 use Rattle.overlay_geometry.proofs.laws.geometry.Polynomials.{as_D, diffs, D-eq}
+use Rattle.overlay_geometry.proofs.laws.integers.Products.{minus_itself, minus_turned, neg_swap}
 
 -- how far t is above s at x, times both widths
 unfoldable pub gap : ℤ → Pair → Pair → ℤ
@@ -16,19 +17,13 @@ gap x s t = scaled_height t x *ℤ width s -ℤ scaled_height s x *ℤ width t
 unfoldable pub slope : Pair → Pair → ℤ
 slope s t = (t.b.y -ℤ t.a.y) *ℤ width s -ℤ (s.b.y -ℤ s.a.y) *ℤ width t
 
-back : (m n : ℤ) → m -ℤ n ≡ neg_ℤ (n -ℤ m)
-back m n = omega (arith, ints)
-
 pub gap_back : (x : ℤ) (s t : Pair) → gap x s t ≡ neg_ℤ (gap x t s)
 unfolding gap
-gap_back x s t = back (scaled_height t x *ℤ width s) (scaled_height s x *ℤ width t)
-
-itself : (m : ℤ) → m -ℤ m ≡ pos 0
-itself m = omega (arith, ints)
+gap_back x s t = minus_turned (scaled_height t x *ℤ width s) (scaled_height s x *ℤ width t)
 
 pub gap_same : (x : ℤ) (s : Pair) → gap x s s ≡ pos 0
 unfolding gap
-gap_same x s = itself (scaled_height s x *ℤ width s)
+gap_same x s = minus_itself (scaled_height s x *ℤ width s)
 
 along_plain : (hs ht ws wt sx tx ds dt x z : ℤ) → (ht +ℤ (z -ℤ tx) *ℤ dt) *ℤ ws -ℤ (hs +ℤ (z -ℤ sx) *ℤ ds) *ℤ wt ≡ ((ht +ℤ (x -ℤ tx) *ℤ dt) *ℤ ws -ℤ (hs +ℤ (x -ℤ sx) *ℤ ds) *ℤ wt) +ℤ (z -ℤ x) *ℤ (dt *ℤ ws -ℤ ds *ℤ wt)
 along_plain hs ht ws wt sx tx ds dt x z = rw (as_D hs, as_D ht, as_D ws, as_D wt, as_D sx, as_D tx, as_D ds, as_D dt, as_D x, as_D z) (simp diffs (D-eq _ _ _ _ (omega arith)))
@@ -53,14 +48,11 @@ pub gap_at_end : (s t : Pair) → gap s.b.x s t ≡ neg_ℤ (width s *ℤ turn t
 unfolding gap scaled_height turn
 gap_at_end s t = end_plain s.a.y s.b.y s.b.x (width s) t.a.y t.a.x (width t) (t.b.y -ℤ t.a.y)
 
-twice_back : (m n : ℤ) → m ≡ neg_ℤ n → n ≡ neg_ℤ m
-twice_back m n e = omega (arith, ints)
-
 pub gap_at_other_start : (s t : Pair) → gap t.a.x s t ≡ width t *ℤ turn s.a s.b t.a
-gap_at_other_start s t = gap_back t.a.x s t ∙ sym (twice_back _ _ (gap_at_start t s))
+gap_at_other_start s t = gap_back t.a.x s t ∙ sym (neg_swap _ _ (gap_at_start t s))
 
 pub gap_at_other_end : (s t : Pair) → gap t.b.x s t ≡ width t *ℤ turn s.a s.b t.b
-gap_at_other_end s t = gap_back t.b.x s t ∙ sym (twice_back _ _ (gap_at_end t s))
+gap_at_other_end s t = gap_back t.b.x s t ∙ sym (neg_swap _ _ (gap_at_end t s))
 
 -- ---- the tests of heights are tests of the gap
 

@@ -4,10 +4,6 @@ use Rattle.std.specs.Prelude.{ℕ, ◌+◌, ◌%◌, Bool, true, false, not, con
 use Rattle.overlay_sweep.specs.Fill.{flag_value}
 use Rattle.overlay_base.specs.Rules.{differ}
 
-pub differ_same : (a : Bool) → differ a a ≡ false
-differ_same true = refl
-differ_same false = refl
-
 -- whether a test holds of an odd number of elements
 abbrev pub odd_of : {X : Type 0} → (X → Bool) → List X → Bool
 odd_of test [] = false

@@ -1,6 +1,6 @@
 -- Chain windings are column windings: by the order of starts and angles, each segment's chain has the windings of its two sides.
 use Rattle.std.proofs.Common.{◌≡◌, ap, refl, sym, ◌∙◌, arith, inl, inr}
-use Rattle.std.specs.Prelude.{ℕ, zero, suc, ◌<◌, ◌≤◌, ℤ, pos, ◌+ℤ◌, ◌<ℤ◌, int_le, int_lt, Bool, true, false, cond, ◌&&◌, List, [], ◌∷◌, filter, length, Option, Some, None}
+use Rattle.std.specs.Prelude.{ℕ, zero, suc, ◌<◌, ◌≤◌, ℤ, pos, ◌<ℤ◌, int_le, int_lt, Bool, true, false, cond, ◌&&◌, List, [], ◌∷◌, filter, length, Option, Some, None}
 use Rattle.std.specs.Ordering.{is_lt, ordering_then}
 use Rattle.std.proofs.lemmas.Int.{ints}
 use Rattle.std.proofs.lemmas.Bool.{and_parts, and_from, or_left, or_right, or_cases, both_ways, false_from_ne_true}
@@ -13,12 +13,14 @@ use Rattle.overlay_sweep.specs.ColumnWindings.{spans, side_bottom, side_top, IsS
 use Rattle.overlay_sweep.specs.ChainWindings.{neighbor_at_start, directly_below, support, top_within, top, bottom, is_live}
 use Rattle.overlay_sweep.specs.Laws.{ChainsAreColumns}
 use Rattle.overlay_geometry.proofs.laws.geometry.Points.{same_by_eq, turn_same_outer}
-use Rattle.overlay_sweep.proofs.laws.columns.ColumnLines.{le-test, lt-test, le-tested, lt-tested, spans_parts, spans-true, is_under}
+use Rattle.overlay_sweep.proofs.laws.columns.ColumnLines.{spans_parts, spans-true, is_under}
 use Rattle.overlay_sweep.proofs.laws.columns.AlongSegments.{is_same_along}
 use Rattle.overlay_sweep.proofs.laws.columns.Members.{greatest_is, greatest_none, All-from_Has, IsArranged, is_arranged}
 use Rattle.overlay_sweep.proofs.laws.live.Supports.{is_beneath, is_earlier, angle_same, angle_asymmetric, angle-trans, first_same, first_asymmetric, first-trans, below_neighbor, below_highest, wide_from_angle, earlier-trans, earlier_itself, earlier_beneath}
 use Rattle.overlay_sweep.proofs.laws.live.Sides.{side_top_is, bottom_is_top, bottom_is_empty, IsHighest, apart_in}
 use Rattle.overlay_geometry.proofs.laws.lists.Lists.{Has, Has-filter, Has-filter_out}
+use Rattle.overlay_geometry.proofs.laws.integers.Tests.{le-test, lt-test, le-tested, lt-tested}
+use Rattle.overlay_geometry.proofs.laws.integers.Products.{zero_plus}
 
 pub by_option : {K P : Type 0} (o : Option K) → (o ≡ None → P) → ((t : K) → o ≡ Some t → P) → P
 by_option None f g = f refl
@@ -155,9 +157,6 @@ length-filter_less p q t (x ∷ xs) h (inr m) e f = filter_less_step (p x) (q x)
 pub filter_all : (xs : List WholeSegment) → length (filter (λ u. true) xs) ≤ length xs
 filter_all [] = omega arith
 filter_all (x ∷ xs) = let h = filter_all xs in omega (arith, h)
-
-zero_plus : (z : ℤ) → pos 0 +ℤ z ≡ z
-zero_plus z = omega (arith, ints)
 
 pub empty_add : (c : Winding) → add empty (weight c) ≡ weight c
 empty_add c = λ i. record { subj = zero_plus c.subj i; clip = zero_plus c.clip i; mask = 0 }

@@ -15,9 +15,10 @@ use Rattle.overlay_geometry.proofs.laws.geometry.Points.{from_before, pair_befor
 use Rattle.overlay_sweep.specs.ChainWindings.{is_live}
 use Rattle.overlay_sweep.proofs.laws.columns.Members.{sorted_all, sorted_tail, IsArranged}
 use Rattle.overlay_sweep.proofs.laws.live.Supports.{earlier-cases, earlier_beneath}
-use Rattle.overlay_sweep.proofs.laws.columns.ColumnLines.{lt-tested, is_under}
+use Rattle.overlay_sweep.proofs.laws.columns.ColumnLines.{is_under}
 use Rattle.overlay_sweep.proofs.laws.columns.Tops.{spans_live}
 use Rattle.overlay_sweep.proofs.laws.live.DirectlyBelow.{lies_below}
+use Rattle.overlay_geometry.proofs.laws.integers.Tests.{lt-tested}
 
 -- ---- parts of lists
 

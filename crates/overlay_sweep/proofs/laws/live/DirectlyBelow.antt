@@ -22,8 +22,8 @@ use Rattle.overlay_sweep.proofs.laws.columns.ColumnOrder.{IsApart, is_apart, apa
 use Rattle.overlay_sweep.proofs.laws.columns.Members.{greatest_is, greatest_none, sorted_all, sorted_tail, differ_when_less, IsArranged}
 use Rattle.overlay_sweep.proofs.laws.live.Supports.{below_highest, first_same, first_asymmetric, first-trans}
 use Rattle.overlay_sweep.proofs.laws.columns.Tops.{by_option, spans_live}
-use Rattle.overlay_sweep.proofs.laws.live.LiveSums.{Has-from_Contains, Contains-from_Has}
 use Rattle.overlay_geometry.proofs.laws.lists.Lists.{Has, Has-filter, Has-filter_out, Has-map, Has-map_out, list_all-at}
+use Rattle.overlay_geometry.proofs.laws.lists.Elements.{Contains-from_Has, Has-from_Contains}
 
 -- the order of segments from below at one x
 abbrev first_cmp : ℤ → WholeSegment → WholeSegment → Bool
@@ -31,9 +31,6 @@ first_cmp x t u = is_lt (ordering_then (height_cmp x t.pair u.pair) (angle_cmp t
 
 abbrev pub lies_below : Point → WholeSegment → Bool
 lies_below p t = is_live p.x t.pair && int_lt (pos 0) (turn t.pair.a t.pair.b p)
-
-wide_at : (x : ℤ) (s : Pair) → spans x s ≡ true → s.a.x <ℤ s.b.x
-wide_at x s h = let p = spans_parts x s h in omega (arith, ints)
 
 -- ---- directly below, as members
 

@@ -1,34 +1,27 @@
 -- Rows of level segments: any two are apart, and what is live among them stays rows.
-use Rattle.std.proofs.Common.{◌≡◌, ◌∙◌, ap, sym, subst, refl, arith, inl, inr}
-use Rattle.std.specs.Prelude.{ℕ, ◌*◌, ◌<◌, ◌⊎◌, ℤ, pos, ◌≤ℤ◌, int_lt, Bool, true, false, ◌||◌, IsTrue, List, [], ◌∷◌}
+use Rattle.std.proofs.Common.{◌≡◌, ◌∙◌, ap, sym, subst, arith, inl, inr}
+use Rattle.std.specs.Prelude.{ℕ, ◌*◌, ◌<◌, ◌⊎◌, ℤ, pos, ◌≤ℤ◌, int_lt, true, IsTrue, List, [], ◌∷◌}
 use Rattle.std.specs.Int.{int_min, int_max}
 use Rattle.std.specs.List.{Contains}
-use Rattle.std.proofs.lemmas.Bool.{cases_lt, and_from}
+use Rattle.std.proofs.lemmas.Bool.{cases_lt, and_from, or_left, or_right}
 use Rattle.std.proofs.lemmas.Int.{ints, clamps}
 use Rattle.overlay_geometry.specs.Points.{Pair}
 use Rattle.overlay_base.specs.Segments.{WholeSegment}
 use Rattle.overlay_geometry.specs.Meeting.{are_apart}
 use Rattle.overlay_geometry.specs.Ranges.{heights, is_off_range}
 use Rattle.overlay_base.proofs.laws.geometry.Apart.{are_apart-itself, apart_in_y}
-use Rattle.overlay_sweep.proofs.laws.columns.ColumnLines.{lt-test}
-use Rattle.overlay_sweep.proofs.laws.live.LiveSums.{Has-from_Contains, Contains-from_Has}
 use Rattle.overlay_sweep.specs.Live.{HoldSameFrom, AreFreeAt}
 use Rattle.overlay_sweep.specs.steps.LevelRows.{level_pair, level_row, AreRows}
-
-or_first : (a b : Bool) → a ≡ true → (a || b) ≡ true
-or_first a b h = rw h refl
-
-or_second : (a b : Bool) → b ≡ true → (a || b) ≡ true
-or_second true b h = refl
-or_second false b h = h
+use Rattle.overlay_geometry.proofs.laws.integers.Tests.{lt-test}
+use Rattle.overlay_geometry.proofs.laws.lists.Elements.{Contains-from_Has, Has-from_Contains}
 
 off_range : (j k : ℕ) → (j < k) ⊎ (k < j) → IsTrue (is_off_range (heights (level_pair j)) (level_pair k))
 off_range j k (inl h) =
     let over : int_lt (int_max (pos (2 * j)) (pos (2 * j))) (pos (2 * k)) ≡ true = lt-test (int_max (pos (2 * j)) (pos (2 * j))) (pos (2 * k)) (omega (arith, ints, clamps, h)) in
-    or_second _ _ (and_from _ _ over over)
+    or_right _ _ (and_from _ _ over over)
 off_range j k (inr h) =
     let under : int_lt (pos (2 * k)) (int_min (pos (2 * j)) (pos (2 * j))) ≡ true = lt-test (pos (2 * k)) (int_min (pos (2 * j)) (pos (2 * j))) (omega (arith, ints, clamps, h)) in
-    or_first _ _ (and_from _ _ under under)
+    or_left _ _ (and_from _ _ under under)
 
 pub rows_apart : (j k : ℕ) → are_apart (level_pair j) (level_pair k) ≡ true
 rows_apart j k =

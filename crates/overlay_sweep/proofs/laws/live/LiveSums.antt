@@ -1,10 +1,9 @@
 -- Lists of live sums that hold the same from some x on.
 use Rattle.std.proofs.Common.{◌≡◌, ap, refl, sym, subst, ◌∙◌, arith, inl, inr}
-use Rattle.std.specs.Prelude.{ℕ, zero, suc, ◌<◌, true, ℤ, ◌≤ℤ◌, ◌<ℤ◌, int_le, int_lt, ◌&&◌, ◌⊎◌, Bool, false, not, if◌then◌else◌, List, [], ◌∷◌, ◌++◌, length, map, filter, All}
+use Rattle.std.specs.Prelude.{suc, ◌<◌, true, ℤ, ◌≤ℤ◌, ◌<ℤ◌, int_le, int_lt, ◌&&◌, Bool, false, not, if◌then◌else◌, List, [], ◌∷◌, ◌++◌, map, filter, All}
 use Rattle.std.specs.List.{Contains}
 use Rattle.std.specs.List.Retain.{IsFiltered}
 use Rattle.std.proofs.lemmas.Fn.{filter_same}
-use Rattle.std.proofs.Common.{get_or}
 use Rattle.std.proofs.lemmas.Int.{ints}
 use Rattle.std.proofs.lemmas.Bool.{and_parts, both_ways}
 use Rattle.std.proofs.lemmas.List.{map-append}
@@ -13,23 +12,11 @@ use Rattle.overlay_geometry.specs.Points.{Pair, is_vertical}
 use Rattle.overlay_base.specs.Segments.{WholeSegment}
 use Rattle.overlay_sweep.specs.Live.{HoldSameFrom}
 use Rattle.overlay_sweep.proofs.laws.columns.Members.{All-from_Has}
-use Rattle.overlay_sweep.proofs.laws.columns.ColumnLines.{le-tested, lt-tested}
 use Rattle.overlay_geometry.proofs.laws.lists.Lists.{Has}
+use Rattle.overlay_geometry.proofs.laws.integers.Tests.{le-tested, lt-tested, le_through}
+use Rattle.overlay_geometry.proofs.laws.lists.Elements.{Contains-from_Has, Has-from_Contains, Has-append_out}
 
 -- ---- members by index and by recursion
-
-in_at : {X : Type 0} (xs : List X) (x : X) (k : ℕ) → k < length xs → get_or xs k x ≡ x → Has xs x
-in_at [] x k h e = absurd (omega (arith, h))
-in_at (y ∷ ys) x zero h e = inl e
-in_at (y ∷ ys) x (suc k) h e = inr (in_at ys x k (omega (arith, h)) e)
-
-pub Has-from_Contains : {X : Type 0} (xs : List X) (x : X) → Contains xs x → Has xs x
-Has-from_Contains xs x c = in_at xs x c.0 c.1 c.2
-
-pub Contains-from_Has : {X : Type 0} (xs : List X) (x : X) → Has xs x → Contains xs x
-Contains-from_Has [] x m = absurd m
-Contains-from_Has (y ∷ ys) x (inl e) = (0, omega arith, e)
-Contains-from_Has (y ∷ ys) x (inr m) = let c = Contains-from_Has ys x m in (suc c.0, omega (arith, c.1), c.2)
 
 pub Contains-first : {X : Type 0} (x : X) (xs : List X) → Contains (x ∷ xs) x
 Contains-first x xs = (0, omega arith, refl)
@@ -48,11 +35,8 @@ HoldSameFrom-same x xs s y h l = (λ m. m, λ m. m)
 pub HoldSameFrom-trans : (x : ℤ) (xs ys zs : List WholeSegment) → HoldSameFrom x xs ys → HoldSameFrom x ys zs → HoldSameFrom x xs zs
 HoldSameFrom-trans x xs ys zs f g s y h l = (λ m. (g s y h l).0 ((f s y h l).0 m), λ m. (f s y h l).1 ((g s y h l).1 m))
 
-le_trans : (x y z : ℤ) → x ≤ℤ y → y ≤ℤ z → x ≤ℤ z
-le_trans x y z h k = omega (arith, ints)
-
 pub HoldSameFrom-later : (x z : ℤ) (xs ys : List WholeSegment) → x ≤ℤ z → HoldSameFrom x xs ys → HoldSameFrom z xs ys
-HoldSameFrom-later x z xs ys k f s y h l = f s y (le_trans x z y k h) l
+HoldSameFrom-later x z xs ys k f s y h l = f s y (le_through x z y k h) l
 
 pub HoldSameFrom-cons : (x : ℤ) (e : WholeSegment) (xs ys : List WholeSegment) → HoldSameFrom x xs ys → HoldSameFrom x (e ∷ xs) (e ∷ ys)
 HoldSameFrom-cons x e xs ys f s y h l = (
@@ -93,21 +77,16 @@ HoldSameFrom-pushed f x entry xs ys b t e =
     subst (λ v. HoldSameFrom x v (f entry ∷ map f xs)) (sym (ap (map f) (pushed_list xs ys (xs ++ entry ∷ []) b t e) ∙ map-append f xs (entry ∷ []))) (HoldSameFrom-push x (f entry) (map f xs))
 
 begin_at : (x y : ℤ) (xs : List WholeSegment) → x ≤ℤ y → All (λ s. s.pair.a.x ≤ℤ x) xs → (s : WholeSegment) → Has xs s → s.pair.a.x ≤ℤ y
-begin_at x y xs h a s m = le_trans s.pair.a.x x y (All-contains (λ s. s.pair.a.x ≤ℤ x) xs s a (Contains-from_Has xs s m)) h
+begin_at x y xs h a s m = le_through s.pair.a.x x y (All-contains (λ s. s.pair.a.x ≤ℤ x) xs s a (Contains-from_Has xs s m)) h
 
 -- what begins by x begins by each later y
 pub begins_later : (x y : ℤ) (xs : List WholeSegment) → x ≤ℤ y → All (λ s. s.pair.a.x ≤ℤ x) xs → All (λ s. s.pair.a.x ≤ℤ y) xs
 begins_later x y xs h a = All-from_Has (λ s. s.pair.a.x ≤ℤ y) xs (begin_at x y xs h a)
 
-pub Has-append : {X : Type 0} (xs ys : List X) (x : X) → Has (xs ++ ys) x → Has xs x ⊎ Has ys x
-Has-append [] ys x m = inr m
-Has-append (z ∷ zs) ys x (inl e) = inl (inl e)
-Has-append (z ∷ zs) ys x (inr m) = elim (Has-append zs ys x m) [ inl n ↦ inl (inr n) | inr n ↦ inr n ]
-
 pub begins_pushed : {X : Type 0} (f : X → WholeSegment) (x y : ℤ) (entry : X) (xs ys : List X) (b : Bool) → b ≡ true → ys ≡ (if b then xs ++ entry ∷ [] else xs) → (f entry).pair.a.x ≡ x → x ≤ℤ y → All (λ s. s.pair.a.x ≤ℤ x) (map f xs) → All (λ s. s.pair.a.x ≤ℤ y) (map f ys)
 begins_pushed f x y entry xs ys b t e start h a =
     rw (ap (map f) (pushed_list xs ys (xs ++ entry ∷ []) b t e) ∙ map-append f xs (entry ∷ []))
-    (All-from_Has (λ s. s.pair.a.x ≤ℤ y) (map f xs ++ f entry ∷ []) (λ s m. elim (Has-append (map f xs) (f entry ∷ []) s m) [
+    (All-from_Has (λ s. s.pair.a.x ≤ℤ y) (map f xs ++ f entry ∷ []) (λ s m. elim (Has-append_out (map f xs) (f entry ∷ []) s m) [
       | inl n ↦ begin_at x y (map f xs) h a s n
       | inr n ↦ elim n [ inl same ↦ (let it : s.pair.a.x ≡ (f entry).pair.a.x = ap (λ (v : WholeSegment). v.pair.a.x) (sym same) in omega (arith, ints)) | inr none ↦ absurd none ]
     ]))

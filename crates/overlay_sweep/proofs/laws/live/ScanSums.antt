@@ -5,7 +5,7 @@ use Rattle.std.specs.Option.{option_map_or}
 use Rattle.std.specs.Ordering.{is_lt, ordering_then}
 use Rattle.std.specs.declared.cmp.Ordering.{Ordering}
 use Rattle.std.proofs.lemmas.Int.{ints}
-use Rattle.std.proofs.lemmas.Bool.{and_parts, and_from, both_ways}
+use Rattle.std.proofs.lemmas.Bool.{and_parts, and_from, both_ways, not-true, not-false}
 use Rattle.std.proofs.lemmas.List.{map_more, append-nil}
 use Rattle.std.proofs.lemmas.List.Elements.{All-contains, filter-append}
 use Rattle.std.proofs.lemmas.List.Sums.{fold_push}
@@ -18,14 +18,15 @@ use Rattle.overlay_geometry.specs.Below.{height_cmp, angle_cmp, under_segment_or
 use Rattle.overlay_sweep.specs.ChainWindings.{is_live, directly_below}
 use Rattle.overlay_sweep.specs.Live.{sum_below}
 use Rattle.overlay_sweep.specs.Live.{HoldSameFrom, AreFreeAt}
-use Rattle.overlay_sweep.proofs.laws.columns.ColumnLines.{le-test, lt-test, lt-tested}
 use Rattle.overlay_sweep.proofs.laws.columns.Tops.{spans_live}
 use Rattle.overlay_sweep.proofs.laws.columns.ColumnOrder.{is_apart}
 use Rattle.overlay_sweep.proofs.laws.columns.Members.{All-from_Has}
 use Rattle.overlay_sweep.proofs.laws.live.UnderOrders.{under_is_first}
-use Rattle.overlay_sweep.proofs.laws.live.LiveSums.{Has-from_Contains, Contains-from_Has, begins_later}
+use Rattle.overlay_sweep.proofs.laws.live.LiveSums.{begins_later}
 use Rattle.overlay_sweep.proofs.laws.live.Boundaries.{Has-take}
 use Rattle.overlay_geometry.proofs.laws.lists.Lists.{Has, Has-filter, Has-filter_out, Has-map}
+use Rattle.overlay_geometry.proofs.laws.integers.Tests.{le-test, lt-test, lt-tested}
+use Rattle.overlay_geometry.proofs.laws.lists.Elements.{Contains-from_Has, Has-from_Contains}
 
 abbrev first_cmp : ℤ → WholeSegment → WholeSegment → Ordering
 first_cmp x t u = ordering_then (height_cmp x t.pair u.pair) (angle_cmp t.pair u.pair)
@@ -66,24 +67,16 @@ module _ (p : Point) (ks : List WholeSegment) (e : WholeSegment) (best : Option 
     pub leading-new : runs_under p e ≡ true → stands_over ≡ true → Some e ≡ leading p (ks ++ e ∷ [])
     leading-new h over = sym (leading-more h ∙ ap (λ z. Some z) (chosen best agree over))
       where
-        not_false : (b : Bool) → not b ≡ true → b ≡ false
-        not_false true k = absurd (both_ways false refl k)
-        not_false false k = refl
-
         chosen : (o : Option WholeSegment) → ((b : WholeSegment) → o ≡ Some b → is_lt (under_segment_order e.pair b.pair) ≡ is_lt (first_cmp p.x e b)) → option_map_or (λ h. not (is_lt (under_segment_order e.pair h.pair))) o true ≡ true → option_map_or (λ b. if is_lt (first_cmp p.x e b) then b else e) o e ≡ e
         chosen None a k = refl
-        chosen (Some b) a k = rw (sym (a b refl) ∙ not_false (is_lt (under_segment_order e.pair b.pair)) k) refl
+        chosen (Some b) a k = rw (sym (a b refl) ∙ not-true (is_lt (under_segment_order e.pair b.pair)) k) refl
 
     pub leading-old : runs_under p e ≡ true → stands_over ≡ false → best ≡ leading p (ks ++ e ∷ [])
     leading-old h over = sym (leading-more h ∙ kept best agree over)
       where
-        not_true : (b : Bool) → not b ≡ false → b ≡ true
-        not_true true k = refl
-        not_true false k = absurd (both_ways true k refl)
-
         kept : (o : Option WholeSegment) → ((b : WholeSegment) → o ≡ Some b → is_lt (under_segment_order e.pair b.pair) ≡ is_lt (first_cmp p.x e b)) → option_map_or (λ h. not (is_lt (under_segment_order e.pair h.pair))) o true ≡ false → Some (option_map_or (λ b. if is_lt (first_cmp p.x e b) then b else e) o e) ≡ o
         kept None a k = absurd (both_ways true k refl)
-        kept (Some b) a k = rw (sym (a b refl) ∙ not_true (is_lt (under_segment_order e.pair b.pair)) k) refl
+        kept (Some b) a k = rw (sym (a b refl) ∙ not-false (is_lt (under_segment_order e.pair b.pair)) k) refl
 
 fold_step : {K : Type 0} (b : Bool) (a y z : K) (ys : List K) → Has (cond b a y ∷ ys) z → Has (a ∷ y ∷ ys) z
 fold_step true a y z ys (inl e) = inl e

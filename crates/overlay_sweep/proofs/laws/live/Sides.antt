@@ -1,6 +1,6 @@
 -- The sides of a segment in an arrangement: its bottom is the sum of what lies beneath it, its top has its own weight on top, and its support's top is its bottom.
 use Rattle.std.proofs.Common.{◌≡◌, ap, refl, sym, ◌∙◌, arith, inl, inr}
-use Rattle.std.specs.Prelude.{ℤ, pos, ◌+ℤ◌, ◌-ℤ◌, ◌*ℤ◌, ◌<ℤ◌, ◌≤ℤ◌, Bool, true, false, ◌&&◌, ◌⊎◌, List, [], ◌∷◌, filter}
+use Rattle.std.specs.Prelude.{ℤ, pos, ◌+ℤ◌, ◌-ℤ◌, ◌<ℤ◌, ◌≤ℤ◌, Bool, true, false, ◌&&◌, ◌⊎◌, List, [], ◌∷◌, filter}
 use Rattle.std.specs.Ordering.{int_eq}
 use Rattle.std.proofs.lemmas.Int.{ints, by_lt_z}
 use Rattle.std.proofs.lemmas.Bool.{and_parts, and_from, and_right, cases_Bool, both_ways, not-true, false_from_ne_true}
@@ -12,12 +12,14 @@ use Rattle.overlay_base.specs.Balance.{IsBalanced}
 use Rattle.overlay_sweep.specs.ColumnWindings.{spans, is_below_in_column, column_bottom, column_top, weights_up_to, right_winding, left_winding, side_bottom, side_top}
 use Rattle.overlay_geometry.proofs.laws.geometry.Points.{same_point, same_pair, same_pair_by_eq, pair_eq_same, from_not_same_pair, inside_from_order}
 use Rattle.overlay_sweep.proofs.laws.columns.WeightSums.{when, sum_of, sum_of-add}
-use Rattle.overlay_sweep.proofs.laws.columns.ColumnLines.{le-test, le-test_false, le-tested, point_lt-cases, is_up_to, lies_up_to, leaves_upward, column_weights, column_weights_are, filter_weights_are, across_up_to}
+use Rattle.overlay_sweep.proofs.laws.columns.ColumnLines.{point_lt-cases, is_up_to, lies_up_to, leaves_upward, column_weights, column_weights_are, filter_weights_are, across_up_to}
 use Rattle.overlay_sweep.proofs.laws.columns.ColumnOrder.{IsApart, is_apart, below_itself}
 use Rattle.overlay_sweep.proofs.laws.columns.AlongSegments.{turn_upright, is_same_along}
 use Rattle.overlay_sweep.proofs.laws.columns.Members.{IsArranged, single_sum}
 use Rattle.overlay_sweep.proofs.laws.live.Supports.{is_beneath, below_is_beneath, up_to_is_beneath, beneath-below}
 use Rattle.overlay_geometry.proofs.laws.lists.Lists.{Has}
+use Rattle.overlay_geometry.proofs.laws.integers.Tests.{le-test, le-test_false, le-tested}
+use Rattle.overlay_geometry.proofs.laws.integers.Products.{times_nothing}
 
 pub sum_of-same_in : {X : Type 0} (f g : X → ℤ) (xs : List X) → ((x : X) → Has xs x → f x ≡ g x) → sum_of f xs ≡ sum_of g xs
 sum_of-same_in f g [] h = refl
@@ -39,9 +41,6 @@ column_weights-same low high xs c h =
 
 not_spanned : (s : Pair) → s.a.x <ℤ s.b.x → is_vertical s ≡ false
 not_spanned s h = false_from_ne_true _ (λ e. let same = (Decides-int_eq s.a.x s.b.x).0 e in omega (arith, ints))
-
-level_turn : (h d : ℤ) → d ≡ pos 0 → h *ℤ d ≡ pos 0
-level_turn h d e = rw e (omega (arith, ints))
 
 nothing : (l r : Bool) (z : ℤ) → (l ≡ true → r ≡ false) → when (l && r) z ≡ pos 0
 nothing true r z h = rw (h refl) refl
@@ -89,8 +88,8 @@ module _ (xs : List WholeSegment) (arranged : IsArranged xs) (balanced : IsBalan
         let low : u.pair.a.y ≤ℤ s.pair.a.y = le-tested _ _ lower.1 in
         let upper : lies_up_to s.pair.a u.pair.b ≡ false = not-true _ second.1 in
         let high : s.pair.a.y <ℤ u.pair.b.y = by_lt_z s.pair.a.y u.pair.b.y (λ (l : s.pair.a.y <ℤ u.pair.b.y). l) (λ (g : u.pair.b.y ≤ℤ s.pair.a.y). absurd (both_ways _ upper (and_from _ _ ((Decides-int_eq u.pair.b.x s.pair.a.x).1 (sym ux ∙ at)) (le-test _ _ g)))) in
-        let on_u = λ (q : Point) (x : q.x ≡ u.pair.a.x). turn_upright u.pair q ux ∙ level_turn (u.pair.b.y -ℤ u.pair.a.y) (u.pair.a.x -ℤ q.x) (omega (arith, ints)) in
-        let on_s = λ (q : Point) (x : q.x ≡ s.pair.a.x). turn_upright s.pair q e ∙ level_turn (s.pair.b.y -ℤ s.pair.a.y) (s.pair.a.x -ℤ q.x) (omega (arith, ints)) in
+        let on_u = λ (q : Point) (x : q.x ≡ u.pair.a.x). turn_upright u.pair q ux ∙ times_nothing (u.pair.b.y -ℤ u.pair.a.y) (u.pair.a.x -ℤ q.x) (omega (arith, ints)) in
+        let on_s = λ (q : Point) (x : q.x ≡ s.pair.a.x). turn_upright s.pair q e ∙ times_nothing (s.pair.b.y -ℤ s.pair.a.y) (s.pair.a.x -ℤ q.x) (omega (arith, ints)) in
         let start : u.pair.a ≡ s.pair.a = same_point u.pair.a s.pair.a at (by_lt_z u.pair.a.y s.pair.a.y
         (λ (l : u.pair.a.y <ℤ s.pair.a.y). absurd (apart.a_around (inside_from_order u.pair s.pair.a (inr (ux, omega (arith, ints))) (on_u s.pair.a (sym at)) (inr (at, l)) (inr (sym at ∙ ux, high)))))
         (λ (g : s.pair.a.y ≤ℤ u.pair.a.y). omega (arith, ints))) in

@@ -1,11 +1,11 @@
 -- The segments of a list that start at one point, and their order by angle.
-use Rattle.std.proofs.Common.{◌≡◌, ap, ap₂, refl, sym, subst, ◌∙◌, arith, get_or, Ordering, Less, Equal, Greater, is_eq}
+use Rattle.std.proofs.Common.{◌≡◌, ap, ap₂, refl, sym, subst, ◌∙◌, arith, get_or, Ordering, is_eq}
 use Rattle.std.proofs.Common.{zero-add}
 use Rattle.std.specs.Prelude.{ℕ, zero, suc, ◌+◌, ◌-◌, ◌<◌, ◌≤◌, ℤ, Bool, true, ◌&&◌, List, [], ◌∷◌, ◌++◌, map, length, take, drop}
 use Rattle.std.specs.List.{enumerate_from}
 use Rattle.std.specs.Cmp.{IsStrictWeakOrder}
 use Rattle.std.proofs.lemmas.List.FromFn.{length-enumerate_from, get_or-enumerate_from}
-use Rattle.std.specs.Ordering.{int_cmp, eq_by_cmp, ordering_then, is_lt}
+use Rattle.std.specs.Ordering.{int_cmp, eq_by_cmp, is_lt}
 use Rattle.std.proofs.lemmas.List.{get_or-map, length-map, get_or-drop, length-drop, take_more}
 use Rattle.overlay_geometry.specs.Points.{Point, Pair, point_eq, is_ordered}
 use Rattle.overlay_base.specs.Segments.{WholeSegment, pairs}
@@ -14,16 +14,12 @@ use Rattle.overlay_geometry.specs.PointOf.{point_of}
 use Rattle.overlay_geometry.specs.declared.geom.point.IntPoint.{IntPoint}
 use Rattle.overlay_sweep.specs.steps.WayOf.{WholeWay, ways_between}
 use Rattle.overlay_sweep.proofs.laws.live.Supports.{angle_asymmetric, angle-chain}
+use Rattle.overlay_geometry.proofs.laws.geometry.Points.{is_eq-then}
 
 -- ---- equal points
 
 whole_eq : {I : Type 0} (eq : I → I → Bool) (cmp : I → I → Ordering) (whole : I → ℤ) → ((a b : I) → eq a b ≡ eq_by_cmp cmp a b) → ((a b : I) → cmp a b ≡ int_cmp (whole a) (whole b)) → (a b : I) → eq a b ≡ is_eq (int_cmp (whole a) (whole b))
 whole_eq eq cmp whole e o a b = e a b ∙ ap is_eq (o a b)
-
-is_eq-then : (a b : Ordering) → is_eq (ordering_then a b) ≡ (is_eq a && is_eq b)
-is_eq-then Less b = refl
-is_eq-then Equal b = refl
-is_eq-then Greater b = refl
 
 -- `==` of points is that of their whole numbers
 pub point_eq_is : {I : Type 0} (eq : I → I → Bool) (cmp : I → I → Ordering) (whole : I → ℤ) → ((a b : I) → eq a b ≡ eq_by_cmp cmp a b) → ((a b : I) → cmp a b ≡ int_cmp (whole a) (whole b)) → (p q : IntPoint I) → (eq p.x q.x && eq p.y q.y) ≡ point_eq (point_of whole p) (point_of whole q)
@@ -57,9 +53,6 @@ each_more P n before here k d h = by_last k n h (λ l. before k d l) (λ e. subs
 
 abbrev listed_way : ℕ × WholeSegment → WholeWay
 listed_way e = record { index = e.0; pair = e.1.pair }
-
-pub ways_between-none : (xs : List WholeSegment) (n : ℕ) → ways_between xs n n ≡ []
-ways_between-none xs n = let none : n - n ≡ 0 = omega arith in rw none refl
 
 -- one element more of the part of a list from a place on
 take_drop-more : {Y : Type 0} (ys : List Y) (i at : ℕ) (y : Y) → i ≤ at → at < length ys → get_or ys at y ≡ y → take ((at + 1) - i) (drop i ys) ≡ take (at - i) (drop i ys) ++ y ∷ []

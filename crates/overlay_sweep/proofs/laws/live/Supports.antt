@@ -12,10 +12,12 @@ use Rattle.overlay_sweep.specs.ColumnWindings.{spans, is_below_in_column}
 use Rattle.overlay_base.specs.Rules.{differ}
 use Rattle.overlay_geometry.proofs.laws.geometry.Polynomials.{as_D, diffs, D-eq, mul-pos, mul-neg, mul-nonneg, cancel-pos, cancel-neg, cancel-nonpos, cancel-nonneg, mul-nonpos}
 use Rattle.overlay_geometry.proofs.laws.geometry.Points.{same_point, same_by_eq, point_eq_same, from_not_same, at_a, inside_from_order, turn_same_outer, from_before, point_lt-trans, point_lt-irreflexive}
-use Rattle.overlay_sweep.proofs.laws.columns.ColumnLines.{le-test, le-test_false, lt-test, lt-test_false, lt-tested, le-tested, spans_parts, spans-true, point_lt-cases, turn_over_start, is_under, is_up_to}
+use Rattle.overlay_sweep.proofs.laws.columns.ColumnLines.{spans_parts, spans-true, point_lt-cases, turn_over_start, is_under, is_up_to}
 use Rattle.overlay_sweep.proofs.laws.columns.Heights.{gap, slope, gap_back, gap_same, gap_at_other_start, is_below_is, is_lt-cmp, is_lt-height_cmp, is_le-height_cmp}
-use Rattle.overlay_sweep.proofs.laws.columns.ColumnOrder.{by_sign, IsApart, apart_back, gap_step, crosses_in_column, is_low, low-left, low-right, low-first, low-level, low-second, low_parts, one_is_below, is_below-trans}
+use Rattle.overlay_sweep.proofs.laws.columns.ColumnOrder.{IsApart, apart_back, gap_step, crosses_in_column, is_low, low-left, low-right, low-first, low-level, low-second, low_parts, one_is_below, is_below-trans}
 use Rattle.overlay_sweep.proofs.laws.columns.AlongSegments.{slope_back}
+use Rattle.overlay_geometry.proofs.laws.integers.Tests.{le-test, le-test_false, lt-test, lt-test_false, le-tested, lt-tested, by_sign}
+use Rattle.overlay_geometry.proofs.laws.integers.Products.{minus_itself, times_zero}
 
 -- ---- angles are slopes
 
@@ -33,9 +35,6 @@ upright_plain h d w a = rw (as_D h, as_D d, as_D w, as_D a) (simp diffs (D-eq _ 
 pub slope_upright : (u s : Pair) → pos 0 <ℤ width u → s.a.x ≡ s.b.x → s.a.y <ℤ s.b.y → pos 0 <ℤ slope u s
 unfolding slope
 slope_upright u s w e h = rw (← e, upright_plain (s.b.y -ℤ s.a.y) (u.b.y -ℤ u.a.y) (width u) s.a.x) (mul-pos (s.b.y -ℤ s.a.y) (width u) (omega (arith, ints)) w)
-
-times_zero : (w : ℤ) → w *ℤ pos 0 ≡ pos 0
-times_zero w = omega (arith, ints)
 
 low_from_level : (u v k : ℤ) → u ≡ pos 0 → v ≡ u +ℤ k → is_low u v ≡ int_lt (pos 0) k
 low_from_level u v k e f =
@@ -59,12 +58,9 @@ pub gap_mean : (x : ℤ) (r s t : Pair) → width s *ℤ gap x r t ≡ width t *
 unfolding gap
 gap_mean x r s t = mean_plain (scaled_height r x) (scaled_height s x) (scaled_height t x) (width r) (width s) (width t)
 
-itself : (m : ℤ) → m -ℤ m ≡ pos 0
-itself m = omega (arith, ints)
-
 pub slope_same : (s : Pair) → slope s s ≡ pos 0
 unfolding slope
-slope_same s = itself ((s.b.y -ℤ s.a.y) *ℤ width s)
+slope_same s = minus_itself ((s.b.y -ℤ s.a.y) *ℤ width s)
 
 -- ---- what lies below s at its start
 

@@ -1,21 +1,23 @@
 -- Of two segments that are live at one x, the code's order says which runs below the other there.
 use Rattle.std.proofs.Common.{◌≡◌, ap, refl, sym, subst, ◌∙◌, arith, inl, inr, Ordering, Less, Equal, Greater}
 use Rattle.std.specs.Prelude.{ℕ, zero, suc, ℤ, pos, ◌+ℤ◌, ◌-ℤ◌, ◌<ℤ◌, ◌≤ℤ◌, int_lt, unsigned_abs, Bool, true, false, not, ◌&&◌, ◌||◌}
-use Rattle.std.specs.Ordering.{is_lt, is_eq, ordering_then, MatchOrdering}
+use Rattle.std.specs.Ordering.{is_lt, ordering_then, MatchOrdering}
 use Rattle.std.proofs.lemmas.Int.{ints}
 use Rattle.std.proofs.lemmas.Bool.{both_ways, cases_Bool}
 use Rattle.overlay_geometry.specs.Points.{Point, Pair, turn, step, cross_product, point_cmp, point_eq, pair_eq}
 use Rattle.overlay_geometry.specs.Turns.{clock_order}
 use Rattle.overlay_geometry.specs.Below.{height_cmp, angle_cmp, under_segment_order}
-use Rattle.overlay_geometry.proofs.laws.geometry.Points.{Before, point_ranked, point_eq_same, from_not_same, same_pair_by_eq, not_same_pair, turn_same_outer, turn_same_last}
+use Rattle.overlay_geometry.proofs.laws.geometry.Points.{Before, point_ranked, point_eq_same, from_not_same, same_pair_by_eq, not_same_pair, turn_same_outer, turn_same_last, Before-x}
 use Rattle.overlay_base.specs.Rules.{differ}
 use Rattle.overlay_sweep.specs.ColumnWindings.{spans, is_below_in_column}
 use Rattle.overlay_sweep.proofs.laws.live.Below.{is_below_point}
 use Rattle.overlay_sweep.proofs.laws.columns.Heights.{is_lt-cmp}
-use Rattle.overlay_sweep.proofs.laws.columns.ColumnLines.{spans_parts, spans-true, lt-test_false, is_under}
-use Rattle.overlay_sweep.proofs.laws.columns.ColumnOrder.{IsApart, apart_back, one_is_below, by_sign}
+use Rattle.overlay_sweep.proofs.laws.columns.ColumnLines.{spans_parts, spans-true, is_under}
+use Rattle.overlay_sweep.proofs.laws.columns.ColumnOrder.{IsApart, apart_back, one_is_below}
 use Rattle.overlay_sweep.proofs.laws.columns.AlongSegments.{below_in_right_column, below_in_left_column}
 use Rattle.overlay_sweep.proofs.laws.live.Supports.{is_beneath, below_is_beneath, below_highest, first_same, first_asymmetric, shares_start}
+use Rattle.overlay_geometry.proofs.laws.integers.Tests.{lt-test_false, by_sign}
+use Rattle.overlay_geometry.proofs.laws.lists.Keys.{is_eq-true}
 
 -- ---- the order in a column is the same in each
 
@@ -85,9 +87,6 @@ cross_is_turn s t e = is_lt-cmp (pos 0) (cross_product (step s.a s.b) (step t.a 
 before_differs : (p q : Point) → Before p q → p ≡ q → ⊥
 before_differs p q b e = elim b [ inl l ↦ (let x : p.x ≡ q.x = ap (λ (r : Point). r.x) e in omega (arith, ints)) | inr l ↦ (let y : p.y ≡ q.y = ap (λ (r : Point). r.y) e in let m = l.1 in omega (arith, ints)) ]
 
-before_x : (p q : Point) → Before p q → p.x ≤ℤ q.x
-before_x p q b = elim b [ inl l ↦ omega (arith, ints) | inr l ↦ (let e = l.0 in omega (arith, ints)) ]
-
 not_positive : (z : ℤ) → (z ≡ pos 0 → ⊥) → int_lt z (pos 0) ≡ not (int_lt (pos 0) z)
 not_positive z n = by_sign z (λ (down : z <ℤ pos 0). grind (arith, ints)) (λ (flat : z ≡ pos 0). absurd (n flat)) (λ (up : pos 0 <ℤ z). grind (arith, ints))
 
@@ -95,7 +94,7 @@ module _ (x : ℤ) (s t : Pair) (hs : spans x s ≡ true) (ht : spans x t ≡ tr
   by_later : Before s.a t.a → is_lt (clock_order s.a t.a s.b) ≡ is_below_in_column x s t
   by_later b =
       is_below_point s.a s.b t.a
-      ∙ sym (below_by_start x t s (apart_back s t apart) ht hs (before_x s.a t.a b) ∙ or_nothing (is_under t.a s) (point_eq s.a t.a) (is_lt (angle_cmp s t)) (from_not_same s.a t.a (before_differs s.a t.a b)))
+      ∙ sym (below_by_start x t s (apart_back s t apart) ht hs (Before-x s.a t.a b) ∙ or_nothing (is_under t.a s) (point_eq s.a t.a) (is_lt (angle_cmp s t)) (from_not_same s.a t.a (before_differs s.a t.a b)))
 
   by_angle : s.a ≡ t.a → is_lt (clock_order s.a t.b s.b) ≡ is_below_in_column x s t
   by_angle e =
@@ -109,10 +108,10 @@ module _ (x : ℤ) (s t : Pair) (hs : spans x s ≡ true) (ht : spans x t ≡ tr
   by_earlier b =
       let sp = spans_parts x s hs in
       let tp = spans_parts x t ht in
-      let at_start : spans s.a.x t ≡ true = spans-true s.a.x t (before_x t.a s.a b) (omega (arith, ints)) in
+      let at_start : spans s.a.x t ≡ true = spans-true s.a.x t (Before-x t.a s.a b) (omega (arith, ints)) in
       is_lt-cmp (turn t.a t.b s.a) (pos 0)
       ∙ not_positive (turn t.a t.b s.a) (λ flat. before_differs t.a s.a b (shares_start s t at_start apart flat))
-      ∙ ap not (sym (below_by_start x s t apart hs ht (before_x t.a s.a b) ∙ or_nothing (is_under s.a t) (point_eq t.a s.a) (is_lt (angle_cmp t s)) (from_not_same t.a s.a (before_differs t.a s.a b))))
+      ∙ ap not (sym (below_by_start x s t apart hs ht (Before-x t.a s.a b) ∙ or_nothing (is_under s.a t) (point_eq t.a s.a) (is_lt (angle_cmp t s)) (from_not_same t.a s.a (before_differs t.a s.a b))))
       ∙ sym (differ_not (is_below_in_column x s t) (is_below_in_column x t s) (one_is_below x s t hs ht apart other))
 
   under_is_below : is_lt (under_segment_order s t) ≡ is_below_in_column x s t
@@ -128,13 +127,8 @@ level_itself s Less e = absurd (cc)
 level_itself s Equal e = is_lt-cmp (turn s.a s.b s.b) (pos 0) ∙ lt-test_false (turn s.a s.b s.b) (pos 0) (let flat = turn_same_last s.a s.b in omega (arith, ints))
 level_itself s Greater e = absurd (cc)
 
-from_eq : (o : Ordering) → is_eq o ≡ true → o ≡ Equal
-from_eq Less h = absurd (both_ways false refl h)
-from_eq Equal h = refl
-from_eq Greater h = absurd (both_ways false refl h)
-
 same_compares : (p : Point) → point_cmp p p ≡ Equal
-same_compares p = from_eq (point_cmp p p) (point_eq_same p)
+same_compares p = is_eq-true (point_cmp p p) (point_eq_same p)
 
 -- the code's order is the order by height, and by angle from one start
 pub under_is_first : (x : ℤ) (s t : Pair) → spans x s ≡ true → spans x t ≡ true → IsApart s t → is_lt (under_segment_order s t) ≡ is_lt (ordering_then (height_cmp x s t) (angle_cmp s t))

@@ -4,7 +4,7 @@ use Rattle.std.specs.Prelude.{ℕ, ◌+◌, ◌<◌, ◌≤◌, ◌⊎◌, max, 
 use Rattle.std.proofs.lemmas.List.{get_or_read}
 use Rattle.overlay_sweep.specs.declared.build.tree_shape.TreeNode.{TreeNode}
 use Rattle.overlay_sweep.specs.TreeShapes.{none, Tree, fork, in_order, height, IsBalanced, IsDistinct, node_at, height_at, parent_of, MayHaveSides, Stands, KeepsOthers, AreJoinable, IsJoined}
-use Rattle.overlay_sweep.proofs.laws.tree.TreeNodes.{within, height_is, ready}
+use Rattle.overlay_sweep.proofs.laws.tree.TreeNodes.{height_is, ready}
 use Rattle.overlay_sweep.proofs.laws.tree.TreeTurns.{right_inner, left_kept, turned_right, turned_right_keeps, left_inner, right_kept, turned_left, turned_left_keeps, third_kept, fourth_kept, q_within, at_q, p_kept, m_within, at_m, three_keep, set_within, Forked, forked, tree_forked, high_is_some, tree_height, tree_within}
 
 pub assoc : (xs ys zs : List ℕ) → (xs ++ ys) ++ zs ≡ xs ++ (ys ++ zs)
@@ -51,12 +51,6 @@ module _ (nodes : List TreeNode) (left at right : ℕ) (j : AreJoinable nodes le
   module _ (top : TreeNode) (read : top ≡ get_or nodes left top) where
     is : top ≡ node_at nodes left
     is = get_or_read nodes left top left_within read (record { left = 0; right = 0; height = 0 })
-
-    pub top_right_within : top.right ≢ none → top.right < length nodes
-    top_right_within = rw is (within nodes opened_left.right (node_at nodes left).right opened_left.right_stands)
-
-    pub top_left_within : top.left ≢ none → top.left < length nodes
-    top_left_within = rw is (within nodes opened_left.left (node_at nodes left).left opened_left.left_stands)
 
     left_is : height_at nodes top.left ≡ height opened_left.left
     left_is = rw is (height_is nodes opened_left.left (node_at nodes left).left opened_left.left_stands)
@@ -197,12 +191,6 @@ module _ (nodes : List TreeNode) (left at right : ℕ) (j : AreJoinable nodes le
   module _ (top : TreeNode) (read : top ≡ get_or nodes right top) where
     right_top_is : top ≡ node_at nodes right
     right_top_is = get_or_read nodes right top right_within read (record { left = 0; right = 0; height = 0 })
-
-    pub right_top_right_within : top.right ≢ none → top.right < length nodes
-    right_top_right_within = rw right_top_is (within nodes opened_right.right (node_at nodes right).right opened_right.right_stands)
-
-    pub right_top_left_within : top.left ≢ none → top.left < length nodes
-    right_top_left_within = rw right_top_is (within nodes opened_right.left (node_at nodes right).left opened_right.left_stands)
 
     right_left_is : height_at nodes top.left ≡ height opened_right.left
     right_left_is = rw right_top_is (height_is nodes opened_right.left (node_at nodes right).left opened_right.left_stands)

@@ -1,19 +1,13 @@
 -- Joining two trees of about one height, and which of two is too high.
-use Rattle.std.proofs.Common.{◌≡◌, ◌≢◌, ap, ap₂, refl, sym, subst, ◌∙◌, arith, inl, inr}
+use Rattle.std.proofs.Common.{◌≡◌, ap, ap₂, refl, sym, subst, ◌∙◌, arith, inl, inr}
 use Rattle.std.proofs.lemmas.List.{set-get_or}
-use Rattle.std.specs.Prelude.{ℕ, ◌+◌, ◌^◌, ◌<◌, ◌≤◌, ◌⊎◌, max, List, [], ◌∷◌, ◌++◌, length, slice_set}
+use Rattle.std.specs.Prelude.{ℕ, ◌+◌, ◌^◌, ◌<◌, ◌≤◌, ◌⊎◌, max, List, [], ◌∷◌, ◌++◌, slice_set}
 use Rattle.overlay_sweep.specs.declared.build.tree_shape.TreeNode.{TreeNode}
-use Rattle.overlay_sweep.specs.TreeShapes.{none, fork, in_order, height, IsDistinct, height_at, parent_of, MayHaveSides, AreJoinable, IsJoined, IsParent}
+use Rattle.overlay_sweep.specs.TreeShapes.{fork, in_order, height, IsDistinct, height_at, parent_of, MayHaveSides, AreJoinable, IsJoined, IsParent}
 use Rattle.overlay_sweep.proofs.laws.tree.TreeNodes.{Apart, apart, ready, Stands-fork, KeepsOthers-set, KeepsOthers-wider, Has-right}
-use Rattle.overlay_sweep.proofs.laws.tree.TreeTurns.{tree_height, tree_within}
+use Rattle.overlay_sweep.proofs.laws.tree.TreeTurns.{tree_height}
 
 module _ (nodes : List TreeNode) (left at right : ℕ) (j : AreJoinable nodes left at right) where
-  pub joinable_left_within : left ≢ none → left < length nodes
-  joinable_left_within = tree_within nodes left j.before j.left_height j.left_tree
-
-  pub joinable_right_within : right ≢ none → right < length nodes
-  joinable_right_within = tree_within nodes right j.after j.right_height j.right_tree
-
   module _ (h k : ℕ) (hs : h ≡ height_at nodes left) (ks : k ≡ height_at nodes right) where
     left_known : h ≡ j.left_height
     left_known = hs ∙ tree_height nodes left j.before j.left_height j.left_tree

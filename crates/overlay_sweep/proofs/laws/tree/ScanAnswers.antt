@@ -16,11 +16,12 @@ use Rattle.overlay_sweep.specs.Live.{AreFreeAt, HoldSameFrom}
 use Rattle.overlay_sweep.specs.declared.build.tree_shape.TreeNode.{TreeNode}
 use Rattle.overlay_sweep.specs.TreeShapes.{Has, none, HasLast}
 use Rattle.overlay_sweep.specs.ScanTrees.{segment_at, lasts_past, is_live_at, IsScanTree, IsGrown}
-use Rattle.overlay_sweep.proofs.laws.live.LiveSums.{Contains-from_Has, HoldSameFrom-push}
-use Rattle.overlay_sweep.proofs.laws.columns.ColumnLines.{le-test, lt-test}
+use Rattle.overlay_sweep.proofs.laws.live.LiveSums.{HoldSameFrom-push}
 use Rattle.overlay_sweep.proofs.laws.tree.TreeNodes.{Has-left, Has-right, Has-parts}
 use Rattle.overlay_sweep.proofs.laws.tree.ScanOrders.{sum_of_none, sum_of_last, placed_from_below}
 use Rattle.overlay_sweep.proofs.laws.tree.ScanGrowth.{length_append, length_pushed, StillGrows, growing, segment_at_last, free_pushed, begun_pushed}
+use Rattle.overlay_geometry.proofs.laws.integers.Tests.{le-test, lt-test}
+use Rattle.overlay_geometry.proofs.laws.lists.Elements.{Contains-from_Has}
 
 begun_member : (x : ℤ) (segments : List WholeSegment) → All (λ s. s.pair.a.x ≤ℤ x) segments → (s : WholeSegment) → lists.Has segments s → s.pair.a.x ≤ℤ x
 begun_member x segments b s m = All-contains (λ s. s.pair.a.x ≤ℤ x) segments s b (Contains-from_Has segments s m)

@@ -10,8 +10,7 @@ use Rattle.overlay_sweep.specs.Live.{AreFreeAt}
 use Rattle.overlay_sweep.specs.declared.build.tree_shape.TreeNode.{TreeNode}
 use Rattle.overlay_sweep.specs.TreeShapes.{Has, none, Tree, leaf, fork, node_at, height_at, IsDistinct, Stands, IsTree, IsStopped, IsPlaced}
 use Rattle.overlay_sweep.specs.ScanTrees.{segment_at, lasts_past, is_live_at, IsFromBelow, IsScanTree, IsGrowing, IsGrown}
-use Rattle.overlay_sweep.proofs.laws.columns.ColumnLines.{lt-tested, le-test, lt-test}
-use Rattle.overlay_sweep.proofs.laws.live.LiveSums.{begins_later, Has-append, Contains-from_Has, HoldSameFrom-push}
+use Rattle.overlay_sweep.proofs.laws.live.LiveSums.{begins_later, HoldSameFrom-push}
 use Rattle.overlay_sweep.proofs.laws.columns.Members.{All-from_Has}
 use Rattle.overlay_sweep.proofs.laws.tree.TreeNodes.{Has-left, Has-right, Has-parts}
 use Rattle.overlay_sweep.proofs.laws.tree.TreeTurns.{tree_height}
@@ -19,6 +18,8 @@ use Rattle.overlay_sweep.proofs.laws.tree.TreeHeights.{tree_holds, height_low}
 use Rattle.overlay_sweep.proofs.laws.tree.TreeRemovals.{IsTree-kept, Stands-member, distinct_without}
 use Rattle.overlay_sweep.proofs.laws.tree.TreeWays.{distinct_between}
 use Rattle.overlay_sweep.proofs.laws.tree.ScanOrders.{from_below_without, live_within}
+use Rattle.overlay_geometry.proofs.laws.integers.Tests.{le-test, lt-test, lt-tested}
+use Rattle.overlay_geometry.proofs.laws.lists.Elements.{Contains-from_Has, Has-append_out}
 
 pub length_append : (xs ys : List ℕ) → length (xs ++ ys) ≡ length xs + length ys
 length_append [] ys = omega arith
@@ -279,7 +280,7 @@ from_below_pushed x segments s (i ∷ is) k f =
     )
 
 pub begun_pushed : (x : ℤ) (segments : List WholeSegment) (s : WholeSegment) → s.pair.a.x ≤ℤ x → All (λ s. s.pair.a.x ≤ℤ x) segments → All (λ s. s.pair.a.x ≤ℤ x) (segments ++ s ∷ [])
-begun_pushed x segments s h b = All-from_Has (λ t. t.pair.a.x ≤ℤ x) (segments ++ s ∷ []) (λ t m. elim (Has-append segments (s ∷ []) t m) [
+begun_pushed x segments s h b = All-from_Has (λ t. t.pair.a.x ≤ℤ x) (segments ++ s ∷ []) (λ t m. elim (Has-append_out segments (s ∷ []) t m) [
   | inl n ↦ All-contains (λ t. t.pair.a.x ≤ℤ x) segments t b (Contains-from_Has segments t n)
   | inr n ↦ elim n [ inl e ↦ subst (λ (w : WholeSegment). w.pair.a.x ≤ℤ x) e h | inr none ↦ absurd none ]
 ])

@@ -6,7 +6,7 @@ use Rattle.std.specs.Ordering.{is_lt, ordering_then}
 use Rattle.std.specs.declared.cmp.Ordering.{Ordering}
 use Rattle.std.proofs.Common.{Less, Equal, Greater}
 use Rattle.std.proofs.lemmas.Int.{ints, by_lt_z}
-use Rattle.std.proofs.lemmas.Bool.{and_parts, and_from, both_ways}
+use Rattle.std.proofs.lemmas.Bool.{and_parts, and_from, both_ways, not-true, not-false}
 use Rattle.overlay_geometry.specs.Points.{Point, Pair, turn}
 use Rattle.overlay_base.specs.Segments.{WholeSegment}
 use Rattle.overlay_base.specs.Windings.{Winding}
@@ -18,15 +18,16 @@ use Rattle.overlay_sweep.specs.Live.{sum_below}
 use Rattle.overlay_sweep.specs.Live.{AreFreeAt}
 use Rattle.overlay_sweep.specs.TreeShapes.{Has, HasLast, HasFirst}
 use Rattle.overlay_sweep.specs.ScanTrees.{segment_at, lasts_past, is_live_at, IsFromBelow}
-use Rattle.overlay_sweep.proofs.laws.columns.ColumnLines.{le-tested, lt-tested, lt-test, spans_parts}
+use Rattle.overlay_sweep.proofs.laws.columns.ColumnLines.{spans_parts}
 use Rattle.overlay_sweep.proofs.laws.columns.ColumnOrder.{IsApart, is_apart}
 use Rattle.overlay_sweep.proofs.laws.columns.Heights.{gap, gap_at_other_start, is_lt-height_cmp}
 use Rattle.overlay_sweep.proofs.laws.live.Supports.{gap_mean, first_asymmetric, first-trans}
 use Rattle.overlay_sweep.proofs.laws.columns.Tops.{spans_live, by_option}
 use Rattle.overlay_sweep.proofs.laws.live.UnderOrders.{under_is_first}
 use Rattle.overlay_sweep.proofs.laws.live.DirectlyBelow.{directly_below_is, directly_below_none, same_if_level, lies_below}
-use Rattle.overlay_sweep.proofs.laws.live.LiveSums.{Contains-from_Has}
 use Rattle.overlay_sweep.proofs.laws.tree.TreeNodes.{Has-left, Has-right, Has-parts}
+use Rattle.overlay_geometry.proofs.laws.integers.Tests.{le-test, lt-test, le-tested, lt-tested}
+use Rattle.overlay_geometry.proofs.laws.lists.Elements.{Contains-from_Has}
 
 abbrev pub is_first_at : ℤ → Pair → Pair → Bool
 is_first_at x s t = is_lt (ordering_then (height_cmp x s t) (angle_cmp s t))
@@ -46,9 +47,6 @@ not_first_gap : (o r : Ordering) → is_lt (ordering_then o r) ≡ false → is_
 not_first_gap Less r h = h
 not_first_gap Equal r h = refl
 not_first_gap Greater r h = refl
-
-level_at : Point → Pair
-level_at p = record { a = p; b = record { x = p.x +ℤ pos 1; y = p.y } }
 
 pub under_passes : (p : Point) (t f : Pair) → pos 0 <ℤ width t → pos 0 <ℤ width f → is_first_at p.x t f ≡ false → pos 0 <ℤ turn t.a t.b p → pos 0 <ℤ turn f.a f.b p
 under_passes p t f wt wf h up =
@@ -116,13 +114,7 @@ begun_at x (s ∷ segments) zero b h = b s (inl refl)
 begun_at x (s ∷ segments) (suc i) b h = begun_at x segments i (λ t m. b t (inr m)) (omega (arith, h))
 
 pub live_from : (x : ℤ) (segments : List WholeSegment) (i : ℕ) → ((s : WholeSegment) → lists.Has segments s → s.pair.a.x ≤ℤ x) → i < length segments → lasts_past x segments i ≡ true → is_live_at x segments i ≡ true
-live_from x segments i b h l = and_from _ _ (le_true (segment_at segments i).pair.a.x x (begun_at x segments i b h)) l
-  where
-    le_true : (a b : ℤ) → a ≤ℤ b → int_le a b ≡ true
-    le_true a b k = grind (arith, ints, k)
-
-not_both_ways : (b : Bool) → b ≡ true → b ≡ false → ⊥
-not_both_ways b t f = both_ways b f t
+live_from x segments i b h l = and_from _ _ (le-test (segment_at segments i).pair.a.x x (begun_at x segments i b h)) l
 
 module _ (x : ℤ) (segments : List WholeSegment) (free : AreFreeAt x segments) where
   holds_live : (i : ℕ) → is_live_at x segments i ≡ true → Contains segments (segment_at segments i)
@@ -143,14 +135,6 @@ module _ (x : ℤ) (segments : List WholeSegment) (free : AreFreeAt x segments) 
     module _ (n : ℕ) (live_new : is_live_at x segments n ≡ true) (given last : ℕ)
         (last_is : ((earlier ≡ []) × (last ≡ given)) ⊎ HasLast (lasts_past x segments) (λ i. not (is_lt (under_segment_order (segment_at segments n).pair (segment_at segments i).pair))) earlier last)
         (first_is : (later ≡ []) ⊎ HasFirst (lasts_past x segments) (λ i. not (is_lt (under_segment_order (segment_at segments n).pair (segment_at segments i).pair))) later) where
-      not_true : (b : Bool) → not b ≡ true → b ≡ false
-      not_true true h = absurd (both_ways false refl h)
-      not_true false h = refl
-
-      not_false : (b : Bool) → not b ≡ false → b ≡ true
-      not_false true h = refl
-      not_false false h = absurd (both_ways true h refl)
-
       -- the new one does not run below an earlier one
       over_earlier : (i : ℕ) → Has earlier i → is_live_at x segments i ≡ true → is_live_at x segments n ≡ true → is_lt (under_segment_order (segment_at segments n).pair (segment_at segments i).pair) ≡ false
       over_earlier i m l k = elim last_is [
@@ -158,7 +142,7 @@ module _ (x : ℤ) (segments : List WholeSegment) (free : AreFreeAt x segments) 
         | inr h ↦
             (let b_in : Has earlier last = subst (λ z. Has z last) (sym h.earlier_is) (Has-right h.front (last ∷ []) last (inl refl)) in
             let b_live = live_from x segments last begun (known last (Has-left earlier later last b_in)) h.lasts_on in
-            let over : is_lt (under_segment_order (segment_at segments n).pair (segment_at segments last).pair) ≡ false = not_true _ h.is_before in
+            let over : is_lt (under_segment_order (segment_at segments n).pair (segment_at segments last).pair) ≡ false = not-true _ h.is_before in
             elim (Has-parts h.front (last ∷ []) i (subst (λ z. Has z i) h.earlier_is m)) [
               | inr e ↦ elim e [ inl same ↦ subst (λ j. is_lt (under_segment_order (segment_at segments n).pair (segment_at segments j).pair) ≡ false) same over | inr none ↦ absurd none ]
               | inl f ↦
@@ -180,7 +164,7 @@ module _ (x : ℤ) (segments : List WholeSegment) (free : AreFreeAt x segments) 
         | inr h ↦
             (let f_in : Has later h.first = subst (λ z. Has z h.first) (sym h.later_is) (inl refl) in
             let f_live = live_from x segments h.first begun (known h.first (Has-right earlier later h.first f_in)) h.lasts_on in
-            let under : is_lt (under_segment_order (segment_at segments n).pair (segment_at segments h.first).pair) ≡ true = not_false _ h.is_after in
+            let under : is_lt (under_segment_order (segment_at segments n).pair (segment_at segments h.first).pair) ≡ true = not-false _ h.is_after in
             let back : is_first_at x (segment_at segments h.first).pair (segment_at segments n).pair ≡ false = first_asymmetric x (segment_at segments n).pair (segment_at segments h.first).pair (sym (under_first n h.first k f_live) ∙ under) in
             elim (subst (λ z. Has z j) h.later_is m) [
               | inl same ↦ subst (λ i. is_lt (under_segment_order (segment_at segments i).pair (segment_at segments n).pair) ≡ false) same (under_first h.first n f_live k ∙ back)

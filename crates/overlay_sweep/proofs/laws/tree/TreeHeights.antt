@@ -10,12 +10,6 @@ length_both : (xs : List ℕ) (i : ℕ) (ys : List ℕ) → length (xs ++ i ∷ 
 length_both [] i ys = omega arith
 length_both (x ∷ xs) i ys = let e = length_both xs i ys in omega (arith, e)
 
-half : (a b : ℕ) → a ≤ b → a / 2 ≤ b / 2
-half a b h = omega (arith, h)
-
-half_two : (a : ℕ) → (a + 2) / 2 ≡ suc (a / 2)
-half_two a = omega arith
-
 twice : (n : ℕ) → 2 ^ suc n ≡ 2 ^ n + 2 ^ n
 twice n = omega (arith)
 

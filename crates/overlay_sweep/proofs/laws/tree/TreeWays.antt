@@ -412,14 +412,6 @@ pub either : {P : Type 0} (b : Bool) → (b ≡ true → P) → (b ≡ false →
 either true f g = f refl
 either false f g = g refl
 
-pub from_not_false : (b : Bool) → not b ≡ false → b ≡ true
-from_not_false true h = refl
-from_not_false false h = absurd (both_ways true h refl)
-
-pub from_not_true : (b : Bool) → not b ≡ true → b ≡ false
-from_not_true true h = absurd (both_ways false refl h)
-from_not_true false h = refl
-
 -- the orders asked on a way, one more than below
 pub asked_above : (old mid new below high : ℕ) → mid ≡ min (old + 1) (2 ^ 128 - 1) → min (mid + below / 2) (2 ^ 128 - 1) ≤ new → high / 2 ≤ below / 2 + 1 → min (old + high / 2) (2 ^ 128 - 1) ≤ new
 asked_above old mid new below high e h k = omega (arith, e, h, k)

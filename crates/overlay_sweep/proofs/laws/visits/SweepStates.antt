@@ -27,9 +27,10 @@ use Rattle.overlay_sweep.proofs.laws.live.PointChains.{IsChain, starting_are_cha
 use Rattle.overlay_sweep.proofs.laws.live.DirectlyBelow.{topped, free_at, sum_below_is, directly_below_is}
 use Rattle.overlay_sweep.proofs.laws.live.Boundaries.{IsBlock, IsBoundary, below_begins_before, boundary_next, block_from_point, by_drop, drop_first, Has-take}
 use Rattle.overlay_sweep.proofs.laws.columns.Tops.{by_option}
-use Rattle.overlay_sweep.proofs.laws.live.LiveSums.{Has-append, HoldSameFrom-trans, HoldSameFrom-later, HoldSameFrom-cons, HoldSameFrom-same, HoldSameFrom-push}
+use Rattle.overlay_sweep.proofs.laws.live.LiveSums.{HoldSameFrom-trans, HoldSameFrom-later, HoldSameFrom-cons, HoldSameFrom-same, HoldSameFrom-push}
 use Rattle.overlay_sweep.proofs.laws.visits.Handling.{IsHandledTo, IsHandledTo-more, handled_after, handled_break, handled_end, in_range_at_break, in_range_at_end, leaves_range_at}
 use Rattle.overlay_sweep.proofs.laws.visits.Visits.{visits_cut, listed, visits_before, visits_of_block, visits_after, wholes, visit_way, IsListed, is_listed, before_next, members_of_block, block_starts_at_point, listed_in_block, early_visited, known_before, ways_of_visits}
+use Rattle.overlay_geometry.proofs.laws.lists.Elements.{Has-append_out}
 
 -- ---- windings without masks
 
@@ -184,7 +185,7 @@ module _ {D H O : Type 0} (handle : H → Visit D → H × Option O) (finalize :
           known_up_to : (s : WholeSegment) → Has (wholes (visits_up_to i next k)) s → Has (without_data list) s
           known_up_to s n =
               let found = Has-map_out (λ (v : Visit D). whole_of v.segment) (visits_up_to i next k) s n in
-              subst (λ z. Has (without_data list) z) found.2 (elim (Has-append (visits_before rule list arranged i) (take k (visits_of_block rule list arranged i next)) found.0 found.1) [
+              subst (λ z. Has (without_data list) z) found.2 (elim (Has-append_out (visits_before rule list arranged i) (take k (visits_of_block rule list arranged i next)) found.0 found.1) [
                 | inl m ↦ known_before rule list arranged i (whole_of found.0.segment) (Has-map (λ v. whole_of v.segment) (visits_before rule list arranged i) found.0 m)
                 | inr m ↦ (AllByRecursion-at (λ v. Has (without_data list) (whole_of v.segment) × (v.segment.pair.a ≡ p)) (visits_of_block rule list arranged i next) found.0 (members_of_block rule list arranged i next p order block) (Has-take k (visits_of_block rule list arranged i next) found.0 m)).0
               ])

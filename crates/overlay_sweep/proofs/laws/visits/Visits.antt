@@ -5,7 +5,7 @@ use Rattle.std.specs.List.{AllByRecursion, enumerate_from, take-map, drop-map}
 use Rattle.std.specs.Ordering.{is_lt, is_eq, int_cmp, ordering_then, MatchOrdering}
 use Rattle.std.proofs.lemmas.Int.{ints}
 use Rattle.std.proofs.lemmas.Bool.{cases_Bool, both_ways}
-use Rattle.std.proofs.lemmas.List.{take-append-drop, take_all}
+use Rattle.std.proofs.lemmas.List.{take-append-drop}
 use Rattle.std.proofs.Common.{append_assoc}
 use Rattle.overlay_geometry.specs.Points.{Point, Pair, turn, step, cross_product, point_cmp, point_eq, point_lt, pair_cmp, pair_lt, is_ordered}
 use Rattle.overlay_geometry.specs.Sorting.{is_strictly_sorted, stably_sorted}
@@ -25,6 +25,7 @@ use Rattle.overlay_base.proofs.laws.lists.StableSorts.{AllByRecursion-stably_sor
 use Rattle.overlay_sweep.proofs.laws.visits.BlockSorts.{Has-stably_sorted, stably_sorted-append, stably_sorted-map, rising_sorted}
 use Rattle.overlay_sweep.proofs.laws.live.DirectlyBelow.{apart_members}
 use Rattle.overlay_sweep.proofs.laws.live.Boundaries.{Has-take, Has-drop, cut_twice, IsBlock, block_complete, early_complete, boundary_next}
+use Rattle.overlay_geometry.proofs.laws.integers.Products.{neg_zero}
 
 -- ---- the order of visits
 
@@ -126,9 +127,6 @@ turn_is_cross : (s t : Pair) → t.a ≡ s.a → cross_product (step s.a s.b) (s
 unfolding turn
 turn_is_cross s t e h = subst (λ q. cross_product (step s.a s.b) (step q t.b) ≡ pos 0) e h
 
-neg_zero : (m n : ℤ) → m ≡ neg_ℤ n → n ≡ pos 0 → m ≡ pos 0
-neg_zero m n e f = omega (arith, ints)
-
 same_from_turn : (s t : Pair) → is_ordered s ≡ true → is_ordered t ≡ true → t.a ≡ s.a → IsApart s t → turn s.a s.b t.b ≡ pos 0 → s ≡ t
 same_from_turn s t os ot e apart flat = by_rank (point_cmp s.b t.b) (point_ranked s.b t.b (point_cmp s.b t.b) refl)
   where
@@ -205,15 +203,8 @@ module _ {D : Type 0} (rule : FillRule) (list : List (DataSegment D)) (arranged 
   all_before : (P : WholeSegment → Type 0) (i : ℕ) → AllByRecursion P (take i (without_data list)) → (v : Visit D) → Has (take i listed) v → P (whole_of v.segment)
   all_before P i a v m = AllByRecursion-at P (take i (without_data list)) (whole_of v.segment) a (Has-wholes (take i listed) _ (wholes_before rule (without_data list) list i) v m)
 
-  all_after : (P : WholeSegment → Type 0) (i : ℕ) → AllByRecursion P (drop i (without_data list)) → (v : Visit D) → Has (drop i listed) v → P (whole_of v.segment)
-  all_after P i a v m = AllByRecursion-at P (drop i (without_data list)) (whole_of v.segment) a (Has-wholes (drop i listed) _ (wholes_after rule (without_data list) list i) v m)
-
   all_of_block : (P : WholeSegment → Type 0) (i next : ℕ) → AllByRecursion P (take (next - i) (drop i (without_data list))) → (v : Visit D) → Has (take (next - i) (drop i listed)) v → P (whole_of v.segment)
   all_of_block P i next a v m = AllByRecursion-at P (take (next - i) (drop i (without_data list))) (whole_of v.segment) a (Has-wholes (take (next - i) (drop i listed)) _ (wholes_of_block rule (without_data list) list i next) v m)
-
-  pub visits_all : visits rule list ≡ visits_before (length listed)
-  unfolding visits
-  visits_all = ap (stably_sorted visit_cmp) (sym (take_all (length listed) listed (omega arith)))
 
   module _ (i next : ℕ) (p : Point) (order : i < next) (block : IsBlock (without_data list) i next p) where
     pub before_next : visits_before next ≡ visits_before i ++ visits_of_block i next

@@ -1,6 +1,6 @@
 -- How many pairs the walk over a list takes up: each two whose ranges in x meet.
 use Rattle.std.proofs.Common.{◌≡◌, refl, sym, ap, ap₂, subst, ◌∙◌, ℕ, ◌+◌, ◌-◌, ◌<◌, ◌≤◌, zero, suc, arith, Bool, true, false, cond, IsTrue, List, [], ◌∷◌, drop, length, is_gt}
-use Rattle.std.specs.Prelude.{◌≤ℤ◌, ◌<ℤ◌, ℤ, int_le, int_lt, min, ◌^◌, count_by}
+use Rattle.std.specs.Prelude.{◌≤ℤ◌, ◌<ℤ◌, min, ◌^◌, count_by}
 use Rattle.std.specs.Int.{int_min, int_max}
 use Rattle.std.specs.List.{AllByRecursion}
 use Rattle.std.proofs.lemmas.Int.{ints, clamps}
@@ -14,15 +14,10 @@ use Rattle.overlay_intersections.specs.Marks.{Placing}
 use Rattle.overlay_intersections.specs.MarkOf.{Mark}
 use Rattle.overlay_intersections.proofs.laws.marks.FoundMarks.{IsLooked}
 use Rattle.overlay_intersections.proofs.laws.marks.FoundEach.{IsWalked}
-use Rattle.overlay_geometry.proofs.laws.geometry.Points.{ordered_x}
+use Rattle.overlay_geometry.proofs.laws.integers.Tests.{le-test, le-test_false}
+use Rattle.overlay_geometry.proofs.laws.geometry.Points.{ordered_x, starts_in_order}
 
 -- ---- ranges of two
-
-le_from : (u v : ℤ) → u ≤ℤ v → int_le u v ≡ true
-le_from u v h = grind (arith, ints)
-
-not_le_from : (u v : ℤ) → v <ℤ u → int_le u v ≡ false
-not_le_from u v h = grind (arith, ints)
 
 -- a pair that starts between the start and the end of another
 pub x_ranges_meet-from : (s t : Pair) → IsTrue (is_ordered s) → IsTrue (is_ordered t) → s.a.x ≤ℤ t.a.x → t.a.x ≤ℤ s.b.x → x_ranges_meet s t ≡ true
@@ -30,7 +25,7 @@ unfolding x_ranges_meet ranges_meet
 x_ranges_meet-from s t hs ht h k =
     let os = ordered_x s hs in
     let ot = ordered_x t ht in
-    le_from (int_max (int_min s.a.x s.b.x) (int_min t.a.x t.b.x)) (int_min (int_max s.a.x s.b.x) (int_max t.a.x t.b.x)) (omega (arith, ints, clamps))
+    le-test (int_max (int_min s.a.x s.b.x) (int_min t.a.x t.b.x)) (int_min (int_max s.a.x s.b.x) (int_max t.a.x t.b.x)) (omega (arith, ints, clamps))
 
 -- and one that starts right of it
 pub x_ranges_meet-past : (s t : Pair) → IsTrue (is_ordered s) → IsTrue (is_ordered t) → s.b.x <ℤ t.a.x → x_ranges_meet s t ≡ false
@@ -38,13 +33,7 @@ unfolding x_ranges_meet ranges_meet
 x_ranges_meet-past s t hs ht h =
     let os = ordered_x s hs in
     let ot = ordered_x t ht in
-    not_le_from (int_max (int_min s.a.x s.b.x) (int_min t.a.x t.b.x)) (int_min (int_max s.a.x s.b.x) (int_max t.a.x t.b.x)) (omega (arith, ints, clamps))
-
-pub not_past_le : (u v : ℤ) → int_lt u v ≡ false → v ≤ℤ u
-not_past_le u v h = grind (arith, ints)
-
-starts_up : (t u : Pair) → is_gt (pair_cmp t u) ≡ false → t.a.x ≤ℤ u.a.x
-starts_up t u h = grind (arith, ints)
+    le-test_false (int_max (int_min s.a.x s.b.x) (int_min t.a.x t.b.x)) (int_min (int_max s.a.x s.b.x) (int_max t.a.x t.b.x)) (omega (arith, ints, clamps))
 
 -- a later pair does not start further left
 pub later_starts_right : (ps : List Pair) (i j : ℕ) (s t : Pair) → IsInOrder pair_cmp ps → i < j → drop i ps ≡ s ∷ drop (i + 1) ps → drop j ps ≡ t ∷ drop (j + 1) ps → s.a.x ≤ℤ t.a.x
@@ -52,7 +41,7 @@ later_starts_right ps i j s t o lt d e =
     let here = subst (λ (ks : List Pair). IsInOrder pair_cmp ks) d (IsInOrder-drop pair_cmp i ps o) in
     let later = AllByRecursion-drop_later (λ u. is_gt (pair_cmp s u) ≡ false) (i + 1) j ps (omega arith) here.0 in
     let first = subst (λ (ks : List Pair). AllByRecursion (λ u. is_gt (pair_cmp s u) ≡ false) ks) e later in
-    starts_up s t first.0
+    starts_in_order s t first.0
 
 pub pair_at-first : (ps : List Pair) (j : ℕ) (s : Pair) (ss : List Pair) → drop j ps ≡ s ∷ ss → pair_at ps j ≡ s
 pair_at-first [] zero s ss d = cc
@@ -68,7 +57,7 @@ none_counted s (u ∷ us) h = sum_by-cons (λ v. cond (x_ranges_meet s v) 1 0) u
 
 all_past : (s t : Pair) (us : List Pair) → IsTrue (is_ordered s) → s.b.x <ℤ t.a.x → AllByRecursion (λ u. is_gt (pair_cmp t u) ≡ false) us → AllByRecursion (λ u. IsTrue (is_ordered u)) us → AllByRecursion (λ u. x_ranges_meet s u ≡ false) us
 all_past s t [] hs less h k = tt
-all_past s t (u ∷ us) hs less h k = (let up = starts_up t u h.0 in x_ranges_meet-past s u hs k.0 (omega (arith, ints)), all_past s t us hs less h.1 k.1)
+all_past s t (u ∷ us) hs less h k = (let up = starts_in_order t u h.0 in x_ranges_meet-past s u hs k.0 (omega (arith, ints)), all_past s t us hs less h.1 k.1)
 
 -- from a pair that starts right of the end of s on, none is counted
 pub none_past : (ps : List Pair) (j : ℕ) (s t : Pair) → IsInOrder pair_cmp ps → AllByRecursion (λ u. IsTrue (is_ordered u)) ps → IsTrue (is_ordered s) → drop j ps ≡ t ∷ drop (j + 1) ps → s.b.x <ℤ t.a.x →

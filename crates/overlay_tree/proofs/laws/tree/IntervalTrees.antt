@@ -10,6 +10,7 @@ use Rattle.std.proofs.lemmas.List.Elements.{filter-append}
 use Rattle.std.proofs.lemmas.List.Sums.{sum_by-append, sum_by-cons}
 use Rattle.overlay_geometry.proofs.laws.lists.Lists.{list_any-from_none, none_from_list_any, AllByRecursion-weaker, AllByRecursion-both, AllByRecursion_cross, Pairwise_left, Pairwise_right}
 use Rattle.overlay_tree.specs.steps.IntervalTree.{Entry, WholeQuery, TreeNode, entries, is_at_heights, is_taken_up, is_found, is_dropped, found, left_by, inserted, StandsBefore, AreRising, live_height, greatest_height, is_reached, IsAt, IsUpTo, further, IsSummed, none, rooted}
+use Rattle.std.proofs.Math.Bool.{or-true}
 
 -- ---- the parts of a tree
 
@@ -86,10 +87,6 @@ further-assoc (Some a) (Some b) (Some c) = ap Some (int_max-assoc a b c)
 pub greatest_height-append : (xs ys : List Entry) → greatest_height (xs ++ ys) ≡ further (greatest_height xs) (greatest_height ys)
 greatest_height-append [] ys = refl
 greatest_height-append (e ∷ xs) ys = ap (further (live_height e)) (greatest_height-append xs ys) ∙ sym (further-assoc (live_height e) (greatest_height xs) (greatest_height ys))
-
-pub none_live : (es : List Entry) → AllByRecursion (λ e. e.is_live ≡ false) es → greatest_height es ≡ None
-none_live [] h = refl
-none_live (e ∷ es) h = ap₂ (λ (b : Bool) (g : Option ℤ). further (cond b (Some e.high) None) g) h.0 (none_live es h.1)
 
 -- none is live, or a height that a live entry does not pass
 abbrev pub Reaches : Option ℤ → Entry → Type 0
@@ -343,15 +340,11 @@ includes : (index : ℕ) (high : ℤ) (es : List Entry) → AllByRecursion (IsUp
 includes index high [] h k = absurd (both_ways false refl k)
 includes index high (e ∷ es) h k = elim (or_cases (is_of index e) (list_any (is_of index) es) k) [
   | inl here ↦ let same = is_up_to index high e h.0 here in
-      let live : live_height (inserted index e) ≡ Some high = ap₂ (λ (b : Bool) (y : ℤ). cond (e.is_live || b) (Some y) None) here same ∙ ap (λ (b : Bool). cond b (Some high) None) (or_true e.is_live) in
+      let live : live_height (inserted index e) ≡ Some high = ap₂ (λ (b : Bool) (y : ℤ). cond (e.is_live || b) (Some y) None) here same ∙ ap (λ (b : Bool). cond b (Some high) None) (or-true e.is_live) in
       ap (λ (g : Option ℤ). further (further g (greatest_height (map (inserted index) es))) (Some high)) live ∙ twice high (greatest_height (map (inserted index) es)) ∙ ap (λ (g : Option ℤ). further g (greatest_height (map (inserted index) es))) (sym live)
   | inr there ↦ further-assoc (live_height (inserted index e)) (greatest_height (map (inserted index) es)) (Some high) ∙ ap (further (live_height (inserted index e))) (includes index high es h.1 there)
 ]
   where
-    or_true : (b : Bool) → (b || true) ≡ true
-    or_true true = refl
-    or_true false = refl
-
     itself : (a b : ℤ) → int_max (int_max a b) a ≡ int_max a b
     itself a b = omega (arith, ints, clamps)
 

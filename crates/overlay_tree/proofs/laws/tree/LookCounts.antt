@@ -1,6 +1,6 @@
 -- How many entries the look-ups of a sweep take up: each two whose boxes meet once, and each entry once more, where it is dropped.
 use Rattle.std.proofs.Common.{◌≡◌, refl, sym, ap, ap₂, subst, ◌∙◌, ℕ, zero, suc, ◌+◌, ◌-◌, ◌<◌, ◌≤◌, ◌==◌, arith, Bool, true, false, not, ◌&&◌, ◌||◌, cond, IsTrue, List, [], ◌∷◌, ◌++◌, map, length, get_or, take, IsPermutation}
-use Rattle.std.specs.Prelude.{min, ◌^◌, ℤ, ◌≤ℤ◌, ◌<ℤ◌, int_lt, int_le, nat_lt, count_by}
+use Rattle.std.specs.Prelude.{min, ◌^◌, ℤ, ◌≤ℤ◌, int_lt, nat_lt, count_by}
 use Rattle.std.specs.Int.{int_min, int_max}
 use Rattle.std.specs.List.{AllByRecursion, range_with_len}
 use Rattle.std.proofs.lemmas.Int.{ints, clamps}
@@ -11,7 +11,7 @@ use Rattle.std.proofs.lemmas.List.Sorted.{sum_by-IsPermutation}
 use Rattle.std.proofs.lemmas.List.Sums.{sum_by-cons}
 use Rattle.overlay_geometry.specs.Points.{Pair, pair_cmp, is_ordered}
 use Rattle.overlay_geometry.proofs.laws.lists.Keys.{IsInOrder}
-use Rattle.overlay_geometry.proofs.laws.geometry.Points.{before, ordered_x}
+use Rattle.overlay_geometry.proofs.laws.geometry.Points.{ordered_x}
 use Rattle.overlay_geometry.proofs.laws.lists.Lists.{AllByRecursion-weaker, AllByRecursion-both, sum_by-map}
 use Rattle.overlay_tree.specs.steps.IntervalTree.{Entry, WholeQuery, is_at_heights, is_taken_up, is_found, is_dropped, left_by, inserted}
 use Rattle.overlay_tree.specs.steps.Swept.{nowhere, pair_at, entry_at, unswept}
@@ -19,6 +19,8 @@ use Rattle.overlay_intersections.specs.Looked.{count_twos, ranges_meet, boxes_me
 use Rattle.overlay_tree.proofs.laws.tree.IntervalTrees.{count_by-append}
 use Rattle.overlay_tree.specs.steps.TreeSweep.{unlive, Gone, IsSwept, query_at, live_count, IsCounted}
 use Rattle.overlay_tree.proofs.laws.tree.Sweeps.{IsOf, entries_are, later_right, AllByRecursion-get}
+use Rattle.overlay_geometry.proofs.laws.integers.Tests.{le-test, lt-test_false, le-tested, lt-tested_false, nat_lt-test, nat_lt-test_false, lt_not_le}
+use Rattle.std.proofs.Math.Nat.{add-zero}
 
 -- ---- counts
 
@@ -84,27 +86,15 @@ looks_balance q (e ∷ es) =
 
 -- ---- those found have boxes that meet
 
-le_from : (u v : ℤ) → u ≤ℤ v → int_le u v ≡ true
-le_from u v h = grind (arith, ints)
-
-not_lt : (u v : ℤ) → int_lt u v ≡ false → v ≤ℤ u
-not_lt u v h = grind (arith, ints)
-
 meet : (s t : Pair) → s.a.x ≤ℤ s.b.x → t.a.x ≤ℤ t.b.x → s.a.x ≤ℤ t.a.x → t.a.x ≤ℤ s.b.x → int_min t.a.y t.b.y ≤ℤ int_max s.a.y s.b.y → int_min s.a.y s.b.y ≤ℤ int_max t.a.y t.b.y → boxes_meet s t ≡ true
 unfolding boxes_meet ranges_meet
 meet s t hs ht a b c d =
-    and_from _ _ (le_from (int_max (int_min s.a.x s.b.x) (int_min t.a.x t.b.x)) (int_min (int_max s.a.x s.b.x) (int_max t.a.x t.b.x)) (omega (arith, ints, clamps)))
-    (le_from (int_max (int_min s.a.y s.b.y) (int_min t.a.y t.b.y)) (int_min (int_max s.a.y s.b.y) (int_max t.a.y t.b.y)) (omega (arith, ints, clamps)))
+    and_from _ _ (le-test (int_max (int_min s.a.x s.b.x) (int_min t.a.x t.b.x)) (int_min (int_max s.a.x s.b.x) (int_max t.a.x t.b.x)) (omega (arith, ints, clamps)))
+    (le-test (int_max (int_min s.a.y s.b.y) (int_min t.a.y t.b.y)) (int_min (int_max s.a.y s.b.y) (int_max t.a.y t.b.y)) (omega (arith, ints, clamps)))
 
 -- whether an entry is that of a pair before the one at an index whose box meets that one's
 abbrev is_near : List Pair → ℕ → Entry → Bool
 is_near ps j e = nat_lt e.index j && boxes_meet (pair_at ps e.index) (pair_at ps j)
-
-lt_true : (i j : ℕ) → i < j → nat_lt i j ≡ true
-lt_true i j h = grind arith
-
-lt_false : (i j : ℕ) → j ≤ i → nat_lt i j ≡ false
-lt_false i j h = grind arith
 
 found_is_near : (ps : List Pair) (j : ℕ) (e : Entry) → IsInOrder pair_cmp ps → AllByRecursion (λ s. IsTrue (is_ordered s)) ps → j < length ps → IsOf ps e → (e.is_live ≡ true → e.index < j) → is_found (query_at ps j) e ≡ true → is_near ps j (unlive e) ≡ true
 found_is_near ps j e order ordered w of live h =
@@ -121,10 +111,10 @@ found_is_near ps j e order ordered w of live h =
     let os : s.a.x ≤ℤ s.b.x = ordered_x s (AllByRecursion-get (λ s. IsTrue (is_ordered s)) ps e.index nowhere ordered of.within) in
     let ot : t.a.x ≤ℤ t.b.x = ordered_x t (AllByRecursion-get (λ s. IsTrue (is_ordered s)) ps j nowhere ordered w) in
     let right : s.a.x ≤ℤ t.a.x = later_right ps e.index j order lt w in
-    let past : t.a.x ≤ℤ s.b.x = subst (λ (z : ℤ). t.a.x ≤ℤ z) end_x (not_lt e.end_x q.x (not-true _ outer.1)) in
-    let under : int_min t.a.y t.b.y ≤ℤ int_max s.a.y s.b.y = subst (λ (z : ℤ). int_min t.a.y t.b.y ≤ℤ z) high (not_lt e.high q.low (not-true _ tests.0)) in
-    let over : int_min s.a.y s.b.y ≤ℤ int_max t.a.y t.b.y = subst (λ (z : ℤ). z ≤ℤ int_max t.a.y t.b.y) low (not_lt q.high e.low (not-true _ tests.1)) in
-    and_from (nat_lt e.index j) (boxes_meet s t) (lt_true e.index j lt) (meet s t os ot right past under over)
+    let past : t.a.x ≤ℤ s.b.x = subst (λ (z : ℤ). t.a.x ≤ℤ z) end_x (lt-tested_false e.end_x q.x (not-true _ outer.1)) in
+    let under : int_min t.a.y t.b.y ≤ℤ int_max s.a.y s.b.y = subst (λ (z : ℤ). int_min t.a.y t.b.y ≤ℤ z) high (lt-tested_false e.high q.low (not-true _ tests.0)) in
+    let over : int_min s.a.y s.b.y ≤ℤ int_max t.a.y t.b.y = subst (λ (z : ℤ). z ≤ℤ int_max t.a.y t.b.y) low (lt-tested_false q.high e.low (not-true _ tests.1)) in
+    and_from (nat_lt e.index j) (boxes_meet s t) (nat_lt-test e.index j lt) (meet s t os ot right past under over)
 
 -- what boxes that meet say of two pairs
 pub record DoMeet (s t : Pair) : Type 0 where
@@ -132,22 +122,13 @@ pub record DoMeet (s t : Pair) : Type 0 where
   pub under : int_min t.a.y t.b.y ≤ℤ int_max s.a.y s.b.y
   pub over : int_min s.a.y s.b.y ≤ℤ int_max t.a.y t.b.y
 
-le_is : (u v : ℤ) → int_le u v ≡ true → u ≤ℤ v
-le_is u v h = grind (arith, ints)
-
 DoMeet-from : (s t : Pair) → s.a.x ≤ℤ s.b.x → t.a.x ≤ℤ t.b.x → boxes_meet s t ≡ true → DoMeet s t
 unfolding boxes_meet ranges_meet
 DoMeet-from s t hs ht h =
     let both = and_parts _ _ h in
-    let x = le_is (int_max (int_min s.a.x s.b.x) (int_min t.a.x t.b.x)) (int_min (int_max s.a.x s.b.x) (int_max t.a.x t.b.x)) both.0 in
-    let y = le_is (int_max (int_min s.a.y s.b.y) (int_min t.a.y t.b.y)) (int_min (int_max s.a.y s.b.y) (int_max t.a.y t.b.y)) both.1 in
+    let x = le-tested (int_max (int_min s.a.x s.b.x) (int_min t.a.x t.b.x)) (int_min (int_max s.a.x s.b.x) (int_max t.a.x t.b.x)) both.0 in
+    let y = le-tested (int_max (int_min s.a.y s.b.y) (int_min t.a.y t.b.y)) (int_min (int_max s.a.y s.b.y) (int_max t.a.y t.b.y)) both.1 in
     record { right = omega (arith, ints, clamps); under = omega (arith, ints, clamps); over = omega (arith, ints, clamps) }
-
-not_past : (u v : ℤ) → v ≤ℤ u → int_lt u v ≡ false
-not_past u v h = grind (arith, ints)
-
-past_or_not : (u v : ℤ) → u <ℤ v → v ≤ℤ u → ⊥
-past_or_not u v h k = omega (arith, ints)
 
 lt_is : (i j : ℕ) → nat_lt i j ≡ true → i < j
 lt_is i j h = grind arith
@@ -166,16 +147,16 @@ near_is_found ps j e ordered w of gone h =
     let ot : t.a.x ≤ℤ t.b.x = ordered_x t (AllByRecursion-get (λ s. IsTrue (is_ordered s)) ps j nowhere ordered w) in
     let meet = DoMeet-from s t os ot parts.1 in
     let right : t.a.x ≤ℤ e.end_x = subst (λ (z : ℤ). t.a.x ≤ℤ z) (sym end_x) meet.right in
-    let live : e.is_live ≡ true = true_from_ne_false e.is_live (λ n. past_or_not e.end_x t.a.x (gone (lt_is e.index j parts.0) n j (omega arith) w) right) in
-    let reaches : int_lt e.high q.low ≡ false = not_past e.high q.low (subst (λ (z : ℤ). int_min t.a.y t.b.y ≤ℤ z) (sym high) meet.under) in
-    let begins : int_lt q.high e.low ≡ false = not_past q.high e.low (subst (λ (z : ℤ). z ≤ℤ int_max t.a.y t.b.y) (sym low) meet.over) in
-    and_from (is_taken_up q e) (not (int_lt e.end_x q.x)) (and_from e.is_live (is_at_heights q e) live (and_from (not (int_lt e.high q.low)) (not (int_lt q.high e.low)) (ap not reaches) (ap not begins))) (ap not (not_past e.end_x q.x right))
+    let live : e.is_live ≡ true = true_from_ne_false e.is_live (λ n. lt_not_le e.end_x t.a.x (gone (lt_is e.index j parts.0) n j (omega arith) w) right) in
+    let reaches : int_lt e.high q.low ≡ false = lt-test_false e.high q.low (subst (λ (z : ℤ). int_min t.a.y t.b.y ≤ℤ z) (sym high) meet.under) in
+    let begins : int_lt q.high e.low ≡ false = lt-test_false q.high e.low (subst (λ (z : ℤ). z ≤ℤ int_max t.a.y t.b.y) (sym low) meet.over) in
+    and_from (is_taken_up q e) (not (int_lt e.end_x q.x)) (and_from e.is_live (is_at_heights q e) live (and_from (not (int_lt e.high q.low)) (not (int_lt q.high e.low)) (ap not reaches) (ap not begins))) (ap not (lt-test_false e.end_x q.x right))
 
 near_up_to : (ps : List Pair) (j n : ℕ) → n ≤ j → j ≤ length ps → count_by (is_near ps j) (map (entry_at ps) (range_with_len 0 n)) ≡ count_by (λ s. boxes_meet s (pair_at ps j)) (take n ps)
 near_up_to ps j zero h w = refl
 near_up_to ps j (suc n) h w =
     let t = pair_at ps j in
-    let here : is_near ps j (entry_at ps n) ≡ boxes_meet (pair_at ps n) t = ap (λ (b : Bool). b && boxes_meet (pair_at ps n) t) (lt_true n j (omega arith)) in
+    let here : is_near ps j (entry_at ps n) ≡ boxes_meet (pair_at ps n) t = ap (λ (b : Bool). b && boxes_meet (pair_at ps n) t) (nat_lt-test n j (omega arith)) in
     let next : suc n ≡ n + 1 = omega arith in
     ap (λ (k : ℕ). count_by (is_near ps j) (map (entry_at ps) (range_with_len 0 k))) next
     ∙ sum_by-map-range_with_len_more (λ e. one_if (is_near ps j e)) (entry_at ps) 0 n n (omega arith)
@@ -183,18 +164,12 @@ near_up_to ps j (suc n) h w =
     ∙ sym (ap (λ (k : ℕ). count_by (λ s. boxes_meet s t) (take k ps)) next
     ∙ ap (count_by (λ s. boxes_meet s t)) (take_more ps n nowhere (omega arith))
     ∙ count_by-append (λ s. boxes_meet s t) (take n ps) (pair_at ps n ∷ [])
-    ∙ ap (λ (k : ℕ). count_by (λ s. boxes_meet s t) (take n ps) + k) (count_by-cons (λ s. boxes_meet s t) (pair_at ps n) [] ∙ plus_zero (one_if (boxes_meet (pair_at ps n) t))))
-  where
-    plus_zero : (m : ℕ) → m + 0 ≡ m
-    plus_zero m = omega arith
+    ∙ ap (λ (k : ℕ). count_by (λ s. boxes_meet s t) (take n ps) + k) (count_by-cons (λ s. boxes_meet s t) (pair_at ps n) [] ∙ add-zero (one_if (boxes_meet (pair_at ps n) t))))
 
 near_beyond : (ps : List Pair) (j m : ℕ) → count_by (is_near ps j) (map (entry_at ps) (range_with_len 0 (j + m))) ≡ count_by (is_near ps j) (map (entry_at ps) (range_with_len 0 j))
-near_beyond ps j zero = ap (λ (k : ℕ). count_by (is_near ps j) (map (entry_at ps) (range_with_len 0 k))) (plus_zero j)
-  where
-    plus_zero : (m : ℕ) → m + 0 ≡ m
-    plus_zero m = omega arith
+near_beyond ps j zero = ap (λ (k : ℕ). count_by (is_near ps j) (map (entry_at ps) (range_with_len 0 k))) (add-zero j)
 near_beyond ps j (suc m) =
-    let none : one_if (is_near ps j (entry_at ps (j + m))) ≡ 0 = ap (λ (b : Bool). one_if (b && boxes_meet (pair_at ps (j + m)) (pair_at ps j))) (lt_false (j + m) j (omega arith)) in
+    let none : one_if (is_near ps j (entry_at ps (j + m))) ≡ 0 = ap (λ (b : Bool). one_if (b && boxes_meet (pair_at ps (j + m)) (pair_at ps j))) (nat_lt-test_false (j + m) j (omega arith)) in
     let step = sum_by-map-range_with_len_more (λ e. one_if (is_near ps j e)) (entry_at ps) 0 (j + m) (j + m) (omega arith) in
     let rest = near_beyond ps j m in
     ap (λ (k : ℕ). count_by (is_near ps j) (map (entry_at ps) (range_with_len 0 k))) (next j m) ∙ step ∙ last _ _ _ rest none

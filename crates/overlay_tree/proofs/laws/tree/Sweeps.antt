@@ -10,9 +10,9 @@ use Rattle.std.proofs.lemmas.List.Elements.{All-from_recursion, recursion_from_A
 use Rattle.std.proofs.lemmas.List.Sorted.{IsPermutation-map, All-permutation}
 use Rattle.overlay_geometry.specs.Points.{Pair, pair_cmp, pair_lt, is_ordered}
 use Rattle.overlay_geometry.specs.Ranges.{heights, is_off_range}
-use Rattle.overlay_geometry.proofs.laws.geometry.Points.{pair_cmp_total}
+use Rattle.overlay_geometry.proofs.laws.geometry.Points.{pair_cmp_total, starts_in_order}
 use Rattle.overlay_geometry.proofs.laws.lists.Keys.{IsInOrder, IsInOrder-from_sort}
-use Rattle.overlay_base.proofs.laws.geometry.Apart.{apart_in_x, apart_in_y, int_lt-to, pairs-map}
+use Rattle.overlay_base.proofs.laws.geometry.Apart.{apart_in_x, apart_in_y, pairs-map}
 use Rattle.overlay_base.specs.Segments.{pairs}
 use Rattle.overlay_base.specs.SegmentOf.{segments_of, ends_of}
 use Rattle.overlay_base.specs.declared.segm.segment.Segment.{Segment}
@@ -23,6 +23,7 @@ use Rattle.overlay_tree.specs.steps.IntervalTree.{Entry, WholeQuery, is_at_heigh
 use Rattle.overlay_tree.specs.steps.TreeSweep.{unlive, query_at, Gone, IsSwept}
 use Rattle.overlay_tree.specs.steps.Swept.{nowhere, pair_at, entry_at, entry_of_pair, unswept}
 use Rattle.overlay_intersections.proofs.laws.marks.ApartPairs.{AreApart, AreApart-back}
+use Rattle.overlay_geometry.proofs.laws.integers.Tests.{lt-test, lt-tested}
 
 -- ---- lists by their indexes
 
@@ -37,12 +38,9 @@ in_order_at (p ∷ ps) i zero d o lt w = absurd (omega arith)
 in_order_at (p ∷ ps) zero (suc k) d o lt w = AllByRecursion-get (λ u. is_gt (pair_cmp p u) ≡ false) ps k d o.0 (omega arith)
 in_order_at (p ∷ ps) (suc i) (suc k) d o lt w = in_order_at ps i k d o.1 (omega arith) (omega arith)
 
-up : (t u : Pair) → is_gt (pair_cmp t u) ≡ false → t.a.x ≤ℤ u.a.x
-up t u h = grind (arith, ints)
-
 -- a later pair does not begin further left, and is not less
 pub later_right : (ps : List Pair) (i k : ℕ) → IsInOrder pair_cmp ps → i < k → k < length ps → (pair_at ps i).a.x ≤ℤ (pair_at ps k).a.x
-later_right ps i k o lt w = up (pair_at ps i) (pair_at ps k) (in_order_at ps i k nowhere o lt w)
+later_right ps i k o lt w = starts_in_order (pair_at ps i) (pair_at ps k) (in_order_at ps i k nowhere o lt w)
 
 pub later_not_less : (ps : List Pair) (i k : ℕ) → IsInOrder pair_cmp ps → i < k → k < length ps → pair_lt (pair_at ps k) (pair_at ps i) ≡ false
 later_not_less ps i k o lt w = by (pair_cmp (pair_at ps i) (pair_at ps k)) (pair_cmp (pair_at ps k) (pair_at ps i)) (pair_cmp_total.antisymm (pair_at ps k) (pair_at ps i)) (in_order_at ps i k nowhere o lt w)
@@ -128,13 +126,10 @@ found_before j q es h =
 pub all_earlier : (ps : List Pair) (es : List Entry) (j : ℕ) (q : WholeQuery) → IsSwept ps es j → AllByRecursion (λ i. i < j) (found q es)
 all_earlier ps es j q swept = found_before j q es swept.live
 
-lt_from : (u v : ℤ) → u <ℤ v → int_lt u v ≡ true
-lt_from u v h = grind (arith, ints)
-
 off_above : (s t : Pair) → int_lt (int_max s.a.y s.b.y) (int_min t.a.y t.b.y) ≡ true → is_off_range (heights s) t ≡ true
 off_above s t h =
-    let less = int_lt-to (int_max s.a.y s.b.y) (int_min t.a.y t.b.y) h in
-    or_right _ _ (and_from _ _ (lt_from (int_max s.a.y s.b.y) t.a.y (omega (arith, ints, clamps))) (lt_from (int_max s.a.y s.b.y) t.b.y (omega (arith, ints, clamps))))
+    let less = lt-tested (int_max s.a.y s.b.y) (int_min t.a.y t.b.y) h in
+    or_right _ _ (and_from _ _ (lt-test (int_max s.a.y s.b.y) t.a.y (omega (arith, ints, clamps))) (lt-test (int_max s.a.y s.b.y) t.b.y (omega (arith, ints, clamps))))
 
 -- and all of them that are not apart from it
 pub found_all_near : (ps : List Pair) (es : List Entry) (i j : ℕ) → IsSwept ps es j → AllByRecursion (λ s. IsTrue (is_ordered s)) ps → i < j → j < length ps → (AreApart (pair_at ps i) (pair_at ps j) → ⊥) → Has (found (query_at ps j) es) i
@@ -154,7 +149,7 @@ found_all_near ps es i j swept ordered lt w near =
     let live : e.is_live ≡ true = true_from_ne_false e.is_live (λ n. near (apart_in_x s t os ot (subst (λ (z : ℤ). z <ℤ t.a.x) end_x (AllByRecursion-at (Gone ps j) es e swept.gone r.1 before n j (omega arith) w)))) in
     let reaches : int_lt e.high q.low ≡ false = false_from_ne_true (int_lt e.high q.low) (λ h. near (apart_in_y s t (off_above s t (ap (λ (z : ℤ). int_lt z q.low) (sym high) ∙ h)))) in
     let begins : int_lt q.high e.low ≡ false = false_from_ne_true (int_lt q.high e.low) (λ h. near (AreApart-back t s (apart_in_y t s (off_above t s (ap (int_lt q.high) (sym low) ∙ h))))) in
-    let stays : int_lt e.end_x q.x ≡ false = false_from_ne_true (int_lt e.end_x q.x) (λ h. near (apart_in_x s t os ot (int_lt-to s.b.x t.a.x (ap (λ (z : ℤ). int_lt z q.x) (sym end_x) ∙ h)))) in
+    let stays : int_lt e.end_x q.x ≡ false = false_from_ne_true (int_lt e.end_x q.x) (λ h. near (apart_in_x s t os ot (lt-tested s.b.x t.a.x (ap (λ (z : ℤ). int_lt z q.x) (sym end_x) ∙ h)))) in
     let passes : is_found q e ≡ true = and_from (is_taken_up q e) (not (int_lt e.end_x q.x)) (and_from e.is_live (is_at_heights q e) live (and_from (not (int_lt e.high q.low)) (not (int_lt q.high e.low)) (ap not reaches) (ap not begins))) (ap not stays) in
     subst (Has (found q es)) r.2 (Has-map (λ (f : Entry). f.index) (filter (is_found q) es) e (Has-filter (is_found q) es e r.1 passes))
 
@@ -184,10 +179,6 @@ rising_map f h (e ∷ es) r = (AllByRecursion-map (StandsBefore (f e)) f es (All
     kept e g (inl less) = let a = lows e in let b = lows g in inl (omega (arith, ints))
     kept e g (inr same) = let a = indexes e in let b = indexes g in let c = same.1 in inr (lows e ∙ same.0 ∙ sym (lows g), omega arith)
 
--- an entry after the look-up and the insertion
-abbrev pub next_entry : List Pair → ℕ → Entry → Entry
-next_entry ps j e = inserted j (left_by (query_at ps j) e)
-
 live_next : (q : WholeQuery) (j : ℕ) (e : Entry) → (e.is_live ≡ true → e.index < j) → (inserted j (left_by q e)).is_live ≡ true → e.index < j + 1
 live_next q j e h t = elim (or_cases (e.is_live && not (is_dropped q e)) (e.index == j) t) [
   | inl l ↦ let k = h (and_parts e.is_live (not (is_dropped q e)) l).0 in omega arith
@@ -215,7 +206,7 @@ IsSwept-more ps es j swept order w =
         elim (cases_Bool e.is_live) [
           | inl live ↦
               let dropped : is_dropped q e ≡ true = not-false (is_dropped q e) (ap (λ (b : Bool). b && not (is_dropped q e)) (sym live) ∙ parts.0) in
-              let less = int_lt-to e.end_x q.x (and_parts (is_taken_up q e) (int_lt e.end_x q.x) dropped).1 in
+              let less = lt-tested e.end_x q.x (and_parts (is_taken_up q e) (int_lt e.end_x q.x) dropped).1 in
               let right = later_right ps j k order (omega arith) w' in
               omega (arith, ints)
           | inr gone ↦ h other gone k (omega arith) w'

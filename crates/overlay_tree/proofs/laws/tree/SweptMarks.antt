@@ -18,14 +18,12 @@ use Rattle.overlay_tree.specs.steps.TreeSweep.{AreFoundBefore}
 use Rattle.overlay_tree.specs.steps.Swept.{nowhere, pair_at, marks_with_found, crosses_found}
 use Rattle.overlay_intersections.proofs.laws.marks.ApartPairs.{AreApart, AreApart-back, apart_have_no_mark, apart_are_exact}
 use Rattle.overlay_intersections.proofs.laws.marks.FoundEach.{StandsAt, stands, stands_alone, stands_within, at_in, at_out, each_in, each_out, some_in, some_out, none_on_itself, exact_with_itself, cross_inexactly-back}
+use Rattle.std.proofs.Math.Nat.{zero-add}
 
 -- ---- places in a list, by index
 
 place : (ps : List Pair) (i : ℕ) → i < length ps → StandsAt 0 ps i (pair_at ps i)
-place ps i lt = subst (λ (n : ℕ). StandsAt 0 ps n (pair_at ps i)) (zero_plus i) (stands ps 0 i nowhere lt)
-  where
-    zero_plus : (n : ℕ) → 0 + n ≡ n
-    zero_plus n = omega arith
+place ps i lt = subst (λ (n : ℕ). StandsAt 0 ps n (pair_at ps i)) (zero-add i) (stands ps 0 i nowhere lt)
 
 placed : (ps : List Pair) (i : ℕ) (s : Pair) → StandsAt 0 ps i s → (i < length ps) × (pair_at ps i ≡ s)
 placed ps i s h =

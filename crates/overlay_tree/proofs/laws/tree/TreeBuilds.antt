@@ -14,6 +14,7 @@ use Rattle.overlay_tree.specs.steps.IntervalTree.{Entry, entries, StandsBefore, 
 use Rattle.overlay_tree.specs.steps.Swept.{entry_at, alone, unswept}
 use Rattle.overlay_tree.specs.steps.NodeOf.{entry_of, nodes_of}
 use Rattle.overlay_tree.specs.declared.split.interval_tree.Node.{Node}
+use Rattle.overlay_geometry.proofs.laws.integers.Tests.{eqb-less, eqb-turned}
 
 -- ---- entries in order
 
@@ -47,16 +48,10 @@ pub above : (a n b : ℕ) → b ≤ a → AllByRecursion (λ i. b ≤ i) (range_
 above a zero b h = tt
 above a (suc n) b h = (h, above (a + 1) n b (omega arith))
 
-unequal : (i j : ℕ) → i < j → (i == j) ≡ false
-unequal i j h = grind arith
-
 range_distinct : (a n : ℕ) → IsDistinct (λ i j. i == j) (range_with_len a n)
 unfolding IsDistinct
 range_distinct a zero = tt
-range_distinct a (suc n) = (AllByRecursion-weaker (λ i. a + 1 ≤ i) (λ i. (a == i) ≡ false) (λ i h. unequal a i (omega arith)) (range_with_len (a + 1) n) (above (a + 1) n (a + 1) (omega arith)), range_distinct (a + 1) n)
-
-turned : (i j : ℕ) → (i == j) ≡ (j == i)
-turned i j = grind arith
+range_distinct a (suc n) = (AllByRecursion-weaker (λ i. a + 1 ≤ i) (λ i. (a == i) ≡ false) (λ i h. eqb-less a i (omega arith)) (range_with_len (a + 1) n) (above (a + 1) n (a + 1) (omega arith)), range_distinct (a + 1) n)
 
 indexes_of : (ps : List Pair) (is : List ℕ) → map (λ (e : Entry). e.index) (map (entry_at ps) is) ≡ is
 indexes_of ps [] = refl
@@ -77,7 +72,7 @@ distinct_front (x ∷ xs) ys d = (AllByRecursion_left (λ i. (x == i) ≡ false)
 -- the indexes of entries of all pairs
 pub all_distinct : (ps : List Pair) (is : List ℕ) → IsPermutation (map (λ (e : Entry). e.index) (unswept ps)) is → IsDistinct (λ i j. i == j) is
 all_distinct ps is p =
-    IsDistinct-IsPermutation (λ i j. i == j) turned (range_with_len 0 (length ps)) is (subst (λ (ks : List ℕ). IsPermutation ks is) (indexes_of ps (range_with_len 0 (length ps))) p) (range_distinct 0 (length ps))
+    IsDistinct-IsPermutation (λ i j. i == j) eqb-turned (range_with_len 0 (length ps)) is (subst (λ (ks : List ℕ). IsPermutation ks is) (indexes_of ps (range_with_len 0 (length ps))) p) (range_distinct 0 (length ps))
 
 -- nodes of code of which the entries pass
 pub entries_filter : {I : Type 0} (whole : I → ℤ) (p : Entry → Bool) (nodes : List (Node I)) → entries (nodes_of whole (filter (λ n. p (entry_of whole n)) nodes)) ≡ filter p (entries (nodes_of whole nodes))

@@ -1,9 +1,9 @@
 -- The finder over a tree: one segment more, in the tree or through a few entries, and what it has found at the end.
-use Rattle.std.proofs.Common.{◌≡◌, refl, sym, ap, ap₂, subst, append-nil, ◌∷◌, not, ◌&&◌, ◌∙◌, ℕ, ◌+◌, ◌-◌, true, ◌<◌, ◌≤◌, Bool, false, inl, inr, ◌==◌, arith, IsTrue, List, [], ◌++◌, map, filter, length, length-append, IsPermutation}
+use Rattle.std.proofs.Common.{◌≡◌, refl, sym, ap, ap₂, subst, append-nil, ◌∷◌, not, ◌∙◌, ℕ, ◌+◌, ◌-◌, true, ◌<◌, ◌≤◌, Bool, false, inl, inr, ◌==◌, arith, IsTrue, List, [], ◌++◌, map, filter, length, length-append, IsPermutation}
 use Rattle.std.specs.Prelude.{count_by, min, ◌^◌, int_lt}
 use Rattle.std.specs.List.{AllByRecursion, IsDistinct, list_any, range_with_len}
 use Rattle.std.proofs.lemmas.List.Sorted.{IsPermutation-refl, length_permutation}
-use Rattle.std.proofs.lemmas.Bool.{eq-eqb, both_ways, and_parts, not-true}
+use Rattle.std.proofs.lemmas.Bool.{eq-eqb, both_ways, and_parts, not-true, and_right}
 use Rattle.std.proofs.lemmas.List.{map-append, length-map}
 use Rattle.std.proofs.lemmas.List.FromFn.{length-map-range_with_len}
 use Rattle.overlay_geometry.specs.Points.{Pair, pair_cmp, is_ordered}
@@ -148,11 +148,7 @@ abbrev pub live_at : List Pair → ℕ → Entry
 live_at ps j = record (entry_at ps j) { is_live = true }
 
 not_dropped : (q : WholeQuery) (e : Entry) → stays_at q.x e ≡ true → is_dropped q e ≡ false
-not_dropped q e h = by (is_taken_up q e) (int_lt e.end_x q.x) (not-true _ (and_parts e.is_live (not (int_lt e.end_x q.x)) h).1)
-  where
-    by : (t b : Bool) → b ≡ false → (t && b) ≡ false
-    by true b k = k
-    by false b k = refl
+not_dropped q e h = and_right (is_taken_up q e) (int_lt e.end_x q.x) (not-true _ (and_parts e.is_live (not (int_lt e.end_x q.x)) h).1)
 
 none_dropped_of : (q : WholeQuery) (es : List Entry) → list_any (is_dropped q) (filter (stays_at q.x) es) ≡ false
 none_dropped_of q es = list_any-from_none (is_dropped q) (filter (stays_at q.x) es) (AllByRecursion-filter (stays_at q.x) (λ e. is_dropped q e ≡ false) es (all_of es))

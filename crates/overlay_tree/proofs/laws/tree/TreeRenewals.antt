@@ -8,7 +8,6 @@ use Rattle.std.proofs.lemmas.List.{map-append}
 use Rattle.std.proofs.lemmas.List.Sorted.{IsPermutation-map, IsPermutation-trans, IsPermutation-append_left, IsPermutation-append_right, IsPermutation-append_comm, IsPermutation-filter_both, sum_by-IsPermutation}
 use Rattle.overlay_geometry.specs.Points.{Pair, pair_cmp}
 use Rattle.overlay_geometry.proofs.laws.lists.Keys.{IsInOrder}
-use Rattle.overlay_base.proofs.laws.geometry.Apart.{int_lt-to}
 use Rattle.overlay_geometry.proofs.laws.lists.Lists.{AllByRecursion-append, AllByRecursion_left, AllByRecursion_right, AllByRecursion-map, AllByRecursion-filter, AllByRecursion-weaker, AllByRecursion-from_Has}
 use Rattle.overlay_tree.specs.steps.IntervalTree.{Entry, IsSummed, none, WholeQuery, is_at_heights, is_taken_up, found, left_by, inserted, stays_at}
 use Rattle.overlay_tree.specs.steps.Swept.{pair_at, entry_at, entries_between, unswept}
@@ -19,6 +18,8 @@ use Rattle.overlay_tree.specs.steps.TreeSweep.{IsSwept, Gone, unlive, live_count
 use Rattle.overlay_tree.proofs.laws.tree.Sweeps.{unlive_map, later_right, permuted, range_within}
 use Rattle.overlay_tree.proofs.laws.tree.LookCounts.{one_if, count_by-cons}
 use Rattle.overlay_tree.proofs.laws.tree.TreeBuilds.{above, distinct_front, all_distinct}
+use Rattle.overlay_geometry.proofs.laws.integers.Tests.{lt-tested}
+use Rattle.std.proofs.Math.Nat.{add-zero}
 
 -- ---- no tree
 
@@ -55,10 +56,7 @@ pub found_with : (q : WholeQuery) (es others : List Entry) → AllByRecursion (�
 found_with q es others h = found-append q es others ∙ ap (λ (l : List ℕ). found q es ++ l) (none_found q others (asleep_not_taken q others h)) ∙ append-nil (found q es)
 
 pub count_with : (q : WholeQuery) (es others : List Entry) → AllByRecursion (λ e. e.is_live ≡ false) others → count_by (is_taken_up q) (es ++ others) ≡ count_by (is_taken_up q) es
-count_with q es others h = count_by-append (is_taken_up q) es others ∙ ap (λ (n : ℕ). count_by (is_taken_up q) es + n) (none_counted q others (asleep_not_taken q others h)) ∙ plus_zero (count_by (is_taken_up q) es)
-  where
-    plus_zero : (n : ℕ) → n + 0 ≡ n
-    plus_zero n = omega arith
+count_with q es others h = count_by-append (is_taken_up q) es others ∙ ap (λ (n : ℕ). count_by (is_taken_up q) es + n) (none_counted q others (asleep_not_taken q others h)) ∙ add-zero (count_by (is_taken_up q) es)
 
 pub inserted_with : (j : ℕ) (es others : List Entry) → AllByRecursion (λ e. e.index ≡ j → ⊥) others → map (inserted j) (es ++ others) ≡ map (inserted j) es ++ others
 inserted_with j es others h = map-append (inserted j) es others ∙ ap (λ (l : List Entry). map (inserted j) es ++ l) (none_inserted j others h)
@@ -123,9 +121,6 @@ module _ (ps : List Pair) (E gone E' : List Entry) (j until old now : ℕ) (orde
     (asleep : AllByRecursion (λ e. e.is_live ≡ false) gone) (behind : AllByRecursion (λ e. e.index < j) gone) (within : AllByRecursion (λ e. e.index < j) E)
     (swept : IsSwept ps (E ++ away ps gone j) j) (counted : IsCounted ps (E ++ away ps gone j) j old now)
     (listed : IsPermutation (filter (stays_at (pair_at ps j).a.x) E ++ entries_between ps j until) E') where
-  abbrev x : ℤ
-  x = (pair_at ps j).a.x
-
   abbrev G : List Entry
   G = filter (λ e. not (stays_at (pair_at ps j).a.x e)) E
 
@@ -169,7 +164,7 @@ module _ (ps : List Pair) (E gone E' : List Entry) (j until old now : ℕ) (orde
   gone_now e h t before dead k jk w = elim (cases_Bool e.is_live) [
     | inl live ↦
         let ended : not (int_lt e.end_x (pair_at ps j).a.x) ≡ false = ap (λ (b : Bool). b && not (int_lt e.end_x (pair_at ps j).a.x)) (sym live) ∙ not-true _ t in
-        let left = int_lt-to e.end_x (pair_at ps j).a.x (not-false _ ended) in
+        let left = lt-tested e.end_x (pair_at ps j).a.x (not-false _ ended) in
         let right = at_or_right k jk w in
         omega (arith, ints)
     | inr dead' ↦ h before dead' k jk w

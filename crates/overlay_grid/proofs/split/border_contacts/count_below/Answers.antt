@@ -1,8 +1,9 @@
 use Rattle.std.proofs.Common.{rules}
 use Rattle.std.specs.Prelude.{int_lt}
 use Rattle.std.proofs.lemmas.List.Sorted.{IsPartitionPoint-from_clause}
-use Rattle.overlay_grid.proofs.laws.grid.BorderMarks.{parted_below, below, not_below}
+use Rattle.overlay_grid.proofs.laws.grid.BorderMarks.{parted_below}
 use Rattle.overlay_grid.proofs.split.border_contacts.count_below.Goals as goal
+use Rattle.overlay_geometry.proofs.laws.integers.Tests.{lt-tested, lt-tested_false}
 
 pub returns : goal.returns
 returns g c =
@@ -12,5 +13,5 @@ returns g c =
     let point = IsPartitionPoint-from_clause (λ y. int_lt (whole y) (whole c.args.top)) c.args.heights.now c.partition_point.result c.partition_point.ensures.partitioned parted (λ a r f' h. search rules) in
     record {
       within = c.partition_point.ensures.bound;
-      parted = (λ k d low high. below _ _ (point.0 k d low high), λ k d low high. not_below _ _ (point.1 k d low high));
+      parted = (λ k d low high. lt-tested _ _ (point.0 k d low high), λ k d low high. lt-tested_false _ _ (point.1 k d low high));
     }

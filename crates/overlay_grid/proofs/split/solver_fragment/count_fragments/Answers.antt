@@ -7,9 +7,9 @@ use Rattle.overlay_base.proofs.laws.geometry.Apart.{pairs-next, pairs-none}
 use Rattle.overlay_geometry.specs.Points.{Pair}
 use Rattle.overlay_grid.specs.Grid.{fragments}
 use Rattle.overlay_grid.specs.GroupsOf.{grid_of}
-use Rattle.overlay_geometry.proofs.laws.geometry.Points.{ordered_x}
 use Rattle.overlay_grid.proofs.laws.grid.FragmentCounts.{IsCounting-start, IsCounting-more, IsCounting-end}
 use Rattle.overlay_grid.proofs.split.solver_fragment.count_fragments.Goals as goal
+use Rattle.overlay_geometry.proofs.laws.geometry.Points.{ordered_x}
 
 pub loop-index-init : goal.loop-index-init
 loop-index-init g c = IsCounting-start (grid_of c.args.buffer.now) (pairs (segments_of c.args.segments.now))

@@ -5,9 +5,9 @@ use Rattle.overlay_base.specs.SegmentOf.{segments_of, ends_of}
 use Rattle.overlay_base.proofs.laws.geometry.Apart.{pairs-next, pairs-none}
 use Rattle.overlay_grid.specs.Grid.{Layout}
 use Rattle.overlay_grid.specs.GroupsOf.{group_of, grid_of}
-use Rattle.overlay_geometry.proofs.laws.geometry.Points.{ordered_x}
 use Rattle.overlay_grid.proofs.laws.grid.GridFills.{fill_more, fill_end}
 use Rattle.overlay_grid.proofs.split.solver_fragment.fill.Goals as goal
+use Rattle.overlay_geometry.proofs.laws.geometry.Points.{ordered_x}
 
 pub loop-index-preserved : goal.loop-index-preserved
 loop-index-preserved g c =

@@ -9,14 +9,15 @@ use Rattle.overlay_geometry.specs.PairOf.{pair_of}
 use Rattle.overlay_base.specs.SegmentOf.{ends_of, segments_of}
 use Rattle.overlay_geometry.proofs.laws.geometry.Points.{pair_cmp_total}
 use Rattle.overlay_geometry.proofs.laws.lists.Keys.{IsInOrder, IsInOrder-from_sort}
-use Rattle.overlay_base.proofs.laws.geometry.Apart.{pairs-map, pairs-next, are_ordered, apart_in_y, int_lt-to}
+use Rattle.overlay_base.proofs.laws.geometry.Apart.{pairs-map, pairs-next, are_ordered, apart_in_y}
 use Rattle.overlay_intersections.specs.PlacingOf.{placing_of}
 use Rattle.overlay_intersections.specs.MarkOf.{marks_of}
 use Rattle.overlay_intersections.proofs.laws.marks.ApartPairs.{AreApart, ends_differ}
 use Rattle.overlay_intersections.proofs.laws.marks.FoundMarks.{IsLooked-more, IsLooked-apart, IsLooked-end, later_is_not_less, rest_is_apart, none_left, all_passed, or_true, or_false}
-use Rattle.overlay_tree.proofs.laws.list.ListLooks.{IsTold, IsTold-more, IsTold-end, later_starts_right, x_ranges_meet-from, not_past_le, none_past, none_counted_left, pair_at-first}
+use Rattle.overlay_tree.proofs.laws.list.ListLooks.{IsTold, IsTold-more, IsTold-end, later_starts_right, x_ranges_meet-from, none_past, none_counted_left, pair_at-first}
 use Rattle.overlay_tree.proofs.split.solver_list.mark_with_later.Goals as goal
 use Rattle.overlay_tree.proofs.split.solver_list.mark_with_later.Goals.{then-not-is_not_intersect_y_range+in_ok-mark_both+then-branch, else-not-is_not_intersect_y_range, else-not-is_not_intersect_y_range-via-then-not-is_not_intersect_y_range+in_ok-mark_both+else-branch, else-not-is_not_intersect_y_range-via-else-not-is_not_intersect_y_range}
+use Rattle.overlay_geometry.proofs.laws.integers.Tests.{lt-tested, lt-tested_false}
 
 next_above : (i : ℕ) → i < i + 1
 next_above i = omega arith
@@ -48,7 +49,7 @@ loop-later-preserved g c =
     let ordered_s : IsTrue (is_ordered s) = subst (λ v. IsTrue (is_ordered (pair_of g.I.OverlayInt.whole v))) (sym c.x_segment-target.ensures) c.index-segments-index.result.ordered in
     let ordered_t : IsTrue (is_ordered t) = subst (λ v. IsTrue (is_ordered (pair_of g.I.OverlayInt.whole v))) (sym c.x_segment-other.ensures) c.index-segments-later.result.ordered in
     let right = later_starts_right ps c.args.index c.loop-later.later s t order c.loop-later.invariant.walk.after first second in
-    let meets = x_ranges_meet-from s t ordered_s ordered_t right (not_past_le _ _ (sym c.begins_past_end.ensures ∙ c.if-begins_past_end.false)) in
+    let meets = x_ranges_meet-from s t ordered_s ordered_t right (lt-tested_false _ _ (sym c.begins_past_end.ensures ∙ c.if-begins_past_end.false)) in
     let told : IsTold s ps c.args.index c.args.looked.now c.take_up.new.looked (c.loop-later.later + 1) = IsTold-more s t ps c.args.index c.args.looked.now c.loop-later.looked c.take_up.new.looked c.loop-later.later c.loop-later.invariant.told second meets c.take_up.ensures in
     elim c.if-not-is_not_intersect_y_range.branch [
       | then-not-is_not_intersect_y_range+in_ok-mark_both+then-branch w ↦
@@ -89,7 +90,7 @@ returns-then-begins_past_end-clause-marks g c =
     pairs-next c.args.segments.now c.loop-later.later c.index-segments-later.result c.loop-later-test.true c.index-segments-later.is ∙ ap (λ v. pair_of g.I.OverlayInt.whole v ∷ drop (c.loop-later.later + 1) (pairs (segments_of c.args.segments.now))) (sym c.x_segment-other.ensures) in
     let order : IsInOrder pair_cmp (pairs (segments_of c.args.segments.now)) = subst (λ ps. IsInOrder pair_cmp ps) (sym (pairs-map c.args.segments.now)) (IsInOrder-from_sort pair_cmp_total ends_of c.args.segments.now c.requires.sorted) in
     let ordered : IsTrue (is_ordered (pair_of g.I.OverlayInt.whole c.x_segment-target.result)) = subst (λ v. IsTrue (is_ordered (pair_of g.I.OverlayInt.whole v))) (sym c.x_segment-target.ensures) c.index-segments-index.result.ordered in
-    let past = rest_is_apart (pairs (segments_of c.args.segments.now)) c.loop-later.later (pair_of g.I.OverlayInt.whole c.x_segment-target.result) (pair_of g.I.OverlayInt.whole c.x_segment-other.result) order (are_ordered c.args.segments.now) ordered second (int_lt-to _ _ (sym c.begins_past_end.ensures ∙ c.if-begins_past_end.true)) in
+    let past = rest_is_apart (pairs (segments_of c.args.segments.now)) c.loop-later.later (pair_of g.I.OverlayInt.whole c.x_segment-target.result) (pair_of g.I.OverlayInt.whole c.x_segment-other.result) order (are_ordered c.args.segments.now) ordered second (lt-tested _ _ (sym c.begins_past_end.ensures ∙ c.if-begins_past_end.true)) in
     let end = IsLooked-end (placing_of c.args.placing) c.args.index (pair_of g.I.OverlayInt.whole c.x_segment-target.result) (pairs (segments_of c.args.segments.now)) (marks_of g.I.OverlayInt.whole c.args.marks.now.items) (marks_of g.I.OverlayInt.whole c.loop-later.marks.items) c.loop-later.rounded c.loop-later.later c.loop-later.invariant.walk first past in
     end.0
 
@@ -101,7 +102,7 @@ returns-then-begins_past_end-clause-rounded g c =
     pairs-next c.args.segments.now c.loop-later.later c.index-segments-later.result c.loop-later-test.true c.index-segments-later.is ∙ ap (λ v. pair_of g.I.OverlayInt.whole v ∷ drop (c.loop-later.later + 1) (pairs (segments_of c.args.segments.now))) (sym c.x_segment-other.ensures) in
     let order : IsInOrder pair_cmp (pairs (segments_of c.args.segments.now)) = subst (λ ps. IsInOrder pair_cmp ps) (sym (pairs-map c.args.segments.now)) (IsInOrder-from_sort pair_cmp_total ends_of c.args.segments.now c.requires.sorted) in
     let ordered : IsTrue (is_ordered (pair_of g.I.OverlayInt.whole c.x_segment-target.result)) = subst (λ v. IsTrue (is_ordered (pair_of g.I.OverlayInt.whole v))) (sym c.x_segment-target.ensures) c.index-segments-index.result.ordered in
-    let past = rest_is_apart (pairs (segments_of c.args.segments.now)) c.loop-later.later (pair_of g.I.OverlayInt.whole c.x_segment-target.result) (pair_of g.I.OverlayInt.whole c.x_segment-other.result) order (are_ordered c.args.segments.now) ordered second (int_lt-to _ _ (sym c.begins_past_end.ensures ∙ c.if-begins_past_end.true)) in
+    let past = rest_is_apart (pairs (segments_of c.args.segments.now)) c.loop-later.later (pair_of g.I.OverlayInt.whole c.x_segment-target.result) (pair_of g.I.OverlayInt.whole c.x_segment-other.result) order (are_ordered c.args.segments.now) ordered second (lt-tested _ _ (sym c.begins_past_end.ensures ∙ c.if-begins_past_end.true)) in
     let end = IsLooked-end (placing_of c.args.placing) c.args.index (pair_of g.I.OverlayInt.whole c.x_segment-target.result) (pairs (segments_of c.args.segments.now)) (marks_of g.I.OverlayInt.whole c.args.marks.now.items) (marks_of g.I.OverlayInt.whole c.loop-later.marks.items) c.loop-later.rounded c.loop-later.later c.loop-later.invariant.walk first past in
     end.1
 
@@ -125,7 +126,7 @@ returns-then-begins_past_end-clause-looked g c =
     pairs-next c.args.segments.now c.loop-later.later c.index-segments-later.result c.loop-later-test.true c.index-segments-later.is ∙ ap (λ v. pair_of g.I.OverlayInt.whole v ∷ drop (c.loop-later.later + 1) ps) (sym c.x_segment-other.ensures) in
     let order : IsInOrder pair_cmp ps = subst (λ ps. IsInOrder pair_cmp ps) (sym (pairs-map c.args.segments.now)) (IsInOrder-from_sort pair_cmp_total ends_of c.args.segments.now c.requires.sorted) in
     let ordered : IsTrue (is_ordered s) = subst (λ v. IsTrue (is_ordered (pair_of g.I.OverlayInt.whole v))) (sym c.x_segment-target.ensures) c.index-segments-index.result.ordered in
-    let none = none_past ps c.loop-later.later s t order (are_ordered c.args.segments.now) ordered second (int_lt-to _ _ (sym c.begins_past_end.ensures ∙ c.if-begins_past_end.true)) in
+    let none = none_past ps c.loop-later.later s t order (are_ordered c.args.segments.now) ordered second (lt-tested _ _ (sym c.begins_past_end.ensures ∙ c.if-begins_past_end.true)) in
     rw (pair_at-first ps c.args.index s (drop (c.args.index + 1) ps) first) (IsTold-end s ps c.args.index c.args.looked.now c.loop-later.looked c.loop-later.later c.loop-later.invariant.told none)
 
 pub offset_bounds-segments-index : goal.offset_bounds-segments-index

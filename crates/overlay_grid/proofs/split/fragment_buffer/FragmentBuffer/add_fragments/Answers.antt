@@ -1,6 +1,5 @@
 use Rattle.std.proofs.Common.{◌≡◌, ◌<◌, ◌≤◌, ◌+◌, ◌∙◌, sym, ap, subst, ℕ, refl, List, ◌++◌, length, arith}
 use Rattle.std.specs.Prelude.{ℤ, ◌≤ℤ◌}
-use Rattle.std.proofs.lemmas.Int.{ints}
 use Rattle.overlay_geometry.specs.Ranges.{Rect}
 use Rattle.overlay_geometry.specs.PairOf.{pair_of}
 use Rattle.overlay_geometry.specs.PointOf.{point_of}
@@ -10,14 +9,12 @@ use Rattle.overlay_grid.specs.GroupsOf.{group_of}
 use Rattle.overlay_grid.proofs.laws.grid.GridColumns.{then_less}
 use Rattle.overlay_grid.proofs.laws.grid.GridAdding.{IsAdding, IsAdding-start, IsAdding-more, IsAdding-end, as_added, added_vertical, runs_forward, vertical_from, column_within, column_before_within, next_within, border_between, first_to_last, on_ok}
 use Rattle.overlay_grid.proofs.split.fragment_buffer.FragmentBuffer.add_fragments.Goals as goal
-
-through : (u v w : ℤ) → u ≤ℤ v → v ≤ℤ w → u ≤ℤ w
-through u v w h k = omega (arith, ints)
+use Rattle.overlay_geometry.proofs.laws.integers.Tests.{le_through}
 
 pub insert-requires : goal.insert-requires
 insert-requires g c =
     subst (λ (n : ℕ). n < length c.args.self.now.groups.items) (sym c.index-first.ensures)
-    (column_within (layout_of c.args.self.now.layout) (g.I.OverlayInt.whole c.args.x_segment.a.x) (length c.args.self.now.groups.items) c.requires.from (through _ _ _ c.requires.order c.requires.to) c.args.self.now.columns)
+    (column_within (layout_of c.args.self.now.layout) (g.I.OverlayInt.whole c.args.x_segment.a.x) (length c.args.self.now.groups.items) c.requires.from (le_through _ _ _ c.requires.order c.requires.to) c.args.self.now.columns)
 
 pub returns-then-is_vertical-clause-added : goal.returns-then-is_vertical-clause-added
 returns-then-is_vertical-clause-added g c =

@@ -1,6 +1,5 @@
 use Rattle.std.proofs.Common.{◌≤◌, ◌∙◌, sym, ap₂, ℕ, length, arith, ◌-◌, ◌+◌}
-use Rattle.std.specs.Prelude.{ℤ, ◌≤ℤ◌, pos, ◌-ℤ◌}
-use Rattle.std.proofs.lemmas.Int.{ints}
+use Rattle.std.specs.Prelude.{pos, ◌-ℤ◌}
 use Rattle.overlay_geometry.specs.PairOf.{pair_of}
 use Rattle.overlay_grid.specs.Grid.{column_index}
 use Rattle.overlay_grid.specs.FragmentOf.{layout_of}
@@ -8,16 +7,14 @@ use Rattle.overlay_grid.proofs.laws.grid.GridColumns.{then_less}
 use Rattle.overlay_grid.proofs.laws.grid.GridAdding.{runs_forward, vertical_from, column_before_within, first_to_last}
 use Rattle.overlay_grid.proofs.laws.grid.FragmentCounts.{length-vertical, length-forward}
 use Rattle.overlay_grid.proofs.split.fragment_buffer.FragmentBuffer.fragment_count.Goals as goal
-
-through : (u v w : ℤ) → u ≤ℤ v → v ≤ℤ w → u ≤ℤ w
-through u v w h k = omega (arith, ints)
+use Rattle.overlay_geometry.proofs.laws.integers.Tests.{le_through}
 
 pub returns-then-not-is_not_vertical : goal.returns-then-not-is_not_vertical
 returns-then-not-is_not_vertical g c =
     length-vertical (layout_of c.args.self.now.layout) (pair_of g.I.OverlayInt.whole c.args.x_segment.now) (vertical_from (pair_of g.I.OverlayInt.whole c.args.x_segment.now) (sym c.is_not_vertical.ensures ∙ c.if-not-is_not_vertical.true))
 
 pub index-first-requires-clause-to : goal.index-first-requires-clause-to
-index-first-requires-clause-to g c = through _ _ _ c.requires.order c.requires.to
+index-first-requires-clause-to g c = le_through _ _ _ c.requires.order c.requires.to
 
 pub index_before-last-requires-clause-from : goal.index_before-last-requires-clause-from
 index_before-last-requires-clause-from g c =

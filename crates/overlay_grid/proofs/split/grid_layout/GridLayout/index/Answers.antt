@@ -1,7 +1,8 @@
 use Rattle.std.proofs.Common.{to_z-of_z}
 use Rattle.overlay_grid.specs.FragmentOf.{layout_of}
-use Rattle.overlay_grid.proofs.laws.grid.GridSizes.{laid_out, offset_fits, power_fits, cast_fits, nonneg}
+use Rattle.overlay_grid.proofs.laws.grid.GridSizes.{laid_out, offset_fits, power_fits, cast_fits}
 use Rattle.overlay_grid.proofs.split.grid_layout.GridLayout.index.Goals as goal
+use Rattle.overlay_geometry.proofs.laws.geometry.Polynomials.{difference-nonneg}
 
 pub overflow_cast-offset : goal.overflow_cast-offset
 overflow_cast-offset g c =
@@ -11,7 +12,7 @@ overflow_cast-offset g c =
     let x_fits = f.x_fits in
     let from_fits = f.from_fits in
     let fits = f.fits in
-    rw (c.to_wide.ensures, c.to_wide-2.ensures) (simp to_z-of_z (cast_fits _ (nonneg _ _ c.requires.from) f.bound))
+    rw (c.to_wide.ensures, c.to_wide-2.ensures) (simp to_z-of_z (cast_fits _ (difference-nonneg _ _ c.requires.from) f.bound))
 
 pub overflow_shr-result : goal.overflow_shr-result
 overflow_shr-result g c =

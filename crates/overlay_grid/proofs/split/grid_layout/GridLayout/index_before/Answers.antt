@@ -1,21 +1,22 @@
 use Rattle.std.proofs.Common.{to_z-of_z}
 use Rattle.overlay_grid.specs.FragmentOf.{layout_of}
-use Rattle.overlay_grid.proofs.laws.grid.GridSizes.{laid_out, offset_fits, power_fits, cast_fits, nonneg, between, before_from, before_to}
+use Rattle.overlay_grid.proofs.laws.grid.GridSizes.{laid_out, offset_fits, power_fits, cast_fits, between, before_to}
 use Rattle.std.specs.Prelude.{pos, ◌-ℤ◌}
 use Rattle.overlay_geometry.proofs.laws.geometry.Coordinates.{coordinate_fits}
-use Rattle.overlay_grid.proofs.laws.grid.GridColumns.{less_weak}
 use Rattle.overlay_grid.proofs.split.grid_layout.GridLayout.index_before.Goals as goal
+use Rattle.overlay_geometry.proofs.laws.integers.Tests.{le_weak, lt_before}
+use Rattle.overlay_geometry.proofs.laws.geometry.Polynomials.{difference-nonneg}
 
 pub overflow_cast-offset : goal.overflow_cast-offset
 overflow_cast-offset g c =
     let l = c.args.self.now in
     let o = laid_out (g.I.OverlayInt.whole g.I.OverlayInt.MIN_COORD) (g.I.OverlayInt.whole g.I.OverlayInt.MAX_COORD) (layout_of l) g.met.I.OverlayInt.lowest g.met.I.OverlayInt.highest l.from l.to l.order l.fits in
-    let f = offset_fits _ _ (layout_of l) (g.I.OverlayInt.whole c.args.x -ℤ pos 1) o (before_from _ _ c.requires.from) (before_to _ _ c.requires.to) in
-    let whole_fits = coordinate_fits (g.I.OverlayInt.whole g.I.OverlayInt.MIN_COORD) (g.I.OverlayInt.whole g.I.OverlayInt.MAX_COORD) (g.I.OverlayInt.whole c.args.x) g.met.I.OverlayInt.lowest g.met.I.OverlayInt.highest (between _ _ _ _ _ l.from l.to (less_weak _ _ c.requires.from) c.requires.to) in
+    let f = offset_fits _ _ (layout_of l) (g.I.OverlayInt.whole c.args.x -ℤ pos 1) o (lt_before _ _ c.requires.from) (before_to _ _ c.requires.to) in
+    let whole_fits = coordinate_fits (g.I.OverlayInt.whole g.I.OverlayInt.MIN_COORD) (g.I.OverlayInt.whole g.I.OverlayInt.MAX_COORD) (g.I.OverlayInt.whole c.args.x) g.met.I.OverlayInt.lowest g.met.I.OverlayInt.highest (between _ _ _ _ _ l.from l.to (le_weak _ _ c.requires.from) c.requires.to) in
     let x_fits = f.x_fits in
     let from_fits = f.from_fits in
     let fits = f.fits in
-    rw (c.to_wide.ensures, c.to_wide-2.ensures) (simp to_z-of_z (cast_fits _ (nonneg _ _ (before_from _ _ c.requires.from)) f.bound))
+    rw (c.to_wide.ensures, c.to_wide-2.ensures) (simp to_z-of_z (cast_fits _ (difference-nonneg _ _ (lt_before _ _ c.requires.from)) f.bound))
 
 pub overflow_shr-result : goal.overflow_shr-result
 overflow_shr-result g c =
@@ -26,8 +27,8 @@ pub returns : goal.returns
 returns g c =
     let l = c.args.self.now in
     let o = laid_out (g.I.OverlayInt.whole g.I.OverlayInt.MIN_COORD) (g.I.OverlayInt.whole g.I.OverlayInt.MAX_COORD) (layout_of l) g.met.I.OverlayInt.lowest g.met.I.OverlayInt.highest l.from l.to l.order l.fits in
-    let f = offset_fits _ _ (layout_of l) (g.I.OverlayInt.whole c.args.x -ℤ pos 1) o (before_from _ _ c.requires.from) (before_to _ _ c.requires.to) in
-    let whole_fits = coordinate_fits (g.I.OverlayInt.whole g.I.OverlayInt.MIN_COORD) (g.I.OverlayInt.whole g.I.OverlayInt.MAX_COORD) (g.I.OverlayInt.whole c.args.x) g.met.I.OverlayInt.lowest g.met.I.OverlayInt.highest (between _ _ _ _ _ l.from l.to (less_weak _ _ c.requires.from) c.requires.to) in
+    let f = offset_fits _ _ (layout_of l) (g.I.OverlayInt.whole c.args.x -ℤ pos 1) o (lt_before _ _ c.requires.from) (before_to _ _ c.requires.to) in
+    let whole_fits = coordinate_fits (g.I.OverlayInt.whole g.I.OverlayInt.MIN_COORD) (g.I.OverlayInt.whole g.I.OverlayInt.MAX_COORD) (g.I.OverlayInt.whole c.args.x) g.met.I.OverlayInt.lowest g.met.I.OverlayInt.highest (between _ _ _ _ _ l.from l.to (le_weak _ _ c.requires.from) c.requires.to) in
     let x_fits = f.x_fits in
     let from_fits = f.from_fits in
     let fits = f.fits in

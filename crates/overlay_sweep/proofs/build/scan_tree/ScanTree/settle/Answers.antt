@@ -1,9 +1,9 @@
 use Rattle.std.proofs.Common.{◌∙◌, arith, refl}
 use Rattle.std.proofs.lemmas.List.{length-map}
 use Rattle.overlay_sweep.specs.EntryOf.{entry_of}
-use Rattle.overlay_sweep.proofs.laws.tree.TreeWays.{from_not_false, from_not_true}
 use Rattle.overlay_sweep.proofs.laws.tree.ScanGrowth.{still_begins, still_grows, at_last, some_kept, high_within, asked_more, asked_last, asked_half}
 use Rattle.overlay_sweep.proofs.build.scan_tree.ScanTree.settle.Goals as goal
+use Rattle.std.proofs.lemmas.Bool.{not-true, not-false}
 
 pub loop-x-init : goal.loop-x-init
 loop-x-init g c = record {
@@ -23,13 +23,13 @@ pub overflow_sub-self : goal.overflow_sub-self
 overflow_sub-self g c =
     let n = (c.loop-x.invariant.grows c.requires.growing).now in
     rw c.go_down-descent.ensures.kept
-    (some_kept _ _ _ _ _ _ n _ _ (rw c.loop-x.invariant.entries at (c.go_down-descent.ensures.stopped (from_not_false _ c.if-not-descent.false) n.down)))
+    (some_kept _ _ _ _ _ _ n _ _ (rw c.loop-x.invariant.entries at (c.go_down-descent.ensures.stopped (not-false _ c.if-not-descent.false) n.down)))
 
 pub returns-then-not-descent-clause-grown : goal.returns-then-not-descent-clause-grown
 returns-then-not-descent-clause-grown g c = λ m.
     let n = c.loop-x.invariant.grows m in
     rw c.go_down-descent.ensures.kept
-    (at_last _ _ _ _ _ _ _ _ _ _ _ n (rw c.loop-x.invariant.entries at (c.go_down-descent.ensures.placed (from_not_true _ c.if-not-descent.true) n.now.down)))
+    (at_last _ _ _ _ _ _ _ _ _ _ _ n (rw c.loop-x.invariant.entries at (c.go_down-descent.ensures.placed (not-true _ c.if-not-descent.true) n.now.down)))
 
 pub returns-then-not-descent-clause-compared : goal.returns-then-not-descent-clause-compared
 returns-then-not-descent-clause-compared g c = λ d h.
@@ -40,13 +40,13 @@ returns-then-not-descent-clause-compared g c = λ d h.
 pub returns-then-not-descent-clause-reached : goal.returns-then-not-descent-clause-reached
 returns-then-not-descent-clause-reached g c =
     let n = (c.loop-x.invariant.grows c.requires.growing).now in
-    let p = c.go_down-descent.ensures.placed (from_not_true _ c.if-not-descent.true) n.down in
-    asked_half _ _ _ _ _ _ _ p.tree p.at_most n.down.sound.low (c.go_down-descent.ensures.reached (from_not_true _ c.if-not-descent.true) n.down)
+    let p = c.go_down-descent.ensures.placed (not-true _ c.if-not-descent.true) n.down in
+    asked_half _ _ _ _ _ _ _ p.tree p.at_most n.down.sound.low (c.go_down-descent.ensures.reached (not-true _ c.if-not-descent.true) n.down)
 
 pub loop-x-smaller : goal.loop-x-smaller
 loop-x-smaller g c =
     let n = (c.loop-x.invariant.grows c.requires.growing).now in
-    let k = some_kept _ _ _ _ _ _ n _ _ (rw c.loop-x.invariant.entries at (c.go_down-descent.ensures.stopped (from_not_false _ c.if-not-descent.false) n.down)) in
+    let k = some_kept _ _ _ _ _ _ n _ _ (rw c.loop-x.invariant.entries at (c.go_down-descent.ensures.stopped (not-false _ c.if-not-descent.false) n.down)) in
     omega (arith, k, c.go_down-descent.ensures.kept)
 
 pub loop-x-preserved : goal.loop-x-preserved
@@ -56,10 +56,10 @@ loop-x-preserved g c = record {
   grows = λ m.
       let n = c.loop-x.invariant.grows m in
       rw c.go_down-descent.ensures.kept
-      (still_grows _ _ _ _ _ _ _ _ _ n (rw c.loop-x.invariant.entries at (c.go_down-descent.ensures.stopped (from_not_false _ c.if-not-descent.false) n.now.down)));
+      (still_grows _ _ _ _ _ _ _ _ _ n (rw c.loop-x.invariant.entries at (c.go_down-descent.ensures.stopped (not-false _ c.if-not-descent.false) n.now.down)));
   compared = λ d h.
       let n = (c.loop-x.invariant.grows c.requires.growing).now in
-      let k = some_kept _ _ _ _ _ _ n _ _ (rw c.loop-x.invariant.entries at (c.go_down-descent.ensures.stopped (from_not_false _ c.if-not-descent.false) n.down)) in
+      let k = some_kept _ _ _ _ _ _ n _ _ (rw c.loop-x.invariant.entries at (c.go_down-descent.ensures.stopped (not-false _ c.if-not-descent.false) n.down)) in
       rw c.go_down-descent.ensures.kept
       (asked_more c.loop-x.self.compared c.go_down-descent.new.self.compared n.down.sound.high d c.args.self.now.kept c.loop-x.self.kept (c.loop-x.invariant.compared d h) (c.go_down-descent.ensures.compared n.down) (high_within _ _ _ _ _ _ n d c.args.self.now.kept c.loop-x.invariant.kept h) k c.loop-x.invariant.kept);
 }
