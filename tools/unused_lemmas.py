@@ -7,7 +7,7 @@ A lemma is used if one of these cites it, or another used lemma does: a file tha
 a file of specs/, and in a .rt file `using(..)` or an import. Its own lines cite for a lemma only what they name
 besides itself, and an import alone cites nothing. A name means what its file declares or imports under it.
 
-    tools/unused_lemmas.py [CRATE..]      of these crates alone; without a name, of all
+    python3 tools/unused_lemmas.py [CRATE..]      of these crates alone; without a name, of all
 """
 import pathlib
 import re
@@ -17,7 +17,7 @@ TOP = pathlib.Path(__file__).resolve().parent.parent
 WORD = re.compile(r"[^\s(){}\[\],;.@]+(?:\.[^\s(){}\[\],;.@]+)*")
 COMMENT = re.compile(r"(^|\s)--(\s.*|$)")
 IMPORT = re.compile(r"(?:pub )?(?:ghost )?use ((?:[\w.+◌-]+?)(?:\.\{(.*)\}| as (\S+))?)$", re.S)
-DECLARED = re.compile(r"(?:(?:pub|abbrev|unfoldable) )*(?:(?:record|data) )?(\S+)(?= )")
+BEGINNING = re.compile(r"(?:(?:pub|abbrev|unfoldable|record|data) )*(\S+)( (?:[({].*[)}] )?:| = )?")
 NO_LEMMAS = {"Answers", "Invariants", "Proof", "Lib"}
 
 
@@ -64,13 +64,10 @@ class Module:
             (self.lemmas[owner][1] if owner else self.outside).update(WORD.findall(text))
 
     def owner_of(self, text, number):
-        name = DECLARED.match(text + " ")
-        if name and self.gives_lemmas:
-            name = name.group(1)
-            if name not in self.lemmas and re.match(r"(?:(?:pub|abbrev|unfoldable|record|data) )*\S+ (\(.*\) |\{.*\} )*:", text):
-                self.lemmas[name] = (number, set())
-            return name if name in self.lemmas else None
-        return None
+        name, declares = BEGINNING.match(text).groups()
+        if declares and self.gives_lemmas:
+            self.lemmas.setdefault(name, (number, set()))
+        return name if name in self.lemmas else None
 
     def take_import(self, text):
         path, names, alias = IMPORT.match(text).groups()

@@ -1,6 +1,6 @@
 // The finder that looks segments up in a tree over their heights. Upstream: `split::solver_tree`, whose tree is
 // another.
-ghost use Rattle.std.specs.Prelude.{◌≡◌, ◌≢◌, ℕ, ◌<◌, ◌≤◌, ◌+◌, ◌-◌, ◌^◌, min, ◌++◌, [], ◌∷◌, All, IfErr, IfOk, OnOk, IsTrue, IsFalse, IsSortedByKey, IsPermutation, length, map, filter, ◌==◌};
+ghost use Rattle.std.specs.Prelude.{◌≡◌, ◌≢◌, ℕ, ◌<◌, ◌≤◌, ◌+◌, ◌-◌, ◌^◌, min, ◌++◌, [], ◌∷◌, All, Bool, true, None, IfErr, IfOk, OnOk, IfSome, OnSome, IsSome, IsTrue, IsFalse, IsSortedByKey, IsPermutation, length, map, filter, ◌==◌};
 ghost use Rattle.overlay_base.specs.declared.segm.fault.Fault.TheVariants.{Memory};
 ghost use Rattle.overlay_geometry.specs.Points.{pair_cmp};
 ghost use Rattle.overlay_base.specs.Segments.{pairs};
@@ -74,6 +74,35 @@ pub fn find_marks<C: WindingCount, I: OverlayInt, D: Copy>(
         (min (looked.old + count_twos boxes_meet (pairs (segments_of segments.now))) (2 ^ 128 - 1) ≤ looked.new) }
     ensures fault { IfErr result (λ fault. fault ≡ Memory) }
 {
+    let found = find_marks_up_to(segments, placing, None, buffers, marks, looked)?;
+    Ok(found.unwrap())
+}
+
+/// Finds the marks of a pass as `find_marks` does, under the same conditions. With a limit it gives up before a segment
+/// that might take `looked` past it: then it answers `None`, and `marks` is of no use.
+pub(crate) fn find_marks_up_to<C: WindingCount, I: OverlayInt, D: Copy>(
+    segments: &[Segment<C, I, D>],
+    placing: Placing,
+    limit: Option<u128>,
+    buffers: &mut TreeBuffers<I>,
+    marks: &mut Vec<LineMark<I>>,
+    looked: &mut u128,
+) -> Result<Option<bool>, Fault>
+    requires sorted { IsSortedByKey ends_of pair_cmp segments.now }
+    requires in_range { All (λ s. IsPairInRange I.whole I.MIN_COORD I.MAX_COORD (x_segment_of s)) segments.now }
+    requires radius { HasRadius placing }
+    requires limit { IfSome limit (λ most. looked.old ≤ most) }
+    ensures marks { IfOk result (λ found. OnSome found
+        (AreMarks (placing_of placing) (segments_of segments.now) (marks_of I.whole marks.new.items))) }
+    ensures rounded { IfOk result (λ found. IfSome found (λ rounded. rounded ≡ is_rounded (segments_of segments.now))) }
+    ensures found { limit ≡ None → IfOk result (λ found. IsSome found) }
+    ensures looked { IfOk result (λ found. OnSome found
+        (looked.new ≤ looked.old + tree_looks (pairs (segments_of segments.now)))) }
+    ensures each_looked { IfOk result (λ found. OnSome found
+        (min (looked.old + count_twos boxes_meet (pairs (segments_of segments.now))) (2 ^ 128 - 1) ≤ looked.new)) }
+    ensures within { OnOk result (IfSome limit (λ most. looked.new ≤ most)) }
+    ensures fault { IfErr result (λ fault. fault ≡ Memory) }
+{
     let _looked = *looked;
     let TreeBuffers { nodes, found } = buffers;
     nodes.clear();
@@ -81,6 +110,9 @@ pub fn find_marks<C: WindingCount, I: OverlayInt, D: Copy>(
     let mut rounded = false;
     let mut until = 0;
     for index in 0..segments.len() {
+        if !may_take(limit, *looked, segments.len()) {
+            return Ok(None);
+        }
         until = take_in(segments, index, until, nodes, found, looked)?;
         if mark_with_found(segments, found, index, placing, marks)? {
             rounded = true;
@@ -88,7 +120,18 @@ pub fn find_marks<C: WindingCount, I: OverlayInt, D: Copy>(
     }
     marks.sort()?;
     marks.dedup();
-    Ok(rounded)
+    Ok(Some(rounded))
+}
+
+/// Whether so many pairs more may be taken up: within the limit, if there is one.
+fn may_take(limit: Option<u128>, looked: u128, more: usize) -> bool
+    ensures free { limit ≡ None → result ≡ true }
+    ensures within { result ≡ true → IfSome limit (λ most. more ≤ most - looked) }
+{
+    match limit {
+        Some(most) => more as u128 <= most.saturating_sub(looked),
+        None => true,
+    }
 }
 
 /// So few entries are looked at one by one, and stand in no tree.

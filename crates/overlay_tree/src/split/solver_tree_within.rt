@@ -8,7 +8,7 @@ ghost use Rattle.overlay_intersections.specs.PassMarks.{is_rounded};
 ghost use Rattle.overlay_intersections.specs.PlacingOf.{placing_of, HasRadius};
 ghost use Rattle.overlay_intersections.specs.MarkOf.{AreMarks, marks_of};
 
-use crate::split::solver_tree::{TreeBuffers, mark_with_found, take_in};
+use crate::split::solver_tree::{TreeBuffers, find_marks_up_to};
 use overlay_base::segm::fault::Fault;
 use overlay_base::segm::segment::Segment;
 use overlay_base::segm::winding::WindingCount;
@@ -39,21 +39,5 @@ pub fn find_marks_within<C: WindingCount, I: OverlayInt, D: Copy>(
     ensures fault { IfErr result (λ fault. fault ≡ Memory) }
 {
     let limit = looked.saturating_add(most);
-    let TreeBuffers { nodes, found } = buffers;
-    nodes.clear();
-    marks.clear();
-    let mut rounded = false;
-    let mut until = 0;
-    for index in 0..segments.len() {
-        if limit.saturating_sub(*looked) < segments.len() as u128 {
-            return Ok(None);
-        }
-        until = take_in(segments, index, until, nodes, found, looked)?;
-        if mark_with_found(segments, found, index, placing, marks)? {
-            rounded = true;
-        }
-    }
-    marks.sort()?;
-    marks.dedup();
-    Ok(Some(rounded))
+    find_marks_up_to(segments, placing, Some(limit), buffers, marks, looked)
 }

@@ -1,5 +1,5 @@
-use Rattle.std.proofs.Common.{◌≡◌, ap, sym, subst, ◌∙◌, ◌<◌, length, arith, Bool, ◌||◌, List, ℕ}
-use Rattle.std.specs.Prelude.{All}
+use Rattle.std.proofs.Common.{◌≡◌, refl, ap, sym, subst, ◌∙◌, ◌<◌, ◌≤◌, ◌+◌, ◌-◌, length, arith, Bool, ◌||◌, List, ℕ, Option, None, Some}
+use Rattle.std.specs.Prelude.{All, IfSome}
 use Rattle.std.proofs.lemmas.List.Elements.{All-from_recursion}
 use Rattle.overlay_base.specs.Segments.{pairs}
 use Rattle.overlay_base.specs.SegmentOf.{segments_of}
@@ -13,8 +13,12 @@ use Rattle.overlay_intersections.proofs.laws.marks.LineMarks.{AreMarks-from_elem
 use Rattle.overlay_tree.proofs.laws.tree.Sweeps.{length-pairs}
 use Rattle.overlay_tree.proofs.laws.tree.SweptMarks.{IsMarked-start, IsMarked-more, all_marked, all_told}
 use Rattle.overlay_tree.proofs.laws.tree.TreeFinder.{IsUnderWay-start, IsUnderWay-end}
-use Rattle.overlay_tree.proofs.split.solver_tree.find_marks.Goals as goal
-use Rattle.overlay_tree.proofs.split.solver_tree.find_marks.Goals.{then-branch, else-branch}
+use Rattle.overlay_tree.proofs.split.solver_tree.find_marks_up_to.Goals as goal
+use Rattle.overlay_tree.proofs.split.solver_tree.find_marks_up_to.Goals.{then-branch, else-branch}
+
+stays_within : (limit : Option ℕ) (now next more : ℕ) → IfSome limit (λ most. now ≤ most) → IfSome limit (λ most. more ≤ most - now) → next ≤ now + more → IfSome limit (λ most. next ≤ most)
+stays_within None now next more h k l = tt
+stays_within (Some most) now next more h k l = omega (arith, h, k, l)
 
 pub loop-index-init : goal.loop-index-init
 loop-index-init g c =
@@ -22,6 +26,7 @@ loop-index-init g c =
     rw (c.clear.ensures.items, c.clear-2.ensures.items) (record {
       way = IsUnderWay-start ps c.args.looked.now (omega arith);
       marked = IsMarked-start (placing_of c.args.placing) ps;
+      within = c.requires.limit;
     })
 
 pub take_in-requires-clause-way : goal.take_in-requires-clause-way
@@ -49,6 +54,7 @@ loop-index-preserved g c =
       way = c.in_ok-until.ensures.way c.args.looked.now c.loop-index.invariant.way;
       marked = IsMarked-more placing ps (marks_of whole c.loop-index.marks.items) (marks_of whole c.mark_with_found.new.marks.items) c.loop-index.rounded c.if-branch.rounded j c.deref.result.now
           c.loop-index.invariant.marked found inside c.in_ok-mark_with_found.ensures.marks (rounded ∙ ap (λ (b : Bool). c.loop-index.rounded || b) c.in_ok-mark_with_found.ensures.rounded);
+      within = stays_within c.args.limit c.loop-index.looked c.take_in.new.looked (length xs) c.loop-index.invariant.within (c.may_take.ensures.within c.if-not-may_take.false) c.in_ok-until.ensures.looked;
     }
 
 pub returns : goal.returns
@@ -66,7 +72,9 @@ returns g c =
           c.loop-index.marks.items c.sort.new.self.items c.dedup.new.self.items marked.sound (all_marked placing ps (marks_of whole c.loop-index.marks.items) c.loop-index.rounded marked)
           c.in_ok-sort.ensures.permutation sorted c.dedup.ensures.filtered;
       rounded = all_told placing ps (marks_of whole c.loop-index.marks.items) c.loop-index.rounded marked ∙ some_cross_inexactly-is (segments_of xs);
+      found = λ none. refl;
       looked = looks.most;
       each_looked = looks.least;
+      within = c.loop-index.invariant.within;
       fault = tt;
     }
