@@ -1,5 +1,5 @@
 -- What words of the form `name=value` leave in a slot, one word more at a time.
-use Rattle.std.proofs.Common.{rules, ◌≡◌, ◌≢◌, inl, inr, ℕ, ◌<◌, ◌==◌, true, not, List, [], ◌∷◌, ◌++◌, length, get_or, drop, is_some, unwrap_or, Ok, Err, Option, Some, None, refl, sym, ap, ◌∙◌, subst, arith, append_assoc, length-append}
+use Rattle.std.proofs.Common.{rules, ◌≡◌, ◌≢◌, inl, inr, ℕ, ◌<◌, ◌==◌, true, false, not, sum, List, [], ◌∷◌, ◌++◌, length, get_or, drop, is_some, unwrap_or, Ok, Err, Option, Some, None, refl, sym, ap, ◌∙◌, subst, arith, append_assoc, length-append}
 use Rattle.std.proofs.Math.Seq.{get_or-append_seam, drop-append_seam}
 use Rattle.std.proofs.lemmas.Grind.{common_steps}
 use Rattle.std.proofs.lemmas.Bool.Decides.{nat_tests}
@@ -7,7 +7,7 @@ use Rattle.std.proofs.lemmas.List.Elements.{All-from_get_or, Contains-append_rig
 use Rattle.std.proofs.lemmas.List.Sums.{list_all-from_AllPass}
 use Rattle.std.specs.Prelude.{ℤ, Contains, codes, IsOk, IsSome, IsNone, OnOk, ◌↔◌, MatchOption, IsErr}
 use Rattle.std.specs.declared.result.Result.{Result}
-use Rattle.std.proofs.lemmas.Bool.{false≢true}
+use Rattle.std.proofs.lemmas.Bool.{false≢true, eq-eqb}
 use Rattle.std.specs.Borrow.{Bor}
 use Rattle.arrange.specs.declared.settings.SquaredRadius.{SquaredRadius}
 use Rattle.arrange.specs.Words.{setting, IsName, IsSetting, setting_names, WritesSquare, WritesRadius, SetsTo, NoneSets, IsChosen, TakesWord, CanTake, ReadsWord}
@@ -75,6 +75,19 @@ module _ {V : Type 0} (name : List ℕ) (Means : List ℕ → V → Type 0) wher
   -- so is one that sets another name
   pub other_name : (word other value : List ℕ) (slot : Option V) → word ≡ setting other value → IsName other → IsName name → other ≢ name → ¬ (CanTake name Means word slot)
   other_name word other value slot sets is_other is differs can = differs (same_name other name value can.1.1.0 is_other is (sym sets ∙ can.1.1.1))
+
+-- names whose codes have different sums are different
+differ : (name other : List ℕ) → (sum name == sum other) ≡ false → name ≢ other
+differ name other apart same = false≢true (sym apart ∙ eq-eqb (sum name) (sum other) (ap (λ l. sum l) same))
+
+module _ {V T E : Type 0} (word name value : List ℕ) (r : Result T E) (sets : word ≡ setting name value) (is : IsName name) where
+  -- a word that sets one name leaves the slot of another as it was, or is refused
+  pub passes_by : (other : List ℕ) (Means : List ℕ → V → Type 0) (slot : Option V) → IsName other → (sum name == sum other) ≡ false → ReadsWord r other Means word slot slot
+  passes_by other Means slot is_other apart = by r
+    where
+      by : (r : Result T E) → ReadsWord r other Means word slot slot
+      by (Ok t) = inr (λ v e. differ name other apart (same_name name other value v is is_other (sym sets ∙ e)), refl)
+      by (Err e) = other_name other Means word name value slot sets is is_other (differ name other apart)
 
 some_is_not_none : {V : Type 0} (x : V) → Some x ≡ None → ⊥
 some_is_not_none x e = search (rules, e)

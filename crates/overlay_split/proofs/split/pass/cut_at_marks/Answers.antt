@@ -1,4 +1,4 @@
-use Rattle.std.proofs.Common.{◌≡◌, ◌∙◌, sym, ap, subst, length, ◌<◌, arith}
+use Rattle.std.proofs.Common.{◌≡◌, ◌∙◌, sym, ap, subst, length, ◌<◌}
 use Rattle.std.specs.Prelude.{IsTrue}
 use Rattle.overlay_base.specs.Windings.{is_valid}
 use Rattle.overlay_split.proofs.laws.passes.CutSteps.{All-at}
@@ -39,7 +39,7 @@ pub index-requires : goal.index-requires
 index-requires g c =
     let at = IsAtMark-from _ _ _ _ data_segment_of (mark_of g.I.OverlayInt.whole) (IsUsable-each c.args.list.now.items _ _ c.requires.splittable) c.loop-first.list.items c.loop-first.rest.now c.loop-first.store c.loop-first.invariant
     c.in-Some.first.now (sym c.in-Some.ensures.value) c.index_len.result c.index_len.ensures.within c.index_len.ensures.own c.index_len.ensures.later in
-    omega (arith, at.inside, c.loop-first.list.ok.0)
+    subst (λ n. c.in-Some.first.now.index < n) (sym c.loop-first.list.ok.0) at.inside
 
 pub cut_segment-requires-clause-index : goal.cut_segment-requires-clause-index
 cut_segment-requires-clause-index g c =
@@ -68,8 +68,8 @@ cut_segment-requires-clause-steps g c =
     let road : points_of whole c.as_slice-in-Some.result.now ≡ path_at hooks (marks_in (placing_of c.args.placing) given) at.segment = ap (points_of whole) c.as_slice-in-Some.ensures.value
     ∙ path_collected hooks (placing_of c.args.placing) given at.segment _ own (f c.x_segment-a.result.a) (f c.x_segment-a.result.b) (points_of whole c.collect_path.new.path.items)
     (ap (λ s. f s.a) c.x_segment-a.ensures ∙ ap (λ s. s.pair.a) here) (ap (λ s. f s.b) c.x_segment-a.ensures ∙ ap (λ s. s.pair.b) here) c.in_ok-collect_path.ensures in
-    let some : 0 < length (mark_points_of whole c.split_at.result.0.now) = omega (arith, at.some, ap length (sym at.own ∙ own)) in
-    omega (arith, path_steps hooks (placing_of c.args.placing) given at.segment _ own some, ap length road, length-map c.as_slice-in-Some.result.now f)
+    let some : 0 < length (mark_points_of whole c.split_at.result.0.now) = subst (λ n. 0 < n) (ap length (sym at.own ∙ own)) at.some in
+    subst (λ n. 1 < n) (sym (ap length road) ∙ length-map c.as_slice-in-Some.result.now f) (path_steps hooks (placing_of c.args.placing) given at.segment _ own some)
 
 pub cut_segment-requires-clause-path : goal.cut_segment-requires-clause-path
 cut_segment-requires-clause-path g c =
@@ -134,5 +134,5 @@ returns-clause-marked g c =
     let whole = g.I.OverlayInt.whole in
     let found = subst (λ l. AreMarks (placing_of c.args.placing) (segments_of l) (marks_of whole c.find_marks.new.marks.items)) c.as_slice.ensures.value c.in_ok-is_rounded.ensures.marks in
     let marks = c.find_marks.new.marks in
-    let length_is : length (marks_of whole marks.items) ≡ vec_len marks = length-map marks.items (mark_of whole) ∙ omega (arith, marks.ok.0) in
+    let length_is : length (marks_of whole marks.items) ≡ vec_len marks = length-map marks.items (mark_of whole) ∙ sym marks.ok.0 in
     marks_tell (placing_of c.args.placing) (segments_of items) (marks_of whole marks.items) found (vec_len marks) length_is c.is_empty.result c.is_empty.ensures
