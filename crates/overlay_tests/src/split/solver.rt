@@ -38,6 +38,11 @@ const WIDE_START: Precision = Precision {
     progression: 1,
 };
 
+const GREATEST: Precision = Precision {
+    start: usize::MAX,
+    progression: usize::MAX,
+};
+
 /// The precision, the snap limit, what is given, the flag and the number of passes, and the list after the split.
 const SPLITS: [(
     &str,
@@ -46,7 +51,7 @@ const SPLITS: [(
     &[Row],
     Result<(bool, u128), Fault>,
     &[Row],
-); 18] = [
+); 23] = [
     ("nothing", Precision::HIGH, 256, &[], Ok((false, 0)), &[]),
     (
         "two that cancel",
@@ -95,9 +100,46 @@ const SPLITS: [(
         ],
     ),
     (
+        "the same, settled from the first pass",
+        Precision::HIGH,
+        0,
+        &[((0, 0), (5, 5), 1), ((0, 3), (5, -2), 1)],
+        Ok((true, 2)),
+        &[
+            ((0, 0), (2, 2), 1),
+            ((0, 3), (2, 2), 1),
+            ((2, 2), (5, -2), 1),
+            ((2, 2), (5, 5), 1),
+        ],
+    ),
+    (
+        "the same under the greatest precision",
+        GREATEST,
+        256,
+        &[((0, 0), (5, 5), 1), ((0, 3), (5, -2), 1)],
+        Ok((true, 2)),
+        &[
+            ((0, 0), (0, 3), 1),
+            ((0, 3), (5, -2), 1),
+            ((0, 3), (5, 5), 1),
+        ],
+    ),
+    (
         "a piece that is turned",
         Precision::HIGH,
         256,
+        &[((0, 0), (100, 1), 1), ((1, -50), (1, 50), 1)],
+        Ok((true, 2)),
+        &[
+            ((0, 0), (1, -50), -1),
+            ((0, 0), (1, 50), 1),
+            ((0, 0), (100, 1), 1),
+        ],
+    ),
+    (
+        "the same, with one pass that snaps",
+        Precision::HIGH,
+        1,
         &[((0, 0), (100, 1), 1), ((1, -50), (1, 50), 1)],
         Ok((true, 2)),
         &[
@@ -260,6 +302,26 @@ const SPLITS: [(
         &[((0, 0), (4, 0), i32::MAX), ((0, 0), (4, 0), i32::MAX)],
         Err(Fault::CountOutOfRange),
         &[],
+    ),
+    (
+        "an overlap whose sum is too large",
+        Precision::HIGH,
+        256,
+        &[((0, 0), (4, 0), i32::MAX), ((2, 0), (6, 0), 1)],
+        Err(Fault::CountOutOfRange),
+        &[],
+    ),
+    (
+        "an overlap of a count and its opposite",
+        Precision::HIGH,
+        256,
+        &[((0, 0), (4, 0), i32::MAX), ((2, 0), (6, 0), -1)],
+        Ok((true, 1)),
+        &[
+            ((0, 0), (2, 0), i32::MAX),
+            ((2, 0), (4, 0), i32::MAX - 1),
+            ((4, 0), (6, 0), -1),
+        ],
     ),
     (
         "a running sum that is too large",
