@@ -1,6 +1,6 @@
 // The finder that looks segments up in a tree over their heights. Upstream: `split::solver_tree`, whose tree is
 // another.
-ghost use Rattle.std.specs.Prelude.{◌≡◌, ◌≢◌, ℕ, ◌<◌, ◌≤◌, ◌+◌, ◌-◌, ◌^◌, min, ◌++◌, [], ◌∷◌, All, Bool, true, None, IfErr, IfOk, OnOk, IfSome, OnSome, IsSome, IsTrue, IsFalse, IsSortedByKey, IsPermutation, length, map, filter, ◌==◌};
+ghost use Rattle.std.specs.Prelude.{◌≡◌, ◌≢◌, ℕ, ◌<◌, ◌≤◌, ◌+◌, ◌-◌, ◌^◌, min, ◌++◌, [], ◌∷◌, All, true, None, IfErr, IfOk, OnOk, IfSome, OnSome, IsSome, IsTrue, IsFalse, IsSortedByKey, IsPermutation, length, map, filter, ◌==◌};
 ghost use Rattle.overlay_base.specs.declared.segm.fault.Fault.TheVariants.{Memory};
 ghost use Rattle.overlay_geometry.specs.Points.{pair_cmp};
 ghost use Rattle.overlay_base.specs.Segments.{pairs};

@@ -2,6 +2,7 @@
 use Rattle.std.proofs.Common.{◌≡◌, subst, arith, ℕ, zero, suc, ◌+◌, ◌*◌, ◌-◌, ◌<◌, ◌≤◌}
 use Rattle.std.specs.Prelude.{ℤ, pos, ◌+ℤ◌, ◌-ℤ◌, ◌*ℤ◌, ◌≤ℤ◌, unsigned_abs}
 use Rattle.std.proofs.lemmas.Int.{ints}
+use Rattle.std.proofs.Math.Nat.{add_comm}
 use Rattle.overlay_geometry.specs.Points.{Pair}
 use Rattle.overlay_geometry.proofs.laws.geometry.Polynomials.{as_D, diffs, D-eq, mul-nonneg, mul-le_left, cancel-le}
 use Rattle.overlay_base.specs.Places.{RationalPoint}
@@ -51,11 +52,8 @@ IsUnder-triangle h k u m v n w l p first second =
 pub AreClose-triangle : (h k : ℕ) (u : ℤ) (m : ℕ) (v : ℤ) (n : ℕ) (w : ℤ) (l : ℕ) → 0 < n → AreClose h u m v n → AreClose k v n w l → AreClose (h + k) u m w l
 AreClose-triangle h k u m v n w l p c d = record {
   low = IsUnder-triangle h k u m v n w l p c.low d.low;
-  high = let back = IsUnder-triangle k h w l v n u m p d.high c.high in subst (λ (i : ℕ). IsUnder i w l u m) (turned h k) back;
+  high = let back = IsUnder-triangle k h w l v n u m p d.high c.high in subst (λ (i : ℕ). IsUnder i w l u m) (add_comm k h) back;
 }
-  where
-    turned : (h k : ℕ) → k + h ≡ h + k
-    turned h k = omega arith
 
 -- ---- means
 

@@ -4,6 +4,7 @@ use Rattle.std.specs.Prelude.{IsTrue, IsFalse, Contains, length, nat_le}
 use Rattle.std.specs.List.{AllByRecursion}
 use Rattle.std.proofs.lemmas.Bool.{and_parts, and_cases, both_ways, cond_both, le-leb}
 use Rattle.std.proofs.lemmas.List.Elements.{All-from_recursion, recursion_from_All, All-contains}
+use Rattle.std.proofs.Math.Nat.{add_comm}
 use Rattle.overlay_geometry.specs.Points.{Point, Pair, is_ordered}
 use Rattle.overlay_base.specs.Segments.{WholeSegment, pairs, are_ordered}
 use Rattle.overlay_base.specs.Join.{join}
@@ -72,10 +73,7 @@ pass_stays_near placing segments ordered =
 HasNear-trans : (h k : ℕ) (given before : List Pair) (r : Pair) → LieNear h given before → HasNear k before r → HasNear (h + k) given r
 HasNear-trans h k given before r near (s, i, on) =
     let first = All-contains (HasNear h given) before s near i in
-    (first.0, first.1, subst (λ (n : ℕ). LiesNear n r first.0) (turned h k) (LiesNear-trans k h r s first.0 on first.2))
-  where
-    turned : (h k : ℕ) → k + h ≡ h + k
-    turned h k = omega arith
+    (first.0, first.1, subst (λ (n : ℕ). LiesNear n r first.0) (add_comm k h) (LiesNear-trans k h r s first.0 on first.2))
 
 LieNear-trans : (h k : ℕ) (given before result : List Pair) → LieNear h given before → LieNear k before result → LieNear (h + k) given result
 LieNear-trans h k given before result first second =

@@ -5,6 +5,7 @@ use Rattle.std.specs.List.{AllByRecursion}
 use Rattle.std.proofs.lemmas.Int.{ints, by_lt_z}
 use Rattle.std.proofs.lemmas.Bool.{cond_both, and_from}
 use Rattle.std.proofs.lemmas.List.Elements.{All-contains}
+use Rattle.std.proofs.Math.Nat.{add_comm}
 use Rattle.overlay_geometry.specs.Points.{Point, Pair, point_lt, is_ordered}
 use Rattle.overlay_base.specs.Windings.{Winding, empty, add, inverse, weight}
 use Rattle.overlay_base.specs.Segments.{WholeSegment, pairs, are_ordered}
@@ -210,10 +211,7 @@ IsFar-result : (h k : ℕ) (p : RationalPoint) (given result : List Pair) → Li
 IsFar-result h k p given result near far (r, i, (f, within)) =
     let first = All-contains (λ t. (s : Pair) × Contains given s × LiesNear h t s) result r near i in
     let on = first.2 f in
-    far (first.0, first.1, subst (λ (n : ℕ). IsNear n p first.0) (turned h k) (IsNear-from_point k h p (point_along r f) first.0 f.positive within on))
-  where
-    turned : (h k : ℕ) → k + h ≡ h + k
-    turned h k = omega arith
+    far (first.0, first.1, subst (λ (n : ℕ). IsNear n p first.0) (add_comm k h) (IsNear-from_point k h p (point_along r f) first.0 f.positive within on))
 
 pub run_keeps_winding : RunKeepsWinding
 unfolding after_passes reach_of_run
