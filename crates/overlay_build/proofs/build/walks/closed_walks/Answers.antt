@@ -1,4 +1,4 @@
-use Rattle.std.proofs.Common.{◌≡◌, ◌∙◌, ◌<◌, sym, ap, [], ◌∷◌, ◌++◌, map, length, replicate, false, arith}
+use Rattle.std.proofs.Common.{◌≡◌, ◌∙◌, ◌<◌, sym, ap, subst, [], ◌∷◌, ◌++◌, map, length, replicate, false, arith}
 use Rattle.std.proofs.lemmas.List.{length-map, map-append, get_or_default, with_items_is}
 use Rattle.overlay_build.specs.GraphOf.{link_of}
 use Rattle.overlay_build.specs.NodeIndexes.{indexes_of, is_canonical_node}
@@ -51,3 +51,21 @@ returns-clause-walks g c =
     let links = length-map graph.links.now (link_of whole) in
     let count = ap length c.links-count.ensures in
     HaveWalked-all (map (link_of whole) graph.links.now) (map indexes_of graph.nodes.now) c.loop-first.used.items c.loop-first.cursors.items _ c.loop-first.first c.loop-first.invariant (omega (arith, links, count, c.loop-first-test.false))
+
+pub index-requires : goal.index-requires
+index-requires g c =
+    let links = c.args.graph.now.links.now in
+    let many = c.loop-first.used.ok.0 ∙ c.loop-first.invariant.flags ∙ length-map links (link_of g.I.OverlayInt.whole) in
+    subst (λ n. c.loop-first.first < n) (ap length c.links-count.ensures ∙ sym many) c.loop-first-test.true
+
+pub walk_from-requires-clause-first : goal.walk_from-requires-clause-first
+walk_from-requires-clause-first g c = subst (λ n. c.loop-first.first < n) (ap length c.links-count.ensures) c.loop-first-test.true
+
+pub walk_from-requires-clause-flags : goal.walk_from-requires-clause-flags
+walk_from-requires-clause-flags g c = ap length c.deref_mut.ensures.value ∙ c.loop-first.invariant.flags ∙ length-map c.args.graph.now.links.now (link_of g.I.OverlayInt.whole)
+
+pub walk_from-requires-clause-passed : goal.walk_from-requires-clause-passed
+walk_from-requires-clause-passed g c = rw (c.deref_mut.ensures.value, c.deref_mut-then-not-index.ensures.value) c.loop-first.invariant.passed
+
+pub walk_from-requires-clause-even : goal.walk_from-requires-clause-even
+walk_from-requires-clause-even g c = rw c.deref_mut.ensures.value c.loop-first.invariant.even

@@ -1,4 +1,4 @@
-use Rattle.std.proofs.Common.{cond, ◌≡◌, ◌≢◌, ◌==◌, ◌∙◌, sym, ap, ℕ, ◌+◌, ◌<◌, ◌%◌, Bool, List, Some, [], map, length, get_or, set, true, false, not, refl, arith, get_or-set_same}
+use Rattle.std.proofs.Common.{cond, ◌≡◌, ◌≢◌, ◌==◌, ◌∙◌, sym, ap, subst, ℕ, ◌+◌, ◌<◌, ◌%◌, Bool, List, Some, [], map, length, get_or, set, true, false, not, refl, arith, get_or-set_same}
 use Rattle.std.specs.Prelude.{count_by}
 use Rattle.std.proofs.lemmas.Bool.{eqb-true, eq-eqb}
 use Rattle.std.proofs.lemmas.List.{length-map}
@@ -85,3 +85,33 @@ returns-clause-closed g c = closed_at _ _ c.loop-node.node c.loop-node.walk.item
 
 pub returns-clause-even : goal.returns-clause-even
 returns-clause-even g c = even_at _ c.loop-node.used _ c.loop-node.node c.loop-node.invariant.0.walking c.loop-node-test.false
+
+pub take_link-next-requires-clause-node : goal.take_link-next-requires-clause-node
+take_link-next-requires-clause-node g c = subst (λ n. c.loop-node.node < n) (length-map c.args.graph.now.nodes.now indexes_of) c.loop-node.invariant.0.node_in
+
+pub returns-clause-counted : goal.returns-clause-counted
+returns-clause-counted g c = c.loop-node.invariant.0.counted
+
+pub returns-clause-kept : goal.returns-clause-kept
+returns-clause-kept g c = c.loop-node.invariant.0.kept
+
+pub returns-clause-passed : goal.returns-clause-passed
+returns-clause-passed g c = c.loop-node.invariant.0.passed
+
+pub returns-clause-begun : goal.returns-clause-begun
+returns-clause-begun g c = c.loop-node.invariant.2
+
+pub take_link-next-requires-clause-flags : goal.take_link-next-requires-clause-flags
+take_link-next-requires-clause-flags g c = c.loop-node.invariant.0.flags ∙ length-map c.args.graph.now.links.now (link_of g.I.OverlayInt.whole)
+
+pub take_link-next-requires-clause-passed : goal.take_link-next-requires-clause-passed
+take_link-next-requires-clause-passed g c = c.loop-node.invariant.0.passed
+
+pub bounds-links-first : goal.bounds-links-first
+bounds-links-first g c = rw c.links-links.ensures c.requires.first
+
+pub bounds-links-next : goal.bounds-links-next
+bounds-links-next g c = rw c.links-links.ensures c.take_link-next.ensures.link
+
+pub bounds-used-first : goal.bounds-used-first
+bounds-used-first g c = rw c.requires.flags c.requires.first
