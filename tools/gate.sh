@@ -31,18 +31,9 @@ elif (($#)); then
 fi
 
 python3 tools/unused_lemmas.py
-
-# Left alone, `rt ci` sets how many checks run side by side by an estimate of memory two or three times above what they
-# take. Here it is one a processor, as long as each has four gigabytes; the largest check takes less than three.
-available=$(awk '/^MemAvailable:/ { print $2 }' /proc/meminfo)
-rooms=$((available / 4000000))
-lanes=$(nproc)
-if ((lanes > rooms)); then lanes=$((rooms > 0 ? rooms : 1)); fi
-export RT_JOBS="${RT_JOBS:-$lanes}"
-
 rt ci | while IFS= read -r line; do
     case $line in
-    *" proved" | *" NOT PROVED" | *"trying its must-fail edits"*) printf '%5d s: %s\n' "$SECONDS" "$line" ;;
+    "rt: "*" proved" | "rt: "*" NOT PROVED" | "rt: "*"trying its must-fail edits"*) printf '%5d s: %s\n' "$SECONDS" "$line" ;;
     *) printf '%s\n' "$line" ;;
     esac
 done
