@@ -1,6 +1,6 @@
 -- Data that segments carry, and the hooks that are called where segments are turned, split and merged.
 -- Each hook is a function of its arguments and of a store, and answers the new store beside its result.
-use Rattle.std.specs.Prelude.{◌≡◌, ℕ, ◌+◌, ◌<◌, true, false, IsTrue, IsFalse, List, [], ◌∷◌, map, filter, length, take, if◌then◌else◌}
+use Rattle.std.specs.Prelude.{◌≡◌, ℕ, Bool, ◌+◌, ◌<◌, true, false, IsTrue, IsFalse, List, [], ◌∷◌, map, filter, length, take, if◌then◌else◌}
 use Rattle.overlay_geometry.specs.Points.{Point, Pair, point_lt, pair_cmp, pair_eq}
 use Rattle.overlay_geometry.specs.Sorting.{stably_sorted}
 use Rattle.overlay_base.specs.Windings.{Winding, add, inverse, is_not_empty}
@@ -31,6 +31,19 @@ pub record Hooks (D S : Type 0) : Type 0 where
   pub reversed : D → S → D × S
   pub split : SplitCall D → S → (D × D) × S
   pub merge : MergeCall D → S → D × S
+
+-- The store is what calls of the hooks, one after another, make of an earlier one.
+pub data IsMadeFrom {D S : Type 0} (hooks : Hooks D S) (from : S) : S → Type 0 where
+  no_call : IsMadeFrom hooks from from
+  after_reversed : {store : S} (edge_data : D) → IsMadeFrom hooks from store → IsMadeFrom hooks from (hooks.reversed edge_data store).1
+  after_split : {store : S} (call : SplitCall D) → IsMadeFrom hooks from store → IsMadeFrom hooks from (hooks.split call store).1
+  after_merge : {store : S} (call : MergeCall D) → IsMadeFrom hooks from store → IsMadeFrom hooks from (hooks.merge call store).1
+
+-- what each hook keeps of the store that it is given
+pub record HooksKeepStore {D S : Type 0} (hooks : Hooks D S) (holds : S → Bool) : Type 0 where
+  pub reversed : (edge_data : D) (store : S) → IsTrue (holds store) → IsTrue (holds (hooks.reversed edge_data store).1)
+  pub split : (call : SplitCall D) (store : S) → IsTrue (holds store) → IsTrue (holds (hooks.split call store).1)
+  pub merge : (call : MergeCall D) (store : S) → IsTrue (holds store) → IsTrue (holds (hooks.merge call store).1)
 
 -- a sum alone in a list, or nothing where it is empty
 abbrev pub kept_sum : {D : Type 0} → DataSegment D → List (DataSegment D)

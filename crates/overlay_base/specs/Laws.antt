@@ -15,7 +15,7 @@ use Rattle.overlay_base.specs.Balance.{IsBalanced, KeepsBalance}
 use Rattle.overlay_base.specs.Places.{RationalPoint, winding_below}
 use Rattle.overlay_base.specs.Rays.{is_on_none, winding_above, winding_left, winding_right}
 use Rattle.overlay_base.specs.BalanceTest.{end_counts}
-use Rattle.overlay_base.specs.EdgeData.{Hooks, DataSegment, without_data, data_join}
+use Rattle.overlay_base.specs.EdgeData.{Hooks, DataSegment, IsMadeFrom, HooksKeepStore, without_data, data_join}
 
 -- ---- counts
 
@@ -110,6 +110,11 @@ StableSortKeepsSums =
 -- whatever the hooks do, the join with data is, without its data, the join
 abbrev pub DataJoinIsBeside : (D S : Type 0) → Type 0
 DataJoinIsBeside D S = (hooks : Hooks D S) (segments : List (DataSegment D)) (store : S) → without_data (data_join hooks segments store).0 ≡ join (without_data segments)
+
+-- what holds of a store, and is kept by every hook, holds of what calls of the hooks make of it
+abbrev pub StoreKeepsWhatHooksKeep : (D S : Type 0) → Type 0
+StoreKeepsWhatHooksKeep D S =
+    (hooks : Hooks D S) (holds : S → Bool) → HooksKeepStore hooks holds → (from left : S) → IsMadeFrom hooks from left → IsTrue (holds from) → IsTrue (holds left)
 
 -- ---- stable sorts
 

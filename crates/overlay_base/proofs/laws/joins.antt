@@ -12,3 +12,4 @@ pub mod DataWalks
 pub mod Merges
 pub mod Stops
 pub mod Views
+pub mod Stores

@@ -1,10 +1,10 @@
 // The join of a list in any order. Upstream: the sort and the merge with which `split::solver` begins, and with which
 // each of its passes ends.
 ghost use Rattle.std.specs.Prelude.{◌≡◌, [], All, IsTrue, IsFalse, IfOk, OnOk, IfErr, OnErr};
-ghost use Rattle.overlay_base.specs.declared.segm.fault.Fault.TheVariants.{CountOutOfRange};
+ghost use Rattle.overlay_base.specs.declared.segm.fault.Fault.TheVariants.{Memory, CountOutOfRange};
 ghost use Rattle.overlay_base.specs.Windings.{is_valid};
 ghost use Rattle.overlay_base.specs.Join.{join, join_leaves_range, has_equal_pairs};
-ghost use Rattle.overlay_base.specs.EdgeData.{data_join, IsRefusedJoin};
+ghost use Rattle.overlay_base.specs.EdgeData.{data_join, IsMadeFrom, IsRefusedJoin};
 ghost use Rattle.overlay_base.specs.HooksOf.{hooks_of};
 ghost use Rattle.overlay_base.specs.SegmentOf.{winding_of, segments_of, data_segments_of};
 
@@ -21,8 +21,8 @@ use overlay_geometry::num::OverlayInt;
 ///
 /// Answers `Fault::CountOutOfRange` only where a running sum of the counts on one pair leaves
 /// `-i32::MAX..=i32::MAX`, and, memory being found, wherever one does; the store is then what the hooks called before
-/// that sum left. Answers `Fault::Memory` where a growth is refused. Where a call is refused the list is empty. This
-/// project's own: upstream sorts and merges in each place.
+/// that sum left. Answers `Fault::Memory` where a growth is refused; the store is then as it was. Where a call is
+/// refused the list is empty. This project's own: upstream sorts and merges in each place.
 pub fn join_with_store<C: WindingCount, I: OverlayInt, D: OverlayEdgeData<C>>(
     list: &mut Vec<Segment<C, I, D>>,
     store: &mut D::Store,
@@ -44,6 +44,8 @@ pub fn join_with_store<C: WindingCount, I: OverlayInt, D: OverlayEdgeData<C>>(
     ensures stopped { IfErr result (λ fault. fault ≡ CountOutOfRange →
         (let hooks = hooks_of C.counted D.OverlayEdgeData.own in
         IsRefusedJoin hooks (data_segments_of list.old.items) store.old store.new)) }
+    ensures store_kept { IfErr result (λ fault. fault ≡ Memory → store.new ≡ store.old) }
+    ensures store_made { IsMadeFrom (hooks_of C.counted D.OverlayEdgeData.own) store.old store.new }
 {
     sort_by_ab(list)?;
     merge_if_needed_with_store(list, store)

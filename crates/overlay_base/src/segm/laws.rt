@@ -3,7 +3,7 @@
 ghost use Rattle.overlay_base.specs.Laws.{CountsAddUp, InverseCancels, PolygonCountsAreGroup, InverseTwice, InverseOfSum};
 ghost use Rattle.overlay_base.specs.Laws.{JoinIsMap, MapIsItsWindings, JoinIsOnlyMap, JoinDependsOnWindings, JoinOfJoin, JoinOfMap, JoinOfParts, JoinOfPart, JoinOfPermutation, JoinHoldsPair, JoinIsNoLonger, NumbersAreLinear, JoinKeepsSums, JoinKeepsBalance, StableSortKeepsSums, NeighborsTellEqualPairs};
 ghost use Rattle.overlay_base.specs.Laws.{BalanceIsTested, BalancedLosesNothing, AnyRayWillDo};
-ghost use Rattle.overlay_base.specs.Laws.{DataJoinIsBeside, StableSortIsUnique, StablySortedIsStable};
+ghost use Rattle.overlay_base.specs.Laws.{DataJoinIsBeside, StoreKeepsWhatHooksKeep, StableSortIsUnique, StablySortedIsStable};
 
 /// Counts are a commutative monoid, and those without a mask a group. A valid count is its inverse's inverse, and an
 /// inverted sum is the sum of the inverted.
@@ -64,9 +64,11 @@ pub fn equal_pair_laws()
     ensures { NeighborsTellEqualPairs }
 {}
 
-/// Whatever the hooks do, the join with data is, without its data, the join.
+/// Whatever the hooks do, the join with data is, without its data, the join. Whatever holds of a store and is kept by
+/// every hook holds of what calls of the hooks make of it.
 pub fn data_join_laws<D, S>()
-    ensures { DataJoinIsBeside D S }
+    ensures beside { DataJoinIsBeside D S }
+    ensures keeps { StoreKeepsWhatHooksKeep D S }
 {}
 
 /// A list has one stable sort.

@@ -13,3 +13,4 @@ pub mod Splitting
 pub mod Ready
 pub mod GridRuns
 pub mod RunLooks
+pub mod Stores

@@ -3,6 +3,7 @@ ghost use Rattle.std.specs.List.{AllWithin, HoldsAt};
 ghost use Rattle.std.specs.Prelude.{◌≡◌, ◌<◌, All, take, drop, IsTrue, ◌≤◌, ◌≢◌, slice_index_or, OnOk, IfErr, length};
 ghost use Rattle.overlay_base.specs.declared.segm.fault.Fault.TheVariants.{Memory};
 ghost use Rattle.overlay_base.specs.Windings.{is_valid};
+ghost use Rattle.overlay_base.specs.EdgeData.{IsMadeFrom};
 ghost use Rattle.overlay_base.specs.HooksOf.{hooks_of};
 ghost use Rattle.overlay_base.specs.SegmentOf.{ends_of, winding_of, data_segments_of};
 ghost use Rattle.overlay_split.specs.steps.PathSteps.{IsPathOf};
@@ -39,6 +40,7 @@ pub fn cut_segment<C: WindingCount, I: OverlayInt, D: OverlayEdgeData<C>>(
         (let hooks = hooks_of C.counted D.OverlayEdgeData.own in
         store.new ≡ (data_cut_at hooks index (points_of I.whole path.now)
         (data_segments_of list.old.items) store.old).1) }
+    ensures store_made { IsMadeFrom (hooks_of C.counted D.OverlayEdgeData.own) store.old store.new }
     ensures fault { IfErr result (λ fault. fault ≡ Memory) }
 {
     let Some((first, later)) = path.split_first() else {

@@ -5,7 +5,7 @@ ghost use Rattle.overlay_base.specs.declared.segm.fault.Fault.TheVariants.{Memor
 ghost use Rattle.overlay_base.specs.Segments.{pairs, is_map};
 ghost use Rattle.overlay_base.specs.ArrangedOf.{IsSplittable};
 ghost use Rattle.overlay_base.specs.Join.{join_leaves_range};
-ghost use Rattle.overlay_base.specs.EdgeData.{IsRefusedJoin};
+ghost use Rattle.overlay_base.specs.EdgeData.{IsMadeFrom, IsRefusedJoin};
 ghost use Rattle.overlay_base.specs.HooksOf.{hooks_of};
 ghost use Rattle.overlay_base.specs.SegmentOf.{segments_of, data_segments_of};
 ghost use Rattle.overlay_base.specs.Choices.{list_splits};
@@ -69,8 +69,8 @@ pub struct Passed {
 ///
 /// Answers `Fault::CountOutOfRange` only where a running sum of the counts of pieces on one pair leaves
 /// `-i32::MAX..=i32::MAX`, and, memory being found, wherever one does; the store is then what the hooks called before
-/// that sum left. Answers `Fault::Memory` where a growth is refused; nothing is promised of the store then. Where a
-/// call is refused the list is empty, and the finder keeps its solver and its grid.
+/// that sum left. Answers `Fault::Memory` where a growth is refused; the store is then what the hooks called so far
+/// left. Where a call is refused the list is empty, and the finder keeps its solver and its grid.
 pub fn pass<C: WindingCount, I: OverlayInt, D: OverlayEdgeData<C>>(
     list: &mut Vec<Segment<C, I, D>>,
     placing: Placing,
@@ -108,6 +108,7 @@ pub fn pass<C: WindingCount, I: OverlayInt, D: OverlayEdgeData<C>>(
         (let hooks = hooks_of C.counted D.OverlayEdgeData.own in
         let pieces = data_cut hooks (placing_of placing) (data_segments_of list.old.items) store.old in
         IsRefusedJoin hooks pieces.0 pieces.1 store.new)) }
+    ensures store_made { IsMadeFrom (hooks_of C.counted D.OverlayEdgeData.own) store.old store.new }
 {
     let passed = match cut_at_marks(list, placing, finder, buffers, store) {
         Ok(passed) => passed,
@@ -147,6 +148,7 @@ fn cut_at_marks<C: WindingCount, I: OverlayInt, D: OverlayEdgeData<C>>(
     ensures looked { IsFalse (list_splits (solver_in finder.old).strategy (length list.old.items)) →
         OnOk result (looks_in finder.new ≤ looks_in finder.old
         + pass_looks (layout_in finder.old) (pairs (segments_of list.old.items))) }
+    ensures store_made { IsMadeFrom (hooks_of C.counted D.OverlayEdgeData.own) store.old store.new }
     ensures fault { IfErr result (λ fault. fault ≡ Memory) }
 {
     let PassBuffers { marks, path, tree } = buffers;

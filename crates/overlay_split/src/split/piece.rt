@@ -3,6 +3,7 @@ ghost use Rattle.std.specs.Prelude.{◌≡◌, ◌++◌, IsTrue, OnOk, IfErr};
 ghost use Rattle.overlay_base.specs.declared.segm.fault.Fault.TheVariants.{Memory};
 ghost use Rattle.overlay_base.specs.Windings.{is_valid};
 ghost use Rattle.overlay_geometry.specs.PointOf.{point_of};
+ghost use Rattle.overlay_base.specs.EdgeData.{IsMadeFrom};
 ghost use Rattle.overlay_base.specs.HooksOf.{hooks_of};
 ghost use Rattle.overlay_base.specs.SegmentOf.{data_segments_of};
 ghost use Rattle.overlay_split.specs.Path.{last_point, LeadsOn};
@@ -42,6 +43,7 @@ pub fn push_pieces<C: WindingCount, I: OverlayInt, D: OverlayEdgeData<C>>(
         let b = last_point (point_of I.whole from) (points_of I.whole path.now) in
         store.new ≡ (data_pieces hooks (C.winding count) (point_of I.whole from)
         (points_of I.whole path.now) b edge_data store.old).1) }
+    ensures store_made { IsMadeFrom (hooks_of C.counted D.OverlayEdgeData.own) store.old store.new }
     ensures fault { IfErr result (λ fault. fault ≡ Memory) }
 {
     let Some((b, marks)) = path.split_last() else {

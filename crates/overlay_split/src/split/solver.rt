@@ -8,7 +8,7 @@ ghost use Rattle.overlay_base.specs.Segments.{pairs, ends, is_map};
 ghost use Rattle.overlay_base.specs.ArrangedOf.{IsSplittable, IsArranged};
 ghost use Rattle.overlay_base.specs.Join.{join, join_leaves_range};
 ghost use Rattle.overlay_base.specs.Balance.{KeepsBalance};
-ghost use Rattle.overlay_base.specs.EdgeData.{IsRefusedJoin};
+ghost use Rattle.overlay_base.specs.EdgeData.{IsMadeFrom, IsRefusedJoin};
 ghost use Rattle.overlay_base.specs.HooksOf.{hooks_of};
 ghost use Rattle.overlay_base.specs.SegmentOf.{segments_of, data_segments_of, x_segment_of};
 ghost use Rattle.overlay_base.specs.Radius.{exponent_of, squared_radius};
@@ -197,8 +197,8 @@ impl<I: OverlayInt> SplitSolver<I> {
     /// Answers `Fault::CountOutOfRange` only where a running sum of counts on one pair of ends leaves
     /// `-i32::MAX..=i32::MAX`, in the given list or among the pieces of a pass, and, memory being found, wherever one
     /// does; the store is then what the hooks called before that sum left. Answers `Fault::Memory` where a growth is
-    /// refused; nothing is promised of the store then. Where a call is refused the list is empty, `passes` and `looked`
-    /// are as they were, and the splitter can be used again.
+    /// refused; the store is then what the hooks called so far left, so what each hook keeps of it still holds. Where a
+    /// call is refused the list is empty, `passes` and `looked` are as they were, and the splitter can be used again.
     pub fn split_segments_with_store<C: WindingCount, D: OverlayEdgeData<C>>(
         &mut self,
         list: &mut Vec<Segment<C, I, D>>,
@@ -247,6 +247,7 @@ impl<I: OverlayInt> SplitSolver<I> {
             (let hooks = hooks_of C.counted D.OverlayEdgeData.own in
             IsStoppedRun hooks (settings_of I.BITS solver.now self.old) (data_segments_of list.old.items)
             store.old store.new)) }
+        ensures store_made { IsMadeFrom (hooks_of C.counted D.OverlayEdgeData.own) store.old store.new }
         ensures passes { OnErr result (passes_of self.new ≡ passes_of self.old) }
         ensures looked { HasNoListPass solver.now.strategy (settings_of I.BITS solver.now self.old)
             (segments_of list.old.items) (passes_of self.new) →
@@ -340,6 +341,7 @@ impl Progress {
             (let hooks = hooks_of C.counted D.OverlayEdgeData.own in
             let pieces = data_cut hooks (placing_of placing) (data_segments_of list.old.items) store.old in
             IsRefusedJoin hooks pieces.0 pieces.1 store.new)) }
+        ensures store_made { IsMadeFrom (hooks_of C.counted D.OverlayEdgeData.own) store.old store.new }
     {
         let passed = pass(list, placing, finder, buffers, store)?;
         Ok(Progress {

@@ -6,6 +6,8 @@ use Rattle.overlay_base.specs.Windings.{is_valid}
 use Rattle.overlay_base.specs.HooksOf.{hooks_of}
 use Rattle.overlay_base.specs.SegmentOf.{segment_of, winding_of, data_segment_of}
 use Rattle.overlay_base.proofs.laws.joins.SortedJoins.{join_leaves_range-sorted, join-sorted, has_equal_neighbors-moved, data-sorted, data_join-sorted}
+use Rattle.overlay_base.specs.EdgeData.IsMadeFrom.{no_call}
+use Rattle.overlay_base.proofs.laws.joins.Stores.{made_by_merge}
 use Rattle.overlay_base.proofs.segm.join.join_with_store.Goals as goal
 
 pub merge_if_needed_with_store-requires-clause-valid : goal.merge_if_needed_with_store-requires-clause-valid
@@ -59,3 +61,10 @@ pub returns-clause-stopped : goal.returns-clause-stopped
 returns-clause-stopped g c =
     let sorted = c.in_ok-sort_by_ab.ensures in
     rw (sym (data-sorted data_segment_of c.args.list.now.items c.sort_by_ab.new.list.items sorted.sorted sorted.in_order)) (on_error _ _ c.merge_if_needed_with_store.result c.merge_if_needed_with_store.ensures.stopped)
+
+pub returns-in_err-sort_by_ab-clause-store_made : goal.returns-in_err-sort_by_ab-clause-store_made
+returns-in_err-sort_by_ab-clause-store_made g c = no_call
+
+pub returns-clause-store_made : goal.returns-clause-store_made
+returns-clause-store_made g c =
+    made_by_merge _ c.merge_if_needed_with_store.result _ _ _ c.merge_if_needed_with_store.ensures.store c.merge_if_needed_with_store.ensures.stopped

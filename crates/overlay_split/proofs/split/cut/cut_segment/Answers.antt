@@ -13,6 +13,10 @@ use Rattle.std.proofs.lemmas.List.{length-map}
 use Rattle.overlay_base.specs.EdgeData.{DataSegment}
 use Rattle.overlay_split.proofs.laws.passes.PieceSteps.{pieces-step, last_point-next}
 use Rattle.overlay_split.proofs.laws.passes.CutSteps.{data_cut_at-done, All-at_out}
+use Rattle.overlay_base.specs.EdgeData.{SplitCall}
+use Rattle.overlay_base.specs.EdgeData.IsMadeFrom.{no_call}
+use Rattle.overlay_base.proofs.laws.joins.Stores.{made_further}
+use Rattle.overlay_split.proofs.laws.passes.Stores.{made_with_split, made_with_piece}
 use Rattle.overlay_split.proofs.split.cut.cut_segment.Goals as goal
 
 pub create_and_validate_with_data-requires-clause-ends : goal.create_and_validate_with_data-requires-clause-ends
@@ -79,3 +83,15 @@ returns-clause-segments g c = rw (cut_is g c) (c.push_pieces.ensures.pieces)
 
 pub returns-clause-store : goal.returns-clause-store
 returns-clause-store g c = rw (cut_is g c) (c.push_pieces.ensures.store)
+
+pub returns-in_default-clause-store_made : goal.returns-in_default-clause-store_made
+returns-in_default-clause-store_made g c = no_call
+
+pub returns-clause-store_made : goal.returns-clause-store_made
+returns-clause-store_made g c =
+    let f = point_of g.I.OverlayInt.whole in
+    let hooks = hooks_of g.C.WindingCount.counted g.D.OverlayEdgeData in
+    let call : SplitCall g.row.D.Denot = record { edge_data = c.edge_data.result; a = f c.x_segment.result.a; p = f c.in-Some.first.now; b = f c.x_segment.result.b } in
+    let split = made_with_split hooks call no_call c.split.new.store c.split.ensures.store in
+    let first = made_with_piece hooks _ _ _ _ split c.create_and_validate_with_data.new.store c.create_and_validate_with_data.ensures.store in
+    made_further hooks first c.push_pieces.ensures.store_made

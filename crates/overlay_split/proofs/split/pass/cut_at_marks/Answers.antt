@@ -16,6 +16,8 @@ use Rattle.overlay_split.proofs.laws.passes.CutLists.{path_at}
 use Rattle.overlay_split.specs.steps.PathSteps.{IsPathOf}
 use Rattle.overlay_split.specs.steps.DataCutAt.{data_cut_at}
 use Rattle.std.proofs.lemmas.List.{length-map}
+use Rattle.overlay_base.specs.EdgeData.IsMadeFrom.{no_call}
+use Rattle.overlay_base.proofs.laws.joins.Stores.{made_further}
 use Rattle.overlay_split.proofs.split.pass.cut_at_marks.Goals as goal
 
 pub find_marks-requires-clause-sorted : goal.find_marks-requires-clause-sorted
@@ -33,23 +35,26 @@ loop-first-init g c =
     let whole = g.I.OverlayInt.whole in
     let found = subst (λ l. AreMarks (placing_of c.args.placing) (segments_of l) (marks_of whole c.find_marks.new.marks.items)) c.as_slice.ensures.value c.in_ok-is_rounded.ensures.marks in
     let all = subst (λ l. AreMarks (placing_of c.args.placing) (segments_of items) (marks_of whole l)) (sym c.as_slice-rest.ensures.value) found in
-    IsCutSoFar-start _ (placing_of c.args.placing) _ (data_segments_of items) (segments_of-bare items) c.args.store.now _ all
+    record {
+      cut = IsCutSoFar-start _ (placing_of c.args.placing) _ (data_segments_of items) (segments_of-bare items) c.args.store.now _ all;
+      made = no_call;
+    }
 
 pub index-requires : goal.index-requires
 index-requires g c =
-    let at = IsAtMark-from _ _ _ _ data_segment_of (mark_of g.I.OverlayInt.whole) (IsUsable-each c.args.list.now.items _ _ c.requires.splittable) c.loop-first.list.items c.loop-first.rest.now c.loop-first.store c.loop-first.invariant
+    let at = IsAtMark-from _ _ _ _ data_segment_of (mark_of g.I.OverlayInt.whole) (IsUsable-each c.args.list.now.items _ _ c.requires.splittable) c.loop-first.list.items c.loop-first.rest.now c.loop-first.store c.loop-first.invariant.cut
     c.in-Some.first.now (sym c.in-Some.ensures.value) c.index_len.result c.index_len.ensures.within c.index_len.ensures.own c.index_len.ensures.later in
     subst (λ n. c.in-Some.first.now.index < n) (sym c.loop-first.list.ok.0) at.inside
 
 pub cut_segment-requires-clause-index : goal.cut_segment-requires-clause-index
 cut_segment-requires-clause-index g c =
-    let at = IsAtMark-from _ _ _ _ data_segment_of (mark_of g.I.OverlayInt.whole) (IsUsable-each c.args.list.now.items _ _ c.requires.splittable) c.loop-first.list.items c.loop-first.rest.now c.loop-first.store c.loop-first.invariant
+    let at = IsAtMark-from _ _ _ _ data_segment_of (mark_of g.I.OverlayInt.whole) (IsUsable-each c.args.list.now.items _ _ c.requires.splittable) c.loop-first.list.items c.loop-first.rest.now c.loop-first.store c.loop-first.invariant.cut
     c.in-Some.first.now (sym c.in-Some.ensures.value) c.index_len.result c.index_len.ensures.within c.index_len.ensures.own c.index_len.ensures.later in
     at.inside
 
 pub cut_segment-requires-clause-valid : goal.cut_segment-requires-clause-valid
 cut_segment-requires-clause-valid g c =
-    let at = IsAtMark-from _ _ _ _ data_segment_of (mark_of g.I.OverlayInt.whole) (IsUsable-each c.args.list.now.items _ _ c.requires.splittable) c.loop-first.list.items c.loop-first.rest.now c.loop-first.store c.loop-first.invariant
+    let at = IsAtMark-from _ _ _ _ data_segment_of (mark_of g.I.OverlayInt.whole) (IsUsable-each c.args.list.now.items _ _ c.requires.splittable) c.loop-first.list.items c.loop-first.rest.now c.loop-first.store c.loop-first.invariant.cut
     c.in-Some.first.now (sym c.in-Some.ensures.value) c.index_len.result c.index_len.ensures.within c.index_len.ensures.own c.index_len.ensures.later in
     let items = c.loop-first.list.items in
     let here = at.here c.index.result.now c.index.ensures in
@@ -57,7 +62,7 @@ cut_segment-requires-clause-valid g c =
 
 pub cut_segment-requires-clause-steps : goal.cut_segment-requires-clause-steps
 cut_segment-requires-clause-steps g c =
-    let at = IsAtMark-from _ _ _ _ data_segment_of (mark_of g.I.OverlayInt.whole) (IsUsable-each c.args.list.now.items _ _ c.requires.splittable) c.loop-first.list.items c.loop-first.rest.now c.loop-first.store c.loop-first.invariant
+    let at = IsAtMark-from _ _ _ _ data_segment_of (mark_of g.I.OverlayInt.whole) (IsUsable-each c.args.list.now.items _ _ c.requires.splittable) c.loop-first.list.items c.loop-first.rest.now c.loop-first.store c.loop-first.invariant.cut
     c.in-Some.first.now (sym c.in-Some.ensures.value) c.index_len.result c.index_len.ensures.within c.index_len.ensures.own c.index_len.ensures.later in
     let whole = g.I.OverlayInt.whole in
     let f = point_of whole in
@@ -73,7 +78,7 @@ cut_segment-requires-clause-steps g c =
 
 pub cut_segment-requires-clause-path : goal.cut_segment-requires-clause-path
 cut_segment-requires-clause-path g c =
-    let at = IsAtMark-from _ _ _ _ data_segment_of (mark_of g.I.OverlayInt.whole) (IsUsable-each c.args.list.now.items _ _ c.requires.splittable) c.loop-first.list.items c.loop-first.rest.now c.loop-first.store c.loop-first.invariant
+    let at = IsAtMark-from _ _ _ _ data_segment_of (mark_of g.I.OverlayInt.whole) (IsUsable-each c.args.list.now.items _ _ c.requires.splittable) c.loop-first.list.items c.loop-first.rest.now c.loop-first.store c.loop-first.invariant.cut
     c.in-Some.first.now (sym c.in-Some.ensures.value) c.index_len.result c.index_len.ensures.within c.index_len.ensures.own c.index_len.ensures.later in
     let whole = g.I.OverlayInt.whole in
     let f = point_of whole in
@@ -90,13 +95,13 @@ cut_segment-requires-clause-path g c =
 
 pub loop-first-smaller : goal.loop-first-smaller
 loop-first-smaller g c =
-    let at = IsAtMark-from _ _ _ _ data_segment_of (mark_of g.I.OverlayInt.whole) (IsUsable-each c.args.list.now.items _ _ c.requires.splittable) c.loop-first.list.items c.loop-first.rest.now c.loop-first.store c.loop-first.invariant
+    let at = IsAtMark-from _ _ _ _ data_segment_of (mark_of g.I.OverlayInt.whole) (IsUsable-each c.args.list.now.items _ _ c.requires.splittable) c.loop-first.list.items c.loop-first.rest.now c.loop-first.store c.loop-first.invariant.cut
     c.in-Some.first.now (sym c.in-Some.ensures.value) c.index_len.result c.index_len.ensures.within c.index_len.ensures.own c.index_len.ensures.later in
     rw (c.split_at.ensures.back) (fewer_left (λ y. (mark_of g.I.OverlayInt.whole y).point) c.index_len.result c.loop-first.rest.now at.some)
 
 pub loop-first-preserved : goal.loop-first-preserved
 loop-first-preserved g c =
-    let at = IsAtMark-from _ _ _ _ data_segment_of (mark_of g.I.OverlayInt.whole) (IsUsable-each c.args.list.now.items _ _ c.requires.splittable) c.loop-first.list.items c.loop-first.rest.now c.loop-first.store c.loop-first.invariant
+    let at = IsAtMark-from _ _ _ _ data_segment_of (mark_of g.I.OverlayInt.whole) (IsUsable-each c.args.list.now.items _ _ c.requires.splittable) c.loop-first.list.items c.loop-first.rest.now c.loop-first.store c.loop-first.invariant.cut
     c.in-Some.first.now (sym c.in-Some.ensures.value) c.index_len.result c.index_len.ensures.within c.index_len.ensures.own c.index_len.ensures.later in
     let whole = g.I.OverlayInt.whole in
     let f = point_of whole in
@@ -110,14 +115,17 @@ loop-first-preserved g c =
     let index = c.in-Some.first.now.index in
     let done = data_cut_at hooks index (points_of whole c.as_slice-in-Some.result.now) (data_segments_of c.loop-first.list.items) c.loop-first.store in
     let put : (data_segments_of c.cut_segment.new.list.items, c.cut_segment.new.store) ≡ done = λ i. (c.in_ok-cut_segment.ensures.segments i, c.in_ok-cut_segment.ensures.store i) in
-    rw (c.split_at.ensures.back) (at.next c.cut_segment.new.list.items c.cut_segment.new.store (put ∙ ap (λ l. data_cut_at hooks index l (data_segments_of c.loop-first.list.items) c.loop-first.store) road))
+    record {
+      cut = rw (c.split_at.ensures.back) (at.next c.cut_segment.new.list.items c.cut_segment.new.store (put ∙ ap (λ l. data_cut_at hooks index l (data_segments_of c.loop-first.list.items) c.loop-first.store) road));
+      made = made_further hooks c.loop-first.invariant.made c.in_ok-cut_segment.ensures.store_made;
+    }
 
 pub returns-clause-list : goal.returns-clause-list
 returns-clause-list g c =
     let hooks = hooks_of g.C.WindingCount.counted g.D.OverlayEdgeData in
     let items = c.args.list.now.items in
     let none = ap (marks_of g.I.OverlayInt.whole) (none_left c.loop-first.rest.now (sym c.in_default.ensures.value)) in
-    let done = IsCutSoFar-end hooks (placing_of c.args.placing) _ (data_segments_of items) (segments_of-bare items) c.args.store.now (IsUsable-each items _ _ c.requires.splittable) _ none _ _ c.loop-first.invariant in
+    let done = IsCutSoFar-end hooks (placing_of c.args.placing) _ (data_segments_of items) (segments_of-bare items) c.args.store.now (IsUsable-each items _ _ c.requires.splittable) _ none _ _ c.loop-first.invariant.cut in
     ap (λ v. v.0) done
 
 pub returns-clause-store : goal.returns-clause-store
@@ -125,7 +133,7 @@ returns-clause-store g c =
     let hooks = hooks_of g.C.WindingCount.counted g.D.OverlayEdgeData in
     let items = c.args.list.now.items in
     let none = ap (marks_of g.I.OverlayInt.whole) (none_left c.loop-first.rest.now (sym c.in_default.ensures.value)) in
-    let done = IsCutSoFar-end hooks (placing_of c.args.placing) _ (data_segments_of items) (segments_of-bare items) c.args.store.now (IsUsable-each items _ _ c.requires.splittable) _ none _ _ c.loop-first.invariant in
+    let done = IsCutSoFar-end hooks (placing_of c.args.placing) _ (data_segments_of items) (segments_of-bare items) c.args.store.now (IsUsable-each items _ _ c.requires.splittable) _ none _ _ c.loop-first.invariant.cut in
     ap (λ v. v.1) done
 
 pub returns-clause-marked : goal.returns-clause-marked
@@ -136,3 +144,16 @@ returns-clause-marked g c =
     let marks = c.find_marks.new.marks in
     let length_is : length (marks_of whole marks.items) ≡ vec_len marks = length-map marks.items (mark_of whole) ∙ sym marks.ok.0 in
     marks_tell (placing_of c.args.placing) (segments_of items) (marks_of whole marks.items) found (vec_len marks) length_is c.is_empty.result c.is_empty.ensures
+
+pub returns-in_err-is_rounded-clause-store_made : goal.returns-in_err-is_rounded-clause-store_made
+returns-in_err-is_rounded-clause-store_made g c = no_call
+
+pub returns-in_err-collect_path-clause-store_made : goal.returns-in_err-collect_path-clause-store_made
+returns-in_err-collect_path-clause-store_made g c = c.loop-first.invariant.made
+
+pub returns-in_err-cut_segment-clause-store_made : goal.returns-in_err-cut_segment-clause-store_made
+returns-in_err-cut_segment-clause-store_made g c =
+    made_further (hooks_of g.C.WindingCount.counted g.D.OverlayEdgeData) c.loop-first.invariant.made c.in_err-cut_segment.ensures.store_made
+
+pub returns-clause-store_made : goal.returns-clause-store_made
+returns-clause-store_made g c = c.loop-first.invariant.made

@@ -1,4 +1,5 @@
 use Rattle.std.proofs.Common.{length}
+use Rattle.overlay_base.specs.EdgeData.{IsMadeFrom}
 use Rattle.overlay_base.specs.HooksOf.{hooks_of}
 use Rattle.overlay_base.specs.SegmentOf.{data_segments_of}
 use Rattle.overlay_intersections.specs.PlacingOf.{placing_of}
@@ -10,7 +11,10 @@ abbrev pub invariant-loop-first : goal.invariant-loop-first
 invariant-loop-first g l =
     let hooks = hooks_of g.C.WindingCount.counted g.D.OverlayEdgeData in
     let given = data_segments_of l.fn.list.items in
-    IsCutSoFar hooks (marks_in (placing_of l.fn.placing) given) given l.fn.store (marks_of g.I.OverlayInt.whole l.rest) (data_segments_of l.list.items) l.store
+    record {
+      cut : IsCutSoFar hooks (marks_in (placing_of l.fn.placing) given) given l.fn.store (marks_of g.I.OverlayInt.whole l.rest) (data_segments_of l.list.items) l.store;
+      made : IsMadeFrom hooks l.fn.store l.store;
+    }
 
 abbrev pub decreases-loop-first : goal.decreases-loop-first
 decreases-loop-first g l = length l.rest

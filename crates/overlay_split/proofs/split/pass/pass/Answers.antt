@@ -8,6 +8,7 @@ use Rattle.overlay_split.specs.DataPass.{data_pass}
 use Rattle.overlay_split.proofs.laws.passes.DataPasses.{bare-data_pass}
 use Rattle.overlay_base.proofs.laws.joins.Views.{segments_of-bare}
 use Rattle.overlay_split.proofs.laws.passes.Ready.{are_valid-cut, cut_as_segments}
+use Rattle.overlay_base.proofs.laws.joins.Stores.{made_further}
 use Rattle.overlay_split.proofs.split.pass.pass.Goals as goal
 
 pub join_with_store-requires : goal.join_with_store-requires
@@ -53,3 +54,11 @@ returns-clause-fits g c =
     let given = c.args.list.now.items in
     let pieces : segments_of c.cut_at_marks.new.list.items ≡ cut (placing_of c.args.placing) (segments_of given) = cut_as_segments hooks (placing_of c.args.placing) given c.cut_at_marks.new.list.items c.args.store.now c.in-Ok.ensures.list in
     rw (sym pieces) c.in_ok-join_with_store.ensures.fits
+
+pub returns-in_err-join_with_store-clause-store_made : goal.returns-in_err-join_with_store-clause-store_made
+returns-in_err-join_with_store-clause-store_made g c =
+    made_further (hooks_of g.C.WindingCount.counted g.D.OverlayEdgeData) c.in-Ok.ensures.store_made c.in_err-join_with_store.ensures.store_made
+
+pub returns-clause-store_made : goal.returns-clause-store_made
+returns-clause-store_made g c =
+    made_further (hooks_of g.C.WindingCount.counted g.D.OverlayEdgeData) c.in-Ok.ensures.store_made c.in_ok-join_with_store.ensures.store_made

@@ -6,22 +6,28 @@ use Rattle.overlay_base.specs.SegmentOf.{data_segment_of, data_segments_of}
 use Rattle.overlay_split.specs.Path.{LeadsOn, last_point}
 use Rattle.overlay_split.specs.DataPass.{data_pieces}
 use Rattle.overlay_split.proofs.laws.passes.PieceSteps.{pieces-none, ArePushed-start, ArePushed-next, ArePushed-last, ArePushed-differ, left_at, left_none, left_some, whole_path}
+use Rattle.overlay_base.specs.EdgeData.{SplitCall}
+use Rattle.overlay_base.specs.EdgeData.IsMadeFrom.{no_call}
+use Rattle.overlay_split.proofs.laws.passes.Stores.{made_with_split, made_with_piece}
 use Rattle.overlay_split.proofs.split.piece.push_pieces.Goals as goal
 
 pub loop-mark-init : goal.loop-mark-init
 loop-mark-init g c =
     let whole = whole_path (point_of g.I.OverlayInt.whole) c.args.path.now c.in-Some.marks.now c.in-Some.b.now (point_of g.I.OverlayInt.whole c.args.from) c.in-Some.ensures.cases.0 in
-    ArePushed-start _ _ _ _ _ _ _ _ (subst (LeadsOn (point_of g.I.OverlayInt.whole c.args.from)) whole.0 c.requires.leads_on)
+    record {
+      pushed = ArePushed-start _ _ _ _ _ _ _ _ (subst (LeadsOn (point_of g.I.OverlayInt.whole c.args.from)) whole.0 c.requires.leads_on);
+      made = no_call;
+    }
 
 pub create_and_validate_with_data-requires-clause-ends : goal.create_and_validate_with_data-requires-clause-ends
 create_and_validate_with_data-requires-clause-ends g c =
     let f = point_of g.I.OverlayInt.whole in
-    ArePushed-differ _ _ _ _ _ _ _ _ _ _ c.loop-mark.invariant _ _ (left_at f c.in-Some.marks.now (f c.in-Some.b.now) c.loop-mark.mark-index c.mark-item.result c.loop-mark-test.true c.mark-item.is)
+    ArePushed-differ _ _ _ _ _ _ _ _ _ _ c.loop-mark.invariant.pushed _ _ (left_at f c.in-Some.marks.now (f c.in-Some.b.now) c.loop-mark.mark-index c.mark-item.result c.loop-mark-test.true c.mark-item.is)
 
 pub create_and_validate_with_data-requires-2-clause-ends : goal.create_and_validate_with_data-requires-2-clause-ends
 create_and_validate_with_data-requires-2-clause-ends g c =
     let f = point_of g.I.OverlayInt.whole in
-    ArePushed-differ _ _ _ _ _ _ _ _ _ _ c.loop-mark.invariant _ _ (left_none f c.in-Some.marks.now (f c.in-Some.b.now) c.loop-mark.mark-index c.loop-mark-test.false)
+    ArePushed-differ _ _ _ _ _ _ _ _ _ _ c.loop-mark.invariant.pushed _ _ (left_none f c.in-Some.marks.now (f c.in-Some.b.now) c.loop-mark.mark-index c.loop-mark-test.false)
 
 pub loop-mark-preserved : goal.loop-mark-preserved
 loop-mark-preserved g c =
@@ -31,7 +37,13 @@ loop-mark-preserved g c =
     let i = c.loop-mark.mark-index in
     let next = left_at f marks b i c.mark-item.result c.loop-mark-test.true c.mark-item.is in
     let items = ap data_segments_of c.in_ok-push.ensures.items ∙ map-append data_segment_of c.loop-mark.list.items (c.create_and_validate_with_data.result ∷ []) in
-    rw items (ArePushed-next _ _ _ _ _ _ _ _ _ _ c.loop-mark.invariant (f c.mark-item.result) (map f (drop (i + 1) marks) ++ b ∷ []) next (left_some f marks b (i + 1)) c.split.result.0 c.split.result.1 _ c.split.ensures.answer c.split.ensures.store _ _ c.create_and_validate_with_data.ensures.segment c.create_and_validate_with_data.ensures.store)
+    let hooks = hooks_of g.C.WindingCount.counted g.D.OverlayEdgeData in
+    let call : SplitCall g.row.D.Denot = record { edge_data = c.loop-mark.edge_data; a = f c.loop-mark.from; p = f c.mark-item.result; b = b } in
+    let split = made_with_split hooks call c.loop-mark.invariant.made c.split.new.store c.split.ensures.store in
+    record {
+      pushed = rw items (ArePushed-next _ _ _ _ _ _ _ _ _ _ c.loop-mark.invariant.pushed (f c.mark-item.result) (map f (drop (i + 1) marks) ++ b ∷ []) next (left_some f marks b (i + 1)) c.split.result.0 c.split.result.1 _ c.split.ensures.answer c.split.ensures.store _ _ c.create_and_validate_with_data.ensures.segment c.create_and_validate_with_data.ensures.store);
+      made = made_with_piece hooks _ _ _ _ split c.create_and_validate_with_data.new.store c.create_and_validate_with_data.ensures.store;
+    }
 
 no_path : {A : Type 0} (xs : List A) → length xs ≡ 0 → xs ≡ []
 no_path [] e = refl
@@ -61,7 +73,7 @@ returns-clause-pieces g c =
     let hooks = hooks_of g.C.WindingCount.counted g.D.OverlayEdgeData in
     let whole = whole_path f c.args.path.now c.in-Some.marks.now c.in-Some.b.now (f c.args.from) c.in-Some.ensures.cases.0 in
     let items = ap data_segments_of c.in_ok-push-2.ensures.items ∙ map-append data_segment_of c.loop-mark.list.items (c.create_and_validate_with_data-2.result ∷ []) in
-    let end = ArePushed-last _ _ _ _ _ _ _ _ _ _ c.loop-mark.invariant b (left_none f c.in-Some.marks.now b c.loop-mark.mark-index c.loop-mark-test.false) _ _ c.create_and_validate_with_data-2.ensures.segment c.create_and_validate_with_data-2.ensures.store in
+    let end = ArePushed-last _ _ _ _ _ _ _ _ _ _ c.loop-mark.invariant.pushed b (left_none f c.in-Some.marks.now b c.loop-mark.mark-index c.loop-mark-test.false) _ _ c.create_and_validate_with_data-2.ensures.segment c.create_and_validate_with_data-2.ensures.store in
     items ∙ end.0 ∙ sym (λ i. data_segments_of c.args.list.now.items ++ (data_pieces hooks (g.C.WindingCount.winding c.args.count) (f c.args.from) (whole.0 i) (whole.1 i) c.args.edge_data c.args.store.now).0)
 
 pub returns-clause-store : goal.returns-clause-store
@@ -70,5 +82,24 @@ returns-clause-store g c =
     let b = f c.in-Some.b.now in
     let hooks = hooks_of g.C.WindingCount.counted g.D.OverlayEdgeData in
     let whole = whole_path f c.args.path.now c.in-Some.marks.now c.in-Some.b.now (f c.args.from) c.in-Some.ensures.cases.0 in
-    let end = ArePushed-last _ _ _ _ _ _ _ _ _ _ c.loop-mark.invariant b (left_none f c.in-Some.marks.now b c.loop-mark.mark-index c.loop-mark-test.false) _ _ c.create_and_validate_with_data-2.ensures.segment c.create_and_validate_with_data-2.ensures.store in
+    let end = ArePushed-last _ _ _ _ _ _ _ _ _ _ c.loop-mark.invariant.pushed b (left_none f c.in-Some.marks.now b c.loop-mark.mark-index c.loop-mark-test.false) _ _ c.create_and_validate_with_data-2.ensures.segment c.create_and_validate_with_data-2.ensures.store in
     end.1 ∙ sym (λ i. (data_pieces hooks (g.C.WindingCount.winding c.args.count) (f c.args.from) (whole.0 i) (whole.1 i) c.args.edge_data c.args.store.now).1)
+
+pub returns-in_default-clause-store_made : goal.returns-in_default-clause-store_made
+returns-in_default-clause-store_made g c = no_call
+
+pub returns-in_err-push-clause-store_made : goal.returns-in_err-push-clause-store_made
+returns-in_err-push-clause-store_made g c =
+    let f = point_of g.I.OverlayInt.whole in
+    let hooks = hooks_of g.C.WindingCount.counted g.D.OverlayEdgeData in
+    let call : SplitCall g.row.D.Denot = record { edge_data = c.loop-mark.edge_data; a = f c.loop-mark.from; p = f c.mark-item.result; b = f c.in-Some.b.now } in
+    let split = made_with_split hooks call c.loop-mark.invariant.made c.split.new.store c.split.ensures.store in
+    made_with_piece hooks _ _ _ _ split c.create_and_validate_with_data.new.store c.create_and_validate_with_data.ensures.store
+
+pub returns-in_err-push-2-clause-store_made : goal.returns-in_err-push-2-clause-store_made
+returns-in_err-push-2-clause-store_made g c =
+    made_with_piece (hooks_of g.C.WindingCount.counted g.D.OverlayEdgeData) _ _ _ _ c.loop-mark.invariant.made c.create_and_validate_with_data-2.new.store c.create_and_validate_with_data-2.ensures.store
+
+pub returns-clause-store_made : goal.returns-clause-store_made
+returns-clause-store_made g c =
+    made_with_piece (hooks_of g.C.WindingCount.counted g.D.OverlayEdgeData) _ _ _ _ c.loop-mark.invariant.made c.create_and_validate_with_data-2.new.store c.create_and_validate_with_data-2.ensures.store

@@ -1,5 +1,6 @@
 use Rattle.std.proofs.Common.{[], ◌∷◌, ◌++◌, drop}
 use Rattle.overlay_geometry.specs.PointOf.{point_of}
+use Rattle.overlay_base.specs.EdgeData.{IsMadeFrom}
 use Rattle.overlay_base.specs.HooksOf.{hooks_of}
 use Rattle.overlay_base.specs.SegmentOf.{data_segments_of}
 use Rattle.overlay_intersections.specs.MarkOf.{points_of}
@@ -14,4 +15,7 @@ invariant-loop-mark g l =
     let count = g.C.WindingCount.winding l.count in
     let b = point_of whole l.b in
     let all = data_pieces hooks count (point_of whole l.fn.from) (points_of whole l.marks ++ b ∷ []) b l.fn.edge_data l.fn.store in
-    ArePushed hooks count b (data_segments_of l.fn.list.items) (data_segments_of l.list.items) all (point_of whole l.from) (points_of whole (drop l.mark-index l.marks) ++ b ∷ []) l.edge_data l.store
+    record {
+      pushed : ArePushed hooks count b (data_segments_of l.fn.list.items) (data_segments_of l.list.items) all (point_of whole l.from) (points_of whole (drop l.mark-index l.marks) ++ b ∷ []) l.edge_data l.store;
+      made : IsMadeFrom hooks l.fn.store l.store;
+    }

@@ -6,13 +6,13 @@ use Rattle.overlay_base.specs.declared.segm.fault.Fault.{Fault}
 use Rattle.overlay_base.specs.declared.segm.fault.Fault.TheVariants.{CountOutOfRange}
 use Rattle.overlay_base.specs.declared.segm.segment.Segment.{Segment}
 use Rattle.overlay_base.specs.Segments.{WholeSegment}
-use Rattle.overlay_base.specs.EdgeData.{Hooks}
+use Rattle.overlay_base.specs.EdgeData.{DataSegment, Hooks}
 use Rattle.overlay_base.specs.HooksOf.{hooks_of}
 use Rattle.overlay_base.specs.Radius.{exponent_cap}
 use Rattle.overlay_base.specs.SegmentOf.{segment_of, segments_of, data_segments_of}
 use Rattle.overlay_base.proofs.laws.joins.Rests.{is_splittable-valid}
 use Rattle.overlay_base.proofs.laws.joins.Views.{segments_ordered, segments_of-bare}
-use Rattle.overlay_split.specs.DataPass.{IsStoppedRun}
+use Rattle.overlay_split.specs.DataPass.{IsStoppedRun, data_after_passes}
 use Rattle.overlay_split.specs.Run.{Settings, LeavesRange}
 use Rattle.overlay_split.specs.SettingsOf.{settings_of}
 use Rattle.overlay_split.proofs.laws.passes.DataInvariants.{data_keeps_what_hooks_keep}
@@ -26,6 +26,10 @@ use Rattle.overlay_split.proofs.laws.passes.Ready.{IsPairInRange-each}
 use Rattle.overlay_split.proofs.laws.passes.RunLooks.{HasLooked-none, HasLooked-start, HasLooked-more}
 use Rattle.overlay_split.proofs.laws.passes.GridRuns.{run_lies_inside}
 use Rattle.overlay_grid.specs.GroupsOf.{grid_in}
+use Rattle.overlay_base.specs.EdgeData.{IsMadeFrom}
+use Rattle.overlay_base.specs.EdgeData.IsMadeFrom.{no_call}
+use Rattle.overlay_base.proofs.laws.joins.Stores.{made_further}
+use Rattle.overlay_split.proofs.laws.passes.Stores.{made_by_passes}
 use Rattle.overlay_split.proofs.split.solver.SplitSolver.split_segments_with_store.Goals as goal
 use Rattle.overlay_split.proofs.split.solver.SplitSolver.split_segments_with_store.Goals.{else-loop-test, then-loop-test+then-not-progress}
 
@@ -286,3 +290,29 @@ after_pass-requires-clause-inside g c =
 pub after_pass-requires-in-loop-progress-clause-inside : goal.after_pass-requires-in-loop-progress-clause-inside
 after_pass-requires-in-loop-progress-clause-inside g c =
     run_lies_inside c.args.solver.now.strategy (settings_of g.I.OverlayInt.BITS c.args.solver.now c.args.self.now) (segments_of c.args.list.now.items) (segments_of c.loop-progress.list.items) (grid_in c.loop-progress.finder.grid) c.loop-progress.progress.passes (segments_ordered c.args.list.now.items) c.loop-progress.invariant.looks.is_for c.loop-progress.invariant.at.arrangement_is
+
+-- ---- what is made of the store
+
+pub returns-then-is_empty-clause-store_made : goal.returns-then-is_empty-clause-store_made
+returns-then-is_empty-clause-store_made g c = no_call
+
+pub returns-in_err-repeated-clause-store_made : goal.returns-in_err-repeated-clause-store_made
+returns-in_err-repeated-clause-store_made g c = c.in_err-repeated.ensures.store_made
+
+pub returns-in-Err-clause-store_made : goal.returns-in-Err-clause-store_made
+returns-in-Err-clause-store_made g c = c.in_ok-repeated.ensures.store_made
+
+-- as long as the passes go
+made_so_far : {D S : Type 0} (hooks : Hooks D S) (settings : Settings) (given : List (DataSegment D)) (from store : S) (k : ℕ) → store ≡ (data_after_passes hooks settings given from k).1 → IsMadeFrom hooks from store
+made_so_far hooks settings given from store k e = subst (λ s. IsMadeFrom hooks from s) (sym e) (made_by_passes hooks settings given from k)
+
+pub returns-in_err-progress-clause-store_made : goal.returns-in_err-progress-clause-store_made
+returns-in_err-progress-clause-store_made g c =
+    made_further _ (made_so_far _ _ _ _ _ _ c.loop.invariant.at.store_is) c.in_err-progress.ensures.store_made
+
+pub returns-in_err-progress-2-clause-store_made : goal.returns-in_err-progress-2-clause-store_made
+returns-in_err-progress-2-clause-store_made g c =
+    made_further _ (made_so_far _ _ _ _ _ _ c.loop-progress.invariant.at.store_is) c.in_err-progress-2.ensures.store_made
+
+pub returns-clause-store_made : goal.returns-clause-store_made
+returns-clause-store_made g c = made_so_far _ _ _ _ _ _ c.loop-progress.invariant.at.store_is
