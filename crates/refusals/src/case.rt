@@ -1,0 +1,72 @@
+// A call that can take memory, what it answers, and why it may not.
+use i_overlay::geom::point::IntPoint;
+use i_overlay::segm::fault::Fault;
+use std::alloc::{AllocError, AllocFailed, Global};
+
+/// What a call answers, in numbers.
+#[derive(Clone, Copy, Drop)]
+pub struct Summary {
+    /// The number of segments, links, walks or points.
+    pub count: usize,
+    /// The number of nodes, passes or further parts.
+    pub others: u128,
+    /// A sum over all coordinates, fills and indexes, in which the order counts.
+    pub digest: i64,
+}
+
+/// Why a call has no answer.
+#[derive(Clone, Copy, Drop)]
+pub enum Stop {
+    /// A growth was refused, and what stands after the call is as promised.
+    Refused,
+    /// What stands is not as promised, or the call answers what it may not.
+    Wrong(&'static str),
+}
+
+impl From<AllocError> for Stop {
+    fn from(_error: AllocError) -> Stop {
+        Stop::Refused
+    }
+}
+
+impl<T: Drop> From<AllocFailed<T>> for Stop {
+    fn from(_error: AllocFailed<T>) -> Stop {
+        Stop::Refused
+    }
+}
+
+impl From<Fault> for Stop {
+    fn from(fault: Fault) -> Stop {
+        refused(fault, true)
+    }
+}
+
+/// A call, with what it keeps from one try to the next.
+pub trait Case {
+    /// Makes the call once. A growth that is refused while its input is made counts as refused.
+    fn try_once(&mut self, alloc: Global) -> Result<Summary, Stop>;
+}
+
+/// Of a call that was refused: whether what stands after it is as promised.
+pub fn refused(fault: Fault, is_as_promised: bool) -> Stop {
+    match fault {
+        Fault::Memory if is_as_promised => Stop::Refused,
+        Fault::Memory => Stop::Wrong("what stands after a refusal is not as promised"),
+        Fault::CountOutOfRange => Stop::Wrong("a count is refused"),
+    }
+}
+
+/// A digest with one more number.
+pub fn mixed(digest: i64, number: i32) -> i64 {
+    digest.wrapping_mul(31).wrapping_add(i64::from(number))
+}
+
+/// A digest with one more point.
+pub fn mixed_point(digest: i64, point: IntPoint<i32>) -> i64 {
+    mixed(mixed(digest, point.x), point.y)
+}
+
+/// A digest with one more index.
+pub fn mixed_index(digest: i64, index: usize) -> i64 {
+    digest.wrapping_mul(31).wrapping_add(index as i64)
+}

@@ -1,0 +1,90 @@
+// Data whose store counts the calls of its hooks.
+ghost use Rattle.std.specs.Prelude.{◌≡◌, ◌+◌, ◌-◌, ◌^◌, min};
+
+use i_overlay::num::OverlayInt;
+use i_overlay::overlay_core::edge_data::{EdgeDataMerge, EdgeDataSplit, OverlayEdgeData};
+use i_overlay::segm::boolean::ShapeCountBoolean;
+
+/// Data with a store.
+#[derive(Clone, Copy, Debug, PartialEq, Eq)]
+pub struct Tag;
+
+/// How often hooks were called.
+#[derive(Clone, Copy, Debug, PartialEq, Eq, Default, Drop)]
+pub struct Calls {
+    /// Whether the caller made the store. No hook changes it.
+    pub is_given: bool,
+    /// Calls of `split`.
+    pub splits: u32,
+    /// Calls of `reversed`.
+    pub reversals: u32,
+    /// Calls of `merge`.
+    pub merges: u32,
+    /// Calls of all three.
+    pub all: u32,
+}
+
+impl Calls {
+    /// The store that is handed to a call.
+    pub fn given() -> Calls {
+        Calls {
+            is_given: true,
+            splits: 0,
+            reversals: 0,
+            merges: 0,
+            all: 0,
+        }
+    }
+
+    /// Whether calls of hooks made this store of the given one: what they keep.
+    pub fn is_made_by_hooks(&self) -> bool {
+        let parts = self.splits.saturating_add(self.reversals);
+        self.is_given && self.all == parts.saturating_add(self.merges)
+    }
+}
+
+impl OverlayEdgeData<ShapeCountBoolean> for Tag {
+    type Store = Calls;
+
+    ghost reversed_gives = { λ tag store. (
+      tag,
+      record store {
+        reversals = min (store.reversals + 1) (2 ^ 32 - 1);
+        all = min (store.all + 1) (2 ^ 32 - 1);
+      },
+    ) };
+
+    ghost split_gives = { λ tag _ _ _ store. (
+      (tag, tag),
+      record store {
+        splits = min (store.splits + 1) (2 ^ 32 - 1);
+        all = min (store.all + 1) (2 ^ 32 - 1);
+      },
+    ) };
+
+    ghost merge_gives = { λ merged store. (
+      merged.lhs_data,
+      record store {
+        merges = min (store.merges + 1) (2 ^ 32 - 1);
+        all = min (store.all + 1) (2 ^ 32 - 1);
+      },
+    ) };
+
+    fn reversed(self, store: &mut Calls) -> Tag {
+        store.reversals = store.reversals.saturating_add(1);
+        store.all = store.all.saturating_add(1);
+        self
+    }
+
+    fn split<I: OverlayInt>(self, _at: EdgeDataSplit<I>, store: &mut Calls) -> (Tag, Tag) {
+        store.splits = store.splits.saturating_add(1);
+        store.all = store.all.saturating_add(1);
+        (self, self)
+    }
+
+    fn merge(merged: EdgeDataMerge<ShapeCountBoolean, Tag>, store: &mut Calls) -> Tag {
+        store.merges = store.merges.saturating_add(1);
+        store.all = store.all.saturating_add(1);
+        merged.lhs_data
+    }
+}

@@ -1,0 +1,112 @@
+// Sorts, joins and splits.
+use crate::case::{Case, Stop, Summary, refused};
+use crate::hooks::{Calls, Tag};
+use crate::shapes::{Shape, digest_of, sides};
+use i_overlay::overlay_core::solver::Solver;
+use i_overlay::segm::arranged::is_splittable;
+use i_overlay::segm::boolean::ShapeCountBoolean;
+use i_overlay::segm::join::join_with_store;
+use i_overlay::segm::segment::Segment;
+use i_overlay::segm::sort::sort_by_ab;
+use i_overlay::split::solver::SplitSolver;
+use std::alloc::Global;
+
+type Side = Segment<ShapeCountBoolean, i32, Tag>;
+
+/// A sort. A refused one leaves an empty list.
+#[derive(Drop)]
+pub struct Sort {}
+
+impl Case for Sort {
+    fn try_once(&mut self, alloc: Global) -> Result<Summary, Stop> {
+        let mut list: Vec<Side> = sides(Shape::Crossed, Tag, &mut Calls::given(), alloc)?;
+        match sort_by_ab(&mut list) {
+            Ok(()) => Ok(Summary {
+                count: list.len(),
+                others: 0,
+                digest: digest_of(list.as_slice()),
+            }),
+            Err(fault) => Err(refused(fault, list.is_empty())),
+        }
+    }
+}
+
+/// A join. A refused one leaves an empty list, and the store as it was.
+#[derive(Drop)]
+pub struct Join {}
+
+impl Case for Join {
+    fn try_once(&mut self, alloc: Global) -> Result<Summary, Stop> {
+        let mut list: Vec<Side> = sides(Shape::Crossed, Tag, &mut Calls::given(), alloc)?;
+        if !is_splittable(&list) {
+            return Err(Stop::Wrong("the input may not be joined"));
+        }
+        let mut store = Calls::given();
+        match join_with_store(&mut list, &mut store) {
+            Ok(_) => Ok(Summary {
+                count: list.len(),
+                others: u128::from(store.merges),
+                digest: digest_of(list.as_slice()),
+            }),
+            Err(fault) => Err(refused(fault, list.is_empty() && store == Calls::given())),
+        }
+    }
+}
+
+/// Splits of each shape by one splitter. A refused one leaves an empty list, the splitter's numbers, and a store that
+/// hooks made.
+#[derive(Drop)]
+pub struct Split {
+    splitter: SplitSolver<i32>,
+    solver: Solver,
+}
+
+impl Split {
+    /// Splits under a strategy.
+    pub fn new(alloc: Global, solver: Solver) -> Split {
+        Split {
+            splitter: SplitSolver::new(alloc),
+            solver,
+        }
+    }
+
+    /// The split of one shape.
+    fn split(&mut self, shape: Shape, alloc: Global) -> Result<Summary, Stop> {
+        let mut list: Vec<Side> = sides(shape, Tag, &mut Calls::given(), alloc)?;
+        if !is_splittable(&list) {
+            return Err(Stop::Wrong("the input may not be split"));
+        }
+        let before = (self.splitter.passes(), self.splitter.looked());
+        let mut store = Calls::given();
+        match self
+            .splitter
+            .split_segments_with_store(&mut list, &self.solver, &mut store)
+        {
+            Ok(_) => Ok(Summary {
+                count: list.len(),
+                others: self.splitter.passes(),
+                digest: digest_of(list.as_slice()).wrapping_add(i64::from(store.all)),
+            }),
+            Err(fault) => {
+                let after = (self.splitter.passes(), self.splitter.looked());
+                let stands = list.is_empty() && before == after && store.is_made_by_hooks();
+                Err(refused(fault, stands))
+            }
+        }
+    }
+}
+
+impl Case for Split {
+    fn try_once(&mut self, alloc: Global) -> Result<Summary, Stop> {
+        let crossed = self.split(Shape::Crossed, alloc)?;
+        let long = self.split(Shape::Long, alloc)?;
+        let squares = self.split(Shape::Squares, alloc)?;
+        let count = crossed.count.saturating_add(long.count);
+        let digest = crossed.digest.wrapping_add(long.digest);
+        Ok(Summary {
+            count: count.saturating_add(squares.count),
+            others: squares.others,
+            digest: digest.wrapping_add(squares.digest),
+        })
+    }
+}

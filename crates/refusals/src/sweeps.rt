@@ -1,0 +1,60 @@
+// The sweep over an arrangement.
+use crate::case::{Case, Stop, Summary, mixed};
+use crate::shapes::{Shape, sides};
+use i_overlay::build::builder::StoreFillsHandler;
+use i_overlay::build::sweep::SweepRunner;
+use i_overlay::overlay_core::fill_rule::FillRule;
+use i_overlay::overlay_core::solver::Solver;
+use i_overlay::segm::arranged::{is_arranged, is_splittable};
+use i_overlay::segm::boolean::ShapeCountBoolean;
+use i_overlay::segm::segment::{NONE, Segment};
+use i_overlay::split::solver::SplitSolver;
+use std::alloc::Global;
+
+/// The fills of an arrangement by one runner, which may be used again after a refusal.
+#[derive(Drop)]
+pub struct Sweep {
+    runner: SweepRunner<ShapeCountBoolean, i32>,
+    solver: Solver,
+}
+
+impl Sweep {
+    /// A sweep under a strategy.
+    pub fn new(alloc: Global, solver: Solver) -> Sweep {
+        Sweep {
+            runner: SweepRunner::new(alloc),
+            solver,
+        }
+    }
+}
+
+impl Case for Sweep {
+    fn try_once(&mut self, alloc: Global) -> Result<Summary, Stop> {
+        let mut list: Vec<Segment<ShapeCountBoolean, i32, ()>> = sides(
+            Shape::Long,
+            (),
+            &mut (),
+            alloc,
+        )?;
+        if !is_splittable(&list) {
+            return Err(Stop::Wrong("the input may not be split"));
+        }
+        SplitSolver::new(alloc).split_segments(&mut list, &Solver::LIST)?;
+        if !is_arranged(&list) {
+            return Err(Stop::Wrong("the split is no arrangement"));
+        }
+        let mut fills = vec![in alloc; NONE; list.len()]?;
+        let handler = StoreFillsHandler::new(&mut fills);
+        self.runner
+            .run_with_fill_rule(FillRule::NonZero, &self.solver, &list, handler)?;
+        let mut digest = 0;
+        for fill in fills.iter() {
+            digest = mixed(digest, i32::from(*fill));
+        }
+        Ok(Summary {
+            count: fills.len(),
+            others: 0,
+            digest,
+        })
+    }
+}
