@@ -1,5 +1,5 @@
 use Rattle.std.proofs.Common.{◌≡◌, ◌<◌, ◌+◌, sym, ap, ap₂, subst, ◌∙◌, ◌++◌, ◌∷◌, [], filter, length, arith, List, ℕ, true}
-use Rattle.std.specs.Prelude.{count_by, min, ◌^◌, ◌-◌}
+use Rattle.std.specs.Prelude.{min, ◌^◌, ◌-◌}
 use Rattle.std.proofs.lemmas.List.{map-append}
 use Rattle.overlay_geometry.specs.Points.{Pair}
 use Rattle.overlay_base.specs.Segments.{pairs}
@@ -7,8 +7,8 @@ use Rattle.overlay_geometry.specs.PairOf.{pair_of}
 use Rattle.overlay_geometry.specs.RangeOf.{range_of}
 use Rattle.overlay_base.specs.SegmentOf.{segments_of}
 use Rattle.overlay_base.proofs.laws.geometry.Apart.{are_ordered}
-use Rattle.overlay_tree.specs.steps.NodeOf.{entry_of, node_of, nodes_of}
-use Rattle.overlay_tree.specs.steps.IntervalTree.{Entry, TreeNode, WholeQuery, entries, found, is_taken_up, stays_at}
+use Rattle.overlay_tree.specs.steps.NodeOf.{node_of, nodes_of}
+use Rattle.overlay_tree.specs.steps.IntervalTree.{Entry, TreeNode, WholeQuery, entries, found, stays_at}
 use Rattle.overlay_tree.specs.steps.Swept.{alone, few, entry_of_pair, pair_at}
 use Rattle.overlay_tree.specs.steps.TreeSweep.{AreFoundBefore, query_at}
 use Rattle.std.proofs.lemmas.List.Sums.{count_by-le-length, length-filter}
