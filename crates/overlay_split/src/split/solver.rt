@@ -110,8 +110,16 @@ impl<I> SplitSolver<I> {
     }
 
     /// How often the last call that succeeded took up a pair of segments, or of parts of them in a column, even if only
-    /// to find that they do not meet; 0 at first. It stops at `u128::MAX`. A tree over heights is asked on the way to a
-    /// pair without being counted, and so is each of a few live segments, fewer than 48.
+    /// to find that they do not meet; 0 at first. It stops at `u128::MAX`.
+    ///
+    /// A pass over the list takes up just the twos whose ranges in `x` meet. A pass over a tree takes up at most those
+    /// whose ranges in `x` and in `y` meet, and 48 for each segment. A pass over a grid takes up at most the twos of
+    /// parts in one column whose ranges in `y` meet, one for each part, and, for a vertical segment on the left border
+    /// of a column, the parts in the column to its left.
+    ///
+    /// Not counted are comparisons that take up no pair: of heights with the nodes on the way down a tree, of the ends
+    /// of live segments with the place of the sweep, and with the first segment or part past the end of a scan, one at
+    /// most for each. That nothing else is compared without being counted is read, not proved.
     pub fn looked(&self) -> u128
         ensures { result ≡ looked_of self.now }
     {
