@@ -13,7 +13,7 @@ use Rattle.overlay_grid.specs.Grid.{Layout}
 use Rattle.overlay_intersections.specs.Looked.{count_twos, x_ranges_meet, list_looks}
 use Rattle.overlay_split.specs.Run.{Settings, after_passes}
 use Rattle.overlay_split.specs.PassLooks.{wide_looks, pass_looks, ArePassLooks}
-use Rattle.overlay_split.specs.RunLooks.{HasListPasses, run_looks, AreRunLooks}
+use Rattle.overlay_split.specs.RunLooks.{run_looks, AreRunLooks}
 use Rattle.overlay_grid.specs.GridFor.{IsGridFor}
 
 -- ---- a pass
