@@ -1,11 +1,10 @@
 // How the passes of a run find the segments that meet.
-ghost use Rattle.std.specs.Prelude.{◌≡◌, ◌≤◌, ◌+◌, All, None, IfErr, IfOk, OnOk, IsFalse, IsSortedByKey, length};
+ghost use Rattle.std.specs.Prelude.{◌≡◌, ◌≤◌, ◌+◌, All, None, IfErr, IfOk, OnOk, IsSortedByKey};
 ghost use Rattle.overlay_base.specs.declared.segm.fault.Fault.TheVariants.{Memory};
 ghost use Rattle.overlay_geometry.specs.Points.{pair_cmp};
 ghost use Rattle.overlay_base.specs.Segments.{pairs};
 ghost use Rattle.overlay_base.specs.SegmentOf.{ends_of, segments_of, x_segment_of};
 ghost use Rattle.overlay_geometry.specs.InRange.{IsPairInRange};
-ghost use Rattle.overlay_base.specs.Choices.{list_splits};
 ghost use Rattle.overlay_intersections.specs.PassMarks.{is_rounded};
 ghost use Rattle.overlay_intersections.specs.PlacingOf.{placing_of, HasRadius};
 ghost use Rattle.overlay_intersections.specs.MarkOf.{AreMarks, marks_of};

@@ -1,6 +1,6 @@
 // One pass over a list: every segment is cut at its marks, and the pieces are joined. Upstream: `split::solver_list`
 // and `split::solver`, where marks are applied.
-ghost use Rattle.std.specs.Prelude.{◌≡◌, ◌≤◌, ◌+◌, [], IsTrue, IsFalse, IfOk, IfErr, OnOk, OnErr, length, nat_lt};
+ghost use Rattle.std.specs.Prelude.{◌≡◌, [], IsTrue, IsFalse, IfOk, IfErr, OnOk, OnErr, nat_lt};
 ghost use Rattle.overlay_base.specs.declared.segm.fault.Fault.TheVariants.{Memory, CountOutOfRange};
 ghost use Rattle.overlay_base.specs.Segments.{pairs, is_map};
 ghost use Rattle.overlay_base.specs.ArrangedOf.{IsSplittable};
@@ -8,7 +8,6 @@ ghost use Rattle.overlay_base.specs.Join.{join_leaves_range};
 ghost use Rattle.overlay_base.specs.EdgeData.{IsRefusedJoin};
 ghost use Rattle.overlay_base.specs.HooksOf.{hooks_of};
 ghost use Rattle.overlay_base.specs.SegmentOf.{segments_of, data_segments_of};
-ghost use Rattle.overlay_base.specs.Choices.{list_splits};
 ghost use Rattle.overlay_split.specs.Pass.{cut, pass};
 ghost use Rattle.overlay_intersections.specs.PassMarks.{is_rounded, mark_count};
 ghost use Rattle.overlay_split.specs.DataPass.{data_cut, data_pass};

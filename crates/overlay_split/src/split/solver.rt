@@ -27,9 +27,7 @@ ghost use Rattle.overlay_split.specs.PassLooks.{ArePassLooks};
 ghost use Rattle.overlay_split.specs.FinderOf.{solver_in, layout_in, looks_in};
 ghost use Rattle.overlay_grid.specs.Grid.{Layout, LieInside};
 ghost use Rattle.overlay_split.specs.RunLooks.{AreRunLooks};
-ghost use Rattle.overlay_grid.specs.GridFor.{IsGridFor};
 ghost use Rattle.overlay_geometry.specs.InRange.{IsPairInRange};
-ghost use Rattle.overlay_base.specs.Choices.{list_splits};
 
 use crate::split::finder::PairFinder;
 use crate::split::pass::{PassBuffers, pass};
