@@ -1,10 +1,12 @@
 // A split of polygons and lines, and the graph of the parts of lines that the polygons keep, in one call. This
 // project's own.
-ghost use Rattle.std.specs.Prelude.{◌≡◌, IsFalse, OnOk, IfOk, IfErr};
+ghost use Rattle.std.specs.Prelude.{◌≡◌, IsFalse, OnOk, IfOk, IfErr, Option};
 ghost use Rattle.overlay_base.specs.ArrangedOf.{IsSplittable, IsArranged};
 ghost use Rattle.overlay_base.specs.SegmentOf.{segments_of, data_segments_of};
+ghost use Rattle.overlay_grid.specs.Grid.{Layout};
 ghost use Rattle.overlay_split.specs.Run.{LeavesRange};
-ghost use Rattle.overlay_split.specs.SettingsOf.{snap_limit_of, passes_of, settings_of};
+ghost use Rattle.overlay_split.specs.RunLooks.{AreRunLooks};
+ghost use Rattle.overlay_split.specs.SettingsOf.{snap_limit_of, passes_of, looked_of, settings_of};
 ghost use Rattle.overlay_sweep.specs.ChainWindings.{tops_leave_range};
 ghost use Rattle.overlay_build.specs.GraphOf.{HoldGraph, graph_with};
 ghost use Rattle.overlay_build.specs.NodeIndexes.{items_of, is_any_node};
@@ -31,7 +33,8 @@ use overlay_split::split::solver::SplitSolver;
 /// segments along which a line runs and which the rule keeps by how the polygons wind on their two sides, in the
 /// columns beside them. Where all crossings of the given segments are at whole points, the arrangement counts along
 /// each part of a given segment what the given segments count there, masks included, and lies on them. The solver's
-/// strategy does not change the answer.
+/// strategy does not change the answer, but what the split costs: afterwards `looked` of the splitter is bounded by the
+/// strategy as after `split_segments`.
 ///
 /// Answers `Fault::CountOutOfRange` only where a running sum of counts on one pair of ends leaves
 /// `-i32::MAX..=i32::MAX` in the split, or a winding above a segment in the build, and, memory being found, wherever
@@ -64,6 +67,9 @@ pub fn split_and_build_clip<'a, I: OverlayInt>(
     ensures refused { IfErr result
         (IsRefused (settings_of I.BITS solver.now splitter.old) (segments_of segments.old.items)
         (segments_of segments.new.items) (passes_of splitter.old) (passes_of splitter.new)) }
+    ensures looked { OnOk result ((grid : Option Layout) × AreRunLooks solver.now.strategy
+        (settings_of I.BITS solver.now splitter.old) (segments_of segments.old.items) grid (passes_of splitter.new)
+        (looked_of splitter.new)) }
     ensures limit { snap_limit_of splitter.new ≡ snap_limit_of splitter.old }
 {
     splitter.split_segments(segments, solver)?;

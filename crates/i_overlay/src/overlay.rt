@@ -1,5 +1,5 @@
 // A split and a build in one call. This project's own.
-ghost use Rattle.std.specs.Prelude.{◌≡◌, ◌⊎◌, Bool, [], map, IsTrue, IsFalse, OnOk, IfOk, IfErr};
+ghost use Rattle.std.specs.Prelude.{◌≡◌, ◌⊎◌, Bool, [], map, IsTrue, IsFalse, OnOk, IfOk, IfErr, Option};
 ghost use Rattle.overlay_base.specs.BooleanWinding.{boolean_counted};
 ghost use Rattle.overlay_base.specs.HooksOf.{hooks_of};
 ghost use Rattle.overlay_base.specs.Rules.{holds, keeps_fill};
@@ -8,8 +8,10 @@ ghost use Rattle.overlay_base.specs.ArrangedOf.{IsSplittable, IsArranged};
 ghost use Rattle.overlay_base.specs.SegmentOf.{segments_of, data_segments_of};
 ghost use Rattle.std.specs.List.{list_all};
 ghost use Rattle.overlay_split.specs.Laws.{HooksKeep};
+ghost use Rattle.overlay_grid.specs.Grid.{Layout};
 ghost use Rattle.overlay_split.specs.Run.{LeavesRange};
-ghost use Rattle.overlay_split.specs.SettingsOf.{snap_limit_of, passes_of, settings_of};
+ghost use Rattle.overlay_split.specs.RunLooks.{AreRunLooks};
+ghost use Rattle.overlay_split.specs.SettingsOf.{snap_limit_of, passes_of, looked_of, settings_of};
 ghost use Rattle.overlay_sweep.specs.ChainWindings.{tops_leave_range};
 ghost use Rattle.overlay_build.specs.Graph.{data_by};
 ghost use Rattle.overlay_build.specs.GraphOf.{HoldGraph, graph_with};
@@ -45,7 +47,8 @@ use overlay_split::split::solver::SplitSolver;
 /// place they wind once where the rule holds and not at all elsewhere, less what it says of those outside. The data of
 /// the list goes through the splits and merges of a store of its own, which begins as the store's default and is
 /// dropped; each link has the data of its segment. What the hooks keep of data, and what holds of all given data, holds
-/// of each link's (`kept_data`). The solver's strategy does not change the answer.
+/// of each link's (`kept_data`). The solver's strategy does not change the answer, but what the split costs: afterwards
+/// `looked` of the splitter is bounded by the strategy as after `split_segments`.
 ///
 /// Answers `Fault::CountOutOfRange` only where a running sum of counts on one pair of ends leaves
 /// `-i32::MAX..=i32::MAX` in the split, or a winding above a segment in the build, and, memory being found, wherever
@@ -92,6 +95,9 @@ pub fn split_and_build_overlay<'a, I: OverlayInt, D: OverlayEdgeData<ShapeCountB
     ensures refused { IfErr result
         (IsRefused (settings_of I.BITS solver.now splitter.old) (segments_of segments.old.items)
         (segments_of segments.new.items) (passes_of splitter.old) (passes_of splitter.new)) }
+    ensures looked { OnOk result ((grid : Option Layout) × AreRunLooks solver.now.strategy
+        (settings_of I.BITS solver.now splitter.old) (segments_of segments.old.items) grid (passes_of splitter.new)
+        (looked_of splitter.new)) }
     ensures limit { snap_limit_of splitter.new ≡ snap_limit_of splitter.old }
 {
     splitter.split_segments(segments, solver)?;

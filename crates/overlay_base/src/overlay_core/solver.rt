@@ -193,6 +193,23 @@ impl Solver {
     }
 }
 
+// Each constant has the strategy of its name, and high precision.
+const _: () = prove!(Solver::LIST.strategy as u8 == Strategy::List as u8);
+
+const _: () = prove!(Solver::TREE.strategy as u8 == Strategy::Tree as u8);
+
+const _: () = prove!(Solver::FRAG.strategy as u8 == Strategy::Frag as u8);
+
+const _: () = prove!(Solver::AUTO.strategy as u8 == Strategy::Auto as u8);
+
+const _: () = prove!(Solver::LIST.precision.start == 0 && Solver::LIST.precision.progression == 1);
+
+const _: () = prove!(Solver::TREE.precision.start == 0 && Solver::TREE.precision.progression == 1);
+
+const _: () = prove!(Solver::FRAG.precision.start == 0 && Solver::FRAG.precision.progression == 1);
+
+const _: () = prove!(Solver::AUTO.precision.start == 0 && Solver::AUTO.precision.progression == 1);
+
 impl Default for Solver {
     ghost use Rattle.overlay_base.specs.declared.overlay_core.solver.Strategy.TheVariants.{Auto};
 

@@ -17,8 +17,11 @@ use overlay_geometry::geom::x_segment::XSegment;
 use overlay_geometry::num::OverlayInt;
 use std::alloc::{AllocError, Global};
 
-/// So many looks a fragment are few.
+/// So many looks a fragment are few: groups that upward need no more are not sorted anew from left to right to see
+/// whether that way needs fewer. Sorting costs about as much as so many looks.
 const FEW_LOOKS: u64 = 4;
+
+const _: () = prove!(FEW_LOOKS == 4);
 
 /// The fragments of segments in the columns of a layout: one group for each column. It keeps its memory when cleared.
 #[derive(Drop)]

@@ -1,16 +1,15 @@
 // How the passes of a run find the segments that meet.
-ghost use Rattle.std.specs.Prelude.{◌≡◌, ◌≤◌, ◌+◌, All, None, IfErr, IfOk, OnOk, IsFalse, IsSortedByKey, length};
+ghost use Rattle.std.specs.Prelude.{◌≡◌, ◌≤◌, ◌+◌, All, None, IfErr, IfOk, OnOk, IsSortedByKey};
 ghost use Rattle.overlay_base.specs.declared.segm.fault.Fault.TheVariants.{Memory};
 ghost use Rattle.overlay_geometry.specs.Points.{pair_cmp};
 ghost use Rattle.overlay_base.specs.Segments.{pairs};
 ghost use Rattle.overlay_base.specs.SegmentOf.{ends_of, segments_of, x_segment_of};
 ghost use Rattle.overlay_geometry.specs.InRange.{IsPairInRange};
-ghost use Rattle.overlay_base.specs.Choices.{list_splits};
 ghost use Rattle.overlay_intersections.specs.PassMarks.{is_rounded};
 ghost use Rattle.overlay_intersections.specs.PlacingOf.{placing_of, HasRadius};
 ghost use Rattle.overlay_intersections.specs.MarkOf.{AreMarks, marks_of};
 ghost use Rattle.overlay_grid.specs.GridLooks.{grid_looks};
-ghost use Rattle.overlay_split.specs.PassLooks.{pass_looks};
+ghost use Rattle.overlay_split.specs.PassLooks.{ArePassLooks};
 ghost use Rattle.overlay_grid.specs.Grid.{IsInside, LieInside};
 ghost use Rattle.overlay_grid.specs.GroupsOf.{grid_in, grid_of};
 ghost use Rattle.overlay_split.specs.FinderOf.{solver_in, layout_in, looks_in};
@@ -34,8 +33,12 @@ use overlay_tree::split::{solver_list, solver_tree};
 use std::alloc::Global;
 use std::mem::replace;
 
-/// So many fragments a segment are many.
+/// So many fragments a segment are many: a tree, which may look as often as there are fragments, is then tried before
+/// they are made. With fewer the columns are hardly dearer than the tree; without this, long segments would take a
+/// fragment in each of hundreds of columns.
 const MANY_FRAGMENTS: u128 = 4;
+
+const _: () = prove!(MANY_FRAGMENTS == 4);
 
 /// What the passes of one run find the segments that meet by: a look at all pairs of a list, a tree over their heights,
 /// or the columns of a grid. The marks are the same.
@@ -120,9 +123,8 @@ impl<I: OverlayInt> PairFinder<I> {
         ensures marks { OnOk result (AreMarks (placing_of placing) (segments_of segments.now)
             (marks_of I.whole marks.new.items)) }
         ensures rounded { IfOk result (λ rounded. rounded ≡ is_rounded (segments_of segments.now)) }
-        ensures looked { IsFalse (list_splits (solver_in self.old).strategy (length segments.now)) →
-            OnOk result (looks_in self.new ≤ looks_in self.old
-            + pass_looks (layout_in self.old) (pairs (segments_of segments.now))) }
+        ensures looked { OnOk result (ArePassLooks (solver_in self.old).strategy (layout_in self.old)
+            (pairs (segments_of segments.now)) (looks_in self.old) (looks_in self.new)) }
         ensures fault { IfErr result (λ fault. fault ≡ Memory) }
     {
         if self.solver.is_list_split(segments) {

@@ -1,6 +1,6 @@
 // One pass over a list: every segment is cut at its marks, and the pieces are joined. Upstream: `split::solver_list`
 // and `split::solver`, where marks are applied.
-ghost use Rattle.std.specs.Prelude.{◌≡◌, ◌≤◌, ◌+◌, [], IsTrue, IsFalse, IfOk, IfErr, OnOk, OnErr, length, nat_lt};
+ghost use Rattle.std.specs.Prelude.{◌≡◌, [], IsTrue, IsFalse, IfOk, IfErr, OnOk, OnErr, nat_lt};
 ghost use Rattle.overlay_base.specs.declared.segm.fault.Fault.TheVariants.{Memory, CountOutOfRange};
 ghost use Rattle.overlay_base.specs.Segments.{pairs, is_map};
 ghost use Rattle.overlay_base.specs.ArrangedOf.{IsSplittable};
@@ -8,12 +8,11 @@ ghost use Rattle.overlay_base.specs.Join.{join_leaves_range};
 ghost use Rattle.overlay_base.specs.EdgeData.{IsMadeFrom, IsRefusedJoin};
 ghost use Rattle.overlay_base.specs.HooksOf.{hooks_of};
 ghost use Rattle.overlay_base.specs.SegmentOf.{segments_of, data_segments_of};
-ghost use Rattle.overlay_base.specs.Choices.{list_splits};
 ghost use Rattle.overlay_split.specs.Pass.{cut, pass};
 ghost use Rattle.overlay_intersections.specs.PassMarks.{is_rounded, mark_count};
 ghost use Rattle.overlay_split.specs.DataPass.{data_cut, data_pass};
 ghost use Rattle.overlay_intersections.specs.PlacingOf.{placing_of, HasRadius};
-ghost use Rattle.overlay_split.specs.PassLooks.{pass_looks};
+ghost use Rattle.overlay_split.specs.PassLooks.{ArePassLooks};
 ghost use Rattle.overlay_grid.specs.Grid.{LieInside};
 ghost use Rattle.overlay_split.specs.FinderOf.{solver_in, layout_in, looks_in};
 
@@ -96,9 +95,8 @@ pub fn pass<C: WindingCount, I: OverlayInt, D: OverlayEdgeData<C>>(
     ensures rounded { IfOk result (λ passed. passed.is_rounded ≡ is_rounded (segments_of list.old.items)) }
     ensures marked { IfOk result (λ passed. passed.has_marks
         ≡ nat_lt 0 (mark_count (placing_of placing) (segments_of list.old.items))) }
-    ensures looked { IsFalse (list_splits (solver_in finder.old).strategy (length list.old.items)) →
-        OnOk result (looks_in finder.new ≤ looks_in finder.old
-        + pass_looks (layout_in finder.old) (pairs (segments_of list.old.items))) }
+    ensures looked { OnOk result (ArePassLooks (solver_in finder.old).strategy (layout_in finder.old)
+        (pairs (segments_of list.old.items)) (looks_in finder.old) (looks_in finder.new)) }
 
     ensures fits { OnOk result (IsFalse (join_leaves_range (cut (placing_of placing) (segments_of list.old.items)))) }
     ensures refused { IfErr result (λ fault. fault ≡ CountOutOfRange
@@ -145,9 +143,8 @@ fn cut_at_marks<C: WindingCount, I: OverlayInt, D: OverlayEdgeData<C>>(
     ensures rounded { IfOk result (λ passed. passed.is_rounded ≡ is_rounded (segments_of list.old.items)) }
     ensures marked { IfOk result (λ passed. passed.has_marks
         ≡ nat_lt 0 (mark_count (placing_of placing) (segments_of list.old.items))) }
-    ensures looked { IsFalse (list_splits (solver_in finder.old).strategy (length list.old.items)) →
-        OnOk result (looks_in finder.new ≤ looks_in finder.old
-        + pass_looks (layout_in finder.old) (pairs (segments_of list.old.items))) }
+    ensures looked { OnOk result (ArePassLooks (solver_in finder.old).strategy (layout_in finder.old)
+        (pairs (segments_of list.old.items)) (looks_in finder.old) (looks_in finder.new)) }
     ensures store_made { IsMadeFrom (hooks_of C.counted D.OverlayEdgeData.own) store.old store.new }
     ensures fault { IfErr result (λ fault. fault ≡ Memory) }
 {

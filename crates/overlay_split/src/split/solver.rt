@@ -23,13 +23,11 @@ ghost use Rattle.overlay_split.specs.Nearness.{StaysNear};
 ghost use Rattle.overlay_split.specs.Places.{KeepsWinding};
 ghost use Rattle.overlay_split.specs.Potential.{potential};
 ghost use Rattle.overlay_intersections.specs.PlacingOf.{placing_of, HasRadius};
-ghost use Rattle.overlay_split.specs.PassLooks.{pass_looks};
+ghost use Rattle.overlay_split.specs.PassLooks.{ArePassLooks};
 ghost use Rattle.overlay_split.specs.FinderOf.{solver_in, layout_in, looks_in};
 ghost use Rattle.overlay_grid.specs.Grid.{Layout, LieInside};
-ghost use Rattle.overlay_split.specs.RunLooks.{HasNoListPass, run_looks};
-ghost use Rattle.overlay_grid.specs.GridFor.{IsGridFor};
+ghost use Rattle.overlay_split.specs.RunLooks.{AreRunLooks};
 ghost use Rattle.overlay_geometry.specs.InRange.{IsPairInRange};
-ghost use Rattle.overlay_base.specs.Choices.{list_splits};
 
 use crate::split::finder::PairFinder;
 use crate::split::pass::{PassBuffers, pass};
@@ -110,8 +108,16 @@ impl<I> SplitSolver<I> {
     }
 
     /// How often the last call that succeeded took up a pair of segments, or of parts of them in a column, even if only
-    /// to find that they do not meet; 0 at first. It stops at `u128::MAX`. A tree over heights is asked on the way to a
-    /// pair without being counted, and so is each of a few live segments, fewer than 48.
+    /// to find that they do not meet; 0 at first. It stops at `u128::MAX`.
+    ///
+    /// A pass over the list takes up just the twos whose ranges in `x` meet. A pass over a tree takes up at most those
+    /// whose ranges in `x` and in `y` meet, and 48 for each segment. A pass over a grid takes up at most the twos of
+    /// parts in one column whose ranges in `y` meet, one for each part, and, for a vertical segment on the left border
+    /// of a column, the parts in the column to its left.
+    ///
+    /// Not counted are comparisons that take up no pair: of heights with the nodes on the way down a tree, of the ends
+    /// of live segments with the place of the sweep, and with the first segment or part past the end of a scan, one at
+    /// most for each. That nothing else is compared without being counted is read, not proved.
     pub fn looked(&self) -> u128
         ensures { result ≡ looked_of self.now }
     {
@@ -164,12 +170,9 @@ impl<I: OverlayInt> SplitSolver<I> {
             → LeavesRange (settings_of I.BITS solver.now self.old) (segments_of list.old.items)) }
         ensures emptied { OnErr result (list.new.items ≡ []) }
         ensures passes { OnErr result (passes_of self.new ≡ passes_of self.old) }
-        ensures looked { HasNoListPass solver.now.strategy (settings_of I.BITS solver.now self.old)
-            (segments_of list.old.items) (passes_of self.new) →
-            OnOk result ((grid : Option Layout) × IsGridFor solver.now.strategy
-            (join (segments_of list.old.items)) grid ×
-            (looked_of self.new ≤ run_looks (settings_of I.BITS solver.now self.old) grid
-            (segments_of list.old.items) (passes_of self.new))) }
+        ensures looked { OnOk result ((grid : Option Layout) × AreRunLooks solver.now.strategy
+            (settings_of I.BITS solver.now self.old) (segments_of list.old.items) grid (passes_of self.new)
+            (looked_of self.new)) }
         ensures looked_before { OnErr result (looked_of self.new ≡ looked_of self.old) }
         ensures limit { snap_limit_of self.new ≡ snap_limit_of self.old }
         ensures empty { list.old.items ≡ [] → (result ≡ Ok false) × (passes_of self.new ≡ 0) }
@@ -249,12 +252,9 @@ impl<I: OverlayInt> SplitSolver<I> {
             store.old store.new)) }
         ensures store_made { IsMadeFrom (hooks_of C.counted D.OverlayEdgeData.own) store.old store.new }
         ensures passes { OnErr result (passes_of self.new ≡ passes_of self.old) }
-        ensures looked { HasNoListPass solver.now.strategy (settings_of I.BITS solver.now self.old)
-            (segments_of list.old.items) (passes_of self.new) →
-            OnOk result ((grid : Option Layout) × IsGridFor solver.now.strategy
-            (join (segments_of list.old.items)) grid ×
-            (looked_of self.new ≤ run_looks (settings_of I.BITS solver.now self.old) grid
-            (segments_of list.old.items) (passes_of self.new))) }
+        ensures looked { OnOk result ((grid : Option Layout) × AreRunLooks solver.now.strategy
+            (settings_of I.BITS solver.now self.old) (segments_of list.old.items) grid (passes_of self.new)
+            (looked_of self.new)) }
         ensures looked_before { OnErr result (looked_of self.new ≡ looked_of self.old) }
         ensures limit { snap_limit_of self.new ≡ snap_limit_of self.old }
         ensures empty { list.old.items ≡ [] → (result ≡ Ok false) × (passes_of self.new ≡ 0) }
@@ -330,9 +330,8 @@ impl Progress {
             ≡ (self.has_changed || nat_lt 0 (mark_count (placing_of placing) (segments_of list.old.items)))) }
         ensures goes_on { IfOk result (λ after. after.goes_on
             ≡ (nat_le 2 (length list.new.items) && is_rounded (segments_of list.old.items))) }
-        ensures looked { IsFalse (list_splits (solver_in finder.old).strategy (length list.old.items)) →
-            OnOk result (looks_in finder.new ≤ looks_in finder.old
-            + pass_looks (layout_in finder.old) (pairs (segments_of list.old.items))) }
+        ensures looked { OnOk result (ArePassLooks (solver_in finder.old).strategy (layout_in finder.old)
+            (pairs (segments_of list.old.items)) (looks_in finder.old) (looks_in finder.new)) }
 
         ensures fits { OnOk result (IsFalse (join_leaves_range
             (cut (placing_of placing) (segments_of list.old.items)))) }

@@ -115,7 +115,8 @@ fn lines_above_one_another(rt: HostRuntime) {
     for y in 0..4000 {
         push_side(&rt, &mut segments, (0, y), (10, y));
     }
-    assert_eq!(rt; ask(&rt, rt.alloc(), &mut segments, SNAPPING), (0, 0));
+    // Each of the first 48 lines looks at those below it, and then all stand in a tree, where no heights meet.
+    assert_eq!(rt; ask(&rt, rt.alloc(), &mut segments, SNAPPING), (0, 48 * 47 / 2));
 }
 
 #[test]
@@ -125,7 +126,7 @@ fn lines_beside_one_another(rt: HostRuntime) {
         let left = 10 * i32::from(place);
         push_side(&rt, &mut segments, (left, 0), (left + 5, 0));
     }
-    // No two boxes meet: no more than one look at each, where it is dropped.
+    // No two boxes meet, and each line has ended before the next: no more than one look at each.
     let (marks, looked) = ask(&rt, rt.alloc(), &mut segments, SNAPPING);
     assert_eq!(rt; marks, 0);
     assert!(rt; looked <= 1000);
@@ -147,12 +148,14 @@ fn grid(rt: &impl Abort, alloc: Global, size: u16) -> (usize, u128) {
 fn few_crossing_lines(rt: HostRuntime) {
     let (marks, looked) = grid(&rt, rt.alloc(), 20);
     assert_eq!(rt; marks, 800);
-    assert!(rt; 400 <= looked && looked <= 400 + 40);
+    // Each line across looks at those below it, and each upright line at all lines across.
+    assert_eq!(rt; looked, 20 * 19 / 2 + 400);
 }
 
 #[test]
 fn many_crossing_lines(rt: HostRuntime) {
     let (marks, looked) = grid(&rt, rt.alloc(), 60);
     assert_eq!(rt; marks, 7200);
-    assert!(rt; 3600 <= looked && looked <= 3600 + 120);
+    // Beside the looks among the first 48 lines across, each line is dropped with one look at most.
+    assert!(rt; 3600 + 48 * 47 / 2 <= looked && looked <= 3600 + 48 * 47 / 2 + 120);
 }

@@ -1,12 +1,12 @@
 -- Where a sweep over an interval tree stands: which entries its tree has, which of them are live, and how often it has looked.
-use Rattle.std.specs.Prelude.{◌≡◌, ℕ, ◌+◌, ◌-◌, ◌^◌, ◌<◌, ◌≤◌, ◌<ℤ◌, ◌==◌, min, true, false, List, ◌++◌, map, length, take, count_by, IsPermutation}
+use Rattle.std.specs.Prelude.{◌≡◌, ℕ, ◌+◌, ◌-◌, ◌*◌, ◌^◌, ◌<◌, ◌≤◌, ◌<ℤ◌, ◌==◌, min, true, false, List, ◌++◌, map, length, take, count_by, IsPermutation}
 use Rattle.std.specs.Int.{int_min, int_max}
 use Rattle.std.specs.List.{AllByRecursion, list_any}
 use Rattle.overlay_geometry.specs.Points.{Pair}
 use Rattle.overlay_geometry.specs.Meeting.{are_apart}
 use Rattle.overlay_intersections.specs.Looked.{boxes_meet, count_twos}
 use Rattle.overlay_tree.specs.steps.IntervalTree.{Entry, TreeNode, WholeQuery, entries, AreRising, IsSummed}
-use Rattle.overlay_tree.specs.steps.Swept.{pair_at, entries_between, unswept}
+use Rattle.overlay_tree.specs.steps.Swept.{few, pair_at, entries_between, unswept}
 
 abbrev pub unlive : Entry → Entry
 unlive e = record e { is_live = false }
@@ -30,11 +30,12 @@ pub record IsSwept (ps : List Pair) (es : List Entry) (j : ℕ) : Type 0 where
 abbrev pub live_count : List Entry → ℕ
 live_count es = count_by (λ e. e.is_live) es
 
--- The looks so far are the twos of the first segments whose boxes meet, and the entries that were dropped: each is live once.
+-- The looks so far are the twos of the first segments whose boxes meet, and others: the entries that were dropped, each of which
+-- was live once, and fewer than 48 for each segment that was compared with all that were live.
 pub record IsCounted (ps : List Pair) (es : List Entry) (j old now : ℕ) : Type 0 where
-  pub dropped : ℕ
-  pub once : dropped + live_count es ≤ j
-  pub is : now ≡ min (old + (count_twos boxes_meet (take j ps) + dropped)) (2 ^ 128 - 1)
+  pub others : ℕ
+  pub most : others + live_count es ≤ few * j
+  pub is : now ≡ min (old + (count_twos boxes_meet (take j ps) + others)) (2 ^ 128 - 1)
 
 -- the entries that are not in the tree: those that have gone, and those that are to come
 abbrev pub away : List Pair → List Entry → ℕ → List Entry

@@ -1,28 +1,24 @@
 // Look-ups among a few entries, one after another, where a tree would be worth less than it costs.
-ghost use Rattle.std.specs.Prelude.{◌≡◌, ◌<◌, ◌+◌, ◌-◌, ◌^◌, ◌++◌, [], ◌∷◌, count_by, length, min, int_lt, OnOk};
+ghost use Rattle.std.specs.Prelude.{◌≡◌, ◌+◌, ◌-◌, ◌^◌, ◌++◌, [], ◌∷◌, length, min, int_lt, OnOk};
 ghost use Rattle.overlay_tree.specs.steps.IntervalTree.{entries, found, is_taken_up};
 ghost use Rattle.overlay_tree.specs.steps.NodeOf.{entry_of, nodes_of, query_of};
-ghost use Rattle.overlay_tree.specs.steps.Swept.{few};
 
 use crate::split::interval_tree::{Node, Query};
 use overlay_geometry::num::OverlayInt;
 use overlay_intersections::split::looks::take_up;
 use std::alloc::AllocError;
 
-/// Appends the indexes that `look_up` finds, by a look at each node, in any order of the nodes. Drops none. There have
-/// to be few nodes, since `looked` counts those alone whose heights are met.
+/// Appends the indexes that `look_up` finds, by a look at each node, in any order of the nodes. Drops none. `looked`
+/// counts each node, whether its heights are met or not.
 pub fn look_through<I: OverlayInt>(
     nodes: &[Node<I>],
     query: &Query<I>,
     indexes: &mut Vec<usize>,
     looked: &mut u128,
 ) -> Result<(), AllocError>
-    requires { length nodes.now < few }
     ensures found { OnOk result (indexes.new.items
         ≡ indexes.old.items ++ found (query_of I.whole query.now) (entries (nodes_of I.whole nodes.now))) }
-    ensures looked { OnOk result (looked.new
-        ≡ min (looked.old + count_by (is_taken_up (query_of I.whole query.now))
-        (entries (nodes_of I.whole nodes.now))) (2 ^ 128 - 1)) }
+    ensures looked { OnOk result (looked.new ≡ min (looked.old + length nodes.now) (2 ^ 128 - 1)) }
 {
     let _looked = *looked;
     for place in 0..nodes.len() {
@@ -31,8 +27,8 @@ pub fn look_through<I: OverlayInt>(
     Ok(())
 }
 
-/// Takes up the entry of a node, where it is live and the look-up meets its heights, and appends its index where it
-/// does not end left of the sweep.
+/// Takes up the entry of a node, and appends its index where it is live, the look-up meets its heights, and it does not
+/// end left of the sweep.
 fn look_at_one<I: OverlayInt>(
     node: &Node<I>,
     query: &Query<I>,
@@ -41,15 +37,12 @@ fn look_at_one<I: OverlayInt>(
 ) -> Result<(), AllocError>
     ensures found { OnOk result (indexes.new.items
         ≡ indexes.old.items ++ found (query_of I.whole query.now) (entry_of I.whole node.now ∷ [])) }
-    ensures looked { OnOk result (looked.new
-        ≡ min (looked.old + count_by (is_taken_up (query_of I.whole query.now)) (entry_of I.whole node.now ∷ []))
-        (2 ^ 128 - 1)) }
+    ensures looked { OnOk result (looked.new ≡ min (looked.old + 1) (2 ^ 128 - 1)) }
 {
-    let _looked = *looked;
+    take_up(looked);
     if !is_met(node, query) {
         return Ok(());
     }
-    take_up(looked);
     if has_ended(node, query.x) {
         return Ok(());
     }

@@ -50,10 +50,13 @@ impl<I> TreeBuffers<I> {
 /// are the same.
 ///
 /// A sweep over the list keeps the segments that it has met: a few in a list, and more in a tree over their heights,
-/// which is renewed from time to time, so that it has few that have ended. Each segment takes up those whose heights it
-/// meets: those that end left of it are dropped, with the others it is marked. So besides one look at each segment that
-/// is dropped, it looks at those two alone whose ranges in `x` and in `y` meet; `looked` counts the looks, and not the
-/// comparisons of heights on the way to them, in the tree or with each of the few.
+/// which is renewed from time to time, so that it has few that have ended. In a tree each segment takes up those whose
+/// heights it meets: those that end left of it are dropped, with the others it is marked. Where fewer than 48 are live,
+/// it takes up each of them.
+///
+/// `looked` counts the looks. For `s` segments they are at most `48 * s + q`, with `q` the twos whose ranges in `x` and
+/// in `y` meet. Comparisons that are not counted: of heights with the nodes on the way down a tree, and of the ends of
+/// live segments with the place of the sweep, where those that have ended are taken out.
 ///
 /// Answers `Fault::Memory` where a growth is refused; `marks` is of no use then.
 pub fn find_marks<C: WindingCount, I: OverlayInt, D: Copy>(
@@ -134,8 +137,11 @@ fn may_take(limit: Option<u128>, looked: u128, more: usize) -> bool
     }
 }
 
-/// So few entries are looked at one by one, and stand in no tree.
+/// Fewer segments than this that are live stand in no tree, and each later segment is compared with all of them. A
+/// look through so few costs less than a tree. The bound on looks has it as its factor.
 const FEW: usize = 48;
+
+const _: () = prove!(FEW == 48);
 
 /// Takes the segment at an index into the sweep: finds those before it that are live and whose heights it meets, and
 /// adds it. The tree has the entries of segments up to `until`; answers up to which it has them then.
@@ -234,8 +240,11 @@ fn take_among_few<C: WindingCount, I: OverlayInt, D: Copy>(
     Ok(())
 }
 
-/// So many segments at least are added to a tree at once.
+/// So many segments at least are added to a tree at once, if there are so many. Without a least number a tree that
+/// keeps nothing would be sorted anew for every segment.
 const LEAST_MORE: usize = 8;
+
+const _: () = prove!(LEAST_MORE == 8);
 
 /// Takes those entries out of the tree that are not live or end left of the segment at an index, and adds the entries
 /// of segments from there on, none of them live. Answers up to which segment.

@@ -1,49 +1,71 @@
--- How many pairs a run takes up, from one pass to the next.
-use Rattle.std.proofs.Common.{◌≡◌, sym, ap, subst, ◌∙◌, ℕ, suc, ◌+◌, ◌≤◌, arith, List, [], ◌∷◌, length, IsFalse}
-use Rattle.std.specs.Prelude.{Option, None}
+-- How many pairs a pass takes up by what it goes over, and a run from one pass to the next.
+use Rattle.std.proofs.Common.{◌≡◌, sym, ap, subst, ◌∙◌, ℕ, suc, ◌+◌, ◌-◌, ◌≤◌, arith, List, [], ◌∷◌, length, Bool, true, false, cond}
+use Rattle.std.specs.Prelude.{Option, None, min, ◌^◌, IsTrue}
 use Rattle.std.proofs.lemmas.List.{length-map}
+use Rattle.std.proofs.lemmas.Bool.{both_ways}
+use Rattle.overlay_geometry.specs.Points.{Pair}
 use Rattle.overlay_geometry.specs.Sorting.{distinct_in_order, stably_sorted}
 use Rattle.overlay_base.specs.Segments.{WholeSegment, pairs}
 use Rattle.overlay_base.specs.Choices.{list_splits}
 use Rattle.overlay_base.specs.Join.{summed, join}
-use Rattle.overlay_base.specs.SegmentOf.{segment_of, segments_of}
-use Rattle.overlay_base.specs.declared.segm.segment.Segment.{Segment}
 use Rattle.overlay_base.specs.declared.overlay_core.solver.Strategy.{Strategy}
 use Rattle.overlay_grid.specs.Grid.{Layout}
+use Rattle.overlay_intersections.specs.Looked.{count_twos, x_ranges_meet, list_looks}
 use Rattle.overlay_split.specs.Run.{Settings, after_passes}
-use Rattle.overlay_split.specs.PassLooks.{pass_looks}
-use Rattle.overlay_split.specs.RunLooks.{HasNoListPass, run_looks}
+use Rattle.overlay_split.specs.PassLooks.{wide_looks, pass_looks, ArePassLooks}
+use Rattle.overlay_split.specs.RunLooks.{run_looks, AreRunLooks}
 use Rattle.overlay_grid.specs.GridFor.{IsGridFor}
 
--- the grid is that of the run, and the looks of n passes are no more than it allows
-pub record HasLooked (strategy : Strategy) (settings : Settings) (given : List WholeSegment) (grid : Option Layout) (n looked : ℕ) : Type 0 where
-  pub is_for : IsGridFor strategy (join given) grid
-  pub few : HasNoListPass strategy settings given n → looked ≤ run_looks settings grid given n
+-- ---- a pass
 
-pub HasLooked-start : (strategy : Strategy) (settings : Settings) (given first : List WholeSegment) (grid : Option Layout) → first ≡ join given → IsGridFor strategy first grid → HasLooked strategy settings given grid 0 0
-HasLooked-start strategy settings given first grid e h = record { is_for = subst (λ (l : List WholeSegment). IsGridFor strategy l grid) e h; few = λ none. omega arith }
+pub ArePassLooks-listed : (strategy : Strategy) (grid : Option Layout) (ps : List Pair) (old new : ℕ) → list_splits strategy (length ps) ≡ true → new ≡ min (old + count_twos x_ranges_meet ps) (2 ^ 128 - 1) → ArePassLooks strategy grid ps old new
+unfolding pass_looks list_looks
+ArePassLooks-listed strategy grid ps old new e h =
+    let looks : pass_looks strategy grid ps ≡ count_twos x_ranges_meet ps = ap (λ (b : Bool). cond b (list_looks ps) (wide_looks grid ps)) e in
+    let is : new ≡ min (old + pass_looks strategy grid ps) (2 ^ 128 - 1) = h ∙ ap (λ (n : ℕ). min (old + n) (2 ^ 128 - 1)) (sym looks) in
+    record { most = no_more new _ (2 ^ 128 - 1) is; exact = λ t. is }
+  where
+    no_more : (n m w : ℕ) → n ≡ min m w → n ≤ m
+    no_more n m w e = omega arith
+
+pub ArePassLooks-wide : (strategy : Strategy) (grid : Option Layout) (ps : List Pair) (old new : ℕ) → list_splits strategy (length ps) ≡ false → new ≤ old + wide_looks grid ps → ArePassLooks strategy grid ps old new
+unfolding pass_looks
+ArePassLooks-wide strategy grid ps old new e h =
+    let looks : pass_looks strategy grid ps ≡ wide_looks grid ps = ap (λ (b : Bool). cond b (list_looks ps) (wide_looks grid ps)) e in
+    record { most = subst (λ (n : ℕ). new ≤ old + n) (sym looks) h; exact = λ t. absurd (both_ways _ e t) }
+
+-- ---- a run
+
+pub AreRunLooks-start : (strategy : Strategy) (settings : Settings) (given first : List WholeSegment) (grid : Option Layout) → first ≡ join given → IsGridFor strategy first grid → AreRunLooks strategy settings given grid 0 0
+unfolding run_looks
+AreRunLooks-start strategy settings given first grid e h = record { is_for = subst (λ (l : List WholeSegment). IsGridFor strategy l grid) e h; most = omega arith; exact = λ lists. omega arith }
 
 -- of nothing
-pub HasLooked-none : (strategy : Strategy) (settings : Settings) (given : List WholeSegment) → length given ≡ 0 → HasLooked strategy settings given None 0 0
-unfolding join summed distinct_in_order stably_sorted
-HasLooked-none strategy settings [] h = record { is_for = λ t. tt; few = λ none. omega arith }
-HasLooked-none strategy settings (s ∷ given) h = absurd (omega (arith, h))
+pub AreRunLooks-none : (strategy : Strategy) (settings : Settings) (given : List WholeSegment) → length given ≡ 0 → AreRunLooks strategy settings given None 0 0
+unfolding join summed distinct_in_order stably_sorted run_looks
+AreRunLooks-none strategy settings [] h = record { is_for = λ t. tt; most = omega arith; exact = λ lists. omega arith }
+AreRunLooks-none strategy settings (s ∷ given) h = absurd (omega (arith, h))
 
-module _ {C I D : Type 0} {m : _} {w : _} {o : _} {e : _} {p : _} where
-  pub HasLooked-more : (strategy own : Strategy) (settings : Settings) (given : List WholeSegment) (list : List (Segment C I D m w o e p)) (grid later : Option Layout) (n k old new : ℕ) → HasLooked strategy settings given grid n old → own ≡ strategy → later ≡ grid → k ≡ n + 1 →
-      segments_of list ≡ after_passes settings given n → (IsFalse (list_splits own (length list)) → new ≤ old + pass_looks grid (pairs (segments_of list))) → HasLooked strategy settings given later k new
-  unfolding run_looks
-  HasLooked-more strategy own settings given list grid later n k old new before mine same next is looks =
-      rw same (record { is_for = before.is_for; few = few })
-    where
-      suc_is : (n : ℕ) → suc n ≡ n + 1
-      suc_is n = omega arith
+pub AreRunLooks-more : (strategy own : Strategy) (settings : Settings) (given list : List WholeSegment) (grid later : Option Layout) (n k old new : ℕ) → AreRunLooks strategy settings given grid n old → own ≡ strategy → later ≡ grid → k ≡ n + 1 →
+    list ≡ after_passes settings given n → ArePassLooks own grid (pairs list) old new → AreRunLooks strategy settings given later k new
+unfolding run_looks
+AreRunLooks-more strategy own settings given list grid later n k old new before mine same next is looks =
+    rw same (subst (λ (i : ℕ). AreRunLooks strategy settings given grid i new) (suc_is n ∙ sym next) more)
+  where
+    suc_is : (n : ℕ) → suc n ≡ n + 1
+    suc_is n = omega arith
 
-      few : HasNoListPass strategy settings given k → new ≤ run_looks settings grid given k
-      few none =
-          let here : IsFalse (list_splits strategy (length list)) = ap (list_splits strategy) (sym (length-map list segment_of) ∙ ap length is) ∙ none n (omega (arith, next)) in
-          let own_here : IsFalse (list_splits own (length list)) = subst (λ (s : Strategy). IsFalse (list_splits s (length list))) (sym mine) here in
-          let looks : new ≤ old + pass_looks grid (pairs (after_passes settings given n)) = subst (λ (l : List WholeSegment). new ≤ old + pass_looks grid (pairs l)) is (looks own_here) in
-          let earlier : old ≤ run_looks settings grid given n = before.few (λ i lt. none i (omega (arith, next))) in
-          let all : new ≤ run_looks settings grid given (suc n) = omega (arith, looks, earlier) in
-          subst (λ (i : ℕ). new ≤ run_looks settings grid given i) (suc_is n ∙ sym next) all
+    here : ArePassLooks strategy grid (pairs (after_passes settings given n)) old new
+    here = subst (λ (l : List WholeSegment). ArePassLooks strategy grid (pairs l) old new) is (subst (λ (s : Strategy). ArePassLooks s grid (pairs list) old new) mine looks)
+
+    both : (r p o m w : ℕ) → o ≡ min r w → m ≡ min (o + p) w → m ≡ min (r + p) w
+    both r p o m w e h = omega arith
+
+    more : AreRunLooks strategy settings given grid (suc n) new
+    more = record {
+      is_for = before.is_for;
+      most = (let a = before.most in let b = here.most in omega (arith, a, b));
+      exact = λ lists.
+          let listed : IsTrue (list_splits strategy (length (pairs (after_passes settings given n)))) = ap (list_splits strategy) (length-map (after_passes settings given n) (λ s. s.pair)) ∙ lists n (omega arith) in
+          both _ _ old new (2 ^ 128 - 1) (before.exact (λ i lt. lists i (omega arith))) (here.exact listed);
+    }

@@ -1,5 +1,5 @@
 -- How many entries the look-ups of a sweep take up: each two whose boxes meet once, and each entry once more, where it is dropped.
-use Rattle.std.proofs.Common.{◌≡◌, refl, sym, ap, ap₂, subst, ◌∙◌, ℕ, zero, suc, ◌+◌, ◌-◌, ◌<◌, ◌≤◌, ◌==◌, arith, Bool, true, false, not, ◌&&◌, ◌||◌, cond, IsTrue, List, [], ◌∷◌, ◌++◌, map, length, get_or, take, IsPermutation}
+use Rattle.std.proofs.Common.{◌≡◌, refl, sym, ap, ap₂, subst, ◌∙◌, ℕ, zero, suc, ◌+◌, ◌-◌, ◌*◌, ◌<◌, ◌≤◌, ◌==◌, arith, Bool, true, false, not, ◌&&◌, ◌||◌, cond, IsTrue, List, [], ◌∷◌, ◌++◌, map, length, get_or, take, IsPermutation}
 use Rattle.std.specs.Prelude.{min, ◌^◌, ℤ, ◌≤ℤ◌, int_lt, nat_lt, count_by}
 use Rattle.std.specs.Int.{int_min, int_max}
 use Rattle.std.specs.List.{AllByRecursion, range_with_len}
@@ -14,7 +14,7 @@ use Rattle.overlay_geometry.proofs.laws.lists.Keys.{IsInOrder}
 use Rattle.overlay_geometry.proofs.laws.geometry.Points.{ordered_x}
 use Rattle.overlay_geometry.proofs.laws.lists.Lists.{AllByRecursion-weaker, AllByRecursion-both, sum_by-map}
 use Rattle.overlay_tree.specs.steps.IntervalTree.{Entry, WholeQuery, is_at_heights, is_taken_up, is_found, is_dropped, left_by, inserted}
-use Rattle.overlay_tree.specs.steps.Swept.{nowhere, pair_at, entry_at, unswept}
+use Rattle.overlay_tree.specs.steps.Swept.{few, nowhere, pair_at, entry_at, unswept}
 use Rattle.overlay_intersections.specs.Looked.{count_twos, ranges_meet, boxes_meet, tree_looks}
 use Rattle.overlay_tree.proofs.laws.tree.IntervalTrees.{count_by-append}
 use Rattle.overlay_tree.specs.steps.TreeSweep.{unlive, Gone, IsSwept, query_at, live_count, IsCounted}
@@ -248,7 +248,7 @@ pub IsCounted-start : (ps : List Pair) (es : List Entry) (old : ℕ) → old ≤
 unfolding count_twos
 IsCounted-start ps es old fits dead =
     let none = no_live es dead in
-    record { dropped = 0; once = omega arith; is = unchanged old (2 ^ 128 - 1) fits }
+    record { others = 0; most = omega arith; is = unchanged old (2 ^ 128 - 1) fits }
   where
     no_live : (es : List Entry) → AllByRecursion (λ e. e.is_live ≡ false) es → live_count es ≡ 0
     no_live [] h = refl
@@ -257,9 +257,10 @@ IsCounted-start ps es old fits dead =
     unchanged : (m w : ℕ) → m ≤ w → m ≡ min (m + (0 + 0)) w
     unchanged m w h = omega arith
 
-pub IsCounted-more : (ps : List Pair) (es : List Entry) (j old now next : ℕ) → IsSwept ps es j → IsInOrder pair_cmp ps → AllByRecursion (λ s. IsTrue (is_ordered s)) ps → j < length ps → IsCounted ps es j old now →
-    next ≡ min (now + count_by (is_taken_up (query_at ps j)) es) (2 ^ 128 - 1) → IsCounted ps (map (inserted j) (map (left_by (query_at ps j)) es)) (j + 1) old next
-IsCounted-more ps es j old now next swept order ordered w counted h =
+-- a look-up takes up what it finds or drops, and maybe a few more
+pub IsCounted-more : (ps : List Pair) (es : List Entry) (j old now next extra : ℕ) → IsSwept ps es j → IsInOrder pair_cmp ps → AllByRecursion (λ s. IsTrue (is_ordered s)) ps → j < length ps → IsCounted ps es j old now → extra < few →
+    next ≡ min (now + (count_by (is_taken_up (query_at ps j)) es + extra)) (2 ^ 128 - 1) → IsCounted ps (map (inserted j) (map (left_by (query_at ps j)) es)) (j + 1) old next
+IsCounted-more ps es j old now next extra swept order ordered w counted less h =
     let q = query_at ps j in
     let taken = count_by (is_taken_up q) es in
     let balance = looks_balance q es in
@@ -270,19 +271,19 @@ IsCounted-more ps es j old now next swept order ordered w counted h =
     let left = live_count (map (left_by q) es) in
     let found = count_by (is_found q) es in
     let fewer : left ≤ live = left_few q es in
-    let gone : taken ≡ found + (live - left) = difference taken left found live balance fewer in
+    let gone : taken + extra ≡ found + ((live - left) + extra) = difference taken left found live extra balance fewer in
     record {
-      dropped = counted.dropped + (live - left);
-      once = let once = counted.once in kept_once counted.dropped live left (live_count (map (inserted j) (map (left_by q) es))) j fewer once one;
-      is = h ∙ ap (λ (n : ℕ). min (n + taken) (2 ^ 128 - 1)) counted.is
-          ∙ twice old (count_twos boxes_meet (take j ps)) counted.dropped taken found (live - left) (count_twos boxes_meet (take (j + 1) ps)) (2 ^ 128 - 1) gone (twos ∙ ap (λ (n : ℕ). count_twos boxes_meet (take j ps) + n) (sym all));
+      others = counted.others + ((live - left) + extra);
+      most = let most = counted.most in kept_few counted.others live left (live_count (map (inserted j) (map (left_by q) es))) extra j fewer most one less;
+      is = h ∙ ap (λ (n : ℕ). min (n + (taken + extra)) (2 ^ 128 - 1)) counted.is
+          ∙ twice old (count_twos boxes_meet (take j ps)) counted.others (taken + extra) found ((live - left) + extra) (count_twos boxes_meet (take (j + 1) ps)) (2 ^ 128 - 1) gone (twos ∙ ap (λ (n : ℕ). count_twos boxes_meet (take j ps) + n) (sym all));
     }
   where
-    difference : (t l f v : ℕ) → t + l ≡ f + v → l ≤ v → t ≡ f + (v - l)
-    difference t l f v e h = omega arith
+    difference : (t l f v x : ℕ) → t + l ≡ f + v → l ≤ v → t + x ≡ f + ((v - l) + x)
+    difference t l f v x e h = omega arith
 
-    kept_once : (d v l n j : ℕ) → l ≤ v → d + v ≤ j → n ≤ l + 1 → (d + (v - l)) + n ≤ j + 1
-    kept_once d v l n j h k m = omega arith
+    kept_few : (d v l n x j : ℕ) → l ≤ v → d + v ≤ 48 * j → n ≤ l + 1 → x < 48 → (d + ((v - l) + x)) + n ≤ 48 * (j + 1)
+    kept_few d v l n x j h k m i = omega arith
 
     twice : (o c d t f g c' w : ℕ) → t ≡ f + g → c' ≡ c + f → min (min (o + (c + d)) w + t) w ≡ min (o + (c' + (d + g))) w
     twice o c d t f g c' w e k = omega arith
@@ -301,7 +302,7 @@ IsCounted-more ps es j old now next swept order ordered w counted h =
         fewer_one true false = omega arith
         fewer_one false d = omega arith
 
--- each two whose boxes meet, and no more than one look at each segment beside
+-- each two whose boxes meet, and no more than 48 looks for each segment beside
 pub record AreLooks (ps : List Pair) (old now : ℕ) : Type 0 where
   pub least : min (old + count_twos boxes_meet ps) (2 ^ 128 - 1) ≤ now
   pub most : now ≤ old + tree_looks ps
@@ -311,10 +312,10 @@ unfolding tree_looks
 IsCounted-end ps es j old now e counted =
     let same = ap (count_twos boxes_meet) (take_all ps j e) in
     let is = counted.is in
-    let once = counted.once in
+    let most = counted.most in
     record {
-      least = at_least old (count_twos boxes_meet ps) _ counted.dropped now (2 ^ 128 - 1) same is;
-      most = at_most old (count_twos boxes_meet ps) _ counted.dropped now (length ps) (2 ^ 128 - 1) same is (few_enough counted.dropped (live_count es) j (length ps) once e);
+      least = at_least old (count_twos boxes_meet ps) _ counted.others now (2 ^ 128 - 1) same is;
+      most = at_most old (count_twos boxes_meet ps) _ counted.others now (48 * length ps) (2 ^ 128 - 1) same is (few_enough counted.others (live_count es) j (length ps) most e);
     }
   where
     take_all : (xs : List Pair) (n : ℕ) → length xs ≡ n → take n xs ≡ xs
@@ -329,5 +330,5 @@ IsCounted-end ps es j old now e counted =
     at_most : (o c c' d n l w : ℕ) → c' ≡ c → n ≡ min (o + (c' + d)) w → d ≤ l → n ≤ o + (l + c)
     at_most o c c' d n l w e h k = omega arith
 
-    few_enough : (d v j l : ℕ) → d + v ≤ j → l ≡ j → d ≤ l
+    few_enough : (d v j l : ℕ) → d + v ≤ 48 * j → l ≡ j → d ≤ 48 * l
     few_enough d v j l h e = omega arith

@@ -276,6 +276,9 @@ module _ {I : Type 0} (whole : I → ℤ) where
 
   -- ---- a look at one entry after another
 
+  pub length-entries : (nodes : List (Node I)) → length (entries_in nodes) ≡ length nodes
+  length-entries nodes = length-map (nodes_of whole nodes) (λ n. n.entry) ∙ length-map nodes (node_of whole)
+
   pub entries-next : (nodes : List (Node I)) (j : ℕ) (n : Node I) → j < length nodes → n ≡ get_or nodes j n → drop j (entries_in nodes) ≡ entry_of whole n ∷ drop (j + 1) (entries_in nodes)
   entries-next [] j n lt e = absurd (omega arith)
   entries-next (x ∷ nodes) zero n lt e = ap (λ (u : Node I). entry_of whole u ∷ entries_in nodes) (sym e)
@@ -287,25 +290,28 @@ module _ {I : Type 0} (whole : I → ℤ) where
   entries-none (x ∷ nodes) zero le = absurd (omega arith)
   entries-none (x ∷ nodes) (suc j) le = entries-none nodes j (omega arith)
 
--- what is found and what is left to look at make up the whole, and so do the looks
+-- what is found and what is left to look at make up the whole, and so do the looks, one at each
 pub record IsLookedThrough (q : WholeQuery) (es : List Entry) (first now : List ℕ) (old looked : ℕ) (left : List Entry) : Type 0 where
   pub fits : looked ≤ 2 ^ 128 - 1
   pub all : now ++ found q left ≡ first ++ found q es
-  pub count : min (looked + count_by (is_taken_up q) left) (2 ^ 128 - 1) ≡ min (old + count_by (is_taken_up q) es) (2 ^ 128 - 1)
+  pub count : min (looked + length left) (2 ^ 128 - 1) ≡ min (old + length es) (2 ^ 128 - 1)
 
 pub IsLookedThrough-more : (q : WholeQuery) (es : List Entry) (e : Entry) (first now next : List ℕ) (old looked after : ℕ) (left : List Entry) → IsLookedThrough q es first now old looked (e ∷ left) →
-    next ≡ now ++ found q (e ∷ []) → after ≡ min (looked + count_by (is_taken_up q) (e ∷ [])) (2 ^ 128 - 1) → IsLookedThrough q es first next old after left
+    next ≡ now ++ found q (e ∷ []) → after ≡ min (looked + 1) (2 ^ 128 - 1) → IsLookedThrough q es first next old after left
 IsLookedThrough-more q es e first now next old looked after left w n h = record {
   fits = below after _ (2 ^ 128 - 1) h;
   all = ap (λ (is : List ℕ). is ++ found q left) n ∙ append_assoc now (found q (e ∷ [])) (found q left) ∙ ap (λ (is : List ℕ). now ++ is) (sym (found-append q (e ∷ []) left)) ∙ w.all;
-  count = ap (λ (m : ℕ). min (m + count_by (is_taken_up q) left) (2 ^ 128 - 1)) h ∙ twice looked (count_by (is_taken_up q) (e ∷ [])) (count_by (is_taken_up q) left) (count_by (is_taken_up q) (e ∷ left)) (2 ^ 128 - 1) (count_by-append (is_taken_up q) (e ∷ []) left) ∙ w.count;
+  count = ap (λ (m : ℕ). min (m + length left) (2 ^ 128 - 1)) h ∙ twice looked 1 (length left) (length (e ∷ left)) (2 ^ 128 - 1) (one_longer (length left)) ∙ w.count;
 }
   where
     below : (m n w : ℕ) → m ≡ min n w → m ≤ w
     below m n w e = omega arith
 
+    one_longer : (n : ℕ) → suc n ≡ 1 + n
+    one_longer n = omega arith
+
 pub IsLookedThrough-end : (q : WholeQuery) (es : List Entry) (first now : List ℕ) (old looked : ℕ) (left : List Entry) → IsLookedThrough q es first now old looked left → left ≡ [] →
-    (now ≡ first ++ found q es) × (looked ≡ min (old + count_by (is_taken_up q) es) (2 ^ 128 - 1))
+    (now ≡ first ++ found q es) × (looked ≡ min (old + length es) (2 ^ 128 - 1))
 IsLookedThrough-end q es first now old looked left w e =
     let all = rw e at w.all in
     let count = rw e at w.count in

@@ -6,6 +6,8 @@ use Rattle.std.proofs.lemmas.List.Sorted.{IsPermutation-refl, length_permutation
 use Rattle.std.proofs.lemmas.Bool.{eq-eqb, both_ways, and_parts, not-true, and_right}
 use Rattle.std.proofs.lemmas.List.{map-append, length-map}
 use Rattle.std.proofs.lemmas.List.FromFn.{length-map-range_with_len}
+use Rattle.std.proofs.lemmas.List.Sums.{count_by-le-length}
+use Rattle.std.proofs.Math.Nat.{add-zero}
 use Rattle.overlay_geometry.specs.Points.{Pair, pair_cmp, is_ordered}
 use Rattle.overlay_geometry.specs.Ranges.{WholeRange, heights}
 use Rattle.overlay_geometry.proofs.laws.lists.Keys.{IsInOrder}
@@ -13,7 +15,7 @@ use Rattle.overlay_geometry.proofs.laws.lists.Lists.{Has, AllByRecursion-at, All
 use Rattle.overlay_geometry.proofs.laws.lists.Elements.{Has-append_out}
 use Rattle.overlay_tree.specs.steps.IntervalTree.{Entry, TreeNode, entries, AreRising, IsSummed, WholeQuery, is_taken_up, is_dropped, found, left_by, inserted, stays_at, IsAt, IsUpTo}
 use Rattle.overlay_tree.proofs.laws.tree.IntervalTrees.{is_of, all_kept, none_inserted}
-use Rattle.overlay_tree.specs.steps.Swept.{pair_at, entry_at, entries_between, unswept}
+use Rattle.overlay_tree.specs.steps.Swept.{few, pair_at, entry_at, entries_between, unswept}
 use Rattle.overlay_tree.specs.steps.TreeSweep.{unlive, query_at, IsSwept, IsCounted, away, AreUnderWay, IsUnderWay, AreFoundBefore}
 use Rattle.overlay_tree.proofs.laws.tree.Sweeps.{IsSwept-start, IsSwept-more, all_earlier, found_all_near, entry_there, low_there, high_there, rising_map, unlive_map}
 use Rattle.overlay_tree.proofs.laws.tree.TreeRenewals.{coming_asleep, away_asleep, away_other, left_with, found_with, count_with, inserted_with, renewed}
@@ -103,9 +105,9 @@ AreFoundBefore-from ps es old now j until way ordered w =
     })
 
 -- the sweep goes on
-pub AreUnderWay-more : (ps : List Pair) (es : List Entry) (old m n j until : ℕ) → AreUnderWay ps es old m j until → IsInOrder pair_cmp ps → AllByRecursion (λ s. IsTrue (is_ordered s)) ps → j < until →
-    n ≡ min (m + count_by (is_taken_up (query_at ps j)) es) (2 ^ 128 - 1) → AreUnderWay ps (map (inserted j) (map (left_by (query_at ps j)) es)) old n (j + 1) until
-AreUnderWay-more ps es old m n j until way order ordered lt h =
+pub AreUnderWay-more : (ps : List Pair) (es : List Entry) (old m n extra j until : ℕ) → AreUnderWay ps es old m j until → IsInOrder pair_cmp ps → AllByRecursion (λ s. IsTrue (is_ordered s)) ps → j < until →
+    extra < few → n ≡ min (m + (count_by (is_taken_up (query_at ps j)) es + extra)) (2 ^ 128 - 1) → AreUnderWay ps (map (inserted j) (map (left_by (query_at ps j)) es)) old n (j + 1) until
+AreUnderWay-more ps es old m n extra j until way order ordered lt less h =
     let others = away ps way.gone until in
     let asleep = away_asleep ps way.gone until way.asleep in
     let inside = way.inside in
@@ -113,14 +115,14 @@ AreUnderWay-more ps es old m n j until way order ordered lt h =
     let p = query_at ps j in
     let same : map (inserted j) (map (left_by p) es) ++ others ≡ map (inserted j) (map (left_by p) (es ++ others)) =
     sym (ap (map (inserted j)) (left_with p es others asleep) ∙ inserted_with j (map (left_by p) es) others (away_other ps way.gone j until lt way.behind)) in
-    let taken : n ≡ min (m + count_by (is_taken_up p) (es ++ others)) (2 ^ 128 - 1) = h ∙ ap (λ (k : ℕ). min (m + k) (2 ^ 128 - 1)) (sym (count_with p es others asleep)) in
+    let taken : n ≡ min (m + (count_by (is_taken_up p) (es ++ others) + extra)) (2 ^ 128 - 1) = h ∙ ap (λ (k : ℕ). min (m + (k + extra)) (2 ^ 128 - 1)) (sym (count_with p es others asleep)) in
     record {
       gone = way.gone;
       asleep = way.asleep;
       behind = AllByRecursion-weaker (λ e. e.index < j) (λ e. e.index < j + 1) (λ e k. omega arith) way.gone way.behind;
       within = AllByRecursion-map (λ e. e.index < until) (inserted j) (map (left_by p) es) (AllByRecursion-map (λ e. e.index < until) (left_by p) es way.within);
       swept = subst (λ (xs : List Entry). IsSwept ps xs (j + 1)) (sym same) (IsSwept-more ps (es ++ others) j way.swept order w);
-      counted = subst (λ (xs : List Entry). IsCounted ps xs (j + 1) old n) (sym same) (IsCounted-more ps (es ++ others) j old m n way.swept order ordered w way.counted taken);
+      counted = subst (λ (xs : List Entry). IsCounted ps xs (j + 1) old n) (sym same) (IsCounted-more ps (es ++ others) j old m n extra way.swept order ordered w way.counted less taken);
       reached = omega arith;
       inside = way.inside;
     }
@@ -134,7 +136,8 @@ IsUnderWay-more ps nodes between next old m n j until q way order ordered lt is 
     let es = entries nodes in
     let p = query_at ps j in
     let own : entries next ≡ map (inserted j) (map (left_by p) es) = put ∙ ap (map (inserted j)) (left ∙ ap (λ (p : WholeQuery). map (left_by p) es) is) in
-    let more = AreUnderWay-more ps es old m n j until way.way order ordered lt (h ∙ ap (λ (p : WholeQuery). min (m + count_by (is_taken_up p) es) (2 ^ 128 - 1)) is) in
+    let looks : n ≡ min (m + (count_by (is_taken_up p) es + 0)) (2 ^ 128 - 1) = h ∙ ap (λ (p : WholeQuery). min (m + count_by (is_taken_up p) es) (2 ^ 128 - 1)) is ∙ ap (λ (k : ℕ). min (m + k) (2 ^ 128 - 1)) (sym (add-zero (count_by (is_taken_up p) es))) in
+    let more = AreUnderWay-more ps es old m n 0 j until way.way order ordered lt (omega arith) looks in
     record {
       way = subst (λ (l : List Entry). AreUnderWay ps l old n (j + 1) until) (sym own) more;
       rising = λ l. subst AreRising (sym own) (rising_map (inserted j) (λ e. refl) (map (left_by p) es) (rising_map (left_by p) (λ e. refl) es (way.rising lt)));
@@ -157,18 +160,21 @@ none_dropped_of q es = list_any-from_none (is_dropped q) (filter (stays_at q.x) 
     all_of [] = tt
     all_of (e ∷ es) = (λ h. not_dropped q e h, all_of es)
 
--- a segment is looked up among the entries that stay, and added to them
+-- a segment is compared with all entries that stay, which are few, and added to them
 pub IsUnderWay-through : (ps : List Pair) (nodes next : List TreeNode) (old m n j k : ℕ) → IsUnderWay ps nodes old m j k → j ≡ k → IsInOrder pair_cmp ps → AllByRecursion (λ s. IsTrue (is_ordered s)) ps → j < length ps →
-    n ≡ min (m + count_by (is_taken_up (query_at ps j)) (filter (stays_at (pair_at ps j).a.x) (entries nodes))) (2 ^ 128 - 1) →
+    length (filter (stays_at (pair_at ps j).a.x) (entries nodes)) < few → n ≡ min (m + length (filter (stays_at (pair_at ps j).a.x) (entries nodes))) (2 ^ 128 - 1) →
     entries next ≡ filter (stays_at (pair_at ps j).a.x) (entries nodes) ++ live_at ps j ∷ [] → IsUnderWay ps next old n (j + 1) (j + 1)
-IsUnderWay-through ps nodes next old m n j k start e order ordered w h put =
+IsUnderWay-through ps nodes next old m n j k start e order ordered w less h put =
     let q = query_at ps j in
     let stay = filter (stays_at (pair_at ps j).a.x) (entries nodes) in
     let own = entry_at ps j ∷ [] in
     let one : entries_between ps j (j + 1) ≡ own = ap (λ (l : ℕ). map (entry_at ps) (range_with_len j l)) (let e : (j + 1) - j ≡ 1 = omega arith in e) in
     let r = AreRenewed-from ps (entries nodes) (stay ++ own) old m j k (j + 1) start.way e order (omega arith) (omega arith) (subst (λ (l : List Entry). IsPermutation (stay ++ entries_between ps j (j + 1)) (stay ++ l)) one (IsPermutation-refl _)) in
     let asleep : AllByRecursion (λ e. e.is_live ≡ false) own = (refl, tt) in
-    let more = AreUnderWay-more ps (stay ++ own) old m n j (j + 1) r.way order ordered (omega arith) (h ∙ ap (λ (l : ℕ). min (m + l) (2 ^ 128 - 1)) (sym (count_with q stay own asleep))) in
+    let taken = count_by (is_taken_up q) stay in
+    let fewer = count_by-le-length (is_taken_up q) stay in
+    let all : length stay ≡ count_by (is_taken_up q) (stay ++ own) + (length stay - taken) = parted (length stay) taken _ fewer (count_with q stay own asleep) in
+    let more = AreUnderWay-more ps (stay ++ own) old m n (length stay - taken) j (j + 1) r.way order ordered (omega arith) (omega (arith, less)) (h ∙ ap (λ (l : ℕ). min (m + l) (2 ^ 128 - 1)) all) in
     let left : map (left_by q) (stay ++ own) ≡ stay ++ own = left_with q stay own asleep ∙ ap (λ (l : List Entry). l ++ own) (all_kept q stay (none_dropped_of q (entries nodes))) in
     let other : AllByRecursion (λ e. e.index ≡ j → ⊥) stay =
     AllByRecursion-filter (stays_at (pair_at ps j).a.x) (λ f. f.index ≡ j → ⊥) (entries nodes) (AllByRecursion-weaker (λ f. f.index < k) (λ f. stays_at (pair_at ps j).a.x f ≡ true → f.index ≡ j → ⊥) (λ f l t s. omega arith) (entries nodes) start.way.within) in
@@ -179,6 +185,9 @@ IsUnderWay-through ps nodes next old m n j k start e order ordered w h put =
       rising = λ l. absurd (omega arith);
       summed = λ l. absurd (omega arith);
     }
+  where
+    parted : (n c d : ℕ) → c ≤ n → d ≡ c → n ≡ d + (n - c)
+    parted n c d h e = omega arith
 
 -- and what it finds
 pub AreFoundBefore-through : (ps : List Pair) (nodes : List TreeNode) (old m j k : ℕ) → IsUnderWay ps nodes old m j k → j ≡ k → IsInOrder pair_cmp ps → AllByRecursion (λ s. IsTrue (is_ordered s)) ps → j < length ps →

@@ -213,6 +213,6 @@ module _ (ps : List Pair) (E gone E' : List Entry) (j until old now : ℕ) (orde
       live = again (λ e. e.is_live ≡ true → e.index < j) swept.live (AllByRecursion-weaker (λ e. e.index < j) (λ e. e.is_live ≡ true → e.index < j) (λ e h t. h) (map unlive G) left_behind);
       gone = again (Gone ps j) swept.gone ended;
     };
-    counted = record { dropped = counted.dropped; once = (let o = counted.once in let f = fewer in omega arith); is = counted.is };
+    counted = record { others = counted.others; most = (let o = counted.most in let f = fewer in omega arith); is = counted.is };
     distinct = unlike;
   }

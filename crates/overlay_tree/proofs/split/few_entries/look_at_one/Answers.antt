@@ -1,9 +1,9 @@
-use Rattle.std.proofs.Common.{◌≡◌, sym, ap, ◌∙◌, ◌++◌, ◌∷◌, [], ◌&&◌, not, true, false, append-nil, List, ℕ, ◌+◌}
-use Rattle.std.specs.Prelude.{int_lt, min, ◌^◌, ◌-◌}
+use Rattle.std.proofs.Common.{◌≡◌, sym, ap, ◌∙◌, ◌++◌, ◌∷◌, [], ◌&&◌, not, true, false, append-nil, List, ℕ}
+use Rattle.std.specs.Prelude.{int_lt}
 use Rattle.std.proofs.lemmas.Bool.{and_from}
 use Rattle.overlay_tree.specs.steps.IntervalTree.{is_taken_up, is_found}
 use Rattle.overlay_tree.specs.steps.NodeOf.{entry_of, query_of}
-use Rattle.overlay_tree.proofs.laws.tree.IntervalTrees.{none_found, found_one, not_found, counted_one}
+use Rattle.overlay_tree.proofs.laws.tree.IntervalTrees.{none_found, found_one, not_found}
 use Rattle.overlay_tree.proofs.split.few_entries.look_at_one.Goals as goal
 
 pub returns-then-not-is_met-clause-found : goal.returns-then-not-is_met-clause-found
@@ -22,13 +22,6 @@ returns-then-has_ended-clause-found g c =
     let no : is_found q e ≡ false = ap (λ b. is_taken_up q e && not b) ended ∙ ap (λ b. b && false) taken in
     sym (append-nil c.args.indexes.now.items) ∙ ap (λ (is : List ℕ). c.args.indexes.now.items ++ is) (sym (not_found q e no))
 
-pub returns-then-has_ended-clause-looked : goal.returns-then-has_ended-clause-looked
-returns-then-has_ended-clause-looked g c =
-    let q = query_of g.I.OverlayInt.whole c.args.query.now in
-    let e = entry_of g.I.OverlayInt.whole c.args.node.now in
-    let taken : is_taken_up q e ≡ true = sym c.is_met.ensures ∙ c.if-not-is_met.false in
-    c.take_up.ensures ∙ ap (λ (n : ℕ). min (c.args.looked.now + n) (2 ^ 128 - 1)) (sym (counted_one q e taken))
-
 pub returns-clause-found : goal.returns-clause-found
 returns-clause-found g c =
     let q = query_of g.I.OverlayInt.whole c.args.query.now in
@@ -37,10 +30,3 @@ returns-clause-found g c =
     let stays : int_lt e.end_x q.x ≡ false = sym c.has_ended.ensures ∙ c.if-has_ended.false in
     let yes : is_found q e ≡ true = and_from (is_taken_up q e) (not (int_lt e.end_x q.x)) taken (ap not stays) in
     c.in_ok-push.ensures.items ∙ ap (λ (is : List ℕ). c.args.indexes.now.items ++ is) (sym (found_one q e yes))
-
-pub returns-clause-looked : goal.returns-clause-looked
-returns-clause-looked g c =
-    let q = query_of g.I.OverlayInt.whole c.args.query.now in
-    let e = entry_of g.I.OverlayInt.whole c.args.node.now in
-    let taken : is_taken_up q e ≡ true = sym c.is_met.ensures ∙ c.if-not-is_met.false in
-    c.take_up.ensures ∙ ap (λ (n : ℕ). min (c.args.looked.now + n) (2 ^ 128 - 1)) (sym (counted_one q e taken))

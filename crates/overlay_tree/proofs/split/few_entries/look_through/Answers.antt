@@ -1,7 +1,8 @@
-use Rattle.std.proofs.Common.{◌+◌, refl, subst, drop, List, arith}
+use Rattle.std.proofs.Common.{◌+◌, ◌∙◌, ap, refl, subst, drop, List, ℕ, arith}
+use Rattle.std.specs.Prelude.{min, ◌^◌, ◌-◌}
 use Rattle.overlay_tree.specs.steps.IntervalTree.{Entry, entries}
 use Rattle.overlay_tree.specs.steps.NodeOf.{entry_of, nodes_of, query_of}
-use Rattle.overlay_tree.proofs.laws.tree.TreeCuts.{IsLookedThrough, IsLookedThrough-more, IsLookedThrough-end, entries-next, entries-none}
+use Rattle.overlay_tree.proofs.laws.tree.TreeCuts.{IsLookedThrough, IsLookedThrough-more, IsLookedThrough-end, length-entries, entries-next, entries-none}
 use Rattle.overlay_tree.proofs.split.few_entries.look_through.Goals as goal
 
 pub loop-place-init : goal.loop-place-init
@@ -24,4 +25,4 @@ returns g c =
     let q = query_of whole c.args.query.now in
     let es = entries (nodes_of whole c.args.nodes.now) in
     let end = IsLookedThrough-end q es c.args.indexes.now.items c.loop-place.indexes.items c.args.looked.now c.loop-place.looked (drop c.loop-place.place es) c.loop-place.invariant (entries-none whole c.args.nodes.now c.loop-place.place c.loop-place-test.false) in
-    record { found = end.0; looked = end.1 }
+    record { found = end.0; looked = end.1 ∙ ap (λ (n : ℕ). min (c.args.looked.now + n) (2 ^ 128 - 1)) (length-entries whole c.args.nodes.now) }

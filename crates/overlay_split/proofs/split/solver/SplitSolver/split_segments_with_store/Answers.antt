@@ -23,7 +23,7 @@ use Rattle.overlay_base.specs.Planar.{is_splittable}
 use Rattle.overlay_base.proofs.laws.joins.Maps.{is_map-join}
 use Rattle.overlay_split.proofs.laws.passes.Splittable.{is_splittable-join}
 use Rattle.overlay_split.proofs.laws.passes.Ready.{IsPairInRange-each}
-use Rattle.overlay_split.proofs.laws.passes.RunLooks.{HasLooked-none, HasLooked-start, HasLooked-more}
+use Rattle.overlay_split.proofs.laws.passes.RunLooks.{AreRunLooks-none, AreRunLooks-start, AreRunLooks-more}
 use Rattle.overlay_split.proofs.laws.passes.GridRuns.{run_lies_inside}
 use Rattle.overlay_grid.specs.GroupsOf.{grid_in}
 use Rattle.overlay_base.specs.EdgeData.{IsMadeFrom}
@@ -113,8 +113,8 @@ returns-then-is_empty-clause-kept_data g c = λ has keeps given. given
 pub returns-then-is_empty-clause-looked : goal.returns-then-is_empty-clause-looked
 returns-then-is_empty-clause-looked g c =
     let none = none_given (length c.args.list.now.items) c.args.list.now.len c.is_empty.result c.args.list.now.ok.0 c.is_empty.ensures c.if-is_empty.true in
-    let looks = HasLooked-none c.args.solver.now.strategy (settings_of g.I.OverlayInt.BITS c.args.solver.now c.args.self.now) (segments_of c.args.list.now.items) (segments_none c.args.list.now.items none).0 in
-    λ h. (None, looks.is_for, looks.few h)
+    let looks = AreRunLooks-none c.args.solver.now.strategy (settings_of g.I.OverlayInt.BITS c.args.solver.now c.args.self.now) (segments_of c.args.list.now.items) (segments_none c.args.list.now.items none).0 in
+    (None, looks)
 
 -- ---- the join
 
@@ -140,7 +140,7 @@ loop-init g c = record {
   step = c.snap_radius-radius.ensures.step;
   limit = refl;
   passes = refl;
-  looks = rw (c.in-Ok.ensures.looked) (HasLooked-start c.args.solver.now.strategy (settings_of g.I.OverlayInt.BITS c.args.solver.now c.args.self.now) (segments_of c.args.list.now.items) (segments_of c.deref.result.now) (grid_in c.in-Ok.finder.grid) (ap (λ l. segments_of l) c.deref.ensures.value ∙ c.in_ok-repeated.ensures.geometry) c.in-Ok.ensures.grid);
+  looks = rw (c.in-Ok.ensures.looked) (AreRunLooks-start c.args.solver.now.strategy (settings_of g.I.OverlayInt.BITS c.args.solver.now c.args.self.now) (segments_of c.args.list.now.items) (segments_of c.deref.result.now) (grid_in c.in-Ok.finder.grid) (ap (λ l. segments_of l) c.deref.ensures.value ∙ c.in_ok-repeated.ensures.geometry) c.in-Ok.ensures.grid);
   solver = c.in-Ok.ensures.solver;
   looked_before = refl;
 }
@@ -159,7 +159,7 @@ loop-preserved g c =
       step = c.increment.ensures.step ∙ c.loop.invariant.step;
       limit = c.loop.invariant.limit;
       passes = c.loop.invariant.passes;
-      looks = HasLooked-more c.args.solver.now.strategy c.loop.finder.solver.strategy (settings_of g.I.OverlayInt.BITS c.args.solver.now c.args.self.now) (segments_of c.args.list.now.items) c.loop.list.items (grid_in c.loop.finder.grid) (grid_in c.after_pass.new.finder.grid) c.loop.progress.passes _ c.loop.finder.looked c.after_pass.new.finder.looked c.loop.invariant.looks (ap (λ (s : Solver). s.strategy) c.loop.invariant.solver) c.in_ok-progress.ensures.grid c.in_ok-progress.ensures.passes c.loop.invariant.at.arrangement_is c.in_ok-progress.ensures.looked;
+      looks = AreRunLooks-more c.args.solver.now.strategy c.loop.finder.solver.strategy (settings_of g.I.OverlayInt.BITS c.args.solver.now c.args.self.now) (segments_of c.args.list.now.items) (segments_of c.loop.list.items) (grid_in c.loop.finder.grid) (grid_in c.after_pass.new.finder.grid) c.loop.progress.passes _ c.loop.finder.looked c.after_pass.new.finder.looked c.loop.invariant.looks (ap (λ (s : Solver). s.strategy) c.loop.invariant.solver) c.in_ok-progress.ensures.grid c.in_ok-progress.ensures.passes c.loop.invariant.at.arrangement_is c.in_ok-progress.ensures.looked;
       solver = c.in_ok-progress.ensures.solver ∙ c.loop.invariant.solver;
       looked_before = c.loop.invariant.looked_before;
     }
@@ -208,7 +208,7 @@ loop-progress-preserved g c =
       room = λ h. keeps_room _ _ _ _ _ _ c.loop-progress.invariant.at.map c.in_ok-progress-2.ensures.geometry (goes_on-is c.after_pass-in-loop-progress.new.list.items _ _ c.in_ok-progress-2.ensures.goes_on) h c.in_ok-progress-2.ensures.passes (c.loop-progress.invariant.room c.loop-progress-test.true);
       limit = c.loop-progress.invariant.limit;
       passes = c.loop-progress.invariant.passes;
-      looks = HasLooked-more c.args.solver.now.strategy c.loop-progress.finder.solver.strategy (settings_of g.I.OverlayInt.BITS c.args.solver.now c.args.self.now) (segments_of c.args.list.now.items) c.loop-progress.list.items (grid_in c.loop-progress.finder.grid) (grid_in c.after_pass-in-loop-progress.new.finder.grid) c.loop-progress.progress.passes _ c.loop-progress.finder.looked c.after_pass-in-loop-progress.new.finder.looked c.loop-progress.invariant.looks (ap (λ (s : Solver). s.strategy) c.loop-progress.invariant.solver) c.in_ok-progress-2.ensures.grid c.in_ok-progress-2.ensures.passes c.loop-progress.invariant.at.arrangement_is c.in_ok-progress-2.ensures.looked;
+      looks = AreRunLooks-more c.args.solver.now.strategy c.loop-progress.finder.solver.strategy (settings_of g.I.OverlayInt.BITS c.args.solver.now c.args.self.now) (segments_of c.args.list.now.items) (segments_of c.loop-progress.list.items) (grid_in c.loop-progress.finder.grid) (grid_in c.after_pass-in-loop-progress.new.finder.grid) c.loop-progress.progress.passes _ c.loop-progress.finder.looked c.after_pass-in-loop-progress.new.finder.looked c.loop-progress.invariant.looks (ap (λ (s : Solver). s.strategy) c.loop-progress.invariant.solver) c.in_ok-progress-2.ensures.grid c.in_ok-progress-2.ensures.passes c.loop-progress.invariant.at.arrangement_is c.in_ok-progress-2.ensures.looked;
       solver = c.in_ok-progress-2.ensures.solver ∙ c.loop-progress.invariant.solver;
       looked_before = c.loop-progress.invariant.looked_before;
     }
@@ -281,7 +281,7 @@ new-requires g c =
     rw (c.deref.ensures.value) (IsPairInRange-each c.join_with_store.new.list.items g.I.OverlayInt.MIN_COORD g.I.OverlayInt.MAX_COORD (subst (λ (l : List WholeSegment). IsTrue (is_splittable low high l)) (sym c.in_ok-repeated.ensures.geometry) first))
 
 pub returns-clause-looked : goal.returns-clause-looked
-returns-clause-looked g c = λ none. (grid_in c.loop-progress.finder.grid, c.loop-progress.invariant.looks.is_for, rw (c.looked-self.ensures) (c.loop-progress.invariant.looks.few none))
+returns-clause-looked g c = (grid_in c.loop-progress.finder.grid, rw (c.looked-self.ensures) c.loop-progress.invariant.looks)
 
 pub after_pass-requires-clause-inside : goal.after_pass-requires-clause-inside
 after_pass-requires-clause-inside g c =

@@ -6,7 +6,7 @@ use Rattle.overlay_base.specs.Radius.{exponent_of, step_of}
 use Rattle.overlay_split.specs.SettingsOf.{settings_of}
 use Rattle.overlay_split.specs.Potential.{potential}
 use Rattle.overlay_grid.specs.GroupsOf.{grid_in}
-use Rattle.overlay_split.proofs.laws.passes.RunLooks.{HasLooked}
+use Rattle.overlay_split.specs.RunLooks.{AreRunLooks}
 use Rattle.overlay_split.proofs.laws.passes.Splitting.{IsAt}
 use Rattle.overlay_split.proofs.split.solver.SplitSolver.split_segments_with_store.Given as goal
 
@@ -21,7 +21,7 @@ invariant-loop g l = record {
   step : step_of l.radius ≡ l.solver.precision.progression;
   limit : l.self.snap_limit ≡ l.fn.self.snap_limit;
   passes : l.self.passes ≡ l.fn.self.passes;
-  looks : HasLooked l.solver.strategy (settings_of g.I.OverlayInt.BITS l.solver l.fn.self) (segments_of l.fn.list.items) (grid_in l.finder.grid) l.progress.passes l.finder.looked;
+  looks : AreRunLooks l.solver.strategy (settings_of g.I.OverlayInt.BITS l.solver l.fn.self) (segments_of l.fn.list.items) (grid_in l.finder.grid) l.progress.passes l.finder.looked;
   solver : l.finder.solver ≡ l.solver;
   looked_before : l.self.looked ≡ l.fn.self.looked;
 }
@@ -36,7 +36,7 @@ invariant-loop-progress g l = record {
   room : l.progress.goes_on ≡ true → l.progress.passes + potential (segments_of l.list.items) < 2 ^ 127;
   limit : l.self.snap_limit ≡ l.fn.self.snap_limit;
   passes : l.self.passes ≡ l.fn.self.passes;
-  looks : HasLooked l.solver.strategy (settings_of g.I.OverlayInt.BITS l.solver l.fn.self) (segments_of l.fn.list.items) (grid_in l.finder.grid) l.progress.passes l.finder.looked;
+  looks : AreRunLooks l.solver.strategy (settings_of g.I.OverlayInt.BITS l.solver l.fn.self) (segments_of l.fn.list.items) (grid_in l.finder.grid) l.progress.passes l.finder.looked;
   solver : l.finder.solver ≡ l.solver;
   looked_before : l.self.looked ≡ l.fn.self.looked;
 }
