@@ -1,5 +1,5 @@
 -- What a builder shows, and what it holds once the graph that borrows its nodes and links is let go.
-use Rattle.std.specs.Prelude.{◌≡◌, ℕ, Bool, [], List, Result, IfOk, OnErr}
+use Rattle.std.specs.Prelude.{◌≡◌, ℕ, Bool, [], List, Result, IfOk, OnOk, OnErr}
 use Rattle.std.specs.Borrow.{RattleType, MutBor, Fml}
 use Rattle.std.specs.Io.BufRead.{Rests}
 use Rattle.std.specs.declared.cmp.Ord.{Ghosts as Order}
@@ -37,3 +37,8 @@ module _ (I D : RattleType) (whole : Whole I.Denot) (order : Order I.Denot) (equ
   HoldsAnswer is_list n result builder = Rests builder_row builder (λ after.
       IfOk result (λ graph. (after.nodes.items ≡ graph.nodes.now) × (after.links.items ≡ graph.links.now) × IsSweepWithin is_list n after.compared)
       × OnErr result ((after.nodes.items ≡ []) × (after.links.items ≡ []) × (after.compared ≡ builder.now.compared)))
+
+  -- at most what such a sweep asks, or after a refusal as the build before
+  abbrev pub HoldsAsked : Bool → ℕ → Result (OverlayGraph I.Denot D.Denot whole order equality partial) Fault → MutBor builder_row.Denot → Fml
+  HoldsAsked is_list n result builder = Rests builder_row builder (λ after.
+      OnOk result (IsSweepWithin is_list n after.compared) × OnErr result (after.compared ≡ builder.now.compared))

@@ -11,6 +11,7 @@ ghost use Rattle.overlay_base.specs.declared.segm.fault.Fault.TheVariants.{Count
 ghost use Rattle.overlay_base.specs.Choices.{list_fills};
 ghost use Rattle.overlay_sweep.specs.ChainWindings.{tops_leave_range};
 ghost use Rattle.overlay_sweep.specs.Costs.{IsSweepWithin};
+ghost use Rattle.overlay_sweep.specs.LiveOf.{run_asked};
 ghost use Rattle.overlay_build.specs.Graph.{graph_by, data_by, has_even_nodes};
 ghost use Rattle.overlay_build.specs.Sides.{IsBalancedOverlay};
 ghost use Rattle.overlay_build.specs.Lines.{IsBalancedClip};
@@ -119,6 +120,7 @@ impl<C: FillCount, N: GraphNode, I: OverlayInt, D: Copy> GraphBuilder<C, N, I, D
         ensures no_nodes { OnErr result (self.new.nodes.items ≡ []) }
         ensures compared { OnOk result (IsSweepWithin (list_fills solver.now.strategy (length segments.now))
             (length segments.now) self.new.compared) }
+        ensures shown { OnOk result (self.new.compared ≡ run_asked self.new.sweep_runner) }
         ensures same_compared { OnErr result (self.new.compared ≡ self.old.compared) }
     {
         let built = self.try_build(fill_rule, rule, solver, segments);
@@ -147,6 +149,7 @@ impl<C: FillCount, N: GraphNode, I: OverlayInt, D: Copy> GraphBuilder<C, N, I, D
             → IsTrue (tops_leave_range (segments_of segments.now))) }
         ensures compared { OnOk result (IsSweepWithin (list_fills solver.now.strategy (length segments.now))
             (length segments.now) self.new.compared) }
+        ensures shown { OnOk result (self.new.compared ≡ run_asked self.new.sweep_runner) }
         ensures same_compared { OnErr result (self.new.compared ≡ self.old.compared) }
     {
         let runner = &mut self.sweep_runner;
