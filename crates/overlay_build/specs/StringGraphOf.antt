@@ -27,6 +27,10 @@ nodes_of graph = graph.builder.now.nodes.items
 abbrev pub links_of : {I : Type 0} {w : _} {o : _} {e : _} {p : _} → StringGraph I w o e p → List (OverlayLink I Unit)
 links_of graph = graph.builder.now.links.items
 
+-- how many orders of live segments its build asked
+abbrev pub lines_asked : {I : Type 0} {w : _} {o : _} {e : _} {p : _} → StringGraph I w o e p → ℕ
+lines_asked graph = graph.builder.now.compared
+
 -- the name of the reference to the builder
 abbrev pub builder_name : {I : Type 0} {w : _} {o : _} {e : _} {p : _} → StringGraph I w o e p → ℕ
 builder_name graph = graph.builder.ghost_name
@@ -39,7 +43,7 @@ module _ (I : RattleType) (whole : Whole I.Denot) (order : Order I.Denot) (equal
   -- what is left in the graph that was answered, or nothing after a refusal
   abbrev pub HoldsLines : Result (StringGraph I.Denot whole order equality partial) Fault → MutBor line_builder_row.Denot → Fml
   HoldsLines result builder =
-      RestsIfErr line_builder_row builder (λ graph. graph.builder.ghost_name) result (λ after. (after.nodes.items ≡ []) × (after.links.items ≡ []))
+      RestsIfErr line_builder_row builder (λ graph. graph.builder.ghost_name) result (λ after. (after.nodes.items ≡ []) × (after.links.items ≡ []) × (after.compared ≡ builder.now.compared))
 
   -- the builder ends with the links that are left behind the reference
   abbrev pub LendsBuiltLinks : MutBor line_builder_row.Denot → MutBor (List (OverlayLink I.Denot Unit)) → Fml

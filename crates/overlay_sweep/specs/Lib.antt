@@ -6,6 +6,7 @@ pub mod Live
 pub mod VisitOf
 pub mod EntryOf
 pub mod TreeShapes
+pub mod Costs
 pub mod ScanTrees
 pub mod LiveOf
 pub mod Laws

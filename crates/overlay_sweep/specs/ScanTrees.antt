@@ -1,10 +1,11 @@
 -- What a tree of live segments holds: the indexes of those that last, from below.
-use Rattle.std.specs.Prelude.{◌≡◌, ℕ, suc, pos, ◌+◌, ◌*◌, ◌/◌, ◌<◌, ◌≤◌, ◌^◌, ℤ, ◌≤ℤ◌, int_lt, Bool, true, false, List, [], ◌∷◌, ◌++◌, ◌⊎◌, length, slice_index_or, All, ⊤}
+use Rattle.std.specs.Prelude.{◌≡◌, ℕ, suc, pos, ◌*◌, ◌<◌, ◌≤◌, ◌^◌, ℤ, ◌≤ℤ◌, int_lt, Bool, true, false, List, [], ◌∷◌, ◌++◌, ◌⊎◌, length, slice_index_or, All, ⊤}
 use Rattle.std.specs.Ordering.{is_lt}
 use Rattle.overlay_base.specs.Segments.{WholeSegment}
 use Rattle.overlay_base.specs.Windings.{empty}
 use Rattle.overlay_geometry.specs.Below.{under_segment_order}
 use Rattle.overlay_sweep.specs.ChainWindings.{is_live}
+use Rattle.overlay_sweep.specs.Costs.{IsHighest}
 use Rattle.overlay_sweep.specs.declared.build.tree_shape.TreeNode.{TreeNode}
 use Rattle.overlay_sweep.specs.TreeShapes.{Has, none, IsTree, IsDistinct, MayGoDown, HasLast, HasFirst}
 
@@ -65,4 +66,4 @@ pub record IsGrown (x : ℤ) (segments : List WholeSegment) (before : ℕ → Bo
 
 -- At most (removed + 1) * d orders were asked, where d is the greatest height of a balanced tree of as many entries as there were.
 abbrev pub IsAskedWithin : ℕ → ℕ → ℕ → Type 0
-IsAskedWithin was removed asked = (d : ℕ) → ((h : ℕ) → 2 ^ (h / 2) ≤ was + 1 → h ≤ d) → asked ≤ suc removed * d
+IsAskedWithin was removed asked = (d : ℕ) → IsHighest was d → asked ≤ suc removed * d

@@ -1,6 +1,6 @@
 // Builds graphs of overlays and of lines, one after another. Upstream: `build::builder`, and the builds of
 // `build::boolean` and `build::string`.
-ghost use Rattle.std.specs.Prelude.{◌≡◌, [], true, map, IsTrue, IsFalse, OnOk, OnErr, IfOk, IfErr};
+ghost use Rattle.std.specs.Prelude.{◌≡◌, [], length, true, map, IsTrue, IsFalse, OnOk, OnErr, IfOk, IfErr};
 ghost use Rattle.std.specs.Borrow.{sem};
 ghost use Rattle.overlay_base.specs.Rules.{holds, keeps_fill};
 ghost use Rattle.overlay_base.specs.ClipRules.{keeps_clip};
@@ -8,14 +8,17 @@ ghost use Rattle.overlay_base.specs.ArrangedOf.{IsArranged};
 ghost use Rattle.overlay_base.specs.Balance.{IsBalanced};
 ghost use Rattle.overlay_base.specs.SegmentOf.{segments_of, data_segments_of};
 ghost use Rattle.overlay_base.specs.declared.segm.fault.Fault.TheVariants.{CountOutOfRange};
+ghost use Rattle.overlay_base.specs.Choices.{list_fills};
 ghost use Rattle.overlay_sweep.specs.ChainWindings.{tops_leave_range};
+ghost use Rattle.overlay_sweep.specs.Costs.{IsSweepWithin};
+ghost use Rattle.overlay_sweep.specs.LiveOf.{run_asked};
 ghost use Rattle.overlay_build.specs.Graph.{graph_by, data_by, has_even_nodes};
 ghost use Rattle.overlay_build.specs.Sides.{IsBalancedOverlay};
 ghost use Rattle.overlay_build.specs.Lines.{IsBalancedClip};
 ghost use Rattle.overlay_build.specs.GraphOf.{HoldGraph, graph_with};
 ghost use Rattle.overlay_build.specs.NodeIndexes.{indexes_of, is_canonical_node, items_of, is_any_node};
 ghost use Rattle.overlay_build.specs.steps.LinkRules.{keeps_by};
-ghost use Rattle.overlay_build.specs.BuilderOf.{built_nodes, built_links};
+ghost use Rattle.overlay_build.specs.BuilderOf.{built_nodes, built_links, build_asked};
 
 use crate::build::connect_links::connect_links;
 use crate::build::fills::find_fills;
@@ -51,6 +54,7 @@ pub struct GraphBuilder<C: WindingCount, N: GraphNode, I: OverlayInt, D: Copy> {
     indices: Vec<usize>,
     links: Vec<OverlayLink<I, D>>,
     nodes: Vec<N>,
+    compared: u128,
 }
 
 impl<C: WindingCount, N: GraphNode, I: OverlayInt, D: Copy> GraphBuilder<C, N, I, D> {
@@ -58,6 +62,7 @@ impl<C: WindingCount, N: GraphNode, I: OverlayInt, D: Copy> GraphBuilder<C, N, I
     pub fn new(alloc: Global) -> GraphBuilder<C, N, I, D>
         ensures links { built_links result ≡ [] }
         ensures nodes { built_nodes result ≡ [] }
+        ensures compared { build_asked result ≡ 0 }
     {
         GraphBuilder {
             alloc,
@@ -67,6 +72,7 @@ impl<C: WindingCount, N: GraphNode, I: OverlayInt, D: Copy> GraphBuilder<C, N, I
             indices: Vec::new(alloc),
             links: Vec::new(alloc),
             nodes: Vec::new(alloc),
+            compared: 0,
         }
     }
 
@@ -82,6 +88,14 @@ impl<C: WindingCount, N: GraphNode, I: OverlayInt, D: Copy> GraphBuilder<C, N, I
         ensures { result.now ≡ built_links self.now }
     {
         &self.links
+    }
+
+    /// How many orders of live segments the sweep of the last build that succeeded has asked: 0 at first, and
+    /// `u128::MAX` at most.
+    pub fn compared(&self) -> u128
+        ensures { result ≡ build_asked self.now }
+    {
+        self.compared
     }
 }
 
@@ -104,6 +118,10 @@ impl<C: FillCount, N: GraphNode, I: OverlayInt, D: Copy> GraphBuilder<C, N, I, D
             → IsTrue (tops_leave_range (segments_of segments.now))) }
         ensures no_links { OnErr result (self.new.links.items ≡ []) }
         ensures no_nodes { OnErr result (self.new.nodes.items ≡ []) }
+        ensures compared { OnOk result (IsSweepWithin (list_fills solver.now.strategy (length segments.now))
+            (length segments.now) self.new.compared) }
+        ensures shown { OnOk result (self.new.compared ≡ run_asked self.new.sweep_runner) }
+        ensures same_compared { OnErr result (self.new.compared ≡ self.old.compared) }
     {
         let built = self.try_build(fill_rule, rule, solver, segments);
         if built.is_err() {
@@ -129,6 +147,10 @@ impl<C: FillCount, N: GraphNode, I: OverlayInt, D: Copy> GraphBuilder<C, N, I, D
         ensures in_range { OnOk result (IsFalse (tops_leave_range (segments_of segments.now))) }
         ensures out_of_range { IfErr result (λ fault. fault ≡ CountOutOfRange
             → IsTrue (tops_leave_range (segments_of segments.now))) }
+        ensures compared { OnOk result (IsSweepWithin (list_fills solver.now.strategy (length segments.now))
+            (length segments.now) self.new.compared) }
+        ensures shown { OnOk result (self.new.compared ≡ run_asked self.new.sweep_runner) }
+        ensures same_compared { OnErr result (self.new.compared ≡ self.old.compared) }
     {
         let runner = &mut self.sweep_runner;
         find_fills(runner, fill_rule, solver, segments, &mut self.fills)?;
@@ -138,6 +160,7 @@ impl<C: FillCount, N: GraphNode, I: OverlayInt, D: Copy> GraphBuilder<C, N, I, D
         let ends = &mut self.ends;
         let indices = &mut self.indices;
         connect_links(self.alloc, links, ends, indices, &mut self.nodes)?;
+        self.compared = self.sweep_runner.compared();
         Ok(())
     }
 }
@@ -179,7 +202,8 @@ impl<I: OverlayInt, D: Copy> GraphBuilder<ShapeCountBoolean, OverlayNode, I, D> 
         ensures out_of_range { IfErr result (λ fault.
             fault ≡ CountOutOfRange → IsTrue (tops_leave_range (segments_of segments.now))) }
         ensures* after { sem 𝓛
-            (HoldsAnswer I.row D.row I.OverlayInt.own I.Ord.own I.PartialEq I.PartialOrd.own result self.entry) }
+            (HoldsAnswer I.row D.row I.OverlayInt.own I.Ord.own I.PartialEq I.PartialOrd.own
+            (list_fills solver.now.strategy (length segments.now)) (length segments.now) result self.entry) }
     {
         self.build(fill_rule, LinkRule::Every, solver, segments)?;
         Ok(self.graph())
@@ -217,7 +241,8 @@ impl<I: OverlayInt, D: Copy> GraphBuilder<ShapeCountBoolean, OverlayNode, I, D> 
         ensures out_of_range { IfErr result (λ fault.
             fault ≡ CountOutOfRange → IsTrue (tops_leave_range (segments_of segments.now))) }
         ensures* after { sem 𝓛
-            (HoldsAnswer I.row D.row I.OverlayInt.own I.Ord.own I.PartialEq I.PartialOrd.own result self.entry) }
+            (HoldsAnswer I.row D.row I.OverlayInt.own I.Ord.own I.PartialEq I.PartialOrd.own
+            (list_fills solver.now.strategy (length segments.now)) (length segments.now) result self.entry) }
     {
         self.build(fill_rule, LinkRule::Overlay(overlay_rule), solver, segments)?;
         Ok(self.graph())
@@ -225,7 +250,7 @@ impl<I: OverlayInt, D: Copy> GraphBuilder<ShapeCountBoolean, OverlayNode, I, D> 
 }
 
 impl<I: OverlayInt> GraphBuilder<ShapeCountString, Vec<usize>, I, ()> {
-    ghost use Rattle.overlay_build.specs.StringGraphOf.{HoldsLines, LendsBuiltLinks, nodes_of, links_of, builder_name};
+    ghost use Rattle.overlay_build.specs.StringGraphOf.{HoldsLines, LendsBuiltLinks, nodes_of, links_of, builder_name, lines_asked};
 
     /// The links of the last build, to be written to.
     pub(crate) fn links_mut(&mut self) -> &mut [OverlayLink<I, ()>]
@@ -258,6 +283,8 @@ impl<I: OverlayInt> GraphBuilder<ShapeCountString, Vec<usize>, I, ()> {
         ensures out_of_range { IfErr result (λ fault.
             fault ≡ CountOutOfRange → IsTrue (tops_leave_range (segments_of segments.now))) }
         ensures same_builder { IfOk result (λ graph. builder_name graph ≡ self.entry.ghost_name) }
+        ensures compared { IfOk result (λ graph. IsSweepWithin (list_fills solver.now.strategy (length segments.now))
+            (length segments.now) (lines_asked graph)) }
         ensures* after { sem 𝓛 (HoldsLines I.row I.OverlayInt.own I.Ord.own I.PartialEq I.PartialOrd.own result
             self.entry) }
     {
@@ -292,6 +319,8 @@ impl<I: OverlayInt> GraphBuilder<ShapeCountString, Vec<usize>, I, ()> {
         ensures out_of_range { IfErr result (λ fault.
             fault ≡ CountOutOfRange → IsTrue (tops_leave_range (segments_of segments.now))) }
         ensures same_builder { IfOk result (λ graph. builder_name graph ≡ self.entry.ghost_name) }
+        ensures compared { IfOk result (λ graph. IsSweepWithin (list_fills solver.now.strategy (length segments.now))
+            (length segments.now) (lines_asked graph)) }
         ensures* after { sem 𝓛 (HoldsLines I.row I.OverlayInt.own I.Ord.own I.PartialEq I.PartialOrd.own result
             self.entry) }
     {

@@ -1,12 +1,12 @@
 // Closed walks through a graph at each of whose nodes evenly many links meet.
-ghost use Rattle.std.specs.Prelude.{◌≡◌, ℕ, ◌<◌, ◌≤◌, true, false, IsTrue, map, length, slice_index_or, slice_set, ◌++◌, List, IfOk, IfErr, OnOk};
+ghost use Rattle.std.specs.Prelude.{◌≡◌, ℕ, ◌<◌, ◌≤◌, true, false, IsTrue, [], map, length, slice_index_or, slice_set, ◌++◌, List, IfOk, IfErr, OnOk};
 ghost use Rattle.overlay_base.specs.declared.segm.fault.Fault.TheVariants.{Memory};
 ghost use Rattle.overlay_build.specs.Graph.{Link, has_even_nodes};
 ghost use Rattle.overlay_build.specs.GraphOf.{graph_with, link_of};
 ghost use Rattle.overlay_build.specs.NodeIndexes.{indexes_of};
 ghost use Rattle.overlay_build.specs.OverlayGraphOf.{nodes_of, links_of};
 ghost use Rattle.overlay_build.specs.steps.UnusedLinks.{meets, unused_degree, AreUnusedEven, AreCounted, ArePassed};
-ghost use Rattle.overlay_build.specs.Walks.{IsClosedWalk, AreClosedWalks};
+ghost use Rattle.overlay_build.specs.Walks.{IsClosedWalk, IsFirstReturn, AreClosedWalks};
 
 use crate::build::graph::OverlayGraph;
 use overlay_base::segm::fault::Fault;
@@ -14,9 +14,11 @@ use overlay_geometry::num::OverlayInt;
 use std::alloc::Global;
 
 /// Closed walks over the links of a graph: each walk lists the indexes of links that lead from a node back to it, and
-/// every link stands in exactly one place of exactly one walk.
+/// every link stands in exactly one place of exactly one walk. A walk comes back to the node where it begins at its end
+/// alone; other nodes it may meet more than once.
 ///
-/// Evenly many links have to meet at each node, as `has_even_nodes` tests. Takes time linear in links and nodes.
+/// Evenly many links have to meet at each node, as `has_even_nodes` tests. A node's links are gone over once: the search
+/// for an unused one goes on where the last one at that node was found.
 ///
 /// Answers `Fault::Memory` where a growth is refused.
 pub fn closed_walks<I: OverlayInt, D: Copy>(
@@ -55,6 +57,8 @@ fn walk_from<I: OverlayInt, D: Copy>(
     requires passed { ArePassed (map indexes_of (nodes_of graph.now)) used.old cursors.old }
     requires even { AreUnusedEven (map (link_of I.whole) (links_of graph.now)) used.old }
     ensures closed { IfOk result (λ walk. IsClosedWalk (map (link_of I.whole) (links_of graph.now)) walk.items) }
+    ensures first_return { IfOk result (λ walk.
+        IsFirstReturn (map (link_of I.whole) (links_of graph.now)) walk.items) }
     ensures counted { IfOk result (λ walk. (walked : List ℕ) → AreCounted used.old walked
         → AreCounted used.new (walked ++ walk.items)) }
     ensures kept { OnOk result ((i : ℕ) → slice_index_or used.old i false ≡ true → slice_index_or used.new i false
@@ -79,7 +83,7 @@ fn walk_from<I: OverlayInt, D: Copy>(
     Ok(walk)
 }
 
-/// Uses an unused link at a node where one is left.
+/// Uses an unused link at a node where one is left, and leaves the node's cursor there.
 fn take_link<I: OverlayInt, D: Copy>(
     graph: &OverlayGraph<'_, I, D>,
     used: &mut [bool],
@@ -93,6 +97,8 @@ fn take_link<I: OverlayInt, D: Copy>(
     ensures link { result < length (links_of graph.now) }
     ensures unused { slice_index_or used.old result false ≡ false }
     ensures used { used.new ≡ slice_set used.old result true }
+    ensures cursor { slice_index_or (slice_index_or (map indexes_of (nodes_of graph.now)) node [])
+        (slice_index_or cursors.new node 0) 0 ≡ result }
     ensures meets { (d : Link) → IsTrue (meets (slice_index_or
         (map (link_of I.whole) (links_of graph.now)) result d) node) }
     ensures passed { ArePassed (map indexes_of (nodes_of graph.now)) used.new cursors.new }

@@ -5,3 +5,4 @@ pub mod Handling
 pub mod SweepStates
 pub mod Arrangements
 pub mod FillBytes
+pub mod LookCosts

@@ -1,5 +1,5 @@
 // The segments over which a sweep stands, each with the winding above it. Upstream: the collections of `i_tree`.
-ghost use Rattle.std.specs.Prelude.{◌≡◌, ℕ, ℤ, ◌≤ℤ◌, ◌<ℤ◌, List, [], ◌∷◌, OnOk, OnErr, IfErr};
+ghost use Rattle.std.specs.Prelude.{◌≡◌, ℕ, suc, ◌+◌, ◌*◌, ◌≤◌, ℤ, ◌≤ℤ◌, ◌<ℤ◌, List, [], ◌∷◌, OnOk, OnErr, IfErr};
 ghost use Rattle.overlay_base.specs.Segments.{WholeSegment};
 ghost use Rattle.overlay_geometry.specs.PointOf.{point_of};
 ghost use Rattle.overlay_geometry.specs.InRange.{IsPointInRange};
@@ -25,6 +25,12 @@ pub trait LiveSegments<C: WindingCount, I: OverlayInt> {
 
     ghost asked: { Self → ℕ };
 
+    // how many entries it holds, those that have ended and are not dropped yet too
+    ghost held: { Self → ℕ };
+
+    // a look at n entries asks at most d orders, and d more for each entry that it drops
+    ghost is_most: { ℕ → ℕ → Type 0 };
+
     /// Adds a segment that starts at `x`, and is not vertical, with the sum above it.
     ///
     /// Answers `Fault::Memory` where a growth is refused; the collection is empty then.
@@ -40,7 +46,10 @@ pub trait LiveSegments<C: WindingCount, I: OverlayInt> {
         ensures time { OnOk result ((y : ℤ) → I.whole x ≤ℤ y → may_go_on_at self.new y) }
         ensures fault { IfErr result (λ fault. fault ≡ Fault.Memory) }
         ensures emptied { OnErr result (sums self.new ≡ []) }
-        ensures none_asked { OnErr result (asked self.new ≡ 0) };
+        ensures none_asked { OnErr result (asked self.new ≡ 0) }
+        ensures held { OnOk result (held self.new ≤ suc (held self.old)) }
+        ensures most { OnOk result ((n d : ℕ) → held self.old ≤ n → is_most n d
+            → asked self.new + held self.new * d ≤ suc (suc (held self.old)) * d) };
 
     /// The sum on the live segment directly below `p`, of several that start at one point there the last by angle, or
     /// the default where none lies below. `x` has to be that of `p`.
@@ -51,13 +60,17 @@ pub trait LiveSegments<C: WindingCount, I: OverlayInt> {
         requires free { AreFreeAt (I.whole x) (sums self.old) }
         ensures sum { C.winding result ≡ sum_below (sums self.old) (point_of I.whole p) (C.winding default) }
         ensures sums { HoldSameFrom (I.whole x) (sums self.new) (sums self.old) }
-        ensures time { (y : ℤ) → I.whole x ≤ℤ y → may_go_on_at self.new y };
+        ensures time { (y : ℤ) → I.whole x ≤ℤ y → may_go_on_at self.new y }
+        ensures held { held self.new ≤ held self.old }
+        ensures most { (n d : ℕ) → held self.old ≤ n → is_most n d
+            → asked self.new + held self.new * d ≤ suc (held self.old) * d };
 
     /// Drops all segments. The next call may be at any `x`.
     fn clear(&mut self)
         ensures sums { sums self.new ≡ [] }
         ensures time { (y : ℤ) → may_go_on_at self.new y }
-        ensures asked { asked self.new ≡ 0 };
+        ensures asked { asked self.new ≡ 0 }
+        ensures held { held self.new ≡ 0 };
 
     /// How many times the last `insert` or `sum_below` has asked the order of a segment: 0 at first, after `clear` and
     /// after an insert that was refused, and `u128::MAX` at most.

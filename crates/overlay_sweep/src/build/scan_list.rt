@@ -64,7 +64,7 @@ impl<C: WindingCount, I: OverlayInt> ScanList<C, I> {
 }
 
 impl<C: WindingCount, I: OverlayInt> LiveSegments<C, I> for ScanList<C, I> {
-    ghost use Rattle.std.specs.Prelude.{◌≤ℤ◌, ℤ, pos, int_lt, All, [], ◌∷◌, OnOk, OnErr, IfErr, length, count_by};
+    ghost use Rattle.std.specs.Prelude.{ℕ, suc, ◌*◌, ◌≤◌, ◌≤ℤ◌, ℤ, pos, int_lt, All, [], ◌∷◌, OnOk, OnErr, IfErr, length, count_by};
     ghost use Rattle.overlay_geometry.specs.Points.{turn};
     ghost use Rattle.overlay_geometry.specs.PointOf.{point_of};
     ghost use Rattle.overlay_geometry.specs.InRange.{IsPointInRange};
@@ -75,6 +75,10 @@ impl<C: WindingCount, I: OverlayInt> LiveSegments<C, I> for ScanList<C, I> {
     ghost sums = { λ list. list_sums list };
 
     ghost asked = { λ list. list_asked list };
+
+    ghost held = { λ list. length (list_entries list) };
+
+    ghost is_most = { λ n d. 2 * n ≤ d };
 
     ghost may_go_on_at = { λ list x. All (λ s. s.pair.a.x ≤ℤ x) (list_sums list) };
 
@@ -92,6 +96,10 @@ impl<C: WindingCount, I: OverlayInt> LiveSegments<C, I> for ScanList<C, I> {
         ensures emptied { OnErr result (list_sums self.new ≡ []) }
         ensures none_asked { OnErr result (list_asked self.new ≡ 0) }
         ensures none_compared { list_asked self.new ≡ 0 }
+        ensures held { OnOk result (length (list_entries self.new) ≤ suc (length (list_entries self.old))) }
+        ensures most { OnOk result ((n d : ℕ) → length (list_entries self.old) ≤ n → 2 * n ≤ d
+            → list_asked self.new + length (list_entries self.new) * d
+            ≤ suc (suc (length (list_entries self.old))) * d) }
     {
         let _ = x;
         self.compared = 0;
@@ -113,6 +121,9 @@ impl<C: WindingCount, I: OverlayInt> LiveSegments<C, I> for ScanList<C, I> {
         ensures time { (y : ℤ) → I.whole x ≤ℤ y → All (λ s. s.pair.a.x ≤ℤ y) (list_sums self.new) }
         ensures compared { list_asked self.new ≡ length (list_entries self.new)
             + (count_by (λ s. int_lt (pos 0) (turn s.pair.a s.pair.b (point_of I.whole p))) (list_sums self.new) - 1) }
+        ensures held { length (list_entries self.new) ≤ length (list_entries self.old) }
+        ensures most { (n d : ℕ) → length (list_entries self.old) ≤ n → 2 * n ≤ d
+            → list_asked self.new + length (list_entries self.new) * d ≤ suc (length (list_entries self.old)) * d }
     {
         self.drop_ended(x);
         let place = Place::Point(p);

@@ -180,7 +180,8 @@ impl<C: WindingCount, I: OverlayInt> ScanTree<C, I> {
 }
 
 impl<C: WindingCount, I: OverlayInt> LiveSegments<C, I> for ScanTree<C, I> {
-    ghost use Rattle.std.specs.Prelude.{◌≤ℤ◌, ◌<ℤ◌, ℤ, suc, ◌-◌, [], ◌∷◌, OnOk, OnErr, IfErr};
+    ghost use Rattle.std.specs.Prelude.{ℕ, ◌*◌, ◌≤ℤ◌, ◌<ℤ◌, ℤ, suc, ◌-◌, [], ◌∷◌, OnOk, OnErr, IfErr};
+    ghost use Rattle.overlay_sweep.specs.Costs.{IsHighest};
     ghost use Rattle.overlay_geometry.specs.PointOf.{point_of};
     ghost use Rattle.overlay_geometry.specs.InRange.{IsPointInRange};
     ghost use Rattle.overlay_geometry.specs.VSegmentOf.{IsVSegmentInRange};
@@ -192,6 +193,10 @@ impl<C: WindingCount, I: OverlayInt> LiveSegments<C, I> for ScanTree<C, I> {
     ghost sums = { λ tree. tree_sums tree };
 
     ghost asked = { λ tree. tree_asked tree };
+
+    ghost held = { λ tree. kept_in tree };
+
+    ghost is_most = { λ n d. IsHighest n d };
 
     ghost may_go_on_at = { λ tree x. IsSoundAt x tree };
 
@@ -209,7 +214,9 @@ impl<C: WindingCount, I: OverlayInt> LiveSegments<C, I> for ScanTree<C, I> {
         ensures emptied { OnErr result (tree_sums self.new ≡ []) }
         ensures none_asked { OnErr result (tree_asked self.new ≡ 0) }
         ensures cleared { OnErr result ((y : ℤ) → IsSoundAt y self.new) }
-        ensures kept { OnOk result (kept_in self.new ≤ suc (kept_in self.old)) }
+        ensures held { OnOk result (kept_in self.new ≤ suc (kept_in self.old)) }
+        ensures most { OnOk result ((n d : ℕ) → kept_in self.old ≤ n → IsHighest n d
+            → tree_asked self.new + kept_in self.new * d ≤ suc (suc (kept_in self.old)) * d) }
         ensures compared { OnOk result
             (IsAskedWithin (kept_in self.old) (suc (kept_in self.old) - kept_in self.new) (tree_asked self.new)) }
         ensures reached { OnOk result (height_of self.new / 2 ≤ tree_asked self.new + 1) }
@@ -235,7 +242,9 @@ impl<C: WindingCount, I: OverlayInt> LiveSegments<C, I> for ScanTree<C, I> {
         ensures sum { C.winding result ≡ sum_below (tree_sums self.old) (point_of I.whole p) (C.winding default) }
         ensures sums { HoldSameFrom (I.whole x) (tree_sums self.new) (tree_sums self.old) }
         ensures time { (y : ℤ) → I.whole x ≤ℤ y → IsSoundAt y self.new }
-        ensures kept { kept_in self.new ≤ kept_in self.old }
+        ensures held { kept_in self.new ≤ kept_in self.old }
+        ensures most { (n d : ℕ) → kept_in self.old ≤ n → IsHighest n d
+            → tree_asked self.new + kept_in self.new * d ≤ suc (kept_in self.old) * d }
         ensures compared { IsAskedWithin (kept_in self.old) (kept_in self.old - kept_in self.new)
             (tree_asked self.new) }
         ensures reached { height_of self.new / 2 ≤ tree_asked self.new + 1 }
@@ -251,7 +260,7 @@ impl<C: WindingCount, I: OverlayInt> LiveSegments<C, I> for ScanTree<C, I> {
     fn clear(&mut self)
         ensures sums { tree_sums self.new ≡ [] }
         ensures time { (y : ℤ) → IsSoundAt y self.new }
-        ensures kept { kept_in self.new ≡ 0 }
+        ensures held { kept_in self.new ≡ 0 }
         ensures asked { tree_asked self.new ≡ 0 }
     {
         self.entries.clear();

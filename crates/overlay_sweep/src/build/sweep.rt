@@ -5,6 +5,8 @@ ghost use Rattle.overlay_base.specs.Balance.{IsBalanced};
 ghost use Rattle.overlay_base.specs.SegmentOf.{segments_of, data_segments_of};
 ghost use Rattle.overlay_sweep.specs.Sweep.{visits, handled, visited, visits_leave_range};
 ghost use Rattle.overlay_sweep.specs.ChainWindings.{HaveColumnWindings};
+ghost use Rattle.overlay_base.specs.Choices.{list_fills};
+ghost use Rattle.overlay_sweep.specs.Costs.{IsSweepWithin};
 ghost use Rattle.overlay_sweep.specs.LiveOf.{run_asked};
 
 use crate::build::fill_handler::FillHandler;
@@ -75,6 +77,8 @@ impl<C: WindingCount, I: OverlayInt> SweepRunner<C, I> {
             (visited H.handle_gives handler (visits F.rule (data_segments_of segments.now))))) }
         ensures windings { IsBalanced (segments_of segments.now) → HaveColumnWindings (segments_of segments.now) }
         ensures refused { OnErr result (run_asked self.new ≡ run_asked self.old) }
+        ensures compared { OnOk result (IsSweepWithin (list_fills solver.now.strategy (length segments.now))
+            (length segments.now) (run_asked self.new)) }
     {
         let ways = &mut self.ways;
         let mut compared = 0;
@@ -130,6 +134,8 @@ impl<C: FillCount, I: OverlayInt> SweepRunner<C, I> {
             (visited H.handle_gives handler (visits fill_rule (data_segments_of segments.now))))) }
         ensures windings { IsBalanced (segments_of segments.now) → HaveColumnWindings (segments_of segments.now) }
         ensures refused { OnErr result (run_asked self.new ≡ run_asked self.old) }
+        ensures compared { OnOk result (IsSweepWithin (list_fills solver.now.strategy (length segments.now))
+            (length segments.now) (run_asked self.new)) }
     {
         match fill_rule {
             FillRule::EvenOdd => self.run::<D, EvenOddStrategy, H>(solver, segments, handler),

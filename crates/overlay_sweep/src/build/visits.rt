@@ -1,5 +1,5 @@
 // One sweep over an arrangement: which segment is handed out when, with which fill. Upstream: part of `build::sweep`.
-ghost use Rattle.std.specs.Prelude.{◌≡◌, ℕ, ◌+◌, ◌-◌, ◌^◌, ◌<◌, ◌≤ℤ◌, ◌<ℤ◌, min, ℤ, ◌∷◌, ⊤, IsTrue, IsFalse, IfOk, OnOk, IfErr, length};
+ghost use Rattle.std.specs.Prelude.{◌≡◌, ℕ, suc, ◌+◌, ◌*◌, ◌-◌, ◌^◌, ◌<◌, ◌≤◌, ◌≤ℤ◌, ◌<ℤ◌, min, ℤ, ◌∷◌, ⊤, IsTrue, IsFalse, IfOk, OnOk, IfErr, length};
 ghost use Rattle.std.specs.ControlFlow.{break_value, MatchControlFlow};
 ghost use Rattle.overlay_base.specs.Windings.{add, weight, is_valid, is_count_in_range};
 ghost use Rattle.overlay_base.specs.ArrangedOf.{IsArranged};
@@ -75,6 +75,9 @@ where
     ensures asked { IfOk result (λ flow. MatchControlFlow flow
         (λ _. (pair_of_segment segment.now).a.x <ℤ (pair_of_segment segment.now).b.x → compared.new
         ≡ min (compared.old + S.asked live.new) (2 ^ 128 - 1)) (λ _. ⊤)) }
+    ensures held { OnOk result (S.held live.new ≤ suc (S.held live.old)) }
+    ensures most { OnOk result ((n d : ℕ) → S.held live.old ≤ n → S.is_most n d
+        → compared.new + S.held live.new * d ≤ compared.old + suc (suc (S.held live.old)) * d) }
 {
     let (top, fill) = F::add_and_fill(segment.count(), bottom)?;
     if let ControlFlow::Break(answer) = handler.handle(index, segment, fill) {
@@ -113,6 +116,8 @@ where
     ensures out_of_range { IfErr result (λ fault. fault ≡ Fault.CountOutOfRange
         → IsTrue (visits_leave_range (segments_of segments.now)
         (visited H.handle_gives handler (visits F.rule (data_segments_of segments.now))))) }
+    ensures compared { OnOk result ((d : ℕ) → S.is_most (length segments.now) d
+        → compared.new ≤ 3 * length segments.now * d) }
 {
     live.clear();
     *compared = 0;

@@ -1,9 +1,10 @@
 -- Walks found link by link: what holds while a walk is under way, and between walks.
-use Rattle.std.proofs.Common.{◌≡◌, ◌≢◌, ℕ, ◌+◌, ◌<◌, ◌≤◌, ◌%◌, ◌==◌, ◌⊎◌, inl, inr, zero, suc, Bool, true, false, IsTrue, List, [], ◌∷◌, ◌++◌, map, length, get_or, set, replicate, Some, refl, sym, ap, subst, ◌∙◌, arith, get_or-set_same, get_or-set_other, if◌then◌else◌}
+use Rattle.std.proofs.Common.{◌≡◌, ◌≢◌, ℕ, ◌+◌, ◌<◌, ◌≤◌, ◌%◌, ◌==◌, ◌⊎◌, inl, inr, zero, suc, Bool, true, false, IsTrue, List, [], ◌∷◌, ◌++◌, map, length, take, Option, unwrap_or, get_or, set, replicate, Some, refl, sym, ap, subst, ◌∙◌, arith, get_or-set_same, get_or-set_other, if◌then◌else◌}
 use Rattle.std.specs.Prelude.{ℤ, pos}
 use Rattle.std.specs.List.{flat_map, All}
 use Rattle.std.proofs.lemmas.Bool.{and_parts, eqb-true, eq-eqb, ltb-true, cases_lt, false≢true}
-use Rattle.std.proofs.lemmas.List.{length-map, length-set, get_or-map, get_or_default, length-replicate, append_assoc, append-nil}
+use Rattle.std.proofs.lemmas.List.{length-map, length-append, take-append-le, length-set, get_or-map, get_or_default, length-replicate, append_assoc, append-nil}
+use Rattle.std.proofs.Math.Seq.{take-append_seam}
 use Rattle.std.proofs.lemmas.List.Folds.{list_any_at, Any-from_list_any}
 use Rattle.std.proofs.lemmas.List.Elements.{All-append, All-from_recursion}
 use Rattle.std.proofs.lemmas.Option.{slice_get-get_or}
@@ -13,7 +14,7 @@ use Rattle.overlay_base.specs.declared.overlay_core.link.OverlayLink.{OverlayLin
 use Rattle.overlay_build.specs.Graph.{Filled, Link, Node, node_points, graph_of, has_even_nodes}
 use Rattle.overlay_build.specs.GraphOf.{link_of, kept_of, graph_with, HoldGraph}
 use Rattle.overlay_build.specs.steps.UnusedLinks.{meets, unused_degree, AreUnusedEven, AreCounted, ArePassed}
-use Rattle.overlay_build.specs.Walks.{other_node, walk_end, IsClosedWalk, AreClosedWalks}
+use Rattle.overlay_build.specs.Walks.{other_node, walk_end, IsClosedWalk, IsFirstReturn, AreClosedWalks}
 use Rattle.overlay_build.proofs.laws.graphs.Indexes.{has_number}
 use Rattle.overlay_build.proofs.laws.graphs.GraphLaws.{pairs_of, node_of, length-links, length-nodes, node_at, links_at-exactly, names_its_nodes, stands_at_its_nodes}
 use Rattle.overlay_build.proofs.laws.walks.Walks.{link_degree-even, unused_degree-all, none_left, IsWalking, IsWalking-start, IsWalking-step, walk_end-push, AreCounted-none, AreCounted-push, AreClosedWalks-from}
@@ -209,6 +210,22 @@ pub walk_is_some : (walk : List ℕ) (i : ℕ) → walk ++ (i ∷ []) ≢ []
 walk_is_some [] i e = cc
 walk_is_some (j ∷ walk) i e = cc
 
+-- a walk that comes back at its end, if at all
+abbrev pub IsAway : List Link → ℕ → List ℕ → Type 0
+IsAway links start walk = (k : ℕ) → 0 < k → k < length walk → walk_end links start (take k walk) ≢ Some start
+
+pub IsAway-first : (links : List Link) (start i : ℕ) → IsAway links start ([] ++ (i ∷ []))
+IsAway-first links start i = λ k some within. absurd (omega (arith, some, within))
+
+pub IsAway-push : (links : List Link) (start node : ℕ) (walk : List ℕ) (i : ℕ) → IsAway links start walk → walk_end links start walk ≡ Some node → node ≢ start → IsAway links start (walk ++ (i ∷ []))
+IsAway-push links start node walk i away leads gone = λ k some within back. elim (cases_lt k (length walk)) [
+  | inl low ↦ away k some low (ap (walk_end links start) (sym (take-append-le k walk (i ∷ []) (omega (arith, low)))) ∙ back)
+  | inr high ↦
+      let k_is : length walk ≡ k = omega (arith, within, length-append walk (i ∷ []), high) in
+      let same : Some node ≡ Some start = sym leads ∙ ap (walk_end links start) (sym (take-append_seam walk (i ∷ [])) ∙ ap (λ n. take n (walk ++ (i ∷ []))) k_is) ∙ back in
+      gone (ap (λ (o : Option ℕ). unwrap_or o node) same)
+]
+
 -- ---- between walks
 
 -- closed walks over just the used links, among them all before an index
@@ -217,6 +234,7 @@ pub record HaveWalked (links : List Link) (nodes : List (List ℕ)) (used : List
   pub passed : ArePassed nodes used cursors
   pub even : AreUnusedEven links used
   pub closed : All (IsClosedWalk links) walks
+  pub first_return : All (IsFirstReturn links) walks
   pub counted : AreCounted used (flat_map (λ walk. walk) walks)
   pub all : (j : ℕ) → j < first → get_or used j false ≡ true
 
@@ -226,6 +244,7 @@ HaveWalked-none links nodes n m same each even = record {
   passed = ArePassed-none nodes (replicate n false) m each;
   even = even;
   closed = All-from_recursion (IsClosedWalk links) [] tt;
+  first_return = All-from_recursion (IsFirstReturn links) [] tt;
   counted = AreCounted-none n;
   all = λ j l. absurd (omega (arith, l));
 }
@@ -239,23 +258,24 @@ up_to used first before here j l = by (cases_lt j first)
 
 -- a used link is passed over
 pub HaveWalked-over : (links : List Link) (nodes : List (List ℕ)) (used : List Bool) (cursors : List ℕ) (walks : List (List ℕ)) (first : ℕ) → HaveWalked links nodes used cursors walks first → get_or used first false ≡ true → HaveWalked links nodes used cursors walks (first + 1)
-HaveWalked-over links nodes used cursors walks first w here = record { flags = w.flags; passed = w.passed; even = w.even; closed = w.closed; counted = w.counted; all = up_to used first w.all here }
+HaveWalked-over links nodes used cursors walks first w here = record { flags = w.flags; passed = w.passed; even = w.even; closed = w.closed; first_return = w.first_return; counted = w.counted; all = up_to used first w.all here }
 
 -- one walk more
-pub HaveWalked-more : (links : List Link) (nodes : List (List ℕ)) (used after : List Bool) (cursors next : List ℕ) (walks : List (List ℕ)) (walk : List ℕ) (first : ℕ) → HaveWalked links nodes used cursors walks first → length after ≡ length used → ArePassed nodes after next → AreUnusedEven links after → IsClosedWalk links walk →
+pub HaveWalked-more : (links : List Link) (nodes : List (List ℕ)) (used after : List Bool) (cursors next : List ℕ) (walks : List (List ℕ)) (walk : List ℕ) (first : ℕ) → HaveWalked links nodes used cursors walks first → length after ≡ length used → ArePassed nodes after next → AreUnusedEven links after → IsClosedWalk links walk → IsFirstReturn links walk →
     ((walked : List ℕ) → AreCounted used walked → AreCounted after (walked ++ walk)) → ((j : ℕ) → get_or used j false ≡ true → get_or after j false ≡ true) → get_or after first false ≡ true → HaveWalked links nodes after next (walks ++ (walk ∷ [])) (first + 1)
-HaveWalked-more links nodes used after cursors next walks walk first w same passed even closed counted kept here = record {
+HaveWalked-more links nodes used after cursors next walks walk first w same passed even closed returns counted kept here = record {
   flags = same ∙ w.flags;
   passed = passed;
   even = even;
   closed = All-append (IsClosedWalk links) walks (walk ∷ []) w.closed (All-from_recursion (IsClosedWalk links) (walk ∷ []) (closed, tt));
+  first_return = All-append (IsFirstReturn links) walks (walk ∷ []) w.first_return (All-from_recursion (IsFirstReturn links) (walk ∷ []) (returns, tt));
   counted = subst (AreCounted after) (sym (flat_map-append (λ (walk : List ℕ). walk) walks (walk ∷ []) ∙ ap (λ ws. flat_map (λ (walk : List ℕ). walk) walks ++ ws) (append-nil walk))) (counted (flat_map (λ walk. walk) walks) w.counted);
   all = up_to after first (λ j l. kept j (w.all j l)) here;
 }
 
 -- when all links are passed over
 pub HaveWalked-all : (links : List Link) (nodes : List (List ℕ)) (used : List Bool) (cursors : List ℕ) (walks : List (List ℕ)) (first : ℕ) → HaveWalked links nodes used cursors walks first → length links ≤ first → AreClosedWalks links walks
-HaveWalked-all links nodes used cursors walks first w done = AreClosedWalks-from links used walks w.closed w.counted (λ i h. w.all i (omega (arith, h, done)))
+HaveWalked-all links nodes used cursors walks first w done = AreClosedWalks-from links used walks w.closed w.first_return w.counted (λ i h. w.all i (omega (arith, h, done)))
 
 -- ---- walks over links as code has them
 

@@ -11,7 +11,7 @@ use Rattle.overlay_sweep.specs.Fill.{flag_value}
 use Rattle.overlay_base.specs.Rules.{differ}
 use Rattle.overlay_build.specs.Graph.{Filled, Link, Node, node_points, node_number, graph_of, has_even_nodes}
 use Rattle.overlay_build.specs.steps.UnusedLinks.{touches, unused_degree, AreCounted}
-use Rattle.overlay_build.specs.Walks.{other_node, walk_end, IsClosedWalk, AreClosedWalks}
+use Rattle.overlay_build.specs.Walks.{other_node, walk_end, IsClosedWalk, IsFirstReturn, AreClosedWalks}
 use Rattle.overlay_base.proofs.laws.geometry.Pairs.{has_point}
 use Rattle.overlay_build.proofs.laws.graphs.GraphNodes.{has_start, has_end, node_number-of, node_number-is}
 use Rattle.overlay_build.proofs.laws.graphs.GraphLaws.{pairs_of, link_of, degree, length-links, stands_at_its_nodes}
@@ -232,5 +232,5 @@ AreCounted-push used walked i c h free = record { once = λ j. sum_by_push (λ k
         rw (e, other) (omega (arith, c.once j))
 
 -- where all links are used, closed walks are closed walks over the whole graph
-pub AreClosedWalks-from : (links : List Link) (used : List Bool) (walks : List (List ℕ)) → All (IsClosedWalk links) walks → AreCounted used (flat_map (λ walk. walk) walks) → ((i : ℕ) → i < length links → get_or used i false ≡ true) → AreClosedWalks links walks
-AreClosedWalks-from links used walks closed c all = record { closed = closed; once = λ i h. c.once i ∙ ap (λ b. flag_value b 1) (all i h) }
+pub AreClosedWalks-from : (links : List Link) (used : List Bool) (walks : List (List ℕ)) → All (IsClosedWalk links) walks → All (IsFirstReturn links) walks → AreCounted used (flat_map (λ walk. walk) walks) → ((i : ℕ) → i < length links → get_or used i false ≡ true) → AreClosedWalks links walks
+AreClosedWalks-from links used walks closed returns c all = record { closed = closed; first_return = returns; once = λ i h. c.once i ∙ ap (λ b. flag_value b 1) (all i h) }

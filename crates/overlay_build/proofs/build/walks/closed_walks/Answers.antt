@@ -35,7 +35,7 @@ loop-first-preserved g c =
           let cursors : c.if-not-index.cursors.items ≡ w.walk_from.new.cursors = ap (λ v. v.items) w.cursors-is ∙ with_items_is before.cursors w.walk_from.new.cursors (deep ∙ sym before.cursors.ok.0) in
           rw (used, cursors, w.walks-is, walks)
           (HaveWalked-more links nodes before.used.items w.walk_from.new.used before.cursors.items w.walk_from.new.cursors (map (λ v. v.items) before.walks.items) walk.walk.items before.first before.invariant
-          long walk.ensures.passed walk.ensures.even walk.ensures.closed counted kept walk.ensures.begun)
+          long walk.ensures.passed walk.ensures.even walk.ensures.closed walk.ensures.first_return counted kept walk.ensures.begun)
       | else-not-index w ↦
           let many = length-map graph.links.now (link_of whole) in
           let count = ap length c.links-count.ensures in

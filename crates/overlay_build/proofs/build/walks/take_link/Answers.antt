@@ -1,4 +1,4 @@
-use Rattle.std.proofs.Common.{◌<◌, length, map}
+use Rattle.std.proofs.Common.{◌<◌, length, map, refl, arith, get_or-set_same}
 use Rattle.std.proofs.lemmas.List.{length-map}
 use Rattle.overlay_build.specs.GraphOf.{link_of}
 use Rattle.overlay_build.specs.NodeIndexes.{indexes_of, is_canonical_node}
@@ -82,3 +82,10 @@ returns-clause-passed g c =
     let place = c.next_unused-place in
     let inside = one_is_left (map (link_of whole) graph.links.now) (map indexes_of graph.nodes.now) c.args.used.now c.args.node place.result lists node_in c.requires.left (rw is at place.ensures.within) (rw is at place.ensures.passed) in
     ArePassed-step (map indexes_of graph.nodes.now) c.args.used.now c.args.cursors.now c.args.node place.result _ c.requires.passed node_in (rw is at place.ensures.within) (rw is at place.ensures.passed)
+
+pub returns-clause-cursor : goal.returns-clause-cursor
+returns-clause-cursor g c =
+    let graph = c.args.graph.now in
+    let is = list_of indexes_of graph.nodes.now c.nodes.result.now c.args.node _ c.indices-indexes.result.now c.nodes.ensures c.requires.node c.index-nodes-node.is c.indices-indexes.ensures in
+    let node_in : c.args.node < length (map indexes_of graph.nodes.now) = rw (length-map graph.nodes.now indexes_of) c.requires.node in
+    rw (get_or-set_same c.args.cursors.now c.args.node c.next_unused-place.result 0 (omega (arith, c.requires.passed.each, node_in)), is) refl

@@ -1,4 +1,4 @@
-use Rattle.std.proofs.Common.{◌≡◌, ◌∙◌, ◌<◌, ◌≤◌, ap, ap₂, sym, subst, arith, length}
+use Rattle.std.proofs.Common.{◌≡◌, ◌∙◌, ◌+◌, ◌*◌, ◌<◌, ◌≤◌, ap, ap₂, sym, subst, arith, length}
 use Rattle.std.specs.Prelude.{◌≤ℤ◌}
 use Rattle.std.proofs.lemmas.List.{length-map}
 use Rattle.overlay_geometry.specs.Points.{Point}
@@ -20,6 +20,7 @@ use Rattle.overlay_sweep.proofs.laws.columns.Members.{IsArranged}
 use Rattle.overlay_sweep.proofs.laws.visits.Handling.{refused_as}
 use Rattle.overlay_sweep.proofs.laws.visits.Arrangements.{whole_arranged, usable_at, usable_item, start_is, segment_is, index_within}
 use Rattle.overlay_sweep.proofs.laws.visits.SweepStates.{start_at, before_first, block_at, free_at_start, enter, leave, finished, finished_in_range, amid_place, point_is_over, step, valid_from, free_here, answered_here, in_range_here, refused_here, visit_is}
+use Rattle.overlay_sweep.proofs.laws.visits.LookCosts.{ways_within, none_paid, look_paid, visit_paid, point_paid, sweep_paid}
 use Rattle.overlay_sweep.proofs.build.visits.sweep_with_handler.Goals as goal
 
 -- ---- the shared part: the segments with their data are those without it, and arranged
@@ -34,7 +35,7 @@ arranged_list least greatest list h = whole_arranged least greatest _ _ (same_li
 
 pub loop-index-init : goal.loop-index-init
 loop-index-init g c =
-    ((λ arranged. before_first g.H.FillHandler.handle_gives g.H.FillHandler.finalize_gives g.F.FillStrategy.rule (data_segments_of c.args.segments.now) arranged c.args.handler (g.S.LiveSegments.sums c.clear.new.self) (g.S.LiveSegments.may_go_on_at c.clear.new.self) c.clear.ensures.sums c.clear.ensures.time), c.requires.takes)
+    ((λ arranged. before_first g.H.FillHandler.handle_gives g.H.FillHandler.finalize_gives g.F.FillStrategy.rule (data_segments_of c.args.segments.now) arranged c.args.handler (g.S.LiveSegments.sums c.clear.new.self) (g.S.LiveSegments.may_go_on_at c.clear.new.self) c.clear.ensures.sums c.clear.ensures.time), c.requires.takes, omega arith, omega (arith, c.clear.ensures.held), λ d most. none_paid _ d c.clear.ensures.held)
 
 pub collect_ways-requires-clause-in_range : goal.collect_ways-requires-clause-in_range
 collect_ways-requires-clause-in_range g c =
@@ -79,6 +80,9 @@ loop-way-init g c =
           (λ y l. c.sum_below-sum.ensures.time y (subst (λ (p : Point). p.x ≤ℤ y) start l))),
       c.loop-index.invariant.1,
       ap ways_of c.deref-way-items.ensures.value ∙ c.in_ok-collect_ways.ensures ∙ ap (λ l. by_angle (ways_between l c.loop-index.index c.start_point_end-next.result)) (sym (same_list c.args.segments.now)),
+      omega arith,
+      omega (arith, c.sum_below-sum.ensures.held, c.loop-index.invariant.3),
+      (λ d most. look_paid c.loop-index.compared _ (g.S.LiveSegments.asked c.sum_below-sum.new.self) _ _ c.loop-index.index d (c.loop-index.invariant.4 d most) (omega (arith, c.saturating_add.ensures, c.compared.ensures)) (c.sum_below-sum.ensures.most (length c.args.segments.now) d (omega (arith, c.loop-index.invariant.2, c.loop-index.invariant.3)) most)),
     )
 
 pub offset_bounds-segments-way : goal.offset_bounds-segments-way
@@ -198,6 +202,9 @@ loop-way-preserved g c =
           (λ y l. later y (subst (λ (p : Point). p.x ≤ℤ y) (sym (ap (λ (s : DataSegment g.row.D.Denot). s.pair.a) own ∙ at.start)) l)))),
       (λ k l. subst (λ u. g.H.FillHandler.takes u k) (sym c.in_ok-seen.ensures.handler) (g.met.H.FillHandler.keeps_taking c.loop-way.handler _ k (c.loop-way.invariant.1 c.way-item.result.index bound) (c.loop-way.invariant.1 k l))),
       c.loop-way.invariant.2,
+      omega (arith, ways_within way_of c.deref-way-items.result.now (without_data (data_segments_of c.args.segments.now)) c.loop-index.index c.start_point_end-next.result c.loop-way.invariant.2, c.loop-way-test.true),
+      omega (arith, c.in_ok-seen.ensures.held, c.loop-way.invariant.4),
+      (λ d most. visit_paid c.loop-way.compared c.visit.new.compared (g.S.LiveSegments.held c.loop-way.live) (g.S.LiveSegments.held c.visit.new.live) c.loop-index.index c.loop-way.way-index d (c.loop-way.invariant.5 d most) (c.in_ok-seen.ensures.most (length c.args.segments.now) d (omega (arith, c.loop-way.invariant.4, c.loop-way.invariant.3, c.start_point_end-next.ensures.after, c.start_point_end-next.ensures.within)) most)),
     )
 
 pub loop-index-preserved : goal.loop-index-preserved
@@ -207,6 +214,9 @@ loop-index-preserved g c = (
       leave g.H.FillHandler.handle_gives g.H.FillHandler.finalize_gives g.F.FillStrategy.rule (data_segments_of c.args.segments.now) arranged c.args.handler c.loop-index.index c.start_point_end-next.result c.loop-way.way-index (g.C.WindingCount.winding c.loop-way.sum) c.loop-way.handler (g.S.LiveSegments.sums c.loop-way.live) (g.S.LiveSegments.may_go_on_at c.loop-way.live) state
       (point_is_over g.H.FillHandler.handle_gives g.H.FillHandler.finalize_gives g.F.FillStrategy.rule (data_segments_of c.args.segments.now) arranged c.args.handler c.loop-index.index c.start_point_end-next.result c.loop-way.way-index (g.C.WindingCount.winding c.loop-way.sum) c.loop-way.handler (g.S.LiveSegments.sums c.loop-way.live) (g.S.LiveSegments.may_go_on_at c.loop-way.live) state way_of c.deref-way-items.result.now c.loop-way.invariant.2 c.loop-way-test.false)),
   c.loop-way.invariant.1,
+  c.start_point_end-next.ensures.within,
+  omega (arith, c.loop-way.invariant.3, c.loop-way.invariant.4, c.start_point_end-next.ensures.after),
+  (λ d most. point_paid _ c.loop-index.index c.start_point_end-next.result c.loop-way.way-index d c.start_point_end-next.ensures.after c.loop-way.invariant.3 (c.loop-way.invariant.5 d most)),
 )
 
 pub returns-clause-answer : goal.returns-clause-answer
@@ -223,3 +233,12 @@ returns-clause-in_range g c =
     let past : length (data_segments_of c.args.segments.now) ≤ c.loop-index.index = subst (λ n. n ≤ c.loop-index.index) (sym (length-map c.args.segments.now data_segment_of)) c.loop-index-test.false in
     ap (λ l. visits_leave_range l (visited g.H.FillHandler.handle_gives c.args.handler (visits g.F.FillStrategy.rule (data_segments_of c.args.segments.now)))) (sym (same_list c.args.segments.now))
     ∙ finished_in_range g.H.FillHandler.handle_gives g.H.FillHandler.finalize_gives g.F.FillStrategy.rule (data_segments_of c.args.segments.now) arr c.args.handler c.loop-index.index c.loop-index.handler (g.S.LiveSegments.sums c.loop-index.live) (g.S.LiveSegments.may_go_on_at c.loop-index.live) state past
+
+pub returns-clause-compared : goal.returns-clause-compared
+returns-clause-compared g c = λ d most. sweep_paid c.loop-index.compared (g.S.LiveSegments.held c.loop-index.live * d) (3 * c.loop-index.index) (length c.args.segments.now) d (omega (arith, c.loop-index.invariant.2)) (c.loop-index.invariant.4 d most)
+
+pub returns-in-Break-clause-compared : goal.returns-in-Break-clause-compared
+returns-in-Break-clause-compared g c = λ d most.
+    let fits = ways_within way_of c.deref-way-items.result.now (without_data (data_segments_of c.args.segments.now)) c.loop-index.index c.start_point_end-next.result c.loop-way.invariant.2 in
+    sweep_paid c.visit.new.compared (g.S.LiveSegments.held c.visit.new.live * d) (3 * c.loop-index.index + 1 + 2 * (c.loop-way.way-index + 1)) (length c.args.segments.now) d (omega (arith, fits, c.loop-way-test.true, c.start_point_end-next.ensures.after, c.start_point_end-next.ensures.within))
+    (visit_paid c.loop-way.compared c.visit.new.compared (g.S.LiveSegments.held c.loop-way.live) (g.S.LiveSegments.held c.visit.new.live) c.loop-index.index c.loop-way.way-index d (c.loop-way.invariant.5 d most) (c.in_ok-seen.ensures.most (length c.args.segments.now) d (omega (arith, c.loop-way.invariant.4, c.loop-way.invariant.3, c.start_point_end-next.ensures.after, c.start_point_end-next.ensures.within)) most))

@@ -1,5 +1,5 @@
 use Rattle.std.proofs.Common.{◌≡◌, ◌∙◌, ap, sym, refl, subst, arith}
-use Rattle.std.specs.Prelude.{◌≤ℤ◌}
+use Rattle.std.specs.Prelude.{suc, ◌≤ℤ◌}
 use Rattle.std.proofs.lemmas.Int.{ints}
 use Rattle.overlay_geometry.specs.Points.{Pair}
 use Rattle.overlay_base.specs.Segments.{WholeSegment}
@@ -8,6 +8,7 @@ use Rattle.overlay_geometry.specs.PairOf.{pair_of}
 use Rattle.overlay_geometry.specs.VSegmentOf.{v_pair_of}
 use Rattle.overlay_base.specs.SegmentOf.{ends_of, winding_of}
 use Rattle.overlay_sweep.proofs.laws.live.LiveSums.{HoldSameFrom-renamed, HoldSameFrom-vertical, vertical_same}
+use Rattle.overlay_sweep.proofs.laws.visits.LookCosts.{uncalled_pays, adds_paid}
 use Rattle.overlay_sweep.proofs.build.visits.visit.Goals as goal
 use Rattle.overlay_sweep.proofs.build.visits.visit.Goals.{then-is_not_vertical+in_ok-insert, else-is_not_vertical}
 
@@ -41,3 +42,19 @@ returns-clause-asked g c =
           let upright = vertical_same (pair_of g.I.OverlayInt.whole c.x_segment-ends.result) (sym c.is_not_vertical.ensures ∙ w.if-is_not_vertical.false) in
           absurd (omega (arith, ints, h, subst (λ (s : Pair). s.a.x ≡ s.b.x) own upright))
     ]
+
+pub returns-in-Break-clause-most : goal.returns-in-Break-clause-most
+returns-in-Break-clause-most g c = λ n d within most. uncalled_pays c.args.compared.now (g.S.LiveSegments.held c.args.live.now) d
+
+pub returns-clause-held : goal.returns-clause-held
+returns-clause-held g c = elim c.if-is_not_vertical.branch [
+  | then-is_not_vertical+in_ok-insert w ↦ rw w.live-is w.in_ok-insert.ensures.held
+  | else-is_not_vertical w ↦ rw w.live-is (omega arith)
+]
+
+pub returns-clause-most : goal.returns-clause-most
+returns-clause-most g c = λ n d within most. elim c.if-is_not_vertical.branch [
+  | then-is_not_vertical+in_ok-insert w ↦
+      rw w.live-is (adds_paid c.args.compared.now _ (g.S.LiveSegments.asked w.insert.new.self) _ (suc (suc (g.S.LiveSegments.held c.args.live.now))) d (omega (arith, w.compared-is, w.saturating_add.ensures, w.compared.ensures)) (w.in_ok-insert.ensures.most n d within most))
+  | else-is_not_vertical w ↦ rw w.live-is (rw w.compared-is (uncalled_pays c.args.compared.now (g.S.LiveSegments.held c.args.live.now) d))
+]

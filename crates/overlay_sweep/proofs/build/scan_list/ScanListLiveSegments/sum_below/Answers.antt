@@ -1,5 +1,5 @@
 use Rattle.std.proofs.Common.{◌≡◌, ◌∙◌, ap, sym, refl, arith, subst, filter, List, map, ℕ, ◌≤◌, length, take}
-use Rattle.std.specs.Prelude.{ℤ, Option, option_map, All, ◌≤ℤ◌}
+use Rattle.std.specs.Prelude.{ℤ, int_lt, Option, option_map, All, ◌≤ℤ◌}
 use Rattle.std.specs.Option.{option_map_or}
 use Rattle.std.proofs.lemmas.List.{length-map, take_all}
 use Rattle.std.specs.Ordering.{is_lt, ordering_then}
@@ -14,6 +14,7 @@ use Rattle.overlay_sweep.specs.Live.{HoldSameFrom, AreFreeAt}
 use Rattle.overlay_sweep.specs.Live.{sum_below}
 use Rattle.overlay_sweep.proofs.laws.live.ScanSums.{leading, lasting, no_leading, scan_result, scan_new, scan_old, scan_skip, orders_agree, HoldSameFrom-lasting, begins_lasting}
 use Rattle.overlay_sweep.proofs.laws.live.ScanCounts.{none_asked, asked_skip, asked_new, asked_old, asked_all}
+use Rattle.overlay_sweep.proofs.laws.visits.LookCosts.{fewer_last, list_look_pays}
 use Rattle.overlay_sweep.proofs.build.scan_list.ScanListLiveSegments.sum_below.Goals as goal
 use Rattle.overlay_sweep.proofs.build.scan_list.ScanListLiveSegments.sum_below.Goals.{then-is_before+then-is_not_under_best, else-is_before, else-is_before-via-then-is_before+else-is_not_under_best, else-is_before-via-else-is_before}
 
@@ -99,3 +100,21 @@ returns-in-Some-clause-compared g c = rw c.deref-entry-items.ensures.value at (a
 
 pub returns-in-None-clause-compared : goal.returns-in-None-clause-compared
 returns-in-None-clause-compared g c = rw c.deref-entry-items.ensures.value at (asked_all entry_of (point_of g.I.OverlayInt.whole c.args.p) c.deref-entry-items.result.now c.loop-entry.entry-index _ c.loop-entry.compared c.loop-entry-test.false (omega arith) c.loop-entry.invariant.asked)
+
+pub returns-in-Some-clause-held : goal.returns-in-Some-clause-held
+returns-in-Some-clause-held g c = fewer_last (λ e. int_lt (g.I.OverlayInt.whole c.args.x) (g.I.OverlayInt.whole e.segment.b.x)) _ _ c.drop_ended.ensures
+
+pub returns-in-Some-clause-most : goal.returns-in-Some-clause-most
+returns-in-Some-clause-most g c = λ n d within most.
+    list_look_pays entry_of (point_of g.I.OverlayInt.whole c.args.p) c.drop_ended.new.self.entries.items c.loop-entry.compared (length c.args.self.now.entries.items) n d
+    (rw c.deref-entry-items.ensures.value at (asked_all entry_of (point_of g.I.OverlayInt.whole c.args.p) c.deref-entry-items.result.now c.loop-entry.entry-index _ c.loop-entry.compared c.loop-entry-test.false (omega arith) c.loop-entry.invariant.asked))
+    (fewer_last (λ e. int_lt (g.I.OverlayInt.whole c.args.x) (g.I.OverlayInt.whole e.segment.b.x)) _ _ c.drop_ended.ensures) within most
+
+pub returns-in-None-clause-held : goal.returns-in-None-clause-held
+returns-in-None-clause-held g c = fewer_last (λ e. int_lt (g.I.OverlayInt.whole c.args.x) (g.I.OverlayInt.whole e.segment.b.x)) _ _ c.drop_ended.ensures
+
+pub returns-in-None-clause-most : goal.returns-in-None-clause-most
+returns-in-None-clause-most g c = λ n d within most.
+    list_look_pays entry_of (point_of g.I.OverlayInt.whole c.args.p) c.drop_ended.new.self.entries.items c.loop-entry.compared (length c.args.self.now.entries.items) n d
+    (rw c.deref-entry-items.ensures.value at (asked_all entry_of (point_of g.I.OverlayInt.whole c.args.p) c.deref-entry-items.result.now c.loop-entry.entry-index _ c.loop-entry.compared c.loop-entry-test.false (omega arith) c.loop-entry.invariant.asked))
+    (fewer_last (λ e. int_lt (g.I.OverlayInt.whole c.args.x) (g.I.OverlayInt.whole e.segment.b.x)) _ _ c.drop_ended.ensures) within most

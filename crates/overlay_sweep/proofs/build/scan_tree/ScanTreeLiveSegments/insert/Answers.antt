@@ -1,10 +1,12 @@
 use Rattle.std.proofs.Common.{ap, arith}
+use Rattle.std.specs.Prelude.{suc}
 use Rattle.std.proofs.lemmas.Int.{ints}
 use Rattle.overlay_base.specs.Segments.{WholeSegment}
 use Rattle.overlay_geometry.specs.VSegmentOf.{v_pair_of}
 use Rattle.overlay_sweep.specs.EntryOf.{entry_of, entries_of}
 use Rattle.overlay_sweep.proofs.laws.tree.ScanGrowth.{scan_later}
 use Rattle.overlay_sweep.proofs.laws.tree.ScanAnswers.{pushed_grows, pushed_at, pushed_free, pushed_begun, pushed_live, pushed_room, pushed_short, pushed_sums, placed_scan, asked_by_insert}
+use Rattle.overlay_sweep.proofs.laws.visits.LookCosts.{highest_of_fewer, drops_pay}
 use Rattle.overlay_sweep.proofs.build.scan_tree.ScanTreeLiveSegments.insert.Goals as goal
 
 pub settle-requires-clause-growing : goal.settle-requires-clause-growing
@@ -34,3 +36,9 @@ returns-in-Ok-clause-time g c = λ y h.
     (pushed_short entry_of (g.I.OverlayInt.whole c.args.x) c.args.self.now.entries.items c.push.new.self.entries.items _ c.in-Ok.ensures.entries c.in-Ok.new c.in-Ok.ensures.index.0 c.in-Ok.ensures.index.1 _ _ _ c.requires.time)
     (rw c.in-Ok.ensures.kept at c.settle.ensures.kept)
     (rw q.placed_is at (c.settle.ensures.grown q.now))))
+
+pub returns-in-Ok-clause-most : goal.returns-in-Ok-clause-most
+returns-in-Ok-clause-most g c = λ n d within high.
+    let kept = rw c.in-Ok.ensures.kept at c.settle.ensures.kept in
+    let asked = asked_by_insert _ _ _ d kept ((rw c.in-Ok.ensures.kept at c.settle.ensures.compared) d (highest_of_fewer _ n d within high)) in
+    drops_pay _ (suc c.args.self.now.kept) _ d (omega (arith, kept)) asked

@@ -7,6 +7,7 @@ use Rattle.overlay_sweep.specs.EntryOf.{entry_of}
 use Rattle.overlay_sweep.proofs.laws.tree.ScanReads.{segment_read}
 use Rattle.overlay_sweep.proofs.laws.tree.ScanGrowth.{looking, looked, scan_later}
 use Rattle.overlay_sweep.proofs.laws.tree.ScanAnswers.{last_within, default_answers, last_answers}
+use Rattle.overlay_sweep.proofs.laws.visits.LookCosts.{highest_of_fewer, drops_pay}
 use Rattle.overlay_sweep.proofs.build.scan_tree.ScanTreeLiveSegments.sum_below.Goals as goal
 
 mapped : {E : Type 0} (f : E → WholeSegment) (items : List E) (i : ℕ) → i < length (map f items) → i < length items
@@ -40,3 +41,9 @@ returns-else-last-clause-sum g c =
     let found = c.settle-last.ensures.grown (looking _ _ _ _ _ c.requires.time) in
     ap (λ (s : WholeSegment). s.count) (sym (segment_read entry_of c.args.self.now.entries.items c.settle-last.result c.index.result.now (mapped entry_of c.args.self.now.entries.items c.settle-last.result (last_within _ _ _ _ _ _ _ found c.if-last.false)) (rw c.settle-last.ensures.entries at c.index.ensures)))
     ∙ last_answers (point_of g.I.OverlayInt.whole c.args.p) (g.I.OverlayInt.whole c.args.x) c.requires.same_x _ c.requires.free c.requires.time.begun _ _ _ _ found (g.C.WindingCount.winding c.args.default) c.if-last.false
+
+pub returns-then-last-clause-most : goal.returns-then-last-clause-most
+returns-then-last-clause-most g c = λ n d within high. drops_pay _ _ _ d c.settle-last.ensures.kept (c.settle-last.ensures.compared d (highest_of_fewer _ n d within high))
+
+pub returns-else-last-clause-most : goal.returns-else-last-clause-most
+returns-else-last-clause-most g c = λ n d within high. drops_pay _ _ _ d c.settle-last.ensures.kept (c.settle-last.ensures.compared d (highest_of_fewer _ n d within high))
