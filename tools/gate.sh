@@ -1,5 +1,6 @@
 #!/usr/bin/env bash
-# Proofs, tests and must-fail edits from nothing, by `rt ci`. The last line is `N passed, M failed`.
+# Proofs, tests and must-fail edits from nothing, by `rt ci`; then each growth of the programs is refused in turn. The last
+# line is `N passed, M failed`.
 #
 #     bash tools/gate.sh                  the whole gate
 #     bash tools/gate.sh --since COMMIT   every proof and test, and of the edits only those of crates that changed since COMMIT
@@ -39,9 +40,27 @@ if ((lanes > rooms)); then lanes=$((rooms > 0 ? rooms : 1)); fi
 export RT_JOBS="${RT_JOBS:-$lanes}"
 
 python3 tools/unused_lemmas.py
+lines=$(mktemp)
+status=0
 rt ci | while IFS= read -r line; do
+    printf '%s\n' "$line" >>"$lines"
     case $line in
     "rt: "*" proved" | "rt: "*" NOT PROVED" | "rt: "*"trying its must-fail edits"*) printf '%5d s: %s\n' "$SECONDS" "$line" ;;
     *) printf '%s\n' "$line" ;;
     esac
-done
+done || status=$?
+verdict=$(tail -n 1 "$lines")
+rm -f "$lines"
+
+# Each growth of the programs is refused in turn. The last line is that of `rt ci`, with one test more.
+if [[ $verdict =~ ^([0-9]+)\ passed,\ ([0-9]+)\ failed(.*)$ ]]; then
+    passed=${BASH_REMATCH[1]} failed=${BASH_REMATCH[2]} rest=${BASH_REMATCH[3]}
+    if python3 tools/refusals.py; then
+        passed=$((passed + 1))
+    else
+        failed=$((failed + 1)) status=1
+    fi
+    printf '%5d s: end\n' "$SECONDS"
+    printf '%d passed, %d failed%s\n' "$passed" "$failed" "$rest"
+fi
+exit "$status"
