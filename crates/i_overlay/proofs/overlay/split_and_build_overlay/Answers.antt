@@ -91,3 +91,6 @@ returns-clause-refused g c =
     let passes : ℕ = passes_of c.split_segments.new.self in
     let split : IsSplit settings given segments passes = split_from _ _ _ _ _ _ _ e.run e.arranged e.balance e.in_box e.near e.winding e.exact_input e.bound in
     refused_build settings given segments (passes_of c.args.splitter.now) passes c.build_boolean_overlay.result split e.fits (rw c.deref.ensures.value at c.build_boolean_overlay.ensures.out_of_range)
+
+pub returns-clause-asked : goal.returns-clause-asked
+returns-clause-asked g c = rw c.deref.ensures.value at c.build_boolean_overlay.ensures.compared
