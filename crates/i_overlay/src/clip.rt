@@ -1,16 +1,18 @@
 // A split of polygons and lines, and the graph of the parts of lines that the polygons keep, in one call. This
 // project's own.
-ghost use Rattle.std.specs.Prelude.{◌≡◌, IsFalse, OnOk, IfOk, IfErr, Option};
+ghost use Rattle.std.specs.Prelude.{◌≡◌, IsFalse, OnOk, IfOk, IfErr, Option, length};
 ghost use Rattle.overlay_base.specs.ArrangedOf.{IsSplittable, IsArranged};
 ghost use Rattle.overlay_base.specs.SegmentOf.{segments_of, data_segments_of};
 ghost use Rattle.overlay_grid.specs.Grid.{Layout};
+ghost use Rattle.overlay_base.specs.Choices.{list_fills};
 ghost use Rattle.overlay_split.specs.Run.{LeavesRange};
 ghost use Rattle.overlay_split.specs.RunLooks.{AreRunLooks};
 ghost use Rattle.overlay_split.specs.SettingsOf.{snap_limit_of, passes_of, looked_of, settings_of};
 ghost use Rattle.overlay_sweep.specs.ChainWindings.{tops_leave_range};
+ghost use Rattle.overlay_sweep.specs.Costs.{IsSweepWithin};
 ghost use Rattle.overlay_build.specs.GraphOf.{HoldGraph, graph_with};
 ghost use Rattle.overlay_build.specs.NodeIndexes.{items_of, is_any_node};
-ghost use Rattle.overlay_build.specs.StringGraphOf.{nodes_of, links_of};
+ghost use Rattle.overlay_build.specs.StringGraphOf.{nodes_of, links_of, builder_name, lines_asked};
 ghost use Rattle.i_overlay.specs.Headline.{IsClip, IsRefused};
 
 use overlay_base::overlay_core::clip_rule::ClipRule;
@@ -71,6 +73,10 @@ pub fn split_and_build_clip<'a, I: OverlayInt>(
         (settings_of I.BITS solver.now splitter.old) (segments_of segments.old.items) grid (passes_of splitter.new)
         (looked_of splitter.new)) }
     ensures limit { snap_limit_of splitter.new ≡ snap_limit_of splitter.old }
+    ensures asked { IfOk result (λ graph.
+        IsSweepWithin (list_fills solver.now.strategy (length segments.new.items)) (length segments.new.items)
+        (lines_asked graph)) }
+    ensures same_builder { IfOk result (λ graph. builder_name graph ≡ builder.entry.ghost_name) }
 {
     splitter.split_segments(segments, solver)?;
     builder.build_string_clip(fill_rule, clip_rule, solver, segments)

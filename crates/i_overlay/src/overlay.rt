@@ -1,6 +1,7 @@
 // A split and a build in one call. This project's own.
-ghost use Rattle.std.specs.Prelude.{◌≡◌, ◌⊎◌, Bool, [], map, IsTrue, IsFalse, OnOk, IfOk, IfErr, Option};
+ghost use Rattle.std.specs.Prelude.{◌≡◌, ◌⊎◌, Bool, [], map, IsTrue, IsFalse, OnOk, IfOk, IfErr, Option, length};
 ghost use Rattle.overlay_base.specs.BooleanWinding.{boolean_counted};
+ghost use Rattle.overlay_base.specs.Choices.{list_fills};
 ghost use Rattle.overlay_base.specs.HooksOf.{hooks_of};
 ghost use Rattle.overlay_base.specs.Rules.{holds, keeps_fill};
 ghost use Rattle.overlay_base.specs.Balance.{IsBalanced};
@@ -14,9 +15,10 @@ ghost use Rattle.overlay_split.specs.RunLooks.{AreRunLooks};
 ghost use Rattle.overlay_split.specs.SettingsOf.{snap_limit_of, passes_of, looked_of, settings_of};
 ghost use Rattle.overlay_sweep.specs.ChainWindings.{tops_leave_range};
 ghost use Rattle.overlay_build.specs.Graph.{data_by};
+ghost use Rattle.overlay_sweep.specs.Costs.{IsSweepWithin};
 ghost use Rattle.overlay_build.specs.GraphOf.{HoldGraph, graph_with};
 ghost use Rattle.overlay_build.specs.NodeIndexes.{indexes_of, is_canonical_node};
-ghost use Rattle.overlay_build.specs.OverlayGraphOf.{nodes_of, links_of};
+ghost use Rattle.overlay_build.specs.OverlayGraphOf.{nodes_of, links_of, graph_asked};
 ghost use Rattle.i_overlay.specs.FarRegions.{EnclosesOverlay};
 ghost use Rattle.i_overlay.specs.Headline.{IsOverlay, IsDataAfter, IsRefused};
 
@@ -99,6 +101,9 @@ pub fn split_and_build_overlay<'a, I: OverlayInt, D: OverlayEdgeData<ShapeCountB
         (settings_of I.BITS solver.now splitter.old) (segments_of segments.old.items) grid (passes_of splitter.new)
         (looked_of splitter.new)) }
     ensures limit { snap_limit_of splitter.new ≡ snap_limit_of splitter.old }
+    ensures asked { IfOk result (λ graph.
+        IsSweepWithin (list_fills solver.now.strategy (length segments.new.items)) (length segments.new.items)
+        (graph_asked graph)) }
 {
     splitter.split_segments(segments, solver)?;
     builder.build_boolean_overlay(fill_rule, overlay_rule, solver, segments)

@@ -1,5 +1,5 @@
 -- What a builder shows, and what it holds once the graph that borrows its nodes and links is let go.
-use Rattle.std.specs.Prelude.{◌≡◌, ℕ, Bool, [], List, Result, IfOk, OnOk, OnErr}
+use Rattle.std.specs.Prelude.{◌≡◌, ℕ, [], List, Result, IfOk, OnErr}
 use Rattle.std.specs.Borrow.{RattleType, MutBor, Fml}
 use Rattle.std.specs.Io.BufRead.{Rests}
 use Rattle.std.specs.declared.cmp.Ord.{Ghosts as Order}
@@ -10,7 +10,6 @@ use Rattle.overlay_base.specs.declared.overlay_core.link.OverlayLink.{OverlayLin
 use Rattle.overlay_base.specs.declared.segm.fault.Fault.{Fault}
 use Rattle.overlay_base.specs.contracts.segm.boolean.ShapeCountBoolean.{the_row as boolean_row}
 use Rattle.overlay_base.specs.contracts.segm.boolean.ShapeCountBooleanWindingCount.TheImpl.{ghosts as boolean_ghosts}
-use Rattle.overlay_sweep.specs.Costs.{IsSweepWithin}
 use Rattle.overlay_build.specs.declared.build.builder.GraphBuilder.{GraphBuilder}
 use Rattle.overlay_build.specs.declared.build.graph.OverlayGraph.{OverlayGraph}
 use Rattle.overlay_build.specs.contracts.build.graph_node.OverlayNode.{the_row as node_row}
@@ -32,13 +31,8 @@ module _ (I D : RattleType) (whole : Whole I.Denot) (order : Order I.Denot) (equ
   abbrev pub builder_row : RattleType
   builder_row = the_row boolean_row node_row I D boolean_ghosts whole order equality partial
 
-  -- the nodes and links of the graph that was answered, after a sweep over n segments; or none after a refusal, and the orders of the build before
-  abbrev pub HoldsAnswer : Bool → ℕ → Result (OverlayGraph I.Denot D.Denot whole order equality partial) Fault → MutBor builder_row.Denot → Fml
-  HoldsAnswer is_list n result builder = Rests builder_row builder (λ after.
-      IfOk result (λ graph. (after.nodes.items ≡ graph.nodes.now) × (after.links.items ≡ graph.links.now) × IsSweepWithin is_list n after.compared)
+  -- the nodes and links of the graph that was answered, or none after a refusal; and how many orders its build asked, or the build before
+  abbrev pub HoldsAnswer : Result (OverlayGraph I.Denot D.Denot whole order equality partial) Fault → MutBor builder_row.Denot → Fml
+  HoldsAnswer result builder = Rests builder_row builder (λ after.
+      IfOk result (λ graph. (after.nodes.items ≡ graph.nodes.now) × (after.links.items ≡ graph.links.now) × (after.compared ≡ graph.compared))
       × OnErr result ((after.nodes.items ≡ []) × (after.links.items ≡ []) × (after.compared ≡ builder.now.compared)))
-
-  -- at most what such a sweep asks, or after a refusal as the build before
-  abbrev pub HoldsAsked : Bool → ℕ → Result (OverlayGraph I.Denot D.Denot whole order equality partial) Fault → MutBor builder_row.Denot → Fml
-  HoldsAsked is_list n result builder = Rests builder_row builder (λ after.
-      OnOk result (IsSweepWithin is_list n after.compared) × OnErr result (after.compared ≡ builder.now.compared))

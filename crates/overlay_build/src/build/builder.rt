@@ -167,7 +167,7 @@ impl<C: FillCount, N: GraphNode, I: OverlayInt, D: Copy> GraphBuilder<C, N, I, D
 
 impl<I: OverlayInt, D: Copy> GraphBuilder<ShapeCountBoolean, OverlayNode, I, D> {
     ghost use Rattle.overlay_build.specs.BuilderOf.{HoldsAnswer};
-    ghost use Rattle.overlay_build.specs.OverlayGraphOf.{nodes_of, links_of};
+    ghost use Rattle.overlay_build.specs.OverlayGraphOf.{nodes_of, links_of, graph_asked};
 
     /// The graph of the last build.
     fn graph(&self) -> OverlayGraph<'_, I, D>
@@ -175,8 +175,10 @@ impl<I: OverlayInt, D: Copy> GraphBuilder<ShapeCountBoolean, OverlayNode, I, D> 
             (graph_with I.whole (built_links self.now)) }
         ensures nodes { nodes_of result ≡ built_nodes self.now }
         ensures links { links_of result ≡ built_links self.now }
+        ensures compared { graph_asked result ≡ build_asked self.now }
     {
-        OverlayGraph::new(self.nodes.as_slice(), self.links.as_slice())
+        let nodes = self.nodes.as_slice();
+        OverlayGraph::new(nodes, self.links.as_slice(), self.compared)
     }
 
     /// The graph of all segments of an arrangement, with their fills under the rule.
@@ -201,9 +203,10 @@ impl<I: OverlayInt, D: Copy> GraphBuilder<ShapeCountBoolean, OverlayNode, I, D> 
         ensures in_range { OnOk result (IsFalse (tops_leave_range (segments_of segments.now))) }
         ensures out_of_range { IfErr result (λ fault.
             fault ≡ CountOutOfRange → IsTrue (tops_leave_range (segments_of segments.now))) }
+        ensures compared { IfOk result (λ graph. IsSweepWithin (list_fills solver.now.strategy (length segments.now))
+            (length segments.now) (graph_asked graph)) }
         ensures* after { sem 𝓛
-            (HoldsAnswer I.row D.row I.OverlayInt.own I.Ord.own I.PartialEq I.PartialOrd.own
-            (list_fills solver.now.strategy (length segments.now)) (length segments.now) result self.entry) }
+            (HoldsAnswer I.row D.row I.OverlayInt.own I.Ord.own I.PartialEq I.PartialOrd.own result self.entry) }
     {
         self.build(fill_rule, LinkRule::Every, solver, segments)?;
         Ok(self.graph())
@@ -240,9 +243,10 @@ impl<I: OverlayInt, D: Copy> GraphBuilder<ShapeCountBoolean, OverlayNode, I, D> 
         ensures in_range { OnOk result (IsFalse (tops_leave_range (segments_of segments.now))) }
         ensures out_of_range { IfErr result (λ fault.
             fault ≡ CountOutOfRange → IsTrue (tops_leave_range (segments_of segments.now))) }
+        ensures compared { IfOk result (λ graph. IsSweepWithin (list_fills solver.now.strategy (length segments.now))
+            (length segments.now) (graph_asked graph)) }
         ensures* after { sem 𝓛
-            (HoldsAnswer I.row D.row I.OverlayInt.own I.Ord.own I.PartialEq I.PartialOrd.own
-            (list_fills solver.now.strategy (length segments.now)) (length segments.now) result self.entry) }
+            (HoldsAnswer I.row D.row I.OverlayInt.own I.Ord.own I.PartialEq I.PartialOrd.own result self.entry) }
     {
         self.build(fill_rule, LinkRule::Overlay(overlay_rule), solver, segments)?;
         Ok(self.graph())

@@ -17,24 +17,31 @@ use overlay_geometry::num::OverlayInt;
 pub struct OverlayGraph<'a, I: OverlayInt, D> {
     nodes: &'a [OverlayNode],
     links: &'a [OverlayLink<I, D>],
+    compared: u128,
     pub ghost holds: { HoldGraph indexes_of is_canonical_node I.whole nodes.now links.now
         (graph_with I.whole links.now) },
 }
 
 impl<'a, I: OverlayInt, D: Copy> OverlayGraph<'a, I, D> {
     ghost use Rattle.overlay_build.specs.Graph.{has_even_nodes, is_valid_graph};
-    ghost use Rattle.overlay_build.specs.OverlayGraphOf.{nodes_of, links_of};
+    ghost use Rattle.overlay_build.specs.OverlayGraphOf.{nodes_of, links_of, graph_asked};
 
-    /// The graph of these links, which has to have these nodes.
+    /// The graph of these links, which has to have these nodes, found by a sweep that asked so many orders.
     pub(crate) fn new(
         nodes: &'a [OverlayNode],
         links: &'a [OverlayLink<I, D>],
+        compared: u128,
     ) -> OverlayGraph<'a, I, D>
         requires { HoldGraph indexes_of is_canonical_node I.whole nodes.now links.now (graph_with I.whole links.now) }
         ensures nodes { nodes_of result ≡ nodes.now }
         ensures links { links_of result ≡ links.now }
+        ensures compared { graph_asked result ≡ compared }
     {
-        OverlayGraph { nodes, links }
+        OverlayGraph {
+            nodes,
+            links,
+            compared,
+        }
     }
 
     /// The nodes.
@@ -49,6 +56,13 @@ impl<'a, I: OverlayInt, D: Copy> OverlayGraph<'a, I, D> {
         ensures { result.now ≡ links_of self.now }
     {
         self.links
+    }
+
+    /// How many orders of live segments the sweep has asked that found it, `u128::MAX` at most.
+    pub fn compared(&self) -> u128
+        ensures { result ≡ graph_asked self.now }
+    {
+        self.compared
     }
 
     /// Whether no `Cross` has fewer than two links and, where there is a `Cross`, there are no more nodes than links.

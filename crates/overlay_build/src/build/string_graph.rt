@@ -23,7 +23,7 @@ pub struct StringGraph<'a, I: OverlayInt> {
 }
 
 impl<'a, I: OverlayInt> StringGraph<'a, I> {
-    ghost use Rattle.overlay_build.specs.StringGraphOf.{LendsLinks, nodes_of, links_of};
+    ghost use Rattle.overlay_build.specs.StringGraphOf.{LendsLinks, nodes_of, links_of, lines_asked};
 
     /// The graph that a builder keeps.
     pub(crate) fn new(builder: &'a mut LineBuilder<I>) -> StringGraph<'a, I>
@@ -44,6 +44,13 @@ impl<'a, I: OverlayInt> StringGraph<'a, I> {
         ensures { result.now ≡ links_of self.now }
     {
         self.builder.links()
+    }
+
+    /// How many orders of live segments the sweep has asked that found it, `u128::MAX` at most.
+    pub fn compared(&self) -> u128
+        ensures { result ≡ lines_asked self.now }
+    {
+        self.builder.compared()
     }
 
     /// The links, to be written to.

@@ -60,3 +60,6 @@ returns-clause-refused g c =
 
 pub returns-clause-looked : goal.returns-clause-looked
 returns-clause-looked g c = on_ok_weaker _ (λ _. c.in_ok-split_segments.ensures.looked) c.build_string_clip.ensures.in_range
+
+pub returns-clause-asked : goal.returns-clause-asked
+returns-clause-asked g c = rw c.deref.ensures.value at c.build_string_clip.ensures.compared

@@ -19,7 +19,7 @@ returns g c =
     let segments = segments_of c.args.segments.now in
     let is = ap (graph_with whole) c.graph.ensures.links ∙ graph_with_kept indexes_of is_canonical_node whole _ _ keeps c.args.fill_rule segments c.in_ok-build.ensures.graph in
     let balanced = arranged_overlay _ _ (holds c.args.overlay_rule) c.args.fill_rule segments c.requires.arranged (polygons_from segment_of (λ s. refl) c.args.segments.now) in
-    (search rules, record { graph = search rules; edge_data = search rules; balanced = balanced; even = λ balance. rw is (balanced balance).even; in_range = search rules; out_of_range = search rules; after = search rules })
+    (search rules, record { graph = search rules; edge_data = search rules; balanced = balanced; even = λ balance. rw is (balanced balance).even; in_range = search rules; out_of_range = search rules; compared = rw c.graph.ensures.compared c.in_ok-build.ensures.compared; after = search rules })
 
 pub returns-in_err-build : goal.returns-in_err-build
-returns-in_err-build g c = ((refl, λ _. tt, (IfOk-from_err c.from_residual.result _ (search rules), search rules)), record { graph = search rules; edge_data = search rules; balanced = arranged_overlay _ _ (holds c.args.overlay_rule) c.args.fill_rule (segments_of c.args.segments.now) c.requires.arranged (polygons_from segment_of (λ s. refl) c.args.segments.now); even = search rules; in_range = search rules; out_of_range = search rules; after = search rules })
+returns-in_err-build g c = ((refl, λ _. tt, (IfOk-from_err c.from_residual.result _ (search rules), search rules)), record { graph = search rules; edge_data = search rules; balanced = arranged_overlay _ _ (holds c.args.overlay_rule) c.args.fill_rule (segments_of c.args.segments.now) c.requires.arranged (polygons_from segment_of (λ s. refl) c.args.segments.now); even = search rules; in_range = search rules; out_of_range = search rules; compared = search rules; after = search rules })
