@@ -131,8 +131,8 @@ done words None before between after text written write (Ok u) answered same ok 
 done words (Some bytes) before between after text written write (Ok u) answered same ok appends keeps =
     (text, answered, subst (Appends before after) same (then_keeps before between after written (of_ok write (Appends before between written) ok appends) keeps))
 
--- a run over some words stops as a run over words that nobody names
-pub stops_over_some : (words : List (List ℕ)) (input : Option (List ℕ)) (status : ℕ) → (status ≡ 0) ⊎ ((stop : Stop) × (status ≡ status_of stop) × IsStop words input stop)
-    → (status ≡ 0) ⊎ ((stop : Stop) × (status ≡ status_of stop) × ((stop ≡ Usage) ⊎ (stop ≡ Refused Memory) ⊎ ((some : List (List ℕ)) × IsStop some input stop)))
-stops_over_some words input status (inl done) = inl done
-stops_over_some words input status (inr (stop, is, stops)) = inr (stop, is, inr (inr (words, stops)))
+-- a run over some words stops as a run over words that nobody names, with what else is known of its stop
+pub stops_over_some : (words : List (List ℕ)) (input : Option (List ℕ)) (status : ℕ) (Known : Stop → Type 0) → (status ≡ 0) ⊎ ((stop : Stop) × (status ≡ status_of stop) × IsStop words input stop × Known stop)
+    → (status ≡ 0) ⊎ ((stop : Stop) × (status ≡ status_of stop) × ((stop ≡ Usage) ⊎ (stop ≡ Refused Memory) ⊎ ((some : List (List ℕ)) × IsStop some input stop)) × Known stop)
+stops_over_some words input status Known (inl done) = inl done
+stops_over_some words input status Known (inr (stop, is, stops, known)) = inr (stop, is, inr (inr (words, stops)), known)

@@ -26,7 +26,9 @@ use std::rt::Env;
 use std::{env, io};
 
 /// Runs the program over the words that the process was started with, and answers the exit status, as `arrange_run`
-/// does over some words, or 2 or 4 where the words cannot be had. No clause can say which words those are.
+/// does over some words: the usage and 2 also where one of them is no UTF-8, and 4 where memory for them is refused.
+/// No clause can say which words those are, so none says either that the usage stands only where they ask for nothing:
+/// tests over words that are made up show that each word is handed on.
 #[tactic(auto, using(crate::proofs::Runs::is_no_success))]
 pub fn arrange<H: Env + AllocGlobal, R: Read, W: Write, E: Write>(
     rt: &H,
@@ -39,8 +41,8 @@ pub fn arrange<H: Env + AllocGlobal, R: Read, W: Write, E: Write>(
         × Appends (W.contents output.old) (W.contents output.new) text) }
     ensures stopped { (result ≡ 0) ⊎ ((stop : Stop) × (result ≡ status_of stop)
         × ((stop ≡ Stop.Usage) ⊎ (stop ≡ Stop.Refused Memory)
-        ⊎ ((words : List (List ℕ)) × IsStop words (R.remaining input.old) stop))) }
-    ensures untouched { (result ≡ 0) ⊎ (result ≡ 5) ⊎ (output.new ≡ output.old) }
+        ⊎ ((words : List (List ℕ)) × IsStop words (R.remaining input.old) stop))
+        × ((stop ≡ Stop.Output) ⊎ (output.new ≡ output.old))) }
     ensures quiet { result ≡ 0 → faults.new ≡ faults.old }
 {
     match started_words(rt) {
@@ -53,9 +55,9 @@ pub fn arrange<H: Env + AllocGlobal, R: Read, W: Write, E: Write>(
 /// nothing and for a crossing of other than two segments, 3 for a faulty line, 4 for a `Fault`, 5 where the input or
 /// the output failed.
 ///
-/// Nothing is written to `output` unless the status is 0 or 5, and nothing to `faults` where it is 0. Any other status
-/// is told in one line on `faults`, where a failed write is passed over. Where the words ask for nothing, nothing is
-/// read.
+/// Nothing is written to `output` unless the run is done or the output failed, and nothing to `faults` where the status
+/// is 0. Any other status is told in one line on `faults`, where a failed write is passed over. Where the words ask for
+/// nothing, nothing is read.
 #[tactic(auto, using(crate::proofs::Runs::is_no_success))]
 pub fn arrange_run<R: Read, W: Write, E: Write>(
     alloc: Global,
@@ -69,8 +71,8 @@ pub fn arrange_run<R: Read, W: Write, E: Write>(
         × IsRunAnswer (map string_bytes words.now) bytes (Ok text)
         × Appends (W.contents output.old) (W.contents output.new) text) }
     ensures stopped { (result ≡ 0) ⊎ ((stop : Stop) × (result ≡ status_of stop)
-        × IsStop (map string_bytes words.now) (R.remaining input.old) stop) }
-    ensures untouched { (result ≡ 0) ⊎ (result ≡ 5) ⊎ (output.new ≡ output.old) }
+        × IsStop (map string_bytes words.now) (R.remaining input.old) stop
+        × ((stop ≡ Stop.Output) ⊎ (output.new ≡ output.old))) }
     ensures unread { AskNothing (map string_bytes words.now) → input.new ≡ input.old }
     ensures quiet { result ≡ 0 → faults.new ≡ faults.old }
 {

@@ -1,7 +1,7 @@
 // What the links of an overlay enclose, asked at places of a lattice and compared with the contours that were given, by
 // a count of crossings of this file's own. All coordinates are doubled, so that places stand between whole points.
 
-use super::tests::run_words;
+use super::tests::{TWO_SQUARES, run_words};
 use super::*;
 use crate::number::{short_number, signed_number};
 use std::alloc::AllocError;
@@ -328,6 +328,36 @@ fn walks_of_contours_by_chance(rt: HostRuntime) -> Result<(), Fail> {
             let walks = written(&rt, walk_words.as_str(), lines.as_str())?;
             ask_walks(&rt, walks.as_str(), &links)?;
         }
+    }
+    Ok(())
+}
+
+/// Four triangles that touch in one point.
+const FOUR_TRIANGLES: &str =
+    "S 0 0 4 -1\nS 4 -1 4 1\nS 4 1 0 0\nS 0 0 1 4\nS 1 4 -1 4\nS -1 4 0 0\n\
+S 0 0 -4 1\nS -4 1 -4 -1\nS -4 -1 0 0\nS 0 0 -1 -4\nS -1 -4 1 -4\nS 1 -4 0 0\n";
+
+/// The lines, the rule, and a node of the graph: of the two squares one where four links meet, and one of eight.
+const MANY_LINKS_AT_A_NODE: [(&str, &str, &str); 2] = [
+    (TWO_SQUARES, "xor", "node 2 4 cross 5 6 2 3\n"),
+    (
+        FOUR_TRIANGLES,
+        "subject",
+        "node 0 0 cross 7 8 9 10 1 2 3 5\n",
+    ),
+];
+
+#[test]
+fn walks_through_nodes_of_many_links(rt: HostRuntime) -> Result<(), Fail> {
+    for (lines, rule, node) in MANY_LINKS_AT_A_NODE {
+        let graph_words = format!(in rt.alloc(); "graph|rule={rule}")?;
+        let graph = written(&rt, graph_words.as_str(), lines)?;
+        assert!(rt; graph.contains(node), "{rule}");
+        let links = ways_of(rt.alloc(), graph.as_str(), "link")?;
+        assert_eq!(rt; links.len(), 12, "{rule}");
+        let walk_words = format!(in rt.alloc(); "walks|rule={rule}")?;
+        let walks = written(&rt, walk_words.as_str(), lines)?;
+        ask_walks(&rt, walks.as_str(), &links)?;
     }
     Ok(())
 }

@@ -2,6 +2,7 @@
 
 use super::*;
 use std::alloc::AllocError;
+use std::env::FillError;
 use std::process::Abort;
 use std::test::Fail;
 
@@ -564,7 +565,7 @@ flag false
 ";
 
 /// A square of the subject, and one of the clip that covers its upper right corner.
-const TWO_SQUARES: &str = "S 0 0 4 0
+pub const TWO_SQUARES: &str = "S 0 0 4 0
 S 4 0 4 4
 S 4 4 0 4
 S 0 4 0 0
@@ -1041,4 +1042,150 @@ fn faults_fail(rt: HostRuntime) -> Result<(), Fail> {
     check_failed_faults(&rt, "join", b"x\n", 3)?;
     check_failed_faults(&rt, "join", b"S 0 0 1 1\n", 5)?;
     Ok(())
+}
+
+/// Fails at its third write, and takes one byte at any other.
+#[derive(Drop)]
+struct FailsOnce {
+    writes: u32,
+}
+
+impl Write for FailsOnce {
+    fn write(&mut self, buf: &[u8]) -> io::Result<usize> {
+        if buf.is_empty() {
+            return Ok(0);
+        }
+        self.writes = self.writes.saturating_add(1);
+        if self.writes == 3 {
+            return Err(io::Error::from(ErrorKind::BrokenPipe));
+        }
+        Ok(1)
+    }
+
+    fn flush(&mut self) -> io::Result<()> {
+        Ok(())
+    }
+}
+
+#[test]
+fn nothing_follows_a_failed_write(rt: HostRuntime) -> Result<(), Fail> {
+    let mut output = FailsOnce { writes: 0 };
+    check_failed_output(&rt, &mut output)?;
+    assert_eq!(rt; output.writes, 3);
+    Ok(())
+}
+
+/// The words that a process was started with, and one more where there is one.
+#[derive(Drop)]
+struct Started {
+    words: &'static [&'static str],
+    last: Option<&'static [u8]>,
+}
+
+impl Env for Started {
+    fn arg(&self, i: usize, buf: &mut [u8]) -> Result<usize, FillError> {
+        let word = match self.words.get(i) {
+            Some(word) => word.as_bytes(),
+            None if i == self.words.len() => self.last.ok_or(FillError::NotPresent)?,
+            None => return Err(FillError::NotPresent),
+        };
+        if buf.len() < word.len() {
+            return Err(FillError::TooLong);
+        }
+        buf[..word.len()].copy_from_slice(word);
+        Ok(word.len())
+    }
+
+    fn var(&self, _name: &str, _buf: &mut [u8]) -> Result<usize, FillError> {
+        Err(FillError::NotPresent)
+    }
+
+    fn var_at(&self, _i: usize, _buf: &mut [u8]) -> Result<usize, FillError> {
+        Err(FillError::NotPresent)
+    }
+}
+
+/// Two lines that meet between whole points, nearer to an end than the first radius of the precision 3,1.
+const NEAR_AN_END: &str = "S 0 0 5 5\nS 0 3 5 -2\n";
+
+const FOUR_WORDS: [&str; 5] = [
+    "arrange",
+    "split",
+    "engine=i16",
+    "strategy=list",
+    "precision=3,1",
+];
+
+const EIGHT_WORDS: [&str; 9] = [
+    "arrange",
+    "graph",
+    "engine=i16",
+    "strategy=frag",
+    "fill=nonzero",
+    "rule=subject",
+    "limit=256",
+    "radius=1",
+    "precision=3,1",
+];
+
+/// The words that a process was started with, the input, the status, and what is written.
+const STARTED: [(&[&str], &str, u8, &str); 5] = [
+    (&[], "x\n", 2, USAGE),
+    (&["arrange"], "x\n", 2, USAGE),
+    (
+        &["arrange", "join"],
+        "S 1 2 3 4\nC 1 2 3 4\nS 3 4 1 2\nS 0 0 5 5\n",
+        0,
+        "seg 0 0 5 5 1 0\nseg 1 2 3 4 0 1\nflag true\n",
+    ),
+    (
+        &FOUR_WORDS,
+        NEAR_AN_END,
+        0,
+        "seg 0 0 0 3 1 0\nseg 0 3 5 -2 1 0\nseg 0 3 5 5 1 0\nflag true\npasses 2\n",
+    ),
+    (
+        &EIGHT_WORDS,
+        NEAR_AN_END,
+        0,
+        "link 0 0 0 3 1 0 1\nlink 0 3 5 -2 1 1 2\n\
+node 0 0 cross 0\nnode 0 3 bridge 1 0\nnode 5 -2 cross 1\nvalid false\n",
+    ),
+];
+
+/// Asks for the status of a process that was started with these words, and for what it writes.
+fn check_started<H: Abort + AllocGlobal>(
+    rt: &H,
+    started: Started,
+    given: &str,
+    status: u8,
+    text: &str,
+) {
+    let mut input = given.as_bytes();
+    let mut output = Vec::new(rt.alloc());
+    let mut faults = Vec::new(rt.alloc());
+    let answer = arrange(&(started, rt.alloc()), &mut input, &mut output, &mut faults);
+    let (written, told) = if status == 0 { (text, "") } else { ("", text) };
+    assert_eq!(rt; answer, status, "{given}");
+    assert_eq!(rt; output.as_slice(), written.as_bytes(), "{given}");
+    assert_eq!(rt; faults.as_slice(), told.as_bytes(), "{given}");
+}
+
+#[test]
+fn started_with_words(rt: HostRuntime) {
+    for (words, given, status, text) in STARTED {
+        check_started(&rt, Started { words, last: None }, given, status, text);
+    }
+}
+
+/// Each word is handed on: said once more behind eight words, it asks for nothing. A word may be no UTF-8.
+#[test]
+fn started_with_a_further_word(rt: HostRuntime) {
+    let words = EIGHT_WORDS.as_slice();
+    for word in words.iter().skip(1) {
+        let last = Some(word.as_bytes());
+        check_started(&rt, Started { words, last }, NEAR_AN_END, 2, USAGE);
+    }
+    let last = Some(b"\xff".as_slice());
+    check_started(&rt, Started { words, last }, NEAR_AN_END, 2, USAGE);
 }

@@ -7,4 +7,4 @@ returns-in-Ok-clause-done g c = λ ends. (map string_bytes c.as_slice.result.now
 
 pub returns-in-Ok-clause-stopped : goal.returns-in-Ok-clause-stopped
 returns-in-Ok-clause-stopped g c =
-    stops_over_some (map string_bytes c.as_slice.result.now) (g.R.Read.remaining c.args.input.now) c.arrange_run.result c.arrange_run.ensures.stopped
+    stops_over_some (map string_bytes c.as_slice.result.now) (g.R.Read.remaining c.args.input.now) c.arrange_run.result _ c.arrange_run.ensures.stopped
