@@ -55,7 +55,8 @@ impl<C: WindingCount, I: OverlayInt> SweepRunner<C, I> {
     /// one above the segment directly below its start, or 0; the winding above adds the segment's count. Balance is no
     /// condition; with it these windings are those of the columns of the plane. The segments have to be arranged, as
     /// `is_arranged` tests, and the handler has to take each of their indexes. The solver does not change the answer:
-    /// it chooses whether the live segments stand in a list or in a balanced tree.
+    /// it chooses whether the live segments stand in a list or in a balanced tree. Over n segments `compared` is at most
+    /// 6 n² for the list, and at most 3 n d for the tree, where no balanced tree of n entries is higher than d.
     ///
     /// Answers `Fault::CountOutOfRange` exactly where a winding above a segment that is handed out leaves the range,
     /// and `Fault::Memory` where a growth is refused. The handler is spent then; the runner can be used again, and its

@@ -92,7 +92,7 @@ where
 }
 
 /// Hands the segments of an arrangement out, by their starts and then by angle from below. Leaves in `compared` how
-/// many orders this asked of live segments, `u128::MAX` at most.
+/// many orders this asked of live segments, `u128::MAX` at most: those of three looks at all segments for each of them.
 pub fn sweep_with_handler<C, I, D, F, S, H>(
     live: &mut S,
     ways: &mut Vec<Way<I>>,

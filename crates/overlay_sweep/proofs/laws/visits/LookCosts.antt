@@ -1,6 +1,6 @@
 -- What calls on live segments ask, summed over a sweep: each entry that is held can pay for one look more.
 use Rattle.std.proofs.Common.{◌≡◌, ap, refl, sym, ◌∙◌, arith, inl, inr, Ordering}
-use Rattle.std.specs.Prelude.{Bool, true, if◌then◌else◌, ◌++◌, ℕ, suc, ◌+◌, ◌-◌, ◌*◌, ◌<◌, ◌≤◌, ◌⊎◌, List, [], ◌∷◌, length, map, filter, drop}
+use Rattle.std.specs.Prelude.{Bool, true, if◌then◌else◌, ◌++◌, ℕ, suc, ◌+◌, ◌-◌, ◌*◌, ◌<◌, ◌≤◌, List, [], ◌∷◌, length, map, filter, drop}
 use Rattle.std.specs.List.{enumerate_from}
 use Rattle.std.specs.Ordering.{is_lt}
 use Rattle.std.proofs.lemmas.Bool.{cases_Bool}
