@@ -210,9 +210,6 @@ found_one q e h = ap (λ (b : Bool). map (λ (f : Entry). f.index) (cond b (e �
 pub not_found : (q : WholeQuery) (e : Entry) → is_found q e ≡ false → found q (e ∷ []) ≡ []
 not_found q e h = ap (λ (b : Bool). map (λ (f : Entry). f.index) (cond b (e ∷ []) [])) h
 
-pub counted_one : (q : WholeQuery) (e : Entry) → is_taken_up q e ≡ true → count_by (is_taken_up q) (e ∷ []) ≡ 1
-counted_one q e h = sum_by-cons (λ f. cond (is_taken_up q f) 1 0) e [] ∙ ap (λ (b : Bool). cond b 1 0 + 0) h
-
 -- ---- lists in parts
 
 pub found-append : (q : WholeQuery) (xs ys : List Entry) → found q (xs ++ ys) ≡ found q xs ++ found q ys
