@@ -116,7 +116,10 @@ fn lines_above_one_another(rt: HostRuntime) {
         push_side(&rt, &mut segments, (0, y), (10, y));
     }
     // Each of the first 48 lines looks at those below it, and then all stand in a tree, where no heights meet.
-    assert_eq!(rt; ask(&rt, rt.alloc(), &mut segments, SNAPPING), (0, 48 * 47 / 2));
+    assert_eq!(rt;
+        ask(&rt, rt.alloc(), &mut segments, SNAPPING),
+        (0, 48 * 47 / 2)
+    );
 }
 
 #[test]

@@ -184,8 +184,7 @@ fn segments_beside_one_another(rt: HostRuntime) -> Result<(), Fail> {
 }
 
 /// 48 rows of 34 fans: 16,320 segments, 45 twos of each fan meet, and columns are 64 wide. Each segment has two
-/// fragments, so no tree is asked before the grid, which looks at each of these twos in two columns: more often than a
-/// tree may, which looks at each once, and at each segment once more.
+/// fragments, so no tree is asked before the grid, which looks at each of these twos in two columns.
 #[test]
 fn fans_in_columns(rt: HostRuntime) -> Result<(), Fail> {
     let split = split_alike(&rt, &fans(&rt, 48)?)?;
