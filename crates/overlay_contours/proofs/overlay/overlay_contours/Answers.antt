@@ -44,6 +44,9 @@ contours_of_graph-requires-clause-ordered g c =
     subst (λ (l : List Pair). IsTrue (list_all is_ordered l)) (graph_pairs whole links graph.holds.same_links)
     (links_are_ordered settings c.args.fill_rule (holds c.args.overlay_rule) given segments passes (graph_with whole links) e.overlay)
 
+pub contours_of_graph-requires-clause-even : goal.contours_of_graph-requires-clause-even
+contours_of_graph-requires-clause-even g c = let balanced = c.in_ok-graph.ensures.overlay.balanced c.in_ok-sides.ensures.balanced in balanced.even
+
 pub returns-in_err-contours-clause-refused : goal.returns-in_err-contours-clause-refused
 returns-in_err-contours-clause-refused g c =
     let whole = g.I.OverlayInt.whole in
