@@ -68,5 +68,7 @@ pub fn mixed_point(digest: i64, point: IntPoint<i32>) -> i64 {
 
 /// A digest with one more index.
 pub fn mixed_index(digest: i64, index: usize) -> i64 {
-    digest.wrapping_mul(31).wrapping_add(index as i64)
+    digest
+        .wrapping_mul(31)
+        .wrapping_add(i64::try_from(index).unwrap_or(i64::MAX))
 }

@@ -164,7 +164,7 @@ impl Case for Build {
                 self.polygons(rule, squares.as_slice())
             }
             Kind::Lines | Kind::Clip => {
-                let subject = arrangement(Shape::Long, alloc)?;
+                let subject = arrangement(Shape::Crossed, alloc)?;
                 let squares = arrangement(Shape::Squares, alloc)?;
                 self.lines(Some(INSIDE), subject.as_slice())?;
                 let rule = matches!(self.kind, Kind::Clip).then_some(OUTSIDE);

@@ -82,7 +82,13 @@ impl OverlayEdgeData<ShapeCountBoolean> for Tag {
         (self, self)
     }
 
-    fn merge(merged: EdgeDataMerge<ShapeCountBoolean, Tag>, store: &mut Calls) -> Tag {
+    fn merge(merged: EdgeDataMerge<ShapeCountBoolean, Tag>, store: &mut Calls) -> Tag
+        ensures answer { result ≡ merged.lhs_data }
+        ensures store { store.new ≡ record store.old {
+          merges = min (store.old.merges + 1) (2 ^ 32 - 1);
+          all = min (store.old.all + 1) (2 ^ 32 - 1);
+        } }
+    {
         store.merges = store.merges.saturating_add(1);
         store.all = store.all.saturating_add(1);
         merged.lhs_data

@@ -1,13 +1,14 @@
 // Sorts, joins and splits.
-use crate::case::{Case, Stop, Summary, refused};
+use crate::case::{Case, Stop, Summary, mixed_point, refused};
 use crate::hooks::{Calls, Tag};
-use crate::shapes::{Shape, digest_of, sides};
+use crate::shapes::{Shape, sides};
 use i_overlay::overlay_core::solver::Solver;
 use i_overlay::segm::arranged::is_splittable;
 use i_overlay::segm::boolean::ShapeCountBoolean;
 use i_overlay::segm::join::join_with_store;
 use i_overlay::segm::segment::Segment;
 use i_overlay::segm::sort::sort_by_ab;
+use i_overlay::segm::winding::WindingCount;
 use i_overlay::split::solver::SplitSolver;
 use std::alloc::Global;
 
@@ -38,7 +39,7 @@ pub struct Join {}
 impl Case for Join {
     fn try_once(&mut self, alloc: Global) -> Result<Summary, Stop> {
         let mut list: Vec<Side> = sides(Shape::Crossed, Tag, &mut Calls::given(), alloc)?;
-        if !is_splittable(&list) {
+        if !list.iter().all(|segment| segment.count().is_valid()) {
             return Err(Stop::Wrong("the input may not be joined"));
         }
         let mut store = Calls::given();
@@ -109,4 +110,14 @@ impl Case for Split {
             digest: digest.wrapping_add(squares.digest),
         })
     }
+}
+
+/// A digest of the ends of segments, in order.
+fn digest_of(list: &[Side]) -> i64 {
+    let mut digest = 0;
+    for segment in list {
+        let ends = segment.x_segment();
+        digest = mixed_point(mixed_point(digest, ends.a), ends.b);
+    }
+    digest
 }

@@ -1,5 +1,5 @@
 // What the calls are given.
-use crate::case::{Stop, mixed, mixed_point};
+use crate::case::Stop;
 use i_overlay::geom::point::IntPoint;
 use i_overlay::overlay_core::edge_data::OverlayEdgeData;
 use i_overlay::segm::segment::Segment;
@@ -15,7 +15,7 @@ pub enum Shape {
     Crossed,
     /// 60 level lines and twenty upright lines across: more are live at once than are compared without a tree.
     Long,
-    /// Twelve squares of the subject, each with one of the clip over its upper right corner: short, so that a grid's
+    /// Six squares of the subject, each with one of the clip over its upper right corner: short, so that a grid's
     /// columns serve, and with more links than a sort takes without memory.
     Squares,
 }
@@ -30,44 +30,26 @@ pub fn sides<C: WindingCount, D: OverlayEdgeData<C>>(
     let mut list = Vec::new(alloc);
     match shape {
         Shape::Crossed => {
-            for line in 0..24 {
-                push_side(
-                    &mut list,
-                    ((0, 23 - line), (10, 23 - line)),
-                    ShapeType::Subject,
-                    edge_data,
-                    store,
-                )?;
+            for line in 0..24_u8 {
+                let y = 23 - i32::from(line);
+                let ends = ((0, y), (10, y));
+                push_side(&mut list, ends, ShapeType::Subject, edge_data, store)?;
             }
-            push_side(
-                &mut list,
-                ((0, 0), (10, 0)),
-                ShapeType::Clip,
-                edge_data,
-                store,
-            )?;
-            push_side(
-                &mut list,
-                ((5, 24), (5, -1)),
-                ShapeType::Subject,
-                edge_data,
-                store,
-            )?;
+            let (lowest, upright) = (((0, 0), (10, 0)), ((5, 24), (5, -1)));
+            push_side(&mut list, lowest, ShapeType::Clip, edge_data, store)?;
+            push_side(&mut list, upright, ShapeType::Subject, edge_data, store)?;
         }
         Shape::Long => {
-            for line in 0..60 {
-                push_side(
-                    &mut list,
-                    ((0, 10 * line), (1000 + line, 10 * line + 3)),
-                    ShapeType::Subject,
-                    edge_data,
-                    store,
-                )?;
+            for line in 0..60_u8 {
+                let (y, right) = (10 * i32::from(line), 1000 + i32::from(line));
+                let ends = ((0, y), (right, y + 3));
+                push_side(&mut list, ends, ShapeType::Subject, edge_data, store)?;
             }
-            for line in 0..20 {
+            for line in 0..20_u8 {
+                let x = 50 * i32::from(line) + 3;
                 push_side(
                     &mut list,
-                    ((50 * line + 3, -5), (50 * line + 3, 605)),
+                    ((x, -5), (x, 605)),
                     ShapeType::Clip,
                     edge_data,
                     store,
@@ -75,23 +57,10 @@ pub fn sides<C: WindingCount, D: OverlayEdgeData<C>>(
             }
         }
         Shape::Squares => {
-            for place in 0..12 {
-                push_square(
-                    &mut list,
-                    10 * place,
-                    0,
-                    ShapeType::Subject,
-                    edge_data,
-                    store,
-                )?;
-                push_square(
-                    &mut list,
-                    10 * place + 2,
-                    2,
-                    ShapeType::Clip,
-                    edge_data,
-                    store,
-                )?;
+            for place in 0..6_u8 {
+                let x = 10 * i32::from(place);
+                push_square(&mut list, x, 0, ShapeType::Subject, edge_data, store)?;
+                push_square(&mut list, x + 2, 2, ShapeType::Clip, edge_data, store)?;
             }
         }
     }
@@ -132,14 +101,4 @@ fn push_side<C: WindingCount, D: OverlayEdgeData<C>>(
     }
     list.push(Segment::create_and_validate_with_data(a, b, count, edge_data, store))?;
     Ok(())
-}
-
-/// A digest of the ends of segments, in order.
-pub fn digest_of<C: WindingCount, D: Copy>(list: &[Segment<C, i32, D>]) -> i64 {
-    let mut digest = 0;
-    for segment in list {
-        let ends = segment.x_segment();
-        digest = mixed_point(mixed_point(digest, ends.a), ends.b);
-    }
-    mixed(digest, 1)
 }
