@@ -1,0 +1,13 @@
+// Tests of `i_overlay` and `overlay_contours`, through their public calls.
+#![tactic(auto)]
+
+#[cfg(test)]
+mod clip;
+#[cfg(test)]
+mod contours;
+#[cfg(test)]
+mod overlay;
+#[cfg(test)]
+mod provenance;
+#[cfg(test)]
+mod readme;

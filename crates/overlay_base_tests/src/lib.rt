@@ -1,0 +1,24 @@
+// Tests of `overlay_geometry` and `overlay_base`, through their public calls. Tests stand in crates of their own, since a
+// crate with tests is proved twice.
+#![tactic(auto)]
+
+#[cfg(test)]
+mod arranged;
+#[cfg(test)]
+mod clip_rule;
+#[cfg(test)]
+mod fault;
+#[cfg(test)]
+mod fill_rule;
+#[cfg(test)]
+mod merge;
+#[cfg(test)]
+mod points;
+#[cfg(test)]
+mod rule_table;
+#[cfg(test)]
+mod solver;
+#[cfg(test)]
+mod string;
+#[cfg(test)]
+mod v_segments;

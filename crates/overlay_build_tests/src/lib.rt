@@ -1,0 +1,19 @@
+// Tests of `overlay_sweep` and `overlay_build`, through their public calls.
+#![tactic(auto)]
+
+#[cfg(test)]
+mod contour_loops;
+#[cfg(test)]
+mod filters;
+#[cfg(test)]
+mod graphs;
+#[cfg(test)]
+mod scans;
+#[cfg(test)]
+mod string_graphs;
+#[cfg(test)]
+mod sweeps;
+#[cfg(test)]
+mod walks;
+#[cfg(test)]
+mod worked_lines;

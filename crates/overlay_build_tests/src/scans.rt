@@ -1,0 +1,198 @@
+// Rows of level segments, kept in a list and in a tree: sums, the tree's depth, and how many orders are asked.
+ghost use Rattle.std.specs.Prelude.{◌≡◌, ◌+◌, ◌*◌, ◌<◌, ℤ, pos, ◌≤ℤ◌, IsTrue};
+ghost use Rattle.overlay_geometry.specs.Coordinates.{is_coordinate};
+ghost use Rattle.overlay_base.specs.BooleanWinding.{boolean_winding};
+ghost use Rattle.overlay_geometry.specs.VSegmentOf.{v_pair_of, IsVSegmentInRange};
+ghost use Rattle.overlay_sweep.specs.steps.LevelRows.{level_pair, level_row, AreRows};
+
+use crate::sweeps::{FirstWith, Line, greatest_counts, line};
+use overlay_base::overlay_core::fill_rule::FillRule;
+use overlay_base::overlay_core::solver::Solver;
+use overlay_base::segm::arranged::is_arranged;
+use overlay_base::segm::boolean::ShapeCountBoolean;
+use overlay_base::segm::fault::Fault;
+use overlay_geometry::geom::point::IntPoint;
+use overlay_geometry::geom::v_segment::VSegment;
+use overlay_geometry::num::OverlayInt;
+use overlay_sweep::build::live_segments::LiveSegments;
+use overlay_sweep::build::scan_list::ScanList;
+use overlay_sweep::build::scan_tree::ScanTree;
+use overlay_sweep::build::sweep::SweepRunner;
+use std::alloc::Global;
+use std::process::Abort;
+
+fn coordinate<I: OverlayInt>(rt: &impl Abort, value: i64) -> I
+    ensures whole { I.whole result ≡ value }
+    ensures range { IsTrue (is_coordinate (I.whole I.MIN_COORD) (I.whole I.MAX_COORD) value) }
+{
+    assert!(rt; I::MIN_COORD.to_wide() <= value && value <= I::MAX_COORD.to_wide());
+    I::from_wide(value)
+}
+
+// The segment of row k, from (0, 2k) to (10, 2k).
+fn level<I: OverlayInt>(rt: &impl Abort, k: u32) -> VSegment<I>
+    ensures pair { v_pair_of I.whole result ≡ level_pair k }
+    ensures range { IsVSegmentInRange I.whole I.MIN_COORD I.MAX_COORD result }
+{
+    let y = coordinate(rt, 2 * i64::from(k));
+    let a = IntPoint {
+        x: coordinate(rt, 0),
+        y,
+    };
+    let b = IntPoint {
+        x: coordinate(rt, 10),
+        y,
+    };
+    VSegment { a, b }
+}
+
+fn row_sum(k: u32) -> ShapeCountBoolean
+    requires { k < 1000 }
+    ensures { boolean_winding result ≡ (level_row k).count }
+{
+    ShapeCountBoolean {
+        subj: k as i32 + 1,
+        clip: 0,
+    }
+}
+
+fn insert_row<I: OverlayInt, L: LiveSegments<ShapeCountBoolean, I>>(
+    rt: &impl Abort,
+    live: &mut L,
+    k: u32,
+)
+    requires few { k < 1000 }
+    requires rows { AreRows (pos 0) (L.sums live.old) }
+    requires time { (y : ℤ) → pos 0 ≤ℤ y → L.may_go_on_at live.old y }
+    ensures rows { AreRows (pos 0) (L.sums live.new) }
+    ensures time { (y : ℤ) → pos 0 ≤ℤ y → L.may_go_on_at live.new y }
+{
+    let segment = level(rt, k);
+    live.insert(segment, row_sum(k), segment.a.x)
+        .expect(rt, "memory");
+}
+
+// The subject's part of the sum that a look finds below (x, y).
+fn sum_at<I: OverlayInt, L: LiveSegments<ShapeCountBoolean, I>>(
+    rt: &impl Abort,
+    live: &mut L,
+    x: i64,
+    y: i64,
+) -> i32
+    requires rows { AreRows x (L.sums live.old) }
+    requires time { (z : ℤ) → x ≤ℤ z → L.may_go_on_at live.old z }
+    ensures rows { AreRows x (L.sums live.new) }
+    ensures time { (z : ℤ) → x ≤ℤ z → L.may_go_on_at live.new z }
+{
+    let p = IntPoint {
+        x: coordinate(rt, x),
+        y: coordinate(rt, y),
+    };
+    let nothing = ShapeCountBoolean { subj: 0, clip: 0 };
+    live.sum_below(p.x, p, nothing).subj
+}
+
+// Keeps all rows, the lowest first or last.
+fn insert_rows<I: OverlayInt, L: LiveSegments<ShapeCountBoolean, I>>(
+    rt: &impl Abort,
+    live: &mut L,
+    is_forward: bool,
+)
+    ensures rows { AreRows (pos 0) (L.sums live.new) }
+    ensures time { (y : ℤ) → pos 0 ≤ℤ y → L.may_go_on_at live.new y }
+{
+    live.clear();
+    assert_eq!(rt; live.compared(), 0);
+    for j in 0..1000 {
+        insert_row(rt, live, if is_forward { j } else { 999 - j });
+    }
+}
+
+// Looks between all rows at x 5, below them, and right of them.
+fn look_at_rows<I: OverlayInt, L: LiveSegments<ShapeCountBoolean, I>>(
+    rt: &impl Abort,
+    live: &mut L,
+    most: u128,
+)
+    requires rows { AreRows (pos 0) (L.sums live.old) }
+    requires time { (y : ℤ) → pos 0 ≤ℤ y → L.may_go_on_at live.old y }
+{
+    for k in 0..1000u32 {
+        assert_eq!(rt; sum_at(rt, live, 5, 2 * i64::from(k) + 1), k as i32 + 1);
+        assert!(rt; 1 <= live.compared() && live.compared() <= most);
+    }
+    assert_eq!(rt; sum_at(rt, live, 5, -1), 0);
+    assert_eq!(rt; sum_at(rt, live, 10, 1), 0);
+}
+
+fn tree_of_rows<I: OverlayInt>(rt: &impl Abort, alloc: Global) {
+    let mut tree: ScanTree<ShapeCountBoolean, I> = ScanTree::new(alloc);
+    assert!(rt; tree.depth() <= 1);
+    assert_eq!(rt; tree.compared(), 0);
+    for is_forward in [true, false] {
+        insert_rows(rt, &mut tree, is_forward);
+        assert!(rt; tree.depth() <= 19);
+        look_at_rows(rt, &mut tree, 19);
+    }
+}
+
+fn list_of_rows<I: OverlayInt>(rt: &impl Abort, alloc: Global) {
+    let mut list: ScanList<ShapeCountBoolean, I> = ScanList::new(alloc);
+    assert_eq!(rt; list.compared(), 0);
+    for is_forward in [true, false] {
+        insert_rows(rt, &mut list, is_forward);
+        look_at_rows(rt, &mut list, u128::MAX);
+    }
+}
+
+#[test]
+fn a_tree_of_rows_asks_few_orders(rt: HostRuntime) {
+    tree_of_rows::<i16>(&rt, rt.alloc());
+    tree_of_rows::<i32>(&rt, rt.alloc());
+}
+
+#[test]
+fn a_list_of_rows_answers_the_same(rt: HostRuntime) {
+    list_of_rows::<i16>(&rt, rt.alloc());
+    list_of_rows::<i32>(&rt, rt.alloc());
+}
+
+// Lines that begin one by one, by turns above and below those before, and all end together.
+fn closing_lines(rt: &impl Abort, alloc: Global) -> Vec<Line> {
+    let mut lines = Vec::new(alloc);
+    for i in 0..4000u32 {
+        let x = i as i32;
+        let y = if i % 2 == 0 { 4000 - x } else { x - 4000 };
+        lines.push(line(x, y, 10_000, y, 1, 0)).expect(rt, "memory");
+    }
+    lines
+}
+
+#[test]
+fn a_sweep_over_the_tree_asks_few_orders(rt: HostRuntime) {
+    let lines = closing_lines(&rt, rt.alloc());
+    assert!(rt; is_arranged(&lines));
+    let mut runner = SweepRunner::new(rt.alloc());
+    assert_eq!(rt; runner.compared(), 0);
+    for (solver, least, most) in [
+        (Solver::TREE, 4000, 184_000),
+        (Solver::FRAG, 4000, 184_000),
+        (Solver::LIST, 7_998_000, u128::MAX),
+    ] {
+        let handler = FirstWith { bit: 0, seen: 0 };
+        runner
+            .run_with_fill_rule(FillRule::NonZero, &solver, &lines, handler)
+            .expect(&rt, "no refusal");
+        assert!(rt; least <= runner.compared() && runner.compared() <= most);
+        let before = runner.compared();
+        let handler = FirstWith { bit: 0, seen: 0 };
+        let refused = runner.run_with_fill_rule(
+            FillRule::NonZero,
+            &solver,
+            &greatest_counts(),
+            handler,
+        );
+        assert_eq!(rt; refused, Err(Fault::CountOutOfRange));
+        assert_eq!(rt; runner.compared(), before);
+    }
+}

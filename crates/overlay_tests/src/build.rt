@@ -1,7 +1,0 @@
-mod contour_loops;
-mod graphs;
-mod scans;
-mod string_graphs;
-mod sweeps;
-mod walks;
-mod worked_lines;

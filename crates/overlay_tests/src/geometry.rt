@@ -1,2 +1,0 @@
-mod points;
-mod v_segments;

@@ -1,5 +1,0 @@
-mod clip;
-mod contours;
-mod overlay;
-mod provenance;
-mod readme;
