@@ -12,9 +12,9 @@ use Rattle.overlay_sweep.specs.ChainWindings.{tops_leave_range}
 use Rattle.overlay_build.specs.Graph.{Graph, graph_by}
 use Rattle.arrange.specs.RuleOf.{keeps_by}
 use Rattle.i_overlay.specs.Headline.{IsOverlay, IsSplitRefused, IsBuildRefused}
-use Rattle.arrange.specs.declared.settings.Settings.{Settings}
-use Rattle.arrange.specs.declared.settings.Command.TheVariants.{Graph as GraphCommand, Walks}
-use Rattle.arrange.specs.declared.stop.Stop.TheVariants.{Refused}
+use Rattle.overlay_text.specs.declared.settings.Settings.{Settings}
+use Rattle.overlay_text.specs.declared.settings.Command.TheVariants.{Graph as GraphCommand, Walks}
+use Rattle.overlay_text.specs.declared.stop.Stop.TheVariants.{Refused}
 use Rattle.arrange.specs.Run.{split_settings, IsGraphOf, CountsLeaveRange, IsCommandAnswer}
 
 -- after the passes of a split, nothing leaves the range

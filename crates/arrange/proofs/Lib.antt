@@ -1,15 +1,5 @@
 pub mod examples
 pub mod Crossings
 pub mod GraphAnswers
-pub mod RuleWords
 pub mod GraphPoints
-pub mod LineEnds
-pub mod Numerals
-pub mod Parts
-pub mod PrecisionWords
-pub mod ReadWords
 pub mod Runs
-pub mod ShortNumerals
-pub mod Slots
-pub mod Steps
-pub mod TextSteps

@@ -1,6 +1,6 @@
 -- What a run answers, from what its calls do.
 use Rattle.std.proofs.Common.{◌≡◌, ◌≢◌, ◌⊎◌, inl, inr, ℕ, ℤ, Bool, true, false, List, [], ◌∷◌, ◌++◌, length, Ok, Err, Option, Some, None, refl, sym, ap, ◌∙◌, subst, arith}
-use Rattle.std.specs.Prelude.{unsigned_abs, if◌then◌else◌, IfSome, IfOk, IfErr, OnOk, IsErrOf, IsErrAnd}
+use Rattle.std.specs.Prelude.{unsigned_abs, if◌then◌else◌, IfSome, IfOk, IfErr, OnOk, IsErrOf}
 use Rattle.std.proofs.lemmas.Bool.{false≢true}
 use Rattle.std.specs.Io.KnownBytes.{Appends, Keeps}
 use Rattle.std.specs.Result.{is_ok}
@@ -10,26 +10,22 @@ use Rattle.overlay_base.specs.Segments.{WholeSegment}
 use Rattle.overlay_base.specs.Join.{join, has_equal_pairs, join_leaves_range}
 use Rattle.overlay_base.specs.declared.segm.fault.Fault.{Fault}
 use Rattle.overlay_base.specs.declared.segm.fault.Fault.TheVariants.{CountOutOfRange, Memory}
-use Rattle.arrange.specs.declared.settings.Command.{Command}
-use Rattle.arrange.specs.declared.settings.Command.TheVariants.{Join, Cross, Split, Graph, Walks}
-use Rattle.arrange.specs.declared.settings.Settings.{Settings}
-use Rattle.arrange.specs.declared.stop.Stop.{Stop}
-use Rattle.arrange.specs.declared.stop.Stop.TheVariants.{Usage, NotTwoSegments, Line, Refused, Input, Output}
-use Rattle.arrange.specs.Output.{segment_lines, flag_line, cross_text}
-use Rattle.arrange.specs.Status.{status_of}
-use Rattle.arrange.specs.Text.{lines_of, AskInTurnFor, IsFirstFault}
+use Rattle.overlay_text.specs.declared.settings.Command.{Command}
+use Rattle.overlay_text.specs.declared.settings.Command.TheVariants.{Join, Cross, Split, Graph, Walks}
+use Rattle.overlay_text.specs.declared.settings.Settings.{Settings}
+use Rattle.overlay_text.specs.declared.stop.Stop.{Stop}
+use Rattle.overlay_text.specs.declared.stop.Stop.TheVariants.{Usage, NotTwoSegments, Line, Refused, Input, Output}
+use Rattle.overlay_text.specs.Output.{segment_lines, flag_line, cross_text}
+use Rattle.overlay_text.specs.Status.{status_of}
+use Rattle.overlay_text.specs.Text.{lines_of, AskInTurnFor, IsFirstFault}
 use Rattle.arrange.specs.Run.{least_of, greatest_of, bits_of, IsCommandAnswer, IsAnswer, IsRunAnswer, IsStop}
-use Rattle.arrange.specs.Words.{WordsAsk, AskSomething}
+use Rattle.overlay_text.specs.Words.{WordsAsk, AskSomething}
 
 cross_text-other : (r2 : ℕ) (segments : List WholeSegment) → length segments ≢ 2 → cross_text r2 segments ≡ None
 cross_text-other r2 [] other = refl
 cross_text-other r2 (s ∷ []) other = refl
 cross_text-other r2 (s ∷ t ∷ []) other = absurd (other refl)
 cross_text-other r2 (s ∷ t ∷ u ∷ segments) other = refl
-
-pub if_err : {T E : Type 0} (r : Result T E) (e : E) (P : E → Type 0) → IsErrAnd r (λ x. x ≡ e) → P e → IfErr r P
-if_err (Ok x) e P is h = tt
-if_err (Err x) e P is h = subst P (sym is) h
 
 module _ (least greatest : ℤ) (bits : ℕ) (settings : Settings) (bytes : List ℕ) where
   pub stops_at_fault : (command : Command) (stop : Stop) → (stop ≡ Refused Memory) ⊎ IsFirstFault least greatest (lines_of bytes) stop → (stop ≡ Refused Memory) ⊎ IsAnswer least greatest bits command settings bytes (Err stop)

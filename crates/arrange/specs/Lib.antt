@@ -1,8 +1,3 @@
-pub mod Lines
-pub mod Numbers
-pub mod Output
+pub mod GraphText
 pub mod RuleOf
 pub mod Run
-pub mod Status
-pub mod Text
-pub mod Words

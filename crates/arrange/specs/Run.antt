@@ -11,16 +11,17 @@ use Rattle.overlay_sweep.specs.ChainWindings.{tops_leave_range}
 use Rattle.overlay_build.specs.Graph.{Graph, graph_by}
 use Rattle.arrange.specs.RuleOf.{keeps_by}
 use Rattle.overlay_base.specs.declared.segm.fault.Fault.TheVariants.{CountOutOfRange, Memory}
-use Rattle.arrange.specs.declared.settings.Command.{Command}
-use Rattle.arrange.specs.declared.settings.Command.TheVariants.{Join, Cross, Split, Graph as GraphCommand, Walks}
-use Rattle.arrange.specs.declared.settings.Engine.{Engine}
-use Rattle.arrange.specs.declared.settings.Engine.TheVariants.{I16, I32}
-use Rattle.arrange.specs.declared.settings.Settings.{Settings}
-use Rattle.arrange.specs.declared.stop.Stop.{Stop}
-use Rattle.arrange.specs.declared.stop.Stop.TheVariants.{Usage, NotTwoSegments, Refused, Input, Output}
-use Rattle.arrange.specs.Output.{segment_lines, flag_line, passes_line, cross_text, graph_text, IsWalksText}
-use Rattle.arrange.specs.Words.{WordsAsk, AskSomething, AskNothing}
-use Rattle.arrange.specs.Text.{lines_of, AskInTurnFor, IsFirstFault}
+use Rattle.overlay_text.specs.declared.settings.Command.{Command}
+use Rattle.overlay_text.specs.declared.settings.Command.TheVariants.{Join, Cross, Split, Graph as GraphCommand, Walks}
+use Rattle.overlay_text.specs.declared.settings.Engine.{Engine}
+use Rattle.overlay_text.specs.declared.settings.Engine.TheVariants.{I16, I32}
+use Rattle.overlay_text.specs.declared.settings.Settings.{Settings}
+use Rattle.overlay_text.specs.declared.stop.Stop.{Stop}
+use Rattle.overlay_text.specs.declared.stop.Stop.TheVariants.{Usage, NotTwoSegments, Refused, Input, Output}
+use Rattle.overlay_text.specs.Output.{segment_lines, flag_line, passes_line, cross_text}
+use Rattle.arrange.specs.GraphText.{graph_text, IsWalksText}
+use Rattle.overlay_text.specs.Words.{WordsAsk, AskSomething, AskNothing}
+use Rattle.overlay_text.specs.Text.{lines_of, AskInTurnFor, IsFirstFault}
 
 -- the least and the greatest coordinate of an engine
 abbrev pub least_of : Engine → ℤ

@@ -7,11 +7,11 @@ ghost use Rattle.overlay_base.specs.ArrangedOf.{IsSplittable};
 ghost use Rattle.overlay_base.specs.SegmentOf.{segments_of};
 ghost use Rattle.overlay_intersections.specs.CrossAnswer.{cross_answer};
 ghost use Rattle.overlay_intersections.specs.Marks.{snapping};
-ghost use Rattle.arrange.specs.Output.{answer_text, cross_text};
+ghost use Rattle.overlay_text.specs.Output.{answer_text, cross_text};
 
-use crate::output::write_place;
-use crate::settings::SquaredRadius;
-use crate::stop::Stop;
+use overlay_text::output::write_place;
+use overlay_text::settings::SquaredRadius;
+use overlay_text::stop::Stop;
 use overlay_base::segm::boolean::ShapeCountBoolean;
 use overlay_base::segm::segment::Segment;
 use overlay_geometry::geom::x_segment::XSegment;

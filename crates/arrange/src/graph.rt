@@ -10,11 +10,11 @@ ghost use Rattle.overlay_build.specs.Graph.{graph_by};
 ghost use Rattle.overlay_build.specs.GraphOf.{graph_with};
 ghost use Rattle.overlay_build.specs.OverlayGraphOf.{links_of};
 ghost use Rattle.arrange.specs.Run.{IsGraphOf, CountsLeaveRange, IsCommandAnswer};
-ghost use Rattle.arrange.specs.declared.settings.Command.{Command};
+ghost use Rattle.overlay_text.specs.declared.settings.Command.{Command};
 
 use crate::graph_output::write_graph;
-use crate::settings::Settings;
-use crate::stop::Stop;
+use overlay_text::settings::Settings;
+use overlay_text::stop::Stop;
 use i_overlay::overlay::split_and_build_overlay;
 use overlay_base::overlay_core::fill_rule::FillRule;
 use overlay_base::overlay_core::solver::Solver;

@@ -5,10 +5,11 @@ ghost use Rattle.overlay_build.specs.Graph.{Node};
 ghost use Rattle.overlay_build.specs.GraphOf.{link_of, graph_with};
 ghost use Rattle.overlay_build.specs.NodeIndexes.{indexes_of, is_canonical_node};
 ghost use Rattle.overlay_build.specs.OverlayGraphOf.{nodes_of, links_of};
-ghost use Rattle.arrange.specs.Output.{numbers_text, link_line, kind_text, node_line, graph_text};
+ghost use Rattle.overlay_text.specs.Output.{numbers_text};
+ghost use Rattle.arrange.specs.GraphText.{link_line, kind_text, node_line, graph_text};
 
-use crate::line_end::{ROOM, append, put_last_word, put_number, put_word};
-use crate::output::put_point;
+use overlay_text::line_end::{ROOM, append, put_last_word, put_number, put_word};
+use overlay_text::output::put_point;
 use overlay_base::overlay_core::link::OverlayLink;
 use overlay_build::build::graph::OverlayGraph;
 use overlay_build::build::graph_node::OverlayNode;
@@ -17,7 +18,7 @@ use overlay_geometry::num::OverlayInt;
 use std::alloc::AllocError;
 
 /// Writes the links, then the nodes, then `valid true` or `valid false`.
-#[tactic(auto, unfolding(crate::specs::Output::graph_text))]
+#[tactic(auto, unfolding(crate::specs::GraphText::graph_text))]
 pub fn write_graph<I: OverlayInt>(
     text: &mut String,
     graph: &OverlayGraph<'_, I, ()>,
@@ -45,7 +46,7 @@ fn write_links<I: OverlayInt>(
     Ok(())
 }
 
-#[tactic(auto, unfolding(crate::specs::Output::link_line))]
+#[tactic(auto, unfolding(crate::specs::GraphText::link_line))]
 fn write_link<I: OverlayInt>(text: &mut String, link: &OverlayLink<I, ()>) -> Result<(), AllocError>
     ensures { OnOk result (string_bytes text.new ≡ string_bytes text.old ++ link_line (link_of I.whole link.now)) }
 {
@@ -75,7 +76,7 @@ fn write_nodes<I: OverlayInt>(
     Ok(())
 }
 
-#[tactic(auto, unfolding(crate::specs::Output::node_line))]
+#[tactic(auto, unfolding(crate::specs::GraphText::node_line))]
 fn write_node<I: OverlayInt>(
     text: &mut String,
     point: IntPoint<I>,

@@ -4,10 +4,10 @@ ghost use Rattle.overlay_base.specs.declared.segm.fault.Fault.TheVariants.{Memor
 ghost use Rattle.overlay_base.specs.Join.{join, has_equal_pairs, join_leaves_range};
 ghost use Rattle.overlay_base.specs.SegmentOf.{segments_of};
 ghost use Rattle.overlay_base.specs.ArrangedOf.{IsSplittable};
-ghost use Rattle.arrange.specs.Output.{segment_lines, flag_line};
+ghost use Rattle.overlay_text.specs.Output.{segment_lines, flag_line};
 
-use crate::output::write_segments;
-use crate::stop::Stop;
+use overlay_text::output::write_segments;
+use overlay_text::stop::Stop;
 use overlay_base::segm::boolean::ShapeCountBoolean;
 use overlay_base::segm::join::join_with_store;
 use overlay_base::segm::segment::Segment;

@@ -5,16 +5,11 @@ mod cross;
 mod graph;
 mod graph_output;
 mod join;
-mod line_end;
-mod lines;
-mod number;
-mod output;
 mod run;
-mod settings;
 mod split;
-mod stop;
 mod walks;
-mod words;
+#[cfg(test)]
+mod words_tests;
 
 use std::process::ExitCode;
 

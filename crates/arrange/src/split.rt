@@ -4,11 +4,11 @@ ghost use Rattle.overlay_base.specs.declared.segm.fault.Fault.TheVariants.{Memor
 ghost use Rattle.overlay_base.specs.SegmentOf.{segments_of};
 ghost use Rattle.overlay_base.specs.ArrangedOf.{IsSplittable};
 ghost use Rattle.arrange.specs.Run.{IsCommandAnswer};
-ghost use Rattle.arrange.specs.declared.settings.Command.{Command};
+ghost use Rattle.overlay_text.specs.declared.settings.Command.{Command};
 
-use crate::output::write_segments;
-use crate::settings::Settings;
-use crate::stop::Stop;
+use overlay_text::output::write_segments;
+use overlay_text::settings::Settings;
+use overlay_text::stop::Stop;
 use overlay_base::overlay_core::solver::Solver;
 use overlay_base::segm::boolean::ShapeCountBoolean;
 use overlay_base::segm::segment::Segment;

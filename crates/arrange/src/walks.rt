@@ -5,14 +5,14 @@ ghost use Rattle.overlay_base.specs.SegmentOf.{segments_of};
 ghost use Rattle.overlay_base.specs.ArrangedOf.{IsSplittable};
 ghost use Rattle.overlay_build.specs.GraphOf.{graph_with};
 ghost use Rattle.overlay_build.specs.OverlayGraphOf.{links_of};
-ghost use Rattle.arrange.specs.Output.{walk_line, IsWalksText};
+ghost use Rattle.arrange.specs.GraphText.{walk_line, IsWalksText};
 ghost use Rattle.arrange.specs.Run.{IsCommandAnswer};
-ghost use Rattle.arrange.specs.declared.settings.Command.{Command};
+ghost use Rattle.overlay_text.specs.declared.settings.Command.{Command};
 
 use crate::graph::{Lines, build_graph};
 use crate::graph_output::write_numbers;
-use crate::settings::Settings;
-use crate::stop::Stop;
+use overlay_text::settings::Settings;
+use overlay_text::stop::Stop;
 use overlay_build::build::builder::GraphBuilder;
 use overlay_build::build::graph::OverlayGraph;
 use overlay_build::build::walks::closed_walks;
@@ -65,7 +65,7 @@ fn write_walks(text: &mut String, walks: &[Vec<usize>]) -> Result<(), AllocError
     Ok(())
 }
 
-#[tactic(auto, unfolding(crate::specs::Output::walk_line))]
+#[tactic(auto, unfolding(crate::specs::GraphText::walk_line))]
 fn write_walk(text: &mut String, walk: &[usize]) -> Result<(), AllocError>
     ensures { OnOk result (string_bytes text.new ≡ string_bytes text.old ++ walk_line walk.now) }
 {

@@ -9,7 +9,7 @@ use Rattle.overlay_build.specs.Graph.{graph_by}
 use Rattle.arrange.specs.RuleOf.{keeps_by}
 use Rattle.overlay_sweep.proofs.examples.Sweeps.{seg, twelve}
 use Rattle.overlay_build.proofs.examples.Computing.{computing}
-use Rattle.arrange.specs.Output.{link_line, node_line, graph_text}
+use Rattle.arrange.specs.GraphText.{link_line, node_line, graph_text}
 
 abbrev lone : List WholeSegment
 lone = seg (pos 0) (pos 0) (pos 4) (pos 0) (pos 1) (pos 0) ∷ []

@@ -3,7 +3,7 @@
 
 use super::tests::{TWO_SQUARES, run_words};
 use super::*;
-use crate::number::{short_number, signed_number};
+use overlay_text::number::{short_number, signed_number};
 use std::alloc::AllocError;
 use std::process::Abort;
 use std::test::Fail;

@@ -2,7 +2,7 @@ use Rattle.std.proofs.Common.{rules, ◌≡◌, refl, sym, ◌∙◌}
 use Rattle.overlay_geometry.specs.Points.{pair_lt}
 use Rattle.overlay_geometry.specs.PairOf.{pair_of}
 use Rattle.overlay_base.specs.SegmentOf.{segment_of}
-use Rattle.arrange.specs.Output.{meeting_text}
+use Rattle.overlay_text.specs.Output.{meeting_text}
 use Rattle.overlay_geometry.proofs.laws.geometry.Coordinates.{ends_in_range}
 use Rattle.overlay_intersections.proofs.laws.marks.ApartPairs.{ends_differ}
 use Rattle.arrange.proofs.Crossings.{are_two, two_in_range}

@@ -1,7 +1,7 @@
 use Rattle.std.proofs.Common.{rules, sym, ◌∙◌, ap, to_z-of_z, FitsSigned, w64}
 use Rattle.overlay_geometry.specs.PairOf.{pair_of}
 use Rattle.overlay_intersections.specs.AnswerOf.{answer_of, result_of, kind_of}
-use Rattle.arrange.specs.Output.{answer_text}
+use Rattle.overlay_text.specs.Output.{answer_text}
 use Rattle.arrange.proofs.Crossings.{answered, overlap_is_collinear}
 use Rattle.arrange.proofs.cross.write_answer.Goals as goal
 

@@ -1,5 +1,5 @@
 use Rattle.overlay_base.specs.SegmentOf.{segments_of}
-use Rattle.arrange.proofs.Runs.{if_err}
+use Rattle.overlay_text.proofs.Results.{if_err}
 use Rattle.arrange.proofs.GraphAnswers.{stops_graph}
 use Rattle.arrange.proofs.graph.graph.Goals as goal
 

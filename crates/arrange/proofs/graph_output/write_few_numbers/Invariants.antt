@@ -1,6 +1,6 @@
 use Rattle.std.proofs.Common.{◌≡◌, ◌+◌, ◌*◌, ◌≤◌, drop, length}
 use Rattle.std.specs.Str.{IsUtf8}
-use Rattle.arrange.specs.Output.{numbers_text}
+use Rattle.overlay_text.specs.Output.{numbers_text}
 use Rattle.arrange.proofs.graph_output.write_few_numbers.Given as goal
 
 abbrev pub invariant-loop-left : goal.invariant-loop-left

@@ -3,7 +3,7 @@ use Rattle.std.proofs.lemmas.Grind.{common_steps}
 use Rattle.std.proofs.lemmas.List.Folds.{flat_map-map}
 use Rattle.overlay_build.specs.Graph.{Link}
 use Rattle.overlay_build.specs.GraphOf.{link_of, graph_with}
-use Rattle.arrange.specs.Output.{link_line, graph_text}
+use Rattle.arrange.specs.GraphText.{link_line, graph_text}
 use Rattle.arrange.proofs.graph_output.write_graph.Goals as goal
 
 pub returns : goal.returns

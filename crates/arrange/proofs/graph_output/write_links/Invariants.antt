@@ -1,6 +1,6 @@
 use Rattle.std.proofs.Common.{◌≡◌, ◌++◌, flat_map, take, string_bytes}
 use Rattle.overlay_build.specs.GraphOf.{link_of}
-use Rattle.arrange.specs.Output.{link_line}
+use Rattle.arrange.specs.GraphText.{link_line}
 use Rattle.arrange.proofs.graph_output.write_links.Given as goal
 
 abbrev pub invariant-loop-link : goal.invariant-loop-link

@@ -4,7 +4,7 @@ use Rattle.overlay_geometry.specs.PointOf.{point_of}
 use Rattle.overlay_build.specs.Graph.{Node}
 use Rattle.overlay_build.specs.GraphOf.{graph_with}
 use Rattle.overlay_build.specs.NodeIndexes.{indexes_of, is_canonical_node}
-use Rattle.arrange.specs.Output.{node_line}
+use Rattle.arrange.specs.GraphText.{node_line}
 use Rattle.arrange.proofs.GraphPoints.{no_node, node_is}
 use Rattle.arrange.proofs.graph_output.write_nodes.Goals as goal
 

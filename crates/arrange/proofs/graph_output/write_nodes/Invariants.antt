@@ -1,6 +1,6 @@
 use Rattle.std.proofs.Common.{◌≡◌, ◌++◌, flat_map, take, string_bytes}
 use Rattle.overlay_build.specs.GraphOf.{graph_with}
-use Rattle.arrange.specs.Output.{node_line}
+use Rattle.arrange.specs.GraphText.{node_line}
 use Rattle.arrange.proofs.graph_output.write_nodes.Given as goal
 
 abbrev pub invariant-loop-id : goal.invariant-loop-id

@@ -1,5 +1,5 @@
 use Rattle.std.proofs.Common.{◌≡◌, ◌++◌, length, string_bytes}
-use Rattle.arrange.specs.Output.{numbers_text}
+use Rattle.overlay_text.specs.Output.{numbers_text}
 use Rattle.arrange.proofs.graph_output.write_numbers.Given as goal
 
 abbrev pub invariant-loop-rest : goal.invariant-loop-rest

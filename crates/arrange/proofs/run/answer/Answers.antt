@@ -1,7 +1,8 @@
 use Rattle.std.proofs.Common.{◌≡◌, ap, map, string_bytes}
 use Rattle.std.specs.Prelude.{IfSome}
 use Rattle.arrange.specs.Run.{least_of, greatest_of, bits_of}
-use Rattle.arrange.proofs.Runs.{if_err, on_ok, texts, stops, stops_at_input}
+use Rattle.overlay_text.proofs.Results.{if_err}
+use Rattle.arrange.proofs.Runs.{on_ok, texts, stops, stops_at_input}
 use Rattle.arrange.proofs.run.answer.Goals as goal
 
 pub returns-in_err-bytes-clause-stopped : goal.returns-in_err-bytes-clause-stopped

@@ -2,9 +2,10 @@ use Rattle.std.proofs.Common.{◌≢◌, length, sym, ap, ◌∙◌}
 use Rattle.std.proofs.lemmas.List.{length-map}
 use Rattle.std.specs.Prelude.{IsErrOf}
 use Rattle.overlay_base.specs.SegmentOf.{segment_of, segments_of}
-use Rattle.arrange.specs.declared.stop.Stop.TheVariants.{NotTwoSegments}
-use Rattle.arrange.specs.declared.settings.Command.TheVariants.{Graph, Walks}
-use Rattle.arrange.proofs.Runs.{if_err, stops_at_fault, stops_at_crossing, stops_at_command}
+use Rattle.overlay_text.specs.declared.stop.Stop.TheVariants.{NotTwoSegments}
+use Rattle.overlay_text.specs.declared.settings.Command.TheVariants.{Graph, Walks}
+use Rattle.overlay_text.proofs.Results.{if_err}
+use Rattle.arrange.proofs.Runs.{stops_at_fault, stops_at_crossing, stops_at_command}
 use Rattle.arrange.proofs.run.answer_with.Goals as goal
 
 pub returns-in_err-segments-clause-stop : goal.returns-in_err-segments-clause-stop

@@ -1,5 +1,5 @@
 use Rattle.overlay_base.specs.SegmentOf.{segments_of}
-use Rattle.arrange.proofs.Runs.{if_err}
+use Rattle.overlay_text.proofs.Results.{if_err}
 use Rattle.arrange.proofs.GraphAnswers.{stops_walks}
 use Rattle.arrange.proofs.walks.walks.Goals as goal
 

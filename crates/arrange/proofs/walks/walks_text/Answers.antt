@@ -4,7 +4,7 @@ use Rattle.std.proofs.lemmas.List.Folds.{flat_map-map}
 use Rattle.overlay_build.specs.Graph.{Link, has_even_nodes}
 use Rattle.overlay_build.specs.GraphOf.{graph_with}
 use Rattle.overlay_build.specs.Walks.{AreClosedWalks}
-use Rattle.arrange.specs.Output.{walk_line}
+use Rattle.arrange.specs.GraphText.{walk_line}
 use Rattle.arrange.proofs.walks.walks_text.Goals as goal
 
 pub returns-clause-text : goal.returns-clause-text

@@ -1,5 +1,5 @@
 use Rattle.std.proofs.Common.{◌≡◌, ◌++◌, flat_map, take, string_bytes}
-use Rattle.arrange.specs.Output.{walk_line}
+use Rattle.arrange.specs.GraphText.{walk_line}
 use Rattle.arrange.proofs.walks.write_walks.Given as goal
 
 abbrev pub invariant-loop-walk : goal.invariant-loop-walk

@@ -1,0 +1,12 @@
+pub mod examples
+pub mod LineEnds
+pub mod Numerals
+pub mod Parts
+pub mod PrecisionWords
+pub mod ReadWords
+pub mod Results
+pub mod RuleWords
+pub mod ShortNumerals
+pub mod Slots
+pub mod Steps
+pub mod TextSteps

@@ -1,0 +1,3 @@
+-- Worked examples of the definitions, which hold by computation.
+pub mod Texts
+pub mod Words

@@ -1,0 +1,64 @@
+-- What the text of the input asks for, line by line.
+use Rattle.std.specs.Prelude.{◌≡◌, ◌≢◌, ◌⊎◌, ℕ, ◌+◌, ℤ, not, ◌==◌, List, [], ◌∷◌, ◌++◌, length, filter, codes, Some, None}
+use Rattle.std.specs.List.{slice_split}
+use Rattle.std.specs.Str.Lines.{strip_carriage_return}
+use Rattle.overlay_geometry.specs.Points.{Point}
+use Rattle.overlay_base.specs.Segments.{WholeSegment}
+use Rattle.overlay_base.specs.declared.segm.shape_type.ShapeType.{ShapeType}
+use Rattle.overlay_base.specs.declared.segm.shape_type.ShapeType.TheVariants.{Subject, Clip}
+use Rattle.overlay_text.specs.declared.stop.LineFault.{LineFault}
+use Rattle.overlay_text.specs.declared.stop.LineFault.TheVariants.{Form}
+use Rattle.overlay_text.specs.declared.stop.Stop.{Stop}
+use Rattle.overlay_text.specs.declared.stop.Stop.TheVariants.{Line}
+use Rattle.overlay_text.specs.Lines.{step_fault, step_segment}
+use Rattle.overlay_text.specs.Numbers.{WritesNumber}
+
+-- the lines of a text: the parts between its line feeds
+unfoldable pub lines_of : List ℕ → List (List ℕ)
+lines_of bytes = slice_split (λ b. b == 10) bytes
+
+-- the words of a text: the parts between its spaces, but for the empty ones
+unfoldable pub words_of : List ℕ → List (List ℕ)
+words_of text = filter (λ word. not (length word == 0)) (slice_split (λ b. b == 32) text)
+
+-- the words of a line: a carriage return at its very end is none of them
+abbrev pub words_of_line : List ℕ → List (List ℕ)
+words_of_line line = words_of (strip_carriage_return line)
+
+abbrev pub NamesShape : List ℕ → ShapeType → Type 0
+NamesShape letter Subject = letter ≡ codes "S"
+NamesShape letter Clip = letter ≡ codes "C"
+
+-- the words are a letter and four numbers, and these are the shape and the points that they write
+abbrev pub WritesStep : List (List ℕ) → ShapeType → Point → Point → Type 0
+WritesStep words shape_type a b =
+    (letter ax ay bx by : List ℕ) × (words ≡ letter ∷ ax ∷ ay ∷ bx ∷ by ∷ [])
+    × NamesShape letter shape_type × WritesNumber ax a.x × WritesNumber ay a.y × WritesNumber bx b.x × WritesNumber by b.y
+
+-- the line writes a step in range whose ends differ, and this is its segment
+abbrev pub AsksFor : ℤ → ℤ → List ℕ → WholeSegment → Type 0
+AsksFor least greatest line segment =
+    (shape_type : ShapeType) × (a : Point) × (b : Point) × WritesStep (words_of_line line) shape_type a b
+    × (step_fault least greatest a b ≡ None) × (segment ≡ step_segment shape_type a b)
+
+-- what is wrong with a line: it has words that write no step, or the step that it writes is faulty
+abbrev pub IsFaulty : ℤ → ℤ → List ℕ → LineFault → Type 0
+IsFaulty least greatest line fault =
+    ((fault ≡ Form) × (words_of_line line ≢ []) × ((shape_type : ShapeType) (a b : Point) → ¬ (WritesStep (words_of_line line) shape_type a b)))
+    ⊎ ((shape_type : ShapeType) × (a : Point) × (b : Point) × WritesStep (words_of_line line) shape_type a b
+    × (step_fault least greatest a b ≡ Some fault))
+
+-- each of the lines has no words or asks for a segment, and these are the segments, in order
+abbrev pub AskInTurnFor : ℤ → ℤ → List (List ℕ) → List WholeSegment → Type 0
+AskInTurnFor least greatest [] segments = segments ≡ []
+AskInTurnFor least greatest (line ∷ lines) segments =
+    ((words_of_line line ≡ []) × AskInTurnFor least greatest lines segments)
+    ⊎ ((first : WholeSegment) × (others : List WholeSegment) × (segments ≡ first ∷ others)
+    × AsksFor least greatest line first × AskInTurnFor least greatest lines others)
+
+-- the stop names the first faulty line by its number, from 1, and what is wrong with it
+abbrev pub IsFirstFault : ℤ → ℤ → List (List ℕ) → Stop → Type 0
+IsFirstFault least greatest lines stop =
+    (before : List (List ℕ)) × (line : List ℕ) × (after : List (List ℕ)) × (lines ≡ before ++ line ∷ after)
+    × ((segments : List WholeSegment) × AskInTurnFor least greatest before segments)
+    × ((fault : LineFault) × IsFaulty least greatest line fault × (stop ≡ Line (length before + 1) fault))
