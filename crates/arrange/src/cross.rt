@@ -9,14 +9,14 @@ ghost use Rattle.overlay_intersections.specs.CrossAnswer.{cross_answer};
 ghost use Rattle.overlay_intersections.specs.Marks.{snapping};
 ghost use Rattle.overlay_text.specs.Output.{answer_text, cross_text};
 
-use overlay_text::output::write_place;
-use overlay_text::settings::SquaredRadius;
-use overlay_text::stop::Stop;
 use overlay_base::segm::boolean::ShapeCountBoolean;
 use overlay_base::segm::segment::Segment;
 use overlay_geometry::geom::x_segment::XSegment;
 use overlay_geometry::num::OverlayInt;
 use overlay_split::split::cross_solver::{CrossSolver, CrossType};
+use overlay_text::output::write_place;
+use overlay_text::settings::SquaredRadius;
+use overlay_text::stop::Stop;
 use std::alloc::{AllocError, Global};
 
 /// The text of where two segments meet. The smaller pair of ends is the target. Answers `Stop::NotTwoSegments` exactly

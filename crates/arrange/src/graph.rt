@@ -13,8 +13,6 @@ ghost use Rattle.arrange.specs.Run.{IsGraphOf, CountsLeaveRange, IsCommandAnswer
 ghost use Rattle.overlay_text.specs.declared.settings.Command.{Command};
 
 use crate::graph_output::write_graph;
-use overlay_text::settings::Settings;
-use overlay_text::stop::Stop;
 use i_overlay::overlay::split_and_build_overlay;
 use overlay_base::overlay_core::fill_rule::FillRule;
 use overlay_base::overlay_core::solver::Solver;
@@ -26,6 +24,8 @@ use overlay_build::build::graph::OverlayGraph;
 use overlay_build::build::graph_node::OverlayNode;
 use overlay_geometry::num::OverlayInt;
 use overlay_split::split::solver::SplitSolver;
+use overlay_text::settings::Settings;
+use overlay_text::stop::Stop;
 use std::alloc::Global;
 
 pub type Builder<I> = GraphBuilder<ShapeCountBoolean, OverlayNode, I, ()>;

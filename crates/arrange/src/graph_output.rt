@@ -8,13 +8,13 @@ ghost use Rattle.overlay_build.specs.OverlayGraphOf.{nodes_of, links_of};
 ghost use Rattle.overlay_text.specs.Output.{numbers_text};
 ghost use Rattle.arrange.specs.GraphText.{link_line, kind_text, node_line, graph_text};
 
-use overlay_text::line_end::{ROOM, append, put_last_word, put_number, put_word};
-use overlay_text::output::put_point;
 use overlay_base::overlay_core::link::OverlayLink;
 use overlay_build::build::graph::OverlayGraph;
 use overlay_build::build::graph_node::OverlayNode;
 use overlay_geometry::geom::point::IntPoint;
 use overlay_geometry::num::OverlayInt;
+use overlay_text::line_end::{ROOM, append, put_last_word, put_number, put_word};
+use overlay_text::output::put_point;
 use std::alloc::AllocError;
 
 /// Writes the links, then the nodes, then `valid true` or `valid false`.

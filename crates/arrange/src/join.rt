@@ -6,12 +6,12 @@ ghost use Rattle.overlay_base.specs.SegmentOf.{segments_of};
 ghost use Rattle.overlay_base.specs.ArrangedOf.{IsSplittable};
 ghost use Rattle.overlay_text.specs.Output.{segment_lines, flag_line};
 
-use overlay_text::output::write_segments;
-use overlay_text::stop::Stop;
 use overlay_base::segm::boolean::ShapeCountBoolean;
 use overlay_base::segm::join::join_with_store;
 use overlay_base::segm::segment::Segment;
 use overlay_geometry::num::OverlayInt;
+use overlay_text::output::write_segments;
+use overlay_text::stop::Stop;
 use std::alloc::Global;
 
 /// The text of the joined segments, and of the flag that tells whether two given ones had one pair of ends.

@@ -6,14 +6,14 @@ ghost use Rattle.overlay_base.specs.ArrangedOf.{IsSplittable};
 ghost use Rattle.arrange.specs.Run.{IsCommandAnswer};
 ghost use Rattle.overlay_text.specs.declared.settings.Command.{Command};
 
-use overlay_text::output::write_segments;
-use overlay_text::settings::Settings;
-use overlay_text::stop::Stop;
 use overlay_base::overlay_core::solver::Solver;
 use overlay_base::segm::boolean::ShapeCountBoolean;
 use overlay_base::segm::segment::Segment;
 use overlay_geometry::num::OverlayInt;
 use overlay_split::split::solver::SplitSolver;
+use overlay_text::output::write_segments;
+use overlay_text::settings::Settings;
+use overlay_text::stop::Stop;
 use std::alloc::Global;
 
 /// The text of the segments of a planar arrangement, of the flag that tells whether equal segments were given or one

@@ -11,12 +11,12 @@ ghost use Rattle.overlay_text.specs.declared.settings.Command.{Command};
 
 use crate::graph::{Lines, build_graph};
 use crate::graph_output::write_numbers;
-use overlay_text::settings::Settings;
-use overlay_text::stop::Stop;
 use overlay_build::build::builder::GraphBuilder;
 use overlay_build::build::graph::OverlayGraph;
 use overlay_build::build::walks::closed_walks;
 use overlay_geometry::num::OverlayInt;
+use overlay_text::settings::Settings;
+use overlay_text::stop::Stop;
 use std::alloc::{AllocError, Global};
 
 /// The text of closed walks through the graph that the settings choose, in which every link stands in one place, or

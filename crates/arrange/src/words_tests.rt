@@ -103,14 +103,20 @@ const RADIUS_WORDS: [(&str, SquaredRadius); 6] = [
 
 /// The settings that one word after the command's chooses.
 fn chosen(alloc: Global, word: &str) -> Result<Settings, Stop> {
-    let words = [String::from_str(alloc, "split")?, String::from_str(alloc, word)?];
+    let words = [
+        String::from_str(alloc, "split")?,
+        String::from_str(alloc, word)?,
+    ];
     Ok(read_words(&words)?.1)
 }
 
 #[test]
 fn choices_of_passes(rt: HostRuntime) {
     for (word, engine) in ENGINE_WORDS {
-        assert_eq!(rt; chosen(rt.alloc(), word), Ok(Settings { engine, ..UNCHOSEN }));
+        assert_eq!(rt;
+            chosen(rt.alloc(), word),
+            Ok(Settings { engine, ..UNCHOSEN })
+        );
     }
     for (word, strategy) in STRATEGY_WORDS {
         assert_eq!(rt;
@@ -157,7 +163,10 @@ fn choices_of_answers(rt: HostRuntime) {
         );
     }
     for (word, radius) in RADIUS_WORDS {
-        assert_eq!(rt; chosen(rt.alloc(), word), Ok(Settings { radius, ..UNCHOSEN }));
+        assert_eq!(rt;
+            chosen(rt.alloc(), word),
+            Ok(Settings { radius, ..UNCHOSEN })
+        );
     }
 }
 
