@@ -8,13 +8,15 @@
 # Where a stage ends, its line begins with the seconds since the start.
 set -euo pipefail
 cd "$(dirname "$0")/.."
+room=$(mktemp -d)
+trap 'rm -rf "$room"' EXIT
 
 # Runs on a copy of the tree, without the edits of crates in which nothing changed since the commit $1.
 keep_edits_since() {
     local changed copy
     changed=$(git diff --name-only "$1" -- crates; git ls-files --others --exclude-standard -- crates)
-    copy=$(mktemp -d)
-    trap 'rm -rf "$copy"' EXIT
+    copy="$room/copy"
+    mkdir "$copy"
     git ls-files -z --cached --others --exclude-standard | while IFS= read -r -d '' file; do
         if [[ -e $file ]]; then cp --parents "$file" "$copy"; fi
     done
@@ -40,7 +42,7 @@ if ((lanes > rooms)); then lanes=$((rooms > 0 ? rooms : 1)); fi
 export RT_JOBS="${RT_JOBS:-$lanes}"
 
 python3 tools/unused_lemmas.py
-lines=$(mktemp)
+lines="$room/lines"
 status=0
 rt ci | while IFS= read -r line; do
     printf '%s\n' "$line" >>"$lines"
@@ -50,7 +52,6 @@ rt ci | while IFS= read -r line; do
     esac
 done || status=$?
 verdict=$(tail -n 1 "$lines")
-rm -f "$lines"
 
 # Each growth of the programs is refused in turn. The last line is that of `rt ci`, with one test more.
 if [[ $verdict =~ ^([0-9]+)\ passed,\ ([0-9]+)\ failed(.*)$ ]]; then
@@ -60,7 +61,10 @@ if [[ $verdict =~ ^([0-9]+)\ passed,\ ([0-9]+)\ failed(.*)$ ]]; then
     else
         failed=$((failed + 1)) status=1
     fi
-    printf '%5d s: end\n' "$SECONDS"
+    # the second line of `times` is what ended children took: user and system
+    times >"$lines"
+    minutes=$(awk -F '[ms ]+' 'NR == 2 { printf "%d", $1 + $3 + ($2 + $4) / 60 }' "$lines")
+    printf '%5d s: end, %d minutes of processor time\n' "$SECONDS" "$minutes"
     printf '%d passed, %d failed%s\n' "$passed" "$failed" "$rest"
 fi
 exit "$status"
