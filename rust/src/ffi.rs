@@ -1,21 +1,18 @@
-//! The exports of the proved archive, as `crates/overlay_c/src/lib.rt` declares them. Nothing compares the two.
+//! The exports of the proved archive, as `crates/overlay_c/src/lib.rt` declares them, and safe calls of them. All unsafe
+//! code of this package stands here. Nothing compares these declarations with those of the archive.
 //!
-//! A slice crosses as a pointer and a length; a `Global` takes no bytes, and does not cross.
+//! A slice crosses as a pointer and a length; a `Global` takes no bytes, and does not cross. Beside each call, `SAFETY`
+//! names the conditions (`requires`) of the export and says why they hold.
 
 use crate::{IntPoint, LineSegment, OverlayLink, Segment};
 
 /// The place of an engine: `Handle` of `crates/overlay_c`. Null where it is empty.
 #[repr(C)]
-pub struct Handle {
+struct Handle {
     at: *mut u8,
 }
 
-impl Handle {
-    /// A handle with no engine.
-    pub const EMPTY: Handle = Handle { at: std::ptr::null_mut() };
-}
-
-/// `SettingsRecord` of `crates/overlay_c`.
+/// `SettingsRecord` of `crates/overlay_c`. Each code is tested there, so any value may cross.
 #[repr(C)]
 pub struct Settings {
     pub start: usize,
@@ -24,7 +21,7 @@ pub struct Settings {
     pub fill_rule: u8,
 }
 
-/// `SizesRecord` of `crates/overlay_c`.
+/// `SizesRecord` of `crates/overlay_c`: how much an engine keeps.
 #[repr(C)]
 pub struct Sizes {
     pub segments: usize,
@@ -47,10 +44,10 @@ pub struct Cross {
 }
 
 extern "C" {
-    pub fn overlay_c_cross(target: &Segment, other: &Segment, radius_squared: i64) -> Cross;
-    pub fn overlay_c_new(handle: &mut Handle, snap_limit: u32) -> bool;
-    pub fn overlay_c_free(handle: &mut Handle);
-    pub fn overlay_c_overlay(
+    fn overlay_c_cross(target: &Segment, other: &Segment, radius_squared: i64) -> Cross;
+    fn overlay_c_new(handle: &mut Handle, snap_limit: u32) -> bool;
+    fn overlay_c_free(handle: &mut Handle);
+    fn overlay_c_overlay(
         handle: &mut Handle,
         given: *const Segment,
         given_len: usize,
@@ -58,10 +55,10 @@ extern "C" {
         rule: u8,
         walks: bool,
     ) -> u8;
-    pub fn overlay_c_split(handle: &mut Handle, given: *const Segment, given_len: usize, settings: &Settings) -> u8;
-    pub fn overlay_c_all(handle: &mut Handle, given: *const Segment, given_len: usize, settings: &Settings) -> u8;
-    pub fn overlay_c_join(handle: &mut Handle, given: *const Segment, given_len: usize) -> u8;
-    pub fn overlay_c_clip(
+    fn overlay_c_split(handle: &mut Handle, given: *const Segment, given_len: usize, settings: &Settings) -> u8;
+    fn overlay_c_all(handle: &mut Handle, given: *const Segment, given_len: usize, settings: &Settings) -> u8;
+    fn overlay_c_join(handle: &mut Handle, given: *const Segment, given_len: usize) -> u8;
+    fn overlay_c_clip(
         handle: &mut Handle,
         given: *const LineSegment,
         given_len: usize,
@@ -69,21 +66,125 @@ extern "C" {
         invert: bool,
         boundary_included: bool,
     ) -> u8;
-    pub fn overlay_c_sizes(handle: &mut Handle) -> Sizes;
-    pub fn overlay_c_segments(handle: &mut Handle, out: *mut Segment, out_len: usize);
-    pub fn overlay_c_links(handle: &mut Handle, out: *mut OverlayLink, out_len: usize);
-    pub fn overlay_c_nodes(
+    fn overlay_c_sizes(handle: &mut Handle) -> Sizes;
+    fn overlay_c_segments(handle: &mut Handle, out: *mut Segment, out_len: usize);
+    fn overlay_c_links(handle: &mut Handle, out: *mut OverlayLink, out_len: usize);
+    fn overlay_c_nodes(
         handle: &mut Handle,
         degrees: *mut usize,
         degrees_len: usize,
         indexes: *mut usize,
         indexes_len: usize,
     );
-    pub fn overlay_c_walks(
+    fn overlay_c_walks(
         handle: &mut Handle,
         lengths: *mut usize,
         lengths_len: usize,
         indexes: *mut usize,
         indexes_len: usize,
     );
+}
+
+/// Where two segments meet. All coordinates have to be in range, and the ends of each segment have to differ; the caller
+/// tests both.
+pub fn cross(target: &Segment, other: &Segment, radius_squared: i64) -> Cross {
+    // SAFETY: `target` and `other` (in range), `target_apart` and `other_apart` (ends that differ) are what the caller
+    // has tested; `radius` is at least 1 here.
+    unsafe { overlay_c_cross(target, other, radius_squared.max(1)) }
+}
+
+/// An engine of the archive. Its handle is full from `new` until it is dropped, which is the condition `engine` of every
+/// other export.
+pub struct Engine {
+    handle: Handle,
+}
+
+impl Engine {
+    /// An engine that snaps in that many passes. `None` where a growth was refused.
+    pub fn new(snap_limit: u32) -> Option<Engine> {
+        let mut handle = Handle { at: std::ptr::null_mut() };
+        // SAFETY: the handle is empty.
+        unsafe { overlay_c_new(&mut handle, snap_limit) }.then_some(Engine { handle })
+    }
+
+    /// Splits segments and builds a rule's graph, with closed walks if asked for. Returns a status.
+    pub fn overlay(&mut self, given: &[Segment], settings: &Settings, rule: u8, walks: bool) -> u8 {
+        // SAFETY: the handle is full. Nothing is required of segments and codes.
+        unsafe { overlay_c_overlay(&mut self.handle, given.as_ptr(), given.len(), settings, rule, walks) }
+    }
+
+    /// Splits segments. Returns a status.
+    pub fn split(&mut self, given: &[Segment], settings: &Settings) -> u8 {
+        // SAFETY: the handle is full. Nothing is required of segments and codes.
+        unsafe { overlay_c_split(&mut self.handle, given.as_ptr(), given.len(), settings) }
+    }
+
+    /// Splits segments and builds the graph of all. Returns a status.
+    pub fn all(&mut self, given: &[Segment], settings: &Settings) -> u8 {
+        // SAFETY: the handle is full. Nothing is required of segments and codes.
+        unsafe { overlay_c_all(&mut self.handle, given.as_ptr(), given.len(), settings) }
+    }
+
+    /// Joins segments on each pair of ends. Returns a status.
+    pub fn join(&mut self, given: &[Segment]) -> u8 {
+        // SAFETY: the handle is full. Nothing is required of segments.
+        unsafe { overlay_c_join(&mut self.handle, given.as_ptr(), given.len()) }
+    }
+
+    /// Splits polygons and lines and builds a clip rule's graph. Returns a status.
+    pub fn clip(&mut self, given: &[LineSegment], settings: &Settings, invert: bool, boundary_included: bool) -> u8 {
+        let (first, len) = (given.as_ptr(), given.len());
+        // SAFETY: the handle is full. Nothing is required of segments and codes.
+        unsafe { overlay_c_clip(&mut self.handle, first, len, settings, invert, boundary_included) }
+    }
+
+    /// How much the engine keeps.
+    pub fn sizes(&mut self) -> Sizes {
+        // SAFETY: the handle is full.
+        unsafe { overlay_c_sizes(&mut self.handle) }
+    }
+
+    /// Copies the arrangement out, in place of what the list had.
+    pub fn copy_segments(&mut self, segments: &mut Vec<Segment>) {
+        segments.resize(self.sizes().segments, Segment::default());
+        // SAFETY: the handle is full, and the slice has the `length` that the engine tells.
+        unsafe { overlay_c_segments(&mut self.handle, segments.as_mut_ptr(), segments.len()) }
+    }
+
+    /// Copies the links out, in place of what the list had.
+    pub fn copy_links(&mut self, links: &mut Vec<OverlayLink>) {
+        links.resize(self.sizes().links, OverlayLink::default());
+        // SAFETY: the handle is full, and the slice has the `length` that the engine tells.
+        unsafe { overlay_c_links(&mut self.handle, links.as_mut_ptr(), links.len()) }
+    }
+
+    /// Copies out how many links meet at each node, and then the indexes of these links, node after node.
+    pub fn copy_nodes(&mut self, degrees: &mut Vec<usize>, indexes: &mut Vec<usize>) {
+        let sizes = self.sizes();
+        degrees.resize(sizes.nodes, 0);
+        indexes.resize(sizes.node_links, 0);
+        let (first, len) = (indexes.as_mut_ptr(), indexes.len());
+        // SAFETY: the handle is full, and the two slices, which do not overlap, have the lengths that the engine tells
+        // (`degrees`, `indexes`).
+        unsafe { overlay_c_nodes(&mut self.handle, degrees.as_mut_ptr(), degrees.len(), first, len) }
+    }
+
+    /// Copies out how many links each walk has, and then the indexes of these links, walk after walk. There are none
+    /// where the last call made no walks.
+    pub fn copy_walks(&mut self, lengths: &mut Vec<usize>, indexes: &mut Vec<usize>) {
+        let sizes = self.sizes();
+        lengths.resize(sizes.walks, 0);
+        indexes.resize(sizes.walk_links, 0);
+        let (first, len) = (indexes.as_mut_ptr(), indexes.len());
+        // SAFETY: the handle is full, and the two slices, which do not overlap, have the lengths that the engine tells
+        // (`lengths`, `indexes`).
+        unsafe { overlay_c_walks(&mut self.handle, lengths.as_mut_ptr(), lengths.len(), first, len) }
+    }
+}
+
+impl Drop for Engine {
+    fn drop(&mut self) {
+        // SAFETY: the handle is full. It is not used again.
+        unsafe { overlay_c_free(&mut self.handle) }
+    }
 }

@@ -4,9 +4,9 @@
 //! them into a planar arrangement, and answers the graph of the segments that an [`OverlayRule`] keeps under a
 //! [`FillRule`]. It keeps its buffers from call to call.
 //!
-//! What a call answers is proved (`KeepsOverlay` of `crates/overlay_c/specs/Kept.antt`). Not proved, and only tested, is
-//! this file: the declarations of [`ffi`], and that each call below meets what its export requires, which stands beside
-//! it as `SAFETY`.
+//! What an export of the archive answers is proved (`KeepsOverlay` of `crates/overlay_c/specs/Kept.antt`). This package
+//! is not proved, and only tested: its declarations of the exports, that each call meets what its export requires, and
+//! that results are handed on. Its unsafe code stands in `src/ffi.rs`, with a reason beside each call.
 //!
 //! ```
 //! use i_overlay_core::{square, FillRule, Overlay, OverlayRule, ShapeType, Segment};
@@ -20,47 +20,63 @@
 //! # Ok::<(), i_overlay_core::Error>(())
 //! ```
 
+#![deny(missing_docs)]
+#![deny(unsafe_code)]
+
+#[allow(unsafe_code)]
 mod ffi;
 
 use std::fmt;
 
-/// A point.
+/// A point. Points are ordered by `x`, then by `y`.
 #[repr(C)]
 #[derive(Clone, Copy, Debug, Default, PartialEq, Eq, PartialOrd, Ord, Hash)]
 pub struct IntPoint {
+    /// From [`MIN_COORD`] to [`MAX_COORD`] where a call takes it.
     pub x: i32,
+    /// Likewise.
     pub y: i32,
 }
 
 impl IntPoint {
+    /// The origin.
     pub const ZERO: IntPoint = IntPoint { x: 0, y: 0 };
 
+    /// The point with these coordinates.
     pub const fn new(x: i32, y: i32) -> IntPoint {
         IntPoint { x, y }
     }
 }
 
-/// The least and the greatest coordinate.
+/// The least coordinate that a call takes, -2^30.
 pub const MIN_COORD: i32 = -1_073_741_824;
+
+/// The greatest coordinate that a call takes, 2^30 - 1.
 pub const MAX_COORD: i32 = 1_073_741_823;
 
 /// How often a segment winds for the subject and for the clip.
 #[repr(C)]
 #[derive(Clone, Copy, Debug, Default, PartialEq, Eq, Hash)]
 pub struct ShapeCountBoolean {
+    /// For the subject: above 0 from `a` to `b`, below 0 from `b` to `a`.
     pub subj: i32,
+    /// For the clip.
     pub clip: i32,
 }
 
 impl ShapeCountBoolean {
+    /// One contour of the subject, run forward.
     pub const SUBJ_DIRECT: ShapeCountBoolean = ShapeCountBoolean { subj: 1, clip: 0 };
+    /// One contour of the clip, run forward.
     pub const CLIP_DIRECT: ShapeCountBoolean = ShapeCountBoolean { subj: 0, clip: 1 };
 }
 
 /// Whether a shape is a subject or a clip.
 #[derive(Clone, Copy, Debug, PartialEq, Eq, Hash)]
 pub enum ShapeType {
+    /// The shape that a difference keeps.
     Subject,
+    /// The shape that a difference takes away.
     Clip,
 }
 
@@ -90,8 +106,11 @@ impl ShapeType {
 #[repr(C)]
 #[derive(Clone, Copy, Debug, Default, PartialEq, Eq, Hash)]
 pub struct Segment {
+    /// Where it starts.
     pub a: IntPoint,
+    /// Where it ends.
     pub b: IntPoint,
+    /// How often it winds, run from `a` to `b`.
     pub count: ShapeCountBoolean,
 }
 
@@ -99,7 +118,9 @@ pub struct Segment {
 #[repr(C)]
 #[derive(Clone, Copy, Debug, Default, PartialEq, Eq, Hash)]
 pub struct LineSegment {
+    /// Where it starts.
     pub a: IntPoint,
+    /// Where it ends.
     pub b: IntPoint,
     /// How often it winds for the polygons.
     pub subj: i32,
@@ -141,10 +162,14 @@ pub struct Change {
 #[repr(u8)]
 #[derive(Clone, Copy, Debug, Default, PartialEq, Eq, Hash)]
 pub enum FillRule {
+    /// Where the winding number is odd.
     EvenOdd = 0,
+    /// Where it is not 0.
     #[default]
     NonZero = 1,
+    /// Where it is above 0.
     Positive = 2,
+    /// Where it is below 0.
     Negative = 3,
 }
 
@@ -152,12 +177,19 @@ pub enum FillRule {
 #[repr(u8)]
 #[derive(Clone, Copy, Debug, PartialEq, Eq, Hash)]
 pub enum OverlayRule {
+    /// The subject.
     Subject = 0,
+    /// The clip.
     Clip = 1,
+    /// What both have.
     Intersect = 2,
+    /// What one of them has, or both.
     Union = 3,
+    /// The subject without the clip.
     Difference = 4,
+    /// The clip without the subject.
     InverseDifference = 5,
+    /// What just one of them has.
     Xor = 6,
 }
 
@@ -165,9 +197,13 @@ pub enum OverlayRule {
 #[repr(u8)]
 #[derive(Clone, Copy, Debug, Default, PartialEq, Eq, Hash)]
 pub enum Strategy {
+    /// Compares all pairs of segments whose ranges in `x` meet.
     List = 0,
+    /// Looks pairs up in an interval tree.
     Tree = 1,
+    /// Compares pairs in the columns of a grid, where there are enough segments for one.
     Frag = 2,
+    /// Picks one of these by the number of segments.
     #[default]
     Auto = 3,
 }
@@ -176,30 +212,44 @@ pub enum Strategy {
 /// `2^(start + (k-1) * progression)`.
 #[derive(Clone, Copy, Debug, PartialEq, Eq, Hash)]
 pub struct Precision {
+    /// The exponent in the first pass.
     pub start: usize,
+    /// What each pass adds to it.
     pub progression: usize,
 }
 
 impl Precision {
+    /// A squared radius of 1 in every pass.
     pub const ABSOLUTE: Precision = Precision { start: 0, progression: 0 };
+    /// Doubles each pass, from 1.
     pub const HIGH: Precision = Precision { start: 0, progression: 1 };
+    /// Doubles each pass, from 2.
     pub const MEDIUM_HIGH: Precision = Precision { start: 1, progression: 1 };
+    /// Four times as much each pass, from 1.
     pub const MEDIUM: Precision = Precision { start: 0, progression: 2 };
+    /// Four times as much each pass, from 4.
     pub const MEDIUM_LOW: Precision = Precision { start: 2, progression: 2 };
+    /// Eight times as much each pass, from 4.
     pub const LOW: Precision = Precision { start: 2, progression: 3 };
 }
 
 /// A strategy and a precision.
 #[derive(Clone, Copy, Debug, PartialEq, Eq, Hash)]
 pub struct Solver {
+    /// How the segments that meet are found.
     pub strategy: Strategy,
+    /// How far a crossing may be moved to an end.
     pub precision: Precision,
 }
 
 impl Solver {
+    /// All pairs, under the precision `HIGH`.
     pub const LIST: Solver = Solver { strategy: Strategy::List, precision: Precision::HIGH };
+    /// A tree, under the precision `HIGH`.
     pub const TREE: Solver = Solver { strategy: Strategy::Tree, precision: Precision::HIGH };
+    /// A grid, under the precision `HIGH`.
     pub const FRAG: Solver = Solver { strategy: Strategy::Frag, precision: Precision::HIGH };
+    /// By the number of segments, under the precision `HIGH`.
     pub const AUTO: Solver = Solver { strategy: Strategy::Auto, precision: Precision::HIGH };
 }
 
@@ -213,7 +263,9 @@ impl Default for Solver {
 #[repr(C)]
 #[derive(Clone, Copy, Debug, Default, PartialEq, Eq, Hash)]
 pub struct IdPoint {
+    /// The number of the node, from 0.
     pub id: usize,
+    /// Where the node is.
     pub point: IntPoint,
 }
 
@@ -225,8 +277,11 @@ pub type SegmentFill = u8;
 #[repr(C)]
 #[derive(Clone, Copy, Debug, Default, PartialEq, Eq, Hash)]
 pub struct OverlayLink {
+    /// Its lower end, in the order of points.
     pub a: IdPoint,
+    /// Its upper end.
     pub b: IdPoint,
+    /// On which of its sides the shapes are.
     pub fill: SegmentFill,
 }
 
@@ -257,6 +312,7 @@ pub enum CrossType {
 pub struct CrossResult {
     /// Where; of no meaning where all four ends lie on one line.
     pub point: IntPoint,
+    /// What that point is of the two.
     pub cross_type: CrossType,
     /// Whether the point is not the exact crossing point.
     pub is_round: bool,
@@ -272,8 +328,7 @@ pub fn cross(target: &Segment, other: &Segment, radius_squared: i64) -> Result<O
             return Err(Error::Segment { index, fault });
         }
     }
-    // SAFETY: all coordinates are in range, the ends of each segment differ, and the radius is at least 1.
-    let found = unsafe { ffi::overlay_c_cross(target, other, radius_squared.max(1)) };
+    let found = ffi::cross(target, other, radius_squared);
     let cross_type = match found.kind {
         0 => return Ok(None),
         1 => CrossType::Pure,
@@ -310,7 +365,12 @@ pub enum Error {
     /// The engine refused.
     Fault(Fault),
     /// The segment at this index may not be split. It is the first such one.
-    Segment { index: usize, fault: SegmentFault },
+    Segment {
+        /// Its index in the given list.
+        index: usize,
+        /// What is wrong with it.
+        fault: SegmentFault,
+    },
 }
 
 impl fmt::Display for Error {
@@ -362,8 +422,7 @@ fn fault_of_line(segment: &LineSegment) -> Option<SegmentFault> {
 ///
 /// It stays on its thread: nothing is proved of an engine that moves to another.
 pub struct Overlay {
-    /// Full from `with_snap_limit` until `drop`.
-    handle: ffi::Handle,
+    engine: ffi::Engine,
     /// Whether the engine keeps an arrangement of segments.
     is_arranged: bool,
     segments: Vec<Segment>,
@@ -383,13 +442,8 @@ impl Overlay {
 
     /// An overlay that snaps in that many passes, and settles after them.
     pub fn with_snap_limit(snap_limit: u32) -> Result<Overlay, Error> {
-        let mut handle = ffi::Handle::EMPTY;
-        // SAFETY: the handle is empty, as the export requires.
-        if !unsafe { ffi::overlay_c_new(&mut handle, snap_limit) } {
-            return Err(Error::Fault(Fault::Memory));
-        }
         Ok(Overlay {
-            handle,
+            engine: ffi::Engine::new(snap_limit).ok_or(Error::Fault(Fault::Memory))?,
             is_arranged: false,
             segments: Vec::new(),
             links: Vec::new(),
@@ -418,8 +472,7 @@ impl Overlay {
         overlay_rule: OverlayRule,
         solver: Solver,
     ) -> Result<OverlayGraph<'_>, Error> {
-        let sizes = self.run(segments, fill_rule, overlay_rule, solver, false)?;
-        self.copy_graph(&sizes);
+        self.run(segments, fill_rule, overlay_rule, solver, false)?;
         Ok(self.graph())
     }
 
@@ -433,24 +486,13 @@ impl Overlay {
         overlay_rule: OverlayRule,
         solver: Solver,
     ) -> Result<Option<Vec<Vec<IntPoint>>>, Error> {
-        let sizes = self.run(segments, fill_rule, overlay_rule, solver, true)?;
-        if !sizes.has_walks {
+        self.run(segments, fill_rule, overlay_rule, solver, true)?;
+        let ffi::Sizes { has_walks, .. } = self.engine.sizes();
+        if !has_walks {
             return Ok(None);
         }
-        self.copy_graph(&sizes);
-        self.walk_starts.resize(sizes.walks, 0);
-        self.walk_links.resize(sizes.walk_links, 0);
-        // SAFETY: the handle is full, the engine has walks, and the two slices, which do not overlap, have the lengths
-        // that it told.
-        unsafe {
-            ffi::overlay_c_walks(
-                &mut self.handle,
-                self.walk_starts.as_mut_ptr(),
-                self.walk_starts.len(),
-                self.walk_links.as_mut_ptr(),
-                self.walk_links.len(),
-            );
-        }
+        self.copy_graph();
+        self.engine.copy_walks(&mut self.walk_starts, &mut self.walk_links);
         sum_up(&mut self.walk_starts);
         let walks = self.walk_starts.windows(2).map(|ends| &self.walk_links[ends[0]..ends[1]]);
         Ok(Some(walks.map(|walk| contour(&self.links, walk)).collect()))
@@ -462,12 +504,7 @@ impl Overlay {
         if !self.is_arranged {
             return &[];
         }
-        let sizes = self.sizes();
-        self.segments.resize(sizes.segments, Segment::default());
-        // SAFETY: the handle is full, and the slice has the length that the engine told.
-        unsafe {
-            ffi::overlay_c_segments(&mut self.handle, self.segments.as_mut_ptr(), self.segments.len());
-        }
+        self.engine.copy_segments(&mut self.segments);
         &self.segments
     }
 
@@ -478,30 +515,21 @@ impl Overlay {
         fill_rule: FillRule,
         solver: Solver,
     ) -> Result<OverlayGraph<'_>, Error> {
-        let settings = settings(solver, fill_rule);
-        let (given, len) = (segments.as_ptr(), segments.len());
-        // SAFETY: the handle is full. Nothing is required of the segments and of the settings.
-        let status = unsafe { ffi::overlay_c_all(&mut self.handle, given, len, &settings) };
+        let status = self.engine.all(segments, &settings(solver, fill_rule));
         self.keep(status, segments)?;
-        let sizes = self.sizes();
-        self.copy_graph(&sizes);
         Ok(self.graph())
     }
 
     /// Splits the segments, with no graph: `segments` is the arrangement then.
     pub fn split(&mut self, segments: &[Segment], solver: Solver) -> Result<Change, Error> {
-        let settings = settings(solver, FillRule::NonZero);
-        let (given, len) = (segments.as_ptr(), segments.len());
-        // SAFETY: the handle is full. Nothing is required of the segments and of the settings.
-        let status = unsafe { ffi::overlay_c_split(&mut self.handle, given, len, &settings) };
+        let status = self.engine.split(segments, &settings(solver, FillRule::NonZero));
         self.keep(status, segments)?;
         Ok(self.change())
     }
 
     /// Joins the segments on each pair of ends: `segments` has them then.
     pub fn join(&mut self, segments: &[Segment]) -> Result<Change, Error> {
-        // SAFETY: the handle is full. Nothing is required of the segments.
-        let status = unsafe { ffi::overlay_c_join(&mut self.handle, segments.as_ptr(), segments.len()) };
+        let status = self.engine.join(segments);
         self.keep(status, segments)?;
         Ok(self.change())
     }
@@ -514,19 +542,14 @@ impl Overlay {
         clip_rule: ClipRule,
         solver: Solver,
     ) -> Result<OverlayGraph<'_>, Error> {
-        let settings = settings(solver, fill_rule);
         let ClipRule { invert, boundary_included } = clip_rule;
-        let (given, len) = (segments.as_ptr(), segments.len());
-        // SAFETY: the handle is full. Nothing is required of the segments and of the settings.
-        let status = unsafe { ffi::overlay_c_clip(&mut self.handle, given, len, &settings, invert, boundary_included) };
+        let status = self.engine.clip(segments, &settings(solver, fill_rule), invert, boundary_included);
         self.is_arranged = false;
         outcome(status, segments, fault_of_line)?;
-        let sizes = self.sizes();
-        self.copy_graph(&sizes);
         Ok(self.graph())
     }
 
-    /// The engine's run, and how much it keeps then.
+    /// The engine's run.
     fn run(
         &mut self,
         segments: &[Segment],
@@ -534,13 +557,9 @@ impl Overlay {
         overlay_rule: OverlayRule,
         solver: Solver,
         walks: bool,
-    ) -> Result<ffi::Sizes, Error> {
-        let settings = settings(solver, fill_rule);
-        let (given, len, rule) = (segments.as_ptr(), segments.len(), overlay_rule as u8);
-        // SAFETY: the handle is full. Nothing is required of the segments, of the settings and of the rule's code.
-        let status = unsafe { ffi::overlay_c_overlay(&mut self.handle, given, len, &settings, rule, walks) };
-        self.keep(status, segments)?;
-        Ok(self.sizes())
+    ) -> Result<(), Error> {
+        let status = self.engine.overlay(segments, &settings(solver, fill_rule), overlay_rule as u8, walks);
+        self.keep(status, segments)
     }
 
     /// What a status tells, and so whether there is an arrangement.
@@ -549,41 +568,28 @@ impl Overlay {
         outcome(status, segments, fault_of)
     }
 
-    /// How much the engine keeps.
-    fn sizes(&mut self) -> ffi::Sizes {
-        // SAFETY: the handle is full.
-        unsafe { ffi::overlay_c_sizes(&mut self.handle) }
-    }
-
     fn change(&mut self) -> Change {
-        let ffi::Sizes { has_changed, passes, .. } = self.sizes();
+        let ffi::Sizes { has_changed, passes, .. } = self.engine.sizes();
         Change { has_changed, passes }
     }
 
     /// Copies the graph of the last run out.
-    fn copy_graph(&mut self, sizes: &ffi::Sizes) {
-        self.links.resize(sizes.links, OverlayLink::default());
-        self.starts.resize(sizes.nodes, 0);
-        self.node_links.resize(sizes.node_links, 0);
-        // SAFETY: the handle is full, and the slice has the length that the engine told.
-        unsafe {
-            ffi::overlay_c_links(&mut self.handle, self.links.as_mut_ptr(), self.links.len());
-        }
-        // SAFETY: the handle is full, and the two slices, which do not overlap, have the lengths that the engine told.
-        unsafe {
-            ffi::overlay_c_nodes(
-                &mut self.handle,
-                self.starts.as_mut_ptr(),
-                self.starts.len(),
-                self.node_links.as_mut_ptr(),
-                self.node_links.len(),
-            );
-        }
+    fn copy_graph(&mut self) {
+        self.engine.copy_links(&mut self.links);
+        self.engine.copy_nodes(&mut self.starts, &mut self.node_links);
         sum_up(&mut self.starts);
     }
 
-    fn graph(&self) -> OverlayGraph<'_> {
+    /// The graph of the last run.
+    fn graph(&mut self) -> OverlayGraph<'_> {
+        self.copy_graph();
         OverlayGraph { links: &self.links, starts: &self.starts, node_links: &self.node_links }
+    }
+}
+
+impl fmt::Debug for Overlay {
+    fn fmt(&self, f: &mut fmt::Formatter<'_>) -> fmt::Result {
+        f.debug_struct("Overlay").finish_non_exhaustive()
     }
 }
 
@@ -593,13 +599,6 @@ fn settings(solver: Solver, fill_rule: FillRule) -> ffi::Settings {
         progression: solver.precision.progression,
         strategy: solver.strategy as u8,
         fill_rule: fill_rule as u8,
-    }
-}
-
-impl Drop for Overlay {
-    fn drop(&mut self) {
-        // SAFETY: the handle is full. It is empty then, and is not used again.
-        unsafe { ffi::overlay_c_free(&mut self.handle) }
     }
 }
 
