@@ -21,3 +21,4 @@ pub mod Laws
 pub mod Places
 pub mod Rays
 pub mod BalanceTest
+pub mod EndCountOf

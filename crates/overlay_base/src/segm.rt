@@ -2,6 +2,7 @@
 
 mod apart;
 pub mod arranged;
+pub mod balance;
 pub mod boolean;
 pub mod fault;
 pub mod join;

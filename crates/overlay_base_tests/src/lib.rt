@@ -5,6 +5,8 @@
 #[cfg(test)]
 mod arranged;
 #[cfg(test)]
+mod balance;
+#[cfg(test)]
 mod clip_rule;
 #[cfg(test)]
 mod fault;

@@ -70,3 +70,15 @@ diamond_is_balanced = refl
 side_is_not : join (end_counts (seg (pos 0) (pos 0) (pos 4) (pos 0) (pos 1) ∷ [])) ≡ seg (pos 0) (pos 0) (pos 0) (pos 0) (pos 1) ∷ seg (pos 4) (pos 0) (pos 4) (pos 0) (neg 1) ∷ []
 unfolding computing
 side_is_not = refl
+
+-- a line alone is: its mask has no weight
+line_is_balanced : join (end_counts (record { pair = pair (pos 0) (pos 0) (pos 4) (pos 0); count = record { subj = pos 0; clip = pos 0; mask = 2 } } ∷ [])) ≡ []
+unfolding computing
+line_is_balanced = refl
+
+-- of two segments in a row the counts cancel where they meet, and there alone
+chain_is_not :
+    join (end_counts (seg (pos 0) (pos 0) (pos 4) (pos 0) (pos 1) ∷ seg (pos 4) (pos 0) (pos 8) (pos 0) (pos 1) ∷ []))
+    ≡ seg (pos 0) (pos 0) (pos 0) (pos 0) (pos 1) ∷ seg (pos 8) (pos 0) (pos 8) (pos 0) (neg 1) ∷ []
+unfolding computing
+chain_is_not = refl

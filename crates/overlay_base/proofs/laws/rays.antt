@@ -3,3 +3,5 @@ pub mod Losses
 pub mod Quadrants
 pub mod Rays
 pub mod BalanceTests
+pub mod BalanceWalks
+pub mod EndCounts

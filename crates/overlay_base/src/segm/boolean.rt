@@ -80,6 +80,10 @@ impl WindingCount for ShapeCountBoolean {
         }
     }
 
+    fn numbers(self) -> (i32, i32) {
+        (self.subj, self.clip)
+    }
+
     fn is_valid(self) -> bool {
         self.subj != i32::MIN && self.clip != i32::MIN
     }

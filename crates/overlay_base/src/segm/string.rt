@@ -70,6 +70,10 @@ impl WindingCount for ShapeCountString {
         }
     }
 
+    fn numbers(self) -> (i32, i32) {
+        (self.subj, 0)
+    }
+
     fn is_valid(self) -> bool {
         self.subj != i32::MIN && self.clip < 4
     }

@@ -70,6 +70,11 @@ pub trait WindingCount: Copy {
         requires { IsTrue (is_valid (winding self)) }
         ensures { winding result ≡ inverse (winding self) };
 
+    /// How often the count winds for the subject, and how often for the clip. A mask is left out. This project's own.
+    fn numbers(self) -> (i32, i32)
+        ensures subj { result.0 ≡ (winding self).subj }
+        ensures clip { result.1 ≡ (winding self).clip };
+
     /// Whether each number lies in `-i32::MAX..=i32::MAX`, and a mask has no more than its two bits.
     fn is_valid(self) -> bool
         ensures { result ≡ is_valid (winding self) };

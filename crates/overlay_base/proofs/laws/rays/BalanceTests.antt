@@ -39,7 +39,7 @@ at_points (s ∷ ss) p =
     (winding_at-cons _ _ (point_pair p) ∙ ap₂ add (ap (λ (b : Bool). cond b (inverse (weight s.count)) empty) (here s.pair.b) ∙ inverse_of (point_eq s.pair.b p) (weight s.count)) (at_points ss p))
     ∙ sym (add_assoc (cond (point_eq s.pair.a p) (weight s.count) empty) (inverse (cond (point_eq s.pair.b p) (weight s.count) empty)) (gathered add empty (λ t. flow p t.pair t.count) ss))
 
-balance_at : (segments : List WholeSegment) (p : Point) → winding_at (end_counts segments) (point_pair p) ≡ balance segments p
+pub balance_at : (segments : List WholeSegment) (p : Point) → winding_at (end_counts segments) (point_pair p) ≡ balance segments p
 balance_at segments p = at_points segments p ∙ sym (balance-gathered segments p)
 
 -- and on a pair of two points there is none
