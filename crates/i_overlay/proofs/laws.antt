@@ -1,3 +1,4 @@
 pub mod FarRegions
 pub mod LinesAlong
 pub mod Overlays
+pub mod GivenAgain

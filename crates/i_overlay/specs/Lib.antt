@@ -1,6 +1,7 @@
 pub mod FarRegions
 pub mod LinesAlong
 pub mod Headline
+pub mod GivenAgain
 -- what the clauses of the crate cite of the crates below
 pub use Rattle.overlay_base.specs.ArrangedOf
 pub use Rattle.overlay_base.specs.Balance

@@ -1,8 +1,8 @@
 // Sweeps and graphs. Upstream: `build`.
 
 pub use overlay_build::build::{
-    clip_filter, fill_handler, fill_strategy, filter, graph, graph_node, laws, link_filter,
-    live_segments, scan_list, scan_tree, string_graph, util, walks,
+    boundary, clip_filter, fill_handler, fill_strategy, filter, graph, graph_node, laws,
+    link_filter, live_segments, scan_list, scan_tree, string_graph, util, walks,
 };
 
 /// Which fills an overlay rule keeps.

@@ -21,6 +21,7 @@ ghost use Rattle.overlay_build.specs.NodeIndexes.{indexes_of, is_canonical_node}
 ghost use Rattle.overlay_build.specs.OverlayGraphOf.{nodes_of, links_of, graph_asked};
 ghost use Rattle.i_overlay.specs.FarRegions.{EnclosesOverlay};
 ghost use Rattle.i_overlay.specs.Headline.{IsOverlay, IsDataAfter, IsRefused};
+ghost use Rattle.i_overlay.specs.GivenAgain.{ResultsAreGivenAgain};
 
 use overlay_base::overlay_core::edge_data::OverlayEdgeData;
 use overlay_base::overlay_core::fill_rule::FillRule;
@@ -108,3 +109,11 @@ pub fn split_and_build_overlay<'a, I: OverlayInt, D: OverlayEdgeData<ShapeCountB
     splitter.split_segments(segments, solver)?;
     builder.build_boolean_overlay(fill_rule, overlay_rule, solver, segments)
 }
+
+/// A result can be given again. Where the given counts balance, the links of an overlay's graph, each in its direction, as
+/// segments of one shape (`directed_segments`) are a planar arrangement in range, balanced, and wind round the rule's
+/// region for that shape alone; at every place that is farther from the given segments than the passes move crossings,
+/// round the region by how these wind.
+pub fn result_laws()
+    ensures { ResultsAreGivenAgain }
+{}

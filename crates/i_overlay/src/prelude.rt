@@ -14,6 +14,7 @@ pub use overlay_base::segm::segment::Segment;
 pub use overlay_base::segm::shape_type::ShapeType;
 pub use overlay_base::segm::string::ShapeCountString;
 pub use overlay_base::segm::winding::WindingCount;
+pub use overlay_build::build::boundary::directed_segments;
 pub use overlay_build::build::builder::GraphBuilder;
 pub use overlay_build::build::graph::OverlayGraph;
 pub use overlay_build::build::graph_node::OverlayNode;

@@ -2,6 +2,7 @@
 pub mod Computing
 pub mod Graphs
 pub mod Boundaries
+pub mod GivenAgain
 pub mod Walks
 pub mod Beside
 pub mod DirectedWalks

@@ -1,5 +1,5 @@
 -- Laws over the definitions: statements that contracts name.
-use Rattle.std.specs.Prelude.{◌≡◌, ◌==◌, ◌<◌, pos, Bool, true, not, ◌&&◌, IsTrue, ℕ, List, All, map, filter}
+use Rattle.std.specs.Prelude.{◌≡◌, ◌≢◌, ◌==◌, ◌<◌, ℤ, pos, Bool, true, false, not, ◌&&◌, IsTrue, ℕ, List, All, map, filter}
 use Rattle.std.specs.List.{zip}
 use Rattle.overlay_base.specs.Windings.{Winding}
 use Rattle.overlay_base.specs.Segments.{WholeSegment, is_map, are_polygons}
@@ -8,14 +8,17 @@ use Rattle.overlay_base.specs.Rules.{keeps_fill}
 use Rattle.overlay_base.specs.ClipRules.{keeps_clip}
 use Rattle.overlay_base.specs.declared.overlay_core.clip_rule.ClipRule.{ClipRule}
 use Rattle.overlay_base.specs.declared.overlay_core.fill_rule.FillRule.{FillRule}
-use Rattle.overlay_base.specs.Planar.{is_planar}
+use Rattle.overlay_base.specs.declared.overlay_core.fill_rule.FillRule.TheVariants.{Negative}
+use Rattle.overlay_base.specs.Planar.{is_planar, is_arranged}
 use Rattle.overlay_base.specs.Balance.{IsBalanced}
-use Rattle.overlay_base.specs.Places.{RationalPoint}
-use Rattle.overlay_sweep.specs.Fill.{fill_byte}
+use Rattle.overlay_base.specs.declared.segm.shape_type.ShapeType.{ShapeType}
+use Rattle.overlay_base.specs.Places.{RationalPoint, winding_below}
+use Rattle.overlay_sweep.specs.Fill.{is_inside, fill_byte}
 use Rattle.overlay_build.specs.Graph.{Filled, graph_of, graph_by, data_by, has_even_nodes, is_valid_graph, without_nodes}
-use Rattle.overlay_build.specs.Values.{tells_apart}
+use Rattle.overlay_build.specs.Values.{value_at, tells_apart}
 use Rattle.overlay_build.specs.Regions.{EnclosesRegion}
-use Rattle.overlay_build.specs.Boundary.{BoundsRegion}
+use Rattle.overlay_build.specs.Boundary.{BoundsRegion, directed_links, times_round}
+use Rattle.overlay_build.specs.ShapedBoundary.{of_shape, in_shape, BoundsAsShape}
 use Rattle.overlay_build.specs.DirectedWalks.{arcs, IsFlow, along, IsDirectedWalk, contour, edges}
 use Rattle.overlay_build.specs.Sides.{overlay_graph}
 use Rattle.overlay_build.specs.Beside.{is_on_top_of, is_at_bottom_of, TellsPlaces, FillTellsPlaces}
@@ -66,6 +69,21 @@ abbrev pub GraphsBoundRegions : Type 0
 GraphsBoundRegions =
     (fill_rule : FillRule) (rule : Bool → Bool → Bool) (segments : List WholeSegment) → IsTrue (is_map segments) → IsTrue (are_polygons segments) → IsTrue (is_planar segments) → IsBalanced segments →
     BoundsRegion rule fill_rule segments (graph_by (keeps_fill rule) fill_rule segments)
+
+-- As segments of one shape they may be given to a further overlay: balanced, arranged, and round the region once.
+abbrev pub BoundariesAreShapes : Type 0
+BoundariesAreShapes =
+    (least greatest : ℤ) (shape : ShapeType) (fill_rule : FillRule) (rule : Bool → Bool → Bool) (segments : List WholeSegment) → IsTrue (is_arranged least greatest segments) → IsTrue (are_polygons segments) → IsBalanced segments →
+    BoundsAsShape least greatest shape rule fill_rule segments (in_shape shape (directed_links rule (graph_by (keeps_fill rule) fill_rule segments)))
+
+-- Segments of a subject, as those of a shape, wind as often for this shape alone.
+abbrev pub ShapesWindAlike : Type 0
+ShapesWindAlike = (shape : ShapeType) (segments : List WholeSegment) (p : RationalPoint) → winding_below (in_shape shape segments) p ≡ of_shape shape (winding_below segments p).subj
+
+-- A further overlay has inside, for this shape, exactly the places of which the function holds, if it says no of those outside.
+abbrev pub RegionsAreSeenAgain : Type 0
+RegionsAreSeenAgain =
+    (rule : Bool → Bool → Bool) (fill_rule again : FillRule) (w : Winding) → rule false false ≡ false → again ≢ Negative → is_inside again (times_round rule fill_rule w) ≡ value_at rule fill_rule w
 
 -- Of balanced, planar segments: the windings of the two sides of each are those of the places directly beside it.
 abbrev pub SidesTellPlaces : Type 0

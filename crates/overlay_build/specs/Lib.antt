@@ -3,6 +3,7 @@ pub mod Graph
 pub mod Values
 pub mod Regions
 pub mod Boundary
+pub mod ShapedBoundary
 pub mod Sides
 pub mod Beside
 pub mod Lines

@@ -1,6 +1,7 @@
 // The graphs of kept segments, from the fills on their two sides. The sweep that finds these fills is the crate
 // `overlay_sweep`, whose modules stand here too, as in upstream.
 
+pub mod boundary;
 pub mod builder;
 pub mod clip_filter;
 mod connect_links;

@@ -2,5 +2,6 @@
 pub mod PlaceColumns
 pub mod Regions
 pub mod Boundaries
+pub mod Again
 pub mod Beside
 pub mod BesideUprights

@@ -1,7 +1,9 @@
 // Builds graphs of overlays and of lines, one after another. Upstream: `build::builder`, and the builds of
 // `build::boolean` and `build::string`.
 ghost use Rattle.std.specs.Prelude.{◌≡◌, [], length, true, map, IsTrue, IsFalse, OnOk, OnErr, IfOk, IfErr};
+ghost use Rattle.std.specs.List.{list_all};
 ghost use Rattle.std.specs.Borrow.{sem};
+ghost use Rattle.overlay_geometry.specs.Points.{is_ordered};
 ghost use Rattle.overlay_base.specs.Rules.{holds, keeps_fill};
 ghost use Rattle.overlay_base.specs.ClipRules.{keeps_clip};
 ghost use Rattle.overlay_base.specs.ArrangedOf.{IsArranged};
@@ -15,7 +17,7 @@ ghost use Rattle.overlay_sweep.specs.LiveOf.{run_asked};
 ghost use Rattle.overlay_build.specs.Graph.{graph_by, data_by, has_even_nodes};
 ghost use Rattle.overlay_build.specs.Sides.{IsBalancedOverlay};
 ghost use Rattle.overlay_build.specs.Lines.{IsBalancedClip};
-ghost use Rattle.overlay_build.specs.GraphOf.{HoldGraph, graph_with};
+ghost use Rattle.overlay_build.specs.GraphOf.{HoldGraph, graph_with, link_of};
 ghost use Rattle.overlay_build.specs.NodeIndexes.{indexes_of, is_canonical_node, items_of, is_any_node};
 ghost use Rattle.overlay_build.specs.steps.LinkRules.{keeps_by};
 ghost use Rattle.overlay_build.specs.BuilderOf.{built_nodes, built_links, build_asked};
@@ -171,8 +173,9 @@ impl<I: OverlayInt, D: Copy> GraphBuilder<ShapeCountBoolean, OverlayNode, I, D> 
 
     /// The graph of the last build.
     fn graph(&self) -> OverlayGraph<'_, I, D>
-        requires { HoldGraph indexes_of is_canonical_node I.whole (built_nodes self.now) (built_links self.now)
+        requires holds { HoldGraph indexes_of is_canonical_node I.whole (built_nodes self.now) (built_links self.now)
             (graph_with I.whole (built_links self.now)) }
+        requires ordered { IsTrue (list_all (λ l. is_ordered (link_of I.whole l).pair) (built_links self.now)) }
         ensures nodes { nodes_of result ≡ built_nodes self.now }
         ensures links { links_of result ≡ built_links self.now }
         ensures compared { graph_asked result ≡ build_asked self.now }

@@ -1,7 +1,8 @@
 // The graph of an overlay, which borrows its nodes and links from the builder. Upstream: `core::graph`.
-ghost use Rattle.std.specs.Prelude.{◌≡◌, ◌==◌, ◌%◌, ◌&&◌, ◌||◌, nat_le, true, length};
+ghost use Rattle.std.specs.Prelude.{◌≡◌, ◌==◌, ◌%◌, ◌&&◌, ◌||◌, nat_le, true, length, IsTrue};
 ghost use Rattle.std.specs.List.{list_all};
-ghost use Rattle.overlay_build.specs.GraphOf.{HoldGraph, graph_with};
+ghost use Rattle.overlay_geometry.specs.Points.{is_ordered};
+ghost use Rattle.overlay_build.specs.GraphOf.{HoldGraph, graph_with, link_of};
 ghost use Rattle.overlay_build.specs.NodeIndexes.{indexes_of, is_canonical_node};
 
 use crate::build::graph_node::OverlayNode;
@@ -12,7 +13,7 @@ use overlay_geometry::num::OverlayInt;
 ///
 /// Links stand in the order of the segments. Nodes are the ends of links, each once, in order of their points; a node
 /// lists the links that start there, then those that end there, both by rising index. A link's `a.id` and `b.id` are
-/// the numbers of the nodes at its ends.
+/// the numbers of the nodes at its ends; `a` stands before `b`.
 #[derive(Drop)]
 pub struct OverlayGraph<'a, I: OverlayInt, D> {
     nodes: &'a [OverlayNode],
@@ -20,19 +21,23 @@ pub struct OverlayGraph<'a, I: OverlayInt, D> {
     compared: u128,
     pub ghost holds: { HoldGraph indexes_of is_canonical_node I.whole nodes.now links.now
         (graph_with I.whole links.now) },
+    pub ghost ordered: { IsTrue (list_all (λ l. is_ordered (link_of I.whole l).pair) links.now) },
 }
 
 impl<'a, I: OverlayInt, D: Copy> OverlayGraph<'a, I, D> {
     ghost use Rattle.overlay_build.specs.Graph.{has_even_nodes, is_valid_graph};
     ghost use Rattle.overlay_build.specs.OverlayGraphOf.{nodes_of, links_of, graph_asked};
 
-    /// The graph of these links, which has to have these nodes, found by a sweep that asked so many orders.
+    /// The graph of these links, which has to have these nodes, found by a sweep that asked so many orders. Each link's
+    /// `a` has to stand before its `b`.
     pub(crate) fn new(
         nodes: &'a [OverlayNode],
         links: &'a [OverlayLink<I, D>],
         compared: u128,
     ) -> OverlayGraph<'a, I, D>
-        requires { HoldGraph indexes_of is_canonical_node I.whole nodes.now links.now (graph_with I.whole links.now) }
+        requires holds { HoldGraph indexes_of is_canonical_node I.whole nodes.now links.now
+            (graph_with I.whole links.now) }
+        requires ordered { IsTrue (list_all (λ l. is_ordered (link_of I.whole l).pair) links.now) }
         ensures nodes { nodes_of result ≡ nodes.now }
         ensures links { links_of result ≡ links.now }
         ensures compared { graph_asked result ≡ compared }

@@ -1,6 +1,6 @@
 // The laws of fills and graphs. Each function has an empty body, and its contract is proved for all whole numbers.
 ghost use Rattle.overlay_build.specs.Laws.{SidesTellPlaces, FillsTellPlaces};
-ghost use Rattle.overlay_build.specs.Laws.{FillsTellSides, FillsTellLines, ClipGraphsAreExact, NodesAreEven, GraphsAreValid, GraphsAreExact, GraphsEncloseRegions, GraphsBoundRegions, GraphsFlow, ContoursFollowLinks, FilterGivesLinks, FilterGivesData};
+ghost use Rattle.overlay_build.specs.Laws.{FillsTellSides, FillsTellLines, ClipGraphsAreExact, NodesAreEven, GraphsAreValid, GraphsAreExact, GraphsEncloseRegions, GraphsBoundRegions, BoundariesAreShapes, ShapesWindAlike, RegionsAreSeenAgain, GraphsFlow, ContoursFollowLinks, FilterGivesLinks, FilterGivesData};
 
 pub use overlay_sweep::build::laws::winding_laws;
 
@@ -28,6 +28,16 @@ pub fn graph_laws()
 /// holds there, and not at all where it does not, less what it says of places outside.
 pub fn boundary_laws()
     ensures { GraphsBoundRegions }
+{}
+
+/// A result can be given again. With balanced counts, for every truth function: the links of its graph, each in its
+/// direction, as segments of one shape are a planar arrangement in range and with valid counts, balanced, and they wind
+/// round the region for that shape alone. Under a fill rule other than `Negative` that shape is then inside exactly
+/// where the function holds, if it says no of places outside.
+pub fn shape_laws()
+    ensures again { BoundariesAreShapes }
+    ensures winds { ShapesWindAlike }
+    ensures seen { RegionsAreSeenAgain }
 {}
 
 /// With balanced counts the windings of the two sides of a segment, by which its fill is made, are those of the places

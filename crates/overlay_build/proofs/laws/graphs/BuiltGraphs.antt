@@ -24,13 +24,14 @@ use Rattle.overlay_build.proofs.laws.graphs.GraphLaws.{links-back, graph_by-is}
 use Rattle.overlay_build.proofs.laws.regions.Boundaries.{is_balanced_overlay}
 
 module _ {N I D : Type 0} (indexes : N → List ℕ) (is_canonical : N → Bool) (whole : I → ℤ) (nodes : List N) (links : List (OverlayLink I D)) (keeps : ℕ → Bool) (rule : FillRule) (segments : List WholeSegment) where
+  -- the links of such a graph stand for the kept segments
+  pub same_kept : HoldGraph indexes is_canonical whole nodes links (graph_by keeps rule segments) → kept_of whole links ≡ filter (λ f. keeps f.fill) (filled rule segments)
+  same_kept h = sym (map-map without_nodes (link_of whole) links) ∙ ap (map without_nodes) h.same_links ∙ ap (λ (g : Graph). map without_nodes g.links) (graph_by-is keeps rule segments) ∙ links-back (filter (λ f. keeps f.fill) (filled rule segments))
+
   -- the graph of the links that stand for kept segments is that of these segments
   pub graph_with_kept : HoldGraph indexes is_canonical whole nodes links (graph_by keeps rule segments) → graph_with whole links ≡ graph_by keeps rule segments
   graph_with_kept h =
-      let kept : List Filled = filter (λ f. keeps f.fill) (filled rule segments) in
-      let is : graph_by keeps rule segments ≡ graph_of kept = graph_by-is keeps rule segments in
-      let same : kept_of whole links ≡ kept = sym (map-map without_nodes (link_of whole) links) ∙ ap (map without_nodes) h.same_links ∙ ap (λ (g : Graph). map without_nodes g.links) is ∙ links-back kept in
-      ap graph_of same ∙ sym is
+      ap graph_of (same_kept h) ∙ sym (graph_by-is keeps rule segments)
 
   -- so nodes and links that hold the one hold the other
   pub hold_own_graph : HoldGraph indexes is_canonical whole nodes links (graph_by keeps rule segments) → HoldGraph indexes is_canonical whole nodes links (graph_with whole links)
@@ -56,14 +57,26 @@ polygons_from whole none [] = refl
 polygons_from whole none (x ∷ xs) = rw (none x) (polygons_from whole none xs)
 
 -- links that stand for kept segments run from their lesser end to the greater one
-pub links_are_ordered : {I D : Type 0} (whole : I → ℤ) (links : List (OverlayLink I D)) (keeps : ℕ → Bool) (rule : FillRule) (least greatest : ℤ) (segments : List WholeSegment) → IsTrue (is_arranged least greatest segments) →
-    kept_of whole links ≡ filter (λ f. keeps f.fill) (filled rule segments) → (k : ℕ) (d : OverlayLink I D) → k < length links → IsTrue (point_lt (point_of whole (get_or links k d).a.point) (point_of whole (get_or links k d).b.point))
+pub kept_links_are_ordered : {I D : Type 0} (whole : I → ℤ) (links : List (OverlayLink I D)) (keeps : ℕ → Bool) (rule : FillRule) (least greatest : ℤ) (segments : List WholeSegment) → IsTrue (is_arranged least greatest segments) →
+    kept_of whole links ≡ filter (λ f. keeps f.fill) (filled rule segments) → IsTrue (list_all (λ l. is_ordered (link_of whole l).pair) links)
 unfolding is_arranged is_map filled
-links_are_ordered whole links keeps rule least greatest segments arranged e =
+kept_links_are_ordered whole links keeps rule least greatest segments arranged e =
     let outer = and_parts _ _ arranged in
     let inner = and_parts _ _ outer.0 in
     let parts = and_parts _ _ inner.0 in
     let each = list_all-and_parts (λ (s : WholeSegment). is_ordered s.pair) (λ (s : WholeSegment). is_not_empty s.count) segments parts.1 in
     let all : list_all (λ (f : Filled). is_ordered f.pair) (filled rule segments) ≡ true = list_all-map (λ (f : Filled). is_ordered f.pair) _ segments ∙ each.0 in
     let kept : list_all (λ (f : Filled). is_ordered f.pair) (kept_of whole links) ≡ true = ap (list_all (λ (f : Filled). is_ordered f.pair)) e ∙ list_all-filter (λ (f : Filled). is_ordered f.pair) (λ f. keeps f.fill) (filled rule segments) all in
-    AllPass-from_list_all (λ l. point_lt (point_of whole l.a.point) (point_of whole l.b.point)) links (sym (list_all-map (λ (f : Filled). is_ordered f.pair) (λ l. without_nodes (link_of whole l)) links) ∙ kept)
+    sym (list_all-map (λ (f : Filled). is_ordered f.pair) (λ l. without_nodes (link_of whole l)) links) ∙ kept
+
+-- so do those of a graph that is held
+pub held_links_are_ordered : {N I D : Type 0} (indexes : N → List ℕ) (is_canonical : N → Bool) (whole : I → ℤ) (nodes : List N) (links : List (OverlayLink I D)) (keeps : ℕ → Bool) (rule : FillRule) (least greatest : ℤ) (segments : List WholeSegment) → IsTrue (is_arranged least greatest segments) →
+    HoldGraph indexes is_canonical whole nodes links (graph_by keeps rule segments) → IsTrue (list_all (λ l. is_ordered (link_of whole l).pair) links)
+held_links_are_ordered indexes is_canonical whole nodes links keeps rule least greatest segments arranged h =
+    kept_links_are_ordered whole links keeps rule least greatest segments arranged (same_kept indexes is_canonical whole nodes links keeps rule segments h)
+
+-- and one by one
+pub links_are_ordered : {I D : Type 0} (whole : I → ℤ) (links : List (OverlayLink I D)) (keeps : ℕ → Bool) (rule : FillRule) (least greatest : ℤ) (segments : List WholeSegment) → IsTrue (is_arranged least greatest segments) →
+    kept_of whole links ≡ filter (λ f. keeps f.fill) (filled rule segments) → (k : ℕ) (d : OverlayLink I D) → k < length links → IsTrue (point_lt (point_of whole (get_or links k d).a.point) (point_of whole (get_or links k d).b.point))
+links_are_ordered whole links keeps rule least greatest segments arranged e =
+    AllPass-from_list_all (λ l. point_lt (point_of whole l.a.point) (point_of whole l.b.point)) links (kept_links_are_ordered whole links keeps rule least greatest segments arranged e)

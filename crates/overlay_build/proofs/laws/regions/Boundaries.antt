@@ -37,11 +37,11 @@ use Rattle.overlay_build.proofs.laws.regions.Regions.{sum_below, graphs_enclose_
 
 -- ---- sums over the boundary
 
-sum_of-map : {X Y : Type 0} (f : X → Y) (g : Y → ℤ) (xs : List X) → sum_of g (map f xs) ≡ sum_of (λ x. g (f x)) xs
+pub sum_of-map : {X Y : Type 0} (f : X → Y) (g : Y → ℤ) (xs : List X) → sum_of g (map f xs) ≡ sum_of (λ x. g (f x)) xs
 sum_of-map f g [] = refl
 sum_of-map f g (x ∷ xs) = ap (λ (z : ℤ). g (f x) +ℤ z) (sum_of-map f g xs)
 
-when_zero : (b : Bool) → when b (pos 0) ≡ pos 0
+pub when_zero : (b : Bool) → when b (pos 0) ≡ pos 0
 when_zero true = refl
 when_zero false = refl
 
@@ -139,7 +139,7 @@ module _ (rule : Bool → Bool → Bool) (fill_rule : FillRule) (segments : List
 
 -- ---- the links of the graph, with their directions
 
-links_directed : (rule : Bool → Bool → Bool) (kept : List Filled) → directed_links rule (graph_of kept) ≡ map (λ f. record { pair = f.pair; count = of_subject (direction rule f.fill) }) kept
+pub links_directed : (rule : Bool → Bool → Bool) (kept : List Filled) → directed_links rule (graph_of kept) ≡ map (λ f. record { pair = f.pair; count = of_subject (direction rule f.fill) }) kept
 unfolding directed_links graph_of
 links_directed rule kept = map-map (λ (l : Link). record { pair = l.pair; count = of_subject (direction rule l.fill) }) _ kept
 

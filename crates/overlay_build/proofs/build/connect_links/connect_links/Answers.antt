@@ -1,4 +1,4 @@
-use Rattle.std.proofs.Common.{◌≡◌, ◌∙◌, ap, sym, rules, if◌then◌else◌, subst, ℕ, ◌<◌, ◌≤◌, ◌-◌, ◌++◌, map, take, drop, length, get_or, List, arith}
+use Rattle.std.proofs.Common.{◌≡◌, ◌∙◌, ap, sym, if◌then◌else◌, subst, ℕ, ◌<◌, ◌≤◌, ◌-◌, ◌++◌, map, take, drop, length, get_or, List, arith}
 use Rattle.std.specs.Prelude.{ℤ}
 use Rattle.std.proofs.lemmas.List.{length-map}
 use Rattle.std.proofs.Math.Seq.{take-append_seam}

@@ -1,4 +1,4 @@
-use Rattle.std.proofs.Common.{cond, ◌≡◌, ◌≢◌, ◌==◌, ◌∙◌, sym, ap, subst, ℕ, ◌+◌, ◌<◌, ◌%◌, Bool, List, Some, [], map, length, get_or, set, true, false, not, refl, arith, get_or-set_same}
+use Rattle.std.proofs.Common.{cond, ◌≡◌, ◌≢◌, ◌==◌, ◌∙◌, ap, subst, ℕ, ◌+◌, ◌<◌, ◌%◌, Bool, List, Some, [], map, length, get_or, set, true, false, not, refl, arith, get_or-set_same}
 use Rattle.std.specs.Prelude.{count_by}
 use Rattle.std.proofs.lemmas.Bool.{eqb-true, eq-eqb}
 use Rattle.std.proofs.lemmas.List.{length-map}

@@ -1,8 +1,13 @@
 use Rattle.std.proofs.Common.{true}
 use Rattle.overlay_base.specs.SegmentOf.{segments_of}
 use Rattle.overlay_build.specs.NodeIndexes.{indexes_of, is_canonical_node}
-use Rattle.overlay_build.proofs.laws.graphs.BuiltGraphs.{hold_own_graph}
+use Rattle.overlay_build.proofs.laws.graphs.BuiltGraphs.{hold_own_graph, held_links_are_ordered}
 use Rattle.overlay_build.proofs.build.builder.GraphBuilder+ShapeCountBoolean+OverlayNode+I+D.build_boolean_all.Goals as goal
 
 pub graph-requires : goal.graph-requires
-graph-requires g c = (hold_own_graph indexes_of is_canonical_node g.I.OverlayInt.whole _ _ (λ _. true) c.args.fill_rule (segments_of c.args.segments.now) c.in_ok-build.ensures.graph)
+graph-requires g c =
+    let segments = segments_of c.args.segments.now in
+    record {
+      holds = hold_own_graph indexes_of is_canonical_node g.I.OverlayInt.whole _ _ (λ _. true) c.args.fill_rule segments c.in_ok-build.ensures.graph;
+      ordered = held_links_are_ordered indexes_of is_canonical_node g.I.OverlayInt.whole _ _ (λ _. true) c.args.fill_rule _ _ segments c.requires.arranged c.in_ok-build.ensures.graph;
+    }

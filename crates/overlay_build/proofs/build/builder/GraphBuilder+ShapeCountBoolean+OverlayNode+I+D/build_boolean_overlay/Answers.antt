@@ -4,12 +4,17 @@ use Rattle.overlay_base.specs.SegmentOf.{segment_of, segments_of}
 use Rattle.overlay_build.specs.Graph.{graph_by, data_by}
 use Rattle.overlay_build.specs.GraphOf.{graph_with}
 use Rattle.overlay_build.specs.NodeIndexes.{indexes_of, is_canonical_node}
-use Rattle.overlay_build.proofs.laws.graphs.BuiltGraphs.{hold_own_graph, graph_with_kept, arranged_overlay, polygons_from}
+use Rattle.overlay_build.proofs.laws.graphs.BuiltGraphs.{hold_own_graph, held_links_are_ordered, graph_with_kept, arranged_overlay, polygons_from}
 use Rattle.std.proofs.lemmas.Result.{IfOk-from_err}
 use Rattle.overlay_build.proofs.build.builder.GraphBuilder+ShapeCountBoolean+OverlayNode+I+D.build_boolean_overlay.Goals as goal
 
 pub graph-requires : goal.graph-requires
-graph-requires g c = hold_own_graph indexes_of is_canonical_node g.I.OverlayInt.whole _ _ (keeps_fill (holds c.args.overlay_rule)) c.args.fill_rule (segments_of c.args.segments.now) c.in_ok-build.ensures.graph
+graph-requires g c =
+    let segments = segments_of c.args.segments.now in
+    record {
+      holds = hold_own_graph indexes_of is_canonical_node g.I.OverlayInt.whole _ _ (keeps_fill (holds c.args.overlay_rule)) c.args.fill_rule segments c.in_ok-build.ensures.graph;
+      ordered = held_links_are_ordered indexes_of is_canonical_node g.I.OverlayInt.whole _ _ (keeps_fill (holds c.args.overlay_rule)) c.args.fill_rule _ _ segments c.requires.arranged c.in_ok-build.ensures.graph;
+    }
 
 pub returns : goal.returns
 unfolding graph_by data_by
