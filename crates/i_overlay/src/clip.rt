@@ -38,6 +38,8 @@ use overlay_split::split::solver::SplitSolver;
 /// strategy does not change the answer, but what the split costs: afterwards `looked` of the splitter is bounded by the
 /// strategy as after `split_segments`.
 ///
+/// Whether the counts balance, `is_balanced` tells.
+///
 /// Answers `Fault::CountOutOfRange` only where a running sum of counts on one pair of ends leaves
 /// `-i32::MAX..=i32::MAX` in the split, or a winding above a segment in the build, and, memory being found, wherever
 /// one does; `Fault::Memory` where a growth is refused. Where the split was refused the list is empty and `passes` is

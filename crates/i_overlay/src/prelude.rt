@@ -8,6 +8,7 @@ pub use overlay_base::overlay_core::overlay_rule::OverlayRule;
 pub use overlay_base::overlay_core::rule_table::RuleTable;
 pub use overlay_base::overlay_core::solver::{Precision, Solver, Strategy};
 pub use overlay_base::segm::arranged::{is_arranged, is_splittable};
+pub use overlay_base::segm::balance::is_balanced;
 pub use overlay_base::segm::boolean::ShapeCountBoolean;
 pub use overlay_base::segm::fault::Fault;
 pub use overlay_base::segm::segment::Segment;

@@ -1,7 +1,8 @@
 // Segments, their counts and fills, and their joins. Upstream: `segm`.
 
 pub use overlay_base::segm::{
-    arranged, boolean, fault, join, laws, merge, segment_fill, shape_type, sort, string, winding,
+    arranged, balance, boolean, fault, join, laws, merge, segment_fill, shape_type, sort, string,
+    winding,
 };
 
 /// A segment with its count and data, and the fills of its two sides.

@@ -16,9 +16,10 @@ type Side = Segment<ShapeCountBoolean, i32, ()>;
 
 type Ends = (IntPoint<i32>, IntPoint<i32>);
 
-/// The segments that bound what a subject and a clip share. `None` where a side is out of range.
+/// The segments that bound what a subject and a clip share. `None` where a side is out of range, or contours do
+/// not close.
 fn shared_part(alloc: Global, mut sides: Vec<Side>) -> Result<Option<Vec<Ends>>, Fault> {
-    if !is_splittable(&sides) {
+    if !is_splittable(&sides) || !is_balanced(alloc, &sides)? {
         return Ok(None);
     }
     let mut splitter = SplitSolver::new(alloc);
@@ -67,11 +68,14 @@ fn shared_part_as_a_program_finds_it(rt: HostRuntime) -> Result<(), Fail> {
         .map(|(a, b)| ((a.x, a.y), (b.x, b.y)))
         .collect(rt.alloc())?;
     assert_eq!(rt; found.as_slice(), wanted.as_slice());
-    let too_far = side((0, 0), (1_073_741_824, 0), ShapeType::Subject).expect(&rt, "two corners");
-    let mut sides = Vec::new(rt.alloc());
-    sides.push(too_far)?;
-    let ends = shared_part(rt.alloc(), sides).expect(&rt, "no refusal");
-    assert!(rt; ends.is_none());
+    let too_far = (1_073_741_824, 0);
+    let open = (4, 0);
+    for end in [too_far, open] {
+        let mut sides = Vec::new(rt.alloc());
+        sides.push(side((0, 0), end, ShapeType::Subject).expect(&rt, "two corners"))?;
+        let ends = shared_part(rt.alloc(), sides).expect(&rt, "no refusal");
+        assert!(rt; ends.is_none());
+    }
     Ok(())
 }
 
