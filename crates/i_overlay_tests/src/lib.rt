@@ -2,6 +2,8 @@
 #![tactic(auto)]
 
 #[cfg(test)]
+mod chain;
+#[cfg(test)]
 mod clip;
 #[cfg(test)]
 mod contours;
