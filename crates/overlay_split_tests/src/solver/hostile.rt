@@ -95,65 +95,32 @@ fn agreed<I: OverlayInt>(
     Ok(passes)
 }
 
-/// Splits at every precision, with one limit, and wants no more passes than these.
+/// Splits at every precision, with each limit, and wants no more passes than these.
 fn agreed_within<I: OverlayInt>(
     rt: &(impl Abort + AllocGlobal),
     given: &[Row],
-    limit: u32,
     most: u128,
 ) -> Result<(), Fail> {
     for precision in PRECISIONS {
-        assert!(rt; agreed::<I>(rt, given, precision, limit)? <= most);
+        for limit in [0, 1, 256] {
+            assert!(rt; agreed::<I>(rt, given, precision, limit)? <= most);
+        }
     }
     Ok(())
 }
 
 #[test]
-fn lines_through_one_point_settle_in_the_narrow_engine(rt: HostRuntime) -> Result<(), Fail> {
-    agreed_within::<i16>(&rt, &star(&rt)?, 0, MOST_PASSES_OF_THE_STAR)
+fn lines_through_one_point(rt: HostRuntime) -> Result<(), Fail> {
+    let given = star(&rt)?;
+    assert_eq!(rt; given.len(), 41);
+    agreed_within::<i16>(&rt, &given, MOST_PASSES_OF_THE_STAR)?;
+    agreed_within::<i32>(&rt, &given, MOST_PASSES_OF_THE_STAR)
 }
 
 #[test]
-fn lines_through_one_point_snap_once_in_the_narrow_engine(rt: HostRuntime) -> Result<(), Fail> {
-    agreed_within::<i16>(&rt, &star(&rt)?, 1, MOST_PASSES_OF_THE_STAR)
-}
-
-#[test]
-fn lines_through_one_point_snap_in_the_narrow_engine(rt: HostRuntime) -> Result<(), Fail> {
-    agreed_within::<i16>(&rt, &star(&rt)?, 256, MOST_PASSES_OF_THE_STAR)
-}
-
-#[test]
-fn lines_through_one_point_settle_in_the_wide_engine(rt: HostRuntime) -> Result<(), Fail> {
-    agreed_within::<i32>(&rt, &star(&rt)?, 0, MOST_PASSES_OF_THE_STAR)
-}
-
-#[test]
-fn lines_through_one_point_snap_once_in_the_wide_engine(rt: HostRuntime) -> Result<(), Fail> {
-    agreed_within::<i32>(&rt, &star(&rt)?, 1, MOST_PASSES_OF_THE_STAR)
-}
-
-#[test]
-fn lines_through_one_point_snap_in_the_wide_engine(rt: HostRuntime) -> Result<(), Fail> {
-    agreed_within::<i32>(&rt, &star(&rt)?, 256, MOST_PASSES_OF_THE_STAR)
-}
-
-#[test]
-fn segments_of_a_small_square_in_the_narrow_engine(rt: HostRuntime) -> Result<(), Fail> {
+fn segments_of_a_small_square(rt: HostRuntime) -> Result<(), Fail> {
     let given = small_square(&rt)?;
     assert_eq!(rt; given.len(), 300);
-    for limit in [0, 1, 256] {
-        agreed_within::<i16>(&rt, &given, limit, MOST_PASSES_OF_THE_SQUARE)?;
-    }
-    Ok(())
-}
-
-#[test]
-fn segments_of_a_small_square_in_the_wide_engine(rt: HostRuntime) -> Result<(), Fail> {
-    let given = small_square(&rt)?;
-    assert_eq!(rt; given.len(), 300);
-    for limit in [0, 1, 256] {
-        agreed_within::<i32>(&rt, &given, limit, MOST_PASSES_OF_THE_SQUARE)?;
-    }
-    Ok(())
+    agreed_within::<i16>(&rt, &given, MOST_PASSES_OF_THE_SQUARE)?;
+    agreed_within::<i32>(&rt, &given, MOST_PASSES_OF_THE_SQUARE)
 }
