@@ -88,168 +88,145 @@ const UNMARKED: Passed = Passed {
     has_marks: false,
 };
 
-fn snapping(radius_squared: i64) -> Placing
-    requires { pos 1 ≤ℤ radius_squared }
-    ensures { HasRadius result }
-{
-    Placing::Snapping { radius_squared }
-}
+/// A name, what is given, the squared radius of a pass that snaps, what it leaves, and what it tells. A pass without a
+/// radius settles.
+type Worked = (
+    &'static str,
+    &'static [[i32; 4]],
+    Option<i64>,
+    &'static [[i32; 5]],
+    Passed,
+);
 
-#[test]
-fn an_exact_crossing(rt: HostRuntime) {
-    let (list, passed) = once(
-        &rt,
-        rt.alloc(),
+const PASSES: [Worked; 10] = [
+    (
+        "an exact crossing",
         &[[-2, 0, 2, 0], [0, -2, 0, 2]],
-        snapping(1),
-    );
-    let four = [
-        [-2, 0, 0, 0, 1],
-        [0, -2, 0, 0, 1],
-        [0, 0, 0, 2, 1],
-        [0, 0, 2, 0, 1],
-    ];
-    assert_eq!(rt; list.as_slice(), four.as_slice());
-    assert_eq!(rt; passed, EXACT);
-}
-
-#[test]
-fn a_rounded_crossing_beyond_the_radius(rt: HostRuntime) {
-    let (list, passed) = once(&rt, rt.alloc(), &[[0, 0, 5, 5], [0, 3, 5, -2]], snapping(1));
-    let four = [
-        [0, 0, 2, 2, 1],
-        [0, 3, 2, 2, 1],
-        [2, 2, 5, -2, 1],
-        [2, 2, 5, 5, 1],
-    ];
-    assert_eq!(rt; list.as_slice(), four.as_slice());
-    assert_eq!(rt; passed, ROUNDED);
-}
-
-#[test]
-fn a_rounded_crossing_within_the_radius(rt: HostRuntime) {
-    let (list, passed) = once(&rt, rt.alloc(), &[[0, 0, 5, 5], [0, 3, 5, -2]], snapping(8));
-    let three = [[0, 0, 0, 3, 1], [0, 3, 5, -2, 1], [0, 3, 5, 5, 1]];
-    assert_eq!(rt; list.as_slice(), three.as_slice());
-    assert_eq!(rt; passed, ROUNDED);
-}
-
-#[test]
-fn a_piece_that_is_turned(rt: HostRuntime) {
-    let (list, passed) = once(
-        &rt,
-        rt.alloc(),
+        Some(1),
+        &[
+            [-2, 0, 0, 0, 1],
+            [0, -2, 0, 0, 1],
+            [0, 0, 0, 2, 1],
+            [0, 0, 2, 0, 1],
+        ],
+        EXACT,
+    ),
+    (
+        "a rounded crossing beyond the radius",
+        &[[0, 0, 5, 5], [0, 3, 5, -2]],
+        Some(1),
+        &[
+            [0, 0, 2, 2, 1],
+            [0, 3, 2, 2, 1],
+            [2, 2, 5, -2, 1],
+            [2, 2, 5, 5, 1],
+        ],
+        ROUNDED,
+    ),
+    (
+        "a rounded crossing within the radius",
+        &[[0, 0, 5, 5], [0, 3, 5, -2]],
+        Some(8),
+        &[[0, 0, 0, 3, 1], [0, 3, 5, -2, 1], [0, 3, 5, 5, 1]],
+        ROUNDED,
+    ),
+    (
+        "a piece that is turned",
         &[[0, 0, 100, 1], [1, -50, 1, 50]],
-        snapping(1),
-    );
-    let three = [[0, 0, 1, -50, -1], [0, 0, 1, 50, 1], [0, 0, 100, 1, 1]];
-    assert_eq!(rt; list.as_slice(), three.as_slice());
-    assert_eq!(rt; passed, ROUNDED);
-}
-
-#[test]
-fn a_crossing_that_settles(rt: HostRuntime) {
-    let (list, passed) = once(
-        &rt,
-        rt.alloc(),
+        Some(1),
+        &[[0, 0, 1, -50, -1], [0, 0, 1, 50, 1], [0, 0, 100, 1, 1]],
+        ROUNDED,
+    ),
+    (
+        "a crossing that settles",
         &[[0, 0, 100, 1], [1, -50, 1, 50]],
-        Placing::Settling,
-    );
-    let four = [
-        [0, 0, 1, 0, 1],
-        [1, -50, 1, 0, 1],
-        [1, 0, 1, 50, 1],
-        [1, 0, 100, 1, 1],
-    ];
-    assert_eq!(rt; list.as_slice(), four.as_slice());
-    assert_eq!(rt; passed, ROUNDED);
-}
-
-#[test]
-fn a_crossing_that_settles_on_an_end(rt: HostRuntime) {
-    let (list, passed) = once(
-        &rt,
-        rt.alloc(),
+        None,
+        &[
+            [0, 0, 1, 0, 1],
+            [1, -50, 1, 0, 1],
+            [1, 0, 1, 50, 1],
+            [1, 0, 100, 1, 1],
+        ],
+        ROUNDED,
+    ),
+    (
+        "a crossing that settles on an end",
         &[[0, -1, 1, 0], [0, 0, 1, -1]],
-        Placing::Settling,
-    );
-    let three = [[0, -1, 1, 0, 1], [0, 0, 1, 0, 1], [1, -1, 1, 0, -1]];
-    assert_eq!(rt; list.as_slice(), three.as_slice());
-    assert_eq!(rt; passed, ROUNDED);
-}
-
-#[test]
-fn halves_settle_upward(rt: HostRuntime) {
-    let (list, passed) = once(
-        &rt,
-        rt.alloc(),
+        None,
+        &[[0, -1, 1, 0, 1], [0, 0, 1, 0, 1], [1, -1, 1, 0, -1]],
+        ROUNDED,
+    ),
+    (
+        "halves settle upward",
         &[[-1, 1, 2, -2], [0, -1, 1, 0]],
-        Placing::Settling,
-    );
-    let three = [[-1, 1, 1, 0, 1], [0, -1, 1, 0, 1], [1, 0, 2, -2, 1]];
-    assert_eq!(rt; list.as_slice(), three.as_slice());
-    assert_eq!(rt; passed, ROUNDED);
-}
-
-#[test]
-fn an_overlap(rt: HostRuntime) {
-    let (list, passed) = once(
-        &rt,
-        rt.alloc(),
+        None,
+        &[[-1, 1, 1, 0, 1], [0, -1, 1, 0, 1], [1, 0, 2, -2, 1]],
+        ROUNDED,
+    ),
+    (
+        "an overlap",
         &[
             [0, 0, 100, 0],
             [80, 0, 150, 0],
             [0, 1000, 150, 1000],
             [0, 2000, 150, 2000],
         ],
-        snapping(1),
-    );
-    let five = [
-        [0, 0, 80, 0, 1],
-        [0, 1000, 150, 1000, 1],
-        [0, 2000, 150, 2000, 1],
-        [80, 0, 100, 0, 2],
-        [100, 0, 150, 0, 1],
-    ];
-    assert_eq!(rt; list.as_slice(), five.as_slice());
-    assert_eq!(rt; passed, EXACT);
-}
-
-#[test]
-fn a_touch(rt: HostRuntime) {
-    let (list, passed) = once(
-        &rt,
-        rt.alloc(),
+        Some(1),
+        &[
+            [0, 0, 80, 0, 1],
+            [0, 1000, 150, 1000, 1],
+            [0, 2000, 150, 2000, 1],
+            [80, 0, 100, 0, 2],
+            [100, 0, 150, 0, 1],
+        ],
+        EXACT,
+    ),
+    (
+        "a touch",
         &[
             [4, 0, 4, 6],
             [0, 3, 4, 3],
             [0, 100, 8, 100],
             [0, 102, 8, 102],
         ],
-        snapping(1),
-    );
-    let five = [
-        [0, 3, 4, 3, 1],
-        [0, 100, 8, 100, 1],
-        [0, 102, 8, 102, 1],
-        [4, 0, 4, 3, 1],
-        [4, 3, 4, 6, 1],
-    ];
-    assert_eq!(rt; list.as_slice(), five.as_slice());
-    assert_eq!(rt; passed, EXACT);
+        Some(1),
+        &[
+            [0, 3, 4, 3, 1],
+            [0, 100, 8, 100, 1],
+            [0, 102, 8, 102, 1],
+            [4, 0, 4, 3, 1],
+            [4, 3, 4, 6, 1],
+        ],
+        EXACT,
+    ),
+    (
+        "nothing to split",
+        &[[0, 0, 4, 0], [0, 1, 4, 1]],
+        None,
+        &[[0, 0, 4, 0, 1], [0, 1, 4, 1, 1]],
+        UNMARKED,
+    ),
+];
+
+fn placing(rt: &impl Abort, radius: Option<i64>) -> Placing
+    ensures { HasRadius result }
+{
+    match radius {
+        Some(radius_squared) => {
+            assert!(rt; 1 <= radius_squared);
+            Placing::Snapping { radius_squared }
+        }
+        None => Placing::Settling,
+    }
 }
 
 #[test]
-fn nothing_to_split(rt: HostRuntime) {
-    let (list, passed) = once(
-        &rt,
-        rt.alloc(),
-        &[[0, 0, 4, 0], [0, 1, 4, 1]],
-        Placing::Settling,
-    );
-    let two = [[0, 0, 4, 0, 1], [0, 1, 4, 1, 1]];
-    assert_eq!(rt; list.as_slice(), two.as_slice());
-    assert_eq!(rt; passed, UNMARKED);
+fn worked_passes(rt: HostRuntime) {
+    for (name, ends, radius, rows, told) in PASSES {
+        let (list, passed) = once(&rt, rt.alloc(), ends, placing(&rt, radius));
+        assert_eq!(rt; list.as_slice(), rows, "{name}");
+        assert_eq!(rt; passed, told, "{name}");
+    }
 }
 
 #[test]

@@ -44,22 +44,24 @@ const GREATEST: Precision = Precision {
     progression: usize::MAX,
 };
 
-/// The precision, the snap limit, what is given, the flag and the number of passes, and the list after the split.
+/// The precision, the snap limit, what is given, the flag, the number of passes, and the list after the split.
 const SPLITS: [(
     &str,
     Precision,
     u32,
     &[Row],
-    Result<(bool, u128), Fault>,
+    Result<bool, Fault>,
+    u128,
     &[Row],
 ); 23] = [
-    ("nothing", Precision::HIGH, 256, &[], Ok((false, 0)), &[]),
+    ("nothing", Precision::HIGH, 256, &[], Ok(false), 0, &[]),
     (
         "two that cancel",
         Precision::HIGH,
         256,
         &[((0, 0), (3, 1), 1), ((0, 0), (3, 1), -1)],
-        Ok((true, 0)),
+        Ok(true),
+        0,
         &[],
     ),
     (
@@ -67,7 +69,8 @@ const SPLITS: [(
         Precision::HIGH,
         256,
         &[((-2, 0), (2, 0), 1), ((0, -2), (0, 2), 1)],
-        Ok((true, 1)),
+        Ok(true),
+        1,
         &[
             ((-2, 0), (0, 0), 1),
             ((0, -2), (0, 0), 1),
@@ -80,7 +83,8 @@ const SPLITS: [(
         Precision::HIGH,
         256,
         &[((0, 0), (5, 5), 1), ((0, 3), (5, -2), 1)],
-        Ok((true, 2)),
+        Ok(true),
+        2,
         &[
             ((0, 0), (2, 2), 1),
             ((0, 3), (2, 2), 1),
@@ -93,7 +97,8 @@ const SPLITS: [(
         WIDE_START,
         256,
         &[((0, 0), (5, 5), 1), ((0, 3), (5, -2), 1)],
-        Ok((true, 2)),
+        Ok(true),
+        2,
         &[
             ((0, 0), (0, 3), 1),
             ((0, 3), (5, -2), 1),
@@ -105,7 +110,8 @@ const SPLITS: [(
         Precision::HIGH,
         0,
         &[((0, 0), (5, 5), 1), ((0, 3), (5, -2), 1)],
-        Ok((true, 2)),
+        Ok(true),
+        2,
         &[
             ((0, 0), (2, 2), 1),
             ((0, 3), (2, 2), 1),
@@ -118,7 +124,8 @@ const SPLITS: [(
         GREATEST,
         256,
         &[((0, 0), (5, 5), 1), ((0, 3), (5, -2), 1)],
-        Ok((true, 2)),
+        Ok(true),
+        2,
         &[
             ((0, 0), (0, 3), 1),
             ((0, 3), (5, -2), 1),
@@ -130,7 +137,8 @@ const SPLITS: [(
         Precision::HIGH,
         256,
         &[((0, 0), (100, 1), 1), ((1, -50), (1, 50), 1)],
-        Ok((true, 2)),
+        Ok(true),
+        2,
         &[
             ((0, 0), (1, -50), -1),
             ((0, 0), (1, 50), 1),
@@ -142,7 +150,8 @@ const SPLITS: [(
         Precision::HIGH,
         1,
         &[((0, 0), (100, 1), 1), ((1, -50), (1, 50), 1)],
-        Ok((true, 2)),
+        Ok(true),
+        2,
         &[
             ((0, 0), (1, -50), -1),
             ((0, 0), (1, 50), 1),
@@ -154,7 +163,8 @@ const SPLITS: [(
         Precision::HIGH,
         0,
         &[((0, 0), (100, 1), 1), ((1, -50), (1, 50), 1)],
-        Ok((true, 2)),
+        Ok(true),
+        2,
         &[
             ((0, 0), (1, 0), 1),
             ((1, -50), (1, 0), 1),
@@ -167,7 +177,8 @@ const SPLITS: [(
         Precision::HIGH,
         0,
         &[((0, -1), (1, 0), 1), ((0, 0), (1, -1), 1)],
-        Ok((true, 2)),
+        Ok(true),
+        2,
         &[
             ((0, -1), (1, 0), 1),
             ((0, 0), (1, 0), 1),
@@ -179,7 +190,8 @@ const SPLITS: [(
         Precision::HIGH,
         0,
         &[((-1, 1), (2, -2), 1), ((0, -1), (1, 0), 1)],
-        Ok((true, 2)),
+        Ok(true),
+        2,
         &[
             ((-1, 1), (1, 0), 1),
             ((0, -1), (1, 0), 1),
@@ -196,7 +208,8 @@ const SPLITS: [(
             ((0, 1000), (150, 1000), 1),
             ((0, 2000), (150, 2000), 1),
         ],
-        Ok((true, 1)),
+        Ok(true),
+        1,
         &[
             ((0, 0), (80, 0), 1),
             ((0, 1000), (150, 1000), 1),
@@ -215,7 +228,8 @@ const SPLITS: [(
             ((0, 100), (8, 100), 1),
             ((0, 102), (8, 102), 1),
         ],
-        Ok((true, 1)),
+        Ok(true),
+        1,
         &[
             ((0, 3), (4, 3), 1),
             ((0, 100), (8, 100), 1),
@@ -236,7 +250,8 @@ const SPLITS: [(
             ((0, 100), (8, 100), 1),
             ((0, 102), (8, 102), 1),
         ],
-        Ok((true, 1)),
+        Ok(true),
+        1,
         &[
             ((0, 1), (4, 1), 1),
             ((0, 100), (8, 100), 1),
@@ -260,7 +275,8 @@ const SPLITS: [(
             ((-11, 100), (-3, 100), 1),
             ((-11, 102), (-3, 102), 1),
         ],
-        Ok((true, 1)),
+        Ok(true),
+        1,
         &[
             ((-11, 1), (-7, 1), 1),
             ((-11, 100), (-3, 100), 1),
@@ -284,7 +300,8 @@ const SPLITS: [(
             ((7, 100), (15, 100), 1),
             ((7, 102), (15, 102), 1),
         ],
-        Ok((true, 1)),
+        Ok(true),
+        1,
         &[
             ((7, 1), (11, 1), 1),
             ((7, 100), (15, 100), 1),
@@ -302,6 +319,7 @@ const SPLITS: [(
         256,
         &[((0, 0), (4, 0), i32::MAX), ((0, 0), (4, 0), i32::MAX)],
         Err(Fault::CountOutOfRange),
+        0,
         &[],
     ),
     (
@@ -310,6 +328,7 @@ const SPLITS: [(
         256,
         &[((0, 0), (4, 0), i32::MAX), ((2, 0), (6, 0), 1)],
         Err(Fault::CountOutOfRange),
+        0,
         &[],
     ),
     (
@@ -317,7 +336,8 @@ const SPLITS: [(
         Precision::HIGH,
         256,
         &[((0, 0), (4, 0), i32::MAX), ((2, 0), (6, 0), -1)],
-        Ok((true, 1)),
+        Ok(true),
+        1,
         &[
             ((0, 0), (2, 0), i32::MAX),
             ((2, 0), (4, 0), i32::MAX - 1),
@@ -334,6 +354,7 @@ const SPLITS: [(
             ((0, 0), (4, 0), -i32::MAX),
         ],
         Err(Fault::CountOutOfRange),
+        0,
         &[],
     ),
     (
@@ -345,7 +366,8 @@ const SPLITS: [(
             ((0, 0), (4, 0), -i32::MAX),
             ((0, 0), (4, 0), i32::MAX),
         ],
-        Ok((true, 0)),
+        Ok(true),
+        0,
         &[((0, 0), (4, 0), i32::MAX)],
     ),
     (
@@ -353,7 +375,8 @@ const SPLITS: [(
         Precision::HIGH,
         256,
         &[((0, 0), (100, 1), 1), ((0, 1), (100, 0), 1)],
-        Ok((true, 2)),
+        Ok(true),
+        2,
         &[
             ((0, 0), (50, 1), 1),
             ((0, 1), (50, 1), 1),
@@ -395,22 +418,32 @@ fn segments<I: OverlayInt>(
     Ok(list)
 }
 
+/// What a split answers, the number of passes, and the list after it.
+type Told = (Result<bool, Fault>, u128, Vec<Row>);
+
+/// Splits with a new splitter. What is left is arranged, also after a refusal, where it is empty.
+fn split_rows<I: OverlayInt>(
+    rt: &(impl Abort + AllocGlobal),
+    given: &[Row],
+    solver: &Solver,
+    limit: u32,
+) -> Result<Told, Fail> {
+    let mut list: Vec<Segment<ShapeCountBoolean, I, ()>> = segments(rt, given)?;
+    let mut splitter = SplitSolver::with_snap_limit(rt.alloc(), limit);
+    assert!(rt; is_splittable(&list));
+    let flag = splitter.split_segments(&mut list, solver);
+    assert!(rt; is_arranged(&list));
+    let rows = list.iter().map(row).collect(rt.alloc())?;
+    Ok((flag, splitter.passes(), rows))
+}
+
 fn splits_with<I: OverlayInt>(rt: &(impl Abort + AllocGlobal)) -> Result<(), Fail> {
     for strategy in STRATEGIES {
-        for (name, precision, limit, given, answer, rows) in SPLITS {
-            let mut list: Vec<Segment<ShapeCountBoolean, I, ()>> = segments(rt, given)?;
+        for (name, precision, limit, given, flag, passes, rows) in SPLITS {
             let solver = Solver::with_strategy_and_precision(strategy, precision);
-            let mut splitter = SplitSolver::with_snap_limit(rt.alloc(), limit);
-            assert!(rt; is_splittable(&list), "{name}");
-            let flag = splitter.split_segments(&mut list, &solver);
-            assert_eq!(rt;
-                flag.map(|flag| (flag, splitter.passes())),
-                answer,
-                "{name}"
-            );
-            assert!(rt; is_arranged(&list), "{name}");
-            let after: Vec<Row> = list.iter().map(row).collect(rt.alloc())?;
-            assert_eq!(rt; after.as_slice(), rows, "{name}");
+            let told = split_rows::<I>(rt, given, &solver, limit)?;
+            assert_eq!(rt; (told.0, told.1), (flag, passes), "{name}");
+            assert_eq!(rt; told.2.as_slice(), rows, "{name}");
         }
     }
     Ok(())
@@ -429,20 +462,18 @@ fn slivers(
     limit: u32,
     solver: Solver,
 ) -> Result<(u128, usize), Fail> {
-    let mut list: Vec<Segment<ShapeCountBoolean, i16, ()>> = Vec::new(rt.alloc());
+    let mut rows = Vec::new(rt.alloc());
     assert!(rt; 1 <= factor && factor <= 14);
     for ((ax, ay), (bx, by)) in [
         ((282, 3), (1000, 0)),
         ((143, 2), (886, 1)),
         ((164, 2), (705, 1)),
     ] {
-        list.push(segment(rt, ((ax * factor, ay), (bx * factor, by), 1)))?;
+        rows.push(((ax * factor, ay), (bx * factor, by), 1))?;
     }
-    let mut splitter = SplitSolver::with_snap_limit(rt.alloc(), limit);
-    assert!(rt; is_splittable(&list));
-    assert_eq!(rt; splitter.split_segments(&mut list, &solver), Ok(true));
-    assert!(rt; is_arranged(&list));
-    Ok((splitter.passes(), list.len()))
+    let (flag, passes, after) = split_rows::<i16>(rt, &rows, &solver, limit)?;
+    assert_eq!(rt; flag, Ok(true));
+    Ok((passes, after.len()))
 }
 
 /// Segments on one pair of ends, some of them given from right to left: the counts of the one that is left.
@@ -655,24 +686,6 @@ fn colors_of_a_bent_line(rt: HostRuntime) -> Result<(), Fail> {
     Ok(())
 }
 
-/// Parallel lines whose boxes meet: more pairs of boxes than there are fragments, so that no tree does for them.
-#[test]
-fn parallel_lines(rt: HostRuntime) -> Result<(), Fail> {
-    for strategy in STRATEGIES {
-        let mut list: Vec<Segment<ShapeCountBoolean, i32, ()>> = Vec::new(rt.alloc());
-        for line in 0..200_u16 {
-            let y = 40 * i64::from(line);
-            list.push(segment(&rt, ((0, y), (4000, y + 4000), 1)))?;
-        }
-        let solver = Solver::with_strategy_and_precision(strategy, Precision::HIGH);
-        let mut splitter = SplitSolver::new(rt.alloc());
-        assert!(rt; is_splittable(&list));
-        assert_eq!(rt; splitter.split_segments(&mut list, &solver), Ok(false));
-        assert_eq!(rt; (splitter.passes(), list.len()), (1, 200));
-    }
-    Ok(())
-}
-
 #[test]
 fn slivers_need_many_passes(rt: HostRuntime) -> Result<(), Fail> {
     for strategy in STRATEGIES {
@@ -739,38 +752,4 @@ fn radii_stop_at_the_cap(rt: HostRuntime) {
         [8_388_608, 16_777_216, 16_777_216, 16_777_216]
     );
     assert_eq!(rt; radii(huge), [16_777_216; 4]);
-}
-
-/// 250 squares in a row, each of which overlaps the next, under a strategy: the segments after, and how many pairs were
-/// taken up.
-fn row_of_squares(
-    rt: &(impl Abort + AllocGlobal),
-    strategy: Strategy,
-) -> Result<(Vec<Row>, u128), Fail> {
-    let mut list: Vec<Segment<ShapeCountBoolean, i32, ()>> = Vec::new(rt.alloc());
-    for square in 0..250_u16 {
-        let left = i64::from(square) * 20;
-        let right = left + 30;
-        list.push(segment(rt, ((left, 0), (right, 0), 1)))?;
-        list.push(segment(rt, ((right, 0), (right, 30), 1)))?;
-        list.push(segment(rt, ((right, 30), (left, 30), 1)))?;
-        list.push(segment(rt, ((left, 30), (left, 0), 1)))?;
-    }
-    let solver = Solver::with_strategy_and_precision(strategy, Precision::HIGH);
-    let mut splitter = SplitSolver::new(rt.alloc());
-    assert!(rt; is_splittable(&list));
-    assert!(rt; splitter.split_segments(&mut list, &solver).is_ok());
-    let rows = list.iter().map(row).collect(rt.alloc())?;
-    Ok((rows, splitter.looked()))
-}
-
-/// All heights meet, so looked through upward every column would take up every two. From left to right it takes up
-/// those whose boxes meet, each in at most two columns.
-#[test]
-fn squares_in_a_row(rt: HostRuntime) -> Result<(), Fail> {
-    let (by_list, list_looked) = row_of_squares(&rt, Strategy::List)?;
-    let (by_grid, grid_looked) = row_of_squares(&rt, Strategy::Frag)?;
-    assert_eq!(rt; by_grid.as_slice(), by_list.as_slice());
-    assert!(rt; grid_looked / 2 <= list_looked);
-    Ok(())
 }

@@ -81,19 +81,11 @@ fn splits_far_out<I: OverlayInt>(
     for strategy in STRATEGIES {
         for limit in [256, 0] {
             for split in splits {
-                let mut list: Vec<Segment<ShapeCountBoolean, I, ()>> = segments(
-                    rt,
-                    split.given.as_slice(),
-                )?;
+                let name = split.name;
                 let solver = Solver::with_strategy_and_precision(strategy, Precision::HIGH);
-                let mut splitter = SplitSolver::with_snap_limit(rt.alloc(), limit);
-                assert!(rt; is_splittable(&list), "{}", split.name);
-                let flag = splitter.split_segments(&mut list, &solver);
-                assert_eq!(rt; flag, Ok(true), "{}", split.name);
-                assert_eq!(rt; splitter.passes(), 2, "{}", split.name);
-                assert!(rt; is_arranged(&list), "{}", split.name);
-                let after: Vec<Row> = list.iter().map(row).collect(rt.alloc())?;
-                assert_eq!(rt; after.as_slice(), split.after.as_slice(), "{}", split.name);
+                let told = split_rows::<I>(rt, split.given.as_slice(), &solver, limit)?;
+                assert_eq!(rt; (told.0, told.1), (Ok(true), 2), "{name}");
+                assert_eq!(rt; told.2.as_slice(), split.after.as_slice(), "{name}");
             }
         }
     }

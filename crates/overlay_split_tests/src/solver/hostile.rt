@@ -15,6 +15,9 @@ const PRECISIONS: [Precision; 6] = [
 /// where the first one settles.
 const MOST_PASSES_OF_THE_STAR: u128 = 82_759;
 
+/// The same of the small square.
+const MOST_PASSES_OF_THE_SQUARE: u128 = 701;
+
 /// Lines from x = -1000 to x = 999, all of them through (-1/2, 20).
 fn star(rt: &impl AllocGlobal) -> Result<Vec<Row>, Fail> {
     let mut rows = Vec::new(rt.alloc());
@@ -44,52 +47,32 @@ fn small_square(rt: &impl AllocGlobal) -> Result<Vec<Row>, Fail> {
     Ok(rows)
 }
 
-/// A split's flag, its number of passes, and the list after it.
-type Answer = (bool, u128, Vec<Row>);
-
-fn answer<I: OverlayInt>(
-    rt: &(impl Abort + AllocGlobal),
-    given: &[Row],
-    solver: Solver,
-    limit: u32,
-) -> Result<Answer, Fail> {
-    let mut list: Vec<Segment<ShapeCountBoolean, I, ()>> = segments(rt, given)?;
-    let mut splitter = SplitSolver::with_snap_limit(rt.alloc(), limit);
-    assert!(rt; is_splittable(&list));
-    let flag = splitter.split_segments(&mut list, &solver)?;
-    assert!(rt; is_arranged(&list));
-    let rows = list.iter().map(row).collect(rt.alloc())?;
-    Ok((flag, splitter.passes(), rows))
-}
-
-/// Adds to the counts at both ends of each row: so often its count at the first, and against it at the second.
-fn push_counts(counts: &mut Vec<((i64, i64), i64)>, rows: &[Row], sign: i64) -> Result<(), Fail> {
+/// The counts of the segments that start at a point, less those of the segments that end there.
+fn balance_at(rows: &[Row], point: (i64, i64)) -> i64 {
+    let mut balance: i64 = 0;
     for (a, b, subj) in rows {
-        let count = sign.wrapping_mul(i64::from(*subj));
-        counts.push((*a, count))?;
-        counts.push((*b, count.wrapping_neg()))?;
+        if *a == point {
+            balance = balance.wrapping_add(i64::from(*subj));
+        }
+        if *b == point {
+            balance = balance.wrapping_sub(i64::from(*subj));
+        }
     }
-    Ok(())
+    balance
 }
 
-/// Whether at every point the counts that start there, less those that end there, are in both lists the same.
-fn is_balance_kept(rt: &impl AllocGlobal, before: &[Row], after: &[Row]) -> Result<bool, Fail> {
-    let mut counts = Vec::new(rt.alloc());
-    push_counts(&mut counts, before, 1)?;
-    push_counts(&mut counts, after, -1)?;
-    counts.sort()?;
-    let mut point = (0, 0);
-    let mut sum: i64 = 0;
-    for (next, count) in &counts {
-        if *next != point {
-            if sum != 0 {
-                return Ok(false);
+/// Whether each point of both lists has in both the same balance.
+fn is_balance_kept(before: &[Row], after: &[Row]) -> bool {
+    for rows in [before, after] {
+        for (a, b, _) in rows {
+            for point in [*a, *b] {
+                if balance_at(before, point) != balance_at(after, point) {
+                    return false;
+                }
             }
-            point = *next;
         }
-        sum = sum.wrapping_add(*count);
     }
-    Ok(sum == 0)
+    true
 }
 
 /// Splits under every strategy in one engine, and wants one answer that keeps each point's balance.
@@ -98,54 +81,46 @@ fn agreed<I: OverlayInt>(
     given: &[Row],
     precision: Precision,
     limit: u32,
-) -> Result<Answer, Fail> {
-    let by_list = answer::<I>(rt, given, Solver::with_precision(precision), limit)?;
-    for strategy in STRATEGIES {
+) -> Result<u128, Fail> {
+    let list = Solver::with_strategy_and_precision(Strategy::List, precision);
+    let (flag, passes, rows) = split_rows::<I>(rt, given, &list, limit)?;
+    assert_eq!(rt; flag, Ok(true));
+    assert!(rt; is_balance_kept(given, &rows));
+    for strategy in [Strategy::Tree, Strategy::Frag, Strategy::Auto] {
         let solver = Solver::with_strategy_and_precision(strategy, precision);
-        let (flag, passes, rows) = answer::<I>(rt, given, solver, limit)?;
-        assert_eq!(rt; (flag, passes), (by_list.0, by_list.1));
-        assert!(rt; rows.as_slice() == by_list.2.as_slice());
+        let told = split_rows::<I>(rt, given, &solver, limit)?;
+        assert_eq!(rt; (told.0, told.1), (flag, passes));
+        assert!(rt; told.2.as_slice() == rows.as_slice());
     }
-    assert!(rt; is_balance_kept(rt, given, &by_list.2)?);
-    Ok(by_list)
+    Ok(passes)
 }
 
-/// Splits at every precision, with every limit, and answers the greatest number of passes.
-fn most_passes<I: OverlayInt>(
+/// Splits at every precision, with each limit, and wants no more passes than these.
+fn agreed_within<I: OverlayInt>(
     rt: &(impl Abort + AllocGlobal),
     given: &[Row],
-) -> Result<u128, Fail> {
-    let mut most = 0;
+    most: u128,
+) -> Result<(), Fail> {
     for precision in PRECISIONS {
         for limit in [0, 1, 256] {
-            let (_, passes, _) = agreed::<I>(rt, given, precision, limit)?;
-            most = passes.max(most);
+            assert!(rt; agreed::<I>(rt, given, precision, limit)? <= most);
         }
     }
-    Ok(most)
+    Ok(())
 }
 
 #[test]
 fn lines_through_one_point(rt: HostRuntime) -> Result<(), Fail> {
     let given = star(&rt)?;
     assert_eq!(rt; given.len(), 41);
-    assert!(rt; most_passes::<i16>(&rt, &given)? <= MOST_PASSES_OF_THE_STAR);
-    assert!(rt; most_passes::<i32>(&rt, &given)? <= MOST_PASSES_OF_THE_STAR);
-    Ok(())
+    agreed_within::<i16>(&rt, &given, MOST_PASSES_OF_THE_STAR)?;
+    agreed_within::<i32>(&rt, &given, MOST_PASSES_OF_THE_STAR)
 }
 
 #[test]
-fn segments_of_a_small_square_in_the_narrow_engine(rt: HostRuntime) -> Result<(), Fail> {
+fn segments_of_a_small_square(rt: HostRuntime) -> Result<(), Fail> {
     let given = small_square(&rt)?;
     assert_eq!(rt; given.len(), 300);
-    most_passes::<i16>(&rt, &given)?;
-    Ok(())
-}
-
-#[test]
-fn segments_of_a_small_square_in_the_wide_engine(rt: HostRuntime) -> Result<(), Fail> {
-    let given = small_square(&rt)?;
-    assert_eq!(rt; given.len(), 300);
-    most_passes::<i32>(&rt, &given)?;
-    Ok(())
+    agreed_within::<i16>(&rt, &given, MOST_PASSES_OF_THE_SQUARE)?;
+    agreed_within::<i32>(&rt, &given, MOST_PASSES_OF_THE_SQUARE)
 }

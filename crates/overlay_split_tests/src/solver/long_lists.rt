@@ -65,13 +65,13 @@ fn long_lines(rt: &(impl Abort + AllocGlobal)) -> Result<Vec<Row>, Fail> {
 }
 
 /// What a split tells: the flag, the number of passes, and how many pairs were taken up.
-type Told = (bool, u128, u128);
+type Looked = (bool, u128, u128);
 
 fn split(
     rt: &(impl Abort + AllocGlobal),
     strategy: Strategy,
     given: &[Row],
-) -> Result<(Vec<Row>, Told), Fail> {
+) -> Result<(Vec<Row>, Looked), Fail> {
     let mut list: Vec<Segment<ShapeCountBoolean, i32, ()>> = segments(rt, given)?;
     let solver = Solver::with_strategy_and_precision(strategy, Precision::HIGH);
     let mut splitter = SplitSolver::new(rt.alloc());
@@ -214,5 +214,42 @@ fn one_segment_far_away(rt: HostRuntime) -> Result<(), Fail> {
     assert_eq!(rt; split.told, (false, 1));
     let [tree, grid, _] = split.looked;
     assert!(rt; tree <= 2001 && grid <= 2001);
+    Ok(())
+}
+
+/// Parallel lines whose boxes meet: more pairs of boxes than there are fragments, so that no tree does for them.
+#[test]
+fn parallel_lines(rt: HostRuntime) -> Result<(), Fail> {
+    let mut given = Vec::new(rt.alloc());
+    for line in 0..200_u16 {
+        let y = 40 * i64::from(line);
+        given.push(((0, y), (4000, y + 4000), 1))?;
+    }
+    let split = split_alike(&rt, &given)?;
+    assert_eq!(rt; (split.rows.len(), split.told), (200, (false, 1)));
+    Ok(())
+}
+
+/// Squares in a row, each of which overlaps the next.
+fn squares(rt: &(impl Abort + AllocGlobal), count: u16) -> Result<Vec<Row>, Fail> {
+    let mut rows = Vec::new(rt.alloc());
+    for square in 0..count {
+        let left = i64::from(square) * 20;
+        let right = left + 30;
+        rows.push(((left, 0), (right, 0), 1))?;
+        rows.push(((right, 0), (right, 30), 1))?;
+        rows.push(((right, 30), (left, 30), 1))?;
+        rows.push(((left, 30), (left, 0), 1))?;
+    }
+    Ok(rows)
+}
+
+/// All heights meet, so looked through upward every column would take up every two. From left to right it takes up
+/// those whose boxes meet, each in at most two columns.
+#[test]
+fn squares_in_a_row(rt: HostRuntime) -> Result<(), Fail> {
+    let split = split_alike(&rt, &squares(&rt, 250)?)?;
+    let [_, grid, _] = split.looked;
+    assert!(rt; grid / 2 <= split.listed);
     Ok(())
 }
