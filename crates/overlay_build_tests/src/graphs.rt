@@ -8,6 +8,7 @@ use crate::worked_lines::{Line, STRATEGIES, greatest_counts, line, two_squares};
 use overlay_base::overlay_core::extract::VisitState;
 use overlay_base::overlay_core::fill_rule::FillRule;
 use overlay_base::overlay_core::overlay_rule::OverlayRule;
+use overlay_base::overlay_core::rule_table::RuleTable;
 use overlay_base::overlay_core::solver::Solver;
 use overlay_base::segm::boolean::ShapeCountBoolean;
 use overlay_base::segm::fault::Fault;
@@ -18,15 +19,15 @@ use std::process::Abort;
 
 type Builder = GraphBuilder<ShapeCountBoolean, OverlayNode, i32, ()>;
 
-/// What each rule keeps of the twelve segments of two squares, the first of them as the lowest bit.
-const KEPT: [(OverlayRule, u16); 7] = [
-    (OverlayRule::Subject, 0b0011_0100_0111),
-    (OverlayRule::Clip, 0b1100_1011_1000),
-    (OverlayRule::Intersect, 0b0010_0101_1000),
-    (OverlayRule::Union, 0b1101_1010_0111),
-    (OverlayRule::Difference, 0b0001_0001_1111),
-    (OverlayRule::InverseDifference, 0b1110_1110_0000),
-    (OverlayRule::Xor, 0b1111_1111_1111),
+/// Each rule, its table, and what both keep of the twelve segments of two squares, the first of them as the lowest bit.
+const KEPT: [(OverlayRule, u8, u16); 7] = [
+    (OverlayRule::Subject, 10, 0b0011_0100_0111),
+    (OverlayRule::Clip, 12, 0b1100_1011_1000),
+    (OverlayRule::Intersect, 8, 0b0010_0101_1000),
+    (OverlayRule::Union, 14, 0b1101_1010_0111),
+    (OverlayRule::Difference, 2, 0b0001_0001_1111),
+    (OverlayRule::InverseDifference, 4, 0b1110_1110_0000),
+    (OverlayRule::Xor, 6, 0b1111_1111_1111),
 ];
 
 const FILL_RULES: [FillRule; 4] = [
@@ -73,6 +74,15 @@ fn two_squares_cross_at_two_nodes(rt: HostRuntime) {
     }
 }
 
+/// How many states there are, and which of them are unvisited, the first as the lowest bit.
+fn unvisited(states: &[VisitState]) -> (usize, u16) {
+    let mut found = 0;
+    for state in states.iter().rev() {
+        found = found << 1 | u16::from(*state == VisitState::Unvisited);
+    }
+    (states.len(), found)
+}
+
 #[test]
 fn each_rule_visits_the_links_that_it_keeps(rt: HostRuntime) {
     let mut builder = Builder::new(rt.alloc());
@@ -80,13 +90,11 @@ fn each_rule_visits_the_links_that_it_keeps(rt: HostRuntime) {
         .build_boolean_all(FillRule::NonZero, &Solver::LIST, &two_squares())
         .expect(&rt, "no refusal");
     let mut states = Vec::new(rt.alloc());
-    for (rule, kept) in KEPT {
-        filter_by_overlay_into(graph.links(), rule, &mut states).expect(&rt, "memory");
-        assert_eq!(rt; states.len(), 12);
-        let mut rest = kept;
-        for state in &states {
-            assert_eq!(rt; *state == VisitState::Unvisited, rest & 1 == 1);
-            rest >>= 1;
+    for (rule, bits, kept) in KEPT {
+        let table = RuleTable::new(bits).expect(&rt, "a table");
+        for rule in [rule, OverlayRule::Table(table)] {
+            filter_by_overlay_into(graph.links(), rule, &mut states).expect(&rt, "memory");
+            assert_eq!(rt; unvisited(&states), (12, kept), "{rule}");
         }
     }
 }

@@ -5,14 +5,18 @@ ghost use Rattle.overlay_base.specs.Planar.{is_arranged};
 ghost use Rattle.overlay_base.specs.SegmentOf.{segments_of};
 
 use crate::graphs::{lone_line, no_lines};
-use crate::worked_lines::{Line, two_squares};
+use crate::worked_lines::{Line, STRATEGIES, two_squares};
 use overlay_base::overlay_core::fill_rule::FillRule;
 use overlay_base::overlay_core::overlay_rule::OverlayRule;
 use overlay_base::overlay_core::solver::Solver;
+use overlay_base::segm::arranged::is_arranged;
 use overlay_base::segm::boolean::ShapeCountBoolean;
+use overlay_base::segm::segment::Segment;
+use overlay_base::segm::winding::WindingCount;
 use overlay_build::build::builder::GraphBuilder;
 use overlay_build::build::graph_node::OverlayNode;
 use overlay_build::build::walks::closed_walks;
+use overlay_geometry::geom::point::IntPoint;
 use std::alloc::Global;
 use std::process::Abort;
 
@@ -66,4 +70,120 @@ fn a_line_alone_has_uneven_nodes(rt: HostRuntime) {
         .build_boolean_all(FillRule::NonZero, &Solver::LIST, &lone_line())
         .expect(&rt, "no refusal");
     assert!(rt; !graph.has_even_nodes());
+}
+
+/// Four triangles with one corner in common, run counterclockwise, in order of their smaller ends.
+const FOUR_TRIANGLES: [((i32, i32), (i32, i32)); 12] = [
+    ((-4, 1), (-4, -1)),
+    ((-4, -1), (0, 0)),
+    ((0, 0), (-4, 1)),
+    ((0, 0), (-1, -4)),
+    ((-1, -4), (1, -4)),
+    ((-1, 4), (0, 0)),
+    ((1, 4), (-1, 4)),
+    ((1, -4), (0, 0)),
+    ((0, 0), (1, 4)),
+    ((0, 0), (4, -1)),
+    ((4, 1), (0, 0)),
+    ((4, -1), (4, 1)),
+];
+
+/// The counts of each side, and the rules that keep every side then. The other rules keep none.
+const KEEP_ALL: [(i32, i32, [OverlayRule; 4]); 3] = [
+    (
+        1,
+        0,
+        [
+            OverlayRule::Subject,
+            OverlayRule::Union,
+            OverlayRule::Difference,
+            OverlayRule::Xor,
+        ],
+    ),
+    (
+        0,
+        1,
+        [
+            OverlayRule::Clip,
+            OverlayRule::Union,
+            OverlayRule::InverseDifference,
+            OverlayRule::Xor,
+        ],
+    ),
+    (
+        1,
+        1,
+        [
+            OverlayRule::Subject,
+            OverlayRule::Clip,
+            OverlayRule::Intersect,
+            OverlayRule::Union,
+        ],
+    ),
+];
+
+const RULES: [OverlayRule; 7] = [
+    OverlayRule::Subject,
+    OverlayRule::Clip,
+    OverlayRule::Intersect,
+    OverlayRule::Union,
+    OverlayRule::Difference,
+    OverlayRule::InverseDifference,
+    OverlayRule::Xor,
+];
+
+fn four_triangles(rt: &impl Abort, alloc: Global, subj: i32, clip: i32) -> Vec<Line> {
+    let mut lines = Vec::new(alloc);
+    let count = ShapeCountBoolean { subj, clip };
+    for ((ax, ay), (bx, by)) in FOUR_TRIANGLES {
+        let (a, b) = (IntPoint::new(ax, ay), IntPoint::new(bx, by));
+        assert!(rt; a != b && count.is_valid());
+        let side = Segment::create_and_validate_with_data(a, b, count, (), &mut ());
+        lines.push(side).expect(rt, "memory");
+    }
+    lines
+}
+
+/// How often each link stands in the walks, where there are as many links as sides.
+fn times_walked(rt: &impl Abort, walks: &[Vec<usize>]) -> [u32; 12] {
+    let mut times = [0_u32; 12];
+    for walk in walks {
+        assert!(rt; walk.len() >= 3);
+        for link in walk {
+            let time = times.get_mut(*link).expect(rt, "a link");
+            *time = time.saturating_add(1);
+        }
+    }
+    times
+}
+
+#[test]
+fn walks_pass_a_node_of_eight_links(rt: HostRuntime) {
+    for (subj, clip, keep_all) in KEEP_ALL {
+        let lines = four_triangles(&rt, rt.alloc(), subj, clip);
+        assert!(rt; is_arranged(&lines));
+        for rule in RULES {
+            let walks = walks_of(&rt, rt.alloc(), rule, &lines);
+            let times = if keep_all.contains(&rule) {
+                [1; 12]
+            } else {
+                [0; 12]
+            };
+            assert_eq!(rt; times_walked(&rt, &walks), times, "{rule}");
+        }
+    }
+}
+
+#[test]
+fn eight_links_meet_at_the_common_corner(rt: HostRuntime) {
+    let lines = four_triangles(&rt, rt.alloc(), 1, 1);
+    assert!(rt; is_arranged(&lines));
+    let mut builder = Builder::new(rt.alloc());
+    for solver in STRATEGIES {
+        let graph = builder
+            .build_boolean_overlay(FillRule::NonZero, OverlayRule::Union, &solver, &lines)
+            .expect(&rt, "no refusal");
+        let degrees = graph.nodes().iter().map(|node| node.indices().len());
+        assert_eq!(rt; degrees.max(), Some(8));
+    }
 }
