@@ -1,6 +1,7 @@
 // Graphs of an arrangement, and what is asked of them.
 use crate::case::{Case, Stop, Summary, mixed, mixed_index, mixed_point, refused};
 use crate::shapes::{Shape, sides};
+use i_overlay::build::boundary::directed_segments;
 use i_overlay::build::builder::GraphBuilder;
 use i_overlay::build::walks::closed_walks;
 use i_overlay::geom::point::IntPoint;
@@ -13,6 +14,7 @@ use i_overlay::overlay_core::solver::Solver;
 use i_overlay::segm::arranged::{is_arranged, is_splittable};
 use i_overlay::segm::boolean::ShapeCountBoolean;
 use i_overlay::segm::segment::Segment;
+use i_overlay::segm::shape_type::ShapeType;
 use i_overlay::segm::string::ShapeCountString;
 use i_overlay::segm::winding::WindingCount;
 use i_overlay::split::solver::SplitSolver;
@@ -271,6 +273,48 @@ impl Case for Walks {
                 ))
             }
         }
+    }
+}
+
+/// The boundary of a rule's region, as segments of one shape.
+#[derive(Drop)]
+pub struct Boundary {
+    builder: Builder,
+}
+
+impl Boundary {
+    /// The boundary of what a new builder builds.
+    pub fn new(alloc: Global) -> Boundary {
+        Boundary {
+            builder: Builder::new(alloc),
+        }
+    }
+}
+
+impl Case for Boundary {
+    fn try_once(&mut self, alloc: Global) -> Result<Summary, Stop> {
+        let squares: Vec<Segment<ShapeCountBoolean, i32, ()>> = arrangement(Shape::Squares, alloc)?;
+        if !is_arranged(&squares) {
+            return Err(Stop::Wrong("the split is no arrangement"));
+        }
+        let graph = self.builder.build_boolean_overlay(
+            FillRule::NonZero,
+            OverlayRule::Xor,
+            &Solver::LIST,
+            &squares,
+        )?;
+        let sides = directed_segments(alloc, &graph, OverlayRule::Xor, ShapeType::Subject)?;
+        let mut digest = 0;
+        for side in sides.iter() {
+            let ends = side.x_segment();
+            digest = mixed_point(mixed_point(digest, ends.a), ends.b);
+            digest = mixed(digest, side.count().subj);
+        }
+        Ok(Summary {
+            count: sides.len(),
+            others: 0,
+            digest,
+        })
     }
 }
 

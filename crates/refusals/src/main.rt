@@ -15,7 +15,7 @@ mod wholes;
 
 use crate::case::{Case, Stop};
 use crate::fragments::Fragments;
-use crate::graphs::{Build, Filter, Kind, Loops, Walks};
+use crate::graphs::{Boundary, Build, Filter, Kind, Loops, Walks};
 use crate::lists::{Join, Sort, Split};
 use crate::sweeps::Sweep;
 use crate::wholes::{Contours, LineClip, Overlay};
@@ -66,6 +66,14 @@ fn tell_all<W: Write, E: Write>(alloc: Global, output: &mut W, digests: &mut E) 
         digests,
     )?;
     tell("walks", "", &mut Walks::new(alloc), alloc, output, digests)?;
+    tell(
+        "boundary",
+        "",
+        &mut Boundary::new(alloc),
+        alloc,
+        output,
+        digests,
+    )?;
     tell("contours", "", &mut Contours {}, alloc, output, digests)?;
     for (name, solver) in SOLVERS {
         tell(
