@@ -4,6 +4,7 @@ use crate::hooks::{Calls, Tag};
 use crate::shapes::{Shape, sides};
 use i_overlay::overlay_core::solver::Solver;
 use i_overlay::segm::arranged::is_splittable;
+use i_overlay::segm::balance::is_balanced;
 use i_overlay::segm::boolean::ShapeCountBoolean;
 use i_overlay::segm::join::join_with_store;
 use i_overlay::segm::segment::Segment;
@@ -50,6 +51,24 @@ impl Case for Join {
                 digest: digest_of(list.as_slice()),
             }),
             Err(fault) => Err(refused(fault, list.is_empty() && store == Calls::given())),
+        }
+    }
+}
+
+/// A test of balance, of squares. It writes to no list.
+#[derive(Drop)]
+pub struct Balance {}
+
+impl Case for Balance {
+    fn try_once(&mut self, alloc: Global) -> Result<Summary, Stop> {
+        let list: Vec<Side> = sides(Shape::Squares, Tag, &mut Calls::given(), alloc)?;
+        match is_balanced(alloc, &list) {
+            Ok(balanced) => Ok(Summary {
+                count: list.len(),
+                others: if balanced { 1 } else { 0 },
+                digest: digest_of(list.as_slice()),
+            }),
+            Err(fault) => Err(refused(fault, true)),
         }
     }
 }

@@ -16,7 +16,7 @@ mod wholes;
 use crate::case::{Case, Stop};
 use crate::fragments::Fragments;
 use crate::graphs::{Boundary, Build, Filter, Kind, Loops, Walks};
-use crate::lists::{Join, Sort, Split};
+use crate::lists::{Balance, Join, Sort, Split};
 use crate::sweeps::Sweep;
 use crate::wholes::{Contours, LineClip, Overlay};
 use i_overlay::overlay_core::solver::Solver;
@@ -55,6 +55,7 @@ fn main(rt: HostRuntime) -> ExitCode {
 fn tell_all<W: Write, E: Write>(alloc: Global, output: &mut W, digests: &mut E) -> io::Result<()> {
     tell("sort", "", &mut Sort {}, alloc, output, digests)?;
     tell("join", "", &mut Join {}, alloc, output, digests)?;
+    tell("balance", "", &mut Balance {}, alloc, output, digests)?;
     tell("fragments", "", &mut Fragments {}, alloc, output, digests)?;
     tell("loops", "", &mut Loops::new(alloc), alloc, output, digests)?;
     tell(
