@@ -916,10 +916,11 @@ fn no_words(rt: HostRuntime) -> Result<(), Fail> {
     Ok(())
 }
 
-/// Gives its bytes one at a time, and then fails.
+/// Gives its bytes one at a time, and then fails with an error of this kind.
 #[derive(Drop)]
 struct FailsAtEnd {
     bytes: &'static [u8],
+    kind: ErrorKind,
 }
 
 impl Read for FailsAtEnd {
@@ -927,10 +928,7 @@ impl Read for FailsAtEnd {
         if buf.is_empty() {
             return Ok(0);
         }
-        let (first, rest) = self
-            .bytes
-            .split_first()
-            .ok_or(io::Error::from(ErrorKind::Other))?;
+        let (first, rest) = self.bytes.split_first().ok_or(io::Error::from(self.kind))?;
         buf[0] = *first;
         self.bytes = rest;
         Ok(1)
@@ -974,21 +972,25 @@ impl Write for FailsToFlush {
     }
 }
 
+/// How the input fails, the exit status, and what is written to the faults.
+const INPUT_FAULTS: [(ErrorKind, u8, &str); 2] = [
+    (ErrorKind::Other, 5, "input failed\n"),
+    (ErrorKind::OutOfMemory, 4, "out of memory\n"),
+];
+
 fn check_failed_input<H: Abort + AllocGlobal>(
     rt: &H,
     bytes: &'static [u8],
 ) -> Result<(), AllocError> {
-    let mut input = FailsAtEnd { bytes };
-    let mut output = Vec::new(rt.alloc());
-    let mut faults = Vec::new(rt.alloc());
-    let answer = run_words(rt.alloc(), "join", &mut input, &mut output, &mut faults)?;
-    assert_eq!(rt; answer, 5, "{bytes:?}");
-    assert_eq!(rt; output.as_slice(), b"".as_slice(), "{bytes:?}");
-    assert_eq!(rt;
-        faults.as_slice(),
-        b"input failed\n".as_slice(),
-        "{bytes:?}"
-    );
+    for (kind, status, fault) in INPUT_FAULTS {
+        let mut input = FailsAtEnd { bytes, kind };
+        let mut output = Vec::new(rt.alloc());
+        let mut faults = Vec::new(rt.alloc());
+        let answer = run_words(rt.alloc(), "join", &mut input, &mut output, &mut faults)?;
+        assert_eq!(rt; answer, status, "{bytes:?}");
+        assert_eq!(rt; output.as_slice(), b"".as_slice(), "{bytes:?}");
+        assert_eq!(rt; faults.as_slice(), fault.as_bytes(), "{bytes:?}");
+    }
     Ok(())
 }
 
