@@ -1,0 +1,163 @@
+//! The same random segments through this package and through the program `arrange`: the texts are the same, byte for byte.
+//!
+//! `ARRANGE` names the program; `rt run` leaves it in `crates/arrange/out`.
+
+use i_overlay_core::{
+    FillRule, IntPoint, Overlay, OverlayNode, OverlayRule, Precision, Segment, ShapeType, Solver, Strategy,
+};
+use std::fmt::Write as _;
+use std::io::Write as _;
+use std::process::{Command, Stdio};
+
+const STRATEGIES: [(&str, Strategy); 4] =
+    [("list", Strategy::List), ("tree", Strategy::Tree), ("frag", Strategy::Frag), ("auto", Strategy::Auto)];
+
+const PRECISIONS: [(&str, Precision); 6] = [
+    ("absolute", Precision::ABSOLUTE),
+    ("high", Precision::HIGH),
+    ("medium-high", Precision::MEDIUM_HIGH),
+    ("medium", Precision::MEDIUM),
+    ("medium-low", Precision::MEDIUM_LOW),
+    ("low", Precision::LOW),
+];
+
+const FILLS: [(&str, FillRule); 4] = [
+    ("evenodd", FillRule::EvenOdd),
+    ("nonzero", FillRule::NonZero),
+    ("positive", FillRule::Positive),
+    ("negative", FillRule::Negative),
+];
+
+const RULES: [(&str, OverlayRule); 7] = [
+    ("subject", OverlayRule::Subject),
+    ("clip", OverlayRule::Clip),
+    ("intersect", OverlayRule::Intersect),
+    ("union", OverlayRule::Union),
+    ("difference", OverlayRule::Difference),
+    ("inverse-difference", OverlayRule::InverseDifference),
+    ("xor", OverlayRule::Xor),
+];
+
+/// What the program prints of the given lines.
+fn printed(words: &[String], lines: &str) -> String {
+    let program = std::env::var("ARRANGE").expect("ARRANGE names the program");
+    let mut child = Command::new(program)
+        .args(words)
+        .stdin(Stdio::piped())
+        .stdout(Stdio::piped())
+        .spawn()
+        .expect("the program starts");
+    child.stdin.take().expect("piped").write_all(lines.as_bytes()).expect("the program reads");
+    let output = child.wait_with_output().expect("the program ends");
+    assert!(output.status.success(), "{words:?}: {}", output.status);
+    String::from_utf8(output.stdout).expect("text")
+}
+
+/// The lines that the program reads.
+fn lines_of(segments: &[Segment]) -> String {
+    segments.iter().fold(String::new(), |mut text, Segment { a, b, count }| {
+        let letter = if count.subj == 1 { 'S' } else { 'C' };
+        writeln!(text, "{letter} {} {} {} {}", a.x, a.y, b.x, b.y).expect("text");
+        text
+    })
+}
+
+/// The arrangement as `split` prints it.
+fn split_text(overlay: &mut Overlay, segments: &[Segment], solver: Solver) -> String {
+    let change = overlay.split(segments, solver).unwrap();
+    let mut text = String::new();
+    for Segment { a, b, count } in overlay.segments() {
+        writeln!(text, "seg {} {} {} {} {} {}", a.x, a.y, b.x, b.y, count.subj, count.clip).expect("text");
+    }
+    writeln!(text, "flag {}", change.has_changed).expect("text");
+    writeln!(text, "passes {}", change.passes).expect("text");
+    text
+}
+
+/// The graph as `graph` prints it.
+fn graph_text(
+    overlay: &mut Overlay,
+    segments: &[Segment],
+    fill: FillRule,
+    rule: OverlayRule,
+    solver: Solver,
+) -> String {
+    let graph = overlay.build_graph_with_solver(segments, fill, rule, solver).unwrap();
+    let mut text = String::new();
+    let mut points = vec![IntPoint::ZERO; graph.node_count()];
+    for link in graph.links() {
+        let ((a, b), fill) = ((link.a, link.b), link.fill);
+        let ends = format!("{} {} {} {}", a.point.x, a.point.y, b.point.x, b.point.y);
+        writeln!(text, "link {ends} {fill} {} {}", a.id, b.id).expect("text");
+        (points[a.id], points[b.id]) = (a.point, b.point);
+    }
+    let (mut crosses, mut is_valid) = (0, true);
+    for (point, node) in points.iter().zip(graph.nodes()) {
+        let (kind, indexes) = match &node {
+            OverlayNode::Bridge(two) => ("bridge", two.as_slice()),
+            OverlayNode::Cross(several) => {
+                crosses += 1;
+                is_valid &= several.len() >= 2;
+                ("cross", *several)
+            }
+        };
+        write!(text, "node {} {} {kind}", point.x, point.y).expect("text");
+        indexes.iter().for_each(|index| write!(text, " {index}").expect("text"));
+        text.push('\n');
+    }
+    is_valid &= crosses == 0 || graph.node_count() <= graph.links().len();
+    writeln!(text, "valid {is_valid}").expect("text");
+    text
+}
+
+/// A linear congruential generator.
+struct Random(u64);
+
+impl Random {
+    fn below(&mut self, bound: i32) -> i32 {
+        self.0 = self.0.wrapping_mul(6_364_136_223_846_793_005).wrapping_add(1_442_695_040_888_963_407);
+        ((self.0 >> 33) % bound as u64) as i32
+    }
+
+    fn pick<'a, T>(&mut self, from: &'a [T]) -> &'a T {
+        &from[self.below(from.len() as i32) as usize]
+    }
+
+    /// A contour of each shape, in a square of the given width round the origin.
+    fn contours(&mut self, width: i32) -> Vec<Segment> {
+        let mut segments = Vec::new();
+        for shape in [ShapeType::Subject, ShapeType::Clip] {
+            let corner = |random: &mut Random| random.below(width) - width / 2;
+            let size = 3 + self.below(60);
+            let contour: Vec<IntPoint> = (0..size).map(|_| IntPoint::new(corner(self), corner(self))).collect();
+            shape.push_contour(&contour, &mut segments);
+        }
+        segments
+    }
+}
+
+#[test]
+#[ignore = "needs the program `arrange`, which ARRANGE names"]
+fn package_and_program_agree() {
+    let mut overlay = Overlay::new().unwrap();
+    let mut random = Random(11);
+    for round in 0..300 {
+        let segments = {
+            let width = *random.pick(&[6, 40, 2000, 1 << 30]);
+            random.contours(width)
+        };
+        let (strategy, precision) = (*random.pick(&STRATEGIES), *random.pick(&PRECISIONS));
+        let (fill, rule) = (*random.pick(&FILLS), *random.pick(&RULES));
+        let solver = Solver { strategy: strategy.1, precision: precision.1 };
+        let chosen = [("strategy", strategy.0), ("precision", precision.0), ("fill", fill.0), ("rule", rule.0)];
+        let words = |command: &str| {
+            let settings = chosen.iter().map(|(name, value)| format!("{name}={value}"));
+            std::iter::once(command.to_string()).chain(settings).collect::<Vec<_>>()
+        };
+        let lines = lines_of(&segments);
+        let split = split_text(&mut overlay, &segments, solver);
+        assert_eq!(split, printed(&words("split"), &lines), "round {round}, {chosen:?}:\n{lines}");
+        let graph = graph_text(&mut overlay, &segments, fill.1, rule.1, solver);
+        assert_eq!(graph, printed(&words("graph"), &lines), "round {round}, {chosen:?}:\n{lines}");
+    }
+}
