@@ -1,5 +1,8 @@
 //! Calls the proved core from safe Rust: the examples of the README, random input, and input that is refused.
 
+mod common;
+
+use common::Random;
 use i_overlay_core::{
     cross, square, Change, ClipRule, CrossResult, CrossType, Error, Fault, FillRule, IntPoint, LineSegment, Overlay,
     OverlayNode, OverlayRule, Precision, Segment, SegmentFault, ShapeCountBoolean, ShapeType, Solver, Strategy,
@@ -197,16 +200,6 @@ fn a_path_that_does_not_close() {
     assert!(overlay.build_graph(open, FillRule::NonZero, OverlayRule::Subject).is_ok());
 }
 
-/// A linear congruential generator.
-struct Random(u64);
-
-impl Random {
-    fn below(&mut self, bound: u32) -> i32 {
-        self.0 = self.0.wrapping_mul(6_364_136_223_846_793_005).wrapping_add(1_442_695_040_888_963_407);
-        ((self.0 >> 33) % u64::from(bound)) as i32
-    }
-}
-
 #[test]
 fn random_polygons() {
     let mut overlay = Overlay::new().unwrap();
@@ -215,7 +208,7 @@ fn random_polygons() {
         let mut segments = Vec::new();
         for shape in [ShapeType::Subject, ShapeType::Clip] {
             let size = 3 + random.below(30);
-            let range = 4 + random.below(if round % 2 == 0 { 12 } else { 1000 }) as u32;
+            let range = 4 + random.below(if round % 2 == 0 { 12 } else { 1000 });
             let contour: Vec<IntPoint> =
                 (0..size).map(|_| IntPoint::new(random.below(range), random.below(range))).collect();
             shape.push_contour(&contour, &mut segments);

@@ -2,6 +2,9 @@
 //!
 //! `ARRANGE` names the program; `rt run` leaves it in `crates/arrange/out`.
 
+mod common;
+
+use common::Random;
 use i_overlay_core::{
     FillRule, IntPoint, Overlay, OverlayNode, OverlayRule, Precision, Segment, ShapeType, Solver, Strategy,
 };
@@ -110,30 +113,21 @@ fn graph_text(
     text
 }
 
-/// A linear congruential generator.
-struct Random(u64);
+/// One of a list, at random.
+fn pick<'a, T>(random: &mut Random, from: &'a [T]) -> &'a T {
+    &from[random.below(from.len() as i32) as usize]
+}
 
-impl Random {
-    fn below(&mut self, bound: i32) -> i32 {
-        self.0 = self.0.wrapping_mul(6_364_136_223_846_793_005).wrapping_add(1_442_695_040_888_963_407);
-        ((self.0 >> 33) % bound as u64) as i32
+/// The sides of a contour of each shape, in a square of the given width round the origin.
+fn sides(random: &mut Random, width: i32) -> Vec<Segment> {
+    let mut segments = Vec::new();
+    for shape in [ShapeType::Subject, ShapeType::Clip] {
+        let corner = |random: &mut Random| random.below(width) - width / 2;
+        let size = 3 + random.below(60);
+        let contour: Vec<IntPoint> = (0..size).map(|_| IntPoint::new(corner(random), corner(random))).collect();
+        shape.push_contour(&contour, &mut segments);
     }
-
-    fn pick<'a, T>(&mut self, from: &'a [T]) -> &'a T {
-        &from[self.below(from.len() as i32) as usize]
-    }
-
-    /// A contour of each shape, in a square of the given width round the origin.
-    fn contours(&mut self, width: i32) -> Vec<Segment> {
-        let mut segments = Vec::new();
-        for shape in [ShapeType::Subject, ShapeType::Clip] {
-            let corner = |random: &mut Random| random.below(width) - width / 2;
-            let size = 3 + self.below(60);
-            let contour: Vec<IntPoint> = (0..size).map(|_| IntPoint::new(corner(self), corner(self))).collect();
-            shape.push_contour(&contour, &mut segments);
-        }
-        segments
-    }
+    segments
 }
 
 #[test]
@@ -143,11 +137,11 @@ fn package_and_program_agree() {
     let mut random = Random(11);
     for round in 0..300 {
         let segments = {
-            let width = *random.pick(&[6, 40, 2000, 1 << 30]);
-            random.contours(width)
+            let width = *pick(&mut random, &[6, 40, 2000, 1 << 30]);
+            sides(&mut random, width)
         };
-        let (strategy, precision) = (*random.pick(&STRATEGIES), *random.pick(&PRECISIONS));
-        let (fill, rule) = (*random.pick(&FILLS), *random.pick(&RULES));
+        let (strategy, precision) = (*pick(&mut random, &STRATEGIES), *pick(&mut random, &PRECISIONS));
+        let (fill, rule) = (*pick(&mut random, &FILLS), *pick(&mut random, &RULES));
         let solver = Solver { strategy: strategy.1, precision: precision.1 };
         let chosen = [("strategy", strategy.0), ("precision", precision.0), ("fill", fill.0), ("rule", rule.0)];
         let words = |command: &str| {
