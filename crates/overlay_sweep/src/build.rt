@@ -13,5 +13,5 @@ mod start_point;
 pub mod string;
 pub mod sweep;
 mod tree_shape;
-mod visits;
-mod way;
+pub mod visits;
+pub mod way;

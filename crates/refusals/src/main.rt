@@ -8,6 +8,7 @@ mod case;
 mod fragments;
 mod graphs;
 mod hooks;
+mod inserts;
 mod lists;
 mod shapes;
 mod sweeps;
@@ -16,9 +17,12 @@ mod wholes;
 use crate::case::{Case, Stop};
 use crate::fragments::Fragments;
 use crate::graphs::{Boundary, Build, Filter, Kind, Loops, Walks};
+use crate::inserts::Insert;
 use crate::lists::{Balance, Join, Sort, Split};
 use crate::sweeps::Sweep;
 use crate::wholes::{Contours, LineClip, Overlay};
+use i_overlay::build::scan_list::ScanList;
+use i_overlay::build::scan_tree::ScanTree;
 use i_overlay::overlay_core::solver::Solver;
 use std::alloc::Global;
 use std::io;
@@ -57,6 +61,10 @@ fn tell_all<W: Write, E: Write>(alloc: Global, output: &mut W, digests: &mut E) 
     tell("join", "", &mut Join {}, alloc, output, digests)?;
     tell("balance", "", &mut Balance {}, alloc, output, digests)?;
     tell("fragments", "", &mut Fragments {}, alloc, output, digests)?;
+    let mut list = Insert::new(ScanList::new(alloc));
+    tell("insert", " into a list", &mut list, alloc, output, digests)?;
+    let mut tree = Insert::new(ScanTree::new(alloc));
+    tell("insert", " into a tree", &mut tree, alloc, output, digests)?;
     tell("loops", "", &mut Loops::new(alloc), alloc, output, digests)?;
     tell(
         "filter",

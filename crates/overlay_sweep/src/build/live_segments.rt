@@ -33,7 +33,8 @@ pub trait LiveSegments<C: WindingCount, I: OverlayInt> {
 
     /// Adds a segment that starts at `x`, and is not vertical, with the sum above it.
     ///
-    /// Answers `Fault::Memory` where a growth is refused; the collection is empty then.
+    /// Answers `Fault::Memory` where a growth is refused; the collection is empty then, and the next call may be at any
+    /// `x`.
     fn insert(&mut self, segment: VSegment<I>, sum: C, x: I) -> Result<(), Fault>
         requires in_range { IsVSegmentInRange I.whole I.MIN_COORD I.MAX_COORD segment }
         requires start { I.whole segment.a.x ≡ I.whole x }
@@ -47,6 +48,7 @@ pub trait LiveSegments<C: WindingCount, I: OverlayInt> {
         ensures fault { IfErr result (λ fault. fault ≡ Fault.Memory) }
         ensures emptied { OnErr result (sums self.new ≡ []) }
         ensures none_asked { OnErr result (asked self.new ≡ 0) }
+        ensures cleared { OnErr result ((y : ℤ) → may_go_on_at self.new y) }
         ensures held { OnOk result (held self.new ≤ suc (held self.old)) }
         ensures most { OnOk result ((n d : ℕ) → held self.old ≤ n → is_most n d
             → asked self.new + held self.new * d ≤ suc (suc (held self.old)) * d) };

@@ -95,6 +95,7 @@ impl<C: WindingCount, I: OverlayInt> LiveSegments<C, I> for ScanList<C, I> {
         ensures fault { IfErr result (λ fault. fault ≡ Fault.Memory) }
         ensures emptied { OnErr result (list_sums self.new ≡ []) }
         ensures none_asked { OnErr result (list_asked self.new ≡ 0) }
+        ensures cleared { OnErr result ((y : ℤ) → All (λ s. s.pair.a.x ≤ℤ y) (list_sums self.new)) }
         ensures none_compared { list_asked self.new ≡ 0 }
         ensures held { OnOk result (length (list_entries self.new) ≤ suc (length (list_entries self.old))) }
         ensures most { OnOk result ((n d : ℕ) → length (list_entries self.old) ≤ n → 2 * n ≤ d

@@ -1,0 +1,5 @@
+// Tests of `overlay_sweep`, through its public calls.
+#![tactic(auto)]
+
+#[cfg(test)]
+mod refused_inserts;
