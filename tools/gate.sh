@@ -33,14 +33,6 @@ elif (($#)); then
     exit 2
 fi
 
-# Left alone, `rt ci` sets how many checks run side by side by an estimate of memory two or three times above what they
-# take, so that a large crate waits. Here it is one a processor, as long as each has four gigabytes; the largest takes three.
-available=$(awk '/^MemAvailable:/ { print $2 }' /proc/meminfo)
-rooms=$((available / 4000000))
-lanes=$(nproc)
-if ((lanes > rooms)); then lanes=$((rooms > 0 ? rooms : 1)); fi
-export RT_JOBS="${RT_JOBS:-$lanes}"
-
 python3 tools/unused_lemmas.py
 lines="$room/lines"
 status=0
