@@ -1,11 +1,12 @@
 -- Walks found link by link: what holds while a walk is under way, and between walks.
-use Rattle.std.proofs.Common.{◌≡◌, ◌≢◌, ℕ, ◌+◌, ◌<◌, ◌≤◌, ◌%◌, ◌==◌, ◌⊎◌, inl, inr, zero, suc, Bool, true, false, IsTrue, List, [], ◌∷◌, ◌++◌, map, length, take, Option, unwrap_or, get_or, set, replicate, Some, refl, sym, ap, subst, ◌∙◌, arith, get_or-set_same, get_or-set_other, if◌then◌else◌}
-use Rattle.std.specs.Prelude.{ℤ, pos}
+use Rattle.std.proofs.Common.{◌≡◌, ◌≢◌, ℕ, ◌+◌, ◌<◌, ◌≤◌, ◌%◌, ◌==◌, ◌⊎◌, inl, inr, zero, suc, Bool, true, false, IsTrue, List, [], ◌∷◌, ◌++◌, map, length, take, Option, unwrap_or, get_or, set, replicate, Some, refl, sym, ap, subst, ◌∙◌, arith, get_or-set_same, get_or-set_other, cond, not, if◌then◌else◌}
+use Rattle.std.specs.Prelude.{ℤ, pos, count_by}
 use Rattle.std.specs.List.{flat_map, All}
 use Rattle.std.proofs.lemmas.Bool.{and_parts, eqb-true, eq-eqb, ltb-true, cases_lt, false≢true}
 use Rattle.std.proofs.lemmas.List.{length-map, length-append, take-append-le, length-set, get_or-map, get_or_default, length-replicate, append_assoc, append-nil}
 use Rattle.std.proofs.Math.Seq.{take-append_seam}
 use Rattle.std.proofs.lemmas.List.Folds.{list_any_at, Any-from_list_any}
+use Rattle.std.proofs.lemmas.List.Sums.{sum_by-set}
 use Rattle.std.proofs.lemmas.List.Elements.{All-append, All-from_recursion}
 use Rattle.std.proofs.lemmas.Option.{slice_get-get_or}
 use Rattle.std.proofs.lemmas.Grind.{flat_map-append}
@@ -116,6 +117,13 @@ set_keeps (b ∷ used) zero zero h = refl
 set_keeps (b ∷ used) zero (suc j) h = h
 set_keeps (b ∷ used) (suc i) zero h = h
 set_keeps (b ∷ used) (suc i) (suc j) h = set_keeps used i j h
+
+-- each use of a link leaves fewer unused
+pub fewer_left : (used : List Bool) (i : ℕ) → i < length used → get_or used i false ≡ false → count_by not (set used i true) < count_by not used
+fewer_left used i h free =
+    let sums = sum_by-set (λ b. cond (not b) 1 0) used i true false h in
+    let sum : count_by not (set used i true) + 1 ≡ count_by not used + 0 = rw free at sums in
+    omega (arith, sum)
 
 pub ArePassed-none : (nodes : List (List ℕ)) (used : List Bool) (n : ℕ) → n ≡ length nodes → ArePassed nodes used (replicate n 0)
 ArePassed-none nodes used n same = record {

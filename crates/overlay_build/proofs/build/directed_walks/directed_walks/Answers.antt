@@ -1,4 +1,4 @@
-use Rattle.std.proofs.Common.{◌≡◌, ◌∙◌, ◌<◌, sym, ap, [], ◌∷◌, ◌++◌, map, length, replicate, false, arith}
+use Rattle.std.proofs.Common.{◌≡◌, ◌∙◌, ◌<◌, sym, ap, subst, [], ◌∷◌, ◌++◌, map, length, replicate, false, arith}
 use Rattle.std.proofs.lemmas.List.{length-map, map-append, get_or_default, with_items_is}
 use Rattle.overlay_build.specs.GraphOf.{link_of}
 use Rattle.overlay_build.specs.NodeIndexes.{indexes_of}
@@ -53,3 +53,44 @@ returns-clause-walks g c =
     let links = length-arcs whole (holds c.args.rule) graph.links.now in
     let count = ap length c.links-count.ensures in
     HaveRun-all (arcs (holds c.args.rule) (map (link_of whole) graph.links.now)) (map indexes_of graph.nodes.now) c.loop-first.used.items c.loop-first.cursors.items _ c.loop-first.first c.loop-first.invariant (omega (arith, links, count, c.loop-first-test.false))
+
+pub index-requires : goal.index-requires
+index-requires g c =
+    let many = c.loop-first.used.ok.0 ∙ c.loop-first.invariant.flags ∙ length-arcs g.I.OverlayInt.whole (holds c.args.rule) c.args.graph.now.links.now in
+    subst (λ n. c.loop-first.first < n) (ap length c.links-count.ensures ∙ sym many) c.loop-first-test.true
+
+pub directed_walk_from-requires-clause-first : goal.directed_walk_from-requires-clause-first
+directed_walk_from-requires-clause-first g c = subst (λ n. c.loop-first.first < n) (ap length c.links-count.ensures) c.loop-first-test.true
+
+pub directed_walk_from-requires-clause-flags : goal.directed_walk_from-requires-clause-flags
+directed_walk_from-requires-clause-flags g c = ap length c.deref_mut.ensures.value ∙ c.loop-first.invariant.flags ∙ length-arcs g.I.OverlayInt.whole (holds c.args.rule) c.args.graph.now.links.now
+
+pub directed_walk_from-requires-clause-passed : goal.directed_walk_from-requires-clause-passed
+directed_walk_from-requires-clause-passed g c = rw (c.deref_mut.ensures.value, c.deref_mut-then-not-index.ensures.value) c.loop-first.invariant.passed
+
+pub directed_walk_from-requires-clause-level : goal.directed_walk_from-requires-clause-level
+directed_walk_from-requires-clause-level g c = rw c.deref_mut.ensures.value c.loop-first.invariant.level
+
+pub returns-in_err-used-clause-walks : goal.returns-in_err-used-clause-walks
+returns-in_err-used-clause-walks g c = grind arith
+
+pub returns-in_err-used-clause-fault : goal.returns-in_err-used-clause-fault
+returns-in_err-used-clause-fault g c = grind arith
+
+pub returns-in_err-cursors-clause-walks : goal.returns-in_err-cursors-clause-walks
+returns-in_err-cursors-clause-walks g c = grind arith
+
+pub returns-in_err-cursors-clause-fault : goal.returns-in_err-cursors-clause-fault
+returns-in_err-cursors-clause-fault g c = grind arith
+
+pub returns-in_err-walk-clause-walks : goal.returns-in_err-walk-clause-walks
+returns-in_err-walk-clause-walks g c = grind arith
+
+pub returns-in_err-walk-clause-fault : goal.returns-in_err-walk-clause-fault
+returns-in_err-walk-clause-fault g c = grind arith
+
+pub returns-in_err-push-clause-walks : goal.returns-in_err-push-clause-walks
+returns-in_err-push-clause-walks g c = grind arith
+
+pub returns-in_err-push-clause-fault : goal.returns-in_err-push-clause-fault
+returns-in_err-push-clause-fault g c = grind arith

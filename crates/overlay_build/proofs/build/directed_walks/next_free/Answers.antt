@@ -23,3 +23,21 @@ loop-place-preserved g c =
       | else-not-used-link-via-else-not-used-link w ↦
           below_more _ _ c.loop-place.invariant (λ free. absurd (cc (w.if-not-used-link.false, free)))
     ]
+
+pub loop-place-init : goal.loop-place-init
+loop-place-init g c = grind arith
+
+pub bounds-used-link : goal.bounds-used-link
+bounds-used-link g c = grind arith
+
+pub offset_bounds-links-link : goal.offset_bounds-links-link
+offset_bounds-links-link g c = grind arith
+
+pub bounds-links-link : goal.bounds-links-link
+bounds-links-link g c = grind arith
+
+pub returns-then-start_of-node-clause-passed : goal.returns-then-start_of-node-clause-passed
+returns-then-start_of-node-clause-passed g c = grind arith
+
+pub returns-clause-passed : goal.returns-clause-passed
+returns-clause-passed g c = grind arith

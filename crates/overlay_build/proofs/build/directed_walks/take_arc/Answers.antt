@@ -1,4 +1,4 @@
-use Rattle.std.proofs.Common.{◌<◌, ◌∙◌, sym, ap, length, map}
+use Rattle.std.proofs.Common.{◌<◌, ◌∙◌, sym, ap, subst, length, map}
 use Rattle.std.proofs.lemmas.List.{length-map}
 use Rattle.overlay_base.specs.Rules.{holds}
 use Rattle.overlay_build.specs.DirectedWalks.{arcs}
@@ -125,3 +125,16 @@ returns-clause-passed g c =
     let passed = rw (is, c.links.ensures) at place.ensures.passed in
     let inside = one_is_free links (map indexes_of graph.nodes.now) c.args.used.now c.args.node place.result lists node_in c.requires.left (rw is at place.ensures.within) passed in
     ArePassedOver-step links (map indexes_of graph.nodes.now) c.args.used.now c.args.cursors.now c.args.node place.result _ c.requires.passed node_in (rw is at place.ensures.within) passed
+
+pub bounds-cursors-node : goal.bounds-cursors-node
+bounds-cursors-node g c = subst (λ n. c.args.node < n) (sym (c.requires.passed.each ∙ length-map c.args.graph.now.nodes.now indexes_of)) c.requires.node
+
+pub next_free-place-requires-clause-within : goal.next_free-place-requires-clause-within
+next_free-place-requires-clause-within g c =
+    let graph = c.args.graph.now in
+    let is = list_of indexes_of graph.nodes.now c.nodes.result.now c.args.node _ c.indices-indexes.result.now c.nodes.ensures c.requires.node c.index-nodes-node.is c.indices-indexes.ensures in
+    let node_in : c.args.node < length (map indexes_of graph.nodes.now) = rw (length-map graph.nodes.now indexes_of) c.requires.node in
+    rw is (c.requires.passed.within c.args.node node_in)
+
+pub bounds-cursors-node-2 : goal.bounds-cursors-node-2
+bounds-cursors-node-2 g c = subst (λ n. c.args.node < n) (sym (c.requires.passed.each ∙ length-map c.args.graph.now.nodes.now indexes_of)) c.requires.node

@@ -1,8 +1,6 @@
-use Rattle.std.proofs.Common.{cond, ◌≡◌, ◌≢◌, ◌==◌, ◌∙◌, ap, subst, ℕ, ◌+◌, ◌<◌, ◌%◌, Bool, List, Some, [], map, length, get_or, set, true, false, not, refl, arith, get_or-set_same}
-use Rattle.std.specs.Prelude.{count_by}
+use Rattle.std.proofs.Common.{◌≡◌, ◌≢◌, ◌==◌, ◌∙◌, ap, subst, ℕ, ◌+◌, ◌<◌, ◌%◌, Bool, List, Some, [], map, length, get_or, set, true, false, refl, arith, get_or-set_same}
 use Rattle.std.proofs.lemmas.Bool.{eqb-true, eq-eqb}
 use Rattle.std.proofs.lemmas.List.{length-map}
-use Rattle.std.proofs.lemmas.List.Sums.{sum_by-set}
 use Rattle.overlay_base.specs.Rules.{differ}
 use Rattle.overlay_sweep.specs.Fill.{flag_value}
 use Rattle.overlay_build.specs.Graph.{Link}
@@ -11,17 +9,10 @@ use Rattle.overlay_build.specs.Walks.{walk_end, IsClosedWalk, IsFirstReturn}
 use Rattle.overlay_build.specs.steps.UnusedLinks.{unused_degree, AreUnusedEven}
 use Rattle.overlay_build.proofs.laws.walks.Walks.{IsWalking}
 use Rattle.overlay_build.specs.NodeIndexes.{indexes_of, is_canonical_node}
-use Rattle.overlay_build.proofs.laws.walks.WalkSteps.{ListLinks-held, walk_begun, walk_gone_on, walk_is_some, set_keeps, IsAway, IsAway-first, IsAway-push}
+use Rattle.overlay_build.proofs.laws.walks.WalkSteps.{ListLinks-held, walk_begun, walk_gone_on, walk_is_some, set_keeps, fewer_left, IsAway, IsAway-first, IsAway-push}
 use Rattle.overlay_build.proofs.build.walks.walk_from.Goals as goal
 
 -- ---- a walk under way, and one that has come back
-
--- each use of a link leaves fewer unused
-fewer_left : (used : List Bool) (i : ℕ) → i < length used → get_or used i false ≡ false → count_by not (set used i true) < count_by not used
-fewer_left used i h free =
-    let sums = sum_by-set (λ b. cond (not b) 1 0) used i true false h in
-    let sum : count_by not (set used i true) + 1 ≡ count_by not used + 0 = rw free at sums in
-    omega (arith, sum)
 
 -- where a walk has not come back, an unused link is left
 one_left : (links : List Link) (used : List Bool) (start node : ℕ) → IsWalking links used start node → node ≢ start → 0 < unused_degree used links node
