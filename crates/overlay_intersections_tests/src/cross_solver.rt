@@ -7,11 +7,7 @@ ghost use Rattle.overlay_geometry.specs.InRange.{IsPairInRange};
 mod far_ends;
 mod small_square;
 
-ghost use Rattle.std.specs.Prelude.{◌≡◌, ◌≢◌};
-ghost use Rattle.overlay_geometry.specs.Meeting.{are_collinear};
-ghost use Rattle.overlay_geometry.specs.InRange.{IsPairInRange};
-ghost use Rattle.overlay_intersections.specs.steps.Along.{along};
-
+use crate::usable::is_in_range;
 use overlay_geometry::geom::point::IntPoint;
 use overlay_geometry::geom::triangle::Triangle;
 use overlay_geometry::geom::x_segment::XSegment;
@@ -176,6 +172,7 @@ const ROWS: [Row; 17] = [
     },
 ];
 
+/// A segment of the wide engine.
 fn wide(ends: [i32; 4]) -> XSegment<i32> {
     XSegment {
         a: IntPoint::new(ends[0], ends[1]),
@@ -183,6 +180,7 @@ fn wide(ends: [i32; 4]) -> XSegment<i32> {
     }
 }
 
+/// A segment of the narrow engine, where its type holds the coordinates.
 fn narrow(ends: [i32; 4]) -> Option<XSegment<i16>> {
     Some(XSegment {
         a: IntPoint::new(i16::try_from(ends[0]).ok()?, i16::try_from(ends[1]).ok()?),
@@ -190,50 +188,59 @@ fn narrow(ends: [i32; 4]) -> Option<XSegment<i16>> {
     })
 }
 
+/// Whether a segment is in range and has two ends.
 fn is_usable<I: OverlayInt>(segment: &XSegment<I>) -> bool
     ensures in_range { result ≡ true → IsPairInRange I.whole I.MIN_COORD I.MAX_COORD segment.now }
     ensures apart { result ≡ true → (pair_of I.whole segment.now).a ≢ (pair_of I.whole segment.now).b }
 {
-    let is_a_in_range = segment.a.x.is_in_range() && segment.a.y.is_in_range();
-    let is_b_in_range = segment.b.x.is_in_range() && segment.b.y.is_in_range();
-    is_a_in_range && is_b_in_range && segment.a != segment.b
+    is_in_range(segment) && segment.a != segment.b
 }
 
+/// How two segments meet in a pass that snaps.
+fn met<I: OverlayInt>(
+    rt: &impl Abort,
+    target: &XSegment<I>,
+    other: &XSegment<I>,
+    radius_squared: i64,
+) -> Option<CrossResult<I>> {
+    assert!(rt; is_usable(target));
+    assert!(rt; is_usable(other));
+    assert!(rt; 1 <= radius_squared);
+    CrossSolver::cross(target, other, radius_squared)
+}
+
+/// How two segments meet, as the tables write it.
+fn answer<I: OverlayInt>(met: CrossResult<I>) -> (CrossType, i64, i64, bool) {
+    let (x, y) = (met.point.x.to_wide(), met.point.y.to_wide());
+    (met.cross_type, x, y, met.is_round)
+}
+
+/// What a pass that snaps answers for two segments.
 fn ask<I: OverlayInt>(
     rt: &impl Abort,
     target: &XSegment<I>,
     other: &XSegment<I>,
     radius_squared: i64,
 ) -> Answer {
-    assert!(rt; is_usable(target));
-    assert!(rt; is_usable(other));
-    assert!(rt; 1 <= radius_squared);
-    let result = CrossSolver::cross(target, other, radius_squared)?;
-    Some((
-        result.cross_type,
-        result.point.x.to_wide(),
-        result.point.y.to_wide(),
-        result.is_round,
-    ))
+    Some(answer(met(rt, target, other, radius_squared)?))
+}
+
+/// Wants of a row the answer with its first segment as target, and the one with its second.
+fn check(rt: &impl Abort, name: &str, found: [Answer; 2], wanted: [Answer; 2]) {
+    assert_eq!(rt; found, wanted, "{name}");
+}
+
+/// Asks for both answers of a row.
+fn check_row<I: OverlayInt>(rt: &impl Abort, row: &Row, first: &XSegment<I>, second: &XSegment<I>) {
+    let found = ask(rt, first, second, row.radius_squared);
+    let swapped = ask(rt, second, first, row.radius_squared);
+    check(rt, row.name, [found, swapped], [row.answer, row.swapped]);
 }
 
 #[test]
 fn rows_in_the_wide_engine(rt: HostRuntime) {
     for row in ROWS.iter() {
-        let first = wide(row.first);
-        let second = wide(row.second);
-        assert_eq!(rt;
-            ask(&rt, &first, &second, row.radius_squared),
-            row.answer,
-            "{}",
-            row.name
-        );
-        assert_eq!(rt;
-            ask(&rt, &second, &first, row.radius_squared),
-            row.swapped,
-            "{}, swapped",
-            row.name
-        );
+        check_row(&rt, row, &wide(row.first), &wide(row.second));
     }
 }
 
@@ -242,46 +249,38 @@ fn rows_in_the_narrow_engine(rt: HostRuntime) {
     let mut asked = 0u32;
     for row in ROWS.iter() {
         if let (Some(first), Some(second)) = (narrow(row.first), narrow(row.second)) {
-            assert_eq!(rt;
-                ask(&rt, &first, &second, row.radius_squared),
-                row.answer,
-                "{}",
-                row.name
-            );
-            assert_eq!(rt;
-                ask(&rt, &second, &first, row.radius_squared),
-                row.swapped,
-                "{}, swapped",
-                row.name
-            );
+            check_row(&rt, row, &first, &second);
             asked = asked.saturating_add(1);
         }
     }
-    assert_eq!(rt; asked, 10);
+    assert!(rt; asked == 10);
+}
+
+/// Which ends two segments on one line mark.
+fn overlap(rt: &impl Abort, target: &XSegment<i32>, other: &XSegment<i32>) -> CollinearMask {
+    assert!(rt; is_usable(target));
+    assert!(rt; is_usable(other));
+    assert!(rt; are_collinear(target, other));
+    CrossSolver::collinear(target, other)
 }
 
 #[test]
 fn mask_of_an_overlap(rt: HostRuntime) {
     let first = wide([-1024, 0, 512, 0]);
     let second = wide([0, 0, 1024, 0]);
-    assert!(rt; is_usable(&first));
-    assert!(rt; is_usable(&second));
-    assert!(rt; are_collinear(&first, &second));
-    assert!(rt; are_collinear(&second, &first));
-    assert_eq!(rt; CrossSolver::collinear(&first, &second).number(), 6);
-    assert_eq!(rt; CrossSolver::collinear(&second, &first).number(), 9);
+    let found = overlap(&rt, &first, &second).number();
+    let swapped = overlap(&rt, &second, &first).number();
+    assert_eq!(rt; [found, swapped], [6, 9]);
 }
 
 #[test]
 fn mask_of_an_overlap_far_out(rt: HostRuntime) {
     let first = wide([-276_659_431, 380_789_039, -221_915_258, 435_533_212]);
     let second = wide([-276_659_432, 380_789_038, -276_659_430, 380_789_040]);
-    assert!(rt; is_usable(&first));
-    assert!(rt; is_usable(&second));
-    assert!(rt; are_collinear(&first, &second));
-    assert_eq!(rt; CrossSolver::collinear(&first, &second).number(), 9);
+    assert_eq!(rt; overlap(&rt, &first, &second).number(), 9);
 }
 
+/// Whether the second segment lies on the first one's line.
 fn are_collinear<I: OverlayInt>(target: &XSegment<I>, other: &XSegment<I>) -> bool
     requires target { IsPairInRange I.whole I.MIN_COORD I.MAX_COORD target.now }
     requires other { IsPairInRange I.whole I.MIN_COORD I.MAX_COORD other.now }
@@ -337,6 +336,7 @@ const SETTLED_ROWS: [SettledRow; 5] = [
     },
 ];
 
+/// What a pass that settles answers for two segments.
 fn ask_settled<I: OverlayInt>(
     rt: &impl Abort,
     target: &XSegment<I>,
@@ -344,31 +344,26 @@ fn ask_settled<I: OverlayInt>(
 ) -> Answer {
     assert!(rt; is_usable(target));
     assert!(rt; is_usable(other));
-    let result = CrossSolver::cross_settled(target, other)?;
-    Some((
-        result.cross_type,
-        result.point.x.to_wide(),
-        result.point.y.to_wide(),
-        result.is_round,
-    ))
+    Some(answer(CrossSolver::cross_settled(target, other)?))
+}
+
+/// Asks for the answers of a pass that settles, with either segment as target.
+fn check_settled<I: OverlayInt>(
+    rt: &impl Abort,
+    name: &str,
+    first: &XSegment<I>,
+    second: &XSegment<I>,
+    wanted: [Answer; 2],
+) {
+    let found = ask_settled(rt, first, second);
+    let swapped = ask_settled(rt, second, first);
+    check(rt, name, [found, swapped], wanted);
 }
 
 #[test]
 fn rows_that_settle(rt: HostRuntime) {
     for row in SETTLED_ROWS.iter() {
-        let first = wide(row.first);
-        let second = wide(row.second);
-        assert_eq!(rt;
-            ask_settled(&rt, &first, &second),
-            row.answer,
-            "{}",
-            row.name
-        );
-        assert_eq!(rt;
-            ask_settled(&rt, &second, &first),
-            row.swapped,
-            "{}, swapped",
-            row.name
-        );
+        let (first, second) = (wide(row.first), wide(row.second));
+        check_settled(&rt, row.name, &first, &second, [row.answer, row.swapped]);
     }
 }

@@ -11,3 +11,5 @@ mod fragment_buffer;
 mod solver_list;
 #[cfg(test)]
 mod solver_tree;
+#[cfg(test)]
+mod usable;

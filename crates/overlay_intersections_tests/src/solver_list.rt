@@ -1,126 +1,98 @@
 // Marks of lists worked by hand.
-ghost use Rattle.std.specs.Prelude.{◌≡◌, true, All};
-ghost use Rattle.overlay_base.specs.SegmentOf.{x_segment_of};
-ghost use Rattle.overlay_geometry.specs.InRange.{IsPairInRange};
-ghost use Rattle.overlay_intersections.specs.PlacingOf.{HasRadius};
-ghost use Rattle.std.specs.Prelude.{◌≡◌, ◌<◌, ◌-◌, All};
-ghost use Rattle.overlay_base.specs.SegmentOf.{x_segment_of};
 ghost use Rattle.overlay_intersections.specs.PlacingOf.{HasRadius};
 
+use crate::usable::are_in_range;
 use overlay_base::segm::boolean::ShapeCountBoolean;
 use overlay_base::segm::segment::Segment;
 use overlay_base::segm::shape_type::ShapeType;
 use overlay_base::segm::sort::sort_by_ab;
 use overlay_geometry::geom::point::IntPoint;
-use overlay_geometry::geom::x_segment::XSegment;
-use overlay_geometry::num::OverlayInt;
+use overlay_intersections::split::line_mark::LineMark;
 use overlay_intersections::split::placing::Placing;
 use overlay_tree::split::solver_list::*;
 use std::alloc::Global;
 use std::process::Abort;
 
-fn is_usable<I: OverlayInt>(segments: &[Segment<ShapeCountBoolean, I, ()>]) -> bool
-    ensures { result ≡ true → All (λ s. IsPairInRange I.whole I.MIN_COORD I.MAX_COORD (x_segment_of s)) segments.now }
-{
-    for index in 0..segments.len() {
-        if !is_in_range(&segments[index].x_segment()) {
-            return false;
-        }
+type Side = Segment<ShapeCountBoolean, i32, ()>;
+
+/// A mark as the tests write it: index, x and y.
+type Row = (usize, i32, i32);
+
+/// The segment between two ends.
+fn side(rt: &impl Abort, [ax, ay, bx, by]: [i32; 4]) -> Side {
+    let (a, b) = (IntPoint::new(ax, ay), IntPoint::new(bx, by));
+    Segment::try_ab_and_data(a, b, ShapeType::Subject, (), &mut ()).expect(rt, "ends apart")
+}
+
+/// The segments between these ends.
+fn sides(rt: &impl Abort, alloc: Global, ends: &[[i32; 4]]) -> Vec<Side> {
+    let mut sides = Vec::new(alloc);
+    for ends in ends {
+        sides.push(side(rt, *ends)).expect(rt, "memory");
     }
-    true
+    sides
 }
 
-fn is_in_range<I: OverlayInt>(segment: &XSegment<I>) -> bool
-    ensures { result ≡ true → IsPairInRange I.whole I.MIN_COORD I.MAX_COORD segment.now }
-{
-    segment.a.x.is_in_range()
-        && segment.a.y.is_in_range()
-        && segment.b.x.is_in_range()
-        && segment.b.y.is_in_range()
-}
-
-/// The marks as index, x and y, and whether the pass is rounded.
-fn ask(
+/// The marks of a list, and whether the pass is rounded.
+fn marks(
     rt: &impl Abort,
     alloc: Global,
-    ends: &[[i32; 4]],
+    mut sides: Vec<Side>,
     placing: Placing,
-) -> (Vec<(usize, i32, i32)>, bool)
+) -> (Vec<LineMark<i32>>, bool)
     requires { HasRadius placing }
 {
-    let mut segments = Vec::new(alloc);
-    for [ax, ay, bx, by] in ends.iter().copied() {
-        let step = Segment::try_ab_and_data(
-            IntPoint::new(ax, ay),
-            IntPoint::new(bx, by),
-            ShapeType::Subject,
-            (),
-            &mut (),
-        );
-        segments
-            .push(step.expect(rt, "ends apart"))
-            .expect(rt, "memory");
-    }
-    sort_by_ab(&mut segments).expect(rt, "memory");
-    assert!(rt; is_usable(&segments));
+    sort_by_ab(&mut sides).expect(rt, "memory");
+    assert!(rt; are_in_range(&sides));
     let mut marks = Vec::new(alloc);
-    let rounded = find_marks(&segments, placing, &mut marks, &mut 0).expect(rt, "memory");
-    let mut found = Vec::new(alloc);
+    let rounded = find_marks(&sides, placing, &mut marks, &mut 0).expect(rt, "memory");
+    (marks, rounded)
+}
+
+/// Wants these marks, and that the pass is rounded or not.
+fn check(
+    rt: &(impl Abort + AllocGlobal),
+    ends: &[[i32; 4]],
+    placing: Placing,
+    wanted: &[Row],
+    is_rounded: bool,
+)
+    requires { HasRadius placing }
+{
+    let sides = sides(rt, rt.alloc(), ends);
+    let (marks, rounded) = marks(rt, rt.alloc(), sides, placing);
+    let mut found = Vec::new(rt.alloc());
     for mark in marks.iter() {
-        found
-            .push((mark.index, mark.point.x, mark.point.y))
-            .expect(rt, "memory");
+        let row = (mark.index, mark.point.x, mark.point.y);
+        found.push(row).expect(rt, "memory");
     }
-    (found, rounded)
+    assert_eq!(rt; (found.as_slice(), rounded), (wanted, is_rounded));
 }
 
 const SNAPPING: Placing = Placing::Snapping { radius_squared: 1 };
 
 #[test]
 fn three_through_one_point(rt: HostRuntime) {
-    let (marks, rounded) = ask(
-        &rt,
-        rt.alloc(),
-        &[[2, 4, 2, 0], [0, 0, 4, 4], [0, 4, 4, 0]],
-        SNAPPING,
-    );
-    assert_eq!(rt;
-        marks.as_slice(),
-        [(0, 2, 2), (1, 2, 2), (2, 2, 2)].as_slice()
-    );
-    assert!(rt; !rounded);
+    let given = [[2, 4, 2, 0], [0, 0, 4, 4], [0, 4, 4, 0]];
+    let wanted = [(0, 2, 2), (1, 2, 2), (2, 2, 2)];
+    check(&rt, &given, SNAPPING, &wanted, false);
 }
 
 #[test]
 fn an_end_within_the_radius(rt: HostRuntime) {
-    let (marks, rounded) = ask(&rt, rt.alloc(), &[[0, 0, 1, 1], [0, 1, 1, 0]], SNAPPING);
-    assert_eq!(rt; marks.as_slice(), [(1, 1, 1)].as_slice());
-    assert!(rt; rounded);
+    let given = [[0, 0, 1, 1], [0, 1, 1, 0]];
+    check(&rt, &given, SNAPPING, &[(1, 1, 1)], true);
 }
 
 #[test]
 fn an_overlap_and_a_touch(rt: HostRuntime) {
-    let (marks, rounded) = ask(
-        &rt,
-        rt.alloc(),
-        &[[0, 0, 4, 0], [1, 0, 6, 0], [5, 3, 5, 0]],
-        Placing::Settling,
-    );
-    assert_eq!(rt;
-        marks.as_slice(),
-        [(0, 1, 0), (1, 4, 0), (1, 5, 0)].as_slice()
-    );
-    assert!(rt; !rounded);
+    let given = [[0, 0, 4, 0], [1, 0, 6, 0], [5, 3, 5, 0]];
+    let wanted = [(0, 1, 0), (1, 4, 0), (1, 5, 0)];
+    check(&rt, &given, Placing::Settling, &wanted, false);
 }
 
 #[test]
 fn a_crossing_that_settles_on_an_end(rt: HostRuntime) {
-    let (marks, rounded) = ask(
-        &rt,
-        rt.alloc(),
-        &[[-1, 1, 2, -2], [0, -1, 1, 0]],
-        Placing::Settling,
-    );
-    assert_eq!(rt; marks.as_slice(), [(0, 1, 0)].as_slice());
-    assert!(rt; rounded);
+    let given = [[-1, 1, 2, -2], [0, -1, 1, 0]];
+    check(&rt, &given, Placing::Settling, &[(0, 1, 0)], true);
 }

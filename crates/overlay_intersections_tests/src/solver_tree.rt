@@ -1,80 +1,84 @@
 // The tree's finder beside the list's, and how many pairs it takes up.
-ghost use Rattle.std.specs.Prelude.{◌≡◌, true, All};
-ghost use Rattle.overlay_base.specs.SegmentOf.{x_segment_of};
+ghost use Rattle.std.specs.Prelude.{◌≡◌, All, IsSortedByKey};
+ghost use Rattle.overlay_base.specs.SegmentOf.{ends_of, x_segment_of};
 ghost use Rattle.overlay_geometry.specs.InRange.{IsPairInRange};
-ghost use Rattle.overlay_intersections.specs.PlacingOf.{HasRadius};
-ghost use Rattle.std.specs.Prelude.{◌≡◌, ◌<◌, ◌+◌, ◌-◌, All};
-ghost use Rattle.overlay_base.specs.Segments.{pairs};
-ghost use Rattle.overlay_base.specs.SegmentOf.{x_segment_of};
+ghost use Rattle.overlay_geometry.specs.Points.{pair_cmp};
 ghost use Rattle.overlay_intersections.specs.PlacingOf.{HasRadius};
 
+use crate::usable::are_in_range;
 use overlay_base::segm::boolean::ShapeCountBoolean;
 use overlay_base::segm::segment::Segment;
 use overlay_base::segm::shape_type::ShapeType;
 use overlay_base::segm::sort::sort_by_ab;
 use overlay_geometry::geom::point::IntPoint;
-use overlay_geometry::geom::x_segment::XSegment;
 use overlay_geometry::num::OverlayInt;
+use overlay_intersections::split::line_mark::LineMark;
 use overlay_intersections::split::placing::Placing;
 use overlay_tree::split::solver_list;
 use overlay_tree::split::solver_tree::*;
 use std::alloc::Global;
 use std::process::Abort;
 
-type Side = Segment<ShapeCountBoolean, i32, ()>;
+type Side<I> = Segment<ShapeCountBoolean, I, ()>;
 
-fn is_usable<I: OverlayInt>(segments: &[Segment<ShapeCountBoolean, I, ()>]) -> bool
-    ensures { result ≡ true → All (λ s. IsPairInRange I.whole I.MIN_COORD I.MAX_COORD (x_segment_of s)) segments.now }
-{
-    for index in 0..segments.len() {
-        if !is_in_range(&segments[index].x_segment()) {
-            return false;
-        }
-    }
-    true
-}
-
-fn is_in_range<I: OverlayInt>(segment: &XSegment<I>) -> bool
-    ensures { result ≡ true → IsPairInRange I.whole I.MIN_COORD I.MAX_COORD segment.now }
-{
-    segment.a.x.is_in_range()
-        && segment.a.y.is_in_range()
-        && segment.b.x.is_in_range()
-        && segment.b.y.is_in_range()
-}
-
-fn push_side(rt: &impl Abort, segments: &mut Vec<Side>, a: (i32, i32), b: (i32, i32)) {
-    let side = Segment::try_ab_and_data(
-        IntPoint::new(a.0, a.1),
-        IntPoint::new(b.0, b.1),
-        ShapeType::Subject,
-        (),
-        &mut (),
-    );
-    if let Some(side) = side {
+/// Adds the segment between two ends, unless they are one point.
+fn push_side(rt: &impl Abort, segments: &mut Vec<Side<i32>>, a: (i32, i32), b: (i32, i32)) {
+    let (a, b) = (IntPoint::new(a.0, a.1), IntPoint::new(b.0, b.1));
+    if let Some(side) = Segment::try_ab_and_data(a, b, ShapeType::Subject, (), &mut ()) {
         segments.push(side).expect(rt, "memory");
     }
 }
 
-/// Asks both finders, wants the same marks and the same flag, and answers how many marks there are and how many pairs
-/// the tree took up.
-fn ask(rt: &impl Abort, alloc: Global, segments: &mut Vec<Side>, placing: Placing) -> (usize, u128)
-    requires { HasRadius placing }
+/// What the list's finder answers: the marks, and whether the pass is rounded.
+fn listed<I: OverlayInt>(
+    rt: &impl Abort,
+    alloc: Global,
+    segments: &[Side<I>],
+    placing: Placing,
+) -> (Vec<LineMark<I>>, bool)
+    requires sorted { IsSortedByKey ends_of pair_cmp segments.now }
+    requires in_range { All (λ s. IsPairInRange I.whole I.MIN_COORD I.MAX_COORD (x_segment_of s)) segments.now }
+    requires radius { HasRadius placing }
 {
-    sort_by_ab(segments).expect(rt, "memory");
-    assert!(rt; is_usable(segments));
-    let mut listed = Vec::new(alloc);
-    let by_list = solver_list::find_marks(segments, placing, &mut listed, &mut 0).expect(
-        rt, "memory",
-    );
+    let mut marks = Vec::new(alloc);
+    let rounded = solver_list::find_marks(segments, placing, &mut marks, &mut 0);
+    (marks, rounded.expect(rt, "memory"))
+}
+
+/// What the tree's finder answers: the same, and how many pairs it took up.
+fn treed<I: OverlayInt>(
+    rt: &impl Abort,
+    alloc: Global,
+    segments: &[Side<I>],
+    placing: Placing,
+) -> (Vec<LineMark<I>>, bool, u128)
+    requires sorted { IsSortedByKey ends_of pair_cmp segments.now }
+    requires in_range { All (λ s. IsPairInRange I.whole I.MIN_COORD I.MAX_COORD (x_segment_of s)) segments.now }
+    requires radius { HasRadius placing }
+{
     let mut buffers = TreeBuffers::new(alloc);
     let mut marks = Vec::new(alloc);
     let mut looked = 0;
-    let by_tree = find_marks(segments, placing, &mut buffers, &mut marks, &mut looked).expect(
-        rt, "memory",
-    );
-    assert_eq!(rt; marks.as_slice(), listed.as_slice());
-    assert_eq!(rt; by_tree, by_list);
+    let rounded = find_marks(segments, placing, &mut buffers, &mut marks, &mut looked);
+    (marks, rounded.expect(rt, "memory"), looked)
+}
+
+/// Asks both finders, wants the same marks and the same flag, and answers how many marks there are and how many pairs
+/// the tree took up.
+fn ask(
+    rt: &impl Abort,
+    alloc: Global,
+    segments: &mut Vec<Side<i32>>,
+    placing: Placing,
+) -> (usize, u128)
+    requires { HasRadius placing }
+{
+    sort_by_ab(segments).expect(rt, "memory");
+    assert!(rt; are_in_range(segments));
+    let (listed, by_list) = listed(rt, alloc, segments, placing);
+    let (marks, by_tree, looked) = treed(rt, alloc, segments, placing);
+    assert!(rt; marks.as_slice() == listed.as_slice());
+    assert!(rt; by_tree == by_list);
     (marks.len(), looked)
 }
 
@@ -86,16 +90,22 @@ fn below(state: &mut u32, limit: u32) -> i32 {
     ((*state >> 8) % limit.max(1) % 4096) as i32
 }
 
+/// So many segments with ends in the square from (0, 0) to (59, 59).
+fn scattered(rt: &impl Abort, alloc: Global, state: &mut u32, size: usize) -> Vec<Side<i32>> {
+    let mut segments = Vec::new(alloc);
+    for _ in 0..size {
+        let a = (below(state, 60), below(state, 60));
+        let b = (below(state, 60), below(state, 60));
+        push_side(rt, &mut segments, a, b);
+    }
+    segments
+}
+
 #[test]
 fn scattered_segments(rt: HostRuntime) {
     let mut state = 7;
     for size in [0_usize, 1, 2, 3, 10, 100, 300] {
-        let mut segments = Vec::new(rt.alloc());
-        for _ in 0..size {
-            let a = (below(&mut state, 60), below(&mut state, 60));
-            let b = (below(&mut state, 60), below(&mut state, 60));
-            push_side(&rt, &mut segments, a, b);
-        }
+        let mut segments = scattered(&rt, rt.alloc(), &mut state, size);
         ask(&rt, rt.alloc(), &mut segments, SNAPPING);
         ask(&rt, rt.alloc(), &mut segments, Placing::Settling);
     }
@@ -106,7 +116,7 @@ fn touching_right_ends(rt: HostRuntime) {
     let mut segments = Vec::new(rt.alloc());
     push_side(&rt, &mut segments, (0, 2), (4, 2));
     push_side(&rt, &mut segments, (4, 0), (4, 4));
-    assert_eq!(rt; ask(&rt, rt.alloc(), &mut segments, SNAPPING), (1, 1));
+    assert!(rt; ask(&rt, rt.alloc(), &mut segments, SNAPPING) == (1, 1));
 }
 
 #[test]
@@ -116,10 +126,8 @@ fn lines_above_one_another(rt: HostRuntime) {
         push_side(&rt, &mut segments, (0, y), (10, y));
     }
     // Each of the first 48 lines looks at those below it, and then all stand in a tree, where no heights meet.
-    assert_eq!(rt;
-        ask(&rt, rt.alloc(), &mut segments, SNAPPING),
-        (0, 48 * 47 / 2)
-    );
+    let told = ask(&rt, rt.alloc(), &mut segments, SNAPPING);
+    assert!(rt; told == (0, 48 * 47 / 2));
 }
 
 #[test]
@@ -131,7 +139,7 @@ fn lines_beside_one_another(rt: HostRuntime) {
     }
     // No two boxes meet, and each line has ended before the next: no more than one look at each.
     let (marks, looked) = ask(&rt, rt.alloc(), &mut segments, SNAPPING);
-    assert_eq!(rt; marks, 0);
+    assert!(rt; marks == 0);
     assert!(rt; looked <= 1000);
 }
 
@@ -149,16 +157,14 @@ fn grid(rt: &impl Abort, alloc: Global, size: u16) -> (usize, u128) {
 
 #[test]
 fn few_crossing_lines(rt: HostRuntime) {
-    let (marks, looked) = grid(&rt, rt.alloc(), 20);
-    assert_eq!(rt; marks, 800);
     // Each line across looks at those below it, and each upright line at all lines across.
-    assert_eq!(rt; looked, 20 * 19 / 2 + 400);
+    assert!(rt; grid(&rt, rt.alloc(), 20) == (800, 20 * 19 / 2 + 400));
 }
 
 #[test]
 fn many_crossing_lines(rt: HostRuntime) {
     let (marks, looked) = grid(&rt, rt.alloc(), 60);
-    assert_eq!(rt; marks, 7200);
+    assert!(rt; marks == 7200);
     // Beside the looks among the first 48 lines across, each line is dropped with one look at most.
     assert!(rt; 3600 + 48 * 47 / 2 <= looked && looked <= 3600 + 48 * 47 / 2 + 120);
 }

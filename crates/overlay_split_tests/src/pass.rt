@@ -3,13 +3,6 @@ ghost use Rattle.std.specs.Prelude.{pos, ◌≤ℤ◌, IsTrue};
 ghost use Rattle.overlay_base.specs.Segments.{is_map};
 ghost use Rattle.overlay_base.specs.SegmentOf.{segments_of};
 ghost use Rattle.overlay_intersections.specs.PlacingOf.{HasRadius};
-ghost use Rattle.std.specs.Prelude.{◌≤◌, IsTrue};
-ghost use Rattle.overlay_base.specs.declared.segm.fault.Fault.TheVariants.{CountOutOfRange};
-ghost use Rattle.overlay_base.specs.Segments.{is_map};
-ghost use Rattle.overlay_base.specs.SegmentOf.{segments_of};
-ghost use Rattle.overlay_split.specs.Pass.{pass};
-ghost use Rattle.overlay_intersections.specs.PassMarks.{is_rounded};
-ghost use Rattle.overlay_intersections.specs.PlacingOf.{HasRadius};
 
 use overlay_base::overlay_core::solver::Solver;
 use overlay_base::segm::arranged::is_splittable;
@@ -28,49 +21,57 @@ use std::process::Abort;
 
 type Plain = Segment<ShapeCountBoolean, i32, ()>;
 
-/// The segments of these ends, the subject winding so often along each, sorted and merged.
-fn joined(rt: &impl Abort, alloc: Global, ends: &[[i32; 4]], subj: i32) -> Vec<Plain>
-    ensures map { IsTrue (is_map (segments_of result.items)) }
-{
+/// A segment along which the subject winds so often.
+fn segment(rt: &impl Abort, [ax, ay, bx, by]: [i32; 4], subj: i32) -> Plain {
+    let (a, b) = (IntPoint::new(ax, ay), IntPoint::new(bx, by));
+    assert!(rt; a < b);
+    let count = ShapeCountBoolean::new(subj, 0);
+    Segment::create_and_validate_with_data(a, b, count, (), &mut ())
+}
+
+/// The segments of these ends.
+fn given(rt: &impl Abort, alloc: Global, ends: &[[i32; 4]], subj: i32) -> Vec<Plain> {
     let mut list = Vec::new(alloc);
-    for [ax, ay, bx, by] in ends.iter().copied() {
-        let (a, b) = (IntPoint::new(ax, ay), IntPoint::new(bx, by));
-        assert!(rt; a < b);
-        let count = ShapeCountBoolean::new(subj, 0);
-        let segment = Segment::create_and_validate_with_data(a, b, count, (), &mut ());
-        list.push(segment).expect(rt, "memory");
+    for ends in ends {
+        list.push(segment(rt, *ends, subj)).expect(rt, "memory");
     }
-    assert!(rt; is_splittable(&list));
-    join_with_store(&mut list, &mut ()).expect(rt, "counts in range");
     list
 }
 
-/// What a list is after one pass, each segment as its ends and how often the subject winds along it.
-fn once(
+/// Sorts and merges segments.
+fn join(rt: &impl Abort, list: &mut Vec<Plain>)
+    ensures map { IsTrue (is_map (segments_of list.new.items)) }
+{
+    assert!(rt; is_splittable(list));
+    join_with_store(list, &mut ()).expect(rt, "counts in range");
+}
+
+/// Joins a list, and makes one pass over it.
+fn joined_once(
     rt: &impl Abort,
     alloc: Global,
-    ends: &[[i32; 4]],
+    list: &mut Vec<Plain>,
+    solver: &Solver,
     placing: Placing,
-) -> (Vec<[i32; 5]>, Passed)
+) -> Result<Passed, Fault>
     requires { HasRadius placing }
 {
-    let mut list = joined(rt, alloc, ends, 1);
-    assert!(rt; is_splittable(&list));
+    join(rt, list);
+    assert!(rt; is_splittable(list));
     let mut buffers = PassBuffers::new(alloc);
-    let mut finder = PairFinder::without_grid(&Solver::LIST);
-    let passed = pass(&mut list, placing, &mut finder, &mut buffers, &mut ()).expect(
-        rt,
-        "no refusal",
-    );
-    let mut plain = Vec::new(alloc);
-    for segment in list.iter() {
+    let mut finder = PairFinder::without_grid(solver);
+    pass(list, placing, &mut finder, &mut buffers, &mut ())
+}
+
+/// A list as the tables write it: each segment's ends, and how often the subject winds along it.
+fn rows(rt: &impl Abort, alloc: Global, list: &[Plain]) -> Vec<[i32; 5]> {
+    let mut rows = Vec::new(alloc);
+    for segment in list {
         let XSegment { a, b } = segment.x_segment();
-        let count = segment.count();
-        plain
-            .push([a.x, a.y, b.x, b.y, count.subj])
-            .expect(rt, "memory");
+        let row = [a.x, a.y, b.x, b.y, segment.count().subj];
+        rows.push(row).expect(rt, "memory");
     }
-    (plain, passed)
+    rows
 }
 
 const ROUNDED: Passed = Passed {
@@ -208,6 +209,7 @@ const PASSES: [Worked; 10] = [
     ),
 ];
 
+/// A pass that snaps within a radius, or one that settles.
 fn placing(rt: &impl Abort, radius: Option<i64>) -> Placing
     ensures { HasRadius result }
 {
@@ -220,28 +222,33 @@ fn placing(rt: &impl Abort, radius: Option<i64>) -> Placing
     }
 }
 
+/// Makes the pass of a row of the table.
+fn check_pass(rt: &(impl Abort + AllocGlobal), worked: &Worked) {
+    let (name, ends, radius, wanted, told) = *worked;
+    let mut list = given(rt, rt.alloc(), ends, 1);
+    let passed = joined_once(
+        rt,
+        rt.alloc(),
+        &mut list,
+        &Solver::LIST,
+        placing(rt, radius),
+    );
+    let found = rows(rt, rt.alloc(), &list);
+    assert_eq!(rt; (found.as_slice(), passed), (wanted, Ok(told)), "{name}");
+}
+
 #[test]
 fn worked_passes(rt: HostRuntime) {
-    for (name, ends, radius, rows, told) in PASSES {
-        let (list, passed) = once(&rt, rt.alloc(), ends, placing(&rt, radius));
-        assert_eq!(rt; list.as_slice(), rows, "{name}");
-        assert_eq!(rt; passed, told, "{name}");
+    for worked in PASSES.iter() {
+        check_pass(&rt, worked);
     }
 }
 
 #[test]
 fn counts_of_pieces_that_leave_the_range(rt: HostRuntime) {
-    let mut list = joined(&rt, rt.alloc(), &[[0, 0, 4, 0], [2, 0, 6, 0]], i32::MAX);
-    assert!(rt; is_splittable(&list));
-    let mut buffers = PassBuffers::new(rt.alloc());
-    let mut finder = PairFinder::without_grid(&Solver::TREE);
-    let refused = pass(
-        &mut list,
-        Placing::Settling,
-        &mut finder,
-        &mut buffers,
-        &mut (),
-    );
-    assert_eq!(rt; refused, Err(Fault::CountOutOfRange));
+    let alloc = rt.alloc();
+    let mut list = given(&rt, alloc, &[[0, 0, 4, 0], [2, 0, 6, 0]], i32::MAX);
+    let refused = joined_once(&rt, alloc, &mut list, &Solver::TREE, Placing::Settling);
+    assert!(rt; refused == Err(Fault::CountOutOfRange));
     assert!(rt; list.is_empty());
 }

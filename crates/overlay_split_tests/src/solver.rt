@@ -18,11 +18,12 @@ use overlay_geometry::num::OverlayInt;
 use overlay_split::split::pass::pass;
 use overlay_split::split::solver::*;
 use std::process::Abort;
-use std::test::Fail;
 
 mod far_ends;
 mod hostile;
 mod long_lists;
+
+type Counted<I> = Segment<ShapeCountBoolean, I, ()>;
 
 /// A segment as the tables write it: from, to, the count for the subject.
 type Row = ((i64, i64), (i64, i64), i32);
@@ -44,16 +45,18 @@ const GREATEST: Precision = Precision {
     progression: usize::MAX,
 };
 
-/// The precision, the snap limit, what is given, the flag, the number of passes, and the list after the split.
-const SPLITS: [(
-    &str,
+/// A name, the precision, the snap limit, what is given, the flag, the number of passes, and the list after the split.
+type Split = (
+    &'static str,
     Precision,
     u32,
-    &[Row],
+    &'static [Row],
     Result<bool, Fault>,
     u128,
-    &[Row],
-); 23] = [
+    &'static [Row],
+);
+
+const SPLITS: [Split; 23] = [
     ("nothing", Precision::HIGH, 256, &[], Ok(false), 0, &[]),
     (
         "two that cancel",
@@ -386,36 +389,79 @@ const SPLITS: [(
     ),
 ];
 
+/// A coordinate of the engine.
 fn coordinate<I: OverlayInt>(rt: &impl Abort, number: i64) -> I {
     assert!(rt; I::MIN_COORD.to_wide() <= number && number <= I::MAX_COORD.to_wide());
     I::from_wide(number)
 }
 
-fn segment<I: OverlayInt>(rt: &impl Abort, row: Row) -> Segment<ShapeCountBoolean, I, ()> {
-    let ((ax, ay), (bx, by), subj) = row;
-    let a = IntPoint::new(coordinate(rt, ax), coordinate(rt, ay));
-    let b = IntPoint::new(coordinate(rt, bx), coordinate(rt, by));
-    let count = ShapeCountBoolean::new(subj, 0);
-    assert!(rt; a != b && count.is_valid());
+/// A point of the engine.
+fn point<I: OverlayInt>(rt: &impl Abort, (x, y): (i64, i64)) -> IntPoint<I> {
+    IntPoint::new(coordinate(rt, x), coordinate(rt, y))
+}
+
+/// The segment from a point to another with a valid count.
+fn counted<I: OverlayInt>(
+    rt: &impl Abort,
+    a: IntPoint<I>,
+    b: IntPoint<I>,
+    count: ShapeCountBoolean,
+) -> Counted<I> {
+    assert!(rt; a != b);
+    assert!(rt; count.is_valid());
     Segment::create_and_validate_with_data(a, b, count, (), &mut ())
 }
 
-fn row<I: OverlayInt>(segment: &Segment<ShapeCountBoolean, I, ()>) -> Row {
+/// The segment of a row.
+fn segment<I: OverlayInt>(rt: &impl Abort, (a, b, subj): Row) -> Counted<I> {
+    counted(
+        rt,
+        point(rt, a),
+        point(rt, b),
+        ShapeCountBoolean::new(subj, 0),
+    )
+}
+
+/// The segments of some rows.
+fn segments<I: OverlayInt>(rt: &(impl Abort + AllocGlobal), rows: &[Row]) -> Vec<Counted<I>> {
+    let mut list = Vec::new(rt.alloc());
+    for row in rows {
+        list.push(segment(rt, *row)).expect(rt, "memory");
+    }
+    list
+}
+
+/// A segment as the tables write it.
+fn row<I: OverlayInt>(segment: &Counted<I>) -> Row {
     let ends = segment.x_segment();
     let a = (ends.a.x.to_wide(), ends.a.y.to_wide());
     let b = (ends.b.x.to_wide(), ends.b.y.to_wide());
     (a, b, segment.count().subj)
 }
 
-fn segments<I: OverlayInt>(
-    rt: &(impl Abort + AllocGlobal),
-    rows: &[Row],
-) -> Result<Vec<Segment<ShapeCountBoolean, I, ()>>, Fail> {
-    let mut list = Vec::new(rt.alloc());
-    for row in rows {
-        list.push(segment(rt, *row))?;
+/// A list as the tables write it.
+fn rows<I: OverlayInt>(rt: &(impl Abort + AllocGlobal), list: &[Counted<I>]) -> Vec<Row> {
+    let mut rows = Vec::new(rt.alloc());
+    for segment in list {
+        rows.push(row(segment)).expect(rt, "memory");
     }
-    Ok(list)
+    rows
+}
+
+/// A solver that goes about its work by a strategy, at the precision that upstream takes.
+fn high(strategy: Strategy) -> Solver {
+    Solver::with_strategy_and_precision(strategy, Precision::HIGH)
+}
+
+/// Splits a list that may be split.
+fn split_list<I: OverlayInt>(
+    rt: &impl Abort,
+    splitter: &mut SplitSolver<I>,
+    list: &mut Vec<Counted<I>>,
+    solver: &Solver,
+) -> Result<bool, Fault> {
+    assert!(rt; is_splittable(list));
+    splitter.split_segments(list, solver)
 }
 
 /// What a split answers, the number of passes, and the list after it.
@@ -427,57 +473,73 @@ fn split_rows<I: OverlayInt>(
     given: &[Row],
     solver: &Solver,
     limit: u32,
-) -> Result<Told, Fail> {
-    let mut list: Vec<Segment<ShapeCountBoolean, I, ()>> = segments(rt, given)?;
+) -> Told {
+    let mut list: Vec<Counted<I>> = segments(rt, given);
     let mut splitter = SplitSolver::with_snap_limit(rt.alloc(), limit);
-    assert!(rt; is_splittable(&list));
-    let flag = splitter.split_segments(&mut list, solver);
+    let flag = split_list(rt, &mut splitter, &mut list, solver);
     assert!(rt; is_arranged(&list));
-    let rows = list.iter().map(row).collect(rt.alloc())?;
-    Ok((flag, splitter.passes(), rows))
+    (flag, splitter.passes(), rows(rt, &list))
 }
 
-fn splits_with<I: OverlayInt>(rt: &(impl Abort + AllocGlobal)) -> Result<(), Fail> {
+/// Wants of a split this flag, this number of passes and this list.
+fn check(rt: &impl Abort, name: &str, told: &Told, wanted: (Result<bool, Fault>, u128, &[Row])) {
+    assert_eq!(rt; (told.0, told.1, told.2.as_slice()), wanted, "{name}");
+}
+
+/// Splits as a row of the table says.
+fn check_split<I: OverlayInt>(rt: &(impl Abort + AllocGlobal), strategy: Strategy, split: &Split) {
+    let (name, precision, limit, given, flag, passes, rows) = *split;
+    let solver = Solver::with_strategy_and_precision(strategy, precision);
+    let told = split_rows::<I>(rt, given, &solver, limit);
+    check(rt, name, &told, (flag, passes, rows));
+}
+
+/// Splits as the table says, under each strategy.
+fn check_splits<I: OverlayInt>(rt: &(impl Abort + AllocGlobal)) {
     for strategy in STRATEGIES {
-        for (name, precision, limit, given, flag, passes, rows) in SPLITS {
-            let solver = Solver::with_strategy_and_precision(strategy, precision);
-            let told = split_rows::<I>(rt, given, &solver, limit)?;
-            assert_eq!(rt; (told.0, told.1), (flag, passes), "{name}");
-            assert_eq!(rt; told.2.as_slice(), rows, "{name}");
+        for split in SPLITS.iter() {
+            check_split::<I>(rt, strategy, split);
         }
     }
-    Ok(())
 }
 
 #[test]
-fn splits(rt: HostRuntime) -> Result<(), Fail> {
-    splits_with::<i16>(&rt)?;
-    splits_with::<i32>(&rt)
+fn splits(rt: HostRuntime) {
+    check_splits::<i16>(&rt);
+    check_splits::<i32>(&rt);
 }
 
-/// Three segments that are nearly parallel, with each x times a factor: the number of passes, and of segments after.
-fn slivers(
+/// Three segments that are nearly parallel.
+const SLIVERS: [Row; 3] = [
+    ((282, 3), (1000, 0), 1),
+    ((143, 2), (886, 1), 1),
+    ((164, 2), (705, 1), 1),
+];
+
+/// The same with each x times a factor.
+fn slivers(rt: &(impl Abort + AllocGlobal), factor: i64) -> Vec<Row> {
+    let mut rows = Vec::new(rt.alloc());
+    for ((ax, ay), (bx, by), subj) in SLIVERS {
+        let (a, b) = ((ax.wrapping_mul(factor), ay), (bx.wrapping_mul(factor), by));
+        rows.push((a, b, subj)).expect(rt, "memory");
+    }
+    rows
+}
+
+/// Splits slivers: the number of passes, and of segments after.
+fn split_slivers(
     rt: &(impl Abort + AllocGlobal),
     factor: i64,
     limit: u32,
     solver: Solver,
-) -> Result<(u128, usize), Fail> {
-    let mut rows = Vec::new(rt.alloc());
-    assert!(rt; 1 <= factor && factor <= 14);
-    for ((ax, ay), (bx, by)) in [
-        ((282, 3), (1000, 0)),
-        ((143, 2), (886, 1)),
-        ((164, 2), (705, 1)),
-    ] {
-        rows.push(((ax * factor, ay), (bx * factor, by), 1))?;
-    }
-    let (flag, passes, after) = split_rows::<i16>(rt, &rows, &solver, limit)?;
-    assert_eq!(rt; flag, Ok(true));
-    Ok((passes, after.len()))
+) -> (u128, usize) {
+    let (flag, passes, after) = split_rows::<i16>(rt, &slivers(rt, factor), &solver, limit);
+    assert!(rt; flag == Ok(true));
+    (passes, after.len())
 }
 
 /// Segments on one pair of ends, some of them given from right to left: the counts of the one that is left.
-type Joined = (&'static [((i64, i64), (i64, i64), i32, i32)], (i32, i32));
+type Joined = (&'static [((i32, i32), (i32, i32), i32, i32)], (i32, i32));
 
 const JOINED: [Joined; 2] = [
     (
@@ -491,28 +553,38 @@ const JOINED: [Joined; 2] = [
     (&[((3, 4), (1, 2), 1, 0), ((1, 2), (3, 4), 0, 1)], (-1, 1)),
 ];
 
+/// The segments of a row of the table.
+fn joined(rt: &(impl Abort + AllocGlobal), given: &Joined) -> Vec<Counted<i32>> {
+    let mut list = Vec::new(rt.alloc());
+    for ((ax, ay), (bx, by), subj, clip) in given.0.iter().copied() {
+        let (a, b) = (IntPoint::new(ax, ay), IntPoint::new(bx, by));
+        let segment = counted(rt, a, b, ShapeCountBoolean::new(subj, clip));
+        list.push(segment).expect(rt, "memory");
+    }
+    list
+}
+
+/// Wants one segment after the split.
+fn check_joined(rt: &(impl Abort + AllocGlobal), strategy: Strategy, given: &Joined) {
+    let mut list = joined(rt, given);
+    let mut splitter = SplitSolver::new(rt.alloc());
+    let flag = split_list(rt, &mut splitter, &mut list, &high(strategy));
+    assert!(rt; flag == Ok(true));
+    assert!(rt; list.len() == 1);
+    let (subj, clip) = given.1;
+    assert_eq!(rt;
+        (row(&list[0]), list[0].count().clip),
+        (((1, 2), (3, 4), subj), clip)
+    );
+}
+
 #[test]
-fn segments_on_one_pair(rt: HostRuntime) -> Result<(), Fail> {
+fn segments_on_one_pair(rt: HostRuntime) {
     for strategy in STRATEGIES {
-        for (given, counts) in JOINED {
-            let mut list: Vec<Segment<ShapeCountBoolean, i32, ()>> = Vec::new(rt.alloc());
-            for ((ax, ay), (bx, by), subj, clip) in given.iter().copied() {
-                let a = IntPoint::new(coordinate(&rt, ax), coordinate(&rt, ay));
-                let b = IntPoint::new(coordinate(&rt, bx), coordinate(&rt, by));
-                let count = ShapeCountBoolean::new(subj, clip);
-                assert!(rt; a != b && count.is_valid());
-                list.push(Segment::create_and_validate_with_data(a, b, count, (), &mut ()))?;
-            }
-            let solver = Solver::with_strategy_and_precision(strategy, Precision::HIGH);
-            let mut splitter = SplitSolver::new(rt.alloc());
-            assert!(rt; is_splittable(&list));
-            assert_eq!(rt; splitter.split_segments(&mut list, &solver), Ok(true));
-            assert_eq!(rt; list.len(), 1);
-            assert_eq!(rt; row(&list[0]), ((1, 2), (3, 4), counts.0));
-            assert_eq!(rt; list[0].count().clip, counts.1);
+        for given in JOINED.iter() {
+            check_joined(&rt, strategy, given);
         }
     }
-    Ok(())
 }
 
 /// Data of a user: a color by its number, of which a merge keeps equal ones and else answers that there is none; and a
@@ -591,149 +663,175 @@ impl OverlayEdgeData<ShapeCountBoolean> for Colors {
     }
 }
 
-fn colored(
-    rt: &impl Abort,
-    from: i32,
-    subj: i32,
-    clip: i32,
-    colors: Colors,
-) -> Segment<ShapeCountBoolean, i32, Colors> {
-    assert!(rt; 0 <= from && from <= 100);
-    let count = ShapeCountBoolean::new(subj, clip);
-    assert!(rt; count.is_valid());
-    let (a, b) = (IntPoint::new(from, 0), IntPoint::new(from + 4, 0));
+type Colored = Segment<ShapeCountBoolean, i32, Colors>;
+
+/// A colored segment as the tests write it: from, to, the count for the subject and for the clip, the color.
+type ColoredRow = ((i32, i32), (i32, i32), i32, i32, Colors);
+
+/// A colored segment along the axis, 4 long.
+fn colored(rt: &impl Abort, from: i32, count: ShapeCountBoolean, colors: Colors) -> Colored {
+    let (a, b) = (
+        IntPoint::new(from, 0),
+        IntPoint::new(from.wrapping_add(4), 0),
+    );
     assert!(rt; a != b);
+    assert!(rt; count.is_valid());
     Segment::create_and_validate_with_data(a, b, count, colors, &mut Calls::default())
 }
 
-#[test]
-fn colors_of_an_overlap(rt: HostRuntime) -> Result<(), Fail> {
-    for strategy in STRATEGIES {
-        let mut list = Vec::new(rt.alloc());
-        list.push(colored(&rt, 0, 1, 0, RED))?;
-        list.push(colored(&rt, 2, 0, 1, GREEN))?;
-        assert!(rt; is_splittable(&list));
-        let mut calls = Calls::default();
-        let mut splitter = SplitSolver::new(rt.alloc());
-        let solver = Solver::with_strategy_and_precision(strategy, Precision::HIGH);
-        let flag = splitter.split_segments_with_store(&mut list, &solver, &mut calls);
-        assert_eq!(rt; flag, Ok(true));
-        let mut after = Vec::new(rt.alloc());
-        for segment in list.iter() {
-            let count = segment.count();
-            let XSegment { a, b } = segment.x_segment();
-            after.push((a.x, b.x, count.subj, count.clip, segment.edge_data()))?;
-        }
-        let three = [
-            (0, 2, 1, 0, RED),
-            (2, 4, 1, 1, UNDEFINED),
-            (4, 6, 0, 1, GREEN),
-        ];
-        assert_eq!(rt; after.as_slice(), three.as_slice());
-        assert_eq!(rt; (calls.splits, calls.reversals, calls.merges), (2, 0, 1));
-        let merged = calls.merged.ok_or("no merge")?;
-        assert_eq!(rt;
-            (merged.lhs_data, merged.lhs_count),
-            (GREEN, ShapeCountBoolean { subj: 0, clip: 1 })
-        );
-        assert_eq!(rt;
-            (merged.rhs_data, merged.rhs_count),
-            (RED, ShapeCountBoolean { subj: 1, clip: 0 })
-        );
-        assert_eq!(rt; merged.out_count, ShapeCountBoolean { subj: 1, clip: 1 });
-    }
-    Ok(())
-}
-
-fn red_line(
-    rt: &impl Abort,
-    from: (i32, i32),
-    to: (i32, i32),
-) -> Segment<ShapeCountBoolean, i32, Colors> {
+/// A red segment of the subject.
+fn red_line(rt: &impl Abort, from: (i32, i32), to: (i32, i32)) -> Colored {
     let (a, b) = (IntPoint::new(from.0, from.1), IntPoint::new(to.0, to.1));
     let line = Segment::try_ab_and_data(a, b, ShapeType::Subject, RED, &mut Calls::default());
     line.expect(rt, "two ends")
 }
 
+/// Splits colored segments, and wants the flag of a list that changes.
+fn split_colored(
+    rt: &(impl Abort + AllocGlobal),
+    list: &mut Vec<Colored>,
+    strategy: Strategy,
+    calls: &mut Calls,
+) {
+    assert!(rt; is_splittable(list));
+    let mut splitter = SplitSolver::new(rt.alloc());
+    let flag = splitter.split_segments_with_store(list, &high(strategy), calls);
+    assert!(rt; flag == Ok(true));
+}
+
+/// Wants these segments.
+fn check_colored(rt: &(impl Abort + AllocGlobal), list: &[Colored], wanted: &[ColoredRow]) {
+    let mut after = Vec::new(rt.alloc());
+    for segment in list {
+        let count = segment.count();
+        let XSegment { a, b } = segment.x_segment();
+        let row = (
+            (a.x, a.y),
+            (b.x, b.y),
+            count.subj,
+            count.clip,
+            segment.edge_data(),
+        );
+        after.push(row).expect(rt, "memory");
+    }
+    assert_eq!(rt; after.as_slice(), wanted);
+}
+
+/// Wants so many calls of each hook: of splits, of reversals, of merges.
+fn check_calls(rt: &impl Abort, calls: &Calls, wanted: (u32, u32, u32)) {
+    assert_eq!(rt; (calls.splits, calls.reversals, calls.merges), wanted);
+}
+
+/// What is merged where a red segment of the subject and a green one of the clip overlap.
+fn check_merge(rt: &impl Abort, merged: EdgeDataMerge<ShapeCountBoolean, Colors>) {
+    let subject = ShapeCountBoolean { subj: 1, clip: 0 };
+    let clip = ShapeCountBoolean { subj: 0, clip: 1 };
+    let both = ShapeCountBoolean { subj: 1, clip: 1 };
+    let left = (merged.lhs_data, merged.lhs_count);
+    let right = (merged.rhs_data, merged.rhs_count);
+    assert_eq!(rt;
+        (left, right, merged.out_count),
+        ((GREEN, clip), (RED, subject), both)
+    );
+}
+
+/// A red segment and a green one that overlap.
+fn overlapping(rt: &(impl Abort + AllocGlobal)) -> Vec<Colored> {
+    let mut list = Vec::new(rt.alloc());
+    let red = colored(rt, 0, ShapeCountBoolean::new(1, 0), RED);
+    list.push(red).expect(rt, "memory");
+    let green = colored(rt, 2, ShapeCountBoolean::new(0, 1), GREEN);
+    list.push(green).expect(rt, "memory");
+    list
+}
+
+const OVERLAP: [ColoredRow; 3] = [
+    ((0, 0), (2, 0), 1, 0, RED),
+    ((2, 0), (4, 0), 1, 1, UNDEFINED),
+    ((4, 0), (6, 0), 0, 1, GREEN),
+];
+
+#[test]
+fn colors_of_an_overlap(rt: HostRuntime) {
+    for strategy in STRATEGIES {
+        let mut list = overlapping(&rt);
+        let mut calls = Calls::default();
+        split_colored(&rt, &mut list, strategy, &mut calls);
+        check_colored(&rt, &list, &OVERLAP);
+        check_calls(&rt, &calls, (2, 0, 1));
+        check_merge(&rt, calls.merged.expect(&rt, "a merge"));
+    }
+}
+
+const BEND: [ColoredRow; 3] = [
+    ((0, 0), (1, -50), -1, 0, RED),
+    ((0, 0), (1, 50), 1, 0, RED),
+    ((0, 0), (100, 1), 1, 0, RED),
+];
+
 /// A line that is bent through another's end: its lower half runs backward.
 #[test]
-fn colors_of_a_bent_line(rt: HostRuntime) -> Result<(), Fail> {
+fn colors_of_a_bent_line(rt: HostRuntime) {
     for strategy in STRATEGIES {
         let mut list = Vec::new(rt.alloc());
-        list.push(red_line(&rt, (0, 0), (100, 1)))?;
-        list.push(red_line(&rt, (1, -50), (1, 50)))?;
-        assert!(rt; is_splittable(&list));
+        let flat = red_line(&rt, (0, 0), (100, 1));
+        list.push(flat).expect(&rt, "memory");
+        let steep = red_line(&rt, (1, -50), (1, 50));
+        list.push(steep).expect(&rt, "memory");
         let mut calls = Calls::default();
-        let mut splitter = SplitSolver::new(rt.alloc());
-        let solver = Solver::with_strategy_and_precision(strategy, Precision::HIGH);
-        let flag = splitter.split_segments_with_store(&mut list, &solver, &mut calls);
-        assert_eq!(rt; flag, Ok(true));
-        let mut after = Vec::new(rt.alloc());
-        for segment in list.iter() {
-            let XSegment { a, b } = segment.x_segment();
-            after.push((a, b, segment.count().subj, segment.edge_data()))?;
-        }
-        let bend = IntPoint::new(0, 0);
-        let three = [
-            (bend, IntPoint::new(1, -50), -1, RED),
-            (bend, IntPoint::new(1, 50), 1, RED),
-            (bend, IntPoint::new(100, 1), 1, RED),
-        ];
-        assert_eq!(rt; after.as_slice(), three.as_slice());
-        assert_eq!(rt; (calls.splits, calls.reversals, calls.merges), (1, 1, 0));
+        split_colored(&rt, &mut list, strategy, &mut calls);
+        check_colored(&rt, &list, &BEND);
+        check_calls(&rt, &calls, (1, 1, 0));
         assert!(rt; calls.merged.is_none());
     }
-    Ok(())
 }
 
 #[test]
-fn slivers_need_many_passes(rt: HostRuntime) -> Result<(), Fail> {
+fn slivers_need_many_passes(rt: HostRuntime) {
     for strategy in STRATEGIES {
-        let high = Solver::with_strategy_and_precision(strategy, Precision::HIGH);
+        let high = high(strategy);
         let absolute = Solver::with_strategy_and_precision(strategy, Precision::ABSOLUTE);
-        assert_eq!(rt; slivers(&rt, 1, 0, high)?, (278, 282));
-        assert_eq!(rt; slivers(&rt, 1, 256, absolute)?.0, 20);
-        assert_eq!(rt; slivers(&rt, 1, 256, high)?.0, 4);
+        assert!(rt; split_slivers(&rt, 1, 0, high) == (278, 282));
+        assert!(rt; split_slivers(&rt, 1, 256, absolute).0 == 20);
+        assert!(rt; split_slivers(&rt, 1, 256, high).0 == 4);
     }
-    Ok(())
 }
 
 #[test]
-fn slivers_past_the_snap_limit(rt: HostRuntime) -> Result<(), Fail> {
+fn slivers_past_the_snap_limit(rt: HostRuntime) {
     let absolute = Solver::with_precision(Precision::ABSOLUTE);
-    assert_eq!(rt; slivers(&rt, 14, 256, absolute)?, (3734, 3738));
-    Ok(())
+    assert!(rt; split_slivers(&rt, 14, 256, absolute) == (3734, 3738));
 }
+
+const CROSS: [Row; 2] = [((-2, 0), (2, 0), 1), ((0, -2), (0, 2), 1)];
+
+const LARGE: [Row; 2] = [((0, 0), (4, 0), i32::MAX), ((0, 0), (4, 0), i32::MAX)];
+
+/// Splits, one after the other, with one splitter.
+const IN_TURN: [(&[Row], Result<bool, Fault>); 3] = [
+    (&CROSS, Ok(true)),
+    (&LARGE, Err(Fault::CountOutOfRange)),
+    (&CROSS, Ok(true)),
+];
 
 #[test]
-fn a_splitter_after_a_refusal(rt: HostRuntime) -> Result<(), Fail> {
-    let cross = [((-2, 0), (2, 0), 1), ((0, -2), (0, 2), 1)];
-    let large = [((0, 0), (4, 0), i32::MAX), ((0, 0), (4, 0), i32::MAX)];
+fn a_splitter_after_a_refusal(rt: HostRuntime) {
     let mut splitter: SplitSolver<i32> = SplitSolver::new(rt.alloc());
-    assert_eq!(rt; splitter.passes(), 0);
-    for (given, answer) in [
-        (cross.as_slice(), Ok(true)),
-        (large.as_slice(), Err(Fault::CountOutOfRange)),
-        (cross.as_slice(), Ok(true)),
-    ] {
-        let mut list = segments(&rt, given)?;
-        assert!(rt; is_splittable(&list));
-        assert_eq!(rt; splitter.split_segments(&mut list, &Solver::AUTO), answer);
-        assert_eq!(rt; splitter.passes(), 1);
+    assert!(rt; splitter.passes() == 0);
+    for (given, answer) in IN_TURN {
+        let mut list = segments(&rt, given);
+        let flag = split_list(&rt, &mut splitter, &mut list, &Solver::AUTO);
+        assert_eq!(rt; (flag, splitter.passes()), (answer, 1));
     }
-    Ok(())
 }
 
-/// The squared radii of four passes.
-fn radii(precision: Precision) -> [i64; 4] {
+/// Wants these squared radii of four passes.
+fn check_radii(rt: &impl Abort, precision: Precision, wanted: [i64; 4]) {
     let mut radius = Solver::with_precision(precision).snap_radius();
-    let first = radius.radius_squared::<i16>();
-    radius.increment();
-    let second = radius.radius_squared::<i16>();
-    radius.increment();
-    let third = radius.radius_squared::<i16>();
-    radius.increment();
-    [first, second, third, radius.radius_squared::<i16>()]
+    for wanted in wanted {
+        assert_eq!(rt; radius.radius_squared::<i16>(), wanted);
+        radius.increment();
+    }
 }
 
 #[test]
@@ -746,10 +844,8 @@ fn radii_stop_at_the_cap(rt: HostRuntime) {
         start: 24,
         progression: usize::MAX,
     };
-    assert_eq!(rt; radii(Precision::HIGH), [1, 2, 4, 8]);
-    assert_eq!(rt;
-        radii(late),
-        [8_388_608, 16_777_216, 16_777_216, 16_777_216]
-    );
-    assert_eq!(rt; radii(huge), [16_777_216; 4]);
+    let cap = 16_777_216;
+    check_radii(&rt, Precision::HIGH, [1, 2, 4, 8]);
+    check_radii(&rt, late, [8_388_608, cap, cap, cap]);
+    check_radii(&rt, huge, [cap; 4]);
 }

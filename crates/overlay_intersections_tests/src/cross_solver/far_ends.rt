@@ -184,51 +184,37 @@ const NARROW_ROWS: [FarRow; 9] = [
     },
 ];
 
+/// The answer for a crossing strictly inside both segments, at a point that is rounded.
 fn rounded(point: (i64, i64)) -> Answer {
     Some((CrossType::Pure, point.0, point.1, true))
 }
 
-fn check<I: OverlayInt>(rt: &impl Abort, row: &FarRow, first: &XSegment<I>, second: &XSegment<I>) {
-    assert_eq!(rt;
-        ask(rt, first, second, 1),
-        rounded(row.snapped),
-        "{}",
-        row.name
-    );
-    assert_eq!(rt;
-        ask(rt, second, first, 1),
-        rounded(row.swapped),
-        "{}, swapped",
-        row.name
-    );
-    assert_eq!(rt;
-        ask_settled(rt, first, second),
-        rounded(row.settled),
-        "{}, settled",
-        row.name
-    );
-    assert_eq!(rt;
-        ask_settled(rt, second, first),
-        rounded(row.settled),
-        "{}, settled and swapped",
-        row.name
-    );
+/// Asks for the answers of a row, in a pass that snaps and in one that settles.
+fn check_far<I: OverlayInt>(
+    rt: &impl Abort,
+    row: &FarRow,
+    first: &XSegment<I>,
+    second: &XSegment<I>,
+) {
+    let found = ask(rt, first, second, 1);
+    let swapped = ask(rt, second, first, 1);
+    let wanted = [rounded(row.snapped), rounded(row.swapped)];
+    check(rt, row.name, [found, swapped], wanted);
+    check_settled(rt, row.name, first, second, [rounded(row.settled); 2]);
 }
 
 #[test]
 fn far_ends_of_the_wide_engine(rt: HostRuntime) {
     for row in WIDE_ROWS.iter() {
-        check(&rt, row, &wide(row.first), &wide(row.second));
+        check_far(&rt, row, &wide(row.first), &wide(row.second));
     }
 }
 
 #[test]
 fn far_ends_of_the_narrow_engine(rt: HostRuntime) {
     for row in NARROW_ROWS.iter() {
-        let segments = (narrow(row.first), narrow(row.second));
-        assert!(rt; segments.0.is_some() && segments.1.is_some());
-        if let (Some(first), Some(second)) = segments {
-            check(&rt, row, &first, &second);
-        }
+        let first = narrow(row.first).expect(&rt, row.name);
+        let second = narrow(row.second).expect(&rt, row.name);
+        check_far(&rt, row, &first, &second);
     }
 }

@@ -74,26 +74,25 @@ const NARROW_SPLITS: [FarSplit; 2] = [
     },
 ];
 
-fn splits_far_out<I: OverlayInt>(
-    rt: &(impl Abort + AllocGlobal),
-    splits: &[FarSplit],
-) -> Result<(), Fail> {
+/// Splits under a strategy, with both snap limits.
+fn check_far<I: OverlayInt>(rt: &(impl Abort + AllocGlobal), strategy: Strategy, split: &FarSplit) {
+    for limit in [256, 0] {
+        let told = split_rows::<I>(rt, split.given.as_slice(), &high(strategy), limit);
+        check(rt, split.name, &told, (Ok(true), 2, split.after.as_slice()));
+    }
+}
+
+/// Splits under each strategy.
+fn check_all<I: OverlayInt>(rt: &(impl Abort + AllocGlobal), splits: &[FarSplit]) {
     for strategy in STRATEGIES {
-        for limit in [256, 0] {
-            for split in splits {
-                let name = split.name;
-                let solver = Solver::with_strategy_and_precision(strategy, Precision::HIGH);
-                let told = split_rows::<I>(rt, split.given.as_slice(), &solver, limit)?;
-                assert_eq!(rt; (told.0, told.1), (Ok(true), 2), "{name}");
-                assert_eq!(rt; told.2.as_slice(), split.after.as_slice(), "{name}");
-            }
+        for split in splits {
+            check_far::<I>(rt, strategy, split);
         }
     }
-    Ok(())
 }
 
 #[test]
-fn splits_at_the_limits(rt: HostRuntime) -> Result<(), Fail> {
-    splits_far_out::<i16>(&rt, NARROW_SPLITS.as_slice())?;
-    splits_far_out::<i32>(&rt, WIDE_SPLITS.as_slice())
+fn splits_at_the_limits(rt: HostRuntime) {
+    check_all::<i16>(&rt, NARROW_SPLITS.as_slice());
+    check_all::<i32>(&rt, WIDE_SPLITS.as_slice());
 }

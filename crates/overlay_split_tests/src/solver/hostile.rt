@@ -19,32 +19,31 @@ const MOST_PASSES_OF_THE_STAR: u128 = 82_759;
 const MOST_PASSES_OF_THE_SQUARE: u128 = 701;
 
 /// Lines from x = -1000 to x = 999, all of them through (-1/2, 20).
-fn star(rt: &impl AllocGlobal) -> Result<Vec<Row>, Fail> {
+fn star(rt: &(impl Abort + AllocGlobal)) -> Vec<Row> {
     let mut rows = Vec::new(rt.alloc());
     for line in 0..=40_u16 {
         let y = i64::from(line);
-        rows.push(((-1000, y), (999, 40 - y), 1))?;
+        let row = ((-1000, y), (999, 40 - y), 1);
+        rows.push(row).expect(rt, "memory");
     }
-    Ok(rows)
+    rows
 }
 
-/// All segments between points of the square from (-2, -2) to (2, 2), each from its smaller end.
-fn small_square(rt: &impl AllocGlobal) -> Result<Vec<Row>, Fail> {
-    let mut points: Vec<(i64, i64)> = Vec::new(rt.alloc());
-    for x in -2..=2 {
-        for y in -2..=2 {
-            points.push((x, y))?;
-        }
-    }
+/// A point of the square from (-2, -2) to (2, 2) by its number, of which there are 25.
+fn square_point(number: u16) -> (i64, i64) {
+    (i64::from(number / 5) - 2, i64::from(number % 5) - 2)
+}
+
+/// All segments between points of the square, each from its smaller end.
+fn small_square(rt: &(impl Abort + AllocGlobal)) -> Vec<Row> {
     let mut rows = Vec::new(rt.alloc());
-    for a in &points {
-        for b in &points {
-            if *a < *b {
-                rows.push((*a, *b, 1))?;
-            }
+    for pair in 0..625_u16 {
+        let (a, b) = (square_point(pair / 25), square_point(pair % 25));
+        if a < b {
+            rows.push((a, b, 1)).expect(rt, "memory");
         }
     }
-    Ok(rows)
+    rows
 }
 
 /// The counts of the segments that start at a point, less those of the segments that end there.
@@ -61,15 +60,14 @@ fn balance_at(rows: &[Row], point: (i64, i64)) -> i64 {
     balance
 }
 
-/// Whether each point of both lists has in both the same balance.
-fn is_balance_kept(before: &[Row], after: &[Row]) -> bool {
-    for rows in [before, after] {
-        for (a, b, _) in rows {
-            for point in [*a, *b] {
-                if balance_at(before, point) != balance_at(after, point) {
-                    return false;
-                }
-            }
+/// Whether each end of some rows has in both lists the same balance.
+fn is_kept_at_ends(ends: &[Row], before: &[Row], after: &[Row]) -> bool {
+    for (a, b, _) in ends {
+        if balance_at(before, *a) != balance_at(after, *a) {
+            return false;
+        }
+        if balance_at(before, *b) != balance_at(after, *b) {
+            return false;
         }
     }
     true
@@ -81,46 +79,41 @@ fn agreed<I: OverlayInt>(
     given: &[Row],
     precision: Precision,
     limit: u32,
-) -> Result<u128, Fail> {
+) -> u128 {
     let list = Solver::with_strategy_and_precision(Strategy::List, precision);
-    let (flag, passes, rows) = split_rows::<I>(rt, given, &list, limit)?;
-    assert_eq!(rt; flag, Ok(true));
-    assert!(rt; is_balance_kept(given, &rows));
+    let (flag, passes, rows) = split_rows::<I>(rt, given, &list, limit);
+    assert!(rt; flag == Ok(true));
+    assert!(rt; is_kept_at_ends(given, given, &rows));
+    assert!(rt; is_kept_at_ends(&rows, given, &rows));
     for strategy in [Strategy::Tree, Strategy::Frag, Strategy::Auto] {
         let solver = Solver::with_strategy_and_precision(strategy, precision);
-        let told = split_rows::<I>(rt, given, &solver, limit)?;
-        assert_eq!(rt; (told.0, told.1), (flag, passes));
-        assert!(rt; told.2.as_slice() == rows.as_slice());
+        let told = split_rows::<I>(rt, given, &solver, limit);
+        check(rt, "as by the list", &told, (flag, passes, &rows));
     }
-    Ok(passes)
+    passes
 }
 
 /// Splits at every precision, with each limit, and wants no more passes than these.
-fn agreed_within<I: OverlayInt>(
-    rt: &(impl Abort + AllocGlobal),
-    given: &[Row],
-    most: u128,
-) -> Result<(), Fail> {
+fn agreed_within<I: OverlayInt>(rt: &(impl Abort + AllocGlobal), given: &[Row], most: u128) {
     for precision in PRECISIONS {
         for limit in [0, 1, 256] {
-            assert!(rt; agreed::<I>(rt, given, precision, limit)? <= most);
+            assert!(rt; agreed::<I>(rt, given, precision, limit) <= most);
         }
     }
-    Ok(())
 }
 
 #[test]
-fn lines_through_one_point(rt: HostRuntime) -> Result<(), Fail> {
-    let given = star(&rt)?;
-    assert_eq!(rt; given.len(), 41);
-    agreed_within::<i16>(&rt, &given, MOST_PASSES_OF_THE_STAR)?;
-    agreed_within::<i32>(&rt, &given, MOST_PASSES_OF_THE_STAR)
+fn lines_through_one_point(rt: HostRuntime) {
+    let given = star(&rt);
+    assert!(rt; given.len() == 41);
+    agreed_within::<i16>(&rt, &given, MOST_PASSES_OF_THE_STAR);
+    agreed_within::<i32>(&rt, &given, MOST_PASSES_OF_THE_STAR);
 }
 
 #[test]
-fn segments_of_a_small_square(rt: HostRuntime) -> Result<(), Fail> {
-    let given = small_square(&rt)?;
-    assert_eq!(rt; given.len(), 300);
-    agreed_within::<i16>(&rt, &given, MOST_PASSES_OF_THE_SQUARE)?;
-    agreed_within::<i32>(&rt, &given, MOST_PASSES_OF_THE_SQUARE)
+fn segments_of_a_small_square(rt: HostRuntime) {
+    let given = small_square(&rt);
+    assert!(rt; given.len() == 300);
+    agreed_within::<i16>(&rt, &given, MOST_PASSES_OF_THE_SQUARE);
+    agreed_within::<i32>(&rt, &given, MOST_PASSES_OF_THE_SQUARE);
 }

@@ -5,7 +5,7 @@ use Rattle.overlay_base.specs.Join.{join}
 use Rattle.overlay_base.specs.SegmentOf.{segment_of, segments_of, winding_of}
 use Rattle.overlay_base.proofs.laws.joins.Rests.{is_splittable-valid}
 use Rattle.overlay_split.proofs.laws.passes.Ready.{is_map-joined}
-use Rattle.overlay_split_tests.proofs.pass.joined.Goals as goal
+use Rattle.overlay_split_tests.proofs.pass.join.Goals as goal
 
 pub join_with_store-requires : goal.join_with_store-requires
 join_with_store-requires g c =
@@ -14,5 +14,5 @@ join_with_store-requires g c =
 
 pub returns : goal.returns
 returns g c =
-    let geometry = subst (λ r. OnOk r (segments_of c.join_with_store.new.list.items ≡ join (segments_of c.loop-ax.list.items))) c.expect-2.ensures c.join_with_store.ensures.geometry in
-    record { map = is_map-joined c.loop-ax.list.items (segments_of c.join_with_store.new.list.items) geometry }
+    let geometry = subst (λ r. OnOk r (segments_of c.join_with_store.new.list.items ≡ join (segments_of c.args.list.now.items))) c.expect.ensures c.join_with_store.ensures.geometry in
+    record { map = is_map-joined c.args.list.now.items (segments_of c.join_with_store.new.list.items) geometry }
