@@ -1,5 +1,6 @@
 // Lists whose counts balance or not: contours that close or not, sums that leave the range of counts, masks of lines.
 
+use crate::segments::segment;
 use overlay_base::segm::balance::is_balanced;
 use overlay_base::segm::boolean::ShapeCountBoolean;
 use overlay_base::segm::segment::Segment;
@@ -84,25 +85,23 @@ const LISTS: [(&str, &[Row], bool); 9] = [
     ),
 ];
 
-fn segment<C: WindingCount>(
-    rt: &impl Abort,
-    from: (i32, i32),
-    to: (i32, i32),
-    count: C,
-) -> Segment<C, i32, ()> {
-    let (a, b) = (IntPoint::new(from.0, from.1), IntPoint::new(to.0, to.1));
-    assert!(rt; a != b && count.is_valid());
-    Segment::create_and_validate_with_data(a, b, count, (), &mut ())
+/// The list of some rows.
+fn boolean_list(
+    rt: &(impl Abort + AllocGlobal),
+    rows: &[Row],
+) -> Result<Vec<Segment<ShapeCountBoolean, i32, ()>>, Fail> {
+    let mut list = Vec::new(rt.alloc());
+    for ((ax, ay), (bx, by), (subj, clip)) in rows.iter().copied() {
+        let count = ShapeCountBoolean::new(subj, clip);
+        list.push(segment(rt, IntPoint::new(ax, ay), IntPoint::new(bx, by), count))?;
+    }
+    Ok(list)
 }
 
 #[test]
 fn contours_that_close_or_not(rt: HostRuntime) -> Result<(), Fail> {
     for (name, rows, balanced) in LISTS {
-        let mut list = Vec::new(rt.alloc());
-        for (from, to, (subj, clip)) in rows.iter().copied() {
-            let count = ShapeCountBoolean::new(subj, clip);
-            list.push(segment(&rt, from, to, count))?;
-        }
+        let list = boolean_list(&rt, rows)?;
         assert_eq!(rt; is_balanced(rt.alloc(), &list), Ok(balanced), "{name}");
     }
     Ok(())
@@ -110,19 +109,38 @@ fn contours_that_close_or_not(rt: HostRuntime) -> Result<(), Fail> {
 
 #[test]
 fn the_least_number_has_no_inverse(rt: HostRuntime) {
-    let side = segment(&rt, (0, 0), (4, 0), ShapeCountBoolean::SUBJ_DIRECT);
+    let (a, b) = (IntPoint::new(0, 0), IntPoint::new(4, 0));
+    let side: Segment<ShapeCountBoolean, i32, ()> = segment(
+        &rt,
+        a,
+        b,
+        ShapeCountBoolean::SUBJ_DIRECT,
+    );
     let side = side.with_count_and_data(ShapeCountBoolean::new(i32::MIN, 0), ());
     assert_eq!(rt; is_balanced(rt.alloc(), &[side, side]), Ok(false));
 }
 
+/// A line along the axis.
+fn line(
+    rt: &impl Abort,
+    from: i32,
+    to: i32,
+    subj: i32,
+    clip: u8,
+) -> Segment<ShapeCountString, i32, ()> {
+    let (a, b) = (IntPoint::new(from, 0), IntPoint::new(to, 0));
+    segment(rt, a, b, ShapeCountString { subj, clip })
+}
+
 #[test]
 fn masks_do_not_count(rt: HostRuntime) {
-    let count = |subj, clip| ShapeCountString { subj, clip };
-    let line = segment(&rt, (0, 0), (4, 0), count(0, 2));
-    assert_eq!(rt; is_balanced(rt.alloc(), &[line]), Ok(true));
-    let (there, back) = (count(1, 3), count(1, 0));
-    let step = segment(&rt, (0, 0), (4, 0), there);
-    assert_eq!(rt; is_balanced(rt.alloc(), &[step, line]), Ok(false));
-    let step_back = segment(&rt, (4, 0), (0, 0), back);
-    assert_eq!(rt; is_balanced(rt.alloc(), &[step, line, step_back]), Ok(true));
+    let mask = line(&rt, 0, 4, 0, 2);
+    let step = line(&rt, 0, 4, 1, 3);
+    let step_back = line(&rt, 4, 0, 1, 0);
+    let found = (
+        is_balanced(rt.alloc(), &[mask]),
+        is_balanced(rt.alloc(), &[step, mask]),
+        is_balanced(rt.alloc(), &[step, mask, step_back]),
+    );
+    assert_eq!(rt; found, (Ok(true), Ok(false), Ok(true)));
 }

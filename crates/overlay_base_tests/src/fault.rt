@@ -6,9 +6,8 @@ use std::test::Fail;
 
 #[test]
 fn fault_texts(rt: HostRuntime) -> Result<(), Fail> {
-    let memory = format!(in rt.alloc(); "{}", Fault::Memory)?;
-    let count = format!(in rt.alloc(); "{}", Fault::CountOutOfRange)?;
-    assert_eq!(rt; memory.as_str(), "out of memory");
-    assert_eq!(rt; count.as_str(), "count out of range");
+    let faults = (Fault::Memory, Fault::CountOutOfRange);
+    let texts = format!(in rt.alloc(); "{}, {}", faults.0, faults.1)?;
+    assert_eq!(rt; texts.as_str(), "out of memory, count out of range");
     Ok(())
 }

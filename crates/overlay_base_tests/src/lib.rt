@@ -19,6 +19,8 @@ mod points;
 #[cfg(test)]
 mod rule_table;
 #[cfg(test)]
+mod segments;
+#[cfg(test)]
 mod solver;
 #[cfg(test)]
 mod string;

@@ -1,5 +1,10 @@
 // Worked joins: a list is sorted and merged, and what has to come out. The hooks that are called.
 
+ghost use Rattle.std.specs.Prelude.{All, IsTrue};
+ghost use Rattle.overlay_base.specs.Windings.{is_valid};
+ghost use Rattle.overlay_base.specs.SegmentOf.{winding_of};
+
+use crate::segments::segment;
 use overlay_base::overlay_core::edge_data::{EdgeDataMerge, EdgeDataSplit, OverlayEdgeData};
 use overlay_base::segm::boolean::ShapeCountBoolean;
 use overlay_base::segm::fault::Fault;
@@ -17,7 +22,14 @@ use std::test::Fail;
 type Row = ((i64, i64), (i64, i64), (i32, i32));
 
 /// What is sorted and merged, the answer, and the list after it.
-const JOINS: [(&str, &[Row], Result<bool, Fault>, &[Row]); 9] = [
+type Join = (
+    &'static str,
+    &'static [Row],
+    Result<bool, Fault>,
+    &'static [Row],
+);
+
+const JOINS: [Join; 9] = [
     ("nothing", &[], Ok(false), &[]),
     (
         "three on one pair",
@@ -99,25 +111,14 @@ const JOINS: [(&str, &[Row], Result<bool, Fault>, &[Row]); 9] = [
     ),
 ];
 
-fn coordinate<I: OverlayInt>(rt: &impl Abort, number: i64) -> I {
-    assert!(rt; I::MIN_COORD.to_wide() <= number && number <= I::MAX_COORD.to_wide());
-    I::from_wide(number)
+/// The point with these coordinates, which have to be in range.
+fn point<I: OverlayInt>(rt: &impl Abort, (x, y): (i64, i64)) -> IntPoint<I> {
+    let (least, greatest) = (I::MIN_COORD.to_wide(), I::MAX_COORD.to_wide());
+    assert!(rt; least <= x && x <= greatest && least <= y && y <= greatest);
+    IntPoint::new(I::from_wide(x), I::from_wide(y))
 }
 
-fn segment<I: OverlayInt, D: OverlayEdgeData<ShapeCountBoolean>>(
-    rt: &impl Abort,
-    row: Row,
-    edge_data: D,
-    store: &mut D::Store,
-) -> Segment<ShapeCountBoolean, I, D> {
-    let ((ax, ay), (bx, by), (subj, clip)) = row;
-    let a = IntPoint::new(coordinate(rt, ax), coordinate(rt, ay));
-    let b = IntPoint::new(coordinate(rt, bx), coordinate(rt, by));
-    let count = ShapeCountBoolean::new(subj, clip);
-    assert!(rt; a != b && count.is_valid());
-    Segment::create_and_validate_with_data(a, b, count, edge_data, store)
-}
-
+/// A segment as the tables write it.
 fn row<I: OverlayInt, D: Copy>(segment: &Segment<ShapeCountBoolean, I, D>) -> Row {
     let ends = segment.x_segment();
     let count = segment.count();
@@ -126,12 +127,20 @@ fn row<I: OverlayInt, D: Copy>(segment: &Segment<ShapeCountBoolean, I, D>) -> Ro
     (a, b, (count.subj, count.clip))
 }
 
+/// Whether each count is valid.
+fn are_valid<I: OverlayInt, D: Copy>(list: &[Segment<ShapeCountBoolean, I, D>]) -> bool
+    ensures { IsTrue result → All (λ s. IsTrue (is_valid (winding_of s))) list.now }
+{
+    list.iter().all(|segment| segment.count().is_valid())
+}
+
+/// A join of a list, whose counts have to be valid.
 fn joined<I: OverlayInt, D: OverlayEdgeData<ShapeCountBoolean>>(
     rt: &impl Abort,
     list: &mut Vec<Segment<ShapeCountBoolean, I, D>>,
     store: &mut D::Store,
 ) -> Result<bool, Fault> {
-    assert!(rt; list.iter().all(|segment| segment.count().is_valid()));
+    assert!(rt; are_valid(list));
     join_with_store(list, store)
 }
 
@@ -141,39 +150,52 @@ fn sorted_and_merged<I: OverlayInt>(
     list: &mut Vec<Segment<ShapeCountBoolean, I, ()>>,
 ) -> Result<bool, Fault> {
     sort_by_ab(list)?;
-    assert!(rt; list.iter().all(|segment| segment.count().is_valid()));
+    assert!(rt; are_valid(list));
     merge_if_needed_with_store(list, &mut ())
 }
 
+/// The list of some rows.
 fn segments<I: OverlayInt>(
     rt: &(impl Abort + AllocGlobal),
     given: &[Row],
 ) -> Result<Vec<Segment<ShapeCountBoolean, I, ()>>, Fail> {
     let mut list = Vec::new(rt.alloc());
-    for given in given {
-        list.push(segment(rt, *given, (), &mut ()))?;
+    for (from, to, (subj, clip)) in given.iter().copied() {
+        let count = ShapeCountBoolean::new(subj, clip);
+        list.push(segment(rt, point(rt, from), point(rt, to), count))?;
     }
     Ok(list)
 }
 
-fn joins_with<I: OverlayInt>(rt: &(impl Abort + AllocGlobal)) -> Result<(), Fail> {
-    for (name, given, answer, rows) in JOINS {
-        let mut list = segments::<I>(rt, given)?;
-        assert_eq!(rt; joined(rt, &mut list, &mut ()), answer, "{name}");
-        let after: Vec<Row> = list.iter().map(row).collect(rt.alloc())?;
-        assert_eq!(rt; after.as_slice(), rows, "{name}");
-        let mut list = segments::<I>(rt, given)?;
-        assert_eq!(rt; sorted_and_merged(rt, &mut list), answer, "{name}");
-        let after: Vec<Row> = list.iter().map(row).collect(rt.alloc())?;
-        assert_eq!(rt; after.as_slice(), rows, "{name}");
-    }
+/// Compares what a call answered, and the list after it, with a row of the table.
+fn compare<I: OverlayInt>(
+    rt: &(impl Abort + AllocGlobal),
+    (name, _, answer, rows): Join,
+    found: Result<bool, Fault>,
+    list: &[Segment<ShapeCountBoolean, I, ()>],
+) -> Result<(), Fail> {
+    let after: Vec<Row> = list.iter().map(row).collect(rt.alloc())?;
+    assert_eq!(rt; (found, after.as_slice()), (answer, rows), "{name}");
     Ok(())
+}
+
+/// A row of the table, joined by one call and by two.
+fn join_row<I: OverlayInt>(rt: &(impl Abort + AllocGlobal), join: Join) -> Result<(), Fail> {
+    let mut list = segments::<I>(rt, join.1)?;
+    let answer = joined(rt, &mut list, &mut ());
+    compare(rt, join, answer, &list)?;
+    let mut list = segments::<I>(rt, join.1)?;
+    let answer = sorted_and_merged(rt, &mut list);
+    compare(rt, join, answer, &list)
 }
 
 #[test]
 fn joins(rt: HostRuntime) -> Result<(), Fail> {
-    joins_with::<i16>(&rt)?;
-    joins_with::<i32>(&rt)
+    for join in JOINS {
+        join_row::<i16>(&rt, join)?;
+        join_row::<i32>(&rt, join)?;
+    }
+    Ok(())
 }
 
 /// Data of a user: a number, and a store that keeps the last call of `merge` and whether data was reversed.
@@ -216,22 +238,48 @@ impl OverlayEdgeData<ShapeCountBoolean> for Tag {
     }
 }
 
+/// A segment between two points that differ, with a tag and a valid count.
+fn tagged(
+    rt: &impl Abort,
+    (from, to, (subj, clip)): Row,
+    tag: u32,
+    calls: &mut Calls,
+) -> Segment<ShapeCountBoolean, i32, Tag> {
+    let (a, b) = (point(rt, from), point(rt, to));
+    let count = ShapeCountBoolean::new(subj, clip);
+    assert!(rt; a != b && count.is_valid());
+    Segment::create_and_validate_with_data(a, b, count, Tag(tag), calls)
+}
+
+/// Two segments on one pair, of which the second is turned.
+fn tagged_list(
+    rt: &(impl Abort + AllocGlobal),
+    calls: &mut Calls,
+) -> Result<Vec<Segment<ShapeCountBoolean, i32, Tag>>, Fail> {
+    let mut list = Vec::new(rt.alloc());
+    list.push(tagged(rt, ((2, 0), (4, 0), (0, 1)), 1, calls))?;
+    assert!(rt; !calls.reversed);
+    list.push(tagged(rt, ((4, 0), (2, 0), (-1, 0)), 2, calls))?;
+    assert!(rt; calls.reversed);
+    Ok(list)
+}
+
+/// What the hook `merge` is told of the two.
+fn compare_merge(rt: &impl Abort, merged: EdgeDataMerge<ShapeCountBoolean, Tag>) {
+    let count = |subj, clip| ShapeCountBoolean { subj, clip };
+    assert_eq!(rt; (merged.lhs_data, merged.lhs_count), (Tag(1), count(0, 1)));
+    assert_eq!(rt; (merged.rhs_data, merged.rhs_count), (Tag(2), count(1, 0)));
+    assert_eq!(rt; merged.out_count, count(1, 1));
+}
+
 #[test]
 fn hooks(rt: HostRuntime) -> Result<(), Fail> {
     let mut calls = Calls::default();
-    let mut list: Vec<Segment<ShapeCountBoolean, i32, Tag>> = Vec::new(rt.alloc());
-    list.push(segment(&rt, ((2, 0), (4, 0), (0, 1)), Tag(1), &mut calls))?;
-    assert!(rt; !calls.reversed);
-    list.push(segment(&rt, ((4, 0), (2, 0), (-1, 0)), Tag(2), &mut calls))?;
-    assert!(rt; calls.reversed);
-    assert_eq!(rt; joined(&rt, &mut list, &mut calls), Ok(true));
-    assert_eq!(rt; list.len(), 1);
-    assert_eq!(rt; row(&list[0]), ((2, 0), (4, 0), (1, 1)));
-    assert_eq!(rt; list[0].edge_data(), Tag(1));
-    let merged = calls.merged.ok_or("no merge")?;
-    assert_eq!(rt; (merged.lhs_data, merged.rhs_data), (Tag(1), Tag(2)));
-    assert_eq!(rt; merged.lhs_count, ShapeCountBoolean { subj: 0, clip: 1 });
-    assert_eq!(rt; merged.rhs_count, ShapeCountBoolean { subj: 1, clip: 0 });
-    assert_eq!(rt; merged.out_count, ShapeCountBoolean { subj: 1, clip: 1 });
+    let mut list = tagged_list(&rt, &mut calls)?;
+    let answer = joined(&rt, &mut list, &mut calls);
+    let first = list.first().ok_or("an empty list")?;
+    let found = (answer, list.len(), row(first), first.edge_data());
+    assert_eq!(rt; found, (Ok(true), 1, ((2, 0), (4, 0), (1, 1)), Tag(1)));
+    compare_merge(&rt, calls.merged.ok_or("no merge")?);
     Ok(())
 }

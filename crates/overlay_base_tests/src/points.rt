@@ -11,11 +11,14 @@ fn turns_and_distances(rt: HostRuntime) {
     let p: IntPoint<i16> = IntPoint::new(-16384, -16384);
     let q = IntPoint::new(16383, -16384);
     let r = IntPoint::new(16383, 16383);
-    assert_eq!(rt; Triangle::clock_direction(p, q, r), -1);
-    assert_eq!(rt; Triangle::clock_order(p, r, q), Ordering::Less);
-    assert!(rt; Triangle::is_clockwise(p, r, q));
-    assert!(rt; Triangle::is_line(p, q, q));
-    assert!(rt; Triangle::is_not_line(p, q, r));
+    let turns = (
+        Triangle::clock_direction(p, q, r),
+        Triangle::clock_order(p, r, q),
+        Triangle::is_clockwise(p, r, q),
+        Triangle::is_line(p, q, q),
+        Triangle::is_not_line(p, q, r),
+    );
+    assert_eq!(rt; turns, (-1, Ordering::Less, true, true, true));
     assert_eq!(rt; p.sqr_distance(r), 2_147_352_578);
 }
 

@@ -3,6 +3,7 @@ ghost use Rattle.std.specs.Prelude.{◌<◌};
 
 use overlay_base::overlay_core::overlay_rule::OverlayRule;
 use overlay_base::overlay_core::rule_table::*;
+use std::process::Abort;
 use std::test::Fail;
 
 /// Each rule with a name, its table, and the table of the opposite.
@@ -20,30 +21,44 @@ fn table(bits: u8) -> Result<RuleTable, &'static str> {
     RuleTable::new(bits).ok_or("no table")
 }
 
+/// Compares the fills that a table keeps with those that a rule keeps, or with none.
+fn compare_fills(rt: &impl Abort, bits: u8, rule: Option<OverlayRule>) -> Result<(), Fail> {
+    let table = table(bits)?;
+    for fill in 0..16 {
+        let kept = rule.is_some_and(|rule| rule.is_included(fill));
+        assert_eq!(rt; table.is_included(fill), kept, "table {bits}, fill {fill}");
+    }
+    Ok(())
+}
+
 #[test]
 fn tables_keep_what_rules_keep(rt: HostRuntime) -> Result<(), Fail> {
     for (rule, bits, opposite) in TABLES {
-        for fill in 0..16 {
-            assert_eq!(rt; table(bits)?.is_included(fill), rule.is_included(fill));
-            assert_eq!(rt; table(opposite)?.is_included(fill), rule.is_included(fill));
-        }
+        compare_fills(&rt, bits, Some(rule))?;
+        compare_fills(&rt, opposite, Some(rule))?;
     }
-    for fill in 0..16 {
-        assert!(rt; !table(0)?.is_included(fill) && !table(15)?.is_included(fill));
-    }
+    compare_fills(&rt, 0, None)?;
+    compare_fills(&rt, 15, None)?;
     assert_eq!(rt; RuleTable::new(16), None);
     Ok(())
 }
 
 #[test]
 fn tables_on_the_top_side(rt: HostRuntime) -> Result<(), Fail> {
-    let union = OverlayRule::Table(table(14)?);
-    for (fill, by_name, by_table) in [(0, true, false), (3, false, true), (15, false, true)] {
-        assert_eq!(rt; OverlayRule::Union.is_fill_top(fill), by_name);
-        assert_eq!(rt; union.is_fill_top(fill), by_table);
+    let (and, union, nand) = (table(8)?, table(14)?, table(7)?);
+    let rows = [
+        (OverlayRule::Union, 0, true),
+        (OverlayRule::Union, 3, false),
+        (OverlayRule::Union, 15, false),
+        (OverlayRule::Table(union), 0, false),
+        (OverlayRule::Table(union), 3, true),
+        (OverlayRule::Table(union), 15, true),
+        (OverlayRule::Table(and), 11, false),
+        (OverlayRule::Table(nand), 11, true),
+    ];
+    for (rule, fill, is_top) in rows {
+        assert_eq!(rt; (rule, fill, rule.is_fill_top(fill)), (rule, fill, is_top));
     }
-    assert!(rt; !OverlayRule::Table(table(8)?).is_fill_top(11));
-    assert!(rt; OverlayRule::Table(table(7)?).is_fill_top(11));
     Ok(())
 }
 

@@ -15,19 +15,24 @@ fn count(subj: i32, clip: u8) -> ShapeCountString {
 #[test]
 fn lines_turned_and_added(rt: HostRuntime) -> Result<(), Fail> {
     let back = ShapeCountString { subj: 3, clip: 1 };
-    assert_eq!(rt; back.invert(), count(-3, 2));
     let sum = count(3, 1).add(count(-3, 1))?;
-    assert_eq!(rt; sum, count(0, 1));
-    assert!(rt; sum.is_not_empty());
+    let found = (back.invert(), sum, sum.is_not_empty());
+    assert_eq!(rt; found, (count(-3, 2), count(0, 1), true));
     Ok(())
 }
 
 #[test]
 fn lines_of_shapes(rt: HostRuntime) {
-    let (forward, back) = ShapeCountString::with_shape_type(ShapeType::Clip);
-    assert_eq!(rt; (forward, back), (count(0, 2), count(0, 1)));
-    let (direct, inverted) = ShapeCountString::with_shape_type(ShapeType::Subject);
-    assert_eq!(rt; (direct, inverted), (count(1, 0), count(-1, 0)));
+    let shapes = [
+        (ShapeType::Clip, count(0, 2), count(0, 1)),
+        (ShapeType::Subject, count(1, 0), count(-1, 0)),
+    ];
+    for (shape, direct, inverted) in shapes {
+        assert_eq!(rt;
+            ShapeCountString::with_shape_type(shape),
+            (direct, inverted)
+        );
+    }
     assert_eq!(rt; ShapeCountString::new(7, -5), count(7, 1));
 }
 

@@ -27,9 +27,12 @@ fn one_segment_runs_under_another(rt: HostRuntime) {
         a: IntPoint::new(1_i16, 1),
         b: IntPoint::new(3, 1),
     };
-    assert_eq!(rt; low.is_under_segment_order(&high), Ordering::Less);
-    assert_eq!(rt; high.is_under_segment_order(&low), Ordering::Greater);
-    assert!(rt; low.is_under_segment(&high));
+    let orders = (
+        low.is_under_segment_order(&high),
+        high.is_under_segment_order(&low),
+        low.is_under_segment(&high),
+    );
+    assert_eq!(rt; orders, (Ordering::Less, Ordering::Greater, true));
 }
 
 #[test]
@@ -48,11 +51,14 @@ fn the_lowest_of_some_segments_is_kept(rt: HostRuntime) {
     };
     let mut best = None;
     update_if_under(&mut best, middle);
-    assert_eq!(rt; best, Some(middle));
+    let first = best;
     update_if_under(&mut best, high);
-    assert_eq!(rt; best, Some(middle));
+    let second = best;
     update_if_under(&mut best, low);
-    assert_eq!(rt; best, Some(low));
+    assert_eq!(rt;
+        (first, second, best),
+        (Some(middle), Some(middle), Some(low))
+    );
 }
 
 #[test]
