@@ -1,4 +1,4 @@
-use Rattle.std.proofs.Common.{◌≡◌, ◌∙◌, ap, sym, ℕ, ◌<◌, length, take, get_or, if◌then◌else◌, List}
+use Rattle.std.proofs.Common.{◌≡◌, ◌∙◌, ap, sym, ℕ, ◌<◌, length, take, get_or, if◌then◌else◌, List, arith}
 use Rattle.std.proofs.lemmas.List.{get_or_default, length-set, take_more}
 use Rattle.overlay_geometry.specs.Points.{Point}
 use Rattle.overlay_geometry.specs.PointOf.{point_of}
@@ -27,3 +27,6 @@ loop-index-preserved g c =
       | then-eq w ↦ rw w.links-is (length-set _ j _ ∙ same, next _ (with_node-start g.I.OverlayInt.whole p c.args.id at (sym test ∙ sym c.eq.ensures ∙ w.if-eq.true)))
       | else-eq w ↦ rw w.links-is (length-set _ j _ ∙ same, next _ (with_node-end g.I.OverlayInt.whole p c.args.id at (sym test ∙ sym c.eq.ensures ∙ w.if-eq.false)))
     ]
+
+pub bounds-links-index : goal.bounds-links-index
+bounds-links-index g c = grind arith
