@@ -9,45 +9,48 @@ use std::process::Abort;
 
 type Builder = GraphBuilder<ShapeCountBoolean, OverlayNode, i32, ()>;
 
-// The points (0, 0), (1, 0), .. in falling order.
+/// The points (0, 0), (1, 0), .. in falling order.
 fn row(rt: &impl Abort, alloc: Global, count: i32) -> Vec<IntPoint<i32>> {
     let points = (0..count).rev().map(|x| IntPoint::new(x, 0));
     points.collect(alloc).expect(rt, "memory")
 }
 
+/// Compares whether a contour has a loop, and the buffer after that test.
+fn compare_test(
+    rt: &(impl Abort + AllocGlobal),
+    contour: &[IntPoint<i32>],
+    buffer: &mut Vec<IntPoint<i32>>,
+    has_loop: bool,
+    after: &[IntPoint<i32>],
+) {
+    let found = Builder::new(rt.alloc()).test_contour_for_loops(contour, buffer);
+    assert_eq!(rt; (found, buffer.as_slice()), (Ok(has_loop), after));
+}
+
 #[test]
 fn few_points_leave_the_buffer_as_it_is(rt: HostRuntime) {
     let alloc = rt.alloc();
-    let builder = Builder::new(alloc);
+    let before = row(&rt, alloc, 2);
     let mut buffer = row(&rt, alloc, 2);
-    let contour = row(&rt, alloc, 63);
-    let has_loop = builder.test_contour_for_loops(&contour, &mut buffer);
-    assert_eq!(rt; has_loop, Ok(false));
-    assert_eq!(rt; buffer.as_slice(), row(&rt, alloc, 2).as_slice());
+    compare_test(&rt, &row(&rt, alloc, 63), &mut buffer, false, &before);
     let mut crossed = row(&rt, alloc, 5);
     crossed.push(IntPoint::new(3, 0)).expect(&rt, "memory");
-    let has_loop = builder.test_contour_for_loops(&crossed, &mut buffer);
-    assert_eq!(rt; has_loop, Ok(true));
-    assert_eq!(rt; buffer.as_slice(), row(&rt, alloc, 2).as_slice());
+    compare_test(&rt, &crossed, &mut buffer, true, &before);
 }
 
 #[test]
 fn many_points_end_in_rising_order(rt: HostRuntime) {
     let alloc = rt.alloc();
-    let builder = Builder::new(alloc);
     let mut buffer = row(&rt, alloc, 2);
-    let mut contour = row(&rt, alloc, 64);
-    let has_loop = builder.test_contour_for_loops(&contour, &mut buffer);
-    assert_eq!(rt; has_loop, Ok(false));
-    contour.reverse();
-    assert_eq!(rt; buffer.as_slice(), contour.as_slice());
-    contour.pop();
-    contour.push(IntPoint::new(0, 0)).expect(&rt, "memory");
-    let has_loop = builder.test_contour_for_loops(&contour, &mut buffer);
-    assert_eq!(rt; has_loop, Ok(true));
-    assert_eq!(rt; buffer.len(), 64);
-    assert_eq!(rt; buffer[0], IntPoint::new(0, 0));
-    assert_eq!(rt; buffer[1], IntPoint::new(0, 0));
-    assert_eq!(rt; buffer[2], IntPoint::new(1, 0));
-    assert_eq!(rt; buffer[63], IntPoint::new(62, 0));
+    let mut rising = row(&rt, alloc, 64);
+    rising.reverse();
+    compare_test(&rt, &row(&rt, alloc, 64), &mut buffer, false, &rising);
+    let mut crossed = row(&rt, alloc, 63);
+    crossed.reverse();
+    crossed.push(IntPoint::new(0, 0)).expect(&rt, "memory");
+    // (0, 0) twice, then (1, 0), .. up to (62, 0)
+    let mut sorted = row(&rt, alloc, 63);
+    sorted.push(IntPoint::new(0, 0)).expect(&rt, "memory");
+    sorted.reverse();
+    compare_test(&rt, &crossed, &mut buffer, true, &sorted);
 }

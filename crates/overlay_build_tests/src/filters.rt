@@ -55,7 +55,7 @@ fn by_types(fill: SegmentFill) -> [bool; 11] {
 fn filters_keep_the_fills_of_their_tables(rt: HostRuntime) {
     for fill in 0..16 {
         let wanted = KEPT.map(|kept| kept.contains(&fill));
-        assert_eq!(rt; by_functions(fill), wanted, "{fill}");
-        assert_eq!(rt; by_types(fill), wanted, "{fill}");
+        let found = [by_functions(fill), by_types(fill)];
+        assert_eq!(rt; found, [wanted, wanted], "{fill}");
     }
 }

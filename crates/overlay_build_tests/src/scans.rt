@@ -1,12 +1,14 @@
 // Rows of level segments, kept in a list and in a tree: sums, the tree's depth, and how many orders are asked.
 ghost use Rattle.std.specs.Prelude.{◌≡◌, ◌+◌, ◌*◌, ◌<◌, ℤ, pos, ◌≤ℤ◌, IsTrue};
-ghost use Rattle.overlay_geometry.specs.Coordinates.{is_coordinate};
+ghost use Rattle.overlay_geometry.specs.Coordinates.{is_coordinate, least_coordinate, greatest_coordinate};
+ghost use Rattle.overlay_base.specs.Planar.{is_arranged};
+ghost use Rattle.overlay_base.specs.SegmentOf.{segments_of};
 ghost use Rattle.overlay_base.specs.BooleanWinding.{boolean_winding};
 ghost use Rattle.overlay_geometry.specs.VSegmentOf.{v_pair_of, IsVSegmentInRange};
 ghost use Rattle.overlay_sweep.specs.steps.LevelRows.{level_pair, level_row, AreRows};
 
-use crate::sweeps::{FirstWith, Line, greatest_counts, line};
-use overlay_base::overlay_core::fill_rule::FillRule;
+use crate::sweeps::{Runner, first_with};
+use crate::worked_lines::{Line, greatest_counts, line};
 use overlay_base::overlay_core::solver::Solver;
 use overlay_base::segm::arranged::is_arranged;
 use overlay_base::segm::boolean::ShapeCountBoolean;
@@ -29,7 +31,7 @@ fn coordinate<I: OverlayInt>(rt: &impl Abort, value: i64) -> I
     I::from_wide(value)
 }
 
-// The segment of row k, from (0, 2k) to (10, 2k).
+/// The segment of row k, from (0, 2k) to (10, 2k).
 fn level<I: OverlayInt>(rt: &impl Abort, k: u32) -> VSegment<I>
     ensures pair { v_pair_of I.whole result ≡ level_pair k }
     ensures range { IsVSegmentInRange I.whole I.MIN_COORD I.MAX_COORD result }
@@ -72,7 +74,7 @@ fn insert_row<I: OverlayInt, L: LiveSegments<ShapeCountBoolean, I>>(
         .expect(rt, "memory");
 }
 
-// The subject's part of the sum that a look finds below (x, y).
+/// The subject's part of the sum that a look finds below (x, y).
 fn sum_at<I: OverlayInt, L: LiveSegments<ShapeCountBoolean, I>>(
     rt: &impl Abort,
     live: &mut L,
@@ -92,7 +94,7 @@ fn sum_at<I: OverlayInt, L: LiveSegments<ShapeCountBoolean, I>>(
     live.sum_below(p.x, p, nothing).subj
 }
 
-// Keeps all rows, the lowest first or last.
+/// Keeps all rows, the lowest first or last.
 fn insert_rows<I: OverlayInt, L: LiveSegments<ShapeCountBoolean, I>>(
     rt: &impl Abort,
     live: &mut L,
@@ -108,7 +110,7 @@ fn insert_rows<I: OverlayInt, L: LiveSegments<ShapeCountBoolean, I>>(
     }
 }
 
-// Looks between all rows at x 5, below them, and right of them.
+/// Looks between all rows at x 5, below them, and right of them.
 fn look_at_rows<I: OverlayInt, L: LiveSegments<ShapeCountBoolean, I>>(
     rt: &impl Abort,
     live: &mut L,
@@ -118,11 +120,12 @@ fn look_at_rows<I: OverlayInt, L: LiveSegments<ShapeCountBoolean, I>>(
     requires time { (y : ℤ) → pos 0 ≤ℤ y → L.may_go_on_at live.old y }
 {
     for k in 0..1000u32 {
-        assert_eq!(rt; sum_at(rt, live, 5, 2 * i64::from(k) + 1), k as i32 + 1);
-        assert!(rt; 1 <= live.compared() && live.compared() <= most);
+        let sum = sum_at(rt, live, 5, 2 * i64::from(k) + 1);
+        let few = 1 <= live.compared() && live.compared() <= most;
+        assert_eq!(rt; (k, sum, few), (k, k as i32 + 1, true));
     }
-    assert_eq!(rt; sum_at(rt, live, 5, -1), 0);
-    assert_eq!(rt; sum_at(rt, live, 10, 1), 0);
+    let below = sum_at(rt, live, 5, -1);
+    assert_eq!(rt; (below, sum_at(rt, live, 10, 1)), (0, 0));
 }
 
 fn tree_of_rows<I: OverlayInt>(rt: &impl Abort, alloc: Global) {
@@ -157,7 +160,7 @@ fn a_list_of_rows_answers_the_same(rt: HostRuntime) {
     list_of_rows::<i32>(&rt, rt.alloc());
 }
 
-// Lines that begin one by one, by turns above and below those before, and all end together.
+/// Lines that begin one by one, by turns above and below those before, and all end together.
 fn closing_lines(rt: &impl Abort, alloc: Global) -> Vec<Line> {
     let mut lines = Vec::new(alloc);
     for i in 0..4000u32 {
@@ -166,6 +169,14 @@ fn closing_lines(rt: &impl Abort, alloc: Global) -> Vec<Line> {
         lines.push(line(x, y, 10_000, y, 1, 0)).expect(rt, "memory");
     }
     lines
+}
+
+/// How many orders a sweep over some lines asks.
+fn compared_in(rt: &impl Abort, runner: &mut Runner, solver: &Solver, lines: &[Line]) -> u128
+    requires { IsTrue (is_arranged least_coordinate greatest_coordinate (segments_of lines.now)) }
+{
+    first_with(runner, solver, 0, lines).expect(rt, "no refusal");
+    runner.compared()
 }
 
 #[test]
@@ -179,20 +190,10 @@ fn a_sweep_over_the_tree_asks_few_orders(rt: HostRuntime) {
         (Solver::FRAG, 4000, 184_000),
         (Solver::LIST, 7_998_000, u128::MAX),
     ] {
-        let handler = FirstWith { bit: 0, seen: 0 };
-        runner
-            .run_with_fill_rule(FillRule::NonZero, &solver, &lines, handler)
-            .expect(&rt, "no refusal");
-        assert!(rt; least <= runner.compared() && runner.compared() <= most);
-        let before = runner.compared();
-        let handler = FirstWith { bit: 0, seen: 0 };
-        let refused = runner.run_with_fill_rule(
-            FillRule::NonZero,
-            &solver,
-            &greatest_counts(),
-            handler,
-        );
-        assert_eq!(rt; refused, Err(Fault::CountOutOfRange));
-        assert_eq!(rt; runner.compared(), before);
+        let compared = compared_in(&rt, &mut runner, &solver, &lines);
+        assert!(rt; least <= compared && compared <= most);
+        let refused = first_with(&mut runner, &solver, 0, &greatest_counts());
+        let found = (refused, runner.compared());
+        assert_eq!(rt; found, (Err(Fault::CountOutOfRange), compared));
     }
 }

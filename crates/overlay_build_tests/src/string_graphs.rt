@@ -5,27 +5,23 @@ ghost use Rattle.overlay_geometry.specs.Coordinates.{least_coordinate, greatest_
 ghost use Rattle.overlay_base.specs.Planar.{is_arranged};
 ghost use Rattle.overlay_base.specs.SegmentOf.{segment_of, segments_of};
 
-use crate::worked_lines::STRATEGIES;
+use crate::worked_lines::{FILL_RULES, STRATEGIES};
 use overlay_base::overlay_core::clip_rule::ClipRule;
 use overlay_base::overlay_core::fill_rule::FillRule;
+use overlay_base::overlay_core::link::OverlayLink;
 use overlay_base::overlay_core::solver::Solver;
 use overlay_base::segm::fault::Fault;
 use overlay_base::segm::segment::Segment;
 use overlay_base::segm::segment_fill::{NONE, SegmentFill};
 use overlay_base::segm::string::ShapeCountString;
 use overlay_build::build::builder::GraphBuilder;
+use overlay_build::build::string_graph::StringGraph;
 use overlay_geometry::geom::point::IntPoint;
+use std::process::Abort;
 
 type Line = Segment<ShapeCountString, i32, ()>;
 
 type Lines = GraphBuilder<ShapeCountString, Vec<usize>, i32, ()>;
-
-const FILL_RULES: [FillRule; 4] = [
-    FillRule::EvenOdd,
-    FillRule::NonZero,
-    FillRule::Positive,
-    FillRule::Negative,
-];
 
 const INSIDE: ClipRule = ClipRule {
     invert: false,
@@ -84,19 +80,48 @@ const FILLS: [(FillRule, [SegmentFill; 9]); 4] = [
     (FillRule::Negative, [8, 0, 0, 0, 8, 0, 0, 0, 8]),
 ];
 
+/// The graph of all links.
+fn build_all<'a>(
+    rt: &impl Abort,
+    builder: &'a mut Lines,
+    fill_rule: FillRule,
+    solver: &Solver,
+    segments: &[Line],
+) -> StringGraph<'a, i32>
+    requires { IsTrue (is_arranged least_coordinate greatest_coordinate (segments_of segments.now)) }
+{
+    builder
+        .build_string_all(fill_rule, solver, segments)
+        .expect(rt, "no refusal")
+}
+
+/// The graph of the line inside of the square.
+fn cut_line<'a>(rt: &impl Abort, builder: &'a mut Lines, solver: &Solver) -> StringGraph<'a, i32> {
+    builder
+        .build_string_clip(FillRule::NonZero, INSIDE, solver, &cut_square())
+        .expect(rt, "no refusal")
+}
+
+/// Whether some links are filled so.
+fn are_filled(links: &[OverlayLink<i32, ()>], fills: &[SegmentFill]) -> bool {
+    links.len() == fills.len()
+        && links
+            .iter()
+            .zip(fills)
+            .all(|(link, fill)| link.fill == *fill)
+}
+
 #[test]
 fn a_line_over_a_square(rt: HostRuntime) {
     let mut builder = Lines::new(rt.alloc());
     for solver in STRATEGIES {
         for (fill_rule, fills) in FILLS {
-            let graph = builder
-                .build_string_all(fill_rule, &solver, &cut_square())
-                .expect(&rt, "no refusal");
-            assert_eq!(rt; (graph.links().len(), graph.nodes().len()), (9, 8));
-            let mut pairs = graph.links().iter().zip(fills.iter());
-            assert!(rt; pairs.all(|(link, fill)| link.fill == *fill));
+            let graph = build_all(&rt, &mut builder, fill_rule, &solver, &cut_square());
+            let filled = are_filled(graph.links(), &fills);
             let mut nodes = graph.nodes().iter();
-            assert!(rt; nodes.any(|node| node.as_slice() == [3, 4, 0, 1].as_slice()));
+            let crossed = nodes.any(|node| node.as_slice() == [3, 4, 0, 1].as_slice());
+            let found = (filled, graph.nodes().len(), crossed);
+            assert_eq!(rt; found, (true, 8, true), "{fill_rule}");
         }
     }
 }
@@ -105,25 +130,30 @@ fn a_line_over_a_square(rt: HostRuntime) {
 fn a_square_cuts_a_line(rt: HostRuntime) {
     let mut builder = Lines::new(rt.alloc());
     for solver in STRATEGIES {
-        let graph = builder
-            .build_string_clip(FillRule::NonZero, INSIDE, &solver, &cut_square())
-            .expect(&rt, "no refusal");
+        let graph = cut_line(&rt, &mut builder, &solver);
         assert_eq!(rt; (graph.links().len(), graph.nodes().len()), (1, 2));
         let mut links = graph.links().iter();
         assert!(rt; links.all(|link| (link.a.point.x, link.b.point.x, link.fill) == (0, 10, 11)));
     }
 }
 
+/// How counts that leave the range are refused.
+fn refuse(builder: &mut Lines, solver: &Solver) -> Option<Fault> {
+    builder
+        .build_string_all(FillRule::NonZero, solver, &greatest_counts())
+        .err()
+}
+
 #[test]
 fn a_builder_is_used_again(rt: HostRuntime) {
     let mut builder = Lines::new(rt.alloc());
     for solver in STRATEGIES {
-        let clip = builder.build_string_clip(FillRule::NonZero, INSIDE, &solver, &cut_square());
-        clip.expect(&rt, "no refusal");
-        assert_eq!(rt; (builder.links().len(), builder.nodes().len()), (1, 2));
-        let refused = builder.build_string_all(FillRule::NonZero, &solver, &greatest_counts());
-        assert!(rt; refused.err() == Some(Fault::CountOutOfRange));
-        assert_eq!(rt; (builder.links().len(), builder.nodes().len()), (0, 0));
+        cut_line(&rt, &mut builder, &solver);
+        let shown = (builder.links().len(), builder.nodes().len());
+        let refused = refuse(&mut builder, &solver);
+        let left = (builder.links().len(), builder.nodes().len());
+        let wanted = ((1, 2), Some(Fault::CountOutOfRange), (0, 0));
+        assert_eq!(rt; (shown, refused, left), wanted);
     }
 }
 
@@ -131,22 +161,29 @@ fn a_builder_is_used_again(rt: HostRuntime) {
 fn nothing_has_no_graph(rt: HostRuntime) {
     let mut builder = Lines::new(rt.alloc());
     for fill_rule in FILL_RULES {
-        let graph = builder
-            .build_string_all(fill_rule, &Solver::AUTO, &no_lines())
-            .expect(&rt, "no refusal");
+        let graph = build_all(&rt, &mut builder, fill_rule, &Solver::AUTO, &no_lines());
         assert!(rt; graph.links().is_empty() && graph.nodes().is_empty());
     }
+}
+
+/// Whether no link is filled.
+fn are_empty(links: &[OverlayLink<i32, ()>]) -> bool {
+    links.iter().all(|link| link.fill == NONE)
 }
 
 #[test]
 fn what_is_written_to_links_stays(rt: HostRuntime) {
     let mut builder = Lines::new(rt.alloc());
-    let mut graph = builder
-        .build_string_all(FillRule::NonZero, &Solver::AUTO, &cut_square())
-        .expect(&rt, "no refusal");
+    let mut graph = build_all(
+        &rt,
+        &mut builder,
+        FillRule::NonZero,
+        &Solver::AUTO,
+        &cut_square(),
+    );
     for link in graph.links_mut() {
         link.fill = NONE;
     }
-    assert!(rt; graph.links().iter().all(|link| link.fill == NONE));
-    assert!(rt; builder.links().len() == 9 && builder.links().iter().all(|link| link.fill == NONE));
+    assert!(rt; are_empty(graph.links()));
+    assert!(rt; builder.links().len() == 9 && are_empty(builder.links()));
 }

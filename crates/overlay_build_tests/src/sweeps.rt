@@ -5,6 +5,7 @@ ghost use Rattle.overlay_geometry.specs.Coordinates.{least_coordinate, greatest_
 ghost use Rattle.overlay_base.specs.Planar.{is_arranged};
 ghost use Rattle.overlay_base.specs.SegmentOf.{segment_of, segments_of};
 
+use crate::worked_lines::{Line, STRATEGIES, greatest_counts, line, two_squares};
 use overlay_base::overlay_core::fill_rule::FillRule;
 use overlay_base::overlay_core::solver::Solver;
 use overlay_base::segm::boolean::ShapeCountBoolean;
@@ -20,46 +21,9 @@ use std::alloc::Global;
 use std::ops::ControlFlow;
 use std::process::Abort;
 
-pub const STRATEGIES: [Solver; 4] = [Solver::LIST, Solver::TREE, Solver::FRAG, Solver::AUTO];
+pub type Runner = SweepRunner<ShapeCountBoolean, i32>;
 
-pub type Line = Segment<ShapeCountBoolean, i32, ()>;
-
-pub fn line(ax: i32, ay: i32, bx: i32, by: i32, subj: i32, clip: i32) -> Line
-    requires { IsTrue (point_lt (record { x = ax; y = ay }) (record { x = bx; y = by })) }
-    ensures { segment_of result ≡ record {
-      pair = record
-          { a = record { x = ax; y = ay }; b = record { x = bx; y = by } };
-      count = record
-          { subj = subj; clip = clip; mask = 0 };
-    } }
-{
-    let a = IntPoint { x: ax, y: ay };
-    let b = IntPoint { x: bx, y: by };
-    let count = ShapeCountBoolean { subj, clip };
-    Segment::create_and_validate_with_data(a, b, count, (), &mut ())
-}
-
-// A subject square with corners (0, 0) and (4, 4) and a clip square with corners (2, 2) and (6, 6), split.
-pub fn two_squares() -> [Line; 12]
-    ensures { IsTrue (is_arranged least_coordinate greatest_coordinate (segments_of result)) }
-{
-    [
-        line(0, 0, 0, 4, -1, 0),
-        line(0, 0, 4, 0, 1, 0),
-        line(0, 4, 2, 4, -1, 0),
-        line(2, 2, 2, 4, 0, -1),
-        line(2, 2, 4, 2, 0, 1),
-        line(2, 4, 2, 6, 0, -1),
-        line(2, 4, 4, 4, -1, 0),
-        line(2, 6, 6, 6, 0, -1),
-        line(4, 0, 4, 2, 1, 0),
-        line(4, 2, 4, 4, 1, 0),
-        line(4, 2, 6, 2, 0, 1),
-        line(6, 2, 6, 6, 0, 1),
-    ]
-}
-
-// A subject square, run clockwise.
+/// A subject square, run clockwise.
 fn clockwise_square() -> [Line; 4]
     ensures { IsTrue (is_arranged least_coordinate greatest_coordinate (segments_of result)) }
 {
@@ -71,28 +35,21 @@ fn clockwise_square() -> [Line; 4]
     ]
 }
 
-// A line, and a shorter one above it.
+/// A line, and a shorter one above it.
 fn line_under_line() -> [Line; 2]
     ensures { IsTrue (is_arranged least_coordinate greatest_coordinate (segments_of result)) }
 {
     [line(0, 0, 4, 0, 1, 0), line(1, 1, 3, 1, 1, 0)]
 }
 
-// A line that ends below the start of another.
+/// A line that ends below the start of another.
 fn line_beside_line() -> [Line; 2]
     ensures { IsTrue (is_arranged least_coordinate greatest_coordinate (segments_of result)) }
 {
     [line(0, 0, 4, 0, 1, 0), line(4, 1, 6, 1, 1, 0)]
 }
 
-// Two lines whose counts leave the range together.
-pub fn greatest_counts() -> [Line; 2]
-    ensures { IsTrue (is_arranged least_coordinate greatest_coordinate (segments_of result)) }
-{
-    [line(0, 0, 4, 0, i32::MAX, 0), line(0, 1, 4, 1, i32::MAX, 0)]
-}
-
-// The fills by index, which are the same under every strategy.
+/// The fills by index, which are the same under every strategy.
 fn fills(rt: &impl Abort, alloc: Global, segments: &[Line], fill_rule: FillRule) -> Vec<SegmentFill>
     requires { IsTrue (is_arranged least_coordinate greatest_coordinate (segments_of segments.now)) }
 {
@@ -132,44 +89,47 @@ fn blank(rt: &impl Abort, alloc: Global, count: usize) -> Vec<SegmentFill>
     fills
 }
 
+/// Compares the fills of some segments by a rule.
+fn compare_fills(
+    rt: &(impl Abort + AllocGlobal),
+    segments: &[Line],
+    fill_rule: FillRule,
+    wanted: &[SegmentFill],
+)
+    requires { IsTrue (is_arranged least_coordinate greatest_coordinate (segments_of segments.now)) }
+{
+    let found = fills(rt, rt.alloc(), segments, fill_rule);
+    assert_eq!(rt; found.as_slice(), wanted, "{fill_rule}");
+}
+
 #[test]
 fn fills_of_two_squares(rt: HostRuntime) {
-    let found = fills(&rt, rt.alloc(), &two_squares(), FillRule::NonZero);
-    assert_eq!(rt;
-        found.as_slice(),
-        [2, 1, 2, 11, 7, 8, 14, 8, 1, 13, 4, 4].as_slice()
-    );
+    let wanted = [2, 1, 2, 11, 7, 8, 14, 8, 1, 13, 4, 4];
+    compare_fills(&rt, &two_squares(), FillRule::NonZero, &wanted);
 }
 
 #[test]
 fn fills_of_a_clockwise_square(rt: HostRuntime) {
     let square = clockwise_square();
-    let non_zero = fills(&rt, rt.alloc(), &square, FillRule::NonZero);
-    let even_odd = fills(&rt, rt.alloc(), &square, FillRule::EvenOdd);
-    let negative = fills(&rt, rt.alloc(), &square, FillRule::Negative);
-    let positive = fills(&rt, rt.alloc(), &square, FillRule::Positive);
-    assert_eq!(rt; non_zero.as_slice(), [2, 1, 2, 1].as_slice());
-    assert_eq!(rt; even_odd.as_slice(), [2, 1, 2, 1].as_slice());
-    assert_eq!(rt; negative.as_slice(), [2, 1, 2, 1].as_slice());
-    assert_eq!(rt; positive.as_slice(), [0, 0, 0, 0].as_slice());
+    for fill_rule in [FillRule::NonZero, FillRule::EvenOdd, FillRule::Negative] {
+        compare_fills(&rt, &square, fill_rule, &[2, 1, 2, 1]);
+    }
+    compare_fills(&rt, &square, FillRule::Positive, &[0, 0, 0, 0]);
 }
 
 #[test]
 fn fills_of_lines(rt: HostRuntime) {
     let under = line_under_line();
-    let even_odd = fills(&rt, rt.alloc(), &under, FillRule::EvenOdd);
-    let non_zero = fills(&rt, rt.alloc(), &under, FillRule::NonZero);
-    let beside = fills(&rt, rt.alloc(), &line_beside_line(), FillRule::EvenOdd);
-    assert_eq!(rt; even_odd.as_slice(), [1, 2].as_slice());
-    assert_eq!(rt; non_zero.as_slice(), [1, 3].as_slice());
-    assert_eq!(rt; beside.as_slice(), [1, 1].as_slice());
+    compare_fills(&rt, &under, FillRule::EvenOdd, &[1, 2]);
+    compare_fills(&rt, &under, FillRule::NonZero, &[1, 3]);
+    compare_fills(&rt, &line_beside_line(), FillRule::EvenOdd, &[1, 1]);
 }
 
 /// Breaks with the index at the first fill with this bit. Keeps the indexes that it has seen, as digits to the base 16.
 #[derive(Drop)]
-pub struct FirstWith {
-    pub bit: SegmentFill,
-    pub seen: u64,
+struct FirstWith {
+    bit: SegmentFill,
+    seen: u64,
 }
 
 impl<C: WindingCount, I: OverlayInt, D: Copy> FillHandler<C, I, D> for FirstWith {
@@ -233,42 +193,47 @@ impl<C: WindingCount, I: OverlayInt, D: Copy> FillHandler<C, I, D> for First {
     }
 }
 
+/// A sweep that breaks at the first fill with a bit.
+pub fn first_with(
+    runner: &mut Runner,
+    solver: &Solver,
+    bit: SegmentFill,
+    segments: &[Line],
+) -> Result<(usize, u64), Fault>
+    requires { IsTrue (is_arranged least_coordinate greatest_coordinate (segments_of segments.now)) }
+{
+    let handler = FirstWith { bit, seen: 0 };
+    runner.run_with_fill_rule(FillRule::NonZero, solver, segments, handler)
+}
+
+/// A sweep over the greatest counts that breaks at once.
+fn broken_at_once(runner: &mut Runner, solver: &Solver) -> Result<usize, Fault> {
+    runner.run_with_fill_rule(FillRule::NonZero, solver, &greatest_counts(), First)
+}
+
 #[test]
 fn a_handler_breaks_at_the_first_fill_that_it_looks_for(rt: HostRuntime) {
-    let segments = two_squares();
     let mut runner = SweepRunner::new(rt.alloc());
     for solver in STRATEGIES {
-        let handler = FirstWith {
-            bit: CLIP_BOTTOM,
-            seen: 0,
-        };
-        let found = runner.run_with_fill_rule(FillRule::NonZero, &solver, &segments, handler);
+        let found = first_with(&mut runner, &solver, CLIP_BOTTOM, &two_squares());
         assert_eq!(rt; found, Ok((3, 0x10243)));
     }
 }
 
 #[test]
 fn a_count_that_leaves_the_range_after_the_break_is_not_refused(rt: HostRuntime) {
-    let segments = greatest_counts();
     let mut runner = SweepRunner::new(rt.alloc());
     for solver in STRATEGIES {
-        let found = runner.run_with_fill_rule(FillRule::NonZero, &solver, &segments, First);
-        assert_eq!(rt; found, Ok(0));
+        assert_eq!(rt; broken_at_once(&mut runner, &solver), Ok(0));
     }
 }
 
 #[test]
 fn a_runner_is_used_again_after_a_refusal(rt: HostRuntime) {
-    let segments = greatest_counts();
     let mut runner = SweepRunner::new(rt.alloc());
     for solver in STRATEGIES {
-        let handler = FirstWith {
-            bit: CLIP_BOTTOM,
-            seen: 0,
-        };
-        let refused = runner.run_with_fill_rule(FillRule::NonZero, &solver, &segments, handler);
-        assert_eq!(rt; refused, Err(Fault::CountOutOfRange));
-        let found = runner.run_with_fill_rule(FillRule::NonZero, &solver, &segments, First);
-        assert_eq!(rt; found, Ok(0));
+        let refused = first_with(&mut runner, &solver, CLIP_BOTTOM, &greatest_counts());
+        let found = broken_at_once(&mut runner, &solver);
+        assert_eq!(rt; (refused, found), (Err(Fault::CountOutOfRange), Ok(0)));
     }
 }

@@ -5,6 +5,7 @@ ghost use Rattle.overlay_geometry.specs.Coordinates.{least_coordinate, greatest_
 ghost use Rattle.overlay_base.specs.Planar.{is_arranged};
 ghost use Rattle.overlay_base.specs.SegmentOf.{segment_of, segments_of};
 
+use overlay_base::overlay_core::fill_rule::FillRule;
 use overlay_base::overlay_core::solver::Solver;
 use overlay_base::segm::boolean::ShapeCountBoolean;
 use overlay_base::segm::segment::Segment;
@@ -12,8 +13,16 @@ use overlay_geometry::geom::point::IntPoint;
 
 pub const STRATEGIES: [Solver; 4] = [Solver::LIST, Solver::TREE, Solver::FRAG, Solver::AUTO];
 
+pub const FILL_RULES: [FillRule; 4] = [
+    FillRule::EvenOdd,
+    FillRule::NonZero,
+    FillRule::Positive,
+    FillRule::Negative,
+];
+
 pub type Line = Segment<ShapeCountBoolean, i32, ()>;
 
+/// A line between two points in order.
 pub fn line(ax: i32, ay: i32, bx: i32, by: i32, subj: i32, clip: i32) -> Line
     requires { IsTrue (point_lt (record { x = ax; y = ay }) (record { x = bx; y = by })) }
     ensures { segment_of result ≡ record {
@@ -29,7 +38,7 @@ pub fn line(ax: i32, ay: i32, bx: i32, by: i32, subj: i32, clip: i32) -> Line
     Segment::create_and_validate_with_data(a, b, count, (), &mut ())
 }
 
-// A subject square with corners (0, 0) and (4, 4) and a clip square with corners (2, 2) and (6, 6), split.
+/// A subject square with corners (0, 0) and (4, 4) and a clip square with corners (2, 2) and (6, 6), split.
 pub fn two_squares() -> [Line; 12]
     ensures { IsTrue (is_arranged least_coordinate greatest_coordinate (segments_of result)) }
 {
@@ -49,9 +58,23 @@ pub fn two_squares() -> [Line; 12]
     ]
 }
 
-// Two lines whose counts leave the range together.
+/// Two lines whose counts leave the range together.
 pub fn greatest_counts() -> [Line; 2]
     ensures { IsTrue (is_arranged least_coordinate greatest_coordinate (segments_of result)) }
 {
     [line(0, 0, 4, 0, i32::MAX, 0), line(0, 1, 4, 1, i32::MAX, 0)]
+}
+
+/// A line alone.
+pub fn lone_line() -> [Line; 1]
+    ensures { IsTrue (is_arranged least_coordinate greatest_coordinate (segments_of result)) }
+{
+    [line(0, 0, 4, 0, 1, 0)]
+}
+
+/// Nothing.
+pub fn no_lines() -> [Line; 0]
+    ensures { IsTrue (is_arranged least_coordinate greatest_coordinate (segments_of result)) }
+{
+    []
 }

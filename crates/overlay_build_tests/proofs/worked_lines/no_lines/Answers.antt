@@ -1,6 +1,6 @@
 use Rattle.std.proofs.Common.{refl}
 use Rattle.overlay_base.proofs.examples.Computing.{computing}
-use Rattle.overlay_build_tests.proofs.graphs.no_lines.Goals as goal
+use Rattle.overlay_build_tests.proofs.worked_lines.no_lines.Goals as goal
 
 pub returns : goal.returns
 unfolding computing
