@@ -102,3 +102,51 @@ returns-clause-graph g c =
 
 pub returns-clause-edge_data : goal.returns-clause-edge_data
 returns-clause-edge_data g c = same_data g.N.GraphNode.indexes g.N.GraphNode.is_canonical g.I.OverlayInt.whole c.args.links.now.items c.loop-start.start c.loop-start.nodes.items c.loop-start.links.items c.loop-start.invariant
+
+pub returns-in_err-collect_ends-clause-graph : goal.returns-in_err-collect_ends-clause-graph
+returns-in_err-collect_ends-clause-graph g c = grind arith
+
+pub returns-in_err-collect_ends-clause-edge_data : goal.returns-in_err-collect_ends-clause-edge_data
+returns-in_err-collect_ends-clause-edge_data g c = grind arith
+
+pub returns-in_err-collect_ends-clause-fault : goal.returns-in_err-collect_ends-clause-fault
+returns-in_err-collect_ends-clause-fault g c = grind arith
+
+pub returns-in_err-sort_by_point-clause-graph : goal.returns-in_err-sort_by_point-clause-graph
+returns-in_err-sort_by_point-clause-graph g c = grind arith
+
+pub returns-in_err-sort_by_point-clause-edge_data : goal.returns-in_err-sort_by_point-clause-edge_data
+returns-in_err-sort_by_point-clause-edge_data g c = grind arith
+
+pub returns-in_err-sort_by_point-clause-fault : goal.returns-in_err-sort_by_point-clause-fault
+returns-in_err-sort_by_point-clause-fault g c = grind arith
+
+pub loop-start-init : goal.loop-start-init
+loop-start-init g c = grind arith
+
+pub returns-in_err-collect_indices-clause-graph : goal.returns-in_err-collect_indices-clause-graph
+returns-in_err-collect_indices-clause-graph g c = grind arith
+
+pub returns-in_err-collect_indices-clause-edge_data : goal.returns-in_err-collect_indices-clause-edge_data
+returns-in_err-collect_indices-clause-edge_data g c = grind arith
+
+pub returns-in_err-collect_indices-clause-fault : goal.returns-in_err-collect_indices-clause-fault
+returns-in_err-collect_indices-clause-fault g c = grind arith
+
+pub returns-in_err-with_indices-clause-graph : goal.returns-in_err-with_indices-clause-graph
+returns-in_err-with_indices-clause-graph g c = grind arith
+
+pub returns-in_err-with_indices-clause-edge_data : goal.returns-in_err-with_indices-clause-edge_data
+returns-in_err-with_indices-clause-edge_data g c = grind arith
+
+pub returns-in_err-push-clause-graph : goal.returns-in_err-push-clause-graph
+returns-in_err-push-clause-graph g c = grind arith
+
+pub returns-in_err-push-clause-edge_data : goal.returns-in_err-push-clause-edge_data
+returns-in_err-push-clause-edge_data g c = grind arith
+
+pub returns-in_err-push-clause-fault : goal.returns-in_err-push-clause-fault
+returns-in_err-push-clause-fault g c = grind arith
+
+pub loop-start-smaller : goal.loop-start-smaller
+loop-start-smaller g c = grind arith

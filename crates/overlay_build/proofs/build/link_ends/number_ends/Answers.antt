@@ -1,5 +1,5 @@
 use Rattle.std.proofs.Common.{◌≡◌, ◌∙◌, ap, sym, ℕ, ◌<◌, length, take, get_or, if◌then◌else◌, List, arith}
-use Rattle.std.proofs.lemmas.List.{get_or_default, length-set, take_more}
+use Rattle.std.proofs.lemmas.List.{get_or_default, length-set, take_more, take_all}
 use Rattle.overlay_geometry.specs.Points.{Point}
 use Rattle.overlay_geometry.specs.PointOf.{point_of}
 use Rattle.overlay_base.specs.declared.overlay_core.link.OverlayLink.{OverlayLink}
@@ -30,3 +30,8 @@ loop-index-preserved g c =
 
 pub bounds-links-index : goal.bounds-links-index
 bounds-links-index g c = grind arith
+
+pub returns-clause-links : goal.returns-clause-links
+returns-clause-links g c =
+    let all = take_all c.loop-index.index-index c.args.indices.now c.loop-index-test.false in
+    rw all at c.loop-index.invariant.1

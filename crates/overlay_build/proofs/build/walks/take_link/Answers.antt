@@ -1,4 +1,4 @@
-use Rattle.std.proofs.Common.{◌<◌, length, map, refl, arith, get_or-set_same}
+use Rattle.std.proofs.Common.{◌<◌, ◌∙◌, sym, subst, length, map, refl, arith, get_or-set_same}
 use Rattle.std.proofs.lemmas.List.{length-map}
 use Rattle.overlay_build.specs.GraphOf.{link_of}
 use Rattle.overlay_build.specs.NodeIndexes.{indexes_of, is_canonical_node}
@@ -89,3 +89,16 @@ returns-clause-cursor g c =
     let is = list_of indexes_of graph.nodes.now c.nodes.result.now c.args.node _ c.indices-indexes.result.now c.nodes.ensures c.requires.node c.index-nodes-node.is c.indices-indexes.ensures in
     let node_in : c.args.node < length (map indexes_of graph.nodes.now) = rw (length-map graph.nodes.now indexes_of) c.requires.node in
     rw (get_or-set_same c.args.cursors.now c.args.node c.next_unused-place.result 0 (omega (arith, c.requires.passed.each, node_in)), is) refl
+
+pub bounds-cursors-node : goal.bounds-cursors-node
+bounds-cursors-node g c = subst (λ n. c.args.node < n) (sym (c.requires.passed.each ∙ length-map c.args.graph.now.nodes.now indexes_of)) c.requires.node
+
+pub next_unused-place-requires-clause-within : goal.next_unused-place-requires-clause-within
+next_unused-place-requires-clause-within g c =
+    let graph = c.args.graph.now in
+    let is = list_of indexes_of graph.nodes.now c.nodes.result.now c.args.node _ c.indices-indexes.result.now c.nodes.ensures c.requires.node c.index-nodes-node.is c.indices-indexes.ensures in
+    let node_in : c.args.node < length (map indexes_of graph.nodes.now) = rw (length-map graph.nodes.now indexes_of) c.requires.node in
+    rw is (c.requires.passed.within c.args.node node_in)
+
+pub bounds-cursors-node-2 : goal.bounds-cursors-node-2
+bounds-cursors-node-2 g c = subst (λ n. c.args.node < n) (sym (c.requires.passed.each ∙ length-map c.args.graph.now.nodes.now indexes_of)) c.requires.node

@@ -50,3 +50,9 @@ returns-in_err-push g c = IfOk-from_err c.from_residual.result _ c.from_residual
 
 pub loop-index-smaller : goal.loop-index-smaller
 loop-index-smaller g c = falls c.args.until c.loop-index.index c.loop-index-test.true
+
+pub returns : goal.returns
+returns g c =
+    let end = c.loop-index.auto.index-end c.requires.order in
+    let done : c.loop-index.index ≡ c.args.until = omega (arith, end, c.loop-index-test.false) in
+    rw done at c.loop-index.invariant
