@@ -13,12 +13,12 @@ use overlay_base::segm::segment::Segment;
 use overlay_base::segm::segment_fill::SegmentFill;
 use overlay_base::segm::winding::WindingCount;
 use overlay_build::build::builder::GraphBuilder;
+use overlay_build::build::graph::OverlayGraph;
 use overlay_build::build::graph_node::OverlayNode;
 use overlay_geometry::geom::point::IntPoint;
 use overlay_geometry::num::OverlayInt;
 use overlay_split::split::solver::SplitSolver;
 use std::process::Abort;
-use std::test::Fail;
 
 mod star;
 
@@ -31,6 +31,8 @@ type LinkRow = ((i64, i64), (i64, i64), SegmentFill, [usize; 2]);
 type LinkEnds = ((i64, i64), (i64, i64));
 
 type Counted<I> = Segment<ShapeCountBoolean, I, ()>;
+
+type Builder<I> = GraphBuilder<ShapeCountBoolean, OverlayNode, I, ()>;
 
 const STRATEGIES: [Strategy; 4] = [
     Strategy::List,
@@ -180,55 +182,70 @@ const CALLS: [Call; 6] = [
     },
 ];
 
+/// A coordinate of the engine.
 fn coordinate<I: OverlayInt>(rt: &impl Abort, number: i64) -> I {
     assert!(rt; I::MIN_COORD.to_wide() <= number && number <= I::MAX_COORD.to_wide());
     I::from_wide(number)
 }
 
-fn segment<I: OverlayInt>(rt: &impl Abort, row: Row) -> Counted<I> {
-    let ((ax, ay), (bx, by), subj, clip) = row;
-    let a = IntPoint::new(coordinate(rt, ax), coordinate(rt, ay));
-    let b = IntPoint::new(coordinate(rt, bx), coordinate(rt, by));
-    let count = ShapeCountBoolean::new(subj, clip);
-    assert!(rt; a != b && count.is_valid());
+/// A point of the engine.
+fn point<I: OverlayInt>(rt: &impl Abort, (x, y): (i64, i64)) -> IntPoint<I> {
+    IntPoint::new(coordinate(rt, x), coordinate(rt, y))
+}
+
+/// The segment from a point to another with a valid count.
+fn counted<I: OverlayInt>(
+    rt: &impl Abort,
+    a: IntPoint<I>,
+    b: IntPoint<I>,
+    count: ShapeCountBoolean,
+) -> Counted<I> {
+    assert!(rt; a != b);
+    assert!(rt; count.is_valid());
     Segment::create_and_validate_with_data(a, b, count, (), &mut ())
 }
 
-fn segments<I: OverlayInt>(
-    rt: &(impl Abort + AllocGlobal),
-    rows: &[Row],
-) -> Result<Vec<Counted<I>>, Fail> {
-    let mut list = Vec::new(rt.alloc());
-    for row in rows {
-        list.push(segment(rt, *row))?;
-    }
-    Ok(list)
+/// The segment of a row.
+fn segment<I: OverlayInt>(rt: &impl Abort, (a, b, subj, clip): Row) -> Counted<I> {
+    let count = ShapeCountBoolean::new(subj, clip);
+    counted(rt, point(rt, a), point(rt, b), count)
 }
 
+/// The segments of some rows.
+fn segments<I: OverlayInt>(rt: &(impl Abort + AllocGlobal), rows: &[Row]) -> Vec<Counted<I>> {
+    let mut list = Vec::new(rt.alloc());
+    for row in rows {
+        list.push(segment(rt, *row)).expect(rt, "memory");
+    }
+    list
+}
+
+/// The two ends of a segment or of a link.
+fn ends<I: OverlayInt>(a: IntPoint<I>, b: IntPoint<I>) -> ((i64, i64), (i64, i64)) {
+    let a = (a.x.to_wide(), a.y.to_wide());
+    (a, (b.x.to_wide(), b.y.to_wide()))
+}
+
+/// A segment as the tables write it.
 fn row<I: OverlayInt>(segment: &Counted<I>) -> Row {
-    let ends = segment.x_segment();
-    let a = (ends.a.x.to_wide(), ends.a.y.to_wide());
-    let b = (ends.b.x.to_wide(), ends.b.y.to_wide());
+    let pair = segment.x_segment();
+    let (a, b) = ends(pair.a, pair.b);
     let count = segment.count();
     (a, b, count.subj, count.clip)
 }
 
-fn link_row<I: OverlayInt>(link: &OverlayLink<I, ()>) -> LinkRow {
-    let a = (link.a.point.x.to_wide(), link.a.point.y.to_wide());
-    let b = (link.b.point.x.to_wide(), link.b.point.y.to_wide());
-    (a, b, link.fill, [link.a.id, link.b.id])
-}
-
-fn link_ends<I: OverlayInt>(link: &OverlayLink<I, ()>) -> LinkEnds {
-    let (a, b, _, _) = link_row(link);
-    (a, b)
-}
-
-fn bridge(node: &OverlayNode) -> Option<[usize; 2]> {
-    match node {
-        OverlayNode::Bridge(links) => Some(*links),
-        OverlayNode::Cross(_) => None,
+/// A list as the tables write it.
+fn rows<I: OverlayInt>(rt: &(impl Abort + AllocGlobal), list: &[Counted<I>]) -> Vec<Row> {
+    let mut rows = Vec::new(rt.alloc());
+    for segment in list {
+        rows.push(row(segment)).expect(rt, "memory");
     }
+    rows
+}
+
+/// Wants this list.
+fn check_rows(rt: &impl Abort, name: &str, found: &[Row], wanted: &[Row]) {
+    assert_eq!(rt; found, wanted, "{name}");
 }
 
 /// A solver that goes about its work by a strategy.
@@ -236,179 +253,259 @@ fn solver(strategy: Strategy) -> Solver {
     Solver::with_strategy_and_precision(strategy, Precision::HIGH)
 }
 
-fn two_squares_with<I: OverlayInt>(rt: &(impl Abort + AllocGlobal)) -> Result<(), Fail> {
-    for strategy in STRATEGIES {
-        let mut splitter: SplitSolver<I> = SplitSolver::new(rt.alloc());
-        let mut builder = GraphBuilder::new(rt.alloc());
-        let mut list = segments(rt, &SQUARES)?;
-        assert!(rt; is_splittable(&list));
-        let built = split_and_build_overlay(
-            &mut splitter,
-            &mut builder,
-            &mut list,
-            &solver(strategy),
-            FillRule::NonZero,
-            OverlayRule::Intersect,
-        );
-        let graph = built.expect(rt, "no refusal");
-        let after: Vec<Row> = list.iter().map(row).collect(rt.alloc())?;
-        let links: Vec<LinkRow> = graph.links().iter().map(link_row).collect(rt.alloc())?;
-        let nodes: Vec<Option<[usize; 2]>> = graph.nodes().iter().map(bridge).collect(rt.alloc())?;
-        assert_eq!(rt; after.as_slice(), SPLIT_SQUARES.as_slice());
-        assert_eq!(rt; links.as_slice(), SHARED_LINKS.as_slice());
-        assert_eq!(rt; nodes.as_slice(), SHARED_NODES.as_slice());
-        assert!(rt; graph.validate());
+/// Splits a list that may be split.
+fn split_list<I: OverlayInt>(
+    rt: &impl Abort,
+    splitter: &mut SplitSolver<I>,
+    list: &mut Vec<Counted<I>>,
+    strategy: Strategy,
+) -> Result<bool, Fault> {
+    assert!(rt; is_splittable(list));
+    splitter.split_segments(list, &solver(strategy))
+}
+
+/// A link as the tables write it.
+fn link_row<I: OverlayInt>(link: &OverlayLink<I, ()>) -> LinkRow {
+    let (a, b) = ends(link.a.point, link.b.point);
+    (a, b, link.fill, [link.a.id, link.b.id])
+}
+
+/// Wants these links.
+fn check_links<I: OverlayInt>(
+    rt: &(impl Abort + AllocGlobal),
+    links: &[OverlayLink<I, ()>],
+    wanted: &[LinkRow],
+) {
+    let mut found = Vec::new(rt.alloc());
+    for link in links {
+        found.push(link_row(link)).expect(rt, "memory");
     }
-    Ok(())
+    assert_eq!(rt; found.as_slice(), wanted);
+}
+
+/// The two links of a node that has no more.
+fn bridge(node: &OverlayNode) -> Option<[usize; 2]> {
+    match node {
+        OverlayNode::Bridge(links) => Some(*links),
+        OverlayNode::Cross(_) => None,
+    }
+}
+
+/// Wants these nodes.
+fn check_nodes(
+    rt: &(impl Abort + AllocGlobal),
+    nodes: &[OverlayNode],
+    wanted: &[Option<[usize; 2]>],
+) {
+    let mut found = Vec::new(rt.alloc());
+    for node in nodes {
+        found.push(bridge(node)).expect(rt, "memory");
+    }
+    assert_eq!(rt; found.as_slice(), wanted);
+}
+
+/// Splits a list, and builds what a rule keeps of it.
+fn overlaid<'a, I: OverlayInt>(
+    rt: &impl Abort,
+    splitter: &mut SplitSolver<I>,
+    builder: &'a mut Builder<I>,
+    list: &mut Vec<Counted<I>>,
+    solver: &Solver,
+    fill_rule: FillRule,
+    rule: OverlayRule,
+) -> Result<OverlayGraph<'a, I, ()>, Fault> {
+    assert!(rt; is_splittable(list));
+    split_and_build_overlay(splitter, builder, list, solver, fill_rule, rule)
+}
+
+/// Overlays the two squares under a strategy.
+fn check_squares<I: OverlayInt>(rt: &(impl Abort + AllocGlobal), strategy: Strategy) {
+    let mut splitter: SplitSolver<I> = SplitSolver::new(rt.alloc());
+    let mut builder = GraphBuilder::new(rt.alloc());
+    let mut list = segments(rt, &SQUARES);
+    let built = overlaid(
+        rt,
+        &mut splitter,
+        &mut builder,
+        &mut list,
+        &solver(strategy),
+        FillRule::NonZero,
+        OverlayRule::Intersect,
+    );
+    let graph = built.expect(rt, "no refusal");
+    check_links(rt, graph.links(), &SHARED_LINKS);
+    check_nodes(rt, graph.nodes(), &SHARED_NODES);
+    assert!(rt; graph.validate());
+    check_rows(rt, "the list", &rows(rt, &list), &SPLIT_SQUARES);
 }
 
 #[test]
-fn two_squares(rt: HostRuntime) -> Result<(), Fail> {
-    two_squares_with::<i16>(&rt)?;
-    two_squares_with::<i32>(&rt)
+fn two_squares(rt: HostRuntime) {
+    for strategy in STRATEGIES {
+        check_squares::<i16>(&rt, strategy);
+        check_squares::<i32>(&rt, strategy);
+    }
 }
 
 /// The ends of the links of one overlay, and of the nodes how many.
 fn ends_of_links<I: OverlayInt>(
     rt: &(impl Abort + AllocGlobal),
-    rows: &[Row],
+    given: &[Row],
     strategy: Strategy,
     fill_rule: FillRule,
     rule: OverlayRule,
-) -> Result<(Vec<LinkEnds>, usize), Fail> {
+) -> (Vec<LinkEnds>, usize) {
     let mut splitter: SplitSolver<I> = SplitSolver::new(rt.alloc());
     let mut builder = GraphBuilder::new(rt.alloc());
-    let mut list = segments(rt, rows)?;
-    assert!(rt; is_splittable(&list));
-    let built = split_and_build_overlay(
+    let mut list = segments(rt, given);
+    let solver = solver(strategy);
+    let built = overlaid(
+        rt,
         &mut splitter,
         &mut builder,
         &mut list,
-        &solver(strategy),
+        &solver,
         fill_rule,
         rule,
     );
     let graph = built.expect(rt, "no refusal");
-    let ends = graph.links().iter().map(link_ends).collect(rt.alloc())?;
-    Ok((ends, graph.nodes().len()))
+    let mut found = Vec::new(rt.alloc());
+    for link in graph.links() {
+        found
+            .push(ends(link.a.point, link.b.point))
+            .expect(rt, "memory");
+    }
+    (found, graph.nodes().len())
+}
+
+/// The ends of some segments of the squares after the split.
+fn ends_of_squares(rt: &(impl Abort + AllocGlobal), kept: &[usize]) -> Vec<LinkEnds> {
+    let mut wanted = Vec::new(rt.alloc());
+    for index in kept {
+        let (a, b, _, _) = SPLIT_SQUARES[*index % 12];
+        wanted.push((a, b)).expect(rt, "memory");
+    }
+    wanted
 }
 
 /// Both squares wind once around their inside, which is odd, not 0 and positive; nothing has a negative winding.
-fn kept_with<I: OverlayInt>(
+fn check_kept<I: OverlayInt>(
     rt: &(impl Abort + AllocGlobal),
     strategy: Strategy,
     fill_rule: FillRule,
-) -> Result<(), Fail> {
+    rule: OverlayRule,
+    kept: &[usize],
+) {
+    let (links, _) = ends_of_links::<I>(rt, &SQUARES, strategy, fill_rule, rule);
+    let kept = if fill_rule == FillRule::Negative {
+        &[]
+    } else {
+        kept
+    };
+    let wanted = ends_of_squares(rt, kept);
+    assert_eq!(rt; links.as_slice(), wanted.as_slice(), "{rule}");
+}
+
+/// What each rule keeps, under a strategy and a fill rule.
+fn check_rules<I: OverlayInt>(
+    rt: &(impl Abort + AllocGlobal),
+    strategy: Strategy,
+    fill_rule: FillRule,
+) {
     for (rule, kept) in KEPT {
-        let kept = if fill_rule == FillRule::Negative {
-            &[]
-        } else {
-            kept
-        };
-        let (links, _) = ends_of_links::<I>(rt, &SQUARES, strategy, fill_rule, rule)?;
-        let rows = kept.iter().map(|index| {
-            let (a, b, _, _) = SPLIT_SQUARES[*index % 12];
-            (a, b)
-        });
-        let wanted: Vec<LinkEnds> = rows.collect(rt.alloc())?;
-        assert_eq!(rt; links.as_slice(), wanted.as_slice(), "{rule}");
+        check_kept::<I>(rt, strategy, fill_rule, rule, kept);
     }
-    Ok(())
 }
 
 #[test]
-fn what_each_rule_keeps(rt: HostRuntime) -> Result<(), Fail> {
+fn what_each_rule_keeps(rt: HostRuntime) {
     for strategy in STRATEGIES {
         for fill_rule in FILL_RULES {
-            kept_with::<i16>(&rt, strategy, fill_rule)?;
-            kept_with::<i32>(&rt, strategy, fill_rule)?;
+            check_rules::<i16>(&rt, strategy, fill_rule);
+            check_rules::<i32>(&rt, strategy, fill_rule);
         }
     }
-    Ok(())
+}
+
+/// Overlays nothing, under a strategy and a fill rule.
+fn check_nothing(rt: &(impl Abort + AllocGlobal), strategy: Strategy, fill_rule: FillRule) {
+    for (rule, _) in KEPT {
+        let (links, nodes) = ends_of_links::<i32>(rt, &[], strategy, fill_rule, rule);
+        assert!(rt; links.len() == 0 && nodes == 0, "{fill_rule} {rule}");
+    }
 }
 
 #[test]
-fn nothing_gives_an_empty_graph(rt: HostRuntime) -> Result<(), Fail> {
+fn nothing_gives_an_empty_graph(rt: HostRuntime) {
     for strategy in STRATEGIES {
         for fill_rule in FILL_RULES {
-            for (rule, _) in KEPT {
-                let (links, nodes) = ends_of_links::<i32>(&rt, &[], strategy, fill_rule, rule)?;
-                assert_eq!(rt; (links.len(), nodes), (0, 0), "{fill_rule} {rule}");
-            }
+            check_nothing(&rt, strategy, fill_rule);
         }
     }
-    Ok(())
 }
 
-/// The numbers of links and nodes, or the fault, of a build with a splitter and a builder that were used before; and
-/// the list after.
-fn overlay_again(
+/// Makes a call with a splitter and a builder that were used before.
+fn check_call(
     rt: &(impl Abort + AllocGlobal),
     splitter: &mut SplitSolver<i32>,
-    builder: &mut GraphBuilder<ShapeCountBoolean, OverlayNode, i32, ()>,
-    rows: &[Row],
+    builder: &mut Builder<i32>,
     strategy: Strategy,
-    rule: OverlayRule,
-) -> Result<(Result<(usize, usize), Fault>, Vec<Row>), Fail> {
-    let mut list = segments(rt, rows)?;
-    assert!(rt; is_splittable(&list));
-    let built = split_and_build_overlay(
-        splitter,
-        builder,
-        &mut list,
-        &solver(strategy),
-        FillRule::NonZero,
-        rule,
+    call: &Call,
+) {
+    let mut list = segments(rt, call.given);
+    let solver = solver(strategy);
+    let (fill_rule, rule) = (FillRule::NonZero, call.rule);
+    let sizes = match overlaid(rt, splitter, builder, &mut list, &solver, fill_rule, rule) {
+        Ok(graph) => Ok((graph.links().len(), graph.nodes().len())),
+        Err(fault) => Err(fault),
+    };
+    let kept = (builder.links().len(), builder.nodes().len());
+    check_rows(rt, call.name, &rows(rt, &list), call.left);
+    let name = call.name;
+    assert_eq!(rt;
+        (sizes, splitter.passes(), kept),
+        (call.sizes, call.passes, call.kept),
+        "{name}"
     );
-    let sizes = built.map(|graph| (graph.links().len(), graph.nodes().len()));
-    Ok((sizes, list.iter().map(row).collect(rt.alloc())?))
 }
 
 #[test]
-fn a_splitter_and_a_builder_are_used_again(rt: HostRuntime) -> Result<(), Fail> {
+fn a_splitter_and_a_builder_are_used_again(rt: HostRuntime) {
     let mut splitter = SplitSolver::new(rt.alloc());
     let mut builder = GraphBuilder::new(rt.alloc());
     for strategy in STRATEGIES {
-        for call in CALLS {
-            let name = call.name;
-            let (sizes, after) = overlay_again(
-                &rt,
-                &mut splitter,
-                &mut builder,
-                call.given,
-                strategy,
-                call.rule,
-            )?;
-            assert_eq!(rt; sizes, call.sizes, "{name}");
-            assert_eq!(rt; after.as_slice(), call.left, "{name}");
-            assert_eq!(rt; splitter.passes(), call.passes, "{name}");
-            let kept = (builder.links().len(), builder.nodes().len());
-            assert_eq!(rt; kept, call.kept, "{name}");
+        for call in CALLS.iter() {
+            check_call(&rt, &mut splitter, &mut builder, strategy, call);
         }
     }
-    Ok(())
+}
+
+/// Wants a list after its split, with the flag and the number of passes. What is left is arranged.
+fn check_split(
+    rt: &(impl Abort + AllocGlobal),
+    list: &mut Vec<Counted<i32>>,
+    strategy: Strategy,
+    told: (Result<bool, Fault>, u128),
+    wanted: &[Row],
+) {
+    let mut splitter: SplitSolver<i32> = SplitSolver::new(rt.alloc());
+    let flag = split_list(rt, &mut splitter, list, strategy);
+    assert_eq!(rt; (flag, splitter.passes()), told);
+    check_rows(rt, "the list", &rows(rt, list), wanted);
 }
 
 /// Counts that the split leaves as they are, and that leave the range in the build of all links.
 #[test]
-fn greatest_counts_above_one_another(rt: HostRuntime) -> Result<(), Fail> {
+fn greatest_counts_above_one_another(rt: HostRuntime) {
     for strategy in STRATEGIES {
-        let mut splitter: SplitSolver<i32> = SplitSolver::new(rt.alloc());
-        let mut builder: GraphBuilder<ShapeCountBoolean, OverlayNode, i32, ()> = GraphBuilder::new(
-            rt.alloc(),
-        );
-        let mut list = segments(&rt, &GREATEST_COUNTS)?;
-        assert!(rt; is_splittable(&list));
-        let flag = splitter.split_segments(&mut list, &solver(strategy));
-        assert_eq!(rt; flag, Ok(false));
-        let after: Vec<Row> = list.iter().map(row).collect(rt.alloc())?;
-        assert_eq!(rt; after.as_slice(), GREATEST_COUNTS.as_slice());
+        let mut list = segments(&rt, &GREATEST_COUNTS);
+        check_split(&rt, &mut list, strategy, (Ok(false), 1), &GREATEST_COUNTS);
+        let mut builder: Builder<i32> = GraphBuilder::new(rt.alloc());
         assert!(rt; is_arranged(&list));
         let built = builder.build_boolean_all(FillRule::NonZero, &solver(strategy), &list);
         assert!(rt; matches!(built, Err(Fault::CountOutOfRange)));
-        assert_eq!(rt; (builder.links().len(), builder.nodes().len()), (0, 0));
+        assert!(rt; builder.links().len() == 0 && builder.nodes().len() == 0);
     }
-    Ok(())
 }
 
 /// A steep line of the greatest count, bent through an end of another line, so that its lower half runs backward.
@@ -421,28 +518,29 @@ const SPLIT_BENT: [Row; 3] = [
     ((0, 0), (100, 1), 1, 0),
 ];
 
-#[test]
-fn a_line_of_the_greatest_count_is_bent(rt: HostRuntime) -> Result<(), Fail> {
-    for strategy in STRATEGIES {
-        let mut splitter: SplitSolver<i32> = SplitSolver::new(rt.alloc());
-        let mut builder: GraphBuilder<ShapeCountBoolean, OverlayNode, i32, ()> = GraphBuilder::new(
-            rt.alloc(),
-        );
-        let mut list = segments(&rt, &BENT)?;
-        assert!(rt; is_splittable(&list));
-        let flag = splitter.split_segments(&mut list, &solver(strategy));
-        assert_eq!(rt; (flag, splitter.passes()), (Ok(true), 2));
-        let after: Vec<Row> = list.iter().map(row).collect(rt.alloc())?;
-        assert_eq!(rt; after.as_slice(), SPLIT_BENT.as_slice());
-        assert!(rt; is_arranged(&list));
-        let built = builder.build_boolean_all(FillRule::NonZero, &solver(strategy), &list);
-        let graph = built.expect(&rt, "no refusal");
-        let fills: Vec<SegmentFill> = graph
-            .links()
-            .iter()
-            .map(|link| link.fill)
-            .collect(rt.alloc())?;
-        assert_eq!(rt; fills.as_slice(), [1, 3, 3].as_slice());
+/// The fills of all links of a list that is arranged.
+fn fills_of_all(
+    rt: &(impl Abort + AllocGlobal),
+    list: &[Counted<i32>],
+    strategy: Strategy,
+) -> Vec<SegmentFill> {
+    let mut builder: Builder<i32> = GraphBuilder::new(rt.alloc());
+    assert!(rt; is_arranged(list));
+    let built = builder.build_boolean_all(FillRule::NonZero, &solver(strategy), list);
+    let graph = built.expect(rt, "no refusal");
+    let mut fills = Vec::new(rt.alloc());
+    for link in graph.links() {
+        fills.push(link.fill).expect(rt, "memory");
     }
-    Ok(())
+    fills
+}
+
+#[test]
+fn a_line_of_the_greatest_count_is_bent(rt: HostRuntime) {
+    for strategy in STRATEGIES {
+        let mut list = segments(&rt, &BENT);
+        check_split(&rt, &mut list, strategy, (Ok(true), 2), &SPLIT_BENT);
+        let fills = fills_of_all(&rt, &list, strategy);
+        assert!(rt; fills.as_slice() == [1, 3, 3].as_slice());
+    }
 }
