@@ -1,8 +1,7 @@
--- What a whole run answers: the text of its output, or why it stops.
-use Rattle.std.specs.Prelude.{Bool, ◌≡◌, ◌≢◌, ◌⊎◌, ◌++◌, ℕ, ℤ, pos, negsuc, if◌then◌else◌, List, Option, Ok, Err, IfSome, unsigned_abs, IsTrue, IsFalse}
+-- What the program answers to the text of its input.
+use Rattle.std.specs.Prelude.{Bool, ◌≡◌, ◌⊎◌, ◌++◌, ℕ, ℤ, if◌then◌else◌, List, Ok, Err, unsigned_abs, IsTrue, IsFalse}
 use Rattle.std.specs.Option.{ok_or}
 use Rattle.std.specs.declared.result.Result.{Result}
-use Rattle.overlay_geometry.specs.Coordinates.{least_coordinate, greatest_coordinate}
 use Rattle.overlay_base.specs.Segments.{WholeSegment}
 use Rattle.overlay_base.specs.Join.{join, has_equal_pairs, join_leaves_range}
 use Rattle.overlay_base.specs.Radius.{exponent_cap}
@@ -10,32 +9,18 @@ use Rattle.overlay_split.specs.Run.{Settings as RunSettings, IsPassCount, IsRun,
 use Rattle.overlay_sweep.specs.ChainWindings.{tops_leave_range}
 use Rattle.overlay_build.specs.Graph.{Graph, graph_by}
 use Rattle.arrange.specs.RuleOf.{keeps_by}
-use Rattle.overlay_base.specs.declared.segm.fault.Fault.TheVariants.{CountOutOfRange, Memory}
+use Rattle.overlay_base.specs.declared.segm.fault.Fault.TheVariants.{CountOutOfRange}
 use Rattle.overlay_text.specs.declared.settings.Command.{Command}
 use Rattle.overlay_text.specs.declared.settings.Command.TheVariants.{Join, Cross, Split, Graph as GraphCommand, Walks}
-use Rattle.overlay_text.specs.declared.settings.Engine.{Engine}
-use Rattle.overlay_text.specs.declared.settings.Engine.TheVariants.{I16, I32}
+use Rattle.overlay_text.specs.Engines.{least_of, greatest_of, bits_of}
 use Rattle.overlay_text.specs.declared.settings.Settings.{Settings}
 use Rattle.overlay_text.specs.declared.stop.Stop.{Stop}
-use Rattle.overlay_text.specs.declared.stop.Stop.TheVariants.{Usage, NotTwoSegments, Refused, Input, Output}
+use Rattle.overlay_text.specs.declared.stop.Stop.TheVariants.{NotTwoSegments, Refused}
 use Rattle.overlay_text.specs.Output.{segment_lines, flag_line, passes_line, cross_text}
 use Rattle.arrange.specs.GraphText.{graph_text, IsWalksText}
-use Rattle.overlay_text.specs.Words.{WordsAsk, AskSomething, AskNothing}
+use Rattle.overlay_text.specs.Runs.{Behavior}
+use Rattle.overlay_text.specs.Words.{WordsAsk}
 use Rattle.overlay_text.specs.Text.{lines_of, AskInTurnFor, IsFirstFault}
-
--- the least and the greatest coordinate of an engine
-abbrev pub least_of : Engine → ℤ
-least_of I16 = negsuc 16383
-least_of I32 = least_coordinate
-
-abbrev pub greatest_of : Engine → ℤ
-greatest_of I16 = pos 16383
-greatest_of I32 = greatest_coordinate
-
--- the bits of an engine's coordinates
-abbrev pub bits_of : Engine → ℕ
-bits_of I16 = 16
-bits_of I32 = 32
 
 -- what a split is set to, in coordinates of so many bits
 abbrev pub split_settings : ℕ → Settings → RunSettings
@@ -83,20 +68,10 @@ IsAnswer least greatest bits command settings bytes answer =
     ((segments : List WholeSegment) × AskInTurnFor least greatest (lines_of bytes) segments × IsCommandAnswer bits command settings segments answer)
     ⊎ ((stop : Stop) × IsFirstFault least greatest (lines_of bytes) stop × (answer ≡ Err stop))
 
--- what the command for which the words ask makes of the input, in the coordinates of the engine that they choose
-abbrev pub IsRunAnswer : List (List ℕ) → List ℕ → Result (List ℕ) Stop → Type 0
-IsRunAnswer words bytes answer =
-    (command : Command) × (settings : Settings) × WordsAsk words command settings
-    × IsAnswer (least_of settings.engine) (greatest_of settings.engine) (bits_of settings.engine) command settings bytes answer
-
--- the input, where it is known, is answered with a text
-abbrev pub HasOutput : List (List ℕ) → Option (List ℕ) → Type 0
-HasOutput words input = IfSome input (λ bytes. (text : List ℕ) × IsRunAnswer words bytes (Ok text))
-
--- why a run stops: with the usage exactly where the words ask for nothing, and else because the input fails, memory is refused, the output fails that there is, or it is the answer to the input, where that is known
-abbrev pub IsStop : List (List ℕ) → Option (List ℕ) → Stop → Type 0
-IsStop words input stop =
-    ((stop ≡ Usage) × AskNothing words)
-    ⊎ (AskSomething words × (stop ≢ Usage)
-    × ((stop ≡ Input) ⊎ ((stop ≡ Output) × HasOutput words input) ⊎ (stop ≡ Refused Memory)
-    ⊎ IfSome input (λ bytes. IsRunAnswer words bytes (Err stop))))
+-- for which command and settings words ask, and what the command makes of the input, in the coordinates of the engine that they choose
+abbrev pub arrange_behavior : Behavior (Command × Settings)
+arrange_behavior = record {
+  AskFor = λ words choices. WordsAsk words choices.0 choices.1;
+  Answers = λ choices bytes answer.
+      IsAnswer (least_of choices.1.engine) (greatest_of choices.1.engine) (bits_of choices.1.engine) choices.0 choices.1 bytes answer;
+}

@@ -5,6 +5,7 @@ pub mod Parts
 pub mod PrecisionWords
 pub mod ReadWords
 pub mod Results
+pub mod Runs
 pub mod RuleWords
 pub mod ShortNumerals
 pub mod Slots

@@ -13,7 +13,7 @@ use Rattle.overlay_text.specs.declared.settings.Engine.TheVariants.{I32}
 use Rattle.overlay_text.specs.declared.settings.Settings.{Settings}
 use Rattle.overlay_text.specs.declared.settings.SquaredRadius.{SquaredRadius}
 use Rattle.overlay_text.specs.declared.words.Choices.{Choices}
-use Rattle.overlay_text.specs.Words.{NamesCommand, NamesEngine, NamesStrategy, precision_of, NamesPrecision, NamesFillRule, NamesRule, WritesLimit, WritesSquare, WritesRadius, setting, IsSetting, WordsAsk, AskNothing, TakesWord, CanTake}
+use Rattle.overlay_text.specs.Words.{NamesCommand, NamesEngine, NamesStrategy, precision_of, NamesPrecision, NamesFillRule, NamesRule, WritesLimit, WritesSquare, WritesRadius, setting, IsSetting, WordsSet, SetNothing, WordsAsk, AskNothing, TakesWord, CanTake}
 use Rattle.overlay_text.proofs.Slots.{Slot, empty_slot, slot-more, chosen-from_slot, unwrapped, takes_chosen}
 
 -- what stands in the slots when these words are read
@@ -104,35 +104,32 @@ cut_mapped f xs i x below is =
     let split : xs ≡ take i xs ++ x ∷ drop (i + 1) xs = rw add-one (split_at xs i x below ∙ ap (λ y. take i xs ++ y ∷ drop (suc i) xs) (sym is)) in
     ap (map f) split ∙ map-append f (take i xs) (x ∷ drop (i + 1) xs)
 
--- words with one that no slot can take ask for nothing
-pub refuses : (words others before after : List (List ℕ)) (first word : List ℕ) (choices : Choices) → AreRead before choices → NoneTakes word choices → words ≡ first ∷ others → others ≡ before ++ word ∷ after → AskNothing words
-refuses words others before after first word choices held none split cut command settings asked =
-    let same : asked.others ≡ others = cc (asked.split, split) in
-    let at : asked.others ≡ before ++ word ∷ after = same ∙ cut in
-    let is_setting : IsSetting word = All-contains IsSetting asked.others word asked.known (subst (λ ws. Contains ws word) (sym at) (Contains-append_right before (word ∷ after) word (0, omega arith, refl))) in
+-- words with one that no slot can take set nothing
+pub refuses : (words before after : List (List ℕ)) (word : List ℕ) (choices : Choices) → AreRead before choices → NoneTakes word choices → words ≡ before ++ word ∷ after → SetNothing words
+refuses words before after word choices held none at settings set =
+    let is_setting : IsSetting word = All-contains IsSetting words word set.known (subst (λ ws. Contains ws word) (sym at) (Contains-append_right before (word ∷ after) word (0, omega arith, refl))) in
     each_name word is_setting
-    (λ value sets. let takes = takes_chosen (codes "engine") NamesEngine NamesEngine asked.others before after word value choices.engine I32 settings.engine held.engine asked.engine at sets in none.engine (takes.0, (settings.engine, takes.1)))
-    (λ value sets. let takes = takes_chosen (codes "strategy") NamesStrategy NamesStrategy asked.others before after word value choices.strategy Auto settings.strategy held.strategy asked.strategy at sets in none.strategy (takes.0, (settings.strategy, takes.1)))
-    (λ value sets. let takes = takes_chosen (codes "precision") NamesPrecision NamesPrecision asked.others before after word value choices.precision (precision_of 0 1) settings.precision held.precision asked.precision at sets in none.precision (takes.0, (settings.precision, takes.1)))
-    (λ value sets. let takes = takes_chosen (codes "fill") NamesFillRule NamesFillRule asked.others before after word value choices.fill_rule NonZero settings.fill_rule held.fill asked.fill at sets in none.fill (takes.0, (settings.fill_rule, takes.1)))
-    (λ value sets. let takes = takes_chosen (codes "rule") NamesRule NamesRule asked.others before after word value choices.rule None settings.rule held.rule asked.rule at sets in none.rule (takes.0, (settings.rule, takes.1)))
-    (λ value sets. let takes = takes_chosen (codes "limit") WritesLimit WritesLimit asked.others before after word value choices.snap_limit 256 settings.snap_limit held.limit asked.limit at sets in none.limit (takes.0, (settings.snap_limit, takes.1)))
-    (λ value sets. let takes = takes_chosen (codes "radius") WritesRadius WritesSquare asked.others before after word value choices.radius (pos 1) settings.radius.squared held.radius asked.radius at sets in none.radius (takes.0, (settings.radius, takes.1)))
+    (λ value sets. let takes = takes_chosen (codes "engine") NamesEngine NamesEngine words before after word value choices.engine I32 settings.engine held.engine set.engine at sets in none.engine (takes.0, (settings.engine, takes.1)))
+    (λ value sets. let takes = takes_chosen (codes "strategy") NamesStrategy NamesStrategy words before after word value choices.strategy Auto settings.strategy held.strategy set.strategy at sets in none.strategy (takes.0, (settings.strategy, takes.1)))
+    (λ value sets. let takes = takes_chosen (codes "precision") NamesPrecision NamesPrecision words before after word value choices.precision (precision_of 0 1) settings.precision held.precision set.precision at sets in none.precision (takes.0, (settings.precision, takes.1)))
+    (λ value sets. let takes = takes_chosen (codes "fill") NamesFillRule NamesFillRule words before after word value choices.fill_rule NonZero settings.fill_rule held.fill set.fill at sets in none.fill (takes.0, (settings.fill_rule, takes.1)))
+    (λ value sets. let takes = takes_chosen (codes "rule") NamesRule NamesRule words before after word value choices.rule None settings.rule held.rule set.rule at sets in none.rule (takes.0, (settings.rule, takes.1)))
+    (λ value sets. let takes = takes_chosen (codes "limit") WritesLimit WritesLimit words before after word value choices.snap_limit 256 settings.snap_limit held.limit set.limit at sets in none.limit (takes.0, (settings.snap_limit, takes.1)))
+    (λ value sets. let takes = takes_chosen (codes "radius") WritesRadius WritesSquare words before after word value choices.radius (pos 1) settings.radius.squared held.radius set.radius at sets in none.radius (takes.0, (settings.radius, takes.1)))
 
--- what stands in the slots at the end is what the words ask for
-pub asks : (words others : List (List ℕ)) (first : List ℕ) (command : Command) (choices : Choices) (settings : Settings) → AreRead others choices → words ≡ first ∷ others → NamesCommand first command
-    → AreChosen choices settings → WordsAsk words command settings
-asks words others first command choices settings held split named chosen = record {
-  first = first;
-  others = others;
-  split = split;
-  named = named;
+-- words after the first that set nothing ask for nothing
+pub ask_nothing : (words others : List (List ℕ)) (first : List ℕ) → words ≡ first ∷ others → SetNothing others → AskNothing words
+ask_nothing words others first split nothing command settings asked = nothing settings (subst (λ ws. WordsSet ws settings) (cc (asked.split, split)) asked.set)
+
+-- what stands in the slots at the end is what the words set
+pub sets : (words : List (List ℕ)) (choices : Choices) (settings : Settings) → AreRead words choices → AreChosen choices settings → WordsSet words settings
+sets words choices settings held chosen = record {
   known = held.known;
-  engine = unwrapped (codes "engine") NamesEngine others choices.engine I32 settings.engine held.engine chosen.engine;
-  strategy = unwrapped (codes "strategy") NamesStrategy others choices.strategy Auto settings.strategy held.strategy chosen.strategy;
-  precision = unwrapped (codes "precision") NamesPrecision others choices.precision (precision_of 0 1) settings.precision held.precision chosen.precision;
-  fill = unwrapped (codes "fill") NamesFillRule others choices.fill_rule NonZero settings.fill_rule held.fill chosen.fill;
-  rule = unwrapped (codes "rule") NamesRule others choices.rule None settings.rule held.rule chosen.rule;
-  limit = unwrapped (codes "limit") WritesLimit others choices.snap_limit 256 settings.snap_limit held.limit chosen.limit;
-  radius = chosen-from_slot (codes "radius") WritesRadius WritesSquare others choices.radius (pos 1) settings.radius.squared held.radius (λ value x e means. subst (WritesSquare value) (sym (chosen.radius ∙ ap squared_or_one e)) means) (λ e. chosen.radius ∙ ap squared_or_one e);
+  engine = unwrapped (codes "engine") NamesEngine words choices.engine I32 settings.engine held.engine chosen.engine;
+  strategy = unwrapped (codes "strategy") NamesStrategy words choices.strategy Auto settings.strategy held.strategy chosen.strategy;
+  precision = unwrapped (codes "precision") NamesPrecision words choices.precision (precision_of 0 1) settings.precision held.precision chosen.precision;
+  fill = unwrapped (codes "fill") NamesFillRule words choices.fill_rule NonZero settings.fill_rule held.fill chosen.fill;
+  rule = unwrapped (codes "rule") NamesRule words choices.rule None settings.rule held.rule chosen.rule;
+  limit = unwrapped (codes "limit") WritesLimit words choices.snap_limit 256 settings.snap_limit held.limit chosen.limit;
+  radius = chosen-from_slot (codes "radius") WritesRadius WritesSquare words choices.radius (pos 1) settings.radius.squared held.radius (λ value x e means. subst (WritesSquare value) (sym (chosen.radius ∙ ap squared_or_one e)) means) (λ e. chosen.radius ∙ ap squared_or_one e);
 }

@@ -48,17 +48,23 @@ IsFaulty least greatest line fault =
     ⊎ ((shape_type : ShapeType) × (a : Point) × (b : Point) × WritesStep (words_of_line line) shape_type a b
     × (step_fault least greatest a b ≡ Some fault))
 
--- each of the lines has no words or asks for a segment, and these are the segments, in order
-abbrev pub AskInTurnFor : ℤ → ℤ → List (List ℕ) → List WholeSegment → Type 0
-AskInTurnFor least greatest [] segments = segments ≡ []
-AskInTurnFor least greatest (line ∷ lines) segments =
-    ((words_of_line line ≡ []) × AskInTurnFor least greatest lines segments)
-    ⊎ ((first : WholeSegment) × (others : List WholeSegment) × (segments ≡ first ∷ others)
-    × AsksFor least greatest line first × AskInTurnFor least greatest lines others)
+-- each of the lines has no words or asks for something, and this is what they ask for, in order
+abbrev pub AskInTurn : {X : Type 0} → (List ℕ → X → Type 0) → List (List ℕ) → List X → Type 0
+AskInTurn Asks [] asked = asked ≡ []
+AskInTurn {X = X} Asks (line ∷ lines) asked =
+    ((words_of_line line ≡ []) × AskInTurn Asks lines asked)
+    ⊎ ((first : X) × (others : List X) × (asked ≡ first ∷ others) × Asks line first × AskInTurn Asks lines others)
 
 -- the stop names the first faulty line by its number, from 1, and what is wrong with it
-abbrev pub IsFirstFault : ℤ → ℤ → List (List ℕ) → Stop → Type 0
-IsFirstFault least greatest lines stop =
+abbrev pub IsFirstFaultOf : {X : Type 0} → (List ℕ → X → Type 0) → (List ℕ → LineFault → Type 0) → List (List ℕ) → Stop → Type 0
+IsFirstFaultOf {X = X} Asks HasFault lines stop =
     (before : List (List ℕ)) × (line : List ℕ) × (after : List (List ℕ)) × (lines ≡ before ++ line ∷ after)
-    × ((segments : List WholeSegment) × AskInTurnFor least greatest before segments)
-    × ((fault : LineFault) × IsFaulty least greatest line fault × (stop ≡ Line (length before + 1) fault))
+    × ((asked : List X) × AskInTurn Asks before asked)
+    × ((fault : LineFault) × HasFault line fault × (stop ≡ Line (length before + 1) fault))
+
+-- each of the lines has no words or asks for a segment, and these are the segments, in order
+abbrev pub AskInTurnFor : ℤ → ℤ → List (List ℕ) → List WholeSegment → Type 0
+AskInTurnFor least greatest lines segments = AskInTurn (AsksFor least greatest) lines segments
+
+abbrev pub IsFirstFault : ℤ → ℤ → List (List ℕ) → Stop → Type 0
+IsFirstFault least greatest lines stop = IsFirstFaultOf (AsksFor least greatest) (IsFaulty least greatest) lines stop

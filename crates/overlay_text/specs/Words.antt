@@ -128,24 +128,28 @@ IsChosen name Means otherwise words chosen =
     × SetsTo name Means word chosen × NoneSets name before × NoneSets name after)
     ⊎ (NoneSets name words × (chosen ≡ otherwise))
 
--- the first word names the command, each other sets one of the names, and the settings are what is chosen for each
+-- each word sets one of the names, and the settings are what is chosen for each
+pub record WordsSet (words : List (List ℕ)) (settings : Settings) : Type 0 where
+  pub known : All IsSetting words
+  pub engine : IsChosen (codes "engine") NamesEngine I32 words settings.engine
+  pub strategy : IsChosen (codes "strategy") NamesStrategy Auto words settings.strategy
+  pub precision : IsChosen (codes "precision") NamesPrecision (precision_of 0 1) words settings.precision
+  pub fill : IsChosen (codes "fill") NamesFillRule NonZero words settings.fill_rule
+  pub rule : IsChosen (codes "rule") NamesRule None words settings.rule
+  pub limit : IsChosen (codes "limit") WritesLimit 256 words settings.snap_limit
+  pub radius : IsChosen (codes "radius") WritesSquare (pos 1) words settings.radius.squared
+
+-- no settings are what the words set
+abbrev pub SetNothing : List (List ℕ) → Type 0
+SetNothing words = (settings : Settings) → ¬ (WordsSet words settings)
+
+-- the first word names the command, and the others set the settings
 pub record WordsAsk (words : List (List ℕ)) (command : Command) (settings : Settings) : Type 0 where
   pub first : List ℕ
   pub others : List (List ℕ)
   pub split : words ≡ first ∷ others
   pub named : NamesCommand first command
-  pub known : All IsSetting others
-  pub engine : IsChosen (codes "engine") NamesEngine I32 others settings.engine
-  pub strategy : IsChosen (codes "strategy") NamesStrategy Auto others settings.strategy
-  pub precision : IsChosen (codes "precision") NamesPrecision (precision_of 0 1) others settings.precision
-  pub fill : IsChosen (codes "fill") NamesFillRule NonZero others settings.fill_rule
-  pub rule : IsChosen (codes "rule") NamesRule None others settings.rule
-  pub limit : IsChosen (codes "limit") WritesLimit 256 others settings.snap_limit
-  pub radius : IsChosen (codes "radius") WritesSquare (pos 1) others settings.radius.squared
-
--- some command and settings are asked for
-abbrev pub AskSomething : List (List ℕ) → Type 0
-AskSomething words = (command : Command) × (settings : Settings) × WordsAsk words command settings
+  pub set : WordsSet others settings
 
 -- no command and no settings are asked for
 abbrev pub AskNothing : List (List ℕ) → Type 0

@@ -6,5 +6,6 @@ pub mod lines;
 pub mod number;
 pub mod output;
 pub mod settings;
+pub mod shell;
 pub mod stop;
 pub mod words;

@@ -24,12 +24,13 @@ use std::alloc::Global;
 
 /// The lines of a text. Line feeds stand between them, so there is one more line than line feeds.
 #[derive(Drop)]
-struct Lines<'a> {
+pub struct Lines<'a> {
     rest: Option<&'a [u8]>,
 }
 
 impl<'a> Lines<'a> {
-    fn of(bytes: &'a [u8]) -> Self
+    /// All lines of a text.
+    pub fn of(bytes: &'a [u8]) -> Self
         ensures { option_map_or (λ rest. lines_of rest.now) result.rest [] ≡ lines_of bytes.now }
     {
         Lines { rest: Some(bytes) }
@@ -59,8 +60,19 @@ impl<'a> Iterator for Lines<'a> {
 
 /// The words of a line: its longest parts without a space.
 #[derive(Drop)]
-struct Words<'a> {
+pub struct Words<'a> {
     rest: &'a [u8],
+}
+
+impl<'a> Words<'a> {
+    /// The words of a line, without a carriage return at its very end.
+    pub fn of(line: &'a [u8]) -> Self
+        ensures { words_of result.rest.now ≡ words_of_line line.now }
+    {
+        Words {
+            rest: without_carriage_return(line),
+        }
+    }
 }
 
 impl<'a> Iterator for Words<'a> {
@@ -127,9 +139,7 @@ fn read_line<I: OverlayInt>(
     ensures splittable { IfOk result (λ found. IfSome found (λ segment. IsSplittable (segment ∷ []))) }
     ensures faulty { IfErr result (λ fault. IsFaulty (I.whole I.MIN_COORD) (I.whole I.MAX_COORD) line.now fault) }
 {
-    let mut words = Words {
-        rest: without_carriage_return(line),
-    };
+    let mut words = Words::of(line);
     let Some(letter) = words.next() else {
         return Ok(None);
     };
@@ -174,7 +184,8 @@ fn parse_line(letter: &[u8], words: &mut Words<'_>) -> Option<Line>
     }
 }
 
-fn shape_type(letter: &[u8]) -> Option<ShapeType>
+/// The shape that a letter names.
+pub fn shape_type(letter: &[u8]) -> Option<ShapeType>
     ensures { MatchOption result ((shape_type : ShapeType) → ¬ (NamesShape letter.now shape_type))
         (NamesShape letter.now) }
 {
@@ -198,7 +209,7 @@ fn segment<I: OverlayInt>(line: Line) -> Result<Segment<ShapeCountBoolean, I, ()
 }
 
 /// The point of the engine with these coordinates, or `None` where one is out of range.
-fn point<I: OverlayInt>(wide: IntPoint<i64>) -> Option<IntPoint<I>>
+pub fn point<I: OverlayInt>(wide: IntPoint<i64>) -> Option<IntPoint<I>>
     ensures in_range { IsSome result ↔ IsTrue (is_point_in_range (I.whole I.MIN_COORD) (I.whole I.MAX_COORD)
         (point_of (λ z. z) wide)) }
     ensures same { IfSome result (λ point. point_of I.whole point ≡ point_of (λ z. z) wide) }

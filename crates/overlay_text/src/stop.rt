@@ -26,11 +26,14 @@ pub enum LineFault {
 #[derive(Clone, Copy, Debug, PartialEq, Eq, Error)]
 pub enum Stop {
     /// The words after the program's name ask for nothing that the program does.
-    #[error("usage: arrange join|cross|split|graph|walks [name=value ..]")]
+    #[error("usage")]
     Usage,
     /// A crossing is asked for, and the lines are not two.
     #[error("cross needs two segments")]
     NotTwoSegments,
+    /// Contours are asked for without a rule that chooses them.
+    #[error("polygons needs a rule other than all")]
+    NoRule,
     /// Lines are numbered from 1, empty ones too.
     #[error("line {number}: {fault}")]
     Line { number: usize, fault: LineFault },
@@ -73,7 +76,7 @@ impl Stop {
         ensures { result ≡ status_of self }
     {
         match self {
-            Stop::Usage | Stop::NotTwoSegments => 2,
+            Stop::Usage | Stop::NotTwoSegments | Stop::NoRule => 2,
             Stop::Line { .. } => 3,
             Stop::Refused(_) => 4,
             Stop::Input | Stop::Output => 5,

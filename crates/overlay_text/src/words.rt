@@ -8,7 +8,7 @@ ghost use Rattle.overlay_base.specs.declared.overlay_core.overlay_rule.OverlayRu
 ghost use Rattle.overlay_base.specs.declared.overlay_core.rule_table.RuleTable.{RuleTable};
 ghost use Rattle.overlay_base.specs.declared.overlay_core.solver.Precision.{Precision};
 ghost use Rattle.overlay_base.specs.declared.overlay_core.solver.Strategy.{Strategy};
-ghost use Rattle.overlay_text.specs.Words.{NamesCommand, NamesEngine, NamesStrategy, NamesFillRule, IsRuleName, WritesTable, NamesRule, precision_of, IsPrecisionName, NamesPrecision, WritesLimit, WritesSquare, WritesRadius, setting, IsName, IsSetting, WordsAsk, AskNothing, ReadsWord};
+ghost use Rattle.overlay_text.specs.Words.{NamesCommand, NamesEngine, NamesStrategy, NamesFillRule, IsRuleName, WritesTable, NamesRule, precision_of, IsPrecisionName, NamesPrecision, WritesLimit, WritesSquare, WritesRadius, setting, IsName, IsSetting, WordsSet, SetNothing, WordsAsk, AskNothing, ReadsWord};
 
 use crate::number::{number, short_number};
 use crate::settings::{Command, Engine, Settings, SquaredRadius};
@@ -27,11 +27,20 @@ pub fn read_words(words: &[String]) -> Result<(Command, Settings), Stop>
 {
     let (first, others) = words.split_first().ok_or(Stop::Usage)?;
     let command = command(first.as_str()).ok_or(Stop::Usage)?;
+    let settings = read_settings(others)?;
+    Ok((command, settings))
+}
+
+/// The settings that words of the form `name=value` choose. Anything else is `Stop::Usage`.
+pub fn read_settings(words: &[String]) -> Result<Settings, Stop>
+    ensures set { IfOk result (λ settings. WordsSet (map string_bytes words.now) settings) }
+    ensures usage { IfErr result (λ stop. (stop ≡ Stop.Usage) × SetNothing (map string_bytes words.now)) }
+{
     let mut choices = Choices::NONE;
-    for word in others {
+    for word in words {
         choices.read(word.as_str())?;
     }
-    Ok((command, choices.settings()))
+    Ok(choices.settings())
 }
 
 /// The parts of a word `name=value`.

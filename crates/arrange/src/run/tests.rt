@@ -1,8 +1,11 @@
 // Whole runs over memory: words and lines in, the exit status and both outputs out.
 
 use super::*;
+use overlay_base::segm::fault::Fault;
+use overlay_text::shell::refuse;
 use std::alloc::AllocError;
-use std::env::FillError;
+use std::env::{self, FillError};
+use std::io::{self, ErrorKind};
 use std::process::Abort;
 use std::test::Fail;
 
@@ -898,7 +901,10 @@ fn refusals_are_told(rt: HostRuntime) -> Result<(), Fail> {
     ];
     for (fault, text) in texts {
         let mut faults = Vec::new(rt.alloc());
-        assert_eq!(rt; refuse(Stop::Refused(fault), &mut faults), 4);
+        assert_eq!(rt;
+            refuse::<ArrangeProgram, Vec<u8>>(Stop::Refused(fault), &mut faults),
+            4
+        );
         assert_eq!(rt; faults.as_slice(), text.as_bytes());
     }
     Ok(())

@@ -25,7 +25,7 @@ pub loop-index-preserved : goal.loop-index-preserved
 loop-index-preserved g c =
     let steps = c.in-Some.ensures.steps in
     let blank : words_of_line c.in-Some.line.now ≡ [] = rw c.in-Ok-None.field-0-is at c.in-Ok-None.ensures.blank in
-    (c.loop-index.invariant.0, taken-blank _ _ _ _ _ _ _ _ _ c.loop-index.invariant.1 steps.0 steps.2 blank)
+    (c.loop-index.invariant.0, taken-blank _ _ _ _ _ _ _ _ c.loop-index.invariant.1 steps.0 steps.2 blank)
 
 pub loop-index-preserved-in-Continue-1 : goal.loop-index-preserved-in-Continue-1
 loop-index-preserved-in-Continue-1 g c =
@@ -35,14 +35,14 @@ loop-index-preserved-in-Continue-1 g c =
     let next = rw c.in-Ok-Some.field-0-is at c.in-Ok-Some.ensures.splittable in
     let asks = rw c.in-Ok-Some.field-0-is at c.in-Ok-Some.ensures.segment in
     let both = is_splittable-append least greatest (segments_of c.loop-index.segments.items) (segment_of c.in-Ok-Some.segment ∷ []) c.loop-index.invariant.0 next in
-    let taken = taken-one least greatest _ _ _ _ _ _ _ c.loop-index.invariant.1 steps.0 steps.2 (segment_of c.in-Ok-Some.segment) asks in
+    let taken = taken-one _ _ _ _ _ _ _ _ c.loop-index.invariant.1 steps.0 steps.2 (segment_of c.in-Ok-Some.segment) asks in
     rw (c.in_ok-push-in-Ok-Some.ensures.items, map-append) (both, taken)
 
 pub returns-clause-segments : goal.returns-clause-segments
-returns-clause-segments g c = all_taken _ _ _ _ _ _ c.loop-index.invariant.1 c.in-None.ensures.steps.0.0
+returns-clause-segments g c = all_taken _ _ _ _ _ c.loop-index.invariant.1 c.in-None.ensures.steps.0.0
 
 pub returns-in-Err-clause-faulty : goal.returns-in-Err-clause-faulty
 returns-in-Err-clause-faulty g c =
     let steps = c.in-Some.ensures.steps in
     let number : c.next.new.self.count ≡ c.in-Some.index + 1 = steps.2 ∙ ap (λ n. n + 1) (sym steps.1) in
-    inr (rw (← number) (first_fault _ _ _ _ _ _ _ _ _ c.loop-index.invariant.1 steps.0 steps.2 c.in-Err.fault c.in-Err.ensures.faulty))
+    inr (rw (← number) (first_fault _ _ _ _ _ _ _ _ c.loop-index.invariant.1 steps.0 steps.2 _ c.in-Err.fault c.in-Err.ensures.faulty))
