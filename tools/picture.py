@@ -1,9 +1,10 @@
 #!/usr/bin/env python3
-"""Turns the lines that `arrange split` or `arrange graph` prints into a picture.
+"""Turns the lines that `arrange split`, `arrange graph` or `polygons` prints into a picture.
 
 Usage: arrange graph rule=xor < INPUT | python3 tools/picture.py > PICTURE.svg
+       polygons rule=xor < INPUT | python3 tools/picture.py > PICTURE.svg
 
-Links are drawn by their fill: blue where they bound the subject alone, red the clip alone, purple both; dashed where one of
+Contours are filled where they wind round, whichever way. Links are drawn by their fill: blue where they bound the subject alone, red the clip alone, purple both; dashed where one of
 the two has the same on both sides. Segments of a split are drawn by their counts in the same colors. Nodes are white dots
 where two links meet, and black squares elsewhere. It needs Python's standard library alone.
 """
@@ -12,6 +13,7 @@ import sys
 SIZE = 640
 MARGIN = 24
 BLUE, RED, PURPLE, GRAY = "#2563eb", "#dc2626", "#7e22ce", "#6b7280"
+LIGHT = "#bfdbfe"
 
 
 def color(subject, clip):
@@ -33,9 +35,14 @@ def read_segment(words):
     return ends, color(subject, clip), False
 
 
+def read_contour(words):
+    numbers = [int(word) for word in words]
+    return list(zip(numbers[0::2], numbers[1::2]))
+
+
 def read(lines):
-    """The segments as (ends, color, whether dashed), and the nodes as (x, y, whether a bridge)."""
-    segments, nodes = [], []
+    """The segments as (ends, color, whether dashed), the nodes as (x, y, whether a bridge), and the contours as lists of (x, y)."""
+    segments, nodes, contours = [], [], []
     for line in lines:
         kind, *words = line.split() or [""]
         if kind == "link":
@@ -44,22 +51,29 @@ def read(lines):
             segments.append(read_segment(words))
         elif kind == "node":
             nodes.append((int(words[0]), int(words[1]), words[2] == "bridge"))
-    return segments, nodes
+        elif kind == "contour":
+            contours.append(read_contour(words))
+    return segments, nodes, contours
 
 
-def frame(segments):
+def frame(segments, contours):
     """A function from whole points to places in the picture, y upward."""
-    xs = [x for ends, _, _ in segments for x in ends[0::2]] or [0]
-    ys = [y for ends, _, _ in segments for y in ends[1::2]] or [0]
+    points = [point for ends, _, _ in segments for point in (ends[:2], ends[2:])]
+    points += [point for contour in contours for point in contour]
+    xs, ys = zip(*points or [(0, 0)])
     scale = (SIZE - 2 * MARGIN) / max(max(xs) - min(xs), max(ys) - min(ys), 1)
     height = (max(ys) - min(ys)) * scale + 2 * MARGIN
     return lambda x, y: (MARGIN + (x - min(xs)) * scale, height - MARGIN - (y - min(ys)) * scale), height
 
 
-def draw(segments, nodes):
-    place, height = frame(segments)
+def draw(segments, nodes, contours):
+    place, height = frame(segments, contours)
     yield f'<svg xmlns="http://www.w3.org/2000/svg" viewBox="0 0 {SIZE} {height:.0f}" width="{SIZE}" height="{height:.0f}">'
     yield '<rect width="100%" height="100%" fill="white"/>'
+    if contours:
+        steps = (" L".join("{:.1f} {:.1f}".format(*place(x, y)) for x, y in contour) for contour in contours if contour)
+        path = " ".join(f"M{step} Z" for step in steps)
+        yield f'<path d="{path}" fill="{LIGHT}" stroke="{BLUE}" stroke-width="2" stroke-linejoin="round"/>'
     for ends, stroke, dashed in segments:
         (ax, ay), (bx, by) = place(*ends[:2]), place(*ends[2:])
         dashes = ' stroke-dasharray="5 4"' if dashed else ""
@@ -75,8 +89,7 @@ def draw(segments, nodes):
 
 
 def main():
-    segments, nodes = read(sys.stdin)
-    print("\n".join(draw(segments, nodes)))
+    print("\n".join(draw(*read(sys.stdin))))
 
 
 if __name__ == "__main__":

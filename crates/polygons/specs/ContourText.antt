@@ -1,0 +1,62 @@
+-- The text of contours: what a line of the input writes, what is wrong with one, and the lines of the output.
+use Rattle.std.specs.Prelude.{◌≡◌, ◌≢◌, ◌⊎◌, ℕ, ℤ, IsTrue, IsFalse, Bool, List, [], ◌∷◌, ◌++◌, codes, flat_map}
+use Rattle.std.specs.List.{list_all}
+use Rattle.overlay_geometry.specs.Points.{Point}
+use Rattle.overlay_geometry.specs.Coordinates.{is_point_in_range}
+use Rattle.overlay_base.specs.declared.segm.shape_type.ShapeType.{ShapeType}
+use Rattle.overlay_base.specs.declared.segm.shape_type.ShapeType.TheVariants.{Subject, Clip}
+use Rattle.overlay_text.specs.declared.stop.LineFault.{LineFault}
+use Rattle.overlay_text.specs.declared.stop.LineFault.TheVariants.{Form, Range}
+use Rattle.overlay_text.specs.Numbers.{WritesNumber}
+use Rattle.overlay_text.specs.Output.{pair_text}
+use Rattle.overlay_text.specs.Text.{words_of_line, NamesShape}
+
+-- a contour of a shape
+pub record GivenContour : Type 0 where
+  pub shape_type : ShapeType
+  pub points : List Point
+
+-- the words are the coordinates of these points, x before y
+abbrev pub WritePoints : List (List ℕ) → List Point → Type 0
+WritePoints [] points = points ≡ []
+WritePoints (x ∷ []) points = ⊥
+WritePoints (x ∷ y ∷ words) points =
+    (first : Point) × (others : List Point) × (points ≡ first ∷ others) × WritesNumber x first.x × WritesNumber y first.y × WritePoints words others
+
+-- the words are a letter and the coordinates of points, and these are the shape and the points that they write
+abbrev pub WriteContour : List (List ℕ) → ShapeType → List Point → Type 0
+WriteContour words shape_type points =
+    (letter : List ℕ) × (numbers : List (List ℕ)) × (words ≡ letter ∷ numbers) × NamesShape letter shape_type × WritePoints numbers points
+
+abbrev pub are_in_range : ℤ → ℤ → List Point → Bool
+are_in_range least greatest points = list_all (is_point_in_range least greatest) points
+
+-- the line writes this contour, and its points are in range
+abbrev pub AsksForContour : ℤ → ℤ → List ℕ → GivenContour → Type 0
+AsksForContour least greatest line contour =
+    WriteContour (words_of_line line) contour.shape_type contour.points × IsTrue (are_in_range least greatest contour.points)
+
+-- what is wrong with a line: it has words that write no contour, or a point of the contour that it writes is out of range
+abbrev pub IsFaultyContour : ℤ → ℤ → List ℕ → LineFault → Type 0
+IsFaultyContour least greatest line fault =
+    ((fault ≡ Form) × (words_of_line line ≢ []) × ((shape_type : ShapeType) (points : List Point) → ¬ (WriteContour (words_of_line line) shape_type points)))
+    ⊎ ((fault ≡ Range) × ((shape_type : ShapeType) × (points : List Point) × WriteContour (words_of_line line) shape_type points
+    × IsFalse (are_in_range least greatest points)))
+
+-- of the contours that are given those of the subject, and those of the clip
+abbrev pub subject_of : List GivenContour → List (List Point)
+subject_of given = flat_map (λ c. elim c.shape_type [ Subject ↦ c.points ∷ [] | Clip ↦ [] ]) given
+
+abbrev pub clip_of : List GivenContour → List (List Point)
+clip_of given = flat_map (λ c. elim c.shape_type [ Subject ↦ [] | Clip ↦ c.points ∷ [] ]) given
+
+-- the points of a contour, each after a space
+abbrev pub points_text : List Point → List ℕ
+points_text points = flat_map (λ p. pair_text p.x p.y) points
+
+-- `contour X Y X Y ..`
+unfoldable pub contour_line : List Point → List ℕ
+contour_line points = codes "contour" ++ points_text points ++ codes "\n"
+
+abbrev pub contour_lines : List (List Point) → List ℕ
+contour_lines contours = flat_map contour_line contours

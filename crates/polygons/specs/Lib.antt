@@ -1,0 +1,2 @@
+pub mod ContourText
+pub mod Run

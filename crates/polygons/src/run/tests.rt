@@ -1,0 +1,105 @@
+// Whole runs over memory: words and lines in, the exit status and both outputs out.
+
+use super::*;
+use std::alloc::AllocError;
+use std::test::Fail;
+
+const USAGE: &str = "usage: polygons rule=NAME [fill|engine|precision|strategy=VALUE ..]\n";
+
+const SQUARES: &str = "S 0 0 4 0 4 4 0 4\nC 2 2 6 2 6 6 2 6\n";
+
+/// The words with bars between them, the input, the exit status, and what is written: to the output where the status is
+/// 0, else to the faults. A contour begins with the first of its links, by its lower left end and then by its other.
+const RUNS: [(&str, &str, u8, &str); 16] = [
+    (
+        "rule=union",
+        SQUARES,
+        0,
+        "contour 0 4 0 0 4 0 4 2 6 2 6 6 2 6 2 4\n",
+    ),
+    ("rule=intersect", SQUARES, 0, "contour 2 4 2 2 4 2 4 4\n"),
+    (
+        "rule=difference|strategy=tree|engine=i16",
+        SQUARES,
+        0,
+        "contour 0 4 0 0 4 0 4 2 2 2 2 4\n",
+    ),
+    // An outer boundary runs counterclockwise, and its hole clockwise.
+    (
+        "rule=difference",
+        "C 2 2 4 2 4 4 2 4\nS 6 6 6 0 0 0 0 6\n",
+        0,
+        "contour 0 6 0 0 6 0 6 6\ncontour 2 2 2 4 4 4 4 2\n",
+    ),
+    // Spaces, empty lines and a carriage return at the end of a line mean nothing.
+    (
+        "rule=subject",
+        "\r\n S 0  0 4 0 4 4 0 4 \r\n\nS\nC 1 1\n",
+        0,
+        "contour 0 4 0 0 4 0 4 4\n",
+    ),
+    (
+        "rule=subject|fill=evenodd",
+        "S 0 0 4 0 4 4 0 4\nS 0 0 4 0 4 4 0 4\n",
+        0,
+        "",
+    ),
+    ("rule=clip", "", 0, ""),
+    ("rule=all", "", 2, "polygons needs a rule other than all\n"),
+    (
+        "fill=evenodd",
+        "",
+        2,
+        "polygons needs a rule other than all\n",
+    ),
+    ("rule=union|limit=3", "x", 2, USAGE),
+    ("rule=union|radius=3", "x", 2, USAGE),
+    ("graph|rule=union", "x", 2, USAGE),
+    ("rule=union", "S 0 0 1 1 2\n", 3, "line 1: form\n"),
+    ("rule=union", "S 0 0\nx 0 0\n", 3, "line 2: form\n"),
+    ("rule=union", "S 0 0 1073741825 0\n", 3, "line 1: range\n"),
+    (
+        "rule=union|engine=i16",
+        "S 0 0\nS 0 0 0 -16385\n",
+        3,
+        "line 2: range\n",
+    ),
+];
+
+/// Whether a run over memory ends with this status and writes this.
+fn is_answered(
+    alloc: Global,
+    words: &str,
+    mut input: &[u8],
+    status: u8,
+    text: &str,
+) -> Result<bool, AllocError> {
+    let words: Vec<String> = words
+        .split('|')
+        .map(|word| String::from_str(alloc, word))
+        .try_collect(alloc)?;
+    let mut output = Vec::new(alloc);
+    let mut faults = Vec::new(alloc);
+    let answer = polygons_run(
+        alloc,
+        words.as_slice(),
+        &mut input,
+        &mut output,
+        &mut faults,
+    );
+    let (written, told) = if status == 0 { (text, "") } else { ("", text) };
+    Ok(
+        answer == status
+            && output.as_slice() == written.as_bytes()
+            && faults.as_slice() == told.as_bytes(),
+    )
+}
+
+#[test]
+fn whole_runs(rt: HostRuntime) -> Result<(), Fail> {
+    for (words, given, status, text) in RUNS {
+        let is_so = is_answered(rt.alloc(), words, given.as_bytes(), status, text)?;
+        assert!(rt; is_so, "{words} {given}");
+    }
+    Ok(())
+}
