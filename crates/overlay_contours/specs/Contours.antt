@@ -30,9 +30,13 @@ in_order s = if point_lt s.a s.b then s else turned s
 abbrev pub is_edge : Pair → Bool
 is_edge s = not (point_eq s.a s.b)
 
--- the edges of contours: their steps between different points, each with its ends in order
+-- the edges of contours as they run: their steps between different points
+abbrev pub directed_edges : List (List Point) → List Pair
+directed_edges contours = filter is_edge (steps contours)
+
+-- the edges of contours, each with its ends in order
 abbrev pub edges : List (List Point) → List Pair
-edges contours = map in_order (filter is_edge (steps contours))
+edges contours = map in_order (directed_edges contours)
 
 -- How a step winds round p: it counts 1 where it runs below p from left to right, and -1 where it runs below p from
 -- right to left.
