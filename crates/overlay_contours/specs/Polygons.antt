@@ -16,7 +16,7 @@ use Rattle.overlay_split.specs.ExactInput.{is_exact_input}
 use Rattle.overlay_split.specs.Places.{IsFar}
 use Rattle.overlay_sweep.specs.Fill.{is_inside}
 use Rattle.overlay_build.specs.Boundary.{truth, boundary}
-use Rattle.overlay_contours.specs.Contours.{turned, directed_edges, edges, winding_number, is_painted}
+use Rattle.overlay_contours.specs.Contours.{turned, directed_edges, edges, AreProper, winding_number, is_painted}
 use Rattle.overlay_contours.specs.ContourSegments.{overlay_segments}
 
 -- what a run is set to in coordinates of so many bits: the precision of the solver, and 256 passes that may snap
@@ -40,8 +40,8 @@ IsFarFrom settings subject clip passes p = IsFar (reach_of_run settings (overlay
 abbrev pub run_of : WholeSegment → Pair
 run_of s = if int_lt (pos 0) s.count.subj then s.pair else turned s.pair
 
--- The edges of the contours, as they run, are the boundary of the rule's region in an arrangement: the segments whose sides
--- the rule tells apart, each once, in the direction that has the side of which it holds on its left.
+-- The edges of the contours, as they run, are the boundary of the rule's region in an arrangement: the segments whose
+-- sides the rule tells apart, each once, in the direction that has the side of which it holds on its left.
 abbrev pub RunsAlongBoundary : OverlayRule → FillRule → List WholeSegment → List (List Point) → Type 0
 RunsAlongBoundary rule fill_rule arrangement contours = (test : Pair → Bool) → count_by test (directed_edges contours) ≡ count_by test (map run_of (boundary (holds rule) fill_rule arrangement))
 
@@ -54,13 +54,15 @@ pub record IsPolygonOverlay (settings : Settings) (rule : OverlayRule) (fill_rul
   pub region : (p : RationalPoint) → 0 < p.bottom → IsFarFrom settings subject clip passes p → is_painted answer p ≡ differ (holds rule false false) (is_in_overlay rule fill_rule subject clip p)
   -- A rule that says no of those outside, as each with a name does: exactly the far places of which it holds.
   pub named : holds rule false false ≡ false → (p : RationalPoint) → 0 < p.bottom → IsFarFrom settings subject clip passes p → is_painted answer p ≡ is_in_overlay rule fill_rule subject clip p
-  -- It is directed so that the region lies on its left. So it winds round each far place once, counterclockwise, where the rule
-  -- holds, and not at all elsewhere; for a rule that holds of those outside once less.
+  -- It is directed so that the region lies on its left. So it winds round each far place once, counterclockwise, where
+  -- the rule holds, and not at all elsewhere; for a rule that holds of those outside once less.
   pub winds : (p : RationalPoint) → 0 < p.bottom → IsFarFrom settings subject clip passes p → winding_number answer p ≡ truth (is_in_overlay rule fill_rule subject clip p) -ℤ truth (holds rule false false)
   -- For a rule that says no of those outside: 1 where it holds, and 0 elsewhere.
   pub named_winds : holds rule false false ≡ false → (p : RationalPoint) → 0 < p.bottom → IsFarFrom settings subject clip passes p → winding_number answer p ≡ truth (is_in_overlay rule fill_rule subject clip p)
-  -- And its edges are those of the region's boundary in the arrangement that the passes leave, each directed so.
+  -- Its edges, as they run, are the boundary of the region in the arrangement that the passes leave.
   pub directed : RunsAlongBoundary rule fill_rule (after_passes settings (overlay_segments subject clip) passes) answer
+  -- Each contour has points, and in none a point stands next to itself.
+  pub proper : AreProper answer
   -- How far the passes move things at most, by the settings and the number of passes alone; nothing where no two of the
   -- given edges cross at a point that is not whole, so that then each place on no given edge is a far one.
   pub reach : reach_of_run settings (overlay_segments subject clip) passes ≤ reach_of_passes settings passes

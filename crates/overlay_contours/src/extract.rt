@@ -1,4 +1,4 @@
-// The contours of a graph: its directed walks, as lists of points. Upstream's `core::extract` answers shapes with holes.
+// The contours of a graph: its directed walks, as lists of points. Upstream: `core::extract`, with holes told apart.
 ghost use Rattle.std.specs.Prelude.{◌≡◌, ◌<◌, [], IsTrue, IfOk, IfErr, Bool, All, map, length, count_by};
 ghost use Rattle.std.specs.List.{list_all};
 ghost use Rattle.overlay_geometry.specs.Points.{Pair, is_ordered};
@@ -11,7 +11,7 @@ ghost use Rattle.overlay_build.specs.DirectedWalks.{in_direction, arcs, IsFlow, 
 ghost use Rattle.overlay_build.specs.GraphOf.{graph_with, link_of, pairs_of_links};
 ghost use Rattle.overlay_build.specs.OverlayGraphOf.{links_of};
 ghost use Rattle.overlay_build.specs.Regions.{encloses};
-ghost use Rattle.overlay_contours.specs.Contours.{directed_edges, edges, is_painted};
+ghost use Rattle.overlay_contours.specs.Contours.{directed_edges, edges, AreProper, is_painted};
 ghost use Rattle.overlay_contours.specs.ContourSegments.{overlay_winding};
 ghost use Rattle.overlay_contours.specs.ContoursOf.{points_of, contours_of};
 
@@ -25,9 +25,10 @@ use overlay_geometry::geom::point::IntPoint;
 use overlay_geometry::num::OverlayInt;
 use std::alloc::Global;
 
-/// The directed walks of a graph as contours. Each link is an edge of one contour, once, and runs in its direction: from
-/// `a` to `b` where the rule holds of the top of its fill, and else from `b` to `a`. So what the rule holds of lies to
-/// the left, and the contours wind round every place as the directed links do.
+/// The directed walks of a graph as contours. Each link is an edge of one contour, once, and runs in its direction:
+/// from `a` to `b` where the rule holds of the top of its fill, and else from `b` to `a`. So what the rule holds of lies
+/// to the left, and the contours wind round every place as the directed links do. Each contour has points, and in none
+/// a point stands next to itself.
 ///
 /// As many links have to start as end at each node, as they do in the graph of the rule where counts balance, and each
 /// link's `a` has to stand before its `b`, as in every graph of an overlay.
@@ -51,6 +52,7 @@ pub fn directed_contours_of_graph<I: OverlayInt, D: Copy>(
         ≡ count_by test (pairs_of_links I.whole (links_of graph.now))) }
     ensures painted { IfOk result (λ contours. (p : RationalPoint) →
         is_painted (contours_of I.whole contours.items) p ≡ encloses (graph_with I.whole (links_of graph.now)) p) }
+    ensures proper { IfOk result (λ contours. AreProper (contours_of I.whole contours.items)) }
     ensures fault { IfErr result (λ fault. fault ≡ Memory) }
 {
     let walks = directed_walks(alloc, graph, rule)?;

@@ -22,16 +22,18 @@ use std::alloc::Global;
 /// outer boundary runs counterclockwise, and a hole clockwise.
 ///
 /// Round a place the answer winds once, counterclockwise, where the overlay rule holds of it, and not at all elsewhere.
-/// What the rule says of a place is asked by how often the given contours run round it, under the fill rule. That is so at
-/// every place that is farther from the edges of the given contours than the passes of the run move crossings. Under a
-/// table that holds of places outside, the answer winds once less everywhere.
+/// What the rule says of a place is asked by how often the given contours run round it, under the fill rule. That is so
+/// at every place that is farther from the edges of the given contours than the passes of the run move crossings. Under
+/// a table that holds of places outside, the answer winds once less everywhere.
 ///
 /// So, but for such a table, the answer may be filled by any rule other than `Negative`. Under even-odd (a place is
-/// painted where oddly many edges run below it) it always paints the places of which the overlay rule says something else
-/// than of those outside. Its edges are the boundary of the region in the arrangement, and no two share more than an end.
+/// painted where oddly many edges run below it) it always paints the places of which the overlay rule says something
+/// else than of those outside. Its edges are the boundary of the region in the arrangement, and no two share more than
+/// an end.
 ///
 /// Any contours will do: they may cross and touch themselves and one another, run either way, repeat points, and have
-/// no or few points. Equal neighboring points make no edge. Collinear points of the answer are left in.
+/// no or few points. Equal neighboring points make no edge, and the answer has none. Collinear points of the answer are
+/// left in. Each contour of the answer has points, and may come to a point twice.
 ///
 /// Answers `ContourFault::OutOfRange` where a point is out of the engine's range, and names the first one; else
 /// `Fault::CountOutOfRange` only where counts leave `-i32::MAX..=i32::MAX`, and `Fault::Memory` where a growth is

@@ -1,4 +1,4 @@
--- Worked examples of contours: a square, either way; one with a hole; one given twice; a bow tie; equal points. Each holds by computation.
+-- Worked examples of contours: a square, one with a hole, one given twice, a bow tie. Each holds by computation.
 use Rattle.std.specs.Prelude.{◌≡◌, refl, ℕ, pos, negsuc, true, false, List, [], ◌∷◌, map}
 use Rattle.overlay_geometry.specs.Points.{Point, Pair}
 use Rattle.overlay_base.specs.Join.{join}

@@ -1,10 +1,10 @@
--- The edges of the contours of directed walks are the links of the graph, each once in its direction, and wind as these do.
+-- The edges of the contours of directed walks are the links of the graph, each once in its direction.
 use Rattle.std.proofs.Common.{◌≡◌, refl, sym, ap, ap₂, ◌∙◌, ℕ, zero, suc, ◌+◌, ◌<◌, ◌≤◌, get_or, take, length, Bool, true, false, not, if◌then◌else◌, List, [], ◌∷◌, ◌++◌, map, filter, cond, arith}
-use Rattle.std.specs.Prelude.{count_by, flat_map}
+use Rattle.std.specs.Prelude.{◌≢◌, count_by, flat_map}
 use Rattle.std.specs.List.{AllByRecursion, list_all, zip}
 use Rattle.std.proofs.lemmas.Bool.{and_parts, and_from}
 use Rattle.std.proofs.lemmas.List.{map-append}
-use Rattle.std.proofs.lemmas.List.Elements.{recursion_from_All}
+use Rattle.std.proofs.lemmas.List.Elements.{All-from_recursion, recursion_from_All}
 use Rattle.std.proofs.lemmas.List.Folds.{list_all-map}
 use Rattle.std.proofs.lemmas.Simd.{map-map}
 use Rattle.overlay_geometry.specs.Points.{Point, Pair, point_lt, point_eq, is_ordered}
@@ -15,7 +15,7 @@ use Rattle.overlay_build.specs.Graph.{Filled, Link, graph_of}
 use Rattle.overlay_build.specs.DirectedWalks.{arcs, no_link, IsDirectedWalk, AreDirectedWalks, contour}
 use Rattle.overlay_build.specs.DirectedWalks.{turned as turned_link, edges as edges_of_walk}
 use Rattle.overlay_build.proofs.laws.walks.Contours.{contours_follow_links}
-use Rattle.overlay_contours.specs.Contours.{steps_from, steps_of, steps, turned, in_order, is_edge, directed_edges, edges}
+use Rattle.overlay_contours.specs.Contours.{steps_from, steps_of, steps, turned, in_order, is_edge, directed_edges, edges, AreProper}
 use Rattle.overlay_contours.specs.Laws.{ContoursTakeLinks}
 use Rattle.overlay_contours.proofs.laws.Counting.{count_by-once_each}
 
@@ -142,6 +142,14 @@ module _ (rule : Bool → Bool → Bool) (kept : List Filled) (ordered : list_al
       ap₂ (λ (u v : List Pair). u ++ v) (steps_of_walk w h.0) (steps_of_walks walks h.1)
       ∙ sym (map-append way_at w (flat_map (λ v. v) walks))
 
+  has_points : (walk : List ℕ) → IsDirectedWalk ways walk → contour ways walk ≢ []
+  has_points [] w e = let starts = w.1.1.starts in cc
+  has_points (i ∷ walk) w e = cc
+
+  walks_have_points : (walks : List (List ℕ)) → AllByRecursion (IsDirectedWalk ways) walks → AllByRecursion (λ c. c ≢ []) (map (contour ways) walks)
+  walks_have_points [] h = tt
+  walks_have_points (w ∷ walks) h = (has_points w h.0, walks_have_points walks h.1)
+
   module _ (walks : List (List ℕ)) (are : AreDirectedWalks ways walks) where
     closed : AllByRecursion (IsDirectedWalk ways) walks
     closed = recursion_from_All (IsDirectedWalk ways) walks are.closed
@@ -155,8 +163,17 @@ module _ (rule : Bool → Bool → Bool) (kept : List Filled) (ordered : list_al
         (AllByRecursion-weaker (IsDirectedWalk ways) (λ w. AllByRecursion (λ i. i < length ways) w) (λ w k. recursion_from_All (λ i. i < length ways) w k.1.1.within) walks closed)
 
     -- each step is an edge
+    steps_pass : list_all is_edge (steps (map (contour ways) walks)) ≡ true
+    steps_pass = ap (list_all is_edge) (steps_of_walks walks closed) ∙ list_all-map is_edge way_at indexes ∙ all_pass_at (λ (l : Link). is_edge l.pair) ways no_link (ways_are_edges rule links links_are_ordered) indexes low
+
     pub steps_are_directed : directed_edges (map (contour ways) walks) ≡ steps (map (contour ways) walks)
-    steps_are_directed = all_pass is_edge (steps (map (contour ways) walks)) (ap (list_all is_edge) (steps_of_walks walks closed) ∙ list_all-map is_edge way_at indexes ∙ all_pass_at (λ (l : Link). is_edge l.pair) ways no_link (ways_are_edges rule links links_are_ordered) indexes low)
+    steps_are_directed = all_pass is_edge (steps (map (contour ways) walks)) steps_pass
+
+    pub contours_are_proper : AreProper (map (contour ways) walks)
+    contours_are_proper = record {
+      points = All-from_recursion (λ c. c ≢ []) (map (contour ways) walks) (walks_have_points walks closed);
+      apart = steps_pass;
+    }
 
     pub directed_count : (test : Pair → Bool) → count_by test (directed_edges (map (contour ways) walks)) ≡ count_by test (ways_of ways)
     directed_count test =

@@ -15,9 +15,9 @@ use Rattle.overlay_build.specs.DirectedWalks.{in_direction, arcs, no_link, IsDir
 use Rattle.overlay_build.specs.Graph.{Filled, Link}
 use Rattle.overlay_build.specs.GraphOf.{link_of, kept_of, graph_with, pairs_of_links}
 use Rattle.overlay_build.specs.Regions.{encloses}
-use Rattle.overlay_contours.specs.Contours.{directed_edges, edges, is_painted}
+use Rattle.overlay_contours.specs.Contours.{directed_edges, edges, AreProper, is_painted}
 use Rattle.overlay_contours.specs.ContourSegments.{overlay_winding}
-use Rattle.overlay_contours.proofs.laws.Extracts.{mapped_at, ways_of, directed_count, edges_count}
+use Rattle.overlay_contours.proofs.laws.Extracts.{mapped_at, ways_of, directed_count, edges_count, contours_are_proper}
 use Rattle.overlay_contours.proofs.laws.DirectedWindings.{winds_as_links}
 
 -- the links of a graph of code, without directions
@@ -62,6 +62,11 @@ module _ {I D : Type 0} (whole : I → ℤ) (rule : Bool → Bool → Bool) (lin
         subst (λ (ls : List Link). count_by test (edges (map (contour (arcs rule ls)) walks)) ≡ count_by test (ways_of (graph_with whole links).links)) (sym same)
         (edges_count rule (kept_of whole links) in_order walks are_walks test)
         ∙ ap (count_by test) (graph_pairs whole links same)
+
+    pub are_proper : AreProper (map (contour ways) walks)
+    are_proper =
+        subst (λ (ls : List Link). AreProper (map (contour (arcs rule ls)) walks)) (sym same)
+        (contours_are_proper rule (kept_of whole links) in_order walks are_walks)
 
     -- so the contours paint what the links enclose
     pub paints : (p : RationalPoint) → is_painted (map (contour ways) walks) p ≡ encloses (graph_with whole links) p

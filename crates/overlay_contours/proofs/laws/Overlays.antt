@@ -52,7 +52,7 @@ use Rattle.overlay_build.specs.Regions.{encloses}
 use Rattle.overlay_build.specs.Values.{value_at}
 use Rattle.i_overlay.specs.FarRegions.{EnclosesOverlay}
 use Rattle.i_overlay.specs.Headline.{IsOverlay, IsRefused}
-use Rattle.overlay_contours.specs.Contours.{steps, is_edge, in_order, turned, directed_edges, edges, winding_number, is_painted}
+use Rattle.overlay_contours.specs.Contours.{steps, is_edge, in_order, turned, directed_edges, edges, AreProper, winding_number, is_painted}
 use Rattle.overlay_contours.specs.ContourSegments.{step_segment, contour_segments, overlay_segments, overlay_winding}
 use Rattle.overlay_contours.specs.Polygons.{settings_for, IsPolygonOverlay, IsFarFrom, is_in_overlay, run_of, RunsAlongBoundary}
 use Rattle.overlay_contours.specs.Refusals.{IsReason}
@@ -249,7 +249,7 @@ links_flow whole links settings fill_rule rule given segments passes o balanced 
 module _ (settings : Settings) (rule : OverlayRule) (fill_rule : FillRule) (subject clip answer : List (List Point)) (given segments : List WholeSegment) (passes : ℕ) (graph : Graph)
     (is_given : given ≡ overlay_segments subject clip) (o : IsOverlay settings fill_rule (holds rule) given segments passes graph) (region : EnclosesOverlay settings rule fill_rule given passes graph)
     (count : (test : Pair → Bool) → count_by test (edges answer) ≡ count_by test (link_pairs graph)) (paints : (p : RationalPoint) → is_painted answer p ≡ encloses graph p) (balanced : IsBalanced given)
-    (runs : (test : Pair → Bool) → count_by test (directed_edges answer) ≡ count_by test (ways_of (arcs (holds rule) graph.links))) (winds : (p : RationalPoint) → overlay_winding answer [] p ≡ winding_below (directed_links (holds rule) graph) p) where
+    (runs : (test : Pair → Bool) → count_by test (directed_edges answer) ≡ count_by test (ways_of (arcs (holds rule) graph.links))) (winds : (p : RationalPoint) → overlay_winding answer [] p ≡ winding_below (directed_links (holds rule) graph) p) (proper : AreProper answer) where
   planar : (is_map segments ≡ true) × (is_planar segments ≡ true)
   planar = and_parts (is_map segments) (is_planar segments) o.split.planar
 
@@ -293,6 +293,7 @@ module _ (settings : Settings) (rule : OverlayRule) (fill_rule : FillRule) (subj
     winds = winds_here;
     named_winds = λ outside p some far. winds_here p some far ∙ ap (λ (b : Bool). truth (is_in_overlay rule fill_rule subject clip p) -ℤ truth b) outside ∙ less_nothing (is_in_overlay rule fill_rule subject clip p);
     directed = runs_here;
+    proper = proper;
     reach = reach_is_bounded settings (overlay_segments subject clip) passes;
     exact = λ whole_crossings.
         exact_input_reaches_nothing settings (overlay_segments subject clip) (after_passes settings (overlay_segments subject clip) passes) passes (has_changed settings (overlay_segments subject clip) passes) (overlay_is_ordered subject clip) whole_crossings

@@ -7,11 +7,11 @@ use Rattle.overlay_build.specs.DirectedWalks.{arcs, contour, IsDirectedWalk}
 use Rattle.overlay_build.specs.Graph.{Link}
 use Rattle.overlay_build.specs.GraphOf.{link_of}
 use Rattle.overlay_build.specs.OverlayGraphOf.{links_of}
-use Rattle.overlay_contours.specs.Contours.{directed_edges, edges, is_painted}
+use Rattle.overlay_contours.specs.Contours.{directed_edges, edges, is_painted, AreProper}
 use Rattle.overlay_contours.specs.ContourSegments.{overlay_winding}
 use Rattle.overlay_contours.specs.ContoursOf.{points_of, contours_of}
 use Rattle.overlay_contours.proofs.laws.Extracts.{one_more, all_mapped, mapped_at}
-use Rattle.overlay_contours.proofs.laws.GraphContours.{walks_within, directed_as_links, winds, edges_as_links, paints}
+use Rattle.overlay_contours.proofs.laws.GraphContours.{walks_within, directed_as_links, winds, edges_as_links, paints, are_proper}
 use Rattle.overlay_contours.proofs.extract.directed_contours_of_graph.Goals as goal
 
 pub loop-walk-init : goal.loop-walk-init
@@ -74,3 +74,11 @@ returns-clause-painted g c = λ p.
     let all = all_mapped (contour (arcs (holds c.args.rule) (map (link_of whole) links))) (λ w. w.items) c.deref-walk-items.result.now c.in_ok-walks.walks.items c.loop-walk.walk-index (contours_of whole c.loop-walk.contours.items) c.loop-walk.invariant c.loop-walk-test.false c.deref-walk-items.ensures.value in
     ap (λ (cs : List (List Point)). is_painted cs p) all
     ∙ paints whole (holds c.args.rule) links c.args.graph.now.holds.same_links c.requires.ordered walks c.in_ok-walks.ensures.walks p
+
+pub returns-clause-proper : goal.returns-clause-proper
+returns-clause-proper g c =
+    let whole = g.I.OverlayInt.whole in
+    let links = links_of c.args.graph.now in
+    let walks : List (List ℕ) = map (λ w. w.items) c.in_ok-walks.walks.items in
+    let all = all_mapped (contour (arcs (holds c.args.rule) (map (link_of whole) links))) (λ w. w.items) c.deref-walk-items.result.now c.in_ok-walks.walks.items c.loop-walk.walk-index (contours_of whole c.loop-walk.contours.items) c.loop-walk.invariant c.loop-walk-test.false c.deref-walk-items.ensures.value in
+    subst (λ (cs : List (List Point)). AreProper cs) (sym all) (are_proper whole (holds c.args.rule) links c.args.graph.now.holds.same_links c.requires.ordered walks c.in_ok-walks.ensures.walks)

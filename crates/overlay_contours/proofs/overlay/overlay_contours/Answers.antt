@@ -85,4 +85,4 @@ returns-clause-polygons g c =
     (λ test. c.in_ok-contours.ensures.edges test ∙ sym (ap (count_by test) (graph_pairs whole links graph.holds.same_links)))
     c.in_ok-contours.ensures.painted c.in_ok-sides.ensures.balanced
     (λ test. c.in_ok-contours.ensures.directed test ∙ ap (λ (l : List Link). count_by test (ways_of (arcs (holds c.args.overlay_rule) l))) graph.holds.same_links)
-    c.in_ok-contours.ensures.winds)
+    c.in_ok-contours.ensures.winds c.in_ok-contours.ensures.proper)
