@@ -1,7 +1,6 @@
 // The contours of a graph: its directed walks, as lists of points. Upstream: `core::extract`, with holes told apart.
-ghost use Rattle.std.specs.Prelude.{◌≡◌, ◌<◌, [], IsTrue, IfOk, IfErr, Bool, All, map, length, count_by};
-ghost use Rattle.std.specs.List.{list_all};
-ghost use Rattle.overlay_geometry.specs.Points.{Pair, is_ordered};
+ghost use Rattle.std.specs.Prelude.{◌≡◌, ◌<◌, [], IfOk, IfErr, Bool, All, map, length, count_by};
+ghost use Rattle.overlay_geometry.specs.Points.{Pair};
 ghost use Rattle.overlay_base.specs.Places.{RationalPoint, winding_below};
 ghost use Rattle.overlay_base.specs.Rules.{holds};
 ghost use Rattle.overlay_geometry.specs.PointOf.{point_of};
@@ -30,8 +29,7 @@ use std::alloc::Global;
 /// to the left, and the contours wind round every place as the directed links do. Each contour has points, and in none
 /// a point stands next to itself.
 ///
-/// As many links have to start as end at each node, as they do in the graph of the rule where counts balance, and each
-/// link's `a` has to stand before its `b`, as in every graph of an overlay.
+/// As many links have to start as end at each node, as they do in the graph of the rule where counts balance.
 ///
 /// Answers `Fault::Memory` where a growth is refused.
 pub fn directed_contours_of_graph<I: OverlayInt, D: Copy>(
@@ -39,8 +37,7 @@ pub fn directed_contours_of_graph<I: OverlayInt, D: Copy>(
     graph: &OverlayGraph<'_, I, D>,
     rule: OverlayRule,
 ) -> Result<Vec<IntContour<I>>, Fault>
-    requires flow { IsFlow (arcs (holds rule) (map (link_of I.whole) (links_of graph.now))) }
-    requires ordered { IsTrue (list_all is_ordered (pairs_of_links I.whole (links_of graph.now))) }
+    requires { IsFlow (arcs (holds rule) (map (link_of I.whole) (links_of graph.now))) }
     ensures directed { IfOk result (λ contours. (test : Pair → Bool) →
         count_by test (directed_edges (contours_of I.whole contours.items))
         ≡ count_by test (map (λ l. l.pair) (arcs (holds rule) (map (link_of I.whole) (links_of graph.now))))) }

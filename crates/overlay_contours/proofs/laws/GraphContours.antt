@@ -40,9 +40,9 @@ module _ {I D : Type 0} (whole : I → ℤ) (rule : Bool → Bool → Bool) (lin
   pub walks_within : (walk : List ℕ) → IsDirectedWalk ways walk → All (λ i. i < length links) walk
   walks_within walk w = subst (λ (n : ℕ). All (λ i. i < n) walk) as_many w.1.1.within
 
-  module _ (same : map (link_of whole) links ≡ (graph_with whole links).links) (ordered : list_all is_ordered (pairs_of_links whole links) ≡ true) (walks : List (List ℕ)) (are : AreDirectedWalks ways walks) where
+  module _ (same : map (link_of whole) links ≡ (graph_with whole links).links) (ordered : list_all (λ l. is_ordered (link_of whole l).pair) links ≡ true) (walks : List (List ℕ)) (are : AreDirectedWalks ways walks) where
     in_order : list_all (λ f. is_ordered f.pair) (kept_of whole links) ≡ true
-    in_order = list_all-map (λ (f : Filled). is_ordered f.pair) _ links ∙ sym (list_all-map is_ordered _ links) ∙ ordered
+    in_order = list_all-map (λ (f : Filled). is_ordered f.pair) _ links ∙ ordered
 
     are_walks : AreDirectedWalks (arcs rule (graph_with whole links).links) walks
     are_walks = subst (λ (ls : List Link). AreDirectedWalks (arcs rule ls) walks) same are

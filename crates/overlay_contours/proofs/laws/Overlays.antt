@@ -197,13 +197,6 @@ planar_pairs : (segments : List WholeSegment) → is_planar segments ≡ true �
 unfolding is_planar
 planar_pairs segments h = h
 
--- the links of an overlay are ordered
-pub links_are_ordered : (settings : Settings) (fill_rule : FillRule) (rule : Bool → Bool → Bool) (given segments : List WholeSegment) (passes : ℕ) (graph : Graph) → IsOverlay settings fill_rule rule given segments passes graph → list_all is_ordered (link_pairs graph) ≡ true
-links_are_ordered settings fill_rule rule given segments passes graph o =
-    let planar = and_parts (is_map segments) (is_planar segments) o.split.planar in
-    list_all-from_Has is_ordered (link_pairs graph)
-    (λ e i. list_all-at is_ordered (pairs segments) e (map_parts segments planar.0).1 (links_stand (keeps_fill rule) fill_rule segments e (subst (λ (g : Graph). Has (link_pairs g) e) o.links i)))
-
 -- why a split and a build were refused
 pub reason : (settings : Settings) (subject clip : List (List Point)) (given segments : List WholeSegment) (before passes : ℕ) (fault : Fault) → given ≡ overlay_segments subject clip → IsRefused settings given segments before passes fault → IsReason settings subject clip fault
 reason settings subject clip given segments before passes Memory e r = tt

@@ -46,7 +46,7 @@ returns-clause-directed g c = λ test.
     let walks : List (List ℕ) = map (λ w. w.items) c.in_ok-walks.walks.items in
     let all = all_mapped (contour (arcs (holds c.args.rule) (map (link_of whole) links))) (λ w. w.items) c.deref-walk-items.result.now c.in_ok-walks.walks.items c.loop-walk.walk-index (contours_of whole c.loop-walk.contours.items) c.loop-walk.invariant c.loop-walk-test.false c.deref-walk-items.ensures.value in
     ap (λ (cs : List (List Point)). count_by test (directed_edges cs)) all
-    ∙ directed_as_links whole (holds c.args.rule) links c.args.graph.now.holds.same_links c.requires.ordered walks c.in_ok-walks.ensures.walks test
+    ∙ directed_as_links whole (holds c.args.rule) links c.args.graph.now.holds.same_links c.args.graph.now.ordered walks c.in_ok-walks.ensures.walks test
 
 pub returns-clause-winds : goal.returns-clause-winds
 returns-clause-winds g c = λ p.
@@ -55,7 +55,7 @@ returns-clause-winds g c = λ p.
     let walks : List (List ℕ) = map (λ w. w.items) c.in_ok-walks.walks.items in
     let all = all_mapped (contour (arcs (holds c.args.rule) (map (link_of whole) links))) (λ w. w.items) c.deref-walk-items.result.now c.in_ok-walks.walks.items c.loop-walk.walk-index (contours_of whole c.loop-walk.contours.items) c.loop-walk.invariant c.loop-walk-test.false c.deref-walk-items.ensures.value in
     ap (λ (cs : List (List Point)). overlay_winding cs [] p) all
-    ∙ winds whole (holds c.args.rule) links c.args.graph.now.holds.same_links c.requires.ordered walks c.in_ok-walks.ensures.walks p
+    ∙ winds whole (holds c.args.rule) links c.args.graph.now.holds.same_links c.args.graph.now.ordered walks c.in_ok-walks.ensures.walks p
 
 pub returns-clause-edges : goal.returns-clause-edges
 returns-clause-edges g c = λ test.
@@ -64,7 +64,7 @@ returns-clause-edges g c = λ test.
     let walks : List (List ℕ) = map (λ w. w.items) c.in_ok-walks.walks.items in
     let all = all_mapped (contour (arcs (holds c.args.rule) (map (link_of whole) links))) (λ w. w.items) c.deref-walk-items.result.now c.in_ok-walks.walks.items c.loop-walk.walk-index (contours_of whole c.loop-walk.contours.items) c.loop-walk.invariant c.loop-walk-test.false c.deref-walk-items.ensures.value in
     ap (λ (cs : List (List Point)). count_by test (edges cs)) all
-    ∙ edges_as_links whole (holds c.args.rule) links c.args.graph.now.holds.same_links c.requires.ordered walks c.in_ok-walks.ensures.walks test
+    ∙ edges_as_links whole (holds c.args.rule) links c.args.graph.now.holds.same_links c.args.graph.now.ordered walks c.in_ok-walks.ensures.walks test
 
 pub returns-clause-painted : goal.returns-clause-painted
 returns-clause-painted g c = λ p.
@@ -73,7 +73,7 @@ returns-clause-painted g c = λ p.
     let walks : List (List ℕ) = map (λ w. w.items) c.in_ok-walks.walks.items in
     let all = all_mapped (contour (arcs (holds c.args.rule) (map (link_of whole) links))) (λ w. w.items) c.deref-walk-items.result.now c.in_ok-walks.walks.items c.loop-walk.walk-index (contours_of whole c.loop-walk.contours.items) c.loop-walk.invariant c.loop-walk-test.false c.deref-walk-items.ensures.value in
     ap (λ (cs : List (List Point)). is_painted cs p) all
-    ∙ paints whole (holds c.args.rule) links c.args.graph.now.holds.same_links c.requires.ordered walks c.in_ok-walks.ensures.walks p
+    ∙ paints whole (holds c.args.rule) links c.args.graph.now.holds.same_links c.args.graph.now.ordered walks c.in_ok-walks.ensures.walks p
 
 pub returns-clause-proper : goal.returns-clause-proper
 returns-clause-proper g c =
@@ -81,4 +81,4 @@ returns-clause-proper g c =
     let links = links_of c.args.graph.now in
     let walks : List (List ℕ) = map (λ w. w.items) c.in_ok-walks.walks.items in
     let all = all_mapped (contour (arcs (holds c.args.rule) (map (link_of whole) links))) (λ w. w.items) c.deref-walk-items.result.now c.in_ok-walks.walks.items c.loop-walk.walk-index (contours_of whole c.loop-walk.contours.items) c.loop-walk.invariant c.loop-walk-test.false c.deref-walk-items.ensures.value in
-    subst (λ (cs : List (List Point)). AreProper cs) (sym all) (are_proper whole (holds c.args.rule) links c.args.graph.now.holds.same_links c.requires.ordered walks c.in_ok-walks.ensures.walks)
+    subst (λ (cs : List (List Point)). AreProper cs) (sym all) (are_proper whole (holds c.args.rule) links c.args.graph.now.holds.same_links c.args.graph.now.ordered walks c.in_ok-walks.ensures.walks)

@@ -1,7 +1,6 @@
-use Rattle.std.proofs.Common.{sym, ap, subst, ◌∙◌, ℕ, IsTrue, List}
+use Rattle.std.proofs.Common.{sym, ap, subst, ◌∙◌, ℕ, List}
 use Rattle.std.specs.Prelude.{count_by}
-use Rattle.std.specs.List.{list_all}
-use Rattle.overlay_geometry.specs.Points.{Point, Pair, is_ordered}
+use Rattle.overlay_geometry.specs.Points.{Point}
 use Rattle.overlay_base.specs.Rules.{holds}
 use Rattle.overlay_base.specs.Segments.{WholeSegment}
 use Rattle.overlay_base.specs.SegmentOf.{segments_of}
@@ -17,7 +16,7 @@ use Rattle.overlay_contours.specs.Refusals.{IsReason, IsRefusal}
 use Rattle.overlay_base.specs.declared.segm.fault.Fault.{Fault}
 use Rattle.overlay_contours.proofs.laws.Extracts.{ways_of}
 use Rattle.overlay_contours.proofs.laws.GraphContours.{graph_pairs}
-use Rattle.overlay_contours.proofs.laws.Overlays.{links_are_ordered, links_flow, polygon_overlay, settings_are, reason, refused_as}
+use Rattle.overlay_contours.proofs.laws.Overlays.{links_flow, polygon_overlay, settings_are, reason, refused_as}
 use Rattle.overlay_contours.proofs.overlay.overlay_contours.Goals as goal
 
 pub returns-in_err-graph-clause-refused : goal.returns-in_err-graph-clause-refused
@@ -35,21 +34,8 @@ returns-in_err-graph-clause-refused g c =
     refused_as c.from_residual-in_err-graph.result (IsRefusal (whole g.I.OverlayInt.MIN_COORD) (whole g.I.OverlayInt.MAX_COORD) settings subject clip) fault c.from_residual-in_err-graph.ensures.1
     (c.in_ok-test_range.ensures.in_range, c.in_ok-test_range-2.ensures.in_range, known)
 
-pub directed_contours_of_graph-requires-clause-ordered : goal.directed_contours_of_graph-requires-clause-ordered
-directed_contours_of_graph-requires-clause-ordered g c =
-    let whole = g.I.OverlayInt.whole in
-    let graph = c.in_ok-graph.graph in
-    let links = links_of graph in
-    let e = c.in_ok-graph.ensures in
-    let settings : Settings = settings_of g.I.OverlayInt.BITS c.args.solver.now c.new-splitter.result in
-    let given : List WholeSegment = segments_of c.in_ok-sides.sides.items in
-    let segments : List WholeSegment = segments_of c.split_and_build_overlay.new.segments.items in
-    let passes : ℕ = passes_of c.split_and_build_overlay.new.splitter in
-    subst (λ (l : List Pair). IsTrue (list_all is_ordered l)) (graph_pairs whole links graph.holds.same_links)
-    (links_are_ordered settings c.args.fill_rule (holds c.args.overlay_rule) given segments passes (graph_with whole links) e.overlay)
-
-pub directed_contours_of_graph-requires-clause-flow : goal.directed_contours_of_graph-requires-clause-flow
-directed_contours_of_graph-requires-clause-flow g c =
+pub directed_contours_of_graph-requires : goal.directed_contours_of_graph-requires
+directed_contours_of_graph-requires g c =
     let graph = c.in_ok-graph.graph in
     let settings : Settings = settings_of g.I.OverlayInt.BITS c.args.solver.now c.new-splitter.result in
     let given : List WholeSegment = segments_of c.in_ok-sides.sides.items in
