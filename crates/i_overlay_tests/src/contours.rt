@@ -19,6 +19,8 @@ const SQUARE: Corners = &[(0, 0), (4, 0), (4, 4), (0, 4)];
 
 const OTHER_SQUARE: Corners = &[(2, 2), (6, 2), (6, 6), (2, 6)];
 
+const WIDE_SQUARE: Corners = &[(0, 0), (8, 0), (8, 8), (0, 8)];
+
 const BOW_TIE: Corners = &[(0, 0), (4, 4), (4, 0), (0, 4)];
 
 /// What a call is given, and what it answers.
@@ -32,14 +34,14 @@ struct Case {
     answer: Result<&'static [Corners], ContourFault>,
 }
 
-const CASES: [Case; 12] = [
+const CASES: [Case; 15] = [
     Case {
         name: "what two squares share",
         subject: &[SQUARE],
         clip: &[OTHER_SQUARE],
         fill_rule: FillRule::NonZero,
         rule: OverlayRule::Intersect,
-        answer: Ok(&[&[(2, 2), (2, 4), (4, 4), (4, 2)]]),
+        answer: Ok(&[&[(2, 4), (2, 2), (4, 2), (4, 4)]]),
     },
     Case {
         name: "two squares together",
@@ -48,14 +50,14 @@ const CASES: [Case; 12] = [
         fill_rule: FillRule::NonZero,
         rule: OverlayRule::Union,
         answer: Ok(&[&[
-            (0, 0),
             (0, 4),
-            (2, 4),
-            (2, 6),
-            (6, 6),
-            (6, 2),
-            (4, 2),
+            (0, 0),
             (4, 0),
+            (4, 2),
+            (6, 2),
+            (6, 6),
+            (2, 6),
+            (2, 4),
         ]]),
     },
     Case {
@@ -64,7 +66,7 @@ const CASES: [Case; 12] = [
         clip: &[],
         fill_rule: FillRule::EvenOdd,
         rule: OverlayRule::Subject,
-        answer: Ok(&[&[(0, 0), (0, 4), (4, 4), (4, 0)]]),
+        answer: Ok(&[&[(0, 4), (0, 0), (4, 0), (4, 4)]]),
     },
     Case {
         name: "a square given twice, by even-odd",
@@ -80,7 +82,7 @@ const CASES: [Case; 12] = [
         clip: &[],
         fill_rule: FillRule::NonZero,
         rule: OverlayRule::Subject,
-        answer: Ok(&[&[(0, 0), (0, 4), (4, 4), (4, 0)]]),
+        answer: Ok(&[&[(0, 4), (0, 0), (4, 0), (4, 4)]]),
     },
     Case {
         name: "the left half of a bow tie runs counterclockwise",
@@ -88,7 +90,7 @@ const CASES: [Case; 12] = [
         clip: &[],
         fill_rule: FillRule::Positive,
         rule: OverlayRule::Subject,
-        answer: Ok(&[&[(0, 0), (0, 4), (2, 2)]]),
+        answer: Ok(&[&[(0, 4), (0, 0), (2, 2)]]),
     },
     Case {
         name: "the right one does not",
@@ -110,6 +112,49 @@ const CASES: [Case; 12] = [
         fill_rule: FillRule::NonZero,
         rule: OverlayRule::Subject,
         answer: Ok(&[&[(0, 0), (4, 0), (4, 4)]]),
+    },
+    Case {
+        name: "an outer boundary runs counterclockwise, and its hole clockwise",
+        subject: &[WIDE_SQUARE],
+        clip: &[OTHER_SQUARE],
+        fill_rule: FillRule::NonZero,
+        rule: OverlayRule::Difference,
+        answer: Ok(&[
+            &[(0, 8), (0, 0), (8, 0), (8, 8)],
+            &[(2, 2), (2, 6), (6, 6), (6, 2)],
+        ]),
+    },
+    Case {
+        name: "however the hole and its boundary are given, by even-odd",
+        subject: &[&[(0, 0), (0, 8), (8, 8), (8, 0)], OTHER_SQUARE],
+        clip: &[],
+        fill_rule: FillRule::EvenOdd,
+        rule: OverlayRule::Subject,
+        answer: Ok(&[
+            &[(0, 8), (0, 0), (8, 0), (8, 8)],
+            &[(2, 2), (2, 6), (6, 6), (6, 2)],
+        ]),
+    },
+    Case {
+        name: "one of two squares, in one contour that comes to its crossings twice",
+        subject: &[SQUARE],
+        clip: &[OTHER_SQUARE],
+        fill_rule: FillRule::NonZero,
+        rule: OverlayRule::Xor,
+        answer: Ok(&[&[
+            (0, 4),
+            (0, 0),
+            (4, 0),
+            (4, 2),
+            (6, 2),
+            (6, 6),
+            (2, 6),
+            (2, 4),
+            (4, 4),
+            (4, 2),
+            (2, 2),
+            (2, 4),
+        ]]),
     },
     Case {
         name: "nothing",

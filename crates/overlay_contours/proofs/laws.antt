@@ -1,9 +1,9 @@
 pub mod Steps
 pub mod Balances
 pub mod Windings
-pub mod Walking
-pub mod Numbering
 pub mod Counting
 pub mod Extracts
+pub mod DirectedWindings
+pub mod GraphContours
 pub mod Overlays
 pub mod Parities

@@ -1,5 +1,6 @@
 -- Contours: lists of points, each joined to the next one and the last to the first. Which places they run round.
-use Rattle.std.specs.Prelude.{◌%◌, ◌==◌, ℤ, pos, negsuc, ◌+ℤ◌, Bool, not, if◌then◌else◌, List, [], ◌∷◌, ◌++◌, map, filter, flat_map, count_by}
+use Rattle.std.specs.Prelude.{◌≢◌, ◌%◌, ◌==◌, ℤ, pos, negsuc, ◌+ℤ◌, Bool, not, IsTrue, if◌then◌else◌, List, [], ◌∷◌, ◌++◌, map, filter, flat_map, count_by, All}
+use Rattle.std.specs.List.{list_all}
 use Rattle.overlay_geometry.specs.Points.{Point, Pair, point_eq, point_lt}
 use Rattle.overlay_base.specs.Places.{RationalPoint, lies_below}
 use Rattle.overlay_base.specs.Sums.{gathered}
@@ -30,9 +31,18 @@ in_order s = if point_lt s.a s.b then s else turned s
 abbrev pub is_edge : Pair → Bool
 is_edge s = not (point_eq s.a s.b)
 
--- the edges of contours: their steps between different points, each with its ends in order
+-- the edges of contours as they run: their steps between different points
+abbrev pub directed_edges : List (List Point) → List Pair
+directed_edges contours = filter is_edge (steps contours)
+
+-- the edges of contours, each with its ends in order
 abbrev pub edges : List (List Point) → List Pair
-edges contours = map in_order (filter is_edge (steps contours))
+edges contours = map in_order (directed_edges contours)
+
+-- Each of the contours has points, and in none a point stands next to itself, the last and the first one included.
+pub record AreProper (contours : List (List Point)) : Type 0 where
+  pub points : All (λ c. c ≢ []) contours
+  pub apart : IsTrue (list_all is_edge (steps contours))
 
 -- How a step winds round p: it counts 1 where it runs below p from left to right, and -1 where it runs below p from
 -- right to left.

@@ -2,6 +2,5 @@ pub mod Contours
 pub mod ContoursOf
 pub mod ContourSegments
 pub mod Polygons
-pub mod WalkPairs
 pub mod Refusals
 pub mod Laws

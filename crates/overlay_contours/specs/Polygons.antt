@@ -1,9 +1,9 @@
 -- The overlay of polygons: contours in, contours out.
-use Rattle.std.specs.Prelude.{◌≡◌, ◌≤◌, ◌<◌, ℕ, Bool, false, IsTrue, List, ◌++◌, All, Contains, count_by}
+use Rattle.std.specs.Prelude.{◌≡◌, ◌≤◌, ◌<◌, ◌-ℤ◌, ℕ, pos, int_lt, Bool, false, IsTrue, if◌then◌else◌, List, ◌++◌, All, Contains, map, count_by}
 use Rattle.std.specs.List.{list_all}
 use Rattle.overlay_geometry.specs.Points.{Point, Pair, pair_eq}
 use Rattle.overlay_base.specs.Places.{RationalPoint}
-use Rattle.overlay_base.specs.Segments.{pairs}
+use Rattle.overlay_base.specs.Segments.{WholeSegment, pairs}
 use Rattle.overlay_geometry.specs.Meeting.{are_apart}
 use Rattle.overlay_base.specs.Rules.{differ, holds}
 use Rattle.overlay_base.specs.Radius.{exponent_cap}
@@ -15,7 +15,8 @@ use Rattle.overlay_split.specs.Nearness.{reach_of_run, reach_of_passes}
 use Rattle.overlay_split.specs.ExactInput.{is_exact_input}
 use Rattle.overlay_split.specs.Places.{IsFar}
 use Rattle.overlay_sweep.specs.Fill.{is_inside}
-use Rattle.overlay_contours.specs.Contours.{edges, winding_number, is_painted}
+use Rattle.overlay_build.specs.Boundary.{truth, boundary}
+use Rattle.overlay_contours.specs.Contours.{turned, directed_edges, edges, AreProper, winding_number, is_painted}
 use Rattle.overlay_contours.specs.ContourSegments.{overlay_segments}
 
 -- what a run is set to in coordinates of so many bits: the precision of the solver, and 256 passes that may snap
@@ -35,6 +36,15 @@ is_in_overlay rule fill_rule subject clip p = holds rule (is_inside fill_rule (w
 abbrev pub IsFarFrom : Settings → List (List Point) → List (List Point) → ℕ → RationalPoint → Type 0
 IsFarFrom settings subject clip passes p = IsFar (reach_of_run settings (overlay_segments subject clip) passes) p (edges subject ++ edges clip)
 
+-- a segment in the direction of its count: from a to b where that is above 0, and else back
+abbrev pub run_of : WholeSegment → Pair
+run_of s = if int_lt (pos 0) s.count.subj then s.pair else turned s.pair
+
+-- The edges of the contours, as they run, are the boundary of the rule's region in an arrangement: the segments whose
+-- sides the rule tells apart, each once, in the direction that has the side of which it holds on its left.
+abbrev pub RunsAlongBoundary : OverlayRule → FillRule → List WholeSegment → List (List Point) → Type 0
+RunsAlongBoundary rule fill_rule arrangement contours = (test : Pair → Bool) → count_by test (directed_edges contours) ≡ count_by test (map run_of (boundary (holds rule) fill_rule arrangement))
+
 -- what an overlay answers for the contours of a subject and of a clip
 pub record IsPolygonOverlay (settings : Settings) (rule : OverlayRule) (fill_rule : FillRule) (subject clip answer : List (List Point)) : Type 0 where
   -- the number of passes that the run makes
@@ -44,6 +54,15 @@ pub record IsPolygonOverlay (settings : Settings) (rule : OverlayRule) (fill_rul
   pub region : (p : RationalPoint) → 0 < p.bottom → IsFarFrom settings subject clip passes p → is_painted answer p ≡ differ (holds rule false false) (is_in_overlay rule fill_rule subject clip p)
   -- A rule that says no of those outside, as each with a name does: exactly the far places of which it holds.
   pub named : holds rule false false ≡ false → (p : RationalPoint) → 0 < p.bottom → IsFarFrom settings subject clip passes p → is_painted answer p ≡ is_in_overlay rule fill_rule subject clip p
+  -- It is directed so that the region lies on its left. So it winds round each far place once, counterclockwise, where
+  -- the rule holds, and not at all elsewhere; for a rule that holds of those outside once less.
+  pub winds : (p : RationalPoint) → 0 < p.bottom → IsFarFrom settings subject clip passes p → winding_number answer p ≡ truth (is_in_overlay rule fill_rule subject clip p) -ℤ truth (holds rule false false)
+  -- For a rule that says no of those outside: 1 where it holds, and 0 elsewhere.
+  pub named_winds : holds rule false false ≡ false → (p : RationalPoint) → 0 < p.bottom → IsFarFrom settings subject clip passes p → winding_number answer p ≡ truth (is_in_overlay rule fill_rule subject clip p)
+  -- Its edges, as they run, are the boundary of the region in the arrangement that the passes leave.
+  pub directed : RunsAlongBoundary rule fill_rule (after_passes settings (overlay_segments subject clip) passes) answer
+  -- Each contour has points, and in none a point stands next to itself.
+  pub proper : AreProper answer
   -- How far the passes move things at most, by the settings and the number of passes alone; nothing where no two of the
   -- given edges cross at a point that is not whole, so that then each place on no given edge is a far one.
   pub reach : reach_of_run settings (overlay_segments subject clip) passes ≤ reach_of_passes settings passes

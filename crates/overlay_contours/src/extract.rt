@@ -1,111 +1,93 @@
-// The contours of a graph: its closed walks, as lists of points. Upstream's `core::extract` answers shapes with holes.
-ghost use Rattle.std.specs.Prelude.{◌≡◌, ◌≢◌, ◌<◌, IsTrue, IfOk, IfErr, IfSome, IfNone, Some, Bool, All, map, length, count_by};
-ghost use Rattle.std.specs.List.{list_all};
-ghost use Rattle.overlay_geometry.specs.Points.{Pair, is_ordered};
-ghost use Rattle.overlay_base.specs.Places.{RationalPoint};
+// The contours of a graph: its directed walks, as lists of points. Upstream: `core::extract`, with holes told apart.
+ghost use Rattle.std.specs.Prelude.{◌≡◌, ◌<◌, [], IfOk, IfErr, Bool, All, map, length, count_by};
+ghost use Rattle.overlay_geometry.specs.Points.{Pair};
+ghost use Rattle.overlay_base.specs.Places.{RationalPoint, winding_below};
+ghost use Rattle.overlay_base.specs.Rules.{holds};
 ghost use Rattle.overlay_geometry.specs.PointOf.{point_of};
 ghost use Rattle.overlay_base.specs.declared.segm.fault.Fault.TheVariants.{Memory};
-ghost use Rattle.overlay_build.specs.Graph.{has_even_nodes};
+ghost use Rattle.overlay_build.specs.Boundary.{directed_links};
+ghost use Rattle.overlay_build.specs.DirectedWalks.{in_direction, arcs, IsFlow, contour};
 ghost use Rattle.overlay_build.specs.GraphOf.{graph_with, link_of, pairs_of_links};
 ghost use Rattle.overlay_build.specs.OverlayGraphOf.{links_of};
 ghost use Rattle.overlay_build.specs.Regions.{encloses};
-ghost use Rattle.overlay_build.specs.Walks.{IsClosedWalk, walk_end};
-ghost use Rattle.overlay_contours.specs.Contours.{steps_of, in_order, edges, is_painted};
+ghost use Rattle.overlay_contours.specs.Contours.{directed_edges, edges, AreProper, is_painted};
+ghost use Rattle.overlay_contours.specs.ContourSegments.{overlay_winding};
 ghost use Rattle.overlay_contours.specs.ContoursOf.{points_of, contours_of};
-ghost use Rattle.overlay_contours.specs.WalkPairs.{walk_pairs, node_point};
 
 use crate::contour::IntContour;
+use overlay_base::overlay_core::link::OverlayLink;
+use overlay_base::overlay_core::overlay_rule::OverlayRule;
 use overlay_base::segm::fault::Fault;
+use overlay_build::build::directed_walks::{directed_walks, holds_of_top};
 use overlay_build::build::graph::OverlayGraph;
-use overlay_build::build::walks::closed_walks;
-use overlay_geometry::geom::id_point::IdPoint;
+use overlay_geometry::geom::point::IntPoint;
 use overlay_geometry::num::OverlayInt;
 use std::alloc::Global;
 
-/// The closed walks of a graph as contours: each link is an edge of one contour, once. So oddly many edges run below
-/// a place exactly where oddly many links do.
+/// The directed walks of a graph as contours. Each link is an edge of one contour, once, and runs in its direction:
+/// from `a` to `b` where the rule holds of the top of its fill, and else from `b` to `a`. So what the rule holds of lies
+/// to the left, and the contours wind round every place as the directed links do. Each contour has points, and in none
+/// a point stands next to itself.
 ///
-/// Evenly many links have to meet at each node, as `has_even_nodes` tests, and each link's `a` has to stand before its
-/// `b`, as in every graph of an overlay.
+/// As many links have to start as end at each node, as they do in the graph of the rule where counts balance.
 ///
 /// Answers `Fault::Memory` where a growth is refused.
-pub fn contours_of_graph<I: OverlayInt, D: Copy>(
+pub fn directed_contours_of_graph<I: OverlayInt, D: Copy>(
     alloc: Global,
     graph: &OverlayGraph<'_, I, D>,
+    rule: OverlayRule,
 ) -> Result<Vec<IntContour<I>>, Fault>
-    requires even { IsTrue (has_even_nodes (graph_with I.whole (links_of graph.now))) }
-    requires ordered { IsTrue (list_all is_ordered (pairs_of_links I.whole (links_of graph.now))) }
+    requires { IsFlow (arcs (holds rule) (map (link_of I.whole) (links_of graph.now))) }
+    ensures directed { IfOk result (λ contours. (test : Pair → Bool) →
+        count_by test (directed_edges (contours_of I.whole contours.items))
+        ≡ count_by test (map (λ l. l.pair) (arcs (holds rule) (map (link_of I.whole) (links_of graph.now))))) }
+    ensures winds { IfOk result (λ contours. (p : RationalPoint) →
+        overlay_winding (contours_of I.whole contours.items) [] p
+        ≡ winding_below (directed_links (holds rule) (graph_with I.whole (links_of graph.now))) p) }
     ensures edges { IfOk result (λ contours. (test : Pair → Bool) →
         count_by test (edges (contours_of I.whole contours.items))
         ≡ count_by test (pairs_of_links I.whole (links_of graph.now))) }
     ensures painted { IfOk result (λ contours. (p : RationalPoint) →
         is_painted (contours_of I.whole contours.items) p ≡ encloses (graph_with I.whole (links_of graph.now)) p) }
+    ensures proper { IfOk result (λ contours. AreProper (contours_of I.whole contours.items)) }
     ensures fault { IfErr result (λ fault. fault ≡ Memory) }
 {
-    let walks = closed_walks(alloc, graph)?;
+    let walks = directed_walks(alloc, graph, rule)?;
     let mut contours = Vec::new(alloc);
     for walk in &walks {
-        let contour = contour_of_walk(alloc, graph, walk)?;
+        let contour = contour_of_walk(alloc, graph, rule, walk)?;
         contours.push(contour)?;
     }
     Ok(contours)
 }
 
-/// The points of a closed walk.
+/// The points at which the links of a walk start, in order.
 fn contour_of_walk<I: OverlayInt, D: Copy>(
     alloc: Global,
     graph: &OverlayGraph<'_, I, D>,
+    rule: OverlayRule,
     walk: &[usize],
 ) -> Result<IntContour<I>, Fault>
-    requires closed { IsClosedWalk (map (link_of I.whole) (links_of graph.now)) walk.now }
-    requires ordered { IsTrue (list_all is_ordered (pairs_of_links I.whole (links_of graph.now))) }
-    ensures edges { IfOk result (λ contour. map in_order (steps_of (points_of I.whole contour.items))
-        ≡ walk_pairs (pairs_of_links I.whole (links_of graph.now)) walk.now) }
-    ensures fault { IfErr result (λ fault. fault ≡ Memory) }
-{
-    let first = &graph.links()[walk[0]];
-    if let Some(contour) = points_along(alloc, graph, walk, first.a)? {
-        return Ok(contour);
-    }
-    let contour = points_along(alloc, graph, walk, first.b)?.unwrap();
-    Ok(contour)
-}
-
-/// The points at which a walk from an end of a link comes to its links, one after another. `None` where it does not
-/// lead back there.
-fn points_along<I: OverlayInt, D: Copy>(
-    alloc: Global,
-    graph: &OverlayGraph<'_, I, D>,
-    walk: &[usize],
-    start: IdPoint<I>,
-) -> Result<Option<IntContour<I>>, Fault>
-    requires within { All (λ i. i < length (links_of graph.now)) walk.now }
-    requires start { point_of I.whole start.point ≡ node_point (pairs_of_links I.whole (links_of graph.now)) start.id }
-    requires ordered { IsTrue (list_all is_ordered (pairs_of_links I.whole (links_of graph.now))) }
-    ensures edges { IfOk result (λ found. IfSome found (λ contour.
-        map in_order (steps_of (points_of I.whole contour.items))
-        ≡ walk_pairs (pairs_of_links I.whole (links_of graph.now)) walk.now)) }
-    ensures back { IfOk result (λ found. IfNone found
-        (walk_end (map (link_of I.whole) (links_of graph.now)) start.id walk.now ≢ Some start.id)) }
+    requires { All (λ i. i < length (links_of graph.now)) walk.now }
+    ensures points { IfOk result (λ points. points_of I.whole points.items
+        ≡ contour (arcs (holds rule) (map (link_of I.whole) (links_of graph.now))) walk.now) }
     ensures fault { IfErr result (λ fault. fault ≡ Memory) }
 {
     let links = graph.links();
     let mut points = Vec::new(alloc);
-    let mut end = start;
     for step in walk {
-        let link = &links[*step];
-        points.push(end.point)?;
-        if link.a.id == end.id {
-            end = link.b;
-        } else if link.b.id == end.id {
-            end = link.a;
-        } else {
-            return Ok(None);
-        }
+        points.push(start_point(&links[*step], rule))?;
     }
-    if end.id == start.id {
-        Ok(Some(points))
+    Ok(points)
+}
+
+/// The point at which a link starts in its direction.
+fn start_point<I: OverlayInt, D: Copy>(link: &OverlayLink<I, D>, rule: OverlayRule) -> IntPoint<I>
+    ensures { point_of I.whole result ≡ (in_direction (holds rule) (link_of I.whole link.now)).pair.a }
+{
+    if holds_of_top(rule, link.fill) {
+        link.a.point
     } else {
-        Ok(None)
+        link.b.point
     }
 }

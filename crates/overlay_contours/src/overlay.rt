@@ -6,7 +6,7 @@ ghost use Rattle.overlay_contours.specs.Polygons.{settings_for, IsPolygonOverlay
 ghost use Rattle.overlay_contours.specs.Refusals.{IsRefusal, IsShapeOutside};
 
 use crate::contour::{IntContour, find_out_of_range, segments_of_contours};
-use crate::extract::contours_of_graph;
+use crate::extract::directed_contours_of_graph;
 use crate::fault::ContourFault;
 use i_overlay::overlay::split_and_build_overlay;
 use overlay_base::overlay_core::fill_rule::FillRule;
@@ -18,16 +18,22 @@ use overlay_geometry::num::OverlayInt;
 use overlay_split::split::solver::SplitSolver;
 use std::alloc::Global;
 
-/// The overlay of a subject's contours and a clip's, as contours.
+/// The overlay of a subject's contours and a clip's, as contours that have the region of the overlay on their left: an
+/// outer boundary runs counterclockwise, and a hole clockwise.
 ///
-/// Under the even-odd rule (a place is painted where oddly many edges run below it) the contours that are answered
-/// paint exactly the places of which the overlay rule says something else than of those outside, for a rule with a
-/// name exactly those of which it holds, by how often the given contours run round the place under the fill rule. That
-/// is so at every place that is farther from the edges of the given contours than the passes of the run move
-/// crossings. Every edge of the answer is one of the arrangement, and no two of them share more than an end.
+/// Round a place the answer winds once, counterclockwise, where the overlay rule holds of it, and not at all elsewhere.
+/// What the rule says of a place is asked by how often the given contours run round it, under the fill rule. That is so
+/// at every place that is farther from the edges of the given contours than the passes of the run move crossings. Under
+/// a table that holds of places outside, the answer winds once less everywhere.
+///
+/// So, but for such a table, the answer may be filled by any rule other than `Negative`. Under even-odd (a place is
+/// painted where oddly many edges run below it) it always paints the places of which the overlay rule says something
+/// else than of those outside. Its edges are the boundary of the region in the arrangement, and no two share more than
+/// an end.
 ///
 /// Any contours will do: they may cross and touch themselves and one another, run either way, repeat points, and have
-/// no or few points. Equal neighboring points make no edge. Collinear points of the answer are left in.
+/// no or few points. Equal neighboring points make no edge, and the answer has none. Collinear points of the answer are
+/// left in. Each contour of the answer has points, and may come to a point twice.
 ///
 /// Answers `ContourFault::OutOfRange` where a point is out of the engine's range, and names the first one; else
 /// `Fault::CountOutOfRange` only where counts leave `-i32::MAX..=i32::MAX`, and `Fault::Memory` where a growth is
@@ -64,7 +70,7 @@ pub fn overlay_contours<I: OverlayInt>(
         fill_rule,
         overlay_rule,
     )?;
-    let contours = contours_of_graph(alloc, &graph)?;
+    let contours = directed_contours_of_graph(alloc, &graph, overlay_rule)?;
     Ok(contours)
 }
 

@@ -182,7 +182,7 @@ fn end_of<I: OverlayInt, D: Copy>(link: &OverlayLink<I, D>, rule: OverlayRule) -
 }
 
 /// What the rule says of the top side of a segment with this fill.
-pub(crate) fn holds_of_top(rule: OverlayRule, fill: SegmentFill) -> bool
+pub fn holds_of_top(rule: OverlayRule, fill: SegmentFill) -> bool
     ensures { result ≡ top_value (holds rule) fill }
 {
     rule.holds(fill & SUBJ_TOP != NONE, fill & CLIP_TOP != NONE)

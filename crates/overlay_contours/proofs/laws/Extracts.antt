@@ -1,32 +1,35 @@
--- The edges of the contours that walks make are the links of the graph, each once.
-use Rattle.std.proofs.Common.{◌≡◌, refl, sym, ap, ap₂, subst, ◌∙◌, ℕ, zero, suc, ◌+◌, ◌<◌, ◌≤◌, ◌==◌, ◌%◌, get_or, take, length, Bool, true, List, [], ◌∷◌, ◌++◌, map, filter, cond, arith}
-use Rattle.std.specs.Prelude.{count_by, flat_map, ℤ}
-use Rattle.std.specs.List.{AllByRecursion, list_all}
+-- The edges of the contours of directed walks are the links of the graph, each once in its direction.
+use Rattle.std.proofs.Common.{◌≡◌, refl, sym, ap, ap₂, ◌∙◌, ℕ, zero, suc, ◌+◌, ◌<◌, ◌≤◌, get_or, take, length, Bool, true, false, not, if◌then◌else◌, List, [], ◌∷◌, ◌++◌, map, filter, cond, arith}
+use Rattle.std.specs.Prelude.{◌≢◌, count_by, flat_map}
+use Rattle.std.specs.List.{AllByRecursion, list_all, zip}
 use Rattle.std.proofs.lemmas.Bool.{and_parts, and_from}
-use Rattle.std.proofs.lemmas.List.{map-append, length-map}
-use Rattle.std.proofs.lemmas.List.Elements.{recursion_from_All}
-use Rattle.std.proofs.lemmas.List.Sums.{length-filter}
-use Rattle.overlay_geometry.specs.Points.{Point, Pair, is_ordered}
-use Rattle.overlay_base.specs.Places.{RationalPoint, lies_below}
-use Rattle.overlay_base.specs.declared.overlay_core.link.OverlayLink.{OverlayLink}
+use Rattle.std.proofs.lemmas.List.{map-append}
+use Rattle.std.proofs.lemmas.List.Elements.{All-from_recursion, recursion_from_All}
+use Rattle.std.proofs.lemmas.List.Folds.{list_all-map}
+use Rattle.std.proofs.lemmas.Simd.{map-map}
+use Rattle.overlay_geometry.specs.Points.{Point, Pair, point_lt, point_eq, is_ordered}
+use Rattle.overlay_geometry.proofs.laws.geometry.Points.{point_lt-trans, point_lt-irreflexive, same_by_eq}
 use Rattle.overlay_geometry.proofs.laws.lists.Lists.{sum_by-map, AllByRecursion-weaker, AllByRecursion-flat_map}
-use Rattle.overlay_build.specs.Graph.{Link}
-use Rattle.overlay_build.specs.GraphOf.{link_of, graph_with, pairs_of_links}
-use Rattle.overlay_build.specs.Regions.{encloses}
-use Rattle.overlay_build.specs.Walks.{IsClosedWalk, AreClosedWalks}
-use Rattle.overlay_contours.specs.Contours.{steps_of, steps, in_order, is_edge, edges, is_painted}
-use Rattle.overlay_contours.specs.WalkPairs.{origin, pair_at, walk_pairs}
-use Rattle.overlay_contours.proofs.laws.Walking.{closed_low, edge_by_order}
-use Rattle.overlay_contours.proofs.laws.Numbering.{passes_at}
+use Rattle.overlay_base.specs.Rules.{top_value}
+use Rattle.overlay_build.specs.Graph.{Filled, Link, graph_of}
+use Rattle.overlay_build.specs.DirectedWalks.{arcs, no_link, IsDirectedWalk, AreDirectedWalks, contour}
+use Rattle.overlay_build.specs.DirectedWalks.{turned as turned_link, edges as edges_of_walk}
+use Rattle.overlay_build.proofs.laws.walks.Contours.{contours_follow_links}
+use Rattle.overlay_contours.specs.Contours.{steps_from, steps_of, steps, turned, in_order, is_edge, directed_edges, edges, AreProper}
+use Rattle.overlay_contours.specs.Laws.{ContoursTakeLinks}
 use Rattle.overlay_contours.proofs.laws.Counting.{count_by-once_each}
 
 -- ---- one contour more
 
-pub all_taken : {X : Type 0} (xs : List X) (n : ℕ) → length xs ≤ n → take n xs ≡ xs
+all_taken : {X : Type 0} (xs : List X) (n : ℕ) → length xs ≤ n → take n xs ≡ xs
 all_taken [] zero h = refl
 all_taken [] (suc n) h = refl
 all_taken (x ∷ xs) zero h = absurd (omega arith)
 all_taken (x ∷ xs) (suc n) h = ap (λ (l : List _). x ∷ l) (all_taken xs n (omega arith))
+
+-- after the last one: of each part of an element
+pub all_mapped : {X Y Z : Type 0} (f : Y → Z) (h : X → Y) (now items : List X) (n : ℕ) (zs : List Z) → zs ≡ map (λ x. f (h x)) (take n now) → length now ≤ n → now ≡ items → zs ≡ map f (map h items)
+all_mapped f h now items n zs e done same = e ∙ ap (map (λ x. f (h x))) (all_taken now n done ∙ same) ∙ sym (map-map f h items)
 
 take_next : {X : Type 0} (xs : List X) (k : ℕ) (x : X) → k < length xs → x ≡ get_or xs k x → take (k + 1) xs ≡ take k xs ++ x ∷ []
 take_next xs k x h e = let next : k + 1 ≡ suc k = omega arith in rw next (by xs k h e)
@@ -40,7 +43,64 @@ pub one_more : {X Y Z : Type 0} (f : X → Z) (g : Y → Z) (xs : List X) (ys : 
 one_more f g xs ys k x y e h is same =
     map-append f xs (x ∷ []) ∙ ap₂ (λ (u v : List _). u ++ v) e (ap (λ (z : _). z ∷ []) same) ∙ sym (map-append g (take k ys) (y ∷ [])) ∙ sym (ap (map g) (take_next ys k y h is))
 
--- ---- the edges of all contours
+pub mapped_at : {X Y : Type 0} (f : X → Y) (xs : List X) (i : ℕ) (x : X) (d : Y) → i < length xs → x ≡ get_or xs i x → get_or (map f xs) i d ≡ f x
+mapped_at f [] i x d h e = absurd (omega arith)
+mapped_at f (y ∷ ys) zero x d h e = ap f (sym e)
+mapped_at f (y ∷ ys) (suc i) x d h e = mapped_at f ys i x d (omega arith) e
+
+-- ---- a link in its direction
+
+points_apart : (p q : Point) → point_lt p q ≡ true → (point_eq p q ≡ false) × (point_eq q p ≡ false)
+points_apart p q h = (by (point_eq p q) refl, back (point_eq q p) refl)
+  where
+    never : p ≡ q → point_lt p q ≡ false
+    never e = ap (λ (r : Point). point_lt p r) (sym e) ∙ point_lt-irreflexive p
+
+    by : (b : Bool) → point_eq p q ≡ b → b ≡ false
+    by true e = let no = never (same_by_eq p q e) in cc
+    by false e = refl
+
+    back : (b : Bool) → point_eq q p ≡ b → b ≡ false
+    back true e = let no = never (sym (same_by_eq q p e)) in cc
+    back false e = refl
+
+edge_either_way : (t : Bool) (l : Link) → is_ordered l.pair ≡ true → is_edge (if t then l else turned_link l).pair ≡ true
+edge_either_way true l h = ap not (points_apart l.pair.a l.pair.b h).0
+edge_either_way false l h = ap not (points_apart l.pair.a l.pair.b h).1
+
+-- in order it is the link's own pair
+in_order_either_way : (t : Bool) (l : Link) → is_ordered l.pair ≡ true → in_order (if t then l else turned_link l).pair ≡ l.pair
+in_order_either_way true l h = rw h refl
+in_order_either_way false l h = by (point_lt l.pair.b l.pair.a) refl
+  where
+    by : (b : Bool) → point_lt l.pair.b l.pair.a ≡ b → cond b (turned l.pair) l.pair ≡ l.pair
+    by true e = let loop : point_lt l.pair.a l.pair.a ≡ true = point_lt-trans l.pair.a l.pair.b l.pair.a h e in let no : point_lt l.pair.a l.pair.a ≡ false = point_lt-irreflexive l.pair.a in cc
+    by false e = refl
+
+abbrev pub ways_of : List Link → List Pair
+ways_of links = map (λ l. l.pair) links
+
+ways_are_edges : (rule : Bool → Bool → Bool) (links : List Link) → list_all (λ l. is_ordered l.pair) links ≡ true → list_all (λ l. is_edge l.pair) (arcs rule links) ≡ true
+ways_are_edges rule [] h = refl
+ways_are_edges rule (l ∷ links) h =
+    let parts = and_parts (is_ordered l.pair) (list_all (λ l. is_ordered l.pair) links) h in
+    and_from _ _ (edge_either_way (top_value rule l.fill) l parts.0) (ways_are_edges rule links parts.1)
+
+ways_in_order : (rule : Bool → Bool → Bool) (links : List Link) → list_all (λ l. is_ordered l.pair) links ≡ true → map in_order (ways_of (arcs rule links)) ≡ ways_of links
+ways_in_order rule [] h = refl
+ways_in_order rule (l ∷ links) h =
+    let parts = and_parts (is_ordered l.pair) (list_all (λ l. is_ordered l.pair) links) h in
+    ap₂ (λ (p : Pair) (ps : List Pair). p ∷ ps) (in_order_either_way (top_value rule l.fill) l parts.0) (ways_in_order rule links parts.1)
+
+-- ---- the steps of a contour are its edges
+
+steps_zipped : (p q : Point) (points : List Point) → steps_from p (points ++ q ∷ []) ≡ map (λ e. record { a = e.0; b = e.1 }) (zip (p ∷ points) (points ++ q ∷ []))
+steps_zipped p q [] = refl
+steps_zipped p q (r ∷ points) = ap (λ (l : List Pair). record { a = p; b = r } ∷ l) (steps_zipped r q points)
+
+steps_are_edges : (points : List Point) → steps_of points ≡ edges_of_walk points
+steps_are_edges [] = refl
+steps_are_edges (p ∷ points) = steps_zipped p p points
 
 all_pass : {X : Type 0} (p : X → Bool) (xs : List X) → list_all p xs ≡ true → filter p xs ≡ xs
 all_pass p [] h = refl
@@ -48,52 +108,88 @@ all_pass p (x ∷ xs) h =
     let parts = and_parts (p x) (list_all p xs) h in
     ap (λ (b : Bool). cond b (x ∷ filter p xs) (filter p xs)) parts.0 ∙ ap (λ (l : List _). x ∷ l) (all_pass p xs parts.1)
 
-steps_in_order : (pairs : List Pair) (contours : List (List Point)) (walks : List (List ℕ)) → map (λ c. map in_order (steps_of c)) contours ≡ map (walk_pairs pairs) walks → map in_order (steps contours) ≡ walk_pairs pairs (flat_map (λ w. w) walks)
-steps_in_order pairs [] [] e = refl
-steps_in_order pairs [] (w ∷ walks) e = absurd (cc)
-steps_in_order pairs (c ∷ contours) [] e = absurd (cc)
-steps_in_order pairs (c ∷ contours) (w ∷ walks) e =
-    let here : map in_order (steps_of c) ≡ walk_pairs pairs w = cc in
-    let there : map (λ c. map in_order (steps_of c)) contours ≡ map (walk_pairs pairs) walks = cc in
-    map-append in_order (steps_of c) (steps contours) ∙ ap₂ (λ (u v : List Pair). u ++ v) here (steps_in_order pairs contours walks there) ∙ sym (map-append (pair_at pairs) w (flat_map (λ v. v) walks))
+passes_at : {X : Type 0} (p : X → Bool) (xs : List X) (i : ℕ) (d : X) → list_all p xs ≡ true → i < length xs → p (get_or xs i d) ≡ true
+passes_at p [] i d a h = absurd (omega arith)
+passes_at p (x ∷ xs) zero d a h = (and_parts (p x) (list_all p xs) a).0
+passes_at p (x ∷ xs) (suc i) d a h = passes_at p xs i d (and_parts (p x) (list_all p xs) a).1 (omega arith)
 
-all_ordered : (pairs : List Pair) → list_all is_ordered pairs ≡ true → (walk : List ℕ) → AllByRecursion (λ i. i < length pairs) walk → list_all is_ordered (walk_pairs pairs walk) ≡ true
-all_ordered pairs h [] low = refl
-all_ordered pairs h (i ∷ walk) low = and_from _ _ (passes_at is_ordered pairs i (record { a = origin; b = origin }) h low.0) (all_ordered pairs h walk low.1)
+all_pass_at : {X : Type 0} (p : X → Bool) (xs : List X) (d : X) → list_all p xs ≡ true → (indexes : List ℕ) → AllByRecursion (λ i. i < length xs) indexes → list_all (λ i. p (get_or xs i d)) indexes ≡ true
+all_pass_at p xs d a [] h = refl
+all_pass_at p xs d a (i ∷ indexes) h = and_from _ _ (passes_at p xs i d a h.0) (all_pass_at p xs d a indexes h.1)
 
-are_edges : (list : List Pair) → list_all is_ordered (map in_order list) ≡ true → list_all is_edge list ≡ true
-are_edges [] h = refl
-are_edges (s ∷ list) h = let parts = and_parts (is_ordered (in_order s)) (list_all is_ordered (map in_order list)) h in and_from _ _ (edge_by_order s parts.0) (are_edges list parts.1)
+-- ---- the contours of directed walks
 
-pub edges_are : (pairs : List Pair) → list_all is_ordered pairs ≡ true → (contours : List (List Point)) (walks : List (List ℕ)) → map (λ c. map in_order (steps_of c)) contours ≡ map (walk_pairs pairs) walks
-    → AllByRecursion (λ i. i < length pairs) (flat_map (λ w. w) walks) → edges contours ≡ walk_pairs pairs (flat_map (λ w. w) walks)
-edges_are pairs h contours walks e low =
-    let is = steps_in_order pairs contours walks e in
-    ap (map in_order) (all_pass is_edge (steps contours) (are_edges (steps contours) (ap (list_all is_ordered) is ∙ all_ordered pairs h (flat_map (λ w. w) walks) low))) ∙ is
+module _ (rule : Bool → Bool → Bool) (kept : List Filled) (ordered : list_all (λ f. is_ordered f.pair) kept ≡ true) where
+  abbrev links : List Link
+  links = (graph_of kept).links
 
-module _ {I D : Type 0} (whole : I → ℤ) (links : List (OverlayLink I D)) where
-  abbrev pairs : List Pair
-  pairs = pairs_of_links whole links
+  abbrev ways : List Link
+  ways = arcs rule links
 
-  -- the edges of the contours are the links, by any test
-  pub edges_count : (contours : List (List Point)) (walks : List (List ℕ)) → list_all is_ordered pairs ≡ true → AreClosedWalks (map (link_of whole) links) walks → map (λ c. map in_order (steps_of c)) contours ≡ map (walk_pairs pairs) walks
-      → (test : Pair → Bool) → count_by test (edges contours) ≡ count_by test pairs
-  edges_count contours walks h closed e test =
-      let as_many : length (map (link_of whole) links) ≡ length pairs = length-map links (link_of whole) ∙ sym (length-map links (λ l. (link_of whole l).pair)) in
-      let each : AllByRecursion (IsClosedWalk (map (link_of whole) links)) walks = recursion_from_All (IsClosedWalk (map (link_of whole) links)) walks closed.closed in
-      let lows : AllByRecursion (λ w. AllByRecursion (λ i. i < length (map (link_of whole) links)) w) walks = AllByRecursion-weaker (IsClosedWalk (map (link_of whole) links)) _ (λ w k. closed_low (map (link_of whole) links) w k) walks each in
-      let low : AllByRecursion (λ i. i < length (map (link_of whole) links)) (flat_map (λ w. w) walks) = AllByRecursion-flat_map (λ w. w) (λ i. i < length (map (link_of whole) links)) walks lows in
-      let low_pairs : AllByRecursion (λ i. i < length pairs) (flat_map (λ w. w) walks) = subst (λ (n : ℕ). AllByRecursion (λ i. i < n) (flat_map (λ w. w) walks)) as_many low in
-      ap (count_by test) (edges_are pairs h contours walks e low_pairs)
-      ∙ count_by-once_each test pairs (record { a = origin; b = origin }) (flat_map (λ w. w) walks) low_pairs (λ i k. closed.once i (subst (λ (n : ℕ). i < n) (sym as_many) k))
+  abbrev way_at : ℕ → Pair
+  way_at i = (get_or ways i no_link).pair
 
-  -- so the contours paint what the links enclose
-  pub paints : (contours : List (List Point)) → map (link_of whole) links ≡ (graph_with whole links).links → ((test : Pair → Bool) → count_by test (edges contours) ≡ count_by test pairs) → (p : RationalPoint) → is_painted contours p ≡ encloses (graph_with whole links) p
-  unfolding is_painted encloses
-  paints contours same count p =
-      ap (λ (n : ℕ). n % 2 == 1)
-      (count (λ e. lies_below e p)
-      ∙ sum_by-map (λ (e : Pair). cond (lies_below e p) 1 0) (λ l. (link_of whole l).pair) links
-      ∙ sym (sum_by-map (λ (l : Link). cond (lies_below l.pair p) 1 0) (link_of whole) links)
-      ∙ ap (count_by (λ (l : Link). lies_below l.pair p)) same
-      ∙ sym (length-filter (λ (l : Link). lies_below l.pair p) (graph_with whole links).links))
+  pub links_are_ordered : list_all (λ l. is_ordered l.pair) links ≡ true
+  unfolding graph_of
+  links_are_ordered = list_all-map (λ (l : Link). is_ordered l.pair) _ kept ∙ ordered
+
+  steps_of_walk : (walk : List ℕ) → IsDirectedWalk ways walk → steps_of (contour ways walk) ≡ map way_at walk
+  steps_of_walk walk w = steps_are_edges (contour ways walk) ∙ contours_follow_links rule kept walk w ∙ map-map (λ (l : Link). l.pair) (λ i. get_or ways i no_link) walk
+
+  steps_of_walks : (walks : List (List ℕ)) → AllByRecursion (IsDirectedWalk ways) walks → steps (map (contour ways) walks) ≡ map way_at (flat_map (λ w. w) walks)
+  steps_of_walks [] h = refl
+  steps_of_walks (w ∷ walks) h =
+      ap₂ (λ (u v : List Pair). u ++ v) (steps_of_walk w h.0) (steps_of_walks walks h.1)
+      ∙ sym (map-append way_at w (flat_map (λ v. v) walks))
+
+  has_points : (walk : List ℕ) → IsDirectedWalk ways walk → contour ways walk ≢ []
+  has_points [] w e = let starts = w.1.1.starts in cc
+  has_points (i ∷ walk) w e = cc
+
+  walks_have_points : (walks : List (List ℕ)) → AllByRecursion (IsDirectedWalk ways) walks → AllByRecursion (λ c. c ≢ []) (map (contour ways) walks)
+  walks_have_points [] h = tt
+  walks_have_points (w ∷ walks) h = (has_points w h.0, walks_have_points walks h.1)
+
+  module _ (walks : List (List ℕ)) (are : AreDirectedWalks ways walks) where
+    closed : AllByRecursion (IsDirectedWalk ways) walks
+    closed = recursion_from_All (IsDirectedWalk ways) walks are.closed
+
+    abbrev indexes : List ℕ
+    indexes = flat_map (λ w. w) walks
+
+    low : AllByRecursion (λ i. i < length ways) indexes
+    low =
+        AllByRecursion-flat_map (λ w. w) (λ i. i < length ways) walks
+        (AllByRecursion-weaker (IsDirectedWalk ways) (λ w. AllByRecursion (λ i. i < length ways) w) (λ w k. recursion_from_All (λ i. i < length ways) w k.1.1.within) walks closed)
+
+    -- each step is an edge
+    steps_pass : list_all is_edge (steps (map (contour ways) walks)) ≡ true
+    steps_pass = ap (list_all is_edge) (steps_of_walks walks closed) ∙ list_all-map is_edge way_at indexes ∙ all_pass_at (λ (l : Link). is_edge l.pair) ways no_link (ways_are_edges rule links links_are_ordered) indexes low
+
+    pub steps_are_directed : directed_edges (map (contour ways) walks) ≡ steps (map (contour ways) walks)
+    steps_are_directed = all_pass is_edge (steps (map (contour ways) walks)) steps_pass
+
+    pub contours_are_proper : AreProper (map (contour ways) walks)
+    contours_are_proper = record {
+      points = All-from_recursion (λ c. c ≢ []) (map (contour ways) walks) (walks_have_points walks closed);
+      apart = steps_pass;
+    }
+
+    pub directed_count : (test : Pair → Bool) → count_by test (directed_edges (map (contour ways) walks)) ≡ count_by test (ways_of ways)
+    directed_count test =
+        ap (count_by test) (steps_are_directed ∙ steps_of_walks walks closed)
+        ∙ sum_by-map (λ (e : Pair). cond (test e) 1 0) way_at indexes
+        ∙ sym (sum_by-map (λ (l : Link). cond (test l.pair) 1 0) (λ i. get_or ways i no_link) indexes)
+        ∙ count_by-once_each (λ (l : Link). test l.pair) ways no_link indexes low are.once
+        ∙ sym (sum_by-map (λ (e : Pair). cond (test e) 1 0) (λ (l : Link). l.pair) ways)
+
+    -- without directions they are the links
+    pub edges_count : (test : Pair → Bool) → count_by test (edges (map (contour ways) walks)) ≡ count_by test (ways_of links)
+    edges_count test =
+        sum_by-map (λ (e : Pair). cond (test e) 1 0) in_order (directed_edges (map (contour ways) walks))
+        ∙ directed_count (λ e. test (in_order e))
+        ∙ sym (sum_by-map (λ (e : Pair). cond (test e) 1 0) in_order (ways_of ways))
+        ∙ ap (count_by test) (ways_in_order rule links links_are_ordered)
+
+pub contours_take_links : ContoursTakeLinks
+contours_take_links rule kept walks ordered are test = directed_count rule kept ordered walks are test

@@ -1,6 +1,6 @@
 -- Contours, their segments, the overlay of these and its contours, joined.
-use Rattle.std.proofs.Common.{◌≡◌, refl, sym, ap, ap₂, subst, ◌∙◌, ℕ, ◌<◌, ◌≤◌, Bool, true, false, not, cond, IsTrue, List, [], ◌∷◌, ◌++◌, map, filter, arith, inl, inr, Less}
-use Rattle.std.specs.Prelude.{ℤ, count_by, Contains, Result, Ok, Err, IfErr}
+use Rattle.std.proofs.Common.{◌≡◌, refl, sym, ap, ap₂, subst, ◌∙◌, ℕ, ◌<◌, ◌≤◌, Bool, true, false, not, cond, if◌then◌else◌, IsTrue, List, [], ◌∷◌, ◌++◌, map, filter, arith, inl, inr, Less}
+use Rattle.std.specs.Prelude.{ℤ, pos, negsuc, ◌-ℤ◌, count_by, Contains, Result, Ok, Err, IfErr}
 use Rattle.std.specs.Result.{IsErrAnd}
 use Rattle.std.specs.List.{AllByRecursion, list_all}
 use Rattle.std.specs.List.Sorted.{IsStrictlySortedBy}
@@ -17,7 +17,8 @@ use Rattle.overlay_base.specs.Places.{RationalPoint, winding_below}
 use Rattle.overlay_base.specs.Segments.{WholeSegment, pairs, is_map, are_ordered}
 use Rattle.overlay_base.specs.Planar.{is_planar}
 use Rattle.overlay_geometry.specs.Meeting.{are_apart}
-use Rattle.overlay_base.specs.Rules.{holds, differ, keeps_fill}
+use Rattle.overlay_base.specs.Balance.{IsBalanced}
+use Rattle.overlay_base.specs.Rules.{holds, differ, keeps_fill, top_value}
 use Rattle.overlay_base.specs.Windings.{is_not_empty, Winding}
 use Rattle.overlay_base.specs.ShapeWindings.{direct_winding, inverted_winding}
 use Rattle.overlay_base.specs.BooleanWinding.{boolean_made}
@@ -38,7 +39,11 @@ use Rattle.overlay_split.specs.Run.{Settings, IsPassCount, LeavesRange, after_pa
 use Rattle.overlay_split.specs.SettingsOf.{snap_limit_of, settings_of}
 use Rattle.overlay_split.specs.declared.split.solver.SplitSolver.{SplitSolver}
 use Rattle.overlay_sweep.specs.ChainWindings.{tops_leave_range}
-use Rattle.overlay_build.specs.GraphOf.{link_of, graph_with, pairs_of_links}
+use Rattle.overlay_build.specs.Boundary.{of_subject, direction, directed_links, truth, boundary, times_round}
+use Rattle.overlay_build.specs.DirectedWalks.{arcs, IsFlow}
+use Rattle.overlay_build.specs.DirectedWalks.{turned as turned_link}
+use Rattle.overlay_build.specs.GraphOf.{link_of, kept_of, graph_with}
+use Rattle.overlay_build.proofs.laws.walks.Flows.{flow_from_balance}
 use Rattle.overlay_split.specs.Nearness.{reach_of_run}
 use Rattle.overlay_split.specs.Places.{IsFar}
 use Rattle.overlay_split.proofs.laws.nearness.Nearness.{reach_is_bounded, exact_input_reaches_nothing}
@@ -47,13 +52,14 @@ use Rattle.overlay_build.specs.Regions.{encloses}
 use Rattle.overlay_build.specs.Values.{value_at}
 use Rattle.i_overlay.specs.FarRegions.{EnclosesOverlay}
 use Rattle.i_overlay.specs.Headline.{IsOverlay, IsRefused}
-use Rattle.overlay_contours.specs.Contours.{steps, is_edge, in_order, turned, edges, is_painted}
+use Rattle.overlay_contours.specs.Contours.{steps, is_edge, in_order, turned, directed_edges, edges, AreProper, winding_number, is_painted}
 use Rattle.overlay_contours.specs.ContourSegments.{step_segment, contour_segments, overlay_segments, overlay_winding}
-use Rattle.overlay_contours.specs.Polygons.{settings_for, IsPolygonOverlay, IsFarFrom, is_in_overlay}
+use Rattle.overlay_contours.specs.Polygons.{settings_for, IsPolygonOverlay, IsFarFrom, is_in_overlay, run_of, RunsAlongBoundary}
 use Rattle.overlay_contours.specs.Refusals.{IsReason}
 use Rattle.overlay_contours.specs.declared.fault.ContourFault.{ContourFault}
 use Rattle.overlay_contours.specs.declared.fault.ContourFault.TheVariants.{Refused}
 use Rattle.overlay_contours.proofs.laws.Windings.{overlay_winds}
+use Rattle.overlay_contours.proofs.laws.Extracts.{ways_of}
 use Rattle.overlay_geometry.proofs.laws.lists.Elements.{Contains-from_Has}
 
 -- ---- the pairs of the segments are the edges
@@ -97,7 +103,7 @@ overlay_is_ordered subject clip =
 -- ---- the links of a rule are segments of the arrangement
 
 abbrev link_pairs : Graph → List Pair
-link_pairs graph = map (λ l. l.pair) graph.links
+link_pairs graph = ways_of graph.links
 
 kept_pairs : (keeps : ℕ → Bool) (rule : FillRule) (segments : List WholeSegment) → link_pairs (graph_by keeps rule segments) ≡ map (λ f. f.pair) (filter (λ f. keeps f.fill) (filled rule segments))
 unfolding graph_by graph_of
@@ -191,17 +197,6 @@ planar_pairs : (segments : List WholeSegment) → is_planar segments ≡ true �
 unfolding is_planar
 planar_pairs segments h = h
 
--- the links of an overlay are ordered
-pub links_are_ordered : (settings : Settings) (fill_rule : FillRule) (rule : Bool → Bool → Bool) (given segments : List WholeSegment) (passes : ℕ) (graph : Graph) → IsOverlay settings fill_rule rule given segments passes graph → list_all is_ordered (link_pairs graph) ≡ true
-links_are_ordered settings fill_rule rule given segments passes graph o =
-    let planar = and_parts (is_map segments) (is_planar segments) o.split.planar in
-    list_all-from_Has is_ordered (link_pairs graph)
-    (λ e i. list_all-at is_ordered (pairs segments) e (map_parts segments planar.0).1 (links_stand (keeps_fill rule) fill_rule segments e (subst (λ (g : Graph). Has (link_pairs g) e) o.links i)))
-
--- the links of a graph of code
-pub graph_pairs : {I D : Type 0} (whole : I → ℤ) (links : List (OverlayLink I D)) → map (link_of whole) links ≡ (graph_with whole links).links → link_pairs (graph_with whole links) ≡ pairs_of_links whole links
-graph_pairs whole links same = ap (map (λ (l : Link). l.pair)) (sym same) ∙ map-map (λ (l : Link). l.pair) (link_of whole) links
-
 -- why a split and a build were refused
 pub reason : (settings : Settings) (subject clip : List (List Point)) (given segments : List WholeSegment) (before passes : ℕ) (fault : Fault) → given ≡ overlay_segments subject clip → IsRefused settings given segments before passes fault → IsReason settings subject clip fault
 reason settings subject clip given segments before passes Memory e r = tt
@@ -218,11 +213,36 @@ refused_as (Err e) P fault h k = subst P (sym h) k
 pub settings_are : {I : Type 0} (bits : ℕ) (solver : Solver) (splitter : SplitSolver I) → snap_limit_of splitter ≡ 256 → settings_of bits solver splitter ≡ settings_for bits solver
 settings_are bits solver splitter e = ap (λ (n : ℕ). record { start = solver.precision.start; progression = solver.precision.progression; cap = exponent_cap bits; limit = n }) e
 
+-- ---- directions
+
+run_of_link : (t : Bool) (l : Link) → run_of (record { pair = l.pair; count = of_subject (if t then pos 1 else negsuc 0) }) ≡ (if t then l else turned_link l).pair
+run_of_link true l = refl
+run_of_link false l = refl
+
+runs_of_links : (rule : Bool → Bool → Bool) (graph : Graph) → map run_of (directed_links rule graph) ≡ ways_of (arcs rule graph.links)
+unfolding directed_links direction
+runs_of_links rule graph = each graph.links
+  where
+    each : (links : List Link) → map run_of (map (λ l. record { pair = l.pair; count = of_subject (if top_value rule l.fill then pos 1 else negsuc 0) }) links) ≡ ways_of (arcs rule links)
+    each [] = refl
+    each (l ∷ links) = ap₂ (λ (e : Pair) (es : List Pair). e ∷ es) (run_of_link (top_value rule l.fill) l) (each links)
+
+less_nothing : (b : Bool) → truth b -ℤ truth false ≡ truth b
+less_nothing true = refl
+less_nothing false = refl
+
+-- in their directions as many links of an overlay start as end at each node
+pub links_flow : {I D : Type 0} (whole : I → ℤ) (links : List (OverlayLink I D)) (settings : Settings) (fill_rule : FillRule) (rule : Bool → Bool → Bool) (given segments : List WholeSegment) (passes : ℕ)
+    → IsOverlay settings fill_rule rule given segments passes (graph_with whole links) → IsBalanced given → map (link_of whole) links ≡ (graph_with whole links).links → IsFlow (arcs rule (map (link_of whole) links))
+links_flow whole links settings fill_rule rule given segments passes o balanced same =
+    subst (λ (ls : List Link). IsFlow (arcs rule ls)) (sym same) (flow_from_balance rule (kept_of whole links) (o.balanced balanced).boundary.closed)
+
 -- ---- the polygon theorem
 
 module _ (settings : Settings) (rule : OverlayRule) (fill_rule : FillRule) (subject clip answer : List (List Point)) (given segments : List WholeSegment) (passes : ℕ) (graph : Graph)
     (is_given : given ≡ overlay_segments subject clip) (o : IsOverlay settings fill_rule (holds rule) given segments passes graph) (region : EnclosesOverlay settings rule fill_rule given passes graph)
-    (count : (test : Pair → Bool) → count_by test (edges answer) ≡ count_by test (link_pairs graph)) (paints : (p : RationalPoint) → is_painted answer p ≡ encloses graph p) where
+    (count : (test : Pair → Bool) → count_by test (edges answer) ≡ count_by test (link_pairs graph)) (paints : (p : RationalPoint) → is_painted answer p ≡ encloses graph p) (balanced : IsBalanced given)
+    (runs : (test : Pair → Bool) → count_by test (directed_edges answer) ≡ count_by test (ways_of (arcs (holds rule) graph.links))) (winds : (p : RationalPoint) → overlay_winding answer [] p ≡ winding_below (directed_links (holds rule) graph) p) (proper : AreProper answer) where
   planar : (is_map segments ≡ true) × (is_planar segments ≡ true)
   planar = and_parts (is_map segments) (is_planar segments) o.split.planar
 
@@ -234,14 +254,28 @@ module _ (settings : Settings) (rule : OverlayRule) (fill_rule : FillRule) (subj
   arrangement : pairs segments ≡ pairs (after_passes settings (overlay_segments subject clip) passes)
   arrangement = ap pairs o.split.arrangement ∙ ap (λ (l : List WholeSegment). pairs (after_passes settings l passes)) is_given
 
+  far_given : (p : RationalPoint) → IsFarFrom settings subject clip passes p → IsFar (reach_of_run settings given passes) p (pairs given)
+  far_given p far =
+      subst (λ (l : List WholeSegment). IsFar (reach_of_run settings l passes) p (pairs l)) (sym is_given)
+      (subst (λ (l : List Pair). IsFar (reach_of_run settings (overlay_segments subject clip) passes) p l) (sym (overlay_pairs subject clip)) far)
+
+  winds_there : (p : RationalPoint) → winding_below given p ≡ overlay_winding subject clip p
+  winds_there p = ap (λ (l : List WholeSegment). winding_below l p) is_given ∙ overlay_winds subject clip p
+
   region_here : (p : RationalPoint) → 0 < p.bottom → IsFarFrom settings subject clip passes p → is_painted answer p ≡ differ (holds rule false false) (is_in_overlay rule fill_rule subject clip p)
   unfolding value_at
-  region_here p some far =
-      let far_given : IsFar (reach_of_run settings given passes) p (pairs given) =
-      subst (λ (l : List WholeSegment). IsFar (reach_of_run settings l passes) p (pairs l)) (sym is_given)
-      (subst (λ (l : List Pair). IsFar (reach_of_run settings (overlay_segments subject clip) passes) p l) (sym (overlay_pairs subject clip)) far) in
-      let wind : winding_below given p ≡ overlay_winding subject clip p = ap (λ (l : List WholeSegment). winding_below l p) is_given ∙ overlay_winds subject clip p in
-      paints p ∙ region p some far_given ∙ ap (λ (w : Winding). differ (holds rule false false) (value_at (holds rule) fill_rule w)) wind
+  region_here p some far = paints p ∙ region p some (far_given p far) ∙ ap (λ (w : Winding). differ (holds rule false false) (value_at (holds rule) fill_rule w)) (winds_there p)
+
+  winds_here : (p : RationalPoint) → 0 < p.bottom → IsFarFrom settings subject clip passes p → winding_number answer p ≡ truth (is_in_overlay rule fill_rule subject clip p) -ℤ truth (holds rule false false)
+  unfolding times_round value_at
+  winds_here p some far =
+      ap (λ (w : Winding). w.subj) (winds p ∙ o.far_boundary balanced p some (far_given p far))
+      ∙ ap (λ (w : Winding). times_round (holds rule) fill_rule w) (winds_there p)
+
+  runs_here : RunsAlongBoundary rule fill_rule (after_passes settings (overlay_segments subject clip) passes) answer
+  runs_here test =
+      runs test
+      ∙ ap (count_by test) (sym (runs_of_links (holds rule) graph) ∙ ap (map run_of) ((o.balanced balanced).boundary.sides ∙ ap (boundary (holds rule) fill_rule) (o.split.arrangement ∙ ap (λ (l : List WholeSegment). after_passes settings l passes) is_given)))
 
   pub polygon_overlay : IsPolygonOverlay settings rule fill_rule subject clip answer
   polygon_overlay = record {
@@ -249,6 +283,10 @@ module _ (settings : Settings) (rule : OverlayRule) (fill_rule : FillRule) (subj
     count = subst (λ (l : List WholeSegment). IsPassCount settings l passes) is_given o.split.count;
     region = region_here;
     named = λ outside p some far. region_here p some far ∙ ap (λ (b : Bool). differ b (is_in_overlay rule fill_rule subject clip p)) outside;
+    winds = winds_here;
+    named_winds = λ outside p some far. winds_here p some far ∙ ap (λ (b : Bool). truth (is_in_overlay rule fill_rule subject clip p) -ℤ truth b) outside ∙ less_nothing (is_in_overlay rule fill_rule subject clip p);
+    directed = runs_here;
+    proper = proper;
     reach = reach_is_bounded settings (overlay_segments subject clip) passes;
     exact = λ whole_crossings.
         exact_input_reaches_nothing settings (overlay_segments subject clip) (after_passes settings (overlay_segments subject clip) passes) passes (has_changed settings (overlay_segments subject clip) passes) (overlay_is_ordered subject clip) whole_crossings

@@ -97,7 +97,7 @@ module _ (p : RationalPoint) (shape_type : ShapeType) where
           sym (ap₂ (λ (u v : Bool). made shape_type (cond u (pos 1) (cond v (negsuc 0) (pos 0)))) (not_below s p same.0) (not_below (turned s) p same.1) ∙ made-zero shape_type)
       by false e = counts s
 
-  contours_wind : (contours : List (List Point)) → gathered add empty (λ s. cond (lies_below s.pair p) (weight s.count) empty) (contour_segments shape_type contours) ≡ made shape_type (winding_number contours p)
+  pub contours_wind : (contours : List (List Point)) → gathered add empty (λ s. cond (lies_below s.pair p) (weight s.count) empty) (contour_segments shape_type contours) ≡ made shape_type (winding_number contours p)
   unfolding contour_segments winding_number
   contours_wind contours =
       gathered-map add empty (λ (s : WholeSegment). cond (lies_below s.pair p) (weight s.count) empty) (step_segment shape_type) (filter is_edge (steps contours))

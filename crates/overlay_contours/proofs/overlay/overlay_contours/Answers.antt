@@ -1,19 +1,22 @@
-use Rattle.std.proofs.Common.{sym, ap, subst, ◌∙◌, ℕ, IsTrue, List}
+use Rattle.std.proofs.Common.{sym, ap, subst, ◌∙◌, ℕ, List}
 use Rattle.std.specs.Prelude.{count_by}
-use Rattle.std.specs.List.{list_all}
-use Rattle.overlay_geometry.specs.Points.{Point, Pair, is_ordered}
+use Rattle.overlay_geometry.specs.Points.{Point}
 use Rattle.overlay_base.specs.Rules.{holds}
 use Rattle.overlay_base.specs.Segments.{WholeSegment}
 use Rattle.overlay_base.specs.SegmentOf.{segments_of}
 use Rattle.overlay_split.specs.Run.{Settings}
 use Rattle.overlay_split.specs.SettingsOf.{passes_of, settings_of}
+use Rattle.overlay_build.specs.DirectedWalks.{arcs}
+use Rattle.overlay_build.specs.Graph.{Link}
 use Rattle.overlay_build.specs.GraphOf.{graph_with}
 use Rattle.overlay_build.specs.OverlayGraphOf.{links_of}
 use Rattle.overlay_contours.specs.ContoursOf.{contours_of}
 use Rattle.overlay_contours.specs.Polygons.{settings_for, IsPolygonOverlay}
 use Rattle.overlay_contours.specs.Refusals.{IsReason, IsRefusal}
 use Rattle.overlay_base.specs.declared.segm.fault.Fault.{Fault}
-use Rattle.overlay_contours.proofs.laws.Overlays.{graph_pairs, links_are_ordered, polygon_overlay, settings_are, reason, refused_as}
+use Rattle.overlay_contours.proofs.laws.Extracts.{ways_of}
+use Rattle.overlay_contours.proofs.laws.GraphContours.{graph_pairs}
+use Rattle.overlay_contours.proofs.laws.Overlays.{links_flow, polygon_overlay, settings_are, reason, refused_as}
 use Rattle.overlay_contours.proofs.overlay.overlay_contours.Goals as goal
 
 pub returns-in_err-graph-clause-refused : goal.returns-in_err-graph-clause-refused
@@ -31,21 +34,13 @@ returns-in_err-graph-clause-refused g c =
     refused_as c.from_residual-in_err-graph.result (IsRefusal (whole g.I.OverlayInt.MIN_COORD) (whole g.I.OverlayInt.MAX_COORD) settings subject clip) fault c.from_residual-in_err-graph.ensures.1
     (c.in_ok-test_range.ensures.in_range, c.in_ok-test_range-2.ensures.in_range, known)
 
-pub contours_of_graph-requires-clause-ordered : goal.contours_of_graph-requires-clause-ordered
-contours_of_graph-requires-clause-ordered g c =
-    let whole = g.I.OverlayInt.whole in
+pub directed_contours_of_graph-requires : goal.directed_contours_of_graph-requires
+directed_contours_of_graph-requires g c =
     let graph = c.in_ok-graph.graph in
-    let links = links_of graph in
-    let e = c.in_ok-graph.ensures in
     let settings : Settings = settings_of g.I.OverlayInt.BITS c.args.solver.now c.new-splitter.result in
     let given : List WholeSegment = segments_of c.in_ok-sides.sides.items in
     let segments : List WholeSegment = segments_of c.split_and_build_overlay.new.segments.items in
-    let passes : ℕ = passes_of c.split_and_build_overlay.new.splitter in
-    subst (λ (l : List Pair). IsTrue (list_all is_ordered l)) (graph_pairs whole links graph.holds.same_links)
-    (links_are_ordered settings c.args.fill_rule (holds c.args.overlay_rule) given segments passes (graph_with whole links) e.overlay)
-
-pub contours_of_graph-requires-clause-even : goal.contours_of_graph-requires-clause-even
-contours_of_graph-requires-clause-even g c = let balanced = c.in_ok-graph.ensures.overlay.balanced c.in_ok-sides.ensures.balanced in balanced.even
+    links_flow g.I.OverlayInt.whole (links_of graph) settings c.args.fill_rule (holds c.args.overlay_rule) given segments (passes_of c.split_and_build_overlay.new.splitter) c.in_ok-graph.ensures.overlay c.in_ok-sides.ensures.balanced graph.holds.same_links
 
 pub returns-in_err-contours-clause-refused : goal.returns-in_err-contours-clause-refused
 returns-in_err-contours-clause-refused g c =
@@ -74,4 +69,6 @@ returns-clause-polygons g c =
     subst (λ (s : Settings). IsPolygonOverlay s c.args.overlay_rule c.args.fill_rule subject clip answer) (settings_are g.I.OverlayInt.BITS c.args.solver.now c.new-splitter.result c.new-splitter.ensures.limit)
     (polygon_overlay settings c.args.overlay_rule c.args.fill_rule subject clip answer given segments passes (graph_with whole links) c.in_ok-sides.ensures.segments e.overlay (e.region c.in_ok-sides.ensures.balanced)
     (λ test. c.in_ok-contours.ensures.edges test ∙ sym (ap (count_by test) (graph_pairs whole links graph.holds.same_links)))
-    c.in_ok-contours.ensures.painted)
+    c.in_ok-contours.ensures.painted c.in_ok-sides.ensures.balanced
+    (λ test. c.in_ok-contours.ensures.directed test ∙ ap (λ (l : List Link). count_by test (ways_of (arcs (holds c.args.overlay_rule) l))) graph.holds.same_links)
+    c.in_ok-contours.ensures.winds c.in_ok-contours.ensures.proper)
