@@ -6,7 +6,7 @@ use overlay_text::settings::{Command, Engine, Settings, SquaredRadius};
 use overlay_text::stop::Stop;
 use overlay_text::words::read_words;
 use std::alloc::Global;
-use std::test::Fail;
+use std::process::Abort;
 
 const UNCHOSEN: Settings = Settings {
     engine: Engine::I32,
@@ -21,12 +21,12 @@ const UNCHOSEN: Settings = Settings {
     radius: SquaredRadius { squared: 1 },
 };
 
-const ENGINE_WORDS: [(&str, Engine); 2] = [
+static ENGINE_WORDS: [(&str, Engine); 2] = [
     ("engine=i16", Engine::I16),
     ("engine=i32", Engine::I32),
 ];
 
-const STRATEGY_WORDS: [(&str, Strategy); 4] = [
+static STRATEGY_WORDS: [(&str, Strategy); 4] = [
     ("strategy=list", Strategy::List),
     ("strategy=tree", Strategy::Tree),
     ("strategy=frag", Strategy::Frag),
@@ -34,7 +34,7 @@ const STRATEGY_WORDS: [(&str, Strategy); 4] = [
 ];
 
 /// The exponent of the first radius, and what each pass adds to it.
-const PRECISION_WORDS: [(&str, usize, usize); 10] = [
+static PRECISION_WORDS: [(&str, usize, usize); 10] = [
     ("precision=absolute", 0, 0),
     ("precision=high", 0, 1),
     ("precision=medium-high", 1, 1),
@@ -47,7 +47,7 @@ const PRECISION_WORDS: [(&str, usize, usize); 10] = [
     ("precision=999999999,999999999", 999999999, 999999999),
 ];
 
-const FILL_WORDS: [(&str, FillRule); 4] = [
+static FILL_WORDS: [(&str, FillRule); 4] = [
     ("fill=evenodd", FillRule::EvenOdd),
     ("fill=nonzero", FillRule::NonZero),
     ("fill=positive", FillRule::Positive),
@@ -68,7 +68,7 @@ const RULE_WORDS: [(&str, Option<OverlayRule>); 8] = [
     ("rule=all", None),
 ];
 
-const LIMIT_WORDS: [(&str, u32); 6] = [
+static LIMIT_WORDS: [(&str, u32); 6] = [
     ("limit=0", 0),
     ("limit=1", 1),
     ("limit=256", 256),
@@ -101,77 +101,112 @@ const RADIUS_WORDS: [(&str, SquaredRadius); 6] = [
     ),
 ];
 
-/// The settings that one word after the command's chooses.
-fn chosen(alloc: Global, word: &str) -> Result<Settings, Stop> {
-    let words = [
-        String::from_str(alloc, "split")?,
-        String::from_str(alloc, word)?,
-    ];
-    Ok(read_words(&words)?.1)
+/// What a command's word chooses, and one word after it where there is one.
+fn chosen(alloc: Global, name: &str, word: Option<&str>) -> Result<(Command, Settings), Stop> {
+    let mut words = Vec::new(alloc);
+    words.push(String::from_str(alloc, name)?)?;
+    if let Some(word) = word {
+        words.push(String::from_str(alloc, word)?)?;
+    }
+    read_words(&words)
+}
+
+/// Asks for the command and the settings that these words choose.
+fn expect_choice<H: Abort + AllocGlobal>(
+    rt: &H,
+    name: &str,
+    word: Option<&str>,
+    command: Command,
+    settings: Settings,
+) {
+    assert_eq!(rt; chosen(rt.alloc(), name, word), Ok((command, settings)));
+}
+
+/// Asks for the settings that one word after the command's chooses.
+fn expect_settings<H: Abort + AllocGlobal>(rt: &H, word: &str, settings: Settings) {
+    expect_choice(rt, "split", Some(word), Command::Split, settings);
 }
 
 #[test]
-fn choices_of_passes(rt: HostRuntime) {
+fn choices_of_engines(rt: HostRuntime) {
     for (word, engine) in ENGINE_WORDS {
-        assert_eq!(rt;
-            chosen(rt.alloc(), word),
-            Ok(Settings { engine, ..UNCHOSEN })
-        );
+        expect_settings(&rt, word, Settings { engine, ..UNCHOSEN });
     }
+}
+
+#[test]
+fn choices_of_strategies(rt: HostRuntime) {
     for (word, strategy) in STRATEGY_WORDS {
-        assert_eq!(rt;
-            chosen(rt.alloc(), word),
-            Ok(Settings {
+        expect_settings(
+            &rt,
+            word,
+            Settings {
                 strategy,
                 ..UNCHOSEN
-            })
+            },
         );
     }
+}
+
+#[test]
+fn choices_of_precisions(rt: HostRuntime) {
     for (word, start, progression) in PRECISION_WORDS {
         let precision = Precision { start, progression };
-        assert_eq!(rt;
-            chosen(rt.alloc(), word),
-            Ok(Settings {
+        expect_settings(
+            &rt,
+            word,
+            Settings {
                 precision,
                 ..UNCHOSEN
-            })
+            },
         );
     }
 }
 
 #[test]
-fn choices_of_answers(rt: HostRuntime) {
+fn choices_of_fill_rules(rt: HostRuntime) {
     for (word, fill_rule) in FILL_WORDS {
-        assert_eq!(rt;
-            chosen(rt.alloc(), word),
-            Ok(Settings {
+        expect_settings(
+            &rt,
+            word,
+            Settings {
                 fill_rule,
                 ..UNCHOSEN
-            })
-        );
-    }
-    for (word, rule) in RULE_WORDS {
-        assert_eq!(rt; chosen(rt.alloc(), word), Ok(Settings { rule, ..UNCHOSEN }));
-    }
-    for (word, snap_limit) in LIMIT_WORDS {
-        assert_eq!(rt;
-            chosen(rt.alloc(), word),
-            Ok(Settings {
-                snap_limit,
-                ..UNCHOSEN
-            })
-        );
-    }
-    for (word, radius) in RADIUS_WORDS {
-        assert_eq!(rt;
-            chosen(rt.alloc(), word),
-            Ok(Settings { radius, ..UNCHOSEN })
+            },
         );
     }
 }
 
 #[test]
-fn commands(rt: HostRuntime) -> Result<(), Fail> {
+fn choices_of_rules(rt: HostRuntime) {
+    for (word, rule) in RULE_WORDS {
+        expect_settings(&rt, word, Settings { rule, ..UNCHOSEN });
+    }
+}
+
+#[test]
+fn choices_of_limits(rt: HostRuntime) {
+    for (word, snap_limit) in LIMIT_WORDS {
+        expect_settings(
+            &rt,
+            word,
+            Settings {
+                snap_limit,
+                ..UNCHOSEN
+            },
+        );
+    }
+}
+
+#[test]
+fn choices_of_radii(rt: HostRuntime) {
+    for (word, radius) in RADIUS_WORDS {
+        expect_settings(&rt, word, Settings { radius, ..UNCHOSEN });
+    }
+}
+
+#[test]
+fn commands(rt: HostRuntime) {
     for (name, command) in [
         ("join", Command::Join),
         ("cross", Command::Cross),
@@ -179,8 +214,6 @@ fn commands(rt: HostRuntime) -> Result<(), Fail> {
         ("graph", Command::Graph),
         ("walks", Command::Walks),
     ] {
-        let words = [String::from_str(rt.alloc(), name)?];
-        assert_eq!(rt; read_words(&words), Ok((command, UNCHOSEN)));
+        expect_choice(&rt, name, None, command, UNCHOSEN);
     }
-    Ok(())
 }

@@ -28,14 +28,14 @@ fn list<I: OverlayInt>(
 }
 
 /// One step each, and whether it is short enough to be split.
-const WIDE_STEPS: [(&[Step<i32>], bool); 4] = [
+static WIDE_STEPS: [(&[Step<i32>], bool); 4] = [
     (&[((0, 0), (524_288, 0))], true),
     (&[((0, 0), (1_073_741_824, 0))], false),
     (&[((0, -1_073_741_825), (0, 0))], false),
     (&[((0, 0), (1_073_741_823, -1_073_741_824))], true),
 ];
 
-const NARROW_STEPS: [(&[Step<i16>], bool); 2] = [
+static NARROW_STEPS: [(&[Step<i16>], bool); 2] = [
     (&[((0, 16_384), (1, 0))], false),
     (&[((-16_384, 16_383), (16_383, -16_384))], true),
 ];
@@ -59,7 +59,7 @@ fn coordinates_at_the_limits(rt: HostRuntime) -> Result<(), Fail> {
     Ok(())
 }
 
-const LISTS: [(&str, &[Step<i32>], bool); 8] = [
+static LISTS: [(&str, &[Step<i32>], bool); 8] = [
     ("nothing", &[], true),
     ("a shared end", &[((0, 0), (4, 0)), ((4, 0), (4, 4))], true),
     ("not in order", &[((4, 0), (4, 4)), ((0, 0), (4, 0))], false),

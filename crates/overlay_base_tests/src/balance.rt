@@ -13,7 +13,7 @@ use std::test::Fail;
 /// From, to, and the count for the subject and for the clip.
 type Row = ((i32, i32), (i32, i32), (i32, i32));
 
-const LISTS: [(&str, &[Row], bool); 9] = [
+static LISTS: [(&str, &[Row], bool); 9] = [
     ("nothing", &[], true),
     (
         "a square",

@@ -5,7 +5,7 @@ use overlay_base::segm::segment_fill::SegmentFill;
 use std::test::Fail;
 
 /// Inverted, boundary included, and the fills that are kept.
-const TABLES: [(bool, bool, &[SegmentFill]); 4] = [
+static TABLES: [(bool, bool, &[SegmentFill]); 4] = [
     (false, true, &[5, 6, 7, 9, 10, 11, 13, 14, 15]),
     (false, false, &[7, 11, 15]),
     (true, true, &[4, 8, 12]),

@@ -29,7 +29,7 @@ type Join = (
     &'static [Row],
 );
 
-const JOINS: [Join; 9] = [
+static JOINS: [Join; 9] = [
     ("nothing", &[], Ok(false), &[]),
     (
         "three on one pair",

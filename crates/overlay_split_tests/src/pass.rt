@@ -99,7 +99,7 @@ type Worked = (
     Passed,
 );
 
-const PASSES: [Worked; 10] = [
+static PASSES: [Worked; 10] = [
     (
         "an exact crossing",
         &[[-2, 0, 2, 0], [0, -2, 0, 2]],

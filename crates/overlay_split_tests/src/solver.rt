@@ -28,7 +28,7 @@ type Counted<I> = Segment<ShapeCountBoolean, I, ()>;
 /// A segment as the tables write it: from, to, the count for the subject.
 type Row = ((i64, i64), (i64, i64), i32);
 
-const STRATEGIES: [Strategy; 4] = [
+static STRATEGIES: [Strategy; 4] = [
     Strategy::List,
     Strategy::Tree,
     Strategy::Frag,
@@ -56,7 +56,7 @@ type Split = (
     &'static [Row],
 );
 
-const SPLITS: [Split; 23] = [
+static SPLITS: [Split; 23] = [
     ("nothing", Precision::HIGH, 256, &[], Ok(false), 0, &[]),
     (
         "two that cancel",
@@ -510,7 +510,7 @@ fn splits(rt: HostRuntime) {
 }
 
 /// Three segments that are nearly parallel.
-const SLIVERS: [Row; 3] = [
+static SLIVERS: [Row; 3] = [
     ((282, 3), (1000, 0), 1),
     ((143, 2), (886, 1), 1),
     ((164, 2), (705, 1), 1),
@@ -541,7 +541,7 @@ fn split_slivers(
 /// Segments on one pair of ends, some of them given from right to left: the counts of the one that is left.
 type Joined = (&'static [((i32, i32), (i32, i32), i32, i32)], (i32, i32));
 
-const JOINED: [Joined; 2] = [
+static JOINED: [Joined; 2] = [
     (
         &[
             ((1, 2), (3, 4), 1, 0),
@@ -745,7 +745,7 @@ fn overlapping(rt: &(impl Abort + AllocGlobal)) -> Vec<Colored> {
     list
 }
 
-const OVERLAP: [ColoredRow; 3] = [
+static OVERLAP: [ColoredRow; 3] = [
     ((0, 0), (2, 0), 1, 0, RED),
     ((2, 0), (4, 0), 1, 1, UNDEFINED),
     ((4, 0), (6, 0), 0, 1, GREEN),
@@ -763,7 +763,7 @@ fn colors_of_an_overlap(rt: HostRuntime) {
     }
 }
 
-const BEND: [ColoredRow; 3] = [
+static BEND: [ColoredRow; 3] = [
     ((0, 0), (1, -50), -1, 0, RED),
     ((0, 0), (1, 50), 1, 0, RED),
     ((0, 0), (100, 1), 1, 0, RED),
@@ -808,7 +808,7 @@ const CROSS: [Row; 2] = [((-2, 0), (2, 0), 1), ((0, -2), (0, 2), 1)];
 const LARGE: [Row; 2] = [((0, 0), (4, 0), i32::MAX), ((0, 0), (4, 0), i32::MAX)];
 
 /// Splits, one after the other, with one splitter.
-const IN_TURN: [(&[Row], Result<bool, Fault>); 3] = [
+static IN_TURN: [(&[Row], Result<bool, Fault>); 3] = [
     (&CROSS, Ok(true)),
     (&LARGE, Err(Fault::CountOutOfRange)),
     (&CROSS, Ok(true)),

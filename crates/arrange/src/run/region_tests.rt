@@ -1,7 +1,7 @@
 // What the links of an overlay enclose, asked at places of a lattice and compared with the contours that were given, by
 // a count of crossings of this file's own. All coordinates are doubled, so that places stand between whole points.
 
-use super::tests::{TWO_SQUARES, run_words};
+use super::tests::{TWO_SQUARES, expect, run_words};
 use super::*;
 use overlay_text::number::{short_number, signed_number};
 use std::alloc::AllocError;
@@ -9,14 +9,14 @@ use std::process::Abort;
 use std::test::Fail;
 
 /// Two triangles, a star and a bow tie, whose crossings are not at whole points.
-const INPUTS: [&str; 3] = [
+static INPUTS: [&str; 3] = [
     "S 0 0 31 7\nS 31 7 5 29\nS 5 29 0 0\nC 30 0 33 31\nC 33 31 2 13\nC 2 13 30 0\n",
     "S 0 11 40 14\nS 40 14 7 37\nS 7 37 21 0\nS 21 0 33 38\nS 33 38 0 11\nC 5 5 36 9\nC 36 9 30 33\nC 30 33 5 5\n",
     "S 0 0 37 23\nS 37 23 37 2\nS 37 2 0 25\nS 0 25 0 0\nC 11 0 29 1\nC 29 1 26 27\nC 26 27 13 24\nC 13 24 11 0\n",
 ];
 
 /// How far, in halves, passes of the default precision move things at most: those before the last one move them.
-const REACHES: [(&str, i64); 5] = [
+static REACHES: [(&str, i64); 5] = [
     ("passes 1\n", 0),
     ("passes 2\n", 4),
     ("passes 3\n", 8),
@@ -24,7 +24,7 @@ const REACHES: [(&str, i64); 5] = [
     ("passes 5\n", 20),
 ];
 
-const RULES: [&str; 7] = [
+static RULES: [&str; 7] = [
     "subject",
     "clip",
     "intersect",
@@ -53,20 +53,22 @@ fn doubled(word: Option<&str>) -> Option<i64> {
     Some(signed_number(word?.as_bytes())?.wrapping_mul(2))
 }
 
+/// A point by its two words.
+fn place_of(x: Option<&str>, y: Option<&str>) -> Option<Place> {
+    Some(Place {
+        x: doubled(x)?,
+        y: doubled(y)?,
+    })
+}
+
 /// The four numbers of a line that begins with this letter or word.
 fn way_of(line: &str, first: &str) -> Option<Way> {
     let mut words = line.split(' ');
     if words.next()? != first {
         return None;
     }
-    let from = Place {
-        x: doubled(words.next())?,
-        y: doubled(words.next())?,
-    };
-    let to = Place {
-        x: doubled(words.next())?,
-        y: doubled(words.next())?,
-    };
+    let from = place_of(words.next(), words.next())?;
+    let to = place_of(words.next(), words.next())?;
     Some(Way { from, to })
 }
 
@@ -168,6 +170,20 @@ struct Given {
     reach: i64,
 }
 
+/// Asks whether the links enclose a place where the rule wants it.
+fn ask_place<H: Abort>(rt: &H, given: &Given, rule: &str, links: &[Way], place: Place) {
+    let subj = winding(&given.subject, place) != 0;
+    let clip = winding(&given.clip, place) != 0;
+    let enclosed = is_enclosed(links, place);
+    assert_eq!(rt;
+        enclosed,
+        wanted(rule, subj, clip),
+        "{rule} {} {}",
+        place.x,
+        place.y
+    );
+}
+
 /// Asks at the places of a lattice that are far from all that is given, and answers how many these are.
 fn ask_lattice<H: Abort>(rt: &H, given: &Given, rule: &str, links: &[Way]) -> usize {
     let mut far: usize = 0;
@@ -178,16 +194,7 @@ fn ask_lattice<H: Abort>(rt: &H, given: &Given, rule: &str, links: &[Way]) -> us
             if are_far(&given.subject, place, given.reach)
                 && are_far(&given.clip, place, given.reach)
             {
-                let subj = winding(&given.subject, place) != 0;
-                let clip = winding(&given.clip, place) != 0;
-                let enclosed = is_enclosed(links, place);
-                assert_eq!(rt;
-                    enclosed,
-                    wanted(rule, subj, clip),
-                    "{rule} {} {}",
-                    place.x,
-                    place.y
-                );
+                ask_place(rt, given, rule, links, place);
                 far = far.wrapping_add(1);
             }
             place.y = place.y.wrapping_add(6);
@@ -203,7 +210,7 @@ fn written<H: Abort + AllocGlobal>(rt: &H, words: &str, lines: &str) -> Result<S
     let mut output = Vec::new(rt.alloc());
     let mut faults = Vec::new(rt.alloc());
     let status = run_words(rt.alloc(), words, &mut input, &mut output, &mut faults)?;
-    assert_eq!(rt; status, 0);
+    expect(rt, status == 0, words);
     Ok(String::from_utf8(output)?)
 }
 
@@ -226,13 +233,13 @@ fn links_enclose_the_region_of_a_rule(rt: HostRuntime) -> Result<(), Fail> {
             clip: ways_of(rt.alloc(), lines, "C")?,
             reach: reach_of(split.as_str()).ok_or("more passes than that")?,
         };
-        assert!(rt; given.reach > 0, "nothing is snapped");
+        expect(&rt, given.reach > 0, "something is snapped");
         for rule in RULES {
             let words = format!(in rt.alloc(); "graph|rule={rule}")?;
             let graph = written(&rt, words.as_str(), lines)?;
             let links = ways_of(rt.alloc(), graph.as_str(), "link")?;
             let far = ask_lattice(&rt, &given, rule, &links);
-            assert!(rt; far > 60, "few places are far");
+            expect(&rt, far > 60, "many places are far");
         }
     }
     Ok(())
@@ -279,19 +286,37 @@ fn share_end(first: Way, second: Way) -> bool {
         || same(first.to, second.to)
 }
 
+/// The link with the number that a word says. Where it was used before, or none has this number, the answer is why.
+fn link_of(word: &str, links: &[Way], used: &mut [bool]) -> Result<Way, &'static str> {
+    let index = short_number(word).ok_or("no number")? as usize;
+    let flag = used.get_mut(index).ok_or("no link")?;
+    if *flag {
+        return Err("a link stands twice");
+    }
+    *flag = true;
+    links.get(index).copied().ok_or("no link")
+}
+
 /// The links of one walk, by a line of the program's.
 fn walk_of(alloc: Global, line: &str, links: &[Way], used: &mut [bool]) -> Result<Vec<Way>, Fail> {
     let mut walk = Vec::new(alloc);
     for word in line.split(' ').skip(1) {
-        let index = short_number(word).ok_or("no number")? as usize;
-        walk.push(*links.get(index).ok_or("no link")?)?;
-        let flag = used.get_mut(index).ok_or("no link")?;
-        if *flag {
-            return Err(Fail::from("a link stands twice"));
-        }
-        *flag = true;
+        walk.push(link_of(word, links, used)?)?;
     }
     Ok(walk)
+}
+
+/// Asks that each link of a walk leads on to the next, and the last one to the first.
+fn ask_walk<H: Abort>(rt: &H, walk: &[Way], line: &str) {
+    let Some(last) = walk.last() else {
+        expect(rt, false, "an empty walk");
+        return;
+    };
+    let mut before = *last;
+    for link in walk {
+        expect(rt, share_end(before, *link), line);
+        before = *link;
+    }
 }
 
 /// Asks that each link of a walk leads on to the next, the last one to the first, and that each link stands in one
@@ -303,13 +328,9 @@ fn ask_walks<H: Abort + AllocGlobal>(rt: &H, text: &str, links: &[Way]) -> Resul
             continue;
         }
         let walk = walk_of(rt.alloc(), line, links, &mut used)?;
-        let mut before = *walk.last().ok_or("an empty walk")?;
-        for link in &walk {
-            assert!(rt; share_end(before, *link), "{line}");
-            before = *link;
-        }
+        ask_walk(rt, &walk, line);
     }
-    assert!(rt; used.iter().all(|flag| *flag), "a link is left out");
+    expect(rt, used.iter().all(|flag| *flag), "no link is left out");
     Ok(())
 }
 
@@ -338,7 +359,7 @@ const FOUR_TRIANGLES: &str =
 S 0 0 -4 1\nS -4 1 -4 -1\nS -4 -1 0 0\nS 0 0 -1 -4\nS -1 -4 1 -4\nS 1 -4 0 0\n";
 
 /// The lines, the rule, and a node of the graph: of the two squares one where four links meet, and one of eight.
-const MANY_LINKS_AT_A_NODE: [(&str, &str, &str); 2] = [
+static MANY_LINKS_AT_A_NODE: [(&str, &str, &str); 2] = [
     (TWO_SQUARES, "xor", "node 2 4 cross 5 6 2 3\n"),
     (
         FOUR_TRIANGLES,
@@ -352,9 +373,9 @@ fn walks_through_nodes_of_many_links(rt: HostRuntime) -> Result<(), Fail> {
     for (lines, rule, node) in MANY_LINKS_AT_A_NODE {
         let graph_words = format!(in rt.alloc(); "graph|rule={rule}")?;
         let graph = written(&rt, graph_words.as_str(), lines)?;
-        assert!(rt; graph.contains(node), "{rule}");
+        expect(&rt, graph.contains(node), rule);
         let links = ways_of(rt.alloc(), graph.as_str(), "link")?;
-        assert_eq!(rt; links.len(), 12, "{rule}");
+        expect(&rt, links.len() == 12, rule);
         let walk_words = format!(in rt.alloc(); "walks|rule={rule}")?;
         let walks = written(&rt, walk_words.as_str(), lines)?;
         ask_walks(&rt, walks.as_str(), &links)?;

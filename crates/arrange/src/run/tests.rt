@@ -592,7 +592,7 @@ valid true
 ";
 
 /// The links of the graph of all segments, but for the numbers of their nodes.
-const LINKS: [&str; 12] = [
+static LINKS: [&str; 12] = [
     "link 0 0 0 4 2 ",
     "link 0 0 4 0 1 ",
     "link 0 4 2 4 2 ",
@@ -623,7 +623,7 @@ valid true
 ";
 
 /// Which of these links each rule keeps.
-const KEPT: [(&str, &[usize]); 8] = [
+static KEPT: [(&str, &[usize]); 8] = [
     ("subject", &[0, 1, 2, 6, 8, 9]),
     ("clip", &[3, 4, 5, 7, 10, 11]),
     ("intersect", &[3, 4, 6, 9]),
@@ -761,6 +761,21 @@ pub fn run_words<R: Read, W: Write, E: Write>(
     Ok(arrange_run(alloc, words.as_slice(), input, output, faults))
 }
 
+/// Asks that something holds.
+pub fn expect<H: Abort>(rt: &H, holds: bool, what: &str) {
+    assert!(rt; holds, "{what}");
+}
+
+/// Asks for the exit status of a run over these words and this input.
+fn expect_status<H: Abort>(rt: &H, answer: u8, status: u8, words: &str, given: &[u8]) {
+    assert_eq!(rt; answer, status, "{words} {given:?}");
+}
+
+/// Asks for what such a run wrote.
+fn expect_bytes<H: Abort>(rt: &H, bytes: &[u8], wanted: &str, words: &str, given: &[u8]) {
+    assert_eq!(rt; bytes, wanted.as_bytes(), "{words} {given:?}");
+}
+
 /// Asks for the status of a run over memory, and for what it writes: to the output, or to the faults where the status
 /// is not 0.
 fn check<H: Abort + AllocGlobal>(
@@ -775,9 +790,9 @@ fn check<H: Abort + AllocGlobal>(
     let mut faults = Vec::new(rt.alloc());
     let answer = run_words(rt.alloc(), words, &mut input, &mut output, &mut faults)?;
     let (written, told) = if status == 0 { (text, "") } else { ("", text) };
-    assert_eq!(rt; answer, status, "{words} {given:?}");
-    assert_eq!(rt; output.as_slice(), written.as_bytes(), "{words} {given:?}");
-    assert_eq!(rt; faults.as_slice(), told.as_bytes(), "{words} {given:?}");
+    expect_status(rt, answer, status, words, given);
+    expect_bytes(rt, output.as_slice(), written, words, given);
+    expect_bytes(rt, faults.as_slice(), told, words, given);
     Ok(())
 }
 
@@ -797,7 +812,7 @@ fn worked_runs(rt: HostRuntime) -> Result<(), Fail> {
         check_worked(&rt, run).ok_or("no run")??;
         runs = runs.saturating_add(1);
     }
-    assert_eq!(rt; runs, 70);
+    expect(&rt, runs == 70, "70 runs");
     Ok(())
 }
 
@@ -812,6 +827,12 @@ fn graphs(rt: HostRuntime) -> Result<(), Fail> {
         }
     }
     Ok(())
+}
+
+/// Asks that a line tells the link with this index.
+fn expect_kept<H: Abort>(rt: &H, line: &[u8], index: usize, rule: &str) {
+    let link = LINKS.get(index).copied().unwrap_or("no link");
+    assert!(rt; line.starts_with(link.as_bytes()), "{rule} {index}");
 }
 
 fn check_kept<H: Abort + AllocGlobal>(
@@ -830,20 +851,15 @@ fn check_kept<H: Abort + AllocGlobal>(
         &mut output,
         &mut faults,
     )?;
-    assert_eq!(rt; answer, 0, "{rule}");
+    expect_status(rt, answer, 0, rule, b"");
     if rule == "all" {
-        assert!(rt; output.ends_with(NODES.as_bytes()));
+        expect(rt, output.ends_with(NODES.as_bytes()), "nodes of all");
     }
     let mut lines = output.split(|byte| *byte == b'\n');
     for index in kept {
-        assert!(rt; *index < LINKS.len());
-        let line = lines.next().unwrap_or(b"");
-        assert!(rt;
-            line.starts_with(LINKS[*index].as_bytes()),
-            "{rule} {index}"
-        );
+        expect_kept(rt, lines.next().unwrap_or(b""), *index, rule);
     }
-    assert!(rt; lines.next().unwrap_or(b"").starts_with(b"node "), "{rule}");
+    expect(rt, lines.next().unwrap_or(b"").starts_with(b"node "), rule);
     Ok(())
 }
 
@@ -901,11 +917,9 @@ fn refusals_are_told(rt: HostRuntime) -> Result<(), Fail> {
     ];
     for (fault, text) in texts {
         let mut faults = Vec::new(rt.alloc());
-        assert_eq!(rt;
-            refuse::<ArrangeProgram, Vec<u8>>(Stop::Refused(fault), &mut faults),
-            4
-        );
-        assert_eq!(rt; faults.as_slice(), text.as_bytes());
+        let status = refuse::<ArrangeProgram, Vec<u8>>(Stop::Refused(fault), &mut faults);
+        expect_status(&rt, status, 4, text, b"");
+        expect_bytes(&rt, faults.as_slice(), text, text, b"");
     }
     Ok(())
 }
@@ -916,9 +930,9 @@ fn no_words(rt: HostRuntime) -> Result<(), Fail> {
     let mut output = Vec::new(rt.alloc());
     let mut faults = Vec::new(rt.alloc());
     let answer = arrange_run(rt.alloc(), &[], &mut input, &mut output, &mut faults);
-    assert_eq!(rt; answer, 2);
-    assert_eq!(rt; output.as_slice(), b"".as_slice());
-    assert_eq!(rt; faults.as_slice(), USAGE.as_bytes());
+    expect_status(&rt, answer, 2, "", b"x\n");
+    expect_bytes(&rt, output.as_slice(), "", "", b"x\n");
+    expect_bytes(&rt, faults.as_slice(), USAGE, "", b"x\n");
     Ok(())
 }
 
@@ -979,7 +993,7 @@ impl Write for FailsToFlush {
 }
 
 /// How the input fails, the exit status, and what is written to the faults.
-const INPUT_FAULTS: [(ErrorKind, u8, &str); 2] = [
+static INPUT_FAULTS: [(ErrorKind, u8, &str); 2] = [
     (ErrorKind::Other, 5, "input failed\n"),
     (ErrorKind::OutOfMemory, 4, "out of memory\n"),
 ];
@@ -993,9 +1007,9 @@ fn check_failed_input<H: Abort + AllocGlobal>(
         let mut output = Vec::new(rt.alloc());
         let mut faults = Vec::new(rt.alloc());
         let answer = run_words(rt.alloc(), "join", &mut input, &mut output, &mut faults)?;
-        assert_eq!(rt; answer, status, "{bytes:?}");
-        assert_eq!(rt; output.as_slice(), b"".as_slice(), "{bytes:?}");
-        assert_eq!(rt; faults.as_slice(), fault.as_bytes(), "{bytes:?}");
+        expect_status(rt, answer, status, "join", bytes);
+        expect_bytes(rt, output.as_slice(), "", "join", bytes);
+        expect_bytes(rt, faults.as_slice(), fault, "join", bytes);
     }
     Ok(())
 }
@@ -1016,8 +1030,8 @@ fn check_failed_output<H: Abort + AllocGlobal, W: Write>(
     let mut input: &[u8] = b"";
     let mut faults = Vec::new(rt.alloc());
     let answer = run_words(rt.alloc(), "join", &mut input, output, &mut faults)?;
-    assert_eq!(rt; answer, 5);
-    assert_eq!(rt; faults.as_slice(), b"output failed\n".as_slice());
+    expect_status(rt, answer, 5, "join", b"");
+    expect_bytes(rt, faults.as_slice(), "output failed\n", "join", b"");
     Ok(())
 }
 
@@ -1040,7 +1054,7 @@ fn check_failed_faults<H: Abort + AllocGlobal>(
     let mut output = FailsWhenFull { room: 0 };
     let mut faults = FailsWhenFull { room: 3 };
     let answer = run_words(rt.alloc(), words, &mut input, &mut output, &mut faults)?;
-    assert_eq!(rt; answer, status, "{words} {given:?}");
+    expect_status(rt, answer, status, words, given);
     Ok(())
 }
 
@@ -1079,7 +1093,7 @@ impl Write for FailsOnce {
 fn nothing_follows_a_failed_write(rt: HostRuntime) -> Result<(), Fail> {
     let mut output = FailsOnce { writes: 0 };
     check_failed_output(&rt, &mut output)?;
-    assert_eq!(rt; output.writes, 3);
+    expect(&rt, output.writes == 3, "three writes");
     Ok(())
 }
 
@@ -1137,7 +1151,7 @@ const EIGHT_WORDS: [&str; 9] = [
 ];
 
 /// The words that a process was started with, the input, the status, and what is written.
-const STARTED: [(&[&str], &str, u8, &str); 5] = [
+static STARTED: [(&[&str], &str, u8, &str); 5] = [
     (&[], "x\n", 2, USAGE),
     (&["arrange"], "x\n", 2, USAGE),
     (
@@ -1174,9 +1188,9 @@ fn check_started<H: Abort + AllocGlobal>(
     let mut faults = Vec::new(rt.alloc());
     let answer = arrange(&(started, rt.alloc()), &mut input, &mut output, &mut faults);
     let (written, told) = if status == 0 { (text, "") } else { ("", text) };
-    assert_eq!(rt; answer, status, "{given}");
-    assert_eq!(rt; output.as_slice(), written.as_bytes(), "{given}");
-    assert_eq!(rt; faults.as_slice(), told.as_bytes(), "{given}");
+    expect_status(rt, answer, status, given, b"");
+    expect_bytes(rt, output.as_slice(), written, given, b"");
+    expect_bytes(rt, faults.as_slice(), told, given, b"");
 }
 
 #[test]

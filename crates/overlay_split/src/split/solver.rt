@@ -17,6 +17,7 @@ ghost use Rattle.overlay_split.specs.Pass.{cut, pass};
 ghost use Rattle.overlay_intersections.specs.PassMarks.{is_rounded, mark_count};
 ghost use Rattle.overlay_split.specs.DataPass.{data_cut, data_pass, data_after_passes, IsStoppedRun};
 ghost use Rattle.overlay_split.specs.Run.{IsRun, LeavesRange, after_passes};
+ghost use Rattle.overlay_split.specs.steps.IsAt.{IsAt};
 ghost use Rattle.overlay_split.specs.ExactInput.{is_exact_input, KeepsCounts};
 ghost use Rattle.overlay_split.specs.Laws.{HooksKeep};
 ghost use Rattle.overlay_split.specs.Nearness.{StaysNear};
@@ -264,6 +265,34 @@ impl<I: OverlayInt> SplitSolver<I> {
             self.looked = 0;
             return Ok(false);
         }
+        self.run(list, solver, store)
+    }
+
+    /// Splits as `split_segments_with_store` does, also where the list is empty.
+    fn run<C: WindingCount, D: OverlayEdgeData<C>>(
+        &mut self,
+        list: &mut Vec<Segment<C, I, D>>,
+        solver: &Solver,
+        store: &mut D::Store,
+    ) -> Result<bool, Fault>
+        requires { IsSplittable list.old.items }
+        ensures ended { IfOk result (λ flag. IsAt (hooks_of C.counted D.OverlayEdgeData.own)
+            (settings_of I.BITS solver.now self.old) (I.whole I.MIN_COORD) (I.whole I.MAX_COORD)
+            (segments_of list.old.items) (segments_of list.new.items) (data_segments_of list.old.items)
+            (data_segments_of list.new.items) store.old store.new (passes_of self.new) flag false) }
+        ensures looked { OnOk result ((grid : Option Layout) × AreRunLooks solver.now.strategy
+            (settings_of I.BITS solver.now self.old) (segments_of list.old.items) grid (passes_of self.new)
+            (looked_of self.new)) }
+        ensures emptied { OnErr result (list.new.items ≡ []) }
+        ensures stopped { IfErr result (λ fault. fault ≡ CountOutOfRange →
+            (let hooks = hooks_of C.counted D.OverlayEdgeData.own in
+            IsStoppedRun hooks (settings_of I.BITS solver.now self.old) (data_segments_of list.old.items)
+            store.old store.new)) }
+        ensures store_made { IsMadeFrom (hooks_of C.counted D.OverlayEdgeData.own) store.old store.new }
+        ensures unset { OnErr result ((passes_of self.new ≡ passes_of self.old)
+            × (looked_of self.new ≡ looked_of self.old)) }
+        ensures limit { snap_limit_of self.new ≡ snap_limit_of self.old }
+    {
         let repeated = join_with_store(list, store)?;
         let mut finder = match PairFinder::new(self.alloc, solver, list, &mut self.grid) {
             Ok(finder) => finder,

@@ -8,7 +8,7 @@ struct FarSplit {
     after: [Row; 4],
 }
 
-const WIDE_SPLITS: [FarSplit; 2] = [
+static WIDE_SPLITS: [FarSplit; 2] = [
     FarSplit {
         name: "diagonals of the wide engine",
         given: [
@@ -45,7 +45,7 @@ const WIDE_SPLITS: [FarSplit; 2] = [
     },
 ];
 
-const NARROW_SPLITS: [FarSplit; 2] = [
+static NARROW_SPLITS: [FarSplit; 2] = [
     FarSplit {
         name: "diagonals of the narrow engine",
         given: [

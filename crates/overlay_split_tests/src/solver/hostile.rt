@@ -2,7 +2,7 @@
 // small square. Each is split in both engines, at each named precision, with the snap limits 0, 1 and 256.
 use super::*;
 
-const PRECISIONS: [Precision; 6] = [
+static PRECISIONS: [Precision; 6] = [
     Precision::ABSOLUTE,
     Precision::HIGH,
     Precision::MEDIUM_HIGH,

@@ -144,10 +144,10 @@ fn crossed_lines_at_the_limit(rt: HostRuntime) {
 }
 
 /// Two segments that cross half way between two points.
-const NEAR: [Row; 2] = [((200, 0), (300, 1), 1), ((200, 1), (300, 0), 1)];
+static NEAR: [Row; 2] = [((200, 0), (300, 1), 1), ((200, 1), (300, 0), 1)];
 
 /// The same after the split.
-const SPLIT_NEAR: [Row; 4] = [
+static SPLIT_NEAR: [Row; 4] = [
     ((200, 0), (250, 1), 1),
     ((200, 1), (250, 1), 1),
     ((250, 1), (300, 0), 1),

@@ -3,7 +3,7 @@ ghost use Rattle.std.specs.Prelude.{◌≡◌, ◌+◌, ◌-◌, ◌^◌, ◌++�
 ghost use Rattle.overlay_tree.specs.steps.IntervalTree.{entries, found, is_taken_up};
 ghost use Rattle.overlay_tree.specs.steps.NodeOf.{entry_of, nodes_of, query_of};
 
-use crate::split::interval_tree::{Node, Query};
+use crate::split::interval_tree::{Node, Query, has_ended};
 use overlay_geometry::num::OverlayInt;
 use overlay_intersections::split::looks::take_up;
 use std::alloc::AllocError;
@@ -55,11 +55,4 @@ fn is_met<I: OverlayInt>(node: &Node<I>, query: &Query<I>) -> bool
     ensures { result ≡ is_taken_up (query_of I.whole query.now) (entry_of I.whole node.now) }
 {
     node.is_live && !(node.high < query.heights.min) && !(query.heights.max < node.low)
-}
-
-/// Whether the entry of a node ends left of an `x`.
-fn has_ended<I: OverlayInt>(node: &Node<I>, x: I) -> bool
-    ensures { result ≡ int_lt (entry_of I.whole node.now).end_x (I.whole x) }
-{
-    node.end_x < x
 }

@@ -134,16 +134,31 @@ fn look_at<I: OverlayInt>(
         (entry_of I.whole node.old)) }
 {
     let _looked = *looked;
-    if !node.is_live || node.high < query.heights.min {
+    if !is_met_from_below(node, query) {
         return Ok(false);
     }
     take_up(looked);
-    if node.end_x < query.x {
+    if has_ended(node, query.x) {
         node.is_live = false;
         return Ok(true);
     }
     indexes.push(node.index)?;
     Ok(false)
+}
+
+/// Whether the entry of a node that does not begin above the look-up is live and reaches it.
+fn is_met_from_below<I: OverlayInt>(node: &Node<I>, query: &Query<I>) -> bool
+    requires { IsFalse (int_lt (I.whole query.now.heights.max) (I.whole node.now.low)) }
+    ensures { result ≡ is_taken_up (query_of I.whole query.now) (entry_of I.whole node.now) }
+{
+    node.is_live && !(node.high < query.heights.min)
+}
+
+/// Whether the entry of a node ends left of an `x`.
+pub(crate) fn has_ended<I: OverlayInt>(node: &Node<I>, x: I) -> bool
+    ensures { result ≡ int_lt (entry_of I.whole node.now).end_x (I.whole x) }
+{
+    node.end_x < x
 }
 
 /// Makes the entry of a segment live. It is found by its least height and its index, and there has to be one.

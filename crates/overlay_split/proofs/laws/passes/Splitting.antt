@@ -21,6 +21,7 @@ use Rattle.overlay_split.specs.Pass.{cut, pass}
 use Rattle.overlay_intersections.specs.PassMarks.{is_rounded, mark_count}
 use Rattle.overlay_split.specs.DataPass.{data_cut, data_pass, data_after_passes, data_joined_in, IsStoppedRun}
 use Rattle.overlay_split.specs.Run.{Settings, placing_of_pass, radius_of_pass, after_passes, goes_on, has_marked, has_changed, IsPassCount, IsRun, leaves_range_within, LeavesRange}
+use Rattle.overlay_split.specs.steps.IsAt.{IsAt}
 use Rattle.overlay_split.specs.ExactInput.{is_exact_input, KeepsCounts}
 use Rattle.overlay_split.specs.Nearness.{StaysNear}
 use Rattle.overlay_split.specs.Places.{KeepsWinding}
@@ -42,18 +43,6 @@ use Rattle.overlay_split.proofs.laws.passes.DataPasses.{data_after_passes-arrang
 use Rattle.overlay_split.proofs.laws.passes.Splittable.{is_splittable-join, is_splittable-pass, settling_never_raises}
 
 -- ---- where a run stands
-
--- k passes were made, and this is the list after them, with its data and the store
-pub record IsAt {D S : Type 0} (hooks : Hooks D S) (settings : Settings) (least greatest : ℤ) (given now : List WholeSegment) (data_given data_now : List (DataSegment D)) (from store : S) (k : ℕ) (changed goes : Bool) : Type 0 where
-  pub made : (j : ℕ) → j < k → IsTrue (goes_on settings given j)
-  pub arrangement_is : now ≡ after_passes settings given k
-  pub edge_data_is : data_now ≡ (data_after_passes hooks settings data_given from k).0
-  pub store_is : store ≡ (data_after_passes hooks settings data_given from k).1
-  pub changed_is : changed ≡ has_changed settings given k
-  pub goes_is : goes ≡ goes_on settings given k
-  pub fits : IsFalse (leaves_range_within settings given k)
-  pub map : IsTrue (is_map now)
-  pub splittable : IsTrue (is_splittable least greatest now)
 
 module _ (settings : Settings) (given : List WholeSegment) where
   -- the passes so far, and the next one
@@ -159,6 +148,10 @@ module _ {D S : Type 0} (hooks : Hooks D S) (settings : Settings) (least greates
       pieces = ap (λ (q : Placing). data_cut hooks q data_now store) p ∙ ap₂ (λ (l : List (DataSegment D)) (s : S). data_cut hooks (placing_of_pass settings (suc k)) l s) at.edge_data_is at.store_is
 
   -- ---- where it ends
+
+  pub at_end : (now : List WholeSegment) (data_now : List (DataSegment D)) (store : S) (k : ℕ) (changed goes : Bool) →
+      IsAt hooks settings least greatest given now data_given data_now from store k changed goes → goes ≡ false → IsAt hooks settings least greatest given now data_given data_now from store k changed false
+  at_end now data_now store k changed goes at g = subst (λ (b : Bool). IsAt hooks settings least greatest given now data_given data_now from store k changed b) g at
 
   pub record HasEnded (now : List WholeSegment) (k : ℕ) (changed : Bool) : Type 0 where
     pub run : IsRun settings given now k changed

@@ -10,7 +10,7 @@ use Rattle.std.proofs.lemmas.List.Elements.{filter-append}
 use Rattle.std.proofs.lemmas.List.Sums.{sum_by-append, sum_by-cons}
 use Rattle.overlay_geometry.proofs.laws.lists.Lists.{list_any-from_none, none_from_list_any, AllByRecursion-weaker, AllByRecursion-both, AllByRecursion_cross, Pairwise_left, Pairwise_right}
 use Rattle.overlay_tree.specs.steps.IntervalTree.{Entry, WholeQuery, TreeNode, entries, is_at_heights, is_taken_up, is_found, is_dropped, found, left_by, inserted, StandsBefore, AreRising, live_height, greatest_height, is_reached, IsAt, IsUpTo, further, IsSummed, none, rooted}
-use Rattle.std.proofs.Math.Bool.{or-true}
+use Rattle.std.proofs.Math.Bool.{or-true, and-false}
 
 -- ---- the parts of a tree
 
@@ -162,7 +162,7 @@ later_is_above q r e h (inr same) = ap (int_lt q.high) (sym same.0) ∙ h
 pub none_above : (q : WholeQuery) (root : Entry) (right : List Entry) → int_lt q.high root.low ≡ true → AllByRecursion (StandsBefore root) right → AllByRecursion (IsNotTaken q) (root ∷ right)
 none_above q root right h k = (above q root h, AllByRecursion-weaker (StandsBefore root) (IsNotTaken q) (λ e s. above q e (later_is_above q root e h s)) right k)
 
-left_alone : (q : WholeQuery) (e : Entry) → IsNotTaken q e → left_by q e ≡ e
+pub left_alone : (q : WholeQuery) (e : Entry) → IsNotTaken q e → left_by q e ≡ e
 left_alone q e h = ap (λ (b : Bool). record e { is_live = b }) (by e.is_live (is_taken_up q e) (int_lt e.end_x q.x) h)
   where
     by : (a t c : Bool) → t ≡ false → (a && not (t && c)) ≡ a
@@ -177,7 +177,7 @@ pub none_is_dropped : (q : WholeQuery) (es : List Entry) → AllByRecursion (IsN
 none_is_dropped q es h = list_any-from_none (is_dropped q) es (AllByRecursion-weaker (IsNotTaken q) (λ e. is_dropped q e ≡ false) (λ e n. ap (λ (b : Bool). b && int_lt e.end_x q.x) n) es h)
 
 -- where none is dropped, all stay as they are
-kept : (q : WholeQuery) (e : Entry) → is_dropped q e ≡ false → left_by q e ≡ e
+pub kept : (q : WholeQuery) (e : Entry) → is_dropped q e ≡ false → left_by q e ≡ e
 kept q e h = ap (λ (b : Bool). record e { is_live = b }) (by e.is_live (is_dropped q e) h)
   where
     by : (a d : Bool) → d ≡ false → (a && not d) ≡ a
@@ -206,6 +206,18 @@ none_counted q (e ∷ es) h = sum_by-cons (λ f. cond (is_taken_up q f) 1 0) e e
 
 pub found_one : (q : WholeQuery) (e : Entry) → is_found q e ≡ true → found q (e ∷ []) ≡ e.index ∷ []
 found_one q e h = ap (λ (b : Bool). map (λ (f : Entry). f.index) (cond b (e ∷ []) [])) h
+
+-- an entry that is dropped stays as it was, but is not live
+pub left_dropped : (q : WholeQuery) (e : Entry) → is_dropped q e ≡ true → record e { is_live = false } ≡ left_by q e
+left_dropped q e h = ap (λ (b : Bool). record e { is_live = b }) (by e.is_live (is_dropped q e) h)
+  where
+    by : (a d : Bool) → d ≡ true → false ≡ (a && not d)
+    by true d h = sym (ap not h)
+    by false d h = refl
+
+-- one that is taken up and does not end is not dropped
+pub stays_whole : (q : WholeQuery) (e : Entry) → int_lt e.end_x q.x ≡ false → is_dropped q e ≡ false
+stays_whole q e h = ap (λ (b : Bool). is_taken_up q e && b) h ∙ and-false (is_taken_up q e)
 
 pub not_found : (q : WholeQuery) (e : Entry) → is_found q e ≡ false → found q (e ∷ []) ≡ []
 not_found q e h = ap (λ (b : Bool). map (λ (f : Entry). f.index) (cond b (e ∷ []) [])) h

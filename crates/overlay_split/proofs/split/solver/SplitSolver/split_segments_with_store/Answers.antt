@@ -1,46 +1,31 @@
-use Rattle.std.proofs.Common.{rules, ◌≡◌, ◌==◌, Bool, true, false, refl, sym, ap, subst, ◌∙◌, arith, ℕ, List, ◌+◌, ◌-◌, ◌^◌, ◌<◌, ◌≤◌, length}
-use Rattle.std.specs.Prelude.{ℤ, Result, Ok, Err, None, IfErr, IsErrAnd, IsTrue, nat_le}
+use Rattle.std.proofs.Common.{◌≡◌, ◌==◌, Bool, true, false, refl, sym, ap, subst, ◌∙◌, ℕ, List, length}
+use Rattle.std.specs.Prelude.{ℤ, Result, Ok, Err, None, IfOk, OnOk, IfErr}
 use Rattle.std.specs.List.{list_all}
-use Rattle.std.proofs.lemmas.Bool.{both_ways, not-true, not-false, eqb-true}
+use Rattle.std.proofs.lemmas.Bool.{eqb-true}
+use Rattle.std.proofs.lemmas.Result.{IfOk-weaker, on_err_weaker}
+use Rattle.overlay_split.specs.steps.IsAt.{IsAt}
 use Rattle.overlay_base.specs.declared.segm.fault.Fault.{Fault}
 use Rattle.overlay_base.specs.declared.segm.fault.Fault.TheVariants.{CountOutOfRange}
 use Rattle.overlay_base.specs.declared.segm.segment.Segment.{Segment}
 use Rattle.overlay_base.specs.Segments.{WholeSegment}
-use Rattle.overlay_base.specs.EdgeData.{DataSegment, Hooks}
+use Rattle.overlay_base.specs.EdgeData.{Hooks}
 use Rattle.overlay_base.specs.HooksOf.{hooks_of}
-use Rattle.overlay_base.specs.Radius.{exponent_cap}
-use Rattle.overlay_base.specs.SegmentOf.{segment_of, segments_of, data_segments_of}
-use Rattle.overlay_base.proofs.laws.joins.Rests.{is_splittable-valid}
+use Rattle.overlay_base.specs.SegmentOf.{segments_of, data_segments_of}
 use Rattle.overlay_base.proofs.laws.joins.Views.{segments_ordered, segments_of-bare}
-use Rattle.overlay_split.specs.DataPass.{IsStoppedRun, data_after_passes}
+use Rattle.overlay_split.specs.DataPass.{IsStoppedRun}
 use Rattle.overlay_split.specs.Run.{Settings, LeavesRange}
-use Rattle.overlay_split.specs.SettingsOf.{settings_of}
+use Rattle.overlay_split.specs.SettingsOf.{settings_of, passes_of}
 use Rattle.overlay_split.proofs.laws.passes.DataInvariants.{data_keeps_what_hooks_keep}
 use Rattle.overlay_split.proofs.laws.passes.StoppedRuns.{stopped_run_leaves_range}
-use Rattle.overlay_split.proofs.laws.passes.Splitting.{IsAt, HasEnded, at_rest, at_start, at_next, stopped_at_start, stopped_at, has_ended, stays_arranged, snaps_at, settles, falls_from, potential_bound, exponent_grows, segments_none, goes_on-is, starts-is, keeps_room, few_enough}
-use Rattle.overlay_base.specs.declared.overlay_core.solver.Solver.{Solver}
-use Rattle.overlay_base.specs.Planar.{is_splittable}
-use Rattle.overlay_base.proofs.laws.joins.Maps.{is_map-join}
-use Rattle.overlay_split.proofs.laws.passes.Splittable.{is_splittable-join}
-use Rattle.overlay_split.proofs.laws.passes.Ready.{IsPairInRange-each}
-use Rattle.overlay_split.proofs.laws.passes.RunLooks.{AreRunLooks-none, AreRunLooks-start, AreRunLooks-more}
-use Rattle.overlay_split.proofs.laws.passes.GridRuns.{run_lies_inside}
-use Rattle.overlay_grid.specs.GroupsOf.{grid_in}
-use Rattle.overlay_base.specs.EdgeData.{IsMadeFrom}
+use Rattle.overlay_split.proofs.laws.passes.Splitting.{HasEnded, at_rest, has_ended, stays_arranged, segments_none}
+use Rattle.overlay_split.proofs.laws.passes.RunLooks.{AreRunLooks-none}
 use Rattle.overlay_base.specs.EdgeData.IsMadeFrom.{no_call}
-use Rattle.overlay_base.proofs.laws.joins.Stores.{made_further}
-use Rattle.overlay_split.proofs.laws.passes.Stores.{made_by_passes}
 use Rattle.overlay_split.proofs.split.solver.SplitSolver.split_segments_with_store.Goals as goal
-use Rattle.overlay_split.proofs.split.solver.SplitSolver.split_segments_with_store.Goals.{else-loop-test, then-loop-test+then-not-progress}
 
--- what is said of the fault of a call is said of the fault that is passed on
-refused_by : {A F : Type 0} (r : Result A F) (x : F) {out : F} (P : Type 0) → IsErrAnd r (λ e. e ≡ x) → (x ≡ out → P) → IfErr r (λ fault. fault ≡ out → P)
-refused_by (Ok a) x P h f = tt
-refused_by (Err e) x P h f = λ i. f (sym h ∙ i)
-
--- the greatest exponent of a radius is beyond the cap
-cap_fits : (bits : ℕ) → bits ≤ 32 → exponent_cap bits ≤ 2 ^ 64 - 1
-cap_fits bits b = omega (arith, b)
+-- what follows of the answer, if there is one
+on_ok_if : {A F Q : Type 0} {P : A → Type 0} (r : Result A F) → ((a : A) → P a → Q) → IfOk r P → OnOk r Q
+on_ok_if (Ok a) f h = f a h
+on_ok_if (Err e) f h = tt
 
 -- where a run stopped a sum leaves the range
 leaves_range : {T C I D S : Type 0} {m : _} {w : _} {o : _} {e : _} {p : _} (r : Result T Fault) (hooks : Hooks D S) (settings : Settings) (xs : List (Segment C I D m w o e p)) (from left : S) →
@@ -116,203 +101,58 @@ returns-then-is_empty-clause-looked g c =
     let looks = AreRunLooks-none c.args.solver.now.strategy (settings_of g.I.OverlayInt.BITS c.args.solver.now c.args.self.now) (segments_of c.args.list.now.items) (segments_none c.args.list.now.items none).0 in
     (None, looks)
 
--- ---- the join
-
-pub join_with_store-requires : goal.join_with_store-requires
-join_with_store-requires g c = is_splittable-valid segment_of _ _ c.args.list.now.items c.requires
-
-pub returns-in_err-repeated-clause-stopped : goal.returns-in_err-repeated-clause-stopped
-returns-in_err-repeated-clause-stopped g c =
-    let hooks = hooks_of g.C.WindingCount.counted g.D.OverlayEdgeData in
-    let settings = settings_of g.I.OverlayInt.BITS c.args.solver.now c.args.self.now in
-    let stopped : c.in_err-repeated.field-0.0 ≡ CountOutOfRange → IsStoppedRun hooks settings (data_segments_of c.args.list.now.items) c.args.store.now c.join_with_store.new.store =
-    λ e. stopped_at_start hooks settings (data_segments_of c.args.list.now.items) c.args.store.now c.join_with_store.new.store (c.in_err-repeated.ensures.stopped e) in
-    refused_by c.from_residual.result c.in_err-repeated.field-0.0 _ c.from_residual.ensures.1 stopped
-
-pub returns-in_err-repeated-clause-refused : goal.returns-in_err-repeated-clause-refused
-returns-in_err-repeated-clause-refused g c = leaves_range _ _ _ c.args.list.now.items _ _ (returns-in_err-repeated-clause-stopped g c)
-
-pub loop-init : goal.loop-init
-loop-init g c = record {
-  at = at_start _ _ _ _ _ _ _ _ _ _ _ _ (segments_ordered c.args.list.now.items) c.requires c.in_ok-repeated.ensures.geometry c.in_ok-repeated.ensures.edge_data c.in_ok-repeated.ensures.store c.in_ok-repeated.ensures.repeated (starts-is c.join_with_store.new.list.items _ (let two : nat_le 2 c.len.result ≡ nat_le 2 (length c.join_with_store.new.list.items) = search rules in two)) c.in_ok-repeated.ensures.fits;
-  made = refl;
-  exponent = omega (arith, c.snap_radius-radius.ensures.exponent);
-  step = c.snap_radius-radius.ensures.step;
-  limit = refl;
-  passes = refl;
-  looks = rw (c.in-Ok.ensures.looked) (AreRunLooks-start c.args.solver.now.strategy (settings_of g.I.OverlayInt.BITS c.args.solver.now c.args.self.now) (segments_of c.args.list.now.items) (segments_of c.deref.result.now) (grid_in c.in-Ok.finder.grid) (ap (λ l. segments_of l) c.deref.ensures.value ∙ c.in_ok-repeated.ensures.geometry) c.in-Ok.ensures.grid);
-  solver = c.in-Ok.ensures.solver;
-  looked_before = refl;
-}
-
--- ---- snapping
-
-pub loop-preserved : goal.loop-preserved
-loop-preserved g c =
-    let limit : c.loop.counter < c.args.self.now.snap_limit = omega (arith, c.loop-test.true, c.loop.invariant.limit) in
-    let placing = snaps_at (settings_of g.I.OverlayInt.BITS c.args.solver.now c.args.self.now) _ _ _ _ _ c.loop.invariant.made limit (cap_fits _ g.met.I.OverlayInt.most_bits) c.loop.invariant.exponent c.snapping-placing.ensures.placing in
-    record {
-      at = at_next _ _ _ _ _ _ _ _ _ _ _ _ _ _ _ _ _ _ _ _ (segments_ordered c.args.list.now.items) c.loop.invariant.at (not-false _ c.if-not-progress.false) c.in_ok-progress.ensures.passes placing
-          c.in_ok-progress.ensures.geometry c.in_ok-progress.ensures.edge_data c.in_ok-progress.ensures.store c.in_ok-progress.ensures.changed (goes_on-is c.after_pass.new.list.items _ _ c.in_ok-progress.ensures.goes_on) c.in_ok-progress.ensures.fits;
-      made = c.in_ok-progress.ensures.passes ∙ ap (λ n. n + 1) c.loop.invariant.made;
-      exponent = exponent_grows _ _ _ _ _ _ _ c.loop.invariant.exponent c.loop.invariant.step c.increment.ensures.exponent;
-      step = c.increment.ensures.step ∙ c.loop.invariant.step;
-      limit = c.loop.invariant.limit;
-      passes = c.loop.invariant.passes;
-      looks = AreRunLooks-more c.args.solver.now.strategy c.loop.finder.solver.strategy (settings_of g.I.OverlayInt.BITS c.args.solver.now c.args.self.now) (segments_of c.args.list.now.items) (segments_of c.loop.list.items) (grid_in c.loop.finder.grid) (grid_in c.after_pass.new.finder.grid) c.loop.progress.passes _ c.loop.finder.looked c.after_pass.new.finder.looked c.loop.invariant.looks (ap (λ (s : Solver). s.strategy) c.loop.invariant.solver) c.in_ok-progress.ensures.grid c.in_ok-progress.ensures.passes c.loop.invariant.at.arrangement_is c.in_ok-progress.ensures.looked;
-      solver = c.in_ok-progress.ensures.solver ∙ c.loop.invariant.solver;
-      looked_before = c.loop.invariant.looked_before;
-    }
-
-pub returns-in_err-progress-clause-stopped : goal.returns-in_err-progress-clause-stopped
-returns-in_err-progress-clause-stopped g c =
-    let hooks = hooks_of g.C.WindingCount.counted g.D.OverlayEdgeData in
-    let settings = settings_of g.I.OverlayInt.BITS c.args.solver.now c.args.self.now in
-    let limit : c.loop.counter < c.args.self.now.snap_limit = omega (arith, c.loop-test.true, c.loop.invariant.limit) in
-    let placing = snaps_at settings _ _ _ _ _ c.loop.invariant.made limit (cap_fits _ g.met.I.OverlayInt.most_bits) c.loop.invariant.exponent c.snapping-placing.ensures.placing in
-    let stopped : c.in_err-progress.field-0.0 ≡ CountOutOfRange → IsStoppedRun hooks settings (data_segments_of c.args.list.now.items) c.args.store.now c.after_pass.new.store =
-    λ e. stopped_at _ _ _ _ _ _ _ _ _ _ _ _ _ _ _ (segments_of-bare c.args.list.now.items) c.loop.invariant.at (not-false _ c.if-not-progress.false) placing (c.in_err-progress.ensures.stopped e) in
-    refused_by c.from_residual-in_err-progress.result c.in_err-progress.field-0.0 _ c.from_residual-in_err-progress.ensures.1 stopped
-
-pub returns-in_err-progress-clause-refused : goal.returns-in_err-progress-clause-refused
-returns-in_err-progress-clause-refused g c = leaves_range _ _ _ c.args.list.now.items _ _ (returns-in_err-progress-clause-stopped g c)
-
--- ---- settling
-
-pub loop-progress-init : goal.loop-progress-init
-loop-progress-init g c = record {
-  at = c.loop.invariant.at;
-  late = λ h. elim c.loop-test.branch [
-    | else-loop-test w ↦ omega (arith, w.loop-test.false, c.loop.invariant.made)
-    | then-loop-test+then-not-progress w ↦ absurd (both_ways _ (not-true _ w.if-not-progress.true) h)
-  ];
-  room = λ h.
-      let few = potential_bound _ _ _ g.met.I.OverlayInt.lowest g.met.I.OverlayInt.highest c.loop.invariant.at.splittable in
-      let long = c.loop.list.small in
-      let made = c.loop.invariant.made in
-      few_enough c.loop.list.items c.loop.progress.passes few (omega (arith, c.loop.list.small, c.loop.list.ok)) (omega (arith, made, c.loop.auto.counter-end));
-  limit = c.loop.invariant.limit;
-  passes = c.loop.invariant.passes;
-  looks = c.loop.invariant.looks;
-  solver = c.loop.invariant.solver;
-  looked_before = c.loop.invariant.looked_before;
-}
-
-pub loop-progress-preserved : goal.loop-progress-preserved
-loop-progress-preserved g c =
-    let placing = settles (settings_of g.I.OverlayInt.BITS c.args.solver.now c.args.self.now) c.loop-progress.progress.passes (c.loop-progress.invariant.late c.loop-progress-test.true) in
-    record {
-      at = at_next _ _ _ _ _ _ _ _ _ _ _ _ _ _ _ _ _ _ _ _ (segments_ordered c.args.list.now.items) c.loop-progress.invariant.at c.loop-progress-test.true c.in_ok-progress-2.ensures.passes placing
-          c.in_ok-progress-2.ensures.geometry c.in_ok-progress-2.ensures.edge_data c.in_ok-progress-2.ensures.store c.in_ok-progress-2.ensures.changed (goes_on-is c.after_pass-in-loop-progress.new.list.items _ _ c.in_ok-progress-2.ensures.goes_on) c.in_ok-progress-2.ensures.fits;
-      late = λ h. let l = c.loop-progress.invariant.late c.loop-progress-test.true in let n = c.in_ok-progress-2.ensures.passes in omega (arith, l, n);
-      room = λ h. keeps_room _ _ _ _ _ _ c.loop-progress.invariant.at.map c.in_ok-progress-2.ensures.geometry (goes_on-is c.after_pass-in-loop-progress.new.list.items _ _ c.in_ok-progress-2.ensures.goes_on) h c.in_ok-progress-2.ensures.passes (c.loop-progress.invariant.room c.loop-progress-test.true);
-      limit = c.loop-progress.invariant.limit;
-      passes = c.loop-progress.invariant.passes;
-      looks = AreRunLooks-more c.args.solver.now.strategy c.loop-progress.finder.solver.strategy (settings_of g.I.OverlayInt.BITS c.args.solver.now c.args.self.now) (segments_of c.args.list.now.items) (segments_of c.loop-progress.list.items) (grid_in c.loop-progress.finder.grid) (grid_in c.after_pass-in-loop-progress.new.finder.grid) c.loop-progress.progress.passes _ c.loop-progress.finder.looked c.after_pass-in-loop-progress.new.finder.looked c.loop-progress.invariant.looks (ap (λ (s : Solver). s.strategy) c.loop-progress.invariant.solver) c.in_ok-progress-2.ensures.grid c.in_ok-progress-2.ensures.passes c.loop-progress.invariant.at.arrangement_is c.in_ok-progress-2.ensures.looked;
-      solver = c.in_ok-progress-2.ensures.solver ∙ c.loop-progress.invariant.solver;
-      looked_before = c.loop-progress.invariant.looked_before;
-    }
-
-pub loop-progress-smaller : goal.loop-progress-smaller
-loop-progress-smaller g c = falls_from _ _ _ _ c.loop-progress-test.true c.loop-progress.invariant.at.map c.in_ok-progress-2.ensures.geometry (goes_on-is c.after_pass-in-loop-progress.new.list.items _ _ c.in_ok-progress-2.ensures.goes_on)
-
-pub returns-in_err-progress-2-clause-stopped : goal.returns-in_err-progress-2-clause-stopped
-returns-in_err-progress-2-clause-stopped g c =
-    let hooks = hooks_of g.C.WindingCount.counted g.D.OverlayEdgeData in
-    let settings = settings_of g.I.OverlayInt.BITS c.args.solver.now c.args.self.now in
-    let placing = settles settings c.loop-progress.progress.passes (c.loop-progress.invariant.late c.loop-progress-test.true) in
-    let stopped : c.in_err-progress-2.field-0.0 ≡ CountOutOfRange → IsStoppedRun hooks settings (data_segments_of c.args.list.now.items) c.args.store.now c.after_pass-in-loop-progress.new.store =
-    λ e. stopped_at _ _ _ _ _ _ _ _ _ _ _ _ _ _ _ (segments_of-bare c.args.list.now.items) c.loop-progress.invariant.at c.loop-progress-test.true placing (c.in_err-progress-2.ensures.stopped e) in
-    refused_by c.from_residual-in_err-progress-2.result c.in_err-progress-2.field-0.0 _ c.from_residual-in_err-progress-2.ensures.1 stopped
-
-pub returns-in_err-progress-2-clause-refused : goal.returns-in_err-progress-2-clause-refused
-returns-in_err-progress-2-clause-refused g c = leaves_range _ _ _ c.args.list.now.items _ _ (returns-in_err-progress-2-clause-stopped g c)
-
--- ---- the end
+-- ---- any other list
 
 pub returns-clause-run : goal.returns-clause-run
-returns-clause-run g c = (has_ended _ _ _ _ _ _ _ _ _ _ _ _ _ (segments_ordered c.args.list.now.items) c.loop-progress.invariant.at c.loop-progress-test.false).run
+returns-clause-run g c = IfOk-weaker c.run.result _ _ (λ flag at. (has_ended _ _ _ _ _ _ _ _ _ _ _ _ _ (segments_ordered c.args.list.now.items) at refl).run) c.run.ensures.ended
+
+pub returns-clause-arranged : goal.returns-clause-arranged
+returns-clause-arranged g c = on_ok_if c.run.result (λ flag at. (has_ended _ _ _ _ _ _ _ _ _ _ _ _ _ (segments_ordered c.args.list.now.items) at refl).arranged) c.run.ensures.ended
+
+pub returns-clause-balance : goal.returns-clause-balance
+returns-clause-balance g c = on_ok_if c.run.result (λ flag at. (has_ended _ _ _ _ _ _ _ _ _ _ _ _ _ (segments_ordered c.args.list.now.items) at refl).balance) c.run.ensures.ended
+
+pub returns-clause-in_box : goal.returns-clause-in_box
+returns-clause-in_box g c = on_ok_if c.run.result (λ flag at. (has_ended _ _ _ _ _ _ _ _ _ _ _ _ _ (segments_ordered c.args.list.now.items) at refl).in_box) c.run.ensures.ended
+
+pub returns-clause-near : goal.returns-clause-near
+returns-clause-near g c = on_ok_if c.run.result (λ flag at. (has_ended _ _ _ _ _ _ _ _ _ _ _ _ _ (segments_ordered c.args.list.now.items) at refl).near) c.run.ensures.ended
+
+pub returns-clause-winding : goal.returns-clause-winding
+returns-clause-winding g c = on_ok_if c.run.result (λ flag at. (has_ended _ _ _ _ _ _ _ _ _ _ _ _ _ (segments_ordered c.args.list.now.items) at refl).winding) c.run.ensures.ended
+
+pub returns-clause-bound : goal.returns-clause-bound
+returns-clause-bound g c = on_ok_if c.run.result (λ flag at. (has_ended _ _ _ _ _ _ _ _ _ _ _ _ _ (segments_ordered c.args.list.now.items) at refl).bound) c.run.ensures.ended
+
+pub returns-clause-fits : goal.returns-clause-fits
+returns-clause-fits g c = on_ok_if c.run.result (λ flag at. (has_ended _ _ _ _ _ _ _ _ _ _ _ _ _ (segments_ordered c.args.list.now.items) at refl).fits) c.run.ensures.ended
+
+pub returns-clause-exact_input : goal.returns-clause-exact_input
+returns-clause-exact_input g c = λ exact. on_ok_if c.run.result (λ flag at. (has_ended _ _ _ _ _ _ _ _ _ _ _ _ _ (segments_ordered c.args.list.now.items) at refl).exact_input exact) c.run.ensures.ended
+
+pub returns-clause-edge_data : goal.returns-clause-edge_data
+returns-clause-edge_data g c = on_ok_if c.run.result (λ flag at. at.edge_data_is) c.run.ensures.ended
+
+pub returns-clause-store : goal.returns-clause-store
+returns-clause-store g c = on_ok_if c.run.result (λ flag at. at.store_is) c.run.ensures.ended
 
 pub returns-clause-kept_data : goal.returns-clause-kept_data
 returns-clause-kept_data g c = λ has keeps given.
-    let at = c.loop-progress.invariant.at in
     let settings : Settings = settings_of g.I.OverlayInt.BITS c.args.solver.now c.args.self.now in
-    ap (list_all (λ s. has s.edge_data)) at.edge_data_is ∙ data_keeps_what_hooks_keep _ has keeps settings (data_segments_of c.args.list.now.items) c.args.store.now c.loop-progress.progress.passes given
-
-pub returns-clause-arranged : goal.returns-clause-arranged
-returns-clause-arranged g c = (has_ended _ _ _ _ _ _ _ _ _ _ _ _ _ (segments_ordered c.args.list.now.items) c.loop-progress.invariant.at c.loop-progress-test.false).arranged
-
-pub returns-clause-balance : goal.returns-clause-balance
-returns-clause-balance g c = (has_ended _ _ _ _ _ _ _ _ _ _ _ _ _ (segments_ordered c.args.list.now.items) c.loop-progress.invariant.at c.loop-progress-test.false).balance
-
-pub returns-clause-in_box : goal.returns-clause-in_box
-returns-clause-in_box g c = (has_ended _ _ _ _ _ _ _ _ _ _ _ _ _ (segments_ordered c.args.list.now.items) c.loop-progress.invariant.at c.loop-progress-test.false).in_box
-
-pub returns-clause-exact_input : goal.returns-clause-exact_input
-returns-clause-exact_input g c = (has_ended _ _ _ _ _ _ _ _ _ _ _ _ _ (segments_ordered c.args.list.now.items) c.loop-progress.invariant.at c.loop-progress-test.false).exact_input
-
-pub returns-clause-near : goal.returns-clause-near
-returns-clause-near g c = (has_ended _ _ _ _ _ _ _ _ _ _ _ _ _ (segments_ordered c.args.list.now.items) c.loop-progress.invariant.at c.loop-progress-test.false).near
-
-pub returns-clause-winding : goal.returns-clause-winding
-returns-clause-winding g c = (has_ended _ _ _ _ _ _ _ _ _ _ _ _ _ (segments_ordered c.args.list.now.items) c.loop-progress.invariant.at c.loop-progress-test.false).winding
-
-pub returns-clause-bound : goal.returns-clause-bound
-returns-clause-bound g c = (has_ended _ _ _ _ _ _ _ _ _ _ _ _ _ (segments_ordered c.args.list.now.items) c.loop-progress.invariant.at c.loop-progress-test.false).bound
+    on_ok_if c.run.result (λ flag at. ap (list_all (λ s. has s.edge_data)) at.edge_data_is ∙ data_keeps_what_hooks_keep _ has keeps settings (data_segments_of c.args.list.now.items) c.args.store.now (passes_of c.run.new.self) given) c.run.ensures.ended
 
 pub returns-clause-unchanged : goal.returns-clause-unchanged
 returns-clause-unchanged g c = λ arranged.
-    stays_arranged _ _ _ _ _ _ _ _ _ _ _ _ _ (segments_of-bare c.args.list.now.items) arranged (segments_ordered c.args.list.now.items) c.loop-progress.invariant.at c.loop-progress-test.false
+    IfOk-weaker c.run.result _ _ (λ flag at. stays_arranged _ _ _ _ _ _ _ _ _ _ _ _ _ (segments_of-bare c.args.list.now.items) arranged (segments_ordered c.args.list.now.items) at refl) c.run.ensures.ended
 
-pub returns-clause-fits : goal.returns-clause-fits
-returns-clause-fits g c = (has_ended _ _ _ _ _ _ _ _ _ _ _ _ _ (segments_ordered c.args.list.now.items) c.loop-progress.invariant.at c.loop-progress-test.false).fits
+pub returns-clause-refused : goal.returns-clause-refused
+returns-clause-refused g c = leaves_range c.run.result _ _ c.args.list.now.items _ _ c.run.ensures.stopped
 
-pub after_pass-requires-in-loop-progress-clause-passes : goal.after_pass-requires-in-loop-progress-clause-passes
-after_pass-requires-in-loop-progress-clause-passes g c = let room = c.loop-progress.invariant.room c.loop-progress-test.true in omega (arith, room)
+pub returns-clause-passes : goal.returns-clause-passes
+returns-clause-passes g c = on_err_weaker c.run.result (λ h. h.0) c.run.ensures.unset
 
--- ---- the grid
-
-pub new-requires : goal.new-requires
-new-requires g c =
-    let low = g.I.OverlayInt.whole g.I.OverlayInt.MIN_COORD in
-    let high = g.I.OverlayInt.whole g.I.OverlayInt.MAX_COORD in
-    let given = segments_of c.args.list.now.items in
-    let first = is_splittable-join low high given c.requires c.in_ok-repeated.ensures.fits (is_map-join given (segments_ordered c.args.list.now.items)) in
-    rw (c.deref.ensures.value) (IsPairInRange-each c.join_with_store.new.list.items g.I.OverlayInt.MIN_COORD g.I.OverlayInt.MAX_COORD (subst (λ (l : List WholeSegment). IsTrue (is_splittable low high l)) (sym c.in_ok-repeated.ensures.geometry) first))
-
-pub returns-clause-looked : goal.returns-clause-looked
-returns-clause-looked g c = (grid_in c.loop-progress.finder.grid, rw (c.looked-self.ensures) c.loop-progress.invariant.looks)
-
-pub after_pass-requires-clause-inside : goal.after_pass-requires-clause-inside
-after_pass-requires-clause-inside g c =
-    run_lies_inside c.args.solver.now.strategy (settings_of g.I.OverlayInt.BITS c.args.solver.now c.args.self.now) (segments_of c.args.list.now.items) (segments_of c.loop.list.items) (grid_in c.loop.finder.grid) c.loop.progress.passes (segments_ordered c.args.list.now.items) c.loop.invariant.looks.is_for c.loop.invariant.at.arrangement_is
-
-pub after_pass-requires-in-loop-progress-clause-inside : goal.after_pass-requires-in-loop-progress-clause-inside
-after_pass-requires-in-loop-progress-clause-inside g c =
-    run_lies_inside c.args.solver.now.strategy (settings_of g.I.OverlayInt.BITS c.args.solver.now c.args.self.now) (segments_of c.args.list.now.items) (segments_of c.loop-progress.list.items) (grid_in c.loop-progress.finder.grid) c.loop-progress.progress.passes (segments_ordered c.args.list.now.items) c.loop-progress.invariant.looks.is_for c.loop-progress.invariant.at.arrangement_is
-
--- ---- what is made of the store
+pub returns-clause-looked_before : goal.returns-clause-looked_before
+returns-clause-looked_before g c = on_err_weaker c.run.result (λ h. h.1) c.run.ensures.unset
 
 pub returns-then-is_empty-clause-store_made : goal.returns-then-is_empty-clause-store_made
 returns-then-is_empty-clause-store_made g c = no_call
-
-pub returns-in_err-repeated-clause-store_made : goal.returns-in_err-repeated-clause-store_made
-returns-in_err-repeated-clause-store_made g c = c.in_err-repeated.ensures.store_made
-
-pub returns-in-Err-clause-store_made : goal.returns-in-Err-clause-store_made
-returns-in-Err-clause-store_made g c = c.in_ok-repeated.ensures.store_made
-
--- as long as the passes go
-made_so_far : {D S : Type 0} (hooks : Hooks D S) (settings : Settings) (given : List (DataSegment D)) (from store : S) (k : ℕ) → store ≡ (data_after_passes hooks settings given from k).1 → IsMadeFrom hooks from store
-made_so_far hooks settings given from store k e = subst (λ s. IsMadeFrom hooks from s) (sym e) (made_by_passes hooks settings given from k)
-
-pub returns-in_err-progress-clause-store_made : goal.returns-in_err-progress-clause-store_made
-returns-in_err-progress-clause-store_made g c =
-    made_further _ (made_so_far _ _ _ _ _ _ c.loop.invariant.at.store_is) c.in_err-progress.ensures.store_made
-
-pub returns-in_err-progress-2-clause-store_made : goal.returns-in_err-progress-2-clause-store_made
-returns-in_err-progress-2-clause-store_made g c =
-    made_further _ (made_so_far _ _ _ _ _ _ c.loop-progress.invariant.at.store_is) c.in_err-progress-2.ensures.store_made
-
-pub returns-clause-store_made : goal.returns-clause-store_made
-returns-clause-store_made g c = made_so_far _ _ _ _ _ _ c.loop-progress.invariant.at.store_is

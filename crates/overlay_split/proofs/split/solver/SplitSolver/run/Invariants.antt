@@ -7,8 +7,8 @@ use Rattle.overlay_split.specs.SettingsOf.{settings_of}
 use Rattle.overlay_split.specs.Potential.{potential}
 use Rattle.overlay_grid.specs.GroupsOf.{grid_in}
 use Rattle.overlay_split.specs.RunLooks.{AreRunLooks}
-use Rattle.overlay_split.proofs.laws.passes.Splitting.{IsAt}
-use Rattle.overlay_split.proofs.split.solver.SplitSolver.split_segments_with_store.Given as goal
+use Rattle.overlay_split.specs.steps.IsAt.{IsAt}
+use Rattle.overlay_split.proofs.split.solver.SplitSolver.run.Given as goal
 
 -- each pass so far has snapped
 abbrev pub invariant-loop : goal.invariant-loop
