@@ -94,11 +94,15 @@ fn sum_at<I: OverlayInt, L: LiveSegments<ShapeCountBoolean, I>>(
     live.sum_below(p.x, p, nothing).subj
 }
 
-/// Keeps all rows, the lowest first or last.
+/// How many orders an insert into a list of 0, 1, 2 .. rows asks: the least d for which 2 n is at most 2 ^ d.
+const ASKED_AMONG: [u128; 10] = [0, 1, 2, 3, 3, 4, 4, 4, 4, 5];
+
+/// Keeps all rows, the lowest first or last. The first inserts have to ask as many orders as is told.
 fn insert_rows<I: OverlayInt, L: LiveSegments<ShapeCountBoolean, I>>(
     rt: &impl Abort,
     live: &mut L,
     is_forward: bool,
+    asked: &[u128],
 )
     ensures rows { AreRows (pos 0) (L.sums live.new) }
     ensures time { (y : ℤ) → pos 0 ≤ℤ y → L.may_go_on_at live.new y }
@@ -107,6 +111,9 @@ fn insert_rows<I: OverlayInt, L: LiveSegments<ShapeCountBoolean, I>>(
     assert_eq!(rt; live.compared(), 0);
     for j in 0..1000 {
         insert_row(rt, live, if is_forward { j } else { 999 - j });
+        if let Some(asked) = asked.get(j as usize) {
+            assert_eq!(rt; live.compared(), *asked);
+        }
     }
 }
 
@@ -114,6 +121,7 @@ fn insert_rows<I: OverlayInt, L: LiveSegments<ShapeCountBoolean, I>>(
 fn look_at_rows<I: OverlayInt, L: LiveSegments<ShapeCountBoolean, I>>(
     rt: &impl Abort,
     live: &mut L,
+    least: u128,
     most: u128,
 )
     requires rows { AreRows (pos 0) (L.sums live.old) }
@@ -121,7 +129,7 @@ fn look_at_rows<I: OverlayInt, L: LiveSegments<ShapeCountBoolean, I>>(
 {
     for k in 0..1000u32 {
         let sum = sum_at(rt, live, 5, 2 * i64::from(k) + 1);
-        let few = 1 <= live.compared() && live.compared() <= most;
+        let few = least <= live.compared() && live.compared() <= most;
         assert_eq!(rt; (k, sum, few), (k, k as i32 + 1, true));
     }
     let below = sum_at(rt, live, 5, -1);
@@ -133,9 +141,9 @@ fn tree_of_rows<I: OverlayInt>(rt: &impl Abort, alloc: Global) {
     assert!(rt; tree.depth() <= 1);
     assert_eq!(rt; tree.compared(), 0);
     for is_forward in [true, false] {
-        insert_rows(rt, &mut tree, is_forward);
+        insert_rows(rt, &mut tree, is_forward, &[]);
         assert!(rt; tree.depth() <= 19);
-        look_at_rows(rt, &mut tree, 19);
+        look_at_rows(rt, &mut tree, 1, 19);
     }
 }
 
@@ -143,8 +151,9 @@ fn list_of_rows<I: OverlayInt>(rt: &impl Abort, alloc: Global) {
     let mut list: ScanList<ShapeCountBoolean, I> = ScanList::new(alloc);
     assert_eq!(rt; list.compared(), 0);
     for is_forward in [true, false] {
-        insert_rows(rt, &mut list, is_forward);
-        look_at_rows(rt, &mut list, u128::MAX);
+        insert_rows(rt, &mut list, is_forward, &ASKED_AMONG);
+        look_at_rows(rt, &mut list, 11, 11);
+        assert_eq!(rt; list.compared(), 0);
     }
 }
 
@@ -179,6 +188,8 @@ fn compared_in(rt: &impl Abort, runner: &mut Runner, solver: &Solver, lines: &[L
     runner.compared()
 }
 
+/// Over the list each line asks for the least d with 2 n at most 2 ^ d, twice: n lines were there before it. That is 1
+/// for one line, 2 for two, and k + 1 for as many as have k for their logarithm, rounded up: 2 * 47,892 in all.
 #[test]
 fn a_sweep_over_the_tree_asks_few_orders(rt: HostRuntime) {
     let lines = closing_lines(&rt, rt.alloc());
@@ -188,7 +199,7 @@ fn a_sweep_over_the_tree_asks_few_orders(rt: HostRuntime) {
     for (solver, least, most) in [
         (Solver::TREE, 4000, 184_000),
         (Solver::FRAG, 4000, 184_000),
-        (Solver::LIST, 7_998_000, u128::MAX),
+        (Solver::LIST, 95_784, 95_784),
     ] {
         let compared = compared_in(&rt, &mut runner, &solver, &lines);
         assert!(rt; least <= compared && compared <= most);

@@ -2,4 +2,5 @@
 pub mod columns
 pub mod live
 pub mod tree
+pub mod list
 pub mod visits

@@ -1,10 +1,14 @@
 -- What a sweep asks of its live segments at most.
 use Rattle.std.specs.Prelude.{ℕ, Bool, MatchBool, ◌+◌, ◌*◌, ◌/◌, ◌^◌, ◌≤◌}
 
+-- A search by halves among n entries asks the least d for which 2 * n is no more than 2 ^ d: none among none, and else one more than the logarithm of n to base 2, rounded up.
+abbrev pub IsSearchAmong : ℕ → ℕ → Type 0
+IsSearchAmong n d = (2 * n ≤ 2 ^ d) × ((e : ℕ) → 2 * n ≤ 2 ^ e → d ≤ e)
+
 -- no balanced tree of n entries is higher than d
 abbrev pub IsHighest : ℕ → ℕ → Type 0
 IsHighest n d = (h : ℕ) → 2 ^ (h / 2) ≤ n + 1 → h ≤ d
 
--- A sweep over n segments asks three looks for each of them: of 2 * n orders over a list, and of d orders over a balanced tree, where none of n entries is higher than d.
+-- A sweep over n segments asks three looks for each of them, of d orders: as many as a search by halves among n entries over a list, and over a balanced tree as many as none of n entries is higher.
 abbrev pub IsSweepWithin : Bool → ℕ → ℕ → Type 0
-IsSweepWithin is_list n asked = MatchBool is_list (asked ≤ 3 * n * (2 * n)) ((d : ℕ) → IsHighest n d → asked ≤ 3 * n * d)
+IsSweepWithin is_list n asked = (d : ℕ) → MatchBool is_list (2 * n ≤ 2 ^ d) (IsHighest n d) → asked ≤ 3 * n * d

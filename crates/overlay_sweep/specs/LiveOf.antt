@@ -3,7 +3,7 @@ use Rattle.std.specs.Prelude.{ℕ, ℤ, List}
 use Rattle.overlay_base.specs.Segments.{WholeSegment}
 use Rattle.overlay_sweep.specs.EntryOf.{entries_of}
 use Rattle.overlay_sweep.specs.TreeShapes.{height_at}
-use Rattle.overlay_sweep.specs.ScanTrees.{IsScanTree}
+use Rattle.overlay_sweep.specs.ScanTrees.{IsScanList, IsScanTree}
 use Rattle.overlay_sweep.specs.declared.build.entry.Entry.{Entry}
 use Rattle.overlay_sweep.specs.declared.build.scan_list.ScanList.{ScanList}
 use Rattle.overlay_sweep.specs.declared.build.scan_tree.ScanTree.{ScanTree}
@@ -15,6 +15,10 @@ list_entries list = list.entries.items
 
 abbrev pub list_sums : {C I : Type 0} {m : _} {w : _} {o : _} {e : _} {p : _} → ScanList C I m w o e p → List WholeSegment
 list_sums list = entries_of (list_entries list)
+
+-- the list is in order at x
+abbrev pub IsInOrderAt : {C I : Type 0} {m : _} {w : _} {o : _} {e : _} {p : _} → ℤ → ScanList C I m w o e p → Type 0
+IsInOrderAt {w = w} x list = IsScanList x (list_sums list) (w.whole list.least_end)
 
 -- the entries of a tree since it was cleared, those that were taken out too; their segments with the sums as counts; and how many of them are in the tree
 abbrev pub tree_entries : {C I : Type 0} {m : _} {w : _} {o : _} {e : _} {p : _} → ScanTree C I m w o e p → List (Entry C I m w o e p)

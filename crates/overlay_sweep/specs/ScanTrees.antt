@@ -1,5 +1,6 @@
--- What a tree of live segments holds: the indexes of those that last, from below.
+-- What a list of live segments holds: those that last, from below. And what a tree does: the indexes of these.
 use Rattle.std.specs.Prelude.{◌≡◌, ℕ, suc, pos, ◌*◌, ◌<◌, ◌≤◌, ◌^◌, ℤ, ◌≤ℤ◌, int_lt, Bool, true, false, List, [], ◌∷◌, ◌++◌, ◌⊎◌, length, slice_index_or, All, ⊤}
+use Rattle.std.specs.List.{range_with_len}
 use Rattle.std.specs.Ordering.{is_lt}
 use Rattle.overlay_base.specs.Segments.{WholeSegment}
 use Rattle.overlay_base.specs.Windings.{empty}
@@ -25,6 +26,12 @@ IsFromBelow x segments [] = ⊤
 IsFromBelow x segments (i ∷ is) =
     ((j : ℕ) → Has is j → is_live_at x segments i ≡ true → is_live_at x segments j ≡ true → is_lt (under_segment_order (segment_at segments j).pair (segment_at segments i).pair) ≡ false)
     × IsFromBelow x segments is
+
+-- a list of segments that begin by x, from below, with no end left of the least one
+pub record IsScanList (x : ℤ) (segments : List WholeSegment) (least_end : ℤ) : Type 0 where
+  pub begun : All (λ s. s.pair.a.x ≤ℤ x) segments
+  pub from_below : IsFromBelow x segments (range_with_len 0 (length segments))
+  pub least : All (λ s. least_end ≤ℤ s.pair.b.x) segments
 
 -- a balanced tree of segments that begin by x, from below, with all that are live at x
 pub record IsScanTree (x : ℤ) (segments : List WholeSegment) (nodes : List TreeNode) (root kept : ℕ) : Type 0 where

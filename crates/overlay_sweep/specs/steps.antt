@@ -2,3 +2,4 @@
 pub mod WayOf
 pub mod PlaceOf
 pub mod LevelRows
+pub mod Positions

@@ -9,5 +9,4 @@ pub mod PointChains
 pub mod DirectlyBelow
 pub mod Boundaries
 pub mod ScanSums
-pub mod ScanCounts
 pub mod LevelRows

@@ -1,8 +1,5 @@
-// A plain list of the live segments. Upstream: `KeyExpList` of `i_tree`.
-ghost use Rattle.std.specs.Prelude.{◌≡◌, ◌+◌, ◌-◌, ◌^◌, ◌<ℤ◌, min, not, true};
-ghost use Rattle.std.specs.Option.{option_map_or};
-ghost use Rattle.std.specs.Ordering.{is_lt};
-ghost use Rattle.overlay_geometry.specs.Below.{under_segment_order};
+// A list of the live segments from below, which is searched by halves. Upstream: `KeyExpList` of `i_tree`.
+ghost use Rattle.std.specs.Prelude.{◌≡◌};
 ghost use Rattle.overlay_geometry.specs.VSegmentOf.{v_pair_of, IsVSegmentInRange};
 
 use crate::build::entry::Entry;
@@ -15,62 +12,120 @@ use overlay_geometry::geom::v_segment::VSegment;
 use overlay_geometry::num::OverlayInt;
 use std::alloc::Global;
 
-/// Whether the entry does not run below the best one so far. Asks no order where there is none.
-fn is_not_under_best<C: WindingCount, I: OverlayInt>(
-    entry: &Entry<C, I>,
-    best: &Option<Entry<C, I>>,
-    compared: &mut u128,
-) -> bool
-    ensures value { result ≡ option_map_or (λ highest. not
-        (is_lt (under_segment_order (v_pair_of I.whole entry.now.segment)
-        (v_pair_of I.whole highest.segment)))) best.now true }
-    ensures compared { compared.new ≡ option_map_or (λ _. min (compared.old + 1) (2 ^ 128 - 1)) best.now compared.old }
-{
-    match best {
-        Some(highest) => highest.is_before(&Place::Segment(entry.segment), compared),
-        None => true,
-    }
-}
-
-/// The live segments as they came. Each look goes over all of them and drops those that have ended.
+/// The live segments from below. A look drops those that have ended, and searches the others by halves.
 #[derive(Drop)]
 pub struct ScanList<C: WindingCount, I: OverlayInt> {
     entries: Vec<Entry<C, I>>,
+    /// No entry ends left of it, so that up to here a look has nothing to drop.
+    least_end: I,
     compared: u128,
 }
 
 impl<C: WindingCount, I: OverlayInt> ScanList<C, I> {
-    ghost use Rattle.std.specs.Prelude.{◌≡◌, [], filter, int_lt};
-    ghost use Rattle.overlay_sweep.specs.LiveOf.{list_entries, list_asked};
+    ghost use Rattle.std.specs.Prelude.{ℤ, ◌≤ℤ◌, [], All, filter, int_lt, length};
+    ghost use Rattle.overlay_sweep.specs.Costs.{IsSearchAmong};
+    ghost use Rattle.overlay_sweep.specs.EntryOf.{entries_of};
+    ghost use Rattle.overlay_sweep.specs.ScanTrees.{segment_at};
+    ghost use Rattle.overlay_sweep.specs.LiveOf.{list_entries, list_asked, IsInOrderAt};
+    ghost use Rattle.overlay_sweep.specs.steps.PlaceOf.{IsPlaceInRange, stands_before};
+    ghost use Rattle.overlay_sweep.specs.steps.Positions.{IsPosition};
 
     /// An empty list, which takes no memory yet.
     pub fn new(alloc: Global) -> ScanList<C, I>
         ensures entries { list_entries result ≡ [] }
+        ensures time { (x : ℤ) → IsInOrderAt x result }
         ensures compared { list_asked result ≡ 0 }
     {
         ScanList {
             entries: Vec::new(alloc),
+            least_end: I::MAX_COORD,
             compared: 0,
         }
     }
 
+    /// The least `x` at which one of the entries ends, or the greatest coordinate.
+    fn first_end(&self) -> I
+        ensures { All (λ s. I.whole result ≤ℤ s.pair.b.x) (entries_of self.now.entries.items) }
+    {
+        let mut first = I::MAX_COORD;
+        for entry in self.entries.iter() {
+            if !entry.lasts_past(first) {
+                first = entry.segment.b.x;
+            }
+        }
+        first
+    }
+
     /// Drops the segments that do not end right of `x`.
     fn drop_ended(&mut self, x: I)
-        ensures { self.new.entries.items ≡ filter (λ e. int_lt (I.whole x)
+        requires { All (λ s. I.whole self.old.least_end ≤ℤ s.pair.b.x) (entries_of self.old.entries.items) }
+        ensures entries { self.new.entries.items ≡ filter (λ e. int_lt (I.whole x)
             (I.whole e.segment.b.x)) self.old.entries.items }
+        ensures least { All (λ s. I.whole self.new.least_end ≤ℤ s.pair.b.x) (entries_of self.new.entries.items) }
     {
+        if x < self.least_end {
+            return;
+        }
         self.entries.retain(|entry| entry.lasts_past(x));
+        self.least_end = self.first_end();
+    }
+
+    /// How many entries stand before a place. Adds to `compared` how many orders it asks: whatever the place, a number
+    /// that the length alone decides.
+    fn position(&self, place: &Place<I>, compared: &mut u128) -> usize
+        requires place { IsPlaceInRange I.whole I.MIN_COORD I.MAX_COORD place.now }
+        requires none { compared.old ≡ 0 }
+        ensures position { IsPosition (λ i. stands_before I.whole place.now (segment_at
+            (entries_of self.now.entries.items) i).pair) (length self.now.entries.items) result }
+        ensures compared { IsSearchAmong (length self.now.entries.items) compared.new }
+    {
+        let mut size = self.entries.len();
+        if size == 0 {
+            return 0;
+        }
+        let mut base = 0;
+        while size > 1 {
+            let half = size / 2;
+            if self.entries[base + half].is_before(place, compared) {
+                base += half;
+            }
+            size -= half;
+        }
+        if self.entries[base].is_before(place, compared) {
+            base + 1
+        } else {
+            base
+        }
+    }
+
+    /// Drops what has ended by `x`. Answers how many of the others stand before a place, and leaves in `compared` how
+    /// many orders that asked.
+    fn settle(&mut self, x: I, place: &Place<I>) -> usize
+        requires least { All (λ s. I.whole self.old.least_end ≤ℤ s.pair.b.x) (entries_of self.old.entries.items) }
+        requires place { IsPlaceInRange I.whole I.MIN_COORD I.MAX_COORD place.now }
+        ensures entries { self.new.entries.items ≡ filter (λ e. int_lt (I.whole x)
+            (I.whole e.segment.b.x)) self.old.entries.items }
+        ensures least { All (λ s. I.whole self.new.least_end ≤ℤ s.pair.b.x) (entries_of self.new.entries.items) }
+        ensures position { IsPosition (λ i. stands_before I.whole place.now (segment_at
+            (entries_of self.new.entries.items) i).pair) (length self.new.entries.items) result }
+        ensures compared { IsSearchAmong (length self.new.entries.items) self.new.compared }
+    {
+        self.drop_ended(x);
+        let mut compared = 0;
+        let position = self.position(place, &mut compared);
+        self.compared = compared;
+        position
     }
 }
 
 impl<C: WindingCount, I: OverlayInt> LiveSegments<C, I> for ScanList<C, I> {
-    ghost use Rattle.std.specs.Prelude.{ℕ, suc, ◌*◌, ◌≤◌, ◌≤ℤ◌, ℤ, pos, int_lt, All, [], ◌∷◌, OnOk, OnErr, IfErr, length, count_by};
-    ghost use Rattle.overlay_geometry.specs.Points.{turn};
+    ghost use Rattle.std.specs.Prelude.{ℕ, suc, ◌+◌, ◌-◌, ◌*◌, ◌^◌, ◌≤◌, ◌≤ℤ◌, ◌<ℤ◌, ℤ, All, [], ◌∷◌, OnOk, OnErr, IfErr, length};
     ghost use Rattle.overlay_geometry.specs.PointOf.{point_of};
     ghost use Rattle.overlay_geometry.specs.InRange.{IsPointInRange};
+    ghost use Rattle.overlay_sweep.specs.Costs.{IsSearchAmong};
     ghost use Rattle.overlay_sweep.specs.Live.{sum_below};
     ghost use Rattle.overlay_sweep.specs.Live.{HoldSameFrom, AreFreeAt};
-    ghost use Rattle.overlay_sweep.specs.LiveOf.{list_entries, list_sums, list_asked};
+    ghost use Rattle.overlay_sweep.specs.LiveOf.{list_entries, list_sums, list_asked, IsInOrderAt};
 
     ghost sums = { λ list. list_sums list };
 
@@ -78,36 +133,39 @@ impl<C: WindingCount, I: OverlayInt> LiveSegments<C, I> for ScanList<C, I> {
 
     ghost held = { λ list. length (list_entries list) };
 
-    ghost is_most = { λ n d. 2 * n ≤ d };
+    ghost is_most = { λ n d. 2 * n ≤ 2 ^ d };
 
-    ghost may_go_on_at = { λ list x. All (λ s. s.pair.a.x ≤ℤ x) (list_sums list) };
+    ghost may_go_on_at = { λ list x. IsInOrderAt x list };
 
     fn insert(&mut self, segment: VSegment<I>, sum: C, x: I) -> Result<(), Fault>
         requires in_range { IsVSegmentInRange I.whole I.MIN_COORD I.MAX_COORD segment }
         requires start { I.whole segment.a.x ≡ I.whole x }
         requires wide { I.whole x <ℤ I.whole segment.b.x }
-        requires time { All (λ s. s.pair.a.x ≤ℤ I.whole x) (list_sums self.old) }
+        requires time { IsInOrderAt (I.whole x) self.old }
         requires free { AreFreeAt (I.whole x)
             (record { pair = v_pair_of I.whole segment; count = C.winding sum } ∷ list_sums self.old) }
         ensures sums { OnOk result (HoldSameFrom (I.whole x) (list_sums self.new)
             (record { pair = v_pair_of I.whole segment; count = C.winding sum } ∷ list_sums self.old)) }
-        ensures time { OnOk result ((y : ℤ) → I.whole x ≤ℤ y → All (λ s. s.pair.a.x ≤ℤ y) (list_sums self.new)) }
+        ensures time { OnOk result ((y : ℤ) → I.whole x ≤ℤ y → IsInOrderAt y self.new) }
         ensures fault { IfErr result (λ fault. fault ≡ Fault.Memory) }
         ensures emptied { OnErr result (list_sums self.new ≡ []) }
         ensures none_asked { OnErr result (list_asked self.new ≡ 0) }
-        ensures cleared { OnErr result ((y : ℤ) → All (λ s. s.pair.a.x ≤ℤ y) (list_sums self.new)) }
-        ensures none_compared { list_asked self.new ≡ 0 }
+        ensures cleared { OnErr result ((y : ℤ) → IsInOrderAt y self.new) }
+        ensures live { OnOk result (All (λ s. I.whole x <ℤ s.pair.b.x) (list_sums self.new)) }
+        ensures compared { OnOk result (IsSearchAmong (length (list_entries self.new) - 1) (list_asked self.new)) }
         ensures held { OnOk result (length (list_entries self.new) ≤ suc (length (list_entries self.old))) }
-        ensures most { OnOk result ((n d : ℕ) → length (list_entries self.old) ≤ n → 2 * n ≤ d
+        ensures most { OnOk result ((n d : ℕ) → length (list_entries self.old) ≤ n → 2 * n ≤ 2 ^ d
             → list_asked self.new + length (list_entries self.new) * d
             ≤ suc (suc (length (list_entries self.old))) * d) }
     {
-        let _ = x;
-        self.compared = 0;
         let entry = Entry { segment, sum };
-        if self.entries.push(entry).is_err() {
+        let position = self.settle(x, &Place::Segment(segment));
+        if self.entries.insert(position, entry).is_err() {
             self.clear();
             return Err(Fault::Memory);
+        }
+        if !entry.lasts_past(self.least_end) {
+            self.least_end = segment.b.x;
         }
         Ok(())
     }
@@ -115,37 +173,33 @@ impl<C: WindingCount, I: OverlayInt> LiveSegments<C, I> for ScanList<C, I> {
     fn sum_below(&mut self, x: I, p: IntPoint<I>, default: C) -> C
         requires point { IsPointInRange I.whole I.MIN_COORD I.MAX_COORD p }
         requires same_x { I.whole p.x ≡ I.whole x }
-        requires time { All (λ s. s.pair.a.x ≤ℤ I.whole x) (list_sums self.old) }
+        requires time { IsInOrderAt (I.whole x) self.old }
         requires free { AreFreeAt (I.whole x) (list_sums self.old) }
         ensures sum { C.winding result ≡ sum_below (list_sums self.old) (point_of I.whole p) (C.winding default) }
         ensures sums { HoldSameFrom (I.whole x) (list_sums self.new) (list_sums self.old) }
-        ensures time { (y : ℤ) → I.whole x ≤ℤ y → All (λ s. s.pair.a.x ≤ℤ y) (list_sums self.new) }
-        ensures compared { list_asked self.new ≡ length (list_entries self.new)
-            + (count_by (λ s. int_lt (pos 0) (turn s.pair.a s.pair.b (point_of I.whole p))) (list_sums self.new) - 1) }
+        ensures time { (y : ℤ) → I.whole x ≤ℤ y → IsInOrderAt y self.new }
+        ensures live { All (λ s. I.whole x <ℤ s.pair.b.x) (list_sums self.new) }
+        ensures compared { IsSearchAmong (length (list_entries self.new)) (list_asked self.new) }
         ensures held { length (list_entries self.new) ≤ length (list_entries self.old) }
-        ensures most { (n d : ℕ) → length (list_entries self.old) ≤ n → 2 * n ≤ d
+        ensures most { (n d : ℕ) → length (list_entries self.old) ≤ n → 2 * n ≤ 2 ^ d
             → list_asked self.new + length (list_entries self.new) * d ≤ suc (length (list_entries self.old)) * d }
     {
-        self.drop_ended(x);
-        let place = Place::Point(p);
-        let mut compared = 0;
-        let mut best: Option<Entry<C, I>> = None;
-        for entry in self.entries.iter() {
-            if entry.is_before(&place, &mut compared)
-                && is_not_under_best(entry, &best, &mut compared)
-            {
-                best = Some(*entry);
-            }
-        }
-        self.compared = compared;
-        match best {
-            Some(highest) => highest.sum,
-            None => default,
+        let position = self.settle(x, &Place::Point(p));
+        if position == 0 {
+            default
+        } else {
+            self.entries[position - 1].sum
         }
     }
 
-    fn clear(&mut self) {
+    fn clear(&mut self)
+        ensures sums { list_sums self.new ≡ [] }
+        ensures time { (y : ℤ) → IsInOrderAt y self.new }
+        ensures asked { list_asked self.new ≡ 0 }
+        ensures held { length (list_entries self.new) ≡ 0 }
+    {
         self.entries.clear();
+        self.least_end = I::MAX_COORD;
         self.compared = 0;
     }
 

@@ -56,7 +56,7 @@ impl<C: WindingCount, I: OverlayInt> SweepRunner<C, I> {
     /// condition; with it these windings are those of the columns of the plane. The segments have to be arranged, as
     /// `is_arranged` tests, and the handler has to take each of their indexes. The solver does not change the answer:
     /// it chooses whether the live segments stand in a list or in a balanced tree. Over n segments `compared` is at most
-    /// 6 n² for the list, and at most 3 n d for the tree, where no balanced tree of n entries is higher than d.
+    /// 3 n d. For the list 2 n is at most 2 ^ d; for the tree no balanced one of n entries is higher than d.
     ///
     /// Answers `Fault::CountOutOfRange` exactly where a winding above a segment that is handed out leaves the range,
     /// and `Fault::Memory` where a growth is refused. The handler is spent then; the runner can be used again, and its

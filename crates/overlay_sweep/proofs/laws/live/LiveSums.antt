@@ -1,18 +1,17 @@
 -- Lists of live sums that hold the same from some x on.
-use Rattle.std.proofs.Common.{◌≡◌, ap, refl, sym, subst, ◌∙◌, arith, inl, inr}
-use Rattle.std.specs.Prelude.{suc, true, ℤ, ◌≤ℤ◌, ◌<ℤ◌, int_le, int_lt, ◌&&◌, Bool, false, not, if◌then◌else◌, List, [], ◌∷◌, ◌++◌, map, filter, All}
+use Rattle.std.proofs.Common.{◌≡◌, ap, refl, sym, subst, arith, inl, inr}
+use Rattle.std.specs.Prelude.{suc, true, ℤ, ◌≤ℤ◌, ◌<ℤ◌, int_le, int_lt, ◌&&◌, Bool, false, not, List, [], ◌∷◌, ◌++◌, filter, All}
 use Rattle.std.specs.List.{Contains}
 use Rattle.std.specs.List.Retain.{IsFiltered}
 use Rattle.std.proofs.lemmas.Fn.{filter_same}
 use Rattle.std.proofs.lemmas.Int.{ints}
-use Rattle.std.proofs.lemmas.Bool.{and_parts, both_ways}
-use Rattle.std.proofs.lemmas.List.{map-append}
+use Rattle.std.proofs.lemmas.Bool.{and_parts}
 use Rattle.std.proofs.lemmas.List.Elements.{Contains-push, Contains-push_cases, Contains-append_left, All-contains}
 use Rattle.overlay_geometry.specs.Points.{Pair, is_vertical}
 use Rattle.overlay_base.specs.Segments.{WholeSegment}
-use Rattle.overlay_sweep.specs.Live.{HoldSameFrom}
+use Rattle.overlay_sweep.specs.Live.{HoldSameFrom, AreFreeAt}
 use Rattle.overlay_sweep.proofs.laws.columns.Members.{All-from_Has}
-use Rattle.overlay_geometry.proofs.laws.lists.Lists.{Has}
+use Rattle.overlay_geometry.proofs.laws.lists.Lists.{Has, Has-append_left, Has-append_right}
 use Rattle.overlay_geometry.proofs.laws.integers.Tests.{le-tested, lt-tested, le_through}
 use Rattle.overlay_geometry.proofs.laws.lists.Elements.{Contains-from_Has, Has-from_Contains, Has-append_out}
 
@@ -44,6 +43,13 @@ HoldSameFrom-cons x e xs ys f s y h l = (
   λ m. Contains-cases e ys s m (λ same. subst (λ v. Contains (e ∷ xs) v) (sym same) (Contains-first e xs)) (λ n. Contains-later e xs s ((f s y h l).1 n)),
 )
 
+-- what holds the same is as free
+pub AreFreeAt-same : (x : ℤ) (xs ys : List WholeSegment) → HoldSameFrom x xs ys → AreFreeAt x ys → AreFreeAt x xs
+AreFreeAt-same x xs ys h f = record {
+  apart = λ t u m n l k. f.apart t u ((h t x (omega (arith, ints)) l).0 m) ((h u x (omega (arith, ints)) k).0 n) l k;
+  one_sum = λ t u m n l k. f.one_sum t u ((h t x (omega (arith, ints)) l).0 m) ((h u x (omega (arith, ints)) k).0 n) l k;
+}
+
 -- one more sum at the end is one more in front
 pub HoldSameFrom-push : (x : ℤ) (e : WholeSegment) (xs : List WholeSegment) → HoldSameFrom x (xs ++ e ∷ []) (e ∷ xs)
 HoldSameFrom-push x e xs s y h l = (
@@ -68,13 +74,31 @@ HoldSameFrom-vertical x e xs same s y h l = (
 
 -- ---- a list that grows by one
 
-pushed_list : {X : Type 0} (xs ys zs : List X) (b : Bool) → b ≡ true → ys ≡ (if b then zs else xs) → ys ≡ zs
-pushed_list xs ys zs true t e = e
-pushed_list xs ys zs false t e = absurd (both_ways false refl t)
+Has-between : {X : Type 0} (xs ys : List X) (e s : X) → Has (xs ++ e ∷ ys) s → Has (e ∷ (xs ++ ys)) s
+Has-between xs ys e s m = elim (Has-append_out xs (e ∷ ys) s m) [
+  | inl n ↦ inr (Has-append_left xs ys s n)
+  | inr n ↦ elim n [ inl same ↦ inl same | inr o ↦ inr (Has-append_right xs ys s o) ]
+]
 
-pub HoldSameFrom-pushed : {X : Type 0} (f : X → WholeSegment) (x : ℤ) (entry : X) (xs ys : List X) (b : Bool) → b ≡ true → ys ≡ (if b then xs ++ entry ∷ [] else xs) → HoldSameFrom x (map f ys) (f entry ∷ map f xs)
-HoldSameFrom-pushed f x entry xs ys b t e =
-    subst (λ v. HoldSameFrom x v (f entry ∷ map f xs)) (sym (ap (map f) (pushed_list xs ys (xs ++ entry ∷ []) b t e) ∙ map-append f xs (entry ∷ []))) (HoldSameFrom-push x (f entry) (map f xs))
+Has-between_in : {X : Type 0} (xs ys : List X) (e s : X) → Has (e ∷ (xs ++ ys)) s → Has (xs ++ e ∷ ys) s
+Has-between_in xs ys e s (inl same) = Has-append_right xs (e ∷ ys) s (inl same)
+Has-between_in xs ys e s (inr m) = elim (Has-append_out xs ys s m) [
+  | inl n ↦ Has-append_left xs (e ∷ ys) s n
+  | inr n ↦ Has-append_right xs (e ∷ ys) s (inr n)
+]
+
+-- one more sum between others is one more in front
+pub HoldSameFrom-between : (x : ℤ) (e : WholeSegment) (xs ys : List WholeSegment) → HoldSameFrom x (xs ++ e ∷ ys) (e ∷ (xs ++ ys))
+HoldSameFrom-between x e xs ys s y h l = (
+  λ m. Contains-from_Has (e ∷ (xs ++ ys)) s (Has-between xs ys e s (Has-from_Contains (xs ++ e ∷ ys) s m)),
+  λ m. Contains-from_Has (xs ++ e ∷ ys) s (Has-between_in xs ys e s (Has-from_Contains (e ∷ (xs ++ ys)) s m)),
+)
+
+pub All-between : {X : Type 0} (P : X → Type 0) (e : X) (xs ys : List X) → P e → All P (xs ++ ys) → All P (xs ++ e ∷ ys)
+All-between P e xs ys h a = All-from_Has P (xs ++ e ∷ ys) (λ s m. elim (Has-between xs ys e s m) [
+  | inl same ↦ subst P same h
+  | inr n ↦ All-contains P (xs ++ ys) s a (Contains-from_Has (xs ++ ys) s n)
+])
 
 begin_at : (x y : ℤ) (xs : List WholeSegment) → x ≤ℤ y → All (λ s. s.pair.a.x ≤ℤ x) xs → (s : WholeSegment) → Has xs s → s.pair.a.x ≤ℤ y
 begin_at x y xs h a s m = le_through s.pair.a.x x y (All-contains (λ s. s.pair.a.x ≤ℤ x) xs s a (Contains-from_Has xs s m)) h
@@ -82,14 +106,6 @@ begin_at x y xs h a s m = le_through s.pair.a.x x y (All-contains (λ s. s.pair.
 -- what begins by x begins by each later y
 pub begins_later : (x y : ℤ) (xs : List WholeSegment) → x ≤ℤ y → All (λ s. s.pair.a.x ≤ℤ x) xs → All (λ s. s.pair.a.x ≤ℤ y) xs
 begins_later x y xs h a = All-from_Has (λ s. s.pair.a.x ≤ℤ y) xs (begin_at x y xs h a)
-
-pub begins_pushed : {X : Type 0} (f : X → WholeSegment) (x y : ℤ) (entry : X) (xs ys : List X) (b : Bool) → b ≡ true → ys ≡ (if b then xs ++ entry ∷ [] else xs) → (f entry).pair.a.x ≡ x → x ≤ℤ y → All (λ s. s.pair.a.x ≤ℤ x) (map f xs) → All (λ s. s.pair.a.x ≤ℤ y) (map f ys)
-begins_pushed f x y entry xs ys b t e start h a =
-    rw (ap (map f) (pushed_list xs ys (xs ++ entry ∷ []) b t e) ∙ map-append f xs (entry ∷ []))
-    (All-from_Has (λ s. s.pair.a.x ≤ℤ y) (map f xs ++ f entry ∷ []) (λ s m. elim (Has-append_out (map f xs) (f entry ∷ []) s m) [
-      | inl n ↦ begin_at x y (map f xs) h a s n
-      | inr n ↦ elim n [ inl same ↦ (let it : s.pair.a.x ≡ (f entry).pair.a.x = ap (λ (v : WholeSegment). v.pair.a.x) (sym same) in omega (arith, ints)) | inr none ↦ absurd none ]
-    ]))
 
 -- the same with another name for each part
 pub HoldSameFrom-renamed : (x z : ℤ) (xs ys old : List WholeSegment) (e f : WholeSegment) → z ≡ x → xs ≡ ys → f ≡ e → HoldSameFrom z ys (f ∷ old) → HoldSameFrom x xs (e ∷ old)

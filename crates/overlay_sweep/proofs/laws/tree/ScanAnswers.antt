@@ -23,7 +23,7 @@ use Rattle.overlay_sweep.proofs.laws.tree.ScanGrowth.{length_append, length_push
 use Rattle.overlay_geometry.proofs.laws.integers.Tests.{le-test, lt-test}
 use Rattle.overlay_geometry.proofs.laws.lists.Elements.{Contains-from_Has}
 
-begun_member : (x : ℤ) (segments : List WholeSegment) → All (λ s. s.pair.a.x ≤ℤ x) segments → (s : WholeSegment) → lists.Has segments s → s.pair.a.x ≤ℤ x
+pub begun_member : (x : ℤ) (segments : List WholeSegment) → All (λ s. s.pair.a.x ≤ℤ x) segments → (s : WholeSegment) → lists.Has segments s → s.pair.a.x ≤ℤ x
 begun_member x segments b s m = All-contains (λ s. s.pair.a.x ≤ℤ x) segments s b (Contains-from_Has segments s m)
 
 module _ (x : ℤ) (segments : List WholeSegment) (before : ℕ → Bool) (nodes : List TreeNode) (root kept last : ℕ) (g : IsGrown x segments before [] nodes root kept last) where

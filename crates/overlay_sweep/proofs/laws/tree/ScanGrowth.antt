@@ -10,7 +10,7 @@ use Rattle.overlay_sweep.specs.Live.{AreFreeAt}
 use Rattle.overlay_sweep.specs.declared.build.tree_shape.TreeNode.{TreeNode}
 use Rattle.overlay_sweep.specs.TreeShapes.{Has, none, Tree, leaf, fork, node_at, height_at, IsDistinct, Stands, IsTree, IsStopped, IsPlaced}
 use Rattle.overlay_sweep.specs.ScanTrees.{segment_at, lasts_past, is_live_at, IsFromBelow, IsScanTree, IsGrowing, IsGrown}
-use Rattle.overlay_sweep.proofs.laws.live.LiveSums.{begins_later, HoldSameFrom-push}
+use Rattle.overlay_sweep.proofs.laws.live.LiveSums.{begins_later, HoldSameFrom-push, AreFreeAt-same}
 use Rattle.overlay_sweep.proofs.laws.columns.Members.{All-from_Has}
 use Rattle.overlay_sweep.proofs.laws.tree.TreeNodes.{Has-left, Has-right, Has-parts}
 use Rattle.overlay_sweep.proofs.laws.tree.TreeTurns.{tree_height}
@@ -143,17 +143,17 @@ asked_half nodes top order high was before after t a b c = rw (tree_height nodes
 
 -- ---- the tree at a later x
 
-from_below_later : (x y : ℤ) (segments : List WholeSegment) (order : List ℕ) → ((i : ℕ) → is_live_at y segments i ≡ true → is_live_at x segments i ≡ true) → IsFromBelow x segments order → IsFromBelow y segments order
+pub from_below_later : (x y : ℤ) (segments : List WholeSegment) (order : List ℕ) → ((i : ℕ) → is_live_at y segments i ≡ true → is_live_at x segments i ≡ true) → IsFromBelow x segments order → IsFromBelow y segments order
 from_below_later x y segments [] h f = tt
 from_below_later x y segments (i ∷ is) h f = (λ j m l k. f.0 j m (h i l) (h j k), from_below_later x y segments is h f.1)
 
-live_earlier : (x y : ℤ) (segments : List WholeSegment) (i : ℕ) → x ≤ℤ y → ((j : ℕ) → j < length segments → (segment_at segments j).pair.a.x ≤ℤ x) → is_live_at y segments i ≡ true → is_live_at x segments i ≡ true
+pub live_earlier : (x y : ℤ) (segments : List WholeSegment) (i : ℕ) → x ≤ℤ y → ((j : ℕ) → j < length segments → (segment_at segments j).pair.a.x ≤ℤ x) → is_live_at y segments i ≡ true → is_live_at x segments i ≡ true
 live_earlier x y segments i h b l =
     let parts = and_parts (int_le (segment_at segments i).pair.a.x y) (int_lt y (segment_at segments i).pair.b.x) l in
     let ends = lt-tested y (segment_at segments i).pair.b.x parts.1 in
     and_from _ _ (le-test (segment_at segments i).pair.a.x x (b i (live_within y segments i l))) (lt-test x (segment_at segments i).pair.b.x (omega (arith, ints)))
 
-begun_by_index : (x : ℤ) (segments : List WholeSegment) → All (λ s. s.pair.a.x ≤ℤ x) segments → (j : ℕ) → j < length segments → (segment_at segments j).pair.a.x ≤ℤ x
+pub begun_by_index : (x : ℤ) (segments : List WholeSegment) → All (λ s. s.pair.a.x ≤ℤ x) segments → (j : ℕ) → j < length segments → (segment_at segments j).pair.a.x ≤ℤ x
 begun_by_index x segments b j h = All-contains (λ s. s.pair.a.x ≤ℤ x) segments (segment_at segments j) b (j, h, get_or-default segments j h)
   where
     get_or-default : (xs : List WholeSegment) (j : ℕ) → j < length xs → get_or xs j (segment_at xs j) ≡ segment_at xs j
@@ -260,7 +260,7 @@ Stands-pushed nodes v (fork l i r) at s =
       subst (λ (n : TreeNode). Stands (nodes ++ v ∷ []) r n.right) (sym same) (Stands-pushed nodes v r _ s.5),
     )
 
-segment_at_pushed : (segments : List WholeSegment) (s : WholeSegment) (i : ℕ) → i < length segments → segment_at (segments ++ s ∷ []) i ≡ segment_at segments i
+pub segment_at_pushed : (segments : List WholeSegment) (s : WholeSegment) (i : ℕ) → i < length segments → segment_at (segments ++ s ∷ []) i ≡ segment_at segments i
 segment_at_pushed [] s i h = absurd (omega (arith, h))
 segment_at_pushed (t ∷ segments) s zero h = refl
 segment_at_pushed (t ∷ segments) s (suc i) h = segment_at_pushed segments s i (omega (arith, h))
@@ -286,10 +286,7 @@ begun_pushed x segments s h b = All-from_Has (λ t. t.pair.a.x ≤ℤ x) (segmen
 ])
 
 pub free_pushed : (x : ℤ) (segments : List WholeSegment) (s : WholeSegment) → AreFreeAt x (s ∷ segments) → AreFreeAt x (segments ++ s ∷ [])
-free_pushed x segments s f = record {
-  apart = λ t u m n l k. f.apart t u ((HoldSameFrom-push x s segments t x (omega (arith, ints)) l).0 m) ((HoldSameFrom-push x s segments u x (omega (arith, ints)) k).0 n) l k;
-  one_sum = λ t u m n l k. f.one_sum t u ((HoldSameFrom-push x s segments t x (omega (arith, ints)) l).0 m) ((HoldSameFrom-push x s segments u x (omega (arith, ints)) k).0 n) l k;
-}
+free_pushed x segments s f = AreFreeAt-same x (segments ++ s ∷ []) (s ∷ segments) (HoldSameFrom-push x s segments) f
 
 module _ (x : ℤ) (segments : List WholeSegment) (nodes : List TreeNode) (root kept : ℕ) (t : IsScanTree x segments nodes root kept) (s : WholeSegment) (begins : s.pair.a.x ≤ℤ x) where
   abbrev pub lone : TreeNode

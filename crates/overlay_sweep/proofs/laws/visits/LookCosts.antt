@@ -1,19 +1,16 @@
 -- What calls on live segments ask, summed over a sweep: each entry that is held can pay for one look more.
 use Rattle.std.proofs.Common.{◌≡◌, ap, refl, sym, ◌∙◌, arith, inl, inr, Ordering}
-use Rattle.std.specs.Prelude.{Bool, true, if◌then◌else◌, ◌++◌, ℕ, suc, ◌+◌, ◌-◌, ◌*◌, ◌<◌, ◌≤◌, List, [], ◌∷◌, length, map, filter, drop}
+use Rattle.std.specs.Prelude.{Bool, true, if◌then◌else◌, ◌++◌, ℕ, suc, ◌+◌, ◌-◌, ◌*◌, ◌^◌, ◌<◌, ◌≤◌, List, [], ◌∷◌, length, map, filter, take, drop}
 use Rattle.std.specs.List.{enumerate_from}
 use Rattle.std.specs.Ordering.{is_lt}
 use Rattle.std.proofs.lemmas.Bool.{cases_Bool}
-use Rattle.std.proofs.lemmas.List.{length-map, length-take, length-append}
+use Rattle.std.proofs.lemmas.List.{length-map, length-take, length-append, take-append-drop}
 use Rattle.std.proofs.lemmas.List.Sums.{length-filter, count_by-le-length}
 use Rattle.std.proofs.Math.Nat.{add-mul, suc-mul, mul-le-mul_right}
-use Rattle.overlay_geometry.specs.Points.{Point}
 use Rattle.overlay_geometry.specs.Sorting.{insert_before_ties, stably_sorted}
 use Rattle.overlay_base.specs.Segments.{WholeSegment}
-use Rattle.overlay_sweep.specs.Costs.{IsHighest}
+use Rattle.overlay_sweep.specs.Costs.{IsSearchAmong, IsHighest}
 use Rattle.overlay_sweep.specs.steps.WayOf.{WholeWay, ways_between, by_angle}
-use Rattle.overlay_sweep.proofs.laws.live.ScanSums.{runs_under}
-use Rattle.overlay_sweep.proofs.laws.live.ScanCounts.{many_below}
 
 -- ---- how many ways a start point has
 
@@ -51,18 +48,19 @@ drops_pay asked was kept d k h =
 pub fewer_last : {E : Type 0} (lasts : E → Bool) (old new : List E) → new ≡ filter lasts old → length new ≤ length old
 fewer_last lasts old new e = omega (arith, ap length e, length-filter lasts old, count_by-le-length lasts old)
 
--- a look over a list
-pub list_look_pays : {E : Type 0} (f : E → WholeSegment) (p : Point) (items : List E) (asked old n d : ℕ) → asked ≡ length items + (many_below p (map f items) - 1) → length items ≤ old → old ≤ n → 2 * n ≤ d → asked + length items * d ≤ suc old * d
-list_look_pays f p items asked old n d is fewer within most =
-    omega (arith, is, count_by-le-length (λ s. runs_under p s) (map f items), length-map items f, fewer, within, most, mul-le-mul_right d fewer, suc-mul old d)
+-- a search among no more than n entries
+pub search_asks : (asked held n d : ℕ) → IsSearchAmong held asked → held ≤ n → 2 * n ≤ 2 ^ d → asked ≤ d
+search_asks asked held n d is within most = is.1 d (omega (arith, within, most))
 
--- a push that was not refused
-pub one_more : {X : Type 0} (entry : X) (xs ys : List X) (b : Bool) → b ≡ true → ys ≡ (if b then xs ++ entry ∷ [] else xs) → length ys ≤ suc (length xs)
-one_more entry xs ys b t e = omega (arith, ap length (rw t at e), length-append xs (entry ∷ []))
+-- a search pays for itself
+pub search_pays : (asked now was d : ℕ) → asked ≤ d → now ≤ was → asked + now * d ≤ suc was * d
+search_pays asked now was d few fewer = omega (arith, few, mul-le-mul_right d fewer, suc-mul was d)
 
--- an insert that asks nothing
-pub silent_insert_pays : (asked new old d : ℕ) → asked ≡ 0 → new ≤ suc old → asked + new * d ≤ suc (suc old) * d
-silent_insert_pays asked new old d none more = omega (arith, none, mul-le-mul_right d more, suc-mul (suc old) d)
+-- an entry more
+pub one_more : {X : Type 0} (entry : X) (at : ℕ) (xs ys : List X) (b : Bool) → b ≡ true → ys ≡ (if b then take at xs ++ entry ∷ drop at xs else xs) → length ys ≡ suc (length xs)
+one_more entry at xs ys b t e =
+    let parts : length xs ≡ length (take at xs) + length (drop at xs) = sym (ap (λ l. length l) (take-append-drop at xs)) ∙ length-append (take at xs) (drop at xs) in
+    omega (arith, ap length (rw t at e), length-append (take at xs) (entry ∷ drop at xs), parts)
 
 -- no call
 pub uncalled_pays : (asked held d : ℕ) → asked + held * d ≤ asked + suc (suc held) * d

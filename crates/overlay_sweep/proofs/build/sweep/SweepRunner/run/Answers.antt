@@ -1,5 +1,5 @@
-use Rattle.std.proofs.Common.{◌∙◌, sym, subst, ℕ, length, arith}
-use Rattle.std.specs.Prelude.{Bool, ◌*◌}
+use Rattle.std.proofs.Common.{◌∙◌, sym, subst, ℕ, length}
+use Rattle.std.specs.Prelude.{Bool}
 use Rattle.overlay_base.specs.SegmentOf.{segments_of}
 use Rattle.overlay_sweep.proofs.laws.visits.Arrangements.{column_windings}
 use Rattle.overlay_sweep.specs.Costs.{IsSweepWithin}
@@ -20,6 +20,6 @@ returns-clause-compared g c =
     let n : ℕ = length c.args.segments.now in
     let within : Bool → Type 0 = λ is_list. IsSweepWithin is_list n c.if-is_list_fill.compared in
     elim c.if-is_list_fill.branch [
-      | then-is_list_fill+in_ok-answer w ↦ subst within (sym w.if-is_list_fill.true ∙ c.is_list_fill.ensures) (rw w.compared-is (w.in_ok-answer.ensures.compared (2 * n) (omega arith)))
+      | then-is_list_fill+in_ok-answer w ↦ subst within (sym w.if-is_list_fill.true ∙ c.is_list_fill.ensures) (rw w.compared-is w.in_ok-answer.ensures.compared)
       | else-is_list_fill+in_ok-answer-2 w ↦ subst within (sym w.if-is_list_fill.false ∙ c.is_list_fill.ensures) (rw w.compared-is w.in_ok-answer-2.ensures.compared)
     ]

@@ -1,0 +1,5 @@
+-- The list of live segments in order.
+pub mod Searches
+pub mod ListReads
+pub mod ListOrders
+pub mod ListAnswers
