@@ -29,7 +29,6 @@ use std::{env, io};
 /// does over some words: the usage and 2 also where one of them is no UTF-8, and 4 where memory for them is refused.
 /// No clause can say which words those are, so none says either that the usage stands only where they ask for nothing:
 /// tests over words that are made up show that each word is handed on.
-#[tactic(auto, using(crate::proofs::Runs::is_no_success))]
 pub fn arrange<H: Env + AllocGlobal, R: Read, W: Write, E: Write>(
     rt: &H,
     input: &mut R,
@@ -58,7 +57,6 @@ pub fn arrange<H: Env + AllocGlobal, R: Read, W: Write, E: Write>(
 /// Nothing is written to `output` unless the run is done or the output failed, and nothing to `faults` where the status
 /// is 0. Any other status is told in one line on `faults`, where a failed write is passed over. Where the words ask for
 /// nothing, nothing is read.
-#[tactic(auto, using(crate::proofs::Runs::is_no_success))]
 pub fn arrange_run<R: Read, W: Write, E: Write>(
     alloc: Global,
     words: &[String],
