@@ -28,7 +28,7 @@ struct Row {
     swapped: Answer,
 }
 
-const ROWS: [Row; 17] = [
+static ROWS: [Row; 17] = [
     Row {
         name: "no end within the radius",
         first: [0, 0, 5, 5],
@@ -298,7 +298,7 @@ struct SettledRow {
     swapped: Answer,
 }
 
-const SETTLED_ROWS: [SettledRow; 5] = [
+static SETTLED_ROWS: [SettledRow; 5] = [
     SettledRow {
         name: "halves upward in both coordinates, onto an end",
         first: [-1, 1, 2, -2],

@@ -10,7 +10,7 @@ type Sides = ((i32, i32), (i32, i32));
 /// A segment's two ends.
 type Ends = ((i32, i32), (i32, i32));
 
-const BOXES: [(Ends, Sides); 4] = [
+static BOXES: [(Ends, Sides); 4] = [
     (((1, 0), (6, 3)), ((1, 6), (0, 3))),
     (((1, 3), (6, 0)), ((1, 6), (0, 3))),
     (((-2, 5), (-2, 9)), ((-2, -2), (5, 9))),

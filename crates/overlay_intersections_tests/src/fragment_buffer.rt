@@ -54,7 +54,7 @@ fn parts(rt: &(impl Abort + AllocGlobal), line: Line) -> Vec<Part> {
 }
 
 /// Lines that rise, fall, end within a column and stand upright, and their fragments.
-const LINES: [(Line, &[Part]); 4] = [
+static LINES: [(Line, &[Part]); 4] = [
     (
         ((1, 0), (6, 3)),
         &[

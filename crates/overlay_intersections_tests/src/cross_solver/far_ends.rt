@@ -14,7 +14,7 @@ struct FarRow {
     settled: (i64, i64),
 }
 
-const WIDE_ROWS: [FarRow; 9] = [
+static WIDE_ROWS: [FarRow; 9] = [
     FarRow {
         name: "diagonals from corner to corner",
         first: [-1_073_741_824, -1_073_741_824, 1_073_741_823, 1_073_741_823],
@@ -109,7 +109,7 @@ const WIDE_ROWS: [FarRow; 9] = [
     },
 ];
 
-const NARROW_ROWS: [FarRow; 9] = [
+static NARROW_ROWS: [FarRow; 9] = [
     FarRow {
         name: "diagonals from corner to corner",
         first: [-16_384, -16_384, 16_383, 16_383],
