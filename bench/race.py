@@ -28,11 +28,12 @@ from split import FARTHEST, KINDS as LINES, PROGRAM
 TURNS = 9
 
 
-def ring(corners, shape):
-    """The sides of a contour, but for those of no length."""
-    for a, b in zip(corners, corners[1:] + corners[:1]):
-        if a != b:
-            yield f"{shape} {a[0]} {a[1]} {b[0]} {b[1]}"
+def sides(contours):
+    """The sides of contours, each a shape and its corners, but for sides of no length."""
+    for shape, corners in contours:
+        for a, b in zip(corners, corners[1:] + corners[:1]):
+            if a != b:
+                yield f"{shape} {a[0]} {a[1]} {b[0]} {b[1]}"
 
 
 def corner(radius, turn, middle=(0, 0)):
@@ -49,7 +50,8 @@ def blobs(number):
     for _ in range(shapes):
         middle = numbers.uniform(-far, far), numbers.uniform(-far, far)
         radii = (radius * numbers.uniform(0.7, 1.3) for _ in range(16))
-        yield from ring([corner(each, k / 16, middle) for k, each in enumerate(radii)], numbers.choice("SC"))
+        corners = [corner(each, k / 16, middle) for k, each in enumerate(radii)]
+        yield numbers.choice("SC"), corners
 
 
 def parcels(number):
@@ -59,7 +61,7 @@ def parcels(number):
         row, column = divmod(place, side)
         for shape, moved in (("S", 0), ("C", width // 3)):
             x, y = (-int(0.9 * FARTHEST) + each * width + moved for each in (column, row))
-            yield from ring([(x, y), (x + width, y), (x + width, y + width), (x, y + width)], shape)
+            yield shape, [(x, y), (x + width, y), (x + width, y + width), (x, y + width)]
 
 
 def coast(number):
@@ -67,14 +69,14 @@ def coast(number):
     for shape in "SC":
         turns = [k / (number // 2) for k in range(number // 2)]
         radii = [0.7 * FARTHEST * (1 + 0.1 * math.sin(14 * math.pi * turn) + numbers.uniform(-0.002, 0.002)) for turn in turns]
-        yield from ring([corner(radius, turn) for radius, turn in zip(radii, turns)], shape)
+        yield shape, [corner(radius, turn) for radius, turn in zip(radii, turns)]
 
 
 def spiral(number):
     half = number // 2
     for shape, moved in (("S", 0.0), ("C", 0.7)):
         radii = [0.95 * FARTHEST * (1.0 if k % 2 else 0.1) for k in range(half)]
-        yield from ring([corner(radius, (k + moved) / half) for k, radius in enumerate(radii)], shape)
+        yield shape, [corner(radius, (k + moved) / half) for k, radius in enumerate(radii)]
 
 
 def checker(number):
@@ -83,8 +85,8 @@ def checker(number):
     for line in range(lines):
         at = int(-0.9 * FARTHEST + 1.8 * FARTHEST * line / lines)
         flat = [(-FARTHEST, at), (FARTHEST, at), (FARTHEST, at + thin), (-FARTHEST, at + thin)]
-        yield from ring(flat, "S")
-        yield from ring([(y, x) for x, y in reversed(flat)], "C")
+        yield "S", flat
+        yield "C", [(y, x) for x, y in reversed(flat)]
 
 
 POLYGONS = {"blobs": blobs, "parcels": parcels, "coast": coast, "spiral": spiral, "checker": checker}
@@ -101,7 +103,7 @@ def run(program, words, text):
 
 
 def race(kind, number, programs, words, turns):
-    lines = (POLYGONS.get(kind) or LINES[kind])(number)
+    lines = sides(POLYGONS[kind](number)) if kind in POLYGONS else LINES[kind](number)
     text = ("\n".join(lines) + "\n").encode()
     runs = [[run(program, words, text) for program in programs] for _ in range(turns)]
     if len({printed for turn in runs for printed, _ in turn}) > 1:
