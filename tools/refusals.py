@@ -3,8 +3,8 @@
     python3 tools/refusals.py
 
 The program `refusals` makes each call that can take memory, and, where a growth is refused, makes it again: it has to
-print the same, and end well, whichever growth was refused. A run of `arrange` has to print the whole answer, or
-nothing but `out of memory`, with exit status 4. Prints how many growths were refused, and fails where a run differs.
+print the same, and end well, whichever growth was refused. A run of `arrange` or `polygons` has to print the whole answer,
+or nothing but `out of memory`, with exit status 4. Prints how many growths were refused, and fails where a run differs.
 """
 
 import os
@@ -18,16 +18,22 @@ TOP = pathlib.Path(__file__).resolve().parent.parent
 # How a run ends: its exit status, and what it writes to its two outputs.
 Ended = tuple[int, bytes, bytes]
 
-# The words of the runs of `arrange`, each over its example.
-RUNS = [
-    ("join", "squares.txt"),
-    ("split strategy=list", "squares.txt"),
-    ("split strategy=tree", "comb.txt"),
-    ("split strategy=frag", "comb.txt"),
-    ("graph rule=intersect", "squares.txt"),
-    ("graph rule=intersect strategy=tree", "comb.txt"),
-    ("walks rule=xor", "squares.txt"),
-]
+# The words of the runs of each program, and the example that each is over.
+RUNS = {
+    "arrange": [
+        ("join", "squares.txt"),
+        ("split strategy=list", "squares.txt"),
+        ("split strategy=tree", "comb.txt"),
+        ("split strategy=frag", "comb.txt"),
+        ("graph rule=intersect", "squares.txt"),
+        ("graph rule=intersect strategy=tree", "comb.txt"),
+        ("walks rule=xor", "squares.txt"),
+    ],
+    "polygons": [
+        ("rule=union", "polygons/squares.txt"),
+        ("rule=difference", "polygons/letter.txt"),
+    ],
+}
 
 
 def clang() -> str:
@@ -78,15 +84,16 @@ class Refusing:
 
 
 def main() -> None:
-    refusals, arrange = program("refusals"), program("arrange")
+    refusals, programs = program("refusals"), {crate: program(crate) for crate in RUNS}
     with tempfile.TemporaryDirectory() as folder:
         refusing = Refusing(folder)
         print(f"refusals: {refusing.check([refusals], b'', [])} growths refused in turn")
-        count = 0
-        for words, example in RUNS:
-            given = (TOP / "examples" / example).read_bytes()
-            count += refusing.check([arrange, *words.split()], given, [(4, b"", b"out of memory\n")])
-        print(f"arrange: {count} growths refused in turn")
+        for crate, path in programs.items():
+            count = 0
+            for words, example in RUNS[crate]:
+                given = (TOP / "examples" / example).read_bytes()
+                count += refusing.check([path, *words.split()], given, [(4, b"", b"out of memory\n")])
+            print(f"{crate}: {count} growths refused in turn")
 
 
 if __name__ == "__main__":
