@@ -9,7 +9,7 @@ type Side = Segment<ShapeCountBoolean, i32, ()>;
 type Row = ((i32, i32), (i32, i32), i32, i32);
 
 /// The boundary of the squares from (0, 0) to (4, 4) and from (2, 2) to (6, 6), with what they cover on its left.
-const UNION: [Row; 8] = [
+static UNION: [Row; 8] = [
     ((0, 0), (0, 4), -1, 0),
     ((0, 0), (4, 0), 1, 0),
     ((0, 4), (2, 4), -1, 0),
@@ -21,7 +21,7 @@ const UNION: [Row; 8] = [
 ];
 
 /// The boundary of the same less the square from (3, 3) to (7, 7), as a clip.
-const DIFFERENCE: [Row; 10] = [
+static DIFFERENCE: [Row; 10] = [
     ((0, 0), (0, 4), 0, -1),
     ((0, 0), (4, 0), 0, 1),
     ((0, 4), (2, 4), 0, -1),
@@ -41,6 +41,20 @@ fn row(side: &Side) -> Row {
     ((a.x, a.y), (b.x, b.y), count.subj, count.clip)
 }
 
+/// Adds a side from one corner to another.
+fn add_side(
+    rt: &impl Abort,
+    list: &mut Vec<Side>,
+    from: (i32, i32),
+    to: (i32, i32),
+    shape: ShapeType,
+) -> Result<(), Fail> {
+    let (a, b) = (IntPoint::new(from.0, from.1), IntPoint::new(to.0, to.1));
+    let side = Segment::try_ab_and_data(a, b, shape, (), &mut ());
+    list.push(side.expect(rt, "two corners"))?;
+    Ok(())
+}
+
 /// Adds the sides of a square, run counterclockwise.
 fn add_square(
     rt: &impl Abort,
@@ -49,16 +63,20 @@ fn add_square(
     high: i32,
     shape: ShapeType,
 ) -> Result<(), Fail> {
-    let corners = [(low, low), (high, low), (high, high), (low, high)];
-    for (index, corner) in corners.iter().enumerate() {
-        let next = corners[(index + 1) % 4];
-        let (a, b) = (
-            IntPoint::new(corner.0, corner.1),
-            IntPoint::new(next.0, next.1),
-        );
-        let side = Segment::try_ab_and_data(a, b, shape, (), &mut ());
-        list.push(side.expect(rt, "two corners"))?;
-    }
+    add_side(rt, list, (low, low), (high, low), shape)?;
+    add_side(rt, list, (high, low), (high, high), shape)?;
+    add_side(rt, list, (high, high), (low, high), shape)?;
+    add_side(rt, list, (low, high), (low, low), shape)
+}
+
+/// Asks for these sides.
+fn expect_sides(
+    rt: &(impl Abort + AllocGlobal),
+    sides: &[Side],
+    wanted: &[Row],
+) -> Result<(), Fail> {
+    let rows: Vec<Row> = sides.iter().map(row).collect(rt.alloc())?;
+    assert_eq!(rt; rows.as_slice(), wanted);
     Ok(())
 }
 
@@ -90,12 +108,9 @@ fn a_union_is_given_again_to_a_difference(rt: HostRuntime) -> Result<(), Fail> {
     add_square(&rt, &mut list, 0, 4, ShapeType::Subject)?;
     add_square(&rt, &mut list, 2, 6, ShapeType::Clip)?;
     let mut union = boundary_of(&rt, list, OverlayRule::Union, ShapeType::Subject);
-    let rows: Vec<Row> = union.iter().map(row).collect(rt.alloc())?;
-    assert_eq!(rt; rows.as_slice(), UNION.as_slice());
+    expect_sides(&rt, &union, UNION.as_slice())?;
     assert!(rt; is_arranged(&union));
     add_square(&rt, &mut union, 3, 7, ShapeType::Clip)?;
     let difference = boundary_of(&rt, union, OverlayRule::Difference, ShapeType::Clip);
-    let rows: Vec<Row> = difference.iter().map(row).collect(rt.alloc())?;
-    assert_eq!(rt; rows.as_slice(), DIFFERENCE.as_slice());
-    Ok(())
+    expect_sides(&rt, &difference, DIFFERENCE.as_slice())
 }

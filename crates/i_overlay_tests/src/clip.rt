@@ -29,7 +29,7 @@ type LinkRow = (Point, Point, SegmentFill);
 
 type Counted<I> = Segment<ShapeCountString, I, ()>;
 
-const STRATEGIES: [Strategy; 4] = [
+static STRATEGIES: [Strategy; 4] = [
     Strategy::List,
     Strategy::Tree,
     Strategy::Frag,
@@ -37,7 +37,7 @@ const STRATEGIES: [Strategy; 4] = [
 ];
 
 /// A square with corners (0, 0) and (10, 10), run counterclockwise.
-const SQUARE: [Row; 4] = [
+static SQUARE: [Row; 4] = [
     ((0, 0), (10, 0), 1, 0),
     ((10, 0), (10, 10), 1, 0),
     ((10, 10), (0, 10), 1, 0),
@@ -52,7 +52,7 @@ const ALONG: Row = ((0, 0), (10, 0), 0, 2);
 const BACK: Row = ((10, 0), (0, 0), 0, 2);
 
 /// What is left of a line: inverted, boundary included, and the links.
-const CUTS: [(&str, Row, bool, bool, &[LinkRow]); 12] = [
+static CUTS: [(&str, Row, bool, bool, &[LinkRow]); 12] = [
     ("in", THROUGH, false, false, &[((0, 5), (10, 5), 11)]),
     ("in or on", THROUGH, false, true, &[((0, 5), (10, 5), 11)]),
     (
@@ -163,6 +163,35 @@ fn cut<I: OverlayInt>(
     Ok(links.collect(rt.alloc())?)
 }
 
+/// Asks for these links.
+fn expect_links(rt: &impl Abort, found: &[LinkRow], wanted: &[LinkRow], name: &str) {
+    assert_eq!(rt; found, wanted, "{name}");
+}
+
+/// Asks for the rows of these segments.
+fn expect_rows(
+    rt: &(impl Abort + AllocGlobal),
+    list: &[Counted<i32>],
+    wanted: &[Row],
+    name: &str,
+) -> Result<(), Fail> {
+    let rows: Vec<Row> = list.iter().map(row).collect(rt.alloc())?;
+    assert_eq!(rt; rows.as_slice(), wanted, "{name}");
+    Ok(())
+}
+
+/// Splits lines, which have to be splittable.
+fn split_lines(
+    rt: &impl Abort,
+    splitter: &mut SplitSolver<i32>,
+    list: &mut Vec<Counted<i32>>,
+    strategy: Strategy,
+) -> Result<bool, Fault> {
+    assert!(rt; is_splittable(list));
+    let solver = Solver::with_strategy_and_precision(strategy, Precision::HIGH);
+    splitter.split_segments(list, &solver)
+}
+
 /// The square winds once around its inside, which is odd, not 0 and positive.
 fn cuts_with<I: OverlayInt>(
     rt: &(impl Abort + AllocGlobal),
@@ -175,7 +204,7 @@ fn cuts_with<I: OverlayInt>(
             boundary_included,
         };
         let found = cut::<I>(rt, line, strategy, fill_rule, rule)?;
-        assert_eq!(rt; found.as_slice(), links, "{name} {fill_rule}");
+        expect_links(rt, &found, links, name);
     }
     Ok(())
 }
@@ -192,7 +221,7 @@ fn lines_over_a_square(rt: HostRuntime) -> Result<(), Fail> {
 }
 
 /// A line through a square that has no inside: its parts.
-const ALL_OUTSIDE: [LinkRow; 3] = [
+static ALL_OUTSIDE: [LinkRow; 3] = [
     ((-5, 5), (0, 5), 8),
     ((0, 5), (10, 5), 8),
     ((10, 5), (15, 5), 8),
@@ -211,7 +240,7 @@ fn outside_with<I: OverlayInt>(
     let wanted = if invert { ALL_OUTSIDE.as_slice() } else { &[] };
     for strategy in STRATEGIES {
         let found = cut::<I>(rt, THROUGH, strategy, FillRule::Negative, rule)?;
-        assert_eq!(rt; found.as_slice(), wanted);
+        expect_links(rt, &found, wanted, "no inside");
     }
     Ok(())
 }
@@ -227,27 +256,34 @@ fn a_line_over_a_square_without_inside(rt: HostRuntime) -> Result<(), Fail> {
     Ok(())
 }
 
-/// A line along the lower side and one back: the mask that the lower side has after the split.
+/// A line along the lower side, or one back: the mask that the lower side has after the split.
+fn joins_the_side(
+    rt: &(impl Abort + AllocGlobal),
+    strategy: Strategy,
+    line: Row,
+    mask: u8,
+) -> Result<(), Fail> {
+    let mut list: Vec<Counted<i32>> = segments(rt, &SQUARE)?;
+    list.push(segment(rt, line))?;
+    let mut splitter = SplitSolver::new(rt.alloc());
+    let flag = split_lines(rt, &mut splitter, &mut list, strategy);
+    assert!(rt; flag == Ok(true) && list.len() == 4);
+    let after: Vec<Row> = list.iter().map(row).collect(rt.alloc())?;
+    assert!(rt; after.contains(&((0, 0), (10, 0), 1, mask)));
+    Ok(())
+}
+
 #[test]
 fn a_line_joins_a_side(rt: HostRuntime) -> Result<(), Fail> {
     for strategy in STRATEGIES {
-        for (line, mask) in [(ALONG, 2), (BACK, 1)] {
-            let mut list: Vec<Counted<i32>> = segments(&rt, &SQUARE)?;
-            list.push(segment(&rt, line))?;
-            assert!(rt; is_splittable(&list));
-            let solver = Solver::with_strategy_and_precision(strategy, Precision::HIGH);
-            let mut splitter = SplitSolver::new(rt.alloc());
-            assert_eq!(rt; splitter.split_segments(&mut list, &solver), Ok(true));
-            let after: Vec<Row> = list.iter().map(row).collect(rt.alloc())?;
-            assert_eq!(rt; after.len(), 4);
-            assert!(rt; after.contains(&((0, 0), (10, 0), 1, mask)));
-        }
+        joins_the_side(&rt, strategy, ALONG, 2)?;
+        joins_the_side(&rt, strategy, BACK, 1)?;
     }
     Ok(())
 }
 
 /// Lines on one pair of ends: the flag of their split, and the list after it.
-const JOINS: [(&[Row], Result<bool, Fault>, &[Row]); 3] = [
+static JOINS: [(&[Row], Result<bool, Fault>, &[Row]); 3] = [
     (
         &[
             ((0, 0), (4, 0), i32::MAX, 1),
@@ -270,12 +306,9 @@ fn lines_on_one_pair(rt: HostRuntime) -> Result<(), Fail> {
     for strategy in STRATEGIES {
         for (rows, flag, left) in JOINS {
             let mut list: Vec<Counted<i32>> = segments(&rt, rows)?;
-            assert!(rt; is_splittable(&list));
-            let solver = Solver::with_strategy_and_precision(strategy, Precision::HIGH);
-            let split = splitter.split_segments(&mut list, &solver);
-            assert_eq!(rt; split, flag);
-            let after: Vec<Row> = list.iter().map(row).collect(rt.alloc())?;
-            assert_eq!(rt; after.as_slice(), left);
+            let split = split_lines(&rt, &mut splitter, &mut list, strategy);
+            assert!(rt; split == flag);
+            expect_rows(&rt, &list, left, "lines on one pair")?;
         }
     }
     Ok(())
@@ -283,7 +316,7 @@ fn lines_on_one_pair(rt: HostRuntime) -> Result<(), Fail> {
 
 /// Lists whose counts leave the range, on one pair of ends in the split, or one above the other in the build: the list
 /// and the number of passes after the refusal.
-const REFUSALS: [(&str, &[Row], &[Row], u128); 2] = [
+static REFUSALS: [(&str, &[Row], &[Row], u128); 2] = [
     (
         "a split that is refused",
         &[((0, 0), (4, 0), i32::MAX, 2), ((0, 0), (4, 0), 1, 0)],
@@ -298,29 +331,37 @@ const REFUSALS: [(&str, &[Row], &[Row], u128); 2] = [
     ),
 ];
 
+/// Asks what stands after a call that is refused.
+fn refuses_counts(
+    rt: &(impl Abort + AllocGlobal),
+    strategy: Strategy,
+    (name, rows, left, passes): (&str, &[Row], &[Row], u128),
+) -> Result<(), Fail> {
+    let mut splitter: SplitSolver<i32> = SplitSolver::new(rt.alloc());
+    let mut builder = GraphBuilder::new(rt.alloc());
+    let mut list = segments(rt, rows)?;
+    assert!(rt; is_splittable(&list));
+    let built = split_and_build_clip(
+        &mut splitter,
+        &mut builder,
+        &mut list,
+        &Solver::with_strategy_and_precision(strategy, Precision::HIGH),
+        FillRule::NonZero,
+        ClipRule {
+            invert: false,
+            boundary_included: false,
+        },
+    );
+    assert!(rt; built.err() == Some(Fault::CountOutOfRange));
+    assert!(rt; splitter.passes() == passes);
+    expect_rows(rt, &list, left, name)
+}
+
 #[test]
 fn counts_of_lines_out_of_range(rt: HostRuntime) -> Result<(), Fail> {
     for strategy in STRATEGIES {
-        for (name, rows, left, passes) in REFUSALS {
-            let mut splitter: SplitSolver<i32> = SplitSolver::new(rt.alloc());
-            let mut builder = GraphBuilder::new(rt.alloc());
-            let mut list = segments(&rt, rows)?;
-            assert!(rt; is_splittable(&list));
-            let built = split_and_build_clip(
-                &mut splitter,
-                &mut builder,
-                &mut list,
-                &Solver::with_strategy_and_precision(strategy, Precision::HIGH),
-                FillRule::NonZero,
-                ClipRule {
-                    invert: false,
-                    boundary_included: false,
-                },
-            );
-            assert!(rt; built.err() == Some(Fault::CountOutOfRange), "{name}");
-            let after: Vec<Row> = list.iter().map(row).collect(rt.alloc())?;
-            assert_eq!(rt; after.as_slice(), left, "{name}");
-            assert_eq!(rt; splitter.passes(), passes, "{name}");
+        for refusal in REFUSALS {
+            refuses_counts(&rt, strategy, refusal)?;
         }
     }
     Ok(())

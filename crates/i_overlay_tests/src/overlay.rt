@@ -34,14 +34,14 @@ type Counted<I> = Segment<ShapeCountBoolean, I, ()>;
 
 type Builder<I> = GraphBuilder<ShapeCountBoolean, OverlayNode, I, ()>;
 
-const STRATEGIES: [Strategy; 4] = [
+static STRATEGIES: [Strategy; 4] = [
     Strategy::List,
     Strategy::Tree,
     Strategy::Frag,
     Strategy::Auto,
 ];
 
-const FILL_RULES: [FillRule; 4] = [
+static FILL_RULES: [FillRule; 4] = [
     FillRule::EvenOdd,
     FillRule::NonZero,
     FillRule::Positive,
@@ -77,14 +77,14 @@ const SPLIT_SQUARES: [Row; 12] = [
 ];
 
 /// What both squares share.
-const SHARED_LINKS: [LinkRow; 4] = [
+static SHARED_LINKS: [LinkRow; 4] = [
     ((2, 2), (2, 4), 11, [0, 1]),
     ((2, 2), (4, 2), 7, [0, 2]),
     ((2, 4), (4, 4), 14, [1, 3]),
     ((4, 2), (4, 4), 13, [2, 3]),
 ];
 
-const SHARED_NODES: [Option<[usize; 2]>; 4] = [
+static SHARED_NODES: [Option<[usize; 2]>; 4] = [
     Some([0, 1]),
     Some([2, 0]),
     Some([3, 1]),
@@ -509,10 +509,10 @@ fn greatest_counts_above_one_another(rt: HostRuntime) {
 }
 
 /// A steep line of the greatest count, bent through an end of another line, so that its lower half runs backward.
-const BENT: [Row; 2] = [((0, 0), (100, 1), 1, 0), ((1, -50), (1, 50), i32::MAX, 0)];
+static BENT: [Row; 2] = [((0, 0), (100, 1), 1, 0), ((1, -50), (1, 50), i32::MAX, 0)];
 
 /// The same after the split.
-const SPLIT_BENT: [Row; 3] = [
+static SPLIT_BENT: [Row; 3] = [
     ((0, 0), (1, -50), -i32::MAX, 0),
     ((0, 0), (1, 50), i32::MAX, 0),
     ((0, 0), (100, 1), 1, 0),

@@ -33,7 +33,7 @@ use std::process::ExitCode;
 const TRIES: u32 = 2;
 
 /// The strategies, with the names that the output has for them.
-const SOLVERS: [(&str, Solver); 4] = [
+static SOLVERS: [(&str, Solver); 4] = [
     (" under list", Solver::LIST),
     (" under tree", Solver::TREE),
     (" under frag", Solver::FRAG),
@@ -41,7 +41,7 @@ const SOLVERS: [(&str, Solver); 4] = [
 ];
 
 /// The builds, with the names that the output has for them.
-const KINDS: [(&str, Kind); 4] = [
+static KINDS: [(&str, Kind); 4] = [
     ("build all", Kind::All),
     ("build overlay", Kind::Overlay),
     ("build lines", Kind::Lines),
@@ -57,78 +57,84 @@ fn main(rt: HostRuntime) -> ExitCode {
 
 /// Makes every call, and prints a line for each. Fails where an output does.
 fn tell_all<W: Write, E: Write>(alloc: Global, output: &mut W, digests: &mut E) -> io::Result<()> {
+    tell_lists(alloc, output, digests)?;
+    tell_inserts(alloc, output, digests)?;
+    tell_graphs(alloc, output, digests)?;
+    for (name, solver) in SOLVERS {
+        tell_under(name, solver, alloc, output, digests)?;
+        tell_builds(name, solver, alloc, output, digests)?;
+    }
+    output.flush()
+}
+
+/// Makes the calls over a list.
+fn tell_lists<W: Write, E: Write>(
+    alloc: Global,
+    output: &mut W,
+    digests: &mut E,
+) -> io::Result<()> {
     tell("sort", "", &mut Sort {}, alloc, output, digests)?;
     tell("join", "", &mut Join {}, alloc, output, digests)?;
     tell("balance", "", &mut Balance {}, alloc, output, digests)?;
-    tell("fragments", "", &mut Fragments {}, alloc, output, digests)?;
+    tell("fragments", "", &mut Fragments {}, alloc, output, digests)
+}
+
+/// Makes the insertions into the lists of a sweep.
+fn tell_inserts<W: Write, E: Write>(
+    alloc: Global,
+    output: &mut W,
+    digests: &mut E,
+) -> io::Result<()> {
     let mut list = Insert::new(ScanList::new(alloc));
     tell("insert", " into a list", &mut list, alloc, output, digests)?;
     let mut tree = Insert::new(ScanTree::new(alloc));
-    tell("insert", " into a tree", &mut tree, alloc, output, digests)?;
-    tell("loops", "", &mut Loops::new(alloc), alloc, output, digests)?;
-    tell(
-        "filter",
-        "",
-        &mut Filter::new(alloc),
-        alloc,
-        output,
-        digests,
-    )?;
-    tell("walks", "", &mut Walks::new(alloc), alloc, output, digests)?;
-    tell(
-        "boundary",
-        "",
-        &mut Boundary::new(alloc),
-        alloc,
-        output,
-        digests,
-    )?;
-    tell("contours", "", &mut Contours {}, alloc, output, digests)?;
-    for (name, solver) in SOLVERS {
-        tell(
-            "split",
-            name,
-            &mut Split::new(alloc, solver),
-            alloc,
-            output,
-            digests,
-        )?;
-        tell(
-            "sweep",
-            name,
-            &mut Sweep::new(alloc, solver),
-            alloc,
-            output,
-            digests,
-        )?;
-        tell(
-            "overlay",
-            name,
-            &mut Overlay::new(alloc, solver),
-            alloc,
-            output,
-            digests,
-        )?;
-        tell(
-            "clip",
-            name,
-            &mut LineClip::new(alloc, solver),
-            alloc,
-            output,
-            digests,
-        )?;
-        for (build, kind) in KINDS {
-            tell(
-                build,
-                name,
-                &mut Build::new(alloc, kind, solver),
-                alloc,
-                output,
-                digests,
-            )?;
-        }
+    tell("insert", " into a tree", &mut tree, alloc, output, digests)
+}
+
+/// Makes the calls that no strategy changes, over links and graphs.
+fn tell_graphs<W: Write, E: Write>(
+    alloc: Global,
+    output: &mut W,
+    digests: &mut E,
+) -> io::Result<()> {
+    let (mut loops, mut filter) = (Loops::new(alloc), Filter::new(alloc));
+    tell("loops", "", &mut loops, alloc, output, digests)?;
+    tell("filter", "", &mut filter, alloc, output, digests)?;
+    let (mut walks, mut boundary) = (Walks::new(alloc), Boundary::new(alloc));
+    tell("walks", "", &mut walks, alloc, output, digests)?;
+    tell("boundary", "", &mut boundary, alloc, output, digests)?;
+    tell("contours", "", &mut Contours {}, alloc, output, digests)
+}
+
+/// Makes the calls under a strategy, but for builds.
+fn tell_under<W: Write, E: Write>(
+    name: &str,
+    solver: Solver,
+    alloc: Global,
+    output: &mut W,
+    digests: &mut E,
+) -> io::Result<()> {
+    let (mut split, mut sweep) = (Split::new(alloc, solver), Sweep::new(alloc, solver));
+    tell("split", name, &mut split, alloc, output, digests)?;
+    tell("sweep", name, &mut sweep, alloc, output, digests)?;
+    let (mut overlay, mut clip) = (Overlay::new(alloc, solver), LineClip::new(alloc, solver));
+    tell("overlay", name, &mut overlay, alloc, output, digests)?;
+    tell("clip", name, &mut clip, alloc, output, digests)
+}
+
+/// Makes the builds under a strategy.
+fn tell_builds<W: Write, E: Write>(
+    name: &str,
+    solver: Solver,
+    alloc: Global,
+    output: &mut W,
+    digests: &mut E,
+) -> io::Result<()> {
+    for (build, kind) in KINDS {
+        let mut case = Build::new(alloc, kind, solver);
+        tell(build, name, &mut case, alloc, output, digests)?;
     }
-    output.flush()
+    Ok(())
 }
 
 /// Makes a call until it answers, and prints its answer.
