@@ -3,4 +3,5 @@ pub mod ContoursOf
 pub mod ContourSegments
 pub mod Polygons
 pub mod Refusals
+pub mod Kept
 pub mod Laws

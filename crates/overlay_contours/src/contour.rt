@@ -47,7 +47,7 @@ pub fn find_out_of_range<I: OverlayInt>(contours: &[IntContour<I>]) -> Option<(u
 }
 
 /// The index of the first point out of range.
-fn find_point_out_of_range<I: OverlayInt>(points: &[IntPoint<I>]) -> Option<usize>
+pub(crate) fn find_point_out_of_range<I: OverlayInt>(points: &[IntPoint<I>]) -> Option<usize>
     ensures none { IfNone result (IsTrue (list_all (is_point_in_range (I.whole I.MIN_COORD) (I.whole I.MAX_COORD))
         (points_of I.whole points.now))) }
     ensures first { IfSome result (λ point. IsFirstPointOutside (I.whole I.MIN_COORD) (I.whole I.MAX_COORD)
@@ -91,9 +91,34 @@ pub fn segments_of_contours<I: OverlayInt>(
     ensures fault { IfErr result (λ fault. fault ≡ Memory) }
 {
     let mut sides = Vec::new(alloc);
-    push_contours(&mut sides, subject, ShapeType::Subject)?;
-    push_contours(&mut sides, clip, ShapeType::Clip)?;
+    load_sides(&mut sides, subject, clip)?;
     Ok(sides)
+}
+
+/// Makes a list that of the segments of a subject's and of a clip's contours, whatever it was.
+///
+/// Answers `Fault::Memory` where a growth is refused, and then nothing is promised of the list.
+pub(crate) fn load_sides<I: OverlayInt>(
+    sides: &mut Vec<Side<I>>,
+    subject: &[IntContour<I>],
+    clip: &[IntContour<I>],
+) -> Result<(), Fault>
+    requires subject { IsTrue (are_in_range (I.whole I.MIN_COORD) (I.whole I.MAX_COORD)
+        (contours_of I.whole subject.now)) }
+    requires clip { IsTrue (are_in_range (I.whole I.MIN_COORD) (I.whole I.MAX_COORD)
+        (contours_of I.whole clip.now)) }
+    ensures segments { OnOk result (segments_of sides.new.items
+        ≡ overlay_segments (contours_of I.whole subject.now) (contours_of I.whole clip.now)) }
+    ensures balanced { OnOk result (IsBalanced (segments_of sides.new.items)) }
+    ensures splittable { OnOk result (IsSplittable sides.new.items) }
+    ensures windings { OnOk result ((p : RationalPoint) → winding_below (segments_of sides.new.items) p
+        ≡ overlay_winding (contours_of I.whole subject.now) (contours_of I.whole clip.now) p) }
+    ensures fault { IfErr result (λ fault. fault ≡ Memory) }
+{
+    sides.clear();
+    push_contours(sides, subject, ShapeType::Subject)?;
+    push_contours(sides, clip, ShapeType::Clip)?;
+    Ok(())
 }
 
 fn push_contours<I: OverlayInt>(

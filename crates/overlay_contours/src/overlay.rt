@@ -1,19 +1,27 @@
 // The overlay of polygons in one call: contours in, contours out. Upstream: `core::overlay`.
-ghost use Rattle.std.specs.Prelude.{IsTrue, OnOk, IfOk, IfErr};
-ghost use Rattle.overlay_contours.specs.ContoursOf.{contours_of};
+ghost use Rattle.std.specs.Prelude.{◌≡◌, [], ◌∷◌, ◌++◌, IsTrue, OnOk, OnErr, IfOk, IfErr};
+ghost use Rattle.std.specs.List.{list_all};
+ghost use Rattle.overlay_geometry.specs.Coordinates.{is_point_in_range};
+ghost use Rattle.overlay_base.specs.declared.segm.fault.Fault.TheVariants.{Memory};
+ghost use Rattle.overlay_split.specs.SettingsOf.{snap_limit_of};
+ghost use Rattle.overlay_contours.specs.ContoursOf.{points_of, contours_of};
 ghost use Rattle.overlay_contours.specs.ContourSegments.{are_in_range};
 ghost use Rattle.overlay_contours.specs.Polygons.{settings_for, IsPolygonOverlay};
-ghost use Rattle.overlay_contours.specs.Refusals.{IsRefusal, IsShapeOutside};
+ghost use Rattle.overlay_contours.specs.Refusals.{of_shape, other_shape, IsReason, IsRefusal, IsShapeOutside, IsContourRefusal};
 
-use crate::contour::{IntContour, find_out_of_range, segments_of_contours};
+use crate::contour::{IntContour, Side, find_out_of_range, find_point_out_of_range, load_sides};
 use crate::extract::directed_contours_of_graph;
 use crate::fault::ContourFault;
 use i_overlay::overlay::split_and_build_overlay;
 use overlay_base::overlay_core::fill_rule::FillRule;
 use overlay_base::overlay_core::overlay_rule::OverlayRule;
 use overlay_base::overlay_core::solver::Solver;
+use overlay_base::segm::boolean::ShapeCountBoolean;
+use overlay_base::segm::fault::Fault;
 use overlay_base::segm::shape_type::ShapeType;
 use overlay_build::build::builder::GraphBuilder;
+use overlay_build::build::graph_node::OverlayNode;
+use overlay_geometry::geom::point::IntPoint;
 use overlay_geometry::num::OverlayInt;
 use overlay_split::split::solver::SplitSolver;
 use std::alloc::Global;
@@ -59,19 +67,8 @@ pub fn overlay_contours<I: OverlayInt>(
 {
     test_range(subject, ShapeType::Subject)?;
     test_range(clip, ShapeType::Clip)?;
-    let mut sides = segments_of_contours(alloc, subject, clip)?;
-    let mut splitter = SplitSolver::new(alloc);
-    let mut builder = GraphBuilder::new(alloc);
-    let graph = split_and_build_overlay(
-        &mut splitter,
-        &mut builder,
-        &mut sides,
-        solver,
-        fill_rule,
-        overlay_rule,
-    )?;
-    let contours = directed_contours_of_graph(alloc, &graph, overlay_rule)?;
-    Ok(contours)
+    let mut buffers = Buffers::new(alloc);
+    Ok(buffers.overlay(subject, clip, solver, fill_rule, overlay_rule)?)
 }
 
 /// Tells the first point of a shape's contours that is out of range.
@@ -92,4 +89,195 @@ fn test_range<I: OverlayInt>(
         }),
         None => Ok(()),
     }
+}
+
+/// What overlays keep from one to the next.
+#[derive(Drop)]
+struct Buffers<I: OverlayInt> {
+    alloc: Global,
+    sides: Vec<Side<I>>,
+    splitter: SplitSolver<I>,
+    builder: GraphBuilder<ShapeCountBoolean, OverlayNode, I, ()>,
+    ghost limit: { snap_limit_of splitter ≡ 256 },
+}
+
+impl<I: OverlayInt> Buffers<I> {
+    fn new(alloc: Global) -> Buffers<I> {
+        Buffers {
+            alloc,
+            sides: Vec::new(alloc),
+            splitter: SplitSolver::new(alloc),
+            builder: GraphBuilder::new(alloc),
+        }
+    }
+
+    /// The overlay of contours in range.
+    fn overlay(
+        &mut self,
+        subject: &[IntContour<I>],
+        clip: &[IntContour<I>],
+        solver: &Solver,
+        fill_rule: FillRule,
+        overlay_rule: OverlayRule,
+    ) -> Result<Vec<IntContour<I>>, Fault>
+        requires subject { IsTrue (are_in_range (I.whole I.MIN_COORD) (I.whole I.MAX_COORD)
+            (contours_of I.whole subject.now)) }
+        requires clip { IsTrue (are_in_range (I.whole I.MIN_COORD) (I.whole I.MAX_COORD)
+            (contours_of I.whole clip.now)) }
+        ensures polygons { IfOk result (λ contours.
+            IsPolygonOverlay (settings_for I.BITS solver.now) overlay_rule fill_rule (contours_of I.whole subject.now)
+            (contours_of I.whole clip.now) (contours_of I.whole contours.items)) }
+        ensures refused { IfErr result (λ fault.
+            IsReason (settings_for I.BITS solver.now) (contours_of I.whole subject.now)
+            (contours_of I.whole clip.now) fault) }
+    {
+        load_sides(&mut self.sides, subject, clip)?;
+        let graph = split_and_build_overlay(
+            &mut self.splitter,
+            &mut self.builder,
+            &mut self.sides,
+            solver,
+            fill_rule,
+            overlay_rule,
+        )?;
+        let contours = directed_contours_of_graph(self.alloc, &graph, overlay_rule)?;
+        Ok(contours)
+    }
+}
+
+/// The contours of a subject and of a clip, and the buffers of their overlays: all of it is kept and used again. The
+/// contours kept are in range.
+#[derive(Drop)]
+pub struct Overlay<I: OverlayInt> {
+    subject: Vec<IntContour<I>>,
+    clip: Vec<IntContour<I>>,
+    buffers: Buffers<I>,
+    pub ghost subject_in_range: { IsTrue (are_in_range (I.whole I.MIN_COORD) (I.whole I.MAX_COORD)
+        (contours_of I.whole subject.items)) },
+    pub ghost clip_in_range: { IsTrue (are_in_range (I.whole I.MIN_COORD) (I.whole I.MAX_COORD)
+        (contours_of I.whole clip.items)) },
+}
+
+impl<I: OverlayInt> Overlay<I> {
+    ghost use Rattle.overlay_contours.specs.Kept.{subject_of, clip_of};
+
+    /// An overlay of no contours, which takes no memory yet.
+    pub fn new(alloc: Global) -> Overlay<I>
+        ensures subject { subject_of result ≡ [] }
+        ensures clip { clip_of result ≡ [] }
+    {
+        Overlay {
+            subject: Vec::new(alloc),
+            clip: Vec::new(alloc),
+            buffers: Buffers::new(alloc),
+        }
+    }
+
+    /// Copies a contour behind the others of its shape.
+    ///
+    /// Answers `ContourFault::OutOfRange` where a point is out of the engine's range. It names the first one, and the
+    /// index that the contour would have had among those of its shape. Answers `Fault::Memory` where a growth is
+    /// refused. Either way nothing is added.
+    pub fn add_contour(
+        &mut self,
+        contour: &[IntPoint<I>],
+        shape_type: ShapeType,
+    ) -> Result<(), ContourFault>
+        ensures added { OnOk result (of_shape shape_type (subject_of self.new) (clip_of self.new)
+            ≡ of_shape shape_type (subject_of self.old) (clip_of self.old)
+            ++ points_of I.whole contour.now ∷ []) }
+        ensures other { of_shape (other_shape shape_type) (subject_of self.new) (clip_of self.new)
+            ≡ of_shape (other_shape shape_type) (subject_of self.old) (clip_of self.old) }
+        ensures unchanged { OnErr result (of_shape shape_type (subject_of self.new) (clip_of self.new)
+            ≡ of_shape shape_type (subject_of self.old) (clip_of self.old)) }
+        ensures in_range { OnOk result (IsTrue (list_all (is_point_in_range (I.whole I.MIN_COORD) (I.whole I.MAX_COORD))
+            (points_of I.whole contour.now))) }
+        ensures refused { IfErr result (λ fault. IsContourRefusal (I.whole I.MIN_COORD) (I.whole I.MAX_COORD) shape_type
+            (of_shape shape_type (subject_of self.old) (clip_of self.old))
+            (points_of I.whole contour.now) fault) }
+    {
+        let alloc = self.buffers.alloc;
+        match shape_type {
+            ShapeType::Subject => add_in_range(alloc, &mut self.subject, contour, shape_type),
+            ShapeType::Clip => add_in_range(alloc, &mut self.clip, contour, shape_type),
+        }
+    }
+
+    /// The overlay of the contours that were added, as `overlay_contours` answers it. They stay for further overlays,
+    /// whether it is answered or refused.
+    ///
+    /// Answers `Fault::CountOutOfRange` only where counts leave `-i32::MAX..=i32::MAX`, and `Fault::Memory` where a
+    /// growth is refused.
+    pub fn overlay(
+        &mut self,
+        solver: &Solver,
+        fill_rule: FillRule,
+        overlay_rule: OverlayRule,
+    ) -> Result<Vec<IntContour<I>>, Fault>
+        ensures polygons { IfOk result (λ contours.
+            IsPolygonOverlay (settings_for I.BITS solver.now) overlay_rule fill_rule (subject_of self.old)
+            (clip_of self.old) (contours_of I.whole contours.items)) }
+        ensures refused { IfErr result (λ fault.
+            IsReason (settings_for I.BITS solver.now) (subject_of self.old) (clip_of self.old) fault) }
+        ensures subject { subject_of self.new ≡ subject_of self.old }
+        ensures clip { clip_of self.new ≡ clip_of self.old }
+    {
+        self.buffers
+            .overlay(&self.subject, &self.clip, solver, fill_rule, overlay_rule)
+    }
+
+    /// Drops the contours. The buffers of the overlays stay.
+    pub fn clear(&mut self)
+        ensures subject { subject_of self.new ≡ [] }
+        ensures clip { clip_of self.new ≡ [] }
+    {
+        self.subject.clear();
+        self.clip.clear();
+    }
+}
+
+/// Copies a contour behind others, if its points are in range. Else, and where a growth is refused, nothing is added.
+fn add_in_range<I: OverlayInt>(
+    alloc: Global,
+    contours: &mut Vec<IntContour<I>>,
+    contour: &[IntPoint<I>],
+    shape_type: ShapeType,
+) -> Result<(), ContourFault>
+    ensures added { OnOk result (contours_of I.whole contours.new.items
+        ≡ contours_of I.whole contours.old.items ++ points_of I.whole contour.now ∷ []) }
+    ensures unchanged { OnErr result (contours.new.items ≡ contours.old.items) }
+    ensures in_range { OnOk result (IsTrue (list_all (is_point_in_range (I.whole I.MIN_COORD) (I.whole I.MAX_COORD))
+        (points_of I.whole contour.now))) }
+    ensures all_in_range { IsTrue (are_in_range (I.whole I.MIN_COORD) (I.whole I.MAX_COORD)
+        (contours_of I.whole contours.old.items))
+        → IsTrue (are_in_range (I.whole I.MIN_COORD) (I.whole I.MAX_COORD) (contours_of I.whole contours.new.items)) }
+    ensures refused { IfErr result (λ fault. IsContourRefusal (I.whole I.MIN_COORD) (I.whole I.MAX_COORD) shape_type
+        (contours_of I.whole contours.old.items) (points_of I.whole contour.now) fault) }
+{
+    if let Some(point) = find_point_out_of_range(contour) {
+        return Err(ContourFault::OutOfRange {
+            shape_type,
+            contour: contours.len(),
+            point,
+        });
+    }
+    push_copy(alloc, contours, contour)?;
+    Ok(())
+}
+
+/// Copies a contour behind others. Where a growth is refused nothing is added.
+fn push_copy<I: OverlayInt>(
+    alloc: Global,
+    contours: &mut Vec<IntContour<I>>,
+    contour: &[IntPoint<I>],
+) -> Result<(), Fault>
+    ensures added { OnOk result (contours_of I.whole contours.new.items
+        ≡ contours_of I.whole contours.old.items ++ points_of I.whole contour.now ∷ []) }
+    ensures unchanged { OnErr result (contours.new.items ≡ contours.old.items) }
+    ensures fault { IfErr result (λ fault. fault ≡ Memory) }
+{
+    let mut copy = Vec::new(alloc);
+    copy.extend_from_slice(contour)?;
+    contours.push(copy)?;
+    Ok(())
 }

@@ -56,8 +56,6 @@ use Rattle.overlay_contours.specs.Contours.{steps, is_edge, in_order, turned, di
 use Rattle.overlay_contours.specs.ContourSegments.{step_segment, contour_segments, overlay_segments, overlay_winding}
 use Rattle.overlay_contours.specs.Polygons.{settings_for, IsPolygonOverlay, IsFarFrom, is_in_overlay, run_of, RunsAlongBoundary}
 use Rattle.overlay_contours.specs.Refusals.{IsReason}
-use Rattle.overlay_contours.specs.declared.fault.ContourFault.{ContourFault}
-use Rattle.overlay_contours.specs.declared.fault.ContourFault.TheVariants.{Refused}
 use Rattle.overlay_contours.proofs.laws.Windings.{overlay_winds}
 use Rattle.overlay_contours.proofs.laws.Extracts.{ways_of}
 use Rattle.overlay_geometry.proofs.laws.lists.Elements.{Contains-from_Has}
@@ -206,7 +204,7 @@ reason settings subject clip given segments before passes CountOutOfRange e (inr
     inr (passes, subst (λ (l : List WholeSegment). IsPassCount settings l passes) e r.split.count, subst (λ (l : List WholeSegment). IsTrue (tops_leave_range l)) left (r.too_large refl))
 
 -- what holds of a refusal holds of the answer that `?` makes of it
-pub refused_as : {T : Type 0} (result : Result T ContourFault) (P : ContourFault → Type 0) (fault : Fault) → IsErrAnd result (λ refused. refused ≡ Refused fault) → P (Refused fault) → IfErr result P
+pub refused_as : {T F : Type 0} (result : Result T F) (P : F → Type 0) (fault : F) → IsErrAnd result (λ refused. refused ≡ fault) → P fault → IfErr result P
 refused_as (Ok x) P fault h k = tt
 refused_as (Err e) P fault h k = subst P (sym h) k
 

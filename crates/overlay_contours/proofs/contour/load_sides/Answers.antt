@@ -11,7 +11,7 @@ use Rattle.overlay_contours.specs.ContourSegments.{contour_segments, overlay_seg
 use Rattle.overlay_contours.proofs.laws.Steps.{overlay_is_splittable}
 use Rattle.overlay_contours.proofs.laws.Balances.{overlay_balances}
 use Rattle.overlay_contours.proofs.laws.Windings.{overlay_winds}
-use Rattle.overlay_contours.proofs.contour.segments_of_contours.Goals as goal
+use Rattle.overlay_contours.proofs.contour.load_sides.Goals as goal
 
 pub returns : goal.returns
 unfolding overlay_segments
@@ -21,7 +21,7 @@ returns g c =
     let greatest = whole g.I.OverlayInt.MAX_COORD in
     let subject : List (List Point) = contours_of whole c.args.subject.now in
     let clip : List (List Point) = contours_of whole c.args.clip.now in
-    let first : segments_of c.push_contours.new.sides.items ≡ contour_segments Subject subject = c.in_ok-push_contours.ensures.sides ∙ ap (λ (l : _). segments_of l ++ contour_segments Subject subject) c.new-sides.ensures.items in
+    let first : segments_of c.push_contours.new.sides.items ≡ contour_segments Subject subject = c.in_ok-push_contours.ensures.sides ∙ ap (λ (l : _). segments_of l ++ contour_segments Subject subject) c.clear.ensures.items in
     let e : segments_of c.push_contours-2.new.sides.items ≡ overlay_segments subject clip = c.in_ok-push_contours-2.ensures.sides ∙ ap (λ (l : List WholeSegment). l ++ contour_segments Clip clip) first in
     record {
       segments = e;

@@ -12,12 +12,12 @@ use Rattle.overlay_build.specs.GraphOf.{graph_with}
 use Rattle.overlay_build.specs.OverlayGraphOf.{links_of}
 use Rattle.overlay_contours.specs.ContoursOf.{contours_of}
 use Rattle.overlay_contours.specs.Polygons.{settings_for, IsPolygonOverlay}
-use Rattle.overlay_contours.specs.Refusals.{IsReason, IsRefusal}
+use Rattle.overlay_contours.specs.Refusals.{IsReason}
 use Rattle.overlay_base.specs.declared.segm.fault.Fault.{Fault}
 use Rattle.overlay_contours.proofs.laws.Extracts.{ways_of}
 use Rattle.overlay_contours.proofs.laws.GraphContours.{graph_pairs}
 use Rattle.overlay_contours.proofs.laws.Overlays.{links_flow, polygon_overlay, settings_are, reason, refused_as}
-use Rattle.overlay_contours.proofs.overlay.overlay_contours.Goals as goal
+use Rattle.overlay_contours.proofs.overlay.Buffers.overlay.Goals as goal
 
 pub returns-in_err-graph-clause-refused : goal.returns-in_err-graph-clause-refused
 returns-in_err-graph-clause-refused g c =
@@ -26,32 +26,20 @@ returns-in_err-graph-clause-refused g c =
     let clip : List (List Point) = contours_of whole c.args.clip.now in
     let settings : Settings = settings_for g.I.OverlayInt.BITS c.args.solver.now in
     let fault : Fault = c.in_err-graph.field-0.0 in
-    let given : List WholeSegment = segments_of c.in_ok-sides.sides.items in
+    let given : List WholeSegment = segments_of c.load_sides.new.sides.items in
     let segments : List WholeSegment = segments_of c.split_and_build_overlay.new.segments.items in
     let known : IsReason settings subject clip fault =
-    subst (λ (s : Settings). IsReason s subject clip fault) (settings_are g.I.OverlayInt.BITS c.args.solver.now c.new-splitter.result c.new-splitter.ensures.limit)
-    (reason (settings_of g.I.OverlayInt.BITS c.args.solver.now c.new-splitter.result) subject clip given segments (passes_of c.new-splitter.result) (passes_of c.split_and_build_overlay.new.splitter) fault c.in_ok-sides.ensures.segments c.in_err-graph.ensures.refused) in
-    refused_as c.from_residual-in_err-graph.result (IsRefusal (whole g.I.OverlayInt.MIN_COORD) (whole g.I.OverlayInt.MAX_COORD) settings subject clip) fault c.from_residual-in_err-graph.ensures.1
-    (c.in_ok-test_range.ensures.in_range, c.in_ok-test_range-2.ensures.in_range, known)
+    subst (λ (s : Settings). IsReason s subject clip fault) (settings_are g.I.OverlayInt.BITS c.args.solver.now c.args.self.now.splitter c.args.self.now.limit)
+    (reason (settings_of g.I.OverlayInt.BITS c.args.solver.now c.args.self.now.splitter) subject clip given segments (passes_of c.args.self.now.splitter) (passes_of c.split_and_build_overlay.new.splitter) fault c.in_ok-load_sides.ensures.segments c.in_err-graph.ensures.refused) in
+    refused_as c.from_residual-in_err-graph.result (IsReason settings subject clip) fault c.from_residual-in_err-graph.ensures.1 known
 
 pub directed_contours_of_graph-requires : goal.directed_contours_of_graph-requires
 directed_contours_of_graph-requires g c =
     let graph = c.in_ok-graph.graph in
-    let settings : Settings = settings_of g.I.OverlayInt.BITS c.args.solver.now c.new-splitter.result in
-    let given : List WholeSegment = segments_of c.in_ok-sides.sides.items in
+    let settings : Settings = settings_of g.I.OverlayInt.BITS c.args.solver.now c.args.self.now.splitter in
+    let given : List WholeSegment = segments_of c.load_sides.new.sides.items in
     let segments : List WholeSegment = segments_of c.split_and_build_overlay.new.segments.items in
-    links_flow g.I.OverlayInt.whole (links_of graph) settings c.args.fill_rule (holds c.args.overlay_rule) given segments (passes_of c.split_and_build_overlay.new.splitter) c.in_ok-graph.ensures.overlay c.in_ok-sides.ensures.balanced graph.holds.same_links
-
-pub returns-in_err-contours-clause-refused : goal.returns-in_err-contours-clause-refused
-returns-in_err-contours-clause-refused g c =
-    let whole = g.I.OverlayInt.whole in
-    let subject : List (List Point) = contours_of whole c.args.subject.now in
-    let clip : List (List Point) = contours_of whole c.args.clip.now in
-    let settings : Settings = settings_for g.I.OverlayInt.BITS c.args.solver.now in
-    let fault : Fault = c.in_err-contours.field-0.0 in
-    let known : IsReason settings subject clip fault = subst (IsReason settings subject clip) (sym c.in_err-contours.ensures.fault) tt in
-    refused_as c.from_residual-in_err-contours.result (IsRefusal (whole g.I.OverlayInt.MIN_COORD) (whole g.I.OverlayInt.MAX_COORD) settings subject clip) fault c.from_residual-in_err-contours.ensures.1
-    (c.in_ok-test_range.ensures.in_range, c.in_ok-test_range-2.ensures.in_range, known)
+    links_flow g.I.OverlayInt.whole (links_of graph) settings c.args.fill_rule (holds c.args.overlay_rule) given segments (passes_of c.split_and_build_overlay.new.splitter) c.in_ok-graph.ensures.overlay c.in_ok-load_sides.ensures.balanced graph.holds.same_links
 
 pub returns-clause-polygons : goal.returns-clause-polygons
 returns-clause-polygons g c =
@@ -59,16 +47,16 @@ returns-clause-polygons g c =
     let graph = c.in_ok-graph.graph in
     let links = links_of graph in
     let e = c.in_ok-graph.ensures in
-    let settings : Settings = settings_of g.I.OverlayInt.BITS c.args.solver.now c.new-splitter.result in
-    let given : List WholeSegment = segments_of c.in_ok-sides.sides.items in
+    let settings : Settings = settings_of g.I.OverlayInt.BITS c.args.solver.now c.args.self.now.splitter in
+    let given : List WholeSegment = segments_of c.load_sides.new.sides.items in
     let segments : List WholeSegment = segments_of c.split_and_build_overlay.new.segments.items in
     let passes : ℕ = passes_of c.split_and_build_overlay.new.splitter in
     let subject : List (List Point) = contours_of whole c.args.subject.now in
     let clip : List (List Point) = contours_of whole c.args.clip.now in
     let answer : List (List Point) = contours_of whole c.in_ok-contours.contours.items in
-    subst (λ (s : Settings). IsPolygonOverlay s c.args.overlay_rule c.args.fill_rule subject clip answer) (settings_are g.I.OverlayInt.BITS c.args.solver.now c.new-splitter.result c.new-splitter.ensures.limit)
-    (polygon_overlay settings c.args.overlay_rule c.args.fill_rule subject clip answer given segments passes (graph_with whole links) c.in_ok-sides.ensures.segments e.overlay (e.region c.in_ok-sides.ensures.balanced)
+    subst (λ (s : Settings). IsPolygonOverlay s c.args.overlay_rule c.args.fill_rule subject clip answer) (settings_are g.I.OverlayInt.BITS c.args.solver.now c.args.self.now.splitter c.args.self.now.limit)
+    (polygon_overlay settings c.args.overlay_rule c.args.fill_rule subject clip answer given segments passes (graph_with whole links) c.in_ok-load_sides.ensures.segments e.overlay (e.region c.in_ok-load_sides.ensures.balanced)
     (λ test. c.in_ok-contours.ensures.edges test ∙ sym (ap (count_by test) (graph_pairs whole links graph.holds.same_links)))
-    c.in_ok-contours.ensures.painted c.in_ok-sides.ensures.balanced
+    c.in_ok-contours.ensures.painted c.in_ok-load_sides.ensures.balanced
     (λ test. c.in_ok-contours.ensures.directed test ∙ ap (λ (l : List Link). count_by test (ways_of (arcs (holds c.args.overlay_rule) l))) graph.holds.same_links)
     c.in_ok-contours.ensures.winds c.in_ok-contours.ensures.proper)
