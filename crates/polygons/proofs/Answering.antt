@@ -1,5 +1,5 @@
 -- What the program answers, from what its calls do.
-use Rattle.std.proofs.Common.{◌≡◌, ◌⊎◌, inl, inr, ℕ, ℤ, Bool, true, false, List, [], ◌∷◌, ◌++◌, Ok, Err, refl, sym, ap, ◌∙◌, subst, arith, All, append_assoc}
+use Rattle.std.proofs.Common.{◌≡◌, ◌⊎◌, inl, inr, ℕ, ℤ, List, [], ◌∷◌, ◌++◌, Ok, Err, refl, sym, ◌∙◌, subst, arith, All}
 use Rattle.std.proofs.lemmas.Grind.{common_steps, flat_map-append}
 use Rattle.std.proofs.lemmas.Bool.{false≢true, and_parts}
 use Rattle.std.proofs.lemmas.List.Elements.{All-contains, Contains-append_right}
@@ -15,7 +15,7 @@ use Rattle.overlay_base.specs.declared.segm.fault.Fault.TheVariants.{Memory, Cou
 use Rattle.overlay_base.specs.declared.segm.shape_type.ShapeType.{ShapeType}
 use Rattle.overlay_base.specs.declared.segm.shape_type.ShapeType.TheVariants.{Subject, Clip}
 use Rattle.overlay_contours.specs.ContourSegments.{IsFirstOutside}
-use Rattle.overlay_contours.specs.Refusals.{IsRefusal, of_shape}
+use Rattle.overlay_contours.specs.Refusals.{IsRefusal}
 use Rattle.overlay_contours.specs.declared.fault.ContourFault.TheVariants.{OutOfRange, Refused as RefusedBy}
 use Rattle.overlay_split.specs.Run.{Settings as RunSettings}
 use Rattle.overlay_text.specs.declared.settings.Engine.{Engine}

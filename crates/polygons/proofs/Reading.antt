@@ -1,5 +1,5 @@
 -- Words that write points, one word more at a time.
-use Rattle.std.proofs.Common.{◌≡◌, ℕ, ℤ, List, [], ◌∷◌, ◌++◌, Option, Some, None, refl, sym, ap, ◌∙◌, subst, append_assoc, append-nil}
+use Rattle.std.proofs.Common.{◌≡◌, ℕ, ℤ, List, [], ◌∷◌, ◌++◌, Option, Some, None, refl, sym, ap, ◌∙◌, subst, append_assoc}
 use Rattle.overlay_geometry.specs.Points.{Point}
 use Rattle.overlay_text.specs.Numbers.{WritesNumber}
 use Rattle.polygons.specs.ContourText.{WritePoints}

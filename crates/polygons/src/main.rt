@@ -5,8 +5,11 @@ mod contour_lines;
 mod contour_output;
 mod run;
 
+use overlay_text::shell::run_started;
+use run::PolygonsProgram;
 use std::process::ExitCode;
 
 fn main(rt: HostRuntime) -> ExitCode {
-    ExitCode::from(run::polygons(&rt, &mut rt.stdin(), &mut rt.stdout(), &mut rt.stderr()))
+    let (input, output, faults) = (&mut rt.stdin(), &mut rt.stdout(), &mut rt.stderr());
+    ExitCode::from(run_started::<PolygonsProgram, _, _, _, _>(&rt, input, output, faults))
 }

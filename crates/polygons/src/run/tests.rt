@@ -1,6 +1,7 @@
 // Whole runs over memory: words and lines in, the exit status and both outputs out.
 
 use super::*;
+use overlay_text::shell::run_over;
 use std::alloc::AllocError;
 use std::test::Fail;
 
@@ -80,9 +81,10 @@ fn is_answered(
         .try_collect(alloc)?;
     let mut output = Vec::new(alloc);
     let mut faults = Vec::new(alloc);
-    let answer = polygons_run(
+    let words = words.as_slice();
+    let answer = run_over::<PolygonsProgram, _, _, _>(
         alloc,
-        words.as_slice(),
+        words,
         &mut input,
         &mut output,
         &mut faults,

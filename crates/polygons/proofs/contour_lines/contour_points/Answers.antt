@@ -1,4 +1,4 @@
-use Rattle.std.proofs.Common.{rules, arith, ◌≡◌, ◌+◌, ◌++◌, ◌∷◌, inr, pos, get_or, take, drop, map, None, IsFalse}
+use Rattle.std.proofs.Common.{rules, arith, ◌≡◌, ◌+◌, ◌++◌, ◌∷◌, inr, pos, get_or, take, drop, None, IsFalse}
 use Rattle.std.proofs.lemmas.Grind.{common_steps}
 use Rattle.overlay_geometry.specs.Coordinates.{is_point_in_range}
 use Rattle.overlay_geometry.specs.PointOf.{point_of}

@@ -1,9 +1,6 @@
 use Rattle.std.proofs.Common.{◌≡◌, ◌∙◌, ap, refl}
 use Rattle.overlay_contours.specs.ContoursOf.{contours_of}
 use Rattle.overlay_contours.specs.Polygons.{settings_for}
-use Rattle.overlay_contours.specs.Refusals.{IsRefusal}
-use Rattle.overlay_contours.specs.declared.fault.ContourFault.TheVariants.{OutOfRange, Refused}
-use Rattle.overlay_split.specs.Run.{Settings}
 use Rattle.polygons.specs.Run.{overlay_settings}
 use Rattle.polygons.proofs.Answering.{refused, no_point_outside}
 use Rattle.polygons.proofs.run.answer_under.Goals as goal

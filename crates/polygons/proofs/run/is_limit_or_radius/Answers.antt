@@ -1,6 +1,6 @@
-use Rattle.std.proofs.Common.{arith, inl, inr, ◌≡◌, ◌∙◌, ap, MatchOption, List, ℕ, ◌≢◌}
+use Rattle.std.proofs.Common.{arith, inl, inr, ◌∙◌, ap}
 use Rattle.std.proofs.lemmas.Str.Pattern.{split_parts}
-use Rattle.overlay_text.specs.Words.{setting, IsName}
+use Rattle.overlay_text.specs.Words.{setting}
 use Rattle.overlay_text.proofs.Slots.{first_cut}
 use Rattle.polygons.proofs.run.is_limit_or_radius.Goals as goal
 
