@@ -262,3 +262,41 @@ fn small_contours(rt: HostRuntime) -> Result<(), Fail> {
     }
     Ok(())
 }
+
+/// Whether an overlay answers what `overlay_contours` does.
+fn answers_alike(
+    alloc: Global,
+    overlay: &mut Overlay<i32>,
+    subject: &[IntContour<i32>],
+    clip: &[IntContour<i32>],
+    rule: OverlayRule,
+) -> Result<bool, ContourFault> {
+    let solver = Solver::AUTO;
+    let kept = overlay.overlay(&solver, FillRule::NonZero, rule)?;
+    let anew = overlay_contours(alloc, subject, clip, &solver, FillRule::NonZero, rule)?;
+    Ok(rows(alloc, &kept)? == rows(alloc, &anew)?)
+}
+
+#[test]
+fn one_overlay_answers_twice(rt: HostRuntime) -> Result<(), Fail> {
+    let alloc = rt.alloc();
+    let subject = contours_from(alloc, &[WIDE_SQUARE])?;
+    let clip = contours_from(alloc, &[OTHER_SQUARE])?;
+    let mut overlay = Overlay::new(alloc);
+    for contour in &subject {
+        overlay.add_contour(contour, ShapeType::Subject)?;
+    }
+    for contour in &clip {
+        overlay.add_contour(contour, ShapeType::Clip)?;
+    }
+    let union = answers_alike(alloc, &mut overlay, &subject, &clip, OverlayRule::Union)?;
+    let difference = answers_alike(
+        alloc,
+        &mut overlay,
+        &subject,
+        &clip,
+        OverlayRule::Difference,
+    )?;
+    assert!(rt; union && difference);
+    Ok(())
+}
