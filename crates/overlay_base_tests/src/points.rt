@@ -24,7 +24,7 @@ fn turns_and_distances(rt: HostRuntime) {
 
 #[test]
 fn the_origin(rt: HostRuntime) {
-    let origin: IntPoint<i16> = IntPoint::ZERO;
+    let origin = IntPoint::<i16>::ZERO;
     assert_eq!(rt; (origin.x, origin.y), (0, 0));
 }
 

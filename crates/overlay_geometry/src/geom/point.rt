@@ -12,17 +12,25 @@ pub struct IntPoint<I> {
     pub y: I,
 }
 
+impl IntPoint<i16> {
+    /// The origin.
+    pub const ZERO: Self = IntPoint { x: 0, y: 0 };
+}
+
+impl IntPoint<i32> {
+    /// The origin.
+    pub const ZERO: Self = IntPoint { x: 0, y: 0 };
+}
+
+const _: () = prove!(IntPoint::<i16>::ZERO.x == 0 && IntPoint::<i16>::ZERO.y == 0);
+
+const _: () = prove!(IntPoint::<i32>::ZERO.x == 0 && IntPoint::<i32>::ZERO.y == 0);
+
 impl<I: OverlayInt> IntPoint<I> {
     ghost use Rattle.std.specs.Prelude.{◌≡◌, pos};
     ghost use Rattle.overlay_geometry.specs.Points.{sqr_distance};
     ghost use Rattle.overlay_geometry.specs.PointOf.{point_of};
     ghost use Rattle.overlay_geometry.specs.InRange.{IsPointInRange};
-
-    /// The origin.
-    pub const ZERO: Self = IntPoint {
-        x: I::ZERO,
-        y: I::ZERO,
-    };
 
     /// The point with these coordinates.
     pub fn new(x: I, y: I) -> Self
