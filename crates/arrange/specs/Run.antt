@@ -1,12 +1,14 @@
 -- What the program answers to the text of its input.
-use Rattle.std.specs.Prelude.{Bool, ◌≡◌, ◌⊎◌, ◌++◌, ℕ, ℤ, if◌then◌else◌, List, Ok, Err, unsigned_abs, IsTrue, IsFalse}
+use Rattle.std.specs.Prelude.{Bool, ◌≡◌, ◌⊎◌, ◌++◌, ℕ, ℤ, if◌then◌else◌, List, length, Ok, Err, unsigned_abs, IsTrue, IsFalse}
 use Rattle.std.specs.Option.{ok_or}
 use Rattle.std.specs.declared.result.Result.{Result}
 use Rattle.overlay_base.specs.Segments.{WholeSegment}
 use Rattle.overlay_base.specs.Join.{join, has_equal_pairs, join_leaves_range}
 use Rattle.overlay_base.specs.Radius.{exponent_cap}
 use Rattle.overlay_split.specs.Run.{Settings as RunSettings, IsPassCount, IsRun, LeavesRange, after_passes}
+use Rattle.overlay_base.specs.Choices.{list_fills}
 use Rattle.overlay_sweep.specs.ChainWindings.{tops_leave_range}
+use Rattle.overlay_sweep.specs.Costs.{IsSweepCost}
 use Rattle.overlay_build.specs.Graph.{Graph, graph_by}
 use Rattle.arrange.specs.RuleOf.{keeps_by}
 use Rattle.overlay_base.specs.declared.segm.fault.Fault.TheVariants.{CountOutOfRange}
@@ -44,6 +46,12 @@ CountsLeaveRange bits settings segments =
     LeavesRange (split_settings bits settings) segments
     ⊎ ((passes : ℕ) × IsPassCount (split_settings bits settings) segments passes
     × IsTrue (tops_leave_range (after_passes (split_settings bits settings) segments passes)))
+
+-- the sweep of a graph asks what the strategy costs that the words choose
+abbrev pub IsGraphCost : ℕ → Settings → List WholeSegment → ℕ → Type 0
+IsGraphCost bits settings segments asked =
+    (passes : ℕ) × IsPassCount (split_settings bits settings) segments passes
+    × IsSweepCost (list_fills settings.strategy (length (after_passes (split_settings bits settings) segments passes))) (after_passes (split_settings bits settings) segments passes) asked
 
 -- what a command makes of segments, in coordinates of so many bits
 abbrev pub IsCommandAnswer : ℕ → Command → Settings → List WholeSegment → Result (List ℕ) Stop → Type 0

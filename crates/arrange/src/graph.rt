@@ -1,5 +1,5 @@
 // `arrange graph`: the graph of the arrangement, by an overlay rule or of all segments.
-ghost use Rattle.std.specs.Prelude.{◌≡◌, ◌⊎◌, true, Ok, Err, IsTrue, IsFalse, OnOk, IfOk, IfErr, string_bytes};
+ghost use Rattle.std.specs.Prelude.{◌≡◌, ◌⊎◌, true, Ok, Err, IsTrue, IsFalse, OnOk, IfOk, IfErr, length, string_bytes};
 ghost use Rattle.overlay_base.specs.declared.segm.fault.Fault.TheVariants.{Memory, CountOutOfRange};
 ghost use Rattle.overlay_base.specs.SegmentOf.{segments_of};
 ghost use Rattle.overlay_base.specs.ArrangedOf.{IsSplittable};
@@ -8,8 +8,10 @@ ghost use Rattle.overlay_split.specs.SettingsOf.{passes_of, settings_of};
 ghost use Rattle.overlay_sweep.specs.ChainWindings.{tops_leave_range};
 ghost use Rattle.overlay_build.specs.Graph.{graph_by};
 ghost use Rattle.overlay_build.specs.GraphOf.{graph_with};
-ghost use Rattle.overlay_build.specs.OverlayGraphOf.{links_of};
-ghost use Rattle.arrange.specs.Run.{IsGraphOf, CountsLeaveRange, IsCommandAnswer};
+ghost use Rattle.overlay_build.specs.OverlayGraphOf.{links_of, graph_asked};
+ghost use Rattle.overlay_base.specs.Choices.{list_fills};
+ghost use Rattle.overlay_sweep.specs.Costs.{IsSweepCost};
+ghost use Rattle.arrange.specs.Run.{IsGraphOf, IsGraphCost, CountsLeaveRange, IsCommandAnswer};
 ghost use Rattle.overlay_text.specs.declared.settings.Command.{Command};
 
 use crate::graph_output::write_graph;
@@ -67,8 +69,10 @@ pub fn build_graph<'a, I: OverlayInt>(
         (graph_with I.whole (links_of graph))) }
     ensures out_of_range { IfErr result (λ fault. fault ≡ CountOutOfRange
         → CountsLeaveRange I.BITS settings (segments_of segments.items)) }
+    ensures asked { IfOk result (λ graph. IsGraphCost I.BITS settings (segments_of segments.items)
+        (graph_asked graph)) }
 {
-    let solver = Solver::with_strategy_and_precision(settings.strategy, settings.precision);
+    let solver = settings.solver();
     let mut splitter = SplitSolver::with_snap_limit(alloc, settings.snap_limit);
     let fill_rule = settings.fill_rule;
     match settings.rule {
@@ -108,6 +112,8 @@ fn build_all<'a, I: OverlayInt>(
         × (segments_of segments.new.items ≡ after_passes (settings_of I.BITS solver.now splitter.old)
         (segments_of segments.old.items) (passes_of splitter.new))
         × IsTrue (tops_leave_range (segments_of segments.new.items)))) }
+    ensures asked { IfOk result (λ graph. IsSweepCost (list_fills solver.now.strategy (length segments.new.items))
+        (segments_of segments.new.items) (graph_asked graph)) }
 {
     splitter.split_segments(segments, solver)?;
     builder.build_boolean_all(fill_rule, solver, segments)

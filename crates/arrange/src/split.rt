@@ -1,14 +1,17 @@
 // `arrange split`: the segments are split where they meet.
-ghost use Rattle.std.specs.Prelude.{◌≡◌, ◌⊎◌, Ok, Err, IfOk, IfErr, string_bytes};
-ghost use Rattle.overlay_base.specs.declared.segm.fault.Fault.TheVariants.{Memory};
+ghost use Rattle.std.specs.Prelude.{◌≡◌, ◌⊎◌, Ok, Err, Option, OnOk, IfOk, IfErr, string_bytes};
+ghost use Rattle.overlay_base.specs.declared.segm.fault.Fault.TheVariants.{Memory, CountOutOfRange};
 ghost use Rattle.overlay_base.specs.SegmentOf.{segments_of};
 ghost use Rattle.overlay_base.specs.ArrangedOf.{IsSplittable};
-ghost use Rattle.arrange.specs.Run.{IsCommandAnswer};
+ghost use Rattle.overlay_grid.specs.Grid.{Layout};
+ghost use Rattle.overlay_split.specs.Run.{IsRun, LeavesRange};
+ghost use Rattle.overlay_split.specs.RunLooks.{AreRunLooks};
+ghost use Rattle.overlay_split.specs.SettingsOf.{snap_limit_of, passes_of, looked_of};
+ghost use Rattle.arrange.specs.Run.{IsCommandAnswer, split_settings};
 ghost use Rattle.overlay_text.specs.declared.settings.Command.{Command};
 
-use overlay_base::overlay_core::solver::Solver;
-use overlay_base::segm::boolean::ShapeCountBoolean;
-use overlay_base::segm::segment::Segment;
+use crate::graph::Lines;
+use overlay_base::segm::fault::Fault;
 use overlay_geometry::num::OverlayInt;
 use overlay_split::split::solver::SplitSolver;
 use overlay_text::output::write_segments;
@@ -20,7 +23,7 @@ use std::alloc::Global;
 /// was split, and of the number of passes.
 pub fn split<I: OverlayInt>(
     alloc: Global,
-    mut segments: Vec<Segment<ShapeCountBoolean, I, ()>>,
+    mut segments: Lines<I>,
     settings: Settings,
 ) -> Result<String, Stop>
     requires { IsSplittable segments.items }
@@ -29,13 +32,31 @@ pub fn split<I: OverlayInt>(
     ensures stop { IfErr result (λ stop. (stop ≡ Stop.Refused Memory)
         ⊎ IsCommandAnswer I.BITS Command.Split settings (segments_of segments.items) (Err stop)) }
 {
-    let solver = Solver::with_strategy_and_precision(settings.strategy, settings.precision);
     let mut splitter = SplitSolver::with_snap_limit(alloc, settings.snap_limit);
-    let flag = splitter.split_segments(&mut segments, &solver)?;
+    let flag = split_as_chosen(&mut splitter, &mut segments, &settings)?;
     let passes = splitter.passes();
     let mut text = String::new(alloc);
     write_segments(&mut text, segments.as_slice())?;
     writeln!(text, "flag {flag}")?;
     writeln!(text, "passes {passes}")?;
     Ok(text)
+}
+
+/// Splits the segments as the words choose, at the cost of the strategy that they name. Answers the flag.
+fn split_as_chosen<I: OverlayInt>(
+    splitter: &mut SplitSolver<I>,
+    segments: &mut Lines<I>,
+    settings: &Settings,
+) -> Result<bool, Fault>
+    requires segments { IsSplittable segments.old.items }
+    requires limit { snap_limit_of splitter.old ≡ settings.now.snap_limit }
+    ensures run { IfOk result (λ flag. IsRun (split_settings I.BITS settings.now) (segments_of segments.old.items)
+        (segments_of segments.new.items) (passes_of splitter.new) flag) }
+    ensures refused { IfErr result (λ fault. fault ≡ CountOutOfRange
+        → LeavesRange (split_settings I.BITS settings.now) (segments_of segments.old.items)) }
+    ensures looked { OnOk result ((grid : Option Layout) × AreRunLooks settings.now.strategy
+        (split_settings I.BITS settings.now) (segments_of segments.old.items) grid (passes_of splitter.new)
+        (looked_of splitter.new)) }
+{
+    splitter.split_segments(segments, &settings.solver())
 }

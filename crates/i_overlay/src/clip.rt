@@ -9,7 +9,7 @@ ghost use Rattle.overlay_split.specs.Run.{LeavesRange};
 ghost use Rattle.overlay_split.specs.RunLooks.{AreRunLooks};
 ghost use Rattle.overlay_split.specs.SettingsOf.{snap_limit_of, passes_of, looked_of, settings_of};
 ghost use Rattle.overlay_sweep.specs.ChainWindings.{tops_leave_range};
-ghost use Rattle.overlay_sweep.specs.Costs.{IsSweepWithin};
+ghost use Rattle.overlay_sweep.specs.Costs.{IsSweepCost};
 ghost use Rattle.overlay_build.specs.GraphOf.{HoldGraph, graph_with};
 ghost use Rattle.overlay_build.specs.NodeIndexes.{items_of, is_any_node};
 ghost use Rattle.overlay_build.specs.StringGraphOf.{nodes_of, links_of, builder_name, lines_asked};
@@ -76,7 +76,8 @@ pub fn split_and_build_clip<'a, I: OverlayInt>(
         (looked_of splitter.new)) }
     ensures limit { snap_limit_of splitter.new ≡ snap_limit_of splitter.old }
     ensures asked { IfOk result (λ graph.
-        IsSweepWithin (list_fills solver.now.strategy (length segments.new.items)) (length segments.new.items)
+        IsSweepCost (list_fills solver.now.strategy (length segments.new.items))
+        (segments_of segments.new.items)
         (lines_asked graph)) }
     ensures same_builder { IfOk result (λ graph. builder_name graph ≡ builder.entry.ghost_name) }
 {

@@ -15,7 +15,7 @@ ghost use Rattle.overlay_split.specs.RunLooks.{AreRunLooks};
 ghost use Rattle.overlay_split.specs.SettingsOf.{snap_limit_of, passes_of, looked_of, settings_of};
 ghost use Rattle.overlay_sweep.specs.ChainWindings.{tops_leave_range};
 ghost use Rattle.overlay_build.specs.Graph.{data_by};
-ghost use Rattle.overlay_sweep.specs.Costs.{IsSweepWithin};
+ghost use Rattle.overlay_sweep.specs.Costs.{IsSweepCost};
 ghost use Rattle.overlay_build.specs.GraphOf.{HoldGraph, graph_with};
 ghost use Rattle.overlay_build.specs.NodeIndexes.{indexes_of, is_canonical_node};
 ghost use Rattle.overlay_build.specs.OverlayGraphOf.{nodes_of, links_of, graph_asked};
@@ -105,7 +105,8 @@ pub fn split_and_build_overlay<'a, I: OverlayInt, D: OverlayEdgeData<ShapeCountB
         (looked_of splitter.new)) }
     ensures limit { snap_limit_of splitter.new ≡ snap_limit_of splitter.old }
     ensures asked { IfOk result (λ graph.
-        IsSweepWithin (list_fills solver.now.strategy (length segments.new.items)) (length segments.new.items)
+        IsSweepCost (list_fills solver.now.strategy (length segments.new.items))
+        (segments_of segments.new.items)
         (graph_asked graph)) }
 {
     splitter.split_segments(segments, solver)?;

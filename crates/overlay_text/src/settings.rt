@@ -1,9 +1,9 @@
 // What the words of a call may choose, and what stands where they choose nothing.
-ghost use Rattle.std.specs.Prelude.{◌≤ℤ◌, ◌^◌, pos};
+ghost use Rattle.std.specs.Prelude.{◌≡◌, ◌≤ℤ◌, ◌^◌, pos};
 
 use overlay_base::overlay_core::fill_rule::FillRule;
 use overlay_base::overlay_core::overlay_rule::OverlayRule;
-use overlay_base::overlay_core::solver::{Precision, Strategy};
+use overlay_base::overlay_core::solver::{Precision, Solver, Strategy};
 
 /// What the program is asked to do.
 #[derive(Clone, Copy, Debug, PartialEq)]
@@ -46,4 +46,14 @@ pub struct Settings {
     /// How many passes of a split may snap.
     pub snap_limit: u32,
     pub radius: SquaredRadius,
+}
+
+impl Settings {
+    /// The solver that the words choose.
+    pub fn solver(&self) -> Solver
+        ensures strategy { result.strategy ≡ self.now.strategy }
+        ensures precision { result.precision ≡ self.now.precision }
+    {
+        Solver::with_strategy_and_precision(self.strategy, self.precision)
+    }
 }

@@ -9,7 +9,6 @@ ghost use Rattle.polygons.specs.Run.{IsNoLimitOrRadius, IsRuleAnswer, IsPolygons
 use crate::contour_lines::read_contours;
 use crate::contour_output::write_contours;
 use overlay_base::overlay_core::overlay_rule::OverlayRule;
-use overlay_base::overlay_core::solver::Solver;
 use overlay_contours::fault::ContourFault;
 use overlay_contours::overlay::overlay_contours;
 use overlay_geometry::num::OverlayInt;
@@ -85,7 +84,7 @@ fn answer_under<I: OverlayInt>(
         ⊎ IsRuleAnswer (I.whole I.MIN_COORD) (I.whole I.MAX_COORD) I.BITS settings rule bytes.now (Err stop)) }
 {
     let shapes = read_contours::<I>(alloc, bytes)?;
-    let solver = Solver::with_strategy_and_precision(settings.strategy, settings.precision);
+    let solver = settings.solver();
     let (subject, clip) = (shapes.subject.as_slice(), shapes.clip.as_slice());
     match overlay_contours(alloc, subject, clip, &solver, settings.fill_rule, rule) {
         Ok(contours) => {

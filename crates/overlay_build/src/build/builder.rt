@@ -12,7 +12,7 @@ ghost use Rattle.overlay_base.specs.SegmentOf.{segments_of, data_segments_of};
 ghost use Rattle.overlay_base.specs.declared.segm.fault.Fault.TheVariants.{CountOutOfRange};
 ghost use Rattle.overlay_base.specs.Choices.{list_fills};
 ghost use Rattle.overlay_sweep.specs.ChainWindings.{tops_leave_range};
-ghost use Rattle.overlay_sweep.specs.Costs.{IsSweepWithin};
+ghost use Rattle.overlay_sweep.specs.Costs.{IsSweepCost};
 ghost use Rattle.overlay_sweep.specs.LiveOf.{run_asked};
 ghost use Rattle.overlay_build.specs.Graph.{graph_by, data_by, has_even_nodes};
 ghost use Rattle.overlay_build.specs.Sides.{IsBalancedOverlay};
@@ -120,8 +120,8 @@ impl<C: FillCount, N: GraphNode, I: OverlayInt, D: Copy> GraphBuilder<C, N, I, D
             → IsTrue (tops_leave_range (segments_of segments.now))) }
         ensures no_links { OnErr result (self.new.links.items ≡ []) }
         ensures no_nodes { OnErr result (self.new.nodes.items ≡ []) }
-        ensures compared { OnOk result (IsSweepWithin (list_fills solver.now.strategy (length segments.now))
-            (length segments.now) self.new.compared) }
+        ensures compared { OnOk result (IsSweepCost (list_fills solver.now.strategy (length segments.now))
+            (segments_of segments.now) self.new.compared) }
         ensures shown { OnOk result (self.new.compared ≡ run_asked self.new.sweep_runner) }
         ensures same_compared { OnErr result (self.new.compared ≡ self.old.compared) }
     {
@@ -149,8 +149,8 @@ impl<C: FillCount, N: GraphNode, I: OverlayInt, D: Copy> GraphBuilder<C, N, I, D
         ensures in_range { OnOk result (IsFalse (tops_leave_range (segments_of segments.now))) }
         ensures out_of_range { IfErr result (λ fault. fault ≡ CountOutOfRange
             → IsTrue (tops_leave_range (segments_of segments.now))) }
-        ensures compared { OnOk result (IsSweepWithin (list_fills solver.now.strategy (length segments.now))
-            (length segments.now) self.new.compared) }
+        ensures compared { OnOk result (IsSweepCost (list_fills solver.now.strategy (length segments.now))
+            (segments_of segments.now) self.new.compared) }
         ensures shown { OnOk result (self.new.compared ≡ run_asked self.new.sweep_runner) }
         ensures same_compared { OnErr result (self.new.compared ≡ self.old.compared) }
     {
@@ -206,8 +206,8 @@ impl<I: OverlayInt, D: Copy> GraphBuilder<ShapeCountBoolean, OverlayNode, I, D> 
         ensures in_range { OnOk result (IsFalse (tops_leave_range (segments_of segments.now))) }
         ensures out_of_range { IfErr result (λ fault.
             fault ≡ CountOutOfRange → IsTrue (tops_leave_range (segments_of segments.now))) }
-        ensures compared { IfOk result (λ graph. IsSweepWithin (list_fills solver.now.strategy (length segments.now))
-            (length segments.now) (graph_asked graph)) }
+        ensures compared { IfOk result (λ graph. IsSweepCost (list_fills solver.now.strategy (length segments.now))
+            (segments_of segments.now) (graph_asked graph)) }
         ensures* after { sem 𝓛
             (HoldsAnswer I.row D.row I.OverlayInt.own I.Ord.own I.PartialEq I.PartialOrd.own result self.entry) }
     {
@@ -246,8 +246,8 @@ impl<I: OverlayInt, D: Copy> GraphBuilder<ShapeCountBoolean, OverlayNode, I, D> 
         ensures in_range { OnOk result (IsFalse (tops_leave_range (segments_of segments.now))) }
         ensures out_of_range { IfErr result (λ fault.
             fault ≡ CountOutOfRange → IsTrue (tops_leave_range (segments_of segments.now))) }
-        ensures compared { IfOk result (λ graph. IsSweepWithin (list_fills solver.now.strategy (length segments.now))
-            (length segments.now) (graph_asked graph)) }
+        ensures compared { IfOk result (λ graph. IsSweepCost (list_fills solver.now.strategy (length segments.now))
+            (segments_of segments.now) (graph_asked graph)) }
         ensures* after { sem 𝓛
             (HoldsAnswer I.row D.row I.OverlayInt.own I.Ord.own I.PartialEq I.PartialOrd.own result self.entry) }
     {
@@ -290,8 +290,8 @@ impl<I: OverlayInt> GraphBuilder<ShapeCountString, Vec<usize>, I, ()> {
         ensures out_of_range { IfErr result (λ fault.
             fault ≡ CountOutOfRange → IsTrue (tops_leave_range (segments_of segments.now))) }
         ensures same_builder { IfOk result (λ graph. builder_name graph ≡ self.entry.ghost_name) }
-        ensures compared { IfOk result (λ graph. IsSweepWithin (list_fills solver.now.strategy (length segments.now))
-            (length segments.now) (lines_asked graph)) }
+        ensures compared { IfOk result (λ graph. IsSweepCost (list_fills solver.now.strategy (length segments.now))
+            (segments_of segments.now) (lines_asked graph)) }
         ensures* after { sem 𝓛 (HoldsLines I.row I.OverlayInt.own I.Ord.own I.PartialEq I.PartialOrd.own result
             self.entry) }
     {
@@ -326,8 +326,8 @@ impl<I: OverlayInt> GraphBuilder<ShapeCountString, Vec<usize>, I, ()> {
         ensures out_of_range { IfErr result (λ fault.
             fault ≡ CountOutOfRange → IsTrue (tops_leave_range (segments_of segments.now))) }
         ensures same_builder { IfOk result (λ graph. builder_name graph ≡ self.entry.ghost_name) }
-        ensures compared { IfOk result (λ graph. IsSweepWithin (list_fills solver.now.strategy (length segments.now))
-            (length segments.now) (lines_asked graph)) }
+        ensures compared { IfOk result (λ graph. IsSweepCost (list_fills solver.now.strategy (length segments.now))
+            (segments_of segments.now) (lines_asked graph)) }
         ensures* after { sem 𝓛 (HoldsLines I.row I.OverlayInt.own I.Ord.own I.PartialEq I.PartialOrd.own result
             self.entry) }
     {

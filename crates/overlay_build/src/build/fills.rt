@@ -1,7 +1,7 @@
 // The fills of all segments by a sweep. Upstream: `build_fills_with_strategy` of `build::builder`.
 ghost use Rattle.std.specs.Prelude.{◌≡◌, IsTrue, IsFalse, OnOk, IfErr, length};
 ghost use Rattle.overlay_base.specs.Choices.{list_fills};
-ghost use Rattle.overlay_sweep.specs.Costs.{IsSweepWithin};
+ghost use Rattle.overlay_sweep.specs.Costs.{IsSweepCost};
 ghost use Rattle.overlay_sweep.specs.LiveOf.{run_asked};
 ghost use Rattle.overlay_base.specs.ArrangedOf.{IsArranged};
 ghost use Rattle.overlay_base.specs.SegmentOf.{segments_of};
@@ -32,8 +32,8 @@ pub fn find_fills<C: FillCount, I: OverlayInt, D: Copy>(
     ensures in_range { OnOk result (IsFalse (tops_leave_range (segments_of segments.now))) }
     ensures out_of_range { IfErr result (λ fault. fault ≡ CountOutOfRange
         → IsTrue (tops_leave_range (segments_of segments.now))) }
-    ensures compared { OnOk result (IsSweepWithin (list_fills solver.now.strategy (length segments.now))
-        (length segments.now) (run_asked runner.new)) }
+    ensures compared { OnOk result (IsSweepCost (list_fills solver.now.strategy (length segments.now))
+        (segments_of segments.now) (run_asked runner.new)) }
 {
     fills.clear();
     fills.resize(segments.len(), NONE)?;

@@ -3,3 +3,5 @@ pub mod Searches
 pub mod ListReads
 pub mod ListOrders
 pub mod ListAnswers
+pub mod ListCounts
+pub mod SearchTables

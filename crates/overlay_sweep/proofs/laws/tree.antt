@@ -6,6 +6,7 @@ pub mod NearSides
 pub mod TreeRemovals
 pub mod TreeWays
 pub mod TreeHeights
+pub mod TreeWidths
 pub mod ScanReads
 pub mod ScanOrders
 pub mod ScanGrowth

@@ -6,6 +6,7 @@ ghost use Rattle.overlay_geometry.specs.InRange.{IsPointInRange};
 ghost use Rattle.overlay_geometry.specs.VSegmentOf.{v_pair_of, IsVSegmentInRange};
 ghost use Rattle.overlay_sweep.specs.Live.{sum_below};
 ghost use Rattle.overlay_sweep.specs.Live.{HoldSameFrom, AreFreeAt};
+ghost use Rattle.overlay_sweep.specs.Costs.{lasting_at};
 
 use overlay_base::segm::fault::Fault;
 use overlay_base::segm::winding::WindingCount;
@@ -31,6 +32,9 @@ pub trait LiveSegments<C: WindingCount, I: OverlayInt> {
     // a look at n entries asks at most d orders, and d more for each entry that it drops
     ghost is_most: { ℕ → ℕ → Type 0 };
 
+    // a look among n live segments may ask d orders
+    ghost asks: { ℕ → ℕ → Type 0 };
+
     /// Adds a segment that starts at `x`, and is not vertical, with the sum above it.
     ///
     /// Answers `Fault::Memory` where a growth is refused; the collection is empty then, and the next call may be at any
@@ -51,7 +55,10 @@ pub trait LiveSegments<C: WindingCount, I: OverlayInt> {
         ensures cleared { OnErr result ((y : ℤ) → may_go_on_at self.new y) }
         ensures held { OnOk result (held self.new ≤ suc (held self.old)) }
         ensures most { OnOk result ((n d : ℕ) → held self.old ≤ n → is_most n d
-            → asked self.new + held self.new * d ≤ suc (suc (held self.old)) * d) };
+            → asked self.new + held self.new * d ≤ suc (suc (held self.old)) * d) }
+        ensures lasting { OnOk result ((y : ℤ) → I.whole x ≤ℤ y → lasting_at y (sums self.new)
+            ≡ lasting_at y (record { pair = v_pair_of I.whole segment; count = C.winding sum } ∷ sums self.old)) }
+        ensures look { OnOk result (asks (lasting_at (I.whole x) (sums self.old)) (asked self.new)) };
 
     /// The sum on the live segment directly below `p`, of several that start at one point there the last by angle, or
     /// the default where none lies below. `x` has to be that of `p`.
@@ -65,7 +72,9 @@ pub trait LiveSegments<C: WindingCount, I: OverlayInt> {
         ensures time { (y : ℤ) → I.whole x ≤ℤ y → may_go_on_at self.new y }
         ensures held { held self.new ≤ held self.old }
         ensures most { (n d : ℕ) → held self.old ≤ n → is_most n d
-            → asked self.new + held self.new * d ≤ suc (held self.old) * d };
+            → asked self.new + held self.new * d ≤ suc (held self.old) * d }
+        ensures lasting { (y : ℤ) → I.whole x ≤ℤ y → lasting_at y (sums self.new) ≡ lasting_at y (sums self.old) }
+        ensures look { asks (lasting_at (I.whole x) (sums self.old)) (asked self.new) };
 
     /// Drops all segments. The next call may be at any `x`.
     fn clear(&mut self)

@@ -122,7 +122,7 @@ impl<C: WindingCount, I: OverlayInt> LiveSegments<C, I> for ScanList<C, I> {
     ghost use Rattle.std.specs.Prelude.{ℕ, suc, ◌+◌, ◌-◌, ◌*◌, ◌^◌, ◌≤◌, ◌≤ℤ◌, ◌<ℤ◌, ℤ, All, [], ◌∷◌, OnOk, OnErr, IfErr, length};
     ghost use Rattle.overlay_geometry.specs.PointOf.{point_of};
     ghost use Rattle.overlay_geometry.specs.InRange.{IsPointInRange};
-    ghost use Rattle.overlay_sweep.specs.Costs.{IsSearchAmong};
+    ghost use Rattle.overlay_sweep.specs.Costs.{IsSearchAmong, lasting_at};
     ghost use Rattle.overlay_sweep.specs.Live.{sum_below};
     ghost use Rattle.overlay_sweep.specs.Live.{HoldSameFrom, AreFreeAt};
     ghost use Rattle.overlay_sweep.specs.LiveOf.{list_entries, list_sums, list_asked, IsInOrderAt};
@@ -134,6 +134,8 @@ impl<C: WindingCount, I: OverlayInt> LiveSegments<C, I> for ScanList<C, I> {
     ghost held = { λ list. length (list_entries list) };
 
     ghost is_most = { λ n d. 2 * n ≤ 2 ^ d };
+
+    ghost asks = { λ n d. IsSearchAmong n d };
 
     ghost may_go_on_at = { λ list x. IsInOrderAt x list };
 
@@ -157,6 +159,9 @@ impl<C: WindingCount, I: OverlayInt> LiveSegments<C, I> for ScanList<C, I> {
         ensures most { OnOk result ((n d : ℕ) → length (list_entries self.old) ≤ n → 2 * n ≤ 2 ^ d
             → list_asked self.new + length (list_entries self.new) * d
             ≤ suc (suc (length (list_entries self.old))) * d) }
+        ensures lasting { OnOk result ((y : ℤ) → I.whole x ≤ℤ y → lasting_at y (list_sums self.new) ≡ lasting_at y
+            (record { pair = v_pair_of I.whole segment; count = C.winding sum } ∷ list_sums self.old)) }
+        ensures look { OnOk result (IsSearchAmong (lasting_at (I.whole x) (list_sums self.old)) (list_asked self.new)) }
     {
         let entry = Entry { segment, sum };
         let position = self.settle(x, &Place::Segment(segment));
@@ -183,6 +188,9 @@ impl<C: WindingCount, I: OverlayInt> LiveSegments<C, I> for ScanList<C, I> {
         ensures held { length (list_entries self.new) ≤ length (list_entries self.old) }
         ensures most { (n d : ℕ) → length (list_entries self.old) ≤ n → 2 * n ≤ 2 ^ d
             → list_asked self.new + length (list_entries self.new) * d ≤ suc (length (list_entries self.old)) * d }
+        ensures lasting { (y : ℤ) → I.whole x ≤ℤ y → lasting_at y (list_sums self.new)
+            ≡ lasting_at y (list_sums self.old) }
+        ensures look { IsSearchAmong (lasting_at (I.whole x) (list_sums self.old)) (list_asked self.new) }
     {
         let position = self.settle(x, &Place::Point(p));
         if position == 0 {

@@ -181,7 +181,7 @@ impl<C: WindingCount, I: OverlayInt> ScanTree<C, I> {
 
 impl<C: WindingCount, I: OverlayInt> LiveSegments<C, I> for ScanTree<C, I> {
     ghost use Rattle.std.specs.Prelude.{ℕ, ◌*◌, ◌≤ℤ◌, ◌<ℤ◌, ℤ, suc, ◌-◌, [], ◌∷◌, OnOk, OnErr, IfErr};
-    ghost use Rattle.overlay_sweep.specs.Costs.{IsHighest};
+    ghost use Rattle.overlay_sweep.specs.Costs.{IsHighest, IsWayAmong, lasting_at};
     ghost use Rattle.overlay_geometry.specs.PointOf.{point_of};
     ghost use Rattle.overlay_geometry.specs.InRange.{IsPointInRange};
     ghost use Rattle.overlay_geometry.specs.VSegmentOf.{IsVSegmentInRange};
@@ -197,6 +197,8 @@ impl<C: WindingCount, I: OverlayInt> LiveSegments<C, I> for ScanTree<C, I> {
     ghost held = { λ tree. kept_in tree };
 
     ghost is_most = { λ n d. IsHighest n d };
+
+    ghost asks = { λ n d. IsWayAmong n d };
 
     ghost may_go_on_at = { λ tree x. IsSoundAt x tree };
 
@@ -220,6 +222,9 @@ impl<C: WindingCount, I: OverlayInt> LiveSegments<C, I> for ScanTree<C, I> {
         ensures compared { OnOk result
             (IsAskedWithin (kept_in self.old) (suc (kept_in self.old) - kept_in self.new) (tree_asked self.new)) }
         ensures reached { OnOk result (height_of self.new / 2 ≤ tree_asked self.new + 1) }
+        ensures lasting { OnOk result ((y : ℤ) → I.whole x ≤ℤ y → lasting_at y (tree_sums self.new) ≡ lasting_at y
+            (record { pair = v_pair_of I.whole segment; count = C.winding sum } ∷ tree_sums self.old)) }
+        ensures look { OnOk result (IsWayAmong (lasting_at (I.whole x) (tree_sums self.old)) (tree_asked self.new)) }
     {
         match self.push(Entry { segment, sum }) {
             Ok(new) => {
@@ -248,6 +253,9 @@ impl<C: WindingCount, I: OverlayInt> LiveSegments<C, I> for ScanTree<C, I> {
         ensures compared { IsAskedWithin (kept_in self.old) (kept_in self.old - kept_in self.new)
             (tree_asked self.new) }
         ensures reached { height_of self.new / 2 ≤ tree_asked self.new + 1 }
+        ensures lasting { (y : ℤ) → I.whole x ≤ℤ y → lasting_at y (tree_sums self.new)
+            ≡ lasting_at y (tree_sums self.old) }
+        ensures look { IsWayAmong (lasting_at (I.whole x) (tree_sums self.old)) (tree_asked self.new) }
     {
         let last = self.settle(x, &Place::Point(p), NONE);
         if last == NONE {

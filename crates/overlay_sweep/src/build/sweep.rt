@@ -3,10 +3,10 @@ ghost use Rattle.std.specs.Prelude.{◌≡◌, ℕ, ◌<◌, IsTrue, IsFalse, If
 ghost use Rattle.overlay_base.specs.ArrangedOf.{IsArranged};
 ghost use Rattle.overlay_base.specs.Balance.{IsBalanced};
 ghost use Rattle.overlay_base.specs.SegmentOf.{segments_of, data_segments_of};
-ghost use Rattle.overlay_sweep.specs.Sweep.{visits, handled, visited, visits_leave_range};
+ghost use Rattle.overlay_sweep.specs.Sweep.{visits, handled, visited, visits_leave_range, NeverBreaks};
 ghost use Rattle.overlay_sweep.specs.ChainWindings.{HaveColumnWindings};
 ghost use Rattle.overlay_base.specs.Choices.{list_fills};
-ghost use Rattle.overlay_sweep.specs.Costs.{IsSweepWithin};
+ghost use Rattle.overlay_sweep.specs.Costs.{IsSweepWithin, IsSweepTotal};
 ghost use Rattle.overlay_sweep.specs.LiveOf.{run_asked};
 
 use crate::build::fill_handler::FillHandler;
@@ -57,6 +57,8 @@ impl<C: WindingCount, I: OverlayInt> SweepRunner<C, I> {
     /// `is_arranged` tests, and the handler has to take each of their indexes. The solver does not change the answer:
     /// it chooses whether the live segments stand in a list or in a balanced tree. Over n segments `compared` is at most
     /// 3 n d. For the list 2 n is at most 2 ^ d; for the tree no balanced one of n entries is higher than d.
+    /// Where the handler never breaks, it is the sum of all searches over the list, and no less than that of ways down
+    /// trees of the live segments alone over the tree.
     ///
     /// Answers `Fault::CountOutOfRange` exactly where a winding above a segment that is handed out leaves the range,
     /// and `Fault::Memory` where a growth is refused. The handler is spent then; the runner can be used again, and its
@@ -80,6 +82,9 @@ impl<C: WindingCount, I: OverlayInt> SweepRunner<C, I> {
         ensures refused { OnErr result (run_asked self.new ≡ run_asked self.old) }
         ensures compared { OnOk result (IsSweepWithin (list_fills solver.now.strategy (length segments.now))
             (length segments.now) (run_asked self.new)) }
+        ensures total { OnOk result (NeverBreaks H.handle_gives
+            → IsSweepTotal (list_fills solver.now.strategy (length segments.now)) (segments_of segments.now)
+            (run_asked self.new)) }
     {
         let ways = &mut self.ways;
         let mut compared = 0;
@@ -137,6 +142,9 @@ impl<C: FillCount, I: OverlayInt> SweepRunner<C, I> {
         ensures refused { OnErr result (run_asked self.new ≡ run_asked self.old) }
         ensures compared { OnOk result (IsSweepWithin (list_fills solver.now.strategy (length segments.now))
             (length segments.now) (run_asked self.new)) }
+        ensures total { OnOk result (NeverBreaks H.handle_gives
+            → IsSweepTotal (list_fills solver.now.strategy (length segments.now)) (segments_of segments.now)
+            (run_asked self.new)) }
     {
         match fill_rule {
             FillRule::EvenOdd => self.run::<D, EvenOddStrategy, H>(solver, segments, handler),

@@ -1,14 +1,15 @@
 // One sweep over an arrangement: which segment is handed out when, with which fill. Upstream: part of `build::sweep`.
-ghost use Rattle.std.specs.Prelude.{◌≡◌, ℕ, suc, ◌+◌, ◌*◌, ◌-◌, ◌^◌, ◌<◌, ◌≤◌, ◌≤ℤ◌, ◌<ℤ◌, min, ℤ, ◌∷◌, ⊤, IsTrue, IsFalse, IfOk, OnOk, IfErr, length};
+ghost use Rattle.std.specs.Prelude.{◌≡◌, ℕ, suc, ◌+◌, ◌*◌, ◌-◌, ◌^◌, ◌<◌, ◌≤◌, ◌≤ℤ◌, ◌<ℤ◌, min, int_lt, cond, ℤ, ◌∷◌, ⊤, IsTrue, IsFalse, IfOk, OnOk, IfErr, length};
 ghost use Rattle.std.specs.ControlFlow.{break_value, MatchControlFlow};
 ghost use Rattle.overlay_base.specs.Windings.{add, weight, is_valid, is_count_in_range};
 ghost use Rattle.overlay_base.specs.ArrangedOf.{IsArranged};
 ghost use Rattle.overlay_geometry.specs.InRange.{IsPairInRange};
 ghost use Rattle.overlay_base.specs.SegmentOf.{segments_of, data_segments_of, x_segment_of, winding_of, ends_of as pair_of_segment};
 ghost use Rattle.overlay_sweep.specs.Fill.{fill_byte};
-ghost use Rattle.overlay_sweep.specs.Sweep.{visits, handled, visited, visits_leave_range};
+ghost use Rattle.overlay_sweep.specs.Sweep.{visits, handled, visited, visits_leave_range, NeverBreaks};
 ghost use Rattle.overlay_sweep.specs.VisitOf.{visit_of};
 ghost use Rattle.overlay_sweep.specs.Live.{HoldSameFrom, AreFreeAt};
+ghost use Rattle.overlay_sweep.specs.Costs.{lasting_at, sweep_orders, IsAskedAs};
 
 use crate::build::fill_handler::FillHandler;
 use crate::build::fill_strategy::FillStrategy;
@@ -78,6 +79,18 @@ where
     ensures held { OnOk result (S.held live.new ≤ suc (S.held live.old)) }
     ensures most { OnOk result ((n d : ℕ) → S.held live.old ≤ n → S.is_most n d
         → compared.new + S.held live.new * d ≤ compared.old + suc (suc (S.held live.old)) * d) }
+    ensures lasting { IfOk result (λ flow. MatchControlFlow flow
+        (λ _. (y : ℤ) → (pair_of_segment segment.now).a.x ≤ℤ y → lasting_at y (S.sums live.new)
+        ≡ lasting_at y (record {
+          pair = pair_of_segment segment.now;
+          count = add (weight (C.winding bottom))
+              (weight (winding_of segment.now));
+        } ∷ S.sums live.old)) (λ _. ⊤)) }
+    ensures look { IfOk result (λ flow. MatchControlFlow flow
+        (λ _. (orders : (ℕ → ℕ) → ℕ) → IsAskedAs S.asks orders compared.old → IsAskedAs S.asks
+        (λ table. orders table
+        + cond (int_lt (pair_of_segment segment.now).a.x (pair_of_segment segment.now).b.x)
+        (table (lasting_at (pair_of_segment segment.now).a.x (S.sums live.old))) 0) compared.new) (λ _. ⊤)) }
 {
     let (top, fill) = F::add_and_fill(segment.count(), bottom)?;
     if let ControlFlow::Break(answer) = handler.handle(index, segment, fill) {
@@ -118,6 +131,8 @@ where
         (visited H.handle_gives handler (visits F.rule (data_segments_of segments.now))))) }
     ensures compared { OnOk result ((d : ℕ) → S.is_most (length segments.now) d
         → compared.new ≤ 3 * length segments.now * d) }
+    ensures total { OnOk result (NeverBreaks H.handle_gives
+        → IsAskedAs S.asks (λ table. sweep_orders table (segments_of segments.now)) compared.new) }
 {
     live.clear();
     *compared = 0;

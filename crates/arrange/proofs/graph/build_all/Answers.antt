@@ -33,3 +33,6 @@ returns-clause-arrangement g c = on_ok_weaker _ (λ _. c.in_ok-split_segments.en
 
 pub returns-clause-in_range : goal.returns-clause-in_range
 returns-clause-in_range g c = rw c.deref.ensures.value at c.build_boolean_all.ensures.in_range
+
+pub returns-clause-asked : goal.returns-clause-asked
+returns-clause-asked g c = rw c.deref.ensures.value at c.build_boolean_all.ensures.compared

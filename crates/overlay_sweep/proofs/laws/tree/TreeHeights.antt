@@ -6,7 +6,7 @@ use Rattle.std.proofs.lemmas.Bool.{cases_lt}
 use Rattle.overlay_sweep.specs.declared.build.tree_shape.TreeNode.{TreeNode}
 use Rattle.overlay_sweep.specs.TreeShapes.{Tree, leaf, fork, in_order, height, IsBalanced, IsTree}
 
-length_both : (xs : List ℕ) (i : ℕ) (ys : List ℕ) → length (xs ++ i ∷ ys) ≡ length xs + length ys + 1
+pub length_both : (xs : List ℕ) (i : ℕ) (ys : List ℕ) → length (xs ++ i ∷ ys) ≡ length xs + length ys + 1
 length_both [] i ys = omega arith
 length_both (x ∷ xs) i ys = let e = length_both xs i ys in omega (arith, e)
 

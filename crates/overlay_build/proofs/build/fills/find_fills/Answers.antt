@@ -1,7 +1,10 @@
-use Rattle.std.proofs.Common.{◌≡◌, ◌∙◌, ap, sym, refl, length, arith, rules, ℕ, Vec, Global, MutBor}
+use Rattle.std.proofs.Common.{◌≡◌, ◌∙◌, ap, sym, subst, refl, length, arith, rules, ℕ, Vec, Global, MutBor}
 use Rattle.std.proofs.lemmas.List.{length-map}
 use Rattle.overlay_base.specs.EdgeData.{without_data}
-use Rattle.overlay_base.specs.SegmentOf.{segments_of, data_segment_of, data_segments_of}
+use Rattle.overlay_base.specs.SegmentOf.{segment_of, segments_of, data_segment_of, data_segments_of}
+use Rattle.overlay_base.specs.Choices.{list_fills}
+use Rattle.overlay_sweep.specs.Costs.{IsSweepWithin}
+use Rattle.overlay_sweep.specs.LiveOf.{run_asked}
 use Rattle.overlay_sweep.specs.ChainWindings.{tops_leave_range}
 use Rattle.overlay_build.specs.Graph.{fills_of}
 use Rattle.overlay_sweep.specs.Sweep.{visits, visits_leave_range}
@@ -48,3 +51,8 @@ returns-in_err-run_with_fill_rule-clause-out_of_range g c =
     ∙ tops_of_visits c.args.fill_rule (data_segments_of c.args.segments.now)
     ∙ ap tops_leave_range same)
     ∙ c.in_err-run_with_fill_rule.ensures.out_of_range (sym passed ∙ h))
+
+pub returns-clause-compared : goal.returns-clause-compared
+returns-clause-compared g c =
+    let within : ℕ → Type 0 = λ n. IsSweepWithin (list_fills c.args.solver.now.strategy (length c.args.segments.now)) n (run_asked c.run_with_fill_rule.new.self) in
+    (subst within (sym (length-map c.args.segments.now segment_of)) c.in_ok-run_with_fill_rule.ensures.compared, c.in_ok-run_with_fill_rule.ensures.total (λ h v. refl))
