@@ -46,6 +46,7 @@ fn write_links<I: OverlayInt>(
     Ok(())
 }
 
+/// Appends the line of a link: its ends, its fill, and the numbers of its nodes.
 #[tactic(auto, unfolding(crate::specs::GraphText::link_line))]
 fn write_link<I: OverlayInt>(text: &mut String, link: &OverlayLink<I, ()>) -> Result<(), AllocError>
     ensures { OnOk result (string_bytes text.new ≡ string_bytes text.old ++ link_line (link_of I.whole link.now)) }
@@ -76,6 +77,7 @@ fn write_nodes<I: OverlayInt>(
     Ok(())
 }
 
+/// Appends the line of a node: its point, its kind, and the indexes of its links.
 #[tactic(auto, unfolding(crate::specs::GraphText::node_line))]
 fn write_node<I: OverlayInt>(
     text: &mut String,

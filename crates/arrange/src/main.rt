@@ -13,6 +13,7 @@ mod words_tests;
 
 use std::process::ExitCode;
 
+/// Runs the program over the words, the input and the outputs of the process.
 fn main(rt: HostRuntime) -> ExitCode {
     ExitCode::from(run::arrange(&rt, &mut rt.stdin(), &mut rt.stdout(), &mut rt.stderr()))
 }

@@ -65,6 +65,7 @@ fn write_walks(text: &mut String, walks: &[Vec<usize>]) -> Result<(), AllocError
     Ok(())
 }
 
+/// Appends the line of a walk: the indexes of its links.
 #[tactic(auto, unfolding(crate::specs::GraphText::walk_line))]
 fn write_walk(text: &mut String, walk: &[usize]) -> Result<(), AllocError>
     ensures { OnOk result (string_bytes text.new ≡ string_bytes text.old ++ walk_line walk.now) }

@@ -27,6 +27,7 @@ pub fn write_segments<I: OverlayInt>(
     Ok(())
 }
 
+/// Appends the line of a segment: its ends and its count.
 #[tactic(auto, unfolding(crate::specs::Output::segment_line))]
 fn write_segment<I: OverlayInt>(
     text: &mut String,

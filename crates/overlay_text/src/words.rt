@@ -263,12 +263,14 @@ fn named_precision(name: &str) -> Option<Precision>
     }
 }
 
+/// The number of passes that a value writes.
 fn snap_limit(value: &str) -> Option<u32>
     ensures { MatchOption result ((limit : ℕ) → ¬ (WritesLimit value.now limit)) (WritesLimit value.now) }
 {
     u32::try_from(number(value)?).ok()
 }
 
+/// The squared radius that a value writes.
 fn radius(value: &str) -> Option<SquaredRadius>
     ensures { MatchOption result ((squared : ℤ) → ¬ (WritesSquare value.now squared)) (WritesRadius value.now) }
 {

@@ -59,6 +59,7 @@ fn has_end_inside<I: OverlayInt>(segment: &XSegment<I>, other: &XSegment<I>) -> 
     is_strictly_inside(segment, other.a) || is_strictly_inside(segment, other.b)
 }
 
+/// Whether a point lies on a segment and is none of its ends.
 #[tactic(auto, using(crate::proofs::laws::geometry::Apart::is_strictly_inside_by_order))]
 fn is_strictly_inside<I: OverlayInt>(segment: &XSegment<I>, point: IntPoint<I>) -> bool
     requires segment { IsPairInRange I.whole I.MIN_COORD I.MAX_COORD segment.now }

@@ -43,6 +43,7 @@ pub fn is_arranged<C: WindingCount, I: OverlayInt, D: Copy>(segments: &[Segment<
     is_splittable(segments) && is_strictly_sorted(segments) && is_planar(segments)
 }
 
+/// Whether the ends of a segment are in range, and its count is valid and not empty.
 fn is_usable<C: WindingCount, I: OverlayInt, D: Copy>(segment: &Segment<C, I, D>) -> bool
     ensures { result ≡ (is_pair_in_range (I.whole I.MIN_COORD) (I.whole I.MAX_COORD) (ends_of segment.now)
         && is_valid (winding_of segment.now) && is_not_empty (winding_of segment.now)) }
@@ -52,6 +53,7 @@ fn is_usable<C: WindingCount, I: OverlayInt, D: Copy>(segment: &Segment<C, I, D>
     is_in_range(a) && is_in_range(b) && count.is_valid() && count.is_not_empty()
 }
 
+/// Whether both coordinates of a point are in range.
 fn is_in_range<I: OverlayInt>(point: IntPoint<I>) -> bool
     ensures { result ≡ is_point_in_range (I.whole I.MIN_COORD) (I.whole I.MAX_COORD) (point_of I.whole point) }
 {
@@ -78,6 +80,7 @@ fn is_strictly_sorted<C: WindingCount, I: OverlayInt, D: Copy>(
     true
 }
 
+/// Whether a segment stands before another, by its ends.
 fn is_before<I: OverlayInt>(left: &XSegment<I>, right: &XSegment<I>) -> bool
     ensures { result ≡ pair_lt (pair_of I.whole left.now) (pair_of I.whole right.now) }
 {

@@ -113,12 +113,14 @@ fn do_ends_cancel<I: OverlayInt>(ends: &[EndCount<I>]) -> bool
     are_nothing(subj, clip)
 }
 
+/// Whether both sums are 0.
 fn are_nothing(subj: i128, clip: i128) -> bool
     ensures { IsTrue result ↔ (subj ≡ pos 0) × (clip ≡ pos 0) }
 {
     subj == 0 && clip == 0
 }
 
+/// Whether an end lies at a point.
 fn is_at<I: OverlayInt>(end: &EndCount<I>, point: IntPoint<I>) -> bool
     ensures { result ≡ point_eq (point_of I.whole end.now.point) (point_of I.whole point) }
 {

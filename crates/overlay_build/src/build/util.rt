@@ -62,12 +62,14 @@ fn has_equal_points<I: OverlayInt>(points: &[IntPoint<I>]) -> bool
     false
 }
 
+/// Whether a point is one of some points.
 fn has_point<I: OverlayInt>(points: &[IntPoint<I>], point: &IntPoint<I>) -> bool
     ensures { result ≡ list_any (λ p. point_eq (point_of I.whole point.now) (point_of I.whole p)) points.now }
 {
     points.iter().any(|other| is_same(point, other))
 }
 
+/// Whether two points are equal.
 fn is_same<I: OverlayInt>(left: &IntPoint<I>, right: &IntPoint<I>) -> bool
     ensures { result ≡ point_eq (point_of I.whole left.now) (point_of I.whole right.now) }
 {

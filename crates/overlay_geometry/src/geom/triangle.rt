@@ -67,6 +67,7 @@ impl Triangle {
     }
 }
 
+/// Twice the signed area of a triangle: positive where `p`, `q`, `r` turn left.
 fn turn<I: OverlayInt>(p: IntPoint<I>, q: IntPoint<I>, r: IntPoint<I>) -> i64
     requires p { IsPointInRange I.whole I.MIN_COORD I.MAX_COORD p }
     requires q { IsPointInRange I.whole I.MIN_COORD I.MAX_COORD q }

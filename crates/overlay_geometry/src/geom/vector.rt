@@ -87,6 +87,7 @@ impl IntVector {
     }
 }
 
+/// The difference of two coordinates, which an `i64` holds.
 fn difference<I: OverlayInt>(from: I, to: I) -> i64
     requires from { IsTrue (is_coordinate (I.whole I.MIN_COORD) (I.whole I.MAX_COORD) (I.whole from)) }
     requires to { IsTrue (is_coordinate (I.whole I.MIN_COORD) (I.whole I.MAX_COORD) (I.whole to)) }
@@ -96,6 +97,7 @@ fn difference<I: OverlayInt>(from: I, to: I) -> i64
     to.to_wide() - from.to_wide()
 }
 
+/// The product of two such differences, which an `i64` holds.
 fn product(a: i64, b: i64) -> i64
     requires a { unsigned_abs a ≤ greatest_difference }
     requires b { unsigned_abs b ≤ greatest_difference }

@@ -53,12 +53,14 @@ impl<I: OverlayInt> XSegment<I> {
         other.b.x < self.a.x
     }
 
+    /// Whether both ends lie below a height.
     fn is_below(&self, y: I) -> bool
         ensures { result ≡ (int_lt (I.whole self.now.a.y) (I.whole y) && int_lt (I.whole self.now.b.y) (I.whole y)) }
     {
         self.a.y < y && self.b.y < y
     }
 
+    /// Whether both ends lie above a height.
     fn is_above(&self, y: I) -> bool
         ensures { result ≡ (int_lt (I.whole y) (I.whole self.now.a.y) && int_lt (I.whole y) (I.whole self.now.b.y)) }
     {

@@ -115,12 +115,14 @@ fn count_below<I: OverlayInt>(heights: &[I], top: I) -> usize
     heights.partition_point(|height| is_below(*height, top))
 }
 
+/// Whether a height is at most another.
 fn is_up_to<I: OverlayInt>(height: I, top: I) -> bool
     ensures { result ≡ int_le (I.whole height) (I.whole top) }
 {
     height <= top
 }
 
+/// Whether a height is less than another.
 fn is_below<I: OverlayInt>(height: I, top: I) -> bool
     ensures { result ≡ int_lt (I.whole height) (I.whole top) }
 {

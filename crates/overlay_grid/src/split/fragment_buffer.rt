@@ -211,6 +211,7 @@ impl<I: OverlayInt> FragmentBuffer<I> {
         last - first + 1
     }
 
+    /// Adds a fragment of the segment to each column that it meets.
     fn add_fragments(&mut self, index: usize, x_segment: XSegment<I>) -> Result<(), AllocError>
         requires in_range { IsPairInRange I.whole I.MIN_COORD I.MAX_COORD x_segment }
         requires order { I.whole x_segment.a.x ≤ℤ I.whole x_segment.b.x }

@@ -44,6 +44,7 @@ fn count_begun<I: OverlayInt>(group: &[Fragment<I>], end: I, axis: Axis) -> usiz
     group.partition_point(|fragment| begins_by(fragment, end, axis))
 }
 
+/// Whether a fragment begins at a coordinate or before it, along an axis.
 fn begins_by<I: OverlayInt>(fragment: &Fragment<I>, end: I, axis: Axis) -> bool
     ensures { result ≡ int_le (least_along axis (fragment_of I.whole fragment.now)) (I.whole end) }
 {

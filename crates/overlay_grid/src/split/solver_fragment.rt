@@ -237,6 +237,7 @@ fn mark_two<I: OverlayInt>(
     }
 }
 
+/// The segment of a fragment with its index.
 fn indexed<I: OverlayInt>(fragment: &Fragment<I>) -> Indexed<I>
     ensures index { result.index ≡ fragment.now.index }
     ensures x_segment { result.x_segment ≡ fragment.now.x_segment }
@@ -247,6 +248,7 @@ fn indexed<I: OverlayInt>(fragment: &Fragment<I>) -> Indexed<I>
     }
 }
 
+/// Whether a segment stands before another, by its ends.
 fn is_before<I: OverlayInt>(left: &XSegment<I>, right: &XSegment<I>) -> bool
     ensures { result ≡ pair_lt (pair_of I.whole left.now) (pair_of I.whole right.now) }
 {

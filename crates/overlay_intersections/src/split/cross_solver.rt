@@ -135,6 +135,7 @@ impl CrossSolver {
     }
 }
 
+/// Whether one number is negative and the other positive.
 fn have_opposite_signs(u: i64, v: i64) -> bool
     ensures { result ≡ have_opposite_signs u v }
 {

@@ -70,24 +70,28 @@ fn run_column<I: OverlayInt>(
     }
 }
 
+/// The last point of a path, or `a` where it is empty.
 fn last_or<I: OverlayInt>(path: &[IntPoint<I>], a: IntPoint<I>) -> IntPoint<I>
     ensures { point_of I.whole result ≡ last_point (point_of I.whole a) (points_of I.whole path.now) }
 {
     path.last().copied().unwrap_or(a)
 }
 
+/// The point of the first mark, or `b` where there is none.
 fn first_or<I: OverlayInt>(marks: &[LineMark<I>], b: IntPoint<I>) -> IntPoint<I>
     ensures { point_of I.whole result ≡ first_point (mark_points_of I.whole marks.now) (point_of I.whole b) }
 {
     marks.first().map_or(b, |mark| mark.point)
 }
 
+/// Whether a height is less than another.
 fn is_lower<I: OverlayInt>(a: I, b: I) -> bool
     ensures { result ≡ int_lt (I.whole a) (I.whole b) }
 {
     a < b
 }
 
+/// Appends the points of a column's marks in their order.
 fn append_upward<I: OverlayInt>(
     column: &[LineMark<I>],
     path: &mut Vec<IntPoint<I>>,
@@ -97,6 +101,7 @@ fn append_upward<I: OverlayInt>(
     path.extend(column.iter().map(|mark| mark.point))
 }
 
+/// Appends the points of a column's marks from the last to the first.
 fn append_downward<I: OverlayInt>(
     column: &[LineMark<I>],
     path: &mut Vec<IntPoint<I>>,

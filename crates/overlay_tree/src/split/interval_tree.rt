@@ -107,6 +107,7 @@ fn reaches<I: OverlayInt>(greatest: Option<I>, low: I) -> bool
     }
 }
 
+/// Whether one height lies above another.
 fn is_above<I: OverlayInt>(low: I, high: I) -> bool
     ensures { result ≡ int_lt (I.whole high) (I.whole low) }
 {
@@ -195,6 +196,7 @@ fn raise<I: OverlayInt>(root: &mut Node<I>, high: I)
     root.greatest = further(root.greatest, Some(high));
 }
 
+/// Whether an entry stands before that of a node, by its low end and then by its index.
 fn stands_before<I: OverlayInt>(low: I, index: usize, node: &Node<I>) -> bool
     ensures { result ≡ (int_lt (I.whole low) (I.whole node.now.low)
         || not (int_lt (I.whole node.now.low) (I.whole low)) && nat_lt index node.now.index) }
@@ -247,6 +249,7 @@ fn greatest_in<I: OverlayInt>(nodes: &[Node<I>]) -> Option<I>
     }
 }
 
+/// The greater of two heights that may be missing.
 fn further<I: OverlayInt>(a: Option<I>, b: Option<I>) -> Option<I>
     ensures { greatest_of I.whole result ≡ further (greatest_of I.whole a) (greatest_of I.whole b) }
 {

@@ -311,6 +311,7 @@ fn push_nodes<C: WindingCount, I: OverlayInt, D: Copy>(
     Ok(())
 }
 
+/// A node of one segment, with no subtrees yet.
 fn node_at<I: OverlayInt>(index: usize, segment: XSegment<I>, is_live: bool) -> Node<I>
     ensures { node_of I.whole result
         ≡ alone (record (entry_of_pair index (pair_of I.whole segment)) { is_live = is_live }) }

@@ -59,6 +59,7 @@ pub fn contact_of<I: OverlayInt>(target: &XSegment<I>, other: &XSegment<I>) -> C
     }
 }
 
+/// A contact at a whole point.
 fn at<I: OverlayInt>(point: IntPoint<I>, cross_type: CrossType) -> Contact<I>
     ensures { result ≡ Contact.At (record { point = point; cross_type = cross_type; is_round = false }) }
 {
@@ -69,6 +70,7 @@ fn at<I: OverlayInt>(point: IntPoint<I>, cross_type: CrossType) -> Contact<I>
     })
 }
 
+/// On which sides of each segment the ends of the other lie.
 fn sides_of<I: OverlayInt>(target: &XSegment<I>, other: &XSegment<I>) -> Sides
     requires target { IsPairInRange I.whole I.MIN_COORD I.MAX_COORD target.now }
     requires other { IsPairInRange I.whole I.MIN_COORD I.MAX_COORD other.now }

@@ -63,6 +63,7 @@ pub fn is_on_lines<I: OverlayInt>(
     Triangle::is_line(target.a, target.b, point) && Triangle::is_line(other.a, other.b, point)
 }
 
+/// Whether a segment is vertical or horizontal.
 fn is_along_axis<I: OverlayInt>(segment: &XSegment<I>) -> bool
     ensures { result ≡ (is_vertical (pair_of I.whole segment.now) || is_horizontal (pair_of I.whole segment.now)) }
 {
@@ -93,6 +94,7 @@ fn crossing_n<I: OverlayInt>(target: &XSegment<I>, other: &XSegment<I>) -> i64
     IntVector::between(target.a, other.a).cross_product(IntVector::between(target.a, other.b))
 }
 
+/// The cross product of two segments: the denominator of their crossing point.
 fn crossing_d<I: OverlayInt>(target: &XSegment<I>, other: &XSegment<I>) -> i64
     requires target { IsPairInRange I.whole I.MIN_COORD I.MAX_COORD target.now }
     requires other { IsPairInRange I.whole I.MIN_COORD I.MAX_COORD other.now }
@@ -112,6 +114,7 @@ fn moved<I: OverlayInt>(from: IntPoint<I>, x: i128, y: i128) -> IntPoint<I>
     IntPoint::new(coordinate(from.x, x), coordinate(from.y, y))
 }
 
+/// A coordinate so far from another.
 fn coordinate<I: OverlayInt>(from: I, by: i128) -> I
     requires from { IsTrue (is_coordinate (I.whole I.MIN_COORD) (I.whole I.MAX_COORD) (I.whole from)) }
     requires to { IsTrue (is_coordinate (I.whole I.MIN_COORD) (I.whole I.MAX_COORD) (I.whole from +ℤ by)) }

@@ -74,6 +74,7 @@ impl Offset {
     }
 }
 
+/// The numerator of an offset along one axis.
 fn numerator(length: i64, n: i64) -> i128
     requires length { unsigned_abs length ≤ greatest_difference }
     requires n { unsigned_abs n ≤ 2 * greatest_product }
@@ -83,6 +84,7 @@ fn numerator(length: i64, n: i64) -> i128
     length as i128 * n as i128
 }
 
+/// A numerator with its sign exchanged where the denominator is negative, which then counts as positive.
 fn with_sign_of(d: i64, numerator: i128) -> i128
     requires { unsigned_abs numerator ≤ greatest_numerator }
     ensures value { result ≡ int_signum d *ℤ numerator }

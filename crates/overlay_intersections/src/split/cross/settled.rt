@@ -32,6 +32,7 @@ pub fn settled<I: OverlayInt>(target: &XSegment<I>, other: &XSegment<I>) -> Cros
     }
 }
 
+/// Of which segment a crossing point is an end: of the target, else of the other, or of none.
 #[tactic(auto, unfolding(crate::specs::CrossAnswer::kind_of_point))]
 fn kind_of_point<I: OverlayInt>(
     target: &XSegment<I>,
@@ -50,6 +51,7 @@ fn kind_of_point<I: OverlayInt>(
     }
 }
 
+/// Whether a point is an end of a segment.
 fn is_end<I: OverlayInt>(segment: &XSegment<I>, point: IntPoint<I>) -> bool
     ensures { result ≡ is_end (pair_of I.whole segment.now) (point_of I.whole point) }
 {

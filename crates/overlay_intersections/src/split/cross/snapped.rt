@@ -79,6 +79,7 @@ fn snapped_to_end<I: OverlayInt>(
     }
 }
 
+/// A crossing at a point that was rounded.
 fn rounded<I: OverlayInt>(point: IntPoint<I>, cross_type: CrossType) -> CrossResult<I>
     ensures { result ≡ record { point = point; cross_type = cross_type; is_round = true } }
 {
