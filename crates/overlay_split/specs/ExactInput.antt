@@ -1,9 +1,10 @@
 -- Input whose crossings all lie at whole points. There a split changes no count anywhere along a segment.
-use Rattle.std.specs.Prelude.{◌≡◌, IsTrue, Bool, not, ◌&&◌, List, ◌++◌, filter, map, flat_map}
+use Rattle.std.specs.Prelude.{◌≡◌, IsTrue, Bool, cond, not, ◌&&◌, List, ◌++◌, filter, map, flat_map}
 use Rattle.std.specs.List.{list_any, list_all}
 use Rattle.overlay_geometry.specs.Points.{Point, Pair, point_eq, lies_on, is_ordered, is_strictly_inside}
-use Rattle.overlay_base.specs.Windings.{Winding, total}
-use Rattle.overlay_base.specs.Segments.{WholeSegment, pairs, counts, ends}
+use Rattle.overlay_base.specs.Windings.{Winding, empty, total}
+use Rattle.overlay_base.specs.Segments.{WholeSegment, pairs, counts, ends, is_map, winding_at}
+use Rattle.overlay_base.specs.Join.{join}
 use Rattle.overlay_geometry.specs.Meeting.{do_cross}
 use Rattle.overlay_intersections.specs.Crossing.{snapping_point}
 use Rattle.overlay_intersections.specs.PassMarks.{is_rounded}
@@ -44,3 +45,7 @@ lies_on_input given result =
 -- along each elementary pair the result counts what the given segments count there, and it lies on them
 abbrev pub KeepsCounts : List WholeSegment → List WholeSegment → Type 0
 KeepsCounts given result = ((e : Pair) → IsTrue (is_elementary given e) → count_along result e ≡ count_along given e) × IsTrue (lies_on_input given result)
+
+-- The answer to exact input, told without passes: a map in which each elementary pair of the join has what the given segments count along it, and no other pair has a count.
+abbrev pub IsExactAnswer : List WholeSegment → List WholeSegment → Type 0
+IsExactAnswer given result = IsTrue (is_map result) × ((e : Pair) → winding_at result e ≡ cond (is_elementary (join given) e) (count_along given e) empty)

@@ -17,7 +17,7 @@ use Rattle.overlay_split.specs.Pass.{cut, pass}
 use Rattle.overlay_intersections.specs.PassMarks.{is_rounded, mark_count}
 use Rattle.overlay_split.specs.Run.{Settings, IsPassCount, IsRun, LeavesRange, after_passes}
 use Rattle.overlay_split.specs.Potential.{potential}
-use Rattle.overlay_split.specs.ExactInput.{is_exact_input, KeepsCounts}
+use Rattle.overlay_split.specs.ExactInput.{is_exact_input, KeepsCounts, IsExactAnswer}
 use Rattle.overlay_base.specs.Places.{RationalPoint, spans, lies_below, winding_below}
 use Rattle.overlay_base.specs.Rays.{is_on_none, winding_above, winding_left, winding_right}
 use Rattle.overlay_split.specs.Nearness.{Fraction, whole_point, point_along, exact_crossing, IsWithin, IsNear, LiesNear, LieNear, IsNearSome, StaysNear, are_lines, root, reach, reach_of_pass, reach_of_run, reach_of_passes}
@@ -137,6 +137,12 @@ abbrev pub ExactInputKeepsCounts : Type 0
 ExactInputKeepsCounts =
     (settings : Settings) (given result : List WholeSegment) (passes : ℕ) (flag : Bool) → IsTrue (are_ordered given) → IsTrue (is_exact_input given) → IsRun settings given result passes flag →
     KeepsCounts given result
+
+-- It is the one answer that is told without passes: the elementary pairs of the join, each with the count along it.
+abbrev pub ExactInputHasOneAnswer : Type 0
+ExactInputHasOneAnswer =
+    ((settings : Settings) (given result : List WholeSegment) (passes : ℕ) (flag : Bool) → IsTrue (are_ordered given) → IsTrue (is_exact_input given) → IsRun settings given result passes flag → IsExactAnswer given result)
+    × ((given first second : List WholeSegment) → IsExactAnswer given first → IsExactAnswer given second → first ≡ second)
 
 -- and the settings do not change it
 abbrev pub ExactRunsAgree : Type 0

@@ -1,8 +1,9 @@
 -- Exact input: which pairs are elementary, and their counts.
-use Rattle.std.specs.Prelude.{◌≡◌, refl, pos, true, false, ◌&&◌, [], ◌∷◌}
+use Rattle.std.specs.Prelude.{◌≡◌, refl, pos, true, false, ◌&&◌, List, [], ◌∷◌}
 use Rattle.std.specs.List.{list_all}
 use Rattle.overlay_base.specs.Windings.{winding_eq}
-use Rattle.overlay_base.specs.Segments.{pairs}
+use Rattle.overlay_base.specs.Segments.{WholeSegment, pairs, winding_at}
+use Rattle.overlay_base.specs.Join.{join}
 use Rattle.overlay_split.specs.ExactInput.{is_exact_input, is_elementary, count_along, lies_on_input}
 use Rattle.overlay_base.proofs.examples.Words.{neg, pair, count, seg}
 use Rattle.overlay_split.proofs.examples.Computing.{computing}
@@ -50,3 +51,23 @@ counts_of_overlap : count_along (seg (pos 0) (pos 0) (pos 100) (pos 0) (pos 1) �
     ≡ count (pos 2) (pos 0)
 unfolding computing
 counts_of_overlap = refl
+
+-- each pair of the answer is elementary in the join, with the count along it
+answer_of_squares : list_all (λ e. is_elementary (join two_squares) e && winding_eq (winding_at twelve e) (count_along two_squares e)) (pairs twelve)
+    ≡ true
+unfolding computing
+answer_of_squares = refl
+
+-- Ends of segments that cancel are ends of what was given, and not of the join: no segment of the answer ends there.
+cancelled : List WholeSegment
+cancelled = seg (pos 0) (pos 0) (pos 10) (pos 0) (pos 1) ∷ seg (pos 0) (pos 0) (pos 5) (pos 0) (pos 1) ∷ seg (pos 0) (pos 0) (pos 5) (pos 0) (neg 1) ∷ []
+
+half_of_given : is_elementary cancelled (pair (pos 0) (pos 0) (pos 5) (pos 0))
+    ≡ true
+unfolding computing cancelled
+half_of_given = refl
+
+no_half_of_join : is_elementary (join cancelled) (pair (pos 0) (pos 0) (pos 5) (pos 0))
+    ≡ false
+unfolding computing cancelled
+no_half_of_join = refl

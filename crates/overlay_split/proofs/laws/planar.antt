@@ -8,3 +8,4 @@ pub mod PlanarPasses
 pub mod Arranged
 pub mod PlanarRuns
 pub mod ExactInputs
+pub mod ExactAnswers

@@ -5,7 +5,7 @@ ghost use Rattle.overlay_split.specs.Laws.{SettlingLowers, RunEnds, RunIsOne, Ex
 ghost use Rattle.overlay_split.specs.Laws.{RootIsMeant, RootOfPower, NearEndsAreEnough, DistancesAddUp, CrossingLiesOnBoth, MarkIsNear, PassStaysNear, PiecesStayNear, RunStaysNear, LinesAreKept, ReachIsBounded, LastPassReachesNothing, ExactInputReachesNothing};
 ghost use Rattle.overlay_split.specs.Laws.{PassOnOneSide, JoinKeepsWinding, PassKeepsWinding, RunKeepsWinding, ExactInputKeepsWinding};
 ghost use Rattle.overlay_split.specs.Laws.{PassesIgnoreOrder, RunIgnoresOrder, FarLiesOnNone, RunKeepsRays};
-ghost use Rattle.overlay_split.specs.Laws.{StaysInBox, ExactInputKeepsCounts, ExactRunsAgree, DataIsBeside, UnmarkedDataIsUnchanged, ArrangedDataIsUnchanged, DataKeepsWhatHooksKeep, StoppedRunLeavesRange, StoppedRunIsOne};
+ghost use Rattle.overlay_split.specs.Laws.{StaysInBox, ExactInputKeepsCounts, ExactInputHasOneAnswer, ExactRunsAgree, DataIsBeside, UnmarkedDataIsUnchanged, ArrangedDataIsUnchanged, DataKeepsWhatHooksKeep, StoppedRunLeavesRange, StoppedRunIsOne};
 
 /// Take a function of points, and a number of the count that inversion negates, as `subj` and `clip`. The pieces of a
 /// segment, each with what the function loses from its start to its end times that number, add up to the segment. So a
@@ -56,9 +56,10 @@ pub fn box_laws()
 
 /// Let no two given segments cross at a point that is not whole. Then the result lies on the given segments, and
 /// between two neighbors among the ends and crossings on a given segment it counts what the given segments count there
-/// together. The settings do not change it.
+/// together. No other pair has a count, which tells the one answer without any pass. So the settings do not change it.
 pub fn exact_input_laws()
     ensures counts { ExactInputKeepsCounts }
+    ensures answer { ExactInputHasOneAnswer }
     ensures agree { ExactRunsAgree }
 {}
 

@@ -82,7 +82,7 @@ Has-end_a segments s i = Has-flat_map (λ (u : Pair). u.a ∷ u.b ∷ []) segmen
 Has-end_b : (segments : List Pair) (s : Pair) → Has segments s → Has (ends segments) s.b
 Has-end_b segments s i = Has-flat_map (λ (u : Pair). u.a ∷ u.b ∷ []) segments s s.b i (inr (inl refl))
 
-special_end : (segments : List Pair) (s : Pair) (e : Point) → Has segments s → IsTrue (is_end s e) → Has (special_points segments) e
+pub special_end : (segments : List Pair) (s : Pair) (e : Point) → Has segments s → IsTrue (is_end s e) → Has (special_points segments) e
 unfolding special_points
 special_end segments s e i h =
     Has-append_left (ends segments) (flat_map (λ s. map (λ t. snapping_point s t) (filter (λ t. do_cross s t) segments)) segments) e
@@ -96,7 +96,7 @@ special_crossing segments s t i j c =
     (Has-map (λ u. snapping_point s u) (filter (λ u. do_cross s u) segments) t (Has-filter (λ u. do_cross s u) segments t j c)))
 
 -- marks are special
-special_mark : (given : List WholeSegment) → IsTrue (are_ordered given) → IsFalse (is_rounded given) → (s u : Pair) (e : Point) → In given s → In given u → MarksAt s u e → Has (special_points (pairs given)) e
+pub special_mark : (given : List WholeSegment) → IsTrue (are_ordered given) → IsFalse (is_rounded given) → (s u : Pair) (e : Point) → In given s → In given u → MarksAt s u e → Has (special_points (pairs given)) e
 special_mark given o h s u e i j (inr m) = special_end (pairs given) u e j m.2
 special_mark given o h s u e i j (inl m) =
     let on_s = (inside_order s e (In-ordered given o s i) m.0).0 in
@@ -108,11 +108,11 @@ special_stop : (given : List WholeSegment) → IsTrue (are_ordered given) → Is
 special_stop given o h s e i (inl k) = special_end (pairs given) s e (In-join given s i) k
 special_stop given o h s e i (inr (u, j, m)) = special_mark given o h s u e (In-join given s i) (In-join given u j) m
 
-contains_from : (s e : Pair) → IsTrue (lies_on s e.a) → IsTrue (lies_on s e.b) → IsTrue (contains_pair s e)
+pub contains_from : (s e : Pair) → IsTrue (lies_on s e.a) → IsTrue (lies_on s e.b) → IsTrue (contains_pair s e)
 unfolding contains_pair
 contains_from s e h k = and_from (lies_on s e.a) (lies_on s e.b) h k
 
-contains_parts : (s e : Pair) → IsTrue (contains_pair s e) → IsTrue (lies_on s e.a) × IsTrue (lies_on s e.b)
+pub contains_parts : (s e : Pair) → IsTrue (contains_pair s e) → IsTrue (lies_on s e.a) × IsTrue (lies_on s e.b)
 unfolding contains_pair
 contains_parts s e h = and_parts (lies_on s e.a) (lies_on s e.b) h
 
@@ -213,11 +213,11 @@ sum_through e s c p (q ∷ xs) os o ha hb two on sides h k =
 
 -- ---- an elementary pair
 
-elementary_ordered : (given : List WholeSegment) (e : Pair) → IsTrue (is_elementary given e) → Before e.a e.b
+pub elementary_ordered : (given : List WholeSegment) (e : Pair) → IsTrue (is_elementary given e) → Before e.a e.b
 unfolding is_elementary
 elementary_ordered given e h = before e.a e.b (and_parts _ _ (and_parts _ _ (and_parts _ _ (and_parts _ _ h).0).0).0).0
 
-elementary_clear : (given : List WholeSegment) (e : Pair) → IsTrue (is_elementary given e) → (v : Point) → Has (special_points (pairs given)) v → IsFalse (is_strictly_inside e v)
+pub elementary_clear : (given : List WholeSegment) (e : Pair) → IsTrue (is_elementary given e) → (v : Point) → Has (special_points (pairs given)) v → IsFalse (is_strictly_inside e v)
 unfolding is_elementary
 elementary_clear given e h v i =
     list_any-at (λ p. is_strictly_inside e p) (special_points (pairs given)) v (not-true (list_any (λ p. is_strictly_inside e p) (special_points (pairs given))) (and_parts _ _ h).1) i
