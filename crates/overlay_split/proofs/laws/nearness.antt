@@ -7,3 +7,4 @@ pub mod LineCounts
 pub mod OneSide
 pub mod Places
 pub mod FarRays
+pub mod NamedData
