@@ -1,4 +1,5 @@
 pub mod FarRegions
 pub mod LinesAlong
 pub mod Overlays
+pub mod NamedLinks
 pub mod GivenAgain

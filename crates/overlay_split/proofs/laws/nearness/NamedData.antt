@@ -13,6 +13,9 @@ use Rattle.overlay_geometry.proofs.laws.lists.Keys.{AllByRecursion-distinct_in_o
 use Rattle.overlay_base.specs.Windings.{Winding, is_not_empty}
 use Rattle.overlay_base.specs.Segments.{WholeSegment, are_ordered}
 use Rattle.overlay_base.specs.EdgeData.{DataSegment, SplitCall, Hooks, without_data, data_piece, merged, merge_runs, merge_sorted, data_join}
+use Rattle.overlay_base.specs.SegmentOf.{segments_of, data_segments_of}
+use Rattle.overlay_base.specs.declared.segm.segment.Segment.{Segment}
+use Rattle.overlay_base.proofs.laws.joins.Views.{segments_ordered, segments_of-bare}
 use Rattle.overlay_base.proofs.laws.joins.Maps.{are_ordered-map}
 use Rattle.overlay_base.proofs.laws.lists.StableSorts.{AllByRecursion-stably_sorted}
 use Rattle.overlay_intersections.specs.Marks.{Placing}
@@ -21,7 +24,7 @@ use Rattle.overlay_split.specs.Path.{path_from, columns_of}
 use Rattle.overlay_split.specs.Run.{Settings, placing_of_pass, after_passes}
 use Rattle.overlay_split.specs.DataPass.{data_pieces, data_pieces_of_each, data_cut, data_pass, data_after_passes}
 use Rattle.overlay_split.specs.Nearness.{whole_point, IsNear, LiesNear, reach, reach_of_pass, reach_of_run}
-use Rattle.overlay_split.specs.Laws.{HooksNameNoOther, DataNamesWhatIsNear}
+use Rattle.overlay_split.specs.Laws.{HooksNameNoOther, NameNear, DataNamesWhatIsNear}
 use Rattle.overlay_split.proofs.laws.paths.Boxes.{path_from_has}
 use Rattle.overlay_split.proofs.laws.paths.Paths.{all_of-columns_of}
 use Rattle.overlay_split.proofs.laws.paths.Runs.{is_map-after_passes}
@@ -159,3 +162,13 @@ module _ {D S : Type 0} (hooks : Hooks D S) (names : D → Pair → Bool) (keeps
 pub data_names_what_is_near : {D S : Type 0} → DataNamesWhatIsNear D S
 data_names_what_is_near hooks names keeps settings given store k ordered h =
     All-from_recursion _ (data_after_passes hooks settings given store k).0 (named_after hooks names keeps settings given store k ordered (recursion_from_All _ given h))
+
+-- the same of what a split is given
+pub split_names_near : {C I D S : Type 0} {m : _} {w : _} {o : _} {e : _} {p : _} (hooks : Hooks D S) (names : D → Pair → Bool) → HooksNameNoOther hooks names → (settings : Settings) (xs : List (Segment C I D m w o e p)) (store : S) (k : ℕ) (result : List (DataSegment D)) →
+    result ≡ (data_after_passes hooks settings (data_segments_of xs) store k).0 → NameNear names 0 (data_segments_of xs) → NameNear names (reach_of_run settings (segments_of xs) k) result
+split_names_near hooks names keeps settings xs store k result same h =
+    let bare = segments_of-bare xs in
+    let ordered = subst (λ (l : List WholeSegment). IsTrue (are_ordered l)) bare (segments_ordered xs) in
+    subst (λ (l : List WholeSegment). NameNear names (reach_of_run settings l k) result) (sym bare)
+    (subst (λ (l : List (DataSegment _)). NameNear names (reach_of_run settings (without_data (data_segments_of xs)) k) l) (sym same)
+    (data_names_what_is_near hooks names keeps settings (data_segments_of xs) store k ordered h))
