@@ -18,7 +18,7 @@ use Rattle.overlay_split.specs.Run.{Settings, IsPassCount, LeavesRange, after_pa
 use Rattle.overlay_split.specs.DataPass.{data_after_passes}
 use Rattle.overlay_split.specs.ExactInput.{is_exact_input, KeepsCounts}
 use Rattle.overlay_split.specs.Nearness.{LiesNear, StaysNear}
-use Rattle.overlay_split.specs.Places.{KeepsWinding}
+use Rattle.overlay_split.specs.Places.{KeepsWinding, KeepsWindingNearLines}
 use Rattle.overlay_split.specs.Potential.{potential}
 use Rattle.overlay_sweep.specs.ChainWindings.{tops_leave_range}
 use Rattle.overlay_build.specs.Graph.{Graph, graph_by}
@@ -71,6 +71,9 @@ pub record IsClip (settings : Settings) (fill_rule : FillRule) (rule : ClipRule)
   -- Where the given counts balance, it holds exactly the parts of lines that the rule keeps by how the polygons wind on their
   -- two sides, with the fills of these sides.
   pub balanced : IsBalanced given → IsBalancedClip rule fill_rule segments graph
+  -- At each place that is farther than the passes reach from those of the given segments that wind, the polygons, the
+  -- segments wind as these do, however near lines are to it.
+  pub near_lines : KeepsWindingNearLines settings given segments passes
   -- Where all crossings have whole coordinates, a line runs along a part of the given segments after the split exactly where
   -- a given line does.
   pub lines : IsTrue (is_exact_input given) → KeepsLines given segments

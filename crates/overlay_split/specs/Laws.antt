@@ -21,7 +21,7 @@ use Rattle.overlay_split.specs.ExactInput.{is_exact_input, KeepsCounts}
 use Rattle.overlay_base.specs.Places.{RationalPoint, spans, lies_below, winding_below}
 use Rattle.overlay_base.specs.Rays.{is_on_none, winding_above, winding_left, winding_right}
 use Rattle.overlay_split.specs.Nearness.{Fraction, whole_point, point_along, exact_crossing, IsWithin, IsNear, LiesNear, LieNear, IsNearSome, StaysNear, are_lines, root, reach, reach_of_pass, reach_of_run, reach_of_passes}
-use Rattle.overlay_split.specs.Places.{IsFar, KeepsWinding}
+use Rattle.overlay_split.specs.Places.{IsFar, KeepsWinding, KeepsWindingNearLines}
 use Rattle.overlay_split.specs.DataPass.{data_pass, data_after_passes, IsStoppedRun}
 
 -- ---- paths
@@ -237,6 +237,10 @@ PassKeepsWinding =
 -- so what stands after k passes winds as what is given wherever that is farther away than the passes reach
 abbrev pub RunKeepsWinding : Type 0
 RunKeepsWinding = (settings : Settings) (given : List WholeSegment) (k : ℕ) → IsTrue (are_ordered given) → KeepsWinding settings given (after_passes settings given k) k
+
+-- and that is farther away from those that wind, as lines do not
+abbrev pub RunKeepsWindingNearLines : Type 0
+RunKeepsWindingNearLines = (settings : Settings) (given : List WholeSegment) (k : ℕ) → IsTrue (are_ordered given) → KeepsWindingNearLines settings given (after_passes settings given k) k
 
 -- on exact input at each place that lies on no given segment
 abbrev pub ExactInputKeepsWinding : Type 0

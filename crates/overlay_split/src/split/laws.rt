@@ -3,7 +3,7 @@
 ghost use Rattle.overlay_split.specs.Laws.{NumbersAreOdd, PiecesTelescope, PassKeepsLosses, PassKeepsBalance, RunKeepsBalance, RunKeepsPolygons};
 ghost use Rattle.overlay_split.specs.Laws.{SettlingLowers, RunEnds, RunIsOne, ExactPassIsPlanar, PlanarPassIsUnchanged, RunIsPlanar, ArrangedIsUnchanged, ResultIsUnchanged};
 ghost use Rattle.overlay_split.specs.Laws.{RootIsMeant, RootOfPower, NearEndsAreEnough, DistancesAddUp, CrossingLiesOnBoth, MarkIsNear, PassStaysNear, PiecesStayNear, RunStaysNear, LinesAreKept, ReachIsBounded, LastPassReachesNothing, ExactInputReachesNothing};
-ghost use Rattle.overlay_split.specs.Laws.{PassOnOneSide, JoinKeepsWinding, PassKeepsWinding, RunKeepsWinding, ExactInputKeepsWinding};
+ghost use Rattle.overlay_split.specs.Laws.{PassOnOneSide, JoinKeepsWinding, PassKeepsWinding, RunKeepsWinding, RunKeepsWindingNearLines, ExactInputKeepsWinding};
 ghost use Rattle.overlay_split.specs.Laws.{PassesIgnoreOrder, RunIgnoresOrder, FarLiesOnNone, RunKeepsRays};
 ghost use Rattle.overlay_split.specs.Laws.{StaysInBox, ExactInputKeepsCounts, ExactRunsAgree, DataIsBeside, UnmarkedDataIsUnchanged, ArrangedDataIsUnchanged, DataKeepsWhatHooksKeep, DataNamesWhatIsNear, StoppedRunLeavesRange, StoppedRunIsOne};
 
@@ -85,14 +85,15 @@ pub fn nearness_laws()
 
 /// Segments that lie near one segment pass each place that is farther from it on one side. So a pass changes the
 /// winding at no place that is farther from every segment than it moves crossings, and a run at none that is farther
-/// from every given segment than its passes reach together; on exact input at none that lies on no given segment. A
-/// place that is far lies on no segment, so where the given counts balance, any ray from it through the given segments
-/// tells the winding there after so many passes.
+/// from every given segment than its passes reach together, lines aside, whose counts do not wind; on exact input at none
+/// that lies on no given segment. A place that is far lies on no segment, so where the given counts balance, any ray from
+/// it through the given segments tells the winding there after so many passes.
 pub fn place_laws()
     ensures side { PassOnOneSide }
     ensures join { JoinKeepsWinding }
     ensures pass { PassKeepsWinding }
     ensures run { RunKeepsWinding }
+    ensures near_lines { RunKeepsWindingNearLines }
     ensures exact_input { ExactInputKeepsWinding }
     ensures on_none { FarLiesOnNone }
     ensures rays { RunKeepsRays }
