@@ -26,6 +26,7 @@ use Rattle.overlay_build.specs.GraphOf.{link_of}
 use Rattle.overlay_build.specs.Sides.{IsBalancedOverlay}
 use Rattle.overlay_build.specs.Lines.{IsBalancedClip}
 use Rattle.i_overlay.specs.FarRegions.{EnclosesFarRegion, WindsRoundFarRegion}
+use Rattle.i_overlay.specs.BesideLines.{KeepsByGiven}
 use Rattle.i_overlay.specs.LinesAlong.{KeepsLines}
 
 -- What a split leaves of what it is given.
@@ -74,6 +75,9 @@ pub record IsClip (settings : Settings) (fill_rule : FillRule) (rule : ClipRule)
   -- At each place that is farther than the passes reach from those of the given segments that wind, the polygons, the
   -- segments wind as these do, however near lines are to it.
   pub near_lines : KeepsWindingNearLines settings given segments passes
+  -- Where the given counts balance, so the rule keeps a part of a line by how these wind at two such places directly beside
+  -- it, one on each side.
+  pub by_given : IsBalanced given → KeepsByGiven settings rule fill_rule given segments passes
   -- Where all crossings have whole coordinates, a line runs along a part of the given segments after the split exactly where
   -- a given line does.
   pub lines : IsTrue (is_exact_input given) → KeepsLines given segments

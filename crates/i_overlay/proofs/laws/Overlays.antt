@@ -33,6 +33,7 @@ use Rattle.overlay_build.specs.Values.{tells_apart}
 use Rattle.overlay_build.specs.Boundary.{of_subject, times_round}
 use Rattle.overlay_build.specs.Sides.{IsBalancedOverlay}
 use Rattle.overlay_build.specs.Lines.{IsBalancedClip}
+use Rattle.i_overlay.proofs.laws.BesideLines.{keeps_by_given}
 use Rattle.i_overlay.proofs.laws.LinesAlong.{lines_kept}
 use Rattle.i_overlay.specs.Headline.{IsSplit, IsOverlay, IsClip, IsSplitRefused, IsBuildRefused}
 
@@ -78,11 +79,13 @@ overlay_from settings fill_rule rule given segments passes graph split links bal
 pub clip_from : (settings : Settings) (fill_rule : FillRule) (rule : ClipRule) (given segments : List WholeSegment) (passes : ℕ) (graph : Graph) → IsTrue (are_ordered given) → IsSplit settings given segments passes → graph ≡ graph_by (keeps_clip rule) fill_rule segments
     → (IsBalanced segments → IsBalancedClip rule fill_rule segments (graph_by (keeps_clip rule) fill_rule segments)) → IsClip settings fill_rule rule given segments passes graph
 clip_from settings fill_rule rule given segments passes graph ordered split links balanced =
+    let near = subst (λ (l : List WholeSegment). KeepsWindingNearLines settings given l passes) (sym split.arrangement) (run_keeps_winding_near_lines settings given passes ordered) in
     record {
       split = split;
       links = links;
       balanced = λ balance. subst (IsBalancedClip rule fill_rule segments) (sym links) (balanced (λ p. split.kept p ∙ balance p));
-      near_lines = subst (λ (l : List WholeSegment). KeepsWindingNearLines settings given l passes) (sym split.arrangement) (run_keeps_winding_near_lines settings given passes ordered);
+      near_lines = near;
+      by_given = λ balance. keeps_by_given settings rule fill_rule given segments passes split.planar (λ p. split.kept p ∙ balance p) near;
       lines = λ exact. lines_kept given segments (split.exact_input exact);
     }
 
