@@ -1,7 +1,7 @@
 -- What a split and a build answer together, whichever strategy finds the pairs that meet.
-use Rattle.std.specs.Prelude.{◌≡◌, ◌⊎◌, ◌≤◌, ◌+◌, ℕ, Bool, ◌&&◌, IsTrue, List, []}
+use Rattle.std.specs.Prelude.{◌≡◌, ◌⊎◌, ◌≤◌, ◌+◌, ℕ, ℤ, Bool, ◌&&◌, IsTrue, List, [], All}
 use Rattle.std.specs.List.{list_all}
-use Rattle.overlay_geometry.specs.Points.{is_within_box_of}
+use Rattle.overlay_geometry.specs.Points.{Pair, is_within_box_of}
 use Rattle.overlay_base.specs.Segments.{WholeSegment, pairs, ends, is_map}
 use Rattle.overlay_base.specs.EdgeData.{DataSegment, Hooks}
 use Rattle.overlay_base.specs.Planar.{is_planar}
@@ -11,19 +11,22 @@ use Rattle.overlay_base.specs.Rules.{keeps_fill}
 use Rattle.overlay_base.specs.ClipRules.{keeps_clip}
 use Rattle.overlay_base.specs.declared.overlay_core.clip_rule.ClipRule.{ClipRule}
 use Rattle.overlay_base.specs.declared.overlay_core.fill_rule.FillRule.{FillRule}
+use Rattle.overlay_base.specs.declared.overlay_core.link.OverlayLink.{OverlayLink}
 use Rattle.overlay_base.specs.declared.segm.fault.Fault.{Fault}
 use Rattle.overlay_base.specs.declared.segm.fault.Fault.TheVariants.{CountOutOfRange}
 use Rattle.overlay_split.specs.Run.{Settings, IsPassCount, LeavesRange, after_passes}
 use Rattle.overlay_split.specs.DataPass.{data_after_passes}
 use Rattle.overlay_split.specs.ExactInput.{is_exact_input, KeepsCounts}
-use Rattle.overlay_split.specs.Nearness.{StaysNear}
-use Rattle.overlay_split.specs.Places.{KeepsWinding}
+use Rattle.overlay_split.specs.Nearness.{LiesNear, StaysNear}
+use Rattle.overlay_split.specs.Places.{KeepsWinding, KeepsWindingNearLines}
 use Rattle.overlay_split.specs.Potential.{potential}
 use Rattle.overlay_sweep.specs.ChainWindings.{tops_leave_range}
 use Rattle.overlay_build.specs.Graph.{Graph, graph_by}
+use Rattle.overlay_build.specs.GraphOf.{link_of}
 use Rattle.overlay_build.specs.Sides.{IsBalancedOverlay}
 use Rattle.overlay_build.specs.Lines.{IsBalancedClip}
 use Rattle.i_overlay.specs.FarRegions.{EnclosesFarRegion, WindsRoundFarRegion}
+use Rattle.i_overlay.specs.BesideLines.{KeepsByGiven}
 use Rattle.i_overlay.specs.LinesAlong.{KeepsLines}
 
 -- What a split leaves of what it is given.
@@ -69,6 +72,12 @@ pub record IsClip (settings : Settings) (fill_rule : FillRule) (rule : ClipRule)
   -- Where the given counts balance, it holds exactly the parts of lines that the rule keeps by how the polygons wind on their
   -- two sides, with the fills of these sides.
   pub balanced : IsBalanced given → IsBalancedClip rule fill_rule segments graph
+  -- At each place that is farther than the passes reach from those of the given segments that wind, the polygons, the
+  -- segments wind as these do, however near lines are to it.
+  pub near_lines : KeepsWindingNearLines settings given segments passes
+  -- Where the given counts balance, so the rule keeps a part of a line by how these wind at two such places directly beside
+  -- it, one on each side.
+  pub by_given : IsBalanced given → KeepsByGiven settings rule fill_rule given segments passes
   -- Where all crossings have whole coordinates, a line runs along a part of the given segments after the split exactly where
   -- a given line does.
   pub lines : IsTrue (is_exact_input given) → KeepsLines given segments
@@ -92,3 +101,7 @@ IsRefused settings given segments passes_before passes fault =
 -- The data of the segments is what the hooks of so many passes make of what is given, from some store at first.
 abbrev pub IsDataAfter : {D S : Type 0} → Hooks D S → (S → Type 0) → Settings → List (DataSegment D) → List (DataSegment D) → ℕ → Type 0
 IsDataAfter {S = S} hooks IsFirst settings given segments passes = (store : S) × IsFirst store × (segments ≡ (data_after_passes hooks settings given store passes).0)
+
+-- each link lies that near to every pair that its data names
+abbrev pub LinksNameNear : {I D : Type 0} → (I → ℤ) → (D → Pair → Bool) → ℕ → List (OverlayLink I D) → Type 0
+LinksNameNear whole names halves links = All (λ l. (s : Pair) → IsTrue (names l.edge_data s) → LiesNear halves (link_of whole l).pair s) links

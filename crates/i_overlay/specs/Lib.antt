@@ -1,5 +1,6 @@
 pub mod FarRegions
 pub mod LinesAlong
+pub mod BesideLines
 pub mod Headline
 pub mod GivenAgain
 -- what the clauses of the crate cite of the crates below

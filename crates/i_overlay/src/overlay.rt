@@ -8,7 +8,9 @@ ghost use Rattle.overlay_base.specs.Balance.{IsBalanced};
 ghost use Rattle.overlay_base.specs.ArrangedOf.{IsSplittable, IsArranged};
 ghost use Rattle.overlay_base.specs.SegmentOf.{segments_of, data_segments_of};
 ghost use Rattle.std.specs.List.{list_all};
-ghost use Rattle.overlay_split.specs.Laws.{HooksKeep};
+ghost use Rattle.overlay_geometry.specs.Points.{Pair};
+ghost use Rattle.overlay_split.specs.Laws.{HooksKeep, HooksNameNoOther, NameNear};
+ghost use Rattle.overlay_split.specs.Nearness.{reach_of_run};
 ghost use Rattle.overlay_grid.specs.Grid.{Layout};
 ghost use Rattle.overlay_split.specs.Run.{LeavesRange};
 ghost use Rattle.overlay_split.specs.RunLooks.{AreRunLooks};
@@ -20,7 +22,7 @@ ghost use Rattle.overlay_build.specs.GraphOf.{HoldGraph, graph_with};
 ghost use Rattle.overlay_build.specs.NodeIndexes.{indexes_of, is_canonical_node};
 ghost use Rattle.overlay_build.specs.OverlayGraphOf.{nodes_of, links_of, graph_asked};
 ghost use Rattle.i_overlay.specs.FarRegions.{EnclosesOverlay};
-ghost use Rattle.i_overlay.specs.Headline.{IsOverlay, IsDataAfter, IsRefused};
+ghost use Rattle.i_overlay.specs.Headline.{IsOverlay, IsDataAfter, IsRefused, LinksNameNear};
 ghost use Rattle.i_overlay.specs.GivenAgain.{ResultsAreGivenAgain};
 
 use overlay_base::overlay_core::edge_data::OverlayEdgeData;
@@ -50,7 +52,9 @@ use overlay_split::split::solver::SplitSolver;
 /// place they wind once where the rule holds and not at all elsewhere, less what it says of those outside. The data of
 /// the list goes through the splits and merges of a store of its own, which begins as the store's default and is
 /// dropped; each link has the data of its segment. What the hooks keep of data, and what holds of all given data, holds
-/// of each link's (`kept_data`). The solver's strategy does not change the answer, but what the split costs: afterwards
+/// of each link's (`kept_data`). Where data names given segments, as their numbers do, and the hooks name no others, each
+/// link lies as near to every one that its data names as the passes move crossings, and on exact input on it
+/// (`named_data`). The solver's strategy does not change the answer, but what the split costs: afterwards
 /// `looked` of the splitter is bounded by the strategy as after `split_segments`.
 ///
 /// Whether the counts balance, `is_balanced` tells.
@@ -86,6 +90,11 @@ pub fn split_and_build_overlay<'a, I: OverlayInt, D: OverlayEdgeData<ShapeCountB
         (has : D → Bool) → HooksKeep hooks has →
         IsTrue (list_all (λ s. has s.edge_data) (data_segments_of segments.old.items)) →
         IfOk result (λ graph. IsTrue (list_all (λ l. has l.edge_data) (links_of graph))) }
+    ensures named_data { let hooks = hooks_of boolean_counted D.OverlayEdgeData.own in
+        (names : D → Pair → Bool) → HooksNameNoOther hooks names →
+        NameNear names 0 (data_segments_of segments.old.items) → IfOk result (λ graph. LinksNameNear I.whole names
+        (reach_of_run (settings_of I.BITS solver.now splitter.old) (segments_of segments.old.items)
+        (passes_of splitter.new)) (links_of graph)) }
     ensures arranged { IsArranged segments.new.items }
     ensures list_data { (segments.new.items ≡ []) ⊎
         IsDataAfter (hooks_of boolean_counted D.OverlayEdgeData.own) D.Store.is_default

@@ -64,6 +64,11 @@ is_on_top_of segments s p = is_directly_above segments s p || is_directly_left s
 abbrev pub is_at_bottom_of : List WholeSegment → Pair → RationalPoint → Bool
 is_at_bottom_of segments s p = is_directly_below segments s p || is_directly_right segments s p
 
+-- There is a place on each side of s.
+pub record HasPlacesBeside (segments : List WholeSegment) (s : Pair) : Type 0 where
+  pub top : (p : RationalPoint) × (0 < p.bottom) × IsTrue (is_on_top_of segments s p)
+  pub bottom : (p : RationalPoint) × (0 < p.bottom) × IsTrue (is_at_bottom_of segments s p)
+
 -- The windings of the two sides of s are those of the places directly beside it.
 pub record TellsPlaces (segments : List WholeSegment) (s : WholeSegment) : Type 0 where
   pub top : (p : RationalPoint) → 0 < p.bottom → IsTrue (is_on_top_of segments s.pair p) → winding_below segments p ≡ side_top segments s

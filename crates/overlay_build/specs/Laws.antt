@@ -21,7 +21,7 @@ use Rattle.overlay_build.specs.Boundary.{BoundsRegion, directed_links, times_rou
 use Rattle.overlay_build.specs.ShapedBoundary.{of_shape, in_shape, BoundsAsShape}
 use Rattle.overlay_build.specs.DirectedWalks.{arcs, IsFlow, along, IsDirectedWalk, contour, edges}
 use Rattle.overlay_build.specs.Sides.{overlay_graph}
-use Rattle.overlay_build.specs.Beside.{is_on_top_of, is_at_bottom_of, TellsPlaces, FillTellsPlaces}
+use Rattle.overlay_build.specs.Beside.{is_on_top_of, is_at_bottom_of, HasPlacesBeside, TellsPlaces, FillTellsPlaces}
 use Rattle.overlay_build.specs.Lines.{CountsLines, keeps_between, clip_graph}
 
 -- a fill without a mask is kept where the windings' values differ
@@ -88,6 +88,10 @@ RegionsAreSeenAgain =
 -- Of balanced, planar segments: the windings of the two sides of each are those of the places directly beside it.
 abbrev pub SidesTellPlaces : Type 0
 SidesTellPlaces = (segments : List WholeSegment) → IsTrue (is_map segments) → IsTrue (is_planar segments) → IsBalanced segments → All (TellsPlaces segments) segments
+
+-- And there are such places: of planar segments, whatever their counts, on each side of each.
+abbrev pub SidesHavePlaces : Type 0
+SidesHavePlaces = (segments : List WholeSegment) → IsTrue (is_map segments) → IsTrue (is_planar segments) → All (λ s. HasPlacesBeside segments s.pair) segments
 
 -- So the fill of each tells how the segments wind at any two places directly beside it, one on each side.
 abbrev pub FillsTellPlaces : Type 0

@@ -1,5 +1,5 @@
 -- Laws over the definitions, each a statement that is proved once and named by a contract.
-use Rattle.std.specs.Prelude.{◌≡◌, ◌<◌, ◌≤◌, ℕ, ◌*◌, ℤ, ◌-ℤ◌, ◌*ℤ◌, ◌||◌, IsTrue, ◌+◌, ◌-◌, neg_ℤ, Bool, false, IsFalse, List, Contains, IsPermutation, length, min, ◌^◌, ◌/◌}
+use Rattle.std.specs.Prelude.{◌≡◌, ◌<◌, ◌≤◌, ℕ, ◌*◌, ℤ, ◌-ℤ◌, ◌*ℤ◌, ◌||◌, IsTrue, ◌+◌, ◌-◌, neg_ℤ, Bool, false, IsFalse, List, All, Contains, IsPermutation, length, min, ◌^◌, ◌/◌}
 use Rattle.std.specs.List.{list_all}
 use Rattle.overlay_geometry.specs.Points.{Point, Pair, is_vertical, is_horizontal, is_within_box_of}
 use Rattle.overlay_geometry.specs.Meeting.{do_cross}
@@ -21,7 +21,7 @@ use Rattle.overlay_split.specs.ExactInput.{is_exact_input, KeepsCounts, IsExactA
 use Rattle.overlay_base.specs.Places.{RationalPoint, spans, lies_below, winding_below}
 use Rattle.overlay_base.specs.Rays.{is_on_none, winding_above, winding_left, winding_right}
 use Rattle.overlay_split.specs.Nearness.{Fraction, whole_point, point_along, exact_crossing, IsWithin, IsNear, LiesNear, LieNear, IsNearSome, StaysNear, are_lines, root, reach, reach_of_pass, reach_of_run, reach_of_passes}
-use Rattle.overlay_split.specs.Places.{IsFar, KeepsWinding}
+use Rattle.overlay_split.specs.Places.{IsFar, KeepsWinding, KeepsWindingNearLines}
 use Rattle.overlay_split.specs.DataPass.{data_pass, data_after_passes, IsStoppedRun}
 
 -- ---- paths
@@ -244,6 +244,10 @@ PassKeepsWinding =
 abbrev pub RunKeepsWinding : Type 0
 RunKeepsWinding = (settings : Settings) (given : List WholeSegment) (k : ℕ) → IsTrue (are_ordered given) → KeepsWinding settings given (after_passes settings given k) k
 
+-- and that is farther away from those that wind, as lines do not
+abbrev pub RunKeepsWindingNearLines : Type 0
+RunKeepsWindingNearLines = (settings : Settings) (given : List WholeSegment) (k : ℕ) → IsTrue (are_ordered given) → KeepsWindingNearLines settings given (after_passes settings given k) k
+
 -- on exact input at each place that lies on no given segment
 abbrev pub ExactInputKeepsWinding : Type 0
 ExactInputKeepsWinding =
@@ -262,6 +266,10 @@ RunKeepsRays =
     × (winding_below (after_passes settings given k) p ≡ winding_right given p)
 
 -- ---- passes with data
+
+-- each segment lies that near to every pair that its data names
+abbrev pub NameNear : {D : Type 0} → (D → Pair → Bool) → ℕ → List (DataSegment D) → Type 0
+NameNear names halves segments = All (λ r. (s : Pair) → IsTrue (names r.edge_data s) → LiesNear halves r.pair s) segments
 
 -- data changes neither geometry nor counts
 abbrev pub DataIsBeside : (D S : Type 0) → Type 0
@@ -292,6 +300,20 @@ abbrev pub DataKeepsWhatHooksKeep : (D S : Type 0) → Type 0
 DataKeepsWhatHooksKeep D S =
     (hooks : Hooks D S) (has : D → Bool) → HooksKeep hooks has → (settings : Settings) (given : List (DataSegment D)) (store : S) (k : ℕ) →
     IsTrue (list_all (λ s. has s.edge_data) given) → IsTrue (list_all (λ s. has s.edge_data) (data_after_passes hooks settings given store k).0)
+
+-- Data may name pairs, as the number of a given segment names its ends. What hooks do not: data that is turned, split or merged names no pair that
+-- the data before it did not.
+pub record HooksNameNoOther {D S : Type 0} (hooks : Hooks D S) (names : D → Pair → Bool) : Type 0 where
+  pub reversed : (d : D) (store : S) (s : Pair) → IsTrue (names (hooks.reversed d store).0 s) → IsTrue (names d s)
+  pub split_first : (call : SplitCall D) (store : S) (s : Pair) → IsTrue (names (hooks.split call store).0.0 s) → IsTrue (names call.edge_data s)
+  pub split_rest : (call : SplitCall D) (store : S) (s : Pair) → IsTrue (names (hooks.split call store).0.1 s) → IsTrue (names call.edge_data s)
+  pub merge : (call : MergeCall D) (store : S) (s : Pair) → IsTrue (names (hooks.merge call store).0 s) → IsTrue (names call.lhs_data s || names call.rhs_data s)
+
+-- so after a run each segment lies as near to every pair that its data names as the passes reach, where each given one lies on those that it names
+abbrev pub DataNamesWhatIsNear : (D S : Type 0) → Type 0
+DataNamesWhatIsNear D S =
+    (hooks : Hooks D S) (names : D → Pair → Bool) → HooksNameNoOther hooks names → (settings : Settings) (given : List (DataSegment D)) (store : S) (k : ℕ) →
+    IsTrue (are_ordered (without_data given)) → NameNear names 0 given → NameNear names (reach_of_run settings (without_data given) k) (data_after_passes hooks settings given store k).0
 
 -- where a run was refused some sum leaves the range
 abbrev pub StoppedRunLeavesRange : (D S : Type 0) → Type 0

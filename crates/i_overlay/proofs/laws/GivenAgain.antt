@@ -1,5 +1,5 @@
 -- The result of an overlay, given again as segments of one shape.
-use Rattle.std.proofs.Common.{◌≡◌, ap, sym, subst, ◌∙◌}
+use Rattle.std.proofs.Common.{ap, sym, subst, ◌∙◌}
 use Rattle.overlay_base.specs.Windings.{Winding}
 use Rattle.overlay_build.specs.Graph.{Graph}
 use Rattle.overlay_build.specs.Boundary.{directed_links}

@@ -8,7 +8,7 @@ use Rattle.std.proofs.lemmas.Result.{IfErr-weaker}
 use Rattle.overlay_geometry.specs.Points.{is_within_box_of}
 use Rattle.overlay_geometry.specs.Sorting.{is_strictly_sorted}
 use Rattle.overlay_base.specs.Windings.{Winding, empty}
-use Rattle.overlay_base.specs.Segments.{WholeSegment, pairs, ends, is_map}
+use Rattle.overlay_base.specs.Segments.{WholeSegment, pairs, ends, is_map, are_ordered}
 use Rattle.overlay_base.specs.Join.{join}
 use Rattle.overlay_base.specs.Planar.{is_arranged, is_splittable, is_planar}
 use Rattle.overlay_base.specs.Balance.{IsBalanced, KeepsBalance}
@@ -21,7 +21,8 @@ use Rattle.overlay_base.specs.declared.segm.fault.Fault.TheVariants.{CountOutOfR
 use Rattle.overlay_split.specs.Run.{Settings, IsRun, LeavesRange, after_passes}
 use Rattle.overlay_split.specs.ExactInput.{is_exact_input, KeepsCounts}
 use Rattle.overlay_split.specs.Nearness.{StaysNear}
-use Rattle.overlay_split.specs.Places.{KeepsWinding}
+use Rattle.overlay_split.specs.Places.{KeepsWinding, KeepsWindingNearLines}
+use Rattle.overlay_split.proofs.laws.nearness.NearLines.{run_keeps_winding_near_lines}
 use Rattle.overlay_split.specs.Potential.{potential}
 use Rattle.overlay_sweep.specs.ChainWindings.{tops_leave_range}
 use Rattle.overlay_sweep.specs.Sweep.{fill_of, whole_of}
@@ -32,6 +33,7 @@ use Rattle.overlay_build.specs.Values.{tells_apart}
 use Rattle.overlay_build.specs.Boundary.{of_subject, times_round}
 use Rattle.overlay_build.specs.Sides.{IsBalancedOverlay}
 use Rattle.overlay_build.specs.Lines.{IsBalancedClip}
+use Rattle.i_overlay.proofs.laws.BesideLines.{keeps_by_given}
 use Rattle.i_overlay.proofs.laws.LinesAlong.{lines_kept}
 use Rattle.i_overlay.specs.Headline.{IsSplit, IsOverlay, IsClip, IsSplitRefused, IsBuildRefused}
 
@@ -74,13 +76,16 @@ overlay_from settings fill_rule rule given segments passes graph split links bal
     }
 
 -- the same of lines
-pub clip_from : (settings : Settings) (fill_rule : FillRule) (rule : ClipRule) (given segments : List WholeSegment) (passes : ℕ) (graph : Graph) → IsSplit settings given segments passes → graph ≡ graph_by (keeps_clip rule) fill_rule segments
+pub clip_from : (settings : Settings) (fill_rule : FillRule) (rule : ClipRule) (given segments : List WholeSegment) (passes : ℕ) (graph : Graph) → IsTrue (are_ordered given) → IsSplit settings given segments passes → graph ≡ graph_by (keeps_clip rule) fill_rule segments
     → (IsBalanced segments → IsBalancedClip rule fill_rule segments (graph_by (keeps_clip rule) fill_rule segments)) → IsClip settings fill_rule rule given segments passes graph
-clip_from settings fill_rule rule given segments passes graph split links balanced =
+clip_from settings fill_rule rule given segments passes graph ordered split links balanced =
+    let near = subst (λ (l : List WholeSegment). KeepsWindingNearLines settings given l passes) (sym split.arrangement) (run_keeps_winding_near_lines settings given passes ordered) in
     record {
       split = split;
       links = links;
       balanced = λ balance. subst (IsBalancedClip rule fill_rule segments) (sym links) (balanced (λ p. split.kept p ∙ balance p));
+      near_lines = near;
+      by_given = λ balance. keeps_by_given settings rule fill_rule given segments passes split.planar (λ p. split.kept p ∙ balance p) near;
       lines = λ exact. lines_kept given segments (split.exact_input exact);
     }
 

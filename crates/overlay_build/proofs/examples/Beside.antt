@@ -1,6 +1,7 @@
 -- Places beside segments, and how two squares wind there.
-use Rattle.std.specs.Prelude.{◌≡◌, refl, ℕ, ℤ, pos, negsuc, true, false, [], ◌∷◌, map}
+use Rattle.std.specs.Prelude.{◌≡◌, refl, ℕ, ℤ, pos, negsuc, true, false, [], ◌∷◌, map, List}
 use Rattle.overlay_base.specs.Windings.{Winding}
+use Rattle.overlay_base.specs.Segments.{WholeSegment}
 use Rattle.overlay_base.specs.Places.{RationalPoint, winding_below}
 use Rattle.overlay_sweep.specs.ColumnWindings.{side_bottom, side_top}
 use Rattle.overlay_build.specs.Beside.{is_directly_above, is_directly_below, is_directly_left, is_directly_right}
@@ -46,3 +47,18 @@ upright_winds : (winding_below twelve (place (pos 1) (pos 3) 1) ∷ side_top twe
     ≡ (count (pos 1) (pos 0) ∷ count (pos 1) (pos 0) ∷ count (pos 1) (pos 1) ∷ count (pos 1) (pos 1) ∷ [])
 unfolding computing
 upright_winds = refl
+
+-- A narrow triangle, from (0, 0) to (4, 1) and to (5, 1). In the middle of their first column the two long sides have the heights 1/8 and 1/10: the
+-- places 6/50 and 4/50 are over and under the lower one, with the upper one not between, and 7/50 has it between.
+narrow : List WholeSegment
+narrow = seg (pos 0) (pos 0) (pos 4) (pos 1) (negsuc 0) (pos 0) ∷ seg (pos 0) (pos 0) (pos 5) (pos 1) (pos 1) (pos 0) ∷ seg (pos 4) (pos 1) (pos 5) (pos 1) (negsuc 0) (pos 0) ∷ []
+
+beside_narrow : map (is_directly_above narrow (pair (pos 0) (pos 0) (pos 5) (pos 1))) (place (pos 25) (pos 6) 50 ∷ place (pos 25) (pos 7) 50 ∷ place (pos 25) (pos 4) 50 ∷ [])
+    ≡ (true ∷ false ∷ false ∷ [])
+unfolding computing narrow
+beside_narrow = refl
+
+under_narrow : map (is_directly_below narrow (pair (pos 0) (pos 0) (pos 5) (pos 1))) (place (pos 25) (pos 6) 50 ∷ place (pos 25) (pos 4) 50 ∷ [])
+    ≡ (false ∷ true ∷ [])
+unfolding computing narrow
+under_narrow = refl

@@ -4,4 +4,5 @@ pub mod Regions
 pub mod Boundaries
 pub mod Again
 pub mod Beside
+pub mod BesidePlaces
 pub mod BesideUprights

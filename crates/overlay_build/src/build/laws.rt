@@ -1,5 +1,5 @@
 // The laws of fills and graphs. Each function has an empty body, and its contract is proved for all whole numbers.
-ghost use Rattle.overlay_build.specs.Laws.{SidesTellPlaces, FillsTellPlaces};
+ghost use Rattle.overlay_build.specs.Laws.{SidesHavePlaces, SidesTellPlaces, FillsTellPlaces};
 ghost use Rattle.overlay_build.specs.Laws.{FillsTellSides, FillsTellLines, ClipGraphsAreExact, NodesAreEven, GraphsAreValid, GraphsAreExact, GraphsEncloseRegions, GraphsBoundRegions, BoundariesAreShapes, ShapesWindAlike, RegionsAreSeenAgain, GraphsFlow, ContoursFollowLinks, FilterGivesLinks, FilterGivesData};
 
 pub use overlay_sweep::build::laws::winding_laws;
@@ -42,8 +42,10 @@ pub fn shape_laws()
 
 /// With balanced counts the windings of the two sides of a segment, by which its fill is made, are those of the places
 /// directly beside it: just above and just below it, or to the left and to the right of a vertical one, with no other
-/// segment between. A place winds by the segments below it, or by those that another of its rays meets.
+/// segment between. There is such a place on each side of every segment of a planar arrangement, balanced or not. A place
+/// winds by the segments below it, or by those that another of its rays meets.
 pub fn side_laws()
+    ensures places { SidesHavePlaces }
     ensures sides { SidesTellPlaces }
     ensures fills { FillsTellPlaces }
 {}

@@ -7,3 +7,5 @@ pub mod LineCounts
 pub mod OneSide
 pub mod Places
 pub mod FarRays
+pub mod NearLines
+pub mod NamedData

@@ -3,9 +3,9 @@
 ghost use Rattle.overlay_split.specs.Laws.{NumbersAreOdd, PiecesTelescope, PassKeepsLosses, PassKeepsBalance, RunKeepsBalance, RunKeepsPolygons};
 ghost use Rattle.overlay_split.specs.Laws.{SettlingLowers, RunEnds, RunIsOne, ExactPassIsPlanar, PlanarPassIsUnchanged, RunIsPlanar, ArrangedIsUnchanged, ResultIsUnchanged};
 ghost use Rattle.overlay_split.specs.Laws.{RootIsMeant, RootOfPower, NearEndsAreEnough, DistancesAddUp, CrossingLiesOnBoth, MarkIsNear, PassStaysNear, PiecesStayNear, RunStaysNear, LinesAreKept, ReachIsBounded, LastPassReachesNothing, ExactInputReachesNothing};
-ghost use Rattle.overlay_split.specs.Laws.{PassOnOneSide, JoinKeepsWinding, PassKeepsWinding, RunKeepsWinding, ExactInputKeepsWinding};
+ghost use Rattle.overlay_split.specs.Laws.{PassOnOneSide, JoinKeepsWinding, PassKeepsWinding, RunKeepsWinding, RunKeepsWindingNearLines, ExactInputKeepsWinding};
 ghost use Rattle.overlay_split.specs.Laws.{PassesIgnoreOrder, RunIgnoresOrder, FarLiesOnNone, RunKeepsRays};
-ghost use Rattle.overlay_split.specs.Laws.{StaysInBox, ExactInputKeepsCounts, ExactInputHasOneAnswer, ExactRunsAgree, DataIsBeside, UnmarkedDataIsUnchanged, ArrangedDataIsUnchanged, DataKeepsWhatHooksKeep, StoppedRunLeavesRange, StoppedRunIsOne};
+ghost use Rattle.overlay_split.specs.Laws.{StaysInBox, ExactInputKeepsCounts, ExactInputHasOneAnswer, ExactRunsAgree, DataIsBeside, UnmarkedDataIsUnchanged, ArrangedDataIsUnchanged, DataKeepsWhatHooksKeep, DataNamesWhatIsNear, StoppedRunLeavesRange, StoppedRunIsOne};
 
 /// Take a function of points, and a number of the count that inversion negates, as `subj` and `clip`. The pieces of a
 /// segment, each with what the function loses from its start to its end times that number, add up to the segment. So a
@@ -86,14 +86,15 @@ pub fn nearness_laws()
 
 /// Segments that lie near one segment pass each place that is farther from it on one side. So a pass changes the
 /// winding at no place that is farther from every segment than it moves crossings, and a run at none that is farther
-/// from every given segment than its passes reach together; on exact input at none that lies on no given segment. A
-/// place that is far lies on no segment, so where the given counts balance, any ray from it through the given segments
-/// tells the winding there after so many passes.
+/// from every given segment than its passes reach together, lines aside, whose counts do not wind; on exact input at none
+/// that lies on no given segment. A place that is far lies on no segment, so where the given counts balance, any ray from
+/// it through the given segments tells the winding there after so many passes.
 pub fn place_laws()
     ensures side { PassOnOneSide }
     ensures join { JoinKeepsWinding }
     ensures pass { PassKeepsWinding }
     ensures run { RunKeepsWinding }
+    ensures near_lines { RunKeepsWindingNearLines }
     ensures exact_input { ExactInputKeepsWinding }
     ensures on_none { FarLiesOnNone }
     ensures rays { RunKeepsRays }
@@ -101,11 +102,14 @@ pub fn place_laws()
 
 /// Whatever the hooks do, passes with data are, without their data, the passes without. Where nothing is marked, data
 /// and store stay as they are. What the hooks keep of data holds of all data after a run, where it holds of all given.
+/// Where data names pairs and the hooks name no others, each segment after a run lies as near to every pair that its data
+/// names as the passes reach: on it for exact input, where nothing is moved.
 pub fn data_pass_laws<D, S>()
     ensures beside { DataIsBeside D S }
     ensures unmarked { UnmarkedDataIsUnchanged D S }
     ensures arranged { ArrangedDataIsUnchanged D S }
     ensures keeps { DataKeepsWhatHooksKeep D S }
+    ensures names { DataNamesWhatIsNear D S }
 {}
 
 /// Where a run was refused some sum leaves the range, and there is one store that such a run leaves.

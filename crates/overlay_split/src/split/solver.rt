@@ -3,7 +3,7 @@
 ghost use Rattle.std.specs.Prelude.{◌≡◌, ◌+◌, ◌≤◌, ◌||◌, ◌&&◌, [], false, IsTrue, IsFalse, IfOk, IfErr, OnOk, OnErr, Ok, All, Bool, Option, length, nat_le, nat_lt};
 ghost use Rattle.std.specs.List.{list_all};
 ghost use Rattle.overlay_base.specs.declared.segm.fault.Fault.TheVariants.{Memory, CountOutOfRange};
-ghost use Rattle.overlay_geometry.specs.Points.{is_within_box_of};
+ghost use Rattle.overlay_geometry.specs.Points.{Pair, is_within_box_of};
 ghost use Rattle.overlay_base.specs.Segments.{pairs, ends, is_map};
 ghost use Rattle.overlay_base.specs.ArrangedOf.{IsSplittable, IsArranged};
 ghost use Rattle.overlay_base.specs.Join.{join, join_leaves_range};
@@ -19,8 +19,8 @@ ghost use Rattle.overlay_split.specs.DataPass.{data_cut, data_pass, data_after_p
 ghost use Rattle.overlay_split.specs.Run.{IsRun, LeavesRange, after_passes};
 ghost use Rattle.overlay_split.specs.steps.IsAt.{IsAt};
 ghost use Rattle.overlay_split.specs.ExactInput.{is_exact_input, KeepsCounts};
-ghost use Rattle.overlay_split.specs.Laws.{HooksKeep};
-ghost use Rattle.overlay_split.specs.Nearness.{StaysNear};
+ghost use Rattle.overlay_split.specs.Laws.{HooksKeep, HooksNameNoOther, NameNear};
+ghost use Rattle.overlay_split.specs.Nearness.{StaysNear, reach_of_run};
 ghost use Rattle.overlay_split.specs.Places.{KeepsWinding};
 ghost use Rattle.overlay_split.specs.Potential.{potential};
 ghost use Rattle.overlay_intersections.specs.PlacingOf.{placing_of, HasRadius};
@@ -148,6 +148,11 @@ impl<I: OverlayInt> SplitSolver<I> {
             (has : D → Bool) → HooksKeep hooks has → IsTrue
             (list_all (λ s. has s.edge_data) (data_segments_of list.old.items)) →
             OnOk result (IsTrue (list_all (λ s. has s.edge_data) (data_segments_of list.new.items))) }
+        ensures named_data { let hooks = hooks_of C.counted D.OverlayEdgeData.own in
+            (names : D → Pair → Bool) → HooksNameNoOther hooks names →
+            NameNear names 0 (data_segments_of list.old.items) → OnOk result (NameNear names
+            (reach_of_run (settings_of I.BITS solver.now self.old) (segments_of list.old.items) (passes_of self.new))
+            (data_segments_of list.new.items)) }
         ensures arranged { OnOk result (IsArranged list.new.items) }
         ensures balance { OnOk result (KeepsBalance (segments_of list.old.items) (segments_of list.new.items)) }
         ensures in_box { OnOk result (IsTrue (list_all
@@ -196,7 +201,9 @@ impl<I: OverlayInt> SplitSolver<I> {
     ///
     /// Each mark splits the data of what is left of its segment; a piece that is turned reverses its data; segments on
     /// the same ends merge theirs from left to right, in the stable order of the list. What the hooks keep of data, and
-    /// what holds of all given data, holds of all data after the split (`kept_data`).
+    /// what holds of all given data, holds of all data after the split (`kept_data`). Where data names given segments, as
+    /// their numbers do, and the hooks name no others, each segment lies as near to every one that its data names as the
+    /// passes move crossings (`named_data`).
     ///
     /// Answers `Fault::CountOutOfRange` only where a running sum of counts on one pair of ends leaves
     /// `-i32::MAX..=i32::MAX`, in the given list or among the pieces of a pass, and, memory being found, wherever one
@@ -224,6 +231,11 @@ impl<I: OverlayInt> SplitSolver<I> {
             (has : D → Bool) → HooksKeep hooks has → IsTrue
             (list_all (λ s. has s.edge_data) (data_segments_of list.old.items)) →
             OnOk result (IsTrue (list_all (λ s. has s.edge_data) (data_segments_of list.new.items))) }
+        ensures named_data { let hooks = hooks_of C.counted D.OverlayEdgeData.own in
+            (names : D → Pair → Bool) → HooksNameNoOther hooks names →
+            NameNear names 0 (data_segments_of list.old.items) → OnOk result (NameNear names
+            (reach_of_run (settings_of I.BITS solver.now self.old) (segments_of list.old.items) (passes_of self.new))
+            (data_segments_of list.new.items)) }
         ensures arranged { OnOk result (IsArranged list.new.items) }
         ensures balance { OnOk result (KeepsBalance (segments_of list.old.items) (segments_of list.new.items)) }
         ensures in_box { OnOk result (IsTrue (list_all

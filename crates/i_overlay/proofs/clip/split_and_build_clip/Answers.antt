@@ -3,6 +3,7 @@ use Rattle.std.proofs.lemmas.Result.{IfOk-weaker, on_ok_weaker}
 use Rattle.overlay_base.specs.ClipRules.{keeps_clip}
 use Rattle.overlay_base.specs.Segments.{WholeSegment}
 use Rattle.overlay_base.specs.SegmentOf.{segments_of}
+use Rattle.overlay_base.proofs.laws.joins.Views.{segments_ordered}
 use Rattle.overlay_split.specs.Run.{Settings}
 use Rattle.overlay_split.specs.SettingsOf.{passes_of, settings_of}
 use Rattle.overlay_build.specs.Graph.{graph_by}
@@ -30,7 +31,7 @@ returns-clause-clip g c =
     IfOk-weaker c.build_string_clip.result
     (λ built. HoldGraph items_of is_any_node whole (nodes_of built) (links_of built) (graph_by (keeps_clip c.args.clip_rule) c.args.fill_rule segments))
     (λ built. IsClip settings c.args.fill_rule c.args.clip_rule given segments passes (graph_with whole (links_of built)))
-    (λ built h. clip_from settings c.args.fill_rule c.args.clip_rule given segments passes _ split (graph_with_kept items_of is_any_node whole (nodes_of built) (links_of built) (keeps_clip c.args.clip_rule) c.args.fill_rule segments h) balanced)
+    (λ built h. clip_from settings c.args.fill_rule c.args.clip_rule given segments passes _ (segments_ordered c.args.segments.now.items) split (graph_with_kept items_of is_any_node whole (nodes_of built) (links_of built) (keeps_clip c.args.clip_rule) c.args.fill_rule segments h) balanced)
     (rw c.deref.ensures.value at c.build_string_clip.ensures.graph)
 
 pub returns-clause-graph : goal.returns-clause-graph

@@ -10,9 +10,13 @@ use Rattle.overlay_build.specs.Graph.{graph_by, data_by}
 use Rattle.overlay_build.specs.GraphOf.{HoldGraph, graph_with}
 use Rattle.overlay_build.specs.NodeIndexes.{indexes_of, is_canonical_node}
 use Rattle.i_overlay.specs.FarRegions.{EnclosesOverlay}
-use Rattle.i_overlay.specs.Headline.{IsSplit, IsOverlay}
+use Rattle.i_overlay.specs.Headline.{IsSplit, IsOverlay, LinksNameNear}
 use Rattle.overlay_split.proofs.laws.passes.DataInvariants.{data_keeps_what_hooks_keep}
+use Rattle.overlay_base.specs.EdgeData.{without_data}
+use Rattle.overlay_base.proofs.laws.joins.Views.{segments_of-bare}
+use Rattle.overlay_split.specs.Nearness.{reach_of_run}
 use Rattle.overlay_build.proofs.laws.graphs.BuiltGraphs.{graph_with_kept}
+use Rattle.i_overlay.proofs.laws.NamedLinks.{links_name_near, IfOk-both}
 use Rattle.i_overlay.proofs.laws.FarRegions.{overlay_region}
 use Rattle.i_overlay.proofs.laws.Overlays.{data_of_links, none_arranged, split_from, overlay_from, refused_build}
 use Rattle.i_overlay.proofs.overlay.split_and_build_overlay.Goals as goal
@@ -61,6 +65,21 @@ returns-clause-graph g c =
 
 pub returns-clause-edge_data : goal.returns-clause-edge_data
 returns-clause-edge_data g c = rw (← c.deref.ensures.value) c.build_boolean_overlay.ensures.edge_data
+
+pub returns-clause-named_data : goal.returns-clause-named_data
+returns-clause-named_data g c = λ names keeps given.
+    let whole = g.I.OverlayInt.whole in
+    let settings : Settings = settings_of g.I.OverlayInt.BITS c.args.solver.now c.args.splitter.now in
+    let halves : ℕ = reach_of_run settings (segments_of c.args.segments.now.items) (passes_of c.split_segments.new.self) in
+    let items = c.split_segments.new.list.items in
+    let rule : ℕ → Bool = keeps_fill (holds c.args.overlay_rule) in
+    IfOk-both {P = λ built. HoldGraph indexes_of is_canonical_node whole built.nodes.now built.links.now (graph_by rule c.args.fill_rule (without_data (data_segments_of items)))}
+    {Q = λ built. map (λ l. l.edge_data) built.links.now ≡ data_by rule c.args.fill_rule (data_segments_of items)}
+    {R = λ built. LinksNameNear whole names halves built.links.now}
+    c.build_boolean_overlay.result
+    (λ built held same. links_name_near indexes_of is_canonical_node whole built.nodes.now built.links.now rule c.args.fill_rule names halves (data_segments_of items) (c.in_ok-split_segments.ensures.named_data names keeps given) held same)
+    (rw (← segments_of-bare items) (rw c.deref.ensures.value at c.build_boolean_overlay.ensures.graph))
+    (rw c.deref.ensures.value at c.build_boolean_overlay.ensures.edge_data)
 
 pub returns-clause-kept_data : goal.returns-clause-kept_data
 returns-clause-kept_data g c = λ has keeps given.

@@ -19,7 +19,7 @@ pub record IsInColumn (z : ℤ) (d : ℕ) (column : ℤ) : Type 0 where
   pub low : (column *ℤ pos d) ≤ℤ z
   pub high : z <ℤ ((column +ℤ pos 1) *ℤ pos d)
 
-one_more : (c : ℤ) (d : ℕ) → (c +ℤ pos 1) *ℤ pos d ≡ c *ℤ pos d +ℤ pos d
+pub one_more : (c : ℤ) (d : ℕ) → (c +ℤ pos 1) *ℤ pos d ≡ c *ℤ pos d +ℤ pos d
 one_more c d = rw (as_D c) (simp diffs (D-eq _ _ _ _ (omega arith)))
 
 one_less : (c : ℤ) (d : ℕ) → (c -ℤ pos 1) *ℤ pos d ≡ c *ℤ pos d -ℤ pos d
@@ -100,7 +100,7 @@ spans_alike p c s at = ap₂ (λ a b. a && b) (starts_alike s.a.x p.x p.bottom c
 
 -- ---- heights
 
-height_from : (c : ℤ) (s : Pair) (p : RationalPoint) → height_at s p ≡ pos p.bottom *ℤ scaled_height s c +ℤ (p.x -ℤ c *ℤ pos p.bottom) *ℤ (s.b.y -ℤ s.a.y)
+pub height_from : (c : ℤ) (s : Pair) (p : RationalPoint) → height_at s p ≡ pos p.bottom *ℤ scaled_height s c +ℤ (p.x -ℤ c *ℤ pos p.bottom) *ℤ (s.b.y -ℤ s.a.y)
 unfolding scaled_height
 height_from c s p = plain s.a.y s.a.x (width s) (s.b.y -ℤ s.a.y) p.x c (pos p.bottom)
   where
@@ -108,7 +108,7 @@ height_from c s p = plain s.a.y s.a.x (width s) (s.b.y -ℤ s.a.y) p.x c (pos p.
     plain ay ax w dy x c d = rw (as_D ay, as_D ax, as_D w, as_D dy, as_D x, as_D c, as_D d) (simp diffs (D-eq _ _ _ _ (omega arith)))
 
 -- the difference of heights at p by that at the left border
-gap_at : (c : ℤ) (u s : Pair) (p : RationalPoint) → height_at s p *ℤ width u -ℤ height_at u p *ℤ width s ≡ pos p.bottom *ℤ gap c u s +ℤ (p.x -ℤ c *ℤ pos p.bottom) *ℤ slope u s
+pub gap_at : (c : ℤ) (u s : Pair) (p : RationalPoint) → height_at s p *ℤ width u -ℤ height_at u p *ℤ width s ≡ pos p.bottom *ℤ gap c u s +ℤ (p.x -ℤ c *ℤ pos p.bottom) *ℤ slope u s
 unfolding gap slope
 gap_at c u s p =
     ap₂ (λ (h k : ℤ). h *ℤ width u -ℤ k *ℤ width s) (height_from c s p) (height_from c u p)

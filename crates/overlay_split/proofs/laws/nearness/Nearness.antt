@@ -31,7 +31,7 @@ use Rattle.overlay_geometry.proofs.laws.lists.Elements.{Contains-from_Has}
 -- ---- one segment
 
 -- r lies that near to one of the pairs
-abbrev HasNear : ℕ → List Pair → Pair → Type 0
+abbrev pub HasNear : ℕ → List Pair → Pair → Type 0
 HasNear h given r = (s : Pair) × Contains given s × LiesNear h r s
 
 -- the pieces through marks that are near a pair lie near it
@@ -58,7 +58,7 @@ pass_has_near h placing segments near ordered =
     (AllByRecursion-weaker (λ s. Has segments s × IsTrue (is_ordered s.pair)) (λ s. AllByRecursion (λ r. HasNear h (pairs segments) r.pair) (pieces_of placing segments s)) (piece_has_near h placing segments near) segments
     (AllByRecursion-both (Has segments) (λ s. IsTrue (is_ordered s.pair)) segments (AllByRecursion-from_Has (Has segments) segments (λ s i. i)) (AllByRecursion-from_list_all (λ s. is_ordered s.pair) segments ordered))))
 
-LieNear-to : (h : ℕ) (given : List Pair) (result : List WholeSegment) → AllByRecursion (λ r. HasNear h given r.pair) result → LieNear h given (pairs result)
+pub LieNear-to : (h : ℕ) (given : List Pair) (result : List WholeSegment) → AllByRecursion (λ r. HasNear h given r.pair) result → LieNear h given (pairs result)
 LieNear-to h given result each = All-from_recursion (HasNear h given) (pairs result) (AllByRecursion-map (HasNear h given) (λ (r : WholeSegment). r.pair) result each)
 
 pub pass_stays_near : PassStaysNear
@@ -75,7 +75,7 @@ HasNear-trans h k given before r near (s, i, on) =
     let first = All-contains (HasNear h given) before s near i in
     (first.0, first.1, subst (λ (n : ℕ). LiesNear n r first.0) (add_comm k h) (LiesNear-trans k h r s first.0 on first.2))
 
-LieNear-trans : (h k : ℕ) (given before result : List Pair) → LieNear h given before → LieNear k before result → LieNear (h + k) given result
+pub LieNear-trans : (h k : ℕ) (given before result : List Pair) → LieNear h given before → LieNear k before result → LieNear (h + k) given result
 LieNear-trans h k given before result first second =
     All-from_recursion (HasNear (h + k) given) result
     (AllByRecursion-weaker (HasNear k before) (HasNear (h + k) given) (λ r on. HasNear-trans h k given before r first on) result (recursion_from_All (HasNear k before) result second))

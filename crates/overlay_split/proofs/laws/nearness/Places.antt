@@ -1,6 +1,6 @@
 -- A run changes no winding at a place that is farther from the given segments than it reaches.
-use Rattle.std.proofs.Common.{◌≡◌, refl, sym, ap, ap₂, subst, ◌∙◌, arith, ℕ, zero, suc, ◌+◌, Bool, true, false, List, [], ◌∷◌}
-use Rattle.std.specs.Prelude.{◌≤◌, Contains, ℤ, pos, ◌+ℤ◌, ◌-ℤ◌, ◌*ℤ◌, ◌≤ℤ◌, ◌<ℤ◌, int_le, int_lt, cond, ◌&&◌, IsTrue}
+use Rattle.std.proofs.Common.{◌≡◌, ◌⊎◌, inl, inr, refl, sym, ap, ap₂, subst, ◌∙◌, arith, ℕ, zero, suc, ◌+◌, Bool, true, false, List, [], ◌∷◌}
+use Rattle.std.specs.Prelude.{◌≤◌, Contains, ℤ, pos, ◌+ℤ◌, ◌-ℤ◌, ◌*ℤ◌, neg_ℤ, ◌≤ℤ◌, ◌<ℤ◌, int_le, int_lt, cond, ◌&&◌, IsTrue}
 use Rattle.std.specs.List.{AllByRecursion}
 use Rattle.std.proofs.lemmas.Int.{ints, by_lt_z}
 use Rattle.std.proofs.lemmas.Bool.{cond_both, and_from}
@@ -27,6 +27,7 @@ use Rattle.overlay_split.specs.Nearness.{point_along, IsNear, LiesNear, LieNear,
 use Rattle.overlay_split.specs.Places.{IsFar}
 use Rattle.overlay_split.specs.Laws.{IsOdd, loss, PassOnOneSide, JoinKeepsWinding, PassKeepsWinding, RunKeepsWinding, ExactInputKeepsWinding}
 use Rattle.overlay_split.proofs.laws.paths.Cuts.{gathered-cut}
+use Rattle.overlay_split.proofs.laws.paths.PieceCounts.{counts_of_pieces}
 use Rattle.overlay_split.proofs.laws.paths.Pieces.{weighed-pieces}
 use Rattle.overlay_split.proofs.laws.paths.Runs.{is_map-after_passes}
 use Rattle.overlay_split.proofs.laws.planar.ExactMarks.{In}
@@ -35,7 +36,7 @@ use Rattle.overlay_split.proofs.laws.nearness.NearMarks.{AreNear, marks_lie_near
 use Rattle.overlay_split.proofs.laws.nearness.Nearness.{pieces_lie_near, run_lies_near, exact_input_reaches_nothing}
 use Rattle.overlay_split.proofs.laws.nearness.OneSide.{one_side}
 use Rattle.overlay_geometry.proofs.laws.integers.Tests.{le-test, le-test_false, lt-test, lt-test_false}
-use Rattle.overlay_geometry.proofs.laws.integers.Products.{zero_times, scaled_le}
+use Rattle.overlay_geometry.proofs.laws.integers.Products.{zero_times, times_nothing, scaled_le}
 use Rattle.overlay_geometry.proofs.laws.lists.Elements.{Contains-from_Has}
 
 pub pass_on_one_side : PassOnOneSide
@@ -170,36 +171,67 @@ module _ (h : ℕ) (p : RationalPoint) (s : WholeSegment) (marks : List Point) (
 pub far_from : (h : ℕ) (p : RationalPoint) (segments : List WholeSegment) → IsFar h p (pairs segments) → (s : WholeSegment) → Has segments s → IsNear h p s.pair → ⊥
 far_from h p segments far s i near = far (s.pair, Contains-from_Has (pairs segments) s.pair (Has-map (λ (t : WholeSegment). t.pair) segments s i), near)
 
+-- ---- counts that do not wind
+
+abbrev pub IsFlat : Winding → Type 0
+IsFlat c = (c.subj ≡ pos 0) × (c.clip ≡ pos 0)
+
+IsFlat-inverse : (c : Winding) → IsFlat c → IsFlat (inverse c)
+IsFlat-inverse c h = (ap neg_ℤ h.0, ap neg_ℤ h.1)
+
+weighed-flat : (f : Pair → ℤ) (part : Winding → ℤ) (segments : List WholeSegment) → AllByRecursion (λ s. part s.count ≡ pos 0) segments → weighed f part segments ≡ pos 0
+weighed-flat f part [] h = refl
+weighed-flat f part (s ∷ segments) h = ap₂ ◌+ℤ◌ (times_nothing (f s.pair) (part s.count) h.0) (weighed-flat f part segments h.1)
+
+-- the pieces of a segment that does not wind do not either
+pieces_of_flat : (placing : Placing) (segments : List WholeSegment) (p : RationalPoint) (s : WholeSegment) (part : Winding → ℤ) → ((c : Winding) → IsFlat c → part c ≡ pos 0) → IsFlat s.count →
+    weighed (below_sign p) part (pieces_of placing segments s) ≡ below_sign p s.pair *ℤ part s.count
+pieces_of_flat placing segments p s part none flat =
+    weighed-flat (below_sign p) part (pieces_of placing segments s)
+    (AllByRecursion-weaker (λ r. IsFlat r.count) (λ r. part r.count ≡ pos 0) (λ r h. none r.count h) (pieces_of placing segments s) (counts_of_pieces IsFlat IsFlat-inverse placing segments s flat))
+    ∙ sym (times_nothing (below_sign p s.pair) (part s.count) (none s.count flat))
+
+-- each segment is farther than that from p, or does not wind
+abbrev pub IsApartFrom : ℕ → RationalPoint → List WholeSegment → Type 0
+IsApartFrom h p segments = (s : WholeSegment) → Has segments s → (IsNear h p s.pair → ⊥) ⊎ IsFlat s.count
+
 -- the marks on each pair of a list lie near it
 abbrev MarksAreNear : ℕ → Placing → List WholeSegment → Type 0
 MarksAreNear h placing segments = (s : Pair) → In segments s → IsTrue (is_ordered s) → AreNear h (marks_on placing segments s) s
 
-cut_weighs : (h : ℕ) (placing : Placing) (segments : List WholeSegment) (p : RationalPoint) → IsTrue (are_ordered segments) → MarksAreNear h placing segments → IsFar h p (pairs segments) → (part : Winding → ℤ) → IsOdd part →
-    weighed (below_sign p) part (cut placing segments) ≡ weighed (below_sign p) part segments
+cut_weighs : (h : ℕ) (placing : Placing) (segments : List WholeSegment) (p : RationalPoint) → IsTrue (are_ordered segments) → MarksAreNear h placing segments → IsApartFrom h p segments → (part : Winding → ℤ) → IsOdd part →
+    ((c : Winding) → IsFlat c → part c ≡ pos 0) → weighed (below_sign p) part (cut placing segments) ≡ weighed (below_sign p) part segments
 unfolding pieces_of
-cut_weighs h placing segments p ordered near far part odd =
+cut_weighs h placing segments p ordered near apart part odd none =
     gathered-cut whole_numbers_add (λ s. below_sign p s.pair *ℤ part s.count) placing segments
     ∙ gathered-each ◌+ℤ◌ (pos 0) (λ (s : WholeSegment). weighed (below_sign p) part (pieces_of placing segments s)) (λ s. below_sign p s.pair *ℤ part s.count) segments
     (AllByRecursion-from_Has (λ s. weighed (below_sign p) part (pieces_of placing segments s) ≡ below_sign p s.pair *ℤ part s.count) segments
     (λ s i.
     let order = list_all-at (λ (t : WholeSegment). is_ordered t.pair) segments s ordered i in
-    pieces_weigh h p s (marks_on placing segments s.pair) (Before-x s.pair.a s.pair.b (before s.pair.a s.pair.b order))
-    (near s.pair (Has-map (λ (t : WholeSegment). t.pair) segments s i) order) (far_from h p segments far s i) part odd))
+    elim (apart s i) [
+      | inl far ↦ pieces_weigh h p s (marks_on placing segments s.pair) (Before-x s.pair.a s.pair.b (before s.pair.a s.pair.b order))
+          (near s.pair (Has-map (λ (t : WholeSegment). t.pair) segments s i) order) far part odd
+      | inr flat ↦ pieces_of_flat placing segments p s part none flat
+    ]))
 
-cut_winds : (h : ℕ) (placing : Placing) (segments : List WholeSegment) (p : RationalPoint) → IsTrue (are_ordered segments) → MarksAreNear h placing segments → IsFar h p (pairs segments) →
+cut_winds : (h : ℕ) (placing : Placing) (segments : List WholeSegment) (p : RationalPoint) → IsTrue (are_ordered segments) → MarksAreNear h placing segments → IsApartFrom h p segments →
     winding_below (cut placing segments) p ≡ winding_below segments p
-cut_winds h placing segments p ordered near far =
+cut_winds h placing segments p ordered near apart =
     same_windings _ _
-    (winding_below-subj (cut placing segments) p ∙ cut_weighs h placing segments p ordered near far (λ c. c.subj) (λ c. refl) ∙ sym (winding_below-subj segments p))
-    (winding_below-clip (cut placing segments) p ∙ cut_weighs h placing segments p ordered near far (λ c. c.clip) (λ c. refl) ∙ sym (winding_below-clip segments p))
+    (winding_below-subj (cut placing segments) p ∙ cut_weighs h placing segments p ordered near apart (λ c. c.subj) (λ c. refl) (λ c flat. flat.0) ∙ sym (winding_below-subj segments p))
+    (winding_below-clip (cut placing segments) p ∙ cut_weighs h placing segments p ordered near apart (λ c. c.clip) (λ c. refl) (λ c flat. flat.1) ∙ sym (winding_below-clip segments p))
     (winding_below-mask (cut placing segments) p ∙ sym (winding_below-mask segments p))
 
-pub pass_keeps_winding : PassKeepsWinding
+-- a pass changes the winding at no place from which each segment that winds is far
+pub pass_winds : (placing : Placing) (segments : List WholeSegment) (p : RationalPoint) → IsTrue (are_ordered segments) → IsApartFrom (reach_of_pass placing segments) p segments → winding_below (pass placing segments) p ≡ winding_below segments p
 unfolding pass reach_of_pass
-pass_keeps_winding placing segments p ordered =
-    cond_both (is_rounded segments) (reach placing) 0 (λ (h : ℕ). IsFar h p (pairs segments) → winding_below (pass placing segments) p ≡ winding_below segments p)
-    (λ _ far. join_keeps_winding (cut placing segments) p ∙ cut_winds (reach placing) placing segments p ordered (λ s _ o. marks_lie_near placing segments s o) far)
-    (λ exact far. join_keeps_winding (cut placing segments) p ∙ cut_winds 0 placing segments p ordered (exact_marks_lie_on placing segments exact) far)
+pass_winds placing segments p ordered =
+    cond_both (is_rounded segments) (reach placing) 0 (λ (h : ℕ). IsApartFrom h p segments → winding_below (pass placing segments) p ≡ winding_below segments p)
+    (λ _ apart. join_keeps_winding (cut placing segments) p ∙ cut_winds (reach placing) placing segments p ordered (λ s _ o. marks_lie_near placing segments s o) apart)
+    (λ exact apart. join_keeps_winding (cut placing segments) p ∙ cut_winds 0 placing segments p ordered (exact_marks_lie_on placing segments exact) apart)
+
+pub pass_keeps_winding : PassKeepsWinding
+pass_keeps_winding placing segments p ordered far = pass_winds placing segments p ordered (λ s i. inl (far_from (reach_of_pass placing segments) p segments far s i))
 
 -- ---- a run
 
@@ -207,7 +239,7 @@ pub IsFar-nearer : (h k : ℕ) (p : RationalPoint) (list : List Pair) → h ≤ 
 IsFar-nearer h k p list l far (s, i, near) = far (s, i, IsNear-weaker h k p s l near)
 
 -- what is far from the given segments is far from those that lie near them
-IsFar-result : (h k : ℕ) (p : RationalPoint) (given result : List Pair) → LieNear h given result → IsFar (h + k) p given → IsFar k p result
+pub IsFar-result : (h k : ℕ) (p : RationalPoint) (given result : List Pair) → LieNear h given result → IsFar (h + k) p given → IsFar k p result
 IsFar-result h k p given result near far (r, i, (f, within)) =
     let first = All-contains (λ t. (s : Pair) × Contains given s × LiesNear h t s) result r near i in
     let on = first.2 f in

@@ -25,7 +25,7 @@ module _ (P : Winding → Type 0) (turned : (c : Winding) → P c → P (inverse
   counts_along count p [] h = tt
   counts_along count p (q ∷ points) h = (count_of_piece count p q h, counts_along count q points h)
 
-  counts_of_pieces : (placing : Placing) (segments : List WholeSegment) (s : WholeSegment) → P s.count → AllByRecursion (λ t. P t.count) (pieces_of placing segments s)
+  pub counts_of_pieces : (placing : Placing) (segments : List WholeSegment) (s : WholeSegment) → P s.count → AllByRecursion (λ t. P t.count) (pieces_of placing segments s)
   unfolding pieces_of pieces path
   counts_of_pieces placing segments s h = counts_along s.count s.pair.a (path_from s.pair.a (columns_of (marks_on placing segments s.pair)) s.pair.b) h
 

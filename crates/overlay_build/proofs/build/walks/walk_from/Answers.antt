@@ -1,4 +1,4 @@
-use Rattle.std.proofs.Common.{◌≡◌, ◌≢◌, ◌==◌, ◌∙◌, ap, subst, ℕ, ◌+◌, ◌<◌, ◌%◌, Bool, List, Some, [], map, length, get_or, set, true, false, refl, arith, get_or-set_same}
+use Rattle.std.proofs.Common.{◌≡◌, ◌≢◌, ◌==◌, ◌∙◌, ap, subst, ℕ, ◌<◌, ◌%◌, Bool, List, Some, [], map, get_or, set, true, false, refl, arith, get_or-set_same}
 use Rattle.std.proofs.lemmas.Bool.{eqb-true, eq-eqb}
 use Rattle.std.proofs.lemmas.List.{length-map}
 use Rattle.overlay_base.specs.Rules.{differ}

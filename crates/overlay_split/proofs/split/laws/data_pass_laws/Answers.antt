@@ -1,4 +1,5 @@
 use Rattle.overlay_split.proofs.laws.passes.DataInvariants.{data_keeps_what_hooks_keep}
+use Rattle.overlay_split.proofs.laws.nearness.NamedData.{data_names_what_is_near}
 use Rattle.overlay_split.proofs.laws.passes.DataPasses.{data_is_beside, unmarked_data_is_unchanged, arranged_data_is_unchanged}
 use Rattle.overlay_split.proofs.split.laws.data_pass_laws.Goals as goal
 
@@ -13,3 +14,6 @@ returns-clause-arranged g c = arranged_data_is_unchanged
 
 pub returns-clause-keeps : goal.returns-clause-keeps
 returns-clause-keeps g c = data_keeps_what_hooks_keep
+
+pub returns-clause-names : goal.returns-clause-names
+returns-clause-names g c = data_names_what_is_near

@@ -1,4 +1,5 @@
 use Rattle.overlay_split.proofs.laws.nearness.Places.{pass_on_one_side, join_keeps_winding, pass_keeps_winding, run_keeps_winding, exact_input_keeps_winding}
+use Rattle.overlay_split.proofs.laws.nearness.NearLines.{run_keeps_winding_near_lines}
 use Rattle.overlay_split.proofs.laws.nearness.FarRays.{far_lies_on_none, run_keeps_rays}
 use Rattle.overlay_split.proofs.split.laws.place_laws.Goals as goal
 
@@ -13,6 +14,9 @@ returns-clause-pass c = pass_keeps_winding
 
 pub returns-clause-run : goal.returns-clause-run
 returns-clause-run c = run_keeps_winding
+
+pub returns-clause-near_lines : goal.returns-clause-near_lines
+returns-clause-near_lines c = run_keeps_winding_near_lines
 
 pub returns-clause-exact_input : goal.returns-clause-exact_input
 returns-clause-exact_input c = exact_input_keeps_winding

@@ -15,6 +15,8 @@ use Rattle.overlay_base.proofs.laws.joins.Views.{segments_ordered, segments_of-b
 use Rattle.overlay_split.specs.DataPass.{IsStoppedRun}
 use Rattle.overlay_split.specs.Run.{Settings, LeavesRange}
 use Rattle.overlay_split.specs.SettingsOf.{settings_of, passes_of}
+use Rattle.overlay_split.specs.Nearness.{reach_of_run}
+use Rattle.overlay_split.proofs.laws.nearness.NamedData.{split_names_near}
 use Rattle.overlay_split.proofs.laws.passes.DataInvariants.{data_keeps_what_hooks_keep}
 use Rattle.overlay_split.proofs.laws.passes.StoppedRuns.{stopped_run_leaves_range}
 use Rattle.overlay_split.proofs.laws.passes.Splitting.{HasEnded, at_rest, has_ended, stays_arranged, segments_none}
@@ -95,6 +97,10 @@ returns-then-is_empty-clause-store g c =
 pub returns-then-is_empty-clause-kept_data : goal.returns-then-is_empty-clause-kept_data
 returns-then-is_empty-clause-kept_data g c = λ has keeps given. given
 
+pub returns-then-is_empty-clause-named_data : goal.returns-then-is_empty-clause-named_data
+unfolding reach_of_run
+returns-then-is_empty-clause-named_data g c = λ names keeps given. given
+
 pub returns-then-is_empty-clause-looked : goal.returns-then-is_empty-clause-looked
 returns-then-is_empty-clause-looked g c =
     let none = none_given (length c.args.list.now.items) c.args.list.now.len c.is_empty.result c.args.list.now.ok.0 c.is_empty.ensures c.if-is_empty.true in
@@ -140,6 +146,12 @@ pub returns-clause-kept_data : goal.returns-clause-kept_data
 returns-clause-kept_data g c = λ has keeps given.
     let settings : Settings = settings_of g.I.OverlayInt.BITS c.args.solver.now c.args.self.now in
     on_ok_if c.run.result (λ flag at. ap (list_all (λ s. has s.edge_data)) at.edge_data_is ∙ data_keeps_what_hooks_keep _ has keeps settings (data_segments_of c.args.list.now.items) c.args.store.now (passes_of c.run.new.self) given) c.run.ensures.ended
+
+pub returns-clause-named_data : goal.returns-clause-named_data
+returns-clause-named_data g c = λ names keeps given.
+    let hooks = hooks_of g.C.WindingCount.counted g.D.OverlayEdgeData in
+    let settings : Settings = settings_of g.I.OverlayInt.BITS c.args.solver.now c.args.self.now in
+    on_ok_if c.run.result (λ flag at. split_names_near hooks names keeps settings c.args.list.now.items c.args.store.now (passes_of c.run.new.self) _ at.edge_data_is given) c.run.ensures.ended
 
 pub returns-clause-unchanged : goal.returns-clause-unchanged
 returns-clause-unchanged g c = λ arranged.
