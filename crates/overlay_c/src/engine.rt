@@ -6,6 +6,7 @@ ghost use Rattle.overlay_build.specs.GraphOf.{link_of};
 ghost use Rattle.overlay_build.specs.NodeIndexes.{indexes_of};
 ghost use Rattle.overlay_c.specs.Records.{asks, asked_by, line_asked_by, link_by};
 
+use crate::contours::{PointRecord, keep_contours, load_points};
 use crate::lines::{self, Line};
 use crate::records::{
     LineRecord, LinkRecord, SegmentRecord, SettingsRecord, Side, asked, fill_rule, link, solver,
@@ -19,10 +20,13 @@ use overlay_base::overlay_core::overlay_rule::OverlayRule;
 use overlay_base::segm::arranged::is_splittable;
 use overlay_base::segm::boolean::ShapeCountBoolean;
 use overlay_base::segm::join::join_with_store;
+use overlay_base::segm::shape_type::ShapeType;
 use overlay_base::segm::string::ShapeCountString;
 use overlay_build::build::builder::GraphBuilder;
 use overlay_build::build::graph_node::OverlayNode;
 use overlay_build::build::walks::closed_walks;
+use overlay_contours::overlay::Overlay;
+use overlay_geometry::geom::point::IntPoint;
 use overlay_split::split::solver::SplitSolver;
 use std::alloc::{AllocError, Global};
 
@@ -50,21 +54,34 @@ pub struct Engine {
     pub walk_lengths: Vec<usize>,
     /// The indexes of the links of the first walk, then of those of the next, and so on.
     pub walk_links: Vec<usize>,
+    /// The contours that are given, and the buffers of their overlays.
+    pub polygons: Overlay<i32>,
+    /// The points of a contour that is being added.
+    pub points: Vec<IntPoint<i32>>,
+    /// How many points each contour of the last overlay of contours has.
+    pub contour_lengths: Vec<usize>,
+    /// The points of the first such contour, then those of the next, and so on.
+    pub contour_points: Vec<PointRecord>,
 }
 
 impl Engine {
-    ghost use Rattle.std.specs.Prelude.{◌≡◌, Err, IsTrue, IsFalse, OnOk, IfErr};
+    ghost use Rattle.std.specs.Prelude.{◌≡◌, [], ◌∷◌, ◌++◌, Err, IsTrue, IsFalse, OnOk, OnErr, IfErr};
     ghost use Rattle.overlay_base.specs.declared.segm.fault.Fault.TheVariants.{CountOutOfRange};
     ghost use Rattle.overlay_base.specs.ArrangedOf.{IsArranged};
     ghost use Rattle.overlay_base.specs.Join.{join, join_leaves_range, has_equal_pairs};
     ghost use Rattle.overlay_split.specs.Run.{LeavesRange};
     ghost use Rattle.overlay_split.specs.SettingsOf.{snap_limit_of};
-    ghost use Rattle.overlay_c.specs.Kept.{given_by, are_usable, are_lines_usable, engine_settings, KeepsSplit, KeepsAll, KeepsOverlay, KeepsClip, IsCountRefused};
+    ghost use Rattle.overlay_c.specs.Kept.{given_by, are_usable, are_lines_usable, engine_settings, KeepsSplit, KeepsAll, KeepsOverlay, KeepsClip, IsCountRefused, IsCountOfAllRefused, IsCountOfLinesRefused};
+    ghost use Rattle.overlay_base.specs.declared.segm.shape_type.ShapeType.TheVariants.{Subject, Clip};
+    ghost use Rattle.overlay_contours.specs.Refusals.{other_shape};
+    ghost use Rattle.overlay_c.specs.Contours.{point_by, are_in_range, contours_in, KeepsPolygons, IsPointRefusal, IsPolygonRefusal, SameSplit};
     ghost use Rattle.overlay_c.specs.declared.refusal.Refusal.TheVariants.{Refused, NotSplittable};
 
     /// An engine, which takes no memory yet.
     pub fn new(alloc: Global, snap_limit: u32) -> Engine
-        ensures { snap_limit_of result.splitter ≡ snap_limit }
+        ensures limit { snap_limit_of result.splitter ≡ snap_limit }
+        ensures subject { contours_in result Subject ≡ [] }
+        ensures clip { contours_in result Clip ≡ [] }
     {
         Engine {
             splitter: SplitSolver::with_snap_limit(alloc, snap_limit),
@@ -79,6 +96,10 @@ impl Engine {
             has_walks: false,
             walk_lengths: Vec::new(alloc),
             walk_links: Vec::new(alloc),
+            polygons: Overlay::new(alloc),
+            points: Vec::new(alloc),
+            contour_lengths: Vec::new(alloc),
+            contour_points: Vec::new(alloc),
         }
     }
 
@@ -100,6 +121,7 @@ impl Engine {
         ensures too_large { IfErr result (λ refusal. refusal ≡ Refused CountOutOfRange
             → IsCountRefused settings.now (given_by given.now) self.old self.new) }
         ensures limit { snap_limit_of self.new.splitter ≡ snap_limit_of self.old.splitter }
+        ensures contours { self.new.polygons ≡ self.old.polygons }
     {
         if !load(given, &mut self.segments)? || !is_splittable(&self.segments) {
             return Err(Refusal::NotSplittable);
@@ -132,6 +154,7 @@ impl Engine {
         ensures too_large { IfErr result (λ refusal. refusal ≡ Refused CountOutOfRange
             → LeavesRange (engine_settings settings.now self.old) (given_by given.now)) }
         ensures limit { snap_limit_of self.new.splitter ≡ snap_limit_of self.old.splitter }
+        ensures contours { self.new.polygons ≡ self.old.polygons }
     {
         if !load(given, &mut self.segments)? || !is_splittable(&self.segments) {
             return Err(Refusal::NotSplittable);
@@ -146,7 +169,10 @@ impl Engine {
         ensures kept { OnOk result (KeepsAll settings.now (given_by given.now) self.new) }
         ensures usable { OnOk result (IsTrue (are_usable given.now)) }
         ensures unusable { IfErr result (λ refusal. refusal ≡ NotSplittable → IsFalse (are_usable given.now)) }
+        ensures too_large { IfErr result (λ refusal. refusal ≡ Refused CountOutOfRange
+            → IsCountOfAllRefused settings.now (given_by given.now) self.old self.new) }
         ensures limit { snap_limit_of self.new.splitter ≡ snap_limit_of self.old.splitter }
+        ensures contours { self.new.polygons ≡ self.old.polygons }
     {
         self.split(given, settings)?;
         let solver = solver(settings);
@@ -168,6 +194,7 @@ impl Engine {
         ensures too_large { IfErr result (λ refusal. refusal ≡ Refused CountOutOfRange
             → IsTrue (join_leaves_range (given_by given.now))) }
         ensures splitter { self.new.splitter ≡ self.old.splitter }
+        ensures contours { self.new.polygons ≡ self.old.polygons }
     {
         if !load(given, &mut self.segments)? || !is_splittable(&self.segments) {
             return Err(Refusal::NotSplittable);
@@ -187,7 +214,10 @@ impl Engine {
         ensures kept { OnOk result (KeepsClip settings.now rule (map line_asked_by given.now) self.new) }
         ensures usable { OnOk result (IsTrue (are_lines_usable given.now)) }
         ensures unusable { IfErr result (λ refusal. refusal ≡ NotSplittable → IsFalse (are_lines_usable given.now)) }
+        ensures too_large { IfErr result (λ refusal. refusal ≡ Refused CountOutOfRange
+            → IsCountOfLinesRefused settings.now (map line_asked_by given.now) self.old self.new) }
         ensures limit { snap_limit_of self.new.splitter ≡ snap_limit_of self.old.splitter }
+        ensures contours { self.new.polygons ≡ self.old.polygons }
     {
         if !lines::load(given, &mut self.lines)? || !is_splittable(&self.lines) {
             return Err(Refusal::NotSplittable);
@@ -206,6 +236,55 @@ impl Engine {
         keep_links(graph.links(), &mut self.links)?;
         keep_lists(graph.nodes(), &mut self.degrees, &mut self.indexes)?;
         Ok(())
+    }
+
+    /// Copies a contour behind the others of its shape, if its points are in range. Else, and where a growth is refused,
+    /// nothing is added.
+    pub fn add_contour(
+        &mut self,
+        contour: &[PointRecord],
+        shape_type: ShapeType,
+    ) -> Result<(), Refusal>
+        ensures added { OnOk result (contours_in self.new shape_type
+            ≡ contours_in self.old shape_type ++ map point_by contour.now ∷ []) }
+        ensures unchanged { OnErr result (contours_in self.new shape_type ≡ contours_in self.old shape_type) }
+        ensures other { contours_in self.new (other_shape shape_type)
+            ≡ contours_in self.old (other_shape shape_type) }
+        ensures in_range { OnOk result (IsTrue (are_in_range contour.now)) }
+        ensures refused { IfErr result (λ refusal. IsPointRefusal contour.now refusal) }
+        ensures rest { SameSplit self.old self.new }
+    {
+        load_points(contour, &mut self.points)?;
+        self.polygons.add_contour(&self.points, shape_type)?;
+        Ok(())
+    }
+
+    /// The overlay of the contours that were added, as contours, which are kept. Those that were added stay.
+    pub fn polygons(&mut self, settings: &SettingsRecord, rule: OverlayRule) -> Result<(), Refusal>
+        ensures kept { OnOk result (KeepsPolygons settings.now rule self.old self.new) }
+        ensures refused { IfErr result (λ refusal. IsPolygonRefusal settings.now self.old refusal) }
+        ensures subject { contours_in self.new Subject ≡ contours_in self.old Subject }
+        ensures clip { contours_in self.new Clip ≡ contours_in self.old Clip }
+        ensures rest { SameSplit self.old self.new }
+    {
+        let solver = solver(settings);
+        let fill_rule = fill_rule(settings.fill_rule);
+        let contours = self.polygons.overlay(&solver, fill_rule, rule)?;
+        keep_contours(
+            &contours,
+            &mut self.contour_lengths,
+            &mut self.contour_points,
+        )?;
+        Ok(())
+    }
+
+    /// Drops the contours that were added.
+    pub fn clear_contours(&mut self)
+        ensures subject { contours_in self.new Subject ≡ [] }
+        ensures clip { contours_in self.new Clip ≡ [] }
+        ensures rest { SameSplit self.old self.new }
+    {
+        self.polygons.clear();
     }
 }
 
