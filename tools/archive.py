@@ -1,24 +1,20 @@
 #!/usr/bin/env python3
-"""Builds the archive of `crates/overlay_c`, `out/liboverlay_c.a`, which `rust/` links.
+"""Builds the archive that `rust/` links, `crates/overlay_c/out/liboverlay_core.a`.
 
     python3 tools/archive.py [--after-ci]
 
-The libraries below are proved side by side, as `tools/run.py` does it, and `rt lib` makes the archive over them. With
-`--after-ci`, right after `rt ci`, the archive is made over the libraries that `rt ci` proved and left in `out/`, which
-`rt lib` would prove again. Either way the toolchain proves the crate before it compiles it.
+It holds the proved library `overlay_c`, and the part of the toolchain in C that this calls. The libraries below `overlay_c` are
+proved side by side, as `tools/run.py` does it, and `rt lib` makes `liboverlay_c.a` over them. With `--after-ci`, right after
+`rt ci`, that is made over the libraries that `rt ci` proved and left in `out/`, which `rt lib` would prove again. Either way the
+toolchain proves the crate before it compiles it.
 """
 import os
+import subprocess
 import sys
 
 import run
 
 NAME = "overlay_c"
-
-
-def lock_all(rtlib, crate):
-    """Waits until no other command of the toolchain works on these crates, and keeps them out as long as this runs."""
-    rtlib.guarded()
-    return rtlib.lock([*crate.below(), crate])
 
 
 def are_left_by_ci(libraries):
@@ -28,22 +24,43 @@ def are_left_by_ci(libraries):
 
 def build_over_left(rtlib, crate):
     """Proves the crate over the libraries that stand below it, compiles it, and returns the status."""
+    rtlib.guarded()
+    held = rtlib.lock([*crate.below(), crate])
+    os.makedirs(f"{crate.folder}/out", exist_ok=True)
     words = crate.words(["--jobs", str(run.processors())], keeps=False)
     by = ["--toolchain", f"{rtlib.KIT}/toolchain", "--backend", "llvm", "-o", f"out/lib{crate.name}.a"]
-    os.makedirs(f"{crate.folder}/out", exist_ok=True)
-    return crate.call(rtlib.RATTLE, "build", *words, *by)
+    try:
+        return crate.call(rtlib.RATTLE, "build", *words, *by)
+    finally:
+        for lock in held:
+            os.close(lock)
+
+
+def build(rtlib, crate, flags):
+    """Makes the archive of the crate, and returns the status."""
+    if "--after-ci" in flags and are_left_by_ci(crate.below()):
+        return build_over_left(rtlib, crate)
+    if not run.build_libraries(crate.name):
+        return 1
+    return subprocess.run(["rt", "lib"], cwd=crate.folder).returncode
+
+
+def pack(rtlib, crate):
+    """Puts the archive and the toolchain's part in C into one, so that a program links one file."""
+    packed = f"{crate.folder}/out/liboverlay_core.a"
+    if os.path.exists(packed):
+        os.remove(packed)
+    parts = [f"{crate.folder}/out/lib{crate.name}.a", f"{rtlib.KIT}/c/liblibc_c.a"]
+    subprocess.run([f"{rtlib.KIT}/toolchain/bin/llvm-ar", "qcsL", packed, *parts], check=True)
 
 
 def main(flags):
     rtlib = run.toolchain()
     crate = rtlib.Crate(f"{run.ROOT}/crates/{NAME}", run.ROOT, {})
-    if flags == ["--after-ci"] and are_left_by_ci(crate.below()):
-        held = lock_all(rtlib, crate)
-        sys.exit(build_over_left(rtlib, crate))
-    if not run.build_libraries(NAME):
-        sys.exit(1)
-    os.chdir(crate.folder)
-    os.execvp("rt", ["rt", "lib"])
+    status = build(rtlib, crate, flags)
+    if not status:
+        pack(rtlib, crate)
+    sys.exit(status)
 
 
 if __name__ == "__main__":
