@@ -23,10 +23,8 @@ pub struct Overlay {
     engine: ffi::Engine,
     /// How many contours of the subject and of the clip were added.
     contour_counts: [usize; 2],
-    /// Whether the engine keeps an arrangement of segments.
-    is_arranged: bool,
-    /// Whether the engine keeps an arrangement of polygons and lines.
-    has_lines: bool,
+    /// Whether the last call was a join that was refused, of which nothing is promised.
+    is_join_refused: bool,
     segments: Vec<Segment>,
     lines: Vec<LineSegment>,
     links: Vec<OverlayLink>,
@@ -65,8 +63,7 @@ impl Overlay {
         Ok(Overlay {
             engine: ffi::Engine::new(snap_limit).ok_or(Error::Fault(Fault::Memory))?,
             contour_counts: [0; 2],
-            is_arranged: false,
-            has_lines: false,
+            is_join_refused: false,
             segments: Vec::new(),
             lines: Vec::new(),
             links: Vec::new(),
@@ -256,8 +253,8 @@ impl Overlay {
         Ok(Some(walks.map(|walk| contour(&self.links, walk)).collect()))
     }
 
-    /// The arrangement of the last call that was given segments, or the joined segments. Nothing before such a call, and
-    /// after one that was refused.
+    /// The arrangement of the last call that was given segments, or the joined segments. After a call that was refused,
+    /// nothing, or the arrangement where its graph alone was refused.
     ///
     /// ```
     /// use i_overlay_core::{square, Overlay, ShapeType, Solver};
@@ -271,15 +268,15 @@ impl Overlay {
     /// # Ok::<(), i_overlay_core::Error>(())
     /// ```
     pub fn segments(&mut self) -> &[Segment] {
-        if !self.is_arranged {
+        if self.is_join_refused {
             return &[];
         }
         self.engine.copy_segments(&mut self.segments);
         &self.segments
     }
 
-    /// The arrangement of the last `build_clip`, of polygons and lines. Nothing before such a call, and after one that was
-    /// refused.
+    /// The arrangement of the last `build_clip`, of polygons and lines. After a call that was refused, nothing, or the
+    /// arrangement where its graph alone was refused.
     ///
     /// ```
     /// use i_overlay_core::{ClipRule, FillRule, IntPoint, LineSegment, Overlay, Solver};
@@ -292,9 +289,6 @@ impl Overlay {
     /// # Ok::<(), i_overlay_core::Error>(())
     /// ```
     pub fn lines(&mut self) -> &[LineSegment] {
-        if !self.has_lines {
-            return &[];
-        }
         self.engine.copy_lines(&mut self.lines);
         &self.lines
     }
@@ -356,7 +350,8 @@ impl Overlay {
     /// ```
     pub fn join(&mut self, segments: &[Segment]) -> Result<Change, Error> {
         let status = self.engine.join(segments);
-        self.keep(status, segments)?;
+        self.is_join_refused = status != 0;
+        outcome(status, segments, fault_of)?;
         Ok(self.change())
     }
 
@@ -383,7 +378,6 @@ impl Overlay {
     ) -> Result<OverlayGraph<'_>, Error> {
         let ClipRule { invert, boundary_included } = clip_rule;
         let status = self.engine.clip(segments, &settings(solver, fill_rule), invert, boundary_included);
-        self.has_lines = status == 0;
         outcome(status, segments, fault_of_line)?;
         Ok(self.graph())
     }
@@ -401,9 +395,9 @@ impl Overlay {
         self.keep(status, segments)
     }
 
-    /// What a status tells, and so whether there is an arrangement.
+    /// What a status tells of a call that keeps an arrangement, or nothing.
     fn keep(&mut self, status: u8, segments: &[Segment]) -> Result<(), Error> {
-        self.is_arranged = status == 0;
+        self.is_join_refused = false;
         outcome(status, segments, fault_of)
     }
 

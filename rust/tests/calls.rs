@@ -233,6 +233,27 @@ fn counts_that_leave_the_range() {
     assert_eq!(refused.unwrap().to_string(), "count out of range");
 }
 
+/// The arrangement stands where the graph alone is refused, and nothing does where the split is.
+#[test]
+fn what_stands_after_a_refusal() {
+    let mut overlay = Overlay::new().unwrap();
+    let count = ShapeCountBoolean { subj: i32::MAX, clip: 0 };
+    let step = |y| Segment { a: IntPoint::new(0, y), b: IntPoint::new(5, y), count };
+    let fault = Some(Error::Fault(Fault::CountOutOfRange));
+    let stacked = [step(0), step(3)];
+    let mut refused = |given: &[Segment]| {
+        let graph = overlay.build_graph(given, FillRule::NonZero, OverlayRule::Union).err();
+        let kept = overlay.segments().to_vec();
+        let all = overlay.build_all(given, FillRule::NonZero, Solver::AUTO).err();
+        assert_eq!((graph, all, overlay.segments()), (fault, fault, kept.as_slice()));
+        kept
+    };
+    assert_eq!(refused(&stacked), stacked);
+    assert_eq!(refused(&[step(0), step(0)]), []);
+    assert_eq!(overlay.join(&[step(0), step(0)]).err(), fault);
+    assert!(overlay.segments().is_empty());
+}
+
 #[test]
 fn a_path_that_does_not_close() {
     let mut overlay = Overlay::new().unwrap();

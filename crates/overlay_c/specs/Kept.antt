@@ -1,5 +1,5 @@
 -- What an engine keeps of its last answer.
-use Rattle.std.specs.Prelude.{◌≡◌, ◌⊎◌, ℕ, ◌&&◌, Bool, true, List, IsTrue, map, flat_map, length}
+use Rattle.std.specs.Prelude.{◌≡◌, ◌⊎◌, ℕ, ◌&&◌, Bool, true, List, [], IsTrue, map, flat_map, length}
 use Rattle.std.specs.List.{list_all}
 use Rattle.overlay_geometry.specs.Coordinates.{least_coordinate, greatest_coordinate}
 use Rattle.overlay_base.specs.Planar.{is_splittable}
@@ -92,3 +92,12 @@ abbrev pub IsCountOfAllRefused : SettingsRecord → List WholeSegment → Engine
 IsCountOfAllRefused settings given before after =
     LeavesRange (engine_settings settings before) given
     ⊎ (IsSplit (engine_settings settings after) given (segments_of after.segments.items) (passes_of after.splitter) × IsTrue (tops_leave_range (segments_of after.segments.items)))
+
+-- what stands after a refusal: nothing, or what the split leaves
+abbrev pub StandsAfter : SettingsRecord → List WholeSegment → Engine → Type 0
+StandsAfter settings given engine =
+    (segments_of engine.segments.items ≡ []) ⊎ IsSplit (engine_settings settings engine) given (segments_of engine.segments.items) (passes_of engine.splitter)
+
+abbrev pub LinesStandAfter : SettingsRecord → List WholeSegment → Engine → Type 0
+LinesStandAfter settings given engine =
+    (segments_of engine.lines.items ≡ []) ⊎ IsSplit (engine_settings settings engine) given (segments_of engine.lines.items) (passes_of engine.splitter)

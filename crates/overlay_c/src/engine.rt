@@ -1,10 +1,14 @@
 // The engine behind a handle: a splitter, builders, and the records of their last answers.
-ghost use Rattle.std.specs.Prelude.{◌≡◌, true, IsTrue, OnOk, IfOk, map, length, flat_map};
+ghost use Rattle.std.specs.Prelude.{◌≡◌, ◌≢◌, [], true, IsTrue, IsFalse, OnOk, OnErr, IfOk, IfErr, map, length, flat_map};
 ghost use Rattle.std.specs.List.{list_all};
+ghost use Rattle.overlay_base.specs.ArrangedOf.{IsSplittable};
 ghost use Rattle.overlay_base.specs.SegmentOf.{segments_of};
+ghost use Rattle.overlay_base.specs.declared.segm.fault.Fault.TheVariants.{CountOutOfRange};
 ghost use Rattle.overlay_build.specs.GraphOf.{link_of};
 ghost use Rattle.overlay_build.specs.NodeIndexes.{indexes_of};
+ghost use Rattle.overlay_c.specs.Kept.{given_by, are_usable, are_lines_usable};
 ghost use Rattle.overlay_c.specs.Records.{asks, asked_by, line_asked_by, link_by};
+ghost use Rattle.overlay_c.specs.declared.refusal.Refusal.TheVariants.{Refused, NotSplittable};
 
 use crate::contours::{PointRecord, keep_contours, load_points};
 use crate::lines::{self, Line};
@@ -65,17 +69,15 @@ pub struct Engine {
 }
 
 impl Engine {
-    ghost use Rattle.std.specs.Prelude.{◌≡◌, [], ◌∷◌, ◌++◌, Err, IsTrue, IsFalse, OnOk, OnErr, IfErr};
-    ghost use Rattle.overlay_base.specs.declared.segm.fault.Fault.TheVariants.{CountOutOfRange};
+    ghost use Rattle.std.specs.Prelude.{◌∷◌, ◌++◌, Err};
     ghost use Rattle.overlay_base.specs.ArrangedOf.{IsArranged};
     ghost use Rattle.overlay_base.specs.Join.{join, join_leaves_range, has_equal_pairs};
     ghost use Rattle.overlay_split.specs.Run.{LeavesRange};
     ghost use Rattle.overlay_split.specs.SettingsOf.{snap_limit_of};
-    ghost use Rattle.overlay_c.specs.Kept.{given_by, are_usable, are_lines_usable, engine_settings, KeepsSplit, KeepsAll, KeepsOverlay, KeepsClip, IsCountRefused, IsCountOfAllRefused, IsCountOfLinesRefused};
+    ghost use Rattle.overlay_c.specs.Kept.{engine_settings, KeepsSplit, KeepsAll, KeepsOverlay, KeepsClip, IsCountRefused, IsCountOfAllRefused, IsCountOfLinesRefused, StandsAfter, LinesStandAfter};
     ghost use Rattle.overlay_base.specs.declared.segm.shape_type.ShapeType.TheVariants.{Subject, Clip};
     ghost use Rattle.overlay_contours.specs.Refusals.{other_shape};
     ghost use Rattle.overlay_c.specs.Contours.{point_by, are_in_range, contours_in, KeepsPolygons, IsPointRefusal, IsPolygonRefusal, SameSplit};
-    ghost use Rattle.overlay_c.specs.declared.refusal.Refusal.TheVariants.{Refused, NotSplittable};
 
     /// An engine, which takes no memory yet.
     pub fn new(alloc: Global, snap_limit: u32) -> Engine
@@ -106,7 +108,8 @@ impl Engine {
     /// Splits the segments that records ask for, and keeps the arrangement, the graph of the segments that an overlay rule
     /// keeps, and closed walks through it where they are asked for and evenly many links meet at each node.
     ///
-    /// After a refusal the engine can be used again, and nothing is promised of what it keeps.
+    /// After a refusal the engine can be used again: it keeps no segments, or their arrangement where the split was done. Of
+    /// links, nodes and walks nothing is promised then.
     pub fn overlay(
         &mut self,
         alloc: Global,
@@ -120,12 +123,11 @@ impl Engine {
         ensures unusable { IfErr result (λ refusal. refusal ≡ NotSplittable → IsFalse (are_usable given.now)) }
         ensures too_large { IfErr result (λ refusal. refusal ≡ Refused CountOutOfRange
             → IsCountRefused settings.now (given_by given.now) self.old self.new) }
+        ensures stands { OnErr result (StandsAfter settings.now (given_by given.now) self.new) }
         ensures limit { snap_limit_of self.new.splitter ≡ snap_limit_of self.old.splitter }
         ensures contours { self.new.polygons ≡ self.old.polygons }
     {
-        if !load(given, &mut self.segments)? || !is_splittable(&self.segments) {
-            return Err(Refusal::NotSplittable);
-        }
+        load_splittable(given, &mut self.segments)?;
         let solver = solver(settings);
         let fill_rule = fill_rule(settings.fill_rule);
         let (splitter, builder) = (&mut self.splitter, &mut self.builder);
@@ -153,12 +155,11 @@ impl Engine {
         ensures unusable { IfErr result (λ refusal. refusal ≡ NotSplittable → IsFalse (are_usable given.now)) }
         ensures too_large { IfErr result (λ refusal. refusal ≡ Refused CountOutOfRange
             → LeavesRange (engine_settings settings.now self.old) (given_by given.now)) }
+        ensures emptied { OnErr result (self.new.segments.items ≡ []) }
         ensures limit { snap_limit_of self.new.splitter ≡ snap_limit_of self.old.splitter }
         ensures contours { self.new.polygons ≡ self.old.polygons }
     {
-        if !load(given, &mut self.segments)? || !is_splittable(&self.segments) {
-            return Err(Refusal::NotSplittable);
-        }
+        load_splittable(given, &mut self.segments)?;
         let solver = solver(settings);
         self.has_changed = self.splitter.split_segments(&mut self.segments, &solver)?;
         Ok(())
@@ -171,6 +172,7 @@ impl Engine {
         ensures unusable { IfErr result (λ refusal. refusal ≡ NotSplittable → IsFalse (are_usable given.now)) }
         ensures too_large { IfErr result (λ refusal. refusal ≡ Refused CountOutOfRange
             → IsCountOfAllRefused settings.now (given_by given.now) self.old self.new) }
+        ensures stands { OnErr result (StandsAfter settings.now (given_by given.now) self.new) }
         ensures limit { snap_limit_of self.new.splitter ≡ snap_limit_of self.old.splitter }
         ensures contours { self.new.polygons ≡ self.old.polygons }
     {
@@ -196,9 +198,7 @@ impl Engine {
         ensures splitter { self.new.splitter ≡ self.old.splitter }
         ensures contours { self.new.polygons ≡ self.old.polygons }
     {
-        if !load(given, &mut self.segments)? || !is_splittable(&self.segments) {
-            return Err(Refusal::NotSplittable);
-        }
+        load_splittable(given, &mut self.segments)?;
         self.has_changed = join_with_store(&mut self.segments, &mut ())?;
         Ok(())
     }
@@ -216,12 +216,11 @@ impl Engine {
         ensures unusable { IfErr result (λ refusal. refusal ≡ NotSplittable → IsFalse (are_lines_usable given.now)) }
         ensures too_large { IfErr result (λ refusal. refusal ≡ Refused CountOutOfRange
             → IsCountOfLinesRefused settings.now (map line_asked_by given.now) self.old self.new) }
+        ensures stands { OnErr result (LinesStandAfter settings.now (map line_asked_by given.now) self.new) }
         ensures limit { snap_limit_of self.new.splitter ≡ snap_limit_of self.old.splitter }
         ensures contours { self.new.polygons ≡ self.old.polygons }
     {
-        if !lines::load(given, &mut self.lines)? || !is_splittable(&self.lines) {
-            return Err(Refusal::NotSplittable);
-        }
+        load_splittable_lines(given, &mut self.lines)?;
         let solver = solver(settings);
         let fill_rule = fill_rule(settings.fill_rule);
         let (splitter, builder) = (&mut self.splitter, &mut self.line_builder);
@@ -286,6 +285,66 @@ impl Engine {
     {
         self.polygons.clear();
     }
+}
+
+/// Loads the segments that records ask for, where these may be split; else the list is empty.
+fn load_splittable(given: &[SegmentRecord], list: &mut Vec<Side>) -> Result<(), Refusal>
+    ensures segments { OnOk result (segments_of list.new.items ≡ given_by given.now) }
+    ensures splittable { OnOk result (IsSplittable list.new.items) }
+    ensures usable { OnOk result (IsTrue (are_usable given.now)) }
+    ensures unusable { IfErr result (λ refusal. refusal ≡ NotSplittable → IsFalse (are_usable given.now)) }
+    ensures no_count { IfErr result (λ refusal. refusal ≢ Refused CountOutOfRange) }
+    ensures emptied { OnErr result (list.new.items ≡ []) }
+{
+    let loaded = try_load(given, list);
+    if loaded.is_err() {
+        list.clear();
+    }
+    loaded
+}
+
+/// The same, but that a refused load may leave anything.
+fn try_load(given: &[SegmentRecord], list: &mut Vec<Side>) -> Result<(), Refusal>
+    ensures segments { OnOk result (segments_of list.new.items ≡ given_by given.now) }
+    ensures splittable { OnOk result (IsSplittable list.new.items) }
+    ensures usable { OnOk result (IsTrue (are_usable given.now)) }
+    ensures unusable { IfErr result (λ refusal. refusal ≡ NotSplittable → IsFalse (are_usable given.now)) }
+    ensures no_count { IfErr result (λ refusal. refusal ≢ Refused CountOutOfRange) }
+{
+    if !load(given, list)? || !is_splittable(list) {
+        return Err(Refusal::NotSplittable);
+    }
+    Ok(())
+}
+
+/// Loads polygons and lines in the same way.
+fn load_splittable_lines(given: &[LineRecord], list: &mut Vec<Line>) -> Result<(), Refusal>
+    ensures segments { OnOk result (segments_of list.new.items ≡ map line_asked_by given.now) }
+    ensures splittable { OnOk result (IsSplittable list.new.items) }
+    ensures usable { OnOk result (IsTrue (are_lines_usable given.now)) }
+    ensures unusable { IfErr result (λ refusal. refusal ≡ NotSplittable → IsFalse (are_lines_usable given.now)) }
+    ensures no_count { IfErr result (λ refusal. refusal ≢ Refused CountOutOfRange) }
+    ensures emptied { OnErr result (list.new.items ≡ []) }
+{
+    let loaded = try_load_lines(given, list);
+    if loaded.is_err() {
+        list.clear();
+    }
+    loaded
+}
+
+/// The same, but that a refused load may leave anything.
+fn try_load_lines(given: &[LineRecord], list: &mut Vec<Line>) -> Result<(), Refusal>
+    ensures segments { OnOk result (segments_of list.new.items ≡ map line_asked_by given.now) }
+    ensures splittable { OnOk result (IsSplittable list.new.items) }
+    ensures usable { OnOk result (IsTrue (are_lines_usable given.now)) }
+    ensures unusable { IfErr result (λ refusal. refusal ≡ NotSplittable → IsFalse (are_lines_usable given.now)) }
+    ensures no_count { IfErr result (λ refusal. refusal ≢ Refused CountOutOfRange) }
+{
+    if !lines::load(given, list)? || !is_splittable(list) {
+        return Err(Refusal::NotSplittable);
+    }
+    Ok(())
 }
 
 /// Loads the segments that records ask for. Answers whether each asks for one.

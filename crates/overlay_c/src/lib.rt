@@ -12,7 +12,7 @@ ghost use Rattle.overlay_c.specs.Crosses.{pair_by, cross_by, mask_by};
 ghost use Rattle.overlay_geometry.specs.Coordinates.{least_coordinate, greatest_coordinate, is_pair_in_range};
 ghost use Rattle.overlay_intersections.specs.CrossAnswer.{cross_answer};
 ghost use Rattle.overlay_intersections.specs.Marks.{snapping};
-ghost use Rattle.overlay_c.specs.Kept.{given_by, are_usable, are_lines_usable, engine_settings, KeepsSplit, KeepsAll, KeepsOverlay, KeepsClip, IsCountRefused, IsCountOfAllRefused, IsCountOfLinesRefused};
+ghost use Rattle.overlay_c.specs.Kept.{given_by, are_usable, are_lines_usable, engine_settings, KeepsSplit, KeepsAll, KeepsOverlay, KeepsClip, IsCountRefused, IsCountOfAllRefused, IsCountOfLinesRefused, StandsAfter, LinesStandAfter};
 ghost use Rattle.overlay_base.specs.declared.segm.shape_type.ShapeType.TheVariants.{Subject, Clip};
 ghost use Rattle.overlay_contours.specs.Refusals.{other_shape, CountsLeaveRange};
 ghost use Rattle.overlay_c.specs.Contours.{point_by, are_in_range, contours_in, polygon_settings, KeepsPolygons, SameSplit};
@@ -84,6 +84,7 @@ pub extern "C" fn overlay_c_overlay(
     ensures unusable { result ≡ 3 → IsFalse (are_usable given.now) }
     ensures too_large { result ≡ 2 → IfSome handle.old.engine (λ before. IfSome handle.new.engine
         (IsCountRefused settings.now (given_by given.now) before)) }
+    ensures stands { result ≢ 0 → IfSome handle.new.engine (StandsAfter settings.now (given_by given.now)) }
     ensures limit { IfSome handle.old.engine (λ before. IfSome handle.new.engine
         (λ after. snap_limit_of after.splitter ≡ snap_limit_of before.splitter)) }
     ensures contours { IfSome handle.old.engine (λ before. IfSome handle.new.engine
@@ -110,6 +111,7 @@ pub extern "C" fn overlay_c_split(
     ensures unusable { result ≡ 3 → IsFalse (are_usable given.now) }
     ensures too_large { result ≡ 2 → IfSome handle.old.engine (λ before.
         LeavesRange (engine_settings settings.now before) (given_by given.now)) }
+    ensures emptied { result ≢ 0 → IfSome handle.new.engine (λ engine. engine.segments.items ≡ []) }
     ensures limit { IfSome handle.old.engine (λ before. IfSome handle.new.engine
         (λ after. snap_limit_of after.splitter ≡ snap_limit_of before.splitter)) }
     ensures contours { IfSome handle.old.engine (λ before. IfSome handle.new.engine
@@ -136,6 +138,7 @@ pub extern "C" fn overlay_c_all(
     ensures unusable { result ≡ 3 → IsFalse (are_usable given.now) }
     ensures too_large { result ≡ 2 → IfSome handle.old.engine (λ before. IfSome handle.new.engine
         (IsCountOfAllRefused settings.now (given_by given.now) before)) }
+    ensures stands { result ≢ 0 → IfSome handle.new.engine (StandsAfter settings.now (given_by given.now)) }
     ensures limit { IfSome handle.old.engine (λ before. IfSome handle.new.engine
         (λ after. snap_limit_of after.splitter ≡ snap_limit_of before.splitter)) }
     ensures contours { IfSome handle.old.engine (λ before. IfSome handle.new.engine
@@ -187,6 +190,8 @@ pub extern "C" fn overlay_c_clip(
     ensures unusable { result ≡ 3 → IsFalse (are_lines_usable given.now) }
     ensures too_large { result ≡ 2 → IfSome handle.old.engine (λ before. IfSome handle.new.engine
         (IsCountOfLinesRefused settings.now (map line_asked_by given.now) before)) }
+    ensures stands { result ≢ 0 → IfSome handle.new.engine
+        (LinesStandAfter settings.now (map line_asked_by given.now)) }
     ensures limit { IfSome handle.old.engine (λ before. IfSome handle.new.engine
         (λ after. snap_limit_of after.splitter ≡ snap_limit_of before.splitter)) }
     ensures contours { IfSome handle.old.engine (λ before. IfSome handle.new.engine
