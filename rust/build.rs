@@ -1,36 +1,32 @@
-//! Links the proved archive and the kit's part in C.
-//!
-//! `OVERLAY_C` names the archive if it is not `../crates/overlay_c/out/liboverlay_c.a`, where `rt lib` writes it;
-//! `RATTLE_C` the folder of `liblibc_c.a` if it is not the folder `c` beside the page that `rt doc` names.
+//! Links the proved archive: `../crates/overlay_c/out/liboverlay_core.a`, where `tools/archive.py` makes it, or the file that
+//! the variable `OVERLAY_C` names. Where it is not there the build stops, and says in one sentence what to do.
 
 use std::env;
 use std::path::{Path, PathBuf};
-use std::process::Command;
+use std::process::exit;
+
+const MADE: &str = "../crates/overlay_c/out/liboverlay_core.a";
 
 fn main() {
-    let here = PathBuf::from(env::var("CARGO_MANIFEST_DIR").expect("cargo sets it"));
-    let archive = env::var("OVERLAY_C")
-        .map(PathBuf::from)
-        .unwrap_or_else(|_| here.join("../crates/overlay_c/out/liboverlay_c.a"));
-    let kit = env::var("RATTLE_C").map(PathBuf::from).unwrap_or_else(|_| kit_folder());
-    link(&archive, "overlay_c", "in crates/overlay_c run `rt lib`");
-    link(&kit.join("liblibc_c.a"), "libc_c", "name the kit's folder c by RATTLE_C");
     println!("cargo:rerun-if-env-changed=OVERLAY_C");
-    println!("cargo:rerun-if-env-changed=RATTLE_C");
-}
-
-/// The folder `c` of the kit, beside the page that `rt doc` names.
-fn kit_folder() -> PathBuf {
-    let said = Command::new("rt").arg("doc").output().expect("`rt` is there, or RATTLE_C names the kit's folder c");
-    let page = PathBuf::from(String::from_utf8_lossy(&said.stdout).trim());
-    page.parent().expect("a page stands in a folder").join("c")
-}
-
-/// Links an archive, which has to be there.
-fn link(archive: &Path, name: &str, help: &str) {
-    assert!(archive.is_file(), "{} is not there: {help}", archive.display());
-    let folder = archive.parent().expect("a file has a folder");
+    let here = PathBuf::from(env::var("CARGO_MANIFEST_DIR").expect("cargo sets it"));
+    let archive = env::var_os("OVERLAY_C").map_or_else(|| here.join(MADE), PathBuf::from);
     println!("cargo:rerun-if-changed={}", archive.display());
+    let name = library_name(&archive).unwrap_or_else(|| stop(&archive));
+    let folder = archive.parent().expect("a file has a folder");
     println!("cargo:rustc-link-search=native={}", folder.display());
     println!("cargo:rustc-link-lib=static={name}");
+}
+
+/// The name of a library in its file `libNAME.a`, if that is there.
+fn library_name(archive: &Path) -> Option<&str> {
+    let name = archive.file_name()?.to_str()?.strip_prefix("lib")?.strip_suffix(".a")?;
+    archive.is_file().then_some(name)
+}
+
+fn stop(archive: &Path) -> ! {
+    let wanted =
+        "run `python3 tools/archive.py` at the top of the repository, or let OVERLAY_C name the archive libNAME.a";
+    eprintln!("i_overlay_core: {} is no archive: {wanted}.", archive.display());
+    exit(1)
 }

@@ -1,6 +1,6 @@
 #!/usr/bin/env bash
-# Proofs, tests and must-fail edits from nothing, by `rt ci`; then each growth of the programs is refused in turn. The last
-# line is `N passed, M failed`.
+# Proofs, tests and must-fail edits from nothing, by `rt ci`; then each growth of the programs is refused in turn, and the
+# tests of the Rust package run, where cargo is. The last line is `N passed, M failed`.
 #
 #     bash tools/gate.sh                  the whole gate
 #     bash tools/gate.sh --since COMMIT   every proof and test, and of the edits only those of crates that changed since COMMIT
@@ -26,6 +26,14 @@ keep_edits_since() {
     done
 }
 
+# Runs the tests of the Rust package over the archive, which is made over the libraries that `rt ci` left; one of them
+# compares its texts with those of `arrange`.
+test_package() {
+    python3 tools/archive.py --after-ci >"$room/archive" 2>&1 || { cat "$room/archive"; return 1; }
+    export ARRANGE="$PWD/crates/arrange/out/arrange"
+    (cd rust && cargo test --release --offline --quiet && cargo test --release --offline --quiet --test program -- --ignored)
+}
+
 if [[ ${1:-} == --since && $# == 2 ]]; then
     keep_edits_since "$2"
 elif (($#)); then
@@ -45,12 +53,24 @@ rt ci | while IFS= read -r line; do
 done || status=$?
 verdict=$(tail -n 1 "$lines")
 
-# Each growth of the programs is refused in turn. The last line is that of `rt ci`, with one test more.
+# Each growth of the programs is refused in turn, and the package is tested. The last line is that of `rt ci`, with a test
+# more for each of the two.
 if [[ $verdict =~ ^([0-9]+)\ passed,\ ([0-9]+)\ failed(.*)$ ]]; then
     passed=${BASH_REMATCH[1]} failed=${BASH_REMATCH[2]} rest=${BASH_REMATCH[3]}
     if python3 tools/refusals.py; then
         passed=$((passed + 1))
     else
+        failed=$((failed + 1)) status=1
+    fi
+    if ! command -v cargo >/dev/null; then
+        printf '%5d s: the tests of rust/ were not run: there is no cargo\n' "$SECONDS"
+    elif ((status)); then
+        printf '%5d s: the tests of rust/ were not run: what stands before them failed\n' "$SECONDS"
+    elif test_package; then
+        printf '%5d s: the tests of rust/ passed\n' "$SECONDS"
+        passed=$((passed + 1))
+    else
+        printf '%5d s: the tests of rust/ FAILED\n' "$SECONDS"
         failed=$((failed + 1)) status=1
     fi
     # the second line of `times` is what ended children took: user and system

@@ -4,9 +4,10 @@
 //! A slice crosses as a pointer and a length; a `Global` takes no bytes, and does not cross. Beside each call, `SAFETY`
 //! names the conditions (`requires`) of the export and says why they hold.
 
-use crate::{IntPoint, LineSegment, OverlayLink, Segment};
+use crate::{IntContour, IntPoint, LineSegment, OverlayLink, Segment};
 
 /// The place of an engine: `Handle` of `crates/overlay_c`. Null where it is empty.
+#[derive(Debug)]
 #[repr(C)]
 struct Handle {
     at: *mut u8,
@@ -25,11 +26,14 @@ pub struct Settings {
 #[repr(C)]
 pub struct Sizes {
     pub segments: usize,
+    pub lines: usize,
     pub links: usize,
     pub nodes: usize,
     pub node_links: usize,
     pub walks: usize,
     pub walk_links: usize,
+    pub contours: usize,
+    pub contour_points: usize,
     pub has_walks: bool,
     pub has_changed: bool,
     pub passes: u64,
@@ -41,6 +45,7 @@ pub struct Cross {
     pub point: IntPoint,
     pub kind: u8,
     pub is_rounded: bool,
+    pub mask: u8,
 }
 
 extern "C" {
@@ -66,8 +71,12 @@ extern "C" {
         invert: bool,
         boundary_included: bool,
     ) -> u8;
+    fn overlay_c_add_contour(handle: &mut Handle, contour: *const IntPoint, contour_len: usize, shape: u8) -> u8;
+    fn overlay_c_polygons(handle: &mut Handle, settings: &Settings, rule: u8) -> u8;
+    fn overlay_c_clear(handle: &mut Handle);
     fn overlay_c_sizes(handle: &mut Handle) -> Sizes;
     fn overlay_c_segments(handle: &mut Handle, out: *mut Segment, out_len: usize);
+    fn overlay_c_lines(handle: &mut Handle, out: *mut LineSegment, out_len: usize);
     fn overlay_c_links(handle: &mut Handle, out: *mut OverlayLink, out_len: usize);
     fn overlay_c_nodes(
         handle: &mut Handle,
@@ -82,6 +91,13 @@ extern "C" {
         lengths_len: usize,
         indexes: *mut usize,
         indexes_len: usize,
+    );
+    fn overlay_c_contours(
+        handle: &mut Handle,
+        lengths: *mut usize,
+        lengths_len: usize,
+        points: *mut IntPoint,
+        points_len: usize,
     );
 }
 
@@ -138,6 +154,24 @@ impl Engine {
         unsafe { overlay_c_clip(&mut self.handle, first, len, settings, invert, boundary_included) }
     }
 
+    /// Copies a contour behind the others of its shape. Returns a status.
+    pub fn add_contour(&mut self, contour: &[IntPoint], shape: u8) -> u8 {
+        // SAFETY: the handle is full. Nothing is required of points and codes.
+        unsafe { overlay_c_add_contour(&mut self.handle, contour.as_ptr(), contour.len(), shape) }
+    }
+
+    /// Overlays the contours that were added. Returns a status.
+    pub fn polygons(&mut self, settings: &Settings, rule: u8) -> u8 {
+        // SAFETY: the handle is full. Nothing is required of codes.
+        unsafe { overlay_c_polygons(&mut self.handle, settings, rule) }
+    }
+
+    /// Drops the contours that were added.
+    pub fn clear(&mut self) {
+        // SAFETY: the handle is full.
+        unsafe { overlay_c_clear(&mut self.handle) }
+    }
+
     /// How much the engine keeps.
     pub fn sizes(&mut self) -> Sizes {
         // SAFETY: the handle is full.
@@ -149,6 +183,13 @@ impl Engine {
         segments.resize(self.sizes().segments, Segment::default());
         // SAFETY: the handle is full, and the slice has the `length` that the engine tells.
         unsafe { overlay_c_segments(&mut self.handle, segments.as_mut_ptr(), segments.len()) }
+    }
+
+    /// Copies the arrangement of polygons and lines out, in place of what the list had.
+    pub fn copy_lines(&mut self, lines: &mut Vec<LineSegment>) {
+        lines.resize(self.sizes().lines, LineSegment::default());
+        // SAFETY: the handle is full, and the slice has the `length` that the engine tells.
+        unsafe { overlay_c_lines(&mut self.handle, lines.as_mut_ptr(), lines.len()) }
     }
 
     /// Copies the links out, in place of what the list had.
@@ -179,6 +220,24 @@ impl Engine {
         // SAFETY: the handle is full, and the two slices, which do not overlap, have the lengths that the engine tells
         // (`lengths`, `indexes`).
         unsafe { overlay_c_walks(&mut self.handle, lengths.as_mut_ptr(), lengths.len(), first, len) }
+    }
+
+    /// The contours of the last overlay of contours.
+    pub fn contours(&mut self) -> Vec<IntContour> {
+        let sizes = self.sizes();
+        let mut lengths = vec![0; sizes.contours];
+        let mut points = vec![IntPoint::ZERO; sizes.contour_points];
+        let (first, len) = (points.as_mut_ptr(), points.len());
+        // SAFETY: the handle is full, and the two slices, which do not overlap, have the lengths that the engine tells
+        // (`lengths`, `points`).
+        unsafe { overlay_c_contours(&mut self.handle, lengths.as_mut_ptr(), lengths.len(), first, len) }
+        let mut rest = points.as_slice();
+        let contours = lengths.into_iter().map(|length| {
+            let (contour, later) = rest.split_at(length);
+            rest = later;
+            contour.to_vec()
+        });
+        contours.collect()
     }
 }
 

@@ -4,9 +4,9 @@ mod common;
 
 use common::Random;
 use i_overlay_core::{
-    cross, square, Change, ClipRule, CrossResult, CrossType, Error, Fault, FillRule, IntPoint, LineSegment, Overlay,
-    OverlayNode, OverlayRule, Precision, Segment, SegmentFault, ShapeCountBoolean, ShapeType, Solver, Strategy,
-    MAX_COORD, MIN_COORD,
+    cross, square, Change, ClipRule, CollinearMask, CrossResult, CrossType, Error, Fault, FillRule, IntPoint,
+    LineSegment, Overlay, OverlayNode, OverlayRule, Precision, RuleTable, Segment, SegmentFault, ShapeCountBoolean,
+    ShapeType, Solver, Strategy, MAX_COORD, MIN_COORD,
 };
 use std::collections::HashMap;
 
@@ -62,9 +62,14 @@ fn a_line_cut_by_a_square() {
     };
     assert_eq!(parts(false), [(0, 10)]);
     assert_eq!(parts(true), [(-5, 0), (10, 15)]);
+    // the line is cut at two sides, and these at the line
+    let (lines, sides): (Vec<LineSegment>, Vec<_>) = overlay.lines().iter().partition(|part| part.mask != 0);
+    assert_eq!((lines.len(), sides.len()), (3, 6));
+    assert!(lines.iter().all(|part| part.subj == 0 && part.a.y == 5 && part.b.y == 5));
     segments[2].mask = 4;
     let refused = overlay.build_clip(&segments, FillRule::NonZero, ClipRule::default(), Solver::AUTO).err();
     assert_eq!(refused, Some(Error::Segment { index: 2, fault: SegmentFault::Count }));
+    assert!(overlay.lines().is_empty());
 }
 
 #[test]
@@ -75,19 +80,56 @@ fn where_two_segments_meet() {
         count: ShapeCountBoolean::default(),
     };
     let found = |point: (i32, i32), cross_type, is_round| {
-        Ok(Some(CrossResult { point: IntPoint::new(point.0, point.1), cross_type, is_round }))
+        let mask = CollinearMask::default();
+        Ok(Some(CrossResult { point: IntPoint::new(point.0, point.1), cross_type, is_round, mask }))
     };
     let rising = step(0, 0, 10, 10);
     assert_eq!(cross(&rising, &step(0, 10, 10, 0), 1), found((5, 5), CrossType::Pure, false));
     assert_eq!(cross(&rising, &step(4, 4, 9, 0), 1), found((4, 4), CrossType::OtherEnd, false));
     assert_eq!(cross(&step(4, 4, 9, 0), &rising, i64::MIN), found((4, 4), CrossType::TargetEnd, false));
-    assert_eq!(cross(&rising, &step(2, 2, 12, 12), 1), found((0, 0), CrossType::Overlay, false));
+    assert_eq!(cross(&rising, &step(20, 20, 12, 12), 1), found((0, 0), CrossType::Overlay, false));
     assert_eq!(cross(&rising, &step(1, 0, 11, 10), 1), Ok(None));
     assert!(cross(&step(0, 0, 10, 3), &step(0, 10, 7, -10), 1).unwrap().unwrap().is_round);
     let equal = Error::Segment { index: 1, fault: SegmentFault::EqualEnds };
     assert_eq!(cross(&rising, &step(3, 3, 3, 3), 1), Err(equal));
     let range = Error::Segment { index: 0, fault: SegmentFault::Range };
     assert_eq!(cross(&step(0, i32::MIN, 1, 1), &rising, 1), Err(range));
+}
+
+#[test]
+fn ends_inside_one_another() {
+    let step =
+        |ax, bx| Segment { a: IntPoint::new(ax, -ax), b: IntPoint::new(bx, -bx), count: ShapeCountBoolean::default() };
+    let inside = |target: [i32; 2], other: [i32; 2]| {
+        let found = cross(&step(target[0], target[1]), &step(other[0], other[1]), 1).unwrap().unwrap();
+        assert_eq!(found.cross_type, CrossType::Overlay);
+        let mask = found.mask;
+        [mask.is_target_a, mask.is_target_b, mask.is_other_a, mask.is_other_b]
+    };
+    assert_eq!(inside([0, 4], [2, 6]), [false, true, true, false]);
+    assert_eq!(inside([2, 6], [0, 4]), [true, false, false, true]);
+    assert_eq!(inside([0, 6], [2, 4]), [false, false, true, true]);
+    assert_eq!(inside([4, 2], [6, 0]), [true, true, false, false]);
+    assert_eq!(inside([0, 4], [0, 4]), [false; 4]);
+    assert_eq!(inside([0, 4], [4, 6]), [false; 4]);
+}
+
+/// Tables by their bits: the rule with a name that says the same.
+#[test]
+fn tables_are_rules() {
+    let named = [(10, 0), (12, 1), (8, 2), (14, 3), (2, 4), (4, 5), (6, 6)];
+    let mut overlay = Overlay::new().unwrap();
+    let mut links = |rule| overlay.build_graph(&two_squares(), FillRule::NonZero, rule).unwrap().links().to_vec();
+    for (bits, index) in named {
+        let table = |bits| OverlayRule::Table(RuleTable::new(bits).unwrap());
+        let wanted = links(RULES[index]);
+        assert_eq!(links(table(bits)), wanted);
+        assert_eq!(links(table(15 - bits)), wanted);
+    }
+    for nothing in [0, 15] {
+        assert_eq!(links(OverlayRule::Table(RuleTable::new(nothing).unwrap())), []);
+    }
+    assert!((16..=u8::MAX).all(|bits| RuleTable::new(bits).is_none()));
 }
 
 #[test]
@@ -189,6 +231,27 @@ fn counts_that_leave_the_range() {
     let refused = overlay.build_graph(&[big, big], FillRule::NonZero, OverlayRule::Union).err();
     assert_eq!(refused, Some(Error::Fault(Fault::CountOutOfRange)));
     assert_eq!(refused.unwrap().to_string(), "count out of range");
+}
+
+/// The arrangement stands where the graph alone is refused, and nothing does where the split is.
+#[test]
+fn what_stands_after_a_refusal() {
+    let mut overlay = Overlay::new().unwrap();
+    let count = ShapeCountBoolean { subj: i32::MAX, clip: 0 };
+    let step = |y| Segment { a: IntPoint::new(0, y), b: IntPoint::new(5, y), count };
+    let fault = Some(Error::Fault(Fault::CountOutOfRange));
+    let stacked = [step(0), step(3)];
+    let mut refused = |given: &[Segment]| {
+        let graph = overlay.build_graph(given, FillRule::NonZero, OverlayRule::Union).err();
+        let kept = overlay.segments().to_vec();
+        let all = overlay.build_all(given, FillRule::NonZero, Solver::AUTO).err();
+        assert_eq!((graph, all, overlay.segments()), (fault, fault, kept.as_slice()));
+        kept
+    };
+    assert_eq!(refused(&stacked), stacked);
+    assert_eq!(refused(&[step(0), step(0)]), []);
+    assert_eq!(overlay.join(&[step(0), step(0)]).err(), fault);
+    assert!(overlay.segments().is_empty());
 }
 
 #[test]

@@ -10,6 +10,9 @@ const SOLVERS: [Solver; 3] = [Solver::LIST, Solver::TREE, Solver::FRAG];
 /// The coordinates of both ends.
 type Ends = [i32; 4];
 
+/// How two segments meet, and where, if that is told.
+type Met = (CrossType, Option<IntPoint>);
+
 fn point(x: i32, y: i32) -> IntPoint {
     IntPoint::new(x, y)
 }
@@ -72,7 +75,7 @@ fn squared_distance_is_compared_with_the_squared_radius() {
 fn crossings() {
     let (s, q) = (1_024_000_000, 512_000_000);
     let wide = [-s, 0, s, 0];
-    let cases: [(Ends, Ends, Option<(CrossType, Option<IntPoint>)>); 12] = [
+    let cases: [(Ends, Ends, Option<Met>); 12] = [
         ([-1024, 0, 1024, 0], [0, -1024, 0, 1024], Some((CrossType::Pure, Some(point(0, 0))))),
         (wide, [0, -s, 0, s], Some((CrossType::Pure, Some(point(0, 0))))),
         (wide, [1024, -s, 1024, s], Some((CrossType::Pure, Some(point(1024, 0))))),

@@ -1,4 +1,5 @@
 pub mod Handles
+pub mod Meetings
 pub mod Overlays
 pub mod Steps
 pub mod Values

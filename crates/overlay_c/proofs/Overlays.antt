@@ -9,6 +9,8 @@ use Rattle.overlay_build.specs.Graph.{Graph}
 use Rattle.overlay_base.specs.Balance.{IsBalanced}
 use Rattle.i_overlay.specs.FarRegions.{EnclosesOverlay}
 use Rattle.i_overlay.specs.Headline.{IsSplit, IsOverlay}
+use Rattle.overlay_geometry.specs.Points.{Point}
+use Rattle.overlay_contours.specs.Polygons.{IsPolygonOverlay}
 use Rattle.overlay_c.specs.Kept.{AreLaid}
 
 -- settings of 32 bits, by their parts
@@ -29,7 +31,7 @@ same_region s t r f g xs ys passes graph es ef ex o =
     subst (λ u. IsBalanced ys → EnclosesOverlay u r g ys passes graph) es (subst (λ u. IsBalanced ys → EnclosesOverlay s r u ys passes graph) ef (subst (λ u. IsBalanced u → EnclosesOverlay s r f u passes graph) ex o))
 
 -- lists that are laid, by a list that is the same
-pub same_laid : (xs ys : List (List ℕ)) (lengths all : List ℕ) → xs ≡ ys → lengths ≡ map length xs → all ≡ flat_map (λ list. list) xs → AreLaid ys lengths all
+pub same_laid : {A : Type 0} (xs ys : List (List A)) (lengths : List ℕ) (all : List A) → xs ≡ ys → lengths ≡ map length xs → all ≡ flat_map (λ list. list) xs → AreLaid ys lengths all
 same_laid xs ys lengths all e el ea = (el ∙ ap (λ ls. map length ls) e, ea ∙ ap (λ ls. flat_map (λ list. list) ls) e)
 
 pub same_split : (s t : Settings) (xs ys segments : List WholeSegment) (passes : ℕ) → s ≡ t → xs ≡ ys → IsSplit s xs segments passes → IsSplit t ys segments passes
@@ -37,3 +39,7 @@ same_split s t xs ys segments passes es ex o = subst (λ u. IsSplit u ys segment
 
 pub same_run : (s t : Settings) (xs ys segments : List WholeSegment) (passes : ℕ) (flag : Bool) → s ≡ t → xs ≡ ys → IsRun s xs segments passes flag → IsRun t ys segments passes flag
 same_run s t xs ys segments passes flag es ex o = subst (λ u. IsRun u ys segments passes flag) es (subst (λ u. IsRun s u segments passes flag) ex o)
+
+pub same_polygons : (s t : Settings) (r : OverlayRule) (f g : FillRule) (subject clip answer : List (List Point)) → s ≡ t → f ≡ g → IsPolygonOverlay s r f subject clip answer → IsPolygonOverlay t r g subject clip answer
+same_polygons s t r f g subject clip answer es ef o =
+    subst (λ u. IsPolygonOverlay u r g subject clip answer) es (subst (λ u. IsPolygonOverlay s r u subject clip answer) ef o)

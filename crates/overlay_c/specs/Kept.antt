@@ -1,5 +1,5 @@
 -- What an engine keeps of its last answer.
-use Rattle.std.specs.Prelude.{◌≡◌, ℕ, ◌&&◌, Bool, true, List, IsTrue, map, flat_map, length}
+use Rattle.std.specs.Prelude.{◌≡◌, ◌⊎◌, ℕ, ◌&&◌, Bool, true, List, [], IsTrue, map, flat_map, length}
 use Rattle.std.specs.List.{list_all}
 use Rattle.overlay_geometry.specs.Coordinates.{least_coordinate, greatest_coordinate}
 use Rattle.overlay_base.specs.Planar.{is_splittable}
@@ -10,8 +10,9 @@ use Rattle.overlay_base.specs.SegmentOf.{segments_of}
 use Rattle.overlay_base.specs.declared.overlay_core.clip_rule.ClipRule.{ClipRule}
 use Rattle.overlay_base.specs.declared.overlay_core.overlay_rule.OverlayRule.{OverlayRule}
 use Rattle.overlay_base.specs.declared.segm.fault.Fault.TheVariants.{CountOutOfRange}
-use Rattle.overlay_split.specs.Run.{Settings, IsRun}
+use Rattle.overlay_split.specs.Run.{Settings, IsRun, LeavesRange}
 use Rattle.overlay_split.specs.SettingsOf.{passes_of, snap_limit_of}
+use Rattle.overlay_sweep.specs.ChainWindings.{tops_leave_range}
 use Rattle.overlay_build.specs.Graph.{Graph, graph_by, has_even_nodes}
 use Rattle.overlay_build.specs.Walks.{AreClosedWalks}
 use Rattle.i_overlay.specs.FarRegions.{EnclosesOverlay}
@@ -33,7 +34,7 @@ abbrev pub are_lines_usable : List LineRecord → Bool
 are_lines_usable records = list_all line_asks records && is_splittable least_coordinate greatest_coordinate (map line_asked_by records)
 
 -- lists, as their lengths and all that stands in them
-abbrev pub AreLaid : List (List ℕ) → List ℕ → List ℕ → Type 0
+abbrev pub AreLaid : {A : Type 0} → List (List A) → List ℕ → List A → Type 0
 AreLaid lists lengths all = (lengths ≡ map length lists) × (all ≡ flat_map (λ list. list) lists)
 
 -- its records are those of a graph
@@ -80,3 +81,23 @@ pub record KeepsOverlay (settings : SettingsRecord) (rule : OverlayRule) (walks 
 abbrev pub IsCountRefused : SettingsRecord → List WholeSegment → Engine → Engine → Type 0
 IsCountRefused settings given before after =
     IsRefused (engine_settings settings before) given (segments_of after.segments.items) (passes_of before.splitter) (passes_of after.splitter) CountOutOfRange
+
+-- the same of polygons and lines
+abbrev pub IsCountOfLinesRefused : SettingsRecord → List WholeSegment → Engine → Engine → Type 0
+IsCountOfLinesRefused settings given before after =
+    IsRefused (engine_settings settings before) given (segments_of after.lines.items) (passes_of before.splitter) (passes_of after.splitter) CountOutOfRange
+
+-- the same of the graph of all: a sum of the run is too large, or a top of the arrangement that is kept
+abbrev pub IsCountOfAllRefused : SettingsRecord → List WholeSegment → Engine → Engine → Type 0
+IsCountOfAllRefused settings given before after =
+    LeavesRange (engine_settings settings before) given
+    ⊎ (IsSplit (engine_settings settings after) given (segments_of after.segments.items) (passes_of after.splitter) × IsTrue (tops_leave_range (segments_of after.segments.items)))
+
+-- what stands after a refusal: nothing, or what the split leaves
+abbrev pub StandsAfter : SettingsRecord → List WholeSegment → Engine → Type 0
+StandsAfter settings given engine =
+    (segments_of engine.segments.items ≡ []) ⊎ IsSplit (engine_settings settings engine) given (segments_of engine.segments.items) (passes_of engine.splitter)
+
+abbrev pub LinesStandAfter : SettingsRecord → List WholeSegment → Engine → Type 0
+LinesStandAfter settings given engine =
+    (segments_of engine.lines.items ≡ []) ⊎ IsSplit (engine_settings settings engine) given (segments_of engine.lines.items) (passes_of engine.splitter)

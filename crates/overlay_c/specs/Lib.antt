@@ -1,3 +1,4 @@
+pub mod Contours
 pub mod Crosses
 pub mod Kept
 pub mod Owned

@@ -1,14 +1,17 @@
 -- What the records that cross to C stand for, in whole numbers.
-use Rattle.std.specs.Prelude.{◌==◌, ℕ, pos, Bool, ◌&&◌, not, if◌then◌else◌}
+use Rattle.std.specs.Prelude.{◌≡◌, ◌==◌, ◌<◌, ◌≤◌, ◌+◌, ◌⊎◌, ℕ, pos, Bool, ◌&&◌, not, if◌then◌else◌}
 use Rattle.std.specs.Ordering.{int_eq}
 use Rattle.overlay_geometry.specs.Points.{Point, point_lt}
 use Rattle.overlay_base.specs.Windings.{Winding, inverse, is_valid}
 use Rattle.overlay_base.specs.Segments.{WholeSegment}
 use Rattle.overlay_base.specs.Radius.{exponent_cap}
+use Rattle.overlay_base.specs.Rules.{bits_of}
 use Rattle.overlay_base.specs.declared.overlay_core.fill_rule.FillRule.{FillRule}
 use Rattle.overlay_base.specs.declared.overlay_core.fill_rule.FillRule.TheVariants as fill
 use Rattle.overlay_base.specs.declared.overlay_core.overlay_rule.OverlayRule.{OverlayRule}
 use Rattle.overlay_base.specs.declared.overlay_core.overlay_rule.OverlayRule.TheVariants as rule
+use Rattle.overlay_base.specs.declared.segm.shape_type.ShapeType.{ShapeType}
+use Rattle.overlay_base.specs.declared.segm.shape_type.ShapeType.TheVariants.{Subject, Clip}
 use Rattle.overlay_split.specs.Run.{Settings}
 use Rattle.overlay_build.specs.Graph.{Link}
 use Rattle.overlay_c.specs.declared.records.SegmentRecord.{SegmentRecord}
@@ -61,6 +64,9 @@ line_asked_by r = piece_of (line_count_of r) (line_start_of r) (line_end_of r)
 abbrev pub told_by : SegmentRecord → WholeSegment
 told_by r = record { pair = record { a = start_of r; b = end_of r }; count = count_of r }
 
+abbrev pub line_told_by : LineRecord → WholeSegment
+line_told_by r = record { pair = record { a = line_start_of r; b = line_end_of r }; count = line_count_of r }
+
 -- the link that it tells
 abbrev pub link_by : LinkRecord → Link
 link_by r = record { pair = record { a = record { x = r.ax; y = r.ay }; b = record { x = r.bx; y = r.by } }; fill = r.fill; a_node = r.a_node; b_node = r.b_node }
@@ -69,12 +75,21 @@ link_by r = record { pair = record { a = record { x = r.ax; y = r.ay }; b = reco
 abbrev pub fill_rule_of : ℕ → FillRule
 fill_rule_of code = if code == 0 then fill.EvenOdd else if code == 1 then fill.NonZero else if code == 2 then fill.Positive else fill.Negative
 
+-- the shape of a code
+abbrev pub shape_of : ℕ → ShapeType
+shape_of code = if code == 0 then Subject else Clip
+
 -- the settings that these and a snap limit make, for coordinates of 32 bits
 abbrev pub settings_by : SettingsRecord → ℕ → Settings
 settings_by r limit = record { start = r.start; progression = r.progression; cap = exponent_cap 32; limit = limit }
 
--- the overlay rule of a code
-abbrev pub overlay_rule_of : ℕ → OverlayRule
-overlay_rule_of code =
-    if code == 0 then rule.Subject else if code == 1 then rule.Clip else if code == 2 then rule.Intersect else if code == 3 then rule.Union
-    else if code == 4 then rule.Difference else if code == 5 then rule.InverseDifference else rule.Xor
+-- the overlay rule of a code: a number for each name, and 16 more than its number for a table; any other code is Xor
+abbrev pub IsRuleOf : ℕ → OverlayRule → Type 0
+IsRuleOf code rule.Subject = code ≡ 0
+IsRuleOf code rule.Clip = code ≡ 1
+IsRuleOf code rule.Intersect = code ≡ 2
+IsRuleOf code rule.Union = code ≡ 3
+IsRuleOf code rule.Difference = code ≡ 4
+IsRuleOf code rule.InverseDifference = code ≡ 5
+IsRuleOf code rule.Xor = (5 < code) × ((code < 16) ⊎ (32 ≤ code))
+IsRuleOf code (rule.Table table) = code ≡ 16 + bits_of table

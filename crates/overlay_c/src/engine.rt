@@ -1,11 +1,16 @@
 // The engine behind a handle: a splitter, builders, and the records of their last answers.
-ghost use Rattle.std.specs.Prelude.{◌≡◌, true, IsTrue, OnOk, IfOk, map, length, flat_map};
+ghost use Rattle.std.specs.Prelude.{◌≡◌, ◌≢◌, [], true, IsTrue, IsFalse, OnOk, OnErr, IfOk, IfErr, map, length, flat_map};
 ghost use Rattle.std.specs.List.{list_all};
+ghost use Rattle.overlay_base.specs.ArrangedOf.{IsSplittable};
 ghost use Rattle.overlay_base.specs.SegmentOf.{segments_of};
+ghost use Rattle.overlay_base.specs.declared.segm.fault.Fault.TheVariants.{CountOutOfRange};
 ghost use Rattle.overlay_build.specs.GraphOf.{link_of};
 ghost use Rattle.overlay_build.specs.NodeIndexes.{indexes_of};
+ghost use Rattle.overlay_c.specs.Kept.{given_by, are_usable, are_lines_usable};
 ghost use Rattle.overlay_c.specs.Records.{asks, asked_by, line_asked_by, link_by};
+ghost use Rattle.overlay_c.specs.declared.refusal.Refusal.TheVariants.{Refused, NotSplittable};
 
+use crate::contours::{PointRecord, keep_contours, load_points};
 use crate::lines::{self, Line};
 use crate::records::{
     LineRecord, LinkRecord, SegmentRecord, SettingsRecord, Side, asked, fill_rule, link, solver,
@@ -19,10 +24,13 @@ use overlay_base::overlay_core::overlay_rule::OverlayRule;
 use overlay_base::segm::arranged::is_splittable;
 use overlay_base::segm::boolean::ShapeCountBoolean;
 use overlay_base::segm::join::join_with_store;
+use overlay_base::segm::shape_type::ShapeType;
 use overlay_base::segm::string::ShapeCountString;
 use overlay_build::build::builder::GraphBuilder;
 use overlay_build::build::graph_node::OverlayNode;
 use overlay_build::build::walks::closed_walks;
+use overlay_contours::overlay::Overlay;
+use overlay_geometry::geom::point::IntPoint;
 use overlay_split::split::solver::SplitSolver;
 use std::alloc::{AllocError, Global};
 
@@ -50,21 +58,32 @@ pub struct Engine {
     pub walk_lengths: Vec<usize>,
     /// The indexes of the links of the first walk, then of those of the next, and so on.
     pub walk_links: Vec<usize>,
+    /// The contours that are given, and the buffers of their overlays.
+    pub polygons: Overlay<i32>,
+    /// The points of a contour that is being added.
+    pub points: Vec<IntPoint<i32>>,
+    /// How many points each contour of the last overlay of contours has.
+    pub contour_lengths: Vec<usize>,
+    /// The points of the first such contour, then those of the next, and so on.
+    pub contour_points: Vec<PointRecord>,
 }
 
 impl Engine {
-    ghost use Rattle.std.specs.Prelude.{◌≡◌, Err, IsTrue, IsFalse, OnOk, IfErr};
-    ghost use Rattle.overlay_base.specs.declared.segm.fault.Fault.TheVariants.{CountOutOfRange};
+    ghost use Rattle.std.specs.Prelude.{◌∷◌, ◌++◌, Err};
     ghost use Rattle.overlay_base.specs.ArrangedOf.{IsArranged};
     ghost use Rattle.overlay_base.specs.Join.{join, join_leaves_range, has_equal_pairs};
     ghost use Rattle.overlay_split.specs.Run.{LeavesRange};
     ghost use Rattle.overlay_split.specs.SettingsOf.{snap_limit_of};
-    ghost use Rattle.overlay_c.specs.Kept.{given_by, are_usable, are_lines_usable, engine_settings, KeepsSplit, KeepsAll, KeepsOverlay, KeepsClip, IsCountRefused};
-    ghost use Rattle.overlay_c.specs.declared.refusal.Refusal.TheVariants.{Refused, NotSplittable};
+    ghost use Rattle.overlay_c.specs.Kept.{engine_settings, KeepsSplit, KeepsAll, KeepsOverlay, KeepsClip, IsCountRefused, IsCountOfAllRefused, IsCountOfLinesRefused, StandsAfter, LinesStandAfter};
+    ghost use Rattle.overlay_base.specs.declared.segm.shape_type.ShapeType.TheVariants.{Subject, Clip};
+    ghost use Rattle.overlay_contours.specs.Refusals.{other_shape};
+    ghost use Rattle.overlay_c.specs.Contours.{point_by, are_in_range, contours_in, KeepsPolygons, IsPointRefusal, IsPolygonRefusal, SameSplit};
 
     /// An engine, which takes no memory yet.
     pub fn new(alloc: Global, snap_limit: u32) -> Engine
-        ensures { snap_limit_of result.splitter ≡ snap_limit }
+        ensures limit { snap_limit_of result.splitter ≡ snap_limit }
+        ensures subject { contours_in result Subject ≡ [] }
+        ensures clip { contours_in result Clip ≡ [] }
     {
         Engine {
             splitter: SplitSolver::with_snap_limit(alloc, snap_limit),
@@ -79,13 +98,18 @@ impl Engine {
             has_walks: false,
             walk_lengths: Vec::new(alloc),
             walk_links: Vec::new(alloc),
+            polygons: Overlay::new(alloc),
+            points: Vec::new(alloc),
+            contour_lengths: Vec::new(alloc),
+            contour_points: Vec::new(alloc),
         }
     }
 
     /// Splits the segments that records ask for, and keeps the arrangement, the graph of the segments that an overlay rule
     /// keeps, and closed walks through it where they are asked for and evenly many links meet at each node.
     ///
-    /// After a refusal the engine can be used again, and nothing is promised of what it keeps.
+    /// After a refusal the engine can be used again: it keeps no segments, or their arrangement where the split was done. Of
+    /// links, nodes and walks nothing is promised then.
     pub fn overlay(
         &mut self,
         alloc: Global,
@@ -99,11 +123,11 @@ impl Engine {
         ensures unusable { IfErr result (λ refusal. refusal ≡ NotSplittable → IsFalse (are_usable given.now)) }
         ensures too_large { IfErr result (λ refusal. refusal ≡ Refused CountOutOfRange
             → IsCountRefused settings.now (given_by given.now) self.old self.new) }
+        ensures stands { OnErr result (StandsAfter settings.now (given_by given.now) self.new) }
         ensures limit { snap_limit_of self.new.splitter ≡ snap_limit_of self.old.splitter }
+        ensures contours { self.new.polygons ≡ self.old.polygons }
     {
-        if !load(given, &mut self.segments)? || !is_splittable(&self.segments) {
-            return Err(Refusal::NotSplittable);
-        }
+        load_splittable(given, &mut self.segments)?;
         let solver = solver(settings);
         let fill_rule = fill_rule(settings.fill_rule);
         let (splitter, builder) = (&mut self.splitter, &mut self.builder);
@@ -131,11 +155,11 @@ impl Engine {
         ensures unusable { IfErr result (λ refusal. refusal ≡ NotSplittable → IsFalse (are_usable given.now)) }
         ensures too_large { IfErr result (λ refusal. refusal ≡ Refused CountOutOfRange
             → LeavesRange (engine_settings settings.now self.old) (given_by given.now)) }
+        ensures emptied { OnErr result (self.new.segments.items ≡ []) }
         ensures limit { snap_limit_of self.new.splitter ≡ snap_limit_of self.old.splitter }
+        ensures contours { self.new.polygons ≡ self.old.polygons }
     {
-        if !load(given, &mut self.segments)? || !is_splittable(&self.segments) {
-            return Err(Refusal::NotSplittable);
-        }
+        load_splittable(given, &mut self.segments)?;
         let solver = solver(settings);
         self.has_changed = self.splitter.split_segments(&mut self.segments, &solver)?;
         Ok(())
@@ -146,7 +170,11 @@ impl Engine {
         ensures kept { OnOk result (KeepsAll settings.now (given_by given.now) self.new) }
         ensures usable { OnOk result (IsTrue (are_usable given.now)) }
         ensures unusable { IfErr result (λ refusal. refusal ≡ NotSplittable → IsFalse (are_usable given.now)) }
+        ensures too_large { IfErr result (λ refusal. refusal ≡ Refused CountOutOfRange
+            → IsCountOfAllRefused settings.now (given_by given.now) self.old self.new) }
+        ensures stands { OnErr result (StandsAfter settings.now (given_by given.now) self.new) }
         ensures limit { snap_limit_of self.new.splitter ≡ snap_limit_of self.old.splitter }
+        ensures contours { self.new.polygons ≡ self.old.polygons }
     {
         self.split(given, settings)?;
         let solver = solver(settings);
@@ -168,10 +196,9 @@ impl Engine {
         ensures too_large { IfErr result (λ refusal. refusal ≡ Refused CountOutOfRange
             → IsTrue (join_leaves_range (given_by given.now))) }
         ensures splitter { self.new.splitter ≡ self.old.splitter }
+        ensures contours { self.new.polygons ≡ self.old.polygons }
     {
-        if !load(given, &mut self.segments)? || !is_splittable(&self.segments) {
-            return Err(Refusal::NotSplittable);
-        }
+        load_splittable(given, &mut self.segments)?;
         self.has_changed = join_with_store(&mut self.segments, &mut ())?;
         Ok(())
     }
@@ -187,11 +214,13 @@ impl Engine {
         ensures kept { OnOk result (KeepsClip settings.now rule (map line_asked_by given.now) self.new) }
         ensures usable { OnOk result (IsTrue (are_lines_usable given.now)) }
         ensures unusable { IfErr result (λ refusal. refusal ≡ NotSplittable → IsFalse (are_lines_usable given.now)) }
+        ensures too_large { IfErr result (λ refusal. refusal ≡ Refused CountOutOfRange
+            → IsCountOfLinesRefused settings.now (map line_asked_by given.now) self.old self.new) }
+        ensures stands { OnErr result (LinesStandAfter settings.now (map line_asked_by given.now) self.new) }
         ensures limit { snap_limit_of self.new.splitter ≡ snap_limit_of self.old.splitter }
+        ensures contours { self.new.polygons ≡ self.old.polygons }
     {
-        if !lines::load(given, &mut self.lines)? || !is_splittable(&self.lines) {
-            return Err(Refusal::NotSplittable);
-        }
+        load_splittable_lines(given, &mut self.lines)?;
         let solver = solver(settings);
         let fill_rule = fill_rule(settings.fill_rule);
         let (splitter, builder) = (&mut self.splitter, &mut self.line_builder);
@@ -207,6 +236,115 @@ impl Engine {
         keep_lists(graph.nodes(), &mut self.degrees, &mut self.indexes)?;
         Ok(())
     }
+
+    /// Copies a contour behind the others of its shape, if its points are in range. Else, and where a growth is refused,
+    /// nothing is added.
+    pub fn add_contour(
+        &mut self,
+        contour: &[PointRecord],
+        shape_type: ShapeType,
+    ) -> Result<(), Refusal>
+        ensures added { OnOk result (contours_in self.new shape_type
+            ≡ contours_in self.old shape_type ++ map point_by contour.now ∷ []) }
+        ensures unchanged { OnErr result (contours_in self.new shape_type ≡ contours_in self.old shape_type) }
+        ensures other { contours_in self.new (other_shape shape_type)
+            ≡ contours_in self.old (other_shape shape_type) }
+        ensures in_range { OnOk result (IsTrue (are_in_range contour.now)) }
+        ensures refused { IfErr result (λ refusal. IsPointRefusal contour.now refusal) }
+        ensures rest { SameSplit self.old self.new }
+    {
+        load_points(contour, &mut self.points)?;
+        self.polygons.add_contour(&self.points, shape_type)?;
+        Ok(())
+    }
+
+    /// The overlay of the contours that were added, as contours, which are kept. Those that were added stay.
+    pub fn polygons(&mut self, settings: &SettingsRecord, rule: OverlayRule) -> Result<(), Refusal>
+        ensures kept { OnOk result (KeepsPolygons settings.now rule self.old self.new) }
+        ensures refused { IfErr result (λ refusal. IsPolygonRefusal settings.now self.old refusal) }
+        ensures subject { contours_in self.new Subject ≡ contours_in self.old Subject }
+        ensures clip { contours_in self.new Clip ≡ contours_in self.old Clip }
+        ensures rest { SameSplit self.old self.new }
+    {
+        let solver = solver(settings);
+        let fill_rule = fill_rule(settings.fill_rule);
+        let contours = self.polygons.overlay(&solver, fill_rule, rule)?;
+        keep_contours(
+            &contours,
+            &mut self.contour_lengths,
+            &mut self.contour_points,
+        )?;
+        Ok(())
+    }
+
+    /// Drops the contours that were added.
+    pub fn clear_contours(&mut self)
+        ensures subject { contours_in self.new Subject ≡ [] }
+        ensures clip { contours_in self.new Clip ≡ [] }
+        ensures rest { SameSplit self.old self.new }
+    {
+        self.polygons.clear();
+    }
+}
+
+/// Loads the segments that records ask for, where these may be split; else the list is empty.
+fn load_splittable(given: &[SegmentRecord], list: &mut Vec<Side>) -> Result<(), Refusal>
+    ensures segments { OnOk result (segments_of list.new.items ≡ given_by given.now) }
+    ensures splittable { OnOk result (IsSplittable list.new.items) }
+    ensures usable { OnOk result (IsTrue (are_usable given.now)) }
+    ensures unusable { IfErr result (λ refusal. refusal ≡ NotSplittable → IsFalse (are_usable given.now)) }
+    ensures no_count { IfErr result (λ refusal. refusal ≢ Refused CountOutOfRange) }
+    ensures emptied { OnErr result (list.new.items ≡ []) }
+{
+    let loaded = try_load(given, list);
+    if loaded.is_err() {
+        list.clear();
+    }
+    loaded
+}
+
+/// The same, but that a refused load may leave anything.
+fn try_load(given: &[SegmentRecord], list: &mut Vec<Side>) -> Result<(), Refusal>
+    ensures segments { OnOk result (segments_of list.new.items ≡ given_by given.now) }
+    ensures splittable { OnOk result (IsSplittable list.new.items) }
+    ensures usable { OnOk result (IsTrue (are_usable given.now)) }
+    ensures unusable { IfErr result (λ refusal. refusal ≡ NotSplittable → IsFalse (are_usable given.now)) }
+    ensures no_count { IfErr result (λ refusal. refusal ≢ Refused CountOutOfRange) }
+{
+    if !load(given, list)? || !is_splittable(list) {
+        return Err(Refusal::NotSplittable);
+    }
+    Ok(())
+}
+
+/// Loads polygons and lines in the same way.
+fn load_splittable_lines(given: &[LineRecord], list: &mut Vec<Line>) -> Result<(), Refusal>
+    ensures segments { OnOk result (segments_of list.new.items ≡ map line_asked_by given.now) }
+    ensures splittable { OnOk result (IsSplittable list.new.items) }
+    ensures usable { OnOk result (IsTrue (are_lines_usable given.now)) }
+    ensures unusable { IfErr result (λ refusal. refusal ≡ NotSplittable → IsFalse (are_lines_usable given.now)) }
+    ensures no_count { IfErr result (λ refusal. refusal ≢ Refused CountOutOfRange) }
+    ensures emptied { OnErr result (list.new.items ≡ []) }
+{
+    let loaded = try_load_lines(given, list);
+    if loaded.is_err() {
+        list.clear();
+    }
+    loaded
+}
+
+/// The same, but that a refused load may leave anything.
+fn try_load_lines(given: &[LineRecord], list: &mut Vec<Line>) -> Result<(), Refusal>
+    ensures segments { OnOk result (segments_of list.new.items ≡ map line_asked_by given.now) }
+    ensures splittable { OnOk result (IsSplittable list.new.items) }
+    ensures usable { OnOk result (IsTrue (are_lines_usable given.now)) }
+    ensures unusable { IfErr result (λ refusal. refusal ≡ NotSplittable → IsFalse (are_lines_usable given.now)) }
+    ensures no_count { IfErr result (λ refusal. refusal ≢ Refused CountOutOfRange) }
+{
+    if !lines::load(given, list)? || !is_splittable(list) {
+        return Err(Refusal::NotSplittable);
+    }
+    Ok(())
 }
 
 /// Loads the segments that records ask for. Answers whether each asks for one.

@@ -1,18 +1,23 @@
 // The overlay engine for C: exports over an engine behind a handle, for coordinates of 32 bits.
 #![tactic(auto)]
 
-ghost use Rattle.std.specs.Prelude.{◌≡◌, ◌≢◌, ◌≤ℤ◌, pos, unsigned_abs, ◌↔◌, ◌<◌, ◌^◌, None, IsSome, IsTrue, IsFalse, IfSome, length, map};
+ghost use Rattle.std.specs.Prelude.{◌≡◌, ◌≢◌, ◌≤ℤ◌, pos, unsigned_abs, ◌↔◌, ◌<◌, ◌^◌, [], ◌∷◌, ◌++◌, None, IsSome, IsTrue, IsFalse, IfSome, length, map};
 ghost use Rattle.overlay_base.specs.SegmentOf.{segments_of};
+ghost use Rattle.overlay_base.specs.declared.overlay_core.overlay_rule.OverlayRule.{OverlayRule};
 ghost use Rattle.overlay_base.specs.Join.{join, join_leaves_range, has_equal_pairs};
 ghost use Rattle.overlay_split.specs.Run.{LeavesRange};
 ghost use Rattle.overlay_split.specs.SettingsOf.{snap_limit_of, passes_of};
-ghost use Rattle.overlay_c.specs.Records.{start_of, end_of, line_asked_by, told_by, overlay_rule_of};
-ghost use Rattle.overlay_c.specs.Crosses.{pair_by, cross_by};
+ghost use Rattle.overlay_c.specs.Records.{start_of, end_of, line_asked_by, told_by, line_told_by, shape_of, IsRuleOf};
+ghost use Rattle.overlay_c.specs.Crosses.{pair_by, cross_by, mask_by};
 ghost use Rattle.overlay_geometry.specs.Coordinates.{least_coordinate, greatest_coordinate, is_pair_in_range};
 ghost use Rattle.overlay_intersections.specs.CrossAnswer.{cross_answer};
 ghost use Rattle.overlay_intersections.specs.Marks.{snapping};
-ghost use Rattle.overlay_c.specs.Kept.{given_by, are_usable, are_lines_usable, engine_settings, KeepsSplit, KeepsAll, KeepsOverlay, KeepsClip, IsCountRefused};
+ghost use Rattle.overlay_c.specs.Kept.{given_by, are_usable, are_lines_usable, engine_settings, KeepsSplit, KeepsAll, KeepsOverlay, KeepsClip, IsCountRefused, IsCountOfAllRefused, IsCountOfLinesRefused, StandsAfter, LinesStandAfter};
+ghost use Rattle.overlay_base.specs.declared.segm.shape_type.ShapeType.TheVariants.{Subject, Clip};
+ghost use Rattle.overlay_contours.specs.Refusals.{other_shape, CountsLeaveRange};
+ghost use Rattle.overlay_c.specs.Contours.{point_by, are_in_range, contours_in, polygon_settings, KeepsPolygons, SameSplit};
 
+pub mod contours;
 pub mod cross;
 pub mod engine;
 pub mod handle;
@@ -21,11 +26,13 @@ pub(crate) mod loose;
 pub mod records;
 pub mod refusal;
 
+use crate::contours::PointRecord;
 use crate::cross::{CrossRecord, cross};
 use crate::engine::Engine;
 use crate::handle::{Handle, put, take};
 use crate::records::{
-    LineRecord, LinkRecord, SegmentRecord, SettingsRecord, SizesRecord, overlay_rule, tell_all,
+    LineRecord, LinkRecord, SegmentRecord, SettingsRecord, SizesRecord, overlay_rule, shape_type,
+    tell_all,
 };
 use crate::refusal::status;
 use overlay_base::overlay_core::clip_rule::ClipRule;
@@ -37,6 +44,8 @@ pub extern "C" fn overlay_c_new(alloc: Global, handle: &mut Handle, snap_limit: 
     requires { handle.old.engine ≡ None }
     ensures made { IsTrue result ↔ IsSome handle.new.engine }
     ensures limit { IfSome handle.new.engine (λ engine. snap_limit_of engine.splitter ≡ snap_limit) }
+    ensures subject { IfSome handle.new.engine (λ engine. contours_in engine Subject ≡ []) }
+    ensures clip { IfSome handle.new.engine (λ engine. contours_in engine Clip ≡ []) }
 {
     match Box::new(alloc, Engine::new(alloc, snap_limit)) {
         Ok(engine) => {
@@ -56,7 +65,7 @@ pub extern "C" fn overlay_c_free(alloc: Global, handle: &mut Handle)
     drop(take(alloc, handle));
 }
 
-/// The overlay of the segments that records ask for. Answers 0 where it is done, 1 where memory was refused, 2 where a
+/// The overlay of the segments that records ask for, by the rule of a code (`overlay_rule`). Answers 0 where it is done, 1 where memory was refused, 2 where a
 /// count left the range, and 3 where the segments may not be split.
 #[unsafe(no_mangle)]
 pub extern "C" fn overlay_c_overlay(
@@ -69,14 +78,17 @@ pub extern "C" fn overlay_c_overlay(
 ) -> u8
     requires { IsSome handle.old.engine }
     ensures full { IsSome handle.new.engine }
-    ensures done { result ≡ 0 → IfSome handle.new.engine
-        (KeepsOverlay settings.now (overlay_rule_of rule) walks (given_by given.now)) }
+    ensures done { result ≡ 0 → IfSome handle.new.engine (λ engine. (named : OverlayRule) × IsRuleOf rule named
+        × KeepsOverlay settings.now named walks (given_by given.now) engine) }
     ensures usable { result ≡ 0 → IsTrue (are_usable given.now) }
     ensures unusable { result ≡ 3 → IsFalse (are_usable given.now) }
     ensures too_large { result ≡ 2 → IfSome handle.old.engine (λ before. IfSome handle.new.engine
         (IsCountRefused settings.now (given_by given.now) before)) }
+    ensures stands { result ≢ 0 → IfSome handle.new.engine (StandsAfter settings.now (given_by given.now)) }
     ensures limit { IfSome handle.old.engine (λ before. IfSome handle.new.engine
         (λ after. snap_limit_of after.splitter ≡ snap_limit_of before.splitter)) }
+    ensures contours { IfSome handle.old.engine (λ before. IfSome handle.new.engine
+        (λ after. after.polygons ≡ before.polygons)) }
 {
     let mut engine = take(alloc, handle);
     let outcome = engine.overlay(alloc, given, settings, overlay_rule(rule), walks);
@@ -99,8 +111,11 @@ pub extern "C" fn overlay_c_split(
     ensures unusable { result ≡ 3 → IsFalse (are_usable given.now) }
     ensures too_large { result ≡ 2 → IfSome handle.old.engine (λ before.
         LeavesRange (engine_settings settings.now before) (given_by given.now)) }
+    ensures emptied { result ≢ 0 → IfSome handle.new.engine (λ engine. engine.segments.items ≡ []) }
     ensures limit { IfSome handle.old.engine (λ before. IfSome handle.new.engine
         (λ after. snap_limit_of after.splitter ≡ snap_limit_of before.splitter)) }
+    ensures contours { IfSome handle.old.engine (λ before. IfSome handle.new.engine
+        (λ after. after.polygons ≡ before.polygons)) }
 {
     let mut engine = take(alloc, handle);
     let outcome = engine.split(given, settings);
@@ -121,8 +136,13 @@ pub extern "C" fn overlay_c_all(
     ensures done { result ≡ 0 → IfSome handle.new.engine (KeepsAll settings.now (given_by given.now)) }
     ensures usable { result ≡ 0 → IsTrue (are_usable given.now) }
     ensures unusable { result ≡ 3 → IsFalse (are_usable given.now) }
+    ensures too_large { result ≡ 2 → IfSome handle.old.engine (λ before. IfSome handle.new.engine
+        (IsCountOfAllRefused settings.now (given_by given.now) before)) }
+    ensures stands { result ≢ 0 → IfSome handle.new.engine (StandsAfter settings.now (given_by given.now)) }
     ensures limit { IfSome handle.old.engine (λ before. IfSome handle.new.engine
         (λ after. snap_limit_of after.splitter ≡ snap_limit_of before.splitter)) }
+    ensures contours { IfSome handle.old.engine (λ before. IfSome handle.new.engine
+        (λ after. after.polygons ≡ before.polygons)) }
 {
     let mut engine = take(alloc, handle);
     let outcome = engine.all(given, settings);
@@ -142,6 +162,8 @@ pub extern "C" fn overlay_c_join(alloc: Global, handle: &mut Handle, given: &[Se
     ensures usable { result ≡ 0 → IsTrue (are_usable given.now) }
     ensures unusable { result ≡ 3 → IsFalse (are_usable given.now) }
     ensures too_large { result ≡ 2 → IsTrue (join_leaves_range (given_by given.now)) }
+    ensures contours { IfSome handle.old.engine (λ before. IfSome handle.new.engine
+        (λ after. after.polygons ≡ before.polygons)) }
 {
     let mut engine = take(alloc, handle);
     let outcome = engine.join(given);
@@ -166,8 +188,14 @@ pub extern "C" fn overlay_c_clip(
         (map line_asked_by given.now)) }
     ensures usable { result ≡ 0 → IsTrue (are_lines_usable given.now) }
     ensures unusable { result ≡ 3 → IsFalse (are_lines_usable given.now) }
+    ensures too_large { result ≡ 2 → IfSome handle.old.engine (λ before. IfSome handle.new.engine
+        (IsCountOfLinesRefused settings.now (map line_asked_by given.now) before)) }
+    ensures stands { result ≢ 0 → IfSome handle.new.engine
+        (LinesStandAfter settings.now (map line_asked_by given.now)) }
     ensures limit { IfSome handle.old.engine (λ before. IfSome handle.new.engine
         (λ after. snap_limit_of after.splitter ≡ snap_limit_of before.splitter)) }
+    ensures contours { IfSome handle.old.engine (λ before. IfSome handle.new.engine
+        (λ after. after.polygons ≡ before.polygons)) }
 {
     let mut engine = take(alloc, handle);
     let rule = ClipRule {
@@ -179,8 +207,79 @@ pub extern "C" fn overlay_c_clip(
     status(outcome)
 }
 
-/// Where a target and another segment meet, with a squared radius within which a crossing is moved to an end. The
-/// counts are not looked at.
+/// Copies a contour behind the others of the subject, where the shape's code is 0, or else of the clip. Answers 0 where it
+/// is added; else nothing is: 1 where memory was refused, 4 where a point is out of range.
+#[unsafe(no_mangle)]
+pub extern "C" fn overlay_c_add_contour(
+    alloc: Global,
+    handle: &mut Handle,
+    contour: &[PointRecord],
+    shape: u8,
+) -> u8
+    requires { IsSome handle.old.engine }
+    ensures full { IsSome handle.new.engine }
+    ensures added { result ≡ 0 → IfSome handle.old.engine (λ before. IfSome handle.new.engine
+        (λ after. contours_in after (shape_of shape)
+        ≡ contours_in before (shape_of shape) ++ map point_by contour.now ∷ [])) }
+    ensures unchanged { result ≢ 0 → IfSome handle.old.engine (λ before. IfSome handle.new.engine
+        (λ after. contours_in after (shape_of shape) ≡ contours_in before (shape_of shape))) }
+    ensures other { IfSome handle.old.engine (λ before. IfSome handle.new.engine
+        (λ after. contours_in after (other_shape (shape_of shape)) ≡ contours_in before (other_shape (shape_of shape)))) }
+    ensures in_range { result ≡ 0 → IsTrue (are_in_range contour.now) }
+    ensures out_of_range { result ≡ 4 → IsFalse (are_in_range contour.now) }
+    ensures rest { IfSome handle.old.engine (λ before. IfSome handle.new.engine (SameSplit before)) }
+{
+    let mut engine = take(alloc, handle);
+    let outcome = engine.add_contour(contour, shape_type(shape));
+    put(handle, engine);
+    status(outcome)
+}
+
+/// The overlay of the contours that were added, as contours that have it on their left: outer boundaries run
+/// counterclockwise, and holes clockwise. Answers 0 where it is done, 1 where memory was refused, and 2 where a count left
+/// the range. The contours that were added stay. The first 256 passes snap, whatever the limit of the engine is.
+#[unsafe(no_mangle)]
+pub extern "C" fn overlay_c_polygons(
+    alloc: Global,
+    handle: &mut Handle,
+    settings: &SettingsRecord,
+    rule: u8,
+) -> u8
+    requires { IsSome handle.old.engine }
+    ensures full { IsSome handle.new.engine }
+    ensures done { result ≡ 0 → IfSome handle.old.engine (λ before. IfSome handle.new.engine (λ after.
+        (named : OverlayRule) × IsRuleOf rule named × KeepsPolygons settings.now named before after)) }
+    ensures too_large { result ≡ 2 → IfSome handle.old.engine (λ before.
+        CountsLeaveRange (polygon_settings settings.now) (contours_in before Subject) (contours_in before Clip)) }
+    ensures codes { result < 3 }
+    ensures subject { IfSome handle.old.engine (λ before. IfSome handle.new.engine
+        (λ after. contours_in after Subject ≡ contours_in before Subject)) }
+    ensures clip { IfSome handle.old.engine (λ before. IfSome handle.new.engine
+        (λ after. contours_in after Clip ≡ contours_in before Clip)) }
+    ensures rest { IfSome handle.old.engine (λ before. IfSome handle.new.engine (SameSplit before)) }
+{
+    let mut engine = take(alloc, handle);
+    let outcome = engine.polygons(settings, overlay_rule(rule));
+    put(handle, engine);
+    status(outcome)
+}
+
+/// Drops the contours that were added.
+#[unsafe(no_mangle)]
+pub extern "C" fn overlay_c_clear(alloc: Global, handle: &mut Handle)
+    requires { IsSome handle.old.engine }
+    ensures full { IsSome handle.new.engine }
+    ensures subject { IfSome handle.new.engine (λ after. contours_in after Subject ≡ []) }
+    ensures clip { IfSome handle.new.engine (λ after. contours_in after Clip ≡ []) }
+    ensures rest { IfSome handle.old.engine (λ before. IfSome handle.new.engine (SameSplit before)) }
+{
+    let mut engine = take(alloc, handle);
+    engine.clear_contours();
+    put(handle, engine);
+}
+
+/// Where a target and another segment meet, with a squared radius within which a crossing is moved to an end, and, where
+/// all ends lie on one line, which of them lie strictly inside the other segment. The counts are not looked at.
 #[unsafe(no_mangle)]
 pub extern "C" fn overlay_c_cross(
     target: &SegmentRecord,
@@ -192,8 +291,9 @@ pub extern "C" fn overlay_c_cross(
     requires target_apart { start_of target.now ≢ end_of target.now }
     requires other_apart { start_of other.now ≢ end_of other.now }
     requires radius { pos 1 ≤ℤ radius_squared }
-    ensures { cross_by result ≡ cross_answer (snapping (unsigned_abs radius_squared)) (pair_by target.now)
+    ensures meeting { cross_by result ≡ cross_answer (snapping (unsigned_abs radius_squared)) (pair_by target.now)
         (pair_by other.now) }
+    ensures mask { result.mask ≡ mask_by (pair_by target.now) (pair_by other.now) }
 {
     cross(target, other, radius_squared)
 }
@@ -204,11 +304,15 @@ pub extern "C" fn overlay_c_sizes(alloc: Global, handle: &mut Handle) -> SizesRe
     requires { IsSome handle.old.engine }
     ensures same { handle.new.engine ≡ handle.old.engine }
     ensures segments { IfSome handle.old.engine (λ engine. result.segments ≡ length engine.segments.items) }
+    ensures lines { IfSome handle.old.engine (λ engine. result.lines ≡ length engine.lines.items) }
     ensures links { IfSome handle.old.engine (λ engine. result.links ≡ length engine.links.items) }
     ensures nodes { IfSome handle.old.engine (λ engine. result.nodes ≡ length engine.degrees.items) }
     ensures node_links { IfSome handle.old.engine (λ engine. result.node_links ≡ length engine.indexes.items) }
     ensures walks { IfSome handle.old.engine (λ engine. result.walks ≡ length engine.walk_lengths.items) }
     ensures walk_links { IfSome handle.old.engine (λ engine. result.walk_links ≡ length engine.walk_links.items) }
+    ensures contours { IfSome handle.old.engine (λ engine. result.contours ≡ length engine.contour_lengths.items) }
+    ensures contour_points { IfSome handle.old.engine (λ engine.
+        result.contour_points ≡ length engine.contour_points.items) }
     ensures has_walks { IfSome handle.old.engine (λ engine. result.has_walks ≡ engine.has_walks) }
     ensures has_changed { IfSome handle.old.engine (λ engine. result.has_changed ≡ engine.has_changed) }
     ensures passes { IfSome handle.old.engine (λ engine. passes_of engine.splitter < 2 ^ 64
@@ -217,11 +321,14 @@ pub extern "C" fn overlay_c_sizes(alloc: Global, handle: &mut Handle) -> SizesRe
     let engine = take(alloc, handle);
     let sizes = SizesRecord {
         segments: engine.segments.len(),
+        lines: engine.lines.len(),
         links: engine.links.len(),
         nodes: engine.degrees.len(),
         node_links: engine.indexes.len(),
         walks: engine.walk_lengths.len(),
         walk_links: engine.walk_links.len(),
+        contours: engine.contour_lengths.len(),
+        contour_points: engine.contour_points.len(),
         has_walks: engine.has_walks,
         has_changed: engine.has_changed,
         passes: u64::try_from(engine.splitter.passes()).unwrap_or(u64::MAX),
@@ -240,6 +347,19 @@ pub extern "C" fn overlay_c_segments(alloc: Global, handle: &mut Handle, out: &m
 {
     let engine = take(alloc, handle);
     tell_all(&engine.segments, out);
+    put(handle, engine);
+}
+
+/// Copies the arrangement of polygons and lines out.
+#[unsafe(no_mangle)]
+pub extern "C" fn overlay_c_lines(alloc: Global, handle: &mut Handle, out: &mut [LineRecord])
+    requires engine { IsSome handle.old.engine }
+    requires length { IfSome handle.old.engine (λ engine. length out.old ≡ length engine.lines.items) }
+    ensures same { handle.new.engine ≡ handle.old.engine }
+    ensures copied { IfSome handle.old.engine (λ engine. map line_told_by out.new ≡ segments_of engine.lines.items) }
+{
+    let engine = take(alloc, handle);
+    lines::tell_all(&engine.lines, out);
     put(handle, engine);
 }
 
@@ -295,5 +415,26 @@ pub extern "C" fn overlay_c_walks(
     let engine = take(alloc, handle);
     lengths.copy_from_slice(&engine.walk_lengths);
     indexes.copy_from_slice(&engine.walk_links);
+    put(handle, engine);
+}
+
+/// Copies out how many points each contour of the last overlay of contours has, and these points, contour by contour.
+#[unsafe(no_mangle)]
+pub extern "C" fn overlay_c_contours(
+    alloc: Global,
+    handle: &mut Handle,
+    lengths: &mut [usize],
+    points: &mut [PointRecord],
+)
+    requires engine { IsSome handle.old.engine }
+    requires lengths { IfSome handle.old.engine (λ engine. length lengths.old ≡ length engine.contour_lengths.items) }
+    requires points { IfSome handle.old.engine (λ engine. length points.old ≡ length engine.contour_points.items) }
+    ensures same { handle.new.engine ≡ handle.old.engine }
+    ensures lengths { IfSome handle.old.engine (λ engine. lengths.new ≡ engine.contour_lengths.items) }
+    ensures points { IfSome handle.old.engine (λ engine. points.new ≡ engine.contour_points.items) }
+{
+    let engine = take(alloc, handle);
+    lengths.copy_from_slice(&engine.contour_lengths);
+    points.copy_from_slice(&engine.contour_points);
     put(handle, engine);
 }

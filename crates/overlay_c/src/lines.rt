@@ -1,11 +1,11 @@
 // Lines and the polygons that cut them, as records ask for them.
-ghost use Rattle.std.specs.Prelude.{◌≡◌, ◌&&◌, IsTrue, IfSome, IfOk, is_some, map};
+ghost use Rattle.std.specs.Prelude.{◌≡◌, ◌&&◌, IsTrue, IfSome, IfOk, is_some, length, map};
 ghost use Rattle.std.specs.Ordering.{int_eq};
 ghost use Rattle.std.specs.List.{list_all};
 ghost use Rattle.overlay_geometry.specs.PointOf.{point_of};
 ghost use Rattle.overlay_base.specs.StringWinding.{string_winding};
 ghost use Rattle.overlay_base.specs.SegmentOf.{segment_of, segments_of};
-ghost use Rattle.overlay_c.specs.Records.{line_start_of, line_end_of, line_count_of, line_asks, line_asked_by};
+ghost use Rattle.overlay_c.specs.Records.{line_start_of, line_end_of, line_count_of, line_asks, line_asked_by, line_told_by};
 
 use crate::records::LineRecord;
 use overlay_base::segm::segment::Segment;
@@ -83,5 +83,31 @@ fn end(given: &LineRecord) -> IntPoint<i32>
     IntPoint {
         x: given.bx,
         y: given.by,
+    }
+}
+
+/// The record of a segment.
+pub fn told(segment: &Line) -> LineRecord
+    ensures { line_told_by result ≡ segment_of segment.now }
+{
+    let ends = segment.x_segment();
+    let count = segment.count();
+    LineRecord {
+        ax: ends.a.x,
+        ay: ends.a.y,
+        bx: ends.b.x,
+        by: ends.b.y,
+        subj: count.subj,
+        mask: count.clip,
+    }
+}
+
+/// Writes the records of segments.
+pub fn tell_all(segments: &[Line], out: &mut [LineRecord])
+    requires { length out.old ≡ length segments.now }
+    ensures { map line_told_by out.new ≡ segments_of segments.now }
+{
+    for (index, segment) in segments.iter().enumerate() {
+        out[index] = told(segment);
     }
 }

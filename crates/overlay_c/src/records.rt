@@ -1,18 +1,20 @@
 // What crosses between C and the engine, laid out as C does it.
-ghost use Rattle.std.specs.Prelude.{◌≡◌, ◌&&◌, IfSome, is_some, length, map};
+ghost use Rattle.std.specs.Prelude.{◌≡◌, ◌<◌, ◌&&◌, IfSome, is_some, length, map};
 ghost use Rattle.std.specs.Ordering.{int_eq};
 ghost use Rattle.overlay_geometry.specs.PointOf.{point_of};
 ghost use Rattle.overlay_base.specs.BooleanWinding.{boolean_winding};
 ghost use Rattle.overlay_base.specs.SegmentOf.{segment_of, segments_of};
 ghost use Rattle.overlay_build.specs.GraphOf.{link_of};
-ghost use Rattle.overlay_c.specs.Records.{start_of, end_of, count_of, asks, asked_by, told_by, link_by, fill_rule_of, overlay_rule_of};
+ghost use Rattle.overlay_c.specs.Records.{start_of, end_of, count_of, asks, asked_by, told_by, link_by, fill_rule_of, shape_of, IsRuleOf};
 
 use overlay_base::overlay_core::fill_rule::FillRule;
 use overlay_base::overlay_core::link::OverlayLink;
 use overlay_base::overlay_core::overlay_rule::OverlayRule;
+use overlay_base::overlay_core::rule_table::RuleTable;
 use overlay_base::overlay_core::solver::{Precision, Solver, Strategy};
 use overlay_base::segm::boolean::ShapeCountBoolean;
 use overlay_base::segm::segment::Segment;
+use overlay_base::segm::shape_type::ShapeType;
 use overlay_base::segm::winding::WindingCount;
 use overlay_geometry::geom::point::IntPoint;
 
@@ -179,9 +181,19 @@ pub fn fill_rule(code: u8) -> FillRule
     }
 }
 
-/// The overlay rule of a code.
+/// The shape of a code: the subject for 0, else the clip.
+pub fn shape_type(code: u8) -> ShapeType
+    ensures { result ≡ shape_of code }
+{
+    match code {
+        0 => ShapeType::Subject,
+        _ => ShapeType::Clip,
+    }
+}
+
+/// The overlay rule of a code: those with names from 0 to 6, and from 16 to 31 that of a table. Any other is `Xor`.
 pub fn overlay_rule(code: u8) -> OverlayRule
-    ensures { result ≡ overlay_rule_of code }
+    ensures { IsRuleOf code result }
 {
     match code {
         0 => OverlayRule::Subject,
@@ -190,7 +202,21 @@ pub fn overlay_rule(code: u8) -> OverlayRule
         3 => OverlayRule::Union,
         4 => OverlayRule::Difference,
         5 => OverlayRule::InverseDifference,
-        _ => OverlayRule::Xor,
+        _ => table_rule(code),
+    }
+}
+
+/// The rule of a code above 5.
+fn table_rule(code: u8) -> OverlayRule
+    requires { 5 < code }
+    ensures { IsRuleOf code result }
+{
+    if code < 16 {
+        return OverlayRule::Xor;
+    }
+    match RuleTable::new(code - 16) {
+        Some(table) => OverlayRule::Table(table),
+        None => OverlayRule::Xor,
     }
 }
 
@@ -220,11 +246,16 @@ pub fn solver(settings: &SettingsRecord) -> Solver
 #[derive(Clone, Copy)]
 pub struct SizesRecord {
     pub segments: usize,
+    pub lines: usize,
     pub links: usize,
     pub nodes: usize,
     pub node_links: usize,
     pub walks: usize,
     pub walk_links: usize,
+    /// How many contours the last overlay of contours left.
+    pub contours: usize,
+    /// How many points they have together.
+    pub contour_points: usize,
     /// Whether there are closed walks: they were asked for, and evenly many links meet at each node.
     pub has_walks: bool,
     /// Whether the last split joined equal segments or split one, or the last join joined some.

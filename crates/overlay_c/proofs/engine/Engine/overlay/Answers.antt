@@ -15,7 +15,7 @@ returns-in_ok-keep_lists-clause-kept c =
     let holds' = c.in_ok-graph.graph.holds in
     let G : Graph = graph_with (λ z. z) c.in_ok-graph.graph.links.now in
     let es = same_settings _ _ _ _ _ _ c.solver-solver.ensures.start c.solver-solver.ensures.progression (sym c.split_and_build_overlay.ensures.limit) in
-    let ex = c.in_ok-load.ensures.segments c.if-not-branch.false in
+    let ex = c.in_ok-load_splittable.ensures.segments in
     record {
       graph = G;
       overlay = same_overlay _ _ _ _ (holds c.args.rule) _ _ _ _ G es c.fill_rule-fill_rule.ensures ex c.in_ok-graph.ensures.overlay;
@@ -29,7 +29,7 @@ returns-in_ok-keep_lists-clause-kept c =
         walks = λ _. (
           map (λ w. w.items) c.in_ok-found.found.items,
           subst (λ ls. AreClosedWalks ls (map (λ w. w.items) c.in_ok-found.found.items)) holds'.same_links c.in_ok-found.ensures.walks,
-          same_laid _ _ _ _ (ap (λ vs. map (λ w. w.items) vs) c.deref-then-self.ensures.value) c.in_ok-keep_lists.ensures.lengths c.in_ok-keep_lists.ensures.indexes,
+          same_laid _ _ _ _ (ap (λ vs. map (λ w. w.items) vs) c.deref.ensures.value) c.in_ok-keep_lists.ensures.lengths c.in_ok-keep_lists.ensures.indexes,
         );
       };
     }
@@ -39,7 +39,7 @@ returns-else-self-clause-kept c =
     let holds' = c.in_ok-graph.graph.holds in
     let G : Graph = graph_with (λ z. z) c.in_ok-graph.graph.links.now in
     let es = same_settings _ _ _ _ _ _ c.solver-solver.ensures.start c.solver-solver.ensures.progression (sym c.split_and_build_overlay.ensures.limit) in
-    let ex = c.in_ok-load.ensures.segments c.if-not-branch.false in
+    let ex = c.in_ok-load_splittable.ensures.segments in
     record {
       graph = G;
       overlay = same_overlay _ _ _ _ (holds c.args.rule) _ _ _ _ G es c.fill_rule-fill_rule.ensures ex c.in_ok-graph.ensures.overlay;

@@ -1,0 +1,81 @@
+// Contours: those that an engine is given, and those of its last answer.
+ghost use Rattle.std.specs.Prelude.{◌≡◌, OnOk, ◌++◌, map, length, flat_map};
+ghost use Rattle.overlay_geometry.specs.PointOf.{point_of};
+ghost use Rattle.overlay_contours.specs.ContoursOf.{points_of, contours_of};
+ghost use Rattle.overlay_c.specs.Contours.{point_by};
+
+use overlay_contours::contour::IntContour;
+use overlay_geometry::geom::point::IntPoint;
+use std::alloc::AllocError;
+
+/// A point.
+#[repr(C)]
+#[derive(Clone, Copy)]
+pub struct PointRecord {
+    pub x: i32,
+    pub y: i32,
+}
+
+/// Loads the points that records tell.
+pub fn load_points(
+    records: &[PointRecord],
+    points: &mut Vec<IntPoint<i32>>,
+) -> Result<(), AllocError>
+    ensures { OnOk result (points_of (λ z. z) points.new.items ≡ map point_by records.now) }
+{
+    points.clear();
+    for given in records {
+        points.push(point(given))?;
+    }
+    Ok(())
+}
+
+/// Keeps contours: how many points each has, and all points.
+pub fn keep_contours(
+    contours: &[IntContour<i32>],
+    lengths: &mut Vec<usize>,
+    points: &mut Vec<PointRecord>,
+) -> Result<(), AllocError>
+    ensures lengths { OnOk result (lengths.new.items ≡ map length (contours_of (λ z. z) contours.now)) }
+    ensures points { OnOk result (map point_by points.new.items
+        ≡ flat_map (λ contour. contour) (contours_of (λ z. z) contours.now)) }
+{
+    lengths.clear();
+    points.clear();
+    for contour in contours {
+        lengths.push(contour.len())?;
+        push_points(contour, points)?;
+    }
+    Ok(())
+}
+
+/// Keeps the points of a contour behind others.
+fn push_points(contour: &[IntPoint<i32>], points: &mut Vec<PointRecord>) -> Result<(), AllocError>
+    ensures { OnOk result (map point_by points.new.items
+        ≡ map point_by points.old.items ++ points_of (λ z. z) contour.now) }
+{
+    for point in contour {
+        points.push(told(*point))?;
+    }
+    Ok(())
+}
+
+/// The point that a record tells.
+fn point(given: &PointRecord) -> IntPoint<i32>
+    ensures { point_of (λ z. z) result ≡ point_by given.now }
+{
+    IntPoint {
+        x: given.x,
+        y: given.y,
+    }
+}
+
+/// The record of a point.
+fn told(point: IntPoint<i32>) -> PointRecord
+    ensures { point_by result ≡ point_of (λ z. z) point }
+{
+    PointRecord {
+        x: point.x,
+        y: point.y,
+    }
+}

@@ -1,0 +1,459 @@
+//! The engine: splits, graphs and contours, one after another.
+
+use crate::error::{fault_of, fault_of_line, outcome, point_fault};
+use crate::{
+    ffi, ClipRule, Error, Fault, FillRule, IntContour, IntPoint, LineSegment, OverlayGraph, OverlayLink, OverlayRule,
+    Segment, ShapeType, Solver,
+};
+use std::fmt;
+
+/// What a split or a join did.
+#[derive(Clone, Copy, Debug, PartialEq, Eq)]
+pub struct Change {
+    /// Whether equal segments were joined or one was split.
+    pub has_changed: bool,
+    /// How many passes the engine's last split made, up to `u64::MAX`.
+    pub passes: u64,
+}
+
+/// Overlays contours, splits segments and builds graphs, one after another, and keeps its buffers.
+///
+/// After an error it can be used again. It stays on its thread: nothing is proved of an engine that moves to another.
+pub struct Overlay {
+    engine: ffi::Engine,
+    /// How many contours of the subject and of the clip were added.
+    contour_counts: [usize; 2],
+    /// Whether the last call was a join that was refused, of which nothing is promised.
+    is_join_refused: bool,
+    segments: Vec<Segment>,
+    lines: Vec<LineSegment>,
+    links: Vec<OverlayLink>,
+    /// Where the indexes of each node begin, and where the last ones end.
+    starts: Vec<usize>,
+    node_links: Vec<usize>,
+    walk_starts: Vec<usize>,
+    walk_links: Vec<usize>,
+}
+
+impl Overlay {
+    /// An overlay of no contours, which snaps in the first 256 passes of a split.
+    ///
+    /// ```
+    /// use i_overlay_core::Overlay;
+    ///
+    /// assert!(Overlay::new()?.segments().is_empty());
+    /// # Ok::<(), i_overlay_core::Error>(())
+    /// ```
+    pub fn new() -> Result<Overlay, Error> {
+        Overlay::with_snap_limit(256)
+    }
+
+    /// An overlay that snaps in that many passes of a split, and settles after them. Overlays of contours snap in 256,
+    /// whatever this limit is.
+    ///
+    /// ```
+    /// use i_overlay_core::{square, Overlay, ShapeType, Solver};
+    ///
+    /// let mut segments = Vec::new();
+    /// ShapeType::Subject.push_contour(&square(0, 4), &mut segments);
+    /// assert!(!Overlay::with_snap_limit(8)?.split(&segments, Solver::AUTO)?.has_changed);
+    /// # Ok::<(), i_overlay_core::Error>(())
+    /// ```
+    pub fn with_snap_limit(snap_limit: u32) -> Result<Overlay, Error> {
+        Ok(Overlay {
+            engine: ffi::Engine::new(snap_limit).ok_or(Error::Fault(Fault::Memory))?,
+            contour_counts: [0; 2],
+            is_join_refused: false,
+            segments: Vec::new(),
+            lines: Vec::new(),
+            links: Vec::new(),
+            starts: Vec::new(),
+            node_links: Vec::new(),
+            walk_starts: Vec::new(),
+            walk_links: Vec::new(),
+        })
+    }
+
+    /// An overlay of these contours of a subject and of a clip. Any contours will do: they may cross and touch themselves
+    /// and one another, run either way, and have no or few points.
+    ///
+    /// ```
+    /// use i_overlay_core::{square, Error, IntPoint, Overlay, ShapeType, MAX_COORD};
+    ///
+    /// let far = vec![IntPoint::ZERO, IntPoint::new(MAX_COORD + 1, 0)];
+    /// let refused = Overlay::with_contours(&[square(0, 4).to_vec(), far], &[]).unwrap_err();
+    /// assert_eq!(refused, Error::Point { shape_type: ShapeType::Subject, contour: 1, point: 1 });
+    /// # Ok::<(), Error>(())
+    /// ```
+    pub fn with_contours(subject: &[IntContour], clip: &[IntContour]) -> Result<Overlay, Error> {
+        let mut overlay = Overlay::new()?;
+        for (contours, shape_type) in [(subject, ShapeType::Subject), (clip, ShapeType::Clip)] {
+            for contour in contours {
+                overlay.add_contour(contour, shape_type)?;
+            }
+        }
+        Ok(overlay)
+    }
+
+    /// Copies a contour behind the others of its shape. Where it is refused nothing is added.
+    ///
+    /// ```
+    /// use i_overlay_core::{square, FillRule, Overlay, OverlayRule, ShapeType};
+    ///
+    /// let mut overlay = Overlay::new()?;
+    /// overlay.add_contour(&square(0, 9), ShapeType::Subject)?;
+    /// overlay.add_contour(&square(3, 6), ShapeType::Clip)?;
+    /// let ring = overlay.overlay(OverlayRule::Difference, FillRule::NonZero)?;
+    /// assert_eq!(ring.len(), 2);
+    /// # Ok::<(), i_overlay_core::Error>(())
+    /// ```
+    pub fn add_contour(&mut self, contour: &[IntPoint], shape_type: ShapeType) -> Result<(), Error> {
+        let count = &mut self.contour_counts[shape_type as usize];
+        match self.engine.add_contour(contour, shape_type as u8) {
+            0 => *count += 1,
+            1 => return Err(Error::Fault(Fault::Memory)),
+            _ => {
+                let point = point_fault(contour).expect("the engine refuses contours where a point is out of range");
+                return Err(Error::Point { shape_type, contour: *count, point });
+            }
+        }
+        Ok(())
+    }
+
+    /// The overlay of the contours that were added, as contours that have it on their left, by the solver `AUTO`: outer
+    /// boundaries run counterclockwise, and holes clockwise. So they wind once round each place of which the rule holds,
+    /// and not at all round the others, but for places nearer to the given edges than the passes move crossings. The
+    /// contours that were added stay.
+    ///
+    /// ```
+    /// use i_overlay_core::{square, FillRule, Overlay, OverlayRule};
+    ///
+    /// let mut overlay = Overlay::with_contours(&[square(0, 4).to_vec()], &[square(2, 6).to_vec()])?;
+    /// let union = overlay.overlay(OverlayRule::Union, FillRule::NonZero)?;
+    /// assert_eq!((union.len(), union[0].len()), (1, 8));
+    /// assert_eq!(overlay.overlay(OverlayRule::Subject, FillRule::NonZero)?[0].len(), 6);
+    /// # Ok::<(), i_overlay_core::Error>(())
+    /// ```
+    pub fn overlay(&mut self, overlay_rule: OverlayRule, fill_rule: FillRule) -> Result<Vec<IntContour>, Error> {
+        self.overlay_with_solver(overlay_rule, fill_rule, Solver::AUTO)
+    }
+
+    /// The same by a solver.
+    ///
+    /// ```
+    /// use i_overlay_core::{square, FillRule, Overlay, OverlayRule, Solver};
+    ///
+    /// let mut overlay = Overlay::with_contours(&[square(0, 4).to_vec()], &[square(2, 6).to_vec()])?;
+    /// let found = overlay.overlay_with_solver(OverlayRule::Xor, FillRule::EvenOdd, Solver::LIST)?;
+    /// assert_eq!(found, overlay.overlay(OverlayRule::Xor, FillRule::EvenOdd)?);
+    /// # Ok::<(), i_overlay_core::Error>(())
+    /// ```
+    pub fn overlay_with_solver(
+        &mut self,
+        overlay_rule: OverlayRule,
+        fill_rule: FillRule,
+        solver: Solver,
+    ) -> Result<Vec<IntContour>, Error> {
+        let status = self.engine.polygons(&settings(solver, fill_rule), overlay_rule.code());
+        outcome(status, &[], fault_of)?;
+        Ok(self.engine.contours())
+    }
+
+    /// Drops the contours that were added. Buffers stay.
+    ///
+    /// ```
+    /// use i_overlay_core::{square, FillRule, Overlay, OverlayRule};
+    ///
+    /// let mut overlay = Overlay::with_contours(&[square(0, 4).to_vec()], &[])?;
+    /// overlay.clear();
+    /// assert!(overlay.overlay(OverlayRule::Union, FillRule::NonZero)?.is_empty());
+    /// # Ok::<(), i_overlay_core::Error>(())
+    /// ```
+    pub fn clear(&mut self) {
+        self.engine.clear();
+        self.contour_counts = [0; 2];
+    }
+
+    /// The graph of the segments that a rule keeps, by the solver `AUTO`.
+    ///
+    /// ```
+    /// use i_overlay_core::{square, FillRule, Overlay, OverlayRule, ShapeType};
+    ///
+    /// let mut segments = Vec::new();
+    /// ShapeType::Subject.push_contour(&square(0, 4), &mut segments);
+    /// ShapeType::Clip.push_contour(&square(2, 6), &mut segments);
+    /// let mut overlay = Overlay::new()?;
+    /// let graph = overlay.build_graph(&segments, FillRule::NonZero, OverlayRule::Intersect)?;
+    /// assert_eq!((graph.links().len(), graph.node_count()), (4, 4));
+    /// # Ok::<(), i_overlay_core::Error>(())
+    /// ```
+    pub fn build_graph(
+        &mut self,
+        segments: &[Segment],
+        fill_rule: FillRule,
+        overlay_rule: OverlayRule,
+    ) -> Result<OverlayGraph<'_>, Error> {
+        self.build_graph_with_solver(segments, fill_rule, overlay_rule, Solver::AUTO)
+    }
+
+    /// The graph of the segments that a rule keeps. The solver's strategy does not change it.
+    ///
+    /// ```
+    /// use i_overlay_core::{square, FillRule, Overlay, OverlayRule, ShapeType, Solver};
+    ///
+    /// let mut segments = Vec::new();
+    /// ShapeType::Subject.push_contour(&square(0, 4), &mut segments);
+    /// let mut overlay = Overlay::new()?;
+    /// let (fill, rule) = (FillRule::NonZero, OverlayRule::Subject);
+    /// let graph = overlay.build_graph_with_solver(&segments, fill, rule, Solver::TREE)?;
+    /// assert_eq!(graph.links().len(), 4);
+    /// # Ok::<(), i_overlay_core::Error>(())
+    /// ```
+    pub fn build_graph_with_solver(
+        &mut self,
+        segments: &[Segment],
+        fill_rule: FillRule,
+        overlay_rule: OverlayRule,
+        solver: Solver,
+    ) -> Result<OverlayGraph<'_>, Error> {
+        self.run(segments, fill_rule, overlay_rule, solver, false)?;
+        Ok(self.graph())
+    }
+
+    /// Closed contours round the part that a rule keeps: walks over the links of the graph, so that each link stands in
+    /// one place of one walk. `None` where an odd number of links meets at some node, as it can where the counts of the
+    /// given segments do not balance.
+    ///
+    /// ```
+    /// use i_overlay_core::{square, FillRule, Overlay, OverlayRule, ShapeType, Solver};
+    ///
+    /// let mut segments = Vec::new();
+    /// ShapeType::Subject.push_contour(&square(0, 4), &mut segments);
+    /// let (fill, rule) = (FillRule::NonZero, OverlayRule::Subject);
+    /// let contours = Overlay::new()?.build_contours(&segments, fill, rule, Solver::AUTO)?;
+    /// assert_eq!(contours.map(|found| found.len()), Some(1));
+    /// # Ok::<(), i_overlay_core::Error>(())
+    /// ```
+    pub fn build_contours(
+        &mut self,
+        segments: &[Segment],
+        fill_rule: FillRule,
+        overlay_rule: OverlayRule,
+        solver: Solver,
+    ) -> Result<Option<Vec<IntContour>>, Error> {
+        self.run(segments, fill_rule, overlay_rule, solver, true)?;
+        let ffi::Sizes { has_walks, .. } = self.engine.sizes();
+        if !has_walks {
+            return Ok(None);
+        }
+        self.copy_graph();
+        self.engine.copy_walks(&mut self.walk_starts, &mut self.walk_links);
+        sum_up(&mut self.walk_starts);
+        let walks = self.walk_starts.windows(2).map(|ends| &self.walk_links[ends[0]..ends[1]]);
+        Ok(Some(walks.map(|walk| contour(&self.links, walk)).collect()))
+    }
+
+    /// The arrangement of the last call that was given segments, or the joined segments. After a call that was refused,
+    /// nothing, or the arrangement where its graph alone was refused.
+    ///
+    /// ```
+    /// use i_overlay_core::{square, Overlay, ShapeType, Solver};
+    ///
+    /// let mut segments = Vec::new();
+    /// ShapeType::Subject.push_contour(&square(0, 4), &mut segments);
+    /// ShapeType::Clip.push_contour(&square(2, 6), &mut segments);
+    /// let mut overlay = Overlay::new()?;
+    /// overlay.split(&segments, Solver::AUTO)?;
+    /// assert_eq!(overlay.segments().len(), 12);
+    /// # Ok::<(), i_overlay_core::Error>(())
+    /// ```
+    pub fn segments(&mut self) -> &[Segment] {
+        if self.is_join_refused {
+            return &[];
+        }
+        self.engine.copy_segments(&mut self.segments);
+        &self.segments
+    }
+
+    /// The arrangement of the last `build_clip`, of polygons and lines. After a call that was refused, nothing, or the
+    /// arrangement where its graph alone was refused.
+    ///
+    /// ```
+    /// use i_overlay_core::{ClipRule, FillRule, IntPoint, LineSegment, Overlay, Solver};
+    ///
+    /// let line = |ax, ay, bx, by| LineSegment::line(IntPoint::new(ax, ay), IntPoint::new(bx, by));
+    /// let crossed = [line(0, 0, 4, 4), line(0, 4, 4, 0)];
+    /// let mut overlay = Overlay::new()?;
+    /// overlay.build_clip(&crossed, FillRule::NonZero, ClipRule::default(), Solver::AUTO)?;
+    /// assert_eq!(overlay.lines().len(), 4);
+    /// # Ok::<(), i_overlay_core::Error>(())
+    /// ```
+    pub fn lines(&mut self) -> &[LineSegment] {
+        self.engine.copy_lines(&mut self.lines);
+        &self.lines
+    }
+
+    /// The graph of all of the arrangement, with its fills.
+    ///
+    /// ```
+    /// use i_overlay_core::{square, FillRule, Overlay, ShapeType, Solver};
+    ///
+    /// let mut segments = Vec::new();
+    /// ShapeType::Subject.push_contour(&square(0, 4), &mut segments);
+    /// ShapeType::Clip.push_contour(&square(2, 6), &mut segments);
+    /// let mut overlay = Overlay::new()?;
+    /// let all = overlay.build_all(&segments, FillRule::NonZero, Solver::AUTO)?;
+    /// assert_eq!((all.links().len(), all.node_count()), (12, 10));
+    /// # Ok::<(), i_overlay_core::Error>(())
+    /// ```
+    pub fn build_all(
+        &mut self,
+        segments: &[Segment],
+        fill_rule: FillRule,
+        solver: Solver,
+    ) -> Result<OverlayGraph<'_>, Error> {
+        let status = self.engine.all(segments, &settings(solver, fill_rule));
+        self.keep(status, segments)?;
+        Ok(self.graph())
+    }
+
+    /// Splits the segments, with no graph: `segments` is the arrangement then.
+    ///
+    /// ```
+    /// use i_overlay_core::{square, Overlay, ShapeType, Solver};
+    ///
+    /// let mut segments = Vec::new();
+    /// ShapeType::Subject.push_contour(&square(0, 4), &mut segments);
+    /// ShapeType::Clip.push_contour(&square(2, 6), &mut segments);
+    /// let change = Overlay::new()?.split(&segments, Solver::AUTO)?;
+    /// assert_eq!((change.has_changed, change.passes), (true, 1));
+    /// # Ok::<(), i_overlay_core::Error>(())
+    /// ```
+    pub fn split(&mut self, segments: &[Segment], solver: Solver) -> Result<Change, Error> {
+        let status = self.engine.split(segments, &settings(solver, FillRule::NonZero));
+        self.keep(status, segments)?;
+        Ok(self.change())
+    }
+
+    /// Joins the segments on each pair of ends: `segments` has them then.
+    ///
+    /// ```
+    /// use i_overlay_core::{square, Overlay, ShapeType};
+    ///
+    /// let mut segments = Vec::new();
+    /// ShapeType::Subject.push_contour(&square(0, 4), &mut segments);
+    /// ShapeType::Clip.push_contour(&square(0, 4), &mut segments);
+    /// let mut overlay = Overlay::new()?;
+    /// assert!(overlay.join(&segments)?.has_changed);
+    /// assert_eq!(overlay.segments().len(), 4);
+    /// # Ok::<(), i_overlay_core::Error>(())
+    /// ```
+    pub fn join(&mut self, segments: &[Segment]) -> Result<Change, Error> {
+        let status = self.engine.join(segments);
+        self.is_join_refused = status != 0;
+        outcome(status, segments, fault_of)?;
+        Ok(self.change())
+    }
+
+    /// The graph of the parts of lines that a clip rule keeps.
+    ///
+    /// ```
+    /// use i_overlay_core::{square, ClipRule, FillRule, IntPoint, LineSegment, Overlay, Solver};
+    ///
+    /// let corners = square(0, 10);
+    /// let sides = (0..4).map(|index| LineSegment::side(corners[index], corners[(index + 1) % 4]));
+    /// let line = LineSegment::line(IntPoint::new(-5, 5), IntPoint::new(15, 5));
+    /// let segments: Vec<LineSegment> = sides.chain([line]).collect();
+    /// let mut overlay = Overlay::new()?;
+    /// let inside = overlay.build_clip(&segments, FillRule::NonZero, ClipRule::default(), Solver::AUTO)?;
+    /// assert_eq!(inside.links().len(), 1);
+    /// # Ok::<(), i_overlay_core::Error>(())
+    /// ```
+    pub fn build_clip(
+        &mut self,
+        segments: &[LineSegment],
+        fill_rule: FillRule,
+        clip_rule: ClipRule,
+        solver: Solver,
+    ) -> Result<OverlayGraph<'_>, Error> {
+        let ClipRule { invert, boundary_included } = clip_rule;
+        let status = self.engine.clip(segments, &settings(solver, fill_rule), invert, boundary_included);
+        outcome(status, segments, fault_of_line)?;
+        Ok(self.graph())
+    }
+
+    /// The engine's run.
+    fn run(
+        &mut self,
+        segments: &[Segment],
+        fill_rule: FillRule,
+        overlay_rule: OverlayRule,
+        solver: Solver,
+        walks: bool,
+    ) -> Result<(), Error> {
+        let status = self.engine.overlay(segments, &settings(solver, fill_rule), overlay_rule.code(), walks);
+        self.keep(status, segments)
+    }
+
+    /// What a status tells of a call that keeps an arrangement, or nothing.
+    fn keep(&mut self, status: u8, segments: &[Segment]) -> Result<(), Error> {
+        self.is_join_refused = false;
+        outcome(status, segments, fault_of)
+    }
+
+    fn change(&mut self) -> Change {
+        let ffi::Sizes { has_changed, passes, .. } = self.engine.sizes();
+        Change { has_changed, passes }
+    }
+
+    /// Copies the graph of the last run out.
+    fn copy_graph(&mut self) {
+        self.engine.copy_links(&mut self.links);
+        self.engine.copy_nodes(&mut self.starts, &mut self.node_links);
+        sum_up(&mut self.starts);
+    }
+
+    /// The graph of the last run.
+    fn graph(&mut self) -> OverlayGraph<'_> {
+        self.copy_graph();
+        OverlayGraph { links: &self.links, starts: &self.starts, node_links: &self.node_links }
+    }
+}
+
+impl fmt::Debug for Overlay {
+    fn fmt(&self, f: &mut fmt::Formatter<'_>) -> fmt::Result {
+        f.debug_struct("Overlay").finish_non_exhaustive()
+    }
+}
+
+fn settings(solver: Solver, fill_rule: FillRule) -> ffi::Settings {
+    ffi::Settings {
+        start: solver.precision.start,
+        progression: solver.precision.progression,
+        strategy: solver.strategy as u8,
+        fill_rule: fill_rule as u8,
+    }
+}
+
+/// Turns lengths into the places where lists that stand one after another begin, and where the last one ends.
+fn sum_up(lengths: &mut Vec<usize>) {
+    let mut total = 0;
+    for length in lengths.iter_mut() {
+        total += std::mem::replace(length, total);
+    }
+    lengths.push(total);
+}
+
+/// The points along a walk, from the node where it begins.
+fn contour(links: &[OverlayLink], walk: &[usize]) -> Vec<IntPoint> {
+    let first = &links[walk[0]];
+    let leads_on = |id: usize| walk[1..].first().is_none_or(|&next| links[next].a.id == id || links[next].b.id == id);
+    let mut at = if leads_on(first.b.id) { first.a } else { first.b };
+    let mut points = Vec::with_capacity(walk.len());
+    for &index in walk {
+        points.push(at.point);
+        let link = &links[index];
+        at = if link.a.id == at.id { link.b } else { link.a };
+    }
+    points
+}

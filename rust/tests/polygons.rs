@@ -1,0 +1,108 @@
+//! Contours in, contours out.
+
+mod common;
+
+use common::Random;
+use i_overlay_core::{
+    square, Error, FillRule, IntContour, IntPoint, Overlay, OverlayRule, Precision, RuleTable, ShapeType, Solver,
+    Strategy, MAX_COORD, MIN_COORD,
+};
+
+/// Twice the area to the left of contours.
+fn doubled_area(contours: &[IntContour]) -> i64 {
+    let steps = contours.iter().flat_map(|points| points.iter().zip(points.iter().cycle().skip(1)));
+    steps.map(|(p, q)| i64::from(p.x) * i64::from(q.y) - i64::from(p.y) * i64::from(q.x)).sum()
+}
+
+fn area(overlay: &mut Overlay, rule: OverlayRule) -> i64 {
+    doubled_area(&overlay.overlay(rule, FillRule::NonZero).unwrap()) / 2
+}
+
+#[test]
+fn a_square_with_a_hole() {
+    let mut overlay = Overlay::with_contours(&[square(0, 9).to_vec()], &[square(3, 6).to_vec()]).unwrap();
+    let ring = overlay.overlay(OverlayRule::Difference, FillRule::EvenOdd).unwrap();
+    let mut areas: Vec<i64> = ring.iter().map(|contour| doubled_area(std::slice::from_ref(contour)) / 2).collect();
+    areas.sort_unstable();
+    assert_eq!(areas, [-9, 81]);
+    assert_eq!(area(&mut overlay, OverlayRule::Intersect), 9);
+}
+
+/// The areas of overlays of rectangles add up: the sides are along the axes, so no crossing is moved.
+#[test]
+fn areas_add_up() {
+    let mut random = Random(3);
+    let mut overlay = Overlay::new().unwrap();
+    for _ in 0..200 {
+        overlay.clear();
+        for shape in [ShapeType::Subject, ShapeType::Clip] {
+            for _ in 0..1 + random.below(5) {
+                let (x, y) = (random.below(20), random.below(20));
+                let (right, top) = (x + 1 + random.below(9), y + 1 + random.below(9));
+                let corners = [(x, y), (right, y), (right, top), (x, top)];
+                overlay.add_contour(&corners.map(|(x, y)| IntPoint::new(x, y)), shape).unwrap();
+            }
+        }
+        let mut area = |rule| area(&mut overlay, rule);
+        let (subject, clip) = (area(OverlayRule::Subject), area(OverlayRule::Clip));
+        let shared = area(OverlayRule::Intersect);
+        assert!(shared >= 0 && subject > 0 && clip > 0);
+        assert_eq!(area(OverlayRule::Union), subject + clip - shared);
+        assert_eq!(area(OverlayRule::Xor), subject + clip - 2 * shared);
+        assert_eq!(area(OverlayRule::Difference), subject - shared);
+        assert_eq!(area(OverlayRule::InverseDifference), clip - shared);
+        // outside of both no boundary is kept, so what neither covers is told by clockwise contours
+        let neither = OverlayRule::Table(RuleTable::new(1).unwrap());
+        assert_eq!(area(neither), shared - subject - clip);
+    }
+}
+
+#[test]
+fn each_strategy_answers_the_same() {
+    let mut random = Random(5);
+    for _ in 0..50 {
+        let mut contour = || (0..40).map(|_| IntPoint::new(random.below(60), random.below(60))).collect();
+        let mut overlay = Overlay::with_contours(&[contour(), contour()], &[contour()]).unwrap();
+        let wanted = overlay.overlay(OverlayRule::Xor, FillRule::EvenOdd).unwrap();
+        for strategy in [Strategy::List, Strategy::Tree, Strategy::Frag] {
+            let solver = Solver { strategy, precision: Precision::HIGH };
+            let found = overlay.overlay_with_solver(OverlayRule::Xor, FillRule::EvenOdd, solver).unwrap();
+            assert_eq!(found, wanted);
+        }
+    }
+}
+
+#[test]
+fn contours_out_of_range() {
+    let mut overlay = Overlay::new().unwrap();
+    overlay.add_contour(&square(MIN_COORD, MAX_COORD), ShapeType::Clip).unwrap();
+    let bad = [(0, 0), (5, 0), (0, MAX_COORD + 1), (i32::MIN, 0)].map(|(x, y)| IntPoint::new(x, y));
+    let refused = overlay.add_contour(&bad, ShapeType::Clip).unwrap_err();
+    assert_eq!(refused, Error::Point { shape_type: ShapeType::Clip, contour: 1, point: 2 });
+    assert_eq!(refused.to_string(), "point 2 of contour 1 of the clip: range");
+    // nothing was added
+    assert_eq!(overlay.overlay(OverlayRule::Union, FillRule::NonZero).unwrap().len(), 1);
+    assert_eq!(area(&mut overlay, OverlayRule::Clip), i64::from(u32::MAX >> 1).pow(2));
+    overlay.clear();
+    let refused = overlay.add_contour(&bad[2..], ShapeType::Clip).unwrap_err();
+    assert_eq!(refused, Error::Point { shape_type: ShapeType::Clip, contour: 0, point: 0 });
+}
+
+#[test]
+fn few_points() {
+    let point = IntPoint::new(4, 4);
+    let mut overlay = Overlay::with_contours(&[vec![], vec![point], vec![point; 3]], &[]).unwrap();
+    overlay.add_contour(&[IntPoint::ZERO, point], ShapeType::Subject).unwrap();
+    assert_eq!(overlay.overlay(OverlayRule::Subject, FillRule::EvenOdd).unwrap(), Vec::<IntContour>::new());
+}
+
+/// Segments that are split in between leave the contours as they are.
+#[test]
+fn contours_and_segments_by_turns() {
+    let mut overlay = Overlay::with_contours(&[square(0, 4).to_vec()], &[square(2, 6).to_vec()]).unwrap();
+    let mut segments = Vec::new();
+    ShapeType::Subject.push_contour(&square(0, 9), &mut segments);
+    overlay.build_graph(&segments, FillRule::NonZero, OverlayRule::Subject).unwrap();
+    assert_eq!(area(&mut overlay, OverlayRule::Union), 28);
+    assert_eq!(overlay.segments().len(), 4);
+}

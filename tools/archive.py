@@ -1,0 +1,69 @@
+#!/usr/bin/env python3
+"""Builds the archive that `rust/` links, `crates/overlay_c/out/liboverlay_core.a`.
+
+    python3 tools/archive.py [--after-ci]
+
+It holds the proved library `overlay_c`, and the part of the toolchain in C that this calls. The libraries below `overlay_c` are
+proved side by side, as `tools/run.py` does it, and `rt lib` makes `liboverlay_c.a` over them. With `--after-ci`, right after
+`rt ci`, that is made over the libraries that `rt ci` proved and left in `out/`, which `rt lib` would prove again. Either way the
+toolchain proves the crate before it compiles it.
+"""
+import os
+import subprocess
+import sys
+
+import run
+
+NAME = "overlay_c"
+
+
+def are_left_by_ci(libraries):
+    """Returns whether `rt ci` left all of these: a library of any other command has a stamp beside it."""
+    return all(os.path.isfile(f"{it.rlib}/format") and not os.path.exists(f"{os.path.dirname(it.rlib)}/stamp") for it in libraries)
+
+
+def build_over_left(rtlib, crate):
+    """Proves the crate over the libraries that stand below it, compiles it, and returns the status."""
+    rtlib.guarded()
+    held = rtlib.lock([*crate.below(), crate])
+    os.makedirs(f"{crate.folder}/out", exist_ok=True)
+    words = crate.words(["--jobs", str(run.processors())], keeps=False)
+    by = ["--toolchain", f"{rtlib.KIT}/toolchain", "--backend", "llvm", "-o", f"out/lib{crate.name}.a"]
+    try:
+        return crate.call(rtlib.RATTLE, "build", *words, *by)
+    finally:
+        for lock in held:
+            os.close(lock)
+
+
+def build(rtlib, crate, flags):
+    """Makes the archive of the crate, and returns the status."""
+    if "--after-ci" in flags and are_left_by_ci(crate.below()):
+        return build_over_left(rtlib, crate)
+    if not run.build_libraries(crate.name):
+        return 1
+    return subprocess.run(["rt", "lib"], cwd=crate.folder).returncode
+
+
+def pack(rtlib, crate):
+    """Puts the archive and the toolchain's part in C into one, so that a program links one file."""
+    packed = f"{crate.folder}/out/liboverlay_core.a"
+    if os.path.exists(packed):
+        os.remove(packed)
+    parts = [f"{crate.folder}/out/lib{crate.name}.a", f"{rtlib.KIT}/c/liblibc_c.a"]
+    subprocess.run([f"{rtlib.KIT}/toolchain/bin/llvm-ar", "qcsL", packed, *parts], check=True)
+
+
+def main(flags):
+    rtlib = run.toolchain()
+    crate = rtlib.Crate(f"{run.ROOT}/crates/{NAME}", run.ROOT, {})
+    status = build(rtlib, crate, flags)
+    if not status:
+        pack(rtlib, crate)
+    sys.exit(status)
+
+
+if __name__ == "__main__":
+    if sys.argv[1:] not in ([], ["--after-ci"]):
+        sys.exit(__doc__)
+    main(sys.argv[1:])
