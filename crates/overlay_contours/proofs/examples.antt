@@ -1,1 +1,2 @@
 pub mod Polygons
+pub mod Corners

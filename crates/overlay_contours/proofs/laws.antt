@@ -7,3 +7,7 @@ pub mod DirectedWindings
 pub mod GraphContours
 pub mod Overlays
 pub mod Parities
+pub mod Straight
+pub mod Corners
+pub mod Ranges
+pub mod CornerOverlays

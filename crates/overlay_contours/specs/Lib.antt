@@ -1,7 +1,9 @@
 pub mod Contours
 pub mod ContoursOf
 pub mod ContourSegments
+pub mod Corners
 pub mod Polygons
+pub mod CornerOverlays
 pub mod Refusals
 pub mod Kept
 pub mod Laws

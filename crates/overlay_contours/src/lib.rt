@@ -2,6 +2,7 @@
 #![tactic(auto)]
 
 pub mod contour;
+pub mod corners;
 pub mod extract;
 pub mod fault;
 pub mod overlay;

@@ -7,9 +7,11 @@ ghost use Rattle.overlay_split.specs.SettingsOf.{snap_limit_of};
 ghost use Rattle.overlay_contours.specs.ContoursOf.{points_of, contours_of};
 ghost use Rattle.overlay_contours.specs.ContourSegments.{are_in_range};
 ghost use Rattle.overlay_contours.specs.Polygons.{settings_for, IsPolygonOverlay};
+ghost use Rattle.overlay_contours.specs.CornerOverlays.{IsCornerOverlay};
 ghost use Rattle.overlay_contours.specs.Refusals.{of_shape, other_shape, IsReason, IsRefusal, IsShapeOutside, IsContourRefusal};
 
 use crate::contour::{IntContour, Side, find_out_of_range, find_point_out_of_range, load_sides};
+use crate::corners::corners_of_contours;
 use crate::extract::directed_contours_of_graph;
 use crate::fault::ContourFault;
 use i_overlay::overlay::split_and_build_overlay;
@@ -57,6 +59,8 @@ pub fn overlay_contours<I: OverlayInt>(
     ensures polygons { IfOk result (λ contours.
         IsPolygonOverlay (settings_for I.BITS solver.now) overlay_rule fill_rule (contours_of I.whole subject.now)
         (contours_of I.whole clip.now) (contours_of I.whole contours.items)) }
+    ensures in_range { IfOk result (λ contours. IsTrue (are_in_range (I.whole I.MIN_COORD) (I.whole I.MAX_COORD)
+        (contours_of I.whole contours.items))) }
     ensures refused { IfErr result (λ fault.
         IsRefusal (I.whole I.MIN_COORD) (I.whole I.MAX_COORD) (settings_for I.BITS solver.now)
         (contours_of I.whole subject.now) (contours_of I.whole clip.now) fault) }
@@ -127,6 +131,8 @@ impl<I: OverlayInt> Buffers<I> {
         ensures polygons { IfOk result (λ contours.
             IsPolygonOverlay (settings_for I.BITS solver.now) overlay_rule fill_rule (contours_of I.whole subject.now)
             (contours_of I.whole clip.now) (contours_of I.whole contours.items)) }
+        ensures in_range { IfOk result (λ contours. IsTrue (are_in_range (I.whole I.MIN_COORD) (I.whole I.MAX_COORD)
+            (contours_of I.whole contours.items))) }
         ensures refused { IfErr result (λ fault.
             IsReason (settings_for I.BITS solver.now) (contours_of I.whole subject.now)
             (contours_of I.whole clip.now) fault) }
@@ -217,6 +223,8 @@ impl<I: OverlayInt> Overlay<I> {
         ensures polygons { IfOk result (λ contours.
             IsPolygonOverlay (settings_for I.BITS solver.now) overlay_rule fill_rule (subject_of self.old)
             (clip_of self.old) (contours_of I.whole contours.items)) }
+        ensures in_range { IfOk result (λ contours. IsTrue (are_in_range (I.whole I.MIN_COORD) (I.whole I.MAX_COORD)
+            (contours_of I.whole contours.items))) }
         ensures refused { IfErr result (λ fault.
             IsReason (settings_for I.BITS solver.now) (subject_of self.old) (clip_of self.old) fault) }
         ensures subject { subject_of self.new ≡ subject_of self.old }
@@ -224,6 +232,37 @@ impl<I: OverlayInt> Overlay<I> {
     {
         self.buffers
             .overlay(&self.subject, &self.clip, solver, fill_rule, overlay_rule)
+    }
+
+    /// The overlay of the contours that were added, as `overlay` answers it, without the points at which a contour goes
+    /// straight on: of each contour the corners, as `corners_of_contours` answers them.
+    ///
+    /// So the answer winds round every place of the plane as that of `overlay` does, and no point of it lies on one line
+    /// with its neighbors and between them. An edge of it may run along several edges of the arrangement. The contours
+    /// that were added stay, whether it is answered or refused.
+    ///
+    /// Answers `Fault::CountOutOfRange` only where counts leave `-i32::MAX..=i32::MAX`, and `Fault::Memory` where a
+    /// growth is refused.
+    pub fn overlay_without_collinear(
+        &mut self,
+        solver: &Solver,
+        fill_rule: FillRule,
+        overlay_rule: OverlayRule,
+    ) -> Result<Vec<IntContour<I>>, Fault>
+        ensures polygons { IfOk result (λ contours.
+            IsCornerOverlay (settings_for I.BITS solver.now) overlay_rule fill_rule (subject_of self.old)
+            (clip_of self.old) (contours_of I.whole contours.items)) }
+        ensures in_range { IfOk result (λ contours. IsTrue (are_in_range (I.whole I.MIN_COORD) (I.whole I.MAX_COORD)
+            (contours_of I.whole contours.items))) }
+        ensures refused { IfErr result (λ fault.
+            IsReason (settings_for I.BITS solver.now) (subject_of self.old) (clip_of self.old) fault) }
+        ensures subject { subject_of self.new ≡ subject_of self.old }
+        ensures clip { clip_of self.new ≡ clip_of self.old }
+    {
+        let alloc = self.buffers.alloc;
+        let contours = self.overlay(solver, fill_rule, overlay_rule)?;
+        let corners = corners_of_contours(alloc, &contours)?;
+        Ok(corners)
     }
 
     /// Drops the contours. The buffers of the overlays stay.

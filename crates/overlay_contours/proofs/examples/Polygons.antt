@@ -13,21 +13,21 @@ use Rattle.overlay_contours.specs.Contours.{directed_edges, edges, winding_numbe
 use Rattle.overlay_contours.specs.ContourSegments.{contour_segments}
 use Rattle.overlay_contours.specs.Polygons.{is_in_overlay, run_of}
 
-abbrev point : ℕ → ℕ → Point
+abbrev pub point : ℕ → ℕ → Point
 point x y = record { x = pos x; y = pos y }
 
 abbrev pair : ℕ → ℕ → ℕ → ℕ → Pair
 pair x y u v = record { a = point x y; b = point u v }
 
 -- a whole point, and the middle of a unit square
-abbrev at_point : ℕ → ℕ → RationalPoint
+abbrev pub at_point : ℕ → ℕ → RationalPoint
 at_point x y = record { x = pos x; y = pos y; bottom = 1 }
 
 abbrev half : ℕ → ℕ → RationalPoint
 half x y = record { x = pos x; y = pos y; bottom = 2 }
 
 -- a square from (m, m) to (n, n), counterclockwise
-abbrev square : ℕ → ℕ → List Point
+abbrev pub square : ℕ → ℕ → List Point
 square m n = point m m ∷ point n m ∷ point n n ∷ point m n ∷ []
 
 -- the same square, clockwise

@@ -102,7 +102,7 @@ steps_are_edges : (points : List Point) → steps_of points ≡ edges_of_walk po
 steps_are_edges [] = refl
 steps_are_edges (p ∷ points) = steps_zipped p p points
 
-all_pass : {X : Type 0} (p : X → Bool) (xs : List X) → list_all p xs ≡ true → filter p xs ≡ xs
+pub all_pass : {X : Type 0} (p : X → Bool) (xs : List X) → list_all p xs ≡ true → filter p xs ≡ xs
 all_pass p [] h = refl
 all_pass p (x ∷ xs) h =
     let parts = and_parts (p x) (list_all p xs) h in

@@ -15,7 +15,7 @@ use Rattle.overlay_geometry.specs.Points.{Point, Pair, pair_eq, pair_cmp, is_ord
 use Rattle.overlay_geometry.specs.Sorting.{is_strictly_sorted}
 use Rattle.overlay_base.specs.Places.{RationalPoint, winding_below}
 use Rattle.overlay_base.specs.Segments.{WholeSegment, pairs, is_map, are_ordered}
-use Rattle.overlay_base.specs.Planar.{is_planar}
+use Rattle.overlay_base.specs.Planar.{is_planar, is_arranged}
 use Rattle.overlay_geometry.specs.Meeting.{are_apart}
 use Rattle.overlay_base.specs.Balance.{IsBalanced}
 use Rattle.overlay_base.specs.Rules.{holds, differ, keeps_fill, top_value}
@@ -53,11 +53,12 @@ use Rattle.overlay_build.specs.Values.{value_at}
 use Rattle.i_overlay.specs.FarRegions.{EnclosesOverlay}
 use Rattle.i_overlay.specs.Headline.{IsOverlay, IsRefused}
 use Rattle.overlay_contours.specs.Contours.{steps, is_edge, in_order, turned, directed_edges, edges, AreProper, winding_number, is_painted}
-use Rattle.overlay_contours.specs.ContourSegments.{step_segment, contour_segments, overlay_segments, overlay_winding}
+use Rattle.overlay_contours.specs.ContourSegments.{step_segment, contour_segments, overlay_segments, overlay_winding, are_in_range}
 use Rattle.overlay_contours.specs.Polygons.{settings_for, IsPolygonOverlay, IsFarFrom, is_in_overlay, run_of, RunsAlongBoundary}
 use Rattle.overlay_contours.specs.Refusals.{IsReason}
 use Rattle.overlay_contours.proofs.laws.Windings.{overlay_winds}
 use Rattle.overlay_contours.proofs.laws.Extracts.{ways_of}
+use Rattle.overlay_contours.proofs.laws.Ranges.{edges_in_range}
 use Rattle.overlay_geometry.proofs.laws.lists.Elements.{Contains-from_Has}
 
 -- ---- the pairs of the segments are the edges
@@ -274,6 +275,10 @@ module _ (settings : Settings) (rule : OverlayRule) (fill_rule : FillRule) (subj
   runs_here test =
       runs test
       ∙ ap (count_by test) (sym (runs_of_links (holds rule) graph) ∙ ap (map run_of) ((o.balanced balanced).boundary.sides ∙ ap (boundary (holds rule) fill_rule) (o.split.arrangement ∙ ap (λ (l : List WholeSegment). after_passes settings l passes) is_given)))
+
+  -- its points are in range where the arrangement is
+  pub answer_in_range : (least greatest : ℤ) → is_arranged least greatest segments ≡ true → are_in_range least greatest answer ≡ true
+  answer_in_range least greatest h = edges_in_range least greatest segments answer h edge_stands proper
 
   pub polygon_overlay : IsPolygonOverlay settings rule fill_rule subject clip answer
   polygon_overlay = record {

@@ -16,7 +16,7 @@ use Rattle.overlay_contours.specs.Refusals.{IsReason}
 use Rattle.overlay_base.specs.declared.segm.fault.Fault.{Fault}
 use Rattle.overlay_contours.proofs.laws.Extracts.{ways_of}
 use Rattle.overlay_contours.proofs.laws.GraphContours.{graph_pairs}
-use Rattle.overlay_contours.proofs.laws.Overlays.{links_flow, polygon_overlay, settings_are, reason, refused_as}
+use Rattle.overlay_contours.proofs.laws.Overlays.{links_flow, polygon_overlay, answer_in_range, settings_are, reason, refused_as}
 use Rattle.overlay_contours.proofs.overlay.Buffers.overlay.Goals as goal
 
 pub returns-in_err-graph-clause-refused : goal.returns-in_err-graph-clause-refused
@@ -60,3 +60,24 @@ returns-clause-polygons g c =
     c.in_ok-contours.ensures.painted c.in_ok-load_sides.ensures.balanced
     (λ test. c.in_ok-contours.ensures.directed test ∙ ap (λ (l : List Link). count_by test (ways_of (arcs (holds c.args.overlay_rule) l))) graph.holds.same_links)
     c.in_ok-contours.ensures.winds c.in_ok-contours.ensures.proper)
+
+pub returns-clause-in_range : goal.returns-clause-in_range
+returns-clause-in_range g c =
+    let I = g.I.OverlayInt in
+    let whole = I.whole in
+    let graph = c.in_ok-graph.graph in
+    let links = links_of graph in
+    let e = c.in_ok-graph.ensures in
+    let settings : Settings = settings_of I.BITS c.args.solver.now c.args.self.now.splitter in
+    let given : List WholeSegment = segments_of c.load_sides.new.sides.items in
+    let segments : List WholeSegment = segments_of c.split_and_build_overlay.new.segments.items in
+    let passes : ℕ = passes_of c.split_and_build_overlay.new.splitter in
+    let subject : List (List Point) = contours_of whole c.args.subject.now in
+    let clip : List (List Point) = contours_of whole c.args.clip.now in
+    let answer : List (List Point) = contours_of whole c.in_ok-contours.contours.items in
+    answer_in_range settings c.args.overlay_rule c.args.fill_rule subject clip answer given segments passes (graph_with whole links) c.in_ok-load_sides.ensures.segments e.overlay (e.region c.in_ok-load_sides.ensures.balanced)
+    (λ test. c.in_ok-contours.ensures.edges test ∙ sym (ap (count_by test) (graph_pairs whole links graph.holds.same_links)))
+    c.in_ok-contours.ensures.painted c.in_ok-load_sides.ensures.balanced
+    (λ test. c.in_ok-contours.ensures.directed test ∙ ap (λ (l : List Link). count_by test (ways_of (arcs (holds c.args.overlay_rule) l))) graph.holds.same_links)
+    c.in_ok-contours.ensures.winds c.in_ok-contours.ensures.proper
+    (whole I.MIN_COORD) (whole I.MAX_COORD) e.arranged
