@@ -20,6 +20,7 @@ pub fn look_through<I: OverlayInt>(
         ≡ indexes.old.items ++ found (query_of I.whole query.now) (entries (nodes_of I.whole nodes.now))) }
     ensures looked { OnOk result (looked.new ≡ min (looked.old + length nodes.now) (2 ^ 128 - 1)) }
 {
+    // read, so that the checker knows that the count fits its type
     let _looked = *looked;
     for place in 0..nodes.len() {
         look_at_one(&nodes[place], query, indexes, looked)?;

@@ -52,6 +52,7 @@ pub fn look_up<I: OverlayInt>(
     ensures dropped { IfOk result (λ dropped. dropped
         ≡ list_any (is_dropped (query_of I.whole query.now)) (entries (nodes_of I.whole nodes.old))) }
 {
+    // read, so that the checker knows that the count fits its type
     let _looked = *looked;
     if reaches(greatest_in(nodes), query.heights.min) {
         look_into(nodes, query, indexes, looked)
@@ -81,6 +82,7 @@ fn look_into<I: OverlayInt>(
     ensures dropped { IfOk result (λ dropped. dropped
         ≡ list_any (is_dropped (query_of I.whole query.now)) (entries (nodes_of I.whole nodes.old))) }
 {
+    // read, so that the checker knows that the count fits its type
     let _looked = *looked;
     let (left, rest) = nodes.split_at_mut(nodes.len() / 2);
     let Some((root, right)) = rest.split_first_mut() else {
@@ -134,6 +136,7 @@ fn look_at<I: OverlayInt>(
     ensures dropped { IfOk result (λ dropped. dropped ≡ is_dropped (query_of I.whole query.now)
         (entry_of I.whole node.old)) }
 {
+    // read, so that the checker knows that the count fits its type
     let _looked = *looked;
     if !is_met_from_below(node, query) {
         return Ok(false);

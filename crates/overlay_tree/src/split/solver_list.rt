@@ -46,6 +46,7 @@ pub fn find_marks<C: WindingCount, I: OverlayInt, D: Copy>(
         ≡ min (looked.old + count_twos x_ranges_meet (pairs (segments_of segments.now))) (2 ^ 128 - 1)) }
     ensures fault { IfErr result (λ fault. fault ≡ Memory) }
 {
+    // read, so that the checker knows that the count fits its type
     let _looked = *looked;
     marks.clear();
     let mut rounded = false;
@@ -80,6 +81,7 @@ fn mark_with_later<C: WindingCount, I: OverlayInt, D: Copy>(
         (let ps = pairs (segments_of segments.now) in
         min (looked.old + count_by (x_ranges_meet (pair_at ps index)) (drop (index + 1) ps)) (2 ^ 128 - 1))) }
 {
+    // read, so that the checker knows that the count fits its type
     let _looked = *looked;
     let target = segments[index].x_segment();
     let heights = target.y_range();

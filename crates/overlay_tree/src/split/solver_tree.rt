@@ -106,6 +106,7 @@ pub(crate) fn find_marks_up_to<C: WindingCount, I: OverlayInt, D: Copy>(
     ensures within { OnOk result (IfSome limit (λ most. looked.new ≤ most)) }
     ensures fault { IfErr result (λ fault. fault ≡ Memory) }
 {
+    // read, so that the checker knows that the count fits its type
     let _looked = *looked;
     let TreeBuffers { nodes, found } = buffers;
     nodes.clear();
@@ -194,6 +195,7 @@ fn take_into_tree<C: WindingCount, I: OverlayInt, D: Copy>(
     ensures found { OnOk result (AreFoundBefore (pairs (segments_of segments.now)) found.new.items index) }
     ensures looked { OnOk result (looked.new ≤ looked.old + length segments.now) }
 {
+    // read, so that the checker knows that the count fits its type
     let _looked = *looked;
     let later = segments[index].x_segment();
     let heights = later.y_range();
@@ -228,6 +230,7 @@ fn take_among_few<C: WindingCount, I: OverlayInt, D: Copy>(
     ensures found { OnOk result (AreFoundBefore (pairs (segments_of segments.now)) found.new.items index) }
     ensures looked { OnOk result (looked.new ≤ looked.old + length segments.now) }
 {
+    // read, so that the checker knows that the count fits its type
     let _looked = *looked;
     let later = segments[index].x_segment();
     let heights = later.y_range();
