@@ -12,4 +12,4 @@ mod overlay;
 #[cfg(test)]
 mod provenance;
 #[cfg(test)]
-mod readme;
+mod library;
