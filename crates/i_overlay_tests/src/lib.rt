@@ -8,8 +8,8 @@ mod clip;
 #[cfg(test)]
 mod contours;
 #[cfg(test)]
+mod library;
+#[cfg(test)]
 mod overlay;
 #[cfg(test)]
 mod provenance;
-#[cfg(test)]
-mod library;
