@@ -12,7 +12,8 @@ import os
 import subprocess
 import sys
 
-import run
+sys.dont_write_bytecode = True
+import run  # noqa: E402  (beside this file)
 
 NAME = "overlay_c"
 
