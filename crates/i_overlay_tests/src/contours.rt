@@ -300,3 +300,125 @@ fn one_overlay_answers_twice(rt: HostRuntime) -> Result<(), Fail> {
     assert!(rt; union && difference);
     Ok(())
 }
+
+/// Gives an overlay contours of the subject, and one of the clip, in place of those that it had.
+fn load(
+    alloc: Global,
+    overlay: &mut Overlay<i32>,
+    subject: &[IntContour<i32>],
+    clip: Corners,
+) -> Result<(), ContourFault> {
+    overlay.clear();
+    for contour in subject {
+        overlay.add_contour(contour, ShapeType::Subject)?;
+    }
+    for contour in &contours_from(alloc, &[clip])? {
+        overlay.add_contour(contour, ShapeType::Clip)?;
+    }
+    Ok(())
+}
+
+/// The answer for contours of the subject and one of the clip.
+fn step(
+    alloc: Global,
+    overlay: &mut Overlay<i32>,
+    subject: &[IntContour<i32>],
+    clip: Corners,
+    rule: OverlayRule,
+) -> Result<Vec<IntContour<i32>>, ContourFault> {
+    load(alloc, overlay, subject, clip)?;
+    Ok(overlay.overlay(&Solver::AUTO, FillRule::NonZero, rule)?)
+}
+
+/// The squares from (0, 0) to (4, 4) and from (2, 2) to (6, 6).
+const BOTH: Corners = &[
+    (0, 4),
+    (0, 0),
+    (4, 0),
+    (4, 2),
+    (6, 2),
+    (6, 6),
+    (2, 6),
+    (2, 4),
+];
+
+/// The same less the square from (3, 3) to (7, 7).
+const LESS: Corners = &[
+    (0, 4),
+    (0, 0),
+    (4, 0),
+    (4, 2),
+    (6, 2),
+    (6, 3),
+    (3, 3),
+    (3, 6),
+    (2, 6),
+    (2, 4),
+];
+
+/// What that shares with the square from (1, 1) to (5, 5).
+const SHARED: Corners = &[
+    (1, 4),
+    (1, 1),
+    (4, 1),
+    (4, 2),
+    (5, 2),
+    (5, 3),
+    (3, 3),
+    (3, 5),
+    (2, 5),
+    (2, 4),
+];
+
+#[test]
+fn three_overlays_one_after_another(rt: HostRuntime) -> Result<(), Fail> {
+    let alloc = rt.alloc();
+    let steps: [(Corners, OverlayRule, Corners); 3] = [
+        (OTHER_SQUARE, OverlayRule::Union, BOTH),
+        (
+            &[(3, 3), (7, 3), (7, 7), (3, 7)],
+            OverlayRule::Difference,
+            LESS,
+        ),
+        (
+            &[(1, 1), (5, 1), (5, 5), (1, 5)],
+            OverlayRule::Intersect,
+            SHARED,
+        ),
+    ];
+    let mut overlay = Overlay::new(alloc);
+    let mut subject = contours_from(alloc, &[SQUARE])?;
+    for (clip, rule, wanted) in steps {
+        subject = step(alloc, &mut overlay, &subject, clip, rule)?;
+        let wanted = rows(alloc, &contours_from(alloc, &[wanted])?)?;
+        assert_eq!(rt; rows(alloc, &subject)?, wanted);
+    }
+    Ok(())
+}
+
+#[test]
+fn collinear_points_are_left_out(rt: HostRuntime) -> Result<(), Fail> {
+    let alloc = rt.alloc();
+    let mut overlay = Overlay::new(alloc);
+    let square = contours_from(alloc, &[SQUARE])?;
+    load(
+        alloc,
+        &mut overlay,
+        &square,
+        &[(4, 0), (8, 0), (8, 4), (4, 4)],
+    )?;
+    let (solver, fill_rule) = (Solver::AUTO, FillRule::NonZero);
+    let all = overlay.overlay(&solver, fill_rule, OverlayRule::Union)?;
+    let corners = overlay.overlay_without_collinear(&solver, fill_rule, OverlayRule::Union)?;
+    let edge: Corners = &[(0, 4), (0, 0), (4, 0), (8, 0), (8, 4), (4, 4)];
+    let box_of_both: Corners = &[(0, 4), (0, 0), (8, 0), (8, 4)];
+    assert_eq!(rt;
+        rows(alloc, &all)?,
+        rows(alloc, &contours_from(alloc, &[edge])?)?
+    );
+    assert_eq!(rt;
+        rows(alloc, &corners)?,
+        rows(alloc, &contours_from(alloc, &[box_of_both])?)?
+    );
+    Ok(())
+}

@@ -43,7 +43,8 @@ use std::alloc::Global;
 ///
 /// Any contours will do: they may cross and touch themselves and one another, run either way, repeat points, and have
 /// no or few points. Equal neighboring points make no edge, and the answer has none. Collinear points of the answer are
-/// left in. Each contour of the answer has points, and may come to a point twice.
+/// left in; `Overlay::overlay_without_collinear` leaves them out. Each contour of the answer has points, and may come to
+/// a point twice. All of its points are in range, so it may be given again.
 ///
 /// Answers `ContourFault::OutOfRange` where a point is out of the engine's range, and names the first one; else
 /// `Fault::CountOutOfRange` only where counts leave `-i32::MAX..=i32::MAX`, and `Fault::Memory` where a growth is

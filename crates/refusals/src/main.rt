@@ -20,7 +20,7 @@ use crate::graphs::{Boundary, Build, Filter, Kind, Loops, Walks};
 use crate::inserts::Insert;
 use crate::lists::{Balance, Join, Sort, Split};
 use crate::sweeps::Sweep;
-use crate::wholes::{Contours, LineClip, Overlay};
+use crate::wholes::{Contours, KeptContours, LineClip, Overlay};
 use i_overlay::build::scan_list::ScanList;
 use i_overlay::build::scan_tree::ScanTree;
 use i_overlay::overlay_core::solver::Solver;
@@ -103,7 +103,16 @@ fn tell_graphs<W: Write, E: Write>(
     let (mut walks, mut boundary) = (Walks::new(alloc), Boundary::new(alloc));
     tell("walks", "", &mut walks, alloc, output, digests)?;
     tell("boundary", "", &mut boundary, alloc, output, digests)?;
-    tell("contours", "", &mut Contours {}, alloc, output, digests)
+    tell("contours", "", &mut Contours {}, alloc, output, digests)?;
+    let mut kept = KeptContours::new(alloc);
+    tell(
+        "contours",
+        " that are kept",
+        &mut kept,
+        alloc,
+        output,
+        digests,
+    )
 }
 
 /// Makes the calls under a strategy, but for builds.

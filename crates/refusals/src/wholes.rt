@@ -11,10 +11,12 @@ use i_overlay::overlay_core::solver::Solver;
 use i_overlay::segm::arranged::{is_arranged, is_splittable};
 use i_overlay::segm::boolean::ShapeCountBoolean;
 use i_overlay::segm::segment::Segment;
+use i_overlay::segm::shape_type::ShapeType;
 use i_overlay::segm::string::ShapeCountString;
 use i_overlay::split::solver::SplitSolver;
+use overlay_contours::contour::IntContour;
 use overlay_contours::fault::ContourFault;
-use overlay_contours::overlay::overlay_contours;
+use overlay_contours::overlay::{Overlay as ContourOverlay, overlay_contours};
 use std::alloc::Global;
 
 /// An overlay by one splitter and one builder. A refusal leaves the list empty, or the arrangement.
@@ -123,23 +125,90 @@ impl Case for Contours {
             FillRule::NonZero,
             OverlayRule::Intersect,
         ) {
-            Ok(contours) => {
-                let (mut digest, mut points) = (0, 0_u128);
-                for contour in contours.iter() {
-                    for point in contour.iter() {
-                        digest = mixed_point(digest, *point);
-                        points = points.saturating_add(1);
-                    }
-                }
-                Ok(Summary {
-                    count: contours.len(),
-                    others: points,
-                    digest,
-                })
-            }
-            Err(ContourFault::Refused(fault)) => Err(refused(fault, true)),
-            Err(ContourFault::OutOfRange { .. }) => Err(Stop::Wrong("a point is out of range")),
+            Ok(contours) => Ok(summary_of_contours(&contours)),
+            Err(fault) => Err(contour_stop(fault)),
         }
+    }
+}
+
+/// What two contours share, without collinear points, by one overlay that keeps them. After a refusal it is used again as
+/// it is: only what was not added is added. By even-odd a contour that stood twice would be missed.
+#[derive(Drop)]
+pub struct KeptContours {
+    overlay: ContourOverlay<i32>,
+    has_subject: bool,
+    has_clip: bool,
+}
+
+impl KeptContours {
+    /// An overlay of no contours.
+    pub fn new(alloc: Global) -> KeptContours {
+        KeptContours {
+            overlay: ContourOverlay::new(alloc),
+            has_subject: false,
+            has_clip: false,
+        }
+    }
+
+    /// Adds the contours that were not added yet.
+    fn add_missing(&mut self, alloc: Global) -> Result<(), Stop> {
+        if !self.has_subject {
+            add_square(&mut self.overlay, 0, ShapeType::Subject, alloc)?;
+            self.has_subject = true;
+        }
+        if !self.has_clip {
+            add_square(&mut self.overlay, 2, ShapeType::Clip, alloc)?;
+            self.has_clip = true;
+        }
+        Ok(())
+    }
+}
+
+impl Case for KeptContours {
+    fn try_once(&mut self, alloc: Global) -> Result<Summary, Stop> {
+        self.add_missing(alloc)?;
+        let contours = self
+            .overlay
+            .overlay_without_collinear(&Solver::AUTO, FillRule::EvenOdd, OverlayRule::Intersect)?;
+        Ok(summary_of_contours(&contours))
+    }
+}
+
+/// Adds a square to an overlay.
+fn add_square(
+    overlay: &mut ContourOverlay<i32>,
+    corner: i32,
+    shape: ShapeType,
+    alloc: Global,
+) -> Result<(), Stop> {
+    let contour = square(corner, alloc)?;
+    match overlay.add_contour(&contour, shape) {
+        Ok(()) => Ok(()),
+        Err(fault) => Err(contour_stop(fault)),
+    }
+}
+
+/// How many contours and points there are, and a digest of the points.
+fn summary_of_contours(contours: &[IntContour<i32>]) -> Summary {
+    let (mut digest, mut points) = (0, 0_u128);
+    for contour in contours {
+        for point in contour.iter() {
+            digest = mixed_point(digest, *point);
+            points = points.saturating_add(1);
+        }
+    }
+    Summary {
+        count: contours.len(),
+        others: points,
+        digest,
+    }
+}
+
+/// Why a call over contours has no answer.
+fn contour_stop(fault: ContourFault) -> Stop {
+    match fault {
+        ContourFault::Refused(fault) => refused(fault, true),
+        ContourFault::OutOfRange { .. } => Stop::Wrong("a point is out of range"),
     }
 }
 
