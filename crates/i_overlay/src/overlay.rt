@@ -47,14 +47,14 @@ use overlay_split::split::solver::SplitSolver;
 /// encloses (oddly many links run below) exactly the places of which the rule says something else than of those
 /// outside, so for a rule with a name those of which it holds, by how the arrangement winds there. At every place that
 /// is farther from the given segments than the passes move crossings, that is how the given segments wind. The links,
-/// each in the direction that has the region on its left (from `a` to `b` where the rule holds of the top of its fill, as
-/// `is_fill_top` tells, and else back), are the region's boundary: at every point as many start as end, and round every
-/// place they wind once where the rule holds and not at all elsewhere, less what it says of those outside. The data of
-/// the list goes through the splits and merges of a store of its own, which begins as the store's default and is
-/// dropped; each link has the data of its segment. What the hooks keep of data, and what holds of all given data, holds
-/// of each link's (`kept_data`). Where data names given segments, as their numbers do, and the hooks name no others, each
-/// link lies as near to every one that its data names as the passes move crossings, and on exact input on it
-/// (`named_data`). The solver's strategy does not change the answer, but what the split costs: afterwards
+/// each in the direction that has the region on its left (from `a` to `b` where the rule holds of the top of its fill,
+/// as `is_fill_top` tells, and else back), are the region's boundary: at every point as many start as end, and round
+/// every place they wind once where the rule holds and not at all elsewhere, less what it says of those outside. The
+/// data of the list goes through the splits and merges of a store of its own, which begins as the store's default and
+/// is dropped; each link has the data of its segment. What the hooks keep of data, and what holds of all given data,
+/// holds of each link's (`kept_data`). Where data names given segments, as their numbers do, and the hooks name no
+/// others, each link lies as near to every one that its data names as the passes move crossings (`named_data`). On
+/// exact input it lies on it. The solver's strategy does not change the answer, but what the split costs: afterwards
 /// `looked` of the splitter is bounded by the strategy as after `split_segments`.
 ///
 /// Whether the counts balance, `is_balanced` tells.

@@ -103,7 +103,7 @@ pub fn place_laws()
 /// Whatever the hooks do, passes with data are, without their data, the passes without. Where nothing is marked, data
 /// and store stay as they are. What the hooks keep of data holds of all data after a run, where it holds of all given.
 /// Where data names pairs and the hooks name no others, each segment after a run lies as near to every pair that its data
-/// names as the passes reach: on it for exact input, where nothing is moved.
+/// names as the passes reach. For exact input, where nothing is moved, it lies on it.
 pub fn data_pass_laws<D, S>()
     ensures beside { DataIsBeside D S }
     ensures unmarked { UnmarkedDataIsUnchanged D S }
