@@ -40,6 +40,7 @@ pub(crate) fn put(handle: &mut Handle, engine: Box<Engine>)
     *handle = of_loose(Loose::of(engine));
 }
 
+/// A handle of no engine.
 fn empty(alloc: Global) -> Handle
     ensures { result.engine ≡ None }
 {
@@ -49,6 +50,7 @@ fn empty(alloc: Global) -> Handle
     }
 }
 
+/// The handle of an engine whose box was taken apart.
 fn of_loose(loose: Loose<Engine, Global>) -> Handle
     ensures { result.engine ≡ Some loose.value }
 {
@@ -59,6 +61,7 @@ fn of_loose(loose: Loose<Engine, Global>) -> Handle
     }
 }
 
+/// The engine of a handle that has one, as a box that was taken apart.
 fn full_loose(handle: Handle) -> Loose<Engine, Global>
     requires { IsSome handle.engine }
     ensures { handle.engine ≡ Some result.value }

@@ -61,6 +61,7 @@ pub(crate) fn find_point_out_of_range<I: OverlayInt>(points: &[IntPoint<I>]) -> 
     None
 }
 
+/// Whether both coordinates of a point are in range.
 fn is_in_range<I: OverlayInt>(point: IntPoint<I>) -> bool
     ensures { result ≡ is_point_in_range (I.whole I.MIN_COORD) (I.whole I.MAX_COORD) (point_of I.whole point) }
 {
@@ -121,6 +122,7 @@ pub(crate) fn load_sides<I: OverlayInt>(
     Ok(())
 }
 
+/// Appends the segments of contours of one shape.
 fn push_contours<I: OverlayInt>(
     sides: &mut Vec<Side<I>>,
     contours: &[IntContour<I>],

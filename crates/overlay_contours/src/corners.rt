@@ -54,6 +54,7 @@ pub fn corners_of_contours<I: OverlayInt>(
     Ok(answer)
 }
 
+/// The corners of one contour.
 fn corners_of_contour<I: OverlayInt>(
     alloc: Global,
     contour: &[IntPoint<I>],

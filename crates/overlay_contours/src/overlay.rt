@@ -107,6 +107,7 @@ struct Buffers<I: OverlayInt> {
 }
 
 impl<I: OverlayInt> Buffers<I> {
+    /// Buffers that take no memory yet.
     fn new(alloc: Global) -> Buffers<I> {
         Buffers {
             alloc,

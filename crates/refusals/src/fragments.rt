@@ -30,6 +30,7 @@ impl Case for Fragments {
     }
 }
 
+/// How many fragments there are, and a number made of all of them.
 fn summary_of(buffer: &FragmentBuffer<i32>) -> Summary {
     let (mut count, mut digest): (u128, i64) = (0, 0);
     for group in buffer.groups() {

@@ -48,6 +48,7 @@ static KINDS: [(&str, Kind); 4] = [
     ("build clip", Kind::Clip),
 ];
 
+/// Makes every call, and succeeds where each line could be written.
 fn main(rt: HostRuntime) -> ExitCode {
     match tell_all(rt.alloc(), &mut rt.stdout(), &mut rt.stderr()) {
         Ok(()) => ExitCode::SUCCESS,
