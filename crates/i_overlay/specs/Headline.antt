@@ -17,7 +17,7 @@ use Rattle.overlay_base.specs.declared.segm.fault.Fault.TheVariants.{CountOutOfR
 use Rattle.overlay_split.specs.Run.{Settings, IsPassCount, LeavesRange, after_passes}
 use Rattle.overlay_split.specs.DataPass.{data_after_passes}
 use Rattle.overlay_split.specs.ExactInput.{is_exact_input, KeepsCounts}
-use Rattle.overlay_split.specs.Nearness.{LiesNear, StaysNear}
+use Rattle.overlay_split.specs.Nearness.{LiesNear, StaysNear, LinesStayNear}
 use Rattle.overlay_split.specs.Places.{KeepsWinding, KeepsWindingNearLines}
 use Rattle.overlay_split.specs.Potential.{potential}
 use Rattle.overlay_sweep.specs.ChainWindings.{tops_leave_range}
@@ -75,6 +75,8 @@ pub record IsClip (settings : Settings) (fill_rule : FillRule) (rule : ClipRule)
   -- At each place that is farther than the passes reach from those of the given segments that wind, the polygons, the
   -- segments wind as these do, however near lines are to it.
   pub near_lines : KeepsWindingNearLines settings given segments passes
+  -- Every segment with a mask, as every kept part, lies near a given line, and every point of a given line lies near one.
+  pub lines_near : LinesStayNear settings given segments passes
   -- Where the given counts balance, so the rule keeps a part of a line by how these wind at two such places directly beside
   -- it, one on each side.
   pub by_given : IsBalanced given → KeepsByGiven settings rule fill_rule given segments passes

@@ -36,7 +36,8 @@ use overlay_split::split::solver::SplitSolver;
 /// columns beside them. At every place that is farther from the given segments of polygons than the passes move
 /// crossings, however near lines are to it, the arrangement winds as the given segments do (`near_lines`). So, where
 /// the counts balance, at two such places directly beside a segment, one on each side, the rule keeps it by how the
-/// given polygons wind there (`by_given`). Where all crossings of the given segments are at whole points, the
+/// given polygons wind there (`by_given`). Every kept part lies as near to a given line, and every point of a given line
+/// to a segment with a mask (`lines_near`). Where all crossings of the given segments are at whole points, the
 /// arrangement counts along each part of a given segment what the given segments count there, masks included, and lies
 /// on them. The solver's strategy does not change the answer, but what the split costs: afterwards `looked` of the
 /// splitter is bounded by the strategy as after `split_segments`.

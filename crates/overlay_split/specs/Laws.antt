@@ -1,5 +1,5 @@
 -- Laws over the definitions, each a statement that is proved once and named by a contract.
-use Rattle.std.specs.Prelude.{◌≡◌, ◌<◌, ◌≤◌, ℕ, ◌*◌, ℤ, ◌-ℤ◌, ◌*ℤ◌, ◌||◌, IsTrue, ◌+◌, ◌-◌, neg_ℤ, Bool, false, IsFalse, List, All, Contains, IsPermutation, length, min, ◌^◌, ◌/◌}
+use Rattle.std.specs.Prelude.{◌≡◌, ◌<◌, ◌≤◌, ℕ, ◌*◌, ℤ, ◌-ℤ◌, ◌*ℤ◌, ◌||◌, IsTrue, ◌+◌, ◌-◌, neg_ℤ, Bool, false, IsFalse, List, All, Contains, IsPermutation, length, min, nat_lt, ◌^◌, ◌/◌}
 use Rattle.std.specs.List.{list_all}
 use Rattle.overlay_geometry.specs.Points.{Point, Pair, is_vertical, is_horizontal, is_within_box_of}
 use Rattle.overlay_geometry.specs.Meeting.{do_cross}
@@ -20,7 +20,7 @@ use Rattle.overlay_split.specs.Potential.{potential}
 use Rattle.overlay_split.specs.ExactInput.{is_exact_input, KeepsCounts, IsExactAnswer}
 use Rattle.overlay_base.specs.Places.{RationalPoint, spans, lies_below, winding_below}
 use Rattle.overlay_base.specs.Rays.{is_on_none, winding_above, winding_left, winding_right}
-use Rattle.overlay_split.specs.Nearness.{Fraction, whole_point, point_along, exact_crossing, IsWithin, IsNear, LiesNear, LieNear, IsNearSome, StaysNear, are_lines, root, reach, reach_of_pass, reach_of_run, reach_of_passes}
+use Rattle.overlay_split.specs.Nearness.{Fraction, whole_point, point_along, exact_crossing, IsWithin, IsNear, LiesNear, LieNear, IsNearSome, StaysNear, LinesStayNear, are_lines, root, reach, reach_of_pass, reach_of_run, reach_of_passes}
 use Rattle.overlay_split.specs.Places.{IsFar, KeepsWinding, KeepsWindingNearLines}
 use Rattle.overlay_split.specs.DataPass.{data_pass, data_after_passes, IsStoppedRun}
 
@@ -204,6 +204,11 @@ abbrev pub LinesAreKept : Type 0
 LinesAreKept =
     (settings : Settings) (given : List WholeSegment) (k : ℕ) (s : Pair) → IsTrue (are_ordered given) → IsTrue (are_lines given) → Contains (pairs given) s → (f : Fraction) →
     IsNearSome (reach_of_run settings given k) (point_along s f) (pairs (after_passes settings given k))
+
+-- nor beside polygons, where masks are of two bits
+abbrev pub RunKeepsLines : Type 0
+RunKeepsLines =
+    (settings : Settings) (given : List WholeSegment) (k : ℕ) → IsTrue (are_ordered given) → IsTrue (list_all (λ s. nat_lt s.count.mask 4) given) → LinesStayNear settings given (after_passes settings given k) k
 
 -- how near, by the settings and the number of passes alone
 abbrev pub ReachIsBounded : Type 0

@@ -1,9 +1,9 @@
 -- How far a split moves segments. Distances are those in x and in y, whichever is more, and are counted in halves.
-use Rattle.std.specs.Prelude.{◌⊎◌, ◌<◌, ◌≤◌, IsFalse, Bool, ◌&&◌, nat_lt, ℕ, zero, suc, ◌+◌, ◌*◌, pos, ◌+ℤ◌, ◌-ℤ◌, ◌*ℤ◌, unsigned_abs, nat_le, if◌then◌else◌, List, All, Contains}
+use Rattle.std.specs.Prelude.{◌⊎◌, ◌<◌, ◌≤◌, ◌==◌, IsFalse, Bool, not, filter, ◌&&◌, nat_lt, ℕ, zero, suc, ◌+◌, ◌*◌, pos, ◌+ℤ◌, ◌-ℤ◌, ◌*ℤ◌, unsigned_abs, nat_le, if◌then◌else◌, List, All, Contains}
 use Rattle.std.specs.List.{list_all}
 use Rattle.overlay_geometry.specs.Points.{Point, Pair}
 use Rattle.overlay_base.specs.Places.{RationalPoint}
-use Rattle.overlay_base.specs.Windings.{is_not_empty}
+use Rattle.overlay_base.specs.Windings.{Winding, is_not_empty}
 use Rattle.overlay_base.specs.Segments.{WholeSegment, pairs, winding_at}
 use Rattle.overlay_intersections.specs.Crossing.{offset_x, offset_y}
 use Rattle.overlay_intersections.specs.Marks.{Placing, snapping, settling}
@@ -110,3 +110,16 @@ IsNearCancelled settings given passes p = (k : ℕ) × (k ≤ passes) × (r : Pa
 pub record StaysNear (settings : Settings) (given result : List WholeSegment) (passes : ℕ) : Type 0 where
   pub result_is_near : LieNear (reach_of_run settings given passes) (pairs given) (pairs result)
   pub given_is_near : (s : Pair) → Contains (pairs given) s → (f : Fraction) → IsNearSome (reach_of_run settings given passes) (point_along s f) (pairs result) ⊎ IsNearCancelled settings given passes (point_along s f)
+
+-- whether a count has a mask, as that of a line does
+abbrev pub has_mask : Winding → Bool
+has_mask c = not (c.mask == 0)
+
+-- the segments of a list with a mask
+abbrev pub with_mask : List WholeSegment → List WholeSegment
+with_mask segments = filter (λ s. has_mask s.count) segments
+
+-- Lines stay: every segment of the result with a mask lies near a given one with a mask, and every point of such a given one lies near such a one of the result.
+pub record LinesStayNear (settings : Settings) (given result : List WholeSegment) (passes : ℕ) : Type 0 where
+  pub result_is_near : LieNear (reach_of_run settings given passes) (pairs (with_mask given)) (pairs (with_mask result))
+  pub given_is_near : (s : Pair) → Contains (pairs (with_mask given)) s → (f : Fraction) → IsNearSome (reach_of_run settings given passes) (point_along s f) (pairs (with_mask result))

@@ -1,13 +1,14 @@
 -- A split and a build, joined to an overlay.
 use Rattle.std.proofs.Common.{◌≡◌, refl, sym, ap, ap₂, ◌∙◌, subst, ◌⊎◌, inr, ℕ, ◌+◌, ◌≤◌, Bool, true, ◌&&◌, IsTrue, List, [], map, filter}
-use Rattle.std.specs.Prelude.{ℤ, Result, IfErr}
+use Rattle.std.specs.Prelude.{ℤ, nat_lt, Result, IfErr}
 use Rattle.std.specs.List.{list_all}
 use Rattle.std.proofs.lemmas.List.Folds.{list_all-map}
 use Rattle.std.proofs.lemmas.Bool.{and_parts}
 use Rattle.std.proofs.lemmas.Result.{IfErr-weaker}
 use Rattle.overlay_geometry.specs.Points.{is_within_box_of}
+use Rattle.overlay_geometry.specs.Coordinates.{is_pair_in_range}
 use Rattle.overlay_geometry.specs.Sorting.{is_strictly_sorted}
-use Rattle.overlay_base.specs.Windings.{Winding, empty}
+use Rattle.overlay_base.specs.Windings.{Winding, empty, is_count_in_range, is_valid, is_not_empty}
 use Rattle.overlay_base.specs.Segments.{WholeSegment, pairs, ends, is_map, are_ordered}
 use Rattle.overlay_base.specs.Join.{join}
 use Rattle.overlay_base.specs.Planar.{is_arranged, is_splittable, is_planar}
@@ -20,15 +21,16 @@ use Rattle.overlay_base.specs.declared.segm.fault.Fault.{Fault}
 use Rattle.overlay_base.specs.declared.segm.fault.Fault.TheVariants.{CountOutOfRange}
 use Rattle.overlay_split.specs.Run.{Settings, IsRun, LeavesRange, after_passes}
 use Rattle.overlay_split.specs.ExactInput.{is_exact_input, KeepsCounts}
-use Rattle.overlay_split.specs.Nearness.{StaysNear}
+use Rattle.overlay_split.specs.Nearness.{StaysNear, LinesStayNear}
 use Rattle.overlay_split.specs.Places.{KeepsWinding, KeepsWindingNearLines}
 use Rattle.overlay_split.proofs.laws.nearness.NearLines.{run_keeps_winding_near_lines}
+use Rattle.overlay_split.proofs.laws.nearness.NearMasks.{run_keeps_lines}
 use Rattle.overlay_split.specs.Potential.{potential}
 use Rattle.overlay_sweep.specs.ChainWindings.{tops_leave_range}
 use Rattle.overlay_sweep.specs.Sweep.{fill_of, whole_of}
 use Rattle.overlay_build.specs.Graph.{Graph, graph_by, data_by}
 use Rattle.overlay_base.specs.EdgeData.{DataSegment, without_data}
-use Rattle.overlay_geometry.proofs.laws.lists.Lists.{list_all-filter}
+use Rattle.overlay_geometry.proofs.laws.lists.Lists.{list_all-filter, list_all-at, list_all-from_Has}
 use Rattle.overlay_build.specs.Values.{tells_apart}
 use Rattle.overlay_build.specs.Boundary.{of_subject, times_round}
 use Rattle.overlay_build.specs.Sides.{IsBalancedOverlay}
@@ -75,16 +77,25 @@ overlay_from settings fill_rule rule given segments passes graph split links bal
       far_boundary = λ balance p some far. (sides balance).boundary.winds p some ∙ ap (λ (w : Winding). of_subject (times_round rule fill_rule w)) (split.winding p far);
     }
 
+-- the masks of what may be split have two bits
+pub small_masks : (least greatest : ℤ) (given : List WholeSegment) → IsTrue (is_splittable least greatest given) → IsTrue (list_all (λ s. nat_lt s.count.mask 4) given)
+unfolding is_splittable
+small_masks least greatest given h =
+    list_all-from_Has (λ s. nat_lt s.count.mask 4) given (λ s i.
+    let here = list_all-at (λ s. is_pair_in_range least greatest s.pair && is_valid s.count && is_not_empty s.count) given s h i in
+    (and_parts (is_count_in_range s.count) (nat_lt s.count.mask 4) (and_parts _ _ (and_parts _ _ here).0).1).1)
+
 -- the same of lines
-pub clip_from : (settings : Settings) (fill_rule : FillRule) (rule : ClipRule) (given segments : List WholeSegment) (passes : ℕ) (graph : Graph) → IsTrue (are_ordered given) → IsSplit settings given segments passes → graph ≡ graph_by (keeps_clip rule) fill_rule segments
+pub clip_from : (settings : Settings) (fill_rule : FillRule) (rule : ClipRule) (given segments : List WholeSegment) (passes : ℕ) (graph : Graph) → IsTrue (are_ordered given) → IsTrue (list_all (λ s. nat_lt s.count.mask 4) given) → IsSplit settings given segments passes → graph ≡ graph_by (keeps_clip rule) fill_rule segments
     → (IsBalanced segments → IsBalancedClip rule fill_rule segments (graph_by (keeps_clip rule) fill_rule segments)) → IsClip settings fill_rule rule given segments passes graph
-clip_from settings fill_rule rule given segments passes graph ordered split links balanced =
+clip_from settings fill_rule rule given segments passes graph ordered small split links balanced =
     let near = subst (λ (l : List WholeSegment). KeepsWindingNearLines settings given l passes) (sym split.arrangement) (run_keeps_winding_near_lines settings given passes ordered) in
     record {
       split = split;
       links = links;
       balanced = λ balance. subst (IsBalancedClip rule fill_rule segments) (sym links) (balanced (λ p. split.kept p ∙ balance p));
       near_lines = near;
+      lines_near = subst (λ (l : List WholeSegment). LinesStayNear settings given l passes) (sym split.arrangement) (run_keeps_lines settings given passes ordered small);
       by_given = λ balance. keeps_by_given settings rule fill_rule given segments passes split.planar (λ p. split.kept p ∙ balance p) near;
       lines = λ exact. lines_kept given segments (split.exact_input exact);
     }

@@ -7,9 +7,10 @@ use Rattle.overlay_base.specs.Segments.{WholeSegment, pairs}
 use Rattle.overlay_geometry.proofs.laws.lists.Lists.{Has}
 use Rattle.overlay_split.specs.Run.{after_passes}
 use Rattle.overlay_base.specs.Places.{RationalPoint, lies_below, winding_below}
-use Rattle.overlay_split.specs.Nearness.{IsNear, reach_of_run}
+use Rattle.overlay_split.specs.Nearness.{IsNear, reach_of_run, with_mask, LinesStayNear}
 use Rattle.overlay_split.specs.Places.{IsFar, that_wind}
 use Rattle.overlay_split.proofs.laws.nearness.NearLines.{run_keeps_winding_near_lines}
+use Rattle.overlay_split.proofs.laws.nearness.NearMasks.{run_keeps_lines}
 use Rattle.overlay_split.proofs.laws.nearness.Places.{run_keeps_winding}
 use Rattle.overlay_base.proofs.examples.Words.{neg, pair, seg, line, count}
 use Rattle.overlay_split.proofs.examples.Computing.{computing}
@@ -100,3 +101,11 @@ winds_past_line = run_keeps_winding_near_lines (high 256) wall_and_line 2 refl (
 winds_of_wall : winding_below wall_and_line (place (neg 6) (pos 13) 2) ≡ count (pos 1) (pos 0)
 unfolding computing
 winds_of_wall = refl
+
+-- The line lies after the passes near where it lay, and every point of it near where it lies then.
+line_stays : LinesStayNear (high 256) wall_and_line (after_passes (high 256) wall_and_line 2) 2
+line_stays = run_keeps_lines (high 256) wall_and_line 2 refl refl
+
+bent_lines : pairs (with_mask (after_passes (high 256) wall_and_line 2)) ≡ (pair (neg 10) (pos 13) (pos 2) (pos 2) ∷ pair (pos 2) (pos 2) (pos 10) (neg 7) ∷ [])
+unfolding computing
+bent_lines = refl

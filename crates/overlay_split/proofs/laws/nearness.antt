@@ -7,5 +7,7 @@ pub mod LineCounts
 pub mod OneSide
 pub mod Places
 pub mod FarRays
+pub mod NearKinds
 pub mod NearLines
+pub mod NearMasks
 pub mod NamedData

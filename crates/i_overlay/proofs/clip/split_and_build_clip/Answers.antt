@@ -12,7 +12,7 @@ use Rattle.overlay_build.specs.NodeIndexes.{items_of, is_any_node}
 use Rattle.overlay_build.specs.StringGraphOf.{nodes_of, links_of}
 use Rattle.i_overlay.specs.Headline.{IsSplit, IsClip}
 use Rattle.overlay_build.proofs.laws.graphs.BuiltGraphs.{graph_with_kept, hold_own_graph}
-use Rattle.i_overlay.proofs.laws.Overlays.{none_arranged, split_from, clip_from, refused_build}
+use Rattle.i_overlay.proofs.laws.Overlays.{none_arranged, split_from, small_masks, clip_from, refused_build}
 use Rattle.i_overlay.proofs.clip.split_and_build_clip.Goals as goal
 
 pub returns-in_err-split_segments-clause-arranged : goal.returns-in_err-split_segments-clause-arranged
@@ -31,7 +31,7 @@ returns-clause-clip g c =
     IfOk-weaker c.build_string_clip.result
     (λ built. HoldGraph items_of is_any_node whole (nodes_of built) (links_of built) (graph_by (keeps_clip c.args.clip_rule) c.args.fill_rule segments))
     (λ built. IsClip settings c.args.fill_rule c.args.clip_rule given segments passes (graph_with whole (links_of built)))
-    (λ built h. clip_from settings c.args.fill_rule c.args.clip_rule given segments passes _ (segments_ordered c.args.segments.now.items) split (graph_with_kept items_of is_any_node whole (nodes_of built) (links_of built) (keeps_clip c.args.clip_rule) c.args.fill_rule segments h) balanced)
+    (λ built h. clip_from settings c.args.fill_rule c.args.clip_rule given segments passes _ (segments_ordered c.args.segments.now.items) (small_masks _ _ given c.requires) split (graph_with_kept items_of is_any_node whole (nodes_of built) (links_of built) (keeps_clip c.args.clip_rule) c.args.fill_rule segments h) balanced)
     (rw c.deref.ensures.value at c.build_string_clip.ensures.graph)
 
 pub returns-clause-graph : goal.returns-clause-graph

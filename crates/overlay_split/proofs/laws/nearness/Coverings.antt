@@ -151,7 +151,7 @@ piece_covers h count p q s g f k first last low high =
     cond_both (point_lt p q) (record { pair = record { a = p; b = q }; count = count }) (record { pair = record { a = q; b = p }; count = inverse count }) (λ (r : WholeSegment). IsNear h (point_along s f) r.pair) (λ _. near) (λ _. IsNear-turned h (point_along s f) p q near)
 
 -- some segment of the list is that near
-abbrev HasNear : ℕ → RationalPoint → List WholeSegment → Type 0
+abbrev pub HasNear : ℕ → RationalPoint → List WholeSegment → Type 0
 HasNear h c list = (r : WholeSegment) × Has list r × IsNear h c r.pair
 
 HasNear-later : (h : ℕ) (c : RationalPoint) (r : WholeSegment) (list : List WholeSegment) → HasNear h c list → HasNear h c (r ∷ list)
@@ -174,7 +174,7 @@ unfolding last_point no_way
 path_covers h count s f [] differ near e = absurd (differ e)
 path_covers h count s f (q ∷ points) differ near e = steps_cover h count s f s.a q points no_way (IsWithin-start h s) (omega arith) near e
 
-pieces_cover : (h : ℕ) (s : WholeSegment) (marks : List Point) → Differ s.pair.a s.pair.b → AreNear h marks s.pair → (f : Fraction) → HasNear h (point_along s.pair f) (pieces s marks)
+pub pieces_cover : (h : ℕ) (s : WholeSegment) (marks : List Point) → Differ s.pair.a s.pair.b → AreNear h marks s.pair → (f : Fraction) → HasNear h (point_along s.pair f) (pieces s marks)
 unfolding pieces path
 pieces_cover h s marks differ near f =
     path_covers h s.count s.pair f (path_from s.pair.a (columns_of marks) s.pair.b) differ
@@ -183,7 +183,7 @@ pieces_cover h s marks differ near f =
 
 -- ---- a pass
 
-Has-cut : (placing : Placing) (segments : List WholeSegment) (s r : WholeSegment) → Has segments s → Has (pieces_of placing segments s) r → Has (cut placing segments) r
+pub Has-cut : (placing : Placing) (segments : List WholeSegment) (s r : WholeSegment) → Has segments s → Has (pieces_of placing segments s) r → Has (cut placing segments) r
 unfolding cut
 Has-cut placing segments s r i j =
     let whole = λ (u : WholeSegment). pieces_of placing segments u in

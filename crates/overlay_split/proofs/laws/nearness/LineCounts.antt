@@ -22,10 +22,10 @@ use Rattle.overlay_split.proofs.laws.nearness.Coverings.{run_keeps_near}
 use Rattle.overlay_geometry.proofs.laws.lists.Elements.{Has-from_Contains}
 
 -- a mask of two bits that is not 0
-abbrev IsLine : Winding → Type 0
+abbrev pub IsLine : Winding → Type 0
 IsLine c = (0 < c.mask) × (c.mask < 4)
 
-IsLine-inverse : (c : Winding) → IsLine c → IsLine (inverse c)
+pub IsLine-inverse : (c : Winding) → IsLine c → IsLine (inverse c)
 IsLine-inverse c h = turned c.mask h.0 h.1
   where
     turned : (m : ℕ) → 0 < m → m < 4 → (0 < swap_directions m) × (swap_directions m < 4)
@@ -34,7 +34,7 @@ IsLine-inverse c h = turned c.mask h.0 h.1
 IsLine-add : (c d : Winding) → IsLine c → IsLine d → IsLine (add c d)
 IsLine-add c d p q = let more = le_or_l c.mask d.mask in (omega (arith, p.0, more), or_lt 2 c.mask d.mask p.1 q.1)
 
-is_not_empty-mask : (c : Winding) → 0 < c.mask → is_not_empty c ≡ true
+pub is_not_empty-mask : (c : Winding) → 0 < c.mask → is_not_empty c ≡ true
 is_not_empty-mask c h = plain (int_eq c.subj (pos 0)) (int_eq c.clip (pos 0)) c.mask h
   where
     plain : (a b : Bool) (m : ℕ) → 0 < m → not (a && b && (m == 0)) ≡ true
@@ -81,7 +81,7 @@ lines_joined settings given (suc k) h = counts-cut IsLine IsLine-inverse (placin
 
 -- ---- nothing cancels
 
-mask_stays : (bag : List WholeSegment) (r : Pair) → Has (pairs bag) r → AreLines bag → 0 < (winding_at bag r).mask
+pub mask_stays : (bag : List WholeSegment) (r : Pair) → Has (pairs bag) r → AreLines bag → 0 < (winding_at bag r).mask
 mask_stays [] r i h = absurd i
 mask_stays (s ∷ bag) r (inl e) h =
     let here = ap (λ (w : Winding). w.mask) (winding_at-here s bag) in

@@ -3,6 +3,7 @@ use Rattle.overlay_split.proofs.laws.nearness.NearMarks.{root_is_meant, root_of_
 use Rattle.overlay_split.proofs.laws.nearness.Nearness.{pass_stays_near, reach_is_bounded, last_pass_reaches_nothing, exact_input_reaches_nothing}
 use Rattle.overlay_split.proofs.laws.nearness.Coverings.{pieces_stay_near, run_stays_near}
 use Rattle.overlay_split.proofs.laws.nearness.LineCounts.{lines_are_kept}
+use Rattle.overlay_split.proofs.laws.nearness.NearMasks.{run_keeps_lines}
 use Rattle.overlay_split.proofs.split.laws.nearness_laws.Goals as goal
 
 pub returns-clause-root : goal.returns-clause-root
@@ -43,3 +44,6 @@ returns-clause-last_pass c = last_pass_reaches_nothing
 
 pub returns-clause-exact_input : goal.returns-clause-exact_input
 returns-clause-exact_input c = exact_input_reaches_nothing
+
+pub returns-clause-masks : goal.returns-clause-masks
+returns-clause-masks c = run_keeps_lines
