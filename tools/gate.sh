@@ -41,6 +41,7 @@ elif (($#)); then
     exit 2
 fi
 
+python3 tools/check_docs.py
 python3 tools/unused_lemmas.py
 lines="$room/lines"
 status=0

@@ -1,0 +1,91 @@
+#!/usr/bin/env python3
+"""Fails where a document leaves out what it lists, or names what is not there.
+
+    python3 tools/check_docs.py
+
+PROMISES names each edit of `must-fail/`, and in its last column only tests; DEFINITIONS names each file of `specs/`, PROOFS each
+lemma module, ARCHITECTURE each source file. A link of a document leads to a file.
+"""
+import os
+import re
+import sys
+
+ROOT = os.path.dirname(os.path.dirname(os.path.abspath(__file__)))
+# files that every crate has
+COMMON = {"Lib", "lib", "main", "tests"}
+CELLS_OF_A_PROMISE = 5
+# folders of what is made
+MADE = {".git", "out", "target", "__pycache__"}
+
+
+def read(path):
+    with open(f"{ROOT}/{path}", encoding="utf-8") as file:
+        return file.read()
+
+
+def present():
+    """The files of the repository, but for what its commands make."""
+    found = []
+    for folder, below, names in os.walk(ROOT):
+        below[:] = [it for it in below if it not in MADE]
+        found += [os.path.relpath(f"{folder}/{it}", ROOT) for it in names]
+    return sorted(found)
+
+
+def stem(path):
+    return os.path.splitext(os.path.basename(path))[0]
+
+
+def words(text):
+    """The words that stand in a document as code."""
+    return set(re.findall(r"\w+", " ".join(re.findall(r"`([^`\n]+)`", text))))
+
+
+def left_out(files, pattern, document):
+    """The files of a pattern whose names a document has not."""
+    named = words(read(document))
+    return [f"{document} does not name {it}" for it in files if re.fullmatch(pattern, it) and stem(it) not in named | COMMON]
+
+
+def rows(text):
+    """The cells of the rows of tables."""
+    return [[cell.strip() for cell in line.strip("|").split(" | ")] for line in text.splitlines() if line.startswith("| ")]
+
+
+def tests_that_are_gone(files):
+    """The tests that PROMISES names in its last column, and no file has."""
+    functions = {it for file in files if re.search(r"\.(rt|rs)$", file) for it in re.findall(r"\bfn (\w+)", read(file))}
+    crates = {it.split("/")[1] for it in files if it.startswith("crates/")}
+    known = functions | crates | {stem(it) for it in files if it.endswith(".rs")}
+    cells = [cells[-1] for cells in rows(read("docs/PROMISES.md")) if len(cells) == CELLS_OF_A_PROMISE]
+    named = {it for cell in cells for it in re.findall(r"`(\w+)`", cell) if "_" in it}
+    return [f"docs/PROMISES.md names a test {it} that is not there" for it in sorted(named - known)]
+
+
+def dead_links(files):
+    """The links of documents that lead to no file."""
+    found = []
+    for document in (it for it in files if it.endswith(".md")):
+        for target in re.findall(r"\]\(([^)#:\s]+)(?:#[^)]*)?\)", read(document)):
+            if not os.path.exists(os.path.normpath(f"{ROOT}/{os.path.dirname(document)}/{target}")):
+                found.append(f"{document} links to {target}, which is not there")
+    return found
+
+
+def main():
+    files = present()
+    found = [
+        *left_out(files, r"crates/\w+/must-fail/\w+\.edit", "docs/PROMISES.md"),
+        *left_out(files, r"crates/\w+/specs/(\w+/)*[A-Z]\w*\.antt", "docs/DEFINITIONS.md"),
+        *left_out(files, r"crates/\w+/proofs/laws/(\w+/)*[A-Z]\w*\.antt", "docs/PROOFS.md"),
+        *left_out(files, r"crates/\w+(?<!_tests)/src/(\w+/)*\w+(?<!_tests)\.rt", "docs/ARCHITECTURE.md"),
+        *tests_that_are_gone(files),
+        *dead_links(files),
+    ]
+    print(*found, sep="\n", end="\n" * bool(found))
+    print(f"{len(found)} faults in documents")
+    sys.exit(bool(found))
+
+
+if __name__ == "__main__":
+    main()
