@@ -8,8 +8,8 @@ use Rattle.polygons.proofs.run.answer_under.Goals as goal
 pub returns-in-Err-Refused-clause-stop : goal.returns-in-Err-Refused-clause-stop
 returns-in-Err-Refused-clause-stop g c =
     let whole = g.I.OverlayInt.whole in
-    let run = settings_for g.I.OverlayInt.BITS c.with_strategy_and_precision-solver.result in
-    let is_run : run ≡ overlay_settings g.I.OverlayInt.BITS c.args.settings = rw c.with_strategy_and_precision-solver.ensures.precision refl in
+    let run = settings_for g.I.OverlayInt.BITS c.solver-solver.result in
+    let is_run : run ≡ overlay_settings g.I.OverlayInt.BITS c.args.settings = rw c.solver-solver.ensures.precision refl in
     let read = c.in_ok-shapes.ensures.contours in
     let subject = contours_of whole c.as_slice-subject.result.now in
     let clip = contours_of whole c.as_slice-clip.result.now in
@@ -20,7 +20,7 @@ returns-in-Err-Refused-clause-stop g c =
 pub unreachable-requires : goal.unreachable-requires
 unreachable-requires g c =
     let whole = g.I.OverlayInt.whole in
-    let run = settings_for g.I.OverlayInt.BITS c.with_strategy_and_precision-solver.result in
+    let run = settings_for g.I.OverlayInt.BITS c.solver-solver.result in
     let read = c.in_ok-shapes.ensures.contours in
     let subject = contours_of whole c.as_slice-subject.result.now in
     let clip = contours_of whole c.as_slice-clip.result.now in
