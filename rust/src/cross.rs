@@ -55,7 +55,7 @@ pub struct CrossResult {
 }
 
 /// Where a target and another segment meet. A crossing without whole coordinates is moved to an end within the squared
-/// radius, which counts as 1 where it is less, or rounded. Counts are not looked at.
+/// radius, which counts as 1 where it is less, or rounded. Counts do not matter.
 ///
 /// The error's index is 0 for the target and 1 for the other.
 ///

@@ -136,7 +136,7 @@ pub(crate) fn fault_of_line(segment: &LineSegment) -> Option<SegmentFault> {
     segment_fault(a, b, is_counted)
 }
 
-/// What a status tells. Where segments may not be split there has to be one with a fault.
+/// What a status says. Where segments may not be split there has to be one with a fault.
 pub(crate) fn outcome<S>(status: u8, given: &[S], fault_of: impl Fn(&S) -> Option<SegmentFault>) -> Result<(), Error> {
     match status {
         0 => Ok(()),

@@ -1,5 +1,5 @@
-//! The exports of the proved archive, as `crates/overlay_c/src/lib.rt` declares them, and safe calls of them. All unsafe
-//! code of this package stands here. Nothing compares these declarations with those of the archive.
+//! The exports of the proved archive, as `crates/overlay_c/src/lib.rt` declares them, and safe calls of them. All
+//! unsafe code of this package stands here. Nothing compares these declarations with those of the archive.
 //!
 //! A slice crosses as a pointer and a length; a `Global` takes no bytes, and does not cross. Beside each call, `SAFETY`
 //! names the conditions (`requires`) of the export and says why they hold.
@@ -101,16 +101,16 @@ extern "C" {
     );
 }
 
-/// Where two segments meet. All coordinates have to be in range, and the ends of each segment have to differ; the caller
-/// tests both.
+/// Where two segments meet. All coordinates have to be in range, and the ends of each segment have to differ; the
+/// caller tests both.
 pub fn cross(target: &Segment, other: &Segment, radius_squared: i64) -> Cross {
     // SAFETY: `target` and `other` (in range), `target_apart` and `other_apart` (ends that differ) are what the caller
     // has tested; `radius` is at least 1 here.
     unsafe { overlay_c_cross(target, other, radius_squared.max(1)) }
 }
 
-/// An engine of the archive. Its handle is full from `new` until it is dropped, which is the condition `engine` of every
-/// other export.
+/// An engine of the archive. Its handle is full from `new` until it is dropped, which is the condition `engine` of
+/// every other export.
 pub struct Engine {
     handle: Handle,
 }
@@ -181,21 +181,21 @@ impl Engine {
     /// Copies the arrangement out, in place of what the list had.
     pub fn copy_segments(&mut self, segments: &mut Vec<Segment>) {
         segments.resize(self.sizes().segments, Segment::default());
-        // SAFETY: the handle is full, and the slice has the `length` that the engine tells.
+        // SAFETY: the handle is full, and the slice has the `length` that the engine reports.
         unsafe { overlay_c_segments(&mut self.handle, segments.as_mut_ptr(), segments.len()) }
     }
 
     /// Copies the arrangement of polygons and lines out, in place of what the list had.
     pub fn copy_lines(&mut self, lines: &mut Vec<LineSegment>) {
         lines.resize(self.sizes().lines, LineSegment::default());
-        // SAFETY: the handle is full, and the slice has the `length` that the engine tells.
+        // SAFETY: the handle is full, and the slice has the `length` that the engine reports.
         unsafe { overlay_c_lines(&mut self.handle, lines.as_mut_ptr(), lines.len()) }
     }
 
     /// Copies the links out, in place of what the list had.
     pub fn copy_links(&mut self, links: &mut Vec<OverlayLink>) {
         links.resize(self.sizes().links, OverlayLink::default());
-        // SAFETY: the handle is full, and the slice has the `length` that the engine tells.
+        // SAFETY: the handle is full, and the slice has the `length` that the engine reports.
         unsafe { overlay_c_links(&mut self.handle, links.as_mut_ptr(), links.len()) }
     }
 
@@ -205,8 +205,8 @@ impl Engine {
         degrees.resize(sizes.nodes, 0);
         indexes.resize(sizes.node_links, 0);
         let (first, len) = (indexes.as_mut_ptr(), indexes.len());
-        // SAFETY: the handle is full, and the two slices, which do not overlap, have the lengths that the engine tells
-        // (`degrees`, `indexes`).
+        // SAFETY: the handle is full, and the two slices, which do not overlap, have the lengths that the engine
+        // reports (`degrees`, `indexes`).
         unsafe { overlay_c_nodes(&mut self.handle, degrees.as_mut_ptr(), degrees.len(), first, len) }
     }
 
@@ -217,8 +217,8 @@ impl Engine {
         lengths.resize(sizes.walks, 0);
         indexes.resize(sizes.walk_links, 0);
         let (first, len) = (indexes.as_mut_ptr(), indexes.len());
-        // SAFETY: the handle is full, and the two slices, which do not overlap, have the lengths that the engine tells
-        // (`lengths`, `indexes`).
+        // SAFETY: the handle is full, and the two slices, which do not overlap, have the lengths that the engine
+        // reports (`lengths`, `indexes`).
         unsafe { overlay_c_walks(&mut self.handle, lengths.as_mut_ptr(), lengths.len(), first, len) }
     }
 
@@ -228,8 +228,8 @@ impl Engine {
         let mut lengths = vec![0; sizes.contours];
         let mut points = vec![IntPoint::ZERO; sizes.contour_points];
         let (first, len) = (points.as_mut_ptr(), points.len());
-        // SAFETY: the handle is full, and the two slices, which do not overlap, have the lengths that the engine tells
-        // (`lengths`, `points`).
+        // SAFETY: the handle is full, and the two slices, which do not overlap, have the lengths that the engine
+        // reports (`lengths`, `points`).
         unsafe { overlay_c_contours(&mut self.handle, lengths.as_mut_ptr(), lengths.len(), first, len) }
         let mut rest = points.as_slice();
         let contours = lengths.into_iter().map(|length| {

@@ -74,8 +74,8 @@ impl Overlay {
         })
     }
 
-    /// An overlay of these contours of a subject and of a clip. Any contours will do: they may cross and touch themselves
-    /// and one another, run either way, and have no or few points.
+    /// An overlay of these contours of a subject and of a clip. Any contours will do: they may cross and touch
+    /// themselves and one another, run either way, and have no or few points.
     ///
     /// ```
     /// use i_overlay_core::{square, Error, IntPoint, Overlay, ShapeType, MAX_COORD};
@@ -121,9 +121,9 @@ impl Overlay {
     }
 
     /// The overlay of the contours that were added, as contours that have it on their left, by the solver `AUTO`: outer
-    /// boundaries run counterclockwise, and holes clockwise. So they wind once round each place of which the rule holds,
-    /// and not at all round the others, but for places nearer to the given edges than the passes move crossings. The
-    /// contours that were added stay.
+    /// boundaries run counterclockwise, and holes clockwise. So they wind once round each place of which the rule
+    /// holds, and not at all round the others, but for places nearer to the given edges than the passes move crossings.
+    /// The contours that were added stay.
     ///
     /// ```
     /// use i_overlay_core::{square, FillRule, Overlay, OverlayRule};
@@ -395,7 +395,7 @@ impl Overlay {
         self.keep(status, segments)
     }
 
-    /// What a status tells of a call that keeps an arrangement, or nothing.
+    /// What a status says of a call that keeps an arrangement, or nothing.
     fn keep(&mut self, status: u8, segments: &[Segment]) -> Result<(), Error> {
         self.is_join_refused = false;
         outcome(status, segments, fault_of)

@@ -52,8 +52,8 @@ impl OverlayRule {
     }
 }
 
-/// Any truth function of "inside the subject" and "inside the clip", as the four bits of a number from 0 to 15: bit 0 is
-/// its value outside of both, bit 1 inside the subject alone, bit 2 inside the clip alone, and bit 3 inside both.
+/// Any truth function of "inside the subject" and "inside the clip", as the four bits of a number from 0 to 15: bit 0
+/// is its value outside of both, bit 1 inside the subject alone, bit 2 inside the clip alone, and bit 3 inside both.
 ///
 /// A table keeps the segments of whose two sides it says different things. Contours of a table that holds outside of
 /// both wind once less everywhere, since the outside has no boundary of its own: round what it says no of they wind

@@ -19,7 +19,7 @@ use overlay_text::settings::SquaredRadius;
 use overlay_text::stop::Stop;
 use std::alloc::{AllocError, Global};
 
-/// The text of where two segments meet. The smaller pair of ends is the target. Answers `Stop::NotTwoSegments` exactly
+/// The text of where two segments meet. The smaller pair of ends is the target. Returns `Stop::NotTwoSegments` exactly
 /// where the segments are not two.
 pub fn cross<I: OverlayInt>(
     alloc: Global,

@@ -37,7 +37,7 @@ pub type Lines<I> = Vec<Segment<ShapeCountBoolean, I, ()>>;
 /// The text of the graph of the planar arrangement: its links, its nodes, and whether it is valid. Links and fills are
 /// those that the settings choose.
 ///
-/// Answers `Fault::CountOutOfRange` where a sum of the split leaves the range, or a winding above a segment of the
+/// Returns `Fault::CountOutOfRange` where a sum of the split leaves the range, or a winding above a segment of the
 /// arrangement.
 pub fn graph<I: OverlayInt>(
     alloc: Global,

@@ -14,8 +14,8 @@ use overlay_text::output::write_segments;
 use overlay_text::stop::Stop;
 use std::alloc::Global;
 
-/// The text of the joined segments, and of the flag that tells whether two given ones had one pair of ends.
-/// Answers `Fault::CountOutOfRange` exactly where a running sum of the counts on one pair leaves
+/// The text of the joined segments, and of the flag that says whether two given ones had one pair of ends.
+/// Returns `Fault::CountOutOfRange` exactly where a running sum of the counts on one pair leaves
 /// `-i32::MAX..=i32::MAX`.
 pub fn join<I: OverlayInt>(
     alloc: Global,

@@ -19,7 +19,7 @@ use overlay_text::settings::Settings;
 use overlay_text::stop::Stop;
 use std::alloc::Global;
 
-/// The text of the segments of a planar arrangement, of the flag that tells whether equal segments were given or one
+/// The text of the segments of a planar arrangement, of the flag that says whether equal segments were given or one
 /// was split, and of the number of passes.
 pub fn split<I: OverlayInt>(
     alloc: Global,
@@ -42,7 +42,7 @@ pub fn split<I: OverlayInt>(
     Ok(text)
 }
 
-/// Splits the segments as the words choose, at the cost of the strategy that they name. Answers the flag.
+/// Splits the segments as the words choose, at the cost of the strategy that they name. Returns the flag.
 fn split_as_chosen<I: OverlayInt>(
     splitter: &mut SplitSolver<I>,
     segments: &mut Lines<I>,

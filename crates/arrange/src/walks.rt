@@ -22,7 +22,7 @@ use std::alloc::{AllocError, Global};
 /// The text of closed walks through the graph that the settings choose, in which every link stands in one place, or
 /// that some node has an odd number of links.
 ///
-/// Answers `Fault::CountOutOfRange` as `graph` does.
+/// Returns `Fault::CountOutOfRange` as `graph` does.
 pub fn walks<I: OverlayInt>(
     alloc: Global,
     segments: Lines<I>,

@@ -26,7 +26,7 @@ use overlay_build::build::string_graph::StringGraph;
 use overlay_geometry::num::OverlayInt;
 use overlay_split::split::solver::SplitSolver;
 
-/// Splits a list of polygons, the subject, and lines into a planar arrangement, and answers the graph of the parts of
+/// Splits a list of polygons, the subject, and lines into a planar arrangement, and returns the graph of the parts of
 /// the lines that a clip rule keeps: those inside the subject under a fill rule, or, where the rule is inverted, those
 /// outside of it. The graph borrows the builder.
 ///
@@ -36,15 +36,15 @@ use overlay_split::split::solver::SplitSolver;
 /// columns beside them. At every place that is farther from the given segments of polygons than the passes move
 /// crossings, however near lines are to it, the arrangement winds as the given segments do (`near_lines`). So, where
 /// the counts balance, at two such places directly beside a segment, one on each side, the rule keeps it by how the
-/// given polygons wind there (`by_given`). Every kept part lies as near to a given line, and every point of a given line
-/// to a segment with a mask (`lines_near`). Where all crossings of the given segments are at whole points, the
+/// given polygons wind there (`by_given`). Every kept part lies as near to a given line, and every point of a given
+/// line to a segment with a mask (`lines_near`). Where all crossings of the given segments are at whole points, the
 /// arrangement counts along each part of a given segment what the given segments count there, masks included, and lies
 /// on them. The solver's strategy does not change the answer, but what the split costs: afterwards `looked` of the
 /// splitter is bounded by the strategy as after `split_segments`.
 ///
-/// Whether the counts balance, `is_balanced` tells.
+/// `is_balanced` tests whether the counts balance.
 ///
-/// Answers `Fault::CountOutOfRange` only where a running sum of counts on one pair of ends leaves
+/// Returns `Fault::CountOutOfRange` only where a running sum of counts on one pair of ends leaves
 /// `-i32::MAX..=i32::MAX` in the split, or a winding above a segment in the build, and, memory being found, wherever
 /// one does; `Fault::Memory` where a growth is refused. Where the split was refused the list is empty and `passes` is
 /// as it was, and the builder was not called; where the build was refused the list is the arrangement. The splitter and

@@ -38,7 +38,7 @@ use overlay_build::build::graph_node::OverlayNode;
 use overlay_geometry::num::OverlayInt;
 use overlay_split::split::solver::SplitSolver;
 
-/// Splits a list into a planar arrangement, and answers the graph of the segments that an overlay rule keeps under a
+/// Splits a list into a planar arrangement, and returns the graph of the segments that an overlay rule keeps under a
 /// fill rule. The graph borrows its nodes and links from the builder.
 ///
 /// The list has to be splittable, as `is_splittable` tests; afterwards it is the arrangement. Where the given counts
@@ -48,7 +48,7 @@ use overlay_split::split::solver::SplitSolver;
 /// outside, so for a rule with a name those of which it holds, by how the arrangement winds there. At every place that
 /// is farther from the given segments than the passes move crossings, that is how the given segments wind. The links,
 /// each in the direction that has the region on its left (from `a` to `b` where the rule holds of the top of its fill,
-/// as `is_fill_top` tells, and else back), are the region's boundary: at every point as many start as end, and round
+/// as `is_fill_top` says, and else back), are the region's boundary: at every point as many start as end, and round
 /// every place they wind once where the rule holds and not at all elsewhere, less what it says of those outside. The
 /// data of the list goes through the splits and merges of a store of its own, which begins as the store's default and
 /// is dropped; each link has the data of its segment. What the hooks keep of data, and what holds of all given data,
@@ -57,9 +57,9 @@ use overlay_split::split::solver::SplitSolver;
 /// exact input it lies on it. The solver's strategy does not change the answer, but what the split costs: afterwards
 /// `looked` of the splitter is bounded by the strategy as after `split_segments`.
 ///
-/// Whether the counts balance, `is_balanced` tells.
+/// `is_balanced` tests whether the counts balance.
 ///
-/// Answers `Fault::CountOutOfRange` only where a running sum of counts on one pair of ends leaves
+/// Returns `Fault::CountOutOfRange` only where a running sum of counts on one pair of ends leaves
 /// `-i32::MAX..=i32::MAX` in the split, or a winding above a segment in the build, and, memory being found, wherever
 /// one does; `Fault::Memory` where a growth is refused. Where the split was refused the list is empty and `passes` is
 /// as it was, and the builder was not called; where the build was refused the list is the arrangement. The splitter and
@@ -122,10 +122,10 @@ pub fn split_and_build_overlay<'a, I: OverlayInt, D: OverlayEdgeData<ShapeCountB
     builder.build_boolean_overlay(fill_rule, overlay_rule, solver, segments)
 }
 
-/// A result can be given again. Where the given counts balance, the links of an overlay's graph, each in its direction, as
-/// segments of one shape (`directed_segments`) are a planar arrangement in range, balanced, and wind round the rule's
-/// region for that shape alone; at every place that is farther from the given segments than the passes move crossings,
-/// round the region by how these wind.
+/// A result can be given again. Where the given counts balance, the links of an overlay's graph, each in its direction,
+/// as segments of one shape (`directed_segments`) are a planar arrangement in range, balanced, and wind round the
+/// rule's region for that shape alone; at every place that is farther from the given segments than the passes move
+/// crossings, round the region by how these wind.
 pub fn result_laws()
     ensures { ResultsAreGivenAgain }
 {}

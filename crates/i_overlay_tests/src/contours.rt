@@ -263,7 +263,7 @@ fn small_contours(rt: HostRuntime) -> Result<(), Fail> {
     Ok(())
 }
 
-/// Whether an overlay answers what `overlay_contours` does.
+/// Whether an overlay returns what `overlay_contours` does.
 fn answers_alike(
     alloc: Global,
     overlay: &mut Overlay<i32>,

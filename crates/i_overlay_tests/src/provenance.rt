@@ -1,4 +1,4 @@
-// Which given segment a link came from, told by data that names it, through splits, turns and merges.
+// Which given segment a link came from, read from data that names it, through splits, turns and merges.
 ghost use Rattle.std.specs.Prelude.{◌≡◌};
 ghost use Rattle.std.specs.Prelude.{◌≡◌, map};
 

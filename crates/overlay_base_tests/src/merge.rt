@@ -264,7 +264,7 @@ fn tagged_list(
     Ok(list)
 }
 
-/// What the hook `merge` is told of the two.
+/// What the hook `merge` is given of the two.
 fn compare_merge(rt: &impl Abort, merged: EdgeDataMerge<ShapeCountBoolean, Tag>) {
     let count = |subj, clip| ShapeCountBoolean { subj, clip };
     assert_eq!(rt; (merged.lhs_data, merged.lhs_count), (Tag(1), count(0, 1)));

@@ -1,4 +1,4 @@
-// Counts of lines: turned, added, and told to be valid or not.
+// Counts of lines: turned, added, and tested for validity.
 
 use overlay_base::segm::arranged::is_splittable;
 use overlay_base::segm::segment::Segment;

@@ -97,7 +97,7 @@ fn sum_at<I: OverlayInt, L: LiveSegments<ShapeCountBoolean, I>>(
 /// How many orders an insert into a list of 0, 1, 2 .. rows asks: the least d for which 2 n is at most 2 ^ d.
 const ASKED_AMONG: [u128; 10] = [0, 1, 2, 3, 3, 4, 4, 4, 4, 5];
 
-/// Keeps all rows, the lowest first or last. The first inserts have to ask as many orders as is told.
+/// Keeps all rows, the lowest first or last. The first inserts have to ask as many orders as stated.
 fn insert_rows<I: OverlayInt, L: LiveSegments<ShapeCountBoolean, I>>(
     rt: &impl Abort,
     live: &mut L,

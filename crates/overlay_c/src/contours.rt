@@ -16,7 +16,7 @@ pub struct PointRecord {
     pub y: i32,
 }
 
-/// Loads the points that records tell.
+/// Loads the points of records.
 pub fn load_points(
     records: &[PointRecord],
     points: &mut Vec<IntPoint<i32>>,
@@ -60,7 +60,7 @@ fn push_points(contour: &[IntPoint<i32>], points: &mut Vec<PointRecord>) -> Resu
     Ok(())
 }
 
-/// The point that a record tells.
+/// The point of a record.
 fn point(given: &PointRecord) -> IntPoint<i32>
     ensures { point_of (λ z. z) result ≡ point_by given.now }
 {

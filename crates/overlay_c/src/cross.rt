@@ -29,7 +29,7 @@ pub struct CrossRecord {
     pub mask: u8,
 }
 
-/// Where a target and another segment meet. Their counts are not looked at.
+/// Where a target and another segment meet. Their counts do not matter.
 pub fn cross(target: &SegmentRecord, other: &SegmentRecord, radius_squared: i64) -> CrossRecord
     requires target { IsTrue (is_pair_in_range least_coordinate greatest_coordinate (pair_by target.now)) }
     requires other { IsTrue (is_pair_in_range least_coordinate greatest_coordinate (pair_by other.now)) }

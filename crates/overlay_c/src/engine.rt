@@ -105,11 +105,11 @@ impl Engine {
         }
     }
 
-    /// Splits the segments that records ask for, and keeps the arrangement, the graph of the segments that an overlay rule
-    /// keeps, and closed walks through it where they are asked for and evenly many links meet at each node.
+    /// Splits the segments that records ask for, and keeps the arrangement, the graph of the segments that an overlay
+    /// rule keeps, and closed walks through it where they are asked for and evenly many links meet at each node.
     ///
-    /// After a refusal the engine can be used again: it keeps no segments, or their arrangement where the split was done. Of
-    /// links, nodes and walks nothing is promised then.
+    /// After a refusal the engine can be used again: it keeps no segments, or their arrangement where the split was
+    /// done. Of links, nodes and walks nothing is promised then.
     pub fn overlay(
         &mut self,
         alloc: Global,
@@ -237,8 +237,8 @@ impl Engine {
         Ok(())
     }
 
-    /// Copies a contour behind the others of its shape, if its points are in range. Else, and where a growth is refused,
-    /// nothing is added.
+    /// Copies a contour behind the others of its shape, if its points are in range. Else, and where a growth is
+    /// refused, nothing is added.
     pub fn add_contour(
         &mut self,
         contour: &[PointRecord],
@@ -347,7 +347,7 @@ fn try_load_lines(given: &[LineRecord], list: &mut Vec<Line>) -> Result<(), Refu
     Ok(())
 }
 
-/// Loads the segments that records ask for. Answers whether each asks for one.
+/// Loads the segments that records ask for. Returns whether each asks for one.
 pub fn load(records: &[SegmentRecord], list: &mut Vec<Side>) -> Result<bool, AllocError>
     ensures asks { IfOk result (λ all. all ≡ list_all asks records.now) }
     ensures segments { IfOk result (λ all. IsTrue all → segments_of list.new.items ≡ map asked_by records.now) }

@@ -38,7 +38,7 @@ use crate::refusal::status;
 use overlay_base::overlay_core::clip_rule::ClipRule;
 use std::alloc::Global;
 
-/// Makes an engine, in an empty handle. Answers whether there was memory.
+/// Makes an engine, in an empty handle. Returns whether there was memory.
 #[unsafe(no_mangle)]
 pub extern "C" fn overlay_c_new(alloc: Global, handle: &mut Handle, snap_limit: u32) -> bool
     requires { handle.old.engine ≡ None }
@@ -65,8 +65,8 @@ pub extern "C" fn overlay_c_free(alloc: Global, handle: &mut Handle)
     drop(take(alloc, handle));
 }
 
-/// The overlay of the segments that records ask for, by the rule of a code (`overlay_rule`). Answers 0 where it is done, 1 where memory was refused, 2 where a
-/// count left the range, and 3 where the segments may not be split.
+/// The overlay of the segments that records ask for, by the rule of a code (`overlay_rule`). Returns 0 where it is
+/// done, 1 where memory was refused, 2 where a count left the range, and 3 where the segments may not be split.
 #[unsafe(no_mangle)]
 pub extern "C" fn overlay_c_overlay(
     alloc: Global,
@@ -96,7 +96,7 @@ pub extern "C" fn overlay_c_overlay(
     status(outcome)
 }
 
-/// The split of the segments that records ask for. Answers as `overlay_c_overlay` does.
+/// The split of the segments that records ask for. Returns as `overlay_c_overlay` does.
 #[unsafe(no_mangle)]
 pub extern "C" fn overlay_c_split(
     alloc: Global,
@@ -123,7 +123,7 @@ pub extern "C" fn overlay_c_split(
     status(outcome)
 }
 
-/// The graph of all of the arrangement of the segments that records ask for. Answers as `overlay_c_overlay` does.
+/// The graph of all of the arrangement of the segments that records ask for. Returns as `overlay_c_overlay` does.
 #[unsafe(no_mangle)]
 pub extern "C" fn overlay_c_all(
     alloc: Global,
@@ -150,7 +150,7 @@ pub extern "C" fn overlay_c_all(
     status(outcome)
 }
 
-/// The join of the segments that records ask for. Answers as `overlay_c_overlay` does.
+/// The join of the segments that records ask for. Returns as `overlay_c_overlay` does.
 #[unsafe(no_mangle)]
 pub extern "C" fn overlay_c_join(alloc: Global, handle: &mut Handle, given: &[SegmentRecord]) -> u8
     requires { IsSome handle.old.engine }
@@ -171,7 +171,7 @@ pub extern "C" fn overlay_c_join(alloc: Global, handle: &mut Handle, given: &[Se
     status(outcome)
 }
 
-/// The parts of lines that a clip rule keeps. Answers as `overlay_c_overlay` does.
+/// The parts of lines that a clip rule keeps. Returns as `overlay_c_overlay` does.
 #[unsafe(no_mangle)]
 pub extern "C" fn overlay_c_clip(
     alloc: Global,
@@ -207,8 +207,8 @@ pub extern "C" fn overlay_c_clip(
     status(outcome)
 }
 
-/// Copies a contour behind the others of the subject, where the shape's code is 0, or else of the clip. Answers 0 where it
-/// is added; else nothing is: 1 where memory was refused, 4 where a point is out of range.
+/// Copies a contour behind the others of the subject, where the shape's code is 0, or else of the clip. Returns 0 where
+/// it is added; else nothing is: 1 where memory was refused, 4 where a point is out of range.
 #[unsafe(no_mangle)]
 pub extern "C" fn overlay_c_add_contour(
     alloc: Global,
@@ -236,8 +236,8 @@ pub extern "C" fn overlay_c_add_contour(
 }
 
 /// The overlay of the contours that were added, as contours that have it on their left: outer boundaries run
-/// counterclockwise, and holes clockwise. Answers 0 where it is done, 1 where memory was refused, and 2 where a count left
-/// the range. The contours that were added stay. The first 256 passes snap, whatever the limit of the engine is.
+/// counterclockwise, and holes clockwise. Returns 0 where it is done, 1 where memory was refused, and 2 where a count
+/// left the range. The contours that were added stay. The first 256 passes snap, whatever the limit of the engine is.
 #[unsafe(no_mangle)]
 pub extern "C" fn overlay_c_polygons(
     alloc: Global,
@@ -278,8 +278,8 @@ pub extern "C" fn overlay_c_clear(alloc: Global, handle: &mut Handle)
     put(handle, engine);
 }
 
-/// Where a target and another segment meet, with a squared radius within which a crossing is moved to an end, and, where
-/// all ends lie on one line, which of them lie strictly inside the other segment. The counts are not looked at.
+/// Where a target and another segment meet, with a squared radius within which a crossing is moved to an end, and,
+/// where all ends lie on one line, which of them lie strictly inside the other segment. The counts do not matter.
 #[unsafe(no_mangle)]
 pub extern "C" fn overlay_c_cross(
     target: &SegmentRecord,

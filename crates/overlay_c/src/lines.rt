@@ -17,7 +17,7 @@ use std::alloc::AllocError;
 /// A segment of polygons and lines, with coordinates of 32 bits.
 pub type Line = Segment<ShapeCountString, i32, ()>;
 
-/// Loads the segments that records ask for. Answers whether each asks for one.
+/// Loads the segments that records ask for. Returns whether each asks for one.
 pub fn load(records: &[LineRecord], list: &mut Vec<Line>) -> Result<bool, AllocError>
     ensures asks { IfOk result (λ all. all ≡ list_all line_asks records.now) }
     ensures segments { IfOk result (λ all. IsTrue all → segments_of list.new.items ≡ map line_asked_by records.now) }

@@ -1,4 +1,4 @@
-// Why a call is refused, and the code that C is told.
+// Why a call is refused, and the code that C gets.
 ghost use Rattle.std.specs.Prelude.{◌≡◌};
 ghost use Rattle.overlay_base.specs.declared.segm.fault.Fault.TheVariants.{Memory};
 ghost use Rattle.overlay_c.specs.declared.refusal.Refusal.TheVariants.{Refused};

@@ -73,7 +73,7 @@ fn is_in_range<I: OverlayInt>(point: IntPoint<I>) -> bool
 /// All points have to be in range, as `find_out_of_range` tests. The counts balance at every point, and at every place
 /// the segments wind as often as the contours run round it.
 ///
-/// Answers `Fault::Memory` where a growth is refused.
+/// Returns `Fault::Memory` where a growth is refused.
 pub fn segments_of_contours<I: OverlayInt>(
     alloc: Global,
     subject: &[IntContour<I>],
@@ -98,7 +98,7 @@ pub fn segments_of_contours<I: OverlayInt>(
 
 /// Makes a list that of the segments of a subject's and of a clip's contours, whatever it was.
 ///
-/// Answers `Fault::Memory` where a growth is refused, and then nothing is promised of the list.
+/// Returns `Fault::Memory` where a growth is refused, and then nothing is promised of the list.
 pub(crate) fn load_sides<I: OverlayInt>(
     sides: &mut Vec<Side<I>>,
     subject: &[IntContour<I>],

@@ -21,12 +21,13 @@ use std::alloc::Global;
 /// The corners of contours: of each its points in their order, without those at which it goes straight on. It does so
 /// at a point that lies on one line with the point before and the point after, and between them.
 ///
-/// All points have to be in range, as `find_out_of_range` tests. The answer runs round every place of the plane as often
-/// as the contours do, and paints the same places by even-odd. At each of its points it turns, so that its corners are
-/// all its points. A contour with points has corners. A point that stands next to itself is a corner, and so is one from
-/// which a contour goes back; of contours in which none stands next to itself the answer has none either.
+/// All points have to be in range, as `find_out_of_range` tests. The answer runs round every place of the plane as
+/// often as the contours do, and paints the same places by even-odd. At each of its points it turns, so that its
+/// corners are all its points. A contour with points has corners. A point that stands next to itself is a corner, and
+/// so is one from which a contour goes back; of contours in which none stands next to itself the answer has none
+/// either.
 ///
-/// Answers `Fault::Memory` where a growth is refused.
+/// Returns `Fault::Memory` where a growth is refused.
 pub fn corners_of_contours<I: OverlayInt>(
     alloc: Global,
     contours: &[IntContour<I>],

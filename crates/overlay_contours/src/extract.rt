@@ -1,4 +1,4 @@
-// The contours of a graph: its directed walks, as lists of points. Upstream: `core::extract`, with holes told apart.
+// The contours of a graph: its directed walks, as lists of points. Upstream: `core::extract`, with holes run clockwise.
 ghost use Rattle.std.specs.Prelude.{◌≡◌, ◌<◌, [], IfOk, IfErr, Bool, All, map, length, count_by};
 ghost use Rattle.overlay_geometry.specs.Points.{Pair};
 ghost use Rattle.overlay_base.specs.Places.{RationalPoint, winding_below};
@@ -25,13 +25,13 @@ use overlay_geometry::num::OverlayInt;
 use std::alloc::Global;
 
 /// The directed walks of a graph as contours. Each link is an edge of one contour, once, and runs in its direction:
-/// from `a` to `b` where the rule holds of the top of its fill, and else from `b` to `a`. So what the rule holds of lies
-/// to the left, and the contours wind round every place as the directed links do. Each contour has points, and in none
-/// a point stands next to itself.
+/// from `a` to `b` where the rule holds of the top of its fill, and else from `b` to `a`. So what the rule holds of
+/// lies to the left, and the contours wind round every place as the directed links do. Each contour has points, and in
+/// none a point stands next to itself.
 ///
 /// As many links have to start as end at each node, as they do in the graph of the rule where counts balance.
 ///
-/// Answers `Fault::Memory` where a growth is refused.
+/// Returns `Fault::Memory` where a growth is refused.
 pub fn directed_contours_of_graph<I: OverlayInt, D: Copy>(
     alloc: Global,
     graph: &OverlayGraph<'_, I, D>,

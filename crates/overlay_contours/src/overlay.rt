@@ -43,10 +43,10 @@ use std::alloc::Global;
 ///
 /// Any contours will do: they may cross and touch themselves and one another, run either way, repeat points, and have
 /// no or few points. Equal neighboring points make no edge, and the answer has none. Collinear points of the answer are
-/// left in; `Overlay::overlay_without_collinear` leaves them out. Each contour of the answer has points, and may come to
-/// a point twice. All of its points are in range, so it may be given again.
+/// left in; `Overlay::overlay_without_collinear` leaves them out. Each contour of the answer has points, and may come
+/// to a point twice. All of its points are in range, so it may be given again.
 ///
-/// Answers `ContourFault::OutOfRange` where a point is out of the engine's range, and names the first one; else
+/// Returns `ContourFault::OutOfRange` where a point is out of the engine's range, and names the first one; else
 /// `Fault::CountOutOfRange` only where counts leave `-i32::MAX..=i32::MAX`, and `Fault::Memory` where a growth is
 /// refused.
 pub fn overlay_contours<I: OverlayInt>(
@@ -183,8 +183,8 @@ impl<I: OverlayInt> Overlay<I> {
 
     /// Copies a contour behind the others of its shape.
     ///
-    /// Answers `ContourFault::OutOfRange` where a point is out of the engine's range. It names the first one, and the
-    /// index that the contour would have had among those of its shape. Answers `Fault::Memory` where a growth is
+    /// Returns `ContourFault::OutOfRange` where a point is out of the engine's range. It names the first one, and the
+    /// index that the contour would have had among those of its shape. Returns `Fault::Memory` where a growth is
     /// refused. Either way nothing is added.
     pub fn add_contour(
         &mut self,
@@ -214,7 +214,7 @@ impl<I: OverlayInt> Overlay<I> {
     /// The overlay of the contours that were added, as `overlay_contours` answers it. They stay for further overlays,
     /// whether it is answered or refused.
     ///
-    /// Answers `Fault::CountOutOfRange` only where counts leave `-i32::MAX..=i32::MAX`, and `Fault::Memory` where a
+    /// Returns `Fault::CountOutOfRange` only where counts leave `-i32::MAX..=i32::MAX`, and `Fault::Memory` where a
     /// growth is refused.
     pub fn overlay(
         &mut self,
@@ -237,13 +237,13 @@ impl<I: OverlayInt> Overlay<I> {
     }
 
     /// The overlay of the contours that were added, as `overlay` answers it, without the points at which a contour goes
-    /// straight on: of each contour the corners, as `corners_of_contours` answers them.
+    /// straight on: of each contour the corners, as `corners_of_contours` returns them.
     ///
-    /// So the answer winds round every place of the plane as that of `overlay` does, and no point of it lies on one line
-    /// with its neighbors and between them. An edge of it may run along several edges of the arrangement. The contours
-    /// that were added stay, whether it is answered or refused.
+    /// So the answer winds round every place of the plane as that of `overlay` does, and no point of it lies on one
+    /// line with its neighbors and between them. An edge of it may run along several edges of the arrangement. The
+    /// contours that were added stay, whether it is answered or refused.
     ///
-    /// Answers `Fault::CountOutOfRange` only where counts leave `-i32::MAX..=i32::MAX`, and `Fault::Memory` where a
+    /// Returns `Fault::CountOutOfRange` only where counts leave `-i32::MAX..=i32::MAX`, and `Fault::Memory` where a
     /// growth is refused.
     pub fn overlay_without_collinear(
         &mut self,

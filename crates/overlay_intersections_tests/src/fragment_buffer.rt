@@ -125,7 +125,7 @@ fn is_sorted_across(rt: &(impl Abort + AllocGlobal), lines: &[Line]) -> bool {
     }
 }
 
-/// So many upright lines beside one another.
+/// This many upright lines beside one another.
 fn beside(rt: &(impl Abort + AllocGlobal), count: i32) -> Vec<Line> {
     let mut lines = Vec::new(rt.alloc());
     for x in 0..count {

@@ -1,4 +1,4 @@
-// The tree's finder beside the list's, and how many pairs it takes up.
+// The tree's finder beside the list's, and how many pairs it compares.
 ghost use Rattle.std.specs.Prelude.{◌≡◌, All, IsSortedByKey};
 ghost use Rattle.overlay_base.specs.SegmentOf.{ends_of, x_segment_of};
 ghost use Rattle.overlay_geometry.specs.InRange.{IsPairInRange};
@@ -45,7 +45,7 @@ fn listed<I: OverlayInt>(
     (marks, rounded.expect(rt, "memory"))
 }
 
-/// What the tree's finder answers: the same, and how many pairs it took up.
+/// What the tree's finder answers: the same, and how many pairs it compared.
 fn treed<I: OverlayInt>(
     rt: &impl Abort,
     alloc: Global,
@@ -63,8 +63,8 @@ fn treed<I: OverlayInt>(
     (marks, rounded.expect(rt, "memory"), looked)
 }
 
-/// Asks both finders, wants the same marks and the same flag, and answers how many marks there are and how many pairs
-/// the tree took up.
+/// Asks both finders, wants the same marks and the same flag, and returns how many marks there are and how many pairs
+/// the tree compared.
 fn ask(
     rt: &impl Abort,
     alloc: Global,
@@ -90,7 +90,7 @@ fn below(state: &mut u32, limit: u32) -> i32 {
     ((*state >> 8) % limit.max(1) % 4096) as i32
 }
 
-/// So many segments with ends in the square from (0, 0) to (59, 59).
+/// This many segments with ends in the square from (0, 0) to (59, 59).
 fn scattered(rt: &impl Abort, alloc: Global, state: &mut u32, size: usize) -> Vec<Side<i32>> {
     let mut segments = Vec::new(alloc);
     for _ in 0..size {
@@ -125,7 +125,7 @@ fn lines_above_one_another(rt: HostRuntime) {
     for y in 0..4000 {
         push_side(&rt, &mut segments, (0, y), (10, y));
     }
-    // Each of the first 48 lines looks at those below it, and then all stand in a tree, where no heights meet.
+    // Each of the first 48 lines is compared with those below it, and then all stand in a tree, where no heights meet.
     let told = ask(&rt, rt.alloc(), &mut segments, SNAPPING);
     assert!(rt; told == (0, 48 * 47 / 2));
 }
@@ -137,13 +137,13 @@ fn lines_beside_one_another(rt: HostRuntime) {
         let left = 10 * i32::from(place);
         push_side(&rt, &mut segments, (left, 0), (left + 5, 0));
     }
-    // No two boxes meet, and each line has ended before the next: no more than one look at each.
+    // No two boxes meet, and each line has ended before the next: at most one comparison of each.
     let (marks, looked) = ask(&rt, rt.alloc(), &mut segments, SNAPPING);
     assert!(rt; marks == 0);
     assert!(rt; looked <= 1000);
 }
 
-/// Lines of a grid, so many each way: how many marks there are, and how many pairs the tree took up.
+/// Lines of a grid, this many each way: how many marks there are, and how many pairs the tree compared.
 fn grid(rt: &impl Abort, alloc: Global, size: u16) -> (usize, u128) {
     let mut segments = Vec::new(alloc);
     for place in 0..size {
@@ -157,7 +157,7 @@ fn grid(rt: &impl Abort, alloc: Global, size: u16) -> (usize, u128) {
 
 #[test]
 fn few_crossing_lines(rt: HostRuntime) {
-    // Each line across looks at those below it, and each upright line at all lines across.
+    // Each line across is compared with those below it, and each upright line with all lines across.
     assert!(rt; grid(&rt, rt.alloc(), 20) == (800, 20 * 19 / 2 + 400));
 }
 
@@ -165,6 +165,6 @@ fn few_crossing_lines(rt: HostRuntime) {
 fn many_crossing_lines(rt: HostRuntime) {
     let (marks, looked) = grid(&rt, rt.alloc(), 60);
     assert!(rt; marks == 7200);
-    // Beside the looks among the first 48 lines across, each line is dropped with one look at most.
+    // Beside the comparisons among the first 48 lines across, each line is dropped by at most one.
     assert!(rt; 3600 + 48 * 47 / 2 <= looked && looked <= 3600 + 48 * 47 / 2 + 120);
 }

@@ -89,8 +89,8 @@ const UNMARKED: Passed = Passed {
     has_marks: false,
 };
 
-/// A name, what is given, the squared radius of a pass that snaps, what it leaves, and what it tells. A pass without a
-/// radius settles.
+/// A name, what is given, the squared radius of a pass that snaps, what it leaves, and what it reports. A pass without
+/// a radius settles.
 type Worked = (
     &'static str,
     &'static [[i32; 4]],

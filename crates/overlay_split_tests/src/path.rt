@@ -4,7 +4,8 @@ use overlay_geometry::geom::point::IntPoint;
 use overlay_intersections::split::line_mark::LineMark;
 use overlay_split::split::path::collect_path;
 
-/// The end (2, 0) lies below the start (0, 10), so the marks of one x go downward. What the path held before is dropped.
+/// The end (2, 0) lies below the start (0, 10), so the marks of one x go downward. What the path held before is
+/// dropped.
 #[test]
 fn marks_of_one_x_go_downward(rt: HostRuntime) {
     let (a, b) = (IntPoint::new(0, 10), IntPoint::new(2, 0));

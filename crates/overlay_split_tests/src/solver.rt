@@ -587,7 +587,7 @@ fn segments_on_one_pair(rt: HostRuntime) {
     }
 }
 
-/// Data of a user: a color by its number, of which a merge keeps equal ones and else answers that there is none; and a
+/// Data of a user: a color by its number, of which a merge keeps equal ones and else returns that there is none; and a
 /// store that counts the calls of each hook and keeps the last merge.
 #[derive(Clone, Copy, Debug, PartialEq, Eq)]
 struct Colors(u8);
@@ -717,7 +717,7 @@ fn check_colored(rt: &(impl Abort + AllocGlobal), list: &[Colored], wanted: &[Co
     assert_eq!(rt; after.as_slice(), wanted);
 }
 
-/// Wants so many calls of each hook: of splits, of reversals, of merges.
+/// Wants these numbers of calls of each hook: of splits, of reversals, of merges.
 fn check_calls(rt: &impl Abort, calls: &Calls, wanted: (u32, u32, u32)) {
     assert_eq!(rt; (calls.splits, calls.reversals, calls.merges), wanted);
 }

@@ -1,4 +1,4 @@
-// The sweep line over an arrangement: it tells what lies on the two sides of each segment.
+// The sweep line over an arrangement: it finds what lies on the two sides of each segment.
 
 pub mod boolean;
 mod entry;

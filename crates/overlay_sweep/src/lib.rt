@@ -1,5 +1,5 @@
 // The sweep over an arrangement. Modules are named as in upstream, but
-// for those that docs/DIFFERENCES.md tells.
+// for those that docs/DIFFERENCES.md lists.
 #![tactic(auto)]
 
 pub mod build;

@@ -1,4 +1,4 @@
-// Sweeps over live segments of which one insert is refused, as by want of memory.
+// Sweeps over live segments of which one insert is refused, as where memory runs out.
 ghost use Rattle.std.specs.Prelude.{◌≡◌, ℕ, suc, ◌+◌, ◌*◌, ◌≤◌, ℤ, ◌≤ℤ◌, ◌<ℤ◌, [], ◌∷◌, OnOk, OnErr, IfErr};
 ghost use Rattle.overlay_base.specs.declared.segm.fault.Fault.TheVariants.{Memory};
 ghost use Rattle.overlay_geometry.specs.PointOf.{point_of};
@@ -136,7 +136,7 @@ fn two_squares(rt: &(impl Abort + AllocGlobal)) -> Result<Vec<Line>, Fail> {
     Ok(lines)
 }
 
-/// Sweeps over the squares, with so many inserts before the one that is refused. `None` where none is.
+/// Sweeps over the squares, with this number of inserts before the one that is refused. `None` where none is.
 fn refusal<L: LiveSegments<ShapeCountBoolean, i32>>(
     rt: &(impl Abort + AllocGlobal),
     refusing: &mut Refusing<L>,

@@ -21,7 +21,7 @@ pub fn append(text: &mut String, room: &Room, begin: usize) -> Result<(), AllocE
     text.push_str(line)
 }
 
-/// Puts the last word of a line, and answers where it begins.
+/// Puts the last word of a line, and returns where it begins.
 pub fn put_last_word(room: &mut Room, word: &str) -> usize
     requires { length word.now ≤ 160 }
     ensures begin { result + length word.now ≡ 160 }
@@ -31,7 +31,7 @@ pub fn put_last_word(room: &mut Room, word: &str) -> usize
     put_word(room, ROOM, word)
 }
 
-/// Puts a word before what begins at `end`, and answers where that begins now.
+/// Puts a word before what begins at `end`, and returns where that begins now.
 pub fn put_word(room: &mut Room, end: usize, word: &str) -> usize
     requires { (length word.now ≤ end) × (end ≤ 160) }
     ensures begin { result + length word.now ≡ end }

@@ -69,7 +69,7 @@ pub fn write_place<I: OverlayInt>(
     append(text, &room, begin)
 }
 
-/// Puts ` X Y` before what begins at `end`, and answers where that begins now.
+/// Puts ` X Y` before what begins at `end`, and returns where that begins now.
 pub fn put_point<I: OverlayInt>(room: &mut Room, end: usize, point: IntPoint<I>) -> usize
     requires { (42 ≤ end) × (end ≤ 160) }
     ensures begin { (end ≤ result + 42) × (result ≤ end) }

@@ -14,9 +14,9 @@ pub enum Command {
     Cross,
     /// Splits the lines where they meet.
     Split,
-    /// Splits the lines and tells the graph of those that a rule keeps.
+    /// Splits the lines and prints the graph of those that a rule keeps.
     Graph,
-    /// The same, and tells closed walks through the graph.
+    /// The same, and prints closed walks through the graph.
     Walks,
 }
 

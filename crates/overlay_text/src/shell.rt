@@ -1,4 +1,4 @@
-// A run of a program, in the order in which faults are looked for: the words, the reading of all the input, what the
+// A run of a program, in the order of the tests for faults: the words, the reading of all the input, what the
 // program finds wrong with it, the writing.
 ghost use Rattle.std.specs.Prelude.{◌≡◌, ◌≢◌, ◌⊎◌, ℕ, List, Ok, Err, IfSome, IfOk, OnOk, IfErr, map, string_bytes};
 ghost use Rattle.std.specs.IoError.{error_kind};
@@ -15,19 +15,19 @@ use std::io::{ErrorKind, Read, Write};
 use std::rt::Env;
 use std::{env, io};
 
-/// A program that answers a text to the text of its input, by choices that the words of its call make.
+/// A program that returns a text to the text of its input, by choices that the words of its call make.
 pub trait Program {
     /// What the words choose.
     type Choices: Copy;
 
     ghost behavior: { Behavior Self.Choices };
 
-    /// The line that tells how the program is called.
+    /// The line that says how the program is called.
     fn usage() -> &'static str;
 
     /// The choices for which the words ask.
     ///
-    /// Answers `Stop::Usage` exactly where they ask for none.
+    /// Returns `Stop::Usage` exactly where they ask for none.
     fn read_words(words: &[String]) -> Result<Self::Choices, Stop>
         ensures asked { IfOk result (λ choices. behavior.AskFor (map string_bytes words.now) choices) }
         ensures usage { IfErr result (λ stop. (stop ≡ Stop.Usage) × AskForNone behavior (map string_bytes words.now)) };
@@ -67,8 +67,8 @@ pub fn run_started<P: Program, H: Env + AllocGlobal, R: Read, W: Write, E: Write
 /// Runs a program over these words, and returns the exit status: 0 where the run is done, else that of its `Stop`.
 ///
 /// Nothing is written to `output` unless the run is done or the output failed, and nothing to `faults` where the status
-/// is 0. Any other status is told in one line on `faults`, where a failed write is passed over. Where the words ask for
-/// nothing, nothing is read.
+/// is 0. Any other status is explained in one line on `faults`; a failed write there is ignored. Where the words ask
+/// for nothing, nothing is read.
 #[tactic(auto, using(crate::proofs::Runs::is_no_success))]
 pub fn run_over<P: Program, R: Read, W: Write, E: Write>(
     alloc: Global,
@@ -165,7 +165,7 @@ fn started_words<H: Env + AllocGlobal>(rt: &H) -> Result<Vec<String>, Stop>
     Ok(words)
 }
 
-/// Tells want of memory from any other failure.
+/// Tells a refusal of memory from any other failure.
 fn stop_of(error: io::Error, otherwise: Stop) -> Stop
     ensures memory { error_kind error ≡ ErrorKind.OutOfMemory → result ≡ Stop.Refused Memory }
     ensures other { error_kind error ≢ ErrorKind.OutOfMemory → result ≡ otherwise }

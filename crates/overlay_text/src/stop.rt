@@ -8,7 +8,7 @@ use overlay_base::segm::fault::Fault;
 use std::alloc::{AllocError, AllocFailed};
 use thiserror::Error;
 
-/// What is wrong with a line, in the order in which it is looked for.
+/// What is wrong with a line, in the order of the tests.
 #[derive(Clone, Copy, Debug, PartialEq, Eq, Error)]
 pub enum LineFault {
     /// The line is no letter and four numbers.

@@ -19,7 +19,7 @@ pub struct Summary {
 pub enum Stop {
     /// A growth was refused, and what stands after the call is as promised.
     Refused,
-    /// What stands is not as promised, or the call answers what it may not.
+    /// What stands is not as promised, or the call returns what it may not.
     Wrong(&'static str),
 }
 

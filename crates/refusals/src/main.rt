@@ -1,4 +1,4 @@
-// The program `refusals`: makes calls that can take memory. Where a growth is refused it looks at what stands after
+// The program `refusals`: makes calls that can take memory. Where a growth is refused it tests what stands after
 // the call, and makes the call again with the same splitter, runner or builder. So it prints the same whichever growth
 // was refused: on the standard output how many segments, links or points each call answers, on the other a digest of
 // them.

@@ -131,8 +131,8 @@ impl Case for Contours {
     }
 }
 
-/// What two contours share, without collinear points, by one overlay that keeps them. After a refusal it is used again as
-/// it is: only what was not added is added. By even-odd a contour that stood twice would be missed.
+/// What two contours share, without collinear points, by one overlay that keeps them. After a refusal it is used again
+/// as it is: only what was not added is added. By even-odd a contour that stood twice would be missed.
 #[derive(Drop)]
 pub struct KeptContours {
     overlay: ContourOverlay<i32>,

@@ -184,7 +184,7 @@ fn ask_place<H: Abort>(rt: &H, given: &Given, rule: &str, links: &[Way], place: 
     );
 }
 
-/// Asks at the places of a lattice that are far from all that is given, and answers how many these are.
+/// Asks at the places of a lattice that are far from all that is given, and returns how many these are.
 fn ask_lattice<H: Abort>(rt: &H, given: &Given, rule: &str, links: &[Way]) -> usize {
     let mut far: usize = 0;
     let mut place = Place { x: -5, y: -5 };
@@ -257,7 +257,7 @@ fn coordinate_of(state: u64) -> u64 {
     (state >> 33) % 100
 }
 
-/// Appends the sides of a closed contour with seven corners, and answers where the row of numbers stands.
+/// Appends the sides of a closed contour with seven corners, and returns where the row of numbers stands.
 fn push_contour(text: &mut String, shape: &str, state: u64) -> Result<u64, AllocError> {
     let mut state = next_number(state);
     let (first_x, first_y) = (coordinate_of(state), coordinate_of(next_number(state)));
@@ -286,7 +286,7 @@ fn share_end(first: Way, second: Way) -> bool {
         || same(first.to, second.to)
 }
 
-/// The link with the number that a word says. Where it was used before, or none has this number, the answer is why.
+/// The link with the number that a word gives. Where it was used before, or none has this number, the answer is why.
 fn link_of(word: &str, links: &[Way], used: &mut [bool]) -> Result<Way, &'static str> {
     let index = short_number(word).ok_or("no number")? as usize;
     let flag = used.get_mut(index).ok_or("no link")?;

@@ -829,7 +829,7 @@ fn graphs(rt: HostRuntime) -> Result<(), Fail> {
     Ok(())
 }
 
-/// Asks that a line tells the link with this index.
+/// Asks that a line names the link with this index.
 fn expect_kept<H: Abort>(rt: &H, line: &[u8], index: usize, rule: &str) {
     let link = LINKS.get(index).copied().unwrap_or("no link");
     assert!(rt; line.starts_with(link.as_bytes()), "{rule} {index}");
@@ -1016,7 +1016,7 @@ fn check_failed_input<H: Abort + AllocGlobal>(
 
 #[test]
 fn input_fails(rt: HostRuntime) -> Result<(), Fail> {
-    // A faulty line is not looked at before all the input is read.
+    // A faulty line is not reported before all the input is read.
     check_failed_input(&rt, b"")?;
     check_failed_input(&rt, b"S 0 0 1 1\n")?;
     check_failed_input(&rt, b"x\n")?;

@@ -33,7 +33,7 @@ fn check_even(
     }
 }
 
-/// Splits the star, and wants evenly many links at each node of each rule's graph. Answers the number of passes and of
+/// Splits the star, and wants evenly many links at each node of each rule's graph. Returns the number of passes and of
 /// segments.
 fn even_star(rt: &(impl Abort + AllocGlobal), strategy: Strategy, limit: u32) -> (u128, usize) {
     let mut list: Vec<Counted<i32>> = segments(rt, &closed_star(rt));

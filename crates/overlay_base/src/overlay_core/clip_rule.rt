@@ -14,7 +14,7 @@ pub struct ClipRule {
 }
 
 impl ClipRule {
-    /// Whether a segment with this fill is kept. Of a count of lines the fill tells the subject's two sides and, by the
+    /// Whether a segment with this fill is kept. Of a count of lines the fill has the subject's two sides and, by the
     /// numbers 4 and 8, the mask of the segment itself. A segment without a mask is no part of a line, and is never
     /// kept.
     #[tactic(auto, unfolding(crate::specs::ClipRules::keeps_clip))]

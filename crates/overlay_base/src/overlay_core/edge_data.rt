@@ -36,7 +36,7 @@ pub struct EdgeDataMerge<C, D> {
 
 /// Data on segments with counts of type `C`.
 ///
-/// Each hook answers a function of its arguments and of the store before the call, and leaves a store that is such a
+/// Each hook returns a function of its arguments and of the store before the call, and leaves a store that is such a
 /// function too: an `impl` names the three functions. Points enter them as whole numbers, so that data does not see
 /// the engine. A store that takes memory keeps its own fault.
 pub trait OverlayEdgeData<C>: Copy + PartialEq {

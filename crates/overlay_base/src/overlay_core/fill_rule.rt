@@ -1,4 +1,4 @@
-// How windings tell what is inside. Upstream: `core::fill_rule`.
+// How windings decide what is inside. Upstream: `core::fill_rule`.
 
 use std::fmt;
 

@@ -94,7 +94,7 @@ pub struct Solver {
 }
 
 impl Solver {
-    /// Every two segments whose ranges in `x` meet are looked at; high precision.
+    /// Compares every pair of segments whose ranges in `x` meet; high precision.
     pub const LIST: Solver = Solver {
         strategy: Strategy::List,
         precision: Precision::HIGH,
@@ -151,7 +151,7 @@ impl Solver {
         SnapRadius::new(self.precision.start, self.precision.progression)
     }
 
-    /// Whether a pass over these segments looks at all pairs of the list: under `List`, and under `Auto` where they are
+    /// Whether a pass over these segments compares all pairs of the list: under `List`, and under `Auto` where they are
     /// fewer than 4,000.
     pub fn is_list_split<C: WindingCount, I: OverlayInt, D>(
         &self,
@@ -166,7 +166,7 @@ impl Solver {
         }
     }
 
-    /// Whether passes that do not look at all pairs go over a grid of columns: under `Frag`, and where the segments are
+    /// Whether passes that do not compare all pairs go over a grid of columns: under `Frag`, and where the segments are
     /// more than 16,000.
     pub fn is_fragmentation_required<C: WindingCount, I: OverlayInt, D>(
         &self,

@@ -36,7 +36,7 @@ pub fn is_splittable<C: WindingCount, I: OverlayInt, D: Copy>(segments: &[Segmen
 /// Whether a list is a planar arrangement: it may be split, it is sorted as by `sort_by_ab`, no two segments have one
 /// pair of ends, and every two share at most a common end. True of the empty list.
 ///
-/// It looks at every two segments whose ranges in `x` and in `y` meet, and not at neighbors in the list alone.
+/// It compares every pair of segments whose ranges in `x` and in `y` meet, and not neighbors in the list alone.
 pub fn is_arranged<C: WindingCount, I: OverlayInt, D: Copy>(segments: &[Segment<C, I, D>]) -> bool
     ensures { result ≡ is_arranged (I.whole I.MIN_COORD) (I.whole I.MAX_COORD) (segments_of segments.now) }
 {
@@ -104,7 +104,7 @@ fn is_planar<C: WindingCount, I: OverlayInt, D: Copy>(segments: &[Segment<C, I, 
     true
 }
 
-/// Whether a segment is apart from each of those that follow it. Segments that begin right of its end are not looked
+/// Whether a segment is apart from each of those that follow it. Segments that begin right of its end are not tested
 /// at.
 fn is_apart_from_all<C: WindingCount, I: OverlayInt, D: Copy>(
     target: &XSegment<I>,

@@ -32,7 +32,7 @@ struct EndCount<I> {
 ///
 /// It sorts the ends, two for each segment. The sums are exact, whatever the counts.
 ///
-/// Answers `Fault::Memory` where a growth is refused.
+/// Returns `Fault::Memory` where a growth is refused.
 pub fn is_balanced<C: WindingCount, I: OverlayInt, D: Copy>(
     alloc: Global,
     segments: &[Segment<C, I, D>],

@@ -16,12 +16,12 @@ use crate::segm::sort::sort_by_ab;
 use crate::segm::winding::WindingCount;
 use overlay_geometry::num::OverlayInt;
 
-/// Sorts a list by pair of ends, then joins the segments on one pair. Counts have to be valid. Answers whether two
+/// Sorts a list by pair of ends, then joins the segments on one pair. Counts have to be valid. Returns whether two
 /// segments had one pair.
 ///
-/// Answers `Fault::CountOutOfRange` only where a running sum of the counts on one pair leaves
+/// Returns `Fault::CountOutOfRange` only where a running sum of the counts on one pair leaves
 /// `-i32::MAX..=i32::MAX`, and, memory being found, wherever one does; the store is then what the hooks called before
-/// that sum left. Answers `Fault::Memory` where a growth is refused; the store is then as it was. Where a call is
+/// that sum left. Returns `Fault::Memory` where a growth is refused; the store is then as it was. Where a call is
 /// refused the list is empty. This project's own: upstream sorts and merges in each place.
 pub fn join_with_store<C: WindingCount, I: OverlayInt, D: OverlayEdgeData<C>>(
     list: &mut Vec<Segment<C, I, D>>,

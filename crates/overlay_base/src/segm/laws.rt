@@ -46,7 +46,7 @@ pub fn running_sum_laws()
 {}
 
 /// Of balanced segments: whatever number a function gives each point, as much of it is lost along them as is gained. So
-/// the winding round a place on none of them is told by any of its four rays, straight down, straight up, to the left
+/// the winding round a place on none of them follows from any of its four rays, straight down, straight up, to the left
 /// or to the right: by the segments that the ray meets, each counted by the side to which it crosses the ray.
 pub fn ray_laws()
     ensures losses { BalancedLosesNothing }
@@ -54,7 +54,7 @@ pub fn ray_laws()
 {}
 
 /// A list is balanced exactly where the counts at its ends cancel in a join: each segment's weight at its first end and
-/// the inverse at its second one. So one sort and one walk tell balance at all points.
+/// the inverse at its second one. So one sort and one walk test balance at all points.
 pub fn balance_test_laws()
     ensures { BalanceIsTested }
 {}

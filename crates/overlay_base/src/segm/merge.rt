@@ -16,11 +16,11 @@ use crate::segm::winding::WindingCount;
 use overlay_geometry::num::OverlayInt;
 
 /// Joins each run of segments on one pair of ends, from left to right: counts are added, then the data's hook `merge`
-/// is called. A segment whose count is empty is dropped. Answers whether two neighbors had one pair.
+/// is called. A segment whose count is empty is dropped. Returns whether two neighbors had one pair.
 ///
 /// The list has to be sorted, with valid counts; `sort_by_ab` sorts it.
 ///
-/// Answers `Fault::CountOutOfRange` exactly where a running sum of the counts on one pair leaves
+/// Returns `Fault::CountOutOfRange` exactly where a running sum of the counts on one pair leaves
 /// `-i32::MAX..=i32::MAX`. The list is empty then, and the store is what the hooks called before that sum left.
 pub fn merge_if_needed_with_store<C: WindingCount, I: OverlayInt, D: OverlayEdgeData<C>>(
     list: &mut Vec<Segment<C, I, D>>,
@@ -110,7 +110,7 @@ fn joined<C: WindingCount, I: OverlayInt, D: OverlayEdgeData<C>>(
     Ok(left.with_count_and_data(out_count, edge_data))
 }
 
-/// Writes a segment behind those that are kept, unless its count is empty, and answers how many are kept then.
+/// Writes a segment behind those that are kept, unless its count is empty, and returns how many are kept then.
 fn keep<C: WindingCount, I: OverlayInt, D: Copy>(
     list: &mut Vec<Segment<C, I, D>>,
     kept: usize,

@@ -5,6 +5,6 @@
 pub enum ShapeType {
     /// The first of the two: `subj` of a count winds for it.
     Subject,
-    /// The second: `clip` of a count winds for it, or, of a count of lines, tells the lines.
+    /// The second: `clip` of a count winds for it, or, of a count of lines, is the mask of lines.
     Clip,
 }

@@ -13,7 +13,7 @@ use overlay_geometry::num::OverlayInt;
 /// Sorts segments by the first end, then by the second. Segments on one pair of ends stay in their order, so that the
 /// calls of hooks on them have one order too.
 ///
-/// Answers `Fault::Memory` where the sort's buffer is refused; the list is empty then.
+/// Returns `Fault::Memory` where the sort's buffer is refused; the list is empty then.
 pub fn sort_by_ab<C: WindingCount, I: OverlayInt, D: Copy>(
     list: &mut Vec<Segment<C, I, D>>,
 ) -> Result<(), Fault>

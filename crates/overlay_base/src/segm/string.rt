@@ -5,10 +5,10 @@ use crate::segm::fault::Fault;
 use crate::segm::winding::WindingCount;
 use std::cmp::Ordering;
 
-/// The bit of a mask that tells of a line which runs from the segment's `a` to its `b`.
+/// The bit of a mask for a line that runs from the segment's `a` to its `b`.
 pub const STRING_FORWARD_CLIP: u8 = 0b10;
 
-/// The bit of a mask that tells of a line which runs from `b` to `a`.
+/// The bit of a mask for a line that runs from `b` to `a`.
 pub const STRING_BACK_CLIP: u8 = 0b1;
 
 const _: () = prove!(STRING_FORWARD_CLIP == 2);

@@ -59,7 +59,7 @@ pub trait WindingCount: Copy {
 
     /// The count of two segments on one pair of ends.
     ///
-    /// Answers `Fault::CountOutOfRange` exactly where a number of the sum leaves `-i32::MAX..=i32::MAX`.
+    /// Returns `Fault::CountOutOfRange` exactly where a number of the sum leaves `-i32::MAX..=i32::MAX`.
     fn add(self, count: Self) -> Result<Self, Fault>
         ensures sum { IfOk result (λ total. winding total ≡ add (winding self) (winding count)) }
         ensures in_range { IsOk result ↔ IsTrue (is_count_in_range (add (winding self) (winding count))) }

@@ -189,7 +189,7 @@ impl<I: OverlayInt, D: Copy> GraphBuilder<ShapeCountBoolean, OverlayNode, I, D> 
     /// The segments have to be arranged, as `is_arranged` tests; their counts need not balance. The solver's strategy
     /// does not change the answer.
     ///
-    /// Answers `Fault::CountOutOfRange` where a winding above a segment leaves the range, and `Fault::Memory` where a
+    /// Returns `Fault::CountOutOfRange` where a winding above a segment leaves the range, and `Fault::Memory` where a
     /// growth is refused. Nodes and links are empty then, and the builder can be used again.
     pub fn build_boolean_all(
         &mut self,
@@ -216,13 +216,13 @@ impl<I: OverlayInt, D: Copy> GraphBuilder<ShapeCountBoolean, OverlayNode, I, D> 
     }
 
     /// The graph of the segments of an arrangement that the rule keeps: those of whose two sides it says different
-    /// things. With balanced counts these sides are told by the windings in the columns beside a segment, evenly many
-    /// links meet at each node, and the links, each in the direction that has what the rule holds of on its left, are the
+    /// things. With balanced counts these sides are the windings in the columns beside a segment, evenly many links
+    /// meet at each node, and the links, each in the direction that has what the rule holds of on its left, are the
     /// boundary of the rule's region.
     ///
     /// The segments have to be arranged, as `is_arranged` tests. The solver's strategy does not change the answer.
     ///
-    /// Answers `Fault::CountOutOfRange` where a winding above a segment leaves the range, and `Fault::Memory` where a
+    /// Returns `Fault::CountOutOfRange` where a winding above a segment leaves the range, and `Fault::Memory` where a
     /// growth is refused. Nodes and links are empty then, and the builder can be used again.
     pub fn build_boolean_overlay(
         &mut self,
@@ -274,7 +274,7 @@ impl<I: OverlayInt> GraphBuilder<ShapeCountString, Vec<usize>, I, ()> {
     /// The segments have to be arranged, as `is_arranged` tests; their counts need not balance. The solver's strategy
     /// does not change the answer.
     ///
-    /// Answers `Fault::CountOutOfRange` where a winding above a segment leaves the range, and `Fault::Memory` where a
+    /// Returns `Fault::CountOutOfRange` where a winding above a segment leaves the range, and `Fault::Memory` where a
     /// growth is refused. Nodes and links are empty then, and the builder can be used again.
     pub fn build_string_all(
         &mut self,
@@ -302,11 +302,11 @@ impl<I: OverlayInt> GraphBuilder<ShapeCountString, Vec<usize>, I, ()> {
 
     /// The graph of the segments of an arrangement of polygons and lines that the clip rule keeps: parts of lines, by
     /// whether the polygons are on their two sides. With balanced counts, as of closed contours and whatever lines,
-    /// these sides are told by the windings in the columns beside a segment.
+    /// these sides are the windings in the columns beside a segment.
     ///
     /// The segments have to be arranged, as `is_arranged` tests. The solver's strategy does not change the answer.
     ///
-    /// Answers `Fault::CountOutOfRange` where a winding above a segment leaves the range, and `Fault::Memory` where a
+    /// Returns `Fault::CountOutOfRange` where a winding above a segment leaves the range, and `Fault::Memory` where a
     /// growth is refused. Nodes and links are empty then, and the builder can be used again.
     pub fn build_string_clip(
         &mut self,

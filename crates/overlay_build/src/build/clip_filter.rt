@@ -54,7 +54,7 @@ pub fn is_clip_outside_boundary_included(fill: SegmentFill) -> bool
     OUTSIDE.is_included(fill)
 }
 
-/// Keeps what `is_clip_inside_boundary_excluded` tells.
+/// Keeps what passes `is_clip_inside_boundary_excluded`.
 pub struct ClipInsideBoundaryExcludedFilter;
 
 impl InclusionFilterStrategy for ClipInsideBoundaryExcludedFilter {
@@ -65,7 +65,7 @@ impl InclusionFilterStrategy for ClipInsideBoundaryExcludedFilter {
     }
 }
 
-/// Keeps what `is_clip_inside_boundary_included` tells.
+/// Keeps what passes `is_clip_inside_boundary_included`.
 pub struct ClipInsideBoundaryIncludedFilter;
 
 impl InclusionFilterStrategy for ClipInsideBoundaryIncludedFilter {
@@ -76,7 +76,7 @@ impl InclusionFilterStrategy for ClipInsideBoundaryIncludedFilter {
     }
 }
 
-/// Keeps what `is_clip_outside_boundary_excluded` tells.
+/// Keeps what passes `is_clip_outside_boundary_excluded`.
 pub struct ClipOutsideBoundaryExcludedFilter;
 
 impl InclusionFilterStrategy for ClipOutsideBoundaryExcludedFilter {
@@ -87,7 +87,7 @@ impl InclusionFilterStrategy for ClipOutsideBoundaryExcludedFilter {
     }
 }
 
-/// Keeps what `is_clip_outside_boundary_included` tells.
+/// Keeps what passes `is_clip_outside_boundary_included`.
 pub struct ClipOutsideBoundaryIncludedFilter;
 
 impl InclusionFilterStrategy for ClipOutsideBoundaryIncludedFilter {

@@ -1,4 +1,5 @@
-// Closed walks through the graph of a rule, along each link in the direction that has what the rule holds of on its left.
+// Closed walks through the graph of a rule, along each link in the direction that has what the rule holds of on its
+// left.
 ghost use Rattle.std.specs.Prelude.{◌≡◌, ◌≢◌, ℕ, ◌<◌, ◌≤◌, true, false, map, length, slice_index_or, slice_set, ◌++◌, List, IfOk, IfErr, OnOk};
 ghost use Rattle.overlay_base.specs.Rules.{holds, top_value};
 ghost use Rattle.overlay_base.specs.declared.segm.fault.Fault.TheVariants.{Memory};
@@ -17,17 +18,17 @@ use overlay_base::segm::segment_fill::{CLIP_TOP, NONE, SUBJ_TOP, SegmentFill};
 use overlay_geometry::num::OverlayInt;
 use std::alloc::Global;
 
-/// Closed walks along the links of a graph, each in its direction: from `a` to `b` where the rule holds of the top of its
-/// fill, and else from `b` to `a`. So what the rule holds of lies to the left of the way.
+/// Closed walks along the links of a graph, each in its direction: from `a` to `b` where the rule holds of the top of
+/// its fill, and else from `b` to `a`. So what the rule holds of lies to the left of the way.
 ///
 /// Each walk lists the indexes of links that lead from a node on to others and back to it, where it ends at once. Every
-/// link stands in exactly one place of exactly one walk. The points at which the links of a walk start are a contour whose
-/// edges are just these links.
+/// link stands in exactly one place of exactly one walk. The points at which the links of a walk start are a contour
+/// whose edges are just these links.
 ///
-/// As many links have to start as end at each node, as they do in the graph of the rule where counts balance. Takes time
-/// linear in links and nodes.
+/// As many links have to start as end at each node, as they do in the graph of the rule where counts balance. Takes
+/// time linear in links and nodes.
 ///
-/// Answers `Fault::Memory` where a growth is refused.
+/// Returns `Fault::Memory` where a growth is refused.
 pub fn directed_walks<I: OverlayInt, D: Copy>(
     alloc: Global,
     graph: &OverlayGraph<'_, I, D>,
@@ -124,8 +125,8 @@ fn take_arc<I: OverlayInt, D: Copy>(
     link
 }
 
-/// The place of the first of these indexes whose link is unused and starts at a node, where none before a place is; or how
-/// many they are.
+/// The place of the first of these indexes whose link is unused and starts at a node, where none before a place is; or
+/// how many they are.
 fn next_free<I: OverlayInt, D: Copy>(
     indexes: &[usize],
     links: &[OverlayLink<I, D>],

@@ -1,5 +1,5 @@
-// Which segments an overlay rule keeps, by their fills: those whose two sides it tells apart. Upstream: the filters of
-// `build::boolean`, and `InclusionFilterStrategy` of `build::builder`.
+// Which segments an overlay rule keeps, by their fills: those whose two sides it distinguishes. Upstream: the filters
+// of `build::boolean`, and `InclusionFilterStrategy` of `build::builder`.
 ghost use Rattle.std.specs.Prelude.{◌≡◌, ℕ, Bool};
 ghost use Rattle.overlay_base.specs.Rules.{holds, keeps_fill};
 ghost use Rattle.overlay_base.specs.declared.overlay_core.overlay_rule.OverlayRule.TheVariants.{Subject, Clip, Intersect, Union, Difference, InverseDifference, Xor};
@@ -65,7 +65,7 @@ pub fn is_xor(fill: SegmentFill) -> bool
     OverlayRule::Xor.is_included(fill)
 }
 
-/// Keeps what `is_subject` tells.
+/// Keeps what passes `is_subject`.
 pub struct SubjectFilter;
 
 impl InclusionFilterStrategy for SubjectFilter {
@@ -76,7 +76,7 @@ impl InclusionFilterStrategy for SubjectFilter {
     }
 }
 
-/// Keeps what `is_clip` tells.
+/// Keeps what passes `is_clip`.
 pub struct ClipFilter;
 
 impl InclusionFilterStrategy for ClipFilter {
@@ -87,7 +87,7 @@ impl InclusionFilterStrategy for ClipFilter {
     }
 }
 
-/// Keeps what `is_intersect` tells.
+/// Keeps what passes `is_intersect`.
 pub struct IntersectFilter;
 
 impl InclusionFilterStrategy for IntersectFilter {
@@ -98,7 +98,7 @@ impl InclusionFilterStrategy for IntersectFilter {
     }
 }
 
-/// Keeps what `is_union` tells.
+/// Keeps what passes `is_union`.
 pub struct UnionFilter;
 
 impl InclusionFilterStrategy for UnionFilter {
@@ -109,7 +109,7 @@ impl InclusionFilterStrategy for UnionFilter {
     }
 }
 
-/// Keeps what `is_difference` tells.
+/// Keeps what passes `is_difference`.
 pub struct DifferenceFilter;
 
 impl InclusionFilterStrategy for DifferenceFilter {
@@ -120,7 +120,7 @@ impl InclusionFilterStrategy for DifferenceFilter {
     }
 }
 
-/// Keeps what `is_inverse_difference` tells.
+/// Keeps what passes `is_inverse_difference`.
 pub struct InverseDifferenceFilter;
 
 impl InclusionFilterStrategy for InverseDifferenceFilter {
@@ -131,7 +131,7 @@ impl InclusionFilterStrategy for InverseDifferenceFilter {
     }
 }
 
-/// Keeps what `is_xor` tells.
+/// Keeps what passes `is_xor`.
 pub struct XorFilter;
 
 impl InclusionFilterStrategy for XorFilter {

@@ -28,8 +28,8 @@ impl<'a, I: OverlayInt, D: Copy> OverlayGraph<'a, I, D> {
     ghost use Rattle.overlay_build.specs.Graph.{has_even_nodes, is_valid_graph};
     ghost use Rattle.overlay_build.specs.OverlayGraphOf.{nodes_of, links_of, graph_asked};
 
-    /// The graph of these links, which has to have these nodes, found by a sweep that asked so many orders. Each link's
-    /// `a` has to stand before its `b`.
+    /// The graph of these links, which has to have these nodes, found by a sweep that asked this many orders. Each
+    /// link's `a` has to stand before its `b`.
     pub(crate) fn new(
         nodes: &'a [OverlayNode],
         links: &'a [OverlayLink<I, D>],

@@ -15,7 +15,7 @@ pub trait GraphNode: Drop {
 
     /// The node with these indexes.
     ///
-    /// Answers `Fault::Memory` where a growth is refused, and no other fault.
+    /// Returns `Fault::Memory` where a growth is refused, and no other fault.
     fn with_indices(alloc: Global, indices: &[usize]) -> Result<Self, Fault>
         ensures indexes { IfOk result (λ node. indexes node ≡ indices.now) }
         ensures form { IfOk result (λ node. is_canonical node ≡ true) }

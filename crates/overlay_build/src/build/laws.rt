@@ -4,7 +4,7 @@ ghost use Rattle.overlay_build.specs.Laws.{FillsTellSides, FillsTellLines, ClipG
 
 pub use overlay_sweep::build::laws::winding_laws;
 
-/// A fill without a mask is kept by a truth function where it tells the windings of the two sides apart.
+/// A fill without a mask is kept by a truth function where it differs between the windings of the two sides.
 pub fn fill_laws()
     ensures { FillsTellSides }
 {}
@@ -42,8 +42,8 @@ pub fn shape_laws()
 
 /// With balanced counts the windings of the two sides of a segment, by which its fill is made, are those of the places
 /// directly beside it: just above and just below it, or to the left and to the right of a vertical one, with no other
-/// segment between. There is such a place on each side of every segment of a planar arrangement, balanced or not. A place
-/// winds by the segments below it, or by those that another of its rays meets.
+/// segment between. There is such a place on each side of every segment of a planar arrangement, balanced or not. A
+/// place winds by the segments below it, or by those that another of its rays meets.
 pub fn side_laws()
     ensures places { SidesHavePlaces }
     ensures sides { SidesTellPlaces }
@@ -56,8 +56,8 @@ pub fn flow_laws()
     ensures { GraphsFlow }
 {}
 
-/// The edges of the contour of a directed walk through a graph are just the links of the walk, in their directions and in
-/// order.
+/// The edges of the contour of a directed walk through a graph are just the links of the walk, in their directions and
+/// in order.
 pub fn contour_laws()
     ensures { ContoursFollowLinks }
 {}

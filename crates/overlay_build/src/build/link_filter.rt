@@ -12,7 +12,7 @@ use overlay_base::segm::fault::Fault;
 /// Writes one state a link into the buffer: `Unvisited` exactly where the rule says different things of the two sides.
 /// What stood in the buffer is dropped.
 ///
-/// Answers `Fault::Memory` where a growth is refused; the buffer is empty then.
+/// Returns `Fault::Memory` where a growth is refused; the buffer is empty then.
 pub fn filter_by_overlay_into<I, D>(
     links: &[OverlayLink<I, D>],
     overlay_rule: OverlayRule,

@@ -13,7 +13,7 @@ use overlay_base::segm::winding::WindingCount;
 use overlay_geometry::geom::point::IntPoint;
 use overlay_geometry::num::OverlayInt;
 
-/// Contours of fewer points are looked at point by point; longer ones are sorted.
+/// The points of shorter contours are compared pair by pair; longer contours are sorted.
 const FEW_POINTS: usize = 64;
 
 impl<C: WindingCount, N: GraphNode, I: OverlayInt, D: Copy> GraphBuilder<C, N, I, D> {
@@ -21,7 +21,7 @@ impl<C: WindingCount, N: GraphNode, I: OverlayInt, D: Copy> GraphBuilder<C, N, I
     ///
     /// Of fewer than 64 points each is compared with those after it; the buffer is left as it is, and no memory is
     /// taken. From 64 points on they are sorted in the buffer, which ends with them in rising order, by `x`, then by
-    /// `y`. Answers `Fault::Memory` where the buffer's growth is refused; it is empty then.
+    /// `y`. Returns `Fault::Memory` where the buffer's growth is refused; it is empty then.
     pub fn test_contour_for_loops(
         &self,
         contour: &[IntPoint<I>],
@@ -48,7 +48,7 @@ impl<C: WindingCount, N: GraphNode, I: OverlayInt, D: Copy> GraphBuilder<C, N, I
     }
 }
 
-/// Whether two places hold one point, by a look at every two.
+/// Whether two places hold one point, by a comparison of every pair.
 fn has_equal_points<I: OverlayInt>(points: &[IntPoint<I>]) -> bool
     ensures { result ≡ has_repeat point_eq (map (point_of I.whole) points.now) }
 {

@@ -17,10 +17,10 @@ use std::alloc::Global;
 /// every link stands in exactly one place of exactly one walk. A walk comes back to the node where it begins at its end
 /// alone; other nodes it may meet more than once.
 ///
-/// Evenly many links have to meet at each node, as `has_even_nodes` tests. A node's links are gone over once: the search
-/// for an unused one goes on where the last one at that node was found.
+/// Evenly many links have to meet at each node, as `has_even_nodes` tests. A node's links are gone over once: the
+/// search for an unused one goes on where the last one at that node was found.
 ///
-/// Answers `Fault::Memory` where a growth is refused.
+/// Returns `Fault::Memory` where a growth is refused.
 pub fn closed_walks<I: OverlayInt, D: Copy>(
     alloc: Global,
     graph: &OverlayGraph<'_, I, D>,

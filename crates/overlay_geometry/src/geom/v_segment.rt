@@ -31,7 +31,7 @@ impl<I: OverlayInt> VSegment<I> {
 
     /// `Less` where this segment runs below the other, `Greater` where it runs above it.
     ///
-    /// It is told by the turn of the start that comes later, seen from the segment that begins earlier, and of the
+    /// It is decided by the turn of the start that comes later, seen from the segment that begins earlier, and of the
     /// other's end where both start at one point. So it is the order from below only of two segments that share a
     /// column and meet at most in a common end. All ends have to be in range.
     pub fn is_under_segment_order(&self, other: &VSegment<I>) -> Ordering
@@ -46,7 +46,7 @@ impl<I: OverlayInt> VSegment<I> {
         }
     }
 
-    /// Whether `is_under_segment_order` answers `Less`.
+    /// Whether `is_under_segment_order` returns `Less`.
     pub fn is_under_segment(&self, other: &VSegment<I>) -> bool
         requires own { IsVSegmentInRange I.whole I.MIN_COORD I.MAX_COORD self.now }
         requires other { IsVSegmentInRange I.whole I.MIN_COORD I.MAX_COORD other.now }

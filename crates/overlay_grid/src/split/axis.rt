@@ -1,4 +1,4 @@
-// Along which axis the fragments of a column are looked through. This project's own; upstream goes along `y` alone.
+// The axis along which the fragments of a column are scanned. This project's own; upstream goes along `y` alone.
 ghost use Rattle.std.specs.Prelude.{◌≡◌};
 ghost use Rattle.overlay_grid.specs.FragmentOf.{on_axis};
 

@@ -44,8 +44,8 @@ pub(crate) fn mark_borders<I: OverlayInt>(
     Ok(())
 }
 
-/// The same of one border: the heights of the right ends there, in order, and the group to its right. Each look makes a
-/// mark.
+/// The same of one border: the heights of the right ends there, in order, and the group to its right. Each comparison
+/// makes a mark.
 fn mark_border<I: OverlayInt>(
     right_ends: &[I],
     group: &[Fragment<I>],

@@ -17,8 +17,8 @@ use overlay_geometry::geom::x_segment::XSegment;
 use overlay_geometry::num::OverlayInt;
 use std::alloc::{AllocError, Global};
 
-/// So many looks a fragment are few: groups that upward need no more are not sorted anew from left to right to see
-/// whether that way needs fewer. Sorting costs about as much as so many looks.
+/// How many comparisons a fragment are few: groups that need no more upward are not sorted from left to right to see
+/// whether that way needs fewer. Sorting costs about as much as this many comparisons.
 const FEW_LOOKS: u64 = 4;
 
 const _: () = prove!(FEW_LOOKS == 4);
@@ -41,7 +41,7 @@ impl<I: OverlayInt> FragmentBuffer<I> {
     ghost use Rattle.overlay_grid.specs.steps.FragmentFinder.{heights_at, looks_of_groups, all_twos_in_height};
     ghost use Rattle.overlay_grid.specs.GroupsOf.{group_of, groups_of, grid_of};
 
-    /// A buffer with one group for each column of a layout, all empty. Answers `Fault::Memory` where a growth is
+    /// A buffer with one group for each column of a layout, all empty. Returns `Fault::Memory` where a growth is
     /// refused.
     pub fn new(alloc: Global, layout: GridLayout<I>) -> Result<Self, Fault>
         ensures layout { IfOk result (λ buffer. grid_of buffer ≡ layout_of layout) }
@@ -51,7 +51,7 @@ impl<I: OverlayInt> FragmentBuffer<I> {
         FragmentBuffer::with_memory(alloc, layout, FragmentMemory::new(alloc))
     }
 
-    /// A buffer with one group for each column of a layout, all empty, in the memory of an earlier buffer. Answers
+    /// A buffer with one group for each column of a layout, all empty, in the memory of an earlier buffer. Returns
     /// `Fault::Memory` where a growth is refused.
     pub fn with_memory(
         alloc: Global,
@@ -131,8 +131,9 @@ impl<I: OverlayInt> FragmentBuffer<I> {
         clear_groups(&mut self.groups);
     }
 
-    /// Sorts every group by where the fragments begin along one axis, and answers which: from the lowest up, unless a
-    /// scan compares many fragments so and fewer from left to right. So it compares no more twos than share a height.
+    /// Sorts every group by where the fragments begin along one axis, and returns which: from the lowest up, unless a
+    /// scan compares many fragments so and fewer from left to right. So it compares at most the pairs that share a
+    /// height.
     pub fn sort(&mut self) -> Axis
         ensures layout { grid_of self.new ≡ grid_of self.old }
         ensures permutation { (column : ℕ) → IsPermutation (group_of self.old column) (group_of self.new column) }
@@ -153,7 +154,7 @@ impl<I: OverlayInt> FragmentBuffer<I> {
         Axis::Y
     }
 
-    /// How many looks are few for so many fragments.
+    /// How many comparisons are few for this number of fragments.
     fn few_looks(&self) -> u64 {
         let mut fragments = 0_u64;
         for group in self.groups.iter() {
@@ -177,7 +178,7 @@ impl<I: OverlayInt> FragmentBuffer<I> {
     /// holds the segment's part there. The segment has to be in range and inside the layout, and its `a.x` may not be
     /// greater than its `b.x`.
     ///
-    /// Answers `Fault::Memory` where a growth is refused; every group is empty then.
+    /// Returns `Fault::Memory` where a growth is refused; every group is empty then.
     pub fn add_segment(&mut self, index: usize, x_segment: XSegment<I>) -> Result<(), Fault>
         requires in_range { IsPairInRange I.whole I.MIN_COORD I.MAX_COORD x_segment }
         requires order { I.whole x_segment.a.x ≤ℤ I.whole x_segment.b.x }

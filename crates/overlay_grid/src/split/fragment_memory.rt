@@ -23,7 +23,7 @@ impl<I> FragmentMemory<I> {
     }
 }
 
-/// Leaves so many groups, all of them empty.
+/// Leaves this number of groups, all of them empty.
 pub(crate) fn empty_groups<I: OverlayInt>(
     alloc: Global,
     groups: &mut Vec<Vec<Fragment<I>>>,

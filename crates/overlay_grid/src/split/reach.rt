@@ -1,4 +1,4 @@
-// How many twos of fragments a scan of groups along an axis compares. This project's own.
+// How many pairs of fragments a scan of groups along an axis compares. This project's own.
 ghost use Rattle.std.specs.Prelude.{◌≡◌, ◌-◌, ◌^◌, ℕ, count_by, int_le, length, min};
 ghost use Rattle.overlay_grid.specs.FragmentOf.{fragment_of, fragments_of, least_along, IsSortedAlong};
 ghost use Rattle.overlay_grid.specs.GroupsOf.{group_in};
@@ -8,7 +8,7 @@ use crate::split::axis::Axis;
 use crate::split::fragment::Fragment;
 use overlay_geometry::num::OverlayInt;
 
-/// How many twos of fragments a scan of groups along an axis compares: each fragment with those after it in its group
+/// How many pairs of fragments a scan of groups along an axis compares: each fragment with those after it in its group
 /// that begin up to where it ends; `u64::MAX` if there are more. The groups have to be sorted along the axis.
 pub(crate) fn count_reached<I: OverlayInt>(groups: &[Vec<Fragment<I>>], axis: Axis) -> u64
     requires sorted { (column : ℕ) → IsSortedAlong axis (group_in I.whole groups.now column) }

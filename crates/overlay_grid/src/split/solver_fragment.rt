@@ -1,4 +1,4 @@
-// The finder that looks at fragments of segments, column by column of a grid. Upstream: `split::solver_fragment`.
+// The finder that compares fragments of segments, column by column of a grid. Upstream: `split::solver_fragment`.
 ghost use Rattle.std.specs.Prelude.{◌≡◌, ◌≢◌, ◌^◌, min, ◌<◌, ◌≤◌, ◌+◌, ◌-◌, ◌++◌, ℕ, All, IsTrue, IfErr, IfOk, OnOk, IsSortedByKey, drop, length, int_lt, flat_map};
 ghost use Rattle.std.specs.List.{AllByRecursion, list_any, range_with_len};
 ghost use Rattle.overlay_base.specs.declared.segm.fault.Fault.TheVariants.{Memory};
@@ -32,13 +32,13 @@ use overlay_intersections::split::placing::Placing;
 use std::alloc::AllocError;
 
 /// Finds the marks of a pass: the points at which each segment is to be split, each once, by rising index and then in
-/// order of points. Answers whether two segments cross at a point without whole coordinates, so that the pass rounds.
+/// order of points. Returns whether two segments cross at a point without whole coordinates, so that the pass rounds.
 ///
 /// The segments have to be in range and inside the buffer's layout, and a squared radius at least 1. Those are looked
 /// at whose fragments meet in some column; a vertical segment on the left border of a column besides takes marks from
 /// the right ends in the column to its left. What `marks` and `buffer` held before is dropped.
 ///
-/// Answers `Fault::Memory` where a growth is refused; `marks` is of no use then.
+/// Returns `Fault::Memory` where a growth is refused; `marks` is of no use then.
 pub fn find_marks<C: WindingCount, I: OverlayInt, D: Copy>(
     segments: &[Segment<C, I, D>],
     placing: Placing,
@@ -103,7 +103,7 @@ fn fill<C: WindingCount, I: OverlayInt, D: Copy>(
     Ok(())
 }
 
-/// Appends the marks that segments put on one another of which two fragments meet in some column, and answers whether
+/// Appends the marks that segments put on one another of which two fragments meet in some column, and returns whether
 /// some two of these cross at a point without whole coordinates. The groups have to be sorted along the axis.
 fn mark_columns<I: OverlayInt>(
     groups: &[Vec<Fragment<I>>],
@@ -133,7 +133,7 @@ fn mark_columns<I: OverlayInt>(
     Ok(rounded)
 }
 
-/// Appends the marks that segments put on one another of which two fragments in a group meet, and answers whether some
+/// Appends the marks that segments put on one another of which two fragments in a group meet, and returns whether some
 /// two of these cross at a point without whole coordinates. The group has to be sorted along the axis.
 fn mark_group<I: OverlayInt>(
     group: &[Fragment<I>],
@@ -183,7 +183,7 @@ fn mark_with_rest<I: OverlayInt>(
 {
     let fragment = group[first];
     let mut rounded = false;
-    // a count of its own, so that no look is written through the reference
+    // a count of its own, so that no comparison is written through the reference
     let mut looks = *looked;
     for later in first + 1..group.len() {
         let other = group[later];
@@ -207,7 +207,7 @@ fn begins_past<I: OverlayInt>(other: &Fragment<I>, fragment: &Fragment<I>, axis:
     axis.greatest(&fragment.rect) < axis.least(&other.rect)
 }
 
-/// Appends the marks that the segments of two fragments put on one another, if the rectangles meet, and answers whether
+/// Appends the marks that the segments of two fragments put on one another, if the rectangles meet, and returns whether
 /// they cross at a point without whole coordinates. The smaller pair of ends is the target.
 fn mark_two<I: OverlayInt>(
     fragment: &Fragment<I>,

@@ -54,7 +54,7 @@ impl CrossSolver {
     /// at least 1.
     ///
     /// - `None` where they have no point in common, or only an end of both.
-    /// - `Overlay`, at the origin, where the four ends lie on one line: `collinear` tells more.
+    /// - `Overlay`, at the origin, where the four ends lie on one line: `collinear` says more.
     /// - `OtherEnd` or `TargetEnd`, not rounded, at an end that lies strictly inside the other segment.
     /// - `Pure`, not rounded, at a crossing with whole coordinates.
     /// - Any other crossing is rounded to the snapping point: each offset from the target's `a` to nearest, halves away

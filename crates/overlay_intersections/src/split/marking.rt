@@ -27,7 +27,7 @@ pub struct Indexed<I> {
     pub x_segment: XSegment<I>,
 }
 
-/// Appends the marks that two segments put on one another, and answers whether they cross at a point without whole
+/// Appends the marks that two segments put on one another, and returns whether they cross at a point without whole
 /// coordinates. The first is the target, and may not stand after the second.
 pub fn mark_both<I: OverlayInt>(
     first: Indexed<I>,

@@ -21,7 +21,7 @@ use overlay_geometry::num::OverlayInt;
 use overlay_intersections::split::line_mark::LineMark;
 
 /// Cuts a segment of a list, given with its index, along a path of two steps or more from its first end to its last:
-/// the first piece takes its place, the others are appended. Answers `Fault::Memory` where a growth is refused.
+/// the first piece takes its place, the others are appended. Returns `Fault::Memory` where a growth is refused.
 pub fn cut_segment<C: WindingCount, I: OverlayInt, D: OverlayEdgeData<C>>(
     list: &mut Vec<Segment<C, I, D>>,
     index: usize,

@@ -33,14 +33,14 @@ use overlay_tree::split::{solver_list, solver_tree};
 use std::alloc::Global;
 use std::mem::replace;
 
-/// So many fragments a segment are many: a tree, which may look as often as there are fragments, is then tried before
-/// they are made. With fewer the columns are hardly dearer than the tree; without this, long segments would take a
-/// fragment in each of hundreds of columns.
+/// How many fragments a segment are many: a tree, which may compare as often as there are fragments, is then tried
+/// before they are made. With fewer the columns are hardly dearer than the tree; without this, long segments would take
+/// a fragment in each of hundreds of columns.
 const MANY_FRAGMENTS: u128 = 4;
 
 const _: () = prove!(MANY_FRAGMENTS == 4);
 
-/// What the passes of one run find the segments that meet by: a look at all pairs of a list, a tree over their heights,
+/// What the passes of one run find the segments that meet by: a scan of all pairs of a list, a tree over their heights,
 /// or the columns of a grid. The marks are the same.
 #[derive(Drop)]
 pub struct PairFinder<I: OverlayInt> {
@@ -53,7 +53,7 @@ impl<I: OverlayInt> PairFinder<I> {
     /// For a run whose first arrangement is this, which has to be in range: over a grid, where the solver asks for one,
     /// and not for a list, and these segments are wide enough. The grid takes the memory that is lent.
     ///
-    /// Answers `Fault::Memory` where a growth is refused.
+    /// Returns `Fault::Memory` where a growth is refused.
     pub fn new<C: WindingCount, D: Copy>(
         alloc: Global,
         solver: &Solver,
@@ -92,7 +92,7 @@ impl<I: OverlayInt> PairFinder<I> {
         }
     }
 
-    /// How many pairs were taken up so far, up to `u128::MAX`.
+    /// How many pairs were compared so far, up to `u128::MAX`.
     pub fn looked(&self) -> u128
         ensures { result ≡ looks_in self.now }
     {
@@ -100,13 +100,13 @@ impl<I: OverlayInt> PairFinder<I> {
     }
 
     /// Finds the marks of a pass: the points at which each segment is to be split, each once, by rising index and then
-    /// in order of points. Answers whether two segments cross at a point without whole coordinates, so that the pass
+    /// in order of points. Returns whether two segments cross at a point without whole coordinates, so that the pass
     /// rounds.
     ///
     /// The list has to be sorted, as by `sort_by_ab`, in range, and inside the grid, if there is one; a squared radius
     /// has to be at least 1. What `marks` held before is dropped.
     ///
-    /// Answers `Fault::Memory` where a growth is refused; `marks` is of no use then.
+    /// Returns `Fault::Memory` where a growth is refused; `marks` is of no use then.
     pub fn find_marks<C: WindingCount, D: Copy>(
         &mut self,
         segments: &[Segment<C, I, D>],
@@ -169,7 +169,7 @@ fn grid_over<C: WindingCount, I: OverlayInt, D: Copy>(
 }
 
 /// Finds the marks over a grid, inside which the segments have to lie. Where they have many fragments each, they are
-/// first looked up in a tree, which may take up as many pairs as there are fragments. Only where that does not do are
+/// first looked up in a tree, which may compare as many pairs as there are fragments. Only where that does not do are
 /// fragments made.
 fn find_over_grid<C: WindingCount, I: OverlayInt, D: Copy>(
     segments: &[Segment<C, I, D>],

@@ -18,8 +18,9 @@ pub fn balance_laws()
     ensures run_balance { RunKeepsBalance }
 {}
 
-/// The order of the given segments does not count: what stands after so many passes is the same, and so is what a run
-/// answers. Whether a sum leaves the range on the way is not said here, since sums are made in the order of the list.
+/// The order of the given segments does not count: the list after any number of passes is the same, and so is what a
+/// run answers. Whether a sum leaves the range on the way is not said here, since sums are made in the order of the
+/// list.
 pub fn order_laws()
     ensures passes { PassesIgnoreOrder }
     ensures run { RunIgnoresOrder }
@@ -32,7 +33,7 @@ pub fn polygon_laws()
 
 /// A settling pass that is rounded makes a mark, and lowers the potential by at least the number of its marks. So a run
 /// ends, after no more passes than the snap limit, the potential of the arrangement reached there, and one. What is
-/// given and the settings tell what it answers.
+/// given and the settings decide what it returns.
 pub fn ending_laws()
     ensures settling { SettlingLowers }
     ensures ends { RunEnds }
@@ -56,7 +57,7 @@ pub fn box_laws()
 
 /// Let no two given segments cross at a point that is not whole. Then the result lies on the given segments, and
 /// between two neighbors among the ends and crossings on a given segment it counts what the given segments count there
-/// together. No other pair has a count, which tells the one answer without any pass. So the settings do not change it.
+/// together. No other pair has a count, which gives the answer without any pass. So the settings do not change it.
 pub fn exact_input_laws()
     ensures counts { ExactInputKeepsCounts }
     ensures answer { ExactInputHasOneAnswer }
@@ -87,9 +88,9 @@ pub fn nearness_laws()
 
 /// Segments that lie near one segment pass each place that is farther from it on one side. So a pass changes the
 /// winding at no place that is farther from every segment than it moves crossings, and a run at none that is farther
-/// from every given segment than its passes reach together, lines aside, whose counts do not wind; on exact input at none
-/// that lies on no given segment. A place that is far lies on no segment, so where the given counts balance, any ray from
-/// it through the given segments tells the winding there after so many passes.
+/// from every given segment than its passes reach together, lines aside, whose counts do not wind; on exact input at
+/// none that lies on no given segment. A place that is far lies on no segment, so where the given counts balance, any
+/// ray from it through the given segments gives the winding there after that many passes.
 pub fn place_laws()
     ensures side { PassOnOneSide }
     ensures join { JoinKeepsWinding }
@@ -103,8 +104,8 @@ pub fn place_laws()
 
 /// Whatever the hooks do, passes with data are, without their data, the passes without. Where nothing is marked, data
 /// and store stay as they are. What the hooks keep of data holds of all data after a run, where it holds of all given.
-/// Where data names pairs and the hooks name no others, each segment after a run lies as near to every pair that its data
-/// names as the passes reach. For exact input, where nothing is moved, it lies on it.
+/// Where data names pairs and the hooks name no others, each segment after a run lies as near to every pair that its
+/// data names as the passes reach. For exact input, where nothing is moved, it lies on it.
 pub fn data_pass_laws<D, S>()
     ensures beside { DataIsBeside D S }
     ensures unmarked { UnmarkedDataIsUnchanged D S }

@@ -51,7 +51,7 @@ impl<I> PassBuffers<I> {
     }
 }
 
-/// What a pass tells beside the list that it leaves.
+/// What a pass reports beside the list that it leaves.
 #[derive(Clone, Copy, Debug, PartialEq, Eq)]
 pub struct Passed {
     /// Whether two segments crossed at a point without whole coordinates.
@@ -66,9 +66,9 @@ pub struct Passed {
 /// The list has to be sorted, without two segments on one pair of ends, in range, with counts that are valid and not
 /// empty, and a squared radius has to be at least 1. It has to lie inside the finder's grid, if there is one.
 ///
-/// Answers `Fault::CountOutOfRange` only where a running sum of the counts of pieces on one pair leaves
+/// Returns `Fault::CountOutOfRange` only where a running sum of the counts of pieces on one pair leaves
 /// `-i32::MAX..=i32::MAX`, and, memory being found, wherever one does; the store is then what the hooks called before
-/// that sum left. Answers `Fault::Memory` where a growth is refused; the store is then what the hooks called so far
+/// that sum left. Returns `Fault::Memory` where a growth is refused; the store is then what the hooks called so far
 /// left. Where a call is refused the list is empty, and the finder keeps its solver and its grid.
 pub fn pass<C: WindingCount, I: OverlayInt, D: OverlayEdgeData<C>>(
     list: &mut Vec<Segment<C, I, D>>,

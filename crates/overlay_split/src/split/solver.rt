@@ -108,15 +108,15 @@ impl<I> SplitSolver<I> {
         self.passes
     }
 
-    /// How often the last call that succeeded took up a pair of segments, or of parts of them in a column, even if only
+    /// How many pairs of segments, or of their parts in a column, the last call that succeeded compared, even if only
     /// to find that they do not meet; 0 at first. It stops at `u128::MAX`.
     ///
-    /// A pass over the list takes up just the twos whose ranges in `x` meet. A pass over a tree takes up at most those
-    /// whose ranges in `x` and in `y` meet, and 48 for each segment. A pass over a grid takes up at most the twos of
-    /// parts in one column whose ranges in `y` meet, one for each part, and, for a vertical segment on the left border
-    /// of a column, the parts in the column to its left.
+    /// A pass over the list compares exactly the pairs whose ranges in `x` meet. A pass over a tree compares at most
+    /// those whose ranges in `x` and in `y` meet, and 48 for each segment. A pass over a grid compares at most the
+    /// pairs of parts in one column whose ranges in `y` meet, one for each part, and, for a vertical segment on the
+    /// left border of a column, the parts in the column to its left.
     ///
-    /// Not counted are comparisons that take up no pair: of heights with the nodes on the way down a tree, of the ends
+    /// Not counted are comparisons of no pair: of heights with the nodes on the way down a tree, of the ends
     /// of live segments with the place of the sweep, and with the first segment or part past the end of a scan, one at
     /// most for each. That nothing else is compared without being counted is read, not proved.
     pub fn looked(&self) -> u128
@@ -188,7 +188,7 @@ impl<I: OverlayInt> SplitSolver<I> {
     }
 
     /// Splits a list until every two of its segments share at most a common end: the list is sorted and merged, then
-    /// passes are made up to one in which every crossing has whole coordinates. Answers whether equal segments were
+    /// passes are made up to one in which every crossing has whole coordinates. Returns whether equal segments were
     /// joined or a segment was split.
     ///
     /// The list has to be splittable, as `is_splittable` tests. Pass k snaps, with the solver's precision, up to the
@@ -201,13 +201,13 @@ impl<I: OverlayInt> SplitSolver<I> {
     ///
     /// Each mark splits the data of what is left of its segment; a piece that is turned reverses its data; segments on
     /// the same ends merge theirs from left to right, in the stable order of the list. What the hooks keep of data, and
-    /// what holds of all given data, holds of all data after the split (`kept_data`). Where data names given segments, as
-    /// their numbers do, and the hooks name no others, each segment lies as near to every one that its data names as the
-    /// passes move crossings (`named_data`).
+    /// what holds of all given data, holds of all data after the split (`kept_data`). Where data names given segments,
+    /// as their numbers do, and the hooks name no others, each segment lies as near to every one that its data names as
+    /// the passes move crossings (`named_data`).
     ///
-    /// Answers `Fault::CountOutOfRange` only where a running sum of counts on one pair of ends leaves
+    /// Returns `Fault::CountOutOfRange` only where a running sum of counts on one pair of ends leaves
     /// `-i32::MAX..=i32::MAX`, in the given list or among the pieces of a pass, and, memory being found, wherever one
-    /// does; the store is then what the hooks called before that sum left. Answers `Fault::Memory` where a growth is
+    /// does; the store is then what the hooks called before that sum left. Returns `Fault::Memory` where a growth is
     /// refused; the store is then what the hooks called so far left, so what each hook keeps of it still holds. Where a
     /// call is refused the list is empty, `passes` and `looked` are as they were, and the splitter can be used again.
     pub fn split_segments_with_store<C: WindingCount, D: OverlayEdgeData<C>>(

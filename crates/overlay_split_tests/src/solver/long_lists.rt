@@ -68,10 +68,10 @@ fn long_lines(rt: &(impl Abort + AllocGlobal)) -> Vec<Row> {
     rows
 }
 
-/// What a split tells: the flag, the number of passes, and how many pairs were taken up.
+/// What a split reports: the flag, the number of passes, and how many pairs were compared.
 type Looked = (bool, u128, u128);
 
-/// Splits under a strategy: the list after it, and what the split tells.
+/// Splits under a strategy: the list after it, and what the split reports.
 fn split(rt: &(impl Abort + AllocGlobal), strategy: Strategy, given: &[Row]) -> (Vec<Row>, Looked) {
     let mut list: Vec<Counted<i32>> = segments(rt, given);
     let mut splitter = SplitSolver::new(rt.alloc());
@@ -90,13 +90,13 @@ struct Alike {
     rows: Vec<Row>,
     /// The flag and the number of passes.
     told: (bool, u128),
-    /// How many pairs were taken up under `List`.
+    /// How many pairs were compared under `List`.
     listed: u128,
     /// The same under `Tree`, `Frag` and `Auto`.
     looked: [u128; 3],
 }
 
-/// Splits under a strategy, wants the answer of the list, and answers how many pairs were taken up.
+/// Splits under a strategy, wants the answer of the list, and returns how many pairs were compared.
 fn looked_at(
     rt: &(impl Abort + AllocGlobal),
     strategy: Strategy,
@@ -125,7 +125,7 @@ fn split_alike(rt: &(impl Abort + AllocGlobal), given: &[Row]) -> Alike {
     }
 }
 
-/// Wants so many segments after the split, this flag and so many passes.
+/// Wants this number of segments after the split, this flag and this number of passes.
 fn check_alike(rt: &impl Abort, split: &Alike, count: usize, told: (bool, u128)) {
     assert_eq!(rt; (split.rows.len(), split.told), (count, told));
 }
@@ -197,8 +197,8 @@ fn segments_beside_one_another(rt: HostRuntime) {
     assert!(rt; tree <= 4000 && auto <= 4000);
 }
 
-/// 48 rows of 34 fans: 16,320 segments, 45 twos of each fan meet, and columns are 64 wide. Each segment has two
-/// fragments, so no tree is asked before the grid, which looks at each of these twos in two columns.
+/// 48 rows of 34 fans: 16,320 segments, 45 pairs of each fan meet, and columns are 64 wide. Each segment has two
+/// fragments, so no tree is asked before the grid, which compares each of these pairs in two columns.
 #[test]
 fn fans_in_columns(rt: HostRuntime) {
     let split = split_alike(&rt, &fans(&rt, 48));
@@ -209,7 +209,7 @@ fn fans_in_columns(rt: HostRuntime) {
     }
 }
 
-/// Sixty segments are live at once, more than are looked at one by one: so they stand in the tree.
+/// Sixty segments are live at once, more than are compared one by one: so they stand in the tree.
 #[test]
 fn many_long_lines_at_once(rt: HostRuntime) {
     let split = split_alike(&rt, &long_lines(&rt));
@@ -252,7 +252,7 @@ fn squares(rt: &(impl Abort + AllocGlobal), count: u16) -> Vec<Row> {
     rows
 }
 
-/// All heights meet, so looked through upward every column would take up every two. From left to right it takes up
+/// All heights meet, so a scan upward would compare every pair of each column. From left to right it compares
 /// those whose boxes meet, each in at most two columns.
 #[test]
 fn squares_in_a_row(rt: HostRuntime) {

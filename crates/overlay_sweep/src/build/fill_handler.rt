@@ -36,7 +36,7 @@ pub trait FillHandler<C: WindingCount, I: OverlayInt, D: Copy>: Drop {
         ensures handler { self.new ≡ (handle_gives self.old (visit_of index segment.now fill)).0 }
         ensures answer { break_value result ≡ (handle_gives self.old (visit_of index segment.now fill)).1 };
 
-    /// What the run answers where no segment has ended it.
+    /// What the run returns where no segment has ended it.
     fn finalize(self) -> Self::Output
         ensures { result ≡ finalize_gives self };
 
@@ -44,7 +44,7 @@ pub trait FillHandler<C: WindingCount, I: OverlayInt, D: Copy>: Drop {
         → takes handler index → takes (handle_gives handler visit).0 index };
 }
 
-/// Writes each fill at its index into a list that it borrows. The run answers the borrow.
+/// Writes each fill at its index into a list that it borrows. The run returns the borrow.
 #[derive(Drop)]
 pub struct StoreFillsHandler<'a> {
     fills: &'a mut Vec<SegmentFill>,

@@ -17,7 +17,7 @@ pub trait FillStrategy<C: WindingCount> {
 
     /// The winding above a segment with this count, where that below it is `bot`, and the segment's fill.
     ///
-    /// Both counts have to be valid. Answers `Fault::CountOutOfRange` exactly where a number of the winding above
+    /// Both counts have to be valid. Returns `Fault::CountOutOfRange` exactly where a number of the winding above
     /// leaves `-i32::MAX..=i32::MAX`.
     fn add_and_fill(this: C, bot: C) -> Result<(C, SegmentFill), Fault>
         requires this { IsTrue (is_valid (C.winding this)) }
@@ -34,9 +34,9 @@ pub trait FillStrategy<C: WindingCount> {
     ghost nothing: { C.made (pos 0) (pos 0) ≡ empty };
 }
 
-/// A count that tells a segment's fill under every rule, so that the strategies serve it.
+/// A count that gives a segment's fill under every rule, so that the strategies serve it.
 pub trait FillCount: WindingCount {
-    /// The same as `FillStrategy::add_and_fill`, under a rule that is told at run time.
+    /// The same as `FillStrategy::add_and_fill`, under a rule chosen at run time.
     fn add_and_fill_under(
         fill_rule: FillRule,
         this: Self,

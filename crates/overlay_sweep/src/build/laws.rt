@@ -9,8 +9,8 @@ pub fn winding_laws()
     ensures tops { TopsAddWeights }
 {}
 
-/// There is a table of what a search by halves asks among any number of entries, so that the sum which `run` promises over
-/// a list is one number.
+/// There is a table of what a search by halves asks among any number of entries, so that the sum which `run` promises
+/// over a list is one number.
 pub fn search_laws()
     ensures { SearchesHaveTable }
 {}

@@ -29,15 +29,15 @@ pub trait LiveSegments<C: WindingCount, I: OverlayInt> {
     // how many entries it holds, those that have ended and are not dropped yet too
     ghost held: { Self → ℕ };
 
-    // a look at n entries asks at most d orders, and d more for each entry that it drops
+    // a search among n entries asks at most d orders, and d more for each entry that it drops
     ghost is_most: { ℕ → ℕ → Type 0 };
 
-    // a look among n live segments may ask d orders
+    // a search among n live segments may ask d orders
     ghost asks: { ℕ → ℕ → Type 0 };
 
     /// Adds a segment that starts at `x`, and is not vertical, with the sum above it.
     ///
-    /// Answers `Fault::Memory` where a growth is refused; the collection is empty then, and the next call may be at any
+    /// Returns `Fault::Memory` where a growth is refused; the collection is empty then, and the next call may be at any
     /// `x`.
     fn insert(&mut self, segment: VSegment<I>, sum: C, x: I) -> Result<(), Fault>
         requires in_range { IsVSegmentInRange I.whole I.MIN_COORD I.MAX_COORD segment }

@@ -1,4 +1,4 @@
-// What a way down a tree of segments looks for.
+// What a descent of a tree of segments searches for.
 
 use overlay_geometry::geom::point::IntPoint;
 use overlay_geometry::geom::v_segment::VSegment;

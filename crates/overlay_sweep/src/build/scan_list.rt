@@ -12,11 +12,11 @@ use overlay_geometry::geom::v_segment::VSegment;
 use overlay_geometry::num::OverlayInt;
 use std::alloc::Global;
 
-/// The live segments from below. A look drops those that have ended, and searches the others by halves.
+/// The live segments from below. A search drops those that have ended, and halves the others.
 #[derive(Drop)]
 pub struct ScanList<C: WindingCount, I: OverlayInt> {
     entries: Vec<Entry<C, I>>,
-    /// No entry ends left of it, so that up to here a look has nothing to drop.
+    /// No entry ends left of it, so that up to here a search has nothing to drop.
     least_end: I,
     compared: u128,
 }
@@ -98,7 +98,7 @@ impl<C: WindingCount, I: OverlayInt> ScanList<C, I> {
         }
     }
 
-    /// Drops what has ended by `x`. Answers how many of the others stand before a place, and leaves in `compared` how
+    /// Drops what has ended by `x`. Returns how many of the others stand before a place, and leaves in `compared` how
     /// many orders that asked.
     fn settle(&mut self, x: I, place: &Place<I>) -> usize
         requires least { All (λ s. I.whole self.old.least_end ≤ℤ s.pair.b.x) (entries_of self.old.entries.items) }

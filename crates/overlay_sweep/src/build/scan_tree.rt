@@ -127,7 +127,7 @@ impl<C: WindingCount, I: OverlayInt> ScanTree<C, I> {
         }
     }
 
-    /// Goes down until a way meets no entry that has ended, and puts the tree of `new` at its place. Answers the last
+    /// Goes down until a way meets no entry that has ended, and puts the tree of `new` at its place. Returns the last
     /// entry before it.
     fn settle(&mut self, x: I, place: &Place<I>, new: usize) -> usize
         requires growing { IsGrowing (I.whole x)
@@ -155,7 +155,7 @@ impl<C: WindingCount, I: OverlayInt> ScanTree<C, I> {
         }
     }
 
-    /// Adds an entry with a node of its own, which is in no tree yet. Answers its index.
+    /// Adds an entry with a node of its own, which is in no tree yet. Returns its index.
     fn push(&mut self, entry: Entry<C, I>) -> Result<usize, Fault>
         ensures entries { OnOk result (self.new.entries.items ≡ self.old.entries.items ++ entry ∷ []) }
         ensures nodes { OnOk result (self.new.shape.nodes.items ≡ self.old.shape.nodes.items

@@ -47,20 +47,20 @@ impl<C: WindingCount, I: OverlayInt> SweepRunner<C, I> {
         }
     }
 
-    /// Hands the segments of an arrangement to the handler, by their starts and then by angle from below, each with its
-    /// index and its fill under the strategy's rule. Answers what the handler first breaks with, or else what it makes
+    /// Gives the segments of an arrangement to the handler, by their starts and then by angle from below, each with its
+    /// index and its fill under the strategy's rule. Returns what the handler first breaks with, or else what it makes
     /// of the end.
     ///
     /// The winding below a segment is the one above the segment just before it by angle at the same start, or else the
     /// one above the segment directly below its start, or 0; the winding above adds the segment's count. Balance is no
     /// condition; with it these windings are those of the columns of the plane. The segments have to be arranged, as
     /// `is_arranged` tests, and the handler has to take each of their indexes. The solver does not change the answer:
-    /// it chooses whether the live segments stand in a list or in a balanced tree. Over n segments `compared` is at most
-    /// 3 n d. For the list 2 n is at most 2 ^ d; for the tree no balanced one of n entries is higher than d.
-    /// Where the handler never breaks, it is the sum of all searches over the list, and no less than that of ways down
-    /// trees of the live segments alone over the tree.
+    /// it chooses whether the live segments stand in a list or in a balanced tree. Over n segments `compared` is at
+    /// most 3 n d. For the list 2 n is at most 2 ^ d; for the tree no balanced one of n entries is higher than d. Where
+    /// the handler never breaks, it is the sum of all searches over the list, and no less than that of ways down trees
+    /// of the live segments alone over the tree.
     ///
-    /// Answers `Fault::CountOutOfRange` exactly where a winding above a segment that is handed out leaves the range,
+    /// Returns `Fault::CountOutOfRange` exactly where a winding above a segment that the handler gets leaves the range,
     /// and `Fault::Memory` where a growth is refused. The handler is spent then; the runner can be used again, and its
     /// `compared` is that of the run before.
     pub fn run<D: Copy, F: FillStrategy<C>, H: FillHandler<C, I, D>>(
@@ -120,7 +120,7 @@ impl<C: WindingCount, I: OverlayInt> SweepRunner<C, I> {
 }
 
 impl<C: FillCount, I: OverlayInt> SweepRunner<C, I> {
-    /// The same as `run`, under a fill rule that is told at run time.
+    /// The same as `run`, under a fill rule chosen at run time.
     pub fn run_with_fill_rule<D: Copy, H: FillHandler<C, I, D>>(
         &mut self,
         fill_rule: FillRule,

@@ -129,7 +129,7 @@ impl TreeShape {
         top.left
     }
 
-    /// Joins two trees by a node between them. Answers the top.
+    /// Joins two trees by a node between them. Returns the top.
     pub fn join(&mut self, left: usize, at: usize, right: usize) -> usize
         requires { AreJoinable self.old.nodes.items left at right }
         ensures { (j : AreJoinable self.old.nodes.items left at right)
@@ -163,7 +163,7 @@ impl TreeShape {
         self.join(left, at, right)
     }
 
-    /// Takes the first node out of a tree. Answers that node, and the top of what is left.
+    /// Takes the first node out of a tree. Returns that node, and the top of what is left.
     fn remove_first(&mut self, at: usize) -> (usize, usize)
         requires sound { IsSound self.old.nodes.items at }
         requires some { at ≢ none }
@@ -178,7 +178,7 @@ impl TreeShape {
         (first, self.join(left, at, node.right))
     }
 
-    /// Takes the top out of a tree. Answers the top of what is left.
+    /// Takes the top out of a tree. Returns the top of what is left.
     pub fn remove_top(&mut self, at: usize) -> usize
         requires sound { IsSound self.old.nodes.items at }
         requires some { at ≢ none }

@@ -1,4 +1,5 @@
-// One sweep over an arrangement: which segment is handed out when, with which fill. Upstream: part of `build::sweep`.
+// One sweep over an arrangement: which segment the handler gets when, with which fill. Upstream: part of
+// `build::sweep`.
 ghost use Rattle.std.specs.Prelude.{◌≡◌, ℕ, suc, ◌+◌, ◌*◌, ◌-◌, ◌^◌, ◌<◌, ◌≤◌, ◌≤ℤ◌, ◌<ℤ◌, min, int_lt, cond, ℤ, ◌∷◌, ⊤, IsTrue, IsFalse, IfOk, OnOk, IfErr, length};
 ghost use Rattle.std.specs.ControlFlow.{break_value, MatchControlFlow};
 ghost use Rattle.overlay_base.specs.Windings.{add, weight, is_valid, is_count_in_range};
@@ -23,8 +24,8 @@ use overlay_geometry::geom::v_segment::VSegment;
 use overlay_geometry::num::OverlayInt;
 use std::ops::ControlFlow;
 
-/// Hands one segment out with the winding below it. Answers the winding above it, or what the handler broke with. A
-/// segment that is not vertical is live from then on, and the orders that this asks are added to `compared`.
+/// Gives the handler one segment with the winding below it. Returns the winding above it, or what the handler broke
+/// with. A segment that is not vertical is live from then on, and the orders that this asks are added to `compared`.
 fn visit<C, I, D, F, S, H>(
     live: &mut S,
     index: usize,
@@ -104,8 +105,9 @@ where
     Ok(ControlFlow::Continue(top))
 }
 
-/// Hands the segments of an arrangement out, by their starts and then by angle from below. Leaves in `compared` how
-/// many orders this asked of live segments, `u128::MAX` at most: those of three looks at all segments for each of them.
+/// Gives the handler the segments of an arrangement, by their starts and then by angle from below. Leaves in `compared`
+/// how many orders this asked of live segments, `u128::MAX` at most: those of three searches among all segments for
+/// each of them.
 pub fn sweep_with_handler<C, I, D, F, S, H>(
     live: &mut S,
     ways: &mut Vec<Way<I>>,

@@ -8,7 +8,7 @@ use overlay_geometry::num::OverlayInt;
 use overlay_intersections::split::looks::take_up;
 use std::alloc::AllocError;
 
-/// Appends the indexes that `look_up` finds, by a look at each node, in any order of the nodes. Drops none. `looked`
+/// Appends the indexes that `look_up` finds, by a test of each node, in any order of the nodes. Drops none. `looked`
 /// counts each node, whether its heights are met or not.
 pub fn look_through<I: OverlayInt>(
     nodes: &[Node<I>],
@@ -28,7 +28,7 @@ pub fn look_through<I: OverlayInt>(
     Ok(())
 }
 
-/// Takes up the entry of a node, and appends its index where it is live, the look-up meets its heights, and it does not
+/// Compares the entry of a node, and appends its index where it is live, the look-up meets its heights, and it does not
 /// end left of the sweep.
 fn look_at_one<I: OverlayInt>(
     node: &Node<I>,

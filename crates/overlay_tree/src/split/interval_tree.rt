@@ -31,7 +31,7 @@ pub struct Query<I> {
 }
 
 /// Appends the indexes of the live entries whose heights meet those of the look-up, and that do not end left of the
-/// sweep. Those that do are dropped. Answers whether one was: if not, nothing is written to the nodes.
+/// sweep. Those that do are dropped. Returns whether one was: if not, nothing is written to the nodes.
 #[cycle(look_up)]
 pub fn look_up<I: OverlayInt>(
     nodes: &mut [Node<I>],
@@ -116,8 +116,8 @@ fn is_above<I: OverlayInt>(low: I, high: I) -> bool
     high < low
 }
 
-/// Takes up the entry of a node that does not begin above the look-up, where it is live and reaches it: drops it where
-/// it ends left of the sweep, and else appends its index. Answers whether it is dropped.
+/// Compares the entry of a node that does not begin above the look-up, where it is live and reaches it: drops it where
+/// it ends left of the sweep, and else appends its index. Returns whether it is dropped.
 fn look_at<I: OverlayInt>(
     node: &mut Node<I>,
     query: &Query<I>,

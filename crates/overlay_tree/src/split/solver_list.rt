@@ -1,4 +1,4 @@
-// The finder that looks at every two segments of a list. Upstream: `split::solver_list`.
+// The finder that compares every pair of segments of a list. Upstream: `split::solver_list`.
 ghost use Rattle.std.specs.Prelude.{◌≡◌, ◌<◌, ◌+◌, ◌-◌, ◌^◌, min, count_by, ◌++◌, All, IfErr, IfOk, OnOk, IsSortedByKey, drop, length};
 ghost use Rattle.overlay_base.specs.declared.segm.fault.Fault.TheVariants.{Memory};
 ghost use Rattle.overlay_geometry.specs.Points.{pair_cmp};
@@ -23,13 +23,13 @@ use overlay_intersections::split::placing::Placing;
 use std::alloc::AllocError;
 
 /// Finds the marks of a pass: the points at which each segment is to be split, each once, by rising index and then in
-/// order of points. Answers whether two segments cross at a point without whole coordinates, so that the pass rounds.
+/// order of points. Returns whether two segments cross at a point without whole coordinates, so that the pass rounds.
 ///
-/// The list has to be sorted, as by `sort_by_ab`, and in range, and a squared radius at least 1. It looks at every two
-/// segments whose ranges in `x` meet, which `looked` counts, and marks those whose ranges in `y` meet too. What `marks`
-/// held before is dropped.
+/// The list has to be sorted, as by `sort_by_ab`, and in range, and a squared radius at least 1. It compares every pair
+/// of segments whose ranges in `x` meet, which `looked` counts, and marks those whose ranges in `y` meet too. What
+/// `marks` held before is dropped.
 ///
-/// Answers `Fault::Memory` where a growth is refused; `marks` is of no use then.
+/// Returns `Fault::Memory` where a growth is refused; `marks` is of no use then.
 pub fn find_marks<C: WindingCount, I: OverlayInt, D: Copy>(
     segments: &[Segment<C, I, D>],
     placing: Placing,
@@ -60,8 +60,8 @@ pub fn find_marks<C: WindingCount, I: OverlayInt, D: Copy>(
     Ok(rounded)
 }
 
-/// Appends the marks that a segment and each later one put on one another, and answers whether some two of them cross
-/// at a point without whole coordinates. Segments that begin right of this one's end are not looked at.
+/// Appends the marks that a segment and each later one put on one another, and returns whether some two of them cross
+/// at a point without whole coordinates. Segments that begin right of this one's end are not compared.
 fn mark_with_later<C: WindingCount, I: OverlayInt, D: Copy>(
     segments: &[Segment<C, I, D>],
     index: usize,

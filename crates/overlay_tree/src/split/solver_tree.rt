@@ -46,19 +46,19 @@ impl<I> TreeBuffers<I> {
     }
 }
 
-/// Finds the marks of a pass, as `solver_list::find_marks` does, and answers whether the pass rounds. The conditions
+/// Finds the marks of a pass, as `solver_list::find_marks` does, and returns whether the pass rounds. The conditions
 /// are the same.
 ///
 /// A sweep over the list keeps the segments that it has met: a few in a list, and more in a tree over their heights,
-/// which is renewed from time to time, so that it has few that have ended. In a tree each segment takes up those whose
-/// heights it meets: those that end left of it are dropped, with the others it is marked. Where fewer than 48 are live,
-/// it takes up each of them.
+/// which is renewed from time to time, so that it has few that have ended. In a tree each segment is compared with
+/// those whose heights it meets: those that end left of it are dropped, with the others it is marked. Where fewer than
+/// 48 are live, it is compared with each of them.
 ///
-/// `looked` counts the looks. For `s` segments they are at most `48 * s + q`, with `q` the twos whose ranges in `x` and
-/// in `y` meet. Comparisons that are not counted: of heights with the nodes on the way down a tree, and of the ends of
-/// live segments with the place of the sweep, where those that have ended are taken out.
+/// `looked` counts the comparisons. For `s` segments they are at most `48 * s + q`, with `q` pairs whose ranges in `x`
+/// and in `y` meet. Comparisons that are not counted: of heights with the nodes on the way down a tree, and of the ends
+/// of live segments with the place of the sweep, where those that have ended are taken out.
 ///
-/// Answers `Fault::Memory` where a growth is refused; `marks` is of no use then.
+/// Returns `Fault::Memory` where a growth is refused; `marks` is of no use then.
 pub fn find_marks<C: WindingCount, I: OverlayInt, D: Copy>(
     segments: &[Segment<C, I, D>],
     placing: Placing,
@@ -82,7 +82,7 @@ pub fn find_marks<C: WindingCount, I: OverlayInt, D: Copy>(
 }
 
 /// Finds the marks of a pass as `find_marks` does, under the same conditions. With a limit it gives up before a segment
-/// that might take `looked` past it: then it answers `None`, and `marks` is of no use.
+/// that might take `looked` past it: then it returns `None`, and `marks` is of no use.
 pub(crate) fn find_marks_up_to<C: WindingCount, I: OverlayInt, D: Copy>(
     segments: &[Segment<C, I, D>],
     placing: Placing,
@@ -127,7 +127,7 @@ pub(crate) fn find_marks_up_to<C: WindingCount, I: OverlayInt, D: Copy>(
     Ok(Some(rounded))
 }
 
-/// Whether so many pairs more may be taken up: within the limit, if there is one.
+/// Whether this many more pairs may be compared: within the limit, if there is one.
 fn may_take(limit: Option<u128>, looked: u128, more: usize) -> bool
     ensures free { limit ≡ None → result ≡ true }
     ensures within { result ≡ true → IfSome limit (λ most. more ≤ most - looked) }
@@ -139,13 +139,13 @@ fn may_take(limit: Option<u128>, looked: u128, more: usize) -> bool
 }
 
 /// Fewer segments than this that are live stand in no tree, and each later segment is compared with all of them. A
-/// look through so few costs less than a tree. The bound on looks has it as its factor.
+/// scan of so few costs less than a tree. The bound on comparisons has it as its factor.
 const FEW: usize = 48;
 
 const _: () = prove!(FEW == 48);
 
 /// Takes the segment at an index into the sweep: finds those before it that are live and whose heights it meets, and
-/// adds it. The tree has the entries of segments up to `until`; answers up to which it has them then.
+/// adds it. The tree has the entries of segments up to `until`; returns up to which it has them then.
 pub(crate) fn take_in<C: WindingCount, I: OverlayInt, D: Copy>(
     segments: &[Segment<C, I, D>],
     index: usize,
@@ -210,7 +210,7 @@ fn take_into_tree<C: WindingCount, I: OverlayInt, D: Copy>(
     Ok(())
 }
 
-/// The same where no entry is to come: those that have ended are taken out, the others are looked at one by one.
+/// The same where no entry is to come: those that have ended are taken out, the others are compared one by one.
 fn take_among_few<C: WindingCount, I: OverlayInt, D: Copy>(
     segments: &[Segment<C, I, D>],
     index: usize,
@@ -243,17 +243,17 @@ fn take_among_few<C: WindingCount, I: OverlayInt, D: Copy>(
     Ok(())
 }
 
-/// So many segments at least are added to a tree at once, if there are so many. Without a least number a tree that
-/// keeps nothing would be sorted anew for every segment.
+/// The least number of segments that are added to a tree at once, where that many are left. Without a least number a
+/// tree that keeps nothing would be sorted anew for every segment.
 const LEAST_MORE: usize = 8;
 
 const _: () = prove!(LEAST_MORE == 8);
 
 /// Takes those entries out of the tree that are not live or end left of the segment at an index, and adds the entries
-/// of segments from there on, none of them live. Answers up to which segment.
+/// of segments from there on, none of them live. Returns up to which segment.
 ///
-/// It adds as many as stay, but at least 8, if there are so many: so the tree stays near what is live in size, and what
-/// is sorted in all is no more than a few times the segments.
+/// It adds as many as stay, but at least 8 where that many are left: so the tree stays near what is live in size, and
+/// what is sorted in all is no more than a few times the segments.
 pub(crate) fn renew<C: WindingCount, I: OverlayInt, D: Copy>(
     segments: &[Segment<C, I, D>],
     from: usize,
@@ -286,7 +286,8 @@ fn drop_ended<I: OverlayInt>(nodes: &mut Vec<Node<I>>, x: I)
     nodes.retain(|node| stays(node, x));
 }
 
-/// How many of the segments that are left to add to a tree that has kept so many entries. One at least has to be left.
+/// How many of the segments that are left to add to a tree that has kept this many entries. One at least has to be
+/// left.
 fn count_more(left: usize, kept: usize) -> usize
     requires { 0 < left }
     ensures some { 0 < result }
@@ -330,7 +331,7 @@ fn node_at<I: OverlayInt>(index: usize, segment: XSegment<I>, is_live: bool) -> 
     }
 }
 
-/// Appends the marks that a segment and each of those found before it put on one another, and answers whether it
+/// Appends the marks that a segment and each of those found before it put on one another, and returns whether it
 /// crosses one of them at a point without whole coordinates.
 pub(crate) fn mark_with_found<C: WindingCount, I: OverlayInt, D: Copy>(
     segments: &[Segment<C, I, D>],

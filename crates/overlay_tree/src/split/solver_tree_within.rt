@@ -1,4 +1,4 @@
-// The finder over a tree that gives up where it would take up too many pairs.
+// The finder over a tree that gives up where it would compare too many pairs.
 ghost use Rattle.std.specs.Prelude.{◌≡◌, ◌≤◌, ◌+◌, All, IfErr, IfOk, OnOk, IfSome, OnSome, IsSortedByKey};
 ghost use Rattle.overlay_base.specs.declared.segm.fault.Fault.TheVariants.{Memory};
 ghost use Rattle.overlay_geometry.specs.Points.{pair_cmp};
@@ -16,11 +16,11 @@ use overlay_geometry::num::OverlayInt;
 use overlay_intersections::split::line_mark::LineMark;
 use overlay_intersections::split::placing::Placing;
 
-/// Finds the marks of a pass as `solver_tree::find_marks` does, under the same conditions, if that takes up no more
-/// pairs than it may. It answers whether the pass rounds, and `None` where it gave up: before a segment that might take
+/// Finds the marks of a pass as `solver_tree::find_marks` does, under the same conditions, if that compares no more
+/// pairs than it may. It returns whether the pass rounds, and `None` where it gave up: before a segment that might take
 /// up more than are left, so that `marks` is of no use.
 ///
-/// Answers `Fault::Memory` where a growth is refused; `marks` is of no use then.
+/// Returns `Fault::Memory` where a growth is refused; `marks` is of no use then.
 pub fn find_marks_within<C: WindingCount, I: OverlayInt, D: Copy>(
     segments: &[Segment<C, I, D>],
     placing: Placing,

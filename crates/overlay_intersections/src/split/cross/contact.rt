@@ -1,5 +1,5 @@
-// What the sides on which the ends of two segments lie tell of their meeting. Upstream: `cross` of
-// `split::cross_solver`. Whether they meet `segm::apart` tells another way, so that the test of an answer does not
+// How two segments meet, by the sides on which their ends lie. Upstream: `cross` of
+// `split::cross_solver`. `segm::apart` tests whether they meet another way, so that the test of an answer does not
 // depend on this code.
 ghost use Rattle.std.specs.Prelude.{◌≡◌, ◌≢◌, false};
 ghost use Rattle.overlay_geometry.specs.PairOf.{pair_of};
@@ -21,7 +21,7 @@ struct Sides {
     target_b: i64,
 }
 
-/// What the sides tell of two segments.
+/// How two segments meet, by the sides of their ends.
 #[derive(Clone, Copy)]
 pub enum Contact<I> {
     /// They have no point in common, or only ends.
@@ -32,7 +32,8 @@ pub enum Contact<I> {
     Crossing,
 }
 
-/// What the sides tell of two segments, the ends of each apart. Three of the four turns are never 0 without the fourth.
+/// How two segments meet, each with ends that differ, by the sides of their ends. Three of the four turns are never 0
+/// without the fourth.
 pub fn contact_of<I: OverlayInt>(target: &XSegment<I>, other: &XSegment<I>) -> Contact<I>
     requires target { IsPairInRange I.whole I.MIN_COORD I.MAX_COORD target.now }
     requires other { IsPairInRange I.whole I.MIN_COORD I.MAX_COORD other.now }

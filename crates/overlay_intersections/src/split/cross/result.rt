@@ -1,4 +1,4 @@
-// What a call that looks where two segments meet answers. Upstream: `split::cross_solver`.
+// How two segments meet: the result of a call. Upstream: `split::cross_solver`.
 use overlay_geometry::geom::point::IntPoint;
 
 /// What the point of an answer is.
