@@ -3,12 +3,15 @@
 
     python3 tools/check_docs.py
 
-PROMISES names each edit of `must-fail/`, and in its last column only tests; DEFINITIONS names each file of `specs/`, PROOFS each
-lemma module, ARCHITECTURE each source file. A link of a document leads to a file.
+PROMISES names each edit of `must-fail/`, and in its last column only tests; DEFINITIONS names each file of `specs/`, ARCHITECTURE
+each source file. LEMMAS is what `tools/index_lemmas.py` writes. A link of a document leads to a file.
 """
 import os
 import re
 import sys
+
+sys.dont_write_bytecode = True
+import index_lemmas  # noqa: E402  (beside this file)
 
 ROOT = os.path.dirname(os.path.dirname(os.path.abspath(__file__)))
 # files that every crate has
@@ -72,13 +75,18 @@ def dead_links(files):
     return found
 
 
+def stale_index():
+    is_stale = read("docs/LEMMAS.md") != index_lemmas.index()
+    return ["docs/LEMMAS.md is stale: run `python3 tools/index_lemmas.py`"] if is_stale else []
+
+
 def main():
     files = present()
     found = [
         *left_out(files, r"crates/\w+/must-fail/\w+\.edit", "docs/PROMISES.md"),
         *left_out(files, r"crates/\w+/specs/(\w+/)*[A-Z]\w*\.antt", "docs/DEFINITIONS.md"),
-        *left_out(files, r"crates/\w+/proofs/laws/(\w+/)*[A-Z]\w*\.antt", "docs/PROOFS.md"),
         *left_out(files, r"crates/\w+(?<!_tests)/src/(\w+/)*\w+(?<!_tests)\.rt", "docs/ARCHITECTURE.md"),
+        *stale_index(),
         *tests_that_are_gone(files),
         *dead_links(files),
     ]

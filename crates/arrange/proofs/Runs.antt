@@ -1,4 +1,4 @@
--- What a run answers, from what its calls do.
+-- What a run returns, from what its calls do.
 use Rattle.std.proofs.Common.{◌≡◌, ◌≢◌, ◌⊎◌, inl, inr, ℕ, ℤ, Bool, true, false, List, [], ◌∷◌, ◌++◌, length, Ok, Err, Option, Some, None, refl, sym, ap, ◌∙◌, subst, arith}
 use Rattle.std.specs.Prelude.{unsigned_abs, if◌then◌else◌, IfSome, IfOk, IfErr, OnOk, IsErrOf}
 use Rattle.std.proofs.lemmas.Bool.{false≢true}

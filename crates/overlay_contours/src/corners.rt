@@ -1,5 +1,5 @@
 // Contours without the points at which they go straight on: collinear points in the middle of an edge.
-// Upstream: the option `preserve_output_collinear`, where it is off.
+// Upstream drops such points by an option, as contours are extracted.
 ghost use Rattle.std.specs.Prelude.{◌≡◌, ◌&&◌, ◌++◌, ◌∷◌, [], All, IsTrue, IfOk, IfErr, OnOk, map, if◌then◌else◌};
 ghost use Rattle.overlay_geometry.specs.Points.{point_lt};
 ghost use Rattle.overlay_base.specs.Places.{RationalPoint};

@@ -1,4 +1,4 @@
--- What a rule keeps beside a line, told by what is given: the sides of a segment wind as the places directly beside it, and these as what is given.
+-- What a rule keeps beside a line, by what is given: the sides of a segment wind as the places directly beside it, and these as what is given.
 use Rattle.std.proofs.Common.{◌≡◌, sym, ap₂, ◌∙◌, ◌&&◌, IsTrue, List, ℕ}
 use Rattle.std.specs.Prelude.{◌==◌, not}
 use Rattle.std.proofs.lemmas.Bool.{and_parts}

@@ -1,4 +1,4 @@
--- Along balanced segments nothing is lost: a function of points is a sum of functions that are 0 but at one point, and of each of these the balance there tells that its losses are 0 together.
+-- Along balanced segments nothing is lost: a function of points is a sum of functions that are 0 but at one point, and of each of these the balance there says that its losses are 0 together.
 use Rattle.std.proofs.Common.{◌≡◌, refl, sym, ap, ap₂, ◌∙◌, arith, Bool, true, cond, List, [], ◌∷◌, inl, inr}
 use Rattle.std.specs.Prelude.{ℤ, pos, ◌+ℤ◌, ◌-ℤ◌, ◌*ℤ◌, neg_ℤ}
 use Rattle.std.specs.List.{list_any, list_all}

@@ -1,4 +1,4 @@
--- Where the windings by chains are those of the columns, a rule's graph is that of the segments whose sides the rule tells apart.
+-- Where the windings by chains are those of the columns, a rule's graph is that of the segments whose sides differ under the rule.
 use Rattle.std.proofs.Common.{◌≡◌, ℕ, ◌+◌, ◌%◌, ◌==◌, suc, Bool, true, false, ◌&&◌, IsTrue, List, [], ◌∷◌, map, filter, length, All, refl, sym, ap, ap₂, ◌∙◌}
 use Rattle.std.specs.List.{list_all}
 use Rattle.std.proofs.lemmas.Bool.{and_parts, eqb-true}

@@ -1,4 +1,4 @@
--- A graph of the segments whose sides a rule tells apart encloses the places that the rule tells from those outside.
+-- A graph of the segments whose sides differ under a rule encloses the places at which the rule differs from outside.
 use Rattle.std.proofs.Common.{◌≡◌, refl, sym, ap, subst, ◌∙◌, arith, ℕ}
 use Rattle.std.specs.Prelude.{ℤ, pos, ◌+ℤ◌, ◌-ℤ◌, ◌<ℤ◌, ◌≤ℤ◌, ◌%◌, ◌==◌, IsTrue, Bool, true, false, ◌&&◌, List, filter, map, length}
 use Rattle.std.specs.List.{list_all}

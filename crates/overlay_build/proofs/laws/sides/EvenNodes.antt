@@ -1,4 +1,4 @@
--- Evenly many segments whose sides a rule tells apart meet at each point of a planar, balanced arrangement.
+-- Evenly many segments whose sides differ under a rule meet at each point of a planar, balanced arrangement.
 use Rattle.std.proofs.Common.{◌≡◌, ap, refl, sym, ◌∙◌, arith, inl, inr}
 use Rattle.std.specs.Prelude.{ℕ, ◌+◌, ◌%◌, ℤ, pos, ◌+ℤ◌, ◌-ℤ◌, ◌<ℤ◌, IsTrue, Bool, true, false, ◌&&◌, ◌||◌, ◌⊎◌, List, filter, length}
 use Rattle.std.proofs.lemmas.Int.{ints}

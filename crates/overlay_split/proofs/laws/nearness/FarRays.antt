@@ -1,4 +1,4 @@
--- A place that is far from segments lies on none of them: where a segment goes through a place, the place is a point along it. So any ray from there tells the winding.
+-- A place that is far from segments lies on none of them: where a segment goes through a place, the place is a point along it. So any ray from there gives the winding.
 use Rattle.std.proofs.Common.{◌≡◌, ap, sym, ◌∙◌, arith, ℕ, ◌*◌, ◌<◌, ◌≤◌, inl, inr}
 use Rattle.std.specs.Prelude.{ℤ, pos, ◌+ℤ◌, ◌-ℤ◌, ◌*ℤ◌, ◌≤ℤ◌, ◌<ℤ◌, unsigned_abs, true, not, ◌&&◌}
 use Rattle.std.specs.Ordering.{int_eq}

@@ -1,4 +1,4 @@
--- How many pairs a pass takes up by what it goes over, and a run from one pass to the next.
+-- How many pairs a pass compares by what it goes over, and a run from one pass to the next.
 use Rattle.std.proofs.Common.{◌≡◌, sym, ap, subst, ◌∙◌, ℕ, suc, ◌+◌, ◌-◌, ◌≤◌, arith, List, [], ◌∷◌, length, Bool, true, false, cond}
 use Rattle.std.specs.Prelude.{Option, None, min, ◌^◌, IsTrue}
 use Rattle.std.proofs.lemmas.List.{length-map}

@@ -1,4 +1,4 @@
--- A planar arrangement has no marks: a pass leaves it as it is, and a run answers it after one pass.
+-- A planar arrangement has no marks: a pass leaves it as it is, and a run returns it after one pass.
 use Rattle.std.proofs.Common.{◌≡◌, refl, sym, ap, ap₂, ◌∙◌, inl, inr, subst, arith, true, false, Bool, IsTrue, IsFalse, List, [], ◌∷◌, ◌++◌, take, drop, ℕ, zero, suc, ◌-◌, ◌<◌, ◌≤◌, min, length, nat_le, nat_lt, append-nil, sum_by, ◌==◌}
 use Rattle.std.specs.Prelude.{flat_map}
 use Rattle.std.specs.List.{list_any}

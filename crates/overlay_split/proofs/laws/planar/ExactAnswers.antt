@@ -1,4 +1,4 @@
--- The answer to exact input, told without passes: the pieces are the elementary pairs of the join.
+-- The result of exact input, given without passes: the pieces are the elementary pairs of the join.
 use Rattle.std.proofs.Common.{◌≡◌, refl, sym, ap, ◌∙◌, ◌⊎◌, ⊎_elim, inl, inr, subst, true, false, Bool, IsTrue, IsFalse, cond, List, [], ◌∷◌, map, filter}
 use Rattle.std.specs.Prelude.{not}
 use Rattle.std.proofs.lemmas.Bool.{cond-false, cond-true, cases_Bool, and_from, and_parts, both_ways, false_from_ne_true}

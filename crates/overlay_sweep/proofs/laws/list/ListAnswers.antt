@@ -1,4 +1,4 @@
--- What a look in a list answers, and the list after a call.
+-- What a search in a list returns, and the list after a call.
 use Rattle.std.proofs.Common.{◌≡◌, ◌≢◌, ap, ap₂, refl, sym, subst, ◌∙◌, arith, inl, inr, get_or}
 use Rattle.std.specs.Prelude.{ℕ, suc, ◌+◌, ◌-◌, ◌<◌, ℤ, pos, ◌≤ℤ◌, ◌<ℤ◌, int_le, int_lt, Bool, true, false, not, cond, ◌&&◌, if◌then◌else◌, List, [], ◌∷◌, ◌++◌, map, filter, take, drop, length, All}
 use Rattle.std.specs.List.{range_with_len, take-map, drop-map}

@@ -1,4 +1,4 @@
--- What a look in a scan tree answers, and the tree after a segment is placed in it.
+-- What a search in a scan tree returns, and the tree after a segment is placed in it.
 use Rattle.std.proofs.Common.{◌≡◌, ◌≢◌, ap, refl, sym, subst, ◌∙◌, arith, inl, inr}
 use Rattle.std.specs.Prelude.{ℕ, suc, ◌+◌, ◌-◌, ◌*◌, ◌<◌, ◌≤◌, ◌^◌, ℤ, pos, ◌≤ℤ◌, ◌<ℤ◌, map, int_lt, Bool, true, not, List, [], ◌∷◌, ◌++◌, length, All}
 use Rattle.std.specs.Ordering.{is_lt}

@@ -1,4 +1,4 @@
--- What an arrangement of code's segments tells of each of them.
+-- What an arrangement of code's segments says of each of them.
 use Rattle.std.proofs.Common.{◌≡◌, ap, sym, subst, ◌∙◌, arith, get_or}
 use Rattle.std.specs.Prelude.{ℕ, zero, suc, ◌<◌, ℤ, pos, Bool, true, ◌&&◌, List, [], ◌∷◌, map, length}
 use Rattle.std.specs.List.{list_all}

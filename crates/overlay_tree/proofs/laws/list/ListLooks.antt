@@ -1,4 +1,4 @@
--- How many pairs the walk over a list takes up: each two whose ranges in x meet.
+-- How many pairs the walk over a list compares: each pair whose ranges in x meet.
 use Rattle.std.proofs.Common.{◌≡◌, refl, sym, ap, ap₂, subst, ◌∙◌, ℕ, ◌+◌, ◌-◌, ◌<◌, ◌≤◌, zero, suc, arith, Bool, true, false, cond, IsTrue, List, [], ◌∷◌, drop, length, is_gt}
 use Rattle.std.specs.Prelude.{◌≤ℤ◌, ◌<ℤ◌, min, ◌^◌, count_by}
 use Rattle.std.specs.Int.{int_min, int_max}
