@@ -1,0 +1,79 @@
+#!/usr/bin/env python3
+"""Races the library in its own process against another program that times itself, on the kinds of bench/race.py.
+
+Usage, from the top of the repository:
+
+    python3 tools/archive.py
+    python3 bench/in_process.py --upstream PROGRAM [--turns N] [--strategy NAME] [--kinds KIND,KIND] [NUMBER ..]
+
+PROGRAM is built from the files of i_overlay 9.0.1. `PROGRAM bench - - STRATEGY runs=N` reads segments, splits them and builds the
+graph of all of them N times, each time with a new splitter and builder, and prints the least times, `split_ms=` and `graph_ms=`.
+Ours is the example `race` of `rust/`, which does the same through the Rust package. Its `all_ms=` has the split, the build, and the
+copies of links and nodes into vectors of Rust, which the other does not make. No text is timed.
+
+For each kind and number a row of a table is printed: kind, segments, and for the split and for the whole: milliseconds of this
+repository, of the other, and how many times as long this one took; at last the most memory of each process, in megabytes, the
+text of its input included, where that is more than Python holds before it starts one.
+"""
+import argparse
+import os
+import re
+import subprocess
+import sys
+import tempfile
+
+from race import LINES, POLYGONS, SMALLER, sides
+
+# a process begins with what Python holds
+LEAST_MEMORY = 32
+
+ROOT = os.path.dirname(os.path.dirname(os.path.abspath(__file__)))
+RACE = os.path.join(ROOT, "rust", "target", "release", "examples", "race")
+
+
+def text_of(kind, number):
+    edges = max(16, number // SMALLER.get(kind, 1))
+    lines = sides(POLYGONS[kind](edges)) if kind in POLYGONS else LINES[kind](edges)
+    return "\n".join(lines) + "\n"
+
+
+def run(command, path):
+    """The times that a command prints, by name, and the most memory that it took, in megabytes."""
+    with open(path, encoding="ascii") as given, subprocess.Popen(command, stdin=given, stdout=subprocess.PIPE, text=True) as process:
+        printed = process.stdout.read()
+        _, status, used = os.wait4(process.pid, 0)
+        process.returncode = os.waitstatus_to_exitcode(status)
+    if process.returncode:
+        sys.exit(f"{' '.join(command)} failed")
+    return {name: float(number) for name, number in re.findall(r"(\w+)_ms=(\S+)", printed)}, used.ru_maxrss / 1024
+
+
+def race(kind, number, given):
+    with tempfile.NamedTemporaryFile("w", encoding="ascii", suffix=".txt") as file:
+        file.write(text_of(kind, number))
+        file.flush()
+        ours, our_memory = run([RACE, given.strategy, str(given.turns)], file.name)
+        theirs, their_memory = run([given.upstream, "bench", "-", "-", given.strategy, f"runs={given.turns}"], file.name)
+    memory = f"{our_memory:.0f} / {their_memory:.0f}" if min(our_memory, their_memory) > LEAST_MEMORY else ""
+    whole = theirs["split"] + theirs["graph"]
+    print(f"| {kind} | {number // SMALLER.get(kind, 1):,} | {ours['split']:.1f} / {theirs['split']:.1f} | {ours['split'] / theirs['split']:.2f} "
+          f"| {ours['all']:.1f} / {whole:.1f} | {ours['all'] / whole:.2f} | {memory} |", flush=True)
+
+
+def main():
+    parser = argparse.ArgumentParser(description=__doc__, formatter_class=argparse.RawDescriptionHelpFormatter)
+    parser.add_argument("--upstream", required=True, metavar="PROGRAM", help="the program to race against")
+    parser.add_argument("--turns", type=int, default=9, help="runs of each program (9)")
+    parser.add_argument("--strategy", default="auto", choices=["list", "tree", "frag", "auto"])
+    parser.add_argument("--kinds", default=",".join([*POLYGONS, *LINES]), help="kinds, with commas between them")
+    parser.add_argument("numbers", nargs="*", type=int, default=[1_000, 4_000, 16_000, 50_000])
+    given = parser.parse_args()
+    subprocess.run(["cargo", "build", "--release", "--offline", "--quiet", "--example", "race"], cwd=os.path.join(ROOT, "rust"), check=True)
+    print("| kind | segments | split, ms | times | split and build, ms | times | memory, MB |\n|---|---|---|---|---|---|---|")
+    for kind in given.kinds.split(","):
+        for number in given.numbers:
+            race(kind, number, given)
+
+
+if __name__ == "__main__":
+    main()
