@@ -17,8 +17,8 @@ use Rattle.overlay_base.specs.declared.segm.shape_type.ShapeType.{ShapeType}
 -- ---- pieces
 
 -- The segment is the piece from a to b with a winding and with data, made with a store.
-abbrev pub IsPieceOf : {C I D S : Type 0} {m : _} {w : _} {o : _} {e : _} {p : _} → Ghosts D C S → Winding → IntPoint I → IntPoint I → D → S → Segment C I D m w o e p → Type 0
-IsPieceOf {m = m} {w = w} hooks winding a b edge_data store s =
+abbrev pub IsDataPiece : {C I D S : Type 0} {m : _} {w : _} {o : _} {e : _} {p : _} → Ghosts D C S → Winding → IntPoint I → IntPoint I → D → S → Segment C I D m w o e p → Type 0
+IsDataPiece {m = m} {w = w} hooks winding a b edge_data store s =
     data_segment_of s ≡ (data_piece (hooks_of m.counted hooks) winding (point_of w.whole a) (point_of w.whole b) edge_data store).0
 
 -- The store is what making that piece leaves.
@@ -28,7 +28,7 @@ IsPieceStore {m = m} {w = w} hooks winding a b edge_data store left s =
 
 -- The segment, and the store, are those of the piece that is one step of a contour of a shape.
 abbrev pub IsStepOf : {C I D S : Type 0} {m : _} {w : _} {o : _} {e : _} {p : _} → Ghosts D C S → ShapeType → IntPoint I → IntPoint I → D → S → Segment C I D m w o e p → Type 0
-IsStepOf hooks shape_type a b edge_data store s = IsPieceOf hooks (direct_winding boolean_made shape_type) a b edge_data store s
+IsStepOf hooks shape_type a b edge_data store s = IsDataPiece hooks (direct_winding boolean_made shape_type) a b edge_data store s
 
 abbrev pub IsStepStore : {C I D S : Type 0} {m : _} {w : _} {o : _} {e : _} {p : _} → Ghosts D C S → ShapeType → IntPoint I → IntPoint I → D → S → S → Segment C I D m w o e p → Type 0
 IsStepStore hooks shape_type a b edge_data store left s = IsPieceStore hooks (direct_winding boolean_made shape_type) a b edge_data store left s

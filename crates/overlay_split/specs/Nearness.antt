@@ -126,5 +126,5 @@ pub record LinesStayNear (settings : Settings) (given result : List WholeSegment
   pub given_is_near : (s : Pair) → Contains (pairs (with_mask given)) s → (f : Fraction) → IsNearSome (reach_of_run settings given passes) (point_along s f) (pairs (with_mask result))
 
 -- The ends of the result lie in the box of the ends that the join of what is given has.
-abbrev pub StaysInBox : List WholeSegment → List WholeSegment → Type 0
-StaysInBox given result = IsTrue (list_all (λ p. is_within_box_of (ends (pairs (join given))) p) (ends (pairs result)))
+abbrev pub LieInGivenBox : List WholeSegment → List WholeSegment → Type 0
+LieInGivenBox given result = IsTrue (list_all (λ p. is_within_box_of (ends (pairs (join given))) p) (ends (pairs result)))

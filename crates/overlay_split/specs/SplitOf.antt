@@ -14,7 +14,7 @@ use Rattle.overlay_grid.specs.Grid.{Layout}
 use Rattle.overlay_split.specs.DataPass.{data_after_passes, IsDataAfter, IsStoppedRun}
 use Rattle.overlay_split.specs.ExactInput.{is_exact_input, KeepsCounts}
 use Rattle.overlay_split.specs.Laws.{HooksKeep, HooksNameNoOther, NameNear}
-use Rattle.overlay_split.specs.Nearness.{StaysNear, StaysInBox, reach_of_run}
+use Rattle.overlay_split.specs.Nearness.{StaysNear, LieInGivenBox, reach_of_run}
 use Rattle.overlay_split.specs.Places.{KeepsWinding}
 use Rattle.overlay_split.specs.Potential.{IsPassBound}
 use Rattle.overlay_split.specs.Run.{Settings, IsRun, LeavesRange}
@@ -44,7 +44,7 @@ WindsAsGiven solver before after given list =
 
 -- It lies in the box of what is given.
 abbrev pub LiesInBox : {C I D : Type 0} {m : _} {w : _} {o : _} {e : _} {p : _} → Vec (Segment C I D m w o e p) Global → Vec (Segment C I D m w o e p) Global → Type 0
-LiesInBox given list = StaysInBox (segments_of given.items) (segments_of list.items)
+LiesInBox given list = LieInGivenBox (segments_of given.items) (segments_of list.items)
 
 -- No two of the given segments cross at a point that is not exact; the list has the counts of what is given.
 abbrev pub IsExact : {C I D : Type 0} {m : _} {w : _} {o : _} {e : _} {p : _} → Vec (Segment C I D m w o e p) Global → Type 0

@@ -83,7 +83,7 @@ impl<C: WindingCount, I: OverlayInt, D: OverlayEdgeData<C>> Segment<C, I, D> {
     ghost use Rattle.overlay_geometry.specs.Points.{point_lt};
     ghost use Rattle.overlay_base.specs.Windings.{is_valid};
     ghost use Rattle.overlay_geometry.specs.PointOf.{point_of};
-    ghost use Rattle.overlay_base.specs.DataOf.{IsPieceOf, IsPieceStore};
+    ghost use Rattle.overlay_base.specs.DataOf.{IsDataPiece, IsPieceStore};
 
     /// The segment between two points, which have to differ.
     ///
@@ -100,7 +100,7 @@ impl<C: WindingCount, I: OverlayInt, D: OverlayEdgeData<C>> Segment<C, I, D> {
         requires ends { point_of I.whole a ≢ point_of I.whole b }
         requires valid { IsTrue (point_lt (point_of I.whole b) (point_of I.whole a))
             → IsTrue (is_valid (C.winding count)) }
-        ensures segment { IsPieceOf D.OverlayEdgeData.own (C.winding count) a b edge_data store.old result }
+        ensures segment { IsDataPiece D.OverlayEdgeData.own (C.winding count) a b edge_data store.old result }
         ensures store { IsPieceStore D.OverlayEdgeData.own (C.winding count) a b edge_data store.old store.new result }
     {
         if a < b {
