@@ -1,11 +1,8 @@
 -- What a split and a build answer together, whichever strategy finds the pairs that meet.
-use Rattle.std.specs.Prelude.{◌≡◌, ◌⊎◌, ◌≤◌, ◌+◌, ℕ, ℤ, Bool, ◌&&◌, IsTrue, List, [], All}
-use Rattle.std.specs.List.{list_all}
-use Rattle.overlay_geometry.specs.Points.{Pair, is_within_box_of}
-use Rattle.overlay_base.specs.Segments.{WholeSegment, pairs, ends, is_map}
-use Rattle.overlay_base.specs.EdgeData.{DataSegment, Hooks}
+use Rattle.std.specs.Prelude.{◌≡◌, ◌⊎◌, ℕ, ℤ, Bool, ◌&&◌, IsTrue, List, [], All}
+use Rattle.overlay_geometry.specs.Points.{Pair}
+use Rattle.overlay_base.specs.Segments.{WholeSegment, is_map}
 use Rattle.overlay_base.specs.Planar.{is_planar}
-use Rattle.overlay_base.specs.Join.{join}
 use Rattle.overlay_base.specs.Balance.{IsBalanced, KeepsBalance}
 use Rattle.overlay_base.specs.Rules.{keeps_fill}
 use Rattle.overlay_base.specs.ClipRules.{keeps_clip}
@@ -15,11 +12,10 @@ use Rattle.overlay_base.specs.declared.overlay_core.link.OverlayLink.{OverlayLin
 use Rattle.overlay_base.specs.declared.segm.fault.Fault.{Fault}
 use Rattle.overlay_base.specs.declared.segm.fault.Fault.TheVariants.{CountOutOfRange}
 use Rattle.overlay_split.specs.Run.{Settings, IsPassCount, LeavesRange, after_passes}
-use Rattle.overlay_split.specs.DataPass.{data_after_passes}
 use Rattle.overlay_split.specs.ExactInput.{is_exact_input, KeepsCounts}
-use Rattle.overlay_split.specs.Nearness.{LiesNear, StaysNear, LinesStayNear}
+use Rattle.overlay_split.specs.Nearness.{LiesNear, StaysNear, LinesStayNear, LieInGivenBox}
 use Rattle.overlay_split.specs.Places.{KeepsWinding, KeepsWindingNearLines}
-use Rattle.overlay_split.specs.Potential.{potential}
+use Rattle.overlay_split.specs.Potential.{IsPassBound}
 use Rattle.overlay_sweep.specs.ChainWindings.{tops_leave_range}
 use Rattle.overlay_build.specs.Graph.{Graph, graph_by}
 use Rattle.overlay_build.specs.GraphOf.{link_of}
@@ -40,12 +36,12 @@ pub record IsSplit (settings : Settings) (given segments : List WholeSegment) (p
   -- They lie near what was given, and it near them, no farther than the passes reach, and in its box. Input whose
   -- crossings have whole coordinates is not moved, and keeps its counts.
   pub near : StaysNear settings given segments passes
-  pub in_box : IsTrue (list_all (λ p. is_within_box_of (ends (pairs (join given))) p) (ends (pairs segments)))
+  pub in_box : LieInGivenBox given segments
   pub exact_input : IsTrue (is_exact_input given) → KeepsCounts given segments
   -- At each place that is farther from what was given than the passes reach they wind as it does.
   pub winding : KeepsWinding settings given segments passes
   -- There are no more passes than the snap limit, the potential of the arrangement reached there, and one.
-  pub bound : passes ≤ settings.limit + potential (after_passes settings given settings.limit) + 1
+  pub bound : IsPassBound settings given passes
 
 -- What a split and a build make of what they are given, for any rule.
 pub record IsOverlay (settings : Settings) (fill_rule : FillRule) (rule : Bool → Bool → Bool) (given segments : List WholeSegment) (passes : ℕ) (graph : Graph) : Type 0 where
@@ -99,10 +95,6 @@ pub record IsBuildRefused (settings : Settings) (given segments : List WholeSegm
 abbrev pub IsRefused : Settings → List WholeSegment → List WholeSegment → ℕ → ℕ → Fault → Type 0
 IsRefused settings given segments passes_before passes fault =
     (IsSplitRefused settings given segments fault × (passes ≡ passes_before)) ⊎ IsBuildRefused settings given segments passes fault
-
--- The data of the segments is what the hooks of so many passes make of what is given, from some store at first.
-abbrev pub IsDataAfter : {D S : Type 0} → Hooks D S → (S → Type 0) → Settings → List (DataSegment D) → List (DataSegment D) → ℕ → Type 0
-IsDataAfter {S = S} hooks IsFirst settings given segments passes = (store : S) × IsFirst store × (segments ≡ (data_after_passes hooks settings given store passes).0)
 
 -- each link lies that near to every pair that its data names
 abbrev pub LinksNameNear : {I D : Type 0} → (I → ℤ) → (D → Pair → Bool) → ℕ → List (OverlayLink I D) → Type 0

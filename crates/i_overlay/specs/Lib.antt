@@ -2,6 +2,7 @@ pub mod FarRegions
 pub mod LinesAlong
 pub mod BesideLines
 pub mod Headline
+pub mod CallOf
 pub mod GivenAgain
 -- what the clauses of the crate cite of the crates below
 pub use Rattle.overlay_base.specs.ArrangedOf

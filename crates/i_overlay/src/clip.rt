@@ -1,19 +1,14 @@
 // A split of polygons and lines, and the graph of the parts of lines that the polygons keep, in one call. This
 // project's own.
-ghost use Rattle.std.specs.Prelude.{◌≡◌, IsFalse, OnOk, IfOk, IfErr, Option, length};
+ghost use Rattle.std.specs.Prelude.{◌≡◌, IsFalse, OnOk, IfOk, IfErr};
 ghost use Rattle.overlay_base.specs.ArrangedOf.{IsSplittable, IsArranged};
-ghost use Rattle.overlay_base.specs.SegmentOf.{segments_of, data_segments_of};
-ghost use Rattle.overlay_grid.specs.Grid.{Layout};
-ghost use Rattle.overlay_base.specs.Choices.{list_fills};
-ghost use Rattle.overlay_split.specs.Run.{LeavesRange};
-ghost use Rattle.overlay_split.specs.RunLooks.{AreRunLooks};
-ghost use Rattle.overlay_split.specs.SettingsOf.{snap_limit_of, passes_of, looked_of, settings_of};
+ghost use Rattle.overlay_base.specs.SegmentOf.{segments_of, KeepsSegments};
+ghost use Rattle.overlay_split.specs.SettingsOf.{snap_limit_of};
 ghost use Rattle.overlay_sweep.specs.ChainWindings.{tops_leave_range};
-ghost use Rattle.overlay_sweep.specs.Costs.{IsSweepCost};
-ghost use Rattle.overlay_build.specs.GraphOf.{HoldGraph, graph_with};
-ghost use Rattle.overlay_build.specs.NodeIndexes.{items_of, is_any_node};
-ghost use Rattle.overlay_build.specs.StringGraphOf.{nodes_of, links_of, builder_name, lines_asked};
-ghost use Rattle.i_overlay.specs.Headline.{IsClip, IsRefused};
+ghost use Rattle.overlay_build.specs.StringGraphOf.{builder_name, lines_asked, HasItsNodes};
+ghost use Rattle.overlay_split.specs.SplitOf.{SumsLeaveRange, LooksAreBounded};
+ghost use Rattle.overlay_sweep.specs.SweepOf.{IsCostOf};
+ghost use Rattle.i_overlay.specs.CallOf.{ClipsLines, RefusesCall};
 
 use overlay_base::overlay_core::clip_rule::ClipRule;
 use overlay_base::overlay_core::fill_rule::FillRule;
@@ -58,31 +53,18 @@ pub fn split_and_build_clip<'a, I: OverlayInt>(
     clip_rule: ClipRule,
 ) -> Result<StringGraph<'a, I>, Fault>
     requires { IsSplittable segments.old.items }
-    ensures clip { IfOk result (λ graph.
-        IsClip (settings_of I.BITS solver.now splitter.old) fill_rule clip_rule
-        (segments_of segments.old.items) (segments_of segments.new.items) (passes_of splitter.new)
-        (graph_with I.whole (links_of graph))) }
-    ensures graph { IfOk result (λ graph.
-        HoldGraph items_of is_any_node I.whole (nodes_of graph) (links_of graph)
-        (graph_with I.whole (links_of graph))) }
+    ensures clip { ClipsLines solver.now splitter.old splitter.new segments.old segments.new fill_rule clip_rule
+        result }
+    ensures graph { IfOk result (λ graph. HasItsNodes graph) }
     ensures arranged { IsArranged segments.new.items }
-    ensures unchanged { IsArranged segments.old.items →
-        OnOk result (data_segments_of segments.new.items ≡ data_segments_of segments.old.items) }
+    ensures unchanged { IsArranged segments.old.items → OnOk result (KeepsSegments segments.old segments.new) }
 
-    ensures fits { OnOk result (LeavesRange (settings_of I.BITS solver.now splitter.old)
-        (segments_of segments.old.items) → ⊥) }
+    ensures fits { OnOk result (SumsLeaveRange solver.now splitter.old segments.old → ⊥) }
     ensures in_range { OnOk result (IsFalse (tops_leave_range (segments_of segments.new.items))) }
-    ensures refused { IfErr result
-        (IsRefused (settings_of I.BITS solver.now splitter.old) (segments_of segments.old.items)
-        (segments_of segments.new.items) (passes_of splitter.old) (passes_of splitter.new)) }
-    ensures looked { OnOk result ((grid : Option Layout) × AreRunLooks solver.now.strategy
-        (settings_of I.BITS solver.now splitter.old) (segments_of segments.old.items) grid (passes_of splitter.new)
-        (looked_of splitter.new)) }
+    ensures refused { IfErr result (RefusesCall solver.now splitter.old splitter.new segments.old segments.new) }
+    ensures looked { OnOk result (LooksAreBounded solver.now splitter.old splitter.new segments.old) }
     ensures limit { snap_limit_of splitter.new ≡ snap_limit_of splitter.old }
-    ensures asked { IfOk result (λ graph.
-        IsSweepCost (list_fills solver.now.strategy (length segments.new.items))
-        (segments_of segments.new.items)
-        (lines_asked graph)) }
+    ensures asked { IfOk result (λ graph. IsCostOf solver.now segments.new.items (lines_asked graph)) }
     ensures same_builder { IfOk result (λ graph. builder_name graph ≡ builder.entry.ghost_name) }
 {
     splitter.split_segments(segments, solver)?;

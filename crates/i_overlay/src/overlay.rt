@@ -1,29 +1,15 @@
 // A split and a build in one call. This project's own.
-ghost use Rattle.std.specs.Prelude.{◌≡◌, ◌⊎◌, Bool, [], map, IsTrue, IsFalse, OnOk, IfOk, IfErr, Option, length};
-ghost use Rattle.overlay_base.specs.BooleanWinding.{boolean_counted};
-ghost use Rattle.overlay_base.specs.Choices.{list_fills};
-ghost use Rattle.overlay_base.specs.HooksOf.{hooks_of};
+ghost use Rattle.std.specs.Prelude.{◌≡◌, IsFalse, OnOk, IfOk, IfErr};
 ghost use Rattle.overlay_base.specs.Rules.{holds, keeps_fill};
-ghost use Rattle.overlay_base.specs.Balance.{IsBalanced};
 ghost use Rattle.overlay_base.specs.ArrangedOf.{IsSplittable, IsArranged};
-ghost use Rattle.overlay_base.specs.SegmentOf.{segments_of, data_segments_of};
-ghost use Rattle.std.specs.List.{list_all};
-ghost use Rattle.overlay_geometry.specs.Points.{Pair};
-ghost use Rattle.overlay_split.specs.Laws.{HooksKeep, HooksNameNoOther, NameNear};
-ghost use Rattle.overlay_split.specs.Nearness.{reach_of_run};
-ghost use Rattle.overlay_grid.specs.Grid.{Layout};
-ghost use Rattle.overlay_split.specs.Run.{LeavesRange};
-ghost use Rattle.overlay_split.specs.RunLooks.{AreRunLooks};
-ghost use Rattle.overlay_split.specs.SettingsOf.{snap_limit_of, passes_of, looked_of, settings_of};
+ghost use Rattle.overlay_base.specs.SegmentOf.{segments_of, KeepsSegments};
+ghost use Rattle.overlay_split.specs.SettingsOf.{snap_limit_of};
 ghost use Rattle.overlay_sweep.specs.ChainWindings.{tops_leave_range};
-ghost use Rattle.overlay_build.specs.Graph.{data_by};
-ghost use Rattle.overlay_sweep.specs.Costs.{IsSweepCost};
-ghost use Rattle.overlay_build.specs.GraphOf.{HoldGraph, graph_with};
-ghost use Rattle.overlay_build.specs.NodeIndexes.{indexes_of, is_canonical_node};
-ghost use Rattle.overlay_build.specs.OverlayGraphOf.{nodes_of, links_of, graph_asked};
-ghost use Rattle.i_overlay.specs.FarRegions.{EnclosesOverlay};
-ghost use Rattle.i_overlay.specs.Headline.{IsOverlay, IsDataAfter, IsRefused, LinksNameNear};
+ghost use Rattle.overlay_build.specs.OverlayGraphOf.{graph_asked, HasItsNodes, HasDataBy};
 ghost use Rattle.i_overlay.specs.GivenAgain.{ResultsAreGivenAgain};
+ghost use Rattle.overlay_split.specs.SplitOf.{SumsLeaveRange, LooksAreBounded};
+ghost use Rattle.overlay_sweep.specs.SweepOf.{IsCostOf};
+ghost use Rattle.i_overlay.specs.CallOf.{Answers, EnclosesByRule, LinksKeepWhatHolds, LinksLieNearNamed, IsEmptyOrData, RefusesCall};
 
 use overlay_base::overlay_core::edge_data::OverlayEdgeData;
 use overlay_base::overlay_core::fill_rule::FillRule;
@@ -73,50 +59,25 @@ pub fn split_and_build_overlay<'a, I: OverlayInt, D: OverlayEdgeData<ShapeCountB
     overlay_rule: OverlayRule,
 ) -> Result<OverlayGraph<'a, I, D>, Fault>
     requires { IsSplittable segments.old.items }
-    ensures overlay { IfOk result (λ graph.
-        IsOverlay (settings_of I.BITS solver.now splitter.old) fill_rule (holds overlay_rule)
-        (segments_of segments.old.items) (segments_of segments.new.items) (passes_of splitter.new)
-        (graph_with I.whole (links_of graph))) }
-    ensures region { IsBalanced (segments_of segments.old.items) → IfOk result (λ graph.
-        EnclosesOverlay (settings_of I.BITS solver.now splitter.old) overlay_rule fill_rule
-        (segments_of segments.old.items) (passes_of splitter.new) (graph_with I.whole (links_of graph))) }
-    ensures graph { IfOk result (λ graph.
-        HoldGraph indexes_of is_canonical_node I.whole (nodes_of graph) (links_of graph)
-        (graph_with I.whole (links_of graph))) }
-    ensures edge_data { IfOk result (λ graph.
-        map (λ l. l.edge_data) (links_of graph)
-        ≡ data_by (keeps_fill (holds overlay_rule)) fill_rule (data_segments_of segments.new.items)) }
-    ensures kept_data { let hooks = hooks_of boolean_counted D.OverlayEdgeData.own in
-        (has : D → Bool) → HooksKeep hooks has →
-        IsTrue (list_all (λ s. has s.edge_data) (data_segments_of segments.old.items)) →
-        IfOk result (λ graph. IsTrue (list_all (λ l. has l.edge_data) (links_of graph))) }
-    ensures named_data { let hooks = hooks_of boolean_counted D.OverlayEdgeData.own in
-        (names : D → Pair → Bool) → HooksNameNoOther hooks names →
-        NameNear names 0 (data_segments_of segments.old.items) → IfOk result (λ graph. LinksNameNear I.whole names
-        (reach_of_run (settings_of I.BITS solver.now splitter.old) (segments_of segments.old.items)
-        (passes_of splitter.new)) (links_of graph)) }
+    ensures overlay { Answers solver.now splitter.old splitter.new segments.old segments.new fill_rule overlay_rule
+        result }
+    ensures region { EnclosesByRule solver.now splitter.old splitter.new segments.old fill_rule overlay_rule result }
+    ensures graph { IfOk result (λ graph. HasItsNodes graph) }
+    ensures edge_data { IfOk result (HasDataBy (keeps_fill (holds overlay_rule)) fill_rule segments.new.items) }
+    ensures kept_data { LinksKeepWhatHolds D.OverlayEdgeData.own segments.old result }
+    ensures named_data { LinksLieNearNamed D.OverlayEdgeData.own solver.now splitter.old splitter.new segments.old
+        result }
     ensures arranged { IsArranged segments.new.items }
-    ensures list_data { (segments.new.items ≡ []) ⊎
-        IsDataAfter (hooks_of boolean_counted D.OverlayEdgeData.own) D.Store.is_default
-        (settings_of I.BITS solver.now splitter.old) (data_segments_of segments.old.items)
-        (data_segments_of segments.new.items) (passes_of splitter.new) }
-    ensures unchanged { IsArranged segments.old.items →
-        OnOk result (data_segments_of segments.new.items ≡ data_segments_of segments.old.items) }
+    ensures list_data { IsEmptyOrData D.OverlayEdgeData.own D.Store.is_default solver.now splitter.old splitter.new
+        segments.old segments.new }
+    ensures unchanged { IsArranged segments.old.items → OnOk result (KeepsSegments segments.old segments.new) }
 
-    ensures fits { OnOk result (LeavesRange (settings_of I.BITS solver.now splitter.old)
-        (segments_of segments.old.items) → ⊥) }
+    ensures fits { OnOk result (SumsLeaveRange solver.now splitter.old segments.old → ⊥) }
     ensures in_range { OnOk result (IsFalse (tops_leave_range (segments_of segments.new.items))) }
-    ensures refused { IfErr result
-        (IsRefused (settings_of I.BITS solver.now splitter.old) (segments_of segments.old.items)
-        (segments_of segments.new.items) (passes_of splitter.old) (passes_of splitter.new)) }
-    ensures looked { OnOk result ((grid : Option Layout) × AreRunLooks solver.now.strategy
-        (settings_of I.BITS solver.now splitter.old) (segments_of segments.old.items) grid (passes_of splitter.new)
-        (looked_of splitter.new)) }
+    ensures refused { IfErr result (RefusesCall solver.now splitter.old splitter.new segments.old segments.new) }
+    ensures looked { OnOk result (LooksAreBounded solver.now splitter.old splitter.new segments.old) }
     ensures limit { snap_limit_of splitter.new ≡ snap_limit_of splitter.old }
-    ensures asked { IfOk result (λ graph.
-        IsSweepCost (list_fills solver.now.strategy (length segments.new.items))
-        (segments_of segments.new.items)
-        (graph_asked graph)) }
+    ensures asked { IfOk result (λ graph. IsCostOf solver.now segments.new.items (graph_asked graph)) }
 {
     splitter.split_segments(segments, solver)?;
     builder.build_boolean_overlay(fill_rule, overlay_rule, solver, segments)

@@ -12,6 +12,8 @@ pub mod Choices
 pub mod Radius
 pub mod HooksOf
 pub mod SegmentOf
+pub mod DataOf
+pub mod FaultOf
 pub mod ArrangedOf
 pub mod Rules
 pub mod RuleLaws

@@ -1,12 +1,13 @@
 -- Segments as whole numbers: their ends, their winding, their data.
-use Rattle.std.specs.Prelude.{List, map}
+use Rattle.std.specs.Prelude.{List, map, ◌≡◌, Vec}
 use Rattle.overlay_geometry.specs.Points.{Pair}
 use Rattle.overlay_base.specs.Windings.{Winding}
-use Rattle.overlay_base.specs.Segments.{WholeSegment}
+use Rattle.overlay_base.specs.Segments.{WholeSegment, pairs}
 use Rattle.overlay_base.specs.EdgeData.{DataSegment}
 use Rattle.overlay_geometry.specs.PairOf.{pair_of}
 use Rattle.overlay_geometry.specs.declared.geom.x_segment.XSegment.{XSegment}
 use Rattle.overlay_base.specs.declared.segm.segment.Segment.{Segment}
+use Rattle.std.specs.Global.{Global}
 
 -- what a segment's readers answer
 abbrev pub x_segment_of : {C I D : Type 0} {m : _} {w : _} {o : _} {e : _} {p : _} → Segment C I D m w o e p → XSegment I
@@ -37,3 +38,11 @@ data_segment_of s = record { pair = ends_of s; count = winding_of s; edge_data =
 
 abbrev pub data_segments_of : {C I D : Type 0} {m : _} {w : _} {o : _} {e : _} {p : _} → List (Segment C I D m w o e p) → List (DataSegment D)
 data_segments_of list = map data_segment_of list
+
+-- the pairs of ends in a list
+abbrev pub pairs_in : {C I D : Type 0} {m : _} {w : _} {o : _} {e : _} {p : _} → List (Segment C I D m w o e p) → List Pair
+pairs_in list = pairs (segments_of list)
+
+-- a list has the segments of another, with their data
+abbrev pub KeepsSegments : {C I D : Type 0} {m : _} {w : _} {o : _} {e : _} {p : _} → Vec (Segment C I D m w o e p) Global → Vec (Segment C I D m w o e p) Global → Type 0
+KeepsSegments given list = data_segments_of list.items ≡ data_segments_of given.items

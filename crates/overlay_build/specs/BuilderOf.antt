@@ -32,7 +32,7 @@ module _ (I D : RattleType) (whole : Whole I.Denot) (order : Order I.Denot) (equ
   builder_row = the_row boolean_row node_row I D boolean_ghosts whole order equality partial
 
   -- the nodes and links of the graph that was answered, or none after a refusal; and how many orders its build asked, or the build before
-  abbrev pub HoldsAnswer : Result (OverlayGraph I.Denot D.Denot whole order equality partial) Fault → MutBor builder_row.Denot → Fml
-  HoldsAnswer result builder = Rests builder_row builder (λ after.
+  abbrev pub RestsIn : Result (OverlayGraph I.Denot D.Denot whole order equality partial) Fault → MutBor builder_row.Denot → Fml
+  RestsIn result builder = Rests builder_row builder (λ after.
       IfOk result (λ graph. (after.nodes.items ≡ graph.nodes.now) × (after.links.items ≡ graph.links.now) × (after.compared ≡ graph.compared))
       × OnErr result ((after.nodes.items ≡ []) × (after.links.items ≡ []) × (after.compared ≡ builder.now.compared)))

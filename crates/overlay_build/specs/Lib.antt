@@ -14,5 +14,7 @@ pub mod BuilderOf
 pub mod StringGraphOf
 pub mod Walks
 pub mod DirectedWalks
+pub mod BalancedOf
+pub mod BoundaryOf
 -- what private functions tell one another
 pub mod steps

@@ -1,6 +1,6 @@
 -- What a graph of lines shows, and what its builder holds once the graph is let go.
 use mir.Syntax.{named}
-use Rattle.std.specs.Prelude.{◌≡◌, [], List, Result, Vec, ℕ}
+use Rattle.std.specs.Prelude.{◌≡◌, [], List, Result, Vec, ℕ, Bool}
 use Rattle.std.specs.Borrow.{RattleType, MutBor, Fml, Array, usize, unit, Lends, RestsIfErr}
 use Rattle.std.specs.Vec.{with_items}
 use Rattle.std.specs.Global.{Global}
@@ -19,6 +19,12 @@ use Rattle.overlay_base.specs.contracts.segm.string.ShapeCountStringWindingCount
 use Rattle.overlay_build.specs.declared.build.string_graph.StringGraph.{StringGraph}
 use Rattle.overlay_build.specs.contracts.build.string_graph.StringGraph.{the_row as graph_row}
 use Rattle.overlay_build.specs.contracts.build.builder.GraphBuilder.{the_row}
+use Rattle.overlay_base.specs.SegmentOf.{segments_of}
+use Rattle.overlay_base.specs.declared.overlay_core.fill_rule.FillRule.{FillRule}
+use Rattle.overlay_base.specs.declared.segm.segment.Segment.{Segment}
+use Rattle.overlay_build.specs.Graph.{Graph, graph_by}
+use Rattle.overlay_build.specs.GraphOf.{HoldGraph, graph_with}
+use Rattle.overlay_build.specs.NodeIndexes.{items_of, is_any_node}
 
 -- what its readers answer
 abbrev pub nodes_of : {I : Type 0} {w : _} {o : _} {e : _} {p : _} → StringGraph I w o e p → List (Vec ℕ Global)
@@ -26,6 +32,18 @@ nodes_of graph = graph.builder.now.nodes.items
 
 abbrev pub links_of : {I : Type 0} {w : _} {o : _} {e : _} {p : _} → StringGraph I w o e p → List (OverlayLink I Unit)
 links_of graph = graph.builder.now.links.items
+
+-- the graph that its links are those of
+abbrev pub whole_graph : {I : Type 0} {w : _} {o : _} {e : _} {p : _} → StringGraph I w o e p → Graph
+whole_graph {w = w} graph = graph_with w.whole (links_of graph)
+
+-- Its nodes are those of that graph.
+abbrev pub HasItsNodes : {I : Type 0} {w : _} {o : _} {e : _} {p : _} → StringGraph I w o e p → Type 0
+HasItsNodes {w = w} graph = HoldGraph items_of is_any_node w.whole (nodes_of graph) (links_of graph) (whole_graph graph)
+
+-- Its nodes and links are those of the graph of the segments of a list whose fills pass a test.
+abbrev pub ShowsGraphBy : {C I D : Type 0} {m : _} {w' : _} {o' : _} {e' : _} {p' : _} {w : _} {o : _} {e : _} {p : _} → (ℕ → Bool) → FillRule → List (Segment C I D m w' o' e' p') → StringGraph I w o e p → Type 0
+ShowsGraphBy {w = w} keeps rule list graph = HoldGraph items_of is_any_node w.whole (nodes_of graph) (links_of graph) (graph_by keeps rule (segments_of list))
 
 -- how many orders of live segments its build asked
 abbrev pub lines_asked : {I : Type 0} {w : _} {o : _} {e : _} {p : _} → StringGraph I w o e p → ℕ
@@ -53,7 +71,7 @@ module _ (I : RattleType) (whole : Whole I.Denot) (order : Order I.Denot) (equal
   abbrev pub borrowed_row : RattleType
   borrowed_row = graph_row (record { mir = named 0; lft = [] }) I whole order equality partial
 
-  abbrev pub LendsLinks : MutBor borrowed_row.Denot → MutBor (List (OverlayLink I.Denot Unit)) → Fml
-  LendsLinks graph links =
+  abbrev pub LendsTo : MutBor borrowed_row.Denot → MutBor (List (OverlayLink I.Denot Unit)) → Fml
+  LendsTo graph links =
       Lends borrowed_row (Array (link_row I unit) 0) graph links
       (λ left. record graph.now { builder = record graph.now.builder { now = record graph.now.builder.now { links = with_items graph.now.builder.now.links left } } })

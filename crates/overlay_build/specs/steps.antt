@@ -4,3 +4,4 @@ pub mod LinkEnds
 pub mod LinkRules
 pub mod UnusedLinks
 pub mod FreeArcs
+pub mod LinksOf

@@ -1,8 +1,19 @@
 -- The contours that an overlay keeps.
-use Rattle.std.specs.Prelude.{List}
+use Rattle.std.specs.Prelude.{List, ◌≡◌, [], ◌∷◌, ◌++◌, Vec}
 use Rattle.overlay_geometry.specs.Points.{Point}
-use Rattle.overlay_contours.specs.ContoursOf.{contours_of}
+use Rattle.overlay_contours.specs.ContoursOf.{contours_of, points_of}
 use Rattle.overlay_contours.specs.declared.overlay.Overlay.{Overlay}
+use Rattle.std.specs.Global.{Global}
+use Rattle.overlay_geometry.specs.declared.geom.point.IntPoint.{IntPoint}
+use Rattle.overlay_base.specs.declared.overlay_core.fill_rule.FillRule.{FillRule}
+use Rattle.overlay_base.specs.declared.overlay_core.overlay_rule.OverlayRule.{OverlayRule}
+use Rattle.overlay_base.specs.declared.overlay_core.solver.Solver.{Solver}
+use Rattle.overlay_base.specs.declared.segm.fault.Fault.{Fault}
+use Rattle.overlay_base.specs.declared.segm.shape_type.ShapeType.{ShapeType}
+use Rattle.overlay_contours.specs.Polygons.{settings_for, IsPolygonOverlay}
+use Rattle.overlay_contours.specs.CornerOverlays.{IsCornerOverlay}
+use Rattle.overlay_contours.specs.Refusals.{of_shape, IsReason, IsContourRefusal}
+use Rattle.overlay_contours.specs.declared.fault.ContourFault.{ContourFault}
 
 -- the subject's and the clip's, as lists of whole points in the order in which they were added
 abbrev pub subject_of : {I : Type 0} {w : _} {o : _} {e : _} {p : _} → Overlay I w o e p → List (List Point)
@@ -10,3 +21,32 @@ subject_of {w = w} overlay = contours_of w.whole overlay.subject.items
 
 abbrev pub clip_of : {I : Type 0} {w : _} {o : _} {e : _} {p : _} → Overlay I w o e p → List (List Point)
 clip_of {w = w} overlay = contours_of w.whole overlay.clip.items
+
+-- those of a shape
+abbrev pub contours_kept : {I : Type 0} {w : _} {o : _} {e : _} {p : _} → ShapeType → Overlay I w o e p → List (List Point)
+contours_kept shape_type overlay = of_shape shape_type (subject_of overlay) (clip_of overlay)
+
+-- A contour is added to those of its shape; or all those of a shape stay.
+abbrev pub AddsContour : {I : Type 0} {w : _} {o : _} {e : _} {p : _} → ShapeType → List (IntPoint I) → Overlay I w o e p → Overlay I w o e p → Type 0
+AddsContour {w = w} shape_type contour old new = contours_kept shape_type new ≡ contours_kept shape_type old ++ points_of w.whole contour ∷ []
+
+abbrev pub KeepsContours : {I : Type 0} {w : _} {o : _} {e : _} {p : _} → ShapeType → Overlay I w o e p → Overlay I w o e p → Type 0
+KeepsContours shape_type old new = contours_kept shape_type new ≡ contours_kept shape_type old
+
+-- The fault says why a contour was not added.
+abbrev pub IsRefusalToAdd : {I : Type 0} {w : _} {o : _} {e : _} {p : _} → ShapeType → List (IntPoint I) → Overlay I w o e p → ContourFault → Type 0
+IsRefusalToAdd {w = w} shape_type contour overlay fault =
+    IsContourRefusal (w.whole w.MIN_COORD) (w.whole w.MAX_COORD) shape_type (contours_kept shape_type overlay) (points_of w.whole contour) fault
+
+-- The contours are what the overlay of those that are kept answers; the same without collinear points.
+abbrev pub IsOverlayOfKept : {I : Type 0} {w : _} {o : _} {e : _} {p : _} → Solver → OverlayRule → FillRule → Overlay I w o e p → Vec (Vec (IntPoint I) Global) Global → Type 0
+IsOverlayOfKept {w = w} solver rule fill_rule overlay contours =
+    IsPolygonOverlay (settings_for w.BITS solver) rule fill_rule (subject_of overlay) (clip_of overlay) (contours_of w.whole contours.items)
+
+abbrev pub IsCornersOfKept : {I : Type 0} {w : _} {o : _} {e : _} {p : _} → Solver → OverlayRule → FillRule → Overlay I w o e p → Vec (Vec (IntPoint I) Global) Global → Type 0
+IsCornersOfKept {w = w} solver rule fill_rule overlay contours =
+    IsCornerOverlay (settings_for w.BITS solver) rule fill_rule (subject_of overlay) (clip_of overlay) (contours_of w.whole contours.items)
+
+-- The fault says why such an overlay was refused.
+abbrev pub IsReasonOf : {I : Type 0} {w : _} {o : _} {e : _} {p : _} → Solver → Overlay I w o e p → Fault → Type 0
+IsReasonOf {w = w} solver overlay fault = IsReason (settings_for w.BITS solver) (subject_of overlay) (clip_of overlay) fault

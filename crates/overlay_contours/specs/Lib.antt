@@ -5,5 +5,6 @@ pub mod Corners
 pub mod Polygons
 pub mod CornerOverlays
 pub mod Refusals
+pub mod ContoursIn
 pub mod Kept
 pub mod Laws

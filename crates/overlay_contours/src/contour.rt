@@ -1,8 +1,6 @@
 // Contours: whether their points are in range, and the segments of their edges.
-ghost use Rattle.std.specs.Prelude.{◌≡◌, ◌<◌, ◌++◌, ◌∷◌, [], IsTrue, IsFalse, IfOk, IfErr, OnOk, IfSome, IfNone, MatchOption, map, take, length, slice_index_or};
-ghost use Rattle.std.specs.List.{list_all};
+ghost use Rattle.std.specs.Prelude.{◌≡◌, ◌<◌, ◌++◌, ◌∷◌, [], IfOk, IfErr, OnOk, IfSome, IfNone};
 ghost use Rattle.overlay_base.specs.Balance.{IsBalanced};
-ghost use Rattle.overlay_geometry.specs.Points.{Pair};
 ghost use Rattle.overlay_base.specs.Places.{RationalPoint, winding_below};
 ghost use Rattle.overlay_geometry.specs.PointOf.{point_of};
 ghost use Rattle.overlay_base.specs.SegmentOf.{segments_of};
@@ -12,7 +10,8 @@ ghost use Rattle.overlay_base.specs.declared.segm.fault.Fault.TheVariants.{Memor
 ghost use Rattle.overlay_base.specs.declared.segm.shape_type.ShapeType.TheVariants.{Subject, Clip};
 ghost use Rattle.overlay_contours.specs.Contours.{steps_of};
 ghost use Rattle.overlay_contours.specs.ContoursOf.{points_of, contours_of};
-ghost use Rattle.overlay_contours.specs.ContourSegments.{step_segments, contour_segments, overlay_segments, overlay_winding, are_in_range, IsFirstPointOutside, IsFirstOutside};
+ghost use Rattle.overlay_contours.specs.ContourSegments.{step_segments, contour_segments, overlay_segments, overlay_winding, IsFirstPointOutside};
+ghost use Rattle.overlay_contours.specs.ContoursIn.{LieInRange, LiesInRange, IsFirstOutsideOf, AreSidesOf, WindsAsContours};
 
 use overlay_base::segm::boolean::ShapeCountBoolean;
 use overlay_base::segm::fault::Fault;
@@ -33,10 +32,9 @@ pub type Side<I> = Segment<ShapeCountBoolean, I, ()>;
 /// The indexes of the first contour with a point out of range, and of its first such point. `None` where all points
 /// lie from the engine's `MIN_COORD` to its `MAX_COORD`.
 pub fn find_out_of_range<I: OverlayInt>(contours: &[IntContour<I>]) -> Option<(usize, usize)>
-    ensures none { IfNone result (IsTrue (are_in_range (I.whole I.MIN_COORD) (I.whole I.MAX_COORD)
-        (contours_of I.whole contours.now))) }
-    ensures first { IfSome result (λ found. IsFirstOutside (I.whole I.MIN_COORD) (I.whole I.MAX_COORD)
-        (contours_of I.whole contours.now) found.0 found.1) }
+    ensures none { IfNone result (LieInRange I.whole I.MIN_COORD I.MAX_COORD contours.now) }
+    ensures first { IfSome result
+        (λ found. IsFirstOutsideOf I.whole I.MIN_COORD I.MAX_COORD contours.now found.0 found.1) }
 {
     for (index, contour) in contours.iter().enumerate() {
         if let Some(point) = find_point_out_of_range(contour) {
@@ -48,8 +46,7 @@ pub fn find_out_of_range<I: OverlayInt>(contours: &[IntContour<I>]) -> Option<(u
 
 /// The index of the first point out of range.
 pub(crate) fn find_point_out_of_range<I: OverlayInt>(points: &[IntPoint<I>]) -> Option<usize>
-    ensures none { IfNone result (IsTrue (list_all (is_point_in_range (I.whole I.MIN_COORD) (I.whole I.MAX_COORD))
-        (points_of I.whole points.now))) }
+    ensures none { IfNone result (LiesInRange I.whole I.MIN_COORD I.MAX_COORD points.now) }
     ensures first { IfSome result (λ point. IsFirstPointOutside (I.whole I.MIN_COORD) (I.whole I.MAX_COORD)
         (points_of I.whole points.now) point) }
 {
@@ -79,16 +76,12 @@ pub fn segments_of_contours<I: OverlayInt>(
     subject: &[IntContour<I>],
     clip: &[IntContour<I>],
 ) -> Result<Vec<Side<I>>, Fault>
-    requires subject { IsTrue (are_in_range (I.whole I.MIN_COORD) (I.whole I.MAX_COORD)
-        (contours_of I.whole subject.now)) }
-    requires clip { IsTrue (are_in_range (I.whole I.MIN_COORD) (I.whole I.MAX_COORD)
-        (contours_of I.whole clip.now)) }
-    ensures segments { IfOk result (λ sides. segments_of sides.items
-        ≡ overlay_segments (contours_of I.whole subject.now) (contours_of I.whole clip.now)) }
+    requires subject { LieInRange I.whole I.MIN_COORD I.MAX_COORD subject.now }
+    requires clip { LieInRange I.whole I.MIN_COORD I.MAX_COORD clip.now }
+    ensures segments { IfOk result (λ sides. AreSidesOf subject.now clip.now sides.items) }
     ensures balanced { IfOk result (λ sides. IsBalanced (segments_of sides.items)) }
     ensures splittable { IfOk result (λ sides. IsSplittable sides.items) }
-    ensures windings { IfOk result (λ sides. (p : RationalPoint) → winding_below (segments_of sides.items) p
-        ≡ overlay_winding (contours_of I.whole subject.now) (contours_of I.whole clip.now) p) }
+    ensures windings { IfOk result (λ sides. WindsAsContours subject.now clip.now sides.items) }
     ensures fault { IfErr result (λ fault. fault ≡ Memory) }
 {
     let mut sides = Vec::new(alloc);
@@ -104,10 +97,8 @@ pub(crate) fn load_sides<I: OverlayInt>(
     subject: &[IntContour<I>],
     clip: &[IntContour<I>],
 ) -> Result<(), Fault>
-    requires subject { IsTrue (are_in_range (I.whole I.MIN_COORD) (I.whole I.MAX_COORD)
-        (contours_of I.whole subject.now)) }
-    requires clip { IsTrue (are_in_range (I.whole I.MIN_COORD) (I.whole I.MAX_COORD)
-        (contours_of I.whole clip.now)) }
+    requires subject { LieInRange I.whole I.MIN_COORD I.MAX_COORD subject.now }
+    requires clip { LieInRange I.whole I.MIN_COORD I.MAX_COORD clip.now }
     ensures segments { OnOk result (segments_of sides.new.items
         ≡ overlay_segments (contours_of I.whole subject.now) (contours_of I.whole clip.now)) }
     ensures balanced { OnOk result (IsBalanced (segments_of sides.new.items)) }

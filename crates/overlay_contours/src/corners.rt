@@ -1,15 +1,13 @@
 // Contours without the points at which they go straight on: collinear points in the middle of an edge.
 // Upstream drops such points by an option, as contours are extracted.
-ghost use Rattle.std.specs.Prelude.{◌≡◌, ◌&&◌, ◌++◌, ◌∷◌, [], All, IsTrue, IfOk, IfErr, OnOk, map, if◌then◌else◌};
+ghost use Rattle.std.specs.Prelude.{◌≡◌, ◌&&◌, ◌++◌, ◌∷◌, [], All, IfOk, IfErr, OnOk, if◌then◌else◌};
 ghost use Rattle.overlay_geometry.specs.Points.{point_lt};
-ghost use Rattle.overlay_base.specs.Places.{RationalPoint};
 ghost use Rattle.overlay_geometry.specs.PointOf.{point_of};
 ghost use Rattle.overlay_geometry.specs.InRange.{IsPointInRange};
 ghost use Rattle.overlay_base.specs.declared.segm.fault.Fault.TheVariants.{Memory};
-ghost use Rattle.overlay_contours.specs.Contours.{AreProper, winding_number, is_painted};
-ghost use Rattle.overlay_contours.specs.ContourSegments.{are_in_range};
 ghost use Rattle.overlay_contours.specs.ContoursOf.{points_of, contours_of};
 ghost use Rattle.overlay_contours.specs.Corners.{is_straight, last_of, corners};
+ghost use Rattle.overlay_contours.specs.ContoursIn.{LieInRange, corners_in, WindAlike, PaintAlike, StayProper};
 
 use crate::contour::IntContour;
 use overlay_base::segm::fault::Fault;
@@ -32,19 +30,13 @@ pub fn corners_of_contours<I: OverlayInt>(
     alloc: Global,
     contours: &[IntContour<I>],
 ) -> Result<Vec<IntContour<I>>, Fault>
-    requires { IsTrue (are_in_range (I.whole I.MIN_COORD) (I.whole I.MAX_COORD) (contours_of I.whole contours.now)) }
-    ensures corners { IfOk result (λ answer. contours_of I.whole answer.items
-        ≡ map corners (contours_of I.whole contours.now)) }
-    ensures turns { IfOk result (λ answer. map corners (contours_of I.whole answer.items)
-        ≡ contours_of I.whole answer.items) }
-    ensures winds { IfOk result (λ answer. (p : RationalPoint) →
-        winding_number (contours_of I.whole answer.items) p ≡ winding_number (contours_of I.whole contours.now) p) }
-    ensures painted { IfOk result (λ answer. (p : RationalPoint) →
-        is_painted (contours_of I.whole answer.items) p ≡ is_painted (contours_of I.whole contours.now) p) }
-    ensures proper { IfOk result (λ answer. AreProper (contours_of I.whole contours.now)
-        → AreProper (contours_of I.whole answer.items)) }
-    ensures in_range { IfOk result (λ answer. IsTrue (are_in_range (I.whole I.MIN_COORD) (I.whole I.MAX_COORD)
-        (contours_of I.whole answer.items))) }
+    requires { LieInRange I.whole I.MIN_COORD I.MAX_COORD contours.now }
+    ensures corners { IfOk result (λ answer. contours_of I.whole answer.items ≡ corners_in I.whole contours.now) }
+    ensures turns { IfOk result (λ answer. corners_in I.whole answer.items ≡ contours_of I.whole answer.items) }
+    ensures winds { IfOk result (λ answer. WindAlike I.whole contours.now answer.items) }
+    ensures painted { IfOk result (λ answer. PaintAlike I.whole contours.now answer.items) }
+    ensures proper { IfOk result (λ answer. StayProper I.whole contours.now answer.items) }
+    ensures in_range { IfOk result (λ answer. LieInRange I.whole I.MIN_COORD I.MAX_COORD answer.items) }
     ensures fault { IfErr result (λ fault. fault ≡ Memory) }
 {
     let mut answer = Vec::new(alloc);

@@ -1,18 +1,14 @@
 // The contours of a graph: its directed walks, as lists of points. Upstream: `core::extract`, with holes run clockwise.
-ghost use Rattle.std.specs.Prelude.{◌≡◌, ◌<◌, [], IfOk, IfErr, Bool, All, map, length, count_by};
-ghost use Rattle.overlay_geometry.specs.Points.{Pair};
-ghost use Rattle.overlay_base.specs.Places.{RationalPoint, winding_below};
+ghost use Rattle.std.specs.Prelude.{◌≡◌, ◌<◌, IfOk, IfErr, All, map, length};
 ghost use Rattle.overlay_base.specs.Rules.{holds};
 ghost use Rattle.overlay_geometry.specs.PointOf.{point_of};
 ghost use Rattle.overlay_base.specs.declared.segm.fault.Fault.TheVariants.{Memory};
-ghost use Rattle.overlay_build.specs.Boundary.{directed_links};
 ghost use Rattle.overlay_build.specs.DirectedWalks.{in_direction, arcs, IsFlow, contour};
-ghost use Rattle.overlay_build.specs.GraphOf.{graph_with, link_of, pairs_of_links};
+ghost use Rattle.overlay_build.specs.GraphOf.{link_of};
 ghost use Rattle.overlay_build.specs.OverlayGraphOf.{links_of};
-ghost use Rattle.overlay_build.specs.Regions.{encloses};
-ghost use Rattle.overlay_contours.specs.Contours.{directed_edges, edges, AreProper, is_painted};
-ghost use Rattle.overlay_contours.specs.ContourSegments.{overlay_winding};
+ghost use Rattle.overlay_contours.specs.Contours.{edges, AreProper};
 ghost use Rattle.overlay_contours.specs.ContoursOf.{points_of, contours_of};
+ghost use Rattle.overlay_contours.specs.ContoursIn.{RunAlongLinks, WindAsLinks, HaveLinksAsEdges, PaintWhatIsEnclosed};
 
 use crate::contour::IntContour;
 use overlay_base::overlay_core::link::OverlayLink;
@@ -38,17 +34,10 @@ pub fn directed_contours_of_graph<I: OverlayInt, D: Copy>(
     rule: OverlayRule,
 ) -> Result<Vec<IntContour<I>>, Fault>
     requires { IsFlow (arcs (holds rule) (map (link_of I.whole) (links_of graph.now))) }
-    ensures directed { IfOk result (λ contours. (test : Pair → Bool) →
-        count_by test (directed_edges (contours_of I.whole contours.items))
-        ≡ count_by test (map (λ l. l.pair) (arcs (holds rule) (map (link_of I.whole) (links_of graph.now))))) }
-    ensures winds { IfOk result (λ contours. (p : RationalPoint) →
-        overlay_winding (contours_of I.whole contours.items) [] p
-        ≡ winding_below (directed_links (holds rule) (graph_with I.whole (links_of graph.now))) p) }
-    ensures edges { IfOk result (λ contours. (test : Pair → Bool) →
-        count_by test (edges (contours_of I.whole contours.items))
-        ≡ count_by test (pairs_of_links I.whole (links_of graph.now))) }
-    ensures painted { IfOk result (λ contours. (p : RationalPoint) →
-        is_painted (contours_of I.whole contours.items) p ≡ encloses (graph_with I.whole (links_of graph.now)) p) }
+    ensures directed { IfOk result (λ contours. RunAlongLinks rule graph.now contours.items) }
+    ensures winds { IfOk result (λ contours. WindAsLinks rule graph.now contours.items) }
+    ensures edges { IfOk result (λ contours. HaveLinksAsEdges graph.now contours.items) }
+    ensures painted { IfOk result (λ contours. PaintWhatIsEnclosed graph.now contours.items) }
     ensures proper { IfOk result (λ contours. AreProper (contours_of I.whole contours.items)) }
     ensures fault { IfErr result (λ fault. fault ≡ Memory) }
 {

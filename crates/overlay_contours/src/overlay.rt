@@ -1,14 +1,12 @@
 // The overlay of polygons in one call: contours in, contours out. Upstream: `core::overlay`.
 ghost use Rattle.std.specs.Prelude.{◌≡◌, [], ◌∷◌, ◌++◌, IsTrue, OnOk, OnErr, IfOk, IfErr};
-ghost use Rattle.std.specs.List.{list_all};
-ghost use Rattle.overlay_geometry.specs.Coordinates.{is_point_in_range};
 ghost use Rattle.overlay_base.specs.declared.segm.fault.Fault.TheVariants.{Memory};
 ghost use Rattle.overlay_split.specs.SettingsOf.{snap_limit_of};
 ghost use Rattle.overlay_contours.specs.ContoursOf.{points_of, contours_of};
 ghost use Rattle.overlay_contours.specs.ContourSegments.{are_in_range};
 ghost use Rattle.overlay_contours.specs.Polygons.{settings_for, IsPolygonOverlay};
-ghost use Rattle.overlay_contours.specs.CornerOverlays.{IsCornerOverlay};
-ghost use Rattle.overlay_contours.specs.Refusals.{of_shape, other_shape, IsReason, IsRefusal, IsShapeOutside, IsContourRefusal};
+ghost use Rattle.overlay_contours.specs.Refusals.{other_shape, IsReason, IsShapeOutside, IsContourRefusal};
+ghost use Rattle.overlay_contours.specs.ContoursIn.{LieInRange, LiesInRange, IsOverlayOf, IsRefusalOf};
 
 use crate::contour::{IntContour, Side, find_out_of_range, find_point_out_of_range, load_sides};
 use crate::corners::corners_of_contours;
@@ -57,18 +55,12 @@ pub fn overlay_contours<I: OverlayInt>(
     fill_rule: FillRule,
     overlay_rule: OverlayRule,
 ) -> Result<Vec<IntContour<I>>, ContourFault>
-    ensures polygons { IfOk result (λ contours.
-        IsPolygonOverlay (settings_for I.BITS solver.now) overlay_rule fill_rule (contours_of I.whole subject.now)
-        (contours_of I.whole clip.now) (contours_of I.whole contours.items)) }
-    ensures in_range { IfOk result (λ contours. IsTrue (are_in_range (I.whole I.MIN_COORD) (I.whole I.MAX_COORD)
-        (contours_of I.whole contours.items))) }
-    ensures refused { IfErr result (λ fault.
-        IsRefusal (I.whole I.MIN_COORD) (I.whole I.MAX_COORD) (settings_for I.BITS solver.now)
-        (contours_of I.whole subject.now) (contours_of I.whole clip.now) fault) }
-    ensures subject_in_range { OnOk result (IsTrue (are_in_range (I.whole I.MIN_COORD) (I.whole I.MAX_COORD)
-        (contours_of I.whole subject.now))) }
-    ensures clip_in_range { OnOk result (IsTrue (are_in_range (I.whole I.MIN_COORD) (I.whole I.MAX_COORD)
-        (contours_of I.whole clip.now))) }
+    ensures polygons { IfOk result
+        (IsOverlayOf I.OverlayInt.own solver.now overlay_rule fill_rule subject.now clip.now) }
+    ensures in_range { IfOk result (λ contours. LieInRange I.whole I.MIN_COORD I.MAX_COORD contours.items) }
+    ensures refused { IfErr result (IsRefusalOf I.OverlayInt.own solver.now subject.now clip.now) }
+    ensures subject_in_range { OnOk result (LieInRange I.whole I.MIN_COORD I.MAX_COORD subject.now) }
+    ensures clip_in_range { OnOk result (LieInRange I.whole I.MIN_COORD I.MAX_COORD clip.now) }
 {
     test_range(subject, ShapeType::Subject)?;
     test_range(clip, ShapeType::Clip)?;
@@ -81,8 +73,7 @@ fn test_range<I: OverlayInt>(
     contours: &[IntContour<I>],
     shape_type: ShapeType,
 ) -> Result<(), ContourFault>
-    ensures in_range { OnOk result (IsTrue (are_in_range (I.whole I.MIN_COORD) (I.whole I.MAX_COORD)
-        (contours_of I.whole contours.now))) }
+    ensures in_range { OnOk result (LieInRange I.whole I.MIN_COORD I.MAX_COORD contours.now) }
     ensures outside { IfErr result (λ fault. IsShapeOutside (I.whole I.MIN_COORD) (I.whole I.MAX_COORD) shape_type
         (contours_of I.whole contours.now) fault) }
 {
@@ -126,15 +117,12 @@ impl<I: OverlayInt> Buffers<I> {
         fill_rule: FillRule,
         overlay_rule: OverlayRule,
     ) -> Result<Vec<IntContour<I>>, Fault>
-        requires subject { IsTrue (are_in_range (I.whole I.MIN_COORD) (I.whole I.MAX_COORD)
-            (contours_of I.whole subject.now)) }
-        requires clip { IsTrue (are_in_range (I.whole I.MIN_COORD) (I.whole I.MAX_COORD)
-            (contours_of I.whole clip.now)) }
+        requires subject { LieInRange I.whole I.MIN_COORD I.MAX_COORD subject.now }
+        requires clip { LieInRange I.whole I.MIN_COORD I.MAX_COORD clip.now }
         ensures polygons { IfOk result (λ contours.
             IsPolygonOverlay (settings_for I.BITS solver.now) overlay_rule fill_rule (contours_of I.whole subject.now)
             (contours_of I.whole clip.now) (contours_of I.whole contours.items)) }
-        ensures in_range { IfOk result (λ contours. IsTrue (are_in_range (I.whole I.MIN_COORD) (I.whole I.MAX_COORD)
-            (contours_of I.whole contours.items))) }
+        ensures in_range { IfOk result (λ contours. LieInRange I.whole I.MIN_COORD I.MAX_COORD contours.items) }
         ensures refused { IfErr result (λ fault.
             IsReason (settings_for I.BITS solver.now) (contours_of I.whole subject.now)
             (contours_of I.whole clip.now) fault) }
@@ -167,7 +155,7 @@ pub struct Overlay<I: OverlayInt> {
 }
 
 impl<I: OverlayInt> Overlay<I> {
-    ghost use Rattle.overlay_contours.specs.Kept.{subject_of, clip_of};
+    ghost use Rattle.overlay_contours.specs.Kept.{subject_of, clip_of, AddsContour, KeepsContours, IsRefusalToAdd, IsOverlayOfKept, IsCornersOfKept, IsReasonOf};
 
     /// An overlay of no contours, which takes no memory yet.
     pub fn new(alloc: Global) -> Overlay<I>
@@ -191,18 +179,11 @@ impl<I: OverlayInt> Overlay<I> {
         contour: &[IntPoint<I>],
         shape_type: ShapeType,
     ) -> Result<(), ContourFault>
-        ensures added { OnOk result (of_shape shape_type (subject_of self.new) (clip_of self.new)
-            ≡ of_shape shape_type (subject_of self.old) (clip_of self.old)
-            ++ points_of I.whole contour.now ∷ []) }
-        ensures other { of_shape (other_shape shape_type) (subject_of self.new) (clip_of self.new)
-            ≡ of_shape (other_shape shape_type) (subject_of self.old) (clip_of self.old) }
-        ensures unchanged { OnErr result (of_shape shape_type (subject_of self.new) (clip_of self.new)
-            ≡ of_shape shape_type (subject_of self.old) (clip_of self.old)) }
-        ensures in_range { OnOk result (IsTrue (list_all (is_point_in_range (I.whole I.MIN_COORD) (I.whole I.MAX_COORD))
-            (points_of I.whole contour.now))) }
-        ensures refused { IfErr result (λ fault. IsContourRefusal (I.whole I.MIN_COORD) (I.whole I.MAX_COORD) shape_type
-            (of_shape shape_type (subject_of self.old) (clip_of self.old))
-            (points_of I.whole contour.now) fault) }
+        ensures added { OnOk result (AddsContour shape_type contour.now self.old self.new) }
+        ensures other { KeepsContours (other_shape shape_type) self.old self.new }
+        ensures unchanged { OnErr result (KeepsContours shape_type self.old self.new) }
+        ensures in_range { OnOk result (LiesInRange I.whole I.MIN_COORD I.MAX_COORD contour.now) }
+        ensures refused { IfErr result (IsRefusalToAdd shape_type contour.now self.old) }
     {
         let alloc = self.buffers.alloc;
         match shape_type {
@@ -222,13 +203,9 @@ impl<I: OverlayInt> Overlay<I> {
         fill_rule: FillRule,
         overlay_rule: OverlayRule,
     ) -> Result<Vec<IntContour<I>>, Fault>
-        ensures polygons { IfOk result (λ contours.
-            IsPolygonOverlay (settings_for I.BITS solver.now) overlay_rule fill_rule (subject_of self.old)
-            (clip_of self.old) (contours_of I.whole contours.items)) }
-        ensures in_range { IfOk result (λ contours. IsTrue (are_in_range (I.whole I.MIN_COORD) (I.whole I.MAX_COORD)
-            (contours_of I.whole contours.items))) }
-        ensures refused { IfErr result (λ fault.
-            IsReason (settings_for I.BITS solver.now) (subject_of self.old) (clip_of self.old) fault) }
+        ensures polygons { IfOk result (IsOverlayOfKept solver.now overlay_rule fill_rule self.old) }
+        ensures in_range { IfOk result (λ contours. LieInRange I.whole I.MIN_COORD I.MAX_COORD contours.items) }
+        ensures refused { IfErr result (IsReasonOf solver.now self.old) }
         ensures subject { subject_of self.new ≡ subject_of self.old }
         ensures clip { clip_of self.new ≡ clip_of self.old }
     {
@@ -251,13 +228,9 @@ impl<I: OverlayInt> Overlay<I> {
         fill_rule: FillRule,
         overlay_rule: OverlayRule,
     ) -> Result<Vec<IntContour<I>>, Fault>
-        ensures polygons { IfOk result (λ contours.
-            IsCornerOverlay (settings_for I.BITS solver.now) overlay_rule fill_rule (subject_of self.old)
-            (clip_of self.old) (contours_of I.whole contours.items)) }
-        ensures in_range { IfOk result (λ contours. IsTrue (are_in_range (I.whole I.MIN_COORD) (I.whole I.MAX_COORD)
-            (contours_of I.whole contours.items))) }
-        ensures refused { IfErr result (λ fault.
-            IsReason (settings_for I.BITS solver.now) (subject_of self.old) (clip_of self.old) fault) }
+        ensures polygons { IfOk result (IsCornersOfKept solver.now overlay_rule fill_rule self.old) }
+        ensures in_range { IfOk result (λ contours. LieInRange I.whole I.MIN_COORD I.MAX_COORD contours.items) }
+        ensures refused { IfErr result (IsReasonOf solver.now self.old) }
         ensures subject { subject_of self.new ≡ subject_of self.old }
         ensures clip { clip_of self.new ≡ clip_of self.old }
     {
@@ -287,8 +260,7 @@ fn add_in_range<I: OverlayInt>(
     ensures added { OnOk result (contours_of I.whole contours.new.items
         ≡ contours_of I.whole contours.old.items ++ points_of I.whole contour.now ∷ []) }
     ensures unchanged { OnErr result (contours.new.items ≡ contours.old.items) }
-    ensures in_range { OnOk result (IsTrue (list_all (is_point_in_range (I.whole I.MIN_COORD) (I.whole I.MAX_COORD))
-        (points_of I.whole contour.now))) }
+    ensures in_range { OnOk result (LiesInRange I.whole I.MIN_COORD I.MAX_COORD contour.now) }
     ensures all_in_range { IsTrue (are_in_range (I.whole I.MIN_COORD) (I.whole I.MAX_COORD)
         (contours_of I.whole contours.old.items))
         → IsTrue (are_in_range (I.whole I.MIN_COORD) (I.whole I.MAX_COORD) (contours_of I.whole contours.new.items)) }

@@ -5,11 +5,13 @@ use Rattle.overlay_geometry.specs.Points.{Pair}
 use Rattle.overlay_geometry.specs.Ranges.{Rect}
 use Rattle.overlay_geometry.specs.PairOf.{pair_of}
 use Rattle.overlay_geometry.specs.RangeOf.{rect_of}
-use Rattle.overlay_grid.specs.Grid.{Layout, Fragment as WholeFragment, fragments}
+use Rattle.overlay_grid.specs.Grid.{Layout, Fragment as WholeFragment, fragments, rect_between}
 use Rattle.overlay_grid.specs.declared.split.axis.Axis.{Axis}
 use Rattle.overlay_grid.specs.declared.split.axis.Axis.TheVariants.{X, Y}
 use Rattle.overlay_grid.specs.declared.split.grid_layout.GridLayout.{GridLayout}
 use Rattle.overlay_grid.specs.declared.split.fragment.Fragment.{Fragment}
+use Rattle.overlay_geometry.specs.declared.geom.point.IntPoint.{IntPoint}
+use Rattle.overlay_geometry.specs.declared.geom.x_segment.XSegment.{XSegment}
 
 abbrev pub layout_of : {I : Type 0} {w : _} {o : _} {e : _} {p : _} → GridLayout I w o e p → Layout
 layout_of {w = w} l = record { min_x = w.whole l.min_x; max_x = w.whole l.max_x; power = l.power }
@@ -54,3 +56,8 @@ greatest_along axis f = on_axis axis f.rect.max_x f.rect.max_y
 abbrev pub IsSortedAlong : Axis → List KeptFragment → Type 0
 IsSortedAlong axis [] = ⊤
 IsSortedAlong axis (f ∷ fs) = AllByRecursion (λ g. least_along axis f ≤ℤ least_along axis g) fs × IsSortedAlong axis fs
+
+-- a fragment of a segment of code whose rectangle has two points as opposite corners
+abbrev pub kept_between : {I : Type 0} → (I → ℤ) → ℕ → XSegment I → IntPoint I → IntPoint I → KeptFragment
+kept_between whole index s p q =
+    record { index = index; pair = pair_of whole s; rect = rect_between (whole p.x) (whole p.y) (whole q.x) (whole q.y) }

@@ -112,3 +112,10 @@ pub record IsInside (l : Layout) (s : Pair) : Type 0 where
 abbrev pub LieInside : Option Layout → List Pair → Type 0
 LieInside None segments = ⊤
 LieInside (Some l) segments = AllByRecursion (λ s. IsInside l s) segments
+
+-- the heights of a segment at x by these: the one toward its start, and the one toward its end
+abbrev pub near_height : Pair → ℤ → ℤ
+near_height s x = toward s (least_rise s x)
+
+abbrev pub far_height : Pair → ℤ → ℤ
+far_height s x = toward s (greatest_rise s x)

@@ -1,5 +1,5 @@
 -- How many pairs a pass may take up. Ranges meet where they share a number.
-use Rattle.std.specs.Prelude.{ℕ, ◌+◌, ◌*◌, ℤ, int_le, Bool, ◌&&◌, List, [], ◌∷◌, length, count_by}
+use Rattle.std.specs.Prelude.{ℕ, ◌+◌, ◌*◌, ℤ, int_le, Bool, ◌&&◌, List, [], ◌∷◌, length, count_by, ◌-◌, ◌^◌, min}
 use Rattle.std.specs.Int.{int_min, int_max}
 use Rattle.overlay_geometry.specs.Points.{Pair}
 
@@ -26,3 +26,7 @@ list_looks segments = count_twos x_ranges_meet segments
 -- tree, fewer than 48, and the segment itself, where it is dropped.
 unfoldable pub tree_looks : List Pair → ℕ
 tree_looks segments = 48 * length segments + count_twos boxes_meet segments
+
+-- two counts added, up to the greatest number that a count of pairs has
+abbrev pub capped_sum : ℕ → ℕ → ℕ
+capped_sum n k = min (n + k) (2 ^ 128 - 1)

@@ -8,6 +8,10 @@ use Rattle.overlay_intersections.specs.PassMarks.{marks_on}
 use Rattle.overlay_geometry.specs.PointOf.{point_of}
 use Rattle.overlay_geometry.specs.declared.geom.point.IntPoint.{IntPoint}
 use Rattle.overlay_intersections.specs.declared.split.line_mark.LineMark.{LineMark}
+use Rattle.overlay_base.specs.SegmentOf.{segments_of}
+use Rattle.overlay_base.specs.declared.segm.segment.Segment.{Segment}
+use Rattle.overlay_intersections.specs.PlacingOf.{placing_of}
+use Rattle.overlay_intersections.specs.declared.split.placing.Placing.{Placing as PassPlacing}
 
 abbrev pub points_of : {I : Type 0} → (I → ℤ) → List (IntPoint I) → List Point
 points_of whole points = map (point_of whole) points
@@ -36,3 +40,7 @@ pub record AreMarks (placing : Placing) (segments : List WholeSegment) (marks : 
   pub in_order : IsSortedByKey (λ m. m.index) nat_cmp marks
   pub within : All (λ m. m.index < length segments) marks
   pub each : (index : ℕ) (d : WholeSegment) → index < length segments → points_at index marks ≡ marks_on placing segments (slice_index_or segments index d).pair
+
+-- Marks of code are those that a pass with a placing of code makes on a list of segments.
+abbrev pub AreMarksOf : {C I D : Type 0} {m : _} {w : _} {o : _} {e : _} {p : _} → PassPlacing → List (Segment C I D m w o e p) → List (LineMark I) → Type 0
+AreMarksOf {w = w} placing segments marks = AreMarks (placing_of placing) (segments_of segments) (marks_of w.whole marks)

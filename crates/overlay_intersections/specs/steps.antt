@@ -4,3 +4,4 @@ pub mod OffsetOf
 pub mod Along
 pub mod ContactOf
 pub mod NearerEnd
+pub mod AddedMarks

@@ -1,5 +1,5 @@
 -- The same passes over segments with data: which hook is called when, and what the store holds after.
-use Rattle.std.specs.Prelude.{ℕ, zero, suc, ◌<◌, IsTrue, IsFalse, List, [], ◌∷◌, ◌++◌, flat_map, take, drop}
+use Rattle.std.specs.Prelude.{ℕ, zero, suc, ◌<◌, IsTrue, IsFalse, List, [], ◌∷◌, ◌++◌, flat_map, take, drop, ◌≡◌}
 use Rattle.overlay_geometry.specs.Points.{Point, Pair}
 use Rattle.overlay_base.specs.Windings.{Winding}
 use Rattle.overlay_intersections.specs.Marks.{Placing}
@@ -62,3 +62,7 @@ pub record IsStoppedRun {D S : Type 0} (hooks : Hooks D S) (settings : Settings)
   pub stopped :
       let joined : List (DataSegment D) × S = data_joined_in hooks settings given from in_pass in
       IsRefusedJoin hooks joined.0 joined.1 left
+
+-- The data of the segments is what the hooks of so many passes make of what is given, from some store at first.
+abbrev pub IsDataAfter : {D S : Type 0} → Hooks D S → (S → Type 0) → Settings → List (DataSegment D) → List (DataSegment D) → ℕ → Type 0
+IsDataAfter {S = S} hooks IsFirst settings given segments passes = (store : S) × IsFirst store × (segments ≡ (data_after_passes hooks settings given store passes).0)

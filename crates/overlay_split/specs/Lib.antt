@@ -7,9 +7,11 @@ pub mod RunLooks
 pub mod Potential
 pub mod DataPass
 pub mod SettingsOf
+pub mod PassOf
 pub mod ExactInput
 pub mod Nearness
 pub mod Places
 pub mod Laws
+pub mod SplitOf
 -- what private functions tell one another
 pub mod steps

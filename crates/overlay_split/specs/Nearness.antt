@@ -1,15 +1,16 @@
 -- How far a split moves segments. Distances are those in x and in y, whichever is more, and are counted in halves.
-use Rattle.std.specs.Prelude.{◌⊎◌, ◌<◌, ◌≤◌, ◌==◌, IsFalse, Bool, not, filter, ◌&&◌, nat_lt, ℕ, zero, suc, ◌+◌, ◌*◌, pos, ◌+ℤ◌, ◌-ℤ◌, ◌*ℤ◌, unsigned_abs, nat_le, if◌then◌else◌, List, All, Contains}
+use Rattle.std.specs.Prelude.{◌⊎◌, ◌<◌, ◌≤◌, ◌==◌, IsFalse, Bool, not, filter, ◌&&◌, nat_lt, ℕ, zero, suc, ◌+◌, ◌*◌, pos, ◌+ℤ◌, ◌-ℤ◌, ◌*ℤ◌, unsigned_abs, nat_le, if◌then◌else◌, List, All, Contains, IsTrue}
 use Rattle.std.specs.List.{list_all}
-use Rattle.overlay_geometry.specs.Points.{Point, Pair}
+use Rattle.overlay_geometry.specs.Points.{Point, Pair, is_within_box_of}
 use Rattle.overlay_base.specs.Places.{RationalPoint}
 use Rattle.overlay_base.specs.Windings.{Winding, is_not_empty}
-use Rattle.overlay_base.specs.Segments.{WholeSegment, pairs, winding_at}
+use Rattle.overlay_base.specs.Segments.{WholeSegment, pairs, winding_at, ends}
 use Rattle.overlay_intersections.specs.Crossing.{offset_x, offset_y}
 use Rattle.overlay_intersections.specs.Marks.{Placing, snapping, settling}
 use Rattle.overlay_split.specs.Pass.{cut}
 use Rattle.overlay_intersections.specs.PassMarks.{is_rounded}
 use Rattle.overlay_split.specs.Run.{Settings, placing_of_pass, after_passes}
+use Rattle.overlay_base.specs.Join.{join}
 
 -- ---- points and pairs
 
@@ -123,3 +124,7 @@ with_mask segments = filter (λ s. has_mask s.count) segments
 pub record LinesStayNear (settings : Settings) (given result : List WholeSegment) (passes : ℕ) : Type 0 where
   pub result_is_near : LieNear (reach_of_run settings given passes) (pairs (with_mask given)) (pairs (with_mask result))
   pub given_is_near : (s : Pair) → Contains (pairs (with_mask given)) s → (f : Fraction) → IsNearSome (reach_of_run settings given passes) (point_along s f) (pairs (with_mask result))
+
+-- The ends of the result lie in the box of the ends that the join of what is given has.
+abbrev pub LieInGivenBox : List WholeSegment → List WholeSegment → Type 0
+LieInGivenBox given result = IsTrue (list_all (λ p. is_within_box_of (ends (pairs (join given))) p) (ends (pairs result)))

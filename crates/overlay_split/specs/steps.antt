@@ -2,3 +2,4 @@
 pub mod PathSteps
 pub mod DataCutAt
 pub mod IsAt
+pub mod PiecesOf

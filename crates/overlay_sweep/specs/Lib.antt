@@ -4,6 +4,7 @@ pub mod Fill
 pub mod Sweep
 pub mod Live
 pub mod VisitOf
+pub mod SweepOf
 pub mod EntryOf
 pub mod TreeShapes
 pub mod Costs

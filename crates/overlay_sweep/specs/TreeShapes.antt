@@ -180,3 +180,17 @@ pub record IsPlaced (lasts before : ℕ → Bool) (old new : List TreeNode) (giv
   pub at_most : high ≤ was + 1
   pub last_is : ((earlier ≡ []) × (last ≡ given)) ⊎ HasLast lasts before earlier last
   pub first_is : (later ≡ []) ⊎ HasFirst lasts before later
+
+-- ---- what calls do with a tree
+
+-- a node with none below it
+abbrev pub lone_node : TreeNode
+lone_node = record { left = none; right = none; height = 1 }
+
+-- Two trees that `at` may join are joined, with `at` between them.
+abbrev pub JoinsTrees : List TreeNode → List TreeNode → ℕ → ℕ → ℕ → ℕ → Type 0
+JoinsTrees old new left at right top = (j : AreJoinable old left at right) → IsJoined old new top (j.before ++ at ∷ j.after) j.left_height j.right_height
+
+-- The top of a tree that is sound is taken out.
+abbrev pub RemovesTop : List TreeNode → List TreeNode → ℕ → ℕ → Type 0
+RemovesTop old new at rest = (t : IsSound old at) → IsTopRemoved old new at rest t.order t.high

@@ -1,12 +1,14 @@
 // The join of a list in any order. Upstream: the sort and the merge with which `split::solver` begins, and with which
 // each of its passes ends.
 ghost use Rattle.std.specs.Prelude.{◌≡◌, [], All, IsTrue, IsFalse, IfOk, OnOk, IfErr, OnErr};
-ghost use Rattle.overlay_base.specs.declared.segm.fault.Fault.TheVariants.{Memory, CountOutOfRange};
+ghost use Rattle.overlay_base.specs.declared.segm.fault.Fault.TheVariants.{Memory};
 ghost use Rattle.overlay_base.specs.Windings.{is_valid};
 ghost use Rattle.overlay_base.specs.Join.{join, join_leaves_range, has_equal_pairs};
-ghost use Rattle.overlay_base.specs.EdgeData.{data_join, IsMadeFrom, IsRefusedJoin};
+ghost use Rattle.overlay_base.specs.EdgeData.{IsMadeFrom};
 ghost use Rattle.overlay_base.specs.HooksOf.{hooks_of};
-ghost use Rattle.overlay_base.specs.SegmentOf.{winding_of, segments_of, data_segments_of};
+ghost use Rattle.overlay_base.specs.SegmentOf.{winding_of, segments_of};
+ghost use Rattle.overlay_base.specs.DataOf.{HasDataOfJoin, IsJoinStore, StopsJoin};
+ghost use Rattle.overlay_base.specs.FaultOf.{OnTooLarge};
 
 use crate::overlay_core::edge_data::OverlayEdgeData;
 use crate::segm::fault::Fault;
@@ -29,21 +31,14 @@ pub fn join_with_store<C: WindingCount, I: OverlayInt, D: OverlayEdgeData<C>>(
 ) -> Result<bool, Fault>
     requires { All (λ s. IsTrue (is_valid (winding_of s))) list.old.items }
     ensures geometry { OnOk result (segments_of list.new.items ≡ join (segments_of list.old.items)) }
-    ensures edge_data { OnOk result
-        (let hooks = hooks_of C.counted D.OverlayEdgeData.own in
-        data_segments_of list.new.items ≡ (data_join hooks (data_segments_of list.old.items) store.old).0) }
-    ensures store { OnOk result
-        (let hooks = hooks_of C.counted D.OverlayEdgeData.own in
-        store.new ≡ (data_join hooks (data_segments_of list.old.items) store.old).1) }
+    ensures edge_data { OnOk result (HasDataOfJoin D.OverlayEdgeData.own list.old store.old list.new) }
+    ensures store { OnOk result (IsJoinStore D.OverlayEdgeData.own list.old store.old store.new) }
     ensures repeated { IfOk result (λ repeated. repeated ≡ has_equal_pairs (segments_of list.old.items)) }
 
     ensures fits { OnOk result (IsFalse (join_leaves_range (segments_of list.old.items))) }
-    ensures refused { IfErr result (λ fault. fault ≡ CountOutOfRange
-        → IsTrue (join_leaves_range (segments_of list.old.items))) }
+    ensures refused { OnTooLarge result (IsTrue (join_leaves_range (segments_of list.old.items))) }
     ensures emptied { OnErr result (list.new.items ≡ []) }
-    ensures stopped { IfErr result (λ fault. fault ≡ CountOutOfRange →
-        (let hooks = hooks_of C.counted D.OverlayEdgeData.own in
-        IsRefusedJoin hooks (data_segments_of list.old.items) store.old store.new)) }
+    ensures stopped { OnTooLarge result (StopsJoin D.OverlayEdgeData.own list.old store.old store.new) }
     ensures store_kept { IfErr result (λ fault. fault ≡ Memory → store.new ≡ store.old) }
     ensures store_made { IsMadeFrom (hooks_of C.counted D.OverlayEdgeData.own) store.old store.new }
 {

@@ -5,9 +5,10 @@ ghost use Rattle.overlay_base.specs.declared.segm.fault.Fault.TheVariants.{Count
 ghost use Rattle.overlay_geometry.specs.Points.{pair_cmp, pair_eq};
 ghost use Rattle.overlay_base.specs.Windings.{add, is_count_in_range, is_valid};
 ghost use Rattle.overlay_base.specs.Join.{join, join_leaves_range, has_equal_neighbors};
-ghost use Rattle.overlay_base.specs.EdgeData.{merged, kept_sum, data_join, IsStoppedJoin};
+ghost use Rattle.overlay_base.specs.EdgeData.{merged, kept_sum};
 ghost use Rattle.overlay_base.specs.HooksOf.{hooks_of};
 ghost use Rattle.overlay_base.specs.SegmentOf.{ends_of, winding_of, segments_of, data_segment_of, data_segments_of};
+ghost use Rattle.overlay_base.specs.DataOf.{HasDataOfJoin, IsJoinStore, StopsMerge};
 
 use crate::overlay_core::edge_data::{EdgeDataMerge, OverlayEdgeData};
 use crate::segm::fault::Fault;
@@ -29,20 +30,14 @@ pub fn merge_if_needed_with_store<C: WindingCount, I: OverlayInt, D: OverlayEdge
     requires sorted { IsSortedByKey ends_of pair_cmp list.old.items }
     requires valid { All (λ s. IsTrue (is_valid (winding_of s))) list.old.items }
     ensures geometry { OnOk result (segments_of list.new.items ≡ join (segments_of list.old.items)) }
-    ensures edge_data { OnOk result
-        (let hooks = hooks_of C.counted D.OverlayEdgeData.own in
-        data_segments_of list.new.items ≡ (data_join hooks (data_segments_of list.old.items) store.old).0) }
-    ensures store { OnOk result
-        (let hooks = hooks_of C.counted D.OverlayEdgeData.own in
-        store.new ≡ (data_join hooks (data_segments_of list.old.items) store.old).1) }
+    ensures edge_data { OnOk result (HasDataOfJoin D.OverlayEdgeData.own list.old store.old list.new) }
+    ensures store { OnOk result (IsJoinStore D.OverlayEdgeData.own list.old store.old store.new) }
     ensures repeated { IfOk result (λ repeated. repeated ≡ has_equal_neighbors (segments_of list.old.items)) }
 
     ensures refused { IsErr result ↔ IsTrue (join_leaves_range (segments_of list.old.items)) }
     ensures fault { IfErr result (λ fault. fault ≡ CountOutOfRange) }
     ensures emptied { OnErr result (list.new.items ≡ []) }
-    ensures stopped { OnErr result
-        (let hooks = hooks_of C.counted D.OverlayEdgeData.own in
-        IsStoppedJoin hooks (data_segments_of list.old.items) store.old store.new) }
+    ensures stopped { OnErr result (StopsMerge D.OverlayEdgeData.own list.old store.old store.new) }
 {
     if list.is_empty() {
         return Ok(false);

@@ -82,10 +82,8 @@ impl<C: WindingCount, I: OverlayInt, D: OverlayEdgeData<C>> Segment<C, I, D> {
     ghost use Rattle.std.specs.Prelude.{◌≡◌, ◌≢◌, IsTrue};
     ghost use Rattle.overlay_geometry.specs.Points.{point_lt};
     ghost use Rattle.overlay_base.specs.Windings.{is_valid};
-    ghost use Rattle.overlay_base.specs.EdgeData.{data_piece};
     ghost use Rattle.overlay_geometry.specs.PointOf.{point_of};
-    ghost use Rattle.overlay_base.specs.HooksOf.{hooks_of};
-    ghost use Rattle.overlay_base.specs.SegmentOf.{data_segment_of};
+    ghost use Rattle.overlay_base.specs.DataOf.{IsDataPiece, IsPieceStore};
 
     /// The segment between two points, which have to differ.
     ///
@@ -102,12 +100,8 @@ impl<C: WindingCount, I: OverlayInt, D: OverlayEdgeData<C>> Segment<C, I, D> {
         requires ends { point_of I.whole a ≢ point_of I.whole b }
         requires valid { IsTrue (point_lt (point_of I.whole b) (point_of I.whole a))
             → IsTrue (is_valid (C.winding count)) }
-        ensures segment { let hooks = hooks_of C.counted D.OverlayEdgeData.own in
-            data_segment_of result ≡ (data_piece hooks (C.winding count) (point_of I.whole a)
-            (point_of I.whole b) edge_data store.old).0 }
-        ensures store { let hooks = hooks_of C.counted D.OverlayEdgeData.own in
-            store.new ≡ (data_piece hooks (C.winding count) (point_of I.whole a)
-            (point_of I.whole b) edge_data store.old).1 }
+        ensures segment { IsDataPiece D.OverlayEdgeData.own (C.winding count) a b edge_data store.old result }
+        ensures store { IsPieceStore D.OverlayEdgeData.own (C.winding count) a b edge_data store.old store.new result }
     {
         if a < b {
             Segment {
@@ -126,13 +120,9 @@ impl<C: WindingCount, I: OverlayInt, D: OverlayEdgeData<C>> Segment<C, I, D> {
 }
 
 impl<I: OverlayInt, D: OverlayEdgeData<ShapeCountBoolean>> Segment<ShapeCountBoolean, I, D> {
-    ghost use Rattle.std.specs.Prelude.{◌≡◌, ◌↔◌, IsNone, IfSome, OnSome, IfNone};
-    ghost use Rattle.overlay_base.specs.EdgeData.{data_piece};
+    ghost use Rattle.std.specs.Prelude.{◌≡◌, ◌↔◌, IsNone, IfSome, IfNone};
     ghost use Rattle.overlay_geometry.specs.PointOf.{point_of};
-    ghost use Rattle.overlay_base.specs.HooksOf.{hooks_of};
-    ghost use Rattle.overlay_base.specs.BooleanWinding.{boolean_counted, boolean_made};
-    ghost use Rattle.overlay_base.specs.ShapeWindings.{direct_winding};
-    ghost use Rattle.overlay_base.specs.SegmentOf.{data_segment_of};
+    ghost use Rattle.overlay_base.specs.DataOf.{IsStepOf, IsStepStore};
 
     /// One step of a contour of the shape, from `a` to `b`. `None` exactly where the two points are equal.
     pub fn try_ab_and_data(
@@ -143,14 +133,8 @@ impl<I: OverlayInt, D: OverlayEdgeData<ShapeCountBoolean>> Segment<ShapeCountBoo
         store: &mut D::Store,
     ) -> Option<Segment<ShapeCountBoolean, I, D>>
         ensures none { IsNone result ↔ (point_of I.whole a ≡ point_of I.whole b) }
-        ensures segment { IfSome result (λ segment.
-            let hooks = hooks_of boolean_counted D.OverlayEdgeData.own in
-            data_segment_of segment ≡ (data_piece hooks (direct_winding boolean_made shape_type) (point_of I.whole a)
-            (point_of I.whole b) edge_data store.old).0) }
-        ensures store { OnSome result
-            (let hooks = hooks_of boolean_counted D.OverlayEdgeData.own in
-            store.new ≡ (data_piece hooks (direct_winding boolean_made shape_type) (point_of I.whole a)
-            (point_of I.whole b) edge_data store.old).1) }
+        ensures segment { IfSome result (IsStepOf D.OverlayEdgeData.own shape_type a b edge_data store.old) }
+        ensures store { IfSome result (IsStepStore D.OverlayEdgeData.own shape_type a b edge_data store.old store.new) }
         ensures store_unchanged { IfNone result (store.new ≡ store.old) }
     {
         if a == b {

@@ -1,19 +1,13 @@
 // The boundary of a rule's region as segments of one shape, which a further overlay may be given. This project's own.
-ghost use Rattle.std.specs.Prelude.{◌≡◌, IsTrue, IfOk, IfErr, List};
+ghost use Rattle.std.specs.Prelude.{◌≡◌, IsTrue, IfOk, IfErr};
 ghost use Rattle.overlay_geometry.specs.Points.{is_ordered};
-ghost use Rattle.overlay_base.specs.Segments.{WholeSegment, are_polygons};
-ghost use Rattle.overlay_base.specs.Planar.{is_arranged};
-ghost use Rattle.overlay_base.specs.Balance.{IsBalanced};
-ghost use Rattle.overlay_base.specs.Places.{RationalPoint, winding_below};
-ghost use Rattle.overlay_base.specs.Rules.{holds, keeps_fill};
-ghost use Rattle.overlay_base.specs.SegmentOf.{ends_of, winding_of, segments_of};
-ghost use Rattle.overlay_base.specs.declared.overlay_core.fill_rule.FillRule.{FillRule};
+ghost use Rattle.overlay_base.specs.Rules.{holds};
+ghost use Rattle.overlay_base.specs.SegmentOf.{ends_of, winding_of};
 ghost use Rattle.overlay_base.specs.declared.segm.fault.Fault.TheVariants.{Memory};
-ghost use Rattle.overlay_build.specs.Graph.{graph_by};
-ghost use Rattle.overlay_build.specs.GraphOf.{graph_with, link_of};
-ghost use Rattle.overlay_build.specs.OverlayGraphOf.{links_of};
-ghost use Rattle.overlay_build.specs.Boundary.{direction, directed_links};
-ghost use Rattle.overlay_build.specs.ShapedBoundary.{of_shape, in_shape, BoundsAsShape};
+ghost use Rattle.overlay_build.specs.GraphOf.{link_of};
+ghost use Rattle.overlay_build.specs.Boundary.{direction};
+ghost use Rattle.overlay_build.specs.ShapedBoundary.{of_shape};
+ghost use Rattle.overlay_build.specs.BoundaryOf.{HasLinksInShape, WindsAsLinks, BoundsAgain};
 
 use crate::build::directed_walks::holds_of_top;
 use crate::build::graph::OverlayGraph;
@@ -43,17 +37,9 @@ pub fn directed_segments<I: OverlayInt, D: Copy>(
     rule: OverlayRule,
     shape_type: ShapeType,
 ) -> Result<Vec<Segment<ShapeCountBoolean, I, ()>>, Fault>
-    ensures segments { IfOk result (λ list.
-        segments_of list.items
-        ≡ in_shape shape_type (directed_links (holds rule) (graph_with I.whole (links_of graph.now)))) }
-    ensures winds { IfOk result (λ list.
-        (p : RationalPoint) → winding_below (segments_of list.items) p ≡ of_shape shape_type
-        (winding_below (directed_links (holds rule) (graph_with I.whole (links_of graph.now))) p).subj) }
-    ensures again { IfOk result (λ list. (fill_rule : FillRule) (segments : List WholeSegment)
-        → graph_with I.whole (links_of graph.now) ≡ graph_by (keeps_fill (holds rule)) fill_rule segments
-        → IsTrue (is_arranged (I.whole I.MIN_COORD) (I.whole I.MAX_COORD) segments) → IsTrue (are_polygons segments)
-        → IsBalanced segments → BoundsAsShape (I.whole I.MIN_COORD) (I.whole I.MAX_COORD) shape_type (holds rule)
-        fill_rule segments (segments_of list.items)) }
+    ensures segments { IfOk result (λ list. HasLinksInShape shape_type rule graph.now list.items) }
+    ensures winds { IfOk result (λ list. WindsAsLinks shape_type rule graph.now list.items) }
+    ensures again { IfOk result (λ list. BoundsAgain shape_type rule graph.now list.items) }
     ensures fault { IfErr result (λ fault. fault ≡ Memory) }
 {
     let mut segments = Vec::new(alloc);

@@ -1,6 +1,6 @@
 // Builds graphs of overlays and of lines, one after another. Upstream: `build::builder`, and the builds of
 // `build::boolean` and `build::string`.
-ghost use Rattle.std.specs.Prelude.{◌≡◌, [], length, true, map, IsTrue, IsFalse, OnOk, OnErr, IfOk, IfErr};
+ghost use Rattle.std.specs.Prelude.{◌≡◌, [], true, map, IsTrue, IsFalse, OnOk, OnErr, IfOk};
 ghost use Rattle.std.specs.List.{list_all};
 ghost use Rattle.std.specs.Borrow.{sem};
 ghost use Rattle.overlay_geometry.specs.Points.{is_ordered};
@@ -9,18 +9,16 @@ ghost use Rattle.overlay_base.specs.ClipRules.{keeps_clip};
 ghost use Rattle.overlay_base.specs.ArrangedOf.{IsArranged};
 ghost use Rattle.overlay_base.specs.Balance.{IsBalanced};
 ghost use Rattle.overlay_base.specs.SegmentOf.{segments_of, data_segments_of};
-ghost use Rattle.overlay_base.specs.declared.segm.fault.Fault.TheVariants.{CountOutOfRange};
-ghost use Rattle.overlay_base.specs.Choices.{list_fills};
 ghost use Rattle.overlay_sweep.specs.ChainWindings.{tops_leave_range};
-ghost use Rattle.overlay_sweep.specs.Costs.{IsSweepCost};
 ghost use Rattle.overlay_sweep.specs.LiveOf.{run_asked};
-ghost use Rattle.overlay_build.specs.Graph.{graph_by, data_by, has_even_nodes};
-ghost use Rattle.overlay_build.specs.Sides.{IsBalancedOverlay};
-ghost use Rattle.overlay_build.specs.Lines.{IsBalancedClip};
+ghost use Rattle.overlay_build.specs.Graph.{graph_by, data_by};
 ghost use Rattle.overlay_build.specs.GraphOf.{HoldGraph, graph_with, link_of};
-ghost use Rattle.overlay_build.specs.NodeIndexes.{indexes_of, is_canonical_node, items_of, is_any_node};
+ghost use Rattle.overlay_build.specs.NodeIndexes.{indexes_of, is_canonical_node};
 ghost use Rattle.overlay_build.specs.steps.LinkRules.{keeps_by};
 ghost use Rattle.overlay_build.specs.BuilderOf.{built_nodes, built_links, build_asked};
+ghost use Rattle.overlay_base.specs.FaultOf.{OnTooLarge};
+ghost use Rattle.overlay_sweep.specs.SweepOf.{IsCostOf};
+ghost use Rattle.overlay_build.specs.BalancedOf.{MakesBalancedOverlay, MakesBalancedClip};
 
 use crate::build::connect_links::connect_links;
 use crate::build::fills::find_fills;
@@ -116,12 +114,10 @@ impl<C: FillCount, N: GraphNode, I: OverlayInt, D: Copy> GraphBuilder<C, N, I, D
         ensures edge_data { OnOk result (map (λ l. l.edge_data) self.new.links.items
             ≡ data_by (keeps_by rule) fill_rule (data_segments_of segments.now)) }
         ensures in_range { OnOk result (IsFalse (tops_leave_range (segments_of segments.now))) }
-        ensures out_of_range { IfErr result (λ fault. fault ≡ CountOutOfRange
-            → IsTrue (tops_leave_range (segments_of segments.now))) }
+        ensures out_of_range { OnTooLarge result (IsTrue (tops_leave_range (segments_of segments.now))) }
         ensures no_links { OnErr result (self.new.links.items ≡ []) }
         ensures no_nodes { OnErr result (self.new.nodes.items ≡ []) }
-        ensures compared { OnOk result (IsSweepCost (list_fills solver.now.strategy (length segments.now))
-            (segments_of segments.now) self.new.compared) }
+        ensures compared { OnOk result (IsCostOf solver.now segments.now self.new.compared) }
         ensures shown { OnOk result (self.new.compared ≡ run_asked self.new.sweep_runner) }
         ensures same_compared { OnErr result (self.new.compared ≡ self.old.compared) }
     {
@@ -147,10 +143,8 @@ impl<C: FillCount, N: GraphNode, I: OverlayInt, D: Copy> GraphBuilder<C, N, I, D
         ensures edge_data { OnOk result (map (λ l. l.edge_data) self.new.links.items
             ≡ data_by (keeps_by rule) fill_rule (data_segments_of segments.now)) }
         ensures in_range { OnOk result (IsFalse (tops_leave_range (segments_of segments.now))) }
-        ensures out_of_range { IfErr result (λ fault. fault ≡ CountOutOfRange
-            → IsTrue (tops_leave_range (segments_of segments.now))) }
-        ensures compared { OnOk result (IsSweepCost (list_fills solver.now.strategy (length segments.now))
-            (segments_of segments.now) self.new.compared) }
+        ensures out_of_range { OnTooLarge result (IsTrue (tops_leave_range (segments_of segments.now))) }
+        ensures compared { OnOk result (IsCostOf solver.now segments.now self.new.compared) }
         ensures shown { OnOk result (self.new.compared ≡ run_asked self.new.sweep_runner) }
         ensures same_compared { OnErr result (self.new.compared ≡ self.old.compared) }
     {
@@ -168,8 +162,8 @@ impl<C: FillCount, N: GraphNode, I: OverlayInt, D: Copy> GraphBuilder<C, N, I, D
 }
 
 impl<I: OverlayInt, D: Copy> GraphBuilder<ShapeCountBoolean, OverlayNode, I, D> {
-    ghost use Rattle.overlay_build.specs.BuilderOf.{HoldsAnswer};
-    ghost use Rattle.overlay_build.specs.OverlayGraphOf.{nodes_of, links_of, graph_asked};
+    ghost use Rattle.overlay_build.specs.BuilderOf.{RestsIn};
+    ghost use Rattle.overlay_build.specs.OverlayGraphOf.{nodes_of, links_of, graph_asked, ShowsGraphBy, HasDataBy, HasEvenNodes};
 
     /// The graph of the last build.
     fn graph(&self) -> OverlayGraph<'_, I, D>
@@ -198,18 +192,13 @@ impl<I: OverlayInt, D: Copy> GraphBuilder<ShapeCountBoolean, OverlayNode, I, D> 
         segments: &[Segment<ShapeCountBoolean, I, D>],
     ) -> Result<OverlayGraph<'_, I, D>, Fault>
         requires arranged { IsArranged segments.now }
-        ensures graph { IfOk result (λ graph.
-            HoldGraph indexes_of is_canonical_node I.whole (nodes_of graph) (links_of graph)
-            (graph_by (λ _. true) fill_rule (segments_of segments.now))) }
-        ensures edge_data { IfOk result (λ graph.
-            map (λ l. l.edge_data) (links_of graph) ≡ data_by (λ _. true) fill_rule (data_segments_of segments.now)) }
+        ensures graph { IfOk result (ShowsGraphBy (λ _. true) fill_rule segments.now) }
+        ensures edge_data { IfOk result (HasDataBy (λ _. true) fill_rule segments.now) }
         ensures in_range { OnOk result (IsFalse (tops_leave_range (segments_of segments.now))) }
-        ensures out_of_range { IfErr result (λ fault.
-            fault ≡ CountOutOfRange → IsTrue (tops_leave_range (segments_of segments.now))) }
-        ensures compared { IfOk result (λ graph. IsSweepCost (list_fills solver.now.strategy (length segments.now))
-            (segments_of segments.now) (graph_asked graph)) }
+        ensures out_of_range { OnTooLarge result (IsTrue (tops_leave_range (segments_of segments.now))) }
+        ensures compared { IfOk result (λ graph. IsCostOf solver.now segments.now (graph_asked graph)) }
         ensures* after { sem 𝓛
-            (HoldsAnswer I.row D.row I.OverlayInt.own I.Ord.own I.PartialEq I.PartialOrd.own result self.entry) }
+            (RestsIn I.row D.row I.OverlayInt.own I.Ord.own I.PartialEq I.PartialOrd.own result self.entry) }
     {
         self.build(fill_rule, LinkRule::Every, solver, segments)?;
         Ok(self.graph())
@@ -232,24 +221,16 @@ impl<I: OverlayInt, D: Copy> GraphBuilder<ShapeCountBoolean, OverlayNode, I, D> 
         segments: &[Segment<ShapeCountBoolean, I, D>],
     ) -> Result<OverlayGraph<'_, I, D>, Fault>
         requires arranged { IsArranged segments.now }
-        ensures graph { IfOk result (λ graph.
-            HoldGraph indexes_of is_canonical_node I.whole (nodes_of graph) (links_of graph)
-            (graph_by (keeps_fill (holds overlay_rule)) fill_rule (segments_of segments.now))) }
-        ensures edge_data { IfOk result (λ graph.
-            map (λ l. l.edge_data) (links_of graph)
-            ≡ data_by (keeps_fill (holds overlay_rule)) fill_rule (data_segments_of segments.now)) }
-        ensures balanced { IsBalanced (segments_of segments.now) →
-            IsBalancedOverlay (holds overlay_rule) fill_rule (segments_of segments.now)
-            (graph_by (keeps_fill (holds overlay_rule)) fill_rule (segments_of segments.now)) }
-        ensures even { IfOk result (λ graph.
-            IsBalanced (segments_of segments.now) → IsTrue (has_even_nodes (graph_with I.whole (links_of graph)))) }
+        ensures graph { IfOk result (ShowsGraphBy (keeps_fill (holds overlay_rule)) fill_rule segments.now) }
+        ensures edge_data { IfOk result (HasDataBy (keeps_fill (holds overlay_rule)) fill_rule segments.now) }
+        ensures balanced { IsBalanced (segments_of segments.now)
+            → MakesBalancedOverlay overlay_rule fill_rule segments.now }
+        ensures even { IfOk result (λ graph. IsBalanced (segments_of segments.now) → HasEvenNodes graph) }
         ensures in_range { OnOk result (IsFalse (tops_leave_range (segments_of segments.now))) }
-        ensures out_of_range { IfErr result (λ fault.
-            fault ≡ CountOutOfRange → IsTrue (tops_leave_range (segments_of segments.now))) }
-        ensures compared { IfOk result (λ graph. IsSweepCost (list_fills solver.now.strategy (length segments.now))
-            (segments_of segments.now) (graph_asked graph)) }
+        ensures out_of_range { OnTooLarge result (IsTrue (tops_leave_range (segments_of segments.now))) }
+        ensures compared { IfOk result (λ graph. IsCostOf solver.now segments.now (graph_asked graph)) }
         ensures* after { sem 𝓛
-            (HoldsAnswer I.row D.row I.OverlayInt.own I.Ord.own I.PartialEq I.PartialOrd.own result self.entry) }
+            (RestsIn I.row D.row I.OverlayInt.own I.Ord.own I.PartialEq I.PartialOrd.own result self.entry) }
     {
         self.build(fill_rule, LinkRule::Overlay(overlay_rule), solver, segments)?;
         Ok(self.graph())
@@ -257,7 +238,7 @@ impl<I: OverlayInt, D: Copy> GraphBuilder<ShapeCountBoolean, OverlayNode, I, D> 
 }
 
 impl<I: OverlayInt> GraphBuilder<ShapeCountString, Vec<usize>, I, ()> {
-    ghost use Rattle.overlay_build.specs.StringGraphOf.{HoldsLines, LendsBuiltLinks, nodes_of, links_of, builder_name, lines_asked};
+    ghost use Rattle.overlay_build.specs.StringGraphOf.{HoldsLines, LendsBuiltLinks, builder_name, lines_asked, ShowsGraphBy};
 
     /// The links of the last build, to be written to.
     pub(crate) fn links_mut(&mut self) -> &mut [OverlayLink<I, ()>]
@@ -283,15 +264,11 @@ impl<I: OverlayInt> GraphBuilder<ShapeCountString, Vec<usize>, I, ()> {
         segments: &[Segment<ShapeCountString, I, ()>],
     ) -> Result<StringGraph<'_, I>, Fault>
         requires arranged { IsArranged segments.now }
-        ensures graph { IfOk result (λ graph.
-            HoldGraph items_of is_any_node I.whole (nodes_of graph) (links_of graph)
-            (graph_by (λ _. true) fill_rule (segments_of segments.now))) }
+        ensures graph { IfOk result (ShowsGraphBy (λ _. true) fill_rule segments.now) }
         ensures in_range { OnOk result (IsFalse (tops_leave_range (segments_of segments.now))) }
-        ensures out_of_range { IfErr result (λ fault.
-            fault ≡ CountOutOfRange → IsTrue (tops_leave_range (segments_of segments.now))) }
+        ensures out_of_range { OnTooLarge result (IsTrue (tops_leave_range (segments_of segments.now))) }
         ensures same_builder { IfOk result (λ graph. builder_name graph ≡ self.entry.ghost_name) }
-        ensures compared { IfOk result (λ graph. IsSweepCost (list_fills solver.now.strategy (length segments.now))
-            (segments_of segments.now) (lines_asked graph)) }
+        ensures compared { IfOk result (λ graph. IsCostOf solver.now segments.now (lines_asked graph)) }
         ensures* after { sem 𝓛 (HoldsLines I.row I.OverlayInt.own I.Ord.own I.PartialEq I.PartialOrd.own result
             self.entry) }
     {
@@ -316,18 +293,12 @@ impl<I: OverlayInt> GraphBuilder<ShapeCountString, Vec<usize>, I, ()> {
         segments: &[Segment<ShapeCountString, I, ()>],
     ) -> Result<StringGraph<'_, I>, Fault>
         requires arranged { IsArranged segments.now }
-        ensures graph { IfOk result (λ graph.
-            HoldGraph items_of is_any_node I.whole (nodes_of graph) (links_of graph)
-            (graph_by (keeps_clip clip_rule) fill_rule (segments_of segments.now))) }
-        ensures balanced { IsBalanced (segments_of segments.now) →
-            IsBalancedClip clip_rule fill_rule (segments_of segments.now)
-            (graph_by (keeps_clip clip_rule) fill_rule (segments_of segments.now)) }
+        ensures graph { IfOk result (ShowsGraphBy (keeps_clip clip_rule) fill_rule segments.now) }
+        ensures balanced { IsBalanced (segments_of segments.now) → MakesBalancedClip clip_rule fill_rule segments.now }
         ensures in_range { OnOk result (IsFalse (tops_leave_range (segments_of segments.now))) }
-        ensures out_of_range { IfErr result (λ fault.
-            fault ≡ CountOutOfRange → IsTrue (tops_leave_range (segments_of segments.now))) }
+        ensures out_of_range { OnTooLarge result (IsTrue (tops_leave_range (segments_of segments.now))) }
         ensures same_builder { IfOk result (λ graph. builder_name graph ≡ self.entry.ghost_name) }
-        ensures compared { IfOk result (λ graph. IsSweepCost (list_fills solver.now.strategy (length segments.now))
-            (segments_of segments.now) (lines_asked graph)) }
+        ensures compared { IfOk result (λ graph. IsCostOf solver.now segments.now (lines_asked graph)) }
         ensures* after { sem 𝓛 (HoldsLines I.row I.OverlayInt.own I.Ord.own I.PartialEq I.PartialOrd.own result
             self.entry) }
     {

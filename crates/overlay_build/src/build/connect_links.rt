@@ -3,7 +3,7 @@ ghost use Rattle.std.specs.Prelude.{◌≡◌, IsTrue, All, map, OnOk, IfErr};
 ghost use Rattle.overlay_geometry.specs.Points.{point_lt};
 ghost use Rattle.overlay_geometry.specs.PointOf.{point_of};
 ghost use Rattle.overlay_base.specs.declared.segm.fault.Fault.TheVariants.{Memory};
-ghost use Rattle.overlay_build.specs.GraphOf.{HoldGraph, graph_with};
+ghost use Rattle.overlay_build.specs.steps.LinksOf.{ConnectLinks};
 
 use crate::build::graph_node::GraphNode;
 use crate::build::link_ends::{
@@ -25,8 +25,7 @@ pub fn connect_links<N: GraphNode, I: OverlayInt, D: Copy>(
     nodes: &mut Vec<N>,
 ) -> Result<(), Fault>
     requires { All (λ l. IsTrue (point_lt (point_of I.whole l.a.point) (point_of I.whole l.b.point))) links.old.items }
-    ensures graph { OnOk result (HoldGraph N.indexes N.is_canonical I.whole nodes.new.items links.new.items
-        (graph_with I.whole links.old.items)) }
+    ensures graph { OnOk result (ConnectLinks N.indexes N.is_canonical I.whole links.old links.new nodes.new) }
     ensures edge_data { OnOk result (map (λ l. l.edge_data) links.new.items ≡ map (λ l. l.edge_data) links.old.items) }
     ensures fault { IfErr result (λ fault. fault ≡ Memory) }
 {

@@ -9,6 +9,7 @@ ghost use Rattle.overlay_build.specs.NodeIndexes.{indexes_of};
 ghost use Rattle.overlay_build.specs.OverlayGraphOf.{nodes_of, links_of};
 ghost use Rattle.overlay_build.specs.steps.FreeArcs.{unused_starts, starts_of, AreUnusedFlow, ArePassedOver};
 ghost use Rattle.overlay_build.specs.steps.UnusedLinks.{AreCounted};
+ghost use Rattle.overlay_build.specs.BoundaryOf.{arcs_by, walks_of};
 
 use crate::build::graph::OverlayGraph;
 use overlay_base::overlay_core::link::OverlayLink;
@@ -35,9 +36,7 @@ pub fn directed_walks<I: OverlayInt, D: Copy>(
     rule: OverlayRule,
 ) -> Result<Vec<Vec<usize>>, Fault>
     requires flow { IsFlow (arcs (holds rule) (map (link_of I.whole) (links_of graph.now))) }
-    ensures walks { IfOk result (λ walks.
-        AreDirectedWalks (arcs (holds rule) (map (link_of I.whole) (links_of graph.now))) (map (λ w. w.items)
-        walks.items)) }
+    ensures walks { IfOk result (λ walks. AreDirectedWalks (arcs_by rule graph.now) (walks_of walks.items)) }
     ensures fault { IfErr result (λ fault. fault ≡ Memory) }
 {
     let count = graph.links().len();

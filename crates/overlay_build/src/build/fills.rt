@@ -1,13 +1,12 @@
 // The fills of all segments by a sweep. Upstream: `build_fills_with_strategy` of `build::builder`.
-ghost use Rattle.std.specs.Prelude.{◌≡◌, IsTrue, IsFalse, OnOk, IfErr, length};
-ghost use Rattle.overlay_base.specs.Choices.{list_fills};
-ghost use Rattle.overlay_sweep.specs.Costs.{IsSweepCost};
+ghost use Rattle.std.specs.Prelude.{◌≡◌, IsTrue, IsFalse, OnOk};
 ghost use Rattle.overlay_sweep.specs.LiveOf.{run_asked};
 ghost use Rattle.overlay_base.specs.ArrangedOf.{IsArranged};
 ghost use Rattle.overlay_base.specs.SegmentOf.{segments_of};
-ghost use Rattle.overlay_base.specs.declared.segm.fault.Fault.TheVariants.{CountOutOfRange};
 ghost use Rattle.overlay_sweep.specs.ChainWindings.{tops_leave_range};
 ghost use Rattle.overlay_build.specs.Graph.{fills_of};
+ghost use Rattle.overlay_base.specs.FaultOf.{OnTooLarge};
+ghost use Rattle.overlay_sweep.specs.SweepOf.{IsCostOf};
 
 use overlay_base::overlay_core::fill_rule::FillRule;
 use overlay_base::overlay_core::solver::Solver;
@@ -30,10 +29,8 @@ pub fn find_fills<C: FillCount, I: OverlayInt, D: Copy>(
     requires arranged { IsArranged segments.now }
     ensures fills { OnOk result (fills.new.items ≡ fills_of fill_rule (segments_of segments.now)) }
     ensures in_range { OnOk result (IsFalse (tops_leave_range (segments_of segments.now))) }
-    ensures out_of_range { IfErr result (λ fault. fault ≡ CountOutOfRange
-        → IsTrue (tops_leave_range (segments_of segments.now))) }
-    ensures compared { OnOk result (IsSweepCost (list_fills solver.now.strategy (length segments.now))
-        (segments_of segments.now) (run_asked runner.new)) }
+    ensures out_of_range { OnTooLarge result (IsTrue (tops_leave_range (segments_of segments.now))) }
+    ensures compared { OnOk result (IsCostOf solver.now segments.now (run_asked runner.new)) }
 {
     fills.clear();
     fills.resize(segments.len(), NONE)?;

@@ -1,11 +1,8 @@
 // The links of the kept segments. Upstream: `build_links_all` and `build_links_by_filter` of `build::builder`.
-ghost use Rattle.std.specs.Prelude.{◌≡◌, map, filter, length, OnOk, IfErr};
-ghost use Rattle.overlay_base.specs.SegmentOf.{segments_of, data_segments_of};
+ghost use Rattle.std.specs.Prelude.{◌≡◌, length, OnOk, IfErr};
 ghost use Rattle.overlay_base.specs.declared.segm.fault.Fault.TheVariants.{Memory};
-ghost use Rattle.overlay_base.specs.declared.overlay_core.fill_rule.FillRule.{FillRule};
-ghost use Rattle.overlay_build.specs.Graph.{filled, fills_of, data_by};
-ghost use Rattle.overlay_build.specs.GraphOf.{kept_of};
 ghost use Rattle.overlay_build.specs.steps.LinkRules.{keeps_by};
+ghost use Rattle.overlay_build.specs.steps.LinksOf.{AreKept, HaveKeptData};
 
 use overlay_base::overlay_core::clip_rule::ClipRule;
 use overlay_base::overlay_core::link::OverlayLink;
@@ -47,12 +44,8 @@ pub fn collect_links<C: WindingCount, I: OverlayInt, D: Copy>(
     links: &mut Vec<OverlayLink<I, D>>,
 ) -> Result<(), Fault>
     requires { length fills.now ≡ length segments.now }
-    ensures kept { OnOk result ((fill_rule : FillRule) → fills.now ≡ fills_of fill_rule (segments_of segments.now)
-        → kept_of I.whole links.new.items ≡ filter (λ f. keeps_by rule f.fill)
-        (filled fill_rule (segments_of segments.now))) }
-    ensures data { OnOk result ((fill_rule : FillRule) → fills.now ≡ fills_of fill_rule (segments_of segments.now)
-        → map (λ l. l.edge_data) links.new.items ≡ data_by (keeps_by rule) fill_rule
-        (data_segments_of segments.now)) }
+    ensures kept { OnOk result (AreKept rule segments.now fills.now links.new.items) }
+    ensures data { OnOk result (HaveKeptData rule segments.now fills.now links.new.items) }
     ensures fault { IfErr result (λ fault. fault ≡ Memory) }
 {
     links.clear();

@@ -1,13 +1,9 @@
 // The ends of links in order of their points. Upstream: part of `build::graph`, which sorts the second ends alone.
-ghost use Rattle.std.specs.Prelude.{◌≡◌, ◌≢◌, ℕ, ◌-◌, ◌<◌, ◌≤◌, ◌++◌, map, take, drop, length, slice_index_or, OnOk, IfErr, All, if◌then◌else◌};
-ghost use Rattle.overlay_geometry.specs.Points.{point_cmp};
-ghost use Rattle.overlay_geometry.specs.Sorting.{stably_sorted};
-ghost use Rattle.overlay_geometry.specs.PointOf.{point_of};
+ghost use Rattle.std.specs.Prelude.{◌≡◌, ◌-◌, ◌<◌, ◌≤◌, length, OnOk, IfErr, All, if◌then◌else◌};
 ghost use Rattle.overlay_base.specs.declared.segm.fault.Fault.TheVariants.{Memory};
 ghost use Rattle.overlay_base.specs.declared.overlay_core.link.OverlayLink.{OverlayLink};
-ghost use Rattle.overlay_build.specs.steps.EndOf.{WholeEnd, ends_of};
-ghost use Rattle.overlay_build.specs.GraphOf.{pairs_of_links, with_node, names_node};
-ghost use Rattle.overlay_build.specs.steps.LinkEnds.{numbered_starts, numbered_ends};
+ghost use Rattle.overlay_build.specs.steps.EndOf.{ends_of};
+ghost use Rattle.overlay_build.specs.steps.LinksOf.{link_ends, by_point, LieTogether, LiesElsewhere, indexes_between, NumbersEnds};
 
 use overlay_base::overlay_core::link::OverlayLink;
 use overlay_base::segm::fault::Fault;
@@ -20,8 +16,7 @@ pub fn collect_ends<I: OverlayInt, D: Copy>(
     links: &[OverlayLink<I, D>],
     ends: &mut Vec<End<I>>,
 ) -> Result<(), Fault>
-    ensures ends { OnOk result (ends_of I.whole ends.new.items ≡ numbered_starts (pairs_of_links I.whole links.now)
-        ++ numbered_ends (pairs_of_links I.whole links.now)) }
+    ensures ends { OnOk result (ends_of I.whole ends.new.items ≡ link_ends I.whole links.now) }
     ensures fault { IfErr result (λ fault. fault ≡ Memory) }
 {
     ends.clear();
@@ -38,8 +33,7 @@ pub fn collect_ends<I: OverlayInt, D: Copy>(
 
 /// Sorts ends by their points. Ends at one point stay in their order.
 pub fn sort_by_point<I: OverlayInt>(ends: &mut Vec<End<I>>) -> Result<(), Fault>
-    ensures sorted { OnOk result (ends_of I.whole ends.new.items
-        ≡ stably_sorted (λ e f. point_cmp e.point f.point) (ends_of I.whole ends.old.items)) }
+    ensures sorted { OnOk result (ends_of I.whole ends.new.items ≡ by_point (ends_of I.whole ends.old.items)) }
     ensures fault { IfErr result (λ fault. fault ≡ Memory) }
 {
     ends.sort_by_key(|end| end.point)?;
@@ -51,12 +45,8 @@ pub fn block_end<I: OverlayInt>(ends: &[End<I>], start: usize) -> usize
     requires { start < length ends.now }
     ensures after { start < result }
     ensures within { result ≤ length ends.now }
-    ensures same { (k : ℕ) (d : WholeEnd) → start ≤ k → k < result
-        → (slice_index_or (ends_of I.whole ends.now) k d).point
-        ≡ (slice_index_or (ends_of I.whole ends.now) start d).point }
-    ensures other { (d : WholeEnd) → result < length ends.now
-        → (slice_index_or (ends_of I.whole ends.now) result d).point
-        ≢ (slice_index_or (ends_of I.whole ends.now) start d).point }
+    ensures same { LieTogether I.whole ends.now start result }
+    ensures other { LiesElsewhere I.whole ends.now start result }
 {
     let point = ends[start].point;
     let mut next = start + 1;
@@ -75,8 +65,7 @@ pub fn collect_indices<I: OverlayInt>(
 ) -> Result<(), Fault>
     requires order { start ≤ next }
     requires within { next ≤ length ends.now }
-    ensures indexes { OnOk result (indices.new.items ≡ map (λ e. e.index)
-        (take (next - start) (drop start (ends_of I.whole ends.now)))) }
+    ensures indexes { OnOk result (indices.new.items ≡ indexes_between I.whole ends.now start next) }
     ensures fault { IfErr result (λ fault. fault ≡ Memory) }
 {
     indices.clear();
@@ -96,9 +85,7 @@ pub fn number_ends<I: OverlayInt, D: Copy>(
 )
     requires { All (λ k. k < length links.old) indices.now }
     ensures length { length links.new ≡ length links.old }
-    ensures links { (k : ℕ) (d : OverlayLink I D) → k < length links.old → slice_index_or links.new k d
-        ≡ (if names_node k indices.now then with_node I.whole (point_of I.whole point) id
-        (slice_index_or links.old k d) else slice_index_or links.old k d) }
+    ensures links { NumbersEnds I.whole indices.now point id links.old links.new }
 {
     for index in indices {
         let link = &mut links[*index];

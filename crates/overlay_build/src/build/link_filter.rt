@@ -1,8 +1,7 @@
 // Which links of a graph an overlay rule keeps. Upstream: `OverlayLinkFilter`, and its functions in `build::boolean`.
 ghost use Rattle.std.specs.Prelude.{◌≡◌, [], map, if◌then◌else◌, OnOk, OnErr, IfErr};
-ghost use Rattle.overlay_base.specs.Rules.{holds, keeps_fill};
 ghost use Rattle.overlay_base.specs.declared.segm.fault.Fault.TheVariants.{Memory};
-ghost use Rattle.overlay_base.specs.declared.overlay_core.extract.VisitState.TheVariants.{Unvisited, Skipped};
+ghost use Rattle.overlay_build.specs.steps.LinksOf.{state_by};
 
 use overlay_base::overlay_core::extract::VisitState;
 use overlay_base::overlay_core::link::OverlayLink;
@@ -18,8 +17,7 @@ pub fn filter_by_overlay_into<I, D>(
     overlay_rule: OverlayRule,
     buffer: &mut Vec<VisitState>,
 ) -> Result<(), Fault>
-    ensures states { OnOk result (buffer.new.items ≡ map
-        (λ l. if keeps_fill (holds overlay_rule) l.fill then Unvisited else Skipped) links.now) }
+    ensures states { OnOk result (buffer.new.items ≡ map (state_by overlay_rule) links.now) }
     ensures fault { IfErr result (λ fault. fault ≡ Memory) }
     ensures emptied { OnErr result (buffer.new.items ≡ []) }
 {

@@ -23,7 +23,7 @@ pub struct StringGraph<'a, I: OverlayInt> {
 }
 
 impl<'a, I: OverlayInt> StringGraph<'a, I> {
-    ghost use Rattle.overlay_build.specs.StringGraphOf.{LendsLinks, nodes_of, links_of, lines_asked};
+    ghost use Rattle.overlay_build.specs.StringGraphOf.{LendsTo, nodes_of, links_of, lines_asked};
 
     /// The graph that a builder keeps.
     pub(crate) fn new(builder: &'a mut LineBuilder<I>) -> StringGraph<'a, I>
@@ -56,7 +56,7 @@ impl<'a, I: OverlayInt> StringGraph<'a, I> {
     /// The links, to be written to.
     pub fn links_mut(&mut self) -> &mut [OverlayLink<I, ()>]
         ensures links { result.now ≡ links_of self.old }
-        ensures* writes_back { sem 𝓛 (LendsLinks I.row I.OverlayInt.own I.Ord.own I.PartialEq I.PartialOrd.own
+        ensures* writes_back { sem 𝓛 (LendsTo I.row I.OverlayInt.own I.Ord.own I.PartialEq I.PartialOrd.own
             self.entry result) }
     {
         self.builder.links_mut()

@@ -5,6 +5,7 @@ ghost use Rattle.overlay_geometry.specs.Points.{point_cmp, point_eq};
 ghost use Rattle.overlay_geometry.specs.Sorting.{has_repeat, stably_sorted};
 ghost use Rattle.overlay_geometry.specs.PointOf.{point_of};
 ghost use Rattle.overlay_base.specs.declared.segm.fault.Fault.TheVariants.{Memory};
+ghost use Rattle.overlay_build.specs.steps.LinksOf.{HasPointsInOrder};
 
 use crate::build::builder::GraphBuilder;
 use crate::build::graph_node::GraphNode;
@@ -29,8 +30,7 @@ impl<C: WindingCount, N: GraphNode, I: OverlayInt, D: Copy> GraphBuilder<C, N, I
     ) -> Result<bool, Fault>
         ensures loops { IfOk result (λ answer. answer ≡ has_repeat point_eq (map (point_of I.whole) contour.now)) }
         ensures few { length contour.now < 64 → buffer.new ≡ buffer.old }
-        ensures rising { OnOk result (64 ≤ length contour.now → map (point_of I.whole) buffer.new.items
-            ≡ stably_sorted point_cmp (map (point_of I.whole) contour.now)) }
+        ensures rising { OnOk result (64 ≤ length contour.now → HasPointsInOrder I.whole contour.now buffer.new.items) }
         ensures refused { IfErr result (λ fault. fault ≡ Memory) }
         ensures emptied { IfErr result (λ fault. buffer.new.items ≡ []) }
         ensures takes_none { IfErr result (λ fault. 64 ≤ length contour.now) }

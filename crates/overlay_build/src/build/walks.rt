@@ -7,6 +7,7 @@ ghost use Rattle.overlay_build.specs.NodeIndexes.{indexes_of};
 ghost use Rattle.overlay_build.specs.OverlayGraphOf.{nodes_of, links_of};
 ghost use Rattle.overlay_build.specs.steps.UnusedLinks.{meets, unused_degree, AreUnusedEven, AreCounted, ArePassed};
 ghost use Rattle.overlay_build.specs.Walks.{IsClosedWalk, IsFirstReturn, AreClosedWalks};
+ghost use Rattle.overlay_build.specs.BoundaryOf.{whole_links, walks_of};
 
 use crate::build::graph::OverlayGraph;
 use overlay_base::segm::fault::Fault;
@@ -26,8 +27,7 @@ pub fn closed_walks<I: OverlayInt, D: Copy>(
     graph: &OverlayGraph<'_, I, D>,
 ) -> Result<Vec<Vec<usize>>, Fault>
     requires even { IsTrue (has_even_nodes (graph_with I.whole (links_of graph.now))) }
-    ensures walks { IfOk result (λ walks.
-        AreClosedWalks (map (link_of I.whole) (links_of graph.now)) (map (λ w. w.items) walks.items)) }
+    ensures walks { IfOk result (λ walks. AreClosedWalks (whole_links graph.now) (walks_of walks.items)) }
     ensures fault { IfErr result (λ fault. fault ≡ Memory) }
 {
     let count = graph.links().len();

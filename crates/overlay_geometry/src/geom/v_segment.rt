@@ -2,7 +2,7 @@
 ghost use Rattle.std.specs.Prelude.{◌≡◌, None, Some, IfSome, if◌then◌else◌};
 ghost use Rattle.std.specs.Ordering.{is_lt};
 ghost use Rattle.overlay_geometry.specs.Below.{under_segment_order};
-ghost use Rattle.overlay_geometry.specs.VSegmentOf.{v_pair_of, IsVSegmentInRange};
+ghost use Rattle.overlay_geometry.specs.VSegmentOf.{v_pair_of, IsVSegmentInRange, lower_of};
 
 use crate::geom::point::IntPoint;
 use crate::geom::triangle::Triangle;
@@ -87,9 +87,7 @@ pub fn update_if_under<I: OverlayInt>(best: &mut Option<VSegment<I>>, segment: V
     requires best { IfSome best.now (IsVSegmentInRange I.whole I.MIN_COORD I.MAX_COORD) }
     requires segment { IsVSegmentInRange I.whole I.MIN_COORD I.MAX_COORD segment }
     ensures first { best.old ≡ None → best.new ≡ Some segment }
-    ensures lower { IfSome best.old (λ found. best.new
-        ≡ Some (if is_lt (under_segment_order (v_pair_of I.whole segment)
-        (v_pair_of I.whole found)) then segment else found)) }
+    ensures lower { IfSome best.old (λ found. best.new ≡ Some (lower_of I.whole segment found)) }
 {
     let is_lowest = match best {
         None => true,

@@ -2,9 +2,8 @@
 ghost use Rattle.std.specs.Prelude.{◌≡◌};
 ghost use Rattle.std.specs.Int.{int_min, int_max};
 ghost use Rattle.overlay_geometry.specs.RangeOf.{rect_of};
-ghost use Rattle.overlay_geometry.specs.PairOf.{pair_of};
 ghost use Rattle.overlay_grid.specs.Grid.{rect_between};
-ghost use Rattle.overlay_grid.specs.FragmentOf.{fragment_of};
+ghost use Rattle.overlay_grid.specs.FragmentOf.{fragment_of, kept_between};
 
 use overlay_geometry::geom::point::IntPoint;
 use overlay_geometry::geom::rect::IntRect;
@@ -25,12 +24,7 @@ pub struct Fragment<I> {
 impl<I: OverlayInt> Fragment<I> {
     /// The fragment whose rectangle is the segment's box.
     pub fn with_index_and_segment(index: usize, x_segment: XSegment<I>) -> Self
-        ensures { let s = pair_of I.whole x_segment in
-            fragment_of I.whole result ≡ record {
-              index = index;
-              pair = s;
-              rect = rect_between s.a.x s.a.y s.b.x s.b.y;
-            } }
+        ensures { fragment_of I.whole result ≡ kept_between I.whole index x_segment x_segment.a x_segment.b }
     {
         let XSegment { a, b } = x_segment;
         Fragment::between(index, a, b, XSegment { a, b })
@@ -38,11 +32,7 @@ impl<I: OverlayInt> Fragment<I> {
 
     /// The fragment whose rectangle has two points as opposite corners.
     pub fn between(index: usize, p: IntPoint<I>, q: IntPoint<I>, x_segment: XSegment<I>) -> Self
-        ensures { fragment_of I.whole result ≡ record {
-          index = index;
-          pair = pair_of I.whole x_segment;
-          rect = rect_between (I.whole p.x) (I.whole p.y) (I.whole q.x) (I.whole q.y);
-        } }
+        ensures { fragment_of I.whole result ≡ kept_between I.whole index x_segment p q }
     {
         Fragment {
             index,

@@ -38,8 +38,9 @@ impl<I: OverlayInt> FragmentBuffer<I> {
     ghost use Rattle.overlay_geometry.specs.PairOf.{pair_of};
     ghost use Rattle.overlay_geometry.specs.InRange.{IsPairInRange};
     ghost use Rattle.overlay_grid.specs.FragmentOf.{fragment_of, kept_in, IsSortedAlong};
-    ghost use Rattle.overlay_grid.specs.steps.FragmentFinder.{heights_at, looks_of_groups, all_twos_in_height};
-    ghost use Rattle.overlay_grid.specs.GroupsOf.{group_of, groups_of, grid_of};
+    ghost use Rattle.overlay_grid.specs.steps.FragmentFinder.{heights_at};
+    ghost use Rattle.overlay_grid.specs.steps.BufferLooks.{buffer_looks, buffer_twos};
+    ghost use Rattle.overlay_grid.specs.GroupsOf.{group_of, groups_of, grid_of, AddsFragments};
 
     /// A buffer with one group for each column of a layout, all empty. Returns `Fault::Memory` where a growth is
     /// refused.
@@ -138,8 +139,7 @@ impl<I: OverlayInt> FragmentBuffer<I> {
         ensures layout { grid_of self.new ≡ grid_of self.old }
         ensures permutation { (column : ℕ) → IsPermutation (group_of self.old column) (group_of self.new column) }
         ensures sorted { (column : ℕ) → IsSortedAlong result (group_of self.new column) }
-        ensures looks { looks_of_groups result (group_of self.new) (group_count (grid_of self.new))
-            ≤ all_twos_in_height (group_of self.new) (group_count (grid_of self.new)) }
+        ensures looks { buffer_looks result self.new ≤ buffer_twos self.new }
     {
         self.sort_along(Axis::Y);
         let upward = count_reached(self.groups(), Axis::Y);
@@ -185,8 +185,7 @@ impl<I: OverlayInt> FragmentBuffer<I> {
         requires from { (grid_of self.old).min_x ≤ℤ I.whole x_segment.a.x }
         requires to { I.whole x_segment.b.x ≤ℤ (grid_of self.old).max_x }
         ensures layout { grid_of self.new ≡ grid_of self.old }
-        ensures added { OnOk result ((column : ℕ) → group_of self.new column ≡ group_of self.old column
-            ++ kept_in (grid_of self.old) index (pair_of I.whole x_segment) column) }
+        ensures added { OnOk result (AddsFragments index x_segment self.old self.new) }
         ensures emptied { OnErr result ((column : ℕ) → group_of self.new column ≡ []) }
         ensures fault { IfErr result (λ fault. fault ≡ Memory) }
     {

@@ -26,7 +26,7 @@ impl<I: OverlayInt> GridLayout<I> {
     ghost use Rattle.overlay_geometry.specs.InRange.{IsPairInRange};
     ghost use Rattle.overlay_geometry.specs.PairOf.{pair_of};
     ghost use Rattle.overlay_base.specs.Segments.{pairs};
-    ghost use Rattle.overlay_base.specs.SegmentOf.{segments_of, x_segment_of};
+    ghost use Rattle.overlay_base.specs.SegmentOf.{segments_of, pairs_in, x_segment_of};
     ghost use Rattle.overlay_grid.specs.Grid.{IsLayout, IsLayoutOf, IsTooNarrow, column_index, pos_of, group_count};
     ghost use Rattle.overlay_grid.specs.FragmentOf.{layout_of};
 
@@ -55,8 +55,7 @@ impl<I: OverlayInt> GridLayout<I> {
     pub fn over_list<C: WindingCount, D: Copy>(segments: &[Segment<C, I, D>]) -> Option<Self>
         requires some { 0 < length segments.now }
         requires in_range { All (λ s. IsPairInRange I.whole I.MIN_COORD I.MAX_COORD (x_segment_of s)) segments.now }
-        ensures layout { IfSome result (λ l. IsLayoutOf (pairs (segments_of segments.now)) (length segments.now)
-            (layout_of l)) }
+        ensures layout { IfSome result (λ l. IsLayoutOf (pairs_in segments.now) (length segments.now) (layout_of l)) }
         ensures none { IfNone result (IsTooNarrow (pairs (segments_of segments.now))) }
     {
         let XSegment { a, b } = segments[0].x_segment();

@@ -2,7 +2,7 @@
 ghost use Rattle.std.specs.Prelude.{◌≡◌, ◌≤◌, ◌≤ℤ◌, ◌<ℤ◌, ◌-ℤ◌, unsigned_abs, IsTrue};
 ghost use Rattle.overlay_geometry.specs.PairOf.{pair_of};
 ghost use Rattle.overlay_geometry.specs.InRange.{IsPairInRange};
-ghost use Rattle.overlay_grid.specs.Grid.{least_rise, greatest_rise, toward};
+ghost use Rattle.overlay_grid.specs.Grid.{toward, near_height, far_height};
 ghost use Rattle.overlay_geometry.specs.Coordinates.{is_coordinate, greatest_difference};
 
 use overlay_geometry::geom::x_segment::XSegment;
@@ -21,10 +21,8 @@ pub fn heights_at<I: OverlayInt>(segment: &XSegment<I>, x: I) -> Heights<I>
     requires forward { I.whole segment.now.a.x <ℤ I.whole segment.now.b.x }
     requires from { I.whole segment.now.a.x ≤ℤ I.whole x }
     requires to { I.whole x ≤ℤ I.whole segment.now.b.x }
-    ensures near { I.whole result.near ≡ toward (pair_of I.whole segment.now)
-        (least_rise (pair_of I.whole segment.now) (I.whole x)) }
-    ensures far { I.whole result.far ≡ toward (pair_of I.whole segment.now)
-        (greatest_rise (pair_of I.whole segment.now) (I.whole x)) }
+    ensures near { I.whole result.near ≡ near_height (pair_of I.whole segment.now) (I.whole x) }
+    ensures far { I.whole result.far ≡ far_height (pair_of I.whole segment.now) (I.whole x) }
 {
     let width = difference(segment.a.x, segment.b.x);
     let height = difference(segment.a.y, segment.b.y);

@@ -1,20 +1,20 @@
 // The finder that compares fragments of segments, column by column of a grid. Upstream: `split::solver_fragment`.
-ghost use Rattle.std.specs.Prelude.{◌≡◌, ◌≢◌, ◌^◌, min, ◌<◌, ◌≤◌, ◌+◌, ◌-◌, ◌++◌, ℕ, All, IsTrue, IfErr, IfOk, OnOk, IsSortedByKey, drop, length, int_lt, flat_map};
+ghost use Rattle.std.specs.Prelude.{◌≡◌, ◌≢◌, ◌^◌, min, ◌<◌, ◌≤◌, ◌+◌, ◌-◌, ◌++◌, ℕ, All, IsTrue, IfErr, IfOk, OnOk, drop, length, int_lt, flat_map};
 ghost use Rattle.std.specs.List.{AllByRecursion, list_any, range_with_len};
 ghost use Rattle.overlay_base.specs.declared.segm.fault.Fault.TheVariants.{Memory};
 ghost use Rattle.overlay_geometry.specs.Points.{pair_lt};
-ghost use Rattle.overlay_base.specs.Segments.{pairs};
 ghost use Rattle.overlay_geometry.specs.PairOf.{pair_of};
-ghost use Rattle.overlay_base.specs.SegmentOf.{ends_of, segments_of, x_segment_of};
+ghost use Rattle.overlay_base.specs.SegmentOf.{ends_of, segments_of, pairs_in};
 ghost use Rattle.overlay_geometry.specs.InRange.{IsPairInRange};
 ghost use Rattle.overlay_grid.specs.GridLooks.{all_fragments, fragment_looks};
 ghost use Rattle.overlay_intersections.specs.PassMarks.{is_rounded};
 ghost use Rattle.overlay_intersections.specs.PlacingOf.{placing_of, HasRadius};
-ghost use Rattle.overlay_intersections.specs.MarkOf.{AreMarks, marks_of};
+ghost use Rattle.overlay_intersections.specs.MarkOf.{marks_of, AreMarksOf};
 ghost use Rattle.overlay_grid.specs.FragmentOf.{fragment_of, fragments_of, least_along, greatest_along, IsSortedAlong};
 ghost use Rattle.overlay_grid.specs.GroupsOf.{group_in, group_of, grid_of};
 ghost use Rattle.overlay_grid.specs.steps.FragmentFinder.{is_ready, kept_group, marks_of_two, marks_with_first, marks_of_group, meet_inexactly, is_first_rounded, is_group_rounded, looks_of_first, looks_of_group, looks_of_groups};
 ghost use Rattle.overlay_grid.specs.Grid.{IsInside};
+ghost use Rattle.overlay_base.specs.ArrangedOf.{AreInRange};
 
 use crate::split::axis::Axis;
 use crate::split::border_contacts::mark_borders;
@@ -46,15 +46,14 @@ pub fn find_marks<C: WindingCount, I: OverlayInt, D: Copy>(
     marks: &mut Vec<LineMark<I>>,
     looked: &mut u128,
 ) -> Result<bool, Fault>
-    requires in_range { All (λ s. IsPairInRange I.whole I.MIN_COORD I.MAX_COORD (x_segment_of s)) segments.now }
+    requires in_range { AreInRange segments.now }
     requires inside { All (λ s. IsInside (grid_of buffer.old) (ends_of s)) segments.now }
     requires radius { HasRadius placing }
     ensures layout { grid_of buffer.new ≡ grid_of buffer.old }
-    ensures marks { OnOk result (AreMarks (placing_of placing) (segments_of segments.now)
-        (marks_of I.whole marks.new.items)) }
+    ensures marks { OnOk result (AreMarksOf placing segments.now marks.new.items) }
     ensures rounded { IfOk result (λ rounded. rounded ≡ is_rounded (segments_of segments.now)) }
-    ensures looked { OnOk result (looked.new ≤ looked.old
-        + fragment_looks (grid_of buffer.old) (pairs (segments_of segments.now))) }
+    ensures looked { OnOk result (looked.new ≤ looked.old + fragment_looks (grid_of buffer.old) (pairs_in
+        segments.now)) }
     ensures fault { IfErr result (λ fault. fault ≡ Memory) }
 {
     marks.clear();
@@ -73,8 +72,7 @@ pub fn count_fragments<C: WindingCount, I: OverlayInt, D: Copy>(
     buffer: &FragmentBuffer<I>,
 ) -> u128
     requires { All (λ s. IsInside (grid_of buffer.now) (ends_of s)) segments.now }
-    ensures { result ≡ min (length (all_fragments (grid_of buffer.now) (pairs (segments_of segments.now))))
-        (2 ^ 128 - 1) }
+    ensures { result ≡ min (length (all_fragments (grid_of buffer.now) (pairs_in segments.now))) (2 ^ 128 - 1) }
 {
     let mut count = 0_u128;
     for index in 0..segments.len() {
@@ -89,11 +87,11 @@ fn fill<C: WindingCount, I: OverlayInt, D: Copy>(
     segments: &[Segment<C, I, D>],
     buffer: &mut FragmentBuffer<I>,
 ) -> Result<(), Fault>
-    requires in_range { All (λ s. IsPairInRange I.whole I.MIN_COORD I.MAX_COORD (x_segment_of s)) segments.now }
+    requires in_range { AreInRange segments.now }
     requires inside { All (λ s. IsInside (grid_of buffer.old) (ends_of s)) segments.now }
     ensures layout { grid_of buffer.new ≡ grid_of buffer.old }
-    ensures groups { OnOk result ((column : ℕ) → group_of buffer.new column
-        ≡ kept_group (grid_of buffer.old) 0 (pairs (segments_of segments.now)) column) }
+    ensures groups { OnOk result ((column : ℕ) → group_of buffer.new column ≡ kept_group (grid_of buffer.old) 0
+        (pairs_in segments.now) column) }
     ensures fault { IfErr result (λ fault. fault ≡ Memory) }
 {
     buffer.clear();

@@ -7,9 +7,9 @@ ghost use Rattle.overlay_geometry.specs.PointOf.{point_of};
 ghost use Rattle.overlay_geometry.specs.PairOf.{pair_of};
 ghost use Rattle.overlay_geometry.specs.InRange.{IsPointInRange, IsPairInRange};
 ghost use Rattle.overlay_intersections.specs.Marks.{snapping, settling};
-ghost use Rattle.overlay_intersections.specs.CrossAnswer.{cross_answer, ends_mask};
+ghost use Rattle.overlay_intersections.specs.CrossAnswer.{ends_mask};
 ghost use Rattle.overlay_intersections.specs.steps.Along.{along};
-ghost use Rattle.overlay_intersections.specs.AnswerOf.{answer_of};
+ghost use Rattle.overlay_intersections.specs.AnswerOf.{IsCrossAnswer};
 ghost use Rattle.overlay_intersections.specs.MaskOf.{number_of};
 
 use crate::split::cross::contact::{Contact, contact_of};
@@ -71,8 +71,7 @@ impl CrossSolver {
         requires target_apart { (pair_of I.whole target.now).a ≢ (pair_of I.whole target.now).b }
         requires other_apart { (pair_of I.whole other.now).a ≢ (pair_of I.whole other.now).b }
         requires radius { pos 1 ≤ℤ radius_squared }
-        ensures { answer_of I.whole result ≡ cross_answer (snapping (unsigned_abs radius_squared))
-            (pair_of I.whole target.now) (pair_of I.whole other.now) }
+        ensures { IsCrossAnswer I.whole (snapping (unsigned_abs radius_squared)) target.now other.now result }
     {
         match contact_of(target, other) {
             Contact::Apart => None,
@@ -94,8 +93,7 @@ impl CrossSolver {
         requires other { IsPairInRange I.whole I.MIN_COORD I.MAX_COORD other.now }
         requires target_apart { (pair_of I.whole target.now).a ≢ (pair_of I.whole target.now).b }
         requires other_apart { (pair_of I.whole other.now).a ≢ (pair_of I.whole other.now).b }
-        ensures { answer_of I.whole result ≡ cross_answer settling (pair_of I.whole target.now)
-            (pair_of I.whole other.now) }
+        ensures { IsCrossAnswer I.whole settling target.now other.now result }
     {
         match contact_of(target, other) {
             Contact::Apart => None,

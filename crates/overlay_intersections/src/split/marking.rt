@@ -5,10 +5,10 @@ ghost use Rattle.overlay_geometry.specs.Meeting.{are_collinear};
 ghost use Rattle.overlay_geometry.specs.PointOf.{point_of};
 ghost use Rattle.overlay_geometry.specs.PairOf.{pair_of};
 ghost use Rattle.overlay_geometry.specs.InRange.{IsPairInRange};
-ghost use Rattle.overlay_intersections.specs.Marks.{cross_inexactly};
-ghost use Rattle.overlay_intersections.specs.PlacingOf.{placing_of, HasRadius};
+ghost use Rattle.overlay_intersections.specs.PlacingOf.{HasRadius};
 ghost use Rattle.overlay_intersections.specs.MarkOf.{marks_of};
-ghost use Rattle.overlay_intersections.specs.MarksBetween.{marks_at, marks_of_overlap, marks_between};
+ghost use Rattle.overlay_intersections.specs.MarksBetween.{marks_at, marks_of_overlap};
+ghost use Rattle.overlay_intersections.specs.steps.AddedMarks.{AddsMark, AddsMarksBetween, do_cross_inexactly};
 
 use crate::split::cross_solver::{CrossSolver, CrossType};
 use crate::split::line_mark::LineMark;
@@ -41,11 +41,8 @@ pub fn mark_both<I: OverlayInt>(
     requires first_apart { (pair_of I.whole first.x_segment).a ≢ (pair_of I.whole first.x_segment).b }
     requires second_apart { (pair_of I.whole second.x_segment).a ≢ (pair_of I.whole second.x_segment).b }
     requires order { IsFalse (pair_lt (pair_of I.whole second.x_segment) (pair_of I.whole first.x_segment)) }
-    ensures marks { OnOk result (marks_of I.whole marks.new.items ≡ marks_of I.whole marks.old.items
-        ++ marks_between (placing_of placing) first.index (pair_of I.whole first.x_segment)
-        second.index (pair_of I.whole second.x_segment)) }
-    ensures rounded { IfOk result (λ rounded. rounded ≡ cross_inexactly (pair_of I.whole first.x_segment)
-        (pair_of I.whole second.x_segment)) }
+    ensures marks { OnOk result (AddsMarksBetween I.whole placing first second marks.old.items marks.new.items) }
+    ensures rounded { IfOk result (λ rounded. rounded ≡ do_cross_inexactly I.whole first second) }
 {
     let Some(result) = placing.meet(&first.x_segment, &second.x_segment) else {
         return Ok(false);
@@ -110,8 +107,7 @@ pub fn mark<I: OverlayInt>(
     point: IntPoint<I>,
     marks: &mut Vec<LineMark<I>>,
 ) -> Result<(), AllocError>
-    ensures { OnOk result (marks_of I.whole marks.new.items ≡ marks_of I.whole marks.old.items
-        ++ marks_at index (point_of I.whole point ∷ [])) }
+    ensures { OnOk result (AddsMark I.whole index point marks.old.items marks.new.items) }
 {
     marks.push(LineMark { index, point })?;
     Ok(())

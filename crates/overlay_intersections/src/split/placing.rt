@@ -1,9 +1,8 @@
 // How a pass places the crossings that have no whole coordinates. The settling passes are this project's own.
-ghost use Rattle.std.specs.Prelude.{◌≡◌, ◌≢◌};
+ghost use Rattle.std.specs.Prelude.{◌≢◌};
 ghost use Rattle.overlay_geometry.specs.PairOf.{pair_of};
 ghost use Rattle.overlay_geometry.specs.InRange.{IsPairInRange};
-ghost use Rattle.overlay_intersections.specs.CrossAnswer.{cross_answer};
-ghost use Rattle.overlay_intersections.specs.AnswerOf.{answer_of};
+ghost use Rattle.overlay_intersections.specs.AnswerOf.{IsCrossAnswer};
 ghost use Rattle.overlay_intersections.specs.PlacingOf.{placing_of, HasRadius};
 
 use crate::split::cross_solver::{CrossResult, CrossSolver};
@@ -32,8 +31,7 @@ impl Placing {
         requires other { IsPairInRange I.whole I.MIN_COORD I.MAX_COORD other.now }
         requires target_apart { (pair_of I.whole target.now).a ≢ (pair_of I.whole target.now).b }
         requires other_apart { (pair_of I.whole other.now).a ≢ (pair_of I.whole other.now).b }
-        ensures { answer_of I.whole result ≡ cross_answer (placing_of self) (pair_of I.whole target.now)
-            (pair_of I.whole other.now) }
+        ensures { IsCrossAnswer I.whole (placing_of self) target.now other.now result }
     {
         match self {
             Placing::Snapping { radius_squared } => CrossSolver::cross(

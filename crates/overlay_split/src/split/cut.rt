@@ -1,13 +1,13 @@
 // One segment of a list is cut at its marks. Upstream: `split::solver`, where marks are applied.
 ghost use Rattle.std.specs.List.{AllWithin, HoldsAt};
-ghost use Rattle.std.specs.Prelude.{◌≡◌, ◌<◌, All, take, drop, IsTrue, ◌≤◌, ◌≢◌, slice_index_or, OnOk, IfErr, length};
+ghost use Rattle.std.specs.Prelude.{◌≡◌, ◌<◌, All, take, drop, IsTrue, ◌≤◌, ◌≢◌, OnOk, IfErr, length};
 ghost use Rattle.overlay_base.specs.declared.segm.fault.Fault.TheVariants.{Memory};
 ghost use Rattle.overlay_base.specs.Windings.{is_valid};
 ghost use Rattle.overlay_base.specs.EdgeData.{IsMadeFrom};
 ghost use Rattle.overlay_base.specs.HooksOf.{hooks_of};
-ghost use Rattle.overlay_base.specs.SegmentOf.{ends_of, winding_of, data_segments_of};
+ghost use Rattle.overlay_base.specs.SegmentOf.{ends_of, winding_of};
 ghost use Rattle.overlay_split.specs.steps.PathSteps.{IsPathOf};
-ghost use Rattle.overlay_split.specs.steps.DataCutAt.{data_cut_at};
+ghost use Rattle.overlay_split.specs.steps.DataCutAt.{HasDataOfCut, IsCutStore};
 ghost use Rattle.overlay_intersections.specs.MarkOf.{points_of};
 
 use crate::split::piece::push_pieces;
@@ -32,14 +32,8 @@ pub fn cut_segment<C: WindingCount, I: OverlayInt, D: OverlayEdgeData<C>>(
     requires steps { 1 < length path.now }
     requires valid { All (λ s. IsTrue (is_valid (winding_of s))) (take 1 (drop index list.now.items)) }
     requires path { All (λ s. IsPathOf (ends_of s) (points_of I.whole path.now)) (take 1 (drop index list.now.items)) }
-    ensures segments { OnOk result
-        (let hooks = hooks_of C.counted D.OverlayEdgeData.own in
-        data_segments_of list.new.items ≡ (data_cut_at hooks index (points_of I.whole path.now)
-        (data_segments_of list.old.items) store.old).0) }
-    ensures store { OnOk result
-        (let hooks = hooks_of C.counted D.OverlayEdgeData.own in
-        store.new ≡ (data_cut_at hooks index (points_of I.whole path.now)
-        (data_segments_of list.old.items) store.old).1) }
+    ensures segments { OnOk result (HasDataOfCut D.OverlayEdgeData.own index path.now list.old store.old list.new) }
+    ensures store { OnOk result (IsCutStore D.OverlayEdgeData.own index path.now list.old store.old store.new) }
     ensures store_made { IsMadeFrom (hooks_of C.counted D.OverlayEdgeData.own) store.old store.new }
     ensures fault { IfErr result (λ fault. fault ≡ Memory) }
 {

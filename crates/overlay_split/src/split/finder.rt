@@ -3,17 +3,17 @@ ghost use Rattle.std.specs.Prelude.{◌≡◌, ◌≤◌, ◌+◌, All, None, If
 ghost use Rattle.overlay_base.specs.declared.segm.fault.Fault.TheVariants.{Memory};
 ghost use Rattle.overlay_geometry.specs.Points.{pair_cmp};
 ghost use Rattle.overlay_base.specs.Segments.{pairs};
-ghost use Rattle.overlay_base.specs.SegmentOf.{ends_of, segments_of, x_segment_of};
-ghost use Rattle.overlay_geometry.specs.InRange.{IsPairInRange};
+ghost use Rattle.overlay_base.specs.SegmentOf.{ends_of, segments_of};
 ghost use Rattle.overlay_intersections.specs.PassMarks.{is_rounded};
 ghost use Rattle.overlay_intersections.specs.PlacingOf.{placing_of, HasRadius};
-ghost use Rattle.overlay_intersections.specs.MarkOf.{AreMarks, marks_of};
+ghost use Rattle.overlay_intersections.specs.MarkOf.{AreMarks, marks_of, AreMarksOf};
 ghost use Rattle.overlay_grid.specs.GridLooks.{grid_looks};
-ghost use Rattle.overlay_split.specs.PassLooks.{ArePassLooks};
 ghost use Rattle.overlay_grid.specs.Grid.{IsInside, LieInside};
 ghost use Rattle.overlay_grid.specs.GroupsOf.{grid_in, grid_of};
 ghost use Rattle.overlay_split.specs.FinderOf.{solver_in, layout_in, looks_in};
 ghost use Rattle.overlay_grid.specs.GridFor.{IsGridFor};
+ghost use Rattle.overlay_split.specs.PassOf.{LooksThrough};
+ghost use Rattle.overlay_base.specs.ArrangedOf.{AreInRange};
 
 use overlay_base::overlay_core::solver::Solver;
 use overlay_base::segm::fault::Fault;
@@ -60,7 +60,7 @@ impl<I: OverlayInt> PairFinder<I> {
         first: &[Segment<C, I, D>],
         memory: &mut FragmentMemory<I>,
     ) -> Result<Self, Fault>
-        requires { All (λ s. IsPairInRange I.whole I.MIN_COORD I.MAX_COORD (x_segment_of s)) first.now }
+        requires { AreInRange first.now }
         ensures solver { IfOk result (λ finder. solver_in finder ≡ solver.now) }
         ensures grid { IfOk result (λ finder. IsGridFor solver.now.strategy (segments_of first.now)
             (layout_in finder)) }
@@ -115,16 +115,14 @@ impl<I: OverlayInt> PairFinder<I> {
         marks: &mut Vec<LineMark<I>>,
     ) -> Result<bool, Fault>
         requires sorted { IsSortedByKey ends_of pair_cmp segments.now }
-        requires in_range { All (λ s. IsPairInRange I.whole I.MIN_COORD I.MAX_COORD (x_segment_of s)) segments.now }
+        requires in_range { AreInRange segments.now }
         requires radius { HasRadius placing }
         requires inside { LieInside (layout_in self.old) (pairs (segments_of segments.now)) }
         ensures solver { solver_in self.new ≡ solver_in self.old }
         ensures grid { layout_in self.new ≡ layout_in self.old }
-        ensures marks { OnOk result (AreMarks (placing_of placing) (segments_of segments.now)
-            (marks_of I.whole marks.new.items)) }
+        ensures marks { OnOk result (AreMarksOf placing segments.now marks.new.items) }
         ensures rounded { IfOk result (λ rounded. rounded ≡ is_rounded (segments_of segments.now)) }
-        ensures looked { OnOk result (ArePassLooks (solver_in self.old).strategy (layout_in self.old)
-            (pairs (segments_of segments.now)) (looks_in self.old) (looks_in self.new)) }
+        ensures looked { OnOk result (LooksThrough segments.now self.old self.new) }
         ensures fault { IfErr result (λ fault. fault ≡ Memory) }
     {
         if self.solver.is_list_split(segments) {
@@ -145,7 +143,7 @@ fn grid_over<C: WindingCount, I: OverlayInt, D: Copy>(
     first: &[Segment<C, I, D>],
     memory: &mut FragmentMemory<I>,
 ) -> Result<Option<FragmentBuffer<I>>, Fault>
-    requires in_range { All (λ s. IsPairInRange I.whole I.MIN_COORD I.MAX_COORD (x_segment_of s)) first.now }
+    requires in_range { AreInRange first.now }
     ensures grid { IfOk result (λ grid. IsGridFor solver.now.strategy (segments_of first.now) (grid_in grid)) }
     ensures fault { IfErr result (λ fault. fault ≡ Memory) }
 {
@@ -180,7 +178,7 @@ fn find_over_grid<C: WindingCount, I: OverlayInt, D: Copy>(
     looked: &mut u128,
 ) -> Result<bool, Fault>
     requires sorted { IsSortedByKey ends_of pair_cmp segments.now }
-    requires in_range { All (λ s. IsPairInRange I.whole I.MIN_COORD I.MAX_COORD (x_segment_of s)) segments.now }
+    requires in_range { AreInRange segments.now }
     requires inside { All (λ s. IsInside (grid_of grid.old) (ends_of s)) segments.now }
     requires radius { HasRadius placing }
     ensures layout { grid_of grid.new ≡ grid_of grid.old }

@@ -1,20 +1,20 @@
 // One pass over a list: every segment is cut at its marks, and the pieces are joined. Upstream: `split::solver_list`
 // and `split::solver`, where marks are applied.
-ghost use Rattle.std.specs.Prelude.{◌≡◌, [], IsTrue, IsFalse, IfOk, IfErr, OnOk, OnErr, nat_lt};
-ghost use Rattle.overlay_base.specs.declared.segm.fault.Fault.TheVariants.{Memory, CountOutOfRange};
+ghost use Rattle.std.specs.Prelude.{◌≡◌, [], IsTrue, IsFalse, IfOk, IfErr, OnOk, OnErr};
+ghost use Rattle.overlay_base.specs.declared.segm.fault.Fault.TheVariants.{Memory};
 ghost use Rattle.overlay_base.specs.Segments.{pairs, is_map};
 ghost use Rattle.overlay_base.specs.ArrangedOf.{IsSplittable};
-ghost use Rattle.overlay_base.specs.Join.{join_leaves_range};
-ghost use Rattle.overlay_base.specs.EdgeData.{IsMadeFrom, IsRefusedJoin};
+ghost use Rattle.overlay_base.specs.EdgeData.{IsMadeFrom};
 ghost use Rattle.overlay_base.specs.HooksOf.{hooks_of};
 ghost use Rattle.overlay_base.specs.SegmentOf.{segments_of, data_segments_of};
 ghost use Rattle.overlay_split.specs.Pass.{cut, pass};
-ghost use Rattle.overlay_intersections.specs.PassMarks.{is_rounded, mark_count};
-ghost use Rattle.overlay_split.specs.DataPass.{data_cut, data_pass};
+ghost use Rattle.overlay_intersections.specs.PassMarks.{is_rounded};
+ghost use Rattle.overlay_split.specs.DataPass.{data_cut};
 ghost use Rattle.overlay_intersections.specs.PlacingOf.{placing_of, HasRadius};
-ghost use Rattle.overlay_split.specs.PassLooks.{ArePassLooks};
 ghost use Rattle.overlay_grid.specs.Grid.{LieInside};
-ghost use Rattle.overlay_split.specs.FinderOf.{solver_in, layout_in, looks_in};
+ghost use Rattle.overlay_split.specs.FinderOf.{solver_in, layout_in};
+ghost use Rattle.overlay_split.specs.PassOf.{HasDataOfPass, IsPassStore, makes_mark, LooksThrough, pieces_leave_range, StopsPass};
+ghost use Rattle.overlay_base.specs.FaultOf.{OnTooLarge};
 
 use crate::split::cut::{cut_segment, index_len};
 use crate::split::finder::PairFinder;
@@ -85,27 +85,16 @@ pub fn pass<C: WindingCount, I: OverlayInt, D: OverlayEdgeData<C>>(
     ensures grid { layout_in finder.new ≡ layout_in finder.old }
     ensures geometry { OnOk result (segments_of list.new.items
         ≡ pass (placing_of placing) (segments_of list.old.items)) }
-    ensures edge_data { OnOk result
-        (let hooks = hooks_of C.counted D.OverlayEdgeData.own in
-        data_segments_of list.new.items ≡ (data_pass hooks (placing_of placing)
-        (data_segments_of list.old.items) store.old).0) }
-    ensures store { OnOk result
-        (let hooks = hooks_of C.counted D.OverlayEdgeData.own in
-        store.new ≡ (data_pass hooks (placing_of placing) (data_segments_of list.old.items) store.old).1) }
+    ensures edge_data { OnOk result (HasDataOfPass D.OverlayEdgeData.own placing list.old store.old list.new) }
+    ensures store { OnOk result (IsPassStore D.OverlayEdgeData.own placing list.old store.old store.new) }
     ensures rounded { IfOk result (λ passed. passed.is_rounded ≡ is_rounded (segments_of list.old.items)) }
-    ensures marked { IfOk result (λ passed. passed.has_marks
-        ≡ nat_lt 0 (mark_count (placing_of placing) (segments_of list.old.items))) }
-    ensures looked { OnOk result (ArePassLooks (solver_in finder.old).strategy (layout_in finder.old)
-        (pairs (segments_of list.old.items)) (looks_in finder.old) (looks_in finder.new)) }
+    ensures marked { IfOk result (λ passed. passed.has_marks ≡ makes_mark placing list.old.items) }
+    ensures looked { OnOk result (LooksThrough list.old.items finder.old finder.new) }
 
-    ensures fits { OnOk result (IsFalse (join_leaves_range (cut (placing_of placing) (segments_of list.old.items)))) }
-    ensures refused { IfErr result (λ fault. fault ≡ CountOutOfRange
-        → IsTrue (join_leaves_range (cut (placing_of placing) (segments_of list.old.items)))) }
+    ensures fits { OnOk result (IsFalse (pieces_leave_range placing list.old.items)) }
+    ensures refused { OnTooLarge result (IsTrue (pieces_leave_range placing list.old.items)) }
     ensures emptied { OnErr result (list.new.items ≡ []) }
-    ensures stopped { IfErr result (λ fault. fault ≡ CountOutOfRange →
-        (let hooks = hooks_of C.counted D.OverlayEdgeData.own in
-        let pieces = data_cut hooks (placing_of placing) (data_segments_of list.old.items) store.old in
-        IsRefusedJoin hooks pieces.0 pieces.1 store.new)) }
+    ensures stopped { OnTooLarge result (StopsPass D.OverlayEdgeData.own placing list.old store.old store.new) }
     ensures store_made { IsMadeFrom (hooks_of C.counted D.OverlayEdgeData.own) store.old store.new }
 {
     let passed = match cut_at_marks(list, placing, finder, buffers, store) {
@@ -141,10 +130,8 @@ fn cut_at_marks<C: WindingCount, I: OverlayInt, D: OverlayEdgeData<C>>(
         (let hooks = hooks_of C.counted D.OverlayEdgeData.own in
         store.new ≡ (data_cut hooks (placing_of placing) (data_segments_of list.old.items) store.old).1) }
     ensures rounded { IfOk result (λ passed. passed.is_rounded ≡ is_rounded (segments_of list.old.items)) }
-    ensures marked { IfOk result (λ passed. passed.has_marks
-        ≡ nat_lt 0 (mark_count (placing_of placing) (segments_of list.old.items))) }
-    ensures looked { OnOk result (ArePassLooks (solver_in finder.old).strategy (layout_in finder.old)
-        (pairs (segments_of list.old.items)) (looks_in finder.old) (looks_in finder.new)) }
+    ensures marked { IfOk result (λ passed. passed.has_marks ≡ makes_mark placing list.old.items) }
+    ensures looked { OnOk result (LooksThrough list.old.items finder.old finder.new) }
     ensures store_made { IsMadeFrom (hooks_of C.counted D.OverlayEdgeData.own) store.old store.new }
     ensures fault { IfErr result (λ fault. fault ≡ Memory) }
 {

@@ -3,9 +3,10 @@ ghost use Rattle.std.specs.Prelude.{◌≡◌, ◌++◌, ◌≤◌, ◌<◌, len
 ghost use Rattle.std.specs.List.{prefix_len};
 ghost use Rattle.std.specs.Ordering.{int_eq};
 ghost use Rattle.overlay_geometry.specs.PointOf.{point_of};
-ghost use Rattle.overlay_split.specs.Path.{columns_in_order, path_from, run_through, last_point};
+ghost use Rattle.overlay_split.specs.Path.{run_through, last_point};
 ghost use Rattle.overlay_split.specs.steps.PathSteps.{first_point};
 ghost use Rattle.overlay_intersections.specs.MarkOf.{points_of, mark_points_of};
+ghost use Rattle.overlay_split.specs.steps.PiecesOf.{path_through};
 
 use overlay_geometry::geom::point::IntPoint;
 use overlay_geometry::num::OverlayInt;
@@ -24,8 +25,7 @@ pub fn collect_path<I: OverlayInt>(
     b: IntPoint<I>,
     path: &mut Vec<IntPoint<I>>,
 ) -> Result<(), AllocError>
-    ensures { OnOk result (points_of I.whole path.new.items
-        ≡ path_from (point_of I.whole a) (columns_in_order (mark_points_of I.whole marks.now)) (point_of I.whole b)) }
+    ensures { OnOk result (points_of I.whole path.new.items ≡ path_through I.whole a marks.now b) }
 {
     path.clear();
     let mut rest = marks;

@@ -1,14 +1,13 @@
 // The pieces of a segment along its path. Upstream: `split::solver`, where marks are applied.
-ghost use Rattle.std.specs.Prelude.{◌≡◌, ◌++◌, IsTrue, OnOk, IfErr};
+ghost use Rattle.std.specs.Prelude.{◌≡◌, IsTrue, IfErr};
 ghost use Rattle.overlay_base.specs.declared.segm.fault.Fault.TheVariants.{Memory};
 ghost use Rattle.overlay_base.specs.Windings.{is_valid};
 ghost use Rattle.overlay_geometry.specs.PointOf.{point_of};
 ghost use Rattle.overlay_base.specs.EdgeData.{IsMadeFrom};
 ghost use Rattle.overlay_base.specs.HooksOf.{hooks_of};
-ghost use Rattle.overlay_base.specs.SegmentOf.{data_segments_of};
-ghost use Rattle.overlay_split.specs.Path.{last_point, LeadsOn};
-ghost use Rattle.overlay_split.specs.DataPass.{data_pieces};
+ghost use Rattle.overlay_split.specs.Path.{LeadsOn};
 ghost use Rattle.overlay_intersections.specs.MarkOf.{points_of};
+ghost use Rattle.overlay_split.specs.steps.PiecesOf.{AddsPieces, LeavesStore};
 
 use overlay_base::overlay_core::edge_data::{EdgeDataSplit, OverlayEdgeData};
 use overlay_base::segm::fault::Fault;
@@ -32,17 +31,9 @@ pub fn push_pieces<C: WindingCount, I: OverlayInt, D: OverlayEdgeData<C>>(
 ) -> Result<(), Fault>
     requires valid { IsTrue (is_valid (C.winding count)) }
     requires leads_on { LeadsOn (point_of I.whole from) (points_of I.whole path.now) }
-    ensures pieces { OnOk result
-        (let hooks = hooks_of C.counted D.OverlayEdgeData.own in
-        let b = last_point (point_of I.whole from) (points_of I.whole path.now) in
-        data_segments_of list.new.items ≡ data_segments_of list.old.items
-        ++ (data_pieces hooks (C.winding count) (point_of I.whole from)
-        (points_of I.whole path.now) b edge_data store.old).0) }
-    ensures store { OnOk result
-        (let hooks = hooks_of C.counted D.OverlayEdgeData.own in
-        let b = last_point (point_of I.whole from) (points_of I.whole path.now) in
-        store.new ≡ (data_pieces hooks (C.winding count) (point_of I.whole from)
-        (points_of I.whole path.now) b edge_data store.old).1) }
+    ensures pieces { AddsPieces D.OverlayEdgeData.own from path.now count edge_data store.old list.old list.new result }
+    ensures store { LeavesStore D.OverlayEdgeData.own from path.now count edge_data store.old list.old store.new
+        result }
     ensures store_made { IsMadeFrom (hooks_of C.counted D.OverlayEdgeData.own) store.old store.new }
     ensures fault { IfErr result (λ fault. fault ≡ Memory) }
 {

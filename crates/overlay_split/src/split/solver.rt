@@ -1,34 +1,26 @@
 // The split of a list into a planar arrangement: passes that snap, up to a limit, then passes that settle.
 // Upstream: `split::solver`. The settling passes, `passes` and the limit are this project's own.
-ghost use Rattle.std.specs.Prelude.{◌≡◌, ◌+◌, ◌≤◌, ◌||◌, ◌&&◌, [], false, IsTrue, IsFalse, IfOk, IfErr, OnOk, OnErr, Ok, All, Bool, Option, length, nat_le, nat_lt};
-ghost use Rattle.std.specs.List.{list_all};
-ghost use Rattle.overlay_base.specs.declared.segm.fault.Fault.TheVariants.{Memory, CountOutOfRange};
-ghost use Rattle.overlay_geometry.specs.Points.{Pair, is_within_box_of};
-ghost use Rattle.overlay_base.specs.Segments.{pairs, ends, is_map};
+ghost use Rattle.std.specs.Prelude.{◌≡◌, ◌+◌, ◌||◌, ◌&&◌, [], false, IsTrue, IsFalse, IfOk, IfErr, OnOk, OnErr, Ok, length, nat_le, nat_lt};
+ghost use Rattle.overlay_base.specs.declared.segm.fault.Fault.TheVariants.{CountOutOfRange};
+ghost use Rattle.overlay_base.specs.Segments.{pairs, is_map};
 ghost use Rattle.overlay_base.specs.ArrangedOf.{IsSplittable, IsArranged};
 ghost use Rattle.overlay_base.specs.Join.{join, join_leaves_range};
 ghost use Rattle.overlay_base.specs.Balance.{KeepsBalance};
 ghost use Rattle.overlay_base.specs.EdgeData.{IsMadeFrom, IsRefusedJoin};
 ghost use Rattle.overlay_base.specs.HooksOf.{hooks_of};
-ghost use Rattle.overlay_base.specs.SegmentOf.{segments_of, data_segments_of, x_segment_of};
+ghost use Rattle.overlay_base.specs.SegmentOf.{segments_of, data_segments_of};
 ghost use Rattle.overlay_base.specs.Radius.{exponent_of, squared_radius};
 ghost use Rattle.overlay_intersections.specs.Marks.{snapping};
 ghost use Rattle.overlay_split.specs.Pass.{cut, pass};
 ghost use Rattle.overlay_intersections.specs.PassMarks.{is_rounded, mark_count};
-ghost use Rattle.overlay_split.specs.DataPass.{data_cut, data_pass, data_after_passes, IsStoppedRun};
-ghost use Rattle.overlay_split.specs.Run.{IsRun, LeavesRange, after_passes};
+ghost use Rattle.overlay_split.specs.DataPass.{data_cut, data_pass};
 ghost use Rattle.overlay_split.specs.steps.IsAt.{IsAt};
-ghost use Rattle.overlay_split.specs.ExactInput.{is_exact_input, KeepsCounts};
-ghost use Rattle.overlay_split.specs.Laws.{HooksKeep, HooksNameNoOther, NameNear};
-ghost use Rattle.overlay_split.specs.Nearness.{StaysNear, reach_of_run};
-ghost use Rattle.overlay_split.specs.Places.{KeepsWinding};
-ghost use Rattle.overlay_split.specs.Potential.{potential};
 ghost use Rattle.overlay_intersections.specs.PlacingOf.{placing_of, HasRadius};
 ghost use Rattle.overlay_split.specs.PassLooks.{ArePassLooks};
 ghost use Rattle.overlay_split.specs.FinderOf.{solver_in, layout_in, looks_in};
-ghost use Rattle.overlay_grid.specs.Grid.{Layout, LieInside};
-ghost use Rattle.overlay_split.specs.RunLooks.{AreRunLooks};
-ghost use Rattle.overlay_geometry.specs.InRange.{IsPairInRange};
+ghost use Rattle.overlay_grid.specs.Grid.{LieInside};
+ghost use Rattle.overlay_split.specs.SplitOf.{IsRunOver, KeepsWhatHolds, LiesNearNamed, LiesInBox, IsExact, HasGivenCounts, LiesNearGiven, WindsAsGiven, PassesAreBounded, SumsLeaveRange, LooksAreBounded, ChangesNothing, StopsRun, ChangesNoStore, GivesData, GivesRunData, LeavesRunStore};
+ghost use Rattle.overlay_base.specs.FaultOf.{OnTooLarge};
 
 use crate::split::finder::PairFinder;
 use crate::split::pass::{PassBuffers, pass};
@@ -137,48 +129,25 @@ impl<I: OverlayInt> SplitSolver<I> {
         solver: &Solver,
     ) -> Result<bool, Fault>
         requires { IsSplittable list.old.items }
-        ensures run { IfOk result (λ flag. IsRun (settings_of I.BITS solver.now self.old) (segments_of list.old.items)
-            (segments_of list.new.items) (passes_of self.new) flag) }
-        ensures edge_data { OnOk result
-            ((store : D.Store) × D.Store.is_default store ×
-            (let hooks = hooks_of C.counted D.OverlayEdgeData.own in
-            data_segments_of list.new.items ≡ (data_after_passes hooks (settings_of I.BITS solver.now self.old)
-            (data_segments_of list.old.items) store (passes_of self.new)).0)) }
-        ensures kept_data { let hooks = hooks_of C.counted D.OverlayEdgeData.own in
-            (has : D → Bool) → HooksKeep hooks has → IsTrue
-            (list_all (λ s. has s.edge_data) (data_segments_of list.old.items)) →
-            OnOk result (IsTrue (list_all (λ s. has s.edge_data) (data_segments_of list.new.items))) }
-        ensures named_data { let hooks = hooks_of C.counted D.OverlayEdgeData.own in
-            (names : D → Pair → Bool) → HooksNameNoOther hooks names →
-            NameNear names 0 (data_segments_of list.old.items) → OnOk result (NameNear names
-            (reach_of_run (settings_of I.BITS solver.now self.old) (segments_of list.old.items) (passes_of self.new))
-            (data_segments_of list.new.items)) }
+        ensures run { IfOk result (IsRunOver solver.now self.old self.new list.old list.new) }
+        ensures edge_data { GivesData D.OverlayEdgeData.own D.Store.is_default solver.now self.old self.new list.old
+            list.new result }
+        ensures kept_data { KeepsWhatHolds D.OverlayEdgeData.own list.old list.new result }
+        ensures named_data { LiesNearNamed D.OverlayEdgeData.own solver.now self.old self.new list.old list.new result }
         ensures arranged { OnOk result (IsArranged list.new.items) }
         ensures balance { OnOk result (KeepsBalance (segments_of list.old.items) (segments_of list.new.items)) }
-        ensures in_box { OnOk result (IsTrue (list_all
-            (λ p. is_within_box_of (ends (pairs (join (segments_of list.old.items)))) p)
-            (ends (pairs (segments_of list.new.items))))) }
-        ensures exact_input { IsTrue (is_exact_input (segments_of list.old.items))
-            → OnOk result (KeepsCounts (segments_of list.old.items) (segments_of list.new.items)) }
-        ensures near { OnOk result (StaysNear (settings_of I.BITS solver.now self.old) (segments_of list.old.items)
-            (segments_of list.new.items) (passes_of self.new)) }
-        ensures winding { OnOk result (KeepsWinding (settings_of I.BITS solver.now self.old)
-            (segments_of list.old.items) (segments_of list.new.items) (passes_of self.new)) }
-        ensures bound { OnOk result (passes_of self.new ≤ snap_limit_of self.old
-            + potential (after_passes (settings_of I.BITS solver.now self.old) (segments_of list.old.items)
-            (snap_limit_of self.old)) + 1) }
-        ensures unchanged { IsArranged list.old.items →
-            IfOk result (λ flag. (flag ≡ false) × (data_segments_of list.new.items ≡ data_segments_of list.old.items)) }
+        ensures in_box { OnOk result (LiesInBox list.old list.new) }
+        ensures exact_input { IsExact list.old → OnOk result (HasGivenCounts list.old list.new) }
+        ensures near { OnOk result (LiesNearGiven solver.now self.old self.new list.old list.new) }
+        ensures winding { OnOk result (WindsAsGiven solver.now self.old self.new list.old list.new) }
+        ensures bound { OnOk result (PassesAreBounded solver.now self.old self.new list.old) }
+        ensures unchanged { IsArranged list.old.items → IfOk result (ChangesNothing list.old list.new) }
 
-        ensures fits { OnOk result (LeavesRange (settings_of I.BITS solver.now self.old) (segments_of list.old.items)
-            → ⊥) }
-        ensures refused { IfErr result (λ fault. fault ≡ CountOutOfRange
-            → LeavesRange (settings_of I.BITS solver.now self.old) (segments_of list.old.items)) }
+        ensures fits { OnOk result (SumsLeaveRange solver.now self.old list.old → ⊥) }
+        ensures refused { OnTooLarge result (SumsLeaveRange solver.now self.old list.old) }
         ensures emptied { OnErr result (list.new.items ≡ []) }
         ensures passes { OnErr result (passes_of self.new ≡ passes_of self.old) }
-        ensures looked { OnOk result ((grid : Option Layout) × AreRunLooks solver.now.strategy
-            (settings_of I.BITS solver.now self.old) (segments_of list.old.items) grid (passes_of self.new)
-            (looked_of self.new)) }
+        ensures looked { OnOk result (LooksAreBounded solver.now self.old self.new list.old) }
         ensures looked_before { OnErr result (looked_of self.new ≡ looked_of self.old) }
         ensures limit { snap_limit_of self.new ≡ snap_limit_of self.old }
         ensures empty { list.old.items ≡ [] → (result ≡ Ok false) × (passes_of self.new ≡ 0) }
@@ -217,57 +186,31 @@ impl<I: OverlayInt> SplitSolver<I> {
         store: &mut D::Store,
     ) -> Result<bool, Fault>
         requires { IsSplittable list.old.items }
-        ensures run { IfOk result (λ flag. IsRun (settings_of I.BITS solver.now self.old) (segments_of list.old.items)
-            (segments_of list.new.items) (passes_of self.new) flag) }
-        ensures edge_data { OnOk result
-            (let hooks = hooks_of C.counted D.OverlayEdgeData.own in
-            data_segments_of list.new.items ≡ (data_after_passes hooks (settings_of I.BITS solver.now self.old)
-            (data_segments_of list.old.items) store.old (passes_of self.new)).0) }
-        ensures store { OnOk result
-            (let hooks = hooks_of C.counted D.OverlayEdgeData.own in
-            store.new ≡ (data_after_passes hooks (settings_of I.BITS solver.now self.old)
-            (data_segments_of list.old.items) store.old (passes_of self.new)).1) }
-        ensures kept_data { let hooks = hooks_of C.counted D.OverlayEdgeData.own in
-            (has : D → Bool) → HooksKeep hooks has → IsTrue
-            (list_all (λ s. has s.edge_data) (data_segments_of list.old.items)) →
-            OnOk result (IsTrue (list_all (λ s. has s.edge_data) (data_segments_of list.new.items))) }
-        ensures named_data { let hooks = hooks_of C.counted D.OverlayEdgeData.own in
-            (names : D → Pair → Bool) → HooksNameNoOther hooks names →
-            NameNear names 0 (data_segments_of list.old.items) → OnOk result (NameNear names
-            (reach_of_run (settings_of I.BITS solver.now self.old) (segments_of list.old.items) (passes_of self.new))
-            (data_segments_of list.new.items)) }
+        ensures run { IfOk result (IsRunOver solver.now self.old self.new list.old list.new) }
+        ensures edge_data { GivesRunData D.OverlayEdgeData.own solver.now self.old self.new list.old store.old
+            list.new result }
+        ensures store { LeavesRunStore D.OverlayEdgeData.own solver.now self.old self.new list.old store.old store.new
+            result }
+        ensures kept_data { KeepsWhatHolds D.OverlayEdgeData.own list.old list.new result }
+        ensures named_data { LiesNearNamed D.OverlayEdgeData.own solver.now self.old self.new list.old list.new result }
         ensures arranged { OnOk result (IsArranged list.new.items) }
         ensures balance { OnOk result (KeepsBalance (segments_of list.old.items) (segments_of list.new.items)) }
-        ensures in_box { OnOk result (IsTrue (list_all
-            (λ p. is_within_box_of (ends (pairs (join (segments_of list.old.items)))) p)
-            (ends (pairs (segments_of list.new.items))))) }
-        ensures exact_input { IsTrue (is_exact_input (segments_of list.old.items))
-            → OnOk result (KeepsCounts (segments_of list.old.items) (segments_of list.new.items)) }
-        ensures near { OnOk result (StaysNear (settings_of I.BITS solver.now self.old) (segments_of list.old.items)
-            (segments_of list.new.items) (passes_of self.new)) }
-        ensures winding { OnOk result (KeepsWinding (settings_of I.BITS solver.now self.old)
-            (segments_of list.old.items) (segments_of list.new.items) (passes_of self.new)) }
-        ensures bound { OnOk result (passes_of self.new ≤ snap_limit_of self.old
-            + potential (after_passes (settings_of I.BITS solver.now self.old) (segments_of list.old.items)
-            (snap_limit_of self.old)) + 1) }
-        ensures unchanged { IsArranged list.old.items →
-            IfOk result (λ flag. (flag ≡ false) × (data_segments_of list.new.items ≡ data_segments_of list.old.items)
-            × (store.new ≡ store.old)) }
+        ensures in_box { OnOk result (LiesInBox list.old list.new) }
+        ensures exact_input { IsExact list.old → OnOk result (HasGivenCounts list.old list.new) }
+        ensures near { OnOk result (LiesNearGiven solver.now self.old self.new list.old list.new) }
+        ensures winding { OnOk result (WindsAsGiven solver.now self.old self.new list.old list.new) }
+        ensures bound { OnOk result (PassesAreBounded solver.now self.old self.new list.old) }
+        ensures unchanged { IsArranged list.old.items
+            → IfOk result (ChangesNoStore list.old list.new store.old store.new) }
 
-        ensures fits { OnOk result (LeavesRange (settings_of I.BITS solver.now self.old) (segments_of list.old.items)
-            → ⊥) }
-        ensures refused { IfErr result (λ fault. fault ≡ CountOutOfRange
-            → LeavesRange (settings_of I.BITS solver.now self.old) (segments_of list.old.items)) }
+        ensures fits { OnOk result (SumsLeaveRange solver.now self.old list.old → ⊥) }
+        ensures refused { OnTooLarge result (SumsLeaveRange solver.now self.old list.old) }
         ensures emptied { OnErr result (list.new.items ≡ []) }
-        ensures stopped { IfErr result (λ fault. fault ≡ CountOutOfRange →
-            (let hooks = hooks_of C.counted D.OverlayEdgeData.own in
-            IsStoppedRun hooks (settings_of I.BITS solver.now self.old) (data_segments_of list.old.items)
-            store.old store.new)) }
+        ensures stopped { OnTooLarge result
+            (StopsRun D.OverlayEdgeData.own solver.now self.old list.old store.old store.new) }
         ensures store_made { IsMadeFrom (hooks_of C.counted D.OverlayEdgeData.own) store.old store.new }
         ensures passes { OnErr result (passes_of self.new ≡ passes_of self.old) }
-        ensures looked { OnOk result ((grid : Option Layout) × AreRunLooks solver.now.strategy
-            (settings_of I.BITS solver.now self.old) (segments_of list.old.items) grid (passes_of self.new)
-            (looked_of self.new)) }
+        ensures looked { OnOk result (LooksAreBounded solver.now self.old self.new list.old) }
         ensures looked_before { OnErr result (looked_of self.new ≡ looked_of self.old) }
         ensures limit { snap_limit_of self.new ≡ snap_limit_of self.old }
         ensures empty { list.old.items ≡ [] → (result ≡ Ok false) × (passes_of self.new ≡ 0) }
@@ -292,14 +235,10 @@ impl<I: OverlayInt> SplitSolver<I> {
             (settings_of I.BITS solver.now self.old) (I.whole I.MIN_COORD) (I.whole I.MAX_COORD)
             (segments_of list.old.items) (segments_of list.new.items) (data_segments_of list.old.items)
             (data_segments_of list.new.items) store.old store.new (passes_of self.new) flag false) }
-        ensures looked { OnOk result ((grid : Option Layout) × AreRunLooks solver.now.strategy
-            (settings_of I.BITS solver.now self.old) (segments_of list.old.items) grid (passes_of self.new)
-            (looked_of self.new)) }
+        ensures looked { OnOk result (LooksAreBounded solver.now self.old self.new list.old) }
         ensures emptied { OnErr result (list.new.items ≡ []) }
-        ensures stopped { IfErr result (λ fault. fault ≡ CountOutOfRange →
-            (let hooks = hooks_of C.counted D.OverlayEdgeData.own in
-            IsStoppedRun hooks (settings_of I.BITS solver.now self.old) (data_segments_of list.old.items)
-            store.old store.new)) }
+        ensures stopped { OnTooLarge result
+            (StopsRun D.OverlayEdgeData.own solver.now self.old list.old store.old store.new) }
         ensures store_made { IsMadeFrom (hooks_of C.counted D.OverlayEdgeData.own) store.old store.new }
         ensures unset { OnErr result ((passes_of self.new ≡ passes_of self.old)
             × (looked_of self.new ≡ looked_of self.old)) }
@@ -339,7 +278,7 @@ impl<I: OverlayInt> SplitSolver<I> {
 }
 
 impl Progress {
-    ghost use Rattle.std.specs.Prelude.{◌≡◌, ◌+◌, ◌<◌, ◌≤◌, ◌^◌, ◌||◌, ◌&&◌, [], IsTrue, IsFalse, IfOk, IfErr, OnOk, OnErr, length, nat_le, nat_lt};
+    ghost use Rattle.std.specs.Prelude.{◌≡◌, ◌+◌, ◌<◌, ◌^◌, ◌||◌, ◌&&◌, [], IsTrue, IsFalse, IfOk, IfErr, OnOk, OnErr, length, nat_le, nat_lt};
 
     /// Where a run stands after one more pass.
     fn after_pass<C: WindingCount, I: OverlayInt, D: OverlayEdgeData<C>>(

@@ -1,10 +1,9 @@
 // The segments that start at one point, in order of their angles. Upstream: part of `build::sweep`.
-ghost use Rattle.std.specs.Prelude.{◌≡◌, ◌≢◌, ℕ, ◌<◌, ◌≤◌, All, OnOk, length, slice_index_or};
-ghost use Rattle.overlay_geometry.specs.Points.{Pair};
-ghost use Rattle.overlay_base.specs.Segments.{pairs};
-ghost use Rattle.overlay_geometry.specs.InRange.{IsPairInRange};
-ghost use Rattle.overlay_base.specs.SegmentOf.{segments_of, x_segment_of};
+ghost use Rattle.std.specs.Prelude.{◌≡◌, ◌<◌, ◌≤◌, OnOk, length};
+ghost use Rattle.overlay_base.specs.SegmentOf.{segments_of};
 ghost use Rattle.overlay_sweep.specs.steps.WayOf.{ways_of, ways_between, by_angle};
+ghost use Rattle.overlay_base.specs.ArrangedOf.{AreInRange};
+ghost use Rattle.overlay_sweep.specs.SweepOf.{StartTogether, StartsElsewhere};
 
 use crate::build::way::Way;
 use overlay_base::segm::segment::Segment;
@@ -20,12 +19,8 @@ pub fn start_point_end<C: WindingCount, I: OverlayInt, D: Copy>(
     requires { index < length segments.now }
     ensures after { index < result }
     ensures within { result ≤ length segments.now }
-    ensures same { (k : ℕ) (d : Pair) → index ≤ k → k < result
-        → (slice_index_or (pairs (segments_of segments.now)) k d).a
-        ≡ (slice_index_or (pairs (segments_of segments.now)) index d).a }
-    ensures other { (d : Pair) → result < length segments.now
-        → (slice_index_or (pairs (segments_of segments.now)) result d).a
-        ≢ (slice_index_or (pairs (segments_of segments.now)) index d).a }
+    ensures same { StartTogether segments.now index result }
+    ensures other { StartsElsewhere segments.now index result }
 {
     let start = segments[index].x_segment().a;
     let mut next = index + 1;
@@ -44,7 +39,7 @@ pub fn collect_ways<C: WindingCount, I: OverlayInt, D: Copy>(
 ) -> Result<(), AllocError>
     requires order { index ≤ next }
     requires within { next ≤ length segments.now }
-    requires in_range { All (λ s. IsPairInRange I.whole I.MIN_COORD I.MAX_COORD (x_segment_of s)) segments.now }
+    requires in_range { AreInRange segments.now }
     ensures { OnOk result (ways_of ways.new.items ≡ by_angle (ways_between (segments_of segments.now) index next)) }
 {
     ways.clear();

@@ -1,13 +1,13 @@
 // Sweeps over arrangements, with the buffers that they share. Upstream: `build::sweep`.
-ghost use Rattle.std.specs.Prelude.{◌≡◌, ℕ, ◌<◌, IsTrue, IsFalse, IfOk, OnOk, OnErr, IfErr, length};
+ghost use Rattle.std.specs.Prelude.{◌≡◌, ℕ, ◌<◌, IsTrue, IsFalse, IfOk, OnOk, OnErr, length};
 ghost use Rattle.overlay_base.specs.ArrangedOf.{IsArranged};
 ghost use Rattle.overlay_base.specs.Balance.{IsBalanced};
-ghost use Rattle.overlay_base.specs.SegmentOf.{segments_of, data_segments_of};
-ghost use Rattle.overlay_sweep.specs.Sweep.{visits, handled, visited, visits_leave_range, NeverBreaks};
+ghost use Rattle.overlay_base.specs.SegmentOf.{segments_of};
+ghost use Rattle.overlay_sweep.specs.Sweep.{visits, NeverBreaks};
 ghost use Rattle.overlay_sweep.specs.ChainWindings.{HaveColumnWindings};
-ghost use Rattle.overlay_base.specs.Choices.{list_fills};
-ghost use Rattle.overlay_sweep.specs.Costs.{IsSweepWithin, IsSweepTotal};
 ghost use Rattle.overlay_sweep.specs.LiveOf.{run_asked};
+ghost use Rattle.overlay_sweep.specs.SweepOf.{IsSweepAnswer, sweep_leaves_range, IsSweepBound, IsSweepSum};
+ghost use Rattle.overlay_base.specs.FaultOf.{OnTooLarge};
 
 use crate::build::fill_handler::FillHandler;
 use crate::build::fill_strategy::{
@@ -71,20 +71,15 @@ impl<C: WindingCount, I: OverlayInt> SweepRunner<C, I> {
     ) -> Result<H::Output, Fault>
         requires arranged { IsArranged segments.now }
         requires takes { (index : ℕ) → index < length segments.now → H.takes handler index }
-        ensures answer { IfOk result (λ answer.
-            answer ≡ handled H.handle_gives H.finalize_gives handler (visits F.rule (data_segments_of segments.now))) }
-        ensures in_range { OnOk result (IsFalse (visits_leave_range (segments_of segments.now)
-            (visited H.handle_gives handler (visits F.rule (data_segments_of segments.now))))) }
-        ensures out_of_range { IfErr result (λ fault. fault ≡ Fault.CountOutOfRange →
-            IsTrue (visits_leave_range (segments_of segments.now)
-            (visited H.handle_gives handler (visits F.rule (data_segments_of segments.now))))) }
+        ensures answer { IfOk result (IsSweepAnswer H.handle_gives H.finalize_gives handler F.rule segments.now) }
+        ensures in_range { OnOk result (IsFalse (sweep_leaves_range H.handle_gives handler F.rule segments.now)) }
+        ensures out_of_range { OnTooLarge result (IsTrue (sweep_leaves_range H.handle_gives handler F.rule
+            segments.now)) }
         ensures windings { IsBalanced (segments_of segments.now) → HaveColumnWindings (segments_of segments.now) }
         ensures refused { OnErr result (run_asked self.new ≡ run_asked self.old) }
-        ensures compared { OnOk result (IsSweepWithin (list_fills solver.now.strategy (length segments.now))
-            (length segments.now) (run_asked self.new)) }
+        ensures compared { OnOk result (IsSweepBound solver.now segments.now (run_asked self.new)) }
         ensures total { OnOk result (NeverBreaks H.handle_gives
-            → IsSweepTotal (list_fills solver.now.strategy (length segments.now)) (segments_of segments.now)
-            (run_asked self.new)) }
+            → IsSweepSum solver.now segments.now (run_asked self.new)) }
     {
         let ways = &mut self.ways;
         let mut compared = 0;
@@ -130,21 +125,15 @@ impl<C: FillCount, I: OverlayInt> SweepRunner<C, I> {
     ) -> Result<H::Output, Fault>
         requires arranged { IsArranged segments.now }
         requires takes { (index : ℕ) → index < length segments.now → H.takes handler index }
-        ensures answer { IfOk result (λ answer.
-            answer ≡ handled H.handle_gives H.finalize_gives handler
-            (visits fill_rule (data_segments_of segments.now))) }
-        ensures in_range { OnOk result (IsFalse (visits_leave_range (segments_of segments.now)
-            (visited H.handle_gives handler (visits fill_rule (data_segments_of segments.now))))) }
-        ensures out_of_range { IfErr result (λ fault. fault ≡ Fault.CountOutOfRange →
-            IsTrue (visits_leave_range (segments_of segments.now)
-            (visited H.handle_gives handler (visits fill_rule (data_segments_of segments.now))))) }
+        ensures answer { IfOk result (IsSweepAnswer H.handle_gives H.finalize_gives handler fill_rule segments.now) }
+        ensures in_range { OnOk result (IsFalse (sweep_leaves_range H.handle_gives handler fill_rule segments.now)) }
+        ensures out_of_range { OnTooLarge result (IsTrue (sweep_leaves_range H.handle_gives handler fill_rule
+            segments.now)) }
         ensures windings { IsBalanced (segments_of segments.now) → HaveColumnWindings (segments_of segments.now) }
         ensures refused { OnErr result (run_asked self.new ≡ run_asked self.old) }
-        ensures compared { OnOk result (IsSweepWithin (list_fills solver.now.strategy (length segments.now))
-            (length segments.now) (run_asked self.new)) }
+        ensures compared { OnOk result (IsSweepBound solver.now segments.now (run_asked self.new)) }
         ensures total { OnOk result (NeverBreaks H.handle_gives
-            → IsSweepTotal (list_fills solver.now.strategy (length segments.now)) (segments_of segments.now)
-            (run_asked self.new)) }
+            → IsSweepSum solver.now segments.now (run_asked self.new)) }
     {
         match fill_rule {
             FillRule::EvenOdd => self.run::<D, EvenOddStrategy, H>(solver, segments, handler),

@@ -1,5 +1,5 @@
 // The shape of a balanced tree, whose nodes stand in a `Vec` and are named by index.
-ghost use Rattle.std.specs.Prelude.{◌≡◌, ◌≢◌, ℕ, List, ◌<◌, ◌≤◌, ◌+◌, ◌++◌, ◌∷◌, max, length};
+ghost use Rattle.std.specs.Prelude.{◌≡◌, ◌≢◌, ◌<◌, ◌+◌, ◌++◌, ◌∷◌, max, length};
 
 use overlay_base::segm::fault::Fault;
 use std::alloc::Global;
@@ -23,7 +23,7 @@ pub struct TreeShape {
 
 impl TreeShape {
     ghost use Rattle.std.specs.Prelude.{slice_set, slice_index_or, ◌-◌, [], true, OnOk, IfErr};
-    ghost use Rattle.overlay_sweep.specs.TreeShapes.{none, node_at, height_at, parent_of, MayHaveSides, AreJoinable, IsJoined, IsParent, IsSound, IsFirstRemoved, IsTopRemoved};
+    ghost use Rattle.overlay_sweep.specs.TreeShapes.{none, height_at, parent_of, MayHaveSides, AreJoinable, IsJoined, IsParent, IsSound, IsFirstRemoved, lone_node, JoinsTrees, RemovesTop};
 
     /// No nodes. This takes no memory yet.
     pub fn new(alloc: Global) -> TreeShape
@@ -36,8 +36,7 @@ impl TreeShape {
 
     /// Adds a node with none below it, a tree of its own.
     pub fn push(&mut self) -> Result<(), Fault>
-        ensures nodes { OnOk result (self.new.nodes.items ≡ self.old.nodes.items
-            ++ record { left = none; right = none; height = 1 } ∷ []) }
+        ensures nodes { OnOk result (self.new.nodes.items ≡ self.old.nodes.items ++ lone_node ∷ []) }
         ensures fault { IfErr result (λ fault. fault ≡ Fault.Memory) }
     {
         let node = TreeNode {
@@ -132,9 +131,7 @@ impl TreeShape {
     /// Joins two trees by a node between them. Returns the top.
     pub fn join(&mut self, left: usize, at: usize, right: usize) -> usize
         requires { AreJoinable self.old.nodes.items left at right }
-        ensures { (j : AreJoinable self.old.nodes.items left at right)
-            → IsJoined self.old.nodes.items self.new.nodes.items result
-            (j.before ++ at ∷ j.after) j.left_height j.right_height }
+        ensures { JoinsTrees self.old.nodes.items self.new.nodes.items left at right result }
     {
         let left_height = self.height(left);
         let right_height = self.height(right);
@@ -152,9 +149,7 @@ impl TreeShape {
     pub fn rejoin(&mut self, left: usize, at: usize, right: usize, is_parent: bool) -> usize
         requires joinable { AreJoinable self.old.nodes.items left at right }
         requires parent { is_parent ≡ true → IsParent self.old.nodes.items left at right }
-        ensures joined { (j : AreJoinable self.old.nodes.items left at right)
-            → IsJoined self.old.nodes.items self.new.nodes.items result
-            (j.before ++ at ∷ j.after) j.left_height j.right_height }
+        ensures joined { JoinsTrees self.old.nodes.items self.new.nodes.items left at right result }
         ensures same { is_parent ≡ true → (self.new.nodes.items ≡ self.old.nodes.items) × (result ≡ at) }
     {
         if is_parent {
@@ -182,8 +177,7 @@ impl TreeShape {
     pub fn remove_top(&mut self, at: usize) -> usize
         requires sound { IsSound self.old.nodes.items at }
         requires some { at ≢ none }
-        ensures { (t : IsSound self.old.nodes.items at)
-            → IsTopRemoved self.old.nodes.items self.new.nodes.items at result t.order t.high }
+        ensures { RemovesTop self.old.nodes.items self.new.nodes.items at result }
     {
         let node = self.nodes[at];
         if node.right == NONE {

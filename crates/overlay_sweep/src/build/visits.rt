@@ -5,12 +5,14 @@ ghost use Rattle.std.specs.ControlFlow.{break_value, MatchControlFlow};
 ghost use Rattle.overlay_base.specs.Windings.{add, weight, is_valid, is_count_in_range};
 ghost use Rattle.overlay_base.specs.ArrangedOf.{IsArranged};
 ghost use Rattle.overlay_geometry.specs.InRange.{IsPairInRange};
-ghost use Rattle.overlay_base.specs.SegmentOf.{segments_of, data_segments_of, x_segment_of, winding_of, ends_of as pair_of_segment};
+ghost use Rattle.overlay_base.specs.SegmentOf.{x_segment_of, winding_of, ends_of as pair_of_segment};
 ghost use Rattle.overlay_sweep.specs.Fill.{fill_byte};
-ghost use Rattle.overlay_sweep.specs.Sweep.{visits, handled, visited, visits_leave_range, NeverBreaks};
+ghost use Rattle.overlay_sweep.specs.Sweep.{NeverBreaks};
 ghost use Rattle.overlay_sweep.specs.VisitOf.{visit_of};
 ghost use Rattle.overlay_sweep.specs.Live.{HoldSameFrom, AreFreeAt};
-ghost use Rattle.overlay_sweep.specs.Costs.{lasting_at, sweep_orders, IsAskedAs};
+ghost use Rattle.overlay_sweep.specs.Costs.{lasting_at, IsAskedAs};
+ghost use Rattle.overlay_sweep.specs.SweepOf.{IsSweepAnswer, sweep_leaves_range, AsksThreeLooks, AsksToSearch};
+ghost use Rattle.overlay_base.specs.FaultOf.{OnTooLarge};
 
 use crate::build::fill_handler::FillHandler;
 use crate::build::fill_strategy::FillStrategy;
@@ -124,17 +126,11 @@ where
     H: FillHandler<C, I, D>,
     requires arranged { IsArranged segments.now }
     requires takes { (index : ℕ) → index < length segments.now → H.takes handler index }
-    ensures answer { IfOk result (λ answer. answer ≡ handled H.handle_gives H.finalize_gives handler
-        (visits F.rule (data_segments_of segments.now))) }
-    ensures in_range { OnOk result (IsFalse (visits_leave_range (segments_of segments.now)
-        (visited H.handle_gives handler (visits F.rule (data_segments_of segments.now))))) }
-    ensures out_of_range { IfErr result (λ fault. fault ≡ Fault.CountOutOfRange
-        → IsTrue (visits_leave_range (segments_of segments.now)
-        (visited H.handle_gives handler (visits F.rule (data_segments_of segments.now))))) }
-    ensures compared { OnOk result ((d : ℕ) → S.is_most (length segments.now) d
-        → compared.new ≤ 3 * length segments.now * d) }
-    ensures total { OnOk result (NeverBreaks H.handle_gives
-        → IsAskedAs S.asks (λ table. sweep_orders table (segments_of segments.now)) compared.new) }
+    ensures answer { IfOk result (IsSweepAnswer H.handle_gives H.finalize_gives handler F.rule segments.now) }
+    ensures in_range { OnOk result (IsFalse (sweep_leaves_range H.handle_gives handler F.rule segments.now)) }
+    ensures out_of_range { OnTooLarge result (IsTrue (sweep_leaves_range H.handle_gives handler F.rule segments.now)) }
+    ensures compared { OnOk result (AsksThreeLooks S.is_most (length segments.now) compared.new) }
+    ensures total { OnOk result (NeverBreaks H.handle_gives → AsksToSearch S.asks segments.now compared.new) }
 {
     live.clear();
     *compared = 0;

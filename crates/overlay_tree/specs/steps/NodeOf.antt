@@ -1,8 +1,9 @@
 -- Nodes and look-ups as whole numbers.
-use Rattle.std.specs.Prelude.{ℤ, Option, None, Some, List, map}
-use Rattle.overlay_tree.specs.steps.IntervalTree.{Entry, WholeQuery, TreeNode}
+use Rattle.std.specs.Prelude.{ℤ, Option, None, Some, List, map, ℕ, Bool, count_by}
+use Rattle.overlay_tree.specs.steps.IntervalTree.{Entry, WholeQuery, TreeNode, entries, left_by, found, is_taken_up, is_dropped}
 use Rattle.overlay_tree.specs.declared.split.interval_tree.Node.{Node}
 use Rattle.overlay_tree.specs.declared.split.interval_tree.Query.{Query}
+use Rattle.std.specs.List.{list_any}
 
 abbrev pub query_of : {I : Type 0} → (I → ℤ) → Query I → WholeQuery
 query_of whole q = record { low = whole q.heights.min; high = whole q.heights.max; x = whole q.x }
@@ -19,3 +20,20 @@ node_of whole n = record { entry = entry_of whole n; greatest = greatest_of whol
 
 abbrev pub nodes_of : {I : Type 0} → (I → ℤ) → List (Node I) → List TreeNode
 nodes_of whole nodes = map (node_of whole) nodes
+
+-- the entries of nodes
+abbrev pub entries_of : {I : Type 0} → (I → ℤ) → List (Node I) → List Entry
+entries_of whole nodes = entries (nodes_of whole nodes)
+
+-- what a look-up leaves of them, what it finds among them, how many it takes up, and whether it drops one
+abbrev pub entries_left : {I : Type 0} → (I → ℤ) → Query I → List (Node I) → List Entry
+entries_left whole query nodes = map (left_by (query_of whole query)) (entries_of whole nodes)
+
+abbrev pub found_in : {I : Type 0} → (I → ℤ) → Query I → List (Node I) → List ℕ
+found_in whole query nodes = found (query_of whole query) (entries_of whole nodes)
+
+abbrev pub taken_up_in : {I : Type 0} → (I → ℤ) → Query I → List (Node I) → ℕ
+taken_up_in whole query nodes = count_by (is_taken_up (query_of whole query)) (entries_of whole nodes)
+
+abbrev pub drops_some : {I : Type 0} → (I → ℤ) → Query I → List (Node I) → Bool
+drops_some whole query nodes = list_any (is_dropped (query_of whole query)) (entries_of whole nodes)

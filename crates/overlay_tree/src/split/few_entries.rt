@@ -1,7 +1,7 @@
 // Look-ups among a few entries, one after another, where a tree would be worth less than it costs.
-ghost use Rattle.std.specs.Prelude.{◌≡◌, ◌+◌, ◌-◌, ◌^◌, ◌++◌, [], ◌∷◌, length, min, int_lt, OnOk};
-ghost use Rattle.overlay_tree.specs.steps.IntervalTree.{entries, found, is_taken_up};
-ghost use Rattle.overlay_tree.specs.steps.NodeOf.{entry_of, nodes_of, query_of};
+ghost use Rattle.std.specs.Prelude.{◌≡◌, ◌+◌, ◌-◌, ◌^◌, ◌++◌, [], ◌∷◌, length, min, OnOk};
+ghost use Rattle.overlay_tree.specs.steps.IntervalTree.{found, is_taken_up};
+ghost use Rattle.overlay_tree.specs.steps.NodeOf.{entry_of, query_of, found_in};
 
 use crate::split::interval_tree::{Node, Query, has_ended};
 use overlay_geometry::num::OverlayInt;
@@ -16,8 +16,7 @@ pub fn look_through<I: OverlayInt>(
     indexes: &mut Vec<usize>,
     looked: &mut u128,
 ) -> Result<(), AllocError>
-    ensures found { OnOk result (indexes.new.items
-        ≡ indexes.old.items ++ found (query_of I.whole query.now) (entries (nodes_of I.whole nodes.now))) }
+    ensures found { OnOk result (indexes.new.items ≡ indexes.old.items ++ found_in I.whole query.now nodes.now) }
     ensures looked { OnOk result (looked.new ≡ min (looked.old + length nodes.now) (2 ^ 128 - 1)) }
 {
     // read, so that the checker knows that the count fits its type

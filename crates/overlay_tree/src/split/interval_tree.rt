@@ -5,7 +5,8 @@ ghost use Rattle.std.specs.Prelude.{true, not, ◌&&◌, ◌||◌, IsFalse, Some
 ghost use Rattle.std.specs.List.{AllByRecursion, list_any};
 ghost use Rattle.overlay_tree.specs.steps.IntervalTree.{AreRising, IsSummed, IsAt, IsUpTo, entries, greatest_height, further};
 ghost use Rattle.overlay_tree.specs.steps.IntervalTree.{found, inserted, is_dropped, is_reached, is_taken_up, left_by, stays_at};
-ghost use Rattle.overlay_tree.specs.steps.NodeOf.{entry_of, greatest_of, node_of, nodes_of, query_of};
+ghost use Rattle.overlay_tree.specs.steps.NodeOf.{entry_of, greatest_of, nodes_of, query_of, entries_of, entries_left, found_in, taken_up_in, drops_some};
+ghost use Rattle.overlay_intersections.specs.Looked.{capped_sum};
 
 use overlay_geometry::geom::line_range::LineRange;
 use overlay_geometry::num::OverlayInt;
@@ -39,18 +40,13 @@ pub fn look_up<I: OverlayInt>(
     indexes: &mut Vec<usize>,
     looked: &mut u128,
 ) -> Result<bool, AllocError>
-    requires rising { AreRising (entries (nodes_of I.whole nodes.old)) }
+    requires rising { AreRising (entries_of I.whole nodes.old) }
     requires summed { IsSummed (nodes_of I.whole nodes.old) }
-    ensures entries { OnOk result (entries (nodes_of I.whole nodes.new)
-        ≡ map (left_by (query_of I.whole query.now)) (entries (nodes_of I.whole nodes.old))) }
+    ensures entries { OnOk result (entries_of I.whole nodes.new ≡ entries_left I.whole query.now nodes.old) }
     ensures summed { OnOk result (IsSummed (nodes_of I.whole nodes.new)) }
-    ensures found { OnOk result (indexes.new.items
-        ≡ indexes.old.items ++ found (query_of I.whole query.now) (entries (nodes_of I.whole nodes.old))) }
-    ensures looked { OnOk result (looked.new
-        ≡ min (looked.old + count_by (is_taken_up (query_of I.whole query.now))
-        (entries (nodes_of I.whole nodes.old))) (2 ^ 128 - 1)) }
-    ensures dropped { IfOk result (λ dropped. dropped
-        ≡ list_any (is_dropped (query_of I.whole query.now)) (entries (nodes_of I.whole nodes.old))) }
+    ensures found { OnOk result (indexes.new.items ≡ indexes.old.items ++ found_in I.whole query.now nodes.old) }
+    ensures looked { OnOk result (looked.new ≡ capped_sum looked.old (taken_up_in I.whole query.now nodes.old)) }
+    ensures dropped { IfOk result (λ dropped. dropped ≡ drops_some I.whole query.now nodes.old) }
 {
     // read, so that the checker knows that the count fits its type
     let _looked = *looked;
@@ -71,16 +67,11 @@ fn look_into<I: OverlayInt>(
 ) -> Result<bool, AllocError>
     requires rising { AreRising (entries (nodes_of I.whole nodes.old)) }
     requires summed { IsSummed (nodes_of I.whole nodes.old) }
-    ensures entries { OnOk result (entries (nodes_of I.whole nodes.new)
-        ≡ map (left_by (query_of I.whole query.now)) (entries (nodes_of I.whole nodes.old))) }
+    ensures entries { OnOk result (entries_of I.whole nodes.new ≡ entries_left I.whole query.now nodes.old) }
     ensures summed { OnOk result (IsSummed (nodes_of I.whole nodes.new)) }
-    ensures found { OnOk result (indexes.new.items
-        ≡ indexes.old.items ++ found (query_of I.whole query.now) (entries (nodes_of I.whole nodes.old))) }
-    ensures looked { OnOk result (looked.new
-        ≡ min (looked.old + count_by (is_taken_up (query_of I.whole query.now))
-        (entries (nodes_of I.whole nodes.old))) (2 ^ 128 - 1)) }
-    ensures dropped { IfOk result (λ dropped. dropped
-        ≡ list_any (is_dropped (query_of I.whole query.now)) (entries (nodes_of I.whole nodes.old))) }
+    ensures found { OnOk result (indexes.new.items ≡ indexes.old.items ++ found_in I.whole query.now nodes.old) }
+    ensures looked { OnOk result (looked.new ≡ capped_sum looked.old (taken_up_in I.whole query.now nodes.old)) }
+    ensures dropped { IfOk result (λ dropped. dropped ≡ drops_some I.whole query.now nodes.old) }
 {
     // read, so that the checker knows that the count fits its type
     let _looked = *looked;
@@ -167,13 +158,12 @@ pub(crate) fn has_ended<I: OverlayInt>(node: &Node<I>, x: I) -> bool
 
 /// Makes the entry of a segment live. It is found by its least height and its index, and there has to be one.
 pub fn insert<I: OverlayInt>(nodes: &mut [Node<I>], low: I, high: I, index: usize)
-    requires rising { AreRising (entries (nodes_of I.whole nodes.old)) }
+    requires rising { AreRising (entries_of I.whole nodes.old) }
     requires summed { IsSummed (nodes_of I.whole nodes.old) }
-    requires low { AllByRecursion (IsAt index (I.whole low)) (entries (nodes_of I.whole nodes.old)) }
-    requires high { AllByRecursion (IsUpTo index (I.whole high)) (entries (nodes_of I.whole nodes.old)) }
-    requires there { list_any (λ e. e.index == index) (entries (nodes_of I.whole nodes.old)) ≡ true }
-    ensures entries { entries (nodes_of I.whole nodes.new)
-        ≡ map (inserted index) (entries (nodes_of I.whole nodes.old)) }
+    requires low { AllByRecursion (IsAt index (I.whole low)) (entries_of I.whole nodes.old) }
+    requires high { AllByRecursion (IsUpTo index (I.whole high)) (entries_of I.whole nodes.old) }
+    requires there { list_any (λ e. e.index == index) (entries_of I.whole nodes.old) ≡ true }
+    ensures entries { entries_of I.whole nodes.new ≡ map (inserted index) (entries_of I.whole nodes.old) }
     ensures summed { IsSummed (nodes_of I.whole nodes.new) }
 {
     let (left, rest) = nodes.split_at_mut(nodes.len() / 2);
@@ -209,7 +199,7 @@ fn stands_before<I: OverlayInt>(low: I, index: usize, node: &Node<I>) -> bool
 
 /// Sets every greatest height, from the subtrees up.
 pub fn sum_up<I: OverlayInt>(nodes: &mut [Node<I>])
-    ensures entries { entries (nodes_of I.whole nodes.new) ≡ entries (nodes_of I.whole nodes.old) }
+    ensures entries { entries_of I.whole nodes.new ≡ entries_of I.whole nodes.old }
     ensures summed { IsSummed (nodes_of I.whole nodes.new) }
 {
     let (left, rest) = nodes.split_at_mut(nodes.len() / 2);

@@ -1,16 +1,16 @@
 // The finder that compares every pair of segments of a list. Upstream: `split::solver_list`.
-ghost use Rattle.std.specs.Prelude.{◌≡◌, ◌<◌, ◌+◌, ◌-◌, ◌^◌, min, count_by, ◌++◌, All, IfErr, IfOk, OnOk, IsSortedByKey, drop, length};
+ghost use Rattle.std.specs.Prelude.{◌≡◌, ◌<◌, ◌+◌, ◌-◌, ◌^◌, min, count_by, ◌++◌, IfErr, IfOk, OnOk, IsSortedByKey, drop, length};
 ghost use Rattle.overlay_base.specs.declared.segm.fault.Fault.TheVariants.{Memory};
 ghost use Rattle.overlay_geometry.specs.Points.{pair_cmp};
 ghost use Rattle.overlay_base.specs.Segments.{pairs};
-ghost use Rattle.overlay_base.specs.SegmentOf.{ends_of, segments_of, x_segment_of};
-ghost use Rattle.overlay_geometry.specs.InRange.{IsPairInRange};
+ghost use Rattle.overlay_base.specs.SegmentOf.{ends_of, segments_of, pairs_in};
 ghost use Rattle.overlay_intersections.specs.PassMarks.{is_rounded};
 ghost use Rattle.overlay_intersections.specs.PlacingOf.{placing_of, HasRadius};
-ghost use Rattle.overlay_intersections.specs.MarkOf.{AreMarks, marks_of};
-ghost use Rattle.overlay_intersections.specs.Looked.{count_twos, x_ranges_meet};
+ghost use Rattle.overlay_intersections.specs.MarkOf.{marks_of, AreMarksOf};
+ghost use Rattle.overlay_intersections.specs.Looked.{count_twos, x_ranges_meet, capped_sum};
 ghost use Rattle.overlay_tree.specs.steps.Swept.{pair_at};
 ghost use Rattle.overlay_intersections.specs.MarksBetween.{marks_of_first, first_crosses_inexactly};
+ghost use Rattle.overlay_base.specs.ArrangedOf.{AreInRange};
 
 use overlay_base::segm::fault::Fault;
 use overlay_base::segm::segment::Segment;
@@ -37,13 +37,12 @@ pub fn find_marks<C: WindingCount, I: OverlayInt, D: Copy>(
     looked: &mut u128,
 ) -> Result<bool, Fault>
     requires sorted { IsSortedByKey ends_of pair_cmp segments.now }
-    requires in_range { All (λ s. IsPairInRange I.whole I.MIN_COORD I.MAX_COORD (x_segment_of s)) segments.now }
+    requires in_range { AreInRange segments.now }
     requires radius { HasRadius placing }
-    ensures marks { OnOk result (AreMarks (placing_of placing) (segments_of segments.now)
-        (marks_of I.whole marks.new.items)) }
+    ensures marks { OnOk result (AreMarksOf placing segments.now marks.new.items) }
     ensures rounded { IfOk result (λ rounded. rounded ≡ is_rounded (segments_of segments.now)) }
-    ensures looked { OnOk result (looked.new
-        ≡ min (looked.old + count_twos x_ranges_meet (pairs (segments_of segments.now))) (2 ^ 128 - 1)) }
+    ensures looked { OnOk result (looked.new ≡ capped_sum looked.old (count_twos x_ranges_meet (pairs_in
+        segments.now))) }
     ensures fault { IfErr result (λ fault. fault ≡ Memory) }
 {
     // read, so that the checker knows that the count fits its type
@@ -71,7 +70,7 @@ fn mark_with_later<C: WindingCount, I: OverlayInt, D: Copy>(
 ) -> Result<bool, AllocError>
     requires index { index < length segments.now }
     requires sorted { IsSortedByKey ends_of pair_cmp segments.now }
-    requires in_range { All (λ s. IsPairInRange I.whole I.MIN_COORD I.MAX_COORD (x_segment_of s)) segments.now }
+    requires in_range { AreInRange segments.now }
     requires radius { HasRadius placing }
     ensures marks { OnOk result (marks_of I.whole marks.new.items ≡ marks_of I.whole marks.old.items
         ++ marks_of_first (placing_of placing) index (drop index (pairs (segments_of segments.now)))) }

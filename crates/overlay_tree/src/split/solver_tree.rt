@@ -1,21 +1,21 @@
 // The finder that looks segments up in a tree over their heights. Upstream: `split::solver_tree`, whose tree is
 // another.
-ghost use Rattle.std.specs.Prelude.{◌≡◌, ◌≢◌, ℕ, ◌<◌, ◌≤◌, ◌+◌, ◌-◌, ◌^◌, min, ◌++◌, [], ◌∷◌, All, true, None, IfErr, IfOk, OnOk, IfSome, OnSome, IsSome, IsTrue, IsFalse, IsSortedByKey, IsPermutation, length, map, filter, ◌==◌};
+ghost use Rattle.std.specs.Prelude.{◌≡◌, ℕ, ◌<◌, ◌≤◌, ◌+◌, ◌-◌, ◌^◌, min, ◌++◌, All, true, None, IfErr, IfOk, OnOk, IfSome, OnSome, IsSome, IsSortedByKey, IsPermutation, length, map, filter, ◌==◌};
 ghost use Rattle.overlay_base.specs.declared.segm.fault.Fault.TheVariants.{Memory};
 ghost use Rattle.overlay_geometry.specs.Points.{pair_cmp};
 ghost use Rattle.overlay_base.specs.Segments.{pairs};
 ghost use Rattle.overlay_geometry.specs.PairOf.{pair_of};
-ghost use Rattle.overlay_base.specs.SegmentOf.{ends_of, segments_of, x_segment_of};
-ghost use Rattle.overlay_geometry.specs.InRange.{IsPairInRange};
+ghost use Rattle.overlay_base.specs.SegmentOf.{ends_of, segments_of, pairs_in};
 ghost use Rattle.overlay_intersections.specs.PassMarks.{is_rounded};
 ghost use Rattle.overlay_intersections.specs.PlacingOf.{placing_of, HasRadius};
-ghost use Rattle.overlay_intersections.specs.MarkOf.{AreMarks, marks_of};
+ghost use Rattle.overlay_intersections.specs.MarkOf.{AreMarks, marks_of, AreMarksOf};
 ghost use Rattle.overlay_tree.specs.steps.IntervalTree.{AreRising, IsSummed, entries, stays_at};
 ghost use Rattle.overlay_tree.specs.steps.NodeOf.{nodes_of, node_of, entry_of};
-ghost use Rattle.overlay_intersections.specs.Looked.{boxes_meet, count_twos, tree_looks};
+ghost use Rattle.overlay_intersections.specs.Looked.{boxes_meet, count_twos, tree_looks, capped_sum};
 ghost use Rattle.overlay_tree.specs.steps.TreeSweep.{IsUnderWay, GoesOn, AreFoundBefore};
 ghost use Rattle.overlay_tree.specs.steps.Swept.{alone, few, entry_at, entry_of_pair, entries_between, pair_at, marks_with_found, crosses_found};
 ghost use Rattle.std.specs.List.{IsDistinct, range_with_len};
+ghost use Rattle.overlay_base.specs.ArrangedOf.{AreInRange};
 
 use crate::split::few_entries::look_through;
 use crate::split::interval_tree::{Node, Query, insert, look_up, stays, sum_up};
@@ -67,14 +67,13 @@ pub fn find_marks<C: WindingCount, I: OverlayInt, D: Copy>(
     looked: &mut u128,
 ) -> Result<bool, Fault>
     requires sorted { IsSortedByKey ends_of pair_cmp segments.now }
-    requires in_range { All (λ s. IsPairInRange I.whole I.MIN_COORD I.MAX_COORD (x_segment_of s)) segments.now }
+    requires in_range { AreInRange segments.now }
     requires radius { HasRadius placing }
-    ensures marks { OnOk result (AreMarks (placing_of placing) (segments_of segments.now)
-        (marks_of I.whole marks.new.items)) }
+    ensures marks { OnOk result (AreMarksOf placing segments.now marks.new.items) }
     ensures rounded { IfOk result (λ rounded. rounded ≡ is_rounded (segments_of segments.now)) }
     ensures looked { OnOk result (looked.new ≤ looked.old + tree_looks (pairs (segments_of segments.now))) }
-    ensures each_looked { OnOk result
-        (min (looked.old + count_twos boxes_meet (pairs (segments_of segments.now))) (2 ^ 128 - 1) ≤ looked.new) }
+    ensures each_looked { OnOk result (capped_sum looked.old (count_twos boxes_meet (pairs_in segments.now)) ≤
+        looked.new) }
     ensures fault { IfErr result (λ fault. fault ≡ Memory) }
 {
     let found = find_marks_up_to(segments, placing, None, buffers, marks, looked)?;
@@ -92,7 +91,7 @@ pub(crate) fn find_marks_up_to<C: WindingCount, I: OverlayInt, D: Copy>(
     looked: &mut u128,
 ) -> Result<Option<bool>, Fault>
     requires sorted { IsSortedByKey ends_of pair_cmp segments.now }
-    requires in_range { All (λ s. IsPairInRange I.whole I.MIN_COORD I.MAX_COORD (x_segment_of s)) segments.now }
+    requires in_range { AreInRange segments.now }
     requires radius { HasRadius placing }
     requires limit { IfSome limit (λ most. looked.old ≤ most) }
     ensures marks { IfOk result (λ found. OnSome found
@@ -343,7 +342,7 @@ pub(crate) fn mark_with_found<C: WindingCount, I: OverlayInt, D: Copy>(
     requires index { index < length segments.now }
     requires found { All (λ earlier. earlier < index) found.now }
     requires sorted { IsSortedByKey ends_of pair_cmp segments.now }
-    requires in_range { All (λ s. IsPairInRange I.whole I.MIN_COORD I.MAX_COORD (x_segment_of s)) segments.now }
+    requires in_range { AreInRange segments.now }
     requires radius { HasRadius placing }
     ensures marks { OnOk result (marks_of I.whole marks.new.items ≡ marks_of I.whole marks.old.items
         ++ marks_with_found (placing_of placing) (pairs (segments_of segments.now)) index found.now) }

@@ -1,12 +1,12 @@
 // The finder over a tree that gives up where it would compare too many pairs.
-ghost use Rattle.std.specs.Prelude.{◌≡◌, ◌≤◌, ◌+◌, All, IfErr, IfOk, OnOk, IfSome, OnSome, IsSortedByKey};
+ghost use Rattle.std.specs.Prelude.{◌≡◌, ◌≤◌, ◌+◌, IfErr, IfOk, OnOk, IfSome, OnSome, IsSortedByKey};
 ghost use Rattle.overlay_base.specs.declared.segm.fault.Fault.TheVariants.{Memory};
 ghost use Rattle.overlay_geometry.specs.Points.{pair_cmp};
-ghost use Rattle.overlay_base.specs.SegmentOf.{ends_of, segments_of, x_segment_of};
-ghost use Rattle.overlay_geometry.specs.InRange.{IsPairInRange};
+ghost use Rattle.overlay_base.specs.SegmentOf.{ends_of, segments_of};
 ghost use Rattle.overlay_intersections.specs.PassMarks.{is_rounded};
-ghost use Rattle.overlay_intersections.specs.PlacingOf.{placing_of, HasRadius};
-ghost use Rattle.overlay_intersections.specs.MarkOf.{AreMarks, marks_of};
+ghost use Rattle.overlay_intersections.specs.PlacingOf.{HasRadius};
+ghost use Rattle.overlay_intersections.specs.MarkOf.{AreMarksOf};
+ghost use Rattle.overlay_base.specs.ArrangedOf.{AreInRange};
 
 use crate::split::solver_tree::{TreeBuffers, find_marks_up_to};
 use overlay_base::segm::fault::Fault;
@@ -30,10 +30,9 @@ pub fn find_marks_within<C: WindingCount, I: OverlayInt, D: Copy>(
     looked: &mut u128,
 ) -> Result<Option<bool>, Fault>
     requires sorted { IsSortedByKey ends_of pair_cmp segments.now }
-    requires in_range { All (λ s. IsPairInRange I.whole I.MIN_COORD I.MAX_COORD (x_segment_of s)) segments.now }
+    requires in_range { AreInRange segments.now }
     requires radius { HasRadius placing }
-    ensures marks { IfOk result (λ found. OnSome found
-        (AreMarks (placing_of placing) (segments_of segments.now) (marks_of I.whole marks.new.items))) }
+    ensures marks { IfOk result (λ found. OnSome found (AreMarksOf placing segments.now marks.new.items)) }
     ensures rounded { IfOk result (λ found. IfSome found (λ rounded. rounded ≡ is_rounded (segments_of segments.now))) }
     ensures looked { OnOk result (looked.new ≤ looked.old + most) }
     ensures fault { IfErr result (λ fault. fault ≡ Memory) }

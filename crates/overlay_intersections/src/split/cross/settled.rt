@@ -1,14 +1,14 @@
 // The answer that settles two segments that cross, without a radius: at the settling point, which may be an end of one
 // of them. This project's own; upstream only snaps.
-ghost use Rattle.std.specs.Prelude.{◌≡◌, IsTrue, Some};
+ghost use Rattle.std.specs.Prelude.{◌≡◌, IsTrue};
 ghost use Rattle.overlay_geometry.specs.Points.{is_end};
 ghost use Rattle.overlay_geometry.specs.Meeting.{do_cross};
 ghost use Rattle.overlay_geometry.specs.PointOf.{point_of};
 ghost use Rattle.overlay_geometry.specs.PairOf.{pair_of};
 ghost use Rattle.overlay_geometry.specs.InRange.{IsPairInRange};
 ghost use Rattle.overlay_intersections.specs.Marks.{settling};
-ghost use Rattle.overlay_intersections.specs.CrossAnswer.{crossing_answer, kind_of_point};
-ghost use Rattle.overlay_intersections.specs.AnswerOf.{kind_of, result_of};
+ghost use Rattle.overlay_intersections.specs.CrossAnswer.{kind_of_point};
+ghost use Rattle.overlay_intersections.specs.AnswerOf.{kind_of, IsCrossingAnswer};
 
 use crate::split::cross::crossing_point::{is_on_lines, settling_point};
 use crate::split::cross::result::{CrossResult, CrossType};
@@ -21,8 +21,7 @@ pub fn settled<I: OverlayInt>(target: &XSegment<I>, other: &XSegment<I>) -> Cros
     requires target { IsPairInRange I.whole I.MIN_COORD I.MAX_COORD target.now }
     requires other { IsPairInRange I.whole I.MIN_COORD I.MAX_COORD other.now }
     requires crossing { IsTrue (do_cross (pair_of I.whole target.now) (pair_of I.whole other.now)) }
-    ensures { crossing_answer settling (pair_of I.whole target.now) (pair_of I.whole other.now)
-        ≡ Some (result_of I.whole result) }
+    ensures { IsCrossingAnswer I.whole settling target.now other.now result }
 {
     let point = settling_point(target, other);
     CrossResult {

@@ -8,7 +8,7 @@ ghost use Rattle.overlay_geometry.specs.InRange.{IsPointInRange, IsPairInRange};
 ghost use Rattle.overlay_intersections.specs.Crossing.{snapping_point, is_on_lines};
 ghost use Rattle.overlay_intersections.specs.Marks.{snapping};
 ghost use Rattle.overlay_intersections.specs.CrossAnswer.{crossing_answer};
-ghost use Rattle.overlay_intersections.specs.AnswerOf.{result_of};
+ghost use Rattle.overlay_intersections.specs.AnswerOf.{result_of, IsCrossingAnswer};
 ghost use Rattle.overlay_intersections.specs.steps.NearerEnd.{IsNearerEnd};
 
 use crate::split::cross::crossing_point::{is_on_lines, snapping_point};
@@ -34,8 +34,7 @@ pub fn snapped<I: OverlayInt>(
     requires other { IsPairInRange I.whole I.MIN_COORD I.MAX_COORD other.now }
     requires crossing { IsTrue (do_cross (pair_of I.whole target.now) (pair_of I.whole other.now)) }
     requires radius { pos 0 ≤ℤ radius_squared }
-    ensures { crossing_answer (snapping (unsigned_abs radius_squared)) (pair_of I.whole target.now)
-        (pair_of I.whole other.now) ≡ Some (result_of I.whole result) }
+    ensures { IsCrossingAnswer I.whole (snapping (unsigned_abs radius_squared)) target.now other.now result }
 {
     let point = snapping_point(target, other);
     if is_on_lines(target, other, point) {

@@ -1,0 +1,76 @@
+-- What the steps of a build make of links of code.
+use Rattle.std.specs.Prelude.{◌≡◌, ◌≢◌, ℕ, ◌-◌, ◌<◌, ◌≤◌, ℤ, Bool, if◌then◌else◌, List, ◌++◌, Vec, map, filter, take, drop, length, slice_index_or}
+use Rattle.std.specs.Global.{Global}
+use Rattle.overlay_geometry.specs.Points.{Point, point_cmp}
+use Rattle.overlay_geometry.specs.PointOf.{point_of}
+use Rattle.overlay_geometry.specs.Sorting.{stably_sorted}
+use Rattle.overlay_geometry.specs.declared.geom.end.End.{End}
+use Rattle.overlay_geometry.specs.declared.geom.point.IntPoint.{IntPoint}
+use Rattle.overlay_base.specs.Rules.{holds, keeps_fill}
+use Rattle.overlay_base.specs.SegmentOf.{segments_of, data_segments_of}
+use Rattle.overlay_base.specs.declared.overlay_core.extract.VisitState.{VisitState}
+use Rattle.overlay_base.specs.declared.overlay_core.extract.VisitState.TheVariants.{Unvisited, Skipped}
+use Rattle.overlay_base.specs.declared.overlay_core.fill_rule.FillRule.{FillRule}
+use Rattle.overlay_base.specs.declared.overlay_core.link.OverlayLink.{OverlayLink}
+use Rattle.overlay_base.specs.declared.overlay_core.overlay_rule.OverlayRule.{OverlayRule}
+use Rattle.overlay_base.specs.declared.segm.segment.Segment.{Segment}
+use Rattle.overlay_build.specs.Graph.{filled, fills_of, data_by}
+use Rattle.overlay_build.specs.GraphOf.{HoldGraph, graph_with, kept_of, pairs_of_links, names_node, with_node}
+use Rattle.overlay_build.specs.declared.build.kept_links.LinkRule.{LinkRule}
+use Rattle.overlay_build.specs.steps.EndOf.{WholeEnd, ends_of}
+use Rattle.overlay_build.specs.steps.LinkEnds.{numbered_starts, numbered_ends}
+use Rattle.overlay_build.specs.steps.LinkRules.{keeps_by}
+
+-- ---- kept links
+
+-- Where the fills are those of the segments under some fill rule, the links are the segments that a rule keeps, and have their data.
+abbrev pub AreKept : {C I D : Type 0} {m : _} {w : _} {o : _} {e : _} {p : _} → LinkRule → List (Segment C I D m w o e p) → List ℕ → List (OverlayLink I D) → Type 0
+AreKept {w = w} rule list fills links =
+    (fill_rule : FillRule) → fills ≡ fills_of fill_rule (segments_of list) → kept_of w.whole links ≡ filter (λ f. keeps_by rule f.fill) (filled fill_rule (segments_of list))
+
+abbrev pub HaveKeptData : {C I D : Type 0} {m : _} {w : _} {o : _} {e : _} {p : _} → LinkRule → List (Segment C I D m w o e p) → List ℕ → List (OverlayLink I D) → Type 0
+HaveKeptData rule list fills links =
+    (fill_rule : FillRule) → fills ≡ fills_of fill_rule (segments_of list) → map (λ l. l.edge_data) links ≡ data_by (keeps_by rule) fill_rule (data_segments_of list)
+
+-- the state of a link: unvisited where a rule keeps its fill, and else skipped
+abbrev pub state_by : {I D : Type 0} → OverlayRule → OverlayLink I D → VisitState
+state_by rule l = if keeps_fill (holds rule) l.fill then Unvisited else Skipped
+
+-- ---- nodes
+
+-- The links with their nodes are the graph of the links before.
+abbrev pub ConnectLinks : {N I D : Type 0} → (N → List ℕ) → (N → Bool) → (I → ℤ) → Vec (OverlayLink I D) Global → Vec (OverlayLink I D) Global → Vec N Global → Type 0
+ConnectLinks indexes is_canonical whole old new nodes = HoldGraph indexes is_canonical whole nodes.items new.items (graph_with whole old.items)
+
+-- both ends of links, with the indexes of the links
+abbrev pub link_ends : {I D : Type 0} → (I → ℤ) → List (OverlayLink I D) → List WholeEnd
+link_ends whole links = numbered_starts (pairs_of_links whole links) ++ numbered_ends (pairs_of_links whole links)
+
+-- ends in order of their points
+abbrev pub by_point : List WholeEnd → List WholeEnd
+by_point ends = stably_sorted (λ e f. point_cmp e.point f.point) ends
+
+-- the point of the end at a place
+abbrev pub point_at : {I : Type 0} → (I → ℤ) → List (End I) → ℕ → WholeEnd → Point
+point_at whole ends k d = (slice_index_or (ends_of whole ends) k d).point
+
+-- The ends from a place up to another lie at one point; the one there, if any, lies elsewhere.
+abbrev pub LieTogether : {I : Type 0} → (I → ℤ) → List (End I) → ℕ → ℕ → Type 0
+LieTogether whole ends from next = (k : ℕ) (d : WholeEnd) → from ≤ k → k < next → point_at whole ends k d ≡ point_at whole ends from d
+
+abbrev pub LiesElsewhere : {I : Type 0} → (I → ℤ) → List (End I) → ℕ → ℕ → Type 0
+LiesElsewhere whole ends from next = (d : WholeEnd) → next < length ends → point_at whole ends next d ≢ point_at whole ends from d
+
+-- the indexes of the links of those ends
+abbrev pub indexes_between : {I : Type 0} → (I → ℤ) → List (End I) → ℕ → ℕ → List ℕ
+indexes_between whole ends from next = map (λ e. e.index) (take (next - from) (drop from (ends_of whole ends)))
+
+-- The links at some indexes have the number of the node at a point, and the others are as they were.
+abbrev pub NumbersEnds : {I D : Type 0} → (I → ℤ) → List ℕ → IntPoint I → ℕ → List (OverlayLink I D) → List (OverlayLink I D) → Type 0
+NumbersEnds {I = I} {D = D} whole indexes point id old new =
+    (k : ℕ) (d : OverlayLink I D) → k < length old →
+    slice_index_or new k d ≡ (if names_node k indexes then with_node whole (point_of whole point) id (slice_index_or old k d) else slice_index_or old k d)
+
+-- Points of code in rising order.
+abbrev pub HasPointsInOrder : {I : Type 0} → (I → ℤ) → List (IntPoint I) → List (IntPoint I) → Type 0
+HasPointsInOrder whole points list = map (point_of whole) list ≡ stably_sorted point_cmp (map (point_of whole) points)

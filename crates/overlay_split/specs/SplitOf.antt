@@ -1,0 +1,108 @@
+-- What a call of the splitter leaves, told of its solver, of the splitter before and after, and of the list before and
+-- after. The type of the list says how its coordinates are read, and of how many bits they are.
+use Rattle.std.specs.Prelude.{◌≡◌, ℕ, Bool, false, IsTrue, List, Option, Result, OnOk, Vec}
+use Rattle.std.specs.List.{list_all}
+use Rattle.std.specs.Global.{Global}
+use Rattle.overlay_geometry.specs.Points.{Pair}
+use Rattle.overlay_base.specs.HooksOf.{hooks_of}
+use Rattle.overlay_base.specs.SegmentOf.{segments_of, data_segments_of, KeepsSegments}
+use Rattle.overlay_base.specs.declared.overlay_core.edge_data.OverlayEdgeData.{Ghosts}
+use Rattle.overlay_base.specs.declared.overlay_core.solver.Solver.{Solver}
+use Rattle.overlay_base.specs.declared.segm.fault.Fault.{Fault}
+use Rattle.overlay_base.specs.declared.segm.segment.Segment.{Segment}
+use Rattle.overlay_grid.specs.Grid.{Layout}
+use Rattle.overlay_split.specs.DataPass.{data_after_passes, IsDataAfter, IsStoppedRun}
+use Rattle.overlay_split.specs.ExactInput.{is_exact_input, KeepsCounts}
+use Rattle.overlay_split.specs.Laws.{HooksKeep, HooksNameNoOther, NameNear}
+use Rattle.overlay_split.specs.Nearness.{StaysNear, LieInGivenBox, reach_of_run}
+use Rattle.overlay_split.specs.Places.{KeepsWinding}
+use Rattle.overlay_split.specs.Potential.{IsPassBound}
+use Rattle.overlay_split.specs.Run.{Settings, IsRun, LeavesRange}
+use Rattle.overlay_split.specs.RunLooks.{AreRunLooks}
+use Rattle.overlay_split.specs.SettingsOf.{settings_of, passes_of, looked_of}
+use Rattle.overlay_split.specs.declared.split.solver.SplitSolver.{SplitSolver}
+
+-- the settings of a run over a list
+abbrev pub settings_over : {C I D : Type 0} {m : _} {w : _} {o : _} {e : _} {p : _} → Solver → SplitSolver I → Vec (Segment C I D m w o e p) Global → Settings
+settings_over {w = w} solver splitter given = settings_of w.BITS solver splitter
+
+-- ---- the segments
+
+-- The list, and the flag, are what the run answers.
+abbrev pub IsRunOver : {C I D : Type 0} {m : _} {w : _} {o : _} {e : _} {p : _} → Solver → SplitSolver I → SplitSolver I → Vec (Segment C I D m w o e p) Global → Vec (Segment C I D m w o e p) Global → Bool → Type 0
+IsRunOver solver before after given list flag =
+    IsRun (settings_over solver before given) (segments_of given.items) (segments_of list.items) (passes_of after) flag
+
+-- The list lies near what is given, and winds as it does where that is far.
+abbrev pub LiesNearGiven : {C I D : Type 0} {m : _} {w : _} {o : _} {e : _} {p : _} → Solver → SplitSolver I → SplitSolver I → Vec (Segment C I D m w o e p) Global → Vec (Segment C I D m w o e p) Global → Type 0
+LiesNearGiven solver before after given list =
+    StaysNear (settings_over solver before given) (segments_of given.items) (segments_of list.items) (passes_of after)
+
+abbrev pub WindsAsGiven : {C I D : Type 0} {m : _} {w : _} {o : _} {e : _} {p : _} → Solver → SplitSolver I → SplitSolver I → Vec (Segment C I D m w o e p) Global → Vec (Segment C I D m w o e p) Global → Type 0
+WindsAsGiven solver before after given list =
+    KeepsWinding (settings_over solver before given) (segments_of given.items) (segments_of list.items) (passes_of after)
+
+-- It lies in the box of what is given.
+abbrev pub LiesInBox : {C I D : Type 0} {m : _} {w : _} {o : _} {e : _} {p : _} → Vec (Segment C I D m w o e p) Global → Vec (Segment C I D m w o e p) Global → Type 0
+LiesInBox given list = LieInGivenBox (segments_of given.items) (segments_of list.items)
+
+-- No two of the given segments cross at a point that is not exact; the list has the counts of what is given.
+abbrev pub IsExact : {C I D : Type 0} {m : _} {w : _} {o : _} {e : _} {p : _} → Vec (Segment C I D m w o e p) Global → Type 0
+IsExact given = IsTrue (is_exact_input (segments_of given.items))
+
+abbrev pub HasGivenCounts : {C I D : Type 0} {m : _} {w : _} {o : _} {e : _} {p : _} → Vec (Segment C I D m w o e p) Global → Vec (Segment C I D m w o e p) Global → Type 0
+HasGivenCounts given list = KeepsCounts (segments_of given.items) (segments_of list.items)
+
+-- The run makes no more passes than it may, and takes up no more pairs.
+abbrev pub PassesAreBounded : {C I D : Type 0} {m : _} {w : _} {o : _} {e : _} {p : _} → Solver → SplitSolver I → SplitSolver I → Vec (Segment C I D m w o e p) Global → Type 0
+PassesAreBounded solver before after given = IsPassBound (settings_over solver before given) (segments_of given.items) (passes_of after)
+
+abbrev pub LooksAreBounded : {C I D : Type 0} {m : _} {w : _} {o : _} {e : _} {p : _} → Solver → SplitSolver I → SplitSolver I → Vec (Segment C I D m w o e p) Global → Type 0
+LooksAreBounded solver before after given =
+    (grid : Option Layout) × AreRunLooks solver.strategy (settings_over solver before given) (segments_of given.items) grid (passes_of after) (looked_of after)
+
+-- A sum of the run is too large.
+abbrev pub SumsLeaveRange : {C I D : Type 0} {m : _} {w : _} {o : _} {e : _} {p : _} → Solver → SplitSolver I → Vec (Segment C I D m w o e p) Global → Type 0
+SumsLeaveRange solver before given = LeavesRange (settings_over solver before given) (segments_of given.items)
+
+-- Nothing changes: no segment is joined or split; and the store stays, too.
+abbrev pub ChangesNothing : {C I D : Type 0} {m : _} {w : _} {o : _} {e : _} {p : _} → Vec (Segment C I D m w o e p) Global → Vec (Segment C I D m w o e p) Global → Bool → Type 0
+ChangesNothing given list flag = (flag ≡ false) × KeepsSegments given list
+
+abbrev pub ChangesNoStore : {C I D S : Type 0} {m : _} {w : _} {o : _} {e : _} {p : _} → Vec (Segment C I D m w o e p) Global → Vec (Segment C I D m w o e p) Global → S → S → Bool → Type 0
+ChangesNoStore given list store left flag = (flag ≡ false) × KeepsSegments given list × (left ≡ store)
+
+-- ---- the data
+
+-- If the call succeeds, the list has the data that the run makes of what is given with a store.
+abbrev pub GivesRunData : {C I D S O : Type 0} {m : _} {w : _} {o : _} {e : _} {p : _} → Ghosts D C S → Solver → SplitSolver I → SplitSolver I → Vec (Segment C I D m w o e p) Global → S → Vec (Segment C I D m w o e p) Global → Result O Fault → Type 0
+GivesRunData {m = m} hooks solver before after given store list result =
+    OnOk result (data_segments_of list.items ≡ (data_after_passes (hooks_of m.counted hooks) (settings_over solver before given) (data_segments_of given.items) store (passes_of after)).0)
+
+-- If the call succeeds, the store is what that run leaves of another.
+abbrev pub LeavesRunStore : {C I D S O : Type 0} {m : _} {w : _} {o : _} {e : _} {p : _} → Ghosts D C S → Solver → SplitSolver I → SplitSolver I → Vec (Segment C I D m w o e p) Global → S → S → Result O Fault → Type 0
+LeavesRunStore {m = m} hooks solver before after given store left result =
+    OnOk result (left ≡ (data_after_passes (hooks_of m.counted hooks) (settings_over solver before given) (data_segments_of given.items) store (passes_of after)).1)
+
+-- If the call succeeds, the list has the data that the run makes with some store that is a first one.
+abbrev pub GivesData : {C I D S O : Type 0} {m : _} {w : _} {o : _} {e : _} {p : _} → Ghosts D C S → (S → Type 0) → Solver → SplitSolver I → SplitSolver I → Vec (Segment C I D m w o e p) Global → Vec (Segment C I D m w o e p) Global → Result O Fault → Type 0
+GivesData {m = m} hooks IsFirst solver before after given list result =
+    OnOk result (IsDataAfter (hooks_of m.counted hooks) IsFirst (settings_over solver before given) (data_segments_of given.items) (data_segments_of list.items) (passes_of after))
+
+-- The run was refused, and left that store.
+abbrev pub StopsRun : {C I D S : Type 0} {m : _} {w : _} {o : _} {e : _} {p : _} → Ghosts D C S → Solver → SplitSolver I → Vec (Segment C I D m w o e p) Global → S → S → Type 0
+StopsRun {m = m} hooks solver before given store left =
+    IsStoppedRun (hooks_of m.counted hooks) (settings_over solver before given) (data_segments_of given.items) store left
+
+-- Whatever the hooks keep, and all given data has: if the call succeeds, all data of the list has it.
+abbrev pub KeepsWhatHolds : {C I D S O : Type 0} {m : _} {w : _} {o : _} {e : _} {p : _} → Ghosts D C S → Vec (Segment C I D m w o e p) Global → Vec (Segment C I D m w o e p) Global → Result O Fault → Type 0
+KeepsWhatHolds {D = D} {m = m} hooks given list result =
+    (has : D → Bool) → HooksKeep (hooks_of m.counted hooks) has → IsTrue (list_all (λ s. has s.edge_data) (data_segments_of given.items)) →
+    OnOk result (IsTrue (list_all (λ s. has s.edge_data) (data_segments_of list.items)))
+
+-- Where each given segment lies on what its data names, and the hooks name no others: if the call succeeds, each segment
+-- of the list lies as near to all that its data names as the passes reach.
+abbrev pub LiesNearNamed : {C I D S O : Type 0} {m : _} {w : _} {o : _} {e : _} {p : _} → Ghosts D C S → Solver → SplitSolver I → SplitSolver I → Vec (Segment C I D m w o e p) Global → Vec (Segment C I D m w o e p) Global → Result O Fault → Type 0
+LiesNearNamed {D = D} {m = m} hooks solver before after given list result =
+    (names : D → Pair → Bool) → HooksNameNoOther (hooks_of m.counted hooks) names → NameNear names 0 (data_segments_of given.items) →
+    OnOk result (NameNear names (reach_of_run (settings_over solver before given) (segments_of given.items) (passes_of after)) (data_segments_of list.items))
