@@ -115,6 +115,11 @@ pub struct Engine {
     handle: Handle,
 }
 
+// SAFETY: `Send` is proved of the handle, by `crates/overlay_c/proofs/handle/Handle/TheSendSync/Send.antt`: what it owns is
+// the same to every thread. Each call takes `&mut self`, so a handle is in one call at a time, and what hands an engine to
+// another thread orders the calls before it and after.
+unsafe impl Send for Engine {}
+
 impl Engine {
     /// An engine that snaps in that many passes. `None` where a growth was refused.
     pub fn new(snap_limit: u32) -> Option<Engine> {

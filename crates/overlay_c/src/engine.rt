@@ -195,6 +195,7 @@ impl Engine {
         ensures unusable { IfErr result (λ refusal. refusal ≡ NotSplittable → IsFalse (are_usable given.now)) }
         ensures too_large { IfErr result (λ refusal. refusal ≡ Refused CountOutOfRange
             → IsTrue (join_leaves_range (given_by given.now))) }
+        ensures emptied { OnErr result (self.new.segments.items ≡ []) }
         ensures splitter { self.new.splitter ≡ self.old.splitter }
         ensures contours { self.new.polygons ≡ self.old.polygons }
     {

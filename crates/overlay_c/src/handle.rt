@@ -23,6 +23,9 @@ impl Model for Handle {
     ghost also_owns = { λ h. held the_row h.alloc h.at h.engine };
 }
 
+// It owns an engine alone, which has nothing of its thread.
+unsafe impl Send for Handle {}
+
 /// Takes the engine out.
 pub(crate) fn take(alloc: Global, handle: &mut Handle) -> Box<Engine>
     requires { IsSome handle.old.engine }

@@ -162,6 +162,7 @@ pub extern "C" fn overlay_c_join(alloc: Global, handle: &mut Handle, given: &[Se
     ensures usable { result ≡ 0 → IsTrue (are_usable given.now) }
     ensures unusable { result ≡ 3 → IsFalse (are_usable given.now) }
     ensures too_large { result ≡ 2 → IsTrue (join_leaves_range (given_by given.now)) }
+    ensures emptied { result ≢ 0 → IfSome handle.new.engine (λ engine. engine.segments.items ≡ []) }
     ensures contours { IfSome handle.old.engine (λ before. IfSome handle.new.engine
         (λ after. after.polygons ≡ before.polygons)) }
 {
