@@ -116,8 +116,8 @@ pub struct Engine {
 }
 
 // SAFETY: `Send` is proved of the handle, by `crates/overlay_c/proofs/handle/Handle/TheSendSync/Send.antt`: what it owns is
-// the same to every thread. Each call takes `&mut self`, so a handle is in one call at a time, and what hands an engine to
-// another thread orders the calls before it and after.
+// the same to every thread, so it may go to another one, for one call at a time. Each call takes `&mut self`, and in safe
+// Rust what one thread did with an engine happens before what the next one does.
 unsafe impl Send for Engine {}
 
 impl Engine {

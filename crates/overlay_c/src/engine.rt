@@ -187,7 +187,7 @@ impl Engine {
         Ok(())
     }
 
-    /// Joins the segments on each pair of ends, and keeps them.
+    /// Joins the segments on each pair of ends, and keeps them. After a refusal it keeps none.
     pub fn join(&mut self, given: &[SegmentRecord]) -> Result<(), Refusal>
         ensures joined { OnOk result (segments_of self.new.segments.items ≡ join (given_by given.now)) }
         ensures repeated { OnOk result (self.new.has_changed ≡ has_equal_pairs (given_by given.now)) }

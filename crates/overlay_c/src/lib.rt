@@ -150,7 +150,7 @@ pub extern "C" fn overlay_c_all(
     status(outcome)
 }
 
-/// The join of the segments that records ask for. Answers as `overlay_c_overlay` does.
+/// The join of the segments that records ask for. Answers as `overlay_c_overlay` does. After a refusal the list is empty.
 #[unsafe(no_mangle)]
 pub extern "C" fn overlay_c_join(alloc: Global, handle: &mut Handle, given: &[SegmentRecord]) -> u8
     requires { IsSome handle.old.engine }
