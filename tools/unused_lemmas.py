@@ -2,9 +2,9 @@
 """Lists the lemmas that no proof rests on, and exits with 1 if there is one, with 0 if there is none.
 
 A lemma is a top-level name of a file in crates/*/proofs, also one in a `module _ (..) where`. The files that answer
-for functions (Answers, Invariants, Proof) and the worked examples (proofs/examples) declare none: they cite.
-A lemma is used if one of these cites it, or another used lemma does: a file that answers for functions, an example,
-a file of specs/, and in a .rt file `using(..)` or an import. Its own lines cite for a lemma only what they name
+for functions (Answers, Invariants, Proof) or for an impl (Send) and the worked examples (proofs/examples) declare none:
+they cite. A lemma is used if one of these cites it, or another used lemma does: a file that answers, an example, a file of
+specs/, and in a .rt file `using(..)` or an import. Its own lines cite for a lemma only what they name
 besides itself, and an import alone cites nothing. A name means what its file declares or imports under it.
 
     python3 tools/unused_lemmas.py [CRATE..]      of these crates alone; without a name, of all
@@ -18,7 +18,7 @@ WORD = re.compile(r"[^\s(){}\[\],;.@]+(?:\.[^\s(){}\[\],;.@]+)*")
 COMMENT = re.compile(r"(^|\s)--(\s.*|$)")
 IMPORT = re.compile(r"(?:pub )?(?:ghost )?use ((?:[\w.+◌-]+?)(?:\.\{(.*)\}| as (\S+))?)$", re.S)
 BEGINNING = re.compile(r"(?:(?:pub|abbrev|unfoldable|record|data) )*(\S+)( (?:[({].*[)}] )?:| = )?")
-NO_LEMMAS = {"Answers", "Invariants", "Proof", "Lib"}
+NO_LEMMAS = {"Answers", "Invariants", "Proof", "Send", "Lib"}
 
 
 class Module:

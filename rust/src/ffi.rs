@@ -115,6 +115,11 @@ pub struct Engine {
     handle: Handle,
 }
 
+// SAFETY: `Send` is proved of the handle, by `crates/overlay_c/proofs/handle/Handle/TheSendSync/Send.antt`: what it owns is
+// the same to every thread, so it may go to another one, for one call at a time. Each call takes `&mut self`, and in safe
+// Rust what one thread did with an engine happens before what the next one does.
+unsafe impl Send for Engine {}
+
 impl Engine {
     /// An engine that snaps in that many passes. `None` where a growth was refused.
     pub fn new(snap_limit: u32) -> Option<Engine> {

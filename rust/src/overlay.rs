@@ -18,13 +18,21 @@ pub struct Change {
 
 /// Overlays contours, splits segments and builds graphs, one after another, and keeps its buffers.
 ///
-/// After an error it can be used again. It stays on its thread: nothing is proved of an engine that moves to another.
+/// After an error it can be used again. It may move to another thread (`Send`), and is used by one at a time: it is not
+/// `Sync`.
+///
+/// ```
+/// use i_overlay_core::{square, FillRule, Overlay, OverlayRule};
+///
+/// let mut overlay = Overlay::with_contours(&[square(0, 4).to_vec()], &[square(2, 6).to_vec()])?;
+/// let worker = std::thread::spawn(move || overlay.overlay(OverlayRule::Union, FillRule::NonZero));
+/// assert_eq!(worker.join().unwrap()?[0].len(), 8);
+/// # Ok::<(), i_overlay_core::Error>(())
+/// ```
 pub struct Overlay {
     engine: ffi::Engine,
     /// How many contours of the subject and of the clip were added.
     contour_counts: [usize; 2],
-    /// Whether the last call was a join that was refused, of which nothing is promised.
-    is_join_refused: bool,
     segments: Vec<Segment>,
     lines: Vec<LineSegment>,
     links: Vec<OverlayLink>,
@@ -63,7 +71,6 @@ impl Overlay {
         Ok(Overlay {
             engine: ffi::Engine::new(snap_limit).ok_or(Error::Fault(Fault::Memory))?,
             contour_counts: [0; 2],
-            is_join_refused: false,
             segments: Vec::new(),
             lines: Vec::new(),
             links: Vec::new(),
@@ -268,9 +275,6 @@ impl Overlay {
     /// # Ok::<(), i_overlay_core::Error>(())
     /// ```
     pub fn segments(&mut self) -> &[Segment] {
-        if self.is_join_refused {
-            return &[];
-        }
         self.engine.copy_segments(&mut self.segments);
         &self.segments
     }
@@ -313,7 +317,7 @@ impl Overlay {
         solver: Solver,
     ) -> Result<OverlayGraph<'_>, Error> {
         let status = self.engine.all(segments, &settings(solver, fill_rule));
-        self.keep(status, segments)?;
+        outcome(status, segments, fault_of)?;
         Ok(self.graph())
     }
 
@@ -331,7 +335,7 @@ impl Overlay {
     /// ```
     pub fn split(&mut self, segments: &[Segment], solver: Solver) -> Result<Change, Error> {
         let status = self.engine.split(segments, &settings(solver, FillRule::NonZero));
-        self.keep(status, segments)?;
+        outcome(status, segments, fault_of)?;
         Ok(self.change())
     }
 
@@ -349,9 +353,7 @@ impl Overlay {
     /// # Ok::<(), i_overlay_core::Error>(())
     /// ```
     pub fn join(&mut self, segments: &[Segment]) -> Result<Change, Error> {
-        let status = self.engine.join(segments);
-        self.is_join_refused = status != 0;
-        outcome(status, segments, fault_of)?;
+        outcome(self.engine.join(segments), segments, fault_of)?;
         Ok(self.change())
     }
 
@@ -392,12 +394,6 @@ impl Overlay {
         walks: bool,
     ) -> Result<(), Error> {
         let status = self.engine.overlay(segments, &settings(solver, fill_rule), overlay_rule.code(), walks);
-        self.keep(status, segments)
-    }
-
-    /// What a status says of a call that keeps an arrangement, or nothing.
-    fn keep(&mut self, status: u8, segments: &[Segment]) -> Result<(), Error> {
-        self.is_join_refused = false;
         outcome(status, segments, fault_of)
     }
 

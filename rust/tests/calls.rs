@@ -250,8 +250,26 @@ fn what_stands_after_a_refusal() {
     };
     assert_eq!(refused(&stacked), stacked);
     assert_eq!(refused(&[step(0), step(0)]), []);
-    assert_eq!(overlay.join(&[step(0), step(0)]).err(), fault);
-    assert!(overlay.segments().is_empty());
+}
+
+/// The segments of the call before do not stand after a join that is refused, whatever it is refused for.
+#[test]
+fn nothing_stands_after_a_refused_join() {
+    let mut overlay = Overlay::new().unwrap();
+    let step =
+        |x, subj| Segment { a: IntPoint::ZERO, b: IntPoint::new(x, 0), count: ShapeCountBoolean { subj, clip: 0 } };
+    let refusals = [
+        ([step(5, i32::MAX), step(5, 1)], Error::Fault(Fault::CountOutOfRange)),
+        ([step(5, 1), step(0, 1)], Error::Segment { index: 1, fault: SegmentFault::EqualEnds }),
+    ];
+    for (given, error) in refusals {
+        overlay.join(&two_squares()).unwrap();
+        assert_eq!(overlay.segments().len(), 8);
+        assert_eq!(overlay.join(&given), Err(error));
+        assert!(overlay.segments().is_empty());
+    }
+    overlay.join(&[step(5, i32::MAX)]).unwrap();
+    assert_eq!(overlay.segments(), [step(5, i32::MAX)]);
 }
 
 #[test]

@@ -1,4 +1,4 @@
--- The machine values of a `Handle`, and what it owns. Assumes `Logic`.
+-- The machine values of a `Handle`, and what it owns, which is the same to every thread where the value is. Assumes `Logic`.
 use Rattle.std.proofs.Common.{◌≡◌, ℕ, List, [], ◌∷◌, ◌++◌, refl, sym, subst, lit<}
 use mathlib.Core.Bool.{true, ◌&&◌}
 use lib.Dec.{T}
@@ -7,6 +7,7 @@ use mir.Raw.{raw as bare}
 use mir.Syntax.{impl, tnil, dnil}
 use mir.Val.{Val, vnull, vptr, vstruct, of_list, has_ty, WT}
 use base.Logic.{never, fst∗}
+use base.Shift.{Keyless}
 use types.Logic.{Logic, sem}
 use types.Kit.{Item, Goal, Seq, Step, step, ‵, ◌$◌, move, drop, fsplit, fjoin, fpick, fpack, feq_i, feq_l}
 use denote.RattleType.{RattleType, Valss}
@@ -15,6 +16,7 @@ use denote.Memory.{lone}
 use denote.RawPtr.{Ptr, block_ptr, null_ptr, ptr_val, in_a_block}
 use denote.Steps.{nothing}
 use denote.Param.{layout}
+use denote.Param.Send.{IsSend}
 use denote.Struct.Struct.{within}
 use denote.Struct.Owning.{shape}
 use Rattle.core.proofs.alloc.Calls.{Al, handle_tells}
@@ -25,9 +27,11 @@ use Rattle.std.specs.declared.option.Option.TheVariants.{None, Some}
 use Rattle.std.specs.declared.alloc.Global.{Global}
 use Rattle.std.specs.contracts.alloc.Global as global
 use Rattle.std.specs.contracts.impls.GlobalAllocator.TheImpl.{ghosts}
+use Rattle.std.proofs.Crossing.{frees}
 use Rattle.std.proofs.alloc.Global.TheLaws as global_laws
 use Rattle.std_alloc.specs.Box.Ownership.{box_owns}
 use Rattle.std_alloc.proofs.ResultValues.{and_tt}
+use Rattle.std_alloc.proofs.SendSync.{lies}
 use Rattle.overlay_c.proofs.Values.{both}
 use Rattle.overlay_c.specs.Owned.{held}
 use Rattle.overlay_c.specs.contracts.engine.Engine as engine
@@ -47,6 +51,10 @@ null_good h fits = (and_tt (has_ty (layout Z) h) fits.0, (record { fits = lit< t
 
 abbrev pub Handle : RattleType
 Handle = handle.the_row
+
+pub held-Keyless : (R : RattleType) → IsSend R → (a : Global) (p : Ptr) (x : Option R.Denot) → Keyless (held R a p x)
+held-Keyless R s a p (Some x) = (lies R s p x, frees.frees a (bare (lone R.mir)) p)
+held-Keyless R s a p None = tt
 
 module _ {M : Type 1} {𝓤 : Ura M} {𝓛 : Logic 𝓤} {K : Type 0} {Γ : List (Item 𝓤)} {G : Goal 𝓤 𝓛.H} where
   opened : (a : Global) (p : Ptr) (e : Option R.Denot) → IsSome e → ((x : R.Denot) → e ≡ Some x → Seq K 𝓛 (‵ (box_owns (ghosts.dealloc_token a) R p x) ∷ Γ) G) → Seq K 𝓛 (‵ (held R a p e) ∷ Γ) G

@@ -187,7 +187,7 @@ impl Engine {
         Ok(())
     }
 
-    /// Joins the segments on each pair of ends, and keeps them.
+    /// Joins the segments on each pair of ends, and keeps them. After a refusal it keeps none.
     pub fn join(&mut self, given: &[SegmentRecord]) -> Result<(), Refusal>
         ensures joined { OnOk result (segments_of self.new.segments.items ≡ join (given_by given.now)) }
         ensures repeated { OnOk result (self.new.has_changed ≡ has_equal_pairs (given_by given.now)) }
@@ -195,6 +195,7 @@ impl Engine {
         ensures unusable { IfErr result (λ refusal. refusal ≡ NotSplittable → IsFalse (are_usable given.now)) }
         ensures too_large { IfErr result (λ refusal. refusal ≡ Refused CountOutOfRange
             → IsTrue (join_leaves_range (given_by given.now))) }
+        ensures emptied { OnErr result (self.new.segments.items ≡ []) }
         ensures splitter { self.new.splitter ≡ self.old.splitter }
         ensures contours { self.new.polygons ≡ self.old.polygons }
     {

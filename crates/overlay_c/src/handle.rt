@@ -10,7 +10,7 @@ use crate::loose::Loose;
 use std::alloc::Global;
 use std::marker::Model;
 
-/// The place of an engine.
+/// The place of an engine. It may go to another thread, for one call at a time.
 #[repr(C)]
 #[derive(Drop)]
 pub struct Handle {
@@ -22,6 +22,9 @@ pub struct Handle {
 impl Model for Handle {
     ghost also_owns = { λ h. held the_row h.alloc h.at h.engine };
 }
+
+// What it owns is the same to every thread.
+unsafe impl Send for Handle {}
 
 /// Takes the engine out.
 pub(crate) fn take(alloc: Global, handle: &mut Handle) -> Box<Engine>

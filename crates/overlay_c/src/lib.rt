@@ -150,7 +150,7 @@ pub extern "C" fn overlay_c_all(
     status(outcome)
 }
 
-/// The join of the segments that records ask for. Returns as `overlay_c_overlay` does.
+/// The join of the segments that records ask for. Returns as `overlay_c_overlay` does. After a refusal the list is empty.
 #[unsafe(no_mangle)]
 pub extern "C" fn overlay_c_join(alloc: Global, handle: &mut Handle, given: &[SegmentRecord]) -> u8
     requires { IsSome handle.old.engine }
@@ -162,6 +162,7 @@ pub extern "C" fn overlay_c_join(alloc: Global, handle: &mut Handle, given: &[Se
     ensures usable { result ≡ 0 → IsTrue (are_usable given.now) }
     ensures unusable { result ≡ 3 → IsFalse (are_usable given.now) }
     ensures too_large { result ≡ 2 → IsTrue (join_leaves_range (given_by given.now)) }
+    ensures emptied { result ≢ 0 → IfSome handle.new.engine (λ engine. engine.segments.items ≡ []) }
     ensures contours { IfSome handle.old.engine (λ before. IfSome handle.new.engine
         (λ after. after.polygons ≡ before.polygons)) }
 {
