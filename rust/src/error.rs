@@ -1,6 +1,6 @@
 //! Why a call is refused.
 
-use crate::{IntPoint, LineSegment, Segment, ShapeCountBoolean, ShapeType, MAX_COORD, MIN_COORD};
+use crate::{DataSegment, IntPoint, LineSegment, Segment, ShapeCountBoolean, ShapeType, MAX_COORD, MIN_COORD};
 use std::fmt;
 
 /// Why the engine refused.
@@ -127,6 +127,11 @@ pub(crate) fn fault_of(segment: &Segment) -> Option<SegmentFault> {
     let ShapeCountBoolean { subj, clip } = segment.count;
     let is_counted = subj != i32::MIN && clip != i32::MIN && (subj != 0 || clip != 0);
     segment_fault(segment.a, segment.b, is_counted)
+}
+
+/// The same of a segment with a number, which may be any.
+pub(crate) fn fault_of_data(segment: &DataSegment) -> Option<SegmentFault> {
+    fault_of(&segment.segment)
 }
 
 /// The same of a side of a polygon or a step of a line.

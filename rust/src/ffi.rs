@@ -4,7 +4,7 @@
 //! A slice crosses as a pointer and a length; a `Global` takes no bytes, and does not cross. Beside each call, `SAFETY`
 //! names the conditions (`requires`) of the export and says why they hold.
 
-use crate::{IntContour, IntPoint, LineSegment, OverlayLink, Segment};
+use crate::{DataSegment, IntContour, IntPoint, LineSegment, OverlayLink, Segment};
 
 /// The place of an engine: `Handle` of `crates/overlay_c`. Null where it is empty.
 #[derive(Debug)]
@@ -28,6 +28,7 @@ pub struct Sizes {
     pub segments: usize,
     pub lines: usize,
     pub links: usize,
+    pub link_data: usize,
     pub nodes: usize,
     pub node_links: usize,
     pub walks: usize,
@@ -60,6 +61,13 @@ extern "C" {
         rule: u8,
         walks: bool,
     ) -> u8;
+    fn overlay_c_overlay_with_data(
+        handle: &mut Handle,
+        given: *const DataSegment,
+        given_len: usize,
+        settings: &Settings,
+        rule: u8,
+    ) -> u8;
     fn overlay_c_split(handle: &mut Handle, given: *const Segment, given_len: usize, settings: &Settings) -> u8;
     fn overlay_c_all(handle: &mut Handle, given: *const Segment, given_len: usize, settings: &Settings) -> u8;
     fn overlay_c_join(handle: &mut Handle, given: *const Segment, given_len: usize) -> u8;
@@ -78,6 +86,7 @@ extern "C" {
     fn overlay_c_segments(handle: &mut Handle, out: *mut Segment, out_len: usize);
     fn overlay_c_lines(handle: &mut Handle, out: *mut LineSegment, out_len: usize);
     fn overlay_c_links(handle: &mut Handle, out: *mut OverlayLink, out_len: usize);
+    fn overlay_c_link_data(handle: &mut Handle, out: *mut u64, out_len: usize);
     fn overlay_c_nodes(
         handle: &mut Handle,
         degrees: *mut usize,
@@ -132,6 +141,12 @@ impl Engine {
     pub fn overlay(&mut self, given: &[Segment], settings: &Settings, rule: u8, walks: bool) -> u8 {
         // SAFETY: the handle is full. Nothing is required of segments and codes.
         unsafe { overlay_c_overlay(&mut self.handle, given.as_ptr(), given.len(), settings, rule, walks) }
+    }
+
+    /// Splits segments with numbers and builds a rule's graph, with the number of each link. Returns a status.
+    pub fn overlay_with_data(&mut self, given: &[DataSegment], settings: &Settings, rule: u8) -> u8 {
+        // SAFETY: the handle is full. Nothing is required of segments, numbers and codes.
+        unsafe { overlay_c_overlay_with_data(&mut self.handle, given.as_ptr(), given.len(), settings, rule) }
     }
 
     /// Splits segments. Returns a status.
@@ -202,6 +217,13 @@ impl Engine {
         links.resize(self.sizes().links, OverlayLink::default());
         // SAFETY: the handle is full, and the slice has the `length` that the engine reports.
         unsafe { overlay_c_links(&mut self.handle, links.as_mut_ptr(), links.len()) }
+    }
+
+    /// Copies the numbers of links out, in place of what the list had: those of the last overlay with data.
+    pub fn copy_link_data(&mut self, data: &mut Vec<u64>) {
+        data.resize(self.sizes().link_data, 0);
+        // SAFETY: the handle is full, and the slice has the `length` that the engine tells.
+        unsafe { overlay_c_link_data(&mut self.handle, data.as_mut_ptr(), data.len()) }
     }
 
     /// Copies out how many links meet at each node, and then the indexes of these links, node after node.

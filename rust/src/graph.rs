@@ -41,6 +41,7 @@ pub enum OverlayNode<'a> {
 #[derive(Clone, Copy, Debug)]
 pub struct OverlayGraph<'a> {
     pub(crate) links: &'a [OverlayLink],
+    pub(crate) data: &'a [u64],
     /// Where the indexes of each node begin, and where the last ones end.
     pub(crate) starts: &'a [usize],
     pub(crate) node_links: &'a [usize],
@@ -61,6 +62,25 @@ impl<'a> OverlayGraph<'a> {
     /// ```
     pub fn links(&self) -> &'a [OverlayLink] {
         self.links
+    }
+
+    /// The number of each link, at its index: that of the given segment from which it comes. Empty where the segments were
+    /// given without numbers.
+    ///
+    /// ```
+    /// use i_overlay_core::{square, DataSegment, FillRule, Overlay, OverlayRule, ShapeType, Solver};
+    ///
+    /// let mut sides = Vec::new();
+    /// ShapeType::Subject.push_contour(&square(0, 4), &mut sides);
+    /// let numbered: Vec<_> = sides.iter().map(|&segment| DataSegment { segment, data: 7 }).collect();
+    /// let mut overlay = Overlay::new()?;
+    /// let (fill, rule) = (FillRule::NonZero, OverlayRule::Subject);
+    /// assert_eq!(overlay.build_graph_with_data(&numbered, fill, rule, Solver::AUTO)?.data(), [7; 4]);
+    /// assert!(overlay.build_graph(&sides, fill, rule)?.data().is_empty());
+    /// # Ok::<(), i_overlay_core::Error>(())
+    /// ```
+    pub fn data(&self) -> &'a [u64] {
+        self.data
     }
 
     /// How many nodes there are.

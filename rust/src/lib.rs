@@ -20,5 +20,5 @@ pub use graph::{IdPoint, OverlayGraph, OverlayLink, OverlayNode, SegmentFill};
 pub use overlay::{Change, Overlay};
 pub use point::{square, IntContour, IntPoint, MAX_COORD, MIN_COORD};
 pub use rules::{ClipRule, FillRule, OverlayRule, RuleTable};
-pub use segment::{LineSegment, Segment, ShapeCountBoolean, ShapeType};
+pub use segment::{DataSegment, LineSegment, Segment, ShapeCountBoolean, ShapeType};
 pub use solver::{Precision, Solver, Strategy};

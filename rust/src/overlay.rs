@@ -1,9 +1,9 @@
 //! The engine: splits, graphs and contours, one after another.
 
-use crate::error::{fault_of, fault_of_line, outcome, point_fault};
+use crate::error::{fault_of, fault_of_data, fault_of_line, outcome, point_fault};
 use crate::{
-    ffi, ClipRule, Error, Fault, FillRule, IntContour, IntPoint, LineSegment, OverlayGraph, OverlayLink, OverlayRule,
-    Segment, ShapeType, Solver,
+    ffi, ClipRule, DataSegment, Error, Fault, FillRule, IntContour, IntPoint, LineSegment, OverlayGraph, OverlayLink,
+    OverlayRule, Segment, ShapeType, Solver,
 };
 use std::fmt;
 
@@ -36,6 +36,8 @@ pub struct Overlay {
     segments: Vec<Segment>,
     lines: Vec<LineSegment>,
     links: Vec<OverlayLink>,
+    /// The number of each link, where the last graph was built with numbers.
+    link_data: Vec<u64>,
     /// Where the indexes of each node begin, and where the last ones end.
     starts: Vec<usize>,
     node_links: Vec<usize>,
@@ -74,6 +76,7 @@ impl Overlay {
             segments: Vec::new(),
             lines: Vec::new(),
             links: Vec::new(),
+            link_data: Vec::new(),
             starts: Vec::new(),
             node_links: Vec::new(),
             walk_starts: Vec::new(),
@@ -225,6 +228,42 @@ impl Overlay {
     ) -> Result<OverlayGraph<'_>, Error> {
         self.run(segments, fill_rule, overlay_rule, solver, false)?;
         Ok(self.graph())
+    }
+
+    /// The graph of the segments that a rule keeps, with a number for each link: that of the given segment from which it
+    /// comes. Parts of a segment have its number, and of segments between the same two points the first one's stays.
+    ///
+    /// Where each number is that of one segment, a link lies on the segment that has its number, or no farther from it than
+    /// the passes move crossings.
+    ///
+    /// ```
+    /// use i_overlay_core::{square, DataSegment, FillRule, Overlay, OverlayRule, ShapeType, Solver};
+    ///
+    /// let mut sides = Vec::new();
+    /// ShapeType::Subject.push_contour(&square(0, 4), &mut sides);
+    /// ShapeType::Clip.push_contour(&square(2, 6), &mut sides);
+    /// // from 0 to 3 the sides of the subject, from the left one counterclockwise; from 4 to 7 those of the clip
+    /// let numbered: Vec<DataSegment> = sides.iter().zip(0..).map(|(&segment, data)| DataSegment { segment, data }).collect();
+    /// let mut overlay = Overlay::new()?;
+    /// let (fill, rule) = (FillRule::NonZero, OverlayRule::Intersect);
+    /// let graph = overlay.build_graph_with_data(&numbered, fill, rule, Solver::AUTO)?;
+    /// // the left and the lower side of the clip, and the upper and the right one of the subject
+    /// assert_eq!(graph.data(), [4, 5, 3, 2]);
+    /// # Ok::<(), i_overlay_core::Error>(())
+    /// ```
+    pub fn build_graph_with_data(
+        &mut self,
+        segments: &[DataSegment],
+        fill_rule: FillRule,
+        overlay_rule: OverlayRule,
+        solver: Solver,
+    ) -> Result<OverlayGraph<'_>, Error> {
+        let status = self.engine.overlay_with_data(segments, &settings(solver, fill_rule), overlay_rule.code());
+        self.is_join_refused = false;
+        outcome(status, segments, fault_of_data)?;
+        self.copy_graph();
+        self.engine.copy_link_data(&mut self.link_data);
+        Ok(self.kept_graph())
     }
 
     /// Closed contours round the part that a rule keeps: walks over the links of the graph, so that each link stands in
@@ -409,10 +448,16 @@ impl Overlay {
         sum_up(&mut self.starts);
     }
 
-    /// The graph of the last run.
+    /// The graph of the last run, which had no numbers.
     fn graph(&mut self) -> OverlayGraph<'_> {
         self.copy_graph();
-        OverlayGraph { links: &self.links, starts: &self.starts, node_links: &self.node_links }
+        self.link_data.clear();
+        self.kept_graph()
+    }
+
+    /// The graph that was copied out.
+    fn kept_graph(&self) -> OverlayGraph<'_> {
+        OverlayGraph { links: &self.links, data: &self.link_data, starts: &self.starts, node_links: &self.node_links }
     }
 }
 

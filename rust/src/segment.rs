@@ -78,6 +78,28 @@ pub struct Segment {
     pub count: ShapeCountBoolean,
 }
 
+/// A segment, with a number that is handed through to the links that come from it.
+///
+/// Parts of a segment have its number. Where several segments run between the same two points, in the given list or after
+/// a split, the first one's number stays.
+///
+/// ```
+/// use i_overlay_core::{square, DataSegment, ShapeType};
+///
+/// let mut sides = Vec::new();
+/// ShapeType::Subject.push_contour(&square(0, 4), &mut sides);
+/// let numbered: Vec<DataSegment> = sides.iter().zip(0..).map(|(&segment, data)| DataSegment { segment, data }).collect();
+/// assert_eq!(numbered[3].data, 3);
+/// ```
+#[repr(C)]
+#[derive(Clone, Copy, Debug, Default, PartialEq, Eq, Hash)]
+pub struct DataSegment {
+    /// The segment.
+    pub segment: Segment,
+    /// Its number, which the caller chooses.
+    pub data: u64,
+}
+
 /// A side of a polygon, which winds for the subject, or a step of a line, which has a mask. It may run either way.
 #[repr(C)]
 #[derive(Clone, Copy, Debug, Default, PartialEq, Eq, Hash)]

@@ -4,9 +4,9 @@ mod common;
 
 use common::Random;
 use i_overlay_core::{
-    cross, square, Change, ClipRule, CollinearMask, CrossResult, CrossType, Error, Fault, FillRule, IntPoint,
-    LineSegment, Overlay, OverlayNode, OverlayRule, Precision, RuleTable, Segment, SegmentFault, ShapeCountBoolean,
-    ShapeType, Solver, Strategy, MAX_COORD, MIN_COORD,
+    cross, square, Change, ClipRule, CollinearMask, CrossResult, CrossType, DataSegment, Error, Fault, FillRule,
+    IntPoint, LineSegment, Overlay, OverlayNode, OverlayRule, Precision, RuleTable, Segment, SegmentFault,
+    ShapeCountBoolean, ShapeType, Solver, Strategy, MAX_COORD, MIN_COORD,
 };
 use std::collections::HashMap;
 
@@ -45,6 +45,73 @@ fn two_squares_share_a_square() {
     let nodes: Vec<_> = graph.nodes().collect();
     let bridges = [[0, 1], [2, 0], [3, 1], [2, 3]].map(OverlayNode::Bridge);
     assert_eq!(nodes, bridges);
+}
+
+/// Segments with numbers that count from a first one.
+fn numbered(segments: &[Segment], first: u64) -> Vec<DataSegment> {
+    segments.iter().zip(first..).map(|(&segment, data)| DataSegment { segment, data }).collect()
+}
+
+/// The sides of the two squares from 0 to 7, each from the left one counterclockwise.
+#[test]
+fn links_tell_the_side_they_came_from() {
+    let mut overlay = Overlay::new().unwrap();
+    let sides = numbered(&two_squares(), 0);
+    let mut data = |rule| {
+        let graph = overlay.build_graph_with_data(&sides, FillRule::NonZero, rule, Solver::AUTO).unwrap();
+        assert_eq!(graph.data().len(), graph.links().len());
+        graph.data().to_vec()
+    };
+    assert_eq!(data(OverlayRule::Intersect), [4, 5, 3, 2]);
+    assert_eq!(data(OverlayRule::Union), [0, 1, 3, 4, 7, 2, 5, 6]);
+    assert_eq!(data(OverlayRule::Subject), [0, 1, 3, 3, 2, 2]);
+    assert_eq!(overlay.segments().len(), 12);
+    let graph = overlay.build_graph_with_data(&[], FillRule::NonZero, OverlayRule::Union, Solver::AUTO).unwrap();
+    assert!(graph.data().is_empty());
+}
+
+/// Without their numbers, the graph and the arrangement are those of the same segments.
+#[test]
+fn numbers_change_no_graph() {
+    let mut overlay = Overlay::new().unwrap();
+    let sides = numbered(&two_squares(), u64::MAX - 7);
+    let (fill, rule) = (FillRule::EvenOdd, OverlayRule::Xor);
+    let graph = overlay.build_graph_with_data(&sides, fill, rule, Solver::AUTO).unwrap();
+    let (links, nodes) = (graph.links().to_vec(), graph.node_count());
+    assert!(graph.data().iter().all(|&number| number >= u64::MAX - 7));
+    let segments = overlay.segments().to_vec();
+    let plain = overlay.build_graph(&two_squares(), fill, rule).unwrap();
+    assert_eq!((plain.links(), plain.node_count()), (links.as_slice(), nodes));
+    assert_eq!(overlay.segments(), segments);
+}
+
+/// Of two sides between the same points the first one's number stays, whichever way it runs.
+#[test]
+fn equal_sides_have_the_number_of_the_first() {
+    let mut overlay = Overlay::new().unwrap();
+    let mut data = |sides: &[DataSegment]| {
+        let (fill, rule) = (FillRule::NonZero, OverlayRule::Subject);
+        overlay.build_graph_with_data(sides, fill, rule, Solver::AUTO).unwrap().data().to_vec()
+    };
+    let (mut there, mut back) = (Vec::new(), Vec::new());
+    ShapeType::Subject.push_contour(&square(0, 4), &mut there);
+    let mut corners = square(0, 4);
+    corners.reverse();
+    ShapeType::Clip.push_contour(&corners, &mut back);
+    let (there, back) = (numbered(&there, 10), numbered(&back, 20));
+    // there: left, bottom, right, top; back: left, top, right, bottom. Links: left, bottom, top, right.
+    assert_eq!(data(&[there.clone(), back.clone()].concat()), [10, 11, 13, 12]);
+    assert_eq!(data(&[back, there].concat()), [20, 23, 21, 22]);
+}
+
+#[test]
+fn a_bad_segment_with_a_number() {
+    let mut overlay = Overlay::new().unwrap();
+    let mut sides = numbered(&two_squares(), 0);
+    sides[5].segment.b = sides[5].segment.a;
+    let refused = overlay.build_graph_with_data(&sides, FillRule::NonZero, OverlayRule::Union, Solver::AUTO).err();
+    assert_eq!(refused, Some(Error::Segment { index: 5, fault: SegmentFault::EqualEnds }));
+    assert!(overlay.segments().is_empty());
 }
 
 #[test]
@@ -246,6 +313,9 @@ fn what_stands_after_a_refusal() {
         let kept = overlay.segments().to_vec();
         let all = overlay.build_all(given, FillRule::NonZero, Solver::AUTO).err();
         assert_eq!((graph, all, overlay.segments()), (fault, fault, kept.as_slice()));
+        let sides = numbered(given, 0);
+        let data = overlay.build_graph_with_data(&sides, FillRule::NonZero, OverlayRule::Union, Solver::AUTO).err();
+        assert_eq!((data, overlay.segments()), (fault, kept.as_slice()));
         kept
     };
     assert_eq!(refused(&stacked), stacked);

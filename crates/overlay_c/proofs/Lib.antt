@@ -1,4 +1,5 @@
 pub mod Handles
+pub mod LinkData
 pub mod Meetings
 pub mod Overlays
 pub mod Steps

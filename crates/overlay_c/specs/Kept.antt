@@ -1,27 +1,34 @@
 -- What an engine keeps of its last answer.
-use Rattle.std.specs.Prelude.{◌≡◌, ◌⊎◌, ℕ, ◌&&◌, Bool, true, List, [], IsTrue, map, flat_map, length}
+use Rattle.std.specs.Prelude.{◌≡◌, ◌⊎◌, ℕ, ◌&&◌, Bool, true, List, [], IsTrue, All, map, flat_map, length}
 use Rattle.std.specs.List.{list_all}
 use Rattle.overlay_geometry.specs.Coordinates.{least_coordinate, greatest_coordinate}
+use Rattle.overlay_geometry.specs.Points.{Pair}
+use Rattle.overlay_base.specs.EdgeData.{DataSegment, without_data}
 use Rattle.overlay_base.specs.Planar.{is_splittable}
-use Rattle.overlay_base.specs.Rules.{holds}
+use Rattle.overlay_base.specs.Rules.{holds, keeps_fill}
 use Rattle.overlay_base.specs.Balance.{IsBalanced}
 use Rattle.overlay_base.specs.Segments.{WholeSegment}
 use Rattle.overlay_base.specs.SegmentOf.{segments_of}
 use Rattle.overlay_base.specs.declared.overlay_core.clip_rule.ClipRule.{ClipRule}
 use Rattle.overlay_base.specs.declared.overlay_core.overlay_rule.OverlayRule.{OverlayRule}
 use Rattle.overlay_base.specs.declared.segm.fault.Fault.TheVariants.{CountOutOfRange}
+use Rattle.overlay_split.specs.DataPass.{data_after_passes}
+use Rattle.overlay_split.specs.Laws.{NameNear}
+use Rattle.overlay_split.specs.Nearness.{LiesNear, reach_of_run}
 use Rattle.overlay_split.specs.Run.{Settings, IsRun, LeavesRange}
 use Rattle.overlay_split.specs.SettingsOf.{passes_of, snap_limit_of}
 use Rattle.overlay_sweep.specs.ChainWindings.{tops_leave_range}
-use Rattle.overlay_build.specs.Graph.{Graph, graph_by, has_even_nodes}
+use Rattle.overlay_build.specs.Graph.{Link, Graph, graph_by, data_by, has_even_nodes}
 use Rattle.overlay_build.specs.Walks.{AreClosedWalks}
 use Rattle.i_overlay.specs.FarRegions.{EnclosesOverlay}
 use Rattle.i_overlay.specs.Headline.{IsSplit, IsOverlay, IsClip, IsRefused}
 use Rattle.overlay_c.specs.Records.{asks, asked_by, line_asks, line_asked_by, link_by, settings_by, fill_rule_of}
+use Rattle.overlay_c.specs.Tags.{keeping}
 use Rattle.overlay_c.specs.declared.records.LineRecord.{LineRecord}
 use Rattle.overlay_c.specs.declared.records.SegmentRecord.{SegmentRecord}
 use Rattle.overlay_c.specs.declared.records.SettingsRecord.{SettingsRecord}
 use Rattle.overlay_c.specs.declared.engine.Engine.{Engine}
+use Rattle.overlay_c.specs.declared.tags.Tag.{Tag}
 
 -- the segments that records ask for, and whether each asks for one and all may be split
 abbrev pub given_by : List SegmentRecord → List WholeSegment
@@ -76,6 +83,25 @@ pub record KeepsOverlay (settings : SettingsRecord) (rule : OverlayRule) (walks 
   pub region : IsBalanced given → EnclosesOverlay (engine_settings settings engine) rule (fill_rule_of settings.fill_rule) given (passes_of engine.splitter) graph
   pub kept : KeepsGraph engine graph
   pub kept_walks : KeepsWalks walks engine graph
+
+-- a link with its data
+pub record TaggedLink : Type 0 where
+  pub link : Link
+  pub tag : Tag
+
+-- it keeps the data of each link of an overlay
+pub record KeepsData (settings : SettingsRecord) (rule : OverlayRule) (given : List (DataSegment Tag)) (engine : Engine) : Type 0 where
+  -- these are the links, each with its data
+  pub links : List TaggedLink
+  pub same_links : map (λ l. l.link) links ≡ map link_by engine.links.items
+  pub same_data : map (λ l. l.tag) links ≡ engine.link_data.items
+  -- it is what the passes make of the given data, of those segments that the rule keeps
+  pub edge_data : engine.link_data.items ≡ data_by (keeps_fill (holds rule)) (fill_rule_of settings.fill_rule) (data_after_passes keeping (engine_settings settings engine) given (tt {0}) (passes_of engine.splitter)).0
+  -- what holds of all given data holds of it, so each link has that of a given segment
+  pub kept_data : (has : Tag → Bool) → IsTrue (list_all (λ s. has s.edge_data) given) → IsTrue (list_all has engine.link_data.items)
+  -- where data names given segments, each link lies as near to all that its data names as the passes reach
+  pub named_data : (names : Tag → Pair → Bool) → NameNear names 0 given
+      → All (λ l. (s : Pair) → IsTrue (names l.tag s) → LiesNear (reach_of_run (engine_settings settings engine) (without_data given) (passes_of engine.splitter)) l.link.pair s) links
 
 -- a count that was refused, in the split or in the build
 abbrev pub IsCountRefused : SettingsRecord → List WholeSegment → Engine → Engine → Type 0

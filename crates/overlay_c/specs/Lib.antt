@@ -4,3 +4,4 @@ pub mod Kept
 pub mod Owned
 pub mod Records
 pub mod Status
+pub mod Tags

@@ -16,6 +16,7 @@ use crate::records::{
     LineRecord, LinkRecord, SegmentRecord, SettingsRecord, Side, asked, fill_rule, link, solver,
 };
 use crate::refusal::Refusal;
+use crate::tags::{self, Tag, TaggedRecord, TaggedSide, keep_tags, keep_untagged};
 use i_overlay::clip::split_and_build_clip;
 use i_overlay::overlay::split_and_build_overlay;
 use overlay_base::overlay_core::clip_rule::ClipRule;
@@ -40,14 +41,19 @@ pub struct Engine {
     pub splitter: SplitSolver<i32>,
     pub builder: GraphBuilder<ShapeCountBoolean, OverlayNode, i32, ()>,
     pub line_builder: GraphBuilder<ShapeCountString, Vec<usize>, i32, ()>,
+    pub tag_builder: GraphBuilder<ShapeCountBoolean, OverlayNode, i32, Tag>,
     /// The arrangement.
     pub segments: Vec<Side>,
     /// The arrangement of polygons and lines.
     pub lines: Vec<Line>,
+    /// The segments with data that a split is made of, and their arrangement.
+    pub tagged: Vec<TaggedSide>,
     /// Whether the last split joined equal segments or split one, or the last join joined some.
     pub has_changed: bool,
     /// The links of the graph.
     pub links: Vec<LinkRecord>,
+    /// The data of the links, where segments were given with data.
+    pub link_data: Vec<Tag>,
     /// How many links meet at each node.
     pub degrees: Vec<usize>,
     /// The indexes of the links at the first node, then of those at the next, and so on.
@@ -69,12 +75,13 @@ pub struct Engine {
 }
 
 impl Engine {
-    ghost use Rattle.std.specs.Prelude.{◌∷◌, ◌++◌, Err};
+    ghost use Rattle.std.specs.Prelude.{◌∷◌, ◌++◌, false, Err};
     ghost use Rattle.overlay_base.specs.ArrangedOf.{IsArranged};
     ghost use Rattle.overlay_base.specs.Join.{join, join_leaves_range, has_equal_pairs};
     ghost use Rattle.overlay_split.specs.Run.{LeavesRange};
     ghost use Rattle.overlay_split.specs.SettingsOf.{snap_limit_of};
-    ghost use Rattle.overlay_c.specs.Kept.{engine_settings, KeepsSplit, KeepsAll, KeepsOverlay, KeepsClip, IsCountRefused, IsCountOfAllRefused, IsCountOfLinesRefused, StandsAfter, LinesStandAfter};
+    ghost use Rattle.overlay_c.specs.Tags.{untagged, tagged_by};
+    ghost use Rattle.overlay_c.specs.Kept.{engine_settings, KeepsData, KeepsSplit, KeepsAll, KeepsOverlay, KeepsClip, IsCountRefused, IsCountOfAllRefused, IsCountOfLinesRefused, StandsAfter, LinesStandAfter};
     ghost use Rattle.overlay_base.specs.declared.segm.shape_type.ShapeType.TheVariants.{Subject, Clip};
     ghost use Rattle.overlay_contours.specs.Refusals.{other_shape};
     ghost use Rattle.overlay_c.specs.Contours.{point_by, are_in_range, contours_in, KeepsPolygons, IsPointRefusal, IsPolygonRefusal, SameSplit};
@@ -89,10 +96,13 @@ impl Engine {
             splitter: SplitSolver::with_snap_limit(alloc, snap_limit),
             builder: GraphBuilder::new(alloc),
             line_builder: GraphBuilder::new(alloc),
+            tag_builder: GraphBuilder::new(alloc),
             segments: Vec::new(alloc),
             lines: Vec::new(alloc),
+            tagged: Vec::new(alloc),
             has_changed: false,
             links: Vec::new(alloc),
+            link_data: Vec::new(alloc),
             degrees: Vec::new(alloc),
             indexes: Vec::new(alloc),
             has_walks: false,
@@ -140,6 +150,40 @@ impl Engine {
             let found = closed_walks(alloc, &graph)?;
             keep_lists(&found, &mut self.walk_lengths, &mut self.walk_links)?;
         }
+        Ok(())
+    }
+
+    /// Does the same without walks, and keeps the data of each link: what the passes make of the data that records have.
+    pub fn overlay_with_data(
+        &mut self,
+        given: &[TaggedRecord],
+        settings: &SettingsRecord,
+        rule: OverlayRule,
+    ) -> Result<(), Refusal>
+        ensures kept { OnOk result (KeepsOverlay settings.now rule false (given_by (untagged given.now)) self.new) }
+        ensures kept_data { OnOk result (KeepsData settings.now rule (tagged_by given.now) self.new) }
+        ensures usable { OnOk result (IsTrue (are_usable (untagged given.now))) }
+        ensures unusable { IfErr result (λ refusal. refusal ≡ NotSplittable
+            → IsFalse (are_usable (untagged given.now))) }
+        ensures too_large { IfErr result (λ refusal. refusal ≡ Refused CountOutOfRange
+            → IsCountRefused settings.now (given_by (untagged given.now)) self.old self.new) }
+        ensures stands { OnErr result (StandsAfter settings.now (given_by (untagged given.now)) self.new) }
+        ensures limit { snap_limit_of self.new.splitter ≡ snap_limit_of self.old.splitter }
+        ensures contours { self.new.polygons ≡ self.old.polygons }
+    {
+        self.segments.clear();
+        tags::load_splittable(given, &mut self.tagged)?;
+        let solver = solver(settings);
+        let fill_rule = fill_rule(settings.fill_rule);
+        let (splitter, builder) = (&mut self.splitter, &mut self.tag_builder);
+        let tagged = &mut self.tagged;
+        let built = split_and_build_overlay(splitter, builder, tagged, &solver, fill_rule, rule);
+        keep_untagged(&self.tagged, &mut self.segments)?;
+        let graph = built?;
+        keep_links(graph.links(), &mut self.links)?;
+        keep_tags(graph.links(), &mut self.link_data)?;
+        keep_nodes(graph.nodes(), &mut self.degrees, &mut self.indexes)?;
+        self.has_walks = false;
         Ok(())
     }
 
@@ -355,7 +399,7 @@ pub fn load(records: &[SegmentRecord], list: &mut Vec<Side>) -> Result<bool, All
 {
     list.clear();
     for given in records {
-        match asked(given) {
+        match asked(given, (), &mut ()) {
             Some(segment) => list.push(segment)?,
             None => return Ok(false),
         }
@@ -364,8 +408,8 @@ pub fn load(records: &[SegmentRecord], list: &mut Vec<Side>) -> Result<bool, All
 }
 
 /// Keeps the records of links.
-pub fn keep_links(
-    links: &[OverlayLink<i32, ()>],
+pub fn keep_links<D: Copy>(
+    links: &[OverlayLink<i32, D>],
     kept: &mut Vec<LinkRecord>,
 ) -> Result<(), AllocError>
     ensures { OnOk result (map link_by kept.new.items ≡ map (link_of (λ z. z)) links.now) }

@@ -1,7 +1,7 @@
 // The overlay engine for C: exports over an engine behind a handle, for coordinates of 32 bits.
 #![tactic(auto)]
 
-ghost use Rattle.std.specs.Prelude.{◌≡◌, ◌≢◌, ◌≤ℤ◌, pos, unsigned_abs, ◌↔◌, ◌<◌, ◌^◌, [], ◌∷◌, ◌++◌, None, IsSome, IsTrue, IsFalse, IfSome, length, map};
+ghost use Rattle.std.specs.Prelude.{◌≡◌, ◌≢◌, ◌≤ℤ◌, pos, unsigned_abs, ◌↔◌, ◌<◌, ◌^◌, [], ◌∷◌, ◌++◌, false, None, IsSome, IsTrue, IsFalse, IfSome, length, map};
 ghost use Rattle.overlay_base.specs.SegmentOf.{segments_of};
 ghost use Rattle.overlay_base.specs.declared.overlay_core.overlay_rule.OverlayRule.{OverlayRule};
 ghost use Rattle.overlay_base.specs.Join.{join, join_leaves_range, has_equal_pairs};
@@ -12,7 +12,8 @@ ghost use Rattle.overlay_c.specs.Crosses.{pair_by, cross_by, mask_by};
 ghost use Rattle.overlay_geometry.specs.Coordinates.{least_coordinate, greatest_coordinate, is_pair_in_range};
 ghost use Rattle.overlay_intersections.specs.CrossAnswer.{cross_answer};
 ghost use Rattle.overlay_intersections.specs.Marks.{snapping};
-ghost use Rattle.overlay_c.specs.Kept.{given_by, are_usable, are_lines_usable, engine_settings, KeepsSplit, KeepsAll, KeepsOverlay, KeepsClip, IsCountRefused, IsCountOfAllRefused, IsCountOfLinesRefused, StandsAfter, LinesStandAfter};
+ghost use Rattle.overlay_c.specs.Kept.{given_by, are_usable, are_lines_usable, engine_settings, KeepsData, KeepsSplit, KeepsAll, KeepsOverlay, KeepsClip, IsCountRefused, IsCountOfAllRefused, IsCountOfLinesRefused, StandsAfter, LinesStandAfter};
+ghost use Rattle.overlay_c.specs.Tags.{untagged, tagged_by};
 ghost use Rattle.overlay_base.specs.declared.segm.shape_type.ShapeType.TheVariants.{Subject, Clip};
 ghost use Rattle.overlay_contours.specs.Refusals.{other_shape, CountsLeaveRange};
 ghost use Rattle.overlay_c.specs.Contours.{point_by, are_in_range, contours_in, polygon_settings, KeepsPolygons, SameSplit};
@@ -25,6 +26,7 @@ pub mod lines;
 pub(crate) mod loose;
 pub mod records;
 pub mod refusal;
+pub mod tags;
 
 use crate::contours::PointRecord;
 use crate::cross::{CrossRecord, cross};
@@ -35,6 +37,7 @@ use crate::records::{
     tell_all,
 };
 use crate::refusal::status;
+use crate::tags::{Tag, TaggedRecord};
 use overlay_base::overlay_core::clip_rule::ClipRule;
 use std::alloc::Global;
 
@@ -92,6 +95,38 @@ pub extern "C" fn overlay_c_overlay(
 {
     let mut engine = take(alloc, handle);
     let outcome = engine.overlay(alloc, given, settings, overlay_rule(rule), walks);
+    put(handle, engine);
+    status(outcome)
+}
+
+/// The overlay of the segments that records ask for, with the data of each link, and without walks. A part of a segment has
+/// its data; of segments on one pair of ends the first one's is kept. Returns as `overlay_c_overlay` does.
+#[unsafe(no_mangle)]
+pub extern "C" fn overlay_c_overlay_with_data(
+    alloc: Global,
+    handle: &mut Handle,
+    given: &[TaggedRecord],
+    settings: &SettingsRecord,
+    rule: u8,
+) -> u8
+    requires { IsSome handle.old.engine }
+    ensures full { IsSome handle.new.engine }
+    ensures done { result ≡ 0 → IfSome handle.new.engine (λ engine. (named : OverlayRule) × IsRuleOf rule named
+        × KeepsOverlay settings.now named false (given_by (untagged given.now)) engine
+        × KeepsData settings.now named (tagged_by given.now) engine) }
+    ensures usable { result ≡ 0 → IsTrue (are_usable (untagged given.now)) }
+    ensures unusable { result ≡ 3 → IsFalse (are_usable (untagged given.now)) }
+    ensures too_large { result ≡ 2 → IfSome handle.old.engine (λ before. IfSome handle.new.engine
+        (IsCountRefused settings.now (given_by (untagged given.now)) before)) }
+    ensures stands { result ≢ 0 → IfSome handle.new.engine
+        (StandsAfter settings.now (given_by (untagged given.now))) }
+    ensures limit { IfSome handle.old.engine (λ before. IfSome handle.new.engine
+        (λ after. snap_limit_of after.splitter ≡ snap_limit_of before.splitter)) }
+    ensures contours { IfSome handle.old.engine (λ before. IfSome handle.new.engine
+        (λ after. after.polygons ≡ before.polygons)) }
+{
+    let mut engine = take(alloc, handle);
+    let outcome = engine.overlay_with_data(given, settings, overlay_rule(rule));
     put(handle, engine);
     status(outcome)
 }
@@ -307,6 +342,7 @@ pub extern "C" fn overlay_c_sizes(alloc: Global, handle: &mut Handle) -> SizesRe
     ensures segments { IfSome handle.old.engine (λ engine. result.segments ≡ length engine.segments.items) }
     ensures lines { IfSome handle.old.engine (λ engine. result.lines ≡ length engine.lines.items) }
     ensures links { IfSome handle.old.engine (λ engine. result.links ≡ length engine.links.items) }
+    ensures link_data { IfSome handle.old.engine (λ engine. result.link_data ≡ length engine.link_data.items) }
     ensures nodes { IfSome handle.old.engine (λ engine. result.nodes ≡ length engine.degrees.items) }
     ensures node_links { IfSome handle.old.engine (λ engine. result.node_links ≡ length engine.indexes.items) }
     ensures walks { IfSome handle.old.engine (λ engine. result.walks ≡ length engine.walk_lengths.items) }
@@ -324,6 +360,7 @@ pub extern "C" fn overlay_c_sizes(alloc: Global, handle: &mut Handle) -> SizesRe
         segments: engine.segments.len(),
         lines: engine.lines.len(),
         links: engine.links.len(),
+        link_data: engine.link_data.len(),
         nodes: engine.degrees.len(),
         node_links: engine.indexes.len(),
         walks: engine.walk_lengths.len(),
@@ -374,6 +411,19 @@ pub extern "C" fn overlay_c_links(alloc: Global, handle: &mut Handle, out: &mut 
 {
     let engine = take(alloc, handle);
     out.copy_from_slice(&engine.links);
+    put(handle, engine);
+}
+
+/// Copies the data of links out: that of the last overlay with data, one for each of its links.
+#[unsafe(no_mangle)]
+pub extern "C" fn overlay_c_link_data(alloc: Global, handle: &mut Handle, out: &mut [Tag])
+    requires engine { IsSome handle.old.engine }
+    requires length { IfSome handle.old.engine (λ engine. length out.old ≡ length engine.link_data.items) }
+    ensures same { handle.new.engine ≡ handle.old.engine }
+    ensures copied { IfSome handle.old.engine (λ engine. out.new ≡ engine.link_data.items) }
+{
+    let engine = take(alloc, handle);
+    out.copy_from_slice(&engine.link_data);
     put(handle, engine);
 }
 

@@ -2,11 +2,14 @@
 ghost use Rattle.std.specs.Prelude.{◌≡◌, ◌<◌, ◌&&◌, IfSome, is_some, length, map};
 ghost use Rattle.std.specs.Ordering.{int_eq};
 ghost use Rattle.overlay_geometry.specs.PointOf.{point_of};
-ghost use Rattle.overlay_base.specs.BooleanWinding.{boolean_winding};
-ghost use Rattle.overlay_base.specs.SegmentOf.{segment_of, segments_of};
+ghost use Rattle.overlay_base.specs.BooleanWinding.{boolean_winding, boolean_counted};
+ghost use Rattle.overlay_base.specs.EdgeData.{data_piece};
+ghost use Rattle.overlay_base.specs.HooksOf.{hooks_of};
+ghost use Rattle.overlay_base.specs.SegmentOf.{segment_of, segments_of, data_segment_of};
 ghost use Rattle.overlay_build.specs.GraphOf.{link_of};
 ghost use Rattle.overlay_c.specs.Records.{start_of, end_of, count_of, asks, asked_by, told_by, link_by, fill_rule_of, shape_of, IsRuleOf};
 
+use overlay_base::overlay_core::edge_data::OverlayEdgeData;
 use overlay_base::overlay_core::fill_rule::FillRule;
 use overlay_base::overlay_core::link::OverlayLink;
 use overlay_base::overlay_core::overlay_rule::OverlayRule;
@@ -75,10 +78,17 @@ pub struct SettingsRecord {
     pub fill_rule: u8,
 }
 
-/// The segment that a record asks for. `None` where the ends are equal or a count is `i32::MIN`.
-pub fn asked(given: &SegmentRecord) -> Option<Side>
+/// The segment that a record asks for, with data. `None` where the ends are equal or a count is `i32::MIN`.
+pub fn asked<D: OverlayEdgeData<ShapeCountBoolean>>(
+    given: &SegmentRecord,
+    edge_data: D,
+    store: &mut D::Store,
+) -> Option<Segment<ShapeCountBoolean, i32, D>>
     ensures asks { is_some result ≡ asks given.now }
     ensures segment { IfSome result (λ segment. segment_of segment ≡ asked_by given.now) }
+    ensures edge_data { IfSome result (λ segment. let hooks = hooks_of boolean_counted D.OverlayEdgeData.own in
+        data_segment_of segment ≡ (data_piece hooks (count_of given.now) (start_of given.now) (end_of given.now)
+        edge_data store.old).0) }
 {
     if has_equal_ends(given) {
         return None;
@@ -88,7 +98,7 @@ pub fn asked(given: &SegmentRecord) -> Option<Side>
         return None;
     }
     let (a, b) = (start(given), end(given));
-    Some(Segment::create_and_validate_with_data(a, b, count, (), &mut ()))
+    Some(Segment::create_and_validate_with_data(a, b, count, edge_data, store))
 }
 
 /// Whether the two ends of a record are one point.
@@ -155,7 +165,7 @@ pub fn tell_all(segments: &[Side], out: &mut [SegmentRecord])
 }
 
 /// The record of a link.
-pub fn link(link: &OverlayLink<i32, ()>) -> LinkRecord
+pub fn link<D: Copy>(link: &OverlayLink<i32, D>) -> LinkRecord
     ensures { link_by result ≡ link_of (λ z. z) link.now }
 {
     LinkRecord {
@@ -248,6 +258,8 @@ pub struct SizesRecord {
     pub segments: usize,
     pub lines: usize,
     pub links: usize,
+    /// Of how many links there is data.
+    pub link_data: usize,
     pub nodes: usize,
     pub node_links: usize,
     pub walks: usize,

@@ -1,0 +1,11 @@
+use Rattle.std.proofs.Common.{◌∙◌, ap}
+use Rattle.overlay_geometry.specs.PairOf.{pair_of}
+use Rattle.overlay_base.specs.BooleanWinding.{boolean_winding}
+use Rattle.overlay_base.proofs.laws.joins.DataJoins.{bare}
+use Rattle.overlay_c.proofs.LinkData.{made_again}
+use Rattle.overlay_c.proofs.tags.untagged.Goals as goal
+
+pub returns : goal.returns
+returns c =
+    ap bare c.create_and_validate_with_data.ensures.segment
+    ∙ made_again _ _ _ _ _ _ _ _ c.args.segment.now.ordered (ap (λ s. pair_of (λ z. z) s) c.x_segment-ends.ensures) (ap boolean_winding c.count.ensures)
