@@ -7,24 +7,17 @@ Each kind of bench/split.py is made of the given numbers of segments (16,000 and
 a line is printed: kind, segments given, and the processor's seconds of `split` and `graph` under the list, then under the tree. What
 `graph` takes longer than `split` is the sweep, the links and nodes, and the longer text.
 """
-import resource
+import argparse
 import subprocess
-import sys
 
-from split import KINDS, PROGRAM, build
-
-
-def used():
-    """The processor's seconds of all runs so far, which another load on the machine changes little."""
-    children = resource.getrusage(resource.RUSAGE_CHILDREN)
-    return children.ru_utime + children.ru_stime
+from split import KINDS, PROGRAM, build, processor_time
 
 
 def seconds(command, strategy, text):
-    start = used()
+    start = processor_time()
     subprocess.run([PROGRAM, command, f"strategy={strategy}"], input=text, text=True, stdout=subprocess.DEVNULL,
                    check=True)
-    return used() - start
+    return processor_time() - start
 
 
 def measure(kind, number):
@@ -34,7 +27,9 @@ def measure(kind, number):
 
 
 def main():
-    numbers = [int(word) for word in sys.argv[1:]] or [16_000, 50_000]
+    parser = argparse.ArgumentParser(description=__doc__, formatter_class=argparse.RawDescriptionHelpFormatter)
+    parser.add_argument("numbers", nargs="*", type=int, default=[16_000, 50_000])
+    numbers = parser.parse_args().numbers
     build()
     print("kind        given  split list  graph list  split tree  graph tree")
     for kind in KINDS:

@@ -24,6 +24,7 @@ and `far-one` are left out where the other build refuses such coordinates.
 - far-one: as horizontal, but the last one is short and far to the right, so that in a grid all others stand in one column;
 - rings: two rings of short edges, of one size, that cross in two places.
 """
+import argparse
 import math
 import os
 import random
@@ -186,19 +187,20 @@ def memory(strategy, text):
 
 
 def main():
-    words = sys.argv[1:]
-    other = words[1] if words[:1] == ["--against"] else None
-    numbers = [int(word) for word in (words[2:] if other else words)] or [1_000, 4_000, 16_000, 50_000]
+    parser = argparse.ArgumentParser(description=__doc__, formatter_class=argparse.RawDescriptionHelpFormatter)
+    parser.add_argument("--against", metavar="PROGRAM", help="another build of the program")
+    parser.add_argument("numbers", nargs="*", type=int, default=[1_000, 4_000, 16_000, 50_000])
+    given = parser.parse_args()
     build()
-    if other:
+    if given.against:
         print("kind        given     this    other  times")
         for kind in KINDS:
-            for number in numbers:
-                compare(other, kind, number)
+            for number in given.numbers:
+                compare(given.against, kind, number)
         return
     print("kind        given   pieces passes     sort     join " + " ".join(f"{strategy:>8}" for strategy in STRATEGIES) + "  MB list frag")
     for kind in KINDS:
-        for number in numbers:
+        for number in given.numbers:
             measure(kind, number)
 
 

@@ -119,6 +119,10 @@ fn answer_with<I: OverlayInt>(
 }
 
 #[cfg(test)]
+mod failing_tests;
+#[cfg(test)]
 mod region_tests;
 #[cfg(test)]
 mod tests;
+#[cfg(test)]
+mod worked_runs;
