@@ -125,4 +125,4 @@ mod region_tests;
 #[cfg(test)]
 mod tests;
 #[cfg(test)]
-mod worked_runs;
+mod worked_tests;

@@ -1,6 +1,6 @@
 // Whole runs over memory: words and lines in, the exit status and both outputs out.
 
-use super::worked_runs::WORKED;
+use super::worked_tests::WORKED;
 use super::*;
 use overlay_base::segm::fault::Fault;
 use overlay_text::shell::refuse;
@@ -9,7 +9,6 @@ use std::process::Abort;
 use std::test::Fail;
 
 pub const USAGE: &str = "usage: arrange join|cross|split|graph|walks [name=value ..]\n";
-
 
 /// The graph of what both squares cover.
 const COMMON_PART: &str = "\
