@@ -1,4 +1,4 @@
--- What the program answers to the text of its input.
+-- What the program makes of the text of its input.
 use Rattle.std.specs.Prelude.{Bool, ◌≡◌, ◌⊎◌, ◌++◌, ℕ, ℤ, if◌then◌else◌, List, length, Ok, Err, unsigned_abs, IsTrue, IsFalse}
 use Rattle.std.specs.Option.{ok_or}
 use Rattle.std.specs.declared.result.Result.{Result}
@@ -24,7 +24,7 @@ use Rattle.overlay_text.specs.Runs.{Behavior}
 use Rattle.overlay_text.specs.Words.{WordsAsk}
 use Rattle.overlay_text.specs.Text.{lines_of, AskInTurnFor, IsFirstFault}
 
--- what a split is set to, in coordinates of so many bits
+-- what a split is set to, in coordinates of that many bits
 abbrev pub split_settings : ℕ → Settings → RunSettings
 split_settings bits settings = record {
   start = settings.precision.start;
@@ -53,7 +53,7 @@ IsGraphCost bits settings segments asked =
     (passes : ℕ) × IsPassCount (split_settings bits settings) segments passes
     × IsSweepCost (list_fills settings.strategy (length (after_passes (split_settings bits settings) segments passes))) (after_passes (split_settings bits settings) segments passes) asked
 
--- what a command makes of segments, in coordinates of so many bits
+-- what a command makes of segments, in coordinates of that many bits
 abbrev pub IsCommandAnswer : ℕ → Command → Settings → List WholeSegment → Result (List ℕ) Stop → Type 0
 IsCommandAnswer bits Join settings segments answer =
     answer ≡ (if join_leaves_range segments then Err (Refused CountOutOfRange)

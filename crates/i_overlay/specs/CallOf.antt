@@ -1,4 +1,4 @@
--- What a call of a split and a build leaves, told of its solver, of the splitter before and after, and of the list before
+-- What a call of a split and a build leaves, by its solver, the splitter before and after, and the list before
 -- and after.
 use Rattle.std.specs.Prelude.{◌≡◌, ◌⊎◌, ℕ, Bool, IsTrue, IfOk, List, [], Result, Vec}
 use Rattle.std.specs.List.{list_all}

@@ -1,4 +1,4 @@
--- Which places the graph of a split encloses, told by what was given.
+-- Which places the graph of a split encloses, by what was given.
 use Rattle.std.specs.Prelude.{◌≡◌, ℕ, ◌<◌, Bool, false, List}
 use Rattle.overlay_base.specs.Windings.{empty}
 use Rattle.overlay_base.specs.Segments.{WholeSegment, pairs}
@@ -14,7 +14,7 @@ use Rattle.overlay_build.specs.Values.{value_at, tells_apart}
 use Rattle.overlay_build.specs.Regions.{encloses}
 use Rattle.overlay_build.specs.Boundary.{of_subject, directed_links, times_round}
 
--- The graph encloses exactly the places that a rule tells from those outside, by how the given segments wind, at the
+-- The graph encloses exactly the places at which a rule differs from outside, by how the given segments wind, at the
 -- places that are farther from them than the passes reach.
 abbrev pub EnclosesFarRegion : Settings → (Bool → Bool → Bool) → FillRule → List WholeSegment → ℕ → Graph → Type 0
 EnclosesFarRegion settings rule fill_rule given passes graph =

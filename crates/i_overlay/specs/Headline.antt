@@ -1,4 +1,4 @@
--- What a split and a build answer together, whichever strategy finds the pairs that meet.
+-- What a split and a build return together, whichever strategy finds the pairs that meet.
 use Rattle.std.specs.Prelude.{◌≡◌, ◌⊎◌, ℕ, ℤ, Bool, ◌&&◌, IsTrue, List, [], All}
 use Rattle.overlay_geometry.specs.Points.{Pair}
 use Rattle.overlay_base.specs.Segments.{WholeSegment, is_map}
@@ -27,7 +27,7 @@ use Rattle.i_overlay.specs.LinesAlong.{KeepsLines}
 
 -- What a split leaves of what it is given.
 pub record IsSplit (settings : Settings) (given segments : List WholeSegment) (passes : ℕ) : Type 0 where
-  -- The segments are the one arrangement that the passes define: so many passes, one after another.
+  -- The segments are the one arrangement that the passes define: that many passes, one after another.
   pub count : IsPassCount settings given passes
   pub arrangement : segments ≡ after_passes settings given passes
   -- Every two of them share at most a common end; and at every point as much starts, less what ends, as was given.
@@ -49,7 +49,7 @@ pub record IsOverlay (settings : Settings) (fill_rule : FillRule) (rule : Bool �
   pub split : IsSplit settings given segments passes
   -- The graph is that of the segments whose fill the rule keeps.
   pub links : graph ≡ graph_by (keeps_fill rule) fill_rule segments
-  -- Where the given counts balance, it holds exactly the segments whose sides the rule tells apart, with the fills of
+  -- Where the given counts balance, it holds exactly the segments whose sides differ under the rule, with the fills of
   -- these sides, evenly many links at every node, it encloses the region of the rule in the arrangement, and its links are
   -- the directed boundary of that region.
   pub balanced : IsBalanced given → IsBalancedOverlay rule fill_rule segments graph

@@ -3,7 +3,7 @@ use Rattle.std.specs.Prelude.{ℕ, Bool, true, false, nat_lt}
 use Rattle.overlay_base.specs.declared.overlay_core.solver.Strategy.{Strategy}
 use Rattle.overlay_base.specs.declared.overlay_core.solver.Strategy.TheVariants.{List, Tree, Frag, Auto}
 
--- whether a pass looks at all pairs of a list
+-- whether a pass compares all pairs of a list
 abbrev pub list_splits : Strategy → ℕ → Bool
 list_splits List count = true
 list_splits Tree count = false

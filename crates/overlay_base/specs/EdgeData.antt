@@ -1,5 +1,5 @@
 -- Data that segments carry, and the hooks that are called where segments are turned, split and merged.
--- Each hook is a function of its arguments and of a store, and answers the new store beside its result.
+-- Each hook is a function of its arguments and of a store, and returns the new store beside its result.
 use Rattle.std.specs.Prelude.{◌≡◌, ℕ, Bool, ◌+◌, ◌<◌, true, false, IsTrue, IsFalse, List, [], ◌∷◌, map, filter, length, take, if◌then◌else◌}
 use Rattle.overlay_geometry.specs.Points.{Point, Pair, point_lt, pair_cmp, pair_eq}
 use Rattle.overlay_geometry.specs.Sorting.{stably_sorted}

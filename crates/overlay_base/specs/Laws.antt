@@ -87,7 +87,7 @@ JoinKeepsSums = (g : Pair → ℤ) (part : Winding → ℤ) → IsLinear part �
 abbrev pub JoinKeepsBalance : Type 0
 JoinKeepsBalance = (bag : List WholeSegment) → KeepsBalance bag (join bag)
 
--- sorted by pair, neighbors tell whether the bag had equal pairs
+-- sorted by pair, neighbors show whether the bag had equal pairs
 abbrev pub NeighborsTellEqualPairs : Type 0
 NeighborsTellEqualPairs = (bag sorted : List WholeSegment) → IsPermutation bag sorted → IsSortedByKey (λ s. s.pair) pair_cmp sorted → has_equal_neighbors sorted ≡ has_equal_pairs bag
 
@@ -134,7 +134,7 @@ BalancedLosesNothing =
     (f : Point → ℤ) (segments : List WholeSegment) → IsBalanced segments →
     (weighed (λ s. f s.a -ℤ f s.b) (λ c. c.subj) segments ≡ pos 0) × (weighed (λ s. f s.a -ℤ f s.b) (λ c. c.clip) segments ≡ pos 0)
 
--- The winding round a place is told by any of its four rays: balanced segments, none of which goes through p, wind there by what is above it, to the left of it
+-- The winding round a place is that of any of its four rays: balanced segments, none of which goes through p, wind there by what is above it, to the left of it
 -- and to the right of it as by what is below it.
 abbrev pub AnyRayWillDo : Type 0
 AnyRayWillDo =

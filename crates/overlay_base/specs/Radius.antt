@@ -8,7 +8,7 @@ exponent_of radius = radius.current
 abbrev pub step_of : SnapRadius → ℕ
 step_of radius = radius.step
 
--- the greatest exponent of an engine whose coordinates have so many bits
+-- the greatest exponent of an engine whose coordinates have that many bits
 abbrev pub exponent_cap : ℕ → ℕ
 exponent_cap bits = 2 * (bits - 4)
 

@@ -5,12 +5,12 @@ use Rattle.overlay_base.specs.declared.overlay_core.overlay_rule.OverlayRule.{Ov
 use Rattle.overlay_base.specs.declared.overlay_core.overlay_rule.OverlayRule.TheVariants.{Subject, Clip, Intersect, Union, Difference, InverseDifference, Xor, Table}
 use Rattle.overlay_base.specs.declared.overlay_core.rule_table.RuleTable.{RuleTable}
 
--- whether two answers differ
+-- whether two values differ
 abbrev pub differ : Bool → Bool → Bool
 differ true b = not b
 differ false b = b
 
--- A bit of a number. Of a fill 0 and 1 tell where the subject is inside, at the top and at the bottom, 2 and 3 where the
+-- A bit of a number. Of a fill 0 and 1 say where the subject is inside, at the top and at the bottom, 2 and 3 where the
 -- clip is.
 abbrev pub bit : ℕ → ℕ → Bool
 bit n k = bit_at n k == 1

@@ -9,7 +9,7 @@ use Rattle.overlay_geometry.specs.declared.geom.x_segment.XSegment.{XSegment}
 use Rattle.overlay_base.specs.declared.segm.segment.Segment.{Segment}
 use Rattle.std.specs.Global.{Global}
 
--- what a segment's readers answer
+-- what a segment's readers return
 abbrev pub x_segment_of : {C I D : Type 0} {m : _} {w : _} {o : _} {e : _} {p : _} → Segment C I D m w o e p → XSegment I
 x_segment_of s = s.x_segment
 

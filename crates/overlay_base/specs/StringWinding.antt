@@ -13,6 +13,6 @@ string_counted w = record { subj = w.subj; clip = w.mask }
 abbrev pub mask_of : ℤ → ℕ
 mask_of n = if int_lt (pos 0) n then 2 else (if int_lt n (pos 0) then 1 else 0)
 
--- the winding made of a number for the subject and one that tells which way a line runs
+-- the winding made of a number for the subject and one that says which way a line runs
 abbrev pub string_made : ℤ → ℤ → Winding
 string_made subj clip = record { subj = subj; clip = pos 0; mask = mask_of clip }

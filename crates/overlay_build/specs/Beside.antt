@@ -74,7 +74,7 @@ pub record TellsPlaces (segments : List WholeSegment) (s : WholeSegment) : Type 
   pub top : (p : RationalPoint) → 0 < p.bottom → IsTrue (is_on_top_of segments s.pair p) → winding_below segments p ≡ side_top segments s
   pub bottom : (p : RationalPoint) → 0 < p.bottom → IsTrue (is_at_bottom_of segments s.pair p) → winding_below segments p ≡ side_bottom segments s
 
--- So its fill is that of the windings at two such places, and a rule tells its sides apart where it tells these apart.
+-- So its fill is that of the windings at two such places, and its sides differ under a rule where these do.
 pub record FillTellsPlaces (rule : Bool → Bool → Bool) (fill_rule : FillRule) (segments : List WholeSegment) (s : WholeSegment) (p q : RationalPoint) : Type 0 where
   pub fill : (with_sides fill_rule segments s).fill ≡ fill_byte fill_rule (winding_below segments q) (winding_below segments p) s.count.mask
   pub kept : has_sides_apart rule fill_rule segments s ≡ tells_apart rule fill_rule (winding_below segments q) (winding_below segments p)

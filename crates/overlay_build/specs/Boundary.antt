@@ -36,7 +36,7 @@ truth b = if b then pos 1 else pos 0
 unfoldable pub directed_count : (Bool → Bool → Bool) → FillRule → List WholeSegment → WholeSegment → ℤ
 directed_count rule fill_rule segments s = truth (value_at rule fill_rule (side_top segments s)) -ℤ truth (value_at rule fill_rule (side_bottom segments s))
 
--- the segments whose sides it tells apart, each with this count
+-- the segments whose sides differ under it, each with this count
 unfoldable pub boundary : (Bool → Bool → Bool) → FillRule → List WholeSegment → List WholeSegment
 boundary rule fill_rule segments =
     map (λ s. record { pair = s.pair; count = of_subject (directed_count rule fill_rule segments s) })

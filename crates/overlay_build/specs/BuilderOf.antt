@@ -15,7 +15,7 @@ use Rattle.overlay_build.specs.declared.build.graph.OverlayGraph.{OverlayGraph}
 use Rattle.overlay_build.specs.contracts.build.graph_node.OverlayNode.{the_row as node_row}
 use Rattle.overlay_build.specs.contracts.build.builder.GraphBuilder.{the_row}
 
--- what its readers answer
+-- what its readers return
 abbrev pub built_nodes : {C N I D : Type 0} {m : _} {w : _} {o : _} {e : _} {p : _} → GraphBuilder C N I D m w o e p → List N
 built_nodes builder = builder.nodes.items
 

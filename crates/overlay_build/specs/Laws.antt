@@ -46,7 +46,7 @@ GraphsAreValid =
     (fill_rule : FillRule) (rule : Bool → Bool → Bool) (segments : List WholeSegment) → IsTrue (is_map segments) → IsTrue (are_polygons segments) → IsTrue (is_planar segments) → IsBalanced segments →
     IsTrue (is_valid_graph (graph_by (keeps_fill rule) fill_rule segments))
 
--- and its graph is that of the segments whose sides it tells apart
+-- and its graph is that of the segments whose sides differ under it
 abbrev pub GraphsAreExact : Type 0
 GraphsAreExact =
     (fill_rule : FillRule) (rule : Bool → Bool → Bool) (segments : List WholeSegment) → IsTrue (is_map segments) → IsTrue (are_polygons segments) → IsTrue (is_planar segments) → IsBalanced segments →
@@ -58,7 +58,7 @@ ClipGraphsAreExact =
     (fill_rule : FillRule) (rule : ClipRule) (segments : List WholeSegment) → IsTrue (is_map segments) → All CountsLines segments → IsTrue (is_planar segments) → IsBalanced segments →
     graph_by (keeps_clip rule) fill_rule segments ≡ clip_graph rule fill_rule segments
 
--- the graph of a truth function encloses exactly the places that it tells from those outside
+-- the graph of a truth function encloses exactly the places at which it differs from outside
 abbrev pub GraphsEncloseRegions : Type 0
 GraphsEncloseRegions =
     (fill_rule : FillRule) (rule : Bool → Bool → Bool) (segments : List WholeSegment) → IsTrue (is_map segments) → IsTrue (are_polygons segments) → IsTrue (is_planar segments) → IsBalanced segments →
@@ -93,7 +93,7 @@ SidesTellPlaces = (segments : List WholeSegment) → IsTrue (is_map segments) �
 abbrev pub SidesHavePlaces : Type 0
 SidesHavePlaces = (segments : List WholeSegment) → IsTrue (is_map segments) → IsTrue (is_planar segments) → All (λ s. HasPlacesBeside segments s.pair) segments
 
--- So the fill of each tells how the segments wind at any two places directly beside it, one on each side.
+-- So the fill of each says how the segments wind at any two places directly beside it, one on each side.
 abbrev pub FillsTellPlaces : Type 0
 FillsTellPlaces =
     (fill_rule : FillRule) (rule : Bool → Bool → Bool) (segments : List WholeSegment) → IsTrue (is_map segments) → IsTrue (is_planar segments) → IsBalanced segments →

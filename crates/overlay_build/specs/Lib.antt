@@ -16,5 +16,5 @@ pub mod Walks
 pub mod DirectedWalks
 pub mod BalancedOf
 pub mod BoundaryOf
--- what private functions tell one another
+-- what only contracts of private functions use
 pub mod steps

@@ -10,7 +10,7 @@ use Rattle.overlay_build.specs.Graph.{Graph, graph_by, data_by, has_even_nodes}
 use Rattle.overlay_build.specs.GraphOf.{HoldGraph, graph_with}
 use Rattle.overlay_build.specs.NodeIndexes.{indexes_of, is_canonical_node}
 
--- what its readers answer
+-- what its readers return
 abbrev pub nodes_of : {I D : Type 0} {w : _} {o : _} {e : _} {p : _} → OverlayGraph I D w o e p → List OverlayNode
 nodes_of graph = graph.nodes.now
 

@@ -11,7 +11,7 @@ use Rattle.overlay_build.specs.Values.{tells_apart}
 unfoldable pub encloses : Graph → RationalPoint → Bool
 encloses graph p = length (filter (λ l. lies_below l.pair p) graph.links) % 2 == 1
 
--- The graph encloses exactly the places that a rule tells from those outside, by how the segments wind there.
+-- The graph encloses exactly the places at which a rule differs from outside, by how the segments wind there.
 abbrev pub EnclosesRegion : (Bool → Bool → Bool) → FillRule → List WholeSegment → Graph → Type 0
 EnclosesRegion rule fill_rule segments graph =
     (p : RationalPoint) → 0 < p.bottom → encloses graph p ≡ tells_apart rule fill_rule empty (winding_below segments p)

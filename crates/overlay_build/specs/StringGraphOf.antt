@@ -26,7 +26,7 @@ use Rattle.overlay_build.specs.Graph.{Graph, graph_by}
 use Rattle.overlay_build.specs.GraphOf.{HoldGraph, graph_with}
 use Rattle.overlay_build.specs.NodeIndexes.{items_of, is_any_node}
 
--- what its readers answer
+-- what its readers return
 abbrev pub nodes_of : {I : Type 0} {w : _} {o : _} {e : _} {p : _} → StringGraph I w o e p → List (Vec ℕ Global)
 nodes_of graph = graph.builder.now.nodes.items
 

@@ -19,11 +19,11 @@ use Rattle.overlay_c.specs.declared.engine.Engine.{Engine}
 use Rattle.overlay_c.specs.declared.refusal.Refusal.{Refusal}
 use Rattle.overlay_c.specs.declared.refusal.Refusal.TheVariants.{Refused, NotSplittable, OutOfRange}
 
--- the point that a record tells
+-- the point of a record
 abbrev pub point_by : PointRecord → Point
 point_by r = record { x = r.x; y = r.y }
 
--- whether the points that records tell are in range
+-- whether the points of records are in range
 abbrev pub are_in_range : List PointRecord → Bool
 are_in_range records = list_all (is_point_in_range least_coordinate greatest_coordinate) (map point_by records)
 

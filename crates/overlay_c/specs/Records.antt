@@ -60,14 +60,14 @@ line_asks r = not (int_eq r.ax r.bx && int_eq r.ay r.by) && is_valid (line_count
 abbrev pub line_asked_by : LineRecord → WholeSegment
 line_asked_by r = piece_of (line_count_of r) (line_start_of r) (line_end_of r)
 
--- the segment that it tells, as it stands
+-- the segment of it, as it stands
 abbrev pub told_by : SegmentRecord → WholeSegment
 told_by r = record { pair = record { a = start_of r; b = end_of r }; count = count_of r }
 
 abbrev pub line_told_by : LineRecord → WholeSegment
 line_told_by r = record { pair = record { a = line_start_of r; b = line_end_of r }; count = line_count_of r }
 
--- the link that it tells
+-- the link of it
 abbrev pub link_by : LinkRecord → Link
 link_by r = record { pair = record { a = record { x = r.ax; y = r.ay }; b = record { x = r.bx; y = r.by } }; fill = r.fill; a_node = r.a_node; b_node = r.b_node }
 

@@ -1,4 +1,4 @@
--- What a fault is told as, and the codes of outcomes.
+-- The refusal of a fault, and the codes of outcomes.
 use Rattle.std.specs.Prelude.{ℕ, Result, Ok, Err}
 use Rattle.overlay_base.specs.declared.segm.fault.Fault.TheVariants.{Memory, CountOutOfRange}
 use Rattle.overlay_c.specs.declared.refusal.Refusal.{Refusal}

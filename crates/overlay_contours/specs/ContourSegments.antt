@@ -1,4 +1,4 @@
--- The segments of contours: one for each edge, with a count that tells which way its step runs.
+-- The segments of contours: one for each edge, with a count that says which way its step runs.
 use Rattle.std.specs.Prelude.{◌≡◌, ℕ, ℤ, Bool, IsTrue, IsFalse, if◌then◌else◌, List, ◌∷◌, ◌++◌, map, filter, length}
 use Rattle.std.specs.List.{list_all}
 use Rattle.overlay_geometry.specs.Points.{Point, Pair, point_lt}
@@ -12,7 +12,7 @@ use Rattle.overlay_base.specs.declared.segm.shape_type.ShapeType.{ShapeType}
 use Rattle.overlay_base.specs.declared.segm.shape_type.ShapeType.TheVariants.{Subject, Clip}
 use Rattle.overlay_contours.specs.Contours.{steps, turned, is_edge, winding_number}
 
--- the segment of a step: its ends in order, and a count of one that tells which way it ran
+-- the segment of a step: its ends in order, and a count of one that says which way it ran
 abbrev pub step_segment : ShapeType → Pair → WholeSegment
 step_segment shape_type s =
     if point_lt s.a s.b

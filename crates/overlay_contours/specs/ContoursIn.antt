@@ -1,4 +1,4 @@
--- What calls tell of contours of code. An engine says how a coordinate is read, and which one is the least, and the greatest.
+-- What calls say of contours of code. An engine says how a coordinate is read, and which one is the least, and the greatest.
 use Rattle.std.specs.Prelude.{◌≡◌, ℕ, ℤ, Bool, IsTrue, List, [], Vec, count_by, map}
 use Rattle.std.specs.List.{list_all}
 use Rattle.std.specs.Global.{Global}
@@ -86,7 +86,7 @@ PaintWhatIsEnclosed {w = w} graph contours = (p : RationalPoint) → is_painted 
 
 -- ---- overlays
 
--- The contours are what the overlay of a subject's and a clip's answers.
+-- The contours are what the overlay of a subject's and a clip's returns.
 abbrev pub IsOverlayOf : {I : Type 0} → Engine I → Solver → OverlayRule → FillRule → List (Vec (IntPoint I) Global) → List (Vec (IntPoint I) Global) → Vec (Vec (IntPoint I) Global) Global → Type 0
 IsOverlayOf engine solver rule fill_rule subject clip contours =
     IsPolygonOverlay (settings_for engine.BITS solver) rule fill_rule (contours_of engine.whole subject) (contours_of engine.whole clip) (contours_of engine.whole contours.items)

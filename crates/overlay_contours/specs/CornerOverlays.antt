@@ -11,7 +11,7 @@ use Rattle.overlay_contours.specs.Contours.{AreProper, winding_number, is_painte
 use Rattle.overlay_contours.specs.Corners.{corners}
 use Rattle.overlay_contours.specs.Polygons.{IsPolygonOverlay, IsFarFrom, is_in_overlay}
 
--- what an overlay answers where the points are left out at which a contour goes straight on
+-- what an overlay returns where the points are left out at which a contour goes straight on
 pub record IsCornerOverlay (settings : Settings) (rule : OverlayRule) (fill_rule : FillRule) (subject clip answer : List (List Point)) : Type 0 where
   -- the contours of the overlay with all their points
   pub full : List (List Point)

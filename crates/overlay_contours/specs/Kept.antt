@@ -38,7 +38,7 @@ abbrev pub IsRefusalToAdd : {I : Type 0} {w : _} {o : _} {e : _} {p : _} → Sha
 IsRefusalToAdd {w = w} shape_type contour overlay fault =
     IsContourRefusal (w.whole w.MIN_COORD) (w.whole w.MAX_COORD) shape_type (contours_kept shape_type overlay) (points_of w.whole contour) fault
 
--- The contours are what the overlay of those that are kept answers; the same without collinear points.
+-- The contours are what the overlay of those that are kept returns; the same without collinear points.
 abbrev pub IsOverlayOfKept : {I : Type 0} {w : _} {o : _} {e : _} {p : _} → Solver → OverlayRule → FillRule → Overlay I w o e p → Vec (Vec (IntPoint I) Global) Global → Type 0
 IsOverlayOfKept {w = w} solver rule fill_rule overlay contours =
     IsPolygonOverlay (settings_for w.BITS solver) rule fill_rule (subject_of overlay) (clip_of overlay) (contours_of w.whole contours.items)

@@ -19,7 +19,7 @@ use Rattle.overlay_build.specs.Boundary.{truth, boundary}
 use Rattle.overlay_contours.specs.Contours.{turned, directed_edges, edges, AreProper, winding_number, is_painted}
 use Rattle.overlay_contours.specs.ContourSegments.{overlay_segments}
 
--- what a run is set to in coordinates of so many bits: the precision of the solver, and 256 passes that may snap
+-- what a run is set to in coordinates of that many bits: the precision of the solver, and 256 passes that may snap
 abbrev pub settings_for : ℕ → Solver → Settings
 settings_for bits solver = record {
   start = solver.precision.start;
@@ -32,7 +32,7 @@ settings_for bits solver = record {
 abbrev pub is_in_overlay : OverlayRule → FillRule → List (List Point) → List (List Point) → RationalPoint → Bool
 is_in_overlay rule fill_rule subject clip p = holds rule (is_inside fill_rule (winding_number subject p)) (is_inside fill_rule (winding_number clip p))
 
--- p is farther from the edges of the given contours than so many passes of a run over them move things
+-- p is farther from the edges of the given contours than that many passes of a run over them move things
 abbrev pub IsFarFrom : Settings → List (List Point) → List (List Point) → ℕ → RationalPoint → Type 0
 IsFarFrom settings subject clip passes p = IsFar (reach_of_run settings (overlay_segments subject clip) passes) p (edges subject ++ edges clip)
 
@@ -41,11 +41,11 @@ abbrev pub run_of : WholeSegment → Pair
 run_of s = if int_lt (pos 0) s.count.subj then s.pair else turned s.pair
 
 -- The edges of the contours, as they run, are the boundary of the rule's region in an arrangement: the segments whose
--- sides the rule tells apart, each once, in the direction that has the side of which it holds on its left.
+-- sides differ under the rule, each once, in the direction that has the side of which it holds on its left.
 abbrev pub RunsAlongBoundary : OverlayRule → FillRule → List WholeSegment → List (List Point) → Type 0
 RunsAlongBoundary rule fill_rule arrangement contours = (test : Pair → Bool) → count_by test (directed_edges contours) ≡ count_by test (map run_of (boundary (holds rule) fill_rule arrangement))
 
--- what an overlay answers for the contours of a subject and of a clip
+-- what an overlay returns for the contours of a subject and of a clip
 pub record IsPolygonOverlay (settings : Settings) (rule : OverlayRule) (fill_rule : FillRule) (subject clip answer : List (List Point)) : Type 0 where
   -- the number of passes that the run makes
   pub passes : ℕ

@@ -5,7 +5,7 @@ use Rattle.overlay_base.specs.Choices.{grid_splits, list_splits}
 use Rattle.overlay_base.specs.declared.overlay_core.solver.Strategy.{Strategy}
 use Rattle.overlay_grid.specs.Grid.{Layout, IsLayoutOf, IsTooNarrow}
 
--- whether passes go over a grid at all: not where the first looks at all pairs of a list
+-- whether passes go over a grid at all: not where the first compares all pairs of a list
 abbrev pub takes_grid : Strategy → ℕ → Bool
 takes_grid strategy count = grid_splits strategy count && not (list_splits strategy count)
 

@@ -1,4 +1,4 @@
--- How many pairs a pass over a grid may take up.
+-- How many pairs a pass over a grid may compare.
 use Rattle.std.specs.Prelude.{ℕ, ◌+◌, ◌==◌, nat_lt, Bool, ◌&&◌, List, flat_map, length, sum_by, count_by}
 use Rattle.std.specs.Ordering.{int_eq}
 use Rattle.overlay_geometry.specs.Points.{Pair, is_vertical}
@@ -19,10 +19,10 @@ is_on_border l s = is_vertical s && nat_lt 0 (column_index l s.a.x) && int_eq s.
 unfoldable pub border_contacts : Layout → List Pair → Pair → ℕ
 border_contacts l segments s = count_by (λ f. is_on_border l s && (f.column + 1 == column_index l s.a.x)) (all_fragments l segments)
 
--- what a look at all fragments of a grid takes up: the twos in one column whose heights meet, and the contacts on borders
+-- what a scan of all fragments of a grid compares: the pairs in one column whose heights meet, and the contacts on borders
 unfoldable pub fragment_looks : Layout → List Pair → ℕ
 fragment_looks l segments = count_twos fragments_meet (all_fragments l segments) + sum_by (λ s. border_contacts l segments s) segments
 
--- a pass of the grid may take up so many, and as many besides as there are fragments
+-- a pass of the grid may compare that many, and as many besides as there are fragments
 unfoldable pub grid_looks : Layout → List Pair → ℕ
 grid_looks l segments = length (all_fragments l segments) + fragment_looks l segments

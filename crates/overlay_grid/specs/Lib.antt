@@ -4,5 +4,5 @@ pub mod FragmentOf
 pub mod GroupsOf
 pub mod GridFor
 pub mod Laws
--- what private functions tell one another
+-- what only contracts of private functions use
 pub mod steps

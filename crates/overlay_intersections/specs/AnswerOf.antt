@@ -22,7 +22,7 @@ abbrev pub answer_of : {I : Type 0} → (I → ℤ) → Option (CrossResult I) �
 answer_of whole None = None
 answer_of whole (Some result) = Some (result_of whole result)
 
--- The answer of a call is what the meeting of two segments is answered as.
+-- The answer of a call is that of the meeting of two segments.
 abbrev pub IsCrossAnswer : {I : Type 0} → (I → ℤ) → Placing → XSegment I → XSegment I → Option (CrossResult I) → Type 0
 IsCrossAnswer whole placing target other answer = answer_of whole answer ≡ cross_answer placing (pair_of whole target) (pair_of whole other)
 

@@ -1,4 +1,4 @@
--- What the meeting of a target and another segment is answered as, and which marks an answer stands for.
+-- The answer for the meeting of a target and another segment, and which marks an answer stands for.
 use Rattle.std.specs.Prelude.{ℕ, ◌+◌, pos, Bool, false, not, if◌then◌else◌, List, [], ◌∷◌, filter, Option, Some, None}
 use Rattle.overlay_geometry.specs.Points.{Point, Pair, is_end, is_strictly_inside}
 use Rattle.overlay_geometry.specs.Meeting.{are_collinear, do_cross}

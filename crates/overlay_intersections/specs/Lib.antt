@@ -10,5 +10,5 @@ pub mod MarksBetween
 pub mod PlacingOf
 pub mod Looked
 pub mod Laws
--- what private functions tell one another
+-- what only contracts of private functions use
 pub mod steps

@@ -1,9 +1,9 @@
--- How many pairs a pass may take up. Ranges meet where they share a number.
+-- How many pairs a pass may compare. Ranges meet where they share a number.
 use Rattle.std.specs.Prelude.{ℕ, ◌+◌, ◌*◌, ℤ, int_le, Bool, ◌&&◌, List, [], ◌∷◌, length, count_by, ◌-◌, ◌^◌, min}
 use Rattle.std.specs.Int.{int_min, int_max}
 use Rattle.overlay_geometry.specs.Points.{Pair}
 
--- how many twos of elements, each before the other in the list, pass
+-- how many pairs of elements, each before the other in the list, pass
 unfoldable pub count_twos : {X : Type 0} → (X → X → Bool) → List X → ℕ
 count_twos test [] = 0
 count_twos test (x ∷ xs) = count_by (λ y. test x y) xs + count_twos test xs
@@ -18,11 +18,11 @@ boxes_meet s t = ranges_meet s.a.x s.b.x t.a.x t.b.x && ranges_meet s.a.y s.b.y 
 unfoldable pub x_ranges_meet : Pair → Pair → Bool
 x_ranges_meet s t = ranges_meet s.a.x s.b.x t.a.x t.b.x
 
--- a pass of the list takes up each two whose ranges in x meet
+-- a pass of the list compares each pair whose ranges in x meet
 unfoldable pub list_looks : List Pair → ℕ
 list_looks segments = count_twos x_ranges_meet segments
 
--- A pass of the tree takes up each two whose boxes meet, and for each segment at most 48 more: as many as are live without a
+-- A pass of the tree compares each pair whose boxes meet, and for each segment at most 48 more: as many as are live without a
 -- tree, fewer than 48, and the segment itself, where it is dropped.
 unfoldable pub tree_looks : List Pair → ℕ
 tree_looks segments = 48 * length segments + count_twos boxes_meet segments

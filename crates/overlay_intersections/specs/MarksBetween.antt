@@ -1,4 +1,4 @@
--- What a look at every two segments of a list finds.
+-- What a comparison of every pair of segments of a list finds.
 use Rattle.std.specs.Prelude.{ℕ, ◌+◌, Bool, false, ◌||◌, List, [], ◌∷◌, ◌++◌, map, filter}
 use Rattle.std.specs.List.{list_any}
 use Rattle.overlay_geometry.specs.Points.{Point, Pair, is_strictly_inside}

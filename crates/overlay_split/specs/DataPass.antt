@@ -63,6 +63,6 @@ pub record IsStoppedRun {D S : Type 0} (hooks : Hooks D S) (settings : Settings)
       let joined : List (DataSegment D) × S = data_joined_in hooks settings given from in_pass in
       IsRefusedJoin hooks joined.0 joined.1 left
 
--- The data of the segments is what the hooks of so many passes make of what is given, from some store at first.
+-- The data of the segments is what the hooks of that many passes make of what is given, from some store at first.
 abbrev pub IsDataAfter : {D S : Type 0} → Hooks D S → (S → Type 0) → Settings → List (DataSegment D) → List (DataSegment D) → ℕ → Type 0
 IsDataAfter {S = S} hooks IsFirst settings given segments passes = (store : S) × IsFirst store × (segments ≡ (data_after_passes hooks settings given store passes).0)

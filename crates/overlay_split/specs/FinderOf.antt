@@ -1,4 +1,4 @@
--- What a finder of a run has: the solver whose choices it takes, its grid, if any, and how many pairs it has taken up.
+-- What a finder of a run has: the solver whose choices it takes, its grid, if any, and how many pairs it has compared.
 use Rattle.std.specs.Prelude.{ℕ, Option}
 use Rattle.overlay_base.specs.declared.overlay_core.solver.Solver.{Solver}
 use Rattle.overlay_grid.specs.Grid.{Layout}

@@ -80,7 +80,7 @@ RunEnds =
     (settings : Settings) (given : List WholeSegment) → IsTrue (are_ordered given) →
     (passes : ℕ) × IsPassCount settings given passes × (passes ≤ settings.limit + potential (after_passes settings given settings.limit) + 1)
 
--- what is given and the settings tell what a run answers
+-- what is given and the settings decide what a run returns
 abbrev pub RunIsOne : Type 0
 RunIsOne =
     (settings : Settings) (given first second : List WholeSegment) (j k : ℕ) (b c : Bool) → IsRun settings given first j b → IsRun settings given second k c →
@@ -96,7 +96,7 @@ RunKeepsBalance =
 abbrev pub PassesIgnoreOrder : Type 0
 PassesIgnoreOrder = (settings : Settings) (given other : List WholeSegment) (k : ℕ) → IsPermutation given other → after_passes settings other k ≡ after_passes settings given k
 
--- so a run answers the same, after as many passes, and tells the same of changes
+-- so a run returns the same, after as many passes, and reports the same of changes
 abbrev pub RunIgnoresOrder : Type 0
 RunIgnoresOrder =
     (settings : Settings) (given other result : List WholeSegment) (passes : ℕ) (flag : Bool) → IsPermutation given other → IsRun settings given result passes flag →
@@ -108,7 +108,7 @@ RunKeepsPolygons =
     (settings : Settings) (given result : List WholeSegment) (passes : ℕ) (flag : Bool) → IsTrue (are_polygons given) → IsRun settings given result passes flag →
     IsTrue (are_polygons result)
 
--- what a run answers is a planar arrangement
+-- what a run returns is a planar arrangement
 abbrev pub RunIsPlanar : Type 0
 RunIsPlanar =
     (settings : Settings) (given result : List WholeSegment) (passes : ℕ) (flag : Bool) → IsTrue (are_ordered given) → IsRun settings given result passes flag →
@@ -138,7 +138,7 @@ ExactInputKeepsCounts =
     (settings : Settings) (given result : List WholeSegment) (passes : ℕ) (flag : Bool) → IsTrue (are_ordered given) → IsTrue (is_exact_input given) → IsRun settings given result passes flag →
     KeepsCounts given result
 
--- It is the one answer that is told without passes: the elementary pairs of the join, each with the count along it.
+-- It is the one answer, without passes: the elementary pairs of the join, each with the count along it.
 abbrev pub ExactInputHasOneAnswer : Type 0
 ExactInputHasOneAnswer =
     ((settings : Settings) (given result : List WholeSegment) (passes : ℕ) (flag : Bool) → IsTrue (are_ordered given) → IsTrue (is_exact_input given) → IsRun settings given result passes flag → IsExactAnswer given result)
@@ -263,7 +263,7 @@ ExactInputKeepsWinding =
 abbrev pub FarLiesOnNone : Type 0
 FarLiesOnNone = (segments : List WholeSegment) (p : RationalPoint) → IsTrue (are_ordered segments) → 0 < p.bottom → IsFar 0 p (pairs segments) → IsTrue (is_on_none segments p)
 
--- so where counts balance, the winding that stands there after k passes is told by any ray from there through what is given
+-- so where counts balance, the winding that stands there after k passes is that of any ray from there through what is given
 abbrev pub RunKeepsRays : Type 0
 RunKeepsRays =
     (settings : Settings) (given : List WholeSegment) (k : ℕ) (p : RationalPoint) → IsTrue (are_ordered given) → IsBalanced given → 0 < p.bottom → IsFar (reach_of_run settings given k) p (pairs given) →
@@ -326,7 +326,7 @@ StoppedRunLeavesRange D S =
     (hooks : Hooks D S) (settings : Settings) (given : List (DataSegment D)) (from left : S) → IsStoppedRun hooks settings given from left →
     LeavesRange settings (without_data given)
 
--- and what is given, with the settings and the store before, tells the store that is left
+-- and what is given, with the settings and the store before, decides the store that is left
 abbrev pub StoppedRunIsOne : (D S : Type 0) → Type 0
 StoppedRunIsOne D S =
     (hooks : Hooks D S) (settings : Settings) (given : List (DataSegment D)) (from first second : S) → IsStoppedRun hooks settings given from first → IsStoppedRun hooks settings given from second →

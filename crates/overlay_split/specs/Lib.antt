@@ -13,5 +13,5 @@ pub mod Nearness
 pub mod Places
 pub mod Laws
 pub mod SplitOf
--- what private functions tell one another
+-- what only contracts of private functions use
 pub mod steps

@@ -40,7 +40,7 @@ exact_crossing target other = record {
   bottom = (offset_x target other).bottom;
 }
 
--- two points are at most so many halves apart, in x and in y
+-- two points are at most that many halves apart, in x and in y
 pub record IsWithin (halves : ℕ) (p q : RationalPoint) : Type 0 where
   pub in_x : 2 * unsigned_abs (p.x *ℤ pos q.bottom -ℤ q.x *ℤ pos p.bottom) ≤ halves * (p.bottom * q.bottom)
   pub in_y : 2 * unsigned_abs (p.y *ℤ pos q.bottom -ℤ q.y *ℤ pos p.bottom) ≤ halves * (p.bottom * q.bottom)

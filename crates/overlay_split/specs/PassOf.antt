@@ -1,4 +1,4 @@
--- What a pass over a list of code leaves of its data and of the store, and how many pairs it takes up.
+-- What a pass over a list of code leaves of its data and of the store, and how many pairs it compares.
 use Rattle.std.specs.Prelude.{◌≡◌, Bool, nat_lt, List, Vec}
 use Rattle.std.specs.Global.{Global}
 use Rattle.overlay_base.specs.EdgeData.{DataSegment, IsRefusedJoin}
@@ -39,6 +39,6 @@ StopsPass {D = D} {S = S} {m = m} hooks placing given store left =
     let pieces : List (DataSegment D) × S = data_cut (hooks_of m.counted hooks) (placing_of placing) (data_segments_of given.items) store in
     IsRefusedJoin (hooks_of m.counted hooks) pieces.0 pieces.1 left
 
--- The finder has taken up what a pass over the list may take up, besides what it had before.
+-- The finder has compared what a pass over the list may compare, besides what it had before.
 abbrev pub LooksThrough : {C I D : Type 0} {m : _} {w : _} {o : _} {e : _} {p : _} {w' : _} {o' : _} {e' : _} {p' : _} → List (Segment C I D m w o e p) → PairFinder I w' o' e' p' → PairFinder I w' o' e' p' → Type 0
 LooksThrough list before after = ArePassLooks (solver_in before).strategy (layout_in before) (pairs_in list) (looks_in before) (looks_in after)

@@ -45,7 +45,7 @@ pub record IsPassCount (settings : Settings) (given : List WholeSegment) (k : �
   pub made : (j : ℕ) → j < k → IsTrue (goes_on settings given j)
   pub no_more : IsFalse (goes_on settings given k)
 
--- what a split answers: the last arrangement, the number of passes, and whether something was joined or marked
+-- what a split returns: the last arrangement, the number of passes, and whether something was joined or marked
 pub record IsRun (settings : Settings) (given result : List WholeSegment) (passes : ℕ) (flag : Bool) : Type 0 where
   pub count : IsPassCount settings given passes
   pub arrangement : result ≡ after_passes settings given passes

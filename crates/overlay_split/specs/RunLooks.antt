@@ -1,4 +1,4 @@
--- How many pairs the passes of a run may take up, each by what it goes over.
+-- How many pairs the passes of a run may compare, each by what it goes over.
 use Rattle.std.specs.Prelude.{◌≡◌, ℕ, zero, suc, ◌+◌, ◌-◌, ◌^◌, ◌<◌, ◌≤◌, min, List, length, Option, IsTrue}
 use Rattle.overlay_base.specs.Segments.{WholeSegment, pairs}
 use Rattle.overlay_base.specs.Choices.{list_splits}
@@ -9,17 +9,17 @@ use Rattle.overlay_grid.specs.Grid.{Layout}
 use Rattle.overlay_grid.specs.GridFor.{IsGridFor}
 use Rattle.overlay_split.specs.PassLooks.{pass_looks}
 
--- each of the first n passes looks at all pairs of a list
+-- each of the first n passes compares all pairs of a list
 abbrev pub HasListPasses : Strategy → Settings → List WholeSegment → ℕ → Type 0
 HasListPasses strategy settings given n = (k : ℕ) → k < n → IsTrue (list_splits strategy (length (after_passes settings given k)))
 
--- what the first n passes may take up, each over what is left by those before it
+-- what the first n passes may compare, each over what is left by those before it
 unfoldable pub run_looks : Strategy → Settings → Option Layout → List WholeSegment → ℕ → ℕ
 run_looks strategy settings grid given zero = 0
 run_looks strategy settings grid given (suc n) = run_looks strategy settings grid given n + pass_looks strategy grid (pairs (after_passes settings given n))
 
--- The looks of a run of n passes, over the grid that its first arrangement decides: no more than these passes may take up, and
--- just so many, up to the greatest number, where each goes over a list.
+-- The comparisons of a run of n passes, over the grid that its first arrangement decides: no more than these passes may compare, and
+-- just that many, up to the greatest number, where each goes over a list.
 pub record AreRunLooks (strategy : Strategy) (settings : Settings) (given : List WholeSegment) (grid : Option Layout) (n looked : ℕ) : Type 0 where
   pub is_for : IsGridFor strategy (join given) grid
   pub most : looked ≤ run_looks strategy settings grid given n

@@ -12,7 +12,7 @@ snap_limit_of splitter = splitter.snap_limit
 abbrev pub passes_of : {I : Type 0} → SplitSolver I → ℕ
 passes_of splitter = splitter.passes
 
--- how many pairs that call took up
+-- how many pairs that call compared
 abbrev pub looked_of : {I : Type 0} → SplitSolver I → ℕ
 looked_of splitter = splitter.looked
 

@@ -1,4 +1,4 @@
--- What a call of the splitter leaves, told of its solver, of the splitter before and after, and of the list before and
+-- What a call of the splitter leaves, by its solver, the splitter before and after, and the list before and
 -- after. The type of the list says how its coordinates are read, and of how many bits they are.
 use Rattle.std.specs.Prelude.{◌≡◌, ℕ, Bool, false, IsTrue, List, Option, Result, OnOk, Vec}
 use Rattle.std.specs.List.{list_all}
@@ -28,7 +28,7 @@ settings_over {w = w} solver splitter given = settings_of w.BITS solver splitter
 
 -- ---- the segments
 
--- The list, and the flag, are what the run answers.
+-- The list, and the flag, are what the run returns.
 abbrev pub IsRunOver : {C I D : Type 0} {m : _} {w : _} {o : _} {e : _} {p : _} → Solver → SplitSolver I → SplitSolver I → Vec (Segment C I D m w o e p) Global → Vec (Segment C I D m w o e p) Global → Bool → Type 0
 IsRunOver solver before after given list flag =
     IsRun (settings_over solver before given) (segments_of given.items) (segments_of list.items) (passes_of after) flag
@@ -53,7 +53,7 @@ IsExact given = IsTrue (is_exact_input (segments_of given.items))
 abbrev pub HasGivenCounts : {C I D : Type 0} {m : _} {w : _} {o : _} {e : _} {p : _} → Vec (Segment C I D m w o e p) Global → Vec (Segment C I D m w o e p) Global → Type 0
 HasGivenCounts given list = KeepsCounts (segments_of given.items) (segments_of list.items)
 
--- The run makes no more passes than it may, and takes up no more pairs.
+-- The run makes no more passes than it may, and compares no more pairs.
 abbrev pub PassesAreBounded : {C I D : Type 0} {m : _} {w : _} {o : _} {e : _} {p : _} → Solver → SplitSolver I → SplitSolver I → Vec (Segment C I D m w o e p) Global → Type 0
 PassesAreBounded solver before after given = IsPassBound (settings_over solver before given) (segments_of given.items) (passes_of after)
 

@@ -16,7 +16,7 @@ IsHighest n d = (h : ℕ) → 2 ^ (h / 2) ≤ n + 1 → h ≤ d
 abbrev pub IsWayAmong : ℕ → ℕ → Type 0
 IsWayAmong n d = n < 2 ^ (2 * d + 3)
 
--- A sweep over n segments asks at most three looks of d orders for each of them. Over a list this holds of each d for which 2 * n is no more than 2 ^ d, and over a tree of each d that no balanced tree of n entries is higher than.
+-- A sweep over n segments asks at most three searches of d orders for each of them. Over a list this holds of each d for which 2 * n is no more than 2 ^ d, and over a tree of each d that no balanced tree of n entries is higher than.
 abbrev pub IsSweepWithin : Bool → ℕ → ℕ → Type 0
 IsSweepWithin is_list n asked = (d : ℕ) → MatchBool is_list (2 * n ≤ 2 ^ d) (IsHighest n d) → asked ≤ 3 * n * d
 
@@ -45,6 +45,6 @@ IsSweepTotal is_list segments asked = MatchBool is_list
     ((table : ℕ → ℕ) → ((n : ℕ) → IsSearchAmong n (table n)) → asked ≡ min (sweep_orders table segments) (2 ^ 128 - 1))
     ((table : ℕ → ℕ) → ((n d : ℕ) → IsWayAmong n d → table n ≤ d) → min (sweep_orders table segments) (2 ^ 128 - 1) ≤ asked)
 
--- what a whole sweep over an arrangement asks: at most so many orders, and their sum
+-- what a whole sweep over an arrangement asks: at most that many orders, and their sum
 abbrev pub IsSweepCost : Bool → List WholeSegment → ℕ → Type 0
 IsSweepCost is_list segments asked = IsSweepWithin is_list (length segments) asked × IsSweepTotal is_list segments asked

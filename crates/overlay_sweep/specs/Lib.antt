@@ -11,5 +11,5 @@ pub mod Costs
 pub mod ScanTrees
 pub mod LiveOf
 pub mod Laws
--- what private functions tell one another
+-- what only contracts of private functions use
 pub mod steps

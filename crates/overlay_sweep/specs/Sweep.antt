@@ -1,4 +1,4 @@
--- A sweep over an arrangement: in which order the segments are handed out, and with which fills.
+-- A sweep over an arrangement: in which order the handler gets the segments, and with which fills.
 use Rattle.std.specs.Prelude.{◌≡◌, ℕ, Bool, not, List, [], ◌∷◌, map, Option, Some, None}
 use Rattle.std.specs.List.{enumerate_from, list_any}
 use Rattle.std.specs.Ordering.{ordering_then}
@@ -12,7 +12,7 @@ use Rattle.overlay_base.specs.declared.overlay_core.fill_rule.FillRule.{FillRule
 use Rattle.overlay_sweep.specs.ChainWindings.{bottom, top}
 use Rattle.overlay_sweep.specs.Fill.{fill_byte}
 
--- a segment as it is handed out: its place in the list, its data, and its fill
+-- a segment as the handler gets it: its place in the list, its data, and its fill
 pub record Visit (D : Type 0) : Type 0 where
   pub index : ℕ
   pub segment : DataSegment D
@@ -32,7 +32,7 @@ visits rule segments =
     (map (λ e. record { index = e.0; segment = e.1; fill = fill_of rule (without_data segments) (whole_of e.1) }) (enumerate_from 0 segments))
 
 module _ {D H O : Type 0} (handle : H → Visit D → H × Option O) (finalize : H → O) where
-  -- what a handler answers: its first answer, or what it makes of the end
+  -- what a handler returns: its first answer, or what it makes of the end
   unfoldable pub handled : H → List (Visit D) → O
   handled handler [] = finalize handler
   handled handler (v ∷ vs) =
@@ -40,7 +40,7 @@ module _ {D H O : Type 0} (handle : H → Visit D → H × Option O) (finalize :
       elim next.1 [ Some answer ↦ answer | None ↦ handled next.0 vs ]
 
 module _ {D H O : Type 0} (handle : H → Visit D → H × Option O) where
-  -- the visits up to the first at which the handler answers, that one included
+  -- the visits up to the first at which the handler breaks, that one included
   unfoldable pub visited : H → List (Visit D) → List (Visit D)
   visited handler [] = []
   visited handler (v ∷ vs) =

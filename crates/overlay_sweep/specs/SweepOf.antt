@@ -1,4 +1,4 @@
--- What a sweep over a list of code gives its handler, answers and asks.
+-- What a sweep over a list of code gives its handler, returns and asks.
 use Rattle.std.specs.Prelude.{◌≡◌, ◌≢◌, ℕ, ◌*◌, ◌<◌, ◌≤◌, Bool, List, Option, length, slice_index_or}
 use Rattle.overlay_geometry.specs.Points.{Point, Pair}
 use Rattle.overlay_base.specs.Choices.{list_fills}
@@ -33,11 +33,11 @@ IsSweepSum solver list asked = IsSweepTotal (list_fills solver.strategy (length 
 abbrev pub IsCostOf : {C I D : Type 0} {m : _} {w : _} {o : _} {e : _} {p : _} → Solver → List (Segment C I D m w o e p) → ℕ → Type 0
 IsCostOf solver list asked = IsSweepCost (list_fills solver.strategy (length list)) (segments_of list) asked
 
--- Three looks of d orders for each of n segments are asked at most, of every d that is the most that one asks.
+-- Three searches of d orders for each of n segments are asked at most, of every d that is the most that one asks.
 abbrev pub AsksThreeLooks : (ℕ → ℕ → Type 0) → ℕ → ℕ → Type 0
 AsksThreeLooks IsMost n asked = (d : ℕ) → IsMost n d → asked ≤ 3 * n * d
 
--- The searches for the segments of a list ask so many orders together, of what one of them asks.
+-- The searches for the segments of a list ask that many orders together, of what one of them asks.
 abbrev pub AsksToSearch : {C I D : Type 0} {m : _} {w : _} {o : _} {e : _} {p : _} → (ℕ → ℕ → Type 0) → List (Segment C I D m w o e p) → ℕ → Type 0
 AsksToSearch asks list asked = IsAskedAs asks (λ table. sweep_orders table (segments_of list)) asked
 

@@ -15,7 +15,7 @@ step_fault least greatest a b =
     if not (is_pair_in_range least greatest (record { a = a; b = b })) then Some Range
     else (if point_eq a b then Some EqualEnds else None)
 
--- the segment of a step: its ends in order, and a count of one that tells which way it ran
+-- the segment of a step: its ends in order, and a count of one that says which way it ran
 abbrev pub step_segment : ShapeType → Point → Point → WholeSegment
 step_segment shape_type a b =
     if point_lt a b

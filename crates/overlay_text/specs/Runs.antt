@@ -1,4 +1,4 @@
--- What a run of a program answers: the text of its output, or why it stops.
+-- What a run of a program returns: the text of its output, or why it stops.
 use Rattle.std.specs.Prelude.{◌≡◌, ◌≢◌, ◌⊎◌, ℕ, List, Option, Ok, Err, IfSome}
 use Rattle.std.specs.declared.result.Result.{Result}
 use Rattle.overlay_base.specs.declared.segm.fault.Fault.TheVariants.{Memory}
@@ -19,7 +19,7 @@ module _ {C : Type 0} (program : Behavior C) where
   abbrev pub AskForNone : List (List ℕ) → Type 0
   AskForNone words = (choices : C) → ¬ (program.AskFor words choices)
 
-  -- what the program answers to an input, under the choices for which the words ask
+  -- what the program makes of an input, under the choices for which the words ask
   abbrev pub IsRunAnswer : List (List ℕ) → List ℕ → Result (List ℕ) Stop → Type 0
   IsRunAnswer words bytes answer = (choices : C) × program.AskFor words choices × program.Answers choices bytes answer
 

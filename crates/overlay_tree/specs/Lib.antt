@@ -1,2 +1,2 @@
--- what private functions tell one another
+-- what only contracts of private functions use
 pub mod steps

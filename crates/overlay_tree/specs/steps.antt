@@ -1,4 +1,4 @@
--- What private functions tell one another. No public contract speaks of it, so nobody has to believe it.
+-- What only contracts of private functions use. No public contract speaks of it, so nobody has to believe it.
 pub mod IntervalTree
 pub mod NodeOf
 pub mod Swept

@@ -1,4 +1,4 @@
--- What the program answers to the text of its input.
+-- What the program makes of the text of its input.
 use Rattle.std.specs.Prelude.{◌≡◌, ◌≢◌, ◌⊎◌, ℕ, ℤ, List, All, None, Some, Ok, Err, codes}
 use Rattle.std.specs.declared.result.Result.{Result}
 use Rattle.overlay_geometry.specs.Points.{Point}
@@ -21,7 +21,7 @@ use Rattle.polygons.specs.ContourText.{GivenContour, AsksForContour, IsFaultyCon
 abbrev pub IsNoLimitOrRadius : List ℕ → Type 0
 IsNoLimitOrRadius word = ((value : List ℕ) → word ≢ setting (codes "limit") value) × ((value : List ℕ) → word ≢ setting (codes "radius") value)
 
--- what the run of an overlay is set to, in coordinates of so many bits
+-- what the run of an overlay is set to, in coordinates of that many bits
 abbrev pub overlay_settings : ℕ → Settings → RunSettings
 overlay_settings bits settings = record {
   start = settings.precision.start;
@@ -30,7 +30,7 @@ overlay_settings bits settings = record {
   limit = 256;
 }
 
--- what an overlay of the given contours answers under a rule, in coordinates of so many bits
+-- what an overlay of the given contours returns under a rule, in coordinates of that many bits
 abbrev pub IsOverlayText : ℕ → Settings → OverlayRule → List GivenContour → Result (List ℕ) Stop → Type 0
 IsOverlayText bits settings rule given answer =
     ((contours : List (List Point)) × IsPolygonOverlay (overlay_settings bits settings) rule settings.fill_rule (subject_of given) (clip_of given) contours

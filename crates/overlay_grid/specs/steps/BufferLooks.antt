@@ -1,4 +1,4 @@
--- The looks of a buffer, column by column.
+-- The comparisons of a buffer, column by column.
 use Rattle.std.specs.Prelude.{ℕ}
 use Rattle.overlay_grid.specs.Grid.{group_count}
 use Rattle.overlay_grid.specs.GroupsOf.{group_of, grid_of}
@@ -6,10 +6,10 @@ use Rattle.overlay_grid.specs.steps.FragmentFinder.{looks_of_groups, all_twos_in
 use Rattle.overlay_grid.specs.declared.split.axis.Axis.{Axis}
 use Rattle.overlay_grid.specs.declared.split.fragment_buffer.FragmentBuffer.{FragmentBuffer}
 
--- the looks that its columns take along an axis
+-- the comparisons that its columns take along an axis
 abbrev pub buffer_looks : {I : Type 0} {w : _} {o : _} {e : _} {p : _} → Axis → FragmentBuffer I w o e p → ℕ
 buffer_looks axis buffer = looks_of_groups axis (group_of buffer) (group_count (grid_of buffer))
 
--- how many twos of one column share a height
+-- how many pairs of one column share a height
 abbrev pub buffer_twos : {I : Type 0} {w : _} {o : _} {e : _} {p : _} → FragmentBuffer I w o e p → ℕ
 buffer_twos buffer = all_twos_in_height (group_of buffer) (group_count (grid_of buffer))

@@ -1,4 +1,4 @@
--- What a look at every two fragments of a group finds, and at vertical segments on a border and the column to its left.
+-- What a comparison of every pair of fragments of a group finds, and at vertical segments on a border and the column to its left.
 use Rattle.std.specs.Prelude.{ℕ, ◌+◌, ℤ, Bool, false, int_lt, int_le, ◌&&◌, ◌||◌, ◌↔◌, if◌then◌else◌, List, [], ◌∷◌, ◌++◌, map, filter, flat_map, Contains, count_by, sum_by, length}
 use Rattle.std.specs.List.{list_any, range_with_len}
 use Rattle.std.specs.Ordering.{int_eq}
@@ -48,7 +48,7 @@ is_group_rounded (f ∷ fs) = list_any (λ g. meet_inexactly f g) fs || is_group
 abbrev pub do_heights_meet : KeptFragment → KeptFragment → Bool
 do_heights_meet f g = ranges_meet f.rect.min_y f.rect.max_y g.rect.min_y g.rect.max_y
 
--- how many twos of a group, and of so many groups, share a height
+-- how many pairs of a group, and of so many groups, share a height
 abbrev pub twos_in_height : List KeptFragment → ℕ
 twos_in_height fs = count_twos do_heights_meet fs
 
@@ -59,12 +59,12 @@ all_twos_in_height groups columns = sum_by (λ column. twos_in_height (groups co
 abbrev pub is_reached : Axis → KeptFragment → KeptFragment → Bool
 is_reached axis f g = int_le (least_along axis g) (greatest_along axis f)
 
--- how many looks the first takes in a scan along an axis: one for each later one that it reaches
+-- how many comparisons the first takes in a scan along an axis: one for each later one that it reaches
 unfoldable pub looks_of_first : Axis → List KeptFragment → ℕ
 looks_of_first axis [] = 0
 looks_of_first axis (f ∷ fs) = count_by (λ g. is_reached axis f g) fs
 
--- how many looks a group takes, and so many groups
+-- how many comparisons a group takes, and that many groups
 abbrev pub looks_of_group : Axis → List KeptFragment → ℕ
 looks_of_group axis fs = count_twos (is_reached axis) fs
 
@@ -83,7 +83,7 @@ marks_of_ends f left = flat_map (λ e. if is_strictly_inside f.pair e.pair.b the
 unfoldable pub marks_of_border : ℤ → List KeptFragment → List KeptFragment → List Mark
 marks_of_border x left group = flat_map (λ f. if stands_at x f then marks_of_ends f left else []) group
 
--- how many looks a border takes: each vertical segment on it, and each fragment of the group to its left
+-- how many comparisons a border takes: each vertical segment on it, and each fragment of the group to its left
 unfoldable pub looks_of_border : ℤ → List KeptFragment → List KeptFragment → ℕ
 looks_of_border x left group = sum_by (λ f. if stands_at x f then length left else 0) group
 

@@ -1,4 +1,4 @@
--- What a look at two segments appends.
+-- What a comparison of two segments appends.
 use Rattle.std.specs.Prelude.{◌≡◌, ℕ, ℤ, Bool, List, [], ◌∷◌, ◌++◌}
 use Rattle.overlay_geometry.specs.PointOf.{point_of}
 use Rattle.overlay_geometry.specs.PairOf.{pair_of}

@@ -1,4 +1,4 @@
--- On which sides of one another the ends of two segments lie, and what this tells.
+-- On which sides of one another the ends of two segments lie, and what this decides.
 use Rattle.std.specs.Prelude.{◌≡◌, ℕ, nat_lt, ℤ, pos, Bool, ◌||◌, IsTrue, None, Some}
 use Rattle.std.specs.Ordering.{int_eq}
 use Rattle.overlay_geometry.specs.Points.{Pair}
@@ -27,7 +27,7 @@ zeros_of sides = count_true (int_eq sides.other_a (pos 0)) (int_eq sides.other_b
 abbrev pub leave_no_contact : Sides → Bool
 leave_no_contact sides = nat_lt 1 (zeros_of sides) || (int_eq sides.other_a sides.other_b || int_eq sides.target_a sides.target_b)
 
--- what the sides tell: the answer, but for a crossing strictly inside both, which is to be placed
+-- what the sides decide: the answer, but for a crossing strictly inside both, which is to be placed
 abbrev pub IsContact : {I : Type 0} → (I → ℤ) → Pair → Pair → Contact I → Type 0
 IsContact whole target other Apart = (placing : Placing) → cross_answer placing target other ≡ None
 IsContact whole target other (At result) = (placing : Placing) → cross_answer placing target other ≡ Some (result_of whole result)

@@ -1,4 +1,4 @@
--- A tree over the heights of entries that expire: what a look-up takes up, finds and leaves.
+-- A tree over the heights of entries that expire: what a look-up compares, finds and leaves.
 use Rattle.std.specs.Prelude.{⊤, ◌≡◌, ℕ, ◌/◌, ◌<◌, ◌==◌, ℤ, ◌<ℤ◌, int_lt, Bool, false, not, ◌&&◌, ◌||◌, if◌then◌else◌, ◌⊎◌, Option, None, Some, List, [], ◌∷◌, ◌++◌, length, map, filter}
 use Rattle.std.specs.Int.{int_max}
 use Rattle.std.specs.List.{AllByRecursion}
@@ -21,7 +21,7 @@ pub record WholeQuery : Type 0 where
 abbrev pub is_at_heights : WholeQuery → Entry → Bool
 is_at_heights q e = not (int_lt e.high q.low) && not (int_lt q.high e.low)
 
--- A look-up takes up the live entries whose heights it meets. Where one ends left of the sweep it is dropped, else found.
+-- A look-up compares the live entries whose heights it meets. Where one ends left of the sweep it is dropped, else found.
 abbrev pub is_taken_up : WholeQuery → Entry → Bool
 is_taken_up q e = e.is_live && is_at_heights q e
 

@@ -25,7 +25,7 @@ nodes_of whole nodes = map (node_of whole) nodes
 abbrev pub entries_of : {I : Type 0} → (I → ℤ) → List (Node I) → List Entry
 entries_of whole nodes = entries (nodes_of whole nodes)
 
--- what a look-up leaves of them, what it finds among them, how many it takes up, and whether it drops one
+-- what a look-up leaves of them, what it finds among them, how many it compares, and whether it drops one
 abbrev pub entries_left : {I : Type 0} → (I → ℤ) → Query I → List (Node I) → List Entry
 entries_left whole query nodes = map (left_by (query_of whole query)) (entries_of whole nodes)
 
