@@ -68,11 +68,11 @@ contour_lines contours = flat_map contour_line contours
 
 -- ---- for contours of code
 
--- The lines of a text write these shapes.
-abbrev pub WritesShapes : {I : Type 0} {w : _} {o : _} {e : _} {p : _} → List ℕ → Shapes I w o e p → Type 0
-WritesShapes {w = w} bytes shapes =
-    (given : List GivenContour) × AskInTurn (AsksForContour (w.whole w.MIN_COORD) (w.whole w.MAX_COORD)) (lines_of bytes) given
-    × (contours_of w.whole shapes.subject.items ≡ subject_of given) × (contours_of w.whole shapes.clip.items ≡ clip_of given)
+-- The lines of a text write these shapes, in the range of an engine.
+abbrev pub WritesShapes : {I : Type 0} → (I → ℤ) → I → I → List ℕ → Shapes I → Type 0
+WritesShapes whole least greatest bytes shapes =
+    (given : List GivenContour) × AskInTurn (AsksForContour (whole least) (whole greatest)) (lines_of bytes) given
+    × (contours_of whole shapes.subject.items ≡ subject_of given) × (contours_of whole shapes.clip.items ≡ clip_of given)
 
 -- The stop names the first faulty line of a text.
 abbrev pub NamesFirstFaulty : {I : Type 0} → (I → ℤ) → I → I → List ℕ → Stop → Type 0

@@ -33,7 +33,7 @@ struct ShapeContour<I: OverlayInt> {
 
 /// The contours that the lines of a text write, in order. The first faulty line stops the run.
 pub fn read_contours<I: OverlayInt>(alloc: Global, bytes: &[u8]) -> Result<Shapes<I>, Stop>
-    ensures contours { IfOk result (λ shapes. WritesShapes bytes.now shapes) }
+    ensures contours { IfOk result (λ shapes. WritesShapes I.whole I.MIN_COORD I.MAX_COORD bytes.now shapes) }
     ensures faulty { IfStopped result (NamesFirstFaulty I.whole I.MIN_COORD I.MAX_COORD bytes.now) }
 {
     let mut subject = Vec::new(alloc);
