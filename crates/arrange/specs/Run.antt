@@ -1,5 +1,5 @@
 -- What the program makes of the text of its input.
-use Rattle.std.specs.Prelude.{Bool, ◌≡◌, ◌⊎◌, ◌++◌, ℕ, ℤ, if◌then◌else◌, List, length, Ok, Err, unsigned_abs, IsTrue, IsFalse}
+use Rattle.std.specs.Prelude.{Bool, ◌≡◌, ◌⊎◌, ◌++◌, ℕ, ℤ, if◌then◌else◌, List, length, Ok, Err, unsigned_abs, IsTrue, IsFalse, Option, Vec}
 use Rattle.std.specs.Option.{ok_or}
 use Rattle.std.specs.declared.result.Result.{Result}
 use Rattle.overlay_base.specs.Segments.{WholeSegment}
@@ -23,6 +23,10 @@ use Rattle.arrange.specs.GraphText.{graph_text, IsWalksText}
 use Rattle.overlay_text.specs.Runs.{Behavior}
 use Rattle.overlay_text.specs.Words.{WordsAsk}
 use Rattle.overlay_text.specs.Text.{lines_of, AskInTurnFor, IsFirstFault}
+use Rattle.std.specs.Global.{Global}
+use Rattle.overlay_base.specs.SegmentOf.{segments_of}
+use Rattle.overlay_base.specs.declared.segm.segment.Segment.{Segment}
+use Rattle.overlay_text.specs.declared.settings.SquaredRadius.{SquaredRadius}
 
 -- what a split is set to, in coordinates of that many bits
 abbrev pub split_settings : ℕ → Settings → RunSettings
@@ -53,11 +57,15 @@ IsGraphCost bits settings segments asked =
     (passes : ℕ) × IsPassCount (split_settings bits settings) segments passes
     × IsSweepCost (list_fills settings.strategy (length (after_passes (split_settings bits settings) segments passes))) (after_passes (split_settings bits settings) segments passes) asked
 
+-- the text of the join of segments
+abbrev pub join_text : List WholeSegment → List ℕ
+join_text segments = segment_lines (join segments) ++ flag_line (has_equal_pairs segments)
+
 -- what a command makes of segments, in coordinates of that many bits
 abbrev pub IsCommandAnswer : ℕ → Command → Settings → List WholeSegment → Result (List ℕ) Stop → Type 0
 IsCommandAnswer bits Join settings segments answer =
     answer ≡ (if join_leaves_range segments then Err (Refused CountOutOfRange)
-    else Ok (segment_lines (join segments) ++ flag_line (has_equal_pairs segments)))
+    else Ok (join_text segments))
 IsCommandAnswer bits Cross settings segments answer = answer ≡ ok_or (cross_text (unsigned_abs settings.radius.squared) segments) NotTwoSegments
 IsCommandAnswer bits Split settings segments answer =
     ((result : List WholeSegment) × (passes : ℕ) × (flag : Bool) × IsRun (split_settings bits settings) segments result passes flag
@@ -83,3 +91,21 @@ arrange_behavior = record {
   Answers = λ choices bytes answer.
       IsAnswer (least_of choices.1.engine) (greatest_of choices.1.engine) (bits_of choices.1.engine) choices.0 choices.1 bytes answer;
 }
+
+-- ---- for segments of code, whose type says of how many bits coordinates are
+
+-- the answer of a command to segments
+abbrev pub IsAnswerTo : {C I D : Type 0} {m : _} {w : _} {o : _} {e : _} {p : _} → Command → Settings → Vec (Segment C I D m w o e p) Global → Result (List ℕ) Stop → Type 0
+IsAnswerTo {w = w} command settings segments answer = IsCommandAnswer w.BITS command settings (segments_of segments.items) answer
+
+-- the graph that the settings choose
+abbrev pub IsGraphFor : {C I D : Type 0} {m : _} {w : _} {o : _} {e : _} {p : _} → Settings → Vec (Segment C I D m w o e p) Global → Graph → Type 0
+IsGraphFor {w = w} settings segments graph = IsGraphOf w.BITS settings (segments_of segments.items) graph
+
+-- the stop of a join: a running sum is too large
+abbrev pub IsJoinStop : List WholeSegment → Stop → Type 0
+IsJoinStop segments stop = (stop ≡ Refused CountOutOfRange) × IsTrue (join_leaves_range segments)
+
+-- where two segments meet, under a radius of code
+abbrev pub cross_lines : {C I D : Type 0} {m : _} {w : _} {o : _} {e : _} {p : _} → SquaredRadius → List (Segment C I D m w o e p) → Option (List ℕ)
+cross_lines radius segments = cross_text (unsigned_abs radius.squared) (segments_of segments)

@@ -4,10 +4,10 @@ ghost use Rattle.overlay_base.specs.declared.segm.fault.Fault.TheVariants.{Memor
 ghost use Rattle.overlay_geometry.specs.InRange.{IsPairInRange};
 ghost use Rattle.overlay_geometry.specs.PairOf.{pair_of};
 ghost use Rattle.overlay_base.specs.ArrangedOf.{IsSplittable};
-ghost use Rattle.overlay_base.specs.SegmentOf.{segments_of};
 ghost use Rattle.overlay_intersections.specs.CrossAnswer.{cross_answer};
 ghost use Rattle.overlay_intersections.specs.Marks.{snapping};
-ghost use Rattle.overlay_text.specs.Output.{answer_text, cross_text};
+ghost use Rattle.overlay_text.specs.Output.{answer_text};
+ghost use Rattle.arrange.specs.Run.{cross_lines};
 
 use overlay_base::segm::boolean::ShapeCountBoolean;
 use overlay_base::segm::segment::Segment;
@@ -27,8 +27,7 @@ pub fn cross<I: OverlayInt>(
     radius: SquaredRadius,
 ) -> Result<String, Stop>
     requires { IsSplittable segments.now }
-    ensures text { IfOk result (λ text. Some (string_bytes text)
-        ≡ cross_text (unsigned_abs radius.squared) (segments_of segments.now)) }
+    ensures text { IfOk result (λ text. Some (string_bytes text) ≡ cross_lines radius segments.now) }
     ensures two { IsErrOf result Stop.NotTwoSegments ↔ (length segments.now ≢ 2) }
     ensures refused { IfErr result (λ stop. (stop ≡ Stop.NotTwoSegments) ⊎ (stop ≡ Stop.Refused Memory)) }
 {

@@ -1,6 +1,6 @@
 // `arrange graph`: the graph of the arrangement, by an overlay rule or of all segments.
 ghost use Rattle.std.specs.Prelude.{◌≡◌, ◌⊎◌, true, Ok, Err, IsTrue, IsFalse, OnOk, IfOk, IfErr, length, string_bytes};
-ghost use Rattle.overlay_base.specs.declared.segm.fault.Fault.TheVariants.{Memory, CountOutOfRange};
+ghost use Rattle.overlay_base.specs.declared.segm.fault.Fault.TheVariants.{CountOutOfRange};
 ghost use Rattle.overlay_base.specs.SegmentOf.{segments_of};
 ghost use Rattle.overlay_base.specs.ArrangedOf.{IsSplittable};
 ghost use Rattle.overlay_split.specs.Run.{IsPassCount, LeavesRange, after_passes};
@@ -8,11 +8,13 @@ ghost use Rattle.overlay_split.specs.SettingsOf.{passes_of, settings_of};
 ghost use Rattle.overlay_sweep.specs.ChainWindings.{tops_leave_range};
 ghost use Rattle.overlay_build.specs.Graph.{graph_by};
 ghost use Rattle.overlay_build.specs.GraphOf.{graph_with};
-ghost use Rattle.overlay_build.specs.OverlayGraphOf.{links_of, graph_asked};
+ghost use Rattle.overlay_build.specs.OverlayGraphOf.{links_of, graph_asked, whole_graph};
 ghost use Rattle.overlay_base.specs.Choices.{list_fills};
 ghost use Rattle.overlay_sweep.specs.Costs.{IsSweepCost};
-ghost use Rattle.arrange.specs.Run.{IsGraphOf, IsGraphCost, CountsLeaveRange, IsCommandAnswer};
+ghost use Rattle.arrange.specs.Run.{IsGraphCost, CountsLeaveRange, IsAnswerTo, IsGraphFor};
 ghost use Rattle.overlay_text.specs.declared.settings.Command.{Command};
+ghost use Rattle.overlay_text.specs.Runs.{IfStopped};
+ghost use Rattle.overlay_base.specs.FaultOf.{OnTooLarge};
 
 use crate::graph_output::write_graph;
 use i_overlay::overlay::split_and_build_overlay;
@@ -45,10 +47,8 @@ pub fn graph<I: OverlayInt>(
     settings: Settings,
 ) -> Result<String, Stop>
     requires { IsSplittable segments.items }
-    ensures text { IfOk result (λ text. IsCommandAnswer I.BITS Command.Graph settings (segments_of segments.items)
-        (Ok (string_bytes text))) }
-    ensures stop { IfErr result (λ stop. (stop ≡ Stop.Refused Memory)
-        ⊎ IsCommandAnswer I.BITS Command.Graph settings (segments_of segments.items) (Err stop)) }
+    ensures text { IfOk result (λ text. IsAnswerTo Command.Graph settings segments (Ok (string_bytes text))) }
+    ensures stop { IfStopped result (λ stop. IsAnswerTo Command.Graph settings segments (Err stop)) }
 {
     let mut builder = GraphBuilder::new(alloc);
     let graph = build_graph(alloc, &mut builder, segments, settings)?;
@@ -65,10 +65,8 @@ pub fn build_graph<'a, I: OverlayInt>(
     settings: Settings,
 ) -> Result<OverlayGraph<'a, I, ()>, Fault>
     requires { IsSplittable segments.items }
-    ensures graph { IfOk result (λ graph. IsGraphOf I.BITS settings (segments_of segments.items)
-        (graph_with I.whole (links_of graph))) }
-    ensures out_of_range { IfErr result (λ fault. fault ≡ CountOutOfRange
-        → CountsLeaveRange I.BITS settings (segments_of segments.items)) }
+    ensures graph { IfOk result (λ graph. IsGraphFor settings segments (whole_graph graph)) }
+    ensures out_of_range { OnTooLarge result (CountsLeaveRange I.BITS settings (segments_of segments.items)) }
     ensures asked { IfOk result (λ graph. IsGraphCost I.BITS settings (segments_of segments.items)
         (graph_asked graph)) }
 {

@@ -1,10 +1,10 @@
 // The text of a graph: a line for each link, then for each node, then whether the graph is valid.
-ghost use Rattle.std.specs.Prelude.{◌≡◌, ◌<◌, ◌≤◌, ◌++◌, true, codes, flat_map, length, slice_index_or, OnOk, string_bytes};
+ghost use Rattle.std.specs.Prelude.{◌≡◌, ◌<◌, ◌≤◌, ◌++◌, true, flat_map, length, slice_index_or, OnOk, string_bytes};
 ghost use Rattle.overlay_geometry.specs.PointOf.{point_of};
 ghost use Rattle.overlay_build.specs.Graph.{Node};
 ghost use Rattle.overlay_build.specs.GraphOf.{link_of, graph_with};
 ghost use Rattle.overlay_build.specs.NodeIndexes.{indexes_of, is_canonical_node};
-ghost use Rattle.overlay_build.specs.OverlayGraphOf.{nodes_of, links_of};
+ghost use Rattle.overlay_build.specs.OverlayGraphOf.{nodes_of, links_of, whole_graph};
 ghost use Rattle.overlay_text.specs.Output.{numbers_text};
 ghost use Rattle.arrange.specs.GraphText.{link_line, kind_text, node_line, graph_text};
 
@@ -23,8 +23,7 @@ pub fn write_graph<I: OverlayInt>(
     text: &mut String,
     graph: &OverlayGraph<'_, I, ()>,
 ) -> Result<(), AllocError>
-    ensures { OnOk result (string_bytes text.new ≡ string_bytes text.old
-        ++ graph_text (graph_with I.whole (links_of graph.now))) }
+    ensures { OnOk result (string_bytes text.new ≡ string_bytes text.old ++ graph_text (whole_graph graph.now)) }
 {
     write_links(text, graph.links())?;
     write_nodes(text, graph)?;

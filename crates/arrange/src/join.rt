@@ -1,10 +1,10 @@
 // `arrange join`: the segments on each pair of ends become one.
-ghost use Rattle.std.specs.Prelude.{◌≡◌, ◌⊎◌, ◌++◌, IsTrue, IsFalse, IfOk, OnOk, IfErr, string_bytes};
-ghost use Rattle.overlay_base.specs.declared.segm.fault.Fault.TheVariants.{Memory, CountOutOfRange};
-ghost use Rattle.overlay_base.specs.Join.{join, has_equal_pairs, join_leaves_range};
+ghost use Rattle.std.specs.Prelude.{◌≡◌, IsFalse, IfOk, OnOk, string_bytes};
+ghost use Rattle.overlay_base.specs.Join.{join, join_leaves_range};
 ghost use Rattle.overlay_base.specs.SegmentOf.{segments_of};
 ghost use Rattle.overlay_base.specs.ArrangedOf.{IsSplittable};
-ghost use Rattle.overlay_text.specs.Output.{segment_lines, flag_line};
+ghost use Rattle.arrange.specs.Run.{join_text, IsJoinStop};
+ghost use Rattle.overlay_text.specs.Runs.{IfStopped};
 
 use overlay_base::segm::boolean::ShapeCountBoolean;
 use overlay_base::segm::join::join_with_store;
@@ -22,11 +22,9 @@ pub fn join<I: OverlayInt>(
     mut segments: Vec<Segment<ShapeCountBoolean, I, ()>>,
 ) -> Result<String, Stop>
     requires { IsSplittable segments.items }
-    ensures text { IfOk result (λ text. string_bytes text ≡ segment_lines (join (segments_of segments.items))
-        ++ flag_line (has_equal_pairs (segments_of segments.items))) }
+    ensures text { IfOk result (λ text. string_bytes text ≡ join_text (segments_of segments.items)) }
     ensures in_range { OnOk result (IsFalse (join_leaves_range (segments_of segments.items))) }
-    ensures refused { IfErr result (λ stop. (stop ≡ Stop.Refused Memory)
-        ⊎ ((stop ≡ Stop.Refused CountOutOfRange) × IsTrue (join_leaves_range (segments_of segments.items)))) }
+    ensures refused { IfStopped result (IsJoinStop (segments_of segments.items)) }
 {
     let repeated = join_with_store(&mut segments, &mut ())?;
     let mut text = String::new(alloc);

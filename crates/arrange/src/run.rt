@@ -1,11 +1,9 @@
 // The program: which words it reads, and what a command answers.
-ghost use Rattle.std.specs.Prelude.{◌≡◌, ◌⊎◌, ℕ, List, Ok, Err, IfSome, IfOk, IfErr, map, string_bytes};
-ghost use Rattle.std.specs.Io.KnownBytes.{Appends};
+ghost use Rattle.std.specs.Prelude.{◌≡◌, ◌⊎◌, Ok, Err, IfOk, IfErr, map, string_bytes};
 ghost use Rattle.overlay_base.specs.declared.segm.fault.Fault.TheVariants.{Memory};
 ghost use Rattle.arrange.specs.Run.{IsAnswer, arrange_behavior};
 ghost use Rattle.overlay_text.specs.declared.stop.Stop.{Stop};
-ghost use Rattle.overlay_text.specs.Runs.{Ask, AskForNone, IsRunAnswer, IsStop};
-ghost use Rattle.overlay_text.specs.Status.{status_of};
+ghost use Rattle.overlay_text.specs.Runs.{Ask, AskForNone, AsksAndWrites, AsksAndStops, Writes, Stops};
 
 use crate::cross::cross;
 use crate::graph::graph;
@@ -57,13 +55,8 @@ pub fn arrange<H: Env + AllocGlobal, R: Read, W: Write, E: Write>(
     output: &mut W,
     faults: &mut E,
 ) -> u8
-    ensures done { result ≡ 0 → (words : List (List ℕ)) × Ask arrange_behavior words
-        × IfSome (R.remaining input.old) (λ bytes. (text : List ℕ) × IsRunAnswer arrange_behavior words bytes (Ok text)
-        × Appends (W.contents output.old) (W.contents output.new) text) }
-    ensures stopped { (result ≡ 0) ⊎ ((stop : Stop) × (result ≡ status_of stop)
-        × ((stop ≡ Stop.Usage) ⊎ (stop ≡ Stop.Refused Memory)
-        ⊎ ((words : List (List ℕ)) × IsStop arrange_behavior words (R.remaining input.old) stop))
-        × ((stop ≡ Stop.Output) ⊎ (output.new ≡ output.old))) }
+    ensures done { result ≡ 0 → AsksAndWrites arrange_behavior R.remaining input.old W.contents output.old output.new }
+    ensures stopped { (result ≡ 0) ⊎ AsksAndStops arrange_behavior R.remaining input.old output.old output.new result }
     ensures quiet { result ≡ 0 → faults.new ≡ faults.old }
 {
     run_started::<ArrangeProgram, H, R, W, E>(rt, input, output, faults)
@@ -84,12 +77,10 @@ pub fn arrange_run<R: Read, W: Write, E: Write>(
     faults: &mut E,
 ) -> u8
     ensures asked { result ≡ 0 → Ask arrange_behavior (map string_bytes words.now) }
-    ensures done { result ≡ 0 → IfSome (R.remaining input.old) (λ bytes. (text : List ℕ)
-        × IsRunAnswer arrange_behavior (map string_bytes words.now) bytes (Ok text)
-        × Appends (W.contents output.old) (W.contents output.new) text) }
-    ensures stopped { (result ≡ 0) ⊎ ((stop : Stop) × (result ≡ status_of stop)
-        × IsStop arrange_behavior (map string_bytes words.now) (R.remaining input.old) stop
-        × ((stop ≡ Stop.Output) ⊎ (output.new ≡ output.old))) }
+    ensures done { result ≡ 0
+        → Writes arrange_behavior words.now R.remaining input.old W.contents output.old output.new }
+    ensures stopped { (result ≡ 0)
+        ⊎ Stops arrange_behavior words.now R.remaining input.old output.old output.new result }
     ensures unread { AskForNone arrange_behavior (map string_bytes words.now) → input.new ≡ input.old }
     ensures quiet { result ≡ 0 → faults.new ≡ faults.old }
 {

@@ -1,14 +1,15 @@
 // `arrange split`: the segments are split where they meet.
-ghost use Rattle.std.specs.Prelude.{◌≡◌, ◌⊎◌, Ok, Err, Option, OnOk, IfOk, IfErr, string_bytes};
-ghost use Rattle.overlay_base.specs.declared.segm.fault.Fault.TheVariants.{Memory, CountOutOfRange};
+ghost use Rattle.std.specs.Prelude.{◌≡◌, Ok, Err, Option, OnOk, IfOk, IfErr, string_bytes};
+ghost use Rattle.overlay_base.specs.declared.segm.fault.Fault.TheVariants.{CountOutOfRange};
 ghost use Rattle.overlay_base.specs.SegmentOf.{segments_of};
 ghost use Rattle.overlay_base.specs.ArrangedOf.{IsSplittable};
 ghost use Rattle.overlay_grid.specs.Grid.{Layout};
 ghost use Rattle.overlay_split.specs.Run.{IsRun, LeavesRange};
 ghost use Rattle.overlay_split.specs.RunLooks.{AreRunLooks};
 ghost use Rattle.overlay_split.specs.SettingsOf.{snap_limit_of, passes_of, looked_of};
-ghost use Rattle.arrange.specs.Run.{IsCommandAnswer, split_settings};
+ghost use Rattle.arrange.specs.Run.{split_settings, IsAnswerTo};
 ghost use Rattle.overlay_text.specs.declared.settings.Command.{Command};
+ghost use Rattle.overlay_text.specs.Runs.{IfStopped};
 
 use crate::graph::Lines;
 use overlay_base::segm::fault::Fault;
@@ -27,10 +28,8 @@ pub fn split<I: OverlayInt>(
     settings: Settings,
 ) -> Result<String, Stop>
     requires { IsSplittable segments.items }
-    ensures text { IfOk result (λ text. IsCommandAnswer I.BITS Command.Split settings (segments_of segments.items)
-        (Ok (string_bytes text))) }
-    ensures stop { IfErr result (λ stop. (stop ≡ Stop.Refused Memory)
-        ⊎ IsCommandAnswer I.BITS Command.Split settings (segments_of segments.items) (Err stop)) }
+    ensures text { IfOk result (λ text. IsAnswerTo Command.Split settings segments (Ok (string_bytes text))) }
+    ensures stop { IfStopped result (λ stop. IsAnswerTo Command.Split settings segments (Err stop)) }
 {
     let mut splitter = SplitSolver::with_snap_limit(alloc, settings.snap_limit);
     let flag = split_as_chosen(&mut splitter, &mut segments, &settings)?;

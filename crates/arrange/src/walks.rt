@@ -1,13 +1,13 @@
 // `arrange walks`: closed walks through the graph of the arrangement.
-ghost use Rattle.std.specs.Prelude.{◌≡◌, ◌⊎◌, ◌++◌, Ok, Err, OnOk, IfOk, IfErr, string_bytes, flat_map};
+ghost use Rattle.std.specs.Prelude.{◌≡◌, ◌++◌, Ok, Err, OnOk, IfOk, IfErr, string_bytes, flat_map};
 ghost use Rattle.overlay_base.specs.declared.segm.fault.Fault.TheVariants.{Memory};
-ghost use Rattle.overlay_base.specs.SegmentOf.{segments_of};
 ghost use Rattle.overlay_base.specs.ArrangedOf.{IsSplittable};
 ghost use Rattle.overlay_build.specs.GraphOf.{graph_with};
 ghost use Rattle.overlay_build.specs.OverlayGraphOf.{links_of};
 ghost use Rattle.arrange.specs.GraphText.{walk_line, IsWalksText};
-ghost use Rattle.arrange.specs.Run.{IsCommandAnswer};
+ghost use Rattle.arrange.specs.Run.{IsAnswerTo};
 ghost use Rattle.overlay_text.specs.declared.settings.Command.{Command};
+ghost use Rattle.overlay_text.specs.Runs.{IfStopped};
 
 use crate::graph::{Lines, build_graph};
 use crate::graph_output::write_numbers;
@@ -29,10 +29,8 @@ pub fn walks<I: OverlayInt>(
     settings: Settings,
 ) -> Result<String, Stop>
     requires { IsSplittable segments.items }
-    ensures text { IfOk result (λ text. IsCommandAnswer I.BITS Command.Walks settings (segments_of segments.items)
-        (Ok (string_bytes text))) }
-    ensures stop { IfErr result (λ stop. (stop ≡ Stop.Refused Memory)
-        ⊎ IsCommandAnswer I.BITS Command.Walks settings (segments_of segments.items) (Err stop)) }
+    ensures text { IfOk result (λ text. IsAnswerTo Command.Walks settings segments (Ok (string_bytes text))) }
+    ensures stop { IfStopped result (λ stop. IsAnswerTo Command.Walks settings segments (Err stop)) }
 {
     let mut builder = GraphBuilder::new(alloc);
     let graph = build_graph(alloc, &mut builder, segments, settings)?;

@@ -5,6 +5,8 @@ use Rattle.overlay_geometry.specs.Points.{Point, Pair, pair_lt}
 use Rattle.overlay_base.specs.Segments.{WholeSegment}
 use Rattle.overlay_intersections.specs.Marks.{snapping}
 use Rattle.overlay_intersections.specs.CrossAnswer.{pure, target_end, other_end, overlay, CrossAnswer, cross_answer, ends_mask}
+use Rattle.overlay_geometry.specs.PointOf.{point_of}
+use Rattle.overlay_intersections.specs.declared.split.cross.result.CrossResult.{CrossResult}
 
 -- two numbers, each after a space
 abbrev pub pair_text : ℤ → ℤ → List ℕ
@@ -62,3 +64,7 @@ cross_text r2 segments = None
 -- numbers, each after a space
 abbrev pub numbers_text : List ℕ → List ℕ
 numbers_text numbers = flat_map (λ n. codes " " ++ decimal n) numbers
+
+-- the line of a place of code
+abbrev pub place_text : {I : Type 0} → (I → ℤ) → List ℕ → CrossResult I → List ℕ
+place_text whole kind place = place_line kind (point_of whole place.point) place.is_round

@@ -1,9 +1,12 @@
 -- What a run of a program returns: the text of its output, or why it stops.
-use Rattle.std.specs.Prelude.{◌≡◌, ◌≢◌, ◌⊎◌, ℕ, List, Option, Ok, Err, IfSome}
+use Rattle.std.specs.Prelude.{◌≡◌, ◌≢◌, ◌⊎◌, ℕ, List, Option, Ok, Err, IfSome, IfErr, String, map, string_bytes}
 use Rattle.std.specs.declared.result.Result.{Result}
 use Rattle.overlay_base.specs.declared.segm.fault.Fault.TheVariants.{Memory}
 use Rattle.overlay_text.specs.declared.stop.Stop.{Stop}
 use Rattle.overlay_text.specs.declared.stop.Stop.TheVariants.{Usage, Refused, Input, Output}
+use Rattle.std.specs.Io.KnownBytes.{Appends}
+use Rattle.overlay_text.specs.Status.{status_of}
+use Rattle.std.specs.Global.{Global}
 
 -- A program, for choices of a type: for which choices words ask, and what its answer to an input is.
 pub record Behavior (C : Type 0) : Type 1 where
@@ -34,3 +37,35 @@ module _ {C : Type 0} (program : Behavior C) where
       ⊎ (Ask words × (stop ≢ Usage)
       × ((stop ≡ Input) ⊎ ((stop ≡ Output) × HasOutput words input) ⊎ (stop ≡ Refused Memory)
       ⊎ IfSome input (λ bytes. IsRunAnswer words bytes (Err stop))))
+
+  -- If the input is known, the output gains the text of its answer.
+  abbrev pub WritesAnswer : List (List ℕ) → Option (List ℕ) → Option (List ℕ) → Option (List ℕ) → Type 0
+  WritesAnswer words input before after = IfSome input (λ bytes. (text : List ℕ) × IsRunAnswer words bytes (Ok text) × Appends before after text)
+
+-- The output is as it was, unless the output failed.
+abbrev pub WritesNothing : {W : Type 0} → W → W → Stop → Type 0
+WritesNothing before after stop = (stop ≡ Output) ⊎ (after ≡ before)
+
+-- The text is answered, or a run over an input stops, by a status, for words of a call.
+module _ {C R W : Type 0} (program : Behavior C) (words : List (String Global)) (remaining : R → Option (List ℕ)) (input : R) where
+  abbrev pub Writes : (W → Option (List ℕ)) → W → W → Type 0
+  Writes contents before after = WritesAnswer program (map string_bytes words) (remaining input) (contents before) (contents after)
+
+  abbrev pub Stops : W → W → ℕ → Type 0
+  Stops before after status = (stop : Stop) × (status ≡ status_of stop) × IsStop program (map string_bytes words) (remaining input) stop × WritesNothing before after stop
+
+-- The same for words that nothing is known of.
+module _ {C R W : Type 0} (program : Behavior C) (remaining : R → Option (List ℕ)) (input : R) where
+  abbrev pub AsksAndWrites : (W → Option (List ℕ)) → W → W → Type 0
+  AsksAndWrites contents before after = (words : List (List ℕ)) × Ask program words × WritesAnswer program words (remaining input) (contents before) (contents after)
+
+  -- so it stops with the usage, or for memory, too
+  abbrev pub AsksAndStops : W → W → ℕ → Type 0
+  AsksAndStops before after status =
+      (stop : Stop) × (status ≡ status_of stop)
+      × ((stop ≡ Usage) ⊎ (stop ≡ Refused Memory) ⊎ ((words : List (List ℕ)) × IsStop program words (remaining input) stop))
+      × WritesNothing before after stop
+
+-- A fact of the stop of a call, unless memory was refused.
+abbrev pub IfStopped : {X : Type 0} → Result X Stop → (Stop → Type 0) → Type 0
+IfStopped result Fact = IfErr result (λ stop. (stop ≡ Refused Memory) ⊎ Fact stop)

@@ -1,5 +1,5 @@
 -- What the text of the input asks for, line by line.
-use Rattle.std.specs.Prelude.{◌≡◌, ◌≢◌, ◌⊎◌, ℕ, ◌+◌, ℤ, not, ◌==◌, List, [], ◌∷◌, ◌++◌, length, filter, codes, Some, None}
+use Rattle.std.specs.Prelude.{◌≡◌, ◌≢◌, ◌⊎◌, ℕ, ◌+◌, ℤ, not, ◌==◌, List, [], ◌∷◌, ◌++◌, length, filter, codes, Some, None, IsTrue}
 use Rattle.std.specs.List.{slice_split}
 use Rattle.std.specs.Str.Lines.{strip_carriage_return}
 use Rattle.overlay_geometry.specs.Points.{Point}
@@ -12,6 +12,11 @@ use Rattle.overlay_text.specs.declared.stop.Stop.{Stop}
 use Rattle.overlay_text.specs.declared.stop.Stop.TheVariants.{Line}
 use Rattle.overlay_text.specs.Lines.{step_fault, step_segment}
 use Rattle.overlay_text.specs.Numbers.{WritesNumber}
+use Rattle.overlay_geometry.specs.Coordinates.{is_point_in_range}
+use Rattle.overlay_geometry.specs.PointOf.{point_of}
+use Rattle.overlay_geometry.specs.declared.geom.point.IntPoint.{IntPoint}
+use Rattle.overlay_base.specs.SegmentOf.{segments_of}
+use Rattle.overlay_base.specs.declared.segm.segment.Segment.{Segment}
 
 -- the lines of a text: the parts between its line feeds
 unfoldable pub lines_of : List ℕ → List (List ℕ)
@@ -68,3 +73,15 @@ AskInTurnFor least greatest lines segments = AskInTurn (AsksFor least greatest) 
 
 abbrev pub IsFirstFault : ℤ → ℤ → List (List ℕ) → Stop → Type 0
 IsFirstFault least greatest lines stop = IsFirstFaultOf (AsksFor least greatest) (IsFaulty least greatest) lines stop
+
+-- The lines of a text ask for these segments of code, in order.
+abbrev pub AsksForSegments : {C I D : Type 0} {m : _} {w : _} {o : _} {e : _} {p : _} → List ℕ → List (Segment C I D m w o e p) → Type 0
+AsksForSegments {w = w} bytes list = AskInTurnFor (w.whole w.MIN_COORD) (w.whole w.MAX_COORD) (lines_of bytes) (segments_of list)
+
+-- The stop names the first faulty line of a text, in the range of an engine.
+abbrev pub NamesFirstFault : {I : Type 0} → (I → ℤ) → I → I → List ℕ → Stop → Type 0
+NamesFirstFault whole least greatest bytes stop = IsFirstFault (whole least) (whole greatest) (lines_of bytes) stop
+
+-- the coordinates of a point are in the range of an engine
+abbrev pub FitsEngine : {I : Type 0} → (I → ℤ) → I → I → IntPoint ℤ → Type 0
+FitsEngine whole least greatest wide = IsTrue (is_point_in_range (whole least) (whole greatest) (point_of (λ z. z) wide))

@@ -1,17 +1,17 @@
 // The input: each line is `S ax ay bx by` for a step of a subject's contour, or `C ax ay bx by` for one of a clip's.
-ghost use Rattle.std.specs.Prelude.{◌≡◌, ◌≢◌, ◌⊎◌, ◌↔◌, ℕ, ℤ, IsTrue, IsSome, IfNone, IfSome, IfOk, IfErr, MatchOption, [], ◌∷◌};
+ghost use Rattle.std.specs.Prelude.{◌≡◌, ◌↔◌, IsTrue, IsSome, IfNone, IfSome, IfOk, IfErr, MatchOption, [], ◌∷◌};
 ghost use Rattle.std.specs.Result.{result_err};
 ghost use Rattle.std.specs.Str.Lines.{strip_carriage_return};
-ghost use Rattle.overlay_base.specs.declared.segm.fault.Fault.TheVariants.{Memory};
-ghost use Rattle.overlay_geometry.specs.Coordinates.{is_coordinate, is_point_in_range};
+ghost use Rattle.overlay_geometry.specs.Coordinates.{is_coordinate};
 ghost use Rattle.overlay_geometry.specs.PointOf.{point_of};
-ghost use Rattle.overlay_base.specs.SegmentOf.{segment_of, segments_of};
+ghost use Rattle.overlay_base.specs.SegmentOf.{segment_of};
 ghost use Rattle.overlay_base.specs.ArrangedOf.{IsSplittable};
 ghost use Rattle.overlay_text.specs.Lines.{step_fault, step_segment};
 ghost use Rattle.std.specs.Option.{option_map_or};
 ghost use Rattle.overlay_geometry.specs.Points.{Point};
 ghost use Rattle.overlay_base.specs.declared.segm.shape_type.ShapeType.{ShapeType};
-ghost use Rattle.overlay_text.specs.Text.{lines_of, words_of, words_of_line, NamesShape, WritesStep, AsksFor, IsFaulty, AskInTurnFor, IsFirstFault};
+ghost use Rattle.overlay_text.specs.Text.{lines_of, words_of, words_of_line, NamesShape, WritesStep, AsksFor, IsFaulty, AsksForSegments, NamesFirstFault, FitsEngine};
+ghost use Rattle.overlay_text.specs.Runs.{IfStopped};
 
 use crate::number::signed_number;
 use crate::stop::{LineFault, Stop};
@@ -109,11 +109,9 @@ pub fn read_lines<I: OverlayInt>(
     alloc: Global,
     bytes: &[u8],
 ) -> Result<Vec<Segment<ShapeCountBoolean, I, ()>>, Stop>
-    ensures segments { IfOk result (λ segments. AskInTurnFor (I.whole I.MIN_COORD) (I.whole I.MAX_COORD)
-        (lines_of bytes.now) (segments_of segments.items)) }
+    ensures segments { IfOk result (λ segments. AsksForSegments bytes.now segments.items) }
     ensures splittable { IfOk result (λ segments. IsSplittable segments.items) }
-    ensures faulty { IfErr result (λ stop. (stop ≡ Stop.Refused Memory)
-        ⊎ IsFirstFault (I.whole I.MIN_COORD) (I.whole I.MAX_COORD) (lines_of bytes.now) stop) }
+    ensures faulty { IfStopped result (NamesFirstFault I.whole I.MIN_COORD I.MAX_COORD bytes.now) }
 {
     let mut segments = Vec::new(alloc);
     for (index, line) in Lines::of(bytes).enumerate() {
@@ -210,8 +208,7 @@ fn segment<I: OverlayInt>(line: Line) -> Result<Segment<ShapeCountBoolean, I, ()
 
 /// The point of the engine with these coordinates, or `None` where one is out of range.
 pub fn point<I: OverlayInt>(wide: IntPoint<i64>) -> Option<IntPoint<I>>
-    ensures in_range { IsSome result ↔ IsTrue (is_point_in_range (I.whole I.MIN_COORD) (I.whole I.MAX_COORD)
-        (point_of (λ z. z) wide)) }
+    ensures in_range { IsSome result ↔ FitsEngine I.whole I.MIN_COORD I.MAX_COORD wide }
     ensures same { IfSome result (λ point. point_of I.whole point ≡ point_of (λ z. z) wide) }
 {
     Some(IntPoint::new(coordinate(wide.x)?, coordinate(wide.y)?))

@@ -1,9 +1,8 @@
 // The output: one item a line.
 ghost use Rattle.std.specs.Prelude.{◌≡◌, ◌+◌, ◌≤◌, ◌++◌, drop, OnOk, string_bytes};
 ghost use Rattle.std.specs.Str.{IsUtf8};
-ghost use Rattle.overlay_geometry.specs.PointOf.{point_of};
 ghost use Rattle.overlay_base.specs.SegmentOf.{segment_of, segments_of};
-ghost use Rattle.overlay_text.specs.Output.{pair_text, segment_line, segment_lines, place_line};
+ghost use Rattle.overlay_text.specs.Output.{pair_text, segment_line, segment_lines, place_line, place_text};
 
 use crate::line_end::{ROOM, Room, append, put_last_word, put_signed, put_word};
 use overlay_base::segm::boolean::ShapeCountBoolean;
@@ -52,8 +51,7 @@ pub fn write_place<I: OverlayInt>(
     kind: &str,
     place: CrossResult<I>,
 ) -> Result<(), AllocError>
-    ensures { OnOk result (string_bytes text.new ≡ string_bytes text.old
-        ++ place_line kind.now (point_of I.whole place.point) place.is_round) }
+    ensures { OnOk result (string_bytes text.new ≡ string_bytes text.old ++ place_text I.whole kind.now place) }
 {
     text.push_str(kind)?;
     let mut room = [0; ROOM];

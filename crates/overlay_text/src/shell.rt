@@ -5,7 +5,7 @@ ghost use Rattle.std.specs.IoError.{error_kind};
 ghost use Rattle.std.specs.Io.KnownBytes.{Appends};
 ghost use Rattle.overlay_base.specs.declared.segm.fault.Fault.TheVariants.{Memory};
 ghost use Rattle.overlay_text.specs.declared.stop.Stop.{Stop};
-ghost use Rattle.overlay_text.specs.Runs.{Behavior, Ask, AskForNone, IsRunAnswer, IsStop};
+ghost use Rattle.overlay_text.specs.Runs.{Behavior, Ask, AskForNone, IsRunAnswer, IsStop, AsksAndWrites, AsksAndStops, Writes, Stops};
 ghost use Rattle.overlay_text.specs.Status.{status_of};
 
 use crate::stop::Stop;
@@ -49,13 +49,8 @@ pub fn run_started<P: Program, H: Env + AllocGlobal, R: Read, W: Write, E: Write
     output: &mut W,
     faults: &mut E,
 ) -> u8
-    ensures done { result ≡ 0 → (words : List (List ℕ)) × Ask P.behavior words
-        × IfSome (R.remaining input.old) (λ bytes. (text : List ℕ) × IsRunAnswer P.behavior words bytes (Ok text)
-        × Appends (W.contents output.old) (W.contents output.new) text) }
-    ensures stopped { (result ≡ 0) ⊎ ((stop : Stop) × (result ≡ status_of stop)
-        × ((stop ≡ Stop.Usage) ⊎ (stop ≡ Stop.Refused Memory)
-        ⊎ ((words : List (List ℕ)) × IsStop P.behavior words (R.remaining input.old) stop))
-        × ((stop ≡ Stop.Output) ⊎ (output.new ≡ output.old))) }
+    ensures done { result ≡ 0 → AsksAndWrites P.behavior R.remaining input.old W.contents output.old output.new }
+    ensures stopped { (result ≡ 0) ⊎ AsksAndStops P.behavior R.remaining input.old output.old output.new result }
     ensures quiet { result ≡ 0 → faults.new ≡ faults.old }
 {
     match started_words(rt) {
@@ -78,12 +73,8 @@ pub fn run_over<P: Program, R: Read, W: Write, E: Write>(
     faults: &mut E,
 ) -> u8
     ensures asked { result ≡ 0 → Ask P.behavior (map string_bytes words.now) }
-    ensures done { result ≡ 0 → IfSome (R.remaining input.old) (λ bytes. (text : List ℕ)
-        × IsRunAnswer P.behavior (map string_bytes words.now) bytes (Ok text)
-        × Appends (W.contents output.old) (W.contents output.new) text) }
-    ensures stopped { (result ≡ 0) ⊎ ((stop : Stop) × (result ≡ status_of stop)
-        × IsStop P.behavior (map string_bytes words.now) (R.remaining input.old) stop
-        × ((stop ≡ Stop.Output) ⊎ (output.new ≡ output.old))) }
+    ensures done { result ≡ 0 → Writes P.behavior words.now R.remaining input.old W.contents output.old output.new }
+    ensures stopped { (result ≡ 0) ⊎ Stops P.behavior words.now R.remaining input.old output.old output.new result }
     ensures unread { AskForNone P.behavior (map string_bytes words.now) → input.new ≡ input.old }
     ensures quiet { result ≡ 0 → faults.new ≡ faults.old }
 {

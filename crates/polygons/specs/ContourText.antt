@@ -1,5 +1,5 @@
 -- The text of contours: what a line of the input writes, what is wrong with one, and the lines of the output.
-use Rattle.std.specs.Prelude.{◌≡◌, ◌≢◌, ◌⊎◌, ℕ, ℤ, IsTrue, IsFalse, Bool, List, [], ◌∷◌, ◌++◌, codes, flat_map}
+use Rattle.std.specs.Prelude.{◌≡◌, ◌≢◌, ◌⊎◌, ℕ, ℤ, IsTrue, IsFalse, Bool, List, [], ◌∷◌, ◌++◌, codes, flat_map, Vec}
 use Rattle.std.specs.List.{list_all}
 use Rattle.overlay_geometry.specs.Points.{Point}
 use Rattle.overlay_geometry.specs.Coordinates.{is_point_in_range}
@@ -9,7 +9,12 @@ use Rattle.overlay_text.specs.declared.stop.LineFault.{LineFault}
 use Rattle.overlay_text.specs.declared.stop.LineFault.TheVariants.{Form, Range}
 use Rattle.overlay_text.specs.Numbers.{WritesNumber}
 use Rattle.overlay_text.specs.Output.{pair_text}
-use Rattle.overlay_text.specs.Text.{words_of_line, NamesShape}
+use Rattle.overlay_text.specs.Text.{words_of_line, NamesShape, lines_of, AskInTurn, IsFirstFaultOf}
+use Rattle.std.specs.Global.{Global}
+use Rattle.overlay_geometry.specs.declared.geom.point.IntPoint.{IntPoint}
+use Rattle.overlay_contours.specs.ContoursOf.{contours_of}
+use Rattle.overlay_text.specs.declared.stop.Stop.{Stop}
+use Rattle.polygons.specs.declared.contour_lines.Shapes.{Shapes}
 
 -- a contour of a shape
 pub record GivenContour : Type 0 where
@@ -60,3 +65,20 @@ contour_line points = codes "contour" ++ points_text points ++ codes "\n"
 
 abbrev pub contour_lines : List (List Point) → List ℕ
 contour_lines contours = flat_map contour_line contours
+
+-- ---- for contours of code
+
+-- The lines of a text write these shapes, in the range of an engine.
+abbrev pub WritesShapes : {I : Type 0} → (I → ℤ) → I → I → List ℕ → Shapes I → Type 0
+WritesShapes whole least greatest bytes shapes =
+    (given : List GivenContour) × AskInTurn (AsksForContour (whole least) (whole greatest)) (lines_of bytes) given
+    × (contours_of whole shapes.subject.items ≡ subject_of given) × (contours_of whole shapes.clip.items ≡ clip_of given)
+
+-- The stop names the first faulty line of a text.
+abbrev pub NamesFirstFaulty : {I : Type 0} → (I → ℤ) → I → I → List ℕ → Stop → Type 0
+NamesFirstFaulty whole least greatest bytes stop =
+    IsFirstFaultOf (AsksForContour (whole least) (whole greatest)) (IsFaultyContour (whole least) (whole greatest)) (lines_of bytes) stop
+
+-- the lines of contours
+abbrev pub contours_text : {I : Type 0} → (I → ℤ) → List (Vec (IntPoint I) Global) → List ℕ
+contours_text whole contours = contour_lines (contours_of whole contours)

@@ -3,9 +3,10 @@ ghost use Rattle.std.specs.Prelude.{◌≡◌, ◌⊎◌, List, IsTrue, IsFalse,
 ghost use Rattle.overlay_geometry.specs.Points.{Point};
 ghost use Rattle.overlay_base.specs.declared.segm.fault.Fault.TheVariants.{Memory};
 ghost use Rattle.overlay_base.specs.declared.segm.shape_type.ShapeType.TheVariants.{Subject, Clip};
-ghost use Rattle.overlay_contours.specs.ContoursOf.{points_of, contours_of};
-ghost use Rattle.overlay_text.specs.Text.{lines_of, words_of, words_of_line, AskInTurn, IsFirstFaultOf};
-ghost use Rattle.polygons.specs.ContourText.{GivenContour, WritePoints, are_in_range, AsksForContour, IsFaultyContour, subject_of, clip_of};
+ghost use Rattle.overlay_contours.specs.ContoursOf.{points_of};
+ghost use Rattle.overlay_text.specs.Text.{words_of, words_of_line};
+ghost use Rattle.polygons.specs.ContourText.{WritePoints, are_in_range, AsksForContour, IsFaultyContour, WritesShapes, NamesFirstFaulty};
+ghost use Rattle.overlay_text.specs.Runs.{IfStopped};
 
 use overlay_base::segm::shape_type::ShapeType;
 use overlay_contours::contour::IntContour;
@@ -32,13 +33,8 @@ struct ShapeContour<I: OverlayInt> {
 
 /// The contours that the lines of a text write, in order. The first faulty line stops the run.
 pub fn read_contours<I: OverlayInt>(alloc: Global, bytes: &[u8]) -> Result<Shapes<I>, Stop>
-    ensures contours { IfOk result (λ shapes. (given : List GivenContour)
-        × AskInTurn (AsksForContour (I.whole I.MIN_COORD) (I.whole I.MAX_COORD)) (lines_of bytes.now) given
-        × (contours_of I.whole shapes.subject.items ≡ subject_of given)
-        × (contours_of I.whole shapes.clip.items ≡ clip_of given)) }
-    ensures faulty { IfErr result (λ stop. (stop ≡ Stop.Refused Memory)
-        ⊎ IsFirstFaultOf (AsksForContour (I.whole I.MIN_COORD) (I.whole I.MAX_COORD))
-        (IsFaultyContour (I.whole I.MIN_COORD) (I.whole I.MAX_COORD)) (lines_of bytes.now) stop) }
+    ensures contours { IfOk result (λ shapes. WritesShapes I.whole I.MIN_COORD I.MAX_COORD bytes.now shapes) }
+    ensures faulty { IfStopped result (NamesFirstFaulty I.whole I.MIN_COORD I.MAX_COORD bytes.now) }
 {
     let mut subject = Vec::new(alloc);
     let mut clip = Vec::new(alloc);

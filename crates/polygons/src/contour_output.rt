@@ -1,9 +1,9 @@
 // The output: a line for each contour.
 ghost use Rattle.std.specs.Prelude.{◌≡◌, ◌++◌, OnOk, string_bytes};
 ghost use Rattle.overlay_geometry.specs.PointOf.{point_of};
-ghost use Rattle.overlay_contours.specs.ContoursOf.{points_of, contours_of};
+ghost use Rattle.overlay_contours.specs.ContoursOf.{points_of};
 ghost use Rattle.overlay_text.specs.Output.{pair_text};
-ghost use Rattle.polygons.specs.ContourText.{points_text, contour_line, contour_lines};
+ghost use Rattle.polygons.specs.ContourText.{points_text, contour_line, contours_text};
 
 use overlay_contours::contour::IntContour;
 use overlay_geometry::geom::point::IntPoint;
@@ -17,8 +17,7 @@ pub fn write_contours<I: OverlayInt>(
     text: &mut String,
     contours: &[IntContour<I>],
 ) -> Result<(), AllocError>
-    ensures { OnOk result (string_bytes text.new ≡ string_bytes text.old
-        ++ contour_lines (contours_of I.whole contours.now)) }
+    ensures { OnOk result (string_bytes text.new ≡ string_bytes text.old ++ contours_text I.whole contours.now) }
 {
     for contour in contours {
         write_contour(text, contour)?;
