@@ -31,8 +31,8 @@ use Rattle.i_overlay.specs.Headline.{IsOverlay, IsClip, IsRefused, LinksNameNear
 -- ---- the graph
 
 -- If there is a graph, list and graph are the overlay of what is given, by two rules.
-abbrev pub Answers : {C I D E : Type 0} {m : _} {w : _} {o : _} {e : _} {p : _} {w' : _} {o' : _} {e' : _} {p' : _} → Solver → SplitSolver I → SplitSolver I → Vec (Segment C I D m w o e p) Global → Vec (Segment C I D m w o e p) Global → FillRule → OverlayRule → Result (OverlayGraph I E w' o' e' p') Fault → Type 0
-Answers solver before after given list fill_rule rule result =
+abbrev pub ReturnsOverlay : {C I D E : Type 0} {m : _} {w : _} {o : _} {e : _} {p : _} {w' : _} {o' : _} {e' : _} {p' : _} → Solver → SplitSolver I → SplitSolver I → Vec (Segment C I D m w o e p) Global → Vec (Segment C I D m w o e p) Global → FillRule → OverlayRule → Result (OverlayGraph I E w' o' e' p') Fault → Type 0
+ReturnsOverlay solver before after given list fill_rule rule result =
     IfOk result (λ graph. IsOverlay (settings_over solver before given) fill_rule (holds rule) (segments_of given.items) (segments_of list.items) (passes_of after) (whole_graph graph))
 
 -- Where the given counts balance: if there is a graph, it encloses the places of which the overlay rule says something

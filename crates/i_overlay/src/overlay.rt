@@ -9,7 +9,7 @@ ghost use Rattle.overlay_build.specs.OverlayGraphOf.{graph_asked, HasItsNodes, H
 ghost use Rattle.i_overlay.specs.GivenAgain.{ResultsAreGivenAgain};
 ghost use Rattle.overlay_split.specs.SplitOf.{SumsLeaveRange, LooksAreBounded};
 ghost use Rattle.overlay_sweep.specs.SweepOf.{IsCostOf};
-ghost use Rattle.i_overlay.specs.CallOf.{Answers, EnclosesByRule, LinksKeepWhatHolds, LinksLieNearNamed, IsEmptyOrData, RefusesCall};
+ghost use Rattle.i_overlay.specs.CallOf.{ReturnsOverlay, EnclosesByRule, LinksKeepWhatHolds, LinksLieNearNamed, IsEmptyOrData, RefusesCall};
 
 use overlay_base::overlay_core::edge_data::OverlayEdgeData;
 use overlay_base::overlay_core::fill_rule::FillRule;
@@ -59,8 +59,8 @@ pub fn split_and_build_overlay<'a, I: OverlayInt, D: OverlayEdgeData<ShapeCountB
     overlay_rule: OverlayRule,
 ) -> Result<OverlayGraph<'a, I, D>, Fault>
     requires { IsSplittable segments.old.items }
-    ensures overlay { Answers solver.now splitter.old splitter.new segments.old segments.new fill_rule overlay_rule
-        result }
+    ensures overlay { ReturnsOverlay solver.now splitter.old splitter.new segments.old segments.new fill_rule
+        overlay_rule result }
     ensures region { EnclosesByRule solver.now splitter.old splitter.new segments.old fill_rule overlay_rule result }
     ensures graph { IfOk result (λ graph. HasItsNodes graph) }
     ensures edge_data { IfOk result (HasDataBy (keeps_fill (holds overlay_rule)) fill_rule segments.new.items) }
