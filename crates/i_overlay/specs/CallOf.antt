@@ -1,5 +1,5 @@
--- What a call of a split and a build leaves, by its solver, the splitter before and after, and the list before
--- and after.
+-- What a call of a split and a build leaves, by its solver, the splitter before and after, and of the list
+-- before and after.
 use Rattle.std.specs.Prelude.{◌≡◌, ◌⊎◌, ℕ, Bool, IsTrue, IfOk, List, [], Result, Vec}
 use Rattle.std.specs.List.{list_all}
 use Rattle.std.specs.Global.{Global}
@@ -60,8 +60,8 @@ LinksKeepWhatHolds {D = D} {m = m} hooks given result =
     (has : D → Bool) → HooksKeep (hooks_of m.counted hooks) has → IsTrue (list_all (λ s. has s.edge_data) (data_segments_of given.items)) →
     IfOk result (λ graph. IsTrue (list_all (λ l. has l.edge_data) (links_of graph)))
 
--- Where each given segment lies on what its data names, and the hooks name no others: if there is a graph, each link lies
--- as near to all that its data names as the passes reach.
+-- Where each given segment lies on what its data names, and the hooks name no others: if there is a graph, each link
+-- lies as near to all that its data names as the passes reach.
 abbrev pub LinksLieNearNamed : {C I D S : Type 0} {m : _} {w : _} {o : _} {e : _} {p : _} {w' : _} {o' : _} {e' : _} {p' : _} → Ghosts D C S → Solver → SplitSolver I → SplitSolver I → Vec (Segment C I D m w o e p) Global → Result (OverlayGraph I D w' o' e' p') Fault → Type 0
 LinksLieNearNamed {D = D} {m = m} {w = w} hooks solver before after given result =
     (names : D → Pair → Bool) → HooksNameNoOther (hooks_of m.counted hooks) names → NameNear names 0 (data_segments_of given.items) →

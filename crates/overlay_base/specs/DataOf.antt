@@ -26,10 +26,11 @@ abbrev pub IsPieceStore : {C I D S : Type 0} {m : _} {w : _} {o : _} {e : _} {p 
 IsPieceStore {m = m} {w = w} hooks winding a b edge_data store left s =
     left ≡ (data_piece (hooks_of m.counted hooks) winding (point_of w.whole a) (point_of w.whole b) edge_data store).1
 
--- The segment, and the store, are those of the piece that is one step of a contour of a shape.
+-- The segment is the piece that is one step of a contour of a shape.
 abbrev pub IsStepOf : {C I D S : Type 0} {m : _} {w : _} {o : _} {e : _} {p : _} → Ghosts D C S → ShapeType → IntPoint I → IntPoint I → D → S → Segment C I D m w o e p → Type 0
 IsStepOf hooks shape_type a b edge_data store s = IsDataPiece hooks (direct_winding boolean_made shape_type) a b edge_data store s
 
+-- The store is what making that step leaves.
 abbrev pub IsStepStore : {C I D S : Type 0} {m : _} {w : _} {o : _} {e : _} {p : _} → Ghosts D C S → ShapeType → IntPoint I → IntPoint I → D → S → S → Segment C I D m w o e p → Type 0
 IsStepStore hooks shape_type a b edge_data store left s = IsPieceStore hooks (direct_winding boolean_made shape_type) a b edge_data store left s
 

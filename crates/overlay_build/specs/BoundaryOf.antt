@@ -45,10 +45,11 @@ BoundsAgain {w = w} shape rule graph list =
 
 -- ---- walks
 
--- the links of a graph with the numbers of their nodes; and each in its direction
+-- the links of a graph with the numbers of their nodes
 abbrev pub whole_links : {I D : Type 0} {w : _} {o : _} {e : _} {p : _} → OverlayGraph I D w o e p → List Link
 whole_links {w = w} graph = map (link_of w.whole) (links_of graph)
 
+-- each of them in the direction that a rule gives it
 abbrev pub arcs_by : {I D : Type 0} {w : _} {o : _} {e : _} {p : _} → OverlayRule → OverlayGraph I D w o e p → List Link
 arcs_by rule graph = arcs (holds rule) (whole_links graph)
 

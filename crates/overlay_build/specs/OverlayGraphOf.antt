@@ -33,9 +33,10 @@ HasItsNodes {w = w} graph = HoldGraph indexes_of is_canonical_node w.whole (node
 abbrev pub HasEvenNodes : {I D : Type 0} {w : _} {o : _} {e : _} {p : _} → OverlayGraph I D w o e p → Type 0
 HasEvenNodes graph = IsTrue (has_even_nodes (whole_graph graph))
 
--- Its nodes and links are those of the graph of the segments of a list whose fills pass a test, and its data is theirs.
+-- Its nodes and links are those of the graph of the segments of a list whose fills pass a test.
 abbrev pub ShowsGraphBy : {C I D : Type 0} {m : _} {w' : _} {o' : _} {e' : _} {p' : _} {w : _} {o : _} {e : _} {p : _} → (ℕ → Bool) → FillRule → List (Segment C I D m w' o' e' p') → OverlayGraph I D w o e p → Type 0
 ShowsGraphBy {w = w} keeps rule list graph = HoldGraph indexes_of is_canonical_node w.whole (nodes_of graph) (links_of graph) (graph_by keeps rule (segments_of list))
 
+-- Its data is that of these segments.
 abbrev pub HasDataBy : {C I D : Type 0} {m : _} {w' : _} {o' : _} {e' : _} {p' : _} {w : _} {o : _} {e : _} {p : _} → (ℕ → Bool) → FillRule → List (Segment C I D m w' o' e' p') → OverlayGraph I D w o e p → Type 0
 HasDataBy keeps rule list graph = map (λ l. l.edge_data) (links_of graph) ≡ data_by keeps rule (data_segments_of list)

@@ -71,6 +71,7 @@ module _ (I : RattleType) (whole : Whole I.Denot) (order : Order I.Denot) (equal
   abbrev pub borrowed_row : RattleType
   borrowed_row = graph_row (record { mir = named 0; lft = [] }) I whole order equality partial
 
+  -- The graph ends with the links that are left behind the reference to them.
   abbrev pub LendsTo : MutBor borrowed_row.Denot → MutBor (List (OverlayLink I.Denot Unit)) → Fml
   LendsTo graph links =
       Lends borrowed_row (Array (link_row I unit) 0) graph links

@@ -1,4 +1,4 @@
--- What calls say of contours of code. An engine says how a coordinate is read, and which one is the least, and the greatest.
+-- What calls say of contours of code. An engine says how a coordinate is read, and which is the least and the greatest.
 use Rattle.std.specs.Prelude.{◌≡◌, ℕ, ℤ, Bool, IsTrue, List, [], Vec, count_by, map}
 use Rattle.std.specs.List.{list_all}
 use Rattle.std.specs.Global.{Global}
@@ -27,10 +27,11 @@ use Rattle.overlay_contours.specs.declared.fault.ContourFault.{ContourFault}
 
 -- ---- ranges
 
--- Every point of the contours, of one contour, is in range.
+-- Every point of the contours is in range.
 abbrev pub LieInRange : {I : Type 0} → (I → ℤ) → I → I → List (Vec (IntPoint I) Global) → Type 0
 LieInRange whole least greatest contours = IsTrue (are_in_range (whole least) (whole greatest) (contours_of whole contours))
 
+-- Every point of one contour is in range.
 abbrev pub LiesInRange : {I : Type 0} → (I → ℤ) → I → I → List (IntPoint I) → Type 0
 LiesInRange whole least greatest points = IsTrue (list_all (is_point_in_range (whole least) (whole greatest)) (points_of whole points))
 
@@ -55,13 +56,15 @@ WindsAsContours {w = w} subject clip list =
 abbrev pub corners_in : {I : Type 0} → (I → ℤ) → List (Vec (IntPoint I) Global) → List (List Point)
 corners_in whole contours = map corners (contours_of whole contours)
 
--- Contours wind round every place, and paint the same places, as others; and they are proper where these are.
+-- Contours wind round every place as often as the given ones.
 abbrev pub WindAlike : {I : Type 0} → (I → ℤ) → List (Vec (IntPoint I) Global) → List (Vec (IntPoint I) Global) → Type 0
 WindAlike whole given contours = (p : RationalPoint) → winding_number (contours_of whole contours) p ≡ winding_number (contours_of whole given) p
 
+-- They paint the places that the given ones paint.
 abbrev pub PaintAlike : {I : Type 0} → (I → ℤ) → List (Vec (IntPoint I) Global) → List (Vec (IntPoint I) Global) → Type 0
 PaintAlike whole given contours = (p : RationalPoint) → is_painted (contours_of whole contours) p ≡ is_painted (contours_of whole given) p
 
+-- They are proper where the given ones are.
 abbrev pub StayProper : {I : Type 0} → (I → ℤ) → List (Vec (IntPoint I) Global) → List (Vec (IntPoint I) Global) → Type 0
 StayProper whole given contours = AreProper (contours_of whole given) → AreProper (contours_of whole contours)
 
@@ -76,11 +79,12 @@ RunAlongLinks {w = w} rule graph contours =
 abbrev pub WindAsLinks : {I D : Type 0} {w : _} {o : _} {e : _} {p : _} → OverlayRule → OverlayGraph I D w o e p → List (Vec (IntPoint I) Global) → Type 0
 WindAsLinks {w = w} rule graph contours = (p : RationalPoint) → overlay_winding (contours_of w.whole contours) [] p ≡ winding_below (links_by rule graph) p
 
--- Their edges are the links, and they paint the places that the graph encloses.
+-- Their edges, each with its ends in order, are the links of the graph.
 abbrev pub HaveLinksAsEdges : {I D : Type 0} {w : _} {o : _} {e : _} {p : _} → OverlayGraph I D w o e p → List (Vec (IntPoint I) Global) → Type 0
 HaveLinksAsEdges {w = w} graph contours =
     (test : Pair → Bool) → count_by test (edges (contours_of w.whole contours)) ≡ count_by test (pairs_of_links w.whole (links_of graph))
 
+-- They paint the places that the graph encloses.
 abbrev pub PaintWhatIsEnclosed : {I D : Type 0} {w : _} {o : _} {e : _} {p : _} → OverlayGraph I D w o e p → List (Vec (IntPoint I) Global) → Type 0
 PaintWhatIsEnclosed {w = w} graph contours = (p : RationalPoint) → is_painted (contours_of w.whole contours) p ≡ encloses (whole_graph graph) p
 

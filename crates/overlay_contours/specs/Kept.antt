@@ -26,10 +26,11 @@ clip_of {w = w} overlay = contours_of w.whole overlay.clip.items
 abbrev pub contours_kept : {I : Type 0} {w : _} {o : _} {e : _} {p : _} → ShapeType → Overlay I w o e p → List (List Point)
 contours_kept shape_type overlay = of_shape shape_type (subject_of overlay) (clip_of overlay)
 
--- A contour is added to those of its shape; or all those of a shape stay.
+-- A contour is added to those of its shape.
 abbrev pub AddsContour : {I : Type 0} {w : _} {o : _} {e : _} {p : _} → ShapeType → List (IntPoint I) → Overlay I w o e p → Overlay I w o e p → Type 0
 AddsContour {w = w} shape_type contour old new = contours_kept shape_type new ≡ contours_kept shape_type old ++ points_of w.whole contour ∷ []
 
+-- The contours of a shape stay as they are.
 abbrev pub KeepsContours : {I : Type 0} {w : _} {o : _} {e : _} {p : _} → ShapeType → Overlay I w o e p → Overlay I w o e p → Type 0
 KeepsContours shape_type old new = contours_kept shape_type new ≡ contours_kept shape_type old
 
@@ -38,11 +39,12 @@ abbrev pub IsRefusalToAdd : {I : Type 0} {w : _} {o : _} {e : _} {p : _} → Sha
 IsRefusalToAdd {w = w} shape_type contour overlay fault =
     IsContourRefusal (w.whole w.MIN_COORD) (w.whole w.MAX_COORD) shape_type (contours_kept shape_type overlay) (points_of w.whole contour) fault
 
--- The contours are what the overlay of those that are kept returns; the same without collinear points.
+-- The contours are what the overlay of those that are kept returns.
 abbrev pub IsOverlayOfKept : {I : Type 0} {w : _} {o : _} {e : _} {p : _} → Solver → OverlayRule → FillRule → Overlay I w o e p → Vec (Vec (IntPoint I) Global) Global → Type 0
 IsOverlayOfKept {w = w} solver rule fill_rule overlay contours =
     IsPolygonOverlay (settings_for w.BITS solver) rule fill_rule (subject_of overlay) (clip_of overlay) (contours_of w.whole contours.items)
 
+-- They are what it answers without collinear points.
 abbrev pub IsCornersOfKept : {I : Type 0} {w : _} {o : _} {e : _} {p : _} → Solver → OverlayRule → FillRule → Overlay I w o e p → Vec (Vec (IntPoint I) Global) Global → Type 0
 IsCornersOfKept {w = w} solver rule fill_rule overlay contours =
     IsCornerOverlay (settings_for w.BITS solver) rule fill_rule (subject_of overlay) (clip_of overlay) (contours_of w.whole contours.items)

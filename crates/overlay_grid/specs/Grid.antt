@@ -113,9 +113,10 @@ abbrev pub LieInside : Option Layout → List Pair → Type 0
 LieInside None segments = ⊤
 LieInside (Some l) segments = AllByRecursion (λ s. IsInside l s) segments
 
--- the heights of a segment at x by these: the one toward its start, and the one toward its end
+-- the height of a segment at x that is nearer to its start, by the least rise
 abbrev pub near_height : Pair → ℤ → ℤ
 near_height s x = toward s (least_rise s x)
 
+-- the one nearer to its end, by the greatest rise
 abbrev pub far_height : Pair → ℤ → ℤ
 far_height s x = toward s (greatest_rise s x)

@@ -16,10 +16,11 @@ use Rattle.overlay_split.specs.Pass.{cut}
 use Rattle.overlay_split.specs.PassLooks.{ArePassLooks}
 use Rattle.overlay_split.specs.declared.split.finder.PairFinder.{PairFinder}
 
--- whether the pass makes a mark, and whether a running sum of its pieces is too large
+-- whether the pass makes a mark
 abbrev pub makes_mark : {C I D : Type 0} {m : _} {w : _} {o : _} {e : _} {p : _} → Placing → List (Segment C I D m w o e p) → Bool
 makes_mark placing list = nat_lt 0 (mark_count (placing_of placing) (segments_of list))
 
+-- whether a running sum of its pieces is too large
 abbrev pub pieces_leave_range : {C I D : Type 0} {m : _} {w : _} {o : _} {e : _} {p : _} → Placing → List (Segment C I D m w o e p) → Bool
 pieces_leave_range placing list = join_leaves_range (cut (placing_of placing) (segments_of list))
 

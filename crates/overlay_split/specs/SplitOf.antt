@@ -33,11 +33,12 @@ abbrev pub IsRunOver : {C I D : Type 0} {m : _} {w : _} {o : _} {e : _} {p : _} 
 IsRunOver solver before after given list flag =
     IsRun (settings_over solver before given) (segments_of given.items) (segments_of list.items) (passes_of after) flag
 
--- The list lies near what is given, and winds as it does where that is far.
+-- The list lies near what is given, and what is given near it.
 abbrev pub LiesNearGiven : {C I D : Type 0} {m : _} {w : _} {o : _} {e : _} {p : _} → Solver → SplitSolver I → SplitSolver I → Vec (Segment C I D m w o e p) Global → Vec (Segment C I D m w o e p) Global → Type 0
 LiesNearGiven solver before after given list =
     StaysNear (settings_over solver before given) (segments_of given.items) (segments_of list.items) (passes_of after)
 
+-- The list winds as what is given at every place that is far from that.
 abbrev pub WindsAsGiven : {C I D : Type 0} {m : _} {w : _} {o : _} {e : _} {p : _} → Solver → SplitSolver I → SplitSolver I → Vec (Segment C I D m w o e p) Global → Vec (Segment C I D m w o e p) Global → Type 0
 WindsAsGiven solver before after given list =
     KeepsWinding (settings_over solver before given) (segments_of given.items) (segments_of list.items) (passes_of after)
@@ -46,17 +47,19 @@ WindsAsGiven solver before after given list =
 abbrev pub LiesInBox : {C I D : Type 0} {m : _} {w : _} {o : _} {e : _} {p : _} → Vec (Segment C I D m w o e p) Global → Vec (Segment C I D m w o e p) Global → Type 0
 LiesInBox given list = LieInGivenBox (segments_of given.items) (segments_of list.items)
 
--- No two of the given segments cross at a point that is not exact; the list has the counts of what is given.
-abbrev pub IsExact : {C I D : Type 0} {m : _} {w : _} {o : _} {e : _} {p : _} → Vec (Segment C I D m w o e p) Global → Type 0
-IsExact given = IsTrue (is_exact_input (segments_of given.items))
+-- No two of the given segments cross at a point that is not exact.
+abbrev pub IsExactInput : {C I D : Type 0} {m : _} {w : _} {o : _} {e : _} {p : _} → Vec (Segment C I D m w o e p) Global → Type 0
+IsExactInput given = IsTrue (is_exact_input (segments_of given.items))
 
+-- The list counts along each part of a given segment what is given there.
 abbrev pub HasGivenCounts : {C I D : Type 0} {m : _} {w : _} {o : _} {e : _} {p : _} → Vec (Segment C I D m w o e p) Global → Vec (Segment C I D m w o e p) Global → Type 0
 HasGivenCounts given list = KeepsCounts (segments_of given.items) (segments_of list.items)
 
--- The run makes no more passes than it may, and compares no more pairs.
+-- The run makes no more passes than it may.
 abbrev pub PassesAreBounded : {C I D : Type 0} {m : _} {w : _} {o : _} {e : _} {p : _} → Solver → SplitSolver I → SplitSolver I → Vec (Segment C I D m w o e p) Global → Type 0
 PassesAreBounded solver before after given = IsPassBound (settings_over solver before given) (segments_of given.items) (passes_of after)
 
+-- It takes up no more pairs than its passes may.
 abbrev pub LooksAreBounded : {C I D : Type 0} {m : _} {w : _} {o : _} {e : _} {p : _} → Solver → SplitSolver I → SplitSolver I → Vec (Segment C I D m w o e p) Global → Type 0
 LooksAreBounded solver before after given =
     (grid : Option Layout) × AreRunLooks solver.strategy (settings_over solver before given) (segments_of given.items) grid (passes_of after) (looked_of after)
@@ -65,10 +68,11 @@ LooksAreBounded solver before after given =
 abbrev pub SumsLeaveRange : {C I D : Type 0} {m : _} {w : _} {o : _} {e : _} {p : _} → Solver → SplitSolver I → Vec (Segment C I D m w o e p) Global → Type 0
 SumsLeaveRange solver before given = LeavesRange (settings_over solver before given) (segments_of given.items)
 
--- Nothing changes: no segment is joined or split; and the store stays, too.
+-- The list is as it was, and the flag says that no segment was joined or split.
 abbrev pub ChangesNothing : {C I D : Type 0} {m : _} {w : _} {o : _} {e : _} {p : _} → Vec (Segment C I D m w o e p) Global → Vec (Segment C I D m w o e p) Global → Bool → Type 0
 ChangesNothing given list flag = (flag ≡ false) × KeepsSegments given list
 
+-- So is the store.
 abbrev pub ChangesNoStore : {C I D S : Type 0} {m : _} {w : _} {o : _} {e : _} {p : _} → Vec (Segment C I D m w o e p) Global → Vec (Segment C I D m w o e p) Global → S → S → Bool → Type 0
 ChangesNoStore given list store left flag = (flag ≡ false) × KeepsSegments given list × (left ≡ store)
 
@@ -100,8 +104,8 @@ KeepsWhatHolds {D = D} {m = m} hooks given list result =
     (has : D → Bool) → HooksKeep (hooks_of m.counted hooks) has → IsTrue (list_all (λ s. has s.edge_data) (data_segments_of given.items)) →
     OnOk result (IsTrue (list_all (λ s. has s.edge_data) (data_segments_of list.items)))
 
--- Where each given segment lies on what its data names, and the hooks name no others: if the call succeeds, each segment
--- of the list lies as near to all that its data names as the passes reach.
+-- Where each given segment lies on what its data names, and the hooks name no others: if the call succeeds, each
+-- segment of the list lies as near to all that its data names as the passes reach.
 abbrev pub LiesNearNamed : {C I D S O : Type 0} {m : _} {w : _} {o : _} {e : _} {p : _} → Ghosts D C S → Solver → SplitSolver I → SplitSolver I → Vec (Segment C I D m w o e p) Global → Vec (Segment C I D m w o e p) Global → Result O Fault → Type 0
 LiesNearNamed {D = D} {m = m} hooks solver before after given list result =
     (names : D → Pair → Bool) → HooksNameNoOther (hooks_of m.counted hooks) names → NameNear names 0 (data_segments_of given.items) →

@@ -47,9 +47,10 @@ AsksToSearch asks list asked = IsAskedAs asks (λ table. sweep_orders table (seg
 abbrev pub start_at : {C I D : Type 0} {m : _} {w : _} {o : _} {e : _} {p : _} → List (Segment C I D m w o e p) → ℕ → Pair → Point
 start_at list k d = (slice_index_or (pairs_in list) k d).a
 
--- The segments from an index up to another start at one point; the one there, if any, starts at another point.
+-- The segments from an index up to another start at one point.
 abbrev pub StartTogether : {C I D : Type 0} {m : _} {w : _} {o : _} {e : _} {p : _} → List (Segment C I D m w o e p) → ℕ → ℕ → Type 0
 StartTogether list from next = (k : ℕ) (d : Pair) → from ≤ k → k < next → start_at list k d ≡ start_at list from d
 
+-- The segment at that other index, if there is one, starts at another point.
 abbrev pub StartsElsewhere : {C I D : Type 0} {m : _} {w : _} {o : _} {e : _} {p : _} → List (Segment C I D m w o e p) → ℕ → ℕ → Type 0
 StartsElsewhere list from next = (d : Pair) → next < length list → start_at list next d ≢ start_at list from d

@@ -46,20 +46,23 @@ module _ {C : Type 0} (program : Behavior C) where
 abbrev pub WritesNothing : {W : Type 0} → W → W → Stop → Type 0
 WritesNothing before after stop = (stop ≡ Output) ⊎ (after ≡ before)
 
--- The text is answered, or a run over an input stops, by a status, for words of a call.
+-- A run over some words and an input.
 module _ {C R W : Type 0} (program : Behavior C) (words : List (String Global)) (remaining : R → Option (List ℕ)) (input : R) where
+  -- It writes the text of its answer.
   abbrev pub Writes : (W → Option (List ℕ)) → W → W → Type 0
   Writes contents before after = WritesAnswer program (map string_bytes words) (remaining input) (contents before) (contents after)
 
+  -- It stops with the status of its stop, and writes nothing unless the output failed.
   abbrev pub Stops : W → W → ℕ → Type 0
   Stops before after status = (stop : Stop) × (status ≡ status_of stop) × IsStop program (map string_bytes words) (remaining input) stop × WritesNothing before after stop
 
--- The same for words that nothing is known of.
+-- A run over words that no clause can name.
 module _ {C R W : Type 0} (program : Behavior C) (remaining : R → Option (List ℕ)) (input : R) where
+  -- The words ask for something, and the run writes the text of its answer.
   abbrev pub AsksAndWrites : (W → Option (List ℕ)) → W → W → Type 0
   AsksAndWrites contents before after = (words : List (List ℕ)) × Ask program words × WritesAnswer program words (remaining input) (contents before) (contents after)
 
-  -- so it stops with the usage, or for memory, too
+  -- It stops as it may over some words, with the usage, or for memory.
   abbrev pub AsksAndStops : W → W → ℕ → Type 0
   AsksAndStops before after status =
       (stop : Stop) × (status ≡ status_of stop)

@@ -23,11 +23,12 @@ use Rattle.overlay_build.specs.steps.LinkRules.{keeps_by}
 
 -- ---- kept links
 
--- Where the fills are those of the segments under some fill rule, the links are the segments that a rule keeps, and have their data.
+-- Where the fills are those of the segments under some fill rule, the links are the segments that a rule keeps.
 abbrev pub AreKept : {C I D : Type 0} {m : _} {w : _} {o : _} {e : _} {p : _} → LinkRule → List (Segment C I D m w o e p) → List ℕ → List (OverlayLink I D) → Type 0
 AreKept {w = w} rule list fills links =
     (fill_rule : FillRule) → fills ≡ fills_of fill_rule (segments_of list) → kept_of w.whole links ≡ filter (λ f. keeps_by rule f.fill) (filled fill_rule (segments_of list))
 
+-- So the links have the data of these segments.
 abbrev pub HaveKeptData : {C I D : Type 0} {m : _} {w : _} {o : _} {e : _} {p : _} → LinkRule → List (Segment C I D m w o e p) → List ℕ → List (OverlayLink I D) → Type 0
 HaveKeptData rule list fills links =
     (fill_rule : FillRule) → fills ≡ fills_of fill_rule (segments_of list) → map (λ l. l.edge_data) links ≡ data_by (keeps_by rule) fill_rule (data_segments_of list)
@@ -54,10 +55,11 @@ by_point ends = stably_sorted (λ e f. point_cmp e.point f.point) ends
 abbrev pub point_at : {I : Type 0} → (I → ℤ) → List (End I) → ℕ → WholeEnd → Point
 point_at whole ends k d = (slice_index_or (ends_of whole ends) k d).point
 
--- The ends from a place up to another lie at one point; the one there, if any, lies elsewhere.
+-- The ends from a place up to another lie at one point.
 abbrev pub LieTogether : {I : Type 0} → (I → ℤ) → List (End I) → ℕ → ℕ → Type 0
 LieTogether whole ends from next = (k : ℕ) (d : WholeEnd) → from ≤ k → k < next → point_at whole ends k d ≡ point_at whole ends from d
 
+-- The end at that other place, if there is one, lies at another point.
 abbrev pub LiesElsewhere : {I : Type 0} → (I → ℤ) → List (End I) → ℕ → ℕ → Type 0
 LiesElsewhere whole ends from next = (d : WholeEnd) → next < length ends → point_at whole ends next d ≢ point_at whole ends from d
 

@@ -23,11 +23,12 @@ module _ {D S : Type 0} (hooks : Hooks D S) where
             (take index segments ++ take 1 cut.0 ++ rest ++ drop 1 cut.0, cut.1)
       ]
 
--- The list has the data, and this is the store, that cutting one of its segments along a path makes of another list with a store.
+-- The list has the data that cutting one segment of another along a path makes with a store.
 abbrev pub HasDataOfCut : {C I D S : Type 0} {m : _} {w : _} {o : _} {e : _} {p : _} → Ghosts D C S → ℕ → List (IntPoint I) → Vec (Segment C I D m w o e p) Global → S → Vec (Segment C I D m w o e p) Global → Type 0
 HasDataOfCut {m = m} {w = w} hooks index path given store list =
     data_segments_of list.items ≡ (data_cut_at (hooks_of m.counted hooks) index (points_of w.whole path) (data_segments_of given.items) store).0
 
+-- The store is what that cut leaves.
 abbrev pub IsCutStore : {C I D S : Type 0} {m : _} {w : _} {o : _} {e : _} {p : _} → Ghosts D C S → ℕ → List (IntPoint I) → Vec (Segment C I D m w o e p) Global → S → S → Type 0
 IsCutStore {m = m} {w = w} hooks index path given store left =
     left ≡ (data_cut_at (hooks_of m.counted hooks) index (points_of w.whole path) (data_segments_of given.items) store).1

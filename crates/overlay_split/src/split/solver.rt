@@ -19,7 +19,7 @@ ghost use Rattle.overlay_intersections.specs.PlacingOf.{placing_of, HasRadius};
 ghost use Rattle.overlay_split.specs.PassLooks.{ArePassLooks};
 ghost use Rattle.overlay_split.specs.FinderOf.{solver_in, layout_in, looks_in};
 ghost use Rattle.overlay_grid.specs.Grid.{LieInside};
-ghost use Rattle.overlay_split.specs.SplitOf.{IsRunOver, KeepsWhatHolds, LiesNearNamed, LiesInBox, IsExact, HasGivenCounts, LiesNearGiven, WindsAsGiven, PassesAreBounded, SumsLeaveRange, LooksAreBounded, ChangesNothing, StopsRun, ChangesNoStore, GivesData, GivesRunData, LeavesRunStore};
+ghost use Rattle.overlay_split.specs.SplitOf.{IsRunOver, KeepsWhatHolds, LiesNearNamed, LiesInBox, IsExactInput, HasGivenCounts, LiesNearGiven, WindsAsGiven, PassesAreBounded, SumsLeaveRange, LooksAreBounded, ChangesNothing, StopsRun, ChangesNoStore, GivesData, GivesRunData, LeavesRunStore};
 ghost use Rattle.overlay_base.specs.FaultOf.{OnTooLarge};
 
 use crate::split::finder::PairFinder;
@@ -137,7 +137,7 @@ impl<I: OverlayInt> SplitSolver<I> {
         ensures arranged { OnOk result (IsArranged list.new.items) }
         ensures balance { OnOk result (KeepsBalance (segments_of list.old.items) (segments_of list.new.items)) }
         ensures in_box { OnOk result (LiesInBox list.old list.new) }
-        ensures exact_input { IsExact list.old → OnOk result (HasGivenCounts list.old list.new) }
+        ensures exact_input { IsExactInput list.old → OnOk result (HasGivenCounts list.old list.new) }
         ensures near { OnOk result (LiesNearGiven solver.now self.old self.new list.old list.new) }
         ensures winding { OnOk result (WindsAsGiven solver.now self.old self.new list.old list.new) }
         ensures bound { OnOk result (PassesAreBounded solver.now self.old self.new list.old) }
@@ -196,7 +196,7 @@ impl<I: OverlayInt> SplitSolver<I> {
         ensures arranged { OnOk result (IsArranged list.new.items) }
         ensures balance { OnOk result (KeepsBalance (segments_of list.old.items) (segments_of list.new.items)) }
         ensures in_box { OnOk result (LiesInBox list.old list.new) }
-        ensures exact_input { IsExact list.old → OnOk result (HasGivenCounts list.old list.new) }
+        ensures exact_input { IsExactInput list.old → OnOk result (HasGivenCounts list.old list.new) }
         ensures near { OnOk result (LiesNearGiven solver.now self.old self.new list.old list.new) }
         ensures winding { OnOk result (WindsAsGiven solver.now self.old self.new list.old list.new) }
         ensures bound { OnOk result (PassesAreBounded solver.now self.old self.new list.old) }

@@ -25,15 +25,18 @@ nodes_of whole nodes = map (node_of whole) nodes
 abbrev pub entries_of : {I : Type 0} → (I → ℤ) → List (Node I) → List Entry
 entries_of whole nodes = entries (nodes_of whole nodes)
 
--- what a look-up leaves of them, what it finds among them, how many it compares, and whether it drops one
+-- what a look-up leaves of them
 abbrev pub entries_left : {I : Type 0} → (I → ℤ) → Query I → List (Node I) → List Entry
 entries_left whole query nodes = map (left_by (query_of whole query)) (entries_of whole nodes)
 
+-- the indexes that it finds among them
 abbrev pub found_in : {I : Type 0} → (I → ℤ) → Query I → List (Node I) → List ℕ
 found_in whole query nodes = found (query_of whole query) (entries_of whole nodes)
 
+-- how many of them it takes up
 abbrev pub taken_up_in : {I : Type 0} → (I → ℤ) → Query I → List (Node I) → ℕ
 taken_up_in whole query nodes = count_by (is_taken_up (query_of whole query)) (entries_of whole nodes)
 
+-- whether it drops one of them
 abbrev pub drops_some : {I : Type 0} → (I → ℤ) → Query I → List (Node I) → Bool
 drops_some whole query nodes = list_any (is_dropped (query_of whole query)) (entries_of whole nodes)
