@@ -1,6 +1,6 @@
 // `arrange join`: the segments on each pair of ends become one.
 ghost use Rattle.std.specs.Prelude.{◌≡◌, IsFalse, IfOk, OnOk, string_bytes};
-ghost use Rattle.overlay_base.specs.Join.{join, join_leaves_range};
+ghost use Rattle.overlay_base.specs.Join.{join_leaves_range};
 ghost use Rattle.overlay_base.specs.SegmentOf.{segments_of};
 ghost use Rattle.overlay_base.specs.ArrangedOf.{IsSplittable};
 ghost use Rattle.arrange.specs.Run.{join_text, IsJoinStop};

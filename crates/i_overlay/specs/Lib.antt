@@ -29,14 +29,6 @@ pub use Rattle.overlay_base.specs.Rules
 pub use Rattle.overlay_base.specs.SegmentOf
 pub use Rattle.overlay_base.specs.Segments
 pub use Rattle.overlay_base.specs.Windings
-pub use Rattle.overlay_base.specs.declared.overlay_core.clip_rule.ClipRule
-pub use Rattle.overlay_base.specs.declared.overlay_core.fill_rule.FillRule
-pub use Rattle.overlay_base.specs.declared.overlay_core.overlay_rule.OverlayRule
-pub use Rattle.overlay_base.specs.declared.overlay_core.overlay_rule.OverlayRule.TheVariants as OverlayRules
-pub use Rattle.overlay_base.specs.declared.overlay_core.solver.Solver
-pub use Rattle.overlay_base.specs.declared.segm.fault.Fault
-pub use Rattle.overlay_base.specs.declared.segm.segment.Segment
-pub use Rattle.overlay_split.specs.declared.split.solver.SplitSolver
 pub use Rattle.overlay_intersections.specs.Crossing
 pub use Rattle.overlay_intersections.specs.Looked
 pub use Rattle.overlay_intersections.specs.Marks
@@ -75,3 +67,18 @@ pub use Rattle.overlay_build.specs.ShapedBoundary
 pub use Rattle.overlay_build.specs.Sides
 pub use Rattle.overlay_build.specs.StringGraphOf
 pub use Rattle.overlay_build.specs.Values
+-- and the types of code that these speak of
+pub use Rattle.overlay_base.specs.declared.overlay_core.clip_rule.ClipRule
+pub use Rattle.overlay_base.specs.declared.overlay_core.fill_rule.FillRule
+pub use Rattle.overlay_base.specs.declared.overlay_core.link.OverlayLink
+pub use Rattle.overlay_base.specs.declared.overlay_core.overlay_rule.OverlayRule
+pub use Rattle.overlay_base.specs.declared.overlay_core.overlay_rule.OverlayRule.TheVariants as OverlayRules
+pub use Rattle.overlay_base.specs.declared.overlay_core.rule_table.RuleTable
+pub use Rattle.overlay_base.specs.declared.overlay_core.solver.Solver
+pub use Rattle.overlay_base.specs.declared.overlay_core.solver.Strategy
+pub use Rattle.overlay_base.specs.declared.segm.fault.Fault
+pub use Rattle.overlay_base.specs.declared.segm.segment.Segment
+pub use Rattle.overlay_base.specs.declared.segm.shape_type.ShapeType
+pub use Rattle.overlay_split.specs.declared.split.solver.SplitSolver
+pub use Rattle.overlay_build.specs.declared.build.graph.OverlayGraph
+pub use Rattle.overlay_build.specs.declared.build.string_graph.StringGraph

@@ -2,12 +2,8 @@
 // follows from the contracts of its two whole calls where a graph has no links.
 #![tactic(auto)]
 
-ghost use Rattle.std.specs.Prelude.{◌≡◌, false, IfOk};
 ghost use Rattle.i_overlay.specs.ArrangedOf.{IsSplittable};
-ghost use Rattle.i_overlay.specs.Balance.{IsBalanced};
-ghost use Rattle.i_overlay.specs.SegmentOf.{segments_of};
-ghost use Rattle.i_overlay.specs.SettingsOf.{settings_of, passes_of};
-ghost use Rattle.overlaps.specs.Apart.{bounds_both, keeps_a_part, ShareNoFarPlace, KeepsNoFarPart};
+ghost use Rattle.overlaps.specs.Apart.{SaysWhetherBoth, ShareNoPlaceIfNot, SaysWhetherKept, KeepsNoPartIfNot};
 
 use i_overlay::prelude::*;
 
@@ -29,11 +25,8 @@ pub fn overlaps<I: OverlayInt>(
     fill_rule: FillRule,
 ) -> Result<bool, Fault>
     requires { IsSplittable sides.old.items }
-    ensures exact { IsBalanced (segments_of sides.old.items) →
-        IfOk result (λ overlap. overlap ≡ bounds_both fill_rule (segments_of sides.new.items)) }
-    ensures apart { IsBalanced (segments_of sides.old.items) → IfOk result (λ overlap. overlap ≡ false →
-        ShareNoFarPlace (settings_of I.BITS solver.now splitter.old) fill_rule (segments_of sides.old.items)
-        (passes_of splitter.new)) }
+    ensures exact { SaysWhetherBoth sides.old sides.new fill_rule result }
+    ensures apart { ShareNoPlaceIfNot solver.now splitter.old splitter.new sides.old fill_rule result }
 {
     let rule = OverlayRule::Intersect;
     let graph = split_and_build_overlay(splitter, builder, sides, solver, fill_rule, rule)?;
@@ -57,11 +50,9 @@ pub fn runs_through<I: OverlayInt>(
     clip_rule: ClipRule,
 ) -> Result<bool, Fault>
     requires { IsSplittable segments.old.items }
-    ensures exact { IsBalanced (segments_of segments.old.items) →
-        IfOk result (λ runs. runs ≡ keeps_a_part clip_rule fill_rule (segments_of segments.new.items)) }
-    ensures outside { IsBalanced (segments_of segments.old.items) → IfOk result (λ runs. runs ≡ false →
-        KeepsNoFarPart (settings_of I.BITS solver.now splitter.old) clip_rule fill_rule
-        (segments_of segments.old.items) (segments_of segments.new.items) (passes_of splitter.new)) }
+    ensures exact { SaysWhetherKept segments.old segments.new clip_rule fill_rule result }
+    ensures outside { KeepsNoPartIfNot solver.now splitter.old splitter.new segments.old segments.new clip_rule
+        fill_rule result }
 {
     let kept = split_and_build_clip(splitter, builder, segments, solver, fill_rule, clip_rule)?;
     Ok(!kept.links().is_empty())

@@ -6,7 +6,7 @@ ghost use Rattle.overlay_base.specs.declared.segm.fault.Fault.TheVariants.{Memor
 ghost use Rattle.overlay_build.specs.DirectedWalks.{in_direction, arcs, IsFlow, contour};
 ghost use Rattle.overlay_build.specs.GraphOf.{link_of};
 ghost use Rattle.overlay_build.specs.OverlayGraphOf.{links_of};
-ghost use Rattle.overlay_contours.specs.Contours.{edges, AreProper};
+ghost use Rattle.overlay_contours.specs.Contours.{AreProper};
 ghost use Rattle.overlay_contours.specs.ContoursOf.{points_of, contours_of};
 ghost use Rattle.overlay_contours.specs.ContoursIn.{RunAlongLinks, WindAsLinks, HaveLinksAsEdges, PaintWhatIsEnclosed};
 

@@ -2,7 +2,7 @@
 ghost use Rattle.std.specs.Prelude.{◌≡◌, ◌+◌, ◌≤◌, ◌++◌, drop, OnOk, string_bytes};
 ghost use Rattle.std.specs.Str.{IsUtf8};
 ghost use Rattle.overlay_base.specs.SegmentOf.{segment_of, segments_of};
-ghost use Rattle.overlay_text.specs.Output.{pair_text, segment_line, segment_lines, place_line, place_text};
+ghost use Rattle.overlay_text.specs.Output.{pair_text, segment_line, segment_lines, place_text};
 
 use crate::line_end::{ROOM, Room, append, put_last_word, put_signed, put_word};
 use overlay_base::segm::boolean::ShapeCountBoolean;

@@ -1,7 +1,6 @@
 // The ends of links in order of their points. Upstream: part of `build::graph`, which sorts the second ends alone.
 ghost use Rattle.std.specs.Prelude.{◌≡◌, ◌-◌, ◌<◌, ◌≤◌, length, OnOk, IfErr, All, if◌then◌else◌};
 ghost use Rattle.overlay_base.specs.declared.segm.fault.Fault.TheVariants.{Memory};
-ghost use Rattle.overlay_base.specs.declared.overlay_core.link.OverlayLink.{OverlayLink};
 ghost use Rattle.overlay_build.specs.steps.EndOf.{ends_of};
 ghost use Rattle.overlay_build.specs.steps.LinksOf.{link_ends, by_point, LieTogether, LiesElsewhere, indexes_between, NumbersEnds};
 

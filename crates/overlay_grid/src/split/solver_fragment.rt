@@ -52,8 +52,8 @@ pub fn find_marks<C: WindingCount, I: OverlayInt, D: Copy>(
     ensures layout { grid_of buffer.new ≡ grid_of buffer.old }
     ensures marks { OnOk result (AreMarksOf placing segments.now marks.new.items) }
     ensures rounded { IfOk result (λ rounded. rounded ≡ is_rounded (segments_of segments.now)) }
-    ensures looked { OnOk result (looked.new ≤ looked.old + fragment_looks (grid_of buffer.old) (pairs_in
-        segments.now)) }
+    ensures looked { OnOk result
+        (looked.new ≤ looked.old + fragment_looks (grid_of buffer.old) (pairs_in segments.now)) }
     ensures fault { IfErr result (λ fault. fault ≡ Memory) }
 {
     marks.clear();
@@ -90,8 +90,8 @@ fn fill<C: WindingCount, I: OverlayInt, D: Copy>(
     requires in_range { AreInRange segments.now }
     requires inside { All (λ s. IsInside (grid_of buffer.old) (ends_of s)) segments.now }
     ensures layout { grid_of buffer.new ≡ grid_of buffer.old }
-    ensures groups { OnOk result ((column : ℕ) → group_of buffer.new column ≡ kept_group (grid_of buffer.old) 0
-        (pairs_in segments.now) column) }
+    ensures groups { OnOk result
+        ((column : ℕ) → group_of buffer.new column ≡ kept_group (grid_of buffer.old) 0 (pairs_in segments.now) column) }
     ensures fault { IfErr result (λ fault. fault ≡ Memory) }
 {
     buffer.clear();

@@ -7,7 +7,7 @@ ghost use Rattle.overlay_base.specs.ArrangedOf.{IsSplittable};
 ghost use Rattle.overlay_base.specs.EdgeData.{IsMadeFrom};
 ghost use Rattle.overlay_base.specs.HooksOf.{hooks_of};
 ghost use Rattle.overlay_base.specs.SegmentOf.{segments_of, data_segments_of};
-ghost use Rattle.overlay_split.specs.Pass.{cut, pass};
+ghost use Rattle.overlay_split.specs.Pass.{pass};
 ghost use Rattle.overlay_intersections.specs.PassMarks.{is_rounded};
 ghost use Rattle.overlay_split.specs.DataPass.{data_cut};
 ghost use Rattle.overlay_intersections.specs.PlacingOf.{placing_of, HasRadius};

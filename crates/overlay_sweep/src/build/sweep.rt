@@ -3,7 +3,7 @@ ghost use Rattle.std.specs.Prelude.{◌≡◌, ℕ, ◌<◌, IsTrue, IsFalse, If
 ghost use Rattle.overlay_base.specs.ArrangedOf.{IsArranged};
 ghost use Rattle.overlay_base.specs.Balance.{IsBalanced};
 ghost use Rattle.overlay_base.specs.SegmentOf.{segments_of};
-ghost use Rattle.overlay_sweep.specs.Sweep.{visits, NeverBreaks};
+ghost use Rattle.overlay_sweep.specs.Sweep.{NeverBreaks};
 ghost use Rattle.overlay_sweep.specs.ChainWindings.{HaveColumnWindings};
 ghost use Rattle.overlay_sweep.specs.LiveOf.{run_asked};
 ghost use Rattle.overlay_sweep.specs.SweepOf.{IsSweepAnswer, sweep_leaves_range, IsSweepBound, IsSweepSum};
@@ -73,13 +73,13 @@ impl<C: WindingCount, I: OverlayInt> SweepRunner<C, I> {
         requires takes { (index : ℕ) → index < length segments.now → H.takes handler index }
         ensures answer { IfOk result (IsSweepAnswer H.handle_gives H.finalize_gives handler F.rule segments.now) }
         ensures in_range { OnOk result (IsFalse (sweep_leaves_range H.handle_gives handler F.rule segments.now)) }
-        ensures out_of_range { OnTooLarge result (IsTrue (sweep_leaves_range H.handle_gives handler F.rule
-            segments.now)) }
+        ensures out_of_range { OnTooLarge result
+            (IsTrue (sweep_leaves_range H.handle_gives handler F.rule segments.now)) }
         ensures windings { IsBalanced (segments_of segments.now) → HaveColumnWindings (segments_of segments.now) }
         ensures refused { OnErr result (run_asked self.new ≡ run_asked self.old) }
         ensures compared { OnOk result (IsSweepBound solver.now segments.now (run_asked self.new)) }
-        ensures total { OnOk result (NeverBreaks H.handle_gives
-            → IsSweepSum solver.now segments.now (run_asked self.new)) }
+        ensures total { OnOk result
+            (NeverBreaks H.handle_gives → IsSweepSum solver.now segments.now (run_asked self.new)) }
     {
         let ways = &mut self.ways;
         let mut compared = 0;
@@ -127,13 +127,13 @@ impl<C: FillCount, I: OverlayInt> SweepRunner<C, I> {
         requires takes { (index : ℕ) → index < length segments.now → H.takes handler index }
         ensures answer { IfOk result (IsSweepAnswer H.handle_gives H.finalize_gives handler fill_rule segments.now) }
         ensures in_range { OnOk result (IsFalse (sweep_leaves_range H.handle_gives handler fill_rule segments.now)) }
-        ensures out_of_range { OnTooLarge result (IsTrue (sweep_leaves_range H.handle_gives handler fill_rule
-            segments.now)) }
+        ensures out_of_range { OnTooLarge result
+            (IsTrue (sweep_leaves_range H.handle_gives handler fill_rule segments.now)) }
         ensures windings { IsBalanced (segments_of segments.now) → HaveColumnWindings (segments_of segments.now) }
         ensures refused { OnErr result (run_asked self.new ≡ run_asked self.old) }
         ensures compared { OnOk result (IsSweepBound solver.now segments.now (run_asked self.new)) }
-        ensures total { OnOk result (NeverBreaks H.handle_gives
-            → IsSweepSum solver.now segments.now (run_asked self.new)) }
+        ensures total { OnOk result
+            (NeverBreaks H.handle_gives → IsSweepSum solver.now segments.now (run_asked self.new)) }
     {
         match fill_rule {
             FillRule::EvenOdd => self.run::<D, EvenOddStrategy, H>(solver, segments, handler),

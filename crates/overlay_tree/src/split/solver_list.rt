@@ -41,8 +41,8 @@ pub fn find_marks<C: WindingCount, I: OverlayInt, D: Copy>(
     requires radius { HasRadius placing }
     ensures marks { OnOk result (AreMarksOf placing segments.now marks.new.items) }
     ensures rounded { IfOk result (λ rounded. rounded ≡ is_rounded (segments_of segments.now)) }
-    ensures looked { OnOk result (looked.new ≡ capped_sum looked.old (count_twos x_ranges_meet (pairs_in
-        segments.now))) }
+    ensures looked { OnOk result
+        (looked.new ≡ capped_sum looked.old (count_twos x_ranges_meet (pairs_in segments.now))) }
     ensures fault { IfErr result (λ fault. fault ≡ Memory) }
 {
     // read, so that the checker knows that the count fits its type

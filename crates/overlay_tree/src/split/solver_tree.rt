@@ -72,8 +72,8 @@ pub fn find_marks<C: WindingCount, I: OverlayInt, D: Copy>(
     ensures marks { OnOk result (AreMarksOf placing segments.now marks.new.items) }
     ensures rounded { IfOk result (λ rounded. rounded ≡ is_rounded (segments_of segments.now)) }
     ensures looked { OnOk result (looked.new ≤ looked.old + tree_looks (pairs (segments_of segments.now))) }
-    ensures each_looked { OnOk result (capped_sum looked.old (count_twos boxes_meet (pairs_in segments.now)) ≤
-        looked.new) }
+    ensures each_looked { OnOk result
+        (capped_sum looked.old (count_twos boxes_meet (pairs_in segments.now)) ≤ looked.new) }
     ensures fault { IfErr result (λ fault. fault ≡ Memory) }
 {
     let found = find_marks_up_to(segments, placing, None, buffers, marks, looked)?;
