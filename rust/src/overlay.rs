@@ -259,7 +259,6 @@ impl Overlay {
         solver: Solver,
     ) -> Result<OverlayGraph<'_>, Error> {
         let status = self.engine.overlay_with_data(segments, &settings(solver, fill_rule), overlay_rule.code());
-        self.is_join_refused = false;
         outcome(status, segments, fault_of_data)?;
         self.copy_graph();
         self.engine.copy_link_data(&mut self.link_data);
