@@ -19,11 +19,12 @@ pub fn look_through<I: OverlayInt>(
     ensures found { OnOk result (indexes.new.items ≡ indexes.old.items ++ found_in I.whole query.now nodes.now) }
     ensures looked { OnOk result (looked.new ≡ min (looked.old + length nodes.now) (2 ^ 128 - 1)) }
 {
-    // read, so that the checker knows that the count fits its type
-    let _looked = *looked;
+    // a count of its own, so that no comparison is written through the reference
+    let mut count = *looked;
     for place in 0..nodes.len() {
-        look_at_one(&nodes[place], query, indexes, looked)?;
+        look_at_one(&nodes[place], query, indexes, &mut count)?;
     }
+    *looked = count;
     Ok(())
 }
 

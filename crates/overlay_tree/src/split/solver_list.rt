@@ -80,8 +80,6 @@ fn mark_with_later<C: WindingCount, I: OverlayInt, D: Copy>(
         (let ps = pairs (segments_of segments.now) in
         min (looked.old + count_by (x_ranges_meet (pair_at ps index)) (drop (index + 1) ps)) (2 ^ 128 - 1))) }
 {
-    // read, so that the checker knows that the count fits its type
-    let _looked = *looked;
     let target = segments[index].x_segment();
     let heights = target.y_range();
     let first = Indexed {
@@ -89,12 +87,14 @@ fn mark_with_later<C: WindingCount, I: OverlayInt, D: Copy>(
         x_segment: target,
     };
     let mut rounded = false;
+    // a count of its own, so that no comparison is written through the reference
+    let mut count = *looked;
     for later in index + 1..segments.len() {
         let other = segments[later].x_segment();
         if other.begins_past_end(&target) {
             break;
         }
-        take_up(looked);
+        take_up(&mut count);
         let second = Indexed {
             index: later,
             x_segment: other,
@@ -103,5 +103,6 @@ fn mark_with_later<C: WindingCount, I: OverlayInt, D: Copy>(
             rounded = true;
         }
     }
+    *looked = count;
     Ok(rounded)
 }

@@ -15,8 +15,8 @@ loop-place-preserved g c =
     let es = entries (nodes_of whole c.args.nodes.now) in
     let node = c.index-nodes-place.result in
     let here = entries-next whole c.args.nodes.now c.loop-place.place node c.loop-place-test.true c.index-nodes-place.is in
-    let walk = subst (λ (left : List Entry). IsLookedThrough q es c.args.indexes.now.items c.loop-place.indexes.items c.args.looked.now c.loop-place.looked left) here c.loop-place.invariant in
-    IsLookedThrough-more q es (entry_of whole node) c.args.indexes.now.items c.loop-place.indexes.items c.look_at_one.new.indexes.items c.args.looked.now c.loop-place.looked c.look_at_one.new.looked (drop (c.loop-place.place + 1) es) walk
+    let walk = subst (λ (left : List Entry). IsLookedThrough q es c.args.indexes.now.items c.loop-place.indexes.items c.args.looked.now c.loop-place.count left) here c.loop-place.invariant in
+    IsLookedThrough-more q es (entry_of whole node) c.args.indexes.now.items c.loop-place.indexes.items c.look_at_one.new.indexes.items c.args.looked.now c.loop-place.count c.look_at_one.new.looked (drop (c.loop-place.place + 1) es) walk
     c.in_ok-look_at_one.ensures.found c.in_ok-look_at_one.ensures.looked
 
 pub returns : goal.returns
@@ -24,5 +24,5 @@ returns g c =
     let whole = g.I.OverlayInt.whole in
     let q = query_of whole c.args.query.now in
     let es = entries (nodes_of whole c.args.nodes.now) in
-    let end = IsLookedThrough-end q es c.args.indexes.now.items c.loop-place.indexes.items c.args.looked.now c.loop-place.looked (drop c.loop-place.place es) c.loop-place.invariant (entries-none whole c.args.nodes.now c.loop-place.place c.loop-place-test.false) in
+    let end = IsLookedThrough-end q es c.args.indexes.now.items c.loop-place.indexes.items c.args.looked.now c.loop-place.count (drop c.loop-place.place es) c.loop-place.invariant (entries-none whole c.args.nodes.now c.loop-place.place c.loop-place-test.false) in
     record { found = end.0; looked = end.1 ∙ ap (λ (n : ℕ). min (c.args.looked.now + n) (2 ^ 128 - 1)) (length-entries whole c.args.nodes.now) }

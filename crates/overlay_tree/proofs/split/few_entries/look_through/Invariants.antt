@@ -6,4 +6,4 @@ use Rattle.overlay_tree.proofs.split.few_entries.look_through.Given as goal
 
 abbrev pub invariant-loop-place : goal.invariant-loop-place
 invariant-loop-place g l =
-    IsLookedThrough (query_of g.I.OverlayInt.whole l.query) (entries (nodes_of g.I.OverlayInt.whole l.nodes)) l.fn.indexes.items l.indexes.items l.fn.looked l.looked (drop l.place (entries (nodes_of g.I.OverlayInt.whole l.nodes)))
+    IsLookedThrough (query_of g.I.OverlayInt.whole l.query) (entries (nodes_of g.I.OverlayInt.whole l.nodes)) l.fn.indexes.items l.indexes.items l.fn.looked l.count (drop l.place (entries (nodes_of g.I.OverlayInt.whole l.nodes)))

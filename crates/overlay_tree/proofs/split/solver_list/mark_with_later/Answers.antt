@@ -50,7 +50,7 @@ loop-later-preserved g c =
     let ordered_t : IsTrue (is_ordered t) = subst (λ v. IsTrue (is_ordered (pair_of g.I.OverlayInt.whole v))) (sym c.x_segment-other.ensures) c.index-segments-later.result.ordered in
     let right = later_starts_right ps c.args.index c.loop-later.later s t order c.loop-later.invariant.walk.after first second in
     let meets = x_ranges_meet-from s t ordered_s ordered_t right (lt-tested_false _ _ (sym c.begins_past_end.ensures ∙ c.if-begins_past_end.false)) in
-    let told : IsTold s ps c.args.index c.args.looked.now c.take_up.new.looked (c.loop-later.later + 1) = IsTold-more s t ps c.args.index c.args.looked.now c.loop-later.looked c.take_up.new.looked c.loop-later.later c.loop-later.invariant.told second meets c.take_up.ensures in
+    let told : IsTold s ps c.args.index c.args.looked.now c.take_up.new.looked (c.loop-later.later + 1) = IsTold-more s t ps c.args.index c.args.looked.now c.loop-later.count c.take_up.new.looked c.loop-later.later c.loop-later.invariant.told second meets c.take_up.ensures in
     elim c.if-not-is_not_intersect_y_range.branch [
       | then-not-is_not_intersect_y_range+in_ok-mark_both+then-branch w ↦
           let crosses = sym w.in_ok-mark_both.ensures.rounded ∙ w.if-branch.true in
@@ -112,7 +112,7 @@ returns-after-loop-later-clause-looked g c =
     let ps = pairs (segments_of c.args.segments.now) in
     let first : drop c.args.index ps ≡ s ∷ drop (c.args.index + 1) ps =
     pairs-next c.args.segments.now c.args.index c.index-segments-index.result c.requires.index c.index-segments-index.is ∙ ap (λ v. pair_of g.I.OverlayInt.whole v ∷ drop (c.args.index + 1) ps) (sym c.x_segment-target.ensures) in
-    let end = IsTold-end s ps c.args.index c.args.looked.now c.loop-later.looked c.loop-later.later c.loop-later.invariant.told (none_counted_left s ps c.loop-later.later (all_passed c.args.segments.now c.loop-later.later c.loop-later-test.false)) in
+    let end = IsTold-end s ps c.args.index c.args.looked.now c.loop-later.count c.loop-later.later c.loop-later.invariant.told (none_counted_left s ps c.loop-later.later (all_passed c.args.segments.now c.loop-later.later c.loop-later-test.false)) in
     rw (pair_at-first ps c.args.index s (drop (c.args.index + 1) ps) first) end
 
 pub returns-then-begins_past_end-clause-looked : goal.returns-then-begins_past_end-clause-looked
@@ -127,7 +127,7 @@ returns-then-begins_past_end-clause-looked g c =
     let order : IsInOrder pair_cmp ps = subst (λ ps. IsInOrder pair_cmp ps) (sym (pairs-map c.args.segments.now)) (IsInOrder-from_sort pair_cmp_total ends_of c.args.segments.now c.requires.sorted) in
     let ordered : IsTrue (is_ordered s) = subst (λ v. IsTrue (is_ordered (pair_of g.I.OverlayInt.whole v))) (sym c.x_segment-target.ensures) c.index-segments-index.result.ordered in
     let none = none_past ps c.loop-later.later s t order (are_ordered c.args.segments.now) ordered second (lt-tested _ _ (sym c.begins_past_end.ensures ∙ c.if-begins_past_end.true)) in
-    rw (pair_at-first ps c.args.index s (drop (c.args.index + 1) ps) first) (IsTold-end s ps c.args.index c.args.looked.now c.loop-later.looked c.loop-later.later c.loop-later.invariant.told none)
+    rw (pair_at-first ps c.args.index s (drop (c.args.index + 1) ps) first) (IsTold-end s ps c.args.index c.args.looked.now c.loop-later.count c.loop-later.later c.loop-later.invariant.told none)
 
 pub offset_bounds-segments-index : goal.offset_bounds-segments-index
 offset_bounds-segments-index g c = le_of_lt c.requires.index

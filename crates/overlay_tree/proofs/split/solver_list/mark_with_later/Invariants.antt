@@ -7,4 +7,4 @@ use Rattle.overlay_tree.proofs.laws.list.ListLooks.{IsWalking}
 use Rattle.overlay_tree.proofs.split.solver_list.mark_with_later.Given as goal
 
 abbrev pub invariant-loop-later : goal.invariant-loop-later
-invariant-loop-later g l = IsWalking (placing_of l.placing) l.index (pair_of g.I.OverlayInt.whole l.target) (pairs (segments_of l.segments)) (marks_of g.I.OverlayInt.whole l.fn.marks.items) (marks_of g.I.OverlayInt.whole l.marks.items) l.rounded l.fn.looked l.looked l.later
+invariant-loop-later g l = IsWalking (placing_of l.placing) l.index (pair_of g.I.OverlayInt.whole l.target) (pairs (segments_of l.segments)) (marks_of g.I.OverlayInt.whole l.fn.marks.items) (marks_of g.I.OverlayInt.whole l.marks.items) l.rounded l.fn.looked l.count l.later
