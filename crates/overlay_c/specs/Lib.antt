@@ -1,4 +1,5 @@
 pub mod Contours
+pub mod Cores
 pub mod Crosses
 pub mod Kept
 pub mod Owned

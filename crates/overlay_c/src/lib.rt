@@ -19,6 +19,7 @@ ghost use Rattle.overlay_contours.specs.Refusals.{other_shape, CountsLeaveRange}
 ghost use Rattle.overlay_c.specs.Contours.{point_by, are_in_range, contours_in, polygon_settings, KeepsPolygons, SameSplit};
 
 pub mod contours;
+pub mod cores;
 pub mod cross;
 pub mod engine;
 pub mod handle;
@@ -27,6 +28,7 @@ pub(crate) mod loose;
 pub mod records;
 pub mod refusal;
 pub mod tags;
+pub mod width;
 
 use crate::contours::PointRecord;
 use crate::cross::{CrossRecord, cross};

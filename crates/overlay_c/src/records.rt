@@ -102,14 +102,14 @@ pub fn asked<D: OverlayEdgeData<ShapeCountBoolean>>(
 }
 
 /// Whether the two ends of a record are one point.
-fn has_equal_ends(given: &SegmentRecord) -> bool
+pub(crate) fn has_equal_ends(given: &SegmentRecord) -> bool
     ensures { result ≡ (int_eq given.now.ax given.now.bx && int_eq given.now.ay given.now.by) }
 {
     given.ax == given.bx && given.ay == given.by
 }
 
 /// The count of a record.
-fn count(given: &SegmentRecord) -> ShapeCountBoolean
+pub(crate) fn count(given: &SegmentRecord) -> ShapeCountBoolean
     ensures { boolean_winding result ≡ count_of given.now }
 {
     ShapeCountBoolean {

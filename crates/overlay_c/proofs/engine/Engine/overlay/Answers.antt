@@ -14,7 +14,7 @@ returns-in_ok-keep_lists-clause-kept c =
     let s = c.args.settings.now in let old = c.args.self.now.splitter in let new = c.split_and_build_overlay.new.splitter in
     let holds' = c.in_ok-graph.graph.holds in
     let G : Graph = graph_with (λ z. z) c.in_ok-graph.graph.links.now in
-    let es = same_settings _ _ _ _ _ _ c.solver-solver.ensures.start c.solver-solver.ensures.progression (sym c.split_and_build_overlay.ensures.limit) in
+    let es = same_settings 32 _ _ _ _ _ _ c.solver-solver.ensures.start c.solver-solver.ensures.progression (sym c.split_and_build_overlay.ensures.limit) in
     let ex = c.in_ok-load_splittable.ensures.segments in
     record {
       graph = G;
@@ -38,7 +38,7 @@ pub returns-else-self-clause-kept : goal.returns-else-self-clause-kept
 returns-else-self-clause-kept c =
     let holds' = c.in_ok-graph.graph.holds in
     let G : Graph = graph_with (λ z. z) c.in_ok-graph.graph.links.now in
-    let es = same_settings _ _ _ _ _ _ c.solver-solver.ensures.start c.solver-solver.ensures.progression (sym c.split_and_build_overlay.ensures.limit) in
+    let es = same_settings 32 _ _ _ _ _ _ c.solver-solver.ensures.start c.solver-solver.ensures.progression (sym c.split_and_build_overlay.ensures.limit) in
     let ex = c.in_ok-load_splittable.ensures.segments in
     record {
       graph = G;

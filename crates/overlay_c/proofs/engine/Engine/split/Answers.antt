@@ -6,7 +6,7 @@ use Rattle.overlay_c.proofs.engine.Engine.split.Goals as goal
 pub returns-clause-kept : goal.returns-clause-kept
 returns-clause-kept c =
     let e = c.in_ok-self.ensures in
-    let es = same_settings _ _ _ _ _ _ c.solver-solver.ensures.start c.solver-solver.ensures.progression (sym c.split_segments.ensures.limit) in
+    let es = same_settings 32 _ _ _ _ _ _ c.solver-solver.ensures.start c.solver-solver.ensures.progression (sym c.split_segments.ensures.limit) in
     let ex = c.in_ok-load_splittable.ensures.segments in
     record {
       split = same_split _ _ _ _ _ _ es ex (split_from _ _ _ _ _ _ _ e.run e.arranged e.balance e.in_box e.near e.winding e.exact_input e.bound);
