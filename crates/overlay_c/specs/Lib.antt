@@ -1,5 +1,4 @@
 pub mod Contours
-pub mod Cores
 pub mod Crosses
 pub mod Kept
 pub mod Owned

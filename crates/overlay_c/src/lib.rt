@@ -48,7 +48,7 @@ use std::alloc::Global;
 pub extern "C" fn overlay_c_new(alloc: Global, handle: &mut Handle, snap_limit: u32) -> bool
     requires { handle.old.engine ≡ None }
     ensures made { IsTrue result ↔ IsSome handle.new.engine }
-    ensures limit { IfSome handle.new.engine (λ engine. snap_limit_of engine.splitter ≡ snap_limit) }
+    ensures limit { IfSome handle.new.engine (λ engine. snap_limit_of engine.wide.splitter ≡ snap_limit) }
     ensures subject { IfSome handle.new.engine (λ engine. contours_in engine Subject ≡ []) }
     ensures clip { IfSome handle.new.engine (λ engine. contours_in engine Clip ≡ []) }
 {
@@ -84,19 +84,22 @@ pub extern "C" fn overlay_c_overlay(
     requires { IsSome handle.old.engine }
     ensures full { IsSome handle.new.engine }
     ensures done { result ≡ 0 → IfSome handle.new.engine (λ engine. (named : OverlayRule) × IsRuleOf rule named
-        × KeepsOverlay settings.now named walks (given_by given.now) engine) }
-    ensures usable { result ≡ 0 → IsTrue (are_usable given.now) }
-    ensures unusable { result ≡ 3 → IsFalse (are_usable given.now) }
+        × KeepsOverlay settings.now named walks (given_by given.now) engine.wide) }
+    ensures usable { result ≡ 0 → IsTrue (are_usable least_coordinate greatest_coordinate given.now) }
+    ensures unusable { result ≡ 3 → IsFalse (are_usable least_coordinate greatest_coordinate given.now) }
     ensures too_large { result ≡ 2 → IfSome handle.old.engine (λ before. IfSome handle.new.engine
-        (IsCountRefused settings.now (given_by given.now) before)) }
-    ensures stands { result ≢ 0 → IfSome handle.new.engine (StandsAfter settings.now (given_by given.now)) }
+        (λ after. IsCountRefused settings.now (given_by given.now) before.wide after.wide)) }
+    ensures stands { result ≢ 0 → IfSome handle.new.engine
+        (λ after. StandsAfter settings.now (given_by given.now) after.wide) }
     ensures limit { IfSome handle.old.engine (λ before. IfSome handle.new.engine
-        (λ after. snap_limit_of after.splitter ≡ snap_limit_of before.splitter)) }
+        (λ after. snap_limit_of after.wide.splitter ≡ snap_limit_of before.wide.splitter)) }
     ensures contours { IfSome handle.old.engine (λ before. IfSome handle.new.engine
         (λ after. after.polygons ≡ before.polygons)) }
 {
     let mut engine = take(alloc, handle);
-    let outcome = engine.overlay(alloc, given, settings, overlay_rule(rule), walks);
+    let outcome = engine
+        .wide
+        .overlay(alloc, given, settings, overlay_rule(rule), walks);
     put(handle, engine);
     status(outcome)
 }
@@ -114,21 +117,23 @@ pub extern "C" fn overlay_c_overlay_with_data(
     requires { IsSome handle.old.engine }
     ensures full { IsSome handle.new.engine }
     ensures done { result ≡ 0 → IfSome handle.new.engine (λ engine. (named : OverlayRule) × IsRuleOf rule named
-        × KeepsOverlay settings.now named false (given_by (untagged given.now)) engine
-        × KeepsData settings.now named (tagged_by given.now) engine) }
-    ensures usable { result ≡ 0 → IsTrue (are_usable (untagged given.now)) }
-    ensures unusable { result ≡ 3 → IsFalse (are_usable (untagged given.now)) }
+        × KeepsOverlay settings.now named false (given_by (untagged given.now)) engine.wide
+        × KeepsData settings.now named (tagged_by given.now) engine.wide) }
+    ensures usable { result ≡ 0 → IsTrue (are_usable least_coordinate greatest_coordinate (untagged given.now)) }
+    ensures unusable { result ≡ 3 → IsFalse (are_usable least_coordinate greatest_coordinate (untagged given.now)) }
     ensures too_large { result ≡ 2 → IfSome handle.old.engine (λ before. IfSome handle.new.engine
-        (IsCountRefused settings.now (given_by (untagged given.now)) before)) }
+        (λ after. IsCountRefused settings.now (given_by (untagged given.now)) before.wide after.wide)) }
     ensures stands { result ≢ 0 → IfSome handle.new.engine
-        (StandsAfter settings.now (given_by (untagged given.now))) }
+        (λ after. StandsAfter settings.now (given_by (untagged given.now)) after.wide) }
     ensures limit { IfSome handle.old.engine (λ before. IfSome handle.new.engine
-        (λ after. snap_limit_of after.splitter ≡ snap_limit_of before.splitter)) }
+        (λ after. snap_limit_of after.wide.splitter ≡ snap_limit_of before.wide.splitter)) }
     ensures contours { IfSome handle.old.engine (λ before. IfSome handle.new.engine
         (λ after. after.polygons ≡ before.polygons)) }
 {
     let mut engine = take(alloc, handle);
-    let outcome = engine.overlay_with_data(given, settings, overlay_rule(rule));
+    let outcome = engine
+        .wide
+        .overlay_with_data(given, settings, overlay_rule(rule));
     put(handle, engine);
     status(outcome)
 }
@@ -143,19 +148,20 @@ pub extern "C" fn overlay_c_split(
 ) -> u8
     requires { IsSome handle.old.engine }
     ensures full { IsSome handle.new.engine }
-    ensures done { result ≡ 0 → IfSome handle.new.engine (KeepsSplit settings.now (given_by given.now)) }
-    ensures usable { result ≡ 0 → IsTrue (are_usable given.now) }
-    ensures unusable { result ≡ 3 → IsFalse (are_usable given.now) }
+    ensures done { result ≡ 0 → IfSome handle.new.engine
+        (λ after. KeepsSplit settings.now (given_by given.now) after.wide) }
+    ensures usable { result ≡ 0 → IsTrue (are_usable least_coordinate greatest_coordinate given.now) }
+    ensures unusable { result ≡ 3 → IsFalse (are_usable least_coordinate greatest_coordinate given.now) }
     ensures too_large { result ≡ 2 → IfSome handle.old.engine (λ before.
-        LeavesRange (engine_settings settings.now before) (given_by given.now)) }
-    ensures emptied { result ≢ 0 → IfSome handle.new.engine (λ engine. engine.segments.items ≡ []) }
+        LeavesRange (engine_settings settings.now before.wide) (given_by given.now)) }
+    ensures emptied { result ≢ 0 → IfSome handle.new.engine (λ engine. engine.wide.segments.items ≡ []) }
     ensures limit { IfSome handle.old.engine (λ before. IfSome handle.new.engine
-        (λ after. snap_limit_of after.splitter ≡ snap_limit_of before.splitter)) }
+        (λ after. snap_limit_of after.wide.splitter ≡ snap_limit_of before.wide.splitter)) }
     ensures contours { IfSome handle.old.engine (λ before. IfSome handle.new.engine
         (λ after. after.polygons ≡ before.polygons)) }
 {
     let mut engine = take(alloc, handle);
-    let outcome = engine.split(given, settings);
+    let outcome = engine.wide.split(given, settings);
     put(handle, engine);
     status(outcome)
 }
@@ -170,19 +176,21 @@ pub extern "C" fn overlay_c_all(
 ) -> u8
     requires { IsSome handle.old.engine }
     ensures full { IsSome handle.new.engine }
-    ensures done { result ≡ 0 → IfSome handle.new.engine (KeepsAll settings.now (given_by given.now)) }
-    ensures usable { result ≡ 0 → IsTrue (are_usable given.now) }
-    ensures unusable { result ≡ 3 → IsFalse (are_usable given.now) }
+    ensures done { result ≡ 0 → IfSome handle.new.engine
+        (λ after. KeepsAll settings.now (given_by given.now) after.wide) }
+    ensures usable { result ≡ 0 → IsTrue (are_usable least_coordinate greatest_coordinate given.now) }
+    ensures unusable { result ≡ 3 → IsFalse (are_usable least_coordinate greatest_coordinate given.now) }
     ensures too_large { result ≡ 2 → IfSome handle.old.engine (λ before. IfSome handle.new.engine
-        (IsCountOfAllRefused settings.now (given_by given.now) before)) }
-    ensures stands { result ≢ 0 → IfSome handle.new.engine (StandsAfter settings.now (given_by given.now)) }
+        (λ after. IsCountOfAllRefused settings.now (given_by given.now) before.wide after.wide)) }
+    ensures stands { result ≢ 0 → IfSome handle.new.engine
+        (λ after. StandsAfter settings.now (given_by given.now) after.wide) }
     ensures limit { IfSome handle.old.engine (λ before. IfSome handle.new.engine
-        (λ after. snap_limit_of after.splitter ≡ snap_limit_of before.splitter)) }
+        (λ after. snap_limit_of after.wide.splitter ≡ snap_limit_of before.wide.splitter)) }
     ensures contours { IfSome handle.old.engine (λ before. IfSome handle.new.engine
         (λ after. after.polygons ≡ before.polygons)) }
 {
     let mut engine = take(alloc, handle);
-    let outcome = engine.all(given, settings);
+    let outcome = engine.wide.all(given, settings);
     put(handle, engine);
     status(outcome)
 }
@@ -193,17 +201,17 @@ pub extern "C" fn overlay_c_join(alloc: Global, handle: &mut Handle, given: &[Se
     requires { IsSome handle.old.engine }
     ensures full { IsSome handle.new.engine }
     ensures done { result ≡ 0 → IfSome handle.new.engine (λ engine.
-        segments_of engine.segments.items ≡ join (given_by given.now)) }
+        segments_of engine.wide.segments.items ≡ join (given_by given.now)) }
     ensures repeated { result ≡ 0 → IfSome handle.new.engine (λ engine.
-        engine.has_changed ≡ has_equal_pairs (given_by given.now)) }
-    ensures usable { result ≡ 0 → IsTrue (are_usable given.now) }
-    ensures unusable { result ≡ 3 → IsFalse (are_usable given.now) }
+        engine.wide.has_changed ≡ has_equal_pairs (given_by given.now)) }
+    ensures usable { result ≡ 0 → IsTrue (are_usable least_coordinate greatest_coordinate given.now) }
+    ensures unusable { result ≡ 3 → IsFalse (are_usable least_coordinate greatest_coordinate given.now) }
     ensures too_large { result ≡ 2 → IsTrue (join_leaves_range (given_by given.now)) }
     ensures contours { IfSome handle.old.engine (λ before. IfSome handle.new.engine
         (λ after. after.polygons ≡ before.polygons)) }
 {
     let mut engine = take(alloc, handle);
-    let outcome = engine.join(given);
+    let outcome = engine.wide.join(given);
     put(handle, engine);
     status(outcome)
 }
@@ -220,17 +228,17 @@ pub extern "C" fn overlay_c_clip(
 ) -> u8
     requires { IsSome handle.old.engine }
     ensures full { IsSome handle.new.engine }
-    ensures done { result ≡ 0 → IfSome handle.new.engine
-        (KeepsClip settings.now (record { invert = invert; boundary_included = boundary_included })
-        (map line_asked_by given.now)) }
-    ensures usable { result ≡ 0 → IsTrue (are_lines_usable given.now) }
-    ensures unusable { result ≡ 3 → IsFalse (are_lines_usable given.now) }
+    ensures done { result ≡ 0 → IfSome handle.new.engine (λ after.
+        KeepsClip settings.now (record { invert = invert; boundary_included = boundary_included })
+        (map line_asked_by given.now) after.wide) }
+    ensures usable { result ≡ 0 → IsTrue (are_lines_usable least_coordinate greatest_coordinate given.now) }
+    ensures unusable { result ≡ 3 → IsFalse (are_lines_usable least_coordinate greatest_coordinate given.now) }
     ensures too_large { result ≡ 2 → IfSome handle.old.engine (λ before. IfSome handle.new.engine
-        (IsCountOfLinesRefused settings.now (map line_asked_by given.now) before)) }
+        (λ after. IsCountOfLinesRefused settings.now (map line_asked_by given.now) before.wide after.wide)) }
     ensures stands { result ≢ 0 → IfSome handle.new.engine
-        (LinesStandAfter settings.now (map line_asked_by given.now)) }
+        (λ after. LinesStandAfter settings.now (map line_asked_by given.now) after.wide) }
     ensures limit { IfSome handle.old.engine (λ before. IfSome handle.new.engine
-        (λ after. snap_limit_of after.splitter ≡ snap_limit_of before.splitter)) }
+        (λ after. snap_limit_of after.wide.splitter ≡ snap_limit_of before.wide.splitter)) }
     ensures contours { IfSome handle.old.engine (λ before. IfSome handle.new.engine
         (λ after. after.polygons ≡ before.polygons)) }
 {
@@ -239,7 +247,7 @@ pub extern "C" fn overlay_c_clip(
         invert,
         boundary_included,
     };
-    let outcome = engine.clip(given, settings, rule);
+    let outcome = engine.wide.clip(given, settings, rule);
     put(handle, engine);
     status(outcome)
 }
@@ -340,37 +348,37 @@ pub extern "C" fn overlay_c_cross(
 pub extern "C" fn overlay_c_sizes(alloc: Global, handle: &mut Handle) -> SizesRecord
     requires { IsSome handle.old.engine }
     ensures same { handle.new.engine ≡ handle.old.engine }
-    ensures segments { IfSome handle.old.engine (λ engine. result.segments ≡ length engine.segments.items) }
-    ensures lines { IfSome handle.old.engine (λ engine. result.lines ≡ length engine.lines.items) }
-    ensures links { IfSome handle.old.engine (λ engine. result.links ≡ length engine.links.items) }
-    ensures link_data { IfSome handle.old.engine (λ engine. result.link_data ≡ length engine.link_data.items) }
-    ensures nodes { IfSome handle.old.engine (λ engine. result.nodes ≡ length engine.degrees.items) }
-    ensures node_links { IfSome handle.old.engine (λ engine. result.node_links ≡ length engine.indexes.items) }
-    ensures walks { IfSome handle.old.engine (λ engine. result.walks ≡ length engine.walk_lengths.items) }
-    ensures walk_links { IfSome handle.old.engine (λ engine. result.walk_links ≡ length engine.walk_links.items) }
+    ensures segments { IfSome handle.old.engine (λ engine. result.segments ≡ length engine.wide.segments.items) }
+    ensures lines { IfSome handle.old.engine (λ engine. result.lines ≡ length engine.wide.lines.items) }
+    ensures links { IfSome handle.old.engine (λ engine. result.links ≡ length engine.wide.links.items) }
+    ensures link_data { IfSome handle.old.engine (λ engine. result.link_data ≡ length engine.wide.link_data.items) }
+    ensures nodes { IfSome handle.old.engine (λ engine. result.nodes ≡ length engine.wide.degrees.items) }
+    ensures node_links { IfSome handle.old.engine (λ engine. result.node_links ≡ length engine.wide.indexes.items) }
+    ensures walks { IfSome handle.old.engine (λ engine. result.walks ≡ length engine.wide.walk_lengths.items) }
+    ensures walk_links { IfSome handle.old.engine (λ engine. result.walk_links ≡ length engine.wide.walk_links.items) }
     ensures contours { IfSome handle.old.engine (λ engine. result.contours ≡ length engine.contour_lengths.items) }
     ensures contour_points { IfSome handle.old.engine (λ engine.
         result.contour_points ≡ length engine.contour_points.items) }
-    ensures has_walks { IfSome handle.old.engine (λ engine. result.has_walks ≡ engine.has_walks) }
-    ensures has_changed { IfSome handle.old.engine (λ engine. result.has_changed ≡ engine.has_changed) }
-    ensures passes { IfSome handle.old.engine (λ engine. passes_of engine.splitter < 2 ^ 64
-        → result.passes ≡ passes_of engine.splitter) }
+    ensures has_walks { IfSome handle.old.engine (λ engine. result.has_walks ≡ engine.wide.has_walks) }
+    ensures has_changed { IfSome handle.old.engine (λ engine. result.has_changed ≡ engine.wide.has_changed) }
+    ensures passes { IfSome handle.old.engine (λ engine. passes_of engine.wide.splitter < 2 ^ 64
+        → result.passes ≡ passes_of engine.wide.splitter) }
 {
     let engine = take(alloc, handle);
     let sizes = SizesRecord {
-        segments: engine.segments.len(),
-        lines: engine.lines.len(),
-        links: engine.links.len(),
-        link_data: engine.link_data.len(),
-        nodes: engine.degrees.len(),
-        node_links: engine.indexes.len(),
-        walks: engine.walk_lengths.len(),
-        walk_links: engine.walk_links.len(),
+        segments: engine.wide.segments.len(),
+        lines: engine.wide.lines.len(),
+        links: engine.wide.links.len(),
+        link_data: engine.wide.link_data.len(),
+        nodes: engine.wide.degrees.len(),
+        node_links: engine.wide.indexes.len(),
+        walks: engine.wide.walk_lengths.len(),
+        walk_links: engine.wide.walk_links.len(),
         contours: engine.contour_lengths.len(),
         contour_points: engine.contour_points.len(),
-        has_walks: engine.has_walks,
-        has_changed: engine.has_changed,
-        passes: u64::try_from(engine.splitter.passes()).unwrap_or(u64::MAX),
+        has_walks: engine.wide.has_walks,
+        has_changed: engine.wide.has_changed,
+        passes: u64::try_from(engine.wide.splitter.passes()).unwrap_or(u64::MAX),
     };
     put(handle, engine);
     sizes
@@ -380,12 +388,12 @@ pub extern "C" fn overlay_c_sizes(alloc: Global, handle: &mut Handle) -> SizesRe
 #[unsafe(no_mangle)]
 pub extern "C" fn overlay_c_segments(alloc: Global, handle: &mut Handle, out: &mut [SegmentRecord])
     requires engine { IsSome handle.old.engine }
-    requires length { IfSome handle.old.engine (λ engine. length out.old ≡ length engine.segments.items) }
+    requires length { IfSome handle.old.engine (λ engine. length out.old ≡ length engine.wide.segments.items) }
     ensures same { handle.new.engine ≡ handle.old.engine }
-    ensures copied { IfSome handle.old.engine (λ engine. map told_by out.new ≡ segments_of engine.segments.items) }
+    ensures copied { IfSome handle.old.engine (λ engine. map told_by out.new ≡ segments_of engine.wide.segments.items) }
 {
     let engine = take(alloc, handle);
-    tell_all(&engine.segments, out);
+    tell_all(&engine.wide.segments, out);
     put(handle, engine);
 }
 
@@ -393,12 +401,12 @@ pub extern "C" fn overlay_c_segments(alloc: Global, handle: &mut Handle, out: &m
 #[unsafe(no_mangle)]
 pub extern "C" fn overlay_c_lines(alloc: Global, handle: &mut Handle, out: &mut [LineRecord])
     requires engine { IsSome handle.old.engine }
-    requires length { IfSome handle.old.engine (λ engine. length out.old ≡ length engine.lines.items) }
+    requires length { IfSome handle.old.engine (λ engine. length out.old ≡ length engine.wide.lines.items) }
     ensures same { handle.new.engine ≡ handle.old.engine }
-    ensures copied { IfSome handle.old.engine (λ engine. map line_told_by out.new ≡ segments_of engine.lines.items) }
+    ensures copied { IfSome handle.old.engine (λ engine. map line_told_by out.new ≡ segments_of engine.wide.lines.items) }
 {
     let engine = take(alloc, handle);
-    lines::tell_all(&engine.lines, out);
+    lines::tell_all(&engine.wide.lines, out);
     put(handle, engine);
 }
 
@@ -406,12 +414,12 @@ pub extern "C" fn overlay_c_lines(alloc: Global, handle: &mut Handle, out: &mut 
 #[unsafe(no_mangle)]
 pub extern "C" fn overlay_c_links(alloc: Global, handle: &mut Handle, out: &mut [LinkRecord])
     requires engine { IsSome handle.old.engine }
-    requires length { IfSome handle.old.engine (λ engine. length out.old ≡ length engine.links.items) }
+    requires length { IfSome handle.old.engine (λ engine. length out.old ≡ length engine.wide.links.items) }
     ensures same { handle.new.engine ≡ handle.old.engine }
-    ensures copied { IfSome handle.old.engine (λ engine. out.new ≡ engine.links.items) }
+    ensures copied { IfSome handle.old.engine (λ engine. out.new ≡ engine.wide.links.items) }
 {
     let engine = take(alloc, handle);
-    out.copy_from_slice(&engine.links);
+    out.copy_from_slice(&engine.wide.links);
     put(handle, engine);
 }
 
@@ -419,12 +427,12 @@ pub extern "C" fn overlay_c_links(alloc: Global, handle: &mut Handle, out: &mut 
 #[unsafe(no_mangle)]
 pub extern "C" fn overlay_c_link_data(alloc: Global, handle: &mut Handle, out: &mut [Tag])
     requires engine { IsSome handle.old.engine }
-    requires length { IfSome handle.old.engine (λ engine. length out.old ≡ length engine.link_data.items) }
+    requires length { IfSome handle.old.engine (λ engine. length out.old ≡ length engine.wide.link_data.items) }
     ensures same { handle.new.engine ≡ handle.old.engine }
-    ensures copied { IfSome handle.old.engine (λ engine. out.new ≡ engine.link_data.items) }
+    ensures copied { IfSome handle.old.engine (λ engine. out.new ≡ engine.wide.link_data.items) }
 {
     let engine = take(alloc, handle);
-    out.copy_from_slice(&engine.link_data);
+    out.copy_from_slice(&engine.wide.link_data);
     put(handle, engine);
 }
 
@@ -437,15 +445,15 @@ pub extern "C" fn overlay_c_nodes(
     indexes: &mut [usize],
 )
     requires engine { IsSome handle.old.engine }
-    requires degrees { IfSome handle.old.engine (λ engine. length degrees.old ≡ length engine.degrees.items) }
-    requires indexes { IfSome handle.old.engine (λ engine. length indexes.old ≡ length engine.indexes.items) }
+    requires degrees { IfSome handle.old.engine (λ engine. length degrees.old ≡ length engine.wide.degrees.items) }
+    requires indexes { IfSome handle.old.engine (λ engine. length indexes.old ≡ length engine.wide.indexes.items) }
     ensures same { handle.new.engine ≡ handle.old.engine }
-    ensures degrees { IfSome handle.old.engine (λ engine. degrees.new ≡ engine.degrees.items) }
-    ensures indexes { IfSome handle.old.engine (λ engine. indexes.new ≡ engine.indexes.items) }
+    ensures degrees { IfSome handle.old.engine (λ engine. degrees.new ≡ engine.wide.degrees.items) }
+    ensures indexes { IfSome handle.old.engine (λ engine. indexes.new ≡ engine.wide.indexes.items) }
 {
     let engine = take(alloc, handle);
-    degrees.copy_from_slice(&engine.degrees);
-    indexes.copy_from_slice(&engine.indexes);
+    degrees.copy_from_slice(&engine.wide.degrees);
+    indexes.copy_from_slice(&engine.wide.indexes);
     put(handle, engine);
 }
 
@@ -458,15 +466,15 @@ pub extern "C" fn overlay_c_walks(
     indexes: &mut [usize],
 )
     requires engine { IsSome handle.old.engine }
-    requires lengths { IfSome handle.old.engine (λ engine. length lengths.old ≡ length engine.walk_lengths.items) }
-    requires indexes { IfSome handle.old.engine (λ engine. length indexes.old ≡ length engine.walk_links.items) }
+    requires lengths { IfSome handle.old.engine (λ engine. length lengths.old ≡ length engine.wide.walk_lengths.items) }
+    requires indexes { IfSome handle.old.engine (λ engine. length indexes.old ≡ length engine.wide.walk_links.items) }
     ensures same { handle.new.engine ≡ handle.old.engine }
-    ensures lengths { IfSome handle.old.engine (λ engine. lengths.new ≡ engine.walk_lengths.items) }
-    ensures indexes { IfSome handle.old.engine (λ engine. indexes.new ≡ engine.walk_links.items) }
+    ensures lengths { IfSome handle.old.engine (λ engine. lengths.new ≡ engine.wide.walk_lengths.items) }
+    ensures indexes { IfSome handle.old.engine (λ engine. indexes.new ≡ engine.wide.walk_links.items) }
 {
     let engine = take(alloc, handle);
-    lengths.copy_from_slice(&engine.walk_lengths);
-    indexes.copy_from_slice(&engine.walk_links);
+    lengths.copy_from_slice(&engine.wide.walk_lengths);
+    indexes.copy_from_slice(&engine.wide.walk_links);
     put(handle, engine);
 }
 
