@@ -2,8 +2,8 @@
 
 use crate::error::{fault_of, fault_of_data, fault_of_line, outcome, point_fault};
 use crate::{
-    ffi, ClipRule, DataSegment, Error, Fault, FillRule, IntContour, IntPoint, LineSegment, OverlayGraph, OverlayLink,
-    OverlayRule, Segment, ShapeType, Solver,
+    ffi, ClipRule, DataSegment, Engine, Error, Fault, FillRule, IntContour, IntPoint, LineSegment, OverlayGraph,
+    OverlayLink, OverlayRule, Segment, ShapeType, Solver,
 };
 use std::fmt;
 
@@ -21,6 +21,8 @@ pub struct Change {
 /// After an error it can be used again. It stays on its thread: nothing is proved of an engine that moves to another.
 pub struct Overlay {
     engine: ffi::Engine,
+    /// What segments are split with.
+    width: Engine,
     /// How many contours of the subject and of the clip were added.
     contour_counts: [usize; 2],
     /// Whether the last call was a join that was refused, of which nothing is promised.
@@ -64,6 +66,7 @@ impl Overlay {
     pub fn with_snap_limit(snap_limit: u32) -> Result<Overlay, Error> {
         Ok(Overlay {
             engine: ffi::Engine::new(snap_limit).ok_or(Error::Fault(Fault::Memory))?,
+            width: Engine::I32,
             contour_counts: [0; 2],
             is_join_refused: false,
             segments: Vec::new(),
@@ -75,6 +78,26 @@ impl Overlay {
             walk_starts: Vec::new(),
             walk_links: Vec::new(),
         })
+    }
+
+    /// The same overlay, with an engine for the segments that it is given from now on. Contours are overlaid with
+    /// `Engine::I32`, whatever this engine is.
+    ///
+    /// ```
+    /// use i_overlay_core::{square, Engine, Error, FillRule, Overlay, OverlayRule, SegmentFault, ShapeType};
+    ///
+    /// let mut segments = Vec::new();
+    /// ShapeType::Subject.push_contour(&square(0, 16_383), &mut segments);
+    /// let mut overlay = Overlay::new()?.with_engine(Engine::I16);
+    /// assert_eq!(overlay.build_graph(&segments, FillRule::NonZero, OverlayRule::Subject)?.links().len(), 4);
+    /// segments[1].b.x += 1;
+    /// let refused = overlay.build_graph(&segments, FillRule::NonZero, OverlayRule::Subject).unwrap_err();
+    /// assert_eq!(refused, Error::Segment { index: 1, fault: SegmentFault::Range });
+    /// # Ok::<(), Error>(())
+    /// ```
+    pub fn with_engine(mut self, engine: Engine) -> Overlay {
+        self.width = engine;
+        self
     }
 
     /// An overlay of these contours of a subject and of a clip. Any contours will do: they may cross and touch themselves
@@ -157,8 +180,8 @@ impl Overlay {
         fill_rule: FillRule,
         solver: Solver,
     ) -> Result<Vec<IntContour>, Error> {
-        let status = self.engine.polygons(&settings(solver, fill_rule), overlay_rule.code());
-        outcome(status, &[], fault_of)?;
+        let status = self.engine.polygons(&settings(solver, fill_rule, self.width), overlay_rule.code());
+        outcome(status, &[], |segment| fault_of(segment, Engine::I32))?;
         Ok(self.engine.contours())
     }
 
@@ -251,9 +274,10 @@ impl Overlay {
         overlay_rule: OverlayRule,
         solver: Solver,
     ) -> Result<OverlayGraph<'_>, Error> {
-        let status = self.engine.overlay_with_data(segments, &settings(solver, fill_rule), overlay_rule.code());
+        let status =
+            self.engine.overlay_with_data(segments, &settings(solver, fill_rule, self.width), overlay_rule.code());
         self.is_join_refused = false;
-        outcome(status, segments, fault_of_data)?;
+        outcome(status, segments, |segment| fault_of_data(segment, self.width))?;
         self.copy_graph();
         self.engine.copy_link_data(&mut self.link_data);
         Ok(self.kept_graph())
@@ -351,7 +375,7 @@ impl Overlay {
         fill_rule: FillRule,
         solver: Solver,
     ) -> Result<OverlayGraph<'_>, Error> {
-        let status = self.engine.all(segments, &settings(solver, fill_rule));
+        let status = self.engine.all(segments, &settings(solver, fill_rule, self.width));
         self.keep(status, segments)?;
         Ok(self.graph())
     }
@@ -369,7 +393,7 @@ impl Overlay {
     /// # Ok::<(), i_overlay_core::Error>(())
     /// ```
     pub fn split(&mut self, segments: &[Segment], solver: Solver) -> Result<Change, Error> {
-        let status = self.engine.split(segments, &settings(solver, FillRule::NonZero));
+        let status = self.engine.split(segments, &settings(solver, FillRule::NonZero, self.width));
         self.keep(status, segments)?;
         Ok(self.change())
     }
@@ -388,9 +412,9 @@ impl Overlay {
     /// # Ok::<(), i_overlay_core::Error>(())
     /// ```
     pub fn join(&mut self, segments: &[Segment]) -> Result<Change, Error> {
-        let status = self.engine.join(segments);
+        let status = self.engine.join(segments, self.width as u8);
         self.is_join_refused = status != 0;
-        outcome(status, segments, fault_of)?;
+        outcome(status, segments, |segment| fault_of(segment, self.width))?;
         Ok(self.change())
     }
 
@@ -416,8 +440,8 @@ impl Overlay {
         solver: Solver,
     ) -> Result<OverlayGraph<'_>, Error> {
         let ClipRule { invert, boundary_included } = clip_rule;
-        let status = self.engine.clip(segments, &settings(solver, fill_rule), invert, boundary_included);
-        outcome(status, segments, fault_of_line)?;
+        let status = self.engine.clip(segments, &settings(solver, fill_rule, self.width), invert, boundary_included);
+        outcome(status, segments, |segment| fault_of_line(segment, self.width))?;
         Ok(self.graph())
     }
 
@@ -430,14 +454,15 @@ impl Overlay {
         solver: Solver,
         walks: bool,
     ) -> Result<(), Error> {
-        let status = self.engine.overlay(segments, &settings(solver, fill_rule), overlay_rule.code(), walks);
+        let status =
+            self.engine.overlay(segments, &settings(solver, fill_rule, self.width), overlay_rule.code(), walks);
         self.keep(status, segments)
     }
 
     /// What a status tells of a call that keeps an arrangement, or nothing.
     fn keep(&mut self, status: u8, segments: &[Segment]) -> Result<(), Error> {
         self.is_join_refused = false;
-        outcome(status, segments, fault_of)
+        outcome(status, segments, |segment| fault_of(segment, self.width))
     }
 
     fn change(&mut self) -> Change {
@@ -471,12 +496,13 @@ impl fmt::Debug for Overlay {
     }
 }
 
-fn settings(solver: Solver, fill_rule: FillRule) -> ffi::Settings {
+fn settings(solver: Solver, fill_rule: FillRule, engine: Engine) -> ffi::Settings {
     ffi::Settings {
         start: solver.precision.start,
         progression: solver.precision.progression,
         strategy: solver.strategy as u8,
         fill_rule: fill_rule as u8,
+        engine: engine as u8,
     }
 }
 

@@ -55,4 +55,4 @@ IsPolygonRefusal settings engine OutOfRange = ⊥
 
 -- what segments left of a call stays
 abbrev pub SameSplit : Engine → Engine → Type 0
-SameSplit before after = after.wide ≡ before.wide
+SameSplit before after = (after.narrow ≡ before.narrow) × (after.wide ≡ before.wide) × (after.is_narrow ≡ before.is_narrow)

@@ -1,5 +1,5 @@
 -- What an engine keeps of its last answer.
-use Rattle.std.specs.Prelude.{◌≡◌, ◌⊎◌, ℕ, ℤ, ◌&&◌, Bool, true, List, [], IsTrue, All, map, flat_map, length}
+use Rattle.std.specs.Prelude.{◌≡◌, ◌⊎◌, ℕ, ℤ, ◌<◌, ◌^◌, ◌&&◌, Bool, true, List, [], IsTrue, All, map, flat_map, length}
 use Rattle.std.specs.List.{list_all}
 use Rattle.overlay_geometry.specs.Points.{Pair}
 use Rattle.overlay_base.specs.EdgeData.{DataSegment, without_data}
@@ -26,6 +26,7 @@ use Rattle.overlay_c.specs.Tags.{keeping}
 use Rattle.overlay_c.specs.declared.records.LineRecord.{LineRecord}
 use Rattle.overlay_c.specs.declared.records.SegmentRecord.{SegmentRecord}
 use Rattle.overlay_c.specs.declared.records.SettingsRecord.{SettingsRecord}
+use Rattle.overlay_c.specs.declared.records.SizesRecord.{SizesRecord}
 use Rattle.overlay_c.specs.declared.cores.Core.{Core}
 use Rattle.overlay_c.specs.declared.tags.Tag.{Tag}
 
@@ -101,6 +102,20 @@ pub record KeepsData {I : Type 0} {w : _} {o : _} {e : _} {p : _} (settings : Se
   -- where data names given segments, each link lies as near to all that its data names as the passes reach
   pub named_data : (names : Tag → Pair → Bool) → NameNear names 0 given
       → All (λ l. (s : Pair) → IsTrue (names l.tag s) → LiesNear (reach_of_run (engine_settings settings core) (without_data given) (passes_of core.splitter)) l.link.pair s) links
+
+-- how much it keeps
+pub record TellsSizes {I : Type 0} {w : _} {o : _} {e : _} {p : _} (core : Core I w o e p) (sizes : SizesRecord) : Type 0 where
+  pub segments : sizes.segments ≡ length core.segments.items
+  pub lines : sizes.lines ≡ length core.lines.items
+  pub links : sizes.links ≡ length core.links.items
+  pub link_data : sizes.link_data ≡ length core.link_data.items
+  pub nodes : sizes.nodes ≡ length core.degrees.items
+  pub node_links : sizes.node_links ≡ length core.indexes.items
+  pub walks : sizes.walks ≡ length core.walk_lengths.items
+  pub walk_links : sizes.walk_links ≡ length core.walk_links.items
+  pub has_walks : sizes.has_walks ≡ core.has_walks
+  pub has_changed : sizes.has_changed ≡ core.has_changed
+  pub passes : passes_of core.splitter < 2 ^ 64 → sizes.passes ≡ passes_of core.splitter
 
 -- a count that was refused, in the split or in the build
 abbrev pub IsCountRefused : {I : Type 0} {w : _} {o : _} {e : _} {p : _} → SettingsRecord → List WholeSegment → Core I w o e p → Core I w o e p → Type 0

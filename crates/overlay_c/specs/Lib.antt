@@ -5,3 +5,4 @@ pub mod Owned
 pub mod Records
 pub mod Status
 pub mod Tags
+pub mod Widths

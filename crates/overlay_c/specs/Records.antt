@@ -80,6 +80,10 @@ fill_rule_of code = if code == 0 then fill.EvenOdd else if code == 1 then fill.N
 abbrev pub shape_of : ℕ → ShapeType
 shape_of code = if code == 0 then Subject else Clip
 
+-- whether a code names the engine of 16 bits
+abbrev pub names_narrow : ℕ → Bool
+names_narrow code = not (code == 0)
+
 -- the settings that these and a snap limit make, for coordinates of so many bits
 abbrev pub settings_by : ℕ → SettingsRecord → ℕ → Settings
 settings_by bits r limit = record { start = r.start; progression = r.progression; cap = exponent_cap bits; limit = limit }

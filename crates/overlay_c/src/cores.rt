@@ -1,4 +1,5 @@
-// What splits segments and builds graphs for coordinates of one width: a splitter, builders, and the records of their last answers.
+// What splits segments and builds graphs, for coordinates of one width: a splitter, builders, and the records of their
+// last answers.
 ghost use Rattle.std.specs.Prelude.{◌≡◌, ◌≢◌, [], true, IsTrue, IsFalse, OnOk, OnErr, IfOk, IfErr, map, length, flat_map};
 ghost use Rattle.std.specs.List.{list_all};
 ghost use Rattle.overlay_base.specs.ArrangedOf.{IsSplittable};
@@ -12,7 +13,8 @@ ghost use Rattle.overlay_c.specs.declared.refusal.Refusal.TheVariants.{Refused, 
 
 use crate::lines::{self, Line};
 use crate::records::{
-    LineRecord, LinkRecord, SegmentRecord, SettingsRecord, Side, asked, fill_rule, link, solver,
+    LineRecord, LinkRecord, SegmentRecord, SettingsRecord, Side, SizesRecord, asked, fill_rule,
+    link, solver,
 };
 use crate::refusal::Refusal;
 use crate::tags::{self, Tag, TaggedRecord, TaggedSide, keep_tags, keep_untagged};
@@ -70,7 +72,7 @@ impl<I: Width> Core<I> {
     ghost use Rattle.overlay_split.specs.Run.{LeavesRange};
     ghost use Rattle.overlay_split.specs.SettingsOf.{snap_limit_of};
     ghost use Rattle.overlay_c.specs.Tags.{untagged, tagged_by};
-    ghost use Rattle.overlay_c.specs.Kept.{engine_settings, KeepsData, KeepsSplit, KeepsAll, KeepsOverlay, KeepsClip, IsCountRefused, IsCountOfAllRefused, IsCountOfLinesRefused, StandsAfter, LinesStandAfter};
+    ghost use Rattle.overlay_c.specs.Kept.{engine_settings, TellsSizes, KeepsData, KeepsSplit, KeepsAll, KeepsOverlay, KeepsClip, IsCountRefused, IsCountOfAllRefused, IsCountOfLinesRefused, StandsAfter, LinesStandAfter};
 
     /// A core, which takes no memory yet.
     pub fn new(alloc: Global, snap_limit: u32) -> Core<I>
@@ -133,7 +135,7 @@ impl<I: Width> Core<I> {
         Ok(())
     }
 
-    /// Does the same without walks, and keeps the data of each link: what the passes make of the data that records have.
+    /// Does the same without walks, and keeps the data of each link: what the passes make of the data of the records.
     pub fn overlay_with_data(
         &mut self,
         given: &[TaggedRecord],
@@ -142,7 +144,8 @@ impl<I: Width> Core<I> {
     ) -> Result<(), Refusal>
         ensures kept { OnOk result (KeepsOverlay settings.now rule false (given_by (untagged given.now)) self.new) }
         ensures kept_data { OnOk result (KeepsData settings.now rule (tagged_by given.now) self.new) }
-        ensures usable { OnOk result (IsTrue (are_usable (I.whole I.MIN_COORD) (I.whole I.MAX_COORD) (untagged given.now))) }
+        ensures usable { OnOk result (IsTrue (are_usable (I.whole I.MIN_COORD) (I.whole I.MAX_COORD)
+            (untagged given.now))) }
         ensures unusable { IfErr result (λ refusal. refusal ≡ NotSplittable
             → IsFalse (are_usable (I.whole I.MIN_COORD) (I.whole I.MAX_COORD) (untagged given.now))) }
         ensures too_large { IfErr result (λ refusal. refusal ≡ Refused CountOutOfRange
@@ -258,6 +261,27 @@ impl<I: Width> Core<I> {
         keep_links(graph.links(), &mut self.links)?;
         keep_lists(graph.nodes(), &mut self.degrees, &mut self.indexes)?;
         Ok(())
+    }
+
+    /// How much it keeps. Of contours it keeps none.
+    pub fn sizes(&self) -> SizesRecord
+        ensures { TellsSizes self.now result }
+    {
+        SizesRecord {
+            segments: self.segments.len(),
+            lines: self.lines.len(),
+            links: self.links.len(),
+            link_data: self.link_data.len(),
+            nodes: self.degrees.len(),
+            node_links: self.indexes.len(),
+            walks: self.walk_lengths.len(),
+            walk_links: self.walk_links.len(),
+            contours: 0,
+            contour_points: 0,
+            has_walks: self.has_walks,
+            has_changed: self.has_changed,
+            passes: u64::try_from(self.splitter.passes()).unwrap_or(u64::MAX),
+        }
     }
 }
 

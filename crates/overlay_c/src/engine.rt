@@ -1,10 +1,18 @@
 // The engine behind a handle: what splits and builds, and what overlays contours.
-ghost use Rattle.std.specs.Prelude.{◌≡◌, ◌∷◌, ◌++◌, [], IsTrue, OnOk, OnErr, IfErr, map};
+ghost use Rattle.std.specs.Prelude.{◌≡◌, ◌∷◌, ◌++◌, [], false, IsTrue, IsFalse, OnOk, OnErr, IfErr, map, length};
+ghost use Rattle.overlay_base.specs.declared.segm.fault.Fault.TheVariants.{CountOutOfRange};
+ghost use Rattle.overlay_c.specs.declared.refusal.Refusal.TheVariants.{Refused, NotSplittable};
 
 use crate::contours::{PointRecord, keep_contours, load_points};
 use crate::cores::Core;
-use crate::records::{SettingsRecord, fill_rule, solver};
+use crate::lines;
+use crate::records::{
+    LineRecord, LinkRecord, SegmentRecord, SettingsRecord, SizesRecord, fill_rule, solver, tell_all,
+};
 use crate::refusal::Refusal;
+use crate::tags::{Tag, TaggedRecord};
+use crate::width::is_narrow;
+use overlay_base::overlay_core::clip_rule::ClipRule;
 use overlay_base::overlay_core::overlay_rule::OverlayRule;
 use overlay_base::segm::shape_type::ShapeType;
 use overlay_contours::overlay::Overlay;
@@ -16,6 +24,10 @@ use std::alloc::Global;
 pub struct Engine {
     /// What splits and builds, for coordinates of 32 bits.
     pub wide: Core<i32>,
+    /// The same for coordinates of 16 bits.
+    pub narrow: Core<i16>,
+    /// Whether the last call that was given segments took the engine of 16 bits.
+    pub is_narrow: bool,
     /// The contours that are given, and the buffers of their overlays.
     pub polygons: Overlay<i32>,
     /// The points of a contour that is being added.
@@ -28,6 +40,11 @@ pub struct Engine {
 
 impl Engine {
     ghost use Rattle.overlay_split.specs.SettingsOf.{snap_limit_of};
+    ghost use Rattle.overlay_base.specs.Join.{join, join_leaves_range, has_equal_pairs};
+    ghost use Rattle.overlay_c.specs.Kept.{given_by, are_usable, are_lines_usable};
+    ghost use Rattle.overlay_c.specs.Records.{line_asked_by, told_by, line_told_by, names_narrow};
+    ghost use Rattle.overlay_c.specs.Tags.{untagged, tagged_by};
+    ghost use Rattle.overlay_c.specs.Widths.{least_of, greatest_of, LastKeepsSplit, LastKeepsAll, LastKeepsOverlay, LastKeepsData, LastKeepsClip, LastStandsAfter, LastLinesStandAfter, LastIsCountRefused, LastIsCountOfAllRefused, LastIsCountOfLinesRefused, LastLeavesRange, SameLimits, LastTellsSizes, segment_count, line_count, segments_in, lines_in, has_changed_in, links_in, link_data_in, degrees_in, indexes_in, walk_lengths_in, walk_links_in};
     ghost use Rattle.overlay_base.specs.declared.segm.shape_type.ShapeType.TheVariants.{Subject, Clip};
     ghost use Rattle.overlay_contours.specs.Refusals.{other_shape};
     ghost use Rattle.overlay_c.specs.Contours.{point_by, are_in_range, contours_in, KeepsPolygons, IsPointRefusal, IsPolygonRefusal, SameSplit};
@@ -35,15 +52,297 @@ impl Engine {
     /// An engine, which takes no memory yet.
     pub fn new(alloc: Global, snap_limit: u32) -> Engine
         ensures limit { snap_limit_of result.wide.splitter ≡ snap_limit }
+        ensures narrow_limit { snap_limit_of result.narrow.splitter ≡ snap_limit }
         ensures subject { contours_in result Subject ≡ [] }
         ensures clip { contours_in result Clip ≡ [] }
     {
         Engine {
             wide: Core::new(alloc, snap_limit),
+            narrow: Core::new(alloc, snap_limit),
+            is_narrow: false,
             polygons: Overlay::new(alloc),
             points: Vec::new(alloc),
             contour_lengths: Vec::new(alloc),
             contour_points: Vec::new(alloc),
+        }
+    }
+
+    /// `Core::overlay` of the engine that the settings name.
+    pub fn overlay(
+        &mut self,
+        alloc: Global,
+        given: &[SegmentRecord],
+        settings: &SettingsRecord,
+        rule: OverlayRule,
+        walks: bool,
+    ) -> Result<(), Refusal>
+        ensures chosen { self.new.is_narrow ≡ names_narrow settings.now.engine }
+        ensures kept { OnOk result (LastKeepsOverlay settings.now rule walks (given_by given.now) self.new) }
+        ensures usable { OnOk result (IsTrue (are_usable (least_of self.new.is_narrow) (greatest_of self.new.is_narrow)
+            given.now)) }
+        ensures unusable { IfErr result (λ refusal. refusal ≡ NotSplittable
+            → IsFalse (are_usable (least_of self.new.is_narrow) (greatest_of self.new.is_narrow)
+            given.now)) }
+        ensures too_large { IfErr result (λ refusal. refusal ≡ Refused CountOutOfRange
+            → LastIsCountRefused settings.now (given_by given.now) self.old self.new) }
+        ensures stands { OnErr result (LastStandsAfter settings.now (given_by given.now) self.new) }
+        ensures limit { SameLimits self.old self.new }
+        ensures contours { self.new.polygons ≡ self.old.polygons }
+    {
+        if is_narrow(settings.engine) {
+            self.is_narrow = true;
+            self.narrow.overlay(alloc, given, settings, rule, walks)
+        } else {
+            self.is_narrow = false;
+            self.wide.overlay(alloc, given, settings, rule, walks)
+        }
+    }
+
+    /// `Core::overlay_with_data` of that engine.
+    pub fn overlay_with_data(
+        &mut self,
+        given: &[TaggedRecord],
+        settings: &SettingsRecord,
+        rule: OverlayRule,
+    ) -> Result<(), Refusal>
+        ensures chosen { self.new.is_narrow ≡ names_narrow settings.now.engine }
+        ensures kept { OnOk result (LastKeepsOverlay settings.now rule false (given_by (untagged given.now)) self.new) }
+        ensures kept_data { OnOk result (LastKeepsData settings.now rule (tagged_by given.now) self.new) }
+        ensures usable { OnOk result (IsTrue (are_usable (least_of self.new.is_narrow) (greatest_of self.new.is_narrow)
+            (untagged given.now))) }
+        ensures unusable { IfErr result (λ refusal. refusal ≡ NotSplittable
+            → IsFalse (are_usable (least_of self.new.is_narrow) (greatest_of self.new.is_narrow)
+            (untagged given.now))) }
+        ensures too_large { IfErr result (λ refusal. refusal ≡ Refused CountOutOfRange
+            → LastIsCountRefused settings.now (given_by (untagged given.now)) self.old self.new) }
+        ensures stands { OnErr result (LastStandsAfter settings.now (given_by (untagged given.now)) self.new) }
+        ensures limit { SameLimits self.old self.new }
+        ensures contours { self.new.polygons ≡ self.old.polygons }
+    {
+        if is_narrow(settings.engine) {
+            self.is_narrow = true;
+            self.narrow.overlay_with_data(given, settings, rule)
+        } else {
+            self.is_narrow = false;
+            self.wide.overlay_with_data(given, settings, rule)
+        }
+    }
+
+    /// `Core::split` of that engine.
+    pub fn split(
+        &mut self,
+        given: &[SegmentRecord],
+        settings: &SettingsRecord,
+    ) -> Result<(), Refusal>
+        ensures chosen { self.new.is_narrow ≡ names_narrow settings.now.engine }
+        ensures kept { OnOk result (LastKeepsSplit settings.now (given_by given.now) self.new) }
+        ensures usable { OnOk result (IsTrue (are_usable (least_of self.new.is_narrow) (greatest_of self.new.is_narrow)
+            given.now)) }
+        ensures unusable { IfErr result (λ refusal. refusal ≡ NotSplittable
+            → IsFalse (are_usable (least_of self.new.is_narrow) (greatest_of self.new.is_narrow)
+            given.now)) }
+        ensures too_large { IfErr result (λ refusal. refusal ≡ Refused CountOutOfRange
+            → LastLeavesRange settings.now (given_by given.now) self.old self.new) }
+        ensures emptied { OnErr result (segments_in self.new ≡ []) }
+        ensures limit { SameLimits self.old self.new }
+        ensures contours { self.new.polygons ≡ self.old.polygons }
+    {
+        if is_narrow(settings.engine) {
+            self.is_narrow = true;
+            self.narrow.split(given, settings)
+        } else {
+            self.is_narrow = false;
+            self.wide.split(given, settings)
+        }
+    }
+
+    /// `Core::all` of that engine.
+    pub fn all(&mut self, given: &[SegmentRecord], settings: &SettingsRecord) -> Result<(), Refusal>
+        ensures chosen { self.new.is_narrow ≡ names_narrow settings.now.engine }
+        ensures kept { OnOk result (LastKeepsAll settings.now (given_by given.now) self.new) }
+        ensures usable { OnOk result (IsTrue (are_usable (least_of self.new.is_narrow) (greatest_of self.new.is_narrow)
+            given.now)) }
+        ensures unusable { IfErr result (λ refusal. refusal ≡ NotSplittable
+            → IsFalse (are_usable (least_of self.new.is_narrow) (greatest_of self.new.is_narrow)
+            given.now)) }
+        ensures too_large { IfErr result (λ refusal. refusal ≡ Refused CountOutOfRange
+            → LastIsCountOfAllRefused settings.now (given_by given.now) self.old self.new) }
+        ensures stands { OnErr result (LastStandsAfter settings.now (given_by given.now) self.new) }
+        ensures limit { SameLimits self.old self.new }
+        ensures contours { self.new.polygons ≡ self.old.polygons }
+    {
+        if is_narrow(settings.engine) {
+            self.is_narrow = true;
+            self.narrow.all(given, settings)
+        } else {
+            self.is_narrow = false;
+            self.wide.all(given, settings)
+        }
+    }
+
+    /// `Core::join` of the engine that a code names.
+    pub fn join(&mut self, given: &[SegmentRecord], engine: u8) -> Result<(), Refusal>
+        ensures chosen { self.new.is_narrow ≡ names_narrow engine }
+        ensures joined { OnOk result (segments_in self.new ≡ join (given_by given.now)) }
+        ensures repeated { OnOk result (has_changed_in self.new ≡ has_equal_pairs (given_by given.now)) }
+        ensures usable { OnOk result (IsTrue (are_usable (least_of self.new.is_narrow) (greatest_of self.new.is_narrow)
+            given.now)) }
+        ensures unusable { IfErr result (λ refusal. refusal ≡ NotSplittable
+            → IsFalse (are_usable (least_of self.new.is_narrow) (greatest_of self.new.is_narrow)
+            given.now)) }
+        ensures too_large { IfErr result (λ refusal. refusal ≡ Refused CountOutOfRange
+            → IsTrue (join_leaves_range (given_by given.now))) }
+        ensures limit { SameLimits self.old self.new }
+        ensures contours { self.new.polygons ≡ self.old.polygons }
+    {
+        if is_narrow(engine) {
+            self.is_narrow = true;
+            self.narrow.join(given)
+        } else {
+            self.is_narrow = false;
+            self.wide.join(given)
+        }
+    }
+
+    /// `Core::clip` of the engine that the settings name.
+    pub fn clip(
+        &mut self,
+        given: &[LineRecord],
+        settings: &SettingsRecord,
+        rule: ClipRule,
+    ) -> Result<(), Refusal>
+        ensures chosen { self.new.is_narrow ≡ names_narrow settings.now.engine }
+        ensures kept { OnOk result (LastKeepsClip settings.now rule (map line_asked_by given.now) self.new) }
+        ensures usable { OnOk result (IsTrue (are_lines_usable (least_of self.new.is_narrow)
+            (greatest_of self.new.is_narrow) given.now)) }
+        ensures unusable { IfErr result (λ refusal. refusal ≡ NotSplittable
+            → IsFalse (are_lines_usable (least_of self.new.is_narrow) (greatest_of self.new.is_narrow)
+            given.now)) }
+        ensures too_large { IfErr result (λ refusal. refusal ≡ Refused CountOutOfRange
+            → LastIsCountOfLinesRefused settings.now (map line_asked_by given.now) self.old self.new) }
+        ensures stands { OnErr result (LastLinesStandAfter settings.now (map line_asked_by given.now) self.new) }
+        ensures limit { SameLimits self.old self.new }
+        ensures contours { self.new.polygons ≡ self.old.polygons }
+    {
+        if is_narrow(settings.engine) {
+            self.is_narrow = true;
+            self.narrow.clip(given, settings, rule)
+        } else {
+            self.is_narrow = false;
+            self.wide.clip(given, settings, rule)
+        }
+    }
+
+    /// How much it keeps.
+    pub fn sizes(&self) -> SizesRecord
+        ensures core { LastTellsSizes self.now result }
+        ensures contours { result.contours ≡ length self.now.contour_lengths.items }
+        ensures contour_points { result.contour_points ≡ length self.now.contour_points.items }
+    {
+        let mut sizes = self.core_sizes();
+        sizes.contours = self.contour_lengths.len();
+        sizes.contour_points = self.contour_points.len();
+        sizes
+    }
+
+    /// How much the core of the last call keeps.
+    fn core_sizes(&self) -> SizesRecord
+        ensures { LastTellsSizes self.now result }
+    {
+        if self.is_narrow {
+            self.narrow.sizes()
+        } else {
+            self.wide.sizes()
+        }
+    }
+
+    /// The links that the core of the last call keeps.
+    pub fn links(&self) -> &[LinkRecord]
+        ensures { result.now ≡ links_in self.now }
+    {
+        if self.is_narrow {
+            &self.narrow.links
+        } else {
+            &self.wide.links
+        }
+    }
+
+    /// The data of its links.
+    pub fn link_data(&self) -> &[Tag]
+        ensures { result.now ≡ link_data_in self.now }
+    {
+        if self.is_narrow {
+            &self.narrow.link_data
+        } else {
+            &self.wide.link_data
+        }
+    }
+
+    /// How many links meet at each of its nodes.
+    pub fn degrees(&self) -> &[usize]
+        ensures { result.now ≡ degrees_in self.now }
+    {
+        if self.is_narrow {
+            &self.narrow.degrees
+        } else {
+            &self.wide.degrees
+        }
+    }
+
+    /// The indexes of these links, node by node.
+    pub fn indexes(&self) -> &[usize]
+        ensures { result.now ≡ indexes_in self.now }
+    {
+        if self.is_narrow {
+            &self.narrow.indexes
+        } else {
+            &self.wide.indexes
+        }
+    }
+
+    /// How many links each of its walks has.
+    pub fn walk_lengths(&self) -> &[usize]
+        ensures { result.now ≡ walk_lengths_in self.now }
+    {
+        if self.is_narrow {
+            &self.narrow.walk_lengths
+        } else {
+            &self.wide.walk_lengths
+        }
+    }
+
+    /// The indexes of these links, walk by walk.
+    pub fn walk_links(&self) -> &[usize]
+        ensures { result.now ≡ walk_links_in self.now }
+    {
+        if self.is_narrow {
+            &self.narrow.walk_links
+        } else {
+            &self.wide.walk_links
+        }
+    }
+
+    /// Writes the records of the arrangement that it keeps.
+    pub fn tell_segments(&self, out: &mut [SegmentRecord])
+        requires { length out.old ≡ segment_count self.now }
+        ensures { map told_by out.new ≡ segments_in self.now }
+    {
+        if self.is_narrow {
+            tell_all(&self.narrow.segments, out);
+        } else {
+            tell_all(&self.wide.segments, out);
+        }
+    }
+
+    /// Writes the records of the arrangement of polygons and lines.
+    pub fn tell_lines(&self, out: &mut [LineRecord])
+        requires { length out.old ≡ line_count self.now }
+        ensures { map line_told_by out.new ≡ lines_in self.now }
+    {
+        if self.is_narrow {
+            lines::tell_all(&self.narrow.lines, out);
+        } else {
+            lines::tell_all(&self.wide.lines, out);
         }
     }
 

@@ -7,12 +7,13 @@ ghost use Rattle.overlay_base.specs.declared.overlay_core.overlay_rule.OverlayRu
 ghost use Rattle.overlay_base.specs.Join.{join, join_leaves_range, has_equal_pairs};
 ghost use Rattle.overlay_split.specs.Run.{LeavesRange};
 ghost use Rattle.overlay_split.specs.SettingsOf.{snap_limit_of, passes_of};
-ghost use Rattle.overlay_c.specs.Records.{start_of, end_of, line_asked_by, told_by, line_told_by, shape_of, IsRuleOf};
+ghost use Rattle.overlay_c.specs.Records.{start_of, end_of, line_asked_by, told_by, line_told_by, shape_of, names_narrow, IsRuleOf};
 ghost use Rattle.overlay_c.specs.Crosses.{pair_by, cross_by, mask_by};
 ghost use Rattle.overlay_geometry.specs.Coordinates.{least_coordinate, greatest_coordinate, is_pair_in_range};
 ghost use Rattle.overlay_intersections.specs.CrossAnswer.{cross_answer};
 ghost use Rattle.overlay_intersections.specs.Marks.{snapping};
-ghost use Rattle.overlay_c.specs.Kept.{given_by, are_usable, are_lines_usable, engine_settings, KeepsData, KeepsSplit, KeepsAll, KeepsOverlay, KeepsClip, IsCountRefused, IsCountOfAllRefused, IsCountOfLinesRefused, StandsAfter, LinesStandAfter};
+ghost use Rattle.overlay_c.specs.Kept.{given_by, are_usable, are_lines_usable};
+ghost use Rattle.overlay_c.specs.Widths.{least_of, greatest_of, LastKeepsSplit, LastKeepsAll, LastKeepsOverlay, LastKeepsData, LastKeepsClip, LastStandsAfter, LastLinesStandAfter, LastIsCountRefused, LastIsCountOfAllRefused, LastIsCountOfLinesRefused, LastLeavesRange, LastTellsSizes, SameLimits, segment_count, line_count, segments_in, lines_in, has_changed_in, links_in, link_data_in, degrees_in, indexes_in, walk_lengths_in, walk_links_in};
 ghost use Rattle.overlay_c.specs.Tags.{untagged, tagged_by};
 ghost use Rattle.overlay_base.specs.declared.segm.shape_type.ShapeType.TheVariants.{Subject, Clip};
 ghost use Rattle.overlay_contours.specs.Refusals.{other_shape, CountsLeaveRange};
@@ -36,7 +37,6 @@ use crate::engine::Engine;
 use crate::handle::{Handle, put, take};
 use crate::records::{
     LineRecord, LinkRecord, SegmentRecord, SettingsRecord, SizesRecord, overlay_rule, shape_type,
-    tell_all,
 };
 use crate::refusal::status;
 use crate::tags::{Tag, TaggedRecord};
@@ -49,6 +49,7 @@ pub extern "C" fn overlay_c_new(alloc: Global, handle: &mut Handle, snap_limit: 
     requires { handle.old.engine ≡ None }
     ensures made { IsTrue result ↔ IsSome handle.new.engine }
     ensures limit { IfSome handle.new.engine (λ engine. snap_limit_of engine.wide.splitter ≡ snap_limit) }
+    ensures narrow_limit { IfSome handle.new.engine (λ engine. snap_limit_of engine.narrow.splitter ≡ snap_limit) }
     ensures subject { IfSome handle.new.engine (λ engine. contours_in engine Subject ≡ []) }
     ensures clip { IfSome handle.new.engine (λ engine. contours_in engine Clip ≡ []) }
 {
@@ -83,23 +84,23 @@ pub extern "C" fn overlay_c_overlay(
 ) -> u8
     requires { IsSome handle.old.engine }
     ensures full { IsSome handle.new.engine }
+    ensures chosen { IfSome handle.new.engine (λ after. after.is_narrow ≡ names_narrow settings.now.engine) }
     ensures done { result ≡ 0 → IfSome handle.new.engine (λ engine. (named : OverlayRule) × IsRuleOf rule named
-        × KeepsOverlay settings.now named walks (given_by given.now) engine.wide) }
-    ensures usable { result ≡ 0 → IsTrue (are_usable least_coordinate greatest_coordinate given.now) }
-    ensures unusable { result ≡ 3 → IsFalse (are_usable least_coordinate greatest_coordinate given.now) }
+        × LastKeepsOverlay settings.now named walks (given_by given.now) engine) }
+    ensures usable { result ≡ 0 → IfSome handle.new.engine (λ after. IsTrue (are_usable
+        (least_of after.is_narrow) (greatest_of after.is_narrow) given.now)) }
+    ensures unusable { result ≡ 3 → IfSome handle.new.engine (λ after. IsFalse (are_usable
+        (least_of after.is_narrow) (greatest_of after.is_narrow) given.now)) }
     ensures too_large { result ≡ 2 → IfSome handle.old.engine (λ before. IfSome handle.new.engine
-        (λ after. IsCountRefused settings.now (given_by given.now) before.wide after.wide)) }
+        (λ after. LastIsCountRefused settings.now (given_by given.now) before after)) }
     ensures stands { result ≢ 0 → IfSome handle.new.engine
-        (λ after. StandsAfter settings.now (given_by given.now) after.wide) }
-    ensures limit { IfSome handle.old.engine (λ before. IfSome handle.new.engine
-        (λ after. snap_limit_of after.wide.splitter ≡ snap_limit_of before.wide.splitter)) }
+        (λ after. LastStandsAfter settings.now (given_by given.now) after) }
+    ensures limit { IfSome handle.old.engine (λ before. IfSome handle.new.engine (SameLimits before)) }
     ensures contours { IfSome handle.old.engine (λ before. IfSome handle.new.engine
         (λ after. after.polygons ≡ before.polygons)) }
 {
     let mut engine = take(alloc, handle);
-    let outcome = engine
-        .wide
-        .overlay(alloc, given, settings, overlay_rule(rule), walks);
+    let outcome = engine.overlay(alloc, given, settings, overlay_rule(rule), walks);
     put(handle, engine);
     status(outcome)
 }
@@ -116,24 +117,24 @@ pub extern "C" fn overlay_c_overlay_with_data(
 ) -> u8
     requires { IsSome handle.old.engine }
     ensures full { IsSome handle.new.engine }
+    ensures chosen { IfSome handle.new.engine (λ after. after.is_narrow ≡ names_narrow settings.now.engine) }
     ensures done { result ≡ 0 → IfSome handle.new.engine (λ engine. (named : OverlayRule) × IsRuleOf rule named
-        × KeepsOverlay settings.now named false (given_by (untagged given.now)) engine.wide
-        × KeepsData settings.now named (tagged_by given.now) engine.wide) }
-    ensures usable { result ≡ 0 → IsTrue (are_usable least_coordinate greatest_coordinate (untagged given.now)) }
-    ensures unusable { result ≡ 3 → IsFalse (are_usable least_coordinate greatest_coordinate (untagged given.now)) }
+        × LastKeepsOverlay settings.now named false (given_by (untagged given.now)) engine
+        × LastKeepsData settings.now named (tagged_by given.now) engine) }
+    ensures usable { result ≡ 0 → IfSome handle.new.engine (λ after. IsTrue (are_usable
+        (least_of after.is_narrow) (greatest_of after.is_narrow) (untagged given.now))) }
+    ensures unusable { result ≡ 3 → IfSome handle.new.engine (λ after. IsFalse (are_usable
+        (least_of after.is_narrow) (greatest_of after.is_narrow) (untagged given.now))) }
     ensures too_large { result ≡ 2 → IfSome handle.old.engine (λ before. IfSome handle.new.engine
-        (λ after. IsCountRefused settings.now (given_by (untagged given.now)) before.wide after.wide)) }
+        (λ after. LastIsCountRefused settings.now (given_by (untagged given.now)) before after)) }
     ensures stands { result ≢ 0 → IfSome handle.new.engine
-        (λ after. StandsAfter settings.now (given_by (untagged given.now)) after.wide) }
-    ensures limit { IfSome handle.old.engine (λ before. IfSome handle.new.engine
-        (λ after. snap_limit_of after.wide.splitter ≡ snap_limit_of before.wide.splitter)) }
+        (λ after. LastStandsAfter settings.now (given_by (untagged given.now)) after) }
+    ensures limit { IfSome handle.old.engine (λ before. IfSome handle.new.engine (SameLimits before)) }
     ensures contours { IfSome handle.old.engine (λ before. IfSome handle.new.engine
         (λ after. after.polygons ≡ before.polygons)) }
 {
     let mut engine = take(alloc, handle);
-    let outcome = engine
-        .wide
-        .overlay_with_data(given, settings, overlay_rule(rule));
+    let outcome = engine.overlay_with_data(given, settings, overlay_rule(rule));
     put(handle, engine);
     status(outcome)
 }
@@ -148,20 +149,22 @@ pub extern "C" fn overlay_c_split(
 ) -> u8
     requires { IsSome handle.old.engine }
     ensures full { IsSome handle.new.engine }
+    ensures chosen { IfSome handle.new.engine (λ after. after.is_narrow ≡ names_narrow settings.now.engine) }
     ensures done { result ≡ 0 → IfSome handle.new.engine
-        (λ after. KeepsSplit settings.now (given_by given.now) after.wide) }
-    ensures usable { result ≡ 0 → IsTrue (are_usable least_coordinate greatest_coordinate given.now) }
-    ensures unusable { result ≡ 3 → IsFalse (are_usable least_coordinate greatest_coordinate given.now) }
-    ensures too_large { result ≡ 2 → IfSome handle.old.engine (λ before.
-        LeavesRange (engine_settings settings.now before.wide) (given_by given.now)) }
-    ensures emptied { result ≢ 0 → IfSome handle.new.engine (λ engine. engine.wide.segments.items ≡ []) }
-    ensures limit { IfSome handle.old.engine (λ before. IfSome handle.new.engine
-        (λ after. snap_limit_of after.wide.splitter ≡ snap_limit_of before.wide.splitter)) }
+        (λ after. LastKeepsSplit settings.now (given_by given.now) after) }
+    ensures usable { result ≡ 0 → IfSome handle.new.engine (λ after. IsTrue (are_usable
+        (least_of after.is_narrow) (greatest_of after.is_narrow) given.now)) }
+    ensures unusable { result ≡ 3 → IfSome handle.new.engine (λ after. IsFalse (are_usable
+        (least_of after.is_narrow) (greatest_of after.is_narrow) given.now)) }
+    ensures too_large { result ≡ 2 → IfSome handle.old.engine (λ before. IfSome handle.new.engine
+        (λ after. LastLeavesRange settings.now (given_by given.now) before after)) }
+    ensures emptied { result ≢ 0 → IfSome handle.new.engine (λ engine. segments_in engine ≡ []) }
+    ensures limit { IfSome handle.old.engine (λ before. IfSome handle.new.engine (SameLimits before)) }
     ensures contours { IfSome handle.old.engine (λ before. IfSome handle.new.engine
         (λ after. after.polygons ≡ before.polygons)) }
 {
     let mut engine = take(alloc, handle);
-    let outcome = engine.wide.split(given, settings);
+    let outcome = engine.split(given, settings);
     put(handle, engine);
     status(outcome)
 }
@@ -176,42 +179,52 @@ pub extern "C" fn overlay_c_all(
 ) -> u8
     requires { IsSome handle.old.engine }
     ensures full { IsSome handle.new.engine }
+    ensures chosen { IfSome handle.new.engine (λ after. after.is_narrow ≡ names_narrow settings.now.engine) }
     ensures done { result ≡ 0 → IfSome handle.new.engine
-        (λ after. KeepsAll settings.now (given_by given.now) after.wide) }
-    ensures usable { result ≡ 0 → IsTrue (are_usable least_coordinate greatest_coordinate given.now) }
-    ensures unusable { result ≡ 3 → IsFalse (are_usable least_coordinate greatest_coordinate given.now) }
+        (λ after. LastKeepsAll settings.now (given_by given.now) after) }
+    ensures usable { result ≡ 0 → IfSome handle.new.engine (λ after. IsTrue (are_usable
+        (least_of after.is_narrow) (greatest_of after.is_narrow) given.now)) }
+    ensures unusable { result ≡ 3 → IfSome handle.new.engine (λ after. IsFalse (are_usable
+        (least_of after.is_narrow) (greatest_of after.is_narrow) given.now)) }
     ensures too_large { result ≡ 2 → IfSome handle.old.engine (λ before. IfSome handle.new.engine
-        (λ after. IsCountOfAllRefused settings.now (given_by given.now) before.wide after.wide)) }
+        (λ after. LastIsCountOfAllRefused settings.now (given_by given.now) before after)) }
     ensures stands { result ≢ 0 → IfSome handle.new.engine
-        (λ after. StandsAfter settings.now (given_by given.now) after.wide) }
-    ensures limit { IfSome handle.old.engine (λ before. IfSome handle.new.engine
-        (λ after. snap_limit_of after.wide.splitter ≡ snap_limit_of before.wide.splitter)) }
+        (λ after. LastStandsAfter settings.now (given_by given.now) after) }
+    ensures limit { IfSome handle.old.engine (λ before. IfSome handle.new.engine (SameLimits before)) }
     ensures contours { IfSome handle.old.engine (λ before. IfSome handle.new.engine
         (λ after. after.polygons ≡ before.polygons)) }
 {
     let mut engine = take(alloc, handle);
-    let outcome = engine.wide.all(given, settings);
+    let outcome = engine.all(given, settings);
     put(handle, engine);
     status(outcome)
 }
 
 /// The join of the segments that records ask for. Answers as `overlay_c_overlay` does.
 #[unsafe(no_mangle)]
-pub extern "C" fn overlay_c_join(alloc: Global, handle: &mut Handle, given: &[SegmentRecord]) -> u8
+pub extern "C" fn overlay_c_join(
+    alloc: Global,
+    handle: &mut Handle,
+    given: &[SegmentRecord],
+    width: u8,
+) -> u8
     requires { IsSome handle.old.engine }
     ensures full { IsSome handle.new.engine }
+    ensures chosen { IfSome handle.new.engine (λ after. after.is_narrow ≡ names_narrow width) }
     ensures done { result ≡ 0 → IfSome handle.new.engine (λ engine.
-        segments_of engine.wide.segments.items ≡ join (given_by given.now)) }
+        segments_in engine ≡ join (given_by given.now)) }
     ensures repeated { result ≡ 0 → IfSome handle.new.engine (λ engine.
-        engine.wide.has_changed ≡ has_equal_pairs (given_by given.now)) }
-    ensures usable { result ≡ 0 → IsTrue (are_usable least_coordinate greatest_coordinate given.now) }
-    ensures unusable { result ≡ 3 → IsFalse (are_usable least_coordinate greatest_coordinate given.now) }
+        has_changed_in engine ≡ has_equal_pairs (given_by given.now)) }
+    ensures usable { result ≡ 0 → IfSome handle.new.engine (λ after. IsTrue (are_usable
+        (least_of after.is_narrow) (greatest_of after.is_narrow) given.now)) }
+    ensures unusable { result ≡ 3 → IfSome handle.new.engine (λ after. IsFalse (are_usable
+        (least_of after.is_narrow) (greatest_of after.is_narrow) given.now)) }
     ensures too_large { result ≡ 2 → IsTrue (join_leaves_range (given_by given.now)) }
     ensures contours { IfSome handle.old.engine (λ before. IfSome handle.new.engine
         (λ after. after.polygons ≡ before.polygons)) }
 {
     let mut engine = take(alloc, handle);
-    let outcome = engine.wide.join(given);
+    let outcome = engine.join(given, width);
     put(handle, engine);
     status(outcome)
 }
@@ -228,17 +241,19 @@ pub extern "C" fn overlay_c_clip(
 ) -> u8
     requires { IsSome handle.old.engine }
     ensures full { IsSome handle.new.engine }
+    ensures chosen { IfSome handle.new.engine (λ after. after.is_narrow ≡ names_narrow settings.now.engine) }
     ensures done { result ≡ 0 → IfSome handle.new.engine (λ after.
-        KeepsClip settings.now (record { invert = invert; boundary_included = boundary_included })
-        (map line_asked_by given.now) after.wide) }
-    ensures usable { result ≡ 0 → IsTrue (are_lines_usable least_coordinate greatest_coordinate given.now) }
-    ensures unusable { result ≡ 3 → IsFalse (are_lines_usable least_coordinate greatest_coordinate given.now) }
+        LastKeepsClip settings.now (record { invert = invert; boundary_included = boundary_included })
+        (map line_asked_by given.now) after) }
+    ensures usable { result ≡ 0 → IfSome handle.new.engine (λ after. IsTrue (are_lines_usable
+        (least_of after.is_narrow) (greatest_of after.is_narrow) given.now)) }
+    ensures unusable { result ≡ 3 → IfSome handle.new.engine (λ after. IsFalse (are_lines_usable
+        (least_of after.is_narrow) (greatest_of after.is_narrow) given.now)) }
     ensures too_large { result ≡ 2 → IfSome handle.old.engine (λ before. IfSome handle.new.engine
-        (λ after. IsCountOfLinesRefused settings.now (map line_asked_by given.now) before.wide after.wide)) }
+        (λ after. LastIsCountOfLinesRefused settings.now (map line_asked_by given.now) before after)) }
     ensures stands { result ≢ 0 → IfSome handle.new.engine
-        (λ after. LinesStandAfter settings.now (map line_asked_by given.now) after.wide) }
-    ensures limit { IfSome handle.old.engine (λ before. IfSome handle.new.engine
-        (λ after. snap_limit_of after.wide.splitter ≡ snap_limit_of before.wide.splitter)) }
+        (λ after. LastLinesStandAfter settings.now (map line_asked_by given.now) after) }
+    ensures limit { IfSome handle.old.engine (λ before. IfSome handle.new.engine (SameLimits before)) }
     ensures contours { IfSome handle.old.engine (λ before. IfSome handle.new.engine
         (λ after. after.polygons ≡ before.polygons)) }
 {
@@ -247,7 +262,7 @@ pub extern "C" fn overlay_c_clip(
         invert,
         boundary_included,
     };
-    let outcome = engine.wide.clip(given, settings, rule);
+    let outcome = engine.clip(given, settings, rule);
     put(handle, engine);
     status(outcome)
 }
@@ -348,38 +363,13 @@ pub extern "C" fn overlay_c_cross(
 pub extern "C" fn overlay_c_sizes(alloc: Global, handle: &mut Handle) -> SizesRecord
     requires { IsSome handle.old.engine }
     ensures same { handle.new.engine ≡ handle.old.engine }
-    ensures segments { IfSome handle.old.engine (λ engine. result.segments ≡ length engine.wide.segments.items) }
-    ensures lines { IfSome handle.old.engine (λ engine. result.lines ≡ length engine.wide.lines.items) }
-    ensures links { IfSome handle.old.engine (λ engine. result.links ≡ length engine.wide.links.items) }
-    ensures link_data { IfSome handle.old.engine (λ engine. result.link_data ≡ length engine.wide.link_data.items) }
-    ensures nodes { IfSome handle.old.engine (λ engine. result.nodes ≡ length engine.wide.degrees.items) }
-    ensures node_links { IfSome handle.old.engine (λ engine. result.node_links ≡ length engine.wide.indexes.items) }
-    ensures walks { IfSome handle.old.engine (λ engine. result.walks ≡ length engine.wide.walk_lengths.items) }
-    ensures walk_links { IfSome handle.old.engine (λ engine. result.walk_links ≡ length engine.wide.walk_links.items) }
+    ensures core { IfSome handle.old.engine (λ engine. LastTellsSizes engine result) }
     ensures contours { IfSome handle.old.engine (λ engine. result.contours ≡ length engine.contour_lengths.items) }
     ensures contour_points { IfSome handle.old.engine (λ engine.
         result.contour_points ≡ length engine.contour_points.items) }
-    ensures has_walks { IfSome handle.old.engine (λ engine. result.has_walks ≡ engine.wide.has_walks) }
-    ensures has_changed { IfSome handle.old.engine (λ engine. result.has_changed ≡ engine.wide.has_changed) }
-    ensures passes { IfSome handle.old.engine (λ engine. passes_of engine.wide.splitter < 2 ^ 64
-        → result.passes ≡ passes_of engine.wide.splitter) }
 {
     let engine = take(alloc, handle);
-    let sizes = SizesRecord {
-        segments: engine.wide.segments.len(),
-        lines: engine.wide.lines.len(),
-        links: engine.wide.links.len(),
-        link_data: engine.wide.link_data.len(),
-        nodes: engine.wide.degrees.len(),
-        node_links: engine.wide.indexes.len(),
-        walks: engine.wide.walk_lengths.len(),
-        walk_links: engine.wide.walk_links.len(),
-        contours: engine.contour_lengths.len(),
-        contour_points: engine.contour_points.len(),
-        has_walks: engine.wide.has_walks,
-        has_changed: engine.wide.has_changed,
-        passes: u64::try_from(engine.wide.splitter.passes()).unwrap_or(u64::MAX),
-    };
+    let sizes = engine.sizes();
     put(handle, engine);
     sizes
 }
@@ -388,12 +378,12 @@ pub extern "C" fn overlay_c_sizes(alloc: Global, handle: &mut Handle) -> SizesRe
 #[unsafe(no_mangle)]
 pub extern "C" fn overlay_c_segments(alloc: Global, handle: &mut Handle, out: &mut [SegmentRecord])
     requires engine { IsSome handle.old.engine }
-    requires length { IfSome handle.old.engine (λ engine. length out.old ≡ length engine.wide.segments.items) }
+    requires length { IfSome handle.old.engine (λ engine. length out.old ≡ segment_count engine) }
     ensures same { handle.new.engine ≡ handle.old.engine }
-    ensures copied { IfSome handle.old.engine (λ engine. map told_by out.new ≡ segments_of engine.wide.segments.items) }
+    ensures copied { IfSome handle.old.engine (λ engine. map told_by out.new ≡ segments_in engine) }
 {
     let engine = take(alloc, handle);
-    tell_all(&engine.wide.segments, out);
+    engine.tell_segments(out);
     put(handle, engine);
 }
 
@@ -401,12 +391,12 @@ pub extern "C" fn overlay_c_segments(alloc: Global, handle: &mut Handle, out: &m
 #[unsafe(no_mangle)]
 pub extern "C" fn overlay_c_lines(alloc: Global, handle: &mut Handle, out: &mut [LineRecord])
     requires engine { IsSome handle.old.engine }
-    requires length { IfSome handle.old.engine (λ engine. length out.old ≡ length engine.wide.lines.items) }
+    requires length { IfSome handle.old.engine (λ engine. length out.old ≡ line_count engine) }
     ensures same { handle.new.engine ≡ handle.old.engine }
-    ensures copied { IfSome handle.old.engine (λ engine. map line_told_by out.new ≡ segments_of engine.wide.lines.items) }
+    ensures copied { IfSome handle.old.engine (λ engine. map line_told_by out.new ≡ lines_in engine) }
 {
     let engine = take(alloc, handle);
-    lines::tell_all(&engine.wide.lines, out);
+    engine.tell_lines(out);
     put(handle, engine);
 }
 
@@ -414,12 +404,12 @@ pub extern "C" fn overlay_c_lines(alloc: Global, handle: &mut Handle, out: &mut 
 #[unsafe(no_mangle)]
 pub extern "C" fn overlay_c_links(alloc: Global, handle: &mut Handle, out: &mut [LinkRecord])
     requires engine { IsSome handle.old.engine }
-    requires length { IfSome handle.old.engine (λ engine. length out.old ≡ length engine.wide.links.items) }
+    requires length { IfSome handle.old.engine (λ engine. length out.old ≡ length (links_in engine)) }
     ensures same { handle.new.engine ≡ handle.old.engine }
-    ensures copied { IfSome handle.old.engine (λ engine. out.new ≡ engine.wide.links.items) }
+    ensures copied { IfSome handle.old.engine (λ engine. out.new ≡ links_in engine) }
 {
     let engine = take(alloc, handle);
-    out.copy_from_slice(&engine.wide.links);
+    out.copy_from_slice(engine.links());
     put(handle, engine);
 }
 
@@ -427,12 +417,12 @@ pub extern "C" fn overlay_c_links(alloc: Global, handle: &mut Handle, out: &mut 
 #[unsafe(no_mangle)]
 pub extern "C" fn overlay_c_link_data(alloc: Global, handle: &mut Handle, out: &mut [Tag])
     requires engine { IsSome handle.old.engine }
-    requires length { IfSome handle.old.engine (λ engine. length out.old ≡ length engine.wide.link_data.items) }
+    requires length { IfSome handle.old.engine (λ engine. length out.old ≡ length (link_data_in engine)) }
     ensures same { handle.new.engine ≡ handle.old.engine }
-    ensures copied { IfSome handle.old.engine (λ engine. out.new ≡ engine.wide.link_data.items) }
+    ensures copied { IfSome handle.old.engine (λ engine. out.new ≡ link_data_in engine) }
 {
     let engine = take(alloc, handle);
-    out.copy_from_slice(&engine.wide.link_data);
+    out.copy_from_slice(engine.link_data());
     put(handle, engine);
 }
 
@@ -445,15 +435,15 @@ pub extern "C" fn overlay_c_nodes(
     indexes: &mut [usize],
 )
     requires engine { IsSome handle.old.engine }
-    requires degrees { IfSome handle.old.engine (λ engine. length degrees.old ≡ length engine.wide.degrees.items) }
-    requires indexes { IfSome handle.old.engine (λ engine. length indexes.old ≡ length engine.wide.indexes.items) }
+    requires degrees { IfSome handle.old.engine (λ engine. length degrees.old ≡ length (degrees_in engine)) }
+    requires indexes { IfSome handle.old.engine (λ engine. length indexes.old ≡ length (indexes_in engine)) }
     ensures same { handle.new.engine ≡ handle.old.engine }
-    ensures degrees { IfSome handle.old.engine (λ engine. degrees.new ≡ engine.wide.degrees.items) }
-    ensures indexes { IfSome handle.old.engine (λ engine. indexes.new ≡ engine.wide.indexes.items) }
+    ensures degrees { IfSome handle.old.engine (λ engine. degrees.new ≡ degrees_in engine) }
+    ensures indexes { IfSome handle.old.engine (λ engine. indexes.new ≡ indexes_in engine) }
 {
     let engine = take(alloc, handle);
-    degrees.copy_from_slice(&engine.wide.degrees);
-    indexes.copy_from_slice(&engine.wide.indexes);
+    degrees.copy_from_slice(engine.degrees());
+    indexes.copy_from_slice(engine.indexes());
     put(handle, engine);
 }
 
@@ -466,15 +456,15 @@ pub extern "C" fn overlay_c_walks(
     indexes: &mut [usize],
 )
     requires engine { IsSome handle.old.engine }
-    requires lengths { IfSome handle.old.engine (λ engine. length lengths.old ≡ length engine.wide.walk_lengths.items) }
-    requires indexes { IfSome handle.old.engine (λ engine. length indexes.old ≡ length engine.wide.walk_links.items) }
+    requires lengths { IfSome handle.old.engine (λ engine. length lengths.old ≡ length (walk_lengths_in engine)) }
+    requires indexes { IfSome handle.old.engine (λ engine. length indexes.old ≡ length (walk_links_in engine)) }
     ensures same { handle.new.engine ≡ handle.old.engine }
-    ensures lengths { IfSome handle.old.engine (λ engine. lengths.new ≡ engine.wide.walk_lengths.items) }
-    ensures indexes { IfSome handle.old.engine (λ engine. indexes.new ≡ engine.wide.walk_links.items) }
+    ensures lengths { IfSome handle.old.engine (λ engine. lengths.new ≡ walk_lengths_in engine) }
+    ensures indexes { IfSome handle.old.engine (λ engine. indexes.new ≡ walk_links_in engine) }
 {
     let engine = take(alloc, handle);
-    lengths.copy_from_slice(&engine.wide.walk_lengths);
-    indexes.copy_from_slice(&engine.wide.walk_links);
+    lengths.copy_from_slice(engine.walk_lengths());
+    indexes.copy_from_slice(engine.walk_links());
     put(handle, engine);
 }
 

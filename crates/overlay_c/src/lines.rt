@@ -20,7 +20,8 @@ pub type Line<I> = Segment<ShapeCountString, I, ()>;
 
 /// Loads the segments that records ask for. Answers whether each asks for one.
 pub fn load<I: Width>(records: &[LineRecord], list: &mut Vec<Line<I>>) -> Result<bool, AllocError>
-    ensures asks { IfOk result (λ all. all ≡ list_all (line_asks (I.whole I.MIN_COORD) (I.whole I.MAX_COORD)) records.now) }
+    ensures asks { IfOk result (λ all. all ≡ list_all (line_asks (I.whole I.MIN_COORD) (I.whole I.MAX_COORD))
+        records.now) }
     ensures segments { IfOk result (λ all. IsTrue all → segments_of list.new.items ≡ map line_asked_by records.now) }
 {
     list.clear();

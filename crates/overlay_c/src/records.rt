@@ -78,6 +78,8 @@ pub struct SettingsRecord {
     pub strategy: u8,
     /// 0 for `EvenOdd`, 1 for `NonZero`, 2 for `Positive`, 3 for `Negative`.
     pub fill_rule: u8,
+    /// 0 for coordinates of 32 bits, else those of 16.
+    pub engine: u8,
 }
 
 /// The segment that a record asks for, with data. `None` where an end is out of range, the ends are equal, or a count is

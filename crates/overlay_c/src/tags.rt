@@ -71,7 +71,8 @@ pub fn load_splittable<I: Width>(
 ) -> Result<(), Refusal>
     ensures segments { OnOk result (data_segments_of list.new.items ≡ tagged_by given.now) }
     ensures splittable { OnOk result (IsSplittable list.new.items) }
-    ensures usable { OnOk result (IsTrue (are_usable (I.whole I.MIN_COORD) (I.whole I.MAX_COORD) (untagged given.now))) }
+    ensures usable { OnOk result (IsTrue (are_usable (I.whole I.MIN_COORD) (I.whole I.MAX_COORD)
+        (untagged given.now))) }
     ensures unusable { IfErr result (λ refusal. refusal ≡ NotSplittable
         → IsFalse (are_usable (I.whole I.MIN_COORD) (I.whole I.MAX_COORD) (untagged given.now))) }
     ensures no_count { IfErr result (λ refusal. refusal ≢ Refused CountOutOfRange) }
@@ -88,7 +89,8 @@ pub fn load_splittable<I: Width>(
 fn try_load<I: Width>(given: &[TaggedRecord], list: &mut Vec<TaggedSide<I>>) -> Result<(), Refusal>
     ensures segments { OnOk result (data_segments_of list.new.items ≡ tagged_by given.now) }
     ensures splittable { OnOk result (IsSplittable list.new.items) }
-    ensures usable { OnOk result (IsTrue (are_usable (I.whole I.MIN_COORD) (I.whole I.MAX_COORD) (untagged given.now))) }
+    ensures usable { OnOk result (IsTrue (are_usable (I.whole I.MIN_COORD) (I.whole I.MAX_COORD)
+        (untagged given.now))) }
     ensures unusable { IfErr result (λ refusal. refusal ≡ NotSplittable
         → IsFalse (are_usable (I.whole I.MIN_COORD) (I.whole I.MAX_COORD) (untagged given.now))) }
     ensures no_count { IfErr result (λ refusal. refusal ≢ Refused CountOutOfRange) }
@@ -104,7 +106,8 @@ fn load<I: Width>(
     records: &[TaggedRecord],
     list: &mut Vec<TaggedSide<I>>,
 ) -> Result<bool, AllocError>
-    ensures asks { IfOk result (λ all. all ≡ list_all (λ r. asks (I.whole I.MIN_COORD) (I.whole I.MAX_COORD) r.segment) records.now) }
+    ensures asks { IfOk result (λ all. all ≡ list_all (λ r. asks (I.whole I.MIN_COORD) (I.whole I.MAX_COORD) r.segment)
+        records.now) }
     ensures segments { IfOk result (λ all. IsTrue all → data_segments_of list.new.items ≡ tagged_by records.now) }
 {
     list.clear();

@@ -1,6 +1,7 @@
 // Coordinates of an engine, as the numbers of 32 bits that cross to C.
 ghost use Rattle.std.specs.Prelude.{◌≡◌, IfSome, is_some};
 ghost use Rattle.overlay_geometry.specs.Coordinates.{is_coordinate};
+ghost use Rattle.overlay_c.specs.Records.{names_narrow};
 
 use overlay_geometry::num::OverlayInt;
 
@@ -8,7 +9,8 @@ use overlay_geometry::num::OverlayInt;
 pub trait Width: OverlayInt {
     /// The coordinate of a number. `None` where that is out of the engine's range.
     fn from_number(number: i32) -> Option<Self>
-        ensures in_range { is_some result ≡ is_coordinate (Self.whole Self.MIN_COORD) (Self.whole Self.MAX_COORD) number }
+        ensures in_range { is_some result
+            ≡ is_coordinate (Self.whole Self.MIN_COORD) (Self.whole Self.MAX_COORD) number }
         ensures same { IfSome result (λ coordinate. Self.whole coordinate ≡ number) };
 
     /// The number of a coordinate.
@@ -41,4 +43,11 @@ impl Width for i32 {
     fn number(self) -> i32 {
         self
     }
+}
+
+/// Whether a code names the engine of 16 bits.
+pub fn is_narrow(code: u8) -> bool
+    ensures { result ≡ names_narrow code }
+{
+    code != 0
 }
