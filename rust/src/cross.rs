@@ -1,7 +1,7 @@
 //! Where two segments meet.
 
 use crate::error::segment_fault;
-use crate::{ffi, Error, IntPoint, Segment};
+use crate::{ffi, Engine, Error, IntPoint, Segment};
 
 /// What the point of a meeting is.
 #[derive(Clone, Copy, Debug, PartialEq, Eq)]
@@ -75,7 +75,7 @@ pub struct CrossResult {
 /// ```
 pub fn cross(target: &Segment, other: &Segment, radius_squared: i64) -> Result<Option<CrossResult>, Error> {
     for (index, segment) in [target, other].into_iter().enumerate() {
-        if let Some(fault) = segment_fault(segment.a, segment.b, true) {
+        if let Some(fault) = segment_fault(segment.a, segment.b, true, Engine::I32) {
             return Err(Error::Segment { index, fault });
         }
     }

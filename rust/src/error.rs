@@ -1,6 +1,6 @@
 //! Why a call is refused.
 
-use crate::{DataSegment, IntPoint, LineSegment, Segment, ShapeCountBoolean, ShapeType, MAX_COORD, MIN_COORD};
+use crate::{DataSegment, Engine, IntPoint, LineSegment, Segment, ShapeCountBoolean, ShapeType};
 use std::fmt;
 
 /// Why the engine refused.
@@ -15,7 +15,7 @@ pub enum Fault {
 /// What is wrong with a given segment.
 #[derive(Clone, Copy, Debug, PartialEq, Eq)]
 pub enum SegmentFault {
-    /// A coordinate lies outside of `MIN_COORD..=MAX_COORD`.
+    /// A coordinate lies outside of the range of the engine, as `Engine::range` tells it.
     Range,
     /// Both ends are one point.
     EqualEnds,
@@ -101,17 +101,17 @@ impl std::error::Error for Error {}
 
 /// The index of the first point out of range, if one is.
 pub(crate) fn point_fault(contour: &[IntPoint]) -> Option<usize> {
-    contour.iter().position(|point| !is_in_range(*point))
+    contour.iter().position(|point| !is_in_range(*point, Engine::I32))
 }
 
-fn is_in_range(point: IntPoint) -> bool {
-    let range = MIN_COORD..=MAX_COORD;
+fn is_in_range(point: IntPoint, engine: Engine) -> bool {
+    let range = engine.range();
     range.contains(&point.x) && range.contains(&point.y)
 }
 
 /// What is wrong with the segment between two points, if anything is.
-pub(crate) fn segment_fault(a: IntPoint, b: IntPoint, is_counted: bool) -> Option<SegmentFault> {
-    if !is_in_range(a) || !is_in_range(b) {
+pub(crate) fn segment_fault(a: IntPoint, b: IntPoint, is_counted: bool, engine: Engine) -> Option<SegmentFault> {
+    if !is_in_range(a, engine) || !is_in_range(b, engine) {
         Some(SegmentFault::Range)
     } else if a == b {
         Some(SegmentFault::EqualEnds)
@@ -123,22 +123,22 @@ pub(crate) fn segment_fault(a: IntPoint, b: IntPoint, is_counted: bool) -> Optio
 }
 
 /// What is wrong with a segment, if anything is.
-pub(crate) fn fault_of(segment: &Segment) -> Option<SegmentFault> {
+pub(crate) fn fault_of(segment: &Segment, engine: Engine) -> Option<SegmentFault> {
     let ShapeCountBoolean { subj, clip } = segment.count;
     let is_counted = subj != i32::MIN && clip != i32::MIN && (subj != 0 || clip != 0);
-    segment_fault(segment.a, segment.b, is_counted)
+    segment_fault(segment.a, segment.b, is_counted, engine)
 }
 
 /// The same of a segment with a number, which may be any.
-pub(crate) fn fault_of_data(segment: &DataSegment) -> Option<SegmentFault> {
-    fault_of(&segment.segment)
+pub(crate) fn fault_of_data(segment: &DataSegment, engine: Engine) -> Option<SegmentFault> {
+    fault_of(&segment.segment, engine)
 }
 
 /// The same of a side of a polygon or a step of a line.
-pub(crate) fn fault_of_line(segment: &LineSegment) -> Option<SegmentFault> {
+pub(crate) fn fault_of_line(segment: &LineSegment, engine: Engine) -> Option<SegmentFault> {
     let LineSegment { a, b, subj, mask } = *segment;
     let is_counted = subj != i32::MIN && mask < 4 && (subj != 0 || mask != 0);
-    segment_fault(a, b, is_counted)
+    segment_fault(a, b, is_counted, engine)
 }
 
 /// What a status says. Where segments may not be split there has to be one with a fault.

@@ -20,6 +20,7 @@ pub struct Settings {
     pub progression: usize,
     pub strategy: u8,
     pub fill_rule: u8,
+    pub engine: u8,
 }
 
 /// `SizesRecord` of `crates/overlay_c`: how much an engine keeps.
@@ -70,7 +71,7 @@ extern "C" {
     ) -> u8;
     fn overlay_c_split(handle: &mut Handle, given: *const Segment, given_len: usize, settings: &Settings) -> u8;
     fn overlay_c_all(handle: &mut Handle, given: *const Segment, given_len: usize, settings: &Settings) -> u8;
-    fn overlay_c_join(handle: &mut Handle, given: *const Segment, given_len: usize) -> u8;
+    fn overlay_c_join(handle: &mut Handle, given: *const Segment, given_len: usize, width: u8) -> u8;
     fn overlay_c_clip(
         handle: &mut Handle,
         given: *const LineSegment,
@@ -162,9 +163,9 @@ impl Engine {
     }
 
     /// Joins segments on each pair of ends. Returns a status.
-    pub fn join(&mut self, given: &[Segment]) -> u8 {
-        // SAFETY: the handle is full. Nothing is required of segments.
-        unsafe { overlay_c_join(&mut self.handle, given.as_ptr(), given.len()) }
+    pub fn join(&mut self, given: &[Segment], width: u8) -> u8 {
+        // SAFETY: the handle is full. Nothing is required of segments and codes.
+        unsafe { overlay_c_join(&mut self.handle, given.as_ptr(), given.len(), width) }
     }
 
     /// Splits polygons and lines and builds a clip rule's graph. Returns a status.

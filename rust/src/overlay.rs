@@ -2,8 +2,8 @@
 
 use crate::error::{fault_of, fault_of_data, fault_of_line, outcome, point_fault};
 use crate::{
-    ffi, ClipRule, DataSegment, Error, Fault, FillRule, IntContour, IntPoint, LineSegment, OverlayGraph, OverlayLink,
-    OverlayRule, Segment, ShapeType, Solver,
+    ffi, ClipRule, DataSegment, Engine, Error, Fault, FillRule, IntContour, IntPoint, LineSegment, OverlayGraph,
+    OverlayLink, OverlayRule, Segment, ShapeType, Solver,
 };
 use std::fmt;
 
@@ -31,6 +31,8 @@ pub struct Change {
 /// ```
 pub struct Overlay {
     engine: ffi::Engine,
+    /// What segments are split with.
+    width: Engine,
     /// How many contours of the subject and of the clip were added.
     contour_counts: [usize; 2],
     segments: Vec<Segment>,
@@ -72,6 +74,7 @@ impl Overlay {
     pub fn with_snap_limit(snap_limit: u32) -> Result<Overlay, Error> {
         Ok(Overlay {
             engine: ffi::Engine::new(snap_limit).ok_or(Error::Fault(Fault::Memory))?,
+            width: Engine::I32,
             contour_counts: [0; 2],
             segments: Vec::new(),
             lines: Vec::new(),
@@ -84,8 +87,28 @@ impl Overlay {
         })
     }
 
-    /// An overlay of these contours of a subject and of a clip. Any contours will do: they may cross and touch
-    /// themselves and one another, run either way, and have no or few points.
+    /// The same overlay, with an engine for the segments that it is given from now on. Contours are overlaid with
+    /// `Engine::I32`, whatever this engine is.
+    ///
+    /// ```
+    /// use i_overlay_core::{square, Engine, Error, FillRule, Overlay, OverlayRule, SegmentFault, ShapeType};
+    ///
+    /// let mut segments = Vec::new();
+    /// ShapeType::Subject.push_contour(&square(0, 16_383), &mut segments);
+    /// let mut overlay = Overlay::new()?.with_engine(Engine::I16);
+    /// assert_eq!(overlay.build_graph(&segments, FillRule::NonZero, OverlayRule::Subject)?.links().len(), 4);
+    /// segments[1].b.x += 1;
+    /// let refused = overlay.build_graph(&segments, FillRule::NonZero, OverlayRule::Subject).unwrap_err();
+    /// assert_eq!(refused, Error::Segment { index: 1, fault: SegmentFault::Range });
+    /// # Ok::<(), Error>(())
+    /// ```
+    pub fn with_engine(mut self, engine: Engine) -> Overlay {
+        self.width = engine;
+        self
+    }
+
+    /// An overlay of these contours of a subject and of a clip. Any contours will do: they may cross and touch themselves
+    /// and one another, run either way, and have no or few points.
     ///
     /// ```
     /// use i_overlay_core::{square, Error, IntPoint, Overlay, ShapeType, MAX_COORD};
@@ -164,8 +187,8 @@ impl Overlay {
         fill_rule: FillRule,
         solver: Solver,
     ) -> Result<Vec<IntContour>, Error> {
-        let status = self.engine.polygons(&settings(solver, fill_rule), overlay_rule.code());
-        outcome(status, &[], fault_of)?;
+        let status = self.engine.polygons(&settings(solver, fill_rule, self.width), overlay_rule.code());
+        outcome(status, &[], |segment| fault_of(segment, Engine::I32))?;
         Ok(self.engine.contours())
     }
 
@@ -258,8 +281,9 @@ impl Overlay {
         overlay_rule: OverlayRule,
         solver: Solver,
     ) -> Result<OverlayGraph<'_>, Error> {
-        let status = self.engine.overlay_with_data(segments, &settings(solver, fill_rule), overlay_rule.code());
-        outcome(status, segments, fault_of_data)?;
+        let status =
+            self.engine.overlay_with_data(segments, &settings(solver, fill_rule, self.width), overlay_rule.code());
+        outcome(status, segments, |segment| fault_of_data(segment, self.width))?;
         self.copy_graph();
         self.engine.copy_link_data(&mut self.link_data);
         Ok(self.kept_graph())
@@ -354,8 +378,8 @@ impl Overlay {
         fill_rule: FillRule,
         solver: Solver,
     ) -> Result<OverlayGraph<'_>, Error> {
-        let status = self.engine.all(segments, &settings(solver, fill_rule));
-        outcome(status, segments, fault_of)?;
+        let status = self.engine.all(segments, &settings(solver, fill_rule, self.width));
+        outcome(status, segments, |segment| fault_of(segment, self.width))?;
         Ok(self.graph())
     }
 
@@ -372,8 +396,8 @@ impl Overlay {
     /// # Ok::<(), i_overlay_core::Error>(())
     /// ```
     pub fn split(&mut self, segments: &[Segment], solver: Solver) -> Result<Change, Error> {
-        let status = self.engine.split(segments, &settings(solver, FillRule::NonZero));
-        outcome(status, segments, fault_of)?;
+        let status = self.engine.split(segments, &settings(solver, FillRule::NonZero, self.width));
+        outcome(status, segments, |segment| fault_of(segment, self.width))?;
         Ok(self.change())
     }
 
@@ -391,7 +415,8 @@ impl Overlay {
     /// # Ok::<(), i_overlay_core::Error>(())
     /// ```
     pub fn join(&mut self, segments: &[Segment]) -> Result<Change, Error> {
-        outcome(self.engine.join(segments), segments, fault_of)?;
+        let status = self.engine.join(segments, self.width as u8);
+        outcome(status, segments, |segment| fault_of(segment, self.width))?;
         Ok(self.change())
     }
 
@@ -417,8 +442,8 @@ impl Overlay {
         solver: Solver,
     ) -> Result<OverlayGraph<'_>, Error> {
         let ClipRule { invert, boundary_included } = clip_rule;
-        let status = self.engine.clip(segments, &settings(solver, fill_rule), invert, boundary_included);
-        outcome(status, segments, fault_of_line)?;
+        let status = self.engine.clip(segments, &settings(solver, fill_rule, self.width), invert, boundary_included);
+        outcome(status, segments, |segment| fault_of_line(segment, self.width))?;
         Ok(self.graph())
     }
 
@@ -431,10 +456,12 @@ impl Overlay {
         solver: Solver,
         walks: bool,
     ) -> Result<(), Error> {
-        let status = self.engine.overlay(segments, &settings(solver, fill_rule), overlay_rule.code(), walks);
-        outcome(status, segments, fault_of)
+        let status =
+            self.engine.overlay(segments, &settings(solver, fill_rule, self.width), overlay_rule.code(), walks);
+        outcome(status, segments, |segment| fault_of(segment, self.width))
     }
 
+    /// What the last split or join did.
     fn change(&mut self) -> Change {
         let ffi::Sizes { has_changed, passes, .. } = self.engine.sizes();
         Change { has_changed, passes }
@@ -466,12 +493,13 @@ impl fmt::Debug for Overlay {
     }
 }
 
-fn settings(solver: Solver, fill_rule: FillRule) -> ffi::Settings {
+fn settings(solver: Solver, fill_rule: FillRule, engine: Engine) -> ffi::Settings {
     ffi::Settings {
         start: solver.precision.start,
         progression: solver.precision.progression,
         strategy: solver.strategy as u8,
         fill_rule: fill_rule as u8,
+        engine: engine as u8,
     }
 }
 

@@ -1,5 +1,7 @@
 //! Points and contours.
 
+use std::ops::RangeInclusive;
+
 /// A point. Points are ordered by `x`, then by `y`.
 #[repr(C)]
 #[derive(Clone, Copy, Debug, Default, PartialEq, Eq, PartialOrd, Ord, Hash)]
@@ -32,6 +34,36 @@ pub const MIN_COORD: i32 = -1_073_741_824;
 
 /// The greatest coordinate that a call takes, 2^30 - 1.
 pub const MAX_COORD: i32 = 1_073_741_823;
+
+/// The integers that an [`Overlay`](crate::Overlay) calculates with.
+///
+/// The answer is a matter of the engine only where crossings move: that of 16 bits lets their radius grow less far.
+#[repr(u8)]
+#[derive(Clone, Copy, Debug, Default, PartialEq, Eq, Hash)]
+pub enum Engine {
+    /// Coordinates from -2^30 to 2^30 - 1.
+    #[default]
+    I32 = 0,
+    /// Coordinates from -2^14 to 2^14 - 1.
+    I16 = 1,
+}
+
+impl Engine {
+    /// The least and the greatest coordinate.
+    ///
+    /// ```
+    /// use i_overlay_core::{Engine, MAX_COORD};
+    ///
+    /// assert_eq!(Engine::I16.range(), -16_384..=16_383);
+    /// assert_eq!(*Engine::I32.range().end(), MAX_COORD);
+    /// ```
+    pub const fn range(self) -> RangeInclusive<i32> {
+        match self {
+            Engine::I32 => MIN_COORD..=MAX_COORD,
+            Engine::I16 => -16_384..=16_383,
+        }
+    }
+}
 
 /// A contour: each point is joined to the next one, and the last to the first.
 pub type IntContour = Vec<IntPoint>;

@@ -4,8 +4,8 @@ mod common;
 
 use common::Random;
 use i_overlay_core::{
-    cross, square, Change, ClipRule, CollinearMask, CrossResult, CrossType, DataSegment, Error, Fault, FillRule,
-    IntPoint, LineSegment, Overlay, OverlayNode, OverlayRule, Precision, RuleTable, Segment, SegmentFault,
+    cross, square, Change, ClipRule, CollinearMask, CrossResult, CrossType, DataSegment, Engine, Error, Fault,
+    FillRule, IntPoint, LineSegment, Overlay, OverlayNode, OverlayRule, Precision, RuleTable, Segment, SegmentFault,
     ShapeCountBoolean, ShapeType, Solver, Strategy, MAX_COORD, MIN_COORD,
 };
 use std::collections::HashMap;
@@ -288,6 +288,51 @@ fn bad_segments() {
     }
     let edge = [step((MIN_COORD, MIN_COORD), (MAX_COORD, MAX_COORD), -i32::MAX, i32::MAX)];
     assert!(overlay.build_graph(&edge, FillRule::NonZero, OverlayRule::Union).is_ok());
+}
+
+/// The engine of 16 bits takes its whole range and no more, and names the segment that leaves it.
+#[test]
+fn the_range_of_each_engine() {
+    let mut overlay = Overlay::new().unwrap().with_engine(Engine::I16);
+    let count = ShapeType::Subject.direct_count();
+    let step = |a: (i32, i32), b: (i32, i32)| Segment { a: IntPoint::new(a.0, a.1), b: IntPoint::new(b.0, b.1), count };
+    let widest = step((-16_384, 16_383), (16_383, -16_384));
+    assert!(!overlay.split(&[widest], Solver::AUTO).unwrap().has_changed);
+    assert_eq!(overlay.segments(), [widest]);
+    let range = |index| Err(Error::Segment { index, fault: SegmentFault::Range });
+    for bad in [step((0, 0), (16_384, 0)), step((0, -16_385), (1, 0)), step((i32::MIN, 0), (65_536, 0))] {
+        let given = [widest, bad];
+        assert_eq!(overlay.split(&given, Solver::AUTO), range(1));
+        assert!(overlay.segments().is_empty());
+        assert_eq!(overlay.join(&given), range(1));
+        assert_eq!(overlay.build_all(&given, FillRule::NonZero, Solver::AUTO).err(), range(1).err());
+        let data =
+            overlay.build_graph_with_data(&numbered(&given, 0), FillRule::NonZero, OverlayRule::Union, Solver::AUTO);
+        assert_eq!(data.err(), range(1).err());
+        let line = LineSegment::line(bad.a, bad.b);
+        assert_eq!(
+            overlay.build_clip(&[line], FillRule::NonZero, ClipRule::default(), Solver::AUTO).err(),
+            range(0).err()
+        );
+    }
+    overlay = overlay.with_engine(Engine::I32);
+    assert!(overlay.split(&[step((0, 0), (16_384, 0))], Solver::AUTO).is_ok());
+}
+
+/// Where crossings have whole coordinates both engines answer the same.
+#[test]
+fn both_engines_on_exact_input() {
+    let [mut wide, mut narrow] = [Engine::I32, Engine::I16].map(|engine| Overlay::new().unwrap().with_engine(engine));
+    let sides = numbered(&two_squares(), 3);
+    for (fill, rule) in FILLS.iter().flat_map(|&fill| RULES.map(|rule| (fill, rule))) {
+        let first = wide.build_graph_with_data(&sides, fill, rule, Solver::AUTO).unwrap();
+        let second = narrow.build_graph_with_data(&sides, fill, rule, Solver::AUTO).unwrap();
+        assert_eq!((first.links(), first.data()), (second.links(), second.data()));
+        assert!(first.nodes().eq(second.nodes()));
+        assert_eq!(wide.segments(), narrow.segments());
+        let contours = |overlay: &mut Overlay| overlay.build_contours(&two_squares(), fill, rule, Solver::AUTO);
+        assert_eq!(contours(&mut wide), contours(&mut narrow));
+    }
 }
 
 #[test]

@@ -6,7 +6,7 @@ mod common;
 
 use common::Random;
 use i_overlay_core::{
-    FillRule, IntPoint, Overlay, OverlayNode, OverlayRule, Precision, Segment, ShapeType, Solver, Strategy,
+    Engine, FillRule, IntPoint, Overlay, OverlayNode, OverlayRule, Precision, Segment, ShapeType, Solver, Strategy,
 };
 use std::fmt::Write as _;
 use std::io::Write as _;
@@ -40,6 +40,9 @@ const RULES: [(&str, OverlayRule); 7] = [
     ("inverse-difference", OverlayRule::InverseDifference),
     ("xor", OverlayRule::Xor),
 ];
+
+/// The engines, each with the width of a square round the origin that it has room for.
+const ENGINES: [(&str, Engine, i32); 2] = [("i32", Engine::I32, 1 << 30), ("i16", Engine::I16, 1 << 15)];
 
 /// What the program prints of the given lines.
 fn printed(words: &[String], lines: &str) -> String {
@@ -136,14 +139,22 @@ fn package_and_program_agree() {
     let mut overlay = Overlay::new().unwrap();
     let mut random = Random(11);
     for round in 0..300 {
+        let engine = *pick(&mut random, &ENGINES);
+        overlay = overlay.with_engine(engine.1);
         let segments = {
-            let width = *pick(&mut random, &[6, 40, 2000, 1 << 30]);
+            let width = *pick(&mut random, &[6, 40, 2000, engine.2]);
             sides(&mut random, width)
         };
         let (strategy, precision) = (*pick(&mut random, &STRATEGIES), *pick(&mut random, &PRECISIONS));
         let (fill, rule) = (*pick(&mut random, &FILLS), *pick(&mut random, &RULES));
         let solver = Solver { strategy: strategy.1, precision: precision.1 };
-        let chosen = [("strategy", strategy.0), ("precision", precision.0), ("fill", fill.0), ("rule", rule.0)];
+        let chosen = [
+            ("engine", engine.0),
+            ("strategy", strategy.0),
+            ("precision", precision.0),
+            ("fill", fill.0),
+            ("rule", rule.0),
+        ];
         let words = |command: &str| {
             let settings = chosen.iter().map(|(name, value)| format!("{name}={value}"));
             std::iter::once(command.to_string()).chain(settings).collect::<Vec<_>>()

@@ -8,7 +8,6 @@ use Rattle.std.proofs.lemmas.Bool.{or_left}
 use Rattle.std.proofs.lemmas.List.Elements.{All-map}
 use Rattle.std.proofs.lemmas.List.Folds.{list_all-map}
 use Rattle.std.proofs.lemmas.Simd.{map-map}
-use Rattle.overlay_geometry.specs.Coordinates.{least_coordinate, greatest_coordinate}
 use Rattle.overlay_geometry.specs.Points.{Point, Pair, point_lt, is_ordered}
 use Rattle.overlay_base.specs.Planar.{is_splittable}
 use Rattle.overlay_base.specs.Rules.{holds, keeps_fill}
@@ -33,7 +32,7 @@ use Rattle.i_overlay.specs.Headline.{IsSplit, IsOverlay, IsRefused, IsDataAfter,
 use Rattle.overlay_c.specs.Kept.{given_by, are_usable, engine_settings, TaggedLink, KeepsData}
 use Rattle.overlay_c.specs.Records.{asks, asked_by, link_by, piece_of, fill_rule_of}
 use Rattle.overlay_c.specs.Tags.{keeping, with_tag, untagged, tagged_by}
-use Rattle.overlay_c.specs.declared.engine.Engine.{Engine}
+use Rattle.overlay_c.specs.declared.cores.Core.{Core}
 use Rattle.overlay_c.specs.declared.records.SettingsRecord.{SettingsRecord}
 use Rattle.overlay_c.specs.declared.refusal.Refusal.{Refusal}
 use Rattle.overlay_c.specs.declared.refusal.Refusal.TheVariants.{Refused}
@@ -63,16 +62,16 @@ pub bare_tagged : (rs : List TaggedRecord) → without_data (tagged_by rs) ≡ g
 bare_tagged [] = refl
 bare_tagged (r ∷ rs) = ap (λ l. asked_by r.segment ∷ l) (bare_tagged rs)
 
-asks-map : (rs : List TaggedRecord) → list_all asks (untagged rs) ≡ list_all (λ r. asks r.segment) rs
-asks-map rs = list_all-map asks (λ (r : TaggedRecord). r.segment) rs
+asks-map : (least greatest : ℤ) (rs : List TaggedRecord) → list_all (asks least greatest) (untagged rs) ≡ list_all (λ r. asks least greatest r.segment) rs
+asks-map least greatest rs = list_all-map (asks least greatest) (λ (r : TaggedRecord). r.segment) rs
 
-pub unusable_by : (rs : List TaggedRecord) → false ≡ list_all (λ r. asks r.segment) rs → are_usable (untagged rs) ≡ false
-unusable_by rs e = ap (λ all. all && is_splittable least_coordinate greatest_coordinate (given_by (untagged rs))) (asks-map rs ∙ sym e)
+pub unusable_by : (least greatest : ℤ) (rs : List TaggedRecord) → false ≡ list_all (λ r. asks least greatest r.segment) rs → are_usable least greatest (untagged rs) ≡ false
+unusable_by least greatest rs e = ap (λ all. all && is_splittable least greatest (given_by (untagged rs))) (asks-map least greatest rs ∙ sym e)
 
-pub usable_by : (rs : List TaggedRecord) (list : List WholeSegment) (splittable : Bool) → true ≡ list_all (λ r. asks r.segment) rs → list ≡ without_data (tagged_by rs) → splittable ≡ is_splittable least_coordinate greatest_coordinate list
-    → are_usable (untagged rs) ≡ splittable
-usable_by rs list splittable ea el es =
-    ap₂ (λ all one. all && one) (asks-map rs ∙ sym ea) (ap (is_splittable least_coordinate greatest_coordinate) (sym (el ∙ bare_tagged rs)) ∙ sym es)
+pub usable_by : (least greatest : ℤ) (rs : List TaggedRecord) (list : List WholeSegment) (splittable : Bool) → true ≡ list_all (λ r. asks least greatest r.segment) rs → list ≡ without_data (tagged_by rs) → splittable ≡ is_splittable least greatest list
+    → are_usable least greatest (untagged rs) ≡ splittable
+usable_by least greatest rs list splittable ea el es =
+    ap₂ (λ all one. all && one) (asks-map least greatest rs ∙ sym ea) (ap (is_splittable least greatest) (sym (el ∙ bare_tagged rs)) ∙ sym es)
 
 -- ---- hooks
 
@@ -107,24 +106,24 @@ data_after hooks settings loaded now xs segments k IsFirst eb arranged same empt
     let after = (data_after_passes hooks settings loaded (tt {0}) k).0 in
     empty e ∙ sym (none_left _ after (data_is_beside hooks settings loaded (tt {0}) k ∙ ap (λ l. after_passes settings l k) (sym eb) ∙ sym arranged ∙ same ∙ ap without_data (empty e)))
 
-abbrev tagged_link : OverlayLink ℤ Tag → TaggedLink
-tagged_link l = record { link = link_of (λ z. z) l; tag = l.edge_data }
+abbrev tagged_link : {I : Type 0} → (I → ℤ) → OverlayLink I Tag → TaggedLink
+tagged_link whole l = record { link = link_of whole l; tag = l.edge_data }
 
 -- what an engine keeps of data, from what the call below it answers
-pub keeps_data : (settings : SettingsRecord) (rule : OverlayRule) (given : List (DataSegment Tag)) (engine : Engine) (links : List (OverlayLink ℤ Tag)) (s : Settings) (fill : FillRule) (loaded now : List (DataSegment Tag)) (xs : List WholeSegment)
-    → s ≡ engine_settings settings engine → fill ≡ fill_rule_of settings.fill_rule → loaded ≡ given → xs ≡ without_data loaded → map link_by engine.links.items ≡ map (link_of (λ z. z)) links → engine.link_data.items ≡ map (λ l. l.edge_data) links
-    → map (λ l. l.edge_data) links ≡ data_by (keeps_fill (holds rule)) fill now → now ≡ (data_after_passes keeping s loaded (tt {0}) (passes_of engine.splitter)).0
+pub keeps_data : {I : Type 0} {w : _} {o : _} {e : _} {p : _} (settings : SettingsRecord) (rule : OverlayRule) (given : List (DataSegment Tag)) (core : Core I w o e p) (whole : I → ℤ) (links : List (OverlayLink I Tag)) (s : Settings) (fill : FillRule) (loaded now : List (DataSegment Tag)) (xs : List WholeSegment)
+    → s ≡ engine_settings settings core → fill ≡ fill_rule_of settings.fill_rule → loaded ≡ given → xs ≡ without_data loaded → map link_by core.links.items ≡ map (link_of whole) links → core.link_data.items ≡ map (λ l. l.edge_data) links
+    → map (λ l. l.edge_data) links ≡ data_by (keeps_fill (holds rule)) fill now → now ≡ (data_after_passes keeping s loaded (tt {0}) (passes_of core.splitter)).0
     → ((has : Tag → Bool) → IsTrue (list_all (λ s. has s.edge_data) loaded) → IsTrue (list_all (λ l. has l.edge_data) links))
-    → ((names : Tag → Pair → Bool) → NameNear names 0 loaded → LinksNameNear (λ z. z) names (reach_of_run s xs (passes_of engine.splitter)) links)
-    → KeepsData settings rule given engine
-keeps_data settings rule given engine links s fill loaded now xs es ef ex eb el ed told after kept named = record {
-  links = map tagged_link links;
-  same_links = map-map (λ (l : TaggedLink). l.link) tagged_link links ∙ sym el;
-  same_data = map-map (λ (l : TaggedLink). l.tag) tagged_link links ∙ sym ed;
-  edge_data = ed ∙ told ∙ ap (data_by (keeps_fill (holds rule)) fill) after ∙ (λ i. data_by (keeps_fill (holds rule)) (ef i) (data_after_passes keeping (es i) (ex i) (tt {0}) (passes_of engine.splitter)).0);
-  kept_data = λ has all. ap (list_all has) ed ∙ list_all-map has (λ (l : OverlayLink ℤ Tag). l.edge_data) links ∙ kept has (subst (λ (xs : List (DataSegment Tag)). IsTrue (list_all (λ s. has s.edge_data) xs)) (sym ex) all);
-  named_data = λ names near. All-map (λ (l : TaggedLink). (s : Pair) → IsTrue (names l.tag s) → LiesNear (reach_of_run (engine_settings settings engine) (without_data given) (passes_of engine.splitter)) l.link.pair s) tagged_link links
-      (subst (λ (n : ℕ). LinksNameNear (λ z. z) names n links) (λ i. reach_of_run (es i) ((eb ∙ ap (λ l. without_data l) ex) i) (passes_of engine.splitter)) (named names (subst (λ (xs : List (DataSegment Tag)). NameNear names 0 xs) (sym ex) near)));
+    → ((names : Tag → Pair → Bool) → NameNear names 0 loaded → LinksNameNear whole names (reach_of_run s xs (passes_of core.splitter)) links)
+    → KeepsData settings rule given core
+keeps_data settings rule given core whole links s fill loaded now xs es ef ex eb el ed told after kept named = record {
+  links = map (tagged_link whole) links;
+  same_links = map-map (λ (l : TaggedLink). l.link) (tagged_link whole) links ∙ sym el;
+  same_data = map-map (λ (l : TaggedLink). l.tag) (tagged_link whole) links ∙ sym ed;
+  edge_data = ed ∙ told ∙ ap (data_by (keeps_fill (holds rule)) fill) after ∙ (λ i. data_by (keeps_fill (holds rule)) (ef i) (data_after_passes keeping (es i) (ex i) (tt {0}) (passes_of core.splitter)).0);
+  kept_data = λ has all. ap (list_all has) ed ∙ list_all-map has (λ (l : OverlayLink _ Tag). l.edge_data) links ∙ kept has (subst (λ (xs : List (DataSegment Tag)). IsTrue (list_all (λ s. has s.edge_data) xs)) (sym ex) all);
+  named_data = λ names near. All-map (λ (l : TaggedLink). (s : Pair) → IsTrue (names l.tag s) → LiesNear (reach_of_run (engine_settings settings core) (without_data given) (passes_of core.splitter)) l.link.pair s) (tagged_link whole) links
+      (subst (λ (n : ℕ). LinksNameNear whole names n links) (λ i. reach_of_run (es i) ((eb ∙ ap (λ l. without_data l) ex) i) (passes_of core.splitter)) (named names (subst (λ (xs : List (DataSegment Tag)). NameNear names 0 xs) (sym ex) near)));
 }
 
 -- ---- the same list elsewhere

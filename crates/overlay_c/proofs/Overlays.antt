@@ -13,12 +13,12 @@ use Rattle.overlay_geometry.specs.Points.{Point}
 use Rattle.overlay_contours.specs.Polygons.{IsPolygonOverlay}
 use Rattle.overlay_c.specs.Kept.{AreLaid}
 
--- settings of 32 bits, by their parts
-abbrev set_to : ℕ → ℕ → ℕ → Settings
-set_to start progression limit = record { start = start; progression = progression; cap = exponent_cap 32; limit = limit }
+-- settings of an engine of so many bits, by their parts
+abbrev set_to : ℕ → ℕ → ℕ → ℕ → Settings
+set_to bits start progression limit = record { start = start; progression = progression; cap = exponent_cap bits; limit = limit }
 
-pub same_settings : (s t p q l m : ℕ) → s ≡ t → p ≡ q → l ≡ m → set_to s p l ≡ set_to t q m
-same_settings s t p q l m es ep el = λ i. set_to (es i) (ep i) (el i)
+pub same_settings : (bits s t p q l m : ℕ) → s ≡ t → p ≡ q → l ≡ m → set_to bits s p l ≡ set_to bits t q m
+same_settings bits s t p q l m es ep el = λ i. set_to bits (es i) (ep i) (el i)
 
 pub same_overlay : (s t : Settings) (f g : FillRule) (r : Bool → Bool → Bool) (xs ys segments : List WholeSegment) (passes : ℕ) (graph : Graph) → s ≡ t → f ≡ g → xs ≡ ys
     → IsOverlay s f r xs segments passes graph → IsOverlay t g r ys segments passes graph

@@ -33,7 +33,7 @@ contours_in engine shape = of_shape shape (subject_of engine.polygons) (clip_of 
 
 -- what an overlay of contours is set to: its first 256 passes snap
 abbrev pub polygon_settings : SettingsRecord → Settings
-polygon_settings settings = settings_by settings 256
+polygon_settings settings = settings_by 32 settings 256
 
 -- it keeps the contours of an overlay of the contours that another was given
 pub record KeepsPolygons (settings : SettingsRecord) (rule : OverlayRule) (before after : Engine) : Type 0 where
@@ -55,4 +55,4 @@ IsPolygonRefusal settings engine OutOfRange = ⊥
 
 -- what segments left of a call stays
 abbrev pub SameSplit : Engine → Engine → Type 0
-SameSplit before after = (after.splitter ≡ before.splitter) × (after.segments ≡ before.segments)
+SameSplit before after = (after.narrow ≡ before.narrow) × (after.wide ≡ before.wide) × (after.is_narrow ≡ before.is_narrow)

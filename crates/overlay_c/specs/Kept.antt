@@ -1,7 +1,6 @@
 -- What an engine keeps of its last answer.
-use Rattle.std.specs.Prelude.{◌≡◌, ◌⊎◌, ℕ, ◌&&◌, Bool, true, List, [], IsTrue, All, map, flat_map, length}
+use Rattle.std.specs.Prelude.{◌≡◌, ◌⊎◌, ℕ, ℤ, ◌<◌, ◌^◌, ◌&&◌, Bool, true, List, [], IsTrue, All, map, flat_map, length}
 use Rattle.std.specs.List.{list_all}
-use Rattle.overlay_geometry.specs.Coordinates.{least_coordinate, greatest_coordinate}
 use Rattle.overlay_geometry.specs.Points.{Pair}
 use Rattle.overlay_base.specs.EdgeData.{DataSegment, without_data}
 use Rattle.overlay_base.specs.Planar.{is_splittable}
@@ -27,62 +26,63 @@ use Rattle.overlay_c.specs.Tags.{keeping}
 use Rattle.overlay_c.specs.declared.records.LineRecord.{LineRecord}
 use Rattle.overlay_c.specs.declared.records.SegmentRecord.{SegmentRecord}
 use Rattle.overlay_c.specs.declared.records.SettingsRecord.{SettingsRecord}
-use Rattle.overlay_c.specs.declared.engine.Engine.{Engine}
+use Rattle.overlay_c.specs.declared.records.SizesRecord.{SizesRecord}
+use Rattle.overlay_c.specs.declared.cores.Core.{Core}
 use Rattle.overlay_c.specs.declared.tags.Tag.{Tag}
 
 -- the segments that records ask for, and whether each asks for one and all may be split
 abbrev pub given_by : List SegmentRecord → List WholeSegment
 given_by records = map asked_by records
 
-abbrev pub are_usable : List SegmentRecord → Bool
-are_usable records = list_all asks records && is_splittable least_coordinate greatest_coordinate (given_by records)
+abbrev pub are_usable : ℤ → ℤ → List SegmentRecord → Bool
+are_usable least greatest records = list_all (asks least greatest) records && is_splittable least greatest (given_by records)
 
-abbrev pub are_lines_usable : List LineRecord → Bool
-are_lines_usable records = list_all line_asks records && is_splittable least_coordinate greatest_coordinate (map line_asked_by records)
+abbrev pub are_lines_usable : ℤ → ℤ → List LineRecord → Bool
+are_lines_usable least greatest records = list_all (line_asks least greatest) records && is_splittable least greatest (map line_asked_by records)
 
 -- lists, as their lengths and all that stands in them
 abbrev pub AreLaid : {A : Type 0} → List (List A) → List ℕ → List A → Type 0
 AreLaid lists lengths all = (lengths ≡ map length lists) × (all ≡ flat_map (λ list. list) lists)
 
 -- its records are those of a graph
-pub record KeepsGraph (engine : Engine) (graph : Graph) : Type 0 where
-  pub links : map link_by engine.links.items ≡ graph.links
-  pub nodes : AreLaid (map (λ n. n.links) graph.nodes) engine.degrees.items engine.indexes.items
+pub record KeepsGraph {I : Type 0} {w : _} {o : _} {e : _} {p : _} (core : Core I w o e p) (graph : Graph) : Type 0 where
+  pub links : map link_by core.links.items ≡ graph.links
+  pub nodes : AreLaid (map (λ n. n.links) graph.nodes) core.degrees.items core.indexes.items
 
 -- it has closed walks where they were asked for and evenly many links meet at each node
-pub record KeepsWalks (asked : Bool) (engine : Engine) (graph : Graph) : Type 0 where
-  pub has_walks : engine.has_walks ≡ (asked && has_even_nodes graph)
-  pub walks : IsTrue engine.has_walks → ((walks : List (List ℕ)) × AreClosedWalks graph.links walks × AreLaid walks engine.walk_lengths.items engine.walk_links.items)
+pub record KeepsWalks {I : Type 0} {w : _} {o : _} {e : _} {p : _} (asked : Bool) (core : Core I w o e p) (graph : Graph) : Type 0 where
+  pub has_walks : core.has_walks ≡ (asked && has_even_nodes graph)
+  pub walks : IsTrue core.has_walks → ((walks : List (List ℕ)) × AreClosedWalks graph.links walks × AreLaid walks core.walk_lengths.items core.walk_links.items)
 
 -- what a run of the engine is set to
-abbrev pub engine_settings : SettingsRecord → Engine → Settings
-engine_settings settings engine = settings_by settings (snap_limit_of engine.splitter)
+abbrev pub engine_settings : {I : Type 0} {w : _} {o : _} {e : _} {p : _} → SettingsRecord → Core I w o e p → Settings
+engine_settings {w = w} settings core = settings_by w.BITS settings (snap_limit_of core.splitter)
 
 -- it keeps the arrangement of what was given, and whether that is anything else
-pub record KeepsSplit (settings : SettingsRecord) (given : List WholeSegment) (engine : Engine) : Type 0 where
-  pub split : IsSplit (engine_settings settings engine) given (segments_of engine.segments.items) (passes_of engine.splitter)
-  pub run : IsRun (engine_settings settings engine) given (segments_of engine.segments.items) (passes_of engine.splitter) engine.has_changed
+pub record KeepsSplit {I : Type 0} {w : _} {o : _} {e : _} {p : _} (settings : SettingsRecord) (given : List WholeSegment) (core : Core I w o e p) : Type 0 where
+  pub split : IsSplit (engine_settings settings core) given (segments_of core.segments.items) (passes_of core.splitter)
+  pub run : IsRun (engine_settings settings core) given (segments_of core.segments.items) (passes_of core.splitter) core.has_changed
 
 -- it keeps the arrangement of what was given, and the graph of all of it
-pub record KeepsAll (settings : SettingsRecord) (given : List WholeSegment) (engine : Engine) : Type 0 where
-  pub split : IsSplit (engine_settings settings engine) given (segments_of engine.segments.items) (passes_of engine.splitter)
+pub record KeepsAll {I : Type 0} {w : _} {o : _} {e : _} {p : _} (settings : SettingsRecord) (given : List WholeSegment) (core : Core I w o e p) : Type 0 where
+  pub split : IsSplit (engine_settings settings core) given (segments_of core.segments.items) (passes_of core.splitter)
   pub graph : Graph
-  pub links : graph ≡ graph_by (λ _. true) (fill_rule_of settings.fill_rule) (segments_of engine.segments.items)
-  pub kept : KeepsGraph engine graph
+  pub links : graph ≡ graph_by (λ _. true) (fill_rule_of settings.fill_rule) (segments_of core.segments.items)
+  pub kept : KeepsGraph core graph
 
 -- it keeps the arrangement of polygons and lines, and the graph of what a clip rule keeps of them
-pub record KeepsClip (settings : SettingsRecord) (rule : ClipRule) (given : List WholeSegment) (engine : Engine) : Type 0 where
+pub record KeepsClip {I : Type 0} {w : _} {o : _} {e : _} {p : _} (settings : SettingsRecord) (rule : ClipRule) (given : List WholeSegment) (core : Core I w o e p) : Type 0 where
   pub graph : Graph
-  pub clip : IsClip (engine_settings settings engine) (fill_rule_of settings.fill_rule) rule given (segments_of engine.lines.items) (passes_of engine.splitter) graph
-  pub kept : KeepsGraph engine graph
+  pub clip : IsClip (engine_settings settings core) (fill_rule_of settings.fill_rule) rule given (segments_of core.lines.items) (passes_of core.splitter) graph
+  pub kept : KeepsGraph core graph
 
 -- it keeps the arrangement of what was given, and the graph of an overlay
-pub record KeepsOverlay (settings : SettingsRecord) (rule : OverlayRule) (walks : Bool) (given : List WholeSegment) (engine : Engine) : Type 0 where
+pub record KeepsOverlay {I : Type 0} {w : _} {o : _} {e : _} {p : _} (settings : SettingsRecord) (rule : OverlayRule) (walks : Bool) (given : List WholeSegment) (core : Core I w o e p) : Type 0 where
   pub graph : Graph
-  pub overlay : IsOverlay (engine_settings settings engine) (fill_rule_of settings.fill_rule) (holds rule) given (segments_of engine.segments.items) (passes_of engine.splitter) graph
-  pub region : IsBalanced given → EnclosesOverlay (engine_settings settings engine) rule (fill_rule_of settings.fill_rule) given (passes_of engine.splitter) graph
-  pub kept : KeepsGraph engine graph
-  pub kept_walks : KeepsWalks walks engine graph
+  pub overlay : IsOverlay (engine_settings settings core) (fill_rule_of settings.fill_rule) (holds rule) given (segments_of core.segments.items) (passes_of core.splitter) graph
+  pub region : IsBalanced given → EnclosesOverlay (engine_settings settings core) rule (fill_rule_of settings.fill_rule) given (passes_of core.splitter) graph
+  pub kept : KeepsGraph core graph
+  pub kept_walks : KeepsWalks walks core graph
 
 -- a link with its data
 pub record TaggedLink : Type 0 where
@@ -90,40 +90,54 @@ pub record TaggedLink : Type 0 where
   pub tag : Tag
 
 -- it keeps the data of each link of an overlay
-pub record KeepsData (settings : SettingsRecord) (rule : OverlayRule) (given : List (DataSegment Tag)) (engine : Engine) : Type 0 where
+pub record KeepsData {I : Type 0} {w : _} {o : _} {e : _} {p : _} (settings : SettingsRecord) (rule : OverlayRule) (given : List (DataSegment Tag)) (core : Core I w o e p) : Type 0 where
   -- these are the links, each with its data
   pub links : List TaggedLink
-  pub same_links : map (λ l. l.link) links ≡ map link_by engine.links.items
-  pub same_data : map (λ l. l.tag) links ≡ engine.link_data.items
+  pub same_links : map (λ l. l.link) links ≡ map link_by core.links.items
+  pub same_data : map (λ l. l.tag) links ≡ core.link_data.items
   -- it is what the passes make of the given data, of those segments that the rule keeps
-  pub edge_data : engine.link_data.items ≡ data_by (keeps_fill (holds rule)) (fill_rule_of settings.fill_rule) (data_after_passes keeping (engine_settings settings engine) given (tt {0}) (passes_of engine.splitter)).0
+  pub edge_data : core.link_data.items ≡ data_by (keeps_fill (holds rule)) (fill_rule_of settings.fill_rule) (data_after_passes keeping (engine_settings settings core) given (tt {0}) (passes_of core.splitter)).0
   -- what holds of all given data holds of it, so each link has that of a given segment
-  pub kept_data : (has : Tag → Bool) → IsTrue (list_all (λ s. has s.edge_data) given) → IsTrue (list_all has engine.link_data.items)
+  pub kept_data : (has : Tag → Bool) → IsTrue (list_all (λ s. has s.edge_data) given) → IsTrue (list_all has core.link_data.items)
   -- where data names given segments, each link lies as near to all that its data names as the passes reach
   pub named_data : (names : Tag → Pair → Bool) → NameNear names 0 given
-      → All (λ l. (s : Pair) → IsTrue (names l.tag s) → LiesNear (reach_of_run (engine_settings settings engine) (without_data given) (passes_of engine.splitter)) l.link.pair s) links
+      → All (λ l. (s : Pair) → IsTrue (names l.tag s) → LiesNear (reach_of_run (engine_settings settings core) (without_data given) (passes_of core.splitter)) l.link.pair s) links
+
+-- how much it keeps
+pub record TellsSizes {I : Type 0} {w : _} {o : _} {e : _} {p : _} (core : Core I w o e p) (sizes : SizesRecord) : Type 0 where
+  pub segments : sizes.segments ≡ length core.segments.items
+  pub lines : sizes.lines ≡ length core.lines.items
+  pub links : sizes.links ≡ length core.links.items
+  pub link_data : sizes.link_data ≡ length core.link_data.items
+  pub nodes : sizes.nodes ≡ length core.degrees.items
+  pub node_links : sizes.node_links ≡ length core.indexes.items
+  pub walks : sizes.walks ≡ length core.walk_lengths.items
+  pub walk_links : sizes.walk_links ≡ length core.walk_links.items
+  pub has_walks : sizes.has_walks ≡ core.has_walks
+  pub has_changed : sizes.has_changed ≡ core.has_changed
+  pub passes : passes_of core.splitter < 2 ^ 64 → sizes.passes ≡ passes_of core.splitter
 
 -- a count that was refused, in the split or in the build
-abbrev pub IsCountRefused : SettingsRecord → List WholeSegment → Engine → Engine → Type 0
+abbrev pub IsCountRefused : {I : Type 0} {w : _} {o : _} {e : _} {p : _} → SettingsRecord → List WholeSegment → Core I w o e p → Core I w o e p → Type 0
 IsCountRefused settings given before after =
     IsRefused (engine_settings settings before) given (segments_of after.segments.items) (passes_of before.splitter) (passes_of after.splitter) CountOutOfRange
 
 -- the same of polygons and lines
-abbrev pub IsCountOfLinesRefused : SettingsRecord → List WholeSegment → Engine → Engine → Type 0
+abbrev pub IsCountOfLinesRefused : {I : Type 0} {w : _} {o : _} {e : _} {p : _} → SettingsRecord → List WholeSegment → Core I w o e p → Core I w o e p → Type 0
 IsCountOfLinesRefused settings given before after =
     IsRefused (engine_settings settings before) given (segments_of after.lines.items) (passes_of before.splitter) (passes_of after.splitter) CountOutOfRange
 
 -- the same of the graph of all: a sum of the run is too large, or a top of the arrangement that is kept
-abbrev pub IsCountOfAllRefused : SettingsRecord → List WholeSegment → Engine → Engine → Type 0
+abbrev pub IsCountOfAllRefused : {I : Type 0} {w : _} {o : _} {e : _} {p : _} → SettingsRecord → List WholeSegment → Core I w o e p → Core I w o e p → Type 0
 IsCountOfAllRefused settings given before after =
     LeavesRange (engine_settings settings before) given
     ⊎ (IsSplit (engine_settings settings after) given (segments_of after.segments.items) (passes_of after.splitter) × IsTrue (tops_leave_range (segments_of after.segments.items)))
 
 -- what stands after a refusal: nothing, or what the split leaves
-abbrev pub StandsAfter : SettingsRecord → List WholeSegment → Engine → Type 0
-StandsAfter settings given engine =
-    (segments_of engine.segments.items ≡ []) ⊎ IsSplit (engine_settings settings engine) given (segments_of engine.segments.items) (passes_of engine.splitter)
+abbrev pub StandsAfter : {I : Type 0} {w : _} {o : _} {e : _} {p : _} → SettingsRecord → List WholeSegment → Core I w o e p → Type 0
+StandsAfter settings given core =
+    (segments_of core.segments.items ≡ []) ⊎ IsSplit (engine_settings settings core) given (segments_of core.segments.items) (passes_of core.splitter)
 
-abbrev pub LinesStandAfter : SettingsRecord → List WholeSegment → Engine → Type 0
-LinesStandAfter settings given engine =
-    (segments_of engine.lines.items ≡ []) ⊎ IsSplit (engine_settings settings engine) given (segments_of engine.lines.items) (passes_of engine.splitter)
+abbrev pub LinesStandAfter : {I : Type 0} {w : _} {o : _} {e : _} {p : _} → SettingsRecord → List WholeSegment → Core I w o e p → Type 0
+LinesStandAfter settings given core =
+    (segments_of core.lines.items ≡ []) ⊎ IsSplit (engine_settings settings core) given (segments_of core.lines.items) (passes_of core.splitter)

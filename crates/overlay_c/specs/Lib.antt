@@ -1,3 +1,4 @@
+pub mod Calls
 pub mod Contours
 pub mod Crosses
 pub mod Kept
@@ -5,3 +6,4 @@ pub mod Owned
 pub mod Records
 pub mod Status
 pub mod Tags
+pub mod Widths

@@ -1,7 +1,8 @@
 -- What the records that cross to C stand for, in whole numbers.
-use Rattle.std.specs.Prelude.{◌≡◌, ◌==◌, ◌<◌, ◌≤◌, ◌+◌, ◌⊎◌, ℕ, pos, Bool, ◌&&◌, not, if◌then◌else◌}
+use Rattle.std.specs.Prelude.{◌≡◌, ◌==◌, ◌<◌, ◌≤◌, ◌+◌, ◌⊎◌, ℕ, ℤ, pos, Bool, ◌&&◌, not, if◌then◌else◌}
 use Rattle.std.specs.Ordering.{int_eq}
 use Rattle.overlay_geometry.specs.Points.{Point, point_lt}
+use Rattle.overlay_geometry.specs.Coordinates.{is_point_in_range}
 use Rattle.overlay_base.specs.Windings.{Winding, inverse, is_valid}
 use Rattle.overlay_base.specs.Segments.{WholeSegment}
 use Rattle.overlay_base.specs.Radius.{exponent_cap}
@@ -36,9 +37,9 @@ piece_of count p q =
     then record { pair = record { a = p; b = q }; count = count }
     else record { pair = record { a = q; b = p }; count = inverse count }
 
--- whether it asks for a segment: its ends differ, and its count is valid
-abbrev pub asks : SegmentRecord → Bool
-asks r = not (int_eq r.ax r.bx && int_eq r.ay r.by) && is_valid (count_of r)
+-- whether it asks for a segment: its ends lie from the least to the greatest coordinate of an engine and differ, and its count is valid
+abbrev pub asks : ℤ → ℤ → SegmentRecord → Bool
+asks least greatest r = is_point_in_range least greatest (start_of r) && is_point_in_range least greatest (end_of r) && (not (int_eq r.ax r.bx && int_eq r.ay r.by) && is_valid (count_of r))
 
 -- the segment that it asks for
 abbrev pub asked_by : SegmentRecord → WholeSegment
@@ -54,8 +55,8 @@ line_end_of r = record { x = r.bx; y = r.by }
 abbrev pub line_count_of : LineRecord → Winding
 line_count_of r = record { subj = r.subj; clip = pos 0; mask = r.mask }
 
-abbrev pub line_asks : LineRecord → Bool
-line_asks r = not (int_eq r.ax r.bx && int_eq r.ay r.by) && is_valid (line_count_of r)
+abbrev pub line_asks : ℤ → ℤ → LineRecord → Bool
+line_asks least greatest r = is_point_in_range least greatest (line_start_of r) && is_point_in_range least greatest (line_end_of r) && (not (int_eq r.ax r.bx && int_eq r.ay r.by) && is_valid (line_count_of r))
 
 abbrev pub line_asked_by : LineRecord → WholeSegment
 line_asked_by r = piece_of (line_count_of r) (line_start_of r) (line_end_of r)
@@ -79,9 +80,13 @@ fill_rule_of code = if code == 0 then fill.EvenOdd else if code == 1 then fill.N
 abbrev pub shape_of : ℕ → ShapeType
 shape_of code = if code == 0 then Subject else Clip
 
--- the settings that these and a snap limit make, for coordinates of 32 bits
-abbrev pub settings_by : SettingsRecord → ℕ → Settings
-settings_by r limit = record { start = r.start; progression = r.progression; cap = exponent_cap 32; limit = limit }
+-- whether a code names the engine of 16 bits
+abbrev pub names_narrow : ℕ → Bool
+names_narrow code = not (code == 0)
+
+-- the settings that these and a snap limit make, for coordinates of so many bits
+abbrev pub settings_by : ℕ → SettingsRecord → ℕ → Settings
+settings_by bits r limit = record { start = r.start; progression = r.progression; cap = exponent_cap bits; limit = limit }
 
 -- the overlay rule of a code: a number for each name, and 16 more than its number for a table; any other code is Xor
 abbrev pub IsRuleOf : ℕ → OverlayRule → Type 0

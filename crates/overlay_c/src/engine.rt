@@ -1,69 +1,33 @@
-// The engine behind a handle: a splitter, builders, and the records of their last answers.
-ghost use Rattle.std.specs.Prelude.{◌≡◌, ◌≢◌, [], true, IsTrue, IsFalse, OnOk, OnErr, IfOk, IfErr, map, length, flat_map};
-ghost use Rattle.std.specs.List.{list_all};
-ghost use Rattle.overlay_base.specs.ArrangedOf.{IsSplittable};
-ghost use Rattle.overlay_base.specs.SegmentOf.{segments_of};
-ghost use Rattle.overlay_base.specs.declared.segm.fault.Fault.TheVariants.{CountOutOfRange};
-ghost use Rattle.overlay_build.specs.GraphOf.{link_of};
-ghost use Rattle.overlay_build.specs.NodeIndexes.{indexes_of};
-ghost use Rattle.overlay_c.specs.Kept.{given_by, are_usable, are_lines_usable};
-ghost use Rattle.overlay_c.specs.Records.{asks, asked_by, line_asked_by, link_by};
-ghost use Rattle.overlay_c.specs.declared.refusal.Refusal.TheVariants.{Refused, NotSplittable};
+// The engine behind a handle: what splits and builds, and what overlays contours.
+ghost use Rattle.std.specs.Prelude.{◌≡◌, ◌∷◌, ◌++◌, [], false, IsTrue, IsFalse, OnOk, OnErr, IfErr, map, length};
+ghost use Rattle.overlay_c.specs.Calls.{MaySplit, MayNotSplit, MaySplitLines, MayNotSplitLines};
+ghost use Rattle.overlay_c.specs.Status.{OnUnusable, OnTooLarge};
 
 use crate::contours::{PointRecord, keep_contours, load_points};
-use crate::lines::{self, Line};
+use crate::cores::Core;
+use crate::lines;
 use crate::records::{
-    LineRecord, LinkRecord, SegmentRecord, SettingsRecord, Side, asked, fill_rule, link, solver,
+    LineRecord, LinkRecord, SegmentRecord, SettingsRecord, SizesRecord, fill_rule, solver, tell_all,
 };
 use crate::refusal::Refusal;
-use crate::tags::{self, Tag, TaggedRecord, TaggedSide, keep_tags, keep_untagged};
-use i_overlay::clip::split_and_build_clip;
-use i_overlay::overlay::split_and_build_overlay;
+use crate::tags::{Tag, TaggedRecord};
+use crate::width::is_narrow;
 use overlay_base::overlay_core::clip_rule::ClipRule;
-use overlay_base::overlay_core::link::OverlayLink;
 use overlay_base::overlay_core::overlay_rule::OverlayRule;
-use overlay_base::segm::arranged::is_splittable;
-use overlay_base::segm::boolean::ShapeCountBoolean;
-use overlay_base::segm::join::join_with_store;
 use overlay_base::segm::shape_type::ShapeType;
-use overlay_base::segm::string::ShapeCountString;
-use overlay_build::build::builder::GraphBuilder;
-use overlay_build::build::graph_node::OverlayNode;
-use overlay_build::build::walks::closed_walks;
 use overlay_contours::overlay::Overlay;
 use overlay_geometry::geom::point::IntPoint;
-use overlay_split::split::solver::SplitSolver;
-use std::alloc::{AllocError, Global};
+use std::alloc::Global;
 
 /// What is kept from one call to the next.
 #[derive(Drop)]
 pub struct Engine {
-    pub splitter: SplitSolver<i32>,
-    pub builder: GraphBuilder<ShapeCountBoolean, OverlayNode, i32, ()>,
-    pub line_builder: GraphBuilder<ShapeCountString, Vec<usize>, i32, ()>,
-    pub tag_builder: GraphBuilder<ShapeCountBoolean, OverlayNode, i32, Tag>,
-    /// The arrangement.
-    pub segments: Vec<Side>,
-    /// The arrangement of polygons and lines.
-    pub lines: Vec<Line>,
-    /// The segments with data that a split is made of, and their arrangement.
-    pub tagged: Vec<TaggedSide>,
-    /// Whether the last split joined equal segments or split one, or the last join joined some.
-    pub has_changed: bool,
-    /// The links of the graph.
-    pub links: Vec<LinkRecord>,
-    /// The data of the links, where segments were given with data.
-    pub link_data: Vec<Tag>,
-    /// How many links meet at each node.
-    pub degrees: Vec<usize>,
-    /// The indexes of the links at the first node, then of those at the next, and so on.
-    pub indexes: Vec<usize>,
-    /// Whether closed walks were asked for and found.
-    pub has_walks: bool,
-    /// How many links each walk has.
-    pub walk_lengths: Vec<usize>,
-    /// The indexes of the links of the first walk, then of those of the next, and so on.
-    pub walk_links: Vec<usize>,
+    /// What splits and builds, for coordinates of 32 bits.
+    pub wide: Core<i32>,
+    /// The same for coordinates of 16 bits.
+    pub narrow: Core<i16>,
+    /// Whether the last call that was given segments took the engine of 16 bits.
+    pub is_narrow: bool,
     /// The contours that are given, and the buffers of their overlays.
     pub polygons: Overlay<i32>,
     /// The points of a contour that is being added.
@@ -75,39 +39,27 @@ pub struct Engine {
 }
 
 impl Engine {
-    ghost use Rattle.std.specs.Prelude.{◌∷◌, ◌++◌, false, Err};
-    ghost use Rattle.overlay_base.specs.ArrangedOf.{IsArranged};
-    ghost use Rattle.overlay_base.specs.Join.{join, join_leaves_range, has_equal_pairs};
-    ghost use Rattle.overlay_split.specs.Run.{LeavesRange};
     ghost use Rattle.overlay_split.specs.SettingsOf.{snap_limit_of};
+    ghost use Rattle.overlay_base.specs.Join.{join, join_leaves_range, has_equal_pairs};
+    ghost use Rattle.overlay_c.specs.Kept.{given_by, are_usable, are_lines_usable};
+    ghost use Rattle.overlay_c.specs.Records.{line_asked_by, told_by, line_told_by, names_narrow};
     ghost use Rattle.overlay_c.specs.Tags.{untagged, tagged_by};
-    ghost use Rattle.overlay_c.specs.Kept.{engine_settings, KeepsData, KeepsSplit, KeepsAll, KeepsOverlay, KeepsClip, IsCountRefused, IsCountOfAllRefused, IsCountOfLinesRefused, StandsAfter, LinesStandAfter};
+    ghost use Rattle.overlay_c.specs.Widths.{least_of, greatest_of, LastKeepsSplit, LastKeepsAll, LastKeepsOverlay, LastKeepsData, LastKeepsClip, LastStandsAfter, LastLinesStandAfter, LastIsCountRefused, LastIsCountOfAllRefused, LastIsCountOfLinesRefused, LastLeavesRange, SameLimits, LastTellsSizes, segment_count, line_count, segments_in, lines_in, has_changed_in, links_in, link_data_in, degrees_in, indexes_in, walk_lengths_in, walk_links_in};
     ghost use Rattle.overlay_base.specs.declared.segm.shape_type.ShapeType.TheVariants.{Subject, Clip};
     ghost use Rattle.overlay_contours.specs.Refusals.{other_shape};
     ghost use Rattle.overlay_c.specs.Contours.{point_by, are_in_range, contours_in, KeepsPolygons, IsPointRefusal, IsPolygonRefusal, SameSplit};
 
     /// An engine, which takes no memory yet.
     pub fn new(alloc: Global, snap_limit: u32) -> Engine
-        ensures limit { snap_limit_of result.splitter ≡ snap_limit }
+        ensures limit { snap_limit_of result.wide.splitter ≡ snap_limit }
+        ensures narrow_limit { snap_limit_of result.narrow.splitter ≡ snap_limit }
         ensures subject { contours_in result Subject ≡ [] }
         ensures clip { contours_in result Clip ≡ [] }
     {
         Engine {
-            splitter: SplitSolver::with_snap_limit(alloc, snap_limit),
-            builder: GraphBuilder::new(alloc),
-            line_builder: GraphBuilder::new(alloc),
-            tag_builder: GraphBuilder::new(alloc),
-            segments: Vec::new(alloc),
-            lines: Vec::new(alloc),
-            tagged: Vec::new(alloc),
-            has_changed: false,
-            links: Vec::new(alloc),
-            link_data: Vec::new(alloc),
-            degrees: Vec::new(alloc),
-            indexes: Vec::new(alloc),
-            has_walks: false,
-            walk_lengths: Vec::new(alloc),
-            walk_links: Vec::new(alloc),
+            wide: Core::new(alloc, snap_limit),
+            narrow: Core::new(alloc, snap_limit),
+            is_narrow: false,
             polygons: Overlay::new(alloc),
             points: Vec::new(alloc),
             contour_lengths: Vec::new(alloc),
@@ -115,11 +67,7 @@ impl Engine {
         }
     }
 
-    /// Splits the segments that records ask for, and keeps the arrangement, the graph of the segments that an overlay
-    /// rule keeps, and closed walks through it where they are asked for and evenly many links meet at each node.
-    ///
-    /// After a refusal the engine can be used again: it keeps no segments, or their arrangement where the split was
-    /// done. Of links, nodes and walks nothing is promised then.
+    /// `Core::overlay` of the engine that the settings name.
     pub fn overlay(
         &mut self,
         alloc: Global,
@@ -128,158 +76,251 @@ impl Engine {
         rule: OverlayRule,
         walks: bool,
     ) -> Result<(), Refusal>
-        ensures kept { OnOk result (KeepsOverlay settings.now rule walks (given_by given.now) self.new) }
-        ensures usable { OnOk result (IsTrue (are_usable given.now)) }
-        ensures unusable { IfErr result (λ refusal. refusal ≡ NotSplittable → IsFalse (are_usable given.now)) }
-        ensures too_large { IfErr result (λ refusal. refusal ≡ Refused CountOutOfRange
-            → IsCountRefused settings.now (given_by given.now) self.old self.new) }
-        ensures stands { OnErr result (StandsAfter settings.now (given_by given.now) self.new) }
-        ensures limit { snap_limit_of self.new.splitter ≡ snap_limit_of self.old.splitter }
+        ensures chosen { self.new.is_narrow ≡ names_narrow settings.now.engine }
+        ensures kept { OnOk result (LastKeepsOverlay settings.now rule walks (given_by given.now) self.new) }
+        ensures usable { OnOk result (MaySplit given.now self.new) }
+        ensures unusable { OnUnusable result (MayNotSplit given.now self.new) }
+        ensures too_large { OnTooLarge result (LastIsCountRefused settings.now (given_by given.now) self.old self.new) }
+        ensures stands { OnErr result (LastStandsAfter settings.now (given_by given.now) self.new) }
+        ensures limit { SameLimits self.old self.new }
         ensures contours { self.new.polygons ≡ self.old.polygons }
     {
-        load_splittable(given, &mut self.segments)?;
-        let solver = solver(settings);
-        let fill_rule = fill_rule(settings.fill_rule);
-        let (splitter, builder) = (&mut self.splitter, &mut self.builder);
-        let segments = &mut self.segments;
-        let graph = split_and_build_overlay(splitter, builder, segments, &solver, fill_rule, rule)?;
-        keep_links(graph.links(), &mut self.links)?;
-        keep_nodes(graph.nodes(), &mut self.degrees, &mut self.indexes)?;
-        self.has_walks = walks && graph.has_even_nodes();
-        if self.has_walks {
-            let found = closed_walks(alloc, &graph)?;
-            keep_lists(&found, &mut self.walk_lengths, &mut self.walk_links)?;
+        if is_narrow(settings.engine) {
+            self.is_narrow = true;
+            self.narrow.overlay(alloc, given, settings, rule, walks)
+        } else {
+            self.is_narrow = false;
+            self.wide.overlay(alloc, given, settings, rule, walks)
         }
-        Ok(())
     }
 
-    /// Does the same without walks, and keeps the data of each link: what the passes make of the data that records have.
+    /// `Core::overlay_with_data` of that engine.
     pub fn overlay_with_data(
         &mut self,
         given: &[TaggedRecord],
         settings: &SettingsRecord,
         rule: OverlayRule,
     ) -> Result<(), Refusal>
-        ensures kept { OnOk result (KeepsOverlay settings.now rule false (given_by (untagged given.now)) self.new) }
-        ensures kept_data { OnOk result (KeepsData settings.now rule (tagged_by given.now) self.new) }
-        ensures usable { OnOk result (IsTrue (are_usable (untagged given.now))) }
-        ensures unusable { IfErr result (λ refusal. refusal ≡ NotSplittable
-            → IsFalse (are_usable (untagged given.now))) }
-        ensures too_large { IfErr result (λ refusal. refusal ≡ Refused CountOutOfRange
-            → IsCountRefused settings.now (given_by (untagged given.now)) self.old self.new) }
-        ensures stands { OnErr result (StandsAfter settings.now (given_by (untagged given.now)) self.new) }
-        ensures limit { snap_limit_of self.new.splitter ≡ snap_limit_of self.old.splitter }
+        ensures chosen { self.new.is_narrow ≡ names_narrow settings.now.engine }
+        ensures kept { OnOk result (LastKeepsOverlay settings.now rule false (given_by (untagged given.now)) self.new) }
+        ensures kept_data { OnOk result (LastKeepsData settings.now rule (tagged_by given.now) self.new) }
+        ensures usable { OnOk result (MaySplit (untagged given.now) self.new) }
+        ensures unusable { OnUnusable result (MayNotSplit (untagged given.now) self.new) }
+        ensures too_large { OnTooLarge result (LastIsCountRefused settings.now (given_by (untagged given.now)) self.old self.new) }
+        ensures stands { OnErr result (LastStandsAfter settings.now (given_by (untagged given.now)) self.new) }
+        ensures limit { SameLimits self.old self.new }
         ensures contours { self.new.polygons ≡ self.old.polygons }
     {
-        self.segments.clear();
-        tags::load_splittable(given, &mut self.tagged)?;
-        let solver = solver(settings);
-        let fill_rule = fill_rule(settings.fill_rule);
-        let (splitter, builder) = (&mut self.splitter, &mut self.tag_builder);
-        let tagged = &mut self.tagged;
-        let built = split_and_build_overlay(splitter, builder, tagged, &solver, fill_rule, rule);
-        keep_untagged(&self.tagged, &mut self.segments)?;
-        let graph = built?;
-        keep_links(graph.links(), &mut self.links)?;
-        keep_tags(graph.links(), &mut self.link_data)?;
-        keep_nodes(graph.nodes(), &mut self.degrees, &mut self.indexes)?;
-        self.has_walks = false;
-        Ok(())
+        if is_narrow(settings.engine) {
+            self.is_narrow = true;
+            self.narrow.overlay_with_data(given, settings, rule)
+        } else {
+            self.is_narrow = false;
+            self.wide.overlay_with_data(given, settings, rule)
+        }
     }
 
-    /// Splits the segments that records ask for, and keeps the arrangement.
+    /// `Core::split` of that engine.
     pub fn split(
         &mut self,
         given: &[SegmentRecord],
         settings: &SettingsRecord,
     ) -> Result<(), Refusal>
-        ensures kept { OnOk result (KeepsSplit settings.now (given_by given.now) self.new) }
-        ensures arranged { OnOk result (IsArranged self.new.segments.items) }
-        ensures usable { OnOk result (IsTrue (are_usable given.now)) }
-        ensures unusable { IfErr result (λ refusal. refusal ≡ NotSplittable → IsFalse (are_usable given.now)) }
-        ensures too_large { IfErr result (λ refusal. refusal ≡ Refused CountOutOfRange
-            → LeavesRange (engine_settings settings.now self.old) (given_by given.now)) }
-        ensures emptied { OnErr result (self.new.segments.items ≡ []) }
-        ensures limit { snap_limit_of self.new.splitter ≡ snap_limit_of self.old.splitter }
+        ensures chosen { self.new.is_narrow ≡ names_narrow settings.now.engine }
+        ensures kept { OnOk result (LastKeepsSplit settings.now (given_by given.now) self.new) }
+        ensures usable { OnOk result (MaySplit given.now self.new) }
+        ensures unusable { OnUnusable result (MayNotSplit given.now self.new) }
+        ensures too_large { OnTooLarge result (LastLeavesRange settings.now (given_by given.now) self.old self.new) }
+        ensures emptied { OnErr result (segments_in self.new ≡ []) }
+        ensures limit { SameLimits self.old self.new }
         ensures contours { self.new.polygons ≡ self.old.polygons }
     {
-        load_splittable(given, &mut self.segments)?;
-        let solver = solver(settings);
-        self.has_changed = self.splitter.split_segments(&mut self.segments, &solver)?;
-        Ok(())
+        if is_narrow(settings.engine) {
+            self.is_narrow = true;
+            self.narrow.split(given, settings)
+        } else {
+            self.is_narrow = false;
+            self.wide.split(given, settings)
+        }
     }
 
-    /// Splits the segments that records ask for, and keeps the arrangement and the graph of all of it.
+    /// `Core::all` of that engine.
     pub fn all(&mut self, given: &[SegmentRecord], settings: &SettingsRecord) -> Result<(), Refusal>
-        ensures kept { OnOk result (KeepsAll settings.now (given_by given.now) self.new) }
-        ensures usable { OnOk result (IsTrue (are_usable given.now)) }
-        ensures unusable { IfErr result (λ refusal. refusal ≡ NotSplittable → IsFalse (are_usable given.now)) }
-        ensures too_large { IfErr result (λ refusal. refusal ≡ Refused CountOutOfRange
-            → IsCountOfAllRefused settings.now (given_by given.now) self.old self.new) }
-        ensures stands { OnErr result (StandsAfter settings.now (given_by given.now) self.new) }
-        ensures limit { snap_limit_of self.new.splitter ≡ snap_limit_of self.old.splitter }
+        ensures chosen { self.new.is_narrow ≡ names_narrow settings.now.engine }
+        ensures kept { OnOk result (LastKeepsAll settings.now (given_by given.now) self.new) }
+        ensures usable { OnOk result (MaySplit given.now self.new) }
+        ensures unusable { OnUnusable result (MayNotSplit given.now self.new) }
+        ensures too_large { OnTooLarge result (LastIsCountOfAllRefused settings.now (given_by given.now) self.old self.new) }
+        ensures stands { OnErr result (LastStandsAfter settings.now (given_by given.now) self.new) }
+        ensures limit { SameLimits self.old self.new }
         ensures contours { self.new.polygons ≡ self.old.polygons }
     {
-        self.split(given, settings)?;
-        let solver = solver(settings);
-        let fill_rule = fill_rule(settings.fill_rule);
-        let graph = self
-            .builder
-            .build_boolean_all(fill_rule, &solver, &self.segments)?;
-        keep_links(graph.links(), &mut self.links)?;
-        keep_nodes(graph.nodes(), &mut self.degrees, &mut self.indexes)?;
-        Ok(())
+        if is_narrow(settings.engine) {
+            self.is_narrow = true;
+            self.narrow.all(given, settings)
+        } else {
+            self.is_narrow = false;
+            self.wide.all(given, settings)
+        }
     }
 
-    /// Joins the segments on each pair of ends, and keeps them. After a refusal it keeps none.
-    pub fn join(&mut self, given: &[SegmentRecord]) -> Result<(), Refusal>
-        ensures joined { OnOk result (segments_of self.new.segments.items ≡ join (given_by given.now)) }
-        ensures repeated { OnOk result (self.new.has_changed ≡ has_equal_pairs (given_by given.now)) }
-        ensures usable { OnOk result (IsTrue (are_usable given.now)) }
-        ensures unusable { IfErr result (λ refusal. refusal ≡ NotSplittable → IsFalse (are_usable given.now)) }
-        ensures too_large { IfErr result (λ refusal. refusal ≡ Refused CountOutOfRange
-            → IsTrue (join_leaves_range (given_by given.now))) }
-        ensures emptied { OnErr result (self.new.segments.items ≡ []) }
-        ensures splitter { self.new.splitter ≡ self.old.splitter }
+    /// `Core::join` of the engine that a code names.
+    pub fn join(&mut self, given: &[SegmentRecord], engine: u8) -> Result<(), Refusal>
+        ensures chosen { self.new.is_narrow ≡ names_narrow engine }
+        ensures joined { OnOk result (segments_in self.new ≡ join (given_by given.now)) }
+        ensures repeated { OnOk result (has_changed_in self.new ≡ has_equal_pairs (given_by given.now)) }
+        ensures usable { OnOk result (MaySplit given.now self.new) }
+        ensures unusable { OnUnusable result (MayNotSplit given.now self.new) }
+        ensures too_large { OnTooLarge result (IsTrue (join_leaves_range (given_by given.now))) }
+        ensures emptied { OnErr result (segments_in self.new ≡ []) }
+        ensures limit { SameLimits self.old self.new }
         ensures contours { self.new.polygons ≡ self.old.polygons }
     {
-        load_splittable(given, &mut self.segments)?;
-        self.has_changed = join_with_store(&mut self.segments, &mut ())?;
-        Ok(())
+        if is_narrow(engine) {
+            self.is_narrow = true;
+            self.narrow.join(given)
+        } else {
+            self.is_narrow = false;
+            self.wide.join(given)
+        }
     }
 
-    /// Splits the polygons and lines that records ask for, and keeps the arrangement and the graph of the parts of the
-    /// lines that a clip rule keeps.
+    /// `Core::clip` of the engine that the settings name.
     pub fn clip(
         &mut self,
         given: &[LineRecord],
         settings: &SettingsRecord,
         rule: ClipRule,
     ) -> Result<(), Refusal>
-        ensures kept { OnOk result (KeepsClip settings.now rule (map line_asked_by given.now) self.new) }
-        ensures usable { OnOk result (IsTrue (are_lines_usable given.now)) }
-        ensures unusable { IfErr result (λ refusal. refusal ≡ NotSplittable → IsFalse (are_lines_usable given.now)) }
-        ensures too_large { IfErr result (λ refusal. refusal ≡ Refused CountOutOfRange
-            → IsCountOfLinesRefused settings.now (map line_asked_by given.now) self.old self.new) }
-        ensures stands { OnErr result (LinesStandAfter settings.now (map line_asked_by given.now) self.new) }
-        ensures limit { snap_limit_of self.new.splitter ≡ snap_limit_of self.old.splitter }
+        ensures chosen { self.new.is_narrow ≡ names_narrow settings.now.engine }
+        ensures kept { OnOk result (LastKeepsClip settings.now rule (map line_asked_by given.now) self.new) }
+        ensures usable { OnOk result (MaySplitLines given.now self.new) }
+        ensures unusable { OnUnusable result (MayNotSplitLines given.now self.new) }
+        ensures too_large { OnTooLarge result (LastIsCountOfLinesRefused settings.now (map line_asked_by given.now) self.old self.new) }
+        ensures stands { OnErr result (LastLinesStandAfter settings.now (map line_asked_by given.now) self.new) }
+        ensures limit { SameLimits self.old self.new }
         ensures contours { self.new.polygons ≡ self.old.polygons }
     {
-        load_splittable_lines(given, &mut self.lines)?;
-        let solver = solver(settings);
-        let fill_rule = fill_rule(settings.fill_rule);
-        let (splitter, builder) = (&mut self.splitter, &mut self.line_builder);
-        let graph = split_and_build_clip(
-            splitter,
-            builder,
-            &mut self.lines,
-            &solver,
-            fill_rule,
-            rule,
-        )?;
-        keep_links(graph.links(), &mut self.links)?;
-        keep_lists(graph.nodes(), &mut self.degrees, &mut self.indexes)?;
-        Ok(())
+        if is_narrow(settings.engine) {
+            self.is_narrow = true;
+            self.narrow.clip(given, settings, rule)
+        } else {
+            self.is_narrow = false;
+            self.wide.clip(given, settings, rule)
+        }
+    }
+
+    /// How much it keeps.
+    pub fn sizes(&self) -> SizesRecord
+        ensures core { LastTellsSizes self.now result }
+        ensures contours { result.contours ≡ length self.now.contour_lengths.items }
+        ensures contour_points { result.contour_points ≡ length self.now.contour_points.items }
+    {
+        let mut sizes = self.core_sizes();
+        sizes.contours = self.contour_lengths.len();
+        sizes.contour_points = self.contour_points.len();
+        sizes
+    }
+
+    /// How much the core of the last call keeps.
+    fn core_sizes(&self) -> SizesRecord
+        ensures { LastTellsSizes self.now result }
+    {
+        if self.is_narrow {
+            self.narrow.sizes()
+        } else {
+            self.wide.sizes()
+        }
+    }
+
+    /// The links that the core of the last call keeps.
+    pub fn links(&self) -> &[LinkRecord]
+        ensures { result.now ≡ links_in self.now }
+    {
+        if self.is_narrow {
+            &self.narrow.links
+        } else {
+            &self.wide.links
+        }
+    }
+
+    /// The data of its links.
+    pub fn link_data(&self) -> &[Tag]
+        ensures { result.now ≡ link_data_in self.now }
+    {
+        if self.is_narrow {
+            &self.narrow.link_data
+        } else {
+            &self.wide.link_data
+        }
+    }
+
+    /// How many links meet at each of its nodes.
+    pub fn degrees(&self) -> &[usize]
+        ensures { result.now ≡ degrees_in self.now }
+    {
+        if self.is_narrow {
+            &self.narrow.degrees
+        } else {
+            &self.wide.degrees
+        }
+    }
+
+    /// The indexes of these links, node by node.
+    pub fn indexes(&self) -> &[usize]
+        ensures { result.now ≡ indexes_in self.now }
+    {
+        if self.is_narrow {
+            &self.narrow.indexes
+        } else {
+            &self.wide.indexes
+        }
+    }
+
+    /// How many links each of its walks has.
+    pub fn walk_lengths(&self) -> &[usize]
+        ensures { result.now ≡ walk_lengths_in self.now }
+    {
+        if self.is_narrow {
+            &self.narrow.walk_lengths
+        } else {
+            &self.wide.walk_lengths
+        }
+    }
+
+    /// The indexes of these links, walk by walk.
+    pub fn walk_links(&self) -> &[usize]
+        ensures { result.now ≡ walk_links_in self.now }
+    {
+        if self.is_narrow {
+            &self.narrow.walk_links
+        } else {
+            &self.wide.walk_links
+        }
+    }
+
+    /// Writes the records of the arrangement that it keeps.
+    pub fn tell_segments(&self, out: &mut [SegmentRecord])
+        requires { length out.old ≡ segment_count self.now }
+        ensures { map told_by out.new ≡ segments_in self.now }
+    {
+        if self.is_narrow {
+            tell_all(&self.narrow.segments, out);
+        } else {
+            tell_all(&self.wide.segments, out);
+        }
+    }
+
+    /// Writes the records of the arrangement of polygons and lines.
+    pub fn tell_lines(&self, out: &mut [LineRecord])
+        requires { length out.old ≡ line_count self.now }
+        ensures { map line_told_by out.new ≡ lines_in self.now }
+    {
+        if self.is_narrow {
+            lines::tell_all(&self.narrow.lines, out);
+        } else {
+            lines::tell_all(&self.wide.lines, out);
+        }
     }
 
     /// Copies a contour behind the others of its shape, if its points are in range. Else, and where a growth is
@@ -330,129 +371,4 @@ impl Engine {
     {
         self.polygons.clear();
     }
-}
-
-/// Loads the segments that records ask for, where these may be split; else the list is empty.
-fn load_splittable(given: &[SegmentRecord], list: &mut Vec<Side>) -> Result<(), Refusal>
-    ensures segments { OnOk result (segments_of list.new.items ≡ given_by given.now) }
-    ensures splittable { OnOk result (IsSplittable list.new.items) }
-    ensures usable { OnOk result (IsTrue (are_usable given.now)) }
-    ensures unusable { IfErr result (λ refusal. refusal ≡ NotSplittable → IsFalse (are_usable given.now)) }
-    ensures no_count { IfErr result (λ refusal. refusal ≢ Refused CountOutOfRange) }
-    ensures emptied { OnErr result (list.new.items ≡ []) }
-{
-    let loaded = try_load(given, list);
-    if loaded.is_err() {
-        list.clear();
-    }
-    loaded
-}
-
-/// The same, but that a refused load may leave anything.
-fn try_load(given: &[SegmentRecord], list: &mut Vec<Side>) -> Result<(), Refusal>
-    ensures segments { OnOk result (segments_of list.new.items ≡ given_by given.now) }
-    ensures splittable { OnOk result (IsSplittable list.new.items) }
-    ensures usable { OnOk result (IsTrue (are_usable given.now)) }
-    ensures unusable { IfErr result (λ refusal. refusal ≡ NotSplittable → IsFalse (are_usable given.now)) }
-    ensures no_count { IfErr result (λ refusal. refusal ≢ Refused CountOutOfRange) }
-{
-    if !load(given, list)? || !is_splittable(list) {
-        return Err(Refusal::NotSplittable);
-    }
-    Ok(())
-}
-
-/// Loads polygons and lines in the same way.
-fn load_splittable_lines(given: &[LineRecord], list: &mut Vec<Line>) -> Result<(), Refusal>
-    ensures segments { OnOk result (segments_of list.new.items ≡ map line_asked_by given.now) }
-    ensures splittable { OnOk result (IsSplittable list.new.items) }
-    ensures usable { OnOk result (IsTrue (are_lines_usable given.now)) }
-    ensures unusable { IfErr result (λ refusal. refusal ≡ NotSplittable → IsFalse (are_lines_usable given.now)) }
-    ensures no_count { IfErr result (λ refusal. refusal ≢ Refused CountOutOfRange) }
-    ensures emptied { OnErr result (list.new.items ≡ []) }
-{
-    let loaded = try_load_lines(given, list);
-    if loaded.is_err() {
-        list.clear();
-    }
-    loaded
-}
-
-/// The same, but that a refused load may leave anything.
-fn try_load_lines(given: &[LineRecord], list: &mut Vec<Line>) -> Result<(), Refusal>
-    ensures segments { OnOk result (segments_of list.new.items ≡ map line_asked_by given.now) }
-    ensures splittable { OnOk result (IsSplittable list.new.items) }
-    ensures usable { OnOk result (IsTrue (are_lines_usable given.now)) }
-    ensures unusable { IfErr result (λ refusal. refusal ≡ NotSplittable → IsFalse (are_lines_usable given.now)) }
-    ensures no_count { IfErr result (λ refusal. refusal ≢ Refused CountOutOfRange) }
-{
-    if !lines::load(given, list)? || !is_splittable(list) {
-        return Err(Refusal::NotSplittable);
-    }
-    Ok(())
-}
-
-/// Loads the segments that records ask for. Returns whether each asks for one.
-pub fn load(records: &[SegmentRecord], list: &mut Vec<Side>) -> Result<bool, AllocError>
-    ensures asks { IfOk result (λ all. all ≡ list_all asks records.now) }
-    ensures segments { IfOk result (λ all. IsTrue all → segments_of list.new.items ≡ map asked_by records.now) }
-{
-    list.clear();
-    for given in records {
-        match asked(given, (), &mut ()) {
-            Some(segment) => list.push(segment)?,
-            None => return Ok(false),
-        }
-    }
-    Ok(true)
-}
-
-/// Keeps the records of links.
-pub fn keep_links<D: Copy>(
-    links: &[OverlayLink<i32, D>],
-    kept: &mut Vec<LinkRecord>,
-) -> Result<(), AllocError>
-    ensures { OnOk result (map link_by kept.new.items ≡ map (link_of (λ z. z)) links.now) }
-{
-    kept.clear();
-    for each in links {
-        kept.push(link(each))?;
-    }
-    Ok(())
-}
-
-/// Keeps the indexes of the links at each node.
-pub fn keep_nodes(
-    nodes: &[OverlayNode],
-    degrees: &mut Vec<usize>,
-    indexes: &mut Vec<usize>,
-) -> Result<(), AllocError>
-    ensures degrees { OnOk result (degrees.new.items ≡ map length (map indexes_of nodes.now)) }
-    ensures indexes { OnOk result (indexes.new.items ≡ flat_map (λ list. list) (map indexes_of nodes.now)) }
-{
-    degrees.clear();
-    indexes.clear();
-    for node in nodes {
-        degrees.push(node.indices().len())?;
-        indexes.extend_from_slice(node.indices())?;
-    }
-    Ok(())
-}
-
-/// Keeps lists of indexes.
-pub fn keep_lists(
-    lists: &[Vec<usize>],
-    lengths: &mut Vec<usize>,
-    indexes: &mut Vec<usize>,
-) -> Result<(), AllocError>
-    ensures lengths { OnOk result (lengths.new.items ≡ map length (map (λ l. l.items) lists.now)) }
-    ensures indexes { OnOk result (indexes.new.items ≡ flat_map (λ list. list) (map (λ l. l.items) lists.now)) }
-{
-    lengths.clear();
-    indexes.clear();
-    for list in lists {
-        lengths.push(list.len())?;
-        indexes.extend_from_slice(list)?;
-    }
-    Ok(())
 }

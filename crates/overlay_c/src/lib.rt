@@ -7,18 +7,21 @@ ghost use Rattle.overlay_base.specs.declared.overlay_core.overlay_rule.OverlayRu
 ghost use Rattle.overlay_base.specs.Join.{join, join_leaves_range, has_equal_pairs};
 ghost use Rattle.overlay_split.specs.Run.{LeavesRange};
 ghost use Rattle.overlay_split.specs.SettingsOf.{snap_limit_of, passes_of};
-ghost use Rattle.overlay_c.specs.Records.{start_of, end_of, line_asked_by, told_by, line_told_by, shape_of, IsRuleOf};
+ghost use Rattle.overlay_c.specs.Records.{start_of, end_of, line_asked_by, told_by, line_told_by, shape_of, names_narrow, IsRuleOf};
+ghost use Rattle.overlay_c.specs.Calls.{Turns, Chooses, MaySplit, MayNotSplit, MaySplitLines, MayNotSplitLines, KeepsOverlayBy, KeepsDataBy, SameContours, SameShape, AddsContour, KeepsPolygonsBy, PolygonCountsLeaveRange};
 ghost use Rattle.overlay_c.specs.Crosses.{pair_by, cross_by, mask_by};
 ghost use Rattle.overlay_geometry.specs.Coordinates.{least_coordinate, greatest_coordinate, is_pair_in_range};
 ghost use Rattle.overlay_intersections.specs.CrossAnswer.{cross_answer};
 ghost use Rattle.overlay_intersections.specs.Marks.{snapping};
-ghost use Rattle.overlay_c.specs.Kept.{given_by, are_usable, are_lines_usable, engine_settings, KeepsData, KeepsSplit, KeepsAll, KeepsOverlay, KeepsClip, IsCountRefused, IsCountOfAllRefused, IsCountOfLinesRefused, StandsAfter, LinesStandAfter};
+ghost use Rattle.overlay_c.specs.Kept.{given_by, are_usable, are_lines_usable};
+ghost use Rattle.overlay_c.specs.Widths.{least_of, greatest_of, LastKeepsSplit, LastKeepsAll, LastKeepsOverlay, LastKeepsData, LastKeepsClip, LastStandsAfter, LastLinesStandAfter, LastIsCountRefused, LastIsCountOfAllRefused, LastIsCountOfLinesRefused, LastLeavesRange, LastTellsSizes, SameLimits, segment_count, line_count, segments_in, lines_in, has_changed_in, links_in, link_data_in, degrees_in, indexes_in, walk_lengths_in, walk_links_in};
 ghost use Rattle.overlay_c.specs.Tags.{untagged, tagged_by};
 ghost use Rattle.overlay_base.specs.declared.segm.shape_type.ShapeType.TheVariants.{Subject, Clip};
 ghost use Rattle.overlay_contours.specs.Refusals.{other_shape, CountsLeaveRange};
 ghost use Rattle.overlay_c.specs.Contours.{point_by, are_in_range, contours_in, polygon_settings, KeepsPolygons, SameSplit};
 
 pub mod contours;
+pub mod cores;
 pub mod cross;
 pub mod engine;
 pub mod handle;
@@ -27,6 +30,7 @@ pub(crate) mod loose;
 pub mod records;
 pub mod refusal;
 pub mod tags;
+pub mod width;
 
 use crate::contours::PointRecord;
 use crate::cross::{CrossRecord, cross};
@@ -34,7 +38,6 @@ use crate::engine::Engine;
 use crate::handle::{Handle, put, take};
 use crate::records::{
     LineRecord, LinkRecord, SegmentRecord, SettingsRecord, SizesRecord, overlay_rule, shape_type,
-    tell_all,
 };
 use crate::refusal::status;
 use crate::tags::{Tag, TaggedRecord};
@@ -46,7 +49,8 @@ use std::alloc::Global;
 pub extern "C" fn overlay_c_new(alloc: Global, handle: &mut Handle, snap_limit: u32) -> bool
     requires { handle.old.engine ≡ None }
     ensures made { IsTrue result ↔ IsSome handle.new.engine }
-    ensures limit { IfSome handle.new.engine (λ engine. snap_limit_of engine.splitter ≡ snap_limit) }
+    ensures limit { IfSome handle.new.engine (λ engine. snap_limit_of engine.wide.splitter ≡ snap_limit) }
+    ensures narrow_limit { IfSome handle.new.engine (λ engine. snap_limit_of engine.narrow.splitter ≡ snap_limit) }
     ensures subject { IfSome handle.new.engine (λ engine. contours_in engine Subject ≡ []) }
     ensures clip { IfSome handle.new.engine (λ engine. contours_in engine Clip ≡ []) }
 {
@@ -81,17 +85,14 @@ pub extern "C" fn overlay_c_overlay(
 ) -> u8
     requires { IsSome handle.old.engine }
     ensures full { IsSome handle.new.engine }
-    ensures done { result ≡ 0 → IfSome handle.new.engine (λ engine. (named : OverlayRule) × IsRuleOf rule named
-        × KeepsOverlay settings.now named walks (given_by given.now) engine) }
-    ensures usable { result ≡ 0 → IsTrue (are_usable given.now) }
-    ensures unusable { result ≡ 3 → IsFalse (are_usable given.now) }
-    ensures too_large { result ≡ 2 → IfSome handle.old.engine (λ before. IfSome handle.new.engine
-        (IsCountRefused settings.now (given_by given.now) before)) }
-    ensures stands { result ≢ 0 → IfSome handle.new.engine (StandsAfter settings.now (given_by given.now)) }
-    ensures limit { IfSome handle.old.engine (λ before. IfSome handle.new.engine
-        (λ after. snap_limit_of after.splitter ≡ snap_limit_of before.splitter)) }
-    ensures contours { IfSome handle.old.engine (λ before. IfSome handle.new.engine
-        (λ after. after.polygons ≡ before.polygons)) }
+    ensures chosen { IfSome handle.new.engine (Chooses settings.now.engine) }
+    ensures done { result ≡ 0 → IfSome handle.new.engine (KeepsOverlayBy settings.now rule walks (given_by given.now)) }
+    ensures usable { result ≡ 0 → IfSome handle.new.engine (MaySplit given.now) }
+    ensures unusable { result ≡ 3 → IfSome handle.new.engine (MayNotSplit given.now) }
+    ensures too_large { result ≡ 2 → Turns handle.old.engine handle.new.engine (LastIsCountRefused settings.now (given_by given.now)) }
+    ensures stands { result ≢ 0 → IfSome handle.new.engine (LastStandsAfter settings.now (given_by given.now)) }
+    ensures limit { Turns handle.old.engine handle.new.engine SameLimits }
+    ensures contours { Turns handle.old.engine handle.new.engine SameContours }
 {
     let mut engine = take(alloc, handle);
     let outcome = engine.overlay(alloc, given, settings, overlay_rule(rule), walks);
@@ -111,19 +112,14 @@ pub extern "C" fn overlay_c_overlay_with_data(
 ) -> u8
     requires { IsSome handle.old.engine }
     ensures full { IsSome handle.new.engine }
-    ensures done { result ≡ 0 → IfSome handle.new.engine (λ engine. (named : OverlayRule) × IsRuleOf rule named
-        × KeepsOverlay settings.now named false (given_by (untagged given.now)) engine
-        × KeepsData settings.now named (tagged_by given.now) engine) }
-    ensures usable { result ≡ 0 → IsTrue (are_usable (untagged given.now)) }
-    ensures unusable { result ≡ 3 → IsFalse (are_usable (untagged given.now)) }
-    ensures too_large { result ≡ 2 → IfSome handle.old.engine (λ before. IfSome handle.new.engine
-        (IsCountRefused settings.now (given_by (untagged given.now)) before)) }
-    ensures stands { result ≢ 0 → IfSome handle.new.engine
-        (StandsAfter settings.now (given_by (untagged given.now))) }
-    ensures limit { IfSome handle.old.engine (λ before. IfSome handle.new.engine
-        (λ after. snap_limit_of after.splitter ≡ snap_limit_of before.splitter)) }
-    ensures contours { IfSome handle.old.engine (λ before. IfSome handle.new.engine
-        (λ after. after.polygons ≡ before.polygons)) }
+    ensures chosen { IfSome handle.new.engine (Chooses settings.now.engine) }
+    ensures done { result ≡ 0 → IfSome handle.new.engine (KeepsDataBy settings.now rule (given_by (untagged given.now)) (tagged_by given.now)) }
+    ensures usable { result ≡ 0 → IfSome handle.new.engine (MaySplit (untagged given.now)) }
+    ensures unusable { result ≡ 3 → IfSome handle.new.engine (MayNotSplit (untagged given.now)) }
+    ensures too_large { result ≡ 2 → Turns handle.old.engine handle.new.engine (LastIsCountRefused settings.now (given_by (untagged given.now))) }
+    ensures stands { result ≢ 0 → IfSome handle.new.engine (LastStandsAfter settings.now (given_by (untagged given.now))) }
+    ensures limit { Turns handle.old.engine handle.new.engine SameLimits }
+    ensures contours { Turns handle.old.engine handle.new.engine SameContours }
 {
     let mut engine = take(alloc, handle);
     let outcome = engine.overlay_with_data(given, settings, overlay_rule(rule));
@@ -141,16 +137,14 @@ pub extern "C" fn overlay_c_split(
 ) -> u8
     requires { IsSome handle.old.engine }
     ensures full { IsSome handle.new.engine }
-    ensures done { result ≡ 0 → IfSome handle.new.engine (KeepsSplit settings.now (given_by given.now)) }
-    ensures usable { result ≡ 0 → IsTrue (are_usable given.now) }
-    ensures unusable { result ≡ 3 → IsFalse (are_usable given.now) }
-    ensures too_large { result ≡ 2 → IfSome handle.old.engine (λ before.
-        LeavesRange (engine_settings settings.now before) (given_by given.now)) }
-    ensures emptied { result ≢ 0 → IfSome handle.new.engine (λ engine. engine.segments.items ≡ []) }
-    ensures limit { IfSome handle.old.engine (λ before. IfSome handle.new.engine
-        (λ after. snap_limit_of after.splitter ≡ snap_limit_of before.splitter)) }
-    ensures contours { IfSome handle.old.engine (λ before. IfSome handle.new.engine
-        (λ after. after.polygons ≡ before.polygons)) }
+    ensures chosen { IfSome handle.new.engine (Chooses settings.now.engine) }
+    ensures done { result ≡ 0 → IfSome handle.new.engine (LastKeepsSplit settings.now (given_by given.now)) }
+    ensures usable { result ≡ 0 → IfSome handle.new.engine (MaySplit given.now) }
+    ensures unusable { result ≡ 3 → IfSome handle.new.engine (MayNotSplit given.now) }
+    ensures too_large { result ≡ 2 → Turns handle.old.engine handle.new.engine (LastLeavesRange settings.now (given_by given.now)) }
+    ensures emptied { result ≢ 0 → IfSome handle.new.engine (λ engine. segments_in engine ≡ []) }
+    ensures limit { Turns handle.old.engine handle.new.engine SameLimits }
+    ensures contours { Turns handle.old.engine handle.new.engine SameContours }
 {
     let mut engine = take(alloc, handle);
     let outcome = engine.split(given, settings);
@@ -168,16 +162,14 @@ pub extern "C" fn overlay_c_all(
 ) -> u8
     requires { IsSome handle.old.engine }
     ensures full { IsSome handle.new.engine }
-    ensures done { result ≡ 0 → IfSome handle.new.engine (KeepsAll settings.now (given_by given.now)) }
-    ensures usable { result ≡ 0 → IsTrue (are_usable given.now) }
-    ensures unusable { result ≡ 3 → IsFalse (are_usable given.now) }
-    ensures too_large { result ≡ 2 → IfSome handle.old.engine (λ before. IfSome handle.new.engine
-        (IsCountOfAllRefused settings.now (given_by given.now) before)) }
-    ensures stands { result ≢ 0 → IfSome handle.new.engine (StandsAfter settings.now (given_by given.now)) }
-    ensures limit { IfSome handle.old.engine (λ before. IfSome handle.new.engine
-        (λ after. snap_limit_of after.splitter ≡ snap_limit_of before.splitter)) }
-    ensures contours { IfSome handle.old.engine (λ before. IfSome handle.new.engine
-        (λ after. after.polygons ≡ before.polygons)) }
+    ensures chosen { IfSome handle.new.engine (Chooses settings.now.engine) }
+    ensures done { result ≡ 0 → IfSome handle.new.engine (LastKeepsAll settings.now (given_by given.now)) }
+    ensures usable { result ≡ 0 → IfSome handle.new.engine (MaySplit given.now) }
+    ensures unusable { result ≡ 3 → IfSome handle.new.engine (MayNotSplit given.now) }
+    ensures too_large { result ≡ 2 → Turns handle.old.engine handle.new.engine (LastIsCountOfAllRefused settings.now (given_by given.now)) }
+    ensures stands { result ≢ 0 → IfSome handle.new.engine (LastStandsAfter settings.now (given_by given.now)) }
+    ensures limit { Turns handle.old.engine handle.new.engine SameLimits }
+    ensures contours { Turns handle.old.engine handle.new.engine SameContours }
 {
     let mut engine = take(alloc, handle);
     let outcome = engine.all(given, settings);
@@ -187,22 +179,27 @@ pub extern "C" fn overlay_c_all(
 
 /// The join of the segments that records ask for. Returns as `overlay_c_overlay` does. After a refusal the list is empty.
 #[unsafe(no_mangle)]
-pub extern "C" fn overlay_c_join(alloc: Global, handle: &mut Handle, given: &[SegmentRecord]) -> u8
+pub extern "C" fn overlay_c_join(
+    alloc: Global,
+    handle: &mut Handle,
+    given: &[SegmentRecord],
+    width: u8,
+) -> u8
     requires { IsSome handle.old.engine }
     ensures full { IsSome handle.new.engine }
+    ensures chosen { IfSome handle.new.engine (Chooses width) }
     ensures done { result ≡ 0 → IfSome handle.new.engine (λ engine.
-        segments_of engine.segments.items ≡ join (given_by given.now)) }
+        segments_in engine ≡ join (given_by given.now)) }
     ensures repeated { result ≡ 0 → IfSome handle.new.engine (λ engine.
-        engine.has_changed ≡ has_equal_pairs (given_by given.now)) }
-    ensures usable { result ≡ 0 → IsTrue (are_usable given.now) }
-    ensures unusable { result ≡ 3 → IsFalse (are_usable given.now) }
+        has_changed_in engine ≡ has_equal_pairs (given_by given.now)) }
+    ensures usable { result ≡ 0 → IfSome handle.new.engine (MaySplit given.now) }
+    ensures unusable { result ≡ 3 → IfSome handle.new.engine (MayNotSplit given.now) }
     ensures too_large { result ≡ 2 → IsTrue (join_leaves_range (given_by given.now)) }
-    ensures emptied { result ≢ 0 → IfSome handle.new.engine (λ engine. engine.segments.items ≡ []) }
-    ensures contours { IfSome handle.old.engine (λ before. IfSome handle.new.engine
-        (λ after. after.polygons ≡ before.polygons)) }
+    ensures emptied { result ≢ 0 → IfSome handle.new.engine (λ engine. segments_in engine ≡ []) }
+    ensures contours { Turns handle.old.engine handle.new.engine SameContours }
 {
     let mut engine = take(alloc, handle);
-    let outcome = engine.join(given);
+    let outcome = engine.join(given, width);
     put(handle, engine);
     status(outcome)
 }
@@ -219,19 +216,16 @@ pub extern "C" fn overlay_c_clip(
 ) -> u8
     requires { IsSome handle.old.engine }
     ensures full { IsSome handle.new.engine }
-    ensures done { result ≡ 0 → IfSome handle.new.engine
-        (KeepsClip settings.now (record { invert = invert; boundary_included = boundary_included })
-        (map line_asked_by given.now)) }
-    ensures usable { result ≡ 0 → IsTrue (are_lines_usable given.now) }
-    ensures unusable { result ≡ 3 → IsFalse (are_lines_usable given.now) }
-    ensures too_large { result ≡ 2 → IfSome handle.old.engine (λ before. IfSome handle.new.engine
-        (IsCountOfLinesRefused settings.now (map line_asked_by given.now) before)) }
-    ensures stands { result ≢ 0 → IfSome handle.new.engine
-        (LinesStandAfter settings.now (map line_asked_by given.now)) }
-    ensures limit { IfSome handle.old.engine (λ before. IfSome handle.new.engine
-        (λ after. snap_limit_of after.splitter ≡ snap_limit_of before.splitter)) }
-    ensures contours { IfSome handle.old.engine (λ before. IfSome handle.new.engine
-        (λ after. after.polygons ≡ before.polygons)) }
+    ensures chosen { IfSome handle.new.engine (Chooses settings.now.engine) }
+    ensures done { result ≡ 0 → IfSome handle.new.engine (λ after.
+        LastKeepsClip settings.now (record { invert = invert; boundary_included = boundary_included })
+        (map line_asked_by given.now) after) }
+    ensures usable { result ≡ 0 → IfSome handle.new.engine (MaySplitLines given.now) }
+    ensures unusable { result ≡ 3 → IfSome handle.new.engine (MayNotSplitLines given.now) }
+    ensures too_large { result ≡ 2 → Turns handle.old.engine handle.new.engine (LastIsCountOfLinesRefused settings.now (map line_asked_by given.now)) }
+    ensures stands { result ≢ 0 → IfSome handle.new.engine (LastLinesStandAfter settings.now (map line_asked_by given.now)) }
+    ensures limit { Turns handle.old.engine handle.new.engine SameLimits }
+    ensures contours { Turns handle.old.engine handle.new.engine SameContours }
 {
     let mut engine = take(alloc, handle);
     let rule = ClipRule {
@@ -254,16 +248,12 @@ pub extern "C" fn overlay_c_add_contour(
 ) -> u8
     requires { IsSome handle.old.engine }
     ensures full { IsSome handle.new.engine }
-    ensures added { result ≡ 0 → IfSome handle.old.engine (λ before. IfSome handle.new.engine
-        (λ after. contours_in after (shape_of shape)
-        ≡ contours_in before (shape_of shape) ++ map point_by contour.now ∷ [])) }
-    ensures unchanged { result ≢ 0 → IfSome handle.old.engine (λ before. IfSome handle.new.engine
-        (λ after. contours_in after (shape_of shape) ≡ contours_in before (shape_of shape))) }
-    ensures other { IfSome handle.old.engine (λ before. IfSome handle.new.engine
-        (λ after. contours_in after (other_shape (shape_of shape)) ≡ contours_in before (other_shape (shape_of shape)))) }
+    ensures added { result ≡ 0 → Turns handle.old.engine handle.new.engine (AddsContour (shape_of shape) contour.now) }
+    ensures unchanged { result ≢ 0 → Turns handle.old.engine handle.new.engine (SameShape (shape_of shape)) }
+    ensures other { Turns handle.old.engine handle.new.engine (SameShape (other_shape (shape_of shape))) }
     ensures in_range { result ≡ 0 → IsTrue (are_in_range contour.now) }
     ensures out_of_range { result ≡ 4 → IsFalse (are_in_range contour.now) }
-    ensures rest { IfSome handle.old.engine (λ before. IfSome handle.new.engine (SameSplit before)) }
+    ensures rest { Turns handle.old.engine handle.new.engine SameSplit }
 {
     let mut engine = take(alloc, handle);
     let outcome = engine.add_contour(contour, shape_type(shape));
@@ -283,16 +273,12 @@ pub extern "C" fn overlay_c_polygons(
 ) -> u8
     requires { IsSome handle.old.engine }
     ensures full { IsSome handle.new.engine }
-    ensures done { result ≡ 0 → IfSome handle.old.engine (λ before. IfSome handle.new.engine (λ after.
-        (named : OverlayRule) × IsRuleOf rule named × KeepsPolygons settings.now named before after)) }
-    ensures too_large { result ≡ 2 → IfSome handle.old.engine (λ before.
-        CountsLeaveRange (polygon_settings settings.now) (contours_in before Subject) (contours_in before Clip)) }
+    ensures done { result ≡ 0 → Turns handle.old.engine handle.new.engine (KeepsPolygonsBy settings.now rule) }
+    ensures too_large { result ≡ 2 → IfSome handle.old.engine (PolygonCountsLeaveRange settings.now) }
     ensures codes { result < 3 }
-    ensures subject { IfSome handle.old.engine (λ before. IfSome handle.new.engine
-        (λ after. contours_in after Subject ≡ contours_in before Subject)) }
-    ensures clip { IfSome handle.old.engine (λ before. IfSome handle.new.engine
-        (λ after. contours_in after Clip ≡ contours_in before Clip)) }
-    ensures rest { IfSome handle.old.engine (λ before. IfSome handle.new.engine (SameSplit before)) }
+    ensures subject { Turns handle.old.engine handle.new.engine (SameShape Subject) }
+    ensures clip { Turns handle.old.engine handle.new.engine (SameShape Clip) }
+    ensures rest { Turns handle.old.engine handle.new.engine SameSplit }
 {
     let mut engine = take(alloc, handle);
     let outcome = engine.polygons(settings, overlay_rule(rule));
@@ -307,7 +293,7 @@ pub extern "C" fn overlay_c_clear(alloc: Global, handle: &mut Handle)
     ensures full { IsSome handle.new.engine }
     ensures subject { IfSome handle.new.engine (λ after. contours_in after Subject ≡ []) }
     ensures clip { IfSome handle.new.engine (λ after. contours_in after Clip ≡ []) }
-    ensures rest { IfSome handle.old.engine (λ before. IfSome handle.new.engine (SameSplit before)) }
+    ensures rest { Turns handle.old.engine handle.new.engine SameSplit }
 {
     let mut engine = take(alloc, handle);
     engine.clear_contours();
@@ -339,38 +325,13 @@ pub extern "C" fn overlay_c_cross(
 pub extern "C" fn overlay_c_sizes(alloc: Global, handle: &mut Handle) -> SizesRecord
     requires { IsSome handle.old.engine }
     ensures same { handle.new.engine ≡ handle.old.engine }
-    ensures segments { IfSome handle.old.engine (λ engine. result.segments ≡ length engine.segments.items) }
-    ensures lines { IfSome handle.old.engine (λ engine. result.lines ≡ length engine.lines.items) }
-    ensures links { IfSome handle.old.engine (λ engine. result.links ≡ length engine.links.items) }
-    ensures link_data { IfSome handle.old.engine (λ engine. result.link_data ≡ length engine.link_data.items) }
-    ensures nodes { IfSome handle.old.engine (λ engine. result.nodes ≡ length engine.degrees.items) }
-    ensures node_links { IfSome handle.old.engine (λ engine. result.node_links ≡ length engine.indexes.items) }
-    ensures walks { IfSome handle.old.engine (λ engine. result.walks ≡ length engine.walk_lengths.items) }
-    ensures walk_links { IfSome handle.old.engine (λ engine. result.walk_links ≡ length engine.walk_links.items) }
+    ensures core { IfSome handle.old.engine (λ engine. LastTellsSizes engine result) }
     ensures contours { IfSome handle.old.engine (λ engine. result.contours ≡ length engine.contour_lengths.items) }
     ensures contour_points { IfSome handle.old.engine (λ engine.
         result.contour_points ≡ length engine.contour_points.items) }
-    ensures has_walks { IfSome handle.old.engine (λ engine. result.has_walks ≡ engine.has_walks) }
-    ensures has_changed { IfSome handle.old.engine (λ engine. result.has_changed ≡ engine.has_changed) }
-    ensures passes { IfSome handle.old.engine (λ engine. passes_of engine.splitter < 2 ^ 64
-        → result.passes ≡ passes_of engine.splitter) }
 {
     let engine = take(alloc, handle);
-    let sizes = SizesRecord {
-        segments: engine.segments.len(),
-        lines: engine.lines.len(),
-        links: engine.links.len(),
-        link_data: engine.link_data.len(),
-        nodes: engine.degrees.len(),
-        node_links: engine.indexes.len(),
-        walks: engine.walk_lengths.len(),
-        walk_links: engine.walk_links.len(),
-        contours: engine.contour_lengths.len(),
-        contour_points: engine.contour_points.len(),
-        has_walks: engine.has_walks,
-        has_changed: engine.has_changed,
-        passes: u64::try_from(engine.splitter.passes()).unwrap_or(u64::MAX),
-    };
+    let sizes = engine.sizes();
     put(handle, engine);
     sizes
 }
@@ -379,12 +340,12 @@ pub extern "C" fn overlay_c_sizes(alloc: Global, handle: &mut Handle) -> SizesRe
 #[unsafe(no_mangle)]
 pub extern "C" fn overlay_c_segments(alloc: Global, handle: &mut Handle, out: &mut [SegmentRecord])
     requires engine { IsSome handle.old.engine }
-    requires length { IfSome handle.old.engine (λ engine. length out.old ≡ length engine.segments.items) }
+    requires length { IfSome handle.old.engine (λ engine. length out.old ≡ segment_count engine) }
     ensures same { handle.new.engine ≡ handle.old.engine }
-    ensures copied { IfSome handle.old.engine (λ engine. map told_by out.new ≡ segments_of engine.segments.items) }
+    ensures copied { IfSome handle.old.engine (λ engine. map told_by out.new ≡ segments_in engine) }
 {
     let engine = take(alloc, handle);
-    tell_all(&engine.segments, out);
+    engine.tell_segments(out);
     put(handle, engine);
 }
 
@@ -392,12 +353,12 @@ pub extern "C" fn overlay_c_segments(alloc: Global, handle: &mut Handle, out: &m
 #[unsafe(no_mangle)]
 pub extern "C" fn overlay_c_lines(alloc: Global, handle: &mut Handle, out: &mut [LineRecord])
     requires engine { IsSome handle.old.engine }
-    requires length { IfSome handle.old.engine (λ engine. length out.old ≡ length engine.lines.items) }
+    requires length { IfSome handle.old.engine (λ engine. length out.old ≡ line_count engine) }
     ensures same { handle.new.engine ≡ handle.old.engine }
-    ensures copied { IfSome handle.old.engine (λ engine. map line_told_by out.new ≡ segments_of engine.lines.items) }
+    ensures copied { IfSome handle.old.engine (λ engine. map line_told_by out.new ≡ lines_in engine) }
 {
     let engine = take(alloc, handle);
-    lines::tell_all(&engine.lines, out);
+    engine.tell_lines(out);
     put(handle, engine);
 }
 
@@ -405,12 +366,12 @@ pub extern "C" fn overlay_c_lines(alloc: Global, handle: &mut Handle, out: &mut 
 #[unsafe(no_mangle)]
 pub extern "C" fn overlay_c_links(alloc: Global, handle: &mut Handle, out: &mut [LinkRecord])
     requires engine { IsSome handle.old.engine }
-    requires length { IfSome handle.old.engine (λ engine. length out.old ≡ length engine.links.items) }
+    requires length { IfSome handle.old.engine (λ engine. length out.old ≡ length (links_in engine)) }
     ensures same { handle.new.engine ≡ handle.old.engine }
-    ensures copied { IfSome handle.old.engine (λ engine. out.new ≡ engine.links.items) }
+    ensures copied { IfSome handle.old.engine (λ engine. out.new ≡ links_in engine) }
 {
     let engine = take(alloc, handle);
-    out.copy_from_slice(&engine.links);
+    out.copy_from_slice(engine.links());
     put(handle, engine);
 }
 
@@ -418,12 +379,12 @@ pub extern "C" fn overlay_c_links(alloc: Global, handle: &mut Handle, out: &mut 
 #[unsafe(no_mangle)]
 pub extern "C" fn overlay_c_link_data(alloc: Global, handle: &mut Handle, out: &mut [Tag])
     requires engine { IsSome handle.old.engine }
-    requires length { IfSome handle.old.engine (λ engine. length out.old ≡ length engine.link_data.items) }
+    requires length { IfSome handle.old.engine (λ engine. length out.old ≡ length (link_data_in engine)) }
     ensures same { handle.new.engine ≡ handle.old.engine }
-    ensures copied { IfSome handle.old.engine (λ engine. out.new ≡ engine.link_data.items) }
+    ensures copied { IfSome handle.old.engine (λ engine. out.new ≡ link_data_in engine) }
 {
     let engine = take(alloc, handle);
-    out.copy_from_slice(&engine.link_data);
+    out.copy_from_slice(engine.link_data());
     put(handle, engine);
 }
 
@@ -436,15 +397,15 @@ pub extern "C" fn overlay_c_nodes(
     indexes: &mut [usize],
 )
     requires engine { IsSome handle.old.engine }
-    requires degrees { IfSome handle.old.engine (λ engine. length degrees.old ≡ length engine.degrees.items) }
-    requires indexes { IfSome handle.old.engine (λ engine. length indexes.old ≡ length engine.indexes.items) }
+    requires degrees { IfSome handle.old.engine (λ engine. length degrees.old ≡ length (degrees_in engine)) }
+    requires indexes { IfSome handle.old.engine (λ engine. length indexes.old ≡ length (indexes_in engine)) }
     ensures same { handle.new.engine ≡ handle.old.engine }
-    ensures degrees { IfSome handle.old.engine (λ engine. degrees.new ≡ engine.degrees.items) }
-    ensures indexes { IfSome handle.old.engine (λ engine. indexes.new ≡ engine.indexes.items) }
+    ensures degrees { IfSome handle.old.engine (λ engine. degrees.new ≡ degrees_in engine) }
+    ensures indexes { IfSome handle.old.engine (λ engine. indexes.new ≡ indexes_in engine) }
 {
     let engine = take(alloc, handle);
-    degrees.copy_from_slice(&engine.degrees);
-    indexes.copy_from_slice(&engine.indexes);
+    degrees.copy_from_slice(engine.degrees());
+    indexes.copy_from_slice(engine.indexes());
     put(handle, engine);
 }
 
@@ -457,15 +418,15 @@ pub extern "C" fn overlay_c_walks(
     indexes: &mut [usize],
 )
     requires engine { IsSome handle.old.engine }
-    requires lengths { IfSome handle.old.engine (λ engine. length lengths.old ≡ length engine.walk_lengths.items) }
-    requires indexes { IfSome handle.old.engine (λ engine. length indexes.old ≡ length engine.walk_links.items) }
+    requires lengths { IfSome handle.old.engine (λ engine. length lengths.old ≡ length (walk_lengths_in engine)) }
+    requires indexes { IfSome handle.old.engine (λ engine. length indexes.old ≡ length (walk_links_in engine)) }
     ensures same { handle.new.engine ≡ handle.old.engine }
-    ensures lengths { IfSome handle.old.engine (λ engine. lengths.new ≡ engine.walk_lengths.items) }
-    ensures indexes { IfSome handle.old.engine (λ engine. indexes.new ≡ engine.walk_links.items) }
+    ensures lengths { IfSome handle.old.engine (λ engine. lengths.new ≡ walk_lengths_in engine) }
+    ensures indexes { IfSome handle.old.engine (λ engine. indexes.new ≡ walk_links_in engine) }
 {
     let engine = take(alloc, handle);
-    lengths.copy_from_slice(&engine.walk_lengths);
-    indexes.copy_from_slice(&engine.walk_links);
+    lengths.copy_from_slice(engine.walk_lengths());
+    indexes.copy_from_slice(engine.walk_links());
     put(handle, engine);
 }
 

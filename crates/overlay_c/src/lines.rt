@@ -7,19 +7,21 @@ ghost use Rattle.overlay_base.specs.StringWinding.{string_winding};
 ghost use Rattle.overlay_base.specs.SegmentOf.{segment_of, segments_of};
 ghost use Rattle.overlay_c.specs.Records.{line_start_of, line_end_of, line_count_of, line_asks, line_asked_by, line_told_by};
 
-use crate::records::LineRecord;
+use crate::records::{LineRecord, point};
+use crate::width::Width;
 use overlay_base::segm::segment::Segment;
 use overlay_base::segm::string::ShapeCountString;
 use overlay_base::segm::winding::WindingCount;
 use overlay_geometry::geom::point::IntPoint;
 use std::alloc::AllocError;
 
-/// A segment of polygons and lines, with coordinates of 32 bits.
-pub type Line = Segment<ShapeCountString, i32, ()>;
+/// A segment of polygons and lines.
+pub type Line<I> = Segment<ShapeCountString, I, ()>;
 
 /// Loads the segments that records ask for. Returns whether each asks for one.
-pub fn load(records: &[LineRecord], list: &mut Vec<Line>) -> Result<bool, AllocError>
-    ensures asks { IfOk result (λ all. all ≡ list_all line_asks records.now) }
+pub fn load<I: Width>(records: &[LineRecord], list: &mut Vec<Line<I>>) -> Result<bool, AllocError>
+    ensures asks { IfOk result (λ all. all ≡ list_all (line_asks (I.whole I.MIN_COORD) (I.whole I.MAX_COORD))
+        records.now) }
     ensures segments { IfOk result (λ all. IsTrue all → segments_of list.new.items ≡ map line_asked_by records.now) }
 {
     list.clear();
@@ -32,20 +34,18 @@ pub fn load(records: &[LineRecord], list: &mut Vec<Line>) -> Result<bool, AllocE
     Ok(true)
 }
 
-/// The segment that a record asks for. `None` where the ends are equal, the count is `i32::MIN`, or the mask has other
+/// The segment that a record asks for. `None` where an end is out of range, the ends are equal, the count is `i32::MIN`, or the mask has other
 /// bits than its two.
-pub fn asked(given: &LineRecord) -> Option<Line>
-    ensures asks { is_some result ≡ line_asks given.now }
+pub fn asked<I: Width>(given: &LineRecord) -> Option<Line<I>>
+    ensures asks { is_some result ≡ line_asks (I.whole I.MIN_COORD) (I.whole I.MAX_COORD) given.now }
     ensures segment { IfSome result (λ segment. segment_of segment ≡ line_asked_by given.now) }
 {
-    if has_equal_ends(given) {
-        return None;
-    }
+    let a = point(start(given))?;
+    let b = point(end(given))?;
     let count = count(given);
-    if !count.is_valid() {
+    if has_equal_ends(given) || !count.is_valid() {
         return None;
     }
-    let (a, b) = (start(given), end(given));
     Some(Segment::create_and_validate_with_data(a, b, count, (), &mut ()))
 }
 
@@ -87,23 +87,23 @@ fn end(given: &LineRecord) -> IntPoint<i32>
 }
 
 /// The record of a segment.
-pub fn told(segment: &Line) -> LineRecord
+pub fn told<I: Width>(segment: &Line<I>) -> LineRecord
     ensures { line_told_by result ≡ segment_of segment.now }
 {
     let ends = segment.x_segment();
     let count = segment.count();
     LineRecord {
-        ax: ends.a.x,
-        ay: ends.a.y,
-        bx: ends.b.x,
-        by: ends.b.y,
+        ax: ends.a.x.number(),
+        ay: ends.a.y.number(),
+        bx: ends.b.x.number(),
+        by: ends.b.y.number(),
         subj: count.subj,
         mask: count.clip,
     }
 }
 
 /// Writes the records of segments.
-pub fn tell_all(segments: &[Line], out: &mut [LineRecord])
+pub fn tell_all<I: Width>(segments: &[Line<I>], out: &mut [LineRecord])
     requires { length out.old ≡ length segments.now }
     ensures { map line_told_by out.new ≡ segments_of segments.now }
 {

@@ -2,6 +2,7 @@
 ghost use Rattle.std.specs.Prelude.{◌≡◌, ◌<◌, ◌&&◌, IfSome, is_some, length, map};
 ghost use Rattle.std.specs.Ordering.{int_eq};
 ghost use Rattle.overlay_geometry.specs.PointOf.{point_of};
+ghost use Rattle.overlay_geometry.specs.Coordinates.{is_point_in_range};
 ghost use Rattle.overlay_base.specs.BooleanWinding.{boolean_winding, boolean_counted};
 ghost use Rattle.overlay_base.specs.EdgeData.{data_piece};
 ghost use Rattle.overlay_base.specs.HooksOf.{hooks_of};
@@ -9,6 +10,7 @@ ghost use Rattle.overlay_base.specs.SegmentOf.{segment_of, segments_of, data_seg
 ghost use Rattle.overlay_build.specs.GraphOf.{link_of};
 ghost use Rattle.overlay_c.specs.Records.{start_of, end_of, count_of, asks, asked_by, told_by, link_by, fill_rule_of, shape_of, IsRuleOf};
 
+use crate::width::Width;
 use overlay_base::overlay_core::edge_data::OverlayEdgeData;
 use overlay_base::overlay_core::fill_rule::FillRule;
 use overlay_base::overlay_core::link::OverlayLink;
@@ -21,8 +23,8 @@ use overlay_base::segm::shape_type::ShapeType;
 use overlay_base::segm::winding::WindingCount;
 use overlay_geometry::geom::point::IntPoint;
 
-/// A segment of polygons, with coordinates of 32 bits.
-pub type Side = Segment<ShapeCountBoolean, i32, ()>;
+/// A segment of polygons.
+pub type Side<I> = Segment<ShapeCountBoolean, I, ()>;
 
 /// A segment, and how it winds for the subject and for the clip.
 #[repr(C)]
@@ -76,29 +78,41 @@ pub struct SettingsRecord {
     pub strategy: u8,
     /// 0 for `EvenOdd`, 1 for `NonZero`, 2 for `Positive`, 3 for `Negative`.
     pub fill_rule: u8,
+    /// 0 for coordinates of 32 bits, else those of 16.
+    pub engine: u8,
 }
 
-/// The segment that a record asks for, with data. `None` where the ends are equal or a count is `i32::MIN`.
-pub fn asked<D: OverlayEdgeData<ShapeCountBoolean>>(
+/// The segment that a record asks for, with data. `None` where an end is out of range, the ends are equal, or a count is
+/// `i32::MIN`.
+pub fn asked<I: Width, D: OverlayEdgeData<ShapeCountBoolean>>(
     given: &SegmentRecord,
     edge_data: D,
     store: &mut D::Store,
-) -> Option<Segment<ShapeCountBoolean, i32, D>>
-    ensures asks { is_some result ≡ asks given.now }
+) -> Option<Segment<ShapeCountBoolean, I, D>>
+    ensures asks { is_some result ≡ asks (I.whole I.MIN_COORD) (I.whole I.MAX_COORD) given.now }
     ensures segment { IfSome result (λ segment. segment_of segment ≡ asked_by given.now) }
     ensures edge_data { IfSome result (λ segment. let hooks = hooks_of boolean_counted D.OverlayEdgeData.own in
         data_segment_of segment ≡ (data_piece hooks (count_of given.now) (start_of given.now) (end_of given.now)
         edge_data store.old).0) }
 {
-    if has_equal_ends(given) {
-        return None;
-    }
+    let a = point(start(given))?;
+    let b = point(end(given))?;
     let count = count(given);
-    if !count.is_valid() {
+    if has_equal_ends(given) || !count.is_valid() {
         return None;
     }
-    let (a, b) = (start(given), end(given));
     Some(Segment::create_and_validate_with_data(a, b, count, edge_data, store))
+}
+
+/// The same point for an engine. `None` where it is out of range.
+pub fn point<I: Width>(at: IntPoint<i32>) -> Option<IntPoint<I>>
+    ensures in_range { is_some result ≡ is_point_in_range (I.whole I.MIN_COORD) (I.whole I.MAX_COORD)
+        (point_of (λ z. z) at) }
+    ensures same { IfSome result (λ point. point_of I.whole point ≡ point_of (λ z. z) at) }
+{
+    let x = I::from_number(at.x)?;
+    let y = I::from_number(at.y)?;
+    Some(IntPoint { x, y })
 }
 
 /// Whether the two ends of a record are one point.
@@ -139,23 +153,23 @@ pub fn end(given: &SegmentRecord) -> IntPoint<i32>
 }
 
 /// The record of a segment.
-pub fn told(segment: &Side) -> SegmentRecord
+pub fn told<I: Width>(segment: &Side<I>) -> SegmentRecord
     ensures { told_by result ≡ segment_of segment.now }
 {
     let ends = segment.x_segment();
     let count = segment.count();
     SegmentRecord {
-        ax: ends.a.x,
-        ay: ends.a.y,
-        bx: ends.b.x,
-        by: ends.b.y,
+        ax: ends.a.x.number(),
+        ay: ends.a.y.number(),
+        bx: ends.b.x.number(),
+        by: ends.b.y.number(),
         subj: count.subj,
         clip: count.clip,
     }
 }
 
 /// Writes the records of segments.
-pub fn tell_all(segments: &[Side], out: &mut [SegmentRecord])
+pub fn tell_all<I: Width>(segments: &[Side<I>], out: &mut [SegmentRecord])
     requires { length out.old ≡ length segments.now }
     ensures { map told_by out.new ≡ segments_of segments.now }
 {
@@ -165,16 +179,16 @@ pub fn tell_all(segments: &[Side], out: &mut [SegmentRecord])
 }
 
 /// The record of a link.
-pub fn link<D: Copy>(link: &OverlayLink<i32, D>) -> LinkRecord
-    ensures { link_by result ≡ link_of (λ z. z) link.now }
+pub fn link<I: Width, D: Copy>(link: &OverlayLink<I, D>) -> LinkRecord
+    ensures { link_by result ≡ link_of I.whole link.now }
 {
     LinkRecord {
         a_node: link.a.id,
-        ax: link.a.point.x,
-        ay: link.a.point.y,
+        ax: link.a.point.x.number(),
+        ay: link.a.point.y.number(),
         b_node: link.b.id,
-        bx: link.b.point.x,
-        by: link.b.point.y,
+        bx: link.b.point.x.number(),
+        by: link.b.point.y.number(),
         fill: link.fill,
     }
 }

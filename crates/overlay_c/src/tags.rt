@@ -7,10 +7,12 @@ ghost use Rattle.overlay_base.specs.declared.segm.fault.Fault.TheVariants.{Count
 ghost use Rattle.overlay_c.specs.Kept.{are_usable};
 ghost use Rattle.overlay_c.specs.Records.{asks, asked_by};
 ghost use Rattle.overlay_c.specs.Tags.{untagged, tagged_by, with_tag};
+ghost use Rattle.overlay_c.specs.Status.{OnUnusable};
 ghost use Rattle.overlay_c.specs.declared.refusal.Refusal.TheVariants.{Refused, NotSplittable};
 
 use crate::records::{SegmentRecord, Side, asked};
 use crate::refusal::Refusal;
+use crate::width::Width;
 use overlay_base::overlay_core::edge_data::{EdgeDataMerge, EdgeDataSplit, OverlayEdgeData};
 use overlay_base::overlay_core::link::OverlayLink;
 use overlay_base::segm::arranged::is_splittable;
@@ -53,7 +55,7 @@ impl OverlayEdgeData<ShapeCountBoolean> for Tag {
 }
 
 /// A segment of polygons with its number.
-pub type TaggedSide = Segment<ShapeCountBoolean, i32, Tag>;
+pub type TaggedSide<I> = Segment<ShapeCountBoolean, I, Tag>;
 
 /// A segment, and the number that is handed through to its links.
 #[repr(C)]
@@ -64,11 +66,15 @@ pub struct TaggedRecord {
 }
 
 /// Loads the segments that records ask for, with their numbers, where these may be split; else the list is empty.
-pub fn load_splittable(given: &[TaggedRecord], list: &mut Vec<TaggedSide>) -> Result<(), Refusal>
+pub fn load_splittable<I: Width>(
+    given: &[TaggedRecord],
+    list: &mut Vec<TaggedSide<I>>,
+) -> Result<(), Refusal>
     ensures segments { OnOk result (data_segments_of list.new.items ≡ tagged_by given.now) }
     ensures splittable { OnOk result (IsSplittable list.new.items) }
-    ensures usable { OnOk result (IsTrue (are_usable (untagged given.now))) }
-    ensures unusable { IfErr result (λ refusal. refusal ≡ NotSplittable → IsFalse (are_usable (untagged given.now))) }
+    ensures usable { OnOk result (IsTrue (are_usable (I.whole I.MIN_COORD) (I.whole I.MAX_COORD)
+        (untagged given.now))) }
+    ensures unusable { OnUnusable result (IsFalse (are_usable (I.whole I.MIN_COORD) (I.whole I.MAX_COORD) (untagged given.now))) }
     ensures no_count { IfErr result (λ refusal. refusal ≢ Refused CountOutOfRange) }
     ensures emptied { OnErr result (list.new.items ≡ []) }
 {
@@ -80,11 +86,12 @@ pub fn load_splittable(given: &[TaggedRecord], list: &mut Vec<TaggedSide>) -> Re
 }
 
 /// The same, but that a refused load may leave anything.
-fn try_load(given: &[TaggedRecord], list: &mut Vec<TaggedSide>) -> Result<(), Refusal>
+fn try_load<I: Width>(given: &[TaggedRecord], list: &mut Vec<TaggedSide<I>>) -> Result<(), Refusal>
     ensures segments { OnOk result (data_segments_of list.new.items ≡ tagged_by given.now) }
     ensures splittable { OnOk result (IsSplittable list.new.items) }
-    ensures usable { OnOk result (IsTrue (are_usable (untagged given.now))) }
-    ensures unusable { IfErr result (λ refusal. refusal ≡ NotSplittable → IsFalse (are_usable (untagged given.now))) }
+    ensures usable { OnOk result (IsTrue (are_usable (I.whole I.MIN_COORD) (I.whole I.MAX_COORD)
+        (untagged given.now))) }
+    ensures unusable { OnUnusable result (IsFalse (are_usable (I.whole I.MIN_COORD) (I.whole I.MAX_COORD) (untagged given.now))) }
     ensures no_count { IfErr result (λ refusal. refusal ≢ Refused CountOutOfRange) }
 {
     if !load(given, list)? || !is_splittable(list) {
@@ -94,8 +101,12 @@ fn try_load(given: &[TaggedRecord], list: &mut Vec<TaggedSide>) -> Result<(), Re
 }
 
 /// Loads the segments that records ask for, with their numbers. Returns whether each asks for one.
-fn load(records: &[TaggedRecord], list: &mut Vec<TaggedSide>) -> Result<bool, AllocError>
-    ensures asks { IfOk result (λ all. all ≡ list_all (λ r. asks r.segment) records.now) }
+fn load<I: Width>(
+    records: &[TaggedRecord],
+    list: &mut Vec<TaggedSide<I>>,
+) -> Result<bool, AllocError>
+    ensures asks { IfOk result (λ all. all ≡ list_all (λ r. asks (I.whole I.MIN_COORD) (I.whole I.MAX_COORD) r.segment)
+        records.now) }
     ensures segments { IfOk result (λ all. IsTrue all → data_segments_of list.new.items ≡ tagged_by records.now) }
 {
     list.clear();
@@ -109,15 +120,18 @@ fn load(records: &[TaggedRecord], list: &mut Vec<TaggedSide>) -> Result<bool, Al
 }
 
 /// The segment that a record asks for, with its number. `None` where the ends are equal or a count is `i32::MIN`.
-fn asked_with_tag(given: &TaggedRecord) -> Option<TaggedSide>
-    ensures asks { is_some result ≡ asks given.now.segment }
+fn asked_with_tag<I: Width>(given: &TaggedRecord) -> Option<TaggedSide<I>>
+    ensures asks { is_some result ≡ asks (I.whole I.MIN_COORD) (I.whole I.MAX_COORD) given.now.segment }
     ensures segment { IfSome result (λ s. data_segment_of s ≡ with_tag (asked_by given.now.segment) given.now.tag) }
 {
     asked(&given.segment, given.tag, &mut ())
 }
 
 /// Keeps segments without their numbers; where memory is refused, none.
-pub fn keep_untagged(tagged: &[TaggedSide], kept: &mut Vec<Side>) -> Result<(), AllocError>
+pub fn keep_untagged<I: Width>(
+    tagged: &[TaggedSide<I>],
+    kept: &mut Vec<Side<I>>,
+) -> Result<(), AllocError>
     ensures kept { OnOk result (segments_of kept.new.items ≡ segments_of tagged.now) }
     ensures emptied { OnErr result (kept.new.items ≡ []) }
 {
@@ -129,7 +143,10 @@ pub fn keep_untagged(tagged: &[TaggedSide], kept: &mut Vec<Side>) -> Result<(), 
 }
 
 /// The same, but that a refusal may leave anything.
-fn push_untagged(tagged: &[TaggedSide], kept: &mut Vec<Side>) -> Result<(), AllocError>
+fn push_untagged<I: Width>(
+    tagged: &[TaggedSide<I>],
+    kept: &mut Vec<Side<I>>,
+) -> Result<(), AllocError>
     ensures { OnOk result (segments_of kept.new.items ≡ segments_of tagged.now) }
 {
     kept.clear();
@@ -140,7 +157,7 @@ fn push_untagged(tagged: &[TaggedSide], kept: &mut Vec<Side>) -> Result<(), Allo
 }
 
 /// A segment without its number.
-fn untagged(segment: &TaggedSide) -> Side
+fn untagged<I: Width>(segment: &TaggedSide<I>) -> Side<I>
     ensures { segment_of result ≡ segment_of segment.now }
 {
     let ends = segment.x_segment();
@@ -148,7 +165,10 @@ fn untagged(segment: &TaggedSide) -> Side
 }
 
 /// Keeps the numbers of links.
-pub fn keep_tags(links: &[OverlayLink<i32, Tag>], kept: &mut Vec<Tag>) -> Result<(), AllocError>
+pub fn keep_tags<I: Width>(
+    links: &[OverlayLink<I, Tag>],
+    kept: &mut Vec<Tag>,
+) -> Result<(), AllocError>
     ensures { OnOk result (kept.new.items ≡ map (λ l. l.edge_data) links.now) }
 {
     kept.clear();

@@ -5,6 +5,6 @@ use Rattle.overlay_c.specs.Records.{line_asks, line_asked_by}
 use Rattle.overlay_c.proofs.lines.load.Given as goal
 
 abbrev pub invariant-loop-given : goal.invariant-loop-given
-invariant-loop-given l =
-    (list_all line_asks (take l.given-index l.records) ≡ true)
+invariant-loop-given g l =
+    (list_all (line_asks (g.I.OverlayInt.whole g.I.OverlayInt.MIN_COORD) (g.I.OverlayInt.whole g.I.OverlayInt.MAX_COORD)) (take l.given-index l.records) ≡ true)
     × (segments_of l.list.items ≡ map line_asked_by (take l.given-index l.records))

@@ -4,5 +4,5 @@ use Rattle.overlay_c.specs.Records.{told_by}
 use Rattle.overlay_c.proofs.records.tell_all.Given as goal
 
 abbrev pub invariant-loop-index : goal.invariant-loop-index
-invariant-loop-index l =
+invariant-loop-index g l =
     (length l.out ≡ length l.segments) × (map told_by (take l.index l.out) ≡ segments_of (take l.index l.segments))

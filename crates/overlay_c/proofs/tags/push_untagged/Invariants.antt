@@ -3,4 +3,4 @@ use Rattle.overlay_base.specs.SegmentOf.{segments_of}
 use Rattle.overlay_c.proofs.tags.push_untagged.Given as goal
 
 abbrev pub invariant-loop-segment : goal.invariant-loop-segment
-invariant-loop-segment l = segments_of l.kept.items ≡ segments_of (take l.segment-index l.tagged)
+invariant-loop-segment g l = segments_of l.kept.items ≡ segments_of (take l.segment-index l.tagged)

@@ -6,6 +6,6 @@ use Rattle.overlay_c.proofs.LinkData.{made_again}
 use Rattle.overlay_c.proofs.tags.untagged.Goals as goal
 
 pub returns : goal.returns
-returns c =
+returns g c =
     ap bare c.create_and_validate_with_data.ensures.segment
-    ∙ made_again _ _ _ _ _ _ _ _ c.args.segment.now.ordered (ap (λ s. pair_of (λ z. z) s) c.x_segment-ends.ensures) (ap boolean_winding c.count.ensures)
+    ∙ made_again _ _ _ _ _ _ _ _ c.args.segment.now.ordered (ap (λ s. pair_of g.I.OverlayInt.whole s) c.x_segment-ends.ensures) (ap boolean_winding c.count.ensures)

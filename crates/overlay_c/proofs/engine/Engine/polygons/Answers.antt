@@ -5,7 +5,7 @@ use Rattle.overlay_c.proofs.engine.Engine.polygons.Goals as goal
 
 pub returns-clause-kept : goal.returns-clause-kept
 returns-clause-kept c =
-    let es = same_settings _ _ _ _ _ _ c.solver-solver.ensures.start c.solver-solver.ensures.progression refl in
+    let es = same_settings 32 _ _ _ _ _ _ c.solver-solver.ensures.start c.solver-solver.ensures.progression refl in
     record {
       contours = contours_of (λ z. z) c.in_ok-contours.contours.items;
       overlay = same_polygons _ _ _ _ _ _ _ _ es c.fill_rule-fill_rule.ensures c.in_ok-contours.ensures.polygons;

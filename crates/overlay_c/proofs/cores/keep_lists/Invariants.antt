@@ -1,5 +1,5 @@
 use Rattle.std.proofs.Common.{◌≡◌, map, take, length, flat_map}
-use Rattle.overlay_c.proofs.engine.keep_lists.Given as goal
+use Rattle.overlay_c.proofs.cores.keep_lists.Given as goal
 
 abbrev pub invariant-loop-list : goal.invariant-loop-list
 invariant-loop-list l =

@@ -5,10 +5,10 @@ use Rattle.overlay_build.specs.GraphOf.{link_of}
 use Rattle.overlay_build.specs.NodeIndexes.{indexes_of}
 use Rattle.overlay_c.specs.Records.{fill_rule_of}
 use Rattle.overlay_c.proofs.Overlays.{same_laid}
-use Rattle.overlay_c.proofs.engine.Engine.all.Goals as goal
+use Rattle.overlay_c.proofs.cores.Core.all.Goals as goal
 
 pub returns-clause-kept : goal.returns-clause-kept
-returns-clause-kept c =
+returns-clause-kept g c =
     let hold = c.in_ok-graph.ensures.graph in
     let G : Graph = graph_by (λ _. true) c.fill_rule-fill_rule.result (segments_of c.deref.result.now) in
     record {
@@ -17,7 +17,7 @@ returns-clause-kept c =
       links = ap (λ f. graph_by (λ _. true) f (segments_of c.deref.result.now)) c.fill_rule-fill_rule.ensures
           ∙ ap (λ ss. graph_by (λ _. true) (fill_rule_of c.args.settings.now.fill_rule) (segments_of ss)) c.deref.ensures.value;
       kept = record {
-        links = c.in_ok-keep_links.ensures ∙ ap (λ ls. map (link_of (λ z. z)) ls) c.links.ensures ∙ hold.same_links;
+        links = c.in_ok-keep_links.ensures ∙ ap (λ ls. map (link_of g.I.OverlayInt.whole) ls) c.links.ensures ∙ hold.same_links;
         nodes = same_laid _ _ _ _ (ap (λ ns. map indexes_of ns) c.nodes.ensures ∙ hold.same_nodes) c.in_ok-keep_nodes.ensures.degrees c.in_ok-keep_nodes.ensures.indexes;
       };
     }

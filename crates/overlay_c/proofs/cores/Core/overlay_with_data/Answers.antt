@@ -10,48 +10,48 @@ use Rattle.overlay_build.specs.NodeIndexes.{indexes_of}
 use Rattle.overlay_c.proofs.LinkData.{bare_tagged, data_after, keeping_keeps, keeping_names_no_other, keeps_data, moved_overlay, moved_split, moved_refusal, told_refusal, left_by_refusal, on_err}
 use Rattle.overlay_c.specs.Tags.{keeping}
 use Rattle.overlay_c.proofs.Overlays.{same_settings, same_region, same_laid}
-use Rattle.overlay_c.proofs.engine.Engine.overlay_with_data.Goals as goal
+use Rattle.overlay_c.proofs.cores.Core.overlay_with_data.Goals as goal
 
 pub returns-in_err-graph-clause-too_large : goal.returns-in_err-graph-clause-too_large
-returns-in_err-graph-clause-too_large c =
-    let es = same_settings _ _ _ _ _ _ c.solver-solver.ensures.start c.solver-solver.ensures.progression refl in
+returns-in_err-graph-clause-too_large g c =
+    let es = same_settings g.I.OverlayInt.BITS _ _ _ _ _ _ c.solver-solver.ensures.start c.solver-solver.ensures.progression refl in
     let ex = segments_of-bare _ ∙ ap (λ xs. without_data xs) c.in_ok-load_splittable.ensures.segments ∙ bare_tagged c.args.given.now in
     let ey = sym (c.in_ok-keep_untagged.ensures.kept ∙ ap (λ xs. segments_of xs) c.deref.ensures.value) in
     told_refusal c.from_residual-in_err-graph.result c.in_err-graph.field-0.0 _ _ _ _ _ c.from_residual-in_err-graph.ensures.1 (moved_refusal _ _ _ _ _ _ _ _ _ es ex ey c.in_err-graph.ensures.refused)
 
 pub returns-in_err-graph-clause-stands : goal.returns-in_err-graph-clause-stands
-returns-in_err-graph-clause-stands c =
-    let es = same_settings _ _ _ _ _ _ c.solver-solver.ensures.start c.solver-solver.ensures.progression (sym c.split_and_build_overlay-built.ensures.limit) in
+returns-in_err-graph-clause-stands g c =
+    let es = same_settings g.I.OverlayInt.BITS _ _ _ _ _ _ c.solver-solver.ensures.start c.solver-solver.ensures.progression (sym c.split_and_build_overlay-built.ensures.limit) in
     let ex = segments_of-bare _ ∙ ap (λ xs. without_data xs) c.in_ok-load_splittable.ensures.segments ∙ bare_tagged c.args.given.now in
     let ey = sym (c.in_ok-keep_untagged.ensures.kept ∙ ap (λ xs. segments_of xs) c.deref.ensures.value) in
     on_err c.from_residual-in_err-graph.result (left_by_refusal _ _ _ _ _ _ (moved_refusal _ _ _ _ _ _ _ _ _ es ex ey c.in_err-graph.ensures.refused))
 
 pub returns-in_err-keep_links-clause-stands : goal.returns-in_err-keep_links-clause-stands
-returns-in_err-keep_links-clause-stands c =
-    let es = same_settings _ _ _ _ _ _ c.solver-solver.ensures.start c.solver-solver.ensures.progression (sym c.split_and_build_overlay-built.ensures.limit) in
+returns-in_err-keep_links-clause-stands g c =
+    let es = same_settings g.I.OverlayInt.BITS _ _ _ _ _ _ c.solver-solver.ensures.start c.solver-solver.ensures.progression (sym c.split_and_build_overlay-built.ensures.limit) in
     let ex = segments_of-bare _ ∙ ap (λ xs. without_data xs) c.in_ok-load_splittable.ensures.segments ∙ bare_tagged c.args.given.now in
     let ey = sym (c.in_ok-keep_untagged.ensures.kept ∙ ap (λ xs. segments_of xs) c.deref.ensures.value) in
     on_err c.from_residual-in_err-keep_links.result (inr (moved_split _ _ _ _ _ _ _ es ex ey c.in_ok-graph.ensures.overlay.split))
 
 pub returns-in_err-keep_tags-clause-stands : goal.returns-in_err-keep_tags-clause-stands
-returns-in_err-keep_tags-clause-stands c =
-    let es = same_settings _ _ _ _ _ _ c.solver-solver.ensures.start c.solver-solver.ensures.progression (sym c.split_and_build_overlay-built.ensures.limit) in
+returns-in_err-keep_tags-clause-stands g c =
+    let es = same_settings g.I.OverlayInt.BITS _ _ _ _ _ _ c.solver-solver.ensures.start c.solver-solver.ensures.progression (sym c.split_and_build_overlay-built.ensures.limit) in
     let ex = segments_of-bare _ ∙ ap (λ xs. without_data xs) c.in_ok-load_splittable.ensures.segments ∙ bare_tagged c.args.given.now in
     let ey = sym (c.in_ok-keep_untagged.ensures.kept ∙ ap (λ xs. segments_of xs) c.deref.ensures.value) in
     on_err c.from_residual-in_err-keep_tags.result (inr (moved_split _ _ _ _ _ _ _ es ex ey c.in_ok-graph.ensures.overlay.split))
 
 pub returns-in_err-keep_nodes-clause-stands : goal.returns-in_err-keep_nodes-clause-stands
-returns-in_err-keep_nodes-clause-stands c =
-    let es = same_settings _ _ _ _ _ _ c.solver-solver.ensures.start c.solver-solver.ensures.progression (sym c.split_and_build_overlay-built.ensures.limit) in
+returns-in_err-keep_nodes-clause-stands g c =
+    let es = same_settings g.I.OverlayInt.BITS _ _ _ _ _ _ c.solver-solver.ensures.start c.solver-solver.ensures.progression (sym c.split_and_build_overlay-built.ensures.limit) in
     let ex = segments_of-bare _ ∙ ap (λ xs. without_data xs) c.in_ok-load_splittable.ensures.segments ∙ bare_tagged c.args.given.now in
     let ey = sym (c.in_ok-keep_untagged.ensures.kept ∙ ap (λ xs. segments_of xs) c.deref.ensures.value) in
     on_err c.from_residual-in_err-keep_nodes.result (inr (moved_split _ _ _ _ _ _ _ es ex ey c.in_ok-graph.ensures.overlay.split))
 
 pub returns-clause-kept : goal.returns-clause-kept
-returns-clause-kept c =
+returns-clause-kept g c =
     let holds' = c.in_ok-graph.graph.holds in
-    let G : Graph = graph_with (λ z. z) c.in_ok-graph.graph.links.now in
-    let es = same_settings _ _ _ _ _ _ c.solver-solver.ensures.start c.solver-solver.ensures.progression (sym c.split_and_build_overlay-built.ensures.limit) in
+    let G : Graph = graph_with g.I.OverlayInt.whole c.in_ok-graph.graph.links.now in
+    let es = same_settings g.I.OverlayInt.BITS _ _ _ _ _ _ c.solver-solver.ensures.start c.solver-solver.ensures.progression (sym c.split_and_build_overlay-built.ensures.limit) in
     let ex = segments_of-bare _ ∙ ap (λ xs. without_data xs) c.in_ok-load_splittable.ensures.segments ∙ bare_tagged c.args.given.now in
     let ey = sym (c.in_ok-keep_untagged.ensures.kept ∙ ap (λ xs. segments_of xs) c.deref.ensures.value) in
     record {
@@ -59,7 +59,7 @@ returns-clause-kept c =
       overlay = moved_overlay _ _ _ _ (holds c.args.rule) _ _ _ _ _ G es c.fill_rule-fill_rule.ensures ex ey c.in_ok-graph.ensures.overlay;
       region = same_region _ _ c.args.rule _ _ _ _ _ G es c.fill_rule-fill_rule.ensures ex c.in_ok-graph.ensures.region;
       kept = record {
-        links = c.in_ok-keep_links.ensures ∙ ap (λ ls. map (link_of (λ z. z)) ls) c.links.ensures ∙ holds'.same_links;
+        links = c.in_ok-keep_links.ensures ∙ ap (λ ls. map (link_of g.I.OverlayInt.whole) ls) c.links.ensures ∙ holds'.same_links;
         nodes = same_laid _ _ _ _ (ap (λ ns. map indexes_of ns) c.nodes.ensures ∙ holds'.same_nodes) c.in_ok-keep_nodes.ensures.degrees c.in_ok-keep_nodes.ensures.indexes;
       };
       kept_walks = record {
@@ -69,11 +69,11 @@ returns-clause-kept c =
     }
 
 pub returns-clause-kept_data : goal.returns-clause-kept_data
-returns-clause-kept_data c =
-    let es = same_settings _ _ _ _ _ _ c.solver-solver.ensures.start c.solver-solver.ensures.progression (sym c.split_and_build_overlay-built.ensures.limit) in
+returns-clause-kept_data g c =
+    let es = same_settings g.I.OverlayInt.BITS _ _ _ _ _ _ c.solver-solver.ensures.start c.solver-solver.ensures.progression (sym c.split_and_build_overlay-built.ensures.limit) in
     let built = c.split_and_build_overlay-built in
-    keeps_data _ c.args.rule _ _ c.in_ok-graph.graph.links.now _ _ _ (data_segments_of built.new.segments.items) _ es c.fill_rule-fill_rule.ensures c.in_ok-load_splittable.ensures.segments (segments_of-bare _)
-    (c.in_ok-keep_links.ensures ∙ ap (λ ls. map (link_of (λ z. z)) ls) c.links.ensures)
+    keeps_data _ c.args.rule _ _ g.I.OverlayInt.whole c.in_ok-graph.graph.links.now _ _ _ (data_segments_of built.new.segments.items) _ es c.fill_rule-fill_rule.ensures c.in_ok-load_splittable.ensures.segments (segments_of-bare _)
+    (c.in_ok-keep_links.ensures ∙ ap (λ ls. map (link_of g.I.OverlayInt.whole) ls) c.links.ensures)
     (c.in_ok-keep_tags.ensures ∙ ap (λ ls. map (λ l. l.edge_data) ls) c.links-2.ensures)
     c.in_ok-graph.ensures.edge_data
     (data_after keeping _ (data_segments_of c.load_splittable.new.list.items) (data_segments_of built.new.segments.items) _ _ _ _ (segments_of-bare _) c.in_ok-graph.ensures.overlay.split.arrangement (segments_of-bare _) (ap (λ xs. data_segments_of xs)) built.ensures.list_data)

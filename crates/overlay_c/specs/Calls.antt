@@ -1,0 +1,64 @@
+-- What a call through a handle makes of the engine behind it.
+use Rattle.std.specs.Prelude.{◌≡◌, ◌++◌, ◌∷◌, [], ℕ, Bool, false, List, IsTrue, IsFalse, IfSome, Option, map}
+use Rattle.overlay_base.specs.declared.overlay_core.overlay_rule.OverlayRule.{OverlayRule}
+use Rattle.overlay_base.specs.declared.segm.shape_type.ShapeType.{ShapeType}
+use Rattle.overlay_base.specs.declared.segm.shape_type.ShapeType.TheVariants.{Subject, Clip}
+use Rattle.overlay_base.specs.EdgeData.{DataSegment}
+use Rattle.overlay_base.specs.Segments.{WholeSegment}
+use Rattle.overlay_contours.specs.Refusals.{CountsLeaveRange}
+use Rattle.overlay_c.specs.Contours.{point_by, contours_in, polygon_settings, KeepsPolygons}
+use Rattle.overlay_c.specs.Kept.{are_usable, are_lines_usable}
+use Rattle.overlay_c.specs.Records.{names_narrow, IsRuleOf}
+use Rattle.overlay_c.specs.Widths.{least_of, greatest_of, LastKeepsOverlay, LastKeepsData}
+use Rattle.overlay_c.specs.declared.contours.PointRecord.{PointRecord}
+use Rattle.overlay_c.specs.declared.engine.Engine.{Engine}
+use Rattle.overlay_c.specs.declared.records.LineRecord.{LineRecord}
+use Rattle.overlay_c.specs.declared.records.SegmentRecord.{SegmentRecord}
+use Rattle.overlay_c.specs.declared.records.SettingsRecord.{SettingsRecord}
+use Rattle.overlay_c.specs.declared.tags.Tag.{Tag}
+
+-- A call that finds an engine and leaves one makes the one of the other, by a relation.
+abbrev pub Turns : Option Engine → Option Engine → (Engine → Engine → Type 0) → Type 0
+Turns old new relation = IfSome old (λ before. IfSome new (relation before))
+
+-- The engine of this code was chosen.
+abbrev pub Chooses : ℕ → Engine → Type 0
+Chooses code engine = engine.is_narrow ≡ names_narrow code
+
+-- The engine that was chosen may split the segments of records, or may not; and those of polygons and lines.
+abbrev pub MaySplit : List SegmentRecord → Engine → Type 0
+MaySplit records engine = IsTrue (are_usable (least_of engine.is_narrow) (greatest_of engine.is_narrow) records)
+
+abbrev pub MayNotSplit : List SegmentRecord → Engine → Type 0
+MayNotSplit records engine = IsFalse (are_usable (least_of engine.is_narrow) (greatest_of engine.is_narrow) records)
+
+abbrev pub MaySplitLines : List LineRecord → Engine → Type 0
+MaySplitLines records engine = IsTrue (are_lines_usable (least_of engine.is_narrow) (greatest_of engine.is_narrow) records)
+
+abbrev pub MayNotSplitLines : List LineRecord → Engine → Type 0
+MayNotSplitLines records engine = IsFalse (are_lines_usable (least_of engine.is_narrow) (greatest_of engine.is_narrow) records)
+
+-- The engine keeps an overlay by the rule of a code; and so with the data of its links.
+abbrev pub KeepsOverlayBy : SettingsRecord → ℕ → Bool → List WholeSegment → Engine → Type 0
+KeepsOverlayBy settings code walks given engine = (rule : OverlayRule) × IsRuleOf code rule × LastKeepsOverlay settings rule walks given engine
+
+abbrev pub KeepsDataBy : SettingsRecord → ℕ → List WholeSegment → List (DataSegment Tag) → Engine → Type 0
+KeepsDataBy settings code given tagged engine =
+    (rule : OverlayRule) × IsRuleOf code rule × LastKeepsOverlay settings rule false given engine × LastKeepsData settings rule tagged engine
+
+-- The contours that were added stay; those of a shape stay; one is added behind them.
+abbrev pub SameContours : Engine → Engine → Type 0
+SameContours before after = after.polygons ≡ before.polygons
+
+abbrev pub SameShape : ShapeType → Engine → Engine → Type 0
+SameShape shape before after = contours_in after shape ≡ contours_in before shape
+
+abbrev pub AddsContour : ShapeType → List PointRecord → Engine → Engine → Type 0
+AddsContour shape contour before after = contours_in after shape ≡ contours_in before shape ++ map point_by contour ∷ []
+
+-- The engine keeps the overlay of its contours, by the rule of a code; or a count of theirs leaves the range.
+abbrev pub KeepsPolygonsBy : SettingsRecord → ℕ → Engine → Engine → Type 0
+KeepsPolygonsBy settings code before after = (rule : OverlayRule) × IsRuleOf code rule × KeepsPolygons settings rule before after
+
+abbrev pub PolygonCountsLeaveRange : SettingsRecord → Engine → Type 0
+PolygonCountsLeaveRange settings engine = CountsLeaveRange (polygon_settings settings) (contours_in engine Subject) (contours_in engine Clip)

@@ -1,0 +1,112 @@
+-- Which engine a call takes, and what its core keeps.
+use Rattle.std.specs.Prelude.{◌≡◌, ℕ, ℤ, negsuc, pos, Bool, true, false, List, length}
+use Rattle.overlay_geometry.specs.Coordinates.{least_coordinate, greatest_coordinate}
+use Rattle.overlay_base.specs.EdgeData.{DataSegment}
+use Rattle.overlay_base.specs.Segments.{WholeSegment}
+use Rattle.overlay_base.specs.SegmentOf.{segments_of}
+use Rattle.overlay_base.specs.declared.overlay_core.clip_rule.ClipRule.{ClipRule}
+use Rattle.overlay_base.specs.declared.overlay_core.overlay_rule.OverlayRule.{OverlayRule}
+use Rattle.overlay_split.specs.Run.{LeavesRange}
+use Rattle.overlay_split.specs.SettingsOf.{snap_limit_of}
+use Rattle.overlay_c.specs.Kept.{engine_settings, TellsSizes, KeepsSplit, KeepsAll, KeepsOverlay, KeepsData, KeepsClip, StandsAfter, LinesStandAfter, IsCountRefused, IsCountOfAllRefused, IsCountOfLinesRefused}
+use Rattle.overlay_c.specs.declared.records.LinkRecord.{LinkRecord}
+use Rattle.overlay_c.specs.declared.records.SettingsRecord.{SettingsRecord}
+use Rattle.overlay_c.specs.declared.records.SizesRecord.{SizesRecord}
+use Rattle.overlay_c.specs.declared.engine.Engine.{Engine}
+use Rattle.overlay_c.specs.declared.tags.Tag.{Tag}
+
+-- of two values or statements, that of the engine of 16 bits, or that of 32 bits
+abbrev pub pick : {A : Type 0} → Bool → A → A → A
+pick true narrow wide = narrow
+pick false narrow wide = wide
+
+abbrev pub Pick : Bool → Type 0 → Type 0 → Type 0
+Pick true narrow wide = narrow
+Pick false narrow wide = wide
+
+-- the least and the greatest coordinate
+abbrev pub least_of : Bool → ℤ
+least_of narrow = pick narrow (negsuc 16383) least_coordinate
+
+abbrev pub greatest_of : Bool → ℤ
+greatest_of narrow = pick narrow (pos 16383) greatest_coordinate
+
+-- what the core of the last call keeps
+abbrev pub LastKeepsSplit : SettingsRecord → List WholeSegment → Engine → Type 0
+LastKeepsSplit settings given engine = Pick engine.is_narrow (KeepsSplit settings given engine.narrow) (KeepsSplit settings given engine.wide)
+
+abbrev pub LastKeepsAll : SettingsRecord → List WholeSegment → Engine → Type 0
+LastKeepsAll settings given engine = Pick engine.is_narrow (KeepsAll settings given engine.narrow) (KeepsAll settings given engine.wide)
+
+abbrev pub LastKeepsOverlay : SettingsRecord → OverlayRule → Bool → List WholeSegment → Engine → Type 0
+LastKeepsOverlay settings rule walks given engine = Pick engine.is_narrow (KeepsOverlay settings rule walks given engine.narrow) (KeepsOverlay settings rule walks given engine.wide)
+
+abbrev pub LastKeepsData : SettingsRecord → OverlayRule → List (DataSegment Tag) → Engine → Type 0
+LastKeepsData settings rule given engine = Pick engine.is_narrow (KeepsData settings rule given engine.narrow) (KeepsData settings rule given engine.wide)
+
+abbrev pub LastKeepsClip : SettingsRecord → ClipRule → List WholeSegment → Engine → Type 0
+LastKeepsClip settings rule given engine = Pick engine.is_narrow (KeepsClip settings rule given engine.narrow) (KeepsClip settings rule given engine.wide)
+
+abbrev pub LastStandsAfter : SettingsRecord → List WholeSegment → Engine → Type 0
+LastStandsAfter settings given engine = Pick engine.is_narrow (StandsAfter settings given engine.narrow) (StandsAfter settings given engine.wide)
+
+abbrev pub LastLinesStandAfter : SettingsRecord → List WholeSegment → Engine → Type 0
+LastLinesStandAfter settings given engine = Pick engine.is_narrow (LinesStandAfter settings given engine.narrow) (LinesStandAfter settings given engine.wide)
+
+-- a count that was refused in that call
+abbrev pub LastIsCountRefused : SettingsRecord → List WholeSegment → Engine → Engine → Type 0
+LastIsCountRefused settings given before after = Pick after.is_narrow (IsCountRefused settings given before.narrow after.narrow) (IsCountRefused settings given before.wide after.wide)
+
+abbrev pub LastIsCountOfAllRefused : SettingsRecord → List WholeSegment → Engine → Engine → Type 0
+LastIsCountOfAllRefused settings given before after = Pick after.is_narrow (IsCountOfAllRefused settings given before.narrow after.narrow) (IsCountOfAllRefused settings given before.wide after.wide)
+
+abbrev pub LastIsCountOfLinesRefused : SettingsRecord → List WholeSegment → Engine → Engine → Type 0
+LastIsCountOfLinesRefused settings given before after = Pick after.is_narrow (IsCountOfLinesRefused settings given before.narrow after.narrow) (IsCountOfLinesRefused settings given before.wide after.wide)
+
+abbrev pub LastLeavesRange : SettingsRecord → List WholeSegment → Engine → Engine → Type 0
+LastLeavesRange settings given before after = Pick after.is_narrow (LeavesRange (engine_settings settings before.narrow) given) (LeavesRange (engine_settings settings before.wide) given)
+
+-- the limits of both splitters stay
+abbrev pub SameLimits : Engine → Engine → Type 0
+SameLimits before after = (snap_limit_of after.narrow.splitter ≡ snap_limit_of before.narrow.splitter) × (snap_limit_of after.wide.splitter ≡ snap_limit_of before.wide.splitter)
+
+-- how much the core of the last call keeps
+abbrev pub LastTellsSizes : Engine → SizesRecord → Type 0
+LastTellsSizes engine sizes = Pick engine.is_narrow (TellsSizes engine.narrow sizes) (TellsSizes engine.wide sizes)
+
+abbrev pub segment_count : Engine → ℕ
+segment_count engine = pick engine.is_narrow (length engine.narrow.segments.items) (length engine.wide.segments.items)
+
+abbrev pub line_count : Engine → ℕ
+line_count engine = pick engine.is_narrow (length engine.narrow.lines.items) (length engine.wide.lines.items)
+
+-- what is copied out: that of the core of the last call
+abbrev pub segments_in : Engine → List WholeSegment
+segments_in engine = pick engine.is_narrow (segments_of engine.narrow.segments.items) (segments_of engine.wide.segments.items)
+
+abbrev pub lines_in : Engine → List WholeSegment
+lines_in engine = pick engine.is_narrow (segments_of engine.narrow.lines.items) (segments_of engine.wide.lines.items)
+
+abbrev pub links_in : Engine → List LinkRecord
+links_in engine = pick engine.is_narrow (engine.narrow.links.items) (engine.wide.links.items)
+
+abbrev pub link_data_in : Engine → List Tag
+link_data_in engine = pick engine.is_narrow (engine.narrow.link_data.items) (engine.wide.link_data.items)
+
+abbrev pub degrees_in : Engine → List ℕ
+degrees_in engine = pick engine.is_narrow (engine.narrow.degrees.items) (engine.wide.degrees.items)
+
+abbrev pub indexes_in : Engine → List ℕ
+indexes_in engine = pick engine.is_narrow (engine.narrow.indexes.items) (engine.wide.indexes.items)
+
+abbrev pub walk_lengths_in : Engine → List ℕ
+walk_lengths_in engine = pick engine.is_narrow (engine.narrow.walk_lengths.items) (engine.wide.walk_lengths.items)
+
+abbrev pub walk_links_in : Engine → List ℕ
+walk_links_in engine = pick engine.is_narrow (engine.narrow.walk_links.items) (engine.wide.walk_links.items)
+
+abbrev pub has_walks_in : Engine → Bool
+has_walks_in engine = pick engine.is_narrow (engine.narrow.has_walks) (engine.wide.has_walks)
+
+abbrev pub has_changed_in : Engine → Bool
+has_changed_in engine = pick engine.is_narrow (engine.narrow.has_changed) (engine.wide.has_changed)

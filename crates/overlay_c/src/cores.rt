@@ -1,0 +1,410 @@
+// What splits segments and builds graphs, for coordinates of one width: a splitter, builders, and the records of their
+// last answers.
+ghost use Rattle.std.specs.Prelude.{◌≡◌, ◌≢◌, [], true, IsTrue, IsFalse, OnOk, OnErr, IfOk, IfErr, map, length, flat_map};
+ghost use Rattle.std.specs.List.{list_all};
+ghost use Rattle.overlay_base.specs.ArrangedOf.{IsSplittable};
+ghost use Rattle.overlay_base.specs.SegmentOf.{segments_of};
+ghost use Rattle.overlay_base.specs.declared.segm.fault.Fault.TheVariants.{CountOutOfRange};
+ghost use Rattle.overlay_build.specs.GraphOf.{link_of};
+ghost use Rattle.overlay_build.specs.NodeIndexes.{indexes_of};
+ghost use Rattle.overlay_c.specs.Kept.{given_by, are_usable, are_lines_usable};
+ghost use Rattle.overlay_c.specs.Records.{asks, asked_by, line_asked_by, link_by};
+ghost use Rattle.overlay_c.specs.Status.{OnUnusable, OnTooLarge};
+ghost use Rattle.overlay_c.specs.declared.refusal.Refusal.TheVariants.{Refused, NotSplittable};
+
+use crate::lines::{self, Line};
+use crate::records::{
+    LineRecord, LinkRecord, SegmentRecord, SettingsRecord, Side, SizesRecord, asked, fill_rule,
+    link, solver,
+};
+use crate::refusal::Refusal;
+use crate::tags::{self, Tag, TaggedRecord, TaggedSide, keep_tags, keep_untagged};
+use crate::width::Width;
+use i_overlay::clip::split_and_build_clip;
+use i_overlay::overlay::split_and_build_overlay;
+use overlay_base::overlay_core::clip_rule::ClipRule;
+use overlay_base::overlay_core::link::OverlayLink;
+use overlay_base::overlay_core::overlay_rule::OverlayRule;
+use overlay_base::segm::arranged::is_splittable;
+use overlay_base::segm::boolean::ShapeCountBoolean;
+use overlay_base::segm::join::join_with_store;
+use overlay_base::segm::string::ShapeCountString;
+use overlay_build::build::builder::GraphBuilder;
+use overlay_build::build::graph_node::OverlayNode;
+use overlay_build::build::walks::closed_walks;
+use overlay_split::split::solver::SplitSolver;
+use std::alloc::{AllocError, Global};
+
+/// What is kept from one call to the next.
+#[derive(Drop)]
+pub struct Core<I: Width> {
+    pub splitter: SplitSolver<I>,
+    pub builder: GraphBuilder<ShapeCountBoolean, OverlayNode, I, ()>,
+    pub line_builder: GraphBuilder<ShapeCountString, Vec<usize>, I, ()>,
+    pub tag_builder: GraphBuilder<ShapeCountBoolean, OverlayNode, I, Tag>,
+    /// The arrangement.
+    pub segments: Vec<Side<I>>,
+    /// The arrangement of polygons and lines.
+    pub lines: Vec<Line<I>>,
+    /// The segments with data that a split is made of, and their arrangement.
+    pub tagged: Vec<TaggedSide<I>>,
+    /// Whether the last split joined equal segments or split one, or the last join joined some.
+    pub has_changed: bool,
+    /// The links of the graph.
+    pub links: Vec<LinkRecord>,
+    /// The data of the links, where segments were given with data.
+    pub link_data: Vec<Tag>,
+    /// How many links meet at each node.
+    pub degrees: Vec<usize>,
+    /// The indexes of the links at the first node, then of those at the next, and so on.
+    pub indexes: Vec<usize>,
+    /// Whether closed walks were asked for and found.
+    pub has_walks: bool,
+    /// How many links each walk has.
+    pub walk_lengths: Vec<usize>,
+    /// The indexes of the links of the first walk, then of those of the next, and so on.
+    pub walk_links: Vec<usize>,
+}
+
+impl<I: Width> Core<I> {
+    ghost use Rattle.std.specs.Prelude.{false};
+    ghost use Rattle.overlay_base.specs.ArrangedOf.{IsArranged};
+    ghost use Rattle.overlay_base.specs.Join.{join, join_leaves_range, has_equal_pairs};
+    ghost use Rattle.overlay_split.specs.Run.{LeavesRange};
+    ghost use Rattle.overlay_split.specs.SettingsOf.{snap_limit_of};
+    ghost use Rattle.overlay_c.specs.Tags.{untagged, tagged_by};
+    ghost use Rattle.overlay_c.specs.Kept.{engine_settings, TellsSizes, KeepsData, KeepsSplit, KeepsAll, KeepsOverlay, KeepsClip, IsCountRefused, IsCountOfAllRefused, IsCountOfLinesRefused, StandsAfter, LinesStandAfter};
+
+    /// A core, which takes no memory yet.
+    pub fn new(alloc: Global, snap_limit: u32) -> Core<I>
+        ensures limit { snap_limit_of result.splitter ≡ snap_limit }
+    {
+        Core {
+            splitter: SplitSolver::with_snap_limit(alloc, snap_limit),
+            builder: GraphBuilder::new(alloc),
+            line_builder: GraphBuilder::new(alloc),
+            tag_builder: GraphBuilder::new(alloc),
+            segments: Vec::new(alloc),
+            lines: Vec::new(alloc),
+            tagged: Vec::new(alloc),
+            has_changed: false,
+            links: Vec::new(alloc),
+            link_data: Vec::new(alloc),
+            degrees: Vec::new(alloc),
+            indexes: Vec::new(alloc),
+            has_walks: false,
+            walk_lengths: Vec::new(alloc),
+            walk_links: Vec::new(alloc),
+        }
+    }
+
+    /// Splits the segments that records ask for, and keeps the arrangement, the graph of the segments that an overlay rule
+    /// keeps, and closed walks through it where they are asked for and evenly many links meet at each node.
+    ///
+    /// After a refusal the engine can be used again: it keeps no segments, or their arrangement where the split was done. Of
+    /// links, nodes and walks nothing is promised then.
+    pub fn overlay(
+        &mut self,
+        alloc: Global,
+        given: &[SegmentRecord],
+        settings: &SettingsRecord,
+        rule: OverlayRule,
+        walks: bool,
+    ) -> Result<(), Refusal>
+        ensures kept { OnOk result (KeepsOverlay settings.now rule walks (given_by given.now) self.new) }
+        ensures usable { OnOk result (IsTrue (are_usable (I.whole I.MIN_COORD) (I.whole I.MAX_COORD) given.now)) }
+        ensures unusable { OnUnusable result (IsFalse (are_usable (I.whole I.MIN_COORD) (I.whole I.MAX_COORD) given.now)) }
+        ensures too_large { OnTooLarge result (IsCountRefused settings.now (given_by given.now) self.old self.new) }
+        ensures stands { OnErr result (StandsAfter settings.now (given_by given.now) self.new) }
+        ensures limit { snap_limit_of self.new.splitter ≡ snap_limit_of self.old.splitter }
+    {
+        load_splittable(given, &mut self.segments)?;
+        let solver = solver(settings);
+        let fill_rule = fill_rule(settings.fill_rule);
+        let (splitter, builder) = (&mut self.splitter, &mut self.builder);
+        let segments = &mut self.segments;
+        let graph = split_and_build_overlay(splitter, builder, segments, &solver, fill_rule, rule)?;
+        keep_links(graph.links(), &mut self.links)?;
+        keep_nodes(graph.nodes(), &mut self.degrees, &mut self.indexes)?;
+        self.has_walks = walks && graph.has_even_nodes();
+        if self.has_walks {
+            let found = closed_walks(alloc, &graph)?;
+            keep_lists(&found, &mut self.walk_lengths, &mut self.walk_links)?;
+        }
+        Ok(())
+    }
+
+    /// Does the same without walks, and keeps the data of each link: what the passes make of the data of the records.
+    pub fn overlay_with_data(
+        &mut self,
+        given: &[TaggedRecord],
+        settings: &SettingsRecord,
+        rule: OverlayRule,
+    ) -> Result<(), Refusal>
+        ensures kept { OnOk result (KeepsOverlay settings.now rule false (given_by (untagged given.now)) self.new) }
+        ensures kept_data { OnOk result (KeepsData settings.now rule (tagged_by given.now) self.new) }
+        ensures usable { OnOk result (IsTrue (are_usable (I.whole I.MIN_COORD) (I.whole I.MAX_COORD)
+            (untagged given.now))) }
+        ensures unusable { OnUnusable result (IsFalse (are_usable (I.whole I.MIN_COORD) (I.whole I.MAX_COORD) (untagged given.now))) }
+        ensures too_large { OnTooLarge result (IsCountRefused settings.now (given_by (untagged given.now)) self.old self.new) }
+        ensures stands { OnErr result (StandsAfter settings.now (given_by (untagged given.now)) self.new) }
+        ensures limit { snap_limit_of self.new.splitter ≡ snap_limit_of self.old.splitter }
+    {
+        self.segments.clear();
+        tags::load_splittable(given, &mut self.tagged)?;
+        let solver = solver(settings);
+        let fill_rule = fill_rule(settings.fill_rule);
+        let (splitter, builder) = (&mut self.splitter, &mut self.tag_builder);
+        let tagged = &mut self.tagged;
+        let built = split_and_build_overlay(splitter, builder, tagged, &solver, fill_rule, rule);
+        keep_untagged(&self.tagged, &mut self.segments)?;
+        let graph = built?;
+        keep_links(graph.links(), &mut self.links)?;
+        keep_tags(graph.links(), &mut self.link_data)?;
+        keep_nodes(graph.nodes(), &mut self.degrees, &mut self.indexes)?;
+        self.has_walks = false;
+        Ok(())
+    }
+
+    /// Splits the segments that records ask for, and keeps the arrangement.
+    pub fn split(
+        &mut self,
+        given: &[SegmentRecord],
+        settings: &SettingsRecord,
+    ) -> Result<(), Refusal>
+        ensures kept { OnOk result (KeepsSplit settings.now (given_by given.now) self.new) }
+        ensures arranged { OnOk result (IsArranged self.new.segments.items) }
+        ensures usable { OnOk result (IsTrue (are_usable (I.whole I.MIN_COORD) (I.whole I.MAX_COORD) given.now)) }
+        ensures unusable { OnUnusable result (IsFalse (are_usable (I.whole I.MIN_COORD) (I.whole I.MAX_COORD) given.now)) }
+        ensures too_large { OnTooLarge result (LeavesRange (engine_settings settings.now self.old) (given_by given.now)) }
+        ensures emptied { OnErr result (self.new.segments.items ≡ []) }
+        ensures limit { snap_limit_of self.new.splitter ≡ snap_limit_of self.old.splitter }
+    {
+        load_splittable(given, &mut self.segments)?;
+        let solver = solver(settings);
+        self.has_changed = self.splitter.split_segments(&mut self.segments, &solver)?;
+        Ok(())
+    }
+
+    /// Splits the segments that records ask for, and keeps the arrangement and the graph of all of it.
+    pub fn all(&mut self, given: &[SegmentRecord], settings: &SettingsRecord) -> Result<(), Refusal>
+        ensures kept { OnOk result (KeepsAll settings.now (given_by given.now) self.new) }
+        ensures usable { OnOk result (IsTrue (are_usable (I.whole I.MIN_COORD) (I.whole I.MAX_COORD) given.now)) }
+        ensures unusable { OnUnusable result (IsFalse (are_usable (I.whole I.MIN_COORD) (I.whole I.MAX_COORD) given.now)) }
+        ensures too_large { OnTooLarge result (IsCountOfAllRefused settings.now (given_by given.now) self.old self.new) }
+        ensures stands { OnErr result (StandsAfter settings.now (given_by given.now) self.new) }
+        ensures limit { snap_limit_of self.new.splitter ≡ snap_limit_of self.old.splitter }
+    {
+        self.split(given, settings)?;
+        let solver = solver(settings);
+        let fill_rule = fill_rule(settings.fill_rule);
+        let graph = self
+            .builder
+            .build_boolean_all(fill_rule, &solver, &self.segments)?;
+        keep_links(graph.links(), &mut self.links)?;
+        keep_nodes(graph.nodes(), &mut self.degrees, &mut self.indexes)?;
+        Ok(())
+    }
+
+    /// Joins the segments on each pair of ends, and keeps them.
+    pub fn join(&mut self, given: &[SegmentRecord]) -> Result<(), Refusal>
+        ensures joined { OnOk result (segments_of self.new.segments.items ≡ join (given_by given.now)) }
+        ensures repeated { OnOk result (self.new.has_changed ≡ has_equal_pairs (given_by given.now)) }
+        ensures usable { OnOk result (IsTrue (are_usable (I.whole I.MIN_COORD) (I.whole I.MAX_COORD) given.now)) }
+        ensures unusable { OnUnusable result (IsFalse (are_usable (I.whole I.MIN_COORD) (I.whole I.MAX_COORD) given.now)) }
+        ensures too_large { OnTooLarge result (IsTrue (join_leaves_range (given_by given.now))) }
+        ensures emptied { OnErr result (self.new.segments.items ≡ []) }
+        ensures splitter { self.new.splitter ≡ self.old.splitter }
+    {
+        load_splittable(given, &mut self.segments)?;
+        self.has_changed = join_with_store(&mut self.segments, &mut ())?;
+        Ok(())
+    }
+
+    /// Splits the polygons and lines that records ask for, and keeps the arrangement and the graph of the parts of the
+    /// lines that a clip rule keeps.
+    pub fn clip(
+        &mut self,
+        given: &[LineRecord],
+        settings: &SettingsRecord,
+        rule: ClipRule,
+    ) -> Result<(), Refusal>
+        ensures kept { OnOk result (KeepsClip settings.now rule (map line_asked_by given.now) self.new) }
+        ensures usable { OnOk result (IsTrue (are_lines_usable (I.whole I.MIN_COORD) (I.whole I.MAX_COORD) given.now)) }
+        ensures unusable { OnUnusable result (IsFalse (are_lines_usable (I.whole I.MIN_COORD) (I.whole I.MAX_COORD) given.now)) }
+        ensures too_large { OnTooLarge result (IsCountOfLinesRefused settings.now (map line_asked_by given.now) self.old self.new) }
+        ensures stands { OnErr result (LinesStandAfter settings.now (map line_asked_by given.now) self.new) }
+        ensures limit { snap_limit_of self.new.splitter ≡ snap_limit_of self.old.splitter }
+    {
+        load_splittable_lines(given, &mut self.lines)?;
+        let solver = solver(settings);
+        let fill_rule = fill_rule(settings.fill_rule);
+        let (splitter, builder) = (&mut self.splitter, &mut self.line_builder);
+        let graph = split_and_build_clip(
+            splitter,
+            builder,
+            &mut self.lines,
+            &solver,
+            fill_rule,
+            rule,
+        )?;
+        keep_links(graph.links(), &mut self.links)?;
+        keep_lists(graph.nodes(), &mut self.degrees, &mut self.indexes)?;
+        Ok(())
+    }
+
+    /// How much it keeps. Of contours it keeps none.
+    pub fn sizes(&self) -> SizesRecord
+        ensures { TellsSizes self.now result }
+    {
+        SizesRecord {
+            segments: self.segments.len(),
+            lines: self.lines.len(),
+            links: self.links.len(),
+            link_data: self.link_data.len(),
+            nodes: self.degrees.len(),
+            node_links: self.indexes.len(),
+            walks: self.walk_lengths.len(),
+            walk_links: self.walk_links.len(),
+            contours: 0,
+            contour_points: 0,
+            has_walks: self.has_walks,
+            has_changed: self.has_changed,
+            passes: u64::try_from(self.splitter.passes()).unwrap_or(u64::MAX),
+        }
+    }
+}
+
+/// Loads the segments that records ask for, where these may be split; else the list is empty.
+fn load_splittable<I: Width>(
+    given: &[SegmentRecord],
+    list: &mut Vec<Side<I>>,
+) -> Result<(), Refusal>
+    ensures segments { OnOk result (segments_of list.new.items ≡ given_by given.now) }
+    ensures splittable { OnOk result (IsSplittable list.new.items) }
+    ensures usable { OnOk result (IsTrue (are_usable (I.whole I.MIN_COORD) (I.whole I.MAX_COORD) given.now)) }
+    ensures unusable { OnUnusable result (IsFalse (are_usable (I.whole I.MIN_COORD) (I.whole I.MAX_COORD) given.now)) }
+    ensures no_count { IfErr result (λ refusal. refusal ≢ Refused CountOutOfRange) }
+    ensures emptied { OnErr result (list.new.items ≡ []) }
+{
+    let loaded = try_load(given, list);
+    if loaded.is_err() {
+        list.clear();
+    }
+    loaded
+}
+
+/// The same, but that a refused load may leave anything.
+fn try_load<I: Width>(given: &[SegmentRecord], list: &mut Vec<Side<I>>) -> Result<(), Refusal>
+    ensures segments { OnOk result (segments_of list.new.items ≡ given_by given.now) }
+    ensures splittable { OnOk result (IsSplittable list.new.items) }
+    ensures usable { OnOk result (IsTrue (are_usable (I.whole I.MIN_COORD) (I.whole I.MAX_COORD) given.now)) }
+    ensures unusable { OnUnusable result (IsFalse (are_usable (I.whole I.MIN_COORD) (I.whole I.MAX_COORD) given.now)) }
+    ensures no_count { IfErr result (λ refusal. refusal ≢ Refused CountOutOfRange) }
+{
+    if !load(given, list)? || !is_splittable(list) {
+        return Err(Refusal::NotSplittable);
+    }
+    Ok(())
+}
+
+/// Loads polygons and lines in the same way.
+fn load_splittable_lines<I: Width>(
+    given: &[LineRecord],
+    list: &mut Vec<Line<I>>,
+) -> Result<(), Refusal>
+    ensures segments { OnOk result (segments_of list.new.items ≡ map line_asked_by given.now) }
+    ensures splittable { OnOk result (IsSplittable list.new.items) }
+    ensures usable { OnOk result (IsTrue (are_lines_usable (I.whole I.MIN_COORD) (I.whole I.MAX_COORD) given.now)) }
+    ensures unusable { OnUnusable result (IsFalse (are_lines_usable (I.whole I.MIN_COORD) (I.whole I.MAX_COORD) given.now)) }
+    ensures no_count { IfErr result (λ refusal. refusal ≢ Refused CountOutOfRange) }
+    ensures emptied { OnErr result (list.new.items ≡ []) }
+{
+    let loaded = try_load_lines(given, list);
+    if loaded.is_err() {
+        list.clear();
+    }
+    loaded
+}
+
+/// The same, but that a refused load may leave anything.
+fn try_load_lines<I: Width>(given: &[LineRecord], list: &mut Vec<Line<I>>) -> Result<(), Refusal>
+    ensures segments { OnOk result (segments_of list.new.items ≡ map line_asked_by given.now) }
+    ensures splittable { OnOk result (IsSplittable list.new.items) }
+    ensures usable { OnOk result (IsTrue (are_lines_usable (I.whole I.MIN_COORD) (I.whole I.MAX_COORD) given.now)) }
+    ensures unusable { OnUnusable result (IsFalse (are_lines_usable (I.whole I.MIN_COORD) (I.whole I.MAX_COORD) given.now)) }
+    ensures no_count { IfErr result (λ refusal. refusal ≢ Refused CountOutOfRange) }
+{
+    if !lines::load(given, list)? || !is_splittable(list) {
+        return Err(Refusal::NotSplittable);
+    }
+    Ok(())
+}
+
+/// Loads the segments that records ask for. Returns whether each asks for one.
+pub fn load<I: Width>(
+    records: &[SegmentRecord],
+    list: &mut Vec<Side<I>>,
+) -> Result<bool, AllocError>
+    ensures asks { IfOk result (λ all. all ≡ list_all (asks (I.whole I.MIN_COORD) (I.whole I.MAX_COORD)) records.now) }
+    ensures segments { IfOk result (λ all. IsTrue all → segments_of list.new.items ≡ map asked_by records.now) }
+{
+    list.clear();
+    for given in records {
+        match asked(given, (), &mut ()) {
+            Some(segment) => list.push(segment)?,
+            None => return Ok(false),
+        }
+    }
+    Ok(true)
+}
+
+/// Keeps the records of links.
+pub fn keep_links<I: Width, D: Copy>(
+    links: &[OverlayLink<I, D>],
+    kept: &mut Vec<LinkRecord>,
+) -> Result<(), AllocError>
+    ensures { OnOk result (map link_by kept.new.items ≡ map (link_of I.whole) links.now) }
+{
+    kept.clear();
+    for each in links {
+        kept.push(link(each))?;
+    }
+    Ok(())
+}
+
+/// Keeps the indexes of the links at each node.
+pub fn keep_nodes(
+    nodes: &[OverlayNode],
+    degrees: &mut Vec<usize>,
+    indexes: &mut Vec<usize>,
+) -> Result<(), AllocError>
+    ensures degrees { OnOk result (degrees.new.items ≡ map length (map indexes_of nodes.now)) }
+    ensures indexes { OnOk result (indexes.new.items ≡ flat_map (λ list. list) (map indexes_of nodes.now)) }
+{
+    degrees.clear();
+    indexes.clear();
+    for node in nodes {
+        degrees.push(node.indices().len())?;
+        indexes.extend_from_slice(node.indices())?;
+    }
+    Ok(())
+}
+
+/// Keeps lists of indexes.
+pub fn keep_lists(
+    lists: &[Vec<usize>],
+    lengths: &mut Vec<usize>,
+    indexes: &mut Vec<usize>,
+) -> Result<(), AllocError>
+    ensures lengths { OnOk result (lengths.new.items ≡ map length (map (λ l. l.items) lists.now)) }
+    ensures indexes { OnOk result (indexes.new.items ≡ flat_map (λ list. list) (map (λ l. l.items) lists.now)) }
+{
+    lengths.clear();
+    indexes.clear();
+    for list in lists {
+        lengths.push(list.len())?;
+        indexes.extend_from_slice(list)?;
+    }
+    Ok(())
+}
