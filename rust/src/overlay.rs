@@ -87,8 +87,9 @@ impl Overlay {
         })
     }
 
-    /// The same overlay, with an engine for the segments that it is given from now on. Contours are overlaid with
-    /// `Engine::I32`, whatever this engine is.
+    /// The same overlay, with an engine for the segments and lines that it is given from now on. Contours are overlaid with
+    /// `Engine::I32`, whatever this engine is. Each engine keeps its own arrangements: after a call, `segments` and `lines`
+    /// are those that the engine of that call keeps.
     ///
     /// ```
     /// use i_overlay_core::{square, Engine, Error, FillRule, Overlay, OverlayRule, SegmentFault, ShapeType};

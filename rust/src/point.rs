@@ -29,15 +29,16 @@ impl IntPoint {
     }
 }
 
-/// The least coordinate that a call takes, -2^30.
+/// The least coordinate that a call takes, -2^30. With `Engine::I16` it takes less, as [`Engine::range`] says.
 pub const MIN_COORD: i32 = -1_073_741_824;
 
-/// The greatest coordinate that a call takes, 2^30 - 1.
+/// The greatest coordinate that a call takes, 2^30 - 1. With `Engine::I16` it takes less.
 pub const MAX_COORD: i32 = 1_073_741_823;
 
-/// The integers that an [`Overlay`](crate::Overlay) calculates with.
+/// The width of the coordinates that segments are split with: upstream's engines of `i32` and of `i16`.
 ///
-/// The answer is a matter of the engine only where crossings move: that of 16 bits lets their radius grow less far.
+/// Where crossings have whole coordinates both return the same. Else the radius within which a crossing is moved to an end
+/// grows less far with 16 bits.
 #[repr(u8)]
 #[derive(Clone, Copy, Debug, Default, PartialEq, Eq, Hash)]
 pub enum Engine {

@@ -1,5 +1,5 @@
 -- What a call through a handle makes of the engine behind it.
-use Rattle.std.specs.Prelude.{◌≡◌, ◌++◌, ◌∷◌, [], ℕ, Bool, false, List, IsTrue, IsFalse, IfSome, Option, map}
+use Rattle.std.specs.Prelude.{◌≡◌, ◌++◌, ◌∷◌, [], ℕ, Bool, false, List, IsTrue, IsFalse, IfSome, map}
 use Rattle.overlay_base.specs.declared.overlay_core.overlay_rule.OverlayRule.{OverlayRule}
 use Rattle.overlay_base.specs.declared.segm.shape_type.ShapeType.{ShapeType}
 use Rattle.overlay_base.specs.declared.segm.shape_type.ShapeType.TheVariants.{Subject, Clip}
@@ -12,14 +12,19 @@ use Rattle.overlay_c.specs.Records.{names_narrow, IsRuleOf}
 use Rattle.overlay_c.specs.Widths.{least_of, greatest_of, LastKeepsOverlay, LastKeepsData}
 use Rattle.overlay_c.specs.declared.contours.PointRecord.{PointRecord}
 use Rattle.overlay_c.specs.declared.engine.Engine.{Engine}
+use Rattle.overlay_c.specs.declared.handle.Handle.{Handle}
 use Rattle.overlay_c.specs.declared.records.LineRecord.{LineRecord}
 use Rattle.overlay_c.specs.declared.records.SegmentRecord.{SegmentRecord}
 use Rattle.overlay_c.specs.declared.records.SettingsRecord.{SettingsRecord}
 use Rattle.overlay_c.specs.declared.tags.Tag.{Tag}
 
 -- A call that finds an engine and leaves one makes the one of the other, by a relation.
-abbrev pub Turns : Option Engine → Option Engine → (Engine → Engine → Type 0) → Type 0
-Turns old new relation = IfSome old (λ before. IfSome new (relation before))
+abbrev pub Turns : Handle → Handle → (Engine → Engine → Type 0) → Type 0
+Turns old new relation = IfSome old.engine (λ before. IfSome new.engine (relation before))
+
+-- A call that leaves an engine leaves one of which a fact holds.
+abbrev pub Leaves : Handle → (Engine → Type 0) → Type 0
+Leaves handle fact = IfSome handle.engine fact
 
 -- The engine of this code was chosen.
 abbrev pub Chooses : ℕ → Engine → Type 0

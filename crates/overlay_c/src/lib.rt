@@ -1,4 +1,4 @@
-// The overlay engine for C: exports over an engine behind a handle, for coordinates of 32 bits.
+// The overlay engine for C: exports over an engine behind a handle, for coordinates of 32 bits or of 16.
 #![tactic(auto)]
 
 ghost use Rattle.std.specs.Prelude.{◌≡◌, ◌≢◌, ◌≤ℤ◌, pos, unsigned_abs, ◌↔◌, ◌<◌, ◌^◌, [], ◌∷◌, ◌++◌, false, None, IsSome, IsTrue, IsFalse, IfSome, length, map};
@@ -8,7 +8,7 @@ ghost use Rattle.overlay_base.specs.Join.{join, join_leaves_range, has_equal_pai
 ghost use Rattle.overlay_split.specs.Run.{LeavesRange};
 ghost use Rattle.overlay_split.specs.SettingsOf.{snap_limit_of, passes_of};
 ghost use Rattle.overlay_c.specs.Records.{start_of, end_of, line_asked_by, told_by, line_told_by, shape_of, names_narrow, IsRuleOf};
-ghost use Rattle.overlay_c.specs.Calls.{Turns, Chooses, MaySplit, MayNotSplit, MaySplitLines, MayNotSplitLines, KeepsOverlayBy, KeepsDataBy, SameContours, SameShape, AddsContour, KeepsPolygonsBy, PolygonCountsLeaveRange};
+ghost use Rattle.overlay_c.specs.Calls.{Turns, Leaves, Chooses, MaySplit, MayNotSplit, MaySplitLines, MayNotSplitLines, KeepsOverlayBy, KeepsDataBy, SameContours, SameShape, AddsContour, KeepsPolygonsBy, PolygonCountsLeaveRange};
 ghost use Rattle.overlay_c.specs.Crosses.{pair_by, cross_by, mask_by};
 ghost use Rattle.overlay_geometry.specs.Coordinates.{least_coordinate, greatest_coordinate, is_pair_in_range};
 ghost use Rattle.overlay_intersections.specs.CrossAnswer.{cross_answer};
@@ -72,8 +72,9 @@ pub extern "C" fn overlay_c_free(alloc: Global, handle: &mut Handle)
     drop(take(alloc, handle));
 }
 
-/// The overlay of the segments that records ask for, by the rule of a code (`overlay_rule`). Returns 0 where it is
-/// done, 1 where memory was refused, 2 where a count left the range, and 3 where the segments may not be split.
+/// The overlay of the segments that records ask for, by the rule of a code (`overlay_rule`) and the engine that the
+/// settings name. Returns 0 where it is done, 1 where memory was refused, 2 where a count left the range, and 3 where the
+/// segments may not be split with that engine.
 #[unsafe(no_mangle)]
 pub extern "C" fn overlay_c_overlay(
     alloc: Global,
@@ -85,14 +86,14 @@ pub extern "C" fn overlay_c_overlay(
 ) -> u8
     requires { IsSome handle.old.engine }
     ensures full { IsSome handle.new.engine }
-    ensures chosen { IfSome handle.new.engine (Chooses settings.now.engine) }
-    ensures done { result ≡ 0 → IfSome handle.new.engine (KeepsOverlayBy settings.now rule walks (given_by given.now)) }
-    ensures usable { result ≡ 0 → IfSome handle.new.engine (MaySplit given.now) }
-    ensures unusable { result ≡ 3 → IfSome handle.new.engine (MayNotSplit given.now) }
-    ensures too_large { result ≡ 2 → Turns handle.old.engine handle.new.engine (LastIsCountRefused settings.now (given_by given.now)) }
-    ensures stands { result ≢ 0 → IfSome handle.new.engine (LastStandsAfter settings.now (given_by given.now)) }
-    ensures limit { Turns handle.old.engine handle.new.engine SameLimits }
-    ensures contours { Turns handle.old.engine handle.new.engine SameContours }
+    ensures chosen { Leaves handle.new (Chooses settings.now.engine) }
+    ensures done { result ≡ 0 → Leaves handle.new (KeepsOverlayBy settings.now rule walks (given_by given.now)) }
+    ensures usable { result ≡ 0 → Leaves handle.new (MaySplit given.now) }
+    ensures unusable { result ≡ 3 → Leaves handle.new (MayNotSplit given.now) }
+    ensures too_large { result ≡ 2 → Turns handle.old handle.new (LastIsCountRefused settings.now (given_by given.now)) }
+    ensures stands { result ≢ 0 → Leaves handle.new (LastStandsAfter settings.now (given_by given.now)) }
+    ensures limit { Turns handle.old handle.new SameLimits }
+    ensures contours { Turns handle.old handle.new SameContours }
 {
     let mut engine = take(alloc, handle);
     let outcome = engine.overlay(alloc, given, settings, overlay_rule(rule), walks);
@@ -112,14 +113,14 @@ pub extern "C" fn overlay_c_overlay_with_data(
 ) -> u8
     requires { IsSome handle.old.engine }
     ensures full { IsSome handle.new.engine }
-    ensures chosen { IfSome handle.new.engine (Chooses settings.now.engine) }
-    ensures done { result ≡ 0 → IfSome handle.new.engine (KeepsDataBy settings.now rule (given_by (untagged given.now)) (tagged_by given.now)) }
-    ensures usable { result ≡ 0 → IfSome handle.new.engine (MaySplit (untagged given.now)) }
-    ensures unusable { result ≡ 3 → IfSome handle.new.engine (MayNotSplit (untagged given.now)) }
-    ensures too_large { result ≡ 2 → Turns handle.old.engine handle.new.engine (LastIsCountRefused settings.now (given_by (untagged given.now))) }
-    ensures stands { result ≢ 0 → IfSome handle.new.engine (LastStandsAfter settings.now (given_by (untagged given.now))) }
-    ensures limit { Turns handle.old.engine handle.new.engine SameLimits }
-    ensures contours { Turns handle.old.engine handle.new.engine SameContours }
+    ensures chosen { Leaves handle.new (Chooses settings.now.engine) }
+    ensures done { result ≡ 0 → Leaves handle.new (KeepsDataBy settings.now rule (given_by (untagged given.now)) (tagged_by given.now)) }
+    ensures usable { result ≡ 0 → Leaves handle.new (MaySplit (untagged given.now)) }
+    ensures unusable { result ≡ 3 → Leaves handle.new (MayNotSplit (untagged given.now)) }
+    ensures too_large { result ≡ 2 → Turns handle.old handle.new (LastIsCountRefused settings.now (given_by (untagged given.now))) }
+    ensures stands { result ≢ 0 → Leaves handle.new (LastStandsAfter settings.now (given_by (untagged given.now))) }
+    ensures limit { Turns handle.old handle.new SameLimits }
+    ensures contours { Turns handle.old handle.new SameContours }
 {
     let mut engine = take(alloc, handle);
     let outcome = engine.overlay_with_data(given, settings, overlay_rule(rule));
@@ -137,14 +138,14 @@ pub extern "C" fn overlay_c_split(
 ) -> u8
     requires { IsSome handle.old.engine }
     ensures full { IsSome handle.new.engine }
-    ensures chosen { IfSome handle.new.engine (Chooses settings.now.engine) }
-    ensures done { result ≡ 0 → IfSome handle.new.engine (LastKeepsSplit settings.now (given_by given.now)) }
-    ensures usable { result ≡ 0 → IfSome handle.new.engine (MaySplit given.now) }
-    ensures unusable { result ≡ 3 → IfSome handle.new.engine (MayNotSplit given.now) }
-    ensures too_large { result ≡ 2 → Turns handle.old.engine handle.new.engine (LastLeavesRange settings.now (given_by given.now)) }
+    ensures chosen { Leaves handle.new (Chooses settings.now.engine) }
+    ensures done { result ≡ 0 → Leaves handle.new (LastKeepsSplit settings.now (given_by given.now)) }
+    ensures usable { result ≡ 0 → Leaves handle.new (MaySplit given.now) }
+    ensures unusable { result ≡ 3 → Leaves handle.new (MayNotSplit given.now) }
+    ensures too_large { result ≡ 2 → Turns handle.old handle.new (LastLeavesRange settings.now (given_by given.now)) }
     ensures emptied { result ≢ 0 → IfSome handle.new.engine (λ engine. segments_in engine ≡ []) }
-    ensures limit { Turns handle.old.engine handle.new.engine SameLimits }
-    ensures contours { Turns handle.old.engine handle.new.engine SameContours }
+    ensures limit { Turns handle.old handle.new SameLimits }
+    ensures contours { Turns handle.old handle.new SameContours }
 {
     let mut engine = take(alloc, handle);
     let outcome = engine.split(given, settings);
@@ -162,14 +163,14 @@ pub extern "C" fn overlay_c_all(
 ) -> u8
     requires { IsSome handle.old.engine }
     ensures full { IsSome handle.new.engine }
-    ensures chosen { IfSome handle.new.engine (Chooses settings.now.engine) }
-    ensures done { result ≡ 0 → IfSome handle.new.engine (LastKeepsAll settings.now (given_by given.now)) }
-    ensures usable { result ≡ 0 → IfSome handle.new.engine (MaySplit given.now) }
-    ensures unusable { result ≡ 3 → IfSome handle.new.engine (MayNotSplit given.now) }
-    ensures too_large { result ≡ 2 → Turns handle.old.engine handle.new.engine (LastIsCountOfAllRefused settings.now (given_by given.now)) }
-    ensures stands { result ≢ 0 → IfSome handle.new.engine (LastStandsAfter settings.now (given_by given.now)) }
-    ensures limit { Turns handle.old.engine handle.new.engine SameLimits }
-    ensures contours { Turns handle.old.engine handle.new.engine SameContours }
+    ensures chosen { Leaves handle.new (Chooses settings.now.engine) }
+    ensures done { result ≡ 0 → Leaves handle.new (LastKeepsAll settings.now (given_by given.now)) }
+    ensures usable { result ≡ 0 → Leaves handle.new (MaySplit given.now) }
+    ensures unusable { result ≡ 3 → Leaves handle.new (MayNotSplit given.now) }
+    ensures too_large { result ≡ 2 → Turns handle.old handle.new (LastIsCountOfAllRefused settings.now (given_by given.now)) }
+    ensures stands { result ≢ 0 → Leaves handle.new (LastStandsAfter settings.now (given_by given.now)) }
+    ensures limit { Turns handle.old handle.new SameLimits }
+    ensures contours { Turns handle.old handle.new SameContours }
 {
     let mut engine = take(alloc, handle);
     let outcome = engine.all(given, settings);
@@ -177,7 +178,8 @@ pub extern "C" fn overlay_c_all(
     status(outcome)
 }
 
-/// The join of the segments that records ask for. Returns as `overlay_c_overlay` does. After a refusal the list is empty.
+/// The join of the segments that records ask for, with the engine that the code of a width names, as in
+/// `SettingsRecord`. Returns as `overlay_c_overlay` does. After a refusal the list is empty.
 #[unsafe(no_mangle)]
 pub extern "C" fn overlay_c_join(
     alloc: Global,
@@ -187,16 +189,16 @@ pub extern "C" fn overlay_c_join(
 ) -> u8
     requires { IsSome handle.old.engine }
     ensures full { IsSome handle.new.engine }
-    ensures chosen { IfSome handle.new.engine (Chooses width) }
+    ensures chosen { Leaves handle.new (Chooses width) }
     ensures done { result ≡ 0 → IfSome handle.new.engine (λ engine.
         segments_in engine ≡ join (given_by given.now)) }
     ensures repeated { result ≡ 0 → IfSome handle.new.engine (λ engine.
         has_changed_in engine ≡ has_equal_pairs (given_by given.now)) }
-    ensures usable { result ≡ 0 → IfSome handle.new.engine (MaySplit given.now) }
-    ensures unusable { result ≡ 3 → IfSome handle.new.engine (MayNotSplit given.now) }
+    ensures usable { result ≡ 0 → Leaves handle.new (MaySplit given.now) }
+    ensures unusable { result ≡ 3 → Leaves handle.new (MayNotSplit given.now) }
     ensures too_large { result ≡ 2 → IsTrue (join_leaves_range (given_by given.now)) }
     ensures emptied { result ≢ 0 → IfSome handle.new.engine (λ engine. segments_in engine ≡ []) }
-    ensures contours { Turns handle.old.engine handle.new.engine SameContours }
+    ensures contours { Turns handle.old handle.new SameContours }
 {
     let mut engine = take(alloc, handle);
     let outcome = engine.join(given, width);
@@ -216,16 +218,16 @@ pub extern "C" fn overlay_c_clip(
 ) -> u8
     requires { IsSome handle.old.engine }
     ensures full { IsSome handle.new.engine }
-    ensures chosen { IfSome handle.new.engine (Chooses settings.now.engine) }
+    ensures chosen { Leaves handle.new (Chooses settings.now.engine) }
     ensures done { result ≡ 0 → IfSome handle.new.engine (λ after.
         LastKeepsClip settings.now (record { invert = invert; boundary_included = boundary_included })
         (map line_asked_by given.now) after) }
-    ensures usable { result ≡ 0 → IfSome handle.new.engine (MaySplitLines given.now) }
-    ensures unusable { result ≡ 3 → IfSome handle.new.engine (MayNotSplitLines given.now) }
-    ensures too_large { result ≡ 2 → Turns handle.old.engine handle.new.engine (LastIsCountOfLinesRefused settings.now (map line_asked_by given.now)) }
-    ensures stands { result ≢ 0 → IfSome handle.new.engine (LastLinesStandAfter settings.now (map line_asked_by given.now)) }
-    ensures limit { Turns handle.old.engine handle.new.engine SameLimits }
-    ensures contours { Turns handle.old.engine handle.new.engine SameContours }
+    ensures usable { result ≡ 0 → Leaves handle.new (MaySplitLines given.now) }
+    ensures unusable { result ≡ 3 → Leaves handle.new (MayNotSplitLines given.now) }
+    ensures too_large { result ≡ 2 → Turns handle.old handle.new (LastIsCountOfLinesRefused settings.now (map line_asked_by given.now)) }
+    ensures stands { result ≢ 0 → Leaves handle.new (LastLinesStandAfter settings.now (map line_asked_by given.now)) }
+    ensures limit { Turns handle.old handle.new SameLimits }
+    ensures contours { Turns handle.old handle.new SameContours }
 {
     let mut engine = take(alloc, handle);
     let rule = ClipRule {
@@ -248,12 +250,12 @@ pub extern "C" fn overlay_c_add_contour(
 ) -> u8
     requires { IsSome handle.old.engine }
     ensures full { IsSome handle.new.engine }
-    ensures added { result ≡ 0 → Turns handle.old.engine handle.new.engine (AddsContour (shape_of shape) contour.now) }
-    ensures unchanged { result ≢ 0 → Turns handle.old.engine handle.new.engine (SameShape (shape_of shape)) }
-    ensures other { Turns handle.old.engine handle.new.engine (SameShape (other_shape (shape_of shape))) }
+    ensures added { result ≡ 0 → Turns handle.old handle.new (AddsContour (shape_of shape) contour.now) }
+    ensures unchanged { result ≢ 0 → Turns handle.old handle.new (SameShape (shape_of shape)) }
+    ensures other { Turns handle.old handle.new (SameShape (other_shape (shape_of shape))) }
     ensures in_range { result ≡ 0 → IsTrue (are_in_range contour.now) }
     ensures out_of_range { result ≡ 4 → IsFalse (are_in_range contour.now) }
-    ensures rest { Turns handle.old.engine handle.new.engine SameSplit }
+    ensures rest { Turns handle.old handle.new SameSplit }
 {
     let mut engine = take(alloc, handle);
     let outcome = engine.add_contour(contour, shape_type(shape));
@@ -263,7 +265,8 @@ pub extern "C" fn overlay_c_add_contour(
 
 /// The overlay of the contours that were added, as contours that have it on their left: outer boundaries run
 /// counterclockwise, and holes clockwise. Returns 0 where it is done, 1 where memory was refused, and 2 where a count
-/// left the range. The contours that were added stay. The first 256 passes snap, whatever the limit of the engine is.
+/// left the range. The contours that were added stay. The first 256 passes snap, whatever the limit of the engine is, and
+/// coordinates have 32 bits, whatever engine the settings name.
 #[unsafe(no_mangle)]
 pub extern "C" fn overlay_c_polygons(
     alloc: Global,
@@ -273,12 +276,12 @@ pub extern "C" fn overlay_c_polygons(
 ) -> u8
     requires { IsSome handle.old.engine }
     ensures full { IsSome handle.new.engine }
-    ensures done { result ≡ 0 → Turns handle.old.engine handle.new.engine (KeepsPolygonsBy settings.now rule) }
+    ensures done { result ≡ 0 → Turns handle.old handle.new (KeepsPolygonsBy settings.now rule) }
     ensures too_large { result ≡ 2 → IfSome handle.old.engine (PolygonCountsLeaveRange settings.now) }
     ensures codes { result < 3 }
-    ensures subject { Turns handle.old.engine handle.new.engine (SameShape Subject) }
-    ensures clip { Turns handle.old.engine handle.new.engine (SameShape Clip) }
-    ensures rest { Turns handle.old.engine handle.new.engine SameSplit }
+    ensures subject { Turns handle.old handle.new (SameShape Subject) }
+    ensures clip { Turns handle.old handle.new (SameShape Clip) }
+    ensures rest { Turns handle.old handle.new SameSplit }
 {
     let mut engine = take(alloc, handle);
     let outcome = engine.polygons(settings, overlay_rule(rule));
@@ -293,7 +296,7 @@ pub extern "C" fn overlay_c_clear(alloc: Global, handle: &mut Handle)
     ensures full { IsSome handle.new.engine }
     ensures subject { IfSome handle.new.engine (λ after. contours_in after Subject ≡ []) }
     ensures clip { IfSome handle.new.engine (λ after. contours_in after Clip ≡ []) }
-    ensures rest { Turns handle.old.engine handle.new.engine SameSplit }
+    ensures rest { Turns handle.old handle.new SameSplit }
 {
     let mut engine = take(alloc, handle);
     engine.clear_contours();

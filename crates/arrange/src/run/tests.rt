@@ -10,6 +10,17 @@ use std::test::Fail;
 
 pub const USAGE: &str = "usage: arrange join|cross|split|graph|walks [name=value ..]\n";
 
+/// A square of the subject, and one of the clip that covers its upper right corner.
+pub const TWO_SQUARES: &str = "S 0 0 4 0
+S 4 0 4 4
+S 4 4 0 4
+S 0 4 0 0
+C 2 2 6 2
+C 6 2 6 6
+C 6 6 2 6
+C 2 6 2 2
+";
+
 /// The graph of what both squares cover.
 const COMMON_PART: &str = "\
 link 2 2 2 4 11 0 1

@@ -555,14 +555,3 @@ C 1 -10 1 10
 seg 1 -10 1 10 0 1
 flag false
 ";
-
-/// A square of the subject, and one of the clip that covers its upper right corner.
-pub const TWO_SQUARES: &str = "S 0 0 4 0
-S 4 0 4 4
-S 4 4 0 4
-S 0 4 0 0
-C 2 2 6 2
-C 6 2 6 6
-C 6 6 2 6
-C 2 6 2 2
-";
