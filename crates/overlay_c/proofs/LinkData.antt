@@ -20,7 +20,7 @@ use Rattle.overlay_base.specs.declared.overlay_core.overlay_rule.OverlayRule.{Ov
 use Rattle.overlay_base.specs.declared.segm.fault.Fault.{Fault}
 use Rattle.overlay_base.specs.declared.segm.fault.Fault.TheVariants.{CountOutOfRange}
 use Rattle.overlay_base.proofs.laws.joins.DataJoins.{bare}
-use Rattle.overlay_split.specs.DataPass.{data_after_passes}
+use Rattle.overlay_split.specs.DataPass.{data_after_passes, IsDataAfter}
 use Rattle.overlay_split.specs.Laws.{HooksKeep, HooksNameNoOther, NameNear}
 use Rattle.overlay_split.specs.Nearness.{LiesNear, reach_of_run}
 use Rattle.overlay_split.specs.Run.{Settings, after_passes}
@@ -28,7 +28,7 @@ use Rattle.overlay_split.specs.SettingsOf.{passes_of}
 use Rattle.overlay_split.proofs.laws.passes.DataPasses.{data_is_beside}
 use Rattle.overlay_build.specs.Graph.{Graph, data_by}
 use Rattle.overlay_build.specs.GraphOf.{link_of}
-use Rattle.i_overlay.specs.Headline.{IsSplit, IsOverlay, IsRefused, IsDataAfter, LinksNameNear}
+use Rattle.i_overlay.specs.Headline.{IsSplit, IsOverlay, IsRefused, LinksNameNear}
 use Rattle.overlay_c.specs.Kept.{given_by, are_usable, engine_settings, TaggedLink, KeepsData}
 use Rattle.overlay_c.specs.Records.{asks, asked_by, link_by, piece_of, fill_rule_of}
 use Rattle.overlay_c.specs.Tags.{keeping, with_tag, untagged, tagged_by}
