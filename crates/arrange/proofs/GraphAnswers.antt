@@ -13,7 +13,7 @@ use Rattle.overlay_base.specs.declared.overlay_core.solver.Strategy.{Strategy}
 use Rattle.overlay_sweep.specs.ChainWindings.{tops_leave_range}
 use Rattle.overlay_sweep.specs.Costs.{IsSweepCost}
 use Rattle.overlay_build.specs.Graph.{Graph, graph_by}
-use Rattle.arrange.specs.RuleOf.{keeps_by}
+use Rattle.arrange.specs.RuleOf.{keeps_by_optional_rule}
 use Rattle.i_overlay.specs.Headline.{IsOverlay, IsSplitRefused, IsBuildRefused}
 use Rattle.overlay_text.specs.declared.settings.Settings.{Settings}
 use Rattle.overlay_text.specs.declared.settings.Command.TheVariants.{Graph as GraphCommand, Walks}
@@ -24,16 +24,16 @@ use Rattle.arrange.specs.Run.{split_settings, IsGraphOf, IsGraphCost, CountsLeav
 abbrev pub IsCountedGraph : RunSettings → Settings → List WholeSegment → Graph → Type 0
 IsCountedGraph s settings given graph =
     (passes : ℕ) × IsPassCount s given passes × IsFalse (tops_leave_range (after_passes s given passes))
-    × (graph ≡ graph_by (keeps_by settings.rule) settings.fill_rule (after_passes s given passes))
+    × (graph ≡ graph_by (keeps_by_optional_rule settings.rule) settings.fill_rule (after_passes s given passes))
 
 abbrev pub LeaveRange : RunSettings → List WholeSegment → Type 0
 LeaveRange s given = LeavesRange s given ⊎ ((passes : ℕ) × IsPassCount s given passes × IsTrue (tops_leave_range (after_passes s given passes)))
 
 module _ (bits : ℕ) (settings : Settings) (s : RunSettings) (set : s ≡ split_settings bits settings) (given segments : List WholeSegment) (passes : ℕ) where
-  counted : (graph : Graph) → IsPassCount s given passes → segments ≡ after_passes s given passes → IsFalse (tops_leave_range segments) → graph ≡ graph_by (keeps_by settings.rule) settings.fill_rule segments → IsGraphOf bits settings given graph
+  counted : (graph : Graph) → IsPassCount s given passes → segments ≡ after_passes s given passes → IsFalse (tops_leave_range segments) → graph ≡ graph_by (keeps_by_optional_rule settings.rule) settings.fill_rule segments → IsGraphOf bits settings given graph
   counted graph count is fits links =
       let P : RunSettings → Type 0 = λ r. IsCountedGraph r settings given graph in
-      subst P set (passes, count, subst (λ xs. IsFalse (tops_leave_range xs)) is fits, links ∙ ap (λ xs. graph_by (keeps_by settings.rule) settings.fill_rule xs) is)
+      subst P set (passes, count, subst (λ xs. IsFalse (tops_leave_range xs)) is fits, links ∙ ap (λ xs. graph_by (keeps_by_optional_rule settings.rule) settings.fill_rule xs) is)
 
   leave : LeaveRange s given → CountsLeaveRange bits settings given
   leave h = let P : RunSettings → Type 0 = λ r. LeaveRange r given in subst P set h
@@ -41,7 +41,7 @@ module _ (bits : ℕ) (settings : Settings) (s : RunSettings) (set : s ≡ split
   -- a split and a build by a rule
   pub by_rule : (rule : OverlayRule) (graph : Graph) → settings.rule ≡ Some rule → IsOverlay s settings.fill_rule (holds rule) given segments passes graph → IsFalse (tops_leave_range segments) → IsGraphOf bits settings given graph
   by_rule rule graph chosen overlay fits =
-      counted graph overlay.split.count overlay.split.arrangement fits (overlay.links ∙ ap (λ (r : Option OverlayRule). graph_by (keeps_by r) settings.fill_rule segments) (sym chosen))
+      counted graph overlay.split.count overlay.split.arrangement fits (overlay.links ∙ ap (λ (r : Option OverlayRule). graph_by (keeps_by_optional_rule r) settings.fill_rule segments) (sym chosen))
 
   pub refused_by_rule : {X : Type 0} (fault : Fault) → (IsSplitRefused s given segments fault × X) ⊎ IsBuildRefused s given segments passes fault → fault ≡ CountOutOfRange → CountsLeaveRange bits settings given
   refused_by_rule fault (inl split) e = leave (inl (split.0.too_large e))

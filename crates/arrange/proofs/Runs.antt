@@ -21,7 +21,7 @@ use Rattle.overlay_text.specs.Status.{status_of}
 use Rattle.overlay_text.specs.Text.{lines_of, AskInTurnFor, IsFirstFault}
 use Rattle.overlay_text.specs.Runs.{AskForNone}
 use Rattle.overlay_text.specs.Words.{AskNothing}
-use Rattle.overlay_text.specs.Engines.{least_of, greatest_of, bits_of}
+use Rattle.overlay_text.specs.Engines.{least_of, greatest_of, engine_bits}
 use Rattle.arrange.specs.Run.{IsCommandAnswer, IsAnswer, arrange_behavior}
 
 cross_text-other : (r2 : ℕ) (segments : List WholeSegment) → length segments ≢ 2 → cross_text r2 segments ≡ None
@@ -55,7 +55,7 @@ no_choices words (Err stop) refused = (refused.0, λ choices. refused.1 choices.
 
 -- why there is no answer in the coordinates of an engine, which is the one that was chosen
 pub by_engine : {T : Type 0} (choices : Command × Settings) (engine : Engine) (bytes : List ℕ) (r : Result T Stop) → choices.1.engine ≡ engine
-    → IfErr r (λ stop. (stop ≡ Refused Memory) ⊎ IsAnswer (least_of engine) (greatest_of engine) (bits_of engine) choices.0 choices.1 bytes (Err stop))
+    → IfErr r (λ stop. (stop ≡ Refused Memory) ⊎ IsAnswer (least_of engine) (greatest_of engine) (engine_bits engine) choices.0 choices.1 bytes (Err stop))
     → IfErr r (λ stop. (stop ≡ Refused Memory) ⊎ arrange_behavior.Answers choices bytes (Err stop))
 by_engine choices engine bytes r is stops =
-    subst (λ e. IfErr r (λ stop. (stop ≡ Refused Memory) ⊎ IsAnswer (least_of e) (greatest_of e) (bits_of e) choices.0 choices.1 bytes (Err stop))) (sym is) stops
+    subst (λ e. IfErr r (λ stop. (stop ≡ Refused Memory) ⊎ IsAnswer (least_of e) (greatest_of e) (engine_bits e) choices.0 choices.1 bytes (Err stop))) (sym is) stops

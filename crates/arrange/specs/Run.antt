@@ -10,11 +10,11 @@ use Rattle.overlay_base.specs.Choices.{list_fills}
 use Rattle.overlay_sweep.specs.ChainWindings.{tops_leave_range}
 use Rattle.overlay_sweep.specs.Costs.{IsSweepCost}
 use Rattle.overlay_build.specs.Graph.{Graph, graph_by}
-use Rattle.arrange.specs.RuleOf.{keeps_by}
+use Rattle.arrange.specs.RuleOf.{keeps_by_optional_rule}
 use Rattle.overlay_base.specs.declared.segm.fault.Fault.TheVariants.{CountOutOfRange}
 use Rattle.overlay_text.specs.declared.settings.Command.{Command}
 use Rattle.overlay_text.specs.declared.settings.Command.TheVariants.{Join, Cross, Split, Graph as GraphCommand, Walks}
-use Rattle.overlay_text.specs.Engines.{least_of, greatest_of, bits_of}
+use Rattle.overlay_text.specs.Engines.{least_of, greatest_of, engine_bits}
 use Rattle.overlay_text.specs.declared.settings.Settings.{Settings}
 use Rattle.overlay_text.specs.declared.stop.Stop.{Stop}
 use Rattle.overlay_text.specs.declared.stop.Stop.TheVariants.{NotTwoSegments, Refused}
@@ -42,7 +42,7 @@ abbrev pub IsGraphOf : ℕ → Settings → List WholeSegment → Graph → Type
 IsGraphOf bits settings segments graph =
     (passes : ℕ) × IsPassCount (split_settings bits settings) segments passes
     × IsFalse (tops_leave_range (after_passes (split_settings bits settings) segments passes))
-    × (graph ≡ graph_by (keeps_by settings.rule) settings.fill_rule (after_passes (split_settings bits settings) segments passes))
+    × (graph ≡ graph_by (keeps_by_optional_rule settings.rule) settings.fill_rule (after_passes (split_settings bits settings) segments passes))
 
 -- a count leaves the range: in the split of the segments, or above some segment of the arrangement that it leaves
 abbrev pub CountsLeaveRange : ℕ → Settings → List WholeSegment → Type 0
@@ -89,7 +89,7 @@ abbrev pub arrange_behavior : Behavior (Command × Settings)
 arrange_behavior = record {
   AskFor = λ words choices. WordsAsk words choices.0 choices.1;
   Answers = λ choices bytes answer.
-      IsAnswer (least_of choices.1.engine) (greatest_of choices.1.engine) (bits_of choices.1.engine) choices.0 choices.1 bytes answer;
+      IsAnswer (least_of choices.1.engine) (greatest_of choices.1.engine) (engine_bits choices.1.engine) choices.0 choices.1 bytes answer;
 }
 
 -- ---- for segments of code, whose type says of how many bits coordinates are

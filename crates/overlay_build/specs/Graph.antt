@@ -49,8 +49,8 @@ indexes_where test xs = map (λ e. e.0) (filter (λ e. test e.1) (enumerate_from
 unfoldable pub links_at : List Pair → Point → List ℕ
 links_at links p = indexes_where (λ l. point_eq l.a p) links ++ indexes_where (λ l. point_eq l.b p) links
 
-unfoldable pub nodes_of : List Pair → List Node
-nodes_of links = map (λ p. record { point = p; links = links_at links p }) (node_points links)
+unfoldable pub nodes_of_pairs : List Pair → List Node
+nodes_of_pairs links = map (λ p. record { point = p; links = links_at links p }) (node_points links)
 
 -- the number of the node at p
 unfoldable pub node_number : List Pair → Point → ℕ
@@ -62,7 +62,7 @@ graph_of kept =
     let links : List Pair = map (λ f. f.pair) kept in
     record {
       links = map (λ f. record { pair = f.pair; fill = f.fill; a_node = node_number links f.pair.a; b_node = node_number links f.pair.b }) kept;
-      nodes = nodes_of links;
+      nodes = nodes_of_pairs links;
     }
 
 -- the graph of the segments of an arrangement whose fill passes the test

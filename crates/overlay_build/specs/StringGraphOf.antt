@@ -27,23 +27,23 @@ use Rattle.overlay_build.specs.GraphOf.{HoldGraph, graph_with}
 use Rattle.overlay_build.specs.NodeIndexes.{items_of, is_any_node}
 
 -- what its readers return
-abbrev pub nodes_of : {I : Type 0} {w : _} {o : _} {e : _} {p : _} → StringGraph I w o e p → List (Vec ℕ Global)
-nodes_of graph = graph.builder.now.nodes.items
+abbrev pub line_nodes_of : {I : Type 0} {w : _} {o : _} {e : _} {p : _} → StringGraph I w o e p → List (Vec ℕ Global)
+line_nodes_of graph = graph.builder.now.nodes.items
 
-abbrev pub links_of : {I : Type 0} {w : _} {o : _} {e : _} {p : _} → StringGraph I w o e p → List (OverlayLink I Unit)
-links_of graph = graph.builder.now.links.items
+abbrev pub line_links_of : {I : Type 0} {w : _} {o : _} {e : _} {p : _} → StringGraph I w o e p → List (OverlayLink I Unit)
+line_links_of graph = graph.builder.now.links.items
 
 -- the graph that its links are those of
 abbrev pub whole_graph : {I : Type 0} {w : _} {o : _} {e : _} {p : _} → StringGraph I w o e p → Graph
-whole_graph {w = w} graph = graph_with w.whole (links_of graph)
+whole_graph {w = w} graph = graph_with w.whole (line_links_of graph)
 
 -- Its nodes are those of that graph.
 abbrev pub HasItsNodes : {I : Type 0} {w : _} {o : _} {e : _} {p : _} → StringGraph I w o e p → Type 0
-HasItsNodes {w = w} graph = HoldGraph items_of is_any_node w.whole (nodes_of graph) (links_of graph) (whole_graph graph)
+HasItsNodes {w = w} graph = HoldGraph items_of is_any_node w.whole (line_nodes_of graph) (line_links_of graph) (whole_graph graph)
 
 -- Its nodes and links are those of the graph of the segments of a list whose fills pass a test.
 abbrev pub ShowsGraphBy : {C I D : Type 0} {m : _} {w' : _} {o' : _} {e' : _} {p' : _} {w : _} {o : _} {e : _} {p : _} → (ℕ → Bool) → FillRule → List (Segment C I D m w' o' e' p') → StringGraph I w o e p → Type 0
-ShowsGraphBy {w = w} keeps rule list graph = HoldGraph items_of is_any_node w.whole (nodes_of graph) (links_of graph) (graph_by keeps rule (segments_of list))
+ShowsGraphBy {w = w} keeps rule list graph = HoldGraph items_of is_any_node w.whole (line_nodes_of graph) (line_links_of graph) (graph_by keeps rule (segments_of list))
 
 -- how many orders of live segments its build asked
 abbrev pub lines_asked : {I : Type 0} {w : _} {o : _} {e : _} {p : _} → StringGraph I w o e p → ℕ

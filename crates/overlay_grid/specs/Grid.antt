@@ -95,8 +95,8 @@ unfoldable pub holds_height : Pair → Rect → ℤ → Bool
 holds_height s r x = int_le (r.min_y *ℤ width s) (scaled_height s x) && int_le (scaled_height s x) (r.max_y *ℤ width s)
 
 -- whether s lies within the rectangle at both of its borders, and so between them
-unfoldable pub encloses : Pair → Rect → Bool
-encloses s r = holds_height s r r.min_x && holds_height s r r.max_x
+unfoldable pub holds_both_heights : Pair → Rect → Bool
+holds_both_heights s r = holds_height s r r.min_x && holds_height s r r.max_x
 
 -- whether the rectangles follow one another from one x to another
 unfoldable pub follow_on : ℤ → List Rect → ℤ → Bool

@@ -33,14 +33,14 @@ last_point p [] = p
 last_point p (q ∷ points) = last_point q points
 
 -- a column is run upward, unless the point before it is higher than the next one after it
-unfoldable pub run_through : Point → List Point → Point → List Point
-run_through before column next = if int_lt next.y before.y then reverse column else column
+unfoldable pub column_path : Point → List Point → Point → List Point
+column_path before column next = if int_lt next.y before.y then reverse column else column
 
 -- what follows on the path after a point: the columns, then b
 unfoldable pub path_from : Point → List (List Point) → Point → List Point
 path_from before [] b = b ∷ []
 path_from before (column ∷ columns) b =
-    let points = run_through before column (next_point columns b) in
+    let points = column_path before column (next_point columns b) in
     points ++ path_from (last_point before points) columns b
 
 -- from a through the marks to b

@@ -7,11 +7,11 @@ use Rattle.overlay_base.specs.Segments.{WholeSegment, total_weight}
 use Rattle.overlay_geometry.specs.Below.{height_cmp}
 
 -- whether s spans the column from x to x + 1; a vertical segment spans none
-abbrev pub spans : ℤ → Pair → Bool
-spans x s = int_le s.a.x x && int_le (x +ℤ pos 1) s.b.x
+abbrev pub spans_column : ℤ → Pair → Bool
+spans_column x s = int_le s.a.x x && int_le (x +ℤ pos 1) s.b.x
 
 abbrev pub column : List WholeSegment → ℤ → List WholeSegment
-column segments x = filter (λ s. spans x s.pair) segments
+column segments x = filter (λ s. spans_column x s.pair) segments
 
 -- whether s is at most as high as t at both borders of the column, and lower at one
 unfoldable pub is_below_in_column : ℤ → Pair → Pair → Bool
@@ -47,5 +47,5 @@ side_top segments s = if is_vertical s.pair then left_winding segments s else co
 
 -- the windings beside s are the same in every column that it spans
 pub record IsSameAlong (segments : List WholeSegment) (s : WholeSegment) : Type 0 where
-  pub below : (x : ℤ) → IsTrue (spans x s.pair) → column_bottom segments x s ≡ side_bottom segments s
-  pub above : (x : ℤ) → IsTrue (spans x s.pair) → column_top segments x s ≡ side_top segments s
+  pub below : (x : ℤ) → IsTrue (spans_column x s.pair) → column_bottom segments x s ≡ side_bottom segments s
+  pub above : (x : ℤ) → IsTrue (spans_column x s.pair) → column_top segments x s ≡ side_top segments s

@@ -2,7 +2,7 @@
 use Rattle.std.specs.Prelude.{ℕ, ℤ, List}
 use Rattle.overlay_base.specs.Segments.{WholeSegment}
 use Rattle.overlay_sweep.specs.EntryOf.{entries_of}
-use Rattle.overlay_sweep.specs.TreeShapes.{height_at}
+use Rattle.overlay_sweep.specs.TreeShapes.{subtree_height}
 use Rattle.overlay_sweep.specs.ScanTrees.{IsScanList, IsScanTree}
 use Rattle.overlay_sweep.specs.declared.build.entry.Entry.{Entry}
 use Rattle.overlay_sweep.specs.declared.build.scan_list.ScanList.{ScanList}
@@ -27,15 +27,15 @@ tree_entries tree = tree.entries.items
 abbrev pub tree_sums : {C I : Type 0} {m : _} {w : _} {o : _} {e : _} {p : _} → ScanTree C I m w o e p → List WholeSegment
 tree_sums tree = entries_of (tree_entries tree)
 
-abbrev pub kept_in : {C I : Type 0} {m : _} {w : _} {o : _} {e : _} {p : _} → ScanTree C I m w o e p → ℕ
-kept_in tree = tree.kept
+abbrev pub tree_held : {C I : Type 0} {m : _} {w : _} {o : _} {e : _} {p : _} → ScanTree C I m w o e p → ℕ
+tree_held tree = tree.kept
 
 -- the tree is sound at x, and how high it stands
 abbrev pub IsSoundAt : {C I : Type 0} {m : _} {w : _} {o : _} {e : _} {p : _} → ℤ → ScanTree C I m w o e p → Type 0
 IsSoundAt x tree = IsScanTree x (tree_sums tree) tree.shape.nodes.items tree.root tree.kept
 
 abbrev pub height_of : {C I : Type 0} {m : _} {w : _} {o : _} {e : _} {p : _} → ScanTree C I m w o e p → ℕ
-height_of tree = height_at tree.shape.nodes.items tree.root
+height_of tree = subtree_height tree.shape.nodes.items tree.root
 
 -- how many orders the last call has asked, and the last run that succeeded
 abbrev pub list_asked : {C I : Type 0} {m : _} {w : _} {o : _} {e : _} {p : _} → ScanList C I m w o e p → ℕ

@@ -24,9 +24,9 @@ height leaf = 0
 height (fork l i r) = 1 + max (height l) (height r)
 
 -- of the two sides of a node none is higher than the other by two or more
-abbrev pub IsBalanced : Tree → Type 0
-IsBalanced leaf = ⊤
-IsBalanced (fork l i r) = IsBalanced l × IsBalanced r × (height l ≤ height r + 1) × (height r ≤ height l + 1)
+abbrev pub IsHeightBalanced : Tree → Type 0
+IsHeightBalanced leaf = ⊤
+IsHeightBalanced (fork l i r) = IsHeightBalanced l × IsHeightBalanced r × (height l ≤ height r + 1) × (height r ≤ height l + 1)
 
 abbrev pub IsDistinct : List ℕ → Type 0
 IsDistinct [] = ⊤
@@ -35,19 +35,19 @@ IsDistinct (i ∷ is) = (Has is i → ⊥) × IsDistinct is
 abbrev pub node_at : List TreeNode → ℕ → TreeNode
 node_at nodes i = slice_index_or nodes i (record { left = 0; right = 0; height = 0 })
 
-abbrev pub height_at : List TreeNode → ℕ → ℕ
-height_at nodes i = if i == none then 0 else (node_at nodes i).height
+abbrev pub subtree_height : List TreeNode → ℕ → ℕ
+subtree_height nodes i = if i == none then 0 else (node_at nodes i).height
 
 abbrev pub parent_of : List TreeNode → ℕ → ℕ → TreeNode
-parent_of nodes left right = record { left = left; right = right; height = 1 + max (height_at nodes left) (height_at nodes right) }
+parent_of nodes left right = record { left = left; right = right; height = 1 + max (subtree_height nodes left) (subtree_height nodes right) }
 
 -- what a node needs to become the parent of two
 pub record MayHaveSides (nodes : List TreeNode) (at left right : ℕ) : Type 0 where
   pub at_within : at < length nodes
   pub left_within : left ≢ none → left < length nodes
   pub right_within : right ≢ none → right < length nodes
-  pub left_low : height_at nodes left < none
-  pub right_low : height_at nodes right < none
+  pub left_low : subtree_height nodes left < none
+  pub right_low : subtree_height nodes right < none
 
 -- the nodes below `at`, and itself, are linked as the tree is
 abbrev pub Stands : List TreeNode → Tree → ℕ → Type 0
@@ -58,7 +58,7 @@ Stands nodes (fork l i r) at = (at ≡ i) × (i < length nodes) × (i < none) ×
 pub record IsTree (nodes : List TreeNode) (at : ℕ) (order : List ℕ) (high : ℕ) : Type 0 where
   pub tree : Tree
   pub stands : Stands nodes tree at
-  pub balanced : IsBalanced tree
+  pub balanced : IsHeightBalanced tree
   pub order_is : in_order tree ≡ order
   pub height_is : height tree ≡ high
 
@@ -96,8 +96,8 @@ pub record IsJoined (old new : List TreeNode) (at : ℕ) (order : List ℕ) (lef
 -- `at` is the parent of both as it stands
 pub record IsParent (nodes : List TreeNode) (left at right : ℕ) : Type 0 where
   pub node_is : node_at nodes at ≡ parent_of nodes left right
-  pub left_near : height_at nodes left ≤ height_at nodes right + 1
-  pub right_near : height_at nodes right ≤ height_at nodes left + 1
+  pub left_near : subtree_height nodes left ≤ subtree_height nodes right + 1
+  pub right_near : subtree_height nodes right ≤ subtree_height nodes left + 1
 
 -- a tree of nodes that are all different
 pub record IsSound (nodes : List TreeNode) (at : ℕ) : Type 0 where

@@ -14,6 +14,6 @@ greatest_of I16 = pos 16383
 greatest_of I32 = greatest_coordinate
 
 -- the bits of an engine's coordinates
-abbrev pub bits_of : Engine → ℕ
-bits_of I16 = 16
-bits_of I32 = 32
+abbrev pub engine_bits : Engine → ℕ
+engine_bits I16 = 16
+engine_bits I32 = 32

@@ -22,7 +22,7 @@ use Rattle.overlay_text.specs.declared.settings.Engine.{Engine}
 use Rattle.overlay_text.specs.declared.settings.Settings.{Settings}
 use Rattle.overlay_text.specs.declared.stop.Stop.{Stop}
 use Rattle.overlay_text.specs.declared.stop.Stop.TheVariants.{Usage, Refused}
-use Rattle.overlay_text.specs.Engines.{least_of, greatest_of, bits_of}
+use Rattle.overlay_text.specs.Engines.{least_of, greatest_of, engine_bits}
 use Rattle.overlay_text.specs.Runs.{AskForNone}
 use Rattle.overlay_text.specs.Text.{lines_of, AskInTurn}
 use Rattle.overlay_text.specs.Words.{setting, WordsSet, SetNothing}
@@ -48,11 +48,11 @@ asks_for_none words (Ok settings) refused = tt
 asks_for_none words (Err stop) refused = (refused.0, λ settings asked. refused.1 settings asked.0)
 
 module _ {T : Type 0} (settings : Settings) (engine : Engine) (bytes : List ℕ) (r : Result T Stop) (is : settings.engine ≡ engine) where
-  pub text_by_engine : (bytes_of : T → List ℕ) → IfOk r (λ text. IsPolygonsAnswer (least_of engine) (greatest_of engine) (bits_of engine) settings bytes (Ok (bytes_of text))) → IfOk r (λ text. polygons_behavior.Answers settings bytes (Ok (bytes_of text)))
-  text_by_engine bytes_of known = subst (λ e. IfOk r (λ text. IsPolygonsAnswer (least_of e) (greatest_of e) (bits_of e) settings bytes (Ok (bytes_of text)))) (sym is) known
+  pub text_by_engine : (bytes_of : T → List ℕ) → IfOk r (λ text. IsPolygonsAnswer (least_of engine) (greatest_of engine) (engine_bits engine) settings bytes (Ok (bytes_of text))) → IfOk r (λ text. polygons_behavior.Answers settings bytes (Ok (bytes_of text)))
+  text_by_engine bytes_of known = subst (λ e. IfOk r (λ text. IsPolygonsAnswer (least_of e) (greatest_of e) (engine_bits e) settings bytes (Ok (bytes_of text)))) (sym is) known
 
-  pub stop_by_engine : IfErr r (λ stop. (stop ≡ Refused Memory) ⊎ IsPolygonsAnswer (least_of engine) (greatest_of engine) (bits_of engine) settings bytes (Err stop)) → IfErr r (λ stop. (stop ≡ Refused Memory) ⊎ polygons_behavior.Answers settings bytes (Err stop))
-  stop_by_engine known = subst (λ e. IfErr r (λ stop. (stop ≡ Refused Memory) ⊎ IsPolygonsAnswer (least_of e) (greatest_of e) (bits_of e) settings bytes (Err stop))) (sym is) known
+  pub stop_by_engine : IfErr r (λ stop. (stop ≡ Refused Memory) ⊎ IsPolygonsAnswer (least_of engine) (greatest_of engine) (engine_bits engine) settings bytes (Err stop)) → IfErr r (λ stop. (stop ≡ Refused Memory) ⊎ polygons_behavior.Answers settings bytes (Err stop))
+  stop_by_engine known = subst (λ e. IfErr r (λ stop. (stop ≡ Refused Memory) ⊎ IsPolygonsAnswer (least_of e) (greatest_of e) (engine_bits e) settings bytes (Err stop))) (sym is) known
 
 module _ (given : List GivenContour) (points : List Point) where
   pub subject_of-subject : subject_of (given ++ record { shape_type = Subject; points = points } ∷ []) ≡ subject_of given ++ points ∷ []

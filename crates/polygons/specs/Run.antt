@@ -11,7 +11,7 @@ use Rattle.overlay_split.specs.Run.{Settings as RunSettings}
 use Rattle.overlay_text.specs.declared.settings.Settings.{Settings}
 use Rattle.overlay_text.specs.declared.stop.Stop.{Stop}
 use Rattle.overlay_text.specs.declared.stop.Stop.TheVariants.{Refused, NoRule}
-use Rattle.overlay_text.specs.Engines.{least_of, greatest_of, bits_of}
+use Rattle.overlay_text.specs.Engines.{least_of, greatest_of, engine_bits}
 use Rattle.overlay_text.specs.Runs.{Behavior}
 use Rattle.overlay_text.specs.Text.{lines_of, AskInTurn, IsFirstFaultOf}
 use Rattle.overlay_text.specs.Words.{setting, WordsSet}
@@ -53,5 +53,5 @@ IsPolygonsAnswer least greatest bits settings bytes answer =
 abbrev pub polygons_behavior : Behavior Settings
 polygons_behavior = record {
   AskFor = λ words settings. WordsSet words settings × All IsNoLimitOrRadius words;
-  Answers = λ settings bytes answer. IsPolygonsAnswer (least_of settings.engine) (greatest_of settings.engine) (bits_of settings.engine) settings bytes answer;
+  Answers = λ settings bytes answer. IsPolygonsAnswer (least_of settings.engine) (greatest_of settings.engine) (engine_bits settings.engine) settings bytes answer;
 }

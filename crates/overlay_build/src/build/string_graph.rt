@@ -23,7 +23,7 @@ pub struct StringGraph<'a, I: OverlayInt> {
 }
 
 impl<'a, I: OverlayInt> StringGraph<'a, I> {
-    ghost use Rattle.overlay_build.specs.StringGraphOf.{LendsTo, nodes_of, links_of, lines_asked};
+    ghost use Rattle.overlay_build.specs.StringGraphOf.{LendsTo, line_nodes_of, line_links_of, lines_asked};
 
     /// The graph that a builder keeps.
     pub(crate) fn new(builder: &'a mut LineBuilder<I>) -> StringGraph<'a, I>
@@ -34,14 +34,14 @@ impl<'a, I: OverlayInt> StringGraph<'a, I> {
 
     /// The nodes.
     pub fn nodes(&self) -> &[Vec<usize>]
-        ensures { result.now ≡ nodes_of self.now }
+        ensures { result.now ≡ line_nodes_of self.now }
     {
         self.builder.nodes()
     }
 
     /// The links.
     pub fn links(&self) -> &[OverlayLink<I, ()>]
-        ensures { result.now ≡ links_of self.now }
+        ensures { result.now ≡ line_links_of self.now }
     {
         self.builder.links()
     }
@@ -55,7 +55,7 @@ impl<'a, I: OverlayInt> StringGraph<'a, I> {
 
     /// The links, to be written to.
     pub fn links_mut(&mut self) -> &mut [OverlayLink<I, ()>]
-        ensures links { result.now ≡ links_of self.old }
+        ensures links { result.now ≡ line_links_of self.old }
         ensures* writes_back { sem 𝓛 (LendsTo I.row I.OverlayInt.own I.Ord.own I.PartialEq I.PartialOrd.own
             self.entry result) }
     {

@@ -8,23 +8,23 @@ use Rattle.overlay_intersections.specs.Marks.{Placing}
 use Rattle.overlay_intersections.specs.CrossAnswer.{cross_answer}
 use Rattle.overlay_intersections.specs.Counts.{count_true}
 use Rattle.overlay_intersections.specs.AnswerOf.{result_of}
-use Rattle.overlay_intersections.specs.declared.split.cross.contact.Sides.{Sides}
+use Rattle.overlay_intersections.specs.declared.split.cross.contact.EndSides.{EndSides}
 use Rattle.overlay_intersections.specs.declared.split.cross.contact.Contact.{Contact}
 use Rattle.overlay_intersections.specs.declared.split.cross.contact.Contact.TheVariants.{Apart, At, Crossing}
 
 -- the directions of the other's ends from the target, and of the target's ends from the other
-pub record AreSides (target other : Pair) (sides : Sides) : Type 0 where
+pub record AreEndSides (target other : Pair) (sides : EndSides) : Type 0 where
   pub other_a_is : sides.other_a ≡ clock_direction target.a target.b other.a
   pub other_b_is : sides.other_b ≡ clock_direction target.a target.b other.b
   pub target_a_is : sides.target_a ≡ clock_direction other.a other.b target.a
   pub target_b_is : sides.target_b ≡ clock_direction other.a other.b target.b
 
 -- how many ends lie on the line of the other segment
-abbrev pub zeros_of : Sides → ℕ
+abbrev pub zeros_of : EndSides → ℕ
 zeros_of sides = count_true (int_eq sides.other_a (pos 0)) (int_eq sides.other_b (pos 0)) (int_eq sides.target_a (pos 0)) (int_eq sides.target_b (pos 0))
 
 -- whether an end is shared, or both ends of one lie on the same side of the other
-abbrev pub leave_no_contact : Sides → Bool
+abbrev pub leave_no_contact : EndSides → Bool
 leave_no_contact sides = nat_lt 1 (zeros_of sides) || (int_eq sides.other_a sides.other_b || int_eq sides.target_a sides.target_b)
 
 -- what the sides decide: the answer, but for a crossing strictly inside both, which is to be placed

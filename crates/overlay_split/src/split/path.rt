@@ -3,7 +3,7 @@ ghost use Rattle.std.specs.Prelude.{◌≡◌, ◌++◌, ◌≤◌, ◌<◌, len
 ghost use Rattle.std.specs.List.{prefix_len};
 ghost use Rattle.std.specs.Ordering.{int_eq};
 ghost use Rattle.overlay_geometry.specs.PointOf.{point_of};
-ghost use Rattle.overlay_split.specs.Path.{run_through, last_point};
+ghost use Rattle.overlay_split.specs.Path.{column_path, last_point};
 ghost use Rattle.overlay_split.specs.steps.PathSteps.{first_point};
 ghost use Rattle.overlay_intersections.specs.MarkOf.{points_of, mark_points_of};
 ghost use Rattle.overlay_split.specs.steps.PiecesOf.{path_through};
@@ -33,7 +33,7 @@ pub fn collect_path<I: OverlayInt>(
         let (column, later) = rest.split_at(column_len(first.point.x, rest));
         let before = last_or(path.as_slice(), a);
         let next = first_or(later, b);
-        run_column(before, column, next, path)?;
+        append_column(before, column, next, path)?;
         rest = later;
     }
     path.push(b)?;
@@ -54,14 +54,14 @@ fn column_len<I: OverlayInt>(x: I, marks: &[LineMark<I>]) -> usize
 }
 
 /// Appends the marks of one x to a path.
-fn run_column<I: OverlayInt>(
+fn append_column<I: OverlayInt>(
     before: IntPoint<I>,
     column: &[LineMark<I>],
     next: IntPoint<I>,
     path: &mut Vec<IntPoint<I>>,
 ) -> Result<(), AllocError>
     ensures { OnOk result (points_of I.whole path.new.items ≡ points_of I.whole path.old.items
-        ++ run_through (point_of I.whole before) (mark_points_of I.whole column.now) (point_of I.whole next)) }
+        ++ column_path (point_of I.whole before) (mark_points_of I.whole column.now) (point_of I.whole next)) }
 {
     if is_lower(next.y, before.y) {
         append_downward(column, path)

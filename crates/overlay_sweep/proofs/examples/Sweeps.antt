@@ -9,7 +9,7 @@ use Rattle.overlay_base.specs.EdgeData.{DataSegment}
 use Rattle.overlay_geometry.specs.Below.{under_point_order}
 use Rattle.overlay_base.specs.declared.overlay_core.fill_rule.FillRule.{FillRule}
 use Rattle.overlay_base.specs.declared.overlay_core.fill_rule.FillRule.TheVariants.{EvenOdd, NonZero, Positive, Negative}
-use Rattle.overlay_sweep.specs.ColumnWindings.{spans, column_bottom, column_top, right_winding, left_winding}
+use Rattle.overlay_sweep.specs.ColumnWindings.{spans_column, column_bottom, column_top, right_winding, left_winding}
 use Rattle.overlay_sweep.specs.ChainWindings.{bottom, top, tops_leave_range}
 use Rattle.overlay_sweep.specs.Sweep.{fill_of, visits}
 use Rattle.overlay_sweep.proofs.examples.Computing.{computing}
@@ -32,7 +32,7 @@ order segments = map (λ v. v.index) (visits NonZero (map with_data segments))
 
 abbrev columns_agree : List WholeSegment → List ℤ → Bool
 columns_agree segments xs =
-    list_all (λ x. list_all (λ s. not (spans x s.pair) || (winding_eq (column_bottom segments x s) (bottom segments s) && winding_eq (column_top segments x s) (top segments s))) segments) xs
+    list_all (λ x. list_all (λ s. not (spans_column x s.pair) || (winding_eq (column_bottom segments x s) (bottom segments s) && winding_eq (column_top segments x s) (top segments s))) segments) xs
 
 abbrev verticals_agree : List WholeSegment → Bool
 verticals_agree segments =

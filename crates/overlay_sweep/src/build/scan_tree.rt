@@ -2,7 +2,7 @@
 ghost use Rattle.std.specs.Prelude.{◌≡◌, ◌+◌, ◌/◌, ◌≤◌, ◌==◌, ◌&&◌, not};
 ghost use Rattle.overlay_geometry.specs.VSegmentOf.{v_pair_of};
 ghost use Rattle.overlay_sweep.specs.steps.PlaceOf.{IsPlaceInRange, stands_before};
-ghost use Rattle.overlay_sweep.specs.TreeShapes.{none, height_at};
+ghost use Rattle.overlay_sweep.specs.TreeShapes.{none, subtree_height};
 
 use crate::build::entry::Entry;
 use crate::build::live_segments::LiveSegments;
@@ -53,13 +53,13 @@ impl<C: WindingCount, I: OverlayInt> ScanTree<C, I> {
     ghost use Rattle.overlay_sweep.specs.EntryOf.{entries_of};
     ghost use Rattle.overlay_sweep.specs.TreeShapes.{MayGoDown, IsStopped, IsPlaced};
     ghost use Rattle.overlay_sweep.specs.ScanTrees.{segment_at, lasts_past, IsGrowing, IsGrown, IsAskedWithin};
-    ghost use Rattle.overlay_sweep.specs.LiveOf.{tree_entries, kept_in, IsSoundAt, tree_asked};
+    ghost use Rattle.overlay_sweep.specs.LiveOf.{tree_entries, tree_held, IsSoundAt, tree_asked};
 
     /// An empty tree, which takes no memory yet.
     pub fn new(alloc: Global) -> ScanTree<C, I>
         ensures entries { tree_entries result ≡ [] }
         ensures time { (x : ℤ) → IsSoundAt x result }
-        ensures kept { kept_in result ≡ 0 }
+        ensures kept { tree_held result ≡ 0 }
         ensures compared { tree_asked result ≡ 0 }
     {
         ScanTree {
@@ -142,7 +142,7 @@ impl<C: WindingCount, I: OverlayInt> ScanTree<C, I> {
             (entries_of self.old.entries.items) i).pair) m.down.placed self.new.shape.nodes.items self.new.root
             self.new.kept result }
         ensures compared { IsAskedWithin self.old.kept (self.old.kept - self.new.kept) self.new.compared }
-        ensures reached { height_at self.new.shape.nodes.items self.new.root / 2 ≤ self.new.compared + 1 }
+        ensures reached { subtree_height self.new.shape.nodes.items self.new.root / 2 ≤ self.new.compared + 1 }
     {
         self.compared = 0;
         loop {
@@ -173,7 +173,7 @@ impl<C: WindingCount, I: OverlayInt> ScanTree<C, I> {
     /// How many entries the longest way down has.
     pub fn depth(&self) -> usize
         ensures longest { (x : ℤ) (t : IsSoundAt x self.now) → result ≡ t.high }
-        ensures low { (x : ℤ) → IsSoundAt x self.now → 2 ^ (result / 2) ≤ kept_in self.now + 1 }
+        ensures low { (x : ℤ) → IsSoundAt x self.now → 2 ^ (result / 2) ≤ tree_held self.now + 1 }
     {
         self.shape.height(self.root)
     }
@@ -188,13 +188,13 @@ impl<C: WindingCount, I: OverlayInt> LiveSegments<C, I> for ScanTree<C, I> {
     ghost use Rattle.overlay_sweep.specs.Live.{sum_below};
     ghost use Rattle.overlay_sweep.specs.Live.{HoldSameFrom, AreFreeAt};
     ghost use Rattle.overlay_sweep.specs.ScanTrees.{IsAskedWithin};
-    ghost use Rattle.overlay_sweep.specs.LiveOf.{tree_sums, kept_in, IsSoundAt, height_of, tree_asked};
+    ghost use Rattle.overlay_sweep.specs.LiveOf.{tree_sums, tree_held, IsSoundAt, height_of, tree_asked};
 
     ghost sums = { λ tree. tree_sums tree };
 
     ghost asked = { λ tree. tree_asked tree };
 
-    ghost held = { λ tree. kept_in tree };
+    ghost held = { λ tree. tree_held tree };
 
     ghost is_most = { λ n d. IsHighest n d };
 
@@ -216,11 +216,11 @@ impl<C: WindingCount, I: OverlayInt> LiveSegments<C, I> for ScanTree<C, I> {
         ensures emptied { OnErr result (tree_sums self.new ≡ []) }
         ensures none_asked { OnErr result (tree_asked self.new ≡ 0) }
         ensures cleared { OnErr result ((y : ℤ) → IsSoundAt y self.new) }
-        ensures held { OnOk result (kept_in self.new ≤ suc (kept_in self.old)) }
-        ensures most { OnOk result ((n d : ℕ) → kept_in self.old ≤ n → IsHighest n d
-            → tree_asked self.new + kept_in self.new * d ≤ suc (suc (kept_in self.old)) * d) }
+        ensures held { OnOk result (tree_held self.new ≤ suc (tree_held self.old)) }
+        ensures most { OnOk result ((n d : ℕ) → tree_held self.old ≤ n → IsHighest n d
+            → tree_asked self.new + tree_held self.new * d ≤ suc (suc (tree_held self.old)) * d) }
         ensures compared { OnOk result
-            (IsAskedWithin (kept_in self.old) (suc (kept_in self.old) - kept_in self.new) (tree_asked self.new)) }
+            (IsAskedWithin (tree_held self.old) (suc (tree_held self.old) - tree_held self.new) (tree_asked self.new)) }
         ensures reached { OnOk result (height_of self.new / 2 ≤ tree_asked self.new + 1) }
         ensures lasting { OnOk result ((y : ℤ) → I.whole x ≤ℤ y → lasting_at y (tree_sums self.new) ≡ lasting_at y
             (record { pair = v_pair_of I.whole segment; count = C.winding sum } ∷ tree_sums self.old)) }
@@ -247,10 +247,10 @@ impl<C: WindingCount, I: OverlayInt> LiveSegments<C, I> for ScanTree<C, I> {
         ensures sum { C.winding result ≡ sum_below (tree_sums self.old) (point_of I.whole p) (C.winding default) }
         ensures sums { HoldSameFrom (I.whole x) (tree_sums self.new) (tree_sums self.old) }
         ensures time { (y : ℤ) → I.whole x ≤ℤ y → IsSoundAt y self.new }
-        ensures held { kept_in self.new ≤ kept_in self.old }
-        ensures most { (n d : ℕ) → kept_in self.old ≤ n → IsHighest n d
-            → tree_asked self.new + kept_in self.new * d ≤ suc (kept_in self.old) * d }
-        ensures compared { IsAskedWithin (kept_in self.old) (kept_in self.old - kept_in self.new)
+        ensures held { tree_held self.new ≤ tree_held self.old }
+        ensures most { (n d : ℕ) → tree_held self.old ≤ n → IsHighest n d
+            → tree_asked self.new + tree_held self.new * d ≤ suc (tree_held self.old) * d }
+        ensures compared { IsAskedWithin (tree_held self.old) (tree_held self.old - tree_held self.new)
             (tree_asked self.new) }
         ensures reached { height_of self.new / 2 ≤ tree_asked self.new + 1 }
         ensures lasting { (y : ℤ) → I.whole x ≤ℤ y → lasting_at y (tree_sums self.new)
@@ -268,7 +268,7 @@ impl<C: WindingCount, I: OverlayInt> LiveSegments<C, I> for ScanTree<C, I> {
     fn clear(&mut self)
         ensures sums { tree_sums self.new ≡ [] }
         ensures time { (y : ℤ) → IsSoundAt y self.new }
-        ensures held { kept_in self.new ≡ 0 }
+        ensures held { tree_held self.new ≡ 0 }
         ensures asked { tree_asked self.new ≡ 0 }
     {
         self.entries.clear();

@@ -23,7 +23,7 @@ pub struct TreeShape {
 
 impl TreeShape {
     ghost use Rattle.std.specs.Prelude.{slice_set, slice_index_or, ◌-◌, [], true, OnOk, IfErr};
-    ghost use Rattle.overlay_sweep.specs.TreeShapes.{none, height_at, parent_of, MayHaveSides, AreJoinable, IsJoined, IsParent, IsSound, IsFirstRemoved, lone_node, JoinsTrees, RemovesTop};
+    ghost use Rattle.overlay_sweep.specs.TreeShapes.{none, subtree_height, parent_of, MayHaveSides, AreJoinable, IsJoined, IsParent, IsSound, IsFirstRemoved, lone_node, JoinsTrees, RemovesTop};
 
     /// No nodes. This takes no memory yet.
     pub fn new(alloc: Global) -> TreeShape
@@ -65,7 +65,7 @@ impl TreeShape {
 
     /// How many nodes the longest way down from a node has. There is none below no node.
     pub fn height(&self, at: usize) -> usize
-        ensures { result ≡ height_at self.now.nodes.items at }
+        ensures { result ≡ subtree_height self.now.nodes.items at }
     {
         match self.nodes.get(at) {
             Some(node) => node.height,
@@ -89,7 +89,7 @@ impl TreeShape {
     /// Joins two trees by a node between them, where the left one is too high.
     fn join_to_high_left(&mut self, left: usize, at: usize, right: usize) -> usize
         requires joinable { AreJoinable self.old.nodes.items left at right }
-        requires high { height_at self.old.nodes.items left ≡ 2 + height_at self.old.nodes.items right }
+        requires high { subtree_height self.old.nodes.items left ≡ 2 + subtree_height self.old.nodes.items right }
         ensures { (j : AreJoinable self.old.nodes.items left at right)
             → IsJoined self.old.nodes.items self.new.nodes.items result
             (j.before ++ at ∷ j.after) j.left_height j.right_height }
@@ -110,7 +110,7 @@ impl TreeShape {
     /// Joins two trees by a node between them, where the right one is too high.
     fn join_to_high_right(&mut self, left: usize, at: usize, right: usize) -> usize
         requires joinable { AreJoinable self.old.nodes.items left at right }
-        requires high { height_at self.old.nodes.items right ≡ 2 + height_at self.old.nodes.items left }
+        requires high { subtree_height self.old.nodes.items right ≡ 2 + subtree_height self.old.nodes.items left }
         ensures { (j : AreJoinable self.old.nodes.items left at right)
             → IsJoined self.old.nodes.items self.new.nodes.items result
             (j.before ++ at ∷ j.after) j.left_height j.right_height }

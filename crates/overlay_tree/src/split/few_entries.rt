@@ -1,7 +1,7 @@
 // Look-ups among a few entries, one after another, where a tree would be worth less than it costs.
 ghost use Rattle.std.specs.Prelude.{◌≡◌, ◌+◌, ◌-◌, ◌^◌, ◌++◌, [], ◌∷◌, length, min, OnOk};
 ghost use Rattle.overlay_tree.specs.steps.IntervalTree.{found, is_taken_up};
-ghost use Rattle.overlay_tree.specs.steps.NodeOf.{entry_of, query_of, found_in};
+ghost use Rattle.overlay_tree.specs.steps.NodeOf.{node_entry, query_of, found_in};
 
 use crate::split::interval_tree::{Node, Query, has_ended};
 use overlay_geometry::num::OverlayInt;
@@ -37,7 +37,7 @@ fn look_at_one<I: OverlayInt>(
     looked: &mut u128,
 ) -> Result<(), AllocError>
     ensures found { OnOk result (indexes.new.items
-        ≡ indexes.old.items ++ found (query_of I.whole query.now) (entry_of I.whole node.now ∷ [])) }
+        ≡ indexes.old.items ++ found (query_of I.whole query.now) (node_entry I.whole node.now ∷ [])) }
     ensures looked { OnOk result (looked.new ≡ min (looked.old + 1) (2 ^ 128 - 1)) }
 {
     take_up(looked);
@@ -53,7 +53,7 @@ fn look_at_one<I: OverlayInt>(
 
 /// Whether the entry of a node is live, and a look-up meets its heights.
 fn is_met<I: OverlayInt>(node: &Node<I>, query: &Query<I>) -> bool
-    ensures { result ≡ is_taken_up (query_of I.whole query.now) (entry_of I.whole node.now) }
+    ensures { result ≡ is_taken_up (query_of I.whole query.now) (node_entry I.whole node.now) }
 {
     node.is_live && !(node.high < query.heights.min) && !(query.heights.max < node.low)
 }

@@ -5,7 +5,7 @@ ghost use Rattle.std.specs.Prelude.{true, not, ◌&&◌, ◌||◌, IsFalse, Some
 ghost use Rattle.std.specs.List.{AllByRecursion, list_any};
 ghost use Rattle.overlay_tree.specs.steps.IntervalTree.{AreRising, IsSummed, IsAt, IsUpTo, entries, greatest_height, further};
 ghost use Rattle.overlay_tree.specs.steps.IntervalTree.{found, inserted, is_dropped, is_reached, is_taken_up, left_by, stays_at};
-ghost use Rattle.overlay_tree.specs.steps.NodeOf.{entry_of, greatest_of, nodes_of, query_of, entries_of, entries_left, found_in, taken_up_in, drops_some};
+ghost use Rattle.overlay_tree.specs.steps.NodeOf.{node_entry, highest_of, tree_nodes, query_of, node_entries, entries_left, found_in, taken_up_in, drops_some};
 ghost use Rattle.overlay_intersections.specs.Looked.{capped_sum};
 
 use overlay_geometry::geom::line_range::LineRange;
@@ -40,10 +40,10 @@ pub fn look_up<I: OverlayInt>(
     indexes: &mut Vec<usize>,
     looked: &mut u128,
 ) -> Result<bool, AllocError>
-    requires rising { AreRising (entries_of I.whole nodes.old) }
-    requires summed { IsSummed (nodes_of I.whole nodes.old) }
-    ensures entries { OnOk result (entries_of I.whole nodes.new ≡ entries_left I.whole query.now nodes.old) }
-    ensures summed { OnOk result (IsSummed (nodes_of I.whole nodes.new)) }
+    requires rising { AreRising (node_entries I.whole nodes.old) }
+    requires summed { IsSummed (tree_nodes I.whole nodes.old) }
+    ensures entries { OnOk result (node_entries I.whole nodes.new ≡ entries_left I.whole query.now nodes.old) }
+    ensures summed { OnOk result (IsSummed (tree_nodes I.whole nodes.new)) }
     ensures found { OnOk result (indexes.new.items ≡ indexes.old.items ++ found_in I.whole query.now nodes.old) }
     ensures looked { OnOk result (looked.new ≡ capped_sum looked.old (taken_up_in I.whole query.now nodes.old)) }
     ensures dropped { IfOk result (λ dropped. dropped ≡ drops_some I.whole query.now nodes.old) }
@@ -65,10 +65,10 @@ fn look_into<I: OverlayInt>(
     indexes: &mut Vec<usize>,
     looked: &mut u128,
 ) -> Result<bool, AllocError>
-    requires rising { AreRising (entries (nodes_of I.whole nodes.old)) }
-    requires summed { IsSummed (nodes_of I.whole nodes.old) }
-    ensures entries { OnOk result (entries_of I.whole nodes.new ≡ entries_left I.whole query.now nodes.old) }
-    ensures summed { OnOk result (IsSummed (nodes_of I.whole nodes.new)) }
+    requires rising { AreRising (entries (tree_nodes I.whole nodes.old)) }
+    requires summed { IsSummed (tree_nodes I.whole nodes.old) }
+    ensures entries { OnOk result (node_entries I.whole nodes.new ≡ entries_left I.whole query.now nodes.old) }
+    ensures summed { OnOk result (IsSummed (tree_nodes I.whole nodes.new)) }
     ensures found { OnOk result (indexes.new.items ≡ indexes.old.items ++ found_in I.whole query.now nodes.old) }
     ensures looked { OnOk result (looked.new ≡ capped_sum looked.old (taken_up_in I.whole query.now nodes.old)) }
     ensures dropped { IfOk result (λ dropped. dropped ≡ drops_some I.whole query.now nodes.old) }
@@ -92,7 +92,7 @@ fn look_into<I: OverlayInt>(
 
 /// Whether some live entry reaches the height.
 fn reaches<I: OverlayInt>(greatest: Option<I>, low: I) -> bool
-    ensures { result ≡ is_reached (greatest_of I.whole greatest) (I.whole low) }
+    ensures { result ≡ is_reached (highest_of I.whole greatest) (I.whole low) }
 {
     match greatest {
         Some(high) => low <= high,
@@ -116,16 +116,16 @@ fn look_at<I: OverlayInt>(
     looked: &mut u128,
 ) -> Result<bool, AllocError>
     requires low { IsFalse (int_lt (I.whole query.now.heights.max) (I.whole node.old.low)) }
-    ensures entry { OnOk result (entry_of I.whole node.new
-        ≡ left_by (query_of I.whole query.now) (entry_of I.whole node.old)) }
+    ensures entry { OnOk result (node_entry I.whole node.new
+        ≡ left_by (query_of I.whole query.now) (node_entry I.whole node.old)) }
     ensures greatest { OnOk result (node.new.greatest ≡ node.old.greatest) }
     ensures found { OnOk result (indexes.new.items
-        ≡ indexes.old.items ++ found (query_of I.whole query.now) (entry_of I.whole node.old ∷ [])) }
+        ≡ indexes.old.items ++ found (query_of I.whole query.now) (node_entry I.whole node.old ∷ [])) }
     ensures looked { OnOk result (looked.new
-        ≡ min (looked.old + count_by (is_taken_up (query_of I.whole query.now)) (entry_of I.whole node.old ∷ []))
+        ≡ min (looked.old + count_by (is_taken_up (query_of I.whole query.now)) (node_entry I.whole node.old ∷ []))
         (2 ^ 128 - 1)) }
     ensures dropped { IfOk result (λ dropped. dropped ≡ is_dropped (query_of I.whole query.now)
-        (entry_of I.whole node.old)) }
+        (node_entry I.whole node.old)) }
 {
     // read, so that the checker knows that the count fits its type
     let _looked = *looked;
@@ -144,27 +144,27 @@ fn look_at<I: OverlayInt>(
 /// Whether the entry of a node that does not begin above the look-up is live and reaches it.
 fn is_met_from_below<I: OverlayInt>(node: &Node<I>, query: &Query<I>) -> bool
     requires { IsFalse (int_lt (I.whole query.now.heights.max) (I.whole node.now.low)) }
-    ensures { result ≡ is_taken_up (query_of I.whole query.now) (entry_of I.whole node.now) }
+    ensures { result ≡ is_taken_up (query_of I.whole query.now) (node_entry I.whole node.now) }
 {
     node.is_live && !(node.high < query.heights.min)
 }
 
 /// Whether the entry of a node ends left of an `x`.
 pub(crate) fn has_ended<I: OverlayInt>(node: &Node<I>, x: I) -> bool
-    ensures { result ≡ int_lt (entry_of I.whole node.now).end_x (I.whole x) }
+    ensures { result ≡ int_lt (node_entry I.whole node.now).end_x (I.whole x) }
 {
     node.end_x < x
 }
 
 /// Makes the entry of a segment live. It is found by its least height and its index, and there has to be one.
 pub fn insert<I: OverlayInt>(nodes: &mut [Node<I>], low: I, high: I, index: usize)
-    requires rising { AreRising (entries_of I.whole nodes.old) }
-    requires summed { IsSummed (nodes_of I.whole nodes.old) }
-    requires low { AllByRecursion (IsAt index (I.whole low)) (entries_of I.whole nodes.old) }
-    requires high { AllByRecursion (IsUpTo index (I.whole high)) (entries_of I.whole nodes.old) }
-    requires there { list_any (λ e. e.index == index) (entries_of I.whole nodes.old) ≡ true }
-    ensures entries { entries_of I.whole nodes.new ≡ map (inserted index) (entries_of I.whole nodes.old) }
-    ensures summed { IsSummed (nodes_of I.whole nodes.new) }
+    requires rising { AreRising (node_entries I.whole nodes.old) }
+    requires summed { IsSummed (tree_nodes I.whole nodes.old) }
+    requires low { AllByRecursion (IsAt index (I.whole low)) (node_entries I.whole nodes.old) }
+    requires high { AllByRecursion (IsUpTo index (I.whole high)) (node_entries I.whole nodes.old) }
+    requires there { list_any (λ e. e.index == index) (node_entries I.whole nodes.old) ≡ true }
+    ensures entries { node_entries I.whole nodes.new ≡ map (inserted index) (node_entries I.whole nodes.old) }
+    ensures summed { IsSummed (tree_nodes I.whole nodes.new) }
 {
     let (left, rest) = nodes.split_at_mut(nodes.len() / 2);
     let Some((root, right)) = rest.split_first_mut() else {
@@ -182,9 +182,9 @@ pub fn insert<I: OverlayInt>(nodes: &mut [Node<I>], low: I, high: I, index: usiz
 
 /// Raises the greatest height of a root to that of an entry that is to be live in its subtree.
 fn raise<I: OverlayInt>(root: &mut Node<I>, high: I)
-    ensures entry { entry_of I.whole root.new ≡ entry_of I.whole root.old }
-    ensures greatest { greatest_of I.whole root.new.greatest
-        ≡ further (greatest_of I.whole root.old.greatest) (Some (I.whole high)) }
+    ensures entry { node_entry I.whole root.new ≡ node_entry I.whole root.old }
+    ensures greatest { highest_of I.whole root.new.greatest
+        ≡ further (highest_of I.whole root.old.greatest) (Some (I.whole high)) }
 {
     root.greatest = further(root.greatest, Some(high));
 }
@@ -199,8 +199,8 @@ fn stands_before<I: OverlayInt>(low: I, index: usize, node: &Node<I>) -> bool
 
 /// Sets every greatest height, from the subtrees up.
 pub fn sum_up<I: OverlayInt>(nodes: &mut [Node<I>])
-    ensures entries { entries_of I.whole nodes.new ≡ entries_of I.whole nodes.old }
-    ensures summed { IsSummed (nodes_of I.whole nodes.new) }
+    ensures entries { node_entries I.whole nodes.new ≡ node_entries I.whole nodes.old }
+    ensures summed { IsSummed (tree_nodes I.whole nodes.new) }
 {
     let (left, rest) = nodes.split_at_mut(nodes.len() / 2);
     let Some((root, right)) = rest.split_first_mut() else {
@@ -213,19 +213,19 @@ pub fn sum_up<I: OverlayInt>(nodes: &mut [Node<I>])
 
 /// Whether an entry is live and does not end left of an `x`.
 pub fn stays<I: OverlayInt>(node: &Node<I>, x: I) -> bool
-    ensures { result ≡ stays_at (I.whole x) (entry_of I.whole node.now) }
+    ensures { result ≡ stays_at (I.whole x) (node_entry I.whole node.now) }
 {
     node.is_live && !(node.end_x < x)
 }
 
 /// Sets the greatest height of a root, from its subtrees and its own entry.
 fn update_greatest<I: OverlayInt>(left: &[Node<I>], root: &mut Node<I>, right: &[Node<I>])
-    requires left { IsSummed (nodes_of I.whole left.now) }
-    requires right { IsSummed (nodes_of I.whole right.now) }
-    ensures entry { entry_of I.whole root.new ≡ entry_of I.whole root.old }
-    ensures greatest { greatest_of I.whole root.new.greatest
-        ≡ greatest_height (entries (nodes_of I.whole left.now)
-        ++ entry_of I.whole root.old ∷ entries (nodes_of I.whole right.now)) }
+    requires left { IsSummed (tree_nodes I.whole left.now) }
+    requires right { IsSummed (tree_nodes I.whole right.now) }
+    ensures entry { node_entry I.whole root.new ≡ node_entry I.whole root.old }
+    ensures greatest { highest_of I.whole root.new.greatest
+        ≡ greatest_height (entries (tree_nodes I.whole left.now)
+        ++ node_entry I.whole root.old ∷ entries (tree_nodes I.whole right.now)) }
 {
     let own = if root.is_live { Some(root.high) } else { None };
     root.greatest = further(greatest_in(left), further(own, greatest_in(right)));
@@ -233,8 +233,8 @@ fn update_greatest<I: OverlayInt>(left: &[Node<I>], root: &mut Node<I>, right: &
 
 /// The greatest height of the live entries of a tree.
 fn greatest_in<I: OverlayInt>(nodes: &[Node<I>]) -> Option<I>
-    requires { IsSummed (nodes_of I.whole nodes.now) }
-    ensures { greatest_of I.whole result ≡ greatest_height (entries (nodes_of I.whole nodes.now)) }
+    requires { IsSummed (tree_nodes I.whole nodes.now) }
+    ensures { highest_of I.whole result ≡ greatest_height (entries (tree_nodes I.whole nodes.now)) }
 {
     match nodes.get(nodes.len() / 2) {
         Some(root) => root.greatest,
@@ -244,7 +244,7 @@ fn greatest_in<I: OverlayInt>(nodes: &[Node<I>]) -> Option<I>
 
 /// The greater of two heights that may be missing.
 fn further<I: OverlayInt>(a: Option<I>, b: Option<I>) -> Option<I>
-    ensures { greatest_of I.whole result ≡ further (greatest_of I.whole a) (greatest_of I.whole b) }
+    ensures { highest_of I.whole result ≡ further (highest_of I.whole a) (highest_of I.whole b) }
 {
     match (a, b) {
         (Some(x), Some(y)) => Some(if x < y { y } else { x }),

@@ -17,7 +17,6 @@ use overlay_base::segm::segment::Segment;
 use overlay_base::segm::winding::WindingCount;
 use overlay_geometry::num::OverlayInt;
 use overlay_intersections::split::line_mark::LineMark;
-use overlay_intersections::split::looks::take_up;
 use overlay_intersections::split::marking::{Indexed, mark_both};
 use overlay_intersections::split::placing::Placing;
 use std::alloc::AllocError;
@@ -87,14 +86,13 @@ fn mark_with_later<C: WindingCount, I: OverlayInt, D: Copy>(
         x_segment: target,
     };
     let mut rounded = false;
-    // a count of its own, so that no comparison is written through the reference
-    let mut count = *looked;
+    let mut end = segments.len();
     for later in index + 1..segments.len() {
         let other = segments[later].x_segment();
         if other.begins_past_end(&target) {
+            end = later;
             break;
         }
-        take_up(&mut count);
         let second = Indexed {
             index: later,
             x_segment: other,
@@ -103,6 +101,7 @@ fn mark_with_later<C: WindingCount, I: OverlayInt, D: Copy>(
             rounded = true;
         }
     }
-    *looked = count;
+    // counted once, as a sum of 128 bits for each pair takes long
+    *looked = looked.saturating_add((end - index - 1) as u128);
     Ok(rounded)
 }

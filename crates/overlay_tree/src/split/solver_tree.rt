@@ -10,7 +10,7 @@ ghost use Rattle.overlay_intersections.specs.PassMarks.{is_rounded};
 ghost use Rattle.overlay_intersections.specs.PlacingOf.{placing_of, HasRadius};
 ghost use Rattle.overlay_intersections.specs.MarkOf.{AreMarks, marks_of, AreMarksOf};
 ghost use Rattle.overlay_tree.specs.steps.IntervalTree.{AreRising, IsSummed, entries, stays_at};
-ghost use Rattle.overlay_tree.specs.steps.NodeOf.{nodes_of, node_of, entry_of};
+ghost use Rattle.overlay_tree.specs.steps.NodeOf.{tree_nodes, node_of, node_entry};
 ghost use Rattle.overlay_intersections.specs.Looked.{boxes_meet, count_twos, tree_looks, capped_sum};
 ghost use Rattle.overlay_tree.specs.steps.TreeSweep.{IsUnderWay, GoesOn, AreFoundBefore};
 ghost use Rattle.overlay_tree.specs.steps.Swept.{alone, few, entry_at, entry_of_pair, entries_between, pair_at, marks_with_found, crosses_found};
@@ -156,9 +156,9 @@ pub(crate) fn take_in<C: WindingCount, I: OverlayInt, D: Copy>(
     requires index { index < length segments.now }
     requires sorted { IsSortedByKey ends_of pair_cmp segments.now }
     requires way { (old : ℕ) × IsUnderWay (pairs (segments_of segments.now))
-        (nodes_of I.whole nodes.old.items) old looked.old index until }
-    ensures way { IfOk result (λ until'. GoesOn (pairs (segments_of segments.now)) (nodes_of I.whole nodes.old.items)
-        (nodes_of I.whole nodes.new.items) looked.old looked.new index until until') }
+        (tree_nodes I.whole nodes.old.items) old looked.old index until }
+    ensures way { IfOk result (λ until'. GoesOn (pairs (segments_of segments.now)) (tree_nodes I.whole nodes.old.items)
+        (tree_nodes I.whole nodes.new.items) looked.old looked.new index until until') }
     ensures found { OnOk result (AreFoundBefore (pairs (segments_of segments.now)) found.new.items index) }
     ensures looked { OnOk result (looked.new ≤ looked.old + length segments.now) }
 {
@@ -188,9 +188,9 @@ fn take_into_tree<C: WindingCount, I: OverlayInt, D: Copy>(
     requires sorted { IsSortedByKey ends_of pair_cmp segments.now }
     requires there { index < until }
     requires way { (old : ℕ) × IsUnderWay (pairs (segments_of segments.now))
-        (nodes_of I.whole nodes.old.items) old looked.old index until }
-    ensures way { OnOk result (GoesOn (pairs (segments_of segments.now)) (nodes_of I.whole nodes.old.items)
-        (nodes_of I.whole nodes.new.items) looked.old looked.new index until until) }
+        (tree_nodes I.whole nodes.old.items) old looked.old index until }
+    ensures way { OnOk result (GoesOn (pairs (segments_of segments.now)) (tree_nodes I.whole nodes.old.items)
+        (tree_nodes I.whole nodes.new.items) looked.old looked.new index until until) }
     ensures found { OnOk result (AreFoundBefore (pairs (segments_of segments.now)) found.new.items index) }
     ensures looked { OnOk result (looked.new ≤ looked.old + length segments.now) }
 {
@@ -223,9 +223,9 @@ fn take_among_few<C: WindingCount, I: OverlayInt, D: Copy>(
     requires none { index ≡ until }
     requires few { length nodes.old.items < few }
     requires way { (old : ℕ) × IsUnderWay (pairs (segments_of segments.now))
-        (nodes_of I.whole nodes.old.items) old looked.old index until }
-    ensures way { OnOk result (GoesOn (pairs (segments_of segments.now)) (nodes_of I.whole nodes.old.items)
-        (nodes_of I.whole nodes.new.items) looked.old looked.new index until (index + 1)) }
+        (tree_nodes I.whole nodes.old.items) old looked.old index until }
+    ensures way { OnOk result (GoesOn (pairs (segments_of segments.now)) (tree_nodes I.whole nodes.old.items)
+        (tree_nodes I.whole nodes.new.items) looked.old looked.new index until (index + 1)) }
     ensures found { OnOk result (AreFoundBefore (pairs (segments_of segments.now)) found.new.items index) }
     ensures looked { OnOk result (looked.new ≤ looked.old + length segments.now) }
 {
@@ -262,12 +262,12 @@ pub(crate) fn renew<C: WindingCount, I: OverlayInt, D: Copy>(
     ensures further { IfOk result (λ until. from < until) }
     ensures within { IfOk result (λ until. until ≤ length segments.now) }
     ensures rising { OnOk result (IsDistinct (λ i j. i == j)
-        (map (λ e. e.index) (entries (nodes_of I.whole nodes.new.items)))
-        → AreRising (entries (nodes_of I.whole nodes.new.items))) }
-    ensures summed { OnOk result (IsSummed (nodes_of I.whole nodes.new.items)) }
+        (map (λ e. e.index) (entries (tree_nodes I.whole nodes.new.items)))
+        → AreRising (entries (tree_nodes I.whole nodes.new.items))) }
+    ensures summed { OnOk result (IsSummed (tree_nodes I.whole nodes.new.items)) }
     ensures listed { IfOk result (λ until. (let ps = pairs (segments_of segments.now) in
-        let staying = filter (stays_at (pair_at ps from).a.x) (entries (nodes_of I.whole nodes.old.items)) in
-        IsPermutation (staying ++ entries_between ps from until) (entries (nodes_of I.whole nodes.new.items)))) }
+        let staying = filter (stays_at (pair_at ps from).a.x) (entries (tree_nodes I.whole nodes.old.items)) in
+        IsPermutation (staying ++ entries_between ps from until) (entries (tree_nodes I.whole nodes.new.items)))) }
 {
     let first = segments[from].x_segment();
     drop_ended(nodes, first.a.x);
@@ -280,7 +280,7 @@ pub(crate) fn renew<C: WindingCount, I: OverlayInt, D: Copy>(
 
 /// Leaves those entries that are live and do not end left of an `x`.
 fn drop_ended<I: OverlayInt>(nodes: &mut Vec<Node<I>>, x: I)
-    ensures { nodes.new.items ≡ filter (λ n. stays_at (I.whole x) (entry_of I.whole n)) nodes.old.items }
+    ensures { nodes.new.items ≡ filter (λ n. stays_at (I.whole x) (node_entry I.whole n)) nodes.old.items }
 {
     nodes.retain(|node| stays(node, x));
 }
@@ -305,7 +305,7 @@ fn push_nodes<C: WindingCount, I: OverlayInt, D: Copy>(
 ) -> Result<(), AllocError>
     requires order { from ≤ until }
     requires within { until ≤ length segments.now }
-    ensures { OnOk result (nodes_of I.whole nodes.new.items ≡ nodes_of I.whole nodes.old.items
+    ensures { OnOk result (tree_nodes I.whole nodes.new.items ≡ tree_nodes I.whole nodes.old.items
         ++ map (λ i. alone (entry_at (pairs (segments_of segments.now)) i)) (range_with_len from (until - from))) }
 {
     for index in from..until {

@@ -9,7 +9,7 @@ use Rattle.overlay_split.specs.SettingsOf.{passes_of, settings_of}
 use Rattle.overlay_build.specs.Graph.{graph_by}
 use Rattle.overlay_build.specs.GraphOf.{HoldGraph, graph_with}
 use Rattle.overlay_build.specs.NodeIndexes.{items_of, is_any_node}
-use Rattle.overlay_build.specs.StringGraphOf.{nodes_of, links_of}
+use Rattle.overlay_build.specs.StringGraphOf.{line_nodes_of, line_links_of}
 use Rattle.i_overlay.specs.Headline.{IsSplit, IsClip}
 use Rattle.overlay_build.proofs.laws.graphs.BuiltGraphs.{graph_with_kept, hold_own_graph}
 use Rattle.i_overlay.proofs.laws.Overlays.{none_arranged, split_from, small_masks, clip_from, refused_build}
@@ -29,18 +29,18 @@ returns-clause-clip g c =
     let split : IsSplit settings given segments passes = split_from _ _ _ _ _ _ _ e.run e.arranged e.balance e.in_box e.near e.winding e.exact_input e.bound in
     let balanced = rw c.deref.ensures.value at c.build_string_clip.ensures.balanced in
     IfOk-weaker c.build_string_clip.result
-    (λ built. HoldGraph items_of is_any_node whole (nodes_of built) (links_of built) (graph_by (keeps_clip c.args.clip_rule) c.args.fill_rule segments))
-    (λ built. IsClip settings c.args.fill_rule c.args.clip_rule given segments passes (graph_with whole (links_of built)))
-    (λ built h. clip_from settings c.args.fill_rule c.args.clip_rule given segments passes _ (segments_ordered c.args.segments.now.items) (small_masks _ _ given c.requires) split (graph_with_kept items_of is_any_node whole (nodes_of built) (links_of built) (keeps_clip c.args.clip_rule) c.args.fill_rule segments h) balanced)
+    (λ built. HoldGraph items_of is_any_node whole (line_nodes_of built) (line_links_of built) (graph_by (keeps_clip c.args.clip_rule) c.args.fill_rule segments))
+    (λ built. IsClip settings c.args.fill_rule c.args.clip_rule given segments passes (graph_with whole (line_links_of built)))
+    (λ built h. clip_from settings c.args.fill_rule c.args.clip_rule given segments passes _ (segments_ordered c.args.segments.now.items) (small_masks _ _ given c.requires) split (graph_with_kept items_of is_any_node whole (line_nodes_of built) (line_links_of built) (keeps_clip c.args.clip_rule) c.args.fill_rule segments h) balanced)
     (rw c.deref.ensures.value at c.build_string_clip.ensures.graph)
 
 pub returns-clause-graph : goal.returns-clause-graph
 returns-clause-graph g c =
     let whole = g.I.OverlayInt.whole in
     IfOk-weaker c.build_string_clip.result
-    (λ built. HoldGraph items_of is_any_node whole (nodes_of built) (links_of built) (graph_by (keeps_clip c.args.clip_rule) c.args.fill_rule (segments_of c.deref.result.now)))
-    (λ built. HoldGraph items_of is_any_node whole (nodes_of built) (links_of built) (graph_with whole (links_of built)))
-    (λ built h. hold_own_graph items_of is_any_node whole (nodes_of built) (links_of built) (keeps_clip c.args.clip_rule) c.args.fill_rule (segments_of c.deref.result.now) h)
+    (λ built. HoldGraph items_of is_any_node whole (line_nodes_of built) (line_links_of built) (graph_by (keeps_clip c.args.clip_rule) c.args.fill_rule (segments_of c.deref.result.now)))
+    (λ built. HoldGraph items_of is_any_node whole (line_nodes_of built) (line_links_of built) (graph_with whole (line_links_of built)))
+    (λ built h. hold_own_graph items_of is_any_node whole (line_nodes_of built) (line_links_of built) (keeps_clip c.args.clip_rule) c.args.fill_rule (segments_of c.deref.result.now) h)
     c.build_string_clip.ensures.graph
 
 pub returns-clause-unchanged : goal.returns-clause-unchanged

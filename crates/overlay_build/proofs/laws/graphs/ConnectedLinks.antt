@@ -8,7 +8,7 @@ use Rattle.overlay_geometry.specs.Points.{Point, Pair}
 use Rattle.overlay_geometry.specs.PointOf.{point_of}
 use Rattle.overlay_base.specs.declared.overlay_core.link.OverlayLink.{OverlayLink}
 use Rattle.overlay_build.specs.steps.EndOf.{WholeEnd}
-use Rattle.overlay_build.specs.Graph.{Filled, Node, node_points, node_number, links_at, graph_of, nodes_of}
+use Rattle.overlay_build.specs.Graph.{Filled, Node, node_points, node_number, links_at, graph_of, nodes_of_pairs}
 use Rattle.overlay_build.specs.GraphOf.{link_of, kept_of, graph_with, pairs_of_links, HoldGraph}
 use Rattle.overlay_build.specs.Graph.{without_nodes}
 use Rattle.overlay_base.proofs.laws.geometry.Pairs.{has_point}
@@ -63,7 +63,7 @@ module _ {N I D : Type 0} (indexes : N → List ℕ) (is_canonical : N → Bool)
   kept_pairs = map-map (λ (f : Filled). f.pair) (λ (l : OverlayLink I D). without_nodes (link_of whole l)) given
 
   pub holds_graph : length (sorted_ends_of (pairs_of_links whole given)) ≤ start → HoldGraph indexes is_canonical whole nodes links (graph_with whole given)
-  unfolding graph_of nodes_of
+  unfolding graph_of nodes_of_pairs
   holds_graph over = record {
     same_links = rw kept_pairs (same_maps (link_of whole) (λ (l : OverlayLink I D). record { pair = (link_of whole l).pair; fill = l.fill; a_node = node_number (pairs_of_links whole given) (point_of whole l.a.point); b_node = node_number (pairs_of_links whole given) (point_of whole l.b.point) }) links given up.as_many (numbered_all over)
         ∙ sym (map-map (λ (f : Filled). record { pair = f.pair; fill = f.fill; a_node = node_number (pairs_of_links whole given) f.pair.a; b_node = node_number (pairs_of_links whole given) f.pair.b }) (λ (l : OverlayLink I D). without_nodes (link_of whole l)) given));

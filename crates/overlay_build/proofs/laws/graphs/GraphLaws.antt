@@ -9,7 +9,7 @@ use Rattle.overlay_geometry.specs.Points.{Point, Pair, point_eq}
 use Rattle.overlay_base.specs.Segments.{WholeSegment}
 use Rattle.overlay_base.specs.declared.overlay_core.fill_rule.FillRule.{FillRule}
 use Rattle.overlay_sweep.specs.Sweep.{fill_of}
-use Rattle.overlay_build.specs.Graph.{Filled, Link, Node, Graph, filled, node_points, indexes_where, links_at, nodes_of, node_number, graph_of, graph_by, has_even_nodes}
+use Rattle.overlay_build.specs.Graph.{Filled, Link, Node, Graph, filled, node_points, indexes_where, links_at, nodes_of_pairs, node_number, graph_of, graph_by, has_even_nodes}
 use Rattle.overlay_build.specs.Graph.{without_nodes}
 use Rattle.overlay_build.specs.Laws.{FilterGivesLinks}
 use Rattle.overlay_base.proofs.laws.geometry.Pairs.{has_point}
@@ -48,7 +48,7 @@ unfolding graph_of
 length-links kept = length-map kept _
 
 pub length-nodes : (kept : List Filled) → length (graph_of kept).nodes ≡ length (node_points (pairs_of kept))
-unfolding graph_of nodes_of
+unfolding graph_of nodes_of_pairs
 length-nodes kept = length-map (node_points (pairs_of kept)) _
 
 -- the node of a point, and the link of a filled segment
@@ -59,7 +59,7 @@ abbrev pub link_of : List Filled → Filled → Link
 link_of kept f = record { pair = f.pair; fill = f.fill; a_node = node_number (pairs_of kept) f.pair.a; b_node = node_number (pairs_of kept) f.pair.b }
 
 pub node_at : (kept : List Filled) (m : ℕ) (d : Node) (e : Point) → m < length (node_points (pairs_of kept)) → get_or (graph_of kept).nodes m d ≡ node_of kept (get_or (node_points (pairs_of kept)) m e)
-unfolding graph_of nodes_of
+unfolding graph_of nodes_of_pairs
 node_at kept m d e h = get_or-map (λ p. node_of kept p) (node_points (pairs_of kept)) m e d h
 
 pub link_at : (kept : List Filled) (i : ℕ) (d : Link) (f : Filled) → i < length kept → get_or (graph_of kept).links i d ≡ link_of kept (get_or kept i f)
@@ -120,7 +120,7 @@ abbrev pub degree : List Pair → Point → ℕ
 degree links p = length (filter (λ l. point_eq l.a p) links) + length (filter (λ l. point_eq l.b p) links)
 
 pub has_even_nodes-is : (kept : List Filled) → has_even_nodes (graph_of kept) ≡ list_all (λ p. degree (pairs_of kept) p % 2 == 0) (node_points (pairs_of kept))
-unfolding has_even_nodes graph_of nodes_of
+unfolding has_even_nodes graph_of nodes_of_pairs
 has_even_nodes-is kept =
     list_all-map (λ n. length n.links % 2 == 0) (λ p. node_of kept p) (node_points (pairs_of kept))
     ∙ (λ i. list_all (λ p. length-links_at (pairs_of kept) p i % 2 == 0) (node_points (pairs_of kept)))

@@ -8,7 +8,7 @@ use Rattle.std.proofs.lemmas.List.{length-map}
 use Rattle.std.proofs.lemmas.List.Sums.{AllPass-from_list_all, list_all-from_AllPass}
 use Rattle.std.proofs.lemmas.List.Folds.{list_any_at, list_all-map}
 use Rattle.overlay_geometry.specs.Points.{Point, Pair, point_cmp, point_eq, is_end}
-use Rattle.overlay_build.specs.Graph.{Filled, node_points, nodes_of, links_at, graph_of, node_number, is_bridge, is_valid_graph, has_even_nodes}
+use Rattle.overlay_build.specs.Graph.{Filled, node_points, nodes_of_pairs, links_at, graph_of, node_number, is_bridge, is_valid_graph, has_even_nodes}
 use Rattle.overlay_geometry.proofs.laws.geometry.Points.{point_cmp_total, same_by_eq, point_eq_same}
 use Rattle.overlay_base.proofs.laws.geometry.Pairs.{has_point}
 use Rattle.overlay_build.proofs.laws.graphs.GraphNodes.{sorted_ends, node_points-exactly, has_start, has_end, node_number-of}
@@ -165,7 +165,7 @@ weaker g f w (p ∷ ps) h =
     and_from (g p) (list_all g ps) (w p parts.0) (weaker g f w ps parts.1)
 
 enough_links : (kept : List Filled) → list_all (λ p. is_bridge (node_of kept p) || nat_le 2 (length (links_at (pairs_of kept) p))) (node_points (pairs_of kept)) ≡ true → list_all (λ n. is_bridge n || nat_le 2 (length n.links)) (graph_of kept).nodes ≡ true
-unfolding graph_of nodes_of
+unfolding graph_of nodes_of_pairs
 enough_links kept h = list_all-map (λ n. is_bridge n || nat_le 2 (length n.links)) (λ p. node_of kept p) (node_points (pairs_of kept)) ∙ h
 
 -- A graph with evenly many links at each node is valid.

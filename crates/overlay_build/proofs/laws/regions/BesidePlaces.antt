@@ -19,8 +19,8 @@ use Rattle.overlay_base.specs.Segments.{WholeSegment}
 use Rattle.overlay_base.specs.Places.{RationalPoint, spans, height_at, runs_below, lies_below}
 use Rattle.overlay_base.specs.Rays.{lies_above, place_turn, goes_through, has_on_left, has_on_right, rises_past, falls_past}
 use Rattle.overlay_base.specs.Rules.{differ}
-use Rattle.overlay_sweep.specs.ColumnWindings.{spans as column_spans, is_below_in_column}
-use Rattle.overlay_sweep.proofs.laws.columns.ColumnLines.{spans-true, point_lt-cases}
+use Rattle.overlay_sweep.specs.ColumnWindings.{spans_column, is_below_in_column}
+use Rattle.overlay_sweep.proofs.laws.columns.ColumnLines.{spans_column-true, point_lt-cases}
 use Rattle.overlay_sweep.proofs.laws.columns.Heights.{gap, slope, gap_back, is_below_is}
 use Rattle.overlay_sweep.proofs.laws.columns.ColumnOrder.{is_apart, is_low, low_parts, one_is_below, gap_step}
 use Rattle.overlay_sweep.proofs.laws.columns.Members.{All-from_Has, IsArranged, is_arranged}
@@ -175,11 +175,11 @@ module _ (xs : List WholeSegment) (arranged : IsArranged xs) (s : WholeSegment) 
         plain : (u v : ℤ) (n : ℕ) → v ≡ u +ℤ pos (n + n) → (z : ℤ) → pos n ≡ z → pos 0 <ℤ z → (u +ℤ pos n) <ℤ v
         plain u v n e z f l = omega (arith, ints, e, f, l)
 
-    spans_as : (u : Pair) → spans u (in_middle s.pair n y) ≡ column_spans s.pair.a.x u
+    spans_as : (u : Pair) → spans u (in_middle s.pair n y) ≡ spans_column s.pair.a.x u
     spans_as u = spans_alike (in_middle s.pair n y) s.pair.a.x u in_column
 
-    own_spanned : column_spans s.pair.a.x s.pair ≡ true
-    own_spanned = spans-true s.pair.a.x s.pair (le_itself s.pair.a.x) rightward
+    own_spanned : spans_column s.pair.a.x s.pair ≡ true
+    own_spanned = spans_column-true s.pair.a.x s.pair (le_itself s.pair.a.x) rightward
 
     own_height : height_at s.pair (in_middle s.pair n y) ≡ (pos k *ℤ width s.pair) *ℤ middle s.pair
     own_height =
@@ -207,7 +207,7 @@ module _ (xs : List WholeSegment) (arranged : IsArranged xs) (s : WholeSegment) 
   other u e q = both_ways _ e (ap (λ (r : Pair). pair_eq r s.pair) q ∙ pair_eq_same s.pair)
 
   -- another segment is lower or higher than s in the middle of the column
-  off_level : (u : WholeSegment) → Has xs u → pair_eq u.pair s.pair ≡ false → column_spans s.pair.a.x u.pair ≡ true →
+  off_level : (u : WholeSegment) → Has xs u → pair_eq u.pair s.pair ≡ false → spans_column s.pair.a.x u.pair ≡ true →
       (pos 0 <ℤ (gap s.pair.a.x u.pair s.pair +ℤ gap (s.pair.a.x +ℤ pos 1) u.pair s.pair)) ⊎ ((gap s.pair.a.x u.pair s.pair +ℤ gap (s.pair.a.x +ℤ pos 1) u.pair s.pair) <ℤ pos 0)
   off_level u h e spanned =
       let x = s.pair.a.x in

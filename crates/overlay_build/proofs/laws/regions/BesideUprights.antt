@@ -25,7 +25,7 @@ use Rattle.overlay_base.proofs.laws.rays.Quadrants.{one}
 use Rattle.overlay_base.proofs.laws.rays.Losses.{lost, weighed-in, weighed-sum, weighed-neg, balanced_loses_nothing}
 use Rattle.overlay_base.proofs.laws.rays.Rays.{tested-subj, tested-clip, tested-mask, difference-subj, difference-clip, difference-mask, turn_is_height, lt-difference, left_agrees, right_agrees, any_ray_will_do}
 use Rattle.overlay_sweep.specs.ColumnWindings.{weights_up_to, right_winding, side_bottom, side_top}
-use Rattle.overlay_sweep.proofs.laws.columns.ColumnLines.{spans_parts, point_lt-cases, is_up_to, lies_up_to, leaves_upward, filter_weights_are}
+use Rattle.overlay_sweep.proofs.laws.columns.ColumnLines.{spans_column_parts, point_lt-cases, is_up_to, lies_up_to, leaves_upward, filter_weights_are}
 use Rattle.overlay_sweep.proofs.laws.columns.ColumnOrder.{IsApart}
 use Rattle.overlay_sweep.proofs.laws.columns.Members.{All-from_Has, IsArranged, is_arranged, single_sum}
 use Rattle.overlay_sweep.proofs.laws.live.Sides.{apart_in, column_weights-same, only_one_rises, side_top_is}
@@ -267,7 +267,7 @@ module _ (xs : List WholeSegment) (arranged : IsArranged xs) (balanced : IsBalan
   below_at_foot =
       sym (same_weights xs arranged balanced q s.pair.a.x in_column)
       ∙ column_weights-same (λ u. runs_below u q) (is_up_to s.pair.a) xs s.pair.a.x
-      (λ u n h. let ends = spans_parts s.pair.a.x u.pair h in below_foot u.pair (omega (arith, ints, ends)) (apart_in xs arranged balanced s u m n) ends.0 (omega (arith, ints, ends)))
+      (λ u n h. let ends = spans_column_parts s.pair.a.x u.pair h in below_foot u.pair (omega (arith, ints, ends)) (apart_in xs arranged balanced s u m n) ends.0 (omega (arith, ints, ends)))
 
   -- ---- no other segment goes through the foot
 

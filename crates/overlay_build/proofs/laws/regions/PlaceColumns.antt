@@ -6,7 +6,7 @@ use Rattle.overlay_geometry.specs.Points.{Pair}
 use Rattle.overlay_geometry.specs.Below.{width, scaled_height}
 use Rattle.overlay_geometry.proofs.laws.geometry.Polynomials.{as_D, diffs, D-eq, mul-lt_left, mul-nonneg, cancel-lt, difference-nonneg}
 use Rattle.overlay_base.specs.Places.{RationalPoint, spans, height_at}
-use Rattle.overlay_sweep.specs.ColumnWindings.{spans as column_spans}
+use Rattle.overlay_sweep.specs.ColumnWindings.{spans_column}
 use Rattle.overlay_sweep.proofs.laws.columns.Heights.{gap, slope}
 use Rattle.overlay_sweep.proofs.laws.columns.ColumnOrder.{gap_step}
 use Rattle.overlay_geometry.proofs.laws.integers.Tests.{le-test, le-test_false, lt-test, lt-test_false, le_through, lt_through}
@@ -95,7 +95,7 @@ ends_alike b z d c at =
     (λ (later : (c +ℤ pos 1) ≤ℤ b). lt-test z (b *ℤ pos d) (lt_through _ _ _ at.high (scaled_le (c +ℤ pos 1) b d later)) ∙ sym (le-test (c +ℤ pos 1) b later))
 
 -- a segment meets the line through p where it spans the column of p
-pub spans_alike : (p : RationalPoint) (c : ℤ) (s : Pair) → IsInColumn p.x p.bottom c → spans s p ≡ column_spans c s
+pub spans_alike : (p : RationalPoint) (c : ℤ) (s : Pair) → IsInColumn p.x p.bottom c → spans s p ≡ spans_column c s
 spans_alike p c s at = ap₂ (λ a b. a && b) (starts_alike s.a.x p.x p.bottom c at) (ends_alike s.b.x p.x p.bottom c at)
 
 -- ---- heights

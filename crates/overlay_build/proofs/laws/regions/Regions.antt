@@ -14,14 +14,14 @@ use Rattle.overlay_base.specs.Balance.{IsBalanced}
 use Rattle.overlay_base.specs.declared.overlay_core.fill_rule.FillRule.{FillRule}
 use Rattle.overlay_geometry.proofs.laws.lists.Lists.{Has, Has-filter_out, filter-map, list_all-from_Has}
 use Rattle.overlay_base.specs.Places.{RationalPoint, runs_below, lies_below, winding_below}
-use Rattle.overlay_sweep.specs.ColumnWindings.{spans as column_spans, is_below_in_column, column_bottom, column_top, side_bottom, side_top}
+use Rattle.overlay_sweep.specs.ColumnWindings.{spans_column, is_below_in_column, column_bottom, column_top, side_bottom, side_top}
 use Rattle.overlay_sweep.specs.Fill.{is_inside, flag_value}
 use Rattle.overlay_build.specs.Graph.{Filled, Link, graph_of}
 use Rattle.overlay_build.specs.Values.{value_at, tells_apart}
 use Rattle.overlay_build.specs.Boundary.{truth}
 use Rattle.overlay_build.specs.Sides.{has_sides_apart, with_sides, overlay_graph}
 use Rattle.overlay_sweep.proofs.laws.columns.WeightSums.{when, sum_of, sum_of-filter, sum_of-same}
-use Rattle.overlay_sweep.proofs.laws.columns.ColumnLines.{column_weights, column_weights_are, filter_weights_are, spans_parts}
+use Rattle.overlay_sweep.proofs.laws.columns.ColumnLines.{column_weights, column_weights_are, filter_weights_are, spans_column_parts}
 use Rattle.overlay_sweep.proofs.laws.columns.Parity.{odd_of, odd_of_is}
 use Rattle.overlay_sweep.proofs.laws.columns.Chains.{is_pairwise, gain_along_chain}
 use Rattle.overlay_sweep.proofs.laws.columns.Heights.{gap, is_below_is}
@@ -48,28 +48,28 @@ in_lower_part false bl lo z h = refl
 -- a test that holds of what is below a segment of which it holds
 abbrev pub IsLower : List WholeSegment → ℤ → (Pair → Bool) → Type 0
 IsLower xs x low =
-    (u s : WholeSegment) → Has xs u → Has xs s → IsTrue (column_spans x u.pair) → IsTrue (column_spans x s.pair) → IsTrue (is_below_in_column x u.pair s.pair) → IsTrue (low s.pair) → IsTrue (low u.pair)
+    (u s : WholeSegment) → Has xs u → Has xs s → IsTrue (spans_column x u.pair) → IsTrue (spans_column x s.pair) → IsTrue (is_below_in_column x u.pair s.pair) → IsTrue (low s.pair) → IsTrue (low u.pair)
 
 module _ (xs : List WholeSegment) (arranged : IsArranged xs) (balanced : IsBalanced xs) (x : ℤ) (low : Pair → Bool) (closed : IsLower xs x low) where
   abbrev is_there : WholeSegment → Bool
-  is_there s = column_spans x s.pair && low s.pair
+  is_there s = spans_column x s.pair && low s.pair
 
   abbrev below_there : WholeSegment → WholeSegment → Bool
   below_there t s = is_below_in_column x t.pair s.pair
 
   -- what is below a member is a member
-  below_members : (w : WholeSegment → ℤ) (s : WholeSegment) → Has xs s → IsTrue (column_spans x s.pair) → IsTrue (low s.pair) →
-      sum_of (λ u. when (column_spans x u.pair && is_below_in_column x u.pair s.pair) (w u)) xs ≡ sum_of (λ t. when (below_there t s) (w t)) (filter is_there xs)
+  below_members : (w : WholeSegment → ℤ) (s : WholeSegment) → Has xs s → IsTrue (spans_column x s.pair) → IsTrue (low s.pair) →
+      sum_of (λ u. when (spans_column x u.pair && is_below_in_column x u.pair s.pair) (w u)) xs ≡ sum_of (λ t. when (below_there t s) (w t)) (filter is_there xs)
   below_members w s m hs ls =
-      sum_of-same_in (λ u. when (column_spans x u.pair && is_below_in_column x u.pair s.pair) (w u)) (λ u. when (is_there u) (when (below_there u s) (w u))) xs
-      (λ u n. in_lower_part (column_spans x u.pair) (is_below_in_column x u.pair s.pair) (low u.pair) (w u) (λ h b. closed u s n m h hs b ls))
+      sum_of-same_in (λ u. when (spans_column x u.pair && is_below_in_column x u.pair s.pair) (w u)) (λ u. when (is_there u) (when (below_there u s) (w u))) xs
+      (λ u n. in_lower_part (spans_column x u.pair) (is_below_in_column x u.pair s.pair) (low u.pair) (w u) (λ h b. closed u s n m h hs b ls))
       ∙ sym (sum_of-filter is_there (λ t. when (below_there t s) (w t)) xs)
 
-  there_in : (s : WholeSegment) → Has (filter is_there xs) s → Has xs s × IsTrue (column_spans x s.pair) × IsTrue (low s.pair)
-  there_in s n = let k = Has-filter_out is_there xs s n in let parts = and_parts (column_spans x s.pair) (low s.pair) k.1 in (k.0, parts.0, parts.1)
+  there_in : (s : WholeSegment) → Has (filter is_there xs) s → Has xs s × IsTrue (spans_column x s.pair) × IsTrue (low s.pair)
+  there_in s n = let k = Has-filter_out is_there xs s n in let parts = and_parts (spans_column x s.pair) (low s.pair) k.1 in (k.0, parts.0, parts.1)
 
-  spans_there : (s : WholeSegment) → is_there s ≡ true → IsTrue (column_spans x s.pair)
-  spans_there s h = (and_parts (column_spans x s.pair) (low s.pair) h).0
+  spans_there : (s : WholeSegment) → is_there s ≡ true → IsTrue (spans_column x s.pair)
+  spans_there s h = (and_parts (spans_column x s.pair) (low s.pair) h).0
 
   pairwise_there : is_pairwise below_there (filter is_there xs) ≡ true
   pairwise_there = pairwise_in below_there is_there xs arranged.sorted
@@ -79,9 +79,9 @@ module _ (xs : List WholeSegment) (arranged : IsArranged xs) (balanced : IsBalan
     same_gain : (b c b' c' d e d' e' : ℤ) → b ≡ b' → c ≡ c' → d ≡ d' → e ≡ e' → G d e -ℤ G b c ≡ G d' e' -ℤ G b' c'
     same_gain b c b' c' d e d' e' p q r s = rw (p, q, r, s) refl
 
-    column_gain : (s : WholeSegment) → Has xs s → IsTrue (column_spans x s.pair) →
-        gain_of G xs s ≡ G (sum_of (λ u. when (column_spans x u.pair && is_below_in_column x u.pair s.pair) u.count.subj) xs +ℤ s.count.subj) (sum_of (λ u. when (column_spans x u.pair && is_below_in_column x u.pair s.pair) u.count.clip) xs +ℤ s.count.clip)
-        -ℤ G (sum_of (λ u. when (column_spans x u.pair && is_below_in_column x u.pair s.pair) u.count.subj) xs) (sum_of (λ u. when (column_spans x u.pair && is_below_in_column x u.pair s.pair) u.count.clip) xs)
+    column_gain : (s : WholeSegment) → Has xs s → IsTrue (spans_column x s.pair) →
+        gain_of G xs s ≡ G (sum_of (λ u. when (spans_column x u.pair && is_below_in_column x u.pair s.pair) u.count.subj) xs +ℤ s.count.subj) (sum_of (λ u. when (spans_column x u.pair && is_below_in_column x u.pair s.pair) u.count.clip) xs +ℤ s.count.clip)
+        -ℤ G (sum_of (λ u. when (spans_column x u.pair && is_below_in_column x u.pair s.pair) u.count.subj) xs) (sum_of (λ u. when (spans_column x u.pair && is_below_in_column x u.pair s.pair) u.count.clip) xs)
     unfolding column_top column_bottom
     column_gain s m h =
         let along = is_same_along xs s (arranged.free s m) balanced in
@@ -116,8 +116,8 @@ module _ (xs : List WholeSegment) (arranged : IsArranged xs) (balanced : IsBalan
 -- ---- what lies below a place
 
 module _ (xs : List WholeSegment) (arranged : IsArranged xs) (balanced : IsBalanced xs) (p : RationalPoint) (x : ℤ) (at : IsInColumn p.x p.bottom x) where
-  pub wide : (s : Pair) → IsTrue (column_spans x s) → pos 0 <ℤ width s
-  wide s h = let k = spans_parts x s h in plain s.a.x s.b.x x k.0 k.1
+  pub wide : (s : Pair) → IsTrue (spans_column x s) → pos 0 <ℤ width s
+  wide s h = let k = spans_column_parts x s h in plain s.a.x s.b.x x k.0 k.1
     where
       plain : (a b x : ℤ) → a ≤ℤ x → x <ℤ b → pos 0 <ℤ (b -ℤ a)
       plain a b x l k = omega (arith, ints, l, k)
@@ -134,15 +134,15 @@ module _ (xs : List WholeSegment) (arranged : IsArranged xs) (balanced : IsBalan
       ∙ (λ i. record { subj = alike (λ s. s.count.subj) i; clip = alike (λ s. s.count.clip) i; mask = 0 })
       ∙ sym (filter_weights_are (λ s. lies_below s p) xs)
     where
-      alike : (w : WholeSegment → ℤ) → sum_of (λ s. when (column_spans x s.pair && runs_below s.pair p) (w s)) xs ≡ sum_of (λ s. when (lies_below s.pair p) (w s)) xs
-      alike w = sum_of-same (λ s. when (column_spans x s.pair && runs_below s.pair p) (w s)) (λ s. when (lies_below s.pair p) (w s)) xs (λ s. ap (λ (b : Bool). when (b && runs_below s.pair p) (w s)) (sym (spans_alike p x s.pair at)))
+      alike : (w : WholeSegment → ℤ) → sum_of (λ s. when (spans_column x s.pair && runs_below s.pair p) (w s)) xs ≡ sum_of (λ s. when (lies_below s.pair p) (w s)) xs
+      alike w = sum_of-same (λ s. when (spans_column x s.pair && runs_below s.pair p) (w s)) (λ s. when (lies_below s.pair p) (w s)) xs (λ s. ap (λ (b : Bool). when (b && runs_below s.pair p) (w s)) (sym (spans_alike p x s.pair at)))
 
   -- the gains of the segments below p add up to that from nothing to the winding at p
   pub sum_below : (G : ℤ → ℤ → ℤ) → sum_of (λ s. when (lies_below s.pair p) (gain_of G xs s)) xs ≡ gain G empty (winding_below xs p)
   sum_below G =
-      sum_of-same (λ s. when (lies_below s.pair p) (gain_of G xs s)) (λ s. when (column_spans x s.pair && runs_below s.pair p) (gain_of G xs s)) xs
+      sum_of-same (λ s. when (lies_below s.pair p) (gain_of G xs s)) (λ s. when (spans_column x s.pair && runs_below s.pair p) (gain_of G xs s)) xs
       (λ s. ap (λ (b : Bool). when (b && runs_below s.pair p) (gain_of G xs s)) (spans_alike p x s.pair at))
-      ∙ sym (sum_of-filter (λ s. column_spans x s.pair && runs_below s.pair p) (gain_of G xs) xs)
+      ∙ sym (sum_of-filter (λ s. spans_column x s.pair && runs_below s.pair p) (gain_of G xs) xs)
       ∙ sum_lower xs arranged balanced x (λ s. runs_below s p) below_is_lower G
       ∙ ap (λ (w : Winding). gain G empty w) same_weights
 

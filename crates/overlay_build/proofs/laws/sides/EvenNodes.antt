@@ -9,7 +9,7 @@ use Rattle.overlay_base.specs.Windings.{Winding}
 use Rattle.overlay_base.specs.Segments.{WholeSegment, is_map}
 use Rattle.overlay_base.specs.Planar.{is_planar}
 use Rattle.overlay_base.specs.Balance.{IsBalanced}
-use Rattle.overlay_sweep.specs.ColumnWindings.{spans, weights_up_to, side_bottom, side_top}
+use Rattle.overlay_sweep.specs.ColumnWindings.{spans_column, weights_up_to, side_bottom, side_top}
 use Rattle.overlay_base.specs.declared.overlay_core.fill_rule.FillRule.{FillRule}
 use Rattle.overlay_sweep.specs.Fill.{flag_value, is_inside}
 use Rattle.overlay_build.specs.Values.{tells_apart, value_at}
@@ -17,7 +17,7 @@ use Rattle.overlay_build.specs.Boundary.{truth}
 use Rattle.overlay_build.specs.Sides.{has_sides_apart}
 use Rattle.overlay_geometry.proofs.laws.geometry.Points.{same_by_eq}
 use Rattle.overlay_sweep.proofs.laws.columns.WeightSums.{when, sum_of, sum_of-add, sum_of-filter}
-use Rattle.overlay_sweep.proofs.laws.columns.ColumnLines.{is_under, column_weights, spans-true, spans-false_before, spans-false_after, point_lt-cases}
+use Rattle.overlay_sweep.proofs.laws.columns.ColumnLines.{is_under, column_weights, spans_column-true, spans_column-false_before, spans_column-false_after, point_lt-cases}
 use Rattle.overlay_sweep.proofs.laws.columns.Parity.{odd_of, odd_of_is}
 use Rattle.overlay_sweep.proofs.laws.columns.Members.{IsArranged, is_arranged}
 use Rattle.overlay_sweep.proofs.laws.live.Sides.{sum_of-same_in, sum_of-zero_in, apart_in}
@@ -53,20 +53,20 @@ module _ (xs : List WholeSegment) (arranged : IsArranged xs) (balanced : IsBalan
   slanted : (u : WholeSegment) → u.pair.a.x <ℤ u.pair.b.x → is_vertical u.pair ≡ false
   slanted u h = false_from_ne_true _ (λ e. let same = (Decides-int_eq u.pair.a.x u.pair.b.x).0 e in omega (arith, ints))
 
-  start_kinds : (u : WholeSegment) → Has xs u → point_eq u.pair.a p ≡ true → ((spans p.x u.pair ≡ true) × (is_vertical u.pair ≡ false)) ⊎ ((spans p.x u.pair ≡ false) × (is_vertical u.pair ≡ true))
+  start_kinds : (u : WholeSegment) → Has xs u → point_eq u.pair.a p ≡ true → ((spans_column p.x u.pair ≡ true) × (is_vertical u.pair ≡ false)) ⊎ ((spans_column p.x u.pair ≡ false) × (is_vertical u.pair ≡ true))
   start_kinds u m e =
       let x : u.pair.a.x ≡ p.x = ap (λ (q : Point). q.x) (same_by_eq u.pair.a p e) in
       elim (point_lt-cases u.pair.a u.pair.b (arranged.ordered u m)) [
-        | inl h ↦ inl (spans-true p.x u.pair (omega (arith, ints)) (omega (arith, ints)), slanted u h)
-        | inr h ↦ (let same = h.0 in inr (spans-false_after p.x u.pair (omega (arith, ints)), level u h.0))
+        | inl h ↦ inl (spans_column-true p.x u.pair (omega (arith, ints)) (omega (arith, ints)), slanted u h)
+        | inr h ↦ (let same = h.0 in inr (spans_column-false_after p.x u.pair (omega (arith, ints)), level u h.0))
       ]
 
-  end_kinds : (u : WholeSegment) → Has xs u → point_eq u.pair.b p ≡ true → ((spans (p.x -ℤ pos 1) u.pair ≡ true) × (is_vertical u.pair ≡ false)) ⊎ ((spans (p.x -ℤ pos 1) u.pair ≡ false) × (is_vertical u.pair ≡ true))
+  end_kinds : (u : WholeSegment) → Has xs u → point_eq u.pair.b p ≡ true → ((spans_column (p.x -ℤ pos 1) u.pair ≡ true) × (is_vertical u.pair ≡ false)) ⊎ ((spans_column (p.x -ℤ pos 1) u.pair ≡ false) × (is_vertical u.pair ≡ true))
   end_kinds u m e =
       let x : u.pair.b.x ≡ p.x = ap (λ (q : Point). q.x) (same_by_eq u.pair.b p e) in
       elim (point_lt-cases u.pair.a u.pair.b (arranged.ordered u m)) [
-        | inl h ↦ inl (spans-true (p.x -ℤ pos 1) u.pair (omega (arith, ints)) (omega (arith, ints)), slanted u h)
-        | inr h ↦ (let same = h.0 in inr (spans-false_before (p.x -ℤ pos 1) u.pair (omega (arith, ints)), level u h.0))
+        | inl h ↦ inl (spans_column-true (p.x -ℤ pos 1) u.pair (omega (arith, ints)) (omega (arith, ints)), slanted u h)
+        | inr h ↦ (let same = h.0 in inr (spans_column-false_before (p.x -ℤ pos 1) u.pair (omega (arith, ints)), level u h.0))
       ]
 
   module _ (G : ℤ → ℤ → ℤ) where
@@ -78,17 +78,17 @@ module _ (xs : List WholeSegment) (arranged : IsArranged xs) (balanced : IsBalan
     gain_in = sum_of (λ u. when (point_eq u.pair.b p) (gain_of G xs u)) xs
 
     module _ (free_point : (u : WholeSegment) → Has xs u → is_strictly_inside u.pair p ≡ true → ⊥) where
-      sum_starts : gain_out ≡ sum_of (gain_of G xs) (filter (λ s. spans p.x s.pair && point_eq s.pair.a p) xs) +ℤ sum_of (λ u. when (is_vertical u.pair && point_eq u.pair.a p) (gain_of G xs u)) xs
+      sum_starts : gain_out ≡ sum_of (gain_of G xs) (filter (λ s. spans_column p.x s.pair && point_eq s.pair.a p) xs) +ℤ sum_of (λ u. when (is_vertical u.pair && point_eq u.pair.a p) (gain_of G xs u)) xs
       sum_starts =
-          sum_of-same_in (λ u. when (point_eq u.pair.a p) (gain_of G xs u)) (λ u. when (spans p.x u.pair && point_eq u.pair.a p) (gain_of G xs u) +ℤ when (is_vertical u.pair && point_eq u.pair.a p) (gain_of G xs u)) xs (λ u m. two_kinds (spans p.x u.pair) (is_vertical u.pair) (point_eq u.pair.a p) (gain_of G xs u) (start_kinds u m))
-          ∙ sum_of-add _ (λ u. when (spans p.x u.pair && point_eq u.pair.a p) (gain_of G xs u)) (λ u. when (is_vertical u.pair && point_eq u.pair.a p) (gain_of G xs u)) xs (λ u. refl)
-          ∙ ap (λ (z : ℤ). z +ℤ sum_of (λ u. when (is_vertical u.pair && point_eq u.pair.a p) (gain_of G xs u)) xs) (sym (sum_of-filter (λ s. spans p.x s.pair && point_eq s.pair.a p) (gain_of G xs) xs))
+          sum_of-same_in (λ u. when (point_eq u.pair.a p) (gain_of G xs u)) (λ u. when (spans_column p.x u.pair && point_eq u.pair.a p) (gain_of G xs u) +ℤ when (is_vertical u.pair && point_eq u.pair.a p) (gain_of G xs u)) xs (λ u m. two_kinds (spans_column p.x u.pair) (is_vertical u.pair) (point_eq u.pair.a p) (gain_of G xs u) (start_kinds u m))
+          ∙ sum_of-add _ (λ u. when (spans_column p.x u.pair && point_eq u.pair.a p) (gain_of G xs u)) (λ u. when (is_vertical u.pair && point_eq u.pair.a p) (gain_of G xs u)) xs (λ u. refl)
+          ∙ ap (λ (z : ℤ). z +ℤ sum_of (λ u. when (is_vertical u.pair && point_eq u.pair.a p) (gain_of G xs u)) xs) (sym (sum_of-filter (λ s. spans_column p.x s.pair && point_eq s.pair.a p) (gain_of G xs) xs))
 
-      sum_ends : gain_in ≡ sum_of (gain_of G xs) (filter (λ s. spans (p.x -ℤ pos 1) s.pair && point_eq s.pair.b p) xs) +ℤ sum_of (λ u. when (is_vertical u.pair && point_eq u.pair.b p) (gain_of G xs u)) xs
+      sum_ends : gain_in ≡ sum_of (gain_of G xs) (filter (λ s. spans_column (p.x -ℤ pos 1) s.pair && point_eq s.pair.b p) xs) +ℤ sum_of (λ u. when (is_vertical u.pair && point_eq u.pair.b p) (gain_of G xs u)) xs
       sum_ends =
-          sum_of-same_in (λ u. when (point_eq u.pair.b p) (gain_of G xs u)) (λ u. when (spans (p.x -ℤ pos 1) u.pair && point_eq u.pair.b p) (gain_of G xs u) +ℤ when (is_vertical u.pair && point_eq u.pair.b p) (gain_of G xs u)) xs (λ u m. two_kinds (spans (p.x -ℤ pos 1) u.pair) (is_vertical u.pair) (point_eq u.pair.b p) (gain_of G xs u) (end_kinds u m))
-          ∙ sum_of-add _ (λ u. when (spans (p.x -ℤ pos 1) u.pair && point_eq u.pair.b p) (gain_of G xs u)) (λ u. when (is_vertical u.pair && point_eq u.pair.b p) (gain_of G xs u)) xs (λ u. refl)
-          ∙ ap (λ (z : ℤ). z +ℤ sum_of (λ u. when (is_vertical u.pair && point_eq u.pair.b p) (gain_of G xs u)) xs) (sym (sum_of-filter (λ s. spans (p.x -ℤ pos 1) s.pair && point_eq s.pair.b p) (gain_of G xs) xs))
+          sum_of-same_in (λ u. when (point_eq u.pair.b p) (gain_of G xs u)) (λ u. when (spans_column (p.x -ℤ pos 1) u.pair && point_eq u.pair.b p) (gain_of G xs u) +ℤ when (is_vertical u.pair && point_eq u.pair.b p) (gain_of G xs u)) xs (λ u m. two_kinds (spans_column (p.x -ℤ pos 1) u.pair) (is_vertical u.pair) (point_eq u.pair.b p) (gain_of G xs u) (end_kinds u m))
+          ∙ sum_of-add _ (λ u. when (spans_column (p.x -ℤ pos 1) u.pair && point_eq u.pair.b p) (gain_of G xs u)) (λ u. when (is_vertical u.pair && point_eq u.pair.b p) (gain_of G xs u)) xs (λ u. refl)
+          ∙ ap (λ (z : ℤ). z +ℤ sum_of (λ u. when (is_vertical u.pair && point_eq u.pair.b p) (gain_of G xs u)) xs) (sym (sum_of-filter (λ s. spans_column (p.x -ℤ pos 1) s.pair && point_eq s.pair.b p) (gain_of G xs) xs))
 
       round_windings : (r0 r1 l0 l1 : Winding) → gain G r0 r1 +ℤ gain G r1 l1 ≡ gain G l0 l1 +ℤ gain G r0 l0
       round_windings r0 r1 l0 l1 = round_vertex (G r0.subj r0.clip) (G r1.subj r1.clip) (G l0.subj l0.clip) (G l1.subj l1.clip)

@@ -16,7 +16,7 @@ use Rattle.overlay_geometry.proofs.laws.geometry.Polynomials.{mul-pos, mul-neg, 
 use Rattle.overlay_geometry.proofs.laws.geometry.Points.{same_point, same_pair, same_by_eq, point_eq_same, pair_eq_same, from_not_same_pair, inside_from_order}
 use Rattle.overlay_base.proofs.laws.geometry.Apart.{do_cross_from}
 use Rattle.overlay_sweep.proofs.laws.columns.WeightSums.{when, sum_of}
-use Rattle.overlay_sweep.proofs.laws.columns.ColumnLines.{spans_parts, point_lt-cases, is_under, is_up_to, lies_under, lies_up_to, leaves_upward, turn_over_start, turn_over_end, column_weights, filter_weights_are, across_under, across_up_to}
+use Rattle.overlay_sweep.proofs.laws.columns.ColumnLines.{spans_column_parts, point_lt-cases, is_under, is_up_to, lies_under, lies_up_to, leaves_upward, turn_over_start, turn_over_end, column_weights, filter_weights_are, across_under, across_up_to}
 use Rattle.overlay_sweep.proofs.laws.columns.ColumnOrder.{IsApart}
 use Rattle.overlay_sweep.proofs.laws.columns.AlongSegments.{turn_upright, turn_higher}
 use Rattle.overlay_sweep.proofs.laws.columns.Members.{IsArranged, sorted_all, sorted_tail, differ_when_less}
@@ -198,7 +198,7 @@ module _ (xs : List WholeSegment) (arranged : IsArranged xs) (balanced : IsBalan
   unfolding weights_up_to
   end_level s m v x near = column_weights-same (is_up_to s.pair.a) (is_under s.pair.b) xs x (λ u n h.
       let su = upright_of s m v in
-      let k = spans_parts x u.pair h in
+      let k = spans_column_parts x u.pair h in
       up_to_is_under s.pair u.pair su.0 su.1 (omega (arith, ints)) (elim near [ inl e ↦ omega (arith, ints) | inr e ↦ omega (arith, ints) ]) (elim near [ inl e ↦ omega (arith, ints) | inr e ↦ omega (arith, ints) ]) (apart_in xs arranged balanced s u m n))
 
   end_sides : (s : WholeSegment) → Has xs s → ends_upright s ≡ true → gain_of G xs s ≡ gain G (column_weights (is_under p) xs p.x) (column_weights (is_under p) xs (p.x -ℤ pos 1))

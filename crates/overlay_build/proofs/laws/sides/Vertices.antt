@@ -10,12 +10,12 @@ use Rattle.overlay_base.specs.Windings.{Winding}
 use Rattle.overlay_base.specs.Segments.{WholeSegment, pairs}
 use Rattle.overlay_base.specs.Balance.{IsBalanced}
 use Rattle.overlay_geometry.specs.Below.{width}
-use Rattle.overlay_sweep.specs.ColumnWindings.{spans, is_below_in_column, column_bottom, column_top, weights_up_to, side_bottom, side_top}
+use Rattle.overlay_sweep.specs.ColumnWindings.{spans_column, is_below_in_column, column_bottom, column_top, weights_up_to, side_bottom, side_top}
 use Rattle.overlay_base.specs.Rules.{differ}
 use Rattle.overlay_geometry.proofs.laws.geometry.Polynomials.{mul-pos, mul-neg}
 use Rattle.overlay_geometry.proofs.laws.geometry.Points.{same_point, same_by_eq, point_eq_same, at_a, at_b, inside_from_order, turn_same_outer, turn_same_last}
 use Rattle.overlay_sweep.proofs.laws.columns.WeightSums.{when, sum_of, sum_of-add, sum_of-filter}
-use Rattle.overlay_sweep.proofs.laws.columns.ColumnLines.{spans_parts, is_under, is_up_to, column_weights, column_weights_are}
+use Rattle.overlay_sweep.proofs.laws.columns.ColumnLines.{spans_column_parts, is_under, is_up_to, column_weights, column_weights_are}
 use Rattle.overlay_sweep.proofs.laws.columns.Chains.{is_pairwise, gain_along_chain}
 use Rattle.overlay_sweep.proofs.laws.columns.Heights.{gap, gap_back, gap_at_other_end, is_below_is}
 use Rattle.overlay_sweep.proofs.laws.columns.ColumnOrder.{crosses_in_column, low-right, low-second, one_is_below, below_itself, is_below-trans}
@@ -63,59 +63,59 @@ in_two true up un at z h = elim (h refl) [
 ]
 
 module _ (xs : List WholeSegment) (arranged : IsArranged xs) (balanced : IsBalanced xs) (p : Point) (x : ℤ) (at : Pair → Bool)
-    (on : (u : WholeSegment) → Has xs u → spans x u.pair ≡ true → at u.pair ≡ true → turn u.pair.a u.pair.b p ≡ pos 0)
-    (only : (u : WholeSegment) → Has xs u → spans x u.pair ≡ true → turn u.pair.a u.pair.b p ≡ pos 0 → at u.pair ≡ true)
-    (under : (u s : WholeSegment) → Has xs u → Has xs s → spans x u.pair ≡ true → spans x s.pair ≡ true → at s.pair ≡ true → pos 0 <ℤ turn u.pair.a u.pair.b p → is_below_in_column x u.pair s.pair ≡ true)
-    (over : (u s : WholeSegment) → Has xs u → Has xs s → spans x u.pair ≡ true → spans x s.pair ≡ true → at s.pair ≡ true → turn u.pair.a u.pair.b p <ℤ pos 0 → is_below_in_column x u.pair s.pair ≡ false) where
+    (on : (u : WholeSegment) → Has xs u → spans_column x u.pair ≡ true → at u.pair ≡ true → turn u.pair.a u.pair.b p ≡ pos 0)
+    (only : (u : WholeSegment) → Has xs u → spans_column x u.pair ≡ true → turn u.pair.a u.pair.b p ≡ pos 0 → at u.pair ≡ true)
+    (under : (u s : WholeSegment) → Has xs u → Has xs s → spans_column x u.pair ≡ true → spans_column x s.pair ≡ true → at s.pair ≡ true → pos 0 <ℤ turn u.pair.a u.pair.b p → is_below_in_column x u.pair s.pair ≡ true)
+    (over : (u s : WholeSegment) → Has xs u → Has xs s → spans_column x u.pair ≡ true → spans_column x s.pair ≡ true → at s.pair ≡ true → turn u.pair.a u.pair.b p <ℤ pos 0 → is_below_in_column x u.pair s.pair ≡ false) where
   abbrev is_there : WholeSegment → Bool
-  is_there s = spans x s.pair && at s.pair
+  is_there s = spans_column x s.pair && at s.pair
 
   abbrev below_there : WholeSegment → WholeSegment → Bool
   below_there t s = is_below_in_column x t.pair s.pair
 
   abbrev lowest : (WholeSegment → ℤ) → ℤ
-  lowest w = sum_of (λ u. when (spans x u.pair && is_under p u.pair) (w u)) xs
+  lowest w = sum_of (λ u. when (spans_column x u.pair && is_under p u.pair) (w u)) xs
 
-  not_at : (u : WholeSegment) → Has xs u → spans x u.pair ≡ true → (turn u.pair.a u.pair.b p ≡ pos 0 → ⊥) → at u.pair ≡ false
+  not_at : (u : WholeSegment) → Has xs u → spans_column x u.pair ≡ true → (turn u.pair.a u.pair.b p ≡ pos 0 → ⊥) → at u.pair ≡ false
   not_at u m h none = false_from_ne_true (at u.pair) (λ e. none (on u m h e))
 
   -- what is below a member is under p, or a member itself
-  below_split : (w : WholeSegment → ℤ) (s : WholeSegment) → Has xs s → spans x s.pair ≡ true → at s.pair ≡ true →
-      sum_of (λ u. when (spans x u.pair && is_below_in_column x u.pair s.pair) (w u)) xs ≡ lowest w +ℤ sum_of (λ t. when (below_there t s) (w t)) (filter is_there xs)
+  below_split : (w : WholeSegment → ℤ) (s : WholeSegment) → Has xs s → spans_column x s.pair ≡ true → at s.pair ≡ true →
+      sum_of (λ u. when (spans_column x u.pair && is_below_in_column x u.pair s.pair) (w u)) xs ≡ lowest w +ℤ sum_of (λ t. when (below_there t s) (w t)) (filter is_there xs)
   below_split w s m hs sat =
-      let split = sum_of-same_in (λ u. when (spans x u.pair && is_below_in_column x u.pair s.pair) (w u)) (λ u. when (spans x u.pair && is_under p u.pair) (w u) +ℤ when (is_there u) (when (below_there u s) (w u))) xs
-      (λ u n. in_three (spans x u.pair) (is_below_in_column x u.pair s.pair) (is_under p u.pair) (at u.pair) (w u) (λ h. by_sign (turn u.pair.a u.pair.b p)
+      let split = sum_of-same_in (λ u. when (spans_column x u.pair && is_below_in_column x u.pair s.pair) (w u)) (λ u. when (spans_column x u.pair && is_under p u.pair) (w u) +ℤ when (is_there u) (when (below_there u s) (w u))) xs
+      (λ u n. in_three (spans_column x u.pair) (is_below_in_column x u.pair s.pair) (is_under p u.pair) (at u.pair) (w u) (λ h. by_sign (turn u.pair.a u.pair.b p)
       (λ (down : turn u.pair.a u.pair.b p <ℤ pos 0). inr (inl (over u s n m h hs sat down, lt-test_false (pos 0) (turn u.pair.a u.pair.b p) (omega (arith, ints)), not_at u n h (λ z. omega (arith, ints)))))
       (λ (zero : turn u.pair.a u.pair.b p ≡ pos 0). inr (inr (lt-test_false (pos 0) (turn u.pair.a u.pair.b p) (omega (arith, ints)), only u n h zero)))
       (λ (up : pos 0 <ℤ turn u.pair.a u.pair.b p). inl (under u s n m h hs sat up, lt-test (pos 0) (turn u.pair.a u.pair.b p) up, not_at u n h (λ z. omega (arith, ints)))))) in
-      let sum = sum_of-add (λ u. when (spans x u.pair && is_under p u.pair) (w u) +ℤ when (is_there u) (when (below_there u s) (w u))) (λ u. when (spans x u.pair && is_under p u.pair) (w u)) (λ u. when (is_there u) (when (below_there u s) (w u))) xs (λ u. refl) in
+      let sum = sum_of-add (λ u. when (spans_column x u.pair && is_under p u.pair) (w u) +ℤ when (is_there u) (when (below_there u s) (w u))) (λ u. when (spans_column x u.pair && is_under p u.pair) (w u)) (λ u. when (is_there u) (when (below_there u s) (w u))) xs (λ u. refl) in
       split ∙ sum ∙ ap (λ (z : ℤ). lowest w +ℤ z) (sym (sum_of-filter is_there (λ t. when (below_there t s) (w t)) xs))
 
   -- what is at most as high as p is under p, or a member
-  up_to_split : (w : WholeSegment → ℤ) → sum_of (λ u. when (spans x u.pair && is_up_to p u.pair) (w u)) xs ≡ lowest w +ℤ sum_of w (filter is_there xs)
+  up_to_split : (w : WholeSegment → ℤ) → sum_of (λ u. when (spans_column x u.pair && is_up_to p u.pair) (w u)) xs ≡ lowest w +ℤ sum_of w (filter is_there xs)
   up_to_split w =
-      let split = sum_of-same_in (λ u. when (spans x u.pair && is_up_to p u.pair) (w u)) (λ u. when (spans x u.pair && is_under p u.pair) (w u) +ℤ when (is_there u) (w u)) xs
-      (λ u n. in_two (spans x u.pair) (is_up_to p u.pair) (is_under p u.pair) (at u.pair) (w u) (λ h. by_sign (turn u.pair.a u.pair.b p)
+      let split = sum_of-same_in (λ u. when (spans_column x u.pair && is_up_to p u.pair) (w u)) (λ u. when (spans_column x u.pair && is_under p u.pair) (w u) +ℤ when (is_there u) (w u)) xs
+      (λ u n. in_two (spans_column x u.pair) (is_up_to p u.pair) (is_under p u.pair) (at u.pair) (w u) (λ h. by_sign (turn u.pair.a u.pair.b p)
       (λ (down : turn u.pair.a u.pair.b p <ℤ pos 0). inr (inl (le-test_false (pos 0) (turn u.pair.a u.pair.b p) down, lt-test_false (pos 0) (turn u.pair.a u.pair.b p) (omega (arith, ints)), not_at u n h (λ z. omega (arith, ints)))))
       (λ (zero : turn u.pair.a u.pair.b p ≡ pos 0). inr (inr (le-test (pos 0) (turn u.pair.a u.pair.b p) (omega (arith, ints)), lt-test_false (pos 0) (turn u.pair.a u.pair.b p) (omega (arith, ints)), only u n h zero)))
       (λ (up : pos 0 <ℤ turn u.pair.a u.pair.b p). inl (le-test (pos 0) (turn u.pair.a u.pair.b p) (omega (arith, ints)), lt-test (pos 0) (turn u.pair.a u.pair.b p) up, not_at u n h (λ z. omega (arith, ints)))))) in
-      let sum = sum_of-add (λ u. when (spans x u.pair && is_under p u.pair) (w u) +ℤ when (is_there u) (w u)) (λ u. when (spans x u.pair && is_under p u.pair) (w u)) (λ u. when (is_there u) (w u)) xs (λ u. refl) in
+      let sum = sum_of-add (λ u. when (spans_column x u.pair && is_under p u.pair) (w u) +ℤ when (is_there u) (w u)) (λ u. when (spans_column x u.pair && is_under p u.pair) (w u)) (λ u. when (is_there u) (w u)) xs (λ u. refl) in
       split ∙ sum ∙ ap (λ (z : ℤ). lowest w +ℤ z) (sym (sum_of-filter is_there w xs))
 
-  there_in : (s : WholeSegment) → Has (filter is_there xs) s → Has xs s × (spans x s.pair ≡ true) × (at s.pair ≡ true)
-  there_in s n = let k = Has-filter_out is_there xs s n in let parts = and_parts (spans x s.pair) (at s.pair) k.1 in (k.0, parts.0, parts.1)
+  there_in : (s : WholeSegment) → Has (filter is_there xs) s → Has xs s × (spans_column x s.pair ≡ true) × (at s.pair ≡ true)
+  there_in s n = let k = Has-filter_out is_there xs s n in let parts = and_parts (spans_column x s.pair) (at s.pair) k.1 in (k.0, parts.0, parts.1)
 
   pairwise_there : is_pairwise below_there (filter is_there xs) ≡ true
   pairwise_there = pairwise_in below_there is_there xs arranged.sorted
-      (λ s t m n a b other. one_is_below x s.pair t.pair (and_parts (spans x s.pair) (at s.pair) a).0 (and_parts (spans x t.pair) (at t.pair) b).0 (apart_in xs arranged balanced s t m n) other)
+      (λ s t m n a b other. one_is_below x s.pair t.pair (and_parts (spans_column x s.pair) (at s.pair) a).0 (and_parts (spans_column x t.pair) (at t.pair) b).0 (apart_in xs arranged balanced s t m n) other)
 
   module _ (G : ℤ → ℤ → ℤ) where
     same_gain : (b c b' c' d e d' e' : ℤ) → b ≡ b' → c ≡ c' → d ≡ d' → e ≡ e' → G d e -ℤ G b c ≡ G d' e' -ℤ G b' c'
     same_gain b c b' c' d e d' e' p q r s = rw (p, q, r, s) refl
 
-    column_gain : (s : WholeSegment) → Has xs s → spans x s.pair ≡ true →
-        gain_of G xs s ≡ G (sum_of (λ u. when (spans x u.pair && is_below_in_column x u.pair s.pair) u.count.subj) xs +ℤ s.count.subj) (sum_of (λ u. when (spans x u.pair && is_below_in_column x u.pair s.pair) u.count.clip) xs +ℤ s.count.clip)
-        -ℤ G (sum_of (λ u. when (spans x u.pair && is_below_in_column x u.pair s.pair) u.count.subj) xs) (sum_of (λ u. when (spans x u.pair && is_below_in_column x u.pair s.pair) u.count.clip) xs)
+    column_gain : (s : WholeSegment) → Has xs s → spans_column x s.pair ≡ true →
+        gain_of G xs s ≡ G (sum_of (λ u. when (spans_column x u.pair && is_below_in_column x u.pair s.pair) u.count.subj) xs +ℤ s.count.subj) (sum_of (λ u. when (spans_column x u.pair && is_below_in_column x u.pair s.pair) u.count.clip) xs +ℤ s.count.clip)
+        -ℤ G (sum_of (λ u. when (spans_column x u.pair && is_below_in_column x u.pair s.pair) u.count.subj) xs) (sum_of (λ u. when (spans_column x u.pair && is_below_in_column x u.pair s.pair) u.count.clip) xs)
     unfolding column_top column_bottom
     column_gain s m h =
         let along = is_same_along xs s (arranged.free s m) balanced in
@@ -138,7 +138,7 @@ module _ (xs : List WholeSegment) (arranged : IsArranged xs) (balanced : IsBalan
     sum_there =
         let there : list_all is_there (filter is_there xs) ≡ true = list_all-from_Has is_there (filter is_there xs) (λ s n. (Has-filter_out is_there xs s n).1) in
         let chain = gain_along_chain below_there is_there
-        (λ s t u a b c h k. is_below-trans x s.pair t.pair u.pair (and_parts (spans x s.pair) (at s.pair) a).0 (and_parts (spans x t.pair) (at t.pair) b).0 (and_parts (spans x u.pair) (at u.pair) c).0 h k)
+        (λ s t u a b c h k. is_below-trans x s.pair t.pair u.pair (and_parts (spans_column x s.pair) (at s.pair) a).0 (and_parts (spans_column x t.pair) (at t.pair) b).0 (and_parts (spans_column x u.pair) (at u.pair) c).0 h k)
         (λ s a. below_itself x s.pair) G (λ s. s.count.subj) (λ s. s.count.clip) (lowest (λ s. s.count.subj)) (lowest (λ s. s.count.clip)) (filter is_there xs) there pairwise_there in
         sum_of-same_in (gain_of G xs) chain_gain (filter is_there xs) gain_there ∙ chain
         ∙ same_gain _ _ _ _ _ _ _ _ (ap (λ (w : Winding). w.subj) (sym (column_weights_are (is_under p) xs x))) (ap (λ (w : Winding). w.clip) (sym (column_weights_are (is_under p) xs x)))
@@ -147,33 +147,33 @@ module _ (xs : List WholeSegment) (arranged : IsArranged xs) (balanced : IsBalan
 -- ---- the two chains at a point that lies strictly inside no segment
 
 module _ (xs : List WholeSegment) (arranged : IsArranged xs) (balanced : IsBalanced xs) (p : Point) (free_point : (u : WholeSegment) → Has xs u → is_strictly_inside u.pair p ≡ true → ⊥) (G : ℤ → ℤ → ℤ) where
-  starts_only : (u : WholeSegment) → Has xs u → spans p.x u.pair ≡ true → turn u.pair.a u.pair.b p ≡ pos 0 → point_eq u.pair.a p ≡ true
+  starts_only : (u : WholeSegment) → Has xs u → spans_column p.x u.pair ≡ true → turn u.pair.a u.pair.b p ≡ pos 0 → point_eq u.pair.a p ≡ true
   starts_only u m h e =
-      let k = spans_parts p.x u.pair h in
+      let k = spans_column_parts p.x u.pair h in
       by_lt_z u.pair.a.x p.x
       (λ (l : u.pair.a.x <ℤ p.x). absurd (free_point u m (inside_from_order u.pair p (inl (omega (arith, ints))) e (inl l) (inl k.1))))
       (λ (g : p.x ≤ℤ u.pair.a.x). let x : p.x ≡ u.pair.a.x = omega (arith, ints) in
       let same = same_point u.pair.a p (sym x) (sym (at_a u.pair.a u.pair.b p (omega (arith, ints)) e x)) in
       ap (λ (q : Point). point_eq q p) same ∙ point_eq_same p)
 
-  ends_only : (u : WholeSegment) → Has xs u → spans (p.x -ℤ pos 1) u.pair ≡ true → turn u.pair.a u.pair.b p ≡ pos 0 → point_eq u.pair.b p ≡ true
+  ends_only : (u : WholeSegment) → Has xs u → spans_column (p.x -ℤ pos 1) u.pair ≡ true → turn u.pair.a u.pair.b p ≡ pos 0 → point_eq u.pair.b p ≡ true
   ends_only u m h e =
-      let k = spans_parts (p.x -ℤ pos 1) u.pair h in
+      let k = spans_column_parts (p.x -ℤ pos 1) u.pair h in
       by_lt_z p.x u.pair.b.x
       (λ (l : p.x <ℤ u.pair.b.x). absurd (free_point u m (inside_from_order u.pair p (inl (omega (arith, ints))) e (inl (omega (arith, ints))) (inl l))))
       (λ (g : u.pair.b.x ≤ℤ p.x). let x : p.x ≡ u.pair.b.x = omega (arith, ints) in
       let same = same_point u.pair.b p (sym x) (sym (at_b u.pair.a u.pair.b p (omega (arith, ints)) e x)) in
       ap (λ (q : Point). point_eq q p) same ∙ point_eq_same p)
 
-  start_order : (u s : WholeSegment) → Has xs u → Has xs s → spans p.x u.pair ≡ true → spans p.x s.pair ≡ true → point_eq s.pair.a p ≡ true → is_below_in_column p.x u.pair s.pair ≡ is_beneath s.pair u.pair
+  start_order : (u s : WholeSegment) → Has xs u → Has xs s → spans_column p.x u.pair ≡ true → spans_column p.x s.pair ≡ true → point_eq s.pair.a p ≡ true → is_below_in_column p.x u.pair s.pair ≡ is_beneath s.pair u.pair
   start_order u s m n hu hs e =
       let same = same_by_eq s.pair.a p e in
       let x : s.pair.a.x ≡ p.x = ap (λ (q : Point). q.x) same in
-      let k = spans_parts p.x s.pair hs in
-      ap (λ (z : ℤ). is_below_in_column z u.pair s.pair) (sym x) ∙ below_is_beneath s.pair u.pair (ap (λ (z : ℤ). spans z u.pair) x ∙ hu) (apart_in xs arranged balanced s u n m) (omega (arith, ints))
+      let k = spans_column_parts p.x s.pair hs in
+      ap (λ (z : ℤ). is_below_in_column z u.pair s.pair) (sym x) ∙ below_is_beneath s.pair u.pair (ap (λ (z : ℤ). spans_column z u.pair) x ∙ hu) (apart_in xs arranged balanced s u n m) (omega (arith, ints))
 
   -- the segments that start at p, in the column to its right
-  pub gain_right : sum_of (gain_of G xs) (filter (λ s. spans p.x s.pair && point_eq s.pair.a p) xs) ≡ gain G (column_weights (is_under p) xs p.x) (weights_up_to xs p.x p)
+  pub gain_right : sum_of (gain_of G xs) (filter (λ s. spans_column p.x s.pair && point_eq s.pair.a p) xs) ≡ gain G (column_weights (is_under p) xs p.x) (weights_up_to xs p.x p)
   gain_right = sum_there xs arranged balanced p p.x (λ u. point_eq u.a p)
       (λ u m h e. ap (turn u.pair.a u.pair.b) (sym (same_by_eq u.pair.a p e)) ∙ turn_same_outer u.pair.a u.pair.b)
       starts_only
@@ -187,9 +187,9 @@ module _ (xs : List WholeSegment) (arranged : IsArranged xs) (balanced : IsBalan
       let x : (p.x -ℤ pos 1) +ℤ pos 1 ≡ s.pair.b.x = (let y : s.pair.b.x ≡ p.x = ap (λ (q : Point). q.x) same in omega (arith, ints)) in
       ap (λ (z : ℤ). gap z u.pair s.pair) x ∙ gap_at_other_end u.pair s.pair ∙ ap (λ (q : Point). width s.pair *ℤ turn u.pair.a u.pair.b q) same
 
-  end_under : (u s : WholeSegment) → Has xs u → Has xs s → spans (p.x -ℤ pos 1) u.pair ≡ true → spans (p.x -ℤ pos 1) s.pair ≡ true → point_eq s.pair.b p ≡ true → pos 0 <ℤ turn u.pair.a u.pair.b p → is_below_in_column (p.x -ℤ pos 1) u.pair s.pair ≡ true
+  end_under : (u s : WholeSegment) → Has xs u → Has xs s → spans_column (p.x -ℤ pos 1) u.pair ≡ true → spans_column (p.x -ℤ pos 1) s.pair ≡ true → point_eq s.pair.b p ≡ true → pos 0 <ℤ turn u.pair.a u.pair.b p → is_below_in_column (p.x -ℤ pos 1) u.pair s.pair ≡ true
   end_under u s m n hu hs e up =
-      let k = spans_parts (p.x -ℤ pos 1) s.pair hs in
+      let k = spans_column_parts (p.x -ℤ pos 1) s.pair hs in
       let g = end_gap u s e in
       let more = mul-pos (width s.pair) (turn u.pair.a u.pair.b p) (omega (arith, ints)) up in
       let right : pos 0 <ℤ gap ((p.x -ℤ pos 1) +ℤ pos 1) u.pair s.pair = omega (arith, ints) in
@@ -200,15 +200,15 @@ module _ (xs : List WholeSegment) (arranged : IsArranged xs) (balanced : IsBalan
       (λ (q : pos 0 ≤ℤ gap (p.x -ℤ pos 1) u.pair s.pair). q))
       right
 
-  end_over : (u s : WholeSegment) → Has xs u → Has xs s → spans (p.x -ℤ pos 1) u.pair ≡ true → spans (p.x -ℤ pos 1) s.pair ≡ true → point_eq s.pair.b p ≡ true → turn u.pair.a u.pair.b p <ℤ pos 0 → is_below_in_column (p.x -ℤ pos 1) u.pair s.pair ≡ false
+  end_over : (u s : WholeSegment) → Has xs u → Has xs s → spans_column (p.x -ℤ pos 1) u.pair ≡ true → spans_column (p.x -ℤ pos 1) s.pair ≡ true → point_eq s.pair.b p ≡ true → turn u.pair.a u.pair.b p <ℤ pos 0 → is_below_in_column (p.x -ℤ pos 1) u.pair s.pair ≡ false
   end_over u s m n hu hs e down =
-      let k = spans_parts (p.x -ℤ pos 1) s.pair hs in
+      let k = spans_column_parts (p.x -ℤ pos 1) s.pair hs in
       let g = end_gap u s e in
       let less = mul-neg (width s.pair) (turn u.pair.a u.pair.b p) (omega (arith, ints)) down in
       is_below_is (p.x -ℤ pos 1) u.pair s.pair ∙ low-right (gap (p.x -ℤ pos 1) u.pair s.pair) (gap ((p.x -ℤ pos 1) +ℤ pos 1) u.pair s.pair) (omega (arith, ints))
 
   -- the segments that end at p, in the column to its left
-  pub gain_left : sum_of (gain_of G xs) (filter (λ s. spans (p.x -ℤ pos 1) s.pair && point_eq s.pair.b p) xs) ≡ gain G (column_weights (is_under p) xs (p.x -ℤ pos 1)) (weights_up_to xs (p.x -ℤ pos 1) p)
+  pub gain_left : sum_of (gain_of G xs) (filter (λ s. spans_column (p.x -ℤ pos 1) s.pair && point_eq s.pair.b p) xs) ≡ gain G (column_weights (is_under p) xs (p.x -ℤ pos 1)) (weights_up_to xs (p.x -ℤ pos 1) p)
   gain_left = sum_there xs arranged balanced p (p.x -ℤ pos 1) (λ u. point_eq u.b p)
       (λ u m h e. ap (turn u.pair.a u.pair.b) (sym (same_by_eq u.pair.b p e)) ∙ turn_same_last u.pair.a u.pair.b)
       ends_only end_under end_over G

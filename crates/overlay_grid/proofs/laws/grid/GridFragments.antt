@@ -9,7 +9,7 @@ use Rattle.std.proofs.lemmas.Grind.{div_ceil_times}
 use Rattle.std.proofs.Math.Nat.{add-zero, div-mul-le_self}
 use Rattle.overlay_geometry.specs.Points.{Pair, is_ordered, is_vertical}
 use Rattle.overlay_geometry.specs.Below.{width, scaled_height}
-use Rattle.overlay_grid.specs.Grid.{Layout, column_index, pos_of, Fragment, rect_between, toward, least_rise, greatest_rise, fragment_in, fragments, holds_height, encloses, follow_on}
+use Rattle.overlay_grid.specs.Grid.{Layout, column_index, pos_of, Fragment, rect_between, toward, least_rise, greatest_rise, fragment_in, fragments, holds_height, holds_both_heights, follow_on}
 use Rattle.overlay_geometry.specs.Ranges.{Rect}
 use Rattle.overlay_grid.specs.Laws.{FragmentsEnclose}
 use Rattle.overlay_geometry.proofs.laws.geometry.Polynomials.{as_D, diffs, D-eq, mul-le_left}
@@ -207,9 +207,9 @@ holds_at_left l s i r h = holds_height-from_Holds s _ _ (fragment_in-holds l s i
 holds_at_right : (l : Layout) (s : Pair) (i : ℕ) → RunsRight s → left_in l s i ≤ℤ right_in l s i → IsTrue (holds_height s (fragment_in l s i).rect (right_in l s i))
 holds_at_right l s i r h = holds_height-from_Holds s _ _ (fragment_in-holds l s i (right_in l s i) r h (omega (arith, ints)))
 
-pub fragment_in-encloses : (l : Layout) (s : Pair) (i : ℕ) → RunsRight s → left_in l s i ≤ℤ right_in l s i → IsTrue (encloses s (fragment_in l s i).rect)
-unfolding encloses
-fragment_in-encloses l s i r h =
+pub fragment_in-holds_both_heights : (l : Layout) (s : Pair) (i : ℕ) → RunsRight s → left_in l s i ≤ℤ right_in l s i → IsTrue (holds_both_heights s (fragment_in l s i).rect)
+unfolding holds_both_heights
+fragment_in-holds_both_heights l s i r h =
     let left : IsTrue (holds_height s (fragment_in l s i).rect (fragment_in l s i).rect.min_x) = rw (fragment_in-min_x l s i h) (holds_at_left l s i r h) in
     let right : IsTrue (holds_height s (fragment_in l s i).rect (fragment_in l s i).rect.max_x) = rw (fragment_in-max_x l s i h) (holds_at_right l s i r h) in
     join_tests _ _ left right
@@ -343,7 +343,7 @@ fragments_enclose l s o f low =
     let count : ℕ = column_count l s in
     let inside : (i : ℕ) → first ≤ i → i < first + count → Enters l s.a.x s.b.x i = λ i k m. entered_column l s i r h k m in
     rw (fragments_flat l s f) (
-      all_in_range (λ f. encloses s f.rect) (λ i. fragment_in l s i) first count (λ i k m. fragment_in-encloses l s i r (left_in-right_in l s i r (inside i k m))),
+      all_in_range (λ f. holds_both_heights s f.rect) (λ i. fragment_in l s i) first count (λ i k m. fragment_in-holds_both_heights l s i r (left_in-right_in l s i r (inside i k m))),
       follow_between l s (map (λ f. f.rect) (map (λ i. fragment_in l s i) (range_with_len first count))) r h
           (follow_in_range (λ i. fragment_in l s i) (border l s.a.x s.b.x) first count
           (λ i k m. fragment_in-min_x l s i (left_in-right_in l s i r (inside i k m)) ∙ sym (border_begins l s.a.x s.b.x i (inside i k m)))

@@ -8,27 +8,27 @@ use Rattle.overlay_geometry.specs.Meeting.{do_cross}
 use Rattle.overlay_intersections.specs.Marks.{Placing}
 use Rattle.overlay_intersections.specs.Counts.{count_true}
 use Rattle.overlay_intersections.specs.CrossAnswer.{target_end, other_end, overlay, answer_at, cross_answer}
-use Rattle.overlay_intersections.specs.steps.ContactOf.{AreSides, zeros_of, leave_no_contact}
-use Rattle.overlay_intersections.specs.declared.split.cross.contact.Sides.{Sides}
+use Rattle.overlay_intersections.specs.steps.ContactOf.{AreEndSides, zeros_of, leave_no_contact}
+use Rattle.overlay_intersections.specs.declared.split.cross.contact.EndSides.{EndSides}
 use Rattle.overlay_intersections.proofs.laws.crossings.TurnSigns.{Tests, tests_of_directions, by_tests, do_cross_by_tests, answer_by_tests}
 
 -- two pairs, the ends of each apart, and the sides of their ends
-pub record Sided (s t : Pair) (sides : Sides) : Type 0 where
+pub record Sided (s t : Pair) (sides : EndSides) : Type 0 where
   pub s_apart : s.a ≢ s.b
   pub t_apart : t.a ≢ t.b
-  pub are_sides : AreSides s t sides
+  pub are_sides : AreEndSides s t sides
 
-tests_of : (s t : Pair) (sides : Sides) → Sided s t sides → Tests s t (int_eq sides.other_a (pos 0)) (int_eq sides.other_b (pos 0)) (int_eq sides.target_a (pos 0)) (int_eq sides.target_b (pos 0)) (int_eq sides.other_a sides.other_b) (int_eq sides.target_a sides.target_b)
+tests_of : (s t : Pair) (sides : EndSides) → Sided s t sides → Tests s t (int_eq sides.other_a (pos 0)) (int_eq sides.other_b (pos 0)) (int_eq sides.target_a (pos 0)) (int_eq sides.target_b (pos 0)) (int_eq sides.other_a sides.other_b) (int_eq sides.target_a sides.target_b)
 tests_of s t sides k = tests_of_directions s t sides.other_a sides.other_b sides.target_a sides.target_b k.are_sides.other_a_is k.are_sides.other_b_is k.are_sides.target_a_is k.are_sides.target_b_is
 
-decided : (placing : Placing) (s t : Pair) (sides : Sides) → Sided s t sides → cross_answer placing s t ≡ answer_by_tests placing s t (int_eq sides.other_a (pos 0)) (int_eq sides.other_b (pos 0)) (int_eq sides.target_a (pos 0)) (int_eq sides.target_b (pos 0)) (int_eq sides.other_a sides.other_b) (int_eq sides.target_a sides.target_b)
+decided : (placing : Placing) (s t : Pair) (sides : EndSides) → Sided s t sides → cross_answer placing s t ≡ answer_by_tests placing s t (int_eq sides.other_a (pos 0)) (int_eq sides.other_b (pos 0)) (int_eq sides.target_a (pos 0)) (int_eq sides.target_b (pos 0)) (int_eq sides.other_a sides.other_b) (int_eq sides.target_a sides.target_b)
 decided placing s t sides k = by_tests placing s t _ _ _ _ _ _ k.s_apart k.t_apart (tests_of s t sides k)
 
-pub when_overlay : (placing : Placing) (s t : Pair) (sides : Sides) → Sided s t sides → zeros_of sides ≡ 4 → cross_answer placing s t ≡ answer_at overlay (record { x = pos 0; y = pos 0 }) false
+pub when_overlay : (placing : Placing) (s t : Pair) (sides : EndSides) → Sided s t sides → zeros_of sides ≡ 4 → cross_answer placing s t ≡ answer_at overlay (record { x = pos 0; y = pos 0 }) false
 unfolding answer_by_tests
 when_overlay placing s t sides k h = decided placing s t sides k ∙ rw h refl
 
-pub when_apart : (placing : Placing) (s t : Pair) (sides : Sides) → Sided s t sides → zeros_of sides ≢ 4 → leave_no_contact sides ≡ true → cross_answer placing s t ≡ None
+pub when_apart : (placing : Placing) (s t : Pair) (sides : EndSides) → Sided s t sides → zeros_of sides ≢ 4 → leave_no_contact sides ≡ true → cross_answer placing s t ≡ None
 unfolding answer_by_tests
 when_apart placing s t sides k h m = decided placing s t sides k ∙ rw (ne_eqb (zeros_of sides) 4 h, m) refl
 
@@ -41,28 +41,28 @@ crossing_by_tests s t false false false false true d k h m = absurd (cc)
 crossing_by_tests s t false false false false false true k h m = absurd (cc)
 crossing_by_tests s t false false false false false false k h m = do_cross_by_tests s t false false k
 
-pub when_crossing : (s t : Pair) (sides : Sides) → Sided s t sides → leave_no_contact sides ≡ false → zeros_of sides ≡ 0 → IsTrue (do_cross s t)
+pub when_crossing : (s t : Pair) (sides : EndSides) → Sided s t sides → leave_no_contact sides ≡ false → zeros_of sides ≡ 0 → IsTrue (do_cross s t)
 when_crossing s t sides k m h = crossing_by_tests s t _ _ _ _ _ _ (tests_of s t sides k) h m
 
 -- one end lies on the line of the other segment
-pub record Touching (s t : Pair) (sides : Sides) : Type 0 where
+pub record Touching (s t : Pair) (sides : EndSides) : Type 0 where
   pub sided : Sided s t sides
   pub not_four : zeros_of sides ≢ 4
   pub not_apart : leave_no_contact sides ≡ false
   pub not_none : zeros_of sides ≢ 0
 
-pub when_other_a : (placing : Placing) (s t : Pair) (sides : Sides) → Touching s t sides → int_eq sides.other_a (pos 0) ≡ true → cross_answer placing s t ≡ answer_at other_end t.a false
+pub when_other_a : (placing : Placing) (s t : Pair) (sides : EndSides) → Touching s t sides → int_eq sides.other_a (pos 0) ≡ true → cross_answer placing s t ≡ answer_at other_end t.a false
 unfolding answer_by_tests
 when_other_a placing s t sides k e1 = decided placing s t sides k.sided ∙ rw (ne_eqb (zeros_of sides) 4 k.not_four, k.not_apart, ne_eqb (zeros_of sides) 0 k.not_none, e1) refl
 
-pub when_other_b : (placing : Placing) (s t : Pair) (sides : Sides) → Touching s t sides → int_eq sides.other_a (pos 0) ≡ false → int_eq sides.other_b (pos 0) ≡ true → cross_answer placing s t ≡ answer_at other_end t.b false
+pub when_other_b : (placing : Placing) (s t : Pair) (sides : EndSides) → Touching s t sides → int_eq sides.other_a (pos 0) ≡ false → int_eq sides.other_b (pos 0) ≡ true → cross_answer placing s t ≡ answer_at other_end t.b false
 unfolding answer_by_tests
 when_other_b placing s t sides k e1 e2 = decided placing s t sides k.sided ∙ rw (ne_eqb (zeros_of sides) 4 k.not_four, k.not_apart, ne_eqb (zeros_of sides) 0 k.not_none, e1, e2) refl
 
-pub when_target_a : (placing : Placing) (s t : Pair) (sides : Sides) → Touching s t sides → int_eq sides.other_a (pos 0) ≡ false → int_eq sides.other_b (pos 0) ≡ false → int_eq sides.target_a (pos 0) ≡ true → cross_answer placing s t ≡ answer_at target_end s.a false
+pub when_target_a : (placing : Placing) (s t : Pair) (sides : EndSides) → Touching s t sides → int_eq sides.other_a (pos 0) ≡ false → int_eq sides.other_b (pos 0) ≡ false → int_eq sides.target_a (pos 0) ≡ true → cross_answer placing s t ≡ answer_at target_end s.a false
 unfolding answer_by_tests
 when_target_a placing s t sides k e1 e2 e3 = decided placing s t sides k.sided ∙ rw (ne_eqb (zeros_of sides) 4 k.not_four, k.not_apart, ne_eqb (zeros_of sides) 0 k.not_none, e1, e2, e3) refl
 
-pub when_target_b : (placing : Placing) (s t : Pair) (sides : Sides) → Touching s t sides → int_eq sides.other_a (pos 0) ≡ false → int_eq sides.other_b (pos 0) ≡ false → int_eq sides.target_a (pos 0) ≡ false → cross_answer placing s t ≡ answer_at target_end s.b false
+pub when_target_b : (placing : Placing) (s t : Pair) (sides : EndSides) → Touching s t sides → int_eq sides.other_a (pos 0) ≡ false → int_eq sides.other_b (pos 0) ≡ false → int_eq sides.target_a (pos 0) ≡ false → cross_answer placing s t ≡ answer_at target_end s.b false
 unfolding answer_by_tests
 when_target_b placing s t sides k e1 e2 e3 = decided placing s t sides k.sided ∙ rw (ne_eqb (zeros_of sides) 4 k.not_four, k.not_apart, ne_eqb (zeros_of sides) 0 k.not_none, e1, e2, e3) refl

@@ -4,7 +4,7 @@
 ghost use Rattle.std.specs.Prelude.{◌≡◌, ◌≢◌, false};
 ghost use Rattle.overlay_geometry.specs.PairOf.{pair_of};
 ghost use Rattle.overlay_geometry.specs.InRange.{IsPairInRange};
-ghost use Rattle.overlay_intersections.specs.steps.ContactOf.{AreSides, IsContact, zeros_of, leave_no_contact};
+ghost use Rattle.overlay_intersections.specs.steps.ContactOf.{AreEndSides, IsContact, zeros_of, leave_no_contact};
 
 use crate::split::cross::result::{CrossResult, CrossType};
 use overlay_geometry::geom::point::IntPoint;
@@ -14,7 +14,7 @@ use overlay_geometry::num::OverlayInt;
 
 /// The directions of the other's ends from the target, and of the target's ends from the other.
 #[derive(Clone, Copy)]
-struct Sides {
+struct EndSides {
     other_a: i64,
     other_b: i64,
     target_a: i64,
@@ -72,12 +72,12 @@ fn at<I: OverlayInt>(point: IntPoint<I>, cross_type: CrossType) -> Contact<I>
 }
 
 /// On which sides of each segment the ends of the other lie.
-fn sides_of<I: OverlayInt>(target: &XSegment<I>, other: &XSegment<I>) -> Sides
+fn sides_of<I: OverlayInt>(target: &XSegment<I>, other: &XSegment<I>) -> EndSides
     requires target { IsPairInRange I.whole I.MIN_COORD I.MAX_COORD target.now }
     requires other { IsPairInRange I.whole I.MIN_COORD I.MAX_COORD other.now }
-    ensures { AreSides (pair_of I.whole target.now) (pair_of I.whole other.now) result }
+    ensures { AreEndSides (pair_of I.whole target.now) (pair_of I.whole other.now) result }
 {
-    Sides {
+    EndSides {
         other_a: Triangle::clock_direction(target.a, target.b, other.a),
         other_b: Triangle::clock_direction(target.a, target.b, other.b),
         target_a: Triangle::clock_direction(other.a, other.b, target.a),
@@ -85,7 +85,7 @@ fn sides_of<I: OverlayInt>(target: &XSegment<I>, other: &XSegment<I>) -> Sides
     }
 }
 
-impl Sides {
+impl EndSides {
     /// How many ends lie on the line of the other segment.
     fn zeros(self) -> u32
         ensures { result ≡ zeros_of self }

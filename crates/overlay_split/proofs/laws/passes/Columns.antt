@@ -8,7 +8,7 @@ use Rattle.std.proofs.lemmas.Int.{ints}
 use Rattle.std.proofs.lemmas.Cmp.{int_eq_equiv}
 use Rattle.std.proofs.lemmas.Bool.Decides.{Decides-int_eq}
 use Rattle.overlay_geometry.specs.Points.{Point}
-use Rattle.overlay_split.specs.Path.{onto_columns, columns_in_order, next_point, last_point, run_through, path_from}
+use Rattle.overlay_split.specs.Path.{onto_columns, columns_in_order, next_point, last_point, column_path, path_from}
 use Rattle.overlay_split.specs.steps.PathSteps.{first_point}
 use Rattle.overlay_split.proofs.laws.paths.Pieces.{last_point-append}
 
@@ -95,26 +95,26 @@ module _ {X Y : Type 0} (g : X → Y) (h : Y → Point) where
   map-reversed : (xs : List X) → map h (map g (reverse xs)) ≡ reverse (map (λ x. h (g x)) xs)
   map-reversed xs = map-both (reverse xs) ∙ map-reverse (λ x. h (g x)) xs
 
-  run_down : (before next : Point) (column : List X) → int_lt next.y before.y ≡ true → run_through before (map (λ x. h (g x)) column) next ≡ reverse (map (λ x. h (g x)) column)
-  unfolding run_through
-  run_down before next column e = ap (λ b. if b then reverse (map (λ x. h (g x)) column) else map (λ x. h (g x)) column) e
+  column_path-downward : (before next : Point) (column : List X) → int_lt next.y before.y ≡ true → column_path before (map (λ x. h (g x)) column) next ≡ reverse (map (λ x. h (g x)) column)
+  unfolding column_path
+  column_path-downward before next column e = ap (λ b. if b then reverse (map (λ x. h (g x)) column) else map (λ x. h (g x)) column) e
 
-  run_up : (before next : Point) (column : List X) → int_lt next.y before.y ≡ false → run_through before (map (λ x. h (g x)) column) next ≡ map (λ x. h (g x)) column
-  unfolding run_through
-  run_up before next column e = ap (λ b. if b then reverse (map (λ x. h (g x)) column) else map (λ x. h (g x)) column) e
+  column_path-upward : (before next : Point) (column : List X) → int_lt next.y before.y ≡ false → column_path before (map (λ x. h (g x)) column) next ≡ map (λ x. h (g x)) column
+  unfolding column_path
+  column_path-upward before next column e = ap (λ b. if b then reverse (map (λ x. h (g x)) column) else map (λ x. h (g x)) column) e
 
   pub appended_down : {T E : Type 0} (r : Result T E) (old new : List Y) (column : List X) (before next : Point) → int_lt next.y before.y ≡ true → OnOk r (new ≡ old ++ map g (reverse column))
-      → OnOk r (map h new ≡ map h old ++ run_through before (map (λ x. h (g x)) column) next)
-  appended_down r old new column before next e = OnOk-weaker r (λ k. ap (map h) k ∙ map-append h old (map g (reverse column)) ∙ ap (λ l. map h old ++ l) (map-reversed column ∙ sym (run_down before next column e)))
+      → OnOk r (map h new ≡ map h old ++ column_path before (map (λ x. h (g x)) column) next)
+  appended_down r old new column before next e = OnOk-weaker r (λ k. ap (map h) k ∙ map-append h old (map g (reverse column)) ∙ ap (λ l. map h old ++ l) (map-reversed column ∙ sym (column_path-downward before next column e)))
 
   pub appended_up : {T E : Type 0} (r : Result T E) (old new : List Y) (column : List X) (before next : Point) → int_lt next.y before.y ≡ false → OnOk r (new ≡ old ++ map g column)
-      → OnOk r (map h new ≡ map h old ++ run_through before (map (λ x. h (g x)) column) next)
-  appended_up r old new column before next e = OnOk-weaker r (λ k. ap (map h) k ∙ map-append h old (map g column) ∙ ap (λ l. map h old ++ l) (map-both column ∙ sym (run_up before next column e)))
+      → OnOk r (map h new ≡ map h old ++ column_path before (map (λ x. h (g x)) column) next)
+  appended_up r old new column before next e = OnOk-weaker r (λ k. ap (map h) k ∙ map-append h old (map g column) ∙ ap (λ l. map h old ++ l) (map-both column ∙ sym (column_path-upward before next column e)))
 
 -- ---- the path, column by column
 
 path-cons : (before : Point) (column : List Point) (columns : List (List Point)) (b : Point) → path_from before (column ∷ columns) b
-    ≡ run_through before column (next_point columns b) ++ path_from (last_point before (run_through before column (next_point columns b))) columns b
+    ≡ column_path before column (next_point columns b) ++ path_from (last_point before (column_path before column (next_point columns b))) columns b
 unfolding path_from
 path-cons before column columns b = refl
 
@@ -136,7 +136,7 @@ unfolding IsCollected last_point
 IsCollected-start a b all = refl
 
 pub IsCollected-column : (a b : Point) (all done rest : List Point) (p : Point) (points : List Point) (n : ℕ) → rest ≡ p ∷ points → n ≡ block_len p.x rest → IsCollected a b all done rest
-    → IsCollected a b all (done ++ run_through (last_point a done) (take n rest) (first_point (drop n rest) b)) (drop n rest)
+    → IsCollected a b all (done ++ column_path (last_point a done) (take n rest) (first_point (drop n rest) b)) (drop n rest)
 unfolding IsCollected
 IsCollected-column a b all done rest p points n e block c =
     let same : block_len p.x (p ∷ points) ≡ suc (block_len p.x points) = block_len-same p.x p points (int_eq_equiv.refl p.x) in
@@ -144,11 +144,11 @@ IsCollected-column a b all done rest p points n e block c =
     ap columns_in_order e ∙ columns-first p points
     ∙ sym (ap (λ k. take k (p ∷ points) ∷ columns_in_order (drop k (p ∷ points))) same)
     ∙ sym (ap₂ (λ k l. take k l ∷ columns_in_order (drop k l)) (block ∙ ap (block_len p.x) e) e) in
-    let here = run_through (last_point a done) (take n rest) (first_point (drop n rest) b) in
+    let here = column_path (last_point a done) (take n rest) (first_point (drop n rest) b) in
     let next = next_point-columns (drop n rest) b in
     c ∙ ap (λ columns. done ++ path_from (last_point a done) columns b) at
     ∙ ap (λ l. done ++ l) (path-cons (last_point a done) (take n rest) (columns_in_order (drop n rest)) b
-    ∙ ap (λ q. run_through (last_point a done) (take n rest) q ++ path_from (last_point (last_point a done) (run_through (last_point a done) (take n rest) q)) (columns_in_order (drop n rest)) b) next)
+    ∙ ap (λ q. column_path (last_point a done) (take n rest) q ++ path_from (last_point (last_point a done) (column_path (last_point a done) (take n rest) q)) (columns_in_order (drop n rest)) b) next)
     ∙ sym (append_assoc done here (path_from (last_point (last_point a done) here) (columns_in_order (drop n rest)) b))
     ∙ ap (λ q. (done ++ here) ++ path_from q (columns_in_order (drop n rest)) b) (sym (last_point-append a done here))
 
@@ -171,7 +171,7 @@ last_point-read f a (x ∷ y ∷ xs) =
 module _ {X Y : Type 0} (g : X → Point) (h : Y → Point) where
   pub IsCollected-next : (a b : Point) (all rest : List X) (old new : List Y) (first : X) (n : ℕ) → slice_get rest 0 ≡ Some first → n ≡ prefix_len (λ m. int_eq (g m).x (g first).x) rest
       → IsCollected a b (map g all) (map h old) (map g rest)
-      → map h new ≡ map h old ++ run_through (last_point a (map h old)) (map g (take n rest)) (first_point (map g (drop n rest)) b)
+      → map h new ≡ map h old ++ column_path (last_point a (map h old)) (map g (take n rest)) (first_point (map g (drop n rest)) b)
       → IsCollected a b (map g all) (map h new) (map g (drop n rest))
   IsCollected-next a b all [] old new first n f block c put = cc
   IsCollected-next a b all (x ∷ xs) old new first n f block c put =
@@ -180,8 +180,8 @@ module _ {X Y : Type 0} (g : X → Point) (h : Y → Point) where
       let step = IsCollected-column a b (map g all) (map h old) (map g (x ∷ xs)) (g x) (map g xs) n refl block' c in
       let front : take n (map g (x ∷ xs)) ≡ map g (take n (x ∷ xs)) = take-map g n (x ∷ xs) in
       let back : drop n (map g (x ∷ xs)) ≡ map g (drop n (x ∷ xs)) = drop-map g n (x ∷ xs) in
-      let written : map h old ++ run_through (last_point a (map h old)) (take n (map g (x ∷ xs))) (first_point (drop n (map g (x ∷ xs))) b) ≡ map h new =
-      ap₂ (λ t d. map h old ++ run_through (last_point a (map h old)) t (first_point d b)) front back ∙ sym put in
+      let written : map h old ++ column_path (last_point a (map h old)) (take n (map g (x ∷ xs))) (first_point (drop n (map g (x ∷ xs))) b) ≡ map h new =
+      ap₂ (λ t d. map h old ++ column_path (last_point a (map h old)) t (first_point d b)) front back ∙ sym put in
       let moved : IsCollected a b (map g all) (map h new) (drop n (map g (x ∷ xs))) = subst (λ l. IsCollected a b (map g all) l (drop n (map g (x ∷ xs)))) written step in
       subst (λ l. IsCollected a b (map g all) (map h new) l) back moved
 

@@ -6,7 +6,7 @@ use Rattle.std.proofs.lemmas.Grind.{flat_map-append}
 use Rattle.overlay_geometry.specs.Points.{Point, Pair, is_ordered}
 use Rattle.overlay_base.specs.Windings.{Winding}
 use Rattle.overlay_base.specs.EdgeData.{DataSegment, Hooks}
-use Rattle.overlay_split.specs.Path.{path_from, columns_of, run_through, next_point, last_point}
+use Rattle.overlay_split.specs.Path.{path_from, columns_of, column_path, next_point, last_point}
 use Rattle.overlay_split.specs.DataPass.{data_pieces, data_pieces_of_each}
 use Rattle.overlay_split.specs.steps.DataCutAt.{data_cut_at}
 use Rattle.overlay_split.proofs.laws.passes.DataPasses.{whole}
@@ -36,7 +36,7 @@ path_from_some : (p : Point) (columns : List (List Point)) (b : Point) → 0 < l
 unfolding path_from
 path_from_some p [] b = omega arith
 path_from_some p (column ∷ columns) b =
-    let points = run_through p column (next_point columns b) in
+    let points = column_path p column (next_point columns b) in
     let rest = path_from_some (last_point p points) columns b in
     omega (arith, rest, length-append points (path_from (last_point p points) columns b))
 

@@ -16,7 +16,7 @@ use Rattle.overlay_geometry.proofs.laws.lists.Lists.{Steps}
 use Rattle.overlay_intersections.specs.Marks.{Placing}
 use Rattle.overlay_intersections.specs.PassMarks.{marks_on}
 use Rattle.overlay_intersections.specs.MarkOf.{Mark, AreMarks, points_at}
-use Rattle.overlay_split.specs.Path.{path_from, columns_in_order, columns_of, run_through, next_point, last_point, LeadsOn}
+use Rattle.overlay_split.specs.Path.{path_from, columns_in_order, columns_of, column_path, next_point, last_point, LeadsOn}
 use Rattle.overlay_split.specs.steps.PathSteps.{IsPathOf}
 use Rattle.overlay_split.specs.DataPass.{data_pieces_of_each, data_cut}
 use Rattle.overlay_split.specs.steps.DataCutAt.{data_cut_at}
@@ -35,16 +35,16 @@ LeadsOn-from_Steps : (p : Point) (points : List Point) → Steps Differ p points
 LeadsOn-from_Steps p [] h = tt
 LeadsOn-from_Steps p (q ∷ points) h = (h.0, LeadsOn-from_Steps q points h.1)
 
-run_length : (p : Point) (column : List Point) (next : Point) → length (run_through p column next) ≡ length column
-unfolding run_through
-run_length p column next = cond_both _ _ _ (λ (l : List Point). length l ≡ length column) (λ _. length-reverse column) (λ _. refl)
+column_path_length : (p : Point) (column : List Point) (next : Point) → length (column_path p column next) ≡ length column
+unfolding column_path
+column_path_length p column next = cond_both _ _ _ (λ (l : List Point). length l ≡ length column) (λ _. length-reverse column) (λ _. refl)
 
 path_length : (p : Point) (columns : List (List Point)) (b : Point) → length (path_from p columns b) ≡ length (all_of columns) + 1
 unfolding path_from
 path_length p [] b = refl
 path_length p (column ∷ columns) b =
-    let points = run_through p column (next_point columns b) in
-    omega (arith, length-append points (path_from (last_point p points) columns b), run_length p column (next_point columns b), path_length (last_point p points) columns b, length-append column (all_of columns))
+    let points = column_path p column (next_point columns b) in
+    omega (arith, length-append points (path_from (last_point p points) columns b), column_path_length p column (next_point columns b), path_length (last_point p points) columns b, length-append column (all_of columns))
 
 -- a path through marks that stand in order and are no ends
 pub IsPathOf-path_from : (pair : Pair) (marks : List Point) → Differ pair.a pair.b → AllByRecursion (λ m. Differ m pair.a × Differ m pair.b) marks → IsPathOf pair (path_from pair.a (columns_of marks) pair.b)

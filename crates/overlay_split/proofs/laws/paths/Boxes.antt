@@ -12,7 +12,7 @@ use Rattle.overlay_base.specs.Join.{join}
 use Rattle.overlay_geometry.specs.Meeting.{do_cross}
 use Rattle.overlay_intersections.specs.Crossing.{is_exact, snapping_point, settling_point}
 use Rattle.overlay_intersections.specs.Marks.{Placing, snapping, settling, nearer_end, nearest_end, snapped_to, crossing_mark, ordered_mark, marks_by}
-use Rattle.overlay_split.specs.Path.{columns_of, next_point, run_through, path_from, path, piece, pieces_along, pieces}
+use Rattle.overlay_split.specs.Path.{columns_of, next_point, column_path, path_from, path, piece, pieces_along, pieces}
 use Rattle.overlay_split.specs.Pass.{pieces_of, cut, pass}
 use Rattle.overlay_intersections.specs.PassMarks.{marks_on}
 use Rattle.overlay_split.specs.Run.{Settings, placing_of_pass, after_passes}
@@ -20,7 +20,7 @@ use Rattle.overlay_split.specs.Laws.{StaysInBox}
 use Rattle.overlay_geometry.proofs.laws.lists.Lists.{AllByRecursion-flat_map, AllByRecursion-map, list_any-implied, AllByRecursion-append, AllByRecursion-both, AllByRecursion-weaker, AllByRecursion-reverse, AllByRecursion_left, AllByRecursion_right, AllByRecursion-filter, list_all-from_AllByRecursion}
 use Rattle.overlay_geometry.proofs.laws.lists.Keys.{AllByRecursion-distinct_in_order}
 use Rattle.overlay_split.proofs.laws.paths.Cuts.{AllByRecursion-cut, AllByRecursion-join}
-use Rattle.overlay_split.proofs.laws.paths.Paths.{all_of, all_of-columns_of, run_through_has}
+use Rattle.overlay_split.proofs.laws.paths.Paths.{all_of, all_of-columns_of, column_path_has}
 use Rattle.overlay_intersections.proofs.laws.crossings.Crossings.{settling_in_target, snapping_in_target, do_cross-swap}
 use Rattle.overlay_geometry.proofs.laws.integers.Tests.{le-tested}
 
@@ -71,7 +71,7 @@ module _ (P : Point → Type 0) where
   path_from_has [] before b h k = (k, tt)
   path_from_has (column ∷ columns) before b h k =
       let here = AllByRecursion_left P column (all_of columns) h in
-      AllByRecursion-append P (run_through before column (next_point columns b)) _ (run_through_has (AllByRecursion P) before column (next_point columns b) here (AllByRecursion-reverse P column here)) (path_from_has columns _ b (AllByRecursion_right P column (all_of columns) h) k)
+      AllByRecursion-append P (column_path before column (next_point columns b)) _ (column_path_has (AllByRecursion P) before column (next_point columns b) here (AllByRecursion-reverse P column here)) (path_from_has columns _ b (AllByRecursion_right P column (all_of columns) h) k)
 
   piece_has : (count : Winding) (p q : Point) → P p → P q → AtEnds P (piece count p q).pair
   unfolding piece

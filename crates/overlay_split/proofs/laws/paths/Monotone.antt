@@ -9,12 +9,12 @@ use Rattle.std.specs.List.{AllByRecursion}
 use Rattle.overlay_geometry.specs.Points.{Point, Pair, point_lt}
 use Rattle.overlay_base.specs.Windings.{Winding}
 use Rattle.overlay_base.specs.Segments.{WholeSegment}
-use Rattle.overlay_split.specs.Path.{next_point, last_point, run_through, path_from, piece, pieces_along}
+use Rattle.overlay_split.specs.Path.{next_point, last_point, column_path, path_from, piece, pieces_along}
 use Rattle.overlay_split.specs.Potential.{spread, potential}
 use Rattle.overlay_geometry.proofs.laws.geometry.Polynomials.{as_D, diffs, D-eq, mul-nonneg}
 use Rattle.overlay_geometry.proofs.laws.geometry.Points.{Before, same_point}
 use Rattle.overlay_geometry.proofs.laws.lists.Lists.{Pairwise, Steps, AllByRecursion-weaker, AllByRecursion-both, AllByRecursion-append, AllByRecursion_left, AllByRecursion_right, AllByRecursion-reverse, AllByRecursion_cross, Pairwise_left, Pairwise_right, Pairwise-weaker, Pairwise-both, Pairwise-from_AllByRecursion, Pairwise-reverse, Steps-from_Pairwise}
-use Rattle.overlay_split.proofs.laws.paths.Paths.{all_of, AreColumns, Steps-append, last_point_has, run_through_has}
+use Rattle.overlay_split.proofs.laws.paths.Paths.{all_of, AreColumns, Steps-append, last_point_has, column_path_has}
 use Rattle.overlay_intersections.proofs.laws.marks.Marks.{Differ}
 use Rattle.overlay_intersections.proofs.laws.crossings.Rounding.{IsRoundedUp-monotone}
 use Rattle.overlay_intersections.proofs.laws.marks.Marks.{IsRoundedPoint, rounded_start, rounded_end}
@@ -121,9 +121,9 @@ not_less : (u v : ℤ) → IsFalse (int_lt u v) → v ≤ℤ u
 not_less u v h = grind (arith, ints)
 
 -- a column that is run upward where the next point is not lower
-run_through_up : (P : List Point → Type 0) (p : Point) (column : List Point) (next : Point) → p.y ≤ℤ next.y → P column → P (run_through p column next)
-unfolding run_through
-run_through_up P p column next h k = cond_both (int_lt next.y p.y) (reverse column) column P (λ e. absurd (not_lower next.y p.y e h)) (λ e. k)
+column_path_up : (P : List Point → Type 0) (p : Point) (column : List Point) (next : Point) → p.y ≤ℤ next.y → P column → P (column_path p column next)
+unfolding column_path
+column_path_up P p column next h k = cond_both (int_lt next.y p.y) (reverse column) column P (λ e. absurd (not_lower next.y p.y e h)) (λ e. k)
 
 pub path_rises : (columns : List (List Point)) (p b : Point) → AllByRecursion (Rises p) (all_of columns ++ b ∷ []) → Pairwise Rises (all_of columns ++ b ∷ []) → Steps Rises p (path_from p columns b)
 unfolding path_from
@@ -138,10 +138,10 @@ path_rises (column ∷ columns) p b h k =
     let across = AllByRecursion_cross Rises column rest k' in
     let next = next_point columns b in
     let up : p.y ≤ℤ next.y = next_point_has (λ z. p.y ≤ℤ z.y) columns b (AllByRecursion-weaker (Rises p) (λ z. p.y ≤ℤ z.y) (λ z r. r.1) rest later) in
-    Steps-append Rises p (run_through p column next) (path_from (last_point p (run_through p column next)) columns b)
-    (run_through_up (Steps Rises p) p column next up (Steps-from_Pairwise Rises p column each (Pairwise_left Rises column rest k')))
-    (path_rises columns (last_point p (run_through p column next)) b
-    (last_point_has (λ z. AllByRecursion (Rises z) rest) p (run_through p column next) later (run_through_up (AllByRecursion (λ z. AllByRecursion (Rises z) rest)) p column next up across))
+    Steps-append Rises p (column_path p column next) (path_from (last_point p (column_path p column next)) columns b)
+    (column_path_up (Steps Rises p) p column next up (Steps-from_Pairwise Rises p column each (Pairwise_left Rises column rest k')))
+    (path_rises columns (last_point p (column_path p column next)) b
+    (last_point_has (λ z. AllByRecursion (Rises z) rest) p (column_path p column next) later (column_path_up (AllByRecursion (λ z. AllByRecursion (Rises z) rest)) p column next up across))
     (Pairwise_right Rises column rest k'))
 
 -- ---- the path of a pair that falls
@@ -155,7 +155,7 @@ down_column p q (inl l, e) = absurd (omega (arith, ints))
 down_column p q (inr l, e) = (omega (arith, ints), omega (arith, ints, l.1))
 
 pub path_falls : (columns : List (List Point)) (p b : Point) → AreColumns columns → AllByRecursion (Falls p) (all_of columns ++ b ∷ []) → Pairwise Descends (all_of columns) → AllByRecursion (λ z. Falls z b) (all_of columns) → Steps Falls p (path_from p columns b)
-unfolding path_from run_through
+unfolding path_from column_path
 path_falls [] p b c h k l = (h.0, tt)
 path_falls ([] ∷ columns) p b c h k l = absurd c
 path_falls ((q ∷ column) ∷ columns) p b c h k l =
@@ -163,7 +163,7 @@ path_falls ((q ∷ column) ∷ columns) p b c h k l =
     let others = all_of columns in
     let rest = others ++ b ∷ [] in
     let next = next_point columns b in
-    let points = run_through p whole next in
+    let points = column_path p whole next in
     let h' = subst (AllByRecursion (Falls p)) (append_assoc whole others (b ∷ [])) h in
     let each = AllByRecursion_left (Falls p) whole rest h' in
     let later = AllByRecursion_right (Falls p) whole rest h' in
@@ -176,7 +176,7 @@ path_falls ((q ∷ column) ∷ columns) p b c h k l =
     (λ e. Steps-from_Pairwise Falls p (reverse whole) (AllByRecursion-reverse (Falls p) whole each) turned)
     (λ e. Steps-from_Pairwise Falls p whole each (flat p next q whole (not_less next.y p.y e) each same_x (AllByRecursion-weaker (λ z. AllByRecursion (Falls z) rest) (λ z. Falls z next) (λ z f. next_point_has (Falls z) columns b f) whole across))))
     (path_falls columns (last_point p points) b c.2
-    (last_point_has (λ z. AllByRecursion (Falls z) rest) p points later (run_through_has (AllByRecursion (λ z. AllByRecursion (Falls z) rest)) p whole next across (AllByRecursion-reverse (λ z. AllByRecursion (Falls z) rest) whole across)))
+    (last_point_has (λ z. AllByRecursion (Falls z) rest) p points later (column_path_has (AllByRecursion (λ z. AllByRecursion (Falls z) rest)) p whole next across (AllByRecursion-reverse (λ z. AllByRecursion (Falls z) rest) whole across)))
     (Pairwise_right Descends whole others k) (AllByRecursion_right (λ z. Falls z b) whole others l))
   where
     further : (z q r : Point) → q.x ≡ z.x → Descends z r × (q.x <ℤ r.x) → Falls z r
@@ -297,16 +297,16 @@ potential-pieces_along R is count p (q ∷ points) h d =
 
 -- ---- the path has a point for each mark, and the end
 
-length-run_through : (p : Point) (column : List Point) (next : Point) → length (run_through p column next) ≡ length column
-length-run_through p column next = run_through_has (λ (ps : List Point). length ps ≡ length column) p column next refl (length-reverse column)
+length-column_path : (p : Point) (column : List Point) (next : Point) → length (column_path p column next) ≡ length column
+length-column_path p column next = column_path_has (λ (ps : List Point). length ps ≡ length column) p column next refl (length-reverse column)
 
 pub length-path_from : (columns : List (List Point)) (p b : Point) → length (path_from p columns b) ≡ length (all_of columns) + 1
 unfolding path_from
 length-path_from [] p b = refl
 length-path_from (column ∷ columns) p b =
-    let points = run_through p column (next_point columns b) in
+    let points = column_path p column (next_point columns b) in
     let e = length-append points (path_from (last_point p points) columns b) in
-    let f = length-run_through p column (next_point columns b) in
+    let f = length-column_path p column (next_point columns b) in
     let g = length-path_from columns (last_point p points) b in
     let h = length-append column (all_of columns) in
     joined _ _ _ _ _ _ e f g h

@@ -13,7 +13,7 @@ use Rattle.overlay_geometry.specs.Sorting.{distinct_in_order}
 use Rattle.overlay_base.specs.Windings.{Winding}
 use Rattle.overlay_base.specs.Segments.{WholeSegment, are_ordered}
 use Rattle.overlay_intersections.proofs.laws.marks.Marks.{Differ}
-use Rattle.overlay_split.specs.Path.{onto_columns, columns_in_order, columns_of, next_point, last_point, run_through, path_from, path, piece, pieces_along, pieces}
+use Rattle.overlay_split.specs.Path.{onto_columns, columns_in_order, columns_of, next_point, last_point, column_path, path_from, path, piece, pieces_along, pieces}
 use Rattle.overlay_geometry.proofs.laws.geometry.Points.{Before, before, from_before, not_before, by_UpTo, point_cmp_total, Before-irreflexive}
 use Rattle.overlay_geometry.proofs.laws.lists.Lists.{Pairwise, Steps, AllByRecursion-weaker, AllByRecursion-append, AllByRecursion_left, AllByRecursion_right, AllByRecursion-reverse, AllByRecursion_cross, Pairwise_left, Pairwise_right, Pairwise-append, Pairwise-weaker, Pairwise-reverse, Steps-from_Pairwise}
 use Rattle.overlay_geometry.proofs.laws.lists.Keys.{IsStrictlySortedBy-distinct, AllByRecursion-distinct_in_order}
@@ -111,9 +111,9 @@ unfolding last_point
 last_point_has P p [] h k = h
 last_point_has P p (q ∷ points) h k = last_point_has P q points k.0 k.1
 
-pub run_through_has : (P : List Point → Type 0) (before : Point) (column : List Point) (next : Point) → P column → P (reverse column) → P (run_through before column next)
-unfolding run_through
-run_through_has P before column next h k = cond_both (int_lt next.y before.y) (reverse column) column P (λ e. k) (λ e. h)
+pub column_path_has : (P : List Point → Type 0) (before : Point) (column : List Point) (next : Point) → P column → P (reverse column) → P (column_path before column next)
+unfolding column_path
+column_path_has P before column next h k = cond_both (int_lt next.y before.y) (reverse column) column P (λ e. k) (λ e. h)
 
 -- where points before and in a path all differ, so do the ends of each step
 steps_differ : (columns : List (List Point)) (p b : Point) → AllByRecursion (Differ p) (all_of columns ++ b ∷ []) → Pairwise Differ (all_of columns ++ b ∷ []) → Steps Differ p (path_from p columns b)
@@ -128,13 +128,13 @@ steps_differ (column ∷ columns) p b h k =
     let two = Pairwise_left Differ column rest k' in
     let across = AllByRecursion_cross Differ column rest k' in
     let next = next_point columns b in
-    Steps-append Differ p (run_through p column next) (path_from (last_point p (run_through p column next)) columns b)
-    (run_through_has (Steps Differ p) p column next
+    Steps-append Differ p (column_path p column next) (path_from (last_point p (column_path p column next)) columns b)
+    (column_path_has (Steps Differ p) p column next
     (Steps-from_Pairwise Differ p column each two)
     (Steps-from_Pairwise Differ p (reverse column) (AllByRecursion-reverse (Differ p) column each) (Pairwise-reverse Differ Differ (λ x y f e. f (sym e)) column two)))
-    (steps_differ columns (last_point p (run_through p column next)) b
-    (last_point_has (λ z. AllByRecursion (Differ z) rest) p (run_through p column next) (AllByRecursion_right (Differ p) column rest h')
-    (run_through_has (AllByRecursion (λ z. AllByRecursion (Differ z) rest)) p column next across (AllByRecursion-reverse (λ z. AllByRecursion (Differ z) rest) column across)))
+    (steps_differ columns (last_point p (column_path p column next)) b
+    (last_point_has (λ z. AllByRecursion (Differ z) rest) p (column_path p column next) (AllByRecursion_right (Differ p) column rest h')
+    (column_path_has (AllByRecursion (λ z. AllByRecursion (Differ z) rest)) p column next across (AllByRecursion-reverse (λ z. AllByRecursion (Differ z) rest) column across)))
     (Pairwise_right Differ column rest k'))
 
 Differ-from_Before : (p q : Point) → Before p q → Differ p q

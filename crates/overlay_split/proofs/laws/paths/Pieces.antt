@@ -7,7 +7,7 @@ use Rattle.overlay_geometry.specs.Points.{Point, point_lt}
 use Rattle.overlay_base.specs.Windings.{Winding}
 use Rattle.overlay_base.specs.Segments.{WholeSegment}
 use Rattle.overlay_split.specs.Laws.{IsOdd, loss, NumbersAreOdd, PiecesTelescope}
-use Rattle.overlay_split.specs.Path.{path_from, last_point, run_through, next_point, columns_of, path, piece, pieces_along, pieces}
+use Rattle.overlay_split.specs.Path.{path_from, last_point, column_path, next_point, columns_of, path, piece, pieces_along, pieces}
 use Rattle.overlay_geometry.proofs.laws.geometry.Polynomials.{as_D, D-eq, diffs}
 
 turned : (c u v : ℤ) → (v -ℤ u) *ℤ neg_ℤ c ≡ (u -ℤ v) *ℤ c
@@ -44,7 +44,7 @@ last_point-append p (x ∷ xs) ys = last_point-append x xs ys
 pub last_point-path_from : (columns : List (List Point)) (p before b : Point) → last_point p (path_from before columns b) ≡ b
 unfolding last_point path_from
 last_point-path_from [] p before b = refl
-last_point-path_from (column ∷ columns) p before b = last_point-append p (run_through before column (next_point columns b)) _ ∙ last_point-path_from columns _ _ b
+last_point-path_from (column ∷ columns) p before b = last_point-append p (column_path before column (next_point columns b)) _ ∙ last_point-path_from columns _ _ b
 
 -- the pieces of a segment sum to the segment
 pub weighed-pieces : (part : Winding → ℤ) → IsOdd part → (f : Point → ℤ) (segment : WholeSegment) (marks : List Point) → weighed (loss f) part (pieces segment marks) ≡ loss f segment.pair *ℤ part segment.count

@@ -8,7 +8,7 @@ use Rattle.overlay_geometry.specs.Points.{Point, Pair, point_cmp, point_lt, turn
 use Rattle.overlay_geometry.specs.Sorting.{distinct_in_order}
 use Rattle.overlay_base.specs.Windings.{Winding, inverse}
 use Rattle.overlay_base.specs.Segments.{WholeSegment}
-use Rattle.overlay_split.specs.Path.{columns_of, next_point, last_point, run_through, path_from, path, piece, pieces_along, pieces}
+use Rattle.overlay_split.specs.Path.{columns_of, next_point, last_point, column_path, path_from, path, piece, pieces_along, pieces}
 use Rattle.overlay_geometry.proofs.laws.lists.Lists.{Pairwise, AllByRecursion-append, AllByRecursion-weaker, AllByRecursion_left, AllByRecursion_right, AllByRecursion_cross, Pairwise_left, Pairwise_right, Pairwise-append, Has, AllByRecursion-at, AllByRecursion-from_Has, Has-append_left}
 use Rattle.overlay_geometry.proofs.laws.lists.Keys.{AllByRecursion-distinct_in_order, Has-distinct_in_order}
 use Rattle.overlay_geometry.proofs.laws.geometry.Points.{point_cmp_total, point_same, Before, UpTo, Before-trans, Before-irreflexive, UpTo-Before, UpTo-same, UpTo-trans, UpTo-not_Before, from_before, on_vertical, inside_order, turn_same_outer, turn_same_last}
@@ -49,10 +49,10 @@ next_point_has P [] b h k = k.0
 next_point_has P ([] ∷ columns) b h k = absurd h
 next_point_has P ((p ∷ column) ∷ columns) b h k = k.0
 
-run_in_order : (s : Pair) (before p next : Point) (column : List Point) → Before s.a s.b → IsOnLine s before → IsOnLine s next → Before before next → AllByRecursion (λ q. p.x ≡ q.x) column → AllByRecursion (Before p) column → AllByRecursion (IsOnLine s) (p ∷ column) → run_through before (p ∷ column) next ≡ p ∷ column
-unfolding run_through
-run_in_order s before p next [] o hb hn less same later on = cond_both (int_lt next.y before.y) (reverse (p ∷ [])) (p ∷ []) (λ (l : List Point). l ≡ p ∷ []) (λ _. refl) (λ _. refl)
-run_in_order s before p next (q ∷ column) o hb hn less same later on =
+column_path_in_order : (s : Pair) (before p next : Point) (column : List Point) → Before s.a s.b → IsOnLine s before → IsOnLine s next → Before before next → AllByRecursion (λ q. p.x ≡ q.x) column → AllByRecursion (Before p) column → AllByRecursion (IsOnLine s) (p ∷ column) → column_path before (p ∷ column) next ≡ p ∷ column
+unfolding column_path
+column_path_in_order s before p next [] o hb hn less same later on = cond_both (int_lt next.y before.y) (reverse (p ∷ [])) (p ∷ []) (λ (l : List Point). l ≡ p ∷ []) (λ _. refl) (λ _. refl)
+column_path_in_order s before p next (q ∷ column) o hb hn less same later on =
     let v = vertical s p q o on.0 on.1.0 same.0 later.0 in
     let xb = on_vertical s.a s.b before v.0 v.1 hb in
     let xn = on_vertical s.a s.b next v.0 v.1 hn in
@@ -76,7 +76,7 @@ path_from_in_order s ((p ∷ column) ∷ columns) before b o h k l m n =
     let on_rest = AllByRecursion_right (IsOnLine s) points rest n' in
     let later = AllByRecursion_right (Before before) points rest l' in
     let next = next_point columns b in
-    let run = run_in_order s before p next column o m (next_point_has (IsOnLine s) columns b h.2 on_rest) (next_point_has (Before before) columns b h.2 later) h.0 two.0 on in
+    let run = column_path_in_order s before p next column o m (next_point_has (IsOnLine s) columns b h.2 on_rest) (next_point_has (Before before) columns b h.2 later) h.0 two.0 on in
     let ih = path_from_in_order s columns (last_point before points) b o h.2 (Pairwise_right Before points rest k') (last_point_has (λ z. AllByRecursion (Before z) rest) before points later across) (last_point_has (IsOnLine s) before points m on) on_rest in
     ap (λ (l : List Point). l ++ path_from (last_point before l) columns b) run ∙ ap (λ (l : List Point). points ++ l) ih ∙ sym same
 

@@ -12,13 +12,13 @@ use Rattle.overlay_base.specs.Segments.{WholeSegment, are_ordered}
 use Rattle.overlay_base.specs.Balance.{IsBalanced}
 use Rattle.overlay_geometry.specs.Below.{width}
 use Rattle.overlay_geometry.specs.Meeting.{do_cross, are_apart}
-use Rattle.overlay_sweep.specs.ColumnWindings.{spans, is_below_in_column, column_bottom, column_top, side_bottom, side_top, IsSameAlong}
+use Rattle.overlay_sweep.specs.ColumnWindings.{spans_column, is_below_in_column, column_bottom, column_top, side_bottom, side_top, IsSameAlong}
 use Rattle.overlay_geometry.proofs.laws.geometry.Polynomials.{as_D, diffs, D-eq, mul-pos, mul-neg, cancel-zero}
 use Rattle.overlay_geometry.proofs.laws.geometry.Points.{inside_from_order}
 use Rattle.overlay_base.proofs.laws.geometry.Apart.{do_cross_from}
 use Rattle.overlay_sweep.proofs.laws.columns.WeightSums.{when, sum_of}
 use Rattle.overlay_sweep.proofs.laws.columns.BalancedSums.{flow, subj_flow-balanced, clip_flow-balanced}
-use Rattle.overlay_sweep.proofs.laws.columns.ColumnLines.{spans_parts, spans-true, point_lt-cases, IsLowSide, leaves_upward, across_line-balanced, column_weights_are}
+use Rattle.overlay_sweep.proofs.laws.columns.ColumnLines.{spans_column_parts, spans_column-true, point_lt-cases, IsLowSide, leaves_upward, across_line-balanced, column_weights_are}
 use Rattle.overlay_sweep.proofs.laws.columns.Chains.{sum_of-same_on, sum_of-nothing}
 use Rattle.overlay_sweep.proofs.laws.columns.Heights.{gap, slope, gap_back, gap_same, gap_at_start, gap_at_end, gap_at_other_start, gap_at_other_end, is_below_is}
 use Rattle.overlay_sweep.proofs.laws.columns.ColumnOrder.{IsApart, is_apart, apart_back, crosses_downward, same_from_level, gap_level, gap_left_strict, crosses_in_column, is_low, low-left, low-right, low-level, low-first, low-second}
@@ -89,11 +89,11 @@ pub neg_of_pos : (m n : ℤ) → m ≡ neg_ℤ n → pos 0 <ℤ n → m <ℤ pos
 neg_of_pos m n e h = omega (arith, ints)
 
 module _ (x : ℤ) (s : Pair) (from_a : s.a.x <ℤ x) (to_b : x <ℤ s.b.x) (t : Pair) (apart : IsApart s t) where
-  spans_right : spans x s ≡ true
-  spans_right = spans-true x s (omega (arith, ints)) to_b
+  spans_right : spans_column x s ≡ true
+  spans_right = spans_column-true x s (omega (arith, ints)) to_b
 
-  spans_left : spans (x -ℤ pos 1) s ≡ true
-  spans_left = spans-true (x -ℤ pos 1) s (omega (arith, ints)) (omega (arith, ints))
+  spans_left : spans_column (x -ℤ pos 1) s ≡ true
+  spans_left = spans_column-true (x -ℤ pos 1) s (omega (arith, ints)) (omega (arith, ints))
 
   next : (x -ℤ pos 1) +ℤ pos 1 ≡ x
   next = omega (arith, ints)
@@ -101,16 +101,16 @@ module _ (x : ℤ) (s : Pair) (from_a : s.a.x <ℤ x) (to_b : x <ℤ s.b.x) (t :
   same_at : t.a.x <ℤ t.b.x → t.a.x ≤ℤ x → x ≤ℤ t.b.x → gap x t s ≡ pos 0 → s ≡ t
   same_at wt ta tb e = same_from_meeting x s from_a to_b t wt apart ta tb (neg_zero _ _ (gap_back x s t) e)
 
-  pub below_in_right_column : spans x t ≡ true → is_below_in_column x t s ≡ int_lt (pos 0) (gap x t s)
+  pub below_in_right_column : spans_column x t ≡ true → is_below_in_column x t s ≡ int_lt (pos 0) (gap x t s)
   below_in_right_column h =
-      let ts = spans_parts x t h in
+      let ts = spans_column_parts x t h in
       is_below_is x t s ∙ low_is_first (gap x t s) (gap (x +ℤ pos 1) t s)
       (λ p q. (apart_back s t apart).cross (crosses_in_column x t s h spans_right p q))
       (λ e. gap_of_same (x +ℤ pos 1) s t (same_at (omega (arith, ints)) ts.0 (omega (arith, ints)) e))
 
-  pub below_in_left_column : spans (x -ℤ pos 1) t ≡ true → is_below_in_column (x -ℤ pos 1) t s ≡ int_lt (pos 0) (gap x t s)
+  pub below_in_left_column : spans_column (x -ℤ pos 1) t ≡ true → is_below_in_column (x -ℤ pos 1) t s ≡ int_lt (pos 0) (gap x t s)
   below_in_left_column h =
-      let ts = spans_parts (x -ℤ pos 1) t h in
+      let ts = spans_column_parts (x -ℤ pos 1) t h in
       is_below_is (x -ℤ pos 1) t s
       ∙ low_is_second (gap (x -ℤ pos 1) t s) (gap ((x -ℤ pos 1) +ℤ pos 1) t s)
       (λ p q. apart.cross (crosses_in_column (x -ℤ pos 1) s t spans_left h (neg_of_neg _ _ (gap_back (x -ℤ pos 1) s t) p) (neg_of_pos _ _ (gap_back ((x -ℤ pos 1) +ℤ pos 1) s t) q)))
@@ -211,11 +211,11 @@ module _ (x : ℤ) (s : Pair) (from_a : s.a.x <ℤ x) (to_b : x <ℤ s.b.x) (xs 
   apart_of : (t : WholeSegment) → is_free s t ≡ true → IsApart s t.pair
   apart_of t h = is_apart s t.pair (and_parts (is_ordered t.pair) (are_apart s t.pair) h).1
 
-  right_sum : (w : WholeSegment → ℤ) → sum_of (λ t. when (spans x t.pair && is_below_in_column x t.pair s) (w t)) xs ≡ sum_of (λ t. when (spans x t.pair && is_lower x s t.pair) (w t)) xs
-  right_sum w = sum_of-same_on _ _ (λ t. is_free s t) xs free (λ t h. when_spanning (spans x t.pair) _ _ (w t) (λ e. below_in_right_column x s from_a to_b t.pair (apart_of t h) e))
+  right_sum : (w : WholeSegment → ℤ) → sum_of (λ t. when (spans_column x t.pair && is_below_in_column x t.pair s) (w t)) xs ≡ sum_of (λ t. when (spans_column x t.pair && is_lower x s t.pair) (w t)) xs
+  right_sum w = sum_of-same_on _ _ (λ t. is_free s t) xs free (λ t h. when_spanning (spans_column x t.pair) _ _ (w t) (λ e. below_in_right_column x s from_a to_b t.pair (apart_of t h) e))
 
-  left_sum : (w : WholeSegment → ℤ) → sum_of (λ t. when (spans (x -ℤ pos 1) t.pair && is_below_in_column (x -ℤ pos 1) t.pair s) (w t)) xs ≡ sum_of (λ t. when (spans (x -ℤ pos 1) t.pair && is_lower x s t.pair) (w t)) xs
-  left_sum w = sum_of-same_on _ _ (λ t. is_free s t) xs free (λ t h. when_spanning (spans (x -ℤ pos 1) t.pair) _ _ (w t) (λ e. below_in_left_column x s from_a to_b t.pair (apart_of t h) e))
+  left_sum : (w : WholeSegment → ℤ) → sum_of (λ t. when (spans_column (x -ℤ pos 1) t.pair && is_below_in_column (x -ℤ pos 1) t.pair s) (w t)) xs ≡ sum_of (λ t. when (spans_column (x -ℤ pos 1) t.pair && is_lower x s t.pair) (w t)) xs
+  left_sum w = sum_of-same_on _ _ (λ t. is_free s t) xs free (λ t h. when_spanning (spans_column (x -ℤ pos 1) t.pair) _ _ (w t) (λ e. below_in_left_column x s from_a to_b t.pair (apart_of t h) e))
 
   no_uprights : (w : WholeSegment → ℤ) → sum_of (λ t. when (leaves_upward (lies_lower x s) t.pair) (w t)) xs ≡ pos 0
   no_uprights w = sum_of-nothing _ (λ t. is_free s t) xs free (λ t h. rw (none_leaves x s from_a to_b t.pair (and_parts (is_ordered t.pair) (are_apart s t.pair) h).0 (apart_of t h)) refl)
@@ -226,7 +226,7 @@ module _ (x : ℤ) (s : Pair) (from_a : s.a.x <ℤ x) (to_b : x <ℤ s.b.x) (xs 
       let parts = and_parts (is_free s t) (list_all (λ u. is_free s u) ts) h in
       and_from _ _ (and_parts (is_ordered t.pair) (are_apart s t.pair) parts.0).0 (are_ordered_from ts parts.1)
 
-  same_sums : (w : WholeSegment → ℤ) → flow w (lies_lower x s) xs ≡ pos 0 → sum_of (λ t. when (spans x t.pair && is_below_in_column x t.pair s) (w t)) xs ≡ sum_of (λ t. when (spans (x -ℤ pos 1) t.pair && is_below_in_column (x -ℤ pos 1) t.pair s) (w t)) xs
+  same_sums : (w : WholeSegment → ℤ) → flow w (lies_lower x s) xs ≡ pos 0 → sum_of (λ t. when (spans_column x t.pair && is_below_in_column x t.pair s) (w t)) xs ≡ sum_of (λ t. when (spans_column (x -ℤ pos 1) t.pair && is_below_in_column (x -ℤ pos 1) t.pair s) (w t)) xs
   same_sums w e =
       let line = across_line-balanced x (lies_lower x s) (is_lower x s) (lower_side x s from_a to_b) w xs (are_ordered_from xs free) e in
       omega (arith, ints, line, right_sum w, left_sum w, no_uprights w)
@@ -254,14 +254,14 @@ module _ (xs : List WholeSegment) (s : WholeSegment) (free : list_all (λ t. is_
   columns_on (suc n) x e h = column_bottom_step xs s x free balanced (omega (arith, ints)) h ∙ columns_on n (x -ℤ pos 1) (omega (arith, ints)) (omega (arith, ints))
 
   -- in every column that s spans its bottom is that of the first
-  pub column_bottom-same : (x : ℤ) → spans x s.pair ≡ true → column_bottom xs x s ≡ column_bottom xs s.pair.a.x s
+  pub column_bottom-same : (x : ℤ) → spans_column x s.pair ≡ true → column_bottom xs x s ≡ column_bottom xs s.pair.a.x s
   column_bottom-same x h =
-      let parts = spans_parts x s.pair h in
+      let parts = spans_column_parts x s.pair h in
       let n = from_nonneg (x -ℤ s.pair.a.x) (omega (arith, ints)) in
       columns_on n.0 x n.1 parts.1
 
-  not_upright : (x : ℤ) → spans x s.pair ≡ true → is_vertical s.pair ≡ false
-  not_upright x h = let parts = spans_parts x s.pair h in false_from_ne_true _ (λ e. let same = (Decides-int_eq s.pair.a.x s.pair.b.x).0 e in omega (arith, ints))
+  not_upright : (x : ℤ) → spans_column x s.pair ≡ true → is_vertical s.pair ≡ false
+  not_upright x h = let parts = spans_column_parts x s.pair h in false_from_ne_true _ (λ e. let same = (Decides-int_eq s.pair.a.x s.pair.b.x).0 e in omega (arith, ints))
 
   pub is_same_along : IsSameAlong xs s
   unfolding side_bottom side_top column_top

@@ -12,7 +12,7 @@ use Rattle.overlay_geometry.specs.Points.{Point, Pair, turn, is_ordered, is_vert
 use Rattle.overlay_base.specs.Windings.{Winding, add}
 use Rattle.overlay_base.specs.Segments.{WholeSegment, are_ordered, total_weight}
 use Rattle.overlay_base.specs.Balance.{IsBalanced}
-use Rattle.overlay_sweep.specs.ColumnWindings.{spans, column, weights_up_to}
+use Rattle.overlay_sweep.specs.ColumnWindings.{spans_column, column, weights_up_to}
 use Rattle.overlay_geometry.proofs.laws.geometry.Polynomials.{as_D, diffs, D-eq, mul-pos, mul-neg, mul-nonneg, mul-le_left}
 use Rattle.overlay_sweep.proofs.laws.columns.WeightSums.{when, sum_of, sum_of-filter, sum_of-same, total_weight_is}
 use Rattle.overlay_sweep.proofs.laws.columns.BalancedSums.{flow, subj_flow-balanced, clip_flow-balanced}
@@ -20,17 +20,17 @@ use Rattle.overlay_geometry.proofs.laws.integers.Tests.{le-test, le-test_false, 
 
 -- ---- tests on whole numbers
 
-pub spans-true : (x : ℤ) (s : Pair) → s.a.x ≤ℤ x → x <ℤ s.b.x → spans x s ≡ true
-spans-true x s h k = and_from _ _ (le-test s.a.x x h) (le-test (x +ℤ pos 1) s.b.x (omega (arith, ints)))
+pub spans_column-true : (x : ℤ) (s : Pair) → s.a.x ≤ℤ x → x <ℤ s.b.x → spans_column x s ≡ true
+spans_column-true x s h k = and_from _ _ (le-test s.a.x x h) (le-test (x +ℤ pos 1) s.b.x (omega (arith, ints)))
 
-pub spans-false_before : (x : ℤ) (s : Pair) → x <ℤ s.a.x → spans x s ≡ false
-spans-false_before x s h = and_left _ _ (le-test_false s.a.x x h)
+pub spans_column-false_before : (x : ℤ) (s : Pair) → x <ℤ s.a.x → spans_column x s ≡ false
+spans_column-false_before x s h = and_left _ _ (le-test_false s.a.x x h)
 
-pub spans-false_after : (x : ℤ) (s : Pair) → s.b.x ≤ℤ x → spans x s ≡ false
-spans-false_after x s h = and_right _ _ (le-test_false (x +ℤ pos 1) s.b.x (omega (arith, ints)))
+pub spans_column-false_after : (x : ℤ) (s : Pair) → s.b.x ≤ℤ x → spans_column x s ≡ false
+spans_column-false_after x s h = and_right _ _ (le-test_false (x +ℤ pos 1) s.b.x (omega (arith, ints)))
 
-pub spans_parts : (x : ℤ) (s : Pair) → spans x s ≡ true → (s.a.x ≤ℤ x) × (x <ℤ s.b.x)
-spans_parts x s h =
+pub spans_column_parts : (x : ℤ) (s : Pair) → spans_column x s ≡ true → (s.a.x ≤ℤ x) × (x <ℤ s.b.x)
+spans_column_parts x s h =
     let l : int_le s.a.x x ≡ true = (and_parts _ _ h).0 in
     let r : int_le (x +ℤ pos 1) s.b.x ≡ true = (and_parts (int_le s.a.x x) _ h).1 in
     (omega (arith, ints), omega (arith, ints))
@@ -71,30 +71,30 @@ module _ (c : ℤ) (inside : Point → Bool) (low : Pair → Bool) (side : IsLow
 
   module _ (s : Pair) (z : ℤ) where
     abbrev AtLine : Type 0
-    AtLine = (when (spans c s && low s) z -ℤ when (spans (c -ℤ pos 1) s && low s) z) +ℤ when (leaves_upward inside s) z ≡ when (inside s.a) z -ℤ when (inside s.b) z
+    AtLine = (when (spans_column c s && low s) z -ℤ when (spans_column (c -ℤ pos 1) s && low s) z) +ℤ when (leaves_upward inside s) z ≡ when (inside s.a) z -ℤ when (inside s.b) z
 
-    by_tests : (r l v i j m : Bool) → spans c s ≡ r → spans (c -ℤ pos 1) s ≡ l → is_vertical s ≡ v → inside s.a ≡ i → inside s.b ≡ j → low s ≡ m →
+    by_tests : (r l v i j m : Bool) → spans_column c s ≡ r → spans_column (c -ℤ pos 1) s ≡ l → is_vertical s ≡ v → inside s.a ≡ i → inside s.b ≡ j → low s ≡ m →
         (when (r && m) z -ℤ when (l && m) z) +ℤ when (v && (i && not j)) z ≡ when i z -ℤ when j z → AtLine
     by_tests r l v i j m er el ev ei ej em h = rw (er, el, ev, ei, ej, em) h
 
     rightward : s.a.x <ℤ s.b.x → AtLine
     rightward h =
         let v : is_vertical s ≡ false = false_from_ne_true _ (λ e. let x = (Decides-int_eq s.a.x s.b.x).0 e in omega (arith, ints)) in
-        by_lt_z c s.a.x (λ (before : c <ℤ s.a.x). by_tests false false false false false (low s) (spans-false_before c s before) (spans-false_before (c -ℤ pos 1) s (omega (arith, ints))) v (off s.a (λ e. omega (arith, ints))) (off s.b (λ e. omega (arith, ints))) refl (omega (arith, ints)))
+        by_lt_z c s.a.x (λ (before : c <ℤ s.a.x). by_tests false false false false false (low s) (spans_column-false_before c s before) (spans_column-false_before (c -ℤ pos 1) s (omega (arith, ints))) v (off s.a (λ e. omega (arith, ints))) (off s.b (λ e. omega (arith, ints))) refl (omega (arith, ints)))
         (λ (from_a : s.a.x ≤ℤ c). by_lt_z c s.b.x
         (λ (to_b : c <ℤ s.b.x). by_lt_z s.a.x c
-        (λ (inner : s.a.x <ℤ c). by_tests true true false false false (low s) (spans-true c s from_a to_b) (spans-true (c -ℤ pos 1) s (omega (arith, ints)) (omega (arith, ints))) v (off s.a (λ e. omega (arith, ints))) (off s.b (λ e. omega (arith, ints))) refl (omega (arith, ints)))
-        (λ (at : c ≤ℤ s.a.x). by_tests true false false (inside s.a) false (inside s.a) (spans-true c s from_a to_b) (spans-false_before (c -ℤ pos 1) s (omega (arith, ints))) v refl (off s.b (λ e. omega (arith, ints))) (side.at_start s (omega (arith, ints)) h) (omega (arith, ints))))
+        (λ (inner : s.a.x <ℤ c). by_tests true true false false false (low s) (spans_column-true c s from_a to_b) (spans_column-true (c -ℤ pos 1) s (omega (arith, ints)) (omega (arith, ints))) v (off s.a (λ e. omega (arith, ints))) (off s.b (λ e. omega (arith, ints))) refl (omega (arith, ints)))
+        (λ (at : c ≤ℤ s.a.x). by_tests true false false (inside s.a) false (inside s.a) (spans_column-true c s from_a to_b) (spans_column-false_before (c -ℤ pos 1) s (omega (arith, ints))) v refl (off s.b (λ e. omega (arith, ints))) (side.at_start s (omega (arith, ints)) h) (omega (arith, ints))))
         (λ (past_b : s.b.x ≤ℤ c). by_lt_z s.b.x c
-        (λ (after : s.b.x <ℤ c). by_tests false false false false false (low s) (spans-false_after c s past_b) (spans-false_after (c -ℤ pos 1) s (omega (arith, ints))) v (off s.a (λ e. omega (arith, ints))) (off s.b (λ e. omega (arith, ints))) refl (omega (arith, ints)))
-        (λ (at : c ≤ℤ s.b.x). by_tests false true false false (inside s.b) (inside s.b) (spans-false_after c s past_b) (spans-true (c -ℤ pos 1) s (omega (arith, ints)) (omega (arith, ints))) v (off s.a (λ e. omega (arith, ints))) refl (side.at_end s (omega (arith, ints)) h) (omega (arith, ints)))))
+        (λ (after : s.b.x <ℤ c). by_tests false false false false false (low s) (spans_column-false_after c s past_b) (spans_column-false_after (c -ℤ pos 1) s (omega (arith, ints))) v (off s.a (λ e. omega (arith, ints))) (off s.b (λ e. omega (arith, ints))) refl (omega (arith, ints)))
+        (λ (at : c ≤ℤ s.b.x). by_tests false true false false (inside s.b) (inside s.b) (spans_column-false_after c s past_b) (spans_column-true (c -ℤ pos 1) s (omega (arith, ints)) (omega (arith, ints))) v (off s.a (λ e. omega (arith, ints))) refl (side.at_end s (omega (arith, ints)) h) (omega (arith, ints)))))
 
     upward : s.a.x ≡ s.b.x → s.a.y <ℤ s.b.y → AtLine
     upward e h =
         let v : is_vertical s ≡ true = (Decides-int_eq s.a.x s.b.x).1 e in
         let u = up_only (inside s.a) (inside s.b) z (side.downward s e h) in
-        let r : spans c s ≡ false = by_lt_z c s.a.x (λ (l : c <ℤ s.a.x). spans-false_before c s l) (λ (g : s.a.x ≤ℤ c). spans-false_after c s (omega (arith, ints))) in
-        let l : spans (c -ℤ pos 1) s ≡ false = by_lt_z (c -ℤ pos 1) s.a.x (λ (l : (c -ℤ pos 1) <ℤ s.a.x). spans-false_before _ s l) (λ (g : s.a.x ≤ℤ (c -ℤ pos 1)). spans-false_after _ s (omega (arith, ints))) in
+        let r : spans_column c s ≡ false = by_lt_z c s.a.x (λ (l : c <ℤ s.a.x). spans_column-false_before c s l) (λ (g : s.a.x ≤ℤ c). spans_column-false_after c s (omega (arith, ints))) in
+        let l : spans_column (c -ℤ pos 1) s ≡ false = by_lt_z (c -ℤ pos 1) s.a.x (λ (l : (c -ℤ pos 1) <ℤ s.a.x). spans_column-false_before _ s l) (λ (g : s.a.x ≤ℤ (c -ℤ pos 1)). spans_column-false_after _ s (omega (arith, ints))) in
         by_tests false false true (inside s.a) (inside s.b) (low s) r l v refl refl refl (omega (arith, ints, u))
 
     at_line : is_ordered s ≡ true → AtLine
@@ -102,7 +102,7 @@ module _ (c : ℤ) (inside : Point → Bool) (low : Pair → Bool) (side : IsLow
 
   -- the sum in the right column, less that in the left one, and that of the vertical segments which leave the set
   pub across_line : (w : WholeSegment → ℤ) (xs : List WholeSegment) → are_ordered xs ≡ true →
-      (sum_of (λ s. when (spans c s.pair && low s.pair) (w s)) xs -ℤ sum_of (λ s. when (spans (c -ℤ pos 1) s.pair && low s.pair) (w s)) xs) +ℤ sum_of (λ s. when (leaves_upward inside s.pair) (w s)) xs ≡ flow w inside xs
+      (sum_of (λ s. when (spans_column c s.pair && low s.pair) (w s)) xs -ℤ sum_of (λ s. when (spans_column (c -ℤ pos 1) s.pair && low s.pair) (w s)) xs) +ℤ sum_of (λ s. when (leaves_upward inside s.pair) (w s)) xs ≡ flow w inside xs
   across_line w [] o = omega (arith, ints)
   across_line w (s ∷ ss) o =
       let here = at_line s.pair (w s) (and_parts (is_ordered s.pair) (are_ordered ss) o).0 in
@@ -116,23 +116,23 @@ when-and true b z = refl
 when-and false b z = refl
 
 -- the numbers of the segments of a column that pass a test, added
-pub column_sum : (w : WholeSegment → ℤ) (low : Pair → Bool) (c : ℤ) (xs : List WholeSegment) → sum_of w (filter (λ t. low t.pair) (column xs c)) ≡ sum_of (λ s. when (spans c s.pair && low s.pair) (w s)) xs
+pub column_sum : (w : WholeSegment → ℤ) (low : Pair → Bool) (c : ℤ) (xs : List WholeSegment) → sum_of w (filter (λ t. low t.pair) (column xs c)) ≡ sum_of (λ s. when (spans_column c s.pair && low s.pair) (w s)) xs
 column_sum w low c xs =
-    sum_of-filter (λ t. low t.pair) w (column xs c) ∙ sum_of-filter (λ s. spans c s.pair) (λ t. when (low t.pair) (w t)) xs
-    ∙ sum_of-same (λ s. when (spans c s.pair) (when (low s.pair) (w s))) (λ s. when (spans c s.pair && low s.pair) (w s)) xs (λ s. when-and (spans c s.pair) (low s.pair) (w s))
+    sum_of-filter (λ t. low t.pair) w (column xs c) ∙ sum_of-filter (λ s. spans_column c s.pair) (λ t. when (low t.pair) (w t)) xs
+    ∙ sum_of-same (λ s. when (spans_column c s.pair) (when (low s.pair) (w s))) (λ s. when (spans_column c s.pair && low s.pair) (w s)) xs (λ s. when-and (spans_column c s.pair) (low s.pair) (w s))
 
 -- the weights of the segments of a column that pass a test, added
 abbrev pub column_weights : (Pair → Bool) → List WholeSegment → ℤ → Winding
 column_weights low xs c = total_weight (filter (λ t. low t.pair) (column xs c))
 
-pub column_weights_are : (low : Pair → Bool) (xs : List WholeSegment) (c : ℤ) → column_weights low xs c ≡ record { subj = sum_of (λ s. when (spans c s.pair && low s.pair) s.count.subj) xs; clip = sum_of (λ s. when (spans c s.pair && low s.pair) s.count.clip) xs; mask = 0 }
+pub column_weights_are : (low : Pair → Bool) (xs : List WholeSegment) (c : ℤ) → column_weights low xs c ≡ record { subj = sum_of (λ s. when (spans_column c s.pair && low s.pair) s.count.subj) xs; clip = sum_of (λ s. when (spans_column c s.pair && low s.pair) s.count.clip) xs; mask = 0 }
 column_weights_are low xs c = rw (total_weight_is (filter (λ t. low t.pair) (column xs c)), column_sum (λ s. s.count.subj) low c xs, column_sum (λ s. s.count.clip) low c xs) refl
 
 pub filter_weights_are : (test : Pair → Bool) (xs : List WholeSegment) → total_weight (filter (λ t. test t.pair) xs) ≡ record { subj = sum_of (λ s. when (test s.pair) s.count.subj) xs; clip = sum_of (λ s. when (test s.pair) s.count.clip) xs; mask = 0 }
 filter_weights_are test xs = rw (total_weight_is (filter (λ t. test t.pair) xs), sum_of-filter (λ t. test t.pair) (λ s. s.count.subj) xs, sum_of-filter (λ t. test t.pair) (λ s. s.count.clip) xs) refl
 
 pub across_line-balanced : (c : ℤ) (inside : Point → Bool) (low : Pair → Bool) → IsLowSide c inside low → (w : WholeSegment → ℤ) (xs : List WholeSegment) → are_ordered xs ≡ true → flow w inside xs ≡ pos 0 →
-    sum_of (λ s. when (spans c s.pair && low s.pair) (w s)) xs +ℤ sum_of (λ s. when (leaves_upward inside s.pair) (w s)) xs ≡ sum_of (λ s. when (spans (c -ℤ pos 1) s.pair && low s.pair) (w s)) xs
+    sum_of (λ s. when (spans_column c s.pair && low s.pair) (w s)) xs +ℤ sum_of (λ s. when (leaves_upward inside s.pair) (w s)) xs ≡ sum_of (λ s. when (spans_column (c -ℤ pos 1) s.pair && low s.pair) (w s)) xs
 across_line-balanced c inside low side w xs o e = let line = across_line c inside low side w xs o in omega (arith, ints, e, line)
 
 -- the weights of the right column and of the vertical segments that leave the set make those of the left column

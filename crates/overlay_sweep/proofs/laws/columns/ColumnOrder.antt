@@ -6,12 +6,12 @@ use Rattle.std.proofs.lemmas.Bool.{and_parts, and_from, and_left, and_right, or_
 use Rattle.overlay_geometry.specs.Points.{Pair, turn, is_strictly_inside}
 use Rattle.overlay_geometry.specs.Below.{width, scaled_height}
 use Rattle.overlay_geometry.specs.Meeting.{do_cross, are_apart}
-use Rattle.overlay_sweep.specs.ColumnWindings.{spans, is_below_in_column}
+use Rattle.overlay_sweep.specs.ColumnWindings.{spans_column, is_below_in_column}
 use Rattle.overlay_base.specs.Rules.{differ}
 use Rattle.overlay_geometry.proofs.laws.geometry.Polynomials.{mul-neg, cancel-pos, fractions-trans, fractions-trans_lt, from_difference-nonneg, difference-nonneg, from_difference-pos, difference-pos, cancel-zero, cancel-neg, mul-nonneg_both}
 use Rattle.overlay_geometry.proofs.laws.geometry.Points.{same_point, same_pair, at_a, at_b, inside_from_order}
 use Rattle.overlay_base.proofs.laws.geometry.Apart.{do_cross_back, do_cross_from, are_apart_parts, no_end_inside_parts}
-use Rattle.overlay_sweep.proofs.laws.columns.ColumnLines.{spans_parts}
+use Rattle.overlay_sweep.proofs.laws.columns.ColumnLines.{spans_column_parts}
 use Rattle.overlay_sweep.proofs.laws.columns.Heights.{gap, slope, gap_back, gap_same, gap_along, gap_at_start, gap_at_end, gap_at_other_start, gap_at_other_end, is_below_is}
 use Rattle.overlay_geometry.proofs.laws.integers.Tests.{le-test, le-test_false, lt-test, lt-test_false, le-tested, lt-tested, by_sign}
 
@@ -127,10 +127,10 @@ gap_left_strict x z s t k h = rise_plain_strict (gap x s t) (gap z s t) (slope s
 -- ---- two in one column
 
 -- the two lines of a column cannot cross
-pub crosses_in_column : (x : ℤ) (s t : Pair) → spans x s ≡ true → spans x t ≡ true → pos 0 <ℤ gap x s t → gap (x +ℤ pos 1) s t <ℤ pos 0 → do_cross s t ≡ true
+pub crosses_in_column : (x : ℤ) (s t : Pair) → spans_column x s ≡ true → spans_column x t ≡ true → pos 0 <ℤ gap x s t → gap (x +ℤ pos 1) s t <ℤ pos 0 → do_cross s t ≡ true
 crosses_in_column x s t hs ht p q =
-    let ss = spans_parts x s hs in
-    let ts = spans_parts x t ht in
+    let ss = spans_column_parts x s hs in
+    let ts = spans_column_parts x t ht in
     let step = gap_step x s t in
     let k : slope s t ≤ℤ pos 0 = omega (arith, ints, step) in
     let sa = gap_left x s.a.x s t k ss.0 in
@@ -140,10 +140,10 @@ crosses_in_column x s t hs ht p q =
     crosses_downward s t (omega (arith, ints)) (omega (arith, ints)) (omega (arith, ints)) (omega (arith, ints)) (omega (arith, ints)) (omega (arith, ints))
 
 -- nor can they run together
-pub same_in_column : (x : ℤ) (s t : Pair) → spans x s ≡ true → spans x t ≡ true → IsApart s t → gap x s t ≡ pos 0 → gap (x +ℤ pos 1) s t ≡ pos 0 → s ≡ t
+pub same_in_column : (x : ℤ) (s t : Pair) → spans_column x s ≡ true → spans_column x t ≡ true → IsApart s t → gap x s t ≡ pos 0 → gap (x +ℤ pos 1) s t ≡ pos 0 → s ≡ t
 same_in_column x s t hs ht apart p q =
-    let ss = spans_parts x s hs in
-    let ts = spans_parts x t ht in
+    let ss = spans_column_parts x s hs in
+    let ts = spans_column_parts x t ht in
     let step = gap_step x s t in
     let k : slope s t ≡ pos 0 = omega (arith, ints, step) in
     same_from_level s t (omega (arith, ints)) (omega (arith, ints)) apart (λ z. gap_level x z s t p k) (omega (arith, ints)) (omega (arith, ints))
@@ -205,7 +205,7 @@ swap_pos : (m n : ℤ) → m ≡ neg_ℤ n → pos 0 <ℤ m → n <ℤ pos 0
 swap_pos m n e h = omega (arith, ints)
 
 -- of two different segments in a column that are apart, exactly one is below the other
-pub one_is_below : (x : ℤ) (s t : Pair) → spans x s ≡ true → spans x t ≡ true → IsApart s t → (s ≡ t → ⊥) → differ (is_below_in_column x s t) (is_below_in_column x t s) ≡ true
+pub one_is_below : (x : ℤ) (s t : Pair) → spans_column x s ≡ true → spans_column x t ≡ true → IsApart s t → (s ≡ t → ⊥) → differ (is_below_in_column x s t) (is_below_in_column x t s) ≡ true
 one_is_below x s t hs ht apart other =
     rw (is_below_is x s t, is_below_is x t s)
     (low_compared (gap x s t) (gap (x +ℤ pos 1) s t) (gap x t s) (gap (x +ℤ pos 1) t s) (gap_back x t s) (gap_back (x +ℤ pos 1) t s)
@@ -228,11 +228,11 @@ module _ (x : ℤ) (s t u : Pair) (ws : s.a.x <ℤ s.b.x) (wt : t.a.x <ℤ t.b.x
   unfolding gap
   gap-trans_first p q = difference-pos _ _ (fractions-trans_lt (scaled_height s x) (scaled_height t x) (scaled_height u x) (width s) (width t) (width u) (omega (arith, ints)) (omega (arith, ints)) (omega (arith, ints)) (from_difference-pos _ _ p) (from_difference-nonneg _ _ q))
 
-pub is_below-trans : (x : ℤ) (s t u : Pair) → spans x s ≡ true → spans x t ≡ true → spans x u ≡ true → is_below_in_column x s t ≡ true → is_below_in_column x t u ≡ true → is_below_in_column x s u ≡ true
+pub is_below-trans : (x : ℤ) (s t u : Pair) → spans_column x s ≡ true → spans_column x t ≡ true → spans_column x u ≡ true → is_below_in_column x s t ≡ true → is_below_in_column x t u ≡ true → is_below_in_column x s u ≡ true
 is_below-trans x s t u hs ht hu p q =
-    let ws : s.a.x <ℤ s.b.x = (let h = spans_parts x s hs in omega (arith, ints)) in
-    let wt : t.a.x <ℤ t.b.x = (let h = spans_parts x t ht in omega (arith, ints)) in
-    let wu : u.a.x <ℤ u.b.x = (let h = spans_parts x u hu in omega (arith, ints)) in
+    let ws : s.a.x <ℤ s.b.x = (let h = spans_column_parts x s hs in omega (arith, ints)) in
+    let wt : t.a.x <ℤ t.b.x = (let h = spans_column_parts x t ht in omega (arith, ints)) in
+    let wu : u.a.x <ℤ u.b.x = (let h = spans_column_parts x u hu in omega (arith, ints)) in
     let first = low_parts (gap x s t) (gap (x +ℤ pos 1) s t) (sym (is_below_is x s t) ∙ p) in
     let second = low_parts (gap x t u) (gap (x +ℤ pos 1) t u) (sym (is_below_is x t u) ∙ q) in
     is_below_is x s u ∙ elim first.2 [

@@ -9,11 +9,11 @@ use Rattle.overlay_base.specs.Windings.{Winding, add, empty, weight}
 use Rattle.overlay_base.specs.Segments.{WholeSegment}
 use Rattle.overlay_base.specs.Balance.{IsBalanced}
 use Rattle.overlay_geometry.specs.Below.{width, height_cmp, angle_cmp}
-use Rattle.overlay_sweep.specs.ColumnWindings.{spans, side_bottom, side_top, IsSameAlong}
+use Rattle.overlay_sweep.specs.ColumnWindings.{spans_column, side_bottom, side_top, IsSameAlong}
 use Rattle.overlay_sweep.specs.ChainWindings.{neighbor_at_start, directly_below, support, top_within, top, bottom, is_live}
 use Rattle.overlay_sweep.specs.Laws.{ChainsAreColumns}
 use Rattle.overlay_geometry.proofs.laws.geometry.Points.{same_by_eq, turn_same_outer}
-use Rattle.overlay_sweep.proofs.laws.columns.ColumnLines.{spans_parts, spans-true, is_under}
+use Rattle.overlay_sweep.proofs.laws.columns.ColumnLines.{spans_column_parts, spans_column-true, is_under}
 use Rattle.overlay_sweep.proofs.laws.columns.AlongSegments.{is_same_along}
 use Rattle.overlay_sweep.proofs.laws.columns.Members.{greatest_is, greatest_none, All-from_Has, IsArranged, is_arranged}
 use Rattle.overlay_sweep.proofs.laws.live.Supports.{is_beneath, is_earlier, angle_same, angle_asymmetric, angle-trans, first_same, first_asymmetric, first-trans, below_neighbor, below_highest, wide_from_angle, earlier-trans, earlier_itself, earlier_beneath}
@@ -26,11 +26,11 @@ pub by_option : {K P : Type 0} (o : Option K) → (o ≡ None → P) → ((t : K
 by_option None f g = f refl
 by_option (Some t) f g = g t refl
 
-pub spans_live : (x : ℤ) (s : Pair) → is_live x s ≡ true → spans x s ≡ true
-spans_live x s h = let parts = and_parts (int_le s.a.x x) (int_lt x s.b.x) h in spans-true x s (le-tested _ _ parts.0) (lt-tested _ _ parts.1)
+pub spans_live : (x : ℤ) (s : Pair) → is_live x s ≡ true → spans_column x s ≡ true
+spans_live x s h = let parts = and_parts (int_le s.a.x x) (int_lt x s.b.x) h in spans_column-true x s (le-tested _ _ parts.0) (lt-tested _ _ parts.1)
 
-pub live_spans : (x : ℤ) (s : Pair) → spans x s ≡ true → is_live x s ≡ true
-live_spans x s h = let parts = spans_parts x s h in and_from _ _ (le-test _ _ parts.0) (lt-test _ _ parts.1)
+pub live_spans : (x : ℤ) (s : Pair) → spans_column x s ≡ true → is_live x s ≡ true
+live_spans x s h = let parts = spans_column_parts x s h in and_from _ _ (le-test _ _ parts.0) (lt-test _ _ parts.1)
 
 abbrev pub starts_before : WholeSegment → WholeSegment → Bool
 starts_before s t = point_eq t.pair.a s.pair.a && is_lt (angle_cmp t.pair s.pair)
@@ -39,32 +39,32 @@ abbrev pub lives_under : WholeSegment → WholeSegment → Bool
 lives_under s t = is_live s.pair.a.x t.pair && is_under s.pair.a t.pair
 
 module _ (xs : List WholeSegment) (arranged : IsArranged xs) (s : WholeSegment) (m : Has xs s) where
-  wide_here : (u : WholeSegment) → spans s.pair.a.x u.pair ≡ true → pos 0 <ℤ width u.pair
-  wide_here u h = let p = spans_parts s.pair.a.x u.pair h in omega (arith, ints)
+  wide_here : (u : WholeSegment) → spans_column s.pair.a.x u.pair ≡ true → pos 0 <ℤ width u.pair
+  wide_here u h = let p = spans_column_parts s.pair.a.x u.pair h in omega (arith, ints)
 
-  pub here_neighbor : (u : WholeSegment) → Has (filter (λ t. starts_before s t) xs) u → Has xs u × (spans s.pair.a.x u.pair ≡ true)
+  pub here_neighbor : (u : WholeSegment) → Has (filter (λ t. starts_before s t) xs) u → Has xs u × (spans_column s.pair.a.x u.pair ≡ true)
   here_neighbor u n =
       let k = Has-filter_out (λ t. starts_before s t) xs u n in
       let parts = and_parts (point_eq u.pair.a s.pair.a) _ k.1 in
       let start : u.pair.a.x ≡ s.pair.a.x = ap (λ (p : Point). p.x) (same_by_eq u.pair.a s.pair.a parts.0) in
       let wide = wide_from_angle u.pair s.pair (arranged.ordered u k.0) (arranged.ordered s m) parts.1 in
-      (k.0, spans-true s.pair.a.x u.pair (omega (arith, ints)) (omega (arith, ints)))
+      (k.0, spans_column-true s.pair.a.x u.pair (omega (arith, ints)) (omega (arith, ints)))
 
   pub neighbor_is : (t : WholeSegment) → neighbor_at_start xs s ≡ Some t → Has (filter (λ u. starts_before s u) xs) t × ((u : WholeSegment) → Has (filter (λ u. starts_before s u) xs) u → is_lt (angle_cmp t.pair u.pair) ≡ false)
   unfolding neighbor_at_start
-  neighbor_is t e = greatest_is (λ t u. angle_cmp t.pair u.pair) (λ u. Has xs u × (spans s.pair.a.x u.pair ≡ true))
+  neighbor_is t e = greatest_is (λ t u. angle_cmp t.pair u.pair) (λ u. Has xs u × (spans_column s.pair.a.x u.pair ≡ true))
       (λ u h. angle_same u.pair) (λ u v h k l. angle_asymmetric u.pair v.pair l)
       (λ u v w h k l. angle-trans u.pair v.pair w.pair (wide_here u h.1) (wide_here v k.1) (wide_here w l.1))
       (filter (λ u. starts_before s u) xs) t here_neighbor e
 
-  pub here_live : (u : WholeSegment) → Has (filter (λ t. lives_under s t) xs) u → Has xs u × (spans s.pair.a.x u.pair ≡ true)
+  pub here_live : (u : WholeSegment) → Has (filter (λ t. lives_under s t) xs) u → Has xs u × (spans_column s.pair.a.x u.pair ≡ true)
   here_live u n =
       let k = Has-filter_out (λ t. lives_under s t) xs u n in
       (k.0, spans_live s.pair.a.x u.pair (and_parts (is_live s.pair.a.x u.pair) _ k.1).0)
 
   pub directly_is : (t : WholeSegment) → directly_below xs s.pair.a ≡ Some t → Has (filter (λ u. lives_under s u) xs) t × ((u : WholeSegment) → Has (filter (λ u. lives_under s u) xs) u → is_lt (ordering_then (height_cmp s.pair.a.x t.pair u.pair) (angle_cmp t.pair u.pair)) ≡ false)
   unfolding directly_below
-  directly_is t e = greatest_is (λ t u. ordering_then (height_cmp s.pair.a.x t.pair u.pair) (angle_cmp t.pair u.pair)) (λ u. Has xs u × (spans s.pair.a.x u.pair ≡ true))
+  directly_is t e = greatest_is (λ t u. ordering_then (height_cmp s.pair.a.x t.pair u.pair) (angle_cmp t.pair u.pair)) (λ u. Has xs u × (spans_column s.pair.a.x u.pair ≡ true))
       (λ u h. first_same s.pair.a.x u.pair) (λ u v h k l. first_asymmetric s.pair.a.x u.pair v.pair l)
       (λ u v w h k l. first-trans u.pair v.pair w.pair (wide_here u h.1) (wide_here v k.1) (wide_here w l.1) s.pair.a.x)
       (filter (λ u. lives_under s u) xs) t here_live e
@@ -115,14 +115,14 @@ module _ (xs : List WholeSegment) (arranged : IsArranged xs) (s : WholeSegment) 
           ];
         }
 
-    nothing_beneath : neighbor_at_start xs s ≡ None → directly_below xs s.pair.a ≡ None → (u : WholeSegment) → Has xs u → spans s.pair.a.x u.pair ≡ true → is_beneath s.pair u.pair ≡ false
+    nothing_beneath : neighbor_at_start xs s ≡ None → directly_below xs s.pair.a ≡ None → (u : WholeSegment) → Has xs u → spans_column s.pair.a.x u.pair ≡ true → is_beneath s.pair u.pair ≡ false
     nothing_beneath e f u n h = false_from_ne_true (is_beneath s.pair u.pair) (λ q. elim (or_cases (is_under s.pair.a u.pair) _ q) [
       | inl under ↦ none_directly f u n (and_from _ _ (live_spans s.pair.a.x u.pair h) under)
       | inr before ↦ no_neighbor e u n before
     ])
 
     -- what s stands on is the highest beneath it; where it stands on nothing, nothing lies beneath
-    pub by_support : {P : Type 0} → (support xs s ≡ None → ((u : WholeSegment) → Has xs u → spans s.pair.a.x u.pair ≡ true → is_beneath s.pair u.pair ≡ false) → P) → ((t : WholeSegment) → support xs s ≡ Some t → IsHighest xs arranged balanced s t → P) → P
+    pub by_support : {P : Type 0} → (support xs s ≡ None → ((u : WholeSegment) → Has xs u → spans_column s.pair.a.x u.pair ≡ true → is_beneath s.pair u.pair ≡ false) → P) → ((t : WholeSegment) → support xs s ≡ Some t → IsHighest xs arranged balanced s t → P) → P
     unfolding support
     by_support f g = by_option (neighbor_at_start xs s)
         (λ e. by_option (directly_below xs s.pair.a) (λ d. f (rw (e, d) refl) (nothing_beneath e d)) (λ t d. g t (rw (e, d) refl) (highest_directly t e d)))

@@ -5,7 +5,7 @@ use Rattle.std.specs.List.{AllByRecursion}
 use Rattle.std.proofs.lemmas.Int.{ints}
 use Rattle.std.proofs.Math.Seq.{take-add}
 use Rattle.std.proofs.lemmas.Bool.{and_parts, both_ways, or_left}
-use Rattle.overlay_sweep.specs.ColumnWindings.{spans}
+use Rattle.overlay_sweep.specs.ColumnWindings.{spans_column}
 use Rattle.std.specs.List.{take-map, drop-map}
 use Rattle.overlay_geometry.specs.Points.{Point, Pair, turn, point_lt, pair_cmp, pair_lt}
 use Rattle.overlay_geometry.specs.Sorting.{is_strictly_sorted}
@@ -190,7 +190,7 @@ module _ (xs : List WholeSegment) (arranged : IsArranged xs) (i next : ℕ) (p :
 pub below_begins_before : (p : Point) (t : WholeSegment) (s : Pair) → s.a ≡ p → lies_below p t ≡ true → point_lt t.pair.a p ≡ true
 below_begins_before p t s e h =
     let parts = and_parts (is_live p.x t.pair) _ h in
-    let spanned = subst (λ (q : Point). spans q.x t.pair ≡ true) (sym e) (spans_live p.x t.pair parts.0) in
+    let spanned = subst (λ (q : Point). spans_column q.x t.pair ≡ true) (sym e) (spans_live p.x t.pair parts.0) in
     let under : is_under s.a t.pair ≡ true = subst (λ q. is_under q t.pair ≡ true) (sym e) parts.1 in
     elim (earlier-cases t.pair s (earlier_beneath s t.pair spanned (or_left (is_under s.a t.pair) _ under))) [
       | inl l ↦ subst (λ v. point_lt t.pair.a v ≡ true) e l

@@ -13,11 +13,11 @@ use Rattle.overlay_geometry.specs.Meeting.{are_apart}
 use Rattle.overlay_geometry.specs.Below.{height_cmp, angle_cmp}
 use Rattle.overlay_geometry.proofs.laws.geometry.Points.{same_pair_by_eq, not_same_pair}
 use Rattle.overlay_base.specs.Rules.{differ}
-use Rattle.overlay_sweep.specs.ColumnWindings.{spans, is_below_in_column}
+use Rattle.overlay_sweep.specs.ColumnWindings.{spans_column, is_below_in_column}
 use Rattle.overlay_sweep.specs.ChainWindings.{directly_below, is_live, top}
 use Rattle.overlay_sweep.specs.Live.{sum_below}
 use Rattle.overlay_sweep.specs.Live.{HoldSameFrom, AreFreeAt}
-use Rattle.overlay_sweep.proofs.laws.columns.ColumnLines.{spans_parts}
+use Rattle.overlay_sweep.proofs.laws.columns.ColumnLines.{spans_column_parts}
 use Rattle.overlay_sweep.proofs.laws.columns.ColumnOrder.{IsApart, is_apart, apart_back, one_is_below}
 use Rattle.overlay_sweep.proofs.laws.columns.Members.{greatest_is, greatest_none, sorted_all, sorted_tail, differ_when_less, IsArranged}
 use Rattle.overlay_sweep.proofs.laws.live.Supports.{below_highest, first_same, first_asymmetric, first-trans}
@@ -34,17 +34,17 @@ lies_below p t = is_live p.x t.pair && int_lt (pos 0) (turn t.pair.a t.pair.b p)
 
 -- ---- directly below, as members
 
-found_spans : (p : Point) (ys : List WholeSegment) (u : WholeSegment) → Has (filter (λ t. lies_below p t) ys) u → spans p.x u.pair ≡ true
+found_spans : (p : Point) (ys : List WholeSegment) (u : WholeSegment) → Has (filter (λ t. lies_below p t) ys) u → spans_column p.x u.pair ≡ true
 found_spans p ys u n = spans_live p.x u.pair (and_parts (is_live p.x u.pair) _ (Has-filter_out (λ t. lies_below p t) ys u n).1).0
 
-wide_by : (x : ℤ) (s : Pair) → spans x s ≡ true → pos 0 <ℤ (s.b.x -ℤ s.a.x)
-wide_by x s h = let p = spans_parts x s h in omega (arith, ints)
+wide_by : (x : ℤ) (s : Pair) → spans_column x s ≡ true → pos 0 <ℤ (s.b.x -ℤ s.a.x)
+wide_by x s h = let p = spans_column_parts x s h in omega (arith, ints)
 
 pub directly_below_is : (ys : List WholeSegment) (p : Point) (t : WholeSegment) → directly_below ys p ≡ Some t →
     Has ys t × (lies_below p t ≡ true) × ((u : WholeSegment) → Has ys u → lies_below p u ≡ true → first_cmp p.x t u ≡ false)
 unfolding directly_below
 directly_below_is ys p t e =
-    let k = greatest_is (λ t u. ordering_then (height_cmp p.x t.pair u.pair) (angle_cmp t.pair u.pair)) (λ u. spans p.x u.pair ≡ true)
+    let k = greatest_is (λ t u. ordering_then (height_cmp p.x t.pair u.pair) (angle_cmp t.pair u.pair)) (λ u. spans_column p.x u.pair ≡ true)
     (λ u h. first_same p.x u.pair) (λ u v h k l. first_asymmetric p.x u.pair v.pair l)
     (λ u v w h k l. first-trans u.pair v.pair w.pair (wide_by p.x u.pair h) (wide_by p.x v.pair k) (wide_by p.x w.pair l) p.x)
     (filter (λ u. lies_below p u) ys) t (found_spans p ys) e in
@@ -62,7 +62,7 @@ differ_both true true h e f = both_ways false refl h
 differ_both true false h e f = both_ways false refl f
 differ_both false b h e f = both_ways false refl e
 
-pub same_if_level : (x : ℤ) (s t : Pair) → spans x s ≡ true → spans x t ≡ true → IsApart s t →
+pub same_if_level : (x : ℤ) (s t : Pair) → spans_column x s ≡ true → spans_column x t ≡ true → IsApart s t →
     is_lt (ordering_then (height_cmp x s t) (angle_cmp s t)) ≡ false → is_lt (ordering_then (height_cmp x t s) (angle_cmp t s)) ≡ false → s ≡ t
 same_if_level x s t hs ht apart n m = elim (cases_Bool (pair_eq s t)) [
   | inl e ↦ same_pair_by_eq s t e

@@ -9,7 +9,7 @@ use Rattle.overlay_geometry.specs.Points.{Point, Pair, pair_eq, is_vertical}
 use Rattle.overlay_base.specs.Windings.{Winding, add, weight, empty}
 use Rattle.overlay_base.specs.Segments.{WholeSegment, total_weight}
 use Rattle.overlay_base.specs.Balance.{IsBalanced}
-use Rattle.overlay_sweep.specs.ColumnWindings.{spans, is_below_in_column, column_bottom, column_top, weights_up_to, right_winding, left_winding, side_bottom, side_top}
+use Rattle.overlay_sweep.specs.ColumnWindings.{spans_column, is_below_in_column, column_bottom, column_top, weights_up_to, right_winding, left_winding, side_bottom, side_top}
 use Rattle.overlay_geometry.proofs.laws.geometry.Points.{same_point, same_pair, same_pair_by_eq, pair_eq_same, from_not_same_pair, inside_from_order}
 use Rattle.overlay_sweep.proofs.laws.columns.WeightSums.{when, sum_of, sum_of-add}
 use Rattle.overlay_sweep.proofs.laws.columns.ColumnLines.{point_lt-cases, is_up_to, lies_up_to, leaves_upward, column_weights, column_weights_are, filter_weights_are, across_up_to}
@@ -34,9 +34,9 @@ when_spans true l m z h = rw (h refl) refl
 when_spans false l m z h = refl
 
 -- two tests that agree on a column choose the same weights
-pub column_weights-same : (low high : Pair → Bool) (xs : List WholeSegment) (c : ℤ) → ((u : WholeSegment) → Has xs u → spans c u.pair ≡ true → low u.pair ≡ high u.pair) → column_weights low xs c ≡ column_weights high xs c
+pub column_weights-same : (low high : Pair → Bool) (xs : List WholeSegment) (c : ℤ) → ((u : WholeSegment) → Has xs u → spans_column c u.pair ≡ true → low u.pair ≡ high u.pair) → column_weights low xs c ≡ column_weights high xs c
 column_weights-same low high xs c h =
-    let same = λ (w : WholeSegment → ℤ). sum_of-same_in (λ u. when (spans c u.pair && low u.pair) (w u)) (λ u. when (spans c u.pair && high u.pair) (w u)) xs (λ u m. when_spans (spans c u.pair) (low u.pair) (high u.pair) (w u) (h u m)) in
+    let same = λ (w : WholeSegment → ℤ). sum_of-same_in (λ u. when (spans_column c u.pair && low u.pair) (w u)) (λ u. when (spans_column c u.pair && high u.pair) (w u)) xs (λ u m. when_spans (spans_column c u.pair) (low u.pair) (high u.pair) (w u) (h u m)) in
     rw (column_weights_are low xs c, column_weights_are high xs c) (λ i. record { subj = same (λ u. u.count.subj) i; clip = same (λ u. u.count.clip) i; mask = 0 })
 
 not_spanned : (s : Pair) → s.a.x <ℤ s.b.x → is_vertical s ≡ false
@@ -136,9 +136,9 @@ module _ (xs : List WholeSegment) (arranged : IsArranged xs) (balanced : IsBalan
   -- of what lies beneath s, t is the highest
   pub record IsHighest (s t : WholeSegment) : Type 0 where
     pub found : Has xs t
-    pub live : spans s.pair.a.x t.pair ≡ true
+    pub live : spans_column s.pair.a.x t.pair ≡ true
     pub beneath : is_beneath s.pair t.pair ≡ true
-    pub highest : (u : WholeSegment) → Has xs u → spans s.pair.a.x u.pair ≡ true → is_beneath s.pair u.pair ≡ true → (t.pair ≡ u.pair → ⊥) → is_below_in_column s.pair.a.x u.pair t.pair ≡ true
+    pub highest : (u : WholeSegment) → Has xs u → spans_column s.pair.a.x u.pair ≡ true → is_beneath s.pair u.pair ≡ true → (t.pair ≡ u.pair → ⊥) → is_below_in_column s.pair.a.x u.pair t.pair ≡ true
 
   one_apart : (q l r k : Bool) (z : ℤ) → (q ≡ true → (l ≡ true) × (r ≡ true) × (k ≡ false)) → (q ≡ false → l ≡ true → r ≡ k) → when (l && r) z ≡ when (l && k) z +ℤ when q z
   one_apart true l r k z f g = let p = f refl in rw (p.0, p.1, p.2) (omega (arith, ints))
@@ -146,23 +146,23 @@ module _ (xs : List WholeSegment) (arranged : IsArranged xs) (balanced : IsBalan
   one_apart false false r k z f g = refl
 
   module _ (s t : WholeSegment) (m : Has xs s) (top : IsHighest s t) where
-    alike : (u : WholeSegment) → Has xs u → spans s.pair.a.x u.pair ≡ true → (t.pair ≡ u.pair → ⊥) → is_beneath s.pair u.pair ≡ is_below_in_column s.pair.a.x u.pair t.pair
+    alike : (u : WholeSegment) → Has xs u → spans_column s.pair.a.x u.pair ≡ true → (t.pair ≡ u.pair → ⊥) → is_beneath s.pair u.pair ≡ is_below_in_column s.pair.a.x u.pair t.pair
     alike u n h other = elim (cases_Bool (is_beneath s.pair u.pair)) [
       | inl e ↦ e ∙ sym (top.highest u n h e other)
       | inr e ↦ e ∙ sym (false_from_ne_true _ (λ k. both_ways _ e (beneath-below s.pair t.pair u.pair (sort_of s m) top.live h (apart_in s t m top.found) (apart_in s u m n) top.beneath k)))
     ]
 
-    split_at : (w : WholeSegment → ℤ) (u : WholeSegment) → Has xs u → when (spans s.pair.a.x u.pair && is_beneath s.pair u.pair) (w u) ≡ when (spans s.pair.a.x u.pair && is_below_in_column s.pair.a.x u.pair t.pair) (w u) +ℤ when (pair_eq u.pair t.pair) (w u)
-    split_at w u n = one_apart (pair_eq u.pair t.pair) (spans s.pair.a.x u.pair) (is_beneath s.pair u.pair) (is_below_in_column s.pair.a.x u.pair t.pair) (w u)
-        (λ e. let q = same_pair_by_eq u.pair t.pair e in (ap (spans s.pair.a.x) q ∙ top.live, ap (is_beneath s.pair) q ∙ top.beneath, ap (λ (p : Pair). is_below_in_column s.pair.a.x p t.pair) q ∙ below_itself s.pair.a.x t.pair))
+    split_at : (w : WholeSegment → ℤ) (u : WholeSegment) → Has xs u → when (spans_column s.pair.a.x u.pair && is_beneath s.pair u.pair) (w u) ≡ when (spans_column s.pair.a.x u.pair && is_below_in_column s.pair.a.x u.pair t.pair) (w u) +ℤ when (pair_eq u.pair t.pair) (w u)
+    split_at w u n = one_apart (pair_eq u.pair t.pair) (spans_column s.pair.a.x u.pair) (is_beneath s.pair u.pair) (is_below_in_column s.pair.a.x u.pair t.pair) (w u)
+        (λ e. let q = same_pair_by_eq u.pair t.pair e in (ap (spans_column s.pair.a.x) q ∙ top.live, ap (is_beneath s.pair) q ∙ top.beneath, ap (λ (p : Pair). is_below_in_column s.pair.a.x p t.pair) q ∙ below_itself s.pair.a.x t.pair))
         (λ e h. alike u n h (λ q. both_ways _ e (ap (λ (p : Pair). pair_eq p t.pair) (sym q) ∙ pair_eq_same t.pair)))
 
-    support_sum : (w : WholeSegment → ℤ) → sum_of (λ u. when (spans s.pair.a.x u.pair && is_beneath s.pair u.pair) (w u)) xs ≡ sum_of (λ u. when (spans s.pair.a.x u.pair && is_below_in_column s.pair.a.x u.pair t.pair) (w u)) xs +ℤ w t
+    support_sum : (w : WholeSegment → ℤ) → sum_of (λ u. when (spans_column s.pair.a.x u.pair && is_beneath s.pair u.pair) (w u)) xs ≡ sum_of (λ u. when (spans_column s.pair.a.x u.pair && is_below_in_column s.pair.a.x u.pair t.pair) (w u)) xs +ℤ w t
     support_sum w =
-        let split = sum_of-same_in _ (λ u. when (spans s.pair.a.x u.pair && is_below_in_column s.pair.a.x u.pair t.pair) (w u) +ℤ when (pair_eq u.pair t.pair) (w u)) xs (λ u n. split_at w u n) in
-        let sum = sum_of-add (λ u. when (spans s.pair.a.x u.pair && is_below_in_column s.pair.a.x u.pair t.pair) (w u) +ℤ when (pair_eq u.pair t.pair) (w u)) (λ u. when (spans s.pair.a.x u.pair && is_below_in_column s.pair.a.x u.pair t.pair) (w u)) (λ u. when (pair_eq u.pair t.pair) (w u)) xs (λ u. refl) in
+        let split = sum_of-same_in _ (λ u. when (spans_column s.pair.a.x u.pair && is_below_in_column s.pair.a.x u.pair t.pair) (w u) +ℤ when (pair_eq u.pair t.pair) (w u)) xs (λ u n. split_at w u n) in
+        let sum = sum_of-add (λ u. when (spans_column s.pair.a.x u.pair && is_below_in_column s.pair.a.x u.pair t.pair) (w u) +ℤ when (pair_eq u.pair t.pair) (w u)) (λ u. when (spans_column s.pair.a.x u.pair && is_below_in_column s.pair.a.x u.pair t.pair) (w u)) (λ u. when (pair_eq u.pair t.pair) (w u)) xs (λ u. refl) in
         let one = single_sum w t xs arranged.sorted top.found in
-        split ∙ sum ∙ ap (λ (z : ℤ). sum_of (λ u. when (spans s.pair.a.x u.pair && is_below_in_column s.pair.a.x u.pair t.pair) (w u)) xs +ℤ z) one
+        split ∙ sum ∙ ap (λ (z : ℤ). sum_of (λ u. when (spans_column s.pair.a.x u.pair && is_below_in_column s.pair.a.x u.pair t.pair) (w u)) xs +ℤ z) one
 
     column_top_is : column_weights (λ u. is_beneath s.pair u) xs s.pair.a.x ≡ column_top xs s.pair.a.x t
     unfolding column_top column_bottom
@@ -175,7 +175,7 @@ module _ (xs : List WholeSegment) (arranged : IsArranged xs) (balanced : IsBalan
     bottom_is_top = side_bottom_is s m ∙ column_top_is ∙ (is_same_along xs t (arranged.free t top.found) balanced).above s.pair.a.x top.live
 
   -- where nothing lies beneath s its bottom is empty
-  pub bottom_is_empty : (s : WholeSegment) → Has xs s → ((u : WholeSegment) → Has xs u → spans s.pair.a.x u.pair ≡ true → is_beneath s.pair u.pair ≡ false) → side_bottom xs s ≡ empty
+  pub bottom_is_empty : (s : WholeSegment) → Has xs s → ((u : WholeSegment) → Has xs u → spans_column s.pair.a.x u.pair ≡ true → is_beneath s.pair u.pair ≡ false) → side_bottom xs s ≡ empty
   bottom_is_empty s m none =
-      let zero = λ (w : WholeSegment → ℤ). sum_of-zero_in (λ u. when (spans s.pair.a.x u.pair && is_beneath s.pair u.pair) (w u)) xs (λ u n. nothing (spans s.pair.a.x u.pair) (is_beneath s.pair u.pair) (w u) (none u n)) in
+      let zero = λ (w : WholeSegment → ℤ). sum_of-zero_in (λ u. when (spans_column s.pair.a.x u.pair && is_beneath s.pair u.pair) (w u)) xs (λ u n. nothing (spans_column s.pair.a.x u.pair) (is_beneath s.pair u.pair) (w u) (none u n)) in
       side_bottom_is s m ∙ column_weights_are (λ u. is_beneath s.pair u) xs s.pair.a.x ∙ (λ i. record { subj = zero (λ u. u.count.subj) i; clip = zero (λ u. u.count.clip) i; mask = 0 })

@@ -8,11 +8,11 @@ use Rattle.std.proofs.lemmas.Int.{ints, by_lt_z}
 use Rattle.std.proofs.lemmas.Bool.{and_parts, and_from, and_left, and_right, or_left, or_right, or_from, or_cases, both_ways, cases_Bool}
 use Rattle.overlay_geometry.specs.Points.{Point, Pair, turn, point_eq, point_lt, is_ordered}
 use Rattle.overlay_geometry.specs.Below.{width, scaled_height, height_cmp, angle_cmp}
-use Rattle.overlay_sweep.specs.ColumnWindings.{spans, is_below_in_column}
+use Rattle.overlay_sweep.specs.ColumnWindings.{spans_column, is_below_in_column}
 use Rattle.overlay_base.specs.Rules.{differ}
 use Rattle.overlay_geometry.proofs.laws.geometry.Polynomials.{as_D, diffs, D-eq, mul-pos, mul-neg, mul-nonneg, cancel-pos, cancel-neg, cancel-nonpos, cancel-nonneg, mul-nonpos}
 use Rattle.overlay_geometry.proofs.laws.geometry.Points.{same_point, same_by_eq, point_eq_same, from_not_same, at_a, inside_from_order, turn_same_outer, from_before, point_lt-trans, point_lt-irreflexive}
-use Rattle.overlay_sweep.proofs.laws.columns.ColumnLines.{spans_parts, spans-true, point_lt-cases, turn_over_start, is_under, is_up_to}
+use Rattle.overlay_sweep.proofs.laws.columns.ColumnLines.{spans_column_parts, spans_column-true, point_lt-cases, turn_over_start, is_under, is_up_to}
 use Rattle.overlay_sweep.proofs.laws.columns.Heights.{gap, slope, gap_back, gap_same, gap_at_other_start, is_below_is, is_lt-cmp, is_lt-height_cmp, is_le-height_cmp}
 use Rattle.overlay_sweep.proofs.laws.columns.ColumnOrder.{IsApart, apart_back, gap_step, crosses_in_column, is_low, low-left, low-right, low-first, low-level, low-second, low_parts, one_is_below, is_below-trans}
 use Rattle.overlay_sweep.proofs.laws.columns.AlongSegments.{slope_back}
@@ -73,9 +73,9 @@ not_beneath s u h =
     or_from _ _ (lt-test_false (pos 0) (turn u.a u.b s.a) (omega (arith, ints)))
     (and_left _ _ (from_not_same u.a s.a (λ e. let z = turn_same_outer u.a u.b in let k : turn u.a u.b u.a <ℤ pos 0 = ap_turn u s e h in omega (arith, ints))))
 
-module _ (s u : Pair) (hu : spans s.a.x u ≡ true) (apart : IsApart s u) where
+module _ (s u : Pair) (hu : spans_column s.a.x u ≡ true) (apart : IsApart s u) where
   u_parts : (u.a.x ≤ℤ s.a.x) × (s.a.x <ℤ u.b.x)
-  u_parts = spans_parts s.a.x u hu
+  u_parts = spans_column_parts s.a.x u hu
 
   -- what runs through the start of s starts there
   pub shares_start : turn u.a u.b s.a ≡ pos 0 → u.a ≡ s.a
@@ -96,7 +96,7 @@ module _ (s u : Pair) (hu : spans s.a.x u ≡ true) (apart : IsApart s u) where
   below_is_beneath ws =
       let p = u_parts in
       let wide : pos 0 <ℤ width s = omega (arith, ints) in
-      let hs : spans s.a.x s ≡ true = spans-true s.a.x s (omega (arith, ints)) ws in
+      let hs : spans_column s.a.x s ≡ true = spans_column-true s.a.x s (omega (arith, ints)) ws in
       let g = gap_at_other_start u s in
       is_below_is s.a.x u s ∙
       by_sign (turn u.a u.b s.a)
@@ -153,14 +153,14 @@ up_to_below p u t wu wt h k =
     let m = mean_up (width t) (width (level_at p)) (width u) (gap p.x u (level_at p)) (gap p.x u t) (gap p.x t (level_at p)) wt one wu (gap_mean p.x u t (level_at p)) h (omega (arith, ints)) in
     omega (arith, ints)
 
-pub beneath-below : (s t u : Pair) → (s.a.x <ℤ s.b.x) ⊎ ((s.a.x ≡ s.b.x) × (s.a.y <ℤ s.b.y)) → spans s.a.x t ≡ true → spans s.a.x u ≡ true → IsApart s t → IsApart s u →
+pub beneath-below : (s t u : Pair) → (s.a.x <ℤ s.b.x) ⊎ ((s.a.x ≡ s.b.x) × (s.a.y <ℤ s.b.y)) → spans_column s.a.x t ≡ true → spans_column s.a.x u ≡ true → IsApart s t → IsApart s u →
     is_beneath s t ≡ true → is_below_in_column s.a.x u t ≡ true → is_beneath s u ≡ true
 beneath-below s t u (inl ws) ht hu at au q h =
-    sym (below_is_beneath s u hu au ws) ∙ is_below-trans s.a.x u t s hu ht (spans-true s.a.x s (omega (arith, ints)) ws) h (below_is_beneath s t ht at ws ∙ q)
+    sym (below_is_beneath s u hu au ws) ∙ is_below-trans s.a.x u t s hu ht (spans_column-true s.a.x s (omega (arith, ints)) ws) h (below_is_beneath s t ht at ws ∙ q)
 beneath-below s t u (inr up) ht hu at au q h =
     let low = low_parts (gap s.a.x u t) (gap (s.a.x +ℤ pos 1) u t) (sym (is_below_is s.a.x u t) ∙ h) in
-    let tp = spans_parts s.a.x t ht in
-    let wp = spans_parts s.a.x u hu in
+    let tp = spans_column_parts s.a.x t ht in
+    let wp = spans_column_parts s.a.x u hu in
     let k = le-tested (pos 0) (turn t.a t.b s.a) (up_to_is_beneath s t ht at up.0 up.1 ∙ q) in
     sym (up_to_is_beneath s u hu au up.0 up.1) ∙ le-test (pos 0) (turn u.a u.b s.a) (up_to_below s.a u t (omega (arith, ints)) (omega (arith, ints)) low.0 k)
 
@@ -171,23 +171,23 @@ not_both true b e f = refl
 not_both false b e f = absurd (both_ways b f e)
 
 -- t shares the start of s, and no segment between t and s by angle does
-pub below_neighbor : (s t u : Pair) → spans s.a.x t ≡ true → spans s.a.x u ≡ true → IsApart t u → (t ≡ u → ⊥) → t.a ≡ s.a → is_beneath s u ≡ true →
+pub below_neighbor : (s t u : Pair) → spans_column s.a.x t ≡ true → spans_column s.a.x u ≡ true → IsApart t u → (t ≡ u → ⊥) → t.a ≡ s.a → is_beneath s u ≡ true →
     (u.a ≡ s.a → is_lt (angle_cmp t u) ≡ false) → is_below_in_column s.a.x u t ≡ true
 below_neighbor s t u ht hu atu other same q none =
-    let tp = spans_parts s.a.x t ht in
+    let tp = spans_column_parts s.a.x t ht in
     let x : t.a.x ≡ s.a.x = ap (λ (p : Point). p.x) same in
     elim (or_cases (is_under s.a u) _ q) [
       | inl h ↦
           (let under : is_under t.a u ≡ true = ap (λ (p : Point). is_under p u) same ∙ h in
-          ap (λ (z : ℤ). is_below_in_column z u t) (sym x) ∙ below_is_beneath t u (ap (λ (z : ℤ). spans z u) x ∙ hu) atu (omega (arith, ints)) ∙ or_left _ _ under)
+          ap (λ (z : ℤ). is_below_in_column z u t) (sym x) ∙ below_is_beneath t u (ap (λ (z : ℤ). spans_column z u) x ∙ hu) atu (omega (arith, ints)) ∙ or_left _ _ under)
       | inr h ↦
           (let ua : u.a ≡ s.a = same_by_eq u.a s.a (and_parts (point_eq u.a s.a) _ h).0 in
-          let wu = spans_parts s.a.x u hu in
+          let wu = spans_column_parts s.a.x u hu in
           let y : u.a.x ≡ s.a.x = ap (λ (p : Point). p.x) ua in
           let on : turn t.a t.b u.a ≡ pos 0 = ap (turn t.a t.b) (ua ∙ sym same) ∙ turn_same_outer t.a t.b in
           let not_under : is_under u.a t ≡ false = lt-test_false (pos 0) (turn t.a t.b u.a) (omega (arith, ints)) in
           let not_there : is_beneath u t ≡ false = or_from _ _ not_under (and_right _ _ (none ua)) in
-          let above : is_below_in_column s.a.x t u ≡ false = ap (λ (z : ℤ). is_below_in_column z t u) (sym y) ∙ below_is_beneath u t (ap (λ (z : ℤ). spans z t) y ∙ ht) (apart_back t u atu) (omega (arith, ints)) ∙ not_there in
+          let above : is_below_in_column s.a.x t u ≡ false = ap (λ (z : ℤ). is_below_in_column z t u) (sym y) ∙ below_is_beneath u t (ap (λ (z : ℤ). spans_column z t) y ∙ ht) (apart_back t u atu) (omega (arith, ints)) ∙ not_there in
           not_both _ _ (one_is_below s.a.x u t hu ht (apart_back t u atu) (λ e. other (sym e))) above)
     ]
 
@@ -222,7 +222,7 @@ not_low g k v (inl h) e = low-left g v h
 not_low g k v (inr h) e = let a = h.0 in let b = h.1 in by_sign v (λ (down : v <ℤ pos 0). low-right g v down) (λ (zero : v ≡ pos 0). low-level g v a zero) (λ (up : pos 0 <ℤ v). absurd (omega (arith, ints)))
 
 -- t is the highest of those strictly under the start of s
-pub below_highest : (x : ℤ) (t u : Pair) → spans x t ≡ true → spans x u ≡ true → IsApart t u → (t ≡ u → ⊥) → is_lt (ordering_then (height_cmp x t u) (angle_cmp t u)) ≡ false → is_below_in_column x u t ≡ true
+pub below_highest : (x : ℤ) (t u : Pair) → spans_column x t ≡ true → spans_column x u ≡ true → IsApart t u → (t ≡ u → ⊥) → is_lt (ordering_then (height_cmp x t u) (angle_cmp t u)) ≡ false → is_below_in_column x u t ≡ true
 below_highest x t u ht hu atu other last =
     let f = not_first (gap x t u) (slope t u) (sym (first_is x t u) ∙ last) in
     let above : is_below_in_column x t u ≡ false = is_below_is x t u ∙ not_low (gap x t u) (slope t u) (gap (x +ℤ pos 1) t u) f (gap_step x t u) in
@@ -366,9 +366,9 @@ above_zero : (w m g : ℤ) → pos 0 <ℤ w → g ≡ w *ℤ m → pos 0 <ℤ g 
 above_zero w m g h e p = cancel-pos w m h (omega (arith, ints))
 
 -- what is beneath s began earlier
-pub earlier_beneath : (s u : Pair) → spans s.a.x u ≡ true → is_beneath s u ≡ true → is_earlier u s ≡ true
+pub earlier_beneath : (s u : Pair) → spans_column s.a.x u ≡ true → is_beneath s u ≡ true → is_earlier u s ≡ true
 earlier_beneath s u hu h =
-    let p = spans_parts s.a.x u hu in
+    let p = spans_column_parts s.a.x u hu in
     elim (or_cases (is_under s.a u) _ h) [
       | inl e ↦ or_left _ _ (by_lt_z u.a.x s.a.x
           (λ (l : u.a.x <ℤ s.a.x). from_before u.a s.a (inl l))

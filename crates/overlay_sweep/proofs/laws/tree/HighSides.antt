@@ -3,7 +3,7 @@ use Rattle.std.proofs.Common.{◌≡◌, ◌≢◌, ap, ap₂, refl, sym, subst,
 use Rattle.std.specs.Prelude.{ℕ, ◌+◌, ◌<◌, ◌≤◌, ◌⊎◌, max, List, [], ◌∷◌, ◌++◌, length, slice_set}
 use Rattle.std.proofs.lemmas.List.{get_or_read}
 use Rattle.overlay_sweep.specs.declared.build.tree_shape.TreeNode.{TreeNode}
-use Rattle.overlay_sweep.specs.TreeShapes.{none, Tree, fork, in_order, height, IsBalanced, IsDistinct, node_at, height_at, parent_of, MayHaveSides, Stands, KeepsOthers, AreJoinable, IsJoined}
+use Rattle.overlay_sweep.specs.TreeShapes.{none, Tree, fork, in_order, height, IsHeightBalanced, IsDistinct, node_at, subtree_height, parent_of, MayHaveSides, Stands, KeepsOthers, AreJoinable, IsJoined}
 use Rattle.overlay_sweep.proofs.laws.tree.TreeNodes.{height_is, ready}
 use Rattle.overlay_sweep.proofs.laws.tree.TreeTurns.{right_inner, left_kept, turned_right, turned_right_keeps, left_inner, right_kept, turned_left, turned_left_keeps, third_kept, fourth_kept, q_within, at_q, p_kept, m_within, at_m, three_keep, set_within, Forked, forked, tree_forked, high_is_some, tree_height, tree_within}
 
@@ -12,7 +12,7 @@ assoc [] ys zs = refl
 assoc (x ∷ xs) ys zs = ap (λ l. x ∷ l) (assoc xs ys zs)
 
 -- where one is too high, the join is not an exact one
-joined : (old new : List TreeNode) (at : ℕ) (order : List ℕ) (left right : ℕ) (t : Tree) → Stands new t at → IsBalanced t → in_order t ≡ order → KeepsOthers order old new →
+joined : (old new : List TreeNode) (at : ℕ) (order : List ℕ) (left right : ℕ) (t : Tree) → Stands new t at → IsHeightBalanced t → in_order t ≡ order → KeepsOthers order old new →
     left ≤ height t → right ≤ height t → ((height t ≤ 1 + left) ⊎ (height t ≤ 1 + right)) → (left ≤ right + 1 → right ≤ left + 1 → ⊥) → IsJoined old new at order left right
 joined old new at order left right t s b o k l r m n = record {
   high = height t;
@@ -24,7 +24,7 @@ joined old new at order left right t s b o k l r m n = record {
   exact = λ h k. absurd (n h k);
 }
 
-module _ (nodes : List TreeNode) (left at right : ℕ) (j : AreJoinable nodes left at right) (high : height_at nodes left ≡ 2 + height_at nodes right) where
+module _ (nodes : List TreeNode) (left at right : ℕ) (j : AreJoinable nodes left at right) (high : subtree_height nodes left ≡ 2 + subtree_height nodes right) where
   left_two : j.left_height ≡ 2 + j.right_height
   left_two = sym (tree_height nodes left j.before j.left_height j.left_tree) ∙ high ∙ ap (λ z. 2 + z) (tree_height nodes right j.after j.right_height j.right_tree)
 
@@ -52,14 +52,14 @@ module _ (nodes : List TreeNode) (left at right : ℕ) (j : AreJoinable nodes le
     is : top ≡ node_at nodes left
     is = get_or_read nodes left top left_within read (record { left = 0; right = 0; height = 0 })
 
-    left_is : height_at nodes top.left ≡ height opened_left.left
+    left_is : subtree_height nodes top.left ≡ height opened_left.left
     left_is = rw is (height_is nodes opened_left.left (node_at nodes left).left opened_left.left_stands)
 
-    right_is : height_at nodes top.right ≡ height opened_left.right
+    right_is : subtree_height nodes top.right ≡ height opened_left.right
     right_is = rw is (height_is nodes opened_left.right (node_at nodes left).right opened_left.right_stands)
 
     -- turned once
-    module _ (low : height_at nodes top.right ≤ height_at nodes top.left) where
+    module _ (low : subtree_height nodes top.right ≤ subtree_height nodes top.left) where
       left_low : height opened_left.right ≤ height opened_left.left
       left_low = omega (arith, low, left_is, right_is)
 
@@ -93,7 +93,7 @@ module _ (nodes : List TreeNode) (left at right : ℕ) (j : AreJoinable nodes le
             (λ h k. omega (arith, left_two, h)))
 
     -- turned twice
-    module _ (low : height_at nodes top.left < height_at nodes top.right) where
+    module _ (low : subtree_height nodes top.left < subtree_height nodes top.right) where
       left_less : height opened_left.left < height opened_left.right
       left_less = omega (arith, low, left_is, right_is)
 
@@ -164,7 +164,7 @@ module _ (nodes : List TreeNode) (left at right : ℕ) (j : AreJoinable nodes le
 
 -- ---- the right one is too high
 
-module _ (nodes : List TreeNode) (left at right : ℕ) (j : AreJoinable nodes left at right) (high : height_at nodes right ≡ 2 + height_at nodes left) where
+module _ (nodes : List TreeNode) (left at right : ℕ) (j : AreJoinable nodes left at right) (high : subtree_height nodes right ≡ 2 + subtree_height nodes left) where
   right_two : j.right_height ≡ 2 + j.left_height
   right_two = sym (tree_height nodes right j.after j.right_height j.right_tree) ∙ high ∙ ap (λ z. 2 + z) (tree_height nodes left j.before j.left_height j.left_tree)
 
@@ -192,14 +192,14 @@ module _ (nodes : List TreeNode) (left at right : ℕ) (j : AreJoinable nodes le
     right_top_is : top ≡ node_at nodes right
     right_top_is = get_or_read nodes right top right_within read (record { left = 0; right = 0; height = 0 })
 
-    right_left_is : height_at nodes top.left ≡ height opened_right.left
+    right_left_is : subtree_height nodes top.left ≡ height opened_right.left
     right_left_is = rw right_top_is (height_is nodes opened_right.left (node_at nodes right).left opened_right.left_stands)
 
-    right_right_is : height_at nodes top.right ≡ height opened_right.right
+    right_right_is : subtree_height nodes top.right ≡ height opened_right.right
     right_right_is = rw right_top_is (height_is nodes opened_right.right (node_at nodes right).right opened_right.right_stands)
 
     -- turned once
-    module _ (low : height_at nodes top.left ≤ height_at nodes top.right) where
+    module _ (low : subtree_height nodes top.left ≤ subtree_height nodes top.right) where
       right_low : height opened_right.left ≤ height opened_right.right
       right_low = omega (arith, low, right_left_is, right_right_is)
 
@@ -233,7 +233,7 @@ module _ (nodes : List TreeNode) (left at right : ℕ) (j : AreJoinable nodes le
             (λ h k. omega (arith, right_two, k)))
 
     -- turned twice
-    module _ (low : height_at nodes top.right < height_at nodes top.left) where
+    module _ (low : subtree_height nodes top.right < subtree_height nodes top.left) where
       right_less : height opened_right.right < height opened_right.left
       right_less = omega (arith, low, right_left_is, right_right_is)
 

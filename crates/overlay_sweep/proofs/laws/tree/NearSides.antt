@@ -3,12 +3,12 @@ use Rattle.std.proofs.Common.{◌≡◌, ap, ap₂, refl, sym, subst, ◌∙◌,
 use Rattle.std.proofs.lemmas.List.{set-get_or}
 use Rattle.std.specs.Prelude.{ℕ, ◌+◌, ◌^◌, ◌<◌, ◌≤◌, ◌⊎◌, max, List, [], ◌∷◌, ◌++◌, slice_set}
 use Rattle.overlay_sweep.specs.declared.build.tree_shape.TreeNode.{TreeNode}
-use Rattle.overlay_sweep.specs.TreeShapes.{fork, in_order, height, IsDistinct, height_at, parent_of, MayHaveSides, AreJoinable, IsJoined, IsParent}
+use Rattle.overlay_sweep.specs.TreeShapes.{fork, in_order, height, IsDistinct, subtree_height, parent_of, MayHaveSides, AreJoinable, IsJoined, IsParent}
 use Rattle.overlay_sweep.proofs.laws.tree.TreeNodes.{Apart, apart, ready, Stands-fork, KeepsOthers-set, KeepsOthers-wider, Has-right}
 use Rattle.overlay_sweep.proofs.laws.tree.TreeTurns.{tree_height}
 
 module _ (nodes : List TreeNode) (left at right : ℕ) (j : AreJoinable nodes left at right) where
-  module _ (h k : ℕ) (hs : h ≡ height_at nodes left) (ks : k ≡ height_at nodes right) where
+  module _ (h k : ℕ) (hs : h ≡ subtree_height nodes left) (ks : k ≡ subtree_height nodes right) where
     left_known : h ≡ j.left_height
     left_known = hs ∙ tree_height nodes left j.before j.left_height j.left_tree
 
@@ -21,10 +21,10 @@ module _ (nodes : List TreeNode) (left at right : ℕ) (j : AreJoinable nodes le
     pub right_fits : k + 1 < 2 ^ 64
     right_fits = omega (arith, right_known, j.right_low)
 
-    pub left_too_high : k + 1 < h → height_at nodes left ≡ 2 + height_at nodes right
+    pub left_too_high : k + 1 < h → subtree_height nodes left ≡ 2 + subtree_height nodes right
     left_too_high l = omega (arith, l, hs, ks, left_known, right_known, j.left_near)
 
-    pub right_too_high : h + 1 < k → height_at nodes right ≡ 2 + height_at nodes left
+    pub right_too_high : h + 1 < k → subtree_height nodes right ≡ 2 + subtree_height nodes left
     right_too_high l = omega (arith, l, hs, ks, left_known, right_known, j.right_near)
 
     pub near_ready : MayHaveSides nodes at left right
@@ -68,5 +68,5 @@ module _ (nodes : List TreeNode) (left at right : ℕ) (j : AreJoinable nodes le
 -- where the node is the parent of both already
 pub parent_joined : (nodes : List TreeNode) (left at right : ℕ) (j : AreJoinable nodes left at right) → IsParent nodes left at right → IsJoined nodes nodes at (j.before ++ at ∷ j.after) j.left_height j.right_height
 parent_joined nodes left at right j p =
-    near_joined nodes left at right j (height_at nodes left) (height_at nodes right) refl refl p.left_near p.right_near nodes
+    near_joined nodes left at right j (subtree_height nodes left) (subtree_height nodes right) refl refl p.left_near p.right_near nodes
     (sym (set-get_or nodes at (record { left = 0; right = 0; height = 0 })) ∙ ap (λ (n : TreeNode). slice_set nodes at n) p.node_is)

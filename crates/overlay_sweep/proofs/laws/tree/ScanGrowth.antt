@@ -8,7 +8,7 @@ use Rattle.overlay_base.specs.Segments.{WholeSegment}
 use Rattle.overlay_sweep.specs.ChainWindings.{is_live}
 use Rattle.overlay_sweep.specs.Live.{AreFreeAt}
 use Rattle.overlay_sweep.specs.declared.build.tree_shape.TreeNode.{TreeNode}
-use Rattle.overlay_sweep.specs.TreeShapes.{Has, none, Tree, leaf, fork, node_at, height_at, IsDistinct, Stands, IsTree, IsStopped, IsPlaced}
+use Rattle.overlay_sweep.specs.TreeShapes.{Has, none, Tree, leaf, fork, node_at, subtree_height, IsDistinct, Stands, IsTree, IsStopped, IsPlaced}
 use Rattle.overlay_sweep.specs.ScanTrees.{segment_at, lasts_past, is_live_at, IsFromBelow, IsScanTree, IsGrowing, IsGrown}
 use Rattle.overlay_sweep.proofs.laws.live.LiveSums.{begins_later, HoldSameFrom-push, AreFreeAt-same}
 use Rattle.overlay_sweep.proofs.laws.columns.Members.{All-from_Has}
@@ -138,7 +138,7 @@ pub asked_last : (before after high d was kept : ℕ) → before ≤ (was - kept
 asked_last before after high d was kept a b c = rw (one_way_more (was - kept) d) (omega (arith, a, b, c))
 
 -- half the height that a way leaves is no more than the orders that it asked, and one
-pub asked_half : (nodes : List TreeNode) (top : ℕ) (order : List ℕ) (high was before after : ℕ) → IsTree nodes top order high → high ≤ was + 1 → was < 2 ^ 63 → min (before + was / 2) (2 ^ 128 - 1) ≤ after → height_at nodes top / 2 ≤ after + 1
+pub asked_half : (nodes : List TreeNode) (top : ℕ) (order : List ℕ) (high was before after : ℕ) → IsTree nodes top order high → high ≤ was + 1 → was < 2 ^ 63 → min (before + was / 2) (2 ^ 128 - 1) ≤ after → subtree_height nodes top / 2 ≤ after + 1
 asked_half nodes top order high was before after t a b c = rw (tree_height nodes top order high t) (omega (arith, a, b, c))
 
 -- ---- the tree at a later x

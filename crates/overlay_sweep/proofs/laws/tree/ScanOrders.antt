@@ -18,7 +18,7 @@ use Rattle.overlay_sweep.specs.Live.{sum_below}
 use Rattle.overlay_sweep.specs.Live.{AreFreeAt}
 use Rattle.overlay_sweep.specs.TreeShapes.{Has, HasLast, HasFirst}
 use Rattle.overlay_sweep.specs.ScanTrees.{segment_at, lasts_past, is_live_at, IsFromBelow}
-use Rattle.overlay_sweep.proofs.laws.columns.ColumnLines.{spans_parts}
+use Rattle.overlay_sweep.proofs.laws.columns.ColumnLines.{spans_column_parts}
 use Rattle.overlay_sweep.proofs.laws.columns.ColumnOrder.{IsApart, is_apart}
 use Rattle.overlay_sweep.proofs.laws.columns.Heights.{gap, gap_at_other_start, is_lt-height_cmp}
 use Rattle.overlay_sweep.proofs.laws.live.Supports.{gap_mean, first_asymmetric, first-trans}
@@ -127,7 +127,7 @@ module _ (x : ℤ) (segments : List WholeSegment) (free : AreFreeAt x segments) 
   under_first i j l k = under_is_first x (segment_at segments i).pair (segment_at segments j).pair (spans_live x (segment_at segments i).pair l) (spans_live x (segment_at segments j).pair k) (apart_live i j l k)
 
   pub wide_live : (i : ℕ) → is_live_at x segments i ≡ true → pos 0 <ℤ width (segment_at segments i).pair
-  wide_live i l = let p = spans_parts x (segment_at segments i).pair (spans_live x (segment_at segments i).pair l) in omega (arith, ints)
+  wide_live i l = let p = spans_column_parts x (segment_at segments i).pair (spans_live x (segment_at segments i).pair l) in omega (arith, ints)
 
   -- ---- where a new segment goes
 

@@ -4,7 +4,7 @@ use Rattle.std.specs.Prelude.{ℕ, suc, ◌+◌, ◌-◌, ◌/◌, ◌^◌, ◌<
 use Rattle.std.proofs.Math.Pow.{pow_mono}
 use Rattle.std.proofs.lemmas.Bool.{cases_lt}
 use Rattle.overlay_sweep.specs.declared.build.tree_shape.TreeNode.{TreeNode}
-use Rattle.overlay_sweep.specs.TreeShapes.{Tree, leaf, fork, in_order, height, IsBalanced, IsTree}
+use Rattle.overlay_sweep.specs.TreeShapes.{Tree, leaf, fork, in_order, height, IsHeightBalanced, IsTree}
 
 pub length_both : (xs : List ℕ) (i : ℕ) (ys : List ℕ) → length (xs ++ i ∷ ys) ≡ length xs + length ys + 1
 length_both [] i ys = omega arith
@@ -24,7 +24,7 @@ two_sides l r h a b e near back p q = elim (cases_lt h 2) [
 ]
 
 -- a tree of height h has 2^(h/2) nodes and more, less one
-height_holds : (t : Tree) → IsBalanced t → 2 ^ (height t / 2) ≤ length (in_order t) + 1
+height_holds : (t : Tree) → IsHeightBalanced t → 2 ^ (height t / 2) ≤ length (in_order t) + 1
 height_holds leaf b = omega arith
 height_holds (fork l i r) b = rw (length_both (in_order l) i (in_order r)) (two_sides (height l) (height r) (1 + max (height l) (height r)) (length (in_order l)) (length (in_order r)) refl b.2 b.3 (height_holds l b.0) (height_holds r b.1))
 

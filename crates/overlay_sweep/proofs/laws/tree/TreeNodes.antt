@@ -3,7 +3,7 @@ use Rattle.std.proofs.Common.{◌≡◌, ◌≢◌, ap, refl, sym, subst, ◌∙
 use Rattle.std.specs.Prelude.{ℕ, false, ◌+◌, ◌<◌, ◌⊎◌, max, List, [], ◌∷◌, ◌++◌, length, slice_set, ◌==◌}
 use Rattle.std.proofs.lemmas.List.{length-set, get_or-set_same, get_or-set_other}
 use Rattle.overlay_sweep.specs.declared.build.tree_shape.TreeNode.{TreeNode}
-use Rattle.overlay_sweep.specs.TreeShapes.{Has, none, Tree, leaf, fork, in_order, height, IsDistinct, node_at, height_at, parent_of, MayHaveSides, Stands, KeepsOthers}
+use Rattle.overlay_sweep.specs.TreeShapes.{Has, none, Tree, leaf, fork, in_order, height, IsDistinct, node_at, subtree_height, parent_of, MayHaveSides, Stands, KeepsOthers}
 
 -- ---- lists without repeats
 
@@ -52,11 +52,11 @@ pub within : (nodes : List TreeNode) (t : Tree) (at : ℕ) → Stands nodes t at
 within nodes leaf at s n = absurd (n s)
 within nodes (fork l i r) at s n = rw s.0 s.1
 
-pub height_is : (nodes : List TreeNode) (t : Tree) (at : ℕ) → Stands nodes t at → height_at nodes at ≡ height t
+pub height_is : (nodes : List TreeNode) (t : Tree) (at : ℕ) → Stands nodes t at → subtree_height nodes at ≡ height t
 height_is nodes leaf at s = rw s refl
 height_is nodes (fork l i r) at s = rw s.0 (not_none i s.2 ∙ s.3)
   where
-    not_none : (i : ℕ) → i < none → height_at nodes i ≡ (node_at nodes i).height
+    not_none : (i : ℕ) → i < none → subtree_height nodes i ≡ (node_at nodes i).height
     not_none i h = rw (nat_eq_not i none (λ e. lt_not i none h e)) refl
 
 -- ---- what is not written to stays
@@ -110,7 +110,7 @@ Stands-fork nodes i left right a b sa sb na nb h n =
       refl,
       rw keeps.same_length h,
       n,
-      ap (λ (m : TreeNode). m.height) same ∙ ap (λ z. 1 + max z (height_at nodes right)) (height_is nodes a left sa) ∙ ap (λ z. 1 + max (height a) z) (height_is nodes b right sb),
+      ap (λ (m : TreeNode). m.height) same ∙ ap (λ z. 1 + max z (subtree_height nodes right)) (height_is nodes a left sa) ∙ ap (λ z. 1 + max (height a) z) (height_is nodes b right sb),
       subst (λ (m : TreeNode). Stands new a m.left) (sym same) (Stands-kept (i ∷ []) nodes new keeps a left sa (λ j m k. elim k [ inl e ↦ na (subst (λ z. Has (in_order a) z) (sym e) m) | inr x ↦ x ])),
       subst (λ (m : TreeNode). Stands new b m.right) (sym same) (Stands-kept (i ∷ []) nodes new keeps b right sb (λ j m k. elim k [ inl e ↦ nb (subst (λ z. Has (in_order b) z) (sym e) m) | inr x ↦ x ])),
     )

@@ -4,7 +4,7 @@ use Rattle.std.specs.Prelude.{ℕ, ◌+◌, ◌<◌, ◌≤◌, ◌⊎◌, max, 
 use Rattle.std.proofs.lemmas.List.{get_or_read, append-nil}
 use Rattle.std.proofs.lemmas.Bool.{cases_lt}
 use Rattle.overlay_sweep.specs.declared.build.tree_shape.TreeNode.{TreeNode}
-use Rattle.overlay_sweep.specs.TreeShapes.{Has, none, Tree, leaf, fork, in_order, height, IsDistinct, node_at, height_at, Stands, IsTree, KeepsOthers, AreJoinable, IsJoined, IsSound, IsFirstRemoved, IsTopRemoved}
+use Rattle.overlay_sweep.specs.TreeShapes.{Has, none, Tree, leaf, fork, in_order, height, IsDistinct, node_at, subtree_height, Stands, IsTree, KeepsOthers, AreJoinable, IsJoined, IsSound, IsFirstRemoved, IsTopRemoved}
 use Rattle.overlay_sweep.proofs.laws.tree.TreeNodes.{Apart, apart, Has-left, Has-right, Has-parts, Stands-kept, KeepsOthers-trans, KeepsOthers-wider}
 use Rattle.overlay_sweep.proofs.laws.tree.TreeTurns.{tree_forked, tree_height, tree_within}
 
@@ -235,5 +235,5 @@ module _ (nodes : List TreeNode) (at : ℕ) (t : IsSound nodes at) (n : at ≢ n
         wider : (j : ℕ) → Has (top.before ++ top.after) j → Has (top.before ++ at ∷ top.after) j
         wider j m = elim (Has-parts top.before top.after j m) [ inl n ↦ Has-left top.before (at ∷ top.after) j n | inr n ↦ Has-right top.before (at ∷ top.after) j (inr n) ]
 
-  pub left_height_less : height_at nodes node.left < height_at nodes at
+  pub left_height_less : subtree_height nodes node.left < subtree_height nodes at
   left_height_less = omega (arith, tree_height nodes node.left top.before top.left_high top.left, tree_height nodes at t.order t.high t.tree, top.height_is)

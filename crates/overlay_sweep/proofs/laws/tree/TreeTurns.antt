@@ -2,7 +2,7 @@
 use Rattle.std.proofs.Common.{◌≡◌, ◌≢◌, ap, refl, sym, subst, ◌∙◌, arith, inl, inr}
 use Rattle.std.specs.Prelude.{ℕ, ◌+◌, ◌<◌, ◌≤◌, max, List, [], ◌∷◌, ◌++◌, length, slice_set}
 use Rattle.overlay_sweep.specs.declared.build.tree_shape.TreeNode.{TreeNode}
-use Rattle.overlay_sweep.specs.TreeShapes.{Has, none, Tree, leaf, fork, in_order, height, IsBalanced, IsDistinct, node_at, height_at, parent_of, Stands, IsTree, KeepsOthers}
+use Rattle.overlay_sweep.specs.TreeShapes.{Has, none, Tree, leaf, fork, in_order, height, IsHeightBalanced, IsDistinct, node_at, subtree_height, parent_of, Stands, IsTree, KeepsOthers}
 use Rattle.overlay_sweep.proofs.laws.tree.TreeNodes.{Has-left, Has-right, Apart, apart, within, height_is, Stands-kept, KeepsOthers-set, KeepsOthers-trans, KeepsOthers-wider, Stands-fork}
 
 -- a write at one node keeps a tree that does not have it
@@ -149,14 +149,14 @@ pub record Forked (nodes : List TreeNode) (at : ℕ) (order : List ℕ) (high : 
   pub at_some : at < none
   pub left_stands : Stands nodes left (node_at nodes at).left
   pub right_stands : Stands nodes right (node_at nodes at).right
-  pub left_balanced : IsBalanced left
-  pub right_balanced : IsBalanced right
+  pub left_balanced : IsHeightBalanced left
+  pub right_balanced : IsHeightBalanced right
   pub left_near : height left ≤ height right + 1
   pub right_near : height right ≤ height left + 1
   pub order_is : in_order left ++ at ∷ in_order right ≡ order
   pub height_is : 1 + max (height left) (height right) ≡ high
 
-pub forked : (nodes : List TreeNode) (at : ℕ) (order : List ℕ) (high : ℕ) (t : Tree) → Stands nodes t at → IsBalanced t → in_order t ≡ order → height t ≡ high → at ≢ none → Forked nodes at order high
+pub forked : (nodes : List TreeNode) (at : ℕ) (order : List ℕ) (high : ℕ) (t : Tree) → Stands nodes t at → IsHeightBalanced t → in_order t ≡ order → height t ≡ high → at ≢ none → Forked nodes at order high
 forked nodes at order high leaf s b o h n = absurd (n s)
 forked nodes at order high (fork l i r) s b o h n = record {
   left = l;
@@ -183,7 +183,7 @@ high_is_some nodes at order high t h = by_tree t.tree t.stands t.height_is
     by_tree leaf s e = absurd (omega (arith, e, h))
     by_tree (fork l i r) s e = λ z. (let k : i < none = s.2 in let f : i ≡ none = sym s.0 ∙ z in omega (arith, k, f))
 
-pub tree_height : (nodes : List TreeNode) (at : ℕ) (order : List ℕ) (high : ℕ) → IsTree nodes at order high → height_at nodes at ≡ high
+pub tree_height : (nodes : List TreeNode) (at : ℕ) (order : List ℕ) (high : ℕ) → IsTree nodes at order high → subtree_height nodes at ≡ high
 tree_height nodes at order high t = height_is nodes t.tree at t.stands ∙ t.height_is
 
 pub tree_within : (nodes : List TreeNode) (at : ℕ) (order : List ℕ) (high : ℕ) → IsTree nodes at order high → at ≢ none → at < length nodes

@@ -4,7 +4,7 @@ use Rattle.std.specs.Prelude.{ℕ, Bool, true, false, not, ◌&&◌, ◌==◌, �
 use Rattle.std.proofs.lemmas.List.{append-nil, get_or_read}
 use Rattle.std.proofs.lemmas.Bool.{cases_lt, both_ways}
 use Rattle.overlay_sweep.specs.declared.build.tree_shape.TreeNode.{TreeNode}
-use Rattle.overlay_sweep.specs.TreeShapes.{Has, none, Tree, leaf, fork, height, node_at, height_at, IsParent, IsDistinct, Stands, IsTree, KeepsOthers, AreJoinable, IsJoined, IsTopRemoved, MayGoDown, IsStopped, HasLast, HasFirst, IsPlaced}
+use Rattle.overlay_sweep.specs.TreeShapes.{Has, none, Tree, leaf, fork, height, node_at, subtree_height, IsParent, IsDistinct, Stands, IsTree, KeepsOthers, AreJoinable, IsJoined, IsTopRemoved, MayGoDown, IsStopped, HasLast, HasFirst, IsPlaced}
 use Rattle.overlay_sweep.proofs.laws.tree.TreeNodes.{Apart, apart, Has-left, Has-right, Has-parts, KeepsOthers-trans, KeepsOthers-wider}
 use Rattle.overlay_sweep.proofs.laws.tree.HighSides.{assoc}
 use Rattle.overlay_sweep.proofs.laws.tree.TreeTurns.{tree_within, tree_height}
@@ -394,7 +394,7 @@ module _ (nodes : List TreeNode) (at new : ℕ) (m : MayGoDown nodes at new) (n 
       let l = tree_height nodes node.left _ _ (parts nodes at new m n node read).left in
       let r = tree_height nodes node.right _ _ (parts nodes at new m n node read).right in
       let high : (node_at nodes at).height ≡ m.sound.high = node_height nodes at m.sound.tree.tree m.sound.tree.stands n ∙ m.sound.tree.height_is in
-      let same : (node_at nodes at).height ≡ 1 + max (height_at nodes node.left) (height_at nodes node.right) =
+      let same : (node_at nodes at).height ≡ 1 + max (subtree_height nodes node.left) (subtree_height nodes node.right) =
       high ∙ sym (parts nodes at new m n node read).height_is ∙ ap₂ (λ a b. 1 + max a b) (sym l) (sym r) in
       record {
         node_is = λ i. record { left = (sym is i).left; right = (sym is i).right; height = same i };
@@ -402,10 +402,10 @@ module _ (nodes : List TreeNode) (at new : ℕ) (m : MayGoDown nodes at new) (n 
         right_near = omega (arith, l, r, (parts nodes at new m n node read).right_near);
       }
 
-  pub right_falls : height_at nodes node.right < height_at nodes at
+  pub right_falls : subtree_height nodes node.right < subtree_height nodes at
   right_falls = omega (arith, right_lower, tree_height nodes node.right _ _ (parts nodes at new m n node read).right, tree_height nodes at _ _ m.sound.tree)
 
-  pub left_falls : height_at nodes node.left < height_at nodes at
+  pub left_falls : subtree_height nodes node.left < subtree_height nodes at
   left_falls = omega (arith, left_lower, tree_height nodes node.left _ _ (parts nodes at new m n node read).left, tree_height nodes at _ _ m.sound.tree)
 
 pub either : {P : Type 0} (b : Bool) → (b ≡ true → P) → (b ≡ false → P) → P

@@ -9,7 +9,7 @@ use Rattle.overlay_base.specs.Segments.{WholeSegment}
 use Rattle.overlay_geometry.proofs.laws.integers.Tests.{le-test}
 use Rattle.overlay_sweep.specs.Costs.{lasting_at, IsWayAmong}
 use Rattle.overlay_sweep.specs.declared.build.tree_shape.TreeNode.{TreeNode}
-use Rattle.overlay_sweep.specs.TreeShapes.{Has, Tree, leaf, fork, in_order, height, height_at, IsTree}
+use Rattle.overlay_sweep.specs.TreeShapes.{Has, Tree, leaf, fork, in_order, height, subtree_height, IsTree}
 use Rattle.overlay_sweep.specs.ScanTrees.{segment_at, lasts_past, is_live_at, IsGrown}
 use Rattle.overlay_sweep.proofs.laws.tree.TreeHeights.{length_both}
 use Rattle.overlay_sweep.proofs.laws.tree.TreeTurns.{tree_height}
@@ -62,8 +62,8 @@ lasting_within x (s ∷ ss) k order h =
     ]
 
 -- a way down a tree with all that is live
-pub way_among : (x : ℤ) (segments : List WholeSegment) (nodes : List TreeNode) (root : ℕ) (order : List ℕ) (high asked : ℕ) → IsTree nodes root order high → height_at nodes root ≡ high → ((i : ℕ) → is_live_at x segments i ≡ true → Has order i) →
-    All (λ s. s.pair.a.x ≤ℤ x) segments → height_at nodes root / 2 ≤ asked + 1 → IsWayAmong (lasting_at x segments) asked
+pub way_among : (x : ℤ) (segments : List WholeSegment) (nodes : List TreeNode) (root : ℕ) (order : List ℕ) (high asked : ℕ) → IsTree nodes root order high → subtree_height nodes root ≡ high → ((i : ℕ) → is_live_at x segments i ≡ true → Has order i) →
+    All (λ s. s.pair.a.x ≤ℤ x) segments → subtree_height nodes root / 2 ≤ asked + 1 → IsWayAmong (lasting_at x segments) asked
 way_among x segments nodes root order high asked t known has begun reached =
     let few = lasting_within x segments 0 order (λ i w l. subst (Has order) (let e : i ≡ 0 + i = omega arith in e) (has i (and_from _ _ (le-test (segment_at segments i).pair.a.x x (begun i _ w)) l))) in
     let narrow = tree_within nodes root order high t in
@@ -82,7 +82,7 @@ among (x ∷ xs) ps ys i (inl (inl e)) = inl e
 among (x ∷ xs) ps ys i (inl (inr m)) = inr (among xs ps ys i (inl m))
 among (x ∷ xs) ps ys i (inr m) = inr (among xs ps ys i (inr m))
 
-pub grown_way : (x : ℤ) (segments : List WholeSegment) (before : ℕ → Bool) (placed : List ℕ) (nodes : List TreeNode) (root kept last asked : ℕ) → IsGrown x segments before placed nodes root kept last → All (λ s. s.pair.a.x ≤ℤ x) segments → height_at nodes root / 2 ≤ asked + 1 → IsWayAmong (lasting_at x segments) asked
+pub grown_way : (x : ℤ) (segments : List WholeSegment) (before : ℕ → Bool) (placed : List ℕ) (nodes : List TreeNode) (root kept last asked : ℕ) → IsGrown x segments before placed nodes root kept last → All (λ s. s.pair.a.x ≤ℤ x) segments → subtree_height nodes root / 2 ≤ asked + 1 → IsWayAmong (lasting_at x segments) asked
 grown_way x segments before placed nodes root kept last asked g begun reached =
     way_among x segments nodes root (g.earlier ++ (placed ++ g.later)) g.high asked g.tree (tree_height nodes root _ g.high g.tree) (λ i l. among g.earlier placed g.later i (g.has_live i l)) begun reached
 

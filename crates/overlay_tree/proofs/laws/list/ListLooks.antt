@@ -76,28 +76,25 @@ none_counted_left s (p ∷ ps) (suc j) le = none_counted_left s ps j (omega arit
 
 -- ---- the walk over those that follow one
 
--- what it has counted and what is left to count make up the whole, up to the limit
-pub record IsTold (s : Pair) (ps : List Pair) (i old now j : ℕ) : Type 0 where
-  pub fits : now ≤ 2 ^ 128 - 1
-  pub whole : min (now + count_by (x_ranges_meet s) (drop j ps)) (2 ^ 128 - 1) ≡ min (old + count_by (x_ranges_meet s) (drop (i + 1) ps)) (2 ^ 128 - 1)
+-- those from the next one up to j, and what is left to count from j on, make up the whole
+abbrev pub IsTold : Pair → List Pair → ℕ → ℕ → Type 0
+IsTold s ps i j = i + 1 + count_by (x_ranges_meet s) (drop (i + 1) ps) ≡ j + count_by (x_ranges_meet s) (drop j ps)
 
-pub IsTold-more : (s t : Pair) (ps : List Pair) (i old now next j : ℕ) → IsTold s ps i old now j → drop j ps ≡ t ∷ drop (j + 1) ps → x_ranges_meet s t ≡ true → next ≡ min (now + 1) (2 ^ 128 - 1) → IsTold s ps i old next (j + 1)
-IsTold-more s t ps i old now next j told d meets e =
+pub IsTold-more : (s t : Pair) (ps : List Pair) (i j : ℕ) → IsTold s ps i j → drop j ps ≡ t ∷ drop (j + 1) ps → x_ranges_meet s t ≡ true → IsTold s ps i (j + 1)
+IsTold-more s t ps i j told d meets =
     let count : count_by (x_ranges_meet s) (drop j ps) ≡ 1 + count_by (x_ranges_meet s) (drop (j + 1) ps) =
     ap (count_by (x_ranges_meet s)) d ∙ sum_by-cons (λ v. cond (x_ranges_meet s v) 1 0) t (drop (j + 1) ps) ∙ ap (λ (b : Bool). cond b 1 0 + count_by (x_ranges_meet s) (drop (j + 1) ps)) meets in
-    record { fits = below now next (2 ^ 128 - 1) e; whole = one_more now next _ _ (2 ^ 128 - 1) e count ∙ told.whole }
+    one_more _ _ _ j told count
   where
-    below : (m n w : ℕ) → n ≡ min (m + 1) w → n ≤ w
-    below m n w e = omega arith
+    one_more : (w c d j : ℕ) → w ≡ j + c → c ≡ 1 + d → w ≡ j + 1 + d
+    one_more w c d j e h = omega arith
 
-    one_more : (m n c d w : ℕ) → n ≡ min (m + 1) w → c ≡ 1 + d → min (n + d) w ≡ min (m + c) w
-    one_more m n c d w e h = omega arith
-
-pub IsTold-end : (s : Pair) (ps : List Pair) (i old now j : ℕ) → IsTold s ps i old now j → count_by (x_ranges_meet s) (drop j ps) ≡ 0 → now ≡ min (old + count_by (x_ranges_meet s) (drop (i + 1) ps)) (2 ^ 128 - 1)
-IsTold-end s ps i old now j told none = nothing_more now _ (2 ^ 128 - 1) told.fits none ∙ told.whole
+-- where none is left, the whole is what lies between
+pub IsTold-end : (s : Pair) (ps : List Pair) (i old now j : ℕ) → IsTold s ps i j → count_by (x_ranges_meet s) (drop j ps) ≡ 0 → now ≡ min (old + (j - i - 1)) (2 ^ 128 - 1) → now ≡ min (old + count_by (x_ranges_meet s) (drop (i + 1) ps)) (2 ^ 128 - 1)
+IsTold-end s ps i old now j told none e = e ∙ ap (λ n. min (old + n) (2 ^ 128 - 1)) (all_between i j _ _ told none)
   where
-    nothing_more : (m c w : ℕ) → m ≤ w → c ≡ 0 → m ≡ min (m + c) w
-    nothing_more m c w h e = omega arith
+    all_between : (i j w c : ℕ) → i + 1 + w ≡ j + c → c ≡ 0 → j - i - 1 ≡ w
+    all_between i j w c e h = omega arith
 
 -- ---- the walk over all
 
@@ -130,10 +127,11 @@ AreTold-end ps old now j told all = nothing_more now _ (2 ^ 128 - 1) told.fits (
     no_twos (p ∷ ps) zero le = absurd (omega arith)
     no_twos (p ∷ ps) (suc j) le = no_twos ps j (omega arith)
 
--- where the walk over those that follow one stands: what it has found, and what it has counted
-pub record IsWalking (placing : Placing) (i : ℕ) (s : Pair) (ps : List Pair) (old now : List Mark) (rounded : Bool) (before looked j : ℕ) : Type 0 where
+-- where the walk over those that follow one stands: what it has found, that it has counted all so far, and that it goes to the end
+pub record IsWalking (placing : Placing) (i : ℕ) (s : Pair) (ps : List Pair) (old now : List Mark) (rounded : Bool) (count end j : ℕ) : Type 0 where
   pub walk : IsLooked placing i s ps old now rounded j
-  pub told : IsTold s ps i before looked j
+  pub told : IsTold s ps i j
+  pub to_end : end ≡ count
 
 -- where the walk over all stands
 pub record AreWalking (placing : Placing) (ps : List Pair) (marks : List Mark) (rounded : Bool) (before looked j : ℕ) : Type 0 where

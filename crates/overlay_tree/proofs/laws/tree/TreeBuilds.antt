@@ -12,7 +12,7 @@ use Rattle.overlay_geometry.proofs.laws.lists.Keys.{IsInOrder, IsInOrder-from_so
 use Rattle.overlay_geometry.proofs.laws.lists.Lists.{AllByRecursion-weaker, AllByRecursion_left}
 use Rattle.overlay_tree.specs.steps.IntervalTree.{Entry, entries, StandsBefore, AreRising}
 use Rattle.overlay_tree.specs.steps.Swept.{entry_at, alone, unswept}
-use Rattle.overlay_tree.specs.steps.NodeOf.{entry_of, nodes_of}
+use Rattle.overlay_tree.specs.steps.NodeOf.{node_entry, tree_nodes}
 use Rattle.overlay_tree.specs.declared.split.interval_tree.Node.{Node}
 use Rattle.overlay_geometry.proofs.laws.integers.Tests.{eqb-less, eqb-turned}
 
@@ -75,19 +75,19 @@ all_distinct ps is p =
     IsDistinct-IsPermutation (λ i j. i == j) eqb-turned (range_with_len 0 (length ps)) is (subst (λ (ks : List ℕ). IsPermutation ks is) (indexes_of ps (range_with_len 0 (length ps))) p) (range_distinct 0 (length ps))
 
 -- nodes of code of which the entries pass
-pub entries_filter : {I : Type 0} (whole : I → ℤ) (p : Entry → Bool) (nodes : List (Node I)) → entries (nodes_of whole (filter (λ n. p (entry_of whole n)) nodes)) ≡ filter p (entries (nodes_of whole nodes))
+pub entries_filter : {I : Type 0} (whole : I → ℤ) (p : Entry → Bool) (nodes : List (Node I)) → entries (tree_nodes whole (filter (λ n. p (node_entry whole n)) nodes)) ≡ filter p (entries (tree_nodes whole nodes))
 entries_filter whole p [] = refl
-entries_filter whole p (n ∷ ns) = by (p (entry_of whole n)) (entries_filter whole p ns)
+entries_filter whole p (n ∷ ns) = by (p (node_entry whole n)) (entries_filter whole p ns)
   where
-    by : (b : Bool) → entries (nodes_of whole (filter (λ n. p (entry_of whole n)) ns)) ≡ filter p (entries (nodes_of whole ns)) →
-        entries (nodes_of whole (if b then n ∷ filter (λ n. p (entry_of whole n)) ns else filter (λ n. p (entry_of whole n)) ns)) ≡ (if b then entry_of whole n ∷ filter p (entries (nodes_of whole ns)) else filter p (entries (nodes_of whole ns)))
-    by true e = ap (λ (l : List Entry). entry_of whole n ∷ l) e
+    by : (b : Bool) → entries (tree_nodes whole (filter (λ n. p (node_entry whole n)) ns)) ≡ filter p (entries (tree_nodes whole ns)) →
+        entries (tree_nodes whole (if b then n ∷ filter (λ n. p (node_entry whole n)) ns else filter (λ n. p (node_entry whole n)) ns)) ≡ (if b then node_entry whole n ∷ filter p (entries (tree_nodes whole ns)) else filter p (entries (tree_nodes whole ns)))
+    by true e = ap (λ (l : List Entry). node_entry whole n ∷ l) e
     by false e = e
 
 -- nodes of code, as it sorts them
-pub places_in_order : {I : Type 0} (whole : I → ℤ) (nodes : List (Node I)) → IsSortedByKey (λ n. place_of (entry_of whole n)) place_cmp nodes → IsInOrder place_cmp (map place_of (entries (nodes_of whole nodes)))
-places_in_order whole nodes sorted = subst (IsInOrder place_cmp) (sym (mapped nodes)) (IsInOrder-from_sort place_cmp_total (λ n. place_of (entry_of whole n)) nodes sorted)
+pub places_in_order : {I : Type 0} (whole : I → ℤ) (nodes : List (Node I)) → IsSortedByKey (λ n. place_of (node_entry whole n)) place_cmp nodes → IsInOrder place_cmp (map place_of (entries (tree_nodes whole nodes)))
+places_in_order whole nodes sorted = subst (IsInOrder place_cmp) (sym (mapped nodes)) (IsInOrder-from_sort place_cmp_total (λ n. place_of (node_entry whole n)) nodes sorted)
   where
-    mapped : (ns : List (Node _)) → map place_of (entries (nodes_of whole ns)) ≡ map (λ n. place_of (entry_of whole n)) ns
+    mapped : (ns : List (Node _)) → map place_of (entries (tree_nodes whole ns)) ≡ map (λ n. place_of (node_entry whole n)) ns
     mapped [] = refl
-    mapped (n ∷ ns) = ap (λ (l : List Place). place_of (entry_of whole n) ∷ l) (mapped ns)
+    mapped (n ∷ ns) = ap (λ (l : List Place). place_of (node_entry whole n) ∷ l) (mapped ns)

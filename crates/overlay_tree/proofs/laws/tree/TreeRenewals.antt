@@ -11,7 +11,7 @@ use Rattle.overlay_geometry.proofs.laws.lists.Keys.{IsInOrder}
 use Rattle.overlay_geometry.proofs.laws.lists.Lists.{AllByRecursion-append, AllByRecursion_left, AllByRecursion_right, AllByRecursion-map, AllByRecursion-filter, AllByRecursion-weaker, AllByRecursion-from_Has}
 use Rattle.overlay_tree.specs.steps.IntervalTree.{Entry, IsSummed, none, WholeQuery, is_at_heights, is_taken_up, found, left_by, inserted, stays_at}
 use Rattle.overlay_tree.specs.steps.Swept.{pair_at, entry_at, entries_between, unswept}
-use Rattle.overlay_tree.specs.steps.NodeOf.{nodes_of}
+use Rattle.overlay_tree.specs.steps.NodeOf.{tree_nodes}
 use Rattle.overlay_tree.specs.declared.split.interval_tree.Node.{Node}
 use Rattle.overlay_tree.proofs.laws.tree.IntervalTrees.{IsNotTaken, none_dropped, none_found, none_counted, none_inserted, found-append, count_by-append}
 use Rattle.overlay_tree.specs.steps.TreeSweep.{IsSwept, Gone, unlive, live_count, IsCounted, away}
@@ -24,8 +24,8 @@ use Rattle.std.proofs.Math.Nat.{add-zero}
 -- ---- no tree
 
 -- a list whose front half is all of it is empty
-pub empty_tree : {I : Type 0} (whole : I → ℤ) (nodes l rest : List (Node I)) → nodes ≡ l ++ rest → length rest ≡ 0 → length l ≡ length nodes / 2 → IsSummed (nodes_of whole (l ++ rest))
-empty_tree whole [] l rest e f mid = subst (λ (ns : List (Node _)). IsSummed (nodes_of whole ns)) e none
+pub empty_tree : {I : Type 0} (whole : I → ℤ) (nodes l rest : List (Node I)) → nodes ≡ l ++ rest → length rest ≡ 0 → length l ≡ length nodes / 2 → IsSummed (tree_nodes whole (l ++ rest))
+empty_tree whole [] l rest e f mid = subst (λ (ns : List (Node _)). IsSummed (tree_nodes whole ns)) e none
 empty_tree whole (n ∷ ns) l rest e f mid = absurd (too_long (length (n ∷ ns)) (length l) (length rest) (ap length e ∙ length-append l rest) f mid (omega arith))
   where
     too_long : (a b c : ℕ) → a ≡ b + c → c ≡ 0 → b ≡ a / 2 → 0 < a → ⊥

@@ -2,7 +2,7 @@ use Rattle.std.proofs.Common.{◌≡◌, ◌∙◌, take, drop, sym, ap, [], ◌
 use Rattle.std.specs.Prelude.{slice_get}
 use Rattle.std.proofs.lemmas.List.{map-append}
 use Rattle.overlay_geometry.specs.PointOf.{point_of}
-use Rattle.overlay_split.specs.Path.{run_through, last_point}
+use Rattle.overlay_split.specs.Path.{column_path, last_point}
 use Rattle.overlay_split.specs.steps.PathSteps.{first_point}
 use Rattle.overlay_intersections.specs.MarkOf.{points_of, mark_points_of}
 use Rattle.overlay_split.proofs.laws.passes.Columns.{IsCollected-start, IsCollected-next, IsCollected-end, fewer, none_left}
@@ -28,9 +28,9 @@ loop-first-preserved g c =
     let before : point_of whole c.last_or-before.result ≡ last_point a (points_of whole old) = c.last_or-before.ensures ∙ ap (λ l. last_point a (points_of whole l)) c.as_slice.ensures.value in
     let next : point_of whole c.first_or-next.result ≡ first_point (mark_points_of whole (drop n rest)) b = c.first_or-next.ensures ∙ ap (λ l. first_point (mark_points_of whole l) b) c.split_at.ensures.back in
     let front = c.split_at.ensures.front in
-    let put : points_of whole c.run_column.new.path.items ≡ points_of whole old ++ run_through (last_point a (points_of whole old)) (mark_points_of whole (take n rest)) (first_point (mark_points_of whole (drop n rest)) b) =
-    c.in_ok-run_column.ensures ∙ (λ i. points_of whole old ++ run_through (before i) (mark_points_of whole (front i)) (next i)) in
-    rw (c.split_at.ensures.back) (IsCollected-next (λ m. point_of whole m.point) (point_of whole) a b c.args.marks.now rest old c.run_column.new.path.items c.in-Some.first.now n first c.column_len.ensures.block c.loop-first.invariant put)
+    let put : points_of whole c.append_column.new.path.items ≡ points_of whole old ++ column_path (last_point a (points_of whole old)) (mark_points_of whole (take n rest)) (first_point (mark_points_of whole (drop n rest)) b) =
+    c.in_ok-append_column.ensures ∙ (λ i. points_of whole old ++ column_path (before i) (mark_points_of whole (front i)) (next i)) in
+    rw (c.split_at.ensures.back) (IsCollected-next (λ m. point_of whole m.point) (point_of whole) a b c.args.marks.now rest old c.append_column.new.path.items c.in-Some.first.now n first c.column_len.ensures.block c.loop-first.invariant put)
 
 pub returns : goal.returns
 returns g c =

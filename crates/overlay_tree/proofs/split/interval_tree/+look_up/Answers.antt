@@ -1,6 +1,6 @@
 use Rattle.std.proofs.Common.{Bool, ℕ, List, ◌||◌, ◌≡◌, ◌+◌, ◌*◌, ◌-◌, ◌/◌, ◌^◌, refl, sym, ap, ◌∙◌, [], ◌++◌, ◌∷◌, ◌<◌, ◌≤◌, length, length-append, append-nil, arith}
 use Rattle.std.proofs.lemmas.Result.{IfOk-from_err}
-use Rattle.overlay_tree.specs.steps.NodeOf.{entry_of, greatest_of, nodes_of, query_of}
+use Rattle.overlay_tree.specs.steps.NodeOf.{node_entry, highest_of, tree_nodes, query_of}
 use Rattle.overlay_tree.specs.steps.IntervalTree.{left_by, entries, greatest_height, is_reached}
 use Rattle.overlay_tree.proofs.laws.tree.IntervalTrees.{none_reached, none_dropped, none_found, none_counted, none_is_dropped}
 use Rattle.overlay_tree.proofs.laws.tree.TreeCuts.{IsCut-from, mapped, summed_again, IsDone, IsDone-above, IsDone-both, found_all, looked_all, dropped_all, still_greatest, none_more}
@@ -62,7 +62,7 @@ look_into-returns-then-has_dropped g t c =
     ] in
     let own = c.in_ok-has_dropped.ensures in
     let root_left = c.update_greatest.ensures.entry ∙ done.root_left in
-    let again : greatest_of whole c.update_greatest.new.root.greatest ≡ greatest_height (entries (nodes_of whole c.look_up.new.nodes) ++ entry_of whole c.update_greatest.new.root ∷ entries (nodes_of whole c.if-not-is_above.right)) =
+    let again : highest_of whole c.update_greatest.new.root.greatest ≡ greatest_height (entries (tree_nodes whole c.look_up.new.nodes) ++ node_entry whole c.update_greatest.new.root ∷ entries (tree_nodes whole c.if-not-is_above.right)) =
     rw c.update_greatest.ensures.entry c.update_greatest.ensures.greatest in
     record {
       entries = mapped whole (left_by q) nodes l s c.look_up.new.nodes c.if-not-is_above.right r c.update_greatest.new.root cut own.entries root_left done.right_left;
@@ -107,7 +107,7 @@ pub look_up-returns-else-reaches-clause-entries : goal.look_up-returns-else-reac
 look_up-returns-else-reaches-clause-entries g t c =
     let whole = g.I.OverlayInt.whole in
     let q = query_of whole c.args.query.now in
-    let es = entries (nodes_of whole c.args.nodes.now) in
+    let es = entries (tree_nodes whole c.args.nodes.now) in
     let off = none_reached q es (ap (λ h. is_reached h q.low) (sym c.greatest_in.ensures) ∙ sym c.reaches.ensures ∙ c.if-reaches.false) in
     sym (none_dropped q es off)
 
@@ -115,7 +115,7 @@ pub look_up-returns-else-reaches-clause-found : goal.look_up-returns-else-reache
 look_up-returns-else-reaches-clause-found g t c =
     let whole = g.I.OverlayInt.whole in
     let q = query_of whole c.args.query.now in
-    let es = entries (nodes_of whole c.args.nodes.now) in
+    let es = entries (tree_nodes whole c.args.nodes.now) in
     let off = none_reached q es (ap (λ h. is_reached h q.low) (sym c.greatest_in.ensures) ∙ sym c.reaches.ensures ∙ c.if-reaches.false) in
     sym (append-nil c.args.indexes.now.items) ∙ ap (λ ns. c.args.indexes.now.items ++ ns) (sym (none_found q es off))
 
@@ -123,7 +123,7 @@ pub look_up-returns-else-reaches-clause-looked : goal.look_up-returns-else-reach
 look_up-returns-else-reaches-clause-looked g t c =
     let whole = g.I.OverlayInt.whole in
     let q = query_of whole c.args.query.now in
-    let es = entries (nodes_of whole c.args.nodes.now) in
+    let es = entries (tree_nodes whole c.args.nodes.now) in
     let off = none_reached q es (ap (λ h. is_reached h q.low) (sym c.greatest_in.ensures) ∙ sym c.reaches.ensures ∙ c.if-reaches.false) in
     none_more c.args.looked.now _ (2 ^ 128 - 1) (omega arith) (none_counted q es off)
 
@@ -131,7 +131,7 @@ pub look_up-returns-else-reaches-clause-dropped : goal.look_up-returns-else-reac
 look_up-returns-else-reaches-clause-dropped g t c =
     let whole = g.I.OverlayInt.whole in
     let q = query_of whole c.args.query.now in
-    let es = entries (nodes_of whole c.args.nodes.now) in
+    let es = entries (tree_nodes whole c.args.nodes.now) in
     let off = none_reached q es (ap (λ h. is_reached h q.low) (sym c.greatest_in.ensures) ∙ sym c.reaches.ensures ∙ c.if-reaches.false) in
     sym (none_is_dropped q es off)
 

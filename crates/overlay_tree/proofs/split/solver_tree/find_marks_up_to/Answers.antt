@@ -5,7 +5,7 @@ use Rattle.overlay_base.specs.Segments.{pairs}
 use Rattle.overlay_base.specs.SegmentOf.{segments_of}
 use Rattle.overlay_intersections.specs.PlacingOf.{placing_of}
 use Rattle.overlay_intersections.specs.MarkOf.{marks_of}
-use Rattle.overlay_tree.specs.steps.NodeOf.{nodes_of}
+use Rattle.overlay_tree.specs.steps.NodeOf.{tree_nodes}
 use Rattle.overlay_tree.specs.steps.TreeSweep.{AreFoundBefore}
 use Rattle.overlay_intersections.proofs.laws.marks.FoundMarks.{or_true, or_false}
 use Rattle.overlay_intersections.proofs.laws.marks.FoundEach.{some_cross_inexactly-is}
@@ -64,7 +64,7 @@ returns g c =
     let ps = pairs (segments_of xs) in
     let placing = placing_of c.args.placing in
     let all : length ps ≡ c.loop-index.index = omega (arith, length-pairs xs, c.loop-index-test.false, c.loop-index.auto.index-end) in
-    let looks = IsUnderWay-end ps (nodes_of whole c.loop-index.nodes.items) c.args.looked.now c.loop-index.looked c.loop-index.index c.loop-index.until c.loop-index.invariant.way all in
+    let looks = IsUnderWay-end ps (tree_nodes whole c.loop-index.nodes.items) c.args.looked.now c.loop-index.looked c.loop-index.index c.loop-index.until c.loop-index.invariant.way all in
     let marked = rw (sym all) at c.loop-index.invariant.marked in
     let sorted = simp g.met.I.OverlayInt.ordered at c.in_ok-sort.ensures.sorted in
     record {

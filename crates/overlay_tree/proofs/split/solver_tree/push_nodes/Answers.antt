@@ -9,7 +9,7 @@ use Rattle.overlay_base.specs.Segments.{pairs}
 use Rattle.overlay_geometry.specs.PairOf.{pair_of}
 use Rattle.overlay_base.specs.SegmentOf.{segments_of}
 use Rattle.overlay_tree.specs.steps.IntervalTree.{TreeNode}
-use Rattle.overlay_tree.specs.steps.NodeOf.{node_of, nodes_of}
+use Rattle.overlay_tree.specs.steps.NodeOf.{node_of, tree_nodes}
 use Rattle.overlay_tree.specs.steps.Swept.{alone, entry_at, entry_of_pair}
 use Rattle.overlay_tree.proofs.laws.tree.Sweeps.{pair_at-is}
 use Rattle.overlay_tree.proofs.split.solver_tree.push_nodes.Goals as goal
@@ -20,7 +20,7 @@ below_end h k = omega arith
 pub loop-index-init : goal.loop-index-init
 loop-index-init g c =
     let whole = g.I.OverlayInt.whole in
-    sym (append-nil (nodes_of whole c.args.nodes.now.items)) ∙ ap (λ (n : ℕ). nodes_of whole c.args.nodes.now.items ++ map (λ i. alone (entry_at (pairs (segments_of c.args.segments.now)) i)) (range_with_len c.args.from n)) (let e : 0 ≡ c.args.from - c.args.from = omega arith in e)
+    sym (append-nil (tree_nodes whole c.args.nodes.now.items)) ∙ ap (λ (n : ℕ). tree_nodes whole c.args.nodes.now.items ++ map (λ i. alone (entry_at (pairs (segments_of c.args.segments.now)) i)) (range_with_len c.args.from n)) (let e : 0 ≡ c.args.from - c.args.from = omega arith in e)
 
 pub loop-index-preserved : goal.loop-index-preserved
 loop-index-preserved g c =
@@ -33,11 +33,11 @@ loop-index-preserved g c =
     let node : node_of whole c.node_at.result ≡ alone (entry_at ps i) = c.node_at.ensures ∙ ap (λ s. alone (entry_of_pair i s)) (sym pair) in
     let after = c.loop-index.auto.index in
     let more = map-range_with_len_more (λ k. alone (entry_at ps k)) from (i - from) i (omega arith) in
-    ap (nodes_of whole) c.in_ok-push.ensures.items
+    ap (tree_nodes whole) c.in_ok-push.ensures.items
     ∙ map-append (node_of whole) c.loop-index.nodes.items (c.node_at.result ∷ [])
     ∙ ap₂ (λ (ns : List TreeNode) (n : TreeNode). ns ++ n ∷ []) c.loop-index.invariant node
-    ∙ append_assoc (nodes_of whole c.args.nodes.now.items) (map (λ k. alone (entry_at ps k)) (range_with_len from (i - from))) (alone (entry_at ps i) ∷ [])
-    ∙ ap (λ (ns : List TreeNode). nodes_of whole c.args.nodes.now.items ++ ns) (sym more ∙ ap (λ (n : ℕ). map (λ k. alone (entry_at ps k)) (range_with_len from n)) (let e : (i - from) + 1 ≡ (i + 1) - from = omega arith in e))
+    ∙ append_assoc (tree_nodes whole c.args.nodes.now.items) (map (λ k. alone (entry_at ps k)) (range_with_len from (i - from))) (alone (entry_at ps i) ∷ [])
+    ∙ ap (λ (ns : List TreeNode). tree_nodes whole c.args.nodes.now.items ++ ns) (sym more ∙ ap (λ (n : ℕ). map (λ k. alone (entry_at ps k)) (range_with_len from n)) (let e : (i - from) + 1 ≡ (i + 1) - from = omega arith in e))
 
 pub offset_bounds-segments-index : goal.offset_bounds-segments-index
 offset_bounds-segments-index g c = le_of_lt (below_end c.loop-index-test.true c.requires.within)

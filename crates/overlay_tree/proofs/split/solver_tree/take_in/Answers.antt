@@ -1,7 +1,7 @@
 use Rattle.std.proofs.Common.{◌≡◌, arith}
 use Rattle.overlay_base.specs.Segments.{pairs}
 use Rattle.overlay_base.specs.SegmentOf.{segments_of}
-use Rattle.overlay_tree.specs.steps.NodeOf.{nodes_of}
+use Rattle.overlay_tree.specs.steps.NodeOf.{tree_nodes}
 use Rattle.overlay_tree.proofs.laws.tree.Sweeps.{pairs_in_order, length-pairs}
 use Rattle.overlay_tree.proofs.laws.tree.TreeFinder.{IsUnderWay-renewed}
 use Rattle.overlay_tree.proofs.split.solver_tree.take_in.Goals as goal
@@ -15,7 +15,7 @@ take_into_tree-requires-2-clause-way g c =
     let reached = under.way.reached in
     let here : j ≡ c.args.until = omega (arith, reached, c.if-index-until.false) in (
       c.requires.way.0,
-      IsUnderWay-renewed (pairs (segments_of xs)) (nodes_of whole c.args.nodes.now.items) (nodes_of whole c.renew.new.nodes.items) c.requires.way.0 c.args.looked.now j c.args.until c.in_ok-further.further under here
+      IsUnderWay-renewed (pairs (segments_of xs)) (tree_nodes whole c.args.nodes.now.items) (tree_nodes whole c.renew.new.nodes.items) c.requires.way.0 c.args.looked.now j c.args.until c.in_ok-further.further under here
           (pairs_in_order xs c.requires.sorted) c.in_ok-further.ensures.further (omega (arith, c.in_ok-further.ensures.within, length-pairs xs)) c.in_ok-further.ensures.listed c.in_ok-further.ensures.rising c.in_ok-further.ensures.summed,
     )
 
@@ -26,5 +26,5 @@ returns-clause-way g c old under =
     let j = c.args.index in
     let reached = under.way.reached in
     let here : j ≡ c.args.until = omega (arith, reached, c.if-index-until.false) in
-    c.in_ok-take_into_tree-2.ensures.way old (IsUnderWay-renewed (pairs (segments_of xs)) (nodes_of whole c.args.nodes.now.items) (nodes_of whole c.renew.new.nodes.items) old c.args.looked.now j c.args.until c.in_ok-further.further under here
+    c.in_ok-take_into_tree-2.ensures.way old (IsUnderWay-renewed (pairs (segments_of xs)) (tree_nodes whole c.args.nodes.now.items) (tree_nodes whole c.renew.new.nodes.items) old c.args.looked.now j c.args.until c.in_ok-further.further under here
     (pairs_in_order xs c.requires.sorted) c.in_ok-further.ensures.further (omega (arith, c.in_ok-further.ensures.within, length-pairs xs)) c.in_ok-further.ensures.listed c.in_ok-further.ensures.rising c.in_ok-further.ensures.summed)

@@ -5,7 +5,7 @@ use Rattle.overlay_geometry.specs.PairOf.{pair_of}
 use Rattle.overlay_geometry.specs.RangeOf.{range_of}
 use Rattle.overlay_base.specs.SegmentOf.{segments_of}
 use Rattle.overlay_base.proofs.laws.geometry.Apart.{are_ordered}
-use Rattle.overlay_tree.specs.steps.NodeOf.{nodes_of}
+use Rattle.overlay_tree.specs.steps.NodeOf.{tree_nodes}
 use Rattle.overlay_tree.specs.steps.IntervalTree.{Entry, WholeQuery, AreRising, IsAt, IsUpTo, entries, found, inserted, left_by, is_taken_up}
 use Rattle.overlay_tree.specs.steps.Swept.{pair_at}
 use Rattle.overlay_tree.specs.steps.TreeSweep.{IsUnderWay, AreFoundBefore, query_at}
@@ -23,7 +23,7 @@ look_up-requires-clause-rising g c =
     let j = c.args.index in
     let under = c.requires.way.1 in
     let nodes = c.as_mut_slice-tree.result.now in
-    let tree = subst (λ (ns : List _). IsUnderWay ps (nodes_of whole ns) c.requires.way.0 c.args.looked.now j c.args.until) (sym c.as_mut_slice-tree.ensures.value) under in
+    let tree = subst (λ (ns : List _). IsUnderWay ps (tree_nodes whole ns) c.requires.way.0 c.args.looked.now j c.args.until) (sym c.as_mut_slice-tree.ensures.value) under in
     tree.rising c.requires.there
 
 pub look_up-requires-clause-summed : goal.look_up-requires-clause-summed
@@ -34,7 +34,7 @@ look_up-requires-clause-summed g c =
     let j = c.args.index in
     let under = c.requires.way.1 in
     let nodes = c.as_mut_slice-tree.result.now in
-    let tree = subst (λ (ns : List _). IsUnderWay ps (nodes_of whole ns) c.requires.way.0 c.args.looked.now j c.args.until) (sym c.as_mut_slice-tree.ensures.value) under in
+    let tree = subst (λ (ns : List _). IsUnderWay ps (tree_nodes whole ns) c.requires.way.0 c.args.looked.now j c.args.until) (sym c.as_mut_slice-tree.ensures.value) under in
     tree.summed c.requires.there
 
 pub insert-requires-clause-rising : goal.insert-requires-clause-rising
@@ -45,12 +45,12 @@ insert-requires-clause-rising g c =
     let j = c.args.index in
     let under = c.requires.way.1 in
     let nodes = c.as_mut_slice-tree.result.now in
-    let tree = subst (λ (ns : List _). IsUnderWay ps (nodes_of whole ns) c.requires.way.0 c.args.looked.now j c.args.until) (sym c.as_mut_slice-tree.ensures.value) under in
+    let tree = subst (λ (ns : List _). IsUnderWay ps (tree_nodes whole ns) c.requires.way.0 c.args.looked.now j c.args.until) (sym c.as_mut_slice-tree.ensures.value) under in
     let t = pair_of whole c.x_segment-later.result in
     let here : pair_at ps j ≡ t = pair_at-is xs j c.index-segments-index.result c.requires.index c.index-segments-index.is ∙ ap (pair_of whole) (sym c.x_segment-later.ensures) in
     let q : WholeQuery = record { low = whole c.y_range-heights.result.min; high = whole c.y_range-heights.result.max; x = whole c.x_segment-later.result.a.x } in
     let is : q ≡ query_at ps j = query_is ps j t (range_of whole c.y_range-heights.result) here c.y_range-heights.ensures in
-    subst AreRising (sym c.in_ok-look_up.ensures.entries) (rising_map (left_by q) (λ e. refl) (entries (nodes_of whole nodes)) (tree.rising c.requires.there))
+    subst AreRising (sym c.in_ok-look_up.ensures.entries) (rising_map (left_by q) (λ e. refl) (entries (tree_nodes whole nodes)) (tree.rising c.requires.there))
 
 pub insert-requires-clause-there : goal.insert-requires-clause-there
 insert-requires-clause-there g c =
@@ -60,12 +60,12 @@ insert-requires-clause-there g c =
     let j = c.args.index in
     let under = c.requires.way.1 in
     let nodes = c.as_mut_slice-tree.result.now in
-    let tree = subst (λ (ns : List _). IsUnderWay ps (nodes_of whole ns) c.requires.way.0 c.args.looked.now j c.args.until) (sym c.as_mut_slice-tree.ensures.value) under in
+    let tree = subst (λ (ns : List _). IsUnderWay ps (tree_nodes whole ns) c.requires.way.0 c.args.looked.now j c.args.until) (sym c.as_mut_slice-tree.ensures.value) under in
     let t = pair_of whole c.x_segment-later.result in
     let here : pair_at ps j ≡ t = pair_at-is xs j c.index-segments-index.result c.requires.index c.index-segments-index.is ∙ ap (pair_of whole) (sym c.x_segment-later.ensures) in
     let q : WholeQuery = record { low = whole c.y_range-heights.result.min; high = whole c.y_range-heights.result.max; x = whole c.x_segment-later.result.a.x } in
     let is : q ≡ query_at ps j = query_is ps j t (range_of whole c.y_range-heights.result) here c.y_range-heights.ensures in
-    let ready = subst (λ (es : List Entry). IsReady ps es j) (sym c.in_ok-look_up.ensures.entries) (IsReady-from ps (entries (nodes_of whole nodes)) c.requires.way.0 c.args.looked.now j c.args.until q tree.way c.requires.there) in
+    let ready = subst (λ (es : List Entry). IsReady ps es j) (sym c.in_ok-look_up.ensures.entries) (IsReady-from ps (entries (tree_nodes whole nodes)) c.requires.way.0 c.args.looked.now j c.args.until q tree.way c.requires.there) in
     ready.there
 
 pub insert-requires-clause-low : goal.insert-requires-clause-low
@@ -76,13 +76,13 @@ insert-requires-clause-low g c =
     let j = c.args.index in
     let under = c.requires.way.1 in
     let nodes = c.as_mut_slice-tree.result.now in
-    let tree = subst (λ (ns : List _). IsUnderWay ps (nodes_of whole ns) c.requires.way.0 c.args.looked.now j c.args.until) (sym c.as_mut_slice-tree.ensures.value) under in
+    let tree = subst (λ (ns : List _). IsUnderWay ps (tree_nodes whole ns) c.requires.way.0 c.args.looked.now j c.args.until) (sym c.as_mut_slice-tree.ensures.value) under in
     let t = pair_of whole c.x_segment-later.result in
     let here : pair_at ps j ≡ t = pair_at-is xs j c.index-segments-index.result c.requires.index c.index-segments-index.is ∙ ap (pair_of whole) (sym c.x_segment-later.ensures) in
     let q : WholeQuery = record { low = whole c.y_range-heights.result.min; high = whole c.y_range-heights.result.max; x = whole c.x_segment-later.result.a.x } in
     let is : q ≡ query_at ps j = query_is ps j t (range_of whole c.y_range-heights.result) here c.y_range-heights.ensures in
-    let ready = subst (λ (es : List Entry). IsReady ps es j) (sym c.in_ok-look_up.ensures.entries) (IsReady-from ps (entries (nodes_of whole nodes)) c.requires.way.0 c.args.looked.now j c.args.until q tree.way c.requires.there) in
-    subst (λ (p : WholeQuery). AllByRecursion (IsAt j p.low) (entries (nodes_of whole c.look_up.new.nodes))) (sym is) ready.low
+    let ready = subst (λ (es : List Entry). IsReady ps es j) (sym c.in_ok-look_up.ensures.entries) (IsReady-from ps (entries (tree_nodes whole nodes)) c.requires.way.0 c.args.looked.now j c.args.until q tree.way c.requires.there) in
+    subst (λ (p : WholeQuery). AllByRecursion (IsAt j p.low) (entries (tree_nodes whole c.look_up.new.nodes))) (sym is) ready.low
 
 pub insert-requires-clause-high : goal.insert-requires-clause-high
 insert-requires-clause-high g c =
@@ -92,13 +92,13 @@ insert-requires-clause-high g c =
     let j = c.args.index in
     let under = c.requires.way.1 in
     let nodes = c.as_mut_slice-tree.result.now in
-    let tree = subst (λ (ns : List _). IsUnderWay ps (nodes_of whole ns) c.requires.way.0 c.args.looked.now j c.args.until) (sym c.as_mut_slice-tree.ensures.value) under in
+    let tree = subst (λ (ns : List _). IsUnderWay ps (tree_nodes whole ns) c.requires.way.0 c.args.looked.now j c.args.until) (sym c.as_mut_slice-tree.ensures.value) under in
     let t = pair_of whole c.x_segment-later.result in
     let here : pair_at ps j ≡ t = pair_at-is xs j c.index-segments-index.result c.requires.index c.index-segments-index.is ∙ ap (pair_of whole) (sym c.x_segment-later.ensures) in
     let q : WholeQuery = record { low = whole c.y_range-heights.result.min; high = whole c.y_range-heights.result.max; x = whole c.x_segment-later.result.a.x } in
     let is : q ≡ query_at ps j = query_is ps j t (range_of whole c.y_range-heights.result) here c.y_range-heights.ensures in
-    let ready = subst (λ (es : List Entry). IsReady ps es j) (sym c.in_ok-look_up.ensures.entries) (IsReady-from ps (entries (nodes_of whole nodes)) c.requires.way.0 c.args.looked.now j c.args.until q tree.way c.requires.there) in
-    subst (λ (p : WholeQuery). AllByRecursion (IsUpTo j p.high) (entries (nodes_of whole c.look_up.new.nodes))) (sym is) ready.high
+    let ready = subst (λ (es : List Entry). IsReady ps es j) (sym c.in_ok-look_up.ensures.entries) (IsReady-from ps (entries (tree_nodes whole nodes)) c.requires.way.0 c.args.looked.now j c.args.until q tree.way c.requires.there) in
+    subst (λ (p : WholeQuery). AllByRecursion (IsUpTo j p.high) (entries (tree_nodes whole c.look_up.new.nodes))) (sym is) ready.high
 
 pub returns : goal.returns
 returns g c =
@@ -108,23 +108,23 @@ returns g c =
     let j = c.args.index in
     let under = c.requires.way.1 in
     let nodes = c.as_mut_slice-tree.result.now in
-    let tree = subst (λ (ns : List _). IsUnderWay ps (nodes_of whole ns) c.requires.way.0 c.args.looked.now j c.args.until) (sym c.as_mut_slice-tree.ensures.value) under in
+    let tree = subst (λ (ns : List _). IsUnderWay ps (tree_nodes whole ns) c.requires.way.0 c.args.looked.now j c.args.until) (sym c.as_mut_slice-tree.ensures.value) under in
     let t = pair_of whole c.x_segment-later.result in
     let here : pair_at ps j ≡ t = pair_at-is xs j c.index-segments-index.result c.requires.index c.index-segments-index.is ∙ ap (pair_of whole) (sym c.x_segment-later.ensures) in
     let q : WholeQuery = record { low = whole c.y_range-heights.result.min; high = whole c.y_range-heights.result.max; x = whole c.x_segment-later.result.a.x } in
     let is : q ≡ query_at ps j = query_is ps j t (range_of whole c.y_range-heights.result) here c.y_range-heights.ensures in
     let inside = under.way.inside in
-    let at = c.in_ok-look_up.ensures.found ∙ ap (λ is. is ++ found q (entries (nodes_of whole nodes))) c.clear.ensures.items ∙ ap (λ (p : WholeQuery). found p (entries (nodes_of whole nodes))) is in
+    let at = c.in_ok-look_up.ensures.found ∙ ap (λ is. is ++ found q (entries (tree_nodes whole nodes))) c.clear.ensures.items ∙ ap (λ (p : WholeQuery). found p (entries (tree_nodes whole nodes))) is in
     let as_long = same_length whole (inserted j) c.look_up.new.nodes c.insert.new.nodes c.insert.ensures.entries ∙ same_length whole (left_by q) nodes c.look_up.new.nodes c.in_ok-look_up.ensures.entries ∙ ap length c.as_mut_slice-tree.ensures.value in
     let back = written whole c.insert.new.nodes c.args.nodes.now.items c.args.nodes.now.len c.args.nodes.now.ok.0 as_long in
-    let taken = count_by-le-length (is_taken_up q) (entries (nodes_of whole nodes)) in
-    let all = length_within ps (nodes_of whole nodes) c.requires.way.0 c.args.looked.now j c.args.until tree in
+    let taken = count_by-le-length (is_taken_up q) (entries (tree_nodes whole nodes)) in
+    let all = length_within ps (tree_nodes whole nodes) c.requires.way.0 c.args.looked.now j c.args.until tree in
     record {
       way = λ old w.
-          let start = subst (λ (ns : List _). IsUnderWay ps (nodes_of whole ns) old c.args.looked.now j c.args.until) (sym c.as_mut_slice-tree.ensures.value) w in
-          let more = IsUnderWay-more ps (nodes_of whole nodes) (nodes_of whole c.look_up.new.nodes) (nodes_of whole c.insert.new.nodes) old c.args.looked.now c.look_up.new.looked j c.args.until q start
+          let start = subst (λ (ns : List _). IsUnderWay ps (tree_nodes whole ns) old c.args.looked.now j c.args.until) (sym c.as_mut_slice-tree.ensures.value) w in
+          let more = IsUnderWay-more ps (tree_nodes whole nodes) (tree_nodes whole c.look_up.new.nodes) (tree_nodes whole c.insert.new.nodes) old c.args.looked.now c.look_up.new.looked j c.args.until q start
           (pairs_in_order xs c.requires.sorted) (are_ordered xs) c.requires.there is c.in_ok-look_up.ensures.entries c.in_ok-look_up.ensures.looked c.insert.ensures.entries c.insert.ensures.summed in
           rw back more;
-      found = subst (λ (l : List ℕ). AreFoundBefore ps l j) (sym at) (AreFoundBefore-from ps (entries (nodes_of whole nodes)) c.requires.way.0 c.args.looked.now j c.args.until tree.way (are_ordered xs) (omega (arith, length-pairs xs, c.requires.index)));
+      found = subst (λ (l : List ℕ). AreFoundBefore ps l j) (sym at) (AreFoundBefore-from ps (entries (tree_nodes whole nodes)) c.requires.way.0 c.args.looked.now j c.args.until tree.way (are_ordered xs) (omega (arith, length-pairs xs, c.requires.index)));
       looked = omega (arith, c.in_ok-look_up.ensures.looked, taken, all, length-pairs xs);
     }

@@ -1,6 +1,6 @@
 use Rattle.std.proofs.Common.{refl, rules, FitsSigned, w64}
 use Rattle.overlay_intersections.proofs.laws.crossings.Bits.{zero_test}
-use Rattle.overlay_intersections.proofs.split.cross.contact.Sides.zeros.Goals as goal
+use Rattle.overlay_intersections.proofs.split.cross.contact.EndSides.zeros.Goals as goal
 
 pub returns : goal.returns
 returns c =

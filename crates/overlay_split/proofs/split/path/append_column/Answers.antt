@@ -2,7 +2,7 @@ use Rattle.std.proofs.Common.{◌≡◌, ◌∙◌, sym, true, false}
 use Rattle.std.specs.Prelude.{int_lt}
 use Rattle.overlay_geometry.specs.PointOf.{point_of}
 use Rattle.overlay_split.proofs.laws.passes.Columns.{appended_down, appended_up}
-use Rattle.overlay_split.proofs.split.path.run_column.Goals as goal
+use Rattle.overlay_split.proofs.split.path.append_column.Goals as goal
 
 pub returns-then-is_lower : goal.returns-then-is_lower
 returns-then-is_lower g c =
