@@ -14,7 +14,7 @@ use crate::build::fill_strategy::{
     EvenOddStrategy, FillCount, FillStrategy, NegativeStrategy, NonZeroStrategy, PositiveStrategy,
 };
 use crate::build::scan_list::ScanList;
-use crate::build::scan_tree::ScanTree;
+use crate::build::scan_mixed::ScanMixed;
 use crate::build::visits::sweep_with_handler;
 use crate::build::way::Way;
 use overlay_base::overlay_core::fill_rule::FillRule;
@@ -29,7 +29,7 @@ use std::alloc::Global;
 #[derive(Drop)]
 pub struct SweepRunner<C: WindingCount, I: OverlayInt> {
     list: ScanList<C, I>,
-    tree: ScanTree<C, I>,
+    tree: ScanMixed<C, I>,
     ways: Vec<Way<I>>,
     compared: u128,
 }
@@ -41,7 +41,7 @@ impl<C: WindingCount, I: OverlayInt> SweepRunner<C, I> {
     {
         SweepRunner {
             list: ScanList::new(alloc),
-            tree: ScanTree::new(alloc),
+            tree: ScanMixed::new(alloc),
             ways: Vec::new(alloc),
             compared: 0,
         }
@@ -94,7 +94,7 @@ impl<C: WindingCount, I: OverlayInt> SweepRunner<C, I> {
             )?
         } else {
             let tree = &mut self.tree;
-            sweep_with_handler::<C, I, D, F, ScanTree<C, I>, H>(
+            sweep_with_handler::<C, I, D, F, ScanMixed<C, I>, H>(
                 tree,
                 ways,
                 segments,
