@@ -20,17 +20,6 @@ pub distinct_row : (a n : ℕ) → IsDistinct (range_with_len a n)
 distinct_row a zero = tt
 distinct_row a (suc n) = (λ m. let r = in_row (a + 1) n a m in omega (arith, r.0), distinct_row (a + 1) n)
 
--- ---- no node
-
-pub none_linked : (nodes : List TreeNode) (from count : ℕ) → count ≡ 0 → IsLinked nodes nodes none from count
-none_linked nodes from count e = rw e (record {
-  high = 0;
-  tree = record { tree = leaf; stands = refl; balanced = tt; order_is = refl; height_is = refl };
-  keeps = record { same_length = refl; others = λ i h. refl };
-  wide = omega arith;
-  low = omega arith;
-})
-
 -- ---- two halves
 
 -- their heights, where the first has as many nodes as the second or one more
