@@ -12,12 +12,12 @@ use overlay_geometry::geom::v_segment::VSegment;
 use overlay_geometry::num::OverlayInt;
 use std::alloc::Global;
 
-/// How many entries the list may hold when an insert begins. About here a way down the tree takes as long as a search
-/// in the list, which passes over all entries where one has ended.
+/// How many entries the list holds at most. About here a way down the tree takes as long as a search in the list, which
+/// passes over all entries where one has ended.
 const MOST_IN_LIST: usize = 128;
 
-/// The live segments from below. They stand in a list until an insert finds too many there, and in a balanced tree from
-/// then on, until they are cleared.
+/// The live segments from below. They stand in a list until an insert finds it full, and in a balanced tree from then on,
+/// until they are cleared.
 #[derive(Drop)]
 pub struct ScanMixed<C: WindingCount, I: OverlayInt> {
     list: ScanList<C, I>,
