@@ -1,10 +1,11 @@
 -- What a list, a tree and a runner keep, as the clauses of their calls name it.
-use Rattle.std.specs.Prelude.{ℕ, ℤ, List}
+use Rattle.std.specs.Prelude.{ℕ, ℤ, MatchBool, cond, List, length}
 use Rattle.overlay_base.specs.Segments.{WholeSegment}
 use Rattle.overlay_sweep.specs.EntryOf.{entries_of}
 use Rattle.overlay_sweep.specs.TreeShapes.{subtree_height}
 use Rattle.overlay_sweep.specs.ScanTrees.{IsScanList, IsScanTree}
 use Rattle.overlay_sweep.specs.declared.build.entry.Entry.{Entry}
+use Rattle.overlay_sweep.specs.declared.build.scan_mixed.ScanMixed.{ScanMixed}
 use Rattle.overlay_sweep.specs.declared.build.scan_list.ScanList.{ScanList}
 use Rattle.overlay_sweep.specs.declared.build.scan_tree.ScanTree.{ScanTree}
 use Rattle.overlay_sweep.specs.declared.build.sweep.SweepRunner.{SweepRunner}
@@ -46,3 +47,16 @@ tree_asked tree = tree.compared
 
 abbrev pub run_asked : {C I : Type 0} {m : _} {w : _} {o : _} {e : _} {p : _} → SweepRunner C I m w o e p → ℕ
 run_asked runner = runner.compared
+
+-- the same of a collection that begins as a list and becomes a tree: those of the one that holds the entries
+abbrev pub mixed_sums : {C I : Type 0} {m : _} {w : _} {o : _} {e : _} {p : _} → ScanMixed C I m w o e p → List WholeSegment
+mixed_sums mixed = cond mixed.is_tree (tree_sums mixed.tree) (list_sums mixed.list)
+
+abbrev pub mixed_held : {C I : Type 0} {m : _} {w : _} {o : _} {e : _} {p : _} → ScanMixed C I m w o e p → ℕ
+mixed_held mixed = cond mixed.is_tree (tree_held mixed.tree) (length (list_entries mixed.list))
+
+abbrev pub mixed_asked : {C I : Type 0} {m : _} {w : _} {o : _} {e : _} {p : _} → ScanMixed C I m w o e p → ℕ
+mixed_asked mixed = cond mixed.is_tree (tree_asked mixed.tree) (list_asked mixed.list)
+
+abbrev pub IsMixedAt : {C I : Type 0} {m : _} {w : _} {o : _} {e : _} {p : _} → ℤ → ScanMixed C I m w o e p → Type 0
+IsMixedAt x mixed = MatchBool mixed.is_tree (IsSoundAt x mixed.tree) (IsInOrderAt x mixed.list)

@@ -2,4 +2,6 @@
 #![tactic(auto)]
 
 #[cfg(test)]
+mod many_live;
+#[cfg(test)]
 mod refused_inserts;

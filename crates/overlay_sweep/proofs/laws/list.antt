@@ -5,3 +5,4 @@ pub mod ListOrders
 pub mod ListAnswers
 pub mod ListCounts
 pub mod SearchTables
+pub mod ListAsTree

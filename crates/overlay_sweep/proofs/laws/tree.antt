@@ -7,6 +7,7 @@ pub mod TreeRemovals
 pub mod TreeWays
 pub mod TreeHeights
 pub mod TreeWidths
+pub mod TreeRows
 pub mod ScanReads
 pub mod ScanOrders
 pub mod ScanGrowth

@@ -43,6 +43,13 @@ impl<C: WindingCount, I: OverlayInt> ScanList<C, I> {
         }
     }
 
+    /// The entries from below.
+    pub(crate) fn entries(&self) -> &[Entry<C, I>]
+        ensures { result.now ≡ list_entries self.now }
+    {
+        &self.entries
+    }
+
     /// The least `x` at which one of the entries ends, or the greatest coordinate.
     fn first_end(&self) -> I
         ensures { All (λ s. I.whole result ≤ℤ s.pair.b.x) (entries_of self.now.entries.items) }

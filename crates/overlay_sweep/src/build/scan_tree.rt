@@ -49,10 +49,10 @@ pub struct ScanTree<C: WindingCount, I: OverlayInt> {
 }
 
 impl<C: WindingCount, I: OverlayInt> ScanTree<C, I> {
-    ghost use Rattle.std.specs.Prelude.{ℤ, ◌-◌, ◌^◌, ◌<◌, min, [], ◌∷◌, ◌++◌, true, false, length, IfOk, OnOk, IfErr};
+    ghost use Rattle.std.specs.Prelude.{ℤ, ◌-◌, ◌^◌, ◌<◌, min, [], ◌∷◌, ◌++◌, true, false, length, IfOk, OnOk, OnErr, IfErr};
     ghost use Rattle.overlay_sweep.specs.EntryOf.{entries_of};
     ghost use Rattle.overlay_sweep.specs.TreeShapes.{MayGoDown, IsStopped, IsPlaced};
-    ghost use Rattle.overlay_sweep.specs.ScanTrees.{segment_at, lasts_past, IsGrowing, IsGrown, IsAskedWithin};
+    ghost use Rattle.overlay_sweep.specs.ScanTrees.{segment_at, lasts_past, IsScanList, IsGrowing, IsGrown, IsAskedWithin};
     ghost use Rattle.overlay_sweep.specs.LiveOf.{tree_entries, tree_held, IsSoundAt, tree_asked};
 
     /// An empty tree, which takes no memory yet.
@@ -168,6 +168,45 @@ impl<C: WindingCount, I: OverlayInt> ScanTree<C, I> {
         self.entries.push(entry)?;
         self.shape.push()?;
         Ok(self.entries.len() - 1)
+    }
+
+    /// Adds entries with a node of its own for each of them, which is in no tree yet.
+    fn push_all(&mut self, entries: &[Entry<C, I>]) -> Result<(), Fault>
+        ensures entries { OnOk result (self.new.entries.items ≡ self.old.entries.items ++ entries.now) }
+        ensures nodes { OnOk result (length self.new.shape.nodes.items
+            ≡ length self.old.shape.nodes.items + length entries.now) }
+        ensures fault { IfErr result (λ fault. fault ≡ Fault.Memory) }
+    {
+        for entry in entries {
+            self.push(*entry)?;
+        }
+        Ok(())
+    }
+
+    /// Takes entries that stand from below in place of its own, and asks no order. Where a growth is refused, the tree
+    /// is empty.
+    pub(crate) fn take_over(&mut self, entries: &[Entry<C, I>]) -> Result<(), Fault>
+        ensures entries { OnOk result (tree_entries self.new ≡ entries.now) }
+        ensures kept { OnOk result (tree_held self.new ≡ length entries.now) }
+        ensures time { OnOk result ((x least : ℤ) → IsScanList x (entries_of entries.now) least
+            → IsSoundAt x self.new) }
+        ensures fault { IfErr result (λ fault. fault ≡ Fault.Memory) }
+        ensures emptied { OnErr result (tree_entries self.new ≡ []) }
+        ensures none_asked { OnErr result (tree_asked self.new ≡ 0) }
+        ensures cleared { OnErr result ((y : ℤ) → IsSoundAt y self.new) }
+    {
+        self.clear();
+        match self.push_all(entries) {
+            Ok(()) => {
+                self.kept = entries.len();
+                self.root = self.shape.link(0, self.kept);
+                Ok(())
+            }
+            Err(fault) => {
+                self.clear();
+                Err(fault)
+            }
+        }
     }
 
     /// How many entries the longest way down has.

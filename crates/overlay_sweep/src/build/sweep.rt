@@ -14,7 +14,7 @@ use crate::build::fill_strategy::{
     EvenOddStrategy, FillCount, FillStrategy, NegativeStrategy, NonZeroStrategy, PositiveStrategy,
 };
 use crate::build::scan_list::ScanList;
-use crate::build::scan_tree::ScanTree;
+use crate::build::scan_mixed::ScanMixed;
 use crate::build::visits::sweep_with_handler;
 use crate::build::way::Way;
 use overlay_base::overlay_core::fill_rule::FillRule;
@@ -29,7 +29,7 @@ use std::alloc::Global;
 #[derive(Drop)]
 pub struct SweepRunner<C: WindingCount, I: OverlayInt> {
     list: ScanList<C, I>,
-    tree: ScanTree<C, I>,
+    tree: ScanMixed<C, I>,
     ways: Vec<Way<I>>,
     compared: u128,
 }
@@ -41,7 +41,7 @@ impl<C: WindingCount, I: OverlayInt> SweepRunner<C, I> {
     {
         SweepRunner {
             list: ScanList::new(alloc),
-            tree: ScanTree::new(alloc),
+            tree: ScanMixed::new(alloc),
             ways: Vec::new(alloc),
             compared: 0,
         }
@@ -55,10 +55,10 @@ impl<C: WindingCount, I: OverlayInt> SweepRunner<C, I> {
     /// one above the segment directly below its start, or 0; the winding above adds the segment's count. Balance is no
     /// condition; with it these windings are those of the columns of the plane. The segments have to be arranged, as
     /// `is_arranged` tests, and the handler has to take each of their indexes. The solver does not change the answer:
-    /// it chooses whether the live segments stand in a list or in a balanced tree. Over n segments `compared` is at
-    /// most 3 n d. For the list 2 n is at most 2 ^ d; for the tree no balanced one of n entries is higher than d. Where
-    /// the handler never breaks, it is the sum of all searches over the list, and no less than that of ways down trees
-    /// of the live segments alone over the tree.
+    /// it chooses whether the live segments stand in a list or in a balanced tree, which begins as a list. Over n
+    /// segments `compared` is at most 3 n d. For the list 2 n is at most 2 ^ d; for the tree no balanced one of n
+    /// entries is higher than d. Where the handler never breaks, it is the sum of all searches over the list, and no
+    /// less than that of ways down trees of the live segments alone over the tree.
     ///
     /// Returns `Fault::CountOutOfRange` exactly where a winding above a segment that the handler gets leaves the range,
     /// and `Fault::Memory` where a growth is refused. The handler is spent then; the runner can be used again, and its
@@ -94,7 +94,7 @@ impl<C: WindingCount, I: OverlayInt> SweepRunner<C, I> {
             )?
         } else {
             let tree = &mut self.tree;
-            sweep_with_handler::<C, I, D, F, ScanTree<C, I>, H>(
+            sweep_with_handler::<C, I, D, F, ScanMixed<C, I>, H>(
                 tree,
                 ways,
                 segments,
