@@ -105,8 +105,5 @@ walk_lengths_in engine = pick engine.is_narrow (engine.narrow.walk_lengths.items
 abbrev pub walk_links_in : Engine → List ℕ
 walk_links_in engine = pick engine.is_narrow (engine.narrow.walk_links.items) (engine.wide.walk_links.items)
 
-abbrev pub has_walks_in : Engine → Bool
-has_walks_in engine = pick engine.is_narrow (engine.narrow.has_walks) (engine.wide.has_walks)
-
 abbrev pub has_changed_in : Engine → Bool
 has_changed_in engine = pick engine.is_narrow (engine.narrow.has_changed) (engine.wide.has_changed)
