@@ -8,8 +8,8 @@ use Rattle.overlay_base.specs.Segments.{WholeSegment}
 use Rattle.overlay_contours.specs.Refusals.{CountsLeaveRange}
 use Rattle.overlay_c.specs.Contours.{point_by, contours_in, polygon_settings, KeepsPolygons}
 use Rattle.overlay_c.specs.Kept.{are_usable, are_lines_usable}
-use Rattle.overlay_c.specs.Records.{names_narrow, IsRuleOf}
-use Rattle.overlay_c.specs.Widths.{least_of, greatest_of, LastKeepsOverlay, LastKeepsData}
+use Rattle.overlay_c.specs.Records.{line_asked_by, names_narrow, IsRuleOf}
+use Rattle.overlay_c.specs.Widths.{least_of, greatest_of, LastKeepsOverlay, LastKeepsData, LastKeepsClip}
 use Rattle.overlay_c.specs.declared.contours.PointRecord.{PointRecord}
 use Rattle.overlay_c.specs.declared.engine.Engine.{Engine}
 use Rattle.overlay_c.specs.declared.handle.Handle.{Handle}
@@ -50,6 +50,11 @@ KeepsOverlayBy settings code walks given engine = (rule : OverlayRule) × IsRule
 abbrev pub KeepsDataBy : SettingsRecord → ℕ → List WholeSegment → List (DataSegment Tag) → Engine → Type 0
 KeepsDataBy settings code given tagged engine =
     (rule : OverlayRule) × IsRuleOf code rule × LastKeepsOverlay settings rule false given engine × LastKeepsData settings rule tagged engine
+
+-- The engine keeps the lines of records that a clip rule keeps.
+abbrev pub KeepsClipBy : SettingsRecord → Bool → Bool → List LineRecord → Engine → Type 0
+KeepsClipBy settings invert boundary_included records engine =
+    LastKeepsClip settings (record { invert = invert; boundary_included = boundary_included }) (map line_asked_by records) engine
 
 -- The contours that were added stay; those of a shape stay; one is added behind them.
 abbrev pub SameContours : Engine → Engine → Type 0

@@ -5,7 +5,12 @@ use Rattle.overlay_geometry.specs.Points.{Point, point_lt}
 use Rattle.overlay_geometry.specs.Coordinates.{is_point_in_range}
 use Rattle.overlay_base.specs.Windings.{Winding, inverse, is_valid}
 use Rattle.overlay_base.specs.Segments.{WholeSegment}
+use Rattle.overlay_base.specs.BooleanWinding.{boolean_counted}
+use Rattle.overlay_base.specs.EdgeData.{DataSegment, data_piece}
+use Rattle.overlay_base.specs.HooksOf.{hooks_of}
 use Rattle.overlay_base.specs.Radius.{exponent_cap}
+use Rattle.overlay_base.specs.declared.overlay_core.edge_data.OverlayEdgeData.{Ghosts}
+use Rattle.overlay_base.specs.declared.segm.boolean.ShapeCountBoolean.{ShapeCountBoolean}
 use Rattle.overlay_base.specs.Rules.{bits_of}
 use Rattle.overlay_base.specs.declared.overlay_core.fill_rule.FillRule.{FillRule}
 use Rattle.overlay_base.specs.declared.overlay_core.fill_rule.FillRule.TheVariants as fill
@@ -44,6 +49,10 @@ asks least greatest r = is_point_in_range least greatest (start_of r) && is_poin
 -- the segment that it asks for
 abbrev pub asked_by : SegmentRecord → WholeSegment
 asked_by r = piece_of (count_of r) (start_of r) (end_of r)
+
+-- the same with data, as an edge data type's hooks make it with a store
+abbrev pub asked_piece : {D S : Type 0} → Ghosts D ShapeCountBoolean S → SegmentRecord → D → S → DataSegment D
+asked_piece hooks r edge_data store = (data_piece (hooks_of boolean_counted hooks) (count_of r) (start_of r) (end_of r) edge_data store).0
 
 -- the same of a line or a polygon's side
 abbrev pub line_start_of : LineRecord → Point

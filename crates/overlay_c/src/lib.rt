@@ -2,23 +2,20 @@
 #![tactic(auto)]
 
 ghost use Rattle.std.specs.Prelude.{◌≡◌, ◌≢◌, ◌≤ℤ◌, pos, unsigned_abs, ◌↔◌, ◌<◌, ◌^◌, [], ◌∷◌, ◌++◌, false, None, IsSome, IsTrue, IsFalse, IfSome, length, map};
-ghost use Rattle.overlay_base.specs.SegmentOf.{segments_of};
-ghost use Rattle.overlay_base.specs.declared.overlay_core.overlay_rule.OverlayRule.{OverlayRule};
 ghost use Rattle.overlay_base.specs.Join.{join, join_leaves_range, has_equal_pairs};
-ghost use Rattle.overlay_split.specs.Run.{LeavesRange};
-ghost use Rattle.overlay_split.specs.SettingsOf.{snap_limit_of, passes_of};
-ghost use Rattle.overlay_c.specs.Records.{start_of, end_of, line_asked_by, told_by, line_told_by, shape_of, names_narrow, IsRuleOf};
-ghost use Rattle.overlay_c.specs.Calls.{Turns, Leaves, Chooses, MaySplit, MayNotSplit, MaySplitLines, MayNotSplitLines, KeepsOverlayBy, KeepsDataBy, SameContours, SameShape, AddsContour, KeepsPolygonsBy, PolygonCountsLeaveRange};
+ghost use Rattle.overlay_split.specs.SettingsOf.{snap_limit_of};
+ghost use Rattle.overlay_c.specs.Records.{start_of, end_of, line_asked_by, told_by, line_told_by, shape_of};
+ghost use Rattle.overlay_c.specs.Calls.{Turns, Leaves, Chooses, MaySplit, MayNotSplit, MaySplitLines, MayNotSplitLines, KeepsOverlayBy, KeepsDataBy, KeepsClipBy, SameContours, SameShape, AddsContour, KeepsPolygonsBy, PolygonCountsLeaveRange};
 ghost use Rattle.overlay_c.specs.Crosses.{pair_by, cross_by, mask_by};
 ghost use Rattle.overlay_geometry.specs.Coordinates.{least_coordinate, greatest_coordinate, is_pair_in_range};
 ghost use Rattle.overlay_intersections.specs.CrossAnswer.{cross_answer};
 ghost use Rattle.overlay_intersections.specs.Marks.{snapping};
-ghost use Rattle.overlay_c.specs.Kept.{given_by, are_usable, are_lines_usable};
-ghost use Rattle.overlay_c.specs.Widths.{least_of, greatest_of, LastKeepsSplit, LastKeepsAll, LastKeepsOverlay, LastKeepsData, LastKeepsClip, LastStandsAfter, LastLinesStandAfter, LastIsCountRefused, LastIsCountOfAllRefused, LastIsCountOfLinesRefused, LastLeavesRange, LastTellsSizes, SameLimits, segment_count, line_count, segments_in, lines_in, has_changed_in, links_in, link_data_in, degrees_in, indexes_in, walk_lengths_in, walk_links_in};
+ghost use Rattle.overlay_c.specs.Kept.{given_by};
+ghost use Rattle.overlay_c.specs.Widths.{LastKeepsSplit, LastKeepsAll, LastStandsAfter, LastLinesStandAfter, LastIsCountRefused, LastIsCountOfAllRefused, LastIsCountOfLinesRefused, LastLeavesRange, LastTellsSizes, SameLimits, segment_count, line_count, segments_in, lines_in, has_changed_in, links_in, link_data_in, degrees_in, indexes_in, walk_lengths_in, walk_links_in};
 ghost use Rattle.overlay_c.specs.Tags.{untagged, tagged_by};
 ghost use Rattle.overlay_base.specs.declared.segm.shape_type.ShapeType.TheVariants.{Subject, Clip};
-ghost use Rattle.overlay_contours.specs.Refusals.{other_shape, CountsLeaveRange};
-ghost use Rattle.overlay_c.specs.Contours.{point_by, are_in_range, contours_in, polygon_settings, KeepsPolygons, SameSplit};
+ghost use Rattle.overlay_contours.specs.Refusals.{other_shape};
+ghost use Rattle.overlay_c.specs.Contours.{are_in_range, contours_in, SameSplit};
 
 pub mod contours;
 pub mod cores;
@@ -219,9 +216,7 @@ pub extern "C" fn overlay_c_clip(
     requires { IsSome handle.old.engine }
     ensures full { IsSome handle.new.engine }
     ensures chosen { Leaves handle.new (Chooses settings.now.engine) }
-    ensures done { result ≡ 0 → IfSome handle.new.engine (λ after.
-        LastKeepsClip settings.now (record { invert = invert; boundary_included = boundary_included })
-        (map line_asked_by given.now) after) }
+    ensures done { result ≡ 0 → Leaves handle.new (KeepsClipBy settings.now invert boundary_included given.now) }
     ensures usable { result ≡ 0 → Leaves handle.new (MaySplitLines given.now) }
     ensures unusable { result ≡ 3 → Leaves handle.new (MayNotSplitLines given.now) }
     ensures too_large { result ≡ 2 → Turns handle.old handle.new (LastIsCountOfLinesRefused settings.now (map line_asked_by given.now)) }

@@ -3,12 +3,10 @@ ghost use Rattle.std.specs.Prelude.{◌≡◌, ◌<◌, ◌&&◌, IfSome, is_som
 ghost use Rattle.std.specs.Ordering.{int_eq};
 ghost use Rattle.overlay_geometry.specs.PointOf.{point_of};
 ghost use Rattle.overlay_geometry.specs.Coordinates.{is_point_in_range};
-ghost use Rattle.overlay_base.specs.BooleanWinding.{boolean_winding, boolean_counted};
-ghost use Rattle.overlay_base.specs.EdgeData.{data_piece};
-ghost use Rattle.overlay_base.specs.HooksOf.{hooks_of};
+ghost use Rattle.overlay_base.specs.BooleanWinding.{boolean_winding};
 ghost use Rattle.overlay_base.specs.SegmentOf.{segment_of, segments_of, data_segment_of};
 ghost use Rattle.overlay_build.specs.GraphOf.{link_of};
-ghost use Rattle.overlay_c.specs.Records.{start_of, end_of, count_of, asks, asked_by, told_by, link_by, fill_rule_of, shape_of, IsRuleOf};
+ghost use Rattle.overlay_c.specs.Records.{start_of, end_of, count_of, asks, asked_by, asked_piece, told_by, link_by, fill_rule_of, shape_of, IsRuleOf};
 
 use crate::width::Width;
 use overlay_base::overlay_core::edge_data::OverlayEdgeData;
@@ -91,9 +89,7 @@ pub fn asked<I: Width, D: OverlayEdgeData<ShapeCountBoolean>>(
 ) -> Option<Segment<ShapeCountBoolean, I, D>>
     ensures asks { is_some result ≡ asks (I.whole I.MIN_COORD) (I.whole I.MAX_COORD) given.now }
     ensures segment { IfSome result (λ segment. segment_of segment ≡ asked_by given.now) }
-    ensures edge_data { IfSome result (λ segment. let hooks = hooks_of boolean_counted D.OverlayEdgeData.own in
-        data_segment_of segment ≡ (data_piece hooks (count_of given.now) (start_of given.now) (end_of given.now)
-        edge_data store.old).0) }
+    ensures edge_data { IfSome result (λ segment. data_segment_of segment ≡ asked_piece D.OverlayEdgeData.own given.now edge_data store.old) }
 {
     let a = point(start(given))?;
     let b = point(end(given))?;
