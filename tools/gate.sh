@@ -1,6 +1,6 @@
 #!/usr/bin/env bash
-# Proofs, tests and must-fail edits from nothing, by `rt ci`; then each growth of the programs is refused in turn, and the
-# tests of the Rust package run, where cargo is. The last line is `N passed, M failed`.
+# Proofs, tests and must-fail edits from nothing, by `rt ci`; then what refused the edits is compared with PROMISES, each growth
+# of the programs is refused in turn, and the tests of the Rust package run, where cargo is. The last line is `N passed, M failed`.
 #
 #     bash tools/gate.sh                  the whole gate
 #     bash tools/gate.sh --since COMMIT   every proof and test, and of the edits only those of crates that changed since COMMIT
@@ -54,10 +54,15 @@ rt ci | while IFS= read -r line; do
 done || status=$?
 verdict=$(tail -n 1 "$lines")
 
-# Each growth of the programs is refused in turn, and the package is tested. The last line is that of `rt ci`, with a test
-# more for each of the two.
+# What refused the edits is compared, each growth of the programs is refused in turn, and the package is tested. The last line
+# is that of `rt ci`, with a test more for each of the three.
 if [[ $verdict =~ ^([0-9]+)\ passed,\ ([0-9]+)\ failed(.*)$ ]]; then
     passed=${BASH_REMATCH[1]} failed=${BASH_REMATCH[2]} rest=${BASH_REMATCH[3]}
+    if python3 tools/refused_by.py "$lines"; then
+        passed=$((passed + 1))
+    else
+        failed=$((failed + 1)) status=1
+    fi
     if python3 tools/refusals.py; then
         passed=$((passed + 1))
     else
