@@ -41,6 +41,11 @@ elif (($#)); then
     exit 2
 fi
 
+# Each check gets one job, and as many run side by side as there are processors: a further job of a check loads the libraries
+# again, and takes two thirds more of processor time.
+RT_JOBS=${RT_JOBS:-$(PYTHONPATH=tools python3 -B -c 'import run; print(run.processors())')}
+export RT_JOBS
+
 python3 tools/check_docs.py
 python3 tools/unused_lemmas.py
 lines="$room/lines"

@@ -1,5 +1,5 @@
 -- What a sweep asks of its live segments.
-use Rattle.std.specs.Prelude.{◌≡◌, ℕ, Bool, MatchBool, cond, ◌+◌, ◌-◌, ◌*◌, ◌/◌, ◌^◌, ◌<◌, ◌≤◌, min, ℤ, int_lt, List, length, take, sum_by, count_by}
+use Rattle.std.specs.Prelude.{◌≡◌, ℕ, suc, Bool, MatchBool, cond, ◌+◌, ◌-◌, ◌*◌, ◌/◌, ◌^◌, ◌<◌, ◌≤◌, min, ℤ, ◌≤ℤ◌, int_lt, List, length, take, sum_by, count_by}
 use Rattle.std.specs.List.{enumerate_from, list_any}
 use Rattle.overlay_geometry.specs.Points.{Pair, point_eq}
 use Rattle.overlay_base.specs.Segments.{WholeSegment}
@@ -23,6 +23,17 @@ IsSweepWithin is_list n asked = (d : ℕ) → MatchBool is_list (2 * n ≤ 2 ^ d
 -- how many of the segments end right of x
 abbrev pub lasting_at : ℤ → List WholeSegment → ℕ
 lasting_at x segments = count_by (λ s. int_lt x s.pair.b.x) segments
+
+-- from x on as many segments of one list last as of another
+abbrev pub LastAlikeFrom : ℤ → List WholeSegment → List WholeSegment → Type 0
+LastAlikeFrom x segments others = (y : ℤ) → x ≤ℤ y → lasting_at y segments ≡ lasting_at y others
+
+-- A search for which a collection dropped entries asks at most d orders, and d more for each of these: it was of so many entries, and so many are left. An insert adds one entry.
+abbrev pub IsSearchCost : (ℕ → ℕ → Type 0) → ℕ → ℕ → ℕ → Type 0
+IsSearchCost IsMost was left asked = (n d : ℕ) → was ≤ n → IsMost n d → asked + left * d ≤ suc was * d
+
+abbrev pub IsInsertCost : (ℕ → ℕ → Type 0) → ℕ → ℕ → ℕ → Type 0
+IsInsertCost IsMost was left asked = (n d : ℕ) → was ≤ n → IsMost n d → asked + left * d ≤ suc (suc was) * d
 
 -- How often a sweep searches the live segments for a segment of an arrangement: once if none listed before it has its start, and once more, to insert it, if it is not vertical.
 abbrev pub searches_for : List WholeSegment → Pair → ℕ

@@ -1,7 +1,7 @@
 -- The fill of a segment: a number from 0 to 15 that says where its two sides are inside.
 use Rattle.std.specs.Prelude.{ℕ, ◌+◌, ◌*◌, ◌%◌, ◌==◌, ℤ, pos, int_lt, unsigned_abs, Bool, if◌then◌else◌, not}
 use Rattle.std.specs.Ordering.{int_eq}
-use Rattle.overlay_base.specs.Windings.{Winding}
+use Rattle.overlay_base.specs.Windings.{Winding, add, weight}
 use Rattle.overlay_base.specs.declared.overlay_core.fill_rule.FillRule.{FillRule}
 use Rattle.overlay_base.specs.declared.overlay_core.fill_rule.FillRule.TheVariants.{EvenOdd, NonZero, Positive, Negative}
 
@@ -21,3 +21,11 @@ unfoldable pub fill_byte : FillRule → Winding → Winding → ℕ → ℕ
 fill_byte rule bottom top mask =
     flag_value (is_inside rule top.subj) 1 + flag_value (is_inside rule bottom.subj) 2
     + flag_value (is_inside rule top.clip) 4 + flag_value (is_inside rule bottom.clip) 8 + 4 * mask
+
+-- the winding above a segment with a count, over the winding below it; masks play no part
+abbrev pub winding_above : Winding → Winding → Winding
+winding_above bottom count = add (weight bottom) (weight count)
+
+-- the fill of a segment with a count, over the winding below it
+abbrev pub fill_above : FillRule → Winding → Winding → ℕ
+fill_above rule bottom count = fill_byte rule bottom (winding_above bottom count) count.mask

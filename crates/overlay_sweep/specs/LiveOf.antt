@@ -17,6 +17,10 @@ list_entries list = list.entries.items
 abbrev pub list_sums : {C I : Type 0} {m : _} {w : _} {o : _} {e : _} {p : _} → ScanList C I m w o e p → List WholeSegment
 list_sums list = entries_of (list_entries list)
 
+-- how many entries it holds
+abbrev pub list_held : {C I : Type 0} {m : _} {w : _} {o : _} {e : _} {p : _} → ScanList C I m w o e p → ℕ
+list_held list = length (list_entries list)
+
 -- the list is in order at x
 abbrev pub IsInOrderAt : {C I : Type 0} {m : _} {w : _} {o : _} {e : _} {p : _} → ℤ → ScanList C I m w o e p → Type 0
 IsInOrderAt {w = w} x list = IsScanList x (list_sums list) (w.whole list.least_end)
@@ -49,14 +53,14 @@ abbrev pub run_asked : {C I : Type 0} {m : _} {w : _} {o : _} {e : _} {p : _} �
 run_asked runner = runner.compared
 
 -- the same of a collection that begins as a list and becomes a tree: those of the one that holds the entries
-abbrev pub mixed_sums : {C I : Type 0} {m : _} {w : _} {o : _} {e : _} {p : _} → ScanMixed C I m w o e p → List WholeSegment
-mixed_sums mixed = cond mixed.is_tree (tree_sums mixed.tree) (list_sums mixed.list)
+abbrev pub sums_in : {C I : Type 0} {m : _} {w : _} {o : _} {e : _} {p : _} → ScanMixed C I m w o e p → List WholeSegment
+sums_in mixed = cond mixed.is_tree (tree_sums mixed.tree) (list_sums mixed.list)
 
-abbrev pub mixed_held : {C I : Type 0} {m : _} {w : _} {o : _} {e : _} {p : _} → ScanMixed C I m w o e p → ℕ
-mixed_held mixed = cond mixed.is_tree (tree_held mixed.tree) (length (list_entries mixed.list))
+abbrev pub held_in : {C I : Type 0} {m : _} {w : _} {o : _} {e : _} {p : _} → ScanMixed C I m w o e p → ℕ
+held_in mixed = cond mixed.is_tree (tree_held mixed.tree) (list_held mixed.list)
 
-abbrev pub mixed_asked : {C I : Type 0} {m : _} {w : _} {o : _} {e : _} {p : _} → ScanMixed C I m w o e p → ℕ
-mixed_asked mixed = cond mixed.is_tree (tree_asked mixed.tree) (list_asked mixed.list)
+abbrev pub asked_in : {C I : Type 0} {m : _} {w : _} {o : _} {e : _} {p : _} → ScanMixed C I m w o e p → ℕ
+asked_in mixed = cond mixed.is_tree (tree_asked mixed.tree) (list_asked mixed.list)
 
 abbrev pub IsMixedAt : {C I : Type 0} {m : _} {w : _} {o : _} {e : _} {p : _} → ℤ → ScanMixed C I m w o e p → Type 0
 IsMixedAt x mixed = MatchBool mixed.is_tree (IsSoundAt x mixed.tree) (IsInOrderAt x mixed.list)

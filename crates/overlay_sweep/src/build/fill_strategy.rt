@@ -1,10 +1,10 @@
 // How the fill of a segment follows from the windings on its two sides. Upstream: `build::sweep`, and the strategies of
 // `build::boolean` and `build::string`.
 ghost use Rattle.std.specs.Prelude.{◌≡◌, ◌↔◌, IsTrue, IsOk, IfOk, IfErr, pos};
-ghost use Rattle.overlay_base.specs.Windings.{add, weight, empty, is_valid, is_count_in_range};
+ghost use Rattle.overlay_base.specs.Windings.{empty, is_valid, is_count_in_range};
 ghost use Rattle.overlay_base.specs.declared.overlay_core.fill_rule.FillRule.{FillRule};
 ghost use Rattle.overlay_base.specs.declared.overlay_core.fill_rule.FillRule.TheVariants.{EvenOdd, NonZero, Positive, Negative};
-ghost use Rattle.overlay_sweep.specs.Fill.{fill_byte, flag_value, is_inside};
+ghost use Rattle.overlay_sweep.specs.Fill.{flag_value, is_inside, winding_above, fill_above};
 
 use overlay_base::overlay_core::fill_rule::FillRule;
 use overlay_base::segm::fault::Fault;
@@ -23,12 +23,11 @@ pub trait FillStrategy<C: WindingCount> {
         requires this { IsTrue (is_valid (C.winding this)) }
         requires bot { IsTrue (is_valid (C.winding bot)) }
         ensures sum { IfOk result (λ answer. C.winding answer.0
-            ≡ add (weight (C.winding bot)) (weight (C.winding this))) }
+            ≡ winding_above (C.winding bot) (C.winding this)) }
         ensures fill { IfOk result (λ answer. answer.1
-            ≡ fill_byte rule (C.winding bot) (add (weight (C.winding bot)) (weight (C.winding this)))
-            (C.winding this).mask) }
+            ≡ fill_above rule (C.winding bot) (C.winding this)) }
         ensures in_range { IsOk result ↔ IsTrue (is_count_in_range
-            (add (weight (C.winding bot)) (weight (C.winding this)))) }
+            (winding_above (C.winding bot) (C.winding this))) }
         ensures fault { IfErr result (λ fault. fault ≡ Fault.CountOutOfRange) };
 
     ghost nothing: { C.made (pos 0) (pos 0) ≡ empty };
@@ -45,12 +44,11 @@ pub trait FillCount: WindingCount {
         requires this { IsTrue (is_valid (Self.winding this)) }
         requires bot { IsTrue (is_valid (Self.winding bot)) }
         ensures sum { IfOk result (λ answer. Self.winding answer.0
-            ≡ add (weight (Self.winding bot)) (weight (Self.winding this))) }
+            ≡ winding_above (Self.winding bot) (Self.winding this)) }
         ensures fill { IfOk result (λ answer. answer.1
-            ≡ fill_byte fill_rule (Self.winding bot) (add (weight (Self.winding bot)) (weight (Self.winding this)))
-            (Self.winding this).mask) }
+            ≡ fill_above fill_rule (Self.winding bot) (Self.winding this)) }
         ensures in_range { IsOk result ↔ IsTrue (is_count_in_range
-            (add (weight (Self.winding bot)) (weight (Self.winding this)))) }
+            (winding_above (Self.winding bot) (Self.winding this))) }
         ensures fault { IfErr result (λ fault. fault ≡ Fault.CountOutOfRange) };
 
     ghost without_winding: { Self.made (pos 0) (pos 0) ≡ empty };

@@ -1,12 +1,13 @@
 // The segments over which a sweep stands, each with the winding above it. Upstream: the collections of `i_tree`.
-ghost use Rattle.std.specs.Prelude.{◌≡◌, ℕ, suc, ◌+◌, ◌*◌, ◌≤◌, ℤ, ◌≤ℤ◌, ◌<ℤ◌, List, [], ◌∷◌, OnOk, OnErr, IfErr};
+ghost use Rattle.std.specs.Prelude.{◌≡◌, ℕ, suc, ◌≤◌, ℤ, ◌≤ℤ◌, ◌<ℤ◌, List, [], ◌∷◌, OnOk, OnErr, IfErr};
 ghost use Rattle.overlay_base.specs.Segments.{WholeSegment};
 ghost use Rattle.overlay_geometry.specs.PointOf.{point_of};
 ghost use Rattle.overlay_geometry.specs.InRange.{IsPointInRange};
-ghost use Rattle.overlay_geometry.specs.VSegmentOf.{v_pair_of, IsVSegmentInRange};
+ghost use Rattle.overlay_geometry.specs.VSegmentOf.{IsVSegmentInRange};
+ghost use Rattle.overlay_sweep.specs.EntryOf.{summed};
 ghost use Rattle.overlay_sweep.specs.Live.{sum_below};
 ghost use Rattle.overlay_sweep.specs.Live.{HoldSameFrom, AreFreeAt};
-ghost use Rattle.overlay_sweep.specs.Costs.{lasting_at};
+ghost use Rattle.overlay_sweep.specs.Costs.{lasting_at, LastAlikeFrom, IsInsertCost, IsSearchCost};
 
 use overlay_base::segm::fault::Fault;
 use overlay_base::segm::winding::WindingCount;
@@ -44,20 +45,16 @@ pub trait LiveSegments<C: WindingCount, I: OverlayInt> {
         requires start { I.whole segment.a.x ≡ I.whole x }
         requires wide { I.whole x <ℤ I.whole segment.b.x }
         requires time { may_go_on_at self.old (I.whole x) }
-        requires free { AreFreeAt (I.whole x)
-            (record { pair = v_pair_of I.whole segment; count = C.winding sum } ∷ sums self.old) }
-        ensures sums { OnOk result (HoldSameFrom (I.whole x) (sums self.new)
-            (record { pair = v_pair_of I.whole segment; count = C.winding sum } ∷ sums self.old)) }
+        requires free { AreFreeAt (I.whole x) (summed C.winding I.whole segment sum ∷ sums self.old) }
+        ensures sums { OnOk result (HoldSameFrom (I.whole x) (sums self.new) (summed C.winding I.whole segment sum ∷ sums self.old)) }
         ensures time { OnOk result ((y : ℤ) → I.whole x ≤ℤ y → may_go_on_at self.new y) }
         ensures fault { IfErr result (λ fault. fault ≡ Fault.Memory) }
         ensures emptied { OnErr result (sums self.new ≡ []) }
         ensures none_asked { OnErr result (asked self.new ≡ 0) }
         ensures cleared { OnErr result ((y : ℤ) → may_go_on_at self.new y) }
         ensures held { OnOk result (held self.new ≤ suc (held self.old)) }
-        ensures most { OnOk result ((n d : ℕ) → held self.old ≤ n → is_most n d
-            → asked self.new + held self.new * d ≤ suc (suc (held self.old)) * d) }
-        ensures lasting { OnOk result ((y : ℤ) → I.whole x ≤ℤ y → lasting_at y (sums self.new)
-            ≡ lasting_at y (record { pair = v_pair_of I.whole segment; count = C.winding sum } ∷ sums self.old)) }
+        ensures most { OnOk result (IsInsertCost is_most (held self.old) (held self.new) (asked self.new)) }
+        ensures lasting { OnOk result (LastAlikeFrom (I.whole x) (sums self.new) (summed C.winding I.whole segment sum ∷ sums self.old)) }
         ensures look { OnOk result (asks (lasting_at (I.whole x) (sums self.old)) (asked self.new)) };
 
     /// The sum on the live segment directly below `p`, of several that start at one point there the last by angle, or
@@ -71,9 +68,8 @@ pub trait LiveSegments<C: WindingCount, I: OverlayInt> {
         ensures sums { HoldSameFrom (I.whole x) (sums self.new) (sums self.old) }
         ensures time { (y : ℤ) → I.whole x ≤ℤ y → may_go_on_at self.new y }
         ensures held { held self.new ≤ held self.old }
-        ensures most { (n d : ℕ) → held self.old ≤ n → is_most n d
-            → asked self.new + held self.new * d ≤ suc (held self.old) * d }
-        ensures lasting { (y : ℤ) → I.whole x ≤ℤ y → lasting_at y (sums self.new) ≡ lasting_at y (sums self.old) }
+        ensures most { IsSearchCost is_most (held self.old) (held self.new) (asked self.new) }
+        ensures lasting { LastAlikeFrom (I.whole x) (sums self.new) (sums self.old) }
         ensures look { asks (lasting_at (I.whole x) (sums self.old)) (asked self.new) };
 
     /// Drops all segments. The next call may be at any `x`.

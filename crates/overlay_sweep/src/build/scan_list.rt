@@ -1,6 +1,6 @@
 // A list of the live segments from below, which is searched by halves. Upstream: `KeyExpList` of `i_tree`.
 ghost use Rattle.std.specs.Prelude.{◌≡◌};
-ghost use Rattle.overlay_geometry.specs.VSegmentOf.{v_pair_of, IsVSegmentInRange};
+ghost use Rattle.overlay_geometry.specs.VSegmentOf.{IsVSegmentInRange};
 
 use crate::build::entry::Entry;
 use crate::build::live_segments::LiveSegments;
@@ -126,19 +126,20 @@ impl<C: WindingCount, I: OverlayInt> ScanList<C, I> {
 }
 
 impl<C: WindingCount, I: OverlayInt> LiveSegments<C, I> for ScanList<C, I> {
-    ghost use Rattle.std.specs.Prelude.{ℕ, suc, ◌+◌, ◌-◌, ◌*◌, ◌^◌, ◌≤◌, ◌≤ℤ◌, ◌<ℤ◌, ℤ, All, [], ◌∷◌, OnOk, OnErr, IfErr, length};
+    ghost use Rattle.std.specs.Prelude.{suc, ◌-◌, ◌*◌, ◌^◌, ◌≤◌, ◌≤ℤ◌, ◌<ℤ◌, ℤ, All, [], ◌∷◌, OnOk, OnErr, IfErr};
     ghost use Rattle.overlay_geometry.specs.PointOf.{point_of};
     ghost use Rattle.overlay_geometry.specs.InRange.{IsPointInRange};
-    ghost use Rattle.overlay_sweep.specs.Costs.{IsSearchAmong, lasting_at};
+    ghost use Rattle.overlay_sweep.specs.Costs.{IsSearchAmong, lasting_at, LastAlikeFrom, IsInsertCost, IsSearchCost};
+    ghost use Rattle.overlay_sweep.specs.EntryOf.{summed};
     ghost use Rattle.overlay_sweep.specs.Live.{sum_below};
     ghost use Rattle.overlay_sweep.specs.Live.{HoldSameFrom, AreFreeAt};
-    ghost use Rattle.overlay_sweep.specs.LiveOf.{list_entries, list_sums, list_asked, IsInOrderAt};
+    ghost use Rattle.overlay_sweep.specs.LiveOf.{list_sums, list_held, list_asked, IsInOrderAt};
 
     ghost sums = { λ list. list_sums list };
 
     ghost asked = { λ list. list_asked list };
 
-    ghost held = { λ list. length (list_entries list) };
+    ghost held = { λ list. list_held list };
 
     ghost is_most = { λ n d. 2 * n ≤ 2 ^ d };
 
@@ -151,23 +152,18 @@ impl<C: WindingCount, I: OverlayInt> LiveSegments<C, I> for ScanList<C, I> {
         requires start { I.whole segment.a.x ≡ I.whole x }
         requires wide { I.whole x <ℤ I.whole segment.b.x }
         requires time { IsInOrderAt (I.whole x) self.old }
-        requires free { AreFreeAt (I.whole x)
-            (record { pair = v_pair_of I.whole segment; count = C.winding sum } ∷ list_sums self.old) }
-        ensures sums { OnOk result (HoldSameFrom (I.whole x) (list_sums self.new)
-            (record { pair = v_pair_of I.whole segment; count = C.winding sum } ∷ list_sums self.old)) }
+        requires free { AreFreeAt (I.whole x) (summed C.winding I.whole segment sum ∷ list_sums self.old) }
+        ensures sums { OnOk result (HoldSameFrom (I.whole x) (list_sums self.new) (summed C.winding I.whole segment sum ∷ list_sums self.old)) }
         ensures time { OnOk result ((y : ℤ) → I.whole x ≤ℤ y → IsInOrderAt y self.new) }
         ensures fault { IfErr result (λ fault. fault ≡ Fault.Memory) }
         ensures emptied { OnErr result (list_sums self.new ≡ []) }
         ensures none_asked { OnErr result (list_asked self.new ≡ 0) }
         ensures cleared { OnErr result ((y : ℤ) → IsInOrderAt y self.new) }
         ensures live { OnOk result (All (λ s. I.whole x <ℤ s.pair.b.x) (list_sums self.new)) }
-        ensures compared { OnOk result (IsSearchAmong (length (list_entries self.new) - 1) (list_asked self.new)) }
-        ensures held { OnOk result (length (list_entries self.new) ≤ suc (length (list_entries self.old))) }
-        ensures most { OnOk result ((n d : ℕ) → length (list_entries self.old) ≤ n → 2 * n ≤ 2 ^ d
-            → list_asked self.new + length (list_entries self.new) * d
-            ≤ suc (suc (length (list_entries self.old))) * d) }
-        ensures lasting { OnOk result ((y : ℤ) → I.whole x ≤ℤ y → lasting_at y (list_sums self.new) ≡ lasting_at y
-            (record { pair = v_pair_of I.whole segment; count = C.winding sum } ∷ list_sums self.old)) }
+        ensures compared { OnOk result (IsSearchAmong (list_held self.new - 1) (list_asked self.new)) }
+        ensures held { OnOk result (list_held self.new ≤ suc (list_held self.old)) }
+        ensures most { OnOk result (IsInsertCost (λ n d. 2 * n ≤ 2 ^ d) (list_held self.old) (list_held self.new) (list_asked self.new)) }
+        ensures lasting { OnOk result (LastAlikeFrom (I.whole x) (list_sums self.new) (summed C.winding I.whole segment sum ∷ list_sums self.old)) }
         ensures look { OnOk result (IsSearchAmong (lasting_at (I.whole x) (list_sums self.old)) (list_asked self.new)) }
     {
         let entry = Entry { segment, sum };
@@ -191,12 +187,10 @@ impl<C: WindingCount, I: OverlayInt> LiveSegments<C, I> for ScanList<C, I> {
         ensures sums { HoldSameFrom (I.whole x) (list_sums self.new) (list_sums self.old) }
         ensures time { (y : ℤ) → I.whole x ≤ℤ y → IsInOrderAt y self.new }
         ensures live { All (λ s. I.whole x <ℤ s.pair.b.x) (list_sums self.new) }
-        ensures compared { IsSearchAmong (length (list_entries self.new)) (list_asked self.new) }
-        ensures held { length (list_entries self.new) ≤ length (list_entries self.old) }
-        ensures most { (n d : ℕ) → length (list_entries self.old) ≤ n → 2 * n ≤ 2 ^ d
-            → list_asked self.new + length (list_entries self.new) * d ≤ suc (length (list_entries self.old)) * d }
-        ensures lasting { (y : ℤ) → I.whole x ≤ℤ y → lasting_at y (list_sums self.new)
-            ≡ lasting_at y (list_sums self.old) }
+        ensures compared { IsSearchAmong (list_held self.new) (list_asked self.new) }
+        ensures held { list_held self.new ≤ list_held self.old }
+        ensures most { IsSearchCost (λ n d. 2 * n ≤ 2 ^ d) (list_held self.old) (list_held self.new) (list_asked self.new) }
+        ensures lasting { LastAlikeFrom (I.whole x) (list_sums self.new) (list_sums self.old) }
         ensures look { IsSearchAmong (lasting_at (I.whole x) (list_sums self.old)) (list_asked self.new) }
     {
         let position = self.settle(x, &Place::Point(p));
@@ -211,7 +205,7 @@ impl<C: WindingCount, I: OverlayInt> LiveSegments<C, I> for ScanList<C, I> {
         ensures sums { list_sums self.new ≡ [] }
         ensures time { (y : ℤ) → IsInOrderAt y self.new }
         ensures asked { list_asked self.new ≡ 0 }
-        ensures held { length (list_entries self.new) ≡ 0 }
+        ensures held { list_held self.new ≡ 0 }
     {
         self.entries.clear();
         self.least_end = I::MAX_COORD;

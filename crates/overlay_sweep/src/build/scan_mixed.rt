@@ -1,6 +1,6 @@
 // A list of live segments while they are few, and a tree once they are many.
 ghost use Rattle.std.specs.Prelude.{◌≡◌};
-ghost use Rattle.overlay_geometry.specs.VSegmentOf.{v_pair_of, IsVSegmentInRange};
+ghost use Rattle.overlay_geometry.specs.VSegmentOf.{IsVSegmentInRange};
 
 use crate::build::live_segments::LiveSegments;
 use crate::build::scan_list::ScanList;
@@ -27,14 +27,14 @@ pub struct ScanMixed<C: WindingCount, I: OverlayInt> {
 
 impl<C: WindingCount, I: OverlayInt> ScanMixed<C, I> {
     ghost use Rattle.std.specs.Prelude.{ℤ, [], true, length, OnOk, OnErr, IfErr};
-    ghost use Rattle.overlay_sweep.specs.LiveOf.{mixed_sums, mixed_held, mixed_asked, IsMixedAt, list_sums, list_entries, tree_sums, tree_asked, tree_held, IsInOrderAt, IsSoundAt};
+    ghost use Rattle.overlay_sweep.specs.LiveOf.{sums_in, held_in, asked_in, IsMixedAt, list_sums, list_entries, tree_sums, tree_asked, tree_held, IsInOrderAt, IsSoundAt};
 
     /// An empty list, which takes no memory yet.
     pub fn new(alloc: Global) -> ScanMixed<C, I>
-        ensures sums { mixed_sums result ≡ [] }
+        ensures sums { sums_in result ≡ [] }
         ensures time { (x : ℤ) → IsMixedAt x result }
-        ensures held { mixed_held result ≡ 0 }
-        ensures asked { mixed_asked result ≡ 0 }
+        ensures held { held_in result ≡ 0 }
+        ensures asked { asked_in result ≡ 0 }
     {
         ScanMixed {
             list: ScanList::new(alloc),
@@ -62,19 +62,20 @@ impl<C: WindingCount, I: OverlayInt> ScanMixed<C, I> {
 }
 
 impl<C: WindingCount, I: OverlayInt> LiveSegments<C, I> for ScanMixed<C, I> {
-    ghost use Rattle.std.specs.Prelude.{ℕ, suc, ◌+◌, ◌*◌, ◌≤◌, ◌≤ℤ◌, ◌<ℤ◌, ℤ, [], ◌∷◌, OnOk, OnErr, IfErr};
+    ghost use Rattle.std.specs.Prelude.{suc, ◌≤◌, ◌≤ℤ◌, ◌<ℤ◌, ℤ, [], ◌∷◌, OnOk, OnErr, IfErr};
     ghost use Rattle.overlay_geometry.specs.PointOf.{point_of};
     ghost use Rattle.overlay_geometry.specs.InRange.{IsPointInRange};
-    ghost use Rattle.overlay_sweep.specs.Costs.{IsHighest, IsWayAmong, lasting_at};
+    ghost use Rattle.overlay_sweep.specs.Costs.{IsHighest, IsWayAmong, lasting_at, LastAlikeFrom, IsInsertCost, IsSearchCost};
+    ghost use Rattle.overlay_sweep.specs.EntryOf.{summed};
     ghost use Rattle.overlay_sweep.specs.Live.{sum_below};
     ghost use Rattle.overlay_sweep.specs.Live.{HoldSameFrom, AreFreeAt};
-    ghost use Rattle.overlay_sweep.specs.LiveOf.{mixed_sums, mixed_held, mixed_asked, IsMixedAt};
+    ghost use Rattle.overlay_sweep.specs.LiveOf.{sums_in, held_in, asked_in, IsMixedAt};
 
-    ghost sums = { λ mixed. mixed_sums mixed };
+    ghost sums = { λ mixed. sums_in mixed };
 
-    ghost asked = { λ mixed. mixed_asked mixed };
+    ghost asked = { λ mixed. asked_in mixed };
 
-    ghost held = { λ mixed. mixed_held mixed };
+    ghost held = { λ mixed. held_in mixed };
 
     ghost is_most = { λ n d. IsHighest n d };
 
@@ -87,21 +88,17 @@ impl<C: WindingCount, I: OverlayInt> LiveSegments<C, I> for ScanMixed<C, I> {
         requires start { I.whole segment.a.x ≡ I.whole x }
         requires wide { I.whole x <ℤ I.whole segment.b.x }
         requires time { IsMixedAt (I.whole x) self.old }
-        requires free { AreFreeAt (I.whole x)
-            (record { pair = v_pair_of I.whole segment; count = C.winding sum } ∷ mixed_sums self.old) }
-        ensures sums { OnOk result (HoldSameFrom (I.whole x) (mixed_sums self.new)
-            (record { pair = v_pair_of I.whole segment; count = C.winding sum } ∷ mixed_sums self.old)) }
+        requires free { AreFreeAt (I.whole x) (summed C.winding I.whole segment sum ∷ sums_in self.old) }
+        ensures sums { OnOk result (HoldSameFrom (I.whole x) (sums_in self.new) (summed C.winding I.whole segment sum ∷ sums_in self.old)) }
         ensures time { OnOk result ((y : ℤ) → I.whole x ≤ℤ y → IsMixedAt y self.new) }
         ensures fault { IfErr result (λ fault. fault ≡ Fault.Memory) }
-        ensures emptied { OnErr result (mixed_sums self.new ≡ []) }
-        ensures none_asked { OnErr result (mixed_asked self.new ≡ 0) }
+        ensures emptied { OnErr result (sums_in self.new ≡ []) }
+        ensures none_asked { OnErr result (asked_in self.new ≡ 0) }
         ensures cleared { OnErr result ((y : ℤ) → IsMixedAt y self.new) }
-        ensures held { OnOk result (mixed_held self.new ≤ suc (mixed_held self.old)) }
-        ensures most { OnOk result ((n d : ℕ) → mixed_held self.old ≤ n → IsHighest n d
-            → mixed_asked self.new + mixed_held self.new * d ≤ suc (suc (mixed_held self.old)) * d) }
-        ensures lasting { OnOk result ((y : ℤ) → I.whole x ≤ℤ y → lasting_at y (mixed_sums self.new) ≡ lasting_at y
-            (record { pair = v_pair_of I.whole segment; count = C.winding sum } ∷ mixed_sums self.old)) }
-        ensures look { OnOk result (IsWayAmong (lasting_at (I.whole x) (mixed_sums self.old)) (mixed_asked self.new)) }
+        ensures held { OnOk result (held_in self.new ≤ suc (held_in self.old)) }
+        ensures most { OnOk result (IsInsertCost IsHighest (held_in self.old) (held_in self.new) (asked_in self.new)) }
+        ensures lasting { OnOk result (LastAlikeFrom (I.whole x) (sums_in self.new) (summed C.winding I.whole segment sum ∷ sums_in self.old)) }
+        ensures look { OnOk result (IsWayAmong (lasting_at (I.whole x) (sums_in self.old)) (asked_in self.new)) }
     {
         if self.is_tree {
             return self.tree.insert(segment, sum, x);
@@ -117,16 +114,14 @@ impl<C: WindingCount, I: OverlayInt> LiveSegments<C, I> for ScanMixed<C, I> {
         requires point { IsPointInRange I.whole I.MIN_COORD I.MAX_COORD p }
         requires same_x { I.whole p.x ≡ I.whole x }
         requires time { IsMixedAt (I.whole x) self.old }
-        requires free { AreFreeAt (I.whole x) (mixed_sums self.old) }
-        ensures sum { C.winding result ≡ sum_below (mixed_sums self.old) (point_of I.whole p) (C.winding default) }
-        ensures sums { HoldSameFrom (I.whole x) (mixed_sums self.new) (mixed_sums self.old) }
+        requires free { AreFreeAt (I.whole x) (sums_in self.old) }
+        ensures sum { C.winding result ≡ sum_below (sums_in self.old) (point_of I.whole p) (C.winding default) }
+        ensures sums { HoldSameFrom (I.whole x) (sums_in self.new) (sums_in self.old) }
         ensures time { (y : ℤ) → I.whole x ≤ℤ y → IsMixedAt y self.new }
-        ensures held { mixed_held self.new ≤ mixed_held self.old }
-        ensures most { (n d : ℕ) → mixed_held self.old ≤ n → IsHighest n d
-            → mixed_asked self.new + mixed_held self.new * d ≤ suc (mixed_held self.old) * d }
-        ensures lasting { (y : ℤ) → I.whole x ≤ℤ y → lasting_at y (mixed_sums self.new)
-            ≡ lasting_at y (mixed_sums self.old) }
-        ensures look { IsWayAmong (lasting_at (I.whole x) (mixed_sums self.old)) (mixed_asked self.new) }
+        ensures held { held_in self.new ≤ held_in self.old }
+        ensures most { IsSearchCost IsHighest (held_in self.old) (held_in self.new) (asked_in self.new) }
+        ensures lasting { LastAlikeFrom (I.whole x) (sums_in self.new) (sums_in self.old) }
+        ensures look { IsWayAmong (lasting_at (I.whole x) (sums_in self.old)) (asked_in self.new) }
     {
         if self.is_tree {
             self.tree.sum_below(x, p, default)
@@ -136,10 +131,10 @@ impl<C: WindingCount, I: OverlayInt> LiveSegments<C, I> for ScanMixed<C, I> {
     }
 
     fn clear(&mut self)
-        ensures sums { mixed_sums self.new ≡ [] }
+        ensures sums { sums_in self.new ≡ [] }
         ensures time { (y : ℤ) → IsMixedAt y self.new }
-        ensures held { mixed_held self.new ≡ 0 }
-        ensures asked { mixed_asked self.new ≡ 0 }
+        ensures held { held_in self.new ≡ 0 }
+        ensures asked { asked_in self.new ≡ 0 }
     {
         self.list.clear();
         self.tree.clear();

@@ -220,7 +220,8 @@ impl<C: WindingCount, I: OverlayInt> ScanTree<C, I> {
 
 impl<C: WindingCount, I: OverlayInt> LiveSegments<C, I> for ScanTree<C, I> {
     ghost use Rattle.std.specs.Prelude.{ℕ, ◌*◌, ◌≤ℤ◌, ◌<ℤ◌, ℤ, suc, ◌-◌, [], ◌∷◌, OnOk, OnErr, IfErr};
-    ghost use Rattle.overlay_sweep.specs.Costs.{IsHighest, IsWayAmong, lasting_at};
+    ghost use Rattle.overlay_sweep.specs.Costs.{IsHighest, IsWayAmong, lasting_at, LastAlikeFrom, IsInsertCost, IsSearchCost};
+    ghost use Rattle.overlay_sweep.specs.EntryOf.{summed};
     ghost use Rattle.overlay_geometry.specs.PointOf.{point_of};
     ghost use Rattle.overlay_geometry.specs.InRange.{IsPointInRange};
     ghost use Rattle.overlay_geometry.specs.VSegmentOf.{IsVSegmentInRange};
@@ -246,23 +247,19 @@ impl<C: WindingCount, I: OverlayInt> LiveSegments<C, I> for ScanTree<C, I> {
         requires start { I.whole segment.a.x ≡ I.whole x }
         requires wide { I.whole x <ℤ I.whole segment.b.x }
         requires time { IsSoundAt (I.whole x) self.old }
-        requires free { AreFreeAt (I.whole x)
-            (record { pair = v_pair_of I.whole segment; count = C.winding sum } ∷ tree_sums self.old) }
-        ensures sums { OnOk result (HoldSameFrom (I.whole x) (tree_sums self.new)
-            (record { pair = v_pair_of I.whole segment; count = C.winding sum } ∷ tree_sums self.old)) }
+        requires free { AreFreeAt (I.whole x) (summed C.winding I.whole segment sum ∷ tree_sums self.old) }
+        ensures sums { OnOk result (HoldSameFrom (I.whole x) (tree_sums self.new) (summed C.winding I.whole segment sum ∷ tree_sums self.old)) }
         ensures time { OnOk result ((y : ℤ) → I.whole x ≤ℤ y → IsSoundAt y self.new) }
         ensures fault { IfErr result (λ fault. fault ≡ Fault.Memory) }
         ensures emptied { OnErr result (tree_sums self.new ≡ []) }
         ensures none_asked { OnErr result (tree_asked self.new ≡ 0) }
         ensures cleared { OnErr result ((y : ℤ) → IsSoundAt y self.new) }
         ensures held { OnOk result (tree_held self.new ≤ suc (tree_held self.old)) }
-        ensures most { OnOk result ((n d : ℕ) → tree_held self.old ≤ n → IsHighest n d
-            → tree_asked self.new + tree_held self.new * d ≤ suc (suc (tree_held self.old)) * d) }
+        ensures most { OnOk result (IsInsertCost IsHighest (tree_held self.old) (tree_held self.new) (tree_asked self.new)) }
         ensures compared { OnOk result
             (IsAskedWithin (tree_held self.old) (suc (tree_held self.old) - tree_held self.new) (tree_asked self.new)) }
         ensures reached { OnOk result (height_of self.new / 2 ≤ tree_asked self.new + 1) }
-        ensures lasting { OnOk result ((y : ℤ) → I.whole x ≤ℤ y → lasting_at y (tree_sums self.new) ≡ lasting_at y
-            (record { pair = v_pair_of I.whole segment; count = C.winding sum } ∷ tree_sums self.old)) }
+        ensures lasting { OnOk result (LastAlikeFrom (I.whole x) (tree_sums self.new) (summed C.winding I.whole segment sum ∷ tree_sums self.old)) }
         ensures look { OnOk result (IsWayAmong (lasting_at (I.whole x) (tree_sums self.old)) (tree_asked self.new)) }
     {
         match self.push(Entry { segment, sum }) {
@@ -287,13 +284,11 @@ impl<C: WindingCount, I: OverlayInt> LiveSegments<C, I> for ScanTree<C, I> {
         ensures sums { HoldSameFrom (I.whole x) (tree_sums self.new) (tree_sums self.old) }
         ensures time { (y : ℤ) → I.whole x ≤ℤ y → IsSoundAt y self.new }
         ensures held { tree_held self.new ≤ tree_held self.old }
-        ensures most { (n d : ℕ) → tree_held self.old ≤ n → IsHighest n d
-            → tree_asked self.new + tree_held self.new * d ≤ suc (tree_held self.old) * d }
+        ensures most { IsSearchCost IsHighest (tree_held self.old) (tree_held self.new) (tree_asked self.new) }
         ensures compared { IsAskedWithin (tree_held self.old) (tree_held self.old - tree_held self.new)
             (tree_asked self.new) }
         ensures reached { height_of self.new / 2 ≤ tree_asked self.new + 1 }
-        ensures lasting { (y : ℤ) → I.whole x ≤ℤ y → lasting_at y (tree_sums self.new)
-            ≡ lasting_at y (tree_sums self.old) }
+        ensures lasting { LastAlikeFrom (I.whole x) (tree_sums self.new) (tree_sums self.old) }
         ensures look { IsWayAmong (lasting_at (I.whole x) (tree_sums self.old)) (tree_asked self.new) }
     {
         let last = self.settle(x, &Place::Point(p), NONE);
