@@ -28,7 +28,7 @@ def build_over_left(rtlib, crate):
     rtlib.guarded()
     held = rtlib.lock([*crate.below(), crate])
     os.makedirs(f"{crate.folder}/out", exist_ok=True)
-    words = crate.words(["--jobs", str(run.processors())], keeps=False)
+    words = crate.words(["--jobs", "1"], keeps=False)
     by = ["--toolchain", f"{rtlib.KIT}/toolchain", "--backend", "llvm", "-o", f"out/lib{crate.name}.a"]
     try:
         return crate.call(rtlib.RATTLE, "build", *words, *by)

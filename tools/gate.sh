@@ -1,28 +1,32 @@
 #!/usr/bin/env bash
-# Proofs, tests and must-fail edits from nothing, by `rt ci`; then what refused the edits is compared with PROMISES, each growth
-# of the programs is refused in turn, and the tests of the Rust package run, where cargo is. The last line is `N passed, M failed`.
+# Proofs and tests from nothing, by `rt ci`; then the edits of `must-fail/` are tried, each growth of the programs is refused in
+# turn, and the tests of the Rust package run, where cargo is. The last line is `N passed, M failed`.
 #
 #     bash tools/gate.sh                  the whole gate
 #     bash tools/gate.sh --since COMMIT   every proof and test, and of the edits only those of crates that changed since COMMIT
 #
-# Where a stage ends, its line begins with the seconds since the start.
+# Where a stage ends, its line begins with the seconds since the start. All runs on a copy of the tree without `must-fail/`: `rt ci`
+# would check a crate once for each of its edits, and `tools/must_fail.py` tries them together, in half of the time.
 set -euo pipefail
 cd "$(dirname "$0")/.."
 room=$(mktemp -d)
 trap 'rm -rf "$room"' EXIT
 
-# Runs on a copy of the tree, without the edits of crates in which nothing changed since the commit $1.
-keep_edits_since() {
-    local changed copy
-    changed=$(git diff --name-only "$1" -- crates; git ls-files --others --exclude-standard -- crates)
-    copy="$room/copy"
-    mkdir "$copy"
-    git ls-files -z --cached --others --exclude-standard | while IFS= read -r -d '' file; do
-        if [[ -e $file ]]; then cp --parents "$file" "$copy"; fi
+# Copies the tree, and its edits apart from it.
+copy_tree() {
+    mkdir "$room/copy" "$room/edits"
+    tar -c --exclude=./.git --exclude='./crates/*/out' --exclude=./rust/target . | tar -x -C "$room/copy"
+    for folder in "$room"/copy/crates/*/must-fail; do
+        mv "$folder" "$room/edits/$(basename "$(dirname "$folder")")"
     done
-    cd "$copy"
-    for crate in crates/*; do
-        grep -q "^$crate/" <<<"$changed" || rm -rf "$crate/must-fail"
+}
+
+# Drops the edits of crates in which nothing changed since the commit $1.
+drop_edits_before() {
+    local changed folder
+    changed=$(git diff --name-only "$1" -- crates; git ls-files --others --exclude-standard -- crates)
+    for folder in "$room"/edits/*; do
+        grep -q "^crates/$(basename "$folder")/" <<<"$changed" || rm -rf "$folder"
     done
 }
 
@@ -34,8 +38,9 @@ test_package() {
     (cd rust && cargo test --release --offline --quiet && cargo test --release --offline --quiet --test program -- --ignored)
 }
 
+copy_tree
 if [[ ${1:-} == --since && $# == 2 ]]; then
-    keep_edits_since "$2"
+    drop_edits_before "$2"
 elif (($#)); then
     echo "usage: bash tools/gate.sh [--since COMMIT]" >&2
     exit 2
@@ -48,41 +53,48 @@ export RT_JOBS
 
 python3 tools/check_docs.py
 python3 tools/unused_lemmas.py
+cd "$room/copy"
 lines="$room/lines"
 status=0
 rt ci | while IFS= read -r line; do
     printf '%s\n' "$line" >>"$lines"
     case $line in
-    "rt: "*" proved" | "rt: "*" NOT PROVED" | "rt: "*"trying its must-fail edits"*) printf '%5d s: %s\n' "$SECONDS" "$line" ;;
+    "rt: "*" proved" | "rt: "*" NOT PROVED") printf '%5d s: %s\n' "$SECONDS" "$line" ;;
     *) printf '%s\n' "$line" ;;
     esac
 done || status=$?
 verdict=$(tail -n 1 "$lines")
 
-# What refused the edits is compared, each growth of the programs is refused in turn, and the package is tested. The last line
-# is that of `rt ci`, with a test more for each of the three.
+# The last line is that of `rt ci`, with a test more for each edit, for the growths, and for the package.
 if [[ $verdict =~ ^([0-9]+)\ passed,\ ([0-9]+)\ failed(.*)$ ]]; then
     passed=${BASH_REMATCH[1]} failed=${BASH_REMATCH[2]} rest=${BASH_REMATCH[3]}
-    if python3 tools/refused_by.py "$lines"; then
-        passed=$((passed + 1))
+    if ((status)); then
+        printf '%5d s: edits, growths and the package were not tried: what stands before them failed\n' "$SECONDS"
     else
-        failed=$((failed + 1)) status=1
-    fi
-    if python3 tools/refusals.py; then
-        passed=$((passed + 1))
-    else
-        failed=$((failed + 1)) status=1
-    fi
-    if ! command -v cargo >/dev/null; then
-        printf '%5d s: the tests of rust/ were not run: there is no cargo\n' "$SECONDS"
-    elif ((status)); then
-        printf '%5d s: the tests of rust/ were not run: what stands before them failed\n' "$SECONDS"
-    elif test_package; then
-        printf '%5d s: the tests of rust/ passed\n' "$SECONDS"
-        passed=$((passed + 1))
-    else
-        printf '%5d s: the tests of rust/ FAILED\n' "$SECONDS"
-        failed=$((failed + 1)) status=1
+        # the edits fill the processors that the others leave free
+        python3 tools/must_fail.py --edits "$room/edits" >"$room/tried" 2>&1 &
+        trying=$!
+        if python3 tools/refusals.py; then
+            passed=$((passed + 1))
+        else
+            failed=$((failed + 1)) status=1
+        fi
+        if ! command -v cargo >/dev/null; then
+            printf '%5d s: the tests of rust/ were not run: there is no cargo\n' "$SECONDS"
+        elif test_package; then
+            printf '%5d s: the tests of rust/ passed\n' "$SECONDS"
+            passed=$((passed + 1))
+        else
+            printf '%5d s: the tests of rust/ FAILED\n' "$SECONDS"
+            failed=$((failed + 1)) status=1
+        fi
+        wait "$trying" || status=1
+        cat "$room/tried"
+        if [[ $(tail -n 1 "$room/tried") =~ ^([0-9]+)\ of\ ([0-9]+)\ edits\ refused$ ]]; then
+            passed=$((passed + BASH_REMATCH[1])) failed=$((failed + BASH_REMATCH[2] - BASH_REMATCH[1]))
+        else
+            failed=$((failed + 1)) status=1
+        fi
     fi
     # the second line of `times` is what ended children took: user and system
     times >"$lines"

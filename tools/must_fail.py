@@ -1,0 +1,258 @@
+#!/usr/bin/env python3
+"""Tries wrong bodies, the edits of `crates/*/must-fail/`: the prover has to leave a goal open in the function that each changes.
+
+    python3 tools/must_fail.py [--edits FOLDER] [CRATE[/EDIT] ..]
+
+`rt ci` and `rt must-fail` check a crate once for each edit. The prover reports the open goals of every function, so here the edits
+of a crate are tried together, no two of one function in a round. An edit whose goal is not seen there is tried again by itself, and
+so is an edit of a constant. The libraries below a crate are those that `rt ci` or `rt check` left. With `--edits` the edits are
+FOLDER/CRATE/*.edit.
+
+Prints the first open goal for each edit, and last `N of M edits refused`. An edit is refused by a goal of a function that it changes
+and that docs/PROMISES.md names beside it, under "Refused by". A proof that names what the edit took away does not count.
+"""
+import argparse
+import os
+import pathlib
+import re
+import shutil
+import subprocess
+import sys
+import tempfile
+import time
+from concurrent.futures import ThreadPoolExecutor
+
+sys.dont_write_bytecode = True
+import run  # noqa: E402  (beside this file)
+
+TOP = pathlib.Path(run.ROOT)
+FUNCTION = re.compile(r"\s*(?:pub(?:\(\w+\))? )?(?:const )?(?:unsafe )?(?:extern \"C\" )?fn (\w+)")
+IMPL = re.compile(r"impl(?:<.*?>+)? (?:(?:\w+::)*(\w+)(?:<(\w\w+)?.*>)? for )?(\w+)|(?:pub )?trait (\w+)")
+GOAL = re.compile(r"(?:note: )?(?:\./)?(?:proofs/(?P<proof>\S+)/\w+\.antt|(?P<source>src/\S+?)):(?P<line>\d+):\d+:")
+# what a proof says of a name that an edit took away, and what cites that proof
+OF_NAMES = re.compile(r"(?:note: )?(?:\./)?proofs/.*(?:has no field|is not in scope|has no `|was not admitted|was rejected)")
+NO_FUNCTION = re.compile(r"has no function `(\S+)`")
+
+
+def module_of(file):
+    """Returns the path of the module of a source file."""
+    return "::".join(it for it in re.sub(r"^src/|\.rt$", "", file).split("/") if it not in ("lib", "main"))
+
+
+def function_at(text, number):
+    """Returns the function at a line of a text, with its type: the one whose attributes begin there, or else the last one above."""
+    lines = text.split("\n")
+    first = next((at for at in range(number - 1, len(lines)) if not lines[at].lstrip().startswith("#[")), number - 1)
+    at, name = next(((at, it[1]) for at in range(first, -1, -1) if (it := FUNCTION.match(lines[at]))), (0, None))
+    if not name or not lines[at].startswith(" "):
+        return name
+    trait, argument, kind, own = next(it for line in reversed(lines[:at]) if (it := IMPL.match(line))).groups(default="")
+    return f"{own or kind[0].upper() + kind[1:]}{trait}{argument}::{name}"
+
+
+def source(crate, file):
+    """Returns the text of a file of a crate."""
+    return (TOP / "crates" / crate / file).read_text(encoding="utf-8")
+
+
+class Edit:
+    """A wrong body: which lines it changes, in which functions, and which functions have to be refused for it."""
+
+    def __init__(self, crate, path, promises):
+        self.crate, self.name = crate, path.stem
+        self.named = promises.get(self.name, set())
+        self.is_alone = False
+        # by module and name, and by the name that the prover takes, with the module beside it
+        self.functions, self.paths = set(), {}
+        self.refused_by = self.said = None
+        self.lines = self.changed_lines(path)
+
+    def steps(self, path):
+        """Returns what an edit replaces: file, old text and new text, a line each."""
+        file, old = "", ""
+        for line in path.read_text(encoding="utf-8").split("\n"):
+            word, _, rest = line.partition(" ")
+            if word == "file:":
+                file = rest.strip()
+            elif word == "old:":
+                old = rest
+            elif word == "new:":
+                yield file, old, rest
+
+    def changed_lines(self, path):
+        """Returns the lines that it changes, by file and number. No line is added or removed."""
+        texts, found = {}, {}
+        for file, old, new in self.steps(path):
+            text = texts.get(file) or source(self.crate, file)
+            if text.count(old) != 1:
+                sys.exit(f"{self.crate}/{self.name}: its text occurs {text.count(old)} times in {file}: {old}")
+            if not old.startswith("use "):
+                self.note_function(file, text, text[: text.index(old)].count("\n") + 1)
+            texts[file] = text.replace(old, new)
+        for file, text in texts.items():
+            pairs = zip(source(self.crate, file).split("\n"), text.split("\n"), strict=True)
+            found.update({(file, at): new for at, (old, new) in enumerate(pairs) if old != new})
+        if not found:
+            sys.exit(f"{self.crate}/{self.name}: it changes nothing")
+        return found
+
+    def note_function(self, file, text, number):
+        """Notes the function at a line of a file, or that a constant is changed."""
+        found, module = function_at(text, number), module_of(file)
+        if found:
+            self.functions.add((module, found.split("::")[-1]))
+        else:
+            self.is_alone = True
+        self.paths["::".join(filter(None, (module, found)))] = module
+
+    def try_goals(self, goals):
+        """Keeps the first goal of these that refuses it, if any does."""
+        for goal, function in goals:
+            if not self.refused_by and function[1] in self.named and (self.is_alone or function in self.functions):
+                self.refused_by = f"{function[1]}: {goal[:120]}"
+
+
+def promised():
+    """Returns for each edit the functions that PROMISES names beside it, in the column "Refused by"."""
+    words = {}
+    for row in (TOP / "docs/PROMISES.md").read_text(encoding="utf-8").split("\n"):
+        cells = [cell.strip() for cell in re.split(r"(?<!\\)\|", row)]
+        if len(cells) > 5:
+            refused_by = {part for word in re.findall(r"`([^`]+)`", cells[4]) for part in word.split("::")}
+            for edit in re.findall(r"`(\w+)`", cells[3]):
+                words.setdefault(edit, set()).update(refused_by)
+    return words
+
+
+def rounds_of(edits):
+    """Puts edits into rounds, no two of one function in a round."""
+    rounds = []
+    for edit in edits:
+        fitting = next((it for it in rounds if not edit.is_alone and not any(edit.functions & other.functions or other.is_alone for other in it)), None)
+        if fitting is None:
+            fitting = []
+            rounds.append(fitting)
+        fitting.append(edit)
+    return rounds
+
+
+class Trial:
+    """Tries the edits of a crate on copies of it."""
+
+    def __init__(self, rtlib, crate, edits):
+        self.rtlib, self.crate, self.edits = rtlib, crate, edits
+
+    def try_round(self, edits):
+        """Tries some edits together."""
+        with tempfile.TemporaryDirectory(prefix="must-fail-") as room:
+            texts = self.copy_with(edits, room)
+            said = self.check(room, {path: module for edit in edits for path, module in edit.paths.items()})
+        goals = [goal for goal in said.split("\n") if GOAL.match(goal) and (": error" in goal or goal.startswith("note: "))]
+        seen = [(goal, self.function_of(goal, texts)) for goal in goals if not OF_NAMES.match(goal)]
+        for edit in edits:
+            edit.try_goals(seen)
+            if len(edits) == 1 and not edit.refused_by:
+                edit.said = "\n".join(said.split("\n")[-8:])
+
+    def copy_with(self, edits, room):
+        """Copies the crate with edits, and returns the texts that they change."""
+        for part in self.rtlib.PARTS:
+            if os.path.isdir(f"{self.crate.folder}/{part}"):
+                shutil.copytree(f"{self.crate.folder}/{part}", f"{room}/{part}")
+        texts = {}
+        for edit in edits:
+            for (file, at), line in edit.lines.items():
+                texts.setdefault(file, source(edit.crate, file).split("\n"))[at] = line
+        texts = {file: "\n".join(lines) for file, lines in texts.items()}
+        for file, text in texts.items():
+            pathlib.Path(room, file).write_text(text, encoding="utf-8")
+        return texts
+
+    def check(self, room, paths):
+        """Checks functions of the copy, each by its path or, where the prover knows none of that name, with its whole module."""
+        words = [*self.rtlib.guarded(), self.rtlib.RATTLE, "check", *self.crate.words(["--jobs", "1"], keeps=False)]
+        how = {"cwd": room, "stdin": subprocess.DEVNULL, "stdout": subprocess.PIPE, "stderr": subprocess.STDOUT}
+        chosen = dict.fromkeys(sorted(paths))
+        while True:
+            only = [word for path in chosen for word in ("--only", path)]
+            ran = subprocess.run([*words, *only], text=True, errors="replace", check=False, **how)
+            unknown = {it for it in NO_FUNCTION.findall(ran.stdout) if it in paths} if ran.returncode == 2 else set()
+            if not unknown & chosen.keys():
+                return ran.stdout
+            chosen = dict.fromkeys(sorted({paths[it] if it in unknown else it for it in chosen}))
+
+    def function_of(self, goal, texts):
+        """Returns the module and the name of the function whose goal this is."""
+        found = GOAL.match(goal)
+        if found["proof"]:
+            *above, name = found["proof"].split("/")
+            module = above[:-1] if above and not above[-1][0].islower() else above
+            return "::".join(module), name
+        file = found["source"]
+        function = function_at(texts.get(file) or source(self.crate.name, file), int(found["line"])) or ""
+        return module_of(file), function.split("::")[-1]
+
+
+def are_built(crate):
+    """Returns whether the libraries below a crate are built."""
+    return all(os.path.isfile(f"{it.rlib}/format") for it in crate.below())
+
+
+def edits_by_crate(folder, names):
+    """Returns the edits of each crate, of those that are named, or of all."""
+    promises = promised()
+    paths = sorted(pathlib.Path(folder).glob("*/*.edit") if folder else TOP.glob("crates/*/must-fail/*.edit"))
+    found = {}
+    for path in paths:
+        crate = path.parts[-2] if folder else path.parts[-3]
+        if not names or crate in names or f"{crate}/{path.stem}" in names:
+            found.setdefault(crate, []).append(Edit(crate, path, promises))
+    return found
+
+
+def try_all(trials, start):
+    """Tries all edits in rounds, those with most edits first, and then those whose goal was not seen by themselves."""
+    rounds = [(trial, edits) for trial in trials for edits in rounds_of(trial.edits)]
+
+    def try_one(task):
+        trial, edits = task
+        trial.try_round(edits)
+        seen = sum(1 for edit in edits if edit.refused_by)
+        print(f"{time.time() - start:5.0f} s: {trial.crate.name}: {seen} of {len(edits)} edits refused", flush=True)
+
+    with ThreadPoolExecutor(run.processors()) as lanes:
+        list(lanes.map(try_one, sorted(rounds, key=lambda it: -len(it[1]))))
+        list(lanes.map(try_one, [(trial, [edit]) for trial, edits in rounds if len(edits) > 1 for edit in edits if not edit.refused_by]))
+
+
+def print_verdict(edit):
+    """Prints what came of an edit."""
+    if edit.refused_by:
+        print(f"{edit.crate}/{edit.name}: refused by {edit.refused_by}")
+    else:
+        print(f"{edit.crate}/{edit.name}: NOT REFUSED by {', '.join(sorted(edit.named)) or 'anything that PROMISES names'}: {edit.said}")
+
+
+def main():
+    parser = argparse.ArgumentParser(description=__doc__, formatter_class=argparse.RawDescriptionHelpFormatter)
+    parser.add_argument("--edits", metavar="FOLDER", help="where the edits are, in a folder for each crate")
+    parser.add_argument("names", nargs="*", metavar="CRATE[/EDIT]", help="crates or edits to try (all)")
+    given = parser.parse_args()
+    rtlib = run.toolchain()
+    crates = {crate.name: crate for crate in rtlib.crates_below(run.ROOT)}
+    edits = edits_by_crate(given.edits, given.names)
+    unbuilt = [name for name in edits if not are_built(crates[name])]
+    if unbuilt:
+        sys.exit(f"the libraries below {', '.join(unbuilt)} are not built: run `rt ci` first")
+    rtlib.guarded()
+    try_all([Trial(rtlib, crates[name], found) for name, found in edits.items()], time.time())
+    every = [edit for found in edits.values() for edit in found]
+    for edit in every:
+        print_verdict(edit)
+    refused = sum(1 for edit in every if edit.refused_by)
+    print(f"{refused} of {len(every)} edits refused")
+    sys.exit(refused != len(every))
+
+
+if __name__ == "__main__":
+    main()
