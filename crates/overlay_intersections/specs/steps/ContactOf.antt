@@ -1,5 +1,5 @@
 -- On which sides of one another the ends of two segments lie, and what this decides.
-use Rattle.std.specs.Prelude.{◌≡◌, ℕ, nat_lt, ℤ, pos, Bool, ◌||◌, IsTrue, None, Some}
+use Rattle.std.specs.Prelude.{◌≡◌, ℕ, nat_lt, ℤ, pos, Bool, not, ◌&&◌, ◌||◌, IsTrue, None, Some}
 use Rattle.std.specs.Ordering.{int_eq}
 use Rattle.overlay_geometry.specs.Points.{Pair}
 use Rattle.overlay_geometry.specs.Turns.{clock_direction}
@@ -26,6 +26,12 @@ zeros_of sides = count_true (int_eq sides.other_a (pos 0)) (int_eq sides.other_b
 -- whether an end is shared, or both ends of one lie on the same side of the other
 abbrev pub leave_no_contact : EndSides → Bool
 leave_no_contact sides = nat_lt 1 (zeros_of sides) || (int_eq sides.other_a sides.other_b || int_eq sides.target_a sides.target_b)
+
+-- whether both ends of the other lie strictly on one side of the target's line
+abbrev pub are_beside : Pair → Pair → Bool
+are_beside target other =
+    not (int_eq (clock_direction target.a target.b other.a) (pos 0))
+    && int_eq (clock_direction target.a target.b other.a) (clock_direction target.a target.b other.b)
 
 -- what the sides decide: the answer, but for a crossing strictly inside both, which is to be placed
 abbrev pub IsContact : {I : Type 0} → (I → ℤ) → Pair → Pair → Contact I → Type 0

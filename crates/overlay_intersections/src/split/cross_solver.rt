@@ -61,6 +61,7 @@ impl CrossSolver {
     ///   from `a`; of a target along an axis truncated toward `a`. Where an end lies within the radius of that point,
     ///   the answer is the nearest end, the target's where the other has one as near, and `b` where `a` is as near;
     ///   else it is `Pure` at that point.
+    #[inline(always)]
     pub fn cross<I: OverlayInt>(
         target: &XSegment<I>,
         other: &XSegment<I>,
@@ -85,6 +86,7 @@ impl CrossSolver {
     /// halves upward, so it does not depend on which of the two is the target. It is an end of at most one of them:
     /// `TargetEnd`, `OtherEnd`, and else `Pure`; not rounded where the crossing has whole coordinates. This project's
     /// own.
+    #[inline(always)]
     pub fn cross_settled<I: OverlayInt>(
         target: &XSegment<I>,
         other: &XSegment<I>,

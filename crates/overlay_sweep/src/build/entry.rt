@@ -43,6 +43,7 @@ impl<C: WindingCount, I: OverlayInt> Entry<C, I> {
     }
 
     /// Whether the segment stands before a place. Every order of an entry is asked here, and is counted.
+    #[inline(always)]
     pub(crate) fn is_before(&self, place: &Place<I>, compared: &mut u128) -> bool
         requires { IsPlaceInRange I.whole I.MIN_COORD I.MAX_COORD place.now }
         ensures value { result ≡ stands_before I.whole place.now (v_pair_of I.whole self.now.segment) }

@@ -1,14 +1,15 @@
 -- The answer in each branch of code that knows on which sides of one another the ends lie.
-use Rattle.std.proofs.Common.{◌≡◌, refl, ◌∙◌, ◌≢◌, arith, Bool, true, false, ◌||◌, IsTrue}
+use Rattle.std.proofs.Common.{◌≡◌, refl, ◌∙◌, ◌≢◌, arith, Bool, true, false, not, ◌&&◌, ◌||◌, IsTrue}
 use Rattle.std.specs.Prelude.{pos, nat_lt, None}
 use Rattle.std.specs.Ordering.{int_eq}
-use Rattle.std.proofs.lemmas.Bool.{ne_eqb}
+use Rattle.std.proofs.lemmas.Bool.{ne_eqb, false≢true, or_right}
 use Rattle.overlay_geometry.specs.Points.{Pair}
+use Rattle.overlay_geometry.specs.Turns.{clock_direction}
 use Rattle.overlay_geometry.specs.Meeting.{do_cross}
 use Rattle.overlay_intersections.specs.Marks.{Placing}
 use Rattle.overlay_intersections.specs.Counts.{count_true}
 use Rattle.overlay_intersections.specs.CrossAnswer.{target_end, other_end, overlay, answer_at, cross_answer}
-use Rattle.overlay_intersections.specs.steps.ContactOf.{AreEndSides, zeros_of, leave_no_contact}
+use Rattle.overlay_intersections.specs.steps.ContactOf.{AreEndSides, zeros_of, leave_no_contact, are_beside}
 use Rattle.overlay_intersections.specs.declared.split.cross.contact.EndSides.{EndSides}
 use Rattle.overlay_intersections.proofs.laws.crossings.TurnSigns.{Tests, tests_of_directions, by_tests, do_cross_by_tests, answer_by_tests}
 
@@ -31,6 +32,28 @@ when_overlay placing s t sides k h = decided placing s t sides k ∙ rw h refl
 pub when_apart : (placing : Placing) (s t : Pair) (sides : EndSides) → Sided s t sides → zeros_of sides ≢ 4 → leave_no_contact sides ≡ true → cross_answer placing s t ≡ None
 unfolding answer_by_tests
 when_apart placing s t sides k h m = decided placing s t sides k ∙ rw (ne_eqb (zeros_of sides) 4 h, m) refl
+
+three_at_most : (b c d : Bool) → count_true false b c d ≢ 4
+three_at_most true true true e = absurd (omega arith)
+three_at_most true true false e = absurd (omega arith)
+three_at_most true false true e = absurd (omega arith)
+three_at_most true false false e = absurd (omega arith)
+three_at_most false true true e = absurd (omega arith)
+three_at_most false true false e = absurd (omega arith)
+three_at_most false false true e = absurd (omega arith)
+three_at_most false false false e = absurd (omega arith)
+
+beside_by_tests : (b1 b2 b3 b4 c d : Bool) → (not b1 && c) ≡ true → (count_true b1 b2 b3 b4 ≢ 4) × ((nat_lt 1 (count_true b1 b2 b3 b4) || (c || d)) ≡ true)
+beside_by_tests true b2 b3 b4 c d h = absurd (false≢true h)
+beside_by_tests false b2 b3 b4 false d h = absurd (false≢true h)
+beside_by_tests false b2 b3 b4 true d h = (three_at_most b2 b3 b4, or_right (nat_lt 1 (count_true false b2 b3 b4)) (true || d) refl)
+
+-- both ends of the other lie strictly on one side of the target's line
+pub when_beside : (placing : Placing) (s t : Pair) → s.a ≢ s.b → t.a ≢ t.b → are_beside s t ≡ true → cross_answer placing s t ≡ None
+when_beside placing s t h k m =
+    let sides : EndSides = record { other_a = clock_direction s.a s.b t.a; other_b = clock_direction s.a s.b t.b; target_a = clock_direction t.a t.b s.a; target_b = clock_direction t.a t.b s.b } in
+    let tests = beside_by_tests (int_eq sides.other_a (pos 0)) (int_eq sides.other_b (pos 0)) (int_eq sides.target_a (pos 0)) (int_eq sides.target_b (pos 0)) (int_eq sides.other_a sides.other_b) (int_eq sides.target_a sides.target_b) m in
+    when_apart placing s t sides (record { s_apart = h; t_apart = k; are_sides = record { other_a_is = refl; other_b_is = refl; target_a_is = refl; target_b_is = refl } }) tests.0 tests.1
 
 crossing_by_tests : (s t : Pair) (b1 b2 b3 b4 c d : Bool) → Tests s t b1 b2 b3 b4 c d → count_true b1 b2 b3 b4 ≡ 0 → (nat_lt 1 (count_true b1 b2 b3 b4) || (c || d)) ≡ false → IsTrue (do_cross s t)
 crossing_by_tests s t true b2 b3 b4 c d k h m = absurd (omega arith)

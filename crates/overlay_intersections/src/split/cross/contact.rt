@@ -4,7 +4,7 @@
 ghost use Rattle.std.specs.Prelude.{◌≡◌, ◌≢◌, false};
 ghost use Rattle.overlay_geometry.specs.PairOf.{pair_of};
 ghost use Rattle.overlay_geometry.specs.InRange.{IsPairInRange};
-ghost use Rattle.overlay_intersections.specs.steps.ContactOf.{AreEndSides, IsContact, zeros_of, leave_no_contact};
+ghost use Rattle.overlay_intersections.specs.steps.ContactOf.{AreEndSides, IsContact, are_beside, zeros_of, leave_no_contact};
 
 use crate::split::cross::result::{CrossResult, CrossType};
 use overlay_geometry::geom::point::IntPoint;
@@ -34,6 +34,7 @@ pub enum Contact<I> {
 
 /// How two segments meet, each with ends that differ, by the sides of their ends. Three of the four turns are never 0
 /// without the fourth.
+#[inline(always)]
 pub fn contact_of<I: OverlayInt>(target: &XSegment<I>, other: &XSegment<I>) -> Contact<I>
     requires target { IsPairInRange I.whole I.MIN_COORD I.MAX_COORD target.now }
     requires other { IsPairInRange I.whole I.MIN_COORD I.MAX_COORD other.now }
@@ -41,6 +42,9 @@ pub fn contact_of<I: OverlayInt>(target: &XSegment<I>, other: &XSegment<I>) -> C
     requires other_apart { (pair_of I.whole other.now).a ≢ (pair_of I.whole other.now).b }
     ensures { IsContact I.whole (pair_of I.whole target.now) (pair_of I.whole other.now) result }
 {
+    if lies_beside(target, other) {
+        return Contact::Apart;
+    }
     let sides = sides_of(target, other);
     let zeros = sides.zeros();
     if zeros == 4 {
@@ -69,6 +73,19 @@ fn at<I: OverlayInt>(point: IntPoint<I>, cross_type: CrossType) -> Contact<I>
         cross_type,
         is_round: false,
     })
+}
+
+/// Whether both ends of the other lie strictly on one side of the target's line. So it is with most pairs that have no
+/// point in common, and two of the four directions tell it.
+#[inline(always)]
+fn lies_beside<I: OverlayInt>(target: &XSegment<I>, other: &XSegment<I>) -> bool
+    requires target { IsPairInRange I.whole I.MIN_COORD I.MAX_COORD target.now }
+    requires other { IsPairInRange I.whole I.MIN_COORD I.MAX_COORD other.now }
+    ensures { result ≡ are_beside (pair_of I.whole target.now) (pair_of I.whole other.now) }
+{
+    let other_a = Triangle::clock_direction(target.a, target.b, other.a);
+    let other_b = Triangle::clock_direction(target.a, target.b, other.b);
+    other_a != 0 && other_a == other_b
 }
 
 /// On which sides of each segment the ends of the other lie.

@@ -17,6 +17,7 @@ use overlay_geometry::geom::x_segment::XSegment;
 use overlay_geometry::num::OverlayInt;
 
 /// The answer for two segments that cross strictly inside both.
+#[inline(never)]
 pub fn settled<I: OverlayInt>(target: &XSegment<I>, other: &XSegment<I>) -> CrossResult<I>
     requires target { IsPairInRange I.whole I.MIN_COORD I.MAX_COORD target.now }
     requires other { IsPairInRange I.whole I.MIN_COORD I.MAX_COORD other.now }

@@ -25,6 +25,7 @@ struct NearerEnd<I> {
 }
 
 /// The answer for two segments that cross strictly inside both.
+#[inline(never)]
 pub fn snapped<I: OverlayInt>(
     target: &XSegment<I>,
     other: &XSegment<I>,
