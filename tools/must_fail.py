@@ -241,6 +241,8 @@ def main():
     rtlib = run.toolchain()
     crates = {crate.name: crate for crate in rtlib.crates_below(run.ROOT)}
     edits = edits_by_crate(given.edits, given.names)
+    if not edits and (given.names or not given.edits or not os.path.isdir(given.edits)):
+        sys.exit("there are no such edits")
     unbuilt = [name for name in edits if not are_built(crates[name])]
     if unbuilt:
         sys.exit(f"the libraries below {', '.join(unbuilt)} are not built: run `rt ci` first")
