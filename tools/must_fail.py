@@ -105,6 +105,10 @@ class Edit:
             self.is_alone = True
         self.paths["::".join(filter(None, (module, found)))] = module
 
+    def fits_beside(self, other):
+        """Returns whether both can be tried in one round."""
+        return not (self.is_alone or other.is_alone or self.functions & other.functions)
+
     def try_goals(self, goals):
         """Keeps the first goal of these that refuses it, if any does."""
         for goal, function in goals:
@@ -128,7 +132,7 @@ def rounds_of(edits):
     """Puts edits into rounds, no two of one function in a round."""
     rounds = []
     for edit in edits:
-        fitting = next((it for it in rounds if not edit.is_alone and not any(edit.functions & other.functions or other.is_alone for other in it)), None)
+        fitting = next((it for it in rounds if all(edit.fits_beside(other) for other in it)), None)
         if fitting is None:
             fitting = []
             rounds.append(fitting)
