@@ -3,10 +3,11 @@ use Rattle.std.specs.Prelude.{ℕ, ℤ, MatchBool, cond, List, length}
 use Rattle.overlay_base.specs.Segments.{WholeSegment}
 use Rattle.overlay_sweep.specs.EntryOf.{entries_of}
 use Rattle.overlay_sweep.specs.TreeShapes.{subtree_height}
-use Rattle.overlay_sweep.specs.ScanTrees.{IsScanList, IsScanTree}
+use Rattle.overlay_sweep.specs.ScanTrees.{IsScanList, IsScanRow, IsScanTree}
 use Rattle.overlay_sweep.specs.declared.build.entry.Entry.{Entry}
 use Rattle.overlay_sweep.specs.declared.build.scan_mixed.ScanMixed.{ScanMixed}
 use Rattle.overlay_sweep.specs.declared.build.scan_list.ScanList.{ScanList}
+use Rattle.overlay_sweep.specs.declared.build.scan_row.ScanRow.{ScanRow}
 use Rattle.overlay_sweep.specs.declared.build.scan_tree.ScanTree.{ScanTree}
 use Rattle.overlay_sweep.specs.declared.build.sweep.SweepRunner.{SweepRunner}
 
@@ -24,6 +25,19 @@ list_held list = length (list_entries list)
 -- the list is in order at x
 abbrev pub IsInOrderAt : {C I : Type 0} {m : _} {w : _} {o : _} {e : _} {p : _} → ℤ → ScanList C I m w o e p → Type 0
 IsInOrderAt {w = w} x list = IsScanList x (list_sums list) (w.whole list.least_end)
+
+-- the same of a row, in which some may have ended
+abbrev pub row_entries : {C I : Type 0} {m : _} {w : _} {o : _} {e : _} {p : _} → ScanRow C I m w o e p → List (Entry C I m w o e p)
+row_entries row = row.entries.items
+
+abbrev pub row_sums : {C I : Type 0} {m : _} {w : _} {o : _} {e : _} {p : _} → ScanRow C I m w o e p → List WholeSegment
+row_sums row = entries_of (row_entries row)
+
+abbrev pub row_held : {C I : Type 0} {m : _} {w : _} {o : _} {e : _} {p : _} → ScanRow C I m w o e p → ℕ
+row_held row = length (row_entries row)
+
+abbrev pub IsInRowAt : {C I : Type 0} {m : _} {w : _} {o : _} {e : _} {p : _} → ℤ → ScanRow C I m w o e p → Type 0
+IsInRowAt x row = IsScanRow x (row_sums row)
 
 -- the entries of a tree since it was cleared, those that were taken out too; their segments with the sums as counts; and how many of them are in the tree
 abbrev pub tree_entries : {C I : Type 0} {m : _} {w : _} {o : _} {e : _} {p : _} → ScanTree C I m w o e p → List (Entry C I m w o e p)
@@ -46,21 +60,24 @@ height_of tree = subtree_height tree.shape.nodes.items tree.root
 abbrev pub list_asked : {C I : Type 0} {m : _} {w : _} {o : _} {e : _} {p : _} → ScanList C I m w o e p → ℕ
 list_asked list = list.compared
 
+abbrev pub row_asked : {C I : Type 0} {m : _} {w : _} {o : _} {e : _} {p : _} → ScanRow C I m w o e p → ℕ
+row_asked row = row.compared
+
 abbrev pub tree_asked : {C I : Type 0} {m : _} {w : _} {o : _} {e : _} {p : _} → ScanTree C I m w o e p → ℕ
 tree_asked tree = tree.compared
 
 abbrev pub run_asked : {C I : Type 0} {m : _} {w : _} {o : _} {e : _} {p : _} → SweepRunner C I m w o e p → ℕ
 run_asked runner = runner.compared
 
--- the same of a collection that begins as a list and becomes a tree: those of the one that holds the entries
+-- the same of a collection that begins as a row and becomes a tree: those of the one that holds the entries
 abbrev pub sums_in : {C I : Type 0} {m : _} {w : _} {o : _} {e : _} {p : _} → ScanMixed C I m w o e p → List WholeSegment
-sums_in mixed = cond mixed.is_tree (tree_sums mixed.tree) (list_sums mixed.list)
+sums_in mixed = cond mixed.is_tree (tree_sums mixed.tree) (row_sums mixed.row)
 
 abbrev pub held_in : {C I : Type 0} {m : _} {w : _} {o : _} {e : _} {p : _} → ScanMixed C I m w o e p → ℕ
-held_in mixed = cond mixed.is_tree (tree_held mixed.tree) (list_held mixed.list)
+held_in mixed = cond mixed.is_tree (tree_held mixed.tree) (row_held mixed.row)
 
 abbrev pub asked_in : {C I : Type 0} {m : _} {w : _} {o : _} {e : _} {p : _} → ScanMixed C I m w o e p → ℕ
-asked_in mixed = cond mixed.is_tree (tree_asked mixed.tree) (list_asked mixed.list)
+asked_in mixed = cond mixed.is_tree (tree_asked mixed.tree) (row_asked mixed.row)
 
 abbrev pub IsMixedAt : {C I : Type 0} {m : _} {w : _} {o : _} {e : _} {p : _} → ℤ → ScanMixed C I m w o e p → Type 0
-IsMixedAt x mixed = MatchBool mixed.is_tree (IsSoundAt x mixed.tree) (IsInOrderAt x mixed.list)
+IsMixedAt x mixed = MatchBool mixed.is_tree (IsSoundAt x mixed.tree) (IsInRowAt x mixed.row)

@@ -27,10 +27,14 @@ IsFromBelow x segments (i ∷ is) =
     ((j : ℕ) → Has is j → is_live_at x segments i ≡ true → is_live_at x segments j ≡ true → is_lt (under_segment_order (segment_at segments j).pair (segment_at segments i).pair) ≡ false)
     × IsFromBelow x segments is
 
--- a list of segments that begin by x, from below, with no end left of the least one
-pub record IsScanList (x : ℤ) (segments : List WholeSegment) (least_end : ℤ) : Type 0 where
+-- a list of segments that begin by x, from below
+pub record IsScanRow (x : ℤ) (segments : List WholeSegment) : Type 0 where
   pub begun : All (λ s. s.pair.a.x ≤ℤ x) segments
   pub from_below : IsFromBelow x segments (range_with_len 0 (length segments))
+
+-- such a list with no end left of the least one
+pub record IsScanList (x : ℤ) (segments : List WholeSegment) (least_end : ℤ) : Type 0 where
+  pub row : IsScanRow x segments
   pub least : All (λ s. least_end ≤ℤ s.pair.b.x) segments
 
 -- a balanced tree of segments that begin by x, from below, with all that are live at x

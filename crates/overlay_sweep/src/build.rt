@@ -9,6 +9,7 @@ pub mod live_segments;
 mod place;
 pub mod scan_list;
 pub mod scan_mixed;
+pub mod scan_row;
 pub mod scan_tree;
 mod start_point;
 pub mod string;

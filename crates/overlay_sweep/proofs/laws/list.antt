@@ -6,3 +6,5 @@ pub mod ListAnswers
 pub mod ListCounts
 pub mod SearchTables
 pub mod ListAsTree
+pub mod Halves
+pub mod LastingRows

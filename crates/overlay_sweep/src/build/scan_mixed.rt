@@ -1,9 +1,9 @@
-// A list of live segments while they are few, and a tree once they are many.
+// A row of live segments while they are few, and a tree once they are many.
 ghost use Rattle.std.specs.Prelude.{◌≡◌};
 ghost use Rattle.overlay_geometry.specs.VSegmentOf.{IsVSegmentInRange};
 
 use crate::build::live_segments::LiveSegments;
-use crate::build::scan_list::ScanList;
+use crate::build::scan_row::ScanRow;
 use crate::build::scan_tree::ScanTree;
 use overlay_base::segm::fault::Fault;
 use overlay_base::segm::winding::WindingCount;
@@ -12,24 +12,26 @@ use overlay_geometry::geom::v_segment::VSegment;
 use overlay_geometry::num::OverlayInt;
 use std::alloc::Global;
 
-/// How many entries the list holds at most. About here a way down the tree takes as long as a search in the list, which
-/// passes over all entries where one has ended.
-const MOST_IN_LIST: usize = 128;
+/// How many entries the row holds at most. About here a way down the tree takes as long as a search in the row, with
+/// the move of those behind.
+const MOST_IN_ROW: usize = 512;
 
-/// The live segments from below. They stand in a list until an insert finds it full, and in a balanced tree from then on,
-/// until they are cleared.
+/// The live segments from below. They stand in a row until an insert finds it full of segments of which more than half
+/// last, and in a balanced tree from then on, until they are cleared.
 #[derive(Drop)]
 pub struct ScanMixed<C: WindingCount, I: OverlayInt> {
-    list: ScanList<C, I>,
+    row: ScanRow<C, I>,
     tree: ScanTree<C, I>,
     is_tree: bool,
 }
 
 impl<C: WindingCount, I: OverlayInt> ScanMixed<C, I> {
-    ghost use Rattle.std.specs.Prelude.{ℤ, [], true, length, OnOk, OnErr, IfErr};
-    ghost use Rattle.overlay_sweep.specs.LiveOf.{sums_in, held_in, asked_in, IsMixedAt, list_sums, list_entries, tree_sums, tree_asked, tree_held, IsInOrderAt, IsSoundAt};
+    ghost use Rattle.std.specs.Prelude.{ℤ, [], ◌≤◌, true, length, OnOk, OnErr, IfErr};
+    ghost use Rattle.overlay_sweep.specs.Costs.{LastAlikeFrom};
+    ghost use Rattle.overlay_sweep.specs.Live.{HoldSameFrom};
+    ghost use Rattle.overlay_sweep.specs.LiveOf.{sums_in, held_in, asked_in, IsMixedAt, row_sums, row_entries, tree_sums, tree_asked, tree_held, IsInRowAt, IsSoundAt};
 
-    /// An empty list, which takes no memory yet.
+    /// An empty row, which takes no memory yet.
     pub fn new(alloc: Global) -> ScanMixed<C, I>
         ensures sums { sums_in result ≡ [] }
         ensures time { (x : ℤ) → IsMixedAt x result }
@@ -37,26 +39,49 @@ impl<C: WindingCount, I: OverlayInt> ScanMixed<C, I> {
         ensures asked { asked_in result ≡ 0 }
     {
         ScanMixed {
-            list: ScanList::new(alloc),
+            row: ScanRow::new(alloc),
             tree: ScanTree::new(alloc),
             is_tree: false,
         }
     }
 
-    /// Hands the list's entries over to the tree, which asks no order. Where a growth is refused, the tree is empty.
+    /// Hands the row's entries over to the tree, which asks no order. Where a growth is refused, the tree is empty.
     fn hand_over(&mut self) -> Result<(), Fault>
         ensures tree { self.new.is_tree ≡ true }
-        ensures sums { OnOk result (tree_sums self.new.tree ≡ list_sums self.old.list) }
-        ensures kept { OnOk result (tree_held self.new.tree ≡ length (list_entries self.old.list)) }
-        ensures time { OnOk result ((x : ℤ) → IsInOrderAt x self.old.list → IsSoundAt x self.new.tree) }
+        ensures sums { OnOk result (tree_sums self.new.tree ≡ row_sums self.old.row) }
+        ensures kept { OnOk result (tree_held self.new.tree ≡ length (row_entries self.old.row)) }
+        ensures time { OnOk result ((x : ℤ) → IsInRowAt x self.old.row → IsSoundAt x self.new.tree) }
         ensures fault { IfErr result (λ fault. fault ≡ Fault.Memory) }
         ensures emptied { OnErr result (tree_sums self.new.tree ≡ []) }
         ensures none_asked { OnErr result (tree_asked self.new.tree ≡ 0) }
         ensures cleared { OnErr result ((y : ℤ) → IsSoundAt y self.new.tree) }
     {
         self.is_tree = true;
-        self.tree.take_over(self.list.entries())?;
-        self.list.clear();
+        self.tree.take_over(self.row.entries())?;
+        self.row.clear();
+        Ok(())
+    }
+
+    /// Drops what has ended from a full row, and hands the rest over to the tree where more than half is left.
+    fn make_room(&mut self, x: I) -> Result<(), Fault>
+        requires time { IsMixedAt (I.whole x) self.old }
+        ensures sums { OnOk result (HoldSameFrom (I.whole x) (sums_in self.new) (sums_in self.old)) }
+        ensures time { OnOk result (IsMixedAt (I.whole x) self.new) }
+        ensures held { OnOk result (held_in self.new ≤ held_in self.old) }
+        ensures lasting { OnOk result (LastAlikeFrom (I.whole x) (sums_in self.new) (sums_in self.old)) }
+        ensures fault { IfErr result (λ fault. fault ≡ Fault.Memory) }
+        ensures emptied { OnErr result (sums_in self.new ≡ []) }
+        ensures none_asked { OnErr result (asked_in self.new ≡ 0) }
+        ensures cleared { OnErr result ((y : ℤ) → IsMixedAt y self.new) }
+    {
+        if self.is_tree || self.row.entries().len() < MOST_IN_ROW {
+            return Ok(());
+        }
+        self.row.drop_ended(x);
+        if self.row.entries().len() <= MOST_IN_ROW / 2 {
+            return Ok(());
+        }
+        self.hand_over()?;
         Ok(())
     }
 }
@@ -100,14 +125,12 @@ impl<C: WindingCount, I: OverlayInt> LiveSegments<C, I> for ScanMixed<C, I> {
         ensures lasting { OnOk result (LastAlikeFrom (I.whole x) (sums_in self.new) (summed C.winding I.whole segment sum ∷ sums_in self.old)) }
         ensures look { OnOk result (IsWayAmong (lasting_at (I.whole x) (sums_in self.old)) (asked_in self.new)) }
     {
+        self.make_room(x)?;
         if self.is_tree {
-            return self.tree.insert(segment, sum, x);
+            self.tree.insert(segment, sum, x)
+        } else {
+            self.row.insert(segment, sum, x)
         }
-        if self.list.entries().len() < MOST_IN_LIST {
-            return self.list.insert(segment, sum, x);
-        }
-        self.hand_over()?;
-        self.tree.insert(segment, sum, x)
     }
 
     fn sum_below(&mut self, x: I, p: IntPoint<I>, default: C) -> C
@@ -126,7 +149,7 @@ impl<C: WindingCount, I: OverlayInt> LiveSegments<C, I> for ScanMixed<C, I> {
         if self.is_tree {
             self.tree.sum_below(x, p, default)
         } else {
-            self.list.sum_below(x, p, default)
+            self.row.sum_below(x, p, default)
         }
     }
 
@@ -136,7 +159,7 @@ impl<C: WindingCount, I: OverlayInt> LiveSegments<C, I> for ScanMixed<C, I> {
         ensures held { held_in self.new ≡ 0 }
         ensures asked { asked_in self.new ≡ 0 }
     {
-        self.list.clear();
+        self.row.clear();
         self.tree.clear();
         self.is_tree = false;
     }
@@ -145,7 +168,7 @@ impl<C: WindingCount, I: OverlayInt> LiveSegments<C, I> for ScanMixed<C, I> {
         if self.is_tree {
             self.tree.compared()
         } else {
-            self.list.compared()
+            self.row.compared()
         }
     }
 }

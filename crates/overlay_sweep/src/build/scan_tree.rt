@@ -52,7 +52,7 @@ impl<C: WindingCount, I: OverlayInt> ScanTree<C, I> {
     ghost use Rattle.std.specs.Prelude.{ℤ, ◌-◌, ◌^◌, ◌<◌, min, [], ◌∷◌, ◌++◌, true, false, length, IfOk, OnOk, OnErr, IfErr};
     ghost use Rattle.overlay_sweep.specs.EntryOf.{entries_of};
     ghost use Rattle.overlay_sweep.specs.TreeShapes.{MayGoDown, IsStopped, IsPlaced};
-    ghost use Rattle.overlay_sweep.specs.ScanTrees.{segment_at, lasts_past, IsScanList, IsGrowing, IsGrown, IsAskedWithin};
+    ghost use Rattle.overlay_sweep.specs.ScanTrees.{segment_at, lasts_past, IsScanRow, IsGrowing, IsGrown, IsAskedWithin};
     ghost use Rattle.overlay_sweep.specs.LiveOf.{tree_entries, tree_held, IsSoundAt, tree_asked};
 
     /// An empty tree, which takes no memory yet.
@@ -188,8 +188,7 @@ impl<C: WindingCount, I: OverlayInt> ScanTree<C, I> {
     pub(crate) fn take_over(&mut self, entries: &[Entry<C, I>]) -> Result<(), Fault>
         ensures entries { OnOk result (tree_entries self.new ≡ entries.now) }
         ensures kept { OnOk result (tree_held self.new ≡ length entries.now) }
-        ensures time { OnOk result ((x least : ℤ) → IsScanList x (entries_of entries.now) least
-            → IsSoundAt x self.new) }
+        ensures time { OnOk result ((x : ℤ) → IsScanRow x (entries_of entries.now) → IsSoundAt x self.new) }
         ensures fault { IfErr result (λ fault. fault ≡ Fault.Memory) }
         ensures emptied { OnErr result (tree_entries self.new ≡ []) }
         ensures none_asked { OnErr result (tree_asked self.new ≡ 0) }

@@ -20,7 +20,7 @@ use Rattle.overlay_geometry.proofs.laws.lists.Lists as lists
 use Rattle.overlay_sweep.specs.ChainWindings.{is_live, directly_below}
 use Rattle.overlay_sweep.specs.Live.{sum_below, AreFreeAt, HoldSameFrom}
 use Rattle.overlay_sweep.specs.TreeShapes.{Has}
-use Rattle.overlay_sweep.specs.ScanTrees.{segment_at, lasts_past, is_live_at, IsFromBelow, IsScanList}
+use Rattle.overlay_sweep.specs.ScanTrees.{segment_at, lasts_past, is_live_at, IsFromBelow, IsScanRow, IsScanList}
 use Rattle.overlay_sweep.specs.steps.Positions.{IsPosition}
 use Rattle.overlay_sweep.proofs.laws.live.LiveSums.{AreFreeAt-same, HoldSameFrom-cons, HoldSameFrom-trans, HoldSameFrom-between, All-between, begins_later}
 use Rattle.overlay_sweep.proofs.laws.live.ScanSums.{lasting, HoldSameFrom-lasting}
@@ -33,15 +33,20 @@ use Rattle.overlay_sweep.proofs.laws.list.ListOrders.{from_below_lasting, last_o
 
 -- ---- at a later x, and without any entry
 
-pub list_later : (x y : ℤ) (ks : List WholeSegment) (least : ℤ) → x ≤ℤ y → IsScanList x ks least → IsScanList y ks least
-list_later x y ks least h l = record {
+pub row_later : (x y : ℤ) (ks : List WholeSegment) → x ≤ℤ y → IsScanRow x ks → IsScanRow y ks
+row_later x y ks h l = record {
   begun = begins_later x y ks h l.begun;
   from_below = from_below_later x y ks (range_with_len 0 (length ks)) (λ i k. live_earlier x y ks i h (begun_by_index x ks l.begun) k) l.from_below;
-  least = l.least;
 }
 
+list_later : (x y : ℤ) (ks : List WholeSegment) (least : ℤ) → x ≤ℤ y → IsScanList x ks least → IsScanList y ks least
+list_later x y ks least h l = record { row = row_later x y ks h l.row; least = l.least }
+
+pub row_empty : (x : ℤ) (ks : List WholeSegment) → ks ≡ [] → IsScanRow x ks
+row_empty x ks e = subst (IsScanRow x) (sym e) (record { begun = λ k d h. absurd (omega (arith, h)); from_below = tt })
+
 pub list_empty : (x : ℤ) (ks : List WholeSegment) (least : ℤ) → ks ≡ [] → IsScanList x ks least
-list_empty x ks least e = subst (λ l. IsScanList x l least) (sym e) (record { begun = λ k d h. absurd (omega (arith, h)); from_below = tt; least = λ k d h. absurd (omega (arith, h)) })
+list_empty x ks least e = record { row = row_empty x ks e; least = subst (λ l. All (λ s. least ≤ℤ s.pair.b.x) l) (sym e) (λ k d h. absurd (omega (arith, h))) }
 
 -- ---- no end is left of a lesser one
 
@@ -75,8 +80,11 @@ module _ (x : ℤ) (os ks : List WholeSegment) (is : ks ≡ filter (λ t. lastin
   kept_ordered : IsFromBelow x os (range_with_len 0 (length os)) → IsFromBelow x ks (range_with_len 0 (length ks))
   kept_ordered f = subst (λ l. IsFromBelow x l (range_with_len 0 (length l))) (sym is) (from_below_lasting x os f)
 
+  pub row_kept : IsScanRow x os → IsScanRow x ks
+  row_kept l = record { begun = kept_begun l.begun; from_below = kept_ordered l.from_below }
+
   pub list_kept : (least end y : ℤ) → IsScanList x os least → All (λ s. end ≤ℤ s.pair.b.x) ks → x ≤ℤ y → IsScanList y ks end
-  list_kept least end y l a h = list_later x y ks end h (record { begun = kept_begun l.begun; from_below = kept_ordered l.from_below; least = a })
+  list_kept least end y l a h = list_later x y ks end h (record { row = row_kept l.row; least = a })
 
   -- ---- one more in order
 
@@ -99,15 +107,16 @@ module _ (x : ℤ) (os ks : List WholeSegment) (is : ks ≡ filter (λ t. lastin
     pub ends_placed : (least end : ℤ) → All (λ s. least ≤ℤ s.pair.b.x) ks → end ≤ℤ least → end ≤ℤ e.pair.b.x → All (λ s. end ≤ℤ s.pair.b.x) (take at ks ++ e ∷ drop at ks)
     ends_placed least end a h k = all_placed (λ s. end ≤ℤ s.pair.b.x) k (ends_later least end h ks a)
 
-    pub list_placed : (least end y : ℤ) → IsScanList x os least → AreFreeAt x (e ∷ os) → e.pair.a.x ≡ x → x <ℤ e.pair.b.x → All (λ s. end ≤ℤ s.pair.b.x) (take at ks ++ e ∷ drop at ks) → x ≤ℤ y → IsScanList y (take at ks ++ e ∷ drop at ks) end
-    list_placed least end y l free starts ends a h =
-        let begins : e.pair.a.x ≤ℤ x = omega (arith, ints, starts) in
-        list_later x y (take at ks ++ e ∷ drop at ks) end h (record {
+    pub row_placed : IsScanRow x os → AreFreeAt x (e ∷ os) → e.pair.a.x ≡ x → x <ℤ e.pair.b.x → IsScanRow x (take at ks ++ e ∷ drop at ks)
+    row_placed l free starts ends =
+        let begins : e.pair.a.x ≤ℤ x = omega (arith, ints, starts) in record {
           begun = all_placed (λ s. s.pair.a.x ≤ℤ x) begins (kept_begun l.begun);
           from_below = from_below_placed x ks e (AreFreeAt-same x (e ∷ ks) (e ∷ os) (HoldSameFrom-cons x e ks os kept_sums) free)
               (begun_member x (ks ++ e ∷ []) (begun_pushed x ks e begins (kept_begun l.begun))) kept_last (and_from _ _ (le-test e.pair.a.x x begins) (lt-test x e.pair.b.x ends)) at place (kept_ordered l.from_below);
-          least = a;
-        })
+        }
+
+    pub list_placed : (least end y : ℤ) → IsScanList x os least → AreFreeAt x (e ∷ os) → e.pair.a.x ≡ x → x <ℤ e.pair.b.x → All (λ s. end ≤ℤ s.pair.b.x) (take at ks ++ e ∷ drop at ks) → x ≤ℤ y → IsScanList y (take at ks ++ e ∷ drop at ks) end
+    list_placed least end y l free starts ends a h = list_later x y (take at ks ++ e ∷ drop at ks) end h (record { row = row_placed l.row free starts ends; least = a })
 
 -- ---- what is directly below a point
 
@@ -130,8 +139,8 @@ sum_of_lasting : (p : Point) (os : List WholeSegment) (default : Winding) → su
 unfolding sum_below directly_below
 sum_of_lasting p os default = ap (λ l. option_map_or (λ s. s.count) (greatest (λ t u. ordering_then (height_cmp p.x t.pair u.pair) (angle_cmp t.pair u.pair)) l) default) (live_of_lasting p os)
 
-module _ (p : Point) (os ks : List WholeSegment) (least : ℤ) (at : ℕ) (place : IsPosition (λ i. int_lt (pos 0) (turn (segment_at ks i).pair.a (segment_at ks i).pair.b p)) (length ks) at) (default : Winding) where
-  module _ (is : ks ≡ filter (λ t. lasting p.x t) os) (l : IsScanList p.x os least) (free : AreFreeAt p.x os) where
+module _ (p : Point) (os ks : List WholeSegment) (at : ℕ) (place : IsPosition (λ i. int_lt (pos 0) (turn (segment_at ks i).pair.a (segment_at ks i).pair.b p)) (length ks) at) (default : Winding) where
+  module _ (is : ks ≡ filter (λ t. lasting p.x t) os) (l : IsScanRow p.x os) (free : AreFreeAt p.x os) where
     abbrev passes : ℕ → Bool
     passes i = int_lt (pos 0) (turn (segment_at ks i).pair.a (segment_at ks i).pair.b p)
 
@@ -169,11 +178,11 @@ module _ (p : Point) (os ks : List WholeSegment) (least : ℤ) (at : ℕ) (place
         ]))
         ∙ same_sum
 
-  pub default_found : (x : ℤ) → p.x ≡ x → ks ≡ filter (λ t. lasting x t) os → IsScanList x os least → AreFreeAt x os → at ≡ 0 → default ≡ sum_below os p default
-  default_found x e is l free = subst (λ z. ks ≡ filter (λ t. lasting z t) os → IsScanList z os least → AreFreeAt z os → at ≡ 0 → default ≡ sum_below os p default) e nothing_below is l free
+  pub default_found : (x : ℤ) → p.x ≡ x → ks ≡ filter (λ t. lasting x t) os → IsScanRow x os → AreFreeAt x os → at ≡ 0 → default ≡ sum_below os p default
+  default_found x e is l free = subst (λ z. ks ≡ filter (λ t. lasting z t) os → IsScanRow z os → AreFreeAt z os → at ≡ 0 → default ≡ sum_below os p default) e nothing_below is l free
 
-  pub last_found : (x : ℤ) → p.x ≡ x → ks ≡ filter (λ t. lasting x t) os → IsScanList x os least → AreFreeAt x os → at ≢ 0 → (segment_at ks (at - 1)).count ≡ sum_below os p default
-  last_found x e is l free = subst (λ z. ks ≡ filter (λ t. lasting z t) os → IsScanList z os least → AreFreeAt z os → at ≢ 0 → (segment_at ks (at - 1)).count ≡ sum_below os p default) e last_below is l free
+  pub last_found : (x : ℤ) → p.x ≡ x → ks ≡ filter (λ t. lasting x t) os → IsScanRow x os → AreFreeAt x os → at ≢ 0 → (segment_at ks (at - 1)).count ≡ sum_below os p default
+  last_found x e is l free = subst (λ z. ks ≡ filter (λ t. lasting z t) os → IsScanRow z os → AreFreeAt z os → at ≢ 0 → (segment_at ks (at - 1)).count ≡ sum_below os p default) e last_below is l free
 
 -- ---- the least end
 

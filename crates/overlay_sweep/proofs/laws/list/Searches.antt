@@ -34,7 +34,7 @@ search_begins before many size asked h all none = rw (all, none) (record {
   few = omega (arith, h, all);
 })
 
-below_power : (k : ℕ) → k < 2 ^ k
+pub below_power : (k : ℕ) → k < 2 ^ k
 below_power zero = omega arith
 below_power (suc k) = omega (arith, below_power k, two-pow-succ k)
 

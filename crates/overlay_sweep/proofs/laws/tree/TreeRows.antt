@@ -10,7 +10,7 @@ use Rattle.std.proofs.Math.Pow.{pow_mono}
 use Rattle.overlay_base.specs.Segments.{WholeSegment}
 use Rattle.overlay_sweep.specs.declared.build.tree_shape.TreeNode.{TreeNode}
 use Rattle.overlay_sweep.specs.TreeShapes.{Has, none, leaf, IsDistinct, IsTree, KeepsOthers, AreJoinable, IsJoined, IsLinked}
-use Rattle.overlay_sweep.specs.ScanTrees.{IsScanList, IsScanTree}
+use Rattle.overlay_sweep.specs.ScanTrees.{IsScanRow, IsScanTree}
 use Rattle.overlay_sweep.proofs.laws.tree.TreeNodes.{KeepsOthers-trans, KeepsOthers-wider}
 use Rattle.overlay_sweep.proofs.laws.tree.TreeRemovals.{IsTree-kept}
 use Rattle.overlay_sweep.proofs.laws.tree.ScanOrders.{live_within}
@@ -104,8 +104,8 @@ module _ (old mid new : List TreeNode) (from count half rest left right : ℕ) (
 
 -- ---- a tree of all entries of a list
 
-pub list_linked : (x : ℤ) (segments : List WholeSegment) (least : ℤ) (old nodes : List TreeNode) (root kept : ℕ) → length segments < 2 ^ 64 → length old ≡ length segments → kept ≡ length segments → IsLinked old nodes root 0 kept → IsScanList x segments least → IsScanTree x segments nodes root kept
-list_linked x segments least old nodes root kept short same all k l = record {
+pub list_linked : (x : ℤ) (segments : List WholeSegment) (old nodes : List TreeNode) (root kept : ℕ) → length segments < 2 ^ 64 → length old ≡ length segments → kept ≡ length segments → IsLinked old nodes root 0 kept → IsScanRow x segments → IsScanTree x segments nodes root kept
+list_linked x segments old nodes root kept short same all k l = record {
   order = range_with_len 0 (length segments);
   high = k.high;
   tree = subst (λ n. IsTree nodes root (range_with_len 0 n) k.high) all k.tree;
@@ -120,7 +120,7 @@ list_linked x segments least old nodes root kept short same all k l = record {
 }
 
 -- the same of the code's entries, which were pushed to none
-pub entries_linked : {E : Type 0} (f : E → WholeSegment) (x least : ℤ) (given cleared items : List E) (empty old nodes : List TreeNode) (root : ℕ) → items ≡ cleared ++ given → map f cleared ≡ [] → length empty ≡ length (map f cleared) → length old ≡ length empty + length given → length given < 2 ^ 64 → IsLinked old nodes root 0 (length given) → IsScanList x (map f given) least → IsScanTree x (map f items) nodes root (length given)
-entries_linked f x least given [] items empty old nodes root e none empty_is more short k l =
-    rw e (list_linked x (map f given) least old nodes root (length given) (omega (arith, short, length-map given f)) (omega (arith, more, empty_is, length-map given f)) (sym (length-map given f)) k l)
-entries_linked f x least given (c ∷ cs) items empty old nodes root e none empty_is more short k l = absurd (cc)
+pub entries_linked : {E : Type 0} (f : E → WholeSegment) (x : ℤ) (given cleared items : List E) (empty old nodes : List TreeNode) (root : ℕ) → items ≡ cleared ++ given → map f cleared ≡ [] → length empty ≡ length (map f cleared) → length old ≡ length empty + length given → length given < 2 ^ 64 → IsLinked old nodes root 0 (length given) → IsScanRow x (map f given) → IsScanTree x (map f items) nodes root (length given)
+entries_linked f x given [] items empty old nodes root e none empty_is more short k l =
+    rw e (list_linked x (map f given) old nodes root (length given) (omega (arith, short, length-map given f)) (omega (arith, more, empty_is, length-map given f)) (sym (length-map given f)) k l)
+entries_linked f x given (c ∷ cs) items empty old nodes root e none empty_is more short k l = absurd (cc)

@@ -12,7 +12,7 @@ use Rattle.overlay_sweep.proofs.build.scan_list.ScanListLiveSegments.sum_below.G
 
 pub returns-then-position-eq0-clause-sum : goal.returns-then-position-eq0-clause-sum
 returns-then-position-eq0-clause-sum g c =
-    default_found (point_of g.I.OverlayInt.whole c.args.p) (entries_of c.args.self.now.entries.items) (entries_of c.settle-position.new.self.entries.items) _ c.settle-position.result (position_kept entry_of c.settle-position.new.self.entries.items _ c.settle-position.result c.settle-position.ensures.position) _ _ c.requires.same_x (entries_kept entry_of (g.I.OverlayInt.whole c.args.x) _ _ c.settle-position.ensures.entries) c.requires.time c.requires.free c.if-position-eq0.true
+    default_found (point_of g.I.OverlayInt.whole c.args.p) (entries_of c.args.self.now.entries.items) (entries_of c.settle-position.new.self.entries.items) c.settle-position.result (position_kept entry_of c.settle-position.new.self.entries.items _ c.settle-position.result c.settle-position.ensures.position) _ _ c.requires.same_x (entries_kept entry_of (g.I.OverlayInt.whole c.args.x) _ _ c.settle-position.ensures.entries) c.requires.time.row c.requires.free c.if-position-eq0.true
 
 pub returns-then-position-eq0-clause-sums : goal.returns-then-position-eq0-clause-sums
 returns-then-position-eq0-clause-sums g c = kept_sums _ _ _ (entries_kept entry_of (g.I.OverlayInt.whole c.args.x) _ _ c.settle-position.ensures.entries)
@@ -36,7 +36,7 @@ returns-else-position-eq0-clause-sum g c =
     let kept = c.settle-position.new.self.entries.items in
     let within : c.settle-position.result - 1 < length kept = omega (arith, c.settle-position.ensures.position.within, c.if-position-eq0.false) in
     ap (λ (s : WholeSegment). s.count) (sym (segment_read entry_of kept (c.settle-position.result - 1) c.index.result.now within c.index.ensures))
-    ∙ last_found (point_of g.I.OverlayInt.whole c.args.p) (entries_of c.args.self.now.entries.items) (entries_of kept) _ c.settle-position.result (position_kept entry_of c.settle-position.new.self.entries.items _ c.settle-position.result c.settle-position.ensures.position) (g.C.WindingCount.winding c.args.default) _ c.requires.same_x (entries_kept entry_of (g.I.OverlayInt.whole c.args.x) _ _ c.settle-position.ensures.entries) c.requires.time c.requires.free c.if-position-eq0.false
+    ∙ last_found (point_of g.I.OverlayInt.whole c.args.p) (entries_of c.args.self.now.entries.items) (entries_of kept) c.settle-position.result (position_kept entry_of c.settle-position.new.self.entries.items _ c.settle-position.result c.settle-position.ensures.position) (g.C.WindingCount.winding c.args.default) _ c.requires.same_x (entries_kept entry_of (g.I.OverlayInt.whole c.args.x) _ _ c.settle-position.ensures.entries) c.requires.time.row c.requires.free c.if-position-eq0.false
 
 pub returns-else-position-eq0-clause-sums : goal.returns-else-position-eq0-clause-sums
 returns-else-position-eq0-clause-sums g c = kept_sums _ _ _ (entries_kept entry_of (g.I.OverlayInt.whole c.args.x) _ _ c.settle-position.ensures.entries)

@@ -1,33 +1,30 @@
-use Rattle.std.proofs.lemmas.Result.{on_ok_weaker}
-use Rattle.overlay_sweep.proofs.laws.list.ListAsTree.{highest_pays, search_way}
+use Rattle.overlay_sweep.specs.EntryOf.{summed}
+use Rattle.overlay_sweep.specs.LiveOf.{row_sums, tree_sums, sums_in}
+use Rattle.overlay_sweep.proofs.laws.live.LiveSums.{AreFreeAt-same, HoldSameFrom-cons}
+use Rattle.overlay_sweep.proofs.laws.list.ListAsTree.{highest_pays}
+use Rattle.overlay_sweep.proofs.laws.list.LastingRows.{then_sums, then_lasting, then_pays}
 use Rattle.overlay_sweep.proofs.build.scan_mixed.ScanMixedLiveSegments.insert.Goals as goal
 
+pub insert-requires-clause-free : goal.insert-requires-clause-free
+insert-requires-clause-free g c = AreFreeAt-same _ _ _ (HoldSameFrom-cons _ _ _ _ (rw c.if-self.true at c.in_ok-make_room.ensures.sums)) c.requires.free
+
+pub insert-requires-else-self-clause-free : goal.insert-requires-else-self-clause-free
+insert-requires-else-self-clause-free g c = AreFreeAt-same _ _ _ (HoldSameFrom-cons _ _ _ _ (rw c.if-self.false at c.in_ok-make_room.ensures.sums)) c.requires.free
+
 pub returns-then-self-clause-sums : goal.returns-then-self-clause-sums
-returns-then-self-clause-sums g c = rw c.if-self.true c.insert.ensures.sums
+returns-then-self-clause-sums g c = rw c.if-self.true (then_sums _ _ _ _ _ _ (rw c.if-self.true at c.in_ok-make_room.ensures.sums) c.insert.ensures.sums)
 
-pub returns-then-entries-lt-MOST_IN_LIST-clause-sums : goal.returns-then-entries-lt-MOST_IN_LIST-clause-sums
-returns-then-entries-lt-MOST_IN_LIST-clause-sums g c = rw c.if-self.false c.insert-then-entries-lt-MOST_IN_LIST.ensures.sums
+pub returns-then-self-clause-most : goal.returns-then-self-clause-most
+returns-then-self-clause-most g c = rw c.if-self.true (then_pays _ _ _ _ _ (rw c.if-self.true at c.in_ok-make_room.ensures.held) c.insert.ensures.most)
 
-pub returns-then-entries-lt-MOST_IN_LIST-clause-time : goal.returns-then-entries-lt-MOST_IN_LIST-clause-time
-returns-then-entries-lt-MOST_IN_LIST-clause-time g c = rw c.if-self.false c.insert-then-entries-lt-MOST_IN_LIST.ensures.time
+pub returns-then-self-clause-lasting : goal.returns-then-self-clause-lasting
+returns-then-self-clause-lasting g c = rw c.if-self.true (then_lasting (g.I.OverlayInt.whole c.args.x) (tree_sums c.insert.new.self) (tree_sums c.make_room.new.self.tree) (sums_in c.args.self.now) (summed g.C.WindingCount.winding g.I.OverlayInt.whole c.args.segment c.args.sum) _ (rw c.if-self.true at c.in_ok-make_room.ensures.lasting) c.insert.ensures.lasting)
 
-pub returns-then-entries-lt-MOST_IN_LIST-clause-most : goal.returns-then-entries-lt-MOST_IN_LIST-clause-most
-returns-then-entries-lt-MOST_IN_LIST-clause-most g c = rw c.if-self.false (highest_pays _ _ _ _ c.insert-then-entries-lt-MOST_IN_LIST.ensures.most)
+pub returns-else-self-clause-sums : goal.returns-else-self-clause-sums
+returns-else-self-clause-sums g c = rw c.if-self.false (then_sums _ _ _ _ _ _ (rw c.if-self.false at c.in_ok-make_room.ensures.sums) c.insert-else-self.ensures.sums)
 
-pub returns-then-entries-lt-MOST_IN_LIST-clause-lasting : goal.returns-then-entries-lt-MOST_IN_LIST-clause-lasting
-returns-then-entries-lt-MOST_IN_LIST-clause-lasting g c = rw c.if-self.false c.insert-then-entries-lt-MOST_IN_LIST.ensures.lasting
+pub returns-else-self-clause-most : goal.returns-else-self-clause-most
+returns-else-self-clause-most g c = rw c.if-self.false (then_pays _ _ _ _ _ (rw c.if-self.false at c.in_ok-make_room.ensures.held) (highest_pays _ _ _ _ c.insert-else-self.ensures.most))
 
-pub returns-then-entries-lt-MOST_IN_LIST-clause-look : goal.returns-then-entries-lt-MOST_IN_LIST-clause-look
-returns-then-entries-lt-MOST_IN_LIST-clause-look g c = rw c.if-self.false (on_ok_weaker _ (search_way _ _) c.insert-then-entries-lt-MOST_IN_LIST.ensures.look)
-
-pub returns-clause-sums : goal.returns-clause-sums
-returns-clause-sums g c = rw (c.in_ok-hand_over.ensures.tree, c.if-self.false, ← c.in_ok-hand_over.ensures.sums) c.insert-2.ensures.sums
-
-pub returns-clause-time : goal.returns-clause-time
-returns-clause-time g c = rw c.in_ok-hand_over.ensures.tree c.insert-2.ensures.time
-
-pub returns-clause-most : goal.returns-clause-most
-returns-clause-most g c = rw (c.in_ok-hand_over.ensures.tree, c.if-self.false, ← c.in_ok-hand_over.ensures.kept) c.insert-2.ensures.most
-
-pub returns-clause-lasting : goal.returns-clause-lasting
-returns-clause-lasting g c = rw (c.in_ok-hand_over.ensures.tree, c.if-self.false, ← c.in_ok-hand_over.ensures.sums) c.insert-2.ensures.lasting
+pub returns-else-self-clause-lasting : goal.returns-else-self-clause-lasting
+returns-else-self-clause-lasting g c = rw c.if-self.false (then_lasting (g.I.OverlayInt.whole c.args.x) (row_sums c.insert-else-self.new.self) (row_sums c.make_room.new.self.row) (sums_in c.args.self.now) (summed g.C.WindingCount.winding g.I.OverlayInt.whole c.args.segment c.args.sum) _ (rw c.if-self.false at c.in_ok-make_room.ensures.lasting) c.insert-else-self.ensures.lasting)

@@ -1,4 +1,4 @@
-use Rattle.overlay_sweep.proofs.laws.list.ListAsTree.{highest_search, search_way}
+use Rattle.overlay_sweep.proofs.laws.list.ListAsTree.{highest_search}
 use Rattle.overlay_sweep.proofs.build.scan_mixed.ScanMixedLiveSegments.sum_below.Goals as goal
 
 pub returns-then-self-clause-sums : goal.returns-then-self-clause-sums
@@ -9,6 +9,3 @@ returns-else-self-clause-sums g c = rw c.if-self.false c.sum_below-else-self.ens
 
 pub returns-else-self-clause-most : goal.returns-else-self-clause-most
 returns-else-self-clause-most g c = rw c.if-self.false (λ n d within high. c.sum_below-else-self.ensures.most n d within (highest_search n d high))
-
-pub returns-else-self-clause-look : goal.returns-else-self-clause-look
-returns-else-self-clause-look g c = rw c.if-self.false (search_way _ _ c.sum_below-else-self.ensures.look)

@@ -1,0 +1,8 @@
+use Rattle.std.proofs.Common.{ap}
+use Rattle.std.specs.Prelude.{map}
+use Rattle.overlay_sweep.specs.EntryOf.{entry_of}
+use Rattle.overlay_sweep.proofs.laws.list.ListAnswers.{row_empty}
+use Rattle.overlay_sweep.proofs.build.scan_row.ScanRowLiveSegments.clear.Goals as goal
+
+pub returns-clause-time : goal.returns-clause-time
+returns-clause-time g c = λ y. row_empty y _ (ap (map entry_of) c.clear.ensures.items)

@@ -1,0 +1,48 @@
+use Rattle.std.proofs.Common.{◌∙◌, ap, sym, arith, length, subst}
+use Rattle.std.specs.Prelude.{ℤ, List, ◌-◌, ◌<◌, ◌≡◌, int_lt, pos}
+use Rattle.std.proofs.lemmas.List.{length-map}
+use Rattle.overlay_geometry.specs.Points.{turn}
+use Rattle.overlay_geometry.specs.PointOf.{point_of}
+use Rattle.overlay_base.specs.Segments.{WholeSegment}
+use Rattle.overlay_sweep.specs.EntryOf.{entry_of, entries_of}
+use Rattle.overlay_sweep.specs.ScanTrees.{lasts_past, segment_at}
+use Rattle.overlay_sweep.specs.steps.Positions.{IsLivePosition}
+use Rattle.overlay_sweep.proofs.laws.tree.ScanReads.{segment_read}
+use Rattle.overlay_sweep.proofs.laws.list.ListAnswers.{row_later}
+use Rattle.overlay_sweep.proofs.laws.list.LastingRows.{same_sums, same_lasting, row_left, none_found, one_found}
+use Rattle.overlay_sweep.proofs.build.scan_row.ScanRowLiveSegments.sum_below.Goals as goal
+
+pub returns-then-position-eq0-clause-sum : goal.returns-then-position-eq0-clause-sum
+returns-then-position-eq0-clause-sum g c =
+    none_found (g.I.OverlayInt.whole c.args.x) (entries_of c.args.self.now.entries.items) (entries_of c.settle-position.new.self.entries.items) c.settle-position.ensures.kept (point_of g.I.OverlayInt.whole c.args.p) c.requires.same_x c.requires.time c.requires.free c.settle-position.result (rw (length-map c.settle-position.new.self.entries.items entry_of) c.settle-position.ensures.position) (g.C.WindingCount.winding c.args.default) c.if-position-eq0.true
+
+pub returns-then-position-eq0-clause-sums : goal.returns-then-position-eq0-clause-sums
+returns-then-position-eq0-clause-sums g c = same_sums _ _ _ c.settle-position.ensures.kept
+
+pub returns-then-position-eq0-clause-time : goal.returns-then-position-eq0-clause-time
+returns-then-position-eq0-clause-time g c = λ y h. row_later _ y _ h (row_left _ _ _ c.settle-position.ensures.kept c.requires.time (c.settle-position.ensures.begun _ c.requires.time.begun))
+
+pub returns-then-position-eq0-clause-most : goal.returns-then-position-eq0-clause-most
+returns-then-position-eq0-clause-most g c = λ n d within most. c.settle-position.ensures.most d (omega (arith, within, most))
+
+pub returns-then-position-eq0-clause-lasting : goal.returns-then-position-eq0-clause-lasting
+returns-then-position-eq0-clause-lasting g c = same_lasting _ _ _ c.settle-position.ensures.kept
+
+pub returns-else-position-eq0-clause-sum : goal.returns-else-position-eq0-clause-sum
+returns-else-position-eq0-clause-sum g c =
+    let kept = c.settle-position.new.self.entries.items in
+    let within : c.settle-position.result - 1 < length kept = omega (arith, c.settle-position.ensures.position.within, c.if-position-eq0.false) in
+    ap (λ (s : WholeSegment). s.count) (sym (segment_read entry_of kept (c.settle-position.result - 1) c.index.result.now within c.index.ensures))
+    ∙ one_found (g.I.OverlayInt.whole c.args.x) (entries_of c.args.self.now.entries.items) (entries_of kept) c.settle-position.ensures.kept (point_of g.I.OverlayInt.whole c.args.p) c.requires.same_x c.requires.time c.requires.free c.settle-position.result (rw (length-map kept entry_of) c.settle-position.ensures.position) (g.C.WindingCount.winding c.args.default) c.if-position-eq0.false
+
+pub returns-else-position-eq0-clause-sums : goal.returns-else-position-eq0-clause-sums
+returns-else-position-eq0-clause-sums g c = same_sums _ _ _ c.settle-position.ensures.kept
+
+pub returns-else-position-eq0-clause-time : goal.returns-else-position-eq0-clause-time
+returns-else-position-eq0-clause-time g c = λ y h. row_later _ y _ h (row_left _ _ _ c.settle-position.ensures.kept c.requires.time (c.settle-position.ensures.begun _ c.requires.time.begun))
+
+pub returns-else-position-eq0-clause-most : goal.returns-else-position-eq0-clause-most
+returns-else-position-eq0-clause-most g c = λ n d within most. c.settle-position.ensures.most d (omega (arith, within, most))
+
+pub returns-else-position-eq0-clause-lasting : goal.returns-else-position-eq0-clause-lasting
+returns-else-position-eq0-clause-lasting g c = same_lasting _ _ _ c.settle-position.ensures.kept

@@ -1,0 +1,206 @@
+// A row of the live segments from below, in which what has ended may stay. Upstream: `KeyExpList` of `i_tree`.
+ghost use Rattle.std.specs.Prelude.{◌≡◌};
+ghost use Rattle.overlay_geometry.specs.VSegmentOf.{IsVSegmentInRange};
+
+use crate::build::entry::Entry;
+use crate::build::live_segments::LiveSegments;
+use crate::build::place::Place;
+use overlay_base::segm::fault::Fault;
+use overlay_base::segm::winding::WindingCount;
+use overlay_geometry::geom::point::IntPoint;
+use overlay_geometry::geom::v_segment::VSegment;
+use overlay_geometry::num::OverlayInt;
+use std::alloc::Global;
+
+/// The live segments from below. What has ended may stay among them until a search meets it.
+///
+/// A `ScanList` passes over all its entries wherever one has ended; here a search drops only what it meets. In return
+/// the number of its comparisons depends on what is left.
+#[derive(Drop)]
+pub struct ScanRow<C: WindingCount, I: OverlayInt> {
+    entries: Vec<Entry<C, I>>,
+    compared: u128,
+}
+
+impl<C: WindingCount, I: OverlayInt> ScanRow<C, I> {
+    ghost use Rattle.std.specs.Prelude.{ℕ, ℤ, ◌*◌, ◌+◌, ◌<◌, ◌≤◌, ◌^◌, suc, false, [], All, ◌≤ℤ◌, filter, int_lt, length, IfErr, IfOk, OnOk};
+    ghost use Rattle.overlay_sweep.specs.Costs.{IsWayAmong, lasting_at};
+    ghost use Rattle.overlay_sweep.specs.EntryOf.{entries_of};
+    ghost use Rattle.overlay_sweep.specs.ScanTrees.{lasts_past, segment_at};
+    ghost use Rattle.overlay_sweep.specs.LiveOf.{row_entries, row_asked, IsInRowAt};
+    ghost use Rattle.overlay_sweep.specs.steps.PlaceOf.{IsPlaceInRange, stands_before};
+    ghost use Rattle.overlay_sweep.specs.steps.Positions.{IsLivePosition};
+
+    /// An empty row, which takes no memory yet.
+    pub fn new(alloc: Global) -> ScanRow<C, I>
+        ensures entries { row_entries result ≡ [] }
+        ensures time { (x : ℤ) → IsInRowAt x result }
+        ensures compared { row_asked result ≡ 0 }
+    {
+        ScanRow {
+            entries: Vec::new(alloc),
+            compared: 0,
+        }
+    }
+
+    /// The entries from below, with those that have ended and were not met.
+    pub(crate) fn entries(&self) -> &[Entry<C, I>]
+        ensures { result.now ≡ row_entries self.now }
+    {
+        &self.entries
+    }
+
+    /// Drops the segments that do not end right of `x`.
+    pub(crate) fn drop_ended(&mut self, x: I)
+        ensures { row_entries self.new ≡ filter (λ e. int_lt (I.whole x) (I.whole e.segment.b.x))
+            (row_entries self.old) }
+    {
+        self.entries.retain(|entry| entry.lasts_past(x));
+    }
+
+    /// How many entries stand before a place, by halves: so many that the entry below and the one above have not ended.
+    /// Returns `Err` with the index of an entry that has ended, where the search meets one. Adds to `compared` how many
+    /// orders it asks.
+    fn search(&self, x: I, place: &Place<I>, compared: &mut u128) -> Result<usize, usize>
+        requires place { IsPlaceInRange I.whole I.MIN_COORD I.MAX_COORD place.now }
+        requires none { compared.old ≡ 0 }
+        ensures position { IfOk result (λ at. IsLivePosition (lasts_past (I.whole x)
+            (entries_of self.now.entries.items)) (λ i. stands_before I.whole place.now (segment_at
+            (entries_of self.now.entries.items) i).pair) (length self.now.entries.items) at) }
+        ensures within { IfErr result (λ at. at < length self.now.entries.items) }
+        ensures ended { IfErr result (λ at. lasts_past (I.whole x)
+            (entries_of self.now.entries.items) at ≡ false) }
+        ensures most { (d : ℕ) → 2 * length self.now.entries.items ≤ 2 ^ d → compared.new ≤ d }
+        ensures look { OnOk result (IsWayAmong (length self.now.entries.items) compared.new) }
+    {
+        let mut low = 0;
+        let mut high = self.entries.len();
+        while low < high {
+            let middle = low + (high - low) / 2;
+            let entry = &self.entries[middle];
+            if !entry.lasts_past(x) {
+                return Err(middle);
+            }
+            if entry.is_before(place, compared) {
+                low = middle + 1;
+            } else {
+                high = middle;
+            }
+        }
+        Ok(low)
+    }
+
+    /// Searches until it meets no entry that has ended, and drops those that it meets. Returns how many entries stand
+    /// before the place, and leaves in `compared` how many orders that asked.
+    fn settle(&mut self, x: I, place: &Place<I>) -> usize
+        requires place { IsPlaceInRange I.whole I.MIN_COORD I.MAX_COORD place.now }
+        ensures kept { filter (λ s. int_lt (I.whole x) s.pair.b.x) (entries_of self.new.entries.items)
+            ≡ filter (λ s. int_lt (I.whole x) s.pair.b.x) (entries_of self.old.entries.items) }
+        ensures begun { (z : ℤ) → All (λ s. s.pair.a.x ≤ℤ z) (entries_of self.old.entries.items)
+            → All (λ s. s.pair.a.x ≤ℤ z) (entries_of self.new.entries.items) }
+        ensures position { IsLivePosition (lasts_past (I.whole x)
+            (entries_of self.new.entries.items)) (λ i. stands_before I.whole place.now (segment_at
+            (entries_of self.new.entries.items) i).pair) (length self.new.entries.items) result }
+        ensures fewer { length self.new.entries.items ≤ length self.old.entries.items }
+        ensures most { (d : ℕ) → 2 * length self.old.entries.items ≤ 2 ^ d
+            → self.new.compared + length self.new.entries.items * d ≤ suc (length self.old.entries.items) * d }
+        ensures look { IsWayAmong (lasting_at (I.whole x) (entries_of self.old.entries.items)) self.new.compared }
+    {
+        self.compared = 0;
+        loop {
+            let mut asked = 0;
+            let found = self.search(x, place, &mut asked);
+            self.compared = self.compared.saturating_add(asked);
+            match found {
+                Ok(position) => return position,
+                Err(ended) => {
+                    self.entries.remove(ended);
+                }
+            }
+        }
+    }
+}
+
+impl<C: WindingCount, I: OverlayInt> LiveSegments<C, I> for ScanRow<C, I> {
+    ghost use Rattle.std.specs.Prelude.{suc, ◌*◌, ◌^◌, ◌≤◌, ◌≤ℤ◌, ◌<ℤ◌, ℤ, [], ◌∷◌, OnOk, OnErr, IfErr};
+    ghost use Rattle.overlay_geometry.specs.PointOf.{point_of};
+    ghost use Rattle.overlay_geometry.specs.InRange.{IsPointInRange};
+    ghost use Rattle.overlay_sweep.specs.Costs.{IsWayAmong, lasting_at, LastAlikeFrom, IsInsertCost, IsSearchCost};
+    ghost use Rattle.overlay_sweep.specs.EntryOf.{summed};
+    ghost use Rattle.overlay_sweep.specs.Live.{sum_below};
+    ghost use Rattle.overlay_sweep.specs.Live.{HoldSameFrom, AreFreeAt};
+    ghost use Rattle.overlay_sweep.specs.LiveOf.{row_sums, row_held, row_asked, IsInRowAt};
+
+    ghost sums = { λ row. row_sums row };
+
+    ghost asked = { λ row. row_asked row };
+
+    ghost held = { λ row. row_held row };
+
+    ghost is_most = { λ n d. 2 * n ≤ 2 ^ d };
+
+    ghost asks = { λ n d. IsWayAmong n d };
+
+    ghost may_go_on_at = { λ row x. IsInRowAt x row };
+
+    fn insert(&mut self, segment: VSegment<I>, sum: C, x: I) -> Result<(), Fault>
+        requires in_range { IsVSegmentInRange I.whole I.MIN_COORD I.MAX_COORD segment }
+        requires start { I.whole segment.a.x ≡ I.whole x }
+        requires wide { I.whole x <ℤ I.whole segment.b.x }
+        requires time { IsInRowAt (I.whole x) self.old }
+        requires free { AreFreeAt (I.whole x) (summed C.winding I.whole segment sum ∷ row_sums self.old) }
+        ensures sums { OnOk result (HoldSameFrom (I.whole x) (row_sums self.new) (summed C.winding I.whole segment sum ∷ row_sums self.old)) }
+        ensures time { OnOk result ((y : ℤ) → I.whole x ≤ℤ y → IsInRowAt y self.new) }
+        ensures fault { IfErr result (λ fault. fault ≡ Fault.Memory) }
+        ensures emptied { OnErr result (row_sums self.new ≡ []) }
+        ensures none_asked { OnErr result (row_asked self.new ≡ 0) }
+        ensures cleared { OnErr result ((y : ℤ) → IsInRowAt y self.new) }
+        ensures held { OnOk result (row_held self.new ≤ suc (row_held self.old)) }
+        ensures most { OnOk result (IsInsertCost (λ n d. 2 * n ≤ 2 ^ d) (row_held self.old) (row_held self.new) (row_asked self.new)) }
+        ensures lasting { OnOk result (LastAlikeFrom (I.whole x) (row_sums self.new) (summed C.winding I.whole segment sum ∷ row_sums self.old)) }
+        ensures look { OnOk result (IsWayAmong (lasting_at (I.whole x) (row_sums self.old)) (row_asked self.new)) }
+    {
+        let entry = Entry { segment, sum };
+        let position = self.settle(x, &Place::Segment(segment));
+        if self.entries.insert(position, entry).is_err() {
+            self.clear();
+            return Err(Fault::Memory);
+        }
+        Ok(())
+    }
+
+    fn sum_below(&mut self, x: I, p: IntPoint<I>, default: C) -> C
+        requires point { IsPointInRange I.whole I.MIN_COORD I.MAX_COORD p }
+        requires same_x { I.whole p.x ≡ I.whole x }
+        requires time { IsInRowAt (I.whole x) self.old }
+        requires free { AreFreeAt (I.whole x) (row_sums self.old) }
+        ensures sum { C.winding result ≡ sum_below (row_sums self.old) (point_of I.whole p) (C.winding default) }
+        ensures sums { HoldSameFrom (I.whole x) (row_sums self.new) (row_sums self.old) }
+        ensures time { (y : ℤ) → I.whole x ≤ℤ y → IsInRowAt y self.new }
+        ensures held { row_held self.new ≤ row_held self.old }
+        ensures most { IsSearchCost (λ n d. 2 * n ≤ 2 ^ d) (row_held self.old) (row_held self.new) (row_asked self.new) }
+        ensures lasting { LastAlikeFrom (I.whole x) (row_sums self.new) (row_sums self.old) }
+        ensures look { IsWayAmong (lasting_at (I.whole x) (row_sums self.old)) (row_asked self.new) }
+    {
+        let position = self.settle(x, &Place::Point(p));
+        if position == 0 {
+            default
+        } else {
+            self.entries[position - 1].sum
+        }
+    }
+
+    fn clear(&mut self)
+        ensures sums { row_sums self.new ≡ [] }
+        ensures time { (y : ℤ) → IsInRowAt y self.new }
+        ensures held { row_held self.new ≡ 0 }
+        ensures asked { row_asked self.new ≡ 0 }
+    {
+        self.entries.clear();
+        self.compared = 0;
+    }
+
+    fn compared(&self) -> u128 {
+        self.compared
+    }
+}
