@@ -1,4 +1,4 @@
-// Rows of level segments, kept in a list and in a tree: sums, the tree's depth, and how many orders are asked.
+// Rows of level segments, kept in each collection: sums, the tree's depth, and how many orders are asked.
 ghost use Rattle.std.specs.Prelude.{◌≡◌, ◌+◌, ◌*◌, ◌<◌, ℤ, pos, ◌≤ℤ◌, IsTrue};
 ghost use Rattle.overlay_geometry.specs.Coordinates.{is_coordinate, least_coordinate, greatest_coordinate};
 ghost use Rattle.overlay_base.specs.Planar.{is_arranged};
@@ -18,6 +18,8 @@ use overlay_geometry::geom::v_segment::VSegment;
 use overlay_geometry::num::OverlayInt;
 use overlay_sweep::build::live_segments::LiveSegments;
 use overlay_sweep::build::scan_list::ScanList;
+use overlay_sweep::build::scan_mixed::ScanMixed;
+use overlay_sweep::build::scan_row::ScanRow;
 use overlay_sweep::build::scan_tree::ScanTree;
 use overlay_sweep::build::sweep::SweepRunner;
 use std::alloc::Global;
@@ -161,6 +163,25 @@ fn list_of_rows<I: OverlayInt>(rt: &impl Abort, alloc: Global) {
 fn a_tree_of_rows_asks_few_orders(rt: HostRuntime) {
     tree_of_rows::<i16>(&rt, rt.alloc());
     tree_of_rows::<i32>(&rt, rt.alloc());
+}
+
+/// Among 1,000 entries that all last a search by halves asks at most 10 orders.
+fn other_rows<I: OverlayInt>(rt: &impl Abort, alloc: Global) {
+    let mut row: ScanRow<ShapeCountBoolean, I> = ScanRow::new(alloc);
+    let mut mixed: ScanMixed<ShapeCountBoolean, I> = ScanMixed::new(alloc);
+    assert_eq!(rt; (row.compared(), mixed.compared()), (0, 0));
+    for is_forward in [true, false] {
+        insert_rows(rt, &mut row, is_forward, &[]);
+        look_at_rows(rt, &mut row, 9, 10);
+        insert_rows(rt, &mut mixed, is_forward, &[]);
+        look_at_rows(rt, &mut mixed, 1, 19);
+    }
+}
+
+#[test]
+fn a_row_and_what_becomes_a_tree_answer_the_same(rt: HostRuntime) {
+    other_rows::<i16>(&rt, rt.alloc());
+    other_rows::<i32>(&rt, rt.alloc());
 }
 
 #[test]

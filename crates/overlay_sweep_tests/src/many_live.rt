@@ -1,4 +1,4 @@
-// Sweeps over so many live segments that the list which a tree begins with is handed over.
+// Sweeps over so many live segments that a row drops what has ended, or is handed over to a tree.
 use overlay_base::overlay_core::solver::Solver;
 use overlay_base::segm::arranged::is_arranged;
 use overlay_base::segm::boolean::ShapeCountBoolean;
@@ -14,17 +14,18 @@ use std::test::Fail;
 
 type Line = Segment<ShapeCountBoolean, i32, ()>;
 
-/// How many lines are live together, at most.
-const LIVE: u32 = 300;
+/// How many lines are live together, at most: with so few the row is full of lines that have ended, and with so many
+/// of live ones.
+const LIVE: [u32; 2] = [300, 1000];
 
-/// Two runs of level lines. Those of a run begin one by one, by turns above and below those before, and end together,
+/// Three runs of level lines. Those of a run begin one by one, by turns above and below those before, and end together,
 /// where the next run begins.
-fn lines_in_two_runs(rt: &(impl Abort + AllocGlobal)) -> Result<Vec<Line>, Fail> {
+fn lines_in_runs(rt: &(impl Abort + AllocGlobal), live: u32) -> Result<Vec<Line>, Fail> {
     let mut lines = Vec::new(rt.alloc());
-    for start in [0, 1000] {
-        for i in 0..LIVE {
+    for start in [0, 1000, 2000] {
+        for i in 0..live {
             let x = i as i32;
-            let y = if i % 2 == 0 { 300 - x } else { x - 300 };
+            let y = if i % 2 == 0 { 1000 - x } else { x - 1000 };
             let (a, b) = (IntPoint::new(start + x, y), IntPoint::new(start + 1000, y));
             let count = ShapeCountBoolean { subj: 1, clip: 0 };
             assert!(rt; a != b && count.is_valid());
@@ -40,13 +41,13 @@ fn fill_of_line(i: u32) -> SegmentFill {
     if i / 2 % 2 == 0 { 1 } else { 2 }
 }
 
-#[test]
-fn each_of_many_live_lines_is_filled_on_one_side(rt: HostRuntime) -> Result<(), Fail> {
-    let lines = lines_in_two_runs(&rt)?;
+/// Sweeps over three runs of lines, so many live at a time.
+fn fill_runs(rt: &(impl Abort + AllocGlobal), live: u32) -> Result<(), Fail> {
+    let lines = lines_in_runs(rt, live)?;
     assert!(rt; is_arranged(&lines));
     let mut expected = Vec::new(rt.alloc());
-    for _ in 0..2 {
-        for i in 0..LIVE {
+    for _ in 0..3 {
+        for i in 0..live {
             expected.push(fill_of_line(i))?;
         }
     }
@@ -56,8 +57,16 @@ fn each_of_many_live_lines_is_filled_on_one_side(rt: HostRuntime) -> Result<(), 
         let handler = StoreFillsHandler::new(&mut fills);
         let swept = runner
             .run::<(), EvenOddStrategy, StoreFillsHandler>(&solver, &lines, handler)
-            .expect(&rt, "no refusal");
+            .expect(rt, "no refusal");
         assert_eq!(rt; swept.as_slice(), expected.as_slice());
+    }
+    Ok(())
+}
+
+#[test]
+fn each_of_many_live_lines_is_filled_on_one_side(rt: HostRuntime) -> Result<(), Fail> {
+    for live in LIVE {
+        fill_runs(&rt, live)?;
     }
     Ok(())
 }
