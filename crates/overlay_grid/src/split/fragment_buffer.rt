@@ -29,6 +29,8 @@ pub struct FragmentBuffer<I: OverlayInt> {
     layout: GridLayout<I>,
     groups: Vec<Vec<Fragment<I>>>,
     right_ends: Vec<I>,
+    /// Whether a sort has found that a scan upward compares few fragments.
+    is_upward: bool,
     ghost columns: { length groups.items ≡ group_count (layout_of layout) },
 }
 
@@ -73,6 +75,7 @@ impl<I: OverlayInt> FragmentBuffer<I> {
             layout,
             groups,
             right_ends,
+            is_upward: false,
         })
     }
 
@@ -82,6 +85,7 @@ impl<I: OverlayInt> FragmentBuffer<I> {
             layout: _,
             groups,
             right_ends,
+            is_upward: _,
         } = self;
         FragmentMemory { groups, right_ends }
     }
@@ -135,6 +139,9 @@ impl<I: OverlayInt> FragmentBuffer<I> {
     /// Sorts every group by where the fragments begin along one axis, and returns which: from the lowest up, unless a
     /// scan compares many fragments so and fewer from left to right. So it compares at most the pairs that share a
     /// height.
+    ///
+    /// Once few were compared upward, later sorts of this buffer go upward too, and do not count again: a pass sorts
+    /// the pieces of the pass before, and most of them are as they were.
     pub fn sort(&mut self) -> Axis
         ensures layout { grid_of self.new ≡ grid_of self.old }
         ensures permutation { (column : ℕ) → IsPermutation (group_of self.old column) (group_of self.new column) }
@@ -142,8 +149,12 @@ impl<I: OverlayInt> FragmentBuffer<I> {
         ensures looks { buffer_looks result self.new ≤ buffer_twos self.new }
     {
         self.sort_along(Axis::Y);
+        if self.is_upward {
+            return Axis::Y;
+        }
         let upward = count_reached(self.groups(), Axis::Y);
         if upward <= self.few_looks() {
+            self.is_upward = true;
             return Axis::Y;
         }
         self.sort_along(Axis::X);

@@ -13,6 +13,9 @@ returns-then-count_reached-upward-clause-permutation g c column = IsPermutation-
 pub returns-clause-permutation : goal.returns-clause-permutation
 returns-clause-permutation g c column = IsPermutation-trans _ _ _ (c.sort_along.ensures.permutation column) (IsPermutation-trans _ _ _ (c.sort_along-2.ensures.permutation column) (c.sort_along-3.ensures.permutation column))
 
+pub returns-then-self-clause-looks : goal.returns-then-self-clause-looks
+returns-then-self-clause-looks g c = upward_within (group_of c.sort_along.new.self) (group_count (grid_of c.sort_along.new.self)) c.sort_along.ensures.sorted
+
 pub returns-then-upward-few_looks-clause-looks : goal.returns-then-upward-few_looks-clause-looks
 returns-then-upward-few_looks-clause-looks g c = upward_within (group_of c.sort_along.new.self) (group_count (grid_of c.sort_along.new.self)) c.sort_along.ensures.sorted
 
