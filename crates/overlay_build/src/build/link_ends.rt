@@ -19,10 +19,12 @@ pub fn collect_ends<I: OverlayInt, D: Copy>(
     ensures fault { IfErr result (λ fault. fault ≡ Memory) }
 {
     ends.clear();
+    ends.reserve(links.len())?;
     for (index, link) in links.iter().enumerate() {
         let point = link.a.point;
         ends.push(End { index, point })?;
     }
+    ends.reserve(links.len())?;
     for (index, link) in links.iter().enumerate() {
         let point = link.b.point;
         ends.push(End { index, point })?;

@@ -137,6 +137,7 @@ fn cut_at_marks<C: WindingCount, I: OverlayInt, D: OverlayEdgeData<C>>(
 {
     let PassBuffers { marks, path, tree } = buffers;
     let is_rounded = finder.find_marks(list.as_slice(), placing, tree, marks)?;
+    list.reserve(marks.len())?;
     let mut rest = marks.as_slice();
     while let Some(first) = rest.first() {
         let index = first.index;

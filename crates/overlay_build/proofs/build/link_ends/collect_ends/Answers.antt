@@ -18,7 +18,8 @@ loop-index-preserved g c =
 
 pub loop-index-2-init : goal.loop-index-2-init
 loop-index-2-init g c =
-    c.loop-index.invariant
+    ap (ends_of g.I.OverlayInt.whole) c.reserve-2.ensures.items
+    ∙ c.loop-index.invariant
     ∙ numbered-all (λ s. s.a) (λ (l : OverlayLink g.row.I.Denot g.row.D.Denot). (link_of g.I.OverlayInt.whole l).pair) c.args.links.now c.loop-index.index c.loop-index-test.false
     ∙ sym (append-nil (numbered_starts (pairs_of_links g.I.OverlayInt.whole c.args.links.now)))
 
