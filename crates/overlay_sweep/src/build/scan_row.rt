@@ -22,8 +22,17 @@ pub struct ScanRow<C: WindingCount, I: OverlayInt> {
     compared: u128,
 }
 
+/// What a search came to.
+#[derive(Clone, Copy)]
+struct Found {
+    /// How many entries stand before the place.
+    position: usize,
+    /// The orders asked are as many as a way down a tree may ask that has fewer entries than this.
+    reach: usize,
+}
+
 impl<C: WindingCount, I: OverlayInt> ScanRow<C, I> {
-    ghost use Rattle.std.specs.Prelude.{ℕ, ℤ, ◌*◌, ◌+◌, ◌<◌, ◌≤◌, ◌^◌, suc, false, [], All, ◌≤ℤ◌, filter, int_lt, length, IfErr, IfOk, OnOk};
+    ghost use Rattle.std.specs.Prelude.{ℕ, ℤ, ◌*◌, ◌+◌, ◌<◌, ◌≤◌, ◌^◌, suc, [], All, ◌≤ℤ◌, filter, int_lt, length};
     ghost use Rattle.overlay_sweep.specs.Costs.{IsWayAmong, lasting_at};
     ghost use Rattle.overlay_sweep.specs.EntryOf.{entries_of};
     ghost use Rattle.overlay_sweep.specs.ScanTrees.{lasts_past, segment_at};
@@ -58,40 +67,53 @@ impl<C: WindingCount, I: OverlayInt> ScanRow<C, I> {
         self.entries.retain(|entry| entry.lasts_past(x));
     }
 
-    /// How many entries stand before a place, by halves: so many that the entry below and the one above have not ended.
-    /// Returns `Err` with the index of an entry that has ended, where the search meets one. Adds to `compared` how many
-    /// orders it asks.
-    fn search(&self, x: I, place: &Place<I>, compared: &mut u128) -> Result<usize, usize>
+    /// Searches for a place by halves, and drops the entries that it meets and that have ended. Adds to `compared` how many
+    /// orders it asks: no fewer than a way down a balanced tree among fewer entries than the reach, or where none is
+    /// dropped.
+    fn search(&mut self, x: I, place: &Place<I>, compared: &mut u128) -> Found
         requires place { IsPlaceInRange I.whole I.MIN_COORD I.MAX_COORD place.now }
         requires none { compared.old ≡ 0 }
-        ensures position { IfOk result (λ at. IsLivePosition (lasts_past (I.whole x)
-            (entries_of self.now.entries.items)) (λ i. stands_before I.whole place.now (segment_at
-            (entries_of self.now.entries.items) i).pair) (length self.now.entries.items) at) }
-        ensures within { IfErr result (λ at. at < length self.now.entries.items) }
-        ensures ended { IfErr result (λ at. lasts_past (I.whole x)
-            (entries_of self.now.entries.items) at ≡ false) }
-        ensures most { (d : ℕ) → 2 * length self.now.entries.items ≤ 2 ^ d → compared.new ≤ d }
-        ensures look { OnOk result (IsWayAmong (length self.now.entries.items) compared.new) }
+        ensures kept { filter (λ s. int_lt (I.whole x) s.pair.b.x) (entries_of self.new.entries.items)
+            ≡ filter (λ s. int_lt (I.whole x) s.pair.b.x) (entries_of self.old.entries.items) }
+        ensures begun { (z : ℤ) → All (λ s. s.pair.a.x ≤ℤ z) (entries_of self.old.entries.items)
+            → All (λ s. s.pair.a.x ≤ℤ z) (entries_of self.new.entries.items) }
+        ensures position { IsLivePosition (lasts_past (I.whole x)
+            (entries_of self.new.entries.items)) (λ i. stands_before I.whole place.now (segment_at
+            (entries_of self.new.entries.items) i).pair) (length self.new.entries.items) result.position }
+        ensures fewer { length self.new.entries.items ≤ length self.old.entries.items }
+        ensures same { self.new.compared ≡ self.old.compared }
+        ensures most { (d : ℕ) → 2 * length self.old.entries.items ≤ 2 ^ d → compared.new ≤ d }
+        ensures all { length self.new.entries.items ≡ length self.old.entries.items
+            → IsWayAmong (length self.new.entries.items) compared.new }
+        ensures reach { length self.new.entries.items < result.reach
+            → IsWayAmong (length self.new.entries.items) compared.new }
     {
         let mut low = 0;
         let mut high = self.entries.len();
+        let mut reach = 8_usize;
         while low < high {
             let middle = low + (high - low) / 2;
-            let entry = &self.entries[middle];
+            let entry = self.entries[middle];
             if !entry.lasts_past(x) {
-                return Err(middle);
+                self.entries.remove(middle);
+                high -= 1;
+                continue;
             }
+            reach = reach.saturating_mul(4);
             if entry.is_before(place, compared) {
                 low = middle + 1;
             } else {
                 high = middle;
             }
         }
-        Ok(low)
+        Found {
+            position: low,
+            reach,
+        }
     }
 
-    /// Searches until it meets no entry that has ended, and drops those that it meets. Returns how many entries stand
-    /// before the place, and leaves in `compared` how many orders that asked.
+    /// Searches, and once more where the entries that were dropped have spared too many orders. Returns how many entries
+    /// stand before the place, and leaves in `compared` how many orders that asked.
     fn settle(&mut self, x: I, place: &Place<I>) -> usize
         requires place { IsPlaceInRange I.whole I.MIN_COORD I.MAX_COORD place.now }
         ensures kept { filter (λ s. int_lt (I.whole x) s.pair.b.x) (entries_of self.new.entries.items)
@@ -108,14 +130,13 @@ impl<C: WindingCount, I: OverlayInt> ScanRow<C, I> {
     {
         self.compared = 0;
         loop {
+            let many = self.entries.len();
             let mut asked = 0;
             let found = self.search(x, place, &mut asked);
             self.compared = self.compared.saturating_add(asked);
-            match found {
-                Ok(position) => return position,
-                Err(ended) => {
-                    self.entries.remove(ended);
-                }
+            let left = self.entries.len();
+            if left == many || left < found.reach {
+                return found.position;
             }
         }
     }

@@ -9,7 +9,7 @@ use Rattle.std.proofs.lemmas.List.{length-map, length-append, map-append, take-a
 use Rattle.std.proofs.lemmas.List.Sums.{sum_by-cons, count_by-le-length}
 use Rattle.std.proofs.lemmas.List.Elements.{filter-append, All-append, All-take, All-drop}
 use Rattle.std.proofs.Math.Seq.{take-append_seam, drop-append_seam}
-use Rattle.std.proofs.Math.Nat.{suc-mul}
+use Rattle.std.proofs.Math.Nat.{suc-mul, add-mul, mul-le-mul_right}
 use Rattle.std.proofs.Math.Pow.{pow_mono}
 use Rattle.overlay_base.specs.Windings.{Winding}
 use Rattle.overlay_base.specs.Segments.{WholeSegment}
@@ -187,12 +187,12 @@ module _ (x : ℤ) (ks : List WholeSegment) (at : ℕ) where
 
 -- ---- a call
 
--- an entry less pays for a search
-pub pays_more : (d was left now asked total more : ℕ) → left ≡ now + 1 → total + left * d ≤ was * d → asked ≤ d → more ≤ total + asked → more + now * d ≤ was * d
-pays_more d was left now asked total more e paid few adds = omega (arith, paid, few, adds, ap (λ n. n * d) e, suc-mul now d)
+-- the entries dropped so far pay for the searches before, and one more for another
+pub pays_more : (d was left now asked total more : ℕ) → now + 1 ≤ left → total + left * d ≤ was * d → asked ≤ d → more ≤ total + asked → more + now * d ≤ was * d
+pays_more d was left now asked total more less paid few adds = omega (arith, paid, few, adds, mul-le-mul_right d less, add-mul now 1 d)
 
-pub pays_last : (d was left asked total more : ℕ) → total + left * d ≤ was * d → asked ≤ d → more ≤ total + asked → more + left * d ≤ suc was * d
-pays_last d was left asked total more paid few adds = omega (arith, paid, few, adds, suc-mul was d)
+pub pays_last : (d was left now asked total more : ℕ) → now ≤ left → total + left * d ≤ was * d → asked ≤ d → more ≤ total + asked → more + now * d ≤ suc was * d
+pays_last d was left now asked total more fewer paid few adds = omega (arith, paid, few, adds, mul-le-mul_right d fewer, suc-mul was d)
 
 -- those that last are no more than all
 pub way_among_all : (x : ℤ) (os ks : List WholeSegment) (asked more : ℕ) → lasting_of x ks ≡ lasting_of x os → IsWayAmong (length ks) asked → asked ≤ more → IsWayAmong (lasting_at x os) more
