@@ -4,12 +4,13 @@
 Usage, from the top of the repository:
 
     python3 tools/archive.py
-    python3 bench/in_process.py --upstream PROGRAM [--turns N] [--strategy NAME] [--kinds KIND,KIND] [NUMBER ..]
+    python3 bench/in_process.py --upstream PROGRAM [--rounds N] [--turns N] [--strategy NAME] [--kinds KIND,KIND] [NUMBER ..]
 
 PROGRAM is built from the files of i_overlay 9.0.1. `PROGRAM bench - - STRATEGY runs=N` reads segments, splits them and builds the
 graph of all of them N times, each time with a new splitter and builder, and prints the least times, `split_ms=` and `graph_ms=`.
 Ours is the example `race` of `rust/`, which does the same through the Rust package. Its `all_ms=` has the split, the build, and the
-copies of links and nodes into vectors of Rust, which the other does not make. No text is timed.
+copies of links and nodes into vectors of Rust, which the other does not make. No text is timed. The two programs run by turns, a few
+rounds of some runs each, and the least times count: so a machine whose speed varies slows both alike.
 
 For each kind and number a row of a table is printed: kind, segments, and for the split and for the whole: milliseconds of this
 repository, of the other, and how many times as long this one took; at last the most memory of each process, in megabytes, the
@@ -48,12 +49,20 @@ def run(command, path):
     return {name: float(number) for name, number in re.findall(r"(\w+)_ms=(\S+)", printed)}, used.ru_maxrss / 1024
 
 
+def least(rounds, commands, path):
+    """The least times and the most memory of each command, which run by turns."""
+    answers = [[run(command, path) for command in commands] for _ in range(rounds)]
+    times = [[times for times, _ in same] for same in zip(*answers)]
+    memory = [max(memory for _, memory in same) for same in zip(*answers)]
+    return [{name: min(each[name] for each in same) for name in same[0]} for same in times], memory
+
+
 def race(kind, number, given):
     with tempfile.NamedTemporaryFile("w", encoding="ascii", suffix=".txt") as file:
         file.write(text_of(kind, number))
         file.flush()
-        ours, our_memory = run([RACE, given.strategy, str(given.turns)], file.name)
-        theirs, their_memory = run([given.upstream, "bench", "-", "-", given.strategy, f"runs={given.turns}"], file.name)
+        commands = [RACE, given.strategy, str(given.turns)], [given.upstream, "bench", "-", "-", given.strategy, f"runs={given.turns}"]
+        (ours, theirs), (our_memory, their_memory) = least(given.rounds, commands, file.name)
     memory = f"{our_memory:.0f} / {their_memory:.0f}" if min(our_memory, their_memory) > LEAST_MEMORY else ""
     whole = theirs["split"] + theirs["graph"]
     print(f"| {kind} | {number // SMALLER.get(kind, 1):,} | {ours['split']:.1f} / {theirs['split']:.1f} | {ours['split'] / theirs['split']:.2f} "
@@ -63,7 +72,8 @@ def race(kind, number, given):
 def main():
     parser = argparse.ArgumentParser(description=__doc__, formatter_class=argparse.RawDescriptionHelpFormatter)
     parser.add_argument("--upstream", required=True, metavar="PROGRAM", help="the program to race against")
-    parser.add_argument("--turns", type=int, default=9, help="runs of each program (9)")
+    parser.add_argument("--rounds", type=int, default=3, help="rounds, in each of which both programs run (3)")
+    parser.add_argument("--turns", type=int, default=9, help="runs of a program in each round (9)")
     parser.add_argument("--strategy", default="auto", choices=["list", "tree", "frag", "auto"])
     parser.add_argument("--kinds", default=",".join([*POLYGONS, *LINES]), help="kinds, with commas between them")
     parser.add_argument("numbers", nargs="*", type=int, default=[1_000, 4_000, 16_000, 50_000])

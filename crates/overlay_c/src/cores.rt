@@ -350,6 +350,7 @@ pub fn load<I: Width>(
     ensures segments { IfOk result (λ all. IsTrue all → segments_of list.new.items ≡ map asked_by records.now) }
 {
     list.clear();
+    list.reserve(records.len())?;
     for given in records {
         match asked(given, (), &mut ()) {
             Some(segment) => list.push(segment)?,
@@ -367,6 +368,7 @@ pub fn keep_links<I: Width, D: Copy>(
     ensures { OnOk result (map link_by kept.new.items ≡ map (link_of I.whole) links.now) }
 {
     kept.clear();
+    kept.reserve(links.len())?;
     for each in links {
         kept.push(link(each))?;
     }
@@ -383,6 +385,7 @@ pub fn keep_nodes(
     ensures indexes { OnOk result (indexes.new.items ≡ flat_map (λ list. list) (map indexes_of nodes.now)) }
 {
     degrees.clear();
+    degrees.reserve(nodes.len())?;
     indexes.clear();
     for node in nodes {
         degrees.push(node.indices().len())?;

@@ -35,10 +35,10 @@ loop-first-init g c =
     let whole = g.I.OverlayInt.whole in
     let found = subst (λ l. AreMarks (placing_of c.args.placing) (segments_of l) (marks_of whole c.find_marks.new.marks.items)) c.as_slice.ensures.value c.in_ok-is_rounded.ensures.marks in
     let all = subst (λ l. AreMarks (placing_of c.args.placing) (segments_of items) (marks_of whole l)) (sym c.as_slice-rest.ensures.value) found in
-    record {
+    rw c.reserve.ensures.items (record {
       cut = IsCutSoFar-start _ (placing_of c.args.placing) _ (data_segments_of items) (segments_of-bare items) c.args.store.now _ all;
       made = no_call;
-    }
+    })
 
 pub index-requires : goal.index-requires
 index-requires g c =
@@ -147,6 +147,9 @@ returns-clause-marked g c =
 
 pub returns-in_err-is_rounded-clause-store_made : goal.returns-in_err-is_rounded-clause-store_made
 returns-in_err-is_rounded-clause-store_made g c = no_call
+
+pub returns-in_err-reserve-clause-store_made : goal.returns-in_err-reserve-clause-store_made
+returns-in_err-reserve-clause-store_made g c = no_call
 
 pub returns-in_err-collect_path-clause-store_made : goal.returns-in_err-collect_path-clause-store_made
 returns-in_err-collect_path-clause-store_made g c = c.loop-first.invariant.made
