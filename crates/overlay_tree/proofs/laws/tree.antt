@@ -2,6 +2,7 @@
 pub mod IntervalTrees
 pub mod HeightTests
 pub mod TreeCuts
+pub mod FewNodes
 pub mod TreeBuilds
 pub mod TreeRenewals
 pub mod Sweeps

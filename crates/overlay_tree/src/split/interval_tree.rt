@@ -50,11 +50,71 @@ pub fn look_up<I: OverlayInt>(
 {
     // read, so that the checker knows that the count fits its type
     let _looked = *looked;
-    if reaches(greatest_in(nodes), query.heights.min) {
-        look_into(nodes, query, indexes, looked)
-    } else {
-        Ok(false)
+    if !reaches(greatest_in(nodes), query.heights.min) {
+        return Ok(false);
     }
+    if nodes.len() <= FEW_NODES {
+        look_among(nodes, query, indexes, looked)
+    } else {
+        look_into(nodes, query, indexes, looked)
+    }
+}
+
+/// A subtree of no more nodes is passed over node by node, which takes less time than to go down it.
+const FEW_NODES: usize = 8;
+
+/// As `look_up`, node by node.
+fn look_among<I: OverlayInt>(
+    nodes: &mut [Node<I>],
+    query: &Query<I>,
+    indexes: &mut Vec<usize>,
+    looked: &mut u128,
+) -> Result<bool, AllocError>
+    requires { IsSummed (tree_nodes I.whole nodes.old) }
+    ensures entries { OnOk result (node_entries I.whole nodes.new ≡ entries_left I.whole query.now nodes.old) }
+    ensures summed { OnOk result (IsSummed (tree_nodes I.whole nodes.new)) }
+    ensures found { OnOk result (indexes.new.items ≡ indexes.old.items ++ found_in I.whole query.now nodes.old) }
+    ensures looked { OnOk result (looked.new ≡ capped_sum looked.old (taken_up_in I.whole query.now nodes.old)) }
+    ensures dropped { IfOk result (λ dropped. dropped ≡ drops_some I.whole query.now nodes.old) }
+{
+    // read, so that the checker knows that the count fits its type
+    let _looked = *looked;
+    let mut has_dropped = false;
+    for place in 0..nodes.len() {
+        has_dropped |= look_at_any(&mut nodes[place], query, indexes, looked)?;
+    }
+    if has_dropped {
+        sum_up(nodes);
+    }
+    Ok(has_dropped)
+}
+
+/// Compares the entry of a node, where it is live and the look-up meets its heights: drops it where it ends left of the
+/// sweep, and else appends its index. Returns whether it is dropped.
+#[inline(always)]
+fn look_at_any<I: OverlayInt>(
+    node: &mut Node<I>,
+    query: &Query<I>,
+    indexes: &mut Vec<usize>,
+    looked: &mut u128,
+) -> Result<bool, AllocError>
+    ensures entry { OnOk result (node_entry I.whole node.new
+        ≡ left_by (query_of I.whole query.now) (node_entry I.whole node.old)) }
+    ensures greatest { OnOk result (node.new.greatest ≡ node.old.greatest) }
+    ensures found { OnOk result (indexes.new.items
+        ≡ indexes.old.items ++ found (query_of I.whole query.now) (node_entry I.whole node.old ∷ [])) }
+    ensures looked { OnOk result (looked.new
+        ≡ min (looked.old + count_by (is_taken_up (query_of I.whole query.now)) (node_entry I.whole node.old ∷ []))
+        (2 ^ 128 - 1)) }
+    ensures dropped { IfOk result (λ dropped. dropped ≡ is_dropped (query_of I.whole query.now)
+        (node_entry I.whole node.old)) }
+{
+    // read, so that the checker knows that the count fits its type
+    let _looked = *looked;
+    if is_above(node.low, query.heights.max) {
+        return Ok(false);
+    }
+    look_at(node, query, indexes, looked)
 }
 
 /// As `look_up`, without the test that some live entry reaches the look-up.
@@ -109,6 +169,7 @@ fn is_above<I: OverlayInt>(low: I, high: I) -> bool
 
 /// Compares the entry of a node that does not begin above the look-up, where it is live and reaches it: drops it where
 /// it ends left of the sweep, and else appends its index. Returns whether it is dropped.
+#[inline(always)]
 fn look_at<I: OverlayInt>(
     node: &mut Node<I>,
     query: &Query<I>,

@@ -103,36 +103,36 @@ look_into-returns-else-has_dropped g t c =
       dropped = all;
     }
 
-pub look_up-returns-else-reaches-clause-entries : goal.look_up-returns-else-reaches-clause-entries
-look_up-returns-else-reaches-clause-entries g t c =
+pub look_up-returns-then-not-reaches-clause-entries : goal.look_up-returns-then-not-reaches-clause-entries
+look_up-returns-then-not-reaches-clause-entries g t c =
     let whole = g.I.OverlayInt.whole in
     let q = query_of whole c.args.query.now in
     let es = entries (tree_nodes whole c.args.nodes.now) in
-    let off = none_reached q es (ap (λ h. is_reached h q.low) (sym c.greatest_in.ensures) ∙ sym c.reaches.ensures ∙ c.if-reaches.false) in
+    let off = none_reached q es (ap (λ h. is_reached h q.low) (sym c.greatest_in.ensures) ∙ sym c.reaches.ensures ∙ c.if-not-reaches.true) in
     sym (none_dropped q es off)
 
-pub look_up-returns-else-reaches-clause-found : goal.look_up-returns-else-reaches-clause-found
-look_up-returns-else-reaches-clause-found g t c =
+pub look_up-returns-then-not-reaches-clause-found : goal.look_up-returns-then-not-reaches-clause-found
+look_up-returns-then-not-reaches-clause-found g t c =
     let whole = g.I.OverlayInt.whole in
     let q = query_of whole c.args.query.now in
     let es = entries (tree_nodes whole c.args.nodes.now) in
-    let off = none_reached q es (ap (λ h. is_reached h q.low) (sym c.greatest_in.ensures) ∙ sym c.reaches.ensures ∙ c.if-reaches.false) in
+    let off = none_reached q es (ap (λ h. is_reached h q.low) (sym c.greatest_in.ensures) ∙ sym c.reaches.ensures ∙ c.if-not-reaches.true) in
     sym (append-nil c.args.indexes.now.items) ∙ ap (λ ns. c.args.indexes.now.items ++ ns) (sym (none_found q es off))
 
-pub look_up-returns-else-reaches-clause-looked : goal.look_up-returns-else-reaches-clause-looked
-look_up-returns-else-reaches-clause-looked g t c =
+pub look_up-returns-then-not-reaches-clause-looked : goal.look_up-returns-then-not-reaches-clause-looked
+look_up-returns-then-not-reaches-clause-looked g t c =
     let whole = g.I.OverlayInt.whole in
     let q = query_of whole c.args.query.now in
     let es = entries (tree_nodes whole c.args.nodes.now) in
-    let off = none_reached q es (ap (λ h. is_reached h q.low) (sym c.greatest_in.ensures) ∙ sym c.reaches.ensures ∙ c.if-reaches.false) in
+    let off = none_reached q es (ap (λ h. is_reached h q.low) (sym c.greatest_in.ensures) ∙ sym c.reaches.ensures ∙ c.if-not-reaches.true) in
     none_more c.args.looked.now _ (2 ^ 128 - 1) (omega arith) (none_counted q es off)
 
-pub look_up-returns-else-reaches-clause-dropped : goal.look_up-returns-else-reaches-clause-dropped
-look_up-returns-else-reaches-clause-dropped g t c =
+pub look_up-returns-then-not-reaches-clause-dropped : goal.look_up-returns-then-not-reaches-clause-dropped
+look_up-returns-then-not-reaches-clause-dropped g t c =
     let whole = g.I.OverlayInt.whole in
     let q = query_of whole c.args.query.now in
     let es = entries (tree_nodes whole c.args.nodes.now) in
-    let off = none_reached q es (ap (λ h. is_reached h q.low) (sym c.greatest_in.ensures) ∙ sym c.reaches.ensures ∙ c.if-reaches.false) in
+    let off = none_reached q es (ap (λ h. is_reached h q.low) (sym c.greatest_in.ensures) ∙ sym c.reaches.ensures ∙ c.if-not-reaches.true) in
     sym (none_is_dropped q es off)
 
 pub look_into-split_at_mut-left-requires : goal.look_into-split_at_mut-left-requires
@@ -200,23 +200,8 @@ look_up-look_into-requires g t c κs within =
     let less : 2 * length c.args.nodes.now < t = omega (arith, c.decreases) in
     (less, (within, (c.requires.rising, c.requires.summed)))
 
-pub look_up-returns-then-reaches-clause-entries : goal.look_up-returns-then-reaches-clause-entries
-look_up-returns-then-reaches-clause-entries g t c = c.look_into.ensures.entries
-
-pub look_up-returns-then-reaches-clause-summed : goal.look_up-returns-then-reaches-clause-summed
-look_up-returns-then-reaches-clause-summed g t c = c.look_into.ensures.summed
-
-pub look_up-returns-then-reaches-clause-found : goal.look_up-returns-then-reaches-clause-found
-look_up-returns-then-reaches-clause-found g t c = c.look_into.ensures.found
-
-pub look_up-returns-then-reaches-clause-looked : goal.look_up-returns-then-reaches-clause-looked
-look_up-returns-then-reaches-clause-looked g t c = c.look_into.ensures.looked
-
-pub look_up-returns-then-reaches-clause-dropped : goal.look_up-returns-then-reaches-clause-dropped
-look_up-returns-then-reaches-clause-dropped g t c = c.look_into.ensures.dropped
-
-pub look_up-returns-else-reaches-clause-summed : goal.look_up-returns-else-reaches-clause-summed
-look_up-returns-else-reaches-clause-summed g t c = c.requires.summed
+pub look_up-returns-then-not-reaches-clause-summed : goal.look_up-returns-then-not-reaches-clause-summed
+look_up-returns-then-not-reaches-clause-summed g t c = c.requires.summed
 
 pub look_into-returns-in_default-clause-entries : goal.look_into-returns-in_default-clause-entries
 look_into-returns-in_default-clause-entries g t c =
