@@ -1,11 +1,11 @@
 -- A row of entries of which some have ended: what a search and a call leave of it, by those that last.
 use Rattle.std.proofs.Common.{◌≡◌, ◌≢◌, ap, ap₂, refl, sym, subst, ◌∙◌, arith, inl, inr, Result, Ok, Err}
-use Rattle.std.specs.Prelude.{ℕ, zero, suc, pos, ◌+◌, ◌-◌, ◌*◌, ◌^◌, ◌<◌, ◌≤◌, ℤ, ◌≤ℤ◌, ◌<ℤ◌, int_le, int_lt, Bool, true, false, not, cond, ◌⊎◌, OnOk, List, [], ◌∷◌, ◌++◌, map, filter, take, drop, length, min, All}
+use Rattle.std.specs.Prelude.{ℕ, zero, suc, pos, ◌+◌, ◌-◌, ◌*◌, ◌^◌, ◌<◌, ◌≤◌, ℤ, ◌≤ℤ◌, ◌<ℤ◌, int_le, int_lt, Bool, true, false, not, cond, OnOk, List, [], ◌∷◌, ◌++◌, map, filter, take, drop, length, All}
 use Rattle.std.specs.List.{Contains, range_with_len, take-map, drop-map}
 use Rattle.std.specs.Ordering.{is_lt}
 use Rattle.std.proofs.lemmas.Int.{ints}
 use Rattle.std.proofs.lemmas.Bool.{cases_Bool, cases_eq, and_parts, both_ways}
-use Rattle.std.proofs.lemmas.List.{length-map, length-append, map-append, take-append-drop, take_all, append_assoc}
+use Rattle.std.proofs.lemmas.List.{length-append, map-append, take-append-drop, take_all, append_assoc}
 use Rattle.std.proofs.lemmas.List.Sums.{sum_by-cons, count_by-le-length}
 use Rattle.std.proofs.lemmas.List.Elements.{filter-append, All-append, All-take, All-drop}
 use Rattle.std.proofs.Math.Seq.{take-append_seam, drop-append_seam}
@@ -17,7 +17,6 @@ use Rattle.overlay_geometry.specs.Points.{Point, turn}
 use Rattle.overlay_geometry.specs.Below.{under_segment_order}
 use Rattle.overlay_geometry.proofs.laws.integers.Tests.{lt-test}
 use Rattle.overlay_geometry.proofs.laws.lists.Lists.{filter-map}
-use Rattle.overlay_sweep.specs.ChainWindings.{is_live}
 use Rattle.overlay_sweep.specs.Costs.{IsHighest, IsWayAmong, lasting_at, LastAlikeFrom, IsInsertCost}
 use Rattle.overlay_sweep.specs.Live.{sum_below, AreFreeAt, HoldSameFrom}
 use Rattle.overlay_sweep.specs.TreeShapes.{Has}

@@ -3,8 +3,8 @@ use Rattle.std.proofs.Common.{arith, inl, inr, Result, Ok, Err}
 use Rattle.std.specs.Prelude.{ℕ, zero, suc, ◌+◌, ◌*◌, ◌/◌, ◌^◌, ◌<◌, ◌≤◌, OnOk}
 use Rattle.std.proofs.lemmas.Bool.{cases_lt}
 use Rattle.std.proofs.Math.Nat.{two-pow-succ}
-use Rattle.std.proofs.Math.Pow.{pow_mono, pow-lt}
-use Rattle.overlay_sweep.specs.Costs.{IsSearchAmong, IsHighest, IsWayAmong}
+use Rattle.std.proofs.Math.Pow.{pow_mono}
+use Rattle.overlay_sweep.specs.Costs.{IsHighest}
 
 -- a tree of so few entries can be higher than the power that they exceed
 height_fits : (d n : ℕ) → 2 ^ d < 2 * n → 2 ^ ((d + 1) / 2) ≤ n + 1
@@ -19,9 +19,6 @@ highest_search n d high = elim (cases_lt (2 ^ d) (2 * n)) [
   | inl short ↦ absurd (let h = high (d + 1) (height_fits d n short) in omega (arith, h))
   | inr long ↦ long
 ]
-
-pub search_way : (n asked : ℕ) → IsSearchAmong n asked → IsWayAmong n asked
-search_way n asked s = let m : 2 ^ asked < 2 ^ (2 * asked + 3) = pow-lt (omega arith) in omega (arith, s.0, m)
 
 -- the same of what an insert pays
 pub highest_pays : {T E : Type 0} (r : Result T E) (asked held was : ℕ) → OnOk r ((n d : ℕ) → was ≤ n → 2 * n ≤ 2 ^ d → asked + held * d ≤ suc (suc was) * d) → OnOk r ((n d : ℕ) → was ≤ n → IsHighest n d → asked + held * d ≤ suc (suc was) * d)

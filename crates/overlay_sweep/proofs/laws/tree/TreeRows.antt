@@ -1,5 +1,5 @@
 -- A row of indexes whose nodes are linked to a tree by halves, and such a tree over entries that stand from below.
-use Rattle.std.proofs.Common.{◌≡◌, ◌≢◌, ap, refl, sym, subst, ◌∙◌, arith, inl, inr}
+use Rattle.std.proofs.Common.{◌≡◌, ◌≢◌, ap, sym, subst, ◌∙◌, arith, inl, inr}
 use Rattle.std.specs.Prelude.{ℕ, zero, suc, ◌+◌, ◌-◌, ◌*◌, ◌/◌, ◌^◌, ◌<◌, ◌≤◌, ℤ, List, [], ◌∷◌, ◌++◌, map, length}
 use Rattle.std.specs.List.{range_with_len}
 use Rattle.std.proofs.lemmas.Bool.{cases_lt}
@@ -9,7 +9,7 @@ use Rattle.std.proofs.Math.Nat.{two-pow-succ}
 use Rattle.std.proofs.Math.Pow.{pow_mono}
 use Rattle.overlay_base.specs.Segments.{WholeSegment}
 use Rattle.overlay_sweep.specs.declared.build.tree_shape.TreeNode.{TreeNode}
-use Rattle.overlay_sweep.specs.TreeShapes.{Has, none, leaf, IsDistinct, IsTree, KeepsOthers, AreJoinable, IsJoined, IsLinked}
+use Rattle.overlay_sweep.specs.TreeShapes.{Has, none, IsDistinct, IsTree, KeepsOthers, AreJoinable, IsJoined, IsLinked}
 use Rattle.overlay_sweep.specs.ScanTrees.{IsScanRow, IsScanTree}
 use Rattle.overlay_sweep.proofs.laws.tree.TreeNodes.{KeepsOthers-trans, KeepsOthers-wider}
 use Rattle.overlay_sweep.proofs.laws.tree.TreeRemovals.{IsTree-kept}

@@ -7,7 +7,7 @@ use Rattle.std.proofs.lemmas.List.{length-append, length-map, length-take-le, ma
 use Rattle.std.proofs.Math.Bool.{or-false}
 use Rattle.std.proofs.Math.ListN.{set}
 use Rattle.std.proofs.lemmas.List.Folds.{list_any-append}
-use Rattle.overlay_tree.specs.steps.IntervalTree.{Entry, TreeNode, WholeQuery, entries, is_taken_up, is_dropped, left_by, found}
+use Rattle.overlay_tree.specs.steps.IntervalTree.{Entry, WholeQuery, is_taken_up, is_dropped, left_by, found}
 use Rattle.overlay_tree.specs.steps.NodeOf.{node_entry, node_of, tree_nodes, highest_of}
 use Rattle.overlay_tree.specs.declared.split.interval_tree.Node.{Node}
 use Rattle.overlay_tree.proofs.laws.tree.IntervalTrees.{kept, found-append, count_by-append}

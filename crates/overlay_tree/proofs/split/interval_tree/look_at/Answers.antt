@@ -1,9 +1,9 @@
-use Rattle.std.proofs.Common.{◌≡◌, refl, sym, ap, ap₂, ◌∙◌, ◌++◌, ◌∷◌, [], ◌&&◌, ◌+◌, ◌^◌, ◌-◌, min, not, true, false, append-nil, List, ℕ, Bool, cond}
+use Rattle.std.proofs.Common.{◌≡◌, sym, ap, ◌∙◌, ◌++◌, ◌∷◌, [], ◌&&◌, not, true, false, append-nil, List, ℕ, Bool}
 use Rattle.std.specs.Prelude.{int_lt}
 use Rattle.std.proofs.lemmas.Bool.{and_from}
-use Rattle.overlay_tree.specs.steps.IntervalTree.{is_taken_up, is_found, is_dropped}
+use Rattle.overlay_tree.specs.steps.IntervalTree.{is_taken_up, is_found}
 use Rattle.overlay_tree.specs.steps.NodeOf.{node_entry, query_of}
-use Rattle.overlay_tree.proofs.laws.tree.IntervalTrees.{left_alone, left_dropped, kept, stays_whole, none_found, none_counted, none_is_dropped, found_one, not_found}
+use Rattle.overlay_tree.proofs.laws.tree.IntervalTrees.{left_alone, left_dropped, kept, stays_whole, none_found, found_one, not_found}
 use Rattle.overlay_tree.proofs.split.interval_tree.look_at.Goals as goal
 
 -- ---- an entry that is not taken up

@@ -1,5 +1,5 @@
 use Rattle.std.proofs.Common.{◌≡◌, ◌∙◌, arith, length}
-use Rattle.std.specs.Prelude.{◌+◌, ◌≤◌, ◌<◌}
+use Rattle.std.specs.Prelude.{◌+◌, ◌≤◌}
 use Rattle.std.proofs.lemmas.List.{length-map}
 use Rattle.overlay_sweep.specs.Costs.{IsWayAmong}
 use Rattle.overlay_sweep.specs.EntryOf.{entry_of, entries_of}

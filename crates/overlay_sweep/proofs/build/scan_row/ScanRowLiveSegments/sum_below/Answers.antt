@@ -1,12 +1,9 @@
-use Rattle.std.proofs.Common.{◌∙◌, ap, sym, arith, length, subst}
-use Rattle.std.specs.Prelude.{ℤ, List, ◌-◌, ◌<◌, ◌≡◌, int_lt, pos}
+use Rattle.std.proofs.Common.{◌∙◌, ap, sym, arith, length}
+use Rattle.std.specs.Prelude.{◌-◌, ◌<◌}
 use Rattle.std.proofs.lemmas.List.{length-map}
-use Rattle.overlay_geometry.specs.Points.{turn}
 use Rattle.overlay_geometry.specs.PointOf.{point_of}
 use Rattle.overlay_base.specs.Segments.{WholeSegment}
 use Rattle.overlay_sweep.specs.EntryOf.{entry_of, entries_of}
-use Rattle.overlay_sweep.specs.ScanTrees.{lasts_past, segment_at}
-use Rattle.overlay_sweep.specs.steps.Positions.{IsLivePosition}
 use Rattle.overlay_sweep.proofs.laws.tree.ScanReads.{segment_read}
 use Rattle.overlay_sweep.proofs.laws.list.ListAnswers.{row_later}
 use Rattle.overlay_sweep.proofs.laws.list.LastingRows.{same_sums, same_lasting, row_left, none_found, one_found}
