@@ -21,6 +21,7 @@ const LIVE: [u32; 2] = [300, 1000];
 /// Three runs of level lines. Those of a run begin one by one, by turns above and below those before, and end together,
 /// where the next run begins.
 fn lines_in_runs(rt: &(impl Abort + AllocGlobal), live: u32) -> Result<Vec<Line>, Fail> {
+    assert!(rt; live <= 1000);
     let mut lines = Vec::new(rt.alloc());
     for start in [0, 1000, 2000] {
         for i in 0..live {
