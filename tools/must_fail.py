@@ -214,19 +214,31 @@ def edits_by_crate(folder, names):
     return found
 
 
-def try_all(trials, start):
-    """Tries all edits in rounds, those with most edits first, and then those whose goal was not seen by themselves."""
-    rounds = [(trial, edits) for trial in trials for edits in rounds_of(trial.edits)]
+def size_of(folder):
+    """Returns how many bytes the sources, definitions and proofs of a crate have together: a check takes longer for more."""
+    return sum(path.stat().st_size for part in ("src", "specs", "proofs") for path in pathlib.Path(folder, part).rglob("*.*"))
 
-    def try_one(task):
-        trial, edits = task
+
+def try_all(trials, start):
+    """Tries all edits in rounds, those first that take longest, and by itself each edit whose goal was not seen in its round."""
+    rounds = [(trial, edits) for trial in trials for edits in rounds_of(trial.edits)]
+    sizes = {trial: size_of(trial.crate.folder) for trial in trials}
+
+    def try_one(trial, edits):
+        begun = time.time()
         trial.try_round(edits)
-        seen = sum(1 for edit in edits if edit.refused_by)
-        print(f"{time.time() - start:5.0f} s: {trial.crate.name}: {seen} of {len(edits)} edits refused", flush=True)
+        seen = [edit for edit in edits if edit.refused_by]
+        took = time.time() - begun
+        print(f"{time.time() - start:5.0f} s: {trial.crate.name}: {len(seen)} of {len(edits)} edits refused in {took:.0f} s", flush=True)
+        if len(edits) > 1:
+            tasks.extend(lanes.submit(try_one, trial, [edit]) for edit in edits if not edit.refused_by)
 
     with ThreadPoolExecutor(run.processors()) as lanes:
-        list(lanes.map(try_one, sorted(rounds, key=lambda it: -len(it[1]))))
-        list(lanes.map(try_one, [(trial, [edit]) for trial, edits in rounds if len(edits) > 1 for edit in edits if not edit.refused_by]))
+        rounds.sort(key=lambda it: (-len(it[1]) // 10, -sizes[it[0]]))
+        tasks = [lanes.submit(try_one, *task) for task in rounds]
+        # a round that ends may add to the list
+        for task in tasks:
+            task.result()
 
 
 def print_verdict(edit):

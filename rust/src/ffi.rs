@@ -201,64 +201,71 @@ impl Engine {
 
     /// Copies the arrangement out, in place of what the list had.
     pub fn copy_segments(&mut self, segments: &mut Vec<Segment>) {
-        segments.resize(self.sizes().segments, Segment::default());
+        let len = self.sizes().segments;
         // SAFETY: the handle is full, and the slice has the `length` that the engine reports.
-        unsafe { overlay_c_segments(&mut self.handle, segments.as_mut_ptr(), segments.len()) }
+        unsafe { fill(segments, len, |first| overlay_c_segments(&mut self.handle, first, len)) }
     }
 
     /// Copies the arrangement of polygons and lines out, in place of what the list had.
     pub fn copy_lines(&mut self, lines: &mut Vec<LineSegment>) {
-        lines.resize(self.sizes().lines, LineSegment::default());
+        let len = self.sizes().lines;
         // SAFETY: the handle is full, and the slice has the `length` that the engine reports.
-        unsafe { overlay_c_lines(&mut self.handle, lines.as_mut_ptr(), lines.len()) }
+        unsafe { fill(lines, len, |first| overlay_c_lines(&mut self.handle, first, len)) }
     }
 
     /// Copies the links out, in place of what the list had.
     pub fn copy_links(&mut self, links: &mut Vec<OverlayLink>) {
-        links.resize(self.sizes().links, OverlayLink::default());
+        let len = self.sizes().links;
         // SAFETY: the handle is full, and the slice has the `length` that the engine reports.
-        unsafe { overlay_c_links(&mut self.handle, links.as_mut_ptr(), links.len()) }
+        unsafe { fill(links, len, |first| overlay_c_links(&mut self.handle, first, len)) }
     }
 
     /// Copies the numbers of links out, in place of what the list had: those of the last overlay with data.
     pub fn copy_link_data(&mut self, data: &mut Vec<u64>) {
-        data.resize(self.sizes().link_data, 0);
-        // SAFETY: the handle is full, and the slice has the `length` that the engine tells.
-        unsafe { overlay_c_link_data(&mut self.handle, data.as_mut_ptr(), data.len()) }
+        let len = self.sizes().link_data;
+        // SAFETY: the handle is full, and the slice has the `length` that the engine reports.
+        unsafe { fill(data, len, |first| overlay_c_link_data(&mut self.handle, first, len)) }
     }
 
     /// Copies out how many links meet at each node, and then the indexes of these links, node after node.
     pub fn copy_nodes(&mut self, degrees: &mut Vec<usize>, indexes: &mut Vec<usize>) {
-        let sizes = self.sizes();
-        degrees.resize(sizes.nodes, 0);
-        indexes.resize(sizes.node_links, 0);
-        let (first, len) = (indexes.as_mut_ptr(), indexes.len());
+        let Sizes { nodes, node_links, .. } = self.sizes();
+        let handle = &mut self.handle;
         // SAFETY: the handle is full, and the two slices, which do not overlap, have the lengths that the engine
         // reports (`degrees`, `indexes`).
-        unsafe { overlay_c_nodes(&mut self.handle, degrees.as_mut_ptr(), degrees.len(), first, len) }
+        unsafe {
+            fill_both(degrees, nodes, indexes, node_links, |one, other| {
+                overlay_c_nodes(handle, one, nodes, other, node_links)
+            })
+        }
     }
 
     /// Copies out how many links each walk has, and then the indexes of these links, walk after walk. There are none
     /// where the last call made no walks.
     pub fn copy_walks(&mut self, lengths: &mut Vec<usize>, indexes: &mut Vec<usize>) {
-        let sizes = self.sizes();
-        lengths.resize(sizes.walks, 0);
-        indexes.resize(sizes.walk_links, 0);
-        let (first, len) = (indexes.as_mut_ptr(), indexes.len());
+        let Sizes { walks, walk_links, .. } = self.sizes();
+        let handle = &mut self.handle;
         // SAFETY: the handle is full, and the two slices, which do not overlap, have the lengths that the engine
         // reports (`lengths`, `indexes`).
-        unsafe { overlay_c_walks(&mut self.handle, lengths.as_mut_ptr(), lengths.len(), first, len) }
+        unsafe {
+            fill_both(lengths, walks, indexes, walk_links, |one, other| {
+                overlay_c_walks(handle, one, walks, other, walk_links)
+            })
+        }
     }
 
     /// The contours of the last overlay of contours.
     pub fn contours(&mut self) -> Vec<IntContour> {
-        let sizes = self.sizes();
-        let mut lengths = vec![0; sizes.contours];
-        let mut points = vec![IntPoint::ZERO; sizes.contour_points];
-        let (first, len) = (points.as_mut_ptr(), points.len());
+        let Sizes { contours, contour_points: count, .. } = self.sizes();
+        let (mut lengths, mut points) = (Vec::new(), Vec::new());
+        let handle = &mut self.handle;
         // SAFETY: the handle is full, and the two slices, which do not overlap, have the lengths that the engine
         // reports (`lengths`, `points`).
-        unsafe { overlay_c_contours(&mut self.handle, lengths.as_mut_ptr(), lengths.len(), first, len) }
+        unsafe {
+            fill_both(&mut lengths, contours, &mut points, count, |one, other| {
+                overlay_c_contours(handle, one, contours, other, count)
+            })
+        }
         let mut rest = points.as_slice();
         let contours = lengths.into_iter().map(|length| {
             let (contour, later) = rest.split_at(length);
@@ -274,4 +281,35 @@ impl Drop for Engine {
         // SAFETY: the handle is full. It is not used again.
         unsafe { overlay_c_free(&mut self.handle) }
     }
+}
+
+/// Fills a list with the elements that a call writes from a pointer on, in place of what the list had.
+///
+/// # Safety
+///
+/// The call has to write that many elements.
+unsafe fn fill<T: Copy>(list: &mut Vec<T>, len: usize, write: impl FnOnce(*mut T)) {
+    list.clear();
+    list.reserve(len);
+    write(list.as_mut_ptr());
+    // SAFETY: there is room for them, and each was written.
+    unsafe { list.set_len(len) }
+}
+
+/// Fills two lists in the same way. The first gets room for one element more, the end of the last list.
+///
+/// # Safety
+///
+/// The call has to write that many elements from each pointer on.
+unsafe fn fill_both<T: Copy, U: Copy>(
+    first: &mut Vec<T>,
+    first_len: usize,
+    second: &mut Vec<U>,
+    second_len: usize,
+    write: impl FnOnce(*mut T, *mut U),
+) {
+    first.clear();
+    first.reserve(first_len + 1);
+    // SAFETY: the call writes both lists.
+    unsafe { fill(first, first_len, |one| fill(second, second_len, |other| write(one, other))) }
 }

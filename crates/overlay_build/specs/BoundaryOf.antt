@@ -12,12 +12,11 @@ use Rattle.overlay_base.specs.declared.overlay_core.overlay_rule.OverlayRule.{Ov
 use Rattle.overlay_base.specs.declared.segm.segment.Segment.{Segment}
 use Rattle.overlay_base.specs.declared.segm.shape_type.ShapeType.{ShapeType}
 use Rattle.overlay_build.specs.Boundary.{directed_links}
-use Rattle.overlay_build.specs.DirectedWalks.{arcs, AreDirectedWalks}
+use Rattle.overlay_build.specs.DirectedWalks.{arcs}
 use Rattle.overlay_build.specs.Graph.{Link, graph_by}
 use Rattle.overlay_build.specs.GraphOf.{link_of}
 use Rattle.overlay_build.specs.OverlayGraphOf.{links_of, whole_graph}
 use Rattle.overlay_build.specs.ShapedBoundary.{of_shape, in_shape, BoundsAsShape}
-use Rattle.overlay_build.specs.Walks.{AreClosedWalks}
 use Rattle.overlay_build.specs.declared.build.graph.OverlayGraph.{OverlayGraph}
 
 -- ---- segments

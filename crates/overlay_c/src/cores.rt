@@ -125,7 +125,7 @@ impl<I: Width> Core<I> {
         let segments = &mut self.segments;
         let graph = split_and_build_overlay(splitter, builder, segments, &solver, fill_rule, rule)?;
         keep_links(graph.links(), &mut self.links)?;
-        keep_nodes(graph.nodes(), &mut self.degrees, &mut self.indexes)?;
+        keep_nodes(graph.nodes(), self.links.len(), &mut self.degrees, &mut self.indexes)?;
         self.has_walks = walks && graph.has_even_nodes();
         if self.has_walks {
             let found = closed_walks(alloc, &graph)?;
@@ -161,7 +161,7 @@ impl<I: Width> Core<I> {
         let graph = built?;
         keep_links(graph.links(), &mut self.links)?;
         keep_tags(graph.links(), &mut self.link_data)?;
-        keep_nodes(graph.nodes(), &mut self.degrees, &mut self.indexes)?;
+        keep_nodes(graph.nodes(), self.links.len(), &mut self.degrees, &mut self.indexes)?;
         self.has_walks = false;
         Ok(())
     }
@@ -202,7 +202,7 @@ impl<I: Width> Core<I> {
             .builder
             .build_boolean_all(fill_rule, &solver, &self.segments)?;
         keep_links(graph.links(), &mut self.links)?;
-        keep_nodes(graph.nodes(), &mut self.degrees, &mut self.indexes)?;
+        keep_nodes(graph.nodes(), self.links.len(), &mut self.degrees, &mut self.indexes)?;
         Ok(())
     }
 
@@ -375,9 +375,10 @@ pub fn keep_links<I: Width, D: Copy>(
     Ok(())
 }
 
-/// Keeps the indexes of the links at each node.
+/// Keeps the indexes of the links at each node, of a graph of so many links.
 pub fn keep_nodes(
     nodes: &[OverlayNode],
+    links: usize,
     degrees: &mut Vec<usize>,
     indexes: &mut Vec<usize>,
 ) -> Result<(), AllocError>
@@ -387,6 +388,8 @@ pub fn keep_nodes(
     degrees.clear();
     degrees.reserve(nodes.len())?;
     indexes.clear();
+    // each link ends at two nodes
+    indexes.reserve(links.saturating_mul(2))?;
     for node in nodes {
         degrees.push(node.indices().len())?;
         indexes.extend_from_slice(node.indices())?;

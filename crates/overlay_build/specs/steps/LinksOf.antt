@@ -1,10 +1,9 @@
 -- What the steps of a build make of links of code.
-use Rattle.std.specs.Prelude.{◌≡◌, ◌≢◌, ℕ, ◌-◌, ◌<◌, ◌≤◌, ℤ, Bool, if◌then◌else◌, List, ◌++◌, Vec, map, filter, take, drop, length, slice_index_or}
+use Rattle.std.specs.Prelude.{◌≡◌, ◌≢◌, ◌⊎◌, ℕ, ◌-◌, ◌<◌, ◌≤◌, ℤ, Bool, false, if◌then◌else◌, List, Vec, map, filter, take, drop, length, slice_index_or}
 use Rattle.std.specs.Global.{Global}
-use Rattle.overlay_geometry.specs.Points.{Point, point_cmp}
+use Rattle.overlay_geometry.specs.Points.{Point, point_cmp, point_lt}
 use Rattle.overlay_geometry.specs.PointOf.{point_of}
 use Rattle.overlay_geometry.specs.Sorting.{stably_sorted}
-use Rattle.overlay_geometry.specs.declared.geom.end.End.{End}
 use Rattle.overlay_geometry.specs.declared.geom.point.IntPoint.{IntPoint}
 use Rattle.overlay_base.specs.Rules.{holds, keeps_fill}
 use Rattle.overlay_base.specs.SegmentOf.{segments_of, data_segments_of}
@@ -17,8 +16,8 @@ use Rattle.overlay_base.specs.declared.segm.segment.Segment.{Segment}
 use Rattle.overlay_build.specs.Graph.{filled, fills_of, data_by}
 use Rattle.overlay_build.specs.GraphOf.{HoldGraph, graph_with, kept_of, pairs_of_links, names_node, with_node}
 use Rattle.overlay_build.specs.declared.build.kept_links.LinkRule.{LinkRule}
-use Rattle.overlay_build.specs.steps.EndOf.{WholeEnd, ends_of}
-use Rattle.overlay_build.specs.steps.LinkEnds.{numbered_starts, numbered_ends}
+use Rattle.overlay_build.specs.steps.EndOf.{WholeEnd}
+use Rattle.overlay_build.specs.steps.LinkEnds.{numbered_starts}
 use Rattle.overlay_build.specs.steps.LinkRules.{keeps_by}
 
 -- ---- kept links
@@ -43,29 +42,34 @@ state_by rule l = if keeps_fill (holds rule) l.fill then Unvisited else Skipped
 abbrev pub ConnectLinks : {N I D : Type 0} → (N → List ℕ) → (N → Bool) → (I → ℤ) → Vec (OverlayLink I D) Global → Vec (OverlayLink I D) Global → Vec N Global → Type 0
 ConnectLinks indexes is_canonical whole old new nodes = HoldGraph indexes is_canonical whole nodes.items new.items (graph_with whole old.items)
 
--- both ends of links, with the indexes of the links
-abbrev pub link_ends : {I D : Type 0} → (I → ℤ) → List (OverlayLink I D) → List WholeEnd
-link_ends whole links = numbered_starts (pairs_of_links whole links) ++ numbered_ends (pairs_of_links whole links)
+-- the first ends of links, with the indexes of the links
+abbrev pub starts_of : {I D : Type 0} → (I → ℤ) → List (OverlayLink I D) → List WholeEnd
+starts_of whole links = numbered_starts (pairs_of_links whole links)
 
 -- ends in order of their points
 abbrev pub by_point : List WholeEnd → List WholeEnd
 by_point ends = stably_sorted (λ e f. point_cmp e.point f.point) ends
 
 -- the point of the end at a place
-abbrev pub point_at : {I : Type 0} → (I → ℤ) → List (End I) → ℕ → WholeEnd → Point
-point_at whole ends k d = (slice_index_or (ends_of whole ends) k d).point
+abbrev pub point_at : List WholeEnd → ℕ → WholeEnd → Point
+point_at ends k d = (slice_index_or ends k d).point
 
--- The ends from a place up to another lie at one point.
-abbrev pub LieTogether : {I : Type 0} → (I → ℤ) → List (End I) → ℕ → ℕ → Type 0
-LieTogether whole ends from next = (k : ℕ) (d : WholeEnd) → from ≤ k → k < next → point_at whole ends k d ≡ point_at whole ends from d
+-- Of two lists of ends, each from a place on, this is the least point at their fronts.
+pub record IsNextPoint (firsts seconds : List WholeEnd) (start end : ℕ) (p : Point) : Type 0 where
+  pub first : (d : WholeEnd) → start < length firsts → point_lt (point_at firsts start d) p ≡ false
+  pub second : (d : WholeEnd) → end < length seconds → point_lt (point_at seconds end d) p ≡ false
+  pub own : ((start < length firsts) × ((d : WholeEnd) → point_at firsts start d ≡ p)) ⊎ ((end < length seconds) × ((d : WholeEnd) → point_at seconds end d ≡ p))
 
--- The end at that other place, if there is one, lies at another point.
-abbrev pub LiesElsewhere : {I : Type 0} → (I → ℤ) → List (End I) → ℕ → ℕ → Type 0
-LiesElsewhere whole ends from next = (d : WholeEnd) → next < length ends → point_at whole ends next d ≢ point_at whole ends from d
+-- The ends from a place up to another lie at a point, and the one after them, if there is one, does not.
+pub record IsRunAt (ends : List WholeEnd) (p : Point) (from next : ℕ) : Type 0 where
+  pub order : from ≤ next
+  pub within : next ≤ length ends
+  pub same : (k : ℕ) (d : WholeEnd) → from ≤ k → k < next → point_at ends k d ≡ p
+  pub other : (d : WholeEnd) → next < length ends → point_at ends next d ≢ p
 
 -- the indexes of the links of those ends
-abbrev pub indexes_between : {I : Type 0} → (I → ℤ) → List (End I) → ℕ → ℕ → List ℕ
-indexes_between whole ends from next = map (λ e. e.index) (take (next - from) (drop from (ends_of whole ends)))
+abbrev pub indexes_between : List WholeEnd → ℕ → ℕ → List ℕ
+indexes_between ends from next = map (λ e. e.index) (take (next - from) (drop from ends))
 
 -- The links at some indexes have the number of the node at a point, and the others are as they were.
 abbrev pub NumbersEnds : {I D : Type 0} → (I → ℤ) → List ℕ → IntPoint I → ℕ → List (OverlayLink I D) → List (OverlayLink I D) → Type 0

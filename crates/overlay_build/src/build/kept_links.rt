@@ -49,6 +49,7 @@ pub fn collect_links<C: WindingCount, I: OverlayInt, D: Copy>(
     ensures fault { IfErr result (λ fault. fault ≡ Memory) }
 {
     links.clear();
+    links.reserve(segments.len())?;
     for index in 0..segments.len() {
         let segment = &segments[index];
         let fill = fills[index];

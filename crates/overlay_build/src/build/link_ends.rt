@@ -1,8 +1,11 @@
-// The ends of links in order of their points. Upstream: part of `build::graph`, which sorts the second ends alone.
-ghost use Rattle.std.specs.Prelude.{◌≡◌, ◌-◌, ◌<◌, ◌≤◌, length, OnOk, IfErr, All, if◌then◌else◌};
+// The ends of links in order of their points. Upstream: part of `build::graph`.
+ghost use Rattle.std.specs.Prelude.{◌≡◌, ◌++◌, ◌<◌, ◌≤◌, length, OnOk, IfOk, IfErr, IfSome, IfNone, All, if◌then◌else◌};
+ghost use Rattle.overlay_geometry.specs.PointOf.{point_of};
 ghost use Rattle.overlay_base.specs.declared.segm.fault.Fault.TheVariants.{Memory};
 ghost use Rattle.overlay_build.specs.steps.EndOf.{ends_of};
-ghost use Rattle.overlay_build.specs.steps.LinksOf.{link_ends, by_point, LieTogether, LiesElsewhere, indexes_between, NumbersEnds};
+ghost use Rattle.overlay_build.specs.GraphOf.{pairs_of_links};
+ghost use Rattle.overlay_build.specs.steps.LinkEnds.{numbered_ends};
+ghost use Rattle.overlay_build.specs.steps.LinksOf.{starts_of, by_point, IsNextPoint, IsRunAt, indexes_between, NumbersEnds};
 
 use overlay_base::overlay_core::link::OverlayLink;
 use overlay_base::segm::fault::Fault;
@@ -10,20 +13,15 @@ use overlay_geometry::geom::end::End;
 use overlay_geometry::geom::point::IntPoint;
 use overlay_geometry::num::OverlayInt;
 
-/// Collects the first ends of all links, then the second ends, each with its link's index.
+/// Collects the second ends of all links, each with its link's index.
 pub fn collect_ends<I: OverlayInt, D: Copy>(
     links: &[OverlayLink<I, D>],
     ends: &mut Vec<End<I>>,
 ) -> Result<(), Fault>
-    ensures ends { OnOk result (ends_of I.whole ends.new.items ≡ link_ends I.whole links.now) }
+    ensures ends { OnOk result (ends_of I.whole ends.new.items ≡ numbered_ends (pairs_of_links I.whole links.now)) }
     ensures fault { IfErr result (λ fault. fault ≡ Memory) }
 {
     ends.clear();
-    ends.reserve(links.len())?;
-    for (index, link) in links.iter().enumerate() {
-        let point = link.a.point;
-        ends.push(End { index, point })?;
-    }
     ends.reserve(links.len())?;
     for (index, link) in links.iter().enumerate() {
         let point = link.b.point;
@@ -41,39 +39,71 @@ pub fn sort_by_point<I: OverlayInt>(ends: &mut Vec<End<I>>) -> Result<(), Fault>
     Ok(())
 }
 
-/// The index after the last of the ends that lie where the end at an index does, of ends that stand side by side.
-pub fn block_end<I: OverlayInt>(ends: &[End<I>], start: usize) -> usize
-    requires { start < length ends.now }
-    ensures after { start < result }
-    ensures within { result ≤ length ends.now }
-    ensures same { LieTogether I.whole ends.now start result }
-    ensures other { LiesElsewhere I.whole ends.now start result }
-{
-    let point = ends[start].point;
-    let mut next = start + 1;
-    while next < ends.len() && ends[next].point == point {
-        next += 1;
-    }
-    next
-}
-
-/// Collects the indexes of the links whose ends stand from one place up to another.
-pub fn collect_indices<I: OverlayInt>(
+/// The point of the next node: the lesser of the first end of the link at one place and of the second end at another,
+/// of those that there are.
+pub fn next_point<I: OverlayInt, D: Copy>(
+    links: &[OverlayLink<I, D>],
     ends: &[End<I>],
     start: usize,
-    next: usize,
+    end: usize,
+) -> Option<IntPoint<I>>
+    ensures point { IfSome result (λ p. IsNextPoint (starts_of I.whole links.now) (ends_of I.whole ends.now) start end
+        (point_of I.whole p)) }
+    ensures none { IfNone result ((length links.now ≤ start) × (length ends.now ≤ end)) }
+{
+    if start < links.len() {
+        let first = links[start].a.point;
+        if end < ends.len() && ends[end].point < first {
+            return Some(ends[end].point);
+        }
+        return Some(first);
+    }
+    if end < ends.len() {
+        return Some(ends[end].point);
+    }
+    None
+}
+
+/// Appends the indexes of the links that start at a point, from a place on. Returns the place after them.
+pub fn push_starts<I: OverlayInt, D: Copy>(
+    links: &[OverlayLink<I, D>],
+    start: usize,
+    point: IntPoint<I>,
     indices: &mut Vec<usize>,
-) -> Result<(), Fault>
-    requires order { start ≤ next }
-    requires within { next ≤ length ends.now }
-    ensures indexes { OnOk result (indices.new.items ≡ indexes_between I.whole ends.now start next) }
+) -> Result<usize, Fault>
+    requires { start ≤ length links.now }
+    ensures run { IfOk result (λ next. IsRunAt (starts_of I.whole links.now) (point_of I.whole point) start next) }
+    ensures indices { IfOk result (λ next. indices.new.items ≡ indices.old.items
+        ++ indexes_between (starts_of I.whole links.now) start next) }
     ensures fault { IfErr result (λ fault. fault ≡ Memory) }
 {
-    indices.clear();
-    for end in &ends[start..next] {
-        indices.push(end.index)?;
+    let mut next = start;
+    while next < links.len() && links[next].a.point == point {
+        indices.push(next)?;
+        next += 1;
     }
-    Ok(())
+    Ok(next)
+}
+
+/// Does the same with the ends that lie at a point, and the indexes of their links.
+pub fn push_ends<I: OverlayInt>(
+    ends: &[End<I>],
+    start: usize,
+    point: IntPoint<I>,
+    indices: &mut Vec<usize>,
+) -> Result<usize, Fault>
+    requires { start ≤ length ends.now }
+    ensures run { IfOk result (λ next. IsRunAt (ends_of I.whole ends.now) (point_of I.whole point) start next) }
+    ensures indices { IfOk result (λ next. indices.new.items ≡ indices.old.items
+        ++ indexes_between (ends_of I.whole ends.now) start next) }
+    ensures fault { IfErr result (λ fault. fault ≡ Memory) }
+{
+    let mut next = start;
+    while next < ends.len() && ends[next].point == point {
+        indices.push(ends[next].index)?;
+        next += 1;
+    }
+    Ok(next)
 }
 
 /// Gives the links at these indexes the number of the node at a point: each link at its start, where that lies there,

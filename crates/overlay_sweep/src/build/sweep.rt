@@ -55,7 +55,7 @@ impl<C: WindingCount, I: OverlayInt> SweepRunner<C, I> {
     /// one above the segment directly below its start, or 0; the winding above adds the segment's count. Balance is no
     /// condition; with it these windings are those of the columns of the plane. The segments have to be arranged, as
     /// `is_arranged` tests, and the handler has to take each of their indexes. The solver does not change the answer:
-    /// it chooses whether the live segments stand in a list or in a balanced tree, which begins as a list. Over n
+    /// it chooses whether the live segments stand in a list or in a balanced tree, which begins as a row. Over n
     /// segments `compared` is at most 3 n d. For the list 2 n is at most 2 ^ d; for the tree no balanced one of n
     /// entries is higher than d. Where the handler never breaks, it is the sum of all searches over the list, and no
     /// less than that of ways down trees of the live segments alone over the tree.

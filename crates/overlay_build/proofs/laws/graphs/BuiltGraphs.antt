@@ -6,18 +6,22 @@ use Rattle.std.proofs.lemmas.Bool.{and_parts}
 use Rattle.std.proofs.lemmas.List.Sums.{AllPass-from_list_all}
 use Rattle.std.proofs.lemmas.List.Folds.{list_all-map}
 use Rattle.std.proofs.lemmas.Simd.{map-map}
-use Rattle.overlay_geometry.specs.Points.{point_lt, is_ordered}
+use Rattle.std.specs.List.Sorted.{IsStrictlySortedBy}
+use Rattle.overlay_geometry.specs.Points.{point_lt, is_ordered, pair_cmp}
+use Rattle.overlay_geometry.specs.Sorting.{is_strictly_sorted}
+use Rattle.overlay_geometry.proofs.laws.geometry.Points.{pair_cmp_total}
+use Rattle.overlay_geometry.proofs.laws.lists.Keys.{IsStrictlySortedBy-from_test, IsStrictlySortedBy-map_filter, is_strictly_sorted-from}
 use Rattle.overlay_geometry.specs.PointOf.{point_of}
 use Rattle.overlay_base.specs.Windings.{is_not_empty}
 use Rattle.overlay_geometry.proofs.laws.lists.Lists.{list_all-and_parts, list_all-filter}
-use Rattle.overlay_base.specs.Segments.{WholeSegment, is_map, are_polygons}
+use Rattle.overlay_base.specs.Segments.{WholeSegment, pairs, is_map, are_polygons}
 use Rattle.overlay_base.specs.Planar.{is_arranged}
 use Rattle.overlay_base.specs.Balance.{IsBalanced}
 use Rattle.overlay_base.specs.Rules.{keeps_fill}
 use Rattle.overlay_base.specs.declared.overlay_core.fill_rule.FillRule.{FillRule}
 use Rattle.overlay_base.specs.declared.overlay_core.link.OverlayLink.{OverlayLink}
 use Rattle.overlay_build.specs.Graph.{Filled, Graph, filled, graph_of, graph_by}
-use Rattle.overlay_build.specs.GraphOf.{link_of, kept_of, graph_with, HoldGraph}
+use Rattle.overlay_build.specs.GraphOf.{link_of, kept_of, pairs_of_links, graph_with, HoldGraph}
 use Rattle.overlay_build.specs.Graph.{without_nodes}
 use Rattle.overlay_build.specs.Sides.{IsBalancedOverlay}
 use Rattle.overlay_build.proofs.laws.graphs.GraphLaws.{links-back, graph_by-is}
@@ -80,3 +84,17 @@ pub links_are_ordered : {I D : Type 0} (whole : I → ℤ) (links : List (Overla
     kept_of whole links ≡ filter (λ f. keeps f.fill) (filled rule segments) → (k : ℕ) (d : OverlayLink I D) → k < length links → IsTrue (point_lt (point_of whole (get_or links k d).a.point) (point_of whole (get_or links k d).b.point))
 links_are_ordered whole links keeps rule least greatest segments arranged e =
     AllPass-from_list_all (λ l. point_lt (point_of whole l.a.point) (point_of whole l.b.point)) links (kept_links_are_ordered whole links keeps rule least greatest segments arranged e)
+
+-- and stand in strict order, as the segments do
+pub links_are_sorted : {I D : Type 0} (whole : I → ℤ) (links : List (OverlayLink I D)) (keeps : ℕ → Bool) (rule : FillRule) (least greatest : ℤ) (segments : List WholeSegment) → IsTrue (is_arranged least greatest segments) →
+    kept_of whole links ≡ filter (λ f. keeps f.fill) (filled rule segments) → IsTrue (is_strictly_sorted pair_cmp (pairs_of_links whole links))
+unfolding is_arranged is_map filled
+links_are_sorted whole links keeps rule least greatest segments arranged e =
+    let outer = and_parts _ _ arranged in
+    let inner = and_parts _ _ outer.0 in
+    let parts = and_parts _ _ inner.0 in
+    let same : map (λ (f : Filled). f.pair) (filled rule segments) ≡ pairs segments = map-map (λ (f : Filled). f.pair) _ segments in
+    let all : IsStrictlySortedBy pair_cmp (map (λ (f : Filled). f.pair) (filled rule segments)) = subst (IsStrictlySortedBy pair_cmp) (sym same) (IsStrictlySortedBy-from_test pair_cmp_total (pairs segments) parts.0) in
+    let kept = IsStrictlySortedBy-map_filter (λ (f : Filled). f.pair) pair_cmp (λ f. keeps f.fill) (filled rule segments) all in
+    let their : map (λ (f : Filled). f.pair) (filter (λ f. keeps f.fill) (filled rule segments)) ≡ pairs_of_links whole links = ap (map (λ (f : Filled). f.pair)) (sym e) ∙ map-map (λ (f : Filled). f.pair) (λ (l : OverlayLink _ _). without_nodes (link_of whole l)) links in
+    is_strictly_sorted-from pair_cmp_total (pairs_of_links whole links) (subst (IsStrictlySortedBy pair_cmp) their kept)

@@ -1,18 +1,20 @@
 -- Lists of nodes and of ends, element by element.
-use Rattle.std.proofs.Common.{◌≡◌, refl, sym, ap, ap₂, ◌∙◌, arith, ℕ, ◌+◌, ◌<◌, ◌≤◌, ◌%◌, ◌==◌, zero-add, Bool, true, false, ◌&&◌, ◌||◌, List, [], ◌∷◌, ◌++◌, map, take, drop, length, get_or, set, if◌then◌else◌}
+use Rattle.std.proofs.Common.{◌≡◌, refl, sym, ap, ap₂, ◌∙◌, arith, inl, inr, append_assoc, ℕ, ◌+◌, ◌-◌, ◌<◌, ◌≤◌, ◌%◌, ◌==◌, zero-add, Bool, true, false, ◌&&◌, ◌||◌, List, [], ◌∷◌, ◌++◌, map, take, drop, length, get_or, set, if◌then◌else◌}
 use Rattle.std.specs.Prelude.{nat_le, ℤ}
-use Rattle.std.specs.List.{list_all, enumerate_from, take-map, drop-map}
-use Rattle.std.proofs.lemmas.Bool.{eqb-true, eq-eqb, false≢true}
-use Rattle.std.proofs.lemmas.List.{get_or-map, length-map, drop_more, take_all, take_more, map-append, get_or-set_same, get_or-set_other}
+use Rattle.std.specs.List.{list_all, enumerate_from}
+use Rattle.std.proofs.lemmas.Bool.{both_ways, false_from_ne_true, eqb-true, eq-eqb, false≢true}
+use Rattle.std.proofs.lemmas.List.{append-nil, get_or_default, get_or-map, length-map, drop_more, take_all, take_more, map-append, get_or-set_same, get_or-set_other}
 use Rattle.std.proofs.lemmas.List.Folds.{list_all-map, list_any-append}
-use Rattle.std.proofs.lemmas.Simd.{map-map}
 use Rattle.std.proofs.lemmas.List.FromFn.{length-enumerate_from, get_or-enumerate_from}
-use Rattle.overlay_geometry.specs.Points.{Point, Pair, point_eq}
+use Rattle.overlay_geometry.specs.Points.{Point, Pair, point_eq, point_lt}
+use Rattle.overlay_geometry.proofs.laws.geometry.Points.{point_lt-irreflexive, point_lt-trans}
+use Rattle.overlay_sweep.proofs.laws.live.StartPoints.{each_more, take_drop-more}
+use Rattle.overlay_build.specs.steps.LinksOf.{starts_of, indexes_between, IsNextPoint, IsRunAt}
 use Rattle.overlay_geometry.specs.PointOf.{point_of}
 use Rattle.overlay_geometry.specs.declared.geom.end.End.{End}
 use Rattle.overlay_build.specs.steps.EndOf.{WholeEnd, end_of, ends_of}
 use Rattle.overlay_base.specs.declared.overlay_core.link.OverlayLink.{OverlayLink}
-use Rattle.overlay_build.specs.GraphOf.{with_node, names_node}
+use Rattle.overlay_build.specs.GraphOf.{link_of, pairs_of_links, with_node, names_node}
 use Rattle.overlay_build.specs.Graph.{Node, Graph, is_bridge, is_valid_graph, has_even_nodes}
 use Rattle.std.proofs.Math.Bool.{or-true}
 
@@ -68,6 +70,12 @@ even_nodes-is indexes nodes graph same =
 pub end_point_at : {I : Type 0} (whole : I → ℤ) (ends : List (End I)) (k : ℕ) (x : End I) (d : WholeEnd) → k < length ends → (get_or (ends_of whole ends) k d).point ≡ point_of whole (get_or ends k x).point
 end_point_at whole ends k x d h = ap (λ (e : WholeEnd). e.point) (get_or-map (end_of whole) ends k x d h)
 
+pub end_at : {I : Type 0} (whole : I → ℤ) (ends : List (End I)) (k : ℕ) (x : End I) (d : WholeEnd) → k < length ends → x ≡ get_or ends k x → get_or (ends_of whole ends) k d ≡ end_of whole x
+end_at whole ends k x d h is = get_or-map (end_of whole) ends k x d h ∙ ap (end_of whole) (sym is)
+
+pub length-ends : {I : Type 0} (whole : I → ℤ) (ends : List (End I)) → length (ends_of whole ends) ≡ length ends
+length-ends whole ends = length-map ends (end_of whole)
+
 -- the ends of links, numbered in their order
 abbrev pub numbered : (Pair → Point) → List Pair → List WholeEnd
 numbered side links = map (λ e. record { index = e.0; point = side e.1 }) (enumerate_from 0 links)
@@ -89,10 +97,63 @@ numbered-all side f xs i h =
     let n : length (numbered side (map f xs)) ≡ length xs = length-map (enumerate_from 0 (map f xs)) _ ∙ length-enumerate_from 0 (map f xs) ∙ length-map xs f in
     take_all i (numbered side (map f xs)) (omega (arith, n, h))
 
--- the indexes of ends are those of the whole ends
-pub indexes-whole : {I : Type 0} (whole : I → ℤ) (n i : ℕ) (ends : List (End I)) → map (λ (e : End I). e.index) (take n (drop i ends)) ≡ map (λ (e : WholeEnd). e.index) (take n (drop i (ends_of whole ends)))
-indexes-whole whole n i ends =
-    sym (ap (λ l. map (λ (e : WholeEnd). e.index) (take n l)) (drop-map (end_of whole) i ends) ∙ ap (map (λ (e : WholeEnd). e.index)) (take-map (end_of whole) n (drop i ends)) ∙ map-map (λ (e : WholeEnd). e.index) (end_of whole) (take n (drop i ends)))
+-- ---- runs of ends at a point
+
+-- The ends from a place up to another lie at a point, and the indexes of their links follow on others.
+pub record IsRunListed (ends : List WholeEnd) (p : Point) (from next : ℕ) (old indexes : List ℕ) : Type 0 where
+  pub order : from ≤ next
+  pub within : next ≤ length ends
+  pub same : (k : ℕ) (d : WholeEnd) → from ≤ k → k < next → (get_or ends k d).point ≡ p
+  pub listed : indexes ≡ old ++ indexes_between ends from next
+
+pub run-none : (ends : List WholeEnd) (p : Point) (from : ℕ) (old : List ℕ) → from ≤ length ends → IsRunListed ends p from from old old
+run-none ends p from old h = record {
+  order = omega arith;
+  within = h;
+  same = λ k d l m. absurd (omega (arith, l, m));
+  listed = let none : from - from ≡ 0 = omega arith in rw none (sym (append-nil old));
+}
+
+pub run-more : (ends : List WholeEnd) (p : Point) (from next : ℕ) (old indexes : List ℕ) (e : WholeEnd) → IsRunListed ends p from next old indexes → next < length ends → get_or ends next e ≡ e → e.point ≡ p → IsRunListed ends p from (next + 1) old (indexes ++ e.index ∷ [])
+run-more ends p from next old indexes e run h here at = record {
+  order = let o = run.order in omega (arith, o);
+  within = omega (arith, h);
+  same = λ k d l m. each_more (λ (k : ℕ) (d : WholeEnd). from ≤ k → (get_or ends k d).point ≡ p) next (λ k d m l. run.same k d l m) (λ d l. ap (λ (x : WholeEnd). x.point) (get_or_default ends next d e h ∙ here) ∙ at) k d m l;
+  listed =
+      ap (λ (l : List ℕ). l ++ e.index ∷ []) run.listed
+      ∙ append_assoc old (indexes_between ends from next) (e.index ∷ [])
+      ∙ ap (λ l. old ++ l) (sym (ap (map (λ (x : WholeEnd). x.index)) (take_drop-more ends from next e run.order h here) ∙ map-append (λ (x : WholeEnd). x.index) (take (next - from) (drop from ends)) (e ∷ [])));
+}
+
+-- a run ends where the next end lies elsewhere, or where there is none
+pub run-ends : (ends : List WholeEnd) (p : Point) (from next : ℕ) (old indexes : List ℕ) → IsRunListed ends p from next old indexes → ((d : WholeEnd) → next < length ends → (get_or ends next d).point ≡ p → ⊥) → IsRunAt ends p from next
+run-ends ends p from next old indexes run other = record { order = run.order; within = run.within; same = run.same; other = other }
+
+pub not_after : (p q : Point) → point_lt p q ≡ true → point_lt q p ≡ false
+not_after p q h = false_from_ne_true _ (λ back. both_ways _ (point_lt-irreflexive p) (point_lt-trans p q p h back))
+
+-- the next point is that at the front of one list, and that of the other is not before it
+pub next-first : (firsts seconds : List WholeEnd) (start end : ℕ) (p : Point) → start < length firsts → ((d : WholeEnd) → (get_or firsts start d).point ≡ p) → ((d : WholeEnd) → end < length seconds → point_lt (get_or seconds end d).point p ≡ false) → IsNextPoint firsts seconds start end p
+next-first firsts seconds start end p h here other = record { first = λ d l. ap (λ q. point_lt q p) (here d) ∙ point_lt-irreflexive p; second = other; own = inl (h, here) }
+
+pub next-second : (firsts seconds : List WholeEnd) (start end : ℕ) (p : Point) → end < length seconds → ((d : WholeEnd) → (get_or seconds end d).point ≡ p) → ((d : WholeEnd) → start < length firsts → point_lt (get_or firsts start d).point p ≡ false) → IsNextPoint firsts seconds start end p
+next-second firsts seconds start end p h here other = record { first = other; second = λ d l. ap (λ q. point_lt q p) (here d) ∙ point_lt-irreflexive p; own = inr (h, here) }
+
+-- the first ends of links of code
+pub start_at : {I D : Type 0} (whole : I → ℤ) (links : List (OverlayLink I D)) (k : ℕ) (x : OverlayLink I D) (d : WholeEnd) → k < length links → x ≡ get_or links k x → get_or (starts_of whole links) k d ≡ record { index = k; point = point_of whole x.a.point }
+start_at whole links k x d h is =
+    let f : OverlayLink _ _ → Pair = λ l. (link_of whole l).pair in
+    let within : k < length (map f links) = rw length-map h in
+    let listed : k < length (enumerate_from 0 (map f links)) = rw length-enumerate_from within in
+    get_or-map (λ (e : ℕ × Pair). record { index = e.0; point = e.1.a }) (enumerate_from 0 (map f links)) k (0, f x) d listed
+    ∙ ap (λ (e : ℕ × Pair). record { index = e.0; point = e.1.a }) (get_or-enumerate_from 0 (map f links) k (0, f x) within)
+    ∙ ap₂ (λ (n : ℕ) (s : Pair). record { index = n; point = s.a }) (zero-add k) (get_or-map f links k x (f x) h ∙ ap f (sym is))
+
+pub start_point_at : {I D : Type 0} (whole : I → ℤ) (links : List (OverlayLink I D)) (k : ℕ) (x : OverlayLink I D) (d : WholeEnd) → k < length links → (get_or (starts_of whole links) k d).point ≡ point_of whole (get_or links k x).a.point
+start_point_at whole links k x d h = ap (λ (e : WholeEnd). e.point) (start_at whole links k (get_or links k x) d h (get_or_default links k x (get_or links k x) h))
+
+pub length-starts : {I D : Type 0} (whole : I → ℤ) (links : List (OverlayLink I D)) → length (starts_of whole links) ≡ length links
+length-starts whole links = length-map (enumerate_from 0 (pairs_of_links whole links)) _ ∙ length-enumerate_from 0 (pairs_of_links whole links) ∙ length-map links _
 
 -- ---- elements changed at some indexes
 

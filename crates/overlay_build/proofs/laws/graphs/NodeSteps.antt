@@ -1,24 +1,28 @@
 -- The nodes at the ends of links, one after another: what is done when the ends up to a place have their nodes.
-use Rattle.std.proofs.Common.{◌≡◌, refl, sym, ap, ap₂, ◌&&◌, ◌∙◌, arith, ℕ, zero, suc, ◌+◌, ◌<◌, ◌≤◌, ◌-◌, ◌==◌, Bool, true, false, ◌||◌, List, [], ◌∷◌, ◌++◌, map, filter, take, drop, length, length-append, get_or, if◌then◌else◌, Less}
-use Rattle.std.specs.Prelude.{ℤ, pos, nat_lt}
+use Rattle.std.proofs.Common.{inl, inr, subst, Ordering, Equal, Greater, ◌≡◌, refl, sym, ap, ap₂, ◌&&◌, ◌∙◌, arith, ℕ, zero, suc, ◌+◌, ◌<◌, ◌≤◌, ◌-◌, ◌==◌, Bool, true, false, ◌||◌, List, [], ◌∷◌, ◌++◌, map, filter, take, drop, length, length-append, get_or, if◌then◌else◌, Less}
+use Rattle.std.specs.Prelude.{◌⊎◌, ℤ, nat_lt}
 use Rattle.std.specs.List.{list_all, list_any, enumerate_from}
 use Rattle.std.proofs.lemmas.List.{map-append, get_or_default, take_more, length-map, get_or-map}
 use Rattle.std.proofs.lemmas.List.Sorted.{list_any-IsPermutation, ranks_by}
-use Rattle.std.proofs.lemmas.Bool.{both_ways, false_from_ne_true, eqb-true, eq-eqb, lt-ltb, ltb-true, and_parts}
+use Rattle.std.proofs.lemmas.Bool.{or_left, or_right, or_cases, both_ways, false_from_ne_true, eqb-true, eq-eqb, lt-ltb, ltb-true, and_parts}
 use Rattle.std.proofs.lemmas.Bool.Decides.{nat_tests}
-use Rattle.std.proofs.lemmas.List.Folds.{list_any-append, list_all-append, list_any_at, Any-from_list_any}
+use Rattle.std.proofs.lemmas.List.Folds.{list_all-append, list_any_at, Any-from_list_any}
 use Rattle.std.proofs.lemmas.Simd.{map-map}
-use Rattle.overlay_geometry.specs.Points.{Point, Pair, point_cmp, point_eq, point_lt, is_end}
+use Rattle.overlay_geometry.specs.Points.{Point, Pair, point_cmp, pair_cmp, point_eq, point_lt, is_end}
 use Rattle.overlay_geometry.specs.Sorting.{stably_sorted}
 use Rattle.overlay_geometry.specs.PointOf.{point_of}
 use Rattle.overlay_base.specs.declared.overlay_core.link.OverlayLink.{OverlayLink}
-use Rattle.overlay_geometry.proofs.laws.geometry.Points.{point_cmp_total, same_by_eq, point_eq_same, point_lt-irreflexive}
+use Rattle.overlay_geometry.proofs.laws.lists.Keys.{IsStrictlySortedBy-from_test}
+use Rattle.overlay_geometry.proofs.laws.geometry.Points.{point_cmp_total, pair_cmp_total, same_by_eq, point_eq_same, point_lt-irreflexive}
 use Rattle.overlay_geometry.proofs.laws.lists.Lists.{filter-map}
 use Rattle.overlay_base.proofs.laws.lists.StableSorts.{stably_sorted-IsPermutation, stably_sorted-stable, stably_sorted_is_stable}
 use Rattle.overlay_build.specs.steps.EndOf.{WholeEnd}
-use Rattle.std.specs.List.Sorted.{ties}
-use Rattle.std.specs.Ordering.{is_lt}
-use Rattle.std.proofs.lemmas.List.Elements.{filter_agree, filter-append}
+use Rattle.std.specs.List.Sorted.{IsStrictlySortedBy, ties}
+use Rattle.std.proofs.lemmas.List.FromFn.{length-enumerate_from, get_or-enumerate_from}
+use Rattle.overlay_geometry.specs.Sorting.{is_strictly_sorted}
+use Rattle.overlay_build.specs.steps.LinksOf.{IsNextPoint, IsRunAt, indexes_between}
+use Rattle.std.specs.Ordering.{is_lt, ordering_reverse}
+use Rattle.std.proofs.lemmas.List.Elements.{filter_agree}
 use Rattle.overlay_build.proofs.laws.graphs.GraphBlocks.{tied_where_equal, IsBlockOf, filter-block}
 use Rattle.overlay_build.specs.Graph.{node_points, node_number, links_at, indexes_where}
 use Rattle.overlay_build.specs.GraphOf.{pairs_of_links, link_of, with_node}
@@ -27,9 +31,9 @@ use Rattle.overlay_build.proofs.laws.graphs.GraphLaws.{links_at-exactly}
 use Rattle.overlay_base.proofs.laws.geometry.Pairs.{has_point}
 use Rattle.overlay_build.proofs.laws.graphs.GraphNodes.{has_start, has_end, sorted_at, sorted_ends, node_number-of, node_number-at, node_number-is, node_points-exactly}
 
--- the ends of links in order of their points
+-- the second ends of links in order of their points
 abbrev pub sorted_ends_of : List Pair → List WholeEnd
-sorted_ends_of links = stably_sorted (λ e f. point_cmp e.point f.point) (numbered_starts links ++ numbered_ends links)
+sorted_ends_of links = stably_sorted (λ e f. point_cmp e.point f.point) (numbered_ends links)
 
 -- the number of the node at an end
 abbrev pub rank : List Pair → List WholeEnd → ℕ → WholeEnd → ℕ
@@ -44,16 +48,21 @@ numbered_to whole links m l = record {
   edge_data = l.edge_data;
 }
 
--- The ends before a place have their nodes, and the links there know them; the ends from there on lie at later nodes.
-pub record IsConnectedUpTo {N I D : Type 0} (indexes : N → List ℕ) (is_canonical : N → Bool) (whole : I → ℤ) (given : List (OverlayLink I D)) (ends : List WholeEnd) (start : ℕ) (nodes : List N) (links : List (OverlayLink I D)) : Type 0 where
+-- The ends before a place lie at the first m nodes, and those from there on at later ones.
+pub record IsReached (links : List Pair) (ends : List WholeEnd) (place m : ℕ) : Type 0 where
+  pub within : place ≤ length ends
+  pub before : (k : ℕ) (d : WholeEnd) → k < place → rank links ends k d < m
+  pub behind : (k : ℕ) (d : WholeEnd) → place ≤ k → k < length ends → m ≤ rank links ends k d
+
+-- The first ends before one place and the second ends before another have their nodes, and the links there know them; the others lie at later nodes.
+pub record IsConnectedUpTo {N I D : Type 0} (indexes : N → List ℕ) (is_canonical : N → Bool) (whole : I → ℤ) (given : List (OverlayLink I D)) (start end : ℕ) (nodes : List N) (links : List (OverlayLink I D)) : Type 0 where
   pub few : length nodes ≤ length (node_points (pairs_of_links whole given))
-  pub within : start ≤ length ends
   pub made : map indexes nodes ≡ map (λ p. links_at (pairs_of_links whole given) p) (take (length nodes) (node_points (pairs_of_links whole given)))
   pub form : list_all is_canonical nodes ≡ true
   pub as_many : length links ≡ length given
   pub numbers : (k : ℕ) (d : OverlayLink I D) → k < length given → get_or links k d ≡ numbered_to whole (pairs_of_links whole given) (length nodes) (get_or given k d)
-  pub before : (k : ℕ) (d : WholeEnd) → k < start → rank (pairs_of_links whole given) ends k d < length nodes
-  pub behind : (k : ℕ) (d : WholeEnd) → start ≤ k → k < length ends → length nodes ≤ rank (pairs_of_links whole given) ends k d
+  pub firsts : IsReached (pairs_of_links whole given) (numbered_starts (pairs_of_links whole given)) start (length nodes)
+  pub seconds : IsReached (pairs_of_links whole given) (sorted_ends_of (pairs_of_links whole given)) end (length nodes)
 
 -- ---- numbers of nodes follow the order of points
 
@@ -82,46 +91,99 @@ any_end n (l ∷ links) q = spread (point_eq q l.a) (point_eq q l.b) _ _ ∙ ap 
     spread false true false y = refl
     spread false false x y = refl
 
--- a point is that of an end where it is that of a node
-pub ends_are_nodes : (links : List Pair) (q : Point) → list_any (λ (e : WholeEnd). point_eq q e.point) (sorted_ends_of links) ≡ has_point (node_points links) q
+-- a point is that of an end of one of the two lists where it is that of a node
+pub ends_are_nodes : (links : List Pair) (q : Point) → (list_any (λ (e : WholeEnd). point_eq q e.point) (numbered_starts links) || list_any (λ (e : WholeEnd). point_eq q e.point) (sorted_ends_of links)) ≡ has_point (node_points links) q
 ends_are_nodes links q =
-    sym (list_any-IsPermutation (λ (e : WholeEnd). point_eq q e.point) (numbered_starts links ++ numbered_ends links) (sorted_ends_of links) (stably_sorted-IsPermutation (λ e f. point_cmp e.point f.point) (numbered_starts links ++ numbered_ends links)))
-    ∙ list_any-append (λ (e : WholeEnd). point_eq q e.point) (numbered_starts links) (numbered_ends links)
+    ap (λ b. list_any (λ (e : WholeEnd). point_eq q e.point) (numbered_starts links) || b)
+    (sym (list_any-IsPermutation (λ (e : WholeEnd). point_eq q e.point) (numbered_ends links) (sorted_ends_of links) (stably_sorted-IsPermutation (λ e f. point_cmp e.point f.point) (numbered_ends links))))
     ∙ any_end 0 links q
     ∙ sym (node_points-exactly links q)
 
--- each end lies at a node
-pub end_at_node : (links : List Pair) (k : ℕ) (d : WholeEnd) → k < length (sorted_ends_of links) → has_point (node_points links) (get_or (sorted_ends_of links) k d).point ≡ true
-end_at_node links k d h =
-    let q : Point = (get_or (sorted_ends_of links) k d).point in
-    sym (ends_are_nodes links q) ∙ list_any_at (λ (e : WholeEnd). point_eq q e.point) (sorted_ends_of links) k d h (point_eq_same q)
+-- the first ends of links in strict order rise
+start_at : (links : List Pair) (k : ℕ) (d : WholeEnd) (s : Pair) → k < length links → (get_or (numbered_starts links) k d).point ≡ (get_or links k s).a
+start_at links k d s h =
+    let listed : k < length (enumerate_from 0 links) = rw length-enumerate_from h in
+    ap (λ (x : WholeEnd). x.point)
+    (get_or-map (λ (e : ℕ × Pair). record { index = e.0; point = e.1.a }) (enumerate_from 0 links) k (0, s) d listed
+    ∙ ap (λ (e : ℕ × Pair). record { index = e.0; point = e.1.a }) (get_or-enumerate_from 0 links k (0, s) h))
 
--- and at each node lies an end
-pub node_has_end : (links : List Pair) (m : ℕ) (d : Point) → m < length (node_points links) → (k : ℕ) × (k < length (sorted_ends_of links)) × ((e : WholeEnd) → (get_or (sorted_ends_of links) k e).point ≡ get_or (node_points links) m d)
+neighbors : (links : List Pair) (k : ℕ) (s : Pair) → IsStrictlySortedBy pair_cmp links → k + 1 < length links → pair_cmp (get_or links k s) (get_or links (k + 1) s) ≡ Less
+unfolding IsStrictlySortedBy
+neighbors [] k s sorted h = absurd (omega (arith, h))
+neighbors (x ∷ []) k s sorted h = absurd (omega (arith, h))
+neighbors (x ∷ y ∷ ys) zero s sorted h = sorted.0.0
+neighbors (x ∷ y ∷ ys) (suc k) s sorted h = let e : suc k + 1 ≡ suc (k + 1) = omega arith in rw e (neighbors (y ∷ ys) k s sorted.1 (omega (arith, h)))
+
+not_below : (s t : Pair) → pair_cmp s t ≡ Less → point_lt t.a s.a ≡ false
+not_below s t h = by_order (point_cmp t.a s.a) refl
+  where
+    by_order : (o : Ordering) → point_cmp t.a s.a ≡ o → point_lt t.a s.a ≡ false
+    by_order Less e = absurd (let back : point_cmp s.a t.a ≡ Greater = point_cmp_total.antisymm s.a t.a ∙ ap ordering_reverse e in let more : pair_cmp s t ≡ Greater = rw back refl in cc)
+    by_order Equal e = rw e refl
+    by_order Greater e = rw e refl
+
+starts_rise : (links : List Pair) → IsStrictlySortedBy pair_cmp links → (k : ℕ) (d : WholeEnd) → k + 1 < length (numbered_starts links) → point_lt (get_or (numbered_starts links) (k + 1) d).point (get_or (numbered_starts links) k d).point ≡ false
+starts_rise links sorted k d h =
+    let s : Pair = record { a = d.point; b = d.point } in
+    let as_many : length (numbered_starts links) ≡ length links = length-map (enumerate_from 0 links) _ ∙ length-enumerate_from 0 links in
+    let within : k + 1 < length links = rw as_many at h in
+    ap₂ point_lt (start_at links (k + 1) d s within) (start_at links k d s (omega (arith, within)))
+    ∙ not_below (get_or links k s) (get_or links (k + 1) s) (neighbors links k s sorted within)
+
+-- a list of ends of links in order of their points
+pub record AreEndsOf (links : List Pair) (ends : List WholeEnd) : Type 0 where
+  pub at_node : (k : ℕ) (d : WholeEnd) → k < length ends → has_point (node_points links) (get_or ends k d).point ≡ true
+  pub rises : (k : ℕ) (d : WholeEnd) → k + 1 < length ends → point_lt (get_or ends (k + 1) d).point (get_or ends k d).point ≡ false
+
+pub starts_are_ends : (links : List Pair) → is_strictly_sorted pair_cmp links ≡ true → AreEndsOf links (numbered_starts links)
+starts_are_ends links sorted = record {
+  at_node = λ k d h.
+      let q : Point = (get_or (numbered_starts links) k d).point in
+      sym (ends_are_nodes links q) ∙ or_left _ _ (list_any_at (λ (e : WholeEnd). point_eq q e.point) (numbered_starts links) k d h (point_eq_same q));
+  rises = starts_rise links (IsStrictlySortedBy-from_test pair_cmp_total links sorted);
+}
+
+pub seconds_are_ends : (links : List Pair) → AreEndsOf links (sorted_ends_of links)
+seconds_are_ends links = record {
+  at_node = λ k d h.
+      let q : Point = (get_or (sorted_ends_of links) k d).point in
+      sym (ends_are_nodes links q) ∙ or_right _ _ (list_any_at (λ (e : WholeEnd). point_eq q e.point) (sorted_ends_of links) k d h (point_eq_same q));
+  rises = λ k d h. (stably_sorted_is_stable (λ (e f : WholeEnd). point_cmp e.point f.point) (ranks_by point_cmp_total (λ (e : WholeEnd). e.point)) (numbered_ends links)).0 k d (omega arith) h;
+}
+
+-- at each node lies an end of one of the lists
+pub node_has_end : (links : List Pair) (m : ℕ) (d : Point) → m < length (node_points links) →
+    ((k : ℕ) × (k < length (numbered_starts links)) × ((e : WholeEnd) → rank links (numbered_starts links) k e ≡ m)) ⊎ ((k : ℕ) × (k < length (sorted_ends_of links)) × ((e : WholeEnd) → rank links (sorted_ends_of links) k e ≡ m))
 node_has_end links m d h =
-    let q : Point = get_or (node_points links) m d in
-    let there : has_point (node_points links) q ≡ true = list_any_at (λ k. point_eq q k) (node_points links) m d h (point_eq_same q) in
-    let found = Any-from_list_any (λ (e : WholeEnd). point_eq q e.point) (sorted_ends_of links) (ends_are_nodes links q ∙ there) in
-    (found.0, found.2, λ e. ap (λ (x : WholeEnd). x.point) (get_or_default (sorted_ends_of links) found.0 e found.1 found.2 ∙ found.3) ∙ sym (same_by_eq q found.1.point found.4))
+    let there : has_point (node_points links) (get_or (node_points links) m d) ≡ true = list_any_at (λ k. point_eq (get_or (node_points links) m d) k) (node_points links) m d h (point_eq_same (get_or (node_points links) m d)) in
+    elim (or_cases _ _ (ends_are_nodes links (get_or (node_points links) m d) ∙ there)) [
+      | inl own ↦ inl (of_list (numbered_starts links) own)
+      | inr own ↦ inr (of_list (sorted_ends_of links) own)
+    ]
+  where
+    of_list : (ends : List WholeEnd) → list_any (λ (e : WholeEnd). point_eq (get_or (node_points links) m d) e.point) ends ≡ true → (k : ℕ) × (k < length ends) × ((e : WholeEnd) → rank links ends k e ≡ m)
+    of_list ends own =
+        let found = Any-from_list_any (λ (e : WholeEnd). point_eq (get_or (node_points links) m d) e.point) ends own in
+        (found.0, found.2, λ e. ap (node_number links) (ap (λ (x : WholeEnd). x.point) (get_or_default ends found.0 e found.1 found.2 ∙ found.3) ∙ sym (same_by_eq (get_or (node_points links) m d) found.1.point found.4)) ∙ node_number-at links m d h)
 
 -- the ends at a point are those of the links that start there, then of those that end there, by rising index
-pub ends_at_point : (links : List Pair) (p : Point) → map (λ (e : WholeEnd). e.index) (filter (λ e. point_eq e.point p) (sorted_ends_of links)) ≡ links_at links p
-unfolding links_at indexes_where
-ends_at_point links p =
+pub starts_at_point : (links : List Pair) (p : Point) → map (λ (e : WholeEnd). e.index) (filter (λ e. point_eq e.point p) (numbered_starts links)) ≡ indexes_where (λ l. point_eq l.a p) links
+unfolding indexes_where
+starts_at_point links p =
+    ap (map (λ (e : WholeEnd). e.index)) (filter-map (λ (e : WholeEnd). point_eq e.point p) (λ (e : ℕ × Pair). record { index = e.0; point = e.1.a }) (enumerate_from 0 links))
+    ∙ map-map (λ (e : WholeEnd). e.index) (λ (e : ℕ × Pair). record { index = e.0; point = e.1.a }) (filter (λ e. point_eq e.1.a p) (enumerate_from 0 links))
+
+pub seconds_at_point : (links : List Pair) (p : Point) → map (λ (e : WholeEnd). e.index) (filter (λ e. point_eq e.point p) (sorted_ends_of links)) ≡ indexes_where (λ l. point_eq l.b p) links
+unfolding indexes_where
+seconds_at_point links p =
     let mark : WholeEnd = record { index = 0; point = p } in
     let tied : WholeEnd → Bool = ties (λ x y. is_lt (point_cmp x.point y.point)) mark in
     let at_p : WholeEnd → Bool = λ e. point_eq e.point p in
-    let all : List WholeEnd = numbered_starts links ++ numbered_ends links in
     let same : (l : List WholeEnd) → filter at_p l ≡ filter tied l = filter_agree at_p tied (λ e. tied_where_equal e.point p) in
-    let kept : filter at_p (sorted_ends_of links) ≡ filter at_p all = same (sorted_ends_of links) ∙ stably_sorted-stable (λ (e : WholeEnd). e.point) point_cmp point_cmp_total all mark ∙ sym (same all) in
-    ap (map (λ (e : WholeEnd). e.index)) (kept ∙ filter-append at_p (numbered_starts links) (numbered_ends links))
-    ∙ map-append (λ (e : WholeEnd). e.index) (filter at_p (numbered_starts links)) (filter at_p (numbered_ends links))
-    ∙ ap₂ (λ a b. a ++ b) (one (λ s. s.a)) (one (λ s. s.b))
-  where
-    one : (side : Pair → Point) → map (λ (e : WholeEnd). e.index) (filter (λ e. point_eq e.point p) (map (λ (e : ℕ × Pair). record { index = e.0; point = side e.1 }) (enumerate_from 0 links))) ≡ map (λ e. e.0) (filter (λ e. point_eq (side e.1) p) (enumerate_from 0 links))
-    one side =
-        ap (map (λ (e : WholeEnd). e.index)) (filter-map (λ (e : WholeEnd). point_eq e.point p) (λ (e : ℕ × Pair). record { index = e.0; point = side e.1 }) (enumerate_from 0 links))
-        ∙ map-map (λ (e : WholeEnd). e.index) (λ (e : ℕ × Pair). record { index = e.0; point = side e.1 }) (filter (λ e. point_eq (side e.1) p) (enumerate_from 0 links))
+    let kept : filter at_p (sorted_ends_of links) ≡ filter at_p (numbered_ends links) = same (sorted_ends_of links) ∙ stably_sorted-stable (λ (e : WholeEnd). e.point) point_cmp point_cmp_total (numbered_ends links) mark ∙ sym (same (numbered_ends links)) in
+    ap (map (λ (e : WholeEnd). e.index)) kept
+    ∙ ap (map (λ (e : WholeEnd). e.index)) (filter-map (λ (e : WholeEnd). point_eq e.point p) (λ (e : ℕ × Pair). record { index = e.0; point = e.1.b }) (enumerate_from 0 links))
+    ∙ map-map (λ (e : WholeEnd). e.index) (λ (e : ℕ × Pair). record { index = e.0; point = e.1.b }) (filter (λ e. point_eq e.1.b p) (enumerate_from 0 links))
 
 -- one of two numbers is less, or not
 pub by_less : {P : Type 0} (a b : ℕ) → (a < b → P) → (b ≤ a → P) → P
@@ -130,110 +192,148 @@ by_less zero (suc b) f g = f (omega arith)
 by_less (suc a) zero f g = g (omega arith)
 by_less (suc a) (suc b) f g = by_less a b (λ h. f (omega (arith, h))) (λ h. g (omega (arith, h)))
 
--- the numbers of nodes rise along the ends
-pub rank_rises : (links : List Pair) (k : ℕ) (d : WholeEnd) → k + 1 < length (sorted_ends_of links) → rank links (sorted_ends_of links) k d ≤ rank links (sorted_ends_of links) (k + 1) d
-rank_rises links k d h =
-    let ends : List WholeEnd = sorted_ends_of links in
-    let hp = end_at_node links k d (omega (arith, h)) in
-    let hq = end_at_node links (k + 1) d h in
-    let sorted = (stably_sorted_is_stable (λ (e f : WholeEnd). point_cmp e.point f.point) (ranks_by point_cmp_total (λ (e : WholeEnd). e.point)) (numbered_starts links ++ numbered_ends links)).0 in
-    by_less (rank links ends (k + 1) d) (rank links ends k d)
-    (λ less. absurd (both_ways _ (sorted k d (omega arith) h) (ap is_lt (number_less links (get_or ends (k + 1) d).point (get_or ends k d).point hq hp less))))
+-- ---- the numbers of nodes along a list of ends
+
+-- a point that is not below another has no lesser number
+number_rises : (links : List Pair) (p q : Point) → has_point (node_points links) p ≡ true → has_point (node_points links) q ≡ true → point_lt q p ≡ false → node_number links p ≤ node_number links q
+number_rises links p q hp hq h =
+    by_less (node_number links q) (node_number links p)
+    (λ less. absurd (both_ways _ h (ap is_lt (number_less links q p hq hp less))))
     (λ up. up)
 
--- from any end to a later one
-pub rank_later : (links : List Pair) (j n : ℕ) (d : WholeEnd) → j + n < length (sorted_ends_of links) → rank links (sorted_ends_of links) j d ≤ rank links (sorted_ends_of links) (j + n) d
-rank_later links j zero d h = let same : j + 0 ≡ j = omega arith in rw same (omega arith)
-rank_later links j (suc n) d h =
-    let before = rank_later links j n d (omega (arith, h)) in
-    let step = rank_rises links (j + n) d (omega (arith, h)) in
-    let same : j + suc n ≡ (j + n) + 1 = omega arith in
-    rw same (omega (arith, before, step))
+module _ (links : List Pair) (ends : List WholeEnd) (are : AreEndsOf links ends) where
+  -- the numbers of nodes rise along the ends
+  rank_rises : (k : ℕ) (d : WholeEnd) → k + 1 < length ends → rank links ends k d ≤ rank links ends (k + 1) d
+  rank_rises k d h = number_rises links (get_or ends k d).point (get_or ends (k + 1) d).point (are.at_node k d (omega (arith, h))) (are.at_node (k + 1) d h) (are.rises k d h)
 
--- Where the ends from a place on are all that lie at the nodes from m on, the end there lies at node m.
-pub first_rank : (links : List Pair) (start m : ℕ) (d : WholeEnd) → start < length (sorted_ends_of links) →
-    ((k : ℕ) (e : WholeEnd) → k < start → rank links (sorted_ends_of links) k e < m) → ((k : ℕ) (e : WholeEnd) → start ≤ k → k < length (sorted_ends_of links) → m ≤ rank links (sorted_ends_of links) k e) →
-    rank links (sorted_ends_of links) start d ≡ m
-first_rank links start m d h before behind =
-    let least = behind start d (omega arith) h in
-    let inside = (node_number-of links (get_or (sorted_ends_of links) start d).point (get_or (sorted_ends_of links) start d).point (end_at_node links start d h)).0 in
-    let found = node_has_end links m (get_or (sorted_ends_of links) start d).point (omega (arith, least, inside)) in
-    let its : rank links (sorted_ends_of links) found.0 d ≡ m = ap (node_number links) (found.2 d) ∙ node_number-at links m (get_or (sorted_ends_of links) start d).point (omega (arith, least, inside)) in
-    by_less found.0 start
-    (λ early. let low = before found.0 d early in absurd (omega (arith, low, its)))
-    (λ late.
-    let gap : start + (found.0 - start) ≡ found.0 = omega (arith, late) in
-    let more = rw gap at (rank_later links start (found.0 - start) d (rw gap found.1)) in
-    omega (arith, least, more, its))
+  -- from any end to a later one
+  pub rank_later : (j n : ℕ) (d : WholeEnd) → j + n < length ends → rank links ends j d ≤ rank links ends (j + n) d
+  rank_later j zero d h = let same : j + 0 ≡ j = omega arith in rw same (omega arith)
+  rank_later j (suc n) d h =
+      let before = rank_later j n d (omega (arith, h)) in
+      let step = rank_rises (j + n) d (omega (arith, h)) in
+      let same : j + suc n ≡ (j + n) + 1 = omega arith in
+      rw same (omega (arith, before, step))
 
--- ---- a block of ends at one point
+  -- an end at node m stands at the place or later, where the ends before it lie at the first m nodes; so what stands at the place lies at node m or before
+  pub front_rank : (place m k : ℕ) (d : WholeEnd) → IsReached links ends place m → k < length ends → ((e : WholeEnd) → rank links ends k e ≡ m) → (place < length ends) × (rank links ends place d ≤ m)
+  front_rank place m k d reached h its =
+      by_less k place
+      (λ early. let low = reached.before k d early in let own = its d in absurd (omega (arith, low, own)))
+      (λ late.
+      let gap : place + (k - place) ≡ k = omega (arith, late) in
+      let more = rw gap at (rank_later place (k - place) d (rw gap h)) in
+      let own = its d in (omega (arith, late, h), omega (arith, more, own)))
 
-module _ (links : List Pair) (start next m : ℕ)
-    (block : start < next) (within : next ≤ length (sorted_ends_of links))
-    (before : (k : ℕ) (e : WholeEnd) → k < start → rank links (sorted_ends_of links) k e < m)
-    (behind : (k : ℕ) (e : WholeEnd) → start ≤ k → k < length (sorted_ends_of links) → m ≤ rank links (sorted_ends_of links) k e)
-    (same : (k : ℕ) (e : WholeEnd) → start ≤ k → k < next → (get_or (sorted_ends_of links) k e).point ≡ (get_or (sorted_ends_of links) start e).point)
-    (other : (e : WholeEnd) → next < length (sorted_ends_of links) → (get_or (sorted_ends_of links) next e).point ≡ (get_or (sorted_ends_of links) start e).point → ⊥) where
-  rank_in_block : (k : ℕ) (e : WholeEnd) → start ≤ k → k < next → rank links (sorted_ends_of links) k e ≡ m
-  rank_in_block k e h l = ap (node_number links) (same k e h l) ∙ first_rank links start m e (omega (arith, block, within)) before behind
+  -- ---- a run of ends at the point of node m
 
-  -- what is before the next block lies at the nodes up to this one
-  pub before_next : (k : ℕ) (e : WholeEnd) → k < next → rank links (sorted_ends_of links) k e < m + 1
-  before_next k e l = by_less k start (λ h. let low = before k e h in omega (arith, low)) (λ h. let its = rank_in_block k e h l in omega (arith, its))
+  module _ (p : Point) (place next m : ℕ) (there : has_point (node_points links) p ≡ true) (number : node_number links p ≡ m) (reached : IsReached links ends place m) (run : IsRunAt ends p place next) where
+    rank_in_run : (k : ℕ) (e : WholeEnd) → place ≤ k → k < next → rank links ends k e ≡ m
+    rank_in_run k e h l = ap (node_number links) (run.same k e h l) ∙ number
 
-  -- and what follows lies at later nodes
-  pub behind_next : (k : ℕ) (e : WholeEnd) → next ≤ k → k < length (sorted_ends_of links) → m + 1 ≤ rank links (sorted_ends_of links) k e
-  behind_next k e h l =
-      let inside : next < length (sorted_ends_of links) = omega (arith, h, l) in
-      let first = first_rank links start m e (omega (arith, block, within)) before behind in
-      let least = behind next e (omega (arith, block)) inside in
-      let gap : next + (k - next) ≡ k = omega (arith, h) in
-      let more = rw gap at (rank_later links next (k - next) e (rw gap l)) in
-      by_less m (rank links (sorted_ends_of links) next e)
-      (λ up. omega (arith, up, more))
-      (λ down. absurd (other e inside (same_number links _ _ (end_at_node links next e inside) (end_at_node links start e (omega (arith, block, within))) (let equal : rank links (sorted_ends_of links) next e ≡ rank links (sorted_ends_of links) start e = omega (arith, down, least, first) in equal))))
+    later_node : (k : ℕ) (e : WholeEnd) → next ≤ k → k < length ends → m + 1 ≤ rank links ends k e
+    later_node k e h l =
+        let order = run.order in
+        let inside : next < length ends = omega (arith, h, l) in
+        let least = reached.behind next e order inside in
+        let gap : next + (k - next) ≡ k = omega (arith, h) in
+        let more = rw gap at (rank_later next (k - next) e (rw gap l)) in
+        by_less m (rank links ends next e)
+        (λ up. omega (arith, up, more))
+        (λ down. absurd (run.other e inside (same_number links _ p (are.at_node next e inside) there (let equal : rank links ends next e ≡ node_number links p = omega (arith, down, least, number) in equal))))
 
-  -- the point of the block is that of node m
-  pub node_of_block : (e : WholeEnd) (d : Point) → get_or (node_points links) m d ≡ (get_or (sorted_ends_of links) start e).point
-  node_of_block e d =
-      let first = first_rank links start m e (omega (arith, block, within)) before behind in
-      ap (λ n. get_or (node_points links) n d) (sym first) ∙ (node_number-of links (get_or (sorted_ends_of links) start e).point d (end_at_node links start e (omega (arith, block, within)))).1
+    -- the ends after the run lie at later nodes
+    pub reached_next : IsReached links ends next (m + 1)
+    reached_next = record {
+      within = run.within;
+      before = λ k e l. by_less k place (λ h. let low = reached.before k e h in omega (arith, low)) (λ h. let its = rank_in_run k e h l in omega (arith, its));
+      behind = later_node;
+    }
 
-  -- the block is all that lies at its point
-  pub is_block : (e : WholeEnd) → IsBlockOf (λ x. point_eq x.point (get_or (sorted_ends_of links) start e).point) (sorted_ends_of links) start (next - start)
-  is_block e = record {
-    within = omega (arith, block, within);
-    before = λ k d l. other_point k d (omega (arith, block, within, l)) (λ its. let low = before k d l in omega (arith, low, its));
-    inside = λ k d l. ap (λ p. point_eq p (get_or (sorted_ends_of links) start e).point) (at_block (start + k) d (omega arith) (omega (arith, l))) ∙ point_eq_same (get_or (sorted_ends_of links) start e).point;
-    behind = λ k d h l. other_point k d l (λ its. let up = behind_next k d (omega (arith, h, block)) l in omega (arith, up, its));
-  }
-    where
-      start_point : (d : WholeEnd) → (get_or (sorted_ends_of links) start d).point ≡ (get_or (sorted_ends_of links) start e).point
-      start_point d = ap (λ (x : WholeEnd). x.point) (get_or_default (sorted_ends_of links) start d e (omega (arith, block, within)))
+    -- the run is all that lies at its point
+    is_block : IsBlockOf (λ x. point_eq x.point p) ends place (next - place)
+    is_block = record {
+      within = let order = run.order in let within = run.within in omega (arith, order, within);
+      before = λ k d l. other_point k d (let place_in = reached.within in omega (arith, place_in, l)) (λ its. let low = reached.before k d l in omega (arith, low, its));
+      inside = λ k d l. ap (λ q. point_eq q p) (run.same (place + k) d (omega arith) (let order = run.order in omega (arith, l, order))) ∙ point_eq_same p;
+      behind = λ k d h l. other_point k d l (λ its. let up = later_node k d (let order = run.order in omega (arith, h, order)) l in omega (arith, up, its));
+    }
+      where
+        other_point : (k : ℕ) (d : WholeEnd) → k < length ends → (rank links ends k d ≡ m → ⊥) → point_eq (get_or ends k d).point p ≡ false
+        other_point k d l none = false_from_ne_true _ (λ t. none (ap (node_number links) (same_by_eq _ _ t) ∙ number))
 
-      at_block : (k : ℕ) (d : WholeEnd) → start ≤ k → k < next → (get_or (sorted_ends_of links) k d).point ≡ (get_or (sorted_ends_of links) start e).point
-      at_block k d h l = same k d h l ∙ start_point d
+    pub indexes_of_run : map (λ (x : WholeEnd). x.index) (take (next - place) (drop place ends)) ≡ map (λ (x : WholeEnd). x.index) (filter (λ x. point_eq x.point p) ends)
+    indexes_of_run = ap (map (λ (x : WholeEnd). x.index)) (sym (filter-block (λ x. point_eq x.point p) ends place (next - place) is_block))
 
-      other_point : (k : ℕ) (d : WholeEnd) → k < length (sorted_ends_of links) → (rank links (sorted_ends_of links) k d ≡ m → ⊥) → point_eq (get_or (sorted_ends_of links) k d).point (get_or (sorted_ends_of links) start e).point ≡ false
-      other_point k d l none = false_from_ne_true _ (λ t. none (ap (node_number links) (same_by_eq _ _ t ∙ sym (start_point d)) ∙ first_rank links start m d (omega (arith, block, within)) before behind))
+-- ---- the next node
 
-  -- so its indexes are those of the links at node m
-  pub indexes_of_block : (d : Point) → map (λ (x : WholeEnd). x.index) (take (next - start) (drop start (sorted_ends_of links))) ≡ links_at links (get_or (node_points links) m d)
-  indexes_of_block d =
-      let e : WholeEnd = record { index = 0; point = d } in
-      ap (map (λ (x : WholeEnd). x.index)) (sym (filter-block (λ x. point_eq x.point (get_or (sorted_ends_of links) start e).point) (sorted_ends_of links) start (next - start) (is_block e)))
-      ∙ ends_at_point links (get_or (sorted_ends_of links) start e).point
-      ∙ ap (links_at links) (sym (node_of_block e d))
+module _ (links : List Pair) (sorted : is_strictly_sorted pair_cmp links ≡ true) (start end m : ℕ) (p : Point)
+    (firsts : IsReached links (numbered_starts links) start m) (seconds : IsReached links (sorted_ends_of links) end m) (next : IsNextPoint (numbered_starts links) (sorted_ends_of links) start end p) where
+  mark : WholeEnd
+  mark = record { index = 0; point = p }
 
-  -- and each of them is the index of a link
-  pub block_within : (k d : ℕ) → k < length (map (λ (x : WholeEnd). x.index) (take (next - start) (drop start (sorted_ends_of links)))) → get_or (map (λ (x : WholeEnd). x.index) (take (next - start) (drop start (sorted_ends_of links)))) k d < length links
-  block_within k d h =
-      let indexes : List ℕ = map (λ (x : WholeEnd). x.index) (take (next - start) (drop start (sorted_ends_of links))) in
-      let i : ℕ = get_or indexes k d in
-      let p : Point = record { x = pos 0; y = pos 0 } in
-      let own : list_any (λ j. j == i) indexes ≡ true = list_any_at (λ j. j == i) indexes k d h (eq-eqb i i refl) in
-      let stands = sym (links_at-exactly links (get_or (node_points links) m p) i (record { a = p; b = p })) ∙ ap (list_any (λ j. j == i)) (sym (indexes_of_block p)) ∙ own in
-      ltb-true i (length links) (and_parts _ _ stands).0
+  starts : AreEndsOf links (numbered_starts links)
+  starts = starts_are_ends links sorted
+
+  ends : AreEndsOf links (sorted_ends_of links)
+  ends = seconds_are_ends links
+
+  -- it is a node's point
+  pub next_is_node : has_point (node_points links) p ≡ true
+  next_is_node = elim next.own [
+    | inl own ↦ ap (has_point (node_points links)) (sym (own.1 mark)) ∙ starts.at_node start mark own.0
+    | inr own ↦ ap (has_point (node_points links)) (sym (own.1 mark)) ∙ ends.at_node end mark own.0
+  ]
+
+  -- of a node from m on
+  late : m ≤ node_number links p
+  late = elim next.own [
+    | inl own ↦ subst (λ q. m ≤ node_number links q) (own.1 mark) (firsts.behind start mark (omega arith) own.0)
+    | inr own ↦ subst (λ q. m ≤ node_number links q) (own.1 mark) (seconds.behind end mark (omega arith) own.0)
+  ]
+
+  pub next_inside : m < length (node_points links)
+  next_inside = let low = (node_number-of links p p next_is_node).0 in let up = late in omega (arith, low, up)
+
+  -- so it is node m
+  pub next_number : node_number links p ≡ m
+  next_number = elim (node_has_end links m p next_inside) [
+    | inl found ↦
+        (let front = front_rank links (numbered_starts links) starts start m found.0 mark firsts found.1 found.2 in
+        let up = number_rises links p (get_or (numbered_starts links) start mark).point next_is_node (starts.at_node start mark front.0) (next.first mark front.0) in
+        let low = late in let high = front.1 in omega (arith, up, low, high))
+    | inr found ↦
+        (let front = front_rank links (sorted_ends_of links) ends end m found.0 mark seconds found.1 found.2 in
+        let up = number_rises links p (get_or (sorted_ends_of links) end mark).point next_is_node (ends.at_node end mark front.0) (next.second mark front.0) in
+        let low = late in let high = front.1 in omega (arith, up, low, high))
+  ]
+
+  pub node_of_next : (d : Point) → get_or (node_points links) m d ≡ p
+  node_of_next d = ap (λ n. get_or (node_points links) n d) (sym next_number) ∙ (node_number-of links p d next_is_node).1
+
+  -- one of the two runs has an end
+  pub run_is_some : (next_start next_end : ℕ) → IsRunAt (numbered_starts links) p start next_start → IsRunAt (sorted_ends_of links) p end next_end → (start < next_start) ⊎ (end < next_end)
+  run_is_some next_start next_end first second = elim next.own [
+    | inl own ↦ inl (let order = first.order in by_less start next_start (λ h. h) (λ h. absurd (let same : next_start ≡ start = omega (arith, h, order) in first.other mark (rw same own.0) (rw same (own.1 mark)))))
+    | inr own ↦ inr (let order = second.order in by_less end next_end (λ h. h) (λ h. absurd (let same : next_end ≡ end = omega (arith, h, order) in second.other mark (rw same own.0) (rw same (own.1 mark)))))
+  ]
+
+  -- the indexes of both runs are those of the links at node m
+  pub indexes_of_runs : (next_start next_end : ℕ) → IsRunAt (numbered_starts links) p start next_start → IsRunAt (sorted_ends_of links) p end next_end →
+      indexes_between (numbered_starts links) start next_start ++ indexes_between (sorted_ends_of links) end next_end ≡ links_at links p
+  unfolding links_at
+  indexes_of_runs next_start next_end first second =
+      ap₂ (λ a b. a ++ b)
+      (indexes_of_run links (numbered_starts links) starts p start next_start m next_is_node next_number firsts first ∙ starts_at_point links p)
+      (indexes_of_run links (sorted_ends_of links) ends p end next_end m next_is_node next_number seconds second ∙ seconds_at_point links p)
+
+-- and each of them is the index of a link
+pub indexes_within : (links : List Pair) (p : Point) (k d : ℕ) → k < length (links_at links p) → get_or (links_at links p) k d < length links
+indexes_within links p k d h =
+    let i : ℕ = get_or (links_at links p) k d in
+    let own : list_any (λ j. j == i) (links_at links p) ≡ true = list_any_at (λ j. j == i) (links_at links p) k d h (eq-eqb i i refl) in
+    let stands = sym (links_at-exactly links p i (record { a = p; b = p })) ∙ own in
+    ltb-true i (length links) (and_parts _ _ stands).0
 
 -- ---- the numbers of nodes in a link
 
@@ -274,24 +374,47 @@ numbered_next whole links m d l h ha hb order =
         let b_not = lt_next (node_number links (point_of whole l.b.point)) m (b_is ∙ f) in
         rw (e, f, a_not, b_not) refl
 
+-- ---- before the first node
+
+reached_none : (links : List Pair) (ends : List WholeEnd) → IsReached links ends 0 0
+reached_none links ends = record { within = omega arith; before = λ k d l. absurd (omega (arith, l)); behind = λ k d h l. omega arith }
+
+none_below : (n : ℕ) → nat_lt n 0 ≡ false
+none_below n = grind (arith, nat_tests)
+
+pub connected_none : {N I D : Type 0} (indexes : N → List ℕ) (is_canonical : N → Bool) (whole : I → ℤ) (given : List (OverlayLink I D)) → IsConnectedUpTo indexes is_canonical whole given 0 0 [] given
+connected_none {I = I} {D = D} indexes is_canonical whole given = record {
+  few = omega arith;
+  made = refl;
+  form = refl;
+  as_many = refl;
+  numbers = λ k d h.
+      let l : OverlayLink I D = get_or given k d in
+      let a = none_below (node_number (pairs_of_links whole given) (point_of whole l.a.point)) in
+      let b = none_below (node_number (pairs_of_links whole given) (point_of whole l.b.point)) in
+      rw (a, b) refl;
+  firsts = reached_none (pairs_of_links whole given) (numbered_starts (pairs_of_links whole given));
+  seconds = reached_none (pairs_of_links whole given) (sorted_ends_of (pairs_of_links whole given));
+}
+
 -- ---- one node more
 
 module _ {N I D : Type 0} (indexes : N → List ℕ) (is_canonical : N → Bool) (whole : I → ℤ) (given : List (OverlayLink I D))
     (ordered : (k : ℕ) (d : OverlayLink I D) → k < length given → point_lt (point_of whole (get_or given k d).a.point) (point_of whole (get_or given k d).b.point) ≡ true)
-    (start next : ℕ) (nodes : List N) (links more : List (OverlayLink I D)) (node : N) (e : WholeEnd)
-    (up : IsConnectedUpTo indexes is_canonical whole given (sorted_ends_of (pairs_of_links whole given)) start nodes links)
-    (block : start < next) (within : next ≤ length (sorted_ends_of (pairs_of_links whole given)))
-    (same : (k : ℕ) (e : WholeEnd) → start ≤ k → k < next → (get_or (sorted_ends_of (pairs_of_links whole given)) k e).point ≡ (get_or (sorted_ends_of (pairs_of_links whole given)) start e).point)
-    (other : (e : WholeEnd) → next < length (sorted_ends_of (pairs_of_links whole given)) → (get_or (sorted_ends_of (pairs_of_links whole given)) next e).point ≡ (get_or (sorted_ends_of (pairs_of_links whole given)) start e).point → ⊥)
-    (its : indexes node ≡ map (λ (x : WholeEnd). x.index) (take (next - start) (drop start (sorted_ends_of (pairs_of_links whole given)))))
+    (sorted : is_strictly_sorted pair_cmp (pairs_of_links whole given) ≡ true)
+    (start end next_start next_end : ℕ) (nodes : List N) (links more : List (OverlayLink I D)) (node : N) (p : Point)
+    (up : IsConnectedUpTo indexes is_canonical whole given start end nodes links)
+    (next : IsNextPoint (numbered_starts (pairs_of_links whole given)) (sorted_ends_of (pairs_of_links whole given)) start end p)
+    (first : IsRunAt (numbered_starts (pairs_of_links whole given)) p start next_start)
+    (second : IsRunAt (sorted_ends_of (pairs_of_links whole given)) p end next_end)
+    (its : indexes node ≡ links_at (pairs_of_links whole given) p)
     (canonical : is_canonical node ≡ true) (as_many : length more ≡ length links)
-    (numbers : (k : ℕ) (d : OverlayLink I D) → k < length links → get_or more k d ≡ (if list_any (λ i. i == k) (indexes node) then with_node whole (get_or (sorted_ends_of (pairs_of_links whole given)) start e).point (length nodes) (get_or links k d) else get_or links k d)) where
+    (numbers : (k : ℕ) (d : OverlayLink I D) → k < length links → get_or more k d ≡ (if list_any (λ i. i == k) (indexes node) then with_node whole p (length nodes) (get_or links k d) else get_or links k d)) where
   inside : length nodes < length (node_points (pairs_of_links whole given))
-  inside =
-      let h : start < length (sorted_ends_of (pairs_of_links whole given)) = omega (arith, block, within) in
-      let first = first_rank (pairs_of_links whole given) start (length nodes) e h up.before up.behind in
-      let low = (node_number-of (pairs_of_links whole given) (get_or (sorted_ends_of (pairs_of_links whole given)) start e).point (get_or (sorted_ends_of (pairs_of_links whole given)) start e).point (end_at_node (pairs_of_links whole given) start e h)).0 in
-      omega (arith, first, low)
+  inside = next_inside (pairs_of_links whole given) sorted start end (length nodes) p up.firsts up.seconds next
+
+  at_node : (d : Point) → get_or (node_points (pairs_of_links whole given)) (length nodes) d ≡ p
+  at_node = node_of_next (pairs_of_links whole given) sorted start end (length nodes) p up.firsts up.seconds next
 
   longer : length (nodes ++ node ∷ []) ≡ length nodes + 1
   longer = length-append nodes (node ∷ [])
@@ -299,26 +422,23 @@ module _ {N I D : Type 0} (indexes : N → List ℕ) (is_canonical : N → Bool)
   made_next : map indexes (nodes ++ node ∷ []) ≡ map (λ p. links_at (pairs_of_links whole given) p) (take (length nodes + 1) (node_points (pairs_of_links whole given)))
   made_next =
       map-append indexes nodes (node ∷ [])
-      ∙ ap₂ (λ a b. a ++ b ∷ []) up.made (its ∙ indexes_of_block (pairs_of_links whole given) start next (length nodes) block within up.before up.behind same other e.point)
-      ∙ sym (ap (map (λ p. links_at (pairs_of_links whole given) p)) (take_more (node_points (pairs_of_links whole given)) (length nodes) e.point inside) ∙ map-append (λ p. links_at (pairs_of_links whole given) p) (take (length nodes) (node_points (pairs_of_links whole given))) (get_or (node_points (pairs_of_links whole given)) (length nodes) e.point ∷ []))
+      ∙ ap₂ (λ a b. a ++ b ∷ []) up.made (its ∙ ap (links_at (pairs_of_links whole given)) (sym (at_node p)))
+      ∙ sym (ap (map (λ p. links_at (pairs_of_links whole given) p)) (take_more (node_points (pairs_of_links whole given)) (length nodes) p inside) ∙ map-append (λ p. links_at (pairs_of_links whole given) p) (take (length nodes) (node_points (pairs_of_links whole given))) (get_or (node_points (pairs_of_links whole given)) (length nodes) p ∷ []))
 
   -- the links at the node's point are those that it lists
-  names : (k : ℕ) (d : OverlayLink I D) → k < length given →
-      list_any (λ i. i == k) (indexes node) ≡ (point_eq (point_of whole (get_or given k d).a.point) (get_or (node_points (pairs_of_links whole given)) (length nodes) e.point) || point_eq (point_of whole (get_or given k d).b.point) (get_or (node_points (pairs_of_links whole given)) (length nodes) e.point))
+  names : (k : ℕ) (d : OverlayLink I D) → k < length given → list_any (λ i. i == k) (indexes node) ≡ (point_eq (point_of whole (get_or given k d).a.point) p || point_eq (point_of whole (get_or given k d).b.point) p)
   names k d h =
       let pairs : List Pair = pairs_of_links whole given in
-      let q : Point = get_or (node_points pairs) (length nodes) e.point in
       let f : OverlayLink I D → Pair = λ l. (link_of whole l).pair in
-      ap (list_any (λ i. i == k)) (its ∙ indexes_of_block pairs start next (length nodes) block within up.before up.behind same other e.point)
-      ∙ links_at-exactly pairs q k (f d)
-      ∙ ap (λ c. c && (point_eq (get_or pairs k (f d)).a q || point_eq (get_or pairs k (f d)).b q)) (lt-ltb k (length pairs) (rw (length-map given f) h))
-      ∙ ap (λ (s : Pair). point_eq s.a q || point_eq s.b q) (get_or-map f given k d (f d) h)
+      ap (list_any (λ i. i == k)) its
+      ∙ links_at-exactly pairs p k (f d)
+      ∙ ap (λ c. c && (point_eq (get_or pairs k (f d)).a p || point_eq (get_or pairs k (f d)).b p)) (lt-ltb k (length pairs) (rw (length-map given f) h))
+      ∙ ap (λ (s : Pair). point_eq s.a p || point_eq s.b p) (get_or-map f given k d (f d) h)
 
   numbers_next : (k : ℕ) (d : OverlayLink I D) → k < length given → get_or more k d ≡ numbered_to whole (pairs_of_links whole given) (length nodes + 1) (get_or given k d)
   numbers_next k d h =
       let pairs : List Pair = pairs_of_links whole given in
       let m : ℕ = length nodes in
-      let q : Point = get_or (node_points pairs) m e.point in
       let l : OverlayLink I D = get_or given k d in
       let f : OverlayLink I D → Pair = λ l. (link_of whole l).pair in
       let h' : k < length pairs = rw (length-map given f) h in
@@ -326,18 +446,22 @@ module _ {N I D : Type 0} (indexes : N → List ℕ) (is_canonical : N → Bool)
       let ha : has_point (node_points pairs) (point_of whole l.a.point) ≡ true = ap (λ (s : Pair). has_point (node_points pairs) s.a) (sym pair_at) ∙ has_start pairs k (f d) h' in
       let hb : has_point (node_points pairs) (point_of whole l.b.point) ≡ true = ap (λ (s : Pair). has_point (node_points pairs) s.b) (sym pair_at) ∙ has_end pairs k (f d) h' in
       numbers k d (rw up.as_many h)
-      ∙ ap₂ (λ (p : Point) (x : OverlayLink I D). if list_any (λ i. i == k) (indexes node) then with_node whole p m x else x) (sym (node_of_block pairs start next m block within up.before up.behind same other e e.point)) (up.numbers k d h)
-      ∙ ap (λ c. if c then with_node whole q m (numbered_to whole pairs m l) else numbered_to whole pairs m l) (names k d h)
-      ∙ sym (numbered_next whole pairs m e.point l inside ha hb (ordered k d h))
+      ∙ ap (λ (x : OverlayLink I D). if list_any (λ i. i == k) (indexes node) then with_node whole p m x else x) (up.numbers k d h)
+      ∙ ap (λ c. if c then with_node whole p m (numbered_to whole pairs m l) else numbered_to whole pairs m l) (names k d h)
+      ∙ ap (λ q. if point_eq (point_of whole l.a.point) q || point_eq (point_of whole l.b.point) q then with_node whole q m (numbered_to whole pairs m l) else numbered_to whole pairs m l) (sym (at_node p))
+      ∙ sym (numbered_next whole pairs m p l inside ha hb (ordered k d h))
 
-  pub connected_next : IsConnectedUpTo indexes is_canonical whole given (sorted_ends_of (pairs_of_links whole given)) next (nodes ++ node ∷ []) more
-  connected_next = record {
-    few = rw longer (omega (arith, inside));
-    within = within;
-    made = rw longer made_next;
-    form = list_all-append is_canonical nodes (node ∷ []) ∙ ap₂ (λ a b. a && (b && true)) up.form canonical;
-    as_many = as_many ∙ up.as_many;
-    numbers = rw longer numbers_next;
-    before = rw longer (before_next (pairs_of_links whole given) start next (length nodes) block within up.before up.behind same other);
-    behind = rw longer (behind_next (pairs_of_links whole given) start next (length nodes) block within up.before up.behind same other);
-  }
+  pub connected_next : IsConnectedUpTo indexes is_canonical whole given next_start next_end (nodes ++ node ∷ []) more
+  connected_next =
+      let pairs : List Pair = pairs_of_links whole given in
+      let there = next_is_node pairs sorted start end (length nodes) p up.firsts up.seconds next in
+      let number = next_number pairs sorted start end (length nodes) p up.firsts up.seconds next in
+      record {
+        few = rw longer (omega (arith, inside));
+        made = rw longer made_next;
+        form = list_all-append is_canonical nodes (node ∷ []) ∙ ap₂ (λ a b. a && (b && true)) up.form canonical;
+        as_many = as_many ∙ up.as_many;
+        numbers = rw longer numbers_next;
+        firsts = rw longer (reached_next pairs (numbered_starts pairs) (starts_are_ends pairs sorted) p start next_start (length nodes) there number up.firsts first);
+        seconds = rw longer (reached_next pairs (sorted_ends_of pairs) (seconds_are_ends pairs) p end next_end (length nodes) there number up.seconds second);
+      }

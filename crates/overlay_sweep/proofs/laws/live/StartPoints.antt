@@ -55,7 +55,7 @@ abbrev listed_way : ℕ × WholeSegment → WholeWay
 listed_way e = record { index = e.0; pair = e.1.pair }
 
 -- one element more of the part of a list from a place on
-take_drop-more : {Y : Type 0} (ys : List Y) (i at : ℕ) (y : Y) → i ≤ at → at < length ys → get_or ys at y ≡ y → take ((at + 1) - i) (drop i ys) ≡ take (at - i) (drop i ys) ++ y ∷ []
+pub take_drop-more : {Y : Type 0} (ys : List Y) (i at : ℕ) (y : Y) → i ≤ at → at < length ys → get_or ys at y ≡ y → take ((at + 1) - i) (drop i ys) ≡ take (at - i) (drop i ys) ++ y ∷ []
 take_drop-more ys i at y order h here =
     let left : at - i < length (drop i ys) = rw length-drop (omega (arith, h, order)) in
     let back : i + (at - i) ≡ at = omega (arith, order) in
