@@ -93,7 +93,7 @@ impl<C: WindingCount, I: OverlayInt> ScanRow<C, I> {
         let mut reach = 8_usize;
         while low < high {
             let middle = low + (high - low) / 2;
-            let entry = self.entries[middle];
+            let entry = &self.entries[middle];
             if !entry.lasts_past(x) {
                 self.entries.remove(middle);
                 high -= 1;

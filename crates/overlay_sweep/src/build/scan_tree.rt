@@ -103,7 +103,7 @@ impl<C: WindingCount, I: OverlayInt> ScanTree<C, I> {
                 is_stopped: false,
             };
         }
-        let entry = self.entries[at];
+        let entry = &self.entries[at];
         if !entry.lasts_past(x) {
             return Descent {
                 top: self.shape.remove_top(at),

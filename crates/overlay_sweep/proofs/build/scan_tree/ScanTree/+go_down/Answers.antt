@@ -22,8 +22,8 @@ entry_within at few many e h = omega (arith, e, h)
 pub returns-then-at-eq-NONE-clause-placed : goal.returns-then-at-eq-NONE-clause-placed
 returns-then-at-eq-NONE-clause-placed g t c = λ is m. placed_nowhere _ _ _ _ _ _ c.if-at-eq-NONE.true m
 
-pub index-requires : goal.index-requires
-index-requires g t c = rw c.args.self.now.entries.ok.0 (entry_within _ _ _ c.requires.same_length (down_within _ _ _ c.requires.down c.if-at-eq-NONE.false))
+pub index-entry-requires : goal.index-entry-requires
+index-entry-requires g t c = rw c.args.self.now.entries.ok.0 (entry_within _ _ _ c.requires.same_length (down_within _ _ _ c.requires.down c.if-at-eq-NONE.false))
 
 pub node-node-requires : goal.node-node-requires
 node-node-requires g t c = down_within _ _ _ c.requires.down c.if-at-eq-NONE.false
@@ -31,7 +31,7 @@ node-node-requires g t c = down_within _ _ _ c.requires.down c.if-at-eq-NONE.fal
 pub returns-then-not-lasts_past-clause-stopped : goal.returns-then-not-lasts_past-clause-stopped
 returns-then-not-lasts_past-clause-stopped g t c = λ is m.
     stopped_here _ _ _ _ _ _ _
-    (lasts_is entry_of c.args.self.now.entries.items (g.I.OverlayInt.whole c.args.x) c.args.at c.index.result.now false (entry_within _ _ _ c.requires.same_length (down_within _ _ _ m c.if-at-eq-NONE.false)) c.index.ensures (sym c.lasts_past.ensures ∙ c.if-not-lasts_past.true))
+    (lasts_is entry_of c.args.self.now.entries.items (g.I.OverlayInt.whole c.args.x) c.args.at c.index-entry.result.now false (entry_within _ _ _ c.requires.same_length (down_within _ _ _ m c.if-at-eq-NONE.false)) c.index-entry.ensures (sym c.lasts_past.ensures ∙ c.if-not-lasts_past.true))
     (c.remove_top.ensures m.sound)
 
 pub go_down-below-requires : goal.go_down-below-requires
@@ -46,7 +46,7 @@ pub rejoin-top-requires-clause-joinable : goal.rejoin-top-requires-clause-joinab
 rejoin-top-requires-clause-joinable g t c =
     either c.go_down-below.result.is_stopped
     (λ is. right_stopped_joinable c.args.self.now.shape.nodes.items c.args.at c.args.new c.requires.down c.if-at-eq-NONE.false c.node-node.result c.node-node.ensures (lasts_past (g.I.OverlayInt.whole c.args.x) (entries_of c.args.self.now.entries.items)) c.go_down-below.new.self.shape.nodes.items c.go_down-below.result.top (c.go_down-below.ensures.stopped is (right_may c.args.self.now.shape.nodes.items c.args.at c.args.new c.requires.down c.if-at-eq-NONE.false c.node-node.result c.node-node.ensures)))
-    (λ is. right_placed_joinable c.args.self.now.shape.nodes.items c.args.at c.args.new c.requires.down c.if-at-eq-NONE.false c.node-node.result c.node-node.ensures (lasts_past (g.I.OverlayInt.whole c.args.x) (entries_of c.args.self.now.entries.items)) (λ i. stands_before g.I.OverlayInt.whole c.args.place.now (segment_at (entries_of c.args.self.now.entries.items) i).pair) c.go_down-below.new.self.shape.nodes.items c.args.given c.go_down-below.result.last c.go_down-below.result.top (lasts_is entry_of c.args.self.now.entries.items (g.I.OverlayInt.whole c.args.x) c.args.at c.index.result.now true (entry_within _ _ _ c.requires.same_length (down_within _ _ _ c.requires.down c.if-at-eq-NONE.false)) c.index.ensures (sym c.lasts_past.ensures ∙ c.if-not-lasts_past.false)) (stands_is entry_of c.args.self.now.entries.items (stands_before g.I.OverlayInt.whole c.args.place.now) c.args.at c.index.result.now true (entry_within _ _ _ c.requires.same_length (down_within _ _ _ c.requires.down c.if-at-eq-NONE.false)) c.index.ensures (sym c.is_before.ensures.value ∙ c.if-is_before.true)) (c.go_down-below.ensures.placed is (right_may c.args.self.now.shape.nodes.items c.args.at c.args.new c.requires.down c.if-at-eq-NONE.false c.node-node.result c.node-node.ensures)))
+    (λ is. right_placed_joinable c.args.self.now.shape.nodes.items c.args.at c.args.new c.requires.down c.if-at-eq-NONE.false c.node-node.result c.node-node.ensures (lasts_past (g.I.OverlayInt.whole c.args.x) (entries_of c.args.self.now.entries.items)) (λ i. stands_before g.I.OverlayInt.whole c.args.place.now (segment_at (entries_of c.args.self.now.entries.items) i).pair) c.go_down-below.new.self.shape.nodes.items c.args.given c.go_down-below.result.last c.go_down-below.result.top (lasts_is entry_of c.args.self.now.entries.items (g.I.OverlayInt.whole c.args.x) c.args.at c.index-entry.result.now true (entry_within _ _ _ c.requires.same_length (down_within _ _ _ c.requires.down c.if-at-eq-NONE.false)) c.index-entry.ensures (sym c.lasts_past.ensures ∙ c.if-not-lasts_past.false)) (stands_is entry_of c.args.self.now.entries.items (stands_before g.I.OverlayInt.whole c.args.place.now) c.args.at c.index-entry.result.now true (entry_within _ _ _ c.requires.same_length (down_within _ _ _ c.requires.down c.if-at-eq-NONE.false)) c.index-entry.ensures (sym c.is_before.ensures.value ∙ c.if-is_before.true)) (c.go_down-below.ensures.placed is (right_may c.args.self.now.shape.nodes.items c.args.at c.args.new c.requires.down c.if-at-eq-NONE.false c.node-node.result c.node-node.ensures)))
 
 pub returns-then-is_before-clause-compared : goal.returns-then-is_before-clause-compared
 returns-then-is_before-clause-compared g t c = λ m. omega (arith, right_lower c.args.self.now.shape.nodes.items c.args.at c.args.new m c.if-at-eq-NONE.false c.node-node.result c.node-node.ensures, c.is_before.ensures.compared, c.go_down-below.ensures.compared (right_may c.args.self.now.shape.nodes.items c.args.at c.args.new m c.if-at-eq-NONE.false c.node-node.result c.node-node.ensures))
@@ -58,14 +58,14 @@ returns-then-is_before-clause-stopped g t c = λ is m.
 
 pub returns-then-is_before-clause-placed : goal.returns-then-is_before-clause-placed
 returns-then-is_before-clause-placed g t c = λ is m.
-    right_placed c.args.self.now.shape.nodes.items c.args.at c.args.new m c.if-at-eq-NONE.false c.node-node.result c.node-node.ensures (lasts_past (g.I.OverlayInt.whole c.args.x) (entries_of c.args.self.now.entries.items)) (λ i. stands_before g.I.OverlayInt.whole c.args.place.now (segment_at (entries_of c.args.self.now.entries.items) i).pair) c.go_down-below.new.self.shape.nodes.items c.args.given c.go_down-below.result.last c.go_down-below.result.top (lasts_is entry_of c.args.self.now.entries.items (g.I.OverlayInt.whole c.args.x) c.args.at c.index.result.now true (entry_within _ _ _ c.requires.same_length (down_within _ _ _ m c.if-at-eq-NONE.false)) c.index.ensures (sym c.lasts_past.ensures ∙ c.if-not-lasts_past.false)) (stands_is entry_of c.args.self.now.entries.items (stands_before g.I.OverlayInt.whole c.args.place.now) c.args.at c.index.result.now true (entry_within _ _ _ c.requires.same_length (down_within _ _ _ m c.if-at-eq-NONE.false)) c.index.ensures (sym c.is_before.ensures.value ∙ c.if-is_before.true)) (c.go_down-below.ensures.placed is (right_may c.args.self.now.shape.nodes.items c.args.at c.args.new m c.if-at-eq-NONE.false c.node-node.result c.node-node.ensures)) c.rejoin-top.new.self.nodes.items c.rejoin-top.result
-    (c.rejoin-top.ensures.joined (right_placed_joinable c.args.self.now.shape.nodes.items c.args.at c.args.new m c.if-at-eq-NONE.false c.node-node.result c.node-node.ensures (lasts_past (g.I.OverlayInt.whole c.args.x) (entries_of c.args.self.now.entries.items)) (λ i. stands_before g.I.OverlayInt.whole c.args.place.now (segment_at (entries_of c.args.self.now.entries.items) i).pair) c.go_down-below.new.self.shape.nodes.items c.args.given c.go_down-below.result.last c.go_down-below.result.top (lasts_is entry_of c.args.self.now.entries.items (g.I.OverlayInt.whole c.args.x) c.args.at c.index.result.now true (entry_within _ _ _ c.requires.same_length (down_within _ _ _ m c.if-at-eq-NONE.false)) c.index.ensures (sym c.lasts_past.ensures ∙ c.if-not-lasts_past.false)) (stands_is entry_of c.args.self.now.entries.items (stands_before g.I.OverlayInt.whole c.args.place.now) c.args.at c.index.result.now true (entry_within _ _ _ c.requires.same_length (down_within _ _ _ m c.if-at-eq-NONE.false)) c.index.ensures (sym c.is_before.ensures.value ∙ c.if-is_before.true)) (c.go_down-below.ensures.placed is (right_may c.args.self.now.shape.nodes.items c.args.at c.args.new m c.if-at-eq-NONE.false c.node-node.result c.node-node.ensures))))
+    right_placed c.args.self.now.shape.nodes.items c.args.at c.args.new m c.if-at-eq-NONE.false c.node-node.result c.node-node.ensures (lasts_past (g.I.OverlayInt.whole c.args.x) (entries_of c.args.self.now.entries.items)) (λ i. stands_before g.I.OverlayInt.whole c.args.place.now (segment_at (entries_of c.args.self.now.entries.items) i).pair) c.go_down-below.new.self.shape.nodes.items c.args.given c.go_down-below.result.last c.go_down-below.result.top (lasts_is entry_of c.args.self.now.entries.items (g.I.OverlayInt.whole c.args.x) c.args.at c.index-entry.result.now true (entry_within _ _ _ c.requires.same_length (down_within _ _ _ m c.if-at-eq-NONE.false)) c.index-entry.ensures (sym c.lasts_past.ensures ∙ c.if-not-lasts_past.false)) (stands_is entry_of c.args.self.now.entries.items (stands_before g.I.OverlayInt.whole c.args.place.now) c.args.at c.index-entry.result.now true (entry_within _ _ _ c.requires.same_length (down_within _ _ _ m c.if-at-eq-NONE.false)) c.index-entry.ensures (sym c.is_before.ensures.value ∙ c.if-is_before.true)) (c.go_down-below.ensures.placed is (right_may c.args.self.now.shape.nodes.items c.args.at c.args.new m c.if-at-eq-NONE.false c.node-node.result c.node-node.ensures)) c.rejoin-top.new.self.nodes.items c.rejoin-top.result
+    (c.rejoin-top.ensures.joined (right_placed_joinable c.args.self.now.shape.nodes.items c.args.at c.args.new m c.if-at-eq-NONE.false c.node-node.result c.node-node.ensures (lasts_past (g.I.OverlayInt.whole c.args.x) (entries_of c.args.self.now.entries.items)) (λ i. stands_before g.I.OverlayInt.whole c.args.place.now (segment_at (entries_of c.args.self.now.entries.items) i).pair) c.go_down-below.new.self.shape.nodes.items c.args.given c.go_down-below.result.last c.go_down-below.result.top (lasts_is entry_of c.args.self.now.entries.items (g.I.OverlayInt.whole c.args.x) c.args.at c.index-entry.result.now true (entry_within _ _ _ c.requires.same_length (down_within _ _ _ m c.if-at-eq-NONE.false)) c.index-entry.ensures (sym c.lasts_past.ensures ∙ c.if-not-lasts_past.false)) (stands_is entry_of c.args.self.now.entries.items (stands_before g.I.OverlayInt.whole c.args.place.now) c.args.at c.index-entry.result.now true (entry_within _ _ _ c.requires.same_length (down_within _ _ _ m c.if-at-eq-NONE.false)) c.index-entry.ensures (sym c.is_before.ensures.value ∙ c.if-is_before.true)) (c.go_down-below.ensures.placed is (right_may c.args.self.now.shape.nodes.items c.args.at c.args.new m c.if-at-eq-NONE.false c.node-node.result c.node-node.ensures))))
 
 pub rejoin-top-requires-else-is_before-clause-joinable : goal.rejoin-top-requires-else-is_before-clause-joinable
 rejoin-top-requires-else-is_before-clause-joinable g t c =
     either c.go_down-below-else-is_before.result.is_stopped
     (λ is. left_stopped_joinable c.args.self.now.shape.nodes.items c.args.at c.args.new c.requires.down c.if-at-eq-NONE.false c.node-node.result c.node-node.ensures (lasts_past (g.I.OverlayInt.whole c.args.x) (entries_of c.args.self.now.entries.items)) c.go_down-below-else-is_before.new.self.shape.nodes.items c.go_down-below-else-is_before.result.top (c.go_down-below-else-is_before.ensures.stopped is (left_may c.args.self.now.shape.nodes.items c.args.at c.args.new c.requires.down c.if-at-eq-NONE.false c.node-node.result c.node-node.ensures)))
-    (λ is. left_placed_joinable c.args.self.now.shape.nodes.items c.args.at c.args.new c.requires.down c.if-at-eq-NONE.false c.node-node.result c.node-node.ensures (lasts_past (g.I.OverlayInt.whole c.args.x) (entries_of c.args.self.now.entries.items)) (λ i. stands_before g.I.OverlayInt.whole c.args.place.now (segment_at (entries_of c.args.self.now.entries.items) i).pair) c.go_down-below-else-is_before.new.self.shape.nodes.items c.args.given c.go_down-below-else-is_before.result.last c.go_down-below-else-is_before.result.top (lasts_is entry_of c.args.self.now.entries.items (g.I.OverlayInt.whole c.args.x) c.args.at c.index.result.now true (entry_within _ _ _ c.requires.same_length (down_within _ _ _ c.requires.down c.if-at-eq-NONE.false)) c.index.ensures (sym c.lasts_past.ensures ∙ c.if-not-lasts_past.false)) (stands_is entry_of c.args.self.now.entries.items (stands_before g.I.OverlayInt.whole c.args.place.now) c.args.at c.index.result.now false (entry_within _ _ _ c.requires.same_length (down_within _ _ _ c.requires.down c.if-at-eq-NONE.false)) c.index.ensures (sym c.is_before.ensures.value ∙ c.if-is_before.false)) (c.go_down-below-else-is_before.ensures.placed is (left_may c.args.self.now.shape.nodes.items c.args.at c.args.new c.requires.down c.if-at-eq-NONE.false c.node-node.result c.node-node.ensures)))
+    (λ is. left_placed_joinable c.args.self.now.shape.nodes.items c.args.at c.args.new c.requires.down c.if-at-eq-NONE.false c.node-node.result c.node-node.ensures (lasts_past (g.I.OverlayInt.whole c.args.x) (entries_of c.args.self.now.entries.items)) (λ i. stands_before g.I.OverlayInt.whole c.args.place.now (segment_at (entries_of c.args.self.now.entries.items) i).pair) c.go_down-below-else-is_before.new.self.shape.nodes.items c.args.given c.go_down-below-else-is_before.result.last c.go_down-below-else-is_before.result.top (lasts_is entry_of c.args.self.now.entries.items (g.I.OverlayInt.whole c.args.x) c.args.at c.index-entry.result.now true (entry_within _ _ _ c.requires.same_length (down_within _ _ _ c.requires.down c.if-at-eq-NONE.false)) c.index-entry.ensures (sym c.lasts_past.ensures ∙ c.if-not-lasts_past.false)) (stands_is entry_of c.args.self.now.entries.items (stands_before g.I.OverlayInt.whole c.args.place.now) c.args.at c.index-entry.result.now false (entry_within _ _ _ c.requires.same_length (down_within _ _ _ c.requires.down c.if-at-eq-NONE.false)) c.index-entry.ensures (sym c.is_before.ensures.value ∙ c.if-is_before.false)) (c.go_down-below-else-is_before.ensures.placed is (left_may c.args.self.now.shape.nodes.items c.args.at c.args.new c.requires.down c.if-at-eq-NONE.false c.node-node.result c.node-node.ensures)))
 
 pub returns-else-is_before-clause-compared : goal.returns-else-is_before-clause-compared
 returns-else-is_before-clause-compared g t c = λ m. omega (arith, left_lower c.args.self.now.shape.nodes.items c.args.at c.args.new m c.if-at-eq-NONE.false c.node-node.result c.node-node.ensures, c.is_before.ensures.compared, c.go_down-below-else-is_before.ensures.compared (left_may c.args.self.now.shape.nodes.items c.args.at c.args.new m c.if-at-eq-NONE.false c.node-node.result c.node-node.ensures))
@@ -77,8 +77,8 @@ returns-else-is_before-clause-stopped g t c = λ is m.
 
 pub returns-else-is_before-clause-placed : goal.returns-else-is_before-clause-placed
 returns-else-is_before-clause-placed g t c = λ is m.
-    left_placed c.args.self.now.shape.nodes.items c.args.at c.args.new m c.if-at-eq-NONE.false c.node-node.result c.node-node.ensures (lasts_past (g.I.OverlayInt.whole c.args.x) (entries_of c.args.self.now.entries.items)) (λ i. stands_before g.I.OverlayInt.whole c.args.place.now (segment_at (entries_of c.args.self.now.entries.items) i).pair) c.go_down-below-else-is_before.new.self.shape.nodes.items c.args.given c.go_down-below-else-is_before.result.last c.go_down-below-else-is_before.result.top (lasts_is entry_of c.args.self.now.entries.items (g.I.OverlayInt.whole c.args.x) c.args.at c.index.result.now true (entry_within _ _ _ c.requires.same_length (down_within _ _ _ m c.if-at-eq-NONE.false)) c.index.ensures (sym c.lasts_past.ensures ∙ c.if-not-lasts_past.false)) (stands_is entry_of c.args.self.now.entries.items (stands_before g.I.OverlayInt.whole c.args.place.now) c.args.at c.index.result.now false (entry_within _ _ _ c.requires.same_length (down_within _ _ _ m c.if-at-eq-NONE.false)) c.index.ensures (sym c.is_before.ensures.value ∙ c.if-is_before.false)) (c.go_down-below-else-is_before.ensures.placed is (left_may c.args.self.now.shape.nodes.items c.args.at c.args.new m c.if-at-eq-NONE.false c.node-node.result c.node-node.ensures)) c.rejoin-top-else-is_before.new.self.nodes.items c.rejoin-top-else-is_before.result
-    (c.rejoin-top-else-is_before.ensures.joined (left_placed_joinable c.args.self.now.shape.nodes.items c.args.at c.args.new m c.if-at-eq-NONE.false c.node-node.result c.node-node.ensures (lasts_past (g.I.OverlayInt.whole c.args.x) (entries_of c.args.self.now.entries.items)) (λ i. stands_before g.I.OverlayInt.whole c.args.place.now (segment_at (entries_of c.args.self.now.entries.items) i).pair) c.go_down-below-else-is_before.new.self.shape.nodes.items c.args.given c.go_down-below-else-is_before.result.last c.go_down-below-else-is_before.result.top (lasts_is entry_of c.args.self.now.entries.items (g.I.OverlayInt.whole c.args.x) c.args.at c.index.result.now true (entry_within _ _ _ c.requires.same_length (down_within _ _ _ m c.if-at-eq-NONE.false)) c.index.ensures (sym c.lasts_past.ensures ∙ c.if-not-lasts_past.false)) (stands_is entry_of c.args.self.now.entries.items (stands_before g.I.OverlayInt.whole c.args.place.now) c.args.at c.index.result.now false (entry_within _ _ _ c.requires.same_length (down_within _ _ _ m c.if-at-eq-NONE.false)) c.index.ensures (sym c.is_before.ensures.value ∙ c.if-is_before.false)) (c.go_down-below-else-is_before.ensures.placed is (left_may c.args.self.now.shape.nodes.items c.args.at c.args.new m c.if-at-eq-NONE.false c.node-node.result c.node-node.ensures))))
+    left_placed c.args.self.now.shape.nodes.items c.args.at c.args.new m c.if-at-eq-NONE.false c.node-node.result c.node-node.ensures (lasts_past (g.I.OverlayInt.whole c.args.x) (entries_of c.args.self.now.entries.items)) (λ i. stands_before g.I.OverlayInt.whole c.args.place.now (segment_at (entries_of c.args.self.now.entries.items) i).pair) c.go_down-below-else-is_before.new.self.shape.nodes.items c.args.given c.go_down-below-else-is_before.result.last c.go_down-below-else-is_before.result.top (lasts_is entry_of c.args.self.now.entries.items (g.I.OverlayInt.whole c.args.x) c.args.at c.index-entry.result.now true (entry_within _ _ _ c.requires.same_length (down_within _ _ _ m c.if-at-eq-NONE.false)) c.index-entry.ensures (sym c.lasts_past.ensures ∙ c.if-not-lasts_past.false)) (stands_is entry_of c.args.self.now.entries.items (stands_before g.I.OverlayInt.whole c.args.place.now) c.args.at c.index-entry.result.now false (entry_within _ _ _ c.requires.same_length (down_within _ _ _ m c.if-at-eq-NONE.false)) c.index-entry.ensures (sym c.is_before.ensures.value ∙ c.if-is_before.false)) (c.go_down-below-else-is_before.ensures.placed is (left_may c.args.self.now.shape.nodes.items c.args.at c.args.new m c.if-at-eq-NONE.false c.node-node.result c.node-node.ensures)) c.rejoin-top-else-is_before.new.self.nodes.items c.rejoin-top-else-is_before.result
+    (c.rejoin-top-else-is_before.ensures.joined (left_placed_joinable c.args.self.now.shape.nodes.items c.args.at c.args.new m c.if-at-eq-NONE.false c.node-node.result c.node-node.ensures (lasts_past (g.I.OverlayInt.whole c.args.x) (entries_of c.args.self.now.entries.items)) (λ i. stands_before g.I.OverlayInt.whole c.args.place.now (segment_at (entries_of c.args.self.now.entries.items) i).pair) c.go_down-below-else-is_before.new.self.shape.nodes.items c.args.given c.go_down-below-else-is_before.result.last c.go_down-below-else-is_before.result.top (lasts_is entry_of c.args.self.now.entries.items (g.I.OverlayInt.whole c.args.x) c.args.at c.index-entry.result.now true (entry_within _ _ _ c.requires.same_length (down_within _ _ _ m c.if-at-eq-NONE.false)) c.index-entry.ensures (sym c.lasts_past.ensures ∙ c.if-not-lasts_past.false)) (stands_is entry_of c.args.self.now.entries.items (stands_before g.I.OverlayInt.whole c.args.place.now) c.args.at c.index-entry.result.now false (entry_within _ _ _ c.requires.same_length (down_within _ _ _ m c.if-at-eq-NONE.false)) c.index-entry.ensures (sym c.is_before.ensures.value ∙ c.if-is_before.false)) (c.go_down-below-else-is_before.ensures.placed is (left_may c.args.self.now.shape.nodes.items c.args.at c.args.new m c.if-at-eq-NONE.false c.node-node.result c.node-node.ensures))))
 
 pub returns-then-at-eq-NONE-clause-reached : goal.returns-then-at-eq-NONE-clause-reached
 returns-then-at-eq-NONE-clause-reached g t c = λ is m. empty_reached _ _ _ m c.if-at-eq-NONE.true _
