@@ -18,6 +18,7 @@ impl<I: OverlayInt> Place<I> {
     ghost use Rattle.overlay_sweep.specs.steps.PlaceOf.{IsPlaceInRange, stands_before};
 
     /// Whether a segment stands before the place.
+    #[inline(always)]
     pub(crate) fn is_after(&self, segment: &VSegment<I>) -> bool
         requires place { IsPlaceInRange I.whole I.MIN_COORD I.MAX_COORD self.now }
         requires segment { IsVSegmentInRange I.whole I.MIN_COORD I.MAX_COORD segment.now }
