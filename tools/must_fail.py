@@ -214,15 +214,15 @@ def edits_by_crate(folder, names):
     return found
 
 
-def size_of(folder):
-    """Returns how many bytes the sources, definitions and proofs of a crate have together: a check takes longer for more."""
-    return sum(path.stat().st_size for part in ("src", "specs", "proofs") for path in pathlib.Path(folder, part).rglob("*.*"))
+def seconds_of(trial, edits):
+    """Returns about how long a round takes beside what each takes: ten seconds an edit, and one for each 10 KB of the crate."""
+    texts = [path for part in ("src", "specs", "proofs") for path in pathlib.Path(trial.crate.folder, part).rglob("*.*")]
+    return 10 * len(edits) + sum(path.stat().st_size for path in texts) / 10_000
 
 
 def try_all(trials, start):
     """Tries all edits in rounds, those first that take longest, and by itself each edit whose goal was not seen in its round."""
     rounds = [(trial, edits) for trial in trials for edits in rounds_of(trial.edits)]
-    sizes = {trial: size_of(trial.crate.folder) for trial in trials}
 
     def try_one(trial, edits):
         begun = time.time()
@@ -234,7 +234,7 @@ def try_all(trials, start):
             tasks.extend(lanes.submit(try_one, trial, [edit]) for edit in edits if not edit.refused_by)
 
     with ThreadPoolExecutor(run.processors()) as lanes:
-        rounds.sort(key=lambda it: (-len(it[1]) // 10, -sizes[it[0]]))
+        rounds.sort(key=lambda it: -seconds_of(*it))
         tasks = [lanes.submit(try_one, *task) for task in rounds]
         # a round that ends may add to the list
         for task in tasks:
