@@ -14,3 +14,4 @@ pub mod Ready
 pub mod GridRuns
 pub mod RunLooks
 pub mod Stores
+pub mod Skips

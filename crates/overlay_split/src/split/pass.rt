@@ -104,6 +104,10 @@ pub fn pass<C: WindingCount, I: OverlayInt, D: OverlayEdgeData<C>>(
             return Err(fault);
         }
     };
+    // a list without marks is as it was, sorted and joined
+    if !passed.has_marks {
+        return Ok(passed);
+    }
     join_with_store(list, store)?;
     Ok(passed)
 }
