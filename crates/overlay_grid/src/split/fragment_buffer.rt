@@ -18,10 +18,10 @@ use overlay_geometry::num::OverlayInt;
 use std::alloc::{AllocError, Global};
 
 /// How many comparisons a fragment are few: groups that need no more upward are not sorted from left to right to see
-/// whether that way needs fewer. Sorting costs about as much as this many comparisons.
-const FEW_LOOKS: u64 = 4;
+/// whether that way needs fewer. Two sorts and a count cost about as much as this many comparisons.
+const FEW_LOOKS: u64 = 12;
 
-const _: () = prove!(FEW_LOOKS == 4);
+const _: () = prove!(FEW_LOOKS == 12);
 
 /// The fragments of segments in the columns of a layout: one group for each column. It keeps its memory when cleared.
 #[derive(Drop)]
