@@ -125,7 +125,12 @@ impl<I: Width> Core<I> {
         let segments = &mut self.segments;
         let graph = split_and_build_overlay(splitter, builder, segments, &solver, fill_rule, rule)?;
         keep_links(graph.links(), &mut self.links)?;
-        keep_nodes(graph.nodes(), self.links.len(), &mut self.degrees, &mut self.indexes)?;
+        keep_nodes(
+            graph.nodes(),
+            self.links.len(),
+            &mut self.degrees,
+            &mut self.indexes,
+        )?;
         self.has_walks = walks && graph.has_even_nodes();
         if self.has_walks {
             let found = closed_walks(alloc, &graph)?;
@@ -161,7 +166,12 @@ impl<I: Width> Core<I> {
         let graph = built?;
         keep_links(graph.links(), &mut self.links)?;
         keep_tags(graph.links(), &mut self.link_data)?;
-        keep_nodes(graph.nodes(), self.links.len(), &mut self.degrees, &mut self.indexes)?;
+        keep_nodes(
+            graph.nodes(),
+            self.links.len(),
+            &mut self.degrees,
+            &mut self.indexes,
+        )?;
         self.has_walks = false;
         Ok(())
     }
@@ -202,7 +212,12 @@ impl<I: Width> Core<I> {
             .builder
             .build_boolean_all(fill_rule, &solver, &self.segments)?;
         keep_links(graph.links(), &mut self.links)?;
-        keep_nodes(graph.nodes(), self.links.len(), &mut self.degrees, &mut self.indexes)?;
+        keep_nodes(
+            graph.nodes(),
+            self.links.len(),
+            &mut self.degrees,
+            &mut self.indexes,
+        )?;
         Ok(())
     }
 
