@@ -283,7 +283,8 @@ impl Drop for Engine {
     }
 }
 
-/// Fills a list with the elements that a call writes from a pointer on, in place of what the list had.
+/// Fills a list with the elements that a call writes from a pointer on, in place of what the list had. The call gets memory
+/// that nothing was written to, where any bytes are numbers of its records.
 ///
 /// # Safety
 ///

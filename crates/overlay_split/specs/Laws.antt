@@ -1,8 +1,8 @@
 -- Laws over the definitions, each a statement that is proved once and named by a contract.
-use Rattle.std.specs.Prelude.{◌≡◌, ◌<◌, ◌≤◌, ℕ, ◌*◌, ℤ, ◌-ℤ◌, ◌*ℤ◌, ◌||◌, IsTrue, ◌+◌, ◌-◌, neg_ℤ, Bool, false, IsFalse, List, All, Contains, IsPermutation, length, min, nat_lt, ◌^◌, ◌/◌}
+use Rattle.std.specs.Prelude.{◌≡◌, ◌<◌, ◌≤◌, ℕ, ◌*◌, ℤ, ◌-ℤ◌, ◌*ℤ◌, ◌||◌, IsTrue, ◌+◌, ◌-◌, neg_ℤ, Bool, false, IsFalse, ◌&&◌, ◌⊎◌, if◌then◌else◌, List, [], filter, All, Contains, IsPermutation, length, min, nat_lt, ◌^◌, ◌/◌}
 use Rattle.std.specs.List.{list_all}
 use Rattle.overlay_geometry.specs.Points.{Point, Pair, is_vertical, is_horizontal, is_within_box_of}
-use Rattle.overlay_geometry.specs.Meeting.{do_cross}
+use Rattle.overlay_geometry.specs.Meeting.{do_cross, are_apart}
 use Rattle.overlay_base.specs.Windings.{Winding, inverse}
 use Rattle.overlay_base.specs.Segments.{WholeSegment, pairs, ends, is_map, are_ordered, are_polygons}
 use Rattle.overlay_base.specs.Sums.{IsLinear, weighed}
@@ -14,7 +14,7 @@ use Rattle.overlay_intersections.specs.Crossing.{is_exact, snapping_point, settl
 use Rattle.overlay_intersections.specs.Marks.{Placing, ordered_mark, settling}
 use Rattle.overlay_split.specs.Path.{pieces}
 use Rattle.overlay_split.specs.Pass.{cut, pass}
-use Rattle.overlay_intersections.specs.PassMarks.{is_rounded, mark_count}
+use Rattle.overlay_intersections.specs.PassMarks.{marks_on, is_rounded, mark_count}
 use Rattle.overlay_split.specs.Run.{Settings, IsPassCount, IsRun, LeavesRange, after_passes}
 use Rattle.overlay_split.specs.Potential.{potential}
 use Rattle.overlay_split.specs.ExactInput.{is_exact_input, KeepsCounts, IsExactAnswer}
@@ -71,6 +71,30 @@ abbrev pub PlanarPassIsUnchanged : Type 0
 PlanarPassIsUnchanged =
     (placing : Placing) (segments : List WholeSegment) → IsTrue (is_map segments) → IsTrue (is_planar segments) →
     (pass placing segments ≡ segments) × (mark_count placing segments ≡ 0) × IsFalse (is_rounded segments)
+
+-- Two segments that a pass does not mark are apart, so they are in each later pass, as long as neither is marked.
+abbrev pub UnmarkedAreApart : Type 0
+UnmarkedAreApart =
+    (placing : Placing) (segments : List WholeSegment) (s t : Pair) → Contains (pairs segments) s → Contains (pairs segments) t →
+    marks_on placing segments s ≡ [] → marks_on placing segments t ≡ [] → IsTrue (are_apart s t)
+
+-- an end of the pair is where a pass marks a segment
+abbrev pub IsAtMark : Placing → List WholeSegment → Pair → Type 0
+IsAtMark placing segments p = (s : Pair) × Contains (pairs segments) s × (Contains (marks_on placing segments s) p.a ⊎ Contains (marks_on placing segments s) p.b)
+
+-- A pair that a pass leaves is an old one that it does not mark, or has an end at a mark.
+abbrev pub PassHasOldOrMarked : Type 0
+PassHasOldOrMarked =
+    (placing : Placing) (segments : List WholeSegment) → IsTrue (is_map segments) → (p : Pair) → Contains (pairs (pass placing segments)) p →
+    (Contains (pairs segments) p × (marks_on placing segments p ≡ [])) ⊎ IsAtMark placing segments p
+
+-- The marks of a list are those of a part of it, if every two segments that are not both in the part are apart. So is whether it rounds.
+abbrev pub PartHasTheMarks : Type 0
+PartHasTheMarks =
+    (placing : Placing) (segments : List WholeSegment) (keep : Pair → Bool) →
+    ((s t : Pair) → Contains (pairs segments) s → Contains (pairs segments) t → (keep s && keep t) ≡ false → IsTrue (are_apart s t)) →
+    ((s : Pair) → Contains (pairs segments) s → marks_on placing segments s ≡ (if keep s then marks_on placing (filter (λ u. keep u.pair) segments) s else []))
+    × (is_rounded segments ≡ is_rounded (filter (λ u. keep u.pair) segments))
 
 -- ---- runs
 

@@ -1,6 +1,6 @@
 -- What a call of the splitter leaves, by its solver, the splitter before and after, and the list before and
 -- after. The type of the list says how its coordinates are read, and of how many bits they are.
-use Rattle.std.specs.Prelude.{◌≡◌, ℕ, Bool, false, IsTrue, List, Option, Result, OnOk, Vec}
+use Rattle.std.specs.Prelude.{◌≡◌, Bool, false, IsTrue, Option, Result, OnOk, Vec}
 use Rattle.std.specs.List.{list_all}
 use Rattle.std.specs.Global.{Global}
 use Rattle.overlay_geometry.specs.Points.{Pair}

@@ -1,5 +1,7 @@
 -- Data, and the code of a pass and of a run.
 pub mod DataPasses
+pub mod UnmarkedPairs
+pub mod OldPairs
 pub mod DataInvariants
 pub mod StoppedRuns
 pub mod Columns

@@ -1,6 +1,6 @@
 // The laws of passes and of runs. Each function has an empty body, and its contract is proved for all whole numbers,
 // all lists and all hooks, whatever the engine.
-ghost use Rattle.overlay_split.specs.Laws.{NumbersAreOdd, PiecesTelescope, PassKeepsLosses, PassKeepsBalance, RunKeepsBalance, RunKeepsPolygons};
+ghost use Rattle.overlay_split.specs.Laws.{NumbersAreOdd, PiecesTelescope, PassKeepsLosses, PassKeepsBalance, RunKeepsBalance, RunKeepsPolygons, UnmarkedAreApart, PassHasOldOrMarked, PartHasTheMarks};
 ghost use Rattle.overlay_split.specs.Laws.{SettlingLowers, RunEnds, RunIsOne, ExactPassIsPlanar, PlanarPassIsUnchanged, RunIsPlanar, ArrangedIsUnchanged, ResultIsUnchanged};
 ghost use Rattle.overlay_split.specs.Laws.{RootIsMeant, RootOfPower, NearEndsAreEnough, DistancesAddUp, CrossingLiesOnBoth, MarkIsNear, PassStaysNear, PiecesStayNear, RunStaysNear, LinesAreKept, RunKeepsLines, ReachIsBounded, LastPassReachesNothing, ExactInputReachesNothing};
 ghost use Rattle.overlay_split.specs.Laws.{PassOnOneSide, JoinKeepsWinding, PassKeepsWinding, RunKeepsWinding, RunKeepsWindingNearLines, ExactInputKeepsWinding};
@@ -41,13 +41,17 @@ pub fn ending_laws()
 {}
 
 /// A pass that is not rounded leaves a planar arrangement, and what a run answers is one. Each pass leaves a planar
-/// arrangement as it is and marks nothing, and so does a run.
+/// arrangement as it is and marks nothing, and so does a run. Two segments that a pass does not mark are apart. The marks
+/// of a list are those of a part of it, where every pair that is not in the part is apart.
 pub fn planar_laws()
     ensures exact_pass { ExactPassIsPlanar }
     ensures planar_pass { PlanarPassIsUnchanged }
     ensures run { RunIsPlanar }
     ensures arranged { ArrangedIsUnchanged }
     ensures again { ResultIsUnchanged }
+    ensures unmarked { UnmarkedAreApart }
+    ensures old { PassHasOldOrMarked }
+    ensures part { PartHasTheMarks }
 {}
 
 /// No pass reaches outside the box round the ends of the given segments, joined.
