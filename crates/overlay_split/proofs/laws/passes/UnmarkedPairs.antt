@@ -3,8 +3,6 @@ use Rattle.std.proofs.Common.{Ordering, Less, Equal, Greater, ◌≡◌, ap, ap�
 use Rattle.std.specs.Prelude.{not, ◌&&◌, ◌||◌, if◌then◌else◌, filter, flat_map, Contains}
 use Rattle.std.specs.BTreeSet.{insert_key}
 use Rattle.std.specs.List.{list_any}
-
-
 use Rattle.std.proofs.lemmas.Bool.{cases_Bool, both_ways}
 use Rattle.overlay_geometry.specs.Points.{Point, Pair, point_cmp, is_end, is_strictly_inside}
 use Rattle.overlay_geometry.specs.Meeting.{do_cross, has_end_inside, are_apart}
