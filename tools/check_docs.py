@@ -4,7 +4,8 @@
     python3 tools/check_docs.py
 
 PROMISES names each edit of `must-fail/`, and in its last column only tests; DEFINITIONS names each file of `specs/`, ARCHITECTURE
-each source file. LEMMAS is what `tools/index_lemmas.py` writes. A link of a document leads to a file.
+each source file. LEMMAS is what `tools/index_lemmas.py` writes. A link of a document leads to a file. No contract of a public
+function of `i_overlay` or `overlay_contours` names a definition of `specs/steps`.
 """
 import os
 import re
@@ -75,6 +76,38 @@ def dead_links(files):
     return found
 
 
+def exported_modules():
+    """The names in the `pub use` items of `i_overlay`: those of modules are among them."""
+    text = "".join(read(f"crates/i_overlay/src/{it}") for it in sorted(os.listdir(f"{ROOT}/crates/i_overlay/src")) if it.endswith(".rt"))
+    return {word for item in re.findall(r"^ *pub use ([^;]*);", text, re.M) for word in re.findall(r"\b[a-z]\w*", item)}
+
+
+def contracts(text):
+    """The contracts of the public functions of a file, and of those of its public traits: from the name up to the body."""
+    lines, is_trait = text.split("\n"), False
+    for at, line in enumerate(lines):
+        if re.match(r"\S", line):
+            is_trait = bool(re.match(r"pub trait\b", line)) or (is_trait and line.startswith("where"))
+        if re.match(r" *pub (const )?fn\b" if not is_trait else r" *(pub )?(const )?fn\b", line):
+            last = r"( *\{\}?| *\).*\{|.*;)$"
+            end = at if re.search(r"[{};]$", line) else next(it for it in range(at, len(lines)) if re.match(last, lines[it]))
+            yield re.search(r"fn (\w+)", line)[1], "\n".join(lines[at : end + 1])
+
+
+def steps_in_public(files):
+    """The words of `specs/steps` in contracts of public functions of `i_overlay` and `overlay_contours`."""
+    exported, found = exported_modules(), []
+    for file in files:
+        is_exported = re.fullmatch(r"crates/(overlay_(?!c/|text)(\w+(?<!_tests)))/src/(\w+/)*\w+\.rt", file) and stem(file) in exported
+        if is_exported or re.fullmatch(r"crates/(i_overlay|overlay_contours)/src/(\w+/)*\w+\.rt", file):
+            text = read(file)
+            imports = re.findall(r"ghost use Rattle\.\w+\.specs\.steps\.[\w.]*\{([^}]*)\}", text)
+            steps = {it.split(" as ")[-1].strip() for names in imports for it in names.split(",")}
+            for name, contract in contracts(text):
+                found += [f"{file}: the contract of {name} rests on {it}, a step" for it in sorted(steps & set(re.findall(r"\w+", contract)))]
+    return found
+
+
 def stale_index():
     is_stale = read("docs/LEMMAS.md") != index_lemmas.index()
     return ["docs/LEMMAS.md is stale: run `python3 tools/index_lemmas.py`"] if is_stale else []
@@ -89,6 +122,7 @@ def main():
         *stale_index(),
         *tests_that_are_gone(files),
         *dead_links(files),
+        *steps_in_public(files),
     ]
     print(*found, sep="\n", end="\n" * bool(found))
     print(f"{len(found)} faults in documents")

@@ -32,6 +32,7 @@ RUNS = {
     "polygons": [
         ("rule=union", "polygons/squares.txt"),
         ("rule=difference", "polygons/letter.txt"),
+        ("shapes report rule=difference", "polygons/frame.txt"),
     ],
 }
 

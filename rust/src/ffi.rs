@@ -4,7 +4,7 @@
 //! A slice crosses as a pointer and a length; a `Global` takes no bytes, and does not cross. Beside each call, `SAFETY`
 //! names the conditions (`requires`) of the export and says why they hold.
 
-use crate::{DataSegment, IntContour, IntPoint, LineSegment, OverlayLink, Segment};
+use crate::{DataSegment, IntContour, IntPoint, IntShape, LineSegment, OverlayLink, Segment};
 
 /// The place of an engine: `Handle` of `crates/overlay_c`. Null where it is empty.
 #[derive(Debug)]
@@ -36,9 +36,31 @@ pub struct Sizes {
     pub walk_links: usize,
     pub contours: usize,
     pub contour_points: usize,
+    pub shapes: usize,
     pub has_walks: bool,
     pub has_changed: bool,
     pub passes: u64,
+}
+
+/// `WordsRecord` of `crates/overlay_c`: a number of 128 bits.
+#[repr(C)]
+pub struct Words {
+    pub low: u64,
+    pub high: u64,
+}
+
+impl Words {
+    /// The number.
+    pub fn number(&self) -> u128 {
+        u128::from(self.high) << 64 | u128::from(self.low)
+    }
+}
+
+/// `ReportRecord` of `crates/overlay_c`: what an overlay of contours reports of its run.
+#[repr(C)]
+pub struct Report {
+    pub passes: Words,
+    pub reach: Words,
 }
 
 /// `CrossRecord` of `crates/overlay_c`.
@@ -82,6 +104,8 @@ extern "C" {
     ) -> u8;
     fn overlay_c_add_contour(handle: &mut Handle, contour: *const IntPoint, contour_len: usize, shape: u8) -> u8;
     fn overlay_c_polygons(handle: &mut Handle, settings: &Settings, rule: u8) -> u8;
+    fn overlay_c_shapes(handle: &mut Handle, settings: &Settings, rule: u8) -> u8;
+    fn overlay_c_report(handle: &mut Handle) -> Report;
     fn overlay_c_clear(handle: &mut Handle);
     fn overlay_c_sizes(handle: &mut Handle) -> Sizes;
     fn overlay_c_segments(handle: &mut Handle, out: *mut Segment, out_len: usize);
@@ -109,6 +133,7 @@ extern "C" {
         points: *mut IntPoint,
         points_len: usize,
     );
+    fn overlay_c_shape_lengths(handle: &mut Handle, out: *mut usize, out_len: usize);
 }
 
 /// Where two segments meet. All coordinates have to be in range, and the ends of each segment have to differ; the
@@ -187,6 +212,18 @@ impl Engine {
         unsafe { overlay_c_polygons(&mut self.handle, settings, rule) }
     }
 
+    /// Overlays the contours that were added, in shapes. Returns a status.
+    pub fn shapes_of_polygons(&mut self, settings: &Settings, rule: u8) -> u8 {
+        // SAFETY: the handle is full. Nothing is required of codes.
+        unsafe { overlay_c_shapes(&mut self.handle, settings, rule) }
+    }
+
+    /// What the last overlay of contours reports of its run, if it was not refused.
+    pub fn report(&mut self) -> Report {
+        // SAFETY: the handle is full.
+        unsafe { overlay_c_report(&mut self.handle) }
+    }
+
     /// Drops the contours that were added.
     pub fn clear(&mut self) {
         // SAFETY: the handle is full.
@@ -254,7 +291,17 @@ impl Engine {
         }
     }
 
-    /// The contours of the last overlay of contours.
+    /// The shapes of the last overlay of contours, if it was in shapes; else none.
+    pub fn shapes(&mut self) -> Vec<IntShape> {
+        let len = self.sizes().shapes;
+        let mut lengths = Vec::new();
+        // SAFETY: the handle is full, and the slice has the `length` that the engine reports.
+        unsafe { fill(&mut lengths, len, |first| overlay_c_shape_lengths(&mut self.handle, first, len)) }
+        let mut contours = self.contours().into_iter();
+        lengths.into_iter().map(|length| contours.by_ref().take(length).collect()).collect()
+    }
+
+    /// The contours of the last overlay of contours, those of shapes shape by shape.
     pub fn contours(&mut self) -> Vec<IntContour> {
         let Sizes { contours, contour_points: count, .. } = self.sizes();
         let (mut lengths, mut points) = (Vec::new(), Vec::new());

@@ -18,7 +18,7 @@ pub use cross::{cross, CollinearMask, CrossResult, CrossType};
 pub use error::{Error, Fault, SegmentFault};
 pub use graph::{IdPoint, OverlayGraph, OverlayLink, OverlayNode, SegmentFill};
 pub use overlay::{Change, Overlay};
-pub use point::{square, Engine, IntContour, IntPoint, MAX_COORD, MIN_COORD};
+pub use point::{square, Engine, IntContour, IntPoint, IntShape, MAX_COORD, MIN_COORD};
 pub use rules::{ClipRule, FillRule, OverlayRule, RuleTable};
 pub use segment::{DataSegment, LineSegment, Segment, ShapeCountBoolean, ShapeType};
 pub use solver::{Precision, Solver, Strategy};

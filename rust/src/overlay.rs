@@ -2,8 +2,8 @@
 
 use crate::error::{fault_of, fault_of_data, fault_of_line, outcome, point_fault};
 use crate::{
-    ffi, ClipRule, DataSegment, Engine, Error, Fault, FillRule, IntContour, IntPoint, LineSegment, OverlayGraph,
-    OverlayLink, OverlayRule, Segment, ShapeType, Solver,
+    ffi, ClipRule, DataSegment, Engine, Error, Fault, FillRule, IntContour, IntPoint, IntShape, LineSegment,
+    OverlayGraph, OverlayLink, OverlayRule, Segment, ShapeType, Solver,
 };
 use std::fmt;
 
@@ -35,6 +35,9 @@ pub struct Overlay {
     width: Engine,
     /// How many contours of the subject and of the clip were added.
     contour_counts: [usize; 2],
+    /// What the last overlay of contours that was not refused reports.
+    passes: u128,
+    reach: u128,
     segments: Vec<Segment>,
     lines: Vec<LineSegment>,
     links: Vec<OverlayLink>,
@@ -76,6 +79,8 @@ impl Overlay {
             engine: ffi::Engine::new(snap_limit).ok_or(Error::Fault(Fault::Memory))?,
             width: Engine::I32,
             contour_counts: [0; 2],
+            passes: 0,
+            reach: 0,
             segments: Vec::new(),
             lines: Vec::new(),
             links: Vec::new(),
@@ -189,8 +194,90 @@ impl Overlay {
         solver: Solver,
     ) -> Result<Vec<IntContour>, Error> {
         let status = self.engine.polygons(&settings(solver, fill_rule, self.width), overlay_rule.code());
-        outcome(status, &[], |segment| fault_of(segment, Engine::I32))?;
+        self.keep_report(status)?;
         Ok(self.engine.contours())
+    }
+
+    /// The same overlay in shapes, by the solver `AUTO`: each an outer boundary, which runs counterclockwise, followed by
+    /// its holes, which run clockwise. No contour comes to a point twice, so each is a simple polygon, and around every
+    /// place of the plane at most one shape winds.
+    ///
+    /// The interior of each shape is connected: pieces that only touch in points are shapes of their own.
+    ///
+    /// Under a table that holds outside, the shapes are those of its complement, and run the other way. Pieces of it that
+    /// touch in points may be in one shape, and the first contour may be a hole that has the least point of the shape too.
+    ///
+    /// ```
+    /// use i_overlay_core::{square, FillRule, Overlay, OverlayRule, ShapeType};
+    ///
+    /// let mut overlay = Overlay::with_contours(&[square(0, 9).to_vec()], &[square(3, 6).to_vec()])?;
+    /// overlay.add_contour(&square(20, 22), ShapeType::Subject)?;
+    /// let shapes = overlay.overlay_shapes(OverlayRule::Difference, FillRule::NonZero)?;
+    /// assert_eq!(shapes.iter().map(Vec::len).collect::<Vec<_>>(), [2, 1]);
+    /// assert_eq!(shapes[1][0].len(), 4);
+    /// # Ok::<(), i_overlay_core::Error>(())
+    /// ```
+    pub fn overlay_shapes(&mut self, overlay_rule: OverlayRule, fill_rule: FillRule) -> Result<Vec<IntShape>, Error> {
+        self.overlay_shapes_with_solver(overlay_rule, fill_rule, Solver::AUTO)
+    }
+
+    /// The same by a solver.
+    ///
+    /// ```
+    /// use i_overlay_core::{square, FillRule, Overlay, OverlayRule, Solver};
+    ///
+    /// let mut overlay = Overlay::with_contours(&[square(0, 4).to_vec()], &[square(2, 6).to_vec()])?;
+    /// let found = overlay.overlay_shapes_with_solver(OverlayRule::Xor, FillRule::EvenOdd, Solver::LIST)?;
+    /// assert_eq!(found, overlay.overlay_shapes(OverlayRule::Xor, FillRule::EvenOdd)?);
+    /// # Ok::<(), i_overlay_core::Error>(())
+    /// ```
+    pub fn overlay_shapes_with_solver(
+        &mut self,
+        overlay_rule: OverlayRule,
+        fill_rule: FillRule,
+        solver: Solver,
+    ) -> Result<Vec<IntShape>, Error> {
+        let status = self.engine.shapes_of_polygons(&settings(solver, fill_rule, self.width), overlay_rule.code());
+        self.keep_report(status)?;
+        Ok(self.engine.shapes())
+    }
+
+    /// How many passes the last overlay of contours made that was not refused, in shapes or not; 0 at first.
+    ///
+    /// ```
+    /// use i_overlay_core::{square, FillRule, Overlay, OverlayRule};
+    ///
+    /// let mut overlay = Overlay::with_contours(&[square(0, 4).to_vec()], &[square(2, 6).to_vec()])?;
+    /// assert_eq!(overlay.passes(), 0);
+    /// overlay.overlay(OverlayRule::Union, FillRule::NonZero)?;
+    /// assert_eq!(overlay.passes(), 1);
+    /// # Ok::<(), i_overlay_core::Error>(())
+    /// ```
+    pub fn passes(&self) -> u128 {
+        self.passes
+    }
+
+    /// How far the passes of that overlay moved crossings at most, in `x` and in `y`, in halves of a unit; 0 at first.
+    ///
+    /// What the overlay returned is exact at every place that is farther than this, in `x` or in `y`, from all edges of
+    /// the contours that it was given: one shape, or all contours together, wind once around such a place where the rule
+    /// holds, and not at all elsewhere. It is 0 where no two of these edges cross at a point without whole coordinates.
+    ///
+    /// ```
+    /// use i_overlay_core::{square, FillRule, IntPoint, Overlay, OverlayRule, ShapeType};
+    ///
+    /// let mut overlay = Overlay::with_contours(&[square(0, 4).to_vec()], &[square(2, 6).to_vec()])?;
+    /// overlay.overlay_shapes(OverlayRule::Union, FillRule::NonZero)?;
+    /// assert_eq!(overlay.reach(), 0);
+    /// // the upper side crosses the right one of the first square at a height of 2 and two thirds
+    /// let corners = [(2, 2), (5, 2), (5, 3)].map(|(x, y)| IntPoint::new(x, y));
+    /// overlay.add_contour(&corners, ShapeType::Clip)?;
+    /// overlay.overlay_shapes(OverlayRule::Union, FillRule::NonZero)?;
+    /// assert!(overlay.reach() > 0);
+    /// # Ok::<(), i_overlay_core::Error>(())
+    /// ```
+    pub fn reach(&self) -> u128 {
+        self.reach
     }
 
     /// Drops the contours that were added. Buffers stay.
@@ -446,6 +533,15 @@ impl Overlay {
         let status = self.engine.clip(segments, &settings(solver, fill_rule, self.width), invert, boundary_included);
         outcome(status, segments, |segment| fault_of_line(segment, self.width))?;
         Ok(self.graph())
+    }
+
+    /// Takes over what an overlay of contours reports, where its status says that it was done.
+    fn keep_report(&mut self, status: u8) -> Result<(), Error> {
+        outcome(status, &[], |segment| fault_of(segment, Engine::I32))?;
+        let ffi::Report { passes, reach } = self.engine.report();
+        self.passes = passes.number();
+        self.reach = reach.number();
+        Ok(())
     }
 
     /// The engine's run.

@@ -69,6 +69,9 @@ impl Engine {
 /// A contour: each point is joined to the next one, and the last to the first.
 pub type IntContour = Vec<IntPoint>;
 
+/// A shape: its outer boundary, and then its holes.
+pub type IntShape = Vec<IntContour>;
+
 /// The corners of the square from `(low, low)` to `(high, high)`, counterclockwise.
 ///
 /// ```

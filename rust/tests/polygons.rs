@@ -58,6 +58,71 @@ fn areas_add_up() {
 }
 
 #[test]
+fn a_ring_and_an_island() {
+    let mut overlay = Overlay::with_contours(&[square(0, 9).to_vec()], &[square(3, 6).to_vec()]).unwrap();
+    overlay.add_contour(&square(4, 5), ShapeType::Subject).unwrap();
+    overlay.add_contour(&square(20, 22), ShapeType::Subject).unwrap();
+    // by even-odd the square in the clip is no part of the subject, so that it is one of the exclusive or
+    let shapes = overlay.overlay_shapes(OverlayRule::Xor, FillRule::EvenOdd).unwrap();
+    let areas: Vec<Vec<i64>> = shapes
+        .iter()
+        .map(|shape| shape.iter().map(|contour| doubled_area(std::slice::from_ref(contour)) / 2).collect())
+        .collect();
+    assert_eq!(areas, [vec![81, -9], vec![1], vec![4]]);
+    // contours have no shapes, and shapes come again
+    let contours = overlay.overlay(OverlayRule::Xor, FillRule::EvenOdd).unwrap();
+    assert_eq!(doubled_area(&contours), 2 * (81 - 9 + 1 + 4));
+    assert_eq!(overlay.overlay_shapes(OverlayRule::Xor, FillRule::EvenOdd).unwrap(), shapes);
+    overlay.clear();
+    assert!(overlay.overlay_shapes(OverlayRule::Xor, FillRule::EvenOdd).unwrap().is_empty());
+}
+
+/// The areas of the shapes of rectangles add up to that of their contours.
+#[test]
+fn areas_of_shapes_add_up() {
+    let mut random = Random(7);
+    let mut overlay = Overlay::new().unwrap();
+    for _ in 0..200 {
+        overlay.clear();
+        for shape in [ShapeType::Subject, ShapeType::Clip] {
+            for _ in 0..1 + random.below(5) {
+                let (x, y) = (random.below(20), random.below(20));
+                let (right, top) = (x + 1 + random.below(9), y + 1 + random.below(9));
+                let corners = [(x, y), (right, y), (right, top), (x, top)];
+                overlay.add_contour(&corners.map(|(x, y)| IntPoint::new(x, y)), shape).unwrap();
+            }
+        }
+        let shapes = overlay.overlay_shapes(OverlayRule::Xor, FillRule::NonZero).unwrap();
+        assert!(shapes.iter().all(|shape| doubled_area(shape) > 0));
+        let whole: i64 = shapes.iter().map(|shape| doubled_area(shape)).sum();
+        assert_eq!(whole / 2, area(&mut overlay, OverlayRule::Xor));
+    }
+}
+
+#[test]
+fn an_overlay_tells_its_reach() {
+    let mut overlay = Overlay::with_contours(&[square(0, 4).to_vec()], &[square(2, 6).to_vec()]).unwrap();
+    assert_eq!((overlay.passes(), overlay.reach()), (0, 0));
+    overlay.overlay(OverlayRule::Union, FillRule::NonZero).unwrap();
+    assert_eq!((overlay.passes(), overlay.reach()), (1, 0));
+    // the upper side of the triangle crosses the right side of the first square at a height of 2 and a third
+    let corners = [(3, 2), (6, 2), (6, 3)].map(|(x, y)| IntPoint::new(x, y));
+    overlay.add_contour(&corners, ShapeType::Clip).unwrap();
+    overlay.overlay(OverlayRule::Union, FillRule::NonZero).unwrap();
+    let report = (overlay.passes(), overlay.reach());
+    assert!(report.0 >= 2 && report.1 >= 1, "{report:?}");
+    overlay.overlay_shapes(OverlayRule::Union, FillRule::NonZero).unwrap();
+    assert_eq!((overlay.passes(), overlay.reach()), report);
+    // neither segments nor a cleared overlay change it
+    overlay.split(&[], Solver::AUTO).unwrap();
+    overlay.clear();
+    assert_eq!((overlay.passes(), overlay.reach()), report);
+    // nothing is split in no pass
+    overlay.overlay_shapes(OverlayRule::Union, FillRule::NonZero).unwrap();
+    assert_eq!((overlay.passes(), overlay.reach()), (0, 0));
+}
+
+#[test]
 fn each_strategy_answers_the_same() {
     let mut random = Random(5);
     for _ in 0..50 {

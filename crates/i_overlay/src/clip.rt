@@ -6,7 +6,7 @@ ghost use Rattle.overlay_base.specs.SegmentOf.{segments_of, KeepsSegments};
 ghost use Rattle.overlay_split.specs.SettingsOf.{snap_limit_of};
 ghost use Rattle.overlay_sweep.specs.ChainWindings.{tops_leave_range};
 ghost use Rattle.overlay_build.specs.StringGraphOf.{builder_name, lines_asked, HasItsNodes};
-ghost use Rattle.overlay_split.specs.SplitOf.{SumsLeaveRange, LooksAreBounded};
+ghost use Rattle.overlay_split.specs.SplitOf.{SumsLeaveRange, ReportsReach, LooksAreBounded};
 ghost use Rattle.overlay_sweep.specs.SweepOf.{IsCostOf};
 ghost use Rattle.i_overlay.specs.CallOf.{ClipsLines, RefusesCall};
 
@@ -34,8 +34,9 @@ use overlay_split::split::solver::SplitSolver;
 /// given polygons wind there (`by_given`). Every kept part lies as near to a given line, and every point of a given
 /// line to a segment with a mask (`lines_near`). Where all crossings of the given segments are at whole points, the
 /// arrangement counts along each part of a given segment what the given segments count there, masks included, and lies
-/// on them. The solver's strategy does not change the answer, but what the split costs: afterwards `looked` of the
-/// splitter is bounded by the strategy as after `split_segments`.
+/// on them. Afterwards `reach` of the splitter is how far the passes moved crossings. The solver's strategy does not
+/// change the answer, but what the split costs: `looked` of the splitter is bounded by the strategy as after
+/// `split_segments`.
 ///
 /// `is_balanced` tests whether the counts balance.
 ///
@@ -62,6 +63,7 @@ pub fn split_and_build_clip<'a, I: OverlayInt>(
     ensures fits { OnOk result (SumsLeaveRange solver.now splitter.old segments.old → ⊥) }
     ensures in_range { OnOk result (IsFalse (tops_leave_range (segments_of segments.new.items))) }
     ensures refused { IfErr result (RefusesCall solver.now splitter.old splitter.new segments.old segments.new) }
+    ensures reach { OnOk result (ReportsReach solver.now splitter.old splitter.new segments.old) }
     ensures looked { OnOk result (LooksAreBounded solver.now splitter.old splitter.new segments.old) }
     ensures limit { snap_limit_of splitter.new ≡ snap_limit_of splitter.old }
     ensures asked { IfOk result (λ graph. IsCostOf solver.now segments.new.items (lines_asked graph)) }

@@ -7,7 +7,7 @@ ghost use Rattle.overlay_split.specs.SettingsOf.{snap_limit_of};
 ghost use Rattle.overlay_sweep.specs.ChainWindings.{tops_leave_range};
 ghost use Rattle.overlay_build.specs.OverlayGraphOf.{graph_asked, HasItsNodes, HasDataBy};
 ghost use Rattle.i_overlay.specs.GivenAgain.{ResultsAreGivenAgain};
-ghost use Rattle.overlay_split.specs.SplitOf.{SumsLeaveRange, LooksAreBounded};
+ghost use Rattle.overlay_split.specs.SplitOf.{SumsLeaveRange, ReportsReach, LooksAreBounded};
 ghost use Rattle.overlay_sweep.specs.SweepOf.{IsCostOf};
 ghost use Rattle.i_overlay.specs.CallOf.{ReturnsOverlay, EnclosesByRule, LinksKeepWhatHolds, LinksLieNearNamed, IsEmptyOrData, RefusesCall};
 
@@ -40,8 +40,9 @@ use overlay_split::split::solver::SplitSolver;
 /// is dropped; each link has the data of its segment. What the hooks keep of data, and what holds of all given data,
 /// holds of each link's (`kept_data`). Where data names given segments, as their numbers do, and the hooks name no
 /// others, each link lies as near to every one that its data names as the passes move crossings (`named_data`). On
-/// exact input it lies on it. The solver's strategy does not change the answer, but what the split costs: afterwards
-/// `looked` of the splitter is bounded by the strategy as after `split_segments`.
+/// exact input it lies on it. Afterwards `reach` of the splitter is how far the passes moved crossings. The solver's
+/// strategy does not change the answer, but what the split costs: `looked` of the splitter is bounded by the strategy
+/// as after `split_segments`.
 ///
 /// `is_balanced` tests whether the counts balance.
 ///
@@ -75,6 +76,7 @@ pub fn split_and_build_overlay<'a, I: OverlayInt, D: OverlayEdgeData<ShapeCountB
     ensures fits { OnOk result (SumsLeaveRange solver.now splitter.old segments.old → ⊥) }
     ensures in_range { OnOk result (IsFalse (tops_leave_range (segments_of segments.new.items))) }
     ensures refused { IfErr result (RefusesCall solver.now splitter.old splitter.new segments.old segments.new) }
+    ensures reach { OnOk result (ReportsReach solver.now splitter.old splitter.new segments.old) }
     ensures looked { OnOk result (LooksAreBounded solver.now splitter.old splitter.new segments.old) }
     ensures limit { snap_limit_of splitter.new ≡ snap_limit_of splitter.old }
     ensures asked { IfOk result (λ graph. IsCostOf solver.now segments.new.items (graph_asked graph)) }

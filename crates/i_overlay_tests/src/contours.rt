@@ -301,6 +301,18 @@ fn one_overlay_answers_twice(rt: HostRuntime) -> Result<(), Fail> {
     Ok(())
 }
 
+#[test]
+fn an_overlay_tells_its_reach(rt: HostRuntime) -> Result<(), Fail> {
+    let alloc = rt.alloc();
+    let mut overlay = Overlay::new(alloc);
+    assert!(rt; (overlay.passes(), overlay.reach()) == (0, 0));
+    let subject = contours_from(alloc, &[WIDE_SQUARE])?;
+    load(alloc, &mut overlay, &subject, OTHER_SQUARE)?;
+    overlay.overlay(&Solver::AUTO, FillRule::NonZero, OverlayRule::Union)?;
+    assert!(rt; (overlay.passes(), overlay.reach()) == (1, 0));
+    Ok(())
+}
+
 /// Gives an overlay contours of the subject, and one of the clip, in place of those that it had.
 fn load(
     alloc: Global,

@@ -13,3 +13,5 @@ mod library;
 mod overlay;
 #[cfg(test)]
 mod provenance;
+#[cfg(test)]
+mod shapes;

@@ -13,6 +13,8 @@ mod fault;
 #[cfg(test)]
 mod fill_rule;
 #[cfg(test)]
+mod links;
+#[cfg(test)]
 mod merge;
 #[cfg(test)]
 mod points;

@@ -68,3 +68,25 @@ fn a_table_has_its_number_as_name(rt: HostRuntime) -> Result<(), Fail> {
     assert_eq!(rt; name.as_str(), "Table(6)");
     Ok(())
 }
+
+#[test]
+fn each_rule_has_its_name(rt: HostRuntime) -> Result<(), Fail> {
+    let mut names = Vec::new(rt.alloc());
+    for (rule, _, _) in TABLES {
+        names.push(format!(in rt.alloc(); "{rule}")?)?;
+    }
+    let written = [
+        "Subject",
+        "Clip",
+        "Intersect",
+        "Union",
+        "Difference",
+        "InverseDifference",
+        "Xor",
+    ];
+    assert_eq!(rt; names.len(), written.len());
+    for (name, text) in names.iter().zip(written) {
+        assert_eq!(rt; name.as_str(), text);
+    }
+    Ok(())
+}

@@ -19,6 +19,15 @@ fn solvers_have_the_strategies_of_their_names(rt: HostRuntime) {
     }
 }
 
+#[test]
+fn the_default_solver_is_auto(rt: HostRuntime) {
+    let solver = Solver::default();
+    assert_eq!(rt;
+        (solver.strategy, solver.precision),
+        (Solver::AUTO.strategy, Solver::AUTO.precision)
+    );
+}
+
 /// Wants these squared radii of four passes.
 fn check_radii(rt: &impl Abort, precision: Precision, wanted: [i64; 4]) {
     let mut radius = Solver::with_precision(precision).snap_radius();

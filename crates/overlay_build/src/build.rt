@@ -19,6 +19,6 @@ pub mod util;
 pub mod walks;
 
 pub use overlay_sweep::build::{
-    boolean, fill_handler, fill_strategy, live_segments, scan_list, scan_mixed, scan_tree, string,
-    sweep,
+    boolean, fill_handler, fill_strategy, live_segments, scan_list, scan_mixed, scan_row,
+    scan_tree, string, sweep,
 };

@@ -9,9 +9,9 @@ use std::process::Abort;
 
 type Builder = GraphBuilder<ShapeCountBoolean, OverlayNode, i32, ()>;
 
-/// The points (0, 0), (1, 0), .. in falling order.
+/// The points (0, 0), (1, 0), .. in rising order.
 fn row(rt: &impl Abort, alloc: Global, count: i32) -> Vec<IntPoint<i32>> {
-    let points = (0..count).rev().map(|x| IntPoint::new(x, 0));
+    let points = (0..count).map(|x| IntPoint::new(x, 0));
     points.collect(alloc).expect(rt, "memory")
 }
 
@@ -42,15 +42,15 @@ fn few_points_leave_the_buffer_as_it_is(rt: HostRuntime) {
 fn many_points_end_in_rising_order(rt: HostRuntime) {
     let alloc = rt.alloc();
     let mut buffer = row(&rt, alloc, 2);
-    let mut rising = row(&rt, alloc, 64);
-    rising.reverse();
-    compare_test(&rt, &row(&rt, alloc, 64), &mut buffer, false, &rising);
+    let rising = row(&rt, alloc, 64);
+    compare_test(&rt, &rising, &mut buffer, false, &rising);
+    let mut falling = row(&rt, alloc, 64);
+    falling.reverse();
+    compare_test(&rt, &falling, &mut buffer, false, &rising);
     let mut crossed = row(&rt, alloc, 63);
-    crossed.reverse();
     crossed.push(IntPoint::new(0, 0)).expect(&rt, "memory");
     // (0, 0) twice, then (1, 0), .. up to (62, 0)
     let mut sorted = row(&rt, alloc, 63);
-    sorted.push(IntPoint::new(0, 0)).expect(&rt, "memory");
-    sorted.reverse();
+    sorted.insert(0, IntPoint::new(0, 0)).expect(&rt, "memory");
     compare_test(&rt, &crossed, &mut buffer, true, &sorted);
 }

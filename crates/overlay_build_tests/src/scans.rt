@@ -76,13 +76,13 @@ fn insert_row<I: OverlayInt, L: LiveSegments<ShapeCountBoolean, I>>(
         .expect(rt, "memory");
 }
 
-/// The subject's part of the sum that a look finds below (x, y).
+/// The two numbers of the sum on the row below (x, y).
 fn sum_at<I: OverlayInt, L: LiveSegments<ShapeCountBoolean, I>>(
     rt: &impl Abort,
     live: &mut L,
     x: i64,
     y: i64,
-) -> i32
+) -> (i32, i32)
     requires rows { AreRows x (L.sums live.old) }
     requires time { (z : ℤ) → x ≤ℤ z → L.may_go_on_at live.old z }
     ensures rows { AreRows x (L.sums live.new) }
@@ -92,8 +92,9 @@ fn sum_at<I: OverlayInt, L: LiveSegments<ShapeCountBoolean, I>>(
         x: coordinate(rt, x),
         y: coordinate(rt, y),
     };
-    let nothing = ShapeCountBoolean { subj: 0, clip: 0 };
-    live.sum_below(p.x, p, nothing).subj
+    let nothing = ShapeCountBoolean { subj: 0, clip: 7 };
+    let sum = live.sum_below(p.x, p, nothing);
+    (sum.subj, sum.clip)
 }
 
 /// How many orders an insert into a list of 0, 1, 2 .. rows asks: the least d for which 2 n is at most 2 ^ d.
@@ -132,10 +133,10 @@ fn look_at_rows<I: OverlayInt, L: LiveSegments<ShapeCountBoolean, I>>(
     for k in 0..1000u32 {
         let sum = sum_at(rt, live, 5, 2 * i64::from(k) + 1);
         let few = least <= live.compared() && live.compared() <= most;
-        assert_eq!(rt; (k, sum, few), (k, k as i32 + 1, true));
+        assert_eq!(rt; (k, sum, few), (k, (k as i32 + 1, 0), true));
     }
     let below = sum_at(rt, live, 5, -1);
-    assert_eq!(rt; (below, sum_at(rt, live, 10, 1)), (0, 0));
+    assert_eq!(rt; (below, sum_at(rt, live, 10, 1)), ((0, 7), (0, 7)));
 }
 
 fn tree_of_rows<I: OverlayInt>(rt: &impl Abort, alloc: Global) {

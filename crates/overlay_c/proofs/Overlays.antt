@@ -1,16 +1,19 @@
 -- What an engine keeps of an overlay, from what the calls below it answer.
-use Rattle.std.proofs.Common.{◌≡◌, ◌∙◌, ℕ, Bool, ap, subst, List, map, flat_map, length}
+use Rattle.std.proofs.Common.{◌≡◌, ◌∙◌, ◌≤◌, ℕ, Bool, ap, subst, List, map, flat_map, length}
 use Rattle.overlay_base.specs.Radius.{exponent_cap}
 use Rattle.overlay_base.specs.Segments.{WholeSegment}
 use Rattle.overlay_base.specs.declared.overlay_core.fill_rule.FillRule.{FillRule}
 use Rattle.overlay_base.specs.declared.overlay_core.overlay_rule.OverlayRule.{OverlayRule}
+use Rattle.overlay_split.specs.Nearness.{reach_of_passes}
 use Rattle.overlay_split.specs.Run.{Settings, IsRun}
 use Rattle.overlay_build.specs.Graph.{Graph}
 use Rattle.overlay_base.specs.Balance.{IsBalanced}
 use Rattle.i_overlay.specs.FarRegions.{EnclosesOverlay}
 use Rattle.i_overlay.specs.Headline.{IsSplit, IsOverlay}
 use Rattle.overlay_geometry.specs.Points.{Point}
+use Rattle.overlay_contours.specs.Beyond.{IsOverlayBeyond, IsShapeOverlayBeyond, AreOfRun}
 use Rattle.overlay_contours.specs.Polygons.{IsPolygonOverlay}
+use Rattle.overlay_contours.specs.Shapes.{IsShapeOverlay}
 use Rattle.overlay_c.specs.Kept.{AreLaid}
 
 -- settings of an engine of so many bits, by their parts
@@ -43,3 +46,19 @@ same_run s t xs ys segments passes flag es ex o = subst (λ u. IsRun u ys segmen
 pub same_polygons : (s t : Settings) (r : OverlayRule) (f g : FillRule) (subject clip answer : List (List Point)) → s ≡ t → f ≡ g → IsPolygonOverlay s r f subject clip answer → IsPolygonOverlay t r g subject clip answer
 same_polygons s t r f g subject clip answer es ef o =
     subst (λ u. IsPolygonOverlay u r g subject clip answer) es (subst (λ u. IsPolygonOverlay s r u subject clip answer) ef o)
+
+pub same_beyond : (halves : ℕ) (r : OverlayRule) (f g : FillRule) (subject clip answer : List (List Point)) → f ≡ g → IsOverlayBeyond halves r f subject clip answer → IsOverlayBeyond halves r g subject clip answer
+same_beyond halves r f g subject clip answer ef o = subst (λ u. IsOverlayBeyond halves r u subject clip answer) ef o
+
+pub same_shapes : (s t : Settings) (r : OverlayRule) (f g : FillRule) (subject clip : List (List Point)) (shapes : List (List (List Point))) → s ≡ t → f ≡ g → IsShapeOverlay s r f subject clip shapes → IsShapeOverlay t r g subject clip shapes
+same_shapes s t r f g subject clip shapes es ef o =
+    subst (λ u. IsShapeOverlay u r g subject clip shapes) es (subst (λ u. IsShapeOverlay s r u subject clip shapes) ef o)
+
+pub same_shapes_beyond : (halves : ℕ) (r : OverlayRule) (f g : FillRule) (subject clip : List (List Point)) (shapes : List (List (List Point))) → f ≡ g → IsShapeOverlayBeyond halves r f subject clip shapes → IsShapeOverlayBeyond halves r g subject clip shapes
+same_shapes_beyond halves r f g subject clip shapes ef o = subst (λ u. IsShapeOverlayBeyond halves r u subject clip shapes) ef o
+
+pub same_report : (s t : Settings) (subject clip : List (List Point)) (passes halves : ℕ) → s ≡ t → AreOfRun s subject clip passes halves → AreOfRun t subject clip passes halves
+same_report s t subject clip passes halves es o = subst (λ u. AreOfRun u subject clip passes halves) es o
+
+pub same_bound : (s t : Settings) (passes halves : ℕ) → s ≡ t → halves ≤ reach_of_passes s passes → halves ≤ reach_of_passes t passes
+same_bound s t passes halves es le = subst (λ u. halves ≤ reach_of_passes u passes) es le

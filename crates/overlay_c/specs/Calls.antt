@@ -6,7 +6,7 @@ use Rattle.overlay_base.specs.declared.segm.shape_type.ShapeType.TheVariants.{Su
 use Rattle.overlay_base.specs.EdgeData.{DataSegment}
 use Rattle.overlay_base.specs.Segments.{WholeSegment}
 use Rattle.overlay_contours.specs.Refusals.{CountsLeaveRange}
-use Rattle.overlay_c.specs.Contours.{point_by, contours_in, polygon_settings, KeepsPolygons}
+use Rattle.overlay_c.specs.Contours.{point_by, contours_in, polygon_settings, KeepsPolygons, KeepsShapes}
 use Rattle.overlay_c.specs.Kept.{are_usable, are_lines_usable}
 use Rattle.overlay_c.specs.Records.{line_asked_by, names_narrow, IsRuleOf}
 use Rattle.overlay_c.specs.Widths.{least_of, greatest_of, LastKeepsOverlay, LastKeepsData, LastKeepsClip}
@@ -66,9 +66,13 @@ SameShape shape before after = contours_in after shape ≡ contours_in before sh
 abbrev pub AddsContour : ShapeType → List PointRecord → Engine → Engine → Type 0
 AddsContour shape contour before after = contours_in after shape ≡ contours_in before shape ++ map point_by contour ∷ []
 
--- The engine keeps the overlay of its contours, by the rule of a code; or a count of theirs leaves the range.
+-- The engine keeps the overlay of its contours, by the rule of a code, as contours or in shapes; or a count of theirs
+-- leaves the range.
 abbrev pub KeepsPolygonsBy : SettingsRecord → ℕ → Engine → Engine → Type 0
 KeepsPolygonsBy settings code before after = (rule : OverlayRule) × IsRuleOf code rule × KeepsPolygons settings rule before after
+
+abbrev pub KeepsShapesBy : SettingsRecord → ℕ → Engine → Engine → Type 0
+KeepsShapesBy settings code before after = (rule : OverlayRule) × IsRuleOf code rule × KeepsShapes settings rule before after
 
 abbrev pub PolygonCountsLeaveRange : SettingsRecord → Engine → Type 0
 PolygonCountsLeaveRange settings engine = CountsLeaveRange (polygon_settings settings) (contours_in engine Subject) (contours_in engine Clip)

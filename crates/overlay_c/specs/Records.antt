@@ -1,5 +1,5 @@
 -- What the records that cross to C stand for, in whole numbers.
-use Rattle.std.specs.Prelude.{◌≡◌, ◌==◌, ◌<◌, ◌≤◌, ◌+◌, ◌⊎◌, ℕ, ℤ, pos, Bool, ◌&&◌, not, if◌then◌else◌}
+use Rattle.std.specs.Prelude.{◌≡◌, ◌==◌, ◌<◌, ◌≤◌, ◌+◌, ◌*◌, ◌^◌, ◌⊎◌, ℕ, ℤ, pos, Bool, ◌&&◌, not, if◌then◌else◌}
 use Rattle.std.specs.Ordering.{int_eq}
 use Rattle.overlay_geometry.specs.Points.{Point, point_lt}
 use Rattle.overlay_geometry.specs.Coordinates.{is_point_in_range}
@@ -24,6 +24,7 @@ use Rattle.overlay_c.specs.declared.records.SegmentRecord.{SegmentRecord}
 use Rattle.overlay_c.specs.declared.records.LineRecord.{LineRecord}
 use Rattle.overlay_c.specs.declared.records.LinkRecord.{LinkRecord}
 use Rattle.overlay_c.specs.declared.records.SettingsRecord.{SettingsRecord}
+use Rattle.overlay_c.specs.declared.records.WordsRecord.{WordsRecord}
 
 -- its ends and its count
 abbrev pub start_of : SegmentRecord → Point
@@ -88,6 +89,10 @@ fill_rule_of code = if code == 0 then fill.EvenOdd else if code == 1 then fill.N
 -- the shape of a code
 abbrev pub shape_of : ℕ → ShapeType
 shape_of code = if code == 0 then Subject else Clip
+
+-- the number of two words
+abbrev pub number_by : WordsRecord → ℕ
+number_by r = r.low + r.high * 2 ^ 64
 
 -- whether a code names the engine of 16 bits
 abbrev pub names_narrow : ℕ → Bool

@@ -2,9 +2,11 @@
 ghost use Rattle.std.specs.Prelude.{◌≡◌, OnOk, ◌++◌, map, length, flat_map};
 ghost use Rattle.overlay_geometry.specs.PointOf.{point_of};
 ghost use Rattle.overlay_contours.specs.ContoursOf.{points_of, contours_of};
+ghost use Rattle.overlay_contours.specs.Shapes.{all_contours};
+ghost use Rattle.overlay_contours.specs.ShapesOf.{shapes_of};
 ghost use Rattle.overlay_c.specs.Contours.{point_by};
 
-use overlay_contours::contour::IntContour;
+use overlay_contours::contour::{IntContour, IntShape};
 use overlay_geometry::geom::point::IntPoint;
 use std::alloc::AllocError;
 
@@ -42,6 +44,41 @@ pub fn keep_contours(
 {
     lengths.clear();
     points.clear();
+    push_contours(contours, lengths, points)
+}
+
+/// Keeps shapes: how many contours each has, how many points each contour has, and all points.
+pub fn keep_shapes(
+    shapes: &[IntShape<i32>],
+    counts: &mut Vec<usize>,
+    lengths: &mut Vec<usize>,
+    points: &mut Vec<PointRecord>,
+) -> Result<(), AllocError>
+    ensures counts { OnOk result (counts.new.items ≡ map length (shapes_of (λ z. z) shapes.now)) }
+    ensures lengths { OnOk result (lengths.new.items ≡ map length (all_contours (shapes_of (λ z. z) shapes.now))) }
+    ensures points { OnOk result (map point_by points.new.items
+        ≡ flat_map (λ contour. contour) (all_contours (shapes_of (λ z. z) shapes.now))) }
+{
+    counts.clear();
+    lengths.clear();
+    points.clear();
+    for shape in shapes {
+        counts.push(shape.len())?;
+        push_contours(shape, lengths, points)?;
+    }
+    Ok(())
+}
+
+/// Keeps contours behind others.
+fn push_contours(
+    contours: &[IntContour<i32>],
+    lengths: &mut Vec<usize>,
+    points: &mut Vec<PointRecord>,
+) -> Result<(), AllocError>
+    ensures lengths { OnOk result (lengths.new.items ≡ lengths.old.items ++ map length (contours_of (λ z. z) contours.now)) }
+    ensures points { OnOk result (map point_by points.new.items
+        ≡ map point_by points.old.items ++ flat_map (λ contour. contour) (contours_of (λ z. z) contours.now)) }
+{
     for contour in contours {
         lengths.push(contour.len())?;
         push_points(contour, points)?;

@@ -283,6 +283,7 @@ impl<I: Width> Core<I> {
             walk_links: self.walk_links.len(),
             contours: 0,
             contour_points: 0,
+            shapes: 0,
             has_walks: self.has_walks,
             has_changed: self.has_changed,
             passes: u64::try_from(self.splitter.passes()).unwrap_or(u64::MAX),

@@ -3,11 +3,12 @@ ghost use Rattle.std.specs.Prelude.{◌≡◌, ◌∷◌, ◌++◌, [], false, I
 ghost use Rattle.overlay_c.specs.Calls.{MaySplit, MayNotSplit, MaySplitLines, MayNotSplitLines};
 ghost use Rattle.overlay_c.specs.Status.{OnUnusable, OnTooLarge};
 
-use crate::contours::{PointRecord, keep_contours, load_points};
+use crate::contours::{PointRecord, keep_contours, keep_shapes, load_points};
 use crate::cores::Core;
 use crate::lines;
 use crate::records::{
-    LineRecord, LinkRecord, SegmentRecord, SettingsRecord, SizesRecord, fill_rule, solver, tell_all,
+    LineRecord, LinkRecord, ReportRecord, SegmentRecord, SettingsRecord, SizesRecord, fill_rule,
+    solver, tell_all, words,
 };
 use crate::refusal::Refusal;
 use crate::tags::{Tag, TaggedRecord};
@@ -36,18 +37,22 @@ pub struct Engine {
     pub contour_lengths: Vec<usize>,
     /// The points of the first such contour, then those of the next, and so on.
     pub contour_points: Vec<PointRecord>,
+    /// How many of these contours each shape has, where that overlay was in shapes; else there are none.
+    pub shape_lengths: Vec<usize>,
 }
 
 impl Engine {
     ghost use Rattle.overlay_split.specs.SettingsOf.{snap_limit_of};
     ghost use Rattle.overlay_base.specs.Join.{join, join_leaves_range, has_equal_pairs};
     ghost use Rattle.overlay_c.specs.Kept.{given_by, are_usable, are_lines_usable};
-    ghost use Rattle.overlay_c.specs.Records.{line_asked_by, told_by, line_told_by, names_narrow};
+    ghost use Rattle.overlay_c.specs.Records.{line_asked_by, told_by, line_told_by, names_narrow, number_by};
     ghost use Rattle.overlay_c.specs.Tags.{untagged, tagged_by};
     ghost use Rattle.overlay_c.specs.Widths.{least_of, greatest_of, LastKeepsSplit, LastKeepsAll, LastKeepsOverlay, LastKeepsData, LastKeepsClip, LastStandsAfter, LastLinesStandAfter, LastIsCountRefused, LastIsCountOfAllRefused, LastIsCountOfLinesRefused, LastLeavesRange, SameLimits, LastTellsSizes, segment_count, line_count, segments_in, lines_in, has_changed_in, links_in, link_data_in, degrees_in, indexes_in, walk_lengths_in, walk_links_in};
     ghost use Rattle.overlay_base.specs.declared.segm.shape_type.ShapeType.TheVariants.{Subject, Clip};
+    ghost use Rattle.overlay_contours.specs.Kept.{passes_of, reach_of};
     ghost use Rattle.overlay_contours.specs.Refusals.{other_shape};
-    ghost use Rattle.overlay_c.specs.Contours.{point_by, are_in_range, contours_in, KeepsPolygons, IsPointRefusal, IsPolygonRefusal, SameSplit};
+    ghost use Rattle.overlay_c.specs.Contours.{point_by, are_in_range, contours_in, IsPointRefusal, IsPolygonRefusal};
+    ghost use Rattle.overlay_c.specs.Contours.{KeepsPolygons, KeepsShapes, SameSplit, SameReport};
 
     /// An engine, which takes no memory yet.
     pub fn new(alloc: Global, snap_limit: u32) -> Engine
@@ -55,6 +60,8 @@ impl Engine {
         ensures narrow_limit { snap_limit_of result.narrow.splitter ≡ snap_limit }
         ensures subject { contours_in result Subject ≡ [] }
         ensures clip { contours_in result Clip ≡ [] }
+        ensures passes { passes_of result.polygons ≡ 0 }
+        ensures reach { reach_of result.polygons ≡ 0 }
     {
         Engine {
             wide: Core::new(alloc, snap_limit),
@@ -64,6 +71,7 @@ impl Engine {
             points: Vec::new(alloc),
             contour_lengths: Vec::new(alloc),
             contour_points: Vec::new(alloc),
+            shape_lengths: Vec::new(alloc),
         }
     }
 
@@ -215,10 +223,12 @@ impl Engine {
         ensures core { LastTellsSizes self.now result }
         ensures contours { result.contours ≡ length self.now.contour_lengths.items }
         ensures contour_points { result.contour_points ≡ length self.now.contour_points.items }
+        ensures shapes { result.shapes ≡ length self.now.shape_lengths.items }
     {
         let mut sizes = self.core_sizes();
         sizes.contours = self.contour_lengths.len();
         sizes.contour_points = self.contour_points.len();
+        sizes.shapes = self.shape_lengths.len();
         sizes
     }
 
@@ -338,6 +348,7 @@ impl Engine {
         ensures in_range { OnOk result (IsTrue (are_in_range contour.now)) }
         ensures refused { IfErr result (λ refusal. IsPointRefusal contour.now refusal) }
         ensures rest { SameSplit self.old self.new }
+        ensures report { SameReport self.old self.new }
     {
         load_points(contour, &mut self.points)?;
         self.polygons.add_contour(&self.points, shape_type)?;
@@ -355,6 +366,7 @@ impl Engine {
         let solver = solver(settings);
         let fill_rule = fill_rule(settings.fill_rule);
         let contours = self.polygons.overlay(&solver, fill_rule, rule)?;
+        self.shape_lengths.clear();
         keep_contours(
             &contours,
             &mut self.contour_lengths,
@@ -363,11 +375,43 @@ impl Engine {
         Ok(())
     }
 
+    /// The overlay of the contours that were added, in shapes, which are kept. Those that were added stay.
+    pub fn shapes(&mut self, settings: &SettingsRecord, rule: OverlayRule) -> Result<(), Refusal>
+        ensures kept { OnOk result (KeepsShapes settings.now rule self.old self.new) }
+        ensures refused { IfErr result (λ refusal. IsPolygonRefusal settings.now self.old refusal) }
+        ensures subject { contours_in self.new Subject ≡ contours_in self.old Subject }
+        ensures clip { contours_in self.new Clip ≡ contours_in self.old Clip }
+        ensures rest { SameSplit self.old self.new }
+    {
+        let solver = solver(settings);
+        let fill_rule = fill_rule(settings.fill_rule);
+        let shapes = self.polygons.overlay_shapes(&solver, fill_rule, rule)?;
+        keep_shapes(
+            &shapes,
+            &mut self.shape_lengths,
+            &mut self.contour_lengths,
+            &mut self.contour_points,
+        )?;
+        Ok(())
+    }
+
+    /// What the last overlay of contours that was not refused reports of its run.
+    pub fn report(&self) -> ReportRecord
+        ensures passes { number_by result.passes ≡ passes_of self.now.polygons }
+        ensures reach { number_by result.reach ≡ reach_of self.now.polygons }
+    {
+        ReportRecord {
+            passes: words(self.polygons.passes()),
+            reach: words(self.polygons.reach()),
+        }
+    }
+
     /// Drops the contours that were added.
     pub fn clear_contours(&mut self)
         ensures subject { contours_in self.new Subject ≡ [] }
         ensures clip { contours_in self.new Clip ≡ [] }
         ensures rest { SameSplit self.old self.new }
+        ensures report { SameReport self.old self.new }
     {
         self.polygons.clear();
     }

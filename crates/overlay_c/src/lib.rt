@@ -4,8 +4,8 @@
 ghost use Rattle.std.specs.Prelude.{◌≡◌, ◌≢◌, ◌≤ℤ◌, pos, unsigned_abs, ◌↔◌, ◌<◌, ◌^◌, [], ◌∷◌, ◌++◌, false, None, IsSome, IsTrue, IsFalse, IfSome, length, map};
 ghost use Rattle.overlay_base.specs.Join.{join, join_leaves_range, has_equal_pairs};
 ghost use Rattle.overlay_split.specs.SettingsOf.{snap_limit_of};
-ghost use Rattle.overlay_c.specs.Records.{start_of, end_of, line_asked_by, told_by, line_told_by, shape_of};
-ghost use Rattle.overlay_c.specs.Calls.{Turns, Leaves, Chooses, MaySplit, MayNotSplit, MaySplitLines, MayNotSplitLines, KeepsOverlayBy, KeepsDataBy, KeepsClipBy, SameContours, SameShape, AddsContour, KeepsPolygonsBy, PolygonCountsLeaveRange};
+ghost use Rattle.overlay_c.specs.Records.{start_of, end_of, line_asked_by, told_by, line_told_by, shape_of, number_by};
+ghost use Rattle.overlay_c.specs.Calls.{Turns, Leaves, Chooses, MaySplit, MayNotSplit, MaySplitLines, MayNotSplitLines, KeepsOverlayBy, KeepsDataBy, KeepsClipBy, SameContours, SameShape, AddsContour, KeepsPolygonsBy, KeepsShapesBy, PolygonCountsLeaveRange};
 ghost use Rattle.overlay_c.specs.Crosses.{pair_by, cross_by, mask_by};
 ghost use Rattle.overlay_geometry.specs.Coordinates.{least_coordinate, greatest_coordinate, is_pair_in_range};
 ghost use Rattle.overlay_intersections.specs.CrossAnswer.{cross_answer};
@@ -14,8 +14,9 @@ ghost use Rattle.overlay_c.specs.Kept.{given_by};
 ghost use Rattle.overlay_c.specs.Widths.{LastKeepsSplit, LastKeepsAll, LastStandsAfter, LastLinesStandAfter, LastIsCountRefused, LastIsCountOfAllRefused, LastIsCountOfLinesRefused, LastLeavesRange, LastTellsSizes, SameLimits, segment_count, line_count, segments_in, lines_in, has_changed_in, links_in, link_data_in, degrees_in, indexes_in, walk_lengths_in, walk_links_in};
 ghost use Rattle.overlay_c.specs.Tags.{untagged, tagged_by};
 ghost use Rattle.overlay_base.specs.declared.segm.shape_type.ShapeType.TheVariants.{Subject, Clip};
+ghost use Rattle.overlay_contours.specs.Kept.{passes_of, reach_of};
 ghost use Rattle.overlay_contours.specs.Refusals.{other_shape};
-ghost use Rattle.overlay_c.specs.Contours.{are_in_range, contours_in, SameSplit};
+ghost use Rattle.overlay_c.specs.Contours.{are_in_range, contours_in, SameSplit, SameReport};
 
 pub mod contours;
 pub mod cores;
@@ -34,7 +35,8 @@ use crate::cross::{CrossRecord, cross};
 use crate::engine::Engine;
 use crate::handle::{Handle, put, take};
 use crate::records::{
-    LineRecord, LinkRecord, SegmentRecord, SettingsRecord, SizesRecord, overlay_rule, shape_type,
+    LineRecord, LinkRecord, ReportRecord, SegmentRecord, SettingsRecord, SizesRecord, overlay_rule,
+    shape_type,
 };
 use crate::refusal::status;
 use crate::tags::{Tag, TaggedRecord};
@@ -50,6 +52,8 @@ pub extern "C" fn overlay_c_new(alloc: Global, handle: &mut Handle, snap_limit: 
     ensures narrow_limit { IfSome handle.new.engine (λ engine. snap_limit_of engine.narrow.splitter ≡ snap_limit) }
     ensures subject { IfSome handle.new.engine (λ engine. contours_in engine Subject ≡ []) }
     ensures clip { IfSome handle.new.engine (λ engine. contours_in engine Clip ≡ []) }
+    ensures passes { IfSome handle.new.engine (λ engine. passes_of engine.polygons ≡ 0) }
+    ensures reach { IfSome handle.new.engine (λ engine. reach_of engine.polygons ≡ 0) }
 {
     match Box::new(alloc, Engine::new(alloc, snap_limit)) {
         Ok(engine) => {
@@ -251,6 +255,7 @@ pub extern "C" fn overlay_c_add_contour(
     ensures in_range { result ≡ 0 → IsTrue (are_in_range contour.now) }
     ensures out_of_range { result ≡ 4 → IsFalse (are_in_range contour.now) }
     ensures rest { Turns handle.old handle.new SameSplit }
+    ensures report { Turns handle.old handle.new SameReport }
 {
     let mut engine = take(alloc, handle);
     let outcome = engine.add_contour(contour, shape_type(shape));
@@ -284,6 +289,47 @@ pub extern "C" fn overlay_c_polygons(
     status(outcome)
 }
 
+/// The overlay of the contours that were added, in shapes: each an outer boundary, followed by its holes, whose contours
+/// come to no point twice. Returns as `overlay_c_polygons` does, under the same settings. The contours that were added
+/// stay.
+#[unsafe(no_mangle)]
+pub extern "C" fn overlay_c_shapes(
+    alloc: Global,
+    handle: &mut Handle,
+    settings: &SettingsRecord,
+    rule: u8,
+) -> u8
+    requires { IsSome handle.old.engine }
+    ensures full { IsSome handle.new.engine }
+    ensures done { result ≡ 0 → Turns handle.old handle.new (KeepsShapesBy settings.now rule) }
+    ensures too_large { result ≡ 2 → IfSome handle.old.engine (PolygonCountsLeaveRange settings.now) }
+    ensures codes { result < 3 }
+    ensures subject { Turns handle.old handle.new (SameShape Subject) }
+    ensures clip { Turns handle.old handle.new (SameShape Clip) }
+    ensures rest { Turns handle.old handle.new SameSplit }
+{
+    let mut engine = take(alloc, handle);
+    let outcome = engine.shapes(settings, overlay_rule(rule));
+    put(handle, engine);
+    status(outcome)
+}
+
+/// What the last overlay of contours, in shapes or not, reports of its run: how many passes it made, and how far these
+/// moved crossings. What such an overlay leaves holds at every place that is farther than this from the edges of the
+/// contours that it was given. Both are 0 at first, and nothing is promised of them after an overlay that was refused.
+#[unsafe(no_mangle)]
+pub extern "C" fn overlay_c_report(alloc: Global, handle: &mut Handle) -> ReportRecord
+    requires { IsSome handle.old.engine }
+    ensures same { handle.new.engine ≡ handle.old.engine }
+    ensures passes { IfSome handle.old.engine (λ engine. number_by result.passes ≡ passes_of engine.polygons) }
+    ensures reach { IfSome handle.old.engine (λ engine. number_by result.reach ≡ reach_of engine.polygons) }
+{
+    let engine = take(alloc, handle);
+    let report = engine.report();
+    put(handle, engine);
+    report
+}
+
 /// Drops the contours that were added.
 #[unsafe(no_mangle)]
 pub extern "C" fn overlay_c_clear(alloc: Global, handle: &mut Handle)
@@ -292,6 +338,7 @@ pub extern "C" fn overlay_c_clear(alloc: Global, handle: &mut Handle)
     ensures subject { IfSome handle.new.engine (λ after. contours_in after Subject ≡ []) }
     ensures clip { IfSome handle.new.engine (λ after. contours_in after Clip ≡ []) }
     ensures rest { Turns handle.old handle.new SameSplit }
+    ensures report { Turns handle.old handle.new SameReport }
 {
     let mut engine = take(alloc, handle);
     engine.clear_contours();
@@ -327,6 +374,7 @@ pub extern "C" fn overlay_c_sizes(alloc: Global, handle: &mut Handle) -> SizesRe
     ensures contours { IfSome handle.old.engine (λ engine. result.contours ≡ length engine.contour_lengths.items) }
     ensures contour_points { IfSome handle.old.engine (λ engine.
         result.contour_points ≡ length engine.contour_points.items) }
+    ensures shapes { IfSome handle.old.engine (λ engine. result.shapes ≡ length engine.shape_lengths.items) }
 {
     let engine = take(alloc, handle);
     let sizes = engine.sizes();
@@ -428,7 +476,8 @@ pub extern "C" fn overlay_c_walks(
     put(handle, engine);
 }
 
-/// Copies out how many points each contour of the last overlay of contours has, and these points, contour by contour.
+/// Copies out how many points each contour of the last overlay of contours has, in shapes or not, and these points,
+/// contour by contour, those of shapes shape by shape.
 #[unsafe(no_mangle)]
 pub extern "C" fn overlay_c_contours(
     alloc: Global,
@@ -446,5 +495,18 @@ pub extern "C" fn overlay_c_contours(
     let engine = take(alloc, handle);
     lengths.copy_from_slice(&engine.contour_lengths);
     points.copy_from_slice(&engine.contour_points);
+    put(handle, engine);
+}
+
+/// Copies out how many contours each shape of the last overlay of contours has: of none where it was not in shapes.
+#[unsafe(no_mangle)]
+pub extern "C" fn overlay_c_shape_lengths(alloc: Global, handle: &mut Handle, out: &mut [usize])
+    requires engine { IsSome handle.old.engine }
+    requires length { IfSome handle.old.engine (λ engine. length out.old ≡ length engine.shape_lengths.items) }
+    ensures same { handle.new.engine ≡ handle.old.engine }
+    ensures copied { IfSome handle.old.engine (λ engine. out.new ≡ engine.shape_lengths.items) }
+{
+    let engine = take(alloc, handle);
+    out.copy_from_slice(&engine.shape_lengths);
     put(handle, engine);
 }

@@ -6,7 +6,7 @@ ghost use Rattle.overlay_geometry.specs.Coordinates.{is_point_in_range};
 ghost use Rattle.overlay_base.specs.BooleanWinding.{boolean_winding};
 ghost use Rattle.overlay_base.specs.SegmentOf.{segment_of, segments_of, data_segment_of};
 ghost use Rattle.overlay_build.specs.GraphOf.{link_of};
-ghost use Rattle.overlay_c.specs.Records.{start_of, end_of, count_of, asks, asked_by, asked_piece, told_by, link_by, fill_rule_of, shape_of, IsRuleOf};
+ghost use Rattle.overlay_c.specs.Records.{start_of, end_of, count_of, asks, asked_by, asked_piece, told_by, link_by, fill_rule_of, shape_of, number_by, IsRuleOf};
 
 use crate::width::Width;
 use overlay_base::overlay_core::edge_data::OverlayEdgeData;
@@ -20,6 +20,9 @@ use overlay_base::segm::segment::Segment;
 use overlay_base::segm::shape_type::ShapeType;
 use overlay_base::segm::winding::WindingCount;
 use overlay_geometry::geom::point::IntPoint;
+
+/// How many numbers have 64 bits.
+const WORD: u128 = 1 << 64;
 
 /// A segment of polygons.
 pub type Side<I> = Segment<ShapeCountBoolean, I, ()>;
@@ -274,14 +277,46 @@ pub struct SizesRecord {
     pub node_links: usize,
     pub walks: usize,
     pub walk_links: usize,
-    /// How many contours the last overlay of contours left.
+    /// How many contours the last overlay of contours left, in shapes or not.
     pub contours: usize,
     /// How many points they have together.
     pub contour_points: usize,
+    /// How many shapes it left: none where it was not in shapes.
+    pub shapes: usize,
     /// Whether there are closed walks: they were asked for, and evenly many links meet at each node.
     pub has_walks: bool,
     /// Whether the last split joined equal segments or split one, or the last join joined some.
     pub has_changed: bool,
     /// How many passes the last split made, up to `u64::MAX`.
     pub passes: u64,
+}
+
+/// A number of 128 bits.
+#[repr(C)]
+#[derive(Clone, Copy)]
+pub struct WordsRecord {
+    /// Its lower 64 bits.
+    pub low: u64,
+    /// Its upper 64 bits.
+    pub high: u64,
+}
+
+/// What an overlay of contours reports of its run.
+#[repr(C)]
+#[derive(Clone, Copy)]
+pub struct ReportRecord {
+    /// How many passes it made.
+    pub passes: WordsRecord,
+    /// How far these moved crossings at most, in `x` and in `y`, in halves of a unit.
+    pub reach: WordsRecord,
+}
+
+/// The record of a number.
+pub fn words(number: u128) -> WordsRecord
+    ensures { number_by result ≡ number }
+{
+    WordsRecord {
+        low: (number % WORD) as u64,
+        high: (number / WORD) as u64,
+    }
 }

@@ -1,2 +1,4 @@
 pub mod Polygons
 pub mod Corners
+pub mod Shapes
+pub mod Beyond

@@ -11,3 +11,16 @@ pub mod Straight
 pub mod Corners
 pub mod Ranges
 pub mod CornerOverlays
+pub mod ShapeSums
+pub mod ShapeCounts
+pub mod ShapeLists
+pub mod ShapeParts
+pub mod ShapeOverlays
+pub mod ShapeWholes
+pub mod Orientations
+pub mod RegionSides
+pub mod SectorSides
+pub mod ShapeBounds
+pub mod ShapeTheorem
+pub mod ShapeResults
+pub mod Beyond

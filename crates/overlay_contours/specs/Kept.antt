@@ -1,5 +1,5 @@
 -- The contours that an overlay keeps.
-use Rattle.std.specs.Prelude.{List, ◌≡◌, [], ◌∷◌, ◌++◌, Vec}
+use Rattle.std.specs.Prelude.{List, ℕ, IsTrue, ◌≡◌, ◌≤◌, [], ◌∷◌, ◌++◌, Vec}
 use Rattle.overlay_geometry.specs.Points.{Point}
 use Rattle.overlay_contours.specs.ContoursOf.{contours_of, points_of}
 use Rattle.overlay_contours.specs.declared.overlay.Overlay.{Overlay}
@@ -10,8 +10,14 @@ use Rattle.overlay_base.specs.declared.overlay_core.overlay_rule.OverlayRule.{Ov
 use Rattle.overlay_base.specs.declared.overlay_core.solver.Solver.{Solver}
 use Rattle.overlay_base.specs.declared.segm.fault.Fault.{Fault}
 use Rattle.overlay_base.specs.declared.segm.shape_type.ShapeType.{ShapeType}
+use Rattle.overlay_split.specs.ExactInput.{is_exact_input}
+use Rattle.overlay_split.specs.Nearness.{reach_of_passes}
+use Rattle.overlay_contours.specs.Beyond.{IsOverlayBeyond, IsCornerOverlayBeyond, IsShapeOverlayBeyond, AreOfRun}
+use Rattle.overlay_contours.specs.ContourSegments.{overlay_segments}
 use Rattle.overlay_contours.specs.Polygons.{settings_for, IsPolygonOverlay}
 use Rattle.overlay_contours.specs.CornerOverlays.{IsCornerOverlay}
+use Rattle.overlay_contours.specs.Shapes.{IsShapeOverlay}
+use Rattle.overlay_contours.specs.ShapesOf.{shapes_of}
 use Rattle.overlay_contours.specs.Refusals.{of_shape, IsReason, IsContourRefusal}
 use Rattle.overlay_contours.specs.declared.fault.ContourFault.{ContourFault}
 
@@ -21,6 +27,13 @@ subject_of {w = w} overlay = contours_of w.whole overlay.subject.items
 
 abbrev pub clip_of : {I : Type 0} {w : _} {o : _} {e : _} {p : _} → Overlay I w o e p → List (List Point)
 clip_of {w = w} overlay = contours_of w.whole overlay.clip.items
+
+-- how many passes the last overlay made that succeeded, and how far they moved crossings at most, in halves
+abbrev pub passes_of : {I : Type 0} {w : _} {o : _} {e : _} {p : _} → Overlay I w o e p → ℕ
+passes_of overlay = overlay.passes
+
+abbrev pub reach_of : {I : Type 0} {w : _} {o : _} {e : _} {p : _} → Overlay I w o e p → ℕ
+reach_of overlay = overlay.reach
 
 -- those of a shape
 abbrev pub contours_kept : {I : Type 0} {w : _} {o : _} {e : _} {p : _} → ShapeType → Overlay I w o e p → List (List Point)
@@ -48,6 +61,46 @@ IsOverlayOfKept {w = w} solver rule fill_rule overlay contours =
 abbrev pub IsCornersOfKept : {I : Type 0} {w : _} {o : _} {e : _} {p : _} → Solver → OverlayRule → FillRule → Overlay I w o e p → Vec (Vec (IntPoint I) Global) Global → Type 0
 IsCornersOfKept {w = w} solver rule fill_rule overlay contours =
     IsCornerOverlay (settings_for w.BITS solver) rule fill_rule (subject_of overlay) (clip_of overlay) (contours_of w.whole contours.items)
+
+-- The shapes are what the overlay of those that are kept returns in shapes.
+abbrev pub IsShapeOverlayOfKept : {I : Type 0} {w : _} {o : _} {e : _} {p : _} → Solver → OverlayRule → FillRule → Overlay I w o e p → Vec (Vec (Vec (IntPoint I) Global) Global) Global → Type 0
+IsShapeOverlayOfKept {w = w} solver rule fill_rule overlay shapes =
+    IsShapeOverlay (settings_for w.BITS solver) rule fill_rule (subject_of overlay) (clip_of overlay) (shapes_of w.whole shapes.items)
+
+-- ---- by the distance that is reported
+
+-- The contours are what the overlay of those that are kept returns, beyond the distance that is reported.
+abbrev pub IsBeyondKept : {I : Type 0} {w : _} {o : _} {e : _} {p : _} → OverlayRule → FillRule → Overlay I w o e p → Overlay I w o e p → Vec (Vec (IntPoint I) Global) Global → Type 0
+IsBeyondKept {w = w} rule fill_rule before after contours =
+    IsOverlayBeyond (reach_of after) rule fill_rule (subject_of before) (clip_of before) (contours_of w.whole contours.items)
+
+-- They are that without collinear points.
+abbrev pub AreCornersBeyondKept : {I : Type 0} {w : _} {o : _} {e : _} {p : _} → OverlayRule → FillRule → Overlay I w o e p → Overlay I w o e p → Vec (Vec (IntPoint I) Global) Global → Type 0
+AreCornersBeyondKept {w = w} rule fill_rule before after contours =
+    IsCornerOverlayBeyond (reach_of after) rule fill_rule (subject_of before) (clip_of before) (contours_of w.whole contours.items)
+
+-- The shapes are that in shapes.
+abbrev pub AreShapesBeyondKept : {I : Type 0} {w : _} {o : _} {e : _} {p : _} → OverlayRule → FillRule → Overlay I w o e p → Overlay I w o e p → Vec (Vec (Vec (IntPoint I) Global) Global) Global → Type 0
+AreShapesBeyondKept {w = w} rule fill_rule before after shapes =
+    IsShapeOverlayBeyond (reach_of after) rule fill_rule (subject_of before) (clip_of before) (shapes_of w.whole shapes.items)
+
+-- The distance is at most what as many passes reach, by the settings alone.
+abbrev pub ReachIsBounded : {I : Type 0} {w : _} {o : _} {e : _} {p : _} → Solver → Overlay I w o e p → Type 0
+ReachIsBounded {w = w} solver after = reach_of after ≤ reach_of_passes (settings_for w.BITS solver) (passes_of after)
+
+-- It is nothing where no two edges of the contours that are kept cross at a point that is not whole.
+abbrev pub ExactReachIsNone : {I : Type 0} {w : _} {o : _} {e : _} {p : _} → Overlay I w o e p → Overlay I w o e p → Type 0
+ExactReachIsNone before after = IsTrue (is_exact_input (overlay_segments (subject_of before) (clip_of before))) → reach_of after ≡ 0
+
+-- Both numbers are those of the run over the contours that are kept.
+abbrev pub ReportsRun : {I : Type 0} {w : _} {o : _} {e : _} {p : _} → Solver → Overlay I w o e p → Overlay I w o e p → Type 0
+ReportsRun {w = w} solver before after = AreOfRun (settings_for w.BITS solver) (subject_of before) (clip_of before) (passes_of after) (reach_of after)
+
+-- Both stay as they are.
+abbrev pub KeepsReport : {I : Type 0} {w : _} {o : _} {e : _} {p : _} → Overlay I w o e p → Overlay I w o e p → Type 0
+KeepsReport before after = (passes_of after ≡ passes_of before) × (reach_of after ≡ reach_of before)
+
+-- ---- refusals
 
 -- The fault says why such an overlay was refused.
 abbrev pub IsReasonOf : {I : Type 0} {w : _} {o : _} {e : _} {p : _} → Solver → Overlay I w o e p → Fault → Type 0

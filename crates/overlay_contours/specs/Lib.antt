@@ -4,6 +4,9 @@ pub mod ContourSegments
 pub mod Corners
 pub mod Polygons
 pub mod CornerOverlays
+pub mod Shapes
+pub mod ShapesOf
+pub mod Beyond
 pub mod Refusals
 pub mod ContoursIn
 pub mod Kept

@@ -26,6 +26,9 @@ pub mod laws;
 /// A contour: each point is joined to the next one, and the last to the first.
 pub type IntContour<I> = Vec<IntPoint<I>>;
 
+/// A shape: its outer boundary and its holes.
+pub type IntShape<I> = Vec<IntContour<I>>;
+
 /// A segment of contours.
 pub type Side<I> = Segment<ShapeCountBoolean, I, ()>;
 

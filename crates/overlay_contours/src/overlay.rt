@@ -5,12 +5,17 @@ ghost use Rattle.overlay_split.specs.SettingsOf.{snap_limit_of};
 ghost use Rattle.overlay_contours.specs.ContoursOf.{points_of, contours_of};
 ghost use Rattle.overlay_contours.specs.ContourSegments.{are_in_range};
 ghost use Rattle.overlay_contours.specs.Polygons.{settings_for, IsPolygonOverlay};
+ghost use Rattle.overlay_contours.specs.Beyond.{AreOfRun};
 ghost use Rattle.overlay_contours.specs.Refusals.{other_shape, IsReason, IsShapeOutside, IsContourRefusal};
 ghost use Rattle.overlay_contours.specs.ContoursIn.{LieInRange, LiesInRange, IsOverlayOf, IsRefusalOf};
+ghost use Rattle.overlay_contours.specs.Shapes.{IsShapeOverlay};
+ghost use Rattle.overlay_contours.specs.ShapesOf.{shapes_of, ShapesLieInRange, IsShapeOverlayOf};
 
-use crate::contour::{IntContour, Side, find_out_of_range, find_point_out_of_range, load_sides};
+use crate::contour::{
+    IntContour, IntShape, Side, find_out_of_range, find_point_out_of_range, load_sides,
+};
 use crate::corners::corners_of_contours;
-use crate::extract::directed_contours_of_graph;
+use crate::extract::{directed_contours_of_graph, shapes_of_graph};
 use crate::fault::ContourFault;
 use i_overlay::overlay::split_and_build_overlay;
 use overlay_base::overlay_core::fill_rule::FillRule;
@@ -68,6 +73,49 @@ pub fn overlay_contours<I: OverlayInt>(
     Ok(buffers.overlay(subject, clip, solver, fill_rule, overlay_rule)?)
 }
 
+/// The overlay of `overlay_contours` in shapes: each an outer boundary, which runs counterclockwise, followed by its
+/// holes, which run clockwise. No contour comes to a point twice, so each is a simple polygon.
+///
+/// Around every place of the plane one shape winds once, and the others not at all, or none does. At a place that is
+/// farther from the edges of the given contours than the passes of the run move crossings, one does where the overlay
+/// rule holds. All contours together are a polygon overlay, as `overlay_contours` returns one, whose contours may come
+/// to a point twice.
+///
+/// Each shape is connected: steps lead from each of its edges to each other one, across a part of the region, or along
+/// one sector of it at a point. Edges between which one such step leads are in one shape. So pieces of the region that
+/// only touch in points are shapes of their own.
+///
+/// The first contour of a shape is its outer boundary: it has the least point of the shape, in the order of points, and
+/// winds counterclockwise, once or not at all around every place. Each other one is a hole: it winds clockwise, once or
+/// not at all around every place.
+///
+/// All of this is said of rules that say no of the places outside, as each rule with a name does. Under a table that
+/// holds of them, the shapes are those of its complement, with their contours run the other way: outer boundaries
+/// clockwise, and holes counterclockwise. Pieces of it that touch in a point may then be in one shape, and all that is
+/// said of the first contour of a shape is that it has the least point.
+///
+/// Returns what `overlay_contours` does where it is refused.
+pub fn overlay_shapes<I: OverlayInt>(
+    alloc: Global,
+    subject: &[IntContour<I>],
+    clip: &[IntContour<I>],
+    solver: &Solver,
+    fill_rule: FillRule,
+    overlay_rule: OverlayRule,
+) -> Result<Vec<IntShape<I>>, ContourFault>
+    ensures shapes { IfOk result
+        (IsShapeOverlayOf I.OverlayInt.own solver.now overlay_rule fill_rule subject.now clip.now) }
+    ensures in_range { IfOk result (λ shapes. ShapesLieInRange I.whole I.MIN_COORD I.MAX_COORD shapes.items) }
+    ensures refused { IfErr result (IsRefusalOf I.OverlayInt.own solver.now subject.now clip.now) }
+    ensures subject_in_range { OnOk result (LieInRange I.whole I.MIN_COORD I.MAX_COORD subject.now) }
+    ensures clip_in_range { OnOk result (LieInRange I.whole I.MIN_COORD I.MAX_COORD clip.now) }
+{
+    test_range(subject, ShapeType::Subject)?;
+    test_range(clip, ShapeType::Clip)?;
+    let mut buffers = Buffers::new(alloc);
+    Ok(buffers.overlay_shapes(subject, clip, solver, fill_rule, overlay_rule)?)
+}
+
 /// Tells the first point of a shape's contours that is out of range.
 fn test_range<I: OverlayInt>(
     contours: &[IntContour<I>],
@@ -98,6 +146,8 @@ struct Buffers<I: OverlayInt> {
 }
 
 impl<I: OverlayInt> Buffers<I> {
+    ghost use Rattle.overlay_split.specs.SettingsOf.{passes_of, reach_of};
+
     /// Buffers that take no memory yet.
     fn new(alloc: Global) -> Buffers<I> {
         Buffers {
@@ -123,6 +173,8 @@ impl<I: OverlayInt> Buffers<I> {
             IsPolygonOverlay (settings_for I.BITS solver.now) overlay_rule fill_rule (contours_of I.whole subject.now)
             (contours_of I.whole clip.now) (contours_of I.whole contours.items)) }
         ensures in_range { IfOk result (λ contours. LieInRange I.whole I.MIN_COORD I.MAX_COORD contours.items) }
+        ensures run { OnOk result (AreOfRun (settings_for I.BITS solver.now) (contours_of I.whole subject.now)
+            (contours_of I.whole clip.now) (passes_of self.new.splitter) (reach_of self.new.splitter)) }
         ensures refused { IfErr result (λ fault.
             IsReason (settings_for I.BITS solver.now) (contours_of I.whole subject.now)
             (contours_of I.whole clip.now) fault) }
@@ -139,6 +191,40 @@ impl<I: OverlayInt> Buffers<I> {
         let contours = directed_contours_of_graph(self.alloc, &graph, overlay_rule)?;
         Ok(contours)
     }
+
+    /// The overlay of contours in range, in shapes.
+    fn overlay_shapes(
+        &mut self,
+        subject: &[IntContour<I>],
+        clip: &[IntContour<I>],
+        solver: &Solver,
+        fill_rule: FillRule,
+        overlay_rule: OverlayRule,
+    ) -> Result<Vec<IntShape<I>>, Fault>
+        requires subject { LieInRange I.whole I.MIN_COORD I.MAX_COORD subject.now }
+        requires clip { LieInRange I.whole I.MIN_COORD I.MAX_COORD clip.now }
+        ensures shapes { IfOk result (λ shapes.
+            IsShapeOverlay (settings_for I.BITS solver.now) overlay_rule fill_rule (contours_of I.whole subject.now)
+            (contours_of I.whole clip.now) (shapes_of I.whole shapes.items)) }
+        ensures in_range { IfOk result (λ shapes. ShapesLieInRange I.whole I.MIN_COORD I.MAX_COORD shapes.items) }
+        ensures run { OnOk result (AreOfRun (settings_for I.BITS solver.now) (contours_of I.whole subject.now)
+            (contours_of I.whole clip.now) (passes_of self.new.splitter) (reach_of self.new.splitter)) }
+        ensures refused { IfErr result (λ fault.
+            IsReason (settings_for I.BITS solver.now) (contours_of I.whole subject.now)
+            (contours_of I.whole clip.now) fault) }
+    {
+        load_sides(&mut self.sides, subject, clip)?;
+        let graph = split_and_build_overlay(
+            &mut self.splitter,
+            &mut self.builder,
+            &mut self.sides,
+            solver,
+            fill_rule,
+            overlay_rule,
+        )?;
+        let shapes = shapes_of_graph(self.alloc, &graph, overlay_rule, solver)?;
+        Ok(shapes)
+    }
 }
 
 /// The contours of a subject and of a clip, and the buffers of their overlays: all of it is kept and used again. The
@@ -148,6 +234,8 @@ pub struct Overlay<I: OverlayInt> {
     subject: Vec<IntContour<I>>,
     clip: Vec<IntContour<I>>,
     buffers: Buffers<I>,
+    passes: u128,
+    reach: u128,
     pub ghost subject_in_range: { IsTrue (are_in_range (I.whole I.MIN_COORD) (I.whole I.MAX_COORD)
         (contours_of I.whole subject.items)) },
     pub ghost clip_in_range: { IsTrue (are_in_range (I.whole I.MIN_COORD) (I.whole I.MAX_COORD)
@@ -155,17 +243,21 @@ pub struct Overlay<I: OverlayInt> {
 }
 
 impl<I: OverlayInt> Overlay<I> {
-    ghost use Rattle.overlay_contours.specs.Kept.{subject_of, clip_of, AddsContour, KeepsContours, IsRefusalToAdd, IsOverlayOfKept, IsCornersOfKept, IsReasonOf};
+    ghost use Rattle.overlay_contours.specs.Kept.{subject_of, clip_of, passes_of, reach_of, AddsContour, KeepsContours, IsRefusalToAdd, IsOverlayOfKept, IsCornersOfKept, IsShapeOverlayOfKept, IsBeyondKept, AreCornersBeyondKept, AreShapesBeyondKept, ReachIsBounded, ExactReachIsNone, ReportsRun, KeepsReport, IsReasonOf};
 
     /// An overlay of no contours, which takes no memory yet.
     pub fn new(alloc: Global) -> Overlay<I>
         ensures subject { subject_of result ≡ [] }
         ensures clip { clip_of result ≡ [] }
+        ensures passes { passes_of result ≡ 0 }
+        ensures reach { reach_of result ≡ 0 }
     {
         Overlay {
             subject: Vec::new(alloc),
             clip: Vec::new(alloc),
             buffers: Buffers::new(alloc),
+            passes: 0,
+            reach: 0,
         }
     }
 
@@ -184,6 +276,7 @@ impl<I: OverlayInt> Overlay<I> {
         ensures unchanged { OnErr result (KeepsContours shape_type self.old self.new) }
         ensures in_range { OnOk result (LiesInRange I.whole I.MIN_COORD I.MAX_COORD contour.now) }
         ensures refused { IfErr result (IsRefusalToAdd shape_type contour.now self.old) }
+        ensures report { KeepsReport self.old self.new }
     {
         let alloc = self.buffers.alloc;
         match shape_type {
@@ -193,7 +286,8 @@ impl<I: OverlayInt> Overlay<I> {
     }
 
     /// The overlay of the contours that were added, as `overlay_contours` answers it. They stay for further overlays,
-    /// whether it is answered or refused.
+    /// whether it is answered or refused. Afterwards `reach` tells how far from their edges what is said of the answer
+    /// holds, and `passes` after how many passes; where it is refused both are as they were.
     ///
     /// Returns `Fault::CountOutOfRange` only where counts leave `-i32::MAX..=i32::MAX`, and `Fault::Memory` where a
     /// growth is refused.
@@ -203,14 +297,23 @@ impl<I: OverlayInt> Overlay<I> {
         fill_rule: FillRule,
         overlay_rule: OverlayRule,
     ) -> Result<Vec<IntContour<I>>, Fault>
+        ensures overlay { IfOk result (IsBeyondKept overlay_rule fill_rule self.old self.new) }
+        ensures reach { OnOk result (ReachIsBounded solver.now self.new) }
+        ensures exact { OnOk result (ExactReachIsNone self.old self.new) }
+        ensures run { OnOk result (ReportsRun solver.now self.old self.new) }
         ensures polygons { IfOk result (IsOverlayOfKept solver.now overlay_rule fill_rule self.old) }
         ensures in_range { IfOk result (λ contours. LieInRange I.whole I.MIN_COORD I.MAX_COORD contours.items) }
         ensures refused { IfErr result (IsReasonOf solver.now self.old) }
+        ensures report { OnErr result (KeepsReport self.old self.new) }
         ensures subject { subject_of self.new ≡ subject_of self.old }
         ensures clip { clip_of self.new ≡ clip_of self.old }
     {
-        self.buffers
-            .overlay(&self.subject, &self.clip, solver, fill_rule, overlay_rule)
+        let answer = self
+            .buffers
+            .overlay(&self.subject, &self.clip, solver, fill_rule, overlay_rule)?;
+        self.passes = self.buffers.splitter.passes();
+        self.reach = self.buffers.splitter.reach();
+        Ok(answer)
     }
 
     /// The overlay of the contours that were added, as `overlay` answers it, without the points at which a contour goes
@@ -228,22 +331,82 @@ impl<I: OverlayInt> Overlay<I> {
         fill_rule: FillRule,
         overlay_rule: OverlayRule,
     ) -> Result<Vec<IntContour<I>>, Fault>
+        ensures overlay { IfOk result (AreCornersBeyondKept overlay_rule fill_rule self.old self.new) }
+        ensures reach { OnOk result (ReachIsBounded solver.now self.new) }
+        ensures exact { OnOk result (ExactReachIsNone self.old self.new) }
+        ensures run { OnOk result (ReportsRun solver.now self.old self.new) }
         ensures polygons { IfOk result (IsCornersOfKept solver.now overlay_rule fill_rule self.old) }
         ensures in_range { IfOk result (λ contours. LieInRange I.whole I.MIN_COORD I.MAX_COORD contours.items) }
         ensures refused { IfErr result (IsReasonOf solver.now self.old) }
+        ensures report { OnErr result (KeepsReport self.old self.new) }
         ensures subject { subject_of self.new ≡ subject_of self.old }
         ensures clip { clip_of self.new ≡ clip_of self.old }
     {
         let alloc = self.buffers.alloc;
-        let contours = self.overlay(solver, fill_rule, overlay_rule)?;
+        let (subject, clip) = (&self.subject, &self.clip);
+        let contours = self
+            .buffers
+            .overlay(subject, clip, solver, fill_rule, overlay_rule)?;
         let corners = corners_of_contours(alloc, &contours)?;
+        self.passes = self.buffers.splitter.passes();
+        self.reach = self.buffers.splitter.reach();
         Ok(corners)
     }
 
-    /// Drops the contours. The buffers of the overlays stay.
+    /// The overlay of the contours that were added, in shapes, as the function `overlay_shapes` returns it. Each shape
+    /// is connected. If the rule says no of the places outside, its first contour is its outer boundary,
+    /// counterclockwise, and each other one is a hole, clockwise. The contours that were added stay for further
+    /// overlays, whether this one is returned or refused.
+    ///
+    /// Returns `Fault::CountOutOfRange` only where counts leave `-i32::MAX..=i32::MAX`, and `Fault::Memory` where a
+    /// growth is refused.
+    pub fn overlay_shapes(
+        &mut self,
+        solver: &Solver,
+        fill_rule: FillRule,
+        overlay_rule: OverlayRule,
+    ) -> Result<Vec<IntShape<I>>, Fault>
+        ensures overlay { IfOk result (AreShapesBeyondKept overlay_rule fill_rule self.old self.new) }
+        ensures reach { OnOk result (ReachIsBounded solver.now self.new) }
+        ensures exact { OnOk result (ExactReachIsNone self.old self.new) }
+        ensures run { OnOk result (ReportsRun solver.now self.old self.new) }
+        ensures shapes { IfOk result (IsShapeOverlayOfKept solver.now overlay_rule fill_rule self.old) }
+        ensures in_range { IfOk result (λ shapes. ShapesLieInRange I.whole I.MIN_COORD I.MAX_COORD shapes.items) }
+        ensures refused { IfErr result (IsReasonOf solver.now self.old) }
+        ensures report { OnErr result (KeepsReport self.old self.new) }
+        ensures subject { subject_of self.new ≡ subject_of self.old }
+        ensures clip { clip_of self.new ≡ clip_of self.old }
+    {
+        let in_shapes = self
+            .buffers
+            .overlay_shapes(&self.subject, &self.clip, solver, fill_rule, overlay_rule)?;
+        self.passes = self.buffers.splitter.passes();
+        self.reach = self.buffers.splitter.reach();
+        Ok(in_shapes)
+    }
+
+    /// How many passes the last overlay made that succeeded; 0 at first.
+    pub fn passes(&self) -> u128
+        ensures { result ≡ passes_of self.now }
+    {
+        self.passes
+    }
+
+    /// How far the passes of the last overlay that succeeded moved crossings at most, in `x` and in `y`, in halves of a
+    /// unit; 0 at first. What that overlay answered holds at every place that is farther than this from the edges of
+    /// the contours that it was given, in `x` or in `y`. It is 0 where no two of the edges cross at a point without
+    /// whole coordinates.
+    pub fn reach(&self) -> u128
+        ensures { result ≡ reach_of self.now }
+    {
+        self.reach
+    }
+
+    /// Drops the contours. The buffers of the overlays stay, and what `passes` and `reach` tell.
     pub fn clear(&mut self)
         ensures subject { subject_of self.new ≡ [] }
         ensures clip { clip_of self.new ≡ [] }
+        ensures report { KeepsReport self.old self.new }
     {
         self.subject.clear();
         self.clip.clear();

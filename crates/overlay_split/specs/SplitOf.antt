@@ -1,6 +1,6 @@
 -- What a call of the splitter leaves, by its solver, the splitter before and after, and the list before and
 -- after. The type of the list says how its coordinates are read, and of how many bits they are.
-use Rattle.std.specs.Prelude.{◌≡◌, Bool, false, IsTrue, Option, Result, OnOk, Vec}
+use Rattle.std.specs.Prelude.{◌≡◌, ◌≤◌, Bool, false, IsTrue, Option, Result, OnOk, Vec}
 use Rattle.std.specs.List.{list_all}
 use Rattle.std.specs.Global.{Global}
 use Rattle.overlay_geometry.specs.Points.{Pair}
@@ -14,12 +14,12 @@ use Rattle.overlay_grid.specs.Grid.{Layout}
 use Rattle.overlay_split.specs.DataPass.{data_after_passes, IsDataAfter, IsStoppedRun}
 use Rattle.overlay_split.specs.ExactInput.{is_exact_input, KeepsCounts}
 use Rattle.overlay_split.specs.Laws.{HooksKeep, HooksNameNoOther, NameNear}
-use Rattle.overlay_split.specs.Nearness.{StaysNear, LieInGivenBox, reach_of_run}
+use Rattle.overlay_split.specs.Nearness.{StaysNear, LieInGivenBox, reach_of_run, reach_of_passes}
 use Rattle.overlay_split.specs.Places.{KeepsWinding}
 use Rattle.overlay_split.specs.Potential.{IsPassBound}
 use Rattle.overlay_split.specs.Run.{Settings, IsRun, LeavesRange}
 use Rattle.overlay_split.specs.RunLooks.{AreRunLooks}
-use Rattle.overlay_split.specs.SettingsOf.{settings_of, passes_of, looked_of}
+use Rattle.overlay_split.specs.SettingsOf.{settings_of, passes_of, reach_of, looked_of}
 use Rattle.overlay_split.specs.declared.split.solver.SplitSolver.{SplitSolver}
 
 -- the settings of a run over a list
@@ -42,6 +42,12 @@ LiesNearGiven solver before after given list =
 abbrev pub WindsAsGiven : {C I D : Type 0} {m : _} {w : _} {o : _} {e : _} {p : _} → Solver → SplitSolver I → SplitSolver I → Vec (Segment C I D m w o e p) Global → Vec (Segment C I D m w o e p) Global → Type 0
 WindsAsGiven solver before after given list =
     KeepsWinding (settings_over solver before given) (segments_of given.items) (segments_of list.items) (passes_of after)
+
+-- The distance that the splitter reports is how far the passes of the run reach, and no farther than as many passes may.
+abbrev pub ReportsReach : {C I D : Type 0} {m : _} {w : _} {o : _} {e : _} {p : _} → Solver → SplitSolver I → SplitSolver I → Vec (Segment C I D m w o e p) Global → Type 0
+ReportsReach solver before after given =
+    (reach_of after ≡ reach_of_run (settings_over solver before given) (segments_of given.items) (passes_of after))
+    × (reach_of after ≤ reach_of_passes (settings_over solver before given) (passes_of after))
 
 -- It lies in the box of what is given.
 abbrev pub LiesInBox : {C I D : Type 0} {m : _} {w : _} {o : _} {e : _} {p : _} → Vec (Segment C I D m w o e p) Global → Vec (Segment C I D m w o e p) Global → Type 0

@@ -803,6 +803,25 @@ fn slivers_past_the_snap_limit(rt: HostRuntime) {
     assert!(rt; split_slivers(&rt, 14, 256, absolute) == (3734, 3738));
 }
 
+/// Two lines that cross at (3/2, 3/2), two that cross at (0, 0), and none.
+const BETWEEN: [Row; 2] = [((0, 0), (5, 5), 1), ((0, 3), (5, -2), 1)];
+
+/// Lists, one after the other, with one splitter; how many passes each takes, and how far these move things in halves.
+/// The first pass that snaps does so within a radius of 1.
+static REACHES: [(&[Row], u128, u128); 3] = [(&BETWEEN, 2, 4), (&CROSS, 1, 0), (&[], 0, 0)];
+
+#[test]
+fn reach_of_splits(rt: HostRuntime) {
+    let mut splitter: SplitSolver<i32> = SplitSolver::new(rt.alloc());
+    assert!(rt; splitter.reach() == 0);
+    for (given, passes, reach) in REACHES {
+        let mut list = segments(&rt, given);
+        let flag = split_list(&rt, &mut splitter, &mut list, &high(Strategy::List));
+        assert!(rt; flag.is_ok());
+        assert!(rt; (splitter.passes(), splitter.reach()) == (passes, reach));
+    }
+}
+
 const CROSS: [Row; 2] = [((-2, 0), (2, 0), 1), ((0, -2), (0, 2), 1)];
 
 const LARGE: [Row; 2] = [((0, 0), (4, 0), i32::MAX), ((0, 0), (4, 0), i32::MAX)];

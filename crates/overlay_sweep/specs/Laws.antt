@@ -1,10 +1,9 @@
 -- Laws over the definitions: statements that contracts name.
-use Rattle.std.specs.Prelude.{◌≡◌, ℕ, IsTrue, List, All}
+use Rattle.std.specs.Prelude.{◌≡◌, IsTrue, List, All}
 use Rattle.overlay_base.specs.Windings.{add, weight}
 use Rattle.overlay_base.specs.Segments.{WholeSegment, is_map}
 use Rattle.overlay_base.specs.Planar.{is_planar}
 use Rattle.overlay_base.specs.Balance.{IsBalanced}
-use Rattle.overlay_sweep.specs.Costs.{IsSearchAmong}
 use Rattle.overlay_sweep.specs.ChainWindings.{HaveColumnWindings, bottom, top}
 
 -- with balance the chain's windings are those of the columns
@@ -14,7 +13,3 @@ ChainsAreColumns = (segments : List WholeSegment) → IsTrue (is_map segments) �
 -- Without any balance: the winding above each segment is its weight on top of the winding below it, so that a chain ends at nothing.
 abbrev pub TopsAddWeights : Type 0
 TopsAddWeights = (segments : List WholeSegment) → IsTrue (is_map segments) → IsTrue (is_planar segments) → All (λ s. top segments s ≡ add (bottom segments s) (weight s.count)) segments
-
--- Among any number of entries a search by halves asks one number of orders and no other, and a table lists them all.
-abbrev pub SearchesHaveTable : Type 0
-SearchesHaveTable = (table : ℕ → ℕ) × ((n d : ℕ) → IsSearchAmong n d → d ≡ table n) × ((n : ℕ) → IsSearchAmong n (table n))

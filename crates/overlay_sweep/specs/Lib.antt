@@ -8,6 +8,7 @@ pub mod SweepOf
 pub mod EntryOf
 pub mod TreeShapes
 pub mod Costs
+pub mod Supports
 pub mod ScanTrees
 pub mod LiveOf
 pub mod Laws

@@ -2,7 +2,6 @@
 use Rattle.std.specs.Prelude.{ℕ, ℤ, MatchBool, cond, List, length}
 use Rattle.overlay_base.specs.Segments.{WholeSegment}
 use Rattle.overlay_sweep.specs.EntryOf.{entries_of}
-use Rattle.overlay_sweep.specs.TreeShapes.{subtree_height}
 use Rattle.overlay_sweep.specs.ScanTrees.{IsScanList, IsScanRow, IsScanTree}
 use Rattle.overlay_sweep.specs.declared.build.entry.Entry.{Entry}
 use Rattle.overlay_sweep.specs.declared.build.scan_mixed.ScanMixed.{ScanMixed}
@@ -49,12 +48,9 @@ tree_sums tree = entries_of (tree_entries tree)
 abbrev pub tree_held : {C I : Type 0} {m : _} {w : _} {o : _} {e : _} {p : _} → ScanTree C I m w o e p → ℕ
 tree_held tree = tree.kept
 
--- the tree is sound at x, and how high it stands
+-- the tree is sound at x
 abbrev pub IsSoundAt : {C I : Type 0} {m : _} {w : _} {o : _} {e : _} {p : _} → ℤ → ScanTree C I m w o e p → Type 0
 IsSoundAt x tree = IsScanTree x (tree_sums tree) tree.shape.nodes.items tree.root tree.kept
-
-abbrev pub height_of : {C I : Type 0} {m : _} {w : _} {o : _} {e : _} {p : _} → ScanTree C I m w o e p → ℕ
-height_of tree = subtree_height tree.shape.nodes.items tree.root
 
 -- how many orders the last call has asked, and the last run that succeeded
 abbrev pub list_asked : {C I : Type 0} {m : _} {w : _} {o : _} {e : _} {p : _} → ScanList C I m w o e p → ℕ

@@ -1,5 +1,5 @@
 -- A sweep over an arrangement: in which order the handler gets the segments, and with which fills.
-use Rattle.std.specs.Prelude.{◌≡◌, ℕ, Bool, not, List, [], ◌∷◌, map, Option, Some, None}
+use Rattle.std.specs.Prelude.{ℕ, Bool, not, List, [], ◌∷◌, map, Option, Some, None}
 use Rattle.std.specs.List.{enumerate_from, list_any}
 use Rattle.std.specs.Ordering.{ordering_then}
 use Rattle.overlay_geometry.specs.Points.{point_cmp}
@@ -46,10 +46,6 @@ module _ {D H O : Type 0} (handle : H → Visit D → H × Option O) where
   visited handler (v ∷ vs) =
       let next : H × Option O = handle handler v in
       elim next.1 [ Some answer ↦ v ∷ [] | None ↦ v ∷ visited next.0 vs ]
-
--- the handler takes every visit and breaks with none
-abbrev pub NeverBreaks : {D H O : Type 0} → (H → Visit D → H × Option O) → Type 0
-NeverBreaks {D = D} {H = H} handle = (handler : H) (visit : Visit D) → (handle handler visit).1 ≡ None
 
 -- whether one of the visits has a top that is too large
 unfoldable pub visits_leave_range : {D : Type 0} → List WholeSegment → List (Visit D) → Bool

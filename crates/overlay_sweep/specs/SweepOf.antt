@@ -6,7 +6,7 @@ use Rattle.overlay_base.specs.SegmentOf.{segments_of, data_segments_of, pairs_in
 use Rattle.overlay_base.specs.declared.overlay_core.fill_rule.FillRule.{FillRule}
 use Rattle.overlay_base.specs.declared.overlay_core.solver.Solver.{Solver}
 use Rattle.overlay_base.specs.declared.segm.segment.Segment.{Segment}
-use Rattle.overlay_sweep.specs.Costs.{IsSweepWithin, IsSweepTotal, IsSweepCost, IsAskedAs, sweep_orders}
+use Rattle.overlay_sweep.specs.Costs.{IsSweepWithin, IsSweepCost}
 use Rattle.overlay_sweep.specs.Sweep.{Visit, visits, handled, visited, visits_leave_range}
 
 -- ---- answers
@@ -25,21 +25,13 @@ sweep_leaves_range handle handler rule list = visits_leave_range (segments_of li
 abbrev pub IsSweepBound : {C I D : Type 0} {m : _} {w : _} {o : _} {e : _} {p : _} → Solver → List (Segment C I D m w o e p) → ℕ → Type 0
 IsSweepBound solver list asked = IsSweepWithin (list_fills solver.strategy (length list)) (length list) asked
 
--- They are what the searches of such a sweep ask together.
-abbrev pub IsSweepSum : {C I D : Type 0} {m : _} {w : _} {o : _} {e : _} {p : _} → Solver → List (Segment C I D m w o e p) → ℕ → Type 0
-IsSweepSum solver list asked = IsSweepTotal (list_fills solver.strategy (length list)) (segments_of list) asked
-
--- They are both, as of a whole sweep.
+-- the same by the segments of the list
 abbrev pub IsCostOf : {C I D : Type 0} {m : _} {w : _} {o : _} {e : _} {p : _} → Solver → List (Segment C I D m w o e p) → ℕ → Type 0
 IsCostOf solver list asked = IsSweepCost (list_fills solver.strategy (length list)) (segments_of list) asked
 
 -- Three searches of d orders for each of n segments are asked at most, of every d that is the most that one asks.
 abbrev pub AsksThreeLooks : (ℕ → ℕ → Type 0) → ℕ → ℕ → Type 0
 AsksThreeLooks IsMost n asked = (d : ℕ) → IsMost n d → asked ≤ 3 * n * d
-
--- The searches for the segments of a list ask that many orders together, of what one of them asks.
-abbrev pub AsksToSearch : {C I D : Type 0} {m : _} {w : _} {o : _} {e : _} {p : _} → (ℕ → ℕ → Type 0) → List (Segment C I D m w o e p) → ℕ → Type 0
-AsksToSearch asks list asked = IsAskedAs asks (λ table. sweep_orders table (segments_of list)) asked
 
 -- ---- starts
 

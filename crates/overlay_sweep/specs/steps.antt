@@ -3,3 +3,4 @@ pub mod WayOf
 pub mod PlaceOf
 pub mod LevelRows
 pub mod Positions
+pub mod Numbered

@@ -13,6 +13,7 @@ pub mod scan_row;
 pub mod scan_tree;
 mod start_point;
 pub mod string;
+pub mod supports;
 pub mod sweep;
 mod tree_shape;
 pub mod visits;

@@ -1,4 +1,6 @@
 // Sweeps over so many live segments that a row drops what has ended, or is handed over to a tree.
+ghost use Rattle.overlay_base.specs.ArrangedOf.{IsArranged};
+
 use overlay_base::overlay_core::solver::Solver;
 use overlay_base::segm::arranged::is_arranged;
 use overlay_base::segm::boolean::ShapeCountBoolean;
@@ -8,7 +10,13 @@ use overlay_base::segm::winding::WindingCount;
 use overlay_geometry::geom::point::IntPoint;
 use overlay_sweep::build::fill_handler::StoreFillsHandler;
 use overlay_sweep::build::fill_strategy::EvenOddStrategy;
+use overlay_sweep::build::live_segments::LiveSegments;
+use overlay_sweep::build::scan_list::ScanList;
+use overlay_sweep::build::scan_mixed::ScanMixed;
+use overlay_sweep::build::scan_row::ScanRow;
+use overlay_sweep::build::scan_tree::ScanTree;
 use overlay_sweep::build::sweep::SweepRunner;
+use overlay_sweep::build::visits::sweep_with_handler;
 use std::process::Abort;
 use std::test::Fail;
 
@@ -18,12 +26,13 @@ type Line = Segment<ShapeCountBoolean, i32, ()>;
 /// of live ones.
 const LIVE: [u32; 2] = [300, 1000];
 
-/// Three runs of level lines. Those of a run begin one by one, by turns above and below those before, and end together,
-/// where the next run begins.
-fn lines_in_runs(rt: &(impl Abort + AllocGlobal), live: u32) -> Result<Vec<Line>, Fail> {
-    assert!(rt; live <= 1000);
+/// Runs of level lines. Those of a run begin one by one, by turns above and below those before, and end together, where
+/// the next run begins.
+fn lines_in_runs(rt: &(impl Abort + AllocGlobal), runs: u32, live: u32) -> Result<Vec<Line>, Fail> {
+    assert!(rt; runs <= 10 && live <= 1000);
     let mut lines = Vec::new(rt.alloc());
-    for start in [0, 1000, 2000] {
+    for run in 0..runs {
+        let start = 1000 * run as i32;
         for i in 0..live {
             let x = i as i32;
             let y = if i % 2 == 0 { 1000 - x } else { x - 1000 };
@@ -42,22 +51,37 @@ fn fill_of_line(i: u32) -> SegmentFill {
     if i / 2 % 2 == 0 { 1 } else { 2 }
 }
 
-/// Sweeps over three runs of lines, so many live at a time.
-fn fill_runs(rt: &(impl Abort + AllocGlobal), live: u32) -> Result<(), Fail> {
-    let lines = lines_in_runs(rt, live)?;
-    assert!(rt; is_arranged(&lines));
+/// The fills of such runs.
+fn fills_of_runs(
+    rt: &(impl Abort + AllocGlobal),
+    runs: u32,
+    live: u32,
+) -> Result<Vec<SegmentFill>, Fail> {
     let mut expected = Vec::new(rt.alloc());
-    for _ in 0..3 {
+    for _ in 0..runs {
         for i in 0..live {
             expected.push(fill_of_line(i))?;
         }
     }
+    Ok(expected)
+}
+
+/// Sweeps over runs of lines, so many live at a time, under some strategies.
+fn fill_runs(
+    rt: &(impl Abort + AllocGlobal),
+    runs: u32,
+    live: u32,
+    solvers: &[Solver],
+) -> Result<(), Fail> {
+    let lines = lines_in_runs(rt, runs, live)?;
+    assert!(rt; is_arranged(&lines));
+    let expected = fills_of_runs(rt, runs, live)?;
     let mut runner = SweepRunner::new(rt.alloc());
-    for solver in [Solver::TREE, Solver::LIST, Solver::TREE] {
+    for solver in solvers {
         let mut fills = vec![in rt.alloc(); 0; lines.len()]?;
         let handler = StoreFillsHandler::new(&mut fills);
         let swept = runner
-            .run::<(), EvenOddStrategy, StoreFillsHandler>(&solver, &lines, handler)
+            .run::<(), EvenOddStrategy, StoreFillsHandler>(solver, &lines, handler)
             .expect(rt, "no refusal");
         assert_eq!(rt; swept.as_slice(), expected.as_slice());
     }
@@ -67,7 +91,55 @@ fn fill_runs(rt: &(impl Abort + AllocGlobal), live: u32) -> Result<(), Fail> {
 #[test]
 fn each_of_many_live_lines_is_filled_on_one_side(rt: HostRuntime) -> Result<(), Fail> {
     for live in LIVE {
-        fill_runs(&rt, live)?;
+        fill_runs(&rt, 3, live, &[Solver::TREE, Solver::LIST, Solver::TREE])?;
     }
+    Ok(())
+}
+
+/// Under `AUTO` 8,000 segments are no list.
+#[test]
+fn many_lines_are_filled_under_auto(rt: HostRuntime) -> Result<(), Fail> {
+    fill_runs(&rt, 8, 1000, &[Solver::AUTO])
+}
+
+/// Sweeps over lines with live segments of a kind, wants these fills, and returns how many orders this compared.
+fn compared_over<L: LiveSegments<ShapeCountBoolean, i32>>(
+    rt: &(impl Abort + AllocGlobal),
+    live: &mut L,
+    lines: &[Line],
+    expected: &[SegmentFill],
+) -> Result<u128, Fail>
+    requires { IsArranged lines.now }
+{
+    let mut ways = Vec::new(rt.alloc());
+    let mut fills = vec![in rt.alloc(); 0; lines.len()]?;
+    let handler = StoreFillsHandler::new(&mut fills);
+    let mut compared = 0;
+    let swept = sweep_with_handler::<
+        ShapeCountBoolean,
+        i32,
+        (),
+        EvenOddStrategy,
+        L,
+        StoreFillsHandler,
+    >(live, &mut ways, lines, handler, &mut compared);
+    assert_eq!(rt; swept.expect(rt, "no refusal").as_slice(), expected);
+    Ok(compared)
+}
+
+/// Each kind of live segments serves a sweep by itself. What becomes a tree compares other orders than the row that
+/// stays one, so the tree does serve; among 1,000 it compares at most 19 in a call, of two for each line.
+#[test]
+fn a_tree_serves_where_many_are_live(rt: HostRuntime) -> Result<(), Fail> {
+    let lines = lines_in_runs(&rt, 3, 1000)?;
+    assert!(rt; is_arranged(&lines));
+    let expected = fills_of_runs(&rt, 3, 1000)?;
+    let alloc = rt.alloc();
+    compared_over(&rt, &mut ScanList::new(alloc), &lines, &expected)?;
+    let row = compared_over(&rt, &mut ScanRow::new(alloc), &lines, &expected)?;
+    let tree = compared_over(&rt, &mut ScanTree::new(alloc), &lines, &expected)?;
+    let mixed = compared_over(&rt, &mut ScanMixed::new(alloc), &lines, &expected)?;
+    assert!(rt; row != mixed);
+    assert!(rt; tree <= 3000 * 2 * 19 && mixed <= 3000 * 2 * 19);
     Ok(())
 }

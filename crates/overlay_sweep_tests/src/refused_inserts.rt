@@ -4,7 +4,6 @@ ghost use Rattle.overlay_base.specs.declared.segm.fault.Fault.TheVariants.{Memor
 ghost use Rattle.overlay_geometry.specs.PointOf.{point_of};
 ghost use Rattle.overlay_geometry.specs.InRange.{IsPointInRange};
 ghost use Rattle.overlay_geometry.specs.VSegmentOf.{v_pair_of, IsVSegmentInRange};
-ghost use Rattle.overlay_sweep.specs.Costs.{lasting_at};
 ghost use Rattle.overlay_sweep.specs.Live.{sum_below, HoldSameFrom, AreFreeAt};
 
 use overlay_base::segm::arranged::is_arranged;
@@ -48,8 +47,6 @@ impl<C: WindingCount, I: OverlayInt, L: LiveSegments<C, I>> LiveSegments<C, I> f
 
     ghost is_most = { λ n d. L.is_most n d };
 
-    ghost asks = { λ n d. L.asks n d };
-
     fn insert(&mut self, segment: VSegment<I>, sum: C, x: I) -> Result<(), Fault>
         requires in_range { IsVSegmentInRange I.whole I.MIN_COORD I.MAX_COORD segment }
         requires start { I.whole segment.a.x ≡ I.whole x }
@@ -67,9 +64,6 @@ impl<C: WindingCount, I: OverlayInt, L: LiveSegments<C, I>> LiveSegments<C, I> f
         ensures held { OnOk result (L.held self.new.live ≤ suc (L.held self.old.live)) }
         ensures most { OnOk result ((n d : ℕ) → L.held self.old.live ≤ n → L.is_most n d
             → L.asked self.new.live + L.held self.new.live * d ≤ suc (suc (L.held self.old.live)) * d) }
-        ensures lasting { OnOk result ((y : ℤ) → I.whole x ≤ℤ y → lasting_at y (L.sums self.new.live) ≡ lasting_at y
-            (record { pair = v_pair_of I.whole segment; count = C.winding sum } ∷ L.sums self.old.live)) }
-        ensures look { OnOk result (L.asks (lasting_at (I.whole x) (L.sums self.old.live)) (L.asked self.new.live)) }
     {
         if self.passed_before == 0 {
             self.live.clear();
@@ -90,9 +84,6 @@ impl<C: WindingCount, I: OverlayInt, L: LiveSegments<C, I>> LiveSegments<C, I> f
         ensures held { L.held self.new.live ≤ L.held self.old.live }
         ensures most { (n d : ℕ) → L.held self.old.live ≤ n → L.is_most n d
             → L.asked self.new.live + L.held self.new.live * d ≤ suc (L.held self.old.live) * d }
-        ensures lasting { (y : ℤ) → I.whole x ≤ℤ y → lasting_at y (L.sums self.new.live)
-            ≡ lasting_at y (L.sums self.old.live) }
-        ensures look { L.asks (lasting_at (I.whole x) (L.sums self.old.live)) (L.asked self.new.live) }
     {
         self.live.sum_below(x, p, default)
     }

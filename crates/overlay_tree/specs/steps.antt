@@ -3,3 +3,4 @@ pub mod IntervalTree
 pub mod NodeOf
 pub mod Swept
 pub mod TreeSweep
+pub mod ListScan

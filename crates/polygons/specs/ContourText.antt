@@ -1,5 +1,5 @@
 -- The text of contours: what a line of the input writes, what is wrong with one, and the lines of the output.
-use Rattle.std.specs.Prelude.{◌≡◌, ◌≢◌, ◌⊎◌, ℕ, ℤ, IsTrue, IsFalse, Bool, List, [], ◌∷◌, ◌++◌, codes, flat_map, Vec}
+use Rattle.std.specs.Prelude.{◌≡◌, ◌≢◌, ◌⊎◌, ℕ, ℤ, IsTrue, IsFalse, Bool, true, false, List, [], ◌∷◌, ◌++◌, codes, decimal, flat_map, Vec}
 use Rattle.std.specs.List.{list_all}
 use Rattle.overlay_geometry.specs.Points.{Point}
 use Rattle.overlay_geometry.specs.Coordinates.{is_point_in_range}
@@ -8,13 +8,15 @@ use Rattle.overlay_base.specs.declared.segm.shape_type.ShapeType.TheVariants.{Su
 use Rattle.overlay_text.specs.declared.stop.LineFault.{LineFault}
 use Rattle.overlay_text.specs.declared.stop.LineFault.TheVariants.{Form, Range}
 use Rattle.overlay_text.specs.Numbers.{WritesNumber}
-use Rattle.overlay_text.specs.Output.{pair_text}
+use Rattle.overlay_text.specs.Output.{pair_text, passes_line}
 use Rattle.overlay_text.specs.Text.{words_of_line, NamesShape, lines_of, AskInTurn, IsFirstFaultOf}
 use Rattle.std.specs.Global.{Global}
 use Rattle.overlay_geometry.specs.declared.geom.point.IntPoint.{IntPoint}
+use Rattle.overlay_contours.specs.ShapesOf.{shapes_of}
 use Rattle.overlay_contours.specs.ContoursOf.{contours_of}
+use Rattle.overlay_contours.specs.Kept.{subject_of as kept_subject, clip_of as kept_clip}
+use Rattle.overlay_contours.specs.declared.overlay.Overlay.{Overlay}
 use Rattle.overlay_text.specs.declared.stop.Stop.{Stop}
-use Rattle.polygons.specs.declared.contour_lines.Shapes.{Shapes}
 
 -- a contour of a shape
 pub record GivenContour : Type 0 where
@@ -66,13 +68,32 @@ contour_line points = codes "contour" ++ points_text points ++ codes "\n"
 abbrev pub contour_lines : List (List Point) → List ℕ
 contour_lines contours = flat_map contour_line contours
 
+-- `shape`, and then its contours
+unfoldable pub shape_text : List (List Point) → List ℕ
+shape_text contours = codes "shape\n" ++ contour_lines contours
+
+abbrev pub shape_lines : List (List (List Point)) → List ℕ
+shape_lines shapes = flat_map shape_text shapes
+
+-- `reach N`
+abbrev pub reach_line : ℕ → List ℕ
+reach_line halves = codes "reach " ++ decimal halves ++ codes "\n"
+
+-- the lines that tell of a run, where it has a report: how many passes it made, and how far these reach, in halves
+abbrev pub report_text : Bool → ℕ → ℕ → List ℕ
+report_text false passes halves = []
+report_text true passes halves = passes_line passes ++ reach_line halves
+
 -- ---- for contours of code
 
--- The lines of a text write these shapes, in the range of an engine.
-abbrev pub WritesShapes : {I : Type 0} → (I → ℤ) → I → I → List ℕ → Shapes I → Type 0
-WritesShapes whole least greatest bytes shapes =
-    (given : List GivenContour) × AskInTurn (AsksForContour (whole least) (whole greatest)) (lines_of bytes) given
-    × (contours_of whole shapes.subject.items ≡ subject_of given) × (contours_of whole shapes.clip.items ≡ clip_of given)
+-- An overlay keeps these contours.
+abbrev pub Keeps : {I : Type 0} {w : _} {o : _} {e : _} {p : _} → Overlay I w o e p → List GivenContour → Type 0
+Keeps overlay given = (kept_subject overlay ≡ subject_of given) × (kept_clip overlay ≡ clip_of given)
+
+-- It keeps the contours that the lines of a text write, in the range of its engine.
+abbrev pub KeepsWritten : {I : Type 0} {w : _} {o : _} {e : _} {p : _} → List ℕ → Overlay I w o e p → Type 0
+KeepsWritten {w = w} bytes overlay =
+    (given : List GivenContour) × AskInTurn (AsksForContour (w.whole w.MIN_COORD) (w.whole w.MAX_COORD)) (lines_of bytes) given × Keeps overlay given
 
 -- The stop names the first faulty line of a text.
 abbrev pub NamesFirstFaulty : {I : Type 0} → (I → ℤ) → I → I → List ℕ → Stop → Type 0
@@ -82,3 +103,7 @@ NamesFirstFaulty whole least greatest bytes stop =
 -- the lines of contours
 abbrev pub contours_text : {I : Type 0} → (I → ℤ) → List (Vec (IntPoint I) Global) → List ℕ
 contours_text whole contours = contour_lines (contours_of whole contours)
+
+-- those of shapes
+abbrev pub shapes_text : {I : Type 0} → (I → ℤ) → List (Vec (Vec (IntPoint I) Global) Global) → List ℕ
+shapes_text whole shapes = shape_lines (shapes_of whole shapes)

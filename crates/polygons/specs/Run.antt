@@ -1,12 +1,15 @@
 -- What the program makes of the text of its input.
-use Rattle.std.specs.Prelude.{◌≡◌, ◌≢◌, ◌⊎◌, ℕ, ℤ, List, All, None, Some, Ok, Err, codes}
+use Rattle.std.specs.Prelude.{◌≡◌, ◌≢◌, ◌⊎◌, ℕ, ℤ, Bool, true, false, List, [], ◌∷◌, ◌++◌, All, None, Some, Ok, Err, codes}
 use Rattle.std.specs.declared.result.Result.{Result}
 use Rattle.overlay_geometry.specs.Points.{Point}
 use Rattle.overlay_base.specs.Radius.{exponent_cap}
+use Rattle.overlay_base.specs.declared.overlay_core.fill_rule.FillRule.{FillRule}
 use Rattle.overlay_base.specs.declared.overlay_core.overlay_rule.OverlayRule.{OverlayRule}
 use Rattle.overlay_base.specs.declared.segm.fault.Fault.TheVariants.{CountOutOfRange}
+use Rattle.overlay_contours.specs.Beyond.{IsOverlayBeyond, IsShapeOverlayBeyond, AreOfRun}
 use Rattle.overlay_contours.specs.Polygons.{IsPolygonOverlay}
 use Rattle.overlay_contours.specs.Refusals.{CountsLeaveRange}
+use Rattle.overlay_contours.specs.Shapes.{IsShapeOverlay}
 use Rattle.overlay_split.specs.Run.{Settings as RunSettings}
 use Rattle.overlay_text.specs.declared.settings.Settings.{Settings}
 use Rattle.overlay_text.specs.declared.stop.Stop.{Stop}
@@ -15,11 +18,28 @@ use Rattle.overlay_text.specs.Engines.{least_of, greatest_of, engine_bits}
 use Rattle.overlay_text.specs.Runs.{Behavior}
 use Rattle.overlay_text.specs.Text.{lines_of, AskInTurn, IsFirstFaultOf}
 use Rattle.overlay_text.specs.Words.{setting, WordsSet}
-use Rattle.polygons.specs.ContourText.{GivenContour, AsksForContour, IsFaultyContour, subject_of, clip_of, contour_lines}
+use Rattle.polygons.specs.ContourText.{GivenContour, AsksForContour, IsFaultyContour, subject_of, clip_of, contour_lines, shape_lines, report_text}
+use Rattle.polygons.specs.declared.run.Choices.{Choices}
 
 -- the word sets neither of the two names that only `arrange` reads
 abbrev pub IsNoLimitOrRadius : List ℕ → Type 0
 IsNoLimitOrRadius word = ((value : List ℕ) → word ≢ setting (codes "limit") value) × ((value : List ℕ) → word ≢ setting (codes "radius") value)
+
+-- the words set the settings, and none of them sets such a name
+abbrev pub Set : List (List ℕ) → Settings → Type 0
+Set words settings = WordsSet words settings × All IsNoLimitOrRadius words
+
+-- a word, where it is there
+abbrev pub word_if : Bool → List ℕ → List (List ℕ)
+word_if false word = []
+word_if true word = word ∷ []
+
+-- The words ask for these choices: `shapes` and `report` stand first, each where it is chosen, and the others set the
+-- settings.
+abbrev pub AskFor : List (List ℕ) → Choices → Type 0
+AskFor words choices =
+    (others : List (List ℕ)) × (words ≡ word_if choices.in_shapes (codes "shapes") ++ (word_if choices.has_report (codes "report") ++ others))
+    × Set others choices.settings
 
 -- what the run of an overlay is set to, in coordinates of that many bits
 abbrev pub overlay_settings : ℕ → Settings → RunSettings
@@ -30,28 +50,60 @@ overlay_settings bits settings = record {
   limit = 256;
 }
 
--- what an overlay of the given contours returns under a rule, in coordinates of that many bits
-abbrev pub IsOverlayText : ℕ → Settings → OverlayRule → List GivenContour → Result (List ℕ) Stop → Type 0
-IsOverlayText bits settings rule given answer =
-    ((contours : List (List Point)) × IsPolygonOverlay (overlay_settings bits settings) rule settings.fill_rule (subject_of given) (clip_of given) contours
-    × (answer ≡ Ok (contour_lines contours)))
-    ⊎ (CountsLeaveRange (overlay_settings bits settings) (subject_of given) (clip_of given) × (answer ≡ Err (Refused CountOutOfRange)))
+-- The contours are what an overlay of the given ones returns under a rule, after that many passes. Those move crossings
+-- by at most that many halves, and what is said of places holds beyond that distance from the given edges.
+pub record IsReportedOverlay (run : RunSettings) (rule : OverlayRule) (fill_rule : FillRule) (given : List GivenContour) (contours : List (List Point)) (passes halves : ℕ) : Type 0 where
+  pub overlay : IsPolygonOverlay run rule fill_rule (subject_of given) (clip_of given) contours
+  pub beyond : IsOverlayBeyond halves rule fill_rule (subject_of given) (clip_of given) contours
+  pub report : AreOfRun run (subject_of given) (clip_of given) passes halves
 
--- the overlay of the contours that the lines of a text write, or the first fault of its lines
-abbrev pub IsRuleAnswer : ℤ → ℤ → ℕ → Settings → OverlayRule → List ℕ → Result (List ℕ) Stop → Type 0
-IsRuleAnswer least greatest bits settings rule bytes answer =
-    ((given : List GivenContour) × AskInTurn (AsksForContour least greatest) (lines_of bytes) given × IsOverlayText bits settings rule given answer)
+-- the same in shapes
+pub record AreReportedShapes (run : RunSettings) (rule : OverlayRule) (fill_rule : FillRule) (given : List GivenContour) (shapes : List (List (List Point))) (passes halves : ℕ) : Type 0 where
+  pub overlay : IsShapeOverlay run rule fill_rule (subject_of given) (clip_of given) shapes
+  pub beyond : IsShapeOverlayBeyond halves rule fill_rule (subject_of given) (clip_of given) shapes
+  pub report : AreOfRun run (subject_of given) (clip_of given) passes halves
+
+-- what an overlay of the given contours returns under a rule, in coordinates of that many bits
+abbrev pub IsOverlayText : ℕ → Choices → OverlayRule → List GivenContour → Result (List ℕ) Stop → Type 0
+IsOverlayText bits choices rule given answer =
+    ((contours : List (List Point)) × (passes : ℕ) × (halves : ℕ)
+    × IsReportedOverlay (overlay_settings bits choices.settings) rule choices.settings.fill_rule given contours passes halves
+    × (answer ≡ Ok (contour_lines contours ++ report_text choices.has_report passes halves)))
+    ⊎ (CountsLeaveRange (overlay_settings bits choices.settings) (subject_of given) (clip_of given) × (answer ≡ Err (Refused CountOutOfRange)))
+
+-- the same in shapes
+abbrev pub IsShapesText : ℕ → Choices → OverlayRule → List GivenContour → Result (List ℕ) Stop → Type 0
+IsShapesText bits choices rule given answer =
+    ((shapes : List (List (List Point))) × (passes : ℕ) × (halves : ℕ)
+    × AreReportedShapes (overlay_settings bits choices.settings) rule choices.settings.fill_rule given shapes passes halves
+    × (answer ≡ Ok (shape_lines shapes ++ report_text choices.has_report passes halves)))
+    ⊎ (CountsLeaveRange (overlay_settings bits choices.settings) (subject_of given) (clip_of given) × (answer ≡ Err (Refused CountOutOfRange)))
+
+-- the one or the other
+abbrev pub IsText : Bool → ℕ → Choices → OverlayRule → List GivenContour → Result (List ℕ) Stop → Type 0
+IsText false = IsOverlayText
+IsText true = IsShapesText
+
+-- what is made of the contours that the lines of a text write, or the first fault of its lines
+abbrev pub IsReadAnswer : ℤ → ℤ → (List GivenContour → Result (List ℕ) Stop → Type 0) → List ℕ → Result (List ℕ) Stop → Type 0
+IsReadAnswer least greatest Makes bytes answer =
+    ((given : List GivenContour) × AskInTurn (AsksForContour least greatest) (lines_of bytes) given × Makes given answer)
     ⊎ ((stop : Stop) × IsFirstFaultOf (AsksForContour least greatest) (IsFaultyContour least greatest) (lines_of bytes) stop × (answer ≡ Err stop))
 
--- the same by the rule that the settings choose, and the stop where they choose none
-abbrev pub IsPolygonsAnswer : ℤ → ℤ → ℕ → Settings → List ℕ → Result (List ℕ) Stop → Type 0
-IsPolygonsAnswer least greatest bits settings bytes answer =
-    ((rule : OverlayRule) × (settings.rule ≡ Some rule) × IsRuleAnswer least greatest bits settings rule bytes answer)
-    ⊎ ((settings.rule ≡ None) × (answer ≡ Err NoRule))
+-- the overlay of the contours that the lines of a text write, in shapes or not, or the first fault of its lines
+abbrev pub IsRuleAnswer : ℤ → ℤ → ℕ → Choices → OverlayRule → List ℕ → Result (List ℕ) Stop → Type 0
+IsRuleAnswer least greatest bits choices rule = IsReadAnswer least greatest (IsText choices.in_shapes bits choices rule)
 
--- for which settings words ask, and what the answer is, in the coordinates of the engine that they choose
-abbrev pub polygons_behavior : Behavior Settings
+-- the same by the rule that the settings choose, and the stop where they choose none
+abbrev pub IsPolygonsAnswer : ℤ → ℤ → ℕ → Choices → List ℕ → Result (List ℕ) Stop → Type 0
+IsPolygonsAnswer least greatest bits choices bytes answer =
+    ((rule : OverlayRule) × (choices.settings.rule ≡ Some rule) × IsRuleAnswer least greatest bits choices rule bytes answer)
+    ⊎ ((choices.settings.rule ≡ None) × (answer ≡ Err NoRule))
+
+-- for which choices words ask, and what the answer is, in the coordinates of the engine that they choose
+abbrev pub polygons_behavior : Behavior Choices
 polygons_behavior = record {
-  AskFor = λ words settings. WordsSet words settings × All IsNoLimitOrRadius words;
-  Answers = λ settings bytes answer. IsPolygonsAnswer (least_of settings.engine) (greatest_of settings.engine) (engine_bits settings.engine) settings bytes answer;
+  AskFor = AskFor;
+  Answers = λ choices bytes answer.
+      IsPolygonsAnswer (least_of choices.settings.engine) (greatest_of choices.settings.engine) (engine_bits choices.settings.engine) choices bytes answer;
 }

@@ -1,28 +1,22 @@
 // The input: each line is `S X Y X Y ..` for a contour of the subject, or `C X Y X Y ..` for one of the clip.
-ghost use Rattle.std.specs.Prelude.{◌≡◌, ◌⊎◌, List, IsTrue, IsFalse, OnOk, IfNone, IfSome, IfOk, IfErr, []};
+ghost use Rattle.std.specs.Prelude.{◌≡◌, ◌⊎◌, List, IsTrue, IsFalse, OnOk, IfNone, IfSome, IfOk, IfErr, [], ◌∷◌, ◌++◌};
 ghost use Rattle.overlay_geometry.specs.Points.{Point};
 ghost use Rattle.overlay_base.specs.declared.segm.fault.Fault.TheVariants.{Memory};
-ghost use Rattle.overlay_base.specs.declared.segm.shape_type.ShapeType.TheVariants.{Subject, Clip};
 ghost use Rattle.overlay_contours.specs.ContoursOf.{points_of};
 ghost use Rattle.overlay_text.specs.Text.{words_of, words_of_line};
-ghost use Rattle.polygons.specs.ContourText.{WritePoints, are_in_range, AsksForContour, IsFaultyContour, WritesShapes, NamesFirstFaulty};
+ghost use Rattle.polygons.specs.ContourText.{GivenContour, WritePoints, are_in_range, AsksForContour, IsFaultyContour, Keeps, KeepsWritten, NamesFirstFaulty};
 ghost use Rattle.overlay_text.specs.Runs.{IfStopped};
 
 use overlay_base::segm::shape_type::ShapeType;
 use overlay_contours::contour::IntContour;
+use overlay_contours::fault::ContourFault;
+use overlay_contours::overlay::Overlay;
 use overlay_geometry::geom::point::IntPoint;
 use overlay_geometry::num::OverlayInt;
 use overlay_text::lines::{Lines, Words, point, shape_type};
 use overlay_text::number::signed_number;
 use overlay_text::stop::{LineFault, Stop};
 use std::alloc::Global;
-
-/// The contours of a subject and of a clip.
-#[derive(Drop)]
-pub struct Shapes<I: OverlayInt> {
-    pub subject: Vec<IntContour<I>>,
-    pub clip: Vec<IntContour<I>>,
-}
 
 /// A contour of a shape.
 #[derive(Drop)]
@@ -31,24 +25,38 @@ struct ShapeContour<I: OverlayInt> {
     points: IntContour<I>,
 }
 
-/// The contours that the lines of a text write, in order. The first faulty line stops the run.
-pub fn read_contours<I: OverlayInt>(alloc: Global, bytes: &[u8]) -> Result<Shapes<I>, Stop>
-    ensures contours { IfOk result (λ shapes. WritesShapes I.whole I.MIN_COORD I.MAX_COORD bytes.now shapes) }
+/// An overlay of the contours that the lines of a text write, in order. The first faulty line stops the run.
+pub fn read_contours<I: OverlayInt>(alloc: Global, bytes: &[u8]) -> Result<Overlay<I>, Stop>
+    ensures contours { IfOk result (KeepsWritten bytes.now) }
     ensures faulty { IfStopped result (NamesFirstFaulty I.whole I.MIN_COORD I.MAX_COORD bytes.now) }
 {
-    let mut subject = Vec::new(alloc);
-    let mut clip = Vec::new(alloc);
+    let mut overlay = Overlay::new(alloc);
     let mut wide = Vec::new(alloc);
     for (index, line) in Lines::of(bytes).enumerate() {
-        let Some(contour) = read_contour(alloc, index + 1, line, &mut wide)? else {
-            continue;
-        };
-        match contour.shape_type {
-            ShapeType::Subject => subject.push(contour.points)?,
-            ShapeType::Clip => clip.push(contour.points)?,
+        if let Some(contour) = read_contour(alloc, index + 1, line, &mut wide)? {
+            add_contour(&mut overlay, &contour)?;
         }
     }
-    Ok(Shapes { subject, clip })
+    Ok(overlay)
+}
+
+/// Adds a contour in range behind those that an overlay keeps.
+fn add_contour<I: OverlayInt>(
+    overlay: &mut Overlay<I>,
+    contour: &ShapeContour<I>,
+) -> Result<(), Stop>
+    requires { IsTrue (are_in_range (I.whole I.MIN_COORD) (I.whole I.MAX_COORD)
+        (points_of I.whole contour.now.points.items)) }
+    ensures added { OnOk result ((given : List GivenContour) → Keeps overlay.old given → Keeps overlay.new
+        (given ++ record { shape_type = contour.now.shape_type; points = points_of I.whole contour.now.points.items } ∷ [])) }
+    ensures stop { IfErr result (λ stop. stop ≡ Stop.Refused Memory) }
+{
+    match overlay.add_contour(&contour.points, contour.shape_type) {
+        Ok(()) => Ok(()),
+        Err(ContourFault::Refused(fault)) => Err(Stop::Refused(fault)),
+        // the points are in range
+        Err(ContourFault::OutOfRange { .. }) => unreachable!(),
+    }
 }
 
 /// The contour of a line, or `None` where there is nothing but spaces. The list is for its points.

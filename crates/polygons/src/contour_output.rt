@@ -1,11 +1,13 @@
-// The output: a line for each contour.
+// The output: a line for each contour, in shapes one before those of each, and at the end what a run reports.
 ghost use Rattle.std.specs.Prelude.{◌≡◌, ◌++◌, OnOk, string_bytes};
 ghost use Rattle.overlay_geometry.specs.PointOf.{point_of};
-ghost use Rattle.overlay_contours.specs.ContoursOf.{points_of};
+ghost use Rattle.overlay_contours.specs.ContoursOf.{points_of, contours_of};
+ghost use Rattle.overlay_contours.specs.Kept.{passes_of, reach_of};
 ghost use Rattle.overlay_text.specs.Output.{pair_text};
-ghost use Rattle.polygons.specs.ContourText.{points_text, contour_line, contours_text};
+ghost use Rattle.polygons.specs.ContourText.{points_text, contour_line, contours_text, shape_text, shapes_text, report_text};
 
-use overlay_contours::contour::IntContour;
+use overlay_contours::contour::{IntContour, IntShape};
+use overlay_contours::overlay::Overlay;
 use overlay_geometry::geom::point::IntPoint;
 use overlay_geometry::num::OverlayInt;
 use overlay_text::line_end::{ROOM, append};
@@ -23,6 +25,49 @@ pub fn write_contours<I: OverlayInt>(
         write_contour(text, contour)?;
     }
     Ok(())
+}
+
+/// Writes `shape`, and then its contours, for each shape.
+pub fn write_shapes<I: OverlayInt>(
+    text: &mut String,
+    shapes: &[IntShape<I>],
+) -> Result<(), AllocError>
+    ensures { OnOk result (string_bytes text.new ≡ string_bytes text.old ++ shapes_text I.whole shapes.now) }
+{
+    for shape in shapes {
+        write_shape(text, shape)?;
+    }
+    Ok(())
+}
+
+/// Writes `passes N` and `reach N` of the last overlay, where a report is asked for.
+pub fn write_report<I: OverlayInt>(
+    text: &mut String,
+    has_report: bool,
+    overlay: &Overlay<I>,
+) -> Result<(), AllocError>
+    ensures { OnOk result (string_bytes text.new ≡ string_bytes text.old
+        ++ report_text has_report (passes_of overlay.now) (reach_of overlay.now)) }
+{
+    if has_report {
+        let (passes, reach) = (overlay.passes(), overlay.reach());
+        writeln!(text, "passes {passes}")?;
+        writeln!(text, "reach {reach}")?;
+    }
+    Ok(())
+}
+
+/// Writes `shape`, and then its contours.
+#[tactic(auto, unfolding(crate::specs::ContourText::shape_text))]
+fn write_shape<I: OverlayInt>(
+    text: &mut String,
+    contours: &[IntContour<I>],
+) -> Result<(), AllocError>
+    ensures { OnOk result (string_bytes text.new ≡ string_bytes text.old
+        ++ shape_text (contours_of I.whole contours.now)) }
+{
+    text.push_str("shape\n")?;
+    write_contours(text, contours)
 }
 
 /// Writes a contour.

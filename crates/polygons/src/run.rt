@@ -1,16 +1,15 @@
 // The program: which words it reads, and what it answers.
-ghost use Rattle.std.specs.Prelude.{◌≡◌, ◌⊎◌, ℕ, true, false, List, Ok, Err, codes, IfSome, IfOk, IfErr, map, string_bytes};
+ghost use Rattle.std.specs.Prelude.{◌≡◌, ◌≢◌, ◌⊎◌, ℕ, true, false, List, ◌∷◌, ◌++◌, Ok, Err, codes, IfOk, IfErr, map, string_bytes};
 ghost use Rattle.overlay_base.specs.declared.overlay_core.overlay_rule.OverlayRule.{OverlayRule};
 ghost use Rattle.overlay_base.specs.declared.segm.fault.Fault.TheVariants.{Memory};
 ghost use Rattle.overlay_text.specs.declared.stop.Stop.{Stop};
 ghost use Rattle.overlay_text.specs.Words.{setting};
-ghost use Rattle.polygons.specs.Run.{IsNoLimitOrRadius, IsRuleAnswer, IsPolygonsAnswer, polygons_behavior};
+ghost use Rattle.overlay_text.specs.declared.settings.Settings.{Settings};
+ghost use Rattle.polygons.specs.Run.{IsNoLimitOrRadius, Set, word_if, IsOverlayText, IsShapesText, IsReadAnswer, IsRuleAnswer, IsPolygonsAnswer, polygons_behavior};
 
 use crate::contour_lines::read_contours;
-use crate::contour_output::write_contours;
+use crate::contour_output::{write_contours, write_report, write_shapes};
 use overlay_base::overlay_core::overlay_rule::OverlayRule;
-use overlay_contours::fault::ContourFault;
-use overlay_contours::overlay::overlay_contours;
 use overlay_geometry::num::OverlayInt;
 use overlay_text::settings::{Engine, Settings};
 use overlay_text::shell::Program;
@@ -18,33 +17,74 @@ use overlay_text::stop::Stop;
 use overlay_text::words::read_settings;
 use std::alloc::Global;
 
+/// What the words choose.
+#[derive(Clone, Copy, Debug, PartialEq)]
+pub struct Choices {
+    /// Whether the contours are put into shapes.
+    pub in_shapes: bool,
+    /// Whether the output ends with what the run reports.
+    pub has_report: bool,
+    pub settings: Settings,
+}
+
 /// The program `polygons`: the contract of a run is that of `run_over`, with this program's `behavior`.
 pub struct PolygonsProgram;
 
 impl Program for PolygonsProgram {
-    type Choices = Settings;
+    type Choices = Choices;
 
     ghost behavior = { polygons_behavior };
 
     fn usage() -> &'static str {
-        "usage: polygons rule=NAME [fill|engine|precision|strategy=VALUE ..]"
+        "usage: polygons [shapes] [report] rule=NAME [fill|engine|precision|strategy=VALUE ..]"
     }
 
-    fn read_words(words: &[String]) -> Result<Settings, Stop> {
-        for word in words {
-            if is_limit_or_radius(word.as_str()) {
-                return Err(Stop::Usage);
-            }
-        }
-        read_settings(words)
+    fn read_words(words: &[String]) -> Result<Choices, Stop> {
+        let (in_shapes, behind_shapes) = after_word(words, "shapes");
+        let (has_report, others) = after_word(behind_shapes, "report");
+        let settings = read_polygon_settings(others)?;
+        Ok(Choices {
+            in_shapes,
+            has_report,
+            settings,
+        })
     }
 
-    fn answer(alloc: Global, settings: Settings, bytes: &[u8]) -> Result<String, Stop> {
-        match settings.engine {
-            Engine::I16 => answer_with::<i16>(alloc, settings, bytes),
-            Engine::I32 => answer_with::<i32>(alloc, settings, bytes),
+    fn answer(alloc: Global, choices: Choices, bytes: &[u8]) -> Result<String, Stop> {
+        match choices.settings.engine {
+            Engine::I16 => answer_with::<i16>(alloc, choices, bytes),
+            Engine::I32 => answer_with::<i32>(alloc, choices, bytes),
         }
     }
+}
+
+/// Whether a word is the first of the words, and the words without it.
+fn after_word<'a>(words: &'a [String], first: &str) -> (bool, &'a [String])
+    ensures others { map string_bytes words.now ≡ word_if result.0 first.now ++ map string_bytes result.1.now }
+    ensures none { result.0 ≡ false → (others : List (List ℕ)) → map string_bytes words.now ≢ first.now ∷ others }
+{
+    let Some((word, others)) = words.split_first() else {
+        return (false, words);
+    };
+    if word.as_str() == first {
+        (true, others)
+    } else {
+        (false, words)
+    }
+}
+
+/// The settings that the words choose. None of them may set the limit or the radius.
+fn read_polygon_settings(words: &[String]) -> Result<Settings, Stop>
+    ensures set { IfOk result (λ settings. Set (map string_bytes words.now) settings) }
+    ensures usage { IfErr result (λ stop. (stop ≡ Stop.Usage)
+        × ((settings : Settings) → ¬ (Set (map string_bytes words.now) settings))) }
+{
+    for word in words {
+        if is_limit_or_radius(word.as_str()) {
+            return Err(Stop::Usage);
+        }
+    }
+    read_settings(words)
 }
 
 /// Whether a word sets the limit or the radius, which an overlay of polygons has no use for.
@@ -57,45 +97,77 @@ fn is_limit_or_radius(word: &str) -> bool
 }
 
 /// The text of the overlay of the contours that the input writes.
-fn answer_with<I: OverlayInt>(
-    alloc: Global,
-    settings: Settings,
-    bytes: &[u8],
-) -> Result<String, Stop>
+fn answer_with<I: OverlayInt>(alloc: Global, choices: Choices, bytes: &[u8]) -> Result<String, Stop>
     ensures text { IfOk result (λ text. IsPolygonsAnswer (I.whole I.MIN_COORD) (I.whole I.MAX_COORD) I.BITS
-        settings bytes.now (Ok (string_bytes text))) }
+        choices bytes.now (Ok (string_bytes text))) }
     ensures stop { IfErr result (λ stop. (stop ≡ Stop.Refused Memory)
-        ⊎ IsPolygonsAnswer (I.whole I.MIN_COORD) (I.whole I.MAX_COORD) I.BITS settings bytes.now (Err stop)) }
+        ⊎ IsPolygonsAnswer (I.whole I.MIN_COORD) (I.whole I.MAX_COORD) I.BITS choices bytes.now (Err stop)) }
 {
-    let rule = settings.rule.ok_or(Stop::NoRule)?;
-    answer_under::<I>(alloc, settings, rule, bytes)
+    let rule = choices.settings.rule.ok_or(Stop::NoRule)?;
+    answer_under::<I>(alloc, choices, rule, bytes)
 }
 
 /// The same, under a rule.
 fn answer_under<I: OverlayInt>(
     alloc: Global,
-    settings: Settings,
+    choices: Choices,
     rule: OverlayRule,
     bytes: &[u8],
 ) -> Result<String, Stop>
     ensures text { IfOk result (λ text. IsRuleAnswer (I.whole I.MIN_COORD) (I.whole I.MAX_COORD) I.BITS
-        settings rule bytes.now (Ok (string_bytes text))) }
+        choices rule bytes.now (Ok (string_bytes text))) }
     ensures stop { IfErr result (λ stop. (stop ≡ Stop.Refused Memory)
-        ⊎ IsRuleAnswer (I.whole I.MIN_COORD) (I.whole I.MAX_COORD) I.BITS settings rule bytes.now (Err stop)) }
+        ⊎ IsRuleAnswer (I.whole I.MIN_COORD) (I.whole I.MAX_COORD) I.BITS choices rule bytes.now (Err stop)) }
 {
-    let shapes = read_contours::<I>(alloc, bytes)?;
-    let solver = settings.solver();
-    let (subject, clip) = (shapes.subject.as_slice(), shapes.clip.as_slice());
-    match overlay_contours(alloc, subject, clip, &solver, settings.fill_rule, rule) {
-        Ok(contours) => {
-            let mut text = String::new(alloc);
-            write_contours(&mut text, contours.as_slice())?;
-            Ok(text)
-        }
-        Err(ContourFault::Refused(fault)) => Err(Stop::Refused(fault)),
-        // each line's points are in range
-        Err(ContourFault::OutOfRange { .. }) => unreachable!(),
+    if choices.in_shapes {
+        shapes_under::<I>(alloc, choices, rule, bytes)
+    } else {
+        contours_under::<I>(alloc, choices, rule, bytes)
     }
+}
+
+/// The same, not in shapes.
+fn contours_under<I: OverlayInt>(
+    alloc: Global,
+    choices: Choices,
+    rule: OverlayRule,
+    bytes: &[u8],
+) -> Result<String, Stop>
+    ensures text { IfOk result (λ text. IsReadAnswer (I.whole I.MIN_COORD) (I.whole I.MAX_COORD)
+        (IsOverlayText I.BITS choices rule) bytes.now (Ok (string_bytes text))) }
+    ensures stop { IfErr result (λ stop. (stop ≡ Stop.Refused Memory)
+        ⊎ IsReadAnswer (I.whole I.MIN_COORD) (I.whole I.MAX_COORD)
+        (IsOverlayText I.BITS choices rule) bytes.now (Err stop)) }
+{
+    let settings = choices.settings;
+    let mut overlay = read_contours::<I>(alloc, bytes)?;
+    let contours = overlay.overlay(&settings.solver(), settings.fill_rule, rule)?;
+    let mut text = String::new(alloc);
+    write_contours(&mut text, contours.as_slice())?;
+    write_report(&mut text, choices.has_report, &overlay)?;
+    Ok(text)
+}
+
+/// The same in shapes.
+fn shapes_under<I: OverlayInt>(
+    alloc: Global,
+    choices: Choices,
+    rule: OverlayRule,
+    bytes: &[u8],
+) -> Result<String, Stop>
+    ensures text { IfOk result (λ text. IsReadAnswer (I.whole I.MIN_COORD) (I.whole I.MAX_COORD)
+        (IsShapesText I.BITS choices rule) bytes.now (Ok (string_bytes text))) }
+    ensures stop { IfErr result (λ stop. (stop ≡ Stop.Refused Memory)
+        ⊎ IsReadAnswer (I.whole I.MIN_COORD) (I.whole I.MAX_COORD)
+        (IsShapesText I.BITS choices rule) bytes.now (Err stop)) }
+{
+    let settings = choices.settings;
+    let mut overlay = read_contours::<I>(alloc, bytes)?;
+    let shapes = overlay.overlay_shapes(&settings.solver(), settings.fill_rule, rule)?;
+    let mut text = String::new(alloc);
+    write_shapes(&mut text, shapes.as_slice())?;
+    write_report(&mut text, choices.has_report, &overlay)?;
+    Ok(text)
 }
 
 #[cfg(test)]

@@ -1,6 +1,6 @@
 // Graphs of an arrangement, and what is asked of them.
 use crate::case::{Case, Stop, Summary, mixed, mixed_index, mixed_point, refused};
-use crate::shapes::{Shape, sides};
+use crate::shapes::{NO_DATA, Shape, sides};
 use i_overlay::build::boundary::directed_segments;
 use i_overlay::build::builder::GraphBuilder;
 use i_overlay::build::walks::closed_walks;
@@ -44,7 +44,7 @@ fn arrangement<C: WindingCount>(
     shape: Shape,
     alloc: Global,
 ) -> Result<Vec<Segment<C, i32, ()>>, Stop> {
-    let mut list = sides(shape, (), &mut (), alloc)?;
+    let mut list = sides(shape, NO_DATA, &mut (), alloc)?;
     if !is_splittable(&list) {
         return Err(Stop::Wrong("the input may not be split"));
     }
@@ -161,18 +161,29 @@ impl Case for Build {
             Kind::All | Kind::Overlay => {
                 let subject = arrangement(Shape::Crossed, alloc)?;
                 let squares = arrangement(Shape::Squares, alloc)?;
-                self.polygons(Some(OverlayRule::Intersect), subject.as_slice())?;
+                let before = self.polygons(Some(OverlayRule::Intersect), subject.as_slice())?;
+                check_empty(before)?;
                 let rule = matches!(self.kind, Kind::Overlay).then_some(OverlayRule::Xor);
                 self.polygons(rule, squares.as_slice())
             }
             Kind::Lines | Kind::Clip => {
                 let subject = arrangement(Shape::Crossed, alloc)?;
                 let squares = arrangement(Shape::Squares, alloc)?;
-                self.lines(Some(INSIDE), subject.as_slice())?;
+                let before = self.lines(Some(INSIDE), subject.as_slice())?;
+                check_empty(before)?;
                 let rule = matches!(self.kind, Kind::Clip).then_some(OUTSIDE);
                 self.lines(rule, squares.as_slice())
             }
         }
+    }
+}
+
+/// Wants a graph without links and nodes.
+fn check_empty(graph: Summary) -> Result<(), Stop> {
+    if graph.count == 0 && graph.others == 0 {
+        Ok(())
+    } else {
+        Err(Stop::Wrong("the first build has links"))
     }
 }
 

@@ -1,6 +1,7 @@
-// A segment inserted into live segments, and found there.
-ghost use Rattle.std.specs.Prelude.{ℤ, pos, ◌≤ℤ◌};
-ghost use Rattle.overlay_sweep.specs.steps.LevelRows.{AreRows};
+// Segments inserted into live segments, and found there.
+ghost use Rattle.std.specs.Prelude.{◌≡◌, ◌*◌, ◌<◌, ℤ, pos, ◌≤ℤ◌};
+ghost use Rattle.overlay_base.specs.BooleanWinding.{boolean_winding};
+ghost use Rattle.overlay_sweep.specs.steps.LevelRows.{level_row, AreRows};
 
 use crate::case::{Case, Stop, Summary, refused};
 use i_overlay::build::live_segments::LiveSegments;
@@ -10,14 +11,14 @@ use i_overlay::segm::boolean::ShapeCountBoolean;
 use i_overlay::segm::fault::Fault;
 use std::alloc::Global;
 
-/// An insert into live segments, which a refusal empties.
+/// Inserts into live segments. One that is refused empties them, also where they hold others already.
 #[derive(Drop)]
 pub struct Insert<L> {
     live: L,
 }
 
 impl<L> Insert<L> {
-    /// An insert into these live segments.
+    /// Inserts into these live segments.
     pub fn new(live: L) -> Insert<L> {
         Insert { live }
     }
@@ -25,8 +26,15 @@ impl<L> Insert<L> {
 
 impl<L: LiveSegments<ShapeCountBoolean, i32> + Drop> Case for Insert<L> {
     fn try_once(&mut self, _alloc: Global) -> Result<Summary, Stop> {
-        let inserted = insert_one(&mut self.live);
-        let sum = sum_below(&mut self.live);
+        self.live.clear();
+        let mut inserted = Ok(());
+        for row in 0..ROWS {
+            inserted = insert_row(&mut self.live, row);
+            if inserted.is_err() {
+                break;
+            }
+        }
+        let sum = sum_below_rows(&mut self.live);
         match inserted {
             Ok(()) => Ok(Summary {
                 count: usize::try_from(sum).unwrap_or(0),
@@ -38,25 +46,50 @@ impl<L: LiveSegments<ShapeCountBoolean, i32> + Drop> Case for Insert<L> {
     }
 }
 
-/// Clears live segments and inserts one, from (0, 0) to (10, 0), with the sum 1.
-fn insert_one<L: LiveSegments<ShapeCountBoolean, i32>>(live: &mut L) -> Result<(), Fault>
+/// How many segments are inserted: more than the live segments take room for at once.
+const ROWS: u16 = 40;
+
+/// The height of a row.
+fn height(row: u16) -> i32
+    requires { row < 40 }
+    ensures { result ≡ pos (2 * row) }
+{
+    2 * i32::from(row)
+}
+
+/// The sum of a row: row + 1 in the subject.
+fn row_sum(row: u16) -> ShapeCountBoolean
+    requires { row < 40 }
+    ensures { boolean_winding result ≡ (level_row row).count }
+{
+    ShapeCountBoolean {
+        subj: i32::from(row) + 1,
+        clip: 0,
+    }
+}
+
+/// Inserts the segment of a row, from (0, 2 row) to (10, 2 row), with the sum row + 1.
+fn insert_row<L: LiveSegments<ShapeCountBoolean, i32>>(live: &mut L, row: u16) -> Result<(), Fault>
+    requires few { row < 40 }
+    requires rows { AreRows (pos 0) (L.sums live.old) }
+    requires time { (y : ℤ) → pos 0 ≤ℤ y → L.may_go_on_at live.old y }
     ensures rows { AreRows (pos 0) (L.sums live.new) }
     ensures time { (y : ℤ) → pos 0 ≤ℤ y → L.may_go_on_at live.new y }
 {
-    live.clear();
+    let y = height(row);
     let segment = VSegment {
-        a: IntPoint { x: 0, y: 0 },
-        b: IntPoint { x: 10, y: 0 },
+        a: IntPoint { x: 0, y },
+        b: IntPoint { x: 10, y },
     };
-    live.insert(segment, ShapeCountBoolean { subj: 1, clip: 0 }, 0)
+    live.insert(segment, row_sum(row), 0)
 }
 
-/// The sum on the segment below (5, 1), or 0 where there is none.
-fn sum_below<L: LiveSegments<ShapeCountBoolean, i32>>(live: &mut L) -> i32
+/// The sum on the segment below (5, 100), or 0 where there is none.
+fn sum_below_rows<L: LiveSegments<ShapeCountBoolean, i32>>(live: &mut L) -> i32
     requires rows { AreRows (pos 0) (L.sums live.old) }
     requires time { (y : ℤ) → pos 0 ≤ℤ y → L.may_go_on_at live.old y }
 {
-    let p = IntPoint { x: 5, y: 1 };
+    let p = IntPoint { x: 5, y: 100 };
     live.sum_below(p.x, p, ShapeCountBoolean { subj: 0, clip: 0 })
         .subj
 }

@@ -1,7 +1,7 @@
 // Sorts, joins and splits.
-use crate::case::{Case, Stop, Summary, mixed_point, refused};
-use crate::hooks::{Calls, Tag};
-use crate::shapes::{Shape, sides};
+use crate::case::{Case, Stop, Summary, mixed, mixed_point, refused};
+use crate::hooks::{COLORS, Calls, Color};
+use crate::shapes::{BENT, CROSS, OVERLAPPING, SHARED, Shape, TOUCHING, sides};
 use i_overlay::overlay_core::solver::Solver;
 use i_overlay::segm::arranged::is_splittable;
 use i_overlay::segm::balance::is_balanced;
@@ -13,7 +13,7 @@ use i_overlay::segm::winding::WindingCount;
 use i_overlay::split::solver::SplitSolver;
 use std::alloc::Global;
 
-type Side = Segment<ShapeCountBoolean, i32, Tag>;
+type Side = Segment<ShapeCountBoolean, i32, Color>;
 
 /// A sort. A refused one leaves an empty list.
 #[derive(Drop)]
@@ -21,7 +21,7 @@ pub struct Sort {}
 
 impl Case for Sort {
     fn try_once(&mut self, alloc: Global) -> Result<Summary, Stop> {
-        let mut list: Vec<Side> = sides(Shape::Crossed, Tag, &mut Calls::given(), alloc)?;
+        let mut list: Vec<Side> = sides(Shape::Crossed, COLORS, &mut Calls::given(), alloc)?;
         match sort_by_ab(&mut list) {
             Ok(()) => Ok(Summary {
                 count: list.len(),
@@ -39,7 +39,7 @@ pub struct Join {}
 
 impl Case for Join {
     fn try_once(&mut self, alloc: Global) -> Result<Summary, Stop> {
-        let mut list: Vec<Side> = sides(Shape::Crossed, Tag, &mut Calls::given(), alloc)?;
+        let mut list: Vec<Side> = sides(Shape::Crossed, COLORS, &mut Calls::given(), alloc)?;
         if !list.iter().all(|segment| segment.count().is_valid()) {
             return Err(Stop::Wrong("the input may not be joined"));
         }
@@ -61,7 +61,7 @@ pub struct Balance {}
 
 impl Case for Balance {
     fn try_once(&mut self, alloc: Global) -> Result<Summary, Stop> {
-        let list: Vec<Side> = sides(Shape::Squares, Tag, &mut Calls::given(), alloc)?;
+        let list: Vec<Side> = sides(Shape::Squares, COLORS, &mut Calls::given(), alloc)?;
         match is_balanced(alloc, &list) {
             Ok(balanced) => Ok(Summary {
                 count: list.len(),
@@ -92,7 +92,7 @@ impl Split {
 
     /// The split of one shape.
     fn split(&mut self, shape: Shape, alloc: Global) -> Result<Summary, Stop> {
-        let mut list: Vec<Side> = sides(shape, Tag, &mut Calls::given(), alloc)?;
+        let mut list: Vec<Side> = sides(shape, COLORS, &mut Calls::given(), alloc)?;
         if !is_splittable(&list) {
             return Err(Stop::Wrong("the input may not be split"));
         }
@@ -118,25 +118,38 @@ impl Split {
 
 impl Case for Split {
     fn try_once(&mut self, alloc: Global) -> Result<Summary, Stop> {
-        let crossed = self.split(Shape::Crossed, alloc)?;
-        let long = self.split(Shape::Long, alloc)?;
-        let squares = self.split(Shape::Squares, alloc)?;
-        let count = crossed.count.saturating_add(long.count);
-        let digest = crossed.digest.wrapping_add(long.digest);
+        let shapes = [
+            Shape::Crossed,
+            Shape::Long,
+            Shape::Squares,
+            Shape::Lines(&CROSS),
+            Shape::Lines(&BENT),
+            Shape::Lines(&OVERLAPPING),
+            Shape::Lines(&TOUCHING),
+            Shape::Lines(&SHARED),
+        ];
+        let (mut count, mut others, mut digest) = (0_usize, 0_u128, 0_i64);
+        for shape in shapes {
+            let split = self.split(shape, alloc)?;
+            count = count.saturating_add(split.count);
+            others = others.saturating_add(split.others);
+            digest = digest.wrapping_add(split.digest);
+        }
         Ok(Summary {
-            count: count.saturating_add(squares.count),
-            others: squares.others,
-            digest: digest.wrapping_add(squares.digest),
+            count,
+            others,
+            digest,
         })
     }
 }
 
-/// A digest of the ends of segments, in order.
+/// A digest of the ends and colors of segments, in order.
 fn digest_of(list: &[Side]) -> i64 {
     let mut digest = 0;
     for segment in list {
         let ends = segment.x_segment();
         digest = mixed_point(mixed_point(digest, ends.a), ends.b);
+        digest = mixed(digest, i32::from(segment.edge_data().0));
     }
     digest
 }

@@ -20,7 +20,7 @@ use crate::graphs::{Boundary, Build, Filter, Kind, Loops, Walks};
 use crate::inserts::Insert;
 use crate::lists::{Balance, Join, Sort, Split};
 use crate::sweeps::Sweep;
-use crate::wholes::{Contours, KeptContours, LineClip, Overlay};
+use crate::wholes::{Contours, KeptContours, KeptShapes, LineClip, Overlay, Shapes};
 use i_overlay::build::scan_list::ScanList;
 use i_overlay::build::scan_tree::ScanTree;
 use i_overlay::overlay_core::solver::Solver;
@@ -104,16 +104,22 @@ fn tell_graphs<W: Write, E: Write>(
     let (mut walks, mut boundary) = (Walks::new(alloc), Boundary::new(alloc));
     tell("walks", "", &mut walks, alloc, output, digests)?;
     tell("boundary", "", &mut boundary, alloc, output, digests)?;
+    tell_contours(alloc, output, digests)
+}
+
+/// Makes the calls over contours.
+fn tell_contours<W: Write, E: Write>(
+    alloc: Global,
+    output: &mut W,
+    digests: &mut E,
+) -> io::Result<()> {
+    let kept = " that are kept";
     tell("contours", "", &mut Contours {}, alloc, output, digests)?;
-    let mut kept = KeptContours::new(alloc);
-    tell(
-        "contours",
-        " that are kept",
-        &mut kept,
-        alloc,
-        output,
-        digests,
-    )
+    let mut contours = KeptContours::new(alloc);
+    tell("contours", kept, &mut contours, alloc, output, digests)?;
+    tell("shapes", "", &mut Shapes {}, alloc, output, digests)?;
+    let mut shapes = KeptShapes::new(alloc);
+    tell("shapes", kept, &mut shapes, alloc, output, digests)
 }
 
 /// Makes the calls under a strategy, but for builds.

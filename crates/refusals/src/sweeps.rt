@@ -1,6 +1,6 @@
-// The sweep over an arrangement.
+// Sweeps over arrangements.
 use crate::case::{Case, Stop, Summary, mixed};
-use crate::shapes::{Shape, sides};
+use crate::shapes::{NO_DATA, Shape, sides};
 use i_overlay::build::builder::StoreFillsHandler;
 use i_overlay::build::sweep::SweepRunner;
 use i_overlay::overlay_core::fill_rule::FillRule;
@@ -11,7 +11,8 @@ use i_overlay::segm::segment::{NONE, Segment};
 use i_overlay::split::solver::SplitSolver;
 use std::alloc::Global;
 
-/// The fills of an arrangement by one runner, which may be used again after a refusal.
+/// The fills of two arrangements by one runner, which may be used again after a refusal. Over the second one the row of
+/// live segments gives way to the tree, where the strategy takes these.
 #[derive(Drop)]
 pub struct Sweep {
     runner: SweepRunner<ShapeCountBoolean, i32>,
@@ -26,27 +27,16 @@ impl Sweep {
             solver,
         }
     }
-}
 
-impl Case for Sweep {
-    fn try_once(&mut self, alloc: Global) -> Result<Summary, Stop> {
-        let mut list: Vec<Segment<ShapeCountBoolean, i32, ()>> = sides(
-            Shape::Long,
-            (),
-            &mut (),
-            alloc,
-        )?;
-        if !is_splittable(&list) {
-            return Err(Stop::Wrong("the input may not be split"));
-        }
-        SplitSolver::new(alloc).split_segments(&mut list, &Solver::LIST)?;
-        if !is_arranged(&list) {
+    /// The fills of an arrangement.
+    fn sweep(&mut self, list: &[Side], alloc: Global) -> Result<Summary, Stop> {
+        if !is_arranged(list) {
             return Err(Stop::Wrong("the split is no arrangement"));
         }
         let mut fills = vec![in alloc; NONE; list.len()]?;
         let handler = StoreFillsHandler::new(&mut fills);
         self.runner
-            .run_with_fill_rule(FillRule::NonZero, &self.solver, &list, handler)?;
+            .run_with_fill_rule(FillRule::NonZero, &self.solver, list, handler)?;
         let mut digest = 0;
         for fill in fills.iter() {
             digest = mixed(digest, i32::from(*fill));
@@ -55,6 +45,26 @@ impl Case for Sweep {
             count: fills.len(),
             others: 0,
             digest,
+        })
+    }
+}
+
+type Side = Segment<ShapeCountBoolean, i32, ()>;
+
+impl Case for Sweep {
+    fn try_once(&mut self, alloc: Global) -> Result<Summary, Stop> {
+        let mut list: Vec<Side> = sides(Shape::Long, NO_DATA, &mut (), alloc)?;
+        if !is_splittable(&list) {
+            return Err(Stop::Wrong("the input may not be split"));
+        }
+        SplitSolver::new(alloc).split_segments(&mut list, &Solver::LIST)?;
+        let long = self.sweep(&list, alloc)?;
+        let levels: Vec<Side> = sides(Shape::Levels, NO_DATA, &mut (), alloc)?;
+        let swept = self.sweep(&levels, alloc)?;
+        Ok(Summary {
+            count: long.count.saturating_add(swept.count),
+            others: 0,
+            digest: long.digest.wrapping_add(swept.digest),
         })
     }
 }

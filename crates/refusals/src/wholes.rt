@@ -1,7 +1,7 @@
 // The whole overlay, lines cut by polygons, and contours, each in one call.
 use crate::case::{Case, Stop, Summary, mixed_point, refused};
 use crate::graphs::{Builder, INSIDE, LineBuilder, summary_of};
-use crate::shapes::{Shape, sides};
+use crate::shapes::{CUT, NO_DATA, Shape, sides};
 use i_overlay::clip::split_and_build_clip;
 use i_overlay::geom::point::IntPoint;
 use i_overlay::overlay::split_and_build_overlay;
@@ -14,9 +14,9 @@ use i_overlay::segm::segment::Segment;
 use i_overlay::segm::shape_type::ShapeType;
 use i_overlay::segm::string::ShapeCountString;
 use i_overlay::split::solver::SplitSolver;
-use overlay_contours::contour::IntContour;
+use overlay_contours::contour::{IntContour, IntShape};
 use overlay_contours::fault::ContourFault;
-use overlay_contours::overlay::{Overlay as ContourOverlay, overlay_contours};
+use overlay_contours::overlay::{Overlay as ContourOverlay, overlay_contours, overlay_shapes};
 use std::alloc::Global;
 
 /// An overlay by one splitter and one builder. A refusal leaves the list empty, or the arrangement.
@@ -42,7 +42,7 @@ impl Case for Overlay {
     fn try_once(&mut self, alloc: Global) -> Result<Summary, Stop> {
         let mut list: Vec<Segment<ShapeCountBoolean, i32, ()>> = sides(
             Shape::Squares,
-            (),
+            NO_DATA,
             &mut (),
             alloc,
         )?;
@@ -81,13 +81,12 @@ impl LineClip {
             solver,
         }
     }
-}
 
-impl Case for LineClip {
-    fn try_once(&mut self, alloc: Global) -> Result<Summary, Stop> {
+    /// The parts of the lines of a shape inside its polygons.
+    fn clip(&mut self, shape: Shape, alloc: Global) -> Result<Summary, Stop> {
         let mut list: Vec<Segment<ShapeCountString, i32, ()>> = sides(
-            Shape::Squares,
-            (),
+            shape,
+            NO_DATA,
             &mut (),
             alloc,
         )?;
@@ -106,6 +105,18 @@ impl Case for LineClip {
             Ok(graph) => Ok(summary_of(graph.links(), graph.nodes().len())),
             Err(fault) => Err(refused(fault, list.is_empty() || is_arranged(&list))),
         }
+    }
+}
+
+impl Case for LineClip {
+    fn try_once(&mut self, alloc: Global) -> Result<Summary, Stop> {
+        let squares = self.clip(Shape::Squares, alloc)?;
+        let cut = self.clip(Shape::Lines(&CUT), alloc)?;
+        Ok(Summary {
+            count: squares.count.saturating_add(cut.count),
+            others: squares.others.saturating_add(cut.others),
+            digest: squares.digest.wrapping_add(cut.digest),
+        })
     }
 }
 
@@ -174,6 +185,59 @@ impl Case for KeptContours {
     }
 }
 
+/// What two contours do not share, in shapes: two that touch in two points.
+#[derive(Drop)]
+pub struct Shapes {}
+
+impl Case for Shapes {
+    fn try_once(&mut self, alloc: Global) -> Result<Summary, Stop> {
+        let subject = vec![in alloc; square(0, alloc)?]?;
+        let clip = vec![in alloc; square(2, alloc)?]?;
+        match overlay_shapes(
+            alloc,
+            &subject,
+            &clip,
+            &Solver::AUTO,
+            FillRule::NonZero,
+            OverlayRule::Xor,
+        ) {
+            Ok(shapes) => Ok(summary_of_shapes(&shapes)),
+            Err(fault) => Err(contour_stop(fault)),
+        }
+    }
+}
+
+/// The same by one overlay that keeps its contours. After a refusal it is used again as it is, and what it reports of its
+/// last run is as it was.
+#[derive(Drop)]
+pub struct KeptShapes {
+    kept: KeptContours,
+}
+
+impl KeptShapes {
+    /// An overlay of no contours.
+    pub fn new(alloc: Global) -> KeptShapes {
+        KeptShapes {
+            kept: KeptContours::new(alloc),
+        }
+    }
+}
+
+impl Case for KeptShapes {
+    fn try_once(&mut self, alloc: Global) -> Result<Summary, Stop> {
+        self.kept.add_missing(alloc)?;
+        let overlay = &mut self.kept.overlay;
+        let before = (overlay.passes(), overlay.reach());
+        match overlay.overlay_shapes(&Solver::AUTO, FillRule::EvenOdd, OverlayRule::Xor) {
+            Ok(shapes) => Ok(summary_of_shapes(&shapes)),
+            Err(fault) => {
+                let after = (overlay.passes(), overlay.reach());
+                Err(refused(fault, before == after))
+            }
+        }
+    }
+}
+
 /// Adds a square to an overlay.
 fn add_square(
     overlay: &mut ContourOverlay<i32>,
@@ -199,6 +263,21 @@ fn summary_of_contours(contours: &[IntContour<i32>]) -> Summary {
     }
     Summary {
         count: contours.len(),
+        others: points,
+        digest,
+    }
+}
+
+/// How many shapes and points there are, and a digest of the points.
+fn summary_of_shapes(shapes: &[IntShape<i32>]) -> Summary {
+    let (mut points, mut digest) = (0_u128, 0_i64);
+    for shape in shapes {
+        let contours = summary_of_contours(shape);
+        points = points.saturating_add(contours.others);
+        digest = digest.wrapping_mul(31).wrapping_add(contours.digest);
+    }
+    Summary {
+        count: shapes.len(),
         others: points,
         digest,
     }

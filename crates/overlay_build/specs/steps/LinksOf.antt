@@ -5,13 +5,9 @@ use Rattle.overlay_geometry.specs.Points.{Point, point_cmp, point_lt}
 use Rattle.overlay_geometry.specs.PointOf.{point_of}
 use Rattle.overlay_geometry.specs.Sorting.{stably_sorted}
 use Rattle.overlay_geometry.specs.declared.geom.point.IntPoint.{IntPoint}
-use Rattle.overlay_base.specs.Rules.{holds, keeps_fill}
 use Rattle.overlay_base.specs.SegmentOf.{segments_of, data_segments_of}
-use Rattle.overlay_base.specs.declared.overlay_core.extract.VisitState.{VisitState}
-use Rattle.overlay_base.specs.declared.overlay_core.extract.VisitState.TheVariants.{Unvisited, Skipped}
 use Rattle.overlay_base.specs.declared.overlay_core.fill_rule.FillRule.{FillRule}
 use Rattle.overlay_base.specs.declared.overlay_core.link.OverlayLink.{OverlayLink}
-use Rattle.overlay_base.specs.declared.overlay_core.overlay_rule.OverlayRule.{OverlayRule}
 use Rattle.overlay_base.specs.declared.segm.segment.Segment.{Segment}
 use Rattle.overlay_build.specs.Graph.{filled, fills_of, data_by}
 use Rattle.overlay_build.specs.GraphOf.{HoldGraph, graph_with, kept_of, pairs_of_links, names_node, with_node}
@@ -31,10 +27,6 @@ AreKept {w = w} rule list fills links =
 abbrev pub HaveKeptData : {C I D : Type 0} {m : _} {w : _} {o : _} {e : _} {p : _} → LinkRule → List (Segment C I D m w o e p) → List ℕ → List (OverlayLink I D) → Type 0
 HaveKeptData rule list fills links =
     (fill_rule : FillRule) → fills ≡ fills_of fill_rule (segments_of list) → map (λ l. l.edge_data) links ≡ data_by (keeps_by rule) fill_rule (data_segments_of list)
-
--- the state of a link: unvisited where a rule keeps its fill, and else skipped
-abbrev pub state_by : {I D : Type 0} → OverlayRule → OverlayLink I D → VisitState
-state_by rule l = if keeps_fill (holds rule) l.fill then Unvisited else Skipped
 
 -- ---- nodes
 
@@ -76,7 +68,3 @@ abbrev pub NumbersEnds : {I D : Type 0} → (I → ℤ) → List ℕ → IntPoin
 NumbersEnds {I = I} {D = D} whole indexes point id old new =
     (k : ℕ) (d : OverlayLink I D) → k < length old →
     slice_index_or new k d ≡ (if names_node k indexes then with_node whole (point_of whole point) id (slice_index_or old k d) else slice_index_or old k d)
-
--- Points of code in rising order.
-abbrev pub HasPointsInOrder : {I : Type 0} → (I → ℤ) → List (IntPoint I) → List (IntPoint I) → Type 0
-HasPointsInOrder whole points list = map (point_of whole) list ≡ stably_sorted point_cmp (map (point_of whole) points)

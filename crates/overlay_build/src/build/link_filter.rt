@@ -1,7 +1,7 @@
 // Which links of a graph an overlay rule keeps. Upstream: `OverlayLinkFilter`, and its functions in `build::boolean`.
 ghost use Rattle.std.specs.Prelude.{◌≡◌, [], map, if◌then◌else◌, OnOk, OnErr, IfErr};
 ghost use Rattle.overlay_base.specs.declared.segm.fault.Fault.TheVariants.{Memory};
-ghost use Rattle.overlay_build.specs.steps.LinksOf.{state_by};
+ghost use Rattle.overlay_build.specs.VisitStates.{state_by};
 
 use overlay_base::overlay_core::extract::VisitState;
 use overlay_base::overlay_core::link::OverlayLink;

@@ -5,7 +5,7 @@ ghost use Rattle.overlay_geometry.specs.Points.{point_cmp, point_eq};
 ghost use Rattle.overlay_geometry.specs.Sorting.{has_repeat, stably_sorted};
 ghost use Rattle.overlay_geometry.specs.PointOf.{point_of};
 ghost use Rattle.overlay_base.specs.declared.segm.fault.Fault.TheVariants.{Memory};
-ghost use Rattle.overlay_build.specs.steps.LinksOf.{HasPointsInOrder};
+ghost use Rattle.overlay_build.specs.PointsInOrder.{HasPointsInOrder};
 
 use crate::build::builder::GraphBuilder;
 use crate::build::graph_node::GraphNode;

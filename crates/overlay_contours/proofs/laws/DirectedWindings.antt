@@ -50,7 +50,7 @@ module _ (p : RationalPoint) where
   same_counts xs ys same = wound_by_counts xs ∙ ap₂ (λ (m n : ℕ). pos m -ℤ pos n) (same (λ s. lies_below s p)) (same is_back) ∙ sym (wound_by_counts ys)
 
   -- a link in its direction winds so often as it is counted
-  one_link : (t : Bool) (l : Link) → is_ordered l.pair ≡ true → step_winding p (if t then l else turned_link l).pair ≡ when (lies_below l.pair p) (if t then pos 1 else negsuc 0)
+  pub one_link : (t : Bool) (l : Link) → is_ordered l.pair ≡ true → step_winding p (if t then l else turned_link l).pair ≡ when (lies_below l.pair p) (if t then pos 1 else negsuc 0)
   one_link true l h = rw (not_below (turned l.pair) p (right l.pair h)) refl
   one_link false l h = rw (not_below (turned l.pair) p (right l.pair h)) refl
 

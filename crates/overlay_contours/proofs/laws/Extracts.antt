@@ -50,7 +50,7 @@ mapped_at f (y ∷ ys) (suc i) x d h e = mapped_at f ys i x d (omega arith) e
 
 -- ---- a link in its direction
 
-points_apart : (p q : Point) → point_lt p q ≡ true → (point_eq p q ≡ false) × (point_eq q p ≡ false)
+pub points_apart : (p q : Point) → point_lt p q ≡ true → (point_eq p q ≡ false) × (point_eq q p ≡ false)
 points_apart p q h = (by (point_eq p q) refl, back (point_eq q p) refl)
   where
     never : p ≡ q → point_lt p q ≡ false
@@ -69,7 +69,7 @@ edge_either_way true l h = ap not (points_apart l.pair.a l.pair.b h).0
 edge_either_way false l h = ap not (points_apart l.pair.a l.pair.b h).1
 
 -- in order it is the link's own pair
-in_order_either_way : (t : Bool) (l : Link) → is_ordered l.pair ≡ true → in_order (if t then l else turned_link l).pair ≡ l.pair
+pub in_order_either_way : (t : Bool) (l : Link) → is_ordered l.pair ≡ true → in_order (if t then l else turned_link l).pair ≡ l.pair
 in_order_either_way true l h = rw h refl
 in_order_either_way false l h = by (point_lt l.pair.b l.pair.a) refl
   where
@@ -120,23 +120,23 @@ all_pass_at p xs d a (i ∷ indexes) h = and_from _ _ (passes_at p xs i d a h.0)
 -- ---- the contours of directed walks
 
 module _ (rule : Bool → Bool → Bool) (kept : List Filled) (ordered : list_all (λ f. is_ordered f.pair) kept ≡ true) where
-  abbrev links : List Link
+  abbrev pub links : List Link
   links = (graph_of kept).links
 
-  abbrev ways : List Link
+  abbrev pub ways : List Link
   ways = arcs rule links
 
-  abbrev way_at : ℕ → Pair
+  abbrev pub way_at : ℕ → Pair
   way_at i = (get_or ways i no_link).pair
 
   pub links_are_ordered : list_all (λ l. is_ordered l.pair) links ≡ true
   unfolding graph_of
   links_are_ordered = list_all-map (λ (l : Link). is_ordered l.pair) _ kept ∙ ordered
 
-  steps_of_walk : (walk : List ℕ) → IsDirectedWalk ways walk → steps_of (contour ways walk) ≡ map way_at walk
+  pub steps_of_walk : (walk : List ℕ) → IsDirectedWalk ways walk → steps_of (contour ways walk) ≡ map way_at walk
   steps_of_walk walk w = steps_are_edges (contour ways walk) ∙ contours_follow_links rule kept walk w ∙ map-map (λ (l : Link). l.pair) (λ i. get_or ways i no_link) walk
 
-  steps_of_walks : (walks : List (List ℕ)) → AllByRecursion (IsDirectedWalk ways) walks → steps (map (contour ways) walks) ≡ map way_at (flat_map (λ w. w) walks)
+  pub steps_of_walks : (walks : List (List ℕ)) → AllByRecursion (IsDirectedWalk ways) walks → steps (map (contour ways) walks) ≡ map way_at (flat_map (λ w. w) walks)
   steps_of_walks [] h = refl
   steps_of_walks (w ∷ walks) h =
       ap₂ (λ (u v : List Pair). u ++ v) (steps_of_walk w h.0) (steps_of_walks walks h.1)

@@ -214,11 +214,11 @@ settings_are bits solver splitter e = ap (λ (n : ℕ). record { start = solver.
 
 -- ---- directions
 
-run_of_link : (t : Bool) (l : Link) → run_of (record { pair = l.pair; count = of_subject (if t then pos 1 else negsuc 0) }) ≡ (if t then l else turned_link l).pair
+pub run_of_link : (t : Bool) (l : Link) → run_of (record { pair = l.pair; count = of_subject (if t then pos 1 else negsuc 0) }) ≡ (if t then l else turned_link l).pair
 run_of_link true l = refl
 run_of_link false l = refl
 
-runs_of_links : (rule : Bool → Bool → Bool) (graph : Graph) → map run_of (directed_links rule graph) ≡ ways_of (arcs rule graph.links)
+pub runs_of_links : (rule : Bool → Bool → Bool) (graph : Graph) → map run_of (directed_links rule graph) ≡ ways_of (arcs rule graph.links)
 unfolding directed_links direction
 runs_of_links rule graph = each graph.links
   where
@@ -226,7 +226,7 @@ runs_of_links rule graph = each graph.links
     each [] = refl
     each (l ∷ links) = ap₂ (λ (e : Pair) (es : List Pair). e ∷ es) (run_of_link (top_value rule l.fill) l) (each links)
 
-less_nothing : (b : Bool) → truth b -ℤ truth false ≡ truth b
+pub less_nothing : (b : Bool) → truth b -ℤ truth false ≡ truth b
 less_nothing true = refl
 less_nothing false = refl
 
@@ -308,3 +308,8 @@ module _ (settings : Settings) (rule : OverlayRule) (fill_rule : FillRule) (subj
         let same : count_by (λ s. pair_eq s e) (link_pairs graph) ≡ count_by (λ s. pair_eq s e) (link_pairs (graph_by (keeps_fill (holds rule)) fill_rule segments)) = ap (λ (g : Graph). count_by (λ s. pair_eq s e) (link_pairs g)) o.links in
         omega (arith, as_links, few, one, same);
   }
+
+  -- its number of passes is that of the run
+  pub polygon_passes : polygon_overlay.passes ≡ passes
+  unfolding polygon_overlay
+  polygon_passes = refl

@@ -1,6 +1,6 @@
 -- What a comparison of every pair of fragments of a group finds, and at vertical segments on a border and the column to its left.
-use Rattle.std.specs.Prelude.{ℕ, ◌+◌, ℤ, Bool, false, int_lt, int_le, ◌&&◌, ◌||◌, ◌↔◌, if◌then◌else◌, List, [], ◌∷◌, ◌++◌, map, filter, flat_map, Contains, count_by, sum_by, length}
-use Rattle.std.specs.List.{list_any, range_with_len}
+use Rattle.std.specs.Prelude.{ℕ, ◌+◌, ℤ, Bool, false, int_lt, ◌&&◌, ◌||◌, ◌↔◌, if◌then◌else◌, List, [], ◌∷◌, ◌++◌, map, filter, flat_map, Contains, count_by, sum_by, length}
+use Rattle.std.specs.List.{list_any}
 use Rattle.std.specs.Ordering.{int_eq}
 use Rattle.overlay_geometry.specs.Points.{Pair, pair_lt, is_ordered, is_vertical, is_strictly_inside}
 use Rattle.overlay_geometry.specs.Coordinates.{is_pair_in_range}
@@ -9,8 +9,8 @@ use Rattle.overlay_intersections.specs.Marks.{Placing, cross_inexactly}
 use Rattle.overlay_intersections.specs.MarkOf.{Mark}
 use Rattle.overlay_intersections.specs.MarksBetween.{marks_at, marks_between}
 use Rattle.overlay_grid.specs.Grid.{Layout}
-use Rattle.overlay_intersections.specs.Looked.{ranges_meet, count_twos}
-use Rattle.overlay_grid.specs.FragmentOf.{KeptFragment, kept_in, least_along, greatest_along}
+use Rattle.overlay_grid.specs.ColumnLooks.{is_reached}
+use Rattle.overlay_grid.specs.FragmentOf.{KeptFragment, kept_in}
 use Rattle.overlay_grid.specs.declared.split.axis.Axis.{Axis}
 
 -- the marks that the segments of two fragments put on one another, where the rectangles meet
@@ -44,32 +44,10 @@ unfoldable pub is_group_rounded : List KeptFragment → Bool
 is_group_rounded [] = false
 is_group_rounded (f ∷ fs) = list_any (λ g. meet_inexactly f g) fs || is_group_rounded fs
 
--- whether the heights of two fragments meet
-abbrev pub do_heights_meet : KeptFragment → KeptFragment → Bool
-do_heights_meet f g = ranges_meet f.rect.min_y f.rect.max_y g.rect.min_y g.rect.max_y
-
--- how many pairs of a group, and of so many groups, share a height
-abbrev pub twos_in_height : List KeptFragment → ℕ
-twos_in_height fs = count_twos do_heights_meet fs
-
-abbrev pub all_twos_in_height : (ℕ → List KeptFragment) → ℕ → ℕ
-all_twos_in_height groups columns = sum_by (λ column. twos_in_height (groups column)) (range_with_len 0 columns)
-
--- whether a scan along an axis comes from one fragment to a later one: this begins up to where the first ends
-abbrev pub is_reached : Axis → KeptFragment → KeptFragment → Bool
-is_reached axis f g = int_le (least_along axis g) (greatest_along axis f)
-
 -- how many comparisons the first takes in a scan along an axis: one for each later one that it reaches
 unfoldable pub looks_of_first : Axis → List KeptFragment → ℕ
 looks_of_first axis [] = 0
 looks_of_first axis (f ∷ fs) = count_by (λ g. is_reached axis f g) fs
-
--- how many comparisons a group takes, and that many groups
-abbrev pub looks_of_group : Axis → List KeptFragment → ℕ
-looks_of_group axis fs = count_twos (is_reached axis) fs
-
-abbrev pub looks_of_groups : Axis → (ℕ → List KeptFragment) → ℕ → ℕ
-looks_of_groups axis groups columns = sum_by (λ column. looks_of_group axis (groups column)) (range_with_len 0 columns)
 
 -- whether a fragment is one of a vertical segment at some x
 abbrev pub stands_at : ℤ → KeptFragment → Bool

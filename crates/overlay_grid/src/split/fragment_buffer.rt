@@ -41,7 +41,7 @@ impl<I: OverlayInt> FragmentBuffer<I> {
     ghost use Rattle.overlay_geometry.specs.InRange.{IsPairInRange};
     ghost use Rattle.overlay_grid.specs.FragmentOf.{fragment_of, kept_in, IsSortedAlong};
     ghost use Rattle.overlay_grid.specs.steps.FragmentFinder.{heights_at};
-    ghost use Rattle.overlay_grid.specs.steps.BufferLooks.{buffer_looks, buffer_twos};
+    ghost use Rattle.overlay_grid.specs.BufferLooks.{buffer_looks, buffer_twos};
     ghost use Rattle.overlay_grid.specs.GroupsOf.{group_of, groups_of, grid_of, AddsFragments};
 
     /// A buffer with one group for each column of a layout, all empty. Returns `Fault::Memory` where a growth is

@@ -2,7 +2,7 @@
 ghost use Rattle.std.specs.Prelude.{◌≡◌, ◌-◌, ◌^◌, ℕ, count_by, int_le, length, min};
 ghost use Rattle.overlay_grid.specs.FragmentOf.{fragment_of, fragments_of, least_along, IsSortedAlong};
 ghost use Rattle.overlay_grid.specs.GroupsOf.{group_in};
-ghost use Rattle.overlay_grid.specs.steps.FragmentFinder.{looks_of_group, looks_of_groups};
+ghost use Rattle.overlay_grid.specs.ColumnLooks.{looks_of_group, looks_of_groups};
 
 use crate::split::axis::Axis;
 use crate::split::fragment::Fragment;

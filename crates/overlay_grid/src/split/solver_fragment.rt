@@ -12,7 +12,8 @@ ghost use Rattle.overlay_intersections.specs.PlacingOf.{placing_of, HasRadius};
 ghost use Rattle.overlay_intersections.specs.MarkOf.{marks_of, AreMarksOf};
 ghost use Rattle.overlay_grid.specs.FragmentOf.{fragment_of, fragments_of, least_along, greatest_along, IsSortedAlong};
 ghost use Rattle.overlay_grid.specs.GroupsOf.{group_in, group_of, grid_of};
-ghost use Rattle.overlay_grid.specs.steps.FragmentFinder.{is_ready, kept_group, marks_of_two, marks_with_first, marks_of_group, meet_inexactly, is_first_rounded, is_group_rounded, looks_of_first, looks_of_group, looks_of_groups};
+ghost use Rattle.overlay_grid.specs.ColumnLooks.{looks_of_group, looks_of_groups};
+ghost use Rattle.overlay_grid.specs.steps.FragmentFinder.{is_ready, kept_group, marks_of_two, marks_with_first, marks_of_group, meet_inexactly, is_first_rounded, is_group_rounded, looks_of_first};
 ghost use Rattle.overlay_grid.specs.Grid.{IsInside};
 ghost use Rattle.overlay_base.specs.ArrangedOf.{AreInRange};
 

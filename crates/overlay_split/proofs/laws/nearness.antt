@@ -11,3 +11,4 @@ pub mod NearKinds
 pub mod NearLines
 pub mod NearMasks
 pub mod NamedData
+pub mod Reaches

@@ -126,7 +126,13 @@ impl<I: OverlayInt> PairFinder<I> {
         ensures fault { IfErr result (λ fault. fault ≡ Memory) }
     {
         if self.solver.is_list_split(segments) {
-            return solver_list::find_marks(segments, placing, marks, &mut self.looked);
+            return solver_list::find_marks(
+                segments,
+                placing,
+                &mut tree.heights,
+                marks,
+                &mut self.looked,
+            );
         }
         match &mut self.grid {
             Some(grid) => find_over_grid(segments, placing, grid, tree, marks, &mut self.looked),

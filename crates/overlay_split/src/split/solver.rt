@@ -1,6 +1,6 @@
 // The split of a list into a planar arrangement: passes that snap, up to a limit, then passes that settle.
 // Upstream: `split::solver`. The settling passes, `passes` and the limit are this project's own.
-ghost use Rattle.std.specs.Prelude.{◌≡◌, ◌+◌, ◌||◌, ◌&&◌, [], false, IsTrue, IsFalse, IfOk, IfErr, OnOk, OnErr, Ok, length, nat_le, nat_lt};
+ghost use Rattle.std.specs.Prelude.{◌≡◌, ◌≤◌, ◌+◌, ◌^◌, ◌||◌, ◌&&◌, if◌then◌else◌, [], false, IsTrue, IsFalse, IfOk, IfErr, OnOk, OnErr, Ok, length, nat_le, nat_lt};
 ghost use Rattle.overlay_base.specs.declared.segm.fault.Fault.TheVariants.{CountOutOfRange};
 ghost use Rattle.overlay_base.specs.Segments.{pairs, is_map};
 ghost use Rattle.overlay_base.specs.ArrangedOf.{IsSplittable, IsArranged};
@@ -19,7 +19,8 @@ ghost use Rattle.overlay_intersections.specs.PlacingOf.{placing_of, HasRadius};
 ghost use Rattle.overlay_split.specs.PassLooks.{ArePassLooks};
 ghost use Rattle.overlay_split.specs.FinderOf.{solver_in, layout_in, looks_in};
 ghost use Rattle.overlay_grid.specs.Grid.{LieInside};
-ghost use Rattle.overlay_split.specs.SplitOf.{IsRunOver, KeepsWhatHolds, LiesNearNamed, LiesInBox, IsExactInput, HasGivenCounts, LiesNearGiven, WindsAsGiven, PassesAreBounded, SumsLeaveRange, LooksAreBounded, ChangesNothing, StopsRun, ChangesNoStore, GivesData, GivesRunData, LeavesRunStore};
+ghost use Rattle.overlay_split.specs.Nearness.{reach, reach_of_pass, reach_of_run};
+ghost use Rattle.overlay_split.specs.SplitOf.{IsRunOver, ReportsReach, KeepsWhatHolds, LiesNearNamed, LiesInBox, IsExactInput, HasGivenCounts, LiesNearGiven, WindsAsGiven, PassesAreBounded, SumsLeaveRange, LooksAreBounded, ChangesNothing, StopsRun, ChangesNoStore, GivesData, GivesRunData, LeavesRunStore};
 ghost use Rattle.overlay_base.specs.FaultOf.{OnTooLarge};
 
 use crate::split::finder::PairFinder;
@@ -47,6 +48,7 @@ pub struct SplitSolver<I> {
     grid: FragmentMemory<I>,
     snap_limit: u32,
     passes: u128,
+    reach: u128,
     looked: u128,
 }
 
@@ -55,6 +57,8 @@ pub struct SplitSolver<I> {
 struct Progress {
     /// How many passes were made.
     passes: u128,
+    /// How far they moved crossings at most, together, in halves of a unit.
+    reach: u128,
     /// Whether equal segments were given or a segment was split.
     has_changed: bool,
     /// Whether another pass is to be made.
@@ -63,12 +67,13 @@ struct Progress {
 
 impl<I> SplitSolver<I> {
     ghost use Rattle.std.specs.Prelude.{◌≡◌};
-    ghost use Rattle.overlay_split.specs.SettingsOf.{snap_limit_of, passes_of, looked_of};
+    ghost use Rattle.overlay_split.specs.SettingsOf.{snap_limit_of, passes_of, reach_of, looked_of};
 
     /// A splitter that snaps in the first 256 passes. It takes no memory yet.
     pub fn new(alloc: Global) -> Self
         ensures limit { snap_limit_of result ≡ 256 }
         ensures passes { passes_of result ≡ 0 }
+        ensures reach { reach_of result ≡ 0 }
         ensures looked { looked_of result ≡ 0 }
     {
         SplitSolver::with_snap_limit(alloc, SNAP_LIMIT)
@@ -81,6 +86,7 @@ impl<I> SplitSolver<I> {
     pub fn with_snap_limit(alloc: Global, snap_limit: u32) -> Self
         ensures limit { snap_limit_of result ≡ snap_limit }
         ensures passes { passes_of result ≡ 0 }
+        ensures reach { reach_of result ≡ 0 }
         ensures looked { looked_of result ≡ 0 }
     {
         SplitSolver {
@@ -89,6 +95,7 @@ impl<I> SplitSolver<I> {
             grid: FragmentMemory::new(alloc),
             snap_limit,
             passes: 0,
+            reach: 0,
             looked: 0,
         }
     }
@@ -100,17 +107,29 @@ impl<I> SplitSolver<I> {
         self.passes
     }
 
+    /// How far the passes of the last call that succeeded moved crossings at most, in `x` and in `y`, in halves of a unit;
+    /// 0 at first. It is the sum over its passes: of a pass that snaps 2 and twice the whole part of its radius, of one
+    /// that settles 1, and of one in which every crossing had whole coordinates nothing.
+    ///
+    /// So at every place that is farther than that from the given segments, in `x` or in `y`, the result winds as they
+    /// do. It is 0 where no two of them cross at a point without whole coordinates.
+    pub fn reach(&self) -> u128
+        ensures { result ≡ reach_of self.now }
+    {
+        self.reach
+    }
+
     /// How many pairs of segments, or of their parts in a column, the last call that succeeded compared, even if only
     /// to find that they do not meet; 0 at first. It stops at `u128::MAX`.
     ///
-    /// A pass over the list compares exactly the pairs whose ranges in `x` meet. A pass over a tree compares at most
-    /// those whose ranges in `x` and in `y` meet, and 48 for each segment. A pass over a grid compares at most the
+    /// A pass over the list compares exactly the pairs whose ranges in `x` meet. A pass over a tree compares at most 64
+    /// for each segment and for each pair whose ranges in `x` and in `y` meet. A pass over a grid compares at most the
     /// pairs of parts in one column whose ranges in `y` meet, one for each part, and, for a vertical segment on the
     /// left border of a column, the parts in the column to its left.
     ///
-    /// Not counted are comparisons of no pair: of heights with the nodes on the way down a tree, of the ends
-    /// of live segments with the place of the sweep, and with the first segment or part past the end of a scan, one at
-    /// most for each. That nothing else is compared without being counted is read, not proved.
+    /// Not counted are comparisons of no pair: of heights with the roots on the way down a tree, of the ends of live
+    /// segments with the `x` of the sweep, and with the first segment or part past the end of a scan, one at most for
+    /// each. That nothing else is compared without being counted is read, not proved.
     pub fn looked(&self) -> u128
         ensures { result ≡ looked_of self.now }
     {
@@ -119,7 +138,7 @@ impl<I> SplitSolver<I> {
 }
 
 impl<I: OverlayInt> SplitSolver<I> {
-    ghost use Rattle.overlay_split.specs.SettingsOf.{snap_limit_of, passes_of, looked_of, settings_of};
+    ghost use Rattle.overlay_split.specs.SettingsOf.{snap_limit_of, passes_of, reach_of, looked_of, settings_of};
 
     /// Splits a list as `split_segments_with_store` does, with a store of its own for the data, which begins as the
     /// store's default and is dropped.
@@ -146,7 +165,10 @@ impl<I: OverlayInt> SplitSolver<I> {
         ensures fits { OnOk result (SumsLeaveRange solver.now self.old list.old → ⊥) }
         ensures refused { OnTooLarge result (SumsLeaveRange solver.now self.old list.old) }
         ensures emptied { OnErr result (list.new.items ≡ []) }
+        ensures reach { OnOk result (ReportsReach solver.now self.old self.new list.old) }
+        ensures exact_reach { IsExactInput list.old → OnOk result (reach_of self.new ≡ 0) }
         ensures passes { OnErr result (passes_of self.new ≡ passes_of self.old) }
+        ensures reach_before { OnErr result (reach_of self.new ≡ reach_of self.old) }
         ensures looked { OnOk result (LooksAreBounded solver.now self.old self.new list.old) }
         ensures looked_before { OnErr result (looked_of self.new ≡ looked_of self.old) }
         ensures limit { snap_limit_of self.new ≡ snap_limit_of self.old }
@@ -178,7 +200,8 @@ impl<I: OverlayInt> SplitSolver<I> {
     /// `-i32::MAX..=i32::MAX`, in the given list or among the pieces of a pass, and, memory being found, wherever one
     /// does; the store is then what the hooks called before that sum left. Returns `Fault::Memory` where a growth is
     /// refused; the store is then what the hooks called so far left, so what each hook keeps of it still holds. Where a
-    /// call is refused the list is empty, `passes` and `looked` are as they were, and the splitter can be used again.
+    /// call is refused the list is empty, `passes`, `reach` and `looked` are as they were, and the splitter can be used
+    /// again.
     pub fn split_segments_with_store<C: WindingCount, D: OverlayEdgeData<C>>(
         &mut self,
         list: &mut Vec<Segment<C, I, D>>,
@@ -209,7 +232,10 @@ impl<I: OverlayInt> SplitSolver<I> {
         ensures stopped { OnTooLarge result
             (StopsRun D.OverlayEdgeData.own solver.now self.old list.old store.old store.new) }
         ensures store_made { IsMadeFrom (hooks_of C.counted D.OverlayEdgeData.own) store.old store.new }
+        ensures reach { OnOk result (ReportsReach solver.now self.old self.new list.old) }
+        ensures exact_reach { IsExactInput list.old → OnOk result (reach_of self.new ≡ 0) }
         ensures passes { OnErr result (passes_of self.new ≡ passes_of self.old) }
+        ensures reach_before { OnErr result (reach_of self.new ≡ reach_of self.old) }
         ensures looked { OnOk result (LooksAreBounded solver.now self.old self.new list.old) }
         ensures looked_before { OnErr result (looked_of self.new ≡ looked_of self.old) }
         ensures limit { snap_limit_of self.new ≡ snap_limit_of self.old }
@@ -217,6 +243,7 @@ impl<I: OverlayInt> SplitSolver<I> {
     {
         if list.is_empty() {
             self.passes = 0;
+            self.reach = 0;
             self.looked = 0;
             return Ok(false);
         }
@@ -235,13 +262,15 @@ impl<I: OverlayInt> SplitSolver<I> {
             (settings_of I.BITS solver.now self.old) (I.whole I.MIN_COORD) (I.whole I.MAX_COORD)
             (segments_of list.old.items) (segments_of list.new.items) (data_segments_of list.old.items)
             (data_segments_of list.new.items) store.old store.new (passes_of self.new) flag false) }
+        ensures reach { OnOk result (reach_of self.new ≡ reach_of_run (settings_of I.BITS solver.now self.old)
+            (segments_of list.old.items) (passes_of self.new)) }
         ensures looked { OnOk result (LooksAreBounded solver.now self.old self.new list.old) }
         ensures emptied { OnErr result (list.new.items ≡ []) }
         ensures stopped { OnTooLarge result
             (StopsRun D.OverlayEdgeData.own solver.now self.old list.old store.old store.new) }
         ensures store_made { IsMadeFrom (hooks_of C.counted D.OverlayEdgeData.own) store.old store.new }
         ensures unset { OnErr result ((passes_of self.new ≡ passes_of self.old)
-            × (looked_of self.new ≡ looked_of self.old)) }
+            × (looked_of self.new ≡ looked_of self.old) × (reach_of self.new ≡ reach_of self.old)) }
         ensures limit { snap_limit_of self.new ≡ snap_limit_of self.old }
     {
         let repeated = join_with_store(list, store)?;
@@ -254,6 +283,7 @@ impl<I: OverlayInt> SplitSolver<I> {
         };
         let mut progress = Progress {
             passes: 0,
+            reach: 0,
             has_changed: repeated,
             goes_on: list.len() >= 2,
         };
@@ -271,6 +301,7 @@ impl<I: OverlayInt> SplitSolver<I> {
             progress = progress.after_pass(list, placing, &mut finder, &mut self.buffers, store)?;
         }
         self.passes = progress.passes;
+        self.reach = progress.reach;
         self.looked = finder.looked();
         finder.give_back(&mut self.grid);
         Ok(progress.has_changed)
@@ -278,7 +309,7 @@ impl<I: OverlayInt> SplitSolver<I> {
 }
 
 impl Progress {
-    ghost use Rattle.std.specs.Prelude.{◌≡◌, ◌+◌, ◌<◌, ◌^◌, ◌||◌, ◌&&◌, [], IsTrue, IsFalse, IfOk, IfErr, OnOk, OnErr, length, nat_le, nat_lt};
+    ghost use Rattle.std.specs.Prelude.{◌≡◌, ◌+◌, ◌<◌, ◌≤◌, ◌^◌, ◌||◌, ◌&&◌, [], IsTrue, IsFalse, IfOk, IfErr, OnOk, OnErr, length, nat_le, nat_lt};
 
     /// Where a run stands after one more pass.
     fn after_pass<C: WindingCount, I: OverlayInt, D: OverlayEdgeData<C>>(
@@ -293,6 +324,7 @@ impl Progress {
         requires splittable { IsSplittable list.old.items }
         requires radius { HasRadius placing }
         requires passes { self.passes + 1 < 2 ^ 128 }
+        requires reach { self.reach < 2 ^ 127 }
         requires inside { LieInside (layout_in finder.old) (pairs (segments_of list.old.items)) }
         ensures solver { solver_in finder.new ≡ solver_in finder.old }
         ensures grid { layout_in finder.new ≡ layout_in finder.old }
@@ -306,6 +338,9 @@ impl Progress {
             (let hooks = hooks_of C.counted D.OverlayEdgeData.own in
             store.new ≡ (data_pass hooks (placing_of placing) (data_segments_of list.old.items) store.old).1) }
         ensures passes { IfOk result (λ after. after.passes ≡ self.passes + 1) }
+        ensures reach { IfOk result (λ after. after.reach
+            ≡ self.reach + reach_of_pass (placing_of placing) (segments_of list.old.items)) }
+        ensures reach_bound { IfOk result (λ after. after.reach ≤ self.reach + 2 ^ 34) }
         ensures changed { IfOk result (λ after. after.has_changed
             ≡ (self.has_changed || nat_lt 0 (mark_count (placing_of placing) (segments_of list.old.items)))) }
         ensures goes_on { IfOk result (λ after. after.goes_on
@@ -325,6 +360,7 @@ impl Progress {
         let passed = pass(list, placing, finder, buffers, store)?;
         Ok(Progress {
             passes: self.passes + 1,
+            reach: self.reach + most_moved(placing, passed.is_rounded),
             has_changed: self.has_changed || passed.has_marks,
             goes_on: list.len() >= 2 && passed.is_rounded,
         })
@@ -338,5 +374,22 @@ fn snapping<I: OverlayInt>(radius: &SnapRadius) -> Placing
 {
     Placing::Snapping {
         radius_squared: radius.radius_squared::<I>(),
+    }
+}
+
+/// How far a pass that places crossings so moves one at most, in halves of a unit: nothing if none is rounded. Else to
+/// the snapping point by less than 1, and from there no farther than the radius, or to the settling point by one half.
+fn most_moved(placing: Placing, rounds: bool) -> u128
+    requires { HasRadius placing }
+    ensures reach { result ≡ (if rounds then reach (placing_of placing) else 0) }
+    ensures bound { result ≤ 2 ^ 34 }
+{
+    if !rounds {
+        return 0;
+    }
+    match placing {
+        Placing::Snapping { radius_squared } => 2
+            + 2 * radius_squared.unsigned_abs().isqrt() as u128,
+        Placing::Settling => 1,
     }
 }

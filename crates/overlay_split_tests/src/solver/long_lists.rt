@@ -9,10 +9,15 @@ fn push(rt: &impl Abort, rows: &mut Vec<Row>, a: (i64, i64), b: (i64, i64)) {
 
 /// Horizontal lines above one another, from x = 0 to x = 10.
 fn lines(rt: &(impl Abort + AllocGlobal), count: u16) -> Vec<Row> {
+    lines_to(rt, count, 10)
+}
+
+/// The same from x = 0 to another x.
+fn lines_to(rt: &(impl Abort + AllocGlobal), count: u16, x: i64) -> Vec<Row> {
     let mut rows = Vec::new(rt.alloc());
     for line in 0..count {
         let y = i64::from(line);
-        push(rt, &mut rows, (0, y), (10, y));
+        push(rt, &mut rows, (0, y), (x, y));
     }
     rows
 }
@@ -172,6 +177,19 @@ fn crossed_lines_of_many_fragments(rt: HostRuntime) {
     check_alike(&rt, &split, 48_001, (true, 1));
 }
 
+/// The same, half as long: three fragments each, so no tree is asked before the grid. In the column of the vertical the
+/// grid compares it with each line once, and in no column two lines with one another, as the tree does.
+#[test]
+fn crossed_lines_of_few_fragments(rt: HostRuntime) {
+    let mut given = lines_to(&rt, 16_000, 5);
+    push(&rt, &mut given, (3, -1), (3, 16_000));
+    let split = split_alike(&rt, &given);
+    check_alike(&rt, &split, 48_001, (true, 1));
+    for looked in split.looked {
+        assert!(rt; looked == 16_000);
+    }
+}
+
 /// Splits segments that the split leaves as they are.
 fn split_unchanged(rt: &(impl Abort + AllocGlobal), given: &[Row]) -> Alike {
     let split = split_alike(rt, given);
@@ -188,6 +206,15 @@ fn lines_above_one_another(rt: HostRuntime) {
     let [tree, grid, auto] = split.looked;
     assert!(rt; tree <= 4000 && auto <= 4000);
     assert!(rt; grid <= 20_000);
+}
+
+/// In each of 3 columns a line has a fragment, so no tree is asked before the grid, and this compares none. The tree
+/// compares the first ones with one another.
+#[test]
+fn short_lines_above_one_another(rt: HostRuntime) {
+    let split = split_unchanged(&rt, &lines_to(&rt, 4000, 5));
+    let [tree, grid, auto] = split.looked;
+    assert!(rt; 0 < tree && grid == 0 && auto == tree);
 }
 
 #[test]

@@ -3,8 +3,6 @@ pub mod Searches
 pub mod ListReads
 pub mod ListOrders
 pub mod ListAnswers
-pub mod ListCounts
-pub mod SearchTables
 pub mod ListAsTree
 pub mod Halves
 pub mod LastingRows

@@ -6,4 +6,4 @@ pub mod SweepStates
 pub mod Arrangements
 pub mod FillBytes
 pub mod LookCosts
-pub mod LookTotals
+pub mod Standing

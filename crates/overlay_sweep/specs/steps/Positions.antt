@@ -1,5 +1,5 @@
 -- Where a place lies among entries that stand from below.
-use Rattle.std.specs.Prelude.{◌≡◌, ℕ, Bool, true, false, ◌-◌, ◌≤◌, ◌⊎◌}
+use Rattle.std.specs.Prelude.{◌≡◌, ℕ, suc, Bool, true, false, ◌-◌, ◌<◌, ◌≤◌, ◌⊎◌, List, ◌∷◌, ◌++◌, take, drop, length}
 
 -- the entry just below a position, if there is one, stands before the place, and the one at it does not
 pub record IsPosition (before : ℕ → Bool) (many at : ℕ) : Type 0 where
@@ -7,8 +7,21 @@ pub record IsPosition (before : ℕ → Bool) (many at : ℕ) : Type 0 where
   pub last_is : (at ≡ 0) ⊎ (before (at - 1) ≡ true)
   pub first_is : (at ≡ many) ⊎ (before at ≡ false)
 
--- the same where entries may have ended: those two have not
+-- the first entry from an index on that has not ended, if there is one, does not stand before the place
+pub record HasNext (lasts before : ℕ → Bool) (many at : ℕ) : Type 0 where
+  pub next : ℕ
+  pub order : at ≤ next
+  pub within : next ≤ many
+  pub ended : (k : ℕ) → at ≤ k → k < next → lasts k ≡ false
+  pub is : (next ≡ many) ⊎ ((lasts next ≡ true) × (before next ≡ false))
+
+-- a position where entries may have ended: the one just below it has not, and the next above it that has not is meant
 pub record IsLivePosition (lasts before : ℕ → Bool) (many at : ℕ) : Type 0 where
   pub within : at ≤ many
   pub last_is : (at ≡ 0) ⊎ ((lasts (at - 1) ≡ true) × (before (at - 1) ≡ true))
-  pub first_is : (at ≡ many) ⊎ ((lasts at ≡ true) × (before at ≡ false))
+  pub behind : HasNext lasts before many at
+
+-- an entry was put in at an index, or in place of one that had ended
+abbrev pub IsPutIn : {E : Type 0} → (ℕ → Bool) → ℕ → E → List E → List E → Type 0
+IsPutIn lasts at entry old new =
+    (new ≡ take at old ++ entry ∷ drop at old) ⊎ ((at < length old) × (lasts at ≡ false) × (new ≡ take at old ++ entry ∷ drop (suc at) old))

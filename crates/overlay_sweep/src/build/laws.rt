@@ -1,5 +1,5 @@
 // The laws of windings: the contract of a function with an empty body, proved for all whole numbers.
-ghost use Rattle.overlay_sweep.specs.Laws.{ChainsAreColumns, SearchesHaveTable, TopsAddWeights};
+ghost use Rattle.overlay_sweep.specs.Laws.{ChainsAreColumns, TopsAddWeights};
 
 /// With balanced counts the windings that a sweep finds by its chains are those of the columns of the plane: the sums
 /// of the weights below, in every column that a segment spans, and beside a vertical segment those to its right and
@@ -7,10 +7,4 @@ ghost use Rattle.overlay_sweep.specs.Laws.{ChainsAreColumns, SearchesHaveTable, 
 pub fn winding_laws()
     ensures columns { ChainsAreColumns }
     ensures tops { TopsAddWeights }
-{}
-
-/// There is a table of what a search by halves asks among any number of entries, so that the sum which `run` promises
-/// over a list is one number.
-pub fn search_laws()
-    ensures { SearchesHaveTable }
 {}

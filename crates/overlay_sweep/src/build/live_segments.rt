@@ -7,7 +7,7 @@ ghost use Rattle.overlay_geometry.specs.VSegmentOf.{IsVSegmentInRange};
 ghost use Rattle.overlay_sweep.specs.EntryOf.{summed};
 ghost use Rattle.overlay_sweep.specs.Live.{sum_below};
 ghost use Rattle.overlay_sweep.specs.Live.{HoldSameFrom, AreFreeAt};
-ghost use Rattle.overlay_sweep.specs.Costs.{lasting_at, LastAlikeFrom, IsInsertCost, IsSearchCost};
+ghost use Rattle.overlay_sweep.specs.Costs.{IsInsertCost, IsSearchCost};
 
 use overlay_base::segm::fault::Fault;
 use overlay_base::segm::winding::WindingCount;
@@ -33,9 +33,6 @@ pub trait LiveSegments<C: WindingCount, I: OverlayInt> {
     // a search among n entries asks at most d orders, and d more for each entry that it drops
     ghost is_most: { ℕ → ℕ → Type 0 };
 
-    // a search among n live segments may ask d orders
-    ghost asks: { ℕ → ℕ → Type 0 };
-
     /// Adds a segment that starts at `x`, and is not vertical, with the sum above it.
     ///
     /// Returns `Fault::Memory` where a growth is refused; the collection is empty then, and the next call may be at any
@@ -53,9 +50,7 @@ pub trait LiveSegments<C: WindingCount, I: OverlayInt> {
         ensures none_asked { OnErr result (asked self.new ≡ 0) }
         ensures cleared { OnErr result ((y : ℤ) → may_go_on_at self.new y) }
         ensures held { OnOk result (held self.new ≤ suc (held self.old)) }
-        ensures most { OnOk result (IsInsertCost is_most (held self.old) (held self.new) (asked self.new)) }
-        ensures lasting { OnOk result (LastAlikeFrom (I.whole x) (sums self.new) (summed C.winding I.whole segment sum ∷ sums self.old)) }
-        ensures look { OnOk result (asks (lasting_at (I.whole x) (sums self.old)) (asked self.new)) };
+        ensures most { OnOk result (IsInsertCost is_most (held self.old) (held self.new) (asked self.new)) };
 
     /// The sum on the live segment directly below `p`, of several that start at one point there the last by angle, or
     /// the default where none lies below. `x` has to be that of `p`.
@@ -68,9 +63,7 @@ pub trait LiveSegments<C: WindingCount, I: OverlayInt> {
         ensures sums { HoldSameFrom (I.whole x) (sums self.new) (sums self.old) }
         ensures time { (y : ℤ) → I.whole x ≤ℤ y → may_go_on_at self.new y }
         ensures held { held self.new ≤ held self.old }
-        ensures most { IsSearchCost is_most (held self.old) (held self.new) (asked self.new) }
-        ensures lasting { LastAlikeFrom (I.whole x) (sums self.new) (sums self.old) }
-        ensures look { asks (lasting_at (I.whole x) (sums self.old)) (asked self.new) };
+        ensures most { IsSearchCost is_most (held self.old) (held self.new) (asked self.new) };
 
     /// Drops all segments. The next call may be at any `x`.
     fn clear(&mut self)

@@ -129,7 +129,7 @@ impl<C: WindingCount, I: OverlayInt> LiveSegments<C, I> for ScanList<C, I> {
     ghost use Rattle.std.specs.Prelude.{suc, ◌-◌, ◌*◌, ◌^◌, ◌≤◌, ◌≤ℤ◌, ◌<ℤ◌, ℤ, All, [], ◌∷◌, OnOk, OnErr, IfErr};
     ghost use Rattle.overlay_geometry.specs.PointOf.{point_of};
     ghost use Rattle.overlay_geometry.specs.InRange.{IsPointInRange};
-    ghost use Rattle.overlay_sweep.specs.Costs.{IsSearchAmong, lasting_at, LastAlikeFrom, IsInsertCost, IsSearchCost};
+    ghost use Rattle.overlay_sweep.specs.Costs.{IsSearchAmong, IsInsertCost, IsSearchCost};
     ghost use Rattle.overlay_sweep.specs.EntryOf.{summed};
     ghost use Rattle.overlay_sweep.specs.Live.{sum_below};
     ghost use Rattle.overlay_sweep.specs.Live.{HoldSameFrom, AreFreeAt};
@@ -142,8 +142,6 @@ impl<C: WindingCount, I: OverlayInt> LiveSegments<C, I> for ScanList<C, I> {
     ghost held = { λ list. list_held list };
 
     ghost is_most = { λ n d. 2 * n ≤ 2 ^ d };
-
-    ghost asks = { λ n d. IsSearchAmong n d };
 
     ghost may_go_on_at = { λ list x. IsInOrderAt x list };
 
@@ -163,8 +161,6 @@ impl<C: WindingCount, I: OverlayInt> LiveSegments<C, I> for ScanList<C, I> {
         ensures compared { OnOk result (IsSearchAmong (list_held self.new - 1) (list_asked self.new)) }
         ensures held { OnOk result (list_held self.new ≤ suc (list_held self.old)) }
         ensures most { OnOk result (IsInsertCost (λ n d. 2 * n ≤ 2 ^ d) (list_held self.old) (list_held self.new) (list_asked self.new)) }
-        ensures lasting { OnOk result (LastAlikeFrom (I.whole x) (list_sums self.new) (summed C.winding I.whole segment sum ∷ list_sums self.old)) }
-        ensures look { OnOk result (IsSearchAmong (lasting_at (I.whole x) (list_sums self.old)) (list_asked self.new)) }
     {
         let entry = Entry { segment, sum };
         let position = self.settle(x, &Place::Segment(segment));
@@ -190,8 +186,6 @@ impl<C: WindingCount, I: OverlayInt> LiveSegments<C, I> for ScanList<C, I> {
         ensures compared { IsSearchAmong (list_held self.new) (list_asked self.new) }
         ensures held { list_held self.new ≤ list_held self.old }
         ensures most { IsSearchCost (λ n d. 2 * n ≤ 2 ^ d) (list_held self.old) (list_held self.new) (list_asked self.new) }
-        ensures lasting { LastAlikeFrom (I.whole x) (list_sums self.new) (list_sums self.old) }
-        ensures look { IsSearchAmong (lasting_at (I.whole x) (list_sums self.old)) (list_asked self.new) }
     {
         let position = self.settle(x, &Place::Point(p));
         if position == 0 {

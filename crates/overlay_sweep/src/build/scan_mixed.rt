@@ -27,7 +27,6 @@ pub struct ScanMixed<C: WindingCount, I: OverlayInt> {
 
 impl<C: WindingCount, I: OverlayInt> ScanMixed<C, I> {
     ghost use Rattle.std.specs.Prelude.{ℤ, [], ◌≤◌, true, length, OnOk, OnErr, IfErr};
-    ghost use Rattle.overlay_sweep.specs.Costs.{LastAlikeFrom};
     ghost use Rattle.overlay_sweep.specs.Live.{HoldSameFrom};
     ghost use Rattle.overlay_sweep.specs.LiveOf.{sums_in, held_in, asked_in, IsMixedAt, row_sums, row_entries, tree_sums, tree_asked, tree_held, IsInRowAt, IsSoundAt};
 
@@ -68,7 +67,6 @@ impl<C: WindingCount, I: OverlayInt> ScanMixed<C, I> {
         ensures sums { OnOk result (HoldSameFrom (I.whole x) (sums_in self.new) (sums_in self.old)) }
         ensures time { OnOk result (IsMixedAt (I.whole x) self.new) }
         ensures held { OnOk result (held_in self.new ≤ held_in self.old) }
-        ensures lasting { OnOk result (LastAlikeFrom (I.whole x) (sums_in self.new) (sums_in self.old)) }
         ensures fault { IfErr result (λ fault. fault ≡ Fault.Memory) }
         ensures emptied { OnErr result (sums_in self.new ≡ []) }
         ensures none_asked { OnErr result (asked_in self.new ≡ 0) }
@@ -90,7 +88,7 @@ impl<C: WindingCount, I: OverlayInt> LiveSegments<C, I> for ScanMixed<C, I> {
     ghost use Rattle.std.specs.Prelude.{suc, ◌≤◌, ◌≤ℤ◌, ◌<ℤ◌, ℤ, [], ◌∷◌, OnOk, OnErr, IfErr};
     ghost use Rattle.overlay_geometry.specs.PointOf.{point_of};
     ghost use Rattle.overlay_geometry.specs.InRange.{IsPointInRange};
-    ghost use Rattle.overlay_sweep.specs.Costs.{IsHighest, IsWayAmong, lasting_at, LastAlikeFrom, IsInsertCost, IsSearchCost};
+    ghost use Rattle.overlay_sweep.specs.Costs.{IsHighest, IsInsertCost, IsSearchCost};
     ghost use Rattle.overlay_sweep.specs.EntryOf.{summed};
     ghost use Rattle.overlay_sweep.specs.Live.{sum_below};
     ghost use Rattle.overlay_sweep.specs.Live.{HoldSameFrom, AreFreeAt};
@@ -103,8 +101,6 @@ impl<C: WindingCount, I: OverlayInt> LiveSegments<C, I> for ScanMixed<C, I> {
     ghost held = { λ mixed. held_in mixed };
 
     ghost is_most = { λ n d. IsHighest n d };
-
-    ghost asks = { λ n d. IsWayAmong n d };
 
     ghost may_go_on_at = { λ mixed x. IsMixedAt x mixed };
 
@@ -122,8 +118,6 @@ impl<C: WindingCount, I: OverlayInt> LiveSegments<C, I> for ScanMixed<C, I> {
         ensures cleared { OnErr result ((y : ℤ) → IsMixedAt y self.new) }
         ensures held { OnOk result (held_in self.new ≤ suc (held_in self.old)) }
         ensures most { OnOk result (IsInsertCost IsHighest (held_in self.old) (held_in self.new) (asked_in self.new)) }
-        ensures lasting { OnOk result (LastAlikeFrom (I.whole x) (sums_in self.new) (summed C.winding I.whole segment sum ∷ sums_in self.old)) }
-        ensures look { OnOk result (IsWayAmong (lasting_at (I.whole x) (sums_in self.old)) (asked_in self.new)) }
     {
         self.make_room(x)?;
         if self.is_tree {
@@ -143,8 +137,6 @@ impl<C: WindingCount, I: OverlayInt> LiveSegments<C, I> for ScanMixed<C, I> {
         ensures time { (y : ℤ) → I.whole x ≤ℤ y → IsMixedAt y self.new }
         ensures held { held_in self.new ≤ held_in self.old }
         ensures most { IsSearchCost IsHighest (held_in self.old) (held_in self.new) (asked_in self.new) }
-        ensures lasting { LastAlikeFrom (I.whole x) (sums_in self.new) (sums_in self.old) }
-        ensures look { IsWayAmong (lasting_at (I.whole x) (sums_in self.old)) (asked_in self.new) }
     {
         if self.is_tree {
             self.tree.sum_below(x, p, default)

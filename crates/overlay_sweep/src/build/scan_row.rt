@@ -22,23 +22,13 @@ pub struct ScanRow<C: WindingCount, I: OverlayInt> {
     compared: u128,
 }
 
-/// What a search came to.
-#[derive(Clone, Copy)]
-struct Found {
-    /// How many entries stand before the place.
-    position: usize,
-    /// The orders asked are as many as a way down a tree may ask that has fewer entries than this.
-    reach: usize,
-}
-
 impl<C: WindingCount, I: OverlayInt> ScanRow<C, I> {
-    ghost use Rattle.std.specs.Prelude.{ℕ, ℤ, ◌*◌, ◌+◌, ◌<◌, ◌≤◌, ◌^◌, suc, [], All, ◌≤ℤ◌, filter, int_lt, length};
-    ghost use Rattle.overlay_sweep.specs.Costs.{IsWayAmong, lasting_at};
+    ghost use Rattle.std.specs.Prelude.{ℕ, ℤ, ◌*◌, ◌+◌, ◌≤◌, ◌^◌, suc, [], All, ◌≤ℤ◌, filter, int_lt, length, OnOk, IfErr};
     ghost use Rattle.overlay_sweep.specs.EntryOf.{entries_of};
     ghost use Rattle.overlay_sweep.specs.ScanTrees.{lasts_past, segment_at};
     ghost use Rattle.overlay_sweep.specs.LiveOf.{row_entries, row_asked, IsInRowAt};
     ghost use Rattle.overlay_sweep.specs.steps.PlaceOf.{IsPlaceInRange, stands_before};
-    ghost use Rattle.overlay_sweep.specs.steps.Positions.{IsLivePosition};
+    ghost use Rattle.overlay_sweep.specs.steps.Positions.{IsLivePosition, IsPutIn};
 
     /// An empty row, which takes no memory yet.
     pub fn new(alloc: Global) -> ScanRow<C, I>
@@ -67,10 +57,10 @@ impl<C: WindingCount, I: OverlayInt> ScanRow<C, I> {
         self.entries.retain(|entry| entry.lasts_past(x));
     }
 
-    /// Searches for a place by halves, and drops the entries that it meets and that have ended. Adds to `compared` how many
-    /// orders it asks: no fewer than a way down a balanced tree among fewer entries than the reach, or where none is
-    /// dropped.
-    fn search(&mut self, x: I, place: &Place<I>, compared: &mut u128) -> Found
+    /// Searches for a place by halves. It passes over an entry that has ended, and drops the second of two in a row. Returns
+    /// an index with the place: the entry below has not ended and stands before it, and the next one above that has not
+    /// ended does not. Adds to `compared` how many orders it asks.
+    fn search(&mut self, x: I, place: &Place<I>, compared: &mut u128) -> usize
         requires place { IsPlaceInRange I.whole I.MIN_COORD I.MAX_COORD place.now }
         requires none { compared.old ≡ 0 }
         ensures kept { filter (λ s. int_lt (I.whole x) s.pair.b.x) (entries_of self.new.entries.items)
@@ -79,41 +69,44 @@ impl<C: WindingCount, I: OverlayInt> ScanRow<C, I> {
             → All (λ s. s.pair.a.x ≤ℤ z) (entries_of self.new.entries.items) }
         ensures position { IsLivePosition (lasts_past (I.whole x)
             (entries_of self.new.entries.items)) (λ i. stands_before I.whole place.now (segment_at
-            (entries_of self.new.entries.items) i).pair) (length self.new.entries.items) result.position }
+            (entries_of self.new.entries.items) i).pair) (length self.new.entries.items) result }
         ensures fewer { length self.new.entries.items ≤ length self.old.entries.items }
-        ensures same { self.new.compared ≡ self.old.compared }
         ensures most { (d : ℕ) → 2 * length self.old.entries.items ≤ 2 ^ d → compared.new ≤ d }
-        ensures all { length self.new.entries.items ≡ length self.old.entries.items
-            → IsWayAmong (length self.new.entries.items) compared.new }
-        ensures reach { length self.new.entries.items < result.reach
-            → IsWayAmong (length self.new.entries.items) compared.new }
     {
         let mut low = 0;
         let mut high = self.entries.len();
-        let mut reach = 8_usize;
         while low < high {
             let middle = low + (high - low) / 2;
             let entry = &self.entries[middle];
-            if !entry.lasts_past(x) {
-                self.entries.remove(middle);
+            if entry.lasts_past(x) {
+                if entry.is_before(place, compared) {
+                    low = middle + 1;
+                } else {
+                    high = middle;
+                }
+                continue;
+            }
+            let behind = middle + 1;
+            if behind == high {
+                high = middle;
+                continue;
+            }
+            let next = &self.entries[behind];
+            if !next.lasts_past(x) {
+                self.entries.remove(behind);
                 high -= 1;
                 continue;
             }
-            reach = reach.saturating_mul(4);
-            if entry.is_before(place, compared) {
-                low = middle + 1;
+            if next.is_before(place, compared) {
+                low = behind + 1;
             } else {
                 high = middle;
             }
         }
-        Found {
-            position: low,
-            reach,
-        }
+        low
     }
 
-    /// Searches, and once more where the entries that were dropped have spared too many orders. Returns how many entries
-    /// stand before the place, and leaves in `compared` how many orders that asked.
+    /// Searches for a place. Returns an index with the place, and leaves in `compared` how many orders that asked.
     fn settle(&mut self, x: I, place: &Place<I>) -> usize
         requires place { IsPlaceInRange I.whole I.MIN_COORD I.MAX_COORD place.now }
         ensures kept { filter (λ s. int_lt (I.whole x) s.pair.b.x) (entries_of self.new.entries.items)
@@ -126,19 +119,27 @@ impl<C: WindingCount, I: OverlayInt> ScanRow<C, I> {
         ensures fewer { length self.new.entries.items ≤ length self.old.entries.items }
         ensures most { (d : ℕ) → 2 * length self.old.entries.items ≤ 2 ^ d
             → self.new.compared + length self.new.entries.items * d ≤ suc (length self.old.entries.items) * d }
-        ensures look { IsWayAmong (lasting_at (I.whole x) (entries_of self.old.entries.items)) self.new.compared }
     {
-        self.compared = 0;
-        loop {
-            let many = self.entries.len();
-            let mut asked = 0;
-            let found = self.search(x, place, &mut asked);
-            self.compared = self.compared.saturating_add(asked);
-            let left = self.entries.len();
-            if left == many || left < found.reach {
-                return found.position;
-            }
+        let mut asked = 0;
+        let position = self.search(x, place, &mut asked);
+        self.compared = asked;
+        position
+    }
+
+    /// Puts an entry in at an index, in place of the one there if that has ended.
+    fn put(&mut self, at: usize, entry: Entry<C, I>, x: I) -> Result<(), Fault>
+        requires { at ≤ length self.old.entries.items }
+        ensures put { OnOk result (IsPutIn (lasts_past (I.whole x)
+            (entries_of self.old.entries.items)) at entry self.old.entries.items self.new.entries.items) }
+        ensures same { OnOk result (self.new.compared ≡ self.old.compared) }
+        ensures fault { IfErr result (λ fault. fault ≡ Fault.Memory) }
+    {
+        if at < self.entries.len() && !self.entries[at].lasts_past(x) {
+            self.entries[at] = entry;
+            return Ok(());
         }
+        self.entries.insert(at, entry)?;
+        Ok(())
     }
 }
 
@@ -146,7 +147,7 @@ impl<C: WindingCount, I: OverlayInt> LiveSegments<C, I> for ScanRow<C, I> {
     ghost use Rattle.std.specs.Prelude.{suc, ◌*◌, ◌^◌, ◌≤◌, ◌≤ℤ◌, ◌<ℤ◌, ℤ, [], ◌∷◌, OnOk, OnErr, IfErr};
     ghost use Rattle.overlay_geometry.specs.PointOf.{point_of};
     ghost use Rattle.overlay_geometry.specs.InRange.{IsPointInRange};
-    ghost use Rattle.overlay_sweep.specs.Costs.{IsWayAmong, lasting_at, LastAlikeFrom, IsInsertCost, IsSearchCost};
+    ghost use Rattle.overlay_sweep.specs.Costs.{IsInsertCost, IsSearchCost};
     ghost use Rattle.overlay_sweep.specs.EntryOf.{summed};
     ghost use Rattle.overlay_sweep.specs.Live.{sum_below};
     ghost use Rattle.overlay_sweep.specs.Live.{HoldSameFrom, AreFreeAt};
@@ -159,8 +160,6 @@ impl<C: WindingCount, I: OverlayInt> LiveSegments<C, I> for ScanRow<C, I> {
     ghost held = { λ row. row_held row };
 
     ghost is_most = { λ n d. 2 * n ≤ 2 ^ d };
-
-    ghost asks = { λ n d. IsWayAmong n d };
 
     ghost may_go_on_at = { λ row x. IsInRowAt x row };
 
@@ -178,16 +177,16 @@ impl<C: WindingCount, I: OverlayInt> LiveSegments<C, I> for ScanRow<C, I> {
         ensures cleared { OnErr result ((y : ℤ) → IsInRowAt y self.new) }
         ensures held { OnOk result (row_held self.new ≤ suc (row_held self.old)) }
         ensures most { OnOk result (IsInsertCost (λ n d. 2 * n ≤ 2 ^ d) (row_held self.old) (row_held self.new) (row_asked self.new)) }
-        ensures lasting { OnOk result (LastAlikeFrom (I.whole x) (row_sums self.new) (summed C.winding I.whole segment sum ∷ row_sums self.old)) }
-        ensures look { OnOk result (IsWayAmong (lasting_at (I.whole x) (row_sums self.old)) (row_asked self.new)) }
     {
         let entry = Entry { segment, sum };
         let position = self.settle(x, &Place::Segment(segment));
-        if self.entries.insert(position, entry).is_err() {
-            self.clear();
-            return Err(Fault::Memory);
+        match self.put(position, entry, x) {
+            Ok(()) => Ok(()),
+            Err(fault) => {
+                self.clear();
+                Err(fault)
+            }
         }
-        Ok(())
     }
 
     fn sum_below(&mut self, x: I, p: IntPoint<I>, default: C) -> C
@@ -200,8 +199,6 @@ impl<C: WindingCount, I: OverlayInt> LiveSegments<C, I> for ScanRow<C, I> {
         ensures time { (y : ℤ) → I.whole x ≤ℤ y → IsInRowAt y self.new }
         ensures held { row_held self.new ≤ row_held self.old }
         ensures most { IsSearchCost (λ n d. 2 * n ≤ 2 ^ d) (row_held self.old) (row_held self.new) (row_asked self.new) }
-        ensures lasting { LastAlikeFrom (I.whole x) (row_sums self.new) (row_sums self.old) }
-        ensures look { IsWayAmong (lasting_at (I.whole x) (row_sums self.old)) (row_asked self.new) }
     {
         let position = self.settle(x, &Place::Point(p));
         if position == 0 {

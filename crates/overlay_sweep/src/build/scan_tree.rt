@@ -2,7 +2,7 @@
 ghost use Rattle.std.specs.Prelude.{◌≡◌, ◌+◌, ◌/◌, ◌≤◌, ◌==◌, ◌&&◌, not};
 ghost use Rattle.overlay_geometry.specs.VSegmentOf.{v_pair_of};
 ghost use Rattle.overlay_sweep.specs.steps.PlaceOf.{IsPlaceInRange, stands_before};
-ghost use Rattle.overlay_sweep.specs.TreeShapes.{none, subtree_height};
+ghost use Rattle.overlay_sweep.specs.TreeShapes.{none};
 
 use crate::build::entry::Entry;
 use crate::build::live_segments::LiveSegments;
@@ -49,7 +49,7 @@ pub struct ScanTree<C: WindingCount, I: OverlayInt> {
 }
 
 impl<C: WindingCount, I: OverlayInt> ScanTree<C, I> {
-    ghost use Rattle.std.specs.Prelude.{ℤ, ◌-◌, ◌^◌, ◌<◌, min, [], ◌∷◌, ◌++◌, true, false, length, IfOk, OnOk, OnErr, IfErr};
+    ghost use Rattle.std.specs.Prelude.{ℤ, ◌-◌, ◌^◌, ◌<◌, [], ◌∷◌, ◌++◌, true, false, length, IfOk, OnOk, OnErr, IfErr};
     ghost use Rattle.overlay_sweep.specs.EntryOf.{entries_of};
     ghost use Rattle.overlay_sweep.specs.TreeShapes.{MayGoDown, IsStopped, IsPlaced};
     ghost use Rattle.overlay_sweep.specs.ScanTrees.{segment_at, lasts_past, IsScanRow, IsGrowing, IsGrown, IsAskedWithin};
@@ -82,8 +82,6 @@ impl<C: WindingCount, I: OverlayInt> ScanTree<C, I> {
         ensures kept { self.new.kept ≡ self.old.kept }
         ensures compared { (m : MayGoDown self.old.shape.nodes.items at new) → self.new.compared ≤ self.old.compared
             + m.sound.high }
-        ensures reached { result.is_stopped ≡ false → (m : MayGoDown self.old.shape.nodes.items at new)
-            → min (self.old.compared + m.sound.high / 2) (2 ^ 128 - 1) ≤ self.new.compared }
         ensures same { result.is_stopped ≡ false → new ≡ none
             → (self.new.shape.nodes.items ≡ self.old.shape.nodes.items) × (result.top ≡ at) }
         ensures stopped { result.is_stopped ≡ true → (m : MayGoDown self.old.shape.nodes.items at new)
@@ -142,7 +140,6 @@ impl<C: WindingCount, I: OverlayInt> ScanTree<C, I> {
             (entries_of self.old.entries.items) i).pair) m.down.placed self.new.shape.nodes.items self.new.root
             self.new.kept result }
         ensures compared { IsAskedWithin self.old.kept (self.old.kept - self.new.kept) self.new.compared }
-        ensures reached { subtree_height self.new.shape.nodes.items self.new.root / 2 ≤ self.new.compared + 1 }
     {
         self.compared = 0;
         loop {
@@ -219,7 +216,7 @@ impl<C: WindingCount, I: OverlayInt> ScanTree<C, I> {
 
 impl<C: WindingCount, I: OverlayInt> LiveSegments<C, I> for ScanTree<C, I> {
     ghost use Rattle.std.specs.Prelude.{ℕ, ◌*◌, ◌≤ℤ◌, ◌<ℤ◌, ℤ, suc, ◌-◌, [], ◌∷◌, OnOk, OnErr, IfErr};
-    ghost use Rattle.overlay_sweep.specs.Costs.{IsHighest, IsWayAmong, lasting_at, LastAlikeFrom, IsInsertCost, IsSearchCost};
+    ghost use Rattle.overlay_sweep.specs.Costs.{IsHighest, IsInsertCost, IsSearchCost};
     ghost use Rattle.overlay_sweep.specs.EntryOf.{summed};
     ghost use Rattle.overlay_geometry.specs.PointOf.{point_of};
     ghost use Rattle.overlay_geometry.specs.InRange.{IsPointInRange};
@@ -227,7 +224,7 @@ impl<C: WindingCount, I: OverlayInt> LiveSegments<C, I> for ScanTree<C, I> {
     ghost use Rattle.overlay_sweep.specs.Live.{sum_below};
     ghost use Rattle.overlay_sweep.specs.Live.{HoldSameFrom, AreFreeAt};
     ghost use Rattle.overlay_sweep.specs.ScanTrees.{IsAskedWithin};
-    ghost use Rattle.overlay_sweep.specs.LiveOf.{tree_sums, tree_held, IsSoundAt, height_of, tree_asked};
+    ghost use Rattle.overlay_sweep.specs.LiveOf.{tree_sums, tree_held, IsSoundAt, tree_asked};
 
     ghost sums = { λ tree. tree_sums tree };
 
@@ -236,8 +233,6 @@ impl<C: WindingCount, I: OverlayInt> LiveSegments<C, I> for ScanTree<C, I> {
     ghost held = { λ tree. tree_held tree };
 
     ghost is_most = { λ n d. IsHighest n d };
-
-    ghost asks = { λ n d. IsWayAmong n d };
 
     ghost may_go_on_at = { λ tree x. IsSoundAt x tree };
 
@@ -257,9 +252,6 @@ impl<C: WindingCount, I: OverlayInt> LiveSegments<C, I> for ScanTree<C, I> {
         ensures most { OnOk result (IsInsertCost IsHighest (tree_held self.old) (tree_held self.new) (tree_asked self.new)) }
         ensures compared { OnOk result
             (IsAskedWithin (tree_held self.old) (suc (tree_held self.old) - tree_held self.new) (tree_asked self.new)) }
-        ensures reached { OnOk result (height_of self.new / 2 ≤ tree_asked self.new + 1) }
-        ensures lasting { OnOk result (LastAlikeFrom (I.whole x) (tree_sums self.new) (summed C.winding I.whole segment sum ∷ tree_sums self.old)) }
-        ensures look { OnOk result (IsWayAmong (lasting_at (I.whole x) (tree_sums self.old)) (tree_asked self.new)) }
     {
         match self.push(Entry { segment, sum }) {
             Ok(new) => {
@@ -286,9 +278,6 @@ impl<C: WindingCount, I: OverlayInt> LiveSegments<C, I> for ScanTree<C, I> {
         ensures most { IsSearchCost IsHighest (tree_held self.old) (tree_held self.new) (tree_asked self.new) }
         ensures compared { IsAskedWithin (tree_held self.old) (tree_held self.old - tree_held self.new)
             (tree_asked self.new) }
-        ensures reached { height_of self.new / 2 ≤ tree_asked self.new + 1 }
-        ensures lasting { LastAlikeFrom (I.whole x) (tree_sums self.new) (tree_sums self.old) }
-        ensures look { IsWayAmong (lasting_at (I.whole x) (tree_sums self.old)) (tree_asked self.new) }
     {
         let last = self.settle(x, &Place::Point(p), NONE);
         if last == NONE {

@@ -3,10 +3,9 @@ ghost use Rattle.std.specs.Prelude.{◌≡◌, ℕ, ◌<◌, IsTrue, IsFalse, If
 ghost use Rattle.overlay_base.specs.ArrangedOf.{IsArranged};
 ghost use Rattle.overlay_base.specs.Balance.{IsBalanced};
 ghost use Rattle.overlay_base.specs.SegmentOf.{segments_of};
-ghost use Rattle.overlay_sweep.specs.Sweep.{NeverBreaks};
 ghost use Rattle.overlay_sweep.specs.ChainWindings.{HaveColumnWindings};
 ghost use Rattle.overlay_sweep.specs.LiveOf.{run_asked};
-ghost use Rattle.overlay_sweep.specs.SweepOf.{IsSweepAnswer, sweep_leaves_range, IsSweepBound, IsSweepSum};
+ghost use Rattle.overlay_sweep.specs.SweepOf.{IsSweepAnswer, sweep_leaves_range, IsSweepBound};
 ghost use Rattle.overlay_base.specs.FaultOf.{OnTooLarge};
 
 use crate::build::fill_handler::FillHandler;
@@ -57,8 +56,7 @@ impl<C: WindingCount, I: OverlayInt> SweepRunner<C, I> {
     /// `is_arranged` tests, and the handler has to take each of their indexes. The solver does not change the answer:
     /// it chooses whether the live segments stand in a list or in a balanced tree, which begins as a row. Over n
     /// segments `compared` is at most 3 n d. For the list 2 n is at most 2 ^ d; for the tree no balanced one of n
-    /// entries is higher than d. Where the handler never breaks, it is the sum of all searches over the list, and no
-    /// less than that of ways down trees of the live segments alone over the tree.
+    /// entries is higher than d.
     ///
     /// Returns `Fault::CountOutOfRange` exactly where a winding above a segment that the handler gets leaves the range,
     /// and `Fault::Memory` where a growth is refused. The handler is spent then; the runner can be used again, and its
@@ -78,8 +76,6 @@ impl<C: WindingCount, I: OverlayInt> SweepRunner<C, I> {
         ensures windings { IsBalanced (segments_of segments.now) → HaveColumnWindings (segments_of segments.now) }
         ensures refused { OnErr result (run_asked self.new ≡ run_asked self.old) }
         ensures compared { OnOk result (IsSweepBound solver.now segments.now (run_asked self.new)) }
-        ensures total { OnOk result
-            (NeverBreaks H.handle_gives → IsSweepSum solver.now segments.now (run_asked self.new)) }
     {
         let ways = &mut self.ways;
         let mut compared = 0;
@@ -132,8 +128,6 @@ impl<C: FillCount, I: OverlayInt> SweepRunner<C, I> {
         ensures windings { IsBalanced (segments_of segments.now) → HaveColumnWindings (segments_of segments.now) }
         ensures refused { OnErr result (run_asked self.new ≡ run_asked self.old) }
         ensures compared { OnOk result (IsSweepBound solver.now segments.now (run_asked self.new)) }
-        ensures total { OnOk result
-            (NeverBreaks H.handle_gives → IsSweepSum solver.now segments.now (run_asked self.new)) }
     {
         match fill_rule {
             FillRule::EvenOdd => self.run::<D, EvenOddStrategy, H>(solver, segments, handler),

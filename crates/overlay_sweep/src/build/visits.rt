@@ -7,11 +7,9 @@ ghost use Rattle.overlay_base.specs.ArrangedOf.{IsArranged};
 ghost use Rattle.overlay_geometry.specs.InRange.{IsPairInRange};
 ghost use Rattle.overlay_base.specs.SegmentOf.{x_segment_of, winding_of, ends_of as pair_of_segment};
 ghost use Rattle.overlay_sweep.specs.Fill.{fill_byte};
-ghost use Rattle.overlay_sweep.specs.Sweep.{NeverBreaks};
 ghost use Rattle.overlay_sweep.specs.VisitOf.{visit_of};
 ghost use Rattle.overlay_sweep.specs.Live.{HoldSameFrom, AreFreeAt};
-ghost use Rattle.overlay_sweep.specs.Costs.{lasting_at, IsAskedAs};
-ghost use Rattle.overlay_sweep.specs.SweepOf.{IsSweepAnswer, sweep_leaves_range, AsksThreeLooks, AsksToSearch};
+ghost use Rattle.overlay_sweep.specs.SweepOf.{IsSweepAnswer, sweep_leaves_range, AsksThreeLooks};
 ghost use Rattle.overlay_base.specs.FaultOf.{OnTooLarge};
 
 use crate::build::fill_handler::FillHandler;
@@ -82,18 +80,6 @@ where
     ensures held { OnOk result (S.held live.new ≤ suc (S.held live.old)) }
     ensures most { OnOk result ((n d : ℕ) → S.held live.old ≤ n → S.is_most n d
         → compared.new + S.held live.new * d ≤ compared.old + suc (suc (S.held live.old)) * d) }
-    ensures lasting { IfOk result (λ flow. MatchControlFlow flow
-        (λ _. (y : ℤ) → (pair_of_segment segment.now).a.x ≤ℤ y → lasting_at y (S.sums live.new)
-        ≡ lasting_at y (record {
-          pair = pair_of_segment segment.now;
-          count = add (weight (C.winding bottom))
-              (weight (winding_of segment.now));
-        } ∷ S.sums live.old)) (λ _. ⊤)) }
-    ensures look { IfOk result (λ flow. MatchControlFlow flow
-        (λ _. (orders : (ℕ → ℕ) → ℕ) → IsAskedAs S.asks orders compared.old → IsAskedAs S.asks
-        (λ table. orders table
-        + cond (int_lt (pair_of_segment segment.now).a.x (pair_of_segment segment.now).b.x)
-        (table (lasting_at (pair_of_segment segment.now).a.x (S.sums live.old))) 0) compared.new) (λ _. ⊤)) }
 {
     let (top, fill) = F::add_and_fill(segment.count(), bottom)?;
     if let ControlFlow::Break(answer) = handler.handle(index, segment, fill) {
@@ -130,7 +116,6 @@ where
     ensures in_range { OnOk result (IsFalse (sweep_leaves_range H.handle_gives handler F.rule segments.now)) }
     ensures out_of_range { OnTooLarge result (IsTrue (sweep_leaves_range H.handle_gives handler F.rule segments.now)) }
     ensures compared { OnOk result (AsksThreeLooks S.is_most (length segments.now) compared.new) }
-    ensures total { OnOk result (NeverBreaks H.handle_gives → AsksToSearch S.asks segments.now compared.new) }
 {
     live.clear();
     *compared = 0;

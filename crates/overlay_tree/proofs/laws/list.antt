@@ -1,2 +1,3 @@
 -- The finder over a list.
 pub mod ListLooks
+pub mod ListScans

@@ -1,6 +1,7 @@
 -- The finder over an interval tree.
 pub mod IntervalTrees
 pub mod HeightTests
+pub mod Looks
 pub mod TreeCuts
 pub mod FewNodes
 pub mod TreeBuilds

@@ -1,5 +1,5 @@
 -- A tree over the heights of entries that expire: what a look-up compares, finds and leaves.
-use Rattle.std.specs.Prelude.{⊤, ◌≡◌, ℕ, ◌/◌, ◌<◌, ◌==◌, ℤ, ◌<ℤ◌, int_lt, Bool, false, not, ◌&&◌, ◌||◌, if◌then◌else◌, ◌⊎◌, Option, None, Some, List, [], ◌∷◌, ◌++◌, length, map, filter}
+use Rattle.std.specs.Prelude.{⊤, ◌≡◌, ℕ, ◌+◌, ◌-◌, ◌*◌, ◌^◌, ◌/◌, ◌<◌, ◌≤◌, min, count_by, ◌==◌, ℤ, ◌<ℤ◌, int_lt, Bool, false, not, ◌&&◌, ◌||◌, if◌then◌else◌, ◌⊎◌, Option, None, Some, List, [], ◌∷◌, ◌++◌, length, map, filter}
 use Rattle.std.specs.Int.{int_max}
 use Rattle.std.specs.List.{AllByRecursion}
 
@@ -30,6 +30,16 @@ is_found q e = is_taken_up q e && not (int_lt e.end_x q.x)
 
 abbrev pub is_dropped : WholeQuery → Entry → Bool
 is_dropped q e = is_taken_up q e && int_lt e.end_x q.x
+
+-- How many entries a look-up compares, added to what was counted before: those that it takes up, and others in the small
+-- subtrees that it passes over node by node. The others are 8 at most, and 8 for each that it takes up; only the latter where
+-- every entry begins within its reach. It compares no entry twice.
+pub record HasLooked (q : WholeQuery) (es : List Entry) (old now : ℕ) : Type 0 where
+  pub others : ℕ
+  pub is : now ≡ min (old + (count_by (is_taken_up q) es + others)) (2 ^ 128 - 1)
+  pub most : others ≤ 8 + 8 * count_by (is_taken_up q) es
+  pub reached : AllByRecursion (λ e. int_lt q.high e.low ≡ false) es → others ≤ 8 * count_by (is_taken_up q) es
+  pub within : count_by (is_taken_up q) es + others ≤ length es
 
 -- the indexes of those that it finds
 abbrev pub found : WholeQuery → List Entry → List ℕ

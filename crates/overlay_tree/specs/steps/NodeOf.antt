@@ -1,6 +1,6 @@
 -- Nodes and look-ups as whole numbers.
-use Rattle.std.specs.Prelude.{ℤ, Option, None, Some, List, map, ℕ, Bool, count_by}
-use Rattle.overlay_tree.specs.steps.IntervalTree.{Entry, WholeQuery, TreeNode, entries, left_by, found, is_taken_up, is_dropped}
+use Rattle.std.specs.Prelude.{ℤ, Option, None, Some, List, map, ℕ, Bool}
+use Rattle.overlay_tree.specs.steps.IntervalTree.{Entry, WholeQuery, TreeNode, entries, left_by, found, is_dropped, HasLooked}
 use Rattle.overlay_tree.specs.declared.split.interval_tree.Node.{Node}
 use Rattle.overlay_tree.specs.declared.split.interval_tree.Query.{Query}
 use Rattle.std.specs.List.{list_any}
@@ -33,9 +33,9 @@ entries_left whole query nodes = map (left_by (query_of whole query)) (node_entr
 abbrev pub found_in : {I : Type 0} → (I → ℤ) → Query I → List (Node I) → List ℕ
 found_in whole query nodes = found (query_of whole query) (node_entries whole nodes)
 
--- how many of them it takes up
-abbrev pub taken_up_in : {I : Type 0} → (I → ℤ) → Query I → List (Node I) → ℕ
-taken_up_in whole query nodes = count_by (is_taken_up (query_of whole query)) (node_entries whole nodes)
+-- how many of them it compares
+abbrev pub HasLookedIn : {I : Type 0} → (I → ℤ) → Query I → List (Node I) → ℕ → ℕ → Type 0
+HasLookedIn whole query nodes old now = HasLooked (query_of whole query) (node_entries whole nodes) old now
 
 -- whether it drops one of them
 abbrev pub drops_some : {I : Type 0} → (I → ℤ) → Query I → List (Node I) → Bool

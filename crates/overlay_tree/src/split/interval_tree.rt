@@ -1,11 +1,11 @@
 // A tree over the heights of segments that are met by a sweep, for look-ups by a range of heights.
 // It stands in one list: the root in the middle, its subtrees before and after it.
-ghost use Rattle.std.specs.Prelude.{◌≡◌, ◌+◌, ◌-◌, ◌^◌, ◌==◌, ◌++◌, [], ◌∷◌, map, count_by, min, int_lt, nat_lt};
+ghost use Rattle.std.specs.Prelude.{◌≡◌, ◌+◌, ◌-◌, ◌^◌, ◌==◌, ◌++◌, [], ◌∷◌, map, length, count_by, min, int_lt, nat_lt};
 ghost use Rattle.std.specs.Prelude.{true, not, ◌&&◌, ◌||◌, IsFalse, Some, IfOk, OnOk};
 ghost use Rattle.std.specs.List.{AllByRecursion, list_any};
 ghost use Rattle.overlay_tree.specs.steps.IntervalTree.{AreRising, IsSummed, IsAt, IsUpTo, entries, greatest_height, further};
 ghost use Rattle.overlay_tree.specs.steps.IntervalTree.{found, inserted, is_dropped, is_reached, is_taken_up, left_by, stays_at};
-ghost use Rattle.overlay_tree.specs.steps.NodeOf.{node_entry, highest_of, tree_nodes, query_of, node_entries, entries_left, found_in, taken_up_in, drops_some};
+ghost use Rattle.overlay_tree.specs.steps.NodeOf.{node_entry, highest_of, tree_nodes, query_of, node_entries, entries_left, found_in, HasLookedIn, drops_some};
 ghost use Rattle.overlay_intersections.specs.Looked.{capped_sum};
 
 use overlay_geometry::geom::line_range::LineRange;
@@ -45,7 +45,7 @@ pub fn look_up<I: OverlayInt>(
     ensures entries { OnOk result (node_entries I.whole nodes.new ≡ entries_left I.whole query.now nodes.old) }
     ensures summed { OnOk result (IsSummed (tree_nodes I.whole nodes.new)) }
     ensures found { OnOk result (indexes.new.items ≡ indexes.old.items ++ found_in I.whole query.now nodes.old) }
-    ensures looked { OnOk result (looked.new ≡ capped_sum looked.old (taken_up_in I.whole query.now nodes.old)) }
+    ensures looked { OnOk result (HasLookedIn I.whole query.now nodes.old looked.old looked.new) }
     ensures dropped { IfOk result (λ dropped. dropped ≡ drops_some I.whole query.now nodes.old) }
 {
     // read, so that the checker knows that the count fits its type
@@ -60,10 +60,13 @@ pub fn look_up<I: OverlayInt>(
     }
 }
 
-/// A subtree of no more nodes is passed over node by node, which takes less time than to go down it.
+/// A subtree of no more nodes is passed over node by node, which takes less time than to go down it. The bound on
+/// comparisons rests on it.
 const FEW_NODES: usize = 8;
 
-/// As `look_up`, node by node.
+const _: () = prove!(FEW_NODES == 8);
+
+/// As `look_up`, node by node. Each node is compared, and counted.
 fn look_among<I: OverlayInt>(
     nodes: &mut [Node<I>],
     query: &Query<I>,
@@ -74,14 +77,13 @@ fn look_among<I: OverlayInt>(
     ensures entries { OnOk result (node_entries I.whole nodes.new ≡ entries_left I.whole query.now nodes.old) }
     ensures summed { OnOk result (IsSummed (tree_nodes I.whole nodes.new)) }
     ensures found { OnOk result (indexes.new.items ≡ indexes.old.items ++ found_in I.whole query.now nodes.old) }
-    ensures looked { OnOk result (looked.new ≡ capped_sum looked.old (taken_up_in I.whole query.now nodes.old)) }
+    ensures looked { OnOk result (looked.new ≡ capped_sum looked.old (length nodes.old)) }
     ensures dropped { IfOk result (λ dropped. dropped ≡ drops_some I.whole query.now nodes.old) }
 {
-    // read, so that the checker knows that the count fits its type
-    let _looked = *looked;
+    *looked = looked.saturating_add(nodes.len() as u128);
     let mut has_dropped = false;
     for place in 0..nodes.len() {
-        has_dropped |= look_at_any(&mut nodes[place], query, indexes, looked)?;
+        has_dropped |= look_at_any(&mut nodes[place], query, indexes)?;
     }
     if has_dropped {
         sum_up(nodes);
@@ -96,25 +98,22 @@ fn look_at_any<I: OverlayInt>(
     node: &mut Node<I>,
     query: &Query<I>,
     indexes: &mut Vec<usize>,
-    looked: &mut u128,
 ) -> Result<bool, AllocError>
     ensures entry { OnOk result (node_entry I.whole node.new
         ≡ left_by (query_of I.whole query.now) (node_entry I.whole node.old)) }
     ensures greatest { OnOk result (node.new.greatest ≡ node.old.greatest) }
     ensures found { OnOk result (indexes.new.items
         ≡ indexes.old.items ++ found (query_of I.whole query.now) (node_entry I.whole node.old ∷ [])) }
-    ensures looked { OnOk result (looked.new
-        ≡ min (looked.old + count_by (is_taken_up (query_of I.whole query.now)) (node_entry I.whole node.old ∷ []))
-        (2 ^ 128 - 1)) }
     ensures dropped { IfOk result (λ dropped. dropped ≡ is_dropped (query_of I.whole query.now)
         (node_entry I.whole node.old)) }
 {
-    // read, so that the checker knows that the count fits its type
-    let _looked = *looked;
     if is_above(node.low, query.heights.max) {
         return Ok(false);
     }
-    look_at(node, query, indexes, looked)
+    if !is_met_from_below(node, query) {
+        return Ok(false);
+    }
+    drop_or_find(node, query, indexes)
 }
 
 /// As `look_up`, without the test that some live entry reaches the look-up.
@@ -130,7 +129,7 @@ fn look_into<I: OverlayInt>(
     ensures entries { OnOk result (node_entries I.whole nodes.new ≡ entries_left I.whole query.now nodes.old) }
     ensures summed { OnOk result (IsSummed (tree_nodes I.whole nodes.new)) }
     ensures found { OnOk result (indexes.new.items ≡ indexes.old.items ++ found_in I.whole query.now nodes.old) }
-    ensures looked { OnOk result (looked.new ≡ capped_sum looked.old (taken_up_in I.whole query.now nodes.old)) }
+    ensures looked { OnOk result (HasLookedIn I.whole query.now nodes.old looked.old looked.new) }
     ensures dropped { IfOk result (λ dropped. dropped ≡ drops_some I.whole query.now nodes.old) }
 {
     // read, so that the checker knows that the count fits its type
@@ -194,6 +193,26 @@ fn look_at<I: OverlayInt>(
         return Ok(false);
     }
     take_up(looked);
+    drop_or_find(node, query, indexes)
+}
+
+/// Drops the entry of a node that is taken up where it ends left of the sweep, and else appends its index. Returns
+/// whether it is dropped.
+#[inline(always)]
+fn drop_or_find<I: OverlayInt>(
+    node: &mut Node<I>,
+    query: &Query<I>,
+    indexes: &mut Vec<usize>,
+) -> Result<bool, AllocError>
+    requires taken { is_taken_up (query_of I.whole query.now) (node_entry I.whole node.old) ≡ true }
+    ensures entry { OnOk result (node_entry I.whole node.new
+        ≡ left_by (query_of I.whole query.now) (node_entry I.whole node.old)) }
+    ensures greatest { OnOk result (node.new.greatest ≡ node.old.greatest) }
+    ensures found { OnOk result (indexes.new.items
+        ≡ indexes.old.items ++ found (query_of I.whole query.now) (node_entry I.whole node.old ∷ [])) }
+    ensures dropped { IfOk result (λ dropped. dropped ≡ is_dropped (query_of I.whole query.now)
+        (node_entry I.whole node.old)) }
+{
     if has_ended(node, query.x) {
         node.is_live = false;
         return Ok(true);

@@ -1,20 +1,24 @@
 // The finder that compares every pair of segments of a list. Upstream: `split::solver_list`.
-ghost use Rattle.std.specs.Prelude.{◌≡◌, ◌<◌, ◌+◌, ◌-◌, ◌^◌, min, count_by, ◌++◌, IfErr, IfOk, OnOk, IsSortedByKey, drop, length};
+ghost use Rattle.std.specs.Prelude.{◌≡◌, ◌<◌, ◌≤◌, ◌+◌, ◌-◌, ◌^◌, min, map, count_by, nat_lt, ◌++◌, ◌||◌, IfErr, IfOk, OnOk, IsSortedByKey, drop, length};
 ghost use Rattle.overlay_base.specs.declared.segm.fault.Fault.TheVariants.{Memory};
 ghost use Rattle.overlay_geometry.specs.Points.{pair_cmp};
+ghost use Rattle.overlay_geometry.specs.RangeOf.{range_of};
 ghost use Rattle.overlay_base.specs.Segments.{pairs};
 ghost use Rattle.overlay_base.specs.SegmentOf.{ends_of, segments_of, pairs_in};
+ghost use Rattle.overlay_intersections.specs.Marks.{cross_inexactly};
 ghost use Rattle.overlay_intersections.specs.PassMarks.{is_rounded};
 ghost use Rattle.overlay_intersections.specs.PlacingOf.{placing_of, HasRadius};
 ghost use Rattle.overlay_intersections.specs.MarkOf.{marks_of, AreMarksOf};
 ghost use Rattle.overlay_intersections.specs.Looked.{count_twos, x_ranges_meet, capped_sum};
+ghost use Rattle.overlay_tree.specs.steps.ListScan.{AreHeightsOf, do_ranges_meet, marks_left, crosses_left};
 ghost use Rattle.overlay_tree.specs.steps.Swept.{pair_at};
-ghost use Rattle.overlay_intersections.specs.MarksBetween.{marks_of_first, first_crosses_inexactly};
+ghost use Rattle.overlay_intersections.specs.MarksBetween.{marks_between, marks_of_first, first_crosses_inexactly};
 ghost use Rattle.overlay_base.specs.ArrangedOf.{AreInRange};
 
 use overlay_base::segm::fault::Fault;
 use overlay_base::segm::segment::Segment;
 use overlay_base::segm::winding::WindingCount;
+use overlay_geometry::geom::line_range::LineRange;
 use overlay_geometry::num::OverlayInt;
 use overlay_intersections::split::line_mark::LineMark;
 use overlay_intersections::split::marking::{Indexed, mark_both};
@@ -26,12 +30,13 @@ use std::alloc::AllocError;
 ///
 /// The list has to be sorted, as by `sort_by_ab`, and in range, and a squared radius at least 1. It compares every pair
 /// of segments whose ranges in `x` meet, which `looked` counts, and marks those whose ranges in `y` meet too. What
-/// `marks` held before is dropped.
+/// `marks` held before is dropped. `heights` is memory, kept from one pass to the next.
 ///
 /// Returns `Fault::Memory` where a growth is refused; `marks` is of no use then.
 pub fn find_marks<C: WindingCount, I: OverlayInt, D: Copy>(
     segments: &[Segment<C, I, D>],
     placing: Placing,
+    heights: &mut Vec<LineRange<I>>,
     marks: &mut Vec<LineMark<I>>,
     looked: &mut u128,
 ) -> Result<bool, Fault>
@@ -47,9 +52,10 @@ pub fn find_marks<C: WindingCount, I: OverlayInt, D: Copy>(
     // read, so that the checker knows that the count fits its type
     let _looked = *looked;
     marks.clear();
+    list_heights(segments, heights)?;
     let mut rounded = false;
     for index in 0..segments.len() {
-        if mark_with_later(segments, index, placing, marks, looked)? {
+        if mark_with_later(segments, heights, index, placing, marks, looked)? {
             rounded = true;
         }
     }
@@ -58,16 +64,33 @@ pub fn find_marks<C: WindingCount, I: OverlayInt, D: Copy>(
     Ok(rounded)
 }
 
+/// The heights between which each segment lies.
+fn list_heights<C: WindingCount, I: OverlayInt, D: Copy>(
+    segments: &[Segment<C, I, D>],
+    ranges: &mut Vec<LineRange<I>>,
+) -> Result<(), AllocError>
+    ensures { OnOk result (AreHeightsOf I.whole ranges.new.items (pairs (segments_of segments.now))) }
+{
+    ranges.clear();
+    ranges.reserve(segments.len())?;
+    for index in 0..segments.len() {
+        ranges.push(segments[index].x_segment().y_range())?;
+    }
+    Ok(())
+}
+
 /// Appends the marks that a segment and each later one put on one another, and returns whether some two of them cross
 /// at a point without whole coordinates. Segments that begin right of this one's end are not compared.
 fn mark_with_later<C: WindingCount, I: OverlayInt, D: Copy>(
     segments: &[Segment<C, I, D>],
+    ranges: &[LineRange<I>],
     index: usize,
     placing: Placing,
     marks: &mut Vec<LineMark<I>>,
     looked: &mut u128,
 ) -> Result<bool, AllocError>
     requires index { index < length segments.now }
+    requires heights { AreHeightsOf I.whole ranges.now (pairs (segments_of segments.now)) }
     requires sorted { IsSortedByKey ends_of pair_cmp segments.now }
     requires in_range { AreInRange segments.now }
     requires radius { HasRadius placing }
@@ -79,29 +102,172 @@ fn mark_with_later<C: WindingCount, I: OverlayInt, D: Copy>(
         (let ps = pairs (segments_of segments.now) in
         min (looked.old + count_by (x_ranges_meet (pair_at ps index)) (drop (index + 1) ps)) (2 ^ 128 - 1))) }
 {
+    let end = end_of_reach(segments, index);
+    // counted once, as a sum of 128 bits for each pair takes long
+    *looked = looked.saturating_add((end - index - 1) as u128);
+    let rounded = mark_by_blocks(segments, ranges, index, end, placing, marks)?;
+    Ok(rounded)
+}
+
+/// So many later segments are tested together: by the heights of all of them, or by where the last of them begins.
+const BLOCK: usize = 16;
+
+const _: () = prove!(BLOCK == 16);
+
+/// The index of the first later segment that begins right of this one's end, or the length of the list.
+fn end_of_reach<C: WindingCount, I: OverlayInt, D: Copy>(
+    segments: &[Segment<C, I, D>],
+    index: usize,
+) -> usize
+    requires index { index < length segments.now }
+    requires sorted { IsSortedByKey ends_of pair_cmp segments.now }
+    ensures after { index < result }
+    ensures within { result ≤ length segments.now }
+    ensures met { let ps = pairs (segments_of segments.now) in
+        index + 1 + count_by (x_ranges_meet (pair_at ps index)) (drop (index + 1) ps) ≡ result }
+    ensures past { let ps = pairs (segments_of segments.now) in
+        count_by (x_ranges_meet (pair_at ps index)) (drop result ps) ≡ 0 }
+{
     let target = segments[index].x_segment();
-    let heights = target.y_range();
+    let mut end = index + 1;
+    'leaps: while segments.len() - end >= BLOCK {
+        if segments[end + BLOCK - 1]
+            .x_segment()
+            .begins_past_end(&target)
+        {
+            break;
+        }
+        end += BLOCK;
+    }
+    'steps: while end < segments.len() {
+        if segments[end].x_segment().begins_past_end(&target) {
+            break;
+        }
+        end += 1;
+    }
+    end
+}
+
+/// As `mark_with_each`, for those after this one up to an end: whole blocks that this one's heights do not meet are
+/// passed over.
+fn mark_by_blocks<C: WindingCount, I: OverlayInt, D: Copy>(
+    segments: &[Segment<C, I, D>],
+    ranges: &[LineRange<I>],
+    index: usize,
+    end: usize,
+    placing: Placing,
+    marks: &mut Vec<LineMark<I>>,
+) -> Result<bool, AllocError>
+    requires order { index < end }
+    requires within { end ≤ length segments.now }
+    requires heights { AreHeightsOf I.whole ranges.now (pairs (segments_of segments.now)) }
+    requires sorted { IsSortedByKey ends_of pair_cmp segments.now }
+    requires in_range { AreInRange segments.now }
+    requires radius { HasRadius placing }
+    ensures marks { OnOk result (let ps = pairs (segments_of segments.now) in
+        marks_of I.whole marks.new.items ++ marks_left (placing_of placing) ps index end
+        ≡ marks_of I.whole marks.old.items ++ marks_left (placing_of placing) ps index (index + 1)) }
+    ensures rounded { IfOk result (λ rounded. let ps = pairs (segments_of segments.now) in
+        (rounded || crosses_left ps index end) ≡ crosses_left ps index (index + 1)) }
+{
+    let own = ranges[index];
+    let mut rounded = false;
+    let mut from = index + 1;
+    'whole: while end - from >= BLOCK {
+        let block = &ranges[from..from + BLOCK];
+        if meets_some(block, &own) {
+            rounded |= mark_with_each(segments, ranges, index, from, from + BLOCK, placing, marks)?;
+        }
+        from += BLOCK;
+    }
+    rounded |= mark_with_each(segments, ranges, index, from, end, placing, marks)?;
+    Ok(rounded)
+}
+
+/// Whether a range meets one of a block. None is left out, so that they are compared at once.
+fn meets_some<I: OverlayInt>(block: &[LineRange<I>], own: &LineRange<I>) -> bool
+    requires { length block.now ≤ 16 }
+    ensures { result ≡ nat_lt 0 (count_by (λ range. do_ranges_meet (range_of I.whole own.now)
+        (range_of I.whole range)) block.now) }
+{
+    let mut met = 0_u32;
+    for range in block {
+        met += u32::from(do_meet(own, range));
+    }
+    met > 0
+}
+
+/// Whether two ranges share a number.
+fn do_meet<I: OverlayInt>(first: &LineRange<I>, second: &LineRange<I>) -> bool
+    ensures { result ≡ do_ranges_meet (range_of I.whole first.now) (range_of I.whole second.now) }
+{
+    (first.min <= second.max) & (second.min <= first.max)
+}
+
+/// Appends the marks that a segment and each of those from one index up to another put on one another, and returns
+/// whether it crosses one of them at a point without whole coordinates.
+fn mark_with_each<C: WindingCount, I: OverlayInt, D: Copy>(
+    segments: &[Segment<C, I, D>],
+    ranges: &[LineRange<I>],
+    index: usize,
+    from: usize,
+    end: usize,
+    placing: Placing,
+    marks: &mut Vec<LineMark<I>>,
+) -> Result<bool, AllocError>
+    requires after { index < from }
+    requires order { from ≤ end }
+    requires within { end ≤ length segments.now }
+    requires heights { AreHeightsOf I.whole ranges.now (pairs (segments_of segments.now)) }
+    requires sorted { IsSortedByKey ends_of pair_cmp segments.now }
+    requires in_range { AreInRange segments.now }
+    requires radius { HasRadius placing }
+    ensures marks { OnOk result (let ps = pairs (segments_of segments.now) in
+        marks_of I.whole marks.new.items ++ marks_left (placing_of placing) ps index end
+        ≡ marks_of I.whole marks.old.items ++ marks_left (placing_of placing) ps index from) }
+    ensures rounded { IfOk result (λ rounded. let ps = pairs (segments_of segments.now) in
+        (rounded || crosses_left ps index end) ≡ crosses_left ps index from) }
+{
+    let own = ranges[index];
+    let mut rounded = false;
+    for later in from..end {
+        if do_meet(&own, &ranges[later]) {
+            rounded |= mark_two(segments, index, later, placing, marks)?;
+        }
+    }
+    Ok(rounded)
+}
+
+/// Appends the marks that a segment and a later one put on one another, and returns whether they cross at a point
+/// without whole coordinates.
+#[inline(always)]
+fn mark_two<C: WindingCount, I: OverlayInt, D: Copy>(
+    segments: &[Segment<C, I, D>],
+    index: usize,
+    later: usize,
+    placing: Placing,
+    marks: &mut Vec<LineMark<I>>,
+) -> Result<bool, AllocError>
+    requires after { index < later }
+    requires within { later < length segments.now }
+    requires sorted { IsSortedByKey ends_of pair_cmp segments.now }
+    requires in_range { AreInRange segments.now }
+    requires radius { HasRadius placing }
+    ensures marks { OnOk result (let ps = pairs (segments_of segments.now) in
+        marks_of I.whole marks.new.items ≡ marks_of I.whole marks.old.items
+        ++ marks_between (placing_of placing) index (pair_at ps index) later (pair_at ps later)) }
+    ensures rounded { IfOk result (λ rounded. let ps = pairs (segments_of segments.now) in
+        rounded ≡ cross_inexactly (pair_at ps index) (pair_at ps later)) }
+{
+    let target = segments[index].x_segment();
+    let other = segments[later].x_segment();
     let first = Indexed {
         index,
         x_segment: target,
     };
-    let mut rounded = false;
-    let mut end = segments.len();
-    for later in index + 1..segments.len() {
-        let other = segments[later].x_segment();
-        if other.begins_past_end(&target) {
-            end = later;
-            break;
-        }
-        let second = Indexed {
-            index: later,
-            x_segment: other,
-        };
-        if !other.is_not_intersect_y_range(&heights) && mark_both(first, second, placing, marks)? {
-            rounded = true;
-        }
-    }
-    // counted once, as a sum of 128 bits for each pair takes long
-    *looked = looked.saturating_add((end - index - 1) as u128);
-    Ok(rounded)
+    let second = Indexed {
+        index: later,
+        x_segment: other,
+    };
+    mark_both(first, second, placing, marks)
 }

@@ -22,6 +22,7 @@ use crate::split::interval_tree::{Node, Query, insert, look_up, stays, sum_up};
 use overlay_base::segm::fault::Fault;
 use overlay_base::segm::segment::Segment;
 use overlay_base::segm::winding::WindingCount;
+use overlay_geometry::geom::line_range::LineRange;
 use overlay_geometry::geom::x_segment::XSegment;
 use overlay_geometry::num::OverlayInt;
 use overlay_intersections::split::line_mark::LineMark;
@@ -29,11 +30,13 @@ use overlay_intersections::split::marking::{Indexed, mark_both};
 use overlay_intersections::split::placing::Placing;
 use std::alloc::{AllocError, Global};
 
-/// The memory of the finder, kept from one pass to the next.
+/// The memory of the finders over a tree and over a list, kept from one pass to the next.
 #[derive(Drop)]
 pub struct TreeBuffers<I> {
     pub(crate) nodes: Vec<Node<I>>,
     pub(crate) found: Vec<usize>,
+    /// The memory of the finder over a list.
+    pub heights: Vec<LineRange<I>>,
 }
 
 impl<I> TreeBuffers<I> {
@@ -42,6 +45,7 @@ impl<I> TreeBuffers<I> {
         TreeBuffers {
             nodes: Vec::new(alloc),
             found: Vec::new(alloc),
+            heights: Vec::new(alloc),
         }
     }
 }
@@ -51,12 +55,13 @@ impl<I> TreeBuffers<I> {
 ///
 /// A sweep over the list keeps the segments that it has met: a few in a list, and more in a tree over their heights,
 /// which is renewed from time to time, so that it has few that have ended. In a tree each segment is compared with
-/// those whose heights it meets: those that end left of it are dropped, with the others it is marked. Where fewer than
-/// 48 are live, it is compared with each of them.
+/// those whose heights it meets: those that end left of it are dropped, with the others it is marked. It is also
+/// compared with every entry of a subtree of at most 8 that it passes over. Where fewer than 48 are live, it is
+/// compared with each of them.
 ///
-/// `looked` counts the comparisons. For `s` segments they are at most `48 * s + q`, with `q` pairs whose ranges in `x`
-/// and in `y` meet. Comparisons that are not counted: of heights with the nodes on the way down a tree, and of the ends
-/// of live segments with the place of the sweep, where those that have ended are taken out.
+/// `looked` counts these comparisons. For `s` segments they are at most `64 * (s + q)`, with `q` pairs whose ranges in
+/// `x` and in `y` meet. Not counted are comparisons of no pair: of heights with the roots on the way down a tree, and of
+/// the ends of live segments with the `x` of the sweep, where those that have ended are taken out.
 ///
 /// Returns `Fault::Memory` where a growth is refused; `marks` is of no use then.
 pub fn find_marks<C: WindingCount, I: OverlayInt, D: Copy>(
@@ -107,7 +112,7 @@ pub(crate) fn find_marks_up_to<C: WindingCount, I: OverlayInt, D: Copy>(
 {
     // read, so that the checker knows that the count fits its type
     let _looked = *looked;
-    let TreeBuffers { nodes, found } = buffers;
+    let TreeBuffers { nodes, found, .. } = buffers;
     nodes.clear();
     marks.clear();
     let mut rounded = false;
@@ -138,7 +143,7 @@ fn may_take(limit: Option<u128>, looked: u128, more: usize) -> bool
 }
 
 /// Fewer segments than this that are live stand in no tree, and each later segment is compared with all of them. A
-/// scan of so few costs less than a tree. The bound on comparisons has it as its factor.
+/// scan of so few costs less than a tree. The bound on comparisons rests on it.
 const FEW: usize = 48;
 
 const _: () = prove!(FEW == 48);

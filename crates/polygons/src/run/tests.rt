@@ -5,13 +5,14 @@ use overlay_text::shell::run_over;
 use std::alloc::AllocError;
 use std::test::Fail;
 
-const USAGE: &str = "usage: polygons rule=NAME [fill|engine|precision|strategy=VALUE ..]\n";
+const USAGE: &str =
+    "usage: polygons [shapes] [report] rule=NAME [fill|engine|precision|strategy=VALUE ..]\n";
 
 const SQUARES: &str = "S 0 0 4 0 4 4 0 4\nC 2 2 6 2 6 6 2 6\n";
 
 /// The words with bars between them, the input, the exit status, and what is written: to the output where the status is
 /// 0, else to the faults. A contour begins with the first of its links, by its lower left end and then by its other.
-const RUNS: [(&str, &str, u8, &str); 16] = [
+const RUNS: [(&str, &str, u8, &str); 25] = [
     (
         "rule=union",
         SQUARES,
@@ -32,6 +33,38 @@ const RUNS: [(&str, &str, u8, &str); 16] = [
         0,
         "contour 0 6 0 0 6 0 6 6\ncontour 2 2 2 4 4 4 4 2\n",
     ),
+    // In shapes each outer boundary is followed by its holes.
+    (
+        "shapes|rule=difference",
+        "C 2 2 4 2 4 4 2 4\nS 8 0 9 0 9 1 8 1\nS 6 6 6 0 0 0 0 6\n",
+        0,
+        "shape\ncontour 0 6 0 0 6 0 6 6\ncontour 2 2 2 4 4 4 4 2\nshape\ncontour 8 1 8 0 9 0 9 1\n",
+    ),
+    // On exact input there is one pass, which moves nothing.
+    (
+        "report|rule=intersect",
+        SQUARES,
+        0,
+        "contour 2 4 2 2 4 2 4 4\npasses 1\nreach 0\n",
+    ),
+    // Edges cross at (2.5, 2.5): the first pass snaps that within a squared radius of 1, so by at most 2 + 2 halves.
+    (
+        "report|rule=union",
+        "S 0 0 5 5 0 5\nC 0 5 5 0 5 5\n",
+        0,
+        "contour 0 5 0 0 3 3 5 0 5 5\npasses 2\nreach 4\n",
+    ),
+    (
+        "shapes|report|rule=intersect",
+        SQUARES,
+        0,
+        "shape\ncontour 2 4 2 2 4 2 4 4\npasses 1\nreach 0\n",
+    ),
+    ("report", "", 2, "polygons needs a rule other than all\n"),
+    ("report|shapes|rule=union", "x", 2, USAGE),
+    ("shapes", "", 2, "polygons needs a rule other than all\n"),
+    ("rule=union|shapes", "x", 2, USAGE),
+    ("shapes|rule=union|limit=3", "x", 2, USAGE),
     // Spaces, empty lines and a carriage return at the end of a line mean nothing.
     (
         "rule=subject",

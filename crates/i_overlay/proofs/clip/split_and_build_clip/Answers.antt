@@ -59,6 +59,9 @@ returns-clause-refused g c =
     let split : IsSplit settings given segments passes = split_from _ _ _ _ _ _ _ e.run e.arranged e.balance e.in_box e.near e.winding e.exact_input e.bound in
     refused_build settings given segments (passes_of c.args.splitter.now) passes c.build_string_clip.result split e.fits (rw c.deref.ensures.value at c.build_string_clip.ensures.out_of_range)
 
+pub returns-clause-reach : goal.returns-clause-reach
+returns-clause-reach g c = on_ok_weaker _ (λ _. c.in_ok-split_segments.ensures.reach) c.build_string_clip.ensures.in_range
+
 pub returns-clause-looked : goal.returns-clause-looked
 returns-clause-looked g c = on_ok_weaker _ (λ _. c.in_ok-split_segments.ensures.looked) c.build_string_clip.ensures.in_range
 

@@ -109,7 +109,7 @@ module _ (xs : List WholeSegment) (arranged : IsArranged xs) (balanced : IsBalan
   abbrev ends_upright : WholeSegment → Bool
   ends_upright s = is_vertical s.pair && point_eq s.pair.b p
 
-  upright_of : (s : WholeSegment) → Has xs s → is_vertical s.pair ≡ true → (s.pair.a.x ≡ s.pair.b.x) × (s.pair.a.y <ℤ s.pair.b.y)
+  pub upright_of : (s : WholeSegment) → Has xs s → is_vertical s.pair ≡ true → (s.pair.a.x ≡ s.pair.b.x) × (s.pair.a.y <ℤ s.pair.b.y)
   upright_of s m v =
       let e = (Decides-int_eq s.pair.a.x s.pair.b.x).0 v in
       elim (point_lt-cases s.pair.a s.pair.b (arranged.ordered s m)) [ inl w ↦ absurd (omega (arith, ints)) | inr h ↦ h ]
@@ -145,7 +145,7 @@ module _ (xs : List WholeSegment) (arranged : IsArranged xs) (balanced : IsBalan
       let sp = and_parts (is_vertical s.pair) (point_eq s.pair.a p) h in
       upright_sides s sp.0 ∙ ap (λ (q : Point). gain G (weights_up_to xs q.x q) (weights_up_to xs (q.x -ℤ pos 1) q)) (same_by_eq s.pair.a p sp.1)
 
-  passes : (u : WholeSegment) → Has xs u → is_vertical u.pair ≡ true → u.pair.a.x ≡ p.x → u.pair.a.y <ℤ p.y → p.y <ℤ u.pair.b.y → ⊥
+  pub passes : (u : WholeSegment) → Has xs u → is_vertical u.pair ≡ true → u.pair.a.x ≡ p.x → u.pair.a.y <ℤ p.y → p.y <ℤ u.pair.b.y → ⊥
   passes u n v x low high =
       let up = upright_of u n v in
       free_point u n (inside_from_order u.pair p (inr up) (upright_level u.pair p up.0 (sym x)) (inr (x, low)) (inr (sym x ∙ up.0, high)))
@@ -169,7 +169,7 @@ module _ (xs : List WholeSegment) (arranged : IsArranged xs) (balanced : IsBalan
       (λ none. none_gains starts_upright none ∙ sym (gains_nothing G _ _ _ (across_up_to xs arranged.all_ordered balanced p) (no_weight (leaves_upward (lies_up_to p)) xs (none_leaves_up none))))
 
   -- downward
-  end_only_one : (s u : WholeSegment) → Has xs s → Has xs u → ends_upright s ≡ true → ends_upright u ≡ true → u.pair ≡ s.pair
+  pub end_only_one : (s u : WholeSegment) → Has xs s → Has xs u → ends_upright s ≡ true → ends_upright u ≡ true → u.pair ≡ s.pair
   end_only_one s u m n h k =
       let sp = and_parts (is_vertical s.pair) (point_eq s.pair.b p) h in
       let up = and_parts (is_vertical u.pair) (point_eq u.pair.b p) k in
@@ -194,7 +194,7 @@ module _ (xs : List WholeSegment) (arranged : IsArranged xs) (balanced : IsBalan
     | inr e ↦ e ∙ sym (from_not_same_pair u.pair s.pair (λ q. both_ways _ e (ap (λ (r : Pair). is_vertical r && point_eq r.b p) q ∙ h)))
   ]
 
-  end_level : (s : WholeSegment) → Has xs s → is_vertical s.pair ≡ true → (x : ℤ) → (x ≡ s.pair.a.x) ⊎ (x ≡ s.pair.a.x -ℤ pos 1) → weights_up_to xs x s.pair.a ≡ column_weights (is_under s.pair.b) xs x
+  pub end_level : (s : WholeSegment) → Has xs s → is_vertical s.pair ≡ true → (x : ℤ) → (x ≡ s.pair.a.x) ⊎ (x ≡ s.pair.a.x -ℤ pos 1) → weights_up_to xs x s.pair.a ≡ column_weights (is_under s.pair.b) xs x
   unfolding weights_up_to
   end_level s m v x near = column_weights-same (is_up_to s.pair.a) (is_under s.pair.b) xs x (λ u n h.
       let su = upright_of s m v in

@@ -147,7 +147,7 @@ module _ (xs : List WholeSegment) (arranged : IsArranged xs) (balanced : IsBalan
 -- ---- the two chains at a point that lies strictly inside no segment
 
 module _ (xs : List WholeSegment) (arranged : IsArranged xs) (balanced : IsBalanced xs) (p : Point) (free_point : (u : WholeSegment) → Has xs u → is_strictly_inside u.pair p ≡ true → ⊥) (G : ℤ → ℤ → ℤ) where
-  starts_only : (u : WholeSegment) → Has xs u → spans_column p.x u.pair ≡ true → turn u.pair.a u.pair.b p ≡ pos 0 → point_eq u.pair.a p ≡ true
+  pub starts_only : (u : WholeSegment) → Has xs u → spans_column p.x u.pair ≡ true → turn u.pair.a u.pair.b p ≡ pos 0 → point_eq u.pair.a p ≡ true
   starts_only u m h e =
       let k = spans_column_parts p.x u.pair h in
       by_lt_z u.pair.a.x p.x
@@ -156,7 +156,7 @@ module _ (xs : List WholeSegment) (arranged : IsArranged xs) (balanced : IsBalan
       let same = same_point u.pair.a p (sym x) (sym (at_a u.pair.a u.pair.b p (omega (arith, ints)) e x)) in
       ap (λ (q : Point). point_eq q p) same ∙ point_eq_same p)
 
-  ends_only : (u : WholeSegment) → Has xs u → spans_column (p.x -ℤ pos 1) u.pair ≡ true → turn u.pair.a u.pair.b p ≡ pos 0 → point_eq u.pair.b p ≡ true
+  pub ends_only : (u : WholeSegment) → Has xs u → spans_column (p.x -ℤ pos 1) u.pair ≡ true → turn u.pair.a u.pair.b p ≡ pos 0 → point_eq u.pair.b p ≡ true
   ends_only u m h e =
       let k = spans_column_parts (p.x -ℤ pos 1) u.pair h in
       by_lt_z p.x u.pair.b.x
@@ -181,13 +181,13 @@ module _ (xs : List WholeSegment) (arranged : IsArranged xs) (balanced : IsBalan
       (λ u s m n hu hs e down. start_order u s m n hu hs e ∙ not_beneath s.pair u.pair (let same = ap (turn u.pair.a u.pair.b) (same_by_eq s.pair.a p e) in omega (arith, ints)))
       G
 
-  end_gap : (u s : WholeSegment) → point_eq s.pair.b p ≡ true → gap ((p.x -ℤ pos 1) +ℤ pos 1) u.pair s.pair ≡ width s.pair *ℤ turn u.pair.a u.pair.b p
+  pub end_gap : (u s : WholeSegment) → point_eq s.pair.b p ≡ true → gap ((p.x -ℤ pos 1) +ℤ pos 1) u.pair s.pair ≡ width s.pair *ℤ turn u.pair.a u.pair.b p
   end_gap u s e =
       let same = same_by_eq s.pair.b p e in
       let x : (p.x -ℤ pos 1) +ℤ pos 1 ≡ s.pair.b.x = (let y : s.pair.b.x ≡ p.x = ap (λ (q : Point). q.x) same in omega (arith, ints)) in
       ap (λ (z : ℤ). gap z u.pair s.pair) x ∙ gap_at_other_end u.pair s.pair ∙ ap (λ (q : Point). width s.pair *ℤ turn u.pair.a u.pair.b q) same
 
-  end_under : (u s : WholeSegment) → Has xs u → Has xs s → spans_column (p.x -ℤ pos 1) u.pair ≡ true → spans_column (p.x -ℤ pos 1) s.pair ≡ true → point_eq s.pair.b p ≡ true → pos 0 <ℤ turn u.pair.a u.pair.b p → is_below_in_column (p.x -ℤ pos 1) u.pair s.pair ≡ true
+  pub end_under : (u s : WholeSegment) → Has xs u → Has xs s → spans_column (p.x -ℤ pos 1) u.pair ≡ true → spans_column (p.x -ℤ pos 1) s.pair ≡ true → point_eq s.pair.b p ≡ true → pos 0 <ℤ turn u.pair.a u.pair.b p → is_below_in_column (p.x -ℤ pos 1) u.pair s.pair ≡ true
   end_under u s m n hu hs e up =
       let k = spans_column_parts (p.x -ℤ pos 1) s.pair hs in
       let g = end_gap u s e in
@@ -200,7 +200,7 @@ module _ (xs : List WholeSegment) (arranged : IsArranged xs) (balanced : IsBalan
       (λ (q : pos 0 ≤ℤ gap (p.x -ℤ pos 1) u.pair s.pair). q))
       right
 
-  end_over : (u s : WholeSegment) → Has xs u → Has xs s → spans_column (p.x -ℤ pos 1) u.pair ≡ true → spans_column (p.x -ℤ pos 1) s.pair ≡ true → point_eq s.pair.b p ≡ true → turn u.pair.a u.pair.b p <ℤ pos 0 → is_below_in_column (p.x -ℤ pos 1) u.pair s.pair ≡ false
+  pub end_over : (u s : WholeSegment) → Has xs u → Has xs s → spans_column (p.x -ℤ pos 1) u.pair ≡ true → spans_column (p.x -ℤ pos 1) s.pair ≡ true → point_eq s.pair.b p ≡ true → turn u.pair.a u.pair.b p <ℤ pos 0 → is_below_in_column (p.x -ℤ pos 1) u.pair s.pair ≡ false
   end_over u s m n hu hs e down =
       let k = spans_column_parts (p.x -ℤ pos 1) s.pair hs in
       let g = end_gap u s e in

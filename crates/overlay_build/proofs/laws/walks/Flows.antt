@@ -64,17 +64,17 @@ nothing_flows w (s ∷ ss) = omega (arith, ints, nothing_flows w ss)
 -- ---- the links of a graph
 
 module _ (rule : Bool → Bool → Bool) (kept : List Filled) where
-  abbrev run : Filled → WholeSegment
+  abbrev pub run : Filled → WholeSegment
   run f = record { pair = f.pair; count = of_subject (direction rule f.fill) }
 
-  abbrev ways : List Filled → List Link
+  abbrev pub ways : List Filled → List Link
   ways fs = arcs rule (map (λ f. link_of kept f) fs)
 
   -- a test of points that tells which have this number
-  abbrev TellsNumber : ℕ → (Point → Bool) → Type 0
+  abbrev pub TellsNumber : ℕ → (Point → Bool) → Type 0
   TellsNumber u test = (q : Point) → has_point (node_points (pairs_of kept)) q ≡ true → (node_number (pairs_of kept) q == u) ≡ test q
 
-  counted : (u : ℕ) (test : Point → Bool) → TellsNumber u test → (fs : List Filled) → list_all (λ f. has_point (node_points (pairs_of kept)) f.pair.a) fs ≡ true → list_all (λ f. has_point (node_points (pairs_of kept)) f.pair.b) fs ≡ true
+  pub counted : (u : ℕ) (test : Point → Bool) → TellsNumber u test → (fs : List Filled) → list_all (λ f. has_point (node_points (pairs_of kept)) f.pair.a) fs ≡ true → list_all (λ f. has_point (node_points (pairs_of kept)) f.pair.b) fs ≡ true
       → pos (length (filter (λ l. l.a_node == u) (ways fs))) ≡ pos (length (filter (λ l. l.b_node == u) (ways fs))) +ℤ flow (λ s. s.count.subj) test (map run fs)
   unfolding direction
   counted u test tells [] ma mb = refl
@@ -93,17 +93,17 @@ module _ (rule : Bool → Bool → Bool) (kept : List Filled) where
       ∙ ap (λ (b : Bool). pos (length (filter (λ l. l.b_node == u) (ways (f ∷ fs)))) +ℤ ((when b (way t) -ℤ when (l.b_node == u) (way t)) +ℤ z)) (tells f.pair.a pa.0)
       ∙ ap (λ (b : Bool). pos (length (filter (λ l. l.b_node == u) (ways (f ∷ fs)))) +ℤ ((when (test f.pair.a) (way t) -ℤ when b (way t)) +ℤ z)) (tells f.pair.b pb.0)
 
-  starts_stand : list_all (λ f. has_point (node_points (pairs_of kept)) f.pair.a) kept ≡ true
+  pub starts_stand : list_all (λ f. has_point (node_points (pairs_of kept)) f.pair.a) kept ≡ true
   starts_stand =
       sym (list_all-map (λ (q : Pair). has_point (node_points (pairs_of kept)) q.a) (λ (f : Filled). f.pair) kept)
       ∙ list_all-from_AllPass (λ q. has_point (node_points (pairs_of kept)) q.a) (pairs_of kept) (λ k d h. has_start (pairs_of kept) k d h)
 
-  ends_stand : list_all (λ f. has_point (node_points (pairs_of kept)) f.pair.b) kept ≡ true
+  pub ends_stand : list_all (λ f. has_point (node_points (pairs_of kept)) f.pair.b) kept ≡ true
   ends_stand =
       sym (list_all-map (λ (q : Pair). has_point (node_points (pairs_of kept)) q.b) (λ (f : Filled). f.pair) kept)
       ∙ list_all-from_AllPass (λ q. has_point (node_points (pairs_of kept)) q.b) (pairs_of kept) (λ k d h. has_end (pairs_of kept) k d h)
 
-  runs_are : directed_links rule (graph_of kept) ≡ map run kept
+  pub runs_are : directed_links rule (graph_of kept) ≡ map run kept
   unfolding directed_links graph_of
   runs_are = map-map (λ (l : Link). record { pair = l.pair; count = of_subject (direction rule l.fill) }) _ kept
 

@@ -2,7 +2,7 @@
 use Rattle.std.proofs.Common.{◌≡◌, refl, sym, ap, ap₂, subst, ◌∙◌, ℕ, ◌+◌, ◌<◌, ◌≤◌, zero, suc, arith, append_assoc, append-nil, Bool, true, false, ◌&&◌, ◌||◌, if◌then◌else◌, IsTrue, List, [], ◌∷◌, ◌++◌, drop, length, get_or, min, ◌≢◌}
 use Rattle.std.specs.Prelude.{ℤ, flat_map, count_by, ◌≤ℤ◌, ◌<ℤ◌, int_le, int_lt}
 use Rattle.std.specs.List.{list_any, AllByRecursion}
-use Rattle.std.proofs.lemmas.Int.{ints, clamps}
+use Rattle.std.proofs.lemmas.Int.{ints}
 use Rattle.overlay_geometry.specs.Points.{Pair, pair_lt}
 use Rattle.std.proofs.lemmas.List.Sums.{sum_by-cons}
 use Rattle.std.proofs.lemmas.Bool.{and_parts}
@@ -14,12 +14,13 @@ use Rattle.overlay_geometry.specs.Ranges.{do_rects_meet}
 use Rattle.overlay_intersections.specs.Marks.{Placing, cross_inexactly}
 use Rattle.overlay_intersections.specs.MarkOf.{Mark}
 use Rattle.overlay_intersections.specs.MarksBetween.{marks_between}
-use Rattle.overlay_intersections.specs.Looked.{ranges_meet, count_twos}
+use Rattle.overlay_intersections.specs.Looked.{count_twos}
 use Rattle.overlay_grid.specs.FragmentOf.{KeptFragment, fragment_of, fragments_of, least_along, greatest_along, IsSortedAlong}
 use Rattle.overlay_grid.specs.declared.split.axis.Axis.{Axis}
 use Rattle.overlay_grid.specs.declared.split.axis.Axis.TheVariants.{X, Y}
 use Rattle.overlay_grid.specs.declared.split.fragment.Fragment.{Fragment as CodeFragment}
-use Rattle.overlay_grid.specs.steps.FragmentFinder.{marks_of_two, marks_with_first, marks_of_group, meet_inexactly, is_first_rounded, is_group_rounded, looks_of_first, is_reached, is_ready}
+use Rattle.overlay_grid.specs.ColumnLooks.{is_reached}
+use Rattle.overlay_grid.specs.steps.FragmentFinder.{marks_of_two, marks_with_first, marks_of_group, meet_inexactly, is_first_rounded, is_group_rounded, looks_of_first, is_ready}
 use Rattle.overlay_intersections.proofs.laws.marks.FoundMarks.{or_assoc, or_false}
 use Rattle.overlay_geometry.proofs.laws.integers.Tests.{lt-tested}
 

@@ -15,7 +15,8 @@ use Rattle.overlay_grid.specs.Grid.{Layout, Fragment, column_index, pos_of, grou
 use Rattle.overlay_intersections.specs.Looked.{count_twos, ranges_meet}
 use Rattle.overlay_grid.specs.GridLooks.{fragments_meet, all_fragments, is_on_border, border_contacts, fragment_looks}
 use Rattle.overlay_grid.specs.FragmentOf.{KeptFragment, kept, in_column, kept_in}
-use Rattle.overlay_grid.specs.steps.FragmentFinder.{kept_group, do_heights_meet, twos_in_height, all_twos_in_height, looks_of_border, stands_at}
+use Rattle.overlay_grid.specs.ColumnLooks.{do_heights_meet, twos_in_height, all_twos_in_height}
+use Rattle.overlay_grid.specs.steps.FragmentFinder.{kept_group, looks_of_border, stands_at}
 use Rattle.overlay_intersections.proofs.laws.marks.MarkBoxes.{ranges_swap}
 use Rattle.overlay_grid.proofs.laws.grid.GridCounts.{sum_by-plus, sum_by-alike, sum_by-before, sum_by-none, count_by-cons, fragments_meet-by_column, heights_meet, fragments_of_column, border_contacts-on_border, border_contacts-elsewhere}
 use Rattle.overlay_grid.proofs.laws.grid.GridBounds.{fragments_within_grid}

@@ -1,5 +1,5 @@
 -- How many fragments a scan along an axis reaches, as binary searches count them, and that along y it reaches no more than share a height.
-use Rattle.std.proofs.Common.{◌≡◌, refl, sym, ap, ap₂, subst, ◌∙◌, get_or, ℕ, zero, suc, ◌+◌, ◌-◌, ◌^◌, ◌<◌, ◌≤◌, arith, min, Bool, true, false, if◌then◌else◌, List, [], ◌∷◌, is_lt, drop, take, length}
+use Rattle.std.proofs.Common.{◌≡◌, refl, sym, ap, subst, ◌∙◌, get_or, ℕ, zero, suc, ◌+◌, ◌-◌, ◌^◌, ◌<◌, ◌≤◌, arith, min, Bool, true, false, if◌then◌else◌, List, [], ◌∷◌, is_lt, drop, take, length}
 use Rattle.std.specs.Prelude.{ℤ, ◌≤ℤ◌, int_le, IsSortedByKey, IsPermutation, count_by, sum_by}
 use Rattle.std.specs.List.{AllByRecursion, range_with_len}
 use Rattle.std.specs.List.Sorted.{IsPartitionedBy, IsPartitionPoint}
@@ -9,7 +9,7 @@ use Rattle.std.proofs.lemmas.List.{drop-map, length-drop, take_all}
 use Rattle.std.proofs.lemmas.List.Sums.{sum_by-cons}
 use Rattle.overlay_intersections.specs.Looked.{count_twos, ranges_meet}
 use Rattle.overlay_grid.specs.FragmentOf.{KeptFragment, fragment_of, fragments_of, on_axis, least_along, IsSortedAlong}
-use Rattle.overlay_grid.specs.steps.FragmentFinder.{do_heights_meet, twos_in_height, all_twos_in_height, is_reached, looks_of_group, looks_of_groups}
+use Rattle.overlay_grid.specs.ColumnLooks.{do_heights_meet, twos_in_height, all_twos_in_height, is_reached, looks_of_group, looks_of_groups}
 use Rattle.overlay_grid.specs.declared.split.axis.Axis.{Axis}
 use Rattle.overlay_grid.specs.declared.split.axis.Axis.TheVariants.{X, Y}
 use Rattle.overlay_grid.specs.declared.split.fragment.Fragment.{Fragment as CodeFragment}
@@ -18,7 +18,7 @@ use Rattle.overlay_grid.proofs.laws.grid.BorderMarks.{parted_up_to}
 use Rattle.overlay_grid.proofs.laws.grid.FoundFragments.{IsSortedAlong-drop}
 use Rattle.overlay_grid.proofs.laws.grid.GridCounts.{count_by-cons, sum_by-alike}
 use Rattle.overlay_grid.proofs.laws.grid.GridFills.{sum-next}
-use Rattle.overlay_grid.proofs.laws.grid.GridLooks.{twos_permuted, heights_back, count-map}
+use Rattle.overlay_grid.proofs.laws.grid.GridLooks.{twos_permuted, heights_back}
 use Rattle.std.proofs.Math.Nat.{zero-add}
 
 -- those from an index on, as a slice has them

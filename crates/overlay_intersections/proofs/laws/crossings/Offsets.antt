@@ -1,9 +1,9 @@
 -- Offsets as code computes them: their sizes, and their quotients.
-use Rattle.std.proofs.Common.{◌≡◌, ◌≢◌, refl, ℕ, ◌+◌, ◌*◌, ◌≤◌, ◌<◌, arith, lit<, zero, suc, Bool, true, FitsSigned, w64}
-use Rattle.std.specs.Prelude.{ℤ, pos, negsuc, ◌+ℤ◌, ◌*ℤ◌, ◌<ℤ◌, unsigned_abs, int_div, int_le, ◌&&◌}
+use Rattle.std.proofs.Common.{◌≡◌, ◌≢◌, refl, ap, sym, ◌∙◌, ℕ, ◌+◌, ◌*◌, ◌/◌, ◌≤◌, ◌<◌, arith, lit<, zero, suc, Bool, true, false, FitsSigned, w64}
+use Rattle.std.specs.Prelude.{ℤ, pos, negsuc, neg_ℤ, int_lt, min, if◌then◌else◌, ◌+ℤ◌, ◌*ℤ◌, ◌<ℤ◌, unsigned_abs, int_div, int_le, ◌&&◌}
 use Rattle.std.specs.Int.{w128, int_signum, int_div_euclid}
 use Rattle.std.proofs.lemmas.Int.{ints, unsigned_abs-mul, fits_signed_mul, fits_signed_from_abs}
-use Rattle.std.proofs.Math.Nat.{mul-le-mul_left, mul-le-mul_right}
+use Rattle.std.proofs.Math.Nat.{mul-le-mul_left, mul-le-mul_right, zero-div, div-eq_of_lt}
 use Rattle.overlay_geometry.specs.Coordinates.{greatest_difference, greatest_product}
 use Rattle.overlay_intersections.specs.Crossing.{quotient, truncated, nearest, nearest_upward}
 use Rattle.overlay_intersections.specs.steps.Numerators.{greatest_numerator}
@@ -87,16 +87,6 @@ abs_positive (negsuc n) h = omega (arith, ints)
 
 -- ---- quotients
 
-pub truncated_is : (top bottom : ℤ) → pos 0 <ℤ bottom → truncated (over top (unsigned_abs bottom)) ≡ int_div top bottom
-unfolding truncated
-truncated_is t (pos b) p = refl
-truncated_is t (negsuc b) p = absurd (omega (arith, ints))
-
-pub nearest_is : (top bottom : ℤ) → pos 0 <ℤ bottom → nearest (over top (unsigned_abs bottom)) ≡ int_div (pos 2 *ℤ top +ℤ int_signum top *ℤ bottom) (pos 2 *ℤ bottom)
-unfolding nearest
-nearest_is t (pos b) p = refl
-nearest_is t (negsuc b) p = absurd (omega (arith, ints))
-
 pub nearest_upward_is : (top bottom : ℤ) → pos 0 <ℤ bottom → nearest_upward (over top (unsigned_abs bottom)) ≡ int_div_euclid (pos 2 *ℤ top +ℤ bottom) (pos 2 *ℤ bottom)
 unfolding nearest_upward
 nearest_upward_is t (pos b) p = refl
@@ -104,3 +94,34 @@ nearest_upward_is t (negsuc b) p = absurd (omega (arith, ints))
 
 pub same_quotient : (v w n m d e : ℤ) → v ≡ w → n ≡ m → d ≡ e → quotient v n d ≡ quotient w m e
 same_quotient v w n m d e f g h = rw (f, g, h) refl
+
+-- ---- quotients of sizes, with the sign given back
+
+quotient_of_negative : (k d : ℕ) → 0 < k → int_div (neg_ℤ (pos k)) (pos d) ≡ neg_ℤ (pos (k / d))
+quotient_of_negative zero d p = absurd (omega arith)
+quotient_of_negative (suc k) d p = refl
+
+not_negative : (n : ℕ) → int_lt (pos n) (pos 0) ≡ false
+not_negative n = grind (arith, ints)
+
+pub signed_truncated : (top : ℤ) (m : ℕ) → truncated (over top m) ≡ (if int_lt top (pos 0) then neg_ℤ (pos (unsigned_abs top / m)) else pos (unsigned_abs top / m))
+unfolding truncated
+signed_truncated (pos n) m = rw (not_negative n) refl
+signed_truncated (negsuc n) m = refl
+
+half_of_none : (m : ℕ) → 0 < m → (0 + 0 * m) / (2 * m) ≡ (0 + m) / (2 * m)
+half_of_none m p =
+    let none : 0 + 0 * m ≡ 0 = omega arith in
+    let below : 0 + m < 2 * m = omega arith in
+    ap (λ (k : ℕ). k / (2 * m)) none ∙ zero-div (2 * m) ∙ sym (div-eq_of_lt below)
+
+pub signed_nearest : (top : ℤ) (m : ℕ) → 0 < m → nearest (over top m) ≡ (if int_lt top (pos 0) then neg_ℤ (pos ((2 * unsigned_abs top + m) / (2 * m))) else pos ((2 * unsigned_abs top + m) / (2 * m)))
+unfolding nearest
+signed_nearest (pos zero) m p = ap (λ (k : ℕ). pos k) (half_of_none m p)
+signed_nearest (pos (suc n)) m p =
+    let one : min (suc n) 1 ≡ 1 = omega arith in
+    let e : 2 * suc n + min (suc n) 1 * m ≡ 2 * suc n + m = ap (λ (k : ℕ). 2 * suc n + k * m) one ∙ omega arith in
+    rw (e, not_negative (suc n)) refl
+signed_nearest (negsuc n) m p =
+    let e : pos 2 *ℤ negsuc n +ℤ int_signum (negsuc n) *ℤ pos m ≡ neg_ℤ (pos (2 * suc n + m)) = omega (arith, ints) in
+    rw e (quotient_of_negative (2 * suc n + m) (2 * m) (omega arith))

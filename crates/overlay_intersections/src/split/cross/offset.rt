@@ -1,7 +1,7 @@
 // How far a crossing point lies from a segment's end: one whole number over another. The products larger than a turn
 // are formed here alone, in an `i128`: a numerator stays below 2^94, and twice it plus a divisor below 2^96.
 // Upstream: the division of `cross_point` in `split::cross_solver`.
-ghost use Rattle.std.specs.Prelude.{◌≡◌, ◌≢◌, ◌≤◌, ◌*◌, ◌*ℤ◌, ◌<ℤ◌, pos, negsuc, unsigned_abs, int_div, int_le, ◌&&◌};
+ghost use Rattle.std.specs.Prelude.{◌≡◌, ◌≢◌, ◌≤◌, ◌<◌, ◌*◌, ◌/◌, ◌^◌, ◌*ℤ◌, ◌<ℤ◌, pos, negsuc, neg_ℤ, unsigned_abs, int_le, int_lt, ◌&&◌, if◌then◌else◌};
 ghost use Rattle.std.specs.Int.{int_signum, int_div_euclid};
 ghost use Rattle.overlay_geometry.specs.Coordinates.{greatest_difference, greatest_product};
 ghost use Rattle.overlay_intersections.specs.Crossing.{quotient, truncated, nearest, nearest_upward};
@@ -13,6 +13,10 @@ use std::alloc::AllocError;
 pub struct Offset {
     top: i128,
     bottom: i128,
+    /// How far the target goes along the axis, and about how many 2^32nds of that lie before the point. Quotients are
+    /// guessed of these; nothing rests on them.
+    length: u64,
+    share: u64,
     pub ghost top_bound: { unsigned_abs top ≤ greatest_numerator },
     pub ghost bottom_bound: { unsigned_abs bottom ≤ 2 * greatest_product },
     pub ghost bottom_positive: { pos 0 <ℤ bottom },
@@ -46,6 +50,8 @@ impl Offset {
         Offset {
             top: with_sign_of(d, numerator(length, n)),
             bottom: d.abs() as i128,
+            length: length.unsigned_abs(),
+            share: share_of(n.unsigned_abs(), d.unsigned_abs()),
         }
     }
 
@@ -53,16 +59,26 @@ impl Offset {
     pub fn truncated(self) -> i128
         ensures { result ≡ truncated (quotient_of self) }
     {
-        divided(self.top, self.bottom)
+        let guess = self.length.wrapping_mul(self.share) >> 32;
+        signed_as(
+            self.top,
+            divided(self.top.unsigned_abs(), self.size(), guess),
+        )
     }
 
     /// The nearest whole number, the farther from 0 of two as near.
     pub fn nearest(self) -> i128
         ensures { result ≡ nearest (quotient_of self) }
     {
-        divided(
-            2 * self.top + self.top.signum() * self.bottom,
-            2 * self.bottom,
+        let size = self.size();
+        let guess = self
+            .length
+            .wrapping_mul(self.share)
+            .wrapping_add(0x8000_0000)
+            >> 32;
+        signed_as(
+            self.top,
+            divided(2 * self.top.unsigned_abs() + size as u128, 2 * size, guess),
         )
     }
 
@@ -71,6 +87,27 @@ impl Offset {
         ensures { result ≡ nearest_upward (quotient_of self) }
     {
         floor_divided(2 * self.top + self.bottom, 2 * self.bottom)
+    }
+
+    /// The divisor, as an unsigned number.
+    fn size(&self) -> u64
+        ensures value { result ≡ unsigned_abs self.now.bottom }
+        ensures positive { 0 < result }
+        ensures bound { result ≤ 2 * greatest_product }
+    {
+        self.bottom as u64
+    }
+}
+
+/// About how many 2^32nds of the whole a part is, from the first 32 bits of the greater of the two.
+fn share_of(part: u64, whole: u64) -> u64 {
+    let greater = if part < whole { whole } else { part };
+    let shift = 32_u32.saturating_sub(greater.leading_zeros());
+    let whole = whole >> shift;
+    if whole == 0 {
+        0
+    } else {
+        ((part >> shift) << 32) / whole
     }
 }
 
@@ -93,15 +130,38 @@ fn with_sign_of(d: i64, numerator: i128) -> i128
     d.signum() as i128 * numerator
 }
 
-/// The quotient, toward 0. An `i64` is divided much faster than an `i128`, so what fits one is divided there.
-fn divided(top: i128, bottom: i128) -> i128
-    requires { pos 0 <ℤ bottom }
-    ensures { result ≡ int_div top bottom }
+/// The quotient. A guess is tested, and taken where it or a number beside it is right, since a division of 128 bits takes
+/// long.
+fn divided(top: u128, bottom: u64, guess: u64) -> u128
+    requires { 0 < bottom }
+    ensures { result ≡ top / bottom }
 {
-    if is_narrow(top) && is_narrow(bottom) {
-        (top as i64 / bottom as i64) as i128
+    let bottom = bottom as u128;
+    let guess = guess as u128;
+    let below = guess * bottom;
+    if below <= top {
+        let rest = top - below;
+        if rest < bottom {
+            return guess;
+        }
+        if rest - bottom < bottom {
+            return guess + 1;
+        }
+    } else if below - top <= bottom {
+        return guess - 1;
+    }
+    top / bottom
+}
+
+/// A number with the sign of another.
+fn signed_as(sign: i128, number: u128) -> i128
+    requires { number < 2 ^ 127 }
+    ensures { result ≡ (if int_lt sign (pos 0) then neg_ℤ (pos number) else pos number) }
+{
+    if sign < 0 {
+        -(number as i128)
     } else {
-        top / bottom
+        number as i128
     }
 }
 

@@ -174,7 +174,7 @@ root-bounds d n h = elim (cases_lt (root n) d) [ inl less ↦ absurd (squares d 
     squares d r j e h = let k : (r + 1 + j) * (r + 1 + j) < (r + 1) * (r + 1) = subst (λ (i : ℕ). i * i < (r + 1) * (r + 1)) e h in omega (arith, k)
 
 -- and one whose next square is greater is at least the root
-root-below : (w n : ℕ) → n < (w + 1) * (w + 1) → root n ≤ w
+pub root-below : (w n : ℕ) → n < (w + 1) * (w + 1) → root n ≤ w
 root-below w n h = elim (cases_lt w (root n)) [ inl less ↦ absurd (squares w (root n) (root n - (w + 1)) n (omega (arith, less)) h (root-square n)) | inr more ↦ more ]
   where
     squares : (w r j n : ℕ) → r ≡ w + 1 + j → n < (w + 1) * (w + 1) → r * r ≤ n → ⊥

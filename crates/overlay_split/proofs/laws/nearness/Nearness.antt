@@ -99,7 +99,7 @@ run_lies_near settings given (suc k) ordered =
 
 -- ---- how far that is
 
-reach_of_pass-bounded : (placing : Placing) (segments : List WholeSegment) → reach_of_pass placing segments ≤ reach placing
+pub reach_of_pass-bounded : (placing : Placing) (segments : List WholeSegment) → reach_of_pass placing segments ≤ reach placing
 unfolding reach_of_pass
 reach_of_pass-bounded placing segments = cond_both (is_rounded segments) (reach placing) 0 (λ (h : ℕ). h ≤ reach placing) (λ _. omega arith) (λ _. omega arith)
 

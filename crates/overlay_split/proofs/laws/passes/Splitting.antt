@@ -271,8 +271,8 @@ pub falls_from : (now next : List WholeSegment) (was goes : Bool) → was ≡ tr
 falls_from now next true goes t map e g = falls now next goes map e g
 falls_from now next false goes t map e g = absurd (both_ways false refl t)
 
--- so there is room for the number of passes
-pub keeps_room : (now next : List WholeSegment) (goes : Bool) (k n most : ℕ) → IsTrue (is_map now) → next ≡ pass settling now → goes ≡ (nat_le 2 (length next) && is_rounded now) → goes ≡ true → n ≡ k + 1 → k + potential now < most → n + potential next < most
+-- so there is room for a number that each pass raises by at most one
+pub keeps_room : (now next : List WholeSegment) (goes : Bool) (k n most : ℕ) → IsTrue (is_map now) → next ≡ pass settling now → goes ≡ (nat_le 2 (length next) && is_rounded now) → goes ≡ true → n ≤ k + 1 → k + potential now < most → n + potential next < most
 keeps_room now next goes k n most map e g t m r =
     let f = falls now next goes map e g in
     let one = ap (λ (b : Bool). from_bool b) t in
@@ -294,7 +294,7 @@ potential_bound least greatest (s ∷ segments) lo hi h =
     sums : (p q r n : ℕ) → p ≡ q + r → q ≤ 2 * greatest_difference → r ≤ n * (2 * greatest_difference) → p ≤ suc n * (2 * greatest_difference)
     sums p q r n e h k = omega (arith, e, h, k)
 
-pub few_enough : {C I D : Type 0} {m : _} {w : _} {o : _} {e : _} {p : _} (xs : List (Segment C I D m w o e p)) (k : ℕ) → potential (segments_of xs) ≤ length (segments_of xs) * (2 * greatest_difference) → length xs < 2 ^ 64 → k < 2 ^ 64 → k + potential (segments_of xs) < 2 ^ 127
+pub few_enough : {C I D : Type 0} {m : _} {w : _} {o : _} {e : _} {p : _} (xs : List (Segment C I D m w o e p)) (k : ℕ) → potential (segments_of xs) ≤ length (segments_of xs) * (2 * greatest_difference) → length xs < 2 ^ 64 → k < 2 ^ 100 → k + potential (segments_of xs) < 2 ^ 127
 few_enough xs k h l n =
     let same = length-map xs (λ s. segment_of s) in
     omega (arith, h, l, n, same)

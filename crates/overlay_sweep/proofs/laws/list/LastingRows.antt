@@ -1,32 +1,29 @@
 -- A row of entries of which some have ended: what a search and a call leave of it, by those that last.
-use Rattle.std.proofs.Common.{◌≡◌, ◌≢◌, ap, ap₂, refl, sym, subst, ◌∙◌, arith, inl, inr, Result, Ok, Err}
-use Rattle.std.specs.Prelude.{ℕ, zero, suc, pos, ◌+◌, ◌-◌, ◌*◌, ◌^◌, ◌<◌, ◌≤◌, ℤ, ◌≤ℤ◌, ◌<ℤ◌, int_le, int_lt, Bool, true, false, not, cond, OnOk, List, [], ◌∷◌, ◌++◌, map, filter, take, drop, length, All}
+use Rattle.std.proofs.Common.{◌≡◌, ◌≢◌, ap, ap₂, refl, sym, subst, ◌∙◌, arith, inl, inr, Result, Ok, Err, add-one}
+use Rattle.std.specs.Prelude.{ℕ, zero, suc, pos, ◌+◌, ◌-◌, ◌<◌, ◌≤◌, ℤ, ◌≤ℤ◌, ◌<ℤ◌, int_le, int_lt, Bool, true, false, not, cond, OnOk, List, [], ◌∷◌, ◌++◌, map, filter, take, drop, length, slice_set, All}
 use Rattle.std.specs.List.{Contains, range_with_len, take-map, drop-map}
 use Rattle.std.specs.Ordering.{is_lt}
 use Rattle.std.proofs.lemmas.Int.{ints}
 use Rattle.std.proofs.lemmas.Bool.{cases_Bool, cases_eq, and_parts, both_ways}
-use Rattle.std.proofs.lemmas.List.{length-append, map-append, take-append-drop, take_all, append_assoc}
-use Rattle.std.proofs.lemmas.List.Sums.{sum_by-cons, count_by-le-length}
+use Rattle.std.proofs.lemmas.List.{length-append, length-map, length-take, length-drop, map-append, take-append-drop, take_all, append_assoc, take-set}
+use Rattle.std.proofs.lemmas.Grind.{drop-set_at}
 use Rattle.std.proofs.lemmas.List.Elements.{filter-append, All-append, All-take, All-drop}
 use Rattle.std.proofs.Math.Seq.{take-append_seam, drop-append_seam}
-use Rattle.std.proofs.Math.Nat.{suc-mul, add-mul, mul-le-mul_right}
-use Rattle.std.proofs.Math.Pow.{pow_mono}
 use Rattle.overlay_base.specs.Windings.{Winding}
 use Rattle.overlay_base.specs.Segments.{WholeSegment}
 use Rattle.overlay_geometry.specs.Points.{Point, turn}
 use Rattle.overlay_geometry.specs.Below.{under_segment_order}
 use Rattle.overlay_geometry.proofs.laws.integers.Tests.{lt-test}
 use Rattle.overlay_geometry.proofs.laws.lists.Lists.{filter-map}
-use Rattle.overlay_sweep.specs.Costs.{IsHighest, IsWayAmong, lasting_at, LastAlikeFrom, IsInsertCost}
+use Rattle.overlay_sweep.specs.Costs.{IsHighest, IsInsertCost}
 use Rattle.overlay_sweep.specs.Live.{sum_below, AreFreeAt, HoldSameFrom}
 use Rattle.overlay_sweep.specs.TreeShapes.{Has}
 use Rattle.overlay_sweep.specs.ScanTrees.{segment_at, lasts_past, IsFromBelow, IsScanRow}
-use Rattle.overlay_sweep.specs.steps.Positions.{IsPosition, IsLivePosition}
+use Rattle.overlay_sweep.specs.steps.Positions.{IsPosition, IsLivePosition, IsPutIn}
 use Rattle.overlay_sweep.proofs.laws.live.LiveSums.{HoldSameFrom-trans, HoldSameFrom-cons, All-between}
 use Rattle.overlay_sweep.proofs.laws.live.ScanSums.{lasting, HoldSameFrom-lasting}
 use Rattle.overlay_sweep.proofs.laws.list.ListReads.{read_whole}
 use Rattle.overlay_sweep.proofs.laws.list.ListOrders.{from_below_same}
-use Rattle.overlay_sweep.proofs.laws.list.ListCounts.{kept_lasting, placed_lasting}
 use Rattle.overlay_sweep.proofs.laws.visits.LookCosts.{pays_for_fewer}
 use Rattle.overlay_sweep.proofs.laws.list.ListAnswers.{row_kept, row_placed, placed_sums, default_found, last_found}
 
@@ -40,12 +37,6 @@ same_sums x xs ys e s y h l = (
   λ m. (HoldSameFrom-lasting x ys s y h l).0 (subst (λ k. Contains k s) e ((HoldSameFrom-lasting x xs s y h l).1 m)),
   λ m. (HoldSameFrom-lasting x xs s y h l).0 (subst (λ k. Contains k s) (sym e) ((HoldSameFrom-lasting x ys s y h l).1 m)),
 )
-
-pub same_lasting : (x : ℤ) (xs ys : List WholeSegment) → lasting_of x xs ≡ lasting_of x ys → LastAlikeFrom x xs ys
-same_lasting x xs ys e y h = sym (kept_lasting x y h xs) ∙ ap (lasting_at y) e ∙ kept_lasting x y h ys
-
-pub lasting_more : (y : ℤ) (s : WholeSegment) (xs ys : List WholeSegment) → lasting_at y xs ≡ lasting_at y ys → lasting_at y (s ∷ xs) ≡ lasting_at y (s ∷ ys)
-lasting_more y s xs ys e = sum_by-cons (λ t. cond (int_lt y t.pair.b.x) 1 0) s xs ∙ ap (λ n. cond (int_lt y s.pair.b.x) 1 0 + n) e ∙ sym (sum_by-cons (λ t. cond (int_lt y t.pair.b.x) 1 0) s ys)
 
 -- ---- in order, where those that last are
 
@@ -117,6 +108,22 @@ all_without P xs i a = All-append P (take i xs) (drop (suc i) xs) (All-take P i 
 pub entries_without : {E : Type 0} (f : E → WholeSegment) (items : List E) (i : ℕ) → map f (take i items ++ drop (suc i) items) ≡ take i (map f items) ++ drop (suc i) (map f items)
 entries_without f items i = map-append f (take i items) (drop (suc i) items) ∙ ap₂ (λ l r. l ++ r) (sym (take-map f i items)) (sym (drop-map f (suc i) items))
 
+-- where the entries from one index up to another have ended
+one_ended : (x : ℤ) (ks : List WholeSegment) (at : ℕ) → at < length ks → lasts_past x ks at ≡ false → lasting_of x (drop at ks) ≡ lasting_of x (drop (suc at) ks)
+one_ended x ks at h ended = ap (lasting_of x) (first_behind ks at h) ∙ rw ended refl
+
+skip_ended : (x : ℤ) (ks : List WholeSegment) (at n : ℕ) → at + n ≤ length ks → ((k : ℕ) → at ≤ k → k < at + n → lasts_past x ks k ≡ false) → lasting_of x (drop at ks) ≡ lasting_of x (drop (at + n) ks)
+skip_ended x ks at zero h e = let same : at ≡ at + 0 = omega arith in ap (λ m. lasting_of x (drop m ks)) same
+skip_ended x ks at (suc n) h e =
+    let same : suc (at + n) ≡ at + suc n = omega arith in
+    skip_ended x ks at n (omega (arith, h)) (λ k a b. e k a (omega (arith, b)))
+    ∙ one_ended x ks (at + n) (omega (arith, h)) (e (at + n) (omega arith) (omega arith))
+    ∙ ap (λ m. lasting_of x (drop m ks)) same
+
+drop_whole : (ks : List WholeSegment) → drop (length ks) ks ≡ []
+drop_whole [] = refl
+drop_whole (k ∷ ks) = drop_whole ks
+
 -- ---- a position among those that last
 
 module _ (x : ℤ) (ks : List WholeSegment) (at : ℕ) where
@@ -132,8 +139,8 @@ module _ (x : ℤ) (ks : List WholeSegment) (at : ℕ) where
   lasting_last : (n : ℕ) → at ≡ suc n → n < length ks → lasts_past x ks n ≡ true → earlier ≡ lasting_of x (take n ks) ++ segment_at ks n ∷ []
   lasting_last n e h l = ap (λ m. lasting_of x (take m ks)) e ∙ ap (lasting_of x) (last_before ks n h) ∙ filter-append (λ t. lasting x t) (take n ks) (segment_at ks n ∷ []) ∙ rw l refl
 
-  lasting_first : at < length ks → lasts_past x ks at ≡ true → later ≡ segment_at ks at ∷ lasting_of x (drop (suc at) ks)
-  lasting_first h l = ap (lasting_of x) (first_behind ks at h) ∙ rw l refl
+  lasting_first : (n : ℕ) → n < length ks → lasts_past x ks n ≡ true → lasting_of x (drop n ks) ≡ segment_at ks n ∷ lasting_of x (drop (suc n) ks)
+  lasting_first n h l = ap (lasting_of x) (first_behind ks n h) ∙ rw l refl
 
   module _ (before : ℕ → Bool) (place : IsLivePosition (lasts_past x ks) before (length ks) at) where
     -- what stands below the position, among those that last
@@ -154,22 +161,31 @@ module _ (x : ℤ) (ks : List WholeSegment) (at : ℕ) where
           ))
     ]
 
-    found_first : at ≢ length ks → (length earlier < length (lasting_of x ks)) × (segment_at (lasting_of x ks) (length earlier) ≡ segment_at ks at) × (before at ≡ false)
-    found_first n = elim place.first_is [
+    from_next : later ≡ lasting_of x (drop place.behind.next ks)
+    from_next =
+        let far : at + (place.behind.next - at) ≡ place.behind.next = omega (arith, place.behind.order) in
+        skip_ended x ks at (place.behind.next - at) (omega (arith, place.behind.order, place.behind.within)) (λ k a b. place.behind.ended k a (omega (arith, b, far)))
+        ∙ ap (λ m. lasting_of x (drop m ks)) far
+
+    found_first : place.behind.next ≢ length ks → (length earlier < length (lasting_of x ks)) × (segment_at (lasting_of x ks) (length earlier) ≡ segment_at ks place.behind.next) × (before place.behind.next ≡ false)
+    found_first n = elim place.behind.is [
       | inl all ↦ absurd (n all)
       | inr is ↦
-          (let within : at < length ks = omega (arith, n, place.within) in
-          let e = lasting_first within is.0 in
-          let rest : List WholeSegment = lasting_of x (drop (suc at) ks) in
-          let whole : earlier ++ segment_at ks at ∷ rest ≡ lasting_of x ks = ap (λ l. earlier ++ l) (sym e) ∙ lasting_parts in (
-            (let size = ap (λ l. length l) (sym whole) ∙ length-append earlier (segment_at ks at ∷ rest) in omega (arith, size)),
-            ap (λ l. segment_at l (length earlier)) (sym whole) ∙ segment_between earlier rest (segment_at ks at),
+          (let within : place.behind.next < length ks = omega (arith, n, place.behind.within) in
+          let e = from_next ∙ lasting_first place.behind.next within is.0 in
+          let rest : List WholeSegment = lasting_of x (drop (suc place.behind.next) ks) in
+          let whole : earlier ++ segment_at ks place.behind.next ∷ rest ≡ lasting_of x ks = ap (λ l. earlier ++ l) (sym e) ∙ lasting_parts in (
+            (let size = ap (λ l. length l) (sym whole) ∙ length-append earlier (segment_at ks place.behind.next ∷ rest) in omega (arith, size)),
+            ap (λ l. segment_at l (length earlier)) (sym whole) ∙ segment_between earlier rest (segment_at ks place.behind.next),
             is.1,
           ))
     ]
 
-    all_before : at ≡ length ks → length earlier ≡ length (lasting_of x ks)
-    all_before e = ap (λ n. length (lasting_of x (take n ks))) e ∙ ap (λ l. length (lasting_of x l)) (take_all (length ks) ks (omega arith))
+    all_before : place.behind.next ≡ length ks → length earlier ≡ length (lasting_of x ks)
+    all_before e =
+        let none : later ≡ [] = from_next ∙ ap (λ m. lasting_of x (drop m ks)) e ∙ ap (lasting_of x) (drop_whole ks) in
+        let size = ap (λ l. length l) (sym lasting_parts) ∙ length-append earlier later in
+        omega (arith, size, ap (λ (l : List WholeSegment). length l) none)
 
   pub lasting_position : (test : WholeSegment → Bool) → IsLivePosition (lasts_past x ks) (λ i. test (segment_at ks i)) (length ks) at → IsPosition (λ i. test (segment_at (lasting_of x ks) i)) (length (lasting_of x ks)) (length earlier)
   lasting_position test place = record {
@@ -178,28 +194,13 @@ module _ (x : ℤ) (ks : List WholeSegment) (at : ℕ) where
       | inl none ↦ inl (ap (λ n. length (lasting_of x (take n ks))) none)
       | inr some ↦ (let f = found_last (λ i. test (segment_at ks i)) place some in inr (ap test f.1 ∙ f.2))
     ];
-    first_is = elim (cases_eq at (length ks)) [
+    first_is = elim (cases_eq place.behind.next (length ks)) [
       | inl all ↦ inl (all_before (λ i. test (segment_at ks i)) place all)
       | inr some ↦ (let f = found_first (λ i. test (segment_at ks i)) place some in inr (ap test f.1 ∙ f.2))
     ];
   }
 
 -- ---- a call
-
--- the entries dropped so far pay for the searches before, and one more for another
-pub pays_more : (d was left now asked total more : ℕ) → now + 1 ≤ left → total + left * d ≤ was * d → asked ≤ d → more ≤ total + asked → more + now * d ≤ was * d
-pays_more d was left now asked total more less paid few adds = omega (arith, paid, few, adds, mul-le-mul_right d less, add-mul now 1 d)
-
-pub pays_last : (d was left now asked total more : ℕ) → now ≤ left → total + left * d ≤ was * d → asked ≤ d → more ≤ total + asked → more + now * d ≤ suc was * d
-pays_last d was left now asked total more fewer paid few adds = omega (arith, paid, few, adds, mul-le-mul_right d fewer, suc-mul was d)
-
--- those that last are no more than all
-pub way_among_all : (x : ℤ) (os ks : List WholeSegment) (asked more : ℕ) → lasting_of x ks ≡ lasting_of x os → IsWayAmong (length ks) asked → asked ≤ more → IsWayAmong (lasting_at x os) more
-way_among_all x os ks asked more e way h =
-    let fewer : lasting_at x ks ≤ length ks = count_by-le-length (λ s. int_lt x s.pair.b.x) ks in
-    let same : lasting_at x ks ≡ lasting_at x os = same_lasting x ks os e x (omega (arith, ints)) in
-    let wider : 2 ^ (2 * asked + 3) ≤ 2 ^ (2 * more + 3) = pow_mono (omega (arith, h)) in
-    omega (arith, fewer, same, wider, way)
 
 module _ (x : ℤ) (os ks : List WholeSegment) (kept : lasting_of x ks ≡ lasting_of x os) where
   pub row_left : IsScanRow x os → All (λ s. s.pair.a.x ≤ℤ x) ks → IsScanRow x ks
@@ -244,15 +245,34 @@ module _ (x : ℤ) (os ks : List WholeSegment) (kept : lasting_of x ks ≡ lasti
         (λ s y h l. ((HoldSameFrom-lasting x put s y h l).1, (HoldSameFrom-lasting x put s y h l).0))
         (subst (λ l. HoldSameFrom x l (e ∷ os)) put_lasting (placed_sums x os (lasting_of x ks) kept e many position))
 
-    pub put_counted : LastAlikeFrom x put (e ∷ os)
-    put_counted y h = sym (kept_lasting x y h put) ∙ ap (lasting_at y) (sym put_lasting) ∙ placed_lasting x y os (lasting_of x ks) kept e many h
-
     pub put_row : IsScanRow x os → AreFreeAt x (e ∷ os) → e.pair.a.x ≡ x → All (λ s. s.pair.a.x ≤ℤ x) ks → IsScanRow x put
     put_row l free starts begun =
         let begins : e.pair.a.x ≤ℤ x = omega (arith, ints, starts) in
         let placed = row_placed x os (lasting_of x ks) kept e many position l free starts ends in record {
           begun = All-between (λ s. s.pair.a.x ≤ℤ x) e (take at ks) (drop at ks) begins (subst (λ l. All (λ s. s.pair.a.x ≤ℤ x) l) (sym (take-append-drop at ks)) begun);
           from_below = from_below_whole x put (subst (λ l. IsFromBelow x l (range_with_len 0 (length l))) put_lasting placed.from_below);
+        }
+
+  -- the same in place of one that has ended
+  module _ (e : WholeSegment) (at : ℕ) (place : IsLivePosition (lasts_past x ks) (λ i. not (is_lt (under_segment_order e.pair (segment_at ks i).pair))) (length ks) at) (ends : x <ℤ e.pair.b.x) (inside : at < length ks) (ended : lasts_past x ks at ≡ false) where
+    abbrev pub over : List WholeSegment
+    over = take at ks ++ e ∷ drop (suc at) ks
+
+    over_lasting : lasting_of x over ≡ lasting_of x (take at ks ++ e ∷ drop at ks)
+    over_lasting =
+        filter-append (λ t. lasting x t) (take at ks) (e ∷ drop (suc at) ks)
+        ∙ ap (λ l. lasting_of x (take at ks) ++ l) (let same : lasting_of x (e ∷ drop (suc at) ks) ≡ lasting_of x (e ∷ drop at ks) = rw (lt-test x e.pair.b.x ends) (ap (λ l. e ∷ l) (sym (one_ended x ks at inside ended))) in same)
+        ∙ sym (filter-append (λ t. lasting x t) (take at ks) (e ∷ drop at ks))
+
+    pub over_sums : HoldSameFrom x over (e ∷ os)
+    over_sums = HoldSameFrom-trans x over (take at ks ++ e ∷ drop at ks) (e ∷ os) (same_sums x over (take at ks ++ e ∷ drop at ks) over_lasting) (put_sums e at place ends)
+
+    pub over_row : IsScanRow x os → AreFreeAt x (e ∷ os) → e.pair.a.x ≡ x → All (λ s. s.pair.a.x ≤ℤ x) ks → IsScanRow x over
+    over_row l free starts begun =
+        let begins : e.pair.a.x ≤ℤ x = omega (arith, ints, starts) in
+        let row = put_row e at place ends l free starts begun in record {
+          begun = All-between (λ s. s.pair.a.x ≤ℤ x) e (take at ks) (drop (suc at) ks) begins (all_without (λ s. s.pair.a.x ≤ℤ x) ks at begun);
+          from_below = from_below_whole x over (row_kept x (take at ks ++ e ∷ drop at ks) (lasting_of x over) over_lasting row).from_below;
         }
 
 -- ---- an insert after others were dropped
@@ -262,10 +282,25 @@ module _ {T E : Type 0} (x : ℤ) (news mids olds : List WholeSegment) (s : Whol
   then_sums (Ok v) f h = HoldSameFrom-trans x news (s ∷ mids) (s ∷ olds) h (HoldSameFrom-cons x s mids olds f)
   then_sums (Err e) f h = h
 
-  pub then_lasting : (r : Result T E) → LastAlikeFrom x mids olds → OnOk r (LastAlikeFrom x news (s ∷ mids)) → OnOk r (LastAlikeFrom x news (s ∷ olds))
-  then_lasting (Ok v) f h = λ y k. h y k ∙ lasting_more y s mids olds (f y k)
-  then_lasting (Err e) f h = h
-
 pub then_pays : {T E : Type 0} (r : Result T E) (asked held left was : ℕ) → left ≤ was → OnOk r (IsInsertCost IsHighest left held asked) → OnOk r (IsInsertCost IsHighest was held asked)
 then_pays (Ok v) asked held left was fewer h = λ n d within high. pays_for_fewer asked held left was d fewer (h n d (omega (arith, fewer, within)) high)
 then_pays (Err e) asked held left was fewer h = h
+
+-- ---- an entry put in, or in place of one that has ended
+
+entries_put : {E : Type 0} (f : E → WholeSegment) (items : List E) (at rest : ℕ) (entry : E) → map f (take at items ++ entry ∷ drop rest items) ≡ take at (map f items) ++ f entry ∷ drop rest (map f items)
+entries_put f items at rest entry = map-append f (take at items) (entry ∷ drop rest items) ∙ ap₂ (λ l r. l ++ f entry ∷ r) (sym (take-map f at items)) (sym (drop-map f rest items))
+
+pub put_in : {E : Type 0} (f : E → WholeSegment) (x : ℤ) (items new : List E) (at : ℕ) (entry : E) → IsPutIn (lasts_past x (map f items)) at entry items new → (P : List WholeSegment → Type 0) → P (take at (map f items) ++ f entry ∷ drop at (map f items)) →
+    (at < length (map f items) → lasts_past x (map f items) at ≡ false → P (take at (map f items) ++ f entry ∷ drop (suc at) (map f items))) → P (map f new)
+put_in f x items new at entry (inl e) P put over = subst P (sym (ap (map f) e ∙ entries_put f items at at entry)) put
+put_in f x items new at entry (inr h) P put over = subst P (sym (ap (map f) h.2 ∙ entries_put f items at (suc at) entry)) (over (omega (arith, h.0, length-map items f)) h.1)
+
+pub put_longer : {E : Type 0} (lasts : ℕ → Bool) (items new : List E) (at : ℕ) (entry : E) → IsPutIn lasts at entry items new → length new ≤ suc (length items)
+put_longer lasts items new at entry (inl e) = omega (arith, ap (λ l. length l) e, length-append (take at items) (entry ∷ drop at items), length-take at items, length-drop at items)
+put_longer lasts items new at entry (inr h) = omega (arith, ap (λ l. length l) h.2, length-append (take at items) (entry ∷ drop (suc at) items), length-take at items, length-drop (suc at) items)
+
+pub set_in : {E : Type 0} (items : List E) (at : ℕ) (entry : E) → at < length items → slice_set items at entry ≡ take at items ++ entry ∷ drop (suc at) items
+set_in items at entry h =
+    sym (take-append-drop at (slice_set items at entry))
+    ∙ ap₂ (λ l r. l ++ r) (take-set items at entry) (drop-set_at items at at entry refl h ∙ ap (λ n. entry ∷ drop n items) (add-one at))

@@ -1,6 +1,6 @@
 -- A scan tree from one way down to the next, and from one call to the next.
 use Rattle.std.proofs.Common.{◌≡◌, ap, refl, sym, subst, ◌∙◌, arith, inl, inr, get_or}
-use Rattle.std.specs.Prelude.{ℕ, zero, suc, ◌+◌, ◌-◌, ◌*◌, ◌/◌, ◌^◌, ◌<◌, ◌≤◌, ℤ, ◌≤ℤ◌, int_le, int_lt, Bool, true, ◌⊎◌, min, List, [], ◌∷◌, ◌++◌, length, All}
+use Rattle.std.specs.Prelude.{ℕ, zero, suc, ◌+◌, ◌-◌, ◌*◌, ◌/◌, ◌^◌, ◌<◌, ◌≤◌, ℤ, ◌≤ℤ◌, int_le, int_lt, Bool, true, ◌⊎◌, List, [], ◌∷◌, ◌++◌, length, All}
 use Rattle.std.proofs.lemmas.Int.{ints}
 use Rattle.std.proofs.lemmas.Bool.{and_parts, and_from, both_ways, cases_lt}
 use Rattle.std.proofs.lemmas.List.Elements.{All-contains}
@@ -8,12 +8,11 @@ use Rattle.overlay_base.specs.Segments.{WholeSegment}
 use Rattle.overlay_sweep.specs.ChainWindings.{is_live}
 use Rattle.overlay_sweep.specs.Live.{AreFreeAt}
 use Rattle.overlay_sweep.specs.declared.build.tree_shape.TreeNode.{TreeNode}
-use Rattle.overlay_sweep.specs.TreeShapes.{Has, none, Tree, leaf, fork, node_at, subtree_height, IsDistinct, Stands, IsTree, IsStopped, IsPlaced}
+use Rattle.overlay_sweep.specs.TreeShapes.{Has, none, Tree, leaf, fork, node_at, IsDistinct, Stands, IsTree, IsStopped, IsPlaced}
 use Rattle.overlay_sweep.specs.ScanTrees.{segment_at, lasts_past, is_live_at, IsFromBelow, IsScanTree, IsGrowing, IsGrown}
 use Rattle.overlay_sweep.proofs.laws.live.LiveSums.{begins_later, HoldSameFrom-push, AreFreeAt-same}
 use Rattle.overlay_sweep.proofs.laws.columns.Members.{All-from_Has}
 use Rattle.overlay_sweep.proofs.laws.tree.TreeNodes.{Has-left, Has-right, Has-parts}
-use Rattle.overlay_sweep.proofs.laws.tree.TreeTurns.{tree_height}
 use Rattle.overlay_sweep.proofs.laws.tree.TreeHeights.{tree_holds, height_low}
 use Rattle.overlay_sweep.proofs.laws.tree.TreeRemovals.{IsTree-kept, Stands-member, distinct_without}
 use Rattle.overlay_sweep.proofs.laws.tree.TreeWays.{distinct_between}
@@ -136,10 +135,6 @@ asked_more before after high d was kept a b c e f =
 
 pub asked_last : (before after high d was kept : ℕ) → before ≤ (was - kept) * d → after ≤ before + high → high ≤ d → after ≤ suc (was - kept) * d
 asked_last before after high d was kept a b c = rw (one_way_more (was - kept) d) (omega (arith, a, b, c))
-
--- half the height that a way leaves is no more than the orders that it asked, and one
-pub asked_half : (nodes : List TreeNode) (top : ℕ) (order : List ℕ) (high was before after : ℕ) → IsTree nodes top order high → high ≤ was + 1 → was < 2 ^ 63 → min (before + was / 2) (2 ^ 128 - 1) ≤ after → subtree_height nodes top / 2 ≤ after + 1
-asked_half nodes top order high was before after t a b c = rw (tree_height nodes top order high t) (omega (arith, a, b, c))
 
 -- ---- the tree at a later x
 

@@ -1,6 +1,6 @@
 -- A way down a tree: what it leaves above a side that it has changed.
 use Rattle.std.proofs.Common.{◌≡◌, ◌≢◌, ap, ap₂, refl, sym, subst, ◌∙◌, arith, inl, inr, get_or, tests}
-use Rattle.std.specs.Prelude.{ℕ, Bool, true, false, not, ◌&&◌, ◌==◌, ◌+◌, ◌-◌, ◌/◌, ◌^◌, ◌<◌, ◌≤◌, ◌⊎◌, min, max, List, [], ◌∷◌, ◌++◌, length}
+use Rattle.std.specs.Prelude.{ℕ, Bool, true, false, not, ◌&&◌, ◌==◌, ◌+◌, ◌<◌, ◌≤◌, ◌⊎◌, max, List, [], ◌∷◌, ◌++◌, length}
 use Rattle.std.proofs.lemmas.List.{append-nil, get_or_read}
 use Rattle.std.proofs.lemmas.Bool.{cases_lt, both_ways}
 use Rattle.overlay_sweep.specs.declared.build.tree_shape.TreeNode.{TreeNode}
@@ -381,12 +381,6 @@ module _ (nodes : List TreeNode) (at new : ℕ) (m : MayGoDown nodes at new) (n 
   left_lower = omega (arith, (parts nodes at new m n node read).height_is)
 
   -- neither side is lower by three or more than the whole
-  pub right_deep : m.sound.high / 2 ≤ (parts nodes at new m n node read).right_high / 2 + 1
-  right_deep = omega (arith, (parts nodes at new m n node read).height_is, (parts nodes at new m n node read).left_near, (parts nodes at new m n node read).right_near)
-
-  pub left_deep : m.sound.high / 2 ≤ (parts nodes at new m n node read).left_high / 2 + 1
-  left_deep = omega (arith, (parts nodes at new m n node read).height_is, (parts nodes at new m n node read).left_near, (parts nodes at new m n node read).right_near)
-
   -- the node is the parent of its sides
   pub still_parent : IsParent nodes node.left at node.right
   still_parent =
@@ -411,16 +405,6 @@ module _ (nodes : List TreeNode) (at new : ℕ) (m : MayGoDown nodes at new) (n 
 pub either : {P : Type 0} (b : Bool) → (b ≡ true → P) → (b ≡ false → P) → P
 either true f g = f refl
 either false f g = g refl
-
--- the orders asked on a way, one more than below
-pub asked_above : (old mid new below high : ℕ) → mid ≡ min (old + 1) (2 ^ 128 - 1) → min (mid + below / 2) (2 ^ 128 - 1) ≤ new → high / 2 ≤ below / 2 + 1 → min (old + high / 2) (2 ^ 128 - 1) ≤ new
-asked_above old mid new below high e h k = omega (arith, e, h, k)
-
-pub empty_reached : (nodes : List TreeNode) (at new : ℕ) (m : MayGoDown nodes at new) → at ≡ none → (asked : ℕ) → min (asked + m.sound.high / 2) (2 ^ 128 - 1) ≤ asked
-empty_reached nodes at new m e asked =
-    let t = m.sound.tree in
-    let low : m.sound.high ≡ 0 = sym t.height_is ∙ leaf_height nodes t.tree (subst (λ a. Stands nodes t.tree a) e t.stands) in
-    omega (arith, low)
 
 -- what is below is as it was
 pub kept_parent : (nodes mid : List TreeNode) (left at right side : ℕ) → IsParent nodes left at right → (mid ≡ nodes) × (side ≡ right) → IsParent mid left at side

@@ -57,8 +57,8 @@ pub search_pays : (asked now was d : ℕ) → asked ≤ d → now ≤ was → as
 search_pays asked now was d few fewer = omega (arith, few, mul-le-mul_right d fewer, suc-mul was d)
 
 -- and for an entry more
-pub pays_for_one : (asked kept now was d : ℕ) → now ≡ suc kept → asked + kept * d ≤ suc was * d → asked + now * d ≤ suc (suc was) * d
-pays_for_one asked kept now was d e h = omega (arith, h, ap (λ n. n * d) e, suc-mul kept d, suc-mul (suc was) d)
+pub pays_for_one : (asked kept now was d : ℕ) → now ≤ suc kept → asked + kept * d ≤ suc was * d → asked + now * d ≤ suc (suc was) * d
+pays_for_one asked kept now was d more h = omega (arith, h, mul-le-mul_right d more, suc-mul kept d, suc-mul (suc was) d)
 
 -- what fewer entries pay, more do
 pub pays_for_fewer : (asked now left was d : ℕ) → left ≤ was → asked + now * d ≤ suc (suc left) * d → asked + now * d ≤ suc (suc was) * d

@@ -12,7 +12,6 @@ use Rattle.overlay_tree.specs.steps.Swept.{pair_at}
 use Rattle.overlay_intersections.specs.Looked.{count_twos, ranges_meet, x_ranges_meet}
 use Rattle.overlay_intersections.specs.Marks.{Placing}
 use Rattle.overlay_intersections.specs.MarkOf.{Mark}
-use Rattle.overlay_intersections.proofs.laws.marks.FoundMarks.{IsLooked}
 use Rattle.overlay_intersections.proofs.laws.marks.FoundEach.{IsWalked}
 use Rattle.overlay_geometry.proofs.laws.integers.Tests.{le-test, le-test_false}
 use Rattle.overlay_geometry.proofs.laws.geometry.Points.{ordered_x, starts_in_order}
@@ -67,13 +66,6 @@ none_past ps j s t o all hs d less =
     let ordered = subst (λ (ks : List Pair). AllByRecursion (λ u. IsTrue (is_ordered u)) ks) d (AllByRecursion-drop (λ u. IsTrue (is_ordered u)) j ps all) in
     none_counted s (drop j ps) (subst (λ (ks : List Pair). AllByRecursion (λ u. x_ranges_meet s u ≡ false) ks) (sym d) (x_ranges_meet-past s t hs ordered.0 less, all_past s t (drop (j + 1) ps) hs less here.0 ordered.1))
 
--- nothing is left at the end
-pub none_counted_left : (s : Pair) (ps : List Pair) (j : ℕ) → length ps ≤ j → count_by (x_ranges_meet s) (drop j ps) ≡ 0
-none_counted_left s [] zero le = refl
-none_counted_left s [] (suc j) le = refl
-none_counted_left s (p ∷ ps) zero le = absurd (omega arith)
-none_counted_left s (p ∷ ps) (suc j) le = none_counted_left s ps j (omega arith)
-
 -- ---- the walk over those that follow one
 
 -- those from the next one up to j, and what is left to count from j on, make up the whole
@@ -88,13 +80,6 @@ IsTold-more s t ps i j told d meets =
   where
     one_more : (w c d j : ℕ) → w ≡ j + c → c ≡ 1 + d → w ≡ j + 1 + d
     one_more w c d j e h = omega arith
-
--- where none is left, the whole is what lies between
-pub IsTold-end : (s : Pair) (ps : List Pair) (i old now j : ℕ) → IsTold s ps i j → count_by (x_ranges_meet s) (drop j ps) ≡ 0 → now ≡ min (old + (j - i - 1)) (2 ^ 128 - 1) → now ≡ min (old + count_by (x_ranges_meet s) (drop (i + 1) ps)) (2 ^ 128 - 1)
-IsTold-end s ps i old now j told none e = e ∙ ap (λ n. min (old + n) (2 ^ 128 - 1)) (all_between i j _ _ told none)
-  where
-    all_between : (i j w c : ℕ) → i + 1 + w ≡ j + c → c ≡ 0 → j - i - 1 ≡ w
-    all_between i j w c e h = omega arith
 
 -- ---- the walk over all
 
@@ -126,12 +111,6 @@ AreTold-end ps old now j told all = nothing_more now _ (2 ^ 128 - 1) told.fits (
     no_twos [] (suc j) le = refl
     no_twos (p ∷ ps) zero le = absurd (omega arith)
     no_twos (p ∷ ps) (suc j) le = no_twos ps j (omega arith)
-
--- where the walk over those that follow one stands: what it has found, that it has counted all so far, and that it goes to the end
-pub record IsWalking (placing : Placing) (i : ℕ) (s : Pair) (ps : List Pair) (old now : List Mark) (rounded : Bool) (count end j : ℕ) : Type 0 where
-  pub walk : IsLooked placing i s ps old now rounded j
-  pub told : IsTold s ps i j
-  pub to_end : end ≡ count
 
 -- where the walk over all stands
 pub record AreWalking (placing : Placing) (ps : List Pair) (marks : List Mark) (rounded : Bool) (before looked j : ℕ) : Type 0 where

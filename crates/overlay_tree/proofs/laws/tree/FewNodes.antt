@@ -1,23 +1,22 @@
 -- A look-up that passes over nodes one by one: what it has made of the first of them.
 use Rattle.std.proofs.Common.{◌≡◌, refl, sym, ap, ap₂, get_or, ◌∙◌, arith, add-one, append_assoc}
-use Rattle.std.specs.Prelude.{ℕ, zero, suc, ◌+◌, ◌-◌, ◌^◌, ◌<◌, ◌≤◌, ◌||◌, min, ℤ, Bool, false, List, [], ◌∷◌, ◌++◌, map, take, drop, length, count_by}
+use Rattle.std.specs.Prelude.{ℕ, zero, suc, ◌+◌, ◌<◌, ◌≤◌, ◌||◌, ℤ, Bool, false, List, [], ◌∷◌, ◌++◌, map, take, drop, length}
 use Rattle.std.specs.List.{list_any}
 use Rattle.std.proofs.lemmas.Bool.{or_parts}
 use Rattle.std.proofs.lemmas.List.{length-append, length-map, length-take-le, map-append, take-append-drop}
 use Rattle.std.proofs.Math.Bool.{or-false}
 use Rattle.std.proofs.Math.ListN.{set}
 use Rattle.std.proofs.lemmas.List.Folds.{list_any-append}
-use Rattle.overlay_tree.specs.steps.IntervalTree.{Entry, WholeQuery, is_taken_up, is_dropped, left_by, found}
+use Rattle.overlay_tree.specs.steps.IntervalTree.{Entry, WholeQuery, is_dropped, left_by, found}
 use Rattle.overlay_tree.specs.steps.NodeOf.{node_entry, node_of, tree_nodes, highest_of}
 use Rattle.overlay_tree.specs.declared.split.interval_tree.Node.{Node}
-use Rattle.overlay_tree.proofs.laws.tree.IntervalTrees.{kept, found-append, count_by-append}
+use Rattle.overlay_tree.proofs.laws.tree.IntervalTrees.{kept, found-append}
 use Rattle.overlay_tree.proofs.laws.tree.TreeCuts.{entries_in, entry_parts, length-entries}
 
 module _ {I : Type 0} (whole : I → ℤ) where
-  pub record IsPassing (q : WholeQuery) (old now : List (Node I)) (place : ℕ) (first indexes : List ℕ) (m n : ℕ) (d : Bool) : Type 0 where
+  pub record IsPassing (q : WholeQuery) (old now : List (Node I)) (place : ℕ) (first indexes : List ℕ) (d : Bool) : Type 0 where
     pub left : entries_in whole now ≡ map (left_by q) (take place (entries_in whole old)) ++ drop place (entries_in whole old)
     pub found_in : indexes ≡ first ++ found q (take place (entries_in whole old))
-    pub looked_at : n ≡ min (m + count_by (is_taken_up q) (take place (entries_in whole old))) (2 ^ 128 - 1)
     pub dropped_in : d ≡ list_any (is_dropped q) (take place (entries_in whole old))
     pub same : d ≡ false → tree_nodes whole now ≡ tree_nodes whole old
 
@@ -47,7 +46,7 @@ module _ {I : Type 0} (whole : I → ℤ) where
   length-passed : (q : WholeQuery) (es : List Entry) (i : ℕ) → i ≤ length es → length (map (left_by q) (take i es)) ≡ i
   length-passed q es i h = length-map (take i es) (left_by q) ∙ length-take-le i es h
 
-  module _ (q : WholeQuery) (old now : List (Node I)) (place : ℕ) (first indexes : List ℕ) (m n : ℕ) (d : Bool) (s : IsPassing q old now place first indexes m n d) where
+  module _ (q : WholeQuery) (old now : List (Node I)) (place : ℕ) (first indexes : List ℕ) (d : Bool) (s : IsPassing q old now place first indexes d) where
     same_count : length now ≡ length old
     same_count =
         let whole_list = ap (λ l. length l) s.left in
@@ -59,10 +58,10 @@ module _ {I : Type 0} (whole : I → ℤ) where
         let there = length-entries whole old in
         omega (arith, whole_list, parts, front, all, split, here, there)
 
-    pub passes : place < length old → (more : List ℕ) (k : ℕ) (b : Bool) (node node' : Node I) → node ≡ get_or now place node → node_entry whole node' ≡ left_by q (node_entry whole node) → node'.greatest ≡ node.greatest →
-        more ≡ indexes ++ found q (node_entry whole node ∷ []) → k ≡ min (n + count_by (is_taken_up q) (node_entry whole node ∷ [])) (2 ^ 128 - 1) → b ≡ is_dropped q (node_entry whole node) →
-        IsPassing q old (set now place node') (place + 1) first more m k (d || b)
-    passes h more k b node node' at entry greatest found_more looked dropped =
+    pub passes : place < length old → (more : List ℕ) (b : Bool) (node node' : Node I) → node ≡ get_or now place node → node_entry whole node' ≡ left_by q (node_entry whole node) → node'.greatest ≡ node.greatest →
+        more ≡ indexes ++ found q (node_entry whole node ∷ []) → b ≡ is_dropped q (node_entry whole node) →
+        IsPassing q old (set now place node') (place + 1) first more (d || b)
+    passes h more b node node' at entry greatest found_more dropped =
         let es : List Entry = entries_in whole old in
         let inside : place < length es = omega (arith, h, length-entries whole old) in
         let u = take_one es place inside in
@@ -82,7 +81,6 @@ module _ {I : Type 0} (whole : I → ℤ) where
               ∙ sym (append_assoc (map (left_by q) (take place es)) (left_by q (node_entry whole node) ∷ []) (drop (place + 1) es))
               ∙ ap (λ l. l ++ drop (place + 1) es) (sym (ap (map (left_by q)) one ∙ map-append (left_by q) (take place es) (node_entry whole node ∷ [])));
           found_in = found_more ∙ ap (λ l. l ++ found q (node_entry whole node ∷ [])) s.found_in ∙ append_assoc first (found q (take place es)) (found q (node_entry whole node ∷ [])) ∙ ap (λ l. first ++ l) (sym (ap (found q) one ∙ found-append q (take place es) (node_entry whole node ∷ [])));
-          looked_at = let c = ap (count_by (is_taken_up q)) one ∙ count_by-append (is_taken_up q) (take place es) (node_entry whole node ∷ []) in omega (arith, looked, s.looked_at, c);
           dropped_in = ap₂ (λ x y. x || y) s.dropped_in (dropped ∙ sym (or-false _)) ∙ sym (ap (list_any (is_dropped q)) one ∙ list_any-append (is_dropped q) (take place es) (node_entry whole node ∷ []));
           same = λ none.
               let both = or_parts d b none in

@@ -14,7 +14,7 @@ use Rattle.overlay_geometry.proofs.laws.lists.Keys.{IsInOrder}
 use Rattle.overlay_geometry.proofs.laws.geometry.Points.{ordered_x}
 use Rattle.overlay_geometry.proofs.laws.lists.Lists.{AllByRecursion-weaker, AllByRecursion-both, sum_by-map}
 use Rattle.overlay_tree.specs.steps.IntervalTree.{Entry, WholeQuery, is_at_heights, is_taken_up, is_found, is_dropped, left_by, inserted}
-use Rattle.overlay_tree.specs.steps.Swept.{few, nowhere, pair_at, entry_at, unswept}
+use Rattle.overlay_tree.specs.steps.Swept.{nowhere, pair_at, entry_at, unswept}
 use Rattle.overlay_intersections.specs.Looked.{count_twos, ranges_meet, boxes_meet, tree_looks}
 use Rattle.overlay_tree.proofs.laws.tree.IntervalTrees.{count_by-append}
 use Rattle.overlay_tree.specs.steps.TreeSweep.{unlive, Gone, IsSwept, query_at, live_count, IsCounted}
@@ -258,7 +258,7 @@ IsCounted-start ps es old fits dead =
     unchanged m w h = omega arith
 
 -- a look-up takes up what it finds or drops, and maybe a few more
-pub IsCounted-more : (ps : List Pair) (es : List Entry) (j old now next extra : ℕ) → IsSwept ps es j → IsInOrder pair_cmp ps → AllByRecursion (λ s. IsTrue (is_ordered s)) ps → j < length ps → IsCounted ps es j old now → extra < few →
+pub IsCounted-more : (ps : List Pair) (es : List Entry) (j old now next extra : ℕ) → IsSwept ps es j → IsInOrder pair_cmp ps → AllByRecursion (λ s. IsTrue (is_ordered s)) ps → j < length ps → IsCounted ps es j old now → extra ≤ 47 + 8 * count_by (is_taken_up (query_at ps j)) es →
     next ≡ min (now + (count_by (is_taken_up (query_at ps j)) es + extra)) (2 ^ 128 - 1) → IsCounted ps (map (inserted j) (map (left_by (query_at ps j)) es)) (j + 1) old next
 IsCounted-more ps es j old now next extra swept order ordered w counted less h =
     let q = query_at ps j in
@@ -274,7 +274,10 @@ IsCounted-more ps es j old now next extra swept order ordered w counted less h =
     let gone : taken + extra ≡ found + ((live - left) + extra) = difference taken left found live extra balance fewer in
     record {
       others = counted.others + ((live - left) + extra);
-      most = let most = counted.most in kept_few counted.others live left (live_count (map (inserted j) (map (left_by q) es))) extra j fewer most one less;
+      most =
+          let most = counted.most in
+          let pairs_now : count_twos boxes_meet (take (j + 1) ps) ≡ count_twos boxes_meet (take j ps) + found = twos ∙ ap (λ (n : ℕ). count_twos boxes_meet (take j ps) + n) (sym all) in
+          kept_few counted.others live left (live_count (map (inserted j) (map (left_by q) es))) extra j taken found (count_twos boxes_meet (take j ps)) (count_twos boxes_meet (take (j + 1) ps)) balance fewer most one less pairs_now;
       is = h ∙ ap (λ (n : ℕ). min (n + (taken + extra)) (2 ^ 128 - 1)) counted.is
           ∙ twice old (count_twos boxes_meet (take j ps)) counted.others (taken + extra) found ((live - left) + extra) (count_twos boxes_meet (take (j + 1) ps)) (2 ^ 128 - 1) gone (twos ∙ ap (λ (n : ℕ). count_twos boxes_meet (take j ps) + n) (sym all));
     }
@@ -282,8 +285,8 @@ IsCounted-more ps es j old now next extra swept order ordered w counted less h =
     difference : (t l f v x : ℕ) → t + l ≡ f + v → l ≤ v → t + x ≡ f + ((v - l) + x)
     difference t l f v x e h = omega arith
 
-    kept_few : (d v l n x j : ℕ) → l ≤ v → d + v ≤ 48 * j → n ≤ l + 1 → x < 48 → (d + ((v - l) + x)) + n ≤ 48 * (j + 1)
-    kept_few d v l n x j h k m i = omega arith
+    kept_few : (d v l n x j t f c c' : ℕ) → t + l ≡ f + v → l ≤ v → d + 9 * v ≤ 56 * j + 8 * c → n ≤ l + 1 → x ≤ 47 + 8 * t → c' ≡ c + f → (d + ((v - l) + x)) + 9 * n ≤ 56 * (j + 1) + 8 * c'
+    kept_few d v l n x j t f c c' b h k m i e = omega arith
 
     twice : (o c d t f g c' w : ℕ) → t ≡ f + g → c' ≡ c + f → min (min (o + (c + d)) w + t) w ≡ min (o + (c' + (d + g))) w
     twice o c d t f g c' w e k = omega arith
@@ -302,7 +305,7 @@ IsCounted-more ps es j old now next extra swept order ordered w counted less h =
         fewer_one true false = omega arith
         fewer_one false d = omega arith
 
--- each two whose boxes meet, and no more than 48 looks for each segment beside
+-- each two whose boxes meet, and no more than 64 looks for each of these and each segment
 pub record AreLooks (ps : List Pair) (old now : ℕ) : Type 0 where
   pub least : min (old + count_twos boxes_meet ps) (2 ^ 128 - 1) ≤ now
   pub most : now ≤ old + tree_looks ps
@@ -315,7 +318,7 @@ IsCounted-end ps es j old now e counted =
     let most = counted.most in
     record {
       least = at_least old (count_twos boxes_meet ps) _ counted.others now (2 ^ 128 - 1) same is;
-      most = at_most old (count_twos boxes_meet ps) _ counted.others now (48 * length ps) (2 ^ 128 - 1) same is (few_enough counted.others (live_count es) j (length ps) most e);
+      most = at_most old (count_twos boxes_meet ps) _ counted.others now (64 * (length ps + count_twos boxes_meet ps)) (2 ^ 128 - 1) same is (few_enough counted.others (live_count es) j (length ps) (count_twos boxes_meet ps) _ same most e);
     }
   where
     take_all : (xs : List Pair) (n : ℕ) → length xs ≡ n → take n xs ≡ xs
@@ -327,8 +330,8 @@ IsCounted-end ps es j old now e counted =
     at_least : (o c c' d n w : ℕ) → c' ≡ c → n ≡ min (o + (c' + d)) w → min (o + c) w ≤ n
     at_least o c c' d n w e h = omega arith
 
-    at_most : (o c c' d n l w : ℕ) → c' ≡ c → n ≡ min (o + (c' + d)) w → d ≤ l → n ≤ o + (l + c)
+    at_most : (o c c' d n l w : ℕ) → c' ≡ c → n ≡ min (o + (c' + d)) w → c + d ≤ l → n ≤ o + l
     at_most o c c' d n l w e h k = omega arith
 
-    few_enough : (d v j l : ℕ) → d + v ≤ 48 * j → l ≡ j → d ≤ 48 * l
-    few_enough d v j l h e = omega arith
+    few_enough : (d v j l c c' : ℕ) → c' ≡ c → d + 9 * v ≤ 56 * j + 8 * c' → l ≡ j → c + d ≤ 64 * (l + c)
+    few_enough d v j l c c' e h f = omega arith

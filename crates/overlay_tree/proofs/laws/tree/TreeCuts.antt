@@ -1,16 +1,17 @@
 -- A tree in a list of nodes, cut at its middle; and put together again after a look-up or an insertion.
-use Rattle.std.proofs.Common.{◌≡◌, refl, sym, append_assoc, append-nil, Bool, true, false, ap, ap₂, subst, ◌∙◌, ℕ, ◌+◌, ◌≤◌, ◌/◌, ◌==◌, ◌<◌, suc, arith, List, [], ◌∷◌, ◌++◌, map, length, length-append, zero, take, drop, get_or}
-use Rattle.std.specs.Prelude.{ℤ, Option, Some, int_lt, count_by, min, ◌-◌, ◌^◌, ◌||◌}
+use Rattle.std.proofs.Common.{◌≡◌, refl, sym, append_assoc, append-nil, Bool, true, false, ap, ap₂, subst, ◌∙◌, ℕ, ◌+◌, ◌≤◌, ◌/◌, ◌==◌, ◌<◌, suc, arith, List, [], ◌∷◌, ◌++◌, map, length, length-append, zero, take, drop, get_or, inl, inr}
+use Rattle.std.specs.Prelude.{ℤ, Option, Some, int_lt, count_by, min, ◌-◌, ◌^◌, ◌||◌, ◌⊎◌}
 use Rattle.std.specs.List.{AllByRecursion, list_any}
 use Rattle.std.proofs.lemmas.List.{map-append, length-map}
-use Rattle.overlay_tree.specs.steps.IntervalTree.{Entry, TreeNode, entries, AreRising, further, greatest_height, IsSummed, WholeQuery, is_taken_up, is_dropped, left_by, found, inserted, IsAt, IsUpTo}
+use Rattle.overlay_tree.specs.steps.IntervalTree.{Entry, TreeNode, entries, AreRising, further, greatest_height, IsSummed, WholeQuery, HasLooked, is_taken_up, is_dropped, left_by, found, inserted, IsAt, IsUpTo}
 use Rattle.overlay_tree.specs.steps.NodeOf.{node_entry, node_of, tree_nodes, highest_of}
 use Rattle.overlay_tree.specs.declared.split.interval_tree.Node.{Node}
 use Rattle.overlay_intersections.proofs.laws.marks.FoundMarks.{or_false, or_assoc}
-use Rattle.overlay_tree.proofs.laws.tree.IntervalTrees.{IsRooted, IsRooted-from, IsSummed-from, entries-parts, AreParted, AreParted-from, none_above, none_dropped, none_found, found-append, count_by-append, is_before, none_inserted, none_after, none_before, none_other_after, none_other_before, not_here, none_counted, none_is_dropped, all_kept, is_of, greatest_height-inserted, none_of}
+use Rattle.overlay_tree.proofs.laws.tree.IntervalTrees.{IsRooted, IsRooted-from, IsSummed-from, entries-parts, AreParted, AreParted-from, none_above, none_dropped, none_found, found-append, is_before, none_inserted, none_after, none_before, none_other_after, none_other_before, not_here, none_counted, none_is_dropped, all_kept, is_of, greatest_height-inserted, none_of}
 use Rattle.std.proofs.lemmas.Bool.{or_right, eq-eqb, eqb-true, false_from_ne_true}
 use Rattle.std.proofs.lemmas.List.Folds.{list_any-append}
 use Rattle.overlay_geometry.proofs.laws.lists.Lists.{AllByRecursion_left, AllByRecursion_right}
+use Rattle.overlay_tree.proofs.laws.tree.Looks.{looked_first, looked_both, within_reach_before}
 
 -- sums that stop at a limit
 pub none_more : (m c w : ℕ) → m ≤ w → c ≡ 0 → m ≡ min (m + c) w
@@ -121,7 +122,8 @@ module _ {I : Type 0} (whole : I → ℤ) where
     pub right_left : entries_in s' ≡ map (left_by q) (entries_in s)
     pub summed : IsSummed (tree_nodes whole s')
     pub found_in : after ≡ before ++ found q (node_entry whole r ∷ entries_in s)
-    pub looked_at : n ≡ min (m + count_by (is_taken_up q) (node_entry whole r ∷ entries_in s)) (2 ^ 128 - 1)
+    pub looked_at : HasLooked q (node_entry whole r ∷ entries_in s) m n
+    pub far : (int_lt q.high (whole r.low) ≡ false) ⊎ (looked_at.others ≡ 0)
     pub dropped_in : d' ≡ (d || list_any (is_dropped q) (node_entry whole r ∷ entries_in s))
 
   -- they begin above the look-up
@@ -136,29 +138,35 @@ module _ {I : Type 0} (whole : I → ℤ) where
         right_left = cc;
         summed = cut.rooted.right_summed;
         found_in = sym (append-nil before) ∙ ap (λ (ns : List ℕ). before ++ ns) (sym (none_found q (node_entry whole r ∷ entries_in s) off));
-        looked_at = none_more m _ (2 ^ 128 - 1) fits (none_counted q (node_entry whole r ∷ entries_in s) off);
+        looked_at = record {
+          others = 0;
+          is = none_more m _ (2 ^ 128 - 1) fits (ap (λ (n : ℕ). n + 0) (none_counted q (node_entry whole r ∷ entries_in s) off));
+          most = omega arith;
+          reached = λ within. omega arith;
+          within = let none = none_counted q (node_entry whole r ∷ entries_in s) off in omega (arith, none);
+        };
+        far = inr refl;
         dropped_in = sym (ap (λ (b : Bool). d || b) (none_is_dropped q (node_entry whole r ∷ entries_in s) off) ∙ sym (or_false d));
       }
 
   -- they are looked at
   pub IsDone-both : (q : WholeQuery) (r : Node I) (s : List (Node I)) (r' : Node I) (s' : List (Node I)) (before between after : List ℕ) (m k n : ℕ) (d e : Bool) (d' : Bool) → node_entry whole r' ≡ left_by q (node_entry whole r) → r'.greatest ≡ r.greatest → entries_in s' ≡ map (left_by q) (entries_in s) →
       IsSummed (tree_nodes whole s') → between ≡ before ++ found q (node_entry whole r ∷ []) → after ≡ between ++ found q (entries_in s) →
-      k ≡ min (m + count_by (is_taken_up q) (node_entry whole r ∷ [])) (2 ^ 128 - 1) → n ≡ min (k + count_by (is_taken_up q) (entries_in s)) (2 ^ 128 - 1) →
+      k ≡ min (m + count_by (is_taken_up q) (node_entry whole r ∷ [])) (2 ^ 128 - 1) → HasLooked q (entries_in s) k n → int_lt q.high (whole r.low) ≡ false →
       e ≡ is_dropped q (node_entry whole r) → d' ≡ ((d || e) || list_any (is_dropped q) (entries_in s)) →
       IsDone q r s r' s' before after m n d d'
-  IsDone-both q r s r' s' before between after m k n d e d' e1 eg e2 h f1 f2 l1 l2 d1 d2 =
-      let sum = count_by-append (is_taken_up q) (node_entry whole r ∷ []) (entries_in s) in
-      record {
-        root_left = e1;
-        root_greatest = ap (highest_of whole) eg;
-        right_left = e2;
-        summed = h;
-        found_in =
-            f2 ∙ ap (λ (ns : List ℕ). ns ++ found q (entries_in s)) f1 ∙ append_assoc before (found q (node_entry whole r ∷ [])) (found q (entries_in s))
-            ∙ ap (λ (ns : List ℕ). before ++ ns) (sym (found-append q (node_entry whole r ∷ []) (entries_in s)));
-        looked_at = l2 ∙ ap (λ (i : ℕ). min (i + count_by (is_taken_up q) (entries_in s)) (2 ^ 128 - 1)) l1 ∙ twice m (count_by (is_taken_up q) (node_entry whole r ∷ [])) _ _ (2 ^ 128 - 1) sum;
-        dropped_in = d2 ∙ ap (λ (b : Bool). (d || b) || list_any (is_dropped q) (entries_in s)) d1 ∙ or_assoc d (is_dropped q (node_entry whole r)) (list_any (is_dropped q) (entries_in s));
-      }
+  IsDone-both q r s r' s' before between after m k n d e d' e1 eg e2 h f1 f2 l1 l2 near d1 d2 = record {
+    root_left = e1;
+    root_greatest = ap (highest_of whole) eg;
+    right_left = e2;
+    summed = h;
+    found_in =
+        f2 ∙ ap (λ (ns : List ℕ). ns ++ found q (entries_in s)) f1 ∙ append_assoc before (found q (node_entry whole r ∷ [])) (found q (entries_in s))
+        ∙ ap (λ (ns : List ℕ). before ++ ns) (sym (found-append q (node_entry whole r ∷ []) (entries_in s)));
+    looked_at = looked_first q (node_entry whole r) (entries_in s) m k n l1 l2;
+    far = inl near;
+    dropped_in = d2 ∙ ap (λ (b : Bool). (d || b) || list_any (is_dropped q) (entries_in s)) d1 ∙ or_assoc d (is_dropped q (node_entry whole r)) (list_any (is_dropped q) (entries_in s));
+  }
 
   -- the whole tree
   pub found_all : (q : WholeQuery) (nodes l : List (Node I)) (r : Node I) (s : List (Node I)) (r' : Node I) (s' : List (Node I)) (first before after : List ℕ) (m n : ℕ) (d d' : Bool) → IsCut nodes l r s → before ≡ first ++ found q (entries_in l) →
@@ -168,10 +176,11 @@ module _ {I : Type 0} (whole : I → ℤ) where
       ∙ ap (λ (ns : List ℕ). first ++ ns) (sym (ap (found q) cut.listed ∙ found-append q (entries_in l) (node_entry whole r ∷ entries_in s)))
 
   pub looked_all : (q : WholeQuery) (nodes l : List (Node I)) (r : Node I) (s : List (Node I)) (r' : Node I) (s' : List (Node I)) (before after : List ℕ) (k m n : ℕ) (d d' : Bool) → IsCut nodes l r s →
-      m ≡ min (k + count_by (is_taken_up q) (entries_in l)) (2 ^ 128 - 1) → IsDone q r s r' s' before after m n d d' → n ≡ min (k + count_by (is_taken_up q) (entries_in nodes)) (2 ^ 128 - 1)
+      HasLooked q (entries_in l) k m → IsDone q r s r' s' before after m n d d' → HasLooked q (entries_in nodes) k n
   looked_all q nodes l r s r' s' before after k m n d d' cut h done =
-      let sum = ap (count_by (is_taken_up q)) cut.listed ∙ count_by-append (is_taken_up q) (entries_in l) (node_entry whole r ∷ entries_in s) in
-      done.looked_at ∙ ap (λ (i : ℕ). min (i + count_by (is_taken_up q) (node_entry whole r ∷ entries_in s)) (2 ^ 128 - 1)) h ∙ twice k (count_by (is_taken_up q) (entries_in l)) _ _ (2 ^ 128 - 1) sum
+      subst (λ es. HasLooked q es k n) (sym cut.listed)
+      (looked_both q (entries_in l) (node_entry whole r ∷ entries_in s) k m n h done.looked_at
+      (elim done.far [ inl near ↦ inl (within_reach_before q (node_entry whole r) (entries_in l) near cut.parted.before) | inr none ↦ inr none ]))
 
   pub dropped_all : (q : WholeQuery) (nodes l : List (Node I)) (r : Node I) (s : List (Node I)) (r' : Node I) (s' : List (Node I)) (before after : List ℕ) (m n : ℕ) (d d' : Bool) → IsCut nodes l r s →
       d ≡ list_any (is_dropped q) (entries_in l) → IsDone q r s r' s' before after m n d d' → d' ≡ list_any (is_dropped q) (entries_in nodes)

@@ -1,5 +1,5 @@
 -- The finder over a tree: one segment more, in the tree or through a few entries, and what it has found at the end.
-use Rattle.std.proofs.Common.{◌≡◌, refl, sym, ap, ap₂, subst, append-nil, ◌∷◌, not, ◌∙◌, ℕ, ◌+◌, ◌-◌, true, ◌<◌, ◌≤◌, Bool, false, inl, inr, ◌==◌, arith, IsTrue, List, [], ◌++◌, map, filter, length, length-append, IsPermutation}
+use Rattle.std.proofs.Common.{◌≡◌, refl, sym, ap, ap₂, subst, append-nil, ◌∷◌, not, ◌∙◌, ℕ, ◌+◌, ◌*◌, ◌-◌, true, ◌<◌, ◌≤◌, Bool, false, inl, inr, ◌==◌, arith, IsTrue, List, [], ◌++◌, map, filter, length, length-append, IsPermutation}
 use Rattle.std.specs.Prelude.{count_by, min, ◌^◌, int_lt}
 use Rattle.std.specs.List.{AllByRecursion, IsDistinct, list_any, range_with_len}
 use Rattle.std.proofs.lemmas.List.Sorted.{IsPermutation-refl, length_permutation}
@@ -7,13 +7,12 @@ use Rattle.std.proofs.lemmas.Bool.{eq-eqb, both_ways, and_parts, not-true, and_r
 use Rattle.std.proofs.lemmas.List.{map-append, length-map}
 use Rattle.std.proofs.lemmas.List.FromFn.{length-map-range_with_len}
 use Rattle.std.proofs.lemmas.List.Sums.{count_by-le-length}
-use Rattle.std.proofs.Math.Nat.{add-zero}
 use Rattle.overlay_geometry.specs.Points.{Pair, pair_cmp, is_ordered}
 use Rattle.overlay_geometry.specs.Ranges.{WholeRange, heights}
 use Rattle.overlay_geometry.proofs.laws.lists.Keys.{IsInOrder}
 use Rattle.overlay_geometry.proofs.laws.lists.Lists.{Has, AllByRecursion-at, AllByRecursion-map, AllByRecursion-weaker, AllByRecursion_left, AllByRecursion-filter, list_any-from_Has, list_any-from_none}
 use Rattle.overlay_geometry.proofs.laws.lists.Elements.{Has-append_out}
-use Rattle.overlay_tree.specs.steps.IntervalTree.{Entry, TreeNode, entries, AreRising, IsSummed, WholeQuery, is_taken_up, is_dropped, found, left_by, inserted, stays_at, IsAt, IsUpTo}
+use Rattle.overlay_tree.specs.steps.IntervalTree.{Entry, TreeNode, entries, AreRising, IsSummed, WholeQuery, HasLooked, is_taken_up, is_dropped, found, left_by, inserted, stays_at, IsAt, IsUpTo}
 use Rattle.overlay_tree.proofs.laws.tree.IntervalTrees.{is_of, all_kept, none_inserted}
 use Rattle.overlay_tree.specs.steps.Swept.{few, pair_at, entry_at, entries_between, unswept}
 use Rattle.overlay_tree.specs.steps.TreeSweep.{unlive, query_at, IsSwept, IsCounted, away, AreUnderWay, IsUnderWay, AreFoundBefore}
@@ -106,7 +105,7 @@ AreFoundBefore-from ps es old now j until way ordered w =
 
 -- the sweep goes on
 pub AreUnderWay-more : (ps : List Pair) (es : List Entry) (old m n extra j until : ℕ) → AreUnderWay ps es old m j until → IsInOrder pair_cmp ps → AllByRecursion (λ s. IsTrue (is_ordered s)) ps → j < until →
-    extra < few → n ≡ min (m + (count_by (is_taken_up (query_at ps j)) es + extra)) (2 ^ 128 - 1) → AreUnderWay ps (map (inserted j) (map (left_by (query_at ps j)) es)) old n (j + 1) until
+    extra ≤ 47 + 8 * count_by (is_taken_up (query_at ps j)) es → n ≡ min (m + (count_by (is_taken_up (query_at ps j)) es + extra)) (2 ^ 128 - 1) → AreUnderWay ps (map (inserted j) (map (left_by (query_at ps j)) es)) old n (j + 1) until
 AreUnderWay-more ps es old m n extra j until way order ordered lt less h =
     let others = away ps way.gone until in
     let asleep = away_asleep ps way.gone until way.asleep in
@@ -122,7 +121,7 @@ AreUnderWay-more ps es old m n extra j until way order ordered lt less h =
       behind = AllByRecursion-weaker (λ e. e.index < j) (λ e. e.index < j + 1) (λ e k. omega arith) way.gone way.behind;
       within = AllByRecursion-map (λ e. e.index < until) (inserted j) (map (left_by p) es) (AllByRecursion-map (λ e. e.index < until) (left_by p) es way.within);
       swept = subst (λ (xs : List Entry). IsSwept ps xs (j + 1)) (sym same) (IsSwept-more ps (es ++ others) j way.swept order w);
-      counted = subst (λ (xs : List Entry). IsCounted ps xs (j + 1) old n) (sym same) (IsCounted-more ps (es ++ others) j old m n extra way.swept order ordered w way.counted less taken);
+      counted = subst (λ (xs : List Entry). IsCounted ps xs (j + 1) old n) (sym same) (IsCounted-more ps (es ++ others) j old m n extra way.swept order ordered w way.counted (subst (λ (k : ℕ). extra ≤ 47 + 8 * k) (sym (count_with p es others asleep)) less) taken);
       reached = omega arith;
       inside = way.inside;
     }
@@ -130,14 +129,14 @@ AreUnderWay-more ps es old m n extra j until way order ordered lt less h =
 -- in the tree
 pub IsUnderWay-more : (ps : List Pair) (nodes between next : List TreeNode) (old m n j until : ℕ) (q : WholeQuery) → IsUnderWay ps nodes old m j until →
     IsInOrder pair_cmp ps → AllByRecursion (λ s. IsTrue (is_ordered s)) ps → j < until → q ≡ query_at ps j →
-    entries between ≡ map (left_by q) (entries nodes) → n ≡ min (m + count_by (is_taken_up q) (entries nodes)) (2 ^ 128 - 1) →
+    entries between ≡ map (left_by q) (entries nodes) → HasLooked q (entries nodes) m n →
     entries next ≡ map (inserted j) (entries between) → IsSummed next → IsUnderWay ps next old n (j + 1) until
 IsUnderWay-more ps nodes between next old m n j until q way order ordered lt is left h put summed =
     let es = entries nodes in
     let p = query_at ps j in
     let own : entries next ≡ map (inserted j) (map (left_by p) es) = put ∙ ap (map (inserted j)) (left ∙ ap (λ (p : WholeQuery). map (left_by p) es) is) in
-    let looks : n ≡ min (m + (count_by (is_taken_up p) es + 0)) (2 ^ 128 - 1) = h ∙ ap (λ (p : WholeQuery). min (m + count_by (is_taken_up p) es) (2 ^ 128 - 1)) is ∙ ap (λ (k : ℕ). min (m + k) (2 ^ 128 - 1)) (sym (add-zero (count_by (is_taken_up p) es))) in
-    let more = AreUnderWay-more ps es old m n 0 j until way.way order ordered lt (omega arith) looks in
+    let looked : HasLooked p es m n = subst (λ (p : WholeQuery). HasLooked p es m n) is h in
+    let more = AreUnderWay-more ps es old m n looked.others j until way.way order ordered lt (let most = looked.most in omega (arith, most)) looked.is in
     record {
       way = subst (λ (l : List Entry). AreUnderWay ps l old n (j + 1) until) (sym own) more;
       rising = λ l. subst AreRising (sym own) (rising_map (inserted j) (λ e. refl) (map (left_by p) es) (rising_map (left_by p) (λ e. refl) es (way.rising lt)));

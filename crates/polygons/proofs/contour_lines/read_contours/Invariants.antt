@@ -1,9 +1,8 @@
-use Rattle.std.proofs.Common.{◌≡◌, [], List}
+use Rattle.std.proofs.Common.{[], List}
 use Rattle.std.specs.Option.{option_map_or}
-use Rattle.overlay_contours.specs.ContoursOf.{contours_of}
 use Rattle.overlay_text.specs.Text.{lines_of}
 use Rattle.overlay_text.proofs.TextSteps.{Taken}
-use Rattle.polygons.specs.ContourText.{GivenContour, AsksForContour, subject_of, clip_of}
+use Rattle.polygons.specs.ContourText.{GivenContour, AsksForContour, Keeps}
 use Rattle.polygons.proofs.contour_lines.read_contours.Given as goal
 
 abbrev pub invariant-loop-index : goal.invariant-loop-index
@@ -11,4 +10,4 @@ invariant-loop-index g l =
     let whole = g.I.OverlayInt.whole in
     (given : List GivenContour)
     × Taken (AsksForContour (whole g.I.OverlayInt.MIN_COORD) (whole g.I.OverlayInt.MAX_COORD)) (lines_of l.fn.bytes) (option_map_or (λ rest. lines_of rest.now) l.index-iterator.iter.rest []) l.index-iterator.count given
-    × (contours_of whole l.subject.items ≡ subject_of given) × (contours_of whole l.clip.items ≡ clip_of given)
+    × Keeps l.overlay given

@@ -55,4 +55,4 @@ returns-in_err-run_with_fill_rule-clause-out_of_range g c =
 pub returns-clause-compared : goal.returns-clause-compared
 returns-clause-compared g c =
     let within : ℕ → Type 0 = λ n. IsSweepWithin (list_fills c.args.solver.now.strategy (length c.args.segments.now)) n (run_asked c.run_with_fill_rule.new.self) in
-    (subst within (sym (length-map c.args.segments.now segment_of)) c.in_ok-run_with_fill_rule.ensures.compared, c.in_ok-run_with_fill_rule.ensures.total (λ h v. refl))
+    subst within (sym (length-map c.args.segments.now segment_of)) c.in_ok-run_with_fill_rule.ensures.compared

@@ -1,8 +1,7 @@
-use Rattle.std.proofs.Common.{◌≡◌, ◌+◌, sym, ap, ap₂, subst, ◌∙◌, drop, List, ℕ}
+use Rattle.std.proofs.Common.{◌≡◌, ◌+◌, sym, ap, ap₂, subst, ◌∙◌, drop, List}
 use Rattle.std.specs.Prelude.{ℤ, count_by, int_le}
 use Rattle.overlay_grid.specs.FragmentOf.{KeptFragment, fragment_of, fragments_of, least_along, greatest_along}
 use Rattle.overlay_grid.specs.declared.split.fragment.Fragment.{Fragment as CodeFragment}
-use Rattle.overlay_grid.specs.steps.FragmentFinder.{is_reached}
 use Rattle.overlay_grid.proofs.laws.grid.FoundFragments.{fragments-next, fragments-none}
 use Rattle.overlay_grid.proofs.laws.grid.GridReach.{IsReaching, IsReaching-start, IsReaching-more, IsReaching-end, on_axis-of, rest_of, sorted_rest}
 use Rattle.overlay_grid.proofs.split.reach.count_in_group.Goals as goal

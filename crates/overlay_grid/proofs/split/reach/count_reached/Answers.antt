@@ -1,7 +1,7 @@
 use Rattle.std.proofs.Common.{◌-◌, ◌^◌, min, sym, ap, subst, ◌∙◌}
 use Rattle.overlay_grid.specs.FragmentOf.{fragments_of, IsSortedAlong}
 use Rattle.overlay_grid.specs.GroupsOf.{group_in}
-use Rattle.overlay_grid.specs.steps.FragmentFinder.{looks_of_group}
+use Rattle.overlay_grid.specs.ColumnLooks.{looks_of_group}
 use Rattle.overlay_grid.proofs.laws.grid.GridGroups.{group_in-at}
 use Rattle.overlay_grid.proofs.laws.grid.GridReach.{all_more}
 use Rattle.overlay_grid.proofs.split.reach.count_reached.Goals as goal

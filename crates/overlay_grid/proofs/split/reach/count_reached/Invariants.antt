@@ -1,6 +1,6 @@
 use Rattle.std.proofs.Common.{◌≡◌, ◌-◌, ◌^◌, min}
 use Rattle.overlay_grid.specs.GroupsOf.{group_in}
-use Rattle.overlay_grid.specs.steps.FragmentFinder.{looks_of_groups}
+use Rattle.overlay_grid.specs.ColumnLooks.{looks_of_groups}
 use Rattle.overlay_grid.proofs.split.reach.count_reached.Given as goal
 
 abbrev pub invariant-loop-column : goal.invariant-loop-column

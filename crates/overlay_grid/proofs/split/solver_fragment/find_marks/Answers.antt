@@ -12,7 +12,8 @@ use Rattle.overlay_intersections.specs.MarkOf.{Mark, marks_of}
 use Rattle.overlay_grid.specs.Grid.{Layout, pos_of, group_count, IsInside}
 use Rattle.overlay_grid.specs.FragmentOf.{KeptFragment, IsSortedAlong}
 use Rattle.overlay_grid.specs.GroupsOf.{group_in, group_of, grid_of}
-use Rattle.overlay_grid.specs.steps.FragmentFinder.{HoldSame, is_ready, kept_group, marks_of_group, is_group_rounded, looks_of_groups, all_twos_in_height, marks_of_border, looks_of_border}
+use Rattle.overlay_grid.specs.ColumnLooks.{looks_of_groups, all_twos_in_height}
+use Rattle.overlay_grid.specs.steps.FragmentFinder.{HoldSame, is_ready, kept_group, marks_of_group, is_group_rounded, marks_of_border, looks_of_border}
 use Rattle.overlay_grid.proofs.laws.grid.GridFound.{all_pairs, all_ready, sound, complete, rounded_is}
 use Rattle.overlay_intersections.proofs.laws.marks.LineMarks.{AreMarks-from_elements}
 use Rattle.overlay_grid.proofs.laws.grid.GridLooks.{within_bound}

@@ -5,7 +5,8 @@ use Rattle.overlay_intersections.specs.PlacingOf.{placing_of}
 use Rattle.overlay_intersections.specs.MarkOf.{marks_of}
 use Rattle.overlay_grid.specs.FragmentOf.{KeptFragment, fragments_of, IsSortedAlong}
 use Rattle.overlay_grid.specs.GroupsOf.{group_in}
-use Rattle.overlay_grid.specs.steps.FragmentFinder.{is_ready, marks_of_group, is_group_rounded, looks_of_group}
+use Rattle.overlay_grid.specs.ColumnLooks.{looks_of_group}
+use Rattle.overlay_grid.specs.steps.FragmentFinder.{is_ready, marks_of_group, is_group_rounded}
 use Rattle.overlay_intersections.proofs.laws.marks.FoundMarks.{or_true, or_false}
 use Rattle.overlay_grid.proofs.laws.grid.GridGroups.{group_in-at}
 use Rattle.overlay_grid.proofs.laws.grid.GridFills.{over-more, over-end}

@@ -1,7 +1,8 @@
 use Rattle.overlay_intersections.specs.PlacingOf.{placing_of}
 use Rattle.overlay_intersections.specs.MarkOf.{marks_of}
 use Rattle.overlay_grid.specs.GroupsOf.{group_in}
-use Rattle.overlay_grid.specs.steps.FragmentFinder.{marks_of_group, is_group_rounded, looks_of_group}
+use Rattle.overlay_grid.specs.ColumnLooks.{looks_of_group}
+use Rattle.overlay_grid.specs.steps.FragmentFinder.{marks_of_group, is_group_rounded}
 use Rattle.overlay_grid.proofs.laws.grid.GridFills.{IsOver}
 use Rattle.overlay_grid.proofs.split.solver_fragment.mark_columns.Given as goal
 

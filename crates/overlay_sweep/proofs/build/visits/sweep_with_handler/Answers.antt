@@ -1,17 +1,16 @@
 use Rattle.std.proofs.Common.{◌≡◌, ◌∙◌, ◌+◌, ◌*◌, ◌<◌, ◌≤◌, ap, ap₂, sym, subst, arith, length}
 use Rattle.std.specs.Prelude.{◌≤ℤ◌}
-use Rattle.std.proofs.lemmas.List.{length-map, take_all}
+use Rattle.std.proofs.lemmas.List.{length-map}
 use Rattle.overlay_geometry.specs.Points.{Point}
-use Rattle.std.specs.Prelude.{ℤ, true, false, ◌-◌, ◌^◌, min, List, ◌∷◌, take, Some, None}
+use Rattle.std.specs.Prelude.{ℤ, true, false, List, ◌∷◌}
 use Rattle.std.specs.ControlFlow.{break_value}
 use Rattle.overlay_base.specs.Windings.{add, weight, is_count_in_range}
-use Rattle.overlay_base.specs.Segments.{WholeSegment}
 use Rattle.overlay_base.specs.EdgeData.{DataSegment, without_data}
 use Rattle.overlay_geometry.specs.PairOf.{pair_of}
 use Rattle.overlay_base.specs.Planar.{is_arranged}
 use Rattle.overlay_base.specs.declared.segm.segment.Segment.{Segment}
 use Rattle.overlay_geometry.specs.PointOf.{point_of}
-use Rattle.overlay_base.specs.SegmentOf.{ends_of as pair_of_segment, segment_of, segments_of, data_segment_of, data_segments_of, winding_of}
+use Rattle.overlay_base.specs.SegmentOf.{segment_of, segments_of, data_segment_of, data_segments_of, winding_of}
 use Rattle.overlay_sweep.specs.Sweep.{visits, visited, visits_leave_range}
 use Rattle.overlay_sweep.specs.Live.{sum_below}
 use Rattle.overlay_sweep.specs.Live.{HoldSameFrom, AreFreeAt}
@@ -22,8 +21,6 @@ use Rattle.overlay_sweep.proofs.laws.visits.Handling.{refused_as}
 use Rattle.overlay_sweep.proofs.laws.visits.Arrangements.{whole_arranged, usable_at, usable_item, start_is, segment_is, index_within}
 use Rattle.overlay_sweep.proofs.laws.visits.SweepStates.{start_at, before_first, block_at, free_at_start, enter, leave, finished, finished_in_range, amid_place, point_is_over, step, valid_from, free_here, answered_here, in_range_here, refused_here, visit_is}
 use Rattle.overlay_sweep.proofs.laws.visits.LookCosts.{ways_within, none_paid, look_paid, visit_paid, point_paid, sweep_paid}
-use Rattle.overlay_sweep.specs.Costs.{lasting_at, sweep_orders}
-use Rattle.overlay_sweep.proofs.laws.visits.LookTotals.{asked_same, none_asked, point_asked, visit_asked, block_asked}
 use Rattle.overlay_sweep.proofs.build.visits.sweep_with_handler.Goals as goal
 
 -- ---- the shared part: the segments with their data are those without it, and arranged
@@ -38,7 +35,7 @@ arranged_list least greatest list h = whole_arranged least greatest _ _ (same_li
 
 pub loop-index-init : goal.loop-index-init
 loop-index-init g c =
-    ((λ arranged. before_first g.H.FillHandler.handle_gives g.H.FillHandler.finalize_gives g.F.FillStrategy.rule (data_segments_of c.args.segments.now) arranged c.args.handler (g.S.LiveSegments.sums c.clear.new.self) (g.S.LiveSegments.may_go_on_at c.clear.new.self) c.clear.ensures.sums c.clear.ensures.time), c.requires.takes, omega arith, omega (arith, c.clear.ensures.held), λ d most. none_paid _ d c.clear.ensures.held, λ arranged. none_asked g.F.FillStrategy.rule (data_segments_of c.args.segments.now) arranged g.S.LiveSegments.asks (g.S.LiveSegments.sums c.clear.new.self) c.clear.ensures.sums)
+    ((λ arranged. before_first g.H.FillHandler.handle_gives g.H.FillHandler.finalize_gives g.F.FillStrategy.rule (data_segments_of c.args.segments.now) arranged c.args.handler (g.S.LiveSegments.sums c.clear.new.self) (g.S.LiveSegments.may_go_on_at c.clear.new.self) c.clear.ensures.sums c.clear.ensures.time), c.requires.takes, omega arith, omega (arith, c.clear.ensures.held), λ d most. none_paid _ d c.clear.ensures.held)
 
 pub collect_ways-requires-clause-in_range : goal.collect_ways-requires-clause-in_range
 collect_ways-requires-clause-in_range g c =
@@ -86,14 +83,6 @@ loop-way-init g c =
       omega arith,
       omega (arith, c.sum_below-sum.ensures.held, c.loop-index.invariant.3),
       (λ d most. look_paid c.loop-index.compared _ (g.S.LiveSegments.asked c.sum_below-sum.new.self) _ _ c.loop-index.index d (c.loop-index.invariant.4 d most) (omega (arith, c.saturating_add.ensures, c.compared.ensures)) (c.sum_below-sum.ensures.most (length c.args.segments.now) d (omega (arith, c.loop-index.invariant.2, c.loop-index.invariant.3)) most)),
-      (λ arranged.
-          let state = c.loop-index.invariant.0 arranged in
-          let block = block_at g.H.FillHandler.handle_gives g.H.FillHandler.finalize_gives g.F.FillStrategy.rule (data_segments_of c.args.segments.now) arranged c.args.handler (segments_of c.args.segments.now) (same_list c.args.segments.now) c.loop-index.index c.start_point_end-next.result order within state.boundary c.start_point_end-next.ensures.same
-          (λ d l. c.start_point_end-next.ensures.other d (subst (λ n. c.start_point_end-next.result < n) (length-map c.args.segments.now data_segment_of) l)) in
-          point_asked g.F.FillStrategy.rule (data_segments_of c.args.segments.now) arranged g.S.LiveSegments.asks c.loop-index.index c.start_point_end-next.result (start_at (without_data (data_segments_of c.args.segments.now)) c.loop-index.index) order block (g.S.LiveSegments.sums c.loop-index.live) (g.S.LiveSegments.sums c.sum_below-sum.new.self) c.loop-index.compared _ (g.S.LiveSegments.asked c.sum_below-sum.new.self) (c.loop-index.invariant.5 arranged)
-          (λ y l. c.sum_below-sum.ensures.lasting y (subst (λ (p : Point). p.x ≤ℤ y) start l))
-          (c.saturating_add.ensures ∙ ap (λ n. min (c.loop-index.compared + n) (2 ^ 128 - 1)) c.compared.ensures)
-          (subst (λ (p : Point). g.S.LiveSegments.asks (lasting_at p.x (g.S.LiveSegments.sums c.loop-index.live)) (g.S.LiveSegments.asked c.sum_below-sum.new.self)) (sym start) c.sum_below-sum.ensures.look)),
     )
 
 pub offset_bounds-segments-way : goal.offset_bounds-segments-way
@@ -216,14 +205,6 @@ loop-way-preserved g c =
       omega (arith, ways_within way_of c.deref-way-items.result.now (without_data (data_segments_of c.args.segments.now)) c.loop-index.index c.start_point_end-next.result c.loop-way.invariant.2, c.loop-way-test.true),
       omega (arith, c.in_ok-seen.ensures.held, c.loop-way.invariant.4),
       (λ d most. visit_paid c.loop-way.compared c.visit.new.compared (g.S.LiveSegments.held c.loop-way.live) (g.S.LiveSegments.held c.visit.new.live) c.loop-index.index c.loop-way.way-index d (c.loop-way.invariant.5 d most) (c.in_ok-seen.ensures.most (length c.args.segments.now) d (omega (arith, c.loop-way.invariant.4, c.loop-way.invariant.3, c.start_point_end-next.ensures.after, c.start_point_end-next.ensures.within)) most)),
-      (λ arranged.
-          let state = c.loop-way.invariant.0 arranged in
-          amid_place g.H.FillHandler.handle_gives g.H.FillHandler.finalize_gives g.F.FillStrategy.rule (data_segments_of c.args.segments.now) arranged c.args.handler c.loop-index.index c.start_point_end-next.result c.loop-way.way-index (g.C.WindingCount.winding c.loop-way.sum) c.loop-way.handler (g.S.LiveSegments.sums c.loop-way.live) (g.S.LiveSegments.may_go_on_at c.loop-way.live) state way_of c.deref-way-items.result.now c.loop-way.invariant.2 c.loop-way-test.true c.way-item.result c.way-item.is (λ v at e.
-          let own : data_segment_of c.index-segments-way.result ≡ v.segment = segment_is data_segment_of c.args.segments.now g.F.FillStrategy.rule (without_data (data_segments_of c.args.segments.now)) c.way-item.result.index c.index-segments-way.result v c.index-segments-way.is e at.is in
-          let entry : WholeSegment = record { pair = pair_of_segment c.index-segments-way.result; count = add (weight (g.C.WindingCount.winding c.loop-way.sum)) (weight (winding_of c.index-segments-way.result)) } in
-          visit_asked g.F.FillStrategy.rule (data_segments_of c.args.segments.now) arranged g.S.LiveSegments.asks c.loop-index.index c.start_point_end-next.result (start_at (without_data (data_segments_of c.args.segments.now)) c.loop-index.index) state.order state.block c.loop-way.way-index v entry (g.S.LiveSegments.sums c.loop-way.live) (g.S.LiveSegments.sums c.visit.new.live) c.loop-way.compared c.visit.new.compared (ap (λ (s : DataSegment g.row.D.Denot). s.pair) own) at.start at.taken (c.loop-way.invariant.6 arranged)
-          (rw c.in-Continue.is at c.in_ok-seen.ensures.lasting)
-          (rw c.in-Continue.is at c.in_ok-seen.ensures.look))),
     )
 
 pub loop-index-preserved : goal.loop-index-preserved
@@ -236,12 +217,6 @@ loop-index-preserved g c = (
   c.start_point_end-next.ensures.within,
   omega (arith, c.loop-way.invariant.3, c.loop-way.invariant.4, c.start_point_end-next.ensures.after),
   (λ d most. point_paid _ c.loop-index.index c.start_point_end-next.result c.loop-way.way-index d c.start_point_end-next.ensures.after c.loop-way.invariant.3 (c.loop-way.invariant.5 d most)),
-  (λ arranged.
-      let state = c.loop-way.invariant.0 arranged in
-      block_asked g.F.FillStrategy.rule (data_segments_of c.args.segments.now) arranged g.S.LiveSegments.asks c.loop-index.index c.start_point_end-next.result (start_at (without_data (data_segments_of c.args.segments.now)) c.loop-index.index) state.order state.block c.loop-way.way-index (g.S.LiveSegments.sums c.loop-way.live) c.loop-way.compared
-      (subst (λ n. c.start_point_end-next.result ≤ n) (sym (ap length (same_list c.args.segments.now) ∙ length-map c.args.segments.now _)) c.start_point_end-next.ensures.within)
-      (point_is_over g.H.FillHandler.handle_gives g.H.FillHandler.finalize_gives g.F.FillStrategy.rule (data_segments_of c.args.segments.now) arranged c.args.handler c.loop-index.index c.start_point_end-next.result c.loop-way.way-index (g.C.WindingCount.winding c.loop-way.sum) c.loop-way.handler (g.S.LiveSegments.sums c.loop-way.live) (g.S.LiveSegments.may_go_on_at c.loop-way.live) state way_of c.deref-way-items.result.now c.loop-way.invariant.2 c.loop-way-test.false)
-      (c.loop-way.invariant.6 arranged)),
 )
 
 pub returns-clause-answer : goal.returns-clause-answer
@@ -267,15 +242,3 @@ returns-in-Break-clause-compared g c = λ d most.
     let fits = ways_within way_of c.deref-way-items.result.now (without_data (data_segments_of c.args.segments.now)) c.loop-index.index c.start_point_end-next.result c.loop-way.invariant.2 in
     sweep_paid c.visit.new.compared (g.S.LiveSegments.held c.visit.new.live * d) (3 * c.loop-index.index + 1 + 2 * (c.loop-way.way-index + 1)) (length c.args.segments.now) d (omega (arith, fits, c.loop-way-test.true, c.start_point_end-next.ensures.after, c.start_point_end-next.ensures.within))
     (visit_paid c.loop-way.compared c.visit.new.compared (g.S.LiveSegments.held c.loop-way.live) (g.S.LiveSegments.held c.visit.new.live) c.loop-index.index c.loop-way.way-index d (c.loop-way.invariant.5 d most) (c.in_ok-seen.ensures.most (length c.args.segments.now) d (omega (arith, c.loop-way.invariant.4, c.loop-way.invariant.3, c.start_point_end-next.ensures.after, c.start_point_end-next.ensures.within)) most))
-
-pub returns-clause-total : goal.returns-clause-total
-returns-clause-total g c = λ never.
-    let arr = arranged_list (g.I.OverlayInt.whole g.I.OverlayInt.MIN_COORD) (g.I.OverlayInt.whole g.I.OverlayInt.MAX_COORD) c.args.segments.now c.requires.arranged in
-    let same : take c.loop-index.index (without_data (data_segments_of c.args.segments.now)) ≡ segments_of c.args.segments.now = ap (take c.loop-index.index) (same_list c.args.segments.now) ∙ take_all c.loop-index.index (segments_of c.args.segments.now) (subst (λ n. n ≤ c.loop-index.index) (sym (length-map c.args.segments.now _)) c.loop-index-test.false) in
-    asked_same g.S.LiveSegments.asks _ _ c.loop-index.compared (λ table. ap (sweep_orders table) same) (c.loop-index.invariant.5 arr).total
-
-pub returns-in-Break-clause-total : goal.returns-in-Break-clause-total
-returns-in-Break-clause-total g c = λ never. absurd (some_none (sym (ap break_value c.in-Break.is) ∙ c.in_ok-seen.ensures.answer ∙ never _ _))
-  where
-    some_none : {O : Type 0} {answer : O} → Some answer ≡ None → ⊥
-    some_none e = absurd (cc)

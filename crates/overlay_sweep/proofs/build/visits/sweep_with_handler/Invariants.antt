@@ -3,8 +3,7 @@ use Rattle.overlay_base.specs.EdgeData.{without_data}
 use Rattle.overlay_base.specs.SegmentOf.{data_segments_of}
 use Rattle.overlay_sweep.specs.steps.WayOf.{ways_of, ways_between, by_angle}
 use Rattle.overlay_sweep.proofs.laws.columns.Members.{IsArranged}
-use Rattle.overlay_sweep.proofs.laws.visits.SweepStates.{start_at, IsBeforePoint, IsAmidPoint}
-use Rattle.overlay_sweep.proofs.laws.visits.LookTotals.{IsAskedAt, IsAskedBefore}
+use Rattle.overlay_sweep.proofs.laws.visits.SweepStates.{IsBeforePoint, IsAmidPoint}
 use Rattle.overlay_sweep.proofs.build.visits.sweep_with_handler.Given as goal
 
 abbrev pub invariant-loop-index : goal.invariant-loop-index
@@ -15,8 +14,6 @@ invariant-loop-index g l =
     × (l.index ≤ length l.segments)
     × (g.S.LiveSegments.held l.live ≤ l.index)
     × ((d : ℕ) → g.S.LiveSegments.is_most (length l.segments) d → l.compared + g.S.LiveSegments.held l.live * d ≤ 3 * l.index * d)
-    × ((arranged : IsArranged (without_data (data_segments_of l.segments))) →
-    IsAskedBefore g.F.FillStrategy.rule (data_segments_of l.segments) arranged g.S.LiveSegments.asks l.index (g.S.LiveSegments.sums l.live) l.compared)
 
 abbrev pub invariant-loop-way : goal.invariant-loop-way
 invariant-loop-way g l =
@@ -27,8 +24,6 @@ invariant-loop-way g l =
     × (l.way-index ≤ l.next - l.index)
     × (g.S.LiveSegments.held l.live ≤ l.index + l.way-index)
     × ((d : ℕ) → g.S.LiveSegments.is_most (length l.segments) d → l.compared + g.S.LiveSegments.held l.live * d ≤ (3 * l.index + 1 + 2 * l.way-index) * d)
-    × ((arranged : IsArranged (without_data (data_segments_of l.segments))) →
-    IsAskedAt g.F.FillStrategy.rule (data_segments_of l.segments) arranged g.S.LiveSegments.asks l.index l.next l.way-index (start_at (without_data (data_segments_of l.segments)) l.index) (g.S.LiveSegments.sums l.live) l.compared)
 
 abbrev pub decreases-loop-index : goal.decreases-loop-index
 decreases-loop-index g l = length l.segments - l.index

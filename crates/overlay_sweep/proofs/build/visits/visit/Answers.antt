@@ -1,7 +1,7 @@
 use Rattle.std.proofs.Common.{◌≡◌, ◌∙◌, ap, sym, refl, subst, arith}
-use Rattle.std.specs.Prelude.{suc, not, ◌+◌, ◌-◌, ◌^◌, min, ◌≤ℤ◌}
+use Rattle.std.specs.Prelude.{suc, ◌≤ℤ◌}
 use Rattle.std.proofs.lemmas.Int.{ints}
-use Rattle.overlay_geometry.specs.Points.{Pair, is_vertical}
+use Rattle.overlay_geometry.specs.Points.{Pair}
 use Rattle.overlay_base.specs.Segments.{WholeSegment}
 use Rattle.overlay_base.specs.Windings.{add, weight}
 use Rattle.overlay_geometry.specs.PairOf.{pair_of}
@@ -9,8 +9,6 @@ use Rattle.overlay_geometry.specs.VSegmentOf.{v_pair_of}
 use Rattle.overlay_base.specs.SegmentOf.{ends_of, winding_of}
 use Rattle.overlay_sweep.proofs.laws.live.LiveSums.{HoldSameFrom-renamed, HoldSameFrom-vertical, vertical_same}
 use Rattle.overlay_sweep.proofs.laws.visits.LookCosts.{uncalled_pays, adds_paid}
-use Rattle.overlay_sweep.specs.Costs.{lasting_at}
-use Rattle.overlay_sweep.proofs.laws.visits.LookTotals.{wide_look, no_look, wide_test, upright_test}
 use Rattle.overlay_sweep.proofs.build.visits.visit.Goals as goal
 use Rattle.overlay_sweep.proofs.build.visits.visit.Goals.{then-is_not_vertical+in_ok-insert, else-is_not_vertical}
 
@@ -60,16 +58,3 @@ returns-clause-most g c = λ n d within most. elim c.if-is_not_vertical.branch [
       rw w.live-is (adds_paid c.args.compared.now _ (g.S.LiveSegments.asked w.insert.new.self) _ (suc (suc (g.S.LiveSegments.held c.args.live.now))) d (omega (arith, w.compared-is, w.saturating_add.ensures, w.compared.ensures)) (w.in_ok-insert.ensures.most n d within most))
   | else-is_not_vertical w ↦ rw w.live-is (rw w.compared-is (uncalled_pays c.args.compared.now (g.S.LiveSegments.held c.args.live.now) d))
 ]
-
-pub returns-clause-look : goal.returns-clause-look
-returns-clause-look g c =
-    let own : pair_of g.I.OverlayInt.whole c.x_segment-ends.result ≡ ends_of c.args.segment.now = ap (pair_of g.I.OverlayInt.whole) c.x_segment-ends.ensures in
-    elim c.if-is_not_vertical.branch [
-      | then-is_not_vertical+in_ok-insert w ↦ λ orders h.
-          wide_look g.S.LiveSegments.asks orders c.args.compared.now _ _ (g.S.LiveSegments.asked w.insert.new.self) _
-          (wide_test (ends_of c.args.segment.now) c.args.segment.now.ordered (ap (λ s. not (is_vertical s)) (sym own) ∙ sym c.is_not_vertical.ensures ∙ w.if-is_not_vertical.true))
-          (w.compared-is ∙ w.saturating_add.ensures ∙ ap (λ n. min (c.args.compared.now + n) (2 ^ 128 - 1)) w.compared.ensures)
-          (subst (λ (s : Pair). g.S.LiveSegments.asks (lasting_at s.a.x (g.S.LiveSegments.sums c.args.live.now)) (g.S.LiveSegments.asked w.insert.new.self)) own w.in_ok-insert.ensures.look) h
-      | else-is_not_vertical w ↦ λ orders h.
-          no_look g.S.LiveSegments.asks orders c.args.compared.now _ _ _ (upright_test (ends_of c.args.segment.now) (ap (λ s. not (is_vertical s)) (sym own) ∙ sym c.is_not_vertical.ensures ∙ w.if-is_not_vertical.false)) w.compared-is h
-    ]

@@ -1,9 +1,11 @@
 use Rattle.std.proofs.Common.{Bool, ℕ, List, ◌||◌, ◌≡◌, ◌+◌, ◌*◌, ◌-◌, ◌/◌, ◌^◌, refl, sym, ap, ◌∙◌, [], ◌++◌, ◌∷◌, ◌<◌, ◌≤◌, length, length-append, append-nil, arith}
-use Rattle.std.proofs.lemmas.Result.{IfOk-from_err}
+use Rattle.std.specs.Prelude.{min, true}
+use Rattle.std.proofs.lemmas.Result.{IfOk-from_err, on_ok_weaker}
 use Rattle.overlay_tree.specs.steps.NodeOf.{node_entry, highest_of, tree_nodes, query_of}
 use Rattle.overlay_tree.specs.steps.IntervalTree.{left_by, entries, greatest_height, is_reached}
-use Rattle.overlay_tree.proofs.laws.tree.IntervalTrees.{none_reached, none_dropped, none_found, none_counted, none_is_dropped}
-use Rattle.overlay_tree.proofs.laws.tree.TreeCuts.{IsCut-from, mapped, summed_again, IsDone, IsDone-above, IsDone-both, found_all, looked_all, dropped_all, still_greatest, none_more}
+use Rattle.overlay_tree.proofs.laws.tree.IntervalTrees.{none_reached, none_dropped, none_found, none_is_dropped}
+use Rattle.overlay_tree.proofs.laws.tree.TreeCuts.{IsCut-from, mapped, summed_again, IsDone, IsDone-above, IsDone-both, found_all, looked_all, dropped_all, still_greatest, length-entries}
+use Rattle.overlay_tree.proofs.laws.tree.Looks.{looked_none, looked_among}
 use Rattle.overlay_tree.proofs.split.interval_tree.+look_up.Goals as goal
 use Rattle.overlay_tree.proofs.split.interval_tree.+look_up.Goals.{look_into-then-not-is_above+in_ok-has_dropped-2+in_ok-has_dropped-3, look_into-else-not-is_above}
 
@@ -55,10 +57,10 @@ look_into-returns-then-has_dropped g t c =
           rw (w.root-is, w.right-is, w.indexes-is, w.looked-is)
           (IsDone-both whole q r s w.look_at.new.node w.look_up-then-not-is_above.new.nodes c.look_up.new.indexes.items w.look_at.new.indexes.items w.look_up-then-not-is_above.new.indexes.items c.look_up.new.looked w.look_at.new.looked w.look_up-then-not-is_above.new.looked
           c.in_ok-has_dropped.has_dropped w.in_ok-has_dropped-2.field-0 c.if-not-is_above.has_dropped
-          w.in_ok-has_dropped-2.ensures.entry w.in_ok-has_dropped-2.ensures.greatest w.in_ok-has_dropped-3.ensures.entries w.in_ok-has_dropped-3.ensures.summed w.in_ok-has_dropped-2.ensures.found w.in_ok-has_dropped-3.ensures.found w.in_ok-has_dropped-2.ensures.looked w.in_ok-has_dropped-3.ensures.looked
+          w.in_ok-has_dropped-2.ensures.entry w.in_ok-has_dropped-2.ensures.greatest w.in_ok-has_dropped-3.ensures.entries w.in_ok-has_dropped-3.ensures.summed w.in_ok-has_dropped-2.ensures.found w.in_ok-has_dropped-3.ensures.found w.in_ok-has_dropped-2.ensures.looked w.in_ok-has_dropped-3.ensures.looked (sym c.is_above.ensures ∙ w.if-not-is_above.true)
           w.in_ok-has_dropped-2.ensures.dropped (w.has_dropped-is ∙ ap (λ (b : Bool). (c.in_ok-has_dropped.has_dropped || w.in_ok-has_dropped-2.field-0) || b) w.in_ok-has_dropped-3.ensures.dropped))
       | look_into-else-not-is_above w ↦
-          rw (w.root-is, w.right-is, w.indexes-is, w.looked-is, w.has_dropped-is) (IsDone-above whole q nodes l r s c.look_up.new.indexes.items c.look_up.new.looked c.in_ok-has_dropped.has_dropped cut (sym c.is_above.ensures ∙ w.if-not-is_above.false) (omega (arith, c.in_ok-has_dropped.ensures.looked)))
+          rw (w.root-is, w.right-is, w.indexes-is, w.looked-is, w.has_dropped-is) (IsDone-above whole q nodes l r s c.look_up.new.indexes.items c.look_up.new.looked c.in_ok-has_dropped.has_dropped cut (sym c.is_above.ensures ∙ w.if-not-is_above.false) (let is = c.in_ok-has_dropped.ensures.looked.is in omega (arith, is)))
     ] in
     let own = c.in_ok-has_dropped.ensures in
     let root_left = c.update_greatest.ensures.entry ∙ done.root_left in
@@ -86,10 +88,10 @@ look_into-returns-else-has_dropped g t c =
           rw (w.root-is, w.right-is, w.indexes-is, w.looked-is)
           (IsDone-both whole q r s w.look_at.new.node w.look_up-then-not-is_above.new.nodes c.look_up.new.indexes.items w.look_at.new.indexes.items w.look_up-then-not-is_above.new.indexes.items c.look_up.new.looked w.look_at.new.looked w.look_up-then-not-is_above.new.looked
           c.in_ok-has_dropped.has_dropped w.in_ok-has_dropped-2.field-0 c.if-not-is_above.has_dropped
-          w.in_ok-has_dropped-2.ensures.entry w.in_ok-has_dropped-2.ensures.greatest w.in_ok-has_dropped-3.ensures.entries w.in_ok-has_dropped-3.ensures.summed w.in_ok-has_dropped-2.ensures.found w.in_ok-has_dropped-3.ensures.found w.in_ok-has_dropped-2.ensures.looked w.in_ok-has_dropped-3.ensures.looked
+          w.in_ok-has_dropped-2.ensures.entry w.in_ok-has_dropped-2.ensures.greatest w.in_ok-has_dropped-3.ensures.entries w.in_ok-has_dropped-3.ensures.summed w.in_ok-has_dropped-2.ensures.found w.in_ok-has_dropped-3.ensures.found w.in_ok-has_dropped-2.ensures.looked w.in_ok-has_dropped-3.ensures.looked (sym c.is_above.ensures ∙ w.if-not-is_above.true)
           w.in_ok-has_dropped-2.ensures.dropped (w.has_dropped-is ∙ ap (λ (b : Bool). (c.in_ok-has_dropped.has_dropped || w.in_ok-has_dropped-2.field-0) || b) w.in_ok-has_dropped-3.ensures.dropped))
       | look_into-else-not-is_above w ↦
-          rw (w.root-is, w.right-is, w.indexes-is, w.looked-is, w.has_dropped-is) (IsDone-above whole q nodes l r s c.look_up.new.indexes.items c.look_up.new.looked c.in_ok-has_dropped.has_dropped cut (sym c.is_above.ensures ∙ w.if-not-is_above.false) (omega (arith, c.in_ok-has_dropped.ensures.looked)))
+          rw (w.root-is, w.right-is, w.indexes-is, w.looked-is, w.has_dropped-is) (IsDone-above whole q nodes l r s c.look_up.new.indexes.items c.look_up.new.looked c.in_ok-has_dropped.has_dropped cut (sym c.is_above.ensures ∙ w.if-not-is_above.false) (let is = c.in_ok-has_dropped.ensures.looked.is in omega (arith, is)))
     ] in
     let own = c.in_ok-has_dropped.ensures in
     let all = dropped_all whole q nodes l r s c.if-not-is_above.root c.if-not-is_above.right c.look_up.new.indexes.items c.if-not-is_above.indexes.items c.look_up.new.looked c.if-not-is_above.looked _ _ cut own.dropped done in
@@ -125,7 +127,7 @@ look_up-returns-then-not-reaches-clause-looked g t c =
     let q = query_of whole c.args.query.now in
     let es = entries (tree_nodes whole c.args.nodes.now) in
     let off = none_reached q es (ap (λ h. is_reached h q.low) (sym c.greatest_in.ensures) ∙ sym c.reaches.ensures ∙ c.if-not-reaches.true) in
-    none_more c.args.looked.now _ (2 ^ 128 - 1) (omega arith) (none_counted q es off)
+    looked_none q es c.args.looked.now (omega arith) off
 
 pub look_up-returns-then-not-reaches-clause-dropped : goal.look_up-returns-then-not-reaches-clause-dropped
 look_up-returns-then-not-reaches-clause-dropped g t c =
@@ -219,9 +221,20 @@ look_into-returns-in_default-clause-found g t c =
 pub look_into-returns-in_default-clause-looked : goal.look_into-returns-in_default-clause-looked
 look_into-returns-in_default-clause-looked g t c =
     let none = no_nodes c.args.nodes.now c.split_at_mut-left.result.0.now c.split_at_mut-left.result.1.now c.split_at_mut-left.ensures.value c.split_at_mut-left.ensures.front_len c.in_default.ensures.cases in
-    rw none (none_more c.args.looked.now 0 (2 ^ 128 - 1) (omega arith) refl)
+    rw none (looked_none (query_of g.I.OverlayInt.whole c.args.query.now) [] c.args.looked.now (omega arith) tt)
 
 pub look_into-returns-in_default-clause-dropped : goal.look_into-returns-in_default-clause-dropped
 look_into-returns-in_default-clause-dropped g t c =
     let none = no_nodes c.args.nodes.now c.split_at_mut-left.result.0.now c.split_at_mut-left.result.1.now c.split_at_mut-left.ensures.value c.split_at_mut-left.ensures.front_len c.in_default.ensures.cases in
     rw none
+
+pub look_up-returns-then-nodes-le-FEW_NODES-clause-looked : goal.look_up-returns-then-nodes-le-FEW_NODES-clause-looked
+look_up-returns-then-nodes-le-FEW_NODES-clause-looked g t c =
+    let whole = g.I.OverlayInt.whole in
+    let q = query_of whole c.args.query.now in
+    let es = entries (tree_nodes whole c.args.nodes.now) in
+    let reached : is_reached (greatest_height es) q.low ≡ true = ap (λ h. is_reached h q.low) (sym c.greatest_in.ensures) ∙ sym c.reaches.ensures ∙ c.if-not-reaches.false in
+    let long = length-entries whole c.args.nodes.now in
+    on_ok_weaker c.look_among.result
+    (λ h. looked_among q es c.args.looked.now c.look_among.new.looked (omega (arith, long, c.if-nodes-le-FEW_NODES.true)) reached (h ∙ ap (λ (n : ℕ). min (c.args.looked.now + n) (2 ^ 128 - 1)) (sym long)))
+    c.look_among.ensures.looked

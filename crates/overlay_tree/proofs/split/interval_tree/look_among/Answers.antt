@@ -5,5 +5,5 @@ use Rattle.overlay_tree.proofs.split.interval_tree.look_among.Goals as goal
 
 pub loop-place-preserved : goal.loop-place-preserved
 loop-place-preserved g c =
-    passes g.I.OverlayInt.whole (query_of g.I.OverlayInt.whole c.args.query.now) c.args.nodes.now c.loop-place.nodes c.loop-place.place c.args.indexes.now.items c.loop-place.indexes.items c.args.looked.now c.loop-place.looked c.loop-place.has_dropped c.loop-place.invariant c.loop-place-test.true
-    c.look_at_any.new.indexes.items c.look_at_any.new.looked c.in_ok-has_dropped.field-0 (get_or c.loop-place.nodes c.loop-place.place c.index-nodes-place.result) c.look_at_any.new.node (ap (get_or c.loop-place.nodes c.loop-place.place) c.index-nodes-place.is) c.in_ok-has_dropped.ensures.entry c.in_ok-has_dropped.ensures.greatest c.in_ok-has_dropped.ensures.found c.in_ok-has_dropped.ensures.looked c.in_ok-has_dropped.ensures.dropped
+    passes g.I.OverlayInt.whole (query_of g.I.OverlayInt.whole c.args.query.now) c.args.nodes.now c.loop-place.nodes c.loop-place.place c.args.indexes.now.items c.loop-place.indexes.items c.loop-place.has_dropped c.loop-place.invariant c.loop-place-test.true
+    c.look_at_any.new.indexes.items c.in_ok-has_dropped.field-0 (get_or c.loop-place.nodes c.loop-place.place c.index-nodes-place.result) c.look_at_any.new.node (ap (get_or c.loop-place.nodes c.loop-place.place) c.index-nodes-place.is) c.in_ok-has_dropped.ensures.entry c.in_ok-has_dropped.ensures.greatest c.in_ok-has_dropped.ensures.found c.in_ok-has_dropped.ensures.dropped

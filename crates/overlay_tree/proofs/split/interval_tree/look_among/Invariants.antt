@@ -4,4 +4,4 @@ use Rattle.overlay_tree.proofs.split.interval_tree.look_among.Given as goal
 
 abbrev pub invariant-loop-place : goal.invariant-loop-place
 invariant-loop-place g l =
-    IsPassing g.I.OverlayInt.whole (query_of g.I.OverlayInt.whole l.query) l.initial.nodes l.nodes l.place l.initial.indexes.items l.indexes.items l.initial.looked l.looked l.has_dropped
+    IsPassing g.I.OverlayInt.whole (query_of g.I.OverlayInt.whole l.query) l.initial.nodes l.nodes l.place l.initial.indexes.items l.indexes.items l.has_dropped

@@ -6,10 +6,9 @@ use Rattle.overlay_geometry.specs.RangeOf.{range_of}
 use Rattle.overlay_base.specs.SegmentOf.{segments_of}
 use Rattle.overlay_base.proofs.laws.geometry.Apart.{are_ordered}
 use Rattle.overlay_tree.specs.steps.NodeOf.{tree_nodes}
-use Rattle.overlay_tree.specs.steps.IntervalTree.{Entry, WholeQuery, AreRising, IsAt, IsUpTo, entries, found, inserted, left_by, is_taken_up}
+use Rattle.overlay_tree.specs.steps.IntervalTree.{Entry, WholeQuery, AreRising, IsAt, IsUpTo, entries, found, inserted, left_by}
 use Rattle.overlay_tree.specs.steps.Swept.{pair_at}
 use Rattle.overlay_tree.specs.steps.TreeSweep.{IsUnderWay, AreFoundBefore, query_at}
-use Rattle.std.proofs.lemmas.List.Sums.{count_by-le-length}
 use Rattle.overlay_tree.proofs.laws.tree.Sweeps.{pair_at-is, pairs_in_order, length-pairs, rising_map}
 use Rattle.overlay_tree.proofs.laws.tree.TreeCuts.{same_length, written}
 use Rattle.overlay_tree.proofs.laws.tree.TreeFinder.{IsReady, IsReady-from, AreFoundBefore-from, IsUnderWay-more, query_is, length_within}
@@ -117,7 +116,6 @@ returns g c =
     let at = c.in_ok-look_up.ensures.found ∙ ap (λ is. is ++ found q (entries (tree_nodes whole nodes))) c.clear.ensures.items ∙ ap (λ (p : WholeQuery). found p (entries (tree_nodes whole nodes))) is in
     let as_long = same_length whole (inserted j) c.look_up.new.nodes c.insert.new.nodes c.insert.ensures.entries ∙ same_length whole (left_by q) nodes c.look_up.new.nodes c.in_ok-look_up.ensures.entries ∙ ap length c.as_mut_slice-tree.ensures.value in
     let back = written whole c.insert.new.nodes c.args.nodes.now.items c.args.nodes.now.len c.args.nodes.now.ok.0 as_long in
-    let taken = count_by-le-length (is_taken_up q) (entries (tree_nodes whole nodes)) in
     let all = length_within ps (tree_nodes whole nodes) c.requires.way.0 c.args.looked.now j c.args.until tree in
     record {
       way = λ old w.
@@ -126,5 +124,5 @@ returns g c =
           (pairs_in_order xs c.requires.sorted) (are_ordered xs) c.requires.there is c.in_ok-look_up.ensures.entries c.in_ok-look_up.ensures.looked c.insert.ensures.entries c.insert.ensures.summed in
           rw back more;
       found = subst (λ (l : List ℕ). AreFoundBefore ps l j) (sym at) (AreFoundBefore-from ps (entries (tree_nodes whole nodes)) c.requires.way.0 c.args.looked.now j c.args.until tree.way (are_ordered xs) (omega (arith, length-pairs xs, c.requires.index)));
-      looked = omega (arith, c.in_ok-look_up.ensures.looked, taken, all, length-pairs xs);
+      looked = (let looks = c.in_ok-look_up.ensures.looked in let is = looks.is in let within = looks.within in omega (arith, is, within, all, length-pairs xs));
     }

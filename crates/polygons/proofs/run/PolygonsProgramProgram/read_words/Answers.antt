@@ -1,32 +1,14 @@
-use Rattle.std.proofs.Common.{arith, ◌≡◌, ◌+◌, ◌++◌, ◌∷◌, [], map, take, drop, string_bytes, refl}
-use Rattle.std.proofs.lemmas.Grind.{common_steps}
-use Rattle.std.proofs.lemmas.List.Elements.{All-push}
-use Rattle.overlay_text.proofs.ReadWords.{cut_mapped}
-use Rattle.polygons.specs.Run.{IsNoLimitOrRadius}
-use Rattle.polygons.proofs.Answering.{refuses, asks, asks_for_none}
+use Rattle.std.proofs.Common.{map, string_bytes}
+use Rattle.overlay_text.proofs.Results.{if_err}
+use Rattle.polygons.proofs.Answering.{asks_nothing}
 use Rattle.polygons.proofs.run.PolygonsProgramProgram.read_words.Goals as goal
 
-pub returns-then-is_limit_or_radius-clause-usage : goal.returns-then-is_limit_or_radius-clause-usage
-returns-then-is_limit_or_radius-clause-usage c =
-    let given = c.args.words.now in
-    let index = c.loop-word.word-index in
-    let cut : map string_bytes given ≡ map string_bytes (take index given) ++ c.as_str.result.now ∷ map string_bytes (drop (index + 1) given) = rw c.as_str.ensures.value (cut_mapped string_bytes given index c.word-item.result c.loop-word-test.true c.word-item.is) in
-    (refl, refuses (map string_bytes given) (map string_bytes (take index given)) c.as_str.result.now (map string_bytes (drop (index + 1) given)) cut (c.is_limit_or_radius.ensures.some c.if-is_limit_or_radius.true))
-
-pub loop-word-preserved : goal.loop-word-preserved
-loop-word-preserved c =
-    let given = c.args.words.now in
-    let index = c.loop-word.word-index in
-    let words = map string_bytes (take index given) in
-    let word = c.as_str.result.now in
-    let more : map string_bytes (take (index + 1) given) ≡ words ++ word ∷ [] = grind (arith, common_steps, c.word-item.is, c.as_str.ensures.value, c.loop-word-test.true) in
-    rw more (All-push IsNoLimitOrRadius words word c.loop-word.invariant (c.is_limit_or_radius.ensures.none c.if-is_limit_or_radius.false))
-
-pub returns-clause-asked : goal.returns-clause-asked
-returns-clause-asked c =
-    let given = c.args.words.now in
-    let all : take c.loop-word.word-index given ≡ given = grind (arith, common_steps, c.loop-word-test.false) in
-    asks (map string_bytes given) c.read_settings.result c.read_settings.ensures.set (rw all at c.loop-word.invariant)
-
-pub returns-clause-usage : goal.returns-clause-usage
-returns-clause-usage c = asks_for_none (map string_bytes c.args.words.now) c.read_settings.result c.read_settings.ensures.usage
+pub returns-in_err-settings-clause-usage : goal.returns-in_err-settings-clause-usage
+returns-in_err-settings-clause-usage c =
+    let usage = c.in_err-settings.ensures.usage in
+    let shapes = c.after_word-in_shapes in
+    let report = c.after_word-has_report in
+    if_err _ _ _ c.from_residual.ensures.1 (
+      usage.0,
+      asks_nothing (map string_bytes c.args.words.now) (map string_bytes shapes.result.1.now) (map string_bytes report.result.1.now) shapes.result.0 report.result.0 shapes.ensures.others report.ensures.others shapes.ensures.none report.ensures.none usage.1,
+    )

@@ -1,8 +1,8 @@
-use Rattle.std.proofs.Common.{◌≡◌, ◌-◌, ◌^◌, ◌≤◌, arith, min, sym, ap, ap₂, ◌∙◌, length, ℕ, List}
+use Rattle.std.proofs.Common.{◌≡◌, ◌-◌, ◌^◌, arith, min, ap, ap₂, ◌∙◌, length, ℕ, List}
 use Rattle.std.proofs.lemmas.List.Sorted.{IsPermutation-trans}
 use Rattle.overlay_grid.specs.Grid.{group_count}
 use Rattle.overlay_grid.specs.GroupsOf.{group_in, group_of, grid_of}
-use Rattle.overlay_grid.specs.steps.FragmentFinder.{looks_of_groups, all_twos_in_height}
+use Rattle.overlay_grid.specs.ColumnLooks.{looks_of_groups, all_twos_in_height}
 use Rattle.overlay_grid.specs.declared.split.axis.Axis.TheVariants.{X, Y}
 use Rattle.overlay_grid.proofs.laws.grid.GridReach.{upward_within, heights_permuted, fewer_within}
 use Rattle.overlay_grid.proofs.split.fragment_buffer.FragmentBuffer.sort.Goals as goal

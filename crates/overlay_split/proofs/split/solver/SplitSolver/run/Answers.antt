@@ -12,6 +12,9 @@ use Rattle.overlay_base.proofs.laws.joins.Views.{segments_ordered, segments_of-b
 use Rattle.overlay_split.specs.DataPass.{IsStoppedRun, data_after_passes}
 use Rattle.overlay_split.specs.Run.{Settings}
 use Rattle.overlay_split.specs.SettingsOf.{settings_of}
+use Rattle.overlay_intersections.specs.Marks.{settling}
+use Rattle.overlay_split.proofs.laws.nearness.Nearness.{reach_of_pass-bounded}
+use Rattle.overlay_split.proofs.laws.nearness.Reaches.{run-reach-none, reach_further}
 use Rattle.overlay_split.proofs.laws.passes.Splitting.{at_start, at_next, at_end, stopped_at_start, stopped_at, snaps_at, settles, falls_from, potential_bound, exponent_grows, goes_on-is, starts-is, keeps_room, few_enough}
 use Rattle.overlay_base.specs.declared.overlay_core.solver.Solver.{Solver}
 use Rattle.overlay_base.specs.Planar.{is_splittable}
@@ -57,6 +60,9 @@ loop-init g c = record {
   step = c.snap_radius-radius.ensures.step;
   limit = refl;
   passes = refl;
+  reach = run-reach-none _ _;
+  reach_room = omega arith;
+  reach_before = refl;
   looks = rw (c.in-Ok.ensures.looked) (AreRunLooks-start c.args.solver.now.strategy (settings_of g.I.OverlayInt.BITS c.args.solver.now c.args.self.now) (segments_of c.args.list.now.items) (segments_of c.deref.result.now) (grid_in c.in-Ok.finder.grid) (ap (λ l. segments_of l) c.deref.ensures.value ∙ c.in_ok-repeated.ensures.geometry) c.in-Ok.ensures.grid);
   solver = c.in-Ok.ensures.solver;
   looked_before = refl;
@@ -76,6 +82,9 @@ loop-preserved g c =
       step = c.increment.ensures.step ∙ c.loop.invariant.step;
       limit = c.loop.invariant.limit;
       passes = c.loop.invariant.passes;
+      reach = reach_further (settings_of g.I.OverlayInt.BITS c.args.solver.now c.args.self.now) (segments_of c.args.list.now.items) (segments_of c.loop.list.items) _ _ _ _ _ c.loop.invariant.reach c.in_ok-progress.ensures.passes placing c.loop.invariant.at.arrangement_is c.in_ok-progress.ensures.reach;
+      reach_room = let more = c.in_ok-progress.ensures.reach_bound in let room = c.loop.invariant.reach_room in omega (arith, more, room);
+      reach_before = c.loop.invariant.reach_before;
       looks = AreRunLooks-more c.args.solver.now.strategy c.loop.finder.solver.strategy (settings_of g.I.OverlayInt.BITS c.args.solver.now c.args.self.now) (segments_of c.args.list.now.items) (segments_of c.loop.list.items) (grid_in c.loop.finder.grid) (grid_in c.after_pass.new.finder.grid) c.loop.progress.passes _ c.loop.finder.looked c.after_pass.new.finder.looked c.loop.invariant.looks (ap (λ (s : Solver). s.strategy) c.loop.invariant.solver) c.in_ok-progress.ensures.grid c.in_ok-progress.ensures.passes c.loop.invariant.at.arrangement_is c.in_ok-progress.ensures.looked;
       solver = c.in_ok-progress.ensures.solver ∙ c.loop.invariant.solver;
       looked_before = c.loop.invariant.looked_before;
@@ -107,6 +116,13 @@ loop-progress-init g c = record {
       few_enough c.loop.list.items c.loop.progress.passes few (omega (arith, c.loop.list.small, c.loop.list.ok)) (omega (arith, made, c.loop.auto.counter-end));
   limit = c.loop.invariant.limit;
   passes = c.loop.invariant.passes;
+  reach = c.loop.invariant.reach;
+  reach_room = λ h.
+      let few = potential_bound _ _ _ g.met.I.OverlayInt.lowest g.met.I.OverlayInt.highest c.loop.invariant.at.splittable in
+      let long = c.loop.list.small in
+      let most = c.loop.invariant.reach_room in
+      few_enough c.loop.list.items c.loop.progress.reach few (omega (arith, c.loop.list.small, c.loop.list.ok)) (omega (arith, most, c.loop.auto.counter-end));
+  reach_before = c.loop.invariant.reach_before;
   looks = c.loop.invariant.looks;
   solver = c.loop.invariant.solver;
   looked_before = c.loop.invariant.looked_before;
@@ -119,9 +135,15 @@ loop-progress-preserved g c =
       at = at_next _ _ _ _ _ _ _ _ _ _ _ _ _ _ _ _ _ _ _ _ (segments_ordered c.args.list.now.items) c.loop-progress.invariant.at c.loop-progress-test.true c.in_ok-progress-2.ensures.passes placing
           c.in_ok-progress-2.ensures.geometry c.in_ok-progress-2.ensures.edge_data c.in_ok-progress-2.ensures.store c.in_ok-progress-2.ensures.changed (goes_on-is c.after_pass-in-loop-progress.new.list.items _ _ c.in_ok-progress-2.ensures.goes_on) c.in_ok-progress-2.ensures.fits;
       late = λ h. let l = c.loop-progress.invariant.late c.loop-progress-test.true in let n = c.in_ok-progress-2.ensures.passes in omega (arith, l, n);
-      room = λ h. keeps_room _ _ _ _ _ _ c.loop-progress.invariant.at.map c.in_ok-progress-2.ensures.geometry (goes_on-is c.after_pass-in-loop-progress.new.list.items _ _ c.in_ok-progress-2.ensures.goes_on) h c.in_ok-progress-2.ensures.passes (c.loop-progress.invariant.room c.loop-progress-test.true);
+      room = λ h. keeps_room _ _ _ _ _ _ c.loop-progress.invariant.at.map c.in_ok-progress-2.ensures.geometry (goes_on-is c.after_pass-in-loop-progress.new.list.items _ _ c.in_ok-progress-2.ensures.goes_on) h (let one = c.in_ok-progress-2.ensures.passes in omega (arith, one)) (c.loop-progress.invariant.room c.loop-progress-test.true);
       limit = c.loop-progress.invariant.limit;
       passes = c.loop-progress.invariant.passes;
+      reach = reach_further (settings_of g.I.OverlayInt.BITS c.args.solver.now c.args.self.now) (segments_of c.args.list.now.items) (segments_of c.loop-progress.list.items) _ _ _ _ _ c.loop-progress.invariant.reach c.in_ok-progress-2.ensures.passes placing c.loop-progress.invariant.at.arrangement_is c.in_ok-progress-2.ensures.reach;
+      reach_room = λ h.
+          let more = reach_of_pass-bounded settling (segments_of c.loop-progress.list.items) in
+          let there = c.in_ok-progress-2.ensures.reach in
+          keeps_room _ _ _ _ _ _ c.loop-progress.invariant.at.map c.in_ok-progress-2.ensures.geometry (goes_on-is c.after_pass-in-loop-progress.new.list.items _ _ c.in_ok-progress-2.ensures.goes_on) h (omega (arith, more, there)) (c.loop-progress.invariant.reach_room c.loop-progress-test.true);
+      reach_before = c.loop-progress.invariant.reach_before;
       looks = AreRunLooks-more c.args.solver.now.strategy c.loop-progress.finder.solver.strategy (settings_of g.I.OverlayInt.BITS c.args.solver.now c.args.self.now) (segments_of c.args.list.now.items) (segments_of c.loop-progress.list.items) (grid_in c.loop-progress.finder.grid) (grid_in c.after_pass-in-loop-progress.new.finder.grid) c.loop-progress.progress.passes _ c.loop-progress.finder.looked c.after_pass-in-loop-progress.new.finder.looked c.loop-progress.invariant.looks (ap (λ (s : Solver). s.strategy) c.loop-progress.invariant.solver) c.in_ok-progress-2.ensures.grid c.in_ok-progress-2.ensures.passes c.loop-progress.invariant.at.arrangement_is c.in_ok-progress-2.ensures.looked;
       solver = c.in_ok-progress-2.ensures.solver ∙ c.loop-progress.invariant.solver;
       looked_before = c.loop-progress.invariant.looked_before;
@@ -146,6 +168,15 @@ returns-clause-ended g c = at_end _ _ _ _ _ _ _ _ _ _ _ _ _ c.loop-progress.inva
 
 pub after_pass-requires-in-loop-progress-clause-passes : goal.after_pass-requires-in-loop-progress-clause-passes
 after_pass-requires-in-loop-progress-clause-passes g c = let room = c.loop-progress.invariant.room c.loop-progress-test.true in omega (arith, room)
+
+pub after_pass-requires-clause-reach : goal.after_pass-requires-clause-reach
+after_pass-requires-clause-reach g c = let room = c.loop.invariant.reach_room in let limit : c.loop.counter < c.args.self.now.snap_limit = omega (arith, c.loop-test.true, c.loop.invariant.limit) in omega (arith, room, limit, c.loop.auto.counter-end)
+
+pub after_pass-requires-in-loop-progress-clause-reach : goal.after_pass-requires-in-loop-progress-clause-reach
+after_pass-requires-in-loop-progress-clause-reach g c = let room = c.loop-progress.invariant.reach_room c.loop-progress-test.true in omega (arith, room)
+
+pub returns-clause-reach : goal.returns-clause-reach
+returns-clause-reach g c = c.loop-progress.invariant.reach
 
 -- ---- the grid
 

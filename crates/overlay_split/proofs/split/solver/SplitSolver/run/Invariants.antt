@@ -4,6 +4,7 @@ use Rattle.overlay_base.specs.HooksOf.{hooks_of}
 use Rattle.overlay_base.specs.SegmentOf.{segments_of, data_segments_of}
 use Rattle.overlay_base.specs.Radius.{exponent_of, step_of}
 use Rattle.overlay_split.specs.SettingsOf.{settings_of}
+use Rattle.overlay_split.specs.Nearness.{reach_of_run}
 use Rattle.overlay_split.specs.Potential.{potential}
 use Rattle.overlay_grid.specs.GroupsOf.{grid_in}
 use Rattle.overlay_split.specs.RunLooks.{AreRunLooks}
@@ -21,6 +22,9 @@ invariant-loop g l = record {
   step : step_of l.radius ≡ l.solver.precision.progression;
   limit : l.self.snap_limit ≡ l.fn.self.snap_limit;
   passes : l.self.passes ≡ l.fn.self.passes;
+  reach : l.progress.reach ≡ reach_of_run (settings_of g.I.OverlayInt.BITS l.solver l.fn.self) (segments_of l.fn.list.items) l.progress.passes;
+  reach_room : l.progress.reach ≤ l.counter * 2 ^ 34;
+  reach_before : l.self.reach ≡ l.fn.self.reach;
   looks : AreRunLooks l.solver.strategy (settings_of g.I.OverlayInt.BITS l.solver l.fn.self) (segments_of l.fn.list.items) (grid_in l.finder.grid) l.progress.passes l.finder.looked;
   solver : l.finder.solver ≡ l.solver;
   looked_before : l.self.looked ≡ l.fn.self.looked;
@@ -36,6 +40,9 @@ invariant-loop-progress g l = record {
   room : l.progress.goes_on ≡ true → l.progress.passes + potential (segments_of l.list.items) < 2 ^ 127;
   limit : l.self.snap_limit ≡ l.fn.self.snap_limit;
   passes : l.self.passes ≡ l.fn.self.passes;
+  reach : l.progress.reach ≡ reach_of_run (settings_of g.I.OverlayInt.BITS l.solver l.fn.self) (segments_of l.fn.list.items) l.progress.passes;
+  reach_room : l.progress.goes_on ≡ true → l.progress.reach + potential (segments_of l.list.items) < 2 ^ 127;
+  reach_before : l.self.reach ≡ l.fn.self.reach;
   looks : AreRunLooks l.solver.strategy (settings_of g.I.OverlayInt.BITS l.solver l.fn.self) (segments_of l.fn.list.items) (grid_in l.finder.grid) l.progress.passes l.finder.looked;
   solver : l.finder.solver ≡ l.solver;
   looked_before : l.self.looked ≡ l.fn.self.looked;

@@ -2,7 +2,7 @@ use Rattle.std.proofs.Common.{◌≡◌, ◌==◌, Bool, true, false, refl, sym,
 use Rattle.std.specs.Prelude.{ℤ, Result, Ok, Err, None, IfOk, OnOk, IfErr}
 use Rattle.std.specs.List.{list_all}
 use Rattle.std.proofs.lemmas.Bool.{eqb-true}
-use Rattle.std.proofs.lemmas.Result.{IfOk-weaker, on_err_weaker}
+use Rattle.std.proofs.lemmas.Result.{IfOk-weaker, on_ok_weaker, on_err_weaker}
 use Rattle.overlay_split.specs.steps.IsAt.{IsAt}
 use Rattle.overlay_base.specs.declared.segm.fault.Fault.{Fault}
 use Rattle.overlay_base.specs.declared.segm.fault.Fault.TheVariants.{CountOutOfRange}
@@ -14,9 +14,11 @@ use Rattle.overlay_base.specs.SegmentOf.{segments_of, data_segments_of}
 use Rattle.overlay_base.proofs.laws.joins.Views.{segments_ordered, segments_of-bare}
 use Rattle.overlay_split.specs.DataPass.{IsStoppedRun}
 use Rattle.overlay_split.specs.Run.{Settings, LeavesRange}
-use Rattle.overlay_split.specs.SettingsOf.{settings_of, passes_of}
+use Rattle.overlay_split.specs.SettingsOf.{settings_of, passes_of, reach_of}
 use Rattle.overlay_split.specs.Nearness.{reach_of_run}
 use Rattle.overlay_split.proofs.laws.nearness.NamedData.{split_names_near}
+use Rattle.overlay_split.proofs.laws.nearness.Nearness.{exact_input_reaches_nothing}
+use Rattle.overlay_split.proofs.laws.nearness.Reaches.{run-reach-none, reports_reach}
 use Rattle.overlay_split.proofs.laws.passes.DataInvariants.{data_keeps_what_hooks_keep}
 use Rattle.overlay_split.proofs.laws.passes.StoppedRuns.{stopped_run_leaves_range}
 use Rattle.overlay_split.proofs.laws.passes.Splitting.{HasEnded, at_rest, has_ended, stays_arranged, segments_none}
@@ -34,6 +36,11 @@ leaves_range : {T C I D S : Type 0} {m : _} {w : _} {o : _} {e : _} {p : _} (r :
     IfErr r (λ fault. fault ≡ CountOutOfRange → IsStoppedRun hooks settings (data_segments_of xs) from left) → IfErr r (λ fault. fault ≡ CountOutOfRange → LeavesRange settings (segments_of xs))
 leaves_range (Ok x) hooks settings xs from left h = tt
 leaves_range (Err f) hooks settings xs from left h = λ i. subst (λ (l : List WholeSegment). LeavesRange settings l) (sym (segments_of-bare xs)) (stopped_run_leaves_range hooks settings (data_segments_of xs) from left (h i))
+
+-- what follows of the answer and of what else holds where there is one
+on_ok_both : {A F Q R : Type 0} {P : A → Type 0} (r : Result A F) → ((a : A) → P a → R → Q) → IfOk r P → OnOk r R → OnOk r Q
+on_ok_both (Ok a) f h k = f a h k
+on_ok_both (Err e) f h k = tt
 
 -- ---- an empty list
 
@@ -107,6 +114,11 @@ returns-then-is_empty-clause-looked g c =
     let looks = AreRunLooks-none c.args.solver.now.strategy (settings_of g.I.OverlayInt.BITS c.args.solver.now c.args.self.now) (segments_of c.args.list.now.items) (segments_none c.args.list.now.items none).0 in
     (None, looks)
 
+pub returns-then-is_empty-clause-reach : goal.returns-then-is_empty-clause-reach
+returns-then-is_empty-clause-reach g c =
+    let settings = settings_of g.I.OverlayInt.BITS c.args.solver.now c.args.self.now in
+    reports_reach settings (segments_of c.args.list.now.items) 0 0 (run-reach-none settings (segments_of c.args.list.now.items))
+
 -- ---- any other list
 
 pub returns-clause-run : goal.returns-clause-run
@@ -168,3 +180,15 @@ returns-clause-looked_before g c = on_err_weaker c.run.result (λ h. h.1) c.run.
 
 pub returns-then-is_empty-clause-store_made : goal.returns-then-is_empty-clause-store_made
 returns-then-is_empty-clause-store_made g c = no_call
+
+pub returns-clause-reach : goal.returns-clause-reach
+returns-clause-reach g c =
+    let settings = settings_of g.I.OverlayInt.BITS c.args.solver.now c.args.self.now in
+    on_ok_weaker c.run.result (reports_reach settings (segments_of c.args.list.now.items) (passes_of c.run.new.self) (reach_of c.run.new.self)) c.run.ensures.reach
+
+pub returns-clause-exact_reach : goal.returns-clause-exact_reach
+returns-clause-exact_reach g c = λ exact.
+    let settings = settings_of g.I.OverlayInt.BITS c.args.solver.now c.args.self.now in
+    on_ok_both c.run.result
+    (λ flag at reach. reach ∙ exact_input_reaches_nothing settings (segments_of c.args.list.now.items) (segments_of c.run.new.list.items) (passes_of c.run.new.self) flag (segments_ordered c.args.list.now.items) exact (has_ended _ _ _ _ _ _ _ _ _ _ _ _ _ (segments_ordered c.args.list.now.items) at refl).run)
+    c.run.ensures.ended c.run.ensures.reach

@@ -3,7 +3,6 @@ use Rattle.std.specs.Prelude.{not, int_lt}
 use Rattle.overlay_geometry.proofs.laws.integers.Tests.{le_itself, le_weak, lt-tested, lt-tested_false}
 use Rattle.overlay_sweep.specs.EntryOf.{entry_of, entries_of}
 use Rattle.overlay_sweep.proofs.laws.list.ListAnswers.{entries_kept, position_kept, entries_placed, placed_sums, placed_live, list_placed, ends_placed}
-use Rattle.overlay_sweep.proofs.laws.list.ListCounts.{kept_search, placed_lasting}
 use Rattle.overlay_sweep.proofs.laws.visits.LookCosts.{fewer_last, one_more, search_asks, search_pays}
 use Rattle.overlay_sweep.proofs.build.scan_list.ScanListLiveSegments.insert.Goals as goal
 
@@ -48,15 +47,3 @@ returns-else-not-lasts_past-clause-most g c = λ n d within most.
     let fewer = fewer_last (λ e. int_lt (g.I.OverlayInt.whole c.args.x) (g.I.OverlayInt.whole e.segment.b.x)) _ _ c.settle-position.ensures.entries in
     let more = one_more _ c.settle-position.result c.settle-position.new.self.entries.items c.insert.new.self.items _ (c.is_err.ensures.negation ∙ ap not c.if-is_err.false) c.insert.ensures.items in
     search_pays _ _ _ d (search_asks _ _ n d c.settle-position.ensures.compared (omega (arith, fewer, within)) most) (omega (arith, fewer, more))
-
-pub returns-then-not-lasts_past-clause-lasting : goal.returns-then-not-lasts_past-clause-lasting
-returns-then-not-lasts_past-clause-lasting g c = λ y h. rw (entries_placed entry_of c.settle-position.new.self.entries.items c.insert.new.self.items c.settle-position.result _ _ (c.is_err.ensures.negation ∙ ap not c.if-is_err.false) c.insert.ensures.items) (placed_lasting (g.I.OverlayInt.whole c.args.x) y (entries_of c.args.self.now.entries.items) (entries_of c.settle-position.new.self.entries.items) (entries_kept entry_of (g.I.OverlayInt.whole c.args.x) _ _ c.settle-position.ensures.entries) _ c.settle-position.result h)
-
-pub returns-then-not-lasts_past-clause-look : goal.returns-then-not-lasts_past-clause-look
-returns-then-not-lasts_past-clause-look g c = kept_search entry_of (g.I.OverlayInt.whole c.args.x) c.args.self.now.entries.items c.settle-position.new.self.entries.items _ c.settle-position.ensures.entries c.settle-position.ensures.compared
-
-pub returns-else-not-lasts_past-clause-lasting : goal.returns-else-not-lasts_past-clause-lasting
-returns-else-not-lasts_past-clause-lasting g c = λ y h. rw (entries_placed entry_of c.settle-position.new.self.entries.items c.insert.new.self.items c.settle-position.result _ _ (c.is_err.ensures.negation ∙ ap not c.if-is_err.false) c.insert.ensures.items) (placed_lasting (g.I.OverlayInt.whole c.args.x) y (entries_of c.args.self.now.entries.items) (entries_of c.settle-position.new.self.entries.items) (entries_kept entry_of (g.I.OverlayInt.whole c.args.x) _ _ c.settle-position.ensures.entries) _ c.settle-position.result h)
-
-pub returns-else-not-lasts_past-clause-look : goal.returns-else-not-lasts_past-clause-look
-returns-else-not-lasts_past-clause-look g c = kept_search entry_of (g.I.OverlayInt.whole c.args.x) c.args.self.now.entries.items c.settle-position.new.self.entries.items _ c.settle-position.ensures.entries c.settle-position.ensures.compared

@@ -5,8 +5,6 @@ use Rattle.overlay_base.specs.Segments.{WholeSegment}
 use Rattle.overlay_sweep.specs.EntryOf.{entry_of, entries_of}
 use Rattle.overlay_sweep.proofs.laws.tree.ScanReads.{segment_read}
 use Rattle.overlay_sweep.proofs.laws.list.ListAnswers.{entries_kept, position_kept, kept_sums, kept_live, list_kept, default_found, last_found}
-use Rattle.overlay_sweep.proofs.laws.list.ListCounts.{kept_lasting, kept_search}
-use Rattle.overlay_sweep.specs.Costs.{lasting_at}
 use Rattle.overlay_sweep.proofs.laws.visits.LookCosts.{fewer_last, search_asks, search_pays}
 use Rattle.overlay_sweep.proofs.build.scan_list.ScanListLiveSegments.sum_below.Goals as goal
 
@@ -54,15 +52,3 @@ pub returns-else-position-eq0-clause-most : goal.returns-else-position-eq0-claus
 returns-else-position-eq0-clause-most g c = λ n d within most.
     let fewer = fewer_last (λ e. int_lt (g.I.OverlayInt.whole c.args.x) (g.I.OverlayInt.whole e.segment.b.x)) _ _ c.settle-position.ensures.entries in
     search_pays _ _ _ d (search_asks _ _ n d c.settle-position.ensures.compared (omega (arith, fewer, within)) most) fewer
-
-pub returns-then-position-eq0-clause-lasting : goal.returns-then-position-eq0-clause-lasting
-returns-then-position-eq0-clause-lasting g c = λ y h. ap (lasting_at y) (entries_kept entry_of (g.I.OverlayInt.whole c.args.x) _ _ c.settle-position.ensures.entries) ∙ kept_lasting (g.I.OverlayInt.whole c.args.x) y h (entries_of c.args.self.now.entries.items)
-
-pub returns-then-position-eq0-clause-look : goal.returns-then-position-eq0-clause-look
-returns-then-position-eq0-clause-look g c = kept_search entry_of (g.I.OverlayInt.whole c.args.x) c.args.self.now.entries.items c.settle-position.new.self.entries.items _ c.settle-position.ensures.entries c.settle-position.ensures.compared
-
-pub returns-else-position-eq0-clause-lasting : goal.returns-else-position-eq0-clause-lasting
-returns-else-position-eq0-clause-lasting g c = λ y h. ap (lasting_at y) (entries_kept entry_of (g.I.OverlayInt.whole c.args.x) _ _ c.settle-position.ensures.entries) ∙ kept_lasting (g.I.OverlayInt.whole c.args.x) y h (entries_of c.args.self.now.entries.items)
-
-pub returns-else-position-eq0-clause-look : goal.returns-else-position-eq0-clause-look
-returns-else-position-eq0-clause-look g c = kept_search entry_of (g.I.OverlayInt.whole c.args.x) c.args.self.now.entries.items c.settle-position.new.self.entries.items _ c.settle-position.ensures.entries c.settle-position.ensures.compared

@@ -1,9 +1,7 @@
-use Rattle.std.proofs.Common.{◌∙◌, ap, arith}
+use Rattle.std.proofs.Common.{arith}
 use Rattle.std.specs.Prelude.{int_lt}
-use Rattle.overlay_sweep.specs.Costs.{lasting_at}
 use Rattle.overlay_sweep.specs.EntryOf.{entry_of, entries_of}
 use Rattle.overlay_sweep.proofs.laws.list.ListAnswers.{entries_kept, kept_sums, row_kept}
-use Rattle.overlay_sweep.proofs.laws.list.ListCounts.{kept_lasting}
 use Rattle.overlay_sweep.proofs.laws.visits.LookCosts.{fewer_last}
 use Rattle.overlay_sweep.proofs.build.scan_mixed.ScanMixed.make_room.Goals as goal
 
@@ -12,9 +10,6 @@ returns-then-entries-clause-sums g c = rw c.if-self.false (kept_sums (g.I.Overla
 
 pub returns-then-entries-clause-time : goal.returns-then-entries-clause-time
 returns-then-entries-clause-time g c = rw c.if-self.false (row_kept (g.I.OverlayInt.whole c.args.x) (entries_of c.args.self.now.row.entries.items) _ (entries_kept entry_of (g.I.OverlayInt.whole c.args.x) _ _ c.drop_ended.ensures) (rw c.if-self.false at c.requires.time))
-
-pub returns-then-entries-clause-lasting : goal.returns-then-entries-clause-lasting
-returns-then-entries-clause-lasting g c = λ y h. rw c.if-self.false (ap (lasting_at y) (entries_kept entry_of (g.I.OverlayInt.whole c.args.x) _ _ c.drop_ended.ensures) ∙ kept_lasting (g.I.OverlayInt.whole c.args.x) y h (entries_of c.args.self.now.row.entries.items))
 
 pub returns-clause-sums : goal.returns-clause-sums
 returns-clause-sums g c = rw (c.in_ok-hand_over.ensures.tree, c.if-self.false, c.in_ok-hand_over.ensures.sums) (kept_sums (g.I.OverlayInt.whole c.args.x) (entries_of c.args.self.now.row.entries.items) _ (entries_kept entry_of (g.I.OverlayInt.whole c.args.x) _ _ c.drop_ended.ensures))
@@ -26,6 +21,3 @@ pub returns-clause-held : goal.returns-clause-held
 returns-clause-held g c =
     let fewer = fewer_last (λ e. int_lt (g.I.OverlayInt.whole c.args.x) (g.I.OverlayInt.whole e.segment.b.x)) _ _ c.drop_ended.ensures in
     rw (c.in_ok-hand_over.ensures.tree, c.if-self.false) (omega (arith, c.in_ok-hand_over.ensures.kept, fewer))
-
-pub returns-clause-lasting : goal.returns-clause-lasting
-returns-clause-lasting g c = λ y h. rw (c.in_ok-hand_over.ensures.tree, c.if-self.false, c.in_ok-hand_over.ensures.sums) (ap (lasting_at y) (entries_kept entry_of (g.I.OverlayInt.whole c.args.x) _ _ c.drop_ended.ensures) ∙ kept_lasting (g.I.OverlayInt.whole c.args.x) y h (entries_of c.args.self.now.row.entries.items))

@@ -1,8 +1,6 @@
-use Rattle.overlay_sweep.specs.EntryOf.{summed}
-use Rattle.overlay_sweep.specs.LiveOf.{row_sums, tree_sums, sums_in}
 use Rattle.overlay_sweep.proofs.laws.live.LiveSums.{AreFreeAt-same, HoldSameFrom-cons}
 use Rattle.overlay_sweep.proofs.laws.list.ListAsTree.{highest_pays}
-use Rattle.overlay_sweep.proofs.laws.list.LastingRows.{then_sums, then_lasting, then_pays}
+use Rattle.overlay_sweep.proofs.laws.list.LastingRows.{then_sums, then_pays}
 use Rattle.overlay_sweep.proofs.build.scan_mixed.ScanMixedLiveSegments.insert.Goals as goal
 
 pub insert-requires-clause-free : goal.insert-requires-clause-free
@@ -17,14 +15,8 @@ returns-then-self-clause-sums g c = rw c.if-self.true (then_sums _ _ _ _ _ _ (rw
 pub returns-then-self-clause-most : goal.returns-then-self-clause-most
 returns-then-self-clause-most g c = rw c.if-self.true (then_pays _ _ _ _ _ (rw c.if-self.true at c.in_ok-make_room.ensures.held) c.insert.ensures.most)
 
-pub returns-then-self-clause-lasting : goal.returns-then-self-clause-lasting
-returns-then-self-clause-lasting g c = rw c.if-self.true (then_lasting (g.I.OverlayInt.whole c.args.x) (tree_sums c.insert.new.self) (tree_sums c.make_room.new.self.tree) (sums_in c.args.self.now) (summed g.C.WindingCount.winding g.I.OverlayInt.whole c.args.segment c.args.sum) _ (rw c.if-self.true at c.in_ok-make_room.ensures.lasting) c.insert.ensures.lasting)
-
 pub returns-else-self-clause-sums : goal.returns-else-self-clause-sums
 returns-else-self-clause-sums g c = rw c.if-self.false (then_sums _ _ _ _ _ _ (rw c.if-self.false at c.in_ok-make_room.ensures.sums) c.insert-else-self.ensures.sums)
 
 pub returns-else-self-clause-most : goal.returns-else-self-clause-most
 returns-else-self-clause-most g c = rw c.if-self.false (then_pays _ _ _ _ _ (rw c.if-self.false at c.in_ok-make_room.ensures.held) (highest_pays _ _ _ _ c.insert-else-self.ensures.most))
-
-pub returns-else-self-clause-lasting : goal.returns-else-self-clause-lasting
-returns-else-self-clause-lasting g c = rw c.if-self.false (then_lasting (g.I.OverlayInt.whole c.args.x) (row_sums c.insert-else-self.new.self) (row_sums c.make_room.new.self.row) (sums_in c.args.self.now) (summed g.C.WindingCount.winding g.I.OverlayInt.whole c.args.segment c.args.sum) _ (rw c.if-self.false at c.in_ok-make_room.ensures.lasting) c.insert-else-self.ensures.lasting)

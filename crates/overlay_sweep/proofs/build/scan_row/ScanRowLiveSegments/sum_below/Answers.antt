@@ -6,7 +6,7 @@ use Rattle.overlay_base.specs.Segments.{WholeSegment}
 use Rattle.overlay_sweep.specs.EntryOf.{entry_of, entries_of}
 use Rattle.overlay_sweep.proofs.laws.tree.ScanReads.{segment_read}
 use Rattle.overlay_sweep.proofs.laws.list.ListAnswers.{row_later}
-use Rattle.overlay_sweep.proofs.laws.list.LastingRows.{same_sums, same_lasting, row_left, none_found, one_found}
+use Rattle.overlay_sweep.proofs.laws.list.LastingRows.{same_sums, row_left, none_found, one_found}
 use Rattle.overlay_sweep.proofs.build.scan_row.ScanRowLiveSegments.sum_below.Goals as goal
 
 pub returns-then-position-eq0-clause-sum : goal.returns-then-position-eq0-clause-sum
@@ -21,9 +21,6 @@ returns-then-position-eq0-clause-time g c = λ y h. row_later _ y _ h (row_left 
 
 pub returns-then-position-eq0-clause-most : goal.returns-then-position-eq0-clause-most
 returns-then-position-eq0-clause-most g c = λ n d within most. c.settle-position.ensures.most d (omega (arith, within, most))
-
-pub returns-then-position-eq0-clause-lasting : goal.returns-then-position-eq0-clause-lasting
-returns-then-position-eq0-clause-lasting g c = same_lasting _ _ _ c.settle-position.ensures.kept
 
 pub returns-else-position-eq0-clause-sum : goal.returns-else-position-eq0-clause-sum
 returns-else-position-eq0-clause-sum g c =
@@ -40,6 +37,3 @@ returns-else-position-eq0-clause-time g c = λ y h. row_later _ y _ h (row_left 
 
 pub returns-else-position-eq0-clause-most : goal.returns-else-position-eq0-clause-most
 returns-else-position-eq0-clause-most g c = λ n d within most. c.settle-position.ensures.most d (omega (arith, within, most))
-
-pub returns-else-position-eq0-clause-lasting : goal.returns-else-position-eq0-clause-lasting
-returns-else-position-eq0-clause-lasting g c = same_lasting _ _ _ c.settle-position.ensures.kept

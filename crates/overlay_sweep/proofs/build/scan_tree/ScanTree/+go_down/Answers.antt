@@ -6,7 +6,7 @@ use Rattle.overlay_sweep.specs.EntryOf.{entry_of, entries_of}
 use Rattle.overlay_sweep.specs.steps.PlaceOf.{stands_before}
 use Rattle.overlay_sweep.specs.ScanTrees.{segment_at, lasts_past}
 use Rattle.overlay_sweep.proofs.laws.tree.ScanReads.{segment_read}
-use Rattle.overlay_sweep.proofs.laws.tree.TreeWays.{placed_nowhere, down_within, stopped_here, left_may, right_may, right_stopped_joinable, right_stopped, left_stopped_joinable, left_stopped, right_placed_joinable, right_placed, left_placed_joinable, left_placed, right_lower, left_lower, right_deep, left_deep, asked_above, empty_reached, still_parent, kept_parent, kept_parent_left, told_same, is_told_same, right_falls, left_falls, either}
+use Rattle.overlay_sweep.proofs.laws.tree.TreeWays.{placed_nowhere, down_within, stopped_here, left_may, right_may, right_stopped_joinable, right_stopped, left_stopped_joinable, left_stopped, right_placed_joinable, right_placed, left_placed_joinable, left_placed, right_lower, left_lower, still_parent, kept_parent, kept_parent_left, told_same, is_told_same, right_falls, left_falls, either}
 use Rattle.overlay_sweep.proofs.build.scan_tree.ScanTree.+go_down.Goals as goal
 
 -- what is read of an entry, as the specification says it
@@ -79,17 +79,6 @@ pub returns-else-is_before-clause-placed : goal.returns-else-is_before-clause-pl
 returns-else-is_before-clause-placed g t c = λ is m.
     left_placed c.args.self.now.shape.nodes.items c.args.at c.args.new m c.if-at-eq-NONE.false c.node-node.result c.node-node.ensures (lasts_past (g.I.OverlayInt.whole c.args.x) (entries_of c.args.self.now.entries.items)) (λ i. stands_before g.I.OverlayInt.whole c.args.place.now (segment_at (entries_of c.args.self.now.entries.items) i).pair) c.go_down-below-else-is_before.new.self.shape.nodes.items c.args.given c.go_down-below-else-is_before.result.last c.go_down-below-else-is_before.result.top (lasts_is entry_of c.args.self.now.entries.items (g.I.OverlayInt.whole c.args.x) c.args.at c.index-entry.result.now true (entry_within _ _ _ c.requires.same_length (down_within _ _ _ m c.if-at-eq-NONE.false)) c.index-entry.ensures (sym c.lasts_past.ensures ∙ c.if-not-lasts_past.false)) (stands_is entry_of c.args.self.now.entries.items (stands_before g.I.OverlayInt.whole c.args.place.now) c.args.at c.index-entry.result.now false (entry_within _ _ _ c.requires.same_length (down_within _ _ _ m c.if-at-eq-NONE.false)) c.index-entry.ensures (sym c.is_before.ensures.value ∙ c.if-is_before.false)) (c.go_down-below-else-is_before.ensures.placed is (left_may c.args.self.now.shape.nodes.items c.args.at c.args.new m c.if-at-eq-NONE.false c.node-node.result c.node-node.ensures)) c.rejoin-top-else-is_before.new.self.nodes.items c.rejoin-top-else-is_before.result
     (c.rejoin-top-else-is_before.ensures.joined (left_placed_joinable c.args.self.now.shape.nodes.items c.args.at c.args.new m c.if-at-eq-NONE.false c.node-node.result c.node-node.ensures (lasts_past (g.I.OverlayInt.whole c.args.x) (entries_of c.args.self.now.entries.items)) (λ i. stands_before g.I.OverlayInt.whole c.args.place.now (segment_at (entries_of c.args.self.now.entries.items) i).pair) c.go_down-below-else-is_before.new.self.shape.nodes.items c.args.given c.go_down-below-else-is_before.result.last c.go_down-below-else-is_before.result.top (lasts_is entry_of c.args.self.now.entries.items (g.I.OverlayInt.whole c.args.x) c.args.at c.index-entry.result.now true (entry_within _ _ _ c.requires.same_length (down_within _ _ _ m c.if-at-eq-NONE.false)) c.index-entry.ensures (sym c.lasts_past.ensures ∙ c.if-not-lasts_past.false)) (stands_is entry_of c.args.self.now.entries.items (stands_before g.I.OverlayInt.whole c.args.place.now) c.args.at c.index-entry.result.now false (entry_within _ _ _ c.requires.same_length (down_within _ _ _ m c.if-at-eq-NONE.false)) c.index-entry.ensures (sym c.is_before.ensures.value ∙ c.if-is_before.false)) (c.go_down-below-else-is_before.ensures.placed is (left_may c.args.self.now.shape.nodes.items c.args.at c.args.new m c.if-at-eq-NONE.false c.node-node.result c.node-node.ensures))))
-
-pub returns-then-at-eq-NONE-clause-reached : goal.returns-then-at-eq-NONE-clause-reached
-returns-then-at-eq-NONE-clause-reached g t c = λ is m. empty_reached _ _ _ m c.if-at-eq-NONE.true _
-
-pub returns-then-is_before-clause-reached : goal.returns-then-is_before-clause-reached
-returns-then-is_before-clause-reached g t c = λ is m.
-    asked_above _ _ _ _ _ c.is_before.ensures.compared (c.go_down-below.ensures.reached is (right_may c.args.self.now.shape.nodes.items c.args.at c.args.new m c.if-at-eq-NONE.false c.node-node.result c.node-node.ensures)) (right_deep c.args.self.now.shape.nodes.items c.args.at c.args.new m c.if-at-eq-NONE.false c.node-node.result c.node-node.ensures)
-
-pub returns-else-is_before-clause-reached : goal.returns-else-is_before-clause-reached
-returns-else-is_before-clause-reached g t c = λ is m.
-    asked_above _ _ _ _ _ c.is_before.ensures.compared (c.go_down-below-else-is_before.ensures.reached is (left_may c.args.self.now.shape.nodes.items c.args.at c.args.new m c.if-at-eq-NONE.false c.node-node.result c.node-node.ensures)) (left_deep c.args.self.now.shape.nodes.items c.args.at c.args.new m c.if-at-eq-NONE.false c.node-node.result c.node-node.ensures)
 
 pub rejoin-top-requires-clause-parent : goal.rejoin-top-requires-clause-parent
 rejoin-top-requires-clause-parent g t c = λ h.

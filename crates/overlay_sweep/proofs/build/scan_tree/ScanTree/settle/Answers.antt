@@ -1,7 +1,7 @@
 use Rattle.std.proofs.Common.{◌∙◌, arith, refl}
 use Rattle.std.proofs.lemmas.List.{length-map}
 use Rattle.overlay_sweep.specs.EntryOf.{entry_of}
-use Rattle.overlay_sweep.proofs.laws.tree.ScanGrowth.{still_begins, still_grows, at_last, some_kept, high_within, asked_more, asked_last, asked_half}
+use Rattle.overlay_sweep.proofs.laws.tree.ScanGrowth.{still_begins, still_grows, at_last, some_kept, high_within, asked_more, asked_last}
 use Rattle.overlay_sweep.proofs.build.scan_tree.ScanTree.settle.Goals as goal
 use Rattle.std.proofs.lemmas.Bool.{not-true, not-false}
 
@@ -36,12 +36,6 @@ returns-then-not-descent-clause-compared g c = λ d h.
     let n = (c.loop-x.invariant.grows c.requires.growing).now in
     rw c.go_down-descent.ensures.kept
     (asked_last c.loop-x.self.compared c.go_down-descent.new.self.compared n.down.sound.high d c.args.self.now.kept c.loop-x.self.kept (c.loop-x.invariant.compared d h) (c.go_down-descent.ensures.compared n.down) (high_within _ _ _ _ _ _ n d c.args.self.now.kept c.loop-x.invariant.kept h))
-
-pub returns-then-not-descent-clause-reached : goal.returns-then-not-descent-clause-reached
-returns-then-not-descent-clause-reached g c =
-    let n = (c.loop-x.invariant.grows c.requires.growing).now in
-    let p = c.go_down-descent.ensures.placed (not-true _ c.if-not-descent.true) n.down in
-    asked_half _ _ _ _ _ _ _ p.tree p.at_most n.down.sound.low (c.go_down-descent.ensures.reached (not-true _ c.if-not-descent.true) n.down)
 
 pub loop-x-smaller : goal.loop-x-smaller
 loop-x-smaller g c =

@@ -6,7 +6,6 @@ use Rattle.overlay_geometry.specs.VSegmentOf.{v_pair_of}
 use Rattle.overlay_sweep.specs.EntryOf.{entry_of, entries_of}
 use Rattle.overlay_sweep.proofs.laws.tree.ScanGrowth.{scan_later}
 use Rattle.overlay_sweep.proofs.laws.tree.ScanAnswers.{pushed_grows, pushed_at, pushed_free, pushed_begun, pushed_live, pushed_room, pushed_short, pushed_sums, placed_scan, asked_by_insert}
-use Rattle.overlay_sweep.proofs.laws.tree.TreeWidths.{grown_way, pushed_way}
 use Rattle.overlay_sweep.proofs.laws.visits.LookCosts.{highest_of_fewer, drops_pay}
 use Rattle.overlay_sweep.proofs.build.scan_tree.ScanTreeLiveSegments.insert.Goals as goal
 
@@ -43,11 +42,3 @@ returns-in-Ok-clause-most g c = λ n d within high.
     let kept = rw c.in-Ok.ensures.kept at c.settle.ensures.kept in
     let asked = asked_by_insert _ _ _ d kept ((rw c.in-Ok.ensures.kept at c.settle.ensures.compared) d (highest_of_fewer _ n d within high)) in
     drops_pay _ (suc c.args.self.now.kept) _ d (omega (arith, kept)) asked
-
-pub returns-in-Ok-clause-look : goal.returns-in-Ok-clause-look
-returns-in-Ok-clause-look g c =
-    let q = pushed_grows entry_of (g.I.OverlayInt.whole c.args.x) c.args.self.now.entries.items c.push.new.self.entries.items _ c.in-Ok.ensures.entries c.in-Ok.new c.in-Ok.ensures.index.0 c.in-Ok.ensures.index.1 _ _ _ c.requires.time (omega (arith, ints, c.requires.start)) _ _ _ c.in-Ok.ensures.nodes c.in-Ok.ensures.root c.in-Ok.ensures.kept in
-    pushed_way entry_of (g.I.OverlayInt.whole c.args.x) c.args.self.now.entries.items c.push.new.self.entries.items _ _ c.in-Ok.ensures.entries
-    (grown_way (g.I.OverlayInt.whole c.args.x) (entries_of c.push.new.self.entries.items) _ _ _ _ _ _ _ (c.settle.ensures.grown q.now)
-    (pushed_begun entry_of (g.I.OverlayInt.whole c.args.x) c.args.self.now.entries.items c.push.new.self.entries.items _ c.in-Ok.ensures.entries c.in-Ok.new c.in-Ok.ensures.index.0 c.in-Ok.ensures.index.1 _ _ _ c.requires.time (omega (arith, ints, c.requires.start)))
-    c.settle.ensures.reached)

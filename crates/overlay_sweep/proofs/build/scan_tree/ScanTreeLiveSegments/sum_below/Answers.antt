@@ -7,7 +7,6 @@ use Rattle.overlay_sweep.specs.EntryOf.{entry_of}
 use Rattle.overlay_sweep.proofs.laws.tree.ScanReads.{segment_read}
 use Rattle.overlay_sweep.proofs.laws.tree.ScanGrowth.{looking, looked, scan_later}
 use Rattle.overlay_sweep.proofs.laws.tree.ScanAnswers.{last_within, default_answers, last_answers}
-use Rattle.overlay_sweep.proofs.laws.tree.TreeWidths.{grown_way}
 use Rattle.overlay_sweep.proofs.laws.visits.LookCosts.{highest_of_fewer, drops_pay}
 use Rattle.overlay_sweep.proofs.build.scan_tree.ScanTreeLiveSegments.sum_below.Goals as goal
 
@@ -48,9 +47,3 @@ returns-then-last-clause-most g c = λ n d within high. drops_pay _ _ _ d c.sett
 
 pub returns-else-last-clause-most : goal.returns-else-last-clause-most
 returns-else-last-clause-most g c = λ n d within high. drops_pay _ _ _ d c.settle-last.ensures.kept (c.settle-last.ensures.compared d (highest_of_fewer _ n d within high))
-
-pub returns-then-last-clause-look : goal.returns-then-last-clause-look
-returns-then-last-clause-look g c = grown_way (g.I.OverlayInt.whole c.args.x) _ _ _ _ _ _ _ _ (c.settle-last.ensures.grown (looking _ _ _ _ _ c.requires.time)) c.requires.time.begun c.settle-last.ensures.reached
-
-pub returns-else-last-clause-look : goal.returns-else-last-clause-look
-returns-else-last-clause-look g c = grown_way (g.I.OverlayInt.whole c.args.x) _ _ _ _ _ _ _ _ (c.settle-last.ensures.grown (looking _ _ _ _ _ c.requires.time)) c.requires.time.begun c.settle-last.ensures.reached

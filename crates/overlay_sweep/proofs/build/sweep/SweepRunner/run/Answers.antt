@@ -2,8 +2,7 @@ use Rattle.std.proofs.Common.{◌∙◌, sym, subst, ℕ, length}
 use Rattle.std.specs.Prelude.{Bool}
 use Rattle.overlay_base.specs.SegmentOf.{segments_of}
 use Rattle.overlay_sweep.proofs.laws.visits.Arrangements.{column_windings}
-use Rattle.overlay_sweep.specs.Costs.{IsSweepWithin, IsSweepTotal}
-use Rattle.overlay_sweep.proofs.laws.visits.LookTotals.{list_total, tree_total}
+use Rattle.overlay_sweep.specs.Costs.{IsSweepWithin}
 use Rattle.overlay_sweep.proofs.build.sweep.SweepRunner.run.Goals as goal
 use Rattle.overlay_sweep.proofs.build.sweep.SweepRunner.run.Goals.{then-is_list_fill+in_ok-answer, else-is_list_fill+in_ok-answer-2}
 
@@ -23,12 +22,4 @@ returns-clause-compared g c =
     elim c.if-is_list_fill.branch [
       | then-is_list_fill+in_ok-answer w ↦ subst within (sym w.if-is_list_fill.true ∙ c.is_list_fill.ensures) (rw w.compared-is w.in_ok-answer.ensures.compared)
       | else-is_list_fill+in_ok-answer-2 w ↦ subst within (sym w.if-is_list_fill.false ∙ c.is_list_fill.ensures) (rw w.compared-is w.in_ok-answer-2.ensures.compared)
-    ]
-
-pub returns-clause-total : goal.returns-clause-total
-returns-clause-total g c = λ never.
-    let total : Bool → Type 0 = λ is_list. IsSweepTotal is_list (segments_of c.args.segments.now) c.if-is_list_fill.compared in
-    elim c.if-is_list_fill.branch [
-      | then-is_list_fill+in_ok-answer w ↦ subst total (sym w.if-is_list_fill.true ∙ c.is_list_fill.ensures) (rw w.compared-is (list_total (segments_of c.args.segments.now) _ (w.in_ok-answer.ensures.total never)))
-      | else-is_list_fill+in_ok-answer-2 w ↦ subst total (sym w.if-is_list_fill.false ∙ c.is_list_fill.ensures) (rw w.compared-is (tree_total (segments_of c.args.segments.now) _ (w.in_ok-answer-2.ensures.total never)))
     ]

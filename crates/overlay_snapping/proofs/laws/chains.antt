@@ -1,0 +1,2 @@
+-- Chains, from lists of hot points and of segments that move.
+pub mod Closures

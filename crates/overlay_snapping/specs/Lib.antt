@@ -1,0 +1,3 @@
+pub mod Pixels
+pub mod Chains
+pub mod Laws

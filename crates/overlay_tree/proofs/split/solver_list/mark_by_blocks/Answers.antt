@@ -1,0 +1,40 @@
+use Rattle.std.proofs.Common.{◌≡◌, ◌<◌, ◌≤◌, ◌+◌, ◌-◌, sym, ◌∙◌, take, drop, length, arith}
+use Rattle.std.specs.List.{AllByRecursion}
+use Rattle.overlay_base.specs.Segments.{pairs}
+use Rattle.overlay_base.specs.SegmentOf.{segments_of}
+use Rattle.overlay_intersections.specs.MarkOf.{marks_of}
+use Rattle.overlay_intersections.specs.PlacingOf.{placing_of}
+use Rattle.overlay_intersections.proofs.laws.marks.ApartPairs.{AreApart}
+use Rattle.overlay_tree.specs.steps.Swept.{pair_at}
+use Rattle.overlay_tree.proofs.laws.list.ListScans.{IsScanned-block, IsScanned-none, uncounted, heights_at, block_is_apart}
+use Rattle.overlay_tree.proofs.laws.tree.Sweeps.{length-pairs}
+use Rattle.overlay_tree.proofs.split.solver_list.mark_by_blocks.Goals as goal
+use Rattle.overlay_tree.proofs.split.solver_list.mark_by_blocks.Goals.{then-meets_some+in_ok-rounded, else-meets_some}
+
+pub whole-preserved : goal.whole-preserved
+whole-preserved g c =
+    let whole = g.I.OverlayInt.whole in
+    let ps = pairs (segments_of c.args.segments.now) in
+    let placing = placing_of c.args.placing in
+    let i = c.args.index in
+    let j = c.whole.from in
+    let count = length-pairs c.args.segments.now in
+    let test = c.whole-test.true in
+    let within = c.requires.within in
+    let after = c.whole.invariant.after in
+    let lt : j + 16 ≤ length ps = omega arith in
+    let first : i < length ps = omega arith in
+    record {
+      scan = elim c.if-meets_some.branch [
+        | then-meets_some+in_ok-rounded w ↦
+            rw (w.marks-is, w.rounded-is) (IsScanned-block placing i ps (marks_of whole c.args.marks.now.items) (marks_of whole c.whole.marks.items) (marks_of whole w.mark_with_each.new.marks.items) c.whole.rounded w.in_ok-rounded.field-0 (i + 1) j (j + 16) c.whole.invariant.scan w.in_ok-rounded.ensures.marks w.in_ok-rounded.ensures.rounded)
+        | else-meets_some w ↦
+            let own = heights_at whole c.args.ranges.now ps i c.index-ranges-index.result c.requires.heights first c.index-ranges-index.is in
+            let size : j + 16 - j ≡ 16 = omega arith in
+            let none = uncounted _ (sym c.meets_some.ensures ∙ w.if-meets_some.false) in
+            let block : AllByRecursion (AreApart (pair_at ps i)) (take 16 (drop j ps)) = block_is_apart whole c.args.ranges.now ps (pair_at ps i) c.index-ranges-index.result j 16 c.requires.heights own (rw size at none) in
+            rw (w.marks-is, w.rounded-is) (IsScanned-none placing i ps (marks_of whole c.args.marks.now.items) (marks_of whole c.whole.marks.items) c.whole.rounded (i + 1) j 16 c.whole.invariant.scan lt block)
+      ];
+      after = omega arith;
+      within = omega arith;
+    }

@@ -1,0 +1,48 @@
+use Rattle.std.proofs.Common.{◌≡◌, ◌<◌, ◌≤◌, sym, ap₂, ◌∙◌, length, false, arith}
+use Rattle.overlay_geometry.specs.Ranges.{WholeRange, heights}
+use Rattle.overlay_base.specs.Segments.{pairs}
+use Rattle.overlay_base.specs.SegmentOf.{segments_of}
+use Rattle.overlay_intersections.specs.MarkOf.{marks_of}
+use Rattle.overlay_intersections.specs.PlacingOf.{placing_of}
+use Rattle.overlay_tree.specs.steps.ListScan.{do_ranges_meet}
+use Rattle.overlay_tree.specs.steps.Swept.{pair_at}
+use Rattle.overlay_tree.proofs.laws.list.ListScans.{IsScanned-more, IsScanned-apart, heights_at, apart_heights}
+use Rattle.overlay_tree.proofs.laws.tree.Sweeps.{length-pairs}
+use Rattle.overlay_tree.proofs.split.solver_list.mark_with_each.Goals as goal
+use Rattle.overlay_tree.proofs.split.solver_list.mark_with_each.Goals.{then-do_meet+in_ok-rounded, else-do_meet}
+
+pub loop-later-preserved : goal.loop-later-preserved
+loop-later-preserved g c =
+    let whole = g.I.OverlayInt.whole in
+    let ps = pairs (segments_of c.args.segments.now) in
+    let placing = placing_of c.args.placing in
+    let i = c.args.index in
+    let j = c.loop-later.later in
+    let count = length-pairs c.args.segments.now in
+    let test = c.loop-later-test.true in
+    let within = c.requires.within in
+    let after = c.requires.after in
+    let since : c.args.from ≤ j = c.loop-later.auto.later in
+    let lt : j < length ps = omega arith in
+    let first : i < length ps = omega arith in
+    elim c.if-do_meet.branch [
+      | then-do_meet+in_ok-rounded w ↦
+          rw (w.marks-is, w.rounded-is) (IsScanned-more placing i ps (marks_of whole c.args.marks.now.items) (marks_of whole c.loop-later.marks.items) (marks_of whole w.mark_two.new.marks.items) c.loop-later.rounded w.in_ok-rounded.field-0 c.args.from j c.loop-later.invariant lt w.in_ok-rounded.ensures.marks w.in_ok-rounded.ensures.rounded)
+      | else-do_meet w ↦
+          let own = heights_at whole c.args.ranges.now ps i c.index-ranges-index.result c.requires.heights first c.index-ranges-index.is in
+          let other = heights_at whole c.args.ranges.now ps j c.index-ranges-later.result c.requires.heights lt c.index-ranges-later.is in
+          let off : do_ranges_meet (heights (pair_at ps i)) (heights (pair_at ps j)) ≡ false = ap₂ (λ (r q : WholeRange). do_ranges_meet r q) (sym own) (sym other) ∙ sym c.do_meet.ensures ∙ w.if-do_meet.false in
+          rw (w.marks-is, w.rounded-is) (IsScanned-apart placing i ps (marks_of whole c.args.marks.now.items) (marks_of whole c.loop-later.marks.items) c.loop-later.rounded c.args.from j c.loop-later.invariant lt (apart_heights (pair_at ps i) (pair_at ps j) off))
+    ]
+
+pub returns-clause-marks : goal.returns-clause-marks
+returns-clause-marks g c =
+    let last = c.loop-later.auto.later-end c.requires.order in
+    let done : c.loop-later.later ≡ c.args.end = omega (arith, last, c.loop-later-test.false) in
+    rw done at c.loop-later.invariant.found
+
+pub returns-clause-rounded : goal.returns-clause-rounded
+returns-clause-rounded g c =
+    let last = c.loop-later.auto.later-end c.requires.order in
+    let done : c.loop-later.later ≡ c.args.end = omega (arith, last, c.loop-later-test.false) in
+    rw done at c.loop-later.invariant.flag
