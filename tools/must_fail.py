@@ -191,7 +191,8 @@ class Trial:
         if found["proof"]:
             *above, name = found["proof"].split("/")
             module = above[:-1] if above and not above[-1][0].islower() else above
-            return "::".join(module), name
+            # the folder of a function that calls itself begins with a plus
+            return "::".join(module), name.removeprefix("+")
         file = found["source"]
         function = function_at(texts.get(file) or source(self.crate.name, file), int(found["line"])) or ""
         return module_of(file), function.split("::")[-1]

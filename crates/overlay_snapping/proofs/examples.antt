@@ -2,3 +2,6 @@
 pub mod Computing
 pub mod Pixels
 pub mod Chains
+pub mod PointTrees
+pub mod Closures
+pub mod Cuts

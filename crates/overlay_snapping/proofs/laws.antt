@@ -1,3 +1,7 @@
 -- The laws of the definitions, as lemmas that proofs here and in the crates above cite.
 pub mod pixels
 pub mod chains
+pub mod planarity
+pub mod point_trees
+pub mod closure
+pub mod cuts

@@ -1,9 +1,9 @@
 -- Snap rounding of a list of segments, by hot pixels: which points are hot, which segments move, and the chain of each.
 -- A segment that moves goes through all points that it meets, every other one stays in place.
-use Rattle.std.specs.Prelude.{◌≡◌, ◌⊎◌, ◌↔◌, ⊤, IsTrue, Bool, not, ◌&&◌, int_lt, if◌then◌else◌, List, [], ◌∷◌, ◌++◌, flat_map, map, filter, Contains}
+use Rattle.std.specs.Prelude.{◌≡◌, ◌⊎◌, ◌↔◌, ⊤, IsTrue, IsFalse, Bool, not, ◌&&◌, int_lt, if◌then◌else◌, List, [], ◌∷◌, ◌++◌, flat_map, map, filter, Contains}
 use Rattle.std.specs.Ordering.{int_cmp, is_lt, ordering_then}
 use Rattle.std.specs.declared.cmp.Ordering.{Ordering}
-use Rattle.overlay_geometry.specs.Points.{Point, Pair, lies_on}
+use Rattle.overlay_geometry.specs.Points.{Point, Pair, point_cmp, point_lt, is_end, lies_on}
 use Rattle.overlay_geometry.specs.Meeting.{do_cross}
 use Rattle.overlay_geometry.specs.Sorting.{is_strictly_sorted}
 use Rattle.overlay_base.specs.Segments.{WholeSegment, pairs, ends}
@@ -68,10 +68,34 @@ along_cmp s p q = ordering_then (int_cmp p.x q.x) (if int_lt s.b.y s.a.y then in
 abbrev pub comes_before : Pair → Point → Point → Bool
 comes_before s p q = is_lt (along_cmp s p q)
 
+-- s is cut at c and at d, one after the other along it, and at no point between them
+pub record IsPiece (segments : List Pair) (s : Pair) (c d : Point) : Type 0 where
+  pub first : IsCutAt segments s c
+  pub last : IsCutAt segments s d
+  pub in_order : IsTrue (comes_before s c d)
+  pub none_between : (e : Point) → IsCutAt segments s e → IsTrue (comes_before s e c) ⊎ (e ≡ c) ⊎ (e ≡ d) ⊎ IsTrue (comes_before s d e)
+
+-- the pair of two points that differ
+abbrev pub pair_between : Point → Point → Pair
+pair_between c d = if point_lt c d then record { a = c; b = d } else record { a = d; b = c }
+
 -- the points at which s is cut, in their order along it
 pub record IsChain (segments : List Pair) (s : Pair) (points : List Point) : Type 0 where
   pub in_order : IsTrue (is_strictly_sorted (along_cmp s) points)
   pub complete : (c : Point) → Contains points c ↔ IsCutAt segments s c
+
+-- the points between the ends of s at which it is cut, in order of points
+pub record AreCutsBetween (segments : List Pair) (s : Pair) (marks : List Point) : Type 0 where
+  pub in_order : IsTrue (is_strictly_sorted point_cmp marks)
+  pub complete : (c : Point) → Contains marks c ↔ (IsCutAt segments s c × IsFalse (is_end s c))
+
+-- so for each segment of a list, where a function names these points for each pair
+abbrev pub AreSnapCuts : List WholeSegment → (Pair → List Point) → Type 0
+AreSnapCuts segments on = (s : Pair) → Contains (pairs segments) s → AreCutsBetween (pairs segments) s (on s)
+
+-- each segment moves or does not
+abbrev pub AreDecided : List WholeSegment → Type 0
+AreDecided segments = (s : Pair) → Contains (pairs segments) s → Moves (pairs segments) s ⊎ (Moves (pairs segments) s → ⊥)
 
 -- a chain for each segment
 abbrev pub AreChains : List Pair → List Pair → List (List Point) → Type 0

@@ -1,9 +1,18 @@
 -- Laws over the definitions: statements that the contracts of `snap::laws` name.
-use Rattle.std.specs.Prelude.{◌≡◌, ◌↔◌, ◌≤◌, ◌*◌, true, IsTrue, IsFalse}
-use Rattle.overlay_geometry.specs.Points.{Point, Pair, is_ordered}
-use Rattle.overlay_split.specs.Nearness.{Fraction, point_along, LiesNear}
+use Rattle.std.specs.Prelude.{◌≡◌, ◌↔◌, ◌⊎◌, ◌≤◌, ◌*◌, true, IsTrue, IsFalse, List, Contains, ℕ, ◌<◌, Some, All, length, slice_get}
+use Rattle.overlay_geometry.specs.Points.{Point, Pair, is_ordered, lies_on}
+use Rattle.overlay_geometry.specs.Meeting.{are_apart}
+use Rattle.overlay_split.specs.Nearness.{Fraction, point_along, LiesNear, LieNear, MarksLieNear}
+use Rattle.overlay_split.specs.Pass.{pass_by}
+use Rattle.overlay_split.specs.Path.{path}
 use Rattle.overlay_snapping.specs.Pixels.{IsInPixel, MeetsPixel, meets_pixel}
-use Rattle.overlay_snapping.specs.Chains.{comes_before}
+use Rattle.overlay_base.specs.Segments.{WholeSegment, pairs, ends, are_ordered, is_map}
+use Rattle.overlay_base.specs.Planar.{is_planar}
+use Rattle.overlay_intersections.specs.Marks.{settling}
+use Rattle.overlay_intersections.specs.PassMarks.{marks_on}
+use Rattle.overlay_snapping.specs.Chains.{comes_before, rounded_crossings, Moves, IsChainPoint, IsPiece, pair_between, IsChain, AreCutsBetween, IsSnapped, IsHot, AreSnapCuts, AreDecided}
+use Rattle.overlay_snapping.specs.Closure.{AreWithin, IsReachedPlace, IsReachedIndex, IsClosureInput}
+use Rattle.overlay_snapping.specs.declared.snap.passing.Passing.{Passing}
 
 -- the inequality between whole numbers holds exactly where a point of the pair lies in the pixel
 abbrev pub InequalityIsMeant : Type 0
@@ -18,3 +27,78 @@ PixelsAreMetInOrder =
 -- between two points whose pixels a pair meets, each point is within a half of some point of the pair, in each coordinate
 abbrev pub PiecesLieNear : Type 0
 PiecesLieNear = (s : Pair) (c d : Point) → MeetsPixel s c → MeetsPixel s d → LiesNear 1 (record { a = c; b = d }) s
+
+-- ---- the points of chains, by the marks of a settling pass
+
+-- A crossing is rounded to a point exactly where a settling pass marks a segment there on which the point does not lie.
+abbrev pub RoundedAreMarksOff : Type 0
+RoundedAreMarksOff =
+    (segments : List WholeSegment) → IsTrue (are_ordered segments) → (c : Point) →
+    Contains (rounded_crossings (pairs segments)) c ↔ ((s : Pair) × Contains (pairs segments) s × Contains (marks_on settling segments s) c × IsFalse (lies_on s c))
+
+-- The points through which chains go are the ends of the segments and the marks of a settling pass.
+abbrev pub ChainPointsAreEndsAndMarks : Type 0
+ChainPointsAreEndsAndMarks =
+    (segments : List WholeSegment) → IsTrue (are_ordered segments) → (c : Point) →
+    IsChainPoint (pairs segments) c ↔ (Contains (ends (pairs segments)) c ⊎ ((s : Pair) × Contains (pairs segments) s × Contains (marks_on settling segments s) c))
+
+-- A segment meets the pixel of each point at which a settling pass marks it.
+abbrev pub MarksMeetPixels : Type 0
+MarksMeetPixels =
+    (segments : List WholeSegment) → IsTrue (are_ordered segments) → (s : Pair) (c : Point) → Contains (pairs segments) s → Contains (marks_on settling segments s) c →
+    IsTrue (meets_pixel s c)
+
+-- ---- nearness
+
+-- Every segment of the result lies within a half of a given one, in each coordinate.
+abbrev pub SnappedLiesNear : Type 0
+SnappedLiesNear =
+    (segments result : List WholeSegment) → IsTrue (are_ordered segments) → IsSnapped segments result → LieNear 1 (pairs segments) (pairs result)
+
+-- ---- planarity
+
+-- Every two pieces of chains are apart: they share at most a common end, or are equal.
+abbrev pub PiecesAreApart : Type 0
+PiecesAreApart =
+    (segments : List WholeSegment) → IsTrue (are_ordered segments) → (s t : Pair) (c c' d d' : Point) → Contains (pairs segments) s → Contains (pairs segments) t →
+    IsPiece (pairs segments) s c c' → IsPiece (pairs segments) t d d' → IsTrue (are_apart (pair_between c c') (pair_between d d'))
+
+-- The result of snap rounding is a planar arrangement.
+abbrev pub SnappedIsPlanar : Type 0
+SnappedIsPlanar =
+    (segments result : List WholeSegment) → IsTrue (are_ordered segments) → IsSnapped segments result → IsTrue (is_map result) × IsTrue (is_planar result)
+
+-- ---- chains as paths
+
+-- The path of a segment through the points between its ends at which it is cut is its chain.
+abbrev pub PathIsChain : Type 0
+PathIsChain =
+    (segments : List Pair) (s : Pair) (marks : List Point) → IsTrue (is_ordered s) → Contains segments s → (Moves segments s ⊎ (Moves segments s → ⊥)) → AreCutsBetween segments s marks →
+    IsChain segments s (path s marks)
+
+-- So a pass through these points of each segment snaps, and each of them lies within a half of its segment.
+abbrev pub CutsSnap : Type 0
+CutsSnap =
+    (segments : List WholeSegment) (on : Pair → List Point) → IsTrue (are_ordered segments) → AreDecided segments → AreSnapCuts segments on →
+    IsSnapped segments (pass_by on segments) × MarksLieNear 1 on segments
+
+-- There is one chain of a segment, and so one result of snap rounding.
+abbrev pub SnappedIsOne : Type 0
+SnappedIsOne =
+    ((segments : List Pair) (s : Pair) (first second : List Point) → IsChain segments s first → IsChain segments s second → first ≡ second)
+    × ((segments first second : List WholeSegment) → IsSnapped segments first → IsSnapped segments second → first ≡ second)
+
+-- ---- the closure
+
+-- A place is reached exactly where the point there is hot, and an index exactly where the segment with it moves.
+abbrev pub ReachedIsHot : Type 0
+ReachedIsHot =
+    (segments : List Pair) (points : List Point) (seeds : List ℕ) (passings : List Passing) → IsClosureInput segments points seeds passings →
+    ((place : ℕ) (c : Point) → slice_get points place ≡ Some c → IsReachedPlace seeds passings place ↔ IsHot segments c)
+    × ((index : ℕ) (s : Pair) → slice_get segments index ≡ Some s → IsReachedIndex seeds passings index ↔ Moves segments s)
+
+-- the seeds and the passings have no place that is not one of a point, and no index that is not one of a segment
+abbrev pub InputIsWithin : Type 0
+InputIsWithin =
+    (segments : List Pair) (points : List Point) (seeds : List ℕ) (passings : List Passing) → IsClosureInput segments points seeds passings →
+    AreWithin (length points) (length segments) passings × All (λ place. place < length points) seeds

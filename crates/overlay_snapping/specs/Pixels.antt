@@ -1,6 +1,7 @@
 -- Pixels of whole points, and the segments that meet them.
-use Rattle.std.specs.Prelude.{ℕ, ◌+◌, ◌*◌, pos, ◌-ℤ◌, ◌*ℤ◌, neg_ℤ, ◌≤ℤ◌, ◌<ℤ◌, ℤ, unsigned_abs, int_lt, nat_lt, Bool, ◌&&◌, ◌||◌}
+use Rattle.std.specs.Prelude.{ℕ, ◌+◌, ◌*◌, pos, ◌-ℤ◌, ◌*ℤ◌, neg_ℤ, ◌≤ℤ◌, ◌<ℤ◌, ℤ, unsigned_abs, int_lt, nat_lt, Bool, ◌&&◌, ◌||◌, List, map, filter}
 use Rattle.std.specs.Ordering.{int_eq}
+use Rattle.std.specs.List.{enumerate_from}
 use Rattle.overlay_geometry.specs.Points.{Point, Pair, step, turn, is_in_box}
 use Rattle.overlay_base.specs.Places.{RationalPoint}
 use Rattle.overlay_split.specs.Nearness.{Fraction, point_along}
@@ -29,3 +30,7 @@ is_narrow v t = nat_lt (2 * unsigned_abs t) (extent v) || (int_eq (pos 2 *ℤ t)
 -- The same by whole numbers, for a pair in order: c lies in the box of s, and the line through s meets the pixel.
 unfoldable pub meets_pixel : Pair → Point → Bool
 meets_pixel s c = is_in_box s c && is_narrow (step s.a s.b) (turn s.a s.b c)
+
+-- the places in a list of the points whose pixels s meets, by rising place
+unfoldable pub met_places : Pair → List Point → List ℕ
+met_places s points = map (λ e. e.0) (filter (λ e. meets_pixel s e.1) (enumerate_from 0 points))

@@ -2,6 +2,7 @@
 pub mod Computing
 pub mod Squares
 pub mod Paths
+pub mod Cuts
 pub mod Runs
 pub mod DataPasses
 pub mod Sources

@@ -29,16 +29,23 @@ module _ {D S : Type 0} (hooks : Hooks D S) where
       let rest : List (List (DataSegment D)) × S = data_pieces_of_each marks segments here.1 in
       (here.0 ∷ rest.0, rest.1)
 
-  -- the first piece of each segment in its place, then the others in order
-  unfoldable pub data_cut : Placing → List (DataSegment D) → S → List (DataSegment D) × S
-  data_cut placing segments store =
-      let each : List (List (DataSegment D)) × S = data_pieces_of_each (λ pair. marks_on placing (without_data segments) pair) segments store in
+  -- the first piece of each segment in its place, then the others in order, where a function names the marks on each pair
+  unfoldable pub data_cut_by : (Pair → List Point) → List (DataSegment D) → S → List (DataSegment D) × S
+  data_cut_by marks segments store =
+      let each : List (List (DataSegment D)) × S = data_pieces_of_each marks segments store in
       (flat_map (λ ps. take 1 ps) each.0 ++ flat_map (λ ps. drop 1 ps) each.0, each.1)
 
-  unfoldable pub data_pass : Placing → List (DataSegment D) → S → List (DataSegment D) × S
-  data_pass placing segments store =
-      let pieces : List (DataSegment D) × S = data_cut placing segments store in
+  abbrev pub data_pass_by : (Pair → List Point) → List (DataSegment D) → S → List (DataSegment D) × S
+  data_pass_by marks segments store =
+      let pieces : List (DataSegment D) × S = data_cut_by marks segments store in
       data_join hooks pieces.0 pieces.1
+
+  -- the same at the marks that a pass makes
+  abbrev pub data_cut : Placing → List (DataSegment D) → S → List (DataSegment D) × S
+  data_cut placing segments store = data_cut_by (marks_on placing (without_data segments)) segments store
+
+  unfoldable pub data_pass : Placing → List (DataSegment D) → S → List (DataSegment D) × S
+  data_pass placing segments store = data_pass_by (marks_on placing (without_data segments)) segments store
 
   -- the segments with their data, and the store, after k passes
   unfoldable pub data_after_passes : Settings → List (DataSegment D) → S → ℕ → List (DataSegment D) × S

@@ -1,28 +1,29 @@
 -- Laws over the definitions, each a statement that is proved once and named by a contract.
-use Rattle.std.specs.Prelude.{◌≡◌, ◌<◌, ◌≤◌, ℕ, ◌*◌, ℤ, ◌-ℤ◌, ◌*ℤ◌, ◌||◌, IsTrue, ◌+◌, ◌-◌, neg_ℤ, Bool, false, IsFalse, ◌&&◌, ◌⊎◌, if◌then◌else◌, List, [], filter, All, Contains, IsPermutation, length, min, nat_lt, ◌^◌, ◌/◌}
+use Rattle.std.specs.Prelude.{◌≡◌, ◌≢◌, ◌<◌, ◌≤◌, ℕ, ◌*◌, ℤ, ◌-ℤ◌, ◌*ℤ◌, ◌||◌, IsTrue, ◌+◌, ◌-◌, neg_ℤ, Bool, false, IsFalse, ◌&&◌, ◌⊎◌, if◌then◌else◌, List, [], filter, All, Contains, IsPermutation, length, min, nat_lt, ◌^◌, ◌/◌}
 use Rattle.std.specs.List.{list_all}
-use Rattle.overlay_geometry.specs.Points.{Point, Pair, is_vertical, is_horizontal, is_within_box_of}
+use Rattle.overlay_geometry.specs.Points.{Point, Pair, is_vertical, is_horizontal, is_in_box, is_within_box_of}
+use Rattle.overlay_geometry.specs.Coordinates.{is_point_in_range}
 use Rattle.overlay_geometry.specs.Meeting.{do_cross, are_apart}
 use Rattle.overlay_base.specs.Windings.{Winding, inverse}
 use Rattle.overlay_base.specs.Segments.{WholeSegment, pairs, ends, is_map, are_ordered, are_polygons}
 use Rattle.overlay_base.specs.Sums.{IsLinear, weighed}
-use Rattle.overlay_base.specs.Join.{join}
-use Rattle.overlay_base.specs.Planar.{is_planar}
+use Rattle.overlay_base.specs.Join.{join, join_leaves_range}
+use Rattle.overlay_base.specs.Planar.{is_planar, is_splittable}
 use Rattle.overlay_base.specs.Balance.{IsBalanced, KeepsBalance}
 use Rattle.overlay_base.specs.EdgeData.{Hooks, DataSegment, SplitCall, MergeCall, without_data}
 use Rattle.overlay_intersections.specs.Crossing.{is_exact, snapping_point, settling_point}
 use Rattle.overlay_intersections.specs.Marks.{Placing, ordered_mark, settling}
 use Rattle.overlay_split.specs.Path.{pieces}
-use Rattle.overlay_split.specs.Pass.{cut, pass}
+use Rattle.overlay_split.specs.Pass.{EachMark, cut_by, pass_by, cut, pass}
 use Rattle.overlay_intersections.specs.PassMarks.{marks_on, is_rounded, mark_count}
 use Rattle.overlay_split.specs.Run.{Settings, IsPassCount, IsRun, LeavesRange, after_passes}
 use Rattle.overlay_split.specs.Potential.{potential}
 use Rattle.overlay_split.specs.ExactInput.{is_exact_input, KeepsCounts, IsExactAnswer}
 use Rattle.overlay_base.specs.Places.{RationalPoint, spans, lies_below, winding_below}
 use Rattle.overlay_base.specs.Rays.{is_on_none, winding_above, winding_left, winding_right}
-use Rattle.overlay_split.specs.Nearness.{Fraction, whole_point, point_along, exact_crossing, IsWithin, IsNear, LiesNear, LieNear, IsNearSome, StaysNear, LinesStayNear, are_lines, root, reach, reach_of_pass, reach_of_run, reach_of_passes}
-use Rattle.overlay_split.specs.Places.{IsFar, KeepsWinding, KeepsWindingNearLines}
-use Rattle.overlay_split.specs.DataPass.{data_pass, data_after_passes, IsStoppedRun}
+use Rattle.overlay_split.specs.Nearness.{Fraction, whole_point, point_along, exact_crossing, IsWithin, IsNear, LiesNear, LieNear, MarksLieNear, IsNearSome, StaysNear, LinesStayNear, with_mask, are_lines, root, reach, reach_of_pass, reach_of_run, reach_of_passes}
+use Rattle.overlay_split.specs.Places.{IsFar, KeepsWinding, that_wind, KeepsWindingNearLines}
+use Rattle.overlay_split.specs.DataPass.{data_pass_by, data_pass, data_after_passes, IsStoppedRun}
 
 -- ---- paths
 
@@ -95,6 +96,46 @@ PartHasTheMarks =
     ((s t : Pair) → Contains (pairs segments) s → Contains (pairs segments) t → (keep s && keep t) ≡ false → IsTrue (are_apart s t)) →
     ((s : Pair) → Contains (pairs segments) s → marks_on placing segments s ≡ (if keep s then marks_on placing (filter (λ u. keep u.pair) segments) s else []))
     × (is_rounded segments ≡ is_rounded (filter (λ u. keep u.pair) segments))
+
+-- ---- cuts at whatever marks, joined
+
+-- such a cut changes no point's balance
+abbrev pub CutKeepsBalance : Type 0
+CutKeepsBalance = (marks : Pair → List Point) (segments : List WholeSegment) → KeepsBalance segments (pass_by marks segments)
+
+-- it is an arrangement, where no mark is an end of its pair
+abbrev pub CutIsMap : Type 0
+CutIsMap =
+    (marks : Pair → List Point) (segments : List WholeSegment) → IsTrue (are_ordered segments) → EachMark (λ s m. (m ≢ s.a) × (m ≢ s.b)) marks segments →
+    IsTrue (is_map (pass_by marks segments))
+
+-- and may be split as the list may, where the marks and all sums are in range
+abbrev pub CutIsSplittable : Type 0
+CutIsSplittable =
+    (least greatest : ℤ) (marks : Pair → List Point) (segments : List WholeSegment) → IsTrue (are_ordered segments) → IsTrue (is_splittable least greatest segments) →
+    EachMark (λ s m. (m ≢ s.a) × (m ≢ s.b)) marks segments → EachMark (λ s m. IsTrue (is_point_in_range least greatest m)) marks segments → IsFalse (join_leaves_range (cut_by marks segments)) →
+    IsTrue (is_splittable least greatest (pass_by marks segments))
+
+-- an arrangement without marks stays as it is
+abbrev pub UnmarkedCutIsUnchanged : Type 0
+UnmarkedCutIsUnchanged =
+    (marks : Pair → List Point) (segments : List WholeSegment) → IsTrue (is_map segments) → All (λ s. marks s ≡ []) (pairs segments) → pass_by marks segments ≡ segments
+
+-- no mask appears
+abbrev pub CutKeepsPolygons : Type 0
+CutKeepsPolygons = (marks : Pair → List Point) (segments : List WholeSegment) → IsTrue (are_polygons segments) → IsTrue (are_polygons (pass_by marks segments))
+
+-- The ends of the pieces lie in the box of any points in which the ends of the list and the marks lie.
+abbrev pub CutStaysInBox : Type 0
+CutStaysInBox =
+    (corners : List Point) (marks : Pair → List Point) (segments : List WholeSegment) → IsTrue (list_all (λ p. is_within_box_of corners p) (ends (pairs segments))) →
+    EachMark (λ s m. IsTrue (is_within_box_of corners m)) marks segments → IsTrue (list_all (λ p. is_within_box_of corners p) (ends (pairs (pass_by marks segments))))
+
+-- Points lie in their own box, and what lies in the box of a pair lies in each in which the ends of the pair lie.
+abbrev pub BoxesAreMeant : Type 0
+BoxesAreMeant =
+    ((points : List Point) → IsTrue (list_all (λ p. is_within_box_of points p) points))
+    × ((corners : List Point) (s : Pair) (p : Point) → IsTrue (is_within_box_of corners s.a) → IsTrue (is_within_box_of corners s.b) → IsTrue (is_in_box s p) → IsTrue (is_within_box_of corners p))
 
 -- ---- runs
 
@@ -207,6 +248,31 @@ pub record IsMarkNear (placing : Placing) (s t : Pair) : Type 0 where
 abbrev pub MarkIsNear : Type 0
 MarkIsNear = (placing : Placing) (s t : Pair) → IsTrue (do_cross s t) → IsMarkNear placing s t
 
+-- where marks lie near their pairs, every pair of the cut, joined, lies as near to one of the pairs before it
+abbrev pub CutStaysNear : Type 0
+CutStaysNear =
+    (halves : ℕ) (marks : Pair → List Point) (segments : List WholeSegment) → MarksLieNear halves marks segments →
+    LieNear halves (pairs segments) (pairs (pass_by marks segments))
+
+-- and every point of a pair as near to one of the pieces
+abbrev pub CutPiecesStayNear : Type 0
+CutPiecesStayNear =
+    (halves : ℕ) (marks : Pair → List Point) (segments : List WholeSegment) (s : Pair) → IsTrue (are_ordered segments) → MarksLieNear halves marks segments → Contains (pairs segments) s → (f : Fraction) →
+    IsNearSome halves (point_along s f) (pairs (cut_by marks segments))
+
+-- those that wind lie as near to those that wound
+abbrev pub CutKeepsWhatWinds : Type 0
+CutKeepsWhatWinds =
+    (halves : ℕ) (marks : Pair → List Point) (segments : List WholeSegment) → MarksLieNear halves marks segments →
+    LieNear halves (pairs (that_wind segments)) (pairs (that_wind (pass_by marks segments)))
+
+-- and lines to lines, both ways, where masks are of two bits
+abbrev pub CutKeepsLines : Type 0
+CutKeepsLines =
+    (halves : ℕ) (marks : Pair → List Point) (segments : List WholeSegment) → IsTrue (are_ordered segments) → IsTrue (list_all (λ s. nat_lt s.count.mask 4) segments) → MarksLieNear halves marks segments →
+    LieNear halves (pairs (with_mask segments)) (pairs (with_mask (pass_by marks segments)))
+    × ((s : Pair) → Contains (pairs (with_mask segments)) s → (f : Fraction) → IsNearSome halves (point_along s f) (pairs (with_mask (pass_by marks segments))))
+
 -- every pair of a pass lies near one of the pairs before it: no farther than the pass moves crossings
 abbrev pub PassStaysNear : Type 0
 PassStaysNear =
@@ -263,6 +329,18 @@ PassOnOneSide =
 abbrev pub JoinKeepsWinding : Type 0
 JoinKeepsWinding = (bag : List WholeSegment) (p : RationalPoint) → winding_below (join bag) p ≡ winding_below bag p
 
+-- nor does a cut at marks that lie near their pairs, at a place that is farther from each pair
+abbrev pub CutKeepsWinding : Type 0
+CutKeepsWinding =
+    (halves : ℕ) (marks : Pair → List Point) (segments : List WholeSegment) (p : RationalPoint) → IsTrue (are_ordered segments) → MarksLieNear halves marks segments → IsFar halves p (pairs segments) →
+    winding_below (pass_by marks segments) p ≡ winding_below segments p
+
+-- nor at one that is farther from each pair that winds
+abbrev pub CutKeepsWindingNearLines : Type 0
+CutKeepsWindingNearLines =
+    (halves : ℕ) (marks : Pair → List Point) (segments : List WholeSegment) (p : RationalPoint) → IsTrue (are_ordered segments) → MarksLieNear halves marks segments → IsFar halves p (pairs (that_wind segments)) →
+    winding_below (pass_by marks segments) p ≡ winding_below segments p
+
 -- a pass changes none at a place that is farther from each segment than it moves crossings
 abbrev pub PassKeepsWinding : Type 0
 PassKeepsWinding =
@@ -306,11 +384,23 @@ DataIsBeside D S =
     (hooks : Hooks D S) (settings : Settings) (given : List (DataSegment D)) (store : S) (k : ℕ) →
     without_data (data_after_passes hooks settings given store k).0 ≡ after_passes settings (without_data given) k
 
+-- nor those of a cut at whatever marks, joined
+abbrev pub DataCutIsBeside : (D S : Type 0) → Type 0
+DataCutIsBeside D S =
+    (hooks : Hooks D S) (marks : Pair → List Point) (segments : List (DataSegment D)) (store : S) →
+    without_data (data_pass_by hooks marks segments store).0 ≡ pass_by marks (without_data segments)
+
 -- a pass that makes no mark leaves the arrangement, its data and the store as they are
 abbrev pub UnmarkedDataIsUnchanged : (D S : Type 0) → Type 0
 UnmarkedDataIsUnchanged D S =
     (hooks : Hooks D S) (placing : Placing) (segments : List (DataSegment D)) (store : S) → IsTrue (is_map (without_data segments)) → mark_count placing (without_data segments) ≡ 0 →
     data_pass hooks placing segments store ≡ (segments, store)
+
+-- so do cuts at whatever marks, joined, where there are none
+abbrev pub UnmarkedDataCutIsUnchanged : (D S : Type 0) → Type 0
+UnmarkedDataCutIsUnchanged D S =
+    (hooks : Hooks D S) (marks : Pair → List Point) (segments : List (DataSegment D)) (store : S) → IsTrue (is_map (without_data segments)) → All (λ s. marks s ≡ []) (pairs (without_data segments)) →
+    data_pass_by hooks marks segments store ≡ (segments, store)
 
 -- and so does a run over a planar arrangement
 abbrev pub ArrangedDataIsUnchanged : (D S : Type 0) → Type 0
@@ -323,6 +413,12 @@ pub record HooksKeep {D S : Type 0} (hooks : Hooks D S) (has : D → Bool) : Typ
   pub reversed : (d : D) (store : S) → IsTrue (has d) → IsTrue (has (hooks.reversed d store).0)
   pub split : (call : SplitCall D) (store : S) → IsTrue (has call.edge_data) → IsTrue (has (hooks.split call store).0.0) × IsTrue (has (hooks.split call store).0.1)
   pub merge : (call : MergeCall D) (store : S) → IsTrue (has call.lhs_data) → IsTrue (has call.rhs_data) → IsTrue (has (hooks.merge call store).0)
+
+-- what the hooks keep holds of all data after a cut, joined, where it holds of all before
+abbrev pub DataCutKeepsWhatHooksKeep : (D S : Type 0) → Type 0
+DataCutKeepsWhatHooksKeep D S =
+    (hooks : Hooks D S) (has : D → Bool) → HooksKeep hooks has → (marks : Pair → List Point) (segments : List (DataSegment D)) (store : S) →
+    IsTrue (list_all (λ s. has s.edge_data) segments) → IsTrue (list_all (λ s. has s.edge_data) (data_pass_by hooks marks segments store).0)
 
 -- what the hooks keep holds of all data after a run where it holds of all that is given
 abbrev pub DataKeepsWhatHooksKeep : (D S : Type 0) → Type 0
@@ -337,6 +433,12 @@ pub record HooksNameNoOther {D S : Type 0} (hooks : Hooks D S) (names : D → Pa
   pub split_first : (call : SplitCall D) (store : S) (s : Pair) → IsTrue (names (hooks.split call store).0.0 s) → IsTrue (names call.edge_data s)
   pub split_rest : (call : SplitCall D) (store : S) (s : Pair) → IsTrue (names (hooks.split call store).0.1 s) → IsTrue (names call.edge_data s)
   pub merge : (call : MergeCall D) (store : S) (s : Pair) → IsTrue (names (hooks.merge call store).0 s) → IsTrue (names call.lhs_data s || names call.rhs_data s)
+
+-- so after a cut, joined, each segment lies near every pair that its data names, by as much more as the marks lie from their pairs
+abbrev pub DataCutNamesWhatIsNear : (D S : Type 0) → Type 0
+DataCutNamesWhatIsNear D S =
+    (hooks : Hooks D S) (names : D → Pair → Bool) → HooksNameNoOther hooks names → (before more : ℕ) (marks : Pair → List Point) (segments : List (DataSegment D)) (store : S) →
+    MarksLieNear more marks (without_data segments) → NameNear names before segments → NameNear names (before + more) (data_pass_by hooks marks segments store).0
 
 -- so after a run each segment lies as near to every pair that its data names as the passes reach, where each given one lies on those that it names
 abbrev pub DataNamesWhatIsNear : (D S : Type 0) → Type 0

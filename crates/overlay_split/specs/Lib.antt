@@ -8,6 +8,7 @@ pub mod Potential
 pub mod DataPass
 pub mod SettingsOf
 pub mod PassOf
+pub mod CutOf
 pub mod ExactInput
 pub mod Nearness
 pub mod Places

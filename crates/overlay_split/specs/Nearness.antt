@@ -7,7 +7,7 @@ use Rattle.overlay_base.specs.Windings.{Winding, is_not_empty}
 use Rattle.overlay_base.specs.Segments.{WholeSegment, pairs, winding_at, ends}
 use Rattle.overlay_intersections.specs.Crossing.{offset_x, offset_y}
 use Rattle.overlay_intersections.specs.Marks.{Placing, snapping, settling}
-use Rattle.overlay_split.specs.Pass.{cut}
+use Rattle.overlay_split.specs.Pass.{EachMark, cut}
 use Rattle.overlay_intersections.specs.PassMarks.{is_rounded}
 use Rattle.overlay_split.specs.Run.{Settings, placing_of_pass, after_passes}
 use Rattle.overlay_base.specs.Join.{join}
@@ -56,6 +56,10 @@ LiesNear halves r s = (f : Fraction) → IsNear halves (point_along r f) s
 -- every pair of the result lies that near to one of the given pairs
 abbrev pub LieNear : ℕ → List Pair → List Pair → Type 0
 LieNear halves given result = All (λ r. (s : Pair) × Contains given s × LiesNear halves r s) result
+
+-- each mark on a pair of the list lies that near to the pair, where a function names the marks on a pair
+abbrev pub MarksLieNear : ℕ → (Pair → List Point) → List WholeSegment → Type 0
+MarksLieNear halves marks segments = EachMark (λ s m. IsNear halves (whole_point m) s) marks segments
 
 -- p is that near to some pair of a list
 abbrev pub IsNearSome : ℕ → RationalPoint → List Pair → Type 0

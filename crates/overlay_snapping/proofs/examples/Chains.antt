@@ -11,24 +11,24 @@ use Rattle.overlay_snapping.proofs.examples.Computing.{computing}
 
 -- ---- two that cross at (3/2, 3/2), which is rounded to (2, 2). That point lies on the first, which stays in place; the second moves
 
-abbrev two : List WholeSegment
+abbrev pub two : List WholeSegment
 two = seg (pos 0) (pos 0) (pos 5) (pos 5) (pos 1) ∷ seg (pos 0) (pos 3) (pos 5) (neg 2) (pos 2) ∷ []
 
-abbrev two_hot : List Point
+abbrev pub two_hot : List Point
 two_hot = point (pos 2) (pos 2) ∷ []
 
-abbrev two_movers : List Pair
+abbrev pub two_movers : List Pair
 two_movers = pair (pos 0) (pos 3) (pos 5) (neg 2) ∷ []
 
-crossing_of_two : IsHot (pairs two) (point (pos 2) (pos 2))
+pub crossing_of_two : IsHot (pairs two) (point (pos 2) (pos 2))
 unfolding computing
 crossing_of_two = rounded (0, omega arith, refl)
 
-second_of_two : Moves (pairs two) (pair (pos 0) (pos 3) (pos 5) (neg 2))
+pub second_of_two : Moves (pairs two) (pair (pos 0) (pos 3) (pos 5) (neg 2))
 unfolding computing
 second_of_two = passes (1, omega arith, refl) crossing_of_two refl
 
-two_closed : AreClosed (pairs two) two_hot two_movers
+pub two_closed : AreClosed (pairs two) two_hot two_movers
 unfolding computing
 two_closed = record { crossings = refl; given = refl; passing = refl }
 

@@ -1,9 +1,10 @@
 -- Opens every definition: a proof under the line `unfolding computing` computes with all of them.
 use Rattle.std.specs.Prelude.{⊤}
-use Rattle.overlay_snapping.specs.Pixels.{meets_pixel}
+use Rattle.overlay_snapping.specs.Pixels.{meets_pixel, met_places}
+use Rattle.overlay_snapping.specs.steps.PointTrees.{are_boxes}
 use Rattle.overlay_snapping.specs.Chains.{crossings_by, chain_pieces}
 use Rattle.overlay_split.proofs.examples.Computing.{computing as split_computing}
 
 unfoldable pub computing : Type 0
-unfolding split_computing meets_pixel crossings_by chain_pieces
+unfolding split_computing meets_pixel met_places are_boxes crossings_by chain_pieces
 computing = ⊤

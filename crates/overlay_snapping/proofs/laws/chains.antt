@@ -1,2 +1,9 @@
 -- Chains, from lists of hot points and of segments that move.
 pub mod Closures
+pub mod MarkPoints
+pub mod MarkPixels
+pub mod Orders
+pub mod Paths
+pub mod Snaps
+pub mod MarkLists
+pub mod SnapRuns

@@ -3,3 +3,4 @@ pub mod Offsets
 pub mod Inequality
 pub mod Orders
 pub mod Distances
+pub mod Ways

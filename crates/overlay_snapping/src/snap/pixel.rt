@@ -1,15 +1,16 @@
 // Whether a segment meets the pixel of a whole point. This project's own.
 ghost use Rattle.std.specs.Prelude.{◌≡◌, ◌&&◌, ◌*◌, ◌≤◌, ◌*ℤ◌, pos, nat_lt, unsigned_abs, IsTrue};
 ghost use Rattle.std.specs.Ordering.{int_eq};
-ghost use Rattle.overlay_geometry.specs.Points.{is_ordered, is_between, cross_product};
+ghost use Rattle.overlay_geometry.specs.Points.{is_ordered, is_between, cross_product, lies_on};
 ghost use Rattle.overlay_geometry.specs.PointOf.{point_of};
 ghost use Rattle.overlay_geometry.specs.PairOf.{pair_of};
 ghost use Rattle.overlay_geometry.specs.VectorOf.{vector_of};
 ghost use Rattle.overlay_geometry.specs.Coordinates.{greatest_product};
 ghost use Rattle.overlay_geometry.specs.InRange.{IsPointInRange, IsPairInRange};
-ghost use Rattle.overlay_snapping.specs.Pixels.{meets_pixel, is_narrow};
+ghost use Rattle.overlay_snapping.specs.Pixels.{meets_pixel, is_narrow, extent};
 
 use overlay_geometry::geom::point::IntPoint;
+use overlay_geometry::geom::triangle::Triangle;
 use overlay_geometry::geom::vector::IntVector;
 use overlay_geometry::geom::x_segment::XSegment;
 use overlay_geometry::num::OverlayInt;
@@ -26,6 +27,17 @@ pub fn meets_pixel<I: OverlayInt>(segment: &XSegment<I>, point: IntPoint<I>) -> 
     let way = IntVector::between(segment.a, segment.b);
     let to = IntVector::between(segment.a, point);
     is_in_box(way, to) && is_narrow(way, to)
+}
+
+/// Whether the point lies on the segment, ends included. Both have to be in range.
+pub(crate) fn lies_on<I: OverlayInt>(segment: &XSegment<I>, point: IntPoint<I>) -> bool
+    requires in_range { IsPairInRange I.whole I.MIN_COORD I.MAX_COORD segment.now }
+    requires point { IsPointInRange I.whole I.MIN_COORD I.MAX_COORD point }
+    ensures { result ≡ lies_on (pair_of I.whole segment.now) (point_of I.whole point) }
+{
+    let way = IntVector::between(segment.a, segment.b);
+    let to = IntVector::between(segment.a, point);
+    Triangle::is_line(segment.a, segment.b, point) && is_in_box(way, to)
 }
 
 /// Whether the second way ends in the box of which the first is a diagonal.
@@ -47,8 +59,15 @@ fn is_narrow(way: IntVector, to: IntVector) -> bool
     ensures { result ≡ is_narrow (vector_of way) (cross_product (vector_of way) (vector_of to)) }
 {
     let turn = way.cross_product(to);
-    let extent = way.x().unsigned_abs() + way.y().unsigned_abs();
+    let extent = extent(way);
     is_half_below(turn, extent) || is_half(turn, extent) && way.y() < 0
+}
+
+/// The sum of how far a way goes in x and in y.
+pub(crate) fn extent(way: IntVector) -> u64
+    ensures { result ≡ extent (vector_of way) }
+{
+    way.x().unsigned_abs() + way.y().unsigned_abs()
 }
 
 /// Whether twice the turn is less than the extent, whatever its sign.

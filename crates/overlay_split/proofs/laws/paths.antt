@@ -1,5 +1,6 @@
 -- Paths, sums over pieces, and the end of a run.
 pub mod Cuts
+pub mod MarkedPairs
 pub mod Paths
 pub mod Pieces
 pub mod PieceCounts

@@ -1,6 +1,8 @@
 // The laws of passes and of runs. Each function has an empty body, and its contract is proved for all whole numbers,
 // all lists and all hooks, whatever the engine.
 ghost use Rattle.overlay_split.specs.Laws.{NumbersAreOdd, PiecesTelescope, PassKeepsLosses, PassKeepsBalance, RunKeepsBalance, RunKeepsPolygons, UnmarkedAreApart, PassHasOldOrMarked, PartHasTheMarks};
+ghost use Rattle.overlay_split.specs.Laws.{CutKeepsBalance, CutIsMap, CutIsSplittable, UnmarkedCutIsUnchanged, CutKeepsPolygons, CutStaysNear, CutPiecesStayNear, CutKeepsWhatWinds, CutKeepsLines, CutKeepsWinding, CutKeepsWindingNearLines, CutStaysInBox, BoxesAreMeant};
+ghost use Rattle.overlay_split.specs.Laws.{DataCutIsBeside, UnmarkedDataCutIsUnchanged, DataCutKeepsWhatHooksKeep, DataCutNamesWhatIsNear};
 ghost use Rattle.overlay_split.specs.Laws.{SettlingLowers, RunEnds, RunIsOne, ExactPassIsPlanar, PlanarPassIsUnchanged, RunIsPlanar, ArrangedIsUnchanged, ResultIsUnchanged};
 ghost use Rattle.overlay_split.specs.Laws.{RootIsMeant, RootOfPower, NearEndsAreEnough, DistancesAddUp, CrossingLiesOnBoth, MarkIsNear, PassStaysNear, PiecesStayNear, RunStaysNear, LinesAreKept, RunKeepsLines, ReachIsBounded, LastPassReachesNothing, ExactInputReachesNothing};
 ghost use Rattle.overlay_split.specs.Laws.{PassOnOneSide, JoinKeepsWinding, PassKeepsWinding, RunKeepsWinding, RunKeepsWindingNearLines, ExactInputKeepsWinding};
@@ -16,6 +18,29 @@ pub fn balance_laws()
     ensures pass_losses { PassKeepsLosses }
     ensures pass_balance { PassKeepsBalance }
     ensures run_balance { RunKeepsBalance }
+{}
+
+/// Let a function name the points at which each segment of a list is cut, and the pieces be joined. No balance changes.
+/// Where no point is an end of its segment, the result is an arrangement, and it may be split where the points and all
+/// sums are in range. An arrangement that is cut nowhere stays as it is. Counts without a mask stay so.
+///
+/// Where each point lies near its segment, the result lies as near to the list, and the list to the pieces; lines lie as
+/// near to lines, both ways. The winding stays at each place that is farther from every segment, or from every one that
+/// winds. A box in which the ends of the list and the points lie holds the result.
+pub fn cut_laws()
+    ensures balance { CutKeepsBalance }
+    ensures map { CutIsMap }
+    ensures splittable { CutIsSplittable }
+    ensures unmarked { UnmarkedCutIsUnchanged }
+    ensures polygons { CutKeepsPolygons }
+    ensures near { CutStaysNear }
+    ensures pieces { CutPiecesStayNear }
+    ensures winds { CutKeepsWhatWinds }
+    ensures lines { CutKeepsLines }
+    ensures winding { CutKeepsWinding }
+    ensures near_lines { CutKeepsWindingNearLines }
+    ensures in_box { CutStaysInBox }
+    ensures boxes { BoxesAreMeant }
 {}
 
 /// The order of the given segments does not count: the list after any number of passes is the same, and so is what a
@@ -116,6 +141,17 @@ pub fn data_pass_laws<D, S>()
     ensures arranged { ArrangedDataIsUnchanged D S }
     ensures keeps { DataKeepsWhatHooksKeep D S }
     ensures names { DataNamesWhatIsNear D S }
+{}
+
+/// The same cuts with data. Without their data they are the cuts without. Where nothing is marked, data and store stay as
+/// they are. What the hooks keep of data holds of all data after, where it holds of all before. Where data names pairs
+/// and the hooks name no others, each piece lies near every pair that its data names, by as much more as the marks lie
+/// from their segments.
+pub fn data_cut_laws<D, S>()
+    ensures beside { DataCutIsBeside D S }
+    ensures unmarked { UnmarkedDataCutIsUnchanged D S }
+    ensures keeps { DataCutKeepsWhatHooksKeep D S }
+    ensures names { DataCutNamesWhatIsNear D S }
 {}
 
 /// Where a run was refused some sum leaves the range, and there is one store that such a run leaves.

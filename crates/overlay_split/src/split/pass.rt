@@ -6,10 +6,10 @@ ghost use Rattle.overlay_base.specs.Segments.{pairs, is_map};
 ghost use Rattle.overlay_base.specs.ArrangedOf.{IsSplittable};
 ghost use Rattle.overlay_base.specs.EdgeData.{IsMadeFrom};
 ghost use Rattle.overlay_base.specs.HooksOf.{hooks_of};
-ghost use Rattle.overlay_base.specs.SegmentOf.{segments_of, data_segments_of};
+ghost use Rattle.overlay_base.specs.SegmentOf.{segments_of};
 ghost use Rattle.overlay_split.specs.Pass.{pass};
 ghost use Rattle.overlay_intersections.specs.PassMarks.{is_rounded};
-ghost use Rattle.overlay_split.specs.DataPass.{data_cut};
+ghost use Rattle.overlay_split.specs.CutOf.{AreCutMarksOf, HasDataOfCutAt, IsCutStoreAt, IsPassAt, HasDataOfPassAt, IsPassStoreAt, PiecesFitAt, PiecesLeaveRangeAt, StopsPassAt};
 ghost use Rattle.overlay_intersections.specs.PlacingOf.{placing_of, HasRadius};
 ghost use Rattle.overlay_grid.specs.Grid.{LieInside};
 ghost use Rattle.overlay_split.specs.FinderOf.{solver_in, layout_in};
@@ -97,52 +97,78 @@ pub fn pass<C: WindingCount, I: OverlayInt, D: OverlayEdgeData<C>>(
     ensures stopped { OnTooLarge result (StopsPass D.OverlayEdgeData.own placing list.old store.old store.new) }
     ensures store_made { IsMadeFrom (hooks_of C.counted D.OverlayEdgeData.own) store.old store.new }
 {
-    let passed = match cut_at_marks(list, placing, finder, buffers, store) {
-        Ok(passed) => passed,
+    let PassBuffers { marks, path, tree } = buffers;
+    let is_rounded = match finder.find_marks(list.as_slice(), placing, tree, marks) {
+        Ok(is_rounded) => is_rounded,
         Err(fault) => {
             list.clear();
             return Err(fault);
         }
     };
-    // a list without marks is as it was, sorted and joined
-    if !passed.has_marks {
-        return Ok(passed);
-    }
-    join_with_store(list, store)?;
-    Ok(passed)
+    pass_at(list, marks.as_slice(), path, store)?;
+    Ok(Passed {
+        is_rounded,
+        has_marks: !marks.is_empty(),
+    })
 }
 
-/// Finds the marks of a pass, and cuts every segment at its own, by rising index.
-fn cut_at_marks<C: WindingCount, I: OverlayInt, D: OverlayEdgeData<C>>(
+/// Cuts every segment at the given marks, and joins the pieces.
+///
+/// The marks have to stand by rising index, each at the index of a segment; those of each segment in strict order of
+/// points, and none at an end of it. The list has to be sorted, without two segments on one pair of ends, in range,
+/// with counts that are valid and not empty. The marks need not be in range. `path` is memory that is written over.
+///
+/// Returns `Fault::CountOutOfRange` only where a running sum of the counts of pieces on one pair leaves
+/// `-i32::MAX..=i32::MAX`, and, memory being found, wherever one does; the store is then what the hooks called before
+/// that sum left. Returns `Fault::Memory` where a growth is refused; the store is then what the hooks called so far
+/// left. Where a call is refused the list is empty.
+pub fn pass_at<C: WindingCount, I: OverlayInt, D: OverlayEdgeData<C>>(
     list: &mut Vec<Segment<C, I, D>>,
-    placing: Placing,
-    finder: &mut PairFinder<I>,
-    buffers: &mut PassBuffers<I>,
+    marks: &[LineMark<I>],
+    path: &mut Vec<IntPoint<I>>,
     store: &mut D::Store,
-) -> Result<Passed, Fault>
+) -> Result<(), Fault>
     requires map { IsTrue (is_map (segments_of list.old.items)) }
     requires splittable { IsSplittable list.old.items }
-    requires radius { HasRadius placing }
-    requires inside { LieInside (layout_in finder.old) (pairs (segments_of list.old.items)) }
-    ensures solver { solver_in finder.new ≡ solver_in finder.old }
-    ensures grid { layout_in finder.new ≡ layout_in finder.old }
-    ensures list { OnOk result
-        (let hooks = hooks_of C.counted D.OverlayEdgeData.own in
-        data_segments_of list.new.items ≡ (data_cut hooks (placing_of placing)
-        (data_segments_of list.old.items) store.old).0) }
-    ensures store { OnOk result
-        (let hooks = hooks_of C.counted D.OverlayEdgeData.own in
-        store.new ≡ (data_cut hooks (placing_of placing) (data_segments_of list.old.items) store.old).1) }
-    ensures rounded { IfOk result (λ passed. passed.is_rounded ≡ is_rounded (segments_of list.old.items)) }
-    ensures marked { IfOk result (λ passed. passed.has_marks ≡ makes_mark placing list.old.items) }
-    ensures looked { OnOk result (LooksThrough list.old.items finder.old finder.new) }
+    requires marks { AreCutMarksOf list.old.items marks.now }
+    ensures geometry { OnOk result (IsPassAt marks.now list.old list.new) }
+    ensures edge_data { OnOk result (HasDataOfPassAt D.OverlayEdgeData.own marks.now list.old store.old list.new) }
+    ensures store { OnOk result (IsPassStoreAt D.OverlayEdgeData.own marks.now list.old store.old store.new) }
+
+    ensures fits { OnOk result (PiecesFitAt marks.now list.old.items) }
+    ensures refused { OnTooLarge result (PiecesLeaveRangeAt marks.now list.old.items) }
+    ensures emptied { OnErr result (list.new.items ≡ []) }
+    ensures stopped { OnTooLarge result (StopsPassAt D.OverlayEdgeData.own marks.now list.old store.old store.new) }
+    ensures store_made { IsMadeFrom (hooks_of C.counted D.OverlayEdgeData.own) store.old store.new }
+{
+    // a list without marks is as it was, sorted and joined
+    if marks.is_empty() {
+        return Ok(());
+    }
+    if let Err(fault) = cut_at(list, marks, path, store) {
+        list.clear();
+        return Err(fault);
+    }
+    join_with_store(list, store)?;
+    Ok(())
+}
+
+/// Cuts every segment at its own marks, by rising index.
+fn cut_at<C: WindingCount, I: OverlayInt, D: OverlayEdgeData<C>>(
+    list: &mut Vec<Segment<C, I, D>>,
+    marks: &[LineMark<I>],
+    path: &mut Vec<IntPoint<I>>,
+    store: &mut D::Store,
+) -> Result<(), Fault>
+    requires splittable { IsSplittable list.old.items }
+    requires marks { AreCutMarksOf list.old.items marks.now }
+    ensures edge_data { OnOk result (HasDataOfCutAt D.OverlayEdgeData.own marks.now list.old store.old list.new) }
+    ensures store { OnOk result (IsCutStoreAt D.OverlayEdgeData.own marks.now list.old store.old store.new) }
     ensures store_made { IsMadeFrom (hooks_of C.counted D.OverlayEdgeData.own) store.old store.new }
     ensures fault { IfErr result (λ fault. fault ≡ Memory) }
 {
-    let PassBuffers { marks, path, tree } = buffers;
-    let is_rounded = finder.find_marks(list.as_slice(), placing, tree, marks)?;
     list.reserve(marks.len())?;
-    let mut rest = marks.as_slice();
+    let mut rest = marks;
     while let Some(first) = rest.first() {
         let index = first.index;
         let (own, later) = rest.split_at(index_len(index, rest));
@@ -151,8 +177,5 @@ fn cut_at_marks<C: WindingCount, I: OverlayInt, D: OverlayEdgeData<C>>(
         cut_segment(list, index, path.as_slice(), store)?;
         rest = later;
     }
-    Ok(Passed {
-        is_rounded,
-        has_marks: !marks.is_empty(),
-    })
+    Ok(())
 }

@@ -85,7 +85,7 @@ narrow_inside v t low high = grind (arith, ints)
 narrow_falling : (v : Point) (t : ℤ) → v.y <ℤ pos 0 → neg_ℤ (pos (extent v)) <ℤ (pos 2 *ℤ t) → (pos 2 *ℤ t) ≤ℤ pos (extent v) → is_narrow v t ≡ true
 narrow_falling v t down low high = grind (arith, ints)
 
-narrow_zero : (v : Point) (t : ℤ) → 0 < extent v → t ≡ pos 0 → is_narrow v t ≡ true
+pub narrow_zero : (v : Point) (t : ℤ) → 0 < extent v → t ≡ pos 0 → is_narrow v t ≡ true
 narrow_zero v t some none = grind (arith, ints)
 
 rising_high : (m : ℕ) (d e p q u : ℤ) → 0 < m → pos 0 <ℤ d → pos 0 <ℤ e → p <ℤ pos m → neg_ℤ (pos m) ≤ℤ q → pos m *ℤ u ≡ e *ℤ p -ℤ d *ℤ q → u <ℤ (d +ℤ e)
@@ -113,7 +113,7 @@ falling_low m d e p q u some hd he hp hq eq =
     cancel-lt (pos m) (neg_ℤ (d +ℤ e)) u (omega (arith, ints, some)) (rw (spread_neg, eq) (omega (arith, ints, k, l)))
 
 -- a way is to the right, or up
-abbrev Leads : ℤ → ℤ → Type 0
+abbrev pub Leads : ℤ → ℤ → Type 0
 Leads d e = (pos 0 <ℤ d) ⊎ ((d ≡ pos 0) × (pos 0 <ℤ e))
 
 narrow_from : (d e x y : ℤ) (n m : ℕ) → 0 < m → n ≤ m → Leads d e → IsRoundedTo d x n m → IsRoundedTo e y n m → is_narrow (record { x = d; y = e }) (d *ℤ y -ℤ e *ℤ x) ≡ true
@@ -141,7 +141,7 @@ narrow_from d e x y n m some part (inl right) in_x in_y =
     twice_turned : (e p z : ℤ) → e *ℤ p -ℤ z ≡ neg_ℤ (neg_ℤ e *ℤ p) -ℤ z
     twice_turned e p z = omega (arith, ints, mul-neg_left e p)
 
-leads : (s : Pair) → IsTrue (is_ordered s) → Leads (s.b.x -ℤ s.a.x) (s.b.y -ℤ s.a.y)
+pub leads : (s : Pair) → IsTrue (is_ordered s) → Leads (s.b.x -ℤ s.a.x) (s.b.y -ℤ s.a.y)
 leads s h = of_before s.a s.b (before s.a s.b h)
   where
     of_before : (p q : Point) → Before p q → Leads (q.x -ℤ p.x) (q.y -ℤ p.y)

@@ -76,10 +76,10 @@ along_down a b n m i k down later = rw (along-times a b n m k, along-times_other
 
 -- ---- the order of points along a pair
 
-not_before_up : (s : Pair) (c d : Point) → int_lt s.b.y s.a.y ≡ false → c.x ≤ℤ d.x → c.y ≤ℤ d.y → IsFalse (comes_before s d c)
+pub not_before_up : (s : Pair) (c d : Point) → int_lt s.b.y s.a.y ≡ false → c.x ≤ℤ d.x → c.y ≤ℤ d.y → IsFalse (comes_before s d c)
 not_before_up s c d up in_x in_y = rw up (grind (arith, ints))
 
-not_before_down : (s : Pair) (c d : Point) → int_lt s.b.y s.a.y ≡ true → c.x ≤ℤ d.x → d.y ≤ℤ c.y → IsFalse (comes_before s d c)
+pub not_before_down : (s : Pair) (c d : Point) → int_lt s.b.y s.a.y ≡ true → c.x ≤ℤ d.x → d.y ≤ℤ c.y → IsFalse (comes_before s d c)
 not_before_down s c d down in_x in_y = rw down (grind (arith, ints))
 
 pub pixels_are_met_in_order : PixelsAreMetInOrder

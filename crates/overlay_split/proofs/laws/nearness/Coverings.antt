@@ -17,19 +17,19 @@ use Rattle.overlay_base.proofs.laws.joins.Members.{holds-join}
 use Rattle.overlay_base.proofs.laws.joins.Maps.{are_ordered-map}
 use Rattle.overlay_geometry.proofs.laws.lists.Keys.{AllByRecursion-distinct_in_order}
 use Rattle.overlay_split.specs.Path.{columns_of, last_point, path_from, path, piece, pieces_along, pieces}
-use Rattle.overlay_intersections.specs.Marks.{Placing}
-use Rattle.overlay_split.specs.Pass.{pieces_of, cut, pass}
-use Rattle.overlay_intersections.specs.PassMarks.{marks_on, is_rounded}
+use Rattle.overlay_split.specs.Pass.{cut_by, pass}
+use Rattle.overlay_intersections.specs.PassMarks.{marks_on}
 use Rattle.overlay_split.specs.Run.{Settings, placing_of_pass, after_passes}
 use Rattle.overlay_base.specs.Places.{RationalPoint}
-use Rattle.overlay_split.specs.Nearness.{whole_point, Fraction, point_along, IsWithin, IsNear, IsNearSome, Cancels, IsNearCancelled, reach, reach_of_pass, reach_of_run, joined_in}
-use Rattle.overlay_split.specs.Laws.{PiecesStayNear, RunStaysNear}
+use Rattle.overlay_split.specs.Nearness.{whole_point, Fraction, point_along, IsWithin, IsNear, IsNearSome, Cancels, IsNearCancelled, reach_of_pass, reach_of_run, joined_in}
+use Rattle.overlay_split.specs.Laws.{CutPiecesStayNear, PiecesStayNear, RunStaysNear}
 use Rattle.overlay_split.proofs.laws.nearness.Distances.{no_way, whole_way, mean, IsWithin-start, IsWithin-end, IsNear-end, IsWithin-mean, IsWithin-swap, IsWithin-triangle, IsNear-from_point, LiesNear-itself}
-use Rattle.overlay_split.proofs.laws.nearness.NearMarks.{AreNear, marks_lie_near, exact_marks_lie_on}
+use Rattle.overlay_split.proofs.laws.nearness.NearMarks.{AreNear, MarksAreNear, marks_of_pass_are_near}
 use Rattle.overlay_split.proofs.laws.nearness.Nearness.{run_lies_near}
 use Rattle.overlay_split.proofs.laws.paths.Runs.{is_map-after_passes}
 use Rattle.overlay_split.proofs.laws.paths.Potentials.{ends_differ}
 use Rattle.overlay_split.proofs.laws.paths.Boxes.{path_from_has}
+use Rattle.overlay_split.proofs.laws.paths.MarkedPairs.{EachMark-at}
 use Rattle.overlay_split.proofs.laws.paths.Paths.{all_of-columns_of}
 use Rattle.overlay_intersections.proofs.laws.marks.Marks.{Differ}
 use Rattle.overlay_split.proofs.laws.paths.Pieces.{last_point-path_from}
@@ -183,10 +183,10 @@ pieces_cover h s marks differ near f =
 
 -- ---- a pass
 
-pub Has-cut : (placing : Placing) (segments : List WholeSegment) (s r : WholeSegment) → Has segments s → Has (pieces_of placing segments s) r → Has (cut placing segments) r
-unfolding cut
-Has-cut placing segments s r i j =
-    let whole = λ (u : WholeSegment). pieces_of placing segments u in
+pub Has-cut : (marks : Pair → List Point) (segments : List WholeSegment) (s r : WholeSegment) → Has segments s → Has (pieces s (marks s.pair)) r → Has (cut_by marks segments) r
+unfolding cut_by
+Has-cut marks segments s r i j =
+    let whole = λ (u : WholeSegment). pieces u (marks u.pair) in
     let firsts = flat_map (λ u. take 1 (whole u)) segments in
     let others = flat_map (λ u. drop 1 (whole u)) segments in
     elim (Has-append_out (take 1 (whole s)) (drop 1 (whole s)) r (subst (λ (l : List WholeSegment). Has l r) (sym (take-append-drop 1 (whole s))) j)) [
@@ -195,20 +195,22 @@ Has-cut placing segments s r i j =
     ]
 
 -- where the marks on each pair are near it, each point of a segment is near a piece of the cut
-cut_covers : (h : ℕ) (placing : Placing) (segments : List WholeSegment) (s : WholeSegment) → AreNear h (marks_on placing segments s.pair) s.pair → Has segments s → IsTrue (is_ordered s.pair) → (f : Fraction) → IsNearSome h (point_along s.pair f) (pairs (cut placing segments))
-unfolding pieces_of
-cut_covers h placing segments s near i ordered f =
-    let some = pieces_cover h s (marks_on placing segments s.pair) (ends_differ s.pair ordered) near f in
-    (some.0.pair, Contains-from_Has (pairs (cut placing segments)) some.0.pair (Has-map (λ (u : WholeSegment). u.pair) (cut placing segments) some.0 (Has-cut placing segments s some.0 i some.1)), some.2)
+cut_covers : (h : ℕ) (marks : Pair → List Point) (segments : List WholeSegment) (s : Pair) → MarksAreNear h marks segments → IsTrue (are_ordered segments) → Contains (pairs segments) s → (f : Fraction) → IsNearSome h (point_along s f) (pairs (cut_by marks segments))
+cut_covers h marks segments s near ordered i f =
+    let within = Has-from_Contains (pairs segments) s i in
+    let there = Has-map_out (λ (u : WholeSegment). u.pair) segments s within in
+    let at = there.0 in
+    let order = list_all-at (λ (u : WholeSegment). is_ordered u.pair) segments at ordered there.1 in
+    let some = pieces_cover h at (marks at.pair) (ends_differ at.pair order) (near at.pair (Has-map (λ (u : WholeSegment). u.pair) segments at there.1)) f in
+    let piece = Has-map (λ (u : WholeSegment). u.pair) (cut_by marks segments) some.0 (Has-cut marks segments at some.0 there.1 some.1) in
+    subst (λ (u : Pair). IsNearSome h (point_along u f) (pairs (cut_by marks segments))) there.2 (some.0.pair, Contains-from_Has (pairs (cut_by marks segments)) some.0.pair piece, some.2)
+
+pub cut_pieces_stay_near : CutPiecesStayNear
+cut_pieces_stay_near h marks segments s ordered near i f = cut_covers h marks segments s (EachMark-at (λ t m. IsNear h (whole_point m) t) marks segments near) ordered i f
 
 pub pieces_stay_near : PiecesStayNear
-unfolding reach_of_pass
 pieces_stay_near placing segments s ordered i f =
-    let there = Has-map_out (λ (u : WholeSegment). u.pair) segments s (Has-from_Contains (pairs segments) s i) in
-    let order = list_all-at (λ (u : WholeSegment). is_ordered u.pair) segments there.0 ordered there.1 in
-    cond_both (is_rounded segments) (reach placing) 0 (λ (h : ℕ). IsNearSome h (point_along s f) (pairs (cut placing segments)))
-    (λ _. subst (λ (u : Pair). IsNearSome (reach placing) (point_along u f) (pairs (cut placing segments))) there.2 (cut_covers (reach placing) placing segments there.0 (marks_lie_near placing segments there.0.pair order) there.1 order f))
-    (λ exact. subst (λ (u : Pair). IsNearSome 0 (point_along u f) (pairs (cut placing segments))) there.2 (cut_covers 0 placing segments there.0 (exact_marks_lie_on placing segments exact there.0.pair (Has-map (λ (u : WholeSegment). u.pair) segments there.0 there.1) order) there.1 order f))
+    cut_covers (reach_of_pass placing segments) (marks_on placing segments) segments s (marks_of_pass_are_near placing segments ordered) ordered i f
 
 -- ---- a run
 

@@ -13,6 +13,7 @@ use Rattle.overlay_geometry.proofs.laws.lists.Lists.{Has, AllByRecursion-weaker,
 use Rattle.overlay_base.proofs.laws.counts.Windings.{empty-add}
 use Rattle.overlay_base.proofs.laws.joins.Bags.{count_at, winding_at-here, winding_at-cons}
 use Rattle.overlay_base.proofs.laws.joins.Members.{counts-join}
+use Rattle.overlay_intersections.specs.PassMarks.{marks_on}
 use Rattle.overlay_split.specs.Pass.{pass, cut}
 use Rattle.overlay_split.specs.Run.{Settings, placing_of_pass, after_passes}
 use Rattle.overlay_split.specs.Nearness.{Cancels, joined_in, are_lines}
@@ -72,12 +73,14 @@ lines_after : (settings : Settings) (given : List WholeSegment) (k : ℕ) → Ar
 unfolding after_passes pass
 lines_after settings given zero h = lines-join given h
 lines_after settings given (suc k) h =
-    lines-join (cut (placing_of_pass settings (suc k)) (after_passes settings given k)) (counts-cut IsLine IsLine-inverse (placing_of_pass settings (suc k)) (after_passes settings given k) (lines_after settings given k h))
+    let placing = placing_of_pass settings (suc k) in
+    let before = after_passes settings given k in
+    lines-join (cut placing before) (counts-cut IsLine IsLine-inverse (marks_on placing before) before (lines_after settings given k h))
 
 lines_joined : (settings : Settings) (given : List WholeSegment) (k : ℕ) → AreLines given → AreLines (joined_in settings given k)
 unfolding joined_in
 lines_joined settings given zero h = h
-lines_joined settings given (suc k) h = counts-cut IsLine IsLine-inverse (placing_of_pass settings (suc k)) (after_passes settings given k) (lines_after settings given k h)
+lines_joined settings given (suc k) h = counts-cut IsLine IsLine-inverse (marks_on (placing_of_pass settings (suc k)) (after_passes settings given k)) (after_passes settings given k) (lines_after settings given k h)
 
 -- ---- nothing cancels
 

@@ -2,12 +2,12 @@
 use Rattle.std.proofs.Common.{◌≡◌, refl, sym, subst, ℕ, zero, suc, ◌+◌, Bool, true, false, List, [], ◌∷◌, take, drop, flat_map, inl, inr}
 use Rattle.std.specs.Prelude.{IsTrue}
 use Rattle.std.specs.List.{AllByRecursion}
-use Rattle.std.proofs.lemmas.Bool.{or_cases, cond_both}
+use Rattle.std.proofs.lemmas.Bool.{or_cases}
 use Rattle.std.proofs.lemmas.List.Elements.{All-from_recursion, recursion_from_All}
 use Rattle.std.proofs.Math.Nat.{add_comm}
-use Rattle.overlay_geometry.specs.Points.{Point, Pair, point_cmp, point_lt, pair_cmp, pair_eq, is_ordered}
+use Rattle.overlay_geometry.specs.Points.{Point, Pair, point_cmp, point_lt, pair_cmp, pair_eq}
 use Rattle.overlay_geometry.proofs.laws.geometry.Points.{same_pair_by_eq}
-use Rattle.overlay_geometry.proofs.laws.lists.Lists.{AllByRecursion-append, AllByRecursion-both, AllByRecursion-filter_all, AllByRecursion-flat_map, AllByRecursion-from_Has, AllByRecursion-from_list_all, AllByRecursion-map_out, AllByRecursion-take, AllByRecursion-weaker, Has, Has-map}
+use Rattle.overlay_geometry.proofs.laws.lists.Lists.{AllByRecursion-append, AllByRecursion-filter_all, AllByRecursion-flat_map, AllByRecursion-from_Has, AllByRecursion-take, AllByRecursion-weaker, Has-map}
 use Rattle.overlay_geometry.proofs.laws.lists.Elements.{AllByRecursion-drop}
 use Rattle.overlay_geometry.proofs.laws.lists.Keys.{AllByRecursion-distinct_in_order}
 use Rattle.overlay_base.specs.Windings.{Winding, is_not_empty}
@@ -19,18 +19,18 @@ use Rattle.overlay_base.proofs.laws.joins.Views.{segments_ordered, segments_of-b
 use Rattle.overlay_base.proofs.laws.joins.Maps.{are_ordered-map}
 use Rattle.overlay_base.proofs.laws.lists.StableSorts.{AllByRecursion-stably_sorted}
 use Rattle.overlay_intersections.specs.Marks.{Placing}
-use Rattle.overlay_intersections.specs.PassMarks.{marks_on, is_rounded}
+use Rattle.overlay_intersections.specs.PassMarks.{marks_on}
 use Rattle.overlay_split.specs.Path.{path_from, columns_of}
 use Rattle.overlay_split.specs.Run.{Settings, placing_of_pass, after_passes}
-use Rattle.overlay_split.specs.DataPass.{data_pieces, data_pieces_of_each, data_cut, data_pass, data_after_passes}
-use Rattle.overlay_split.specs.Nearness.{whole_point, IsNear, LiesNear, reach, reach_of_pass, reach_of_run}
-use Rattle.overlay_split.specs.Laws.{HooksNameNoOther, NameNear, DataNamesWhatIsNear}
+use Rattle.overlay_split.specs.DataPass.{data_pieces, data_pieces_of_each, data_cut_by, data_pass_by, data_pass, data_after_passes}
+use Rattle.overlay_split.specs.Nearness.{whole_point, IsNear, LiesNear, reach_of_pass, reach_of_run}
+use Rattle.overlay_split.specs.Laws.{HooksNameNoOther, NameNear, DataCutNamesWhatIsNear, DataNamesWhatIsNear}
 use Rattle.overlay_split.proofs.laws.paths.Boxes.{path_from_has}
+use Rattle.overlay_split.proofs.laws.paths.MarkedPairs.{EachMark-at}
 use Rattle.overlay_split.proofs.laws.paths.Paths.{all_of-columns_of}
 use Rattle.overlay_split.proofs.laws.paths.Runs.{is_map-after_passes}
-use Rattle.overlay_split.proofs.laws.planar.ExactMarks.{In}
 use Rattle.overlay_split.proofs.laws.nearness.Distances.{LiesNear-from_ends, LiesNear-trans, IsNear-start, IsNear-end}
-use Rattle.overlay_split.proofs.laws.nearness.NearMarks.{AreNear, marks_lie_near, exact_marks_lie_on}
+use Rattle.overlay_split.proofs.laws.nearness.NearMarks.{AreNear, MarksAreNear, marks_of_pass_are_near}
 use Rattle.overlay_split.proofs.laws.passes.DataPasses.{data_is_beside}
 
 module _ {D S : Type 0} (hooks : Hooks D S) (names : D → Pair → Bool) (keeps : HooksNameNoOther hooks names) where
@@ -115,37 +115,26 @@ module _ {D S : Type 0} (hooks : Hooks D S) (names : D → Pair → Bool) (keeps
           named_each marks ss here.1 near.1 a.1,
         )
 
-    named_cut : (placing : Placing) (ss : List (DataSegment D)) (store : S) → AllByRecursion (λ t. AreNear k (marks_on placing (without_data ss) t.pair) t.pair) ss → AllByRecursion (Names h) ss
-        → AllByRecursion (Names (h + k)) (data_cut hooks placing ss store).0
-    unfolding data_cut
-    named_cut placing ss store near a =
-        let marks : Pair → List Point = λ pair. marks_on placing (without_data ss) pair in
+    named_cut : (marks : Pair → List Point) (ss : List (DataSegment D)) (store : S) → AllByRecursion (λ t. AreNear k (marks t.pair) t.pair) ss → AllByRecursion (Names h) ss → AllByRecursion (Names (h + k)) (data_cut_by hooks marks ss store).0
+    unfolding data_cut_by
+    named_cut marks ss store near a =
         let each = (data_pieces_of_each hooks marks ss store).0 in
         let all = named_each marks ss store near a in
         AllByRecursion-append (Names (h + k)) (flat_map (λ ps. take 1 ps) each) (flat_map (λ ps. drop 1 ps) each)
         (AllByRecursion-flat_map (λ ps. take 1 ps) (Names (h + k)) each (AllByRecursion-weaker (AllByRecursion (Names (h + k))) (λ ps. AllByRecursion (Names (h + k)) (take 1 ps)) (AllByRecursion-take (Names (h + k)) 1) each all))
         (AllByRecursion-flat_map (λ ps. drop 1 ps) (Names (h + k)) each (AllByRecursion-weaker (AllByRecursion (Names (h + k))) (λ ps. AllByRecursion (Names (h + k)) (drop 1 ps)) (AllByRecursion-drop (Names (h + k)) 1) each all))
 
-    pass_by : (placing : Placing) (ss : List (DataSegment D)) (store : S) → ((s : Pair) → In (without_data ss) s → IsTrue (is_ordered s) → AreNear k (marks_on placing (without_data ss) s) s) → IsTrue (are_ordered (without_data ss))
-        → AllByRecursion (Names h) ss → AllByRecursion (Names (h + k)) (data_pass hooks placing ss store).0
-    unfolding data_pass
-    pass_by placing ss store near ordered a =
-        named_join (h + k) _ (data_cut hooks placing ss store).1
-        (named_cut placing ss store
-        (AllByRecursion-weaker (λ t. Has ss t × IsTrue (is_ordered t.pair)) (λ t. AreNear k (marks_on placing (without_data ss) t.pair) t.pair)
-        (λ t there. near t.pair (Has-map (λ (u : WholeSegment). u.pair) (without_data ss) _ (Has-map (λ (u : DataSegment D). record { pair = u.pair; count = u.count }) ss t there.0)) there.1) ss
-        (AllByRecursion-both (Has ss) (λ t. IsTrue (is_ordered t.pair)) ss (AllByRecursion-from_Has (Has ss) ss (λ t there. there)) all_ordered))
+    named_pass_by : (marks : Pair → List Point) (ss : List (DataSegment D)) (store : S) → MarksAreNear k marks (without_data ss) → AllByRecursion (Names h) ss → AllByRecursion (Names (h + k)) (data_pass_by hooks marks ss store).0
+    named_pass_by marks ss store near a =
+        named_join (h + k) _ (data_cut_by hooks marks ss store).1
+        (named_cut marks ss store
+        (AllByRecursion-from_Has (λ t. AreNear k (marks t.pair) t.pair) ss
+        (λ t there. near t.pair (Has-map (λ (u : WholeSegment). u.pair) (without_data ss) _ (Has-map (λ (u : DataSegment D). record { pair = u.pair; count = u.count }) ss t there))))
         a)
-      where
-        all_ordered : AllByRecursion (λ t. IsTrue (is_ordered t.pair)) ss
-        all_ordered = AllByRecursion-map_out (λ u. IsTrue (is_ordered u.pair)) (λ (u : DataSegment D). record { pair = u.pair; count = u.count }) ss (AllByRecursion-from_list_all (λ u. is_ordered u.pair) (without_data ss) ordered)
 
   named_pass : (h : ℕ) (placing : Placing) (ss : List (DataSegment D)) (store : S) → IsTrue (are_ordered (without_data ss)) → AllByRecursion (Names h) ss → AllByRecursion (Names (h + reach_of_pass placing (without_data ss))) (data_pass hooks placing ss store).0
-  unfolding reach_of_pass
-  named_pass h placing ss store ordered a =
-      cond_both (is_rounded (without_data ss)) (reach placing) 0 (λ (k : ℕ). AllByRecursion (Names (h + k)) (data_pass hooks placing ss store).0)
-      (λ _. pass_by h (reach placing) placing ss store (λ s _ o. marks_lie_near placing (without_data ss) s o) ordered a)
-      (λ exact. pass_by h 0 placing ss store (exact_marks_lie_on placing (without_data ss) exact) ordered a)
+  unfolding data_pass
+  named_pass h placing ss store ordered a = named_pass_by h (reach_of_pass placing (without_data ss)) (marks_on placing (without_data ss)) ss store (marks_of_pass_are_near placing (without_data ss) ordered) a
 
   named_after : (settings : Settings) (given : List (DataSegment D)) (store : S) (k : ℕ) → IsTrue (are_ordered (without_data given)) → AllByRecursion (Names 0) given
       → AllByRecursion (Names (reach_of_run settings (without_data given) k)) (data_after_passes hooks settings given store k).0
@@ -158,6 +147,11 @@ module _ {D S : Type 0} (hooks : Hooks D S) (names : D → Pair → Bool) (keeps
       let still : IsTrue (are_ordered (without_data before.0)) = subst (λ (l : List WholeSegment). IsTrue (are_ordered l)) (sym bare) (are_ordered-map _ (is_map-after_passes settings (without_data given) k ordered)) in
       subst (λ (l : List WholeSegment). AllByRecursion (Names (reach_of_run settings (without_data given) k + reach_of_pass placing l)) (data_pass hooks placing before.0 before.1).0) bare
       (named_pass (reach_of_run settings (without_data given) k) placing before.0 before.1 still (named_after settings given store k ordered a))
+
+pub data_cut_names_what_is_near : {D S : Type 0} → DataCutNamesWhatIsNear D S
+data_cut_names_what_is_near hooks names keeps before more marks segments store near h =
+    All-from_recursion _ (data_pass_by hooks marks segments store).0
+    (named_pass_by hooks names keeps before more marks segments store (EachMark-at (λ s m. IsNear more (whole_point m) s) marks (without_data segments) near) (recursion_from_All _ segments h))
 
 pub data_names_what_is_near : {D S : Type 0} → DataNamesWhatIsNear D S
 data_names_what_is_near hooks names keeps settings given store k ordered h =

@@ -2,29 +2,29 @@
 use Rattle.std.proofs.Common.{◌≡◌, ◌⊎◌, inl, inr, refl, subst, ℕ, zero, suc, Bool, true, false, List, [], ◌∷◌}
 use Rattle.std.specs.Prelude.{Contains, filter, IsTrue}
 use Rattle.std.specs.List.{AllByRecursion}
-use Rattle.std.proofs.lemmas.Bool.{both_ways, cond_both}
-use Rattle.overlay_geometry.specs.Points.{Pair, pair_cmp, pair_eq, is_ordered}
+use Rattle.std.proofs.lemmas.Bool.{both_ways}
+use Rattle.overlay_geometry.specs.Points.{Point, Pair, pair_cmp, pair_eq}
 use Rattle.overlay_geometry.specs.Sorting.{distinct_in_order}
 use Rattle.overlay_geometry.proofs.laws.geometry.Points.{same_pair_by_eq}
 use Rattle.overlay_geometry.proofs.laws.lists.Elements.{Contains-from_Has}
-use Rattle.overlay_geometry.proofs.laws.lists.Lists.{AllByRecursion-both, AllByRecursion-filter, AllByRecursion-filter_all, AllByRecursion-from_Has, AllByRecursion-from_list_all, AllByRecursion-map, AllByRecursion-weaker, Has, Has-filter, Has-map}
+use Rattle.overlay_geometry.proofs.laws.lists.Lists.{AllByRecursion-both, AllByRecursion-filter, AllByRecursion-filter_all, AllByRecursion-from_Has, AllByRecursion-map, AllByRecursion-weaker, Has, Has-filter, Has-map}
 use Rattle.overlay_base.specs.Windings.{Winding, add, empty, inverse, is_not_empty}
 use Rattle.overlay_base.specs.Segments.{WholeSegment, pairs, are_ordered, winding_at}
 use Rattle.overlay_base.specs.Join.{summed, join}
 use Rattle.overlay_base.proofs.laws.joins.Bags.{count_at, winding_at-nil, winding_at-cons}
 use Rattle.overlay_base.proofs.laws.joins.Maps.{are_ordered-map}
 use Rattle.overlay_intersections.specs.Marks.{Placing}
-use Rattle.overlay_intersections.specs.PassMarks.{marks_on, is_rounded}
-use Rattle.overlay_split.specs.Nearness.{LiesNear, LieNear, reach, reach_of_pass, reach_of_run}
-use Rattle.overlay_split.specs.Pass.{pieces_of, cut, pass}
+use Rattle.overlay_intersections.specs.PassMarks.{marks_on}
+use Rattle.overlay_split.specs.Nearness.{LiesNear, LieNear, reach_of_pass, reach_of_run}
+use Rattle.overlay_split.specs.Path.{pieces}
+use Rattle.overlay_split.specs.Pass.{cut_by, pass_by, pass}
 use Rattle.overlay_split.specs.Run.{Settings, placing_of_pass, after_passes}
 use Rattle.overlay_split.proofs.laws.nearness.Distances.{LiesNear-itself}
-use Rattle.overlay_split.proofs.laws.nearness.NearMarks.{AreNear, marks_lie_near, exact_marks_lie_on}
+use Rattle.overlay_split.proofs.laws.nearness.NearMarks.{MarksAreNear, marks_of_pass_are_near}
 use Rattle.overlay_split.proofs.laws.nearness.Nearness.{HasNear, LieNear-to, LieNear-trans, pieces_lie_near}
 use Rattle.overlay_split.proofs.laws.paths.Cuts.{AllByRecursion-cut}
 use Rattle.overlay_split.proofs.laws.paths.PieceCounts.{counts_of_pieces}
 use Rattle.overlay_split.proofs.laws.paths.Runs.{is_map-after_passes}
-use Rattle.overlay_split.proofs.laws.planar.ExactMarks.{In}
 
 abbrev pub of_kind : (Winding → Bool) → List WholeSegment → List WholeSegment
 of_kind kind segments = filter (λ s. kind s.count) segments
@@ -64,33 +64,26 @@ module _ (kind : Winding → Bool) (nothing : kind empty ≡ false) (turned : (c
   is_among : (segments : List WholeSegment) (s : WholeSegment) → Has segments s → kind s.count ≡ true → Contains (pairs (of_kind kind segments)) s.pair
   is_among segments s i w = Contains-from_Has (pairs (of_kind kind segments)) s.pair (Has-map (λ (t : WholeSegment). t.pair) (of_kind kind segments) s (Has-filter (λ t. kind t.count) segments s i w))
 
-  kind_of_pieces : (h : ℕ) (placing : Placing) (segments : List WholeSegment) → ((s : Pair) → In segments s → IsTrue (is_ordered s) → AreNear h (marks_on placing segments s) s) → (s : WholeSegment) → Has segments s × IsTrue (is_ordered s.pair) →
-      AllByRecursion (WhereKind (HasNear h (pairs (of_kind kind segments)))) (pieces_of placing segments s)
-  unfolding pieces_of
-  kind_of_pieces h placing segments near s (i, o) =
+  kind_of_pieces : (h : ℕ) (marks : Pair → List Point) (segments : List WholeSegment) → MarksAreNear h marks segments → (s : WholeSegment) → Has segments s →
+      AllByRecursion (WhereKind (HasNear h (pairs (of_kind kind segments)))) (pieces s (marks s.pair))
+  kind_of_pieces h marks segments near s i =
       AllByRecursion-weaker (λ r. LiesNear h r.pair s.pair × (kind r.count ≡ true → kind s.count ≡ true)) (WhereKind (HasNear h (pairs (of_kind kind segments))))
-      (λ r k w. (s.pair, is_among segments s i (k.1 w), k.0)) (pieces_of placing segments s)
-      (AllByRecursion-both (λ r. LiesNear h r.pair s.pair) (λ r. kind r.count ≡ true → kind s.count ≡ true) (pieces_of placing segments s)
-      (pieces_lie_near h s (marks_on placing segments s.pair) (near s.pair (Has-map (λ (t : WholeSegment). t.pair) segments s i) o))
-      (counts_of_pieces (λ c. kind c ≡ true → kind s.count ≡ true) (λ c k w. k (turned c w)) placing segments s (λ w. w)))
+      (λ r k w. (s.pair, is_among segments s i (k.1 w), k.0)) (pieces s (marks s.pair))
+      (AllByRecursion-both (λ r. LiesNear h r.pair s.pair) (λ r. kind r.count ≡ true → kind s.count ≡ true) (pieces s (marks s.pair))
+      (pieces_lie_near h s (marks s.pair) (near s.pair (Has-map (λ (t : WholeSegment). t.pair) segments s i)))
+      (counts_of_pieces (λ c. kind c ≡ true → kind s.count ≡ true) (λ c k w. k (turned c w)) s (marks s.pair) (λ w. w)))
 
-  pass_of_kind_near : (h : ℕ) (placing : Placing) (segments : List WholeSegment) → ((s : Pair) → In segments s → IsTrue (is_ordered s) → AreNear h (marks_on placing segments s) s) → IsTrue (are_ordered segments) →
-      LieNear h (pairs (of_kind kind segments)) (pairs (of_kind kind (pass placing segments)))
-  unfolding pass
-  pass_of_kind_near h placing segments near ordered =
+  pub pass_by_of_kind : (h : ℕ) (marks : Pair → List Point) (segments : List WholeSegment) → MarksAreNear h marks segments → LieNear h (pairs (of_kind kind segments)) (pairs (of_kind kind (pass_by marks segments)))
+  pass_by_of_kind h marks segments near =
       let from : List Pair = pairs (of_kind kind segments) in
-      to_kind h from (pass placing segments)
-      (kind_join (HasNear h from) (cut placing segments)
-      (AllByRecursion-cut (WhereKind (HasNear h from)) placing segments
-      (AllByRecursion-weaker (λ s. Has segments s × IsTrue (is_ordered s.pair)) (λ s. AllByRecursion (WhereKind (HasNear h from)) (pieces_of placing segments s)) (kind_of_pieces h placing segments near) segments
-      (AllByRecursion-both (Has segments) (λ s. IsTrue (is_ordered s.pair)) segments (AllByRecursion-from_Has (Has segments) segments (λ s i. i)) (AllByRecursion-from_list_all (λ s. is_ordered s.pair) segments ordered)))))
+      to_kind h from (pass_by marks segments)
+      (kind_join (HasNear h from) (cut_by marks segments)
+      (AllByRecursion-cut (WhereKind (HasNear h from)) marks segments
+      (AllByRecursion-from_Has (λ s. AllByRecursion (WhereKind (HasNear h from)) (pieces s (marks s.pair))) segments (kind_of_pieces h marks segments near))))
 
   pass_of_kind : (placing : Placing) (segments : List WholeSegment) → IsTrue (are_ordered segments) → LieNear (reach_of_pass placing segments) (pairs (of_kind kind segments)) (pairs (of_kind kind (pass placing segments)))
-  unfolding reach_of_pass
-  pass_of_kind placing segments ordered =
-      cond_both (is_rounded segments) (reach placing) 0 (λ (h : ℕ). LieNear h (pairs (of_kind kind segments)) (pairs (of_kind kind (pass placing segments))))
-      (λ _. pass_of_kind_near (reach placing) placing segments (λ s _ o. marks_lie_near placing segments s o) ordered)
-      (λ exact. pass_of_kind_near 0 placing segments (exact_marks_lie_on placing segments exact) ordered)
+  unfolding pass
+  pass_of_kind placing segments ordered = pass_by_of_kind (reach_of_pass placing segments) (marks_on placing segments) segments (marks_of_pass_are_near placing segments ordered)
 
   -- ---- a run
 

@@ -10,12 +10,13 @@ use Rattle.overlay_base.specs.Windings.{Winding, add, empty, inverse}
 use Rattle.overlay_base.specs.Segments.{WholeSegment, pairs, are_ordered}
 use Rattle.overlay_base.specs.Places.{RationalPoint}
 use Rattle.overlay_base.proofs.laws.joins.Maps.{are_ordered-map}
-use Rattle.overlay_split.specs.Laws.{RunKeepsWindingNearLines}
-use Rattle.overlay_split.specs.Nearness.{LieNear, reach_of_pass, reach_of_run}
+use Rattle.overlay_split.specs.Laws.{CutKeepsWhatWinds, CutKeepsWindingNearLines, RunKeepsWindingNearLines}
+use Rattle.overlay_split.specs.Nearness.{whole_point, IsNear, LieNear, reach_of_pass, reach_of_run}
 use Rattle.overlay_split.specs.Places.{IsFar, winds, that_wind}
 use Rattle.overlay_split.specs.Run.{Settings, placing_of_pass, after_passes}
-use Rattle.overlay_split.proofs.laws.nearness.NearKinds.{run_of_kind}
-use Rattle.overlay_split.proofs.laws.nearness.Places.{IsApartFrom, IsFar-nearer, IsFar-result, IsFlat, far_from, join_keeps_winding, pass_winds}
+use Rattle.overlay_split.proofs.laws.nearness.NearKinds.{pass_by_of_kind, run_of_kind}
+use Rattle.overlay_split.proofs.laws.nearness.Places.{IsApartFrom, IsFar-nearer, IsFar-result, IsFlat, far_from, join_keeps_winding, pass_by_winds, pass_winds}
+use Rattle.overlay_split.proofs.laws.paths.MarkedPairs.{EachMark-at}
 use Rattle.overlay_split.proofs.laws.paths.Runs.{is_map-after_passes}
 
 -- ---- counts that wind
@@ -48,6 +49,11 @@ of_two c d h = elim (cases_Bool (winds c)) [
     both_flat : (c d : Winding) → IsFlat c → IsFlat d → record { subj = c.subj +ℤ d.subj; clip = c.clip +ℤ d.clip; mask = 0 } ≡ empty
     both_flat c d p q = rw (p.0, p.1, q.0, q.1) refl
 
+-- ---- a cut
+
+pub cut_keeps_what_winds : CutKeepsWhatWinds
+cut_keeps_what_winds h marks segments near = pass_by_of_kind winds refl (λ c w. sym (winds-inverse c) ∙ w) of_two h marks segments (EachMark-at (λ s m. IsNear h (whole_point m) s) marks segments near)
+
 -- ---- a run
 
 run_that_winds : (settings : Settings) (given : List WholeSegment) (k : ℕ) → IsTrue (are_ordered given) → LieNear (reach_of_run settings given k) (pairs (that_wind given)) (pairs (that_wind (after_passes settings given k)))
@@ -58,6 +64,10 @@ apart_from h p segments far s i = elim (cases_Bool (winds s.count)) [
   | inl w ↦ inl (far_from h p (that_wind segments) far s (Has-filter (λ t. winds t.count) segments s i w))
   | inr w ↦ inr (flat_from s.count w)
 ]
+
+pub cut_keeps_winding_near_lines : CutKeepsWindingNearLines
+cut_keeps_winding_near_lines h marks segments p ordered near far =
+    pass_by_winds h marks segments p ordered (EachMark-at (λ s m. IsNear h (whole_point m) s) marks segments near) (apart_from h p segments far)
 
 pub run_keeps_winding_near_lines : RunKeepsWindingNearLines
 unfolding after_passes reach_of_run

@@ -8,9 +8,9 @@ use Rattle.std.proofs.lemmas.Int.{ints}
 use Rattle.std.proofs.lemmas.Bool.{and_parts, cond_both, leb-true, leb-false, cases_lt}
 use Rattle.overlay_geometry.specs.Points.{Point, Pair, point_cmp, pair_lt, is_end, is_vertical, is_horizontal, is_ordered, is_strictly_inside, lies_on, squared, sqr_distance}
 use Rattle.overlay_geometry.specs.Meeting.{do_cross}
-use Rattle.overlay_base.specs.Segments.{WholeSegment, pairs}
+use Rattle.overlay_base.specs.Segments.{WholeSegment, pairs, are_ordered}
 use Rattle.overlay_geometry.proofs.laws.geometry.Polynomials.{as_D, diffs, D-eq}
-use Rattle.overlay_geometry.proofs.laws.lists.Lists.{AllByRecursion-filter, AllByRecursion-flat_map, AllByRecursion-from_Has}
+use Rattle.overlay_geometry.proofs.laws.lists.Lists.{AllByRecursion-filter, AllByRecursion-flat_map, AllByRecursion-from_Has, Has-map_out, list_all-at}
 use Rattle.overlay_geometry.proofs.laws.lists.Keys.{AllByRecursion-distinct_in_order}
 use Rattle.overlay_intersections.specs.Crossing.{Quotient, placed_by, truncated, nearest, is_exact, snapping_point, settling_point}
 use Rattle.overlay_intersections.specs.Marks.{Placing, snapping, settling, nearest_end, snapped_to, crossing_mark, ordered_mark, marks_by}
@@ -18,7 +18,7 @@ use Rattle.overlay_intersections.specs.PassMarks.{marks_on, is_rounded}
 use Rattle.overlay_split.specs.Laws.{CrossingLiesOnBoth, MarkIsNear, RootIsMeant, RootOfPower}
 use Rattle.overlay_intersections.specs.Laws.{distance_from}
 use Rattle.overlay_base.specs.Places.{RationalPoint}
-use Rattle.overlay_split.specs.Nearness.{whole_point, exact_crossing, IsWithin, IsNear, root, reach}
+use Rattle.overlay_split.specs.Nearness.{whole_point, exact_crossing, IsWithin, IsNear, root, reach, reach_of_pass}
 use Rattle.overlay_intersections.proofs.laws.crossings.Rounding.{over, IsRoundedUp}
 use Rattle.overlay_intersections.proofs.laws.crossings.RoundingMeanings.{nearest_is_meant, truncated_is_meant}
 use Rattle.overlay_intersections.proofs.laws.crossings.Crossings.{IsPart, IsPart-share, share, scale, scale-swap, exact_x, exact_y, offset_x-is, offset_y-is, do_cross-swap}
@@ -278,10 +278,25 @@ marks_on_near h placing segments s each =
     AllByRecursion-distinct_in_order point_cmp (λ p. IsNear h (whole_point p) s) _
     (AllByRecursion-flat_map (λ t. marks_by placing s t) (λ p. IsNear h (whole_point p) s) (pairs segments) (AllByRecursion-from_Has (λ t. AreNear h (marks_by placing s t) s) (pairs segments) each))
 
-pub marks_lie_near : (placing : Placing) (segments : List WholeSegment) (s : Pair) → IsTrue (is_ordered s) → AreNear (reach placing) (marks_on placing segments s) s
+marks_lie_near : (placing : Placing) (segments : List WholeSegment) (s : Pair) → IsTrue (is_ordered s) → AreNear (reach placing) (marks_on placing segments s) s
 marks_lie_near placing segments s o = marks_on_near (reach placing) placing segments s (λ t _. marks_by_near (reach placing) placing s t o (λ c. ordered_mark_near placing s t c))
 
 -- where every crossing is exact, on it
-pub exact_marks_lie_on : (placing : Placing) (segments : List WholeSegment) → IsFalse (is_rounded segments) → (s : Pair) → In segments s → IsTrue (is_ordered s) → AreNear 0 (marks_on placing segments s) s
+exact_marks_lie_on : (placing : Placing) (segments : List WholeSegment) → IsFalse (is_rounded segments) → (s : Pair) → In segments s → IsTrue (is_ordered s) → AreNear 0 (marks_on placing segments s) s
 exact_marks_lie_on placing segments exact s i o =
     marks_on_near 0 placing segments s (λ t j. marks_by_near 0 placing s t o (λ c. exact_mark_near s t (ordered_mark placing s t) c (In-mark placing segments exact s t i j c)))
+
+-- ---- the marks on each pair of a list
+
+abbrev pub MarksAreNear : ℕ → (Pair → List Point) → List WholeSegment → Type 0
+MarksAreNear h marks segments = (s : Pair) → In segments s → AreNear h (marks s) s
+
+-- those of a pass lie as near as it reaches
+pub marks_of_pass_are_near : (placing : Placing) (segments : List WholeSegment) → IsTrue (are_ordered segments) → MarksAreNear (reach_of_pass placing segments) (marks_on placing segments) segments
+unfolding reach_of_pass
+marks_of_pass_are_near placing segments ordered s i =
+    let there = Has-map_out (λ (u : WholeSegment). u.pair) segments s i in
+    let o = subst (λ (p : Pair). IsTrue (is_ordered p)) there.2 (list_all-at (λ (u : WholeSegment). is_ordered u.pair) segments there.0 ordered there.1) in
+    cond_both (is_rounded segments) (reach placing) 0 (λ (h : ℕ). AreNear h (marks_on placing segments s) s)
+    (λ _. marks_lie_near placing segments s o)
+    (λ exact. exact_marks_lie_on placing segments exact s i o)

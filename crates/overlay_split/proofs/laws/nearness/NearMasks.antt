@@ -1,10 +1,10 @@
 -- Masks stay: a sum has the masks of its parts, so each point of a line lies near a line of the result, and such a line near a given one.
 use Rattle.std.proofs.Common.{◌≡◌, ◌⊎◌, inl, inr, refl, sym, ap, subst, arith, ℕ, zero, suc, ◌<◌, List, [], ◌∷◌, Bool, true, false, not}
 use Rattle.std.specs.Prelude.{IsTrue, Contains, nat_lt, ◌==◌}
-use Rattle.std.specs.List.{AllByRecursion}
-use Rattle.std.proofs.lemmas.Bool.{both_ways, cases_Bool, cond_both, false_from_ne_true, ltb-true, eqb-true}
+use Rattle.std.specs.List.{list_all, AllByRecursion}
+use Rattle.std.proofs.lemmas.Bool.{both_ways, cases_Bool, false_from_ne_true, ltb-true, eqb-true}
 use Rattle.std.proofs.lemmas.Nat.{le_or_l, le_or_r, or_lt}
-use Rattle.overlay_geometry.specs.Points.{Pair, pair_cmp, is_ordered}
+use Rattle.overlay_geometry.specs.Points.{Point, Pair, pair_cmp, is_ordered}
 use Rattle.overlay_geometry.specs.Sorting.{distinct_in_order}
 use Rattle.overlay_base.specs.Windings.{Winding, add, inverse, swap_directions, is_not_empty}
 use Rattle.overlay_base.specs.Segments.{WholeSegment, pairs, are_ordered, winding_at}
@@ -17,17 +17,19 @@ use Rattle.overlay_base.proofs.laws.joins.Bags.{count_at, winding_at-here, windi
 use Rattle.overlay_base.proofs.laws.joins.Members.{counts-join}
 use Rattle.overlay_base.proofs.laws.joins.Maps.{are_ordered-map}
 use Rattle.overlay_intersections.specs.Marks.{Placing}
-use Rattle.overlay_intersections.specs.PassMarks.{marks_on, is_rounded}
-use Rattle.overlay_split.specs.Pass.{pieces_of, pass, cut}
+use Rattle.overlay_intersections.specs.PassMarks.{marks_on}
+use Rattle.overlay_split.specs.Path.{pieces}
+use Rattle.overlay_split.specs.Pass.{cut_by, pass_by, pass, cut}
 use Rattle.overlay_split.specs.Run.{Settings, placing_of_pass, after_passes}
-use Rattle.overlay_split.specs.Nearness.{Fraction, point_along, IsNearSome, reach, reach_of_pass, reach_of_run, has_mask, with_mask}
-use Rattle.overlay_split.specs.Laws.{RunKeepsLines}
+use Rattle.overlay_split.specs.Nearness.{Fraction, whole_point, point_along, IsNear, IsNearSome, reach_of_pass, reach_of_run, has_mask, with_mask}
+use Rattle.overlay_split.specs.Laws.{CutKeepsLines, RunKeepsLines}
+use Rattle.overlay_split.proofs.laws.paths.MarkedPairs.{EachMark-at}
 use Rattle.overlay_split.proofs.laws.paths.Runs.{is_map-after_passes}
 use Rattle.overlay_split.proofs.laws.paths.Potentials.{ends_differ}
 use Rattle.overlay_split.proofs.laws.paths.PieceCounts.{counts_of_pieces, counts-cut}
 use Rattle.overlay_split.proofs.laws.nearness.Distances.{IsNear-from_point, LiesNear-itself}
-use Rattle.overlay_split.proofs.laws.nearness.NearMarks.{AreNear, marks_lie_near, exact_marks_lie_on}
-use Rattle.overlay_split.proofs.laws.nearness.NearKinds.{run_of_kind}
+use Rattle.overlay_split.proofs.laws.nearness.NearMarks.{AreNear, MarksAreNear, marks_of_pass_are_near}
+use Rattle.overlay_split.proofs.laws.nearness.NearKinds.{pass_by_of_kind, run_of_kind}
 use Rattle.overlay_split.proofs.laws.nearness.Coverings.{Has-cut, pieces_cover}
 use Rattle.overlay_split.proofs.laws.nearness.LineCounts.{IsLine, IsLine-inverse, is_not_empty-mask}
 
@@ -106,27 +108,29 @@ small_after settings given zero h = counts-join (λ c. c.mask < 4) (omega arith)
 small_after settings given (suc k) h =
     let placing = placing_of_pass settings (suc k) in
     let before = after_passes settings given k in
-    counts-join (λ c. c.mask < 4) (omega arith) (λ c d p q. or_lt 2 c.mask d.mask p q) (cut placing before) (counts-cut (λ c. c.mask < 4) small-inverse placing before (small_after settings given k h))
+    counts-join (λ c. c.mask < 4) (omega arith) (λ c d p q. or_lt 2 c.mask d.mask p q) (cut placing before) (counts-cut (λ c. c.mask < 4) small-inverse (marks_on placing before) before (small_after settings given k h))
 
 -- ---- a pass
 
 -- where the marks on it are near, each point of a line is near a line after the pass
-piece_stays : (h : ℕ) (placing : Placing) (segments : List WholeSegment) (t : WholeSegment) → AreNear h (marks_on placing segments t.pair) t.pair → Has segments t → IsTrue (is_ordered t.pair) → IsLine t.count → (f : Fraction) → IsNearSome h (point_along t.pair f) (pairs (with_mask (pass placing segments)))
-unfolding pass pieces_of
-piece_stays h placing segments t near i ordered line f =
-    let some = pieces_cover h t (marks_on placing segments t.pair) (ends_differ t.pair ordered) near f in
-    let own = AllByRecursion-at (λ u. IsLine u.count) (pieces_of placing segments t) some.0 (counts_of_pieces IsLine IsLine-inverse placing segments t line) some.1 in
-    (some.0.pair, joined_mask (cut placing segments) some.0 (Has-cut placing segments t some.0 i some.1) own.0, some.2)
+piece_stays : (h : ℕ) (marks : Pair → List Point) (segments : List WholeSegment) (t : WholeSegment) → AreNear h (marks t.pair) t.pair → Has segments t → IsTrue (is_ordered t.pair) → IsLine t.count → (f : Fraction) → IsNearSome h (point_along t.pair f) (pairs (with_mask (pass_by marks segments)))
+piece_stays h marks segments t near i ordered line f =
+    let some = pieces_cover h t (marks t.pair) (ends_differ t.pair ordered) near f in
+    let own = AllByRecursion-at (λ u. IsLine u.count) (pieces t (marks t.pair)) some.0 (counts_of_pieces IsLine IsLine-inverse t (marks t.pair) line) some.1 in
+    (some.0.pair, joined_mask (cut_by marks segments) some.0 (Has-cut marks segments t some.0 i some.1) own.0, some.2)
+
+pass_by_keeps : (h : ℕ) (marks : Pair → List Point) (segments : List WholeSegment) (t : WholeSegment) → IsTrue (are_ordered segments) → MarksAreNear h marks segments → Has segments t → IsLine t.count → (f : Fraction) → IsNearSome h (point_along t.pair f) (pairs (with_mask (pass_by marks segments)))
+pass_by_keeps h marks segments t ordered near i line f =
+    piece_stays h marks segments t (near t.pair (Has-map (λ (u : WholeSegment). u.pair) segments t i)) i (list_all-at (λ (u : WholeSegment). is_ordered u.pair) segments t ordered i) line f
 
 pass_keeps : (placing : Placing) (segments : List WholeSegment) (t : WholeSegment) → IsTrue (are_ordered segments) → Has segments t → IsLine t.count → (f : Fraction) → IsNearSome (reach_of_pass placing segments) (point_along t.pair f) (pairs (with_mask (pass placing segments)))
-unfolding reach_of_pass
-pass_keeps placing segments t ordered i line f =
-    let order = list_all-at (λ (u : WholeSegment). is_ordered u.pair) segments t ordered i in
-    cond_both (is_rounded segments) (reach placing) 0 (λ (h : ℕ). IsNearSome h (point_along t.pair f) (pairs (with_mask (pass placing segments))))
-    (λ _. piece_stays (reach placing) placing segments t (marks_lie_near placing segments t.pair order) i order line f)
-    (λ exact. piece_stays 0 placing segments t (exact_marks_lie_on placing segments exact t.pair (Has-map (λ (u : WholeSegment). u.pair) segments t i) order) i order line f)
+unfolding pass
+pass_keeps placing segments t ordered i line f = pass_by_keeps (reach_of_pass placing segments) (marks_on placing segments) segments t ordered (marks_of_pass_are_near placing segments ordered) i line f
 
--- ---- a run
+-- ---- lines
+
+small_from : (segments : List WholeSegment) → IsTrue (list_all (λ s. nat_lt s.count.mask 4) segments) → AreSmall segments
+small_from segments h = AllByRecursion-weaker (λ u. nat_lt u.count.mask 4 ≡ true) (λ u. u.count.mask < 4) (λ u t. ltb-true _ _ t) segments (AllByRecursion-from_list_all (λ u. nat_lt u.count.mask 4) segments h)
 
 -- a segment with a mask of a list whose masks have two bits
 line_among : (segments : List WholeSegment) (s : Pair) → AreSmall segments → Contains (pairs (with_mask segments)) s → (t : WholeSegment) × Has segments t × IsLine t.count × (t.pair ≡ s)
@@ -134,6 +138,17 @@ line_among segments s small m =
     let there = Has-map_out (λ (u : WholeSegment). u.pair) (with_mask segments) s (Has-from_Contains (pairs (with_mask segments)) s m) in
     let kept = Has-filter_out (λ u. has_mask u.count) segments there.0 there.1 in
     (there.0, kept.0, (some_mask there.0.count kept.1, AllByRecursion-at (λ u. u.count.mask < 4) segments there.0 small kept.0), there.2)
+
+pub cut_keeps_lines : CutKeepsLines
+cut_keeps_lines h marks segments ordered small lie_near =
+    let near = EachMark-at (λ s m. IsNear h (whole_point m) s) marks segments lie_near in (
+      pass_by_of_kind has_mask refl mask-turned mask-of_two h marks segments near,
+      λ s m f.
+          let t = line_among segments s (small_from segments small) m in
+          subst (λ (u : Pair). IsNearSome h (point_along u f) (pairs (with_mask (pass_by marks segments)))) t.3 (pass_by_keeps h marks segments t.0 ordered near t.1 t.2 f),
+    )
+
+-- ---- a run
 
 line_stays : (settings : Settings) (given : List WholeSegment) (k : ℕ) (s : Pair) → IsTrue (are_ordered given) → AreSmall given → Contains (pairs (with_mask given)) s → (f : Fraction) → IsNearSome (reach_of_run settings given k) (point_along s f) (pairs (with_mask (after_passes settings given k)))
 unfolding after_passes reach_of_run
@@ -153,5 +168,5 @@ line_stays settings given (suc k) s ordered small m f =
 pub run_keeps_lines : RunKeepsLines
 run_keeps_lines settings given k ordered small = record {
   result_is_near = run_of_kind has_mask refl mask-turned mask-of_two settings given k ordered;
-  given_is_near = λ s m f. line_stays settings given k s ordered (AllByRecursion-weaker (λ u. nat_lt u.count.mask 4 ≡ true) (λ u. u.count.mask < 4) (λ u t. ltb-true _ _ t) given (AllByRecursion-from_list_all (λ u. nat_lt u.count.mask 4) given small)) m f;
+  given_is_near = λ s m f. line_stays settings given k s ordered (small_from given small) m f;
 }

@@ -5,25 +5,25 @@ use Rattle.std.specs.List.{AllByRecursion}
 use Rattle.std.proofs.lemmas.Bool.{and_parts, and_cases, both_ways, cond_both, le-leb}
 use Rattle.std.proofs.lemmas.List.Elements.{All-from_recursion, recursion_from_All, All-contains}
 use Rattle.std.proofs.Math.Nat.{add_comm}
-use Rattle.overlay_geometry.specs.Points.{Point, Pair, is_ordered}
+use Rattle.overlay_geometry.specs.Points.{Point, Pair}
 use Rattle.overlay_base.specs.Segments.{WholeSegment, pairs, are_ordered}
 use Rattle.overlay_base.specs.Join.{join}
-use Rattle.overlay_geometry.proofs.laws.lists.Lists.{AllByRecursion-weaker, AllByRecursion-map, AllByRecursion-from_Has, AllByRecursion-both, AllByRecursion-from_list_all, Has, Has-map}
+use Rattle.overlay_geometry.proofs.laws.lists.Lists.{AllByRecursion-weaker, AllByRecursion-map, AllByRecursion-from_Has, Has, Has-map}
 use Rattle.overlay_base.proofs.laws.joins.Maps.{are_ordered-map}
 use Rattle.overlay_intersections.specs.Marks.{Placing}
 use Rattle.overlay_split.specs.Path.{pieces}
-use Rattle.overlay_split.specs.Pass.{pieces_of, cut, pass}
+use Rattle.overlay_split.specs.Pass.{cut_by, pass_by, pass}
 use Rattle.overlay_intersections.specs.PassMarks.{marks_on, is_rounded}
 use Rattle.overlay_split.specs.Run.{Settings, placing_of_pass, after_passes, goes_on}
 use Rattle.overlay_split.specs.Nearness.{whole_point, IsNear, LiesNear, LieNear, reach, reach_of_pass, reach_of_run, reach_of_passes}
-use Rattle.overlay_split.specs.Laws.{PassStaysNear, ReachIsBounded, LastPassReachesNothing, ExactInputReachesNothing}
+use Rattle.overlay_split.specs.Laws.{CutStaysNear, PassStaysNear, ReachIsBounded, LastPassReachesNothing, ExactInputReachesNothing}
 use Rattle.overlay_split.proofs.laws.paths.Cuts.{AllByRecursion-cut, AllByRecursion-join}
 use Rattle.overlay_split.proofs.laws.paths.Boxes.{AtEnds, pieces_have}
+use Rattle.overlay_split.proofs.laws.paths.MarkedPairs.{EachMark-at}
 use Rattle.overlay_split.proofs.laws.paths.Runs.{is_map-after_passes}
-use Rattle.overlay_split.proofs.laws.planar.ExactMarks.{In}
 use Rattle.overlay_split.proofs.laws.planar.ExactInputs.{exact_means, join_not_rounded}
 use Rattle.overlay_split.proofs.laws.nearness.Distances.{LiesNear-from_ends, LiesNear-trans, LiesNear-itself, IsNear-start, IsNear-end}
-use Rattle.overlay_split.proofs.laws.nearness.NearMarks.{AreNear, marks_lie_near, exact_marks_lie_on}
+use Rattle.overlay_split.proofs.laws.nearness.NearMarks.{AreNear, MarksAreNear, marks_of_pass_are_near}
 use Rattle.overlay_geometry.proofs.laws.lists.Elements.{Contains-from_Has}
 
 -- ---- elements
@@ -42,31 +42,29 @@ pieces_lie_near h s marks near =
 
 -- ---- a pass
 
-piece_has_near : (h : ℕ) (placing : Placing) (segments : List WholeSegment) → ((s : Pair) → In segments s → IsTrue (is_ordered s) → AreNear h (marks_on placing segments s) s) → (s : WholeSegment) → Has segments s × IsTrue (is_ordered s.pair) → AllByRecursion (λ r. HasNear h (pairs segments) r.pair) (pieces_of placing segments s)
-unfolding pieces_of
-piece_has_near h placing segments near s (i, o) =
+piece_has_near : (h : ℕ) (marks : Pair → List Point) (segments : List WholeSegment) → MarksAreNear h marks segments → (s : WholeSegment) → Has segments s → AllByRecursion (λ r. HasNear h (pairs segments) r.pair) (pieces s (marks s.pair))
+piece_has_near h marks segments near s i =
     let here = Has-map (λ (t : WholeSegment). t.pair) segments s i in
-    AllByRecursion-weaker (λ r. LiesNear h r.pair s.pair) (λ r. HasNear h (pairs segments) r.pair) (λ r k. (s.pair, Contains-from_Has (pairs segments) s.pair here, k)) (pieces s (marks_on placing segments s.pair))
-    (pieces_lie_near h s (marks_on placing segments s.pair) (near s.pair here o))
-
--- where the marks on each pair are near it, each pair of the pass lies near one before it
-pass_has_near : (h : ℕ) (placing : Placing) (segments : List WholeSegment) → ((s : Pair) → In segments s → IsTrue (is_ordered s) → AreNear h (marks_on placing segments s) s) → IsTrue (are_ordered segments) → AllByRecursion (λ r. HasNear h (pairs segments) r.pair) (pass placing segments)
-unfolding pass
-pass_has_near h placing segments near ordered =
-    AllByRecursion-join (HasNear h (pairs segments)) (cut placing segments)
-    (AllByRecursion-cut (λ r. HasNear h (pairs segments) r.pair) placing segments
-    (AllByRecursion-weaker (λ s. Has segments s × IsTrue (is_ordered s.pair)) (λ s. AllByRecursion (λ r. HasNear h (pairs segments) r.pair) (pieces_of placing segments s)) (piece_has_near h placing segments near) segments
-    (AllByRecursion-both (Has segments) (λ s. IsTrue (is_ordered s.pair)) segments (AllByRecursion-from_Has (Has segments) segments (λ s i. i)) (AllByRecursion-from_list_all (λ s. is_ordered s.pair) segments ordered))))
+    AllByRecursion-weaker (λ r. LiesNear h r.pair s.pair) (λ r. HasNear h (pairs segments) r.pair) (λ r k. (s.pair, Contains-from_Has (pairs segments) s.pair here, k)) (pieces s (marks s.pair))
+    (pieces_lie_near h s (marks s.pair) (near s.pair here))
 
 pub LieNear-to : (h : ℕ) (given : List Pair) (result : List WholeSegment) → AllByRecursion (λ r. HasNear h given r.pair) result → LieNear h given (pairs result)
 LieNear-to h given result each = All-from_recursion (HasNear h given) (pairs result) (AllByRecursion-map (HasNear h given) (λ (r : WholeSegment). r.pair) result each)
 
+-- where the marks on each pair are near it, each pair that is made lies near one before it
+near_pairs : (h : ℕ) (marks : Pair → List Point) (segments : List WholeSegment) → MarksAreNear h marks segments → LieNear h (pairs segments) (pairs (pass_by marks segments))
+near_pairs h marks segments near =
+    LieNear-to h (pairs segments) (pass_by marks segments)
+    (AllByRecursion-join (HasNear h (pairs segments)) (cut_by marks segments)
+    (AllByRecursion-cut (λ r. HasNear h (pairs segments) r.pair) marks segments
+    (AllByRecursion-from_Has (λ s. AllByRecursion (λ r. HasNear h (pairs segments) r.pair) (pieces s (marks s.pair))) segments (piece_has_near h marks segments near))))
+
+pub cut_stays_near : CutStaysNear
+cut_stays_near h marks segments near = near_pairs h marks segments (EachMark-at (λ s m. IsNear h (whole_point m) s) marks segments near)
+
 pub pass_stays_near : PassStaysNear
-unfolding reach_of_pass
-pass_stays_near placing segments ordered =
-    cond_both (is_rounded segments) (reach placing) 0 (λ (h : ℕ). LieNear h (pairs segments) (pairs (pass placing segments)))
-    (λ _. LieNear-to (reach placing) (pairs segments) (pass placing segments) (pass_has_near (reach placing) placing segments (λ s _ o. marks_lie_near placing segments s o) ordered))
-    (λ exact. LieNear-to 0 (pairs segments) (pass placing segments) (pass_has_near 0 placing segments (exact_marks_lie_on placing segments exact) ordered))
+unfolding pass
+pass_stays_near placing segments ordered = near_pairs (reach_of_pass placing segments) (marks_on placing segments) segments (marks_of_pass_are_near placing segments ordered)
 
 -- ---- a run
 

@@ -19,20 +19,20 @@ use Rattle.overlay_base.proofs.laws.counts.Windings.{same_windings}
 use Rattle.overlay_base.proofs.laws.joins.Maps.{are_ordered-map}
 use Rattle.overlay_split.specs.Path.{path, piece, pieces_along, pieces}
 use Rattle.overlay_intersections.specs.Marks.{Placing}
-use Rattle.overlay_split.specs.Pass.{pieces_of, cut, pass}
-use Rattle.overlay_intersections.specs.PassMarks.{marks_on, is_rounded}
+use Rattle.overlay_split.specs.Pass.{cut_by, pass_by, pass}
+use Rattle.overlay_intersections.specs.PassMarks.{marks_on}
 use Rattle.overlay_split.specs.Run.{placing_of_pass, after_passes}
 use Rattle.overlay_base.specs.Places.{RationalPoint, spans, runs_below, lies_below, winding_below}
-use Rattle.overlay_split.specs.Nearness.{point_along, IsNear, LiesNear, LieNear, reach, reach_of_pass, reach_of_run}
+use Rattle.overlay_split.specs.Nearness.{whole_point, point_along, IsNear, LiesNear, LieNear, reach_of_pass, reach_of_run}
 use Rattle.overlay_split.specs.Places.{IsFar}
-use Rattle.overlay_split.specs.Laws.{IsOdd, loss, PassOnOneSide, JoinKeepsWinding, PassKeepsWinding, RunKeepsWinding, ExactInputKeepsWinding}
+use Rattle.overlay_split.specs.Laws.{IsOdd, loss, PassOnOneSide, JoinKeepsWinding, CutKeepsWinding, PassKeepsWinding, RunKeepsWinding, ExactInputKeepsWinding}
 use Rattle.overlay_split.proofs.laws.paths.Cuts.{gathered-cut}
+use Rattle.overlay_split.proofs.laws.paths.MarkedPairs.{EachMark-at}
 use Rattle.overlay_split.proofs.laws.paths.PieceCounts.{counts_of_pieces}
 use Rattle.overlay_split.proofs.laws.paths.Pieces.{weighed-pieces}
 use Rattle.overlay_split.proofs.laws.paths.Runs.{is_map-after_passes}
-use Rattle.overlay_split.proofs.laws.planar.ExactMarks.{In}
 use Rattle.overlay_split.proofs.laws.nearness.Distances.{LiesNear-from_ends, IsNear-start, IsNear-end, IsNear-weaker, IsNear-from_point}
-use Rattle.overlay_split.proofs.laws.nearness.NearMarks.{AreNear, marks_lie_near, exact_marks_lie_on}
+use Rattle.overlay_split.proofs.laws.nearness.NearMarks.{AreNear, MarksAreNear, marks_of_pass_are_near}
 use Rattle.overlay_split.proofs.laws.nearness.Nearness.{pieces_lie_near, run_lies_near, exact_input_reaches_nothing}
 use Rattle.overlay_split.proofs.laws.nearness.OneSide.{one_side}
 use Rattle.overlay_geometry.proofs.laws.integers.Tests.{le-test, le-test_false, lt-test, lt-test_false}
@@ -184,51 +184,51 @@ weighed-flat f part [] h = refl
 weighed-flat f part (s ∷ segments) h = ap₂ ◌+ℤ◌ (times_nothing (f s.pair) (part s.count) h.0) (weighed-flat f part segments h.1)
 
 -- the pieces of a segment that does not wind do not either
-pieces_of_flat : (placing : Placing) (segments : List WholeSegment) (p : RationalPoint) (s : WholeSegment) (part : Winding → ℤ) → ((c : Winding) → IsFlat c → part c ≡ pos 0) → IsFlat s.count →
-    weighed (below_sign p) part (pieces_of placing segments s) ≡ below_sign p s.pair *ℤ part s.count
-pieces_of_flat placing segments p s part none flat =
-    weighed-flat (below_sign p) part (pieces_of placing segments s)
-    (AllByRecursion-weaker (λ r. IsFlat r.count) (λ r. part r.count ≡ pos 0) (λ r h. none r.count h) (pieces_of placing segments s) (counts_of_pieces IsFlat IsFlat-inverse placing segments s flat))
+pieces_of_flat : (p : RationalPoint) (s : WholeSegment) (marks : List Point) (part : Winding → ℤ) → ((c : Winding) → IsFlat c → part c ≡ pos 0) → IsFlat s.count →
+    weighed (below_sign p) part (pieces s marks) ≡ below_sign p s.pair *ℤ part s.count
+pieces_of_flat p s marks part none flat =
+    weighed-flat (below_sign p) part (pieces s marks)
+    (AllByRecursion-weaker (λ r. IsFlat r.count) (λ r. part r.count ≡ pos 0) (λ r h. none r.count h) (pieces s marks) (counts_of_pieces IsFlat IsFlat-inverse s marks flat))
     ∙ sym (times_nothing (below_sign p s.pair) (part s.count) (none s.count flat))
 
 -- each segment is farther than that from p, or does not wind
 abbrev pub IsApartFrom : ℕ → RationalPoint → List WholeSegment → Type 0
 IsApartFrom h p segments = (s : WholeSegment) → Has segments s → (IsNear h p s.pair → ⊥) ⊎ IsFlat s.count
 
--- the marks on each pair of a list lie near it
-abbrev MarksAreNear : ℕ → Placing → List WholeSegment → Type 0
-MarksAreNear h placing segments = (s : Pair) → In segments s → IsTrue (is_ordered s) → AreNear h (marks_on placing segments s) s
-
-cut_weighs : (h : ℕ) (placing : Placing) (segments : List WholeSegment) (p : RationalPoint) → IsTrue (are_ordered segments) → MarksAreNear h placing segments → IsApartFrom h p segments → (part : Winding → ℤ) → IsOdd part →
-    ((c : Winding) → IsFlat c → part c ≡ pos 0) → weighed (below_sign p) part (cut placing segments) ≡ weighed (below_sign p) part segments
-unfolding pieces_of
-cut_weighs h placing segments p ordered near apart part odd none =
-    gathered-cut whole_numbers_add (λ s. below_sign p s.pair *ℤ part s.count) placing segments
-    ∙ gathered-each ◌+ℤ◌ (pos 0) (λ (s : WholeSegment). weighed (below_sign p) part (pieces_of placing segments s)) (λ s. below_sign p s.pair *ℤ part s.count) segments
-    (AllByRecursion-from_Has (λ s. weighed (below_sign p) part (pieces_of placing segments s) ≡ below_sign p s.pair *ℤ part s.count) segments
+cut_weighs : (h : ℕ) (marks : Pair → List Point) (segments : List WholeSegment) (p : RationalPoint) → IsTrue (are_ordered segments) → MarksAreNear h marks segments → IsApartFrom h p segments → (part : Winding → ℤ) → IsOdd part →
+    ((c : Winding) → IsFlat c → part c ≡ pos 0) → weighed (below_sign p) part (cut_by marks segments) ≡ weighed (below_sign p) part segments
+cut_weighs h marks segments p ordered near apart part odd none =
+    gathered-cut whole_numbers_add (λ s. below_sign p s.pair *ℤ part s.count) marks segments
+    ∙ gathered-each ◌+ℤ◌ (pos 0) (λ (s : WholeSegment). weighed (below_sign p) part (pieces s (marks s.pair))) (λ s. below_sign p s.pair *ℤ part s.count) segments
+    (AllByRecursion-from_Has (λ s. weighed (below_sign p) part (pieces s (marks s.pair)) ≡ below_sign p s.pair *ℤ part s.count) segments
     (λ s i.
     let order = list_all-at (λ (t : WholeSegment). is_ordered t.pair) segments s ordered i in
     elim (apart s i) [
-      | inl far ↦ pieces_weigh h p s (marks_on placing segments s.pair) (Before-x s.pair.a s.pair.b (before s.pair.a s.pair.b order))
-          (near s.pair (Has-map (λ (t : WholeSegment). t.pair) segments s i) order) far part odd
-      | inr flat ↦ pieces_of_flat placing segments p s part none flat
+      | inl far ↦ pieces_weigh h p s (marks s.pair) (Before-x s.pair.a s.pair.b (before s.pair.a s.pair.b order))
+          (near s.pair (Has-map (λ (t : WholeSegment). t.pair) segments s i)) far part odd
+      | inr flat ↦ pieces_of_flat p s (marks s.pair) part none flat
     ]))
 
-cut_winds : (h : ℕ) (placing : Placing) (segments : List WholeSegment) (p : RationalPoint) → IsTrue (are_ordered segments) → MarksAreNear h placing segments → IsApartFrom h p segments →
-    winding_below (cut placing segments) p ≡ winding_below segments p
-cut_winds h placing segments p ordered near apart =
+cut_winds : (h : ℕ) (marks : Pair → List Point) (segments : List WholeSegment) (p : RationalPoint) → IsTrue (are_ordered segments) → MarksAreNear h marks segments → IsApartFrom h p segments →
+    winding_below (cut_by marks segments) p ≡ winding_below segments p
+cut_winds h marks segments p ordered near apart =
     same_windings _ _
-    (winding_below-subj (cut placing segments) p ∙ cut_weighs h placing segments p ordered near apart (λ c. c.subj) (λ c. refl) (λ c flat. flat.0) ∙ sym (winding_below-subj segments p))
-    (winding_below-clip (cut placing segments) p ∙ cut_weighs h placing segments p ordered near apart (λ c. c.clip) (λ c. refl) (λ c flat. flat.1) ∙ sym (winding_below-clip segments p))
-    (winding_below-mask (cut placing segments) p ∙ sym (winding_below-mask segments p))
+    (winding_below-subj (cut_by marks segments) p ∙ cut_weighs h marks segments p ordered near apart (λ c. c.subj) (λ c. refl) (λ c flat. flat.0) ∙ sym (winding_below-subj segments p))
+    (winding_below-clip (cut_by marks segments) p ∙ cut_weighs h marks segments p ordered near apart (λ c. c.clip) (λ c. refl) (λ c flat. flat.1) ∙ sym (winding_below-clip segments p))
+    (winding_below-mask (cut_by marks segments) p ∙ sym (winding_below-mask segments p))
 
--- a pass changes the winding at no place from which each segment that winds is far
+-- a cut, joined, changes the winding at no place from which each segment that winds is far
+pub pass_by_winds : (h : ℕ) (marks : Pair → List Point) (segments : List WholeSegment) (p : RationalPoint) → IsTrue (are_ordered segments) → MarksAreNear h marks segments → IsApartFrom h p segments → winding_below (pass_by marks segments) p ≡ winding_below segments p
+pass_by_winds h marks segments p ordered near apart = join_keeps_winding (cut_by marks segments) p ∙ cut_winds h marks segments p ordered near apart
+
+pub cut_keeps_winding : CutKeepsWinding
+cut_keeps_winding h marks segments p ordered near far =
+    pass_by_winds h marks segments p ordered (EachMark-at (λ s m. IsNear h (whole_point m) s) marks segments near) (λ s i. inl (far_from h p segments far s i))
+
+-- nor does a pass
 pub pass_winds : (placing : Placing) (segments : List WholeSegment) (p : RationalPoint) → IsTrue (are_ordered segments) → IsApartFrom (reach_of_pass placing segments) p segments → winding_below (pass placing segments) p ≡ winding_below segments p
-unfolding pass reach_of_pass
-pass_winds placing segments p ordered =
-    cond_both (is_rounded segments) (reach placing) 0 (λ (h : ℕ). IsApartFrom h p segments → winding_below (pass placing segments) p ≡ winding_below segments p)
-    (λ _ apart. join_keeps_winding (cut placing segments) p ∙ cut_winds (reach placing) placing segments p ordered (λ s _ o. marks_lie_near placing segments s o) apart)
-    (λ exact apart. join_keeps_winding (cut placing segments) p ∙ cut_winds 0 placing segments p ordered (exact_marks_lie_on placing segments exact) apart)
+unfolding pass
+pass_winds placing segments p ordered apart = pass_by_winds (reach_of_pass placing segments) (marks_on placing segments) segments p ordered (marks_of_pass_are_near placing segments ordered) apart
 
 pub pass_keeps_winding : PassKeepsWinding
 pass_keeps_winding placing segments p ordered far = pass_winds placing segments p ordered (λ s i. inl (far_from (reach_of_pass placing segments) p segments far s i))

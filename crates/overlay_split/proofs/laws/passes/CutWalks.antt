@@ -13,18 +13,15 @@ use Rattle.overlay_base.specs.Segments.{WholeSegment}
 use Rattle.overlay_base.specs.EdgeData.{DataSegment, Hooks, without_data}
 use Rattle.overlay_geometry.proofs.laws.lists.Elements.{AllByRecursion-drop}
 use Rattle.overlay_geometry.proofs.laws.lists.Lists.{Steps}
-use Rattle.overlay_intersections.specs.Marks.{Placing}
-use Rattle.overlay_intersections.specs.PassMarks.{marks_on}
-use Rattle.overlay_intersections.specs.MarkOf.{Mark, AreMarks, points_at}
+use Rattle.overlay_intersections.specs.MarkOf.{Mark, points_at}
+use Rattle.overlay_split.specs.CutOf.{AreMarksBy}
 use Rattle.overlay_split.specs.Path.{path_from, columns_in_order, columns_of, column_path, next_point, last_point, LeadsOn}
 use Rattle.overlay_split.specs.steps.PathSteps.{IsPathOf}
-use Rattle.overlay_split.specs.DataPass.{data_pieces_of_each, data_cut}
+use Rattle.overlay_split.specs.DataPass.{data_pieces_of_each, data_cut_by}
 use Rattle.overlay_split.specs.steps.DataCutAt.{data_cut_at}
 use Rattle.overlay_split.proofs.laws.paths.Paths.{all_of, all_of-columns_of, steps_of_path}
-use Rattle.overlay_intersections.proofs.laws.marks.Marks.{Differ}
+use Rattle.overlay_intersections.proofs.laws.marks.Marks.{Differ, IsFree}
 use Rattle.overlay_split.proofs.laws.paths.Pieces.{last_point-path_from}
-use Rattle.overlay_intersections.proofs.laws.marks.Marks.{IsFree-marks_on}
-use Rattle.overlay_split.proofs.laws.paths.Potentials.{distinct-marks_on}
 use Rattle.overlay_intersections.proofs.laws.marks.ApartPairs.{ends_differ}
 use Rattle.overlay_split.proofs.laws.passes.MarkBlocks.{AreRising, AreRising-from, IsFront, IsFront-from, points_at-own, points_at-below}
 use Rattle.overlay_split.proofs.laws.passes.CutLists.{IsCutTo, IsCutTo-start, IsCutTo-cut, IsCutTo-whole, path_at, at_place, segment_at}
@@ -132,23 +129,29 @@ module _ {D S : Type 0} (hooks : Hooks D S) (marks : Pair → List Point) (given
 abbrev pub IsUsable : {D : Type 0} → DataSegment D → Type 0
 IsUsable s = IsTrue (is_ordered s.pair) × IsTrue (is_valid s.count)
 
+-- and of the marks on it
+pub record IsReady {D : Type 0} (marks : Pair → List Point) (s : DataSegment D) : Type 0 where
+  pub usable : IsUsable s
+  pub sorted : distinct_in_order point_cmp (marks s.pair) ≡ marks s.pair
+  pub free : AllByRecursion (IsFree s.pair) (marks s.pair)
+
 module _ {D S X Y : Type 0} (hooks : Hooks D S) (marks : Pair → List Point) (given : List (DataSegment D)) (from : S) (f : X → DataSegment D) (g : Y → Mark) where
   -- the segment of the next mark, before it is cut
   pub record IsAtMark (xs : List X) (ys : List Y) (left : S) (index n : ℕ) : Type 0 where
     pub segment : DataSegment D
-    pub usable : IsUsable segment
+    pub ready : IsReady marks segment
     pub inside : index < length xs
     pub here : (x : X) → x ≡ get_or xs index x → f x ≡ segment
     pub own : marks segment.pair ≡ map (λ y. (g y).point) (take n ys)
     pub some : 0 < length (map (λ y. (g y).point) (take n ys))
     pub next : (xs' : List X) (left' : S) → (map f xs', left') ≡ data_cut_at hooks index (path_at hooks marks segment) (map f xs) left → IsCutSoFar hooks marks given from (map g (drop n ys)) (map f xs') left'
 
-  pub IsAtMark-from : AllByRecursion IsUsable given → (xs : List X) (ys : List Y) (left : S) → IsCutSoFar hooks marks given from (map g ys) (map f xs) left → (y : Y) → slice_get ys 0 ≡ Some y
+  pub IsAtMark-from : AllByRecursion (IsReady marks) given → (xs : List X) (ys : List Y) (left : S) → IsCutSoFar hooks marks given from (map g ys) (map f xs) left → (y : Y) → slice_get ys 0 ≡ Some y
       → (n : ℕ) → n ≤ length ys → AllWithin (λ z. (g z).index ≡ (g y).index) ys 0 n → (n < length ys → HoldsAt (λ z. (g z).index ≢ (g y).index) ys n) → IsAtMark xs ys left (g y).index n
-  IsAtMark-from usable xs [] left w y e n le own stop = let l = slice_get_within [] 0 y e in absurd (omega (arith, l))
-  IsAtMark-from usable xs (z ∷ zs) left w y e n le own stop = record {
+  IsAtMark-from each xs [] left w y e n le own stop = let l = slice_get_within [] 0 y e in absurd (omega (arith, l))
+  IsAtMark-from each xs (z ∷ zs) left w y e n le own stop = record {
     segment = at.0;
-    usable = its.0;
+    ready = its.0;
     inside = subst (λ (k : ℕ). index < k) (length-map xs f) there.0;
     here = λ x is. sym (get_or-map f xs index x (f x) (subst (λ (k : ℕ). index < k) (length-map xs f) there.0) ∙ ap f (sym is)) ∙ there.1 (f x);
     own = sym mine ∙ front.own;
@@ -163,7 +166,7 @@ module _ {D S X Y : Type 0} (hooks : Hooks D S) (marks : Pair → List Point) (g
       is = get_or_from_slice_get (z ∷ zs) 0 y z e
 
       ordered : AreOrdered hooks marks given from
-      ordered j s tail h = (subst (AllByRecursion IsUsable) h (AllByRecursion-drop IsUsable j given usable)).0.0
+      ordered j s tail h = (subst (AllByRecursion (IsReady marks)) h (AllByRecursion-drop (IsReady marks) j given each)).0.usable.0
 
       to : IsCutTo hooks marks given from (map f xs) left index
       to = subst (IsCutTo hooks marks given from (map f xs) left) (ap (λ t. (g t).index) is) (IsCutSoFar-at hooks marks given from ordered (map f xs) left (g z) (map g zs) w)
@@ -171,8 +174,8 @@ module _ {D S X Y : Type 0} (hooks : Hooks D S) (marks : Pair → List Point) (g
       at : (s : DataSegment D) × (drop index given ≡ s ∷ drop (suc index) given)
       at = at_place given index (omega (arith, w.within.0, ap (λ t. (g t).index) is))
 
-      its : AllByRecursion IsUsable (at.0 ∷ drop (suc index) given)
-      its = subst (AllByRecursion IsUsable) at.1 (AllByRecursion-drop IsUsable index given usable)
+      its : AllByRecursion (IsReady marks) (at.0 ∷ drop (suc index) given)
+      its = subst (AllByRecursion (IsReady marks)) at.1 (AllByRecursion-drop (IsReady marks) index given each)
 
       there : (index < length (map f xs)) × ((d : DataSegment D) → get_or (map f xs) index d ≡ at.0)
       there = read_place (map f xs) index at.0 _ (segment_at hooks marks given from (map f xs) left index at.0 at.1 to)
@@ -188,66 +191,62 @@ module _ {D S X Y : Type 0} (hooks : Hooks D S) (marks : Pair → List Point) (g
 
 -- ---- the whole walk
 
--- the marks that a pass over a list makes on each pair
-abbrev pub marks_in : {D : Type 0} → Placing → List (DataSegment D) → Pair → List Point
-marks_in placing given pair = marks_on placing (without_data given) pair
-
 -- the path that is collected from the marks on a segment is the one that it is cut along
-module _ {D S : Type 0} (hooks : Hooks D S) (placing : Placing) (given : List (DataSegment D)) (s : DataSegment D) (own : List Point) (is : marks_in placing given s.pair ≡ own) where
-  pub path_collected : (a b : Point) (points : List Point) → a ≡ s.pair.a → b ≡ s.pair.b → points ≡ path_from a (columns_in_order own) b → points ≡ path_at hooks (marks_in placing given) s
-  path_collected a b points start end e =
-      e ∙ (λ i. path_from (start i) (columns_in_order own) (end i))
-      ∙ path_as_collected s.pair (marks_in placing given s.pair) own (distinct-marks_on placing (without_data given) s.pair) is
+module _ {D S : Type 0} (hooks : Hooks D S) (marks : Pair → List Point) (s : DataSegment D) (ready : IsReady marks s) (own : List Point) (is : marks s.pair ≡ own) where
+  pub path_collected : (a b : Point) (points : List Point) → a ≡ s.pair.a → b ≡ s.pair.b → points ≡ path_from a (columns_in_order own) b → points ≡ path_at hooks marks s
+  path_collected a b points start end e = e ∙ (λ i. path_from (start i) (columns_in_order own) (end i)) ∙ path_as_collected s.pair (marks s.pair) own ready.sorted is
 
-  pub path_steps : 0 < length own → 1 < length (path_at hooks (marks_in placing given) s)
-  path_steps some = two_steps s.pair (marks_in placing given s.pair) own (distinct-marks_on placing (without_data given) s.pair) is some
+  pub path_steps : 0 < length own → 1 < length (path_at hooks marks s)
+  path_steps some = two_steps s.pair (marks s.pair) own ready.sorted is some
 
-  pub path_is : IsTrue (is_ordered s.pair) → IsPathOf s.pair (path_at hooks (marks_in placing given) s)
-  path_is ordered = IsPathOf-path_from s.pair (marks_in placing given s.pair) (ends_differ s.pair ordered) (IsFree-marks_on placing (without_data given) s.pair)
+  pub path_is : IsPathOf s.pair (path_at hooks marks s)
+  path_is = IsPathOf-path_from s.pair (marks s.pair) (ends_differ s.pair ready.usable.0) ready.free
 
-module _ {D S : Type 0} (hooks : Hooks D S) (placing : Placing) (segments : List WholeSegment) (given : List (DataSegment D)) (same : segments ≡ without_data given) (from : S) where
-  pub IsCutSoFar-start : (all : List Mark) → AreMarks placing segments all → IsCutSoFar hooks (marks_in placing given) given from all given from
-  IsCutSoFar-start all are = record {
+module _ {D : Type 0} (marks : Pair → List Point) (segments : List WholeSegment) (given : List (DataSegment D)) (same : segments ≡ without_data given) (all : List Mark) (are : AreMarksBy marks segments all) where
+  lengths : length segments ≡ length given
+  lengths = ap length same ∙ length-map given (λ s. record { pair = s.pair; count = s.count })
+
+  -- the marks of an index are those on the pair that stands there
+  pub marks_at_place : (j : ℕ) (s : DataSegment D) (tail : List (DataSegment D)) → drop j given ≡ s ∷ tail → points_at j all ≡ marks s.pair
+  marks_at_place j s tail e =
+      let r = read_place given j s tail e in
+      let bare : WholeSegment = record { pair = s.pair; count = s.count } in
+      let read : slice_index_or segments j bare ≡ bare = ap (λ l. slice_index_or l j bare) same ∙ get_or-map (λ (t : DataSegment D). record { pair = t.pair; count = t.count }) given j s bare r.0 ∙ ap (λ (t : DataSegment D). record { pair = t.pair; count = t.count }) (r.1 s) in
+      are.each j bare (omega (arith, r.0, lengths)) ∙ ap (λ (t : WholeSegment). marks t.pair) read
+
+  pub IsCutSoFar-start : {S : Type 0} (hooks : Hooks D S) (from : S) → IsCutSoFar hooks marks given from all given from
+  IsCutSoFar-start hooks from = record {
     done = 0;
-    cut = IsCutTo-start hooks (marks_in placing given) given from;
+    cut = IsCutTo-start hooks marks given from;
     rising = AreRising-from all are.in_order;
     past = least all;
     within = subst (λ (n : ℕ). AllByRecursion (λ m. m.index < n) all) lengths (recursion_from_All (λ m. m.index < length segments) all are.within);
-    points = λ j s tail le e. placed j s tail e;
+    points = λ j s tail le e. marks_at_place j s tail e;
   }
     where
-      lengths : length segments ≡ length given
-      lengths = ap length same ∙ length-map given (λ s. record { pair = s.pair; count = s.count })
-
       least : (ms : List Mark) → AllByRecursion (λ m. 0 ≤ m.index) ms
       least [] = tt
       least (m ∷ ms) = (omega arith, least ms)
 
-      placed : (j : ℕ) (s : DataSegment D) (tail : List (DataSegment D)) → drop j given ≡ s ∷ tail → points_at j all ≡ marks_in placing given s.pair
-      placed j s tail e =
-          let r = read_place given j s tail e in
-          let bare : WholeSegment = record { pair = s.pair; count = s.count } in
-          let read : slice_index_or segments j bare ≡ bare = ap (λ l. slice_index_or l j bare) same ∙ get_or-map (λ (t : DataSegment D). record { pair = t.pair; count = t.count }) given j s bare r.0 ∙ ap (λ (t : DataSegment D). record { pair = t.pair; count = t.count }) (r.1 s) in
-          are.each j bare (omega (arith, r.0, lengths)) ∙ ap (λ (t : WholeSegment). marks_on placing segments t.pair) read ∙ ap (λ l. marks_on placing l s.pair) same
-
-  pub IsCutTo-end : (now : List (DataSegment D)) (left : S) → IsCutTo hooks (marks_in placing given) given from now left (length given) → (now, left) ≡ data_cut hooks placing given from
-  unfolding data_cut
+module _ {D S : Type 0} (hooks : Hooks D S) (marks : Pair → List Point) (given : List (DataSegment D)) (from : S) where
+  IsCutTo-end : (now : List (DataSegment D)) (left : S) → IsCutTo hooks marks given from now left (length given) → (now, left) ≡ data_cut_by hooks marks given from
+  unfolding data_cut_by
   IsCutTo-end now left cut =
       let whole : take (length given) given ≡ given = take_all (length given) given (omega arith) in
       let none : drop (length given) given ≡ [] = drop_all (length given) given (omega arith) in
-      let each : data_pieces_of_each hooks (marks_in placing given) (take (length given) given) from ≡ data_pieces_of_each hooks (marks_in placing given) given from = ap (λ l. data_pieces_of_each hooks (marks_in placing given) l from) whole in
-      let firsts : now ≡ flat_map (λ ps. take 1 ps) (data_pieces_of_each hooks (marks_in placing given) (take (length given) given) from).0 ++ flat_map (λ ps. drop 1 ps) (data_pieces_of_each hooks (marks_in placing given) (take (length given) given) from).0 =
-      cut.items ∙ (λ i. flat_map (λ ps. take 1 ps) (data_pieces_of_each hooks (marks_in placing given) (take (length given) given) from).0 ++ none i ++ flat_map (λ ps. drop 1 ps) (data_pieces_of_each hooks (marks_in placing given) (take (length given) given) from).0)
-      ∙ ap (λ l. l ++ flat_map (λ ps. drop 1 ps) (data_pieces_of_each hooks (marks_in placing given) (take (length given) given) from).0) (append-nil _) in
+      let each : data_pieces_of_each hooks marks (take (length given) given) from ≡ data_pieces_of_each hooks marks given from = ap (λ l. data_pieces_of_each hooks marks l from) whole in
+      let firsts : now ≡ flat_map (λ ps. take 1 ps) (data_pieces_of_each hooks marks (take (length given) given) from).0 ++ flat_map (λ ps. drop 1 ps) (data_pieces_of_each hooks marks (take (length given) given) from).0 =
+      cut.items ∙ (λ i. flat_map (λ ps. take 1 ps) (data_pieces_of_each hooks marks (take (length given) given) from).0 ++ none i ++ flat_map (λ ps. drop 1 ps) (data_pieces_of_each hooks marks (take (length given) given) from).0)
+      ∙ ap (λ l. l ++ flat_map (λ ps. drop 1 ps) (data_pieces_of_each hooks marks (take (length given) given) from).0) (append-nil _) in
       (λ i. (firsts i, cut.store i)) ∙ ap (λ (v : List (List (DataSegment D)) × S). let cut : List (DataSegment D) × S = (flat_map (λ ps. take 1 ps) v.0 ++ flat_map (λ ps. drop 1 ps) v.0, v.1) in cut) each
 
   -- where no mark is left the list is cut
-  pub IsCutSoFar-end : AllByRecursion IsUsable given → (rest : List Mark) → rest ≡ [] → (now : List (DataSegment D)) (left : S) → IsCutSoFar hooks (marks_in placing given) given from rest now left → (now, left) ≡ data_cut hooks placing given from
-  IsCutSoFar-end usable rest none now left w =
-      IsCutTo-end now left (IsCutSoFar-all hooks (marks_in placing given) given from ordered now left (subst (λ (ms : List Mark). IsCutSoFar hooks (marks_in placing given) given from ms now left) none w))
+  pub IsCutSoFar-end : AllByRecursion (IsReady marks) given → (rest : List Mark) → rest ≡ [] → (now : List (DataSegment D)) (left : S) → IsCutSoFar hooks marks given from rest now left → (now, left) ≡ data_cut_by hooks marks given from
+  IsCutSoFar-end each rest none now left w =
+      IsCutTo-end now left (IsCutSoFar-all hooks marks given from ordered now left (subst (λ (ms : List Mark). IsCutSoFar hooks marks given from ms now left) none w))
     where
-      ordered : AreOrdered hooks (marks_in placing given) given from
-      ordered j s tail h = (subst (AllByRecursion IsUsable) h (AllByRecursion-drop IsUsable j given usable)).0.0
+      ordered : AreOrdered hooks marks given from
+      ordered j s tail h = (subst (AllByRecursion (IsReady marks)) h (AllByRecursion-drop (IsReady marks) j given each)).0.usable.0
 
 -- fewer are left behind some in front
 pub fewer_left : {X Y : Type 0} (f : X → Y) (n : ℕ) (xs : List X) → 0 < length (map f (take n xs)) → length (drop n xs) < length xs

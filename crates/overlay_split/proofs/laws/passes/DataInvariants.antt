@@ -8,8 +8,8 @@ use Rattle.overlay_intersections.specs.Marks.{Placing}
 use Rattle.overlay_intersections.specs.PassMarks.{marks_on}
 use Rattle.overlay_split.specs.Path.{path_from, columns_of}
 use Rattle.overlay_split.specs.Run.{Settings, placing_of_pass}
-use Rattle.overlay_split.specs.DataPass.{data_pieces, data_pieces_of_each, data_cut, data_pass, data_after_passes}
-use Rattle.overlay_split.specs.Laws.{HooksKeep, DataKeepsWhatHooksKeep}
+use Rattle.overlay_split.specs.DataPass.{data_pieces, data_pieces_of_each, data_cut_by, data_pass_by, data_pass, data_after_passes}
+use Rattle.overlay_split.specs.Laws.{HooksKeep, DataCutKeepsWhatHooksKeep, DataKeepsWhatHooksKeep}
 use Rattle.overlay_geometry.proofs.laws.lists.Lists.{AllByRecursion-append, AllByRecursion-filter_all, AllByRecursion-flat_map, AllByRecursion-take, AllByRecursion-from_list_all, list_all-from_AllByRecursion}
 use Rattle.overlay_geometry.proofs.laws.lists.Elements.{AllByRecursion-drop}
 use Rattle.overlay_base.proofs.laws.lists.StableSorts.{AllByRecursion-stably_sorted}
@@ -75,19 +75,21 @@ module _ {D S : Type 0} (hooks : Hooks D S) (has : D → Bool) (keeps : HooksKee
   others [] a = tt
   others (ps ∷ each) a = (AllByRecursion-drop (λ s. has s.edge_data ≡ true) 1 ps a.0, others each a.1)
 
-  good_cut : (placing : Placing) (ss : List (DataSegment D)) (store : S) → AllByRecursion (λ s. has s.edge_data ≡ true) ss → AllByRecursion (λ s. has s.edge_data ≡ true) (data_cut hooks placing ss store).0
-  unfolding data_cut
-  good_cut placing ss store a =
-      let marks : Pair → List Point = λ pair. marks_on placing (without_data ss) pair in
+  good_cut : (marks : Pair → List Point) (ss : List (DataSegment D)) (store : S) → AllByRecursion (λ s. has s.edge_data ≡ true) ss → AllByRecursion (λ s. has s.edge_data ≡ true) (data_cut_by hooks marks ss store).0
+  unfolding data_cut_by
+  good_cut marks ss store a =
       let each = (data_pieces_of_each hooks marks ss store).0 in
       let all = good_each marks ss store a in
       AllByRecursion-append (λ s. has s.edge_data ≡ true) (flat_map (λ ps. take 1 ps) each) (flat_map (λ ps. drop 1 ps) each)
       (AllByRecursion-flat_map (λ ps. take 1 ps) (λ s. has s.edge_data ≡ true) each (firsts each all))
       (AllByRecursion-flat_map (λ ps. drop 1 ps) (λ s. has s.edge_data ≡ true) each (others each all))
 
+  good_pass_by : (marks : Pair → List Point) (ss : List (DataSegment D)) (store : S) → AllByRecursion (λ s. has s.edge_data ≡ true) ss → AllByRecursion (λ s. has s.edge_data ≡ true) (data_pass_by hooks marks ss store).0
+  good_pass_by marks ss store a = good_join _ (data_cut_by hooks marks ss store).1 (good_cut marks ss store a)
+
   good_pass : (placing : Placing) (ss : List (DataSegment D)) (store : S) → AllByRecursion (λ s. has s.edge_data ≡ true) ss → AllByRecursion (λ s. has s.edge_data ≡ true) (data_pass hooks placing ss store).0
   unfolding data_pass
-  good_pass placing ss store a = good_join _ (data_cut hooks placing ss store).1 (good_cut placing ss store a)
+  good_pass placing ss store a = good_pass_by (marks_on placing (without_data ss)) ss store a
 
   good_after : (settings : Settings) (given : List (DataSegment D)) (store : S) (k : ℕ) → AllByRecursion (λ s. has s.edge_data ≡ true) given → AllByRecursion (λ s. has s.edge_data ≡ true) (data_after_passes hooks settings given store k).0
   unfolding data_after_passes
@@ -95,6 +97,10 @@ module _ {D S : Type 0} (hooks : Hooks D S) (has : D → Bool) (keeps : HooksKee
   good_after settings given store (suc k) a =
       let before = data_after_passes hooks settings given store k in
       good_pass (placing_of_pass settings (suc k)) before.0 before.1 (good_after settings given store k a)
+
+pub data_cut_keeps_what_hooks_keep : {D S : Type 0} → DataCutKeepsWhatHooksKeep D S
+data_cut_keeps_what_hooks_keep hooks has keeps marks segments store h =
+    list_all-from_AllByRecursion (λ s. has s.edge_data) _ (good_pass_by hooks has keeps marks segments store (AllByRecursion-from_list_all (λ s. has s.edge_data) segments h))
 
 pub data_keeps_what_hooks_keep : {D S : Type 0} → DataKeepsWhatHooksKeep D S
 data_keeps_what_hooks_keep hooks has keeps settings given store k h =

@@ -88,7 +88,6 @@ module _ (placing : Placing) (segments : List WholeSegment) (map : IsTrue (is_ma
   OldOrMarked p = (Contains (pairs segments) p × (marks_on placing segments p ≡ [])) ⊎ IsAtMark placing segments p
 
   of_segment : (s : WholeSegment) → Has segments s → AllByRecursion (λ r. OldOrMarked r.pair) (pieces_of placing segments s)
-  unfolding pieces_of
   of_segment s i = by_marks (marks_on placing segments s.pair) refl
     where
       within : Has (pairs segments) s.pair
@@ -106,7 +105,7 @@ module _ (placing : Placing) (segments : List WholeSegment) (map : IsTrue (is_ma
 
   all_old_or_marked : AllByRecursion (λ s. OldOrMarked s.pair) (pass placing segments)
   unfolding pass
-  all_old_or_marked = AllByRecursion-join OldOrMarked (cut placing segments) (AllByRecursion-cut (λ r. OldOrMarked r.pair) placing segments (AllByRecursion-from_Has (λ s. AllByRecursion (λ r. OldOrMarked r.pair) (pieces_of placing segments s)) segments of_segment))
+  all_old_or_marked = AllByRecursion-join OldOrMarked (cut placing segments) (AllByRecursion-cut (λ r. OldOrMarked r.pair) (marks_on placing segments) segments (AllByRecursion-from_Has (λ s. AllByRecursion (λ r. OldOrMarked r.pair) (pieces_of placing segments s)) segments of_segment))
 
 pub pass_has_old_or_marked : PassHasOldOrMarked
 pass_has_old_or_marked placing segments map p i =

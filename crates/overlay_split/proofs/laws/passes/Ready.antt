@@ -9,7 +9,8 @@ use Rattle.std.specs.Ordering.{ordering_reverse}
 use Rattle.std.proofs.lemmas.Bool.{and_parts, ne_eqb, lt-ltb}
 use Rattle.std.proofs.lemmas.List.Elements.{All-from_recursion, recursion_from_All}
 use Rattle.std.proofs.lemmas.List.Sums.{sum_by-cons}
-use Rattle.overlay_geometry.specs.Points.{pair_cmp}
+use Rattle.overlay_geometry.specs.Points.{Point, Pair, point_cmp, pair_cmp}
+use Rattle.overlay_geometry.specs.Sorting.{distinct_in_order}
 use Rattle.overlay_base.specs.Windings.{is_valid, is_not_empty}
 use Rattle.overlay_base.specs.Segments.{WholeSegment, pairs, is_map}
 use Rattle.overlay_base.specs.Join.{join}
@@ -19,22 +20,26 @@ use Rattle.overlay_geometry.specs.Coordinates.{is_pair_in_range, is_point_in_ran
 use Rattle.overlay_geometry.specs.InRange.{IsPairInRange}
 use Rattle.overlay_base.specs.SegmentOf.{x_segment_of, ends_of, segments_of, segment_of, data_segments_of, winding_of}
 use Rattle.overlay_base.specs.declared.segm.segment.Segment.{Segment}
-use Rattle.overlay_geometry.proofs.laws.lists.Lists.{AllByRecursion-from_list_all, sum_by-map}
+use Rattle.overlay_geometry.proofs.laws.lists.Lists.{AllByRecursion-both, AllByRecursion-from_Has, AllByRecursion-from_list_all, AllByRecursion-map_out, AllByRecursion-weaker, sum_by-map}
 use Rattle.overlay_geometry.proofs.laws.lists.Keys.{IsStrictlySortedBy-from_test}
-use Rattle.overlay_base.specs.EdgeData.{Hooks, without_data}
+use Rattle.overlay_base.specs.EdgeData.{DataSegment, Hooks, without_data}
 use Rattle.overlay_base.proofs.laws.joins.Views.{segments_ordered, segments_of-bare}
 use Rattle.overlay_geometry.proofs.laws.geometry.Points.{pair_cmp_total}
 use Rattle.overlay_base.proofs.laws.geometry.Apart.{pairs-map}
 use Rattle.overlay_intersections.specs.Marks.{Placing}
-use Rattle.overlay_split.specs.Pass.{cut}
+use Rattle.overlay_split.specs.CutOf.{AreMarksBy, AreCutMarks}
+use Rattle.overlay_split.specs.Pass.{cut_by}
 use Rattle.overlay_intersections.specs.PassMarks.{marks_on, mark_count}
-use Rattle.overlay_split.specs.DataPass.{data_cut}
+use Rattle.overlay_split.specs.DataPass.{data_cut_by}
 use Rattle.overlay_intersections.specs.MarkOf.{Mark, AreMarks, points_at}
+use Rattle.overlay_intersections.proofs.laws.marks.Marks.{IsFree, IsFree-marks_on}
+use Rattle.overlay_split.proofs.laws.paths.MarkedPairs.{EachMark-at}
 use Rattle.overlay_split.proofs.laws.paths.PieceCounts.{counts-cut, is_valid-inverse}
+use Rattle.overlay_split.proofs.laws.paths.Potentials.{distinct_in_order-sorted, marks_on_rise}
 use Rattle.overlay_split.proofs.laws.passes.DataPasses.{bare-data_cut}
 use Rattle.overlay_split.proofs.laws.passes.MarkBlocks.{points_at-own}
 use Rattle.overlay_split.proofs.laws.passes.CutLists.{at_place}
-use Rattle.overlay_split.proofs.laws.passes.CutWalks.{IsUsable, read_place}
+use Rattle.overlay_split.proofs.laws.passes.CutWalks.{IsUsable, IsReady, read_place, marks_at_place}
 
 -- keys in strict order
 IsSortedByKey-strictly : {X K : Type 0} {cmp : K → K → Ordering} (o : IsTotalOrder cmp) (key : X → K) (xs : List X) → IsStrictlySortedBy cmp (map key xs) → IsSortedByKey key cmp xs
@@ -95,6 +100,10 @@ sum_some f (y ∷ xs) zero x rest e = let same : y ≡ x = ap (λ l. slice_index
 sum_some f (y ∷ xs) (suc j) x rest e = omega (arith, sum_by-cons f y xs, sum_some f xs j x rest e)
 
 module _ (placing : Placing) (segments : List WholeSegment) (all : List Mark) (are : AreMarks placing segments all) where
+  -- the marks of a pass are named by a function of pairs
+  pub AreMarksBy-pass : AreMarksBy (marks_on placing segments) segments all
+  AreMarksBy-pass = record { in_order = are.in_order; within = are.within; each = are.each }
+
   each_place : (j : ℕ) (s : WholeSegment) (rest : List WholeSegment) → drop j segments ≡ s ∷ rest → points_at j all ≡ marks_on placing segments s.pair
   each_place j s rest e = let r = read_place segments j s rest e in are.each j s r.0 ∙ ap (λ (t : WholeSegment). marks_on placing segments t.pair) (r.1 s)
 
@@ -129,17 +138,64 @@ module _ (placing : Placing) (segments : List WholeSegment) (all : List Mark) (a
   marks_tell zero e b is = ap not is ∙ sym (ap (nat_lt 0) (none_counted e))
   marks_tell (suc n) e b is = ap not (is ∙ ne_eqb (suc n) 0 (λ h. omega (arith, h))) ∙ sym (lt-ltb 0 (mark_count placing segments) (some_counted (omega (arith, e))))
 
--- ---- the pieces of a pass
+-- the same over the list without its data
+pub AreMarksBy-bare : {C I D : Type 0} {m : _} {w : _} {o : _} {e : _} {p : _} (xs : List (Segment C I D m w o e p)) (placing : Placing) (all : List Mark) → AreMarks placing (segments_of xs) all → AreMarksBy (marks_on placing (without_data (data_segments_of xs))) (segments_of xs) all
+AreMarksBy-bare xs placing all are = subst (λ (l : List WholeSegment). AreMarksBy (marks_on placing l) (segments_of xs) all) (segments_of-bare xs) (AreMarksBy-pass placing (segments_of xs) all are)
 
-module _ {C I D S : Type 0} {m : _} {w : _} {o : _} {e : _} {p : _} (hooks : Hooks D S) (placing : Placing) (xs ys : List (Segment C I D m w o e p)) (store : S) (is : data_segments_of ys ≡ (data_cut hooks placing (data_segments_of xs) store).0) where
+-- ---- marks at which a list may be cut
+
+-- those of a pass are such marks
+pub AreCutMarks-pass : (placing : Placing) (segments : List WholeSegment) (all : List Mark) → AreMarks placing segments all → AreCutMarks segments all
+AreCutMarks-pass placing segments all are = record {
+  on = marks_on placing segments;
+  are = AreMarksBy-pass placing segments all are;
+  rise = All-from_recursion (λ s. IsStrictlySortedBy point_cmp (marks_on placing segments s)) (pairs segments) (AllByRecursion-from_Has (λ s. IsStrictlySortedBy point_cmp (marks_on placing segments s)) (pairs segments) (λ s _. marks_on_rise placing segments s));
+  free = All-from_recursion (λ s. All (IsFree s) (marks_on placing segments s)) (pairs segments) (AllByRecursion-from_Has (λ s. All (IsFree s) (marks_on placing segments s)) (pairs segments) (λ s _. All-from_recursion (IsFree s) (marks_on placing segments s) (IsFree-marks_on placing segments s)));
+}
+
+-- a list is ready to be cut at such marks, whatever function names them
+IsReady-each : {D : Type 0} (on : Pair → List Point) (segments : List WholeSegment) (given : List (DataSegment D)) → segments ≡ without_data given → (all : List Mark) → AreCutMarks segments all → AreMarksBy on segments all → AllByRecursion IsUsable given → AllByRecursion (IsReady on) given
+IsReady-each {D} on segments given same all can are usable =
+    AllByRecursion-weaker (λ s. ((IsUsable s × Rises s.pair) × IsFreeOf s.pair) × (can.on s.pair ≡ on s.pair)) (IsReady on)
+    (λ s k. record { usable = k.0.0.0; sorted = subst (λ l. distinct_in_order point_cmp l ≡ l) k.1 (distinct_in_order-sorted point_cmp (can.on s.pair) k.0.0.1); free = subst (AllByRecursion (IsFree s.pair)) k.1 k.0.1 }) given
+    (AllByRecursion-both (λ s. (IsUsable s × Rises s.pair) × IsFreeOf s.pair) (λ s. can.on s.pair ≡ on s.pair) given
+    (AllByRecursion-both (λ s. IsUsable s × Rises s.pair) (λ s. IsFreeOf s.pair) given
+    (AllByRecursion-both IsUsable (λ s. Rises s.pair) given usable (in_given Rises (recursion_from_All Rises (pairs segments) can.rise)))
+    (in_given IsFreeOf (AllByRecursion-from_Has IsFreeOf (pairs segments) (EachMark-at IsFree can.on segments can.free))))
+    (at_places (λ s. can.on s.pair ≡ on s.pair) given (λ j s rest e. sym (marks_at_place can.on segments given same all can.are j s rest e) ∙ marks_at_place on segments given same all are j s rest e)))
+  where
+    Rises : Pair → Type 0
+    Rises s = IsStrictlySortedBy point_cmp (can.on s)
+
+    IsFreeOf : Pair → Type 0
+    IsFreeOf s = AllByRecursion (IsFree s) (can.on s)
+
+    in_given : (P : Pair → Type 0) → AllByRecursion P (pairs segments) → AllByRecursion (λ s. P s.pair) given
+    in_given P h =
+        AllByRecursion-map_out (λ s. P s.pair) (λ (s : DataSegment D). record { pair = s.pair; count = s.count }) given
+        (AllByRecursion-map_out P (λ (s : WholeSegment). s.pair) (without_data given) (subst (λ (l : List WholeSegment). AllByRecursion P (pairs l)) same h))
+
+-- a list of code is
+pub IsReady-list : {C I D : Type 0} {m : _} {w : _} {o : _} {e : _} {p : _} (xs : List (Segment C I D m w o e p)) (least greatest : ℤ) → IsTrue (is_splittable least greatest (segments_of xs)) → (all : List Mark) → AreCutMarks (segments_of xs) all →
+    (on : Pair → List Point) → AreMarksBy on (segments_of xs) all → AllByRecursion (IsReady on) (data_segments_of xs)
+IsReady-list xs least greatest h all can on are = IsReady-each on (segments_of xs) (data_segments_of xs) (segments_of-bare xs) all can are (IsUsable-each xs least greatest h)
+
+-- where no mark is given none is named
+pub none_on_each : {C I D : Type 0} {m : _} {w : _} {o : _} {e : _} {p : _} (xs : List (Segment C I D m w o e p)) (on : Pair → List Point) (all : List Mark) → all ≡ [] → AreMarksBy on (segments_of xs) all → AllByRecursion (λ s. on s.pair ≡ []) (data_segments_of xs)
+none_on_each xs on all none are =
+    at_places (λ s. on s.pair ≡ []) (data_segments_of xs) (λ j s rest e. sym (marks_at_place on (segments_of xs) (data_segments_of xs) (segments_of-bare xs) all are j s rest e) ∙ ap (points_at j) none)
+
+-- ---- the pieces of a cut
+
+module _ {C I D S : Type 0} {m : _} {w : _} {o : _} {e : _} {p : _} (hooks : Hooks D S) (on : Pair → List Point) (xs ys : List (Segment C I D m w o e p)) (store : S) (is : data_segments_of ys ≡ (data_cut_by hooks on (data_segments_of xs) store).0) where
   -- without data they are the cut
-  pub cut_as_segments : segments_of ys ≡ cut placing (segments_of xs)
-  cut_as_segments = segments_of-bare ys ∙ ap (λ l. without_data l) is ∙ bare-data_cut hooks placing (data_segments_of xs) store ∙ ap (cut placing) (sym (segments_of-bare xs))
+  pub cut_as_segments : segments_of ys ≡ cut_by on (segments_of xs)
+  cut_as_segments = segments_of-bare ys ∙ ap (λ l. without_data l) is ∙ bare-data_cut hooks on (data_segments_of xs) store ∙ ap (cut_by on) (sym (segments_of-bare xs))
 
   -- their counts are valid
   pub are_valid-cut : (least greatest : ℤ) → IsTrue (is_splittable least greatest (segments_of xs)) → All (λ (s : Segment C I D m w o e p). IsTrue (is_valid (winding_of s))) ys
   are_valid-cut least greatest h =
-      All-from_recursion (λ (s : Segment C I D m w o e p). IsTrue (is_valid (winding_of s))) ys (out ys (subst (AllByRecursion (λ s. IsTrue (is_valid s.count))) (sym cut_as_segments) (counts-cut (λ c. IsTrue (is_valid c)) is_valid-inverse placing (segments_of xs) (each xs (IsUsable-each xs least greatest h)))))
+      All-from_recursion (λ (s : Segment C I D m w o e p). IsTrue (is_valid (winding_of s))) ys (out ys (subst (AllByRecursion (λ s. IsTrue (is_valid s.count))) (sym cut_as_segments) (counts-cut (λ c. IsTrue (is_valid c)) is_valid-inverse on (segments_of xs) (each xs (IsUsable-each xs least greatest h)))))
     where
       each : (zs : List (Segment C I D m w o e p)) → AllByRecursion IsUsable (data_segments_of zs) → AllByRecursion (λ s. IsTrue (is_valid s.count)) (segments_of zs)
       each [] k = tt

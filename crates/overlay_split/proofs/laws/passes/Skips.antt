@@ -1,9 +1,9 @@
 -- A list in which no segment has a mark is what the pass makes of it, and none of its sums leaves the range.
-use Rattle.std.proofs.Common.{◌≡◌, ap, is_gt, Less, arith, ℕ, zero, suc, Bool, not, refl, sym, ◌∙◌, ◌&&◌, true, false, IsTrue, IsFalse, List, [], ◌∷◌}
+use Rattle.std.proofs.Common.{◌≡◌, ap, is_gt, Less, refl, sym, ◌∙◌, ◌&&◌, true, false, IsTrue, IsFalse, List, [], ◌∷◌}
 use Rattle.std.specs.Prelude.{ℤ, nat_lt}
 use Rattle.std.specs.List.{list_all}
 use Rattle.std.specs.List.Sorted.{IsStrictlySortedBy}
-use Rattle.std.proofs.lemmas.Bool.{and_parts, lt-ltb}
+use Rattle.std.proofs.lemmas.Bool.{and_parts}
 use Rattle.overlay_geometry.specs.Points.{Pair, pair_cmp}
 use Rattle.overlay_geometry.specs.Coordinates.{is_pair_in_range}
 use Rattle.overlay_geometry.proofs.laws.lists.Lists.{AllByRecursion-weaker, list_all-and_parts}
@@ -42,9 +42,3 @@ unfolding is_map
 map_fits least greatest segments splittable map =
     let sorted = IsStrictlySortedBy-from_test pair_cmp_total (pairs segments) (and_parts _ _ map).0 in
     sym (additions_leave_range-join segments (in_order (pairs segments) sorted) (counts_in_range least greatest segments splittable)) ∙ none_in_map segments sorted
-
--- no mark is made
-pub none_made : (n : ℕ) (b : Bool) → b ≡ nat_lt 0 n → not b ≡ true → n ≡ 0
-none_made zero b e h = refl
-none_made (suc n) true e h = cc
-none_made (suc n) false e h = absurd (let more = lt-ltb 0 (suc n) (omega arith) in let f : false ≡ true = e ∙ more in cc)

@@ -3,22 +3,26 @@ use Rattle.std.proofs.Common.{◌≡◌, ◌≤◌, arith, ℕ, List, true, ◌&
 use Rattle.std.specs.Prelude.{ℤ, nat_lt}
 use Rattle.std.specs.List.{AllByRecursion}
 use Rattle.std.proofs.lemmas.Bool.{and_parts, and_from, lt-ltb}
-use Rattle.overlay_geometry.specs.Points.{Point, is_ordered}
+use Rattle.overlay_geometry.specs.Points.{Point, Pair, is_ordered}
 use Rattle.overlay_base.specs.Windings.{swap_directions, is_valid, is_not_empty, is_count_in_range}
 use Rattle.overlay_base.specs.Segments.{WholeSegment, is_map}
 use Rattle.overlay_base.specs.Join.{join, join_leaves_range}
 use Rattle.overlay_base.specs.Planar.{is_splittable}
 use Rattle.overlay_geometry.specs.Coordinates.{is_point_in_range, is_pair_in_range}
 use Rattle.overlay_intersections.specs.Marks.{Placing, settling}
-use Rattle.overlay_split.specs.Pass.{cut, pass}
+use Rattle.overlay_intersections.specs.PassMarks.{marks_on}
+use Rattle.overlay_split.specs.Pass.{cut_by, pass_by, cut, pass}
+use Rattle.overlay_split.specs.Laws.{CutIsSplittable}
 use Rattle.overlay_split.specs.Potential.{spread, potential}
 use Rattle.overlay_geometry.proofs.laws.geometry.Coordinates.{pair_parts, in_box_in_range}
 use Rattle.overlay_geometry.proofs.laws.lists.Lists.{AllByRecursion-weaker, AllByRecursion-both, AllByRecursion-from_list_all, list_all-from_AllByRecursion}
 use Rattle.overlay_base.proofs.laws.joins.Maps.{are_ordered-map}
 use Rattle.overlay_base.proofs.laws.joins.Members.{masks-join, counts_in_range-join, sum_by-join_le}
 use Rattle.overlay_split.proofs.laws.paths.Cuts.{AllByRecursion-join}
+use Rattle.overlay_split.proofs.laws.paths.MarkedPairs.{EachMark-each}
+use Rattle.overlay_split.proofs.laws.paths.Runs.{cut_is_map}
 use Rattle.overlay_split.proofs.laws.paths.PieceCounts.{counts-cut}
-use Rattle.overlay_split.proofs.laws.paths.Boxes.{AtEnds, HoldsInBoxes, pass_has}
+use Rattle.overlay_split.proofs.laws.paths.Boxes.{AtEnds, HoldsInBoxes, marks_on_have, pass_by_has}
 use Rattle.overlay_split.proofs.laws.paths.Potentials.{potential-cut}
 
 -- ---- the parts of the test
@@ -61,8 +65,8 @@ from_usable least greatest segments u =
 mask_back : (n : ℕ) → nat_lt (swap_directions n) 4 ≡ true
 mask_back n = lt-ltb (swap_directions n) 4 (omega arith)
 
-cut_masks : (placing : Placing) (segments : List WholeSegment) → AllByRecursion HasMask segments → AllByRecursion HasMask (cut placing segments)
-cut_masks placing segments h = counts-cut (λ c. nat_lt c.mask 4 ≡ true) (λ c _. mask_back c.mask) placing segments h
+cut_masks : (marks : Pair → List Point) (segments : List WholeSegment) → AllByRecursion HasMask segments → AllByRecursion HasMask (cut_by marks segments)
+cut_masks marks segments h = counts-cut (λ c. nat_lt c.mask 4 ≡ true) (λ c _. mask_back c.mask) marks segments h
 
 -- ---- joins
 
@@ -86,12 +90,24 @@ is_splittable-join least greatest bag h fits map =
 range_in_boxes : (least greatest : ℤ) → HoldsInBoxes (IsInRange least greatest)
 range_in_boxes least greatest s p h k = in_box_in_range least greatest s p (and_from _ _ h.0 h.1) k
 
+-- so is its cut at marks in range
+is_splittable-pass_by : (least greatest : ℤ) (marks : Pair → List Point) (segments : List WholeSegment) → IsTrue (is_splittable least greatest segments) → AllByRecursion (λ s. AllByRecursion (IsInRange least greatest) (marks s.pair)) segments →
+    IsFalse (join_leaves_range (cut_by marks segments)) → IsTrue (is_map (pass_by marks segments)) → IsTrue (is_splittable least greatest (pass_by marks segments))
+is_splittable-pass_by least greatest marks segments h at_marks fits map =
+    let parts = usable_parts least greatest segments h in
+    kept_in_join least greatest (cut_by marks segments) (pass_by_has (IsInRange least greatest) marks segments parts.ends at_marks) (cut_masks marks segments parts.masks) fits map
+
+pub cut_is_splittable : CutIsSplittable
+cut_is_splittable least greatest marks segments ordered h free within fits =
+    is_splittable-pass_by least greatest marks segments h (EachMark-each (λ s m. IsInRange least greatest m) marks segments within) fits (cut_is_map marks segments ordered free)
+
 -- and a pass over it leaves one
 pub is_splittable-pass : (least greatest : ℤ) (placing : Placing) (segments : List WholeSegment) → IsTrue (is_splittable least greatest segments) → IsFalse (join_leaves_range (cut placing segments)) → IsTrue (is_map (pass placing segments)) → IsTrue (is_splittable least greatest (pass placing segments))
 unfolding pass
 is_splittable-pass least greatest placing segments h fits map =
-    let parts = usable_parts least greatest segments h in
-    kept_in_join least greatest (cut placing segments) (pass_has (IsInRange least greatest) (range_in_boxes least greatest) placing segments parts.ends) (cut_masks placing segments parts.masks) fits map
+    let ends = (usable_parts least greatest segments h).ends in
+    is_splittable-pass_by least greatest (marks_on placing segments) segments h
+    (AllByRecursion-weaker (λ s. AtEnds (IsInRange least greatest) s.pair) (λ s. AllByRecursion (IsInRange least greatest) (marks_on placing segments s.pair)) (λ s k. marks_on_have (IsInRange least greatest) (range_in_boxes least greatest) placing segments s.pair ends k) segments ends) fits map
 
 -- ---- the potential
 

@@ -1,15 +1,22 @@
 -- Runs that were refused: a sum leaves the range, and there is one store that such a run leaves.
 use Rattle.std.proofs.Common.{◌≡◌, sym, ap, subst, ◌∙◌, ⊎_elim, arith, ℕ, zero, suc, ◌<◌, ◌≤◌, List, IsTrue}
+use Rattle.std.specs.Prelude.{Result, Ok, Err, IfErr, IsErrAnd}
 use Rattle.std.proofs.lemmas.Bool.{or_right, both_ways, cases_lt}
 use Rattle.overlay_base.specs.Segments.{WholeSegment}
 use Rattle.overlay_base.specs.Join.{join_leaves_range}
 use Rattle.overlay_base.specs.EdgeData.{DataSegment, Hooks, without_data, IsRefusedJoin}
 use Rattle.overlay_base.proofs.laws.joins.Stops.{refused_leaves_range, refused_join_is_one}
+use Rattle.overlay_intersections.specs.PassMarks.{marks_on}
 use Rattle.overlay_split.specs.Pass.{cut}
 use Rattle.overlay_split.specs.Run.{Settings, placing_of_pass, leaves_range_within}
 use Rattle.overlay_split.specs.DataPass.{data_after_passes, data_joined_in, IsStoppedRun}
 use Rattle.overlay_split.specs.Laws.{StoppedRunLeavesRange, StoppedRunIsOne}
 use Rattle.overlay_split.proofs.laws.passes.DataPasses.{bare-data_cut, data_is_beside}
+
+-- what is said of the fault of a call is said of the fault that is passed on
+pub refused_by : {A F : Type 0} (r : Result A F) (x : F) {out : F} (P : Type 0) → IsErrAnd r (λ e. e ≡ x) → (x ≡ out → P) → IfErr r (λ fault. fault ≡ out → P)
+refused_by (Ok a) x P h f = tt
+refused_by (Err e) x P h f = λ i. f (sym h ∙ i)
 
 module _ {D S : Type 0} (hooks : Hooks D S) (settings : Settings) (given : List (DataSegment D)) (from : S) where
   -- what a pass joins is, without data, its cut
@@ -19,7 +26,7 @@ module _ {D S : Type 0} (hooks : Hooks D S) (settings : Settings) (given : List 
   leaves_in (suc k) h =
       let before : List (DataSegment D) × S = data_after_passes hooks settings given from k in
       let placing = placing_of_pass settings (suc k) in
-      let bare = bare-data_cut hooks placing before.0 before.1 ∙ ap (λ (l : List WholeSegment). cut placing l) (data_is_beside hooks settings given from k) in
+      let bare = bare-data_cut hooks (marks_on placing (without_data before.0)) before.0 before.1 ∙ ap (λ (l : List WholeSegment). cut placing l) (data_is_beside hooks settings given from k) in
       or_right (leaves_range_within settings (without_data given) k) _ (sym (ap (λ (l : List WholeSegment). join_leaves_range l) bare) ∙ h)
 
   stopped_leaves : (left : S) (stopped : IsStoppedRun hooks settings given from left) → IsTrue (leaves_range_within settings (without_data given) stopped.in_pass)

@@ -9,7 +9,7 @@ use Rattle.overlay_intersections.specs.Marks.{Placing}
 use Rattle.overlay_intersections.specs.PassMarks.{marks_on}
 use Rattle.overlay_split.specs.Path.{path_from, columns_of}
 use Rattle.overlay_split.specs.Run.{Settings, placing_of_pass}
-use Rattle.overlay_split.specs.DataPass.{data_pieces, data_pieces_of_each, data_cut, data_pass, data_after_passes}
+use Rattle.overlay_split.specs.DataPass.{data_pieces, data_pieces_of_each, data_cut_by, data_cut, data_pass, data_after_passes}
 
 module _ {D S : Type 0} (hooks : Hooks D S) where
   -- one more call
@@ -37,15 +37,15 @@ module _ {D S : Type 0} (hooks : Hooks D S) where
       let here = data_pieces hooks s.count s.pair.a points s.pair.b s.edge_data store in
       made_further hooks (made_by_pieces s.count s.pair.a points s.pair.b s.edge_data store) (made_by_each marks ss here.1)
 
-  pub made_by_cut : (placing : Placing) (ss : List (DataSegment D)) (store : S) → IsMadeFrom hooks store (data_cut hooks placing ss store).1
-  unfolding data_cut
-  made_by_cut placing ss store = made_by_each (λ pair. marks_on placing (without_data ss) pair) ss store
+  made_by_cut : (marks : Pair → List Point) (ss : List (DataSegment D)) (store : S) → IsMadeFrom hooks store (data_cut_by hooks marks ss store).1
+  unfolding data_cut_by
+  made_by_cut marks ss store = made_by_each marks ss store
 
   made_by_pass : (placing : Placing) (ss : List (DataSegment D)) (store : S) → IsMadeFrom hooks store (data_pass hooks placing ss store).1
   unfolding data_pass
   made_by_pass placing ss store =
       let pieces = data_cut hooks placing ss store in
-      made_further hooks (made_by_cut placing ss store) (made_by_join hooks pieces.0 pieces.1)
+      made_further hooks (made_by_cut (marks_on placing (without_data ss)) ss store) (made_by_join hooks pieces.0 pieces.1)
 
   pub made_by_passes : (settings : Settings) (given : List (DataSegment D)) (store : S) (k : ℕ) → IsMadeFrom hooks store (data_after_passes hooks settings given store k).1
   unfolding data_after_passes

@@ -13,13 +13,14 @@ use Rattle.overlay_geometry.specs.Meeting.{do_cross}
 use Rattle.overlay_intersections.specs.Crossing.{is_exact, snapping_point, settling_point}
 use Rattle.overlay_intersections.specs.Marks.{Placing, snapping, settling, nearer_end, nearest_end, snapped_to, crossing_mark, ordered_mark, marks_by}
 use Rattle.overlay_split.specs.Path.{columns_of, next_point, column_path, path_from, path, piece, pieces_along, pieces}
-use Rattle.overlay_split.specs.Pass.{pieces_of, cut, pass}
+use Rattle.overlay_split.specs.Pass.{cut_by, pass_by, pass}
 use Rattle.overlay_intersections.specs.PassMarks.{marks_on}
 use Rattle.overlay_split.specs.Run.{Settings, placing_of_pass, after_passes}
-use Rattle.overlay_split.specs.Laws.{StaysInBox}
-use Rattle.overlay_geometry.proofs.laws.lists.Lists.{AllByRecursion-flat_map, AllByRecursion-map, list_any-implied, AllByRecursion-append, AllByRecursion-both, AllByRecursion-weaker, AllByRecursion-reverse, AllByRecursion_left, AllByRecursion_right, AllByRecursion-filter, list_all-from_AllByRecursion}
+use Rattle.overlay_split.specs.Laws.{BoxesAreMeant, CutStaysInBox, StaysInBox}
+use Rattle.overlay_geometry.proofs.laws.lists.Lists.{AllByRecursion-flat_map, AllByRecursion-map, list_any-implied, AllByRecursion-append, AllByRecursion-both, AllByRecursion-weaker, AllByRecursion-reverse, AllByRecursion_left, AllByRecursion_right, AllByRecursion-filter, AllByRecursion-from_list_all, list_all-from_AllByRecursion}
 use Rattle.overlay_geometry.proofs.laws.lists.Keys.{AllByRecursion-distinct_in_order}
 use Rattle.overlay_split.proofs.laws.paths.Cuts.{AllByRecursion-cut, AllByRecursion-join}
+use Rattle.overlay_split.proofs.laws.paths.MarkedPairs.{EachMark-each}
 use Rattle.overlay_split.proofs.laws.paths.Paths.{all_of, all_of-columns_of, column_path_has}
 use Rattle.overlay_intersections.proofs.laws.crossings.Crossings.{settling_in_target, snapping_in_target, do_cross-swap}
 use Rattle.overlay_geometry.proofs.laws.integers.Tests.{le-tested}
@@ -59,7 +60,7 @@ module _ (P : Point → Type 0) where
       ((λ _. cond_both (pair_lt s t) (crossing_mark placing s t) (crossing_mark placing t s) P (λ _. crossing_mark_has boxes placing s t h k c) (λ _. crossing_mark_has boxes placing t s k h (do_cross-swap s t c))), tt))
       (λ c. AllByRecursion-filter (λ p. is_strictly_inside s p) P (t.a ∷ t.b ∷ []) ((λ _. k.0), ((λ _. k.1), tt)))
 
-  marks_on_have : HoldsInBoxes P → (placing : Placing) (segments : List WholeSegment) (s : Pair) → AllByRecursion (λ t. AtEnds P t.pair) segments → AtEnds P s → AllByRecursion P (marks_on placing segments s)
+  pub marks_on_have : HoldsInBoxes P → (placing : Placing) (segments : List WholeSegment) (s : Pair) → AllByRecursion (λ t. AtEnds P t.pair) segments → AtEnds P s → AllByRecursion P (marks_on placing segments s)
   unfolding marks_on
   marks_on_have boxes placing segments s all h =
       AllByRecursion-distinct_in_order point_cmp P _ (AllByRecursion-flat_map (λ t. marks_by placing s t) P (pairs segments) (AllByRecursion-map (λ t. AllByRecursion P (marks_by placing s t)) (λ (t : WholeSegment). t.pair) segments (AllByRecursion-weaker (λ t. AtEnds P t.pair) (λ t. AllByRecursion P (marks_by placing s t.pair)) (λ t k. marks_by_have boxes placing s t.pair h k) segments all)))
@@ -88,16 +89,20 @@ module _ (P : Point → Type 0) where
       pieces_along_have s.count s.pair.a (path_from s.pair.a (columns_of marks) s.pair.b) h.0
       (path_from_has (columns_of marks) s.pair.a s.pair.b (subst (AllByRecursion P) (sym (all_of-columns_of marks)) (AllByRecursion-distinct_in_order point_cmp P marks k)) h.1)
 
-  cut_has : HoldsInBoxes P → (placing : Placing) (segments : List WholeSegment) → AllByRecursion (λ s. AtEnds P s.pair) segments → AllByRecursion (λ s. AtEnds P s.pair) (cut placing segments)
-  unfolding pieces_of
-  cut_has boxes placing segments all =
-      AllByRecursion-cut (λ s. AtEnds P s.pair) placing segments
-      (AllByRecursion-weaker (λ s. AtEnds P s.pair) (λ s. AllByRecursion (λ p. AtEnds P p.pair) (pieces_of placing segments s)) (λ s h. pieces_have s (marks_on placing segments s.pair) h (marks_on_have boxes placing segments s.pair all h)) segments all)
+  -- a cut, joined, keeps what holds at all ends and marks
+  pub pass_by_has : (marks : Pair → List Point) (segments : List WholeSegment) → AllByRecursion (λ s. AtEnds P s.pair) segments → AllByRecursion (λ s. AllByRecursion P (marks s.pair)) segments → AllByRecursion (λ s. AtEnds P s.pair) (pass_by marks segments)
+  pass_by_has marks segments ends at_marks =
+      AllByRecursion-join (AtEnds P) (cut_by marks segments)
+      (AllByRecursion-cut (λ s. AtEnds P s.pair) marks segments
+      (AllByRecursion-weaker (λ s. AtEnds P s.pair × AllByRecursion P (marks s.pair)) (λ s. AllByRecursion (λ p. AtEnds P p.pair) (pieces s (marks s.pair))) (λ s h. pieces_have s (marks s.pair) h.0 h.1) segments
+      (AllByRecursion-both (λ s. AtEnds P s.pair) (λ s. AllByRecursion P (marks s.pair)) segments ends at_marks)))
 
   -- a pass keeps what holds at all ends, where it holds in boxes
   pub pass_has : HoldsInBoxes P → (placing : Placing) (segments : List WholeSegment) → AllByRecursion (λ s. AtEnds P s.pair) segments → AllByRecursion (λ s. AtEnds P s.pair) (pass placing segments)
   unfolding pass
-  pass_has boxes placing segments all = AllByRecursion-join (AtEnds P) (cut placing segments) (cut_has boxes placing segments all)
+  pass_has boxes placing segments all =
+      pass_by_has (marks_on placing segments) segments all
+      (AllByRecursion-weaker (λ s. AtEnds P s.pair) (λ s. AllByRecursion P (marks_on placing segments s.pair)) (λ s h. marks_on_have boxes placing segments s.pair all h) segments all)
 
 -- ---- the box round points
 
@@ -127,6 +132,14 @@ record IsWithin (points : List Point) (p : Point) : Type 0 where
 IsWithin-to : (points : List Point) (p : Point) → IsWithin points p → IsTrue (is_within_box_of points p)
 unfolding is_within_box_of
 IsWithin-to points p h = and_from _ _ (and_from _ _ (and_from _ _ h.left h.right) h.below) h.above
+
+IsWithin-from : (points : List Point) (p : Point) → IsTrue (is_within_box_of points p) → IsWithin points p
+unfolding is_within_box_of
+IsWithin-from points p h =
+    let all = and_parts _ _ h in
+    let three = and_parts _ _ all.0 in
+    let two = and_parts _ _ three.0 in
+    record { left = two.0; right = two.1; below = three.1; above = all.1 }
 
 within_boxes : (points : List Point) → HoldsInBoxes (IsWithin points)
 unfolding is_in_box
@@ -165,6 +178,19 @@ pub run_has : (P : Point → Type 0) → HoldsInBoxes P → (settings : Settings
 unfolding after_passes
 run_has P boxes settings given h zero = h
 run_has P boxes settings given h (suc k) = pass_has P boxes (placing_of_pass settings (suc k)) (after_passes settings given k) (run_has P boxes settings given h k)
+
+pub boxes_are_meant : BoxesAreMeant
+boxes_are_meant = (
+  λ points. list_all-from_AllByRecursion (λ p. is_within_box_of points p) points (AllByRecursion-weaker (IsWithin points) (λ p. IsTrue (is_within_box_of points p)) (λ p h. IsWithin-to points p h) points (IsWithin-each points)),
+  λ corners s p a b i. IsWithin-to corners p (within_boxes corners s p (IsWithin-from corners s.a a, IsWithin-from corners s.b b) i),
+)
+
+pub cut_stays_in_box : CutStaysInBox
+cut_stays_in_box corners marks segments inside at_marks =
+    let In : Point → Type 0 = λ p. IsTrue (is_within_box_of corners p) in
+    list_all-from_AllByRecursion (λ p. is_within_box_of corners p) (ends (pairs (pass_by marks segments)))
+    (AllByRecursion-ends In (pass_by marks segments)
+    (pass_by_has In marks segments (AllByRecursion-from_ends In segments (AllByRecursion-from_list_all (λ p. is_within_box_of corners p) (ends (pairs segments)) inside)) (EachMark-each (λ s m. In m) marks segments at_marks)))
 
 pub stays_in_box : StaysInBox
 stays_in_box settings given k =

@@ -3,14 +3,14 @@ use Rattle.std.proofs.Common.{◌≡◌, refl, sym, ap, ap₂, subst, ◌∙◌,
 use Rattle.std.specs.Prelude.{flat_map}
 use Rattle.std.specs.List.{AllByRecursion}
 use Rattle.std.proofs.lemmas.List.{take-append-drop}
-use Rattle.overlay_geometry.specs.Points.{Pair, pair_cmp}
+use Rattle.overlay_geometry.specs.Points.{Point, Pair, pair_cmp}
 use Rattle.overlay_geometry.specs.Sorting.{distinct_in_order}
 use Rattle.overlay_base.specs.Windings.{is_not_empty}
 use Rattle.overlay_base.specs.Segments.{WholeSegment, pairs, winding_at}
 use Rattle.overlay_base.specs.Sums.{IsCommutativeMonoid, gathered}
 use Rattle.overlay_base.specs.Join.{summed, join}
-use Rattle.overlay_intersections.specs.Marks.{Placing}
-use Rattle.overlay_split.specs.Pass.{pieces_of, cut}
+use Rattle.overlay_split.specs.Path.{pieces}
+use Rattle.overlay_split.specs.Pass.{cut_by}
 use Rattle.overlay_geometry.proofs.laws.lists.Lists.{AllByRecursion-append, AllByRecursion-weaker, AllByRecursion_left, AllByRecursion_right, AllByRecursion-flat_map, AllByRecursion-filter_all, AllByRecursion-map}
 use Rattle.overlay_geometry.proofs.laws.lists.Keys.{AllByRecursion-distinct_in_order}
 use Rattle.overlay_base.proofs.laws.lists.Monoids.{gathered-append, gathered-op, gathered-same}
@@ -31,17 +31,17 @@ module _ {M : Type 0} {op : M → M → M} {unit : M} (laws : IsCommutativeMonoi
       ∙ gathered-same laws (λ x. op (gathered op unit f (take 1 (parts x))) (gathered op unit f (drop 1 (parts x)))) (λ x. gathered op unit f (parts x))
       (λ x. sym (gathered-append laws f (take 1 (parts x)) (drop 1 (parts x))) ∙ ap (gathered op unit f) (take-append-drop 1 (parts x))) xs
 
-  pub gathered-cut : (f : WholeSegment → M) (placing : Placing) (segments : List WholeSegment) → gathered op unit f (cut placing segments) ≡ gathered op unit (λ s. gathered op unit f (pieces_of placing segments s)) segments
-  unfolding cut
-  gathered-cut f placing segments = gathered-first_and_others f (λ s. pieces_of placing segments s) segments
+  pub gathered-cut : (f : WholeSegment → M) (marks : Pair → List Point) (segments : List WholeSegment) → gathered op unit f (cut_by marks segments) ≡ gathered op unit (λ s. gathered op unit f (pieces s (marks s.pair))) segments
+  unfolding cut_by
+  gathered-cut f marks segments = gathered-first_and_others f (λ s. pieces s (marks s.pair)) segments
 
 -- ---- each piece
 
 -- what holds of the pieces of each segment holds of a cut
-pub AllByRecursion-cut : (P : WholeSegment → Type 0) (placing : Placing) (segments : List WholeSegment) → AllByRecursion (λ s. AllByRecursion P (pieces_of placing segments s)) segments → AllByRecursion P (cut placing segments)
-unfolding cut
-AllByRecursion-cut P placing segments h =
-    let whole = λ (s : WholeSegment). pieces_of placing segments s in
+pub AllByRecursion-cut : (P : WholeSegment → Type 0) (marks : Pair → List Point) (segments : List WholeSegment) → AllByRecursion (λ s. AllByRecursion P (pieces s (marks s.pair))) segments → AllByRecursion P (cut_by marks segments)
+unfolding cut_by
+AllByRecursion-cut P marks segments h =
+    let whole = λ (s : WholeSegment). pieces s (marks s.pair) in
     let both = λ (s : WholeSegment) (each : AllByRecursion P (whole s)). subst (AllByRecursion P) (sym (take-append-drop 1 (whole s))) each in
     AllByRecursion-append P (flat_map (λ s. take 1 (whole s)) segments) (flat_map (λ s. drop 1 (whole s)) segments)
     (AllByRecursion-flat_map (λ s. take 1 (whole s)) P segments (AllByRecursion-weaker (λ s. AllByRecursion P (whole s)) (λ s. AllByRecursion P (take 1 (whole s))) (λ s each. AllByRecursion_left P (take 1 (whole s)) (drop 1 (whole s)) (both s each)) segments h))

@@ -5,9 +5,10 @@ use Rattle.std.proofs.lemmas.Bool.{eqb-true, eq-eqb}
 use Rattle.std.specs.List.{AllByRecursion}
 use Rattle.overlay_base.specs.Windings.{swap_directions}
 use Rattle.overlay_base.specs.Segments.{WholeSegment, are_polygons}
-use Rattle.overlay_split.specs.Laws.{RunKeepsPolygons}
+use Rattle.overlay_split.specs.Laws.{CutKeepsPolygons, RunKeepsPolygons}
 use Rattle.overlay_intersections.specs.Marks.{Placing}
-use Rattle.overlay_split.specs.Pass.{cut, pass}
+use Rattle.overlay_intersections.specs.PassMarks.{marks_on}
+use Rattle.overlay_split.specs.Pass.{cut_by, pass}
 use Rattle.overlay_split.specs.Run.{Settings, placing_of_pass, after_passes}
 use Rattle.overlay_geometry.proofs.laws.lists.Lists.{AllByRecursion-weaker, AllByRecursion-from_list_all, list_all-from_AllByRecursion}
 use Rattle.overlay_base.proofs.laws.joins.Members.{are_polygons-join}
@@ -22,12 +23,12 @@ unmasked segments h = AllByRecursion-weaker (λ s. IsTrue (s.count.mask == 0)) H
 from_unmasked : (segments : List WholeSegment) → AllByRecursion HasNoMask segments → IsTrue (are_polygons segments)
 from_unmasked segments h = list_all-from_AllByRecursion (λ s. s.count.mask == 0) segments (AllByRecursion-weaker HasNoMask (λ s. IsTrue (s.count.mask == 0)) (λ s e. eq-eqb s.count.mask 0 e) segments h)
 
-pub are_polygons-cut : (placing : Placing) (segments : List WholeSegment) → IsTrue (are_polygons segments) → IsTrue (are_polygons (cut placing segments))
-are_polygons-cut placing segments h = from_unmasked (cut placing segments) (counts-cut (λ c. c.mask ≡ 0) (λ c k. ap swap_directions k) placing segments (unmasked segments h))
+pub cut_keeps_polygons : CutKeepsPolygons
+cut_keeps_polygons marks segments h = are_polygons-join (cut_by marks segments) (from_unmasked (cut_by marks segments) (counts-cut (λ c. c.mask ≡ 0) (λ c k. ap swap_directions k) marks segments (unmasked segments h)))
 
-pub are_polygons-pass : (placing : Placing) (segments : List WholeSegment) → IsTrue (are_polygons segments) → IsTrue (are_polygons (pass placing segments))
+are_polygons-pass : (placing : Placing) (segments : List WholeSegment) → IsTrue (are_polygons segments) → IsTrue (are_polygons (pass placing segments))
 unfolding pass
-are_polygons-pass placing segments h = are_polygons-join (cut placing segments) (are_polygons-cut placing segments h)
+are_polygons-pass placing segments h = cut_keeps_polygons (marks_on placing segments) segments h
 
 pub are_polygons-after_passes : (settings : Settings) (given : List WholeSegment) (k : ℕ) → IsTrue (are_polygons given) → IsTrue (are_polygons (after_passes settings given k))
 unfolding after_passes

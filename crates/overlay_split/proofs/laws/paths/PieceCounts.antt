@@ -3,14 +3,12 @@ use Rattle.std.proofs.Common.{◌∙◌, arith, ◌&&◌, List, [], ◌∷◌}
 use Rattle.std.specs.Prelude.{◌^◌, nat_lt, IsTrue}
 use Rattle.std.specs.List.{AllByRecursion}
 use Rattle.std.proofs.lemmas.Bool.{cond_both, and_parts, and_from, lt-ltb}
-use Rattle.overlay_geometry.specs.Points.{Point, point_lt}
+use Rattle.overlay_geometry.specs.Points.{Point, Pair, point_lt}
 use Rattle.overlay_base.specs.Windings.{Winding, inverse, swap_directions, is_count_in_range, is_valid}
 use Rattle.overlay_base.specs.Segments.{WholeSegment}
 use Rattle.overlay_geometry.proofs.laws.lists.Lists.{AllByRecursion-weaker}
-use Rattle.overlay_intersections.specs.Marks.{Placing}
 use Rattle.overlay_split.specs.Path.{path, path_from, columns_of, piece, pieces_along, pieces}
-use Rattle.overlay_split.specs.Pass.{pieces_of, cut}
-use Rattle.overlay_intersections.specs.PassMarks.{marks_on}
+use Rattle.overlay_split.specs.Pass.{cut_by}
 use Rattle.overlay_intersections.proofs.laws.crossings.Crossings.{abs_neg}
 use Rattle.overlay_split.proofs.laws.paths.Cuts.{AllByRecursion-cut}
 
@@ -25,14 +23,14 @@ module _ (P : Winding → Type 0) (turned : (c : Winding) → P c → P (inverse
   counts_along count p [] h = tt
   counts_along count p (q ∷ points) h = (count_of_piece count p q h, counts_along count q points h)
 
-  pub counts_of_pieces : (placing : Placing) (segments : List WholeSegment) (s : WholeSegment) → P s.count → AllByRecursion (λ t. P t.count) (pieces_of placing segments s)
-  unfolding pieces_of pieces path
-  counts_of_pieces placing segments s h = counts_along s.count s.pair.a (path_from s.pair.a (columns_of (marks_on placing segments s.pair)) s.pair.b) h
+  pub counts_of_pieces : (s : WholeSegment) (marks : List Point) → P s.count → AllByRecursion (λ t. P t.count) (pieces s marks)
+  unfolding pieces path
+  counts_of_pieces s marks h = counts_along s.count s.pair.a (path_from s.pair.a (columns_of marks) s.pair.b) h
 
   -- the counts of a cut
-  pub counts-cut : (placing : Placing) (segments : List WholeSegment) → AllByRecursion (λ s. P s.count) segments → AllByRecursion (λ s. P s.count) (cut placing segments)
-  counts-cut placing segments h =
-      AllByRecursion-cut (λ s. P s.count) placing segments (AllByRecursion-weaker (λ s. P s.count) (λ s. AllByRecursion (λ t. P t.count) (pieces_of placing segments s)) (λ s k. counts_of_pieces placing segments s k) segments h)
+  pub counts-cut : (marks : Pair → List Point) (segments : List WholeSegment) → AllByRecursion (λ s. P s.count) segments → AllByRecursion (λ s. P s.count) (cut_by marks segments)
+  counts-cut marks segments h =
+      AllByRecursion-cut (λ s. P s.count) marks segments (AllByRecursion-weaker (λ s. P s.count) (λ s. AllByRecursion (λ t. P t.count) (pieces s (marks s.pair))) (λ s k. counts_of_pieces s (marks s.pair) k) segments h)
 
 -- ---- valid counts
 

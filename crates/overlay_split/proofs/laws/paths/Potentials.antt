@@ -38,7 +38,7 @@ use Rattle.overlay_intersections.proofs.laws.crossings.AnswerMarks.{pair_lt_back
 
 -- ---- the path of a pair through rounded points runs in one direction
 
-runs_up : (s : Pair) (marks : List Point) → s.a.x ≤ℤ s.b.x → s.a.y ≤ℤ s.b.y → AllByRecursion (IsRoundedPoint s) marks → Steps Rises s.a (path_from s.a (columns_of marks) s.b)
+pub runs_up : (s : Pair) (marks : List Point) → s.a.x ≤ℤ s.b.x → s.a.y ≤ℤ s.b.y → AllByRecursion (IsRoundedPoint s) marks → Steps Rises s.a (path_from s.a (columns_of marks) s.b)
 runs_up s marks h k rounded =
     let points = distinct_in_order point_cmp marks in
     let e : all_of (columns_of marks) ≡ points = all_of-columns_of marks in
@@ -52,7 +52,7 @@ runs_up s marks h k rounded =
     (Pairwise-both Before (λ p q. Before p q → Rises p q) points (Pairwise-distinct_in_order marks) (Pairwise-from_AllByRecursion (IsRoundedPoint s) (λ p q. Before p q → Rises p q) (λ p q i j b. rises_in_order s p q h k i j b) points each)))
     (tt, tt) (AllByRecursion-weaker (IsRoundedPoint s) (λ m. AllByRecursion (Rises m) (s.b ∷ [])) (λ m i. (rises_to_end s m h k i, tt)) points each)))
 
-runs_down : (s : Pair) (marks : List Point) → s.a.x ≤ℤ s.b.x → s.b.y ≤ℤ s.a.y → AllByRecursion (IsRoundedPoint s) marks → Steps Falls s.a (path_from s.a (columns_of marks) s.b)
+pub runs_down : (s : Pair) (marks : List Point) → s.a.x ≤ℤ s.b.x → s.b.y ≤ℤ s.a.y → AllByRecursion (IsRoundedPoint s) marks → Steps Falls s.a (path_from s.a (columns_of marks) s.b)
 runs_down s marks h k rounded =
     let points = distinct_in_order point_cmp marks in
     let e : all_of (columns_of marks) ≡ points = all_of-columns_of marks in
@@ -98,14 +98,17 @@ insert_key_first : {K : Type 0} (cmp : K → K → Ordering) (k : K) (ks : List 
 insert_key_first cmp k [] h = refl
 insert_key_first cmp k (j ∷ ks) h = rw h.0 refl
 
-distinct_in_order-sorted : {K : Type 0} (cmp : K → K → Ordering) (ks : List K) → IsStrictlySortedBy cmp ks → distinct_in_order cmp ks ≡ ks
+pub distinct_in_order-sorted : {K : Type 0} (cmp : K → K → Ordering) (ks : List K) → IsStrictlySortedBy cmp ks → distinct_in_order cmp ks ≡ ks
 unfolding distinct_in_order IsStrictlySortedBy
 distinct_in_order-sorted cmp [] h = refl
 distinct_in_order-sorted cmp (k ∷ ks) h = ap (λ (js : List _). insert_key cmp js k) (distinct_in_order-sorted cmp ks h.1) ∙ insert_key_first cmp k ks h.0
 
-pub distinct-marks_on : (placing : Placing) (segments : List WholeSegment) (s : Pair) → distinct_in_order point_cmp (marks_on placing segments s) ≡ marks_on placing segments s
+pub marks_on_rise : (placing : Placing) (segments : List WholeSegment) (s : Pair) → IsStrictlySortedBy point_cmp (marks_on placing segments s)
 unfolding marks_on
-distinct-marks_on placing segments s = distinct_in_order-sorted point_cmp _ (IsStrictlySortedBy-distinct point_cmp_total (flat_map (λ t. marks_by placing s t) (pairs segments)))
+marks_on_rise placing segments s = IsStrictlySortedBy-distinct point_cmp_total (flat_map (λ t. marks_by placing s t) (pairs segments))
+
+distinct-marks_on : (placing : Placing) (segments : List WholeSegment) (s : Pair) → distinct_in_order point_cmp (marks_on placing segments s) ≡ marks_on placing segments s
+distinct-marks_on placing segments s = distinct_in_order-sorted point_cmp (marks_on placing segments s) (marks_on_rise placing segments s)
 
 -- ---- sums of naturals
 
@@ -134,7 +137,6 @@ unfolding mark_count
 mark_count_is segments = sum_by_is (λ s. length (marks_on settling segments s)) (pairs segments) ∙ gathered-map ◌+◌ 0 (λ s. length (marks_on settling segments s)) (λ (s : WholeSegment). s.pair) segments
 
 potential-pieces_of : (segments : List WholeSegment) (s : WholeSegment) → IsTrue (is_ordered s.pair) → sum_over (λ p. spread p.pair) (pieces_of settling segments s) + length (marks_on settling segments s.pair) ≡ spread s.pair
-unfolding pieces_of
 potential-pieces_of segments s o =
     let marks = marks_on settling segments s.pair in
     let e = potential-pieces s marks o (IsFree-marks_on settling segments s.pair) (rounded-marks_on segments s.pair o) in
@@ -147,7 +149,7 @@ potential-pieces_of segments s o =
 
 pub potential-cut : (segments : List WholeSegment) → IsTrue (are_ordered segments) → potential (cut settling segments) + mark_count settling segments ≡ potential segments
 potential-cut segments ordered =
-    joined _ _ _ _ _ _ _ (potential_is (cut settling segments)) (gathered-cut naturals_add (λ (s : WholeSegment). spread s.pair) settling segments) (mark_count_is segments) (potential_is segments)
+    joined _ _ _ _ _ _ _ (potential_is (cut settling segments)) (gathered-cut naturals_add (λ (s : WholeSegment). spread s.pair) (marks_on settling segments) segments) (mark_count_is segments) (potential_is segments)
     (sums_of_each (λ s. sum_over (λ p. spread p.pair) (pieces_of settling segments s)) (λ s. length (marks_on settling segments s.pair)) (λ s. spread s.pair) segments
     (AllByRecursion-weaker (λ s. IsTrue (is_ordered s.pair)) (λ s. sum_over (λ p. spread p.pair) (pieces_of settling segments s) + length (marks_on settling segments s.pair) ≡ spread s.pair) (λ s o. potential-pieces_of segments s o) segments (AllByRecursion-from_list_all (λ s. is_ordered s.pair) segments ordered)))
   where

@@ -3,6 +3,7 @@ use Rattle.std.proofs.Common.{◌≡◌, refl, sym, ap, ap₂, ◌∙◌, inl, i
 use Rattle.std.specs.Prelude.{flat_map}
 use Rattle.std.specs.List.{list_any}
 use Rattle.std.proofs.lemmas.Bool.{cond-true, or_from, and_right, leb-true, leb-false, eq-eqb, eqb-true}
+use Rattle.std.proofs.lemmas.List.Elements.{recursion_from_All}
 use Rattle.std.proofs.lemmas.List.Folds.{sum_by-zero}
 use Rattle.overlay_geometry.specs.Points.{Point, Pair, point_cmp, point_lt}
 use Rattle.overlay_geometry.specs.Sorting.{distinct_in_order}
@@ -12,14 +13,14 @@ use Rattle.overlay_base.specs.Join.{join, has_equal_pairs}
 use Rattle.overlay_base.specs.Planar.{is_planar}
 use Rattle.overlay_intersections.specs.Marks.{Placing, marks_by, cross_inexactly}
 use Rattle.overlay_split.specs.Path.{path, piece, pieces_along, pieces}
-use Rattle.overlay_split.specs.Pass.{pieces_of, cut, pass}
+use Rattle.overlay_split.specs.Pass.{cut_by, pass_by, pass}
 use Rattle.overlay_intersections.specs.PassMarks.{marks_on, is_rounded, mark_count}
 use Rattle.overlay_split.specs.Run.{Settings, placing_of_pass, after_passes, goes_on, has_marked, has_changed, IsPassCount}
-use Rattle.overlay_split.specs.Laws.{PlanarPassIsUnchanged, ArrangedIsUnchanged}
+use Rattle.overlay_split.specs.Laws.{UnmarkedCutIsUnchanged, PlanarPassIsUnchanged, ArrangedIsUnchanged}
 use Rattle.overlay_geometry.proofs.laws.geometry.Points.{Before, from_before}
 use Rattle.overlay_base.proofs.laws.joins.Maps.{are_ordered-map, join-map}
 use Rattle.overlay_base.proofs.laws.joins.Repeats.{has_equal_pairs-map}
-use Rattle.overlay_geometry.proofs.laws.lists.Lists.{Has, Has-map, list_any-from_none, AllByRecursion-from_Has, list_all-from_Has}
+use Rattle.overlay_geometry.proofs.laws.lists.Lists.{AllByRecursion-at, Has, Has-map, list_any-from_none, AllByRecursion-from_Has, list_all-from_Has}
 use Rattle.overlay_intersections.proofs.laws.marks.ApartPairs.{apart_have_no_mark, apart_are_exact}
 use Rattle.overlay_split.proofs.laws.planar.ExactMarks.{In, In-ordered}
 use Rattle.overlay_split.proofs.laws.planar.OrderedPaths.{path_in_order}
@@ -79,23 +80,30 @@ pub pieces_unmarked : (s : WholeSegment) → Before s.pair.a s.pair.b → pieces
 unfolding pieces
 pieces_unmarked s o = ap (λ (l : List Point). pieces_along s.count l) (path_unmarked s.pair o) ∙ pieces_along_two s.count s.pair.a s.pair.b ∙ ap (λ (u : WholeSegment). u ∷ []) (whole_piece s o)
 
-planar_pieces : (placing : Placing) (segments : List WholeSegment) → IsTrue (are_ordered segments) → IsTrue (is_planar segments) → (s : WholeSegment) → Has segments s → pieces_of placing segments s ≡ s ∷ []
-unfolding pieces_of
-planar_pieces placing segments o h s i =
-    let j : In segments s.pair = Has-map (λ (u : WholeSegment). u.pair) segments s i in
-    ap (λ (l : List Point). pieces s l) (planar_unmarked placing segments h s.pair j) ∙ pieces_unmarked s (In-ordered segments o s.pair j)
+-- where no pair of the list is marked
+module _ (marks : Pair → List Point) (segments : List WholeSegment) (none : (s : Pair) → In segments s → marks s ≡ []) where
+  piece_alone : IsTrue (are_ordered segments) → (s : WholeSegment) → Has segments s → pieces s (marks s.pair) ≡ s ∷ []
+  piece_alone o s i =
+      let j : In segments s.pair = Has-map (λ (u : WholeSegment). u.pair) segments s i in
+      ap (λ (l : List Point). pieces s l) (none s.pair j) ∙ pieces_unmarked s (In-ordered segments o s.pair j)
 
-pub planar_cut : (placing : Placing) (segments : List WholeSegment) → IsTrue (are_ordered segments) → IsTrue (is_planar segments) → cut placing segments ≡ segments
-unfolding cut
-planar_cut placing segments o h =
-    ap₂ (λ (l : List WholeSegment) (r : List WholeSegment). l ++ r)
-    (flat_map-each (λ s. take 1 (pieces_of placing segments s)) segments (λ s i. ap (λ (l : List WholeSegment). take 1 l) (planar_pieces placing segments o h s i)))
-    (flat_map-none (λ s. drop 1 (pieces_of placing segments s)) segments (λ s i. ap (λ (l : List WholeSegment). drop 1 l) (planar_pieces placing segments o h s i)))
-    ∙ append-nil segments
+  unmarked_cut : IsTrue (are_ordered segments) → cut_by marks segments ≡ segments
+  unfolding cut_by
+  unmarked_cut o =
+      ap₂ (λ (l : List WholeSegment) (r : List WholeSegment). l ++ r)
+      (flat_map-each (λ s. take 1 (pieces s (marks s.pair))) segments (λ s i. ap (λ (l : List WholeSegment). take 1 l) (piece_alone o s i)))
+      (flat_map-none (λ s. drop 1 (pieces s (marks s.pair))) segments (λ s i. ap (λ (l : List WholeSegment). drop 1 l) (piece_alone o s i)))
+      ∙ append-nil segments
+
+  unmarked_pass : IsTrue (is_map segments) → pass_by marks segments ≡ segments
+  unmarked_pass m = ap (λ (l : List WholeSegment). join l) (unmarked_cut (are_ordered-map segments m)) ∙ join-map segments m
+
+pub unmarked_cut_is_unchanged : UnmarkedCutIsUnchanged
+unmarked_cut_is_unchanged marks segments m none = unmarked_pass marks segments (λ s i. AllByRecursion-at (λ t. marks t ≡ []) (pairs segments) s (recursion_from_All (λ t. marks t ≡ []) (pairs segments) none) i) m
 
 pub planar_pass : (placing : Placing) (segments : List WholeSegment) → IsTrue (is_map segments) → IsTrue (is_planar segments) → pass placing segments ≡ segments
 unfolding pass
-planar_pass placing segments m h = ap (λ (l : List WholeSegment). join l) (planar_cut placing segments (are_ordered-map segments m) h) ∙ join-map segments m
+planar_pass placing segments m h = unmarked_pass (marks_on placing segments) segments (planar_unmarked placing segments h) m
 
 pub planar_pass_is_unchanged : PlanarPassIsUnchanged
 planar_pass_is_unchanged placing segments m h = (planar_pass placing segments m h, planar_mark_count placing segments h, planar_not_rounded segments h)

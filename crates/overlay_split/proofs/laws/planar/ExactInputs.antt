@@ -253,7 +253,7 @@ pieces_miss placing segments o h s i e n =
 
 pieces_meet : (placing : Placing) (segments : List WholeSegment) → IsTrue (are_ordered segments) → IsFalse (is_rounded segments) → (s : WholeSegment) → Has segments s → (e : Pair) → Before e.a e.b →
     ((v : Point) → IsTrue (is_end s.pair v) ⊎ IsMarked (In segments) s.pair v → IsFalse (is_strictly_inside e v)) → IsTrue (contains_pair s.pair e) → gathered add empty (λ u. along e u.pair u.count) (pieces_of placing segments s) ≡ s.count
-unfolding pieces_of pieces
+unfolding pieces
 pieces_meet placing segments o h s i e oe clear k =
     let pair = s.pair in
     let j : In segments pair = Has-map (λ (u : WholeSegment). u.pair) segments s i in
@@ -277,7 +277,7 @@ pub count_along-cut : (placing : Placing) (segments : List WholeSegment) → IsT
     ((s : Pair) (v : Point) → In segments s → IsTrue (is_end s v) ⊎ IsMarked (In segments) s v → IsFalse (is_strictly_inside e v)) → count_along (cut placing segments) e ≡ count_along segments e
 count_along-cut placing segments o h e oe clear =
     count_along-gathered (cut placing segments) e
-    ∙ gathered-cut windings_add (λ u. along e u.pair u.count) placing segments
+    ∙ gathered-cut windings_add (λ u. along e u.pair u.count) (marks_on placing segments) segments
     ∙ gathered_on (λ s. gathered add empty (λ u. along e u.pair u.count) (pieces_of placing segments s)) (λ s. along e s.pair s.count) segments
     (λ s i. ⊎_elim
     (λ yes. pieces_meet placing segments o h s i e oe (λ v stop. clear s.pair v (Has-map (λ (u : WholeSegment). u.pair) segments s i) stop) yes ∙ sym (along_holds e s.pair s.count yes))

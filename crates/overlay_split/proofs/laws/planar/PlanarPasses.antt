@@ -21,7 +21,6 @@ abbrev pub IsPieceOf : List WholeSegment → Pair → Type 0
 IsPieceOf segments p = (s : Pair) × In segments s × IsUndivided (In segments) s p
 
 pub pieces_of_parts : (placing : Placing) (segments : List WholeSegment) → IsTrue (are_ordered segments) → IsFalse (is_rounded segments) → (s : WholeSegment) → Has segments s → AllByRecursion (λ piece. IsUndivided (In segments) s.pair piece.pair) (pieces_of placing segments s)
-unfolding pieces_of
 pieces_of_parts placing segments o h s i =
     let j : In segments s.pair = Has-map (λ (u : WholeSegment). u.pair) segments s i in
     pieces_undivided (In segments) s (marks_on placing segments s.pair) (In-ordered segments o s.pair j) (marks_on-IsMarked placing segments o h s.pair j) (IsMarked-marks_on placing segments o h s.pair j)
@@ -33,7 +32,7 @@ pieces_of_undivided placing segments o h s i =
 
 pub pass_undivided : (placing : Placing) (segments : List WholeSegment) → IsTrue (are_ordered segments) → IsFalse (is_rounded segments) → AllByRecursion (λ s. IsPieceOf segments s.pair) (pass placing segments)
 unfolding pass
-pass_undivided placing segments o h = AllByRecursion-join (IsPieceOf segments) (cut placing segments) (AllByRecursion-cut (λ s. IsPieceOf segments s.pair) placing segments (AllByRecursion-from_Has (λ s. AllByRecursion (λ piece. IsPieceOf segments piece.pair) (pieces_of placing segments s)) segments (pieces_of_undivided placing segments o h)))
+pass_undivided placing segments o h = AllByRecursion-join (IsPieceOf segments) (cut placing segments) (AllByRecursion-cut (λ s. IsPieceOf segments s.pair) (marks_on placing segments) segments (AllByRecursion-from_Has (λ s. AllByRecursion (λ piece. IsPieceOf segments piece.pair) (pieces_of placing segments s)) segments (pieces_of_undivided placing segments o h)))
 
 pub is_planar-from : (segments : List WholeSegment) → ((s t : Pair) → In segments s → In segments t → IsTrue (are_apart s t)) → IsTrue (is_planar segments)
 unfolding is_planar

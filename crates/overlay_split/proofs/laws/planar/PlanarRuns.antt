@@ -9,7 +9,7 @@ use Rattle.overlay_geometry.specs.Meeting.{do_cross}
 use Rattle.overlay_base.specs.Planar.{is_planar}
 use Rattle.overlay_intersections.specs.Marks.{Placing, ordered_mark, marks_by}
 use Rattle.overlay_split.specs.Path.{pieces}
-use Rattle.overlay_split.specs.Pass.{pieces_of, cut, pass}
+use Rattle.overlay_split.specs.Pass.{pieces_of, cut_by, pass}
 use Rattle.overlay_intersections.specs.PassMarks.{marks_on, is_rounded}
 use Rattle.overlay_split.specs.Run.{Settings, placing_of_pass, after_passes, goes_on, has_changed, IsPassCount}
 use Rattle.overlay_split.specs.Laws.{RunIsOne, RunIsPlanar, ResultIsUnchanged, ExactRunsAgree}
@@ -73,11 +73,10 @@ marks_on_alike p q segments h s i =
     marks_alike p q s t (In-mark p segments h s t i j) (In-mark q segments h s t i j)))
 
 pieces_of_alike : (p q : Placing) (segments : List WholeSegment) → IsFalse (is_rounded segments) → (s : WholeSegment) → Has segments s → pieces_of p segments s ≡ pieces_of q segments s
-unfolding pieces_of
 pieces_of_alike p q segments h s i = ap (λ (l : List Point). pieces s l) (marks_on_alike p q segments h s.pair (Has-map (λ (u : WholeSegment). u.pair) segments s i))
 
 pub exact_pass_alike : (p q : Placing) (segments : List WholeSegment) → IsFalse (is_rounded segments) → pass p segments ≡ pass q segments
-unfolding pass cut
+unfolding pass cut_by
 exact_pass_alike p q segments h =
     ap₂ (λ (l : List WholeSegment) (r : List WholeSegment). join (l ++ r))
     (flat_map-same (λ s. take 1 (pieces_of p segments s)) (λ s. take 1 (pieces_of q segments s)) segments (λ s i. ap (λ (l : List WholeSegment). take 1 l) (pieces_of_alike p q segments h s i)))

@@ -1,22 +1,11 @@
-use Rattle.std.proofs.Common.{◌≡◌, ◌∙◌, ap₂, arith, refl}
-use Rattle.std.specs.Prelude.{ℤ, pos, ◌-ℤ◌, Bool, ◌&&◌}
-use Rattle.std.proofs.lemmas.Int.{ints}
-use Rattle.overlay_geometry.specs.Points.{Point, Pair, step, turn, cross_product, is_between, is_in_box}
+use Rattle.std.proofs.Common.{◌≡◌, ◌∙◌, ap₂, refl}
+use Rattle.overlay_geometry.specs.Points.{step, turn, cross_product, is_in_box}
 use Rattle.overlay_geometry.specs.PointOf.{point_of}
 use Rattle.overlay_geometry.specs.PairOf.{pair_of}
 use Rattle.overlay_geometry.specs.VectorOf.{vector_of}
 use Rattle.overlay_snapping.specs.Pixels.{meets_pixel, is_narrow}
+use Rattle.overlay_snapping.proofs.laws.pixels.Ways.{is_box_of, box_of_steps}
 use Rattle.overlay_snapping.proofs.snap.pixel.meets_pixel.Goals as goal
-
-between_moved : (a b z : ℤ) → is_between (pos 0) (b -ℤ a) (z -ℤ a) ≡ is_between a b z
-between_moved a b z = grind (arith, ints)
-
-abbrev is_box_of : Point → Point → Bool
-is_box_of v w = is_between (pos 0) v.x w.x && is_between (pos 0) v.y w.y
-
-box_of_steps : (s : Pair) (p : Point) → is_box_of (step s.a s.b) (step s.a p) ≡ is_in_box s p
-unfolding is_in_box
-box_of_steps s p = ap₂ (λ u v. u && v) (between_moved s.a.x s.b.x p.x) (between_moved s.a.y s.b.y p.y)
 
 pub returns-then-is_in_box : goal.returns-then-is_in_box
 unfolding meets_pixel turn

@@ -1,102 +1,85 @@
-use Rattle.std.proofs.Common.{rules, ◌≡◌, ◌∙◌, sym, ap, subst, IsTrue}
-use Rattle.overlay_base.specs.EdgeData.{data_join, without_data}
-use Rattle.overlay_base.specs.HooksOf.{hooks_of}
+use Rattle.std.proofs.Common.{◌≡◌, ◌∙◌, sym, subst, length}
+use Rattle.std.specs.Vec.{vec_len}
+use Rattle.std.proofs.lemmas.List.{length-map}
+use Rattle.overlay_base.specs.EdgeData.{without_data}
+use Rattle.overlay_base.specs.EdgeData.IsMadeFrom.{no_call}
 use Rattle.overlay_base.specs.SegmentOf.{segments_of, data_segments_of}
+use Rattle.overlay_base.specs.declared.segm.fault.Fault.TheVariants.{CountOutOfRange}
+use Rattle.overlay_intersections.specs.MarkOf.{AreMarks, mark_of, marks_of}
+use Rattle.overlay_intersections.specs.PassMarks.{marks_on}
 use Rattle.overlay_intersections.specs.PlacingOf.{placing_of}
-use Rattle.overlay_split.specs.Pass.{cut, pass}
 use Rattle.overlay_split.specs.DataPass.{data_pass}
-use Rattle.overlay_split.proofs.laws.passes.DataPasses.{bare-data_pass, data_cut-unmarked, data_pass-unmarked}
-use Rattle.overlay_split.proofs.laws.passes.Skips.{map_fits, none_made}
-use Rattle.overlay_base.specs.Segments.{is_map}
-use Rattle.overlay_intersections.specs.PassMarks.{mark_count}
-use Rattle.overlay_base.proofs.laws.joins.Views.{segments_of-bare}
-use Rattle.overlay_split.proofs.laws.passes.Ready.{are_valid-cut, cut_as_segments}
-use Rattle.overlay_base.proofs.laws.joins.Stores.{made_further}
+use Rattle.overlay_split.specs.Pass.{pass}
+use Rattle.overlay_split.specs.PassOf.{StopsPass}
+use Rattle.overlay_split.proofs.laws.passes.Ready.{AreCutMarks-pass, AreMarksBy-bare, AreMarksBy-pass, IsPairInRange-each, IsSortedByKey-is_map, marks_tell}
+use Rattle.overlay_split.proofs.laws.passes.StoppedRuns.{refused_by}
 use Rattle.overlay_split.proofs.split.pass.pass.Goals as goal
 
-pub join_with_store-requires : goal.join_with_store-requires
-join_with_store-requires g c =
-    let hooks = hooks_of g.C.WindingCount.counted g.D.OverlayEdgeData in
-    let given = c.args.list.now.items in
-    are_valid-cut hooks (placing_of c.args.placing) given c.cut_at_marks.new.list.items c.args.store.now c.in-Ok.ensures.list _ _ c.requires.splittable
+pub find_marks-requires-clause-sorted : goal.find_marks-requires-clause-sorted
+find_marks-requires-clause-sorted g c = rw (c.as_slice.ensures.value) (IsSortedByKey-is_map c.args.list.now.items c.requires.map)
 
-pub returns-in_err-join_with_store-clause-refused : goal.returns-in_err-join_with_store-clause-refused
-returns-in_err-join_with_store-clause-refused g c =
-    let hooks = hooks_of g.C.WindingCount.counted g.D.OverlayEdgeData in
-    let given = c.args.list.now.items in
-    let pieces : segments_of c.cut_at_marks.new.list.items ≡ cut (placing_of c.args.placing) (segments_of given) = cut_as_segments hooks (placing_of c.args.placing) given c.cut_at_marks.new.list.items c.args.store.now c.in-Ok.ensures.list in
-    rw (sym pieces) (search (rules, c.in_err-join_with_store.ensures.refused))
+pub find_marks-requires-clause-in_range : goal.find_marks-requires-clause-in_range
+find_marks-requires-clause-in_range g c = rw (c.as_slice.ensures.value) (IsPairInRange-each c.args.list.now.items g.I.OverlayInt.MIN_COORD g.I.OverlayInt.MAX_COORD c.requires.splittable)
 
--- what is joined is what the pass joins
-joined : (g : _) (c : goal.In_ok-join_with_store g) →
-    let hooks = hooks_of g.C.WindingCount.counted g.D.OverlayEdgeData in
-    (data_segments_of c.join_with_store.new.list.items, c.join_with_store.new.store) ≡ data_pass hooks (placing_of c.args.placing) (data_segments_of c.args.list.now.items) c.args.store.now
-unfolding data_pass
-joined g c =
-    let hooks = hooks_of g.C.WindingCount.counted g.D.OverlayEdgeData in
-    let given = c.args.list.now.items in
-    let made : (data_segments_of c.join_with_store.new.list.items, c.join_with_store.new.store) ≡ data_join hooks (data_segments_of c.cut_at_marks.new.list.items) c.cut_at_marks.new.store =
-    λ i. (c.in_ok-join_with_store.ensures.edge_data i, c.in_ok-join_with_store.ensures.store i) in
-    made ∙ (λ i. data_join hooks (c.in-Ok.ensures.list i) (c.in-Ok.ensures.store i))
+pub find_marks-requires-clause-inside : goal.find_marks-requires-clause-inside
+find_marks-requires-clause-inside g c = rw (c.as_slice.ensures.value) c.requires.inside
+
+pub returns-in-Err-clause-store_made : goal.returns-in-Err-clause-store_made
+returns-in-Err-clause-store_made g c = no_call
+
+pub pass_at-requires-clause-marks : goal.pass_at-requires-clause-marks
+pass_at-requires-clause-marks g c =
+    let whole = g.I.OverlayInt.whole in
+    let found = subst (λ l. AreMarks (placing_of c.args.placing) (segments_of l) (marks_of whole c.find_marks.new.marks.items)) c.as_slice.ensures.value c.in-Ok.ensures.marks in
+    rw (c.as_slice-2.ensures.value) (AreCutMarks-pass (placing_of c.args.placing) (segments_of c.args.list.now.items) _ found)
+
+pub returns-in_err-pass_at-clause-stopped : goal.returns-in_err-pass_at-clause-stopped
+returns-in_err-pass_at-clause-stopped g c =
+    let items = c.args.list.now.items in
+    let whole = g.I.OverlayInt.whole in
+    let placing = placing_of c.args.placing in
+    let found = subst (λ l. AreMarks placing (segments_of l) (marks_of whole c.find_marks.new.marks.items)) c.as_slice.ensures.value c.in-Ok.ensures.marks in
+    let all = subst (λ l. AreMarks placing (segments_of items) (marks_of whole l)) (sym c.as_slice-2.ensures.value) found in
+    let stopped : c.in_err-pass_at.field-0.0 ≡ CountOutOfRange → StopsPass g.D.OverlayEdgeData c.args.placing c.args.list.now c.args.store.now c.pass_at.new.store =
+    λ e. c.in_err-pass_at.ensures.stopped e (marks_on placing (without_data (data_segments_of items))) (AreMarksBy-bare items placing _ all) in
+    refused_by c.from_residual.result c.in_err-pass_at.field-0.0 _ c.from_residual.ensures.1 stopped
+
+-- the marks that were found are those of the pass
+found : (g : _) (c : goal.After-is_empty g) → AreMarks (placing_of c.args.placing) (segments_of c.args.list.now.items) (marks_of g.I.OverlayInt.whole c.as_slice-2.result.now)
+found g c =
+    let placing = placing_of c.args.placing in
+    let whole = g.I.OverlayInt.whole in
+    let these = subst (λ l. AreMarks placing (segments_of l) (marks_of whole c.find_marks.new.marks.items)) c.as_slice.ensures.value c.in-Ok.ensures.marks in
+    subst (λ l. AreMarks placing (segments_of c.args.list.now.items) (marks_of whole l)) (sym c.as_slice-2.ensures.value) these
 
 pub returns-clause-geometry : goal.returns-clause-geometry
+unfolding pass
 returns-clause-geometry g c =
-    let hooks = hooks_of g.C.WindingCount.counted g.D.OverlayEdgeData in
-    let given = c.args.list.now.items in
-    segments_of-bare c.join_with_store.new.list.items ∙ ap (λ v. without_data v.0) (joined g c) ∙ bare-data_pass hooks (placing_of c.args.placing) (data_segments_of given) c.args.store.now ∙ ap (pass (placing_of c.args.placing)) (sym (segments_of-bare given))
+    let segments = segments_of c.args.list.now.items in
+    c.in_ok-pass_at.ensures.geometry (marks_on (placing_of c.args.placing) segments) (AreMarksBy-pass (placing_of c.args.placing) segments _ (found g c))
 
 pub returns-clause-edge_data : goal.returns-clause-edge_data
-returns-clause-edge_data g c = ap (λ v. v.0) (joined g c)
+unfolding data_pass
+returns-clause-edge_data g c =
+    let items = c.args.list.now.items in
+    c.in_ok-pass_at.ensures.edge_data (marks_on (placing_of c.args.placing) (without_data (data_segments_of items))) (AreMarksBy-bare items (placing_of c.args.placing) _ (found g c))
 
 pub returns-clause-store : goal.returns-clause-store
-returns-clause-store g c = ap (λ v. v.1) (joined g c)
+unfolding data_pass
+returns-clause-store g c =
+    let items = c.args.list.now.items in
+    c.in_ok-pass_at.ensures.store (marks_on (placing_of c.args.placing) (without_data (data_segments_of items))) (AreMarksBy-bare items (placing_of c.args.placing) _ (found g c))
+
+pub returns-clause-marked : goal.returns-clause-marked
+returns-clause-marked g c =
+    let whole = g.I.OverlayInt.whole in
+    let segments = segments_of c.args.list.now.items in
+    let marks = c.find_marks.new.marks in
+    let these = subst (λ l. AreMarks (placing_of c.args.placing) segments (marks_of whole l)) c.as_slice-2.ensures.value (found g c) in
+    let length_is : length (marks_of whole marks.items) ≡ vec_len marks = length-map marks.items (mark_of whole) ∙ sym marks.ok.0 in
+    marks_tell (placing_of c.args.placing) segments (marks_of whole marks.items) these (vec_len marks) length_is c.is_empty.result c.is_empty.ensures
 
 pub returns-clause-fits : goal.returns-clause-fits
 returns-clause-fits g c =
-    let hooks = hooks_of g.C.WindingCount.counted g.D.OverlayEdgeData in
-    let given = c.args.list.now.items in
-    let pieces : segments_of c.cut_at_marks.new.list.items ≡ cut (placing_of c.args.placing) (segments_of given) = cut_as_segments hooks (placing_of c.args.placing) given c.cut_at_marks.new.list.items c.args.store.now c.in-Ok.ensures.list in
-    rw (sym pieces) c.in_ok-join_with_store.ensures.fits
-
-pub returns-in_err-join_with_store-clause-store_made : goal.returns-in_err-join_with_store-clause-store_made
-returns-in_err-join_with_store-clause-store_made g c =
-    made_further (hooks_of g.C.WindingCount.counted g.D.OverlayEdgeData) c.in-Ok.ensures.store_made c.in_err-join_with_store.ensures.store_made
-
-pub returns-clause-store_made : goal.returns-clause-store_made
-returns-clause-store_made g c =
-    made_further (hooks_of g.C.WindingCount.counted g.D.OverlayEdgeData) c.in-Ok.ensures.store_made c.in_ok-join_with_store.ensures.store_made
-
--- ---- a list without marks stays
-
-stays : (g : _) (c : goal.Then-not-passed g) →
-    let hooks = hooks_of g.C.WindingCount.counted g.D.OverlayEdgeData in
-    ((data_segments_of c.cut_at_marks.new.list.items, c.cut_at_marks.new.store) ≡ data_pass hooks (placing_of c.args.placing) (data_segments_of c.args.list.now.items) c.args.store.now)
-    × (segments_of c.cut_at_marks.new.list.items ≡ segments_of c.args.list.now.items)
-stays g c =
-    let hooks = hooks_of g.C.WindingCount.counted g.D.OverlayEdgeData in
-    let given = c.args.list.now.items in
-    let map = subst (λ s. IsTrue (is_map s)) (segments_of-bare given) c.requires.map in
-    let none : mark_count (placing_of c.args.placing) (without_data (data_segments_of given)) ≡ 0 = ap (mark_count (placing_of c.args.placing)) (sym (segments_of-bare given)) ∙ none_made _ _ c.in-Ok.ensures.marked c.if-not-passed.true in
-    let cut : (data_segments_of c.cut_at_marks.new.list.items, c.cut_at_marks.new.store) ≡ (data_segments_of given, c.args.store.now) = (λ i. (c.in-Ok.ensures.list i, c.in-Ok.ensures.store i)) ∙ data_cut-unmarked hooks (placing_of c.args.placing) (data_segments_of given) c.args.store.now map none in (
-      cut ∙ sym (data_pass-unmarked hooks (placing_of c.args.placing) (data_segments_of given) c.args.store.now map none),
-      segments_of-bare c.cut_at_marks.new.list.items ∙ ap (λ v. without_data v.0) cut ∙ sym (segments_of-bare given),
-    )
-
-pub returns-then-not-passed-clause-geometry : goal.returns-then-not-passed-clause-geometry
-returns-then-not-passed-clause-geometry g c =
-    let hooks = hooks_of g.C.WindingCount.counted g.D.OverlayEdgeData in
-    let given = c.args.list.now.items in
-    segments_of-bare c.cut_at_marks.new.list.items ∙ ap (λ v. without_data v.0) (stays g c).0 ∙ bare-data_pass hooks (placing_of c.args.placing) (data_segments_of given) c.args.store.now ∙ ap (pass (placing_of c.args.placing)) (sym (segments_of-bare given))
-
-pub returns-then-not-passed-clause-edge_data : goal.returns-then-not-passed-clause-edge_data
-returns-then-not-passed-clause-edge_data g c = ap (λ v. v.0) (stays g c).0
-
-pub returns-then-not-passed-clause-store : goal.returns-then-not-passed-clause-store
-returns-then-not-passed-clause-store g c = ap (λ v. v.1) (stays g c).0
-
-pub returns-then-not-passed-clause-fits : goal.returns-then-not-passed-clause-fits
-returns-then-not-passed-clause-fits g c =
-    let hooks = hooks_of g.C.WindingCount.counted g.D.OverlayEdgeData in
-    let given = c.args.list.now.items in
-    let pieces : segments_of c.cut_at_marks.new.list.items ≡ cut (placing_of c.args.placing) (segments_of given) = cut_as_segments hooks (placing_of c.args.placing) given c.cut_at_marks.new.list.items c.args.store.now c.in-Ok.ensures.list in
-    rw (sym pieces ∙ (stays g c).1) (map_fits _ _ (segments_of given) c.requires.splittable c.requires.map)
+    let segments = segments_of c.args.list.now.items in
+    c.in_ok-pass_at.ensures.fits (marks_on (placing_of c.args.placing) segments) (AreMarksBy-pass (placing_of c.args.placing) segments _ (found g c))

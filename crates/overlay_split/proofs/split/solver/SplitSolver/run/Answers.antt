@@ -1,5 +1,5 @@
 use Rattle.std.proofs.Common.{rules, ◌≡◌, refl, sym, ap, subst, ◌∙◌, arith, ℕ, List, ◌+◌, ◌-◌, ◌^◌, ◌<◌, ◌≤◌, length}
-use Rattle.std.specs.Prelude.{Result, Ok, Err, IfErr, IsErrAnd, IsTrue, nat_le}
+use Rattle.std.specs.Prelude.{IsTrue, nat_le}
 use Rattle.std.proofs.lemmas.Bool.{both_ways, not-true, not-false}
 use Rattle.overlay_base.specs.declared.segm.fault.Fault.TheVariants.{CountOutOfRange}
 use Rattle.overlay_base.specs.Segments.{WholeSegment}
@@ -26,14 +26,10 @@ use Rattle.overlay_split.proofs.laws.passes.GridRuns.{run_lies_inside}
 use Rattle.overlay_grid.specs.GroupsOf.{grid_in}
 use Rattle.overlay_base.specs.EdgeData.{IsMadeFrom}
 use Rattle.overlay_base.proofs.laws.joins.Stores.{made_further}
+use Rattle.overlay_split.proofs.laws.passes.StoppedRuns.{refused_by}
 use Rattle.overlay_split.proofs.laws.passes.Stores.{made_by_passes}
 use Rattle.overlay_split.proofs.split.solver.SplitSolver.run.Goals as goal
 use Rattle.overlay_split.proofs.split.solver.SplitSolver.run.Goals.{else-loop-test, then-loop-test+then-not-progress}
-
--- what is said of the fault of a call is said of the fault that is passed on
-refused_by : {A F : Type 0} (r : Result A F) (x : F) {out : F} (P : Type 0) → IsErrAnd r (λ e. e ≡ x) → (x ≡ out → P) → IfErr r (λ fault. fault ≡ out → P)
-refused_by (Ok a) x P h f = tt
-refused_by (Err e) x P h f = λ i. f (sym h ∙ i)
 
 -- the greatest exponent of a radius is beyond the cap
 cap_fits : (bits : ℕ) → bits ≤ 32 → exponent_cap bits ≤ 2 ^ 64 - 1

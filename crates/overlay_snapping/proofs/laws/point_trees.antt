@@ -1,0 +1,6 @@
+-- A tree over points.
+pub mod Boxes
+pub mod MissedBoxes
+pub mod JoinedBoxes
+pub mod Columns
+pub mod MetPlaces

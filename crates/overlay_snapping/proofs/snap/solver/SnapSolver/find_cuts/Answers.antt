@@ -1,0 +1,30 @@
+use Rattle.std.proofs.Common.{sym, subst}
+use Rattle.overlay_base.specs.SegmentOf.{segments_of}
+use Rattle.overlay_base.proofs.laws.joins.Maps.{are_ordered-map, join-map}
+use Rattle.overlay_grid.specs.GridFor.{IsGridFor}
+use Rattle.overlay_grid.specs.GroupsOf.{grid_in}
+use Rattle.overlay_split.specs.Run.{after_passes}
+use Rattle.overlay_split.proofs.laws.passes.GridRuns.{run_lies_inside}
+use Rattle.overlay_split.proofs.laws.passes.Ready.{IsPairInRange-each, IsSortedByKey-is_map}
+use Rattle.overlay_snapping.proofs.snap.solver.SnapSolver.find_cuts.Goals as goal
+
+pub new-requires : goal.new-requires
+new-requires g c = IsPairInRange-each c.args.segments.now g.I.OverlayInt.MIN_COORD g.I.OverlayInt.MAX_COORD c.requires.splittable
+
+pub find_marks-requires-clause-sorted : goal.find_marks-requires-clause-sorted
+find_marks-requires-clause-sorted g c = IsSortedByKey-is_map c.args.segments.now c.requires.map
+
+pub find_marks-requires-clause-in_range : goal.find_marks-requires-clause-in_range
+find_marks-requires-clause-in_range g c = IsPairInRange-each c.args.segments.now g.I.OverlayInt.MIN_COORD g.I.OverlayInt.MAX_COORD c.requires.splittable
+
+-- the list is its own join, and so that of a run of no passes
+pub find_marks-requires-clause-inside : goal.find_marks-requires-clause-inside
+unfolding after_passes
+find_marks-requires-clause-inside g c =
+    let segments = segments_of c.args.segments.now in
+    let same = sym (join-map segments c.requires.map) in
+    run_lies_inside c.args.solver.now.strategy (record { start = 0; progression = 0; cap = 0; limit = 0 }) segments segments (grid_in c.in_ok-pairs.pairs.grid) 0 (are_ordered-map segments c.requires.map)
+    (subst (λ l. IsGridFor c.args.solver.now.strategy l (grid_in c.in_ok-pairs.pairs.grid)) same c.in_ok-pairs.ensures.grid) same
+
+pub find_cuts-requires-clause-in_range : goal.find_cuts-requires-clause-in_range
+find_cuts-requires-clause-in_range g c = IsPairInRange-each c.args.segments.now g.I.OverlayInt.MIN_COORD g.I.OverlayInt.MAX_COORD c.requires.splittable

@@ -1,0 +1,5 @@
+-- What only contracts of private functions use.
+pub mod PointTrees
+pub mod BoxesOf
+pub mod Closing
+pub mod Cutting

@@ -1,0 +1,156 @@
+// Snap rounding as the split of a list: what is equal is joined, each segment is cut along its chain, and the pieces are
+// joined. This project's own.
+ghost use Rattle.std.specs.Prelude.{◌≡◌, [], IsTrue, IfOk, IfErr, OnOk, OnErr};
+ghost use Rattle.overlay_base.specs.declared.segm.fault.Fault.TheVariants.{Memory};
+ghost use Rattle.overlay_base.specs.ArrangedOf.{IsSplittable, IsArranged};
+ghost use Rattle.overlay_base.specs.Balance.{KeepsBalance};
+ghost use Rattle.overlay_base.specs.EdgeData.{IsMadeFrom};
+ghost use Rattle.overlay_base.specs.FaultOf.{OnTooLarge};
+ghost use Rattle.overlay_base.specs.HooksOf.{hooks_of};
+ghost use Rattle.overlay_base.specs.Segments.{is_map};
+ghost use Rattle.overlay_base.specs.SegmentOf.{segments_of};
+ghost use Rattle.overlay_split.specs.SplitOf.{KeepsWhatHolds, ChangesNothing, ChangesNoStore};
+ghost use Rattle.overlay_snapping.specs.CutsOf.{AreCutsOf};
+ghost use Rattle.overlay_snapping.specs.SnapOf.{IsSnapOf, TellsChange, LiesWithinHalf, WindsBeyondHalf, SumsLeaveRange, HasSnapData, GivesSnapData, IsSnapStore, LiesWithinHalfOfNamed};
+
+use crate::snap::cut_finder::CutFinder;
+use overlay_base::overlay_core::edge_data::OverlayEdgeData;
+use overlay_base::overlay_core::solver::Solver;
+use overlay_base::segm::fault::Fault;
+use overlay_base::segm::join::join_with_store;
+use overlay_base::segm::segment::Segment;
+use overlay_base::segm::winding::WindingCount;
+use overlay_geometry::geom::point::IntPoint;
+use overlay_geometry::num::OverlayInt;
+use overlay_grid::split::fragment_memory::FragmentMemory;
+use overlay_intersections::split::line_mark::LineMark;
+use overlay_intersections::split::placing::Placing;
+use overlay_split::split::finder::PairFinder;
+use overlay_split::split::pass::pass_at;
+use overlay_tree::split::solver_tree::TreeBuffers;
+use std::alloc::Global;
+
+/// Splits lists of segments by snap rounding. It keeps its memory from one call to the next.
+#[derive(Drop)]
+pub struct SnapSolver<I: OverlayInt> {
+    alloc: Global,
+    finder: CutFinder<I>,
+    marks: Vec<LineMark<I>>,
+    pub(crate) cuts: Vec<LineMark<I>>,
+    path: Vec<IntPoint<I>>,
+    tree: TreeBuffers<I>,
+    grid: FragmentMemory<I>,
+}
+
+impl<I: OverlayInt> SnapSolver<I> {
+    /// A splitter that has taken no memory yet.
+    pub fn new(alloc: Global) -> Self {
+        SnapSolver {
+            alloc,
+            finder: CutFinder::new(alloc),
+            marks: Vec::new(alloc),
+            cuts: Vec::new(alloc),
+            path: Vec::new(alloc),
+            tree: TreeBuffers::new(alloc),
+            grid: FragmentMemory::new(alloc),
+        }
+    }
+
+    /// Splits a list as `split_segments_with_store` does, with a store of its own for the data, which begins as the
+    /// store's default and is dropped.
+    pub fn split_segments<C: WindingCount, D: OverlayEdgeData<C>>(
+        &mut self,
+        list: &mut Vec<Segment<C, I, D>>,
+        solver: &Solver,
+    ) -> Result<bool, Fault>
+        requires { IsSplittable list.old.items }
+        ensures snapped { OnOk result (IsSnapOf list.old list.new) }
+        ensures changed { IfOk result (λ flag. TellsChange list.old flag) }
+        ensures edge_data { GivesSnapData D.OverlayEdgeData.own D.Store.is_default list.old list.new result }
+        ensures kept_data { KeepsWhatHolds D.OverlayEdgeData.own list.old list.new result }
+        ensures named_data { LiesWithinHalfOfNamed D.OverlayEdgeData.own list.old list.new result }
+        ensures arranged { OnOk result (IsArranged list.new.items) }
+        ensures balance { OnOk result (KeepsBalance (segments_of list.old.items) (segments_of list.new.items)) }
+        ensures near { OnOk result (LiesWithinHalf list.old list.new) }
+        ensures winding { OnOk result (WindsBeyondHalf list.old list.new) }
+        ensures unchanged { IsArranged list.old.items → IfOk result (ChangesNothing list.old list.new) }
+
+        ensures fits { OnOk result (SumsLeaveRange list.old → ⊥) }
+        ensures refused { OnTooLarge result (SumsLeaveRange list.old) }
+        ensures emptied { OnErr result (list.new.items ≡ []) }
+    {
+        let mut store = D::Store::default();
+        self.split_segments_with_store(list, solver, &mut store)
+    }
+
+    /// Splits a list by snap rounding, in one pass: the list is sorted and merged, segments are cut along their chains,
+    /// and the pieces are merged. Returns whether equal segments were joined or a segment was cut.
+    ///
+    /// Every two segments of the result share at most a common end. Each lies within half a unit of a given one, in `x`
+    /// and in `y`, and within half a unit of every one that its data names, where the hooks name no others. At every
+    /// place that is farther than that from the given segments, the result winds as they do. A list that `is_arranged`
+    /// stays as it is, with its data. The order of the list and the solver's strategy do not change the result.
+    ///
+    /// The list has to be splittable, as `is_splittable` tests. Where a segment is cut the data of what is left of it is
+    /// split; a piece that is turned reverses its data; segments on the same ends merge theirs from left to right, in the
+    /// stable order of the list.
+    ///
+    /// Returns `Fault::CountOutOfRange` only where a running sum of counts on one pair of ends leaves
+    /// `-i32::MAX..=i32::MAX`, in the given list or among the pieces, and, memory being found, wherever one does. Returns
+    /// `Fault::Memory` where a growth is refused. Where a call is refused the list is empty, the store is what the hooks
+    /// called so far left, and the splitter can be used again.
+    pub fn split_segments_with_store<C: WindingCount, D: OverlayEdgeData<C>>(
+        &mut self,
+        list: &mut Vec<Segment<C, I, D>>,
+        solver: &Solver,
+        store: &mut D::Store,
+    ) -> Result<bool, Fault>
+        requires { IsSplittable list.old.items }
+        ensures snapped { OnOk result (IsSnapOf list.old list.new) }
+        ensures changed { IfOk result (λ flag. TellsChange list.old flag) }
+        ensures edge_data { OnOk result (HasSnapData D.OverlayEdgeData.own list.old store.old list.new) }
+        ensures store { OnOk result (IsSnapStore D.OverlayEdgeData.own list.old store.old store.new) }
+        ensures kept_data { KeepsWhatHolds D.OverlayEdgeData.own list.old list.new result }
+        ensures named_data { LiesWithinHalfOfNamed D.OverlayEdgeData.own list.old list.new result }
+        ensures arranged { OnOk result (IsArranged list.new.items) }
+        ensures balance { OnOk result (KeepsBalance (segments_of list.old.items) (segments_of list.new.items)) }
+        ensures near { OnOk result (LiesWithinHalf list.old list.new) }
+        ensures winding { OnOk result (WindsBeyondHalf list.old list.new) }
+        ensures unchanged { IsArranged list.old.items
+            → IfOk result (ChangesNoStore list.old list.new store.old store.new) }
+
+        ensures fits { OnOk result (SumsLeaveRange list.old → ⊥) }
+        ensures refused { OnTooLarge result (SumsLeaveRange list.old) }
+        ensures emptied { OnErr result (list.new.items ≡ []) }
+        ensures store_made { IsMadeFrom (hooks_of C.counted D.OverlayEdgeData.own) store.old store.new }
+    {
+        let repeated = join_with_store(list, store)?;
+        if let Err(fault) = self.find_cuts(list, solver) {
+            list.clear();
+            return Err(fault);
+        }
+        pass_at(list, self.cuts.as_slice(), &mut self.path, store)?;
+        let is_cut = !self.cuts.is_empty();
+        Ok(repeated | is_cut)
+    }
+
+    /// Finds where the segments of a sorted list are cut.
+    fn find_cuts<C: WindingCount, D: Copy>(
+        &mut self,
+        segments: &[Segment<C, I, D>],
+        solver: &Solver,
+    ) -> Result<(), Fault>
+        requires map { IsTrue (is_map (segments_of segments.now)) }
+        requires splittable { IsSplittable segments.now }
+        ensures cuts { OnOk result (AreCutsOf segments.now self.new.cuts.items) }
+        ensures fault { IfErr result (λ fault. fault ≡ Memory) }
+    {
+        let mut pairs = PairFinder::new(self.alloc, solver, segments, &mut self.grid)?;
+        let placing = Placing::Settling;
+        pairs.find_marks(segments, placing, &mut self.tree, &mut self.marks)?;
+        pairs.give_back(&mut self.grid);
+        self.finder
+            .find_cuts(segments, self.marks.as_slice(), &mut self.cuts)?;
+        Ok(())
+    }
+}
