@@ -14,6 +14,24 @@ pub struct Summary {
     pub digest: i64,
 }
 
+impl Summary {
+    /// Of no call.
+    pub const NOTHING: Summary = Summary {
+        count: 0,
+        others: 0,
+        digest: 0,
+    };
+
+    /// Both together.
+    pub fn with(self, other: Summary) -> Summary {
+        Summary {
+            count: self.count.saturating_add(other.count),
+            others: self.others.saturating_add(other.others),
+            digest: self.digest.wrapping_add(other.digest),
+        }
+    }
+}
+
 /// Why a call has no answer.
 #[derive(Clone, Copy, Drop)]
 pub enum Stop {

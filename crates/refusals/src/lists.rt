@@ -11,9 +11,24 @@ use i_overlay::segm::segment::Segment;
 use i_overlay::segm::sort::sort_by_ab;
 use i_overlay::segm::winding::WindingCount;
 use i_overlay::split::solver::SplitSolver;
+use overlay_snapping::snap::solver::SnapSolver;
 use std::alloc::Global;
 
 type Side = Segment<ShapeCountBoolean, i32, Color>;
+
+/// The shapes that are split.
+fn split_shapes() -> [Shape; 8] {
+    [
+        Shape::Crossed,
+        Shape::Long,
+        Shape::Squares,
+        Shape::Lines(&CROSS),
+        Shape::Lines(&BENT),
+        Shape::Lines(&OVERLAPPING),
+        Shape::Lines(&TOUCHING),
+        Shape::Lines(&SHARED),
+    ]
+}
 
 /// A sort. A refused one leaves an empty list.
 #[derive(Drop)]
@@ -118,28 +133,59 @@ impl Split {
 
 impl Case for Split {
     fn try_once(&mut self, alloc: Global) -> Result<Summary, Stop> {
-        let shapes = [
-            Shape::Crossed,
-            Shape::Long,
-            Shape::Squares,
-            Shape::Lines(&CROSS),
-            Shape::Lines(&BENT),
-            Shape::Lines(&OVERLAPPING),
-            Shape::Lines(&TOUCHING),
-            Shape::Lines(&SHARED),
-        ];
-        let (mut count, mut others, mut digest) = (0_usize, 0_u128, 0_i64);
-        for shape in shapes {
-            let split = self.split(shape, alloc)?;
-            count = count.saturating_add(split.count);
-            others = others.saturating_add(split.others);
-            digest = digest.wrapping_add(split.digest);
+        let mut all = Summary::NOTHING;
+        for shape in split_shapes() {
+            all = all.with(self.split(shape, alloc)?);
         }
-        Ok(Summary {
-            count,
-            others,
-            digest,
-        })
+        Ok(all)
+    }
+}
+
+/// Splits of each shape by snap rounding, by one splitter. A refused one leaves an empty list, and a store that hooks
+/// made.
+#[derive(Drop)]
+pub struct Snap {
+    splitter: SnapSolver<i32>,
+    solver: Solver,
+}
+
+impl Snap {
+    /// Splits whose crossings are found under a strategy.
+    pub fn new(alloc: Global, solver: Solver) -> Snap {
+        Snap {
+            splitter: SnapSolver::new(alloc),
+            solver,
+        }
+    }
+
+    /// The split of one shape.
+    fn split(&mut self, shape: Shape, alloc: Global) -> Result<Summary, Stop> {
+        let mut list: Vec<Side> = sides(shape, COLORS, &mut Calls::given(), alloc)?;
+        if !is_splittable(&list) {
+            return Err(Stop::Wrong("the input may not be split"));
+        }
+        let mut store = Calls::given();
+        match self
+            .splitter
+            .split_segments_with_store(&mut list, &self.solver, &mut store)
+        {
+            Ok(_) => Ok(Summary {
+                count: list.len(),
+                others: 0,
+                digest: digest_of(list.as_slice()).wrapping_add(i64::from(store.all)),
+            }),
+            Err(fault) => Err(refused(fault, list.is_empty() && store.is_made_by_hooks())),
+        }
+    }
+}
+
+impl Case for Snap {
+    fn try_once(&mut self, alloc: Global) -> Result<Summary, Stop> {
+        let mut all = Summary::NOTHING;
+        for shape in split_shapes() {
+            all = all.with(self.split(shape, alloc)?);
+        }
+        Ok(all)
     }
 }
 

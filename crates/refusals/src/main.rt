@@ -18,7 +18,7 @@ use crate::case::{Case, Stop};
 use crate::fragments::Fragments;
 use crate::graphs::{Boundary, Build, Filter, Kind, Loops, Walks};
 use crate::inserts::Insert;
-use crate::lists::{Balance, Join, Sort, Split};
+use crate::lists::{Balance, Join, Snap, Sort, Split};
 use crate::sweeps::Sweep;
 use crate::wholes::{Contours, KeptContours, KeptShapes, LineClip, Overlay, Shapes};
 use i_overlay::build::scan_list::ScanList;
@@ -132,6 +132,8 @@ fn tell_under<W: Write, E: Write>(
 ) -> io::Result<()> {
     let (mut split, mut sweep) = (Split::new(alloc, solver), Sweep::new(alloc, solver));
     tell("split", name, &mut split, alloc, output, digests)?;
+    let mut snap = Snap::new(alloc, solver);
+    tell("snap rounding", name, &mut snap, alloc, output, digests)?;
     tell("sweep", name, &mut sweep, alloc, output, digests)?;
     let (mut overlay, mut clip) = (Overlay::new(alloc, solver), LineClip::new(alloc, solver));
     tell("overlay", name, &mut overlay, alloc, output, digests)?;

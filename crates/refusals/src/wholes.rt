@@ -111,12 +111,7 @@ impl LineClip {
 impl Case for LineClip {
     fn try_once(&mut self, alloc: Global) -> Result<Summary, Stop> {
         let squares = self.clip(Shape::Squares, alloc)?;
-        let cut = self.clip(Shape::Lines(&CUT), alloc)?;
-        Ok(Summary {
-            count: squares.count.saturating_add(cut.count),
-            others: squares.others.saturating_add(cut.others),
-            digest: squares.digest.wrapping_add(cut.digest),
-        })
+        Ok(squares.with(self.clip(Shape::Lines(&CUT), alloc)?))
     }
 }
 
