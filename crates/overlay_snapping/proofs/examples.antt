@@ -5,3 +5,4 @@ pub mod Chains
 pub mod PointTrees
 pub mod Closures
 pub mod Cuts
+pub mod Counts

@@ -5,3 +5,4 @@ pub mod planarity
 pub mod point_trees
 pub mod closure
 pub mod cuts
+pub mod counting

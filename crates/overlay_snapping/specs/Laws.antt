@@ -1,16 +1,17 @@
 -- Laws over the definitions: statements that the contracts of `snap::laws` name.
-use Rattle.std.specs.Prelude.{◌≡◌, ◌↔◌, ◌⊎◌, ◌≤◌, ◌*◌, true, IsTrue, IsFalse, List, Contains, ℕ, ◌<◌, Some, All, length, slice_get}
+use Rattle.std.specs.Prelude.{◌≡◌, ◌↔◌, ◌⊎◌, ◌≤◌, ◌*◌, true, if◌then◌else◌, IsTrue, IsFalse, List, Contains, ℕ, ◌<◌, Some, All, length, slice_get}
 use Rattle.overlay_geometry.specs.Points.{Point, Pair, is_ordered, lies_on}
 use Rattle.overlay_geometry.specs.Meeting.{are_apart}
 use Rattle.overlay_split.specs.Nearness.{Fraction, point_along, LiesNear, LieNear, MarksLieNear}
-use Rattle.overlay_split.specs.Pass.{pass_by}
+use Rattle.overlay_split.specs.Pass.{pass_by, pass}
 use Rattle.overlay_split.specs.Path.{path}
 use Rattle.overlay_snapping.specs.Pixels.{IsInPixel, MeetsPixel, meets_pixel}
 use Rattle.overlay_base.specs.Segments.{WholeSegment, pairs, ends, are_ordered, is_map}
 use Rattle.overlay_base.specs.Planar.{is_planar}
 use Rattle.overlay_intersections.specs.Marks.{settling}
-use Rattle.overlay_intersections.specs.PassMarks.{marks_on}
+use Rattle.overlay_intersections.specs.PassMarks.{marks_on, is_rounded}
 use Rattle.overlay_snapping.specs.Chains.{comes_before, rounded_crossings, Moves, IsChainPoint, IsPiece, pair_between, IsChain, AreCutsBetween, IsSnapped, IsHot, AreSnapCuts, AreDecided}
+use Rattle.overlay_snapping.specs.Counts.{end_count, chain_points}
 use Rattle.overlay_snapping.specs.Closure.{AreWithin, IsReachedPlace, IsReachedIndex, IsClosureInput}
 use Rattle.overlay_snapping.specs.declared.snap.passing.Passing.{Passing}
 
@@ -50,10 +51,10 @@ MarksMeetPixels =
 
 -- ---- nearness
 
--- Every segment of the result lies within a half of a given one, in each coordinate.
+-- Every segment of the result lies within a half of a given one, in each coordinate, and on it where every crossing is a whole point.
 abbrev pub SnappedLiesNear : Type 0
 SnappedLiesNear =
-    (segments result : List WholeSegment) → IsTrue (are_ordered segments) → IsSnapped segments result → LieNear 1 (pairs segments) (pairs result)
+    (segments result : List WholeSegment) → IsTrue (are_ordered segments) → IsSnapped segments result → LieNear (if is_rounded segments then 1 else 0) (pairs segments) (pairs result)
 
 -- ---- planarity
 
@@ -68,6 +69,21 @@ abbrev pub SnappedIsPlanar : Type 0
 SnappedIsPlanar =
     (segments result : List WholeSegment) → IsTrue (are_ordered segments) → IsSnapped segments result → IsTrue (is_map result) × IsTrue (is_planar result)
 
+-- ---- how many segments
+
+-- A planar arrangement that is not empty has fewer segments than three times its end points.
+abbrev pub PlanarHasFew : Type 0
+PlanarHasFew = (segments : List WholeSegment) → IsTrue (is_map segments) → IsTrue (is_planar segments) → 0 < length segments → length segments < 3 * end_count segments
+
+-- So the result has at most three segments for each point of chains.
+abbrev pub SnappedHasFew : Type 0
+SnappedHasFew =
+    (segments result : List WholeSegment) → IsTrue (are_ordered segments) → IsSnapped segments result → length result ≤ 3 * length (chain_points (pairs segments))
+
+-- The list of these points is what is meant.
+abbrev pub ChainPointsAreListed : Type 0
+ChainPointsAreListed = (segments : List Pair) (c : Point) → Contains (chain_points segments) c ↔ IsChainPoint segments c
+
 -- ---- chains as paths
 
 -- The path of a segment through the points between its ends at which it is cut is its chain.
@@ -76,11 +92,17 @@ PathIsChain =
     (segments : List Pair) (s : Pair) (marks : List Point) → IsTrue (is_ordered s) → Contains segments s → (Moves segments s ⊎ (Moves segments s → ⊥)) → AreCutsBetween segments s marks →
     IsChain segments s (path s marks)
 
--- So a pass through these points of each segment snaps, and each of them lies within a half of its segment.
+-- So a pass through these points of each segment snaps. Each of them lies within a half of its segment, and on it where every
+-- crossing is a whole point.
 abbrev pub CutsSnap : Type 0
 CutsSnap =
     (segments : List WholeSegment) (on : Pair → List Point) → IsTrue (are_ordered segments) → AreDecided segments → AreSnapCuts segments on →
-    IsSnapped segments (pass_by on segments) × MarksLieNear 1 on segments
+    IsSnapped segments (pass_by on segments) × MarksLieNear (if is_rounded segments then 1 else 0) on segments
+
+-- Where every crossing is a whole point, the result is that of a settling pass.
+abbrev pub ExactSnapIsPass : Type 0
+ExactSnapIsPass =
+    (segments result : List WholeSegment) → IsTrue (are_ordered segments) → IsFalse (is_rounded segments) → IsSnapped segments result → result ≡ pass settling segments
 
 -- There is one chain of a segment, and so one result of snap rounding.
 abbrev pub SnappedIsOne : Type 0

@@ -2,9 +2,11 @@ pub mod Pixels
 pub mod Chains
 pub mod Closure
 pub mod ClosureOf
+pub mod Counts
 pub mod CutsOf
 pub mod PointTreeOf
 pub mod SnapOf
+pub mod SolverOf
 -- what only contracts of private functions use
 pub mod steps
 pub mod Laws

@@ -20,21 +20,24 @@ type Point = (i64, i64);
 /// A segment as the tables write it: from, to, the count for the subject.
 type Row = (Point, Point, i32);
 
-/// A name, what is given, whether the list changes, and the list after the split.
-type Split = (&'static str, &'static [Row], bool, &'static [Row]);
+/// A name, what is given, whether the list changes, how far crossings are moved at most in halves of a unit, and the list
+/// after the split.
+type Split = (&'static str, &'static [Row], bool, u128, &'static [Row]);
 
 static SPLITS: [Split; 9] = [
-    ("nothing", &[], false, &[]),
+    ("nothing", &[], false, 0, &[]),
     (
         "two that cancel",
         &[((0, 0), (3, 1), 1), ((0, 0), (3, 1), -1)],
         true,
+        0,
         &[],
     ),
     (
         "a crossing at a whole point",
         &[((-2, 0), (2, 0), 1), ((0, -2), (0, 2), 1)],
         true,
+        0,
         &[
             ((-2, 0), (0, 0), 1),
             ((0, -2), (0, 0), 1),
@@ -46,6 +49,7 @@ static SPLITS: [Split; 9] = [
         "a crossing halfway in both coordinates is rounded up",
         &[((0, 0), (5, 5), 1), ((0, 3), (5, -2), 1)],
         true,
+        1,
         &[
             ((0, 0), (2, 2), 1),
             ((0, 3), (2, 2), 1),
@@ -57,6 +61,7 @@ static SPLITS: [Split; 9] = [
         "a segment passes beside the rounded crossing",
         &[((0, 0), (100, 1), 1), ((1, -50), (1, 50), 1)],
         true,
+        1,
         &[
             ((0, 0), (1, 0), 1),
             ((1, -50), (1, 0), 1),
@@ -68,6 +73,7 @@ static SPLITS: [Split; 9] = [
         "no crossing is rounded, so nothing moves",
         &[((0, 0), (10, 1), 1), ((5, 1), (5, 7), 1)],
         false,
+        0,
         &[((0, 0), (10, 1), 1), ((5, 1), (5, 7), 1)],
     ),
     (
@@ -79,6 +85,7 @@ static SPLITS: [Split; 9] = [
             ((1, -4), (2, -4), 1),
         ],
         true,
+        1,
         &[
             ((-5, 4), (-3, 3), 1),
             ((-4, 2), (-3, 3), 1),
@@ -92,6 +99,7 @@ static SPLITS: [Split; 9] = [
         "a falling segment ends with a step down its column",
         &[((0, 0), (1, -3), 1), ((0, -2), (3, 0), 1)],
         true,
+        1,
         &[
             ((0, -2), (1, -2), 1),
             ((0, 0), (1, -2), 1),
@@ -103,6 +111,7 @@ static SPLITS: [Split; 9] = [
         "an end on a segment",
         &[((0, 0), (4, 2), 1), ((2, 1), (2, 5), 1)],
         true,
+        0,
         &[
             ((0, 0), (2, 1), 1),
             ((2, 1), (2, 5), 1),
@@ -164,10 +173,11 @@ fn snap<I: OverlayInt>(
 /// Splits each list of the table.
 fn check_splits<I: OverlayInt>(rt: &(impl Abort + AllocGlobal)) {
     let mut splitter: SnapSolver<I> = SnapSolver::new(rt.alloc());
-    for (name, given, changes, wanted) in SPLITS {
+    for (name, given, changes, reach, wanted) in SPLITS {
         for strategy in [Strategy::List, Strategy::Tree, Strategy::Frag] {
             let (flag, rows) = snap(rt, &mut splitter, given, strategy);
             assert_eq!(rt; (flag, rows.as_slice()), (changes, wanted), "{name}");
+            assert_eq!(rt; splitter.reach(), reach, "{name}");
         }
     }
 }

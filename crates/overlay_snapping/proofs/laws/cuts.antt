@@ -7,3 +7,4 @@ pub mod Strict
 pub mod Cuts
 pub mod Found
 pub mod Reads
+pub mod ExactMarks

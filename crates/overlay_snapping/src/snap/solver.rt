@@ -1,6 +1,6 @@
 // Snap rounding as the split of a list: what is equal is joined, each segment is cut along its chain, and the pieces are
 // joined. This project's own.
-ghost use Rattle.std.specs.Prelude.{◌≡◌, [], IsTrue, IfOk, IfErr, OnOk, OnErr};
+ghost use Rattle.std.specs.Prelude.{◌≡◌, if◌then◌else◌, [], IsTrue, IfOk, IfErr, OnOk, OnErr};
 ghost use Rattle.overlay_base.specs.declared.segm.fault.Fault.TheVariants.{Memory};
 ghost use Rattle.overlay_base.specs.ArrangedOf.{IsSplittable, IsArranged};
 ghost use Rattle.overlay_base.specs.Balance.{KeepsBalance};
@@ -9,9 +9,11 @@ ghost use Rattle.overlay_base.specs.FaultOf.{OnTooLarge};
 ghost use Rattle.overlay_base.specs.HooksOf.{hooks_of};
 ghost use Rattle.overlay_base.specs.Segments.{is_map};
 ghost use Rattle.overlay_base.specs.SegmentOf.{segments_of};
-ghost use Rattle.overlay_split.specs.SplitOf.{KeepsWhatHolds, ChangesNothing, ChangesNoStore};
+ghost use Rattle.overlay_intersections.specs.PassMarks.{is_rounded};
+ghost use Rattle.overlay_split.specs.SplitOf.{KeepsWhatHolds, LiesInBox, IsExactInput, HasGivenCounts, ChangesNothing, ChangesNoStore};
 ghost use Rattle.overlay_snapping.specs.CutsOf.{AreCutsOf};
-ghost use Rattle.overlay_snapping.specs.SnapOf.{IsSnapOf, TellsChange, LiesWithinHalf, WindsBeyondHalf, SumsLeaveRange, HasSnapData, GivesSnapData, IsSnapStore, LiesWithinHalfOfNamed};
+ghost use Rattle.overlay_snapping.specs.SnapOf.{IsSnapOf, TellsChange, reach_of_snap, LiesWithinReach, GivenLiesWithinReach, WindsBeyondReach, HasFewSegments, SumsLeaveRange, HasSnapData, GivesSnapData, IsSnapStore, StopsSnap, LiesWithinReachOfNamed};
+ghost use Rattle.overlay_snapping.specs.SolverOf.{reach_of};
 
 use crate::snap::cut_finder::CutFinder;
 use overlay_base::overlay_core::edge_data::OverlayEdgeData;
@@ -40,11 +42,14 @@ pub struct SnapSolver<I: OverlayInt> {
     path: Vec<IntPoint<I>>,
     tree: TreeBuffers<I>,
     grid: FragmentMemory<I>,
+    reach: u128,
 }
 
 impl<I: OverlayInt> SnapSolver<I> {
     /// A splitter that has taken no memory yet.
-    pub fn new(alloc: Global) -> Self {
+    pub fn new(alloc: Global) -> Self
+        ensures reach { reach_of result ≡ 0 }
+    {
         SnapSolver {
             alloc,
             finder: CutFinder::new(alloc),
@@ -53,7 +58,19 @@ impl<I: OverlayInt> SnapSolver<I> {
             path: Vec::new(alloc),
             tree: TreeBuffers::new(alloc),
             grid: FragmentMemory::new(alloc),
+            reach: 0,
         }
+    }
+
+    /// How far the last call that succeeded moved crossings at most, in `x` and in `y`, in halves of a unit; 0 at first.
+    /// It is 0 where no crossing had to be rounded, else 1.
+    ///
+    /// So each segment of the result lies that near to a given one, and at every place that is farther than that from
+    /// the given segments the result winds as they do.
+    pub fn reach(&self) -> u128
+        ensures { result ≡ reach_of self.now }
+    {
+        self.reach
     }
 
     /// Splits a list as `split_segments_with_store` does, with a store of its own for the data, which begins as the
@@ -68,16 +85,23 @@ impl<I: OverlayInt> SnapSolver<I> {
         ensures changed { IfOk result (λ flag. TellsChange list.old flag) }
         ensures edge_data { GivesSnapData D.OverlayEdgeData.own D.Store.is_default list.old list.new result }
         ensures kept_data { KeepsWhatHolds D.OverlayEdgeData.own list.old list.new result }
-        ensures named_data { LiesWithinHalfOfNamed D.OverlayEdgeData.own list.old list.new result }
+        ensures named_data { LiesWithinReachOfNamed D.OverlayEdgeData.own list.old list.new result }
         ensures arranged { OnOk result (IsArranged list.new.items) }
+        ensures few { OnOk result (HasFewSegments list.old list.new) }
         ensures balance { OnOk result (KeepsBalance (segments_of list.old.items) (segments_of list.new.items)) }
-        ensures near { OnOk result (LiesWithinHalf list.old list.new) }
-        ensures winding { OnOk result (WindsBeyondHalf list.old list.new) }
+        ensures in_box { OnOk result (LiesInBox list.old list.new) }
+        ensures exact_input { IsExactInput list.old → OnOk result (HasGivenCounts list.old list.new) }
+        ensures near { OnOk result (LiesWithinReach list.old list.new) }
+        ensures given_near { OnOk result (GivenLiesWithinReach list.old list.new) }
+        ensures winding { OnOk result (WindsBeyondReach list.old list.new) }
         ensures unchanged { IsArranged list.old.items → IfOk result (ChangesNothing list.old list.new) }
 
         ensures fits { OnOk result (SumsLeaveRange list.old → ⊥) }
         ensures refused { OnTooLarge result (SumsLeaveRange list.old) }
         ensures emptied { OnErr result (list.new.items ≡ []) }
+        ensures reach { OnOk result (reach_of self.new ≡ reach_of_snap (segments_of list.old.items)) }
+        ensures exact_reach { IsExactInput list.old → OnOk result (reach_of self.new ≡ 0) }
+        ensures reach_before { OnErr result (reach_of self.new ≡ reach_of self.old) }
     {
         let mut store = D::Store::default();
         self.split_segments_with_store(list, solver, &mut store)
@@ -87,18 +111,24 @@ impl<I: OverlayInt> SnapSolver<I> {
     /// and the pieces are merged. Returns whether equal segments were joined or a segment was cut.
     ///
     /// Every two segments of the result share at most a common end. Each lies within half a unit of a given one, in `x`
-    /// and in `y`, and within half a unit of every one that its data names, where the hooks name no others. At every
-    /// place that is farther than that from the given segments, the result winds as they do. A list that `is_arranged`
-    /// stays as it is, with its data. The order of the list and the solver's strategy do not change the result.
+    /// and in `y`, and within half a unit of every one that its data names, where the hooks name no others. Each point of
+    /// a given segment lies as near to the result, or to where counts cancelled. At every place that is farther than that
+    /// from the given segments, the result winds as they do. It lies in the box of the ends of the joined list, and has at
+    /// most three segments for each of these ends and of the points to which crossings are rounded.
+    ///
+    /// Where no two given segments cross at a point without whole coordinates, nothing moves: each of these distances is
+    /// 0, and the counts along the given segments are those given. A list that `is_arranged` stays as it is, with its
+    /// data. The order of the list and the solver's strategy do not change the result.
     ///
     /// The list has to be splittable, as `is_splittable` tests. Where a segment is cut the data of what is left of it is
     /// split; a piece that is turned reverses its data; segments on the same ends merge theirs from left to right, in the
     /// stable order of the list.
     ///
     /// Returns `Fault::CountOutOfRange` only where a running sum of counts on one pair of ends leaves
-    /// `-i32::MAX..=i32::MAX`, in the given list or among the pieces, and, memory being found, wherever one does. Returns
-    /// `Fault::Memory` where a growth is refused. Where a call is refused the list is empty, the store is what the hooks
-    /// called so far left, and the splitter can be used again.
+    /// `-i32::MAX..=i32::MAX`, in the given list or among the pieces, and, memory being found, wherever one does; the
+    /// store is then what the hooks called before that sum left. Returns `Fault::Memory` where a growth is refused; the
+    /// store is then what the hooks called so far left. Where a call is refused the list is empty, `reach` is as it was,
+    /// and the splitter can be used again.
     pub fn split_segments_with_store<C: WindingCount, D: OverlayEdgeData<C>>(
         &mut self,
         list: &mut Vec<Segment<C, I, D>>,
@@ -111,46 +141,74 @@ impl<I: OverlayInt> SnapSolver<I> {
         ensures edge_data { OnOk result (HasSnapData D.OverlayEdgeData.own list.old store.old list.new) }
         ensures store { OnOk result (IsSnapStore D.OverlayEdgeData.own list.old store.old store.new) }
         ensures kept_data { KeepsWhatHolds D.OverlayEdgeData.own list.old list.new result }
-        ensures named_data { LiesWithinHalfOfNamed D.OverlayEdgeData.own list.old list.new result }
+        ensures named_data { LiesWithinReachOfNamed D.OverlayEdgeData.own list.old list.new result }
         ensures arranged { OnOk result (IsArranged list.new.items) }
+        ensures few { OnOk result (HasFewSegments list.old list.new) }
         ensures balance { OnOk result (KeepsBalance (segments_of list.old.items) (segments_of list.new.items)) }
-        ensures near { OnOk result (LiesWithinHalf list.old list.new) }
-        ensures winding { OnOk result (WindsBeyondHalf list.old list.new) }
+        ensures in_box { OnOk result (LiesInBox list.old list.new) }
+        ensures exact_input { IsExactInput list.old → OnOk result (HasGivenCounts list.old list.new) }
+        ensures near { OnOk result (LiesWithinReach list.old list.new) }
+        ensures given_near { OnOk result (GivenLiesWithinReach list.old list.new) }
+        ensures winding { OnOk result (WindsBeyondReach list.old list.new) }
         ensures unchanged { IsArranged list.old.items
             → IfOk result (ChangesNoStore list.old list.new store.old store.new) }
 
         ensures fits { OnOk result (SumsLeaveRange list.old → ⊥) }
         ensures refused { OnTooLarge result (SumsLeaveRange list.old) }
         ensures emptied { OnErr result (list.new.items ≡ []) }
+        ensures stopped { OnTooLarge result (StopsSnap D.OverlayEdgeData.own list.old store.old store.new) }
         ensures store_made { IsMadeFrom (hooks_of C.counted D.OverlayEdgeData.own) store.old store.new }
+        ensures reach { OnOk result (reach_of self.new ≡ reach_of_snap (segments_of list.old.items)) }
+        ensures exact_reach { IsExactInput list.old → OnOk result (reach_of self.new ≡ 0) }
+        ensures reach_before { OnErr result (reach_of self.new ≡ reach_of self.old) }
     {
         let repeated = join_with_store(list, store)?;
-        if let Err(fault) = self.find_cuts(list, solver) {
-            list.clear();
-            return Err(fault);
-        }
+        let is_rounded = match self.find_cuts(list, solver) {
+            Ok(is_rounded) => is_rounded,
+            Err(fault) => {
+                list.clear();
+                return Err(fault);
+            }
+        };
         pass_at(list, self.cuts.as_slice(), &mut self.path, store)?;
+        self.reach = most_moved(is_rounded);
         let is_cut = !self.cuts.is_empty();
         Ok(repeated | is_cut)
     }
 
-    /// Finds where the segments of a sorted list are cut.
+    /// Finds where the segments of a sorted list are cut. Returns whether two of them cross at a point without whole
+    /// coordinates, so that it is rounded.
     fn find_cuts<C: WindingCount, D: Copy>(
         &mut self,
         segments: &[Segment<C, I, D>],
         solver: &Solver,
-    ) -> Result<(), Fault>
+    ) -> Result<bool, Fault>
         requires map { IsTrue (is_map (segments_of segments.now)) }
         requires splittable { IsSplittable segments.now }
         ensures cuts { OnOk result (AreCutsOf segments.now self.new.cuts.items) }
+        ensures rounded { IfOk result (λ flag. flag ≡ is_rounded (segments_of segments.now)) }
         ensures fault { IfErr result (λ fault. fault ≡ Memory) }
+        ensures reach { reach_of self.new ≡ reach_of self.old }
     {
         let mut pairs = PairFinder::new(self.alloc, solver, segments, &mut self.grid)?;
         let placing = Placing::Settling;
-        pairs.find_marks(segments, placing, &mut self.tree, &mut self.marks)?;
+        let is_rounded = pairs.find_marks(segments, placing, &mut self.tree, &mut self.marks)?;
         pairs.give_back(&mut self.grid);
-        self.finder
-            .find_cuts(segments, self.marks.as_slice(), &mut self.cuts)?;
-        Ok(())
+        if is_rounded {
+            self.finder
+                .find_cuts(segments, self.marks.as_slice(), &mut self.cuts)?;
+        } else {
+            // where every crossing is a whole point nothing moves
+            self.cuts.clear();
+            self.cuts.extend_from_slice(self.marks.as_slice())?;
+        }
+        Ok(is_rounded)
     }
+}
+
+/// How far a split by snap rounding moves a crossing at most, in halves of a unit, by whether it rounds one.
+fn most_moved(rounds: bool) -> u128
+    ensures { result ≡ (if rounds then 1 else 0) }
+{
+    if rounds { 1 } else { 0 }
 }

@@ -65,7 +65,7 @@ cuts_for segments marks cuts s i =
     from_none : (k : ℕ) → k ≡ 0 + k
     from_none k = omega arith
 
-pair_at : (segments : List WholeSegment) (k : ℕ) (d : WholeSegment) → k < length segments → Contains (pairs segments) (slice_index_or segments k d).pair
+pub pair_at : (segments : List WholeSegment) (k : ℕ) (d : WholeSegment) → k < length segments → Contains (pairs segments) (slice_index_or segments k d).pair
 pair_at segments k d l = Contains-from_Has (pairs segments) (slice_index_or segments k d).pair (Has-map (λ (u : WholeSegment). u.pair) segments (slice_index_or segments k d) (Has-from_Contains segments (slice_index_or segments k d) (Contains-get_or segments k d l)))
 
 -- whatever function names the cuts, the marks are those that it names

@@ -1,15 +1,15 @@
 -- What the join of a list and a pass through the cuts of its segments leave: a snapped list, its place, its windings and its data.
-use Rattle.std.proofs.Common.{◌≡◌, ◌∙◌, refl, sym, subst, ⊎_elim, inl, inr, Bool, true, false, IsTrue, IsFalse, List, [], ◌∷◌, ◌&&◌, ◌||◌}
+use Rattle.std.proofs.Common.{◌≡◌, ◌⊎◌, ◌∙◌, refl, sym, subst, ⊎_elim, inl, inr, Bool, true, false, IsTrue, IsFalse, List, [], ◌∷◌, ◌&&◌, ◌||◌}
 use Rattle.std.specs.Prelude.{ℤ, Contains, All}
 use Rattle.std.specs.List.{list_all}
 use Rattle.std.proofs.lemmas.Bool.{and_parts, and_from, both_ways, or_left, or_right}
 use Rattle.std.proofs.lemmas.List.Elements.{All-from_recursion, recursion_from_All}
-use Rattle.overlay_geometry.specs.Points.{Point, Pair, is_end, is_strictly_inside}
+use Rattle.overlay_geometry.specs.Points.{Point, Pair, is_end, is_strictly_inside, is_within_box_of}
 use Rattle.overlay_geometry.specs.Meeting.{do_cross, has_end_inside}
 use Rattle.overlay_geometry.specs.Coordinates.{is_point_in_range, is_pair_in_range}
 use Rattle.overlay_geometry.proofs.laws.geometry.Coordinates.{in_box_in_range}
 use Rattle.overlay_geometry.proofs.laws.geometry.Points.{inside_from_parts}
-use Rattle.overlay_geometry.proofs.laws.lists.Lists.{Has, AllByRecursion-weaker, AllByRecursion-from_Has, list_all-at, Has-map_out}
+use Rattle.overlay_geometry.proofs.laws.lists.Lists.{Has, AllByRecursion-weaker, AllByRecursion-from_Has, list_all-at, Has-map_out, Has-flat_map}
 use Rattle.overlay_geometry.proofs.laws.lists.Elements.{Contains-from_Has, Has-from_Contains, Has-append_out, Has-flat_map_out}
 use Rattle.overlay_base.specs.Balance.{KeepsBalance}
 use Rattle.overlay_base.specs.EdgeData.{DataSegment, Hooks, without_data, data_join}
@@ -23,15 +23,18 @@ use Rattle.overlay_base.proofs.laws.joins.Functionals.{balance-join}
 use Rattle.overlay_base.proofs.laws.joins.Maps.{are_ordered-join, is_map-join}
 use Rattle.overlay_split.specs.DataPass.{data_after_passes}
 use Rattle.overlay_split.specs.Laws.{HooksKeep, HooksNameNoOther, NameNear}
-use Rattle.overlay_split.specs.Nearness.{LiesNear, LieNear, reach_of_run}
+use Rattle.overlay_split.specs.Nearness.{LiesNear, LieNear, MarksLieNear, Fraction, point_along, IsNearSome, reach_of_run, LieInGivenBox}
 use Rattle.overlay_split.specs.Pass.{EachMark, cut_by, pass_by}
 use Rattle.overlay_split.specs.Places.{IsFar}
 use Rattle.overlay_intersections.specs.Crossing.{is_exact}
 use Rattle.overlay_intersections.specs.Marks.{cross_inexactly}
 use Rattle.overlay_split.specs.Run.{Settings, after_passes}
+use Rattle.overlay_split.proofs.laws.nearness.Coverings.{cut_pieces_stay_near, joined_or_cancels}
+use Rattle.overlay_split.proofs.laws.nearness.Distances.{LiesNear-itself}
 use Rattle.overlay_split.proofs.laws.nearness.Nearness.{cut_stays_near}
 use Rattle.overlay_split.proofs.laws.nearness.Places.{cut_keeps_winding, join_keeps_winding}
 use Rattle.overlay_split.proofs.laws.passes.Splittable.{cut_is_splittable, is_splittable-join}
+use Rattle.overlay_split.proofs.laws.paths.Boxes.{boxes_are_meant, cut_stays_in_box}
 use Rattle.overlay_split.proofs.laws.paths.Balances.{cut_keeps_balance}
 use Rattle.overlay_split.proofs.laws.nearness.NamedData.{data_names_what_is_near}
 use Rattle.overlay_split.proofs.laws.passes.DataInvariants.{data_keeps_what_hooks_keep}
@@ -39,10 +42,11 @@ use Rattle.overlay_split.proofs.laws.passes.DataPasses.{data_is_beside, arranged
 use Rattle.overlay_split.proofs.laws.planar.ExactInputs.{In-join}
 use Rattle.overlay_split.proofs.laws.planar.PlanarPasses.{is_planar-each}
 use Rattle.overlay_snapping.specs.Chains.{rounded_crossings, whole_crossings, given_points, IsHot, rounded, passed, Moves, passes, IsChainPoint, IsCutAt, moving, staying, AreCutsBetween, AreSnapCuts, AreDecided, IsSnapped}
+use Rattle.overlay_snapping.specs.SnapOf.{reach_of_snap, IsNearCancelledInSnap, among_given, among_pieces}
 use Rattle.overlay_snapping.proofs.laws.chains.MarkLists.{each_cut, cuts_are_free}
 use Rattle.overlay_snapping.proofs.laws.chains.MarkPoints.{Has-crossings_by_out, inexact_parts}
 use Rattle.overlay_snapping.proofs.laws.chains.Paths.{cut_in_box}
-use Rattle.overlay_snapping.proofs.laws.chains.Snaps.{cuts_snap}
+use Rattle.overlay_snapping.proofs.laws.chains.Snaps.{cuts_snap, cuts_lie_near}
 use Rattle.overlay_snapping.proofs.laws.planarity.Planar.{snapped_is_planar}
 
 pair_in_range : (least greatest : ℤ) (segments : List WholeSegment) → IsTrue (is_splittable least greatest segments) → (s : Pair) → Has (pairs segments) s → IsTrue (is_pair_in_range least greatest s)
@@ -64,19 +68,45 @@ module _ (given : List WholeSegment) (o : IsTrue (are_ordered given)) (on : Pair
   pub keeps_balance : KeepsBalance given (pass_by on (join given))
   keeps_balance p = cut_keeps_balance on (join given) p ∙ balance-join given p
 
-  pub lies_near : LieNear 1 (pairs given) (pairs (pass_by on (join given)))
-  lies_near =
-      All-from_recursion (λ r. (s : Pair) × Contains (pairs given) s × LiesNear 1 r s) (pairs (pass_by on (join given)))
-      (AllByRecursion-weaker (λ r. (s : Pair) × Contains (pairs (join given)) s × LiesNear 1 r s) (λ r. (s : Pair) × Contains (pairs given) s × LiesNear 1 r s)
-      (λ r h. (h.0, Contains-from_Has (pairs given) h.0 (In-join given h.0 (Has-from_Contains (pairs (join given)) h.0 h.1)), h.2)) (pairs (pass_by on (join given)))
-      (recursion_from_All (λ r. (s : Pair) × Contains (pairs (join given)) s × LiesNear 1 r s) (pairs (pass_by on (join given)))
-      (cut_stays_near 1 on (join given) (cuts_snap (join given) on joined_ordered decided cuts).1)))
+  -- the cuts lie as near as crossings are moved
+  pub near_cuts : MarksLieNear (reach_of_snap given) on (join given)
+  unfolding reach_of_snap
+  near_cuts = cuts_lie_near (join given) on joined_ordered cuts
 
-  pub keeps_winding : (p : RationalPoint) → IsFar 1 p (pairs given) → winding_below (pass_by on (join given)) p ≡ winding_below given p
+  pub lies_near : LieNear (reach_of_snap given) (pairs given) (pairs (pass_by on (join given)))
+  lies_near =
+      All-from_recursion (λ r. (s : Pair) × Contains (pairs given) s × LiesNear (reach_of_snap given) r s) (pairs (pass_by on (join given)))
+      (AllByRecursion-weaker (λ r. (s : Pair) × Contains (pairs (join given)) s × LiesNear (reach_of_snap given) r s) (λ r. (s : Pair) × Contains (pairs given) s × LiesNear (reach_of_snap given) r s)
+      (λ r h. (h.0, Contains-from_Has (pairs given) h.0 (In-join given h.0 (Has-from_Contains (pairs (join given)) h.0 h.1)), h.2)) (pairs (pass_by on (join given)))
+      (recursion_from_All (λ r. (s : Pair) × Contains (pairs (join given)) s × LiesNear (reach_of_snap given) r s) (pairs (pass_by on (join given)))
+      (cut_stays_near (reach_of_snap given) on (join given) near_cuts)))
+
+  -- and each given segment near the result, or near where counts cancelled
+  pub given_lies_near : (s : Pair) → Contains (pairs given) s → (f : Fraction) → IsNearSome (reach_of_snap given) (point_along s f) (pairs (pass_by on (join given))) ⊎ IsNearCancelledInSnap given (point_along s f)
+  given_lies_near s i f = ⊎_elim kept (λ gone. inr (among_given s gone (LiesNear-itself s f))) (joined_or_cancels given s i)
+    where
+      kept : Contains (pairs (join given)) s → IsNearSome (reach_of_snap given) (point_along s f) (pairs (pass_by on (join given))) ⊎ IsNearCancelledInSnap given (point_along s f)
+      kept j =
+          let piece = cut_pieces_stay_near (reach_of_snap given) on (join given) s joined_ordered near_cuts j f in
+          ⊎_elim (λ k. inl (piece.0, k, piece.2)) (λ gone. inr (among_pieces on piece.0 cuts gone piece.2)) (joined_or_cancels (cut_by on (join given)) piece.0 piece.1)
+
+  pub keeps_winding : (p : RationalPoint) → IsFar (reach_of_snap given) p (pairs given) → winding_below (pass_by on (join given)) p ≡ winding_below given p
   keeps_winding p far =
-      cut_keeps_winding 1 on (join given) p joined_ordered (cuts_snap (join given) on joined_ordered decided cuts).1
+      cut_keeps_winding (reach_of_snap given) on (join given) p joined_ordered near_cuts
       (λ near. far (near.0, Contains-from_Has (pairs given) near.0 (In-join given near.0 (Has-from_Contains (pairs (join given)) near.0 near.1)), near.2))
       ∙ join_keeps_winding given p
+
+  -- cuts lie in the boxes of their segments
+  pub in_given_box : LieInGivenBox given (pass_by on (join given))
+  in_given_box =
+      cut_stays_in_box (ends (pairs (join given))) on (join given) (boxes_are_meant.0 (ends (pairs (join given))))
+      (each_cut (λ s m. IsTrue (is_within_box_of (ends (pairs (join given))) m)) (join given) on cuts (λ s m i cut free.
+      boxes_are_meant.1 (ends (pairs (join given))) s m (end_within s s.a i (inl refl)) (end_within s s.b i (inr (inl refl))) (cut_in_box (pairs (join given)) s m cut)))
+    where
+      end_within : (s : Pair) (e : Point) → Has (pairs (join given)) s → Has (s.a ∷ s.b ∷ []) e → IsTrue (is_within_box_of (ends (pairs (join given))) e)
+      end_within s e i j =
+          list_all-at (λ p. is_within_box_of (ends (pairs (join given))) p) (ends (pairs (join given))) e (boxes_are_meant.0 (ends (pairs (join given))))
+          (Has-flat_map (λ (u : Pair). u.a ∷ u.b ∷ []) (pairs (join given)) s e i j)
 
   pub snapped_arranged : (least greatest : ℤ) → IsTrue (is_splittable least greatest given) → IsFalse (join_leaves_range given) → IsFalse (join_leaves_range (cut_by on (join given))) → IsTrue (is_arranged least greatest (pass_by on (join given)))
   unfolding is_arranged

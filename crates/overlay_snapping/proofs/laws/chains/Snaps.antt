@@ -1,8 +1,8 @@
 -- A pass through the points between the ends of each segment at which it is cut snaps.
-use Rattle.std.proofs.Common.{◌≡◌, ◌∙◌, refl, sym, ap, IsTrue, List, [], ◌∷◌, ◌++◌, map}
-use Rattle.std.specs.Prelude.{All, flat_map}
+use Rattle.std.proofs.Common.{◌≡◌, ◌∙◌, refl, sym, ap, ℕ, if◌then◌else◌, IsTrue, List, [], ◌∷◌, ◌++◌, map}
+use Rattle.std.specs.Prelude.{flat_map}
 use Rattle.std.specs.List.{AllByRecursion}
-use Rattle.std.proofs.lemmas.List.Elements.{All-from_recursion}
+use Rattle.std.proofs.lemmas.Bool.{cond_both}
 use Rattle.overlay_geometry.specs.Points.{Point, Pair}
 use Rattle.overlay_geometry.proofs.laws.lists.Lists.{Has, AllByRecursion-from_Has, Has-map}
 use Rattle.overlay_geometry.proofs.laws.lists.Elements.{Contains-from_Has}
@@ -10,13 +10,16 @@ use Rattle.overlay_base.specs.Segments.{WholeSegment, pairs, are_ordered}
 use Rattle.overlay_base.specs.Join.{join}
 use Rattle.overlay_base.proofs.laws.joins.Bags.{winding_at-gathered, windings_add, count_at}
 use Rattle.overlay_base.proofs.laws.joins.Maps.{join_from_windings}
+use Rattle.overlay_intersections.specs.PassMarks.{is_rounded}
 use Rattle.overlay_split.specs.Path.{path, pieces_along, pieces}
 use Rattle.overlay_split.specs.Pass.{cut_by}
 use Rattle.overlay_split.specs.Nearness.{IsNear, whole_point, point_along, MarksLieNear}
 use Rattle.overlay_split.proofs.laws.paths.Cuts.{gathered-cut, gathered-flat_map}
-use Rattle.overlay_snapping.specs.Chains.{AreSnapCuts, IsChain, AreChains, chain_pieces}
+use Rattle.overlay_snapping.specs.Chains.{IsCutAt, AreSnapCuts, IsChain, AreChains, chain_pieces}
 use Rattle.overlay_snapping.specs.Laws.{CutsSnap}
 use Rattle.overlay_snapping.proofs.laws.pixels.Distances.{IsWithin-from_pixel}
+use Rattle.overlay_snapping.proofs.laws.chains.ExactCuts.{exact_cut_near}
+use Rattle.overlay_snapping.proofs.laws.chains.MarkLists.{each_cut}
 use Rattle.overlay_snapping.proofs.laws.chains.MarkPixels.{ordered}
 use Rattle.overlay_snapping.proofs.laws.chains.Paths.{path_is_chain, meets_at_cut}
 
@@ -47,17 +50,16 @@ in_pairs segments s i = Has-map (λ (u : WholeSegment). u.pair) segments s i
 
 -- ---- the law
 
-pub cuts_lie_near : (segments : List WholeSegment) (on : Pair → List Point) → IsTrue (are_ordered segments) → AreSnapCuts segments on → MarksLieNear 1 on segments
-cuts_lie_near segments on o cuts =
-    All-from_recursion (λ s. All (λ m. IsNear 1 (whole_point m) s) (on s)) (pairs segments)
-    (AllByRecursion-from_Has (λ s. All (λ m. IsNear 1 (whole_point m) s) (on s)) (pairs segments) (λ s i.
-    All-from_recursion (λ m. IsNear 1 (whole_point m) s) (on s) (AllByRecursion-from_Has (λ m. IsNear 1 (whole_point m) s) (on s) (λ m j. near s m i j))))
-  where
-    near : (s : Pair) (m : Point) → Has (pairs segments) s → Has (on s) m → IsNear 1 (whole_point m) s
-    near s m i j =
-        let cut = ((cuts s (Contains-from_Has (pairs segments) s i)).complete m).0 (Contains-from_Has (on s) m j) in
-        let met = meets_at_cut (pairs segments) s m (ordered segments o s i) cut.0 in
-        (met.0, IsWithin-from_pixel (point_along s met.0) m met.1)
+-- a point at which a segment is cut lies within a half of it, and on it where every crossing is a whole point
+pub cut_lies_near : (segments : List WholeSegment) → IsTrue (are_ordered segments) → (s : Pair) (c : Point) → Has (pairs segments) s → IsCutAt (pairs segments) s c → IsNear (if is_rounded segments then 1 else 0) (whole_point c) s
+cut_lies_near segments o s c i cut =
+    let met = meets_at_cut (pairs segments) s c (ordered segments o s i) cut in
+    cond_both (is_rounded segments) 1 0 (λ (n : ℕ). IsNear n (whole_point c) s)
+    (λ _. (met.0, IsWithin-from_pixel (point_along s met.0) c met.1))
+    (λ exact. exact_cut_near segments o exact s c i cut)
+
+pub cuts_lie_near : (segments : List WholeSegment) (on : Pair → List Point) → IsTrue (are_ordered segments) → AreSnapCuts segments on → MarksLieNear (if is_rounded segments then 1 else 0) on segments
+cuts_lie_near segments on o cuts = each_cut (λ s m. IsNear (if is_rounded segments then 1 else 0) (whole_point m) s) segments on cuts (λ s m i cut free. cut_lies_near segments o s m i cut)
 
 pub cuts_snap : CutsSnap
 cuts_snap segments on o decided cuts = (

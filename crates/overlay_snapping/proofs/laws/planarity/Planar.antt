@@ -21,12 +21,13 @@ use Rattle.overlay_intersections.proofs.laws.marks.Marks.{lies_along}
 use Rattle.overlay_split.specs.Path.{piece, pieces_along}
 use Rattle.overlay_split.proofs.laws.paths.Cuts.{AllByRecursion-join}
 use Rattle.overlay_split.proofs.laws.planar.PlanarPasses.{is_planar-from}
-use Rattle.overlay_snapping.specs.Chains.{IsChainPoint, IsCutAt, moving, staying, along_cmp, comes_before, IsPiece, pair_between, IsChain, AreChains, chain_pieces}
+use Rattle.overlay_snapping.specs.Chains.{IsChainPoint, IsCutAt, moving, staying, along_cmp, comes_before, IsPiece, pair_between, IsChain, AreChains, chain_pieces, IsSnapped}
 use Rattle.overlay_snapping.specs.Laws.{PiecesAreApart, SnappedIsPlanar, SnappedLiesNear}
-use Rattle.overlay_snapping.proofs.laws.pixels.Distances.{pieces_lie_near}
 use Rattle.overlay_snapping.proofs.laws.chains.MarkPixels.{ordered}
-use Rattle.overlay_snapping.proofs.laws.chains.Paths.{meets_at_cut}
+use Rattle.overlay_snapping.proofs.laws.chains.Snaps.{cut_lies_near}
+use Rattle.overlay_intersections.specs.PassMarks.{is_rounded}
 use Rattle.overlay_split.specs.Nearness.{LiesNear, LieNear}
+use Rattle.overlay_split.proofs.laws.nearness.Distances.{LiesNear-from_ends}
 use Rattle.std.proofs.lemmas.List.Elements.{All-from_recursion}
 use Rattle.overlay_snapping.proofs.laws.chains.Orders.{ends_differ, comes_before-trans, all_after}
 use Rattle.overlay_snapping.proofs.laws.planarity.Steps.{Cross, cross_swapped, cross_exchanged}
@@ -131,13 +132,13 @@ pieces_are_apart segments o s t c c' d d' in_s in_t of_s of_t =
 -- ---- the result
 
 -- a pair that is a piece of some chain
-record IsOfChains (segments : List Pair) (p : Pair) : Type 0 where
-  segment : Pair
-  first : Point
-  last : Point
-  within : Has segments segment
-  is_piece : IsPiece segments segment first last
-  is_between : p ≡ pair_between first last
+pub record IsOfChains (segments : List Pair) (p : Pair) : Type 0 where
+  pub segment : Pair
+  pub first : Point
+  pub last : Point
+  pub within : Has segments segment
+  pub is_piece : IsPiece segments segment first last
+  pub is_between : p ≡ pair_between first last
 
 piece_pair : (count : Winding) (p q : Point) → (piece count p q).pair ≡ pair_between p q
 unfolding piece
@@ -211,6 +212,28 @@ pieces_of_chains all (s ∷ segments) (chain ∷ chains) f h =
     AllByRecursion-append (λ u. IsOfChains all u.pair) (pieces_along s.count chain) (chain_pieces segments chains)
     (pieces_of_chain all s.pair s.count chain (f s.pair (inl refl)) h.0) (pieces_of_chains all segments chains (λ t i. f t (inr i)) h.1)
 
+-- a pair of the result is a piece of a chain
+pub snapped_of_chains : (segments result : List WholeSegment) → IsSnapped segments result → (p : Pair) → Has (pairs result) p → IsOfChains (pairs segments) p
+snapped_of_chains segments result (chains, are, is) p i =
+    let pieces = pieces_of_chains (pairs segments) segments chains (λ s i. i) are in
+    let joined = AllByRecursion-join (IsOfChains (pairs segments)) (chain_pieces segments chains) pieces in
+    AllByRecursion-at (IsOfChains (pairs segments)) (pairs (join (chain_pieces segments chains))) p (AllByRecursion-map (IsOfChains (pairs segments)) (λ (u : WholeSegment). u.pair) (join (chain_pieces segments chains)) joined) (subst (λ l. Has (pairs l) p) is i)
+
+-- its segment is cut at its ends
+pub cut_at_end : (segments : List Pair) (p : Pair) (h : IsOfChains segments p) (e : Point) → Has (p.a ∷ p.b ∷ []) e → IsCutAt segments h.segment e
+cut_at_end segments p h e i =
+    pair_by (λ r. Has (r.a ∷ r.b ∷ []) e → IsCutAt segments h.segment e) h.first h.last (λ _ j. forward j) (λ _ j. backward j) (subst (λ r. Has (r.a ∷ r.b ∷ []) e) h.is_between i)
+  where
+    forward : Has (h.first ∷ h.last ∷ []) e → IsCutAt segments h.segment e
+    forward (inl k) = subst (λ c. IsCutAt segments h.segment c) k h.is_piece.first
+    forward (inr (inl k)) = subst (λ c. IsCutAt segments h.segment c) k h.is_piece.last
+    forward (inr (inr n)) = absurd n
+
+    backward : Has (h.last ∷ h.first ∷ []) e → IsCutAt segments h.segment e
+    backward (inl k) = subst (λ c. IsCutAt segments h.segment c) k h.is_piece.last
+    backward (inr (inl k)) = subst (λ c. IsCutAt segments h.segment c) k h.is_piece.first
+    backward (inr (inr n)) = absurd n
+
 of_chains_ordered : (segments : List Pair) (p : Pair) → IsOfChains segments p → IsTrue (is_ordered p)
 of_chains_ordered segments p h =
     subst (λ (r : Pair). IsTrue (is_ordered r)) (sym h.is_between) (pair_ordered h.first h.last (ends_differ h.segment h.first h.last h.is_piece.in_order))
@@ -233,30 +256,31 @@ snapped_is_planar segments result o (chains, are, is) = (
     pieces : AllByRecursion (λ u. IsOfChains (pairs segments) u.pair) (chain_pieces segments chains)
     pieces = pieces_of_chains (pairs segments) segments chains (λ s i. i) are
 
-    joined : AllByRecursion (λ u. IsOfChains (pairs segments) u.pair) (join (chain_pieces segments chains))
-    joined = AllByRecursion-join (IsOfChains (pairs segments)) (chain_pieces segments chains) pieces
-
     of_join : (p : Pair) → Has (pairs (join (chain_pieces segments chains))) p → IsOfChains (pairs segments) p
-    of_join p i = AllByRecursion-at (IsOfChains (pairs segments)) (pairs (join (chain_pieces segments chains))) p (AllByRecursion-map (IsOfChains (pairs segments)) (λ (u : WholeSegment). u.pair) (join (chain_pieces segments chains)) joined) i
+    of_join p i = snapped_of_chains segments (join (chain_pieces segments chains)) (chains, are, refl) p i
 
 -- ---- nearness
 
-of_chains_near : (segments : List WholeSegment) → IsTrue (are_ordered segments) → (p : Pair) → IsOfChains (pairs segments) p → (s : Pair) × Contains (pairs segments) s × LiesNear 1 p s
+-- how far crossings of a list are moved at most
+abbrev reach_in : List WholeSegment → ℕ
+reach_in segments = if is_rounded segments then 1 else 0
+
+of_chains_near : (segments : List WholeSegment) → IsTrue (are_ordered segments) → (p : Pair) → IsOfChains (pairs segments) p → (s : Pair) × Contains (pairs segments) s × LiesNear (reach_in segments) p s
 of_chains_near segments o p h =
-    let s_ordered = ordered segments o h.segment h.within in
-    let first = meets_at_cut (pairs segments) h.segment h.first s_ordered h.is_piece.first in
-    let last = meets_at_cut (pairs segments) h.segment h.last s_ordered h.is_piece.last in (
+    let first = cut_lies_near segments o h.segment h.first h.within h.is_piece.first in
+    let last = cut_lies_near segments o h.segment h.last h.within h.is_piece.last in (
       h.segment,
       Contains-from_Has (pairs segments) h.segment h.within,
-      subst (λ (r : Pair). LiesNear 1 r h.segment) (sym h.is_between)
-          (pair_by (λ r. LiesNear 1 r h.segment) h.first h.last (λ _. pieces_lie_near h.segment h.first h.last first last) (λ _. pieces_lie_near h.segment h.last h.first last first)),
+      subst (λ (r : Pair). LiesNear (reach_in segments) r h.segment) (sym h.is_between)
+          (pair_by (λ r. LiesNear (reach_in segments) r h.segment) h.first h.last (λ _. LiesNear-from_ends (reach_in segments) (record { a = h.first; b = h.last }) h.segment first last)
+          (λ _. LiesNear-from_ends (reach_in segments) (record { a = h.last; b = h.first }) h.segment last first)),
     )
 
 pub snapped_lies_near : SnappedLiesNear
 snapped_lies_near segments result o (chains, are, is) =
-    subst (λ list. LieNear 1 (pairs segments) (pairs list)) (sym is)
-    (All-from_recursion (λ r. (s : Pair) × Contains (pairs segments) s × LiesNear 1 r s) (pairs (join (chain_pieces segments chains)))
-    (AllByRecursion-map (λ r. (s : Pair) × Contains (pairs segments) s × LiesNear 1 r s) (λ (u : WholeSegment). u.pair) (join (chain_pieces segments chains))
-    (AllByRecursion-join (λ r. (s : Pair) × Contains (pairs segments) s × LiesNear 1 r s) (chain_pieces segments chains)
-    (AllByRecursion-weaker (λ u. IsOfChains (pairs segments) u.pair) (λ u. (s : Pair) × Contains (pairs segments) s × LiesNear 1 u.pair s) (λ u h. of_chains_near segments o u.pair h) (chain_pieces segments chains)
+    subst (λ list. LieNear (reach_in segments) (pairs segments) (pairs list)) (sym is)
+    (All-from_recursion (λ r. (s : Pair) × Contains (pairs segments) s × LiesNear (reach_in segments) r s) (pairs (join (chain_pieces segments chains)))
+    (AllByRecursion-map (λ r. (s : Pair) × Contains (pairs segments) s × LiesNear (reach_in segments) r s) (λ (u : WholeSegment). u.pair) (join (chain_pieces segments chains))
+    (AllByRecursion-join (λ r. (s : Pair) × Contains (pairs segments) s × LiesNear (reach_in segments) r s) (chain_pieces segments chains)
+    (AllByRecursion-weaker (λ u. IsOfChains (pairs segments) u.pair) (λ u. (s : Pair) × Contains (pairs segments) s × LiesNear (reach_in segments) u.pair s) (λ u h. of_chains_near segments o u.pair h) (chain_pieces segments chains)
     (pieces_of_chains (pairs segments) segments chains (λ s i. i) are)))))

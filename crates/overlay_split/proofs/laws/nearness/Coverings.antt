@@ -215,7 +215,7 @@ pieces_stay_near placing segments s ordered i f =
 -- ---- a run
 
 -- a pair of a bag is one of its join, or its counts cancel
-joined_or_cancels : (bag : List WholeSegment) (r : Pair) → Contains (pairs bag) r → Contains (pairs (join bag)) r ⊎ Cancels bag r
+pub joined_or_cancels : (bag : List WholeSegment) (r : Pair) → Contains (pairs bag) r → Contains (pairs (join bag)) r ⊎ Cancels bag r
 joined_or_cancels bag r i =
     elim (cases_Bool (is_not_empty (winding_at bag r))) [
       | inl kept ↦

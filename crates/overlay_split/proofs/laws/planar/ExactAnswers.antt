@@ -69,7 +69,7 @@ module _ (segments : List WholeSegment) (o : IsTrue (are_ordered segments)) (h :
       (cases_Bool (are_collinear s t))
 
   -- so a special point strictly inside s marks s
-  special_marks : (s : Pair) (e : Point) → In segments s → IsTrue (is_strictly_inside s e) → Has (special_points (pairs segments)) e → IsMarked (In segments) s e
+  pub special_marks : (s : Pair) (e : Point) → In segments s → IsTrue (is_strictly_inside s e) → Has (special_points (pairs segments)) e → IsMarked (In segments) s e
   unfolding special_points
   special_marks s e i inside m =
       ⊎_elim

@@ -126,7 +126,7 @@ piece_on_input given o h r (s, i, u) =
     let at_b = list_any-from_Has (λ q. point_eq r.b q) points r.b (special_stop given o h s r.b i u.at_b) (point_eq_same r.b) in
     and_from _ _ (and_from _ _ on at_a) at_b
 
-pass_on_input : (placing : Placing) (given : List WholeSegment) → IsTrue (are_ordered given) → IsFalse (is_rounded given) → IsTrue (lies_on_input given (pass placing (join given)))
+pub pass_on_input : (placing : Placing) (given : List WholeSegment) → IsTrue (are_ordered given) → IsFalse (is_rounded given) → IsTrue (lies_on_input given (pass placing (join given)))
 unfolding lies_on_input
 pass_on_input placing given o h =
     let each = AllByRecursion-map (IsPieceOf (join given)) (λ (u : WholeSegment). u.pair) (pass placing (join given)) (pass_undivided placing (join given) (are_ordered-join given o) (join_not_rounded given h)) in

@@ -1,4 +1,4 @@
-use Rattle.std.proofs.Common.{sym, subst}
+use Rattle.std.proofs.Common.{sym, subst, ◌∙◌}
 use Rattle.overlay_base.specs.SegmentOf.{segments_of}
 use Rattle.overlay_base.proofs.laws.joins.Maps.{are_ordered-map, join-map}
 use Rattle.overlay_grid.specs.GridFor.{IsGridFor}
@@ -6,6 +6,8 @@ use Rattle.overlay_grid.specs.GroupsOf.{grid_in}
 use Rattle.overlay_split.specs.Run.{after_passes}
 use Rattle.overlay_split.proofs.laws.passes.GridRuns.{run_lies_inside}
 use Rattle.overlay_split.proofs.laws.passes.Ready.{IsPairInRange-each, IsSortedByKey-is_map}
+use Rattle.overlay_intersections.specs.MarkOf.{marks_of}
+use Rattle.overlay_snapping.proofs.laws.cuts.ExactMarks.{exact_cuts}
 use Rattle.overlay_snapping.proofs.snap.solver.SnapSolver.find_cuts.Goals as goal
 
 pub new-requires : goal.new-requires
@@ -28,3 +30,12 @@ find_marks-requires-clause-inside g c =
 
 pub find_cuts-requires-clause-in_range : goal.find_cuts-requires-clause-in_range
 find_cuts-requires-clause-in_range g c = IsPairInRange-each c.args.segments.now g.I.OverlayInt.MIN_COORD g.I.OverlayInt.MAX_COORD c.requires.splittable
+
+-- where every crossing is a whole point the marks are the cuts
+pub returns-in_ok-extend_from_slice-clause-cuts : goal.returns-in_ok-extend_from_slice-clause-cuts
+returns-in_ok-extend_from_slice-clause-cuts g c =
+    let segments = segments_of c.args.segments.now in
+    let marks = marks_of g.I.OverlayInt.whole c.find_marks.new.marks.items in
+    let found = c.in_ok-is_rounded.ensures in
+    rw (c.in_ok-extend_from_slice.ensures.items, c.clear.ensures.items, c.as_slice-else-is_rounded.ensures.value)
+    (exact_cuts segments marks (are_ordered-map segments c.requires.map) (sym found.rounded ∙ c.if-is_rounded.false) found.marks)

@@ -1,9 +1,9 @@
-use Rattle.std.proofs.Common.{◌≡◌, ◌∙◌, ◌==◌, ⊎_elim, inl, inr, arith, zero, suc, refl, sym, ap, ap₂, subst, ℕ, [], length, Bool, true, false, List, ◌||◌, not}
+use Rattle.std.proofs.Common.{◌≡◌, ◌∙◌, ◌==◌, ◌⊎◌, ⊎_elim, inl, inr, arith, zero, suc, ◌+◌, ◌*◌, ◌≤◌, refl, sym, ap, ap₂, subst, ℕ, [], length, Bool, true, false, if◌then◌else◌, List, ◌||◌, not}
 use Rattle.std.specs.Prelude.{◌↔◌, ◌∷◌, IsTrue, IsFalse, All}
 use Rattle.std.proofs.lemmas.List.{length-map}
 use Rattle.std.specs.List.{list_all}
 use Rattle.overlay_geometry.specs.Points.{Point, Pair}
-use Rattle.overlay_base.specs.EdgeData.{data_join, without_data}
+use Rattle.overlay_base.specs.EdgeData.{DataSegment, Hooks, data_join, without_data, IsRefusedJoin}
 use Rattle.overlay_base.specs.HooksOf.{hooks_of}
 use Rattle.overlay_base.specs.Join.{join, join_leaves_range, has_equal_pairs}
 use Rattle.overlay_base.specs.Places.{winding_below}
@@ -19,24 +19,27 @@ use Rattle.overlay_base.proofs.laws.joins.Rests.{is_splittable-valid}
 use Rattle.overlay_base.proofs.laws.joins.Stores.{made_further}
 use Rattle.overlay_base.proofs.laws.joins.Views.{segments_ordered, segments_of-bare}
 use Rattle.overlay_intersections.specs.MarkOf.{Mark, mark_of, marks_of}
+use Rattle.overlay_intersections.specs.PassMarks.{is_rounded}
 use Rattle.overlay_base.proofs.laws.joins.Repeats.{has_equal_pairs-map}
 use Rattle.overlay_split.proofs.laws.passes.DataPasses.{unmarked_data_cut_is_unchanged}
-use Rattle.overlay_split.specs.DataPass.{data_pass_by}
+use Rattle.overlay_split.specs.DataPass.{data_cut_by, data_pass_by}
 use Rattle.std.proofs.lemmas.Bool.{both_ways, and_parts, not-true}
 use Rattle.overlay_split.specs.CutOf.{AreMarksBy}
 use Rattle.overlay_split.specs.Pass.{cut_by, pass_by}
-use Rattle.overlay_split.specs.Nearness.{LieNear, MarksLieNear}
+use Rattle.overlay_split.specs.Nearness.{LieNear, MarksLieNear, IsNearSome, point_along, LieInGivenBox}
 use Rattle.overlay_split.specs.Laws.{NameNear}
 use Rattle.overlay_split.proofs.laws.passes.DataInvariants.{data_cut_keeps_what_hooks_keep}
 use Rattle.overlay_split.proofs.laws.nearness.NamedData.{data_cut_names_what_is_near}
 use Rattle.overlay_split.proofs.laws.passes.Splittable.{is_splittable-join}
 use Rattle.overlay_split.proofs.laws.passes.StoppedRuns.{refused_by}
 use Rattle.overlay_snapping.specs.Chains.{AreSnapCuts, IsSnapped}
+use Rattle.overlay_snapping.specs.Counts.{chain_points}
 use Rattle.overlay_snapping.specs.CutsOf.{AreCuts}
-use Rattle.overlay_snapping.specs.SnapOf.{SnapChanges, SnapLeavesRange, in_join, in_pieces}
+use Rattle.overlay_snapping.specs.SnapOf.{IsRefusedPieces, IsStoppedSnap, stops_join, stops_pieces, reach_of_snap, IsNearCancelledInSnap, SnapChanges, SnapLeavesRange, in_join, in_pieces}
 use Rattle.overlay_snapping.proofs.laws.chains.MarkLists.{marks_for, cuts_for, marks_by_cuts, cut_marks, no_marks, first_is_cut, cut_is_marked}
-use Rattle.overlay_snapping.proofs.laws.chains.SnapRuns.{is_snapped, keeps_balance, lies_near, keeps_winding, snapped_arranged, join_keeps, join_names, join_is_beside, join_of_arranged, none_cut, none_between}
-use Rattle.overlay_snapping.proofs.laws.chains.Snaps.{cuts_lie_near}
+use Rattle.overlay_snapping.proofs.laws.chains.ExactSnaps.{exact_counts, exact_reach}
+use Rattle.overlay_snapping.proofs.laws.counting.SnapCounts.{snapped_has_few}
+use Rattle.overlay_snapping.proofs.laws.chains.SnapRuns.{is_snapped, keeps_balance, given_lies_near, in_given_box, near_cuts, lies_near, keeps_winding, snapped_arranged, join_keeps, join_names, join_is_beside, join_of_arranged, none_cut, none_between}
 use Rattle.overlay_snapping.proofs.snap.solver.SnapSolver.split_segments_with_store.Goals as goal
 
 pub join_with_store-requires : goal.join_with_store-requires
@@ -80,21 +83,52 @@ named joined list marks e cuts on h = subst (λ l. AreMarksBy on l marks) (sym e
 
 pub pass_at-requires-clause-marks : goal.pass_at-requires-clause-marks
 pass_at-requires-clause-marks g c =
-    let cuts = found (join (segments_of c.args.list.now.items)) _ _ _ _ c.deref.ensures.value c.in_ok-repeated.ensures.geometry c.as_slice.ensures.value c.in_default.ensures.cuts in
+    let cuts = found (join (segments_of c.args.list.now.items)) _ _ _ _ c.deref.ensures.value c.in_ok-repeated.ensures.geometry c.as_slice.ensures.value c.in-Ok.ensures.cuts in
     rw (c.in_ok-repeated.ensures.geometry) (cut_marks (join (segments_of c.args.list.now.items)) _ cuts)
 
 -- ---- refused
+
+-- the pieces that were joined are those of the join
+refused_pieces : {D S : Type 0} (hooks : Hooks D S) (on : Pair → List Point) (items : List (DataSegment D)) (store : S) (listed : List (DataSegment D)) (stored left : S) → listed ≡ (data_join hooks items store).0 → stored ≡ (data_join hooks items store).1 →
+    (let pieces : List (DataSegment D) × S = data_cut_by hooks on listed stored in IsRefusedJoin hooks pieces.0 pieces.1 left) → IsRefusedPieces hooks on items store left
+refused_pieces {D} {S} hooks on items store listed stored left e f h =
+    subst (λ s. let pieces : List (DataSegment D) × S = data_cut_by hooks on (data_join hooks items store).0 s in IsRefusedJoin hooks pieces.0 pieces.1 left) f
+    (subst (λ l. let pieces : List (DataSegment D) × S = data_cut_by hooks on l stored in IsRefusedJoin hooks pieces.0 pieces.1 left) e h)
 
 pub returns-in_err-pass_at-clause-refused : goal.returns-in_err-pass_at-clause-refused
 returns-in_err-pass_at-clause-refused g c =
     let given = segments_of c.args.list.now.items in
     let joined = join given in
     let marks = marks_of g.I.OverlayInt.whole c.as_slice.result.now in
-    let cuts : AreCuts joined marks = found joined _ _ _ _ c.deref.ensures.value c.in_ok-repeated.ensures.geometry c.as_slice.ensures.value c.in_default.ensures.cuts in
+    let cuts : AreCuts joined marks = found joined _ _ _ _ c.deref.ensures.value c.in_ok-repeated.ensures.geometry c.as_slice.ensures.value c.in-Ok.ensures.cuts in
     let leaves : c.in_err-pass_at.field-0.0 ≡ CountOutOfRange → SnapLeavesRange given =
     λ e. in_pieces (on_of joined marks) (cuts_of joined marks cuts) (subst (λ l. IsTrue (join_leaves_range (cut_by (on_of joined marks) l))) c.in_ok-repeated.ensures.geometry
     (c.in_err-pass_at.ensures.refused e (on_of joined marks) (named joined _ marks c.in_ok-repeated.ensures.geometry cuts (on_of joined marks) (cuts_of joined marks cuts)))) in
     refused_by c.from_residual-in_err-pass_at.result c.in_err-pass_at.field-0.0 _ c.from_residual-in_err-pass_at.ensures.1 leaves
+
+pub returns-in_err-repeated-clause-stopped : goal.returns-in_err-repeated-clause-stopped
+returns-in_err-repeated-clause-stopped g c =
+    let hooks = hooks_of g.C.WindingCount.counted g.D.OverlayEdgeData in
+    let stopped : c.in_err-repeated.field-0.0 ≡ CountOutOfRange → IsStoppedSnap hooks (data_segments_of c.args.list.now.items) c.args.store.now c.join_with_store.new.store =
+    λ e. stops_join (c.in_err-repeated.ensures.stopped e) in
+    refused_by c.from_residual.result c.in_err-repeated.field-0.0 _ c.from_residual.ensures.1 stopped
+
+pub returns-in_err-pass_at-clause-stopped : goal.returns-in_err-pass_at-clause-stopped
+returns-in_err-pass_at-clause-stopped g c =
+    let given = segments_of c.args.list.now.items in
+    let items = data_segments_of c.args.list.now.items in
+    let joined = join given in
+    let hooks = hooks_of g.C.WindingCount.counted g.D.OverlayEdgeData in
+    let left = c.pass_at.new.store in
+    let bare : given ≡ without_data items = segments_of-bare c.args.list.now.items in
+    let marks = marks_of g.I.OverlayInt.whole c.as_slice.result.now in
+    let cuts : AreCuts joined marks = found joined _ _ _ _ c.deref.ensures.value c.in_ok-repeated.ensures.geometry c.as_slice.ensures.value c.in-Ok.ensures.cuts in
+    let on = on_of joined marks in
+    let fits = subst (λ l. IsFalse (join_leaves_range l)) bare c.in_ok-repeated.ensures.fits in
+    let stopped : c.in_err-pass_at.field-0.0 ≡ CountOutOfRange → IsStoppedSnap hooks items c.args.store.now left =
+    λ e. stops_pieces on (subst (λ l. AreSnapCuts (join l) on) bare (cuts_of joined marks cuts)) fits
+    (refused_pieces hooks on _ _ _ _ left c.in_ok-repeated.ensures.edge_data c.in_ok-repeated.ensures.store (c.in_err-pass_at.ensures.stopped e on (named joined _ marks c.in_ok-repeated.ensures.geometry cuts on (cuts_of joined marks cuts)))) in
+    refused_by c.from_residual-in_err-pass_at.result c.in_err-pass_at.field-0.0 _ c.from_residual-in_err-pass_at.ensures.1 stopped
 
 pub returns-in_err-pass_at-clause-store_made : goal.returns-in_err-pass_at-clause-store_made
 returns-in_err-pass_at-clause-store_made g c = made_further (hooks_of g.C.WindingCount.counted g.D.OverlayEdgeData) c.in_ok-repeated.ensures.store_made c.in_err-pass_at.ensures.store_made
@@ -110,7 +144,7 @@ returns-clause-snapped g c =
     let joined = join given in
     let marks = marks_of g.I.OverlayInt.whole c.as_slice.result.now in
     let on = on_of joined marks in
-    let cuts : AreCuts joined marks = found joined _ _ _ _ c.deref.ensures.value c.in_ok-repeated.ensures.geometry c.as_slice.ensures.value c.in_default.ensures.cuts in
+    let cuts : AreCuts joined marks = found joined _ _ _ _ c.deref.ensures.value c.in_ok-repeated.ensures.geometry c.as_slice.ensures.value c.in-Ok.ensures.cuts in
     let named_on = named joined _ marks c.in_ok-repeated.ensures.geometry cuts on (cuts_of joined marks cuts) in
     let is : segments_of c.pass_at.new.list.items ≡ pass_by on joined = c.in_ok-pass_at.ensures.geometry on named_on ∙ ap (λ l. pass_by on l) c.in_ok-repeated.ensures.geometry in
     subst (λ l. IsSnapped joined l) (sym is) (is_snapped given (segments_ordered c.args.list.now.items) on cuts.decided (cuts_of joined marks cuts))
@@ -121,7 +155,7 @@ returns-clause-balance g c =
     let joined = join given in
     let marks = marks_of g.I.OverlayInt.whole c.as_slice.result.now in
     let on = on_of joined marks in
-    let cuts : AreCuts joined marks = found joined _ _ _ _ c.deref.ensures.value c.in_ok-repeated.ensures.geometry c.as_slice.ensures.value c.in_default.ensures.cuts in
+    let cuts : AreCuts joined marks = found joined _ _ _ _ c.deref.ensures.value c.in_ok-repeated.ensures.geometry c.as_slice.ensures.value c.in-Ok.ensures.cuts in
     let named_on = named joined _ marks c.in_ok-repeated.ensures.geometry cuts on (cuts_of joined marks cuts) in
     let is : segments_of c.pass_at.new.list.items ≡ pass_by on joined = c.in_ok-pass_at.ensures.geometry on named_on ∙ ap (λ l. pass_by on l) c.in_ok-repeated.ensures.geometry in
     λ p. ap (λ l. balance l p) is ∙ keeps_balance given (segments_ordered c.args.list.now.items) on cuts.decided (cuts_of joined marks cuts) p
@@ -132,10 +166,22 @@ returns-clause-near g c =
     let joined = join given in
     let marks = marks_of g.I.OverlayInt.whole c.as_slice.result.now in
     let on = on_of joined marks in
-    let cuts : AreCuts joined marks = found joined _ _ _ _ c.deref.ensures.value c.in_ok-repeated.ensures.geometry c.as_slice.ensures.value c.in_default.ensures.cuts in
+    let cuts : AreCuts joined marks = found joined _ _ _ _ c.deref.ensures.value c.in_ok-repeated.ensures.geometry c.as_slice.ensures.value c.in-Ok.ensures.cuts in
     let named_on = named joined _ marks c.in_ok-repeated.ensures.geometry cuts on (cuts_of joined marks cuts) in
     let is : segments_of c.pass_at.new.list.items ≡ pass_by on joined = c.in_ok-pass_at.ensures.geometry on named_on ∙ ap (λ l. pass_by on l) c.in_ok-repeated.ensures.geometry in
-    subst (λ l. LieNear 1 (pairs given) (pairs l)) (sym is) (lies_near given (segments_ordered c.args.list.now.items) on cuts.decided (cuts_of joined marks cuts))
+    subst (λ l. LieNear (reach_of_snap given) (pairs given) (pairs l)) (sym is) (lies_near given (segments_ordered c.args.list.now.items) on cuts.decided (cuts_of joined marks cuts))
+
+pub returns-clause-given_near : goal.returns-clause-given_near
+returns-clause-given_near g c =
+    let given = segments_of c.args.list.now.items in
+    let joined = join given in
+    let marks = marks_of g.I.OverlayInt.whole c.as_slice.result.now in
+    let on = on_of joined marks in
+    let cuts : AreCuts joined marks = found joined _ _ _ _ c.deref.ensures.value c.in_ok-repeated.ensures.geometry c.as_slice.ensures.value c.in-Ok.ensures.cuts in
+    let named_on = named joined _ marks c.in_ok-repeated.ensures.geometry cuts on (cuts_of joined marks cuts) in
+    let is : segments_of c.pass_at.new.list.items ≡ pass_by on joined = c.in_ok-pass_at.ensures.geometry on named_on ∙ ap (λ l. pass_by on l) c.in_ok-repeated.ensures.geometry in
+    λ s i f. subst (λ l. IsNearSome (reach_of_snap given) (point_along s f) (pairs l) ⊎ IsNearCancelledInSnap given (point_along s f)) (sym is)
+    (given_lies_near given (segments_ordered c.args.list.now.items) on cuts.decided (cuts_of joined marks cuts) s i f)
 
 pub returns-clause-winding : goal.returns-clause-winding
 returns-clause-winding g c =
@@ -143,10 +189,16 @@ returns-clause-winding g c =
     let joined = join given in
     let marks = marks_of g.I.OverlayInt.whole c.as_slice.result.now in
     let on = on_of joined marks in
-    let cuts : AreCuts joined marks = found joined _ _ _ _ c.deref.ensures.value c.in_ok-repeated.ensures.geometry c.as_slice.ensures.value c.in_default.ensures.cuts in
+    let cuts : AreCuts joined marks = found joined _ _ _ _ c.deref.ensures.value c.in_ok-repeated.ensures.geometry c.as_slice.ensures.value c.in-Ok.ensures.cuts in
     let named_on = named joined _ marks c.in_ok-repeated.ensures.geometry cuts on (cuts_of joined marks cuts) in
     let is : segments_of c.pass_at.new.list.items ≡ pass_by on joined = c.in_ok-pass_at.ensures.geometry on named_on ∙ ap (λ l. pass_by on l) c.in_ok-repeated.ensures.geometry in
     λ p far. ap (λ l. winding_below l p) is ∙ keeps_winding given (segments_ordered c.args.list.now.items) on cuts.decided (cuts_of joined marks cuts) p far
+
+pub returns-clause-reach : goal.returns-clause-reach
+unfolding reach_of_snap
+returns-clause-reach g c =
+    c.most_moved-self.ensures
+    ∙ ap (λ (b : Bool). if b then 1 else 0) (c.in-Ok.ensures.rounded ∙ ap (λ l. is_rounded (segments_of l)) c.deref.ensures.value ∙ ap is_rounded c.in_ok-repeated.ensures.geometry)
 
 pub returns-clause-arranged : goal.returns-clause-arranged
 returns-clause-arranged g c =
@@ -154,7 +206,7 @@ returns-clause-arranged g c =
     let joined = join given in
     let marks = marks_of g.I.OverlayInt.whole c.as_slice.result.now in
     let on = on_of joined marks in
-    let cuts : AreCuts joined marks = found joined _ _ _ _ c.deref.ensures.value c.in_ok-repeated.ensures.geometry c.as_slice.ensures.value c.in_default.ensures.cuts in
+    let cuts : AreCuts joined marks = found joined _ _ _ _ c.deref.ensures.value c.in_ok-repeated.ensures.geometry c.as_slice.ensures.value c.in-Ok.ensures.cuts in
     let named_on = named joined _ marks c.in_ok-repeated.ensures.geometry cuts on (cuts_of joined marks cuts) in
     let is : segments_of c.pass_at.new.list.items ≡ pass_by on joined = c.in_ok-pass_at.ensures.geometry on named_on ∙ ap (λ l. pass_by on l) c.in_ok-repeated.ensures.geometry in
     let least = g.I.OverlayInt.whole g.I.OverlayInt.MIN_COORD in
@@ -172,9 +224,33 @@ returns-clause-fits g c =
     let given = segments_of c.args.list.now.items in
     let joined = join given in
     let marks = marks_of g.I.OverlayInt.whole c.as_slice.result.now in
-    let cuts : AreCuts joined marks = found joined _ _ _ _ c.deref.ensures.value c.in_ok-repeated.ensures.geometry c.as_slice.ensures.value c.in_default.ensures.cuts in
+    let cuts : AreCuts joined marks = found joined _ _ _ _ c.deref.ensures.value c.in_ok-repeated.ensures.geometry c.as_slice.ensures.value c.in-Ok.ensures.cuts in
     leaves_not given c.in_ok-repeated.ensures.fits (λ on h.
     subst (λ l. IsFalse (join_leaves_range (cut_by on l))) c.in_ok-repeated.ensures.geometry (c.in_ok-pass_at.ensures.fits on (named joined _ marks c.in_ok-repeated.ensures.geometry cuts on h)))
+
+pub returns-clause-few : goal.returns-clause-few
+returns-clause-few g c =
+    let given = segments_of c.args.list.now.items in
+    let list = c.pass_at.new.list.items in
+    subst (λ (n : ℕ). n ≤ 3 * length (chain_points (pairs (join given)))) (length-map list segment_of)
+    (snapped_has_few (join given) (segments_of list) (are_ordered-join given (segments_ordered c.args.list.now.items)) (returns-clause-snapped g c))
+
+pub returns-clause-in_box : goal.returns-clause-in_box
+returns-clause-in_box g c =
+    let given = segments_of c.args.list.now.items in
+    let joined = join given in
+    let marks = marks_of g.I.OverlayInt.whole c.as_slice.result.now in
+    let on = on_of joined marks in
+    let cuts : AreCuts joined marks = found joined _ _ _ _ c.deref.ensures.value c.in_ok-repeated.ensures.geometry c.as_slice.ensures.value c.in-Ok.ensures.cuts in
+    let named_on = named joined _ marks c.in_ok-repeated.ensures.geometry cuts on (cuts_of joined marks cuts) in
+    let is : segments_of c.pass_at.new.list.items ≡ pass_by on joined = c.in_ok-pass_at.ensures.geometry on named_on ∙ ap (λ l. pass_by on l) c.in_ok-repeated.ensures.geometry in
+    subst (λ l. LieInGivenBox given l) (sym is) (in_given_box given (segments_ordered c.args.list.now.items) on cuts.decided (cuts_of joined marks cuts))
+
+pub returns-clause-exact_input : goal.returns-clause-exact_input
+returns-clause-exact_input g c = λ exact. exact_counts (segments_of c.args.list.now.items) (segments_of c.pass_at.new.list.items) (segments_ordered c.args.list.now.items) exact (returns-clause-snapped g c)
+
+pub returns-clause-exact_reach : goal.returns-clause-exact_reach
+returns-clause-exact_reach g c = λ exact. returns-clause-reach g c ∙ exact_reach (segments_of c.args.list.now.items) exact
 
 -- ---- the data
 
@@ -184,7 +260,7 @@ returns-clause-edge_data g c =
     let joined = join given in
     let marks = marks_of g.I.OverlayInt.whole c.as_slice.result.now in
     let hooks = hooks_of g.C.WindingCount.counted g.D.OverlayEdgeData in
-    let cuts : AreCuts joined marks = found joined _ _ _ _ c.deref.ensures.value c.in_ok-repeated.ensures.geometry c.as_slice.ensures.value c.in_default.ensures.cuts in
+    let cuts : AreCuts joined marks = found joined _ _ _ _ c.deref.ensures.value c.in_ok-repeated.ensures.geometry c.as_slice.ensures.value c.in-Ok.ensures.cuts in
     λ on h. c.in_ok-pass_at.ensures.edge_data on (named joined _ marks c.in_ok-repeated.ensures.geometry cuts on h)
     ∙ ap₂ (λ l s. (data_pass_by hooks on l s).0) c.in_ok-repeated.ensures.edge_data c.in_ok-repeated.ensures.store
 
@@ -194,7 +270,7 @@ returns-clause-store g c =
     let joined = join given in
     let marks = marks_of g.I.OverlayInt.whole c.as_slice.result.now in
     let hooks = hooks_of g.C.WindingCount.counted g.D.OverlayEdgeData in
-    let cuts : AreCuts joined marks = found joined _ _ _ _ c.deref.ensures.value c.in_ok-repeated.ensures.geometry c.as_slice.ensures.value c.in_default.ensures.cuts in
+    let cuts : AreCuts joined marks = found joined _ _ _ _ c.deref.ensures.value c.in_ok-repeated.ensures.geometry c.as_slice.ensures.value c.in-Ok.ensures.cuts in
     λ on h. c.in_ok-pass_at.ensures.store on (named joined _ marks c.in_ok-repeated.ensures.geometry cuts on h)
     ∙ ap₂ (λ l s. (data_pass_by hooks on l s).1) c.in_ok-repeated.ensures.edge_data c.in_ok-repeated.ensures.store
 
@@ -204,12 +280,15 @@ returns-clause-kept_data g c = λ has keeps given_has.
     let joined = join given in
     let marks = marks_of g.I.OverlayInt.whole c.as_slice.result.now in
     let hooks = hooks_of g.C.WindingCount.counted g.D.OverlayEdgeData in
-    let cuts : AreCuts joined marks = found joined _ _ _ _ c.deref.ensures.value c.in_ok-repeated.ensures.geometry c.as_slice.ensures.value c.in_default.ensures.cuts in
+    let cuts : AreCuts joined marks = found joined _ _ _ _ c.deref.ensures.value c.in_ok-repeated.ensures.geometry c.as_slice.ensures.value c.in-Ok.ensures.cuts in
     let on = on_of joined marks in
     let items = data_segments_of c.args.list.now.items in
     let store = c.args.store.now in
     let e = c.in_ok-pass_at.ensures.edge_data on (named joined _ marks c.in_ok-repeated.ensures.geometry cuts on (cuts_of joined marks cuts)) ∙ ap₂ (λ l s. (data_pass_by hooks on l s).0) c.in_ok-repeated.ensures.edge_data c.in_ok-repeated.ensures.store in
     ap (list_all (λ s. has s.edge_data)) e ∙ data_cut_keeps_what_hooks_keep hooks has keeps on (data_join hooks items store).0 (data_join hooks items store).1 (join_keeps hooks items store has keeps given_has)
+
+none_more : (n : ℕ) → 0 + n ≡ n
+none_more n = omega arith
 
 pub returns-clause-named_data : goal.returns-clause-named_data
 returns-clause-named_data g c = λ names keeps near.
@@ -217,17 +296,18 @@ returns-clause-named_data g c = λ names keeps near.
     let joined = join given in
     let marks = marks_of g.I.OverlayInt.whole c.as_slice.result.now in
     let hooks = hooks_of g.C.WindingCount.counted g.D.OverlayEdgeData in
-    let cuts : AreCuts joined marks = found joined _ _ _ _ c.deref.ensures.value c.in_ok-repeated.ensures.geometry c.as_slice.ensures.value c.in_default.ensures.cuts in
+    let cuts : AreCuts joined marks = found joined _ _ _ _ c.deref.ensures.value c.in_ok-repeated.ensures.geometry c.as_slice.ensures.value c.in-Ok.ensures.cuts in
     let on = on_of joined marks in
     let items = data_segments_of c.args.list.now.items in
     let store = c.args.store.now in
     let bare : segments_of c.args.list.now.items ≡ without_data items = segments_of-bare c.args.list.now.items in
     let e = c.in_ok-pass_at.ensures.edge_data on (named joined _ marks c.in_ok-repeated.ensures.geometry cuts on (cuts_of joined marks cuts)) ∙ ap₂ (λ l s. (data_pass_by hooks on l s).0) c.in_ok-repeated.ensures.edge_data c.in_ok-repeated.ensures.store in
     let beside : joined ≡ without_data (data_join hooks items store).0 = ap join bare ∙ sym (join_is_beside hooks items store) in
-    let near_marks = subst (λ l. MarksLieNear 1 on l) beside (cuts_lie_near joined on (are_ordered-join given (segments_ordered c.args.list.now.items)) (cuts_of joined marks cuts)) in
-    subst (λ l. NameNear names 1 l) (sym e)
-    (data_cut_names_what_is_near hooks names keeps 0 1 on (data_join hooks items store).0 (data_join hooks items store).1 near_marks
-    (join_names hooks items store names keeps (subst (λ l. IsTrue (are_ordered l)) bare (segments_ordered c.args.list.now.items)) near))
+    let reach = reach_of_snap given in
+    let near_marks = subst (λ l. MarksLieNear reach on l) beside (near_cuts given (segments_ordered c.args.list.now.items) on cuts.decided (cuts_of joined marks cuts)) in
+    subst (λ l. NameNear names reach l) (sym e)
+    (subst (λ (n : ℕ). NameNear names n (data_pass_by hooks on (data_join hooks items store).0 (data_join hooks items store).1).0) (none_more reach) (data_cut_names_what_is_near hooks names keeps 0 reach on (data_join hooks items store).0 (data_join hooks items store).1 near_marks
+    (join_names hooks items store names keeps (subst (λ l. IsTrue (are_ordered l)) bare (segments_ordered c.args.list.now.items)) near)))
 
 -- ---- an arrangement
 
@@ -245,7 +325,7 @@ returns-clause-unchanged g c = λ arranged.
     let slice = c.as_slice.result.now in
     let marks = marks_of g.I.OverlayInt.whole slice in
     let hooks = hooks_of g.C.WindingCount.counted g.D.OverlayEdgeData in
-    let cuts : AreCuts joined marks = found joined _ _ _ _ c.deref.ensures.value c.in_ok-repeated.ensures.geometry c.as_slice.ensures.value c.in_default.ensures.cuts in
+    let cuts : AreCuts joined marks = found joined _ _ _ _ c.deref.ensures.value c.in_ok-repeated.ensures.geometry c.as_slice.ensures.value c.in-Ok.ensures.cuts in
     let on = on_of joined marks in
     let items = data_segments_of c.args.list.now.items in
     let store = c.args.store.now in
@@ -289,5 +369,5 @@ returns-clause-changed g c =
     let joined = join given in
     let slice = c.as_slice.result.now in
     let marks = marks_of g.I.OverlayInt.whole slice in
-    let cuts : AreCuts joined marks = found joined _ _ _ _ c.deref.ensures.value c.in_ok-repeated.ensures.geometry c.as_slice.ensures.value c.in_default.ensures.cuts in
+    let cuts : AreCuts joined marks = found joined _ _ _ _ c.deref.ensures.value c.in_ok-repeated.ensures.geometry c.as_slice.ensures.value c.in-Ok.ensures.cuts in
     told_change given marks c.in_ok-repeated.repeated c.is_empty-is_cut.result _ cuts (length-map slice (mark_of g.I.OverlayInt.whole) ∙ c.as_slice.ensures.len) c.in_ok-repeated.ensures.repeated c.is_empty-is_cut.ensures
