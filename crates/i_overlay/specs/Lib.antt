@@ -46,8 +46,10 @@ pub use Rattle.overlay_split.specs.Path
 pub use Rattle.overlay_split.specs.Places as FarPlaces
 pub use Rattle.overlay_split.specs.Potential
 pub use Rattle.overlay_split.specs.Run
+pub use Rattle.overlay_split.specs.RunLengths
 pub use Rattle.overlay_split.specs.RunLooks
 pub use Rattle.overlay_split.specs.SettingsOf
+pub use Rattle.overlay_split.specs.SplitFaultOf
 pub use Rattle.overlay_split.specs.SplitOf
 pub use Rattle.overlay_sweep.specs.ChainWindings
 pub use Rattle.overlay_sweep.specs.ColumnWindings

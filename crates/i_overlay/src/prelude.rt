@@ -23,4 +23,5 @@ pub use overlay_build::build::string_graph::StringGraph;
 pub use overlay_build::build::walks::closed_walks;
 pub use overlay_geometry::geom::point::IntPoint;
 pub use overlay_geometry::num::OverlayInt;
+pub use overlay_split::split::fault::SplitFault;
 pub use overlay_split::split::solver::SplitSolver;

@@ -4,6 +4,7 @@ pub mod Squares
 pub mod Paths
 pub mod Cuts
 pub mod Runs
+pub mod RunLengths
 pub mod DataPasses
 pub mod Sources
 pub mod ExactInputs

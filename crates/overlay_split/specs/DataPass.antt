@@ -61,6 +61,11 @@ module _ {D S : Type 0} (hooks : Hooks D S) where
       let before : List (DataSegment D) × S = data_after_passes settings given store k in
       data_cut (placing_of_pass settings (suc k)) before.0 before.1
 
+  -- the store before pass k cuts anything; before pass 0 it is the one at first
+  unfoldable pub data_store_before : Settings → List (DataSegment D) → S → ℕ → S
+  data_store_before settings given store zero = store
+  data_store_before settings given store (suc k) = (data_after_passes settings given store k).1
+
 -- A run that was refused in a pass, 0 for the join of the given segments: the passes up to that one are made, every sum before it is in range, and its join stopped, with the store that is left.
 pub record IsStoppedRun {D S : Type 0} (hooks : Hooks D S) (settings : Settings) (given : List (DataSegment D)) (from left : S) : Type 0 where
   pub in_pass : ℕ

@@ -11,8 +11,10 @@ pub mod PassOf
 pub mod CutOf
 pub mod ExactInput
 pub mod Nearness
+pub mod RunLengths
 pub mod Places
 pub mod Laws
 pub mod SplitOf
+pub mod SplitFaultOf
 -- what only contracts of private functions use
 pub mod steps

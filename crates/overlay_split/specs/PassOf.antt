@@ -1,5 +1,5 @@
 -- What a pass over a list of code leaves of its data and of the store, and how many pairs it compares.
-use Rattle.std.specs.Prelude.{◌≡◌, Bool, nat_lt, List, Vec}
+use Rattle.std.specs.Prelude.{◌≡◌, ℕ, Bool, nat_lt, List, length, Vec}
 use Rattle.std.specs.Global.{Global}
 use Rattle.overlay_base.specs.EdgeData.{DataSegment, IsRefusedJoin}
 use Rattle.overlay_base.specs.HooksOf.{hooks_of}
@@ -19,6 +19,10 @@ use Rattle.overlay_split.specs.declared.split.finder.PairFinder.{PairFinder}
 -- whether the pass makes a mark
 abbrev pub makes_mark : {C I D : Type 0} {m : _} {w : _} {o : _} {e : _} {p : _} → Placing → List (Segment C I D m w o e p) → Bool
 makes_mark placing list = nat_lt 0 (mark_count (placing_of placing) (segments_of list))
+
+-- how many pieces it makes, those of segments that it leaves whole among them
+abbrev pub piece_count : {C I D : Type 0} {m : _} {w : _} {o : _} {e : _} {p : _} → Placing → List (Segment C I D m w o e p) → ℕ
+piece_count placing list = length (cut (placing_of placing) (segments_of list))
 
 -- whether a running sum of its pieces is too large
 abbrev pub pieces_leave_range : {C I D : Type 0} {m : _} {w : _} {o : _} {e : _} {p : _} → Placing → List (Segment C I D m w o e p) → Bool

@@ -1,6 +1,6 @@
 -- What a call of the splitter leaves, by its solver, the splitter before and after, and the list before and
 -- after. The type of the list says how its coordinates are read, and of how many bits they are.
-use Rattle.std.specs.Prelude.{◌≡◌, ◌≤◌, Bool, false, IsTrue, Option, Result, OnOk, Vec}
+use Rattle.std.specs.Prelude.{◌≡◌, ◌≤◌, ℕ, Bool, false, IsTrue, Option, Result, OnOk, Vec}
 use Rattle.std.specs.List.{list_all}
 use Rattle.std.specs.Global.{Global}
 use Rattle.overlay_geometry.specs.Points.{Pair}
@@ -8,16 +8,16 @@ use Rattle.overlay_base.specs.HooksOf.{hooks_of}
 use Rattle.overlay_base.specs.SegmentOf.{segments_of, data_segments_of, KeepsSegments}
 use Rattle.overlay_base.specs.declared.overlay_core.edge_data.OverlayEdgeData.{Ghosts}
 use Rattle.overlay_base.specs.declared.overlay_core.solver.Solver.{Solver}
-use Rattle.overlay_base.specs.declared.segm.fault.Fault.{Fault}
 use Rattle.overlay_base.specs.declared.segm.segment.Segment.{Segment}
 use Rattle.overlay_grid.specs.Grid.{Layout}
-use Rattle.overlay_split.specs.DataPass.{data_after_passes, IsDataAfter, IsStoppedRun}
+use Rattle.overlay_split.specs.DataPass.{data_after_passes, data_store_before, IsDataAfter, IsStoppedRun}
 use Rattle.overlay_split.specs.ExactInput.{is_exact_input, KeepsCounts}
 use Rattle.overlay_split.specs.Laws.{HooksKeep, HooksNameNoOther, NameNear}
 use Rattle.overlay_split.specs.Nearness.{StaysNear, LieInGivenBox, reach_of_run, reach_of_passes}
 use Rattle.overlay_split.specs.Places.{KeepsWinding}
 use Rattle.overlay_split.specs.Potential.{IsPassBound}
 use Rattle.overlay_split.specs.Run.{Settings, IsRun, LeavesRange}
+use Rattle.overlay_split.specs.RunLengths.{JoinsAtMost, IsFirstBeyond}
 use Rattle.overlay_split.specs.RunLooks.{AreRunLooks}
 use Rattle.overlay_split.specs.SettingsOf.{settings_of, passes_of, reach_of, looked_of}
 use Rattle.overlay_split.specs.declared.split.solver.SplitSolver.{SplitSolver}
@@ -74,6 +74,14 @@ LooksAreBounded solver before after given =
 abbrev pub SumsLeaveRange : {C I D : Type 0} {m : _} {w : _} {o : _} {e : _} {p : _} → Solver → SplitSolver I → Vec (Segment C I D m w o e p) Global → Type 0
 SumsLeaveRange solver before given = LeavesRange (settings_over solver before given) (segments_of given.items)
 
+-- No pass of the run joins more segments than the limit, nor does the join before them.
+abbrev pub StaysWithin : {C I D : Type 0} {m : _} {w : _} {o : _} {e : _} {p : _} → Solver → SplitSolver I → SplitSolver I → ℕ → Vec (Segment C I D m w o e p) Global → Type 0
+StaysWithin solver before after limit given = JoinsAtMost (settings_over solver before given) (segments_of given.items) limit (passes_of after)
+
+-- Some pass of the run, or the join before them, is the first that would.
+abbrev pub GoesBeyond : {C I D : Type 0} {m : _} {w : _} {o : _} {e : _} {p : _} → Solver → SplitSolver I → ℕ → Vec (Segment C I D m w o e p) Global → Type 0
+GoesBeyond solver before limit given = (k : ℕ) × IsFirstBeyond (settings_over solver before given) (segments_of given.items) limit k
+
 -- The list is as it was, and the flag says that no segment was joined or split.
 abbrev pub ChangesNothing : {C I D : Type 0} {m : _} {w : _} {o : _} {e : _} {p : _} → Vec (Segment C I D m w o e p) Global → Vec (Segment C I D m w o e p) Global → Bool → Type 0
 ChangesNothing given list flag = (flag ≡ false) × KeepsSegments given list
@@ -85,17 +93,17 @@ ChangesNoStore given list store left flag = (flag ≡ false) × KeepsSegments gi
 -- ---- the data
 
 -- If the call succeeds, the list has the data that the run makes of what is given with a store.
-abbrev pub GivesRunData : {C I D S O : Type 0} {m : _} {w : _} {o : _} {e : _} {p : _} → Ghosts D C S → Solver → SplitSolver I → SplitSolver I → Vec (Segment C I D m w o e p) Global → S → Vec (Segment C I D m w o e p) Global → Result O Fault → Type 0
+abbrev pub GivesRunData : {C I D S O E : Type 0} {m : _} {w : _} {o : _} {e : _} {p : _} → Ghosts D C S → Solver → SplitSolver I → SplitSolver I → Vec (Segment C I D m w o e p) Global → S → Vec (Segment C I D m w o e p) Global → Result O E → Type 0
 GivesRunData {m = m} hooks solver before after given store list result =
     OnOk result (data_segments_of list.items ≡ (data_after_passes (hooks_of m.counted hooks) (settings_over solver before given) (data_segments_of given.items) store (passes_of after)).0)
 
 -- If the call succeeds, the store is what that run leaves of another.
-abbrev pub LeavesRunStore : {C I D S O : Type 0} {m : _} {w : _} {o : _} {e : _} {p : _} → Ghosts D C S → Solver → SplitSolver I → SplitSolver I → Vec (Segment C I D m w o e p) Global → S → S → Result O Fault → Type 0
+abbrev pub LeavesRunStore : {C I D S O E : Type 0} {m : _} {w : _} {o : _} {e : _} {p : _} → Ghosts D C S → Solver → SplitSolver I → SplitSolver I → Vec (Segment C I D m w o e p) Global → S → S → Result O E → Type 0
 LeavesRunStore {m = m} hooks solver before after given store left result =
     OnOk result (left ≡ (data_after_passes (hooks_of m.counted hooks) (settings_over solver before given) (data_segments_of given.items) store (passes_of after)).1)
 
 -- If the call succeeds, the list has the data that the run makes with some store that is a first one.
-abbrev pub GivesData : {C I D S O : Type 0} {m : _} {w : _} {o : _} {e : _} {p : _} → Ghosts D C S → (S → Type 0) → Solver → SplitSolver I → SplitSolver I → Vec (Segment C I D m w o e p) Global → Vec (Segment C I D m w o e p) Global → Result O Fault → Type 0
+abbrev pub GivesData : {C I D S O E : Type 0} {m : _} {w : _} {o : _} {e : _} {p : _} → Ghosts D C S → (S → Type 0) → Solver → SplitSolver I → SplitSolver I → Vec (Segment C I D m w o e p) Global → Vec (Segment C I D m w o e p) Global → Result O E → Type 0
 GivesData {m = m} hooks IsFirst solver before after given list result =
     OnOk result (IsDataAfter (hooks_of m.counted hooks) IsFirst (settings_over solver before given) (data_segments_of given.items) (data_segments_of list.items) (passes_of after))
 
@@ -104,15 +112,21 @@ abbrev pub StopsRun : {C I D S : Type 0} {m : _} {w : _} {o : _} {e : _} {p : _}
 StopsRun {m = m} hooks solver before given store left =
     IsStoppedRun (hooks_of m.counted hooks) (settings_over solver before given) (data_segments_of given.items) store left
 
+-- Some pass of the run, or the join before them, is the first that would join more segments than the limit, and the store is what the passes before it left.
+abbrev pub LeavesStoreBefore : {C I D S : Type 0} {m : _} {w : _} {o : _} {e : _} {p : _} → Ghosts D C S → Solver → SplitSolver I → ℕ → Vec (Segment C I D m w o e p) Global → S → S → Type 0
+LeavesStoreBefore {m = m} hooks solver before limit given store left =
+    (k : ℕ) × IsFirstBeyond (settings_over solver before given) (segments_of given.items) limit k
+    × (left ≡ data_store_before (hooks_of m.counted hooks) (settings_over solver before given) (data_segments_of given.items) store k)
+
 -- Whatever the hooks keep, and all given data has: if the call succeeds, all data of the list has it.
-abbrev pub KeepsWhatHolds : {C I D S O : Type 0} {m : _} {w : _} {o : _} {e : _} {p : _} → Ghosts D C S → Vec (Segment C I D m w o e p) Global → Vec (Segment C I D m w o e p) Global → Result O Fault → Type 0
+abbrev pub KeepsWhatHolds : {C I D S O E : Type 0} {m : _} {w : _} {o : _} {e : _} {p : _} → Ghosts D C S → Vec (Segment C I D m w o e p) Global → Vec (Segment C I D m w o e p) Global → Result O E → Type 0
 KeepsWhatHolds {D = D} {m = m} hooks given list result =
     (has : D → Bool) → HooksKeep (hooks_of m.counted hooks) has → IsTrue (list_all (λ s. has s.edge_data) (data_segments_of given.items)) →
     OnOk result (IsTrue (list_all (λ s. has s.edge_data) (data_segments_of list.items)))
 
 -- Where each given segment lies on what its data names, and the hooks name no others: if the call succeeds, each
 -- segment of the list lies as near to all that its data names as the passes reach.
-abbrev pub LiesNearNamed : {C I D S O : Type 0} {m : _} {w : _} {o : _} {e : _} {p : _} → Ghosts D C S → Solver → SplitSolver I → SplitSolver I → Vec (Segment C I D m w o e p) Global → Vec (Segment C I D m w o e p) Global → Result O Fault → Type 0
+abbrev pub LiesNearNamed : {C I D S O E : Type 0} {m : _} {w : _} {o : _} {e : _} {p : _} → Ghosts D C S → Solver → SplitSolver I → SplitSolver I → Vec (Segment C I D m w o e p) Global → Vec (Segment C I D m w o e p) Global → Result O E → Type 0
 LiesNearNamed {D = D} {m = m} hooks solver before after given list result =
     (names : D → Pair → Bool) → HooksNameNoOther (hooks_of m.counted hooks) names → NameNear names 0 (data_segments_of given.items) →
     OnOk result (NameNear names (reach_of_run (settings_over solver before given) (segments_of given.items) (passes_of after)) (data_segments_of list.items))

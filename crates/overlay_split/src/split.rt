@@ -2,6 +2,7 @@
 // grid, come from crates of their own; their modules stand here too, as in upstream.
 
 mod cut;
+pub mod fault;
 pub mod finder;
 pub mod laws;
 pub mod pass;

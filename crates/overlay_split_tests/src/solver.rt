@@ -22,6 +22,7 @@ use std::process::Abort;
 mod far_ends;
 mod hostile;
 mod long_lists;
+mod within;
 
 type Counted<I> = Segment<ShapeCountBoolean, I, ()>;
 

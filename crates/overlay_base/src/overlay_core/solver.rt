@@ -25,7 +25,8 @@ pub enum Strategy {
 /// `2^(start + (k-1) * progression)`, up to a cap of the engine (`2^24` for `i16`, `2^56` for `i32`).
 ///
 /// Under a radius that does not grow, as `ABSOLUTE`, segments that are nearly parallel can take as many passes as they
-/// are long. Under the growing ones a handful is enough.
+/// are long. Under the growing ones a handful is enough. A few such segments can also fall into very many pieces, so a
+/// split of lists that are not trusted wants a limit, as `split_segments_within` of `overlay_split` takes it.
 #[derive(Clone, Copy, Debug, PartialEq)]
 pub struct Precision {
     /// The exponent of the first pass.
@@ -35,7 +36,7 @@ pub struct Precision {
 }
 
 impl Precision {
-    /// The squared radius is 1 in every pass.
+    /// The squared radius is 1 in every pass. Splits under it want a limit of segments.
     pub const ABSOLUTE: Precision = Precision {
         start: 0,
         progression: 0,

@@ -2,7 +2,7 @@
 use Rattle.std.proofs.Common.{arith}
 use Rattle.std.specs.Prelude.{◌≡◌, refl, IsTrue, IsFalse, ℕ, zero, suc, ◌+◌, ◌<◌, ℤ, pos, Bool, true, false, List, [], ◌∷◌, if◌then◌else◌}
 use Rattle.overlay_base.specs.EdgeData.{DataSegment, MergeCall, Hooks, without_data}
-use Rattle.overlay_split.specs.DataPass.{data_after_passes, IsStoppedRun}
+use Rattle.overlay_split.specs.DataPass.{data_after_passes, data_store_before, IsStoppedRun}
 use Rattle.overlay_split.specs.Run.{goes_on, leaves_range_within}
 use Rattle.overlay_base.proofs.examples.Words.{neg, pair, count}
 use Rattle.overlay_split.proofs.examples.Computing.{computing}
@@ -42,6 +42,18 @@ overlap_merges : data_after_passes hooks (high 256) (colored (pos 0) (pos 0) (po
     ≡ ((colored (pos 0) (pos 0) (pos 2) (pos 0) (pos 1) (pos 0) red ∷ colored (pos 2) (pos 0) (pos 4) (pos 0) (pos 1) (pos 1) undefined ∷ colored (pos 4) (pos 0) (pos 6) (pos 0) (pos 0) (pos 1) green ∷ []), record { splits = 2; reversals = 0; merges = record { lhs_data = green; lhs_count = count (pos 0) (pos 1); rhs_data = red; rhs_count = count (pos 1) (pos 0); out_count = count (pos 1) (pos 1) } ∷ [] })
 unfolding computing
 overlap_merges = refl
+
+-- the store before each of the two passes: nothing was merged by the first join
+abbrev overlap : List (DataSegment Color)
+overlap = colored (pos 0) (pos 0) (pos 4) (pos 0) (pos 1) (pos 0) red ∷ colored (pos 2) (pos 0) (pos 6) (pos 0) (pos 0) (pos 1) green ∷ []
+
+store_before_first : data_store_before hooks (high 256) overlap no_calls 1 ≡ no_calls
+unfolding computing
+store_before_first = refl
+
+store_before_second : (data_store_before hooks (high 256) overlap no_calls 2).splits ≡ 2
+unfolding computing
+store_before_second = refl
 
 -- a segment bent through another's end: its lower half runs backward
 bent_is_reversed : data_after_passes hooks (high 256) (colored (pos 0) (pos 0) (pos 100) (pos 1) (pos 1) (pos 0) red ∷ colored (pos 1) (neg 50) (pos 1) (pos 50) (pos 1) (pos 0) red ∷ []) no_calls 2

@@ -17,3 +17,5 @@ pub mod GridRuns
 pub mod RunLooks
 pub mod Stores
 pub mod Skips
+pub mod PieceNumbers
+pub mod RunLengths

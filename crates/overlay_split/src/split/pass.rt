@@ -1,6 +1,6 @@
 // One pass over a list: every segment is cut at its marks, and the pieces are joined. Upstream: `split::solver_list`
 // and `split::solver`, where marks are applied.
-ghost use Rattle.std.specs.Prelude.{◌≡◌, [], IsTrue, IsFalse, IfOk, IfErr, OnOk, OnErr};
+ghost use Rattle.std.specs.Prelude.{◌≡◌, ◌<◌, ◌≤◌, ◌^◌, ◌-◌, [], IsTrue, IsFalse, IfOk, IfErr, OnOk, OnErr};
 ghost use Rattle.overlay_base.specs.declared.segm.fault.Fault.TheVariants.{Memory};
 ghost use Rattle.overlay_base.specs.Segments.{pairs, is_map};
 ghost use Rattle.overlay_base.specs.ArrangedOf.{IsSplittable};
@@ -13,10 +13,12 @@ ghost use Rattle.overlay_split.specs.CutOf.{AreCutMarksOf, HasDataOfCutAt, IsCut
 ghost use Rattle.overlay_intersections.specs.PlacingOf.{placing_of, HasRadius};
 ghost use Rattle.overlay_grid.specs.Grid.{LieInside};
 ghost use Rattle.overlay_split.specs.FinderOf.{solver_in, layout_in};
-ghost use Rattle.overlay_split.specs.PassOf.{HasDataOfPass, IsPassStore, makes_mark, LooksThrough, pieces_leave_range, StopsPass};
+ghost use Rattle.overlay_split.specs.PassOf.{HasDataOfPass, IsPassStore, makes_mark, LooksThrough, piece_count, pieces_leave_range, StopsPass};
+ghost use Rattle.overlay_split.specs.SplitFaultOf.{OnLargeCount, OnTooMany};
 ghost use Rattle.overlay_base.specs.FaultOf.{OnTooLarge};
 
 use crate::split::cut::{cut_segment, index_len};
+use crate::split::fault::SplitFault;
 use crate::split::finder::PairFinder;
 use crate::split::path::collect_path;
 use overlay_base::overlay_core::edge_data::OverlayEdgeData;
@@ -97,14 +99,64 @@ pub fn pass<C: WindingCount, I: OverlayInt, D: OverlayEdgeData<C>>(
     ensures stopped { OnTooLarge result (StopsPass D.OverlayEdgeData.own placing list.old store.old store.new) }
     ensures store_made { IsMadeFrom (hooks_of C.counted D.OverlayEdgeData.own) store.old store.new }
 {
+    let unbounded = usize::MAX;
+    match pass_within(list, placing, finder, buffers, store, unbounded) {
+        Ok(passed) => Ok(passed),
+        Err(SplitFault::Refused(fault)) => Err(fault),
+        Err(SplitFault::TooManySegments) => unreachable!(),
+    }
+}
+
+/// Makes a pass as `pass` does, unless the segments fall into more pieces than the limit. Every segment that has no mark
+/// is one piece.
+///
+/// Returns `SplitFault::TooManySegments` where there would be more, before anything is cut: the list is empty then, and
+/// the store as it was. Under `usize::MAX` it never does. Returns the faults of `pass` as `SplitFault::Refused`; what
+/// is left then is what `pass` leaves.
+pub fn pass_within<C: WindingCount, I: OverlayInt, D: OverlayEdgeData<C>>(
+    list: &mut Vec<Segment<C, I, D>>,
+    placing: Placing,
+    finder: &mut PairFinder<I>,
+    buffers: &mut PassBuffers<I>,
+    store: &mut D::Store,
+    limit: usize,
+) -> Result<Passed, SplitFault>
+    requires map { IsTrue (is_map (segments_of list.old.items)) }
+    requires splittable { IsSplittable list.old.items }
+    requires radius { HasRadius placing }
+    requires inside { LieInside (layout_in finder.old) (pairs (segments_of list.old.items)) }
+    ensures solver { solver_in finder.new ≡ solver_in finder.old }
+    ensures grid { layout_in finder.new ≡ layout_in finder.old }
+    ensures geometry { OnOk result (segments_of list.new.items
+        ≡ pass (placing_of placing) (segments_of list.old.items)) }
+    ensures edge_data { OnOk result (HasDataOfPass D.OverlayEdgeData.own placing list.old store.old list.new) }
+    ensures store { OnOk result (IsPassStore D.OverlayEdgeData.own placing list.old store.old store.new) }
+    ensures rounded { IfOk result (λ passed. passed.is_rounded ≡ is_rounded (segments_of list.old.items)) }
+    ensures marked { IfOk result (λ passed. passed.has_marks ≡ makes_mark placing list.old.items) }
+    ensures looked { OnOk result (LooksThrough list.old.items finder.old finder.new) }
+    ensures within { OnOk result (piece_count placing list.old.items ≤ limit) }
+
+    ensures fits { OnOk result (IsFalse (pieces_leave_range placing list.old.items)) }
+    ensures refused { OnLargeCount result (IsTrue (pieces_leave_range placing list.old.items)) }
+    ensures emptied { OnErr result (list.new.items ≡ []) }
+    ensures stopped { OnLargeCount result (StopsPass D.OverlayEdgeData.own placing list.old store.old store.new) }
+    ensures store_made { IsMadeFrom (hooks_of C.counted D.OverlayEdgeData.own) store.old store.new }
+    ensures beyond { OnTooMany result (limit < piece_count placing list.old.items) }
+    ensures uncut { OnTooMany result (store.new ≡ store.old) }
+    ensures unbounded { OnTooMany result (limit < 2 ^ 64 - 1) }
+{
     let PassBuffers { marks, path, tree } = buffers;
     let is_rounded = match finder.find_marks(list.as_slice(), placing, tree, marks) {
         Ok(is_rounded) => is_rounded,
         Err(fault) => {
             list.clear();
-            return Err(fault);
+            return Err(SplitFault::Refused(fault));
         }
     };
+    if list.len() + marks.len() > limit {
+        list.clear();
+        return Err(SplitFault::TooManySegments);
+    }
     pass_at(list, marks.as_slice(), path, store)?;
     Ok(Passed {
         is_rounded,

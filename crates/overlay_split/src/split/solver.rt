@@ -1,6 +1,6 @@
 // The split of a list into a planar arrangement: passes that snap, up to a limit, then passes that settle.
 // Upstream: `split::solver`. The settling passes, `passes` and the limit are this project's own.
-ghost use Rattle.std.specs.Prelude.{◌≡◌, ◌≤◌, ◌+◌, ◌^◌, ◌||◌, ◌&&◌, if◌then◌else◌, [], false, IsTrue, IsFalse, IfOk, IfErr, OnOk, OnErr, Ok, length, nat_le, nat_lt};
+ghost use Rattle.std.specs.Prelude.{◌≡◌, ◌<◌, ◌≤◌, ◌+◌, ◌-◌, ◌^◌, ◌||◌, ◌&&◌, if◌then◌else◌, [], false, IsTrue, IsFalse, IfOk, IfErr, OnOk, OnErr, Ok, length, nat_le, nat_lt};
 ghost use Rattle.overlay_base.specs.declared.segm.fault.Fault.TheVariants.{CountOutOfRange};
 ghost use Rattle.overlay_base.specs.Segments.{pairs, is_map};
 ghost use Rattle.overlay_base.specs.ArrangedOf.{IsSplittable, IsArranged};
@@ -20,11 +20,14 @@ ghost use Rattle.overlay_split.specs.PassLooks.{ArePassLooks};
 ghost use Rattle.overlay_split.specs.FinderOf.{solver_in, layout_in, looks_in};
 ghost use Rattle.overlay_grid.specs.Grid.{LieInside};
 ghost use Rattle.overlay_split.specs.Nearness.{reach, reach_of_pass, reach_of_run};
-ghost use Rattle.overlay_split.specs.SplitOf.{IsRunOver, ReportsReach, KeepsWhatHolds, LiesNearNamed, LiesInBox, IsExactInput, HasGivenCounts, LiesNearGiven, WindsAsGiven, PassesAreBounded, SumsLeaveRange, LooksAreBounded, ChangesNothing, StopsRun, ChangesNoStore, GivesData, GivesRunData, LeavesRunStore};
+ghost use Rattle.overlay_split.specs.SplitOf.{IsRunOver, ReportsReach, KeepsWhatHolds, LiesNearNamed, LiesInBox, IsExactInput, HasGivenCounts, LiesNearGiven, WindsAsGiven, PassesAreBounded, SumsLeaveRange, LooksAreBounded, ChangesNothing, StopsRun, StaysWithin, GoesBeyond, LeavesStoreBefore, ChangesNoStore, GivesData, GivesRunData, LeavesRunStore};
 ghost use Rattle.overlay_base.specs.FaultOf.{OnTooLarge};
+ghost use Rattle.overlay_split.specs.PassOf.{piece_count};
+ghost use Rattle.overlay_split.specs.SplitFaultOf.{OnLargeCount, OnTooMany};
 
+use crate::split::fault::SplitFault;
 use crate::split::finder::PairFinder;
-use crate::split::pass::{PassBuffers, pass};
+use crate::split::pass::{PassBuffers, pass_within};
 use overlay_base::overlay_core::edge_data::OverlayEdgeData;
 use overlay_base::overlay_core::snap_radius::SnapRadius;
 use overlay_base::overlay_core::solver::Solver;
@@ -82,7 +85,8 @@ impl<I> SplitSolver<I> {
     /// A splitter that snaps in that many passes, and settles after them. It takes no memory yet.
     ///
     /// Under a limit of 0 or 1, segments that are nearly parallel can take as many passes as they are long, since each
-    /// settling pass may make just one mark. The growing precisions, as `HIGH`, need a handful under 256.
+    /// settling pass may make just one mark. The growing precisions, as `HIGH`, need a handful under 256. A few such
+    /// segments can also fall into very many pieces: `split_segments_within` bounds them.
     pub fn with_snap_limit(alloc: Global, snap_limit: u32) -> Self
         ensures limit { snap_limit_of result ≡ snap_limit }
         ensures passes { passes_of result ≡ 0 }
@@ -141,7 +145,8 @@ impl<I: OverlayInt> SplitSolver<I> {
     ghost use Rattle.overlay_split.specs.SettingsOf.{snap_limit_of, passes_of, reach_of, looked_of, settings_of};
 
     /// Splits a list as `split_segments_with_store` does, with a store of its own for the data, which begins as the
-    /// store's default and is dropped.
+    /// store's default and is dropped. A few segments that are nearly parallel can fall into very many:
+    /// `split_segments_within` bounds them.
     pub fn split_segments<C: WindingCount, D: OverlayEdgeData<C>>(
         &mut self,
         list: &mut Vec<Segment<C, I, D>>,
@@ -189,6 +194,8 @@ impl<I: OverlayInt> SplitSolver<I> {
     /// coordinates, the counts along them are those given. In every case the result and the given segments lie near one
     /// another, but for counts that cancel: as near as the passes move crossings. At every place that is farther than
     /// that from the given segments the result winds as they do. An empty list takes no memory.
+    ///
+    /// A few segments that are nearly parallel can fall into very many: `split_segments_with_store_within` bounds them.
     ///
     /// Each mark splits the data of what is left of its segment; a piece that is turned reverses its data; segments on
     /// the same ends merge theirs from left to right, in the stable order of the list. What the hooks keep of data, and
@@ -241,22 +248,131 @@ impl<I: OverlayInt> SplitSolver<I> {
         ensures limit { snap_limit_of self.new ≡ snap_limit_of self.old }
         ensures empty { list.old.items ≡ [] → (result ≡ Ok false) × (passes_of self.new ≡ 0) }
     {
+        let unbounded = usize::MAX;
+        match self.split_segments_with_store_within(list, solver, store, unbounded) {
+            Ok(has_changed) => Ok(has_changed),
+            Err(SplitFault::Refused(fault)) => Err(fault),
+            Err(SplitFault::TooManySegments) => unreachable!(),
+        }
+    }
+
+    /// Splits a list as `split_segments_with_store_within` does, with a store of its own for the data, which begins as
+    /// the store's default and is dropped.
+    pub fn split_segments_within<C: WindingCount, D: OverlayEdgeData<C>>(
+        &mut self,
+        list: &mut Vec<Segment<C, I, D>>,
+        solver: &Solver,
+        limit: usize,
+    ) -> Result<bool, SplitFault>
+        requires { IsSplittable list.old.items }
+        ensures run { IfOk result (IsRunOver solver.now self.old self.new list.old list.new) }
+        ensures edge_data { GivesData D.OverlayEdgeData.own D.Store.is_default solver.now self.old self.new list.old
+            list.new result }
+        ensures kept_data { KeepsWhatHolds D.OverlayEdgeData.own list.old list.new result }
+        ensures named_data { LiesNearNamed D.OverlayEdgeData.own solver.now self.old self.new list.old list.new result }
+        ensures arranged { OnOk result (IsArranged list.new.items) }
+        ensures balance { OnOk result (KeepsBalance (segments_of list.old.items) (segments_of list.new.items)) }
+        ensures in_box { OnOk result (LiesInBox list.old list.new) }
+        ensures exact_input { IsExactInput list.old → OnOk result (HasGivenCounts list.old list.new) }
+        ensures near { OnOk result (LiesNearGiven solver.now self.old self.new list.old list.new) }
+        ensures winding { OnOk result (WindsAsGiven solver.now self.old self.new list.old list.new) }
+        ensures bound { OnOk result (PassesAreBounded solver.now self.old self.new list.old) }
+        ensures unchanged { IsArranged list.old.items → IfOk result (ChangesNothing list.old list.new) }
+        ensures within { OnOk result (StaysWithin solver.now self.old self.new limit list.old) }
+        ensures length { OnOk result (length list.new.items ≤ limit) }
+
+        ensures fits { OnOk result (SumsLeaveRange solver.now self.old list.old → ⊥) }
+        ensures refused { OnLargeCount result (SumsLeaveRange solver.now self.old list.old) }
+        ensures emptied { OnErr result (list.new.items ≡ []) }
+        ensures beyond { OnTooMany result (GoesBeyond solver.now self.old limit list.old) }
+        ensures unbounded { OnTooMany result (limit < 2 ^ 64 - 1) }
+        ensures reach { OnOk result (ReportsReach solver.now self.old self.new list.old) }
+        ensures exact_reach { IsExactInput list.old → OnOk result (reach_of self.new ≡ 0) }
+        ensures passes { OnErr result (passes_of self.new ≡ passes_of self.old) }
+        ensures reach_before { OnErr result (reach_of self.new ≡ reach_of self.old) }
+        ensures looked { OnOk result (LooksAreBounded solver.now self.old self.new list.old) }
+        ensures looked_before { OnErr result (looked_of self.new ≡ looked_of self.old) }
+        ensures limit { snap_limit_of self.new ≡ snap_limit_of self.old }
+        ensures empty { list.old.items ≡ [] → (result ≡ Ok false) × (passes_of self.new ≡ 0) }
+    {
+        let mut store = D::Store::default();
+        self.split_segments_with_store_within(list, solver, &mut store, limit)
+    }
+
+    /// Splits a list as `split_segments_with_store` does, but joins at most as many segments as the limit says.
+    ///
+    /// A few segments that are nearly parallel can fall into very many, since a pass may mark each at many points beside
+    /// the others. The limit is compared with the length of the given list and, before each pass cuts anything, with the
+    /// number of pieces that it would make. So no list on the way is longer, and where the limit does for all passes the
+    /// result is that of `split_segments_with_store`. The marks of a pass are found before they are counted: their
+    /// memory is bounded by the segments that meet, not by the limit.
+    ///
+    /// Returns `SplitFault::TooManySegments` where the given list is longer than the limit, or a pass would make more
+    /// pieces; the store is then what the passes before that left. Under `usize::MAX` it never does. Returns the faults
+    /// of `split_segments_with_store` as `SplitFault::Refused`. Where a call is refused the list is empty, `passes`,
+    /// `reach` and `looked` are as they were, and the splitter can be used again.
+    pub fn split_segments_with_store_within<C: WindingCount, D: OverlayEdgeData<C>>(
+        &mut self,
+        list: &mut Vec<Segment<C, I, D>>,
+        solver: &Solver,
+        store: &mut D::Store,
+        limit: usize,
+    ) -> Result<bool, SplitFault>
+        requires { IsSplittable list.old.items }
+        ensures run { IfOk result (IsRunOver solver.now self.old self.new list.old list.new) }
+        ensures edge_data { GivesRunData D.OverlayEdgeData.own solver.now self.old self.new list.old store.old
+            list.new result }
+        ensures store { LeavesRunStore D.OverlayEdgeData.own solver.now self.old self.new list.old store.old store.new
+            result }
+        ensures kept_data { KeepsWhatHolds D.OverlayEdgeData.own list.old list.new result }
+        ensures named_data { LiesNearNamed D.OverlayEdgeData.own solver.now self.old self.new list.old list.new result }
+        ensures arranged { OnOk result (IsArranged list.new.items) }
+        ensures balance { OnOk result (KeepsBalance (segments_of list.old.items) (segments_of list.new.items)) }
+        ensures in_box { OnOk result (LiesInBox list.old list.new) }
+        ensures exact_input { IsExactInput list.old → OnOk result (HasGivenCounts list.old list.new) }
+        ensures near { OnOk result (LiesNearGiven solver.now self.old self.new list.old list.new) }
+        ensures winding { OnOk result (WindsAsGiven solver.now self.old self.new list.old list.new) }
+        ensures bound { OnOk result (PassesAreBounded solver.now self.old self.new list.old) }
+        ensures unchanged { IsArranged list.old.items
+            → IfOk result (ChangesNoStore list.old list.new store.old store.new) }
+        ensures within { OnOk result (StaysWithin solver.now self.old self.new limit list.old) }
+        ensures length { OnOk result (length list.new.items ≤ limit) }
+
+        ensures fits { OnOk result (SumsLeaveRange solver.now self.old list.old → ⊥) }
+        ensures refused { OnLargeCount result (SumsLeaveRange solver.now self.old list.old) }
+        ensures emptied { OnErr result (list.new.items ≡ []) }
+        ensures stopped { OnLargeCount result
+            (StopsRun D.OverlayEdgeData.own solver.now self.old list.old store.old store.new) }
+        ensures beyond { OnTooMany result
+            (LeavesStoreBefore D.OverlayEdgeData.own solver.now self.old limit list.old store.old store.new) }
+        ensures unbounded { OnTooMany result (limit < 2 ^ 64 - 1) }
+        ensures store_made { IsMadeFrom (hooks_of C.counted D.OverlayEdgeData.own) store.old store.new }
+        ensures reach { OnOk result (ReportsReach solver.now self.old self.new list.old) }
+        ensures exact_reach { IsExactInput list.old → OnOk result (reach_of self.new ≡ 0) }
+        ensures passes { OnErr result (passes_of self.new ≡ passes_of self.old) }
+        ensures reach_before { OnErr result (reach_of self.new ≡ reach_of self.old) }
+        ensures looked { OnOk result (LooksAreBounded solver.now self.old self.new list.old) }
+        ensures looked_before { OnErr result (looked_of self.new ≡ looked_of self.old) }
+        ensures limit { snap_limit_of self.new ≡ snap_limit_of self.old }
+        ensures empty { list.old.items ≡ [] → (result ≡ Ok false) × (passes_of self.new ≡ 0) }
+    {
         if list.is_empty() {
             self.passes = 0;
             self.reach = 0;
             self.looked = 0;
             return Ok(false);
         }
-        self.run(list, solver, store)
+        self.run(list, solver, store, limit)
     }
 
-    /// Splits as `split_segments_with_store` does, also where the list is empty.
+    /// Splits as `split_segments_with_store_within` does, also where the list is empty.
     fn run<C: WindingCount, D: OverlayEdgeData<C>>(
         &mut self,
         list: &mut Vec<Segment<C, I, D>>,
         solver: &Solver,
         store: &mut D::Store,
-    ) -> Result<bool, Fault>
+        limit: usize,
+    ) -> Result<bool, SplitFault>
         requires { IsSplittable list.old.items }
         ensures ended { IfOk result (λ flag. IsAt (hooks_of C.counted D.OverlayEdgeData.own)
             (settings_of I.BITS solver.now self.old) (I.whole I.MIN_COORD) (I.whole I.MAX_COORD)
@@ -265,20 +381,28 @@ impl<I: OverlayInt> SplitSolver<I> {
         ensures reach { OnOk result (reach_of self.new ≡ reach_of_run (settings_of I.BITS solver.now self.old)
             (segments_of list.old.items) (passes_of self.new)) }
         ensures looked { OnOk result (LooksAreBounded solver.now self.old self.new list.old) }
+        ensures within { OnOk result (StaysWithin solver.now self.old self.new limit list.old) }
         ensures emptied { OnErr result (list.new.items ≡ []) }
-        ensures stopped { OnTooLarge result
+        ensures stopped { OnLargeCount result
             (StopsRun D.OverlayEdgeData.own solver.now self.old list.old store.old store.new) }
+        ensures beyond { OnTooMany result
+            (LeavesStoreBefore D.OverlayEdgeData.own solver.now self.old limit list.old store.old store.new) }
+        ensures unbounded { OnTooMany result (limit < 2 ^ 64 - 1) }
         ensures store_made { IsMadeFrom (hooks_of C.counted D.OverlayEdgeData.own) store.old store.new }
         ensures unset { OnErr result ((passes_of self.new ≡ passes_of self.old)
             × (looked_of self.new ≡ looked_of self.old) × (reach_of self.new ≡ reach_of self.old)) }
         ensures limit { snap_limit_of self.new ≡ snap_limit_of self.old }
     {
+        if list.len() > limit {
+            list.clear();
+            return Err(SplitFault::TooManySegments);
+        }
         let repeated = join_with_store(list, store)?;
         let mut finder = match PairFinder::new(self.alloc, solver, list, &mut self.grid) {
             Ok(finder) => finder,
             Err(fault) => {
                 list.clear();
-                return Err(fault);
+                return Err(SplitFault::Refused(fault));
             }
         };
         let mut progress = Progress {
@@ -293,12 +417,26 @@ impl<I: OverlayInt> SplitSolver<I> {
                 break;
             }
             let placing = snapping::<I>(&radius);
-            progress = progress.after_pass(list, placing, &mut finder, &mut self.buffers, store)?;
+            progress = progress.after_pass(
+                list,
+                placing,
+                &mut finder,
+                &mut self.buffers,
+                store,
+                limit,
+            )?;
             radius.increment();
         }
         while progress.goes_on {
             let placing = Placing::Settling;
-            progress = progress.after_pass(list, placing, &mut finder, &mut self.buffers, store)?;
+            progress = progress.after_pass(
+                list,
+                placing,
+                &mut finder,
+                &mut self.buffers,
+                store,
+                limit,
+            )?;
         }
         self.passes = progress.passes;
         self.reach = progress.reach;
@@ -309,7 +447,7 @@ impl<I: OverlayInt> SplitSolver<I> {
 }
 
 impl Progress {
-    ghost use Rattle.std.specs.Prelude.{◌≡◌, ◌+◌, ◌<◌, ◌≤◌, ◌^◌, ◌||◌, ◌&&◌, [], IsTrue, IsFalse, IfOk, IfErr, OnOk, OnErr, length, nat_le, nat_lt};
+    ghost use Rattle.std.specs.Prelude.{◌≡◌, ◌+◌, ◌-◌, ◌<◌, ◌≤◌, ◌^◌, ◌||◌, ◌&&◌, [], IsTrue, IsFalse, IfOk, IfErr, OnOk, OnErr, length, nat_le, nat_lt};
 
     /// Where a run stands after one more pass.
     fn after_pass<C: WindingCount, I: OverlayInt, D: OverlayEdgeData<C>>(
@@ -319,7 +457,8 @@ impl Progress {
         finder: &mut PairFinder<I>,
         buffers: &mut PassBuffers<I>,
         store: &mut D::Store,
-    ) -> Result<Progress, Fault>
+        limit: usize,
+    ) -> Result<Progress, SplitFault>
         requires map { IsTrue (is_map (segments_of list.old.items)) }
         requires splittable { IsSplittable list.old.items }
         requires radius { HasRadius placing }
@@ -351,13 +490,17 @@ impl Progress {
         ensures fits { OnOk result (IsFalse (join_leaves_range
             (cut (placing_of placing) (segments_of list.old.items)))) }
         ensures emptied { OnErr result (list.new.items ≡ []) }
-        ensures stopped { IfErr result (λ fault. fault ≡ CountOutOfRange →
+        ensures stopped { OnLargeCount result
             (let hooks = hooks_of C.counted D.OverlayEdgeData.own in
             let pieces = data_cut hooks (placing_of placing) (data_segments_of list.old.items) store.old in
-            IsRefusedJoin hooks pieces.0 pieces.1 store.new)) }
+            IsRefusedJoin hooks pieces.0 pieces.1 store.new) }
         ensures store_made { IsMadeFrom (hooks_of C.counted D.OverlayEdgeData.own) store.old store.new }
+        ensures within { OnOk result (piece_count placing list.old.items ≤ limit) }
+        ensures beyond { OnTooMany result (limit < piece_count placing list.old.items) }
+        ensures uncut { OnTooMany result (store.new ≡ store.old) }
+        ensures unbounded { OnTooMany result (limit < 2 ^ 64 - 1) }
     {
-        let passed = pass(list, placing, finder, buffers, store)?;
+        let passed = pass_within(list, placing, finder, buffers, store, limit)?;
         Ok(Progress {
             passes: self.passes + 1,
             reach: self.reach + most_moved(placing, passed.is_rounded),

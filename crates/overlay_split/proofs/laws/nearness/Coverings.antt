@@ -225,7 +225,7 @@ joined_or_cancels bag r i =
     ]
 
 -- what is joined in the k-th join of a run
-joined_is : (settings : Settings) (given : List WholeSegment) (k : ℕ) → join (joined_in settings given k) ≡ after_passes settings given k
+pub joined_is : (settings : Settings) (given : List WholeSegment) (k : ℕ) → join (joined_in settings given k) ≡ after_passes settings given k
 unfolding joined_in after_passes pass
 joined_is settings given zero = refl
 joined_is settings given (suc k) = refl

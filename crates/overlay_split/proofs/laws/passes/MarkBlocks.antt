@@ -46,7 +46,7 @@ pub points_at-below : (i : ℕ) (ms : List Mark) → AllByRecursion (λ m. i < m
 points_at-below i [] h = refl
 points_at-below i (m ∷ ms) h = points_at-other i m ms (not_equal i m.index h.0) ∙ points_at-below i ms h.1
 
-strictly : (i j : ℕ) → i ≤ j → j ≢ i → i < j
+pub strictly : (i j : ℕ) → i ≤ j → j ≢ i → i < j
 strictly i j le ne = elim (cases_lt i j) [
   | inl lt ↦ lt
   | inr back ↦ absurd (ne (omega (arith, le, back)))

@@ -46,7 +46,7 @@ use Rattle.overlay_split.proofs.laws.passes.Splittable.{is_splittable-join, is_s
 
 module _ (settings : Settings) (given : List WholeSegment) where
   -- the passes so far, and the next one
-  made_next : (k : ℕ) → ((j : ℕ) → j < k → IsTrue (goes_on settings given j)) → IsTrue (goes_on settings given k) → (j : ℕ) → j < suc k → IsTrue (goes_on settings given j)
+  pub made_next : (k : ℕ) → ((j : ℕ) → j < k → IsTrue (goes_on settings given j)) → IsTrue (goes_on settings given k) → (j : ℕ) → j < suc k → IsTrue (goes_on settings given j)
   made_next k made goes j h = ⊎_elim (λ (l : j < k). made j l) (λ (l : k ≤ j). let i : k ≡ j = omega arith in subst (λ (i : ℕ). IsTrue (goes_on settings given i)) i goes) (cases_lt j k)
 
   leaves_later : (k n : ℕ) → IsTrue (leaves_range_within settings given k) → IsTrue (leaves_range_within settings given (k + n))
@@ -55,7 +55,7 @@ module _ (settings : Settings) (given : List WholeSegment) where
   leaves_later k (suc n) h = let e : k + suc n ≡ suc (k + n) = omega arith in rw e (or_left (leaves_range_within settings given (k + n)) _ (leaves_later k n h))
 
   -- sums that are in range so far were in range before
-  fits_before : (k : ℕ) → IsFalse (leaves_range_within settings given k) → (j : ℕ) → j < suc k → IsFalse (leaves_range_within settings given j)
+  pub fits_before : (k : ℕ) → IsFalse (leaves_range_within settings given k) → (j : ℕ) → j < suc k → IsFalse (leaves_range_within settings given j)
   fits_before k fits j h = false_from_ne_true _ (λ leaves.
       let e : j + (k - j) ≡ k = omega (arith, h) in
       both_ways (leaves_range_within settings given k) fits (subst (λ (i : ℕ). IsTrue (leaves_range_within settings given i)) e (leaves_later j (k - j) leaves)))

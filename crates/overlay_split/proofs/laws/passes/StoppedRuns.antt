@@ -5,11 +5,14 @@ use Rattle.std.proofs.lemmas.Bool.{or_right, both_ways, cases_lt}
 use Rattle.overlay_base.specs.Segments.{WholeSegment}
 use Rattle.overlay_base.specs.Join.{join_leaves_range}
 use Rattle.overlay_base.specs.EdgeData.{DataSegment, Hooks, without_data, IsRefusedJoin}
+use Rattle.overlay_base.specs.declared.segm.fault.Fault.{Fault}
 use Rattle.overlay_base.proofs.laws.joins.Stops.{refused_leaves_range, refused_join_is_one}
 use Rattle.overlay_intersections.specs.PassMarks.{marks_on}
 use Rattle.overlay_split.specs.Pass.{cut}
 use Rattle.overlay_split.specs.Run.{Settings, placing_of_pass, leaves_range_within}
 use Rattle.overlay_split.specs.DataPass.{data_after_passes, data_joined_in, IsStoppedRun}
+use Rattle.overlay_split.specs.declared.split.fault.SplitFault.{SplitFault}
+use Rattle.overlay_split.specs.declared.split.fault.SplitFault.TheVariants.{Refused, TooManySegments}
 use Rattle.overlay_split.specs.Laws.{StoppedRunLeavesRange, StoppedRunIsOne}
 use Rattle.overlay_split.proofs.laws.passes.DataPasses.{bare-data_cut, data_is_beside}
 
@@ -17,6 +20,17 @@ use Rattle.overlay_split.proofs.laws.passes.DataPasses.{bare-data_cut, data_is_b
 pub refused_by : {A F : Type 0} (r : Result A F) (x : F) {out : F} (P : Type 0) → IsErrAnd r (λ e. e ≡ x) → (x ≡ out → P) → IfErr r (λ fault. fault ≡ out → P)
 refused_by (Ok a) x P h f = tt
 refused_by (Err e) x P h f = λ i. f (sym h ∙ i)
+
+-- the fault of a refusal, or another one
+fault_in : SplitFault → Fault → Fault
+fault_in (Refused fault) other = fault
+fault_in TooManySegments other = other
+
+-- and of the refusal that it becomes
+pub refused_in : {A : Type 0} (r : Result A SplitFault) (x : Fault) {out : Fault} (P : Type 0) → IsErrAnd r (λ e. e ≡ Refused x) → (x ≡ out → P) → IfErr r (λ fault. fault ≡ Refused out → P)
+unfolding fault_in
+refused_in (Ok a) x P h f = tt
+refused_in (Err e) x P h f = λ i. f (ap (λ (s : SplitFault). fault_in s x) (sym h ∙ i))
 
 module _ {D S : Type 0} (hooks : Hooks D S) (settings : Settings) (given : List (DataSegment D)) (from : S) where
   -- what a pass joins is, without data, its cut

@@ -107,7 +107,7 @@ pub marks_on_rise : (placing : Placing) (segments : List WholeSegment) (s : Pair
 unfolding marks_on
 marks_on_rise placing segments s = IsStrictlySortedBy-distinct point_cmp_total (flat_map (λ t. marks_by placing s t) (pairs segments))
 
-distinct-marks_on : (placing : Placing) (segments : List WholeSegment) (s : Pair) → distinct_in_order point_cmp (marks_on placing segments s) ≡ marks_on placing segments s
+pub distinct-marks_on : (placing : Placing) (segments : List WholeSegment) (s : Pair) → distinct_in_order point_cmp (marks_on placing segments s) ≡ marks_on placing segments s
 distinct-marks_on placing segments s = distinct_in_order-sorted point_cmp (marks_on placing segments s) (marks_on_rise placing segments s)
 
 -- ---- sums of naturals

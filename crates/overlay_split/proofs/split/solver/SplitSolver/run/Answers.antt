@@ -2,6 +2,7 @@ use Rattle.std.proofs.Common.{rules, ◌≡◌, refl, sym, ap, subst, ◌∙◌,
 use Rattle.std.specs.Prelude.{IsTrue, nat_le}
 use Rattle.std.proofs.lemmas.Bool.{both_ways, not-true, not-false}
 use Rattle.overlay_base.specs.declared.segm.fault.Fault.TheVariants.{CountOutOfRange}
+use Rattle.overlay_split.specs.declared.split.fault.SplitFault.TheVariants.{Refused}
 use Rattle.overlay_base.specs.Segments.{WholeSegment}
 use Rattle.overlay_base.specs.EdgeData.{DataSegment, Hooks}
 use Rattle.overlay_base.specs.HooksOf.{hooks_of}
@@ -21,12 +22,16 @@ use Rattle.overlay_base.specs.Planar.{is_splittable}
 use Rattle.overlay_base.proofs.laws.joins.Maps.{is_map-join}
 use Rattle.overlay_split.proofs.laws.passes.Splittable.{is_splittable-join}
 use Rattle.overlay_split.proofs.laws.passes.Ready.{IsPairInRange-each}
+use Rattle.overlay_split.proofs.laws.passes.RunLengths.{joins_first, joins_next, stops_first, stops_next}
 use Rattle.overlay_split.proofs.laws.passes.RunLooks.{AreRunLooks-start, AreRunLooks-more}
 use Rattle.overlay_split.proofs.laws.passes.GridRuns.{run_lies_inside}
 use Rattle.overlay_grid.specs.GroupsOf.{grid_in}
 use Rattle.overlay_base.specs.EdgeData.{IsMadeFrom}
+use Rattle.overlay_base.specs.EdgeData.IsMadeFrom.{no_call}
+use Rattle.overlay_base.specs.declared.segm.segment.Segment.{Segment}
+use Rattle.std.proofs.lemmas.List.{length-map}
 use Rattle.overlay_base.proofs.laws.joins.Stores.{made_further}
-use Rattle.overlay_split.proofs.laws.passes.StoppedRuns.{refused_by}
+use Rattle.overlay_split.proofs.laws.passes.StoppedRuns.{refused_by, refused_in}
 use Rattle.overlay_split.proofs.laws.passes.Stores.{made_by_passes}
 use Rattle.overlay_split.proofs.split.solver.SplitSolver.run.Goals as goal
 use Rattle.overlay_split.proofs.split.solver.SplitSolver.run.Goals.{else-loop-test, then-loop-test+then-not-progress}
@@ -34,6 +39,21 @@ use Rattle.overlay_split.proofs.split.solver.SplitSolver.run.Goals.{else-loop-te
 -- the greatest exponent of a radius is beyond the cap
 cap_fits : (bits : ℕ) → bits ≤ 32 → exponent_cap bits ≤ 2 ^ 64 - 1
 cap_fits bits b = omega (arith, b)
+
+-- ---- the limit
+
+-- a list is as long as its segments are many
+given_is : {C I D : Type 0} {m : _} {w : _} {o : _} {e : _} {p : _} (xs : List (Segment C I D m w o e p)) (len told : ℕ) → len ≡ length xs → told ≡ len → told ≡ length (segments_of xs)
+given_is xs len told same is = is ∙ same ∙ sym (length-map xs segment_of)
+
+pub returns-then-len-limit-clause-beyond : goal.returns-then-len-limit-clause-beyond
+returns-then-len-limit-clause-beyond g c = λ _.
+    let items = c.args.list.now.items in
+    stops_first (hooks_of g.C.WindingCount.counted g.D.OverlayEdgeData) (settings_of g.I.OverlayInt.BITS c.args.solver.now c.args.self.now) (segments_of items) (data_segments_of items) c.args.store.now c.args.limit c.args.store.now refl
+    (subst (λ n. c.args.limit < n) (given_is items c.args.list.now.len c.len.result c.args.list.now.ok.0 c.len.ensures) c.if-len-limit.true)
+
+pub returns-then-len-limit-clause-store_made : goal.returns-then-len-limit-clause-store_made
+returns-then-len-limit-clause-store_made g c = no_call
 
 -- ---- the join
 
@@ -46,11 +66,11 @@ returns-in_err-repeated-clause-stopped g c =
     let settings = settings_of g.I.OverlayInt.BITS c.args.solver.now c.args.self.now in
     let stopped : c.in_err-repeated.field-0.0 ≡ CountOutOfRange → IsStoppedRun hooks settings (data_segments_of c.args.list.now.items) c.args.store.now c.join_with_store.new.store =
     λ e. stopped_at_start hooks settings (data_segments_of c.args.list.now.items) c.args.store.now c.join_with_store.new.store (c.in_err-repeated.ensures.stopped e) in
-    refused_by c.from_residual.result c.in_err-repeated.field-0.0 _ c.from_residual.ensures.1 stopped
+    refused_in c.from_residual.result c.in_err-repeated.field-0.0 _ c.from_residual.ensures.1 stopped
 
 pub loop-init : goal.loop-init
 loop-init g c = record {
-  at = at_start _ _ _ _ _ _ _ _ _ _ _ _ (segments_ordered c.args.list.now.items) c.requires c.in_ok-repeated.ensures.geometry c.in_ok-repeated.ensures.edge_data c.in_ok-repeated.ensures.store c.in_ok-repeated.ensures.repeated (starts-is c.join_with_store.new.list.items _ (let two : nat_le 2 c.len.result ≡ nat_le 2 (length c.join_with_store.new.list.items) = search rules in two)) c.in_ok-repeated.ensures.fits;
+  at = at_start _ _ _ _ _ _ _ _ _ _ _ _ (segments_ordered c.args.list.now.items) c.requires c.in_ok-repeated.ensures.geometry c.in_ok-repeated.ensures.edge_data c.in_ok-repeated.ensures.store c.in_ok-repeated.ensures.repeated (starts-is c.join_with_store.new.list.items _ (let two : nat_le 2 c.len-2.result ≡ nat_le 2 (length c.join_with_store.new.list.items) = search rules in two)) c.in_ok-repeated.ensures.fits;
   made = refl;
   exponent = omega (arith, c.snap_radius-radius.ensures.exponent);
   step = c.snap_radius-radius.ensures.step;
@@ -60,6 +80,7 @@ loop-init g c = record {
   reach_room = omega arith;
   reach_before = refl;
   looks = rw (c.in-Ok.ensures.looked) (AreRunLooks-start c.args.solver.now.strategy (settings_of g.I.OverlayInt.BITS c.args.solver.now c.args.self.now) (segments_of c.args.list.now.items) (segments_of c.deref.result.now) (grid_in c.in-Ok.finder.grid) (ap (λ l. segments_of l) c.deref.ensures.value ∙ c.in_ok-repeated.ensures.geometry) c.in-Ok.ensures.grid);
+  within = joins_first (settings_of g.I.OverlayInt.BITS c.args.solver.now c.args.self.now) (segments_of c.args.list.now.items) c.args.limit (subst (λ n. n ≤ c.args.limit) (given_is c.args.list.now.items c.args.list.now.len c.len.result c.args.list.now.ok.0 c.len.ensures) c.if-len-limit.false);
   solver = c.in-Ok.ensures.solver;
   looked_before = refl;
 }
@@ -82,6 +103,7 @@ loop-preserved g c =
       reach_room = let more = c.in_ok-progress.ensures.reach_bound in let room = c.loop.invariant.reach_room in omega (arith, more, room);
       reach_before = c.loop.invariant.reach_before;
       looks = AreRunLooks-more c.args.solver.now.strategy c.loop.finder.solver.strategy (settings_of g.I.OverlayInt.BITS c.args.solver.now c.args.self.now) (segments_of c.args.list.now.items) (segments_of c.loop.list.items) (grid_in c.loop.finder.grid) (grid_in c.after_pass.new.finder.grid) c.loop.progress.passes _ c.loop.finder.looked c.after_pass.new.finder.looked c.loop.invariant.looks (ap (λ (s : Solver). s.strategy) c.loop.invariant.solver) c.in_ok-progress.ensures.grid c.in_ok-progress.ensures.passes c.loop.invariant.at.arrangement_is c.in_ok-progress.ensures.looked;
+      within = joins_next (settings_of g.I.OverlayInt.BITS c.args.solver.now c.args.self.now) (segments_of c.args.list.now.items) c.args.limit (segments_of c.loop.list.items) _ c.loop.progress.passes _ c.loop.invariant.within c.in_ok-progress.ensures.passes placing c.loop.invariant.at.arrangement_is c.in_ok-progress.ensures.within;
       solver = c.in_ok-progress.ensures.solver ∙ c.loop.invariant.solver;
       looked_before = c.loop.invariant.looked_before;
     }
@@ -92,9 +114,19 @@ returns-in_err-progress-clause-stopped g c =
     let settings = settings_of g.I.OverlayInt.BITS c.args.solver.now c.args.self.now in
     let limit : c.loop.counter < c.args.self.now.snap_limit = omega (arith, c.loop-test.true, c.loop.invariant.limit) in
     let placing = snaps_at settings _ _ _ _ _ c.loop.invariant.made limit (cap_fits _ g.met.I.OverlayInt.most_bits) c.loop.invariant.exponent c.snapping-placing.ensures.placing in
-    let stopped : c.in_err-progress.field-0.0 ≡ CountOutOfRange → IsStoppedRun hooks settings (data_segments_of c.args.list.now.items) c.args.store.now c.after_pass.new.store =
+    let stopped : c.in_err-progress.field-0.0 ≡ Refused CountOutOfRange → IsStoppedRun hooks settings (data_segments_of c.args.list.now.items) c.args.store.now c.after_pass.new.store =
     λ e. stopped_at _ _ _ _ _ _ _ _ _ _ _ _ _ _ _ (segments_of-bare c.args.list.now.items) c.loop.invariant.at (not-false _ c.if-not-progress.false) placing (c.in_err-progress.ensures.stopped e) in
     refused_by c.from_residual-in_err-progress.result c.in_err-progress.field-0.0 _ c.from_residual-in_err-progress.ensures.1 stopped
+
+pub returns-in_err-progress-clause-beyond : goal.returns-in_err-progress-clause-beyond
+returns-in_err-progress-clause-beyond g c =
+    let hooks = hooks_of g.C.WindingCount.counted g.D.OverlayEdgeData in
+    let settings = settings_of g.I.OverlayInt.BITS c.args.solver.now c.args.self.now in
+    let given = c.args.list.now.items in
+    let limit : c.loop.counter < c.args.self.now.snap_limit = omega (arith, c.loop-test.true, c.loop.invariant.limit) in
+    let placing = snaps_at settings _ _ _ _ _ c.loop.invariant.made limit (cap_fits _ g.met.I.OverlayInt.most_bits) c.loop.invariant.exponent c.snapping-placing.ensures.placing in
+    refused_by c.from_residual-in_err-progress.result c.in_err-progress.field-0.0 _ c.from_residual-in_err-progress.ensures.1
+    (λ e. stops_next hooks settings (segments_of given) (data_segments_of given) c.args.store.now c.args.limit _ _ _ _ _ _ _ _ _ _ c.loop.invariant.at (not-false _ c.if-not-progress.false) placing c.loop.invariant.within (c.in_err-progress.ensures.beyond e) (c.in_err-progress.ensures.uncut e))
 
 -- ---- settling
 
@@ -120,6 +152,7 @@ loop-progress-init g c = record {
       few_enough c.loop.list.items c.loop.progress.reach few (omega (arith, c.loop.list.small, c.loop.list.ok)) (omega (arith, most, c.loop.auto.counter-end));
   reach_before = c.loop.invariant.reach_before;
   looks = c.loop.invariant.looks;
+  within = c.loop.invariant.within;
   solver = c.loop.invariant.solver;
   looked_before = c.loop.invariant.looked_before;
 }
@@ -141,6 +174,7 @@ loop-progress-preserved g c =
           keeps_room _ _ _ _ _ _ c.loop-progress.invariant.at.map c.in_ok-progress-2.ensures.geometry (goes_on-is c.after_pass-in-loop-progress.new.list.items _ _ c.in_ok-progress-2.ensures.goes_on) h (omega (arith, more, there)) (c.loop-progress.invariant.reach_room c.loop-progress-test.true);
       reach_before = c.loop-progress.invariant.reach_before;
       looks = AreRunLooks-more c.args.solver.now.strategy c.loop-progress.finder.solver.strategy (settings_of g.I.OverlayInt.BITS c.args.solver.now c.args.self.now) (segments_of c.args.list.now.items) (segments_of c.loop-progress.list.items) (grid_in c.loop-progress.finder.grid) (grid_in c.after_pass-in-loop-progress.new.finder.grid) c.loop-progress.progress.passes _ c.loop-progress.finder.looked c.after_pass-in-loop-progress.new.finder.looked c.loop-progress.invariant.looks (ap (λ (s : Solver). s.strategy) c.loop-progress.invariant.solver) c.in_ok-progress-2.ensures.grid c.in_ok-progress-2.ensures.passes c.loop-progress.invariant.at.arrangement_is c.in_ok-progress-2.ensures.looked;
+      within = joins_next (settings_of g.I.OverlayInt.BITS c.args.solver.now c.args.self.now) (segments_of c.args.list.now.items) c.args.limit (segments_of c.loop-progress.list.items) _ c.loop-progress.progress.passes _ c.loop-progress.invariant.within c.in_ok-progress-2.ensures.passes placing c.loop-progress.invariant.at.arrangement_is c.in_ok-progress-2.ensures.within;
       solver = c.in_ok-progress-2.ensures.solver ∙ c.loop-progress.invariant.solver;
       looked_before = c.loop-progress.invariant.looked_before;
     }
@@ -153,9 +187,18 @@ returns-in_err-progress-2-clause-stopped g c =
     let hooks = hooks_of g.C.WindingCount.counted g.D.OverlayEdgeData in
     let settings = settings_of g.I.OverlayInt.BITS c.args.solver.now c.args.self.now in
     let placing = settles settings c.loop-progress.progress.passes (c.loop-progress.invariant.late c.loop-progress-test.true) in
-    let stopped : c.in_err-progress-2.field-0.0 ≡ CountOutOfRange → IsStoppedRun hooks settings (data_segments_of c.args.list.now.items) c.args.store.now c.after_pass-in-loop-progress.new.store =
+    let stopped : c.in_err-progress-2.field-0.0 ≡ Refused CountOutOfRange → IsStoppedRun hooks settings (data_segments_of c.args.list.now.items) c.args.store.now c.after_pass-in-loop-progress.new.store =
     λ e. stopped_at _ _ _ _ _ _ _ _ _ _ _ _ _ _ _ (segments_of-bare c.args.list.now.items) c.loop-progress.invariant.at c.loop-progress-test.true placing (c.in_err-progress-2.ensures.stopped e) in
     refused_by c.from_residual-in_err-progress-2.result c.in_err-progress-2.field-0.0 _ c.from_residual-in_err-progress-2.ensures.1 stopped
+
+pub returns-in_err-progress-2-clause-beyond : goal.returns-in_err-progress-2-clause-beyond
+returns-in_err-progress-2-clause-beyond g c =
+    let hooks = hooks_of g.C.WindingCount.counted g.D.OverlayEdgeData in
+    let settings = settings_of g.I.OverlayInt.BITS c.args.solver.now c.args.self.now in
+    let given = c.args.list.now.items in
+    let placing = settles settings c.loop-progress.progress.passes (c.loop-progress.invariant.late c.loop-progress-test.true) in
+    refused_by c.from_residual-in_err-progress-2.result c.in_err-progress-2.field-0.0 _ c.from_residual-in_err-progress-2.ensures.1
+    (λ e. stops_next hooks settings (segments_of given) (data_segments_of given) c.args.store.now c.args.limit _ _ _ _ _ _ _ _ _ _ c.loop-progress.invariant.at c.loop-progress-test.true placing c.loop-progress.invariant.within (c.in_err-progress-2.ensures.beyond e) (c.in_err-progress-2.ensures.uncut e))
 
 -- ---- the end
 

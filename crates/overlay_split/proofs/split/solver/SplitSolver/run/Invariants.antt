@@ -7,6 +7,7 @@ use Rattle.overlay_split.specs.SettingsOf.{settings_of}
 use Rattle.overlay_split.specs.Nearness.{reach_of_run}
 use Rattle.overlay_split.specs.Potential.{potential}
 use Rattle.overlay_grid.specs.GroupsOf.{grid_in}
+use Rattle.overlay_split.specs.RunLengths.{JoinsAtMost}
 use Rattle.overlay_split.specs.RunLooks.{AreRunLooks}
 use Rattle.overlay_split.specs.steps.IsAt.{IsAt}
 use Rattle.overlay_split.proofs.split.solver.SplitSolver.run.Given as goal
@@ -26,6 +27,7 @@ invariant-loop g l = record {
   reach_room : l.progress.reach ≤ l.counter * 2 ^ 34;
   reach_before : l.self.reach ≡ l.fn.self.reach;
   looks : AreRunLooks l.solver.strategy (settings_of g.I.OverlayInt.BITS l.solver l.fn.self) (segments_of l.fn.list.items) (grid_in l.finder.grid) l.progress.passes l.finder.looked;
+  within : JoinsAtMost (settings_of g.I.OverlayInt.BITS l.solver l.fn.self) (segments_of l.fn.list.items) l.limit l.progress.passes;
   solver : l.finder.solver ≡ l.solver;
   looked_before : l.self.looked ≡ l.fn.self.looked;
 }
@@ -44,6 +46,7 @@ invariant-loop-progress g l = record {
   reach_room : l.progress.goes_on ≡ true → l.progress.reach + potential (segments_of l.list.items) < 2 ^ 127;
   reach_before : l.self.reach ≡ l.fn.self.reach;
   looks : AreRunLooks l.solver.strategy (settings_of g.I.OverlayInt.BITS l.solver l.fn.self) (segments_of l.fn.list.items) (grid_in l.finder.grid) l.progress.passes l.finder.looked;
+  within : JoinsAtMost (settings_of g.I.OverlayInt.BITS l.solver l.fn.self) (segments_of l.fn.list.items) l.limit l.progress.passes;
   solver : l.finder.solver ≡ l.solver;
   looked_before : l.self.looked ≡ l.fn.self.looked;
 }

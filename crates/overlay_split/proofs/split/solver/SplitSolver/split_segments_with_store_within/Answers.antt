@@ -1,19 +1,19 @@
-use Rattle.std.proofs.Common.{◌≡◌, ◌==◌, Bool, true, false, refl, sym, ap, subst, ◌∙◌, ℕ, List, length}
-use Rattle.std.specs.Prelude.{ℤ, Result, Ok, Err, None, IfOk, OnOk, IfErr}
+use Rattle.std.proofs.Common.{◌≡◌, ◌==◌, Bool, true, false, refl, sym, ap, subst, ◌∙◌, arith, ℕ, ◌≤◌, List, length}
+use Rattle.std.specs.Prelude.{ℤ, Result, Ok, Err, None, IfOk, OnOk}
 use Rattle.std.specs.List.{list_all}
 use Rattle.std.proofs.lemmas.Bool.{eqb-true}
 use Rattle.std.proofs.lemmas.Result.{IfOk-weaker, on_ok_weaker, on_err_weaker}
 use Rattle.overlay_split.specs.steps.IsAt.{IsAt}
-use Rattle.overlay_base.specs.declared.segm.fault.Fault.{Fault}
-use Rattle.overlay_base.specs.declared.segm.fault.Fault.TheVariants.{CountOutOfRange}
+use Rattle.overlay_split.specs.declared.split.fault.SplitFault.{SplitFault}
 use Rattle.overlay_base.specs.declared.segm.segment.Segment.{Segment}
 use Rattle.overlay_base.specs.Segments.{WholeSegment}
 use Rattle.overlay_base.specs.EdgeData.{Hooks}
 use Rattle.overlay_base.specs.HooksOf.{hooks_of}
-use Rattle.overlay_base.specs.SegmentOf.{segments_of, data_segments_of}
+use Rattle.overlay_base.specs.SegmentOf.{segment_of, segments_of, data_segments_of}
 use Rattle.overlay_base.proofs.laws.joins.Views.{segments_ordered, segments_of-bare}
 use Rattle.overlay_split.specs.DataPass.{IsStoppedRun}
 use Rattle.overlay_split.specs.Run.{Settings, LeavesRange}
+use Rattle.overlay_split.specs.SplitFaultOf.{OnLargeCount}
 use Rattle.overlay_split.specs.SettingsOf.{settings_of, passes_of, reach_of}
 use Rattle.overlay_split.specs.Nearness.{reach_of_run}
 use Rattle.overlay_split.proofs.laws.nearness.NamedData.{split_names_near}
@@ -22,9 +22,11 @@ use Rattle.overlay_split.proofs.laws.nearness.Reaches.{run-reach-none, reports_r
 use Rattle.overlay_split.proofs.laws.passes.DataInvariants.{data_keeps_what_hooks_keep}
 use Rattle.overlay_split.proofs.laws.passes.StoppedRuns.{stopped_run_leaves_range}
 use Rattle.overlay_split.proofs.laws.passes.Splitting.{HasEnded, at_rest, has_ended, stays_arranged, segments_none}
+use Rattle.std.proofs.lemmas.List.{length-map}
+use Rattle.overlay_split.proofs.laws.passes.RunLengths.{joins_first, result_within}
 use Rattle.overlay_split.proofs.laws.passes.RunLooks.{AreRunLooks-none}
 use Rattle.overlay_base.specs.EdgeData.IsMadeFrom.{no_call}
-use Rattle.overlay_split.proofs.split.solver.SplitSolver.split_segments_with_store.Goals as goal
+use Rattle.overlay_split.proofs.split.solver.SplitSolver.split_segments_with_store_within.Goals as goal
 
 -- what follows of the answer, if there is one
 on_ok_if : {A F Q : Type 0} {P : A → Type 0} (r : Result A F) → ((a : A) → P a → Q) → IfOk r P → OnOk r Q
@@ -32,8 +34,8 @@ on_ok_if (Ok a) f h = f a h
 on_ok_if (Err e) f h = tt
 
 -- where a run stopped a sum leaves the range
-leaves_range : {T C I D S : Type 0} {m : _} {w : _} {o : _} {e : _} {p : _} (r : Result T Fault) (hooks : Hooks D S) (settings : Settings) (xs : List (Segment C I D m w o e p)) (from left : S) →
-    IfErr r (λ fault. fault ≡ CountOutOfRange → IsStoppedRun hooks settings (data_segments_of xs) from left) → IfErr r (λ fault. fault ≡ CountOutOfRange → LeavesRange settings (segments_of xs))
+leaves_range : {T C I D S : Type 0} {m : _} {w : _} {o : _} {e : _} {p : _} (r : Result T SplitFault) (hooks : Hooks D S) (settings : Settings) (xs : List (Segment C I D m w o e p)) (from left : S) →
+    OnLargeCount r (IsStoppedRun hooks settings (data_segments_of xs) from left) → OnLargeCount r (LeavesRange settings (segments_of xs))
 leaves_range (Ok x) hooks settings xs from left h = tt
 leaves_range (Err f) hooks settings xs from left h = λ i. subst (λ (l : List WholeSegment). LeavesRange settings l) (sym (segments_of-bare xs)) (stopped_run_leaves_range hooks settings (data_segments_of xs) from left (h i))
 
@@ -47,6 +49,9 @@ on_ok_both (Err e) f h k = tt
 -- a list that is told to be empty
 none_given : (n len : ℕ) (told : Bool) → len ≡ n → told ≡ (len == 0) → told ≡ true → n ≡ 0
 none_given n len told same is empty = sym same ∙ eqb-true len 0 (sym is ∙ empty)
+
+none_at_most : (n k : ℕ) {limit : ℕ} → n ≡ k → k ≡ 0 → n ≤ limit
+none_at_most n k e f = omega arith
 
 -- a run over no segments stands at its start, and has ended
 module _ {C I D S : Type 0} {m : _} {w : _} {o : _} {e : _} {p : _} (hooks : Hooks D S) (settings : Settings) (least greatest : ℤ) (xs : List (Segment C I D m w o e p)) (from : S) (none : length xs ≡ 0) where
@@ -118,6 +123,12 @@ pub returns-then-is_empty-clause-reach : goal.returns-then-is_empty-clause-reach
 returns-then-is_empty-clause-reach g c =
     let settings = settings_of g.I.OverlayInt.BITS c.args.solver.now c.args.self.now in
     reports_reach settings (segments_of c.args.list.now.items) 0 0 (run-reach-none settings (segments_of c.args.list.now.items))
+
+pub returns-then-is_empty-clause-within : goal.returns-then-is_empty-clause-within
+returns-then-is_empty-clause-within g c =
+    let none = none_given (length c.args.list.now.items) c.args.list.now.len c.is_empty.result c.args.list.now.ok.0 c.is_empty.ensures c.if-is_empty.true in
+    let settings = settings_of g.I.OverlayInt.BITS c.args.solver.now c.args.self.now in
+    joins_first settings (segments_of c.args.list.now.items) c.args.limit (none_at_most _ _ (length-map c.args.list.now.items segment_of) none)
 
 -- ---- any other list
 
@@ -192,3 +203,12 @@ returns-clause-exact_reach g c = λ exact.
     on_ok_both c.run.result
     (λ flag at reach. reach ∙ exact_input_reaches_nothing settings (segments_of c.args.list.now.items) (segments_of c.run.new.list.items) (passes_of c.run.new.self) flag (segments_ordered c.args.list.now.items) exact (has_ended _ _ _ _ _ _ _ _ _ _ _ _ _ (segments_ordered c.args.list.now.items) at refl).run)
     c.run.ensures.ended c.run.ensures.reach
+
+pub returns-clause-length : goal.returns-clause-length
+returns-clause-length g c =
+    let settings = settings_of g.I.OverlayInt.BITS c.args.solver.now c.args.self.now in
+    let given = segments_of c.args.list.now.items in
+    let left = c.run.new.list.items in
+    on_ok_both c.run.result
+    (λ flag at within. subst (λ n. n ≤ c.args.limit) (length-map left segment_of) (result_within settings given c.args.limit (segments_of left) (passes_of c.run.new.self) at.arrangement_is within))
+    c.run.ensures.ended c.run.ensures.within
