@@ -50,8 +50,11 @@ fn level<I: OverlayInt>(rt: &impl Abort, k: u32) -> VSegment<I>
     VSegment { a, b }
 }
 
+/// How many rows are kept: more than a row of live segments holds before it becomes a tree.
+const ROWS: u32 = 3000;
+
 fn row_sum(k: u32) -> ShapeCountBoolean
-    requires { k < 1000 }
+    requires { k < 3000 }
     ensures { boolean_winding result ≡ (level_row k).count }
 {
     ShapeCountBoolean {
@@ -65,7 +68,7 @@ fn insert_row<I: OverlayInt, L: LiveSegments<ShapeCountBoolean, I>>(
     live: &mut L,
     k: u32,
 )
-    requires few { k < 1000 }
+    requires few { k < 3000 }
     requires rows { AreRows (pos 0) (L.sums live.old) }
     requires time { (y : ℤ) → pos 0 ≤ℤ y → L.may_go_on_at live.old y }
     ensures rows { AreRows (pos 0) (L.sums live.new) }
@@ -112,8 +115,8 @@ fn insert_rows<I: OverlayInt, L: LiveSegments<ShapeCountBoolean, I>>(
 {
     live.clear();
     assert_eq!(rt; live.compared(), 0);
-    for j in 0..1000 {
-        insert_row(rt, live, if is_forward { j } else { 999 - j });
+    for j in 0..ROWS {
+        insert_row(rt, live, if is_forward { j } else { ROWS - 1 - j });
         if let Some(asked) = asked.get(j as usize) {
             assert_eq!(rt; live.compared(), *asked);
         }
@@ -130,7 +133,7 @@ fn look_at_rows<I: OverlayInt, L: LiveSegments<ShapeCountBoolean, I>>(
     requires rows { AreRows (pos 0) (L.sums live.old) }
     requires time { (y : ℤ) → pos 0 ≤ℤ y → L.may_go_on_at live.old y }
 {
-    for k in 0..1000u32 {
+    for k in 0..ROWS {
         let sum = sum_at(rt, live, 5, 2 * i64::from(k) + 1);
         let few = least <= live.compared() && live.compared() <= most;
         assert_eq!(rt; (k, sum, few), (k, (k as i32 + 1, 0), true));
@@ -145,8 +148,8 @@ fn tree_of_rows<I: OverlayInt>(rt: &impl Abort, alloc: Global) {
     assert_eq!(rt; tree.compared(), 0);
     for is_forward in [true, false] {
         insert_rows(rt, &mut tree, is_forward, &[]);
-        assert!(rt; tree.depth() <= 19);
-        look_at_rows(rt, &mut tree, 1, 19);
+        assert!(rt; tree.depth() <= 23);
+        look_at_rows(rt, &mut tree, 1, 23);
     }
 }
 
@@ -155,7 +158,7 @@ fn list_of_rows<I: OverlayInt>(rt: &impl Abort, alloc: Global) {
     assert_eq!(rt; list.compared(), 0);
     for is_forward in [true, false] {
         insert_rows(rt, &mut list, is_forward, &ASKED_AMONG);
-        look_at_rows(rt, &mut list, 11, 11);
+        look_at_rows(rt, &mut list, 13, 13);
         assert_eq!(rt; list.compared(), 0);
     }
 }
@@ -166,16 +169,16 @@ fn a_tree_of_rows_asks_few_orders(rt: HostRuntime) {
     tree_of_rows::<i32>(&rt, rt.alloc());
 }
 
-/// Among 1,000 entries that all last a search by halves asks at most 10 orders.
+/// Among 3,000 entries that all last a search by halves asks 11 or 12 orders.
 fn other_rows<I: OverlayInt>(rt: &impl Abort, alloc: Global) {
     let mut row: ScanRow<ShapeCountBoolean, I> = ScanRow::new(alloc);
     let mut mixed: ScanMixed<ShapeCountBoolean, I> = ScanMixed::new(alloc);
     assert_eq!(rt; (row.compared(), mixed.compared()), (0, 0));
     for is_forward in [true, false] {
         insert_rows(rt, &mut row, is_forward, &[]);
-        look_at_rows(rt, &mut row, 9, 10);
+        look_at_rows(rt, &mut row, 11, 12);
         insert_rows(rt, &mut mixed, is_forward, &[]);
-        look_at_rows(rt, &mut mixed, 1, 19);
+        look_at_rows(rt, &mut mixed, 1, 23);
     }
 }
 

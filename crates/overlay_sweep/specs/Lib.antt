@@ -9,6 +9,7 @@ pub mod EntryOf
 pub mod TreeShapes
 pub mod Costs
 pub mod Supports
+pub mod LivePositions
 pub mod ScanTrees
 pub mod LiveOf
 pub mod Laws

@@ -1,8 +1,9 @@
 -- What a list, a tree and a runner keep, as the clauses of their calls name it.
 use Rattle.std.specs.Prelude.{ℕ, ℤ, MatchBool, cond, List, length}
+use Rattle.overlay_geometry.specs.PointOf.{point_of}
 use Rattle.overlay_base.specs.Segments.{WholeSegment}
 use Rattle.overlay_sweep.specs.EntryOf.{entries_of}
-use Rattle.overlay_sweep.specs.ScanTrees.{IsScanList, IsScanRow, IsScanTree}
+use Rattle.overlay_sweep.specs.ScanTrees.{IsScanList, IsCursorRow, IsScanTree}
 use Rattle.overlay_sweep.specs.declared.build.entry.Entry.{Entry}
 use Rattle.overlay_sweep.specs.declared.build.scan_mixed.ScanMixed.{ScanMixed}
 use Rattle.overlay_sweep.specs.declared.build.scan_list.ScanList.{ScanList}
@@ -36,7 +37,7 @@ abbrev pub row_held : {C I : Type 0} {m : _} {w : _} {o : _} {e : _} {p : _} →
 row_held row = length (row_entries row)
 
 abbrev pub IsInRowAt : {C I : Type 0} {m : _} {w : _} {o : _} {e : _} {p : _} → ℤ → ScanRow C I m w o e p → Type 0
-IsInRowAt x row = IsScanRow x (row_sums row)
+IsInRowAt {w = w} x row = IsCursorRow x (row_sums row) row.has_cursor (point_of w.whole row.point) row.cursor
 
 -- the entries of a tree since it was cleared, those that were taken out too; their segments with the sums as counts; and how many of them are in the tree
 abbrev pub tree_entries : {C I : Type 0} {m : _} {w : _} {o : _} {e : _} {p : _} → ScanTree C I m w o e p → List (Entry C I m w o e p)

@@ -1,12 +1,14 @@
 -- What a list of live segments holds: those that last, from below. And what a tree does: the indexes of these.
-use Rattle.std.specs.Prelude.{◌≡◌, ℕ, suc, pos, ◌*◌, ◌<◌, ◌≤◌, ◌^◌, ℤ, ◌≤ℤ◌, int_lt, Bool, true, false, List, [], ◌∷◌, ◌++◌, ◌⊎◌, length, slice_index_or, All, ⊤}
+use Rattle.std.specs.Prelude.{◌≡◌, ℕ, suc, pos, ◌*◌, ◌<◌, ◌≤◌, ◌^◌, ℤ, ◌≤ℤ◌, int_lt, Bool, true, false, ◌||◌, List, [], ◌∷◌, ◌++◌, ◌⊎◌, length, slice_index_or, All, ⊤}
 use Rattle.std.specs.List.{range_with_len}
 use Rattle.std.specs.Ordering.{is_lt}
 use Rattle.overlay_base.specs.Segments.{WholeSegment}
 use Rattle.overlay_base.specs.Windings.{empty}
+use Rattle.overlay_geometry.specs.Points.{Point, Pair, turn, point_eq}
 use Rattle.overlay_geometry.specs.Below.{under_segment_order}
 use Rattle.overlay_sweep.specs.ChainWindings.{is_live}
 use Rattle.overlay_sweep.specs.Costs.{IsHighest}
+use Rattle.overlay_sweep.specs.LivePositions.{IsLivePosition}
 use Rattle.overlay_sweep.specs.declared.build.tree_shape.TreeNode.{TreeNode}
 use Rattle.overlay_sweep.specs.TreeShapes.{Has, none, IsTree, IsDistinct, MayGoDown, HasLast, HasFirst}
 
@@ -31,6 +33,15 @@ IsFromBelow x segments (i ∷ is) =
 pub record IsScanRow (x : ℤ) (segments : List WholeSegment) : Type 0 where
   pub begun : All (λ s. s.pair.a.x ≤ℤ x) segments
   pub from_below : IsFromBelow x segments (range_with_len 0 (length segments))
+
+-- whether a segment runs below a point, or starts there
+abbrev pub is_below_or_from : Point → Pair → Bool
+is_below_or_from p s = int_lt (pos 0) (turn s.a s.b p) || point_eq s.a p
+
+-- Such a list with a cursor, if one is kept, at its point's x: the segment just below the cursor has not ended, and runs below the point or starts there; the next one above that has not ended does neither.
+pub record IsCursorRow (x : ℤ) (segments : List WholeSegment) (is_kept : Bool) (p : Point) (at : ℕ) : Type 0 where
+  pub row : IsScanRow x segments
+  pub cursor : is_kept ≡ true → p.x ≡ x → IsLivePosition (lasts_past x segments) (λ i. is_below_or_from p (segment_at segments i).pair) (length segments) at
 
 -- such a list with no end left of the least one
 pub record IsScanList (x : ℤ) (segments : List WholeSegment) (least_end : ℤ) : Type 0 where

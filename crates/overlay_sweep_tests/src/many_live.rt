@@ -24,19 +24,19 @@ type Line = Segment<ShapeCountBoolean, i32, ()>;
 
 /// How many lines are live together, at most: with so few the row is full of lines that have ended, and with so many
 /// of live ones.
-const LIVE: [u32; 2] = [300, 1000];
+const LIVE: [u32; 2] = [1000, 3000];
 
 /// Runs of level lines. Those of a run begin one by one, by turns above and below those before, and end together, where
 /// the next run begins.
 fn lines_in_runs(rt: &(impl Abort + AllocGlobal), runs: u32, live: u32) -> Result<Vec<Line>, Fail> {
-    assert!(rt; runs <= 10 && live <= 1000);
+    assert!(rt; runs <= 10 && live <= 3000);
     let mut lines = Vec::new(rt.alloc());
     for run in 0..runs {
-        let start = 1000 * run as i32;
+        let start = 3000 * run as i32;
         for i in 0..live {
             let x = i as i32;
-            let y = if i % 2 == 0 { 1000 - x } else { x - 1000 };
-            let (a, b) = (IntPoint::new(start + x, y), IntPoint::new(start + 1000, y));
+            let y = if i % 2 == 0 { 3000 - x } else { x - 3000 };
+            let (a, b) = (IntPoint::new(start + x, y), IntPoint::new(start + 3000, y));
             let count = ShapeCountBoolean { subj: 1, clip: 0 };
             assert!(rt; a != b && count.is_valid());
             lines.push(Segment::create_and_validate_with_data(a, b, count, (), &mut ()))?;
@@ -128,18 +128,18 @@ fn compared_over<L: LiveSegments<ShapeCountBoolean, i32>>(
 }
 
 /// Each kind of live segments serves a sweep by itself. What becomes a tree compares other orders than the row that
-/// stays one, so the tree does serve; among 1,000 it compares at most 19 in a call, of two for each line.
+/// stays one, so the tree does serve; among 3,000 it compares at most 23 in a call, of two for each line.
 #[test]
 fn a_tree_serves_where_many_are_live(rt: HostRuntime) -> Result<(), Fail> {
-    let lines = lines_in_runs(&rt, 3, 1000)?;
+    let lines = lines_in_runs(&rt, 3, 3000)?;
     assert!(rt; is_arranged(&lines));
-    let expected = fills_of_runs(&rt, 3, 1000)?;
+    let expected = fills_of_runs(&rt, 3, 3000)?;
     let alloc = rt.alloc();
     compared_over(&rt, &mut ScanList::new(alloc), &lines, &expected)?;
     let row = compared_over(&rt, &mut ScanRow::new(alloc), &lines, &expected)?;
     let tree = compared_over(&rt, &mut ScanTree::new(alloc), &lines, &expected)?;
     let mixed = compared_over(&rt, &mut ScanMixed::new(alloc), &lines, &expected)?;
     assert!(rt; row != mixed);
-    assert!(rt; tree <= 3000 * 2 * 19 && mixed <= 3000 * 2 * 19);
+    assert!(rt; tree <= 9000 * 2 * 23 && mixed <= 9000 * 2 * 23);
     Ok(())
 }

@@ -16,7 +16,7 @@ pub enum Shape {
     Crossed,
     /// 60 level lines and twenty upright lines across: more are live at once than are compared without a tree.
     Long,
-    /// 600 level lines that begin at one `x`: so many are live at once that a sweep's row gives way to its tree.
+    /// 2,100 level lines that begin at one `x`: so many are live at once that a sweep's row gives way to its tree.
     Levels,
     /// Six squares of the subject, each with one of the clip over its upper right corner: short, so that a grid's
     /// columns serve, and with more links than a sort takes without memory.
@@ -140,7 +140,7 @@ fn push_levels<C: WindingCount, D: OverlayEdgeData<C>>(
     edge_data: Data<D>,
     store: &mut D::Store,
 ) -> Result<(), Stop> {
-    for line in 0..600_u16 {
+    for line in 0..2100_u16 {
         let y = i32::from(line);
         push_line(list, ((0, y), (10, y), Subject), edge_data, store)?;
     }

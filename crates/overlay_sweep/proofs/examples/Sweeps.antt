@@ -1,8 +1,8 @@
 -- Worked examples of windings, fills and the order of a sweep. Each holds by computation.
-use Rattle.std.specs.Prelude.{◌≡◌, refl, ℕ, pos, negsuc, ℤ, Bool, true, not, ◌&&◌, ◌||◌, List, [], ◌∷◌, map}
+use Rattle.std.specs.Prelude.{◌≡◌, refl, ℕ, pos, negsuc, ℤ, Bool, true, false, not, ◌&&◌, ◌||◌, List, [], ◌∷◌, map}
 use Rattle.std.specs.List.{list_all}
 use Rattle.std.specs.declared.cmp.Ordering.TheVariants.{Less}
-use Rattle.overlay_geometry.specs.Points.{Pair, is_vertical}
+use Rattle.overlay_geometry.specs.Points.{Point, Pair, is_vertical}
 use Rattle.overlay_base.specs.Windings.{winding_eq}
 use Rattle.overlay_base.specs.Segments.{WholeSegment}
 use Rattle.overlay_base.specs.EdgeData.{DataSegment}
@@ -12,6 +12,7 @@ use Rattle.overlay_base.specs.declared.overlay_core.fill_rule.FillRule.TheVarian
 use Rattle.overlay_sweep.specs.ColumnWindings.{spans_column, column_bottom, column_top, right_winding, left_winding}
 use Rattle.overlay_sweep.specs.ChainWindings.{bottom, top, tops_leave_range}
 use Rattle.overlay_sweep.specs.Sweep.{fill_of, visits}
+use Rattle.overlay_sweep.specs.ScanTrees.{is_below_or_from}
 use Rattle.overlay_sweep.proofs.examples.Computing.{computing}
 
 abbrev pub pair : ℤ → ℤ → ℤ → ℤ → Pair
@@ -120,3 +121,11 @@ verticals_of_clockwise = refl
 level_runs_under_point : under_point_order (pair (negsuc 9) (negsuc 9) (pos 10) (negsuc 9)) (record { x = negsuc 9; y = pos 10 }) ≡ Less
 unfolding computing
 level_runs_under_point = refl
+
+abbrev point : ℤ → ℤ → Point
+point x y = record { x = x; y = y }
+
+-- a cursor's point lies above a segment, at its start, and on it further right
+below_or_from : map (λ p. is_below_or_from p (pair (pos 0) (pos 0) (pos 4) (pos 0))) (point (pos 1) (pos 1) ∷ point (pos 0) (pos 0) ∷ point (pos 1) (pos 0) ∷ []) ≡ (true ∷ true ∷ false ∷ [])
+unfolding computing
+below_or_from = refl

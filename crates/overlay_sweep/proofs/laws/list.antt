@@ -6,3 +6,4 @@ pub mod ListAnswers
 pub mod ListAsTree
 pub mod Halves
 pub mod LastingRows
+pub mod Cursors

@@ -7,19 +7,9 @@ pub record IsPosition (before : ℕ → Bool) (many at : ℕ) : Type 0 where
   pub last_is : (at ≡ 0) ⊎ (before (at - 1) ≡ true)
   pub first_is : (at ≡ many) ⊎ (before at ≡ false)
 
--- the first entry from an index on that has not ended, if there is one, does not stand before the place
-pub record HasNext (lasts before : ℕ → Bool) (many at : ℕ) : Type 0 where
-  pub next : ℕ
-  pub order : at ≤ next
-  pub within : next ≤ many
-  pub ended : (k : ℕ) → at ≤ k → k < next → lasts k ≡ false
-  pub is : (next ≡ many) ⊎ ((lasts next ≡ true) × (before next ≡ false))
-
--- a position where entries may have ended: the one just below it has not, and the next above it that has not is meant
-pub record IsLivePosition (lasts before : ℕ → Bool) (many at : ℕ) : Type 0 where
-  pub within : at ≤ many
-  pub last_is : (at ≡ 0) ⊎ ((lasts (at - 1) ≡ true) × (before (at - 1) ≡ true))
-  pub behind : HasNext lasts before many at
+-- the first entry from an index on that has not ended fails a test
+abbrev pub IsElsewhere : (ℕ → Bool) → (ℕ → Bool) → ℕ → ℕ → Type 0
+IsElsewhere lasts there many from = (next : ℕ) → from ≤ next → next < many → ((k : ℕ) → from ≤ k → k < next → lasts k ≡ false) → lasts next ≡ true → there next ≡ false
 
 -- an entry was put in at an index, or in place of one that had ended
 abbrev pub IsPutIn : {E : Type 0} → (ℕ → Bool) → ℕ → E → List E → List E → Type 0

@@ -12,9 +12,8 @@ use overlay_geometry::geom::v_segment::VSegment;
 use overlay_geometry::num::OverlayInt;
 use std::alloc::Global;
 
-/// How many entries the row holds at most. About here a way down the tree takes as long as a search in the row, with
-/// the move of those behind.
-const MOST_IN_ROW: usize = 512;
+/// How many entries the row holds at most. Where more than half of so many are live at once, the tree serves.
+const MOST_IN_ROW: usize = 2048;
 
 /// The live segments from below. They stand in a row until an insert finds it full of segments of which more than half
 /// last, and in a balanced tree from then on, until they are cleared.

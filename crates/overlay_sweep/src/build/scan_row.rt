@@ -15,20 +15,33 @@ use std::alloc::Global;
 /// The live segments from below. What has ended may stay among them until a search meets it.
 ///
 /// A `ScanList` passes over all its entries wherever one has ended; here a search drops only what it meets. In return
-/// the number of its comparisons depends on what is left.
+/// the number of its comparisons depends on what is left. The search for the sum below a point keeps its index, so the
+/// segments that start there are put in without another search.
 #[derive(Drop)]
 pub struct ScanRow<C: WindingCount, I: OverlayInt> {
     entries: Vec<Entry<C, I>>,
+    /// The index for the next segment that starts at `point`, if `has_cursor`.
+    cursor: usize,
+    point: IntPoint<I>,
+    has_cursor: bool,
     compared: u128,
 }
 
 impl<C: WindingCount, I: OverlayInt> ScanRow<C, I> {
-    ghost use Rattle.std.specs.Prelude.{ℕ, ℤ, ◌*◌, ◌+◌, ◌≤◌, ◌^◌, suc, [], All, ◌≤ℤ◌, filter, int_lt, length, OnOk, IfErr};
-    ghost use Rattle.overlay_sweep.specs.EntryOf.{entries_of};
-    ghost use Rattle.overlay_sweep.specs.ScanTrees.{lasts_past, segment_at};
-    ghost use Rattle.overlay_sweep.specs.LiveOf.{row_entries, row_asked, IsInRowAt};
+    ghost use Rattle.std.specs.Prelude.{ℕ, ℤ, ◌*◌, ◌+◌, ◌<◌, ◌≤◌, ◌^◌, suc, ◌≤ℤ◌, ◌<ℤ◌, int_lt, ◌⊎◌, not, true, false};
+    ghost use Rattle.std.specs.Prelude.{[], ◌∷◌, All, filter, length, OnOk, IfErr};
+    ghost use Rattle.overlay_sweep.specs.EntryOf.{entry_of, entries_of};
+    ghost use Rattle.overlay_sweep.specs.ScanTrees.{lasts_past, segment_at, is_below_or_from};
+    ghost use Rattle.std.specs.Ordering.{is_lt};
+    ghost use Rattle.overlay_geometry.specs.Points.{point_eq};
+    ghost use Rattle.overlay_geometry.specs.PointOf.{point_of};
+    ghost use Rattle.overlay_geometry.specs.Below.{under_segment_order};
+    ghost use Rattle.overlay_geometry.specs.VSegmentOf.{v_pair_of};
+    ghost use Rattle.overlay_sweep.specs.Live.{AreFreeAt};
+    ghost use Rattle.overlay_sweep.specs.LiveOf.{row_entries, row_sums, row_asked, IsInRowAt};
     ghost use Rattle.overlay_sweep.specs.steps.PlaceOf.{IsPlaceInRange, stands_before};
-    ghost use Rattle.overlay_sweep.specs.steps.Positions.{IsLivePosition, IsPutIn};
+    ghost use Rattle.overlay_sweep.specs.LivePositions.{HasNext, IsLivePosition};
+    ghost use Rattle.overlay_sweep.specs.steps.Positions.{IsElsewhere, IsPutIn};
 
     /// An empty row, which takes no memory yet.
     pub fn new(alloc: Global) -> ScanRow<C, I>
@@ -38,6 +51,9 @@ impl<C: WindingCount, I: OverlayInt> ScanRow<C, I> {
     {
         ScanRow {
             entries: Vec::new(alloc),
+            cursor: 0,
+            point: IntPoint::new(I::ZERO, I::ZERO),
+            has_cursor: false,
             compared: 0,
         }
     }
@@ -51,17 +67,37 @@ impl<C: WindingCount, I: OverlayInt> ScanRow<C, I> {
 
     /// Drops the segments that do not end right of `x`.
     pub(crate) fn drop_ended(&mut self, x: I)
-        ensures { row_entries self.new ≡ filter (λ e. int_lt (I.whole x) (I.whole e.segment.b.x))
+        ensures entries { row_entries self.new ≡ filter (λ e. int_lt (I.whole x) (I.whole e.segment.b.x))
             (row_entries self.old) }
+        ensures cursor { self.new.has_cursor ≡ false }
     {
+        self.has_cursor = false;
         self.entries.retain(|entry| entry.lasts_past(x));
     }
 
-    /// Searches for a place by halves. It passes over an entry that has ended, and drops the second of two in a row. Returns
-    /// an index with the place: the entry below has not ended and stands before it, and the next one above that has not
-    /// ended does not. Adds to `compared` how many orders it asks.
-    fn search(&mut self, x: I, place: &Place<I>, compared: &mut u128) -> usize
+    /// The index behind an entry that lies below an end and has ended, or else the index itself.
+    fn after_one_ended(&self, x: I, at: usize, end: usize) -> usize
+        requires order { at ≤ end }
+        requires within { end ≤ length self.now.entries.items }
+        ensures order { at ≤ result }
+        ensures within { result ≤ end }
+        ensures ended { (k : ℕ) → at ≤ k → k < result → lasts_past (I.whole x) (entries_of self.now.entries.items) k ≡ false }
+    {
+        if at < end && !self.entries[at].lasts_past(x) {
+            at + 1
+        } else {
+            at
+        }
+    }
+
+    /// Searches below an end for a place by halves. It passes over two entries that have ended, and drops the third of
+    /// three in a row. Returns an index with the place: the entry below has not ended and stands before it, and the next
+    /// one above that has not ended does not. Adds to `compared` how many orders it asks.
+    fn search(&mut self, x: I, place: &Place<I>, end: usize, compared: &mut u128) -> usize
         requires place { IsPlaceInRange I.whole I.MIN_COORD I.MAX_COORD place.now }
+        requires end { HasNext (lasts_past (I.whole x)
+            (entries_of self.old.entries.items)) (λ i. stands_before I.whole place.now (segment_at
+            (entries_of self.old.entries.items) i).pair) (length self.old.entries.items) end }
         requires none { compared.old ≡ 0 }
         ensures kept { filter (λ s. int_lt (I.whole x) s.pair.b.x) (entries_of self.new.entries.items)
             ≡ filter (λ s. int_lt (I.whole x) s.pair.b.x) (entries_of self.old.entries.items) }
@@ -71,10 +107,10 @@ impl<C: WindingCount, I: OverlayInt> ScanRow<C, I> {
             (entries_of self.new.entries.items)) (λ i. stands_before I.whole place.now (segment_at
             (entries_of self.new.entries.items) i).pair) (length self.new.entries.items) result }
         ensures fewer { length self.new.entries.items ≤ length self.old.entries.items }
-        ensures most { (d : ℕ) → 2 * length self.old.entries.items ≤ 2 ^ d → compared.new ≤ d }
+        ensures few { (compared.new ≡ 0) ⊎ (2 ^ compared.new ≤ 2 * end) }
     {
         let mut low = 0;
-        let mut high = self.entries.len();
+        let mut high = end;
         while low < high {
             let middle = low + (high - low) / 2;
             let entry = &self.entries[middle];
@@ -86,7 +122,7 @@ impl<C: WindingCount, I: OverlayInt> ScanRow<C, I> {
                 }
                 continue;
             }
-            let behind = middle + 1;
+            let behind = self.after_one_ended(x, middle + 1, high);
             if behind == high {
                 high = middle;
                 continue;
@@ -106,9 +142,15 @@ impl<C: WindingCount, I: OverlayInt> ScanRow<C, I> {
         low
     }
 
-    /// Searches for a place. Returns an index with the place, and leaves in `compared` how many orders that asked.
-    fn settle(&mut self, x: I, place: &Place<I>) -> usize
+    /// Searches below an end for a place, after some orders were asked. Returns an index with the place, and leaves in
+    /// `compared` how many orders were asked in all. Drops the cursor.
+    fn settle(&mut self, x: I, place: &Place<I>, end: usize, asked: u128) -> usize
         requires place { IsPlaceInRange I.whole I.MIN_COORD I.MAX_COORD place.now }
+        requires end { HasNext (lasts_past (I.whole x)
+            (entries_of self.old.entries.items)) (λ i. stands_before I.whole place.now (segment_at
+            (entries_of self.old.entries.items) i).pair) (length self.old.entries.items) end }
+        requires one { asked ≤ 1 }
+        requires room { end + asked ≤ length self.old.entries.items }
         ensures kept { filter (λ s. int_lt (I.whole x) s.pair.b.x) (entries_of self.new.entries.items)
             ≡ filter (λ s. int_lt (I.whole x) s.pair.b.x) (entries_of self.old.entries.items) }
         ensures begun { (z : ℤ) → All (λ s. s.pair.a.x ≤ℤ z) (entries_of self.old.entries.items)
@@ -119,11 +161,79 @@ impl<C: WindingCount, I: OverlayInt> ScanRow<C, I> {
         ensures fewer { length self.new.entries.items ≤ length self.old.entries.items }
         ensures most { (d : ℕ) → 2 * length self.old.entries.items ≤ 2 ^ d
             → self.new.compared + length self.new.entries.items * d ≤ suc (length self.old.entries.items) * d }
+        ensures cursor { self.new.has_cursor ≡ false }
     {
-        let mut asked = 0;
-        let position = self.search(x, place, &mut asked);
-        self.compared = asked;
+        let mut more = 0;
+        let position = self.search(x, place, end, &mut more);
+        self.has_cursor = false;
+        self.compared = more.saturating_add(asked);
         position
+    }
+
+    /// Whether a point is the start of the next entry from an index on that has not ended.
+    fn starts_behind(&self, x: I, p: IntPoint<I>, from: usize) -> bool
+        ensures { result ≡ false → IsElsewhere (lasts_past (I.whole x)
+            (entries_of self.now.entries.items)) (λ i. point_eq (segment_at
+            (entries_of self.now.entries.items) i).pair.a (point_of I.whole p)) (length self.now.entries.items) from }
+    {
+        for at in from..self.entries.len() {
+            let above = self.entries[at];
+            if above.lasts_past(x) {
+                return above.segment.a == p;
+            }
+        }
+        false
+    }
+
+    /// Finds the place of a segment that starts at `x`: at the cursor, if that is kept for its start and the segment does
+    /// not run below the entry under the cursor; else by a search. Keeps the cursor only where it is the place.
+    fn settle_segment(&mut self, x: I, entry: &Entry<C, I>) -> usize
+        requires time { IsInRowAt (I.whole x) self.old }
+        requires start { I.whole entry.now.segment.a.x ≡ I.whole x }
+        requires wide { I.whole x <ℤ I.whole entry.now.segment.b.x }
+        requires free { AreFreeAt (I.whole x) (entry_of entry.now ∷ row_sums self.old) }
+        ensures kept { filter (λ s. int_lt (I.whole x) s.pair.b.x) (entries_of self.new.entries.items)
+            ≡ filter (λ s. int_lt (I.whole x) s.pair.b.x) (entries_of self.old.entries.items) }
+        ensures begun { (z : ℤ) → All (λ s. s.pair.a.x ≤ℤ z) (entries_of self.old.entries.items)
+            → All (λ s. s.pair.a.x ≤ℤ z) (entries_of self.new.entries.items) }
+        ensures position { IsLivePosition (lasts_past (I.whole x)
+            (entries_of self.new.entries.items)) (λ i. not (is_lt (under_segment_order (v_pair_of I.whole
+            entry.now.segment) (segment_at (entries_of self.new.entries.items) i).pair))) (length
+            self.new.entries.items) result }
+        ensures fewer { length self.new.entries.items ≤ length self.old.entries.items }
+        ensures most { (d : ℕ) → 2 * length self.old.entries.items ≤ 2 ^ d
+            → self.new.compared + length self.new.entries.items * d ≤ suc (length self.old.entries.items) * d }
+        ensures cursor { self.new.has_cursor ≡ true
+            → (point_of I.whole self.new.point ≡ point_of I.whole entry.now.segment.a) × IsLivePosition (lasts_past
+            (I.whole x) (entries_of self.new.entries.items)) (λ i. is_below_or_from (point_of I.whole
+            entry.now.segment.a) (segment_at (entries_of self.new.entries.items) i).pair) (length
+            self.new.entries.items) result }
+    {
+        let place = Place::Segment(entry.segment);
+        let end = self.entries.len();
+        if !self.has_cursor {
+            return self.settle(x, &place, end, 0);
+        }
+        let start = entry.segment.a;
+        if self.point != start {
+            return self.settle(x, &place, end, 0);
+        }
+        let at = self.cursor;
+        if at == 0 {
+            self.compared = 0;
+            return at;
+        }
+        let below = self.entries[at - 1];
+        if below.segment.a != start {
+            self.compared = 0;
+            return at;
+        }
+        let mut asked = 0;
+        if below.is_before(&place, &mut asked) {
+            self.compared = asked;
+            return at;
+        }
+        self.settle(x, &place, at - 1, asked)
     }
 
     /// Puts an entry in at an index, in place of the one there if that has ended.
@@ -132,6 +242,8 @@ impl<C: WindingCount, I: OverlayInt> ScanRow<C, I> {
         ensures put { OnOk result (IsPutIn (lasts_past (I.whole x)
             (entries_of self.old.entries.items)) at entry self.old.entries.items self.new.entries.items) }
         ensures same { OnOk result (self.new.compared ≡ self.old.compared) }
+        ensures cursor { OnOk result ((self.new.has_cursor ≡ self.old.has_cursor)
+            × (self.new.point ≡ self.old.point)) }
         ensures fault { IfErr result (λ fault. fault ≡ Fault.Memory) }
     {
         if at < self.entries.len() && !self.entries[at].lasts_past(x) {
@@ -179,9 +291,12 @@ impl<C: WindingCount, I: OverlayInt> LiveSegments<C, I> for ScanRow<C, I> {
         ensures most { OnOk result (IsInsertCost (λ n d. 2 * n ≤ 2 ^ d) (row_held self.old) (row_held self.new) (row_asked self.new)) }
     {
         let entry = Entry { segment, sum };
-        let position = self.settle(x, &Place::Segment(segment));
+        let position = self.settle_segment(x, &entry);
         match self.put(position, entry, x) {
-            Ok(()) => Ok(()),
+            Ok(()) => {
+                self.cursor = position + 1;
+                Ok(())
+            }
             Err(fault) => {
                 self.clear();
                 Err(fault)
@@ -200,7 +315,11 @@ impl<C: WindingCount, I: OverlayInt> LiveSegments<C, I> for ScanRow<C, I> {
         ensures held { row_held self.new ≤ row_held self.old }
         ensures most { IsSearchCost (λ n d. 2 * n ≤ 2 ^ d) (row_held self.old) (row_held self.new) (row_asked self.new) }
     {
-        let position = self.settle(x, &Place::Point(p));
+        let end = self.entries.len();
+        let position = self.settle(x, &Place::Point(p), end, 0);
+        self.has_cursor = !self.starts_behind(x, p, position);
+        self.cursor = position;
+        self.point = p;
         if position == 0 {
             default
         } else {
@@ -215,6 +334,7 @@ impl<C: WindingCount, I: OverlayInt> LiveSegments<C, I> for ScanRow<C, I> {
         ensures asked { row_asked self.new ≡ 0 }
     {
         self.entries.clear();
+        self.has_cursor = false;
         self.compared = 0;
     }
 

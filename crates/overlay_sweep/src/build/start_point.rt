@@ -30,6 +30,20 @@ pub fn start_point_end<C: WindingCount, I: OverlayInt, D: Copy>(
     next
 }
 
+/// Sorts ways by their angles, one or two of them without a call of the sort.
+fn sort_by_angle<I: OverlayInt>(ways: &mut Vec<Way<I>>) -> Result<(), AllocError>
+    ensures { OnOk result (ways_of ways.new.items ≡ by_angle (ways_of ways.old.items)) }
+{
+    if ways.len() > 2 {
+        ways.sort_by(|way, other| way.cmp_by_angle(other))?;
+        return Ok(());
+    }
+    if ways.len() == 2 && ways[1].cmp_by_angle(&ways[0]).is_lt() {
+        ways.swap(0, 1);
+    }
+    Ok(())
+}
+
 /// Collects the ways of the segments from an index up to another, in order of their angles.
 pub fn collect_ways<C: WindingCount, I: OverlayInt, D: Copy>(
     segments: &[Segment<C, I, D>],
@@ -46,6 +60,5 @@ pub fn collect_ways<C: WindingCount, I: OverlayInt, D: Copy>(
     for at in index..next {
         ways.push(Way::new(at, &segments[at]))?;
     }
-    ways.sort_by(|way, other| way.cmp_by_angle(other))?;
-    Ok(())
+    sort_by_angle(ways)
 }

@@ -3,10 +3,9 @@ use Rattle.std.proofs.Common.{◌≡◌, ap, refl, ◌∙◌, arith, inl, inr, a
 use Rattle.std.specs.Prelude.{ℕ, zero, suc, Bool, true, false, ◌+◌, ◌-◌, ◌*◌, ◌^◌, ◌<◌, ◌≤◌, ◌⊎◌, min, List, [], ◌∷◌, ◌++◌, take, drop, length}
 use Rattle.std.proofs.lemmas.Bool.{cases_lt}
 use Rattle.std.proofs.Math.Nat.{two-pow-succ, add-mul, mul-le-mul_right}
-use Rattle.std.proofs.Math.Pow.{pow-lt}
 use Rattle.overlay_base.specs.Segments.{WholeSegment}
 use Rattle.overlay_sweep.specs.ScanTrees.{segment_at}
-use Rattle.overlay_sweep.specs.steps.Positions.{HasNext, IsLivePosition}
+use Rattle.overlay_sweep.specs.LivePositions.{HasNext, IsLivePosition}
 use Rattle.overlay_sweep.proofs.laws.list.Searches.{below_power}
 
 -- ---- where the place lies
@@ -35,12 +34,16 @@ length-without [] i h = absurd (omega (arith, h))
 length-without (s ∷ ks) zero h = omega arith
 length-without (s ∷ ks) (suc i) h = let e = length-without ks i (omega (arith, h)) in omega (arith, e)
 
-pub next_at_end : (lasts before : ℕ → Bool) (many high : ℕ) → high ≡ many → HasNext lasts before many high
-next_at_end lasts before many high all = record { next = many; order = omega (arith, all); within = omega arith; ended = λ k a b. absurd (omega (arith, a, b, all)); is = inl refl }
+-- an entry has ended, and those behind it up to an index
+pub ended_from : (lasts : ℕ → Bool) (middle high : ℕ) → lasts middle ≡ false → ((k : ℕ) → middle + 1 ≤ k → k < high → lasts k ≡ false) → (k : ℕ) → middle ≤ k → k < high → lasts k ≡ false
+ended_from lasts middle high here behind k a b = elim (cases_lt middle k) [
+  | inl later ↦ behind k (omega (arith, later)) b
+  | inr first ↦ (let same : k ≡ middle = omega (arith, first, a) in rw same here)
+]
 
 module _ (lasts before : WholeSegment → Bool) (ks : List WholeSegment) where
-  pub halving_begins : (high : ℕ) → high ≡ length ks → IsHalving lasts before ks 0 high
-  halving_begins high all = record { order = omega arith; last_is = inl refl; behind = next_at_end _ _ (length ks) high all }
+  pub halving_begins : (high : ℕ) → HasNext (λ i. lasts (segment_at ks i)) (λ i. before (segment_at ks i)) (length ks) high → IsHalving lasts before ks 0 high
+  halving_begins high next = record { order = omega arith; last_is = inl refl; behind = next }
 
   module _ (low high : ℕ) (s : IsHalving lasts before ks low high) where
     pub halving_within : high ≤ length ks
@@ -61,19 +64,16 @@ module _ (lasts before : WholeSegment → Bool) (ks : List WholeSegment) where
         behind = record { next = middle; order = order; within = omega (arith, halving_inside); ended = ended; is = inr (l, b) };
       }
 
-      -- down past the last entry, where it has ended
-      pub halving_past : lasts (segment_at ks middle) ≡ false → middle + 1 ≡ high → IsHalving lasts before ks low middle
-      halving_past e last = record {
+      -- down past the last entries, where they have ended
+      pub halving_past : ((k : ℕ) → middle ≤ k → k < high → lasts (segment_at ks k) ≡ false) → IsHalving lasts before ks low middle
+      halving_past gone = record {
         order = above;
         last_is = s.last_is;
         behind = record {
           next = s.behind.next;
           order = omega (arith, s.behind.order, under);
           within = s.behind.within;
-          ended = λ k a b. elim (cases_lt middle k) [
-            | inl later ↦ s.behind.ended k (omega (arith, later, last)) b
-            | inr here ↦ (let same : k ≡ middle = omega (arith, here, a) in rw same e)
-          ];
+          ended = λ k a b. elim (cases_lt k high) [ inl inside ↦ gone k a inside | inr past ↦ s.behind.ended k past b ];
           is = s.behind.is;
         };
       }
@@ -134,12 +134,6 @@ module _ (first size asked : ℕ) (s : IsCounting first size asked) where
   counts_one short more e = elim s.few [
     | inl none ↦ omega (arith, e, none)
     | inr few ↦ omega (arith, e, below_power asked, few, short)
-  ]
-
-  pub counting_most : (d : ℕ) → 2 * first ≤ 2 ^ d → asked ≤ d
-  counting_most d enough = elim (cases_lt d asked) [
-    | inl less ↦ elim s.few [ inl none ↦ omega (arith, none) | inr few ↦ absurd (let p : 2 ^ d < 2 ^ asked = pow-lt less in omega (arith, p, few, enough)) ]
-    | inr more ↦ more
   ]
 
   -- fewer are left, and no order was asked

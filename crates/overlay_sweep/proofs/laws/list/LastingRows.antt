@@ -5,7 +5,7 @@ use Rattle.std.specs.List.{Contains, range_with_len, take-map, drop-map}
 use Rattle.std.specs.Ordering.{is_lt}
 use Rattle.std.proofs.lemmas.Int.{ints}
 use Rattle.std.proofs.lemmas.Bool.{cases_Bool, cases_eq, and_parts, both_ways}
-use Rattle.std.proofs.lemmas.List.{length-append, length-map, length-take, length-drop, map-append, take-append-drop, take_all, append_assoc, take-set}
+use Rattle.std.proofs.lemmas.List.{length-append, length-map, length-take, length-drop, map-append, take-append-drop, append_assoc, take-set}
 use Rattle.std.proofs.lemmas.Grind.{drop-set_at}
 use Rattle.std.proofs.lemmas.List.Elements.{filter-append, All-append, All-take, All-drop}
 use Rattle.std.proofs.Math.Seq.{take-append_seam, drop-append_seam}
@@ -19,7 +19,8 @@ use Rattle.overlay_sweep.specs.Costs.{IsHighest, IsInsertCost}
 use Rattle.overlay_sweep.specs.Live.{sum_below, AreFreeAt, HoldSameFrom}
 use Rattle.overlay_sweep.specs.TreeShapes.{Has}
 use Rattle.overlay_sweep.specs.ScanTrees.{segment_at, lasts_past, IsFromBelow, IsScanRow}
-use Rattle.overlay_sweep.specs.steps.Positions.{IsPosition, IsLivePosition, IsPutIn}
+use Rattle.overlay_sweep.specs.LivePositions.{IsLivePosition}
+use Rattle.overlay_sweep.specs.steps.Positions.{IsPosition, IsPutIn}
 use Rattle.overlay_sweep.proofs.laws.live.LiveSums.{HoldSameFrom-trans, HoldSameFrom-cons, All-between}
 use Rattle.overlay_sweep.proofs.laws.live.ScanSums.{lasting, HoldSameFrom-lasting}
 use Rattle.overlay_sweep.proofs.laws.list.ListReads.{read_whole}

@@ -136,3 +136,15 @@ under_is_first x s t hs ht apart = elim (cases_Bool (pair_eq s t)) [
   | inl e ↦ subst (λ u. is_lt (under_segment_order s u) ≡ is_lt (ordering_then (height_cmp x s u) (angle_cmp s u))) (same_pair_by_eq s t e) (level_itself s (point_cmp s.a s.a) (same_compares s.a) ∙ sym (first_same x s))
   | inr e ↦ let other = not_same_pair s t e in under_is_below x s t hs ht apart other ∙ sym (first_is_below x s t hs ht apart other)
 ]
+
+not_not : (b : Bool) → not (not b) ≡ b
+not_not true = refl
+not_not false = refl
+
+-- a segment stands to another, which starts elsewhere, as its start does
+pub under_by_point : (x : ℤ) (e t : Pair) → spans_column x e ≡ true → spans_column x t ≡ true → IsApart e t → t.a.x ≤ℤ e.a.x → (t.a ≡ e.a → ⊥) → not (is_lt (under_segment_order e t)) ≡ int_lt (pos 0) (turn t.a t.b e.a)
+under_by_point x e t he ht apart early other =
+    let differs : e ≡ t → ⊥ = λ s. other (ap (λ (u : Pair). u.a) (sym s)) in
+    let below : is_below_in_column x t e ≡ is_under e.a t = below_by_start x e t apart he ht early ∙ or_nothing (is_under e.a t) (point_eq t.a e.a) (is_lt (angle_cmp t e)) (from_not_same t.a e.a other) in
+    let order : is_lt (under_segment_order e t) ≡ not (is_under e.a t) = under_is_below x e t he ht apart differs ∙ differ_not (is_below_in_column x e t) (is_below_in_column x t e) (one_is_below x e t he ht apart differs) ∙ ap not below in
+    ap not order ∙ not_not (is_under e.a t)

@@ -1,11 +1,9 @@
-use Rattle.std.proofs.Common.{◌≡◌, ◌∙◌, ◌∷◌, ◌++◌, [], List, ap, sym, arith, rules}
+use Rattle.std.proofs.Common.{◌≡◌, ◌∙◌, ◌∷◌, ◌++◌, [], List, ap, sym, subst, arith}
+use Rattle.std.specs.Prelude.{OnOk}
 use Rattle.std.proofs.lemmas.List.{map-append}
-use Rattle.std.proofs.lemmas.List.Sorted.{answers_always}
-use Rattle.overlay_geometry.specs.Below.{angle_cmp}
 use Rattle.overlay_base.specs.SegmentOf.{segment_of, segments_of}
-use Rattle.overlay_base.proofs.laws.lists.StableSorts.{sorted_by-is, map-stably_sorted}
 use Rattle.overlay_sweep.specs.steps.WayOf.{WholeWay, way_of, ways_of, ways_between, by_angle}
-use Rattle.overlay_sweep.proofs.laws.live.StartPoints.{ways_between-more, by_angle-ranks}
+use Rattle.overlay_sweep.proofs.laws.live.StartPoints.{ways_between-more}
 use Rattle.overlay_sweep.proofs.build.start_point.collect_ways.Goals as goal
 
 pub loop-at-preserved : goal.loop-at-preserved
@@ -19,13 +17,9 @@ loop-at-preserved g c = (
       ∙ sym (ways_between-more segment_of c.args.segments.now c.args.index c.loop-at.at c.index-segments-at.result c.loop-at.invariant.0 (omega (arith, c.loop-at-test.true, c.requires.within)) c.index-segments-at.is),
 )
 
--- std's sort by angle is the one stable sort
 pub returns : goal.returns
 returns g c =
     let same : c.loop-at.at ≡ c.args.next = (let low = c.loop-at.invariant.1 in let high = c.loop-at-test.false in omega (arith, low, high)) in
-    ap ways_of
-    (sorted_by-is (λ v w. angle_cmp (way_of v).pair (way_of w).pair) (by_angle-ranks way_of (λ v. v.ordered)) _ _
-    (c.in_ok-sort_by.ensures.sorted _ (by_angle-ranks way_of (λ v. v.ordered)) (answers_always _ _ _ (λ f a r f' h. search rules)))
-    (c.in_ok-sort_by.ensures.stable _ (by_angle-ranks way_of (λ v. v.ordered)) (answers_always _ _ _ (λ f a r f' h. search rules))))
-    ∙ map-stably_sorted way_of (λ v w. angle_cmp v.pair w.pair) c.loop-at.ways.items
-    ∙ ap by_angle (c.loop-at.invariant.2 ∙ ap (ways_between (segments_of c.args.segments.now) c.args.index) same)
+    subst (λ (l : List WholeWay). OnOk c.sort_by_angle.result (ways_of c.sort_by_angle.new.ways.items ≡ by_angle l))
+    (c.loop-at.invariant.2 ∙ ap (ways_between (segments_of c.args.segments.now) c.args.index) same)
+    c.sort_by_angle.ensures

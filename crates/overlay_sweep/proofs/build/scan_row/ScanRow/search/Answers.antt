@@ -6,14 +6,14 @@ use Rattle.overlay_sweep.specs.EntryOf.{entry_of, entries_of}
 use Rattle.overlay_sweep.specs.steps.PlaceOf.{stands_before}
 use Rattle.overlay_sweep.proofs.laws.live.ScanSums.{lasting}
 use Rattle.overlay_sweep.proofs.laws.tree.ScanReads.{segment_read}
-use Rattle.overlay_sweep.proofs.laws.list.Halves.{IsHalving, halving_within, halving_begins, halving_up, halving_down, halving_past, halving_without, halving_ends, counting_begins, counts_one, counting_most, counting_without, counting_half}
+use Rattle.overlay_sweep.proofs.laws.list.Halves.{IsHalving, halving_within, halving_begins, halving_up, halving_down, halving_past, ended_from, halving_without, halving_ends, counting_begins, counts_one, counting_without, counting_half}
 use Rattle.overlay_sweep.proofs.laws.list.LastingRows.{lasting_of, without_ended, all_without, entries_without}
 use Rattle.overlay_sweep.proofs.build.scan_row.ScanRow.search.Goals as goal
 
 pub loop-low-init : goal.loop-low-init
 loop-low-init g c = record {
-  halving = halving_begins _ _ _ _ (c.len-high.ensures ∙ c.args.self.now.entries.ok.0 ∙ sym (length-map c.args.self.now.entries.items entry_of));
-  counting = counting_begins _ _ _ (omega (arith, c.len-high.ensures, c.args.self.now.entries.ok.0)) c.requires.none;
+  halving = halving_begins _ _ (entries_of c.args.self.now.entries.items) c.args.end (rw (length-map c.args.self.now.entries.items entry_of) c.requires.end);
+  counting = counting_begins _ _ _ (omega arith) c.requires.none;
   kept = refl;
   begun = λ z a. a;
   fewer = omega arith;
@@ -34,7 +34,7 @@ loop-low-preserved-then-is_before g c =
     let lasts = ap (λ (s : WholeSegment). lasting x s) read ∙ sym c.lasts_past.ensures ∙ c.if-lasts_past.true in
     let before = ap (λ (s : WholeSegment). stands_before g.I.OverlayInt.whole c.args.place.now s.pair) read ∙ sym c.is_before.ensures.value ∙ c.if-is_before.true in record {
       halving = halving_up _ _ (entries_of items) low high s.halving middle above under lasts before;
-      counting = counting_half _ _ _ s.counting (omega (arith, c.loop-low-test.true)) _ (counts_one _ _ _ s.counting (omega arith) _ c.is_before.ensures.compared) _ (omega (arith, c.loop-low-test.true));
+      counting = counting_half _ _ _ s.counting (omega (arith, c.loop-low-test.true)) _ (counts_one _ _ _ s.counting (omega (arith, c.ranges.end.fits)) _ c.is_before.ensures.compared) _ (omega (arith, c.loop-low-test.true));
       kept = s.kept;
       begun = s.begun;
       fewer = s.fewer;
@@ -55,7 +55,7 @@ loop-low-preserved-else-is_before g c =
     let lasts = ap (λ (s : WholeSegment). lasting x s) read ∙ sym c.lasts_past.ensures ∙ c.if-lasts_past.true in
     let after = ap (λ (s : WholeSegment). stands_before g.I.OverlayInt.whole c.args.place.now s.pair) read ∙ sym c.is_before.ensures.value ∙ c.if-is_before.false in record {
       halving = halving_down _ _ (entries_of items) low high s.halving middle above under lasts after middle above (omega arith) (λ k a b. absurd (omega (arith, a, b)));
-      counting = counting_half _ _ _ s.counting (omega (arith, c.loop-low-test.true)) _ (counts_one _ _ _ s.counting (omega arith) _ c.is_before.ensures.compared) _ (omega (arith, c.loop-low-test.true));
+      counting = counting_half _ _ _ s.counting (omega (arith, c.loop-low-test.true)) _ (counts_one _ _ _ s.counting (omega (arith, c.ranges.end.fits)) _ c.is_before.ensures.compared) _ (omega (arith, c.loop-low-test.true));
       kept = s.kept;
       begun = s.begun;
       fewer = s.fewer;
@@ -74,7 +74,7 @@ loop-low-preserved-then-behind-high g c =
     let inside : high ≤ length items = omega (arith, halving_within _ _ (entries_of items) low high s.halving, length-map items entry_of) in
     let read = segment_read entry_of items middle c.index-entry.result.now (omega (arith, under, inside)) c.index-entry.ensures in
     let ended = ap (λ (s : WholeSegment). lasting x s) read ∙ sym c.lasts_past.ensures ∙ c.if-lasts_past.false in record {
-      halving = halving_past _ _ (entries_of items) low high s.halving middle above under ended c.if-behind-high.true;
+      halving = halving_past _ _ (entries_of items) low high s.halving middle above under (rw c.if-behind-high.true at (ended_from _ middle _ ended c.after_one_ended-behind.ensures.ended));
       counting = counting_without _ _ _ s.counting _ (omega (arith, c.loop-low-test.true));
       kept = s.kept;
       begun = s.begun;
@@ -93,14 +93,15 @@ loop-low-preserved-then-not-lasts_past g c =
     let under : middle < high = omega (arith, c.loop-low-test.true) in
     let inside : high ≤ length items = omega (arith, halving_within _ _ (entries_of items) low high s.halving, length-map items entry_of) in
     let read = segment_read entry_of items middle c.index-entry.result.now (omega (arith, under, inside)) c.index-entry.ensures in
-    let behind : ℕ = middle + 1 in
-    let close : behind < high = omega (arith, under, c.if-behind-high.false) in
+    let behind = c.after_one_ended-behind.result in
+    let close : behind < high = omega (arith, c.after_one_ended-behind.ensures.within, c.if-behind-high.false) in
+    let order : middle < behind = omega (arith, c.after_one_ended-behind.ensures.order) in
     let ended = ap (λ (s : WholeSegment). lasting x s) read ∙ sym c.lasts_past.ensures ∙ c.if-lasts_past.false in
     let read_next = segment_read entry_of items behind c.index-next.result.now (omega (arith, close, inside)) c.index-next.ensures in
     let new : entries_of c.remove.new.self.items ≡ _ = ap entries_of c.remove.ensures.items ∙ entries_without entry_of items behind in
     let one : length c.remove.new.self.items + 1 ≡ length items = omega (arith, c.remove.ensures.len, c.remove.new.self.ok.0, c.loop-low.self.entries.ok.0) in
     let next_ended = ap (λ (s : WholeSegment). lasting x s) read_next ∙ sym c.lasts_past-in-loop-low.ensures ∙ c.if-not-lasts_past.true in record {
-      halving = subst (λ l. IsHalving (λ s. lasting x s) (λ s. stands_before g.I.OverlayInt.whole c.args.place.now s.pair) l low (high - 1)) (sym new) (halving_without _ _ (entries_of items) low high s.halving behind (omega arith) close);
+      halving = subst (λ l. IsHalving (λ s. lasting x s) (λ s. stands_before g.I.OverlayInt.whole c.args.place.now s.pair) l low (high - 1)) (sym new) (halving_without _ _ (entries_of items) low high s.halving behind (omega (arith, above, order)) close);
       counting = counting_without _ _ _ s.counting _ (omega (arith, c.loop-low-test.true));
       kept = ap (lasting_of x) new ∙ without_ended x (entries_of items) behind (omega (arith, close, inside, length-map items entry_of)) next_ended ∙ s.kept;
       begun = λ z a. subst (λ l. All (λ s. s.pair.a.x ≤ℤ z) l) (sym new) (all_without (λ s. s.pair.a.x ≤ℤ z) (entries_of items) behind (s.begun z a));
@@ -119,14 +120,15 @@ loop-low-preserved-then-is_before-2 g c =
     let under : middle < high = omega (arith, c.loop-low-test.true) in
     let inside : high ≤ length items = omega (arith, halving_within _ _ (entries_of items) low high s.halving, length-map items entry_of) in
     let read = segment_read entry_of items middle c.index-entry.result.now (omega (arith, under, inside)) c.index-entry.ensures in
-    let behind : ℕ = middle + 1 in
-    let close : behind < high = omega (arith, under, c.if-behind-high.false) in
+    let behind = c.after_one_ended-behind.result in
+    let close : behind < high = omega (arith, c.after_one_ended-behind.ensures.within, c.if-behind-high.false) in
+    let order : middle < behind = omega (arith, c.after_one_ended-behind.ensures.order) in
     let ended = ap (λ (s : WholeSegment). lasting x s) read ∙ sym c.lasts_past.ensures ∙ c.if-lasts_past.false in
     let read_next = segment_read entry_of items behind c.index-next.result.now (omega (arith, close, inside)) c.index-next.ensures in
     let next_lasts = ap (λ (s : WholeSegment). lasting x s) read_next ∙ sym c.lasts_past-in-loop-low.ensures ∙ c.if-not-lasts_past.false in
     let before = ap (λ (s : WholeSegment). stands_before g.I.OverlayInt.whole c.args.place.now s.pair) read_next ∙ sym c.is_before-in-loop-low.ensures.value ∙ c.if-is_before-2.true in record {
-      halving = halving_up _ _ (entries_of items) low high s.halving behind (omega arith) close next_lasts before;
-      counting = counting_half _ _ _ s.counting (omega (arith, c.loop-low-test.true)) _ (counts_one _ _ _ s.counting (omega arith) _ c.is_before-in-loop-low.ensures.compared) _ (omega (arith, c.loop-low-test.true));
+      halving = halving_up _ _ (entries_of items) low high s.halving behind (omega (arith, above, order)) close next_lasts before;
+      counting = counting_half _ _ _ s.counting (omega (arith, c.loop-low-test.true)) _ (counts_one _ _ _ s.counting (omega (arith, c.ranges.end.fits)) _ c.is_before-in-loop-low.ensures.compared) _ (omega (arith, c.loop-low-test.true));
       kept = s.kept;
       begun = s.begun;
       fewer = s.fewer;
@@ -144,14 +146,15 @@ loop-low-preserved g c =
     let under : middle < high = omega (arith, c.loop-low-test.true) in
     let inside : high ≤ length items = omega (arith, halving_within _ _ (entries_of items) low high s.halving, length-map items entry_of) in
     let read = segment_read entry_of items middle c.index-entry.result.now (omega (arith, under, inside)) c.index-entry.ensures in
-    let behind : ℕ = middle + 1 in
-    let close : behind < high = omega (arith, under, c.if-behind-high.false) in
+    let behind = c.after_one_ended-behind.result in
+    let close : behind < high = omega (arith, c.after_one_ended-behind.ensures.within, c.if-behind-high.false) in
+    let order : middle < behind = omega (arith, c.after_one_ended-behind.ensures.order) in
     let ended = ap (λ (s : WholeSegment). lasting x s) read ∙ sym c.lasts_past.ensures ∙ c.if-lasts_past.false in
     let read_next = segment_read entry_of items behind c.index-next.result.now (omega (arith, close, inside)) c.index-next.ensures in
     let next_lasts = ap (λ (s : WholeSegment). lasting x s) read_next ∙ sym c.lasts_past-in-loop-low.ensures ∙ c.if-not-lasts_past.false in
     let after = ap (λ (s : WholeSegment). stands_before g.I.OverlayInt.whole c.args.place.now s.pair) read_next ∙ sym c.is_before-in-loop-low.ensures.value ∙ c.if-is_before-2.false in record {
-      halving = halving_down _ _ (entries_of items) low high s.halving behind (omega arith) close next_lasts after middle above (omega arith) (λ k a b. let same : k ≡ middle = omega (arith, a, b) in rw same ended);
-      counting = counting_half _ _ _ s.counting (omega (arith, c.loop-low-test.true)) _ (counts_one _ _ _ s.counting (omega arith) _ c.is_before-in-loop-low.ensures.compared) _ (omega (arith, c.loop-low-test.true));
+      halving = halving_down _ _ (entries_of items) low high s.halving behind (omega (arith, above, order)) close next_lasts after middle above (omega (arith, order)) (ended_from _ middle behind ended c.after_one_ended-behind.ensures.ended);
+      counting = counting_half _ _ _ s.counting (omega (arith, c.loop-low-test.true)) _ (counts_one _ _ _ s.counting (omega (arith, c.ranges.end.fits)) _ c.is_before-in-loop-low.ensures.compared) _ (omega (arith, c.loop-low-test.true));
       kept = s.kept;
       begun = s.begun;
       fewer = s.fewer;
@@ -160,5 +163,5 @@ loop-low-preserved g c =
 pub returns-clause-position : goal.returns-clause-position
 returns-clause-position g c = rw (sym (length-map c.loop-low.self.entries.items entry_of)) (halving_ends _ _ (entries_of c.loop-low.self.entries.items) _ _ c.loop-low.invariant.halving (omega (arith, c.loop-low-test.false)))
 
-pub returns-clause-most : goal.returns-clause-most
-returns-clause-most g c = counting_most _ _ _ c.loop-low.invariant.counting
+pub returns-clause-few : goal.returns-clause-few
+returns-clause-few g c = c.loop-low.invariant.counting.few

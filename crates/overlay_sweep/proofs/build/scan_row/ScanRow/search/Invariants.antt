@@ -10,7 +10,7 @@ use Rattle.overlay_sweep.proofs.build.scan_row.ScanRow.search.Given as goal
 abbrev pub invariant-loop-low : goal.invariant-loop-low
 invariant-loop-low g l = record {
   halving : IsHalving (λ s. lasting (g.I.OverlayInt.whole l.x) s) (λ s. stands_before g.I.OverlayInt.whole l.place s.pair) (entries_of l.self.entries.items) l.low l.high;
-  counting : IsCounting (length l.initial.self.entries.items) (l.high - l.low) l.compared;
+  counting : IsCounting l.end (l.high - l.low) l.compared;
   kept : lasting_of (g.I.OverlayInt.whole l.x) (entries_of l.self.entries.items) ≡ lasting_of (g.I.OverlayInt.whole l.x) (entries_of l.initial.self.entries.items);
   begun : (z : ℤ) → All (λ s. s.pair.a.x ≤ℤ z) (entries_of l.initial.self.entries.items) → All (λ s. s.pair.a.x ≤ℤ z) (entries_of l.self.entries.items);
   fewer : length l.self.entries.items ≤ length l.initial.self.entries.items;
