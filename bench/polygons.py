@@ -1,11 +1,12 @@
 #!/usr/bin/env python3
-"""Times `polygons` beside `arrange graph` on the same shapes, over the whole range of `i32`.
+"""Times `polygons`, by snap rounding and pair by pair, beside `arrange graph` on the same shapes, over the whole range of `i32`.
 
 Usage, from the top of the repository: python3 bench/polygons.py [--turns N] [--rule NAME] [NUMBER ..]
 
 Each kind of polygons of bench/race.py is made of the given numbers of edges (1,000, 4,000, 16,000 and 50,000 if none are given).
-For each a row of a table is printed: kind, edges, contours and points of the answer, and the least wall time of nine runs of each
-program in turns, in milliseconds, text included. What `polygons` takes longer is the walk; its text is shorter.
+For each a row of a table is printed: kind, edges, contours and points of the result by snap rounding, and the least wall time of
+nine runs of each in turns, in milliseconds, text included. `arrange` splits pair by pair; what `polygons pairwise` takes longer is
+the walk, and its text is shorter.
 """
 import argparse
 import os
@@ -29,12 +30,12 @@ def measure(kind, number, rule, turns):
     contours = list(POLYGONS[kind](number))
     texts = [(shape + "".join(f" {x} {y}" for x, y in corners) for shape, corners in contours), sides(contours)]
     texts = [("\n".join(lines) + "\n").encode() for lines in texts]
-    commands = [[PROGRAMS[0], f"rule={rule}"], [PROGRAMS[1], "graph", f"rule={rule}"]]
-    runs = [[run(*each) for each in zip(commands, texts)] for _ in range(turns)]
+    commands = [[PROGRAMS[0], f"rule={rule}"], [PROGRAMS[0], "pairwise", f"rule={rule}"], [PROGRAMS[1], "graph", f"rule={rule}"]]
+    runs = [[run(*each) for each in zip(commands, [texts[0], *texts])] for _ in range(turns)]
     answer = runs[0][0][0].split(b"\n")[:-1]
     points = sum(len(line.split()) // 2 for line in answer)
-    ours, graph = (min(turn[place][1] for turn in runs) for place in (0, 1))
-    print(f"| {kind} | {number:,} | {len(answer):,} | {points:,} | {ours:.1f} | {graph:.1f} |", flush=True)
+    ours, pairwise, graph = (min(turn[place][1] for turn in runs) for place in range(3))
+    print(f"| {kind} | {number:,} | {len(answer):,} | {points:,} | {ours:.1f} | {pairwise:.1f} | {graph:.1f} |", flush=True)
 
 
 def main():
@@ -46,7 +47,7 @@ def main():
     for program in PROGRAMS:
         if not os.path.exists(program):
             sys.exit(f"{program} is not there: `python3 tools/run.py NAME` proves and builds it")
-    print("| kind | edges | contours | points | polygons, ms | graph, ms |\n|---|---|---|---|---|---|")
+    print("| kind | edges | contours | points | polygons, ms | pairwise, ms | graph, ms |\n|---|---|---|---|---|---|---|")
     for kind in POLYGONS:
         for number in given.numbers:
             measure(kind, max(16, number // SMALLER.get(kind, 1)), given.rule, given.turns)

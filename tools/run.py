@@ -32,10 +32,16 @@ def toolchain():
     return module
 
 
+def available_memory():
+    """How many bytes of memory a check can take, what the system keeps of files included, since it gives that back."""
+    with open("/proc/meminfo", encoding="ascii") as lines:
+        kilobytes = next(int(line.split()[1]) for line in lines if line.startswith("MemAvailable:"))
+    return 1024 * kilobytes
+
+
 def processors():
     """How many checks can run at a time."""
-    memory = os.sysconf("SC_AVPHYS_PAGES") * os.sysconf("SC_PAGE_SIZE")
-    return max(1, min(len(os.sched_getaffinity(0)), memory // BYTES_OF_A_CHECK))
+    return max(1, min(len(os.sched_getaffinity(0)), available_memory() // BYTES_OF_A_CHECK))
 
 
 class Builds:

@@ -21,6 +21,7 @@ pub struct Settings {
     pub strategy: u8,
     pub fill_rule: u8,
     pub engine: u8,
+    pub rounding: u8,
 }
 
 /// `SizesRecord` of `crates/overlay_c`: how much an engine keeps.

@@ -21,4 +21,4 @@ pub use overlay::{Change, Overlay};
 pub use point::{square, Engine, IntContour, IntPoint, IntShape, MAX_COORD, MIN_COORD};
 pub use rules::{ClipRule, FillRule, OverlayRule, RuleTable};
 pub use segment::{DataSegment, LineSegment, Segment, ShapeCountBoolean, ShapeType};
-pub use solver::{Precision, Solver, Strategy};
+pub use solver::{Precision, Rounding, Solver, Strategy};

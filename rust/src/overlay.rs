@@ -3,7 +3,7 @@
 use crate::error::{fault_of, fault_of_data, fault_of_line, outcome, point_fault};
 use crate::{
     ffi, ClipRule, DataSegment, Engine, Error, Fault, FillRule, IntContour, IntPoint, IntShape, LineSegment,
-    OverlayGraph, OverlayLink, OverlayRule, Segment, ShapeType, Solver,
+    OverlayGraph, OverlayLink, OverlayRule, Rounding, Segment, ShapeType, Solver,
 };
 use std::fmt;
 
@@ -33,6 +33,8 @@ pub struct Overlay {
     engine: ffi::Engine,
     /// What segments are split with.
     width: Engine,
+    /// How overlays of contours round crossings.
+    rounding: Rounding,
     /// How many contours of the subject and of the clip were added.
     contour_counts: [usize; 2],
     /// What the last overlay of contours that was not refused reports.
@@ -63,8 +65,8 @@ impl Overlay {
         Overlay::with_snap_limit(256)
     }
 
-    /// An overlay that snaps in that many passes of a split, and settles after them. Overlays of contours snap in 256,
-    /// whatever this limit is.
+    /// An overlay that snaps in that many passes of a split, and settles after them. Overlays of contours under
+    /// `Rounding::Pairwise` snap in 256, whatever this limit is.
     ///
     /// ```
     /// use i_overlay_core::{square, Overlay, ShapeType, Solver};
@@ -78,6 +80,7 @@ impl Overlay {
         Ok(Overlay {
             engine: ffi::Engine::new(snap_limit).ok_or(Error::Fault(Fault::Memory))?,
             width: Engine::I32,
+            rounding: Rounding::HotPixels,
             contour_counts: [0; 2],
             passes: 0,
             reach: 0,
@@ -110,6 +113,28 @@ impl Overlay {
     /// ```
     pub fn with_engine(mut self, engine: Engine) -> Overlay {
         self.width = engine;
+        self
+    }
+
+    /// The same overlay, with a rounding for the contours that it overlays from now on. Segments and lines are split pair by
+    /// pair, whatever it is.
+    ///
+    /// ```
+    /// use i_overlay_core::{FillRule, IntPoint, Overlay, OverlayRule, Rounding};
+    ///
+    /// // two triangles whose edges cross at (2.5, 2.5)
+    /// let [left, right] = [[(0, 0), (5, 5), (0, 5)], [(0, 5), (5, 0), (5, 5)]]
+    ///     .map(|corners| corners.map(|(x, y)| IntPoint::new(x, y)).to_vec());
+    /// let mut overlay = Overlay::with_contours(&[left], &[right])?;
+    /// overlay.overlay(OverlayRule::Union, FillRule::NonZero)?;
+    /// assert_eq!((overlay.passes(), overlay.reach()), (1, 1));
+    /// let mut overlay = overlay.with_rounding(Rounding::Pairwise);
+    /// overlay.overlay(OverlayRule::Union, FillRule::NonZero)?;
+    /// assert_eq!((overlay.passes(), overlay.reach()), (2, 4));
+    /// # Ok::<(), i_overlay_core::Error>(())
+    /// ```
+    pub fn with_rounding(mut self, rounding: Rounding) -> Overlay {
+        self.rounding = rounding;
         self
     }
 
@@ -161,7 +186,8 @@ impl Overlay {
 
     /// The overlay of the contours that were added, as contours that have it on their left, by the solver `AUTO`: outer
     /// boundaries run counterclockwise, and holes clockwise. So they wind once round each place of which the rule
-    /// holds, and not at all round the others, but for places nearer to the given edges than the passes move crossings.
+    /// holds, and not at all around the others, but for points nearer to the given edges than half a unit in `x` and in
+    /// `y`, or than the passes move crossings under `Rounding::Pairwise`.
     /// The contours that were added stay.
     ///
     /// ```
@@ -193,7 +219,7 @@ impl Overlay {
         fill_rule: FillRule,
         solver: Solver,
     ) -> Result<Vec<IntContour>, Error> {
-        let status = self.engine.polygons(&settings(solver, fill_rule, self.width), overlay_rule.code());
+        let status = self.engine.polygons(&self.settings(solver, fill_rule), overlay_rule.code());
         self.keep_report(status)?;
         Ok(self.engine.contours())
     }
@@ -237,7 +263,7 @@ impl Overlay {
         fill_rule: FillRule,
         solver: Solver,
     ) -> Result<Vec<IntShape>, Error> {
-        let status = self.engine.shapes_of_polygons(&settings(solver, fill_rule, self.width), overlay_rule.code());
+        let status = self.engine.shapes_of_polygons(&self.settings(solver, fill_rule), overlay_rule.code());
         self.keep_report(status)?;
         Ok(self.engine.shapes())
     }
@@ -257,10 +283,11 @@ impl Overlay {
         self.passes
     }
 
-    /// How far the passes of that overlay moved crossings at most, in `x` and in `y`, in halves of a unit; 0 at first.
+    /// How far that overlay moved edges at most, in `x` and in `y`, in halves of a unit; 0 at first. Snap rounding moves
+    /// them by at most one half.
     ///
-    /// What the overlay returned is exact at every place that is farther than this, in `x` or in `y`, from all edges of
-    /// the contours that it was given: one shape, or all contours together, wind once around such a place where the rule
+    /// What the overlay returned is exact at every point that is farther than this, in `x` or in `y`, from all edges of
+    /// the contours that it was given: one shape, or all contours together, wind once around such a point where the rule
     /// holds, and not at all elsewhere. It is 0 where no two of these edges cross at a point without whole coordinates.
     ///
     /// ```
@@ -369,8 +396,7 @@ impl Overlay {
         overlay_rule: OverlayRule,
         solver: Solver,
     ) -> Result<OverlayGraph<'_>, Error> {
-        let status =
-            self.engine.overlay_with_data(segments, &settings(solver, fill_rule, self.width), overlay_rule.code());
+        let status = self.engine.overlay_with_data(segments, &self.settings(solver, fill_rule), overlay_rule.code());
         outcome(status, segments, |segment| fault_of_data(segment, self.width))?;
         self.copy_graph();
         self.engine.copy_link_data(&mut self.link_data);
@@ -466,7 +492,7 @@ impl Overlay {
         fill_rule: FillRule,
         solver: Solver,
     ) -> Result<OverlayGraph<'_>, Error> {
-        let status = self.engine.all(segments, &settings(solver, fill_rule, self.width));
+        let status = self.engine.all(segments, &self.settings(solver, fill_rule));
         outcome(status, segments, |segment| fault_of(segment, self.width))?;
         Ok(self.graph())
     }
@@ -484,7 +510,7 @@ impl Overlay {
     /// # Ok::<(), i_overlay_core::Error>(())
     /// ```
     pub fn split(&mut self, segments: &[Segment], solver: Solver) -> Result<Change, Error> {
-        let status = self.engine.split(segments, &settings(solver, FillRule::NonZero, self.width));
+        let status = self.engine.split(segments, &self.settings(solver, FillRule::NonZero));
         outcome(status, segments, |segment| fault_of(segment, self.width))?;
         Ok(self.change())
     }
@@ -530,7 +556,7 @@ impl Overlay {
         solver: Solver,
     ) -> Result<OverlayGraph<'_>, Error> {
         let ClipRule { invert, boundary_included } = clip_rule;
-        let status = self.engine.clip(segments, &settings(solver, fill_rule, self.width), invert, boundary_included);
+        let status = self.engine.clip(segments, &self.settings(solver, fill_rule), invert, boundary_included);
         outcome(status, segments, |segment| fault_of_line(segment, self.width))?;
         Ok(self.graph())
     }
@@ -553,8 +579,7 @@ impl Overlay {
         solver: Solver,
         walks: bool,
     ) -> Result<(), Error> {
-        let status =
-            self.engine.overlay(segments, &settings(solver, fill_rule, self.width), overlay_rule.code(), walks);
+        let status = self.engine.overlay(segments, &self.settings(solver, fill_rule), overlay_rule.code(), walks);
         outcome(status, segments, |segment| fault_of(segment, self.width))
     }
 
@@ -584,19 +609,23 @@ impl Overlay {
     }
 }
 
-impl fmt::Debug for Overlay {
-    fn fmt(&self, f: &mut fmt::Formatter<'_>) -> fmt::Result {
-        f.debug_struct("Overlay").finish_non_exhaustive()
+impl Overlay {
+    /// What a call is set to.
+    fn settings(&self, solver: Solver, fill_rule: FillRule) -> ffi::Settings {
+        ffi::Settings {
+            start: solver.precision.start,
+            progression: solver.precision.progression,
+            strategy: solver.strategy as u8,
+            fill_rule: fill_rule as u8,
+            engine: self.width as u8,
+            rounding: self.rounding as u8,
+        }
     }
 }
 
-fn settings(solver: Solver, fill_rule: FillRule, engine: Engine) -> ffi::Settings {
-    ffi::Settings {
-        start: solver.precision.start,
-        progression: solver.precision.progression,
-        strategy: solver.strategy as u8,
-        fill_rule: fill_rule as u8,
-        engine: engine as u8,
+impl fmt::Debug for Overlay {
+    fn fmt(&self, f: &mut fmt::Formatter<'_>) -> fmt::Result {
+        f.debug_struct("Overlay").finish_non_exhaustive()
     }
 }
 

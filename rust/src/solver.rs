@@ -40,6 +40,21 @@ impl Precision {
     pub const LOW: Precision = Precision { start: 2, progression: 3 };
 }
 
+/// Where an overlay of contours puts crossings of edges that have no whole coordinates.
+#[repr(u8)]
+#[derive(Clone, Copy, Debug, Default, PartialEq, Eq, Hash)]
+pub enum Rounding {
+    /// By snap rounding, in one pass: a crossing goes to the whole point whose pixel it lies in, and the edges that meet
+    /// the pixel of such a point go through that point. No edge moves by more than half a unit, in `x` and in `y`, and few
+    /// nearly parallel edges leave few points.
+    #[default]
+    HotPixels = 0,
+    /// As upstream does: pass after pass, each crossing by itself, within the radius of a [`Precision`]. How far edges
+    /// move, and how many points are left, depends on all of them: six nearly parallel edges can leave hundreds of
+    /// thousands of points.
+    Pairwise = 1,
+}
+
 /// A strategy and a precision.
 #[derive(Clone, Copy, Debug, PartialEq, Eq, Hash)]
 pub struct Solver {

@@ -4,8 +4,8 @@ mod common;
 
 use common::Random;
 use i_overlay_core::{
-    square, Error, FillRule, IntContour, IntPoint, Overlay, OverlayRule, Precision, RuleTable, ShapeType, Solver,
-    Strategy, MAX_COORD, MIN_COORD,
+    square, Error, FillRule, IntContour, IntPoint, Overlay, OverlayRule, Precision, Rounding, RuleTable, ShapeType,
+    Solver, Strategy, MAX_COORD, MIN_COORD,
 };
 
 /// Twice the area to the left of contours.
@@ -110,14 +110,20 @@ fn an_overlay_tells_its_reach() {
     overlay.add_contour(&corners, ShapeType::Clip).unwrap();
     overlay.overlay(OverlayRule::Union, FillRule::NonZero).unwrap();
     let report = (overlay.passes(), overlay.reach());
-    assert!(report.0 >= 2 && report.1 >= 1, "{report:?}");
+    assert_eq!(report, (1, 1));
     overlay.overlay_shapes(OverlayRule::Union, FillRule::NonZero).unwrap();
     assert_eq!((overlay.passes(), overlay.reach()), report);
     // neither segments nor a cleared overlay change it
     overlay.split(&[], Solver::AUTO).unwrap();
     overlay.clear();
     assert_eq!((overlay.passes(), overlay.reach()), report);
-    // nothing is split in no pass
+    // passes over pairs move things farther, and of nothing there are none
+    let mut overlay = overlay.with_rounding(Rounding::Pairwise);
+    overlay.add_contour(&square(0, 4), ShapeType::Subject).unwrap();
+    overlay.add_contour(&corners, ShapeType::Clip).unwrap();
+    overlay.overlay_shapes(OverlayRule::Union, FillRule::NonZero).unwrap();
+    assert!(overlay.passes() >= 2 && overlay.reach() >= 2);
+    overlay.clear();
     overlay.overlay_shapes(OverlayRule::Union, FillRule::NonZero).unwrap();
     assert_eq!((overlay.passes(), overlay.reach()), (0, 0));
 }

@@ -369,9 +369,15 @@ fn contours_that_touch_in_the_least_point() {
     faults.assert_none();
 }
 
-/// The test of validity finds each thing that can be wrong.
+/// The test of validity finds each thing that can be wrong, near and far.
 #[test]
 fn each_fault_is_found() {
+    for (first, unit) in [(0, 1), (-1_050_000_000, 100_000_000)] {
+        find_each_fault(|numbers| contour(&numbers.iter().map(|number| first + number * unit).collect::<Vec<i32>>()));
+    }
+}
+
+fn find_each_fault(contour: impl Fn(&[i32]) -> IntContour) {
     let boundary = contour(&[0, 0, 9, 0, 9, 9, 0, 9]);
     let hole = contour(&[3, 3, 3, 6, 6, 6, 6, 3]);
     let found = |shapes: &[IntShape]| wrongs(shapes, &shapes.concat()).into_iter().collect::<Vec<Wrong>>();
@@ -389,7 +395,7 @@ fn each_fault_is_found() {
     assert_eq!(found(&[nested.to_vec()]), [Wrong::HoleInHole, Wrong::Overlap]);
     assert_eq!(of_one(&[0, 0, 4, 5, 5, 4]), []);
     assert_eq!(of_one(&[0, 0, 2, 7, 9, 9, 7, 2]), [Wrong::InParts]);
-    let ring = [&[2, 2, 2, 4, 4, 4] as &[i32], &[4, 4, 5, 6, 6, 4], &[2, 2, 6, 4, 5, 2]].map(contour);
+    let ring = [&[2, 2, 2, 4, 4, 4] as &[i32], &[4, 4, 5, 6, 6, 4], &[2, 2, 6, 4, 5, 2]].map(&contour);
     let ringed = |count: usize| found(&[[std::slice::from_ref(&boundary), &ring[..count]].concat()]);
     assert_eq!(ringed(2), []);
     assert_eq!(ringed(3), [Wrong::InParts]);

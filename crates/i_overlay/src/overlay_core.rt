@@ -21,7 +21,11 @@ pub mod integer {
     pub use overlay_geometry::num::OverlayInt;
 }
 
-/// Which of the two shapes a segment bounds.
+/// The overlay of polygons, and which of the two shapes a contour or a segment bounds.
 pub mod overlay {
     pub use overlay_base::segm::shape_type::ShapeType;
+    pub use overlay_contours::contour::{IntContour, IntShape};
+    pub use overlay_contours::fault::ContourFault;
+    pub use overlay_contours::overlay::{Overlay, overlay_contours, overlay_shapes};
+    pub use overlay_contours::rounding::Rounding;
 }

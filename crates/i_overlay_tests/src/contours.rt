@@ -8,6 +8,7 @@ use overlay_base::segm::shape_type::ShapeType;
 use overlay_contours::contour::IntContour;
 use overlay_contours::fault::ContourFault;
 use overlay_contours::overlay::*;
+use overlay_contours::rounding::Rounding;
 use overlay_geometry::geom::point::IntPoint;
 use std::alloc::Global;
 use std::test::Fail;
@@ -310,6 +311,29 @@ fn an_overlay_tells_its_reach(rt: HostRuntime) -> Result<(), Fail> {
     load(alloc, &mut overlay, &subject, OTHER_SQUARE)?;
     overlay.overlay(&Solver::AUTO, FillRule::NonZero, OverlayRule::Union)?;
     assert!(rt; (overlay.passes(), overlay.reach()) == (1, 0));
+    Ok(())
+}
+
+/// The number of passes of a union of two triangles whose edges cross at (2.5, 2.5), and how far it moves them.
+fn report_of_triangles(alloc: Global, rounding: Option<Rounding>) -> Result<(u128, u128), Fail> {
+    let mut overlay = Overlay::new(alloc);
+    let subject = contours_from(alloc, &[&[(0, 0), (5, 5), (0, 5)]])?;
+    load(alloc, &mut overlay, &subject, &[(0, 5), (5, 0), (5, 5)])?;
+    if let Some(rounding) = rounding {
+        overlay.set_rounding(rounding);
+    }
+    overlay.overlay(&Solver::AUTO, FillRule::NonZero, OverlayRule::Union)?;
+    Ok((overlay.passes(), overlay.reach()))
+}
+
+/// Snap rounding takes one pass, and moves edges by one half at most. The first pass over pairs snaps the crossing within a
+/// squared radius of 1, and so moves it by at most 2 + 2 halves.
+#[test]
+fn rounding_is_chosen(rt: HostRuntime) -> Result<(), Fail> {
+    let alloc = rt.alloc();
+    assert!(rt; report_of_triangles(alloc, None)? == (1, 1));
+    assert!(rt; report_of_triangles(alloc, Some(Rounding::HotPixels))? == (1, 1));
+    assert!(rt; report_of_triangles(alloc, Some(Rounding::Pairwise))? == (2, 4));
     Ok(())
 }
 

@@ -1,19 +1,27 @@
 -- What an engine keeps of an overlay, from what the calls below it answer.
-use Rattle.std.proofs.Common.{◌≡◌, ◌∙◌, ◌≤◌, ℕ, Bool, ap, subst, List, map, flat_map, length}
+use Rattle.std.proofs.Common.{◌≡◌, refl, ◌∙◌, ◌≤◌, ◌==◌, ℕ, Bool, true, false, if◌then◌else◌, IsTrue, ap, subst, List, map, flat_map, length}
 use Rattle.overlay_base.specs.Radius.{exponent_cap}
 use Rattle.overlay_base.specs.Segments.{WholeSegment}
 use Rattle.overlay_base.specs.declared.overlay_core.fill_rule.FillRule.{FillRule}
 use Rattle.overlay_base.specs.declared.overlay_core.overlay_rule.OverlayRule.{OverlayRule}
-use Rattle.overlay_split.specs.Nearness.{reach_of_passes}
+use Rattle.overlay_base.specs.declared.overlay_core.solver.Solver.{Solver}
+use Rattle.overlay_split.specs.ExactInput.{is_exact_input}
 use Rattle.overlay_split.specs.Run.{Settings, IsRun}
 use Rattle.overlay_build.specs.Graph.{Graph}
 use Rattle.overlay_base.specs.Balance.{IsBalanced}
 use Rattle.i_overlay.specs.FarRegions.{EnclosesOverlay}
 use Rattle.i_overlay.specs.Headline.{IsSplit, IsOverlay}
 use Rattle.overlay_geometry.specs.Points.{Point}
-use Rattle.overlay_contours.specs.Beyond.{IsOverlayBeyond, IsShapeOverlayBeyond, AreOfRun}
+use Rattle.overlay_contours.specs.Beyond.{IsOverlayBeyond, IsShapeOverlayBeyond, AreOfSplitting}
 use Rattle.overlay_contours.specs.Polygons.{IsPolygonOverlay}
+use Rattle.overlay_contours.specs.ContourSegments.{overlay_segments}
 use Rattle.overlay_contours.specs.Shapes.{IsShapeOverlay}
+use Rattle.overlay_contours.specs.Splittings.{Splitting, by_passes, by_snapping, splitting_for, most_halves}
+use Rattle.overlay_contours.specs.declared.rounding.Rounding.{Rounding}
+use Rattle.overlay_contours.specs.declared.rounding.Rounding.TheVariants.{HotPixels, Pairwise}
+use Rattle.overlay_c.specs.Contours.{polygon_splitting}
+use Rattle.overlay_c.specs.Records.{settings_by, rounding_of}
+use Rattle.overlay_c.specs.declared.records.SettingsRecord.{SettingsRecord}
 use Rattle.overlay_c.specs.Kept.{AreLaid}
 
 -- settings of an engine of so many bits, by their parts
@@ -43,22 +51,39 @@ same_split s t xs ys segments passes es ex o = subst (λ u. IsSplit u ys segment
 pub same_run : (s t : Settings) (xs ys segments : List WholeSegment) (passes : ℕ) (flag : Bool) → s ≡ t → xs ≡ ys → IsRun s xs segments passes flag → IsRun t ys segments passes flag
 same_run s t xs ys segments passes flag es ex o = subst (λ u. IsRun u ys segments passes flag) es (subst (λ u. IsRun s u segments passes flag) ex o)
 
-pub same_polygons : (s t : Settings) (r : OverlayRule) (f g : FillRule) (subject clip answer : List (List Point)) → s ≡ t → f ≡ g → IsPolygonOverlay s r f subject clip answer → IsPolygonOverlay t r g subject clip answer
-same_polygons s t r f g subject clip answer es ef o =
-    subst (λ u. IsPolygonOverlay u r g subject clip answer) es (subst (λ u. IsPolygonOverlay s r u subject clip answer) ef o)
+-- the splitting of the rounding of a code
+pub same_splitting : (settings : SettingsRecord) (solver : Solver) (rounding : Rounding) → rounding ≡ rounding_of settings.rounding → solver.precision.start ≡ settings.start → solver.precision.progression ≡ settings.progression → splitting_for rounding 32 solver ≡ polygon_splitting settings
+same_splitting settings solver rounding is start progression = ap (λ (r : Rounding). splitting_for r 32 solver) is ∙ by (settings.rounding == 0)
+  where
+    by : (b : Bool) → splitting_for (if b then HotPixels else Pairwise) 32 solver ≡ (if b then by_snapping else by_passes (settings_by 32 settings 256))
+    by true = refl
+    by false = ap by_passes (same_settings 32 _ _ _ _ 256 256 start progression refl)
 
-pub same_beyond : (halves : ℕ) (r : OverlayRule) (f g : FillRule) (subject clip answer : List (List Point)) → f ≡ g → IsOverlayBeyond halves r f subject clip answer → IsOverlayBeyond halves r g subject clip answer
-same_beyond halves r f g subject clip answer ef o = subst (λ u. IsOverlayBeyond halves r u subject clip answer) ef o
+-- What holds of an overlay holds of it by all that is the same.
+module _ (s t : Splitting) (f g : FillRule) (a b c d : List (List Point)) (es : s ≡ t) (ef : f ≡ g) (ea : a ≡ b) (ec : c ≡ d) where
+  pub same_polygons : (r : OverlayRule) (answer : List (List Point)) → IsPolygonOverlay s r f a c answer → IsPolygonOverlay t r g b d answer
+  same_polygons r answer o =
+      subst (λ u. IsPolygonOverlay u r g b d answer) es (subst (λ u. IsPolygonOverlay s r u b d answer) ef (subst (λ u. IsPolygonOverlay s r f u d answer) ea (subst (λ u. IsPolygonOverlay s r f a u answer) ec o)))
 
-pub same_shapes : (s t : Settings) (r : OverlayRule) (f g : FillRule) (subject clip : List (List Point)) (shapes : List (List (List Point))) → s ≡ t → f ≡ g → IsShapeOverlay s r f subject clip shapes → IsShapeOverlay t r g subject clip shapes
-same_shapes s t r f g subject clip shapes es ef o =
-    subst (λ u. IsShapeOverlay u r g subject clip shapes) es (subst (λ u. IsShapeOverlay s r u subject clip shapes) ef o)
+  pub same_beyond : (halves : ℕ) (r : OverlayRule) (answer : List (List Point)) → IsOverlayBeyond halves r f a c answer → IsOverlayBeyond halves r g b d answer
+  same_beyond halves r answer o =
+      subst (λ u. IsOverlayBeyond halves r u b d answer) ef (subst (λ u. IsOverlayBeyond halves r f u d answer) ea (subst (λ u. IsOverlayBeyond halves r f a u answer) ec o))
 
-pub same_shapes_beyond : (halves : ℕ) (r : OverlayRule) (f g : FillRule) (subject clip : List (List Point)) (shapes : List (List (List Point))) → f ≡ g → IsShapeOverlayBeyond halves r f subject clip shapes → IsShapeOverlayBeyond halves r g subject clip shapes
-same_shapes_beyond halves r f g subject clip shapes ef o = subst (λ u. IsShapeOverlayBeyond halves r u subject clip shapes) ef o
+  pub same_shapes : (r : OverlayRule) (shapes : List (List (List Point))) → IsShapeOverlay s r f a c shapes → IsShapeOverlay t r g b d shapes
+  same_shapes r shapes o =
+      subst (λ u. IsShapeOverlay u r g b d shapes) es (subst (λ u. IsShapeOverlay s r u b d shapes) ef (subst (λ u. IsShapeOverlay s r f u d shapes) ea (subst (λ u. IsShapeOverlay s r f a u shapes) ec o)))
 
-pub same_report : (s t : Settings) (subject clip : List (List Point)) (passes halves : ℕ) → s ≡ t → AreOfRun s subject clip passes halves → AreOfRun t subject clip passes halves
-same_report s t subject clip passes halves es o = subst (λ u. AreOfRun u subject clip passes halves) es o
+  pub same_shapes_beyond : (halves : ℕ) (r : OverlayRule) (shapes : List (List (List Point))) → IsShapeOverlayBeyond halves r f a c shapes → IsShapeOverlayBeyond halves r g b d shapes
+  same_shapes_beyond halves r shapes o =
+      subst (λ u. IsShapeOverlayBeyond halves r u b d shapes) ef (subst (λ u. IsShapeOverlayBeyond halves r f u d shapes) ea (subst (λ u. IsShapeOverlayBeyond halves r f a u shapes) ec o))
 
-pub same_bound : (s t : Settings) (passes halves : ℕ) → s ≡ t → halves ≤ reach_of_passes s passes → halves ≤ reach_of_passes t passes
-same_bound s t passes halves es le = subst (λ u. halves ≤ reach_of_passes u passes) es le
+  pub same_report : (passes halves : ℕ) → AreOfSplitting s a c passes halves → AreOfSplitting t b d passes halves
+  same_report passes halves o =
+      subst (λ u. AreOfSplitting u b d passes halves) es (subst (λ u. AreOfSplitting s u d passes halves) ea (subst (λ u. AreOfSplitting s a u passes halves) ec o))
+
+  pub same_bound : (passes halves : ℕ) → halves ≤ most_halves s passes → halves ≤ most_halves t passes
+  same_bound passes halves le = subst (λ u. halves ≤ most_halves u passes) es le
+
+  pub same_exact : (halves : ℕ) → (IsTrue (is_exact_input (overlay_segments a c)) → halves ≡ 0) → IsTrue (is_exact_input (overlay_segments b d)) → halves ≡ 0
+  same_exact halves known =
+      subst (λ u. IsTrue (is_exact_input (overlay_segments u d)) → halves ≡ 0) ea (subst (λ u. IsTrue (is_exact_input (overlay_segments a u)) → halves ≡ 0) ec known)

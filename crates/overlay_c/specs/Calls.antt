@@ -6,7 +6,7 @@ use Rattle.overlay_base.specs.declared.segm.shape_type.ShapeType.TheVariants.{Su
 use Rattle.overlay_base.specs.EdgeData.{DataSegment}
 use Rattle.overlay_base.specs.Segments.{WholeSegment}
 use Rattle.overlay_contours.specs.Refusals.{CountsLeaveRange}
-use Rattle.overlay_c.specs.Contours.{point_by, contours_in, polygon_settings, KeepsPolygons, KeepsShapes}
+use Rattle.overlay_c.specs.Contours.{point_by, contours_in, polygon_splitting, KeepsPolygons, KeepsShapes}
 use Rattle.overlay_c.specs.Kept.{are_usable, are_lines_usable}
 use Rattle.overlay_c.specs.Records.{line_asked_by, names_narrow, IsRuleOf}
 use Rattle.overlay_c.specs.Widths.{least_of, greatest_of, LastKeepsOverlay, LastKeepsData, LastKeepsClip}
@@ -75,4 +75,4 @@ abbrev pub KeepsShapesBy : SettingsRecord → ℕ → Engine → Engine → Type
 KeepsShapesBy settings code before after = (rule : OverlayRule) × IsRuleOf code rule × KeepsShapes settings rule before after
 
 abbrev pub PolygonCountsLeaveRange : SettingsRecord → Engine → Type 0
-PolygonCountsLeaveRange settings engine = CountsLeaveRange (polygon_settings settings) (contours_in engine Subject) (contours_in engine Clip)
+PolygonCountsLeaveRange settings engine = CountsLeaveRange (polygon_splitting settings) (contours_in engine Subject) (contours_in engine Clip)

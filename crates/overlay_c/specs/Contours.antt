@@ -1,5 +1,5 @@
 -- What an engine is given of contours, and what it keeps of their overlay.
-use Rattle.std.specs.Prelude.{◌≡◌, ◌≤◌, Bool, IsTrue, IsFalse, List, [], map, length}
+use Rattle.std.specs.Prelude.{◌≡◌, ◌≤◌, ◌==◌, if◌then◌else◌, Bool, IsTrue, IsFalse, List, [], map, length}
 use Rattle.std.specs.List.{list_all}
 use Rattle.overlay_geometry.specs.Points.{Point}
 use Rattle.overlay_geometry.specs.Coordinates.{least_coordinate, greatest_coordinate, is_point_in_range}
@@ -8,14 +8,13 @@ use Rattle.overlay_base.specs.declared.segm.fault.Fault.TheVariants.{Memory}
 use Rattle.overlay_base.specs.declared.segm.shape_type.ShapeType.{ShapeType}
 use Rattle.overlay_base.specs.declared.segm.shape_type.ShapeType.TheVariants.{Subject, Clip}
 use Rattle.overlay_split.specs.ExactInput.{is_exact_input}
-use Rattle.overlay_split.specs.Nearness.{reach_of_passes}
-use Rattle.overlay_split.specs.Run.{Settings}
-use Rattle.overlay_contours.specs.Beyond.{IsOverlayBeyond, IsShapeOverlayBeyond, AreOfRun}
+use Rattle.overlay_contours.specs.Beyond.{IsOverlayBeyond, IsShapeOverlayBeyond, AreOfSplitting}
 use Rattle.overlay_contours.specs.ContourSegments.{overlay_segments}
 use Rattle.overlay_contours.specs.Kept.{subject_of, clip_of, passes_of, reach_of, KeepsReport}
 use Rattle.overlay_contours.specs.Polygons.{IsPolygonOverlay}
 use Rattle.overlay_contours.specs.Refusals.{of_shape, IsReason}
 use Rattle.overlay_contours.specs.Shapes.{all_contours, IsShapeOverlay}
+use Rattle.overlay_contours.specs.Splittings.{Splitting, by_passes, by_snapping, most_halves}
 use Rattle.overlay_c.specs.Records.{fill_rule_of, settings_by}
 use Rattle.overlay_c.specs.Kept.{AreLaid}
 use Rattle.overlay_c.specs.declared.contours.PointRecord.{PointRecord}
@@ -36,37 +35,37 @@ are_in_range records = list_all (is_point_in_range least_coordinate greatest_coo
 abbrev pub contours_in : Engine → ShapeType → List (List Point)
 contours_in engine shape = of_shape shape (subject_of engine.polygons) (clip_of engine.polygons)
 
--- what an overlay of contours is set to: its first 256 passes snap
-abbrev pub polygon_settings : SettingsRecord → Settings
-polygon_settings settings = settings_by 32 settings 256
+-- how an overlay of contours splits: by snap rounding, or where the settings say so by passes, of which the first 256 snap
+abbrev pub polygon_splitting : SettingsRecord → Splitting
+polygon_splitting settings = if settings.rounding == 0 then by_snapping else by_passes (settings_by 32 settings 256)
 
--- The two numbers that it reports are those of the run over the contours that another was given: of passes, and of halves
--- that these reach. They reach no farther than as many passes do by the settings alone, and nowhere where no two given
--- edges cross at a point that is not whole.
-pub record ReportsRun (settings : SettingsRecord) (before after : Engine) : Type 0 where
-  pub run : AreOfRun (polygon_settings settings) (contours_in before Subject) (contours_in before Clip) (passes_of after.polygons) (reach_of after.polygons)
-  pub bounded : reach_of after.polygons ≤ reach_of_passes (polygon_settings settings) (passes_of after.polygons)
+-- The two numbers that it reports are those of the splitting of the contours that another was given: of passes, and of halves
+-- that these move things at most. That is no more than as many passes do by the splitting alone, and nothing where no two
+-- given edges cross at a point that is not whole.
+pub record ReportsSplitting (settings : SettingsRecord) (before after : Engine) : Type 0 where
+  pub splitting : AreOfSplitting (polygon_splitting settings) (contours_in before Subject) (contours_in before Clip) (passes_of after.polygons) (reach_of after.polygons)
+  pub bounded : reach_of after.polygons ≤ most_halves (polygon_splitting settings) (passes_of after.polygons)
   pub exact : IsTrue (is_exact_input (overlay_segments (contours_in before Subject) (contours_in before Clip))) → reach_of after.polygons ≡ 0
 
 -- it keeps the contours of an overlay of the contours that another was given
 pub record KeepsPolygons (settings : SettingsRecord) (rule : OverlayRule) (before after : Engine) : Type 0 where
   pub contours : List (List Point)
-  pub overlay : IsPolygonOverlay (polygon_settings settings) rule (fill_rule_of settings.fill_rule) (contours_in before Subject) (contours_in before Clip) contours
+  pub overlay : IsPolygonOverlay (polygon_splitting settings) rule (fill_rule_of settings.fill_rule) (contours_in before Subject) (contours_in before Clip) contours
   pub kept : AreLaid contours after.contour_lengths.items (map point_by after.contour_points.items)
   pub no_shapes : after.shape_lengths.items ≡ []
   -- what holds of them farther from the given edges than it reports
   pub beyond : IsOverlayBeyond (reach_of after.polygons) rule (fill_rule_of settings.fill_rule) (contours_in before Subject) (contours_in before Clip) contours
-  pub report : ReportsRun settings before after
+  pub report : ReportsSplitting settings before after
 
 -- it keeps the shapes of such an overlay: how many contours each has, and all contours
 pub record KeepsShapes (settings : SettingsRecord) (rule : OverlayRule) (before after : Engine) : Type 0 where
   pub shapes : List (List (List Point))
-  pub overlay : IsShapeOverlay (polygon_settings settings) rule (fill_rule_of settings.fill_rule) (contours_in before Subject) (contours_in before Clip) shapes
+  pub overlay : IsShapeOverlay (polygon_splitting settings) rule (fill_rule_of settings.fill_rule) (contours_in before Subject) (contours_in before Clip) shapes
   pub counts : after.shape_lengths.items ≡ map length shapes
   pub kept : AreLaid (all_contours shapes) after.contour_lengths.items (map point_by after.contour_points.items)
   -- what holds of them farther from the given edges than it reports
   pub beyond : IsShapeOverlayBeyond (reach_of after.polygons) rule (fill_rule_of settings.fill_rule) (contours_in before Subject) (contours_in before Clip) shapes
-  pub report : ReportsRun settings before after
+  pub report : ReportsSplitting settings before after
 
 -- why a contour was not added: a point of it is out of range, or a growth was refused
 abbrev pub IsPointRefusal : List PointRecord → Refusal → Type 0
@@ -76,7 +75,7 @@ IsPointRefusal contour NotSplittable = ⊥
 
 -- why an overlay of contours was refused: a growth was, or a count leaves the range
 abbrev pub IsPolygonRefusal : SettingsRecord → Engine → Refusal → Type 0
-IsPolygonRefusal settings engine (Refused fault) = IsReason (polygon_settings settings) (contours_in engine Subject) (contours_in engine Clip) fault
+IsPolygonRefusal settings engine (Refused fault) = IsReason (polygon_splitting settings) (contours_in engine Subject) (contours_in engine Clip) fault
 IsPolygonRefusal settings engine NotSplittable = ⊥
 IsPolygonRefusal settings engine OutOfRange = ⊥
 

@@ -20,6 +20,8 @@ use Rattle.overlay_base.specs.declared.segm.shape_type.ShapeType.{ShapeType}
 use Rattle.overlay_base.specs.declared.segm.shape_type.ShapeType.TheVariants.{Subject, Clip}
 use Rattle.overlay_split.specs.Run.{Settings}
 use Rattle.overlay_build.specs.Graph.{Link}
+use Rattle.overlay_contours.specs.declared.rounding.Rounding.{Rounding}
+use Rattle.overlay_contours.specs.declared.rounding.Rounding.TheVariants.{HotPixels, Pairwise}
 use Rattle.overlay_c.specs.declared.records.SegmentRecord.{SegmentRecord}
 use Rattle.overlay_c.specs.declared.records.LineRecord.{LineRecord}
 use Rattle.overlay_c.specs.declared.records.LinkRecord.{LinkRecord}
@@ -85,6 +87,10 @@ link_by r = record { pair = record { a = record { x = r.ax; y = r.ay }; b = reco
 -- the fill rule of a code
 abbrev pub fill_rule_of : ℕ → FillRule
 fill_rule_of code = if code == 0 then fill.EvenOdd else if code == 1 then fill.NonZero else if code == 2 then fill.Positive else fill.Negative
+
+-- the rounding of a code
+abbrev pub rounding_of : ℕ → Rounding
+rounding_of code = if code == 0 then HotPixels else Pairwise
 
 -- the shape of a code
 abbrev pub shape_of : ℕ → ShapeType

@@ -8,7 +8,7 @@ use crate::cores::Core;
 use crate::lines;
 use crate::records::{
     LineRecord, LinkRecord, ReportRecord, SegmentRecord, SettingsRecord, SizesRecord, fill_rule,
-    solver, tell_all, words,
+    rounding, solver, tell_all, words,
 };
 use crate::refusal::Refusal;
 use crate::tags::{Tag, TaggedRecord};
@@ -365,6 +365,7 @@ impl Engine {
     {
         let solver = solver(settings);
         let fill_rule = fill_rule(settings.fill_rule);
+        self.polygons.set_rounding(rounding(settings.rounding));
         let contours = self.polygons.overlay(&solver, fill_rule, rule)?;
         self.shape_lengths.clear();
         keep_contours(
@@ -385,6 +386,7 @@ impl Engine {
     {
         let solver = solver(settings);
         let fill_rule = fill_rule(settings.fill_rule);
+        self.polygons.set_rounding(rounding(settings.rounding));
         let shapes = self.polygons.overlay_shapes(&solver, fill_rule, rule)?;
         keep_shapes(
             &shapes,

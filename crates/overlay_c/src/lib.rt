@@ -265,8 +265,9 @@ pub extern "C" fn overlay_c_add_contour(
 
 /// The overlay of the contours that were added, as contours that have it on their left: outer boundaries run
 /// counterclockwise, and holes clockwise. Returns 0 where it is done, 1 where memory was refused, and 2 where a count
-/// left the range. The contours that were added stay. The first 256 passes snap, whatever the limit of the engine is, and
-/// coordinates have 32 bits, whatever engine the settings name.
+/// left the range. The contours that were added stay. Crossings are rounded as the settings say: by snap rounding, or pair
+/// by pair, in passes of which the first 256 snap, whatever the limit of the engine is. Coordinates have 32 bits, whatever
+/// engine the settings name.
 #[unsafe(no_mangle)]
 pub extern "C" fn overlay_c_polygons(
     alloc: Global,
@@ -315,7 +316,7 @@ pub extern "C" fn overlay_c_shapes(
 }
 
 /// What the last overlay of contours, in shapes or not, reports of its run: how many passes it made, and how far these
-/// moved crossings. What such an overlay leaves holds at every place that is farther than this from the edges of the
+/// moved edges. What such an overlay leaves holds at every place that is farther than this from the edges of the
 /// contours that it was given. Both are 0 at first, and nothing is promised of them after an overlay that was refused.
 #[unsafe(no_mangle)]
 pub extern "C" fn overlay_c_report(alloc: Global, handle: &mut Handle) -> ReportRecord

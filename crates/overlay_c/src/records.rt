@@ -6,7 +6,7 @@ ghost use Rattle.overlay_geometry.specs.Coordinates.{is_point_in_range};
 ghost use Rattle.overlay_base.specs.BooleanWinding.{boolean_winding};
 ghost use Rattle.overlay_base.specs.SegmentOf.{segment_of, segments_of, data_segment_of};
 ghost use Rattle.overlay_build.specs.GraphOf.{link_of};
-ghost use Rattle.overlay_c.specs.Records.{start_of, end_of, count_of, asks, asked_by, asked_piece, told_by, link_by, fill_rule_of, shape_of, number_by, IsRuleOf};
+ghost use Rattle.overlay_c.specs.Records.{start_of, end_of, count_of, asks, asked_by, asked_piece, told_by, link_by, fill_rule_of, rounding_of, shape_of, number_by, IsRuleOf};
 
 use crate::width::Width;
 use overlay_base::overlay_core::edge_data::OverlayEdgeData;
@@ -19,6 +19,7 @@ use overlay_base::segm::boolean::ShapeCountBoolean;
 use overlay_base::segm::segment::Segment;
 use overlay_base::segm::shape_type::ShapeType;
 use overlay_base::segm::winding::WindingCount;
+use overlay_contours::rounding::Rounding;
 use overlay_geometry::geom::point::IntPoint;
 
 /// How many numbers have 64 bits.
@@ -81,6 +82,9 @@ pub struct SettingsRecord {
     pub fill_rule: u8,
     /// 0 for coordinates of 32 bits, else those of 16.
     pub engine: u8,
+    /// Where overlays of contours put crossings that are no whole points: 0 for snap rounding, else pair by pair, as
+    /// upstream does. Segments and lines are split pair by pair, whatever it is.
+    pub rounding: u8,
 }
 
 /// The segment that a record asks for, with data. `None` where an end is out of range, the ends are equal, or a count is
@@ -201,6 +205,16 @@ pub fn fill_rule(code: u8) -> FillRule
         1 => FillRule::NonZero,
         2 => FillRule::Positive,
         _ => FillRule::Negative,
+    }
+}
+
+/// The rounding of a code.
+pub fn rounding(code: u8) -> Rounding
+    ensures { result ≡ rounding_of code }
+{
+    match code {
+        0 => Rounding::HotPixels,
+        _ => Rounding::Pairwise,
     }
 }
 

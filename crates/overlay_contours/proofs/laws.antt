@@ -5,6 +5,7 @@ pub mod Counting
 pub mod Extracts
 pub mod DirectedWindings
 pub mod GraphContours
+pub mod Splittings
 pub mod Overlays
 pub mod Parities
 pub mod Straight

@@ -10,7 +10,6 @@ use Rattle.overlay_base.specs.Places.{RationalPoint, winding_below}
 use Rattle.overlay_base.specs.SegmentOf.{segments_of}
 use Rattle.overlay_base.specs.declared.overlay_core.fill_rule.FillRule.{FillRule}
 use Rattle.overlay_base.specs.declared.overlay_core.overlay_rule.OverlayRule.{OverlayRule}
-use Rattle.overlay_base.specs.declared.overlay_core.solver.Solver.{Solver}
 use Rattle.overlay_base.specs.declared.segm.segment.Segment.{Segment}
 use Rattle.overlay_build.specs.BoundaryOf.{links_by, arcs_by}
 use Rattle.overlay_build.specs.GraphOf.{pairs_of_links}
@@ -21,8 +20,9 @@ use Rattle.overlay_contours.specs.Contours.{AreProper, directed_edges, edges, wi
 use Rattle.overlay_contours.specs.ContourSegments.{overlay_segments, overlay_winding, are_in_range, IsFirstOutside}
 use Rattle.overlay_contours.specs.ContoursOf.{points_of, contours_of}
 use Rattle.overlay_contours.specs.Corners.{corners}
-use Rattle.overlay_contours.specs.Polygons.{settings_for, IsPolygonOverlay}
+use Rattle.overlay_contours.specs.Polygons.{IsPolygonOverlay}
 use Rattle.overlay_contours.specs.Refusals.{IsRefusal}
+use Rattle.overlay_contours.specs.Splittings.{by_snapping}
 use Rattle.overlay_contours.specs.declared.fault.ContourFault.{ContourFault}
 
 -- ---- ranges
@@ -90,12 +90,12 @@ PaintWhatIsEnclosed {w = w} graph contours = (p : RationalPoint) → is_painted 
 
 -- ---- overlays
 
--- The contours are what the overlay of a subject's and a clip's returns.
-abbrev pub IsOverlayOf : {I : Type 0} → Engine I → Solver → OverlayRule → FillRule → List (Vec (IntPoint I) Global) → List (Vec (IntPoint I) Global) → Vec (Vec (IntPoint I) Global) Global → Type 0
-IsOverlayOf engine solver rule fill_rule subject clip contours =
-    IsPolygonOverlay (settings_for engine.BITS solver) rule fill_rule (contours_of engine.whole subject) (contours_of engine.whole clip) (contours_of engine.whole contours.items)
+-- The contours are what the overlay of a subject's and a clip's returns by snap rounding.
+abbrev pub IsOverlayOf : {I : Type 0} → Engine I → OverlayRule → FillRule → List (Vec (IntPoint I) Global) → List (Vec (IntPoint I) Global) → Vec (Vec (IntPoint I) Global) Global → Type 0
+IsOverlayOf engine rule fill_rule subject clip contours =
+    IsPolygonOverlay by_snapping rule fill_rule (contours_of engine.whole subject) (contours_of engine.whole clip) (contours_of engine.whole contours.items)
 
 -- The fault says why that overlay was refused.
-abbrev pub IsRefusalOf : {I : Type 0} → Engine I → Solver → List (Vec (IntPoint I) Global) → List (Vec (IntPoint I) Global) → ContourFault → Type 0
-IsRefusalOf engine solver subject clip fault =
-    IsRefusal (engine.whole engine.MIN_COORD) (engine.whole engine.MAX_COORD) (settings_for engine.BITS solver) (contours_of engine.whole subject) (contours_of engine.whole clip) fault
+abbrev pub IsRefusalOf : {I : Type 0} → Engine I → List (Vec (IntPoint I) Global) → List (Vec (IntPoint I) Global) → ContourFault → Type 0
+IsRefusalOf engine subject clip fault =
+    IsRefusal (engine.whole engine.MIN_COORD) (engine.whole engine.MAX_COORD) by_snapping (contours_of engine.whole subject) (contours_of engine.whole clip) fault

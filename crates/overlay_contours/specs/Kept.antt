@@ -11,10 +11,11 @@ use Rattle.overlay_base.specs.declared.overlay_core.solver.Solver.{Solver}
 use Rattle.overlay_base.specs.declared.segm.fault.Fault.{Fault}
 use Rattle.overlay_base.specs.declared.segm.shape_type.ShapeType.{ShapeType}
 use Rattle.overlay_split.specs.ExactInput.{is_exact_input}
-use Rattle.overlay_split.specs.Nearness.{reach_of_passes}
-use Rattle.overlay_contours.specs.Beyond.{IsOverlayBeyond, IsCornerOverlayBeyond, IsShapeOverlayBeyond, AreOfRun}
+use Rattle.overlay_contours.specs.Beyond.{IsOverlayBeyond, IsCornerOverlayBeyond, IsShapeOverlayBeyond, AreOfSplitting}
 use Rattle.overlay_contours.specs.ContourSegments.{overlay_segments}
-use Rattle.overlay_contours.specs.Polygons.{settings_for, IsPolygonOverlay}
+use Rattle.overlay_contours.specs.Polygons.{IsPolygonOverlay}
+use Rattle.overlay_contours.specs.Splittings.{Splitting, splitting_for, most_halves}
+use Rattle.overlay_contours.specs.declared.rounding.Rounding.{Rounding}
 use Rattle.overlay_contours.specs.CornerOverlays.{IsCornerOverlay}
 use Rattle.overlay_contours.specs.Shapes.{IsShapeOverlay}
 use Rattle.overlay_contours.specs.ShapesOf.{shapes_of}
@@ -34,6 +35,14 @@ passes_of overlay = overlay.passes
 
 abbrev pub reach_of : {I : Type 0} {w : _} {o : _} {e : _} {p : _} → Overlay I w o e p → ℕ
 reach_of overlay = overlay.reach
+
+-- how it rounds crossings
+abbrev pub rounding_of : {I : Type 0} {w : _} {o : _} {e : _} {p : _} → Overlay I w o e p → Rounding
+rounding_of overlay = overlay.rounding
+
+-- the splitting that its rounding names, with a solver
+abbrev pub splitting_of : {I : Type 0} {w : _} {o : _} {e : _} {p : _} → Solver → Overlay I w o e p → Splitting
+splitting_of {w = w} solver overlay = splitting_for (rounding_of overlay) w.BITS solver
 
 -- those of a shape
 abbrev pub contours_kept : {I : Type 0} {w : _} {o : _} {e : _} {p : _} → ShapeType → Overlay I w o e p → List (List Point)
@@ -55,17 +64,17 @@ IsRefusalToAdd {w = w} shape_type contour overlay fault =
 -- The contours are what the overlay of those that are kept returns.
 abbrev pub IsOverlayOfKept : {I : Type 0} {w : _} {o : _} {e : _} {p : _} → Solver → OverlayRule → FillRule → Overlay I w o e p → Vec (Vec (IntPoint I) Global) Global → Type 0
 IsOverlayOfKept {w = w} solver rule fill_rule overlay contours =
-    IsPolygonOverlay (settings_for w.BITS solver) rule fill_rule (subject_of overlay) (clip_of overlay) (contours_of w.whole contours.items)
+    IsPolygonOverlay (splitting_of solver overlay) rule fill_rule (subject_of overlay) (clip_of overlay) (contours_of w.whole contours.items)
 
 -- They are what it answers without collinear points.
 abbrev pub IsCornersOfKept : {I : Type 0} {w : _} {o : _} {e : _} {p : _} → Solver → OverlayRule → FillRule → Overlay I w o e p → Vec (Vec (IntPoint I) Global) Global → Type 0
 IsCornersOfKept {w = w} solver rule fill_rule overlay contours =
-    IsCornerOverlay (settings_for w.BITS solver) rule fill_rule (subject_of overlay) (clip_of overlay) (contours_of w.whole contours.items)
+    IsCornerOverlay (splitting_of solver overlay) rule fill_rule (subject_of overlay) (clip_of overlay) (contours_of w.whole contours.items)
 
 -- The shapes are what the overlay of those that are kept returns in shapes.
 abbrev pub IsShapeOverlayOfKept : {I : Type 0} {w : _} {o : _} {e : _} {p : _} → Solver → OverlayRule → FillRule → Overlay I w o e p → Vec (Vec (Vec (IntPoint I) Global) Global) Global → Type 0
 IsShapeOverlayOfKept {w = w} solver rule fill_rule overlay shapes =
-    IsShapeOverlay (settings_for w.BITS solver) rule fill_rule (subject_of overlay) (clip_of overlay) (shapes_of w.whole shapes.items)
+    IsShapeOverlay (splitting_of solver overlay) rule fill_rule (subject_of overlay) (clip_of overlay) (shapes_of w.whole shapes.items)
 
 -- ---- by the distance that is reported
 
@@ -84,19 +93,23 @@ abbrev pub AreShapesBeyondKept : {I : Type 0} {w : _} {o : _} {e : _} {p : _} �
 AreShapesBeyondKept {w = w} rule fill_rule before after shapes =
     IsShapeOverlayBeyond (reach_of after) rule fill_rule (subject_of before) (clip_of before) (shapes_of w.whole shapes.items)
 
--- The distance is at most what as many passes reach, by the settings alone.
-abbrev pub ReachIsBounded : {I : Type 0} {w : _} {o : _} {e : _} {p : _} → Solver → Overlay I w o e p → Type 0
-ReachIsBounded {w = w} solver after = reach_of after ≤ reach_of_passes (settings_for w.BITS solver) (passes_of after)
+-- The distance is at most what as many passes reach, by the settings alone; and at most one half by snap rounding.
+abbrev pub ReachIsBounded : {I : Type 0} {w : _} {o : _} {e : _} {p : _} → Solver → Overlay I w o e p → Overlay I w o e p → Type 0
+ReachIsBounded solver before after = reach_of after ≤ most_halves (splitting_of solver before) (passes_of after)
 
 -- It is nothing where no two edges of the contours that are kept cross at a point that is not whole.
 abbrev pub ExactReachIsNone : {I : Type 0} {w : _} {o : _} {e : _} {p : _} → Overlay I w o e p → Overlay I w o e p → Type 0
 ExactReachIsNone before after = IsTrue (is_exact_input (overlay_segments (subject_of before) (clip_of before))) → reach_of after ≡ 0
 
--- Both numbers are those of the run over the contours that are kept.
-abbrev pub ReportsRun : {I : Type 0} {w : _} {o : _} {e : _} {p : _} → Solver → Overlay I w o e p → Overlay I w o e p → Type 0
-ReportsRun {w = w} solver before after = AreOfRun (settings_for w.BITS solver) (subject_of before) (clip_of before) (passes_of after) (reach_of after)
+-- Both numbers are those of the splitting of the contours that are kept.
+abbrev pub ReportsSplitting : {I : Type 0} {w : _} {o : _} {e : _} {p : _} → Solver → Overlay I w o e p → Overlay I w o e p → Type 0
+ReportsSplitting solver before after = AreOfSplitting (splitting_of solver before) (subject_of before) (clip_of before) (passes_of after) (reach_of after)
 
--- Both stay as they are.
+-- The rounding stays as it is.
+abbrev pub KeepsRounding : {I : Type 0} {w : _} {o : _} {e : _} {p : _} → Overlay I w o e p → Overlay I w o e p → Type 0
+KeepsRounding before after = rounding_of after ≡ rounding_of before
+
+-- Both numbers stay as they are.
 abbrev pub KeepsReport : {I : Type 0} {w : _} {o : _} {e : _} {p : _} → Overlay I w o e p → Overlay I w o e p → Type 0
 KeepsReport before after = (passes_of after ≡ passes_of before) × (reach_of after ≡ reach_of before)
 
@@ -104,4 +117,4 @@ KeepsReport before after = (passes_of after ≡ passes_of before) × (reach_of a
 
 -- The fault says why such an overlay was refused.
 abbrev pub IsReasonOf : {I : Type 0} {w : _} {o : _} {e : _} {p : _} → Solver → Overlay I w o e p → Fault → Type 0
-IsReasonOf {w = w} solver overlay fault = IsReason (settings_for w.BITS solver) (subject_of overlay) (clip_of overlay) fault
+IsReasonOf solver overlay fault = IsReason (splitting_of solver overlay) (subject_of overlay) (clip_of overlay) fault

@@ -2,6 +2,7 @@ pub mod Contours
 pub mod ContoursOf
 pub mod ContourSegments
 pub mod Corners
+pub mod Splittings
 pub mod Polygons
 pub mod CornerOverlays
 pub mod Shapes

@@ -3,15 +3,16 @@ use Rattle.std.specs.Prelude.{◌≡◌, ◌⊎◌, ⊤, ℕ, ℤ, IsTrue, List,
 use Rattle.std.specs.List.{list_all}
 use Rattle.overlay_geometry.specs.Points.{Point}
 use Rattle.overlay_geometry.specs.Coordinates.{is_point_in_range}
+use Rattle.overlay_base.specs.Segments.{WholeSegment}
 use Rattle.overlay_base.specs.declared.segm.fault.Fault.{Fault}
 use Rattle.overlay_base.specs.declared.segm.fault.Fault.TheVariants.{Memory, CountOutOfRange}
 use Rattle.overlay_base.specs.declared.segm.shape_type.ShapeType.{ShapeType}
 use Rattle.overlay_base.specs.declared.segm.shape_type.ShapeType.TheVariants.{Subject, Clip}
-use Rattle.overlay_split.specs.Run.{Settings, IsPassCount, LeavesRange, after_passes}
 use Rattle.overlay_sweep.specs.ChainWindings.{tops_leave_range}
 use Rattle.overlay_contours.specs.declared.fault.ContourFault.{ContourFault}
 use Rattle.overlay_contours.specs.declared.fault.ContourFault.TheVariants.{OutOfRange, Refused}
 use Rattle.overlay_contours.specs.ContourSegments.{overlay_segments, are_in_range, IsFirstPointOutside, IsFirstOutside}
+use Rattle.overlay_contours.specs.Splittings.{Splitting, IsLeftBy, SumsLeaveRange}
 
 -- of the two lists of contours the one of a shape
 abbrev pub of_shape : ShapeType → List (List Point) → List (List Point) → List (List Point)
@@ -23,22 +24,22 @@ abbrev pub other_shape : ShapeType → ShapeType
 other_shape Subject = Clip
 other_shape Clip = Subject
 
--- A count leaves the range: a sum of the run over the segments, or the top of a segment of the arrangement that it leaves.
-abbrev pub CountsLeaveRange : Settings → List (List Point) → List (List Point) → Type 0
-CountsLeaveRange settings subject clip =
-    LeavesRange settings (overlay_segments subject clip)
-    ⊎ ((passes : ℕ) × IsPassCount settings (overlay_segments subject clip) passes × IsTrue (tops_leave_range (after_passes settings (overlay_segments subject clip) passes)))
+-- A count leaves the range: a sum on the way of the splitting, or the top of a segment of what it leaves.
+abbrev pub CountsLeaveRange : Splitting → List (List Point) → List (List Point) → Type 0
+CountsLeaveRange splitting subject clip =
+    SumsLeaveRange splitting (overlay_segments subject clip)
+    ⊎ ((segments : List WholeSegment) × (passes : ℕ) × (halves : ℕ) × IsLeftBy splitting (overlay_segments subject clip) segments passes halves × IsTrue (tops_leave_range segments))
 
 -- what else is known of a refusal by a fault
-abbrev pub IsReason : Settings → List (List Point) → List (List Point) → Fault → Type 0
-IsReason settings subject clip Memory = ⊤
-IsReason settings subject clip CountOutOfRange = CountsLeaveRange settings subject clip
+abbrev pub IsReason : Splitting → List (List Point) → List (List Point) → Fault → Type 0
+IsReason splitting subject clip Memory = ⊤
+IsReason splitting subject clip CountOutOfRange = CountsLeaveRange splitting subject clip
 
 -- The first point out of range is named, where there is one; else a growth was refused, or a count leaves the range.
-abbrev pub IsRefusal : ℤ → ℤ → Settings → List (List Point) → List (List Point) → ContourFault → Type 0
-IsRefusal least greatest settings subject clip (OutOfRange shape_type contour point) = IsFirstOutside least greatest (of_shape shape_type subject clip) contour point
-IsRefusal least greatest settings subject clip (Refused fault) =
-    IsTrue (are_in_range least greatest subject) × IsTrue (are_in_range least greatest clip) × IsReason settings subject clip fault
+abbrev pub IsRefusal : ℤ → ℤ → Splitting → List (List Point) → List (List Point) → ContourFault → Type 0
+IsRefusal least greatest splitting subject clip (OutOfRange shape_type contour point) = IsFirstOutside least greatest (of_shape shape_type subject clip) contour point
+IsRefusal least greatest splitting subject clip (Refused fault) =
+    IsTrue (are_in_range least greatest subject) × IsTrue (are_in_range least greatest clip) × IsReason splitting subject clip fault
 
 -- the first point out of range of a shape's contours is named
 abbrev pub IsShapeOutside : ℤ → ℤ → ShapeType → List (List Point) → ContourFault → Type 0

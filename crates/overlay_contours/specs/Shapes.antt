@@ -7,14 +7,13 @@ use Rattle.overlay_base.specs.Rules.{holds}
 use Rattle.overlay_base.specs.Segments.{WholeSegment}
 use Rattle.overlay_base.specs.declared.overlay_core.fill_rule.FillRule.{FillRule}
 use Rattle.overlay_base.specs.declared.overlay_core.overlay_rule.OverlayRule.{OverlayRule}
-use Rattle.overlay_split.specs.Run.{Settings, after_passes}
 use Rattle.overlay_sweep.specs.ChainWindings.{support, bottom}
 use Rattle.overlay_build.specs.Boundary.{boundary}
 use Rattle.overlay_shapes.specs.Classes.{AreLinked}
 use Rattle.overlay_shapes.specs.Sectors.{leads_into_sector}
 use Rattle.overlay_contours.specs.Contours.{steps, winding_number}
-use Rattle.overlay_contours.specs.ContourSegments.{overlay_segments}
-use Rattle.overlay_contours.specs.Polygons.{run_of, is_in_overlay, IsFarFrom, IsPolygonOverlay}
+use Rattle.overlay_contours.specs.Polygons.{run_of, is_in_overlay, IsBeyond, IsPolygonOverlay}
+use Rattle.overlay_contours.specs.Splittings.{Splitting}
 
 -- all contours of some shapes
 abbrev pub all_contours : List (List (List Point)) → List (List Point)
@@ -74,9 +73,9 @@ pub record IsBoundaryWithHoles (shape : List (List Point)) : Type 0 where
   pub clockwise : All (λ hole. (p : RationalPoint) → 0 < p.bottom → (winding_number (hole ∷ []) p ≡ pos 0) ⊎ (winding_number (hole ∷ []) p ≡ negsuc 0)) holes
 
 -- what an overlay returns for the contours of a subject and of a clip, in shapes
-pub record IsShapeOverlay (settings : Settings) (rule : OverlayRule) (fill_rule : FillRule) (subject clip : List (List Point)) (shapes : List (List (List Point))) : Type 0 where
+pub record IsShapeOverlay (splitting : Splitting) (rule : OverlayRule) (fill_rule : FillRule) (subject clip : List (List Point)) (shapes : List (List (List Point))) : Type 0 where
   -- All contours together are the polygon overlay.
-  pub overlay : IsPolygonOverlay settings rule fill_rule subject clip (all_contours shapes)
+  pub overlay : IsPolygonOverlay splitting rule fill_rule subject clip (all_contours shapes)
   -- Each of them is a simple polygon: it comes to no point twice, and no two edges share more than an end.
   pub simple : All IsSimple (all_contours shapes)
   -- No place of the plane lies in two shapes.
@@ -84,12 +83,12 @@ pub record IsShapeOverlay (settings : Settings) (rule : OverlayRule) (fill_rule 
   -- For a rule that says no of the places outside, each shape winds once or not at all, and round each far place one
   -- winds exactly where the rule holds.
   pub named : holds rule false false ≡ false → (p : RationalPoint) → 0 < p.bottom → All (λ shape. (winding_number shape p ≡ pos 0) ⊎ (winding_number shape p ≡ pos 1)) shapes
-  pub inside : holds rule false false ≡ false → (p : RationalPoint) → 0 < p.bottom → IsFarFrom settings subject clip overlay.passes p → shapes_round shapes p ≡ (if is_in_overlay rule fill_rule subject clip p then 1 else 0)
+  pub inside : holds rule false false ≡ false → (p : RationalPoint) → 0 < p.bottom → IsBeyond overlay.halves subject clip p → shapes_round shapes p ≡ (if is_in_overlay rule fill_rule subject clip p then 1 else 0)
   -- Shapes are no larger than that: steps across parts of the region, or for a rule that holds outside of its complement, and
   -- steps along sectors of the region lead from each edge of a shape to each other one.
-  pub linked : All (λ shape. (e f : Pair) → Contains (steps shape) e → Contains (steps shape) f → AreLinked (IsStep (boundary (holds rule) fill_rule (after_passes settings (overlay_segments subject clip) overlay.passes)) (all_contours shapes)) e f) shapes
+  pub linked : All (λ shape. (e f : Pair) → Contains (steps shape) e → Contains (steps shape) f → AreLinked (IsStep (boundary (holds rule) fill_rule overlay.arrangement) (all_contours shapes)) e f) shapes
   -- And edges between which one such step leads are in one shape.
-  pub whole : (e f : Pair) → IsStep (boundary (holds rule) fill_rule (after_passes settings (overlay_segments subject clip) overlay.passes)) (all_contours shapes) e f → (shape : List (List Point)) × Contains shapes shape × Contains (steps shape) e × Contains (steps shape) f
+  pub whole : (e f : Pair) → IsStep (boundary (holds rule) fill_rule overlay.arrangement) (all_contours shapes) e f → (shape : List (List Point)) × Contains shapes shape × Contains (steps shape) e × Contains (steps shape) f
   -- The first contour of each has its least point,
   pub led : All IsLed shapes
   -- and for a rule that says no of the places outside it is the outer boundary, and each other one is a hole.

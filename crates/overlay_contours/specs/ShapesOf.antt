@@ -7,7 +7,6 @@ use Rattle.overlay_geometry.specs.declared.num.OverlayInt.{Ghosts as Engine}
 use Rattle.overlay_base.specs.Rules.{holds}
 use Rattle.overlay_base.specs.declared.overlay_core.fill_rule.FillRule.{FillRule}
 use Rattle.overlay_base.specs.declared.overlay_core.overlay_rule.OverlayRule.{OverlayRule}
-use Rattle.overlay_base.specs.declared.overlay_core.solver.Solver.{Solver}
 use Rattle.overlay_build.specs.BoundaryOf.{arcs_by}
 use Rattle.overlay_build.specs.DirectedWalks.{contour}
 use Rattle.overlay_build.specs.OverlayGraphOf.{whole_graph}
@@ -15,8 +14,8 @@ use Rattle.overlay_build.specs.declared.build.graph.OverlayGraph.{OverlayGraph}
 use Rattle.overlay_shapes.specs.ShapeWalks.{AreShapeWalks}
 use Rattle.overlay_contours.specs.ContoursOf.{contours_of}
 use Rattle.overlay_contours.specs.ContoursIn.{LieInRange}
-use Rattle.overlay_contours.specs.Polygons.{settings_for}
 use Rattle.overlay_contours.specs.Shapes.{IsShapeOverlay}
+use Rattle.overlay_contours.specs.Splittings.{by_snapping}
 
 -- shapes of code as lists of contours
 abbrev pub shapes_of : {I : Type 0} → (I → ℤ) → List (Vec (Vec (IntPoint I) Global) Global) → List (List (List Point))
@@ -32,7 +31,7 @@ pub record FollowShapeWalks {I D : Type 0} {w : _} {o : _} {e : _} {p : _} (rule
   pub are : AreShapeWalks (holds rule) (whole_graph graph) (arcs_by rule graph) walks
   pub contours : shapes_of w.whole shapes ≡ map (map (contour (arcs_by rule graph))) walks
 
--- The shapes are what the overlay of a subject's and a clip's contours returns in shapes.
-abbrev pub IsShapeOverlayOf : {I : Type 0} → Engine I → Solver → OverlayRule → FillRule → List (Vec (IntPoint I) Global) → List (Vec (IntPoint I) Global) → Vec (Vec (Vec (IntPoint I) Global) Global) Global → Type 0
-IsShapeOverlayOf engine solver rule fill_rule subject clip shapes =
-    IsShapeOverlay (settings_for engine.BITS solver) rule fill_rule (contours_of engine.whole subject) (contours_of engine.whole clip) (shapes_of engine.whole shapes.items)
+-- The shapes are what the overlay of a subject's and a clip's contours returns in shapes by snap rounding.
+abbrev pub IsShapeOverlayOf : {I : Type 0} → Engine I → OverlayRule → FillRule → List (Vec (IntPoint I) Global) → List (Vec (IntPoint I) Global) → Vec (Vec (Vec (IntPoint I) Global) Global) Global → Type 0
+IsShapeOverlayOf engine rule fill_rule subject clip shapes =
+    IsShapeOverlay by_snapping rule fill_rule (contours_of engine.whole subject) (contours_of engine.whole clip) (shapes_of engine.whole shapes.items)

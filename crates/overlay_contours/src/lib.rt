@@ -6,3 +6,4 @@ pub mod corners;
 pub mod extract;
 pub mod fault;
 pub mod overlay;
+pub mod rounding;

@@ -3,9 +3,14 @@ ghost use Rattle.std.specs.Prelude.{◌≡◌, [], ◌∷◌, ◌++◌, IsTrue, 
 ghost use Rattle.overlay_base.specs.declared.segm.fault.Fault.TheVariants.{Memory};
 ghost use Rattle.overlay_split.specs.SettingsOf.{snap_limit_of};
 ghost use Rattle.overlay_contours.specs.ContoursOf.{points_of, contours_of};
-ghost use Rattle.overlay_contours.specs.ContourSegments.{are_in_range};
-ghost use Rattle.overlay_contours.specs.Polygons.{settings_for, IsPolygonOverlay};
-ghost use Rattle.overlay_contours.specs.Beyond.{AreOfRun};
+ghost use Rattle.overlay_contours.specs.Polygons.{IsPolygonOverlay};
+ghost use Rattle.overlay_contours.specs.Splittings.{splitting_for, IsArrangement};
+ghost use Rattle.overlay_contours.specs.Beyond.{AreOfSplitting};
+ghost use Rattle.overlay_contours.specs.declared.rounding.Rounding.TheVariants.{HotPixels};
+ghost use Rattle.overlay_base.specs.ArrangedOf.{IsArranged};
+ghost use Rattle.overlay_base.specs.Balance.{IsBalanced};
+ghost use Rattle.overlay_base.specs.SegmentOf.{segments_of};
+ghost use Rattle.overlay_contours.specs.ContourSegments.{overlay_segments, are_in_range};
 ghost use Rattle.overlay_contours.specs.Refusals.{other_shape, IsReason, IsShapeOutside, IsContourRefusal};
 ghost use Rattle.overlay_contours.specs.ContoursIn.{LieInRange, LiesInRange, IsOverlayOf, IsRefusalOf};
 ghost use Rattle.overlay_contours.specs.Shapes.{IsShapeOverlay};
@@ -17,7 +22,7 @@ use crate::contour::{
 use crate::corners::corners_of_contours;
 use crate::extract::{directed_contours_of_graph, shapes_of_graph};
 use crate::fault::ContourFault;
-use i_overlay::overlay::split_and_build_overlay;
+use crate::rounding::Rounding;
 use overlay_base::overlay_core::fill_rule::FillRule;
 use overlay_base::overlay_core::overlay_rule::OverlayRule;
 use overlay_base::overlay_core::solver::Solver;
@@ -28,21 +33,26 @@ use overlay_build::build::builder::GraphBuilder;
 use overlay_build::build::graph_node::OverlayNode;
 use overlay_geometry::geom::point::IntPoint;
 use overlay_geometry::num::OverlayInt;
+use overlay_snapping::snap::solver::SnapSolver;
 use overlay_split::split::solver::SplitSolver;
 use std::alloc::Global;
 
 /// The overlay of a subject's contours and a clip's, as contours that have the region of the overlay on their left: an
 /// outer boundary runs counterclockwise, and a hole clockwise.
 ///
-/// Round a place the answer winds once, counterclockwise, where the overlay rule holds of it, and not at all elsewhere.
-/// What the rule says of a place is asked by how often the given contours run round it, under the fill rule. That is so
-/// at every place that is farther from the edges of the given contours than the passes of the run move crossings. Under
-/// a table that holds of places outside, the answer winds once less everywhere.
+/// The result winds once, counterclockwise, around a point of which the overlay rule holds, and not at all around others.
+/// What the rule says of a point depends on how often the given contours wind around it, under the fill rule. That is so
+/// at every point that is farther than half a unit from the edges of the given contours, in `x` or in `y`. Under a table
+/// that holds of points outside, the result winds once less everywhere.
 ///
-/// So, but for such a table, the answer may be filled by any rule other than `Negative`. Under even-odd (a place is
-/// painted where oddly many edges run below it) it always paints the places of which the overlay rule says something
-/// else than of those outside. Its edges are the boundary of the region in the arrangement, and no two share more than
-/// an end.
+/// So, but for such a table, the result may be filled by any rule other than `Negative`. Under even-odd (a point is
+/// painted where an odd number of edges runs below it) it always paints the points of which the overlay rule says
+/// something else than of those outside. Its edges are the boundary of the region in the arrangement, each lies within
+/// half a unit of a given edge, and no two share more than an end.
+///
+/// Crossings without whole coordinates are rounded by snap rounding, in one pass, so few nearly parallel edges leave few
+/// points. Where no two edges cross at such a point, nothing moves. The solver's strategy does not change the result, nor
+/// does its precision. `Overlay::set_rounding` chooses upstream's rounding.
 ///
 /// Any contours will do: they may cross and touch themselves and one another, run either way, repeat points, and have
 /// no or few points. Equal neighboring points make no edge, and the answer has none. Collinear points of the answer are
@@ -61,25 +71,26 @@ pub fn overlay_contours<I: OverlayInt>(
     overlay_rule: OverlayRule,
 ) -> Result<Vec<IntContour<I>>, ContourFault>
     ensures polygons { IfOk result
-        (IsOverlayOf I.OverlayInt.own solver.now overlay_rule fill_rule subject.now clip.now) }
+        (IsOverlayOf I.OverlayInt.own overlay_rule fill_rule subject.now clip.now) }
     ensures in_range { IfOk result (λ contours. LieInRange I.whole I.MIN_COORD I.MAX_COORD contours.items) }
-    ensures refused { IfErr result (IsRefusalOf I.OverlayInt.own solver.now subject.now clip.now) }
+    ensures refused { IfErr result (IsRefusalOf I.OverlayInt.own subject.now clip.now) }
     ensures subject_in_range { OnOk result (LieInRange I.whole I.MIN_COORD I.MAX_COORD subject.now) }
     ensures clip_in_range { OnOk result (LieInRange I.whole I.MIN_COORD I.MAX_COORD clip.now) }
 {
     test_range(subject, ShapeType::Subject)?;
     test_range(clip, ShapeType::Clip)?;
     let mut buffers = Buffers::new(alloc);
-    Ok(buffers.overlay(subject, clip, solver, fill_rule, overlay_rule)?)
+    let rounding = Rounding::HotPixels;
+    Ok(buffers.overlay(subject, clip, rounding, solver, fill_rule, overlay_rule)?)
 }
 
 /// The overlay of `overlay_contours` in shapes: each an outer boundary, which runs counterclockwise, followed by its
 /// holes, which run clockwise. No contour comes to a point twice, so each is a simple polygon.
 ///
-/// Around every place of the plane one shape winds once, and the others not at all, or none does. At a place that is
-/// farther from the edges of the given contours than the passes of the run move crossings, one does where the overlay
-/// rule holds. All contours together are a polygon overlay, as `overlay_contours` returns one, whose contours may come
-/// to a point twice.
+/// Around every point of the plane one shape winds once, and the others not at all, or none does. At a point that is
+/// farther than half a unit from the edges of the given contours, in `x` or in `y`, one does where the overlay rule holds.
+/// All contours together are a polygon overlay, as `overlay_contours` returns one, whose contours may come to a point
+/// twice.
 ///
 /// Each shape is connected: steps lead from each of its edges to each other one, across a part of the region, or along
 /// one sector of it at a point. Edges between which one such step leads are in one shape. So pieces of the region that
@@ -104,16 +115,17 @@ pub fn overlay_shapes<I: OverlayInt>(
     overlay_rule: OverlayRule,
 ) -> Result<Vec<IntShape<I>>, ContourFault>
     ensures shapes { IfOk result
-        (IsShapeOverlayOf I.OverlayInt.own solver.now overlay_rule fill_rule subject.now clip.now) }
+        (IsShapeOverlayOf I.OverlayInt.own overlay_rule fill_rule subject.now clip.now) }
     ensures in_range { IfOk result (λ shapes. ShapesLieInRange I.whole I.MIN_COORD I.MAX_COORD shapes.items) }
-    ensures refused { IfErr result (IsRefusalOf I.OverlayInt.own solver.now subject.now clip.now) }
+    ensures refused { IfErr result (IsRefusalOf I.OverlayInt.own subject.now clip.now) }
     ensures subject_in_range { OnOk result (LieInRange I.whole I.MIN_COORD I.MAX_COORD subject.now) }
     ensures clip_in_range { OnOk result (LieInRange I.whole I.MIN_COORD I.MAX_COORD clip.now) }
 {
     test_range(subject, ShapeType::Subject)?;
     test_range(clip, ShapeType::Clip)?;
     let mut buffers = Buffers::new(alloc);
-    Ok(buffers.overlay_shapes(subject, clip, solver, fill_rule, overlay_rule)?)
+    let rounding = Rounding::HotPixels;
+    Ok(buffers.overlay_shapes(subject, clip, rounding, solver, fill_rule, overlay_rule)?)
 }
 
 /// Tells the first point of a shape's contours that is out of range.
@@ -141,21 +153,60 @@ struct Buffers<I: OverlayInt> {
     alloc: Global,
     sides: Vec<Side<I>>,
     splitter: SplitSolver<I>,
+    snapper: SnapSolver<I>,
     builder: GraphBuilder<ShapeCountBoolean, OverlayNode, I, ()>,
+    passes: u128,
+    reach: u128,
     ghost limit: { snap_limit_of splitter ≡ 256 },
 }
 
 impl<I: OverlayInt> Buffers<I> {
-    ghost use Rattle.overlay_split.specs.SettingsOf.{passes_of, reach_of};
-
     /// Buffers that take no memory yet.
     fn new(alloc: Global) -> Buffers<I> {
         Buffers {
             alloc,
             sides: Vec::new(alloc),
             splitter: SplitSolver::new(alloc),
+            snapper: SnapSolver::new(alloc),
             builder: GraphBuilder::new(alloc),
+            passes: 0,
+            reach: 0,
         }
+    }
+
+    /// Makes `sides` the arrangement of the edges of contours in range.
+    fn arrange(
+        &mut self,
+        subject: &[IntContour<I>],
+        clip: &[IntContour<I>],
+        rounding: Rounding,
+        solver: &Solver,
+    ) -> Result<(), Fault>
+        requires subject { LieInRange I.whole I.MIN_COORD I.MAX_COORD subject.now }
+        requires clip { LieInRange I.whole I.MIN_COORD I.MAX_COORD clip.now }
+        ensures arrangement { OnOk result (IsArrangement (splitting_for rounding I.BITS solver.now)
+            (overlay_segments (contours_of I.whole subject.now) (contours_of I.whole clip.now))
+            (segments_of self.new.sides.items) self.new.passes self.new.reach) }
+        ensures balanced { OnOk result
+            (IsBalanced (overlay_segments (contours_of I.whole subject.now) (contours_of I.whole clip.now))) }
+        ensures arranged { OnOk result (IsArranged self.new.sides.items) }
+        ensures refused { IfErr result (λ fault. IsReason (splitting_for rounding I.BITS solver.now)
+            (contours_of I.whole subject.now) (contours_of I.whole clip.now) fault) }
+    {
+        load_sides(&mut self.sides, subject, clip)?;
+        match rounding {
+            Rounding::HotPixels => {
+                self.snapper.split_segments(&mut self.sides, solver)?;
+                self.passes = 1;
+                self.reach = self.snapper.reach();
+            }
+            Rounding::Pairwise => {
+                self.splitter.split_segments(&mut self.sides, solver)?;
+                self.passes = self.splitter.passes();
+                self.reach = self.splitter.reach();
+            }
+        }
+        Ok(())
     }
 
     /// The overlay of contours in range.
@@ -163,6 +214,7 @@ impl<I: OverlayInt> Buffers<I> {
         &mut self,
         subject: &[IntContour<I>],
         clip: &[IntContour<I>],
+        rounding: Rounding,
         solver: &Solver,
         fill_rule: FillRule,
         overlay_rule: OverlayRule,
@@ -170,24 +222,18 @@ impl<I: OverlayInt> Buffers<I> {
         requires subject { LieInRange I.whole I.MIN_COORD I.MAX_COORD subject.now }
         requires clip { LieInRange I.whole I.MIN_COORD I.MAX_COORD clip.now }
         ensures polygons { IfOk result (λ contours.
-            IsPolygonOverlay (settings_for I.BITS solver.now) overlay_rule fill_rule (contours_of I.whole subject.now)
-            (contours_of I.whole clip.now) (contours_of I.whole contours.items)) }
+            IsPolygonOverlay (splitting_for rounding I.BITS solver.now) overlay_rule fill_rule
+            (contours_of I.whole subject.now) (contours_of I.whole clip.now) (contours_of I.whole contours.items)) }
         ensures in_range { IfOk result (λ contours. LieInRange I.whole I.MIN_COORD I.MAX_COORD contours.items) }
-        ensures run { OnOk result (AreOfRun (settings_for I.BITS solver.now) (contours_of I.whole subject.now)
-            (contours_of I.whole clip.now) (passes_of self.new.splitter) (reach_of self.new.splitter)) }
-        ensures refused { IfErr result (λ fault.
-            IsReason (settings_for I.BITS solver.now) (contours_of I.whole subject.now)
-            (contours_of I.whole clip.now) fault) }
+        ensures splitting { OnOk result (AreOfSplitting (splitting_for rounding I.BITS solver.now)
+            (contours_of I.whole subject.now) (contours_of I.whole clip.now) self.new.passes self.new.reach) }
+        ensures refused { IfErr result (λ fault. IsReason (splitting_for rounding I.BITS solver.now)
+            (contours_of I.whole subject.now) (contours_of I.whole clip.now) fault) }
     {
-        load_sides(&mut self.sides, subject, clip)?;
-        let graph = split_and_build_overlay(
-            &mut self.splitter,
-            &mut self.builder,
-            &mut self.sides,
-            solver,
-            fill_rule,
-            overlay_rule,
-        )?;
+        self.arrange(subject, clip, rounding, solver)?;
+        let graph = self
+            .builder
+            .build_boolean_overlay(fill_rule, overlay_rule, solver, &self.sides)?;
         let contours = directed_contours_of_graph(self.alloc, &graph, overlay_rule)?;
         Ok(contours)
     }
@@ -197,6 +243,7 @@ impl<I: OverlayInt> Buffers<I> {
         &mut self,
         subject: &[IntContour<I>],
         clip: &[IntContour<I>],
+        rounding: Rounding,
         solver: &Solver,
         fill_rule: FillRule,
         overlay_rule: OverlayRule,
@@ -204,24 +251,18 @@ impl<I: OverlayInt> Buffers<I> {
         requires subject { LieInRange I.whole I.MIN_COORD I.MAX_COORD subject.now }
         requires clip { LieInRange I.whole I.MIN_COORD I.MAX_COORD clip.now }
         ensures shapes { IfOk result (λ shapes.
-            IsShapeOverlay (settings_for I.BITS solver.now) overlay_rule fill_rule (contours_of I.whole subject.now)
-            (contours_of I.whole clip.now) (shapes_of I.whole shapes.items)) }
+            IsShapeOverlay (splitting_for rounding I.BITS solver.now) overlay_rule fill_rule
+            (contours_of I.whole subject.now) (contours_of I.whole clip.now) (shapes_of I.whole shapes.items)) }
         ensures in_range { IfOk result (λ shapes. ShapesLieInRange I.whole I.MIN_COORD I.MAX_COORD shapes.items) }
-        ensures run { OnOk result (AreOfRun (settings_for I.BITS solver.now) (contours_of I.whole subject.now)
-            (contours_of I.whole clip.now) (passes_of self.new.splitter) (reach_of self.new.splitter)) }
-        ensures refused { IfErr result (λ fault.
-            IsReason (settings_for I.BITS solver.now) (contours_of I.whole subject.now)
-            (contours_of I.whole clip.now) fault) }
+        ensures splitting { OnOk result (AreOfSplitting (splitting_for rounding I.BITS solver.now)
+            (contours_of I.whole subject.now) (contours_of I.whole clip.now) self.new.passes self.new.reach) }
+        ensures refused { IfErr result (λ fault. IsReason (splitting_for rounding I.BITS solver.now)
+            (contours_of I.whole subject.now) (contours_of I.whole clip.now) fault) }
     {
-        load_sides(&mut self.sides, subject, clip)?;
-        let graph = split_and_build_overlay(
-            &mut self.splitter,
-            &mut self.builder,
-            &mut self.sides,
-            solver,
-            fill_rule,
-            overlay_rule,
-        )?;
+        self.arrange(subject, clip, rounding, solver)?;
+        let graph = self
+            .builder
+            .build_boolean_overlay(fill_rule, overlay_rule, solver, &self.sides)?;
         let shapes = shapes_of_graph(self.alloc, &graph, overlay_rule, solver)?;
         Ok(shapes)
     }
@@ -234,6 +275,7 @@ pub struct Overlay<I: OverlayInt> {
     subject: Vec<IntContour<I>>,
     clip: Vec<IntContour<I>>,
     buffers: Buffers<I>,
+    rounding: Rounding,
     passes: u128,
     reach: u128,
     pub ghost subject_in_range: { IsTrue (are_in_range (I.whole I.MIN_COORD) (I.whole I.MAX_COORD)
@@ -243,12 +285,13 @@ pub struct Overlay<I: OverlayInt> {
 }
 
 impl<I: OverlayInt> Overlay<I> {
-    ghost use Rattle.overlay_contours.specs.Kept.{subject_of, clip_of, passes_of, reach_of, AddsContour, KeepsContours, IsRefusalToAdd, IsOverlayOfKept, IsCornersOfKept, IsShapeOverlayOfKept, IsBeyondKept, AreCornersBeyondKept, AreShapesBeyondKept, ReachIsBounded, ExactReachIsNone, ReportsRun, KeepsReport, IsReasonOf};
+    ghost use Rattle.overlay_contours.specs.Kept.{subject_of, clip_of, rounding_of, passes_of, reach_of, AddsContour, KeepsContours, IsRefusalToAdd, IsOverlayOfKept, IsCornersOfKept, IsShapeOverlayOfKept, IsBeyondKept, AreCornersBeyondKept, AreShapesBeyondKept, ReachIsBounded, ExactReachIsNone, ReportsSplitting, KeepsRounding, KeepsReport, IsReasonOf};
 
-    /// An overlay of no contours, which takes no memory yet.
+    /// An overlay of no contours by snap rounding, which takes no memory yet.
     pub fn new(alloc: Global) -> Overlay<I>
         ensures subject { subject_of result ≡ [] }
         ensures clip { clip_of result ≡ [] }
+        ensures rounding { rounding_of result ≡ HotPixels }
         ensures passes { passes_of result ≡ 0 }
         ensures reach { reach_of result ≡ 0 }
     {
@@ -256,6 +299,7 @@ impl<I: OverlayInt> Overlay<I> {
             subject: Vec::new(alloc),
             clip: Vec::new(alloc),
             buffers: Buffers::new(alloc),
+            rounding: Rounding::HotPixels,
             passes: 0,
             reach: 0,
         }
@@ -277,6 +321,7 @@ impl<I: OverlayInt> Overlay<I> {
         ensures in_range { OnOk result (LiesInRange I.whole I.MIN_COORD I.MAX_COORD contour.now) }
         ensures refused { IfErr result (IsRefusalToAdd shape_type contour.now self.old) }
         ensures report { KeepsReport self.old self.new }
+        ensures rounding { KeepsRounding self.old self.new }
     {
         let alloc = self.buffers.alloc;
         match shape_type {
@@ -298,21 +343,27 @@ impl<I: OverlayInt> Overlay<I> {
         overlay_rule: OverlayRule,
     ) -> Result<Vec<IntContour<I>>, Fault>
         ensures overlay { IfOk result (IsBeyondKept overlay_rule fill_rule self.old self.new) }
-        ensures reach { OnOk result (ReachIsBounded solver.now self.new) }
+        ensures reach { OnOk result (ReachIsBounded solver.now self.old self.new) }
         ensures exact { OnOk result (ExactReachIsNone self.old self.new) }
-        ensures run { OnOk result (ReportsRun solver.now self.old self.new) }
+        ensures splitting { OnOk result (ReportsSplitting solver.now self.old self.new) }
         ensures polygons { IfOk result (IsOverlayOfKept solver.now overlay_rule fill_rule self.old) }
         ensures in_range { IfOk result (λ contours. LieInRange I.whole I.MIN_COORD I.MAX_COORD contours.items) }
         ensures refused { IfErr result (IsReasonOf solver.now self.old) }
         ensures report { OnErr result (KeepsReport self.old self.new) }
         ensures subject { subject_of self.new ≡ subject_of self.old }
         ensures clip { clip_of self.new ≡ clip_of self.old }
+        ensures rounding { KeepsRounding self.old self.new }
     {
-        let answer = self
-            .buffers
-            .overlay(&self.subject, &self.clip, solver, fill_rule, overlay_rule)?;
-        self.passes = self.buffers.splitter.passes();
-        self.reach = self.buffers.splitter.reach();
+        let answer = self.buffers.overlay(
+            &self.subject,
+            &self.clip,
+            self.rounding,
+            solver,
+            fill_rule,
+            overlay_rule,
+        )?;
+        self.passes = self.buffers.passes;
+        self.reach = self.buffers.reach;
         Ok(answer)
     }
 
@@ -332,24 +383,30 @@ impl<I: OverlayInt> Overlay<I> {
         overlay_rule: OverlayRule,
     ) -> Result<Vec<IntContour<I>>, Fault>
         ensures overlay { IfOk result (AreCornersBeyondKept overlay_rule fill_rule self.old self.new) }
-        ensures reach { OnOk result (ReachIsBounded solver.now self.new) }
+        ensures reach { OnOk result (ReachIsBounded solver.now self.old self.new) }
         ensures exact { OnOk result (ExactReachIsNone self.old self.new) }
-        ensures run { OnOk result (ReportsRun solver.now self.old self.new) }
+        ensures splitting { OnOk result (ReportsSplitting solver.now self.old self.new) }
         ensures polygons { IfOk result (IsCornersOfKept solver.now overlay_rule fill_rule self.old) }
         ensures in_range { IfOk result (λ contours. LieInRange I.whole I.MIN_COORD I.MAX_COORD contours.items) }
         ensures refused { IfErr result (IsReasonOf solver.now self.old) }
         ensures report { OnErr result (KeepsReport self.old self.new) }
         ensures subject { subject_of self.new ≡ subject_of self.old }
         ensures clip { clip_of self.new ≡ clip_of self.old }
+        ensures rounding { KeepsRounding self.old self.new }
     {
         let alloc = self.buffers.alloc;
         let (subject, clip) = (&self.subject, &self.clip);
-        let contours = self
-            .buffers
-            .overlay(subject, clip, solver, fill_rule, overlay_rule)?;
+        let contours = self.buffers.overlay(
+            subject,
+            clip,
+            self.rounding,
+            solver,
+            fill_rule,
+            overlay_rule,
+        )?;
         let corners = corners_of_contours(alloc, &contours)?;
-        self.passes = self.buffers.splitter.passes();
-        self.reach = self.buffers.splitter.reach();
+        self.passes = self.buffers.passes;
+        self.reach = self.buffers.reach;
         Ok(corners)
     }
 
@@ -367,35 +424,51 @@ impl<I: OverlayInt> Overlay<I> {
         overlay_rule: OverlayRule,
     ) -> Result<Vec<IntShape<I>>, Fault>
         ensures overlay { IfOk result (AreShapesBeyondKept overlay_rule fill_rule self.old self.new) }
-        ensures reach { OnOk result (ReachIsBounded solver.now self.new) }
+        ensures reach { OnOk result (ReachIsBounded solver.now self.old self.new) }
         ensures exact { OnOk result (ExactReachIsNone self.old self.new) }
-        ensures run { OnOk result (ReportsRun solver.now self.old self.new) }
+        ensures splitting { OnOk result (ReportsSplitting solver.now self.old self.new) }
         ensures shapes { IfOk result (IsShapeOverlayOfKept solver.now overlay_rule fill_rule self.old) }
         ensures in_range { IfOk result (λ shapes. ShapesLieInRange I.whole I.MIN_COORD I.MAX_COORD shapes.items) }
         ensures refused { IfErr result (IsReasonOf solver.now self.old) }
         ensures report { OnErr result (KeepsReport self.old self.new) }
         ensures subject { subject_of self.new ≡ subject_of self.old }
         ensures clip { clip_of self.new ≡ clip_of self.old }
+        ensures rounding { KeepsRounding self.old self.new }
     {
-        let in_shapes = self
-            .buffers
-            .overlay_shapes(&self.subject, &self.clip, solver, fill_rule, overlay_rule)?;
-        self.passes = self.buffers.splitter.passes();
-        self.reach = self.buffers.splitter.reach();
+        let in_shapes = self.buffers.overlay_shapes(
+            &self.subject,
+            &self.clip,
+            self.rounding,
+            solver,
+            fill_rule,
+            overlay_rule,
+        )?;
+        self.passes = self.buffers.passes;
+        self.reach = self.buffers.reach;
         Ok(in_shapes)
     }
 
-    /// How many passes the last overlay made that succeeded; 0 at first.
+    /// Chooses where further overlays put crossings that are no whole points. Snap rounding is the choice at first.
+    pub fn set_rounding(&mut self, rounding: Rounding)
+        ensures rounding { rounding_of self.new ≡ rounding }
+        ensures subject { subject_of self.new ≡ subject_of self.old }
+        ensures clip { clip_of self.new ≡ clip_of self.old }
+        ensures report { KeepsReport self.old self.new }
+    {
+        self.rounding = rounding;
+    }
+
+    /// How many passes the last overlay made that succeeded; 0 at first. Snap rounding takes one.
     pub fn passes(&self) -> u128
         ensures { result ≡ passes_of self.now }
     {
         self.passes
     }
 
-    /// How far the passes of the last overlay that succeeded moved crossings at most, in `x` and in `y`, in halves of a
-    /// unit; 0 at first. What that overlay answered holds at every place that is farther than this from the edges of
-    /// the contours that it was given, in `x` or in `y`. It is 0 where no two of the edges cross at a point without
-    /// whole coordinates.
+    /// How far the last overlay that succeeded moved edges at most, in `x` and in `y`, in halves of a unit; 0 at first.
+    /// What that overlay returned holds at every point that is farther than this from the edges of the contours that it
+    /// was given, in `x` or in `y`. It is 0 where no two of the edges cross at a point without whole coordinates. Snap
+    /// rounding moves edges by at most one half.
     pub fn reach(&self) -> u128
         ensures { result ≡ reach_of self.now }
     {
@@ -407,6 +480,7 @@ impl<I: OverlayInt> Overlay<I> {
         ensures subject { subject_of self.new ≡ [] }
         ensures clip { clip_of self.new ≡ [] }
         ensures report { KeepsReport self.old self.new }
+        ensures rounding { KeepsRounding self.old self.new }
     {
         self.subject.clear();
         self.clip.clear();

@@ -1,15 +1,18 @@
 -- What the program makes of the text of its input.
-use Rattle.std.specs.Prelude.{◌≡◌, ◌≢◌, ◌⊎◌, ℕ, ℤ, Bool, true, false, List, [], ◌∷◌, ◌++◌, All, None, Some, Ok, Err, codes}
+use Rattle.std.specs.Prelude.{◌≡◌, ◌≢◌, ◌⊎◌, ℕ, ℤ, Bool, true, false, if◌then◌else◌, List, [], ◌∷◌, ◌++◌, All, None, Some, Ok, Err, codes}
 use Rattle.std.specs.declared.result.Result.{Result}
 use Rattle.overlay_geometry.specs.Points.{Point}
 use Rattle.overlay_base.specs.Radius.{exponent_cap}
 use Rattle.overlay_base.specs.declared.overlay_core.fill_rule.FillRule.{FillRule}
 use Rattle.overlay_base.specs.declared.overlay_core.overlay_rule.OverlayRule.{OverlayRule}
 use Rattle.overlay_base.specs.declared.segm.fault.Fault.TheVariants.{CountOutOfRange}
-use Rattle.overlay_contours.specs.Beyond.{IsOverlayBeyond, IsShapeOverlayBeyond, AreOfRun}
+use Rattle.overlay_contours.specs.Beyond.{IsOverlayBeyond, IsShapeOverlayBeyond, AreOfSplitting}
 use Rattle.overlay_contours.specs.Polygons.{IsPolygonOverlay}
 use Rattle.overlay_contours.specs.Refusals.{CountsLeaveRange}
 use Rattle.overlay_contours.specs.Shapes.{IsShapeOverlay}
+use Rattle.overlay_contours.specs.Splittings.{Splitting, by_passes, by_snapping}
+use Rattle.overlay_contours.specs.declared.rounding.Rounding.{Rounding}
+use Rattle.overlay_contours.specs.declared.rounding.Rounding.TheVariants.{HotPixels, Pairwise}
 use Rattle.overlay_split.specs.Run.{Settings as RunSettings}
 use Rattle.overlay_text.specs.declared.settings.Settings.{Settings}
 use Rattle.overlay_text.specs.declared.stop.Stop.{Stop}
@@ -34,14 +37,14 @@ abbrev pub word_if : Bool → List ℕ → List (List ℕ)
 word_if false word = []
 word_if true word = word ∷ []
 
--- The words ask for these choices: `shapes` and `report` stand first, each where it is chosen, and the others set the
--- settings.
+-- The words ask for these choices: `shapes`, `report` and `pairwise` come first, each where it is chosen, and the others
+-- set the settings.
 abbrev pub AskFor : List (List ℕ) → Choices → Type 0
 AskFor words choices =
-    (others : List (List ℕ)) × (words ≡ word_if choices.in_shapes (codes "shapes") ++ (word_if choices.has_report (codes "report") ++ others))
+    (others : List (List ℕ)) × (words ≡ word_if choices.in_shapes (codes "shapes") ++ (word_if choices.has_report (codes "report") ++ (word_if choices.is_pairwise (codes "pairwise") ++ others)))
     × Set others choices.settings
 
--- what the run of an overlay is set to, in coordinates of that many bits
+-- what passes over pairs are set to, in coordinates of that many bits
 abbrev pub overlay_settings : ℕ → Settings → RunSettings
 overlay_settings bits settings = record {
   start = settings.precision.start;
@@ -50,34 +53,42 @@ overlay_settings bits settings = record {
   limit = 256;
 }
 
--- The contours are what an overlay of the given ones returns under a rule, after that many passes. Those move crossings
+-- how the choices round crossings
+abbrev pub rounding_by : Choices → Rounding
+rounding_by choices = if choices.is_pairwise then Pairwise else HotPixels
+
+-- how an overlay splits: by snap rounding, or by such passes
+abbrev pub splitting_by : ℕ → Choices → Splitting
+splitting_by bits choices = if choices.is_pairwise then by_passes (overlay_settings bits choices.settings) else by_snapping
+
+-- The contours are what an overlay of the given ones returns under a rule, after that many passes. Those move things
 -- by at most that many halves, and what is said of places holds beyond that distance from the given edges.
-pub record IsReportedOverlay (run : RunSettings) (rule : OverlayRule) (fill_rule : FillRule) (given : List GivenContour) (contours : List (List Point)) (passes halves : ℕ) : Type 0 where
-  pub overlay : IsPolygonOverlay run rule fill_rule (subject_of given) (clip_of given) contours
+pub record IsReportedOverlay (splitting : Splitting) (rule : OverlayRule) (fill_rule : FillRule) (given : List GivenContour) (contours : List (List Point)) (passes halves : ℕ) : Type 0 where
+  pub overlay : IsPolygonOverlay splitting rule fill_rule (subject_of given) (clip_of given) contours
   pub beyond : IsOverlayBeyond halves rule fill_rule (subject_of given) (clip_of given) contours
-  pub report : AreOfRun run (subject_of given) (clip_of given) passes halves
+  pub report : AreOfSplitting splitting (subject_of given) (clip_of given) passes halves
 
 -- the same in shapes
-pub record AreReportedShapes (run : RunSettings) (rule : OverlayRule) (fill_rule : FillRule) (given : List GivenContour) (shapes : List (List (List Point))) (passes halves : ℕ) : Type 0 where
-  pub overlay : IsShapeOverlay run rule fill_rule (subject_of given) (clip_of given) shapes
+pub record AreReportedShapes (splitting : Splitting) (rule : OverlayRule) (fill_rule : FillRule) (given : List GivenContour) (shapes : List (List (List Point))) (passes halves : ℕ) : Type 0 where
+  pub overlay : IsShapeOverlay splitting rule fill_rule (subject_of given) (clip_of given) shapes
   pub beyond : IsShapeOverlayBeyond halves rule fill_rule (subject_of given) (clip_of given) shapes
-  pub report : AreOfRun run (subject_of given) (clip_of given) passes halves
+  pub report : AreOfSplitting splitting (subject_of given) (clip_of given) passes halves
 
 -- what an overlay of the given contours returns under a rule, in coordinates of that many bits
 abbrev pub IsOverlayText : ℕ → Choices → OverlayRule → List GivenContour → Result (List ℕ) Stop → Type 0
 IsOverlayText bits choices rule given answer =
     ((contours : List (List Point)) × (passes : ℕ) × (halves : ℕ)
-    × IsReportedOverlay (overlay_settings bits choices.settings) rule choices.settings.fill_rule given contours passes halves
+    × IsReportedOverlay (splitting_by bits choices) rule choices.settings.fill_rule given contours passes halves
     × (answer ≡ Ok (contour_lines contours ++ report_text choices.has_report passes halves)))
-    ⊎ (CountsLeaveRange (overlay_settings bits choices.settings) (subject_of given) (clip_of given) × (answer ≡ Err (Refused CountOutOfRange)))
+    ⊎ (CountsLeaveRange (splitting_by bits choices) (subject_of given) (clip_of given) × (answer ≡ Err (Refused CountOutOfRange)))
 
 -- the same in shapes
 abbrev pub IsShapesText : ℕ → Choices → OverlayRule → List GivenContour → Result (List ℕ) Stop → Type 0
 IsShapesText bits choices rule given answer =
     ((shapes : List (List (List Point))) × (passes : ℕ) × (halves : ℕ)
-    × AreReportedShapes (overlay_settings bits choices.settings) rule choices.settings.fill_rule given shapes passes halves
+    × AreReportedShapes (splitting_by bits choices) rule choices.settings.fill_rule given shapes passes halves
     × (answer ≡ Ok (shape_lines shapes ++ report_text choices.has_report passes halves)))
-    ⊎ (CountsLeaveRange (overlay_settings bits choices.settings) (subject_of given) (clip_of given) × (answer ≡ Err (Refused CountOutOfRange)))
+    ⊎ (CountsLeaveRange (splitting_by bits choices) (subject_of given) (clip_of given) × (answer ≡ Err (Refused CountOutOfRange)))
 
 -- the one or the other
 abbrev pub IsText : Bool → ℕ → Choices → OverlayRule → List GivenContour → Result (List ℕ) Stop → Type 0

@@ -5,11 +5,12 @@ ghost use Rattle.overlay_base.specs.declared.segm.fault.Fault.TheVariants.{Memor
 ghost use Rattle.overlay_text.specs.declared.stop.Stop.{Stop};
 ghost use Rattle.overlay_text.specs.Words.{setting};
 ghost use Rattle.overlay_text.specs.declared.settings.Settings.{Settings};
-ghost use Rattle.polygons.specs.Run.{IsNoLimitOrRadius, Set, word_if, IsOverlayText, IsShapesText, IsReadAnswer, IsRuleAnswer, IsPolygonsAnswer, polygons_behavior};
+ghost use Rattle.polygons.specs.Run.{IsNoLimitOrRadius, Set, word_if, rounding_by, IsOverlayText, IsShapesText, IsReadAnswer, IsRuleAnswer, IsPolygonsAnswer, polygons_behavior};
 
 use crate::contour_lines::read_contours;
 use crate::contour_output::{write_contours, write_report, write_shapes};
 use overlay_base::overlay_core::overlay_rule::OverlayRule;
+use overlay_contours::rounding::Rounding;
 use overlay_geometry::num::OverlayInt;
 use overlay_text::settings::{Engine, Settings};
 use overlay_text::shell::Program;
@@ -24,7 +25,22 @@ pub struct Choices {
     pub in_shapes: bool,
     /// Whether the output ends with what the run reports.
     pub has_report: bool,
+    /// Whether crossings are rounded pair by pair, as upstream does, and not by snap rounding.
+    pub is_pairwise: bool,
     pub settings: Settings,
+}
+
+impl Choices {
+    /// How the choices round crossings.
+    fn rounding(&self) -> Rounding
+        ensures { result ≡ rounding_by self.now }
+    {
+        if self.is_pairwise {
+            Rounding::Pairwise
+        } else {
+            Rounding::HotPixels
+        }
+    }
 }
 
 /// The program `polygons`: the contract of a run is that of `run_over`, with this program's `behavior`.
@@ -36,16 +52,18 @@ impl Program for PolygonsProgram {
     ghost behavior = { polygons_behavior };
 
     fn usage() -> &'static str {
-        "usage: polygons [shapes] [report] rule=NAME [fill|engine|precision|strategy=VALUE ..]"
+        "usage: polygons [shapes] [report] [pairwise] rule=NAME [fill|engine|precision|strategy=VALUE ..]"
     }
 
     fn read_words(words: &[String]) -> Result<Choices, Stop> {
         let (in_shapes, behind_shapes) = after_word(words, "shapes");
-        let (has_report, others) = after_word(behind_shapes, "report");
+        let (has_report, behind_report) = after_word(behind_shapes, "report");
+        let (is_pairwise, others) = after_word(behind_report, "pairwise");
         let settings = read_polygon_settings(others)?;
         Ok(Choices {
             in_shapes,
             has_report,
+            is_pairwise,
             settings,
         })
     }
@@ -141,6 +159,7 @@ fn contours_under<I: OverlayInt>(
 {
     let settings = choices.settings;
     let mut overlay = read_contours::<I>(alloc, bytes)?;
+    overlay.set_rounding(choices.rounding());
     let contours = overlay.overlay(&settings.solver(), settings.fill_rule, rule)?;
     let mut text = String::new(alloc);
     write_contours(&mut text, contours.as_slice())?;
@@ -163,6 +182,7 @@ fn shapes_under<I: OverlayInt>(
 {
     let settings = choices.settings;
     let mut overlay = read_contours::<I>(alloc, bytes)?;
+    overlay.set_rounding(choices.rounding());
     let shapes = overlay.overlay_shapes(&settings.solver(), settings.fill_rule, rule)?;
     let mut text = String::new(alloc);
     write_shapes(&mut text, shapes.as_slice())?;

@@ -24,6 +24,7 @@ use crate::wholes::{Contours, KeptContours, KeptShapes, LineClip, Overlay, Shape
 use i_overlay::build::scan_list::ScanList;
 use i_overlay::build::scan_tree::ScanTree;
 use i_overlay::overlay_core::solver::Solver;
+use overlay_contours::rounding::Rounding;
 use std::alloc::Global;
 use std::io;
 use std::io::Write;
@@ -115,7 +116,7 @@ fn tell_contours<W: Write, E: Write>(
 ) -> io::Result<()> {
     let kept = " that are kept";
     tell("contours", "", &mut Contours {}, alloc, output, digests)?;
-    let mut contours = KeptContours::new(alloc);
+    let mut contours = KeptContours::new(alloc, Rounding::Pairwise);
     tell("contours", kept, &mut contours, alloc, output, digests)?;
     tell("shapes", "", &mut Shapes {}, alloc, output, digests)?;
     let mut shapes = KeptShapes::new(alloc);

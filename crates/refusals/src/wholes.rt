@@ -17,6 +17,7 @@ use i_overlay::split::solver::SplitSolver;
 use overlay_contours::contour::{IntContour, IntShape};
 use overlay_contours::fault::ContourFault;
 use overlay_contours::overlay::{Overlay as ContourOverlay, overlay_contours, overlay_shapes};
+use overlay_contours::rounding::Rounding;
 use std::alloc::Global;
 
 /// An overlay by one splitter and one builder. A refusal leaves the list empty, or the arrangement.
@@ -147,10 +148,12 @@ pub struct KeptContours {
 }
 
 impl KeptContours {
-    /// An overlay of no contours.
-    pub fn new(alloc: Global) -> KeptContours {
+    /// An overlay of no contours, by a rounding.
+    pub fn new(alloc: Global, rounding: Rounding) -> KeptContours {
+        let mut overlay = ContourOverlay::new(alloc);
+        overlay.set_rounding(rounding);
         KeptContours {
-            overlay: ContourOverlay::new(alloc),
+            overlay,
             has_subject: false,
             has_clip: false,
         }
@@ -213,7 +216,7 @@ impl KeptShapes {
     /// An overlay of no contours.
     pub fn new(alloc: Global) -> KeptShapes {
         KeptShapes {
-            kept: KeptContours::new(alloc),
+            kept: KeptContours::new(alloc, Rounding::HotPixels),
         }
     }
 }

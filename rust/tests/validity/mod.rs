@@ -77,20 +77,33 @@ fn share_more_than_an_end(first: Edge, second: Edge) -> bool {
     touches || (turns[0] * turns[1] < 0 && turns[2] * turns[3] < 0)
 }
 
+/// The sign of `a * b - c * d`, where `a` and `c` are differences of coordinates. The products may have more than 128 bits, so
+/// `b` and `d` are taken in two parts.
+fn sign_of_difference(a: i128, b: i128, c: i128, d: i128) -> i128 {
+    let low_bits = i128::from(u64::MAX);
+    let low = a * (b & low_bits) - c * (d & low_bits);
+    let high = a * (b >> 64) - c * (d >> 64) + (low >> 64);
+    if high == 0 {
+        (low & low_bits).signum()
+    } else {
+        high.signum()
+    }
+}
+
 /// How often edges wind around a place that is on none of them, counterclockwise.
 fn winding(edges: &[Edge], place: Place) -> i32 {
     let Place { x, y, bottom } = place;
     let mut count = 0;
     for &(a, b) in edges {
-        let (ay, by) = (i128::from(a.y) * bottom, i128::from(b.y) * bottom);
-        if (ay <= y) == (by <= y) {
+        let [ax, ay, bx, by] = [a.x, a.y, b.x, b.y].map(i128::from);
+        let (starts_below, ends_below) = (ay * bottom <= y, by * bottom <= y);
+        if starts_below == ends_below {
             continue;
         }
-        let (ax, bx) = (i128::from(a.x) * bottom, i128::from(b.x) * bottom);
-        let side = (bx - ax) * (y - ay) - (by - ay) * (x - ax);
-        if ay <= y && side > 0 {
+        let side = sign_of_difference(bx - ax, y - ay * bottom, by - ay, x - ax * bottom);
+        if starts_below && side > 0 {
             count += 1;
-        } else if by <= y && side < 0 {
+        } else if ends_below && side < 0 {
             count -= 1;
         }
     }
@@ -98,6 +111,7 @@ fn winding(edges: &[Edge], place: Place) -> i32 {
 }
 
 /// How often contours wind around a place.
+#[allow(dead_code, reason = "not each file of tests that has this module uses it")]
 pub fn winding_number(contours: &[IntContour], place: Place) -> i32 {
     winding(&edges(contours), place)
 }

@@ -7,7 +7,7 @@ use Rattle.std.specs.List.Sorted.{IsStrictlySortedBy}
 use Rattle.std.proofs.lemmas.Bool.{and_parts, and_from}
 use Rattle.std.proofs.lemmas.Int.{ints}
 use Rattle.std.proofs.lemmas.List.{map-append}
-use Rattle.std.proofs.lemmas.List.Elements.{All-from_recursion}
+use Rattle.std.proofs.lemmas.List.Elements.{All-from_recursion, recursion_from_All}
 use Rattle.std.proofs.lemmas.List.Folds.{list_all-map, list_all-append}
 use Rattle.std.proofs.lemmas.List.Sums.{sum_by-cons}
 use Rattle.std.proofs.lemmas.Simd.{map-map}
@@ -19,7 +19,7 @@ use Rattle.overlay_base.specs.Planar.{is_planar, is_arranged}
 use Rattle.overlay_geometry.specs.Meeting.{are_apart}
 use Rattle.overlay_base.specs.Balance.{IsBalanced}
 use Rattle.overlay_base.specs.Rules.{holds, differ, keeps_fill, top_value}
-use Rattle.overlay_base.specs.Windings.{is_not_empty, Winding}
+use Rattle.overlay_base.specs.Windings.{is_not_empty, Winding, empty}
 use Rattle.overlay_base.specs.ShapeWindings.{direct_winding, inverted_winding}
 use Rattle.overlay_base.specs.BooleanWinding.{boolean_made}
 use Rattle.overlay_base.specs.declared.segm.shape_type.ShapeType.{ShapeType}
@@ -29,33 +29,24 @@ use Rattle.overlay_base.specs.declared.overlay_core.overlay_rule.OverlayRule.{Ov
 use Rattle.overlay_geometry.proofs.laws.geometry.Points.{pair_cmp_total, pair_eq_same, same_pair_by_eq}
 use Rattle.overlay_base.proofs.laws.geometry.Pairs.{pair_eq-less, pair_eq-comm}
 use Rattle.overlay_geometry.proofs.laws.lists.Keys.{IsStrictlySortedBy-from_test}
-use Rattle.overlay_geometry.proofs.laws.lists.Lists.{Has, Has-map, Has-map_out, Has-filter_out, AllByRecursion-from_Has, list_all-from_Has, list_all-at, list_all-and_parts, sum_by-map, sum_by-filter_le}
-use Rattle.overlay_base.specs.Radius.{exponent_cap}
+use Rattle.overlay_geometry.proofs.laws.lists.Lists.{Has, Has-map, Has-map_out, Has-filter_out, AllByRecursion-from_Has, AllByRecursion-at, list_all-from_Has, list_all-at, list_all-and_parts, sum_by-map, sum_by-filter_le}
 use Rattle.overlay_base.specs.declared.overlay_core.link.OverlayLink.{OverlayLink}
-use Rattle.overlay_base.specs.declared.overlay_core.solver.Solver.{Solver}
-use Rattle.overlay_base.specs.declared.segm.fault.Fault.{Fault}
-use Rattle.overlay_base.specs.declared.segm.fault.Fault.TheVariants.{Memory, CountOutOfRange}
-use Rattle.overlay_split.specs.Run.{Settings, IsPassCount, LeavesRange, after_passes, has_changed}
-use Rattle.overlay_split.specs.SettingsOf.{snap_limit_of, settings_of}
-use Rattle.overlay_split.specs.declared.split.solver.SplitSolver.{SplitSolver}
-use Rattle.overlay_sweep.specs.ChainWindings.{tops_leave_range}
 use Rattle.overlay_build.specs.Boundary.{of_subject, direction, directed_links, truth, boundary, times_round}
 use Rattle.overlay_build.specs.DirectedWalks.{arcs, IsFlow}
 use Rattle.overlay_build.specs.DirectedWalks.{turned as turned_link}
 use Rattle.overlay_build.specs.GraphOf.{link_of, kept_of, graph_with}
 use Rattle.overlay_build.proofs.laws.walks.Flows.{flow_from_balance}
-use Rattle.overlay_split.specs.Nearness.{reach_of_run}
+use Rattle.overlay_split.specs.Nearness.{LieNear, LiesNear}
 use Rattle.overlay_split.specs.Places.{IsFar}
-use Rattle.overlay_split.proofs.laws.nearness.Nearness.{reach_is_bounded, exact_input_reaches_nothing}
+use Rattle.overlay_sweep.proofs.laws.visits.FillBytes.{inside_none}
 use Rattle.overlay_build.specs.Graph.{Graph, Link, Filled, graph_of, graph_by, filled}
 use Rattle.overlay_build.specs.Regions.{encloses}
-use Rattle.overlay_build.specs.Values.{value_at}
-use Rattle.i_overlay.specs.FarRegions.{EnclosesOverlay}
-use Rattle.i_overlay.specs.Headline.{IsOverlay, IsRefused}
+use Rattle.overlay_build.specs.Sides.{IsBalancedOverlay}
+use Rattle.overlay_build.specs.Values.{value_at, tells_apart}
 use Rattle.overlay_contours.specs.Contours.{steps, is_edge, in_order, turned, directed_edges, edges, AreProper, winding_number, is_painted}
 use Rattle.overlay_contours.specs.ContourSegments.{step_segment, contour_segments, overlay_segments, overlay_winding, are_in_range}
-use Rattle.overlay_contours.specs.Polygons.{settings_for, IsPolygonOverlay, IsFarFrom, is_in_overlay, run_of, RunsAlongBoundary}
-use Rattle.overlay_contours.specs.Refusals.{IsReason}
+use Rattle.overlay_contours.specs.Polygons.{IsPolygonOverlay, IsBeyond, is_in_overlay, run_of, RunsAlongBoundary}
+use Rattle.overlay_contours.specs.Splittings.{Splitting, IsArrangement}
 use Rattle.overlay_contours.proofs.laws.Windings.{overlay_winds}
 use Rattle.overlay_contours.proofs.laws.Extracts.{ways_of}
 use Rattle.overlay_contours.proofs.laws.Ranges.{edges_in_range}
@@ -77,27 +68,6 @@ contour_pairs shape_type contours = map-map (λ (s : WholeSegment). s.pair) (ste
 overlay_pairs : (subject clip : List (List Point)) → pairs (overlay_segments subject clip) ≡ edges subject ++ edges clip
 unfolding overlay_segments
 overlay_pairs subject clip = map-append (λ (s : WholeSegment). s.pair) (contour_segments Subject subject) (contour_segments Clip clip) ∙ ap₂ (λ (u v : List Pair). u ++ v) (contour_pairs Subject subject) (contour_pairs Clip clip)
-
-other_way : (p q : Point) → not (point_eq p q) ≡ true → point_lt p q ≡ false → point_lt q p ≡ true
-other_way p q h e = grind (arith, ints)
-
--- each segment's ends are in order
-ordered_edges : (list : List Pair) → list_all is_ordered (map in_order (filter is_edge list)) ≡ true
-ordered_edges list = list_all-from_Has is_ordered (map in_order (filter is_edge list)) (λ e i.
-    let there = Has-map_out in_order (filter is_edge list) e i in
-    let kept = Has-filter_out is_edge list there.0 there.1 in
-    ap is_ordered (sym there.2) ∙ by there.0 kept.1 (point_lt there.0.a there.0.b) refl)
-  where
-    by : (s : Pair) → is_edge s ≡ true → (b : Bool) → point_lt s.a s.b ≡ b → is_ordered (in_order s) ≡ true
-    by s h true e = rw e e
-    by s h false e = rw e (other_way s.a s.b h e)
-
-overlay_is_ordered : (subject clip : List (List Point)) → are_ordered (overlay_segments subject clip) ≡ true
-overlay_is_ordered subject clip =
-    sym (list_all-map is_ordered (λ (s : WholeSegment). s.pair) (overlay_segments subject clip))
-    ∙ ap (list_all is_ordered) (overlay_pairs subject clip)
-    ∙ list_all-append is_ordered (edges subject) (edges clip)
-    ∙ and_from _ _ (ordered_edges (steps subject)) (ordered_edges (steps clip))
 
 -- ---- the links of a rule are segments of the arrangement
 
@@ -196,21 +166,10 @@ planar_pairs : (segments : List WholeSegment) → is_planar segments ≡ true �
 unfolding is_planar
 planar_pairs segments h = h
 
--- why a split and a build were refused
-pub reason : (settings : Settings) (subject clip : List (List Point)) (given segments : List WholeSegment) (before passes : ℕ) (fault : Fault) → given ≡ overlay_segments subject clip → IsRefused settings given segments before passes fault → IsReason settings subject clip fault
-reason settings subject clip given segments before passes Memory e r = tt
-reason settings subject clip given segments before passes CountOutOfRange e (inl r) = inl (subst (LeavesRange settings) e (r.0.too_large refl))
-reason settings subject clip given segments before passes CountOutOfRange e (inr r) =
-    let left : segments ≡ after_passes settings (overlay_segments subject clip) passes = r.split.arrangement ∙ ap (λ (l : List WholeSegment). after_passes settings l passes) e in
-    inr (passes, subst (λ (l : List WholeSegment). IsPassCount settings l passes) e r.split.count, subst (λ (l : List WholeSegment). IsTrue (tops_leave_range l)) left (r.too_large refl))
-
 -- what holds of a refusal holds of the answer that `?` makes of it
 pub refused_as : {T F : Type 0} (result : Result T F) (P : F → Type 0) (fault : F) → IsErrAnd result (λ refused. refused ≡ fault) → P fault → IfErr result P
 refused_as (Ok x) P fault h k = tt
 refused_as (Err e) P fault h k = subst P (sym h) k
-
-pub settings_are : {I : Type 0} (bits : ℕ) (solver : Solver) (splitter : SplitSolver I) → snap_limit_of splitter ≡ 256 → settings_of bits solver splitter ≡ settings_for bits solver
-settings_are bits solver splitter e = ap (λ (n : ℕ). record { start = solver.precision.start; progression = solver.precision.progression; cap = exponent_cap bits; limit = n }) e
 
 -- ---- directions
 
@@ -230,73 +189,87 @@ pub less_nothing : (b : Bool) → truth b -ℤ truth false ≡ truth b
 less_nothing true = refl
 less_nothing false = refl
 
--- in their directions as many links of an overlay start as end at each node
-pub links_flow : {I D : Type 0} (whole : I → ℤ) (links : List (OverlayLink I D)) (settings : Settings) (fill_rule : FillRule) (rule : Bool → Bool → Bool) (given segments : List WholeSegment) (passes : ℕ)
-    → IsOverlay settings fill_rule rule given segments passes (graph_with whole links) → IsBalanced given → map (link_of whole) links ≡ (graph_with whole links).links → IsFlow (arcs rule (map (link_of whole) links))
-links_flow whole links settings fill_rule rule given segments passes o balanced same =
-    subst (λ (ls : List Link). IsFlow (arcs rule ls)) (sym same) (flow_from_balance rule (kept_of whole links) (o.balanced balanced).boundary.closed)
+-- what a rule says where nothing winds
+value_outside : (rule : OverlayRule) (fill_rule : FillRule) → value_at (holds rule) fill_rule empty ≡ holds rule false false
+unfolding value_at
+value_outside rule fill_rule = ap (λ (b : Bool). holds rule b b) (inside_none fill_rule)
+
+-- The graph of what is left of balanced segments is a balanced overlay.
+pub sides_of : {I D : Type 0} (whole : I → ℤ) (splitting : Splitting) (fill_rule : FillRule) (rule : Bool → Bool → Bool) (given segments : List WholeSegment) (passes halves : ℕ) (links : List (OverlayLink I D)) → IsArrangement splitting given segments passes halves → IsBalanced given
+    → graph_with whole links ≡ graph_by (keeps_fill rule) fill_rule segments → (IsBalanced segments → IsBalancedOverlay rule fill_rule segments (graph_by (keeps_fill rule) fill_rule segments)) → IsBalancedOverlay rule fill_rule segments (graph_with whole links)
+sides_of whole splitting fill_rule rule given segments passes halves links a balanced same makes =
+    subst (IsBalancedOverlay rule fill_rule segments) (sym same) (makes (λ p. a.kept p ∙ balanced p))
+
+-- in their directions as many of its links start as end at each node
+pub links_flow : {I D : Type 0} (whole : I → ℤ) (links : List (OverlayLink I D)) (fill_rule : FillRule) (rule : Bool → Bool → Bool) (segments : List WholeSegment)
+    → IsBalancedOverlay rule fill_rule segments (graph_with whole links) → map (link_of whole) links ≡ (graph_with whole links).links → IsFlow (arcs rule (map (link_of whole) links))
+links_flow whole links fill_rule rule segments sides same =
+    subst (λ (ls : List Link). IsFlow (arcs rule ls)) (sym same) (flow_from_balance rule (kept_of whole links) sides.boundary.closed)
 
 -- ---- the polygon theorem
 
-module _ (settings : Settings) (rule : OverlayRule) (fill_rule : FillRule) (subject clip answer : List (List Point)) (given segments : List WholeSegment) (passes : ℕ) (graph : Graph)
-    (is_given : given ≡ overlay_segments subject clip) (o : IsOverlay settings fill_rule (holds rule) given segments passes graph) (region : EnclosesOverlay settings rule fill_rule given passes graph)
-    (count : (test : Pair → Bool) → count_by test (edges answer) ≡ count_by test (link_pairs graph)) (paints : (p : RationalPoint) → is_painted answer p ≡ encloses graph p) (balanced : IsBalanced given)
+module _ (splitting : Splitting) (rule : OverlayRule) (fill_rule : FillRule) (subject clip answer : List (List Point)) (segments : List WholeSegment) (passes halves : ℕ) (graph : Graph)
+    (a : IsArrangement splitting (overlay_segments subject clip) segments passes halves) (links : graph ≡ graph_by (keeps_fill (holds rule)) fill_rule segments) (sides : IsBalancedOverlay (holds rule) fill_rule segments graph)
+    (count : (test : Pair → Bool) → count_by test (edges answer) ≡ count_by test (link_pairs graph)) (paints : (p : RationalPoint) → is_painted answer p ≡ encloses graph p)
     (runs : (test : Pair → Bool) → count_by test (directed_edges answer) ≡ count_by test (ways_of (arcs (holds rule) graph.links))) (winds : (p : RationalPoint) → overlay_winding answer [] p ≡ winding_below (directed_links (holds rule) graph) p) (proper : AreProper answer) where
   planar : (is_map segments ≡ true) × (is_planar segments ≡ true)
-  planar = and_parts (is_map segments) (is_planar segments) o.split.planar
+  planar = and_parts (is_map segments) (is_planar segments) a.planar
 
   edge_stands : (e : Pair) → Has (edges answer) e → Has (pairs segments) e
   edge_stands e i =
       let some : 0 < count_by (λ s. pair_eq s e) (link_pairs graph) = subst (λ (n : ℕ). 0 < n) (count (λ s. pair_eq s e)) (counted_from_Has (edges answer) e i) in
-      links_stand (keeps_fill (holds rule)) fill_rule segments e (subst (λ (g : Graph). Has (link_pairs g) e) o.links (Has-from_count (link_pairs graph) e some))
+      links_stand (keeps_fill (holds rule)) fill_rule segments e (subst (λ (g : Graph). Has (link_pairs g) e) links (Has-from_count (link_pairs graph) e some))
 
-  arrangement : pairs segments ≡ pairs (after_passes settings (overlay_segments subject clip) passes)
-  arrangement = ap pairs o.split.arrangement ∙ ap (λ (l : List WholeSegment). pairs (after_passes settings l passes)) is_given
+  winds_there : (p : RationalPoint) → IsBeyond halves subject clip p → winding_below segments p ≡ overlay_winding subject clip p
+  winds_there p far = a.winding p (subst (λ (l : List Pair). IsFar halves p l) (sym (overlay_pairs subject clip)) far) ∙ overlay_winds subject clip p
 
-  far_given : (p : RationalPoint) → IsFarFrom settings subject clip passes p → IsFar (reach_of_run settings given passes) p (pairs given)
-  far_given p far =
-      subst (λ (l : List WholeSegment). IsFar (reach_of_run settings l passes) p (pairs l)) (sym is_given)
-      (subst (λ (l : List Pair). IsFar (reach_of_run settings (overlay_segments subject clip) passes) p l) (sym (overlay_pairs subject clip)) far)
+  region_here : (p : RationalPoint) → 0 < p.bottom → IsBeyond halves subject clip p → is_painted answer p ≡ differ (holds rule false false) (is_in_overlay rule fill_rule subject clip p)
+  unfolding value_at tells_apart
+  region_here p some far =
+      paints p
+      ∙ sides.region p some
+      ∙ ap (λ (b : Bool). differ b (value_at (holds rule) fill_rule (winding_below segments p))) (value_outside rule fill_rule)
+      ∙ ap (λ (w : Winding). differ (holds rule false false) (value_at (holds rule) fill_rule w)) (winds_there p far)
 
-  winds_there : (p : RationalPoint) → winding_below given p ≡ overlay_winding subject clip p
-  winds_there p = ap (λ (l : List WholeSegment). winding_below l p) is_given ∙ overlay_winds subject clip p
-
-  region_here : (p : RationalPoint) → 0 < p.bottom → IsFarFrom settings subject clip passes p → is_painted answer p ≡ differ (holds rule false false) (is_in_overlay rule fill_rule subject clip p)
-  unfolding value_at
-  region_here p some far = paints p ∙ region p some (far_given p far) ∙ ap (λ (w : Winding). differ (holds rule false false) (value_at (holds rule) fill_rule w)) (winds_there p)
-
-  winds_here : (p : RationalPoint) → 0 < p.bottom → IsFarFrom settings subject clip passes p → winding_number answer p ≡ truth (is_in_overlay rule fill_rule subject clip p) -ℤ truth (holds rule false false)
+  winds_here : (p : RationalPoint) → 0 < p.bottom → IsBeyond halves subject clip p → winding_number answer p ≡ truth (is_in_overlay rule fill_rule subject clip p) -ℤ truth (holds rule false false)
   unfolding times_round value_at
   winds_here p some far =
-      ap (λ (w : Winding). w.subj) (winds p ∙ o.far_boundary balanced p some (far_given p far))
-      ∙ ap (λ (w : Winding). times_round (holds rule) fill_rule w) (winds_there p)
+      ap (λ (w : Winding). w.subj) (winds p ∙ sides.boundary.winds p some)
+      ∙ ap (λ (w : Winding). times_round (holds rule) fill_rule w) (winds_there p far)
 
-  runs_here : RunsAlongBoundary rule fill_rule (after_passes settings (overlay_segments subject clip) passes) answer
-  runs_here test =
-      runs test
-      ∙ ap (count_by test) (sym (runs_of_links (holds rule) graph) ∙ ap (map run_of) ((o.balanced balanced).boundary.sides ∙ ap (boundary (holds rule) fill_rule) (o.split.arrangement ∙ ap (λ (l : List WholeSegment). after_passes settings l passes) is_given)))
+  runs_here : RunsAlongBoundary rule fill_rule segments answer
+  runs_here test = runs test ∙ ap (count_by test) (sym (runs_of_links (holds rule) graph) ∙ ap (map run_of) sides.boundary.sides)
+
+  near_edges : LieNear halves (edges subject ++ edges clip) (pairs segments)
+  near_edges = subst (λ (l : List Pair). LieNear halves l (pairs segments)) (overlay_pairs subject clip) a.near
+
+  abbrev LiesNearSome : Pair → Type 0
+  LiesNearSome r = (s : Pair) × Contains (edges subject ++ edges clip) s × LiesNear halves r s
 
   -- its points are in range where the arrangement is
   pub answer_in_range : (least greatest : ℤ) → is_arranged least greatest segments ≡ true → are_in_range least greatest answer ≡ true
   answer_in_range least greatest h = edges_in_range least greatest segments answer h edge_stands proper
 
-  pub polygon_overlay : IsPolygonOverlay settings rule fill_rule subject clip answer
+  pub polygon_overlay : IsPolygonOverlay splitting rule fill_rule subject clip answer
   polygon_overlay = record {
+    arrangement = segments;
     passes = passes;
-    count = subst (λ (l : List WholeSegment). IsPassCount settings l passes) is_given o.split.count;
+    halves = halves;
+    left = a.left;
     region = region_here;
     named = λ outside p some far. region_here p some far ∙ ap (λ (b : Bool). differ b (is_in_overlay rule fill_rule subject clip p)) outside;
     winds = winds_here;
     named_winds = λ outside p some far. winds_here p some far ∙ ap (λ (b : Bool). truth (is_in_overlay rule fill_rule subject clip p) -ℤ truth b) outside ∙ less_nothing (is_in_overlay rule fill_rule subject clip p);
     directed = runs_here;
     proper = proper;
-    reach = reach_is_bounded settings (overlay_segments subject clip) passes;
-    exact = λ whole_crossings.
-        exact_input_reaches_nothing settings (overlay_segments subject clip) (after_passes settings (overlay_segments subject clip) passes) passes (has_changed settings (overlay_segments subject clip) passes) (overlay_is_ordered subject clip) whole_crossings
-        (record { count = subst (λ (l : List WholeSegment). IsPassCount settings l passes) is_given o.split.count; arrangement = refl; changed = refl });
+    reach = a.reach;
+    exact = a.exact;
     arranged =
-        All-from_recursion (Contains (pairs (after_passes settings (overlay_segments subject clip) passes))) (edges answer)
-        (AllByRecursion-from_Has (Contains (pairs (after_passes settings (overlay_segments subject clip) passes))) (edges answer) (λ e i. Contains-from_Has _ e (subst (λ (l : List Pair). Has l e) arrangement (edge_stands e i))));
+        All-from_recursion (Contains (pairs segments)) (edges answer)
+        (AllByRecursion-from_Has (Contains (pairs segments)) (edges answer) (λ e i. Contains-from_Has _ e (edge_stands e i)));
+    near =
+        All-from_recursion LiesNearSome (edges answer)
+        (AllByRecursion-from_Has LiesNearSome (edges answer) (λ e i. AllByRecursion-at LiesNearSome (pairs segments) e (recursion_from_All LiesNearSome (pairs segments) near_edges) (edge_stands e i)));
     apart =
         list_all-from_Has (λ s. list_all (λ t. are_apart s t) (edges answer)) (edges answer)
         (λ s i. list_all-from_Has (λ t. are_apart s t) (edges answer)
@@ -305,11 +278,11 @@ module _ (settings : Settings) (rule : OverlayRule) (fill_rule : FillRule) (subj
         let as_links = count (λ s. pair_eq s e) in
         let few = links_are_few (keeps_fill (holds rule)) fill_rule segments (λ s. pair_eq s e) in
         let one = once_in_order (pairs segments) e (map_parts segments planar.0).0 in
-        let same : count_by (λ s. pair_eq s e) (link_pairs graph) ≡ count_by (λ s. pair_eq s e) (link_pairs (graph_by (keeps_fill (holds rule)) fill_rule segments)) = ap (λ (g : Graph). count_by (λ s. pair_eq s e) (link_pairs g)) o.links in
+        let same : count_by (λ s. pair_eq s e) (link_pairs graph) ≡ count_by (λ s. pair_eq s e) (link_pairs (graph_by (keeps_fill (holds rule)) fill_rule segments)) = ap (λ (g : Graph). count_by (λ s. pair_eq s e) (link_pairs g)) links in
         omega (arith, as_links, few, one, same);
   }
 
-  -- its number of passes is that of the run
-  pub polygon_passes : polygon_overlay.passes ≡ passes
+  -- its arrangement is that
+  pub polygon_arrangement : polygon_overlay.arrangement ≡ segments
   unfolding polygon_overlay
-  polygon_passes = refl
+  polygon_arrangement = refl

@@ -6,13 +6,13 @@ use std::alloc::AllocError;
 use std::test::Fail;
 
 const USAGE: &str =
-    "usage: polygons [shapes] [report] rule=NAME [fill|engine|precision|strategy=VALUE ..]\n";
+    "usage: polygons [shapes] [report] [pairwise] rule=NAME [fill|engine|precision|strategy=VALUE ..]\n";
 
 const SQUARES: &str = "S 0 0 4 0 4 4 0 4\nC 2 2 6 2 6 6 2 6\n";
 
 /// The words with bars between them, the input, the exit status, and what is written: to the output where the status is
 /// 0, else to the faults. A contour begins with the first of its links, by its lower left end and then by its other.
-const RUNS: [(&str, &str, u8, &str); 25] = [
+const RUNS: [(&str, &str, u8, &str); 27] = [
     (
         "rule=union",
         SQUARES,
@@ -47,9 +47,16 @@ const RUNS: [(&str, &str, u8, &str); 25] = [
         0,
         "contour 2 4 2 2 4 2 4 4\npasses 1\nreach 0\n",
     ),
-    // Edges cross at (2.5, 2.5): the first pass snaps that within a squared radius of 1, so by at most 2 + 2 halves.
+    // Edges cross at (2.5, 2.5): snap rounding takes that to (3, 3), and moves no edge by more than one half.
     (
         "report|rule=union",
+        "S 0 0 5 5 0 5\nC 0 5 5 0 5 5\n",
+        0,
+        "contour 0 5 0 0 3 3 5 0 5 5\npasses 1\nreach 1\n",
+    ),
+    // The first pass over pairs snaps it within a squared radius of 1, so by at most 2 + 2 halves.
+    (
+        "report|pairwise|rule=union",
         "S 0 0 5 5 0 5\nC 0 5 5 0 5 5\n",
         0,
         "contour 0 5 0 0 3 3 5 0 5 5\npasses 2\nreach 4\n",
@@ -64,6 +71,7 @@ const RUNS: [(&str, &str, u8, &str); 25] = [
     ("report|shapes|rule=union", "x", 2, USAGE),
     ("shapes", "", 2, "polygons needs a rule other than all\n"),
     ("rule=union|shapes", "x", 2, USAGE),
+    ("pairwise|report|rule=union", "x", 2, USAGE),
     ("shapes|rule=union|limit=3", "x", 2, USAGE),
     // Spaces, empty lines and a carriage return at the end of a line mean nothing.
     (

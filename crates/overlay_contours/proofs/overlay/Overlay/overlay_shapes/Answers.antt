@@ -1,31 +1,33 @@
-use Rattle.overlay_split.specs.Run.{Settings}
-use Rattle.overlay_split.specs.SettingsOf.{passes_of, reach_of}
-use Rattle.overlay_contours.specs.Kept.{subject_of, clip_of}
-use Rattle.overlay_contours.specs.Polygons.{settings_for}
+use Rattle.overlay_geometry.specs.Points.{Point}
+use Rattle.std.proofs.Common.{List}
+use Rattle.overlay_contours.specs.Shapes.{all_contours}
 use Rattle.overlay_contours.specs.ShapesOf.{shapes_of}
-use Rattle.overlay_contours.specs.Shapes.{IsShapeOverlay}
-use Rattle.overlay_contours.proofs.laws.Beyond.{reported, reach_bounded, exact_reach, shapes_beyond}
+use Rattle.overlay_contours.specs.Kept.{subject_of, clip_of, splitting_of}
+use Rattle.overlay_contours.proofs.laws.Beyond.{reach_bounded, exact_reach, shapes_beyond}
 use Rattle.overlay_contours.proofs.overlay.Overlay.overlay_shapes.Goals as goal
 
 -- ---- by the distance that is reported
 
-pub returns-clause-run : goal.returns-clause-run
-returns-clause-run g c =
-    let settings : Settings = settings_for g.I.OverlayInt.BITS c.args.solver.now in
-    reported settings (subject_of c.args.self.now) (clip_of c.args.self.now) (passes_of c.overlay_shapes.new.self.splitter) (reach_of c.overlay_shapes.new.self.splitter) c.passes-self.result c.reach-self.result c.passes-self.ensures c.reach-self.ensures
-    (rw (c.deref.ensures.value, c.deref-2.ensures.value) at c.in_ok-in_shapes.ensures.run)
+pub returns-clause-splitting : goal.returns-clause-splitting
+returns-clause-splitting g c = rw (c.deref.ensures.value, c.deref-2.ensures.value) at c.in_ok-in_shapes.ensures.splitting
 
 pub returns-clause-reach : goal.returns-clause-reach
 returns-clause-reach g c =
-    let settings : Settings = settings_for g.I.OverlayInt.BITS c.args.solver.now in
-    reach_bounded settings (subject_of c.args.self.now) (clip_of c.args.self.now) c.passes-self.result c.reach-self.result (returns-clause-run g c)
+    let after = c.overlay_shapes.new.self in
+    let shapes : List (List (List Point)) = shapes_of g.I.OverlayInt.whole c.in_ok-in_shapes.in_shapes.items in
+    let shape_overlay = rw (c.deref.ensures.value, c.deref-2.ensures.value) at c.in_ok-in_shapes.ensures.shapes in
+    reach_bounded (splitting_of c.args.solver.now c.args.self.now) (subject_of c.args.self.now) (clip_of c.args.self.now) after.passes after.reach (returns-clause-splitting g c) c.args.overlay_rule c.args.fill_rule (all_contours shapes) shape_overlay.overlay
 
 pub returns-clause-exact : goal.returns-clause-exact
 returns-clause-exact g c =
-    let settings : Settings = settings_for g.I.OverlayInt.BITS c.args.solver.now in
-    exact_reach settings (subject_of c.args.self.now) (clip_of c.args.self.now) c.passes-self.result c.reach-self.result (returns-clause-run g c) c.args.overlay_rule c.args.fill_rule _ (let known : IsShapeOverlay settings c.args.overlay_rule c.args.fill_rule (subject_of c.args.self.now) (clip_of c.args.self.now) (shapes_of g.I.OverlayInt.whole c.in_ok-in_shapes.in_shapes.items) = rw (c.deref.ensures.value, c.deref-2.ensures.value) at c.in_ok-in_shapes.ensures.shapes in known.overlay)
+    let after = c.overlay_shapes.new.self in
+    let shapes : List (List (List Point)) = shapes_of g.I.OverlayInt.whole c.in_ok-in_shapes.in_shapes.items in
+    let shape_overlay = rw (c.deref.ensures.value, c.deref-2.ensures.value) at c.in_ok-in_shapes.ensures.shapes in
+    exact_reach (splitting_of c.args.solver.now c.args.self.now) (subject_of c.args.self.now) (clip_of c.args.self.now) after.passes after.reach (returns-clause-splitting g c) c.args.overlay_rule c.args.fill_rule (all_contours shapes) shape_overlay.overlay
 
 pub returns-clause-overlay : goal.returns-clause-overlay
 returns-clause-overlay g c =
-    let settings : Settings = settings_for g.I.OverlayInt.BITS c.args.solver.now in
-    shapes_beyond settings (subject_of c.args.self.now) (clip_of c.args.self.now) c.passes-self.result c.reach-self.result (returns-clause-run g c) c.args.overlay_rule c.args.fill_rule (shapes_of g.I.OverlayInt.whole c.in_ok-in_shapes.in_shapes.items) (rw (c.deref.ensures.value, c.deref-2.ensures.value) at c.in_ok-in_shapes.ensures.shapes)
+    let after = c.overlay_shapes.new.self in
+    let shapes : List (List (List Point)) = shapes_of g.I.OverlayInt.whole c.in_ok-in_shapes.in_shapes.items in
+    let shape_overlay = rw (c.deref.ensures.value, c.deref-2.ensures.value) at c.in_ok-in_shapes.ensures.shapes in
+    shapes_beyond (splitting_of c.args.solver.now c.args.self.now) (subject_of c.args.self.now) (clip_of c.args.self.now) after.passes after.reach (returns-clause-splitting g c) c.args.overlay_rule c.args.fill_rule shapes shape_overlay
