@@ -51,11 +51,11 @@ fn main() {
     for rule in [OverlayRule::Union, OverlayRule::Xor] {
         let mut links = 0;
         let graph = least(|| {
-            links = overlay.build_graph(&segments, fill, rule).expect("a graph").links().len();
+            links = overlay.build_graph(&segments, rule, fill).expect("a graph").links().len();
         });
         let fresh = least(|| {
             let mut overlay = Overlay::new().expect("memory");
-            overlay.build_graph(&segments, fill, rule).expect("a graph");
+            overlay.build_graph(&segments, rule, fill).expect("a graph");
         });
         println!("{rule:?}: {links} links, {graph:?} with kept buffers, {fresh:?} with new ones");
     }

@@ -12,27 +12,59 @@ pub enum Fault {
     CountOutOfRange,
 }
 
+/// A coordinate of a point.
+#[derive(Clone, Copy, Debug, PartialEq, Eq, PartialOrd, Ord, Hash)]
+pub enum Axis {
+    /// The first one.
+    X,
+    /// The second one.
+    Y,
+}
+
+/// A coordinate out of range.
+///
+/// ```
+/// use i_overlay_core::{Axis, RangeFault, MAX_COORD};
+///
+/// let fault = RangeFault { axis: Axis::Y, value: 2_000_000_000, bound: MAX_COORD };
+/// assert_eq!(fault.to_string(), "y is 2000000000, the greatest is 1073741823");
+/// ```
+#[derive(Clone, Copy, Debug, PartialEq, Eq)]
+pub struct RangeFault {
+    /// Which coordinate it is.
+    pub axis: Axis,
+    /// Its value.
+    pub value: i32,
+    /// The end of the range beyond which it lies.
+    pub bound: i32,
+}
+
 /// What is wrong with a given segment.
 #[derive(Clone, Copy, Debug, PartialEq, Eq)]
 pub enum SegmentFault {
-    /// A coordinate lies outside of the range of the engine, as `Engine::range` tells it.
-    Range,
+    /// A coordinate lies outside of the range of the engine, as `Engine::range` returns it. It is the first such one.
+    Range(RangeFault),
     /// Both ends are one point.
     EqualEnds,
-    /// The count is 0 for both shapes, or a number of it is `i32::MIN`.
+    /// The count is 0 for both shapes, or a number of it is `i32::MIN`. Of a line, the mask may also be above 3.
     Count,
 }
 
-/// Why a call was refused.
+/// Why a call was refused. Its text says what is wrong with which point or segment.
 ///
 /// ```
-/// use i_overlay_core::{Error, FillRule, IntPoint, Overlay, OverlayRule, Segment, SegmentFault, ShapeType};
+/// use i_overlay_core::{Error, FillRule, IntPoint, Overlay, OverlayRule, Segment, SegmentFault, ShapeType, MAX_COORD};
+///
+/// let far = [IntPoint::ZERO, IntPoint::new(MAX_COORD + 1, 0)];
+/// let refused = Overlay::with_contours(&[far], &[]).unwrap_err();
+/// assert!(matches!(refused, Error::Point { shape_type: ShapeType::Subject, contour: 0, point: 1, .. }));
+/// assert_eq!(refused.to_string(), "contour 0 of the subject, point 1: x is 1073741824, the greatest is 1073741823");
 ///
 /// let at = IntPoint::new(7, 7);
 /// let bad = Segment { a: at, b: at, count: ShapeType::Subject.direct_count() };
-/// let refused = Overlay::new()?.build_graph(&[bad], FillRule::NonZero, OverlayRule::Union).unwrap_err();
+/// let refused = Overlay::new()?.build_graph(&[bad], OverlayRule::Union, FillRule::NonZero).unwrap_err();
 /// assert_eq!(refused, Error::Segment { index: 0, fault: SegmentFault::EqualEnds });
-/// assert_eq!(refused.to_string(), "segment 0: equal ends");
+/// assert_eq!(refused.to_string(), "segment 0: both ends are one point; leave it out");
 /// # Ok::<(), Error>(())
 /// ```
 #[derive(Clone, Copy, Debug, PartialEq, Eq)]
@@ -48,6 +80,8 @@ pub enum Error {
         contour: usize,
         /// The index of the point in the contour.
         point: usize,
+        /// Its first coordinate out of range.
+        fault: RangeFault,
     },
     /// The segment at this index may not be split. It is the first such one.
     Segment {
@@ -61,19 +95,38 @@ pub enum Error {
 impl fmt::Display for Fault {
     fn fmt(&self, f: &mut fmt::Formatter<'_>) -> fmt::Result {
         f.write_str(match self {
-            Fault::Memory => "out of memory",
-            Fault::CountOutOfRange => "count out of range",
+            Fault::Memory => "out of memory; the overlay can be used again",
+            Fault::CountOutOfRange => "a sum of winding counts leaves -2147483647..=2147483647; give smaller counts",
         })
+    }
+}
+
+impl fmt::Display for Axis {
+    fn fmt(&self, f: &mut fmt::Formatter<'_>) -> fmt::Result {
+        f.pad(match self {
+            Axis::X => "x",
+            Axis::Y => "y",
+        })
+    }
+}
+
+impl fmt::Display for RangeFault {
+    fn fmt(&self, f: &mut fmt::Formatter<'_>) -> fmt::Result {
+        let RangeFault { axis, value, bound } = self;
+        let end = if value > bound { "greatest" } else { "least" };
+        write!(f, "{axis} is {value}, the {end} is {bound}")
     }
 }
 
 impl fmt::Display for SegmentFault {
     fn fmt(&self, f: &mut fmt::Formatter<'_>) -> fmt::Result {
-        f.write_str(match self {
-            SegmentFault::Range => "range",
-            SegmentFault::EqualEnds => "equal ends",
-            SegmentFault::Count => "count",
-        })
+        match self {
+            SegmentFault::Range(fault) => fault.fmt(f),
+            SegmentFault::EqualEnds => f.write_str("both ends are one point; leave it out"),
+            SegmentFault::Count => f.write_str(
+                "its counts have to be from -2147483647 to 2147483647, one of them not 0 (of a line: a mask from 1 to 3)",
+            ),
+        }
     }
 }
 
@@ -81,12 +134,8 @@ impl fmt::Display for Error {
     fn fmt(&self, f: &mut fmt::Formatter<'_>) -> fmt::Result {
         match self {
             Error::Fault(fault) => fault.fmt(f),
-            Error::Point { shape_type, contour, point } => {
-                let shape = match shape_type {
-                    ShapeType::Subject => "subject",
-                    ShapeType::Clip => "clip",
-                };
-                write!(f, "point {point} of contour {contour} of the {shape}: range")
+            Error::Point { shape_type, contour, point, fault } => {
+                write!(f, "contour {contour} of the {shape_type}, point {point}: {fault}")
             }
             Error::Segment { index, fault } => write!(f, "segment {index}: {fault}"),
         }
@@ -95,24 +144,32 @@ impl fmt::Display for Error {
 
 impl std::error::Error for Fault {}
 
+impl std::error::Error for RangeFault {}
+
 impl std::error::Error for SegmentFault {}
 
 impl std::error::Error for Error {}
 
-/// The index of the first point out of range, if one is.
-pub(crate) fn point_fault(contour: &[IntPoint]) -> Option<usize> {
-    contour.iter().position(|point| !is_in_range(*point, Engine::I32))
+/// The error of the first point of a contour that is out of range, if one is.
+pub(crate) fn point_error(points: &[IntPoint], shape_type: ShapeType, contour: usize) -> Option<Error> {
+    let mut faults = points.iter().enumerate().filter_map(|(point, &at)| Some((point, range_fault(at, Engine::I32)?)));
+    faults.next().map(|(point, fault)| Error::Point { shape_type, contour, point, fault })
 }
 
-fn is_in_range(point: IntPoint, engine: Engine) -> bool {
-    let range = engine.range();
-    range.contains(&point.x) && range.contains(&point.y)
+/// The first coordinate of a point that is out of range, if one is.
+fn range_fault(point: IntPoint, engine: Engine) -> Option<RangeFault> {
+    let (least, greatest) = engine.range().into_inner();
+    let fault_of = |axis, value: i32| {
+        let bound = value.clamp(least, greatest);
+        (bound != value).then_some(RangeFault { axis, value, bound })
+    };
+    fault_of(Axis::X, point.x).or_else(|| fault_of(Axis::Y, point.y))
 }
 
 /// What is wrong with the segment between two points, if anything is.
 pub(crate) fn segment_fault(a: IntPoint, b: IntPoint, is_counted: bool, engine: Engine) -> Option<SegmentFault> {
-    if !is_in_range(a, engine) || !is_in_range(b, engine) {
-        Some(SegmentFault::Range)
+    if let Some(fault) = range_fault(a, engine).or_else(|| range_fault(b, engine)) {
+        Some(SegmentFault::Range(fault))
     } else if a == b {
         Some(SegmentFault::EqualEnds)
     } else if !is_counted {

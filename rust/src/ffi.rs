@@ -1,12 +1,12 @@
 //! The exports of the proved archive, as `crates/overlay_c/src/lib.rt` declares them, and safe calls of them. All
-//! unsafe code of this package stands here. Nothing compares these declarations with those of the archive.
+//! unsafe code of this package is here. Nothing compares these declarations with those of the archive.
 //!
 //! A slice crosses as a pointer and a length; a `Global` takes no bytes, and does not cross. Beside each call, `SAFETY`
 //! names the conditions (`requires`) of the export and says why they hold.
 
 use crate::{DataSegment, IntContour, IntPoint, IntShape, LineSegment, OverlayLink, Segment};
 
-/// The place of an engine: `Handle` of `crates/overlay_c`. Null where it is empty.
+/// What holds an engine: `Handle` of `crates/overlay_c`. Null where it is empty.
 #[derive(Debug)]
 #[repr(C)]
 struct Handle {
@@ -14,6 +14,7 @@ struct Handle {
 }
 
 /// `SettingsRecord` of `crates/overlay_c`. Each code is tested there, so any value may cross.
+#[derive(Debug)]
 #[repr(C)]
 pub struct Settings {
     pub start: usize,
@@ -25,6 +26,7 @@ pub struct Settings {
 }
 
 /// `SizesRecord` of `crates/overlay_c`: how much an engine keeps.
+#[derive(Debug)]
 #[repr(C)]
 pub struct Sizes {
     pub segments: usize,
@@ -44,6 +46,7 @@ pub struct Sizes {
 }
 
 /// `WordsRecord` of `crates/overlay_c`: a number of 128 bits.
+#[derive(Debug)]
 #[repr(C)]
 pub struct Words {
     pub low: u64,
@@ -58,6 +61,7 @@ impl Words {
 }
 
 /// `ReportRecord` of `crates/overlay_c`: what an overlay of contours reports of its run.
+#[derive(Debug)]
 #[repr(C)]
 pub struct Report {
     pub passes: Words,
@@ -65,6 +69,7 @@ pub struct Report {
 }
 
 /// `CrossRecord` of `crates/overlay_c`.
+#[derive(Debug)]
 #[repr(C)]
 pub struct Cross {
     pub point: IntPoint,
@@ -137,9 +142,21 @@ extern "C" {
     fn overlay_c_shape_lengths(handle: &mut Handle, out: *mut usize, out_len: usize);
 }
 
+/// Stops the build where there is no archive, with the sentence of the build script. The constant of a generic function is
+/// computed where code is made of it, so what makes no code (`cargo check`, `cargo doc`) needs no archive.
+#[allow(clippy::extra_unused_type_parameters, reason = "it makes the function generic")]
+fn need_archive<T>() {
+    const {
+        if let Some(sentence) = option_env!("I_OVERLAY_CORE_NO_ARCHIVE") {
+            panic!("{}", sentence)
+        }
+    }
+}
+
 /// Where two segments meet. All coordinates have to be in range, and the ends of each segment have to differ; the
 /// caller tests both.
 pub fn cross(target: &Segment, other: &Segment, radius_squared: i64) -> Cross {
+    need_archive::<()>();
     // SAFETY: `target` and `other` (in range), `target_apart` and `other_apart` (ends that differ) are what the caller
     // has tested; `radius` is at least 1 here.
     unsafe { overlay_c_cross(target, other, radius_squared.max(1)) }
@@ -147,6 +164,7 @@ pub fn cross(target: &Segment, other: &Segment, radius_squared: i64) -> Cross {
 
 /// An engine of the archive. Its handle is full from `new` until it is dropped, which is the condition `engine` of
 /// every other export.
+#[derive(Debug)]
 pub struct Engine {
     handle: Handle,
 }
@@ -159,12 +177,13 @@ unsafe impl Send for Engine {}
 impl Engine {
     /// An engine that snaps in that many passes. `None` where a growth was refused.
     pub fn new(snap_limit: u32) -> Option<Engine> {
+        need_archive::<()>();
         let mut handle = Handle { at: std::ptr::null_mut() };
         // SAFETY: the handle is empty.
         unsafe { overlay_c_new(&mut handle, snap_limit) }.then_some(Engine { handle })
     }
 
-    /// Splits segments and builds a rule's graph, with closed walks if asked for. Returns a status.
+    /// Splits segments and builds a rule's graph, with closed walks if `walks` is true. Returns a status.
     pub fn overlay(&mut self, given: &[Segment], settings: &Settings, rule: u8, walks: bool) -> u8 {
         // SAFETY: the handle is full. Nothing is required of segments and codes.
         unsafe { overlay_c_overlay(&mut self.handle, given.as_ptr(), given.len(), settings, rule, walks) }

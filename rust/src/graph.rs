@@ -56,7 +56,7 @@ impl<'a> OverlayGraph<'a> {
     /// let mut segments = Vec::new();
     /// ShapeType::Subject.push_contour(&square(0, 4), &mut segments);
     /// let mut overlay = Overlay::new()?;
-    /// let graph = overlay.build_graph(&segments, FillRule::NonZero, OverlayRule::Subject)?;
+    /// let graph = overlay.build_graph(&segments, OverlayRule::Subject, FillRule::NonZero)?;
     /// assert!(graph.links().windows(2).all(|two| two[0].a.point <= two[1].a.point));
     /// # Ok::<(), i_overlay_core::Error>(())
     /// ```
@@ -74,9 +74,9 @@ impl<'a> OverlayGraph<'a> {
     /// ShapeType::Subject.push_contour(&square(0, 4), &mut sides);
     /// let numbered: Vec<_> = sides.iter().map(|&segment| DataSegment { segment, data: 7 }).collect();
     /// let mut overlay = Overlay::new()?;
-    /// let (fill, rule) = (FillRule::NonZero, OverlayRule::Subject);
-    /// assert_eq!(overlay.build_graph_with_data(&numbered, fill, rule, Solver::AUTO)?.data(), [7; 4]);
-    /// assert!(overlay.build_graph(&sides, fill, rule)?.data().is_empty());
+    /// let (rule, fill) = (OverlayRule::Subject, FillRule::NonZero);
+    /// assert_eq!(overlay.build_graph_with_data(&numbered, rule, fill, Solver::AUTO)?.data(), [7; 4]);
+    /// assert!(overlay.build_graph(&sides, rule, fill)?.data().is_empty());
     /// # Ok::<(), i_overlay_core::Error>(())
     /// ```
     pub fn data(&self) -> &'a [u64] {
@@ -91,7 +91,7 @@ impl<'a> OverlayGraph<'a> {
     /// let mut segments = Vec::new();
     /// ShapeType::Subject.push_contour(&square(0, 4), &mut segments);
     /// let mut overlay = Overlay::new()?;
-    /// let graph = overlay.build_graph(&segments, FillRule::NonZero, OverlayRule::Subject)?;
+    /// let graph = overlay.build_graph(&segments, OverlayRule::Subject, FillRule::NonZero)?;
     /// assert_eq!(graph.node_count(), 4);
     /// # Ok::<(), i_overlay_core::Error>(())
     /// ```
@@ -107,7 +107,7 @@ impl<'a> OverlayGraph<'a> {
     /// let mut segments = Vec::new();
     /// ShapeType::Subject.push_contour(&square(0, 4), &mut segments);
     /// let mut overlay = Overlay::new()?;
-    /// let graph = overlay.build_graph(&segments, FillRule::NonZero, OverlayRule::Subject)?;
+    /// let graph = overlay.build_graph(&segments, OverlayRule::Subject, FillRule::NonZero)?;
     /// assert_eq!(graph.node(0), Some(OverlayNode::Bridge([0, 1])));
     /// assert_eq!(graph.node(4), None);
     /// # Ok::<(), i_overlay_core::Error>(())
@@ -129,7 +129,7 @@ impl<'a> OverlayGraph<'a> {
     /// let mut segments = Vec::new();
     /// ShapeType::Subject.push_contour(&square(0, 4), &mut segments);
     /// let mut overlay = Overlay::new()?;
-    /// let graph = overlay.build_graph(&segments, FillRule::NonZero, OverlayRule::Subject)?;
+    /// let graph = overlay.build_graph(&segments, OverlayRule::Subject, FillRule::NonZero)?;
     /// assert!(graph.nodes().all(|node| matches!(node, OverlayNode::Bridge(_))));
     /// # Ok::<(), i_overlay_core::Error>(())
     /// ```

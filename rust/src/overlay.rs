@@ -1,10 +1,11 @@
 //! The engine: splits, graphs and contours, one after another.
 
-use crate::error::{fault_of, fault_of_data, fault_of_line, outcome, point_fault};
+use crate::error::{fault_of, fault_of_data, fault_of_line, outcome, point_error};
 use crate::{
-    ffi, ClipRule, DataSegment, Engine, Error, Fault, FillRule, IntContour, IntPoint, IntShape, LineSegment,
-    OverlayGraph, OverlayLink, OverlayRule, Rounding, Segment, ShapeType, Solver,
+    doubled_area, ffi, ClipRule, DataSegment, Engine, Error, Fault, FillRule, IntContour, IntPoint, IntShape,
+    LineSegment, OverlayGraph, OverlayLink, OverlayRule, Rounding, Segment, ShapeType, Solver,
 };
+use std::borrow::Cow;
 use std::fmt;
 
 /// What a split or a join did.
@@ -24,7 +25,7 @@ pub struct Change {
 /// ```
 /// use i_overlay_core::{square, FillRule, Overlay, OverlayRule};
 ///
-/// let mut overlay = Overlay::with_contours(&[square(0, 4).to_vec()], &[square(2, 6).to_vec()])?;
+/// let mut overlay = Overlay::with_contours(&[square(0, 4)], &[square(2, 6)])?;
 /// let worker = std::thread::spawn(move || overlay.overlay(OverlayRule::Union, FillRule::NonZero));
 /// assert_eq!(worker.join().unwrap()?[0].len(), 8);
 /// # Ok::<(), i_overlay_core::Error>(())
@@ -100,24 +101,24 @@ impl Overlay {
     /// are those that the engine of that call keeps.
     ///
     /// ```
-    /// use i_overlay_core::{square, Engine, Error, FillRule, Overlay, OverlayRule, SegmentFault, ShapeType};
+    /// use i_overlay_core::{square, Engine, FillRule, Overlay, OverlayRule, ShapeType};
     ///
     /// let mut segments = Vec::new();
     /// ShapeType::Subject.push_contour(&square(0, 16_383), &mut segments);
     /// let mut overlay = Overlay::new()?.with_engine(Engine::I16);
-    /// assert_eq!(overlay.build_graph(&segments, FillRule::NonZero, OverlayRule::Subject)?.links().len(), 4);
+    /// assert_eq!(overlay.build_graph(&segments, OverlayRule::Subject, FillRule::NonZero)?.links().len(), 4);
     /// segments[1].b.x += 1;
-    /// let refused = overlay.build_graph(&segments, FillRule::NonZero, OverlayRule::Subject).unwrap_err();
-    /// assert_eq!(refused, Error::Segment { index: 1, fault: SegmentFault::Range });
-    /// # Ok::<(), Error>(())
+    /// let refused = overlay.build_graph(&segments, OverlayRule::Subject, FillRule::NonZero).unwrap_err();
+    /// assert_eq!(refused.to_string(), "segment 1: x is 16384, the greatest is 16383");
+    /// # Ok::<(), i_overlay_core::Error>(())
     /// ```
     pub fn with_engine(mut self, engine: Engine) -> Overlay {
         self.width = engine;
         self
     }
 
-    /// The same overlay, with a rounding for the contours that it overlays from now on. Segments and lines are split pair by
-    /// pair, whatever it is.
+    /// The same overlay, with a rounding for the contours that it overlays from now on. Segments and lines are split
+    /// pair by pair, whatever it is.
     ///
     /// ```
     /// use i_overlay_core::{FillRule, IntPoint, Overlay, OverlayRule, Rounding};
@@ -139,17 +140,26 @@ impl Overlay {
     }
 
     /// An overlay of these contours of a subject and of a clip. Any contours will do: they may cross and touch themselves
-    /// and one another, run either way, and have no or few points.
+    /// and one another, and have no or few points.
+    ///
+    /// Their type is one and the same, so that either list may be empty: vectors, arrays of one length, or slices.
+    ///
+    /// The direction of a contour counts under [`FillRule::NonZero`]: a hole has to run against its outer boundary.
+    /// [`Overlay::add_polygon`] turns rings so.
     ///
     /// ```
-    /// use i_overlay_core::{square, Error, IntPoint, Overlay, ShapeType, MAX_COORD};
+    /// use i_overlay_core::{square, FillRule, Overlay, OverlayRule};
     ///
-    /// let far = vec![IntPoint::ZERO, IntPoint::new(MAX_COORD + 1, 0)];
-    /// let refused = Overlay::with_contours(&[square(0, 4).to_vec(), far], &[]).unwrap_err();
-    /// assert_eq!(refused, Error::Point { shape_type: ShapeType::Subject, contour: 1, point: 1 });
-    /// # Ok::<(), Error>(())
+    /// let [outer, inner] = [square(0, 9), square(3, 6)];
+    /// let mut overlay = Overlay::with_contours(&[outer, inner], &[])?;
+    /// assert_eq!(overlay.overlay(OverlayRule::Subject, FillRule::NonZero)?.len(), 1);
+    /// let mut hole = inner;
+    /// hole.reverse();
+    /// let mut overlay = Overlay::with_contours(&[outer, hole], &[])?;
+    /// assert_eq!(overlay.overlay(OverlayRule::Subject, FillRule::NonZero)?.len(), 2);
+    /// # Ok::<(), i_overlay_core::Error>(())
     /// ```
-    pub fn with_contours(subject: &[IntContour], clip: &[IntContour]) -> Result<Overlay, Error> {
+    pub fn with_contours<C: AsRef<[IntPoint]>>(subject: &[C], clip: &[C]) -> Result<Overlay, Error> {
         let mut overlay = Overlay::new()?;
         for (contours, shape_type) in [(subject, ShapeType::Subject), (clip, ShapeType::Clip)] {
             for contour in contours {
@@ -166,26 +176,70 @@ impl Overlay {
     ///
     /// let mut overlay = Overlay::new()?;
     /// overlay.add_contour(&square(0, 9), ShapeType::Subject)?;
-    /// overlay.add_contour(&square(3, 6), ShapeType::Clip)?;
+    /// overlay.add_contour(&square(3, 6)[..3], ShapeType::Clip)?;
     /// let ring = overlay.overlay(OverlayRule::Difference, FillRule::NonZero)?;
     /// assert_eq!(ring.len(), 2);
     /// # Ok::<(), i_overlay_core::Error>(())
     /// ```
-    pub fn add_contour(&mut self, contour: &[IntPoint], shape_type: ShapeType) -> Result<(), Error> {
+    pub fn add_contour<C: AsRef<[IntPoint]> + ?Sized>(
+        &mut self,
+        contour: &C,
+        shape_type: ShapeType,
+    ) -> Result<(), Error> {
+        let contour = contour.as_ref();
         let count = &mut self.contour_counts[shape_type as usize];
         match self.engine.add_contour(contour, shape_type as u8) {
             0 => *count += 1,
             1 => return Err(Error::Fault(Fault::Memory)),
             _ => {
-                let point = point_fault(contour).expect("the engine refuses contours where a point is out of range");
-                return Err(Error::Point { shape_type, contour: *count, point });
+                let error = point_error(contour, shape_type, *count);
+                return Err(error.expect("the engine refuses contours where a point is out of range"));
             }
         }
         Ok(())
     }
 
+    /// Adds a polygon, whichever way its rings run: its outer boundary is turned counterclockwise and each hole
+    /// clockwise, by the sign of the exact area. A last point that repeats the first one is dropped.
+    ///
+    /// So a polygon whose holes lie apart in its outer boundary is that without them, under each fill rule but
+    /// [`FillRule::Negative`]. It is added in contours, the outer boundary first. Where a point is out of range nothing
+    /// is added. Where memory is refused the rings before it are added.
+    ///
+    /// ```
+    /// use i_overlay_core::{doubled_area_of_shape, square, FillRule, Overlay, OverlayRule, ShapeType};
+    ///
+    /// // both rings run counterclockwise, and end where they begin
+    /// let closed = |low, high| [square(low, high).as_slice(), &square(low, high)[..1]].concat();
+    /// let mut overlay = Overlay::new()?;
+    /// overlay.add_polygon(&closed(0, 9), &[closed(3, 6)], ShapeType::Subject)?;
+    /// overlay.add_polygon(&square(10, 12), &[], ShapeType::Subject)?;
+    /// let shapes = overlay.overlay_shapes(OverlayRule::Subject, FillRule::NonZero)?;
+    /// let areas: Vec<i128> = shapes.iter().map(|shape| doubled_area_of_shape(shape) / 2).collect();
+    /// assert_eq!(areas, [81 - 9, 4]);
+    /// # Ok::<(), i_overlay_core::Error>(())
+    /// ```
+    pub fn add_polygon<C: AsRef<[IntPoint]>>(
+        &mut self,
+        outer: &C,
+        holes: &[C],
+        shape_type: ShapeType,
+    ) -> Result<(), Error> {
+        let rings = || std::iter::once(outer).chain(holes).map(AsRef::as_ref);
+        let first = self.contour_counts[shape_type as usize];
+        for (contour, ring) in (first..).zip(rings()) {
+            if let Some(error) = point_error(ring, shape_type, contour) {
+                return Err(error);
+            }
+        }
+        for (index, ring) in rings().enumerate() {
+            self.add_contour(&directed_ring(ring, index == 0), shape_type)?;
+        }
+        Ok(())
+    }
+
     /// The overlay of the contours that were added, as contours that have it on their left, by the solver `AUTO`: outer
-    /// boundaries run counterclockwise, and holes clockwise. So they wind once round each place of which the rule
+    /// boundaries run counterclockwise, and holes clockwise. So they wind once around each point of which the rule
     /// holds, and not at all around the others, but for points nearer to the given edges than half a unit in `x` and in
     /// `y`, or than the passes move crossings under `Rounding::Pairwise`.
     /// The contours that were added stay.
@@ -193,7 +247,7 @@ impl Overlay {
     /// ```
     /// use i_overlay_core::{square, FillRule, Overlay, OverlayRule};
     ///
-    /// let mut overlay = Overlay::with_contours(&[square(0, 4).to_vec()], &[square(2, 6).to_vec()])?;
+    /// let mut overlay = Overlay::with_contours(&[square(0, 4)], &[square(2, 6)])?;
     /// let union = overlay.overlay(OverlayRule::Union, FillRule::NonZero)?;
     /// assert_eq!((union.len(), union[0].len()), (1, 8));
     /// assert_eq!(overlay.overlay(OverlayRule::Subject, FillRule::NonZero)?[0].len(), 6);
@@ -203,12 +257,12 @@ impl Overlay {
         self.overlay_with_solver(overlay_rule, fill_rule, Solver::AUTO)
     }
 
-    /// The same by a solver.
+    /// The contours that `overlay` returns, by a solver. The solver's strategy does not change them.
     ///
     /// ```
     /// use i_overlay_core::{square, FillRule, Overlay, OverlayRule, Solver};
     ///
-    /// let mut overlay = Overlay::with_contours(&[square(0, 4).to_vec()], &[square(2, 6).to_vec()])?;
+    /// let mut overlay = Overlay::with_contours(&[square(0, 4)], &[square(2, 6)])?;
     /// let found = overlay.overlay_with_solver(OverlayRule::Xor, FillRule::EvenOdd, Solver::LIST)?;
     /// assert_eq!(found, overlay.overlay(OverlayRule::Xor, FillRule::EvenOdd)?);
     /// # Ok::<(), i_overlay_core::Error>(())
@@ -224,9 +278,9 @@ impl Overlay {
         Ok(self.engine.contours())
     }
 
-    /// The same overlay in shapes, by the solver `AUTO`: each an outer boundary, which runs counterclockwise, followed by
-    /// its holes, which run clockwise. No contour comes to a point twice, so each is a simple polygon, and around every
-    /// place of the plane at most one shape winds.
+    /// The overlay of the contours that were added, in shapes, by the solver `AUTO`: each an outer boundary, which runs
+    /// counterclockwise, followed by its holes, which run clockwise. No contour comes to a point twice, so each is a
+    /// simple polygon, and around every point of the plane at most one shape winds.
     ///
     /// The interior of each shape is connected: pieces that only touch in points are shapes of their own.
     ///
@@ -236,7 +290,7 @@ impl Overlay {
     /// ```
     /// use i_overlay_core::{square, FillRule, Overlay, OverlayRule, ShapeType};
     ///
-    /// let mut overlay = Overlay::with_contours(&[square(0, 9).to_vec()], &[square(3, 6).to_vec()])?;
+    /// let mut overlay = Overlay::with_contours(&[square(0, 9)], &[square(3, 6)])?;
     /// overlay.add_contour(&square(20, 22), ShapeType::Subject)?;
     /// let shapes = overlay.overlay_shapes(OverlayRule::Difference, FillRule::NonZero)?;
     /// assert_eq!(shapes.iter().map(Vec::len).collect::<Vec<_>>(), [2, 1]);
@@ -247,12 +301,12 @@ impl Overlay {
         self.overlay_shapes_with_solver(overlay_rule, fill_rule, Solver::AUTO)
     }
 
-    /// The same by a solver.
+    /// The shapes that `overlay_shapes` returns, by a solver. The solver's strategy does not change them.
     ///
     /// ```
     /// use i_overlay_core::{square, FillRule, Overlay, OverlayRule, Solver};
     ///
-    /// let mut overlay = Overlay::with_contours(&[square(0, 4).to_vec()], &[square(2, 6).to_vec()])?;
+    /// let mut overlay = Overlay::with_contours(&[square(0, 4)], &[square(2, 6)])?;
     /// let found = overlay.overlay_shapes_with_solver(OverlayRule::Xor, FillRule::EvenOdd, Solver::LIST)?;
     /// assert_eq!(found, overlay.overlay_shapes(OverlayRule::Xor, FillRule::EvenOdd)?);
     /// # Ok::<(), i_overlay_core::Error>(())
@@ -273,7 +327,7 @@ impl Overlay {
     /// ```
     /// use i_overlay_core::{square, FillRule, Overlay, OverlayRule};
     ///
-    /// let mut overlay = Overlay::with_contours(&[square(0, 4).to_vec()], &[square(2, 6).to_vec()])?;
+    /// let mut overlay = Overlay::with_contours(&[square(0, 4)], &[square(2, 6)])?;
     /// assert_eq!(overlay.passes(), 0);
     /// overlay.overlay(OverlayRule::Union, FillRule::NonZero)?;
     /// assert_eq!(overlay.passes(), 1);
@@ -283,8 +337,8 @@ impl Overlay {
         self.passes
     }
 
-    /// How far that overlay moved edges at most, in `x` and in `y`, in halves of a unit; 0 at first. Snap rounding moves
-    /// them by at most one half.
+    /// How far the last overlay of contours that was not refused moved edges at most, in `x` and in `y`, in halves of a
+    /// unit; 0 at first. Snap rounding moves them by at most one half.
     ///
     /// What the overlay returned is exact at every point that is farther than this, in `x` or in `y`, from all edges of
     /// the contours that it was given: one shape, or all contours together, wind once around such a point where the rule
@@ -293,7 +347,7 @@ impl Overlay {
     /// ```
     /// use i_overlay_core::{square, FillRule, IntPoint, Overlay, OverlayRule, ShapeType};
     ///
-    /// let mut overlay = Overlay::with_contours(&[square(0, 4).to_vec()], &[square(2, 6).to_vec()])?;
+    /// let mut overlay = Overlay::with_contours(&[square(0, 4)], &[square(2, 6)])?;
     /// overlay.overlay_shapes(OverlayRule::Union, FillRule::NonZero)?;
     /// assert_eq!(overlay.reach(), 0);
     /// // the upper side crosses the right one of the first square at a height of 2 and two thirds
@@ -312,7 +366,7 @@ impl Overlay {
     /// ```
     /// use i_overlay_core::{square, FillRule, Overlay, OverlayRule};
     ///
-    /// let mut overlay = Overlay::with_contours(&[square(0, 4).to_vec()], &[])?;
+    /// let mut overlay = Overlay::with_contours(&[square(0, 4)], &[])?;
     /// overlay.clear();
     /// assert!(overlay.overlay(OverlayRule::Union, FillRule::NonZero)?.is_empty());
     /// # Ok::<(), i_overlay_core::Error>(())
@@ -331,17 +385,17 @@ impl Overlay {
     /// ShapeType::Subject.push_contour(&square(0, 4), &mut segments);
     /// ShapeType::Clip.push_contour(&square(2, 6), &mut segments);
     /// let mut overlay = Overlay::new()?;
-    /// let graph = overlay.build_graph(&segments, FillRule::NonZero, OverlayRule::Intersect)?;
+    /// let graph = overlay.build_graph(&segments, OverlayRule::Intersect, FillRule::NonZero)?;
     /// assert_eq!((graph.links().len(), graph.node_count()), (4, 4));
     /// # Ok::<(), i_overlay_core::Error>(())
     /// ```
     pub fn build_graph(
         &mut self,
         segments: &[Segment],
-        fill_rule: FillRule,
         overlay_rule: OverlayRule,
+        fill_rule: FillRule,
     ) -> Result<OverlayGraph<'_>, Error> {
-        self.build_graph_with_solver(segments, fill_rule, overlay_rule, Solver::AUTO)
+        self.build_graph_with_solver(segments, overlay_rule, fill_rule, Solver::AUTO)
     }
 
     /// The graph of the segments that a rule keeps. The solver's strategy does not change it.
@@ -352,19 +406,19 @@ impl Overlay {
     /// let mut segments = Vec::new();
     /// ShapeType::Subject.push_contour(&square(0, 4), &mut segments);
     /// let mut overlay = Overlay::new()?;
-    /// let (fill, rule) = (FillRule::NonZero, OverlayRule::Subject);
-    /// let graph = overlay.build_graph_with_solver(&segments, fill, rule, Solver::TREE)?;
+    /// let (rule, fill) = (OverlayRule::Subject, FillRule::NonZero);
+    /// let graph = overlay.build_graph_with_solver(&segments, rule, fill, Solver::TREE)?;
     /// assert_eq!(graph.links().len(), 4);
     /// # Ok::<(), i_overlay_core::Error>(())
     /// ```
     pub fn build_graph_with_solver(
         &mut self,
         segments: &[Segment],
-        fill_rule: FillRule,
         overlay_rule: OverlayRule,
+        fill_rule: FillRule,
         solver: Solver,
     ) -> Result<OverlayGraph<'_>, Error> {
-        self.run(segments, fill_rule, overlay_rule, solver, false)?;
+        self.run(segments, overlay_rule, fill_rule, solver, false)?;
         Ok(self.graph())
     }
 
@@ -383,8 +437,8 @@ impl Overlay {
     /// // from 0 to 3 the sides of the subject, from the left one counterclockwise; from 4 to 7 those of the clip
     /// let numbered: Vec<DataSegment> = sides.iter().zip(0..).map(|(&segment, data)| DataSegment { segment, data }).collect();
     /// let mut overlay = Overlay::new()?;
-    /// let (fill, rule) = (FillRule::NonZero, OverlayRule::Intersect);
-    /// let graph = overlay.build_graph_with_data(&numbered, fill, rule, Solver::AUTO)?;
+    /// let (rule, fill) = (OverlayRule::Intersect, FillRule::NonZero);
+    /// let graph = overlay.build_graph_with_data(&numbered, rule, fill, Solver::AUTO)?;
     /// // the left and the lower side of the clip, and the upper and the right one of the subject
     /// assert_eq!(graph.data(), [4, 5, 3, 2]);
     /// # Ok::<(), i_overlay_core::Error>(())
@@ -392,8 +446,8 @@ impl Overlay {
     pub fn build_graph_with_data(
         &mut self,
         segments: &[DataSegment],
-        fill_rule: FillRule,
         overlay_rule: OverlayRule,
+        fill_rule: FillRule,
         solver: Solver,
     ) -> Result<OverlayGraph<'_>, Error> {
         let status = self.engine.overlay_with_data(segments, &self.settings(solver, fill_rule), overlay_rule.code());
@@ -403,28 +457,28 @@ impl Overlay {
         Ok(self.kept_graph())
     }
 
-    /// Closed contours round the part that a rule keeps: walks over the links of the graph, so that each link stands in
-    /// one place of one walk. `None` where an odd number of links meets at some node, as it can where the counts of the
-    /// given segments do not balance.
+    /// Closed contours around the part that a rule keeps: walks over the links of the graph, which pass each link just
+    /// once. `None` where an odd number of links meets at some node, as it can where the counts of the given segments
+    /// do not balance.
     ///
     /// ```
     /// use i_overlay_core::{square, FillRule, Overlay, OverlayRule, ShapeType, Solver};
     ///
     /// let mut segments = Vec::new();
     /// ShapeType::Subject.push_contour(&square(0, 4), &mut segments);
-    /// let (fill, rule) = (FillRule::NonZero, OverlayRule::Subject);
-    /// let contours = Overlay::new()?.build_contours(&segments, fill, rule, Solver::AUTO)?;
+    /// let (rule, fill) = (OverlayRule::Subject, FillRule::NonZero);
+    /// let contours = Overlay::new()?.build_contours(&segments, rule, fill, Solver::AUTO)?;
     /// assert_eq!(contours.map(|found| found.len()), Some(1));
     /// # Ok::<(), i_overlay_core::Error>(())
     /// ```
     pub fn build_contours(
         &mut self,
         segments: &[Segment],
-        fill_rule: FillRule,
         overlay_rule: OverlayRule,
+        fill_rule: FillRule,
         solver: Solver,
     ) -> Result<Option<Vec<IntContour>>, Error> {
-        self.run(segments, fill_rule, overlay_rule, solver, true)?;
+        self.run(segments, overlay_rule, fill_rule, solver, true)?;
         let ffi::Sizes { has_walks, .. } = self.engine.sizes();
         if !has_walks {
             return Ok(None);
@@ -464,7 +518,7 @@ impl Overlay {
     /// let line = |ax, ay, bx, by| LineSegment::line(IntPoint::new(ax, ay), IntPoint::new(bx, by));
     /// let crossed = [line(0, 0, 4, 4), line(0, 4, 4, 0)];
     /// let mut overlay = Overlay::new()?;
-    /// overlay.build_clip(&crossed, FillRule::NonZero, ClipRule::default(), Solver::AUTO)?;
+    /// overlay.build_clip(&crossed, ClipRule::default(), FillRule::NonZero, Solver::AUTO)?;
     /// assert_eq!(overlay.lines().len(), 4);
     /// # Ok::<(), i_overlay_core::Error>(())
     /// ```
@@ -544,15 +598,15 @@ impl Overlay {
     /// let line = LineSegment::line(IntPoint::new(-5, 5), IntPoint::new(15, 5));
     /// let segments: Vec<LineSegment> = sides.chain([line]).collect();
     /// let mut overlay = Overlay::new()?;
-    /// let inside = overlay.build_clip(&segments, FillRule::NonZero, ClipRule::default(), Solver::AUTO)?;
+    /// let inside = overlay.build_clip(&segments, ClipRule::default(), FillRule::NonZero, Solver::AUTO)?;
     /// assert_eq!(inside.links().len(), 1);
     /// # Ok::<(), i_overlay_core::Error>(())
     /// ```
     pub fn build_clip(
         &mut self,
         segments: &[LineSegment],
-        fill_rule: FillRule,
         clip_rule: ClipRule,
+        fill_rule: FillRule,
         solver: Solver,
     ) -> Result<OverlayGraph<'_>, Error> {
         let ClipRule { invert, boundary_included } = clip_rule;
@@ -574,8 +628,8 @@ impl Overlay {
     fn run(
         &mut self,
         segments: &[Segment],
-        fill_rule: FillRule,
         overlay_rule: OverlayRule,
+        fill_rule: FillRule,
         solver: Solver,
         walks: bool,
     ) -> Result<(), Error> {
@@ -625,11 +679,31 @@ impl Overlay {
 
 impl fmt::Debug for Overlay {
     fn fmt(&self, f: &mut fmt::Formatter<'_>) -> fmt::Result {
-        f.debug_struct("Overlay").finish_non_exhaustive()
+        f.debug_struct("Overlay")
+            .field("engine", &self.width)
+            .field("rounding", &self.rounding)
+            .field("contour_counts", &self.contour_counts)
+            .field("passes", &self.passes)
+            .field("reach", &self.reach)
+            .finish_non_exhaustive()
     }
 }
 
-/// Turns lengths into the places where lists that stand one after another begin, and where the last one ends.
+/// A ring that runs counterclockwise, or clockwise, and does not repeat its first point at the end.
+fn directed_ring(ring: &[IntPoint], is_counterclockwise: bool) -> Cow<'_, [IntPoint]> {
+    let ring = match ring {
+        [first, rest @ .., last] if first == last => &ring[..=rest.len()],
+        _ => ring,
+    };
+    let area = doubled_area(ring);
+    if area == 0 || (area > 0) == is_counterclockwise {
+        Cow::Borrowed(ring)
+    } else {
+        Cow::Owned(ring.iter().rev().copied().collect())
+    }
+}
+
+/// Turns the lengths of lists that follow one another into the indexes where they begin, and where the last one ends.
 fn sum_up(lengths: &mut Vec<usize>) {
     let mut total = 0;
     for length in lengths.iter_mut() {

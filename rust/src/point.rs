@@ -3,6 +3,18 @@
 use std::ops::RangeInclusive;
 
 /// A point. Points are ordered by `x`, then by `y`.
+///
+/// It is made of a pair or an array, and into one.
+///
+/// ```
+/// use i_overlay_core::IntPoint;
+///
+/// let corners = [[0, 0], [4, 0], [4, 4]].map(IntPoint::from);
+/// assert_eq!(corners[1], IntPoint::from((4, 0)));
+/// assert_eq!(corners.map(<[i32; 2]>::from), [[0, 0], [4, 0], [4, 4]]);
+/// let (x, y) = corners[2].into();
+/// assert_eq!((x, y), (4, 4));
+/// ```
 #[repr(C)]
 #[derive(Clone, Copy, Debug, Default, PartialEq, Eq, PartialOrd, Ord, Hash)]
 pub struct IntPoint {
@@ -29,6 +41,30 @@ impl IntPoint {
     }
 }
 
+impl From<[i32; 2]> for IntPoint {
+    fn from([x, y]: [i32; 2]) -> IntPoint {
+        IntPoint { x, y }
+    }
+}
+
+impl From<(i32, i32)> for IntPoint {
+    fn from((x, y): (i32, i32)) -> IntPoint {
+        IntPoint { x, y }
+    }
+}
+
+impl From<IntPoint> for [i32; 2] {
+    fn from(point: IntPoint) -> [i32; 2] {
+        [point.x, point.y]
+    }
+}
+
+impl From<IntPoint> for (i32, i32) {
+    fn from(point: IntPoint) -> (i32, i32) {
+        (point.x, point.y)
+    }
+}
+
 /// The least coordinate that a call takes, -2^30. With `Engine::I16` it takes less, as [`Engine::range`] says.
 pub const MIN_COORD: i32 = -1_073_741_824;
 
@@ -39,6 +75,13 @@ pub const MAX_COORD: i32 = 1_073_741_823;
 ///
 /// Where crossings have whole coordinates both return the same. Else the radius within which a crossing is moved to an end
 /// grows less far with 16 bits.
+///
+/// ```
+/// use i_overlay_core::Engine;
+///
+/// assert_eq!("i16".parse(), Ok(Engine::I16));
+/// assert_eq!(Engine::default().to_string(), "i32");
+/// ```
 #[repr(u8)]
 #[derive(Clone, Copy, Debug, Default, PartialEq, Eq, Hash)]
 pub enum Engine {

@@ -1,6 +1,15 @@
-//! Which places count as inside, and which part is kept.
+//! Which points count as inside, and which part is kept.
 
-/// When a place counts as inside, by how often the contours wind round it counterclockwise.
+/// When a point counts as inside, by how often the contours wind around it counterclockwise.
+///
+/// It is written and read as the programs of the repository read it.
+///
+/// ```
+/// use i_overlay_core::FillRule;
+///
+/// assert_eq!(FillRule::EvenOdd.to_string(), "evenodd");
+/// assert_eq!("nonzero".parse(), Ok(FillRule::NonZero));
+/// ```
 #[repr(u8)]
 #[derive(Clone, Copy, Debug, Default, PartialEq, Eq, Hash)]
 pub enum FillRule {
@@ -15,7 +24,16 @@ pub enum FillRule {
     Negative = 3,
 }
 
-/// Which part of the subject and the clip is answered.
+/// Which part of the subject and the clip is returned.
+///
+/// It is written and read as the programs of the repository read it.
+///
+/// ```
+/// use i_overlay_core::{OverlayRule, RuleTable};
+///
+/// assert_eq!(OverlayRule::InverseDifference.to_string(), "inverse-difference");
+/// assert_eq!("table:6".parse(), Ok(OverlayRule::Table(RuleTable::new(6).expect("a number below 16"))));
+/// ```
 #[derive(Clone, Copy, Debug, PartialEq, Eq, Hash)]
 pub enum OverlayRule {
     /// The subject.
@@ -56,7 +74,7 @@ impl OverlayRule {
 /// is its value outside of both, bit 1 inside the subject alone, bit 2 inside the clip alone, and bit 3 inside both.
 ///
 /// A table keeps the segments of whose two sides it says different things. Contours of a table that holds outside of
-/// both wind once less everywhere, since the outside has no boundary of its own: round what it says no of they wind
+/// both wind once less everywhere, since the outside has no boundary of its own: around what it says no of they wind
 /// clockwise.
 #[derive(Clone, Copy, Debug, PartialEq, Eq, Hash)]
 pub struct RuleTable {
@@ -69,7 +87,7 @@ impl RuleTable {
     /// ```
     /// use i_overlay_core::{square, FillRule, Overlay, OverlayRule, RuleTable};
     ///
-    /// let mut overlay = Overlay::with_contours(&[square(0, 4).to_vec()], &[square(2, 6).to_vec()])?;
+    /// let mut overlay = Overlay::with_contours(&[square(0, 4)], &[square(2, 6)])?;
     /// let shared = overlay.overlay(OverlayRule::Intersect, FillRule::NonZero)?;
     /// let both = RuleTable::new(0b1000).expect("a number below 16");
     /// assert_eq!(overlay.overlay(OverlayRule::Table(both), FillRule::NonZero)?, shared);

@@ -20,6 +20,15 @@ impl ShapeCountBoolean {
 }
 
 /// Whether a shape is a subject or a clip.
+///
+/// It is written in a word, and read by that or by the letter with which a line of a program begins.
+///
+/// ```
+/// use i_overlay_core::ShapeType;
+///
+/// assert_eq!(ShapeType::Clip.to_string(), "clip");
+/// assert_eq!(["subject", "S"].map(str::parse), [Ok(ShapeType::Subject), Ok(ShapeType::Subject)]);
+/// ```
 #[repr(u8)]
 #[derive(Clone, Copy, Debug, PartialEq, Eq, Hash)]
 pub enum ShapeType {
@@ -66,7 +75,7 @@ impl ShapeType {
     }
 }
 
-/// A segment from `a` to `b`, with its count. A given one may run either way; in an arrangement `a` stands before `b`.
+/// A segment from `a` to `b`, with its count. A given one may run either way; in an arrangement `a` is before `b`.
 #[repr(C)]
 #[derive(Clone, Copy, Debug, Default, PartialEq, Eq, Hash)]
 pub struct Segment {

@@ -1,6 +1,15 @@
 //! How a split goes about it.
 
-/// How the segments that meet are found. The answer does not depend on it.
+/// How the segments that meet are found. The result does not depend on it.
+///
+/// It is written and read as the programs of the repository read it.
+///
+/// ```
+/// use i_overlay_core::Strategy;
+///
+/// assert_eq!(Strategy::Frag.to_string(), "frag");
+/// assert_eq!("auto".parse(), Ok(Strategy::default()));
+/// ```
 #[repr(u8)]
 #[derive(Clone, Copy, Debug, Default, PartialEq, Eq, Hash)]
 pub enum Strategy {
@@ -16,7 +25,16 @@ pub enum Strategy {
 }
 
 /// How far a crossing may be moved to an end: in pass k within a squared distance of
-/// `2^(start + (k-1) * progression)`.
+/// `2^(start + (k-1) * progression)`. The default is [`Precision::HIGH`].
+///
+/// It is written and read as the programs of the repository read it.
+///
+/// ```
+/// use i_overlay_core::Precision;
+///
+/// assert_eq!(Precision::default().to_string(), "high");
+/// assert_eq!("3,1".parse(), Ok(Precision { start: 3, progression: 1 }));
+/// ```
 #[derive(Clone, Copy, Debug, PartialEq, Eq, Hash)]
 pub struct Precision {
     /// The exponent in the first pass.
@@ -41,6 +59,13 @@ impl Precision {
 }
 
 /// Where an overlay of contours puts crossings of edges that have no whole coordinates.
+///
+/// ```
+/// use i_overlay_core::Rounding;
+///
+/// assert_eq!("pairwise".parse(), Ok(Rounding::Pairwise));
+/// assert_eq!(Rounding::default().to_string(), "hot-pixels");
+/// ```
 #[repr(u8)]
 #[derive(Clone, Copy, Debug, Default, PartialEq, Eq, Hash)]
 pub enum Rounding {
@@ -55,7 +80,20 @@ pub enum Rounding {
     Pairwise = 1,
 }
 
+impl Default for Precision {
+    fn default() -> Precision {
+        Precision::HIGH
+    }
+}
+
 /// A strategy and a precision.
+///
+/// ```
+/// use i_overlay_core::{Precision, Solver, Strategy};
+///
+/// assert_eq!(Solver::default(), Solver { strategy: Strategy::default(), precision: Precision::default() });
+/// assert_eq!(Solver::default(), Solver::AUTO);
+/// ```
 #[derive(Clone, Copy, Debug, PartialEq, Eq, Hash)]
 pub struct Solver {
     /// How the segments that meet are found.

@@ -4,9 +4,9 @@ mod common;
 
 use common::Random;
 use i_overlay_core::{
-    cross, square, Change, ClipRule, CollinearMask, CrossResult, CrossType, DataSegment, Engine, Error, Fault,
-    FillRule, IntPoint, LineSegment, Overlay, OverlayNode, OverlayRule, Precision, RuleTable, Segment, SegmentFault,
-    ShapeCountBoolean, ShapeType, Solver, Strategy, MAX_COORD, MIN_COORD,
+    cross, square, Axis, Change, ClipRule, CollinearMask, CrossResult, CrossType, DataSegment, Engine, Error, Fault,
+    FillRule, IntPoint, LineSegment, Overlay, OverlayNode, OverlayRule, Precision, RangeFault, RuleTable, Segment,
+    SegmentFault, ShapeCountBoolean, ShapeType, Solver, Strategy, MAX_COORD, MIN_COORD,
 };
 use std::collections::HashMap;
 
@@ -29,10 +29,14 @@ fn two_squares() -> Vec<Segment> {
     segments
 }
 
+fn range_fault(axis: Axis, value: i32, bound: i32) -> SegmentFault {
+    SegmentFault::Range(RangeFault { axis, value, bound })
+}
+
 #[test]
 fn two_squares_share_a_square() {
     let mut overlay = Overlay::new().unwrap();
-    let graph = overlay.build_graph(&two_squares(), FillRule::NonZero, OverlayRule::Intersect).unwrap();
+    let graph = overlay.build_graph(&two_squares(), OverlayRule::Intersect, FillRule::NonZero).unwrap();
     let ends: Vec<_> = graph.links().iter().map(|link| (link.a.point, link.b.point, link.fill)).collect();
     let point = IntPoint::new;
     let wanted = [
@@ -49,7 +53,7 @@ fn two_squares_share_a_square() {
 
 /// Segments with numbers that count from a first one.
 fn numbered(segments: &[Segment], first: u64) -> Vec<DataSegment> {
-    segments.iter().zip(first..).map(|(&segment, data)| DataSegment { segment, data }).collect()
+    segments.iter().zip(first..=u64::MAX).map(|(&segment, data)| DataSegment { segment, data }).collect()
 }
 
 /// The sides of the two squares from 0 to 7, each from the left one counterclockwise.
@@ -58,7 +62,7 @@ fn links_tell_the_side_they_came_from() {
     let mut overlay = Overlay::new().unwrap();
     let sides = numbered(&two_squares(), 0);
     let mut data = |rule| {
-        let graph = overlay.build_graph_with_data(&sides, FillRule::NonZero, rule, Solver::AUTO).unwrap();
+        let graph = overlay.build_graph_with_data(&sides, rule, FillRule::NonZero, Solver::AUTO).unwrap();
         assert_eq!(graph.data().len(), graph.links().len());
         graph.data().to_vec()
     };
@@ -66,7 +70,7 @@ fn links_tell_the_side_they_came_from() {
     assert_eq!(data(OverlayRule::Union), [0, 1, 3, 4, 7, 2, 5, 6]);
     assert_eq!(data(OverlayRule::Subject), [0, 1, 3, 3, 2, 2]);
     assert_eq!(overlay.segments().len(), 12);
-    let graph = overlay.build_graph_with_data(&[], FillRule::NonZero, OverlayRule::Union, Solver::AUTO).unwrap();
+    let graph = overlay.build_graph_with_data(&[], OverlayRule::Union, FillRule::NonZero, Solver::AUTO).unwrap();
     assert!(graph.data().is_empty());
 }
 
@@ -75,12 +79,12 @@ fn links_tell_the_side_they_came_from() {
 fn numbers_change_no_graph() {
     let mut overlay = Overlay::new().unwrap();
     let sides = numbered(&two_squares(), u64::MAX - 7);
-    let (fill, rule) = (FillRule::EvenOdd, OverlayRule::Xor);
-    let graph = overlay.build_graph_with_data(&sides, fill, rule, Solver::AUTO).unwrap();
+    let (rule, fill) = (OverlayRule::Xor, FillRule::EvenOdd);
+    let graph = overlay.build_graph_with_data(&sides, rule, fill, Solver::AUTO).unwrap();
     let (links, nodes) = (graph.links().to_vec(), graph.node_count());
     assert!(graph.data().iter().all(|&number| number >= u64::MAX - 7));
     let segments = overlay.segments().to_vec();
-    let plain = overlay.build_graph(&two_squares(), fill, rule).unwrap();
+    let plain = overlay.build_graph(&two_squares(), rule, fill).unwrap();
     assert_eq!((plain.links(), plain.node_count()), (links.as_slice(), nodes));
     assert_eq!(overlay.segments(), segments);
 }
@@ -90,8 +94,8 @@ fn numbers_change_no_graph() {
 fn equal_sides_have_the_number_of_the_first() {
     let mut overlay = Overlay::new().unwrap();
     let mut data = |sides: &[DataSegment]| {
-        let (fill, rule) = (FillRule::NonZero, OverlayRule::Subject);
-        overlay.build_graph_with_data(sides, fill, rule, Solver::AUTO).unwrap().data().to_vec()
+        let (rule, fill) = (OverlayRule::Subject, FillRule::NonZero);
+        overlay.build_graph_with_data(sides, rule, fill, Solver::AUTO).unwrap().data().to_vec()
     };
     let (mut there, mut back) = (Vec::new(), Vec::new());
     ShapeType::Subject.push_contour(&square(0, 4), &mut there);
@@ -109,7 +113,7 @@ fn a_bad_segment_with_a_number() {
     let mut overlay = Overlay::new().unwrap();
     let mut sides = numbered(&two_squares(), 0);
     sides[5].segment.b = sides[5].segment.a;
-    let refused = overlay.build_graph_with_data(&sides, FillRule::NonZero, OverlayRule::Union, Solver::AUTO).err();
+    let refused = overlay.build_graph_with_data(&sides, OverlayRule::Union, FillRule::NonZero, Solver::AUTO).err();
     assert_eq!(refused, Some(Error::Segment { index: 5, fault: SegmentFault::EqualEnds }));
     assert!(overlay.segments().is_empty());
 }
@@ -123,7 +127,7 @@ fn a_line_cut_by_a_square() {
     let mut overlay = Overlay::new().unwrap();
     let mut parts = |invert| {
         let rule = ClipRule { invert, boundary_included: false };
-        let graph = overlay.build_clip(&segments, FillRule::NonZero, rule, Solver::AUTO).unwrap();
+        let graph = overlay.build_clip(&segments, rule, FillRule::NonZero, Solver::AUTO).unwrap();
         let ends = graph.links().iter().map(|link| (link.a.point.x, link.b.point.x));
         ends.collect::<Vec<_>>()
     };
@@ -134,7 +138,7 @@ fn a_line_cut_by_a_square() {
     assert_eq!((lines.len(), sides.len()), (3, 6));
     assert!(lines.iter().all(|part| part.subj == 0 && part.a.y == 5 && part.b.y == 5));
     segments[2].mask = 4;
-    let refused = overlay.build_clip(&segments, FillRule::NonZero, ClipRule::default(), Solver::AUTO).err();
+    let refused = overlay.build_clip(&segments, ClipRule::default(), FillRule::NonZero, Solver::AUTO).err();
     assert_eq!(refused, Some(Error::Segment { index: 2, fault: SegmentFault::Count }));
     assert!(overlay.lines().is_empty());
 }
@@ -159,7 +163,7 @@ fn where_two_segments_meet() {
     assert!(cross(&step(0, 0, 10, 3), &step(0, 10, 7, -10), 1).unwrap().unwrap().is_round);
     let equal = Error::Segment { index: 1, fault: SegmentFault::EqualEnds };
     assert_eq!(cross(&rising, &step(3, 3, 3, 3), 1), Err(equal));
-    let range = Error::Segment { index: 0, fault: SegmentFault::Range };
+    let range = Error::Segment { index: 0, fault: range_fault(Axis::Y, i32::MIN, MIN_COORD) };
     assert_eq!(cross(&step(0, i32::MIN, 1, 1), &rising, 1), Err(range));
 }
 
@@ -186,7 +190,7 @@ fn ends_inside_one_another() {
 fn tables_are_rules() {
     let named = [(10, 0), (12, 1), (8, 2), (14, 3), (2, 4), (4, 5), (6, 6)];
     let mut overlay = Overlay::new().unwrap();
-    let mut links = |rule| overlay.build_graph(&two_squares(), FillRule::NonZero, rule).unwrap().links().to_vec();
+    let mut links = |rule| overlay.build_graph(&two_squares(), rule, FillRule::NonZero).unwrap().links().to_vec();
     for (bits, index) in named {
         let table = |bits| OverlayRule::Table(RuleTable::new(bits).unwrap());
         let wanted = links(RULES[index]);
@@ -221,7 +225,7 @@ fn splits_and_joins() {
 fn contours_of_each_rule() {
     let mut overlay = Overlay::new().unwrap();
     let areas = RULES.map(|rule| {
-        let contours = overlay.build_contours(&two_squares(), FillRule::NonZero, rule, Solver::AUTO).unwrap().unwrap();
+        let contours = overlay.build_contours(&two_squares(), rule, FillRule::NonZero, Solver::AUTO).unwrap().unwrap();
         contours.iter().map(|contour| doubled_area(contour).abs()).sum::<i64>() / 2
     });
     assert_eq!(areas, [16, 16, 4, 28, 12, 12, 24]);
@@ -241,7 +245,7 @@ fn doubled_area(contour: &[IntPoint]) -> i64 {
 fn the_arrangement() {
     let mut overlay = Overlay::new().unwrap();
     assert!(overlay.segments().is_empty());
-    overlay.build_graph(&two_squares(), FillRule::NonZero, OverlayRule::Union).unwrap();
+    overlay.build_graph(&two_squares(), OverlayRule::Union, FillRule::NonZero).unwrap();
     let segments = overlay.segments();
     assert_eq!(segments.len(), 12);
     assert!(segments.iter().all(|segment| segment.a < segment.b));
@@ -250,11 +254,11 @@ fn the_arrangement() {
 #[test]
 fn nothing() {
     let mut overlay = Overlay::new().unwrap();
-    let graph = overlay.build_graph(&[], FillRule::EvenOdd, OverlayRule::Xor).unwrap();
+    let graph = overlay.build_graph(&[], OverlayRule::Xor, FillRule::EvenOdd).unwrap();
     assert!(graph.links().is_empty());
     assert_eq!(graph.node_count(), 0);
     assert_eq!(graph.node(0), None);
-    let contours = overlay.build_contours(&[], FillRule::EvenOdd, OverlayRule::Xor, Solver::AUTO).unwrap();
+    let contours = overlay.build_contours(&[], OverlayRule::Xor, FillRule::EvenOdd, Solver::AUTO).unwrap();
     assert_eq!(contours, Some(Vec::new()));
     assert!(overlay.segments().is_empty());
 }
@@ -269,9 +273,9 @@ fn bad_segments() {
         count: ShapeCountBoolean { subj, clip },
     };
     let cases = [
-        (step((0, 0), (MAX_COORD + 1, 0), 1, 0), SegmentFault::Range),
-        (step((0, MIN_COORD - 1), (1, 0), 1, 0), SegmentFault::Range),
-        (step((i32::MIN, 0), (i32::MAX, 0), 1, 0), SegmentFault::Range),
+        (step((0, 0), (MAX_COORD + 1, 0), 1, 0), range_fault(Axis::X, MAX_COORD + 1, MAX_COORD)),
+        (step((0, MIN_COORD - 1), (1, 0), 1, 0), range_fault(Axis::Y, MIN_COORD - 1, MIN_COORD)),
+        (step((i32::MIN, 0), (i32::MAX, 0), 1, 0), range_fault(Axis::X, i32::MIN, MIN_COORD)),
         (step((7, 7), (7, 7), 1, 0), SegmentFault::EqualEnds),
         (step((0, 0), (1, 0), 0, 0), SegmentFault::Count),
         (step((0, 0), (1, 0), i32::MIN, 0), SegmentFault::Count),
@@ -280,14 +284,30 @@ fn bad_segments() {
     for (bad, fault) in cases {
         let mut segments = good.clone();
         segments.insert(3, bad);
-        let refused = overlay.build_graph(&segments, FillRule::NonZero, OverlayRule::Union).err();
+        let refused = overlay.build_graph(&segments, OverlayRule::Union, FillRule::NonZero).err();
         assert_eq!(refused, Some(Error::Segment { index: 3, fault }));
         assert!(overlay.segments().is_empty());
         // The engine can be used again.
-        assert!(overlay.build_graph(&good, FillRule::NonZero, OverlayRule::Union).is_ok());
+        assert!(overlay.build_graph(&good, OverlayRule::Union, FillRule::NonZero).is_ok());
     }
     let edge = [step((MIN_COORD, MIN_COORD), (MAX_COORD, MAX_COORD), -i32::MAX, i32::MAX)];
-    assert!(overlay.build_graph(&edge, FillRule::NonZero, OverlayRule::Union).is_ok());
+    assert!(overlay.build_graph(&edge, OverlayRule::Union, FillRule::NonZero).is_ok());
+}
+
+/// The text of an error says what is wrong, and what to do.
+#[test]
+fn texts_of_errors() {
+    let mut overlay = Overlay::new().unwrap();
+    let mut text = |a, b, subj, clip| {
+        let segment = Segment { a: IntPoint::from(a), b: IntPoint::from(b), count: ShapeCountBoolean { subj, clip } };
+        overlay.split(&[segment], Solver::AUTO).unwrap_err().to_string()
+    };
+    assert_eq!(text((0, 0), (1, MIN_COORD - 1), 1, 0), "segment 0: y is -1073741825, the least is -1073741824");
+    assert_eq!(text((7, 7), (7, 7), 1, 0), "segment 0: both ends are one point; leave it out");
+    let counts =
+        "its counts have to be from -2147483647 to 2147483647, one of them not 0 (of a line: a mask from 1 to 3)";
+    assert_eq!(text((0, 0), (1, 0), 0, 0), format!("segment 0: {counts}"));
+    assert_eq!(Fault::Memory.to_string(), "out of memory; the overlay can be used again");
 }
 
 /// The engine of 16 bits takes its whole range and no more, and names the segment that leaves it.
@@ -299,19 +319,24 @@ fn the_range_of_each_engine() {
     let widest = step((-16_384, 16_383), (16_383, -16_384));
     assert!(!overlay.split(&[widest], Solver::AUTO).unwrap().has_changed);
     assert_eq!(overlay.segments(), [widest]);
-    let range = |index| Err(Error::Segment { index, fault: SegmentFault::Range });
-    for bad in [step((0, 0), (16_384, 0)), step((0, -16_385), (1, 0)), step((i32::MIN, 0), (65_536, 0))] {
+    let cases = [
+        (step((0, 0), (16_384, 0)), range_fault(Axis::X, 16_384, 16_383)),
+        (step((0, -16_385), (1, 0)), range_fault(Axis::Y, -16_385, -16_384)),
+        (step((i32::MIN, 0), (65_536, 0)), range_fault(Axis::X, i32::MIN, -16_384)),
+    ];
+    for (bad, fault) in cases {
+        let range = |index| Err(Error::Segment { index, fault });
         let given = [widest, bad];
         assert_eq!(overlay.split(&given, Solver::AUTO), range(1));
         assert!(overlay.segments().is_empty());
         assert_eq!(overlay.join(&given), range(1));
         assert_eq!(overlay.build_all(&given, FillRule::NonZero, Solver::AUTO).err(), range(1).err());
         let data =
-            overlay.build_graph_with_data(&numbered(&given, 0), FillRule::NonZero, OverlayRule::Union, Solver::AUTO);
+            overlay.build_graph_with_data(&numbered(&given, 0), OverlayRule::Union, FillRule::NonZero, Solver::AUTO);
         assert_eq!(data.err(), range(1).err());
         let line = LineSegment::line(bad.a, bad.b);
         assert_eq!(
-            overlay.build_clip(&[line], FillRule::NonZero, ClipRule::default(), Solver::AUTO).err(),
+            overlay.build_clip(&[line], ClipRule::default(), FillRule::NonZero, Solver::AUTO).err(),
             range(0).err()
         );
     }
@@ -324,13 +349,13 @@ fn the_range_of_each_engine() {
 fn both_engines_on_exact_input() {
     let [mut wide, mut narrow] = [Engine::I32, Engine::I16].map(|engine| Overlay::new().unwrap().with_engine(engine));
     let sides = numbered(&two_squares(), 3);
-    for (fill, rule) in FILLS.iter().flat_map(|&fill| RULES.map(|rule| (fill, rule))) {
-        let first = wide.build_graph_with_data(&sides, fill, rule, Solver::AUTO).unwrap();
-        let second = narrow.build_graph_with_data(&sides, fill, rule, Solver::AUTO).unwrap();
+    for (rule, fill) in FILLS.iter().flat_map(|&fill| RULES.map(|rule| (rule, fill))) {
+        let first = wide.build_graph_with_data(&sides, rule, fill, Solver::AUTO).unwrap();
+        let second = narrow.build_graph_with_data(&sides, rule, fill, Solver::AUTO).unwrap();
         assert_eq!((first.links(), first.data()), (second.links(), second.data()));
         assert!(first.nodes().eq(second.nodes()));
         assert_eq!(wide.segments(), narrow.segments());
-        let contours = |overlay: &mut Overlay| overlay.build_contours(&two_squares(), fill, rule, Solver::AUTO);
+        let contours = |overlay: &mut Overlay| overlay.build_contours(&two_squares(), rule, fill, Solver::AUTO);
         assert_eq!(contours(&mut wide), contours(&mut narrow));
     }
 }
@@ -340,9 +365,12 @@ fn counts_that_leave_the_range() {
     let mut overlay = Overlay::new().unwrap();
     let (a, b) = (IntPoint::ZERO, IntPoint::new(5, 0));
     let big = Segment { a, b, count: ShapeCountBoolean { subj: i32::MAX, clip: 0 } };
-    let refused = overlay.build_graph(&[big, big], FillRule::NonZero, OverlayRule::Union).err();
+    let refused = overlay.build_graph(&[big, big], OverlayRule::Union, FillRule::NonZero).err();
     assert_eq!(refused, Some(Error::Fault(Fault::CountOutOfRange)));
-    assert_eq!(refused.unwrap().to_string(), "count out of range");
+    assert_eq!(
+        refused.unwrap().to_string(),
+        "a sum of winding counts leaves -2147483647..=2147483647; give smaller counts"
+    );
 }
 
 /// The arrangement stands where the graph alone is refused, and nothing does where the split is.
@@ -354,12 +382,12 @@ fn what_stands_after_a_refusal() {
     let fault = Some(Error::Fault(Fault::CountOutOfRange));
     let stacked = [step(0), step(3)];
     let mut refused = |given: &[Segment]| {
-        let graph = overlay.build_graph(given, FillRule::NonZero, OverlayRule::Union).err();
+        let graph = overlay.build_graph(given, OverlayRule::Union, FillRule::NonZero).err();
         let kept = overlay.segments().to_vec();
         let all = overlay.build_all(given, FillRule::NonZero, Solver::AUTO).err();
         assert_eq!((graph, all, overlay.segments()), (fault, fault, kept.as_slice()));
         let sides = numbered(given, 0);
-        let data = overlay.build_graph_with_data(&sides, FillRule::NonZero, OverlayRule::Union, Solver::AUTO).err();
+        let data = overlay.build_graph_with_data(&sides, OverlayRule::Union, FillRule::NonZero, Solver::AUTO).err();
         assert_eq!((data, overlay.segments()), (fault, kept.as_slice()));
         kept
     };
@@ -391,9 +419,9 @@ fn nothing_stands_after_a_refused_join() {
 fn a_path_that_does_not_close() {
     let mut overlay = Overlay::new().unwrap();
     let open = &two_squares()[..3];
-    let contours = overlay.build_contours(open, FillRule::NonZero, OverlayRule::Subject, Solver::AUTO);
+    let contours = overlay.build_contours(open, OverlayRule::Subject, FillRule::NonZero, Solver::AUTO);
     assert_eq!(contours, Ok(None));
-    assert!(overlay.build_graph(open, FillRule::NonZero, OverlayRule::Subject).is_ok());
+    assert!(overlay.build_graph(open, OverlayRule::Subject, FillRule::NonZero).is_ok());
 }
 
 #[test]
@@ -411,7 +439,7 @@ fn random_polygons() {
         }
         for fill in FILLS {
             for rule in RULES {
-                well_formed(&mut overlay, &segments, fill, rule);
+                well_formed(&mut overlay, &segments, rule, fill);
             }
         }
     }
@@ -419,8 +447,8 @@ fn random_polygons() {
 
 /// Looks at an answer: links in order, ends at nodes in order, indexes that fit, even nodes, walks that pass each link
 /// once, and the same answer by each strategy.
-fn well_formed(overlay: &mut Overlay, segments: &[Segment], fill: FillRule, rule: OverlayRule) {
-    let graph = overlay.build_graph(segments, fill, rule).unwrap();
+fn well_formed(overlay: &mut Overlay, segments: &[Segment], rule: OverlayRule, fill: FillRule) {
+    let graph = overlay.build_graph(segments, rule, fill).unwrap();
     let links = graph.links().to_vec();
     assert!(links.windows(2).all(|pair| (pair[0].a.point, pair[0].b.point) < (pair[1].a.point, pair[1].b.point)));
     let mut points = HashMap::new();
@@ -437,11 +465,11 @@ fn well_formed(overlay: &mut Overlay, segments: &[Segment], fill: FillRule, rule
         assert!(indexes.iter().all(|&index| links[index].a.id == id || links[index].b.id == id));
         assert!(id == 0 || points[&(id - 1)] < points[&id]);
     }
-    let contours = overlay.build_contours(segments, fill, rule, Solver::AUTO).unwrap().unwrap();
+    let contours = overlay.build_contours(segments, rule, fill, Solver::AUTO).unwrap().unwrap();
     assert_eq!(contours.iter().map(Vec::len).sum::<usize>(), links.len());
     for strategy in [Strategy::List, Strategy::Tree, Strategy::Frag] {
         let solver = Solver { strategy, precision: Precision::HIGH };
-        let again = overlay.build_graph_with_solver(segments, fill, rule, solver).unwrap();
+        let again = overlay.build_graph_with_solver(segments, rule, fill, solver).unwrap();
         assert_eq!(again.links(), links);
     }
 }

@@ -30,11 +30,11 @@ fn in_little_space() {
         shape.push_contour(&square(2 * at, 2 * at + 3), &mut segments);
     }
     let mut overlay = Overlay::new().unwrap();
-    let refused = overlay.build_graph(&segments, FillRule::NonZero, OverlayRule::Union).err();
+    let refused = overlay.build_graph(&segments, OverlayRule::Union, FillRule::NonZero).err();
     assert_eq!(refused, Some(Error::Fault(Fault::Memory)));
     assert!(overlay.segments().is_empty());
     let few = &segments[..8];
-    let graph = overlay.build_graph(few, FillRule::NonZero, OverlayRule::Intersect).unwrap();
+    let graph = overlay.build_graph(few, OverlayRule::Intersect, FillRule::NonZero).unwrap();
     let points: Vec<IntPoint> = graph.links().iter().map(|link| link.a.point).collect();
     assert_eq!(points, [(2, 2), (2, 2), (2, 3), (3, 2)].map(|(x, y)| IntPoint::new(x, y)));
 }

@@ -4,8 +4,8 @@ mod common;
 
 use common::Random;
 use i_overlay_core::{
-    square, Error, FillRule, IntContour, IntPoint, Overlay, OverlayRule, Precision, Rounding, RuleTable, ShapeType,
-    Solver, Strategy, MAX_COORD, MIN_COORD,
+    square, Axis, Error, FillRule, IntContour, IntPoint, Overlay, OverlayRule, Precision, RangeFault, Rounding,
+    RuleTable, ShapeType, Solver, Strategy, MAX_COORD, MIN_COORD,
 };
 
 /// Twice the area to the left of contours.
@@ -132,7 +132,7 @@ fn an_overlay_tells_its_reach() {
 fn each_strategy_answers_the_same() {
     let mut random = Random(5);
     for _ in 0..50 {
-        let mut contour = || (0..40).map(|_| IntPoint::new(random.below(60), random.below(60))).collect();
+        let mut contour = || [0; 40].map(|_| IntPoint::new(random.below(60), random.below(60)));
         let mut overlay = Overlay::with_contours(&[contour(), contour()], &[contour()]).unwrap();
         let wanted = overlay.overlay(OverlayRule::Xor, FillRule::EvenOdd).unwrap();
         for strategy in [Strategy::List, Strategy::Tree, Strategy::Frag] {
@@ -149,14 +149,15 @@ fn contours_out_of_range() {
     overlay.add_contour(&square(MIN_COORD, MAX_COORD), ShapeType::Clip).unwrap();
     let bad = [(0, 0), (5, 0), (0, MAX_COORD + 1), (i32::MIN, 0)].map(|(x, y)| IntPoint::new(x, y));
     let refused = overlay.add_contour(&bad, ShapeType::Clip).unwrap_err();
-    assert_eq!(refused, Error::Point { shape_type: ShapeType::Clip, contour: 1, point: 2 });
-    assert_eq!(refused.to_string(), "point 2 of contour 1 of the clip: range");
+    let fault = RangeFault { axis: Axis::Y, value: MAX_COORD + 1, bound: MAX_COORD };
+    assert_eq!(refused, Error::Point { shape_type: ShapeType::Clip, contour: 1, point: 2, fault });
+    assert_eq!(refused.to_string(), "contour 1 of the clip, point 2: y is 1073741824, the greatest is 1073741823");
     // nothing was added
     assert_eq!(overlay.overlay(OverlayRule::Union, FillRule::NonZero).unwrap().len(), 1);
     assert_eq!(area(&mut overlay, OverlayRule::Clip), i64::from(u32::MAX >> 1).pow(2));
     overlay.clear();
     let refused = overlay.add_contour(&bad[2..], ShapeType::Clip).unwrap_err();
-    assert_eq!(refused, Error::Point { shape_type: ShapeType::Clip, contour: 0, point: 0 });
+    assert_eq!(refused, Error::Point { shape_type: ShapeType::Clip, contour: 0, point: 0, fault });
 }
 
 #[test]
@@ -167,13 +168,79 @@ fn few_points() {
     assert_eq!(overlay.overlay(OverlayRule::Subject, FillRule::EvenOdd).unwrap(), Vec::<IntContour>::new());
 }
 
+/// Two squares, the smaller one a hole in the other, in each of the ways in which their rings may run, closed by a repeated
+/// point or not.
+#[test]
+fn rings_of_a_polygon_are_turned() {
+    let ring = |low, high, is_reversed: bool, is_closed: bool| {
+        let mut points = square(low, high).to_vec();
+        if is_reversed {
+            points.reverse();
+        }
+        if is_closed {
+            points.push(points[0]);
+        }
+        points
+    };
+    let mut overlay = Overlay::new().unwrap();
+    for bits in 0..16 {
+        let is = |bit: i32| bits >> bit & 1 == 1;
+        let (outer, holes) = (ring(0, 9, is(0), is(1)), [ring(3, 6, is(2), is(3))]);
+        for shape_type in [ShapeType::Subject, ShapeType::Clip] {
+            let rule = if shape_type == ShapeType::Subject { OverlayRule::Subject } else { OverlayRule::Clip };
+            overlay.clear();
+            overlay.add_polygon(&outer, &holes, shape_type).unwrap();
+            for fill_rule in [FillRule::EvenOdd, FillRule::NonZero, FillRule::Positive] {
+                let shapes = overlay.overlay_shapes(rule, fill_rule).unwrap();
+                assert_eq!(shapes.iter().map(Vec::len).collect::<Vec<_>>(), [2]);
+                assert_eq!(doubled_area(&shapes[0]), 2 * (81 - 9));
+            }
+            assert!(overlay.overlay(rule, FillRule::Negative).unwrap().is_empty());
+        }
+    }
+}
+
+#[test]
+fn rings_without_area() {
+    let point = IntPoint::new(4, 4);
+    let rings = [vec![], vec![point], vec![point; 2], vec![point; 3], vec![IntPoint::ZERO, point, IntPoint::ZERO]];
+    let mut overlay = Overlay::new().unwrap();
+    for outer in &rings {
+        overlay.add_polygon(outer, &rings, ShapeType::Subject).unwrap();
+    }
+    assert!(overlay.overlay(OverlayRule::Subject, FillRule::EvenOdd).unwrap().is_empty());
+    // they count as contours all the same
+    let bad = IntPoint::new(MAX_COORD + 1, 0);
+    let refused = overlay.add_contour(&[bad], ShapeType::Subject).unwrap_err();
+    assert!(matches!(refused, Error::Point { contour: 30, point: 0, .. }));
+}
+
+/// The index of a point is that of the given ring, and nothing is added.
+#[test]
+fn polygons_out_of_range() {
+    let mut overlay = Overlay::new().unwrap();
+    overlay.add_contour(&square(0, 1), ShapeType::Clip).unwrap();
+    let mut hole = square(3, 6);
+    hole[1].x = MAX_COORD + 1;
+    let refused = overlay.add_polygon(&square(0, 9), &[square(1, 2), hole], ShapeType::Clip).unwrap_err();
+    assert!(matches!(refused, Error::Point { shape_type: ShapeType::Clip, contour: 3, point: 1, .. }));
+    assert_eq!(area(&mut overlay, OverlayRule::Clip), 1);
+}
+
+#[test]
+fn an_overlay_is_shown() {
+    let overlay = Overlay::with_contours(&[square(0, 4), square(6, 9)], &[square(2, 6)]).unwrap();
+    let shown = format!("{overlay:?}");
+    assert_eq!(shown, "Overlay { engine: I32, rounding: HotPixels, contour_counts: [2, 1], passes: 0, reach: 0, .. }");
+}
+
 /// Segments that are split in between leave the contours as they are.
 #[test]
 fn contours_and_segments_by_turns() {
     let mut overlay = Overlay::with_contours(&[square(0, 4).to_vec()], &[square(2, 6).to_vec()]).unwrap();
     let mut segments = Vec::new();
     ShapeType::Subject.push_contour(&square(0, 9), &mut segments);
-    overlay.build_graph(&segments, FillRule::NonZero, OverlayRule::Subject).unwrap();
+    overlay.build_graph(&segments, OverlayRule::Subject, FillRule::NonZero).unwrap();
     assert_eq!(area(&mut overlay, OverlayRule::Union), 28);
     assert_eq!(overlay.segments().len(), 4);
 }

@@ -84,11 +84,11 @@ fn split_text(overlay: &mut Overlay, segments: &[Segment], solver: Solver) -> St
 fn graph_text(
     overlay: &mut Overlay,
     segments: &[Segment],
-    fill: FillRule,
     rule: OverlayRule,
+    fill: FillRule,
     solver: Solver,
 ) -> String {
-    let graph = overlay.build_graph_with_solver(segments, fill, rule, solver).unwrap();
+    let graph = overlay.build_graph_with_solver(segments, rule, fill, solver).unwrap();
     let mut text = String::new();
     let mut points = vec![IntPoint::ZERO; graph.node_count()];
     for link in graph.links() {
@@ -162,7 +162,7 @@ fn package_and_program_agree() {
         let lines = lines_of(&segments);
         let split = split_text(&mut overlay, &segments, solver);
         assert_eq!(split, printed(&words("split"), &lines), "round {round}, {chosen:?}:\n{lines}");
-        let graph = graph_text(&mut overlay, &segments, fill.1, rule.1, solver);
+        let graph = graph_text(&mut overlay, &segments, rule.1, fill.1, solver);
         assert_eq!(graph, printed(&words("graph"), &lines), "round {round}, {chosen:?}:\n{lines}");
     }
 }

@@ -190,7 +190,7 @@ fn ends_on_the_border_of_a_column() {
 fn no_lines() {
     let mut overlay = Overlay::new().unwrap();
     for fill in [FillRule::EvenOdd, FillRule::NonZero, FillRule::Positive, FillRule::Negative] {
-        let graph = overlay.build_clip(&[], fill, ClipRule::default(), Solver::AUTO).unwrap();
+        let graph = overlay.build_clip(&[], ClipRule::default(), fill, Solver::AUTO).unwrap();
         assert!(graph.links().is_empty());
         assert_eq!(graph.node_count(), 0);
     }
@@ -204,7 +204,7 @@ fn clipped(contour: &[IntPoint], line: &[IntPoint], invert: bool) -> Vec<(IntPoi
     let segments: Vec<LineSegment> = sides.chain(steps).collect();
     let rule = ClipRule { invert, boundary_included: false };
     let mut overlay = Overlay::new().unwrap();
-    let graph = overlay.build_clip(&segments, FillRule::NonZero, rule, Solver::AUTO).unwrap();
+    let graph = overlay.build_clip(&segments, rule, FillRule::NonZero, Solver::AUTO).unwrap();
     graph.links().iter().map(|link| (link.a.point, link.b.point)).collect()
 }
 
