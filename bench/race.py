@@ -3,7 +3,7 @@
 
 Usage, from the top of the repository: python3 bench/race.py --upstream PROGRAM [--turns N] [--words WORD,WORD] [NUMBER ..]
 
-PROGRAM is built from the files of i_overlay 9.0.1, and takes the commands, words and lines of `arrange`. Each kind is made of
+bench/upstream/build.py builds PROGRAM from the files of i_overlay 9.0.1. It takes the commands, words and lines of `arrange`. Each kind is made of
 the given numbers of edges (1,000, 4,000, 16,000 and 50,000 if none are given). For each a row of a table is printed: kind,
 edges, the least wall time of nine runs of each program in turns, in milliseconds, text included, and how many times as long this
 repository's program took. Both have to print the same.

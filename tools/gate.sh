@@ -15,7 +15,7 @@ trap 'rm -rf "$room"' EXIT
 # Copies the tree, and its edits apart from it.
 copy_tree() {
     mkdir "$room/copy" "$room/edits"
-    tar -c --exclude=./.git --exclude='./crates/*/out' --exclude=./rust/target . | tar -x -C "$room/copy"
+    tar -c --exclude=./.git --exclude='./crates/*/out' --exclude='./bench/*/out' --exclude=./rust/target . | tar -x -C "$room/copy"
     for folder in "$room"/copy/crates/*/must-fail; do
         mv "$folder" "$room/edits/$(basename "$(dirname "$folder")")"
     done

@@ -1,0 +1,105 @@
+//! The race over our package: the words of a command line, and the line that it prints, are those of `../cpp/race.h`; a
+//! last word `pairwise` chooses that rounding. Each run makes an `Overlay`, adds the contours, and overlays them.
+
+use i_overlay_core::{Error, FillRule, IntContour, IntPoint, Overlay, OverlayRule, Rounding};
+use std::time::Instant;
+
+#[repr(C)]
+struct Timespec {
+    seconds: i64,
+    nanoseconds: i64,
+}
+
+extern "C" {
+    fn clock_gettime(clock: i32, time: *mut Timespec) -> i32;
+}
+
+/// The processor's milliseconds of this thread.
+fn cpu() -> f64 {
+    let mut time = Timespec { seconds: 0, nanoseconds: 0 };
+    // SAFETY: `time` is a `struct timespec` of 64-bit Linux, and 3 is its CLOCK_THREAD_CPUTIME_ID
+    unsafe { clock_gettime(3, &mut time) };
+    time.seconds as f64 * 1e3 + time.nanoseconds as f64 / 1e6
+}
+
+/// The most memory of this process so far, in KiB.
+fn most_memory() -> String {
+    let text = std::fs::read_to_string("/proc/self/status").unwrap_or_default();
+    let most = text.lines().find_map(|line| line.strip_prefix("VmHWM:"));
+    most.map_or("0".to_string(), |number| number.trim_end_matches("kB").trim().to_string())
+}
+
+/// The contours of the subject and of the clip.
+fn read(path: &str) -> [Vec<IntContour>; 2] {
+    let mut shapes = [Vec::new(), Vec::new()];
+    for line in std::fs::read_to_string(path).expect("a file").lines() {
+        let (shape, numbers) = line.split_at(1);
+        let numbers: Vec<i32> = numbers.split_ascii_whitespace().map(|it| it.parse().expect("a number")).collect();
+        shapes[usize::from(shape == "C")].push(numbers.chunks(2).map(|it| IntPoint::new(it[0], it[1])).collect());
+    }
+    shapes
+}
+
+fn twice_area(contour: &[IntPoint]) -> i128 {
+    let next = contour.iter().cycle().skip(1);
+    contour.iter().zip(next).map(|(a, b)| a.x as i128 * b.y as i128 - a.y as i128 * b.x as i128).sum()
+}
+
+fn rule(word: &str) -> OverlayRule {
+    match word {
+        "union" => OverlayRule::Union,
+        "intersect" => OverlayRule::Intersect,
+        "difference" => OverlayRule::Difference,
+        _ => OverlayRule::Xor,
+    }
+}
+
+fn length(contour: &[IntPoint]) -> f64 {
+    let next = contour.iter().cycle().skip(1);
+    contour.iter().zip(next).map(|(a, b)| (b.x as f64 - a.x as f64).hypot(b.y as f64 - a.y as f64)).sum()
+}
+
+/// The result of some runs, and the least milliseconds of one: the processor's, and those on the wall.
+fn measure(
+    runs: usize,
+    seconds: f64,
+    mut call: impl FnMut() -> Result<Vec<IntContour>, Error>,
+) -> (Vec<IntContour>, f64, f64) {
+    let mut found = (Vec::new(), f64::INFINITY, f64::INFINITY);
+    let begin = Instant::now();
+    for run in 0..runs {
+        if run > 0 && begin.elapsed().as_secs_f64() > seconds {
+            break;
+        }
+        // what the last run returned is freed before the next one begins
+        drop(std::mem::take(&mut found.0));
+        let (wall, used) = (Instant::now(), cpu());
+        let result = call();
+        found.1 = found.1.min(cpu() - used);
+        found.2 = found.2.min(wall.elapsed().as_secs_f64() * 1e3);
+        found.0 = result.unwrap_or_else(|fault| {
+            eprintln!("{fault}");
+            std::process::exit(7)
+        });
+    }
+    found
+}
+
+fn main() {
+    let words: Vec<String> = std::env::args().collect();
+    let rule = rule(&words[1]);
+    let [subject, clip] = read(&words[2]);
+    let runs = words[3].parse().expect("a number of runs");
+    let seconds = words[4].parse().expect("a number of seconds");
+    let rounding = if words.len() > 5 { Rounding::Pairwise } else { Rounding::HotPixels };
+    let before = most_memory();
+    let (contours, cpu, wall) = measure(runs, seconds, || {
+        Overlay::with_contours(&subject, &clip)?.with_rounding(rounding).overlay(rule, FillRule::NonZero)
+    });
+    let after = most_memory();
+    let (count, points) = (contours.len(), contours.iter().map(Vec::len).sum::<usize>());
+    let area: i128 = contours.iter().map(|it| twice_area(it)).sum();
+    let length: f64 = contours.iter().map(|it| length(it)).sum();
+    print!("cpu={cpu:.3} wall={wall:.3} prepare=0 contours={count} points={points} area2={area} length={length:.0}");
+    println!(" before={before} after={after}");
+}
