@@ -15,7 +15,7 @@ trap 'rm -rf "$room"' EXIT
 # Copies the tree, and its edits apart from it.
 copy_tree() {
     mkdir "$room/copy" "$room/edits"
-    tar -c --exclude=./.git --exclude='./crates/*/out' --exclude='./bench/*/out' --exclude=./rust/target . | tar -x -C "$room/copy"
+    tar -c --exclude=./.git --exclude='./crates/*/out' --exclude='./bench/*/out' --exclude=./rust/target --exclude=./c/out . | tar -x -C "$room/copy"
     for folder in "$room"/copy/crates/*/must-fail; do
         mv "$folder" "$room/edits/$(basename "$(dirname "$folder")")"
     done
@@ -38,6 +38,14 @@ test_package() {
     (cd rust && cargo test --release --offline --quiet && cargo test --release --offline --quiet --test program -- --ignored)
 }
 
+# Builds the checked calls for C over that archive, runs the example under sanitizers, where the compiler has them, and the tests of
+# the package for Python over the shared library.
+test_calls() {
+    make --no-print-directory -C c OUT="$room/c" all test >"$room/calls" 2>&1 || { cat "$room/calls"; return 1; }
+    OVERLAY_CORE="$room/c/liboverlay_core.so" PYTHONPATH=python python3 -B -m unittest discover -s python/tests >"$room/calls" 2>&1 \
+        || { cat "$room/calls"; return 1; }
+}
+
 copy_tree
 if [[ ${1:-} == --since && $# == 2 ]]; then
     drop_edits_before "$2"
@@ -53,6 +61,7 @@ export RT_JOBS
 
 python3 tools/check_docs.py
 python3 tools/unused_lemmas.py
+python3 tools/c_header.py --check
 cd "$room/copy"
 lines="$room/lines"
 status=0
@@ -86,6 +95,18 @@ if [[ $verdict =~ ^([0-9]+)\ passed,\ ([0-9]+)\ failed(.*)$ ]]; then
             passed=$((passed + 1))
         else
             printf '%5d s: the tests of rust/ FAILED\n' "$SECONDS"
+            failed=$((failed + 1)) status=1
+        fi
+        if ! { command -v gcc && command -v make; } >/dev/null; then
+            printf '%5d s: the tests of c/ and python/ were not run: there is no gcc or no make\n' "$SECONDS"
+        elif ! [[ -f crates/overlay_c/out/liboverlay_core.a ]] && ! python3 tools/archive.py --after-ci >"$room/archive" 2>&1; then
+            cat "$room/archive"
+            failed=$((failed + 1)) status=1
+        elif test_calls; then
+            printf '%5d s: the tests of c/ and python/ passed\n' "$SECONDS"
+            passed=$((passed + 1))
+        else
+            printf '%5d s: the tests of c/ and python/ FAILED\n' "$SECONDS"
             failed=$((failed + 1)) status=1
         fi
         wait "$trying" || status=1

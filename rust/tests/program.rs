@@ -1,6 +1,8 @@
-//! The same random segments through this package and through the program `arrange`: the texts are the same, byte for byte.
+//! The same random segments through this package and through the program `arrange`, and through upstream's files: the texts are
+//! the same, byte for byte.
 //!
-//! `ARRANGE` names the program; `rt run` leaves it in `crates/arrange/out`.
+//! `ARRANGE` names the program; `rt run` leaves it in `crates/arrange/out`. `UPSTREAM` names the program that
+//! `bench/upstream/build.py` makes.
 
 mod common;
 
@@ -165,4 +167,101 @@ fn package_and_program_agree() {
         let graph = graph_text(&mut overlay, &segments, rule.1, fill.1, solver);
         assert_eq!(graph, printed(&words("graph"), &lines), "round {round}, {chosen:?}:\n{lines}");
     }
+}
+
+/// What upstream's program prints of many runs.
+fn printed_by_upstream(runs: String) -> String {
+    let program = std::env::var("UPSTREAM").expect("UPSTREAM names the program");
+    let mut child = Command::new(program)
+        .arg("runs")
+        .stdin(Stdio::piped())
+        .stdout(Stdio::piped())
+        .spawn()
+        .expect("the program starts");
+    child.stdin.take().expect("piped").write_all(runs.as_bytes()).expect("the program reads");
+    let output = child.wait_with_output().expect("the program ends");
+    assert!(output.status.success(), "{}: {runs}", output.status);
+    String::from_utf8(output.stdout).expect("text")
+}
+
+/// 2 to 14 segments: on a small lattice, of contours, nearly parallel, or between points at the limits of an engine.
+fn few_segments(random: &mut Random, width: i32) -> Vec<Segment> {
+    let kind = random.below(4);
+    let span = *pick(random, &[3, 6, 12, 40, 2000]);
+    let far = width / 2 - 1;
+    let coordinate = |random: &mut Random| match (kind, random.below(4)) {
+        (3, 0) => far - random.below(3),
+        (3, 1) => -far + random.below(3),
+        (3, 2) => random.below(5) - 2,
+        (3, _) => random.below(width - 2) - far,
+        _ => random.below(span) - span / 2,
+    };
+    let mut segments: Vec<Segment> = Vec::new();
+    for _ in 0..2 + random.below(13) {
+        let a = match (kind, segments.last()) {
+            (1, Some(last)) => last.b,
+            (2, _) => IntPoint::new(random.below(2000) - 2000, random.below(7) - 3),
+            _ => IntPoint::new(coordinate(random), coordinate(random)),
+        };
+        let b = match kind {
+            2 => IntPoint::new(random.below(2000), random.below(7) - 3),
+            _ => IntPoint::new(coordinate(random), coordinate(random)),
+        };
+        let shape = if random.below(2) == 0 { ShapeType::Subject } else { ShapeType::Clip };
+        segments.push(Segment { a, b, count: shape.direct_count() });
+    }
+    segments.truncate(if kind == 2 { 4 } else { 14 });
+    segments.retain(|it| it.a != it.b);
+    segments
+}
+
+/// 100,000 runs, or as many as `RUNS` says, from the seed `SEED`. Left out are those in which upstream takes more than 256 passes, and
+/// those of at most two segments under a tree or a grid, which upstream does not split.
+#[test]
+#[ignore = "needs the program of bench/upstream, which UPSTREAM names"]
+fn package_and_upstream_agree() {
+    let number = |name: &str, default: u64| std::env::var(name).map_or(default, |text| text.parse().expect("a number"));
+    let (runs, mut random) = (number("RUNS", 100_000), Random(number("SEED", 1)));
+    let mut overlay = Overlay::new().unwrap();
+    let (mut compared, chunk) = (0, 500);
+    for _ in 0..runs.div_ceil(chunk) {
+        let (mut given, mut wanted) = (String::new(), Vec::new());
+        for _ in 0..chunk {
+            let (engine, strategy) = (*pick(&mut random, &ENGINES), *pick(&mut random, &STRATEGIES));
+            let (precision, fill) = (*pick(&mut random, &PRECISIONS), *pick(&mut random, &FILLS));
+            let rule = *pick(&mut random, &RULES);
+            let segments = few_segments(&mut random, engine.2);
+            let lines = format!(
+                "engine={} strategy={} precision={} fill={} rule={}\n{}\n",
+                engine.0,
+                strategy.0,
+                precision.0,
+                fill.0,
+                rule.0,
+                lines_of(&segments)
+            );
+            overlay = overlay.with_engine(engine.1);
+            let solver = Solver { strategy: strategy.1, precision: precision.1 };
+            overlay.join(&segments).unwrap();
+            let has_pass = overlay.segments().len() > 2 || matches!(strategy.1, Strategy::List | Strategy::Auto);
+            let passes = overlay.split(&segments, solver).unwrap().passes;
+            if has_pass && passes < 256 && overlay.segments().len() < 4000 {
+                let split = split_text(&mut overlay, &segments, solver);
+                wanted.push((lines.clone(), split + &graph_text(&mut overlay, &segments, rule.1, fill.1, solver)));
+                given.push_str(&lines);
+            }
+        }
+        compared += wanted.len();
+        let printed = printed_by_upstream(given);
+        let mut texts = printed.split_inclusive("end\n");
+        for (lines, wanted) in wanted {
+            let text = texts.next().expect("a text for each run");
+            assert!(
+                text == "no end\n" || text == wanted.clone() + "end\n",
+                "{lines}\nhere:\n{wanted}\nupstream:\n{text}"
+            );
+        }
+    }
+    println!("{compared} of {runs} runs compared");
+    assert!(compared as u64 >= runs * 8 / 10, "only {compared} were compared");
 }

@@ -7,6 +7,7 @@ use crate::core::integer::OverlayInt;
 use crate::core::overlay::IntOverlayOptions;
 use crate::lines::{read, segments, BooleanSegment, Line};
 use crate::passes;
+use crate::runs;
 use crate::segm::boolean::ShapeCountBoolean;
 use crate::segm::merge::ShapeSegmentsMerge;
 use crate::segm::sort::ShapeSegmentsSort;
@@ -18,7 +19,8 @@ use i_float::int::number::int::IntNumber;
 use std::fmt::Write;
 
 const USAGE: &str = "usage: arrange join|cross|split|graph [name=value ..]
-       arrange bench - - list|tree|frag|auto [name=value ..]";
+       arrange bench - - list|tree|frag|auto [name=value ..]
+       arrange runs";
 
 pub(crate) fn usage() -> Stop {
     Stop(2, USAGE.to_string())
@@ -29,6 +31,7 @@ pub(crate) fn run(words: &[String]) -> Outcome<String> {
     let (command, rest) = words.split_first().ok_or_else(usage)?;
     match command.as_str() {
         "bench" => bench::run(rest),
+        "runs" if rest.is_empty() => runs::run(),
         "join" | "cross" | "split" | "graph" => {
             let settings = settings(rest).ok_or_else(usage)?;
             let lines = read(settings.is_wide)?;
@@ -42,7 +45,7 @@ pub(crate) fn run(words: &[String]) -> Outcome<String> {
     }
 }
 
-fn text<I>(command: &str, settings: &Settings, lines: &[Line]) -> Outcome<String>
+pub(crate) fn text<I>(command: &str, settings: &Settings, lines: &[Line]) -> Outcome<String>
 where
     I: OverlayInt + IntNumber<Wide = i64, WideUInt = u64>,
 {

@@ -21,6 +21,11 @@ pub(crate) fn read(is_wide: bool) -> Outcome<Vec<Line>> {
     if std::io::stdin().lock().read_to_end(&mut input).is_err() {
         return Err(Stop(5, "input failed".to_string()));
     }
+    parse(&input, is_wide)
+}
+
+/// The lines of a text, with coordinates in the range of the engine.
+pub(crate) fn parse(input: &[u8], is_wide: bool) -> Outcome<Vec<Line>> {
     let far = if is_wide { 1 << 30 } else { 1 << 14 };
     let lines = input.split(|&byte| byte == b'\n').enumerate();
     let given =

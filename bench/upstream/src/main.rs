@@ -11,6 +11,7 @@ mod core;
 mod geom;
 mod lines;
 mod passes;
+mod runs;
 mod segm;
 mod split;
 mod string;

@@ -8,6 +8,12 @@ const MOST: u64 = 100_000;
 
 thread_local! {
     static PASSES: Cell<u64> = const { Cell::new(0) };
+    static LIMIT: Cell<u64> = const { Cell::new(u64::MAX) };
+}
+
+/// Lets a split panic after so many passes.
+pub(crate) fn stop_after(passes: u64) {
+    LIMIT.set(passes);
 }
 
 pub(crate) fn reset() {
@@ -22,6 +28,7 @@ pub(crate) fn count() -> u64 {
 pub(crate) fn note_pass() {
     let passes = count() + 1;
     PASSES.with(|count| count.set(passes));
+    assert!(passes <= LIMIT.get(), "no end");
     if passes > MOST {
         eprintln!("no end after {MOST} passes");
         std::process::exit(6);

@@ -26,6 +26,7 @@ pub mod overlay {
     pub use overlay_base::segm::shape_type::ShapeType;
     pub use overlay_contours::contour::{IntContour, IntShape};
     pub use overlay_contours::fault::ContourFault;
+    pub use overlay_contours::measure::doubled_area;
     pub use overlay_contours::overlay::{Overlay, overlay_contours, overlay_shapes};
     pub use overlay_contours::rounding::Rounding;
 }

@@ -23,6 +23,7 @@ pub use overlay_build::build::string_graph::StringGraph;
 pub use overlay_build::build::walks::closed_walks;
 pub use overlay_contours::contour::{IntContour, IntShape};
 pub use overlay_contours::fault::ContourFault;
+pub use overlay_contours::measure::doubled_area;
 pub use overlay_contours::overlay::{Overlay, overlay_contours, overlay_shapes};
 pub use overlay_contours::rounding::Rounding;
 pub use overlay_geometry::geom::point::IntPoint;

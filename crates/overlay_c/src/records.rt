@@ -297,9 +297,10 @@ pub struct SizesRecord {
     pub contour_points: usize,
     /// How many shapes it left: none where it was not in shapes.
     pub shapes: usize,
-    /// Whether there are closed walks: they were asked for, and evenly many links meet at each node.
+    /// Whether there are closed walks: the call wanted them, and an even number of links meets at each node.
     pub has_walks: bool,
-    /// Whether the last split joined equal segments or split one, or the last join joined some.
+    /// Whether the last `overlay_c_split` joined equal segments or split one, or, if that came later, the last
+    /// `overlay_c_join` joined some. Other calls leave it as it is.
     pub has_changed: bool,
     /// How many passes the last split made, up to `u64::MAX`.
     pub passes: u64,

@@ -25,3 +25,5 @@ pub mod ShapeBounds
 pub mod ShapeTheorem
 pub mod ShapeResults
 pub mod Beyond
+pub mod Areas
+pub mod SeveralRules

@@ -1,7 +1,7 @@
 -- The contours that an overlay keeps.
 use Rattle.std.specs.Prelude.{List, ℕ, IsTrue, ◌≡◌, ◌≤◌, [], ◌∷◌, ◌++◌, Vec}
 use Rattle.overlay_geometry.specs.Points.{Point}
-use Rattle.overlay_contours.specs.ContoursOf.{contours_of, points_of}
+use Rattle.overlay_contours.specs.ContoursOf.{contours_of, contours_of_each, points_of}
 use Rattle.overlay_contours.specs.declared.overlay.Overlay.{Overlay}
 use Rattle.std.specs.Global.{Global}
 use Rattle.overlay_geometry.specs.declared.geom.point.IntPoint.{IntPoint}
@@ -13,7 +13,7 @@ use Rattle.overlay_base.specs.declared.segm.shape_type.ShapeType.{ShapeType}
 use Rattle.overlay_split.specs.ExactInput.{is_exact_input}
 use Rattle.overlay_contours.specs.Beyond.{IsOverlayBeyond, IsCornerOverlayBeyond, IsShapeOverlayBeyond, AreOfSplitting}
 use Rattle.overlay_contours.specs.ContourSegments.{overlay_segments}
-use Rattle.overlay_contours.specs.Polygons.{IsPolygonOverlay}
+use Rattle.overlay_contours.specs.Polygons.{IsPolygonOverlay, ArePolygonOverlays}
 use Rattle.overlay_contours.specs.Splittings.{Splitting, splitting_for, most_halves}
 use Rattle.overlay_contours.specs.declared.rounding.Rounding.{Rounding}
 use Rattle.overlay_contours.specs.CornerOverlays.{IsCornerOverlay}
@@ -75,6 +75,11 @@ IsCornersOfKept {w = w} solver rule fill_rule overlay contours =
 abbrev pub IsShapeOverlayOfKept : {I : Type 0} {w : _} {o : _} {e : _} {p : _} → Solver → OverlayRule → FillRule → Overlay I w o e p → Vec (Vec (Vec (IntPoint I) Global) Global) Global → Type 0
 IsShapeOverlayOfKept {w = w} solver rule fill_rule overlay shapes =
     IsShapeOverlay (splitting_of solver overlay) rule fill_rule (subject_of overlay) (clip_of overlay) (shapes_of w.whole shapes.items)
+
+-- The lists of contours are what the overlays of those that are kept return, one for each rule, in order.
+abbrev pub AreOverlaysOfKept : {I : Type 0} {w : _} {o : _} {e : _} {p : _} → Solver → List OverlayRule → FillRule → Overlay I w o e p → Vec (Vec (Vec (IntPoint I) Global) Global) Global → Type 0
+AreOverlaysOfKept {w = w} solver rules fill_rule overlay all =
+    ArePolygonOverlays (splitting_of solver overlay) fill_rule (subject_of overlay) (clip_of overlay) rules (contours_of_each w.whole all.items)
 
 -- ---- by the distance that is reported
 

@@ -1,5 +1,5 @@
 -- The overlay of polygons: contours in, contours out.
-use Rattle.std.specs.Prelude.{◌≡◌, ◌≤◌, ◌<◌, ◌-ℤ◌, ℕ, pos, int_lt, Bool, false, IsTrue, if◌then◌else◌, List, ◌++◌, All, Contains, map, count_by}
+use Rattle.std.specs.Prelude.{◌≡◌, ◌≤◌, ◌<◌, ◌-ℤ◌, ℕ, pos, int_lt, Bool, false, IsTrue, if◌then◌else◌, List, [], ◌∷◌, ⊤, ◌++◌, All, Contains, map, count_by}
 use Rattle.std.specs.List.{list_all}
 use Rattle.overlay_geometry.specs.Points.{Point, Pair, pair_eq}
 use Rattle.overlay_base.specs.Places.{RationalPoint}
@@ -65,3 +65,11 @@ pub record IsPolygonOverlay (splitting : Splitting) (rule : OverlayRule) (fill_r
   -- No two of its edges share more than an end, and none is there twice.
   pub apart : IsTrue (list_all (λ s. list_all (λ t. are_apart s t) (edges answer)) (edges answer))
   pub once : (e : Pair) → count_by (λ s. pair_eq s e) (edges answer) ≤ 1
+
+-- what overlays of the same contours return, one for each rule, in order
+abbrev pub ArePolygonOverlays : Splitting → FillRule → List (List Point) → List (List Point) → List OverlayRule → List (List (List Point)) → Type 0
+ArePolygonOverlays splitting fill_rule subject clip [] [] = ⊤
+ArePolygonOverlays splitting fill_rule subject clip [] (answer ∷ answers) = ⊥
+ArePolygonOverlays splitting fill_rule subject clip (rule ∷ rules) [] = ⊥
+ArePolygonOverlays splitting fill_rule subject clip (rule ∷ rules) (answer ∷ answers) =
+    IsPolygonOverlay splitting rule fill_rule subject clip answer × ArePolygonOverlays splitting fill_rule subject clip rules answers

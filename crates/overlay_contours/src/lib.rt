@@ -1,9 +1,11 @@
 // Polygons in, polygons out: contours are made to segments, and the graph of an overlay to contours.
 #![tactic(auto)]
 
+pub(crate) mod buffers;
 pub mod contour;
 pub mod corners;
 pub mod extract;
 pub mod fault;
+pub mod measure;
 pub mod overlay;
 pub mod rounding;

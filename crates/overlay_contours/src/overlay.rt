@@ -1,40 +1,25 @@
 // The overlay of polygons in one call: contours in, contours out. Upstream: `core::overlay`.
-ghost use Rattle.std.specs.Prelude.{◌≡◌, [], ◌∷◌, ◌++◌, IsTrue, OnOk, OnErr, IfOk, IfErr};
+ghost use Rattle.std.specs.Prelude.{◌≡◌, ◌≢◌, [], ◌∷◌, ◌++◌, IsTrue, OnOk, OnErr, IfOk, IfErr};
 ghost use Rattle.overlay_base.specs.declared.segm.fault.Fault.TheVariants.{Memory};
-ghost use Rattle.overlay_split.specs.SettingsOf.{snap_limit_of};
 ghost use Rattle.overlay_contours.specs.ContoursOf.{points_of, contours_of};
-ghost use Rattle.overlay_contours.specs.Polygons.{IsPolygonOverlay};
-ghost use Rattle.overlay_contours.specs.Splittings.{splitting_for, IsArrangement};
-ghost use Rattle.overlay_contours.specs.Beyond.{AreOfSplitting};
 ghost use Rattle.overlay_contours.specs.declared.rounding.Rounding.TheVariants.{HotPixels};
-ghost use Rattle.overlay_base.specs.ArrangedOf.{IsArranged};
-ghost use Rattle.overlay_base.specs.Balance.{IsBalanced};
-ghost use Rattle.overlay_base.specs.SegmentOf.{segments_of};
-ghost use Rattle.overlay_contours.specs.ContourSegments.{overlay_segments, are_in_range};
-ghost use Rattle.overlay_contours.specs.Refusals.{other_shape, IsReason, IsShapeOutside, IsContourRefusal};
+ghost use Rattle.overlay_contours.specs.ContourSegments.{are_in_range};
+ghost use Rattle.overlay_contours.specs.Refusals.{other_shape, IsShapeOutside, IsContourRefusal};
 ghost use Rattle.overlay_contours.specs.ContoursIn.{LieInRange, LiesInRange, IsOverlayOf, IsRefusalOf};
-ghost use Rattle.overlay_contours.specs.Shapes.{IsShapeOverlay};
-ghost use Rattle.overlay_contours.specs.ShapesOf.{shapes_of, ShapesLieInRange, IsShapeOverlayOf};
+ghost use Rattle.overlay_contours.specs.ShapesOf.{ShapesLieInRange, IsShapeOverlayOf};
 
-use crate::contour::{
-    IntContour, IntShape, Side, find_out_of_range, find_point_out_of_range, load_sides,
-};
+use crate::buffers::Buffers;
+use crate::contour::{IntContour, IntShape, find_out_of_range, find_point_out_of_range};
 use crate::corners::corners_of_contours;
-use crate::extract::{directed_contours_of_graph, shapes_of_graph};
 use crate::fault::ContourFault;
 use crate::rounding::Rounding;
 use overlay_base::overlay_core::fill_rule::FillRule;
 use overlay_base::overlay_core::overlay_rule::OverlayRule;
 use overlay_base::overlay_core::solver::Solver;
-use overlay_base::segm::boolean::ShapeCountBoolean;
 use overlay_base::segm::fault::Fault;
 use overlay_base::segm::shape_type::ShapeType;
-use overlay_build::build::builder::GraphBuilder;
-use overlay_build::build::graph_node::OverlayNode;
 use overlay_geometry::geom::point::IntPoint;
 use overlay_geometry::num::OverlayInt;
-use overlay_snapping::snap::solver::SnapSolver;
-use overlay_split::split::solver::SplitSolver;
 use std::alloc::Global;
 
 /// The overlay of a subject's contours and a clip's, as contours that have the region of the overlay on their left: an
@@ -147,127 +132,6 @@ fn test_range<I: OverlayInt>(
     }
 }
 
-/// What overlays keep from one to the next.
-#[derive(Drop)]
-struct Buffers<I: OverlayInt> {
-    alloc: Global,
-    sides: Vec<Side<I>>,
-    splitter: SplitSolver<I>,
-    snapper: SnapSolver<I>,
-    builder: GraphBuilder<ShapeCountBoolean, OverlayNode, I, ()>,
-    passes: u128,
-    reach: u128,
-    ghost limit: { snap_limit_of splitter ≡ 256 },
-}
-
-impl<I: OverlayInt> Buffers<I> {
-    /// Buffers that take no memory yet.
-    fn new(alloc: Global) -> Buffers<I> {
-        Buffers {
-            alloc,
-            sides: Vec::new(alloc),
-            splitter: SplitSolver::new(alloc),
-            snapper: SnapSolver::new(alloc),
-            builder: GraphBuilder::new(alloc),
-            passes: 0,
-            reach: 0,
-        }
-    }
-
-    /// Makes `sides` the arrangement of the edges of contours in range.
-    fn arrange(
-        &mut self,
-        subject: &[IntContour<I>],
-        clip: &[IntContour<I>],
-        rounding: Rounding,
-        solver: &Solver,
-    ) -> Result<(), Fault>
-        requires subject { LieInRange I.whole I.MIN_COORD I.MAX_COORD subject.now }
-        requires clip { LieInRange I.whole I.MIN_COORD I.MAX_COORD clip.now }
-        ensures arrangement { OnOk result (IsArrangement (splitting_for rounding I.BITS solver.now)
-            (overlay_segments (contours_of I.whole subject.now) (contours_of I.whole clip.now))
-            (segments_of self.new.sides.items) self.new.passes self.new.reach) }
-        ensures balanced { OnOk result
-            (IsBalanced (overlay_segments (contours_of I.whole subject.now) (contours_of I.whole clip.now))) }
-        ensures arranged { OnOk result (IsArranged self.new.sides.items) }
-        ensures refused { IfErr result (λ fault. IsReason (splitting_for rounding I.BITS solver.now)
-            (contours_of I.whole subject.now) (contours_of I.whole clip.now) fault) }
-    {
-        load_sides(&mut self.sides, subject, clip)?;
-        match rounding {
-            Rounding::HotPixels => {
-                self.snapper.split_segments(&mut self.sides, solver)?;
-                self.passes = 1;
-                self.reach = self.snapper.reach();
-            }
-            Rounding::Pairwise => {
-                self.splitter.split_segments(&mut self.sides, solver)?;
-                self.passes = self.splitter.passes();
-                self.reach = self.splitter.reach();
-            }
-        }
-        Ok(())
-    }
-
-    /// The overlay of contours in range.
-    fn overlay(
-        &mut self,
-        subject: &[IntContour<I>],
-        clip: &[IntContour<I>],
-        rounding: Rounding,
-        solver: &Solver,
-        fill_rule: FillRule,
-        overlay_rule: OverlayRule,
-    ) -> Result<Vec<IntContour<I>>, Fault>
-        requires subject { LieInRange I.whole I.MIN_COORD I.MAX_COORD subject.now }
-        requires clip { LieInRange I.whole I.MIN_COORD I.MAX_COORD clip.now }
-        ensures polygons { IfOk result (λ contours.
-            IsPolygonOverlay (splitting_for rounding I.BITS solver.now) overlay_rule fill_rule
-            (contours_of I.whole subject.now) (contours_of I.whole clip.now) (contours_of I.whole contours.items)) }
-        ensures in_range { IfOk result (λ contours. LieInRange I.whole I.MIN_COORD I.MAX_COORD contours.items) }
-        ensures splitting { OnOk result (AreOfSplitting (splitting_for rounding I.BITS solver.now)
-            (contours_of I.whole subject.now) (contours_of I.whole clip.now) self.new.passes self.new.reach) }
-        ensures refused { IfErr result (λ fault. IsReason (splitting_for rounding I.BITS solver.now)
-            (contours_of I.whole subject.now) (contours_of I.whole clip.now) fault) }
-    {
-        self.arrange(subject, clip, rounding, solver)?;
-        let graph = self
-            .builder
-            .build_boolean_overlay(fill_rule, overlay_rule, solver, &self.sides)?;
-        let contours = directed_contours_of_graph(self.alloc, &graph, overlay_rule)?;
-        Ok(contours)
-    }
-
-    /// The overlay of contours in range, in shapes.
-    fn overlay_shapes(
-        &mut self,
-        subject: &[IntContour<I>],
-        clip: &[IntContour<I>],
-        rounding: Rounding,
-        solver: &Solver,
-        fill_rule: FillRule,
-        overlay_rule: OverlayRule,
-    ) -> Result<Vec<IntShape<I>>, Fault>
-        requires subject { LieInRange I.whole I.MIN_COORD I.MAX_COORD subject.now }
-        requires clip { LieInRange I.whole I.MIN_COORD I.MAX_COORD clip.now }
-        ensures shapes { IfOk result (λ shapes.
-            IsShapeOverlay (splitting_for rounding I.BITS solver.now) overlay_rule fill_rule
-            (contours_of I.whole subject.now) (contours_of I.whole clip.now) (shapes_of I.whole shapes.items)) }
-        ensures in_range { IfOk result (λ shapes. ShapesLieInRange I.whole I.MIN_COORD I.MAX_COORD shapes.items) }
-        ensures splitting { OnOk result (AreOfSplitting (splitting_for rounding I.BITS solver.now)
-            (contours_of I.whole subject.now) (contours_of I.whole clip.now) self.new.passes self.new.reach) }
-        ensures refused { IfErr result (λ fault. IsReason (splitting_for rounding I.BITS solver.now)
-            (contours_of I.whole subject.now) (contours_of I.whole clip.now) fault) }
-    {
-        self.arrange(subject, clip, rounding, solver)?;
-        let graph = self
-            .builder
-            .build_boolean_overlay(fill_rule, overlay_rule, solver, &self.sides)?;
-        let shapes = shapes_of_graph(self.alloc, &graph, overlay_rule, solver)?;
-        Ok(shapes)
-    }
-}
-
 /// The contours of a subject and of a clip, and the buffers of their overlays: all of it is kept and used again. The
 /// contours kept are in range.
 #[derive(Drop)]
@@ -285,7 +149,7 @@ pub struct Overlay<I: OverlayInt> {
 }
 
 impl<I: OverlayInt> Overlay<I> {
-    ghost use Rattle.overlay_contours.specs.Kept.{subject_of, clip_of, rounding_of, passes_of, reach_of, AddsContour, KeepsContours, IsRefusalToAdd, IsOverlayOfKept, IsCornersOfKept, IsShapeOverlayOfKept, IsBeyondKept, AreCornersBeyondKept, AreShapesBeyondKept, ReachIsBounded, ExactReachIsNone, ReportsSplitting, KeepsRounding, KeepsReport, IsReasonOf};
+    ghost use Rattle.overlay_contours.specs.Kept.{subject_of, clip_of, rounding_of, passes_of, reach_of, AddsContour, KeepsContours, IsRefusalToAdd, IsOverlayOfKept, IsCornersOfKept, IsShapeOverlayOfKept, AreOverlaysOfKept, IsBeyondKept, AreCornersBeyondKept, AreShapesBeyondKept, ReachIsBounded, ExactReachIsNone, ReportsSplitting, KeepsRounding, KeepsReport, IsReasonOf};
 
     /// An overlay of no contours by snap rounding, which takes no memory yet.
     pub fn new(alloc: Global) -> Overlay<I>
@@ -330,9 +194,11 @@ impl<I: OverlayInt> Overlay<I> {
         }
     }
 
-    /// The overlay of the contours that were added, as `overlay_contours` answers it. They stay for further overlays,
-    /// whether it is answered or refused. Afterwards `reach` tells how far from their edges what is said of the answer
-    /// holds, and `passes` after how many passes; where it is refused both are as they were.
+    /// The overlay of the contours that were added, split by the rounding that `set_rounding` chose. Without a choice it
+    /// is what the function `overlay_contours` returns. The contours stay for further overlays, also after an error.
+    ///
+    /// Afterwards `reach` is how far from their edges the theorem leaves points out, and `passes` is the number of
+    /// passes. After an error both are as they were.
     ///
     /// Returns `Fault::CountOutOfRange` only where counts leave `-i32::MAX..=i32::MAX`, and `Fault::Memory` where a
     /// growth is refused.
@@ -354,6 +220,7 @@ impl<I: OverlayInt> Overlay<I> {
         ensures clip { clip_of self.new ≡ clip_of self.old }
         ensures rounding { KeepsRounding self.old self.new }
     {
+        self.buffers.forget();
         let answer = self.buffers.overlay(
             &self.subject,
             &self.clip,
@@ -367,12 +234,50 @@ impl<I: OverlayInt> Overlay<I> {
         Ok(answer)
     }
 
-    /// The overlay of the contours that were added, as `overlay` answers it, without the points at which a contour goes
+    /// The overlays of the contours that were added by several rules, each as `overlay` returns it, in the order of the
+    /// rules. The contours are split once, so several rules take little longer than one.
+    ///
+    /// Afterwards `reach` and `passes` are those of that split. After an error, and where there are no rules, both are as
+    /// they were. The contours that were added stay, also after an error.
+    ///
+    /// Returns `Fault::CountOutOfRange` only where counts leave `-i32::MAX..=i32::MAX`, and `Fault::Memory` where a
+    /// growth is refused.
+    pub fn overlay_by_rules(
+        &mut self,
+        solver: &Solver,
+        fill_rule: FillRule,
+        overlay_rules: &[OverlayRule],
+    ) -> Result<Vec<Vec<IntContour<I>>>, Fault>
+        ensures polygons { IfOk result (AreOverlaysOfKept solver.now overlay_rules.now fill_rule self.old) }
+        ensures splitting { OnOk result (overlay_rules.now ≢ [] → ReportsSplitting solver.now self.old self.new) }
+        ensures refused { IfErr result (IsReasonOf solver.now self.old) }
+        ensures report { OnErr result (KeepsReport self.old self.new) }
+        ensures subject { subject_of self.new ≡ subject_of self.old }
+        ensures clip { clip_of self.new ≡ clip_of self.old }
+        ensures rounding { KeepsRounding self.old self.new }
+    {
+        self.buffers.forget();
+        let overlays = self.buffers.overlay_by_rules(
+            &self.subject,
+            &self.clip,
+            self.rounding,
+            solver,
+            fill_rule,
+            overlay_rules,
+        )?;
+        if !overlay_rules.is_empty() {
+            self.passes = self.buffers.passes;
+            self.reach = self.buffers.reach;
+        }
+        Ok(overlays)
+    }
+
+    /// The overlay of the contours that were added, as `overlay` returns it, without the points at which a contour goes
     /// straight on: of each contour the corners, as `corners_of_contours` returns them.
     ///
-    /// So the answer winds round every place of the plane as that of `overlay` does, and no point of it lies on one
+    /// So the result winds around every point of the plane as that of `overlay` does, and no point of it lies on one
     /// line with its neighbors and between them. An edge of it may run along several edges of the arrangement. The
-    /// contours that were added stay, whether it is answered or refused.
+    /// contours that were added stay, also after an error.
     ///
     /// Returns `Fault::CountOutOfRange` only where counts leave `-i32::MAX..=i32::MAX`, and `Fault::Memory` where a
     /// growth is refused.
@@ -394,6 +299,7 @@ impl<I: OverlayInt> Overlay<I> {
         ensures clip { clip_of self.new ≡ clip_of self.old }
         ensures rounding { KeepsRounding self.old self.new }
     {
+        self.buffers.forget();
         let alloc = self.buffers.alloc;
         let (subject, clip) = (&self.subject, &self.clip);
         let contours = self.buffers.overlay(
@@ -435,6 +341,7 @@ impl<I: OverlayInt> Overlay<I> {
         ensures clip { clip_of self.new ≡ clip_of self.old }
         ensures rounding { KeepsRounding self.old self.new }
     {
+        self.buffers.forget();
         let in_shapes = self.buffers.overlay_shapes(
             &self.subject,
             &self.clip,

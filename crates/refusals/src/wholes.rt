@@ -138,8 +138,9 @@ impl Case for Contours {
     }
 }
 
-/// What two contours share, without collinear points, by one overlay that keeps them. After a refusal it is used again
-/// as it is: only what was not added is added. By even-odd a contour that stood twice would be missed.
+/// What two contours share, without collinear points, by one overlay that keeps them, split by the rounding that `new`
+/// takes. After a refusal it is used again as it is: only what was not added is added. By even-odd a contour that was
+/// added twice would be missed.
 #[derive(Drop)]
 pub struct KeptContours {
     overlay: ContourOverlay<i32>,
@@ -205,8 +206,8 @@ impl Case for Shapes {
     }
 }
 
-/// The same by one overlay that keeps its contours. After a refusal it is used again as it is, and what it reports of its
-/// last run is as it was.
+/// What two contours do not share, in shapes, by one overlay that keeps them, split by snap rounding. After a refusal it
+/// is used again as it is, and what it reports of its last run is as it was.
 #[derive(Drop)]
 pub struct KeptShapes {
     kept: KeptContours,

@@ -4,3 +4,4 @@ pub mod MissedBoxes
 pub mod JoinedBoxes
 pub mod Columns
 pub mod MetPlaces
+pub mod ColumnSearches

@@ -1,8 +1,14 @@
 -- Boxes over halves of a list of points, over halves of these, and so on; and what a query finds in a part of the list.
-use Rattle.std.specs.Prelude.{◌≡◌, ℕ, zero, suc, ◌/◌, ℤ, int_le, Bool, true, if◌then◌else◌, ◌&&◌, ◌%◌, Option, None, Some, List, [], length, map, filter, take, drop}
+use Rattle.std.specs.Prelude.{◌≡◌, ℕ, zero, suc, ◌/◌, ℤ, int_le, Bool, true, if◌then◌else◌, ◌&&◌, ◌||◌, ◌%◌, false, int_lt, Option, None, Some, List, [], length, map, filter, take, drop}
 use Rattle.std.specs.Int.{int_min, int_max, int_shr}
 use Rattle.std.specs.List.{enumerate_from, list_all}
+use Rattle.std.specs.List.Sorted.{IsPartitionPoint}
+use Rattle.std.specs.Ordering.{int_cmp, int_eq, ordering_then}
+use Rattle.std.specs.declared.cmp.Ordering.{Ordering}
 use Rattle.overlay_geometry.specs.Points.{Point, Pair}
+use Rattle.overlay_geometry.specs.PointOf.{point_of}
+use Rattle.overlay_geometry.specs.Sorting.{is_strictly_sorted}
+use Rattle.overlay_geometry.specs.declared.geom.point.IntPoint.{IntPoint}
 use Rattle.overlay_geometry.specs.Ranges.{Rect}
 use Rattle.overlay_geometry.specs.Coordinates.{is_point_in_range}
 use Rattle.overlay_snapping.specs.Pixels.{meets_pixel}
@@ -57,6 +63,30 @@ abbrev pub IsBoxOf : ℤ → ℤ → Option Rect → List Point → Type 0
 IsBoxOf least greatest None points = points ≡ []
 IsBoxOf least greatest (Some r) points = (is_rect_in_range least greatest r ≡ true) × (list_all (is_in_rect r) points ≡ true)
 
--- what points are sorted by: the column, of columns that are a power of two wide, and then upward
+-- the column of a number along x, of columns that are a power of two wide
+abbrev pub column_of : ℕ → ℤ → ℤ
+column_of shift x = int_shr x (shift % 64)
+
+-- what points are sorted by: the column, and then upward
 abbrev pub tile_key : ℕ → Point → ℤ × ℤ × ℤ
-tile_key shift p = (int_shr p.x (shift % 64), p.y, p.x)
+tile_key shift p = (column_of shift p.x, p.y, p.x)
+
+-- the order of these keys
+abbrev pub tile_cmp : ℕ → Point → Point → Ordering
+tile_cmp shift p q = ordering_then (ordering_then (int_cmp (column_of shift p.x) (column_of shift q.x)) (int_cmp p.y q.y)) (int_cmp p.x q.x)
+
+-- points of code column by column, and upward in each
+abbrev pub AreByColumns : {I : Type 0} → (I → ℤ) → ℕ → List (IntPoint I) → Type 0
+AreByColumns whole shift points = is_strictly_sorted (tile_cmp shift) (map (point_of whole) points) ≡ true
+
+-- whether p is in an earlier column, or in that column and lower than a height
+abbrev pub is_before : ℕ → ℤ → ℤ → Point → Bool
+is_before shift column height p = int_lt (column_of shift p.x) column || (int_eq (column_of shift p.x) column && int_lt p.y height)
+
+-- whether p is in that column or an earlier one
+abbrev pub is_up_to : ℕ → ℤ → Point → Bool
+is_up_to shift column p = int_le (column_of shift p.x) column
+
+-- the first place from which on a test fails
+abbrev pub IsFirstFailing : {I : Type 0} → (I → ℤ) → (Point → Bool) → List (IntPoint I) → ℕ → Type 0
+IsFirstFailing whole test points = IsPartitionPoint (λ p. test (point_of whole p) ≡ true) (λ p. test (point_of whole p) ≡ false) points

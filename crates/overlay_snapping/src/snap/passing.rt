@@ -38,10 +38,9 @@ impl PassingTable {
         ensures { OnOk result (IsTableOf passings.now self.new) }
     {
         copy_to(passings, &mut self.by_index)?;
-        self.by_index.sort_unstable_by_key(|passing| passing.index);
+        self.by_index.sort_by_key(|passing| passing.index)?;
         copy_to(passings, &mut self.by_place)?;
-        self.by_place.sort_unstable_by_key(|passing| passing.place);
-        Ok(())
+        self.by_place.sort_by_key(|passing| passing.place)
     }
 }
 

@@ -1,5 +1,5 @@
 // The points of a set whose pixels a segment meets, found by a tree of boxes. This project's own.
-ghost use Rattle.std.specs.Prelude.{◌≡◌, ◌+◌, ◌<◌, ◌^◌, ◌*ℤ◌, ◌++◌, [], ◌∷◌, ◌||◌, ◌↔◌, pos, int_lt, true, false, map, length};
+ghost use Rattle.std.specs.Prelude.{◌≡◌, ◌+◌, ◌<◌, ◌≤◌, ◌^◌, ◌*ℤ◌, ◌++◌, [], ◌∷◌, ◌||◌, ◌↔◌, pos, int_lt, true, false, map, length};
 ghost use Rattle.std.specs.Prelude.{OnOk, OnErr, IsTrue, IsFalse, Contains};
 ghost use Rattle.std.specs.Int.{int_min, int_max};
 ghost use Rattle.std.specs.Bool.{OnTrue};
@@ -15,7 +15,7 @@ ghost use Rattle.overlay_geometry.specs.Coordinates.{is_point_in_range};
 ghost use Rattle.overlay_geometry.specs.InRange.{IsPointInRange, IsPairInRange};
 ghost use Rattle.overlay_snapping.specs.Pixels.{meets_pixel};
 ghost use Rattle.overlay_snapping.specs.steps.PointTrees.{HoldPoints, met_places_from, is_in_rect, is_rect_in_range};
-ghost use Rattle.overlay_snapping.specs.steps.PointTrees.{right_corner, left_corner, IsBoxOf, rect_at, rect_with, tile_key};
+ghost use Rattle.overlay_snapping.specs.steps.PointTrees.{right_corner, left_corner, IsBoxOf, rect_at, rect_with, column_of, tile_key, AreByColumns, is_before, is_up_to, IsFirstFailing};
 ghost use Rattle.overlay_snapping.specs.steps.BoxesOf.{rect_if_any};
 
 use crate::snap::pixel::{extent, meets_pixel};
@@ -29,12 +29,15 @@ use std::alloc::{AllocError, Global};
 
 /// Points, each once, with a tree of bounding boxes over them: it finds the points whose pixels a segment meets.
 ///
-/// The points stand column by column, so that parts of the list lie close together. The tree stands in a second list:
-/// the box of all points in its middle, and the trees over the points before and after the middle on both sides.
+/// The points are kept column by column, so that parts of the list lie close together, and a short segment finds points
+/// in the columns that it runs through. The tree is a second list: the box of all points in its middle, and the trees
+/// over the points before and after the middle on both sides.
 #[derive(Drop)]
 pub struct PointTree<I: OverlayInt> {
     points: Vec<IntPoint<I>>,
     boxes: Vec<IntRect<I>>,
+    shift: u32,
+    ghost columns: { AreByColumns I.whole shift points.items },
     ghost holds: { HoldPoints (I.whole I.MIN_COORD) (I.whole I.MAX_COORD) (map (rect_of I.whole) boxes.items)
         (map (point_of I.whole) points.items) },
 }
@@ -50,6 +53,7 @@ impl<I: OverlayInt> PointTree<I> {
         PointTree {
             points: Vec::new(alloc),
             boxes: Vec::new(alloc),
+            shift: 0,
         }
     }
 
@@ -63,7 +67,8 @@ impl<I: OverlayInt> PointTree<I> {
         ensures once { IsFalse (has_repeat point_eq (points_in self.new)) }
         ensures emptied { OnErr result (points_of self.new ≡ []) }
     {
-        let filled = fill_lists(points, &mut self.points, &mut self.boxes);
+        self.shift = column_shift(points);
+        let filled = fill_lists(points, self.shift, &mut self.points, &mut self.boxes);
         if filled.is_err() {
             self.points.clear();
             self.boxes.clear();
@@ -92,13 +97,123 @@ impl<I: OverlayInt> PointTree<I> {
         ensures { OnOk result (places.new.items
             ≡ places.old.items ++ met_places (pair_of I.whole segment.now) (points_in self.now)) }
     {
+        let (first, last) = (
+            column_of(segment.a, self.shift),
+            column_of(segment.b, self.shift),
+        );
+        if last.abs_diff(first) < FEW_COLUMNS {
+            return append_met_in_columns(&self.points, self.shift, segment, places);
+        }
         append_met_among(&self.points, &self.boxes, 0, segment, places)
     }
+}
+
+/// Where a segment runs through fewer columns, its points are found in each of them, which takes less time than to go
+/// down the tree.
+const FEW_COLUMNS: u64 = 8;
+
+/// The column of a point.
+fn column_of<I: OverlayInt>(point: IntPoint<I>, shift: u32) -> i64
+    ensures { result ≡ column_of shift (point_of I.whole point).x }
+{
+    point.x.to_wide().wrapping_shr(shift)
+}
+
+/// As `PointTree::append_met`, for points column by column: in each column of the segment those between its least and its
+/// greatest height are tested.
+fn append_met_in_columns<I: OverlayInt>(
+    points: &[IntPoint<I>],
+    shift: u32,
+    segment: &XSegment<I>,
+    places: &mut Vec<usize>,
+) -> Result<(), AllocError>
+    requires in_range { IsPairInRange I.whole I.MIN_COORD I.MAX_COORD segment.now }
+    requires ordered { IsTrue (is_ordered (pair_of I.whole segment.now)) }
+    requires points { list_all (is_point_in_range (I.whole I.MIN_COORD) (I.whole I.MAX_COORD))
+        (map (point_of I.whole) points.now) ≡ true }
+    requires columns { AreByColumns I.whole shift points.now }
+    ensures { OnOk result (places.new.items ≡ places.old.items
+        ++ met_places_from 0 (pair_of I.whole segment.now) (map (point_of I.whole) points.now)) }
+{
+    let low = lesser(segment.a.y, segment.b.y);
+    let high = greater(segment.a.y, segment.b.y);
+    let mut place = first_from(
+        points,
+        shift,
+        IntPoint {
+            x: segment.a.x,
+            y: low,
+        },
+    );
+    while place < points.len() {
+        let point = points[place];
+        if is_left_of(segment.b, point, shift) {
+            return Ok(());
+        }
+        if is_less(point.y, low) {
+            place = first_from(points, shift, IntPoint { x: point.x, y: low });
+        } else if is_less(high, point.y) {
+            place = first_behind(points, shift, point);
+        } else {
+            append_if_met(point, place, segment, places)?;
+            place += 1;
+        }
+    }
+    Ok(())
+}
+
+/// Whether a coordinate is less than another one.
+fn is_less<I: OverlayInt>(a: I, b: I) -> bool
+    ensures { result ≡ int_lt (I.whole a) (I.whole b) }
+{
+    a < b
+}
+
+/// Whether a point is in an earlier column than another one.
+fn is_left_of<I: OverlayInt>(point: IntPoint<I>, other: IntPoint<I>, shift: u32) -> bool
+    ensures { result ≡ int_lt (column_of shift (I.whole point.x)) (column_of shift (I.whole other.x)) }
+{
+    column_of(point, shift) < column_of(other, shift)
+}
+
+/// The first place, of points column by column, of a point that is neither in an earlier column than a corner, nor lower in
+/// its column.
+fn first_from<I: OverlayInt>(points: &[IntPoint<I>], shift: u32, corner: IntPoint<I>) -> usize
+    requires { AreByColumns I.whole shift points.now }
+    ensures place { IsFirstFailing I.whole (is_before shift (column_of shift (I.whole corner.x)) (I.whole corner.y)) points.now result }
+    ensures bound { result ≤ length points.now }
+{
+    points.partition_point(|point| is_before(*point, shift, corner))
+}
+
+/// Whether a point is in an earlier column than a corner, or lower in its column.
+fn is_before<I: OverlayInt>(point: IntPoint<I>, shift: u32, corner: IntPoint<I>) -> bool
+    ensures { result ≡ is_before shift (column_of shift (I.whole corner.x)) (I.whole corner.y) (point_of I.whole point) }
+{
+    let (own, column) = (column_of(point, shift), column_of(corner, shift));
+    own < column || (own == column && point.y < corner.y)
+}
+
+/// The first place, of points column by column, of a point in a later column than another one.
+fn first_behind<I: OverlayInt>(points: &[IntPoint<I>], shift: u32, from: IntPoint<I>) -> usize
+    requires { AreByColumns I.whole shift points.now }
+    ensures place { IsFirstFailing I.whole (is_up_to shift (column_of shift (I.whole from.x))) points.now result }
+    ensures bound { result ≤ length points.now }
+{
+    points.partition_point(|point| is_up_to(*point, shift, from))
+}
+
+/// Whether a point is in no later column than another one.
+fn is_up_to<I: OverlayInt>(point: IntPoint<I>, shift: u32, other: IntPoint<I>) -> bool
+    ensures { result ≡ is_up_to shift (column_of shift (I.whole other.x)) (point_of I.whole point) }
+{
+    column_of(point, shift) <= column_of(other, shift)
 }
 
 /// Puts the points into a list, each once, column by column, and the boxes of the tree over them into another.
 fn fill_lists<I: OverlayInt>(
     points: &[IntPoint<I>],
+    shift: u32,
     kept: &mut Vec<IntPoint<I>>,
     boxes: &mut Vec<IntRect<I>>,
 ) -> Result<(), AllocError>
@@ -106,10 +221,11 @@ fn fill_lists<I: OverlayInt>(
         (map (point_of I.whole) points.now) ≡ true }
     ensures same { OnOk result ((p : IntPoint I) → Contains kept.new.items p ↔ Contains points.now p) }
     ensures once { OnOk result (has_repeat point_eq (map (point_of I.whole) kept.new.items) ≡ false) }
+    ensures columns { OnOk result (AreByColumns I.whole shift kept.new.items) }
     ensures holds { OnOk result (HoldPoints (I.whole I.MIN_COORD) (I.whole I.MAX_COORD)
         (map (rect_of I.whole) boxes.new.items) (map (point_of I.whole) kept.new.items)) }
 {
-    list_by_columns(points, kept)?;
+    list_by_columns(points, shift, kept)?;
     let nothing = IntRect {
         min_x: I::ZERO,
         max_x: I::ZERO,
@@ -125,12 +241,13 @@ fn fill_lists<I: OverlayInt>(
 /// Puts the points into a list, each once, column by column and upward in each.
 fn list_by_columns<I: OverlayInt>(
     points: &[IntPoint<I>],
+    shift: u32,
     kept: &mut Vec<IntPoint<I>>,
 ) -> Result<(), AllocError>
     ensures same { OnOk result ((p : IntPoint I) → Contains kept.new.items p ↔ Contains points.now p) }
     ensures once { OnOk result (has_repeat point_eq (map (point_of I.whole) kept.new.items) ≡ false) }
+    ensures columns { OnOk result (AreByColumns I.whole shift kept.new.items) }
 {
-    let shift = column_shift(points);
     kept.clear();
     kept.extend_from_slice(points)?;
     kept.sort_by_key(|point| tile_key(point, shift))?;

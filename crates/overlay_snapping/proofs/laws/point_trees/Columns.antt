@@ -18,20 +18,18 @@ use Rattle.std.proofs.lemmas.List.Sorted.{IsPermutation-sym, Contains-permutatio
 use Rattle.std.proofs.lemmas.Map.Keys.{IsDistinct-from_sorted}
 use Rattle.overlay_geometry.specs.Points.{Point, point_eq}
 use Rattle.overlay_geometry.specs.PointOf.{point_of}
-use Rattle.overlay_geometry.specs.Sorting.{has_repeat}
+use Rattle.overlay_geometry.specs.Sorting.{has_repeat, is_strictly_sorted}
 use Rattle.overlay_geometry.specs.declared.geom.point.IntPoint.{IntPoint}
 use Rattle.overlay_geometry.proofs.laws.geometry.Points.{same_by_eq, is_eq-then, point_eq-parts}
 use Rattle.overlay_geometry.proofs.laws.lists.Lists.{AllByRecursion-from_list_all, list_all-from_AllByRecursion}
 use Rattle.overlay_geometry.proofs.laws.lists.Elements.{IsStrictlySortedBy-map}
-use Rattle.overlay_geometry.proofs.laws.lists.Keys.{has_repeat-distinct}
+use Rattle.overlay_geometry.proofs.laws.lists.Keys.{has_repeat-distinct, is_strictly_sorted-from}
 use Rattle.overlay_intersections.proofs.laws.marks.Comparisons.{same_points}
+use Rattle.overlay_snapping.specs.steps.PointTrees.{tile_cmp, AreByColumns}
 
 -- ---- the order of the columns
 
-abbrev pub tile_cmp : ℕ → Point → Point → Ordering
-tile_cmp shift p q = ordering_then (ordering_then (int_cmp (int_shr p.x (shift % 64)) (int_shr q.x (shift % 64))) (int_cmp p.y q.y)) (int_cmp p.x q.x)
-
-tile_cmp_total : (shift : ℕ) → IsTotalOrder (tile_cmp shift)
+pub tile_cmp_total : (shift : ℕ) → IsTotalOrder (tile_cmp shift)
 tile_cmp_total shift = then_total (then_total (on_total (λ (p : Point). int_shr p.x (shift % 64)) int_cmp_total) (on_total (λ (p : Point). p.y) int_cmp_total)) (on_total (λ (p : Point). p.x) int_cmp_total)
 
 same_number : (u v : ℤ) → is_eq (int_cmp u v) ≡ true → u ≡ v
@@ -58,6 +56,10 @@ tile_cmp-ties shift p q =
     both false true false f = refl
     both false false true f = refl
     both false false false f = refl
+
+pub none_by_columns : {I : Type 0} (whole : I → ℤ) (shift : ℕ) (points : List (IntPoint I)) → points ≡ [] → AreByColumns whole shift points
+unfolding is_strictly_sorted
+none_by_columns whole shift points e = ap (λ l. is_strictly_sorted (tile_cmp shift) (map (point_of whole) l)) e
 
 -- ---- repeats by two tests that answer alike
 
@@ -115,10 +117,18 @@ module _ {I : Type 0} (eq : I → I → Bool) (cmp : I → I → Ordering) (whol
         λ h. subst (λ l. Contains l p) (sym is) (Contains-dedup equivalence exact sorted p (Contains-permutation taken sorted p s (subst (λ l. Contains l p) (sym t) h))),
       )
 
+  listed_strictly : (shift : ℕ) (sorted kept : List (IntPoint I)) → IsSorted (by_tile shift) sorted → IsFiltered (DiffersFromLast coordinate_eq) [] sorted kept → IsStrictlySortedBy (by_tile shift) kept
+  listed_strictly shift sorted kept s d =
+      let is : kept ≡ dedup coordinate_eq sorted = dedup_is coordinate_eq sorted kept d in
+      subst (λ l. IsStrictlySortedBy (by_tile shift) l) (sym is) (IsStrictlySortedBy-dedup (by_tile_total shift) (ties shift) sorted s)
+
+  pub listed_by_columns : (shift : ℕ) (sorted kept : List (IntPoint I)) → IsSorted (by_tile shift) sorted → IsFiltered (DiffersFromLast coordinate_eq) [] sorted kept → AreByColumns whole shift kept
+  listed_by_columns shift sorted kept s d =
+      is_strictly_sorted-from (tile_cmp_total shift) (map (point_of whole) kept) (IsStrictlySortedBy-map (point_of whole) (tile_cmp shift) kept (listed_strictly shift sorted kept s d))
+
   pub listed_once : (shift : ℕ) (sorted kept : List (IntPoint I)) → IsSorted (by_tile shift) sorted → IsFiltered (DiffersFromLast coordinate_eq) [] sorted kept → has_repeat point_eq (map (point_of whole) kept) ≡ false
   listed_once shift sorted kept s d =
-      let is : kept ≡ dedup coordinate_eq sorted = dedup_is coordinate_eq sorted kept d in
-      let strict = subst (λ l. IsStrictlySortedBy (by_tile shift) l) (sym is) (IsStrictlySortedBy-dedup (by_tile_total shift) (ties shift) sorted s) in
+      let strict = listed_strictly shift sorted kept s d in
       let points = map (point_of whole) kept in
       repeats_alike point_eq (eq_by_cmp (tile_cmp shift)) (tile_cmp-ties shift) points
       ∙ has_repeat-distinct (eq_by_cmp (tile_cmp shift)) points (IsDistinct-from_sorted (tile_cmp shift) points (IsStrictlySortedBy-map (point_of whole) (tile_cmp shift) kept strict))

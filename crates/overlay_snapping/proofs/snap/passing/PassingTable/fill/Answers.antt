@@ -1,6 +1,7 @@
 use Rattle.std.proofs.Common.{◌≡◌, List, subst, sym, rules}
 use Rattle.std.specs.Prelude.{Contains}
 use Rattle.std.specs.List.Sorted.{IsPermutation}
+use Rattle.std.proofs.lemmas.Result.{on_ok_weaker}
 use Rattle.std.proofs.lemmas.List.Sorted.{IsNonDecreasingBy-from_sort_by_key, Contains-permutation, IsPermutation-sym}
 use Rattle.overlay_snapping.specs.declared.snap.passing.Passing.{Passing}
 use Rattle.overlay_snapping.proofs.snap.passing.PassingTable.fill.Goals as goal
@@ -13,9 +14,11 @@ same_elements xs copy sorted e h p = (
 )
 
 pub returns : goal.returns
-returns c = record {
-  index_sorted = IsNonDecreasingBy-from_sort_by_key (λ (p : Passing). p.index) _ c.sort_unstable_by_key.ensures.sorted (λ a r f' h. search rules);
-  place_sorted = IsNonDecreasingBy-from_sort_by_key (λ (p : Passing). p.place) _ c.sort_unstable_by_key-2.ensures.sorted (λ a r f' h. search rules);
-  by_index = same_elements c.args.passings.now _ _ c.in_ok-copy_to.ensures c.sort_unstable_by_key.ensures.permutation;
-  by_place = same_elements c.args.passings.now _ _ c.in_ok-copy_to-2.ensures c.sort_unstable_by_key-2.ensures.permutation;
-}
+returns c = on_ok_weaker c.sort_by_key-2.result
+    (λ h. record {
+      index_sorted = IsNonDecreasingBy-from_sort_by_key (λ (p : Passing). p.index) _ c.in_ok-sort_by_key.ensures.sorted (λ a r f' h. search rules);
+      place_sorted = IsNonDecreasingBy-from_sort_by_key (λ (p : Passing). p.place) _ h (λ a r f' h. search rules);
+      by_index = same_elements c.args.passings.now _ _ c.in_ok-copy_to.ensures c.sort_by_key.ensures.permutation;
+      by_place = same_elements c.args.passings.now _ _ c.in_ok-copy_to-2.ensures c.sort_by_key-2.ensures.permutation;
+    })
+    c.sort_by_key-2.ensures.sorted

@@ -13,10 +13,11 @@ use Rattle.overlay_contours.specs.ContoursOf.{contours_of}
 use Rattle.overlay_contours.specs.Refusals.{IsReason}
 use Rattle.overlay_contours.specs.Shapes.{IsShapeOverlay}
 use Rattle.overlay_contours.specs.Splittings.{Splitting, splitting_for}
+use Rattle.overlay_contours.proofs.laws.Balances.{overlay_balances}
 use Rattle.overlay_contours.proofs.laws.Overlays.{sides_of, links_flow, refused_as}
 use Rattle.overlay_contours.proofs.laws.ShapeResults.{links_arranged, links_have_region, shape_overlay_of, in_range_of}
 use Rattle.overlay_contours.proofs.laws.Splittings.{too_large_above}
-use Rattle.overlay_contours.proofs.overlay.Buffers.overlay_shapes.Goals as goal
+use Rattle.overlay_contours.proofs.buffers.Buffers.overlay_shapes.Goals as goal
 
 pub returns-in_err-graph-clause-refused : goal.returns-in_err-graph-clause-refused
 returns-in_err-graph-clause-refused g c =
@@ -46,7 +47,7 @@ shapes_of_graph-requires-clause-flow g c =
     let fill_rule = c.args.fill_rule in
     let a = c.in_ok-arrange.ensures.arrangement in
     let same = graph_with_kept indexes_of is_canonical_node whole (nodes_of graph) links (keeps_fill (holds rule)) fill_rule segments (rw c.deref.ensures.value at c.in_ok-graph.ensures.graph) in
-    let sides = sides_of whole splitting fill_rule (holds rule) given segments left.passes left.reach links a c.in_ok-arrange.ensures.balanced same (rw c.deref.ensures.value at c.in_ok-graph.ensures.balanced) in
+    let sides = sides_of whole splitting fill_rule (holds rule) given segments left.passes left.reach links a (overlay_balances subject clip) same (rw c.deref.ensures.value at c.in_ok-graph.ensures.balanced) in
     links_flow whole links fill_rule (holds rule) segments sides graph.holds.same_links
 
 pub shapes_of_graph-requires-clause-arranged : goal.shapes_of_graph-requires-clause-arranged
@@ -65,8 +66,8 @@ shapes_of_graph-requires-clause-arranged g c =
     let fill_rule = c.args.fill_rule in
     let a = c.in_ok-arrange.ensures.arrangement in
     let same = graph_with_kept indexes_of is_canonical_node whole (nodes_of graph) links (keeps_fill (holds rule)) fill_rule segments (rw c.deref.ensures.value at c.in_ok-graph.ensures.graph) in
-    let sides = sides_of whole splitting fill_rule (holds rule) given segments left.passes left.reach links a c.in_ok-arrange.ensures.balanced same (rw c.deref.ensures.value at c.in_ok-graph.ensures.balanced) in
-    let arranged = links_arranged (whole I.MIN_COORD) (whole I.MAX_COORD) fill_rule (holds rule) segments (graph_with whole links) same c.in_ok-arrange.ensures.arranged (polygons_from segment_of (λ s. refl) left.sides.items) (λ p. a.kept p ∙ c.in_ok-arrange.ensures.balanced p) in
+    let sides = sides_of whole splitting fill_rule (holds rule) given segments left.passes left.reach links a (overlay_balances subject clip) same (rw c.deref.ensures.value at c.in_ok-graph.ensures.balanced) in
+    let arranged = links_arranged (whole I.MIN_COORD) (whole I.MAX_COORD) fill_rule (holds rule) segments (graph_with whole links) same c.in_ok-arrange.ensures.arranged (polygons_from segment_of (λ s. refl) left.sides.items) (λ p. a.kept p ∙ (overlay_balances subject clip) p) in
     arranged
 
 pub shapes_of_graph-requires-clause-region : goal.shapes_of_graph-requires-clause-region
@@ -85,8 +86,8 @@ shapes_of_graph-requires-clause-region g c =
     let fill_rule = c.args.fill_rule in
     let a = c.in_ok-arrange.ensures.arrangement in
     let same = graph_with_kept indexes_of is_canonical_node whole (nodes_of graph) links (keeps_fill (holds rule)) fill_rule segments (rw c.deref.ensures.value at c.in_ok-graph.ensures.graph) in
-    let sides = sides_of whole splitting fill_rule (holds rule) given segments left.passes left.reach links a c.in_ok-arrange.ensures.balanced same (rw c.deref.ensures.value at c.in_ok-graph.ensures.balanced) in
-    let arranged = links_arranged (whole I.MIN_COORD) (whole I.MAX_COORD) fill_rule (holds rule) segments (graph_with whole links) same c.in_ok-arrange.ensures.arranged (polygons_from segment_of (λ s. refl) left.sides.items) (λ p. a.kept p ∙ c.in_ok-arrange.ensures.balanced p) in
+    let sides = sides_of whole splitting fill_rule (holds rule) given segments left.passes left.reach links a (overlay_balances subject clip) same (rw c.deref.ensures.value at c.in_ok-graph.ensures.balanced) in
+    let arranged = links_arranged (whole I.MIN_COORD) (whole I.MAX_COORD) fill_rule (holds rule) segments (graph_with whole links) same c.in_ok-arrange.ensures.arranged (polygons_from segment_of (λ s. refl) left.sides.items) (λ p. a.kept p ∙ (overlay_balances subject clip) p) in
     links_have_region (whole I.MIN_COORD) (whole I.MAX_COORD) fill_rule (holds rule) segments (graph_with whole links) sides arranged
 
 pub returns-clause-shapes : goal.returns-clause-shapes
@@ -105,8 +106,8 @@ returns-clause-shapes g c =
     let fill_rule = c.args.fill_rule in
     let a = c.in_ok-arrange.ensures.arrangement in
     let same = graph_with_kept indexes_of is_canonical_node whole (nodes_of graph) links (keeps_fill (holds rule)) fill_rule segments (rw c.deref.ensures.value at c.in_ok-graph.ensures.graph) in
-    let sides = sides_of whole splitting fill_rule (holds rule) given segments left.passes left.reach links a c.in_ok-arrange.ensures.balanced same (rw c.deref.ensures.value at c.in_ok-graph.ensures.balanced) in
-    let arranged = links_arranged (whole I.MIN_COORD) (whole I.MAX_COORD) fill_rule (holds rule) segments (graph_with whole links) same c.in_ok-arrange.ensures.arranged (polygons_from segment_of (λ s. refl) left.sides.items) (λ p. a.kept p ∙ c.in_ok-arrange.ensures.balanced p) in
+    let sides = sides_of whole splitting fill_rule (holds rule) given segments left.passes left.reach links a (overlay_balances subject clip) same (rw c.deref.ensures.value at c.in_ok-graph.ensures.balanced) in
+    let arranged = links_arranged (whole I.MIN_COORD) (whole I.MAX_COORD) fill_rule (holds rule) segments (graph_with whole links) same c.in_ok-arrange.ensures.arranged (polygons_from segment_of (λ s. refl) left.sides.items) (λ p. a.kept p ∙ (overlay_balances subject clip) p) in
     let f = c.in_ok-shapes.ensures.shapes in
     subst (IsShapeOverlay splitting rule fill_rule subject clip) (sym f.contours)
     (shape_overlay_of (whole I.MIN_COORD) (whole I.MAX_COORD) splitting rule fill_rule subject clip segments left.passes left.reach whole links f.walks graph.holds.same_links graph.ordered a same sides arranged f.are)
@@ -127,7 +128,7 @@ returns-clause-in_range g c =
     let fill_rule = c.args.fill_rule in
     let a = c.in_ok-arrange.ensures.arrangement in
     let same = graph_with_kept indexes_of is_canonical_node whole (nodes_of graph) links (keeps_fill (holds rule)) fill_rule segments (rw c.deref.ensures.value at c.in_ok-graph.ensures.graph) in
-    let sides = sides_of whole splitting fill_rule (holds rule) given segments left.passes left.reach links a c.in_ok-arrange.ensures.balanced same (rw c.deref.ensures.value at c.in_ok-graph.ensures.balanced) in
-    let arranged = links_arranged (whole I.MIN_COORD) (whole I.MAX_COORD) fill_rule (holds rule) segments (graph_with whole links) same c.in_ok-arrange.ensures.arranged (polygons_from segment_of (λ s. refl) left.sides.items) (λ p. a.kept p ∙ c.in_ok-arrange.ensures.balanced p) in
+    let sides = sides_of whole splitting fill_rule (holds rule) given segments left.passes left.reach links a (overlay_balances subject clip) same (rw c.deref.ensures.value at c.in_ok-graph.ensures.balanced) in
+    let arranged = links_arranged (whole I.MIN_COORD) (whole I.MAX_COORD) fill_rule (holds rule) segments (graph_with whole links) same c.in_ok-arrange.ensures.arranged (polygons_from segment_of (λ s. refl) left.sides.items) (λ p. a.kept p ∙ (overlay_balances subject clip) p) in
     let f = c.in_ok-shapes.ensures.shapes in
     in_range_of (whole I.MIN_COORD) (whole I.MAX_COORD) splitting rule fill_rule subject clip segments left.passes left.reach whole links f.walks graph.holds.same_links graph.ordered a same sides arranged f.are c.in_ok-arrange.ensures.arranged c.in_ok-shapes.shapes.items f.contours

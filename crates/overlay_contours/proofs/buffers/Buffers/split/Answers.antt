@@ -10,7 +10,7 @@ use Rattle.overlay_contours.specs.Refusals.{IsReason}
 use Rattle.overlay_contours.specs.Splittings.{by_passes, by_snapping, settings_for, IsArrangement}
 use Rattle.overlay_contours.proofs.laws.Overlays.{refused_as}
 use Rattle.overlay_contours.proofs.laws.Splittings.{settings_are, left_by_passes, left_by_snapping, too_large_on_way}
-use Rattle.overlay_contours.proofs.overlay.Buffers.arrange.Goals as goal
+use Rattle.overlay_contours.proofs.buffers.Buffers.split.Goals as goal
 
 pub returns-in_err-split_segments-in-HotPixels-clause-refused : goal.returns-in_err-split_segments-in-HotPixels-clause-refused
 returns-in_err-split_segments-in-HotPixels-clause-refused g c =

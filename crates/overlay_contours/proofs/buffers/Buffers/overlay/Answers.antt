@@ -15,11 +15,12 @@ use Rattle.overlay_contours.specs.ContourSegments.{overlay_segments}
 use Rattle.overlay_contours.specs.ContoursOf.{contours_of}
 use Rattle.overlay_contours.specs.Refusals.{IsReason}
 use Rattle.overlay_contours.specs.Splittings.{Splitting, splitting_for}
+use Rattle.overlay_contours.proofs.laws.Balances.{overlay_balances}
 use Rattle.overlay_contours.proofs.laws.Extracts.{ways_of}
 use Rattle.overlay_contours.proofs.laws.GraphContours.{graph_pairs}
 use Rattle.overlay_contours.proofs.laws.Overlays.{sides_of, links_flow, polygon_overlay, answer_in_range, refused_as}
 use Rattle.overlay_contours.proofs.laws.Splittings.{too_large_above}
-use Rattle.overlay_contours.proofs.overlay.Buffers.overlay.Goals as goal
+use Rattle.overlay_contours.proofs.buffers.Buffers.overlay.Goals as goal
 
 pub returns-in_err-graph-clause-refused : goal.returns-in_err-graph-clause-refused
 returns-in_err-graph-clause-refused g c =
@@ -49,7 +50,7 @@ directed_contours_of_graph-requires g c =
     let fill_rule = c.args.fill_rule in
     let a = c.in_ok-arrange.ensures.arrangement in
     let same = graph_with_kept indexes_of is_canonical_node whole (nodes_of graph) links (keeps_fill (holds rule)) fill_rule segments (rw c.deref.ensures.value at c.in_ok-graph.ensures.graph) in
-    let sides = sides_of whole splitting fill_rule (holds rule) given segments left.passes left.reach links a c.in_ok-arrange.ensures.balanced same (rw c.deref.ensures.value at c.in_ok-graph.ensures.balanced) in
+    let sides = sides_of whole splitting fill_rule (holds rule) given segments left.passes left.reach links a (overlay_balances subject clip) same (rw c.deref.ensures.value at c.in_ok-graph.ensures.balanced) in
     links_flow whole links fill_rule (holds rule) segments sides graph.holds.same_links
 
 pub returns-clause-polygons : goal.returns-clause-polygons
@@ -68,7 +69,7 @@ returns-clause-polygons g c =
     let fill_rule = c.args.fill_rule in
     let a = c.in_ok-arrange.ensures.arrangement in
     let same = graph_with_kept indexes_of is_canonical_node whole (nodes_of graph) links (keeps_fill (holds rule)) fill_rule segments (rw c.deref.ensures.value at c.in_ok-graph.ensures.graph) in
-    let sides = sides_of whole splitting fill_rule (holds rule) given segments left.passes left.reach links a c.in_ok-arrange.ensures.balanced same (rw c.deref.ensures.value at c.in_ok-graph.ensures.balanced) in
+    let sides = sides_of whole splitting fill_rule (holds rule) given segments left.passes left.reach links a (overlay_balances subject clip) same (rw c.deref.ensures.value at c.in_ok-graph.ensures.balanced) in
     polygon_overlay splitting rule fill_rule subject clip (contours_of whole c.in_ok-contours.contours.items) segments left.passes left.reach (graph_with whole links) a same sides
     (λ test. c.in_ok-contours.ensures.edges test ∙ sym (ap (count_by test) (graph_pairs whole links graph.holds.same_links)))
     c.in_ok-contours.ensures.painted
@@ -91,7 +92,7 @@ returns-clause-in_range g c =
     let fill_rule = c.args.fill_rule in
     let a = c.in_ok-arrange.ensures.arrangement in
     let same = graph_with_kept indexes_of is_canonical_node whole (nodes_of graph) links (keeps_fill (holds rule)) fill_rule segments (rw c.deref.ensures.value at c.in_ok-graph.ensures.graph) in
-    let sides = sides_of whole splitting fill_rule (holds rule) given segments left.passes left.reach links a c.in_ok-arrange.ensures.balanced same (rw c.deref.ensures.value at c.in_ok-graph.ensures.balanced) in
+    let sides = sides_of whole splitting fill_rule (holds rule) given segments left.passes left.reach links a (overlay_balances subject clip) same (rw c.deref.ensures.value at c.in_ok-graph.ensures.balanced) in
     answer_in_range splitting rule fill_rule subject clip (contours_of whole c.in_ok-contours.contours.items) segments left.passes left.reach (graph_with whole links) a same sides
     (λ test. c.in_ok-contours.ensures.edges test ∙ sym (ap (count_by test) (graph_pairs whole links graph.holds.same_links)))
     c.in_ok-contours.ensures.painted

@@ -1,0 +1,233 @@
+/* The exports of liboverlay_core.a. Written by tools/c_header.py from crates/overlay_c; do not edit.
+   Each requires a full handle, which overlay_c_new makes, and slices of the lengths that overlay_c_sizes reports. No
+   condition is tested: overlay_core.h has calls that test theirs. */
+#ifndef OVERLAY_CORE_EXPORTS_H
+#define OVERLAY_CORE_EXPORTS_H
+
+#include <stdbool.h>
+#include <stddef.h>
+#include <stdint.h>
+
+#ifdef __cplusplus
+extern "C" {
+#endif
+
+/* A segment, and how it winds for the subject and for the clip. */
+typedef struct {
+    int32_t ax;
+    int32_t ay;
+    int32_t bx;
+    int32_t by;
+    int32_t subj;
+    int32_t clip;
+} overlay_core_segment;
+
+/* A side of a polygon, which winds for the subject, or a step of a line, which has a mask. */
+typedef struct {
+    int32_t ax;
+    int32_t ay;
+    int32_t bx;
+    int32_t by;
+    int32_t subj;
+    /* 2 for a line from the first end to the second, 1 for one that runs back, 3 for both, 0 for none. */
+    uint8_t mask;
+} overlay_core_line;
+
+/* A link of a graph. */
+typedef struct {
+    /* The number of the node at the first end. */
+    size_t a_node;
+    int32_t ax;
+    int32_t ay;
+    /* The number of the node at the second end. */
+    size_t b_node;
+    int32_t bx;
+    int32_t by;
+    uint8_t fill;
+} overlay_core_link;
+
+/* What a call is set to. */
+typedef struct {
+    /* The exponent of the first pass. */
+    size_t start;
+    /* What each further pass adds to it. */
+    size_t progression;
+    /* 0 for List, 1 for Tree, 2 for Frag, 3 for Auto. */
+    uint8_t strategy;
+    /* 0 for EvenOdd, 1 for NonZero, 2 for Positive, 3 for Negative. */
+    uint8_t fill_rule;
+    /* 0 for coordinates of 32 bits, else those of 16. */
+    uint8_t engine;
+    /* Where overlays of contours put crossings that are no whole points: 0 for snap rounding, else pair by pair, as
+       upstream does. Segments and lines are split pair by pair, whatever it is. */
+    uint8_t rounding;
+} overlay_core_settings;
+
+/* How much an engine keeps of its last answer. */
+typedef struct {
+    size_t segments;
+    size_t lines;
+    size_t links;
+    /* Of how many links there is data. */
+    size_t link_data;
+    size_t nodes;
+    size_t node_links;
+    size_t walks;
+    size_t walk_links;
+    /* How many contours the last overlay of contours left, in shapes or not. */
+    size_t contours;
+    /* How many points they have together. */
+    size_t contour_points;
+    /* How many shapes it left: none where it was not in shapes. */
+    size_t shapes;
+    /* Whether there are closed walks: the call wanted them, and an even number of links meets at each node. */
+    bool has_walks;
+    /* Whether the last overlay_c_split joined equal segments or split one, or, if that came later, the last
+       overlay_c_join joined some. Other calls leave it as it is. */
+    bool has_changed;
+    /* How many passes the last split made, up to u64::MAX. */
+    uint64_t passes;
+} overlay_core_sizes;
+
+/* A number of 128 bits. */
+typedef struct {
+    /* Its lower 64 bits. */
+    uint64_t low;
+    /* Its upper 64 bits. */
+    uint64_t high;
+} overlay_core_words;
+
+/* What an overlay of contours reports of its run. */
+typedef struct {
+    /* How many passes it made. */
+    overlay_core_words passes;
+    /* How far these moved crossings at most, in x and in y, in halves of a unit. */
+    overlay_core_words reach;
+} overlay_core_report;
+
+/* A point. */
+typedef struct {
+    int32_t x;
+    int32_t y;
+} overlay_core_point;
+
+/* A number that a caller gives a segment. Parts have that of the whole, and of segments that are merged the first
+   one's is kept. */
+typedef struct {
+    uint64_t number;
+} overlay_core_tag;
+
+/* A segment, and the number that is handed through to its links. */
+typedef struct {
+    overlay_core_segment segment;
+    overlay_core_tag tag;
+} overlay_core_tagged;
+
+/* Where two segments meet. */
+typedef struct {
+    int32_t x;
+    int32_t y;
+    /* 0 where they do not meet, 1 at an end of neither, 2 at one of the target, 3 at one of the other, 4 where all
+       ends lie on one line. */
+    uint8_t kind;
+    bool is_rounded;
+    /* Where all ends lie on one line, those that lie strictly inside the other segment: a sum of 1 and 2 for the
+       target's, 4 and 8 for the other's; else 0. */
+    uint8_t mask;
+} overlay_core_cross;
+
+/* The place of an engine. It may go to another thread, for one call at a time. */
+typedef struct {
+    void *at;
+} overlay_core_handle;
+
+/* Makes an engine, in an empty handle. Returns whether there was memory. */
+bool overlay_c_new(overlay_core_handle *handle, uint32_t snap_limit);
+
+/* Frees the engine of a handle, which is empty then. */
+void overlay_c_free(overlay_core_handle *handle);
+
+/* The overlay of the segments that records ask for, by the rule of a code (overlay_rule) and the engine that the
+   settings name. Returns 0 where it is done, 1 where memory was refused, 2 where a count left the range, and 3
+   where the segments may not be split with that engine. */
+uint8_t overlay_c_overlay(overlay_core_handle *handle, const overlay_core_segment *given, size_t given_len, const overlay_core_settings *settings, uint8_t rule, bool walks);
+
+/* The overlay of the segments that records ask for, with the data of each link, and without walks. A part of a
+   segment has its data; of segments on one pair of ends the first one's is kept. Returns as overlay_c_overlay does. */
+uint8_t overlay_c_overlay_with_data(overlay_core_handle *handle, const overlay_core_tagged *given, size_t given_len, const overlay_core_settings *settings, uint8_t rule);
+
+/* The split of the segments that records ask for. Returns as overlay_c_overlay does. */
+uint8_t overlay_c_split(overlay_core_handle *handle, const overlay_core_segment *given, size_t given_len, const overlay_core_settings *settings);
+
+/* The graph of all of the arrangement of the segments that records ask for. Returns as overlay_c_overlay does. */
+uint8_t overlay_c_all(overlay_core_handle *handle, const overlay_core_segment *given, size_t given_len, const overlay_core_settings *settings);
+
+/* The join of the segments that records ask for, with the engine that the code of a width names, as in
+   SettingsRecord. Returns as overlay_c_overlay does. After a refusal the list is empty. */
+uint8_t overlay_c_join(overlay_core_handle *handle, const overlay_core_segment *given, size_t given_len, uint8_t width);
+
+/* The parts of lines that a clip rule keeps. Returns as overlay_c_overlay does. */
+uint8_t overlay_c_clip(overlay_core_handle *handle, const overlay_core_line *given, size_t given_len, const overlay_core_settings *settings, bool invert, bool boundary_included);
+
+/* Copies a contour behind the others of the subject, where the shape's code is 0, or else of the clip. Returns 0
+   where it is added; else nothing is: 1 where memory was refused, 4 where a point is out of range. */
+uint8_t overlay_c_add_contour(overlay_core_handle *handle, const overlay_core_point *contour, size_t contour_len, uint8_t shape);
+
+/* The overlay of the contours that were added, as contours that have it on their left: outer boundaries run
+   counterclockwise, and holes clockwise. Returns 0 where it is done, 1 where memory was refused, and 2 where a
+   count left the range. The contours that were added stay. Crossings are rounded as the settings say: by snap
+   rounding, or pair by pair, in passes of which the first 256 snap, whatever the limit of the engine is.
+   Coordinates have 32 bits, whatever engine the settings name. */
+uint8_t overlay_c_polygons(overlay_core_handle *handle, const overlay_core_settings *settings, uint8_t rule);
+
+/* The overlay of the contours that were added, in shapes: each an outer boundary, followed by its holes, whose
+   contours come to no point twice. Returns as overlay_c_polygons does, under the same settings. The contours that
+   were added stay. */
+uint8_t overlay_c_shapes(overlay_core_handle *handle, const overlay_core_settings *settings, uint8_t rule);
+
+/* What the last overlay of contours, in shapes or not, reports of its run: how many passes it made, and how far
+   these moved edges. What such an overlay leaves holds at every place that is farther than this from the edges of
+   the contours that it was given. Both are 0 at first, and nothing is promised of them after an overlay that was
+   refused. */
+overlay_core_report overlay_c_report(overlay_core_handle *handle);
+
+/* Drops the contours that were added. */
+void overlay_c_clear(overlay_core_handle *handle);
+
+/* Where a target and another segment meet, with a squared radius within which a crossing is moved to an end, and,
+   where all ends lie on one line, which of them lie strictly inside the other segment. The counts do not matter. */
+overlay_core_cross overlay_c_cross(const overlay_core_segment *target, const overlay_core_segment *other, int64_t radius_squared);
+
+/* How much the engine keeps of its last answer. */
+overlay_core_sizes overlay_c_sizes(overlay_core_handle *handle);
+
+/* Copies the arrangement out. */
+void overlay_c_segments(overlay_core_handle *handle, overlay_core_segment *out, size_t out_len);
+
+/* Copies the arrangement of polygons and lines out. */
+void overlay_c_lines(overlay_core_handle *handle, overlay_core_line *out, size_t out_len);
+
+/* Copies the links out. */
+void overlay_c_links(overlay_core_handle *handle, overlay_core_link *out, size_t out_len);
+
+/* Copies the data of links out: that of the last overlay with data, one for each of its links. */
+void overlay_c_link_data(overlay_core_handle *handle, overlay_core_tag *out, size_t out_len);
+
+/* Copies out how many links meet at each node, and the indexes of these links, node by node. */
+void overlay_c_nodes(overlay_core_handle *handle, size_t *degrees, size_t degrees_len, size_t *indexes, size_t indexes_len);
+
+/* Copies out how many links each walk has, and the indexes of these links, walk by walk. */
+void overlay_c_walks(overlay_core_handle *handle, size_t *lengths, size_t lengths_len, size_t *indexes, size_t indexes_len);
+
+/* Copies out how many points each contour of the last overlay of contours has, in shapes or not, and these points,
+   contour by contour, those of shapes shape by shape. */
+void overlay_c_contours(overlay_core_handle *handle, size_t *lengths, size_t lengths_len, overlay_core_point *points, size_t points_len);
+
+/* Copies out how many contours each shape of the last overlay of contours has: of none where it was not in shapes. */
+void overlay_c_shape_lengths(overlay_core_handle *handle, size_t *out, size_t out_len);
+
+#ifdef __cplusplus
+}
+#endif
+
+#endif

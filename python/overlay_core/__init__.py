@@ -1,0 +1,159 @@
+"""Overlays of polygons, by the proved library: lists of points in, outer boundaries with their holes out.
+
+    >>> from overlay_core import overlay
+    >>> overlay([[(0, 0), (8, 0), (8, 8), (0, 8)]], [[(2, 2), (6, 2), (6, 6), (2, 6)]], "difference")
+    [([(0, 8), (0, 0), (8, 0), (8, 8)], [[(2, 2), (2, 6), (6, 6), (6, 2)]])]
+
+The library is found in the folder `c/out` of the repository, or where the variable OVERLAY_CORE names its file.
+"""
+import ctypes
+import os
+import pathlib
+
+__all__ = ["MAX_COORD", "MIN_COORD", "OverlayError", "overlay"]
+
+MIN_COORD, MAX_COORD = -(1 << 30), (1 << 30) - 1
+
+RULES = {"subject": 0, "clip": 1, "intersect": 2, "union": 3, "difference": 4, "inverse-difference": 5, "xor": 6}
+FILLS = {"evenodd": 0, "nonzero": 1, "positive": 2, "negative": 3}
+VERSION = 1
+
+
+class OverlayError(Exception):
+    """The library refused a call: there was no memory, or contours wind too often around a point."""
+
+
+class _Result(ctypes.Structure):
+    _fields_ = [
+        ("xy", ctypes.POINTER(ctypes.c_int32)),
+        ("contour_starts", ctypes.POINTER(ctypes.c_size_t)),
+        ("shape_starts", ctypes.POINTER(ctypes.c_size_t)),
+        ("points", ctypes.c_size_t),
+        ("contours", ctypes.c_size_t),
+        ("shapes", ctypes.c_size_t),
+        ("reach", ctypes.c_uint64),
+    ]
+
+
+def _load():
+    """Loads the library, and declares its calls."""
+    path = os.environ.get("OVERLAY_CORE") or pathlib.Path(__file__).resolve().parents[2] / "c/out/liboverlay_core.so"
+    try:
+        library = ctypes.CDLL(str(path))
+    except OSError as error:
+        raise ImportError(f"{path} is not there: `python3 tools/archive.py` and `make -C c` make it ({error})") from error
+    handle, number, points = ctypes.c_void_p, ctypes.c_int, ctypes.POINTER(ctypes.c_int32)
+    calls = {
+        "version": (ctypes.c_uint32, []),
+        "text": (ctypes.c_char_p, [number]),
+        "new": (handle, []),
+        "free": (None, [handle]),
+        "add_contour": (number, [handle, number, points, ctypes.c_size_t]),
+        "overlay_shapes": (number, [handle, number, number]),
+        "get": (_Result, [handle]),
+    }
+    for name, (result, arguments) in calls.items():
+        call = getattr(library, f"overlay_core_{name}")
+        call.restype, call.argtypes = result, arguments
+    if library.overlay_core_version() != VERSION:
+        raise ImportError(f"{path} has version {library.overlay_core_version()}, and this package is for version {VERSION}")
+    return library
+
+
+_library = None
+
+
+def _calls():
+    """The library, loaded at the first use."""
+    global _library
+    if _library is None:
+        _library = _load()
+    return _library
+
+
+def _code(kind, name, codes):
+    """The code of a name."""
+    if name not in codes:
+        raise ValueError(f"{name!r} is no {kind}: one of {', '.join(codes)}")
+    return codes[name]
+
+
+def _coordinate(value, scale, where):
+    """A coordinate as the library takes it."""
+    if scale is None:
+        if isinstance(value, bool) or not hasattr(value, "__index__"):
+            raise TypeError(f"{where}: {value!r} is no whole number; give a scale for others")
+        number = value.__index__()
+    else:
+        scaled = value * scale
+        if scaled != scaled or scaled in (float("inf"), float("-inf")):
+            raise ValueError(f"{where}: {value!r} is no finite number")
+        number = round(scaled)
+    if not MIN_COORD <= number <= MAX_COORD:
+        of_scale = "" if scale is None else f" times {scale}"
+        raise ValueError(f"{where}: {value!r}{of_scale} is outside of {MIN_COORD} to {MAX_COORD}")
+    return number
+
+
+def _numbers(contour, scale, where):
+    """The coordinates of a contour, without a last point that repeats the first."""
+    points = [tuple(point) for point in contour]
+    if len(points) > 1 and points[0] == points[-1]:
+        points.pop()
+    numbers = []
+    for index, point in enumerate(points):
+        at = f"{where}, point {index}"
+        if len(point) != 2:
+            raise ValueError(f"{at}: {point!r} has {len(point)} numbers, not two")
+        numbers += [_coordinate(point[0], scale, f"{at}: x"), _coordinate(point[1], scale, f"{at}: y")]
+    return numbers
+
+
+def _check(status):
+    """Raises what a status says."""
+    if status:
+        raise OverlayError(_calls().overlay_core_text(status).decode())
+
+
+def _contours(result, scale):
+    """The contours of a result."""
+    for index in range(result.contours):
+        start, end = result.contour_starts[index], result.contour_starts[index + 1]
+        numbers = result.xy[2 * start:2 * end]
+        if scale is not None:
+            numbers = [number / scale for number in numbers]
+        yield list(zip(numbers[::2], numbers[1::2]))
+
+
+def overlay(subject, clip, rule, fill="nonzero", scale=None):
+    """The overlay of two lists of contours: a list of shapes, each an outer boundary and the list of its holes.
+
+    A contour is a list of points, each x and y, whole numbers from MIN_COORD to MAX_COORD; a last point that repeats the first is
+    left out. With a `scale`, coordinates may be any numbers: each is multiplied by it and rounded, and results are divided by it.
+    A scale of 1,000 or more leaves room below the unit, so that small overlaps do not vanish.
+
+    The direction of a contour counts, but for the fill "evenodd": under "nonzero" two contours that overlap and run in opposite
+    directions cancel. `rule` is one of subject, clip, intersect, union, difference, inverse-difference, xor.
+
+    Raises ValueError or TypeError, which name the point, where a coordinate is of no use, and OverlayError where the library
+    refuses.
+    """
+    rule_code, fill_code = _code("rule", rule, RULES), _code("fill", fill, FILLS)
+    sides = [("subject", subject), ("clip", clip)]
+    given = [[_numbers(contour, scale, f"contour {index} of the {name}") for index, contour in enumerate(contours)]
+             for name, contours in sides]
+    calls = _calls()
+    handle = calls.overlay_core_new()
+    if not handle:
+        raise OverlayError("there is not enough memory")
+    try:
+        for shape, contours in enumerate(given):
+            for numbers in contours:
+                _check(calls.overlay_core_add_contour(handle, shape, (ctypes.c_int32 * len(numbers))(*numbers), len(numbers) // 2))
+        _check(calls.overlay_core_overlay_shapes(handle, rule_code, fill_code))
+        result = calls.overlay_core_get(handle)
+        contours = list(_contours(result, scale))
+        starts = result.shape_starts[:result.shapes + 1]
+        return [(contours[start], contours[start + 1:end]) for start, end in zip(starts, starts[1:])]
+    finally:
+        calls.overlay_core_free(handle)
