@@ -6,6 +6,7 @@ pub mod LinkData
 pub mod GraphBlocks
 pub mod GraphExact
 pub mod GraphValid
+pub mod PackedEnds
 pub mod NodeLists
 pub mod StoredFills
 pub mod KeptLinks

@@ -1,16 +1,19 @@
 -- Ends with their indexes, as whole numbers.
-use Rattle.std.specs.Prelude.{ℕ, ℤ, List, map}
+use Rattle.std.specs.Prelude.{ℕ, ◌/◌, ◌%◌, pos, ◌-ℤ◌, List, map}
 use Rattle.overlay_geometry.specs.Points.{Point}
-use Rattle.overlay_geometry.specs.PointOf.{point_of}
-use Rattle.overlay_geometry.specs.declared.geom.end.End.{End}
+use Rattle.overlay_build.specs.declared.build.link_ends.PackedEnd.{PackedEnd}
 
 -- an end of a link, with its index
 pub record WholeEnd : Type 0 where
   pub index : ℕ
   pub point : Point
 
-abbrev pub end_of : {I : Type 0} → (I → ℤ) → End I → WholeEnd
-end_of whole e = record { index = e.index; point = point_of whole e.point }
+-- The point that a number stands for: the number of the column, then that of the row, each counted up from -2^31.
+unfoldable pub unpacked : ℕ → Point
+unpacked key = record { x = pos (key / 4294967296) -ℤ pos 2147483648; y = pos (key % 4294967296) -ℤ pos 2147483648 }
 
-abbrev pub ends_of : {I : Type 0} → (I → ℤ) → List (End I) → List WholeEnd
-ends_of whole list = map (end_of whole) list
+abbrev pub end_of : PackedEnd → WholeEnd
+end_of e = record { index = e.index; point = unpacked e.key }
+
+abbrev pub ends_of : List PackedEnd → List WholeEnd
+ends_of list = map end_of list

@@ -1,10 +1,10 @@
 -- What the steps of a build make of links of code.
-use Rattle.std.specs.Prelude.{◌≡◌, ◌≢◌, ◌⊎◌, ℕ, ◌-◌, ◌<◌, ◌≤◌, ℤ, Bool, false, if◌then◌else◌, List, Vec, map, filter, take, drop, length, slice_index_or}
+use Rattle.std.specs.Prelude.{◌≡◌, ◌≢◌, ◌⊎◌, ℕ, ◌-◌, ◌<◌, ◌≤◌, ℤ, Bool, false, IsTrue, if◌then◌else◌, List, Vec, map, filter, take, drop, length, slice_index_or}
 use Rattle.std.specs.Global.{Global}
+use Rattle.std.specs.List.{list_all}
+use Rattle.overlay_geometry.specs.Coordinates.{is_pair_in_range}
 use Rattle.overlay_geometry.specs.Points.{Point, point_cmp, point_lt}
-use Rattle.overlay_geometry.specs.PointOf.{point_of}
 use Rattle.overlay_geometry.specs.Sorting.{stably_sorted}
-use Rattle.overlay_geometry.specs.declared.geom.point.IntPoint.{IntPoint}
 use Rattle.overlay_base.specs.SegmentOf.{segments_of, data_segments_of}
 use Rattle.overlay_base.specs.declared.overlay_core.fill_rule.FillRule.{FillRule}
 use Rattle.overlay_base.specs.declared.overlay_core.link.OverlayLink.{OverlayLink}
@@ -33,6 +33,10 @@ HaveKeptData rule list fills links =
 -- The links with their nodes are the graph of the links before.
 abbrev pub ConnectLinks : {N I D : Type 0} → (N → List ℕ) → (N → Bool) → (I → ℤ) → Vec (OverlayLink I D) Global → Vec (OverlayLink I D) Global → Vec N Global → Type 0
 ConnectLinks indexes is_canonical whole old new nodes = HoldGraph indexes is_canonical whole nodes.items new.items (graph_with whole old.items)
+
+-- the ends of links are in range
+abbrev pub AreEndsInRange : {I D : Type 0} → (I → ℤ) → I → I → List (OverlayLink I D) → Type 0
+AreEndsInRange whole least greatest links = IsTrue (list_all (is_pair_in_range (whole least) (whole greatest)) (pairs_of_links whole links))
 
 -- the first ends of links, with the indexes of the links
 abbrev pub starts_of : {I D : Type 0} → (I → ℤ) → List (OverlayLink I D) → List WholeEnd
@@ -64,7 +68,7 @@ abbrev pub indexes_between : List WholeEnd → ℕ → ℕ → List ℕ
 indexes_between ends from next = map (λ e. e.index) (take (next - from) (drop from ends))
 
 -- The links at some indexes have the number of the node at a point, and the others are as they were.
-abbrev pub NumbersEnds : {I D : Type 0} → (I → ℤ) → List ℕ → IntPoint I → ℕ → List (OverlayLink I D) → List (OverlayLink I D) → Type 0
+abbrev pub NumbersEnds : {I D : Type 0} → (I → ℤ) → List ℕ → Point → ℕ → List (OverlayLink I D) → List (OverlayLink I D) → Type 0
 NumbersEnds {I = I} {D = D} whole indexes point id old new =
     (k : ℕ) (d : OverlayLink I D) → k < length old →
-    slice_index_or new k d ≡ (if names_node k indexes then with_node whole (point_of whole point) id (slice_index_or old k d) else slice_index_or old k d)
+    slice_index_or new k d ≡ (if names_node k indexes then with_node whole point id (slice_index_or old k d) else slice_index_or old k d)

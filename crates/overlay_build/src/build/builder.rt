@@ -25,6 +25,7 @@ use crate::build::fills::find_fills;
 use crate::build::graph::OverlayGraph;
 use crate::build::graph_node::{GraphNode, OverlayNode};
 use crate::build::kept_links::{LinkRule, collect_links};
+use crate::build::link_ends::PackedEnd;
 use crate::build::string_graph::StringGraph;
 use overlay_base::overlay_core::clip_rule::ClipRule;
 use overlay_base::overlay_core::fill_rule::FillRule;
@@ -37,7 +38,6 @@ use overlay_base::segm::segment::Segment;
 use overlay_base::segm::segment_fill::SegmentFill;
 use overlay_base::segm::string::ShapeCountString;
 use overlay_base::segm::winding::WindingCount;
-use overlay_geometry::geom::end::End;
 use overlay_geometry::num::OverlayInt;
 use overlay_sweep::build::fill_strategy::FillCount;
 use overlay_sweep::build::sweep::SweepRunner;
@@ -50,7 +50,7 @@ pub struct GraphBuilder<C: WindingCount, N: GraphNode, I: OverlayInt, D: Copy> {
     alloc: Global,
     sweep_runner: SweepRunner<C, I>,
     fills: Vec<SegmentFill>,
-    ends: Vec<End<I>>,
+    ends: Vec<PackedEnd>,
     indices: Vec<usize>,
     links: Vec<OverlayLink<I, D>>,
     nodes: Vec<N>,

@@ -5,31 +5,31 @@ ghost use Rattle.overlay_geometry.specs.Sorting.{is_strictly_sorted};
 ghost use Rattle.overlay_geometry.specs.PointOf.{point_of};
 ghost use Rattle.overlay_base.specs.declared.segm.fault.Fault.TheVariants.{Memory};
 ghost use Rattle.overlay_build.specs.GraphOf.{pairs_of_links};
-ghost use Rattle.overlay_build.specs.steps.LinksOf.{ConnectLinks};
+ghost use Rattle.overlay_build.specs.steps.LinksOf.{AreEndsInRange, ConnectLinks};
 
 use crate::build::graph_node::GraphNode;
 use crate::build::link_ends::{
-    collect_ends, next_point, number_ends, push_ends, push_starts, sort_by_point,
+    PackedEnd, collect_ends, next_point, number_ends, push_ends, push_starts, sort_by_point,
 };
 use overlay_base::overlay_core::link::OverlayLink;
 use overlay_base::segm::fault::Fault;
-use overlay_geometry::geom::end::End;
 use overlay_geometry::num::OverlayInt;
 use std::alloc::Global;
 
 /// Makes the nodes at the ends of the links, and gives both ends of each link the number of its node. The first end of
 /// each link has to stand before the second, and the links have to be sorted by their ends, no two on the same ends. So
-/// their first ends are sorted, and only the second ends have to be.
+/// their first ends are sorted, and only the second ends have to be. All ends have to be in range.
 pub fn connect_links<N: GraphNode, I: OverlayInt, D: Copy>(
     alloc: Global,
     links: &mut Vec<OverlayLink<I, D>>,
-    ends: &mut Vec<End<I>>,
+    ends: &mut Vec<PackedEnd>,
     indices: &mut Vec<usize>,
     nodes: &mut Vec<N>,
 ) -> Result<(), Fault>
     requires ordered { All (λ l. IsTrue (point_lt (point_of I.whole l.a.point) (point_of I.whole l.b.point)))
         links.old.items }
     requires sorted { IsTrue (is_strictly_sorted pair_cmp (pairs_of_links I.whole links.old.items)) }
+    requires in_range { AreEndsInRange I.whole I.MIN_COORD I.MAX_COORD links.old.items }
     ensures graph { OnOk result (ConnectLinks N.indexes N.is_canonical I.whole links.old links.new nodes.new) }
     ensures edge_data { OnOk result (map (λ l. l.edge_data) links.new.items ≡ map (λ l. l.edge_data) links.old.items) }
     ensures fault { IfErr result (λ fault. fault ≡ Memory) }
@@ -40,11 +40,11 @@ pub fn connect_links<N: GraphNode, I: OverlayInt, D: Copy>(
     nodes.reserve(links.len())?;
     let mut start = 0;
     let mut end = 0;
-    while let Some(point) = next_point(links, ends, start, end) {
+    while let Some(key) = next_point(links, ends, start, end) {
         indices.clear();
-        start = push_starts(links, start, point, indices)?;
-        end = push_ends(ends, end, point, indices)?;
-        number_ends(links, indices, point, nodes.len());
+        start = push_starts(links, start, key, indices)?;
+        end = push_ends(ends, end, key, indices)?;
+        number_ends(links, indices, key, nodes.len());
         nodes.push(N::with_indices(alloc, indices)?)?;
     }
     Ok(())

@@ -1,65 +1,97 @@
-// The ends of links in order of their points. Upstream: part of `build::graph`.
-ghost use Rattle.std.specs.Prelude.{◌≡◌, ◌++◌, ◌<◌, ◌≤◌, length, OnOk, IfOk, IfErr, IfSome, IfNone, All, if◌then◌else◌};
+// The ends of links in order of their points. Upstream: part of `build::graph`, which sorts them by their points.
+ghost use Rattle.std.specs.Prelude.{◌≡◌, ◌++◌, ◌<◌, ◌≤◌, length, OnOk, IfOk, IfErr, IfSome, IfNone, IsTrue, All, if◌then◌else◌, pos, ◌+ℤ◌};
+ghost use Rattle.overlay_geometry.specs.Coordinates.{is_coordinate};
+ghost use Rattle.overlay_geometry.specs.InRange.{IsPointInRange};
 ghost use Rattle.overlay_geometry.specs.PointOf.{point_of};
 ghost use Rattle.overlay_base.specs.declared.segm.fault.Fault.TheVariants.{Memory};
-ghost use Rattle.overlay_build.specs.steps.EndOf.{ends_of};
+ghost use Rattle.overlay_build.specs.steps.EndOf.{unpacked, ends_of};
 ghost use Rattle.overlay_build.specs.GraphOf.{pairs_of_links};
 ghost use Rattle.overlay_build.specs.steps.LinkEnds.{numbered_ends};
-ghost use Rattle.overlay_build.specs.steps.LinksOf.{starts_of, by_point, IsNextPoint, IsRunAt, indexes_between, NumbersEnds};
+ghost use Rattle.overlay_build.specs.steps.LinksOf.{starts_of, by_point, AreEndsInRange, IsNextPoint, IsRunAt, indexes_between, NumbersEnds};
 
 use overlay_base::overlay_core::link::OverlayLink;
 use overlay_base::segm::fault::Fault;
-use overlay_geometry::geom::end::End;
 use overlay_geometry::geom::point::IntPoint;
 use overlay_geometry::num::OverlayInt;
+
+/// The second end of the link at an index.
+#[derive(Clone, Copy)]
+pub struct PackedEnd {
+    /// The index of the link.
+    pub index: usize,
+    /// Where the end lies: the point as one number.
+    pub key: u64,
+}
+
+/// How many numbers each column has.
+const ROWS: u64 = 4_294_967_296;
+
+/// A point as one number. These numbers are in the order of the points, so lists of them are sorted faster.
+pub fn packed<I: OverlayInt>(point: IntPoint<I>) -> u64
+    requires { IsPointInRange I.whole I.MIN_COORD I.MAX_COORD point }
+    ensures { unpacked result ≡ point_of I.whole point }
+{
+    from_least(point.x) * ROWS + from_least(point.y)
+}
+
+/// How far a coordinate is above -2^31.
+fn from_least<I: OverlayInt>(coordinate: I) -> u64
+    requires { IsTrue (is_coordinate (I.whole I.MIN_COORD) (I.whole I.MAX_COORD) (I.whole coordinate)) }
+    ensures value { pos result ≡ I.whole coordinate +ℤ pos 2147483648 }
+    ensures bound { result < 4294967296 }
+{
+    (coordinate.to_wide() + 2_147_483_648) as u64
+}
 
 /// Collects the second ends of all links, each with its link's index.
 pub fn collect_ends<I: OverlayInt, D: Copy>(
     links: &[OverlayLink<I, D>],
-    ends: &mut Vec<End<I>>,
+    ends: &mut Vec<PackedEnd>,
 ) -> Result<(), Fault>
-    ensures ends { OnOk result (ends_of I.whole ends.new.items ≡ numbered_ends (pairs_of_links I.whole links.now)) }
+    requires { AreEndsInRange I.whole I.MIN_COORD I.MAX_COORD links.now }
+    ensures ends { OnOk result (ends_of ends.new.items ≡ numbered_ends (pairs_of_links I.whole links.now)) }
     ensures fault { IfErr result (λ fault. fault ≡ Memory) }
 {
     ends.clear();
     ends.reserve(links.len())?;
     for (index, link) in links.iter().enumerate() {
-        let point = link.b.point;
-        ends.push(End { index, point })?;
+        let key = packed(link.b.point);
+        ends.push(PackedEnd { index, key })?;
     }
     Ok(())
 }
 
 /// Sorts ends by their points. Ends at one point stay in their order.
-pub fn sort_by_point<I: OverlayInt>(ends: &mut Vec<End<I>>) -> Result<(), Fault>
-    ensures sorted { OnOk result (ends_of I.whole ends.new.items ≡ by_point (ends_of I.whole ends.old.items)) }
+pub fn sort_by_point(ends: &mut Vec<PackedEnd>) -> Result<(), Fault>
+    ensures sorted { OnOk result (ends_of ends.new.items ≡ by_point (ends_of ends.old.items)) }
     ensures fault { IfErr result (λ fault. fault ≡ Memory) }
 {
-    ends.sort_by_key(|end| end.point)?;
+    ends.sort_by_key(|end| end.key)?;
     Ok(())
 }
 
-/// The point of the next node: the lesser of the first end of the link at one place and of the second end at another,
-/// of those that there are.
+/// The point of the next node, as one number: the lesser of the first end of the link at one place and of the second
+/// end at another, of those that there are.
 pub fn next_point<I: OverlayInt, D: Copy>(
     links: &[OverlayLink<I, D>],
-    ends: &[End<I>],
+    ends: &[PackedEnd],
     start: usize,
     end: usize,
-) -> Option<IntPoint<I>>
-    ensures point { IfSome result (λ p. IsNextPoint (starts_of I.whole links.now) (ends_of I.whole ends.now) start end
-        (point_of I.whole p)) }
+) -> Option<u64>
+    requires { AreEndsInRange I.whole I.MIN_COORD I.MAX_COORD links.now }
+    ensures point { IfSome result (λ key. IsNextPoint (starts_of I.whole links.now) (ends_of ends.now) start end
+        (unpacked key)) }
     ensures none { IfNone result ((length links.now ≤ start) × (length ends.now ≤ end)) }
 {
-    if start < links.len() {
-        let first = links[start].a.point;
-        if end < ends.len() && ends[end].point < first {
-            return Some(ends[end].point);
-        }
-        return Some(first);
-    }
     if end < ends.len() {
-        return Some(ends[end].point);
+        let second = ends[end].key;
+        if start < links.len() {
+            return Some(second.min(packed(links[start].a.point)));
+        }
+        return Some(second);
+    }
+    if start < links.len() {
+        return Some(packed(links[start].a.point));
     }
     None
 }
@@ -68,17 +100,18 @@ pub fn next_point<I: OverlayInt, D: Copy>(
 pub fn push_starts<I: OverlayInt, D: Copy>(
     links: &[OverlayLink<I, D>],
     start: usize,
-    point: IntPoint<I>,
+    key: u64,
     indices: &mut Vec<usize>,
 ) -> Result<usize, Fault>
-    requires { start ≤ length links.now }
-    ensures run { IfOk result (λ next. IsRunAt (starts_of I.whole links.now) (point_of I.whole point) start next) }
+    requires start { start ≤ length links.now }
+    requires in_range { AreEndsInRange I.whole I.MIN_COORD I.MAX_COORD links.now }
+    ensures run { IfOk result (λ next. IsRunAt (starts_of I.whole links.now) (unpacked key) start next) }
     ensures indices { IfOk result (λ next. indices.new.items ≡ indices.old.items
         ++ indexes_between (starts_of I.whole links.now) start next) }
     ensures fault { IfErr result (λ fault. fault ≡ Memory) }
 {
     let mut next = start;
-    while next < links.len() && links[next].a.point == point {
+    while next < links.len() && packed(links[next].a.point) == key {
         indices.push(next)?;
         next += 1;
     }
@@ -86,20 +119,20 @@ pub fn push_starts<I: OverlayInt, D: Copy>(
 }
 
 /// Does the same with the ends that lie at a point, and the indexes of their links.
-pub fn push_ends<I: OverlayInt>(
-    ends: &[End<I>],
+pub fn push_ends(
+    ends: &[PackedEnd],
     start: usize,
-    point: IntPoint<I>,
+    key: u64,
     indices: &mut Vec<usize>,
 ) -> Result<usize, Fault>
     requires { start ≤ length ends.now }
-    ensures run { IfOk result (λ next. IsRunAt (ends_of I.whole ends.now) (point_of I.whole point) start next) }
+    ensures run { IfOk result (λ next. IsRunAt (ends_of ends.now) (unpacked key) start next) }
     ensures indices { IfOk result (λ next. indices.new.items ≡ indices.old.items
-        ++ indexes_between (ends_of I.whole ends.now) start next) }
+        ++ indexes_between (ends_of ends.now) start next) }
     ensures fault { IfErr result (λ fault. fault ≡ Memory) }
 {
     let mut next = start;
-    while next < ends.len() && ends[next].point == point {
+    while next < ends.len() && ends[next].key == key {
         indices.push(ends[next].index)?;
         next += 1;
     }
@@ -111,16 +144,17 @@ pub fn push_ends<I: OverlayInt>(
 pub fn number_ends<I: OverlayInt, D: Copy>(
     links: &mut [OverlayLink<I, D>],
     indices: &[usize],
-    point: IntPoint<I>,
+    key: u64,
     id: usize,
 )
-    requires { All (λ k. k < length links.old) indices.now }
+    requires within { All (λ k. k < length links.old) indices.now }
+    requires in_range { AreEndsInRange I.whole I.MIN_COORD I.MAX_COORD links.old }
     ensures length { length links.new ≡ length links.old }
-    ensures links { NumbersEnds I.whole indices.now point id links.old links.new }
+    ensures links { NumbersEnds I.whole indices.now (unpacked key) id links.old links.new }
 {
     for index in indices {
         let link = &mut links[*index];
-        if link.a.point == point {
+        if packed(link.a.point) == key {
             link.a.id = id;
         } else {
             link.b.id = id;

@@ -1,5 +1,5 @@
 -- Graphs as they are kept, and those of the kept segments.
-use Rattle.std.proofs.Common.{◌≡◌, refl, sym, ap, ◌∙◌, subst, ℕ, Bool, true, IsTrue, List, [], ◌∷◌, map, filter, length, get_or, ◌<◌}
+use Rattle.std.proofs.Common.{◌≡◌, refl, sym, ap, ◌∙◌, subst, ℕ, Bool, true, ◌&&◌, IsTrue, List, [], ◌∷◌, map, filter, length, get_or, ◌<◌}
 use Rattle.std.specs.Prelude.{ℤ}
 use Rattle.std.specs.List.{list_all}
 use Rattle.std.proofs.lemmas.Bool.{and_parts}
@@ -7,15 +7,16 @@ use Rattle.std.proofs.lemmas.List.Sums.{AllPass-from_list_all}
 use Rattle.std.proofs.lemmas.List.Folds.{list_all-map}
 use Rattle.std.proofs.lemmas.Simd.{map-map}
 use Rattle.std.specs.List.Sorted.{IsStrictlySortedBy}
+use Rattle.overlay_geometry.specs.Coordinates.{is_pair_in_range}
 use Rattle.overlay_geometry.specs.Points.{point_lt, is_ordered, pair_cmp}
 use Rattle.overlay_geometry.specs.Sorting.{is_strictly_sorted}
 use Rattle.overlay_geometry.proofs.laws.geometry.Points.{pair_cmp_total}
 use Rattle.overlay_geometry.proofs.laws.lists.Keys.{IsStrictlySortedBy-from_test, IsStrictlySortedBy-map_filter, is_strictly_sorted-from}
 use Rattle.overlay_geometry.specs.PointOf.{point_of}
-use Rattle.overlay_base.specs.Windings.{is_not_empty}
+use Rattle.overlay_base.specs.Windings.{is_not_empty, is_valid}
 use Rattle.overlay_geometry.proofs.laws.lists.Lists.{list_all-and_parts, list_all-filter}
 use Rattle.overlay_base.specs.Segments.{WholeSegment, pairs, is_map, are_polygons}
-use Rattle.overlay_base.specs.Planar.{is_arranged}
+use Rattle.overlay_base.specs.Planar.{is_arranged, is_splittable}
 use Rattle.overlay_base.specs.Balance.{IsBalanced}
 use Rattle.overlay_base.specs.Rules.{keeps_fill}
 use Rattle.overlay_base.specs.declared.overlay_core.fill_rule.FillRule.{FillRule}
@@ -98,3 +99,17 @@ links_are_sorted whole links keeps rule least greatest segments arranged e =
     let kept = IsStrictlySortedBy-map_filter (λ (f : Filled). f.pair) pair_cmp (λ f. keeps f.fill) (filled rule segments) all in
     let their : map (λ (f : Filled). f.pair) (filter (λ f. keeps f.fill) (filled rule segments)) ≡ pairs_of_links whole links = ap (map (λ (f : Filled). f.pair)) (sym e) ∙ map-map (λ (f : Filled). f.pair) (λ (l : OverlayLink _ _). without_nodes (link_of whole l)) links in
     is_strictly_sorted-from pair_cmp_total (pairs_of_links whole links) (subst (IsStrictlySortedBy pair_cmp) their kept)
+
+-- and lie in range, as the segments do
+pub links_are_in_range : {I D : Type 0} (whole : I → ℤ) (links : List (OverlayLink I D)) (keeps : ℕ → Bool) (rule : FillRule) (least greatest : ℤ) (segments : List WholeSegment) → IsTrue (is_arranged least greatest segments) →
+    kept_of whole links ≡ filter (λ f. keeps f.fill) (filled rule segments) → IsTrue (list_all (is_pair_in_range least greatest) (pairs_of_links whole links))
+unfolding is_arranged is_splittable filled
+links_are_in_range whole links keeps rule least greatest segments arranged e =
+    let inside : Filled → Bool = λ f. is_pair_in_range least greatest f.pair in
+    let outer = and_parts _ _ arranged in
+    let inner = and_parts _ _ outer.0 in
+    let valid = list_all-and_parts (λ (s : WholeSegment). is_pair_in_range least greatest s.pair && is_valid s.count) (λ (s : WholeSegment). is_not_empty s.count) segments inner.1 in
+    let each = list_all-and_parts (λ (s : WholeSegment). is_pair_in_range least greatest s.pair) (λ (s : WholeSegment). is_valid s.count) segments valid.0 in
+    let all : list_all inside (filled rule segments) ≡ true = list_all-map inside _ segments ∙ each.0 in
+    let kept : list_all inside (kept_of whole links) ≡ true = ap (list_all inside) e ∙ list_all-filter inside (λ f. keeps f.fill) (filled rule segments) all in
+    list_all-map (is_pair_in_range least greatest) (λ (l : OverlayLink _ _). (link_of whole l).pair) links ∙ sym (list_all-map inside (λ l. without_nodes (link_of whole l)) links) ∙ kept

@@ -1,17 +1,19 @@
 -- When all ends have their nodes, nodes and links are those of the graph of the given links.
 use Rattle.std.proofs.Common.{◌≡◌, refl, sym, ap, ap₂, subst, ◌∙◌, arith, inl, inr, ℕ, suc, ◌+◌, ◌-◌, ◌<◌, ◌≤◌, Bool, true, List, [], ◌∷◌, ◌++◌, map, length, get_or}
 use Rattle.std.specs.Prelude.{◌⊎◌, ℤ, pos, nat_lt}
+use Rattle.std.specs.List.{list_all}
 use Rattle.std.proofs.lemmas.List.{take_all, length-map, get_or-map, get_or_default}
 use Rattle.std.proofs.lemmas.Bool.{lt-ltb}
 use Rattle.std.proofs.lemmas.Simd.{map-map}
+use Rattle.overlay_geometry.specs.Coordinates.{is_pair_in_range}
 use Rattle.overlay_geometry.specs.Points.{Point, Pair, pair_cmp}
 use Rattle.overlay_geometry.specs.Sorting.{is_strictly_sorted}
-use Rattle.overlay_geometry.specs.declared.geom.end.End.{End}
 use Rattle.overlay_geometry.specs.PointOf.{point_of}
 use Rattle.overlay_base.specs.declared.overlay_core.link.OverlayLink.{OverlayLink}
+use Rattle.overlay_build.specs.declared.build.link_ends.PackedEnd.{PackedEnd}
 use Rattle.overlay_build.specs.steps.EndOf.{WholeEnd, ends_of}
 use Rattle.overlay_build.specs.steps.LinkEnds.{numbered_starts}
-use Rattle.overlay_build.specs.steps.LinksOf.{starts_of, IsNextPoint, IsRunAt, indexes_between}
+use Rattle.overlay_build.specs.steps.LinksOf.{starts_of, AreEndsInRange, IsNextPoint, IsRunAt, indexes_between}
 use Rattle.overlay_build.specs.Graph.{Filled, Node, node_points, node_number, links_at, graph_of, nodes_of_pairs}
 use Rattle.overlay_build.specs.GraphOf.{link_of, kept_of, graph_with, pairs_of_links, HoldGraph}
 use Rattle.overlay_build.specs.Graph.{without_nodes}
@@ -31,6 +33,10 @@ module _ {N I D : Type 0} (indexes : N → List ℕ) (is_canonical : N → Bool)
   -- numbers of nodes change no pair
   pub same_pairs : pairs_of_links whole links ≡ pairs_of_links whole given
   same_pairs = same_maps (λ (l : OverlayLink I D). (link_of whole l).pair) (λ (l : OverlayLink I D). (link_of whole l).pair) links given up.as_many (λ k d e h. ap (λ (l : OverlayLink I D). (link_of whole l).pair) (up.numbers k d h ∙ ap (numbered_to whole (pairs_of_links whole given) (length nodes)) (get_or_default given k d e h)))
+
+  -- so the ends stay in range
+  pub stay_in_range : (least greatest : I) (seen : List (OverlayLink I D)) → seen ≡ links → AreEndsInRange whole least greatest given → AreEndsInRange whole least greatest seen
+  stay_in_range least greatest seen e h = ap (list_all (is_pair_in_range (whole least) (whole greatest))) (ap (pairs_of_links whole) e ∙ same_pairs) ∙ h
 
   -- numbers of nodes change no data
   pub same_data : map (λ (l : OverlayLink I D). l.edge_data) links ≡ map (λ (l : OverlayLink I D). l.edge_data) given
@@ -90,21 +96,21 @@ pub record IsFound (pairs : List Pair) (start end next_start next_end : ℕ) (p 
 
 module _ {N I D : Type 0} (indexes : N → List ℕ) (is_canonical : N → Bool) (whole : I → ℤ) (given : List (OverlayLink I D)) (sorted : is_strictly_sorted pair_cmp (pairs_of_links whole given) ≡ true)
     (start end : ℕ) (nodes : List N) (links : List (OverlayLink I D)) (up : IsConnectedUpTo indexes is_canonical whole given start end nodes links)
-    (ends : List (End I)) (all : ends_of whole ends ≡ sorted_ends_of (pairs_of_links whole given)) where
+    (ends : List PackedEnd) (all : ends_of ends ≡ sorted_ends_of (pairs_of_links whole given)) where
   starts_seen : (seen : List (OverlayLink I D)) → seen ≡ links → starts_of whole seen ≡ starts_of whole given
   starts_seen seen e = ap (starts_of whole) e ∙ ap numbered_starts (same_pairs indexes is_canonical whole given start end nodes links up)
 
-  ends_seen : (seen : List (End I)) → seen ≡ ends → ends_of whole seen ≡ sorted_ends_of (pairs_of_links whole given)
-  ends_seen seen e = ap (ends_of whole) e ∙ all
+  ends_seen : (seen : List PackedEnd) → seen ≡ ends → ends_of seen ≡ sorted_ends_of (pairs_of_links whole given)
+  ends_seen seen e = ap ends_of e ∙ all
 
-  pub found : (seen again : List (OverlayLink I D)) (seen_ends ends_again : List (End I)) (p : Point) (next_start next_end : ℕ) (none first both : List ℕ) → seen ≡ links → again ≡ links → seen_ends ≡ ends → ends_again ≡ ends →
-      IsNextPoint (starts_of whole seen) (ends_of whole seen_ends) start end p → none ≡ [] →
+  pub found : (seen again : List (OverlayLink I D)) (seen_ends ends_again : List PackedEnd) (p : Point) (next_start next_end : ℕ) (none first both : List ℕ) → seen ≡ links → again ≡ links → seen_ends ≡ ends → ends_again ≡ ends →
+      IsNextPoint (starts_of whole seen) (ends_of seen_ends) start end p → none ≡ [] →
       IsRunAt (starts_of whole again) p start next_start → first ≡ none ++ indexes_between (starts_of whole again) start next_start →
-      IsRunAt (ends_of whole ends_again) p end next_end → both ≡ first ++ indexes_between (ends_of whole ends_again) end next_end →
+      IsRunAt (ends_of ends_again) p end next_end → both ≡ first ++ indexes_between (ends_of ends_again) end next_end →
       IsFound (pairs_of_links whole given) start end next_start next_end p both
   found seen again seen_ends ends_again p next_start next_end none first both e f h k next empty run its run_ends theirs =
       let pairs : List Pair = pairs_of_links whole given in
-      let here : IsNextPoint (numbered_starts pairs) (sorted_ends_of pairs) start end p = subst (λ l. IsNextPoint (numbered_starts pairs) l start end p) (ends_seen seen_ends h) (subst (λ l. IsNextPoint l (ends_of whole seen_ends) start end p) (starts_seen seen e) next) in
+      let here : IsNextPoint (numbered_starts pairs) (sorted_ends_of pairs) start end p = subst (λ l. IsNextPoint (numbered_starts pairs) l start end p) (ends_seen seen_ends h) (subst (λ l. IsNextPoint l (ends_of seen_ends) start end p) (starts_seen seen e) next) in
       let one : IsRunAt (numbered_starts pairs) p start next_start = subst (λ l. IsRunAt l p start next_start) (starts_seen again f) run in
       let two : IsRunAt (sorted_ends_of pairs) p end next_end = subst (λ l. IsRunAt l p end next_end) (ends_seen ends_again k) run_ends in
       record {

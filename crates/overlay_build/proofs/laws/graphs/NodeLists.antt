@@ -1,20 +1,24 @@
 -- Lists of nodes and of ends, element by element.
 use Rattle.std.proofs.Common.{◌≡◌, refl, sym, ap, ap₂, ◌∙◌, arith, inl, inr, append_assoc, ℕ, ◌+◌, ◌-◌, ◌<◌, ◌≤◌, ◌%◌, ◌==◌, zero-add, Bool, true, false, ◌&&◌, ◌||◌, List, [], ◌∷◌, ◌++◌, map, take, drop, length, get_or, set, if◌then◌else◌}
-use Rattle.std.specs.Prelude.{nat_le, ℤ}
+use Rattle.std.specs.Prelude.{nat_le, min, ℤ}
 use Rattle.std.specs.List.{list_all, enumerate_from}
-use Rattle.std.proofs.lemmas.Bool.{both_ways, false_from_ne_true, eqb-true, eq-eqb, false≢true}
+use Rattle.std.proofs.lemmas.Bool.{and_parts, cases_lt, eqb-true, eq-eqb, false≢true}
 use Rattle.std.proofs.lemmas.List.{append-nil, get_or_default, get_or-map, length-map, drop_more, take_all, take_more, map-append, get_or-set_same, get_or-set_other}
+use Rattle.std.proofs.lemmas.List.Sums.{AllPass-from_list_all}
 use Rattle.std.proofs.lemmas.List.Folds.{list_all-map, list_any-append}
 use Rattle.std.proofs.lemmas.List.FromFn.{length-enumerate_from, get_or-enumerate_from}
+use Rattle.overlay_geometry.specs.Coordinates.{is_pair_in_range}
+use Rattle.overlay_geometry.specs.InRange.{IsPointInRange}
 use Rattle.overlay_geometry.specs.Points.{Point, Pair, point_eq, point_lt}
-use Rattle.overlay_geometry.proofs.laws.geometry.Points.{point_lt-irreflexive, point_lt-trans}
+use Rattle.overlay_geometry.proofs.laws.geometry.Points.{point_lt-irreflexive}
 use Rattle.overlay_sweep.proofs.laws.live.StartPoints.{each_more, take_drop-more}
-use Rattle.overlay_build.specs.steps.LinksOf.{starts_of, indexes_between, IsNextPoint, IsRunAt}
+use Rattle.overlay_build.specs.steps.LinksOf.{starts_of, indexes_between, AreEndsInRange, IsNextPoint, IsRunAt}
 use Rattle.overlay_geometry.specs.PointOf.{point_of}
-use Rattle.overlay_geometry.specs.declared.geom.end.End.{End}
-use Rattle.overlay_build.specs.steps.EndOf.{WholeEnd, end_of, ends_of}
+use Rattle.overlay_build.specs.declared.build.link_ends.PackedEnd.{PackedEnd}
+use Rattle.overlay_build.specs.steps.EndOf.{WholeEnd, unpacked, end_of, ends_of}
 use Rattle.overlay_base.specs.declared.overlay_core.link.OverlayLink.{OverlayLink}
 use Rattle.overlay_build.specs.GraphOf.{link_of, pairs_of_links, with_node, names_node}
+use Rattle.overlay_build.proofs.laws.graphs.PackedEnds.{unpacked-not_less}
 use Rattle.overlay_build.specs.Graph.{Node, Graph, is_bridge, is_valid_graph, has_even_nodes}
 use Rattle.std.proofs.Math.Bool.{or-true}
 
@@ -67,14 +71,21 @@ even_nodes-is indexes nodes graph same =
 
 -- ---- ends in whole numbers
 
-pub end_point_at : {I : Type 0} (whole : I → ℤ) (ends : List (End I)) (k : ℕ) (x : End I) (d : WholeEnd) → k < length ends → (get_or (ends_of whole ends) k d).point ≡ point_of whole (get_or ends k x).point
-end_point_at whole ends k x d h = ap (λ (e : WholeEnd). e.point) (get_or-map (end_of whole) ends k x d h)
+pub end_point_at : (ends : List PackedEnd) (k : ℕ) (x : PackedEnd) (d : WholeEnd) → k < length ends → (get_or (ends_of ends) k d).point ≡ unpacked (get_or ends k x).key
+end_point_at ends k x d h = ap (λ (e : WholeEnd). e.point) (get_or-map end_of ends k x d h)
 
-pub end_at : {I : Type 0} (whole : I → ℤ) (ends : List (End I)) (k : ℕ) (x : End I) (d : WholeEnd) → k < length ends → x ≡ get_or ends k x → get_or (ends_of whole ends) k d ≡ end_of whole x
-end_at whole ends k x d h is = get_or-map (end_of whole) ends k x d h ∙ ap (end_of whole) (sym is)
+pub end_at : (ends : List PackedEnd) (k : ℕ) (x : PackedEnd) (d : WholeEnd) → k < length ends → x ≡ get_or ends k x → get_or (ends_of ends) k d ≡ end_of x
+end_at ends k x d h is = get_or-map end_of ends k x d h ∙ ap end_of (sym is)
 
-pub length-ends : {I : Type 0} (whole : I → ℤ) (ends : List (End I)) → length (ends_of whole ends) ≡ length ends
-length-ends whole ends = length-map ends (end_of whole)
+pub length-ends : (ends : List PackedEnd) → length (ends_of ends) ≡ length ends
+length-ends ends = length-map ends end_of
+
+-- the ends of one of several links that are all in range
+pub ends_in_range : {I D : Type 0} (whole : I → ℤ) (least greatest : I) (links : List (OverlayLink I D)) (k : ℕ) (d : OverlayLink I D) → AreEndsInRange whole least greatest links → k < length links →
+    IsPointInRange whole least greatest (get_or links k d).a.point × IsPointInRange whole least greatest (get_or links k d).b.point
+ends_in_range whole least greatest links k d all h =
+    let each = AllPass-from_list_all (λ (l : OverlayLink _ _). is_pair_in_range (whole least) (whole greatest) (link_of whole l).pair) links (sym (list_all-map (is_pair_in_range (whole least) (whole greatest)) (λ (l : OverlayLink _ _). (link_of whole l).pair) links) ∙ all) in
+    and_parts _ _ (each k d h)
 
 -- the ends of links, numbered in their order
 abbrev pub numbered : (Pair → Point) → List Pair → List WholeEnd
@@ -129,15 +140,24 @@ run-more ends p from next old indexes e run h here at = record {
 pub run-ends : (ends : List WholeEnd) (p : Point) (from next : ℕ) (old indexes : List ℕ) → IsRunListed ends p from next old indexes → ((d : WholeEnd) → next < length ends → (get_or ends next d).point ≡ p → ⊥) → IsRunAt ends p from next
 run-ends ends p from next old indexes run other = record { order = run.order; within = run.within; same = run.same; other = other }
 
-pub not_after : (p q : Point) → point_lt p q ≡ true → point_lt q p ≡ false
-not_after p q h = false_from_ne_true _ (λ back. both_ways _ (point_lt-irreflexive p) (point_lt-trans p q p h back))
-
 -- the next point is that at the front of one list, and that of the other is not before it
 pub next-first : (firsts seconds : List WholeEnd) (start end : ℕ) (p : Point) → start < length firsts → ((d : WholeEnd) → (get_or firsts start d).point ≡ p) → ((d : WholeEnd) → end < length seconds → point_lt (get_or seconds end d).point p ≡ false) → IsNextPoint firsts seconds start end p
 next-first firsts seconds start end p h here other = record { first = λ d l. ap (λ q. point_lt q p) (here d) ∙ point_lt-irreflexive p; second = other; own = inl (h, here) }
 
 pub next-second : (firsts seconds : List WholeEnd) (start end : ℕ) (p : Point) → end < length seconds → ((d : WholeEnd) → (get_or seconds end d).point ≡ p) → ((d : WholeEnd) → start < length firsts → point_lt (get_or firsts start d).point p ≡ false) → IsNextPoint firsts seconds start end p
 next-second firsts seconds start end p h here other = record { first = other; second = λ d l. ap (λ q. point_lt q p) (here d) ∙ point_lt-irreflexive p; own = inr (h, here) }
+
+-- so it is the lesser of the two, which their numbers tell
+pub next-lesser : (firsts seconds : List WholeEnd) (start end j k : ℕ) → start < length firsts → ((d : WholeEnd) → (get_or firsts start d).point ≡ unpacked j) → end < length seconds → ((d : WholeEnd) → (get_or seconds end d).point ≡ unpacked k) →
+    IsNextPoint firsts seconds start end (unpacked (min k j))
+next-lesser firsts seconds start end j k h first l second = elim (cases_lt k j) [
+  | inl less ↦
+      (let is : min k j ≡ k = omega (arith, less) in
+      rw is (next-second firsts seconds start end (unpacked k) l second (λ d _. ap (λ q. point_lt q (unpacked k)) (first d) ∙ unpacked-not_less j k (omega (arith, less)))))
+  | inr up ↦
+      (let is : min k j ≡ j = omega (arith, up) in
+      rw is (next-first firsts seconds start end (unpacked j) h first (λ d _. ap (λ q. point_lt q (unpacked j)) (second d) ∙ unpacked-not_less k j up)))
+]
 
 -- the first ends of links of code
 pub start_at : {I D : Type 0} (whole : I → ℤ) (links : List (OverlayLink I D)) (k : ℕ) (x : OverlayLink I D) (d : WholeEnd) → k < length links → x ≡ get_or links k x → get_or (starts_of whole links) k d ≡ record { index = k; point = point_of whole x.a.point }
@@ -191,6 +211,18 @@ with_node-twice whole p id l = by (point_eq (point_of whole l.a.point) p) refl
     by : (b : Bool) → point_eq (point_of whole l.a.point) p ≡ b → with_node whole p id (with_node whole p id l) ≡ with_node whole p id l
     by true e = rw e (rw e refl)
     by false e = rw e (rw e refl)
+
+-- and moves no end
+with_node-start_point : {I D : Type 0} (whole : I → ℤ) (p : Point) (id : ℕ) (l : OverlayLink I D) → (with_node whole p id l).a.point ≡ l.a.point
+with_node-start_point whole p id l = by (point_eq (point_of whole l.a.point) p) refl
+  where
+    by : (b : Bool) → point_eq (point_of whole l.a.point) p ≡ b → (with_node whole p id l).a.point ≡ l.a.point
+    by true e = rw e refl
+    by false e = rw e refl
+
+pub same_start_point : {I D : Type 0} (whole : I → ℤ) (p : Point) (id : ℕ) (b : Bool) (l : OverlayLink I D) → (if b then with_node whole p id l else l).a.point ≡ l.a.point
+same_start_point whole p id true l = with_node-start_point whole p id l
+same_start_point whole p id false l = refl
 
 pub with_node-start : {I D : Type 0} (whole : I → ℤ) (p : Point) (id : ℕ) (l : OverlayLink I D) → point_eq (point_of whole l.a.point) p ≡ true →
     record { a = record { id = id; point = l.a.point }; b = l.b; fill = l.fill; edge_data = l.edge_data } ≡ with_node whole p id l

@@ -5,4 +5,4 @@ use Rattle.overlay_build.specs.steps.LinkEnds.{numbered_ends}
 use Rattle.overlay_build.proofs.build.link_ends.collect_ends.Given as goal
 
 abbrev pub invariant-loop-index : goal.invariant-loop-index
-invariant-loop-index g l = ends_of g.I.OverlayInt.whole l.ends.items ≡ take l.index (numbered_ends (pairs_of_links g.I.OverlayInt.whole l.links))
+invariant-loop-index g l = ends_of l.ends.items ≡ take l.index (numbered_ends (pairs_of_links g.I.OverlayInt.whole l.links))

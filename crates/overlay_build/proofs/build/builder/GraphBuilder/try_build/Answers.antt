@@ -1,7 +1,7 @@
 use Rattle.std.proofs.Common.{◌∙◌, arith}
 use Rattle.overlay_base.specs.SegmentOf.{segments_of}
 use Rattle.overlay_build.specs.steps.LinkRules.{keeps_by}
-use Rattle.overlay_build.proofs.laws.graphs.BuiltGraphs.{hold_kept_graph, links_are_ordered, links_are_sorted}
+use Rattle.overlay_build.proofs.laws.graphs.BuiltGraphs.{hold_kept_graph, links_are_ordered, links_are_sorted, links_are_in_range}
 use Rattle.overlay_build.proofs.build.builder.GraphBuilder.try_build.Goals as goal
 
 pub connect_links-requires-clause-sorted : goal.connect_links-requires-clause-sorted
@@ -12,6 +12,11 @@ connect_links-requires-clause-sorted g c =
 pub connect_links-requires-clause-ordered : goal.connect_links-requires-clause-ordered
 connect_links-requires-clause-ordered g c =
     links_are_ordered g.I.OverlayInt.whole _ (keeps_by c.args.rule) c.args.fill_rule _ _ (segments_of c.args.segments.now) c.requires.arranged
+    (c.in_ok-collect_links.ensures.kept c.args.fill_rule (c.as_slice-fills.ensures.value ∙ c.in_ok-find_fills.ensures.fills))
+
+pub connect_links-requires-clause-in_range : goal.connect_links-requires-clause-in_range
+connect_links-requires-clause-in_range g c =
+    links_are_in_range g.I.OverlayInt.whole _ (keeps_by c.args.rule) c.args.fill_rule _ _ (segments_of c.args.segments.now) c.requires.arranged
     (c.in_ok-collect_links.ensures.kept c.args.fill_rule (c.as_slice-fills.ensures.value ∙ c.in_ok-find_fills.ensures.fills))
 
 pub returns-clause-graph : goal.returns-clause-graph
