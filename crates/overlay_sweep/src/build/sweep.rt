@@ -12,8 +12,8 @@ use crate::build::fill_handler::FillHandler;
 use crate::build::fill_strategy::{
     EvenOddStrategy, FillCount, FillStrategy, NegativeStrategy, NonZeroStrategy, PositiveStrategy,
 };
-use crate::build::scan_list::ScanList;
 use crate::build::scan_mixed::ScanMixed;
+use crate::build::scan_row::ScanRow;
 use crate::build::visits::sweep_with_handler;
 use crate::build::way::Way;
 use overlay_base::overlay_core::fill_rule::FillRule;
@@ -27,7 +27,7 @@ use std::alloc::Global;
 /// Runs sweeps over arrangements, one after another, and keeps their buffers.
 #[derive(Drop)]
 pub struct SweepRunner<C: WindingCount, I: OverlayInt> {
-    list: ScanList<C, I>,
+    row: ScanRow<C, I>,
     tree: ScanMixed<C, I>,
     ways: Vec<Way<I>>,
     compared: u128,
@@ -39,7 +39,7 @@ impl<C: WindingCount, I: OverlayInt> SweepRunner<C, I> {
         ensures { run_asked result ≡ 0 }
     {
         SweepRunner {
-            list: ScanList::new(alloc),
+            row: ScanRow::new(alloc),
             tree: ScanMixed::new(alloc),
             ways: Vec::new(alloc),
             compared: 0,
@@ -54,9 +54,9 @@ impl<C: WindingCount, I: OverlayInt> SweepRunner<C, I> {
     /// one above the segment directly below its start, or 0; the winding above adds the segment's count. Balance is no
     /// condition; with it these windings are those of the columns of the plane. The segments have to be arranged, as
     /// `is_arranged` tests, and the handler has to take each of their indexes. The solver does not change the answer:
-    /// it chooses whether the live segments stand in a list or in a balanced tree, which begins as a row. Over n
-    /// segments `compared` is at most 3 n d. For the list 2 n is at most 2 ^ d; for the tree no balanced one of n
-    /// entries is higher than d.
+    /// it chooses whether the live segments are kept in a list, which is a row, or in a balanced tree, which begins as
+    /// one. Over n segments `compared` is at most 3 n d. For the list 2 n is at most 2 ^ d; for the tree no balanced one
+    /// of n entries is higher than d.
     ///
     /// Returns `Fault::CountOutOfRange` exactly where a winding above a segment that the handler gets leaves the range,
     /// and `Fault::Memory` where a growth is refused. The handler is spent then; the runner can be used again, and its
@@ -80,9 +80,9 @@ impl<C: WindingCount, I: OverlayInt> SweepRunner<C, I> {
         let ways = &mut self.ways;
         let mut compared = 0;
         let answer = if solver.is_list_fill(segments) {
-            let list = &mut self.list;
-            sweep_with_handler::<C, I, D, F, ScanList<C, I>, H>(
-                list,
+            let row = &mut self.row;
+            sweep_with_handler::<C, I, D, F, ScanRow<C, I>, H>(
+                row,
                 ways,
                 segments,
                 handler,
