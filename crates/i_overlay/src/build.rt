@@ -2,7 +2,7 @@
 
 pub use overlay_build::build::{
     boundary, clip_filter, directed_walks, fill_handler, fill_strategy, filter, graph, graph_node,
-    laws, link_filter, live_segments, scan_list, scan_mixed, scan_row, scan_tree, string_graph,
+    laws, link_filter, live_segments, scan_list, scan_mixed, scan_row, scan_rows, scan_tree, string_graph,
     util, walks,
 };
 

@@ -20,5 +20,5 @@ pub mod walks;
 
 pub use overlay_sweep::build::{
     boolean, fill_handler, fill_strategy, live_segments, scan_list, scan_mixed, scan_row,
-    scan_tree, string, sweep,
+    scan_rows, scan_tree, string, sweep,
 };

@@ -20,6 +20,7 @@ use overlay_sweep::build::live_segments::LiveSegments;
 use overlay_sweep::build::scan_list::ScanList;
 use overlay_sweep::build::scan_mixed::ScanMixed;
 use overlay_sweep::build::scan_row::ScanRow;
+use overlay_sweep::build::scan_rows::ScanRows;
 use overlay_sweep::build::scan_tree::ScanTree;
 use overlay_sweep::build::sweep::SweepRunner;
 use std::alloc::Global;
@@ -173,12 +174,18 @@ fn a_tree_of_rows_asks_few_orders(rt: HostRuntime) {
 fn other_rows<I: OverlayInt>(rt: &impl Abort, alloc: Global) {
     let mut row: ScanRow<ShapeCountBoolean, I> = ScanRow::new(alloc);
     let mut mixed: ScanMixed<ShapeCountBoolean, I> = ScanMixed::new(alloc);
-    assert_eq!(rt; (row.compared(), mixed.compared()), (0, 0));
+    let mut rows: ScanRows<ShapeCountBoolean, I> = ScanRows::new(alloc);
+    assert_eq!(rt;
+        (row.compared(), mixed.compared(), rows.compared()),
+        (0, 0, 0)
+    );
     for is_forward in [true, false] {
         insert_rows(rt, &mut row, is_forward, &[]);
         look_at_rows(rt, &mut row, 11, 12);
         insert_rows(rt, &mut mixed, is_forward, &[]);
         look_at_rows(rt, &mut mixed, 1, 23);
+        insert_rows(rt, &mut rows, is_forward, &[]);
+        look_at_rows(rt, &mut rows, 1, 23);
     }
 }
 
@@ -224,7 +231,7 @@ fn a_sweep_over_the_tree_asks_few_orders(rt: HostRuntime) {
     for (solver, least, most) in [
         (Solver::TREE, 4000, 184_000),
         (Solver::FRAG, 4000, 184_000),
-        (Solver::LIST, 95_784, 95_784),
+        (Solver::LIST, 4000, 52_000),
     ] {
         let compared = compared_in(&rt, &mut runner, &solver, &lines);
         assert!(rt; least <= compared && compared <= most);

@@ -1,13 +1,15 @@
 -- What a list, a tree and a runner keep, as the clauses of their calls name it.
-use Rattle.std.specs.Prelude.{ℕ, ℤ, MatchBool, cond, List, length}
+use Rattle.std.specs.Prelude.{ℕ, ℤ, MatchBool, cond, List, map, length}
 use Rattle.overlay_geometry.specs.PointOf.{point_of}
 use Rattle.overlay_base.specs.Segments.{WholeSegment}
 use Rattle.overlay_sweep.specs.EntryOf.{entries_of}
-use Rattle.overlay_sweep.specs.ScanTrees.{IsScanList, IsCursorRow, IsScanTree}
+use Rattle.overlay_sweep.specs.ScanTrees.{IsScanList, IsCursorRow, AreCursorRows, IsScanTree, joined}
 use Rattle.overlay_sweep.specs.declared.build.entry.Entry.{Entry}
 use Rattle.overlay_sweep.specs.declared.build.scan_mixed.ScanMixed.{ScanMixed}
 use Rattle.overlay_sweep.specs.declared.build.scan_list.ScanList.{ScanList}
 use Rattle.overlay_sweep.specs.declared.build.scan_row.ScanRow.{ScanRow}
+use Rattle.overlay_sweep.specs.declared.build.row_list.RowList.{RowList}
+use Rattle.overlay_sweep.specs.declared.build.scan_rows.ScanRows.{ScanRows}
 use Rattle.overlay_sweep.specs.declared.build.scan_tree.ScanTree.{ScanTree}
 use Rattle.overlay_sweep.specs.declared.build.sweep.SweepRunner.{SweepRunner}
 
@@ -39,6 +41,19 @@ row_held row = length (row_entries row)
 abbrev pub IsInRowAt : {C I : Type 0} {m : _} {w : _} {o : _} {e : _} {p : _} → ℤ → ScanRow C I m w o e p → Type 0
 IsInRowAt {w = w} x row = IsCursorRow x (row_sums row) row.has_cursor (point_of w.whole row.point) row.cursor
 
+-- the same of rows one behind another
+abbrev pub rows_in : {C I : Type 0} {m : _} {w : _} {o : _} {e : _} {p : _} → RowList C I m w o e p → List (List WholeSegment)
+rows_in list = map (λ row. row_sums row) list.rows.items
+
+abbrev pub rows_sums : {C I : Type 0} {m : _} {w : _} {o : _} {e : _} {p : _} → ScanRows C I m w o e p → List WholeSegment
+rows_sums rows = joined (rows_in rows.entries)
+
+abbrev pub rows_held : {C I : Type 0} {m : _} {w : _} {o : _} {e : _} {p : _} → ScanRows C I m w o e p → ℕ
+rows_held rows = length (rows_sums rows)
+
+abbrev pub AreInRowsAt : {C I : Type 0} {m : _} {w : _} {o : _} {e : _} {p : _} → ℤ → ScanRows C I m w o e p → Type 0
+AreInRowsAt {w = w} x rows = AreCursorRows x (rows_in rows.entries) rows.has_cursor (point_of w.whole rows.point) rows.cursor.row rows.cursor.at
+
 -- the entries of a tree since it was cleared, those that were taken out too; their segments with the sums as counts; and how many of them are in the tree
 abbrev pub tree_entries : {C I : Type 0} {m : _} {w : _} {o : _} {e : _} {p : _} → ScanTree C I m w o e p → List (Entry C I m w o e p)
 tree_entries tree = tree.entries.items
@@ -59,6 +74,9 @@ list_asked list = list.compared
 
 abbrev pub row_asked : {C I : Type 0} {m : _} {w : _} {o : _} {e : _} {p : _} → ScanRow C I m w o e p → ℕ
 row_asked row = row.compared
+
+abbrev pub rows_asked : {C I : Type 0} {m : _} {w : _} {o : _} {e : _} {p : _} → ScanRows C I m w o e p → ℕ
+rows_asked rows = rows.compared
 
 abbrev pub tree_asked : {C I : Type 0} {m : _} {w : _} {o : _} {e : _} {p : _} → ScanTree C I m w o e p → ℕ
 tree_asked tree = tree.compared

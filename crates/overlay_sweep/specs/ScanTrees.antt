@@ -1,5 +1,5 @@
 -- What a list of live segments holds: those that last, from below. And what a tree does: the indexes of these.
-use Rattle.std.specs.Prelude.{◌≡◌, ℕ, suc, pos, ◌*◌, ◌<◌, ◌≤◌, ◌^◌, ℤ, ◌≤ℤ◌, int_lt, Bool, true, false, ◌||◌, List, [], ◌∷◌, ◌++◌, ◌⊎◌, length, slice_index_or, All, ⊤}
+use Rattle.std.specs.Prelude.{◌≡◌, ℕ, suc, pos, ◌+◌, ◌*◌, ◌<◌, ◌≤◌, ◌^◌, ℤ, ◌≤ℤ◌, int_lt, Bool, true, false, ◌||◌, List, [], ◌∷◌, ◌++◌, ◌⊎◌, flat_map, length, take, slice_index_or, All, ⊤}
 use Rattle.std.specs.List.{range_with_len}
 use Rattle.std.specs.Ordering.{is_lt}
 use Rattle.overlay_base.specs.Segments.{WholeSegment}
@@ -42,6 +42,31 @@ is_below_or_from p s = int_lt (pos 0) (turn s.a s.b p) || point_eq s.a p
 pub record IsCursorRow (x : ℤ) (segments : List WholeSegment) (is_kept : Bool) (p : Point) (at : ℕ) : Type 0 where
   pub row : IsScanRow x segments
   pub cursor : is_kept ≡ true → p.x ≡ x → IsLivePosition (lasts_past x segments) (λ i. is_below_or_from p (segment_at segments i).pair) (length segments) at
+
+-- the rows of a list of rows one behind another
+abbrev pub joined : List (List WholeSegment) → List WholeSegment
+joined rows = flat_map (λ row. row) rows
+
+abbrev pub row_at : List (List WholeSegment) → ℕ → List WholeSegment
+row_at rows i = slice_index_or rows i []
+
+-- no row is empty
+abbrev pub HaveSome : List (List WholeSegment) → Type 0
+HaveSome rows = (i : ℕ) → i < length rows → 1 ≤ length (row_at rows i)
+
+-- where an index in a row is among all
+abbrev pub index_in : List (List WholeSegment) → ℕ → ℕ → ℕ
+index_in rows row at = length (joined (take row rows)) + at
+
+-- an index in a row, or just behind it; the first one where there is no row
+abbrev pub IsIndexIn : List (List WholeSegment) → ℕ → ℕ → Type 0
+IsIndexIn rows row at = ((length rows ≡ 0) × (row ≡ 0) × (at ≡ 0)) ⊎ ((row < length rows) × (at ≤ length (row_at rows row)))
+
+-- such a list with a cursor, in rows none of which is empty
+pub record AreCursorRows (x : ℤ) (rows : List (List WholeSegment)) (is_kept : Bool) (p : Point) (row at : ℕ) : Type 0 where
+  pub some : HaveSome rows
+  pub index : IsIndexIn rows row at
+  pub whole : IsCursorRow x (joined rows) is_kept p (index_in rows row at)
 
 -- such a list with no end left of the least one
 pub record IsScanList (x : ℤ) (segments : List WholeSegment) (least_end : ℤ) : Type 0 where

@@ -1,5 +1,5 @@
 -- On which segments those of an arrangement stand, by their indexes.
-use Rattle.std.specs.Prelude.{◌≡◌, ℕ, ◌<◌, ◌≤◌, List, length, slice_index, Some, Option, slice_get}
+use Rattle.std.specs.Prelude.{◌≡◌, ℕ, List, length, slice_index, Some, slice_get}
 use Rattle.overlay_base.specs.Segments.{WholeSegment}
 use Rattle.overlay_sweep.specs.ChainWindings.{support}
 

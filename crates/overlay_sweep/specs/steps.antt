@@ -3,4 +3,5 @@ pub mod WayOf
 pub mod PlaceOf
 pub mod LevelRows
 pub mod Positions
+pub mod Rows
 pub mod Numbered

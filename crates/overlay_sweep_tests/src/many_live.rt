@@ -14,6 +14,7 @@ use overlay_sweep::build::live_segments::LiveSegments;
 use overlay_sweep::build::scan_list::ScanList;
 use overlay_sweep::build::scan_mixed::ScanMixed;
 use overlay_sweep::build::scan_row::ScanRow;
+use overlay_sweep::build::scan_rows::ScanRows;
 use overlay_sweep::build::scan_tree::ScanTree;
 use overlay_sweep::build::sweep::SweepRunner;
 use overlay_sweep::build::visits::sweep_with_handler;
@@ -141,5 +142,16 @@ fn a_tree_serves_where_many_are_live(rt: HostRuntime) -> Result<(), Fail> {
     let mixed = compared_over(&rt, &mut ScanMixed::new(alloc), &lines, &expected)?;
     assert!(rt; row != mixed);
     assert!(rt; tree <= 9000 * 2 * 23 && mixed <= 9000 * 2 * 23);
+    Ok(())
+}
+
+/// Rows of a few serve a sweep by themselves, over lines that fill many of them.
+#[test]
+fn rows_of_a_few_serve_where_many_are_live(rt: HostRuntime) -> Result<(), Fail> {
+    let lines = lines_in_runs(&rt, 3, 3000)?;
+    assert!(rt; is_arranged(&lines));
+    let expected = fills_of_runs(&rt, 3, 3000)?;
+    let rows = compared_over(&rt, &mut ScanRows::new(rt.alloc()), &lines, &expected)?;
+    assert!(rt; rows <= 9000 * 2 * 23);
     Ok(())
 }

@@ -21,6 +21,7 @@ use overlay_sweep::build::live_segments::LiveSegments;
 use overlay_sweep::build::scan_list::ScanList;
 use overlay_sweep::build::scan_mixed::ScanMixed;
 use overlay_sweep::build::scan_row::ScanRow;
+use overlay_sweep::build::scan_rows::ScanRows;
 use overlay_sweep::build::scan_tree::ScanTree;
 use overlay_sweep::build::visits::sweep_with_handler;
 use overlay_sweep::build::way::Way;
@@ -191,6 +192,11 @@ fn a_sweep_over_a_tree_after_each_refused_insert(rt: HostRuntime) -> Result<(), 
 #[test]
 fn a_sweep_over_a_row_after_each_refused_insert(rt: HostRuntime) -> Result<(), Fail> {
     sweep_after_each_refusal(&rt, ScanRow::new(rt.alloc()))
+}
+
+#[test]
+fn a_sweep_over_rows_after_each_refused_insert(rt: HostRuntime) -> Result<(), Fail> {
+    sweep_after_each_refusal(&rt, ScanRows::new(rt.alloc()))
 }
 
 #[test]

@@ -7,3 +7,4 @@ pub mod ListAsTree
 pub mod Halves
 pub mod LastingRows
 pub mod Cursors
+pub mod Rows

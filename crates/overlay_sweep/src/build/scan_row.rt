@@ -29,7 +29,7 @@ pub struct ScanRow<C: WindingCount, I: OverlayInt> {
 
 impl<C: WindingCount, I: OverlayInt> ScanRow<C, I> {
     ghost use Rattle.std.specs.Prelude.{ℕ, ℤ, ◌*◌, ◌+◌, ◌<◌, ◌≤◌, ◌^◌, suc, ◌≤ℤ◌, ◌<ℤ◌, int_lt, ◌⊎◌, not, true, false};
-    ghost use Rattle.std.specs.Prelude.{[], ◌∷◌, All, filter, length, OnOk, IfErr};
+    ghost use Rattle.std.specs.Prelude.{[], ◌∷◌, ◌++◌, ◌-◌, All, filter, take, drop, length, OnOk, IfOk, IfErr};
     ghost use Rattle.overlay_sweep.specs.EntryOf.{entry_of, entries_of};
     ghost use Rattle.overlay_sweep.specs.ScanTrees.{lasts_past, segment_at, is_below_or_from};
     ghost use Rattle.std.specs.Ordering.{is_lt};
@@ -38,10 +38,11 @@ impl<C: WindingCount, I: OverlayInt> ScanRow<C, I> {
     ghost use Rattle.overlay_geometry.specs.Below.{under_segment_order};
     ghost use Rattle.overlay_geometry.specs.VSegmentOf.{v_pair_of};
     ghost use Rattle.overlay_sweep.specs.Live.{AreFreeAt};
-    ghost use Rattle.overlay_sweep.specs.LiveOf.{row_entries, row_sums, row_asked, IsInRowAt};
+    ghost use Rattle.overlay_sweep.specs.LiveOf.{row_entries, row_sums, row_held, row_asked, IsInRowAt};
     ghost use Rattle.overlay_sweep.specs.steps.PlaceOf.{IsPlaceInRange, stands_before};
     ghost use Rattle.overlay_sweep.specs.LivePositions.{HasNext, IsLivePosition};
     ghost use Rattle.overlay_sweep.specs.steps.Positions.{IsElsewhere, IsPutIn};
+    ghost use Rattle.overlay_sweep.specs.steps.Rows.{KeepsLasting};
 
     /// An empty row, which takes no memory yet.
     pub fn new(alloc: Global) -> ScanRow<C, I>
@@ -75,6 +76,39 @@ impl<C: WindingCount, I: OverlayInt> ScanRow<C, I> {
         self.entries.retain(|entry| entry.lasts_past(x));
     }
 
+    /// Drops the entries at the end of the row that do not end right of `x`, up to the last one that does.
+    pub(crate) fn drop_ended_last(&mut self, x: I)
+        ensures keeps { KeepsLasting (I.whole x) (row_sums self.old) (row_sums self.new) }
+        ensures last { (row_held self.new ≡ 0) ⊎ (lasts_past (I.whole x) (row_sums self.new) (row_held self.new - 1) ≡ true) }
+    {
+        let mut left = self.entries.len();
+        while left > 0 && !self.entries[left - 1].lasts_past(x) {
+            left -= 1;
+        }
+        self.entries.truncate(left);
+    }
+
+    /// Moves the entries from an index on to a row of their own.
+    pub(crate) fn split_off(&mut self, at: usize, alloc: Global) -> Result<ScanRow<C, I>, Fault>
+        requires { at ≤ row_held self.old }
+        ensures lower { OnOk result (row_sums self.new ≡ take at (row_sums self.old)) }
+        ensures upper { IfOk result (λ upper. row_sums upper ≡ drop at (row_sums self.old)) }
+        ensures fault { IfErr result (λ fault. fault ≡ Fault.Memory) }
+    {
+        let mut upper = ScanRow::new(alloc);
+        upper.entries = self.entries.split_off(at)?;
+        Ok(upper)
+    }
+
+    /// Adds entries at the end.
+    pub(crate) fn append(&mut self, entries: &[Entry<C, I>]) -> Result<(), Fault>
+        ensures entries { OnOk result (row_sums self.new ≡ row_sums self.old ++ entries_of entries.now) }
+        ensures fault { IfErr result (λ fault. fault ≡ Fault.Memory) }
+    {
+        self.entries.extend_from_slice(entries)?;
+        Ok(())
+    }
+
     /// The index behind an entry that lies below an end and has ended, or else the index itself.
     fn after_one_ended(&self, x: I, at: usize, end: usize) -> usize
         requires order { at ≤ end }
@@ -93,7 +127,13 @@ impl<C: WindingCount, I: OverlayInt> ScanRow<C, I> {
     /// Searches below an end for a place by halves. It passes over two entries that have ended, and drops the third of
     /// three in a row. Returns an index with the place: the entry below has not ended and stands before it, and the next
     /// one above that has not ended does not. Adds to `compared` how many orders it asks.
-    fn search(&mut self, x: I, place: &Place<I>, end: usize, compared: &mut u128) -> usize
+    pub(crate) fn search(
+        &mut self,
+        x: I,
+        place: &Place<I>,
+        end: usize,
+        compared: &mut u128,
+    ) -> usize
         requires place { IsPlaceInRange I.whole I.MIN_COORD I.MAX_COORD place.now }
         requires end { HasNext (lasts_past (I.whole x)
             (entries_of self.old.entries.items)) (λ i. stands_before I.whole place.now (segment_at
@@ -171,7 +211,7 @@ impl<C: WindingCount, I: OverlayInt> ScanRow<C, I> {
     }
 
     /// Whether a point is the start of the next entry from an index on that has not ended.
-    fn starts_behind(&self, x: I, p: IntPoint<I>, from: usize) -> bool
+    pub(crate) fn starts_behind(&self, x: I, p: IntPoint<I>, from: usize) -> bool
         ensures { result ≡ false → IsElsewhere (lasts_past (I.whole x)
             (entries_of self.now.entries.items)) (λ i. point_eq (segment_at
             (entries_of self.now.entries.items) i).pair.a (point_of I.whole p)) (length self.now.entries.items) from }
@@ -237,7 +277,7 @@ impl<C: WindingCount, I: OverlayInt> ScanRow<C, I> {
     }
 
     /// Puts an entry in at an index, in place of the one there if that has ended.
-    fn put(&mut self, at: usize, entry: Entry<C, I>, x: I) -> Result<(), Fault>
+    pub(crate) fn put(&mut self, at: usize, entry: Entry<C, I>, x: I) -> Result<(), Fault>
         requires { at ≤ length self.old.entries.items }
         ensures put { OnOk result (IsPutIn (lasts_past (I.whole x)
             (entries_of self.old.entries.items)) at entry self.old.entries.items self.new.entries.items) }

@@ -12,8 +12,8 @@ use crate::build::fill_handler::FillHandler;
 use crate::build::fill_strategy::{
     EvenOddStrategy, FillCount, FillStrategy, NegativeStrategy, NonZeroStrategy, PositiveStrategy,
 };
-use crate::build::scan_mixed::ScanMixed;
 use crate::build::scan_row::ScanRow;
+use crate::build::scan_rows::ScanRows;
 use crate::build::visits::sweep_with_handler;
 use crate::build::way::Way;
 use overlay_base::overlay_core::fill_rule::FillRule;
@@ -28,7 +28,7 @@ use std::alloc::Global;
 #[derive(Drop)]
 pub struct SweepRunner<C: WindingCount, I: OverlayInt> {
     row: ScanRow<C, I>,
-    tree: ScanMixed<C, I>,
+    rows: ScanRows<C, I>,
     ways: Vec<Way<I>>,
     compared: u128,
 }
@@ -40,7 +40,7 @@ impl<C: WindingCount, I: OverlayInt> SweepRunner<C, I> {
     {
         SweepRunner {
             row: ScanRow::new(alloc),
-            tree: ScanMixed::new(alloc),
+            rows: ScanRows::new(alloc),
             ways: Vec::new(alloc),
             compared: 0,
         }
@@ -54,9 +54,8 @@ impl<C: WindingCount, I: OverlayInt> SweepRunner<C, I> {
     /// one above the segment directly below its start, or 0; the winding above adds the segment's count. Balance is no
     /// condition; with it these windings are those of the columns of the plane. The segments have to be arranged, as
     /// `is_arranged` tests, and the handler has to take each of their indexes. The solver does not change the answer:
-    /// it chooses whether the live segments are kept in a list, which is a row, or in a balanced tree, which begins as
-    /// one. Over n segments `compared` is at most 3 n d. For the list 2 n is at most 2 ^ d; for the tree no balanced one
-    /// of n entries is higher than d.
+    /// it chooses whether the live segments are kept in one row, or in rows of a few. Over n segments `compared` is at
+    /// most 3 n d. For one row 2 n is at most 2 ^ d; for rows no balanced tree of n entries is higher than d.
     ///
     /// Returns `Fault::CountOutOfRange` exactly where a winding above a segment that the handler gets leaves the range,
     /// and `Fault::Memory` where a growth is refused. The handler is spent then; the runner can be used again, and its
@@ -89,9 +88,9 @@ impl<C: WindingCount, I: OverlayInt> SweepRunner<C, I> {
                 &mut compared,
             )?
         } else {
-            let tree = &mut self.tree;
-            sweep_with_handler::<C, I, D, F, ScanMixed<C, I>, H>(
-                tree,
+            let rows = &mut self.rows;
+            sweep_with_handler::<C, I, D, F, ScanRows<C, I>, H>(
+                rows,
                 ways,
                 segments,
                 handler,

@@ -106,14 +106,14 @@ pub all_without : {X : Type 0} (P : X → Type 0) (xs : List X) (i : ℕ) → Al
 all_without P xs i a = All-append P (take i xs) (drop (suc i) xs) (All-take P i xs a) (All-drop P (suc i) xs a)
 
 -- the same of the code's entries
-pub entries_without : {E : Type 0} (f : E → WholeSegment) (items : List E) (i : ℕ) → map f (take i items ++ drop (suc i) items) ≡ take i (map f items) ++ drop (suc i) (map f items)
+pub entries_without : {E Y : Type 0} (f : E → Y) (items : List E) (i : ℕ) → map f (take i items ++ drop (suc i) items) ≡ take i (map f items) ++ drop (suc i) (map f items)
 entries_without f items i = map-append f (take i items) (drop (suc i) items) ∙ ap₂ (λ l r. l ++ r) (sym (take-map f i items)) (sym (drop-map f (suc i) items))
 
 -- where the entries from one index up to another have ended
 one_ended : (x : ℤ) (ks : List WholeSegment) (at : ℕ) → at < length ks → lasts_past x ks at ≡ false → lasting_of x (drop at ks) ≡ lasting_of x (drop (suc at) ks)
 one_ended x ks at h ended = ap (lasting_of x) (first_behind ks at h) ∙ rw ended refl
 
-skip_ended : (x : ℤ) (ks : List WholeSegment) (at n : ℕ) → at + n ≤ length ks → ((k : ℕ) → at ≤ k → k < at + n → lasts_past x ks k ≡ false) → lasting_of x (drop at ks) ≡ lasting_of x (drop (at + n) ks)
+pub skip_ended : (x : ℤ) (ks : List WholeSegment) (at n : ℕ) → at + n ≤ length ks → ((k : ℕ) → at ≤ k → k < at + n → lasts_past x ks k ≡ false) → lasting_of x (drop at ks) ≡ lasting_of x (drop (at + n) ks)
 skip_ended x ks at zero h e = let same : at ≡ at + 0 = omega arith in ap (λ m. lasting_of x (drop m ks)) same
 skip_ended x ks at (suc n) h e =
     let same : suc (at + n) ≡ at + suc n = omega arith in
@@ -121,7 +121,7 @@ skip_ended x ks at (suc n) h e =
     ∙ one_ended x ks (at + n) (omega (arith, h)) (e (at + n) (omega arith) (omega arith))
     ∙ ap (λ m. lasting_of x (drop m ks)) same
 
-drop_whole : (ks : List WholeSegment) → drop (length ks) ks ≡ []
+pub drop_whole : (ks : List WholeSegment) → drop (length ks) ks ≡ []
 drop_whole [] = refl
 drop_whole (k ∷ ks) = drop_whole ks
 
@@ -182,7 +182,7 @@ module _ (x : ℤ) (ks : List WholeSegment) (at : ℕ) where
           ))
     ]
 
-    all_before : place.behind.next ≡ length ks → length earlier ≡ length (lasting_of x ks)
+    pub all_before : place.behind.next ≡ length ks → length earlier ≡ length (lasting_of x ks)
     all_before e =
         let none : later ≡ [] = from_next ∙ ap (λ m. lasting_of x (drop m ks)) e ∙ ap (lasting_of x) (drop_whole ks) in
         let size = ap (λ l. length l) (sym lasting_parts) ∙ length-append earlier later in
@@ -289,7 +289,7 @@ then_pays (Err e) asked held left was fewer h = h
 
 -- ---- an entry put in, or in place of one that has ended
 
-entries_put : {E : Type 0} (f : E → WholeSegment) (items : List E) (at rest : ℕ) (entry : E) → map f (take at items ++ entry ∷ drop rest items) ≡ take at (map f items) ++ f entry ∷ drop rest (map f items)
+pub entries_put : {E Y : Type 0} (f : E → Y) (items : List E) (at rest : ℕ) (entry : E) → map f (take at items ++ entry ∷ drop rest items) ≡ take at (map f items) ++ f entry ∷ drop rest (map f items)
 entries_put f items at rest entry = map-append f (take at items) (entry ∷ drop rest items) ∙ ap₂ (λ l r. l ++ f entry ∷ r) (sym (take-map f at items)) (sym (drop-map f rest items))
 
 pub put_in : {E : Type 0} (f : E → WholeSegment) (x : ℤ) (items new : List E) (at : ℕ) (entry : E) → IsPutIn (lasts_past x (map f items)) at entry items new → (P : List WholeSegment → Type 0) → P (take at (map f items) ++ f entry ∷ drop at (map f items)) →

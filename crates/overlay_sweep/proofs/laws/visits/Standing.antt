@@ -1,6 +1,6 @@
 -- On which segment each one stands, found as a sweep goes: the states before a start point, and at it.
 use Rattle.std.proofs.Common.{◌≡◌, ap, refl, sym, subst, ◌∙◌, arith, inl, inr, get_or, set, append_assoc, get_or-set_same, get_or-set_other}
-use Rattle.std.specs.Prelude.{ℕ, zero, suc, ◌+◌, ◌-◌, ◌<◌, ◌≤◌, ◌==◌, ℤ, pos, ◌≤ℤ◌, true, false, ◌⊎◌, List, [], ◌∷◌, ◌++◌, map, length, take, drop, Option, Some, None, slice_get}
+use Rattle.std.specs.Prelude.{ℕ, zero, suc, ◌+◌, ◌<◌, ◌≤◌, ◌==◌, ℤ, pos, ◌≤ℤ◌, true, false, ◌⊎◌, List, [], ◌∷◌, ◌++◌, map, length, take, drop, Option, Some, None, slice_get}
 use Rattle.std.specs.List.{AllByRecursion, enumerate_from, list_all}
 use Rattle.std.specs.Ordering.{is_lt, ordering_then}
 use Rattle.std.proofs.lemmas.Int.{ints}

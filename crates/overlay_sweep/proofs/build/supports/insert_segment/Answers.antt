@@ -1,7 +1,6 @@
 use Rattle.std.proofs.Common.{◌≡◌, ◌∙◌, ap, sym, subst}
 use Rattle.overlay_geometry.specs.Points.{Pair}
 use Rattle.overlay_base.specs.BooleanWinding.{boolean_winding}
-use Rattle.overlay_base.specs.Segments.{WholeSegment}
 use Rattle.overlay_geometry.specs.PairOf.{pair_of}
 use Rattle.overlay_base.specs.SegmentOf.{ends_of}
 use Rattle.overlay_sweep.proofs.laws.live.LiveSums.{HoldSameFrom-vertical, vertical_same}

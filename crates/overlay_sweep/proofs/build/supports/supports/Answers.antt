@@ -1,6 +1,6 @@
-use Rattle.std.proofs.Common.{◌≡◌, ◌∙◌, ◌+◌, ◌<◌, ◌≤◌, ap, ap₂, sym, subst, refl, arith, length}
-use Rattle.std.specs.Prelude.{ℕ, ℤ, pos, ◌≤ℤ◌, List, ◌∷◌, None, true}
-use Rattle.std.proofs.lemmas.List.{length-map, length-replicate}
+use Rattle.std.proofs.Common.{◌≡◌, ◌∙◌, ◌<◌, ◌≤◌, ap, sym, subst, arith, length}
+use Rattle.std.specs.Prelude.{ℤ, pos, ◌≤ℤ◌, List, ◌∷◌, None, true}
+use Rattle.std.proofs.lemmas.List.{length-map}
 use Rattle.overlay_geometry.specs.Points.{Point}
 use Rattle.overlay_geometry.specs.PairOf.{pair_of}
 use Rattle.overlay_geometry.specs.PointOf.{point_of}
@@ -8,7 +8,6 @@ use Rattle.overlay_base.specs.BooleanWinding.{boolean_winding}
 use Rattle.overlay_base.specs.EdgeData.{DataSegment, without_data}
 use Rattle.overlay_base.specs.Planar.{is_arranged}
 use Rattle.overlay_base.specs.SegmentOf.{ends_of as pair_of_segment, segment_of, segments_of, data_segment_of, data_segments_of}
-use Rattle.overlay_base.specs.Segments.{WholeSegment}
 use Rattle.overlay_base.specs.declared.overlay_core.fill_rule.FillRule.TheVariants.{EvenOdd}
 use Rattle.overlay_base.specs.declared.segm.segment.Segment.{Segment}
 use Rattle.overlay_base.proofs.laws.joins.Views.{segments_of-bare}

@@ -1,0 +1,138 @@
+use Rattle.std.proofs.Common.{◌≡◌, ◌∙◌, ◌≤◌, ◌/◌, ap, sym, subst, arith, inr, add-one, length}
+use Rattle.std.specs.Prelude.{◌+◌, ◌-◌, take, drop}
+use Rattle.std.proofs.lemmas.List.{length-map, length-take, length-drop, take-append-drop}
+use Rattle.overlay_sweep.specs.EntryOf.{entry_of}
+use Rattle.overlay_sweep.specs.LiveOf.{row_sums, rows_in}
+use Rattle.overlay_sweep.specs.ScanTrees.{joined, row_at, index_in}
+use Rattle.overlay_sweep.specs.steps.Rows.{HaveSomeBut}
+use Rattle.overlay_sweep.proofs.laws.list.Rows.{row_read, rows_cut, index_inside, cut_at, cut_joined, cut_low, cut_high, cut_some, cut_index_low, cut_index_high}
+use Rattle.overlay_sweep.proofs.build.row_list.RowList.make_room.Goals as goal
+
+pub returns-then-at-half-clause-same : goal.returns-then-at-half-clause-same
+returns-then-at-half-clause-same g c =
+    let items = c.args.self.now.rows.items in
+    let old = rows_in c.args.self.now in
+    let row = c.args.spot.row in
+    let at = c.args.spot.at in
+    let half = length c.entries-many.result.now / 2 in
+    let many = length-map items (λ r. row_sums r) in
+    let i = index_inside old row at c.requires.index (λ z. c.if-len-eq0.false (omega (arith, z, many, c.len.ensures))) in
+    let cut = rows_cut (λ r. row_sums r) items c.insert.new.self.items row half c.index_mut.result.now c.split_off.new.self c.in_ok-upper.upper (omega (arith, i.0, many)) c.index_mut.ensures.value c.in_ok-upper.ensures.lower c.in_ok-upper.ensures.upper c.in_ok-insert.ensures.items in
+    ap joined cut ∙ cut_joined old row _ _ i.0 (take-append-drop half (row_at old row))
+
+pub returns-then-at-half-clause-some : goal.returns-then-at-half-clause-some
+returns-then-at-half-clause-some g c =
+    let items = c.args.self.now.rows.items in
+    let old = rows_in c.args.self.now in
+    let row = c.args.spot.row in
+    let at = c.args.spot.at in
+    let half = length c.entries-many.result.now / 2 in
+    let many = length-map items (λ r. row_sums r) in
+    let i = index_inside old row at c.requires.index (λ z. c.if-len-eq0.false (omega (arith, z, many, c.len.ensures))) in
+    let cut = rows_cut (λ r. row_sums r) items c.insert.new.self.items row half c.index_mut.result.now c.split_off.new.self c.in_ok-upper.upper (omega (arith, i.0, many)) c.index_mut.ensures.value c.in_ok-upper.ensures.lower c.in_ok-upper.ensures.upper c.in_ok-insert.ensures.items in
+    let here = row_read (λ r. row_sums r) items row c.index.result.now (omega (arith, i.0, many)) c.index.ensures in
+    let size : length (row_at old row) ≡ length c.entries-many.result.now = ap (λ l. length l) here ∙ length-map c.index.result.now.entries.items entry_of ∙ ap (λ l. length l) (sym c.entries-many.ensures) in
+    let full : 64 ≤ length c.entries-many.result.now = omega (arith, c.if-many-lt-MOST_IN_ROW.false) in
+    let low : length (take half (row_at old row)) ≡ half = omega (arith, length-take half (row_at old row), size) in
+    let high : length (drop half (row_at old row)) ≡ length (row_at old row) - half = length-drop half (row_at old row) in
+    subst (HaveSomeBut row) (sym cut) (λ k h. inr (cut_some old row _ _ i.0 c.requires.some (omega (arith, low, full)) (omega (arith, high, size, full)) k h))
+
+pub returns-then-at-half-clause-at : goal.returns-then-at-half-clause-at
+returns-then-at-half-clause-at g c =
+    let items = c.args.self.now.rows.items in
+    let old = rows_in c.args.self.now in
+    let row = c.args.spot.row in
+    let at = c.args.spot.at in
+    let half = length c.entries-many.result.now / 2 in
+    let many = length-map items (λ r. row_sums r) in
+    let i = index_inside old row at c.requires.index (λ z. c.if-len-eq0.false (omega (arith, z, many, c.len.ensures))) in
+    let cut = rows_cut (λ r. row_sums r) items c.insert.new.self.items row half c.index_mut.result.now c.split_off.new.self c.in_ok-upper.upper (omega (arith, i.0, many)) c.index_mut.ensures.value c.in_ok-upper.ensures.lower c.in_ok-upper.ensures.upper c.in_ok-insert.ensures.items in
+    let here = row_read (λ r. row_sums r) items row c.index.result.now (omega (arith, i.0, many)) c.index.ensures in
+    let size : length (row_at old row) ≡ length c.entries-many.result.now = ap (λ l. length l) here ∙ length-map c.index.result.now.entries.items entry_of ∙ ap (λ l. length l) (sym c.entries-many.ensures) in
+    let full : 64 ≤ length c.entries-many.result.now = omega (arith, c.if-many-lt-MOST_IN_ROW.false) in
+    let low : length (take half (row_at old row)) ≡ half = omega (arith, length-take half (row_at old row), size) in
+    let high : length (drop half (row_at old row)) ≡ length (row_at old row) - half = length-drop half (row_at old row) in
+    let there = ap (λ l. length (row_at l row)) cut ∙ ap (λ l. length l) (cut_low old row (take half (row_at old row)) (drop half (row_at old row)) i.0) in
+    omega (arith, there, low, c.if-at-half.true)
+
+pub returns-then-at-half-clause-index : goal.returns-then-at-half-clause-index
+returns-then-at-half-clause-index g c =
+    let items = c.args.self.now.rows.items in
+    let old = rows_in c.args.self.now in
+    let row = c.args.spot.row in
+    let at = c.args.spot.at in
+    let half = length c.entries-many.result.now / 2 in
+    let many = length-map items (λ r. row_sums r) in
+    let i = index_inside old row at c.requires.index (λ z. c.if-len-eq0.false (omega (arith, z, many, c.len.ensures))) in
+    let cut = rows_cut (λ r. row_sums r) items c.insert.new.self.items row half c.index_mut.result.now c.split_off.new.self c.in_ok-upper.upper (omega (arith, i.0, many)) c.index_mut.ensures.value c.in_ok-upper.ensures.lower c.in_ok-upper.ensures.upper c.in_ok-insert.ensures.items in
+    let here = row_read (λ r. row_sums r) items row c.index.result.now (omega (arith, i.0, many)) c.index.ensures in
+    let size : length (row_at old row) ≡ length c.entries-many.result.now = ap (λ l. length l) here ∙ length-map c.index.result.now.entries.items entry_of ∙ ap (λ l. length l) (sym c.entries-many.ensures) in
+    let full : 64 ≤ length c.entries-many.result.now = omega (arith, c.if-many-lt-MOST_IN_ROW.false) in
+    let low : length (take half (row_at old row)) ≡ half = omega (arith, length-take half (row_at old row), size) in
+    let high : length (drop half (row_at old row)) ≡ length (row_at old row) - half = length-drop half (row_at old row) in
+    ap (λ l. index_in l row at) cut ∙ cut_index_low old row at _ _ i.0
+
+pub returns-else-at-half-clause-same : goal.returns-else-at-half-clause-same
+returns-else-at-half-clause-same g c =
+    let items = c.args.self.now.rows.items in
+    let old = rows_in c.args.self.now in
+    let row = c.args.spot.row in
+    let at = c.args.spot.at in
+    let half = length c.entries-many.result.now / 2 in
+    let many = length-map items (λ r. row_sums r) in
+    let i = index_inside old row at c.requires.index (λ z. c.if-len-eq0.false (omega (arith, z, many, c.len.ensures))) in
+    let cut = rows_cut (λ r. row_sums r) items c.insert.new.self.items row half c.index_mut.result.now c.split_off.new.self c.in_ok-upper.upper (omega (arith, i.0, many)) c.index_mut.ensures.value c.in_ok-upper.ensures.lower c.in_ok-upper.ensures.upper c.in_ok-insert.ensures.items in
+    ap joined cut ∙ cut_joined old row _ _ i.0 (take-append-drop half (row_at old row))
+
+pub returns-else-at-half-clause-some : goal.returns-else-at-half-clause-some
+returns-else-at-half-clause-some g c =
+    let items = c.args.self.now.rows.items in
+    let old = rows_in c.args.self.now in
+    let row = c.args.spot.row in
+    let at = c.args.spot.at in
+    let half = length c.entries-many.result.now / 2 in
+    let many = length-map items (λ r. row_sums r) in
+    let i = index_inside old row at c.requires.index (λ z. c.if-len-eq0.false (omega (arith, z, many, c.len.ensures))) in
+    let cut = rows_cut (λ r. row_sums r) items c.insert.new.self.items row half c.index_mut.result.now c.split_off.new.self c.in_ok-upper.upper (omega (arith, i.0, many)) c.index_mut.ensures.value c.in_ok-upper.ensures.lower c.in_ok-upper.ensures.upper c.in_ok-insert.ensures.items in
+    let here = row_read (λ r. row_sums r) items row c.index.result.now (omega (arith, i.0, many)) c.index.ensures in
+    let size : length (row_at old row) ≡ length c.entries-many.result.now = ap (λ l. length l) here ∙ length-map c.index.result.now.entries.items entry_of ∙ ap (λ l. length l) (sym c.entries-many.ensures) in
+    let full : 64 ≤ length c.entries-many.result.now = omega (arith, c.if-many-lt-MOST_IN_ROW.false) in
+    let low : length (take half (row_at old row)) ≡ half = omega (arith, length-take half (row_at old row), size) in
+    let high : length (drop half (row_at old row)) ≡ length (row_at old row) - half = length-drop half (row_at old row) in
+    subst (HaveSomeBut (row + 1)) (sym cut) (λ k h. inr (cut_some old row _ _ i.0 c.requires.some (omega (arith, low, full)) (omega (arith, high, size, full)) k h))
+
+pub returns-else-at-half-clause-at : goal.returns-else-at-half-clause-at
+returns-else-at-half-clause-at g c =
+    let items = c.args.self.now.rows.items in
+    let old = rows_in c.args.self.now in
+    let row = c.args.spot.row in
+    let at = c.args.spot.at in
+    let half = length c.entries-many.result.now / 2 in
+    let many = length-map items (λ r. row_sums r) in
+    let i = index_inside old row at c.requires.index (λ z. c.if-len-eq0.false (omega (arith, z, many, c.len.ensures))) in
+    let cut = rows_cut (λ r. row_sums r) items c.insert.new.self.items row half c.index_mut.result.now c.split_off.new.self c.in_ok-upper.upper (omega (arith, i.0, many)) c.index_mut.ensures.value c.in_ok-upper.ensures.lower c.in_ok-upper.ensures.upper c.in_ok-insert.ensures.items in
+    let here = row_read (λ r. row_sums r) items row c.index.result.now (omega (arith, i.0, many)) c.index.ensures in
+    let size : length (row_at old row) ≡ length c.entries-many.result.now = ap (λ l. length l) here ∙ length-map c.index.result.now.entries.items entry_of ∙ ap (λ l. length l) (sym c.entries-many.ensures) in
+    let full : 64 ≤ length c.entries-many.result.now = omega (arith, c.if-many-lt-MOST_IN_ROW.false) in
+    let low : length (take half (row_at old row)) ≡ half = omega (arith, length-take half (row_at old row), size) in
+    let high : length (drop half (row_at old row)) ≡ length (row_at old row) - half = length-drop half (row_at old row) in
+    let there = ap (λ l. length (row_at l (row + 1))) cut ∙ ap (λ n. length (row_at (cut_at old row (take half (row_at old row)) (drop half (row_at old row))) n)) (add-one row) ∙ ap (λ l. length l) (cut_high old row (take half (row_at old row)) (drop half (row_at old row)) i.0) in
+    omega (arith, there, high, i.1)
+
+pub returns-else-at-half-clause-index : goal.returns-else-at-half-clause-index
+returns-else-at-half-clause-index g c =
+    let items = c.args.self.now.rows.items in
+    let old = rows_in c.args.self.now in
+    let row = c.args.spot.row in
+    let at = c.args.spot.at in
+    let half = length c.entries-many.result.now / 2 in
+    let many = length-map items (λ r. row_sums r) in
+    let i = index_inside old row at c.requires.index (λ z. c.if-len-eq0.false (omega (arith, z, many, c.len.ensures))) in
+    let cut = rows_cut (λ r. row_sums r) items c.insert.new.self.items row half c.index_mut.result.now c.split_off.new.self c.in_ok-upper.upper (omega (arith, i.0, many)) c.index_mut.ensures.value c.in_ok-upper.ensures.lower c.in_ok-upper.ensures.upper c.in_ok-insert.ensures.items in
+    let here = row_read (λ r. row_sums r) items row c.index.result.now (omega (arith, i.0, many)) c.index.ensures in
+    let size : length (row_at old row) ≡ length c.entries-many.result.now = ap (λ l. length l) here ∙ length-map c.index.result.now.entries.items entry_of ∙ ap (λ l. length l) (sym c.entries-many.ensures) in
+    let full : 64 ≤ length c.entries-many.result.now = omega (arith, c.if-many-lt-MOST_IN_ROW.false) in
+    let low : length (take half (row_at old row)) ≡ half = omega (arith, length-take half (row_at old row), size) in
+    let high : length (drop half (row_at old row)) ≡ length (row_at old row) - half = length-drop half (row_at old row) in
+    ap (λ l. index_in l (row + 1) (at - half)) cut ∙ ap (λ n. index_in (cut_at old row (take half (row_at old row)) (drop half (row_at old row))) (row + 1) (at - n)) (sym low)
+    ∙ cut_index_high old row at (take half (row_at old row)) (drop half (row_at old row)) i.0 (omega (arith, low, c.if-at-half.false))

@@ -1,0 +1,5 @@
+use Rattle.overlay_sweep.proofs.laws.visits.LookCosts.{highest_of_fewer, search_pays}
+use Rattle.overlay_sweep.proofs.build.scan_rows.ScanRowsLiveSegments.insert.Goals as goal
+
+pub returns-in-Ok-clause-most : goal.returns-in-Ok-clause-most
+returns-in-Ok-clause-most g c = λ n d within high. search_pays _ _ _ d (c.in-Ok.ensures.few d (highest_of_fewer _ n d within high)) c.in-Ok.ensures.held
