@@ -10,3 +10,5 @@ pub mod laws;
 mod reach;
 mod rise;
 pub mod solver_fragment;
+pub mod solver_fragment_within;
+mod sort_within;

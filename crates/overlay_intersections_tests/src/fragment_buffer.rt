@@ -119,7 +119,7 @@ fn is_sorted_across(rt: &(impl Abort + AllocGlobal), lines: &[Line]) -> bool {
         assert!(rt; is_in_range(&segment));
         buffer.add_segment(index, segment).expect(rt, "memory");
     }
-    match buffer.sort() {
+    match buffer.sort().expect(rt, "memory") {
         Axis::X => true,
         Axis::Y => false,
     }

@@ -11,6 +11,7 @@ pub mod GridGroups
 pub mod GridFills
 pub mod GridFinder
 pub mod FoundFragments
+pub mod BorderCounts
 pub mod BorderMarks
 pub mod GridReach
 pub mod GridFound

@@ -1,11 +1,12 @@
 // The marks on vertical segments that stand on the border of a column. Upstream: part of `split::solver_fragment`.
-ghost use Rattle.std.specs.Prelude.{◌≡◌, ◌≤◌, ◌+◌, ◌-◌, ◌++◌, ℕ, IsTrue, OnOk, IsSorted, int_le, int_lt, ◌≤ℤ◌, ◌<ℤ◌, map, length, flat_map, sum_by};
+ghost use Rattle.std.specs.Prelude.{◌≡◌, ◌≤◌, ◌+◌, ◌-◌, ◌++◌, ◌^◌, ℕ, min, IsTrue, OnOk, IsSorted, int_le, int_lt, ◌≤ℤ◌, ◌<ℤ◌, map, length, flat_map, sum_by};
 ghost use Rattle.std.specs.List.{AllByRecursion, range_with_len};
 ghost use Rattle.std.specs.List.Sorted.{IsPartitionPoint};
 ghost use Rattle.overlay_grid.specs.Grid.{pos_of, group_count};
 ghost use Rattle.overlay_intersections.specs.MarkOf.{marks_of};
 ghost use Rattle.overlay_grid.specs.FragmentOf.{fragment_of, fragments_of};
 ghost use Rattle.overlay_grid.specs.GroupsOf.{group_of, grid_of};
+ghost use Rattle.overlay_grid.specs.steps.BufferBorders.{buffer_borders};
 ghost use Rattle.overlay_grid.specs.steps.FragmentFinder.{HoldSame, is_ready, stands_at, marks_at_heights, marks_of_heights, marks_of_border, looks_of_border};
 
 use crate::split::fragment::Fragment;
@@ -93,6 +94,36 @@ fn mark_heights<I: OverlayInt>(
         mark(vertical.index, point, marks)?;
     }
     Ok(())
+}
+
+/// How many comparisons the borders of a buffer take at most: for each vertical segment on the left border of a column,
+/// other than the first, as many as the column to the left has fragments; `u64::MAX` if there are more.
+pub(crate) fn count_at_borders<I: OverlayInt>(buffer: &FragmentBuffer<I>) -> u64
+    ensures { result ≡ min (buffer_borders buffer.now) (2 ^ 64 - 1) }
+{
+    let mut count = 0_u64;
+    for column in 0..buffer.groups().len() - 1 {
+        let left = buffer.groups()[column].as_slice();
+        let group = buffer.groups()[column + 1].as_slice();
+        let own = count_at_border(left, group, buffer.border(column + 1));
+        count = count.saturating_add(own);
+    }
+    count
+}
+
+/// The same of one border, between two groups.
+fn count_at_border<I: OverlayInt>(left: &[Fragment<I>], group: &[Fragment<I>], border: I) -> u64
+    ensures { result ≡ min (looks_of_border (I.whole border) (fragments_of I.whole left.now)
+        (fragments_of I.whole group.now)) (2 ^ 64 - 1) }
+{
+    let mut count = 0_u64;
+    for index in 0..group.len() {
+        let fragment = group[index];
+        if stands_at(&fragment, border) {
+            count = count.saturating_add(left.len() as u64);
+        }
+    }
+    count
 }
 
 /// How many of the heights, which have to be in order, are a given one or lower.

@@ -142,27 +142,29 @@ impl<I: OverlayInt> FragmentBuffer<I> {
     ///
     /// Once few were compared upward, later sorts of this buffer go upward too, and do not count again: a pass sorts
     /// the pieces of the pass before, and most of them are as they were.
-    pub fn sort(&mut self) -> Axis
+    ///
+    /// Fails where a growth is refused; the groups are in some order then.
+    pub fn sort(&mut self) -> Result<Axis, AllocError>
         ensures layout { grid_of self.new ≡ grid_of self.old }
         ensures permutation { (column : ℕ) → IsPermutation (group_of self.old column) (group_of self.new column) }
-        ensures sorted { (column : ℕ) → IsSortedAlong result (group_of self.new column) }
-        ensures looks { buffer_looks result self.new ≤ buffer_twos self.new }
+        ensures sorted { IfOk result (λ axis. (column : ℕ) → IsSortedAlong axis (group_of self.new column)) }
+        ensures looks { IfOk result (λ axis. buffer_looks axis self.new ≤ buffer_twos self.new) }
     {
-        self.sort_along(Axis::Y);
+        self.sort_along(Axis::Y)?;
         if self.is_upward {
-            return Axis::Y;
+            return Ok(Axis::Y);
         }
         let upward = count_reached(self.groups(), Axis::Y);
         if upward <= self.few_looks() {
             self.is_upward = true;
-            return Axis::Y;
+            return Ok(Axis::Y);
         }
-        self.sort_along(Axis::X);
+        self.sort_along(Axis::X)?;
         if count_reached(self.groups(), Axis::X) < upward {
-            return Axis::X;
+            return Ok(Axis::X);
         }
-        self.sort_along(Axis::Y);
-        Axis::Y
+        self.sort_along(Axis::Y)?;
+        Ok(Axis::Y)
     }
 
     /// How many comparisons are few for this number of fragments.
@@ -175,14 +177,15 @@ impl<I: OverlayInt> FragmentBuffer<I> {
     }
 
     /// Sorts every group by where the fragments begin along an axis.
-    fn sort_along(&mut self, axis: Axis)
+    pub(crate) fn sort_along(&mut self, axis: Axis) -> Result<(), AllocError>
         ensures layout { grid_of self.new ≡ grid_of self.old }
         ensures permutation { (column : ℕ) → IsPermutation (group_of self.old column) (group_of self.new column) }
-        ensures sorted { (column : ℕ) → IsSortedAlong axis (group_of self.new column) }
+        ensures sorted { OnOk result ((column : ℕ) → IsSortedAlong axis (group_of self.new column)) }
     {
         for column in 0..self.groups.len() {
-            sort_group(&mut self.groups[column], axis);
+            sort_group(&mut self.groups[column], axis)?;
         }
+        Ok(())
     }
 
     /// Appends the fragments of a segment, one to the group of each column that it enters. Each has a rectangle that
@@ -272,13 +275,13 @@ impl<I: OverlayInt> FragmentBuffer<I> {
 }
 
 /// Sorts fragments by where they begin along an axis.
-fn sort_group<I: OverlayInt>(group: &mut Vec<Fragment<I>>, axis: Axis)
+fn sort_group<I: OverlayInt>(group: &mut Vec<Fragment<I>>, axis: Axis) -> Result<(), AllocError>
     ensures permutation { IsPermutation group.old.items group.new.items }
-    ensures sorted { IsSortedAlong axis (fragments_of I.whole group.new.items) }
+    ensures sorted { OnOk result (IsSortedAlong axis (fragments_of I.whole group.new.items)) }
 {
     match axis {
-        Axis::X => group.sort_unstable_by_key(|fragment| fragment.rect.min_x),
-        Axis::Y => group.sort_unstable_by_key(|fragment| fragment.rect.min_y),
+        Axis::X => group.sort_by_key(|fragment| fragment.rect.min_x),
+        Axis::Y => group.sort_by_key(|fragment| fragment.rect.min_y),
     }
 }
 

@@ -1,5 +1,5 @@
 // How many pairs of fragments a scan of groups along an axis compares. This project's own.
-ghost use Rattle.std.specs.Prelude.{◌≡◌, ◌-◌, ◌^◌, ℕ, count_by, int_le, length, min};
+ghost use Rattle.std.specs.Prelude.{◌≡◌, ◌≤◌, ◌-◌, ◌^◌, ℕ, true, count_by, int_le, length, min};
 ghost use Rattle.overlay_grid.specs.FragmentOf.{fragment_of, fragments_of, least_along, IsSortedAlong};
 ghost use Rattle.overlay_grid.specs.GroupsOf.{group_in};
 ghost use Rattle.overlay_grid.specs.ColumnLooks.{looks_of_group, looks_of_groups};
@@ -49,4 +49,65 @@ fn begins_by<I: OverlayInt>(fragment: &Fragment<I>, end: I, axis: Axis) -> bool
     ensures { result ≡ int_le (least_along axis (fragment_of I.whole fragment.now)) (I.whole end) }
 {
     axis.least(&fragment.rect) <= end
+}
+
+/// A number which the pairs that `count_reached` counts do not exceed, up to `u64::MAX`. It takes fewer steps. The
+/// groups have to be sorted along the axis.
+pub(crate) fn reached_at_most<I: OverlayInt>(groups: &[Vec<Fragment<I>>], axis: Axis) -> u64
+    requires sorted { (column : ℕ) → IsSortedAlong axis (group_in I.whole groups.now column) }
+    ensures { min (looks_of_groups axis (group_in I.whole groups.now) (length groups.now)) (2 ^ 64 - 1) ≤ result }
+{
+    let mut count = 0_u64;
+    for column in 0..groups.len() {
+        let own = reached_in_group_at_most(groups[column].as_slice(), axis);
+        count = count.saturating_add(own);
+    }
+    count
+}
+
+/// The same of one group.
+fn reached_in_group_at_most<I: OverlayInt>(group: &[Fragment<I>], axis: Axis) -> u64
+    requires sorted { IsSortedAlong axis (fragments_of I.whole group.now) }
+    ensures { min (looks_of_group axis (fragments_of I.whole group.now)) (2 ^ 64 - 1) ≤ result }
+{
+    let mut count = 0_u64;
+    for first in 0..group.len() {
+        let end = axis.greatest(&group[first].rect);
+        let own = begun_at_most(&group[first + 1..], end, axis);
+        count = count.saturating_add(own as u64);
+    }
+    count
+}
+
+/// How many fragments are near: a look at the next one after so many comes before a binary search.
+const NEAR: usize = 8;
+
+/// And how many are not far.
+const NOT_FAR: usize = 24;
+
+/// A number which the fragments that `count_begun` counts do not exceed.
+fn begun_at_most<I: OverlayInt>(group: &[Fragment<I>], end: I, axis: Axis) -> usize
+    requires sorted { IsSortedAlong axis (fragments_of I.whole group.now) }
+    ensures { count_by (λ f. int_le (least_along axis f) (I.whole end)) (fragments_of I.whole group.now) ≤ result }
+{
+    if begins_past(group, NEAR, end, axis) {
+        return NEAR;
+    }
+    if begins_past(group, NOT_FAR, end, axis) {
+        return NOT_FAR;
+    }
+    count_begun(group, end, axis)
+}
+
+/// Whether there is a fragment at an index, and it begins past a place along an axis, and so does each after it.
+fn begins_past<I: OverlayInt>(group: &[Fragment<I>], index: usize, end: I, axis: Axis) -> bool
+    requires sorted { IsSortedAlong axis (fragments_of I.whole group.now) }
+    ensures { result ≡ true → count_by (λ f. int_le (least_along axis f) (I.whole end))
+        (fragments_of I.whole group.now) ≤ index }
+{
+    if index >= group.len() {
+        return false;
+    }
+    let fragment = group[index];
+    !begins_by(&fragment, end, axis)
 }

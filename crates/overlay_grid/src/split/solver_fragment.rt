@@ -1,5 +1,5 @@
 // The finder that compares fragments of segments, column by column of a grid. Upstream: `split::solver_fragment`.
-ghost use Rattle.std.specs.Prelude.{◌≡◌, ◌≢◌, ◌^◌, min, ◌<◌, ◌≤◌, ◌+◌, ◌-◌, ◌++◌, ℕ, All, IsTrue, IfErr, IfOk, OnOk, drop, length, int_lt, flat_map};
+ghost use Rattle.std.specs.Prelude.{◌≡◌, ◌≢◌, ◌^◌, min, ◌<◌, ◌≤◌, ◌+◌, ◌-◌, ◌++◌, ℕ, All, IsTrue, None, IfErr, IfOk, OnOk, IfSome, OnSome, IfNone, IsSome, drop, length, int_lt, flat_map};
 ghost use Rattle.std.specs.List.{AllByRecursion, list_any, range_with_len};
 ghost use Rattle.overlay_base.specs.declared.segm.fault.Fault.TheVariants.{Memory};
 ghost use Rattle.overlay_geometry.specs.Points.{pair_lt};
@@ -21,6 +21,7 @@ use crate::split::axis::Axis;
 use crate::split::border_contacts::mark_borders;
 use crate::split::fragment::Fragment;
 use crate::split::fragment_buffer::FragmentBuffer;
+use crate::split::sort_within::sort_up_to;
 use overlay_base::segm::fault::Fault;
 use overlay_base::segm::segment::Segment;
 use overlay_base::segm::winding::WindingCount;
@@ -57,14 +58,43 @@ pub fn find_marks<C: WindingCount, I: OverlayInt, D: Copy>(
         (looked.new ≤ looked.old + fragment_looks (grid_of buffer.old) (pairs_in segments.now)) }
     ensures fault { IfErr result (λ fault. fault ≡ Memory) }
 {
+    let found = find_marks_up_to(segments, placing, None, buffer, marks, looked)?;
+    Ok(found.unwrap())
+}
+
+/// Finds the marks of a pass as `find_marks` does, under the same conditions. With a limit it compares no more pairs
+/// than that; it returns `None` where it could not keep to it. Then it compares none, and `marks` is of no use.
+pub(crate) fn find_marks_up_to<C: WindingCount, I: OverlayInt, D: Copy>(
+    segments: &[Segment<C, I, D>],
+    placing: Placing,
+    limit: Option<u64>,
+    buffer: &mut FragmentBuffer<I>,
+    marks: &mut Vec<LineMark<I>>,
+    looked: &mut u128,
+) -> Result<Option<bool>, Fault>
+    requires in_range { AreInRange segments.now }
+    requires inside { All (λ s. IsInside (grid_of buffer.old) (ends_of s)) segments.now }
+    requires radius { HasRadius placing }
+    ensures layout { grid_of buffer.new ≡ grid_of buffer.old }
+    ensures marks { IfOk result (λ found. OnSome found (AreMarksOf placing segments.now marks.new.items)) }
+    ensures rounded { IfOk result (λ found. IfSome found (λ rounded. rounded ≡ is_rounded (segments_of segments.now))) }
+    ensures found { limit ≡ None → IfOk result (λ found. IsSome found) }
+    ensures looked { limit ≡ None → OnOk result
+        (looked.new ≤ looked.old + fragment_looks (grid_of buffer.old) (pairs_in segments.now)) }
+    ensures within { IfSome limit (λ most. OnOk result (looked.new ≤ looked.old + most)) }
+    ensures given_up { IfOk result (λ found. IfNone found (looked.new ≡ looked.old)) }
+    ensures fault { IfErr result (λ fault. fault ≡ Memory) }
+{
     marks.clear();
     fill(segments, buffer)?;
-    let axis = buffer.sort();
+    let Some(axis) = sort_up_to(buffer, limit)? else {
+        return Ok(None);
+    };
     let rounded = mark_columns(buffer.groups(), axis, placing, marks, looked)?;
     mark_borders(buffer, marks, looked)?;
     marks.sort()?;
     marks.dedup();
-    Ok(rounded)
+    Ok(Some(rounded))
 }
 
 /// How many fragments segments have that lie inside the buffer's layout; `u128::MAX` if there are more.

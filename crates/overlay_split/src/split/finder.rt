@@ -1,12 +1,13 @@
 // How the passes of a run find the segments that meet.
-ghost use Rattle.std.specs.Prelude.{◌≡◌, ◌≤◌, ◌+◌, All, None, IfErr, IfOk, OnOk, IsSortedByKey};
+ghost use Rattle.std.specs.Prelude.{◌≡◌, ◌≤◌, ◌+◌, All, None, IfErr, IfOk, OnOk, IfSome, OnSome, IfNone, IsSortedByKey};
 ghost use Rattle.overlay_base.specs.declared.segm.fault.Fault.TheVariants.{Memory};
 ghost use Rattle.overlay_geometry.specs.Points.{pair_cmp};
 ghost use Rattle.overlay_base.specs.Segments.{pairs};
-ghost use Rattle.overlay_base.specs.SegmentOf.{ends_of, segments_of};
+ghost use Rattle.overlay_base.specs.SegmentOf.{ends_of, segments_of, pairs_in};
 ghost use Rattle.overlay_intersections.specs.PassMarks.{is_rounded};
 ghost use Rattle.overlay_intersections.specs.PlacingOf.{placing_of, HasRadius};
 ghost use Rattle.overlay_intersections.specs.MarkOf.{AreMarks, marks_of, AreMarksOf};
+ghost use Rattle.overlay_intersections.specs.Looked.{tree_looks};
 ghost use Rattle.overlay_grid.specs.GridLooks.{grid_looks};
 ghost use Rattle.overlay_grid.specs.Grid.{IsInside, LieInside};
 ghost use Rattle.overlay_grid.specs.GroupsOf.{grid_in, grid_of};
@@ -15,16 +16,17 @@ ghost use Rattle.overlay_grid.specs.GridFor.{IsGridFor};
 ghost use Rattle.overlay_split.specs.PassOf.{LooksThrough};
 ghost use Rattle.overlay_base.specs.ArrangedOf.{AreInRange};
 
-use overlay_base::overlay_core::solver::Solver;
+use overlay_base::overlay_core::solver::{Solver, Strategy};
 use overlay_base::segm::fault::Fault;
 use overlay_base::segm::segment::Segment;
 use overlay_base::segm::winding::WindingCount;
+use overlay_geometry::geom::x_segment::XSegment;
 use overlay_geometry::num::OverlayInt;
 use overlay_grid::split::fragment_buffer::FragmentBuffer;
 use overlay_grid::split::fragment_memory::FragmentMemory;
 use overlay_grid::split::grid_layout::GridLayout;
-use overlay_grid::split::solver_fragment;
 use overlay_grid::split::solver_fragment::count_fragments;
+use overlay_grid::split::{solver_fragment, solver_fragment_within};
 use overlay_intersections::split::line_mark::LineMark;
 use overlay_intersections::split::placing::Placing;
 use overlay_tree::split::solver_tree::TreeBuffers;
@@ -40,18 +42,38 @@ const MANY_FRAGMENTS: u128 = 4;
 
 const _: () = prove!(MANY_FRAGMENTS == 4);
 
+/// How many comparisons a segment are few: columns that take no more serve in place of a tree, whose bound on
+/// comparisons is at least that.
+const FEW_LOOKS: u64 = 64;
+
+const _: () = prove!(FEW_LOOKS == 64);
+
+/// How many segments that are live at a time are few: a tree compares so few one by one, which is faster than columns.
+const FEW_LIVE: u64 = 6;
+
+const _: () = prove!(FEW_LIVE == 6);
+
 /// What the passes of one run find the segments that meet by: a scan of all pairs of a list, a tree over their heights,
 /// or the columns of a grid. The marks are the same.
 #[derive(Drop)]
 pub struct PairFinder<I: OverlayInt> {
     solver: Solver,
     grid: Option<FragmentBuffer<I>>,
+    few: Option<FewColumns<I>>,
     looked: u128,
+}
+
+/// What makes the columns that may serve in place of a tree.
+#[derive(Drop)]
+struct FewColumns<I> {
+    alloc: Global,
+    memory: FragmentMemory<I>,
 }
 
 impl<I: OverlayInt> PairFinder<I> {
     /// For a run whose first arrangement is this, which has to be in range: over a grid, where the solver asks for one,
-    /// and not for a list, and these segments are wide enough. The grid takes the memory that is lent.
+    /// and not for a list, and these segments are wide enough. Where there is none and the solver leaves the choice,
+    /// columns may serve a pass in place of a tree. Either takes the memory that is lent.
     ///
     /// Returns `Fault::Memory` where a growth is refused.
     pub fn new<C: WindingCount, D: Copy>(
@@ -69,10 +91,13 @@ impl<I: OverlayInt> PairFinder<I> {
     {
         let mut finder = PairFinder::without_grid(solver);
         finder.grid = grid_over(alloc, solver, first, memory)?;
+        if finder.grid.is_none() {
+            finder.few = few_columns(alloc, solver, memory);
+        }
         Ok(finder)
     }
 
-    /// Without a grid.
+    /// Without a grid, nor columns in place of a tree.
     pub fn without_grid(solver: &Solver) -> Self
         ensures solver { solver_in result ≡ solver.now }
         ensures grid { layout_in result ≡ None }
@@ -81,14 +106,19 @@ impl<I: OverlayInt> PairFinder<I> {
         PairFinder {
             solver: *solver,
             grid: None,
+            few: None,
             looked: 0,
         }
     }
 
-    /// Gives the memory of its grid back, if it has one.
+    /// Gives the memory of its columns back, if it has some.
     pub fn give_back(self, memory: &mut FragmentMemory<I>) {
-        if let Some(grid) = self.grid {
+        let PairFinder { grid, few, .. } = self;
+        if let Some(grid) = grid {
             *memory = grid.into_memory();
+        }
+        if let Some(few) = few {
+            *memory = few.memory;
         }
     }
 
@@ -136,8 +166,26 @@ impl<I: OverlayInt> PairFinder<I> {
         }
         match &mut self.grid {
             Some(grid) => find_over_grid(segments, placing, grid, tree, marks, &mut self.looked),
-            None => solver_tree::find_marks(segments, placing, tree, marks, &mut self.looked),
+            None => {
+                let few = &mut self.few;
+                find_without_grid(segments, placing, few, tree, marks, &mut self.looked)
+            }
         }
+    }
+}
+
+/// What makes columns in place of a tree, with the memory that is lent, where the solver leaves the choice.
+fn few_columns<I: OverlayInt>(
+    alloc: Global,
+    solver: &Solver,
+    memory: &mut FragmentMemory<I>,
+) -> Option<FewColumns<I>> {
+    match solver.strategy {
+        Strategy::Auto => {
+            let memory = replace(memory, FragmentMemory::new(alloc));
+            Some(FewColumns { alloc, memory })
+        }
+        _ => None,
     }
 }
 
@@ -203,4 +251,103 @@ fn find_over_grid<C: WindingCount, I: OverlayInt, D: Copy>(
         }
     }
     solver_fragment::find_marks(segments, placing, grid, marks, looked)
+}
+
+/// Finds the marks in columns, if they may serve and take few comparisons, and else over a tree.
+fn find_without_grid<C: WindingCount, I: OverlayInt, D: Copy>(
+    segments: &[Segment<C, I, D>],
+    placing: Placing,
+    few: &mut Option<FewColumns<I>>,
+    tree: &mut TreeBuffers<I>,
+    marks: &mut Vec<LineMark<I>>,
+    looked: &mut u128,
+) -> Result<bool, Fault>
+    requires sorted { IsSortedByKey ends_of pair_cmp segments.now }
+    requires in_range { AreInRange segments.now }
+    requires radius { HasRadius placing }
+    ensures marks { OnOk result (AreMarksOf placing segments.now marks.new.items) }
+    ensures rounded { IfOk result (λ rounded. rounded ≡ is_rounded (segments_of segments.now)) }
+    ensures looked { OnOk result (looked.new ≤ looked.old + tree_looks (pairs_in segments.now)) }
+    ensures fault { IfErr result (λ fault. fault ≡ Memory) }
+{
+    if let Some(columns) = few {
+        let found = find_in_few_columns(segments, placing, columns, marks, looked)?;
+        if let Some(rounded) = found {
+            return Ok(rounded);
+        }
+    }
+    solver_tree::find_marks(segments, placing, tree, marks, looked)
+}
+
+/// Finds the marks in columns over these segments, if that takes few comparisons. Else it returns `None`, compares no
+/// pair, and `marks` is of no use.
+fn find_in_few_columns<C: WindingCount, I: OverlayInt, D: Copy>(
+    segments: &[Segment<C, I, D>],
+    placing: Placing,
+    few: &mut FewColumns<I>,
+    marks: &mut Vec<LineMark<I>>,
+    looked: &mut u128,
+) -> Result<Option<bool>, Fault>
+    requires sorted { IsSortedByKey ends_of pair_cmp segments.now }
+    requires in_range { AreInRange segments.now }
+    requires radius { HasRadius placing }
+    ensures marks { IfOk result (λ found. OnSome found (AreMarksOf placing segments.now marks.new.items)) }
+    ensures rounded { IfOk result (λ found. IfSome found (λ rounded. rounded ≡ is_rounded (segments_of segments.now))) }
+    ensures looked { OnOk result (looked.new ≤ looked.old + tree_looks (pairs_in segments.now)) }
+    ensures given_up { IfOk result (λ found. IfNone found (looked.new ≡ looked.old)) }
+    ensures fault { IfErr result (λ fault. fault ≡ Memory) }
+{
+    if segments.is_empty() || are_few_live(segments) {
+        return Ok(None);
+    }
+    let Some(layout) = GridLayout::over_list(segments) else {
+        return Ok(None);
+    };
+    let memory = replace(&mut few.memory, FragmentMemory::new(few.alloc));
+    let mut grid = FragmentBuffer::with_memory(few.alloc, layout, memory)?;
+    let found = find_in_columns(segments, placing, &mut grid, marks, looked)?;
+    few.memory = grid.into_memory();
+    Ok(found)
+}
+
+/// Whether few segments are live at a time in a sweep from left to right, on the average: as often as the sum of their
+/// widths holds the width of all.
+fn are_few_live<C: WindingCount, I: OverlayInt, D: Copy>(segments: &[Segment<C, I, D>]) -> bool {
+    let mut widths = 0_u64;
+    let mut first = i64::MAX;
+    let mut last = i64::MIN;
+    for index in 0..segments.len() {
+        let XSegment { a, b } = segments[index].x_segment();
+        let left = a.x.to_wide();
+        let right = b.x.to_wide();
+        widths = widths.saturating_add(right.abs_diff(left));
+        first = first.min(left);
+        last = last.max(right);
+    }
+    widths / FEW_LIVE < last.abs_diff(first)
+}
+
+/// The same in the columns of a grid, inside which the segments have to lie. Where they have many fragments each, none
+/// is made.
+fn find_in_columns<C: WindingCount, I: OverlayInt, D: Copy>(
+    segments: &[Segment<C, I, D>],
+    placing: Placing,
+    grid: &mut FragmentBuffer<I>,
+    marks: &mut Vec<LineMark<I>>,
+    looked: &mut u128,
+) -> Result<Option<bool>, Fault>
+    requires in_range { AreInRange segments.now }
+    requires inside { All (λ s. IsInside (grid_of grid.old) (ends_of s)) segments.now }
+    requires radius { HasRadius placing }
+    ensures marks { IfOk result (λ found. OnSome found (AreMarksOf placing segments.now marks.new.items)) }
+    ensures rounded { IfOk result (λ found. IfSome found (λ rounded. rounded ≡ is_rounded (segments_of segments.now))) }
+    ensures looked { OnOk result (looked.new ≤ looked.old + tree_looks (pairs_in segments.now)) }
+    ensures given_up { IfOk result (λ found. IfNone found (looked.new ≡ looked.old)) }
+    ensures fault { IfErr result (λ fault. fault ≡ Memory) }
+{
+    if count_fragments(segments, grid) >= MANY_FRAGMENTS * segments.len() as u128 {
+        return Ok(None);
+    }
+    let most = FEW_LOOKS.saturating_mul(segments.len() as u64);
+    solver_fragment_within::find_marks_within(segments, placing, most, grid, marks, looked)
 }

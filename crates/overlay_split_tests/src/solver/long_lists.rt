@@ -209,12 +209,12 @@ fn lines_above_one_another(rt: HostRuntime) {
 }
 
 /// In each of 3 columns a line has a fragment, so no tree is asked before the grid, and this compares none. The tree
-/// compares the first ones with one another.
+/// compares the first ones with one another. Under `Auto` columns serve in its place.
 #[test]
 fn short_lines_above_one_another(rt: HostRuntime) {
     let split = split_unchanged(&rt, &lines_to(&rt, 4000, 5));
     let [tree, grid, auto] = split.looked;
-    assert!(rt; 0 < tree && grid == 0 && auto == tree);
+    assert!(rt; 0 < tree && grid == 0 && auto == 0);
 }
 
 #[test]

@@ -121,23 +121,28 @@ module _ {I : Type 0} (whole : I → ℤ) (axis : Axis) where
   pub IsSortedAlong-from_sort : (fs : List (CodeFragment I)) → IsSortedByKey begins int_cmp fs → IsSortedAlong axis (fragments_of whole fs)
   IsSortedAlong-from_sort fs h = in_order fs (IsInOrder-from_sort int_cmp_total begins fs h)
 
+  -- one more group is in another order
+  pub permuted-more : (old : ℕ → List KeptFragment) (groups : List (Vec (CodeFragment I) Global)) (column : ℕ) (v v' : Vec (CodeFragment I) Global) → ((other : ℕ) → IsPermutation (old other) (group_in whole groups other)) → column < length groups → v ≡ get_or groups column v →
+      IsPermutation v.items v'.items → (other : ℕ) → IsPermutation (old other) (group_in whole (slice_set groups column v') other)
+  permuted-more old groups column v v' w h e p other = by (column == other) other refl
+    where
+      here : IsPermutation (old column) (group_in whole (slice_set groups column v') column)
+      here = subst (IsPermutation (old column)) (sym (group_in-same whole groups column v' h))
+          (IsPermutation-trans (old column) (fragments_of whole v.items) (fragments_of whole v'.items) (subst (IsPermutation (old column)) (sym (group_in-at whole groups column v h e)) (w column)) (IsPermutation-map (fragment_of whole) v.items v'.items p))
+
+      by : (b : Bool) → (other : ℕ) → (column == other) ≡ b → IsPermutation (old other) (group_in whole (slice_set groups column v') other)
+      by true other t = subst (λ (k : ℕ). IsPermutation (old k) (group_in whole (slice_set groups column v') k)) (eqb-true column other t) here
+      by false other t = subst (IsPermutation (old other)) (sym (group_in-other whole groups column v' other (λ same. false≢true (sym t ∙ eq-eqb column other (sym same))))) (w other)
+
   pub AreSorted-more : (old : ℕ → List KeptFragment) (groups : List (Vec (CodeFragment I) Global)) (column : ℕ) (v v' : Vec (CodeFragment I) Global) → AreSorted axis old (group_in whole groups) column → column < length groups → v ≡ get_or groups column v →
       IsPermutation v.items v'.items → IsSortedAlong axis (fragments_of whole v'.items) → AreSorted axis old (group_in whole (slice_set groups column v')) (column + 1)
   AreSorted-more old groups column v v' w h e p s = record {
-    permutation = λ other. by (column == other) other refl;
+    permutation = permuted-more old groups column v v' w.permutation h e p;
     sorted = λ other lt. elim (eq-zero-or-pos (column - other)) [
       | inl z ↦ (let same : column ≡ other = omega arith in subst (λ (k : ℕ). IsSortedAlong axis (group_in whole (slice_set groups column v') k)) same (subst (IsSortedAlong axis) (sym (group_in-same whole groups column v' h)) s))
       | inr less ↦ subst (IsSortedAlong axis) (sym (group_in-other whole groups column v' other (λ same. absurd (omega arith)))) (w.sorted other (omega arith))
     ];
   }
-    where
-      here : IsPermutation (old column) (group_in whole (slice_set groups column v') column)
-      here = subst (IsPermutation (old column)) (sym (group_in-same whole groups column v' h))
-          (IsPermutation-trans (old column) (fragments_of whole v.items) (fragments_of whole v'.items) (subst (IsPermutation (old column)) (sym (group_in-at whole groups column v h e)) (w.permutation column)) (IsPermutation-map (fragment_of whole) v.items v'.items p))
-
-      by : (b : Bool) → (other : ℕ) → (column == other) ≡ b → IsPermutation (old other) (group_in whole (slice_set groups column v') other)
-      by true other t = subst (λ (k : ℕ). IsPermutation (old k) (group_in whole (slice_set groups column v') k)) (eqb-true column other t) here
-      by false other t = subst (IsPermutation (old other)) (sym (group_in-other whole groups column v' other (λ same. false≢true (sym t ∙ eq-eqb column other (sym same))))) (w.permutation other)
 
   pub all_sorted : (old : ℕ → List KeptFragment) (groups : List (Vec (CodeFragment I) Global)) (column : ℕ) → AreSorted axis old (group_in whole groups) column → length groups ≤ column → (other : ℕ) → IsSortedAlong axis (group_in whole groups other)
   all_sorted old groups column w h other = elim (eq-zero-or-pos (column - other)) [

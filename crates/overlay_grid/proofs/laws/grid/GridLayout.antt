@@ -1,18 +1,19 @@
 -- A layout holds the segments that it was made for, and what lies in their box.
-use Rattle.std.proofs.Common.{refl, ℕ, inl, inr, arith, Bool, true, ◌&&◌, IsTrue, List, [], ◌∷◌}
+use Rattle.std.proofs.Common.{◌≡◌, refl, ℕ, inl, inr, arith, Bool, true, false, ◌&&◌, IsTrue, List, [], ◌∷◌}
 use Rattle.std.specs.Prelude.{ℤ, ◌≤ℤ◌, int_le}
 use Rattle.std.specs.Int.{int_max}
-use Rattle.std.specs.Ordering.{is_lt}
-use Rattle.std.specs.List.{list_all, list_any}
+use Rattle.std.specs.Ordering.{is_lt, is_gt}
+use Rattle.std.specs.List.{list_all, list_any, AllByRecursion}
 use Rattle.std.proofs.lemmas.Int.{ints, clamps}
 use Rattle.std.proofs.lemmas.Bool.{false≢true}
 use Rattle.overlay_geometry.specs.Points.{Point, Pair, pair_cmp, is_ordered, is_within_box_of}
 use Rattle.overlay_geometry.specs.Sorting.{is_strictly_sorted}
 use Rattle.overlay_base.specs.Segments.{ends}
-use Rattle.overlay_grid.specs.Grid.{Layout, IsLayout, greatest_x}
+use Rattle.overlay_grid.specs.Grid.{Layout, IsLayout, IsInside, greatest_x}
 use Rattle.overlay_intersections.proofs.laws.marks.MarkBoxes.{both, from_or, join_tests}
 use Rattle.overlay_geometry.proofs.laws.integers.Tests.{le-test, le-tested, le_through}
-use Rattle.overlay_geometry.proofs.laws.geometry.Points.{ordered_x}
+use Rattle.overlay_geometry.proofs.laws.geometry.Points.{ordered_x, starts_in_order}
+use Rattle.overlay_geometry.proofs.laws.lists.Keys.{IsInOrder}
 
 -- whether a point lies between two x
 abbrev pub is_between_x : ℤ → ℤ → Point → Bool
@@ -67,6 +68,19 @@ pub ends_over_grid : (s : Pair) (ts : List Pair) (max_power : ℕ) (l : Layout) 
 ends_over_grid s ts max_power l o h i =
     let (first, rest) = bounded l.max_x s.b.x ts (let e = i.right in omega (arith, ints)) in
     ends_between l.min_x l.max_x s ts (let e = i.left in omega (arith, ints)) o h (join_tests _ _ (le-test _ _ first) rest)
+
+within_starts : (l : Layout) (s : Pair) (ts : List Pair) → l.min_x ≡ s.a.x → AllByRecursion (λ t. is_gt (pair_cmp s t) ≡ false) ts → IsTrue (list_all (λ t. int_le t.b.x l.max_x) ts) → AllByRecursion (λ t. IsInside l t) ts
+within_starts l s [] e o h = tt
+within_starts l s (t ∷ ts) e o h =
+    let (k, k') = both (int_le t.b.x l.max_x) (list_all (λ u. int_le u.b.x l.max_x) ts) h in
+    let right = starts_in_order s t o.0 in
+    (record { from = omega (arith, ints); to = le-tested _ _ k }, within_starts l s ts e o.1 k')
+
+-- It holds them also where some are equal.
+pub inside_their_grid : (s : Pair) (ts : List Pair) (max_power : ℕ) (l : Layout) → IsInOrder pair_cmp (s ∷ ts) → IsLayout s.a.x (greatest_x s.b.x ts) max_power l → AllByRecursion (λ t. IsInside l t) (s ∷ ts)
+inside_their_grid s ts max_power l o i =
+    let (first, rest) = bounded l.max_x s.b.x ts (let e = i.right in omega (arith, ints)) in
+    (record { from = (let e = i.left in omega (arith, ints)); to = first }, within_starts l s ts i.left o.0 rest)
 
 -- ---- what lies in their box
 

@@ -100,6 +100,64 @@ capped a b count own next most h k n = omega arith
 pub all_more : (f : ℕ → ℕ) (column count own next : ℕ) → count ≡ min (sum_by f (range_with_len 0 column)) (2 ^ 64 - 1) → own ≡ min (f column) (2 ^ 64 - 1) → next ≡ min (count + own) (2 ^ 64 - 1) → next ≡ min (sum_by f (range_with_len 0 (column + 1))) (2 ^ 64 - 1)
 all_more f column count own next h k n = capped (sum_by f (range_with_len 0 column)) (f column) count own next (2 ^ 64 - 1) h k n ∙ ap (λ (s : ℕ). min s (2 ^ 64 - 1)) (sym (sum-next f column))
 
+-- ---- a walk that counts no less, up to the greatest number
+
+-- what is counted and what is left are no less than the whole
+pub record IsCovering (axis : Axis) (fs : List KeptFragment) (count : ℕ) (left : List KeptFragment) : Type 0 where
+  pub total : min (looks_of_group axis fs) (2 ^ 64 - 1) ≤ count + looks_of_group axis left
+
+pub IsCovering-start : (axis : Axis) (fs : List KeptFragment) → IsCovering axis fs 0 fs
+IsCovering-start axis fs = record { total = omega arith }
+
+cover_further : (whole count own begun rest most next : ℕ) → min whole most ≤ count + (begun + rest) → begun ≤ own → next ≡ min (count + own) most → min whole most ≤ next + rest
+cover_further whole count own begun rest most next h k n = omega arith
+
+pub IsCovering-more : (axis : Axis) (fs : List KeptFragment) (f : KeptFragment) (left : List KeptFragment) (count own next : ℕ) → IsCovering axis fs count (f ∷ left) → count_by (λ g. is_reached axis f g) left ≤ own → next ≡ min (count + own) (2 ^ 64 - 1) →
+    IsCovering axis fs next left
+unfolding count_twos
+IsCovering-more axis fs f left count own next w h n = record { total = cover_further (looks_of_group axis fs) count own (count_by (λ g. is_reached axis f g) left) (looks_of_group axis left) (2 ^ 64 - 1) next w.total h n }
+
+pub IsCovering-end : (axis : Axis) (fs : List KeptFragment) (count : ℕ) (left : List KeptFragment) → IsCovering axis fs count left → left ≡ [] → min (looks_of_group axis fs) (2 ^ 64 - 1) ≤ count
+unfolding count_twos
+IsCovering-end axis fs count left w none =
+    let total = rw none at w.total in
+    omega arith
+
+cover_sum : (a b count own next most : ℕ) → min a most ≤ count → min b most ≤ own → next ≡ min (count + own) most → min (a + b) most ≤ next
+cover_sum a b count own next most h k n = omega arith
+
+pub all_covered : (f : ℕ → ℕ) (column count own next : ℕ) → min (sum_by f (range_with_len 0 column)) (2 ^ 64 - 1) ≤ count → min (f column) (2 ^ 64 - 1) ≤ own → next ≡ min (count + own) (2 ^ 64 - 1) → min (sum_by f (range_with_len 0 (column + 1))) (2 ^ 64 - 1) ≤ next
+all_covered f column count own next h k n = subst (λ (s : ℕ). min s (2 ^ 64 - 1) ≤ next) (sym (sum-next f column)) (cover_sum (sum_by f (range_with_len 0 column)) (f column) count own next (2 ^ 64 - 1) h k n)
+
+-- of fragments in order at most n begin up to a place that the one after n begins past
+none_begin : (axis : Axis) (end : ℤ) (u : KeptFragment) (fs : List KeptFragment) → AllByRecursion (λ g. least_along axis u ≤ℤ least_along axis g) fs → int_le (least_along axis u) end ≡ false → count_by (λ g. int_le (least_along axis g) end) fs ≡ 0
+none_begin axis end u [] h p = refl
+none_begin axis end u (f ∷ fs) h p =
+    let all = count_by-cons (λ g. int_le (least_along axis g) end) f fs ∙ ap (λ (b : Bool). (if b then 1 else 0) + count_by (λ g. int_le (least_along axis g) end) fs) (past _ _ _ h.0 p) in
+    let later = none_begin axis end u fs h.1 p in
+    omega arith
+  where
+    past : (a b z : ℤ) → a ≤ℤ b → int_le a z ≡ false → int_le b z ≡ false
+    past a b z k q = grind (arith, ints)
+
+pub few_before : (axis : Axis) (end : ℤ) (fs : List KeptFragment) (n : ℕ) (f : KeptFragment) (rest : List KeptFragment) → IsSortedAlong axis fs → drop n fs ≡ f ∷ rest → int_le (least_along axis f) end ≡ false → count_by (λ g. int_le (least_along axis g) end) fs ≤ n
+few_before axis end [] n f rest s e p = omega arith
+few_before axis end (u ∷ fs) zero f rest s e p =
+    let first : int_le (least_along axis u) end ≡ false = first_fails u f fs rest e p in
+    let all = count_by-cons (λ g. int_le (least_along axis g) end) u fs ∙ ap (λ (b : Bool). (if b then 1 else 0) + count_by (λ g. int_le (least_along axis g) end) fs) first in
+    let later = none_begin axis end u fs s.0 first in
+    omega arith
+  where
+    first_fails : (u f : KeptFragment) (fs rest : List KeptFragment) → ◌≡◌ {A = List KeptFragment} (u ∷ fs) (f ∷ rest) → int_le (least_along axis f) end ≡ false → int_le (least_along axis u) end ≡ false
+    first_fails u f fs rest e p = grind arith
+few_before axis end (u ∷ fs) (suc n) f rest s e p =
+    let later = few_before axis end fs n f rest s.1 e p in
+    at_most_one (int_le (least_along axis u) end) (count_by-cons (λ g. int_le (least_along axis g) end) u fs) later
+  where
+    at_most_one : (b : Bool) → count_by (λ g. int_le (least_along axis g) end) (u ∷ fs) ≡ (if b then 1 else 0) + count_by (λ g. int_le (least_along axis g) end) fs → count_by (λ g. int_le (least_along axis g) end) fs ≤ n → count_by (λ g. int_le (least_along axis g) end) (u ∷ fs) ≤ suc n
+    at_most_one true c k = omega arith
+    at_most_one false c k = omega arith
+
 -- ---- along y, those that are reached share a height
 
 reached_in_height : (f g : KeptFragment) → least_along Y f ≤ℤ least_along Y g → is_reached Y f g ≡ true → do_heights_meet f g ≡ true

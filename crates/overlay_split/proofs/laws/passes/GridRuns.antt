@@ -1,12 +1,14 @@
 -- Every arrangement of a run lies inside the grid that is laid over the first.
 use Rattle.std.proofs.Common.{◌≡◌, refl, ⊎_elim, arith, ℕ, zero, suc, ◌*◌, ◌^◌, ◌/◌, ◌<◌, ◌≤◌, List, [], ◌∷◌, length, ◌&&◌, IsTrue}
-use Rattle.std.specs.Prelude.{Option, Some, None, int_le}
+use Rattle.std.specs.Prelude.{Option, Some, None, int_le, All, IsSortedByKey}
 use Rattle.std.specs.List.{list_all, AllByRecursion}
 use Rattle.std.proofs.lemmas.Bool.{cases_lt}
 use Rattle.overlay_geometry.specs.Points.{Point, Pair, pair_cmp, is_ordered, is_within_box_of}
 use Rattle.overlay_geometry.specs.Sorting.{is_strictly_sorted}
 use Rattle.overlay_base.specs.Windings.{is_not_empty}
 use Rattle.overlay_base.specs.Segments.{WholeSegment, pairs, ends, is_map, are_ordered}
+use Rattle.overlay_base.specs.SegmentOf.{ends_of, segments_of}
+use Rattle.overlay_base.specs.declared.segm.segment.Segment.{Segment}
 use Rattle.overlay_base.specs.Join.{join}
 use Rattle.overlay_base.specs.declared.overlay_core.solver.Strategy.{Strategy}
 use Rattle.overlay_base.proofs.laws.joins.Maps.{is_map-join}
@@ -15,7 +17,9 @@ use Rattle.overlay_split.specs.Run.{Settings, after_passes}
 use Rattle.overlay_grid.specs.GridFor.{IsGridFor}
 use Rattle.overlay_split.proofs.laws.paths.Boxes.{stays_in_box}
 use Rattle.overlay_intersections.proofs.laws.marks.MarkBoxes.{both, join_tests}
-use Rattle.overlay_grid.proofs.laws.grid.GridLayout.{is_over_grid, ends_over_grid, is_between_x-from_box}
+use Rattle.overlay_grid.proofs.laws.grid.GridLayout.{is_over_grid, ends_over_grid, inside_their_grid, is_between_x-from_box}
+use Rattle.overlay_grid.proofs.laws.grid.GridInside.{each_lies_inside}
+use Rattle.overlay_tree.proofs.laws.tree.Sweeps.{pairs_in_order}
 use Rattle.overlay_geometry.proofs.laws.integers.Tests.{le-tested}
 
 -- ---- logarithms
@@ -53,6 +57,13 @@ first_over_grid l (s ∷ segments) map h =
     let (sorted, ordered) = both (is_strictly_sorted pair_cmp (pairs (s ∷ segments))) (list_all (λ t. is_ordered t.pair && is_not_empty t.count) (s ∷ segments)) map in
     let log = has_log (length (s ∷ segments)) (omega arith) in
     ends_over_grid s.pair (pairs segments) (log.0 / 2) l (ordered_pairs (s ∷ segments) ordered) sorted (h log.0 log.1)
+
+-- a grid that is laid over a sorted list holds it
+pub lies_inside_its_grid : {C I D : Type 0} {m : _} {w : _} {o : _} {e : _} {p : _} (xs : List (Segment C I D m w o e p)) (l : Layout) → IsSortedByKey ends_of pair_cmp xs → IsLayoutOf (pairs (segments_of xs)) (length xs) l → All (λ (x : Segment C I D m w o e p). IsInside l (ends_of x)) xs
+lies_inside_its_grid [] l sorted h = absurd h
+lies_inside_its_grid (x ∷ xs) l sorted h =
+    let log = has_log (length (x ∷ xs)) (omega arith) in
+    each_lies_inside (x ∷ xs) l (inside_their_grid (ends_of x) (pairs (segments_of xs)) (log.0 / 2) l (pairs_in_order (x ∷ xs) sorted) (h log.0 log.1))
 
 -- ---- later ones
 

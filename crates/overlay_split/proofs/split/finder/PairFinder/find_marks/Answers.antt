@@ -37,5 +37,5 @@ returns-in-None-clause-looked g c =
     let xs = c.args.segments.now in
     let ps = pairs (segments_of xs) in
     let none : list_splits c.args.self.now.solver.strategy (length ps) ≡ false = ap (list_splits c.args.self.now.solver.strategy) (length-pairs xs) ∙ sym c.is_list_split.ensures ∙ c.if-is_list_split.false in
-    on_ok_weaker c.find_marks-in-None.result (λ h. ArePassLooks-wide c.args.self.now.solver.strategy (grid_in c.args.self.now.grid) ps c.args.self.now.looked c.find_marks-in-None.new.looked none
-    (subst (λ (o : Option Layout). c.find_marks-in-None.new.looked ≤ c.args.self.now.looked + wide_looks o ps) (sym (ap (λ b. grid_in b) c.in-None.is)) h)) c.find_marks-in-None.ensures.looked
+    on_ok_weaker c.find_without_grid.result (λ h. ArePassLooks-wide c.args.self.now.solver.strategy (grid_in c.args.self.now.grid) ps c.args.self.now.looked c.find_without_grid.new.looked none
+    (subst (λ (o : Option Layout). c.find_without_grid.new.looked ≤ c.args.self.now.looked + wide_looks o ps) (sym (ap (λ b. grid_in b) c.in-None.is)) h)) c.find_without_grid.ensures.looked

@@ -1,5 +1,7 @@
 use Rattle.std.proofs.Common.{◌≡◌, ◌≤◌, ◌+◌, ◌-◌, arith, sym, ap, ap₂, subst, ◌∙◌, ◌++◌, List, ℕ, length}
 use Rattle.std.specs.Prelude.{IsTrue, IsPermutation, flat_map, sum_by}
+use Rattle.std.proofs.lemmas.Option.{IfSome_then}
+use Rattle.overlay_grid.specs.steps.BufferBorders.{buffer_borders}
 use Rattle.std.specs.List.{AllByRecursion, list_any, range_with_len}
 use Rattle.overlay_geometry.specs.Coordinates.{is_pair_in_range}
 use Rattle.overlay_base.specs.Segments.{pairs}
@@ -10,7 +12,7 @@ use Rattle.std.proofs.lemmas.List.Elements.{All-weaker}
 use Rattle.overlay_intersections.specs.PlacingOf.{placing_of}
 use Rattle.overlay_intersections.specs.MarkOf.{Mark, marks_of}
 use Rattle.overlay_grid.specs.Grid.{Layout, pos_of, group_count, IsInside}
-use Rattle.overlay_grid.specs.FragmentOf.{KeptFragment, IsSortedAlong}
+use Rattle.overlay_grid.specs.FragmentOf.{KeptFragment}
 use Rattle.overlay_grid.specs.GroupsOf.{group_in, group_of, grid_of}
 use Rattle.overlay_grid.specs.ColumnLooks.{looks_of_groups, all_twos_in_height}
 use Rattle.overlay_grid.specs.steps.FragmentFinder.{HoldSame, is_ready, kept_group, marks_of_group, is_group_rounded, marks_of_border, looks_of_border}
@@ -18,17 +20,17 @@ use Rattle.overlay_grid.proofs.laws.grid.GridFound.{all_pairs, all_ready, sound,
 use Rattle.overlay_intersections.proofs.laws.marks.LineMarks.{AreMarks-from_elements}
 use Rattle.overlay_grid.proofs.laws.grid.GridLooks.{within_bound}
 use Rattle.overlay_grid.proofs.laws.grid.BorderMarks.{has_same, has_back}
-use Rattle.overlay_grid.proofs.split.solver_fragment.find_marks.Goals as goal
+use Rattle.overlay_grid.proofs.split.solver_fragment.find_marks_up_to.Goals as goal
 
 pub mark_columns-requires-clause-ready : goal.mark_columns-requires-clause-ready
 mark_columns-requires-clause-ready g c column =
     let segments = segments_of c.args.segments.now in
     let ps = pairs segments in
     let l = grid_of c.args.buffer.now in
-    let groups = group_of c.sort-axis.new.self in
+    let groups = group_of c.sort_up_to.new.buffer in
     let ordered = are_ordered c.args.segments.now in
     let within = all_pairs (IsInside l) c.args.segments.now c.requires.inside in
-    let same : (column : ℕ) → IsPermutation (kept_group l 0 ps column) (groups column) = λ column. subst (λ (fs : List KeptFragment). IsPermutation fs (groups column)) (c.in_ok-fill.ensures.groups column) (c.sort-axis.ensures.permutation column) in
+    let same : (column : ℕ) → IsPermutation (kept_group l 0 ps column) (groups column) = λ column. subst (λ (fs : List KeptFragment). IsPermutation fs (groups column)) (c.in_ok-fill.ensures.groups column) (c.sort_up_to.ensures.permutation column) in
     let in_range = all_pairs (λ s. IsTrue (is_pair_in_range (g.I.OverlayInt.whole g.I.OverlayInt.MIN_COORD) (g.I.OverlayInt.whole g.I.OverlayInt.MAX_COORD) s)) c.args.segments.now (All-weaker _ _ (λ s h. pair_in_range g.I.OverlayInt.whole g.I.OverlayInt.MIN_COORD g.I.OverlayInt.MAX_COORD (x_segment_of s) h) c.args.segments.now c.requires.in_range) in
     let ready = all_ready (placing_of c.args.placing) l segments groups ordered within same (g.I.OverlayInt.whole g.I.OverlayInt.MIN_COORD) (g.I.OverlayInt.whole g.I.OverlayInt.MAX_COORD) in_range in
     subst (λ (gs : List _). AllByRecursion (λ f. IsTrue (is_ready (g.I.OverlayInt.whole g.I.OverlayInt.MIN_COORD) (g.I.OverlayInt.whole g.I.OverlayInt.MAX_COORD) f)) (group_in g.I.OverlayInt.whole gs column)) (sym c.groups.ensures) (ready column)
@@ -38,10 +40,10 @@ mark_borders-requires g c =
     let segments = segments_of c.args.segments.now in
     let ps = pairs segments in
     let l = grid_of c.args.buffer.now in
-    let groups = group_of c.sort-axis.new.self in
+    let groups = group_of c.sort_up_to.new.buffer in
     let ordered = are_ordered c.args.segments.now in
     let within = all_pairs (IsInside l) c.args.segments.now c.requires.inside in
-    let same : (column : ℕ) → IsPermutation (kept_group l 0 ps column) (groups column) = λ column. subst (λ (fs : List KeptFragment). IsPermutation fs (groups column)) (c.in_ok-fill.ensures.groups column) (c.sort-axis.ensures.permutation column) in
+    let same : (column : ℕ) → IsPermutation (kept_group l 0 ps column) (groups column) = λ column. subst (λ (fs : List KeptFragment). IsPermutation fs (groups column)) (c.in_ok-fill.ensures.groups column) (c.sort_up_to.ensures.permutation column) in
     let in_range = all_pairs (λ s. IsTrue (is_pair_in_range (g.I.OverlayInt.whole g.I.OverlayInt.MIN_COORD) (g.I.OverlayInt.whole g.I.OverlayInt.MAX_COORD) s)) c.args.segments.now (All-weaker _ _ (λ s h. pair_in_range g.I.OverlayInt.whole g.I.OverlayInt.MIN_COORD g.I.OverlayInt.MAX_COORD (x_segment_of s) h) c.args.segments.now c.requires.in_range) in
     let ready = all_ready (placing_of c.args.placing) l segments groups ordered within same (g.I.OverlayInt.whole g.I.OverlayInt.MIN_COORD) (g.I.OverlayInt.whole g.I.OverlayInt.MAX_COORD) in_range in
     record { ready = ready }
@@ -51,30 +53,30 @@ returns-clause-rounded g c =
     let segments = segments_of c.args.segments.now in
     let ps = pairs segments in
     let l = grid_of c.args.buffer.now in
-    let groups = group_of c.sort-axis.new.self in
+    let groups = group_of c.sort_up_to.new.buffer in
     let ordered = are_ordered c.args.segments.now in
     let within = all_pairs (IsInside l) c.args.segments.now c.requires.inside in
-    let same : (column : ℕ) → IsPermutation (kept_group l 0 ps column) (groups column) = λ column. subst (λ (fs : List KeptFragment). IsPermutation fs (groups column)) (c.in_ok-fill.ensures.groups column) (c.sort-axis.ensures.permutation column) in
-    let layout = c.sort-axis.ensures.layout ∙ c.in_ok-fill.ensures.layout in
-    let count : length c.groups.result.now ≡ group_count l = ap length c.groups.ensures ∙ c.sort-axis.new.self.columns ∙ ap (λ (m : Layout). group_count m) layout in
+    let same : (column : ℕ) → IsPermutation (kept_group l 0 ps column) (groups column) = λ column. subst (λ (fs : List KeptFragment). IsPermutation fs (groups column)) (c.in_ok-fill.ensures.groups column) (c.sort_up_to.ensures.permutation column) in
+    let layout = c.sort_up_to.ensures.layout ∙ c.in_ok-fill.ensures.layout in
+    let count : length c.groups.result.now ≡ group_count l = ap length c.groups.ensures ∙ c.sort_up_to.new.buffer.columns ∙ ap (λ (m : Layout). group_count m) layout in
     c.in_ok-rounded.ensures.rounded
     ∙ ap₂ (λ (gs : List _) (n : ℕ). list_any (λ column. is_group_rounded (group_in g.I.OverlayInt.whole gs column)) (range_with_len 0 n)) c.groups.ensures count
     ∙ rounded_is (placing_of c.args.placing) l segments groups ordered within same
 
 pub returns-clause-looked : goal.returns-clause-looked
-returns-clause-looked g c =
+returns-clause-looked g c none =
     let segments = segments_of c.args.segments.now in
     let ps = pairs segments in
     let l = grid_of c.args.buffer.now in
-    let groups = group_of c.sort-axis.new.self in
+    let groups = group_of c.sort_up_to.new.buffer in
     let ordered = are_ordered c.args.segments.now in
     let within = all_pairs (IsInside l) c.args.segments.now c.requires.inside in
-    let same : (column : ℕ) → IsPermutation (kept_group l 0 ps column) (groups column) = λ column. subst (λ (fs : List KeptFragment). IsPermutation fs (groups column)) (c.in_ok-fill.ensures.groups column) (c.sort-axis.ensures.permutation column) in
-    let layout = c.sort-axis.ensures.layout ∙ c.in_ok-fill.ensures.layout in
-    let count : length c.groups.result.now ≡ group_count l = ap length c.groups.ensures ∙ c.sort-axis.new.self.columns ∙ ap (λ (m : Layout). group_count m) layout in
-    let looks = subst (λ (m : Layout). looks_of_groups c.sort-axis.result groups (group_count m) ≤ all_twos_in_height groups (group_count m)) layout c.sort-axis.ensures.looks in
+    let same : (column : ℕ) → IsPermutation (kept_group l 0 ps column) (groups column) = λ column. subst (λ (fs : List KeptFragment). IsPermutation fs (groups column)) (c.in_ok-fill.ensures.groups column) (c.sort_up_to.ensures.permutation column) in
+    let layout = c.sort_up_to.ensures.layout ∙ c.in_ok-fill.ensures.layout in
+    let count : length c.groups.result.now ≡ group_count l = ap length c.groups.ensures ∙ c.sort_up_to.new.buffer.columns ∙ ap (λ (m : Layout). group_count m) layout in
+    let looks = subst (λ (m : Layout). looks_of_groups c.in-Some.axis groups (group_count m) ≤ all_twos_in_height groups (group_count m)) layout (rw c.in-Some.is at (c.in_ok-axis.ensures.looks none)) in
     let seen = subst (λ (n : ℕ). c.mark_columns.new.looked ≤ c.args.looked.now + n)
-    (ap₂ (λ (gs : List _) (n : ℕ). looks_of_groups c.sort-axis.result (group_in g.I.OverlayInt.whole gs) n) c.groups.ensures count) c.in_ok-rounded.ensures.looked in
+    (ap₂ (λ (gs : List _) (n : ℕ). looks_of_groups c.in-Some.axis (group_in g.I.OverlayInt.whole gs) n) c.groups.ensures count) c.in_ok-rounded.ensures.looked in
     within_bound l ps groups ordered within same c.args.looked.now c.mark_columns.new.looked c.mark_borders.new.looked (omega (arith, looks, seen))
     (subst (λ (m : Layout). c.mark_borders.new.looked ≤ c.mark_columns.new.looked + sum_by (λ column. looks_of_border (pos_of m (column + 1)) (groups column) (groups (column + 1))) (range_with_len 0 (group_count m - 1))) layout c.in_ok-mark_borders.ensures.looked)
 
@@ -83,12 +85,12 @@ returns-clause-marks g c =
     let segments = segments_of c.args.segments.now in
     let ps = pairs segments in
     let l = grid_of c.args.buffer.now in
-    let groups = group_of c.sort-axis.new.self in
+    let groups = group_of c.sort_up_to.new.buffer in
     let ordered = are_ordered c.args.segments.now in
     let within = all_pairs (IsInside l) c.args.segments.now c.requires.inside in
-    let same : (column : ℕ) → IsPermutation (kept_group l 0 ps column) (groups column) = λ column. subst (λ (fs : List KeptFragment). IsPermutation fs (groups column)) (c.in_ok-fill.ensures.groups column) (c.sort-axis.ensures.permutation column) in
-    let layout = c.sort-axis.ensures.layout ∙ c.in_ok-fill.ensures.layout in
-    let count : length c.groups.result.now ≡ group_count l = ap length c.groups.ensures ∙ c.sort-axis.new.self.columns ∙ ap (λ (m : Layout). group_count m) layout in
+    let same : (column : ℕ) → IsPermutation (kept_group l 0 ps column) (groups column) = λ column. subst (λ (fs : List KeptFragment). IsPermutation fs (groups column)) (c.in_ok-fill.ensures.groups column) (c.sort_up_to.ensures.permutation column) in
+    let layout = c.sort_up_to.ensures.layout ∙ c.in_ok-fill.ensures.layout in
+    let count : length c.groups.result.now ≡ group_count l = ap length c.groups.ensures ∙ c.sort_up_to.new.buffer.columns ∙ ap (λ (m : Layout). group_count m) layout in
     let p = placing_of c.args.placing in
     let columns = flat_map (λ column. marks_of_group p (groups column)) (range_with_len 0 (group_count l)) in
     let borders = flat_map (λ column. marks_of_border (pos_of l (column + 1)) (groups column) (groups (column + 1))) (range_with_len 0 (group_count l - 1)) in
@@ -106,29 +108,12 @@ returns-clause-marks g c =
     (λ m h. has_same (columns ++ borders) now all m (complete p l segments groups ordered within same m h))
     c.in_ok-sort.ensures.permutation sorted c.dedup.ensures.filtered
 
-pub fill-requires-clause-in_range : goal.fill-requires-clause-in_range
-fill-requires-clause-in_range g c = c.requires.in_range
-
-pub fill-requires-clause-inside : goal.fill-requires-clause-inside
-fill-requires-clause-inside g c = c.requires.inside
-
-pub mark_columns-requires-clause-radius : goal.mark_columns-requires-clause-radius
-mark_columns-requires-clause-radius g c = c.requires.radius
-
-pub mark_columns-requires-clause-sorted : goal.mark_columns-requires-clause-sorted
-mark_columns-requires-clause-sorted g c column = subst (λ (gs : List _). IsSortedAlong c.sort-axis.result (group_in g.I.OverlayInt.whole gs column)) (sym c.groups.ensures) (c.sort-axis.ensures.sorted column)
-
-pub returns-in_err-fill-clause-layout : goal.returns-in_err-fill-clause-layout
-returns-in_err-fill-clause-layout g c = c.in_err-fill.ensures.layout
-
-pub returns-in_err-rounded-clause-layout : goal.returns-in_err-rounded-clause-layout
-returns-in_err-rounded-clause-layout g c = c.sort-axis.ensures.layout ∙ c.in_ok-fill.ensures.layout
-
-pub returns-in_err-mark_borders-clause-layout : goal.returns-in_err-mark_borders-clause-layout
-returns-in_err-mark_borders-clause-layout g c = c.in_err-mark_borders.ensures.layout ∙ c.sort-axis.ensures.layout ∙ c.in_ok-fill.ensures.layout
-
-pub returns-in_err-sort-clause-layout : goal.returns-in_err-sort-clause-layout
-returns-in_err-sort-clause-layout g c = c.in_ok-mark_borders.ensures.layout ∙ c.sort-axis.ensures.layout ∙ c.in_ok-fill.ensures.layout
-
-pub returns-clause-layout : goal.returns-clause-layout
-returns-clause-layout g c = c.in_ok-mark_borders.ensures.layout ∙ c.sort-axis.ensures.layout ∙ c.in_ok-fill.ensures.layout
+pub returns-clause-within : goal.returns-clause-within
+returns-clause-within g c =
+    let groups = group_of c.sort_up_to.new.buffer in
+    let l = grid_of c.sort_up_to.new.buffer in
+    let count : length c.groups.result.now ≡ group_count l = ap length c.groups.ensures ∙ c.sort_up_to.new.buffer.columns in
+    let seen = subst (λ (n : ℕ). c.mark_columns.new.looked ≤ c.args.looked.now + n)
+    (ap₂ (λ (gs : List _) (n : ℕ). looks_of_groups c.in-Some.axis (group_in g.I.OverlayInt.whole gs) n) c.groups.ensures count) c.in_ok-rounded.ensures.looked in
+    let at_borders : c.mark_borders.new.looked ≤ c.mark_columns.new.looked + buffer_borders c.sort_up_to.new.buffer = c.in_ok-mark_borders.ensures.looked in
+    IfSome_then c.args.limit (rw c.in-Some.is at c.in_ok-axis.ensures.within) (λ most within. omega (arith, seen, at_borders, within))

@@ -1,0 +1,45 @@
+// The finder over columns that gives up where it would compare too many pairs. This project's own.
+ghost use Rattle.std.specs.Prelude.{◌≡◌, ◌≤◌, ◌+◌, All, IfErr, IfOk, OnOk, IfSome, OnSome, IfNone};
+ghost use Rattle.overlay_base.specs.declared.segm.fault.Fault.TheVariants.{Memory};
+ghost use Rattle.overlay_base.specs.SegmentOf.{ends_of, segments_of};
+ghost use Rattle.overlay_intersections.specs.PassMarks.{is_rounded};
+ghost use Rattle.overlay_intersections.specs.PlacingOf.{HasRadius};
+ghost use Rattle.overlay_intersections.specs.MarkOf.{AreMarksOf};
+ghost use Rattle.overlay_grid.specs.Grid.{IsInside};
+ghost use Rattle.overlay_grid.specs.GroupsOf.{grid_of};
+ghost use Rattle.overlay_base.specs.ArrangedOf.{AreInRange};
+
+use crate::split::fragment_buffer::FragmentBuffer;
+use crate::split::solver_fragment::find_marks_up_to;
+use overlay_base::segm::fault::Fault;
+use overlay_base::segm::segment::Segment;
+use overlay_base::segm::winding::WindingCount;
+use overlay_geometry::num::OverlayInt;
+use overlay_intersections::split::line_mark::LineMark;
+use overlay_intersections::split::placing::Placing;
+
+/// Finds the marks of a pass as `solver_fragment::find_marks` does, under the same conditions, if that compares no more
+/// pairs than it may. It returns whether the pass rounds, and `None` where it gave up: it counts before it compares, so
+/// it compares none then, and `marks` is of no use.
+///
+/// Returns `Fault::Memory` where a growth is refused; `marks` is of no use then.
+pub fn find_marks_within<C: WindingCount, I: OverlayInt, D: Copy>(
+    segments: &[Segment<C, I, D>],
+    placing: Placing,
+    most: u64,
+    buffer: &mut FragmentBuffer<I>,
+    marks: &mut Vec<LineMark<I>>,
+    looked: &mut u128,
+) -> Result<Option<bool>, Fault>
+    requires in_range { AreInRange segments.now }
+    requires inside { All (λ s. IsInside (grid_of buffer.old) (ends_of s)) segments.now }
+    requires radius { HasRadius placing }
+    ensures layout { grid_of buffer.new ≡ grid_of buffer.old }
+    ensures marks { IfOk result (λ found. OnSome found (AreMarksOf placing segments.now marks.new.items)) }
+    ensures rounded { IfOk result (λ found. IfSome found (λ rounded. rounded ≡ is_rounded (segments_of segments.now))) }
+    ensures looked { OnOk result (looked.new ≤ looked.old + most) }
+    ensures given_up { IfOk result (λ found. IfNone found (looked.new ≡ looked.old)) }
+    ensures fault { IfErr result (λ fault. fault ≡ Memory) }
+{
+    find_marks_up_to(segments, placing, Some(most), buffer, marks, looked)
+}
