@@ -11,6 +11,7 @@ use Rattle.std.proofs.lemmas.Bool.{ltb-true, false≢true}
 use Rattle.std.proofs.lemmas.Int.{ints}
 use Rattle.std.proofs.lemmas.Nat.{le-div, pow_pos}
 use Rattle.std.proofs.lemmas.List.{length-map, get_or-map}
+use Rattle.std.proofs.lemmas.Map.Keys.{Less-from_sorted}
 use Rattle.overlay_geometry.proofs.laws.lists.Keys.{IsStrictlySortedBy-from_test}
 use Rattle.overlay_geometry.specs.Points.{Point, Pair, is_ordered, is_in_box, is_between}
 use Rattle.overlay_geometry.specs.PointOf.{point_of}
@@ -20,22 +21,6 @@ use Rattle.overlay_snapping.specs.steps.PointTrees.{met_places_from, column_of, 
 use Rattle.overlay_snapping.proofs.laws.point_trees.Columns.{tile_cmp_total}
 use Rattle.overlay_snapping.proofs.laws.point_trees.MetPlaces.{met_one_more, passed_one}
 use Rattle.overlay_snapping.proofs.laws.point_trees.MissedBoxes.{ordered_in_x}
-
--- ---- lists in strict order
-
-all_at : {X : Type 0} (P : X → Type 0) (xs : List X) (j : ℕ) (d : X) → AllByRecursion P xs → j < length xs → P (slice_index_or xs j d)
-all_at P [] j d h l = absurd (omega (arith, l))
-all_at P (x ∷ xs) zero d h l = h.0
-all_at P (x ∷ xs) (suc j) d h l = all_at P xs j d h.1 (omega (arith, l))
-
--- of two elements the one before is less
-rise_at : {X : Type 0} (cmp : X → X → Ordering) (xs : List X) (i j : ℕ) (d : X) → IsStrictlySortedBy cmp xs → i < j → j < length xs → cmp (slice_index_or xs i d) (slice_index_or xs j d) ≡ Less
-unfolding IsStrictlySortedBy
-rise_at cmp [] i j d s h l = absurd (omega (arith, l))
-rise_at cmp (x ∷ xs) zero zero d s h l = absurd (omega (arith, h))
-rise_at cmp (x ∷ xs) zero (suc j) d s h l = all_at (λ y. cmp x y ≡ Less) xs j d s.0 (omega (arith, l))
-rise_at cmp (x ∷ xs) (suc i) zero d s h l = absurd (omega (arith, h))
-rise_at cmp (x ∷ xs) (suc i) (suc j) d s h l = rise_at cmp xs i j d s.1 (omega (arith, h)) (omega (arith, l))
 
 -- ---- columns
 
@@ -96,7 +81,7 @@ module _ {I : Type 0} (whole : I → ℤ) (shift : ℕ) (xs : List (IntPoint I))
       let points = map (point_of whole) xs in
       let long : length points ≡ length xs = length-map xs (point_of whole) in
       let strict = IsStrictlySortedBy-from_test (tile_cmp_total shift) points s in
-      let less = rise_at (tile_cmp shift) points i j (point_of whole d) strict h (omega (arith, l, long)) in
+      let less = Less-from_sorted (tile_cmp shift) points i j (point_of whole d) strict h (omega (arith, l, long)) in
       in_turn shift (at i d) (at j d) (sym (ap₂ (tile_cmp shift) (at_map i d (omega (arith, h, l))) (at_map j d l)) ∙ less)
 
   -- what the searches for a height in a column, and for a later column, need
@@ -268,7 +253,3 @@ module _ {I : Type 0} (whole : I → ℤ) (shift : ℕ) (xs : List (IntPoint I))
               let turn = turn_at whole shift xs sorted place k d (lt_is place k e) upto in
               at_column (here k d) (omega (arith, ints, far, turn.0))
           by false e = subst (λ j. meets_pixel s (here j d) ≡ false) (same_index place k from e) (at_column (here place d) far)
-
-  -- at the end of the list
-  pub at_end : (place : ℕ) → place ≡ length xs → Done place → now ≡ found ++ met_places_from 0 s (map (point_of whole) xs)
-  at_end place l e = e ∙ ap (λ k. found ++ met_places_from 0 s (map (point_of whole) (take k xs))) l ∙ ap (λ l. found ++ met_places_from 0 s (map (point_of whole) l)) (take_length xs)
