@@ -220,8 +220,8 @@ fn compared_in(rt: &impl Abort, runner: &mut Runner, solver: &Solver, lines: &[L
     runner.compared()
 }
 
-/// Over the list each line asks for the least d with 2 n at most 2 ^ d, twice: n lines were there before it. That is 1
-/// for one line, 2 for two, and k + 1 for as many as have k for their logarithm, rounded up: 2 * 47,892 in all.
+/// Over one row each start asks one search of at most 13 orders, since 2 * 4,000 is at most 2 ^ 13, and the line that is
+/// put in there asks none.
 #[test]
 fn a_sweep_over_the_tree_asks_few_orders(rt: HostRuntime) {
     let lines = closing_lines(&rt, rt.alloc());
