@@ -7,6 +7,7 @@ mod ffi;
 
 mod cross;
 mod error;
+mod float;
 mod graph;
 mod measure;
 mod names;
@@ -18,6 +19,7 @@ mod solver;
 
 pub use cross::{cross, CollinearMask, CrossResult, CrossType};
 pub use error::{Axis, Error, Fault, RangeFault, SegmentFault};
+pub use float::{FloatContour, FloatError, FloatOverlay, FloatPoint, FloatPointAdapter, FloatShape};
 pub use graph::{IdPoint, OverlayGraph, OverlayLink, OverlayNode, SegmentFill};
 pub use measure::{bounding_box, doubled_area, doubled_area_of_shape};
 pub use names::UnknownName;

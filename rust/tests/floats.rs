@@ -1,0 +1,105 @@
+//! Floating coordinates: no overlap of small triangles is lost, areas are as those of other arithmetic, and bad points are named.
+
+mod common;
+
+use common::Random;
+use i_overlay_core::{Axis, FillRule, FloatError, FloatOverlay, FloatPoint, FloatPointAdapter, OverlayRule, ShapeType};
+
+/// Twice the area of a contour.
+fn doubled_area(contour: &[FloatPoint]) -> f64 {
+    let next = contour.iter().cycle().skip(1);
+    contour.iter().zip(next).map(|(a, b)| a[0] * b[1] - a[1] * b[0]).sum()
+}
+
+/// What a convex counterclockwise contour has in common with another one: cut by each of its sides in turn.
+fn common_part(subject: &[FloatPoint], clip: &[FloatPoint]) -> Vec<FloatPoint> {
+    let mut part = subject.to_vec();
+    for (index, a) in clip.iter().enumerate() {
+        let b = clip[(index + 1) % clip.len()];
+        let side = |p: &FloatPoint| (b[0] - a[0]) * (p[1] - a[1]) - (b[1] - a[1]) * (p[0] - a[0]);
+        let mut kept = Vec::new();
+        for (index, p) in part.iter().enumerate() {
+            let q = &part[(index + 1) % part.len()];
+            let (before, after) = (side(p), side(q));
+            if before >= 0.0 {
+                kept.push(*p);
+            }
+            if before * after < 0.0 {
+                let at = before / (before - after);
+                kept.push([p[0] + at * (q[0] - p[0]), p[1] + at * (q[1] - p[1])]);
+            }
+        }
+        part = kept;
+    }
+    part
+}
+
+/// A counterclockwise triangle on a grid of nine by nine points.
+fn triangle(random: &mut Random) -> [FloatPoint; 3] {
+    loop {
+        let mut corners = [[0.0; 2]; 3];
+        for corner in corners.iter_mut().flatten() {
+            *corner = f64::from(random.below(9));
+        }
+        let area = doubled_area(&corners);
+        if area < 0.0 {
+            corners.swap(0, 1);
+        }
+        if area != 0.0 {
+            return corners;
+        }
+    }
+}
+
+/// Of 5,000 pairs of triangles each two that overlap have a part in common, with the area that the cut has.
+#[test]
+fn no_overlap_is_lost_on_a_coarse_grid() {
+    let (mut random, mut overlapping) = (Random(3), 0);
+    for _ in 0..5000 {
+        let (subject, clip) = (triangle(&mut random), triangle(&mut random));
+        let wanted = doubled_area(&common_part(&subject, &clip));
+        let mut overlay = FloatOverlay::with_contours(&[subject], &[clip]).unwrap();
+        let contours = overlay.overlay(OverlayRule::Intersect, FillRule::NonZero).unwrap();
+        let area: f64 = contours.iter().map(|contour| doubled_area(contour)).sum();
+        assert!((area - wanted).abs() < 1e-6, "{subject:?} {clip:?}: {area} in place of {wanted}");
+        assert_eq!(wanted > 1e-9, !contours.is_empty(), "{subject:?} {clip:?}");
+        overlapping += usize::from(wanted > 1e-9);
+    }
+    assert!(overlapping > 2500, "{overlapping}");
+}
+
+#[test]
+fn points_come_back_as_they_were() {
+    let adapter = FloatPointAdapter::new([0.0, -8.0], [8.0, 8.0]).unwrap();
+    for x in 0..=32 {
+        let point = [f64::from(x) / 4.0, -f64::from(x) / 4.0];
+        assert_eq!(adapter.to_float(adapter.to_int(point).unwrap()), point);
+    }
+    // the ends of the bounds fit, and moving them by the scale's last unit is seen
+    for bounds in [[0.1, 0.3], [-5e8, 7e8], [1e-300, 3e-300], [-1e300, 1e300], [0.0, 0.0], [5e6, 5e6 + 1e-3]] {
+        let adapter = FloatPointAdapter::new([bounds[0]; 2], [bounds[1]; 2]).unwrap();
+        for value in bounds {
+            let back = adapter.to_float(adapter.to_int([value; 2]).unwrap())[0];
+            assert!((back - value).abs() <= 0.5 / adapter.scale() + value.abs() * 1e-15, "{bounds:?}: {value} {back}");
+        }
+    }
+}
+
+#[test]
+fn bad_points_are_named() {
+    let bad = |point: FloatPoint| FloatOverlay::with_contours(&[[[0.0, 0.0], [1.0, 0.0], point]], &[]).unwrap_err();
+    let named = |axis, value| FloatError::Point { shape_type: ShapeType::Subject, contour: 0, point: 2, axis, value };
+    assert_eq!(bad([f64::INFINITY, f64::NAN]), named(Axis::X, f64::INFINITY));
+    assert_eq!(bad([0.0, f64::NEG_INFINITY]), named(Axis::Y, f64::NEG_INFINITY));
+    let mut overlay = FloatOverlay::with_adapter(FloatPointAdapter::new([0.0; 2], [10.0; 2]).unwrap()).unwrap();
+    overlay.add_contour(&[[0.0, 0.0], [10.0, 0.0], [0.0, 10.0]], ShapeType::Clip).unwrap();
+    let refused = overlay.add_contour(&[[0.0, 0.0], [1.0, 1e6]], ShapeType::Clip).unwrap_err();
+    assert_eq!(refused.to_string(), "contour 1 of the clip, point 1: y is 1000000, which is outside of the bounds");
+    assert_eq!(overlay.overlay(OverlayRule::Clip, FillRule::NonZero).unwrap().len(), 1);
+    assert_eq!(FloatPointAdapter::new([0.0; 2], [f64::NAN, 1.0]), Err(FloatError::Bounds));
+    assert_eq!(FloatPointAdapter::new([0.0, 2.0], [1.0, 1.0]), Err(FloatError::Bounds));
+    for scale in [0.0, -1.0, f64::NAN, f64::INFINITY] {
+        let refused = FloatPointAdapter::with_scale([0.0; 2], [1.0; 2], scale).unwrap_err();
+        assert!(matches!(refused, FloatError::Scale { .. }), "{scale}");
+    }
+}
