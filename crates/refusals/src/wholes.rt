@@ -237,6 +237,38 @@ impl Case for KeptShapes {
     }
 }
 
+/// What two contours share and what they do not, by one split for both rules. After a refusal the overlay is used again as
+/// it is, and what it reports of its last run is as it was.
+#[derive(Drop)]
+pub struct KeptRules {
+    kept: KeptContours,
+}
+
+impl KeptRules {
+    /// An overlay of no contours.
+    pub fn new(alloc: Global) -> KeptRules {
+        KeptRules {
+            kept: KeptContours::new(alloc, Rounding::HotPixels),
+        }
+    }
+}
+
+impl Case for KeptRules {
+    fn try_once(&mut self, alloc: Global) -> Result<Summary, Stop> {
+        self.kept.add_missing(alloc)?;
+        let overlay = &mut self.kept.overlay;
+        let before = (overlay.passes(), overlay.reach());
+        let rules = [OverlayRule::Intersect, OverlayRule::Xor];
+        match overlay.overlay_by_rules(&Solver::AUTO, FillRule::EvenOdd, &rules) {
+            Ok(overlays) => Ok(summary_of_shapes(&overlays)),
+            Err(fault) => {
+                let after = (overlay.passes(), overlay.reach());
+                Err(refused(fault, before == after))
+            }
+        }
+    }
+}
+
 /// Adds a square to an overlay.
 fn add_square(
     overlay: &mut ContourOverlay<i32>,
