@@ -35,7 +35,7 @@ drop_edits_before() {
 test_package() {
     python3 tools/archive.py --after-ci >"$room/archive" 2>&1 || { cat "$room/archive"; return 1; }
     export ARRANGE="$PWD/crates/arrange/out/arrange"
-    (cd rust && cargo test --release --offline --quiet && cargo test --release --offline --quiet --test program -- --ignored)
+    (cd rust && cargo test --release --offline --quiet && cargo test --release --offline --quiet --test program package_and_program_agree -- --ignored)
 }
 
 # Builds the checked calls for C over that archive, runs the example under sanitizers, where the compiler has them, and the tests of
