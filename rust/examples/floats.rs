@@ -1,6 +1,6 @@
 //! Contours of floating coordinates, of which the unit is a meter: two plots of land that share a strip.
 
-use i_overlay_core::{FillRule, FloatError, FloatOverlay, OverlayRule};
+use i_overlay_core::{area_of_shape, FillRule, FloatError, FloatOverlay, OverlayRule};
 
 fn main() -> Result<(), FloatError> {
     let plot =
@@ -9,15 +9,8 @@ fn main() -> Result<(), FloatError> {
     let mut overlay = FloatOverlay::with_contours(&[plot], &[other])?;
     let shared = overlay.overlay_shapes(OverlayRule::Intersect, FillRule::NonZero)?;
     println!("{shared:?}, within {:e} m", overlay.reach());
-    let area = area(&shared[0][0]);
+    let area = area_of_shape(&shared[0]);
     println!("{area} square meters");
     assert!((area - 0.25 * 24.5).abs() < 1e-4);
     Ok(())
-}
-
-/// The area of a contour, seen from its first point.
-fn area(contour: &[[f64; 2]]) -> f64 {
-    let [x, y] = contour[0];
-    let ways: Vec<[f64; 2]> = contour.iter().map(|point| [point[0] - x, point[1] - y]).collect();
-    ways.windows(2).map(|pair| pair[0][0] * pair[1][1] - pair[0][1] * pair[1][0]).sum::<f64>() / 2.0
 }

@@ -228,14 +228,40 @@ impl FloatOverlay {
     pub fn add_contour(&mut self, contour: &[FloatPoint], shape_type: ShapeType) -> Result<(), FloatError> {
         let count = &mut self.contour_counts[shape_type as usize];
         self.contour.clear();
-        for (index, &point) in contour.iter().enumerate() {
-            let Some(whole) = self.adapter.to_int(point) else {
-                return Err(bad_point(&self.adapter, shape_type, *count, index, point));
-            };
-            self.contour.push(whole);
-        }
+        push_whole(&self.adapter, contour, shape_type, *count, &mut self.contour)?;
         self.overlay.add_contour(&self.contour, shape_type)?;
         *count += 1;
+        Ok(())
+    }
+
+    /// Adds a polygon, whichever way its rings run: they are turned as [`Overlay::add_polygon`] turns them. Where a point is
+    /// not finite or outside of the bounds nothing is added.
+    ///
+    /// ```
+    /// use i_overlay_core::{area_of_shape, FillRule, FloatOverlay, FloatPointAdapter, OverlayRule, ShapeType};
+    ///
+    /// let square = |low: f64, high: f64| [[low, low], [high, low], [high, high], [low, high]];
+    /// let mut overlay = FloatOverlay::with_adapter(FloatPointAdapter::new([0.0; 2], [1.0; 2])?)?;
+    /// overlay.add_polygon(&square(0.0, 1.0), &[square(0.25, 0.75)], ShapeType::Subject)?;
+    /// let shapes = overlay.overlay_shapes(OverlayRule::Subject, FillRule::NonZero)?;
+    /// assert_eq!((shapes.len(), area_of_shape(&shapes[0])), (1, 0.75));
+    /// # Ok::<(), i_overlay_core::FloatError>(())
+    /// ```
+    pub fn add_polygon<C: AsRef<[FloatPoint]>>(
+        &mut self,
+        outer: &C,
+        holes: &[C],
+        shape_type: ShapeType,
+    ) -> Result<(), FloatError> {
+        let first = self.contour_counts[shape_type as usize];
+        let mut rings = Vec::with_capacity(1 + holes.len());
+        for (contour, ring) in (first..).zip(std::iter::once(outer).chain(holes)) {
+            let mut whole = Vec::new();
+            push_whole(&self.adapter, ring.as_ref(), shape_type, contour, &mut whole)?;
+            rings.push(whole);
+        }
+        self.overlay.add_polygon(&rings[0], &rings[1..], shape_type)?;
+        self.contour_counts[shape_type as usize] += rings.len();
         Ok(())
     }
 
@@ -268,6 +294,23 @@ impl FloatOverlay {
     }
 }
 
+/// Pushes the whole points of a contour.
+fn push_whole(
+    adapter: &FloatPointAdapter,
+    contour: &[FloatPoint],
+    shape_type: ShapeType,
+    index: usize,
+    whole: &mut IntContour,
+) -> Result<(), FloatError> {
+    for (place, &point) in contour.iter().enumerate() {
+        let Some(it) = adapter.to_int(point) else {
+            return Err(bad_point(adapter, shape_type, index, place, point));
+        };
+        whole.push(it);
+    }
+    Ok(())
+}
+
 /// The error of a point that an adapter does not take.
 fn bad_point(
     adapter: &FloatPointAdapter,
@@ -278,4 +321,33 @@ fn bad_point(
 ) -> FloatError {
     let axis = if adapter.to_int([at[0], adapter.center[1]]).is_none() { Axis::X } else { Axis::Y };
     FloatError::Point { shape_type, contour, point, axis, value: at[axis as usize] }
+}
+
+/// The area of a contour with floating coordinates: negative where it runs clockwise. It is computed from the first point, so it
+/// loses no digits far from the origin.
+///
+/// ```
+/// use i_overlay_core::area;
+///
+/// let square = [[1e6, 1e6], [1e6 + 2.0, 1e6], [1e6 + 2.0, 1e6 + 2.0], [1e6, 1e6 + 2.0]];
+/// assert_eq!(area(&square), 4.0);
+/// assert_eq!(area(&[]), 0.0);
+/// ```
+pub fn area(contour: &[FloatPoint]) -> f64 {
+    let Some(&[x, y]) = contour.first() else { return 0.0 };
+    let side = |pair: &[FloatPoint]| (pair[0][0] - x) * (pair[1][1] - y) - (pair[0][1] - y) * (pair[1][0] - x);
+    contour.windows(2).map(side).sum::<f64>() / 2.0
+}
+
+/// The area of a shape with floating coordinates: that of its outer boundary less those of its holes.
+///
+/// ```
+/// use i_overlay_core::area_of_shape;
+///
+/// let outer = [[0.0, 0.0], [4.0, 0.0], [4.0, 4.0], [0.0, 4.0]];
+/// let hole = [[1.0, 1.0], [1.0, 2.0], [2.0, 2.0], [2.0, 1.0]];
+/// assert_eq!(area_of_shape(&[outer, hole]), 15.0);
+/// ```
+pub fn area_of_shape<C: AsRef<[FloatPoint]>>(shape: &[C]) -> f64 {
+    shape.iter().map(|contour| area(contour.as_ref())).sum()
 }

@@ -19,6 +19,7 @@ mod solver;
 
 pub use cross::{cross, CollinearMask, CrossResult, CrossType};
 pub use error::{Axis, Error, Fault, RangeFault, SegmentFault};
+pub use float::{area, area_of_shape};
 pub use float::{FloatContour, FloatError, FloatOverlay, FloatPoint, FloatPointAdapter, FloatShape};
 pub use graph::{IdPoint, OverlayGraph, OverlayLink, OverlayNode, SegmentFill};
 pub use measure::{bounding_box, doubled_area, doubled_area_of_shape};

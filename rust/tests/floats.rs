@@ -95,6 +95,9 @@ fn bad_points_are_named() {
     overlay.add_contour(&[[0.0, 0.0], [10.0, 0.0], [0.0, 10.0]], ShapeType::Clip).unwrap();
     let refused = overlay.add_contour(&[[0.0, 0.0], [1.0, 1e6]], ShapeType::Clip).unwrap_err();
     assert_eq!(refused.to_string(), "contour 1 of the clip, point 1: y is 1000000, which is outside of the bounds");
+    let hole = vec![[1.0, 1.0], [2.0, 1.0], [f64::NAN, 2.0]];
+    let refused = overlay.add_polygon(&vec![[0.0; 2], [9.0, 0.0], [0.0, 9.0]], &[hole], ShapeType::Clip).unwrap_err();
+    assert_eq!(refused.to_string(), "contour 2 of the clip, point 2: x is NaN, which is no finite number");
     assert_eq!(overlay.overlay(OverlayRule::Clip, FillRule::NonZero).unwrap().len(), 1);
     assert_eq!(FloatPointAdapter::new([0.0; 2], [f64::NAN, 1.0]), Err(FloatError::Bounds));
     assert_eq!(FloatPointAdapter::new([0.0, 2.0], [1.0, 1.0]), Err(FloatError::Bounds));
