@@ -3,8 +3,8 @@
 
     python3 tools/check_docs.py
 
-PROMISES names each edit of `must-fail/`, and in its last column only tests; DEFINITIONS names each file of `specs/`, ARCHITECTURE
-each source file. Each lemma module begins with a comment. A link of a document leads to a file. No contract of a public
+PROMISES names each edit of `must-fail/`, and in its last column only tests; ARCHITECTURE names each source file; DEFINITIONS names
+files and definitions of `specs/` that are there. Each lemma module and each file of `specs/` begins with a comment. A link of a document leads to a file. No contract of a public
 function of `i_overlay` or `overlay_contours` names a definition of `specs/steps`.
 """
 import os
@@ -12,12 +12,14 @@ import re
 import sys
 
 sys.dont_write_bytecode = True
-import index_lemmas  # noqa: E402  (beside this file)
+import index_definitions  # noqa: E402  (beside this file)
+import index_lemmas  # noqa: E402
 
 ROOT = os.path.dirname(os.path.dirname(os.path.abspath(__file__)))
 # files that every crate has
 COMMON = {"Lib", "lib", "main", "tests"}
 CELLS_OF_A_PROMISE = 5
+CELLS_OF_A_TERM = 3
 # folders of what is made
 MADE = {".git", "out", "target", "__pycache__"}
 
@@ -112,13 +114,31 @@ def lemmas_without_comment():
     return [f"the lemma module {name} of {crate} has no comment" for crate, _, name, said in index_lemmas.index() if not said]
 
 
+def terms_that_are_gone(specs):
+    """What DEFINITIONS names in its column of files, and `specs` has not; and files of these without a comment."""
+    known = {name for (crate, file), (definitions, _, _) in specs.items() for name in [file, f"{crate}/specs/{file}", *(it.name for it in definitions)]}
+    cells = [cells[-1] for cells in rows(read("docs/DEFINITIONS.md")) if len(cells) == CELLS_OF_A_TERM]
+    named = {name for cell in cells for name in re.findall(r"`([^`]+)`", cell)}
+    counted = []
+    for cells in rows(read("docs/DEFINITIONS.md")):
+        if said := re.fullmatch(r"(\d+), in (\d+) files", cells[-1]):
+            below = index_definitions.below(specs, re.findall(r"`([^`]+)`", cells[1])[:1])
+            found = len(below), len({it[:2] for it in below})
+            counted += [f"docs/DEFINITIONS.md counts wrong below {cells[1]}: {found}"] * (found != (int(said[1]), int(said[2])))
+    return [
+        *counted,
+        *[f"docs/DEFINITIONS.md names {it}, which is not in specs" for it in sorted(named - known)],
+        *[f"the file {file} of the specs of {crate} has no comment" for (crate, file), (_, _, said) in specs.items() if not said],
+    ]
+
+
 def main():
     files = present()
     found = [
         *left_out(files, r"crates/\w+/must-fail/\w+\.edit", "docs/PROMISES.md"),
-        *left_out(files, r"crates/\w+/specs/(\w+/)*[A-Z]\w*\.antt", "docs/DEFINITIONS.md"),
         *left_out(files, r"crates/\w+(?<!_tests)/src/(\w+/)*\w+(?<!_tests)\.rt", "docs/ARCHITECTURE.md"),
         *lemmas_without_comment(),
+        *terms_that_are_gone(index_definitions.index()),
         *tests_that_are_gone(files),
         *dead_links(files),
         *steps_in_public(files),
