@@ -11,8 +11,8 @@ use i_overlay::segm::segment::{NONE, Segment};
 use i_overlay::split::solver::SplitSolver;
 use std::alloc::Global;
 
-/// The fills of two arrangements by one runner, which may be used again after a refusal. Over the second one the row of
-/// live segments gives way to the tree, where the strategy takes these.
+/// The fills of two arrangements by one runner, which may be used again after a refusal. Of the second one so many segments
+/// are live at once that rows are cut, where the strategy takes rows.
 #[derive(Drop)]
 pub struct Sweep {
     runner: SweepRunner<ShapeCountBoolean, i32>,
