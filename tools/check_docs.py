@@ -3,17 +3,20 @@
 
     python3 tools/check_docs.py
 
-PROMISES names each edit of `must-fail/`, and in its last column only tests; ARCHITECTURE names each source file; DEFINITIONS names
-files and definitions of `specs/` that are there. Each lemma module and each file of `specs/` begins with a comment. A link of a document leads to a file. No contract of a public
-function of `i_overlay` or `overlay_contours` names a definition of `specs/steps`.
+PROMISES names each edit of `must-fail/`, beside it a function that it changes, and in its last column only tests; ARCHITECTURE names
+each source file; DEFINITIONS names files and definitions of `specs/` that are there. Each lemma module and each file of `specs/`
+begins with a comment. A link of a document leads to a file. No contract of a public function of `i_overlay` or `overlay_contours`
+names a definition of `specs/steps`.
 """
 import os
+import pathlib
 import re
 import sys
 
 sys.dont_write_bytecode = True
 import index_definitions  # noqa: E402  (beside this file)
 import index_lemmas  # noqa: E402
+import must_fail  # noqa: E402
 
 ROOT = os.path.dirname(os.path.dirname(os.path.abspath(__file__)))
 # files that every crate has
@@ -132,6 +135,17 @@ def terms_that_are_gone(specs):
     ]
 
 
+def edits_of_other_functions(files):
+    """The edits that change no function which PROMISES names beside them: nothing could refuse them."""
+    promises, found = must_fail.promised(), []
+    for file in files:
+        if re.fullmatch(r"crates/\w+/must-fail/\w+\.edit", file):
+            edit = must_fail.Edit(file.split("/")[1], pathlib.Path(ROOT, file), promises)
+            if not edit.is_alone and not edit.named & {name for _, name in edit.functions}:
+                found.append(f"PROMISES names no function beside {edit.name} that this changes")
+    return found
+
+
 def main():
     files = present()
     found = [
@@ -141,6 +155,7 @@ def main():
         *terms_that_are_gone(index_definitions.index()),
         *tests_that_are_gone(files),
         *dead_links(files),
+        *edits_of_other_functions(files),
         *steps_in_public(files),
     ]
     print(*found, sep="\n", end="\n" * bool(found))
