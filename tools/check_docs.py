@@ -119,7 +119,9 @@ def lemmas_without_comment():
 
 def terms_that_are_gone(specs):
     """What DEFINITIONS names in its column of files, and `specs` has not; and files of these without a comment."""
-    known = {name for (crate, file), (definitions, _, _) in specs.items() for name in [file, f"{crate}/specs/{file}", *(it.name for it in definitions)]}
+    known = set()
+    for (crate, file), (definitions, _, _) in specs.items():
+        known |= {file, f"{crate}/specs/{file}", *(it.name for it in definitions)}
     cells = [cells[-1] for cells in rows(read("docs/DEFINITIONS.md")) if len(cells) == CELLS_OF_A_TERM]
     named = {name for cell in cells for name in re.findall(r"`([^`]+)`", cell)}
     counted = []

@@ -26,7 +26,6 @@ fn main() -> Result<(), Box<dyn Error>> {
     let adapter = FloatPointAdapter::with_iter(points);
     let town = overlay(adapter, &buildings, &roads, OverlayRule::Difference)?;
     let built = overlay(adapter, &town, &tile, OverlayRule::Intersect)?;
-
     let holes: usize = built.iter().map(|shape| shape.len() - 1).sum();
     let area: f64 = built.iter().map(|shape| area_of_shape(shape)).sum();
     eprintln!("{} polygons with {holes} holes, {area:.3} square meters", built.len());
@@ -35,6 +34,7 @@ fn main() -> Result<(), Box<dyn Error>> {
         return Ok(());
     }
     assert_eq!((built.len(), holes), (OF_GEOS.0, OF_GEOS.1));
+    // 0.02 apart, and why is not known: a sum over slabs in plain floats has 418,018.472
     assert!((area - OF_GEOS.2).abs() < 0.05, "GEOS has {} square meters", OF_GEOS.2);
     Ok(())
 }
