@@ -9,6 +9,8 @@
 # would check a crate once for each of its edits, and `tools/must_fail.py` tries them together, in half of the time.
 set -euo pipefail
 cd "$(dirname "$0")/.."
+UPSTREAM=${UPSTREAM:-$PWD/bench/upstream/out/target/release/upstream_arrange}
+export UPSTREAM
 room=$(mktemp -d)
 trap 'rm -rf "$room"' EXIT
 
@@ -36,6 +38,19 @@ test_package() {
     python3 tools/archive.py --after-ci >"$room/archive" 2>&1 || { cat "$room/archive"; return 1; }
     export ARRANGE="$PWD/crates/arrange/out/arrange"
     (cd rust && cargo test --release --offline --quiet && cargo test --release --offline --quiet --test program package_and_program_agree -- --ignored)
+}
+
+# Compares 100,000 runs of the package with upstream's files, where these are at hand: `bench/upstream/build.py` compiles them.
+compare_with_upstream() {
+    if ! [[ -x $UPSTREAM ]]; then
+        printf '%5d s: runs were not compared with upstream: its files are not at hand\n' "$SECONDS"
+    elif (cd rust && cargo test --release --offline --quiet --test program package_and_upstream_agree -- --ignored); then
+        printf '%5d s: runs agree with upstream\n' "$SECONDS"
+        passed=$((passed + 1))
+    else
+        printf '%5d s: runs DIFFER from upstream\n' "$SECONDS"
+        failed=$((failed + 1)) status=1
+    fi
 }
 
 # Builds the checked calls for C over that archive, runs the example under sanitizers, where the compiler has them, and the tests of
@@ -93,6 +108,7 @@ if [[ $verdict =~ ^([0-9]+)\ passed,\ ([0-9]+)\ failed(.*)$ ]]; then
         elif test_package; then
             printf '%5d s: the tests of rust/ passed\n' "$SECONDS"
             passed=$((passed + 1))
+            compare_with_upstream
         else
             printf '%5d s: the tests of rust/ FAILED\n' "$SECONDS"
             failed=$((failed + 1)) status=1

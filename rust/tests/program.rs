@@ -170,7 +170,7 @@ fn package_and_program_agree() {
 }
 
 /// What upstream's program prints of many runs.
-fn printed_by_upstream(runs: String) -> String {
+fn printed_by_upstream(runs: &str) -> String {
     let program = std::env::var("UPSTREAM").expect("UPSTREAM names the program");
     let mut child = Command::new(program)
         .arg("runs")
@@ -215,51 +215,97 @@ fn few_segments(random: &mut Random, width: i32) -> Vec<Segment> {
     segments
 }
 
-/// 100,000 runs, or as many as `RUNS` says, from the seed `SEED`. Left out are those in which upstream takes more than 256 passes, and
-/// those that leave at most four segments under a tree or a grid: upstream makes no pass there over two segments.
+/// The words of a run, each with what it stands for here.
+#[derive(Clone, Copy, Debug)]
+struct Words {
+    engine: (&'static str, Engine, i32),
+    strategy: (&'static str, Strategy),
+    precision: (&'static str, Precision),
+    fill: (&'static str, FillRule),
+    rule: (&'static str, OverlayRule),
+}
+
+impl Words {
+    fn at_random(random: &mut Random) -> Words {
+        Words {
+            engine: *pick(random, &ENGINES),
+            strategy: *pick(random, &STRATEGIES),
+            precision: *pick(random, &PRECISIONS),
+            fill: *pick(random, &FILLS),
+            rule: *pick(random, &RULES),
+        }
+    }
+
+    /// The lines of a run, as upstream's program reads it among others.
+    fn lines(&self, segments: &[Segment]) -> String {
+        let Words { engine, strategy, precision, fill, rule } = self;
+        let words = format!(
+            "engine={} strategy={} precision={} fill={} rule={}",
+            engine.0, strategy.0, precision.0, fill.0, rule.0
+        );
+        format!("{words}\n{}\n", lines_of(segments))
+    }
+
+    /// What is wanted of upstream, or `None` where the run is left out: because it takes 256 passes, or leaves at most four
+    /// segments under a tree or a grid.
+    fn wanted(&self, segments: &[Segment]) -> Option<String> {
+        let mut overlay = Overlay::new().unwrap().with_engine(self.engine.1);
+        let solver = Solver { strategy: self.strategy.1, precision: self.precision.1 };
+        let passes = overlay.split(segments, solver).unwrap().passes;
+        let is_listed = matches!(self.strategy.1, Strategy::List | Strategy::Auto);
+        let left = overlay.segments().len();
+        if passes >= 256 || left >= 4000 || !(is_listed || left > 4) {
+            return None;
+        }
+        let split = split_text(&mut overlay, segments, solver);
+        Some(split + &graph_text(&mut overlay, segments, self.rule.1, self.fill.1, solver) + "end\n")
+    }
+
+    /// Whether upstream's program prints something else of the run.
+    fn differs(&self, segments: &[Segment]) -> bool {
+        self.wanted(segments).is_some_and(|wanted| printed_by_upstream(&self.lines(segments)) != wanted)
+    }
+
+    /// Fewer segments of a run that differs, none of which can be left out.
+    fn shrunk(&self, mut segments: Vec<Segment>) -> Vec<Segment> {
+        let without = |segments: &[Segment], index| {
+            let mut fewer = segments.to_vec();
+            fewer.remove(index);
+            fewer
+        };
+        while let Some(fewer) =
+            (0..segments.len()).map(|index| without(&segments, index)).find(|fewer| self.differs(fewer))
+        {
+            segments = fewer;
+        }
+        segments
+    }
+}
+
+/// 100,000 runs, or as many as `RUNS` says, from the seed `SEED`. A run that differs is shrunk, and printed as input lines.
 #[test]
 #[ignore = "needs the program of bench/upstream, which UPSTREAM names"]
 fn package_and_upstream_agree() {
     let number = |name: &str, default: u64| std::env::var(name).map_or(default, |text| text.parse().expect("a number"));
     let (runs, mut random) = (number("RUNS", 100_000), Random(number("SEED", 1)));
-    let mut overlay = Overlay::new().unwrap();
     let (mut compared, chunk) = (0, 500);
     for _ in 0..runs.div_ceil(chunk) {
-        let (mut given, mut wanted) = (String::new(), Vec::new());
+        let mut given = Vec::new();
         for _ in 0..chunk {
-            let (engine, strategy) = (*pick(&mut random, &ENGINES), *pick(&mut random, &STRATEGIES));
-            let (precision, fill) = (*pick(&mut random, &PRECISIONS), *pick(&mut random, &FILLS));
-            let rule = *pick(&mut random, &RULES);
-            let segments = few_segments(&mut random, engine.2);
-            let lines = format!(
-                "engine={} strategy={} precision={} fill={} rule={}\n{}\n",
-                engine.0,
-                strategy.0,
-                precision.0,
-                fill.0,
-                rule.0,
-                lines_of(&segments)
-            );
-            overlay = overlay.with_engine(engine.1);
-            let solver = Solver { strategy: strategy.1, precision: precision.1 };
-            let passes = overlay.split(&segments, solver).unwrap().passes;
-            let is_listed = matches!(strategy.1, Strategy::List | Strategy::Auto);
-            let left = overlay.segments().len();
-            if passes < 256 && left < 4000 && (is_listed || left > 4) {
-                let split = split_text(&mut overlay, &segments, solver);
-                wanted.push((lines.clone(), split + &graph_text(&mut overlay, &segments, rule.1, fill.1, solver)));
-                given.push_str(&lines);
-            }
+            let words = Words::at_random(&mut random);
+            let segments = few_segments(&mut random, words.engine.2);
+            given.extend(words.wanted(&segments).map(|wanted| (words, segments, wanted)));
         }
-        compared += wanted.len();
-        let printed = printed_by_upstream(given);
+        compared += given.len();
+        let lines: String = given.iter().map(|(words, segments, _)| words.lines(segments)).collect();
+        let printed = printed_by_upstream(&lines);
         let mut texts = printed.split_inclusive("end\n");
-        for (lines, wanted) in wanted {
-            let text = texts.next().expect("a text for each run");
-            assert!(
-                text == "no end\n" || text == wanted.clone() + "end\n",
-                "{lines}\nhere:\n{wanted}\nupstream:\n{text}"
-            );
+        for (words, segments, wanted) in given {
+            if texts.next() != Some(wanted.as_str()) {
+                let fewer = words.shrunk(segments);
+                let (lines, wanted) = (words.lines(&fewer), words.wanted(&fewer));
+                panic!("{lines}\nhere:\n{}\nupstream:\n{}", wanted.unwrap_or_default(), printed_by_upstream(&lines));
+            }
         }
     }
     println!("{compared} of {runs} runs compared");

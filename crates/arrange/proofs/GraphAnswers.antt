@@ -1,5 +1,5 @@
 -- What a graph of the program is, from what the calls that split and build answer.
-use Rattle.std.proofs.Common.{◌≡◌, ◌⊎◌, inl, inr, ℕ, IsTrue, List, length, Option, Some, refl, sym, ap, ◌∙◌, subst}
+use Rattle.std.proofs.Common.{◌≡◌, ◌⊎◌, inl, inr, ℕ, IsTrue, List, Option, Some, refl, sym, ap, ◌∙◌, subst}
 use Rattle.std.specs.Prelude.{IsFalse, IfOk, IfErr, OnOk, Ok, Err}
 use Rattle.std.specs.declared.result.Result.{Result}
 use Rattle.overlay_base.specs.Segments.{WholeSegment}
@@ -8,7 +8,7 @@ use Rattle.overlay_base.specs.declared.overlay_core.overlay_rule.OverlayRule.{Ov
 use Rattle.overlay_base.specs.declared.segm.fault.Fault.{Fault}
 use Rattle.overlay_base.specs.declared.segm.fault.Fault.TheVariants.{CountOutOfRange, Memory}
 use Rattle.overlay_split.specs.Run.{Settings as RunSettings, IsPassCount, LeavesRange, after_passes}
-use Rattle.overlay_base.specs.Choices.{list_fills}
+use Rattle.overlay_base.specs.Choices.{in_one_row}
 use Rattle.overlay_base.specs.declared.overlay_core.solver.Strategy.{Strategy}
 use Rattle.overlay_sweep.specs.ChainWindings.{tops_leave_range}
 use Rattle.overlay_sweep.specs.Costs.{IsSweepCost}
@@ -55,24 +55,23 @@ module _ (bits : ℕ) (settings : Settings) (s : RunSettings) (set : s ≡ split
       by (inr tops) = leave (inr (passes, tops.0, subst (λ xs. IsTrue (tops_leave_range xs)) tops.1 tops.2))
 
   -- what the sweep of the graph asks
-  pub cost : (count : ℕ) (strategy : Strategy) (asked : ℕ) → count ≡ length segments → strategy ≡ settings.strategy → IsPassCount s given passes → segments ≡ after_passes s given passes → IsSweepCost (list_fills strategy count) segments asked → IsGraphCost bits settings given asked
-  cost count strategy asked c t run is h =
-      let P : RunSettings → Type 0 = λ r. (passes : ℕ) × IsPassCount r given passes × IsSweepCost (list_fills settings.strategy (length (after_passes r given passes))) (after_passes r given passes) asked in
-      let chosen = subst (λ v. IsSweepCost (list_fills v count) segments asked) t h in
-      let counted = subst (λ n. IsSweepCost (list_fills settings.strategy n) segments asked) c chosen in
-      subst P set (passes, run, subst (λ xs. IsSweepCost (list_fills settings.strategy (length xs)) xs asked) is counted)
+  pub cost : (strategy : Strategy) (asked : ℕ) → strategy ≡ settings.strategy → IsPassCount s given passes → segments ≡ after_passes s given passes → IsSweepCost (in_one_row strategy) segments asked → IsGraphCost bits settings given asked
+  cost strategy asked t run is h =
+      let P : RunSettings → Type 0 = λ r. (passes : ℕ) × IsPassCount r given passes × IsSweepCost (in_one_row settings.strategy) (after_passes r given passes) asked in
+      let chosen = subst (λ v. IsSweepCost (in_one_row v) segments asked) t h in
+      subst P set (passes, run, subst (λ xs. IsSweepCost (in_one_row settings.strategy) xs asked) is chosen)
 
   -- ---- the same of what the calls answer
 
-  pub cost_by_rule : {G : Type 0} (r : Result G Fault) (graph_of : G → Graph) (asked_of : G → ℕ) (rule : OverlayRule) (count : ℕ) (strategy : Strategy) → count ≡ length segments → strategy ≡ settings.strategy → IfOk r (λ g. IsOverlay s settings.fill_rule (holds rule) given segments passes (graph_of g))
-      → IfOk r (λ g. IsSweepCost (list_fills strategy count) segments (asked_of g)) → IfOk r (λ g. IsGraphCost bits settings given (asked_of g))
-  cost_by_rule (Ok g) graph_of asked_of rule count strategy c t overlay h = cost count strategy (asked_of g) c t overlay.split.count overlay.split.arrangement h
-  cost_by_rule (Err fault) graph_of asked_of rule count strategy c t overlay h = tt
+  pub cost_by_rule : {G : Type 0} (r : Result G Fault) (graph_of : G → Graph) (asked_of : G → ℕ) (rule : OverlayRule) (strategy : Strategy) → strategy ≡ settings.strategy → IfOk r (λ g. IsOverlay s settings.fill_rule (holds rule) given segments passes (graph_of g))
+      → IfOk r (λ g. IsSweepCost (in_one_row strategy) segments (asked_of g)) → IfOk r (λ g. IsGraphCost bits settings given (asked_of g))
+  cost_by_rule (Ok g) graph_of asked_of rule strategy t overlay h = cost strategy (asked_of g) t overlay.split.count overlay.split.arrangement h
+  cost_by_rule (Err fault) graph_of asked_of rule strategy t overlay h = tt
 
-  pub cost_of_all : {G : Type 0} (r : Result G Fault) (asked_of : G → ℕ) (count : ℕ) (strategy : Strategy) → count ≡ length segments → strategy ≡ settings.strategy → OnOk r (IsPassCount s given passes) → OnOk r (segments ≡ after_passes s given passes)
-      → IfOk r (λ g. IsSweepCost (list_fills strategy count) segments (asked_of g)) → IfOk r (λ g. IsGraphCost bits settings given (asked_of g))
-  cost_of_all (Ok g) asked_of count strategy c t run is h = cost count strategy (asked_of g) c t run is h
-  cost_of_all (Err fault) asked_of count strategy c t run is h = tt
+  pub cost_of_all : {G : Type 0} (r : Result G Fault) (asked_of : G → ℕ) (strategy : Strategy) → strategy ≡ settings.strategy → OnOk r (IsPassCount s given passes) → OnOk r (segments ≡ after_passes s given passes)
+      → IfOk r (λ g. IsSweepCost (in_one_row strategy) segments (asked_of g)) → IfOk r (λ g. IsGraphCost bits settings given (asked_of g))
+  cost_of_all (Ok g) asked_of strategy t run is h = cost strategy (asked_of g) t run is h
+  cost_of_all (Err fault) asked_of strategy t run is h = tt
 
   pub answered_by_rule : {G : Type 0} (r : Result G Fault) (graph_of : G → Graph) (rule : OverlayRule) → settings.rule ≡ Some rule → IfOk r (λ g. IsOverlay s settings.fill_rule (holds rule) given segments passes (graph_of g)) → OnOk r (IsFalse (tops_leave_range segments))
       → IfOk r (λ g. IsGraphOf bits settings given (graph_of g))

@@ -1,12 +1,12 @@
 -- What the program makes of the text of its input.
-use Rattle.std.specs.Prelude.{Bool, ◌≡◌, ◌⊎◌, ◌++◌, ℕ, ℤ, if◌then◌else◌, List, length, Ok, Err, unsigned_abs, IsTrue, IsFalse, Option, Vec}
+use Rattle.std.specs.Prelude.{Bool, ◌≡◌, ◌⊎◌, ◌++◌, ℕ, ℤ, if◌then◌else◌, List, Ok, Err, unsigned_abs, IsTrue, IsFalse, Option, Vec}
 use Rattle.std.specs.Option.{ok_or}
 use Rattle.std.specs.declared.result.Result.{Result}
 use Rattle.overlay_base.specs.Segments.{WholeSegment}
 use Rattle.overlay_base.specs.Join.{join, has_equal_pairs, join_leaves_range}
 use Rattle.overlay_base.specs.Radius.{exponent_cap}
 use Rattle.overlay_split.specs.Run.{Settings as RunSettings, IsPassCount, IsRun, LeavesRange, after_passes}
-use Rattle.overlay_base.specs.Choices.{list_fills}
+use Rattle.overlay_base.specs.Choices.{in_one_row}
 use Rattle.overlay_sweep.specs.ChainWindings.{tops_leave_range}
 use Rattle.overlay_sweep.specs.Costs.{IsSweepCost}
 use Rattle.overlay_build.specs.Graph.{Graph, graph_by}
@@ -55,7 +55,7 @@ CountsLeaveRange bits settings segments =
 abbrev pub IsGraphCost : ℕ → Settings → List WholeSegment → ℕ → Type 0
 IsGraphCost bits settings segments asked =
     (passes : ℕ) × IsPassCount (split_settings bits settings) segments passes
-    × IsSweepCost (list_fills settings.strategy (length (after_passes (split_settings bits settings) segments passes))) (after_passes (split_settings bits settings) segments passes) asked
+    × IsSweepCost (in_one_row settings.strategy) (after_passes (split_settings bits settings) segments passes) asked
 
 -- the text of the join of segments
 abbrev pub join_text : List WholeSegment → List ℕ

@@ -1,5 +1,5 @@
 // `arrange graph`: the graph of the arrangement, by an overlay rule or of all segments.
-ghost use Rattle.std.specs.Prelude.{◌≡◌, ◌⊎◌, true, Ok, Err, IsTrue, IsFalse, OnOk, IfOk, IfErr, length, string_bytes};
+ghost use Rattle.std.specs.Prelude.{◌≡◌, ◌⊎◌, true, Ok, Err, IsTrue, IsFalse, OnOk, IfOk, IfErr, string_bytes};
 ghost use Rattle.overlay_base.specs.declared.segm.fault.Fault.TheVariants.{CountOutOfRange};
 ghost use Rattle.overlay_base.specs.SegmentOf.{segments_of};
 ghost use Rattle.overlay_base.specs.ArrangedOf.{IsSplittable};
@@ -9,7 +9,7 @@ ghost use Rattle.overlay_sweep.specs.ChainWindings.{tops_leave_range};
 ghost use Rattle.overlay_build.specs.Graph.{graph_by};
 ghost use Rattle.overlay_build.specs.GraphOf.{graph_with};
 ghost use Rattle.overlay_build.specs.OverlayGraphOf.{links_of, graph_asked, whole_graph};
-ghost use Rattle.overlay_base.specs.Choices.{list_fills};
+ghost use Rattle.overlay_base.specs.Choices.{in_one_row};
 ghost use Rattle.overlay_sweep.specs.Costs.{IsSweepCost};
 ghost use Rattle.arrange.specs.Run.{IsGraphCost, CountsLeaveRange, IsAnswerTo, IsGraphFor};
 ghost use Rattle.overlay_text.specs.declared.settings.Command.{Command};
@@ -110,7 +110,7 @@ fn build_all<'a, I: OverlayInt>(
         × (segments_of segments.new.items ≡ after_passes (settings_of I.BITS solver.now splitter.old)
         (segments_of segments.old.items) (passes_of splitter.new))
         × IsTrue (tops_leave_range (segments_of segments.new.items)))) }
-    ensures asked { IfOk result (λ graph. IsSweepCost (list_fills solver.now.strategy (length segments.new.items))
+    ensures asked { IfOk result (λ graph. IsSweepCost (in_one_row solver.now.strategy)
         (segments_of segments.new.items) (graph_asked graph)) }
 {
     splitter.split_segments(segments, solver)?;

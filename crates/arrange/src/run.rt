@@ -16,7 +16,7 @@ use overlay_text::settings::{Command, Engine, Settings};
 use overlay_text::shell::{Program, run_over, run_started};
 use overlay_text::stop::Stop;
 use overlay_text::words;
-use std::alloc::Global;
+use std::alloc::{AllocError, Global};
 use std::io::{Read, Write};
 use std::rt::Env;
 
@@ -42,6 +42,15 @@ impl Program for ArrangeProgram {
             Engine::I16 => answer_with::<i16>(alloc, command, settings, bytes),
             Engine::I32 => answer_with::<i32>(alloc, command, settings, bytes),
         }
+    }
+
+    fn explain(
+        alloc: Global,
+        _words: &[String],
+        _bytes: &[u8],
+        _stop: Stop,
+    ) -> Result<String, AllocError> {
+        Ok(String::new(alloc))
     }
 }
 

@@ -2,8 +2,8 @@
 
 pub use overlay_build::build::{
     boundary, clip_filter, directed_walks, fill_handler, fill_strategy, filter, graph, graph_node,
-    laws, link_filter, live_segments, scan_list, scan_mixed, scan_row, scan_rows, scan_tree,
-    string_graph, util, walks,
+    laws, link_filter, live_segments, scan_list, scan_row, scan_rows, scan_tree, string_graph,
+    util, walks,
 };
 
 /// Which fills an overlay rule keeps.

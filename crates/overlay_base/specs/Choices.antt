@@ -17,9 +17,16 @@ grid_splits Tree count = nat_lt 16000 count
 grid_splits Frag count = true
 grid_splits Auto count = nat_lt 16000 count
 
--- whether the sweep keeps its live segments in a list
+-- whether `is_list_fill` is true
 abbrev pub list_fills : Strategy → ℕ → Bool
 list_fills List count = true
 list_fills Tree count = false
 list_fills Frag count = false
 list_fills Auto count = nat_lt count 8000
+
+-- whether a sweep keeps its live segments in one row
+abbrev pub in_one_row : Strategy → Bool
+in_one_row List = true
+in_one_row Tree = false
+in_one_row Frag = false
+in_one_row Auto = false

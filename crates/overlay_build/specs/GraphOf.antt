@@ -6,6 +6,7 @@ use Rattle.overlay_geometry.specs.PointOf.{point_of}
 use Rattle.overlay_base.specs.declared.overlay_core.link.OverlayLink.{OverlayLink}
 use Rattle.overlay_build.specs.Graph.{Filled, Link, Graph, graph_of}
 use Rattle.overlay_build.specs.Graph.{without_nodes}
+use Rattle.overlay_build.specs.Laid.{AreLaid}
 
 -- a link in whole numbers
 abbrev pub link_of : {I D : Type 0} → (I → ℤ) → OverlayLink I D → Link
@@ -24,6 +25,11 @@ pub record HoldGraph {N I D : Type 0} (indexes : N → List ℕ) (is_canonical :
   pub same_links : map (link_of whole) links ≡ graph.links
   pub same_nodes : map indexes nodes ≡ map (λ n. n.links) graph.nodes
   pub form : list_all is_canonical nodes ≡ true
+
+-- These links and lists are those of a graph: the lists have how many links meet at each node, and the indexes of these links, node by node.
+pub record HoldLists {I D : Type 0} (whole : I → ℤ) (links : List (OverlayLink I D)) (degrees indexes : List ℕ) (graph : Graph) : Type 0 where
+  pub same_links : map (link_of whole) links ≡ graph.links
+  pub same_nodes : AreLaid (map (λ n. n.links) graph.nodes) degrees indexes
 
 -- the ends of links
 abbrev pub pairs_of_links : {I D : Type 0} → (I → ℤ) → List (OverlayLink I D) → List Pair

@@ -7,6 +7,7 @@ pub mod ShapedBoundary
 pub mod Sides
 pub mod Beside
 pub mod Lines
+pub mod Laid
 pub mod GraphOf
 pub mod OverlayGraphOf
 pub mod NodeIndexes

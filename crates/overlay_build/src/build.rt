@@ -14,11 +14,12 @@ mod kept_links;
 pub mod laws;
 mod link_ends;
 pub mod link_filter;
+mod listed_nodes;
 pub mod string_graph;
 pub mod util;
 pub mod walks;
 
 pub use overlay_sweep::build::{
-    boolean, fill_handler, fill_strategy, live_segments, scan_list, scan_mixed, scan_row,
-    scan_rows, scan_tree, string, sweep,
+    boolean, fill_handler, fill_strategy, live_segments, scan_list, scan_row, scan_rows, scan_tree,
+    string, sweep,
 };

@@ -18,7 +18,6 @@ use overlay_geometry::geom::v_segment::VSegment;
 use overlay_geometry::num::OverlayInt;
 use overlay_sweep::build::live_segments::LiveSegments;
 use overlay_sweep::build::scan_list::ScanList;
-use overlay_sweep::build::scan_mixed::ScanMixed;
 use overlay_sweep::build::scan_row::ScanRow;
 use overlay_sweep::build::scan_rows::ScanRows;
 use overlay_sweep::build::scan_tree::ScanTree;
@@ -173,24 +172,18 @@ fn a_tree_of_rows_asks_few_orders(rt: HostRuntime) {
 /// Among 3,000 entries that all last a search by halves asks 11 or 12 orders.
 fn other_rows<I: OverlayInt>(rt: &impl Abort, alloc: Global) {
     let mut row: ScanRow<ShapeCountBoolean, I> = ScanRow::new(alloc);
-    let mut mixed: ScanMixed<ShapeCountBoolean, I> = ScanMixed::new(alloc);
     let mut rows: ScanRows<ShapeCountBoolean, I> = ScanRows::new(alloc);
-    assert_eq!(rt;
-        (row.compared(), mixed.compared(), rows.compared()),
-        (0, 0, 0)
-    );
+    assert_eq!(rt; (row.compared(), rows.compared()), (0, 0));
     for is_forward in [true, false] {
         insert_rows(rt, &mut row, is_forward, &[]);
         look_at_rows(rt, &mut row, 11, 12);
-        insert_rows(rt, &mut mixed, is_forward, &[]);
-        look_at_rows(rt, &mut mixed, 1, 23);
         insert_rows(rt, &mut rows, is_forward, &[]);
         look_at_rows(rt, &mut rows, 1, 23);
     }
 }
 
 #[test]
-fn a_row_and_what_becomes_a_tree_answer_the_same(rt: HostRuntime) {
+fn a_row_and_rows_of_a_few_return_the_same(rt: HostRuntime) {
     other_rows::<i16>(&rt, rt.alloc());
     other_rows::<i32>(&rt, rt.alloc());
 }

@@ -22,7 +22,7 @@ use Rattle.overlay_contours.specs.declared.rounding.Rounding.TheVariants.{HotPix
 use Rattle.overlay_c.specs.Contours.{polygon_splitting}
 use Rattle.overlay_c.specs.Records.{settings_by, rounding_of}
 use Rattle.overlay_c.specs.declared.records.SettingsRecord.{SettingsRecord}
-use Rattle.overlay_c.specs.Kept.{AreLaid}
+use Rattle.overlay_build.specs.Laid.{AreLaid}
 
 -- settings of an engine of so many bits, by their parts
 abbrev set_to : ℕ → ℕ → ℕ → ℕ → Settings

@@ -16,7 +16,7 @@ use Rattle.overlay_contours.specs.Refusals.{of_shape, IsReason}
 use Rattle.overlay_contours.specs.Shapes.{all_contours, IsShapeOverlay}
 use Rattle.overlay_contours.specs.Splittings.{Splitting, by_passes, by_snapping, most_halves}
 use Rattle.overlay_c.specs.Records.{fill_rule_of, settings_by}
-use Rattle.overlay_c.specs.Kept.{AreLaid}
+use Rattle.overlay_build.specs.Laid.{AreLaid}
 use Rattle.overlay_c.specs.declared.contours.PointRecord.{PointRecord}
 use Rattle.overlay_c.specs.declared.records.SettingsRecord.{SettingsRecord}
 use Rattle.overlay_c.specs.declared.engine.Engine.{Engine}

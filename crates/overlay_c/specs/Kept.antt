@@ -1,5 +1,5 @@
 -- What an engine keeps of its last answer.
-use Rattle.std.specs.Prelude.{◌≡◌, ◌⊎◌, ℕ, ℤ, ◌<◌, ◌^◌, ◌&&◌, Bool, true, List, [], IsTrue, All, map, flat_map, length}
+use Rattle.std.specs.Prelude.{◌≡◌, ◌⊎◌, ℕ, ℤ, ◌<◌, ◌^◌, ◌&&◌, Bool, true, List, [], IsTrue, All, map, length}
 use Rattle.std.specs.List.{list_all}
 use Rattle.overlay_geometry.specs.Points.{Pair}
 use Rattle.overlay_base.specs.EdgeData.{DataSegment, without_data}
@@ -18,6 +18,7 @@ use Rattle.overlay_split.specs.Run.{Settings, IsRun, LeavesRange}
 use Rattle.overlay_split.specs.SettingsOf.{passes_of, snap_limit_of}
 use Rattle.overlay_sweep.specs.ChainWindings.{tops_leave_range}
 use Rattle.overlay_build.specs.Graph.{Link, Graph, graph_by, data_by, has_even_nodes}
+use Rattle.overlay_build.specs.Laid.{AreLaid}
 use Rattle.overlay_build.specs.Walks.{AreClosedWalks}
 use Rattle.i_overlay.specs.FarRegions.{EnclosesOverlay}
 use Rattle.i_overlay.specs.Headline.{IsSplit, IsOverlay, IsClip, IsRefused}
@@ -39,10 +40,6 @@ are_usable least greatest records = list_all (asks least greatest) records && is
 
 abbrev pub are_lines_usable : ℤ → ℤ → List LineRecord → Bool
 are_lines_usable least greatest records = list_all (line_asks least greatest) records && is_splittable least greatest (map line_asked_by records)
-
--- lists, as their lengths and all that stands in them
-abbrev pub AreLaid : {A : Type 0} → List (List A) → List ℕ → List A → Type 0
-AreLaid lists lengths all = (lengths ≡ map length lists) × (all ≡ flat_map (λ list. list) lists)
 
 -- its records are those of a graph
 pub record KeepsGraph {I : Type 0} {w : _} {o : _} {e : _} {p : _} (core : Core I w o e p) (graph : Graph) : Type 0 where

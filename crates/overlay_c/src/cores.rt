@@ -208,16 +208,11 @@ impl<I: Width> Core<I> {
         self.split(given, settings)?;
         let solver = solver(settings);
         let fill_rule = fill_rule(settings.fill_rule);
-        let graph = self
-            .builder
-            .build_boolean_all(fill_rule, &solver, &self.segments)?;
-        keep_links(graph.links(), &mut self.links)?;
-        keep_nodes(
-            graph.nodes(),
-            self.links.len(),
-            &mut self.degrees,
-            &mut self.indexes,
-        )?;
+        let segments = self.segments.as_slice();
+        let (degrees, indexes) = (&mut self.degrees, &mut self.indexes);
+        let builder = &mut self.builder;
+        builder.build_boolean_lists(fill_rule, &solver, segments, degrees, indexes)?;
+        keep_links(builder.links(), &mut self.links)?;
         Ok(())
     }
 

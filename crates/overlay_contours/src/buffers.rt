@@ -26,7 +26,7 @@ use std::alloc::Global;
 /// What overlays keep from one to the next.
 ///
 /// If `arranged` has a solver, `sides` is the arrangement of the contours of the last overlay for it, and `passes` and
-/// `reach` are of that split. So further overlays of the same contours do not split them again.
+/// `reach` are of that split. So a call for several rules splits its contours once.
 #[derive(Drop)]
 pub(crate) struct Buffers<I: OverlayInt> {
     pub(crate) alloc: Global,
@@ -231,7 +231,7 @@ impl<I: OverlayInt> Buffers<I> {
         let graph = self
             .builder
             .build_boolean_overlay(fill_rule, overlay_rule, solver, &self.sides)?;
-        let shapes = shapes_of_graph(self.alloc, &graph, overlay_rule, solver)?;
+        let shapes = shapes_of_graph(self.alloc, &graph, overlay_rule)?;
         Ok(shapes)
     }
 }

@@ -19,7 +19,6 @@ ghost use Rattle.overlay_contours.specs.ContoursIn.{RunAlongLinks, WindAsLinks, 
 use crate::contour::{IntContour, IntShape};
 use overlay_base::overlay_core::link::OverlayLink;
 use overlay_base::overlay_core::overlay_rule::OverlayRule;
-use overlay_base::overlay_core::solver::Solver;
 use overlay_base::segm::fault::Fault;
 use overlay_build::build::directed_walks::{directed_walks, holds_of_top};
 use overlay_build::build::graph::OverlayGraph;
@@ -70,7 +69,6 @@ pub fn shapes_of_graph<I: OverlayInt, D: Copy>(
     alloc: Global,
     graph: &OverlayGraph<'_, I, D>,
     rule: OverlayRule,
-    solver: &Solver,
 ) -> Result<Vec<IntShape<I>>, Fault>
     requires flow { IsFlow (arcs_by rule graph.now) }
     requires arranged { IsTrue (is_arranged (I.whole I.MIN_COORD) (I.whole I.MAX_COORD)
@@ -79,7 +77,7 @@ pub fn shapes_of_graph<I: OverlayInt, D: Copy>(
     ensures shapes { IfOk result (λ shapes. FollowShapeWalks rule graph.now shapes.items) }
     ensures fault { IfErr result (λ fault. fault ≡ Memory) }
 {
-    let groups = shape_walks(alloc, graph, rule, solver)?;
+    let groups = shape_walks(alloc, graph, rule)?;
     let mut shapes = Vec::new(alloc);
     for walks in &groups {
         let shape = contours_of_walks(alloc, graph, rule, walks)?;

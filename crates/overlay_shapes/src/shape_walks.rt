@@ -20,14 +20,12 @@ use crate::joins::{join_supports, joins_along};
 use crate::sectors::links_along_sectors;
 use crate::simple_walks::simple_walks;
 use overlay_base::overlay_core::overlay_rule::OverlayRule;
-use overlay_base::overlay_core::solver::Solver;
 use overlay_base::segm::fault::Fault;
 use overlay_base::segm::shape_type::ShapeType;
 use overlay_build::build::boundary::directed_segments;
 use overlay_build::build::graph::OverlayGraph;
 use overlay_geometry::num::OverlayInt;
-use overlay_sweep::build::scan_list::ScanList;
-use overlay_sweep::build::scan_mixed::ScanMixed;
+use overlay_sweep::build::scan_rows::ScanRows;
 use overlay_sweep::build::supports::supports;
 use std::alloc::Global;
 
@@ -41,15 +39,13 @@ use std::alloc::Global;
 /// own.
 ///
 /// As many links have to start as end at each node, the links have to be a planar arrangement, and each has to have on
-/// its left what the rule holds of, as they do in the graph of the rule where counts balance. The solver does not change
-/// the result: it chooses whether the live links of the sweep are in a list or in a balanced tree.
+/// its left what the rule holds of, as they do in the graph of the rule where counts balance.
 ///
 /// Returns `Fault::Memory` where a growth is refused.
 pub fn shape_walks<I: OverlayInt, D: Copy>(
     alloc: Global,
     graph: &OverlayGraph<'_, I, D>,
     rule: OverlayRule,
-    solver: &Solver,
 ) -> Result<Vec<Vec<Vec<usize>>>, Fault>
     requires flow { IsFlow (arcs_by rule graph.now) }
     requires arranged { IsTrue (is_arranged (I.whole I.MIN_COORD) (I.whole I.MAX_COORD)
@@ -61,7 +57,7 @@ pub fn shape_walks<I: OverlayInt, D: Copy>(
 {
     let next = links_along_sectors(alloc, graph, rule)?;
     let walks = simple_walks(alloc, graph, rule, &next)?;
-    let below = supports_of_links(alloc, graph, rule, solver)?;
+    let below = supports_of_links(alloc, graph, rule)?;
     let links = graph.links();
     let mut joins = joins_along(alloc, &next)?;
     join_supports(&mut joins, links, rule, &below)?;
@@ -76,7 +72,6 @@ fn supports_of_links<I: OverlayInt, D: Copy>(
     alloc: Global,
     graph: &OverlayGraph<'_, I, D>,
     rule: OverlayRule,
-    solver: &Solver,
 ) -> Result<Vec<usize>, Fault>
     requires { IsTrue (is_arranged (I.whole I.MIN_COORD) (I.whole I.MAX_COORD)
         (in_shape Subject (links_by rule graph.now))) }
@@ -85,11 +80,6 @@ fn supports_of_links<I: OverlayInt, D: Copy>(
     ensures fault { IfErr result (λ fault. fault ≡ Memory) }
 {
     let segments = directed_segments(alloc, graph, rule, ShapeType::Subject)?;
-    if solver.is_list_fill(&segments) {
-        let mut list = ScanList::new(alloc);
-        supports(alloc, &mut list, &segments)
-    } else {
-        let mut tree = ScanMixed::new(alloc);
-        supports(alloc, &mut tree, &segments)
-    }
+    let mut rows = ScanRows::new(alloc);
+    supports(alloc, &mut rows, &segments)
 }

@@ -1,11 +1,10 @@
 -- What a list, a tree and a runner keep, as the clauses of their calls name it.
-use Rattle.std.specs.Prelude.{ℕ, ℤ, MatchBool, cond, List, map, length}
+use Rattle.std.specs.Prelude.{ℕ, ℤ, List, map, length}
 use Rattle.overlay_geometry.specs.PointOf.{point_of}
 use Rattle.overlay_base.specs.Segments.{WholeSegment}
 use Rattle.overlay_sweep.specs.EntryOf.{entries_of}
 use Rattle.overlay_sweep.specs.ScanTrees.{IsScanList, IsCursorRow, AreCursorRows, IsScanTree, joined}
 use Rattle.overlay_sweep.specs.declared.build.entry.Entry.{Entry}
-use Rattle.overlay_sweep.specs.declared.build.scan_mixed.ScanMixed.{ScanMixed}
 use Rattle.overlay_sweep.specs.declared.build.scan_list.ScanList.{ScanList}
 use Rattle.overlay_sweep.specs.declared.build.scan_row.ScanRow.{ScanRow}
 use Rattle.overlay_sweep.specs.declared.build.row_list.RowList.{RowList}
@@ -83,16 +82,3 @@ tree_asked tree = tree.compared
 
 abbrev pub run_asked : {C I : Type 0} {m : _} {w : _} {o : _} {e : _} {p : _} → SweepRunner C I m w o e p → ℕ
 run_asked runner = runner.compared
-
--- the same of a collection that begins as a row and becomes a tree: those of the one that holds the entries
-abbrev pub sums_in : {C I : Type 0} {m : _} {w : _} {o : _} {e : _} {p : _} → ScanMixed C I m w o e p → List WholeSegment
-sums_in mixed = cond mixed.is_tree (tree_sums mixed.tree) (row_sums mixed.row)
-
-abbrev pub held_in : {C I : Type 0} {m : _} {w : _} {o : _} {e : _} {p : _} → ScanMixed C I m w o e p → ℕ
-held_in mixed = cond mixed.is_tree (tree_held mixed.tree) (row_held mixed.row)
-
-abbrev pub asked_in : {C I : Type 0} {m : _} {w : _} {o : _} {e : _} {p : _} → ScanMixed C I m w o e p → ℕ
-asked_in mixed = cond mixed.is_tree (tree_asked mixed.tree) (row_asked mixed.row)
-
-abbrev pub IsMixedAt : {C I : Type 0} {m : _} {w : _} {o : _} {e : _} {p : _} → ℤ → ScanMixed C I m w o e p → Type 0
-IsMixedAt x mixed = MatchBool mixed.is_tree (IsSoundAt x mixed.tree) (IsInRowAt x mixed.row)

@@ -1,7 +1,7 @@
 -- What a sweep over a list of code gives its handler, returns and asks.
 use Rattle.std.specs.Prelude.{◌≡◌, ◌≢◌, ℕ, ◌*◌, ◌<◌, ◌≤◌, Bool, List, Option, length, slice_index_or}
 use Rattle.overlay_geometry.specs.Points.{Point, Pair}
-use Rattle.overlay_base.specs.Choices.{list_fills}
+use Rattle.overlay_base.specs.Choices.{in_one_row}
 use Rattle.overlay_base.specs.SegmentOf.{segments_of, data_segments_of, pairs_in}
 use Rattle.overlay_base.specs.declared.overlay_core.fill_rule.FillRule.{FillRule}
 use Rattle.overlay_base.specs.declared.overlay_core.solver.Solver.{Solver}
@@ -21,13 +21,13 @@ sweep_leaves_range handle handler rule list = visits_leave_range (segments_of li
 
 -- ---- costs
 
--- So many orders are no more than a sweep over the list asks as a solver has it done: over a list, or over a tree.
+-- So many orders are no more than a sweep over the list asks as a solver has it done: over one row, or over rows of a few.
 abbrev pub IsSweepBound : {C I D : Type 0} {m : _} {w : _} {o : _} {e : _} {p : _} → Solver → List (Segment C I D m w o e p) → ℕ → Type 0
-IsSweepBound solver list asked = IsSweepWithin (list_fills solver.strategy (length list)) (length list) asked
+IsSweepBound solver list asked = IsSweepWithin (in_one_row solver.strategy) (length list) asked
 
 -- the same by the segments of the list
 abbrev pub IsCostOf : {C I D : Type 0} {m : _} {w : _} {o : _} {e : _} {p : _} → Solver → List (Segment C I D m w o e p) → ℕ → Type 0
-IsCostOf solver list asked = IsSweepCost (list_fills solver.strategy (length list)) (segments_of list) asked
+IsCostOf solver list asked = IsSweepCost (in_one_row solver.strategy) (segments_of list) asked
 
 -- Three searches of d orders for each of n segments are asked at most, of every d that is the most that one asks.
 abbrev pub AsksThreeLooks : (ℕ → ℕ → Type 0) → ℕ → ℕ → Type 0

@@ -1,6 +1,5 @@
 -- The shape of a balanced tree over nodes that stand in a list.
-use Rattle.std.specs.Prelude.{◌≡◌, ◌≢◌, ℕ, Bool, true, false, ◌+◌, ◌-◌, ◌*◌, ◌^◌, ◌<◌, ◌≤◌, ◌⊎◌, max, List, [], ◌∷◌, ◌++◌, length, slice_index_or, if◌then◌else◌, ◌==◌, ⊤}
-use Rattle.std.specs.List.{range_with_len}
+use Rattle.std.specs.Prelude.{◌≡◌, ◌≢◌, ℕ, Bool, true, false, ◌+◌, ◌-◌, ◌^◌, ◌<◌, ◌≤◌, ◌⊎◌, max, List, [], ◌∷◌, ◌++◌, length, slice_index_or, if◌then◌else◌, ◌==◌, ⊤}
 use Rattle.overlay_sweep.specs.declared.build.tree_shape.TreeNode.{TreeNode}
 
 abbrev pub Has : {X : Type 0} → List X → X → Type 0
@@ -195,11 +194,3 @@ JoinsTrees old new left at right top = (j : AreJoinable old left at right) → I
 -- The top of a tree that is sound is taken out.
 abbrev pub RemovesTop : List TreeNode → List TreeNode → ℕ → ℕ → Type 0
 RemovesTop old new at rest = (t : IsSound old at) → IsTopRemoved old new at rest t.order t.high
-
--- The nodes of a row of indexes are linked to a tree, in order.
-pub record IsLinked (old new : List TreeNode) (top from count : ℕ) : Type 0 where
-  pub high : ℕ
-  pub tree : IsTree new top (range_with_len from count) high
-  pub keeps : KeepsOthers (range_with_len from count) old new
-  pub wide : count < 2 ^ high
-  pub low : 2 ^ high ≤ 2 * count + 1

@@ -9,7 +9,6 @@ pub mod live_segments;
 mod place;
 mod row_list;
 pub mod scan_list;
-pub mod scan_mixed;
 pub mod scan_row;
 pub mod scan_rows;
 pub mod scan_tree;

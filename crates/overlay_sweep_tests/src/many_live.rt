@@ -12,7 +12,6 @@ use overlay_sweep::build::fill_handler::StoreFillsHandler;
 use overlay_sweep::build::fill_strategy::EvenOddStrategy;
 use overlay_sweep::build::live_segments::LiveSegments;
 use overlay_sweep::build::scan_list::ScanList;
-use overlay_sweep::build::scan_mixed::ScanMixed;
 use overlay_sweep::build::scan_row::ScanRow;
 use overlay_sweep::build::scan_rows::ScanRows;
 use overlay_sweep::build::scan_tree::ScanTree;
@@ -97,7 +96,7 @@ fn each_of_many_live_lines_is_filled_on_one_side(rt: HostRuntime) -> Result<(), 
     Ok(())
 }
 
-/// Under `AUTO` 8,000 segments are no list.
+/// Under `AUTO` rows of a few serve.
 #[test]
 fn many_lines_are_filled_under_auto(rt: HostRuntime) -> Result<(), Fail> {
     fill_runs(&rt, 8, 1000, &[Solver::AUTO])
@@ -128,8 +127,8 @@ fn compared_over<L: LiveSegments<ShapeCountBoolean, i32>>(
     Ok(compared)
 }
 
-/// Each kind of live segments serves a sweep by itself. What becomes a tree compares other orders than the row that
-/// stays one, so the tree does serve; among 3,000 it compares at most 23 in a call, of two for each line.
+/// Each kind of live segments serves a sweep by itself. A tree of 3,000 compares at most 23 orders in a call, of two
+/// for each line.
 #[test]
 fn a_tree_serves_where_many_are_live(rt: HostRuntime) -> Result<(), Fail> {
     let lines = lines_in_runs(&rt, 3, 3000)?;
@@ -137,11 +136,9 @@ fn a_tree_serves_where_many_are_live(rt: HostRuntime) -> Result<(), Fail> {
     let expected = fills_of_runs(&rt, 3, 3000)?;
     let alloc = rt.alloc();
     compared_over(&rt, &mut ScanList::new(alloc), &lines, &expected)?;
-    let row = compared_over(&rt, &mut ScanRow::new(alloc), &lines, &expected)?;
+    compared_over(&rt, &mut ScanRow::new(alloc), &lines, &expected)?;
     let tree = compared_over(&rt, &mut ScanTree::new(alloc), &lines, &expected)?;
-    let mixed = compared_over(&rt, &mut ScanMixed::new(alloc), &lines, &expected)?;
-    assert!(rt; row != mixed);
-    assert!(rt; tree <= 9000 * 2 * 23 && mixed <= 9000 * 2 * 23);
+    assert!(rt; tree <= 9000 * 2 * 23);
     Ok(())
 }
 

@@ -19,7 +19,6 @@ use overlay_sweep::build::fill_handler::StoreFillsHandler;
 use overlay_sweep::build::fill_strategy::NonZeroStrategy;
 use overlay_sweep::build::live_segments::LiveSegments;
 use overlay_sweep::build::scan_list::ScanList;
-use overlay_sweep::build::scan_mixed::ScanMixed;
 use overlay_sweep::build::scan_row::ScanRow;
 use overlay_sweep::build::scan_rows::ScanRows;
 use overlay_sweep::build::scan_tree::ScanTree;
@@ -197,11 +196,4 @@ fn a_sweep_over_a_row_after_each_refused_insert(rt: HostRuntime) -> Result<(), F
 #[test]
 fn a_sweep_over_rows_after_each_refused_insert(rt: HostRuntime) -> Result<(), Fail> {
     sweep_after_each_refusal(&rt, ScanRows::new(rt.alloc()))
-}
-
-#[test]
-fn a_sweep_over_a_row_that_may_become_a_tree_after_each_refused_insert(
-    rt: HostRuntime,
-) -> Result<(), Fail> {
-    sweep_after_each_refusal(&rt, ScanMixed::new(rt.alloc()))
 }

@@ -10,7 +10,7 @@ ghost use Rattle.overlay_text.specs.Status.{status_of};
 
 use crate::stop::Stop;
 use overlay_base::segm::fault::Fault;
-use std::alloc::Global;
+use std::alloc::{AllocError, Global};
 use std::io::{ErrorKind, Read, Write};
 use std::rt::Env;
 use std::{env, io};
@@ -38,6 +38,14 @@ pub trait Program {
         ensures stop { IfErr result (λ stop. (stop ≡ Stop.Refused Memory)
             ⊎ behavior.Answers choices bytes.now (Err stop)) }
         ensures no_usage { IfErr result (λ stop. stop ≢ Stop.Usage) };
+
+    /// A sentence on why a run over these words and this input stops, or an empty text where the short one is enough.
+    fn explain(
+        alloc: Global,
+        words: &[String],
+        bytes: &[u8],
+        stop: Stop,
+    ) -> Result<String, AllocError>;
 }
 
 /// Runs a program over the words that the process was started with, and returns the exit status, as `run_over` does
@@ -55,7 +63,7 @@ pub fn run_started<P: Program, H: Env + AllocGlobal, R: Read, W: Write, E: Write
 {
     match started_words(rt) {
         Ok(words) => run_over::<P, R, W, E>(rt.alloc(), words.as_slice(), input, output, faults),
-        Err(stop) => refuse::<P, E>(stop, faults),
+        Err(stop) => refuse::<P, E>(rt.alloc(), &[], &[], stop, faults),
     }
 }
 
@@ -78,27 +86,38 @@ pub fn run_over<P: Program, R: Read, W: Write, E: Write>(
     ensures unread { AskForNone P.behavior (map string_bytes words.now) → input.new ≡ input.old }
     ensures quiet { result ≡ 0 → faults.new ≡ faults.old }
 {
-    match write_answer::<P, R, W>(alloc, words, input, output) {
+    let mut bytes = Vec::new(alloc);
+    match write_answer::<P, R, W>(alloc, words, &mut bytes, input, output) {
         Ok(()) => 0,
-        Err(stop) => refuse::<P, E>(stop, faults),
+        Err(stop) => refuse::<P, E>(alloc, words, bytes.as_slice(), stop, faults),
     }
 }
 
-/// Writes why a run stops on `faults`, where a failed write is passed over, and returns the exit status.
-pub fn refuse<P: Program, E: Write>(stop: Stop, faults: &mut E) -> u8
+/// Writes why a run over these words and this input stops on `faults`, where a failed write is passed over, and returns
+/// the exit status.
+pub fn refuse<P: Program, E: Write>(
+    alloc: Global,
+    words: &[String],
+    bytes: &[u8],
+    stop: Stop,
+    faults: &mut E,
+) -> u8
     ensures { result ≡ status_of stop }
 {
+    let sentence = P::explain(alloc, words, bytes, stop).unwrap_or(String::new(alloc));
     let _ = match stop {
+        _ if !sentence.is_empty() => writeln!(faults, "{sentence}"),
         Stop::Usage => writeln!(faults, "{}", P::usage()),
         _ => writeln!(faults, "{stop}"),
     };
     stop.status()
 }
 
-/// Writes the whole output.
+/// Writes the whole output. The list is for the input.
 fn write_answer<P: Program, R: Read, W: Write>(
     alloc: Global,
     words: &[String],
+    bytes: &mut Vec<u8>,
     input: &mut R,
     output: &mut W,
 ) -> Result<(), Stop>
@@ -110,7 +129,7 @@ fn write_answer<P: Program, R: Read, W: Write>(
     ensures untouched { IfErr result (λ stop. (stop ≡ Stop.Output) ⊎ (output.new ≡ output.old)) }
     ensures unread { AskForNone P.behavior (map string_bytes words.now) → input.new ≡ input.old }
 {
-    let text = read_and_answer::<P, R>(alloc, words, input)?;
+    let text = read_and_answer::<P, R>(alloc, words, bytes, input)?;
     output.write_all(text.as_bytes()).map_err(|_| Stop::Output)?;
     output.flush().map_err(|_| Stop::Output)
 }
@@ -119,6 +138,7 @@ fn write_answer<P: Program, R: Read, W: Write>(
 fn read_and_answer<P: Program, R: Read>(
     alloc: Global,
     words: &[String],
+    bytes: &mut Vec<u8>,
     input: &mut R,
 ) -> Result<String, Stop>
     ensures text { IfOk result (λ text. IfSome (R.remaining input.old)
@@ -128,18 +148,18 @@ fn read_and_answer<P: Program, R: Read>(
     ensures unread { AskForNone P.behavior (map string_bytes words.now) → input.new ≡ input.old }
 {
     let choices = P::read_words(words)?;
-    let bytes = read_all(alloc, input)?;
+    read_all(input, bytes)?;
     P::answer(alloc, choices, bytes.as_slice())
 }
 
-/// All bytes of the input.
-fn read_all<R: Read>(alloc: Global, input: &mut R) -> Result<Vec<u8>, Stop>
-    ensures all { IfOk result (λ bytes. IfSome (R.remaining input.old) (λ given. bytes.items ≡ given)) }
+/// All bytes of the input, in place of what the list had.
+fn read_all<R: Read>(input: &mut R, bytes: &mut Vec<u8>) -> Result<(), Stop>
+    ensures all { OnOk result (IfSome (R.remaining input.old) (λ given. bytes.new.items ≡ given)) }
     ensures stopped { IfErr result (λ stop. (stop ≡ Stop.Input) ⊎ (stop ≡ Stop.Refused Memory)) }
 {
-    let mut bytes = Vec::new(alloc);
-    match input.read_to_end(&mut bytes) {
-        Ok(_) => Ok(bytes),
+    bytes.clear();
+    match input.read_to_end(bytes) {
+        Ok(_) => Ok(()),
         Err(error) => Err(stop_of(error, Stop::Input)),
     }
 }

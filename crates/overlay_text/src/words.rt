@@ -149,7 +149,7 @@ fn rule_table(digits: &str) -> Option<RuleTable>
 
 /// The settings that words have chosen so far.
 #[derive(Clone, Copy)]
-struct Choices {
+pub struct Choices {
     engine: Option<Engine>,
     strategy: Option<Strategy>,
     precision: Option<Precision>,
@@ -160,7 +160,8 @@ struct Choices {
 }
 
 impl Choices {
-    const NONE: Self = Choices {
+    /// No choices.
+    pub const NONE: Self = Choices {
         engine: None,
         strategy: None,
         precision: None,
@@ -171,7 +172,7 @@ impl Choices {
     };
 
     /// Takes one word of the form `name=value`.
-    fn read(&mut self, word: &str) -> Result<(), Stop>
+    pub fn read(&mut self, word: &str) -> Result<(), Stop>
         ensures known { OnOk result (IsSetting word.now) }
         ensures engine { ReadsWord result (codes "engine") NamesEngine word.now self.old.engine self.new.engine }
         ensures strategy { ReadsWord result
@@ -197,8 +198,8 @@ impl Choices {
         }
     }
 
-    /// What was chosen, and else what stands there.
-    fn settings(&self) -> Settings
+    /// What was chosen, and else what holds without a choice.
+    pub fn settings(&self) -> Settings
         ensures engine { result.engine ≡ unwrap_or self.now.engine Engine.I32 }
         ensures strategy { result.strategy ≡ unwrap_or self.now.strategy Strategy.Auto }
         ensures precision { result.precision ≡ unwrap_or self.now.precision (precision_of 0 1) }

@@ -1,11 +1,10 @@
 -- What the program returns, from what its calls do.
-use Rattle.std.proofs.Common.{◌≡◌, ◌⊎◌, inl, inr, ℕ, ◌+◌, ℤ, Bool, true, false, not, ◌&&◌, if◌then◌else◌, ◌==◌, ap, List, [], ◌∷◌, ◌++◌, Ok, Err, refl, sym, ◌∙◌, subst, arith, All}
+use Rattle.std.proofs.Common.{◌≡◌, ◌⊎◌, inl, inr, ℕ, ◌+◌, ℤ, Bool, true, false, not, ◌||◌, if◌then◌else◌, ap, List, [], ◌∷◌, ◌++◌, Ok, Err, refl, sym, ◌∙◌, subst, arith, append-nil}
 use Rattle.std.proofs.lemmas.Grind.{common_steps, flat_map-append}
-use Rattle.std.proofs.lemmas.Bool.{false≢true}
 use Rattle.std.proofs.lemmas.List.Elements.{All-contains, Contains-append_right}
 use Rattle.std.proofs.lemmas.List.Folds.{list_all-append}
-use Rattle.std.specs.Prelude.{◌≢◌, IfOk, IfErr, IsTrue, IsFalse, Contains, codes}
-use Rattle.std.specs.List.{list_all}
+use Rattle.std.proofs.lemmas.List.Elements.{filter-append}
+use Rattle.std.specs.Prelude.{IfOk, IfErr, IsFalse, Contains, codes, bytes_eq, flat_map}
 use Rattle.std.specs.declared.result.Result.{Result}
 use Rattle.overlay_geometry.specs.Points.{Point}
 use Rattle.overlay_geometry.specs.Coordinates.{is_point_in_range}
@@ -27,14 +26,14 @@ use Rattle.overlay_text.specs.declared.settings.Engine.{Engine}
 use Rattle.overlay_text.specs.declared.settings.Settings.{Settings}
 use Rattle.overlay_text.specs.declared.stop.Stop.{Stop}
 use Rattle.overlay_text.specs.declared.stop.LineFault.{LineFault}
-use Rattle.overlay_text.specs.declared.stop.Stop.TheVariants.{Usage, Line, Refused}
+use Rattle.overlay_text.specs.declared.stop.Stop.TheVariants.{Line, Refused}
 use Rattle.overlay_text.specs.Engines.{least_of, greatest_of, engine_bits}
-use Rattle.overlay_text.specs.Runs.{AskForNone}
 use Rattle.overlay_text.specs.Text.{lines_of, AskInTurn, IsFirstFaultOf}
 use Rattle.overlay_text.proofs.TextSteps.{Taken, first_fault}
-use Rattle.overlay_text.specs.Words.{setting, IsSetting, WordsSet, SetNothing}
-use Rattle.polygons.specs.ContourText.{GivenContour, are_in_range, AsksForContour, subject_of, clip_of}
-use Rattle.polygons.specs.Run.{IsNoLimitOrRadius, Set, word_if, IsReportedOverlay, AreReportedShapes, IsReadAnswer, IsPolygonsAnswer, overlay_settings, rounding_by, splitting_by, polygons_behavior}
+use Rattle.overlay_text.specs.Words.{setting}
+use Rattle.polygons.specs.ContourText.{GivenContour, are_in_range, AsksForContour, IsFaultyContour, subject_of, clip_of}
+use Rattle.polygons.specs.Run.{IsNoLimitOrRadius, Set, is_among, is_flag, without_flags, IsReportedOverlay, AreReportedShapes, IsReadAnswer, IsWktAnswer, IsPolygonsAnswer, overlay_settings, rounding_by, splitting_by, polygons_behavior}
+use Rattle.polygons.specs.Wkt.{AsksForPolygons}
 use Rattle.polygons.specs.declared.run.Choices.{Choices}
 
 -- words of which one sets the limit or the radius set no settings
@@ -47,83 +46,25 @@ refuses words before word after cut sets settings asked =
     by_name (value, inl is) none = none.0 value is
     by_name (value, inr is) none = none.1 value is
 
-pub asks : (words : List (List ℕ)) (r : Result Settings Stop) → IfOk r (λ settings. WordsSet words settings) → All IsNoLimitOrRadius words → IfOk r (λ settings. Set words settings)
-asks words (Ok settings) set none = (set, none)
-asks words (Err stop) set none = tt
+-- ---- flags
 
-pub asks_for_none : (words : List (List ℕ)) (r : Result Settings Stop) → IfErr r (λ stop. (stop ≡ Usage) × SetNothing words) → IfErr r (λ stop. (stop ≡ Usage) × ((settings : Settings) → ¬ (Set words settings)))
-asks_for_none words (Ok settings) refused = tt
-asks_for_none words (Err stop) refused = (refused.0, λ settings asked. refused.1 settings asked.0)
+pub other_kept : (words : List (List ℕ)) (word : List ℕ) → is_flag word ≡ false → without_flags (words ++ word ∷ []) ≡ without_flags words ++ word ∷ []
+other_kept words word plain = filter-append (λ w. not (is_flag w)) words (word ∷ []) ∙ ap (λ l. without_flags words ++ l) (let one : without_flags (word ∷ []) ≡ word ∷ [] = rw plain refl in one)
 
-abbrev tail_or : List (List ℕ) → List (List ℕ)
-tail_or [] = []
-tail_or (w ∷ ws) = ws
+pub flag_left_out : (words : List (List ℕ)) (word : List ℕ) → is_flag word ≡ true → without_flags (words ++ word ∷ []) ≡ without_flags words
+flag_left_out words word chosen = filter-append (λ w. not (is_flag w)) words (word ∷ []) ∙ ap (λ l. without_flags words ++ l) (let none : without_flags (word ∷ []) ≡ [] = rw chosen refl in none) ∙ append-nil (without_flags words)
 
--- a word that sets something has a sign
-and_false : (b : Bool) → (b && false) ≡ false
-and_false true = refl
-and_false false = refl
+pub cut_without_flags : (before after : List (List ℕ)) (word : List ℕ) → is_flag word ≡ false → without_flags (before ++ word ∷ after) ≡ without_flags before ++ word ∷ without_flags after
+cut_without_flags before after word plain = filter-append (λ w. not (is_flag w)) before (word ∷ after) ∙ ap (λ l. without_flags before ++ l) (let one : without_flags (word ∷ after) ≡ word ∷ without_flags after = rw plain refl in one)
 
-has_sign : (name value : List ℕ) → list_all (λ code. not (code == 61)) (name ++ codes "=" ++ value) ≡ false
-has_sign [] value = refl
-has_sign (c ∷ name) value = ap (λ b. not (c == 61) && b) (has_sign name value) ∙ and_false (not (c == 61))
+or_true : (b : Bool) → (b || true) ≡ true
+or_true true = refl
+or_true false = refl
 
-no_sign_in : (name value word : List ℕ) → IsTrue (list_all (λ code. not (code == 61)) word) → word ≡ setting name value → ⊥
-no_sign_in name value word plain is = false≢true (sym (has_sign name value) ∙ sym (ap (list_all (λ code. not (code == 61))) is) ∙ plain)
-
--- a word without a sign is not the first of words that set settings
-not_first : (word : List ℕ) → IsTrue (list_all (λ code. not (code == 61)) word) → (words : List (List ℕ)) (settings : Settings) → Set words settings → (others : List (List ℕ)) → words ≢ word ∷ others
-not_first word plain words settings asked others is =
-    let known = All-contains IsSetting words word asked.0.known (subst (λ ws. Contains ws word) (sym is) (0, omega arith, refl)) in
-    no_sign_in known.0 known.1 word plain known.3
-
-abbrev first_code : List (List ℕ) → ℕ
-first_code [] = 0
-first_code ([] ∷ words) = 0
-first_code ((code ∷ codes_behind) ∷ words) = code
-
--- nor is a word that begins otherwise the first where another one may come before them
-other_not_first : (word other : List ℕ) → (first_code (word ∷ []) ≡ first_code (other ∷ []) → ⊥) → (is : Bool) (rest : List (List ℕ)) → ((others : List (List ℕ)) → rest ≢ other ∷ others) → (others : List (List ℕ)) → word_if is word ++ rest ≢ other ∷ others
-other_not_first word other differ false rest not_there others is = not_there others is
-other_not_first [] [] differ true rest not_there others is = differ refl
-other_not_first [] (d ∷ other) differ true rest not_there others is = differ (ap first_code is)
-other_not_first (c ∷ word) [] differ true rest not_there others is = differ (ap first_code is)
-other_not_first (c ∷ word) (d ∷ other) differ true rest not_there others is = differ (ap first_code is)
-
-report_is_not_shapes : ◌≡◌ {A = ℕ} 114 115 → ⊥
-report_is_not_shapes same = omega (arith, same)
-
-pairwise_is_not_shapes : ◌≡◌ {A = ℕ} 112 115 → ⊥
-pairwise_is_not_shapes same = omega (arith, same)
-
-pairwise_is_not_report : ◌≡◌ {A = ℕ} 112 114 → ⊥
-pairwise_is_not_report same = omega (arith, same)
-
--- what is left behind a word that may be the first of words is the same in two ways to take it off, if it is not once more the first there
-same_rest : (is other : Bool) (word : List ℕ) (words rest others : List (List ℕ)) → words ≡ word_if is word ++ rest → (is ≡ false → (more : List (List ℕ)) → words ≢ word ∷ more)
-    → words ≡ word_if other word ++ others → ((more : List (List ℕ)) → others ≢ word ∷ more) → rest ≡ others
-same_rest false false word words rest others cut none cut_otherwise not_again = sym cut ∙ cut_otherwise
-same_rest false true word words rest others cut none cut_otherwise not_again = absurd (none refl others cut_otherwise)
-same_rest true false word words rest others cut none cut_otherwise not_again = absurd (not_again rest (sym cut_otherwise ∙ cut))
-same_rest true true word words rest others cut none cut_otherwise not_again = ap tail_or (sym cut ∙ cut_otherwise)
-
--- Where the words behind `shapes`, `report` and `pairwise` set no settings, all words ask for nothing.
-module _ (words behind_shapes behind_report others : List (List ℕ)) (in_shapes has_report is_pairwise : Bool) (shapes_cut : words ≡ word_if in_shapes (codes "shapes") ++ behind_shapes) (report_cut : behind_shapes ≡ word_if has_report (codes "report") ++ behind_report)
-    (pairwise_cut : behind_report ≡ word_if is_pairwise (codes "pairwise") ++ others) where
-  pub asks_nothing : (in_shapes ≡ false → (more : List (List ℕ)) → words ≢ codes "shapes" ∷ more) → (has_report ≡ false → (more : List (List ℕ)) → behind_shapes ≢ codes "report" ∷ more) → (is_pairwise ≡ false → (more : List (List ℕ)) → behind_report ≢ codes "pairwise" ∷ more)
-      → ((settings : Settings) → ¬ (Set others settings)) → AskForNone polygons_behavior words
-  asks_nothing no_shapes no_report no_pairwise nothing choices asked =
-      let set = asked.2 in
-      let settings = choices.settings in
-      let pairwise_then = word_if choices.is_pairwise (codes "pairwise") ++ asked.0 in
-      let report_then = word_if choices.has_report (codes "report") ++ pairwise_then in
-      let no_more_shapes = other_not_first (codes "report") (codes "shapes") report_is_not_shapes choices.has_report pairwise_then
-      (other_not_first (codes "pairwise") (codes "shapes") pairwise_is_not_shapes choices.is_pairwise asked.0 (not_first (codes "shapes") refl asked.0 settings set)) in
-      let no_more_report = other_not_first (codes "pairwise") (codes "report") pairwise_is_not_report choices.is_pairwise asked.0 (not_first (codes "report") refl asked.0 settings set) in
-      let behind = same_rest in_shapes choices.in_shapes (codes "shapes") words behind_shapes report_then shapes_cut no_shapes asked.1 no_more_shapes in
-      let further = same_rest has_report choices.has_report (codes "report") behind_shapes behind_report pairwise_then report_cut no_report behind no_more_report in
-      let left = same_rest is_pairwise choices.is_pairwise (codes "pairwise") behind_report others asked.0 pairwise_cut no_pairwise further (not_first (codes "pairwise") refl asked.0 settings set) in
-      nothing settings (subst (λ ws. Set ws settings) (sym left) set)
+-- a word among others
+pub is_among-here : (name word : List ℕ) (before after : List (List ℕ)) → bytes_eq word name ≡ true → is_among (before ++ word ∷ after) name ≡ true
+is_among-here name word [] after same = rw same refl
+is_among-here name word (b ∷ before) after same = ap (λ e. bytes_eq b name || e) (is_among-here name word before after same) ∙ or_true (bytes_eq b name)
 
 -- the splitting of the rounding that the choices name
 pub splitting_is : (bits : ℕ) (choices : Choices) (solver : Solver) (rounding : Rounding) → rounding ≡ rounding_by choices → solver.precision ≡ choices.settings.precision → splitting_for rounding bits solver ≡ splitting_by bits choices
@@ -205,3 +146,17 @@ module _ {X : Type 0} (Asks : List ℕ → X → Type 0) (HasFault : List ℕ �
   first_of_lines taken first is_next one_more stop (inr faulty) =
       let told : stop ≡ Line next faulty.0 = faulty.1 ∙ ap (λ n. Line n faulty.0) is_next in
       inr (rw told (first_fault Asks lines left others count next asked line taken first one_more HasFault faulty.0 faulty.2))
+
+-- a run that stops where a line is faulty, or where memory is refused
+pub read_stop : (least greatest : ℤ) (bytes : List ℕ) (Makes : List GivenContour → Result (List ℕ) Stop → Type 0) (stop : Stop) → (stop ≡ Refused Memory) ⊎ IsFirstFaultOf (AsksForContour least greatest) (IsFaultyContour least greatest) (lines_of bytes) stop
+    → (stop ≡ Refused Memory) ⊎ IsReadAnswer least greatest Makes bytes (Err stop)
+read_stop least greatest bytes Makes stop (inl memory) = inl memory
+read_stop least greatest bytes Makes stop (inr faulty) = inr (inr (stop, faulty, refl))
+
+module _ (least greatest : ℤ) (splitting_then run : Splitting) (bytes : List ℕ) (given : List (List GivenContour)) (subject clip : List (List Point)) (asked : AskInTurn (AsksForPolygons least greatest) (lines_of bytes) given)
+    (is_run : run ≡ splitting_then) (is_subject : subject ≡ subject_of (flat_map (λ cs. cs) given)) (is_clip : clip ≡ clip_of (flat_map (λ cs. cs) given)) (Makes : List GivenContour → Result (List ℕ) Stop → Type 0) where
+  -- a refused overlay of the polygons that were read
+  pub refused_wkt : ((answer : Result (List ℕ) Stop) → CountsLeaveRange splitting_then (subject_of (flat_map (λ cs. cs) given)) (clip_of (flat_map (λ cs. cs) given)) × (answer ≡ Err (Refused CountOutOfRange)) → Makes (flat_map (λ cs. cs) given) answer)
+      → (fault : Fault) → IsReason run subject clip fault → (Refused fault ≡ Refused Memory) ⊎ IsWktAnswer least greatest Makes bytes (Err (Refused fault))
+  refused_wkt makes Memory reason = inl refl
+  refused_wkt makes CountOutOfRange reason = inr (inl (given, asked, makes _ (rw (← is_run, ← is_subject, ← is_clip) reason, refl)))

@@ -1,2 +1,5 @@
+pub mod Adding
 pub mod Answering
+pub mod Items
 pub mod Reading
+pub mod Turns

@@ -1,5 +1,5 @@
 -- The text of contours: what a line of the input writes, what is wrong with one, and the lines of the output.
-use Rattle.std.specs.Prelude.{◌≡◌, ◌≢◌, ◌⊎◌, ℕ, ℤ, IsTrue, IsFalse, Bool, true, false, List, [], ◌∷◌, ◌++◌, codes, decimal, flat_map, Vec}
+use Rattle.std.specs.Prelude.{◌≡◌, ◌≢◌, ◌⊎◌, ℕ, ℤ, IsTrue, IsFalse, Bool, true, false, List, [], ◌∷◌, ◌++◌, codes, decimal, flat_map, length, Vec}
 use Rattle.std.specs.List.{list_all}
 use Rattle.overlay_geometry.specs.Points.{Point}
 use Rattle.overlay_geometry.specs.Coordinates.{is_point_in_range}
@@ -38,15 +38,16 @@ WriteContour words shape_type points =
 abbrev pub are_in_range : ℤ → ℤ → List Point → Bool
 are_in_range least greatest points = list_all (is_point_in_range least greatest) points
 
--- the line writes this contour, and its points are in range
+-- the line writes this contour, which has not two points, and its points are in range
 abbrev pub AsksForContour : ℤ → ℤ → List ℕ → GivenContour → Type 0
 AsksForContour least greatest line contour =
-    WriteContour (words_of_line line) contour.shape_type contour.points × IsTrue (are_in_range least greatest contour.points)
+    WriteContour (words_of_line line) contour.shape_type contour.points × (length contour.points ≢ 2) × IsTrue (are_in_range least greatest contour.points)
 
--- what is wrong with a line: it has words that write no contour, or a point of the contour that it writes is out of range
+-- what is wrong with a line: it has words that write no contour, or a contour of two points, or a point of the contour that it writes is out of range
 abbrev pub IsFaultyContour : ℤ → ℤ → List ℕ → LineFault → Type 0
 IsFaultyContour least greatest line fault =
     ((fault ≡ Form) × (words_of_line line ≢ []) × ((shape_type : ShapeType) (points : List Point) → ¬ (WriteContour (words_of_line line) shape_type points)))
+    ⊎ ((fault ≡ Form) × ((shape_type : ShapeType) × (points : List Point) × WriteContour (words_of_line line) shape_type points × (length points ≡ 2)))
     ⊎ ((fault ≡ Range) × ((shape_type : ShapeType) × (points : List Point) × WriteContour (words_of_line line) shape_type points
     × IsFalse (are_in_range least greatest points)))
 

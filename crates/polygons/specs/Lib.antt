@@ -1,2 +1,3 @@
 pub mod ContourText
+pub mod Wkt
 pub mod Run

@@ -1,5 +1,6 @@
 -- What the program makes of the text of its input.
-use Rattle.std.specs.Prelude.{◌≡◌, ◌≢◌, ◌⊎◌, ℕ, ℤ, Bool, true, false, if◌then◌else◌, List, [], ◌∷◌, ◌++◌, All, None, Some, Ok, Err, codes}
+use Rattle.std.specs.Prelude.{◌≡◌, ◌≢◌, ◌⊎◌, ◌||◌, ℕ, ℤ, Bool, true, false, not, MatchBool, if◌then◌else◌, List, ◌++◌, All, filter, flat_map, None, Some, Ok, Err, codes, bytes_eq}
+use Rattle.std.specs.List.{list_any}
 use Rattle.std.specs.declared.result.Result.{Result}
 use Rattle.overlay_geometry.specs.Points.{Point}
 use Rattle.overlay_base.specs.Radius.{exponent_cap}
@@ -22,6 +23,7 @@ use Rattle.overlay_text.specs.Runs.{Behavior}
 use Rattle.overlay_text.specs.Text.{lines_of, AskInTurn, IsFirstFaultOf}
 use Rattle.overlay_text.specs.Words.{setting, WordsSet}
 use Rattle.polygons.specs.ContourText.{GivenContour, AsksForContour, IsFaultyContour, subject_of, clip_of, contour_lines, shape_lines, report_text}
+use Rattle.polygons.specs.Wkt.{AsksForPolygons, AreFaultyPolygons, multipolygon_line}
 use Rattle.polygons.specs.declared.run.Choices.{Choices}
 
 -- the word sets neither of the two names that only `arrange` reads
@@ -32,17 +34,25 @@ IsNoLimitOrRadius word = ((value : List ℕ) → word ≢ setting (codes "limit"
 abbrev pub Set : List (List ℕ) → Settings → Type 0
 Set words settings = WordsSet words settings × All IsNoLimitOrRadius words
 
--- a word, where it is there
-abbrev pub word_if : Bool → List ℕ → List (List ℕ)
-word_if false word = []
-word_if true word = word ∷ []
+-- one of the words is this one
+abbrev pub is_among : List (List ℕ) → List ℕ → Bool
+is_among words name = list_any (λ word. bytes_eq word name) words
 
--- The words ask for these choices: `shapes`, `report` and `pairwise` come first, each where it is chosen, and the others
--- set the settings.
-abbrev pub AskFor : List (List ℕ) → Choices → Type 0
-AskFor words choices =
-    (others : List (List ℕ)) × (words ≡ word_if choices.in_shapes (codes "shapes") ++ (word_if choices.has_report (codes "report") ++ (word_if choices.is_pairwise (codes "pairwise") ++ others)))
-    × Set others choices.settings
+-- a word that chooses something by itself
+abbrev pub is_flag : List ℕ → Bool
+is_flag word = bytes_eq word (codes "shapes") || (bytes_eq word (codes "report") || (bytes_eq word (codes "pairwise") || bytes_eq word (codes "format=wkt")))
+
+-- the words but for those
+abbrev pub without_flags : List (List ℕ) → List (List ℕ)
+without_flags words = filter (λ word. not (is_flag word)) words
+
+-- The words ask for these choices: each of `shapes`, `report`, `pairwise` and `format=wkt` is among them where it is chosen, and the others set the settings.
+pub record AskFor (words : List (List ℕ)) (choices : Choices) : Type 0 where
+  pub in_shapes : choices.in_shapes ≡ is_among words (codes "shapes")
+  pub has_report : choices.has_report ≡ is_among words (codes "report")
+  pub is_pairwise : choices.is_pairwise ≡ is_among words (codes "pairwise")
+  pub is_wkt : choices.is_wkt ≡ is_among words (codes "format=wkt")
+  pub settings : Set (without_flags words) choices.settings
 
 -- what passes over pairs are set to, in coordinates of that many bits
 abbrev pub overlay_settings : ℕ → Settings → RunSettings
@@ -101,9 +111,24 @@ IsReadAnswer least greatest Makes bytes answer =
     ((given : List GivenContour) × AskInTurn (AsksForContour least greatest) (lines_of bytes) given × Makes given answer)
     ⊎ ((stop : Stop) × IsFirstFaultOf (AsksForContour least greatest) (IsFaultyContour least greatest) (lines_of bytes) stop × (answer ≡ Err stop))
 
--- the overlay of the contours that the lines of a text write, in shapes or not, or the first fault of its lines
+-- what an overlay of the given contours returns under a rule, as a line of WKT
+abbrev pub IsWktText : ℕ → Choices → OverlayRule → List GivenContour → Result (List ℕ) Stop → Type 0
+IsWktText bits choices rule given answer =
+    ((shapes : List (List (List Point))) × (passes : ℕ) × (halves : ℕ)
+    × AreReportedShapes (splitting_by bits choices) rule choices.settings.fill_rule given shapes passes halves
+    × (answer ≡ Ok (multipolygon_line shapes ++ report_text choices.has_report passes halves)))
+    ⊎ (CountsLeaveRange (splitting_by bits choices) (subject_of given) (clip_of given) × (answer ≡ Err (Refused CountOutOfRange)))
+
+-- what is made of the polygons that the lines of a text write as WKT, or the first fault of its lines
+abbrev pub IsWktAnswer : ℤ → ℤ → (List GivenContour → Result (List ℕ) Stop → Type 0) → List ℕ → Result (List ℕ) Stop → Type 0
+IsWktAnswer least greatest Makes bytes answer =
+    ((given : List (List GivenContour)) × AskInTurn (AsksForPolygons least greatest) (lines_of bytes) given × Makes (flat_map (λ contours. contours) given) answer)
+    ⊎ ((stop : Stop) × IsFirstFaultOf (AsksForPolygons least greatest) (AreFaultyPolygons least greatest) (lines_of bytes) stop × (answer ≡ Err stop))
+
+-- the overlay of the contours that the lines of a text write: as WKT, in shapes or not, or the first fault of its lines
 abbrev pub IsRuleAnswer : ℤ → ℤ → ℕ → Choices → OverlayRule → List ℕ → Result (List ℕ) Stop → Type 0
-IsRuleAnswer least greatest bits choices rule = IsReadAnswer least greatest (IsText choices.in_shapes bits choices rule)
+IsRuleAnswer least greatest bits choices rule bytes answer =
+    MatchBool choices.is_wkt (IsWktAnswer least greatest (IsWktText bits choices rule) bytes answer) (IsReadAnswer least greatest (IsText choices.in_shapes bits choices rule) bytes answer)
 
 -- the same by the rule that the settings choose, and the stop where they choose none
 abbrev pub IsPolygonsAnswer : ℤ → ℤ → ℕ → Choices → List ℕ → Result (List ℕ) Stop → Type 0

@@ -1,4 +1,5 @@
-// The input: each line is `S X Y X Y ..` for a contour of the subject, or `C X Y X Y ..` for one of the clip.
+// The input: each line is `S X Y X Y ..` for a contour of the subject, or `C X Y X Y ..` for one of the clip. Two points are
+// a segment, and no contour.
 ghost use Rattle.std.specs.Prelude.{◌≡◌, ◌⊎◌, List, IsTrue, IsFalse, OnOk, IfNone, IfSome, IfOk, IfErr, [], ◌∷◌, ◌++◌};
 ghost use Rattle.overlay_geometry.specs.Points.{Point};
 ghost use Rattle.overlay_base.specs.declared.segm.fault.Fault.TheVariants.{Memory};
@@ -20,9 +21,9 @@ use std::alloc::Global;
 
 /// A contour of a shape.
 #[derive(Drop)]
-struct ShapeContour<I: OverlayInt> {
-    shape_type: ShapeType,
-    points: IntContour<I>,
+pub struct ShapeContour<I: OverlayInt> {
+    pub shape_type: ShapeType,
+    pub points: IntContour<I>,
 }
 
 /// An overlay of the contours that the lines of a text write, in order. The first faulty line stops the run.
@@ -41,7 +42,7 @@ pub fn read_contours<I: OverlayInt>(alloc: Global, bytes: &[u8]) -> Result<Overl
 }
 
 /// Adds a contour in range behind those that an overlay keeps.
-fn add_contour<I: OverlayInt>(
+pub fn add_contour<I: OverlayInt>(
     overlay: &mut Overlay<I>,
     contour: &ShapeContour<I>,
 ) -> Result<(), Stop>
@@ -59,7 +60,7 @@ fn add_contour<I: OverlayInt>(
     }
 }
 
-/// The contour of a line, or `None` where there is nothing but spaces. The list is for its points.
+/// The contour of a line, or `None` where there is nothing but spaces. The list is for its points. Two points are none.
 fn read_contour<I: OverlayInt>(
     alloc: Global,
     number: usize,
@@ -82,6 +83,9 @@ fn read_contour<I: OverlayInt>(
     let shape_type = shape_type(letter).ok_or(Stop::Line { number, fault })?;
     wide.clear();
     read_points(words, number, wide)?;
+    if wide.len() == 2 {
+        return Err(Stop::Line { number, fault });
+    }
     let points = contour_points(alloc, number, wide.as_slice())?;
     Ok(Some(ShapeContour { shape_type, points }))
 }
@@ -110,7 +114,7 @@ fn read_points(words: Words<'_>, number: usize, wide: &mut Vec<IntPoint<i64>>) -
 }
 
 /// The points of the engine with these coordinates.
-fn contour_points<I: OverlayInt>(
+pub fn contour_points<I: OverlayInt>(
     alloc: Global,
     number: usize,
     wide: &[IntPoint<i64>],

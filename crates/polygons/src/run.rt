@@ -1,22 +1,25 @@
 // The program: which words it reads, and what it answers.
-ghost use Rattle.std.specs.Prelude.{◌≡◌, ◌≢◌, ◌⊎◌, ℕ, true, false, List, ◌∷◌, ◌++◌, Ok, Err, codes, IfOk, IfErr, map, string_bytes};
+ghost use Rattle.std.specs.Prelude.{◌≡◌, ◌⊎◌, ℕ, true, false, List, Ok, Err, codes, IfOk, IfErr, map, string_bytes};
 ghost use Rattle.overlay_base.specs.declared.overlay_core.overlay_rule.OverlayRule.{OverlayRule};
 ghost use Rattle.overlay_base.specs.declared.segm.fault.Fault.TheVariants.{Memory};
 ghost use Rattle.overlay_text.specs.declared.stop.Stop.{Stop};
 ghost use Rattle.overlay_text.specs.Words.{setting};
 ghost use Rattle.overlay_text.specs.declared.settings.Settings.{Settings};
-ghost use Rattle.polygons.specs.Run.{IsNoLimitOrRadius, Set, word_if, rounding_by, IsOverlayText, IsShapesText, IsReadAnswer, IsRuleAnswer, IsPolygonsAnswer, polygons_behavior};
+ghost use Rattle.polygons.specs.Run.{IsNoLimitOrRadius, Set, is_among, is_flag, without_flags, rounding_by, IsOverlayText, IsShapesText, IsWktText, IsReadAnswer, IsWktAnswer, IsRuleAnswer, IsPolygonsAnswer, polygons_behavior};
 
 use crate::contour_lines::read_contours;
 use crate::contour_output::{write_contours, write_report, write_shapes};
+use crate::explain::{Reading, explain_line, explain_words, no_rule};
+use crate::wkt_lines::read_wkt;
+use crate::wkt_output::write_multipolygon;
 use overlay_base::overlay_core::overlay_rule::OverlayRule;
 use overlay_contours::rounding::Rounding;
 use overlay_geometry::num::OverlayInt;
 use overlay_text::settings::{Engine, Settings};
 use overlay_text::shell::Program;
 use overlay_text::stop::Stop;
-use overlay_text::words::read_settings;
-use std::alloc::Global;
+use overlay_text::words::Choices as SettingChoices;
+use std::alloc::{AllocError, Global};
 
 /// What the words choose.
 #[derive(Clone, Copy, Debug, PartialEq)]
@@ -27,6 +30,8 @@ pub struct Choices {
     pub has_report: bool,
     /// Whether crossings are rounded pair by pair, as upstream does, and not by snap rounding.
     pub is_pairwise: bool,
+    /// Whether the input and the output are WKT.
+    pub is_wkt: bool,
     pub settings: Settings,
 }
 
@@ -52,18 +57,16 @@ impl Program for PolygonsProgram {
     ghost behavior = { polygons_behavior };
 
     fn usage() -> &'static str {
-        "usage: polygons [shapes] [report] [pairwise] rule=NAME [fill|engine|precision|strategy=VALUE ..]"
+        "usage: polygons rule=NAME [shapes] [report] [pairwise] [format=wkt] [fill|engine|precision|strategy=VALUE ..]"
     }
 
     fn read_words(words: &[String]) -> Result<Choices, Stop> {
-        let (in_shapes, behind_shapes) = after_word(words, "shapes");
-        let (has_report, behind_report) = after_word(behind_shapes, "report");
-        let (is_pairwise, others) = after_word(behind_report, "pairwise");
-        let settings = read_polygon_settings(others)?;
+        let settings = read_polygon_settings(words)?;
         Ok(Choices {
-            in_shapes,
-            has_report,
-            is_pairwise,
+            in_shapes: is_among(words, "shapes"),
+            has_report: is_among(words, "report"),
+            is_pairwise: is_among(words, "pairwise"),
+            is_wkt: is_among(words, "format=wkt"),
             settings,
         })
     }
@@ -74,39 +77,73 @@ impl Program for PolygonsProgram {
             Engine::I32 => answer_with::<i32>(alloc, choices, bytes),
         }
     }
-}
 
-/// Whether a word is the first of the words, and the words without it.
-fn after_word<'a>(words: &'a [String], first: &str) -> (bool, &'a [String])
-    ensures others { map string_bytes words.now ≡ word_if result.0 first.now ++ map string_bytes result.1.now }
-    ensures none { result.0 ≡ false → (others : List (List ℕ)) → map string_bytes words.now ≢ first.now ∷ others }
-{
-    let Some((word, others)) = words.split_first() else {
-        return (false, words);
-    };
-    if word.as_str() == first {
-        (true, others)
-    } else {
-        (false, words)
-    }
-}
-
-/// The settings that the words choose. None of them may set the limit or the radius.
-fn read_polygon_settings(words: &[String]) -> Result<Settings, Stop>
-    ensures set { IfOk result (λ settings. Set (map string_bytes words.now) settings) }
-    ensures usage { IfErr result (λ stop. (stop ≡ Stop.Usage)
-        × ((settings : Settings) → ¬ (Set (map string_bytes words.now) settings))) }
-{
-    for word in words {
-        if is_limit_or_radius(word.as_str()) {
-            return Err(Stop::Usage);
+    fn explain(
+        alloc: Global,
+        words: &[String],
+        bytes: &[u8],
+        stop: Stop,
+    ) -> Result<String, AllocError> {
+        match stop {
+            Stop::Usage => explain_words(alloc, words),
+            Stop::NoRule => no_rule(alloc),
+            Stop::Line { number, fault } => {
+                let reading = Reading {
+                    is_wkt: is_among(words, "format=wkt"),
+                    range: if is_among(words, "engine=i16") {
+                        (i16::MIN_COORD.to_wide(), i16::MAX_COORD.to_wide())
+                    } else {
+                        (i32::MIN_COORD.to_wide(), i32::MAX_COORD.to_wide())
+                    },
+                };
+                explain_line(alloc, bytes, number, fault, reading)
+            }
+            _ => Ok(String::new(alloc)),
         }
     }
-    read_settings(words)
+}
+
+/// Whether one of the words is this one.
+fn is_among(words: &[String], name: &str) -> bool
+    ensures { result ≡ is_among (map string_bytes words.now) name.now }
+{
+    for word in words {
+        if word.as_str() == name {
+            return true;
+        }
+    }
+    false
+}
+
+/// Whether a word chooses something by itself.
+pub fn is_flag(word: &str) -> bool
+    ensures { result ≡ is_flag word.now }
+{
+    word == "shapes" || word == "report" || word == "pairwise" || word == "format=wkt"
+}
+
+/// The settings that the words choose, but for the flags among them. None of them may set the limit or the radius.
+pub fn read_polygon_settings(words: &[String]) -> Result<Settings, Stop>
+    ensures set { IfOk result (λ settings. Set (without_flags (map string_bytes words.now)) settings) }
+    ensures usage { IfErr result (λ stop. (stop ≡ Stop.Usage)
+        × ((settings : Settings) → ¬ (Set (without_flags (map string_bytes words.now)) settings))) }
+{
+    let mut choices = SettingChoices::NONE;
+    for word in words {
+        let word = word.as_str();
+        if is_flag(word) {
+            continue;
+        }
+        if is_limit_or_radius(word) {
+            return Err(Stop::Usage);
+        }
+        choices.read(word)?;
+    }
+    Ok(choices.settings())
 }
 
 /// Whether a word sets the limit or the radius, which an overlay of polygons has no use for.
-fn is_limit_or_radius(word: &str) -> bool
+pub fn is_limit_or_radius(word: &str) -> bool
     ensures some { result ≡ true → (value : List ℕ) × ((word.now ≡ setting (codes "limit") value)
         ⊎ (word.now ≡ setting (codes "radius") value)) }
     ensures none { result ≡ false → IsNoLimitOrRadius word.now }
@@ -137,7 +174,9 @@ fn answer_under<I: OverlayInt>(
     ensures stop { IfErr result (λ stop. (stop ≡ Stop.Refused Memory)
         ⊎ IsRuleAnswer (I.whole I.MIN_COORD) (I.whole I.MAX_COORD) I.BITS choices rule bytes.now (Err stop)) }
 {
-    if choices.in_shapes {
+    if choices.is_wkt {
+        wkt_under::<I>(alloc, choices, rule, bytes)
+    } else if choices.in_shapes {
         shapes_under::<I>(alloc, choices, rule, bytes)
     } else {
         contours_under::<I>(alloc, choices, rule, bytes)
@@ -186,6 +225,30 @@ fn shapes_under<I: OverlayInt>(
     let shapes = overlay.overlay_shapes(&settings.solver(), settings.fill_rule, rule)?;
     let mut text = String::new(alloc);
     write_shapes(&mut text, shapes.as_slice())?;
+    write_report(&mut text, choices.has_report, &overlay)?;
+    Ok(text)
+}
+
+/// The same in shapes, where the input and the output are WKT.
+fn wkt_under<I: OverlayInt>(
+    alloc: Global,
+    choices: Choices,
+    rule: OverlayRule,
+    bytes: &[u8],
+) -> Result<String, Stop>
+    ensures text { IfOk result (λ text. IsWktAnswer (I.whole I.MIN_COORD) (I.whole I.MAX_COORD)
+        (IsWktText I.BITS choices rule) bytes.now (Ok (string_bytes text))) }
+    ensures stop { IfErr result (λ stop. (stop ≡ Stop.Refused Memory)
+        ⊎ IsWktAnswer (I.whole I.MIN_COORD) (I.whole I.MAX_COORD)
+        (IsWktText I.BITS choices rule) bytes.now (Err stop)) }
+{
+    let settings = choices.settings;
+    let mut overlay = read_wkt::<I>(alloc, bytes)?;
+    overlay.set_rounding(choices.rounding());
+    let solver = settings.solver();
+    let shapes = overlay.overlay_shapes(&solver, settings.fill_rule, rule)?;
+    let mut text = String::new(alloc);
+    write_multipolygon(&mut text, shapes.as_slice())?;
     write_report(&mut text, choices.has_report, &overlay)?;
     Ok(text)
 }

@@ -16,7 +16,7 @@ mod wholes;
 
 use crate::case::{Case, Stop};
 use crate::fragments::Fragments;
-use crate::graphs::{Boundary, Build, Filter, Kind, Loops, Walks};
+use crate::graphs::{Boundary, Build, Filter, Kind, Lists, Loops, Walks};
 use crate::inserts::Insert;
 use crate::lists::{Balance, Join, Snap, Sort, Split};
 use crate::sweeps::Sweep;
@@ -155,7 +155,8 @@ fn tell_builds<W: Write, E: Write>(
         let mut case = Build::new(alloc, kind, solver);
         tell(build, name, &mut case, alloc, output, digests)?;
     }
-    Ok(())
+    let mut lists = Lists::new(alloc, solver);
+    tell("build lists", name, &mut lists, alloc, output, digests)
 }
 
 /// Makes a call until it answers, and prints its answer.

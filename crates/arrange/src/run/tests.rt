@@ -360,7 +360,13 @@ fn refusals_are_told(rt: HostRuntime) -> Result<(), Fail> {
     ];
     for (fault, text) in texts {
         let mut faults = Vec::new(rt.alloc());
-        let status = refuse::<ArrangeProgram, Vec<u8>>(Stop::Refused(fault), &mut faults);
+        let status = refuse::<ArrangeProgram, Vec<u8>>(
+            rt.alloc(),
+            &[],
+            &[],
+            Stop::Refused(fault),
+            &mut faults,
+        );
         expect_status(&rt, status, 4, text, b"");
         expect_bytes(&rt, faults.as_slice(), text, text, b"");
     }

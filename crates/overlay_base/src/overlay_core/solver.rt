@@ -178,8 +178,8 @@ impl Solver {
         segments.len() > Self::MIN_FRAGMENT_COUNT || self.strategy == Strategy::Frag
     }
 
-    /// Whether a sweep over these segments keeps a list of live ones: under `List`, and under `Auto` where they are
-    /// fewer than 8,000.
+    /// Whether these segments are few enough for a list of the live ones among them: under `List`, and under `Auto`
+    /// where they are fewer than 8,000.
     pub fn is_list_fill<C: WindingCount, I: OverlayInt, D>(
         &self,
         segments: &[Segment<C, I, D>],

@@ -12,4 +12,5 @@ pub mod StoredFills
 pub mod KeptLinks
 pub mod NodeSteps
 pub mod ConnectedLinks
+pub mod LaidNodes
 pub mod BuiltGraphs

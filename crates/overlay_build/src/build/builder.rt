@@ -12,7 +12,7 @@ ghost use Rattle.overlay_base.specs.SegmentOf.{segments_of, data_segments_of};
 ghost use Rattle.overlay_sweep.specs.ChainWindings.{tops_leave_range};
 ghost use Rattle.overlay_sweep.specs.LiveOf.{run_asked};
 ghost use Rattle.overlay_build.specs.Graph.{graph_by, data_by};
-ghost use Rattle.overlay_build.specs.GraphOf.{HoldGraph, graph_with, link_of};
+ghost use Rattle.overlay_build.specs.GraphOf.{HoldGraph, HoldLists, graph_with, link_of};
 ghost use Rattle.overlay_build.specs.NodeIndexes.{indexes_of, is_canonical_node};
 ghost use Rattle.overlay_build.specs.steps.LinkRules.{keeps_by};
 ghost use Rattle.overlay_build.specs.BuilderOf.{built_nodes, built_links, build_asked};
@@ -26,6 +26,7 @@ use crate::build::graph::OverlayGraph;
 use crate::build::graph_node::{GraphNode, OverlayNode};
 use crate::build::kept_links::{LinkRule, collect_links};
 use crate::build::link_ends::PackedEnd;
+use crate::build::listed_nodes::make_nodes;
 use crate::build::string_graph::StringGraph;
 use overlay_base::overlay_core::clip_rule::ClipRule;
 use overlay_base::overlay_core::fill_rule::FillRule;
@@ -42,6 +43,7 @@ use overlay_geometry::num::OverlayInt;
 use overlay_sweep::build::fill_strategy::FillCount;
 use overlay_sweep::build::sweep::SweepRunner;
 use std::alloc::Global;
+use std::mem;
 
 /// Builds graphs of arrangements, one after another, and keeps their buffers. Nodes and links are those of the last
 /// build: none before the first, nor after one that was refused.
@@ -51,7 +53,8 @@ pub struct GraphBuilder<C: WindingCount, N: GraphNode, I: OverlayInt, D: Copy> {
     sweep_runner: SweepRunner<C, I>,
     fills: Vec<SegmentFill>,
     ends: Vec<PackedEnd>,
-    indices: Vec<usize>,
+    degrees: Vec<usize>,
+    indexes: Vec<usize>,
     links: Vec<OverlayLink<I, D>>,
     nodes: Vec<N>,
     compared: u128,
@@ -69,7 +72,8 @@ impl<C: WindingCount, N: GraphNode, I: OverlayInt, D: Copy> GraphBuilder<C, N, I
             sweep_runner: SweepRunner::new(alloc),
             fills: Vec::new(alloc),
             ends: Vec::new(alloc),
-            indices: Vec::new(alloc),
+            degrees: Vec::new(alloc),
+            indexes: Vec::new(alloc),
             links: Vec::new(alloc),
             nodes: Vec::new(alloc),
             compared: 0,
@@ -122,14 +126,29 @@ impl<C: FillCount, N: GraphNode, I: OverlayInt, D: Copy> GraphBuilder<C, N, I, D
         ensures same_compared { OnErr result (self.new.compared ≡ self.old.compared) }
     {
         let built = self.try_build(fill_rule, rule, solver, segments);
-        if built.is_err() {
-            self.links.clear();
-            self.nodes.clear();
-        }
+        self.finish(&built);
         built
     }
 
-    /// The same, but that a refused build may leave anything.
+    /// Keeps the number of orders of a build that was done. Of one that was refused no links and no nodes are left.
+    fn finish(&mut self, built: &Result<(), Fault>)
+        ensures links { OnOk built.now (self.new.links ≡ self.old.links) }
+        ensures nodes { OnOk built.now (self.new.nodes ≡ self.old.nodes) }
+        ensures shown { OnOk built.now (self.new.compared ≡ run_asked self.old.sweep_runner) }
+        ensures no_links { OnErr built.now (self.new.links.items ≡ []) }
+        ensures no_nodes { OnErr built.now (self.new.nodes.items ≡ []) }
+        ensures same_compared { OnErr built.now (self.new.compared ≡ self.old.compared) }
+        ensures same_runner { self.new.sweep_runner ≡ self.old.sweep_runner }
+    {
+        if built.is_err() {
+            self.links.clear();
+            self.nodes.clear();
+        } else {
+            self.compared = self.sweep_runner.compared();
+        }
+    }
+
+    /// Builds the same, but that a refused build may leave anything.
     fn try_build(
         &mut self,
         fill_rule: FillRule,
@@ -144,9 +163,31 @@ impl<C: FillCount, N: GraphNode, I: OverlayInt, D: Copy> GraphBuilder<C, N, I, D
             ≡ data_by (keeps_by rule) fill_rule (data_segments_of segments.now)) }
         ensures in_range { OnOk result (IsFalse (tops_leave_range (segments_of segments.now))) }
         ensures out_of_range { OnTooLarge result (IsTrue (tops_leave_range (segments_of segments.now))) }
-        ensures compared { OnOk result (IsCostOf solver.now segments.now self.new.compared) }
-        ensures shown { OnOk result (self.new.compared ≡ run_asked self.new.sweep_runner) }
-        ensures same_compared { OnErr result (self.new.compared ≡ self.old.compared) }
+        ensures compared { OnOk result (IsCostOf solver.now segments.now (run_asked self.new.sweep_runner)) }
+        ensures same_compared { self.new.compared ≡ self.old.compared }
+    {
+        self.try_build_lists(fill_rule, rule, solver, segments)?;
+        make_nodes(self.alloc, &self.degrees, &self.indexes, &mut self.nodes)
+    }
+
+    /// Builds the links and the lists of the nodes of the kept segments. A refused build may leave anything.
+    fn try_build_lists(
+        &mut self,
+        fill_rule: FillRule,
+        rule: LinkRule,
+        solver: &Solver,
+        segments: &[Segment<C, I, D>],
+    ) -> Result<(), Fault>
+        requires arranged { IsArranged segments.now }
+        ensures graph { OnOk result (HoldLists I.whole self.new.links.items self.new.degrees.items
+            self.new.indexes.items (graph_by (keeps_by rule) fill_rule (segments_of segments.now))) }
+        ensures edge_data { OnOk result (map (λ l. l.edge_data) self.new.links.items
+            ≡ data_by (keeps_by rule) fill_rule (data_segments_of segments.now)) }
+        ensures in_range { OnOk result (IsFalse (tops_leave_range (segments_of segments.now))) }
+        ensures out_of_range { OnTooLarge result (IsTrue (tops_leave_range (segments_of segments.now))) }
+        ensures compared { OnOk result (IsCostOf solver.now segments.now (run_asked self.new.sweep_runner)) }
+        ensures same_compared { self.new.compared ≡ self.old.compared }
+        ensures same_nodes { self.new.nodes ≡ self.old.nodes }
     {
         let runner = &mut self.sweep_runner;
         find_fills(runner, fill_rule, solver, segments, &mut self.fills)?;
@@ -154,10 +195,7 @@ impl<C: FillCount, N: GraphNode, I: OverlayInt, D: Copy> GraphBuilder<C, N, I, D
         collect_links(segments, fills, rule, &mut self.links)?;
         let links = &mut self.links;
         let ends = &mut self.ends;
-        let indices = &mut self.indices;
-        connect_links(self.alloc, links, ends, indices, &mut self.nodes)?;
-        self.compared = self.sweep_runner.compared();
-        Ok(())
+        connect_links(links, ends, &mut self.degrees, &mut self.indexes)
     }
 }
 
@@ -202,6 +240,42 @@ impl<I: OverlayInt, D: Copy> GraphBuilder<ShapeCountBoolean, OverlayNode, I, D> 
     {
         self.build(fill_rule, LinkRule::Every, solver, segments)?;
         Ok(self.graph())
+    }
+
+    /// The same graph as lists: how many links meet at each node, and the indexes of these links, node by node, in place
+    /// of what the two lists had. `links` shows its links then, and `nodes` none.
+    ///
+    /// The segments have to be arranged, as `is_arranged` tests; their counts need not balance. The solver's strategy
+    /// does not change the answer.
+    ///
+    /// Returns `Fault::CountOutOfRange` where a winding above a segment leaves the range, and `Fault::Memory` where a
+    /// growth is refused. The links are none then, the lists may have anything, and the builder can be used again.
+    pub fn build_boolean_lists(
+        &mut self,
+        fill_rule: FillRule,
+        solver: &Solver,
+        segments: &[Segment<ShapeCountBoolean, I, D>],
+        degrees: &mut Vec<usize>,
+        indexes: &mut Vec<usize>,
+    ) -> Result<(), Fault>
+        requires arranged { IsArranged segments.now }
+        ensures graph { OnOk result (HoldLists I.whole (built_links self.new) degrees.new.items indexes.new.items
+            (graph_by (λ _. true) fill_rule (segments_of segments.now))) }
+        ensures edge_data { OnOk result (map (λ l. l.edge_data) (built_links self.new)
+            ≡ data_by (λ _. true) fill_rule (data_segments_of segments.now)) }
+        ensures in_range { OnOk result (IsFalse (tops_leave_range (segments_of segments.now))) }
+        ensures out_of_range { OnTooLarge result (IsTrue (tops_leave_range (segments_of segments.now))) }
+        ensures no_links { OnErr result (built_links self.new ≡ []) }
+        ensures no_nodes { built_nodes self.new ≡ [] }
+        ensures compared { OnOk result (IsCostOf solver.now segments.now (build_asked self.new)) }
+        ensures same_compared { OnErr result (build_asked self.new ≡ build_asked self.old) }
+    {
+        self.nodes.clear();
+        let built = self.try_build_lists(fill_rule, LinkRule::Every, solver, segments);
+        mem::swap(&mut self.degrees, degrees);
+        mem::swap(&mut self.indexes, indexes);
+        self.finish(&built);
+        built
     }
 
     /// The graph of the segments of an arrangement that the rule keeps: those of whose two sides it says different

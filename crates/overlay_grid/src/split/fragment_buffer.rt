@@ -9,7 +9,7 @@ use crate::split::axis::Axis;
 use crate::split::fragment::Fragment;
 use crate::split::fragment_memory::{FragmentMemory, clear_groups, empty_groups};
 use crate::split::grid_layout::GridLayout;
-use crate::split::reach::count_reached;
+use crate::split::reach::{count_reached, reached_at_most};
 use crate::split::rise::heights_at;
 use overlay_base::segm::fault::Fault;
 use overlay_geometry::geom::point::IntPoint;
@@ -152,6 +152,10 @@ impl<I: OverlayInt> FragmentBuffer<I> {
     {
         self.sort_along(Axis::Y)?;
         if self.is_upward {
+            return Ok(Axis::Y);
+        }
+        if reached_at_most(self.groups(), Axis::Y) <= self.few_looks() {
+            self.is_upward = true;
             return Ok(Axis::Y);
         }
         let upward = count_reached(self.groups(), Axis::Y);

@@ -3,7 +3,6 @@ pub mod Searches
 pub mod ListReads
 pub mod ListOrders
 pub mod ListAnswers
-pub mod ListAsTree
 pub mod Halves
 pub mod LastingRows
 pub mod Cursors

@@ -6,7 +6,6 @@ pub mod NearSides
 pub mod TreeRemovals
 pub mod TreeWays
 pub mod TreeHeights
-pub mod TreeRows
 pub mod ScanReads
 pub mod ScanOrders
 pub mod ScanGrowth

@@ -66,16 +66,6 @@ impl<C: WindingCount, I: OverlayInt> ScanRow<C, I> {
         &self.entries
     }
 
-    /// Drops the segments that do not end right of `x`.
-    pub(crate) fn drop_ended(&mut self, x: I)
-        ensures entries { row_entries self.new ≡ filter (λ e. int_lt (I.whole x) (I.whole e.segment.b.x))
-            (row_entries self.old) }
-        ensures cursor { self.new.has_cursor ≡ false }
-    {
-        self.has_cursor = false;
-        self.entries.retain(|entry| entry.lasts_past(x));
-    }
-
     /// Drops the entries at the end of the row that do not end right of `x`, up to the last one that does.
     pub(crate) fn drop_ended_last(&mut self, x: I)
         ensures keeps { KeepsLasting (I.whole x) (row_sums self.old) (row_sums self.new) }

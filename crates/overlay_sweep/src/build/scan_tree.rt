@@ -1,6 +1,5 @@
 // A balanced tree of the live segments. Upstream: `KeyExpTree` of `i_tree`.
 ghost use Rattle.std.specs.Prelude.{◌≡◌, ◌+◌, ◌/◌, ◌≤◌, ◌==◌, ◌&&◌, not};
-ghost use Rattle.overlay_geometry.specs.VSegmentOf.{v_pair_of};
 ghost use Rattle.overlay_sweep.specs.steps.PlaceOf.{IsPlaceInRange, stands_before};
 ghost use Rattle.overlay_sweep.specs.TreeShapes.{none};
 
@@ -52,7 +51,7 @@ impl<C: WindingCount, I: OverlayInt> ScanTree<C, I> {
     ghost use Rattle.std.specs.Prelude.{ℤ, ◌-◌, ◌^◌, ◌<◌, [], ◌∷◌, ◌++◌, true, false, length, IfOk, OnOk, OnErr, IfErr};
     ghost use Rattle.overlay_sweep.specs.EntryOf.{entries_of};
     ghost use Rattle.overlay_sweep.specs.TreeShapes.{MayGoDown, IsStopped, IsPlaced};
-    ghost use Rattle.overlay_sweep.specs.ScanTrees.{segment_at, lasts_past, IsScanRow, IsGrowing, IsGrown, IsAskedWithin};
+    ghost use Rattle.overlay_sweep.specs.ScanTrees.{segment_at, lasts_past, IsGrowing, IsGrown, IsAskedWithin};
     ghost use Rattle.overlay_sweep.specs.LiveOf.{tree_entries, tree_held, IsSoundAt, tree_asked};
 
     /// An empty tree, which takes no memory yet.
@@ -167,44 +166,6 @@ impl<C: WindingCount, I: OverlayInt> ScanTree<C, I> {
         Ok(self.entries.len() - 1)
     }
 
-    /// Adds entries with a node of its own for each of them, which is in no tree yet.
-    fn push_all(&mut self, entries: &[Entry<C, I>]) -> Result<(), Fault>
-        ensures entries { OnOk result (self.new.entries.items ≡ self.old.entries.items ++ entries.now) }
-        ensures nodes { OnOk result (length self.new.shape.nodes.items
-            ≡ length self.old.shape.nodes.items + length entries.now) }
-        ensures fault { IfErr result (λ fault. fault ≡ Fault.Memory) }
-    {
-        for entry in entries {
-            self.push(*entry)?;
-        }
-        Ok(())
-    }
-
-    /// Takes entries that stand from below in place of its own, and asks no order. Where a growth is refused, the tree
-    /// is empty.
-    pub(crate) fn take_over(&mut self, entries: &[Entry<C, I>]) -> Result<(), Fault>
-        ensures entries { OnOk result (tree_entries self.new ≡ entries.now) }
-        ensures kept { OnOk result (tree_held self.new ≡ length entries.now) }
-        ensures time { OnOk result ((x : ℤ) → IsScanRow x (entries_of entries.now) → IsSoundAt x self.new) }
-        ensures fault { IfErr result (λ fault. fault ≡ Fault.Memory) }
-        ensures emptied { OnErr result (tree_entries self.new ≡ []) }
-        ensures none_asked { OnErr result (tree_asked self.new ≡ 0) }
-        ensures cleared { OnErr result ((y : ℤ) → IsSoundAt y self.new) }
-    {
-        self.clear();
-        match self.push_all(entries) {
-            Ok(()) => {
-                self.kept = entries.len();
-                self.root = self.shape.link(0, self.kept);
-                Ok(())
-            }
-            Err(fault) => {
-                self.clear();
-                Err(fault)
-            }
-        }
-    }
-
     /// How many entries the longest way down has.
     pub fn depth(&self) -> usize
         ensures longest { (x : ℤ) (t : IsSoundAt x self.now) → result ≡ t.high }
@@ -215,7 +176,7 @@ impl<C: WindingCount, I: OverlayInt> ScanTree<C, I> {
 }
 
 impl<C: WindingCount, I: OverlayInt> LiveSegments<C, I> for ScanTree<C, I> {
-    ghost use Rattle.std.specs.Prelude.{ℕ, ◌*◌, ◌≤ℤ◌, ◌<ℤ◌, ℤ, suc, ◌-◌, [], ◌∷◌, OnOk, OnErr, IfErr};
+    ghost use Rattle.std.specs.Prelude.{◌≤ℤ◌, ◌<ℤ◌, ℤ, suc, ◌-◌, [], ◌∷◌, OnOk, OnErr, IfErr};
     ghost use Rattle.overlay_sweep.specs.Costs.{IsHighest, IsInsertCost, IsSearchCost};
     ghost use Rattle.overlay_sweep.specs.EntryOf.{summed};
     ghost use Rattle.overlay_geometry.specs.PointOf.{point_of};

@@ -17,7 +17,7 @@ use crate::build::scan_rows::ScanRows;
 use crate::build::visits::sweep_with_handler;
 use crate::build::way::Way;
 use overlay_base::overlay_core::fill_rule::FillRule;
-use overlay_base::overlay_core::solver::Solver;
+use overlay_base::overlay_core::solver::{Solver, Strategy};
 use overlay_base::segm::fault::Fault;
 use overlay_base::segm::segment::Segment;
 use overlay_base::segm::winding::WindingCount;
@@ -54,8 +54,8 @@ impl<C: WindingCount, I: OverlayInt> SweepRunner<C, I> {
     /// one above the segment directly below its start, or 0; the winding above adds the segment's count. Balance is no
     /// condition; with it these windings are those of the columns of the plane. The segments have to be arranged, as
     /// `is_arranged` tests, and the handler has to take each of their indexes. The solver does not change the answer:
-    /// it chooses whether the live segments are kept in one row, or in rows of a few. Over n segments `compared` is at
-    /// most 3 n d. For one row 2 n is at most 2 ^ d; for rows no balanced tree of n entries is higher than d.
+    /// under `List` the live segments are kept in one row, else in rows of a few. Over n segments `compared` is at most
+    /// 3 n d. For one row 2 n is at most 2 ^ d; for rows no balanced tree of n entries is higher than d.
     ///
     /// Returns `Fault::CountOutOfRange` exactly where a winding above a segment that the handler gets leaves the range,
     /// and `Fault::Memory` where a growth is refused. The handler is spent then; the runner can be used again, and its
@@ -78,24 +78,27 @@ impl<C: WindingCount, I: OverlayInt> SweepRunner<C, I> {
     {
         let ways = &mut self.ways;
         let mut compared = 0;
-        let answer = if solver.is_list_fill(segments) {
-            let row = &mut self.row;
-            sweep_with_handler::<C, I, D, F, ScanRow<C, I>, H>(
-                row,
-                ways,
-                segments,
-                handler,
-                &mut compared,
-            )?
-        } else {
-            let rows = &mut self.rows;
-            sweep_with_handler::<C, I, D, F, ScanRows<C, I>, H>(
-                rows,
-                ways,
-                segments,
-                handler,
-                &mut compared,
-            )?
+        let answer = match solver.strategy {
+            Strategy::List => {
+                let row = &mut self.row;
+                sweep_with_handler::<C, I, D, F, ScanRow<C, I>, H>(
+                    row,
+                    ways,
+                    segments,
+                    handler,
+                    &mut compared,
+                )?
+            }
+            Strategy::Tree | Strategy::Frag | Strategy::Auto => {
+                let rows = &mut self.rows;
+                sweep_with_handler::<C, I, D, F, ScanRows<C, I>, H>(
+                    rows,
+                    ways,
+                    segments,
+                    handler,
+                    &mut compared,
+                )?
+            }
         };
         self.compared = compared;
         Ok(answer)

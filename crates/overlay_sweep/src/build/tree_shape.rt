@@ -1,5 +1,5 @@
 // The shape of a balanced tree, whose nodes stand in a `Vec` and are named by index.
-ghost use Rattle.std.specs.Prelude.{◌≡◌, ◌≢◌, ◌<◌, ◌≤◌, ◌+◌, ◌++◌, ◌∷◌, max, length};
+ghost use Rattle.std.specs.Prelude.{◌≡◌, ◌≢◌, ◌<◌, ◌+◌, ◌++◌, ◌∷◌, max, length};
 
 use overlay_base::segm::fault::Fault;
 use std::alloc::Global;
@@ -23,7 +23,7 @@ pub struct TreeShape {
 
 impl TreeShape {
     ghost use Rattle.std.specs.Prelude.{slice_set, slice_index_or, ◌-◌, [], true, OnOk, IfErr};
-    ghost use Rattle.overlay_sweep.specs.TreeShapes.{none, subtree_height, parent_of, MayHaveSides, AreJoinable, IsJoined, IsParent, IsSound, IsFirstRemoved, IsLinked, lone_node, JoinsTrees, RemovesTop};
+    ghost use Rattle.overlay_sweep.specs.TreeShapes.{none, subtree_height, parent_of, MayHaveSides, AreJoinable, IsJoined, IsParent, IsSound, IsFirstRemoved, lone_node, JoinsTrees, RemovesTop};
 
     /// No nodes. This takes no memory yet.
     pub fn new(alloc: Global) -> TreeShape
@@ -185,20 +185,5 @@ impl TreeShape {
         }
         let (next, right) = self.remove_first(node.right);
         self.join(node.left, next, right)
-    }
-
-    /// Links `count` nodes from one index on to a tree in their order, with the middle one as its top. Returns the top.
-    pub fn link(&mut self, from: usize, count: usize) -> usize
-        requires { from + count ≤ length self.old.nodes.items }
-        ensures { IsLinked self.old.nodes.items self.new.nodes.items result from count }
-    {
-        if count == 0 {
-            return NONE;
-        }
-        let half = count / 2;
-        let middle = from + half;
-        let left = self.link(from, half);
-        let right = self.link(middle + 1, count - half - 1);
-        self.join(left, middle, right)
     }
 }

@@ -1,6 +1,5 @@
-use Rattle.std.proofs.Common.{◌≡◌, sym, refl}
-use Rattle.std.proofs.lemmas.List.{length-map}
-use Rattle.overlay_base.specs.SegmentOf.{segment_of, segments_of}
+use Rattle.std.proofs.Common.{◌≡◌, refl}
+use Rattle.overlay_base.specs.SegmentOf.{segments_of}
 use Rattle.overlay_build.specs.OverlayGraphOf.{graph_asked}
 use Rattle.overlay_split.specs.SettingsOf.{passes_of, settings_of}
 use Rattle.overlay_build.specs.GraphOf.{graph_with}
@@ -35,11 +34,11 @@ returns-in-Some-clause-asked g c =
     let set : settings_of g.I.OverlayInt.BITS c.solver-solver.result c.with_snap_limit-splitter.result ≡ split_settings g.I.OverlayInt.BITS c.args.settings =
     rw (c.with_snap_limit-splitter.ensures.limit, c.solver-solver.ensures.precision) refl in
     cost_by_rule g.I.OverlayInt.BITS c.args.settings _ set (segments_of c.args.segments.items) (segments_of c.split_and_build_overlay.new.segments.items) (passes_of c.split_and_build_overlay.new.splitter) c.split_and_build_overlay.result
-    (λ graph. graph_with g.I.OverlayInt.whole graph.links.now) graph_asked c.in-Some.rule _ _ (sym (length-map c.split_and_build_overlay.new.segments.items segment_of)) c.solver-solver.ensures.strategy c.split_and_build_overlay.ensures.overlay c.split_and_build_overlay.ensures.asked
+    (λ graph. graph_with g.I.OverlayInt.whole graph.links.now) graph_asked c.in-Some.rule _ c.solver-solver.ensures.strategy c.split_and_build_overlay.ensures.overlay c.split_and_build_overlay.ensures.asked
 
 pub returns-clause-asked : goal.returns-clause-asked
 returns-clause-asked g c =
     let set : settings_of g.I.OverlayInt.BITS c.solver-solver.result c.with_snap_limit-splitter.result ≡ split_settings g.I.OverlayInt.BITS c.args.settings =
     rw (c.with_snap_limit-splitter.ensures.limit, c.solver-solver.ensures.precision) refl in
     cost_of_all g.I.OverlayInt.BITS c.args.settings _ set (segments_of c.args.segments.items) (segments_of c.build_all.new.segments.items) (passes_of c.build_all.new.splitter) c.build_all.result
-    graph_asked _ _ (sym (length-map c.build_all.new.segments.items segment_of)) c.solver-solver.ensures.strategy c.build_all.ensures.count c.build_all.ensures.arrangement c.build_all.ensures.asked
+    graph_asked _ c.solver-solver.ensures.strategy c.build_all.ensures.count c.build_all.ensures.arrangement c.build_all.ensures.asked

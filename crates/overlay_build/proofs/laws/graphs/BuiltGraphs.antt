@@ -42,10 +42,9 @@ module _ {N I D : Type 0} (indexes : N → List ℕ) (is_canonical : N → Bool)
   pub hold_own_graph : HoldGraph indexes is_canonical whole nodes links (graph_by keeps rule segments) → HoldGraph indexes is_canonical whole nodes links (graph_with whole links)
   hold_own_graph h = subst (HoldGraph indexes is_canonical whole nodes links) (sym (graph_with_kept h)) h
 
-  -- and the graph of links that stand for the kept segments is theirs
-  pub hold_kept_graph : (given : List (OverlayLink I D)) → kept_of whole given ≡ filter (λ f. keeps f.fill) (filled rule segments) →
-      HoldGraph indexes is_canonical whole nodes links (graph_with whole given) → HoldGraph indexes is_canonical whole nodes links (graph_by keeps rule segments)
-  hold_kept_graph given e h = subst (HoldGraph indexes is_canonical whole nodes links) (ap graph_of e ∙ sym (graph_by-is keeps rule segments)) h
+-- and the graph of links that stand for the kept segments is theirs
+pub kept_graph : {I D : Type 0} (whole : I → ℤ) (given : List (OverlayLink I D)) (keeps : ℕ → Bool) (rule : FillRule) (segments : List WholeSegment) → kept_of whole given ≡ filter (λ f. keeps f.fill) (filled rule segments) → graph_with whole given ≡ graph_by keeps rule segments
+kept_graph whole given keeps rule segments e = ap graph_of e ∙ sym (graph_by-is keeps rule segments)
 
 -- an arrangement of polygons with balanced counts has a balanced overlay for each rule
 pub arranged_overlay : (least greatest : ℤ) (rule : Bool → Bool → Bool) (fill_rule : FillRule) (segments : List WholeSegment) → IsTrue (is_arranged least greatest segments) → IsTrue (are_polygons segments) → IsBalanced segments →

@@ -1,6 +1,6 @@
 -- A row of entries of which some have ended: what a search and a call leave of it, by those that last.
-use Rattle.std.proofs.Common.{◌≡◌, ◌≢◌, ap, ap₂, refl, sym, subst, ◌∙◌, arith, inl, inr, Result, Ok, Err, add-one}
-use Rattle.std.specs.Prelude.{ℕ, zero, suc, pos, ◌+◌, ◌-◌, ◌<◌, ◌≤◌, ℤ, ◌≤ℤ◌, ◌<ℤ◌, int_le, int_lt, Bool, true, false, not, cond, OnOk, List, [], ◌∷◌, ◌++◌, map, filter, take, drop, length, slice_set, All}
+use Rattle.std.proofs.Common.{◌≡◌, ◌≢◌, ap, ap₂, refl, sym, subst, ◌∙◌, arith, inl, inr, add-one}
+use Rattle.std.specs.Prelude.{ℕ, zero, suc, pos, ◌+◌, ◌-◌, ◌<◌, ◌≤◌, ℤ, ◌≤ℤ◌, ◌<ℤ◌, int_le, int_lt, Bool, true, false, not, cond, List, [], ◌∷◌, ◌++◌, map, filter, take, drop, length, slice_set, All}
 use Rattle.std.specs.List.{Contains, range_with_len, take-map, drop-map}
 use Rattle.std.specs.Ordering.{is_lt}
 use Rattle.std.proofs.lemmas.Int.{ints}
@@ -15,17 +15,15 @@ use Rattle.overlay_geometry.specs.Points.{Point, turn}
 use Rattle.overlay_geometry.specs.Below.{under_segment_order}
 use Rattle.overlay_geometry.proofs.laws.integers.Tests.{lt-test}
 use Rattle.overlay_geometry.proofs.laws.lists.Lists.{filter-map}
-use Rattle.overlay_sweep.specs.Costs.{IsHighest, IsInsertCost}
 use Rattle.overlay_sweep.specs.Live.{sum_below, AreFreeAt, HoldSameFrom}
 use Rattle.overlay_sweep.specs.TreeShapes.{Has}
 use Rattle.overlay_sweep.specs.ScanTrees.{segment_at, lasts_past, IsFromBelow, IsScanRow}
 use Rattle.overlay_sweep.specs.LivePositions.{IsLivePosition}
 use Rattle.overlay_sweep.specs.steps.Positions.{IsPosition, IsPutIn}
-use Rattle.overlay_sweep.proofs.laws.live.LiveSums.{HoldSameFrom-trans, HoldSameFrom-cons, All-between}
+use Rattle.overlay_sweep.proofs.laws.live.LiveSums.{HoldSameFrom-trans, All-between}
 use Rattle.overlay_sweep.proofs.laws.live.ScanSums.{lasting, HoldSameFrom-lasting}
 use Rattle.overlay_sweep.proofs.laws.list.ListReads.{read_whole}
 use Rattle.overlay_sweep.proofs.laws.list.ListOrders.{from_below_same}
-use Rattle.overlay_sweep.proofs.laws.visits.LookCosts.{pays_for_fewer}
 use Rattle.overlay_sweep.proofs.laws.list.ListAnswers.{row_kept, row_placed, placed_sums, default_found, last_found}
 
 abbrev pub lasting_of : ℤ → List WholeSegment → List WholeSegment
@@ -275,17 +273,6 @@ module _ (x : ℤ) (os ks : List WholeSegment) (kept : lasting_of x ks ≡ lasti
           begun = All-between (λ s. s.pair.a.x ≤ℤ x) e (take at ks) (drop (suc at) ks) begins (all_without (λ s. s.pair.a.x ≤ℤ x) ks at begun);
           from_below = from_below_whole x over (row_kept x (take at ks ++ e ∷ drop at ks) (lasting_of x over) over_lasting row).from_below;
         }
-
--- ---- an insert after others were dropped
-
-module _ {T E : Type 0} (x : ℤ) (news mids olds : List WholeSegment) (s : WholeSegment) where
-  pub then_sums : (r : Result T E) → HoldSameFrom x mids olds → OnOk r (HoldSameFrom x news (s ∷ mids)) → OnOk r (HoldSameFrom x news (s ∷ olds))
-  then_sums (Ok v) f h = HoldSameFrom-trans x news (s ∷ mids) (s ∷ olds) h (HoldSameFrom-cons x s mids olds f)
-  then_sums (Err e) f h = h
-
-pub then_pays : {T E : Type 0} (r : Result T E) (asked held left was : ℕ) → left ≤ was → OnOk r (IsInsertCost IsHighest left held asked) → OnOk r (IsInsertCost IsHighest was held asked)
-then_pays (Ok v) asked held left was fewer h = λ n d within high. pays_for_fewer asked held left was d fewer (h n d (omega (arith, fewer, within)) high)
-then_pays (Err e) asked held left was fewer h = h
 
 -- ---- an entry put in, or in place of one that has ended
 

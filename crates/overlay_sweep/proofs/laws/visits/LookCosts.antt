@@ -60,12 +60,6 @@ search_pays asked now was d few fewer = omega (arith, few, mul-le-mul_right d fe
 pub pays_for_one : (asked kept now was d : ℕ) → now ≤ suc kept → asked + kept * d ≤ suc was * d → asked + now * d ≤ suc (suc was) * d
 pays_for_one asked kept now was d more h = omega (arith, h, mul-le-mul_right d more, suc-mul kept d, suc-mul (suc was) d)
 
--- what fewer entries pay, more do
-pub pays_for_fewer : (asked now left was d : ℕ) → left ≤ was → asked + now * d ≤ suc (suc left) * d → asked + now * d ≤ suc (suc was) * d
-pays_for_fewer asked now left was d fewer h =
-    let more : suc (suc left) ≤ suc (suc was) = omega (arith, fewer) in
-    omega (arith, h, mul-le-mul_right d more)
-
 -- an entry more
 pub one_more : {X : Type 0} (entry : X) (at : ℕ) (xs ys : List X) (b : Bool) → b ≡ true → ys ≡ (if b then take at xs ++ entry ∷ drop at xs else xs) → length ys ≡ suc (length xs)
 one_more entry at xs ys b t e =

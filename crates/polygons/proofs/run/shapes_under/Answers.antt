@@ -1,11 +1,11 @@
-use Rattle.std.proofs.Common.{◌≡◌, ◌++◌, ◌∙◌, inl, inr, ap, refl, Ok, string_bytes}
+use Rattle.std.proofs.Common.{◌≡◌, ◌++◌, ◌∙◌, inl, inr, ap, Ok, string_bytes}
 use Rattle.overlay_contours.specs.ShapesOf.{shapes_of}
 use Rattle.overlay_contours.specs.Kept.{subject_of, clip_of, rounding_of, passes_of, reach_of}
 use Rattle.overlay_contours.specs.Splittings.{splitting_for}
 use Rattle.overlay_text.proofs.Results.{if_err}
 use Rattle.polygons.specs.ContourText.{shape_lines, report_text}
 use Rattle.polygons.specs.Run.{splitting_by, IsShapesText}
-use Rattle.polygons.proofs.Answering.{splitting_is, refused, reported_shapes}
+use Rattle.polygons.proofs.Answering.{splitting_is, refused, read_stop, reported_shapes}
 use Rattle.polygons.proofs.run.shapes_under.Goals as goal
 
 pub returns-in_err-shapes-clause-stop : goal.returns-in_err-shapes-clause-stop
@@ -39,3 +39,8 @@ returns-clause-text g c =
     let lines_are : string_bytes c.write_shapes.new.text ≡ shape_lines shapes = c.in_ok-write_shapes.ensures ∙ (ap (λ text. text ++ shape_lines (shapes_of whole c.as_slice.result.now)) c.new-text.ensures.bytes ∙ ap (λ items. shape_lines (shapes_of whole items)) c.as_slice.ensures.value) in
     let text_is : string_bytes c.write_report.new.text ≡ shape_lines shapes ++ report_text c.args.choices.has_report passes halves = c.in_ok-write_report.ensures ∙ ap (λ text. text ++ report_text c.args.choices.has_report passes halves) lines_are in
     inl (read.0, read.1, inl (shapes, passes, halves, is_reported, ap Ok text_is))
+
+pub returns-in_err-overlay-clause-stop : goal.returns-in_err-overlay-clause-stop
+returns-in_err-overlay-clause-stop g c =
+    let whole = g.I.OverlayInt.whole in
+    if_err _ _ _ c.from_residual.ensures.1 (read_stop (whole g.I.OverlayInt.MIN_COORD) (whole g.I.OverlayInt.MAX_COORD) c.args.bytes.now (IsShapesText g.I.OverlayInt.BITS c.args.choices c.args.rule) _ c.in_err-overlay.ensures.faulty)

@@ -2,7 +2,7 @@ use Rattle.std.proofs.Common.{◌≡◌, ◌∙◌, ap, sym, subst, refl, length
 use Rattle.std.proofs.lemmas.List.{length-map}
 use Rattle.overlay_base.specs.EdgeData.{without_data}
 use Rattle.overlay_base.specs.SegmentOf.{segment_of, segments_of, data_segment_of, data_segments_of}
-use Rattle.overlay_base.specs.Choices.{list_fills}
+use Rattle.overlay_base.specs.Choices.{in_one_row}
 use Rattle.overlay_sweep.specs.Costs.{IsSweepWithin}
 use Rattle.overlay_sweep.specs.LiveOf.{run_asked}
 use Rattle.overlay_sweep.specs.ChainWindings.{tops_leave_range}
@@ -54,5 +54,5 @@ returns-in_err-run_with_fill_rule-clause-out_of_range g c =
 
 pub returns-clause-compared : goal.returns-clause-compared
 returns-clause-compared g c =
-    let within : ℕ → Type 0 = λ n. IsSweepWithin (list_fills c.args.solver.now.strategy (length c.args.segments.now)) n (run_asked c.run_with_fill_rule.new.self) in
+    let within : ℕ → Type 0 = λ n. IsSweepWithin (in_one_row c.args.solver.now.strategy) n (run_asked c.run_with_fill_rule.new.self) in
     subst within (sym (length-map c.args.segments.now segment_of)) c.in_ok-run_with_fill_rule.ensures.compared

@@ -22,6 +22,9 @@ returns-clause-permutation g c column = IsPermutation-trans _ _ _ (c.sort_along.
 pub returns-then-self-clause-looks : goal.returns-then-self-clause-looks
 returns-then-self-clause-looks g c = upward_within (group_of c.sort_along.new.self) (group_count (grid_of c.sort_along.new.self)) c.in_ok-sort_along.ensures.sorted
 
+pub returns-then-reached_at_most-few_looks-clause-looks : goal.returns-then-reached_at_most-few_looks-clause-looks
+returns-then-reached_at_most-few_looks-clause-looks g c = upward_within (group_of c.sort_along.new.self) (group_count (grid_of c.sort_along.new.self)) c.in_ok-sort_along.ensures.sorted
+
 pub returns-then-upward-few_looks-clause-looks : goal.returns-then-upward-few_looks-clause-looks
 returns-then-upward-few_looks-clause-looks g c = upward_within (group_of c.sort_along.new.self) (group_count (grid_of c.sort_along.new.self)) c.in_ok-sort_along.ensures.sorted
 
@@ -31,9 +34,9 @@ returns-then-count_reached-upward-clause-looks g c =
     let upward = c.sort_along.new.self in
     let across = c.sort_along-2.new.self in
     let counted_up : c.count_reached-upward.result ≡ min (looks_of_groups Y (group_of upward) (group_count (grid_of upward))) (2 ^ 64 - 1) =
-    c.count_reached-upward.ensures ∙ ap₂ (λ (gs : List _) (n : ℕ). min (looks_of_groups Y (group_in whole gs) n) (2 ^ 64 - 1)) c.groups.ensures (ap length c.groups.ensures ∙ upward.columns) in
+    c.count_reached-upward.ensures ∙ ap₂ (λ (gs : List _) (n : ℕ). min (looks_of_groups Y (group_in whole gs) n) (2 ^ 64 - 1)) c.groups-2.ensures (ap length c.groups-2.ensures ∙ upward.columns) in
     let counted_across : c.count_reached.result ≡ min (looks_of_groups X (group_of across) (group_count (grid_of across))) (2 ^ 64 - 1) =
-    c.count_reached.ensures ∙ ap₂ (λ (gs : List _) (n : ℕ). min (looks_of_groups X (group_in whole gs) n) (2 ^ 64 - 1)) c.groups-2.ensures (ap length c.groups-2.ensures ∙ across.columns) in
+    c.count_reached.ensures ∙ ap₂ (λ (gs : List _) (n : ℕ). min (looks_of_groups X (group_in whole gs) n) (2 ^ 64 - 1)) c.groups-3.ensures (ap length c.groups-3.ensures ∙ across.columns) in
     let same : all_twos_in_height (group_of across) (group_count (grid_of across)) ≡ all_twos_in_height (group_of upward) (group_count (grid_of upward)) =
     heights_permuted (group_of upward) (group_of across) (group_count (grid_of across)) c.sort_along-2.ensures.permutation ∙ ap (λ l. all_twos_in_height (group_of upward) (group_count l)) c.sort_along-2.ensures.layout in
     let within = upward_within (group_of upward) (group_count (grid_of upward)) c.in_ok-sort_along.ensures.sorted in
