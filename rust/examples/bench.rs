@@ -1,7 +1,7 @@
 //! Times overlays of random short segments in this process, the least of nine calls, and their parts. Given a file's
 //! name, writes the segments there as the program `arrange` reads them.
 
-use i_overlay_core::{FillRule, IntPoint, Overlay, OverlayRule, Segment, ShapeType, Solver};
+use i_overlay_core::{FillRule, FloatOverlay, IntPoint, Overlay, OverlayRule, Segment, ShapeType, Solver};
 use std::fmt::Write;
 use std::fs;
 use std::time::{Duration, Instant};
@@ -59,6 +59,26 @@ fn main() {
         });
         println!("{rule:?}: {links} links, {graph:?} with kept buffers, {fresh:?} with new ones");
     }
+    time_polygons(below);
+}
+
+/// Times the union of 12,500 squares in whole numbers and in floats.
+fn time_polygons(mut below: impl FnMut(u64) -> i32) {
+    let mut square = |_| {
+        let (x, y, side) = (below(10_000), below(10_000), 1 + below(100));
+        [[x, y], [x + side, y], [x + side, y + side], [x, y + side]]
+    };
+    let corners: Vec<[[i32; 2]; 4]> = (0..12_500).map(&mut square).collect();
+    let whole: Vec<[IntPoint; 4]> = corners.iter().map(|square| square.map(IntPoint::from)).collect();
+    let floats: Vec<[[f64; 2]; 4]> = corners.iter().map(|square| square.map(|at| at.map(f64::from))).collect();
+    let (union, fill) = (OverlayRule::Union, FillRule::NonZero);
+    let in_whole_numbers = least(|| {
+        Overlay::with_contours(&whole, &[]).expect("contours").overlay(union, fill).expect("an overlay");
+    });
+    let in_floats = least(|| {
+        FloatOverlay::with_contours(&floats, &[]).expect("contours").overlay(union, fill).expect("an overlay");
+    });
+    println!("union of 50,000 edges {in_whole_numbers:?}, in floats {in_floats:?}");
 }
 
 /// The segments as the program `arrange` reads them.

@@ -91,7 +91,7 @@ fn explain_word(text: &mut String, word: &str) -> Result<(), AllocError> {
     text.push_str(" is no setting of `polygons`")?;
     let names = ["rule", "fill", "engine", "strategy", "precision", "format"];
     if let Some(near) = nearest(name, &names) {
-        write!(text, "; may be {near}={value} is meant")?;
+        write!(text, "; did you mean {near}={value}?")?;
     }
     Ok(())
 }
@@ -111,7 +111,7 @@ fn explain_lone_word(text: &mut String, word: &str) -> Result<(), AllocError> {
     let (_, rules) = SETTINGS[0];
     text.push_str(" is no word of `polygons`")?;
     match nearest(word, rules) {
-        Some(near) => write!(text, "; may be rule={near} is meant"),
+        Some(near) => write!(text, "; did you mean rule={near}?"),
         None => text.push_str("; `polygons help` lists all"),
     }
 }
@@ -119,7 +119,7 @@ fn explain_lone_word(text: &mut String, word: &str) -> Result<(), AllocError> {
 /// The value that may be meant, or all of them.
 fn suggest(text: &mut String, name: &str, value: &str, values: &[&str]) -> Result<(), AllocError> {
     if let Some(near) = nearest(value, values) {
-        return write!(text, "; may be {name}={near} is meant");
+        return write!(text, "; did you mean {name}={near}?");
     }
     text.push_str("; it may be")?;
     for known in values {

@@ -120,11 +120,11 @@ const WRONG_WORDS: [(&str, &str); 14] = [
     ),
     (
         "rule=Union",
-        "`rule=Union` is no rule that `polygons` knows; may be rule=union is meant\n",
+        "`rule=Union` is no rule that `polygons` knows; did you mean rule=union?\n",
     ),
     (
         "rule=intersection",
-        "`rule=intersection` is no rule that `polygons` knows; may be rule=intersect is meant\n",
+        "`rule=intersection` is no rule that `polygons` knows; did you mean rule=intersect?\n",
     ),
     (
         "engine=i64|rule=union",
@@ -133,15 +133,15 @@ const WRONG_WORDS: [(&str, &str); 14] = [
     ("rule|union", "`rule` needs a value: rule=union\n"),
     (
         "intersection",
-        "`intersection` is no word of `polygons`; may be rule=intersect is meant\n",
+        "`intersection` is no word of `polygons`; did you mean rule=intersect?\n",
     ),
     (
         "--rule=union",
-        "`--rule=union` is no setting of `polygons`; may be rule=union is meant\n",
+        "`--rule=union` is no setting of `polygons`; did you mean rule=union?\n",
     ),
     (
         "rule=union|fill=even-odd",
-        "`fill=even-odd` is no fill that `polygons` knows; may be fill=evenodd is meant\n",
+        "`fill=even-odd` is no fill that `polygons` knows; did you mean fill=evenodd?\n",
     ),
     (
         "rule=union|rule=xor",
@@ -149,7 +149,7 @@ const WRONG_WORDS: [(&str, &str); 14] = [
     ),
     (
         "rule=union|form=wkt",
-        "`form=wkt` is no setting of `polygons`; may be format=wkt is meant\n",
+        "`form=wkt` is no setting of `polygons`; did you mean format=wkt?\n",
     ),
 ];
 
