@@ -83,6 +83,15 @@ pub enum Error {
         /// Its first coordinate out of range.
         fault: RangeFault,
     },
+    /// A point of a line lies out of range. It is the first such one.
+    Line {
+        /// The index of the line.
+        line: usize,
+        /// The index of the point in the line.
+        point: usize,
+        /// Its first coordinate out of range.
+        fault: RangeFault,
+    },
     /// The segment at this index may not be split. It is the first such one.
     Segment {
         /// Its index in the given list.
@@ -137,6 +146,7 @@ impl fmt::Display for Error {
             Error::Point { shape_type, contour, point, fault } => {
                 write!(f, "contour {contour} of the {shape_type}, point {point}: {fault}")
             }
+            Error::Line { line, point, fault } => write!(f, "line {line}, point {point}: {fault}"),
             Error::Segment { index, fault } => write!(f, "segment {index}: {fault}"),
         }
     }
@@ -152,8 +162,12 @@ impl std::error::Error for Error {}
 
 /// The error of the first point of a contour that is out of range, if one is.
 pub(crate) fn point_error(points: &[IntPoint], shape_type: ShapeType, contour: usize) -> Option<Error> {
-    let mut faults = points.iter().enumerate().filter_map(|(point, &at)| Some((point, range_fault(at, Engine::I32)?)));
-    faults.next().map(|(point, fault)| Error::Point { shape_type, contour, point, fault })
+    range_error(points, Engine::I32).map(|(point, fault)| Error::Point { shape_type, contour, point, fault })
+}
+
+/// The index of the first point that is out of range, and what is wrong with it, if one is.
+pub(crate) fn range_error(points: &[IntPoint], engine: Engine) -> Option<(usize, RangeFault)> {
+    points.iter().enumerate().find_map(|(point, &at)| Some((point, range_fault(at, engine)?)))
 }
 
 /// The first coordinate of a point that is out of range, if one is.

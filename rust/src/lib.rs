@@ -5,6 +5,7 @@
 #[allow(unsafe_code)]
 mod ffi;
 
+mod clip;
 mod cross;
 mod error;
 mod float;

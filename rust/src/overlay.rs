@@ -33,7 +33,7 @@ pub struct Change {
 pub struct Overlay {
     engine: ffi::Engine,
     /// What segments are split with.
-    width: Engine,
+    pub(crate) width: Engine,
     /// How overlays of contours round crossings.
     rounding: Rounding,
     /// How many contours of the subject and of the clip were added.
