@@ -3,25 +3,23 @@
 
     python3 tools/check_docs.py
 
-PROMISES names each edit of `must-fail/`, beside it a function that it changes, and in its last column only tests; ARCHITECTURE names
-each source file; DEFINITIONS names files and definitions of `specs/` that are there. Each lemma module and each file of `specs/`
-begins with a comment. A link of a document leads to a file. No contract of a public function of `i_overlay` or `overlay_contours`
-names a definition of `specs/steps`.
+ARCHITECTURE names each source file; DEFINITIONS names files and definitions of `specs/` that are there. Each edit of `must-fail/` names
+functions that have to refuse it, with clauses of their contracts, and it changes one of them. Each lemma module and each file of
+`specs/` begins with a comment. A link of a document leads to a file. No contract of a public function of `i_overlay` or
+`overlay_contours` names a definition of `specs/steps`.
 """
 import os
-import pathlib
 import re
 import sys
 
 sys.dont_write_bytecode = True
 import index_definitions  # noqa: E402  (beside this file)
 import index_lemmas  # noqa: E402
-import must_fail  # noqa: E402
+import promises  # noqa: E402
 
 ROOT = os.path.dirname(os.path.dirname(os.path.abspath(__file__)))
 # files that every crate has
 COMMON = {"Lib", "lib", "main", "tests"}
-CELLS_OF_A_PROMISE = 5
 CELLS_OF_A_TERM = 3
 # folders of what is made
 MADE = {".git", "out", "target", "__pycache__"}
@@ -61,16 +59,6 @@ def rows(text):
     return [[cell.strip() for cell in line.strip("|").split(" | ")] for line in text.splitlines() if line.startswith("| ")]
 
 
-def tests_that_are_gone(files):
-    """The tests that PROMISES names in its last column, and no file has."""
-    functions = {it for file in files if re.search(r"\.(rt|rs)$", file) for it in re.findall(r"\bfn (\w+)", read(file))}
-    crates = {it.split("/")[1] for it in files if it.startswith("crates/")}
-    known = functions | crates | {stem(it) for it in files if it.endswith(".rs")}
-    cells = [cells[-1] for cells in rows(read("docs/PROMISES.md")) if len(cells) == CELLS_OF_A_PROMISE]
-    named = {it for cell in cells for it in re.findall(r"`(\w+)`", cell) if "_" in it}
-    return [f"docs/PROMISES.md names a test {it} that is not there" for it in sorted(named - known)]
-
-
 def dead_links(files):
     """The links of documents that lead to no file."""
     found = []
@@ -87,18 +75,6 @@ def exported_modules():
     return {word for item in re.findall(r"^ *pub use ([^;]*);", text, re.M) for word in re.findall(r"\b[a-z]\w*", item)}
 
 
-def contracts(text):
-    """The contracts of the public functions of a file, and of those of its public traits: from the name up to the body."""
-    lines, is_trait = text.split("\n"), False
-    for at, line in enumerate(lines):
-        if re.match(r"\S", line):
-            is_trait = bool(re.match(r"pub trait\b", line)) or (is_trait and line.startswith("where"))
-        if re.match(r" *pub (const )?fn\b" if not is_trait else r" *(pub )?(const )?fn\b", line):
-            last = r"( *\{\}?| *\).*\{|.*;)$"
-            end = at if re.search(r"[{};]$", line) else next(it for it in range(at, len(lines)) if re.match(last, lines[it]))
-            yield re.search(r"fn (\w+)", line)[1], "\n".join(lines[at : end + 1])
-
-
 def steps_in_public(files):
     """The words of `specs/steps` in contracts of public functions of `i_overlay` and `overlay_contours`."""
     exported, found = exported_modules(), []
@@ -108,8 +84,9 @@ def steps_in_public(files):
             text = read(file)
             imports = re.findall(r"ghost use Rattle\.\w+\.specs\.steps\.[\w.]*\{([^}]*)\}", text)
             steps = {it.split(" as ")[-1].strip() for names in imports for it in names.split(",")}
-            for name, contract in contracts(text):
-                found += [f"{file}: the contract of {name} rests on {it}, a step" for it in sorted(steps & set(re.findall(r"\w+", contract)))]
+            for function in filter(lambda it: it.is_public, promises.functions_of(text)):
+                rests_on = sorted(steps & set(re.findall(r"\w+", function.contract)))
+                found += [f"{file}: the contract of {function.name} rests on {it}, a step" for it in rests_on]
     return found
 
 
@@ -137,27 +114,30 @@ def terms_that_are_gone(specs):
     ]
 
 
-def edits_of_other_functions(files):
-    """The edits that change no function which PROMISES names beside them: nothing could refuse them."""
-    promises, found = must_fail.promised(), []
-    for file in files:
-        if re.fullmatch(r"crates/\w+/must-fail/\w+\.edit", file):
-            edit = must_fail.Edit(file.split("/")[1], pathlib.Path(ROOT, file), promises)
-            if not edit.is_alone and not edit.named & {name for _, name in edit.functions}:
-                found.append(f"PROMISES names no function beside {edit.name} that this changes")
+def faults_of_edits():
+    """The edits that name nothing which refuses them, no function that they change, or a clause that its contract has not."""
+    sources, found = promises.Sources(), []
+    for edit in sources.edits:
+        name, changed = f"{edit.crate}/must-fail/{edit.name}.edit", sources.changed_by(edit)
+        found += [f"{name} has no line `# refused by FUNCTION: CLAUSE`"] * (not edit.refused_by)
+        for function, clauses in edit.refused_by.items():
+            named = [it for it in sources.functions if it.crate == edit.crate and function in it.names() and (it.file, it.number) in changed]
+            known = sources.clauses_of(named)
+            found += [f"{name} changes no function {function}"] * (not named)
+            # the clauses of traits of std are not in this repository
+            unknown = [it for it in clauses if it not in known and not it.startswith("requires of ")] if known else []
+            found += [f"{name} names a clause {it} that {function} has not" for it in unknown]
     return found
 
 
 def main():
     files = present()
     found = [
-        *left_out(files, r"crates/\w+/must-fail/\w+\.edit", "docs/PROMISES.md"),
         *left_out(files, r"crates/\w+(?<!_tests)/src/(\w+/)*\w+(?<!_tests)\.rt", "docs/ARCHITECTURE.md"),
         *lemmas_without_comment(),
         *terms_that_are_gone(index_definitions.index()),
-        *tests_that_are_gone(files),
         *dead_links(files),
-        *edits_of_other_functions(files),
+        *faults_of_edits(),
         *steps_in_public(files),
     ]
     print(*found, sep="\n", end="\n" * bool(found))

@@ -9,7 +9,7 @@ so is an edit of a constant. The libraries below a crate are those that `rt ci` 
 FOLDER/CRATE/*.edit.
 
 Prints the first open goal for each edit, and last `N of M edits refused`. An edit is refused by a goal of a function that it changes
-and that docs/PROMISES.md names beside it, under "Refused by". A proof that names what the edit took away does not count.
+and that one of its lines `# refused by FUNCTION: CLAUSE, ..` names. A proof that names what the edit took away does not count.
 """
 import argparse
 import os
@@ -28,6 +28,7 @@ import run  # noqa: E402  (beside this file)
 TOP = pathlib.Path(run.ROOT)
 FUNCTION = re.compile(r"\s*(?:pub(?:\(\w+\))? )?(?:const )?(?:unsafe )?(?:extern \"C\" )?fn (\w+)")
 IMPL = re.compile(r"impl(?:<.*?>+)? (?:(?:\w+::)*(\w+)(?:<(\w\w+)?.*>)? for )?(\w+)|(?:pub )?trait (\w+)")
+REFUSED_BY = re.compile(r"^# refused by ([\w:]+)(?:: (.*))?$", re.M)
 GOAL = re.compile(r"(?:note: )?(?:\./)?(?:proofs/(?P<proof>\S+)/\w+\.antt|(?P<source>src/\S+?)):(?P<line>\d+):\d+:")
 # what a proof says of a name that an edit took away, and what cites that proof
 OF_NAMES = re.compile(r"(?:note: )?(?:\./)?proofs/.*(?:has no field|is not in scope|has no `|was not admitted|was rejected)")
@@ -58,13 +59,15 @@ def source(crate, file):
 class Edit:
     """A wrong body: which lines it changes, in which functions, and which functions have to be refused for it."""
 
-    def __init__(self, crate, path, promises):
+    def __init__(self, crate, path):
         self.crate, self.name = crate, path.stem
-        self.named = promises.get(self.name, set())
+        # the functions that have to refuse it, each with the clauses that it breaks
+        self.refused_by = {name: re.findall(r"\w[\w ]*", said) for name, said in REFUSED_BY.findall(path.read_text(encoding="utf-8"))}
+        self.named = {name.split("::")[-1] for name in self.refused_by}
         self.is_alone = False
         # by module and name, and by the name that the prover takes, with the module beside it
         self.functions, self.paths = set(), {}
-        self.refused_by = self.said = None
+        self.goal = self.said = None
         self.lines = self.changed_lines(path)
 
     def steps(self, path):
@@ -112,20 +115,8 @@ class Edit:
     def try_goals(self, goals):
         """Keeps the first goal of these that refuses it, if any does."""
         for goal, function in goals:
-            if not self.refused_by and function[1] in self.named and (self.is_alone or function in self.functions):
-                self.refused_by = f"{function[1]}: {goal[:120]}"
-
-
-def promised():
-    """Returns for each edit the functions that PROMISES names beside it, in the column "Refused by"."""
-    words = {}
-    for row in (TOP / "docs/PROMISES.md").read_text(encoding="utf-8").split("\n"):
-        cells = [cell.strip() for cell in re.split(r"(?<!\\)\|", row)]
-        if len(cells) > 5:
-            refused_by = {part for word in re.findall(r"`([^`]+)`", cells[4]) for part in word.split("::")}
-            for edit in re.findall(r"`(\w+)`", cells[3]):
-                words.setdefault(edit, set()).update(refused_by)
-    return words
+            if not self.goal and function[1] in self.named and (self.is_alone or function in self.functions):
+                self.goal = f"{function[1]}: {goal[:120]}"
 
 
 def rounds_of(edits):
@@ -155,7 +146,7 @@ class Trial:
         seen = [(goal, self.function_of(goal, texts)) for goal in goals if not OF_NAMES.match(goal)]
         for edit in edits:
             edit.try_goals(seen)
-            if len(edits) == 1 and not edit.refused_by:
+            if len(edits) == 1 and not edit.goal:
                 edit.said = "\n".join(said.split("\n")[-8:])
 
     def copy_with(self, edits, room):
@@ -205,13 +196,12 @@ def are_built(crate):
 
 def edits_by_crate(folder, names):
     """Returns the edits of each crate, of those that are named, or of all."""
-    promises = promised()
     paths = sorted(pathlib.Path(folder).glob("*/*.edit") if folder else TOP.glob("crates/*/must-fail/*.edit"))
     found = {}
     for path in paths:
         crate = path.parts[-2] if folder else path.parts[-3]
         if not names or crate in names or f"{crate}/{path.stem}" in names:
-            found.setdefault(crate, []).append(Edit(crate, path, promises))
+            found.setdefault(crate, []).append(Edit(crate, path))
     return found
 
 
@@ -228,11 +218,11 @@ def try_all(trials, start):
     def try_one(trial, edits):
         begun = time.time()
         trial.try_round(edits)
-        seen = [edit for edit in edits if edit.refused_by]
+        seen = [edit for edit in edits if edit.goal]
         took = time.time() - begun
         print(f"{time.time() - start:5.0f} s: {trial.crate.name}: {len(seen)} of {len(edits)} edits refused in {took:.0f} s", flush=True)
         if len(edits) > 1:
-            tasks.extend(lanes.submit(try_one, trial, [edit]) for edit in edits if not edit.refused_by)
+            tasks.extend(lanes.submit(try_one, trial, [edit]) for edit in edits if not edit.goal)
 
     with ThreadPoolExecutor(run.processors()) as lanes:
         rounds.sort(key=lambda it: -seconds_of(*it))
@@ -244,10 +234,10 @@ def try_all(trials, start):
 
 def print_verdict(edit):
     """Prints what came of an edit."""
-    if edit.refused_by:
-        print(f"{edit.crate}/{edit.name}: refused by {edit.refused_by}")
+    if edit.goal:
+        print(f"{edit.crate}/{edit.name}: refused by {edit.goal}")
     else:
-        print(f"{edit.crate}/{edit.name}: NOT REFUSED by {', '.join(sorted(edit.named)) or 'anything that PROMISES names'}: {edit.said}")
+        print(f"{edit.crate}/{edit.name}: NOT REFUSED by {', '.join(sorted(edit.named)) or 'any function, since it names none'}: {edit.said}")
 
 
 def main():
@@ -268,7 +258,7 @@ def main():
     every = [edit for found in edits.values() for edit in found]
     for edit in every:
         print_verdict(edit)
-    refused = sum(1 for edit in every if edit.refused_by)
+    refused = sum(1 for edit in every if edit.goal)
     print(f"{refused} of {len(every)} edits refused")
     sys.exit(refused != len(every))
 
