@@ -3,11 +3,12 @@
 
     python3 tools/check_docs.py
 
-ARCHITECTURE names each source file; DEFINITIONS names files and definitions of `specs/` that are there. Each edit of `must-fail/` names
-functions that have to refuse it, with clauses of their contracts, and it changes one of them. Each lemma module and each file of
-`specs/` begins with a comment. A link of a document leads to a file. No contract of a public function of `i_overlay` or
-`overlay_contours` names a definition of `specs/steps`.
+ARCHITECTURE names each source file; THEOREMS lists the files of `specs/` on which its theorems rest, in reading order, and counts
+right. Each edit of `must-fail/` names functions that have to refuse it, with clauses of their contracts, and it changes one of them.
+Each lemma module and each file of `specs/` begins with a comment. A link of a document leads to a file. No contract of a public
+function of `i_overlay` or `overlay_contours` names a definition of `specs/steps`.
 """
+import itertools
 import os
 import re
 import sys
@@ -20,7 +21,8 @@ import promises  # noqa: E402
 ROOT = os.path.dirname(os.path.dirname(os.path.abspath(__file__)))
 # files that every crate has
 COMMON = {"Lib", "lib", "main", "tests"}
-CELLS_OF_A_TERM = 3
+CELLS_OF_A_FILE = 3
+THEOREMS = "docs/THEOREMS.md"
 # folders of what is made
 MADE = {".git", "out", "target", "__pycache__"}
 
@@ -56,7 +58,7 @@ def left_out(files, pattern, document):
 
 def rows(text):
     """The cells of the rows of tables."""
-    return [[cell.strip() for cell in line.strip("|").split(" | ")] for line in text.splitlines() if line.startswith("| ")]
+    return [[cell.strip() for cell in re.split(r"(?<!\\)\|", line.strip())[1:-1]] for line in text.splitlines() if line.startswith("| ")]
 
 
 def dead_links(files):
@@ -94,24 +96,24 @@ def lemmas_without_comment():
     return [f"the lemma module {name} of {crate} has no comment" for crate, _, name, said in index_lemmas.index() if not said]
 
 
-def terms_that_are_gone(specs):
-    """What DEFINITIONS names in its column of files, and `specs` has not; and files of these without a comment."""
-    known = set()
-    for (crate, file), (definitions, _, _) in specs.items():
-        known |= {file, f"{crate}/specs/{file}", *(it.name for it in definitions)}
-    cells = [cells[-1] for cells in rows(read("docs/DEFINITIONS.md")) if len(cells) == CELLS_OF_A_TERM]
-    named = {name for cell in cells for name in re.findall(r"`([^`]+)`", cell)}
-    counted = []
-    for cells in rows(read("docs/DEFINITIONS.md")):
-        if said := re.fullmatch(r"(\d+), in (\d+) files", cells[-1]):
-            below = index_definitions.below(specs, re.findall(r"`([^`]+)`", cells[1])[:1])
-            found = len(below), len({it[:2] for it in below})
-            counted += [f"docs/DEFINITIONS.md counts wrong below {cells[1]}: {found}"] * (found != (int(said[1]), int(said[2])))
-    return [
-        *counted,
-        *[f"docs/DEFINITIONS.md names {it}, which is not in specs" for it in sorted(named - known)],
-        *[f"the file {file} of the specs of {crate} has no comment" for (crate, file), (_, _, said) in specs.items() if not said],
-    ]
+def faults_of_reading_order(specs):
+    """Where THEOREMS counts definitions wrong, or its list of files is not that of those on which its theorems rest, in their order."""
+    found, reached = [], {}
+    for theorem, definition, count in (cells for cells in rows(read(THEOREMS)) if len(cells) == CELLS_OF_A_FILE):
+        if said := re.fullmatch(r"(\d+), in (\d+) files", count):
+            below = index_definitions.below(specs, re.findall(r"`([^`]+)`", definition)[:1])
+            files = reached[theorem.split(",")[0]] = {it[:2] for it in below}
+            if (len(below), len(files)) != (int(said[1]), int(said[2])):
+                found.append(f"{THEOREMS} counts wrong below {definition}: {len(below)}, in {len(files)} files")
+    due = []
+    for crate, file in specs:
+        names = [theorem for theorem, files in reached.items() if (crate, file) in files]
+        due += [(f"`{crate.removeprefix('overlay_')}/{file}`", " ".join(names))] * bool(names)
+    listed = [(file, theorems) for file, theorems, _ in (it for it in rows(read(THEOREMS)) if len(it) == CELLS_OF_A_FILE) if "/" in file]
+    found += [f"{THEOREMS} leaves out {' '.join(it)}" for it in due if it not in listed]
+    wrong = [it for it, wanted in itertools.zip_longest(listed, due) if it and it != wanted]
+    found += [f"{THEOREMS} lists {' '.join(it)} where another file is due, or none" for it in wrong[:1]]
+    return [*found, *[f"the file {file} of the specs of {crate} has no comment" for (crate, file), (_, _, said) in specs.items() if not said]]
 
 
 def faults_of_edits():
@@ -135,7 +137,7 @@ def main():
     found = [
         *left_out(files, r"crates/\w+(?<!_tests)/src/(\w+/)*\w+(?<!_tests)\.rt", "docs/ARCHITECTURE.md"),
         *lemmas_without_comment(),
-        *terms_that_are_gone(index_definitions.index()),
+        *faults_of_reading_order(index_definitions.index()),
         *dead_links(files),
         *faults_of_edits(),
         *steps_in_public(files),

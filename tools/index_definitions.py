@@ -4,9 +4,11 @@
     python3 tools/index_definitions.py [WORD ..]
     python3 tools/index_definitions.py --below NAME ..
 
-Each comes after what it speaks of. With words, only the definitions whose crate, file, name or comment has each of them. With `--below`,
-the named definitions and all that they rest on: what a reader has to believe of a clause that names them. Types of the code are no part
-of either, and files of `specs/steps` are marked: no public contract rests on them. `tools/check_docs.py` fails where a file has no comment.
+Each comes after what it rests on, below the name of its file and the comment at the head of that file. Without words, all of them: this is
+the order in which to read `specs`. With words, only the definitions whose crate, file, name or comment has each of them. With `--below`,
+the named definitions and all that they rest on: what a reader has to believe of a clause that names them. Types of the code are left
+out. No public contract of `i_overlay` or `overlay_contours` rests on a file of `specs/steps`. `tools/check_docs.py` fails where a file has
+no comment, and where docs/THEOREMS.md lists other files below its theorems.
 """
 import glob
 import os
