@@ -3,8 +3,8 @@
 
     python3 tools/check_docs.py
 
-ARCHITECTURE names each source file; THEOREMS lists the files of `specs/` on which its theorems rest, in reading order, and counts
-right. Each edit of `must-fail/` names functions that have to refuse it, with clauses of their contracts, and it changes one of them.
+ARCHITECTURE names each source file; THEOREMS lists the files of `specs/` on which its theorems rest, in reading order, counts
+right, and quotes what is there. Each edit of `must-fail/` names functions that have to refuse it, with clauses of their contracts, and it changes one of them.
 Each lemma module and each file of `specs/` begins with a comment. A link of a document leads to a file. No contract of a public
 function of `i_overlay` or `overlay_contours` names a definition of `specs/steps`.
 """
@@ -108,12 +108,23 @@ def faults_of_reading_order(specs):
     due = []
     for crate, file in specs:
         names = [theorem for theorem, files in reached.items() if (crate, file) in files]
-        due += [(f"`{crate.removeprefix('overlay_')}/{file}`", " ".join(names))] * bool(names)
+        due += [(f"`{crate.removeprefix('overlay_')}/{file}`", "".join(names))] * bool(names)
     listed = [(file, theorems) for file, theorems, _ in (it for it in rows(read(THEOREMS)) if len(it) == CELLS_OF_A_FILE) if "/" in file]
     found += [f"{THEOREMS} leaves out {' '.join(it)}" for it in due if it not in listed]
     wrong = [it for it, wanted in itertools.zip_longest(listed, due) if it and it != wanted]
     found += [f"{THEOREMS} lists {' '.join(it)} where another file is due, or none" for it in wrong[:1]]
     return [*found, *[f"the file {file} of the specs of {crate} has no comment" for (crate, file), (_, _, said) in specs.items() if not said]]
+
+
+def faults_of_quotes(files):
+    """The indented parts of THEOREMS, between lines `..`, that no file of `specs` has: comments and line breaks aside."""
+    def plain(text):
+        return " ".join(re.sub(r"^ *--.*$", "", text, flags=re.M).split())
+
+    known = [plain(read(it)) for it in files if re.fullmatch(r"crates/\w+/specs/(\w+/)*\w+\.antt", it)]
+    quotes = re.findall(r"(?:^ {4}.*\n|^\n(?= {4}))+", read(THEOREMS), re.M)
+    parts = [it for quote in quotes for it in re.split(r"^ *\.\.\n|\n\n", quote, flags=re.M) if it.strip() and "python3" not in it]
+    return [f"{THEOREMS} quotes what no file of specs has: {plain(it)[:80]}" for it in parts if not any(plain(it) in text for text in known)]
 
 
 def faults_of_edits():
@@ -138,6 +149,7 @@ def main():
         *left_out(files, r"crates/\w+(?<!_tests)/src/(\w+/)*\w+(?<!_tests)\.rt", "docs/ARCHITECTURE.md"),
         *lemmas_without_comment(),
         *faults_of_reading_order(index_definitions.index()),
+        *faults_of_quotes(files),
         *dead_links(files),
         *faults_of_edits(),
         *steps_in_public(files),
