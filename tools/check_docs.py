@@ -3,10 +3,11 @@
 
     python3 tools/check_docs.py
 
-ARCHITECTURE names each source file; THEOREMS lists the files of `specs/` on which its theorems rest, in reading order, counts
-right, and quotes what is there. Each edit of `must-fail/` names functions that have to refuse it, with clauses of their contracts, and it changes one of them.
-Each lemma module and each file of `specs/` begins with a comment. A link of a document leads to a file. No contract of a public
-function of `i_overlay` or `overlay_contours` names a definition of `specs/steps`.
+ARCHITECTURE names each source file. THEOREMS lists the files of `specs/` on which its theorems rest, in reading order, counts right,
+and quotes what is there. Each edit of `must-fail/` names functions that have to refuse it, with clauses of their contracts, and it
+changes one of them. Each lemma module and each file of `specs/` begins with a comment. A link of a document leads to a file. No
+document uses a word of NOT_SAID. No contract of a public function of `i_overlay` or `overlay_contours` names a definition of
+`specs/steps`.
 """
 import itertools
 import os
@@ -23,6 +24,17 @@ ROOT = os.path.dirname(os.path.dirname(os.path.abspath(__file__)))
 COMMON = {"Lib", "lib", "main", "tests"}
 CELLS_OF_A_FILE = 3
 THEOREMS = "docs/THEOREMS.md"
+# what the documents do not say, and what to say in its place
+NOT_SAID = {
+    r"(evenly|oddly) many": "an even or odd number of",
+    r"(stands?|stood)(?!-| for\b)": "is, are, lie",
+    r"(asks|asked|(?-i:ask))": "compares, calls for, follows from",
+    r"(tells?|told)": "says, returns, reports",
+    r"answer(s|ed)?": "result, returns",
+    r"(?<!to )round(?! (up|down|to nearest)\b)": "around; is rounded",
+    r"(?<!none )(?<!each )(?<!all )(?<!both )(?<!most )(?<!some )of which": "name the noun, then the condition",
+    r"the same,? but": "the function, and the difference",
+}
 # folders of what is made
 MADE = {".git", "out", "target", "__pycache__"}
 
@@ -116,6 +128,24 @@ def faults_of_reading_order(specs):
     return [*found, *[f"the file {file} of the specs of {crate} has no comment" for (crate, file), (_, _, said) in specs.items() if not said]]
 
 
+def prose(path):
+    """The lines of a document with their numbers, without code."""
+    text = re.sub(r"```.*?```", lambda it: "\n" * it[0].count("\n"), read(path), flags=re.S)
+    for number, line in enumerate(text.split("\n"), 1):
+        if not line.startswith("    "):
+            yield number, re.sub(r"`[^`]*`", "", line)
+
+
+def faults_of_words(files):
+    """The lines of documents with a word that has a better one."""
+    found = []
+    for path in (it for it in files if it.endswith(".md")):
+        for number, line in prose(path):
+            for pattern, better in NOT_SAID.items():
+                found += [f"{path}:{number}: {it[0]!r}: {better}" for it in re.finditer(rf"\b{pattern}\b", line, re.I)]
+    return found
+
+
 def faults_of_quotes(files):
     """The indented parts of THEOREMS, between lines `..`, that no file of `specs` has: comments and line breaks aside."""
     def plain(text):
@@ -149,6 +179,7 @@ def main():
         *left_out(files, r"crates/\w+(?<!_tests)/src/(\w+/)*\w+(?<!_tests)\.rt", "docs/ARCHITECTURE.md"),
         *lemmas_without_comment(),
         *faults_of_reading_order(index_definitions.index()),
+        *faults_of_words(files),
         *faults_of_quotes(files),
         *dead_links(files),
         *faults_of_edits(),
