@@ -1,4 +1,4 @@
--- What is needed to print a crossing: conditions of the call, and which answer is an overlap.
+-- What is needed to print a crossing: conditions of the call, and which result is an overlap.
 use Rattle.std.proofs.Common.{◌≡◌, ◌<◌, ◌≤◌, ℤ, Bool, true, ◌&&◌, List, [], ◌∷◌, length, get_or, map, Some, Option, sym, ap, ◌∙◌, arith}
 use Rattle.std.proofs.lemmas.Bool.{and_parts}
 use Rattle.std.specs.Prelude.{IsTrue}
@@ -34,7 +34,7 @@ two_in_range whole least greatest xs x y e splittable =
     pair_part : (s : WholeSegment) → (is_pair_in_range least greatest s.pair && is_valid s.count && is_not_empty s.count) ≡ true → is_pair_in_range least greatest s.pair ≡ true
     pair_part s h = (and_parts (is_pair_in_range least greatest s.pair) (is_valid s.count) (and_parts (is_pair_in_range least greatest s.pair && is_valid s.count) (is_not_empty s.count) h).0).0
 
--- what stands in an answer, as whole numbers
+-- what is in a result, as whole numbers
 pub answered : {I : Type 0} (whole : I → ℤ) (given : Option (CrossResult I)) (place : CrossResult I) (answer : Option CrossAnswer) → given ≡ Some place → answer_of whole given ≡ answer → Some (result_of whole place) ≡ answer
 answered whole given place answer i e = sym (ap (answer_of whole) i) ∙ e
 

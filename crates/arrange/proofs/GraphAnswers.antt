@@ -1,4 +1,4 @@
--- What a graph of the program is, from what the calls that split and build answer.
+-- What a graph of the program is, from what the calls that split and build return.
 use Rattle.std.proofs.Common.{◌≡◌, ◌⊎◌, inl, inr, ℕ, IsTrue, List, Option, Some, refl, sym, ap, ◌∙◌, subst}
 use Rattle.std.specs.Prelude.{IsFalse, IfOk, IfErr, OnOk, Ok, Err}
 use Rattle.std.specs.declared.result.Result.{Result}
@@ -54,14 +54,14 @@ module _ (bits : ℕ) (settings : Settings) (s : RunSettings) (set : s ≡ split
       by (inl leaves) = leave (inl leaves)
       by (inr tops) = leave (inr (passes, tops.0, subst (λ xs. IsTrue (tops_leave_range xs)) tops.1 tops.2))
 
-  -- what the sweep of the graph asks
+  -- what the sweep of the graph compares
   pub cost : (strategy : Strategy) (asked : ℕ) → strategy ≡ settings.strategy → IsPassCount s given passes → segments ≡ after_passes s given passes → IsSweepCost (in_one_row strategy) segments asked → IsGraphCost bits settings given asked
   cost strategy asked t run is h =
       let P : RunSettings → Type 0 = λ r. (passes : ℕ) × IsPassCount r given passes × IsSweepCost (in_one_row settings.strategy) (after_passes r given passes) asked in
       let chosen = subst (λ v. IsSweepCost (in_one_row v) segments asked) t h in
       subst P set (passes, run, subst (λ xs. IsSweepCost (in_one_row settings.strategy) xs asked) is chosen)
 
-  -- ---- the same of what the calls answer
+  -- ---- the same of what the calls return
 
   pub cost_by_rule : {G : Type 0} (r : Result G Fault) (graph_of : G → Graph) (asked_of : G → ℕ) (rule : OverlayRule) (strategy : Strategy) → strategy ≡ settings.strategy → IfOk r (λ g. IsOverlay s settings.fill_rule (holds rule) given segments passes (graph_of g))
       → IfOk r (λ g. IsSweepCost (in_one_row strategy) segments (asked_of g)) → IfOk r (λ g. IsGraphCost bits settings given (asked_of g))

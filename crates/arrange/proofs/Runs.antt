@@ -48,12 +48,12 @@ module _ (least greatest : ℤ) (bits : ℕ) (settings : Settings) (bytes : List
   stops_at_command (Err stop) command segments asked (inl refused) = inl refused
   stops_at_command (Err stop) command segments asked (inr answer) = inr (inl (segments, asked, answer))
 
--- words that ask for no command and no settings ask for no choices
+-- words that choose no command and no settings make no choices
 pub no_choices : {T : Type 0} (words : List (List ℕ)) (r : Result T Stop) → IfErr r (λ stop. (stop ≡ Usage) × AskNothing words) → IfErr r (λ stop. (stop ≡ Usage) × AskForNone arrange_behavior words)
 no_choices words (Ok t) refused = tt
 no_choices words (Err stop) refused = (refused.0, λ choices. refused.1 choices.0 choices.1)
 
--- why there is no answer in the coordinates of an engine, which is the one that was chosen
+-- why there is no result in the coordinates of an engine, which is the one that was chosen
 pub by_engine : {T : Type 0} (choices : Command × Settings) (engine : Engine) (bytes : List ℕ) (r : Result T Stop) → choices.1.engine ≡ engine
     → IfErr r (λ stop. (stop ≡ Refused Memory) ⊎ IsAnswer (least_of engine) (greatest_of engine) (engine_bits engine) choices.0 choices.1 bytes (Err stop))
     → IfErr r (λ stop. (stop ≡ Refused Memory) ⊎ arrange_behavior.Answers choices bytes (Err stop))

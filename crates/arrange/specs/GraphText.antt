@@ -24,7 +24,7 @@ graph_text graph = flat_map link_line graph.links ++ flat_map node_line graph.no
 unfoldable pub walk_line : List ℕ → List ℕ
 walk_line walk = codes "walk" ++ numbers_text walk ++ codes "\n"
 
--- closed walks in which every link of the graph stands once, or `uneven nodes`
+-- closed walks in which every link of the graph is once, or `uneven nodes`
 abbrev pub IsWalksText : Graph → List ℕ → Type 0
 IsWalksText graph text =
     (IsFalse (has_even_nodes graph) × (text ≡ codes "uneven nodes\n"))

@@ -51,7 +51,7 @@ CountsLeaveRange bits settings segments =
     ⊎ ((passes : ℕ) × IsPassCount (split_settings bits settings) segments passes
     × IsTrue (tops_leave_range (after_passes (split_settings bits settings) segments passes)))
 
--- the sweep of a graph asks what the strategy costs that the words choose
+-- the sweep of a graph compares what the strategy costs that the words choose
 abbrev pub IsGraphCost : ℕ → Settings → List WholeSegment → ℕ → Type 0
 IsGraphCost bits settings segments asked =
     (passes : ℕ) × IsPassCount (split_settings bits settings) segments passes
@@ -78,13 +78,13 @@ IsCommandAnswer bits Walks settings segments answer =
     ((graph : Graph) × (text : List ℕ) × IsGraphOf bits settings segments graph × IsWalksText graph text × (answer ≡ Ok text))
     ⊎ (CountsLeaveRange bits settings segments × (answer ≡ Err (Refused CountOutOfRange)))
 
--- what a command makes of the segments for which a text asks, or the first fault of its lines
+-- what a command makes of the segments that a text describes, or the first fault of its lines
 abbrev pub IsAnswer : ℤ → ℤ → ℕ → Command → Settings → List ℕ → Result (List ℕ) Stop → Type 0
 IsAnswer least greatest bits command settings bytes answer =
     ((segments : List WholeSegment) × AskInTurnFor least greatest (lines_of bytes) segments × IsCommandAnswer bits command settings segments answer)
     ⊎ ((stop : Stop) × IsFirstFault least greatest (lines_of bytes) stop × (answer ≡ Err stop))
 
--- for which command and settings words ask, and what the command makes of the input, in the coordinates of the engine that they choose
+-- which command and settings words choose, and what the command makes of the input, in the coordinates of the engine that they choose
 abbrev pub arrange_behavior : Behavior (Command × Settings)
 arrange_behavior = record {
   AskFor = λ words choices. WordsAsk words choices.0 choices.1;
@@ -94,7 +94,7 @@ arrange_behavior = record {
 
 -- ---- for segments of code, whose type says of how many bits coordinates are
 
--- the answer of a command to segments
+-- the result of a command for segments
 abbrev pub IsAnswerTo : {C I D : Type 0} {m : _} {w : _} {o : _} {e : _} {p : _} → Command → Settings → Vec (Segment C I D m w o e p) Global → Result (List ℕ) Stop → Type 0
 IsAnswerTo {w = w} command settings segments answer = IsCommandAnswer w.BITS command settings (segments_of segments.items) answer
 

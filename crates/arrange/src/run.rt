@@ -1,4 +1,4 @@
-// The program: which words it reads, and what a command answers.
+// The program: which words it reads, and what a command returns.
 ghost use Rattle.std.specs.Prelude.{◌≡◌, ◌⊎◌, Ok, Err, IfOk, IfErr, map, string_bytes};
 ghost use Rattle.overlay_base.specs.declared.segm.fault.Fault.TheVariants.{Memory};
 ghost use Rattle.arrange.specs.Run.{IsAnswer, arrange_behavior};
@@ -54,10 +54,11 @@ impl Program for ArrangeProgram {
     }
 }
 
-/// Runs the program over the words that the process was started with, and returns the exit status, as `arrange_run`
-/// does over some words: the usage and 2 also where one of them is no UTF-8, and 4 where memory for them is refused.
-/// No clause can say which words those are, so none says either that the usage stands only where they ask for nothing:
-/// tests over words that are made up show that each word is handed on.
+/// Runs the program over the words that the process was started with, and returns the exit status,
+/// as `arrange_run` does over some words: the usage and 2 also where one of them is no UTF-8, and 4
+/// where memory for them is refused. No clause can say which words those are, so none says either
+/// that the usage is printed only where they choose nothing: tests over words that are made up show
+/// that each word is handed on.
 pub fn arrange<H: Env + AllocGlobal, R: Read, W: Write, E: Write>(
     rt: &H,
     input: &mut R,
@@ -71,13 +72,13 @@ pub fn arrange<H: Env + AllocGlobal, R: Read, W: Write, E: Write>(
     run_started::<ArrangeProgram, H, R, W, E>(rt, input, output, faults)
 }
 
-/// Runs the program over these words, and returns the exit status: 0 where the run is done, 2 for words that ask for
-/// nothing and for a crossing of other than two segments, 3 for a faulty line, 4 for a `Fault`, 5 where the input or
-/// the output failed.
+/// Runs the program over these words, and returns the exit status: 0 where the run is done, 2 for
+/// words that choose nothing and for a crossing of other than two segments, 3 for a faulty line, 4
+/// for a `Fault`, 5 where the input or the output failed.
 ///
-/// Nothing is written to `output` unless the run is done or the output failed, and nothing to `faults` where the status
-/// is 0. Any other status is explained in one line on `faults`; a failed write there is ignored. Where the words ask
-/// for nothing, nothing is read.
+/// Nothing is written to `output` unless the run is done or the output failed, and nothing to
+/// `faults` where the status is 0. Any other status is explained in one line on `faults`; a failed
+/// write there is ignored. Where the words choose nothing, nothing is read.
 pub fn arrange_run<R: Read, W: Write, E: Write>(
     alloc: Global,
     words: &[String],
@@ -96,7 +97,7 @@ pub fn arrange_run<R: Read, W: Write, E: Write>(
     run_over::<ArrangeProgram, R, W, E>(alloc, words, input, output, faults)
 }
 
-/// What a command answers to the text of the input.
+/// What a command returns for the text of the input.
 fn answer_with<I: OverlayInt>(
     alloc: Global,
     command: Command,

@@ -19,8 +19,8 @@ use overlay_text::settings::Settings;
 use overlay_text::stop::Stop;
 use std::alloc::{AllocError, Global};
 
-/// The text of closed walks through the graph that the settings choose, in which every link stands in one place, or
-/// that some node has an odd number of links.
+/// The text of closed walks through the graph that the settings choose, in which every link is in
+/// one place, or that some node has an odd number of links.
 ///
 /// Returns `Fault::CountOutOfRange` as `graph` does.
 pub fn walks<I: OverlayInt>(

@@ -111,7 +111,7 @@ fn chosen(alloc: Global, name: &str, word: Option<&str>) -> Result<(Command, Set
     read_words(&words)
 }
 
-/// Asks for the command and the settings that these words choose.
+/// Wants the command and the settings that these words choose.
 fn expect_choice<H: Abort + AllocGlobal>(
     rt: &H,
     name: &str,
@@ -122,7 +122,7 @@ fn expect_choice<H: Abort + AllocGlobal>(
     assert_eq!(rt; chosen(rt.alloc(), name, word), Ok((command, settings)));
 }
 
-/// Asks for the settings that one word after the command's chooses.
+/// Wants the settings that one word after the command's chooses.
 fn expect_settings<H: Abort + AllocGlobal>(rt: &H, word: &str, settings: Settings) {
     expect_choice(rt, "split", Some(word), Command::Split, settings);
 }

@@ -247,7 +247,7 @@ node 0 0 cross 0\nnode 0 3 bridge 1 0\nnode 5 -2 cross 1\nvalid false\n",
     ),
 ];
 
-/// Asks for the status of a process that was started with these words, and for what it writes.
+/// Wants the status of a process that was started with these words, and what it writes.
 fn check_started<H: Abort + AllocGlobal>(
     rt: &H,
     started: Started,
@@ -272,7 +272,8 @@ fn started_with_words(rt: HostRuntime) {
     }
 }
 
-/// Each word is handed on: said once more behind eight words, it asks for nothing. A word may be no UTF-8.
+/// Each word is handed on: said once more behind eight words, it chooses nothing. A word may be no
+/// UTF-8.
 #[test]
 fn started_with_a_further_word(rt: HostRuntime) {
     let words = EIGHT_WORDS.as_slice();

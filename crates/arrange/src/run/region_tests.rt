@@ -1,5 +1,6 @@
-// What the links of an overlay enclose, asked at places of a lattice and compared with the contours that were given, by
-// a count of crossings of this file's own. All coordinates are doubled, so that places stand between whole points.
+// What the links of an overlay enclose, tested at places of a lattice and compared with the
+// contours that were given, by a count of crossings of this file's own. All coordinates are
+// doubled, so that places lie between whole points.
 
 use super::tests::{TWO_SQUARES, expect, run_words};
 use super::*;
@@ -114,7 +115,7 @@ fn winding(ways: &[Way], place: Place) -> i64 {
     sum
 }
 
-/// Whether the way stays out of the square round the place.
+/// Whether the way stays out of the square around the place.
 fn is_far(way: Way, place: Place, reach: i64) -> bool {
     let (left, right) = (place.x.wrapping_sub(reach), place.x.wrapping_add(reach));
     let (low, high) = (place.y.wrapping_sub(reach), place.y.wrapping_add(reach));
@@ -151,7 +152,7 @@ fn are_far(ways: &[Way], place: Place, reach: i64) -> bool {
     true
 }
 
-/// Whether oddly many links run below the place.
+/// Whether an odd number of links runs below the place.
 fn is_enclosed(links: &[Way], place: Place) -> bool {
     let mut odd = false;
     for link in links {
@@ -170,7 +171,7 @@ struct Given {
     reach: i64,
 }
 
-/// Asks whether the links enclose a place where the rule wants it.
+/// Tests whether the links enclose a place where the rule wants it.
 fn ask_place<H: Abort>(rt: &H, given: &Given, rule: &str, links: &[Way], place: Place) {
     let subj = winding(&given.subject, place) != 0;
     let clip = winding(&given.clip, place) != 0;
@@ -184,7 +185,8 @@ fn ask_place<H: Abort>(rt: &H, given: &Given, rule: &str, links: &[Way], place: 
     );
 }
 
-/// Asks at the places of a lattice that are far from all that is given, and returns how many these are.
+/// Tests at the places of a lattice that are far from all that is given, and returns how many these
+/// are.
 fn ask_lattice<H: Abort>(rt: &H, given: &Given, rule: &str, links: &[Way]) -> usize {
     let mut far: usize = 0;
     let mut place = Place { x: -5, y: -5 };
@@ -257,7 +259,8 @@ fn coordinate_of(state: u64) -> u64 {
     (state >> 33) % 100
 }
 
-/// Appends the sides of a closed contour with seven corners, and returns where the row of numbers stands.
+/// Appends the sides of a closed contour with seven corners, and returns where the row of numbers
+/// is.
 fn push_contour(text: &mut String, shape: &str, state: u64) -> Result<u64, AllocError> {
     let mut state = next_number(state);
     let (first_x, first_y) = (coordinate_of(state), coordinate_of(next_number(state)));
@@ -286,7 +289,8 @@ fn share_end(first: Way, second: Way) -> bool {
         || same(first.to, second.to)
 }
 
-/// The link with the number that a word gives. Where it was used before, or none has this number, the answer is why.
+/// The link with the number that a word gives. Where it was used before, or none has this number,
+/// the result is why.
 fn link_of(word: &str, links: &[Way], used: &mut [bool]) -> Result<Way, &'static str> {
     let index = short_number(word).ok_or("no number")? as usize;
     let flag = used.get_mut(index).ok_or("no link")?;
@@ -306,7 +310,7 @@ fn walk_of(alloc: Global, line: &str, links: &[Way], used: &mut [bool]) -> Resul
     Ok(walk)
 }
 
-/// Asks that each link of a walk leads on to the next, and the last one to the first.
+/// Wants that each link of a walk leads on to the next, and the last one to the first.
 fn ask_walk<H: Abort>(rt: &H, walk: &[Way], line: &str) {
     let Some(last) = walk.last() else {
         expect(rt, false, "an empty walk");
@@ -319,8 +323,8 @@ fn ask_walk<H: Abort>(rt: &H, walk: &[Way], line: &str) {
     }
 }
 
-/// Asks that each link of a walk leads on to the next, the last one to the first, and that each link stands in one
-/// place.
+/// Wants that each link of a walk leads on to the next, the last one to the first, and that each
+/// link is in one place.
 fn ask_walks<H: Abort + AllocGlobal>(rt: &H, text: &str, links: &[Way]) -> Result<(), Fail> {
     let mut used = vec![in rt.alloc(); false; links.len()]?;
     for line in text.split('\n') {

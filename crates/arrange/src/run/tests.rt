@@ -119,7 +119,7 @@ S 0 0 1 9999999999
 S 0 0 1 -9999999999
 S 1073741824 0 1073741824 0";
 
-/// Words that are answered with the usage, with bars between them. The first line is one empty word.
+/// Words for which the usage is printed, with bars between them. The first line is one empty word.
 const FAULTY_WORDS: &str = "
 walk
 Join
@@ -204,23 +204,23 @@ pub fn run_words<R: Read, W: Write, E: Write>(
     Ok(arrange_run(alloc, words.as_slice(), input, output, faults))
 }
 
-/// Asks that something holds.
+/// Wants that something holds.
 pub fn expect<H: Abort>(rt: &H, holds: bool, what: &str) {
     assert!(rt; holds, "{what}");
 }
 
-/// Asks for the exit status of a run over these words and this input.
+/// Wants the exit status of a run over these words and this input.
 pub fn expect_status<H: Abort>(rt: &H, answer: u8, status: u8, words: &str, given: &[u8]) {
     assert_eq!(rt; answer, status, "{words} {given:?}");
 }
 
-/// Asks for what such a run wrote.
+/// Wants what such a run wrote.
 pub fn expect_bytes<H: Abort>(rt: &H, bytes: &[u8], wanted: &str, words: &str, given: &[u8]) {
     assert_eq!(rt; bytes, wanted.as_bytes(), "{words} {given:?}");
 }
 
-/// Asks for the status of a run over memory, and for what it writes: to the output, or to the faults where the status
-/// is not 0.
+/// Wants the status of a run over memory, and what it writes: to the output, or to the faults
+/// where the status is not 0.
 fn check<H: Abort + AllocGlobal>(
     rt: &H,
     words: &str,
@@ -272,7 +272,7 @@ fn graphs(rt: HostRuntime) -> Result<(), Fail> {
     Ok(())
 }
 
-/// Asks that a line names the link with this index.
+/// Wants that a line names the link with this index.
 fn expect_kept<H: Abort>(rt: &H, line: &[u8], index: usize, rule: &str) {
     let link = LINKS.get(index).copied().unwrap_or("no link");
     assert!(rt; line.starts_with(link.as_bytes()), "{rule} {index}");

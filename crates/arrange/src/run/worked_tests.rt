@@ -1,7 +1,8 @@
 // Whole runs with what they print, as text.
 
-/// Whole runs. Behind `#` stands what a run shows, behind `$` the words with bars between them, then the input, up to
-/// `>`, then the exit status, and below it what is written to the output, or to the faults where the status is not 0.
+/// Whole runs. Behind `#` is what a run shows, behind `$` the words with bars between them, then
+/// the input, up to `>`, then the exit status, and below it what is written to the output, or to
+/// the faults where the status is not 0.
 pub const WORKED: &str = "\
 # One pair of ends is joined.
 $join
