@@ -35,8 +35,8 @@ abbrev pub ReturnsOverlay : {C I D E : Type 0} {m : _} {w : _} {o : _} {e : _} {
 ReturnsOverlay solver before after given list fill_rule rule result =
     IfOk result (λ graph. IsOverlay (settings_over solver before given) fill_rule (holds rule) (segments_of given.items) (segments_of list.items) (passes_of after) (whole_graph graph))
 
--- Where the given counts balance: if there is a graph, it encloses the places of which the overlay rule says something
--- else than of those outside, at places far from what is given.
+-- Where the given counts balance: if there is a graph, it encloses the places at which the overlay rule's value differs
+-- from that outside, at places far from what is given.
 abbrev pub EnclosesByRule : {C I D E : Type 0} {m : _} {w : _} {o : _} {e : _} {p : _} {w' : _} {o' : _} {e' : _} {p' : _} → Solver → SplitSolver I → SplitSolver I → Vec (Segment C I D m w o e p) Global → FillRule → OverlayRule → Result (OverlayGraph I E w' o' e' p') Fault → Type 0
 EnclosesByRule solver before after given fill_rule rule result =
     IsBalanced (segments_of given.items) →

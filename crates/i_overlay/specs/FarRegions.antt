@@ -20,14 +20,14 @@ abbrev pub EnclosesFarRegion : Settings → (Bool → Bool → Bool) → FillRul
 EnclosesFarRegion settings rule fill_rule given passes graph =
     (p : RationalPoint) → 0 < p.bottom → IsFar (reach_of_run settings given passes) p (pairs given) → encloses graph p ≡ tells_apart rule fill_rule empty (winding_below given p)
 
--- The same of an overlay's rule: it says something else of the place than of those outside. Every rule with a name says no of
--- those outside, so there the graph encloses exactly the places of which the rule holds.
+-- The same of an overlay's rule: it says something else of the place than of those outside. Every rule with a name is false
+-- outside, so there the graph encloses exactly the places where the rule holds.
 abbrev pub EnclosesOverlay : Settings → OverlayRule → FillRule → List WholeSegment → ℕ → Graph → Type 0
 EnclosesOverlay settings overlay_rule fill_rule given passes graph =
     (p : RationalPoint) → 0 < p.bottom → IsFar (reach_of_run settings given passes) p (pairs given) →
     encloses graph p ≡ differ (holds overlay_rule false false) (value_at (holds overlay_rule) fill_rule (winding_below given p))
 
--- The links of the graph, each in the direction that has the region on its left, wind once round the region of a rule, by how
+-- The links of the graph, each in the direction that has the region on its left, wind once around the region of a rule, by how
 -- the given segments wind, at the same places.
 abbrev pub WindsRoundFarRegion : Settings → (Bool → Bool → Bool) → FillRule → List WholeSegment → ℕ → Graph → Type 0
 WindsRoundFarRegion settings rule fill_rule given passes graph =

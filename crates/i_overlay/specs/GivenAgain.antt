@@ -14,14 +14,14 @@ use Rattle.overlay_build.specs.Boundary.{directed_links, times_round}
 use Rattle.overlay_build.specs.ShapedBoundary.{of_shape, in_shape, BoundsAsShape}
 use Rattle.i_overlay.specs.Headline.{IsOverlay}
 
--- Segments wind round the region of a rule as one shape, by how the given segments wind, at the places that are farther from
+-- Segments wind around the region of a rule as one shape, by how the given segments wind, at the places that are farther from
 -- these than the passes reach.
 abbrev pub WindsAsFarShape : Settings → ShapeType → (Bool → Bool → Bool) → FillRule → List WholeSegment → ℕ → List WholeSegment → Type 0
 WindsAsFarShape settings shape rule fill_rule given passes list =
     (p : RationalPoint) → 0 < p.bottom → IsFar (reach_of_run settings given passes) p (pairs given) → winding_below list p ≡ of_shape shape (times_round rule fill_rule (winding_below given p))
 
--- The directed links of an overlay's graph, as segments of one shape, bound the region in the arrangement, and wind round it as the
--- given polygons do at each place that is far from them.
+-- The directed links of an overlay's graph, as segments of one shape, bound the region in the arrangement, and wind around it as
+-- the given polygons do at each place that is far from them.
 abbrev pub ResultsAreGivenAgain : Type 0
 ResultsAreGivenAgain =
     (least greatest : ℤ) (settings : Settings) (shape : ShapeType) (fill_rule : FillRule) (rule : Bool → Bool → Bool) (given segments : List WholeSegment) (passes : ℕ) (graph : Graph) →

@@ -50,13 +50,13 @@ pub record IsOverlay (settings : Settings) (fill_rule : FillRule) (rule : Bool �
   -- The graph is that of the segments whose fill the rule keeps.
   pub links : graph ≡ graph_by (keeps_fill rule) fill_rule segments
   -- Where the given counts balance, it holds exactly the segments whose sides differ under the rule, with the fills of
-  -- these sides, evenly many links at every node, it encloses the region of the rule in the arrangement, and its links are
+  -- these sides, an even number of links at every node, it encloses the region of the rule in the arrangement, and its links are
   -- the directed boundary of that region.
   pub balanced : IsBalanced given → IsBalancedOverlay rule fill_rule segments graph
   -- Then, at each place that is farther from what was given than the passes reach, it encloses the region of the rule
   -- as the given segments wind.
   pub far_region : IsBalanced given → EnclosesFarRegion settings rule fill_rule given passes graph
-  -- And there its links, each in the direction that has the region on its left, wind once round that region.
+  -- And there its links, each in the direction that has the region on its left, wind once around that region.
   pub far_boundary : IsBalanced given → WindsRoundFarRegion settings rule fill_rule given passes graph
 
 -- What a split and a build make of polygons and lines, for a clip rule.

@@ -25,18 +25,20 @@ use overlay_split::split::solver::SplitSolver;
 /// the lines that a clip rule keeps: those inside the subject under a fill rule, or, where the rule is inverted, those
 /// outside of it. The graph borrows the builder.
 ///
-/// The list has to be splittable, as `is_splittable` tests; afterwards it is the arrangement. Where the counts of the
-/// polygons balance at every point, as those of closed contours do (lines have none), the graph holds exactly the
-/// segments along which a line runs and which the rule keeps by how the polygons wind on their two sides, in the
-/// columns beside them. At every place that is farther from the given segments of polygons than the passes move
-/// crossings, however near lines are to it, the arrangement winds as the given segments do (`near_lines`). So, where
-/// the counts balance, at two such places directly beside a segment, one on each side, the rule keeps it by how the
-/// given polygons wind there (`by_given`). Every kept part lies as near to a given line, and every point of a given
-/// line to a segment with a mask (`lines_near`). Where all crossings of the given segments are at whole points, the
-/// arrangement counts along each part of a given segment what the given segments count there, masks included, and lies
-/// on them. Afterwards `reach` of the splitter is how far the passes moved crossings. The solver's strategy does not
-/// change the answer, but what the split costs: `looked` of the splitter is bounded by the strategy as after
-/// `split_segments`.
+/// The list has to be splittable, as `is_splittable` tests; afterwards it is the arrangement. Where
+/// the counts of the polygons balance at every point, as those of closed contours do (lines have
+/// none), the graph holds exactly the segments along which a line runs and which the rule keeps by
+/// how the polygons wind on their two sides, in the columns beside them. At every place that is
+/// farther from the given segments of polygons than the passes move crossings, however near lines
+/// are to it, the arrangement winds as the given segments do (`near_lines`). So, where the counts
+/// balance, at two such places directly beside a segment, one on each side, the rule keeps it by
+/// how the given polygons wind there (`by_given`). Every kept part lies as near to a given line,
+/// and every point of a given line to a segment with a mask (`lines_near`). Where all crossings of
+/// the given segments are at whole points, the arrangement counts along each part of a given
+/// segment what the given segments count there, masks included, and lies on them. Afterwards
+/// `reach` of the splitter is how far the passes moved crossings. The solver's strategy does not
+/// change the result, but what the split costs: `looked` of the splitter is bounded by the strategy
+/// as after `split_segments`.
 ///
 /// `is_balanced` tests whether the counts balance.
 ///

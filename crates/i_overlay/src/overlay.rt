@@ -27,22 +27,25 @@ use overlay_split::split::solver::SplitSolver;
 /// Splits a list into a planar arrangement, and returns the graph of the segments that an overlay rule keeps under a
 /// fill rule. The graph borrows its nodes and links from the builder.
 ///
-/// The list has to be splittable, as `is_splittable` tests; afterwards it is the arrangement. Where the given counts
-/// balance at every point, as those of closed contours do, the graph holds exactly the segments of whose two sides the
-/// rule says different things, with the fills of these sides, and evenly many links meet at every node. Then the graph
-/// encloses (oddly many links run below) exactly the places of which the rule says something else than of those
-/// outside, so for a rule with a name those of which it holds, by how the arrangement winds there. At every place that
-/// is farther from the given segments than the passes move crossings, that is how the given segments wind. The links,
-/// each in the direction that has the region on its left (from `a` to `b` where the rule holds of the top of its fill,
-/// as `is_fill_top` says, and else back), are the region's boundary: at every point as many start as end, and round
-/// every place they wind once where the rule holds and not at all elsewhere, less what it says of those outside. The
-/// data of the list goes through the splits and merges of a store of its own, which begins as the store's default and
-/// is dropped; each link has the data of its segment. What the hooks keep of data, and what holds of all given data,
-/// holds of each link's (`kept_data`). Where data names given segments, as their numbers do, and the hooks name no
-/// others, each link lies as near to every one that its data names as the passes move crossings (`named_data`). On
-/// exact input it lies on it. Afterwards `reach` of the splitter is how far the passes moved crossings. The solver's
-/// strategy does not change the answer, but what the split costs: `looked` of the splitter is bounded by the strategy
-/// as after `split_segments`.
+/// The list has to be splittable, as `is_splittable` tests; afterwards it is the arrangement. Where
+/// the given counts balance at every point, as those of closed contours do, the graph holds exactly
+/// the segments on whose two sides the rule has different values, with the fills of these sides,
+/// and an even number of links meets at every node. Then the graph encloses (an odd number of links
+/// runs below) exactly the places at which the rule's value differs from that outside, so for a
+/// rule with a name those where it holds, by how the arrangement winds there. At every place that
+/// is farther from the given segments than the passes move crossings, that is how the given
+/// segments wind. The links, each in the direction that has the region on its left (from `a` to `b`
+/// where the rule holds of the top of its fill, as `is_fill_top` says, and else back), are the
+/// region's boundary: at every point as many start as end, and around every place they wind once
+/// where the rule holds and not at all elsewhere, less what it says of those outside. The data of
+/// the list goes through the splits and merges of a store of its own, which begins as the store's
+/// default and is dropped; each link has the data of its segment. What the hooks keep of data, and
+/// what holds of all given data, holds of each link's (`kept_data`). Where data names given
+/// segments, as their numbers do, and the hooks name no others, each link lies as near to every one
+/// that its data names as the passes move crossings (`named_data`). On exact input it lies on it.
+/// Afterwards `reach` of the splitter is how far the passes moved crossings. The solver's strategy
+/// does not change the result, but what the split costs: `looked` of the splitter is bounded by the
+/// strategy as after `split_segments`.
 ///
 /// `is_balanced` tests whether the counts balance.
 ///
@@ -85,10 +88,11 @@ pub fn split_and_build_overlay<'a, I: OverlayInt, D: OverlayEdgeData<ShapeCountB
     builder.build_boolean_overlay(fill_rule, overlay_rule, solver, segments)
 }
 
-/// A result can be given again. Where the given counts balance, the links of an overlay's graph, each in its direction,
-/// as segments of one shape (`directed_segments`) are a planar arrangement in range, balanced, and wind round the
-/// rule's region for that shape alone; at every place that is farther from the given segments than the passes move
-/// crossings, round the region by how these wind.
+/// A result can be given again. Where the given counts balance, the links of an overlay's graph,
+/// each in its direction, as segments of one shape (`directed_segments`) are a planar arrangement
+/// in range, balanced, and wind around the rule's region for that shape alone; at every place that
+/// is farther from the given segments than the passes move crossings, around the region by how
+/// these wind.
 pub fn result_laws()
     ensures { ResultsAreGivenAgain }
 {}

@@ -53,7 +53,7 @@ links_name_near {D = D} indexes is_canonical whole nodes links keeps rule names 
     same (same_kept indexes is_canonical whole nodes links keeps rule (without_data segments) held ∙ kept_are keeps rule segments)
     (AllByRecursion-filter_all (λ s. keeps (fill s).fill) (λ r. (s : Pair) → IsTrue (names r.edge_data s) → LiesNear h r.pair s) segments (recursion_from_All (λ r. (s : Pair) → IsTrue (names r.edge_data s) → LiesNear h r.pair s) segments near)))
 
--- two facts on one answer
+-- two facts on one result
 pub IfOk-both : {T E : Type 0} {P Q R : T → Type 0} (r : Result T E) → ((x : T) → P x → Q x → R x) → IfOk r P → IfOk r Q → IfOk r R
 IfOk-both (Ok x) f p q = f x p q
 IfOk-both (Err e) f p q = tt
