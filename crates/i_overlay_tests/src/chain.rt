@@ -69,7 +69,7 @@ fn add_square(
     add_side(rt, list, (low, high), (low, low), shape)
 }
 
-/// Asks for these sides.
+/// Wants these sides.
 fn expect_sides(
     rt: &(impl Abort + AllocGlobal),
     sides: &[Side],

@@ -163,12 +163,12 @@ fn cut<I: OverlayInt>(
     Ok(links.collect(rt.alloc())?)
 }
 
-/// Asks for these links.
+/// Wants these links.
 fn expect_links(rt: &impl Abort, found: &[LinkRow], wanted: &[LinkRow], name: &str) {
     assert_eq!(rt; found, wanted, "{name}");
 }
 
-/// Asks for the rows of these segments.
+/// Wants the rows of these segments.
 fn expect_rows(
     rt: &(impl Abort + AllocGlobal),
     list: &[Counted<i32>],
@@ -331,7 +331,7 @@ static REFUSALS: [(&str, &[Row], &[Row], u128); 2] = [
     ),
 ];
 
-/// Asks what stands after a call that is refused.
+/// Compares what is left after a call that is refused.
 fn refuses_counts(
     rt: &(impl Abort + AllocGlobal),
     strategy: Strategy,

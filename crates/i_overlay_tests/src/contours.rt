@@ -24,7 +24,7 @@ const WIDE_SQUARE: Corners = &[(0, 0), (8, 0), (8, 8), (0, 8)];
 
 const BOW_TIE: Corners = &[(0, 0), (4, 4), (4, 0), (0, 4)];
 
-/// What a call is given, and what it answers.
+/// What a call is given, and what it returns.
 #[derive(Clone, Copy)]
 struct Case {
     name: &'static str,
@@ -354,7 +354,7 @@ fn load(
     Ok(())
 }
 
-/// The answer for contours of the subject and one of the clip.
+/// The result for contours of the subject and one of the clip.
 fn step(
     alloc: Global,
     overlay: &mut Overlay<i32>,

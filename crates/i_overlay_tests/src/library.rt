@@ -1,4 +1,4 @@
-// The first program of docs/LIBRARY.md, by the prelude; and upstream's names at upstream's paths.
+// The first program of docs/GUIDE.md, by the prelude; and upstream's names at upstream's paths.
 use i_overlay::build::boolean::{IntersectFilter, is_intersect};
 use i_overlay::build::builder::{GraphNode, InclusionFilterStrategy};
 use i_overlay::build::string::{

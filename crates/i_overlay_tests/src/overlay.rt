@@ -116,7 +116,7 @@ struct Call {
     name: &'static str,
     given: &'static [Row],
     rule: OverlayRule,
-    /// The numbers of links and nodes of the graph that is answered.
+    /// The numbers of links and nodes of the graph that is returned.
     sizes: Result<(usize, usize), Fault>,
     /// The list and the number of passes after it.
     left: &'static [Row],

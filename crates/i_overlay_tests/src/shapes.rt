@@ -30,7 +30,7 @@ const NARROW: Corners = &[(6, 6), (14, 6), (14, 14), (6, 14)];
 
 const INNERMOST: Corners = &[(8, 8), (12, 8), (12, 12), (8, 12)];
 
-/// What a call is given as a subject, by even-odd, and the shapes that it answers.
+/// What a call is given as a subject, by even-odd, and the shapes that it returns.
 #[derive(Clone, Copy)]
 struct Case {
     name: &'static str,

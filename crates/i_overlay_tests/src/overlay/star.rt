@@ -1,4 +1,5 @@
-// Forty-one lines through one point, joined to one closed contour: evenly many links meet at each node of each rule.
+// Forty-one lines through one point, joined to one closed contour: an even number of links meets at
+// each node of each rule.
 
 use super::*;
 
@@ -16,7 +17,7 @@ fn closed_star(rt: &(impl Abort + AllocGlobal)) -> Vec<Row> {
     rows
 }
 
-/// Wants evenly many links at each node of a rule's graph.
+/// Wants an even number of links at each node of a rule's graph.
 fn check_even(
     rt: &impl Abort,
     builder: &mut Builder<i32>,
@@ -33,8 +34,8 @@ fn check_even(
     }
 }
 
-/// Splits the star, and wants evenly many links at each node of each rule's graph. Returns the number of passes and of
-/// segments.
+/// Splits the star, and wants an even number of links at each node of each rule's graph. Returns
+/// the number of passes and of segments.
 fn even_star(rt: &(impl Abort + AllocGlobal), strategy: Strategy, limit: u32) -> (u128, usize) {
     let mut list: Vec<Counted<i32>> = segments(rt, &closed_star(rt));
     let mut splitter = SplitSolver::with_snap_limit(rt.alloc(), limit);
