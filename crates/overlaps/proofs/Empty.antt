@@ -18,7 +18,7 @@ use Rattle.i_overlay.specs.Sides.{overlay_graph}
 use Rattle.i_overlay.specs.Values.{value_at}
 use Rattle.overlaps.specs.Apart.{bounds_both, keeps_a_part, ShareNoFarPlace, KeepsNoFarPart}
 
--- a list of which the negated test for emptiness fails
+-- a list for which the negated test for emptiness fails
 pub none : {X : Type 0} (xs : List X) (r : Bool) → r ≡ (length xs == 0) → not r ≡ false → xs ≡ []
 none xs r e n = nil_from_length xs (eqb-true (length xs) 0 (sym e ∙ not-false r n))
 

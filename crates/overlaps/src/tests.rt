@@ -1,4 +1,4 @@
-// Squares that overlap, touch and stand apart; lines through a square, along it and beside it.
+// Squares that overlap, touch and are apart; lines through a square, along it and beside it.
 use crate::{overlaps, runs_through};
 use i_overlay::prelude::*;
 use std::process::Abort;
