@@ -1,4 +1,4 @@
--- A test of balance: what starts and what ends at a point, as counts on a pair of which both ends are that point.
+-- A test of balance: what starts and what ends at a point, as counts on a pair with both ends at that point.
 use Rattle.std.specs.Prelude.{List, [], ◌∷◌, flat_map}
 use Rattle.overlay_geometry.specs.Points.{Point, Pair}
 use Rattle.overlay_base.specs.Windings.{inverse, weight}

@@ -1,4 +1,4 @@
--- What a segment adds at one of its ends, in whole numbers: a count on the pair of which both ends are that point.
+-- What a segment adds at one of its ends, in whole numbers: a count on the pair with both ends at that point.
 use Rattle.std.specs.Prelude.{ℤ, List, map}
 use Rattle.overlay_geometry.specs.PointOf.{point_of}
 use Rattle.overlay_base.specs.Segments.{WholeSegment}

@@ -1,4 +1,4 @@
--- What stands where a call is refused by a fault.
+-- What is left where a call is refused by a fault.
 use Rattle.std.specs.Prelude.{◌≡◌, Result, IfErr}
 use Rattle.overlay_base.specs.declared.segm.fault.Fault.{Fault}
 use Rattle.overlay_base.specs.declared.segm.fault.Fault.TheVariants.{CountOutOfRange}

@@ -91,7 +91,7 @@ JoinKeepsBalance = (bag : List WholeSegment) → KeepsBalance bag (join bag)
 abbrev pub NeighborsTellEqualPairs : Type 0
 NeighborsTellEqualPairs = (bag sorted : List WholeSegment) → IsPermutation bag sorted → IsSortedByKey (λ s. s.pair) pair_cmp sorted → has_equal_neighbors sorted ≡ has_equal_pairs bag
 
--- a pair stands in the join exactly where its counts in the bag do not cancel
+-- a pair is in the join exactly where its counts in the bag do not cancel
 abbrev pub JoinHoldsPair : Type 0
 JoinHoldsPair = (bag : List WholeSegment) (pair : Pair) → list_any (λ k. pair_eq pair k) (pairs (join bag)) ≡ is_not_empty (winding_at bag pair)
 
@@ -118,11 +118,11 @@ StoreKeepsWhatHooksKeep D S =
 
 -- ---- stable sorts
 
--- a list in order, with ties as they stood, is the list that `stably_sorted` gives
+-- a list in order, with ties as they were, is the list that `stably_sorted` gives
 abbrev pub StableSortIsUnique : (X : Type 0) → Type 0
 StableSortIsUnique X = (cmp : X → X → Ordering) → IsStrictWeakOrder (λ x y. is_lt (cmp x y)) → (xs ys : List X) → IsSorted cmp ys → IsStable cmp xs ys → ys ≡ stably_sorted cmp xs
 
--- and that list has the elements of the given one, in order, with ties as they stood
+-- and that list has the elements of the given one, in order, with ties as they were
 abbrev pub StablySortedIsStable : (X : Type 0) → Type 0
 StablySortedIsStable X = (cmp : X → X → Ordering) → IsStrictWeakOrder (λ x y. is_lt (cmp x y)) → (xs : List X) → IsSorted cmp (stably_sorted cmp xs) × IsStable cmp xs (stably_sorted cmp xs) × IsPermutation xs (stably_sorted cmp xs)
 
@@ -134,8 +134,8 @@ BalancedLosesNothing =
     (f : Point → ℤ) (segments : List WholeSegment) → IsBalanced segments →
     (weighed (λ s. f s.a -ℤ f s.b) (λ c. c.subj) segments ≡ pos 0) × (weighed (λ s. f s.a -ℤ f s.b) (λ c. c.clip) segments ≡ pos 0)
 
--- The winding round a place is that of any of its four rays: balanced segments, none of which goes through p, wind there by what is above it, to the left of it
--- and to the right of it as by what is below it.
+-- The winding around a place is that of any of its four rays: balanced segments, none of which goes through p, wind there by what is above
+-- it, to the left of it and to the right of it as by what is below it.
 abbrev pub AnyRayWillDo : Type 0
 AnyRayWillDo =
     (segments : List WholeSegment) (p : RationalPoint) → IsTrue (are_ordered segments) → IsBalanced segments → 0 < p.bottom → IsTrue (is_on_none segments p) →

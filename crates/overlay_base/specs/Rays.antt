@@ -1,4 +1,4 @@
--- Rays from a place straight up, to the left and to the right, and how segments wind round the place by what they meet.
+-- Rays from a place straight up, to the left and to the right, and how segments wind around the place by what they meet.
 -- The ray straight down is that of `Places`.
 use Rattle.std.specs.Prelude.{ℤ, pos, ◌-ℤ◌, ◌*ℤ◌, int_le, int_lt, Bool, not, ◌&&◌, List, filter}
 use Rattle.std.specs.List.{list_all}
@@ -27,7 +27,8 @@ is_on_none segments p = list_all (λ s. not (goes_through s.pair p)) segments
 abbrev pub lies_above : Pair → RationalPoint → Bool
 lies_above s p = spans s p && int_lt (p.y *ℤ width s) (height_at s p)
 
--- The winding at p by the segments above it. One that runs to the right has the ray straight up cross it from its right side to its left one, so it counts the other way round.
+-- The winding at p by the segments above it. One that runs to the right has the ray straight up cross it from its right side to its left
+-- one, so it counts the other way.
 unfoldable pub winding_above : List WholeSegment → RationalPoint → Winding
 winding_above segments p = inverse (total_weight (filter (λ s. lies_above s.pair p) segments))
 

@@ -25,7 +25,7 @@ are_ordered segments = list_all (λ s. is_ordered s.pair) segments
 abbrev pub are_polygons : List WholeSegment → Bool
 are_polygons segments = list_all (λ s. s.count.mask == 0) segments
 
--- the segments of a bag on one pair, as they stand
+-- the segments of a bag on one pair, as they are
 abbrev pub segments_at : List WholeSegment → Pair → List WholeSegment
 segments_at segments pair = filter (λ s. pair_eq s.pair pair) segments
 

@@ -33,7 +33,7 @@ line_not_empty : is_not_empty (record { subj = pos 0; clip = pos 0; mask = 1 })
 unfolding computing
 line_not_empty = refl
 
--- round a triangle, what comes in at a corner goes out again
+-- around a triangle, what comes in at a corner goes out again
 triangle_corner : balance (seg (pos 0) (pos 0) (pos 0) (pos 4) (neg 1) ∷ seg (pos 0) (pos 0) (pos 4) (pos 0) (pos 1) ∷ seg (pos 0) (pos 4) (pos 4) (pos 0) (neg 1) ∷ []) (point (pos 0) (pos 0))
     ≡ empty
 unfolding computing

@@ -45,7 +45,7 @@ data_cancelled : data_join hooks (colored (pos 0) (pos 0) (pos 2) (pos 0) (pos 1
 unfolding computing
 data_cancelled = refl
 
--- from left to right; the last call stands first
+-- from left to right; the last call comes first
 data_three : (data_join hooks (colored (pos 0) (pos 0) (pos 2) (pos 0) (pos 1) (pos 0) red ∷ colored (pos 0) (pos 0) (pos 2) (pos 0) (pos 0) (pos 1) green ∷ colored (pos 0) (pos 0) (pos 2) (pos 0) (pos 2) (pos 0) red ∷ []) no_calls).1.merges
     ≡ (record { lhs_data = undefined; lhs_count = count (pos 1) (pos 1); rhs_data = red; rhs_count = count (pos 2) (pos 0); out_count = count (pos 3) (pos 1) } ∷ record { lhs_data = red; lhs_count = count (pos 1) (pos 0); rhs_data = green; rhs_count = count (pos 0) (pos 1); out_count = count (pos 1) (pos 1) } ∷ [])
 unfolding computing

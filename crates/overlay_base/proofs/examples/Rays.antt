@@ -11,7 +11,7 @@ use Rattle.overlay_base.proofs.examples.Words.{neg, pair, count, seg}
 abbrev place : ℤ → ℤ → ℕ → RationalPoint
 place x y bottom = record { x = x; y = y; bottom = bottom }
 
--- a square that stands on a corner, run round to the left once
+-- a square with a corner at the bottom, run around to the left once
 abbrev diamond : List WholeSegment
 diamond = seg (pos 0) (pos 2) (pos 2) (pos 0) (pos 1) ∷ seg (pos 0) (pos 2) (pos 2) (pos 4) (neg 1) ∷ seg (pos 2) (pos 0) (pos 4) (pos 2) (pos 1) ∷ seg (pos 2) (pos 4) (pos 4) (pos 2) (neg 1) ∷ []
 

@@ -2,7 +2,7 @@
 
 use std::fmt;
 
-/// When a place counts as inside, by how often the contours wind round it counterclockwise.
+/// When a place counts as inside, by how often the contours wind around it counterclockwise.
 #[derive(Clone, Copy, Debug, PartialEq, Default)]
 pub enum FillRule {
     /// An odd number of times.

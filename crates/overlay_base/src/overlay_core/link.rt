@@ -49,7 +49,7 @@ impl<I: OverlayInt, D: Copy> OverlayLink<I, D> {
         if self.a.id == node_id { self.b } else { self.a }
     }
 
-    /// Whether `a` stands before `b`.
+    /// Whether `a` comes before `b`.
     pub fn is_direct(&self) -> bool
         ensures { result ≡ point_lt (point_of I.whole self.now.a.point) (point_of I.whole self.now.b.point) }
     {

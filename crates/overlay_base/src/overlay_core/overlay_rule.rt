@@ -1,4 +1,4 @@
-// Which part of the subject and the clip an overlay answers. Upstream: `core::overlay_rule`.
+// Which part of the subject and the clip an overlay returns. Upstream: `core::overlay_rule`.
 ghost use Rattle.std.specs.Prelude.{◌≡◌, ◌≢◌, not, IsTrue};
 ghost use Rattle.overlay_base.specs.Rules.{holds, top_value, bottom_value, keeps_fill};
 
@@ -68,8 +68,9 @@ impl OverlayRule {
         self.holds_of_top(fill) != self.holds_of_bottom(fill)
     }
 
-    /// Whether the rule holds of the top side of a segment with this fill. `Union` is answered as upstream does, by
-    /// whether it does not hold of the bottom side, which is the same on the fills that it keeps.
+    /// Whether the rule holds of the top side of a segment with this fill. `Union` is tested as
+    /// upstream does, by whether it does not hold of the bottom side, which is the same on the
+    /// fills that it keeps.
     pub fn is_fill_top(&self, fill: SegmentFill) -> bool
         ensures side { IsTrue (keeps_fill (holds self.now) fill) → result ≡ top_value (holds self.now) fill }
         ensures top { self.now ≢ OverlayRule.Union → result ≡ top_value (holds self.now) fill }

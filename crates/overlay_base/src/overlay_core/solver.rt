@@ -8,7 +8,7 @@ use crate::segm::segment::Segment;
 use crate::segm::winding::WindingCount;
 use overlay_geometry::num::OverlayInt;
 
-/// How the segments that meet are found. The answer of a call does not depend on it.
+/// How the segments that meet are found. The result of a call does not depend on it.
 #[derive(Clone, Copy, Debug, PartialEq)]
 pub enum Strategy {
     /// Looks at all pairs of a list.

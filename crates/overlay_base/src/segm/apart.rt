@@ -1,6 +1,6 @@
-// Whether two segments share at most a common end. This project's own. `split::cross::contact` decides it by counting
-// turns of zero, as a crossing has to be placed; here, without a count or a rounding, so that the test of an answer
-// does not depend on the code that makes it.
+// Whether two segments share at most a common end. This project's own. `split::cross::contact`
+// decides it by counting turns of zero, as a crossing has to be placed; here, without a count or a
+// rounding, so that the test of a result does not depend on the code that makes it.
 ghost use Rattle.std.specs.Prelude.{◌≡◌, ◌&&◌, IsTrue};
 ghost use Rattle.overlay_geometry.specs.Points.{point_lt, is_ordered, is_strictly_inside};
 ghost use Rattle.overlay_geometry.specs.Meeting.{separates, do_cross, has_end_inside, are_apart};
@@ -70,7 +70,7 @@ fn is_strictly_inside<I: OverlayInt>(segment: &XSegment<I>, point: IntPoint<I>) 
     stands_between(segment, point) && Triangle::is_line(segment.a, segment.b, point)
 }
 
-/// Whether a point stands after `a` and before `b`.
+/// Whether a point comes after `a` and before `b`.
 fn stands_between<I: OverlayInt>(segment: &XSegment<I>, point: IntPoint<I>) -> bool
     ensures { result ≡ (point_lt (point_of I.whole segment.now.a) (point_of I.whole point)
         && point_lt (point_of I.whole point) (point_of I.whole segment.now.b)) }

@@ -60,7 +60,7 @@ fn is_in_range<I: OverlayInt>(point: IntPoint<I>) -> bool
     point.x.is_in_range() && point.y.is_in_range()
 }
 
-/// Whether each segment stands before the next.
+/// Whether each segment comes before the next.
 fn is_strictly_sorted<C: WindingCount, I: OverlayInt, D: Copy>(
     segments: &[Segment<C, I, D>],
 ) -> bool
@@ -80,7 +80,7 @@ fn is_strictly_sorted<C: WindingCount, I: OverlayInt, D: Copy>(
     true
 }
 
-/// Whether a segment stands before another, by its ends.
+/// Whether a segment comes before another, by its ends.
 fn is_before<I: OverlayInt>(left: &XSegment<I>, right: &XSegment<I>) -> bool
     ensures { result ≡ pair_lt (pair_of I.whole left.now) (pair_of I.whole right.now) }
 {

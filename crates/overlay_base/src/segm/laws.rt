@@ -45,9 +45,10 @@ pub fn running_sum_laws()
     ensures { StableSortKeepsSums }
 {}
 
-/// Of balanced segments: whatever number a function gives each point, as much of it is lost along them as is gained. So
-/// the winding round a place on none of them follows from any of its four rays, straight down, straight up, to the left
-/// or to the right: by the segments that the ray meets, each counted by the side to which it crosses the ray.
+/// Of balanced segments: whatever number a function gives each point, as much of it is lost along
+/// them as is gained. So the winding around a place on none of them follows from any of its four
+/// rays, straight down, straight up, to the left or to the right: by the segments that the ray
+/// meets, each counted by the side to which it crosses the ray.
 pub fn ray_laws()
     ensures losses { BalancedLosesNothing }
     ensures any_ray { AnyRayWillDo }

@@ -12,7 +12,7 @@ use overlay_geometry::geom::x_segment::XSegment;
 use overlay_geometry::num::OverlayInt;
 use std::alloc::AllocError;
 
-/// Two ends, of which `a` stands before `b`, with a count and data.
+/// Two ends, `a` before `b`, with a count and data.
 #[derive(Debug)]
 pub struct Segment<C: WindingCount, I: OverlayInt, D> {
     x_segment: XSegment<I>,
@@ -87,8 +87,8 @@ impl<C: WindingCount, I: OverlayInt, D: OverlayEdgeData<C>> Segment<C, I, D> {
 
     /// The segment between two points, which have to differ.
     ///
-    /// Where `b` stands before `a`, the ends change places, the count is inverted and the data's hook `reversed` is
-    /// called. The count has to be valid there.
+    /// Where `b` comes before `a`, the ends change places, the count is inverted and the data's
+    /// hook `reversed` is called. The count has to be valid there.
     #[tactic(auto, unfolding(crate::specs::EdgeData::data_piece))]
     pub fn create_and_validate_with_data(
         a: IntPoint<I>,

@@ -1,4 +1,4 @@
--- What rules say of the bits of fills and tables, as code asks for bits.
+-- What rules say of the bits of fills and tables, as code reads bits.
 use Rattle.std.proofs.Common.{◌≡◌, refl, ap, ap₂, ◌∙◌, ℕ, ◌*◌, ◌^◌, ◌-◌, zero, suc, ◌<◌, nat_eq, arith, Bool, true, false, not, ◌&&◌}
 use Rattle.std.specs.Prelude.{bit_and}
 use Rattle.std.specs.Int.{bit_at}
@@ -30,7 +30,7 @@ below_sixteen P h0 h1 h2 h3 h4 h5 h6 h7 h8 h9 h10 h11 h12 h13 h14 h15 (suc (suc 
 below_sixteen P h0 h1 h2 h3 h4 h5 h6 h7 h8 h9 h10 h11 h12 h13 h14 h15 (suc (suc (suc (suc (suc (suc (suc (suc (suc (suc (suc (suc (suc (suc (suc zero))))))))))))))) l = h15
 below_sixteen P h0 h1 h2 h3 h4 h5 h6 h7 h8 h9 h10 h11 h12 h13 h14 h15 (suc (suc (suc (suc (suc (suc (suc (suc (suc (suc (suc (suc (suc (suc (suc (suc n)))))))))))))))) l = absurd (omega arith)
 
--- ---- bits, as masks of one bit ask for them
+-- ---- bits, as masks of one bit read them
 
 by_bit : (b m : ℕ) → b < 2 → 0 < m → not (nat_eq (b * m) 0) ≡ nat_eq b 1
 by_bit zero m l some = ap not (eq-eqb (0 * m) 0 (omega arith))
@@ -94,9 +94,9 @@ complements_are_opposite bits h =
     let third = and_parts (beq (bit (15 - bits) 2) (not (bit bits 2))) _ second.1 in
     by_places (table_holds (15 - bits)) (λ s c. not (table_holds bits s c)) (alike _ _ third.1) (alike _ _ second.0) (alike _ _ third.0) (alike _ _ first.0)
 
--- ---- the side of which a rule holds
+-- ---- the side where a rule holds
 
--- where a rule tells the sides apart it holds of the one exactly where it does not hold of the other
+-- where a rule separates the sides it holds of the one exactly where it does not hold of the other
 pub other_side : (a b : Bool) → differ a b ≡ true → not b ≡ a
 other_side true false e = refl
 other_side false true e = refl

@@ -1,4 +1,4 @@
--- Laws of counts: how they add, and how they turn round.
+-- Laws of counts: how they add, and how they turn.
 use Rattle.std.proofs.Common.{◌≡◌, Bool, true, false, cond, ℕ, ◌+◌, ◌*◌, ◌/◌, ◌%◌, ◌<◌, max, refl, sym, ap, ap₂, subst, ◌∙◌, arith, IsTrue, bit_or, suc, zero, ltb-true}
 use Rattle.std.specs.Prelude.{ℤ, pos, ◌+ℤ◌, neg_ℤ}
 use Rattle.std.proofs.lemmas.Int.{ints}

@@ -24,7 +24,7 @@ use Rattle.overlay_geometry.proofs.laws.integers.Products.{times_nothing}
 
 -- ---- the test
 
--- a point on the line lies strictly inside where it stands after a and before b
+-- a point on the line lies strictly inside where it comes after a and before b
 pub is_strictly_inside_by_order : (s : Pair) (p : Point) → IsTrue (is_ordered s) → is_strictly_inside s p ≡ (point_lt s.a p && point_lt p s.b && int_eq (turn s.a s.b p) (pos 0))
 is_strictly_inside_by_order s p o =
     let both = lies_inside_by_order s p o in

@@ -1,4 +1,4 @@
--- Whether two pairs are equal, whether a pair or a point stands in a list, and neighbors in order of the pairs.
+-- Whether two pairs are equal, whether a pair or a point is in a list, and neighbors in order of the pairs.
 use Rattle.std.proofs.Common.{◌≡◌, Bool, false, List, ◌∷◌, Less, is_eq, ap, ◌∙◌}
 use Rattle.std.specs.Ordering.{ordering_reverse}
 use Rattle.std.specs.List.{AllByRecursion, list_any}
@@ -23,7 +23,7 @@ pair_eq-comm s t = ap is_eq (pair_cmp_total.antisymm s t) ∙ is_eq-reverse (pai
 
 -- ---- pairs and points in a list
 
--- whether q stands in a list of pairs
+-- whether q is in a list of pairs
 abbrev pub holds : List Pair → Pair → Bool
 holds ks q = list_any (λ k. pair_eq q k) ks
 
@@ -31,7 +31,7 @@ holds ks q = list_any (λ k. pair_eq q k) ks
 pub holds-distinct : (ks : List Pair) (q : Pair) → holds (distinct_in_order pair_cmp ks) q ≡ holds ks q
 holds-distinct = has_key-distinct pair_cmp_total
 
--- whether q stands in a list of points
+-- whether q is in a list of points
 abbrev pub has_point : List Point → Point → Bool
 has_point ks q = list_any (λ k. point_eq q k) ks
 

@@ -53,7 +53,7 @@ winding_at-here s bag = winding_at-cons s bag s.pair ∙ ap (λ b. add (cond b s
 pub winding_at-other : (s : WholeSegment) (bag : List WholeSegment) (pair : Pair) → pair_eq s.pair pair ≡ false → winding_at (s ∷ bag) pair ≡ winding_at bag pair
 winding_at-other s bag pair e = winding_at-cons s bag pair ∙ ap (λ b. add (cond b s.count empty) (winding_at bag pair)) e ∙ empty-add (winding_at bag pair)
 
--- a pair that does not stand in a bag has no winding there
+-- a pair that is not in a bag has no winding there
 pub winding_at-absent : (bag : List WholeSegment) (q : Pair) → holds (pairs bag) q ≡ false → winding_at bag q ≡ empty
 winding_at-absent [] q h = winding_at-nil q
 winding_at-absent (s ∷ bag) q h =

@@ -21,7 +21,7 @@ use Rattle.overlay_base.proofs.laws.joins.Bags.{winding_at-nil, winding_at-cons,
 
 -- ---- lists like a join's
 
--- pairs in strict order, and no count empty: a map, but that a pair's ends may stand in any order
+-- pairs in strict order, and no count empty: a map, but that a pair's ends may be in any order
 pub record IsSummed (segments : List WholeSegment) : Type 0 where
   pub sorted : IsStrictlySortedBy pair_cmp (pairs segments)
   pub none_empty : list_all (λ s. is_not_empty s.count) segments ≡ true

@@ -1,4 +1,4 @@
--- The members of a join: which pairs stand in it, and what holds of its counts.
+-- The members of a join: which pairs are in it, and what holds of its counts.
 use Rattle.std.proofs.Common.{◌≡◌, ℕ, ◌≤◌, Bool, true, false, cond, ◌||◌, List, [], ◌∷◌, map, filter, length, sum_by, refl, sym, ap, ap₂, subst, ◌∙◌, arith, IsTrue, IsFalse, eqb-true, nat_lt, ◌==◌, bit_or, ltb-true, lt-ltb}
 use Rattle.std.specs.List.{AllByRecursion, list_any, list_all}
 use Rattle.std.proofs.lemmas.Bool.{and_parts, or_parts, not-false}
@@ -21,7 +21,7 @@ use Rattle.overlay_base.proofs.laws.lists.Monoids.{gathered-filter, gathered-sam
 
 -- ---- pairs
 
--- a pair stands in a map where its winding is not empty
+-- a pair is in a map where its winding is not empty
 pub holds-summed : (segments : List WholeSegment) → IsSummed segments → (q : Pair) → holds (pairs segments) q ≡ is_not_empty (winding_at segments q)
 holds-summed [] o q = sym (ap is_not_empty (winding_at-nil q))
 holds-summed (s ∷ ss) o q = by (pair_eq q s.pair) refl (holds-summed ss (IsSummed-tail s ss o) q)

@@ -164,7 +164,7 @@ all_in_range [] h = refl
 all_in_range (s ∷ segments) h = and_from _ _ h.0 (all_in_range segments h.1)
 
 module _ {D S : Type 0} (hooks : Hooks D S) (segments : List (DataSegment D)) (o : AreInOrder segments) where
-  -- of segments in order the walk makes the join, and its sums tell whether the join leaves the range
+  -- of segments in order the walk makes the join, and its sums show whether the join leaves the range
   pub finished-data_join : (from : S) → finished hooks (walk hooks segments from) ≡ data_join hooks segments from
   unfolding data_join
   finished-data_join from = finished-walk hooks segments from ∙ walked-is hooks segments from ∙ ap (λ l. kept_of hooks (merge_sorted hooks l from)) (sym (stably_sorted-in_order (λ s. s.pair) pair_cmp_total segments o.sorted))
@@ -183,7 +183,7 @@ pub record IsWalked {X D S : Type 0} (f : X → DataSegment D) (hooks : Hooks D 
   pub walked : walk hooks (map f (take index all)) from ≡ at hooks (map f (take kept now)) (f held) store true joined
 
 module _ {X D S : Type 0} (f : X → DataSegment D) (hooks : Hooks D S) (all : List X) (from : S) where
-  -- what stands at the index is still what stood there
+  -- what is at the index is still what was there
   still : (now : List X) (index : ℕ) (x : X) → drop index now ≡ drop index all → index < length now → index < length all → x ≡ get_or now index x → x ≡ get_or all index x
   still now index x rest lt lt' is =
       let a = get_or-drop index now 0 x in

@@ -40,6 +40,6 @@ has_equal_neighbors-in_order (s ∷ t ∷ ts) o = by (pair_eq s.pair t.pair) ref
     by true e ih = refl
     by false e ih = ih ∙ ap (λ b. b || has_equal_pairs (t ∷ ts)) (sym (has_key-below pair_cmp s.pair (pairs ts) (below_rest s t ts o e).1))
 
--- so after any sort by pair the neighbors tell whether the bag had equal pairs
+-- so after any sort by pair the neighbors show whether the bag had equal pairs
 pub has_equal_neighbors-sorted : (bag sorted : List WholeSegment) → IsPermutation bag sorted → IsSortedByKey (λ s. s.pair) pair_cmp sorted → has_equal_neighbors sorted ≡ has_equal_pairs bag
 has_equal_neighbors-sorted bag sorted p o = has_equal_neighbors-in_order sorted (IsInOrder-from_sort pair_cmp_total (λ s. s.pair) sorted o) ∙ has_equal_pairs-IsPermutation bag sorted p

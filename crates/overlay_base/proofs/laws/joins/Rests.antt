@@ -34,7 +34,7 @@ list_all-drop p zero xs h = h
 list_all-drop p (suc n) [] h = refl
 list_all-drop p (suc n) (x ∷ xs) h = list_all-drop p n xs (and_parts (p x) (list_all p xs) h).1
 
--- Each element so far has passed, so that the rest tells of all: one more passes, one fails, or none is left.
+-- Each element so far has passed, so that the rest is enough for all: one more passes, one fails, or none is left.
 pub passes : {X : Type 0} (p : X → Bool) (all rest next : List X) (x : X) → list_all p rest ≡ list_all p all → rest ≡ x ∷ next → p x ≡ true → list_all p next ≡ list_all p all
 passes p all rest next x h is e = sym (ap (λ xs. list_all p xs) is ∙ ap (λ b. b && list_all p next) e) ∙ h
 

@@ -67,7 +67,7 @@ module _ {D : Type 0} where
     not_before segments first second f s =
         ⊎_elim (λ (l : f.stop < s.stop). absurd (both_ways (join_leaves_range (without_data (take s.stop segments))) s.fits (leaves_longer segments (f.stop + 1) s.stop (omega (arith, l)) f.leaves))) (λ (l : s.stop ≤ f.stop). l) (cases_lt f.stop s.stop)
 
-    -- a list stops at one place, so the store is told
+    -- a list stops at one place, so the store is determined
     stopped_join_is_one : (segments : List (DataSegment D)) (first second : S) → IsStoppedJoin hooks segments from first → IsStoppedJoin hooks segments from second → first ≡ second
     stopped_join_is_one segments first second f s =
         let same : f.stop ≡ s.stop = omega (arith, not_before segments first second f s, not_before segments second first s f) in

@@ -63,7 +63,7 @@ module _ {X : Type 0} (lt : X → X → Bool) (o : IsStrictWeakOrder lt) where
   tails_by p y z ys zs e h true t = let u : p z ≡ true = ap p (sym e) ∙ t in let k = rw (t, u) at h in cc
   tails_by p y z ys zs e h false t = let u : p z ≡ false = ap p (sym e) ∙ t in rw (t, u) at h
 
-  -- a list in order is told by its ties
+  -- a list in order is determined by its ties
   pub Rises-unique : (ys zs : List X) → Rises lt ys → Rises lt zs → ((x : X) → filter (ties lt x) ys ≡ filter (ties lt x) zs) → ys ≡ zs
   Rises-unique [] [] a b h = refl
   Rises-unique [] (z ∷ zs) a b h = let k = rw (ties-refl z) at (h z) in cc

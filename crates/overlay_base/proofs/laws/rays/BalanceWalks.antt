@@ -93,9 +93,9 @@ IsWalked-next bag p q r u v x y m n rest w none_u none_v at_next h k =
     let n_is : n ≡ y = omega (arith, ints) in
     rw (at_next, m_is, n_is) next
 
--- ---- answers
+-- ---- results
 
--- no count to come stands at the point at hand: so what is there is what all counts add up to there
+-- no count to come is at the point at hand: so what is there is what all counts add up to there
 nothing_here : (bag : List WholeSegment) (p : Point) (u v : ℤ) (rest : List WholeSegment) → IsWalked bag p u v rest → AllByRecursion (λ q. point_cmp p q ≡ Less) (points rest) → Cancels bag → (u ≡ pos 0) × (v ≡ pos 0)
 nothing_here bag p u v rest w all none =
     let is : (at p u v).count ≡ empty = sym (add-empty (at p u v).count) ∙ ap (add (at p u v).count) (sym (absent p rest all)) ∙ sym (winding_at-here (at p u v) rest) ∙ w.same p ∙ none p in

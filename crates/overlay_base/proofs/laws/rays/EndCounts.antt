@@ -1,4 +1,4 @@
--- The code's counts at the ends of segments: two more for each segment, and what their sums tell.
+-- The code's counts at the ends of segments: two more for each segment, and what their sums show.
 use Rattle.std.proofs.Common.{◌≡◌, ℤ, neg_ℤ, List, [], ◌∷◌, ◌++◌, append_assoc, append-nil, IsPermutation, refl, sym, ap, ap₂, ◌∙◌}
 use Rattle.std.specs.Prelude.{◌↔◌}
 use Rattle.std.proofs.lemmas.List.{map-append}

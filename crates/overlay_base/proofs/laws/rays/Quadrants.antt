@@ -1,4 +1,4 @@
--- Two rays from a place meet a segment alike but for what the quadrants tell in which its two ends lie.
+-- Two rays from a place meet a segment alike but for the quadrants in which its two ends lie.
 use Rattle.std.proofs.Common.{◌≡◌, refl, arith, ℕ, ◌<◌, inl, inr}
 use Rattle.std.specs.Prelude.{ℤ, pos, ◌+ℤ◌, ◌-ℤ◌, ◌*ℤ◌, neg_ℤ, ◌≤ℤ◌, ◌<ℤ◌, int_le, int_lt, Bool, true, false, cond, not, ◌&&◌, ◌⊎◌}
 use Rattle.std.proofs.lemmas.Int.{ints, by_lt_z}

@@ -1,4 +1,4 @@
--- The winding round a place is that of any of its four rays.
+-- The winding around a place is that of any of its four rays.
 use Rattle.std.proofs.Common.{◌≡◌, refl, sym, ap, ap₂, ◌∙◌, arith, ℕ, ◌<◌, inl, inr, List, [], ◌∷◌}
 use Rattle.std.specs.Prelude.{ℤ, pos, ◌+ℤ◌, ◌-ℤ◌, ◌*ℤ◌, neg_ℤ, ◌≤ℤ◌, ◌<ℤ◌, int_le, int_lt, Bool, true, false, cond, not, ◌&&◌, ◌⊎◌, filter, bit_or, IsTrue}
 use Rattle.std.specs.List.{list_all}

@@ -9,11 +9,11 @@ use Rattle.overlay_geometry.proofs.laws.geometry.Points.{not_before, by_UpTo, fr
 use Rattle.overlay_base.proofs.segm.segment.Segment.create_and_validate_with_data.Goals.{then-lt, else-lt}
 use Rattle.overlay_base.proofs.segm.segment.Segment.create_and_validate_with_data.Goals as goal
 
--- where two points differ and the first does not stand before the second, the second stands before the first
+-- where two points differ and the first does not come before the second, the second comes before the first
 turned_lt : (p q : Point) → (p ≡ q → ⊥) → IsFalse (point_lt p q) → IsTrue (point_lt q p)
 turned_lt p q d h = by_UpTo q p (not_before p q h) (from_before q p) (λ e. absurd (d (sym e)))
 
--- the store after a segment is made from p to q, by whether p stands before q
+-- the store after a segment is made from p to q, by whether p comes before q
 store-true : {D S : Type 0} (hooks : Hooks D S) (count : Winding) (p q : Point) (edge_data : D) (store : S) → IsTrue (point_lt p q) → store ≡ (data_piece hooks count p q edge_data store).1
 unfolding data_piece
 store-true hooks count p q edge_data store h = rw (h, data_piece)
