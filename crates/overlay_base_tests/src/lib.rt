@@ -1,5 +1,5 @@
-// Tests of `overlay_geometry` and `overlay_base`, through their public calls. Tests stand in crates of their own, since
-// a crate with tests is proved twice.
+// Tests of `overlay_geometry` and `overlay_base`, through their public calls. Tests are in crates
+// of their own, since a crate with tests is proved twice.
 #![tactic(auto)]
 
 #[cfg(test)]

@@ -21,7 +21,7 @@ use std::test::Fail;
 /// A segment as the tables write it: from, to, the count for the subject and for the clip.
 type Row = ((i64, i64), (i64, i64), (i32, i32));
 
-/// What is sorted and merged, the answer, and the list after it.
+/// What is sorted and merged, the result, and the list after it.
 type Join = (
     &'static str,
     &'static [Row],
@@ -167,7 +167,7 @@ fn segments<I: OverlayInt>(
     Ok(list)
 }
 
-/// Compares what a call answered, and the list after it, with a row of the table.
+/// Compares what a call returned, and the list after it, with a row of the table.
 fn compare<I: OverlayInt>(
     rt: &(impl Abort + AllocGlobal),
     (name, _, answer, rows): Join,
@@ -251,7 +251,7 @@ fn tagged(
     Segment::create_and_validate_with_data(a, b, count, Tag(tag), calls)
 }
 
-/// Two segments on one pair, of which the second is turned.
+/// Two segments on one pair, the second one turned.
 fn tagged_list(
     rt: &(impl Abort + AllocGlobal),
     calls: &mut Calls,

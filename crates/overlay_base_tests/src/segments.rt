@@ -1,4 +1,4 @@
-// The segments of the tables, and what stands in a list of them.
+// The segments of the tables, and what a list of them holds.
 
 use overlay_base::segm::segment::Segment;
 use overlay_base::segm::winding::WindingCount;
