@@ -42,7 +42,7 @@ boundary rule fill_rule segments =
     map (λ s. record { pair = s.pair; count = of_subject (directed_count rule fill_rule segments s) })
     (filter (λ s. tells_apart rule fill_rule (side_bottom segments s) (side_top segments s)) segments)
 
--- how often the boundary winds round a place at which the segments wind so: once where the truth function holds there, and
+-- how often the boundary winds around a place at which the segments wind so: once where the truth function holds there, and
 -- not at all where it does not; where it holds of the places outside, once less
 unfoldable pub times_round : (Bool → Bool → Bool) → FillRule → Winding → ℤ
 times_round rule fill_rule w = truth (value_at rule fill_rule w) -ℤ truth (rule false false)
@@ -55,5 +55,5 @@ pub record BoundsRegion (rule : Bool → Bool → Bool) (fill_rule : FillRule) (
   pub sides : directed_links rule graph ≡ boundary rule fill_rule segments
   -- at every point as many start as end
   pub closed : IsBalanced (directed_links rule graph)
-  -- and round every place of the plane they wind so often
+  -- and around every place of the plane they wind so often
   pub winds : (p : RationalPoint) → 0 < p.bottom → winding_below (directed_links rule graph) p ≡ of_subject (times_round rule fill_rule (winding_below segments p))

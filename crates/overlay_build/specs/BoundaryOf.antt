@@ -29,7 +29,7 @@ links_by rule graph = directed_links (holds rule) (whole_graph graph)
 abbrev pub HasLinksInShape : {C I D E : Type 0} {m : _} {w' : _} {o' : _} {e' : _} {p' : _} {w : _} {o : _} {e : _} {p : _} → ShapeType → OverlayRule → OverlayGraph I D w o e p → List (Segment C I E m w' o' e' p') → Type 0
 HasLinksInShape shape rule graph list = segments_of list ≡ in_shape shape (links_by rule graph)
 
--- The list winds round every place as often as they do, for that shape.
+-- The list winds around every place as often as they do, for that shape.
 abbrev pub WindsAsLinks : {C I D E : Type 0} {m : _} {w' : _} {o' : _} {e' : _} {p' : _} {w : _} {o : _} {e : _} {p : _} → ShapeType → OverlayRule → OverlayGraph I D w o e p → List (Segment C I E m w' o' e' p') → Type 0
 WindsAsLinks shape rule graph list =
     (p : RationalPoint) → winding_below (segments_of list) p ≡ of_shape shape (winding_below (links_by rule graph) p).subj

@@ -22,7 +22,7 @@ built_nodes builder = builder.nodes.items
 abbrev pub built_links : {C N I D : Type 0} {m : _} {w : _} {o : _} {e : _} {p : _} → GraphBuilder C N I D m w o e p → List (OverlayLink I D)
 built_links builder = builder.links.items
 
--- how many orders of live segments the last build asked
+-- how many orders of live segments the last build compared
 abbrev pub build_asked : {C N I D : Type 0} {m : _} {w : _} {o : _} {e : _} {p : _} → GraphBuilder C N I D m w o e p → ℕ
 build_asked builder = builder.compared
 
@@ -31,7 +31,8 @@ module _ (I D : RattleType) (whole : Whole I.Denot) (order : Order I.Denot) (equ
   abbrev pub builder_row : RattleType
   builder_row = the_row boolean_row node_row I D boolean_ghosts whole order equality partial
 
-  -- the nodes and links of the graph that was answered, or none after a refusal; and how many orders its build asked, or the build before
+  -- the nodes and links of the graph that was returned, or none after a refusal; and how many orders its build compared, or the build
+  -- before
   abbrev pub RestsIn : Result (OverlayGraph I.Denot D.Denot whole order equality partial) Fault → MutBor builder_row.Denot → Fml
   RestsIn result builder = Rests builder_row builder (λ after.
       IfOk result (λ graph. (after.nodes.items ≡ graph.nodes.now) × (after.links.items ≡ graph.links.now) × (after.compared ≡ graph.compared))

@@ -10,8 +10,8 @@ use Rattle.overlay_build.specs.Graph.{Link}
 abbrev pub turned : Link → Link
 turned l = record { pair = record { a = l.pair.b; b = l.pair.a }; fill = l.fill; a_node = l.b_node; b_node = l.a_node }
 
--- A link from where it starts to where it ends in its direction: as it stands where the truth function holds of the top of
--- its fill, and else turned round.
+-- A link from where it starts to where it ends in its direction: as it is where the truth function holds of the top of its
+-- fill, and else turned.
 abbrev pub in_direction : (Bool → Bool → Bool) → Link → Link
 in_direction rule l = if top_value rule l.fill then l else turned l
 
@@ -25,7 +25,7 @@ IsFlow arcs = (u : ℕ) → length (filter (λ l. l.a_node == u) arcs) ≡ lengt
 
 -- ---- walks
 
--- stands where a walk names no link, which no closed walk does
+-- is used where a walk names no link, which no closed walk does
 abbrev pub no_link : Link
 no_link = record { pair = record { a = record { x = pos 0; y = pos 0 }; b = record { x = pos 0; y = pos 0 } }; fill = 0; a_node = 0; b_node = 0 }
 
@@ -64,7 +64,7 @@ edges points = map (λ e. record { a = e.0; b = e.1 }) (zip points (rotated poin
 
 -- ---- all together
 
--- directed walks in which every link stands in exactly one place
+-- directed walks in which every link is in exactly one place
 pub record AreDirectedWalks (arcs : List Link) (walks : List (List ℕ)) : Type 0 where
   pub closed : All (IsDirectedWalk arcs) walks
   pub once : (i : ℕ) → i < length arcs → count_by (λ j. j == i) (flat_map (λ walk. walk) walks) ≡ 1

@@ -35,7 +35,7 @@ pub record HoldLists {I D : Type 0} (whole : I → ℤ) (links : List (OverlayLi
 abbrev pub pairs_of_links : {I D : Type 0} → (I → ℤ) → List (OverlayLink I D) → List Pair
 pairs_of_links whole links = map (λ l. (link_of whole l).pair) links
 
--- whether a number stands among the indexes
+-- whether a number is among the indexes
 abbrev pub names_node : ℕ → List ℕ → Bool
 names_node k indexes = list_any (λ i. i == k) indexes
 

@@ -34,7 +34,7 @@ FillsTellLines =
     (rule : ClipRule) (fill_rule : FillRule) (b t : Winding) (mask : ℕ) → b.clip ≡ pos 0 → t.clip ≡ pos 0 → mask < 4 →
     keeps_clip rule (fill_byte fill_rule b t mask) ≡ (not (mask == 0) && keeps_between rule fill_rule b t)
 
--- with balance evenly many links meet at each node of a truth function's graph
+-- with balance an even number of links meets at each node of a truth function's graph
 abbrev pub NodesAreEven : Type 0
 NodesAreEven =
     (fill_rule : FillRule) (rule : Bool → Bool → Bool) (segments : List WholeSegment) → IsTrue (is_map segments) → IsTrue (are_polygons segments) → IsTrue (is_planar segments) → IsBalanced segments →
@@ -64,13 +64,13 @@ GraphsEncloseRegions =
     (fill_rule : FillRule) (rule : Bool → Bool → Bool) (segments : List WholeSegment) → IsTrue (is_map segments) → IsTrue (are_polygons segments) → IsTrue (is_planar segments) → IsBalanced segments →
     EnclosesRegion rule fill_rule segments (graph_by (keeps_fill rule) fill_rule segments)
 
--- The links of its graph, each with the region on its left, are the boundary of the region: they are balanced, and wind once round it.
+-- The links of its graph, each with the region on its left, are the boundary of the region: they are balanced, and wind once around it.
 abbrev pub GraphsBoundRegions : Type 0
 GraphsBoundRegions =
     (fill_rule : FillRule) (rule : Bool → Bool → Bool) (segments : List WholeSegment) → IsTrue (is_map segments) → IsTrue (are_polygons segments) → IsTrue (is_planar segments) → IsBalanced segments →
     BoundsRegion rule fill_rule segments (graph_by (keeps_fill rule) fill_rule segments)
 
--- As segments of one shape they may be given to a further overlay: balanced, arranged, and round the region once.
+-- As segments of one shape they may be given to a further overlay: balanced, arranged, and around the region once.
 abbrev pub BoundariesAreShapes : Type 0
 BoundariesAreShapes =
     (least greatest : ℤ) (shape : ShapeType) (fill_rule : FillRule) (rule : Bool → Bool → Bool) (segments : List WholeSegment) → IsTrue (is_arranged least greatest segments) → IsTrue (are_polygons segments) → IsBalanced segments →
@@ -80,7 +80,7 @@ BoundariesAreShapes =
 abbrev pub ShapesWindAlike : Type 0
 ShapesWindAlike = (shape : ShapeType) (segments : List WholeSegment) (p : RationalPoint) → winding_below (in_shape shape segments) p ≡ of_shape shape (winding_below segments p).subj
 
--- A further overlay has inside, for this shape, exactly the places of which the function holds, if it says no of those outside.
+-- A further overlay has inside, for this shape, exactly the places where the function holds, if it is false outside.
 abbrev pub RegionsAreSeenAgain : Type 0
 RegionsAreSeenAgain =
     (rule : Bool → Bool → Bool) (fill_rule again : FillRule) (w : Winding) → rule false false ≡ false → again ≢ Negative → is_inside again (times_round rule fill_rule w) ≡ value_at rule fill_rule w

@@ -17,7 +17,7 @@ nodes_of graph = graph.nodes.now
 abbrev pub links_of : {I D : Type 0} {w : _} {o : _} {e : _} {p : _} → OverlayGraph I D w o e p → List (OverlayLink I D)
 links_of graph = graph.links.now
 
--- how many orders of live segments its build asked
+-- how many orders of live segments its build compared
 abbrev pub graph_asked : {I D : Type 0} {w : _} {o : _} {e : _} {p : _} → OverlayGraph I D w o e p → ℕ
 graph_asked graph = graph.compared
 
@@ -29,7 +29,7 @@ whole_graph {w = w} graph = graph_with w.whole (links_of graph)
 abbrev pub HasItsNodes : {I D : Type 0} {w : _} {o : _} {e : _} {p : _} → OverlayGraph I D w o e p → Type 0
 HasItsNodes {w = w} graph = HoldGraph indexes_of is_canonical_node w.whole (nodes_of graph) (links_of graph) (whole_graph graph)
 
--- evenly many links meet at each of them
+-- an even number of links meets at each of them
 abbrev pub HasEvenNodes : {I D : Type 0} {w : _} {o : _} {e : _} {p : _} → OverlayGraph I D w o e p → Type 0
 HasEvenNodes graph = IsTrue (has_even_nodes (whole_graph graph))
 

@@ -7,7 +7,7 @@ use Rattle.overlay_base.specs.declared.overlay_core.fill_rule.FillRule.{FillRule
 use Rattle.overlay_build.specs.Graph.{Graph}
 use Rattle.overlay_build.specs.Values.{tells_apart}
 
--- whether oddly many links run below p
+-- whether an odd number of links runs below p
 unfoldable pub encloses : Graph → RationalPoint → Bool
 encloses graph p = length (filter (λ l. lies_below l.pair p) graph.links) % 2 == 1
 

@@ -26,5 +26,5 @@ pub record BoundsAsShape (least greatest : ℤ) (shape : ShapeType) (rule : Bool
   pub splittable : IsTrue (is_splittable least greatest list)
   -- at every point as many start as end
   pub balanced : IsBalanced list
-  -- and round every place of the plane they wind so often, for this shape alone
+  -- and around every place of the plane they wind so often, for this shape alone
   pub winds : (p : RationalPoint) → 0 < p.bottom → winding_below list p ≡ of_shape shape (times_round rule fill_rule (winding_below segments p))

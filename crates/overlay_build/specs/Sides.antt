@@ -22,7 +22,7 @@ unfoldable pub overlay_graph : (Bool → Bool → Bool) → FillRule → List Wh
 overlay_graph rule fill_rule segments = graph_of (map (λ s. with_sides fill_rule segments s) (filter (λ s. has_sides_apart rule fill_rule segments s) segments))
 
 -- Where counts balance: windings are the same all along a segment, the graph is that of the segments whose sides the
--- rule's values on them differ, with the fills of these sides, evenly many links meet at every node, the graph encloses the region
+-- rule's values on them differ, with the fills of these sides, an even number of links meets at every node, the graph encloses the region
 -- of the rule, and its links, each in the direction that has the region on its left, are the region's boundary.
 pub record IsBalancedOverlay (rule : Bool → Bool → Bool) (fill_rule : FillRule) (segments : List WholeSegment) (graph : Graph) : Type 0 where
   pub windings : All (IsSameAlong segments) segments

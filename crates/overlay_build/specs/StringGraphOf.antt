@@ -45,7 +45,7 @@ HasItsNodes {w = w} graph = HoldGraph items_of is_any_node w.whole (line_nodes_o
 abbrev pub ShowsGraphBy : {C I D : Type 0} {m : _} {w' : _} {o' : _} {e' : _} {p' : _} {w : _} {o : _} {e : _} {p : _} → (ℕ → Bool) → FillRule → List (Segment C I D m w' o' e' p') → StringGraph I w o e p → Type 0
 ShowsGraphBy {w = w} keeps rule list graph = HoldGraph items_of is_any_node w.whole (line_nodes_of graph) (line_links_of graph) (graph_by keeps rule (segments_of list))
 
--- how many orders of live segments its build asked
+-- how many orders of live segments its build compared
 abbrev pub lines_asked : {I : Type 0} {w : _} {o : _} {e : _} {p : _} → StringGraph I w o e p → ℕ
 lines_asked graph = graph.builder.now.compared
 
@@ -58,7 +58,7 @@ module _ (I : RattleType) (whole : Whole I.Denot) (order : Order I.Denot) (equal
   abbrev pub line_builder_row : RattleType
   line_builder_row = the_row string_row (vec.the_row usize global.the_row ghosts) I unit string_ghosts whole order equality partial
 
-  -- what is left in the graph that was answered, or nothing after a refusal
+  -- what is left in the graph that was returned, or nothing after a refusal
   abbrev pub HoldsLines : Result (StringGraph I.Denot whole order equality partial) Fault → MutBor line_builder_row.Denot → Fml
   HoldsLines result builder =
       RestsIfErr line_builder_row builder (λ graph. graph.builder.ghost_name) result (λ after. (after.nodes.items ≡ []) × (after.links.items ≡ []) × (after.compared ≡ builder.now.compared))

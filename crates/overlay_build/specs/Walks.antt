@@ -21,7 +21,7 @@ pub record IsFirstReturn (links : List Link) (walk : List ℕ) : Type 0 where
   pub closed : walk_end links start walk ≡ Some start
   pub away : (k : ℕ) → 0 < k → k < length walk → walk_end links start (take k walk) ≢ Some start
 
--- closed walks in which every link stands in exactly one place, each up to its first return
+-- closed walks in which every link is in exactly one place, each up to its first return
 pub record AreClosedWalks (links : List Link) (walks : List (List ℕ)) : Type 0 where
   pub closed : All (IsClosedWalk links) walks
   pub first_return : All (IsFirstReturn links) walks

@@ -1,5 +1,5 @@
-// The graphs of kept segments, from the fills on their two sides. The sweep that finds these fills is the crate
-// `overlay_sweep`, whose modules stand here too, as in upstream.
+// The graphs of kept segments, from the fills on their two sides. The sweep that finds these fills
+// is the crate `overlay_sweep`, whose modules are here too, as in upstream.
 
 pub mod boundary;
 pub mod builder;

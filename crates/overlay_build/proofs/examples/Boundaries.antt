@@ -1,4 +1,4 @@
--- Worked examples of boundaries: the directions of links, and how often they wind round places. Each holds by computation.
+-- Worked examples of boundaries: the directions of links, and how often they wind around places. Each holds by computation.
 use Rattle.std.specs.Prelude.{◌≡◌, refl, ℤ, pos, negsuc, Bool, true, not, ◌||◌, List, [], ◌∷◌, map}
 use Rattle.overlay_geometry.specs.Points.{Point}
 use Rattle.overlay_base.specs.Windings.{empty}
@@ -22,7 +22,7 @@ directed rule segments = directed_links rule (graph_by (keeps_fill rule) NonZero
 abbrev ways : (Bool → Bool → Bool) → List WholeSegment → List ℤ
 ways rule segments = map (λ s. s.count.subj) (directed rule segments)
 
--- how often they wind round (x / 2, y / 2)
+-- how often they wind around (x / 2, y / 2)
 abbrev round_half : (Bool → Bool → Bool) → List WholeSegment → Point → ℤ
 round_half rule segments p = (winding_below (directed rule segments) (record { x = p.x; y = p.y; bottom = 2 })).subj
 
@@ -65,7 +65,7 @@ intersect_ways : ways (holds Intersect) twelve ≡ (negsuc 0 ∷ pos 1 ∷ negsu
 unfolding computing
 intersect_ways = refl
 
--- round what both cover the boundary of what one covers alone runs the other way
+-- around what both cover the boundary of what one covers alone runs the other way
 xor_ways : ways (holds Xor) twelve ≡ (negsuc 0 ∷ pos 1 ∷ negsuc 0 ∷ pos 1 ∷ negsuc 0 ∷ negsuc 0 ∷ pos 1 ∷ negsuc 0 ∷ pos 1 ∷ negsuc 0 ∷ pos 1 ∷ pos 1 ∷ [])
 unfolding computing
 xor_ways = refl
@@ -99,7 +99,7 @@ xor_by_sides : directed (holds Xor) twelve ≡ boundary (holds Xor) NonZero twel
 unfolding computing
 xor_by_sides = refl
 
--- ---- a bow tie: one half is wound once, the other -1 times; its boundary winds once round both
+-- ---- a bow tie: one half is wound once, the other -1 times; its boundary winds once around both
 
 abbrev bow_tie : List WholeSegment
 bow_tie = seg (pos 0) (pos 0) (pos 0) (pos 4) (negsuc 0) (pos 0) ∷ seg (pos 0) (pos 0) (pos 2) (pos 2) (pos 1) (pos 0) ∷ seg (pos 0) (pos 4) (pos 2) (pos 2) (negsuc 0) (pos 0) ∷ seg (pos 2) (pos 2) (pos 4) (pos 0) (negsuc 0) (pos 0) ∷ seg (pos 2) (pos 2) (pos 4) (pos 4) (pos 1) (pos 0) ∷ seg (pos 4) (pos 0) (pos 4) (pos 4) (negsuc 0) (pos 0) ∷ []

@@ -23,7 +23,7 @@ use Rattle.overlay_build.proofs.examples.Computing.{computing}
 abbrev given_again : ShapeType → (Bool → Bool → Bool) → List WholeSegment → List WholeSegment
 given_again shape rule segments = in_shape shape (directed_links rule (graph_by (keeps_fill rule) NonZero segments))
 
--- how segments wind round (x / 2, y / 2)
+-- how segments wind around (x / 2, y / 2)
 abbrev winds_at : List WholeSegment → Point → Winding
 winds_at segments p = winding_below segments (record { x = p.x; y = p.y; bottom = 2 })
 
@@ -62,7 +62,7 @@ second_is_arranged : is_arranged least_coordinate greatest_coordinate second ≡
 unfolding computing
 second_is_arranged = refl
 
--- round the hole the boundary runs the other way
+-- around the hole the boundary runs the other way
 second_ways : map (λ s. s.count.subj) (given_again Subject (holds Difference) second) ≡ (negsuc 0 ∷ pos 1 ∷ negsuc 0 ∷ negsuc 0 ∷ negsuc 0 ∷ pos 1 ∷ negsuc 0 ∷ pos 1 ∷ pos 1 ∷ pos 1 ∷ negsuc 0 ∷ pos 1 ∷ [])
 unfolding computing
 second_ways = refl

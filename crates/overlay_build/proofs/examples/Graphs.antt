@@ -73,7 +73,7 @@ intersection_is_even : has_even_nodes (graph_by (keeps_fill (holds Intersect)) N
 unfolding computing
 intersection_is_even = refl
 
--- all segments: ten nodes, of which two are no bridges
+-- all segments: ten nodes, two of them no bridges
 all_nodes : length (graph_by (λ f. true) NonZero twelve).nodes ≡ 10
 unfolding computing
 all_nodes = refl

@@ -18,11 +18,11 @@ unused_degree (b ∷ used) [] u = 0
 unused_degree (true ∷ used) (l ∷ links) u = unused_degree used links u
 unused_degree (false ∷ used) (l ∷ links) u = touches l u + unused_degree used links u
 
--- evenly many unused links begin or end at each node
+-- an even number of unused links begins or ends at each node
 pub record AreUnusedEven (links : List Link) (used : List Bool) : Type 0 where
   pub even : (u : ℕ) → unused_degree used links u % 2 ≡ 0
 
--- each used link stands once in the walks, one after another, and no other does
+-- each used link is once in the walks, one after another, and no other is
 pub record AreCounted (used : List Bool) (walked : List ℕ) : Type 0 where
   pub once : (j : ℕ) → count_by (λ k. k == j) walked ≡ flag_value (slice_index_or used j false) 1
 

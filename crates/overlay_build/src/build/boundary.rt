@@ -21,14 +21,14 @@ use overlay_base::segm::winding::WindingCount;
 use overlay_geometry::num::OverlayInt;
 use std::alloc::Global;
 
-/// The links of a graph as segments of one shape, each in its direction: counted once from `a` to `b` where the rule
-/// holds of the top of its fill, and else once from `b` to `a`. They stand in the order of the links, and carry no
-/// data.
+/// The links of a graph as segments of one shape, each in its direction: counted once from `a` to
+/// `b` where the rule holds of the top of its fill, and else once from `b` to `a`. They are in the
+/// order of the links, and carry no data.
 ///
-/// Of the rule's own graph of an arrangement with balanced counts these are the boundary of the rule's region, so that
-/// a result can be given again: the list is arranged, as `is_arranged` tests, and balanced, and a split leaves it as it
-/// is. Round every place it winds once for the shape where the rule holds and not at all elsewhere, less what the rule
-/// says of places outside.
+/// Of the rule's own graph of an arrangement with balanced counts these are the boundary of the
+/// rule's region, so that a result can be given again: the list is arranged, as `is_arranged`
+/// tests, and balanced, and a split leaves it as it is. Around every place it winds once for the
+/// shape where the rule holds and not at all elsewhere, less what the rule says of places outside.
 ///
 /// Takes time linear in links. Returns `Fault::Memory` where a growth is refused.
 pub fn directed_segments<I: OverlayInt, D: Copy>(

@@ -94,8 +94,8 @@ impl<C: WindingCount, N: GraphNode, I: OverlayInt, D: Copy> GraphBuilder<C, N, I
         &self.links
     }
 
-    /// How many orders of live segments the sweep of the last build that succeeded has asked: 0 at first, and
-    /// `u128::MAX` at most.
+    /// How many orders of live segments the sweep of the last build that succeeded has compared: 0
+    /// at first, and `u128::MAX` at most.
     pub fn compared(&self) -> u128
         ensures { result ≡ build_asked self.now }
     {
@@ -148,7 +148,7 @@ impl<C: FillCount, N: GraphNode, I: OverlayInt, D: Copy> GraphBuilder<C, N, I, D
         }
     }
 
-    /// Builds the same, but that a refused build may leave anything.
+    /// Builds as `build` does, but a refused build may leave anything.
     fn try_build(
         &mut self,
         fill_rule: FillRule,
@@ -218,8 +218,8 @@ impl<I: OverlayInt, D: Copy> GraphBuilder<ShapeCountBoolean, OverlayNode, I, D> 
 
     /// The graph of all segments of an arrangement, with their fills under the rule.
     ///
-    /// The segments have to be arranged, as `is_arranged` tests; their counts need not balance. The solver's strategy
-    /// does not change the answer.
+    /// The segments have to be arranged, as `is_arranged` tests; their counts need not balance. The
+    /// solver's strategy does not change the result.
     ///
     /// Returns `Fault::CountOutOfRange` where a winding above a segment leaves the range, and `Fault::Memory` where a
     /// growth is refused. Nodes and links are empty then, and the builder can be used again.
@@ -245,8 +245,8 @@ impl<I: OverlayInt, D: Copy> GraphBuilder<ShapeCountBoolean, OverlayNode, I, D> 
     /// The same graph as lists: how many links meet at each node, and the indexes of these links, node by node, in place
     /// of what the two lists had. `links` shows its links then, and `nodes` none.
     ///
-    /// The segments have to be arranged, as `is_arranged` tests; their counts need not balance. The solver's strategy
-    /// does not change the answer.
+    /// The segments have to be arranged, as `is_arranged` tests; their counts need not balance. The
+    /// solver's strategy does not change the result.
     ///
     /// Returns `Fault::CountOutOfRange` where a winding above a segment leaves the range, and `Fault::Memory` where a
     /// growth is refused. The links are none then, the lists may have anything, and the builder can be used again.
@@ -278,12 +278,14 @@ impl<I: OverlayInt, D: Copy> GraphBuilder<ShapeCountBoolean, OverlayNode, I, D> 
         built
     }
 
-    /// The graph of the segments of an arrangement that the rule keeps: those of whose two sides it says different
-    /// things. With balanced counts these sides are the windings in the columns beside a segment, evenly many links
-    /// meet at each node, and the links, each in the direction that has what the rule holds of on its left, are the
-    /// boundary of the rule's region.
+    /// The graph of the segments of an arrangement that the rule keeps: those of whose two sides it
+    /// says different things. With balanced counts these sides are the windings in the columns
+    /// beside a segment, an even number of links meets at each node, and the links, each in the
+    /// direction that has what the rule holds of on its left, are the boundary of the rule's
+    /// region.
     ///
-    /// The segments have to be arranged, as `is_arranged` tests. The solver's strategy does not change the answer.
+    /// The segments have to be arranged, as `is_arranged` tests. The solver's strategy does not
+    /// change the result.
     ///
     /// Returns `Fault::CountOutOfRange` where a winding above a segment leaves the range, and `Fault::Memory` where a
     /// growth is refused. Nodes and links are empty then, and the builder can be used again.
@@ -326,8 +328,8 @@ impl<I: OverlayInt> GraphBuilder<ShapeCountString, Vec<usize>, I, ()> {
     /// The graph of all segments of an arrangement of polygons and lines, with their fills under the rule: how the
     /// polygons wind on their two sides, and which ways lines run along them.
     ///
-    /// The segments have to be arranged, as `is_arranged` tests; their counts need not balance. The solver's strategy
-    /// does not change the answer.
+    /// The segments have to be arranged, as `is_arranged` tests; their counts need not balance. The
+    /// solver's strategy does not change the result.
     ///
     /// Returns `Fault::CountOutOfRange` where a winding above a segment leaves the range, and `Fault::Memory` where a
     /// growth is refused. Nodes and links are empty then, and the builder can be used again.
@@ -355,7 +357,8 @@ impl<I: OverlayInt> GraphBuilder<ShapeCountString, Vec<usize>, I, ()> {
     /// whether the polygons are on their two sides. With balanced counts, as of closed contours and whatever lines,
     /// these sides are the windings in the columns beside a segment.
     ///
-    /// The segments have to be arranged, as `is_arranged` tests. The solver's strategy does not change the answer.
+    /// The segments have to be arranged, as `is_arranged` tests. The solver's strategy does not
+    /// change the result.
     ///
     /// Returns `Fault::CountOutOfRange` where a winding above a segment leaves the range, and `Fault::Memory` where a
     /// growth is refused. Nodes and links are empty then, and the builder can be used again.

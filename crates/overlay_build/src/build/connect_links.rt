@@ -14,10 +14,11 @@ use overlay_base::overlay_core::link::OverlayLink;
 use overlay_base::segm::fault::Fault;
 use overlay_geometry::num::OverlayInt;
 
-/// Gives both ends of each link the number of its node, and lists the nodes in place of what the two lists had: how many
-/// links meet at each, and the indexes of these links, node by node. The first end of each link has to stand before the
-/// second, and the links have to be sorted by their ends, no two on the same ends. So their first ends are sorted, and
-/// only the second ends have to be. All ends have to be in range.
+/// Gives both ends of each link the number of its node, and lists the nodes in place of what the
+/// two lists had: how many links meet at each, and the indexes of these links, node by node. The
+/// first end of each link has to come before the second, and the links have to be sorted by their
+/// ends, no two on the same ends. So their first ends are sorted, and only the second ends have to
+/// be. All ends have to be in range.
 pub fn connect_links<I: OverlayInt, D: Copy>(
     links: &mut Vec<OverlayLink<I, D>>,
     ends: &mut Vec<PackedEnd>,

@@ -22,9 +22,9 @@ use std::alloc::Global;
 /// Closed walks along the links of a graph, each in its direction: from `a` to `b` where the rule holds of the top of
 /// its fill, and else from `b` to `a`. So what the rule holds of lies to the left of the way.
 ///
-/// Each walk lists the indexes of links that lead from a node on to others and back to it, where it ends at once. Every
-/// link stands in exactly one place of exactly one walk. The points at which the links of a walk start are a contour
-/// whose edges are just these links.
+/// Each walk lists the indexes of links that lead from a node on to others and back to it, where it
+/// ends at once. Every link is in exactly one place of exactly one walk. The points at which the
+/// links of a walk start are a contour whose edges are just these links.
 ///
 /// As many links have to start as end at each node, as they do in the graph of the rule where counts balance. Takes
 /// time linear in links and nodes.

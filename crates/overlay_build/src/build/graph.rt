@@ -11,9 +11,10 @@ use overlay_geometry::num::OverlayInt;
 
 /// The kept segments of an overlay as links, and their ends as nodes.
 ///
-/// Links stand in the order of the segments. Nodes are the ends of links, each once, in order of their points; a node
-/// lists the links that start there, then those that end there, both by rising index. A link's `a.id` and `b.id` are
-/// the numbers of the nodes at its ends; `a` stands before `b`.
+/// Links are in the order of the segments. Nodes are the ends of links, each once, in order of
+/// their points; a node lists the links that start there, then those that end there, both by rising
+/// index. A link's `a.id` and `b.id` are the numbers of the nodes at its ends; `a` comes before
+/// `b`.
 #[derive(Drop)]
 pub struct OverlayGraph<'a, I: OverlayInt, D> {
     nodes: &'a [OverlayNode],
@@ -28,8 +29,8 @@ impl<'a, I: OverlayInt, D: Copy> OverlayGraph<'a, I, D> {
     ghost use Rattle.overlay_build.specs.Graph.{has_even_nodes, is_valid_graph};
     ghost use Rattle.overlay_build.specs.OverlayGraphOf.{nodes_of, links_of, graph_asked};
 
-    /// The graph of these links, which has to have these nodes, found by a sweep that asked this many orders. Each
-    /// link's `a` has to stand before its `b`.
+    /// The graph of these links, which has to have these nodes, found by a sweep that compared this
+    /// many orders. Each link's `a` has to come before its `b`.
     pub(crate) fn new(
         nodes: &'a [OverlayNode],
         links: &'a [OverlayLink<I, D>],
@@ -63,7 +64,7 @@ impl<'a, I: OverlayInt, D: Copy> OverlayGraph<'a, I, D> {
         self.links
     }
 
-    /// How many orders of live segments the sweep has asked that found it, `u128::MAX` at most.
+    /// How many orders of live segments the sweep that found it has compared, `u128::MAX` at most.
     pub fn compared(&self) -> u128
         ensures { result ≡ graph_asked self.now }
     {
@@ -83,7 +84,7 @@ impl<'a, I: OverlayInt, D: Copy> OverlayGraph<'a, I, D> {
         true
     }
 
-    /// Whether evenly many links meet at each node.
+    /// Whether an even number of links meets at each node.
     pub fn has_even_nodes(&self) -> bool
         ensures { result ≡ has_even_nodes (graph_with I.whole (links_of self.now)) }
     {
@@ -91,7 +92,7 @@ impl<'a, I: OverlayInt, D: Copy> OverlayGraph<'a, I, D> {
     }
 }
 
-/// Whether evenly many links meet at each of these nodes.
+/// Whether an even number of links meets at each of these nodes.
 fn are_even(nodes: &[OverlayNode]) -> bool
     ensures { result ≡ list_all (λ n. length (indexes_of n) % 2 == 0) nodes.now }
 {

@@ -9,11 +9,12 @@ pub fn fill_laws()
     ensures { FillsTellSides }
 {}
 
-/// With balanced counts, for every truth function of "inside the subject" and "inside the clip": evenly many links meet
-/// at each node of its graph, so that it is valid, and its graph is that of the segments whose two sides it tells
-/// apart, by the windings in the columns beside them; at every place of the plane oddly many of its links run below
-/// exactly where the function has another value there than outside. Without any condition: the links that a test keeps
-/// of the graph of all segments are those of the test's own graph, but for the numbers of nodes.
+/// With balanced counts, for every truth function of "inside the subject" and "inside the clip": an
+/// even number of links meets at each node of its graph, so that it is valid, and its graph is that
+/// of the segments whose two sides it separates, by the windings in the columns beside them; at
+/// every place of the plane an odd number of its links runs below exactly where the function has
+/// another value there than outside. Without any condition: the links that a test keeps of the
+/// graph of all segments are those of the test's own graph, but for the numbers of nodes.
 pub fn graph_laws()
     ensures even { NodesAreEven }
     ensures valid { GraphsAreValid }
@@ -22,18 +23,20 @@ pub fn graph_laws()
     ensures filter { FilterGivesLinks }
 {}
 
-/// With balanced counts, for every truth function: the links of its graph, each in the direction that has what the
-/// function holds of on its left, are the boundary of its region. The function holds on the left of each and not on its
-/// right; at every point as many start as end; and round every place of the plane they wind once where the function
-/// holds there, and not at all where it does not, less what it says of places outside.
+/// With balanced counts, for every truth function: the links of its graph, each in the direction
+/// that has what the function holds of on its left, are the boundary of its region. The function
+/// holds on the left of each and not on its right; at every point as many start as end; and around
+/// every place of the plane they wind once where the function holds there, and not at all where it
+/// does not, less what it says of places outside.
 pub fn boundary_laws()
     ensures { GraphsBoundRegions }
 {}
 
-/// A result can be given again. With balanced counts, for every truth function: the links of its graph, each in its
-/// direction, as segments of one shape are a planar arrangement in range and with valid counts, balanced, and they wind
-/// round the region for that shape alone. Under a fill rule other than `Negative` that shape is then inside exactly
-/// where the function holds, if it says no of places outside.
+/// A result can be given again. With balanced counts, for every truth function: the links of its
+/// graph, each in its direction, as segments of one shape are a planar arrangement in range and
+/// with valid counts, balanced, and they wind around the region for that shape alone. Under a fill
+/// rule other than `Negative` that shape is then inside exactly where the function holds, if it
+/// says no of places outside.
 pub fn shape_laws()
     ensures again { BoundariesAreShapes }
     ensures winds { ShapesWindAlike }

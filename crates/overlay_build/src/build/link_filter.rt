@@ -8,8 +8,8 @@ use overlay_base::overlay_core::link::OverlayLink;
 use overlay_base::overlay_core::overlay_rule::OverlayRule;
 use overlay_base::segm::fault::Fault;
 
-/// Writes one state a link into the buffer: `Unvisited` exactly where the rule says different things of the two sides.
-/// What stood in the buffer is dropped.
+/// Writes one state a link into the buffer: `Unvisited` exactly where the rule says different
+/// things of the two sides. What the buffer held is dropped.
 ///
 /// Returns `Fault::Memory` where a growth is refused; the buffer is empty then.
 pub fn filter_by_overlay_into<I, D>(

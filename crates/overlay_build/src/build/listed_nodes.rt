@@ -8,7 +8,8 @@ use crate::build::graph_node::GraphNode;
 use overlay_base::segm::fault::Fault;
 use std::alloc::Global;
 
-/// Makes a node of the indexes of each, which stand one behind another: so many of the first node, so many of the next.
+/// Makes a node of the indexes of each, one behind another: so many of the first node, so many of
+/// the next.
 pub fn make_nodes<N: GraphNode>(
     alloc: Global,
     degrees: &[usize],

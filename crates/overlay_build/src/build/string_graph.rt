@@ -12,11 +12,12 @@ pub type LineBuilder<I> = GraphBuilder<ShapeCountString, Vec<usize>, I, ()>;
 
 /// The kept segments of polygons and lines as links, and their ends as nodes.
 ///
-/// As it is built, links stand in the order of the segments, and nodes are the ends of links, each once, in order of
-/// their points; a node lists the links that start there, then those that end there, both by rising index. A link's
-/// `a.id` and `b.id` are the numbers of the nodes at its ends. Whoever walks over the graph may write to its links
-/// (`links_mut`): what is written stays, also in the builder once the graph is let go. The nodes stay as they are, and
-/// so does the number of links.
+/// As it is built, links are in the order of the segments, and nodes are the ends of links, each
+/// once, in order of their points; a node lists the links that start there, then those that end
+/// there, both by rising index. A link's `a.id` and `b.id` are the numbers of the nodes at its
+/// ends. Whoever walks over the graph may write to its links (`links_mut`): what is written stays,
+/// also in the builder once the graph is let go. The nodes stay as they are, and so does the number
+/// of links.
 #[derive(Drop)]
 pub struct StringGraph<'a, I: OverlayInt> {
     builder: &'a mut LineBuilder<I>,
@@ -46,7 +47,7 @@ impl<'a, I: OverlayInt> StringGraph<'a, I> {
         self.builder.links()
     }
 
-    /// How many orders of live segments the sweep has asked that found it, `u128::MAX` at most.
+    /// How many orders of live segments the sweep that found it has compared, `u128::MAX` at most.
     pub fn compared(&self) -> u128
         ensures { result ≡ lines_asked self.now }
     {

@@ -1,4 +1,4 @@
-// Closed walks through a graph at each of whose nodes evenly many links meet.
+// Closed walks through a graph in which an even number of links meets at each node.
 ghost use Rattle.std.specs.Prelude.{◌≡◌, ℕ, ◌<◌, ◌≤◌, true, false, IsTrue, [], map, length, slice_index_or, slice_set, ◌++◌, List, IfOk, IfErr, OnOk};
 ghost use Rattle.overlay_base.specs.declared.segm.fault.Fault.TheVariants.{Memory};
 ghost use Rattle.overlay_build.specs.Graph.{Link, has_even_nodes};
@@ -14,12 +14,12 @@ use overlay_base::segm::fault::Fault;
 use overlay_geometry::num::OverlayInt;
 use std::alloc::Global;
 
-/// Closed walks over the links of a graph: each walk lists the indexes of links that lead from a node back to it, and
-/// every link stands in exactly one place of exactly one walk. A walk comes back to the node where it begins at its end
-/// alone; other nodes it may meet more than once.
+/// Closed walks over the links of a graph: each walk lists the indexes of links that lead from a
+/// node back to it, and every link is in exactly one place of exactly one walk. A walk comes back
+/// to the node where it begins at its end alone; other nodes it may meet more than once.
 ///
-/// Evenly many links have to meet at each node, as `has_even_nodes` tests. A node's links are gone over once: the
-/// search for an unused one goes on where the last one at that node was found.
+/// An even number of links has to meet at each node, as `has_even_nodes` tests. A node's links are
+/// gone over once: the search for an unused one goes on where the last one at that node was found.
 ///
 /// Returns `Fault::Memory` where a growth is refused.
 pub fn closed_walks<I: OverlayInt, D: Copy>(

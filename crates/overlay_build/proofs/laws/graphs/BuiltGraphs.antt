@@ -85,7 +85,7 @@ pub links_are_ordered : {I D : Type 0} (whole : I → ℤ) (links : List (Overla
 links_are_ordered whole links keeps rule least greatest segments arranged e =
     AllPass-from_list_all (λ l. point_lt (point_of whole l.a.point) (point_of whole l.b.point)) links (kept_links_are_ordered whole links keeps rule least greatest segments arranged e)
 
--- and stand in strict order, as the segments do
+-- and are in strict order, as the segments are
 pub links_are_sorted : {I D : Type 0} (whole : I → ℤ) (links : List (OverlayLink I D)) (keeps : ℕ → Bool) (rule : FillRule) (least greatest : ℤ) (segments : List WholeSegment) → IsTrue (is_arranged least greatest segments) →
     kept_of whole links ≡ filter (λ f. keeps f.fill) (filled rule segments) → IsTrue (is_strictly_sorted pair_cmp (pairs_of_links whole links))
 unfolding is_arranged is_map filled

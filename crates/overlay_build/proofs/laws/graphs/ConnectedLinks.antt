@@ -84,7 +84,7 @@ module _ {N I D : Type 0} (indexes : N → List ℕ) (is_canonical : N → Bool)
     form = up.form;
   }
 
--- ---- what the calls of a step tell, of the given links
+-- ---- what the calls of a step show, of the given links
 
 -- the next point, the runs of ends there, and the indexes of their links
 pub record IsFound (pairs : List Pair) (start end next_start next_end : ℕ) (p : Point) (indexes : List ℕ) : Type 0 where

@@ -51,7 +51,7 @@ module _ {X : Type 0} (test : X → Bool) where
   filter-block (x ∷ xs) zero (suc n) r = rw (first_in x xs n r) (ap (λ l. x ∷ l) (filter-block xs 0 n (block_inside x xs n r)))
   filter-block (x ∷ xs) (suc i) n r = rw (r.before 0 x (omega arith)) (filter-block xs i n (block_after x xs i n r))
 
--- ---- points that stand at one place of an order
+-- ---- points at one place of an order
 
 pub tied_where_equal : (q p : Point) → point_eq q p ≡ (not (is_lt (point_cmp p q)) && not (is_lt (point_cmp q p)))
 tied_where_equal q p = by (point_cmp q p) refl

@@ -32,7 +32,7 @@ HasSides segments s = (bottom segments s ≡ side_bottom segments s) × (top seg
 pub fill_of-sides : (fill_rule : FillRule) (segments : List WholeSegment) (s : WholeSegment) → HasSides segments s → fill_of fill_rule segments s ≡ fill_byte fill_rule (side_bottom segments s) (side_top segments s) s.count.mask
 fill_of-sides fill_rule segments s h = ap₂ (λ b t. fill_byte fill_rule b t s.count.mask) h.0 h.1
 
--- and without a mask it is kept where the rule tells the sides apart
+-- and without a mask it is kept where the rule separates the sides
 pub keeps_fill-sides : (rule : Bool → Bool → Bool) (fill_rule : FillRule) (segments : List WholeSegment) (s : WholeSegment) → HasSides segments s → s.count.mask ≡ 0 → keeps_fill rule (fill_of fill_rule segments s) ≡ has_sides_apart rule fill_rule segments s
 unfolding has_sides_apart
 keeps_fill-sides rule fill_rule segments s h m =
@@ -65,7 +65,7 @@ exact_on rule fill_rule segments xs m a =
     kept_on (keeps_fill rule) (λ s. has_sides_apart rule fill_rule segments s) fill_rule segments xs
     (λ k d l. (a k d l, keeps_fill-sides rule fill_rule segments _ (a k d l) (eqb-true _ 0 (AllPass-from_list_all (λ (s : WholeSegment). s.count.mask == 0) xs m k d l))))
 
--- the graph of the kept fills is that of the segments whose sides the rule tells apart
+-- the graph of the kept fills is that of the segments whose sides the rule separates
 pub graph_by-sides : (rule : Bool → Bool → Bool) (fill_rule : FillRule) (segments : List WholeSegment) → IsTrue (are_polygons segments) → All (HasSides segments) segments → graph_by (keeps_fill rule) fill_rule segments ≡ overlay_graph rule fill_rule segments
 unfolding graph_by filled overlay_graph
 graph_by-sides rule fill_rule segments m a = ap graph_of (exact_on rule fill_rule segments segments m a)
@@ -100,7 +100,7 @@ kept_alike rule fill_rule segments (s ∷ xs) test m a =
     by true e k ih = let u : (keeps_fill rule (fill_of fill_rule segments s) && test s) ≡ true = k ∙ e in rw (u, e) (ap suc ih)
     by false e k ih = let u : (keeps_fill rule (fill_of fill_rule segments s) && test s) ≡ false = k ∙ e in rw (u, e) ih
 
--- how many segments whose sides a rule tells apart start or end at a point
+-- how many segments whose sides a rule separates start or end at a point
 abbrev pub sides_degree : (Bool → Bool → Bool) → FillRule → List WholeSegment → Point → ℕ
 sides_degree rule fill_rule segments p =
     length (filter (λ s. has_sides_apart rule fill_rule segments s && point_eq s.pair.a p) segments)
@@ -111,7 +111,7 @@ pub kept_degree-sides : (rule : Bool → Bool → Bool) (fill_rule : FillRule) (
 kept_degree-sides rule fill_rule segments p m a =
     ap₂ (λ j k. j + k) (kept_alike rule fill_rule segments segments (λ s. point_eq s.pair.a p) m a) (kept_alike rule fill_rule segments segments (λ s. point_eq s.pair.b p) m a)
 
--- evenly many links meet at each node where evenly many segments whose sides the rule tells apart meet at each point
+-- an even number of links meets at each node where an even number of segments whose sides the rule separates meets at each point
 pub nodes_are_even-from_vertices : ChainsAreColumns
     → ((fill_rule : FillRule) (rule : Bool → Bool → Bool) (segments : List WholeSegment) → IsTrue (is_map segments) → IsTrue (is_planar segments) → IsBalanced segments → (p : Point) → sides_degree rule fill_rule segments p % 2 ≡ 0)
     → NodesAreEven

@@ -1,4 +1,4 @@
--- Laws of graphs: which links meet at a node, how many, and how a rule's graph stands to that of all segments.
+-- Laws of graphs: which links meet at a node, how many, and how a rule's graph compares to that of all segments.
 use Rattle.std.proofs.Common.{◌≡◌, ℕ, ◌+◌, ◌<◌, ◌%◌, ◌==◌, suc, Bool, true, false, ◌&&◌, ◌||◌, IsTrue, List, [], ◌∷◌, map, filter, length, get_or, length-append, refl, sym, ap, ap₂, ◌∙◌}
 use Rattle.std.specs.Prelude.{nat_lt}
 use Rattle.std.specs.List.{list_all}
@@ -96,7 +96,7 @@ names_its_nodes kept i d h =
     let hb = ap (λ (s : Pair). has_point (node_points (pairs_of kept)) s.b) (sym e) ∙ has_end (pairs_of kept) i d.pair h' in
     rw (link_at kept i d f h) (names_nodes_of kept (get_or kept i f) ha hb)
 
--- a link's index stands in the lists of its two nodes, and in no other
+-- a link's index is in the lists of its two nodes, and in no other
 pub stands_at_its_nodes : (kept : List Filled) (i m : ℕ) (d : Link) (e : Node) → i < length kept → m < length (graph_of kept).nodes
     → has_number i (get_or (graph_of kept).nodes m e).links ≡ (((get_or (graph_of kept).links i d).a_node == m) || ((get_or (graph_of kept).links i d).b_node == m))
 stands_at_its_nodes kept i m d e h l =
@@ -113,7 +113,7 @@ stands_at_its_nodes kept i m d e h l =
     ap (λ (q : Pair). link_of kept (record { pair = q; fill = (get_or kept i f).fill })) (pair_at kept i d.pair f h) ∙ sym (link_at kept i d f h) in
     here ∙ meets ∙ ap₂ (λ x y. x || y) (sym a) (sym b) ∙ ap (λ (k : Link). (k.a_node == m) || (k.b_node == m)) link
 
--- ---- evenly many links
+-- ---- an even number of links
 
 -- how many pairs start or end at a point
 abbrev pub degree : List Pair → Point → ℕ
@@ -129,7 +129,7 @@ all_pass : {X : Type 0} (test : X → Bool) → ((x : X) → test x ≡ true) �
 all_pass test h [] = refl
 all_pass test h (x ∷ xs) = rw (h x) (all_pass test h xs)
 
--- where evenly many of the pairs meet at every point, each node has evenly many links
+-- where an even number of the pairs meets at every point, each node has an even number of links
 pub has_even_nodes-from : (kept : List Filled) → ((p : Point) → degree (pairs_of kept) p % 2 ≡ 0) → IsTrue (has_even_nodes (graph_of kept))
 has_even_nodes-from kept h = has_even_nodes-is kept ∙ all_pass (λ p. degree (pairs_of kept) p % 2 == 0) (λ p. eq-eqb (degree (pairs_of kept) p % 2) 0 (h p)) (node_points (pairs_of kept))
 
@@ -201,7 +201,7 @@ unfolding filled
 degree-kept keeps rule segments p =
     ap₂ (λ m n. m + n) (length_through keeps (λ l. point_eq l.a p) (λ s. fill_of rule segments s) segments) (length_through keeps (λ l. point_eq l.b p) (λ s. fill_of rule segments s) segments)
 
--- Where evenly many kept segments meet at every point, each node of the rule's graph has evenly many links.
+-- Where an even number of kept segments meets at every point, each node of the rule's graph has an even number of links.
 pub has_even_nodes-kept : (keeps : ℕ → Bool) (rule : FillRule) (segments : List WholeSegment) → ((p : Point) → kept_degree keeps rule segments p % 2 ≡ 0) → IsTrue (has_even_nodes (graph_by keeps rule segments))
 has_even_nodes-kept keeps rule segments h =
     rw (graph_by-is keeps rule segments) (has_even_nodes-from (filter (λ f. keeps f.fill) (filled rule segments)) (λ p. ap (λ n. n % 2) (degree-kept keeps rule segments p) ∙ h p))

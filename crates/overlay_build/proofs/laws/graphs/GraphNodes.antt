@@ -75,7 +75,7 @@ pub node_number-at : (links : List Pair) (i : ℕ) (d : Point) → i < length (n
 unfolding node_number
 node_number-at links i d h = place_in (node_points links) i d (sorted_ends links) h
 
--- at the number of an end stands that end
+-- at the number of an end is that end
 pub node_number-of : (links : List Pair) (p d : Point) → has_point (node_points links) p ≡ true → (node_number links p < length (node_points links)) × (get_or (node_points links) (node_number links p) d ≡ p)
 node_number-of links p d h =
     let found = Any-from_list_any (λ k. point_eq p k) (node_points links) h in

@@ -1,4 +1,4 @@
--- A graph with evenly many links at each node is valid: the links at all nodes are twice the links.
+-- A graph with an even number of links at each node is valid: the links at all nodes are twice the links.
 use Rattle.std.proofs.Common.{◌≡◌, ℕ, ◌+◌, ◌*◌, ◌<◌, ◌≤◌, ◌%◌, ◌==◌, Bool, true, false, ◌||◌, IsTrue, List, [], ◌∷◌, filter, length, get_or, Less, is_eq, refl, sym, ap, ap₂, ◌∙◌, arith}
 use Rattle.std.specs.Prelude.{nat_le}
 use Rattle.std.specs.List.{AllByRecursion, list_all, list_any}
@@ -61,7 +61,7 @@ one_more f l links (k ∷ ks) = by (point_eq (f l) k) refl (one_more f l links k
     by true e ih = rw (e, ih) (omega arith)
     by false e ih = rw (e, ih) (omega arith)
 
--- where each link's f stands among the points, their counts sum to the links
+-- where each link's f is among the points, their counts sum to the links
 counted_once : (f : Pair → Point) (ks : List Point) → IsStrictlySortedBy point_cmp ks → (links : List Pair) → list_all (λ l. has_point ks (f l)) links ≡ true → summed_over (λ p. length (filter (λ l. point_eq (f l) p) links)) ks ≡ length links
 counted_once f ks s [] h = nothing ks
   where
@@ -121,7 +121,7 @@ node_points-positive links =
 
 -- ---- even degrees
 
--- where each node has evenly many links, evenly many pairs meet at every point
+-- where each node has an even number of links, an even number of pairs meets at every point
 pub even_degree : (kept : List Filled) (p : Point) → IsTrue (has_even_nodes (graph_of kept)) → degree (pairs_of kept) p % 2 ≡ 0
 even_degree kept p h = by (has_point (node_points (pairs_of kept)) p) refl
   where
@@ -168,7 +168,7 @@ enough_links : (kept : List Filled) → list_all (λ p. is_bridge (node_of kept 
 unfolding graph_of nodes_of_pairs
 enough_links kept h = list_all-map (λ n. is_bridge n || nat_le 2 (length n.links)) (λ p. node_of kept p) (node_points (pairs_of kept)) ∙ h
 
--- A graph with evenly many links at each node is valid.
+-- A graph with an even number of links at each node is valid.
 pub valid_by_even_nodes : (kept : List Filled) → IsTrue (has_even_nodes (graph_of kept)) → IsTrue (is_valid_graph (graph_of kept))
 unfolding is_valid_graph
 valid_by_even_nodes kept h =

@@ -10,7 +10,7 @@ use Rattle.overlay_build.specs.Graph.{indexes_where}
 abbrev pub indexes_from : {X : Type 0} → ℕ → (X → Bool) → List X → List ℕ
 indexes_from n test xs = map (λ e. e.0) (filter (λ e. test e.1) (enumerate_from n xs))
 
--- whether a number stands in a list of numbers
+-- whether a number is in a list of numbers
 abbrev pub has_number : ℕ → List ℕ → Bool
 has_number i ks = list_any (λ k. k == i) ks
 

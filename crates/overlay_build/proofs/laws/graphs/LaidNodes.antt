@@ -24,7 +24,7 @@ own list = list
 abbrev pub any : List ℕ → Bool
 any list = true
 
--- The ends up to two places have their nodes, whose lists stand one behind another.
+-- The ends up to two places have their nodes, whose lists are one behind another.
 pub record IsLaidUpTo {I D : Type 0} (whole : I → ℤ) (given : List (OverlayLink I D)) (start end : ℕ) (links : List (OverlayLink I D)) (degrees indexes : List ℕ) : Type 0 where
   pub lists : List (List ℕ)
   pub up : IsConnectedUpTo own any whole given start end lists links
@@ -56,7 +56,7 @@ module _ {I D : Type 0} (whole : I → ℤ) (given : List (OverlayLink I D)) (so
   found_next ends all seen again seen_ends ends_again p next_start next_end e f h k next run run_ends =
       found own any whole given sorted start end at.lists links at.up ends all seen again seen_ends ends_again p next_start next_end [] _ _ e f h k next refl run refl run_ends refl
 
-  -- with the next node its list stands behind the others
+  -- with the next node its list is behind the others
   pub laid_next : (next_start next_end : ℕ) (p : Point) (list : List ℕ) (more : List (OverlayLink I D)) (degrees_after indexes_after : List ℕ) → IsFound (pairs_of_links whole given) start end next_start next_end p list →
       ((k : ℕ) (d : OverlayLink I D) → k < length given → point_lt (point_of whole (get_or given k d).a.point) (point_of whole (get_or given k d).b.point) ≡ true) →
       length more ≡ length links →
@@ -84,7 +84,7 @@ holds_lists whole given start end links degrees indexes at over ended =
     map-own [] = refl
     map-own (l ∷ ls) = ap (λ rest. l ∷ rest) (map-own ls)
 
--- the first of the lists that are left is what stands in front
+-- the first of the lists that are left is what is in front
 pub first_is : {A : Type 0} (lists : List (List A)) (lengths : List ℕ) (all rest : List A) (k d : ℕ) → AreLaid lists lengths all → k < length lengths → rest ≡ flat_map (λ list. list) (drop k lists) →
     (own : List A) × (get_or lengths k d ≡ length own) × (rest ≡ own ++ flat_map (λ list. list) (drop (k + 1) lists)) × (take (k + 1) lists ≡ take k lists ++ own ∷ [])
 first_is lists lengths all rest k d laid h is =

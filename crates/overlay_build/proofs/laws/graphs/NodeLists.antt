@@ -63,7 +63,7 @@ sound_is_valid indexes nodes graph enough same e =
     ∙ sound_each enough graph.nodes
     ∙ ap (λ b. list_all (λ n. is_bridge n || nat_le 2 (length n.links)) graph.nodes && (list_all is_bridge graph.nodes || b)) e
 
--- and whether evenly many links meet at each node is told by these lists
+-- and whether an even number of links meets at each node follows from these lists
 pub even_nodes-is : {N : Type 0} (indexes : N → List ℕ) (nodes : List N) (graph : Graph) → map indexes nodes ≡ map (λ n. n.links) graph.nodes → list_all (λ n. length (indexes n) % 2 == 0) nodes ≡ has_even_nodes graph
 unfolding has_even_nodes
 even_nodes-is indexes nodes graph same =
@@ -147,7 +147,7 @@ next-first firsts seconds start end p h here other = record { first = λ d l. ap
 pub next-second : (firsts seconds : List WholeEnd) (start end : ℕ) (p : Point) → end < length seconds → ((d : WholeEnd) → (get_or seconds end d).point ≡ p) → ((d : WholeEnd) → start < length firsts → point_lt (get_or firsts start d).point p ≡ false) → IsNextPoint firsts seconds start end p
 next-second firsts seconds start end p h here other = record { first = other; second = λ d l. ap (λ q. point_lt q p) (here d) ∙ point_lt-irreflexive p; own = inr (h, here) }
 
--- so it is the lesser of the two, which their numbers tell
+-- so it is the lesser of the two, which their numbers show
 pub next-lesser : (firsts seconds : List WholeEnd) (start end j k : ℕ) → start < length firsts → ((d : WholeEnd) → (get_or firsts start d).point ≡ unpacked j) → end < length seconds → ((d : WholeEnd) → (get_or seconds end d).point ≡ unpacked k) →
     IsNextPoint firsts seconds start end (unpacked (min k j))
 next-lesser firsts seconds start end j k h first l second = elim (cases_lt k j) [

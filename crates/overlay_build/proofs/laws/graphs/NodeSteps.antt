@@ -66,7 +66,7 @@ pub record IsConnectedUpTo {N I D : Type 0} (indexes : N → List ℕ) (is_canon
 
 -- ---- numbers of nodes follow the order of points
 
--- of two ends the one that stands before the other has the lesser number
+-- of two ends the one that comes before the other has the lesser number
 pub number_less : (links : List Pair) (p q : Point) → has_point (node_points links) p ≡ true → has_point (node_points links) q ≡ true → node_number links p < node_number links q → point_cmp p q ≡ Less
 number_less links p q hp hq h =
     let np = node_number-of links p p hp in
@@ -215,7 +215,8 @@ module _ (links : List Pair) (ends : List WholeEnd) (are : AreEndsOf links ends)
       let same : j + suc n ≡ (j + n) + 1 = omega arith in
       rw same (omega (arith, before, step))
 
-  -- an end at node m stands at the place or later, where the ends before it lie at the first m nodes; so what stands at the place lies at node m or before
+  -- an end at node m is at the place or later, where the ends before it lie at the first m nodes; so what is at the place lies at node m or
+  -- before
   pub front_rank : (place m k : ℕ) (d : WholeEnd) → IsReached links ends place m → k < length ends → ((e : WholeEnd) → rank links ends k e ≡ m) → (place < length ends) × (rank links ends place d ≤ m)
   front_rank place m k d reached h its =
       by_less k place

@@ -29,7 +29,7 @@ module _ {D : Type 0} where
   length-written fills [] = refl
   length-written fills (v ∷ vs) = length-written (set fills v.index v.fill) vs ∙ length-set fills v.index v.fill
 
-  -- where the fill of a visit is told by its index, the fill at each index that was visited is that, and others stay
+  -- where the fill of a visit is that of its index, the fill at each index that was visited is that, and others stay
   pub written_at : (f : ℕ → ℕ) (fills : List ℕ) (vs : List (Visit D)) → AllByRecursion (λ v. v.fill ≡ f v.index) vs → (k d : ℕ) → k < length fills →
       get_or (written fills vs) k d ≡ (if list_any (λ v. v.index == k) vs then f k else get_or fills k d)
   written_at f fills [] a k d l = refl
@@ -58,14 +58,14 @@ module _ {D : Type 0} where
     visits_all_seen [] h = refl
     visits_all_seen (v ∷ vs) h = rw (goes_on h v, visited) (ap (λ l. v ∷ l) (visits_all_seen vs (handle h v).0))
 
-    -- and one that stores fills answers all of them
+    -- and one that stores fills returns all of them
     pub handled_writes : (finalize : H → O) (items : O → List ℕ) (fills : H → List ℕ) → ((h : H) → items (finalize h) ≡ fills h) → ((h : H) (v : Visit D) → fills (handle h v).0 ≡ set (fills h) v.index v.fill) →
         (vs : List (Visit D)) (h : H) → items (handled handle finalize h vs) ≡ written (fills h) vs
     unfolding handled
     handled_writes finalize items fills last step [] h = last h
     handled_writes finalize items fills last step (v ∷ vs) h = rw (goes_on h v, handled) (handled_writes finalize items fills last step vs (handle h v).0 ∙ ap (λ l. written l vs) (step h v))
 
-    -- what no visit changes stands in the answer
+    -- what no visit changes is in the result
     pub handled_keeps : {X : Type 0} (finalize : H → O) (told : O → X) (kept : H → X) → ((h : H) → told (finalize h) ≡ kept h) → ((h : H) (v : Visit D) → kept (handle h v).0 ≡ kept h) →
         (vs : List (Visit D)) (h : H) → told (handled handle finalize h vs) ≡ kept h
     unfolding handled

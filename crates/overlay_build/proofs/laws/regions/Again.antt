@@ -1,4 +1,4 @@
--- The boundary of a rule's region as segments of one shape: a planar arrangement in range, balanced, that winds round the region.
+-- The boundary of a rule's region as segments of one shape: a planar arrangement in range, balanced, that winds around the region.
 use Rattle.std.proofs.Common.{◌≡◌, refl, sym, ap, ap₂, subst, ◌∙◌}
 use Rattle.std.specs.Prelude.{ℕ, ℤ, pos, negsuc, ◌-ℤ◌, IsTrue, Bool, true, false, ◌&&◌, if◌then◌else◌, List, [], ◌∷◌, filter, map}
 use Rattle.std.specs.List.{list_all}

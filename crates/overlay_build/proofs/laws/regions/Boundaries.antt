@@ -1,4 +1,4 @@
--- The links of a rule's graph, each with the region on its left, bound the region: they are balanced, and wind once round it.
+-- The links of a rule's graph, each with the region on its left, bound the region: they are balanced, and wind once around it.
 use Rattle.std.proofs.Common.{◌≡◌, refl, sym, ap, ap₂, subst, ◌∙◌, arith}
 use Rattle.std.specs.Prelude.{ℕ, ◌<◌, ◌==◌, ℤ, pos, negsuc, ◌+ℤ◌, ◌-ℤ◌, IsTrue, Bool, true, false, if◌then◌else◌, List, [], ◌∷◌, filter, map}
 use Rattle.std.specs.List.{list_all}
@@ -45,7 +45,7 @@ pub when_zero : (b : Bool) → when b (pos 0) ≡ pos 0
 when_zero true = refl
 when_zero false = refl
 
--- a number that is 0 where a test fails is the same where the test is asked first
+-- a number that is 0 where a test fails is the same where the test comes first
 asked_first : (t b : Bool) (z : ℤ) → (t ≡ false → z ≡ pos 0) → when t (when b z) ≡ when b z
 asked_first true b z h = refl
 asked_first false true z h = sym (h refl)
@@ -66,7 +66,7 @@ module _ (rule : Bool → Bool → Bool) (fill_rule : FillRule) (segments : List
   abbrev directed : WholeSegment → WholeSegment
   directed s = record { pair = s.pair; count = of_subject (gain_of says segments s) }
 
-  -- from nothing to a place it gains what the boundary has to wind round it
+  -- from nothing to a place it gains what the boundary has to wind around it
   says_of : (w : Winding) → gain says empty w ≡ times_round rule fill_rule w
   unfolding times_round value_at
   says_of w = ap (λ (b : Bool). truth (rule (is_inside fill_rule w.subj) (is_inside fill_rule w.clip)) -ℤ truth (rule b b)) (inside_none fill_rule)
@@ -108,7 +108,7 @@ module _ (rule : Bool → Bool → Bool) (fill_rule : FillRule) (segments : List
       ∙ sum_of-filter apart (λ s. when (lies_below s.pair p) (gain_of says segments s)) segments
       ∙ sum_of-same (λ s. when (apart s) (when (lies_below s.pair p) (gain_of says segments s))) (λ s. when (lies_below s.pair p) (gain_of says segments s)) segments (λ s. asked_first (apart s) (lies_below s.pair p) (gain_of says segments s) (no_gain s))
 
-  -- ---- the boundary is balanced, and winds round the region
+  -- ---- the boundary is balanced, and winds around the region
 
   module _ (mapped : IsTrue (is_map segments)) (planar : IsTrue (is_planar segments)) (balanced : IsBalanced segments) where
     pub boundary_is_balanced : IsBalanced (boundary rule fill_rule segments)
@@ -192,7 +192,7 @@ module _ (rule : Bool → Bool → Bool) (fill_rule : FillRule) (segments : List
   unfolding overlay_graph has_sides_apart boundary
   links_are_boundary polygons = links_directed rule (map (λ s. with_sides fill_rule segments s) (filter (apart rule fill_rule segments) segments)) ∙ runs_alike segments polygons
 
--- the graph of the segments whose sides a rule tells apart
+-- the graph of the segments whose sides a rule separates
 pub overlay_bounds : (rule : Bool → Bool → Bool) (fill_rule : FillRule) (segments : List WholeSegment) → IsTrue (is_map segments) → IsTrue (are_polygons segments) → IsTrue (is_planar segments) → IsBalanced segments → BoundsRegion rule fill_rule segments (overlay_graph rule fill_rule segments)
 overlay_bounds rule fill_rule segments mapped polygons planar balanced =
     let same = links_are_boundary rule fill_rule segments polygons in

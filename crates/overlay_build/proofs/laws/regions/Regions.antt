@@ -45,7 +45,7 @@ in_lower_part true false true z h = refl
 in_lower_part true false false z h = refl
 in_lower_part false bl lo z h = refl
 
--- a test that holds of what is below a segment of which it holds
+-- a test that holds of what is below a segment for which it holds
 abbrev pub IsLower : List WholeSegment → ℤ → (Pair → Bool) → Type 0
 IsLower xs x low =
     (u s : WholeSegment) → Has xs u → Has xs s → IsTrue (spans_column x u.pair) → IsTrue (spans_column x s.pair) → IsTrue (is_below_in_column x u.pair s.pair) → IsTrue (low s.pair) → IsTrue (low u.pair)
@@ -146,7 +146,7 @@ module _ (xs : List WholeSegment) (arranged : IsArranged xs) (balanced : IsBalan
       ∙ sum_lower xs arranged balanced x (λ s. runs_below s p) below_is_lower G
       ∙ ap (λ (w : Winding). gain G empty w) same_weights
 
-  -- so of the segments below p an odd number have sides that F tells apart exactly when it tells nothing from the winding at p
+  -- so of the segments below p an odd number have sides that F separates exactly when it separates nothing from the winding at p
   pub odd_below : (F : ℤ → ℤ → Bool) → odd_of (λ s. tells_sides_of F xs s && lies_below s.pair p) xs ≡ tells F empty (winding_below xs p)
   odd_below F =
       let G : ℤ → ℤ → ℤ = λ b c. truth (F b c) in
@@ -170,7 +170,7 @@ is_odd : (n : ℕ) (b : Bool) → n % 2 ≡ flag_value b 1 → (n % 2 == 1) ≡ 
 is_odd n true e = rw e refl
 is_odd n false e = rw e refl
 
--- the graph of the segments whose sides a rule tells apart
+-- the graph of the segments whose sides a rule separates
 pub overlay_encloses : (rule : Bool → Bool → Bool) (fill_rule : FillRule) (segments : List WholeSegment) → IsTrue (is_map segments) → IsTrue (is_planar segments) → IsBalanced segments → EnclosesRegion rule fill_rule segments (overlay_graph rule fill_rule segments)
 unfolding encloses overlay_graph has_sides_apart tells_apart value_at
 overlay_encloses rule fill_rule segments mapped planar balanced p some =

@@ -1,4 +1,4 @@
--- Evenly many segments whose sides differ under a rule meet at each point of a planar, balanced arrangement.
+-- An even number of segments whose sides differ under a rule meets at each point of a planar, balanced arrangement.
 use Rattle.std.proofs.Common.{◌≡◌, ap, refl, sym, ◌∙◌, arith, inl, inr}
 use Rattle.std.specs.Prelude.{ℕ, ◌+◌, ◌%◌, ℤ, pos, ◌+ℤ◌, ◌-ℤ◌, ◌<ℤ◌, IsTrue, Bool, true, false, ◌&&◌, ◌||◌, ◌⊎◌, List, filter, length}
 use Rattle.std.proofs.lemmas.Int.{ints}
@@ -110,11 +110,11 @@ module _ (xs : List WholeSegment) (arranged : IsArranged xs) (balanced : IsBalan
         | inr e ↦ apart.b_around (ap (is_strictly_inside u.pair) (same_by_eq s.pair.b p e) ∙ inside)
       ]
 
-  -- round a point nothing is gained: as much along what starts there as along what ends there
+  -- around a point nothing is gained: as much along what starts there as along what ends there
   pub gain_at_point : (G : ℤ → ℤ → ℤ) → gain_out G ≡ gain_in G
   gain_at_point G = by_list_any (λ u. point_eq u.pair.a p || point_eq u.pair.b p) xs (λ s m h. together G (ends_are_free s m h)) (nowhere G)
 
-  -- so of the segments whose sides a truth function tells apart evenly many start or end there
+  -- so an even number of the segments whose sides a truth function separates starts or ends there
   module _ (F : ℤ → ℤ → Bool) where
     odd_at_point : (test : WholeSegment → Bool) → HasParity (sum_of (λ u. when (test u) (gain_of (λ b c. truth (F b c)) xs u)) xs) (odd_of (λ u. tells_sides_of F xs u && test u) xs)
     odd_at_point test = parity_of_sum (λ u. when (test u) (gain_of (λ b c. truth (F b c)) xs u)) (λ u. tells_sides_of F xs u && test u) xs
@@ -129,7 +129,7 @@ module _ (xs : List WholeSegment) (arranged : IsArranged xs) (balanced : IsBalan
     pub even_degree_at : (length (filter (λ u. tells_sides_of F xs u && point_eq u.pair.a p) xs) + length (filter (λ u. tells_sides_of F xs u && point_eq u.pair.b p) xs)) % 2 ≡ 0
     even_degree_at = even_by_flags (length (filter (λ u. tells_sides_of F xs u && point_eq u.pair.a p) xs)) (length (filter (λ u. tells_sides_of F xs u && point_eq u.pair.b p) xs)) _ _ (odd_of_is (λ u. tells_sides_of F xs u && point_eq u.pair.a p) xs) (odd_of_is (λ u. tells_sides_of F xs u && point_eq u.pair.b p) xs) odd_alike
 
--- how many segments whose sides a rule tells apart start or end at a point: an even number
+-- how many segments whose sides a rule separates start or end at a point: an even number
 pub even_sides : (fill_rule : FillRule) (rule : Bool → Bool → Bool) (segments : List WholeSegment) → IsTrue (is_map segments) → IsTrue (is_planar segments) → IsBalanced segments → (p : Point) →
     (length (filter (λ s. has_sides_apart rule fill_rule segments s && point_eq s.pair.a p) segments) + length (filter (λ s. has_sides_apart rule fill_rule segments s && point_eq s.pair.b p) segments)) % 2 ≡ 0
 unfolding has_sides_apart tells_apart value_at

@@ -10,7 +10,7 @@ use Rattle.overlay_build.specs.Laws.{FillsTellSides}
 abbrev pub fill_of_sides : Bool → Bool → Bool → Bool → ℕ
 fill_of_sides st sb ct cb = flag_value st 1 + flag_value sb 2 + flag_value ct 4 + flag_value cb 8 + 4 * 0
 
--- what holds of the sixteen choices of four answers holds of every four
+-- what holds of the sixteen choices of four values holds of every four
 pub by_four : (P : Bool → Bool → Bool → Bool → Type 0)
     → P true true true true → P true true true false → P true true false true → P true true false false
     → P true false true true → P true false true false → P true false false true → P true false false false

@@ -1,4 +1,4 @@
--- A sum of whole numbers is odd where oddly many of them are; what a truth function gains is odd where it changes.
+-- A sum of whole numbers is odd where an odd number of them is; what a truth function gains is odd where it changes.
 use Rattle.std.proofs.Common.{◌≡◌, ap, refl, arith}
 use Rattle.std.specs.Prelude.{ℤ, pos, negsuc, ◌+ℤ◌, ◌-ℤ◌, Bool, true, false, cond, ◌&&◌, List, [], ◌∷◌, filter}
 use Rattle.std.proofs.lemmas.Int.{ints}
@@ -64,10 +64,10 @@ parity_where true false z h = h
 parity_where false true z h = (pos 0, refl)
 parity_where false false z h = (pos 0, refl)
 
--- whether F tells two windings apart
+-- whether F separates two windings
 abbrev pub tells : (ℤ → ℤ → Bool) → Winding → Winding → Bool
 tells F b t = differ (F b.subj b.clip) (F t.subj t.clip)
 
--- whether it tells the two sides of a segment apart
+-- whether it separates the two sides of a segment
 abbrev pub tells_sides_of : (ℤ → ℤ → Bool) → List WholeSegment → WholeSegment → Bool
 tells_sides_of F xs s = tells F (side_bottom xs s) (side_top xs s)

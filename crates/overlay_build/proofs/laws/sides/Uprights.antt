@@ -1,4 +1,5 @@
--- Round a point, the vertical segments: from below and upward at most one each, with the windings of the two chains beside it. Along each a number of windings gains what it gains between the two columns.
+-- Around a point, the vertical segments: from below and upward at most one each, with the windings of the two chains beside it. Along each
+-- a number of windings gains what it gains between the two columns.
 use Rattle.std.proofs.Common.{◌≡◌, ap, refl, sym, ◌∙◌, arith, inl, inr}
 use Rattle.std.specs.Prelude.{ℤ, pos, ◌+ℤ◌, ◌-ℤ◌, ◌*ℤ◌, ◌<ℤ◌, ◌≤ℤ◌, Bool, true, false, ◌&&◌, ◌⊎◌, List, [], ◌∷◌, filter}
 use Rattle.std.specs.Ordering.{int_eq}

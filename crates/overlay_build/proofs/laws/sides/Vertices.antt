@@ -1,4 +1,5 @@
--- Round a point: the segments that start there are a chain in the column to its right, those that end there a chain in the column to its left.
+-- Around a point: the segments that start there are a chain in the column to its right, those that end there a chain in the column to its
+-- left.
 use Rattle.std.proofs.Common.{◌≡◌, ap, refl, sym, ◌∙◌, arith, inl, inr}
 use Rattle.std.specs.Prelude.{ℤ, pos, ◌+ℤ◌, ◌-ℤ◌, ◌*ℤ◌, ◌<ℤ◌, ◌≤ℤ◌, Bool, true, false, cond, ◌&&◌, ◌⊎◌, List, [], ◌∷◌, filter}
 use Rattle.std.specs.List.{list_all}

@@ -70,7 +70,7 @@ module _ (rule : Bool → Bool → Bool) (kept : List Filled) where
   abbrev pub ways : List Filled → List Link
   ways fs = arcs rule (map (λ f. link_of kept f) fs)
 
-  -- a test of points that tells which have this number
+  -- a test of points for those with this number
   abbrev pub TellsNumber : ℕ → (Point → Bool) → Type 0
   TellsNumber u test = (q : Point) → has_point (node_points (pairs_of kept)) q ≡ true → (node_number (pairs_of kept) q == u) ≡ test q
 

@@ -89,7 +89,7 @@ module _ {N I D : Type 0} (indexes : N → List ℕ) (is_canonical : N → Bool)
       subst (λ ls. ListLinks ls (map indexes nodes)) (sym holds.same_links)
       (subst (λ ns. ListLinks (graph_with whole links).links ns) (sym holds.same_nodes) (ListLinks-graph (kept_of whole links)))
 
-  -- and where each node has evenly many links, evenly many are unused at first
+  -- and where each node has an even number of links, an even number is unused at first
   pub AreUnusedEven-first : HoldGraph indexes is_canonical whole nodes links (graph_with whole links) → IsTrue (has_even_nodes (graph_with whole links)) → AreUnusedEven (map (link_of whole) links) (replicate (length links) false)
   AreUnusedEven-first holds even =
       subst (λ n. AreUnusedEven (map (link_of whole) links) (replicate n false)) (length-map links (link_of whole))

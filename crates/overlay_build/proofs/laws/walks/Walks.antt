@@ -1,4 +1,4 @@
--- Walks over unused links: where each node has evenly many links, a walk can stop only where it began.
+-- Walks over unused links: where each node has an even number of links, a walk can stop only where it began.
 use Rattle.std.proofs.Common.{cond, get_or-set_same, get_or-set_other, ◌≡◌, ℕ, ◌+◌, ◌<◌, ◌≤◌, ◌%◌, ◌==◌, ◌⊎◌, inl, inr, zero, suc, Bool, true, false, IsTrue, List, [], ◌∷◌, ◌++◌, ◌||◌, map, filter, length, get_or, set, replicate, Option, Some, None, refl, sym, ap, ap₂, ◌∙◌, arith}
 use Rattle.std.specs.Prelude.{pos, option_and_then, slice_get}
 use Rattle.std.specs.List.{list_all, count_by, flat_map, All}
@@ -60,7 +60,7 @@ unused_degree-none (false ∷ used) (l ∷ links) u h =
 
 -- ---- a walk from one node to another
 
--- oddly many unused links at the walk's two ends where these differ, and evenly many elsewhere
+-- an odd number of unused links at the walk's two ends where these differ, and an even number elsewhere
 pub record IsWalking (links : List Link) (used : List Bool) (start node : ℕ) : Type 0 where
   pub parity : (u : ℕ) → unused_degree used links u % 2 ≡ flag_value (differ (u == start) (u == node)) 1
 
@@ -68,7 +68,7 @@ differ_same : (b : Bool) → differ b b ≡ false
 differ_same true = refl
 differ_same false = refl
 
--- a walk may begin at every node while evenly many links are unused everywhere
+-- a walk may begin at every node while an even number of links is unused everywhere
 pub IsWalking-start : (links : List Link) (used : List Bool) (start : ℕ) → ((u : ℕ) → unused_degree used links u % 2 ≡ 0) → IsWalking links used start start
 IsWalking-start links used start h = record { parity = λ u. h u ∙ ap (λ b. flag_value b 1) (sym (differ_same (u == start))) }
 

@@ -21,7 +21,7 @@ all_sorted : {I D : Type 0} (whole : I → ℤ) (given seen : List (OverlayLink 
     ends_of ends ≡ stably_sorted (λ e f. point_cmp e.point f.point) (ends_of collected) → ends_of ends ≡ sorted_ends_of (pairs_of_links whole given)
 all_sorted whole given seen collected ends same all sorted = sorted ∙ ap (stably_sorted (λ e f. point_cmp e.point f.point)) (all ∙ ap (λ links. numbered_ends (pairs_of_links whole links)) same)
 
--- ---- the answers
+-- ---- the results
 
 pub collect_ends-requires : goal.collect_ends-requires
 collect_ends-requires g c = subst (AreEndsInRange g.I.OverlayInt.whole g.I.OverlayInt.MIN_COORD g.I.OverlayInt.MAX_COORD) (sym c.deref.ensures.value) c.requires.in_range

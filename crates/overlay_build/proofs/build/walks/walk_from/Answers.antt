@@ -25,7 +25,7 @@ one_left links used start node w away = by (node == start) refl
         let odd : unused_degree used links node % 2 ≡ 1 = rw (e, same) at (w.parity node) in
         omega (arith, odd)
 
--- where it has, it is closed, and evenly many unused links are at each node
+-- where it has, it is closed, and an even number of unused links is at each node
 closed_at : (links : List Link) (start node : ℕ) (walk : List ℕ) → walk_end links start walk ≡ Some node → node ≡ start → walk ≢ [] → IsClosedWalk links walk
 closed_at links start node walk leads back some = (some, (start, leads ∙ ap (λ n. Some n) back))
 
@@ -39,7 +39,7 @@ even_at links used start node w back = record { even = λ u. w.parity u ∙ ap (
     same true = refl
     same false = refl
 
--- ---- the answers
+-- ---- the results
 
 pub loop-node-init : goal.loop-node-init
 loop-node-init g c =
