@@ -1,4 +1,5 @@
-// Rows of level segments, kept in each collection: sums, the tree's depth, and how many orders are asked.
+// Rows of level segments, kept in each collection: sums, the tree's depth, and how many orders are
+// compared.
 ghost use Rattle.std.specs.Prelude.{◌≡◌, ◌+◌, ◌*◌, ◌<◌, ℤ, pos, ◌≤ℤ◌, IsTrue};
 ghost use Rattle.overlay_geometry.specs.Coordinates.{is_coordinate, least_coordinate, greatest_coordinate};
 ghost use Rattle.overlay_base.specs.Planar.{is_arranged};
@@ -100,10 +101,12 @@ fn sum_at<I: OverlayInt, L: LiveSegments<ShapeCountBoolean, I>>(
     (sum.subj, sum.clip)
 }
 
-/// How many orders an insert into a list of 0, 1, 2 .. rows asks: the least d for which 2 n is at most 2 ^ d.
+/// How many orders an insert into a list of 0, 1, 2 .. rows compares: the least d for which 2 n is
+/// at most 2 ^ d.
 const ASKED_AMONG: [u128; 10] = [0, 1, 2, 3, 3, 4, 4, 4, 4, 5];
 
-/// Keeps all rows, the lowest first or last. The first inserts have to ask as many orders as stated.
+/// Keeps all rows, the lowest first or last. The first inserts have to compare as many orders as
+/// stated.
 fn insert_rows<I: OverlayInt, L: LiveSegments<ShapeCountBoolean, I>>(
     rt: &impl Abort,
     live: &mut L,
@@ -169,7 +172,7 @@ fn a_tree_of_rows_asks_few_orders(rt: HostRuntime) {
     tree_of_rows::<i32>(&rt, rt.alloc());
 }
 
-/// Among 3,000 entries that all last a search by halves asks 11 or 12 orders.
+/// Among 3,000 entries that all last a search by halves compares 11 or 12 orders.
 fn other_rows<I: OverlayInt>(rt: &impl Abort, alloc: Global) {
     let mut row: ScanRow<ShapeCountBoolean, I> = ScanRow::new(alloc);
     let mut rows: ScanRows<ShapeCountBoolean, I> = ScanRows::new(alloc);
@@ -205,7 +208,7 @@ fn closing_lines(rt: &impl Abort, alloc: Global) -> Vec<Line> {
     lines
 }
 
-/// How many orders a sweep over some lines asks.
+/// How many orders a sweep over some lines compares.
 fn compared_in(rt: &impl Abort, runner: &mut Runner, solver: &Solver, lines: &[Line]) -> u128
     requires { IsTrue (is_arranged least_coordinate greatest_coordinate (segments_of lines.now)) }
 {
@@ -213,8 +216,8 @@ fn compared_in(rt: &impl Abort, runner: &mut Runner, solver: &Solver, lines: &[L
     runner.compared()
 }
 
-/// Over one row each start asks one search of at most 13 orders, since 2 * 4,000 is at most 2 ^ 13, and the line that is
-/// put in there asks none.
+/// Over one row each start takes one search of at most 13 orders, since 2 * 4,000 is at most 2 ^
+/// 13, and the line that is put in there compares none.
 #[test]
 fn a_sweep_over_the_tree_asks_few_orders(rt: HostRuntime) {
     let lines = closing_lines(&rt, rt.alloc());

@@ -142,7 +142,7 @@ fn four_triangles(rt: &impl Abort, alloc: Global, subj: i32, clip: i32) -> Vec<L
     lines
 }
 
-/// How often each link stands in the walks, where there are as many links as sides.
+/// How often each link is in the walks, where there are as many links as sides.
 fn times_walked(rt: &impl Abort, walks: &[Vec<usize>]) -> [u32; 12] {
     let mut times = [0_u32; 12];
     for walk in walks {
