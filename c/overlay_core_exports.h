@@ -63,7 +63,7 @@ typedef struct {
     uint8_t rounding;
 } overlay_core_settings;
 
-/* How much an engine keeps of its last answer. */
+/* How much an engine keeps of its last result. */
 typedef struct {
     size_t segments;
     size_t lines;
@@ -147,22 +147,22 @@ bool overlay_c_new(overlay_core_handle *handle, uint32_t snap_limit);
 /* Frees the engine of a handle, which is empty then. */
 void overlay_c_free(overlay_core_handle *handle);
 
-/* The overlay of the segments that records ask for, by the rule of a code (overlay_rule) and the engine that the
+/* The overlay of the segments that records describe, by the rule of a code (overlay_rule) and the engine that the
    settings name. Returns 0 where it is done, 1 where memory was refused, 2 where a count left the range, and 3
    where the segments may not be split with that engine. */
 uint8_t overlay_c_overlay(overlay_core_handle *handle, const overlay_core_segment *given, size_t given_len, const overlay_core_settings *settings, uint8_t rule, bool walks);
 
-/* The overlay of the segments that records ask for, with the data of each link, and without walks. A part of a
+/* The overlay of the segments that records describe, with the data of each link, and without walks. A part of a
    segment has its data; of segments on one pair of ends the first one's is kept. Returns as overlay_c_overlay does. */
 uint8_t overlay_c_overlay_with_data(overlay_core_handle *handle, const overlay_core_tagged *given, size_t given_len, const overlay_core_settings *settings, uint8_t rule);
 
-/* The split of the segments that records ask for. Returns as overlay_c_overlay does. */
+/* The split of the segments that records describe. Returns as overlay_c_overlay does. */
 uint8_t overlay_c_split(overlay_core_handle *handle, const overlay_core_segment *given, size_t given_len, const overlay_core_settings *settings);
 
-/* The graph of all of the arrangement of the segments that records ask for. Returns as overlay_c_overlay does. */
+/* The graph of all of the arrangement of the segments that records describe. Returns as overlay_c_overlay does. */
 uint8_t overlay_c_all(overlay_core_handle *handle, const overlay_core_segment *given, size_t given_len, const overlay_core_settings *settings);
 
-/* The join of the segments that records ask for, with the engine that the code of a width names, as in
+/* The join of the segments that records describe, with the engine that the code of a width names, as in
    SettingsRecord. Returns as overlay_c_overlay does. After a refusal the list is empty. */
 uint8_t overlay_c_join(overlay_core_handle *handle, const overlay_core_segment *given, size_t given_len, uint8_t width);
 
@@ -176,7 +176,7 @@ uint8_t overlay_c_add_contour(overlay_core_handle *handle, const overlay_core_po
 /* The overlay of the contours that were added, as contours that have it on their left: outer boundaries run
    counterclockwise, and holes clockwise. Returns 0 where it is done, 1 where memory was refused, and 2 where a
    count left the range. The contours that were added stay. Crossings are rounded as the settings say: by snap
-   rounding, or pair by pair, in passes of which the first 256 snap, whatever the limit of the engine is.
+   rounding, or pair by pair, in passes, the first 256 of them snapping, whatever the limit of the engine is.
    Coordinates have 32 bits, whatever engine the settings name. */
 uint8_t overlay_c_polygons(overlay_core_handle *handle, const overlay_core_settings *settings, uint8_t rule);
 
@@ -198,7 +198,7 @@ void overlay_c_clear(overlay_core_handle *handle);
    where all ends lie on one line, which of them lie strictly inside the other segment. The counts do not matter. */
 overlay_core_cross overlay_c_cross(const overlay_core_segment *target, const overlay_core_segment *other, int64_t radius_squared);
 
-/* How much the engine keeps of its last answer. */
+/* How much the engine keeps of its last result. */
 overlay_core_sizes overlay_c_sizes(overlay_core_handle *handle);
 
 /* Copies the arrangement out. */

@@ -57,7 +57,7 @@ pub made_again : {D S : Type 0} (hooks : Hooks D S) (count w : Winding) (a b : P
 made_again hooks count w a b s edge_data store h es ew =
     made_in_order hooks count a b edge_data store (subst (λ (t : Pair). is_ordered t ≡ true) (sym es) h) ∙ (λ i. record { pair = es i; count = ew i })
 
--- without their data, records ask for the same segments
+-- without their data, records describe the same segments
 pub bare_tagged : (rs : List TaggedRecord) → without_data (tagged_by rs) ≡ given_by (untagged rs)
 bare_tagged [] = refl
 bare_tagged (r ∷ rs) = ap (λ l. asked_by r.segment ∷ l) (bare_tagged rs)
@@ -92,7 +92,7 @@ keeping_names_no_other names = record {
   merge = λ call store s h. or_left (names call.lhs_data s) (names call.rhs_data s) h;
 }
 
--- ---- what stands
+-- ---- what is left
 
 none_left : {A B : Type 0} (f : A → B) (xs : List A) → map f xs ≡ [] → xs ≡ []
 none_left f [] e = refl
@@ -109,7 +109,7 @@ data_after hooks settings loaded now xs segments k IsFirst eb arranged same empt
 abbrev tagged_link : {I : Type 0} → (I → ℤ) → OverlayLink I Tag → TaggedLink
 tagged_link whole l = record { link = link_of whole l; tag = l.edge_data }
 
--- what an engine keeps of data, from what the call below it answers
+-- what an engine keeps of data, from what the call below it returns
 pub keeps_data : {I : Type 0} {w : _} {o : _} {e : _} {p : _} (settings : SettingsRecord) (rule : OverlayRule) (given : List (DataSegment Tag)) (core : Core I w o e p) (whole : I → ℤ) (links : List (OverlayLink I Tag)) (s : Settings) (fill : FillRule) (loaded now : List (DataSegment Tag)) (xs : List WholeSegment)
     → s ≡ engine_settings settings core → fill ≡ fill_rule_of settings.fill_rule → loaded ≡ given → xs ≡ without_data loaded → map link_by core.links.items ≡ map (link_of whole) links → core.link_data.items ≡ map (λ l. l.edge_data) links
     → map (λ l. l.edge_data) links ≡ data_by (keeps_fill (holds rule)) fill now → now ≡ (data_after_passes keeping s loaded (tt {0}) (passes_of core.splitter)).0
@@ -143,7 +143,7 @@ moved_refusal s t xs ys segments now before passes fault es ex en o =
     subst (λ (u : Settings). IsRefused u ys now before passes fault) es (subst (λ (u : List WholeSegment). IsRefused s u now before passes fault) ex
     (subst (λ (u : List WholeSegment). IsRefused s xs u before passes fault) en o))
 
--- a refusal of the call below is told
+-- a refusal of the call below is passed on
 pub told_refusal : {A : Type 0} (r : Result A Refusal) (fault : Fault) (s : Settings) (xs segments : List WholeSegment) (before passes : ℕ) → IsErrAnd r (λ e. e ≡ Refused fault) → IsRefused s xs segments before passes fault
     → IfErr r (λ e. e ≡ Refused CountOutOfRange → IsRefused s xs segments before passes CountOutOfRange)
 told_refusal (Ok x) fault s xs segments before passes h o = tt

@@ -23,7 +23,7 @@ line_overlaps : (placing : Placing) (s t : Pair) → are_collinear s t ≡ true 
 unfolding cross_answer
 line_overlaps placing s t h = rw h refl
 
--- all ends lie on one line exactly where the answer says so
+-- all ends lie on one line exactly where the result says so
 pub line_of_kind : (placing : Placing) (s t : Pair) (answer : CrossAnswer) → Some answer ≡ cross_answer placing s t → are_collinear s t ≡ is_overlay answer.kind
 line_of_kind placing s t answer e =
     by_bool (are_collinear s t)

@@ -1,4 +1,4 @@
--- What an engine keeps of an overlay, from what the calls below it answer.
+-- What an engine keeps of an overlay, from what the calls below it return.
 use Rattle.std.proofs.Common.{◌≡◌, refl, ◌∙◌, ◌≤◌, ◌==◌, ℕ, Bool, true, false, if◌then◌else◌, IsTrue, ap, subst, List, map, flat_map, length}
 use Rattle.overlay_base.specs.Radius.{exponent_cap}
 use Rattle.overlay_base.specs.Segments.{WholeSegment}

@@ -22,7 +22,7 @@ use Rattle.overlay_c.specs.declared.tags.Tag.{Tag}
 abbrev pub Turns : Handle → Handle → (Engine → Engine → Type 0) → Type 0
 Turns old new relation = IfSome old.engine (λ before. IfSome new.engine (relation before))
 
--- A call that leaves an engine leaves one of which a fact holds.
+-- A call that leaves an engine leaves one for which a fact holds.
 abbrev pub Leaves : Handle → (Engine → Type 0) → Type 0
 Leaves handle fact = IfSome handle.engine fact
 

@@ -35,7 +35,7 @@ are_in_range records = list_all (is_point_in_range least_coordinate greatest_coo
 abbrev pub contours_in : Engine → ShapeType → List (List Point)
 contours_in engine shape = of_shape shape (subject_of engine.polygons) (clip_of engine.polygons)
 
--- how an overlay of contours splits: by snap rounding, or where the settings say so by passes, of which the first 256 snap
+-- how an overlay of contours splits: by snap rounding, or where the settings say so by passes, and the first 256 snap
 abbrev pub polygon_splitting : SettingsRecord → Splitting
 polygon_splitting settings = if settings.rounding == 0 then by_snapping else by_passes (settings_by 32 settings 256)
 

@@ -7,7 +7,7 @@ use Rattle.overlay_c.specs.Records.{start_of, end_of}
 use Rattle.overlay_c.specs.declared.records.SegmentRecord.{SegmentRecord}
 use Rattle.overlay_c.specs.declared.cross.CrossRecord.{CrossRecord}
 
--- the ends of a record, as they stand
+-- the ends of a record, as they are
 abbrev pub pair_by : SegmentRecord → Pair
 pair_by r = record { a = start_of r; b = end_of r }
 

@@ -1,4 +1,4 @@
--- What an engine keeps of its last answer.
+-- What an engine keeps of its last result.
 use Rattle.std.specs.Prelude.{◌≡◌, ◌⊎◌, ℕ, ℤ, ◌<◌, ◌^◌, ◌&&◌, Bool, true, List, [], IsTrue, All, map, length}
 use Rattle.std.specs.List.{list_all}
 use Rattle.overlay_geometry.specs.Points.{Pair}
@@ -31,7 +31,7 @@ use Rattle.overlay_c.specs.declared.records.SizesRecord.{SizesRecord}
 use Rattle.overlay_c.specs.declared.cores.Core.{Core}
 use Rattle.overlay_c.specs.declared.tags.Tag.{Tag}
 
--- the segments that records ask for, and whether each asks for one and all may be split
+-- the segments that records describe, and whether each describes one and all may be split
 abbrev pub given_by : List SegmentRecord → List WholeSegment
 given_by records = map asked_by records
 
@@ -46,7 +46,7 @@ pub record KeepsGraph {I : Type 0} {w : _} {o : _} {e : _} {p : _} (core : Core 
   pub links : map link_by core.links.items ≡ graph.links
   pub nodes : AreLaid (map (λ n. n.links) graph.nodes) core.degrees.items core.indexes.items
 
--- it has closed walks where they were asked for and evenly many links meet at each node
+-- it has closed walks where they were wanted and an even number of links meets at each node
 pub record KeepsWalks {I : Type 0} {w : _} {o : _} {e : _} {p : _} (asked : Bool) (core : Core I w o e p) (graph : Graph) : Type 0 where
   pub has_walks : core.has_walks ≡ (asked && has_even_nodes graph)
   pub walks : IsTrue core.has_walks → ((walks : List (List ℕ)) × AreClosedWalks graph.links walks × AreLaid walks core.walk_lengths.items core.walk_links.items)
@@ -130,7 +130,7 @@ IsCountOfAllRefused settings given before after =
     LeavesRange (engine_settings settings before) given
     ⊎ (IsSplit (engine_settings settings after) given (segments_of after.segments.items) (passes_of after.splitter) × IsTrue (tops_leave_range (segments_of after.segments.items)))
 
--- what stands after a refusal: nothing, or what the split leaves
+-- what is left after a refusal: nothing, or what the split leaves
 abbrev pub StandsAfter : {I : Type 0} {w : _} {o : _} {e : _} {p : _} → SettingsRecord → List WholeSegment → Core I w o e p → Type 0
 StandsAfter settings given core =
     (segments_of core.segments.items ≡ []) ⊎ IsSplit (engine_settings settings core) given (segments_of core.segments.items) (passes_of core.splitter)

@@ -45,11 +45,11 @@ piece_of count p q =
     then record { pair = record { a = p; b = q }; count = count }
     else record { pair = record { a = q; b = p }; count = inverse count }
 
--- whether it asks for a segment: its ends lie from the least to the greatest coordinate of an engine and differ, and its count is valid
+-- whether it describes a segment: its ends lie from the least to the greatest coordinate of an engine and differ, and its count is valid
 abbrev pub asks : ℤ → ℤ → SegmentRecord → Bool
 asks least greatest r = is_point_in_range least greatest (start_of r) && is_point_in_range least greatest (end_of r) && (not (int_eq r.ax r.bx && int_eq r.ay r.by) && is_valid (count_of r))
 
--- the segment that it asks for
+-- the segment that it describes
 abbrev pub asked_by : SegmentRecord → WholeSegment
 asked_by r = piece_of (count_of r) (start_of r) (end_of r)
 
@@ -73,7 +73,7 @@ line_asks least greatest r = is_point_in_range least greatest (line_start_of r) 
 abbrev pub line_asked_by : LineRecord → WholeSegment
 line_asked_by r = piece_of (line_count_of r) (line_start_of r) (line_end_of r)
 
--- the segment of it, as it stands
+-- the segment of it, as it is
 abbrev pub told_by : SegmentRecord → WholeSegment
 told_by r = record { pair = record { a = start_of r; b = end_of r }; count = count_of r }
 

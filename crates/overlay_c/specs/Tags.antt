@@ -23,6 +23,6 @@ untagged records = map (λ r. r.segment) records
 abbrev pub with_tag : WholeSegment → Tag → DataSegment Tag
 with_tag s tag = record { pair = s.pair; count = s.count; edge_data = tag }
 
--- the segments that records ask for, with their data
+-- the segments that records describe, with their data
 abbrev pub tagged_by : List TaggedRecord → List (DataSegment Tag)
 tagged_by records = map (λ r. with_tag (asked_by r.segment) r.tag) records

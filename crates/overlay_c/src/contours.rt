@@ -1,4 +1,4 @@
-// Contours: those that an engine is given, and those of its last answer.
+// Contours: those that an engine is given, and those of its last result.
 ghost use Rattle.std.specs.Prelude.{◌≡◌, OnOk, ◌++◌, map, length, flat_map};
 ghost use Rattle.overlay_geometry.specs.PointOf.{point_of};
 ghost use Rattle.overlay_contours.specs.ContoursOf.{points_of, contours_of};

@@ -1,5 +1,5 @@
-// What splits segments and builds graphs, for coordinates of one width: a splitter, builders, and the records of their
-// last answers.
+// What splits segments and builds graphs, for coordinates of one width: a splitter, builders, and
+// the records of their last results.
 ghost use Rattle.std.specs.Prelude.{◌≡◌, ◌≢◌, [], true, IsTrue, IsFalse, OnOk, OnErr, IfOk, IfErr, map, length, flat_map};
 ghost use Rattle.std.specs.List.{list_all};
 ghost use Rattle.overlay_base.specs.ArrangedOf.{IsSplittable};
@@ -58,7 +58,7 @@ pub struct Core<I: Width> {
     pub degrees: Vec<usize>,
     /// The indexes of the links at the first node, then of those at the next, and so on.
     pub indexes: Vec<usize>,
-    /// Whether closed walks were asked for and found.
+    /// Whether closed walks were wanted and found.
     pub has_walks: bool,
     /// How many links each walk has.
     pub walk_lengths: Vec<usize>,
@@ -98,8 +98,9 @@ impl<I: Width> Core<I> {
         }
     }
 
-    /// Splits the segments that records ask for, and keeps the arrangement, the graph of the segments that an overlay rule
-    /// keeps, and closed walks through it where they are asked for and evenly many links meet at each node.
+    /// Splits the segments that records describe, and keeps the arrangement, the graph of the
+    /// segments that an overlay rule keeps, and closed walks through it where they are wanted and
+    /// an even number of links meets at each node.
     ///
     /// After a refusal the engine can be used again: it keeps no segments, or their arrangement where the split was done. Of
     /// links, nodes and walks nothing is promised then.
@@ -176,7 +177,7 @@ impl<I: Width> Core<I> {
         Ok(())
     }
 
-    /// Splits the segments that records ask for, and keeps the arrangement.
+    /// Splits the segments that records describe, and keeps the arrangement.
     pub fn split(
         &mut self,
         given: &[SegmentRecord],
@@ -196,7 +197,8 @@ impl<I: Width> Core<I> {
         Ok(())
     }
 
-    /// Splits the segments that records ask for, and keeps the arrangement and the graph of all of it.
+    /// Splits the segments that records describe, and keeps the arrangement and the graph of all of
+    /// it.
     pub fn all(&mut self, given: &[SegmentRecord], settings: &SettingsRecord) -> Result<(), Refusal>
         ensures kept { OnOk result (KeepsAll settings.now (given_by given.now) self.new) }
         ensures usable { OnOk result (IsTrue (are_usable (I.whole I.MIN_COORD) (I.whole I.MAX_COORD) given.now)) }
@@ -231,8 +233,8 @@ impl<I: Width> Core<I> {
         Ok(())
     }
 
-    /// Splits the polygons and lines that records ask for, and keeps the arrangement and the graph of the parts of the
-    /// lines that a clip rule keeps.
+    /// Splits the polygons and lines that records describe, and keeps the arrangement and the graph
+    /// of the parts of the lines that a clip rule keeps.
     pub fn clip(
         &mut self,
         given: &[LineRecord],
@@ -286,7 +288,7 @@ impl<I: Width> Core<I> {
     }
 }
 
-/// Loads the segments that records ask for, where these may be split; else the list is empty.
+/// Loads the segments that records describe, where these may be split; else the list is empty.
 fn load_splittable<I: Width>(
     given: &[SegmentRecord],
     list: &mut Vec<Side<I>>,
@@ -305,7 +307,7 @@ fn load_splittable<I: Width>(
     loaded
 }
 
-/// The same, but that a refused load may leave anything.
+/// Loads as `load_splittable` does; a refused load may leave anything.
 fn try_load<I: Width>(given: &[SegmentRecord], list: &mut Vec<Side<I>>) -> Result<(), Refusal>
     ensures segments { OnOk result (segments_of list.new.items ≡ given_by given.now) }
     ensures splittable { OnOk result (IsSplittable list.new.items) }
@@ -338,7 +340,7 @@ fn load_splittable_lines<I: Width>(
     loaded
 }
 
-/// The same, but that a refused load may leave anything.
+/// Loads as `load_splittable_lines` does; a refused load may leave anything.
 fn try_load_lines<I: Width>(given: &[LineRecord], list: &mut Vec<Line<I>>) -> Result<(), Refusal>
     ensures segments { OnOk result (segments_of list.new.items ≡ map line_asked_by given.now) }
     ensures splittable { OnOk result (IsSplittable list.new.items) }
@@ -352,7 +354,7 @@ fn try_load_lines<I: Width>(given: &[LineRecord], list: &mut Vec<Line<I>>) -> Re
     Ok(())
 }
 
-/// Loads the segments that records ask for. Returns whether each asks for one.
+/// Loads the segments that records describe. Returns whether each describes one.
 pub fn load<I: Width>(
     records: &[SegmentRecord],
     list: &mut Vec<Side<I>>,

@@ -73,9 +73,9 @@ pub extern "C" fn overlay_c_free(alloc: Global, handle: &mut Handle)
     drop(take(alloc, handle));
 }
 
-/// The overlay of the segments that records ask for, by the rule of a code (`overlay_rule`) and the engine that the
-/// settings name. Returns 0 where it is done, 1 where memory was refused, 2 where a count left the range, and 3 where the
-/// segments may not be split with that engine.
+/// The overlay of the segments that records describe, by the rule of a code (`overlay_rule`) and
+/// the engine that the settings name. Returns 0 where it is done, 1 where memory was refused, 2
+/// where a count left the range, and 3 where the segments may not be split with that engine.
 #[unsafe(no_mangle)]
 pub extern "C" fn overlay_c_overlay(
     alloc: Global,
@@ -102,8 +102,9 @@ pub extern "C" fn overlay_c_overlay(
     status(outcome)
 }
 
-/// The overlay of the segments that records ask for, with the data of each link, and without walks. A part of a segment has
-/// its data; of segments on one pair of ends the first one's is kept. Returns as `overlay_c_overlay` does.
+/// The overlay of the segments that records describe, with the data of each link, and without
+/// walks. A part of a segment has its data; of segments on one pair of ends the first one's is
+/// kept. Returns as `overlay_c_overlay` does.
 #[unsafe(no_mangle)]
 pub extern "C" fn overlay_c_overlay_with_data(
     alloc: Global,
@@ -129,7 +130,7 @@ pub extern "C" fn overlay_c_overlay_with_data(
     status(outcome)
 }
 
-/// The split of the segments that records ask for. Returns as `overlay_c_overlay` does.
+/// The split of the segments that records describe. Returns as `overlay_c_overlay` does.
 #[unsafe(no_mangle)]
 pub extern "C" fn overlay_c_split(
     alloc: Global,
@@ -154,7 +155,8 @@ pub extern "C" fn overlay_c_split(
     status(outcome)
 }
 
-/// The graph of all of the arrangement of the segments that records ask for. Returns as `overlay_c_overlay` does.
+/// The graph of all of the arrangement of the segments that records describe. Returns as
+/// `overlay_c_overlay` does.
 #[unsafe(no_mangle)]
 pub extern "C" fn overlay_c_all(
     alloc: Global,
@@ -179,8 +181,8 @@ pub extern "C" fn overlay_c_all(
     status(outcome)
 }
 
-/// The join of the segments that records ask for, with the engine that the code of a width names, as in
-/// `SettingsRecord`. Returns as `overlay_c_overlay` does. After a refusal the list is empty.
+/// The join of the segments that records describe, with the engine that the code of a width names,
+/// as in `SettingsRecord`. Returns as `overlay_c_overlay` does. After a refusal the list is empty.
 #[unsafe(no_mangle)]
 pub extern "C" fn overlay_c_join(
     alloc: Global,
@@ -263,11 +265,12 @@ pub extern "C" fn overlay_c_add_contour(
     status(outcome)
 }
 
-/// The overlay of the contours that were added, as contours that have it on their left: outer boundaries run
-/// counterclockwise, and holes clockwise. Returns 0 where it is done, 1 where memory was refused, and 2 where a count
-/// left the range. The contours that were added stay. Crossings are rounded as the settings say: by snap rounding, or pair
-/// by pair, in passes of which the first 256 snap, whatever the limit of the engine is. Coordinates have 32 bits, whatever
-/// engine the settings name.
+/// The overlay of the contours that were added, as contours that have it on their left: outer
+/// boundaries run counterclockwise, and holes clockwise. Returns 0 where it is done, 1 where memory
+/// was refused, and 2 where a count left the range. The contours that were added stay. Crossings
+/// are rounded as the settings say: by snap rounding, or pair by pair, in passes, the first 256 of
+/// them snapping, whatever the limit of the engine is. Coordinates have 32 bits, whatever engine
+/// the settings name.
 #[unsafe(no_mangle)]
 pub extern "C" fn overlay_c_polygons(
     alloc: Global,
@@ -366,7 +369,7 @@ pub extern "C" fn overlay_c_cross(
     cross(target, other, radius_squared)
 }
 
-/// How much the engine keeps of its last answer.
+/// How much the engine keeps of its last result.
 #[unsafe(no_mangle)]
 pub extern "C" fn overlay_c_sizes(alloc: Global, handle: &mut Handle) -> SizesRecord
     requires { IsSome handle.old.engine }

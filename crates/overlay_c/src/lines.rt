@@ -1,4 +1,4 @@
-// Lines and the polygons that cut them, as records ask for them.
+// Lines and the polygons that cut them, as records describe them.
 ghost use Rattle.std.specs.Prelude.{◌≡◌, ◌&&◌, IsTrue, IfSome, IfOk, is_some, length, map};
 ghost use Rattle.std.specs.Ordering.{int_eq};
 ghost use Rattle.std.specs.List.{list_all};
@@ -18,7 +18,7 @@ use std::alloc::AllocError;
 /// A segment of polygons and lines.
 pub type Line<I> = Segment<ShapeCountString, I, ()>;
 
-/// Loads the segments that records ask for. Returns whether each asks for one.
+/// Loads the segments that records describe. Returns whether each describes one.
 pub fn load<I: Width>(records: &[LineRecord], list: &mut Vec<Line<I>>) -> Result<bool, AllocError>
     ensures asks { IfOk result (λ all. all ≡ list_all (line_asks (I.whole I.MIN_COORD) (I.whole I.MAX_COORD))
         records.now) }
@@ -34,8 +34,8 @@ pub fn load<I: Width>(records: &[LineRecord], list: &mut Vec<Line<I>>) -> Result
     Ok(true)
 }
 
-/// The segment that a record asks for. `None` where an end is out of range, the ends are equal, the count is `i32::MIN`, or the mask has other
-/// bits than its two.
+/// The segment that a record describes. `None` where an end is out of range, the ends are equal,
+/// the count is `i32::MIN`, or the mask has other bits than its two.
 pub fn asked<I: Width>(given: &LineRecord) -> Option<Line<I>>
     ensures asks { is_some result ≡ line_asks (I.whole I.MIN_COORD) (I.whole I.MAX_COORD) given.now }
     ensures segment { IfSome result (λ segment. segment_of segment ≡ line_asked_by given.now) }

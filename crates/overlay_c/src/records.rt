@@ -87,8 +87,8 @@ pub struct SettingsRecord {
     pub rounding: u8,
 }
 
-/// The segment that a record asks for, with data. `None` where an end is out of range, the ends are equal, or a count is
-/// `i32::MIN`.
+/// The segment that a record describes, with data. `None` where an end is out of range, the ends
+/// are equal, or a count is `i32::MIN`.
 pub fn asked<I: Width, D: OverlayEdgeData<ShapeCountBoolean>>(
     given: &SegmentRecord,
     edge_data: D,
@@ -278,7 +278,7 @@ pub fn solver(settings: &SettingsRecord) -> Solver
     }
 }
 
-/// How much an engine keeps of its last answer.
+/// How much an engine keeps of its last result.
 #[repr(C)]
 #[derive(Clone, Copy)]
 pub struct SizesRecord {

@@ -65,7 +65,8 @@ pub struct TaggedRecord {
     pub tag: Tag,
 }
 
-/// Loads the segments that records ask for, with their numbers, where these may be split; else the list is empty.
+/// Loads the segments that records describe, with their numbers, where these may be split; else the
+/// list is empty.
 pub fn load_splittable<I: Width>(
     given: &[TaggedRecord],
     list: &mut Vec<TaggedSide<I>>,
@@ -85,7 +86,7 @@ pub fn load_splittable<I: Width>(
     loaded
 }
 
-/// The same, but that a refused load may leave anything.
+/// Loads as `load_splittable` does; a refused load may leave anything.
 fn try_load<I: Width>(given: &[TaggedRecord], list: &mut Vec<TaggedSide<I>>) -> Result<(), Refusal>
     ensures segments { OnOk result (data_segments_of list.new.items ≡ tagged_by given.now) }
     ensures splittable { OnOk result (IsSplittable list.new.items) }
@@ -100,7 +101,8 @@ fn try_load<I: Width>(given: &[TaggedRecord], list: &mut Vec<TaggedSide<I>>) -> 
     Ok(())
 }
 
-/// Loads the segments that records ask for, with their numbers. Returns whether each asks for one.
+/// Loads the segments that records describe, with their numbers. Returns whether each describes
+/// one.
 fn load<I: Width>(
     records: &[TaggedRecord],
     list: &mut Vec<TaggedSide<I>>,
@@ -119,7 +121,8 @@ fn load<I: Width>(
     Ok(true)
 }
 
-/// The segment that a record asks for, with its number. `None` where the ends are equal or a count is `i32::MIN`.
+/// The segment that a record describes, with its number. `None` where the ends are equal or a count
+/// is `i32::MIN`.
 fn asked_with_tag<I: Width>(given: &TaggedRecord) -> Option<TaggedSide<I>>
     ensures asks { is_some result ≡ asks (I.whole I.MIN_COORD) (I.whole I.MAX_COORD) given.now.segment }
     ensures segment { IfSome result (λ s. data_segment_of s ≡ with_tag (asked_by given.now.segment) given.now.tag) }
@@ -142,7 +145,7 @@ pub fn keep_untagged<I: Width>(
     outcome
 }
 
-/// The same, but that a refusal may leave anything.
+/// Keeps as `keep_untagged` does; a refusal may leave anything.
 fn push_untagged<I: Width>(
     tagged: &[TaggedSide<I>],
     kept: &mut Vec<Side<I>>,
