@@ -23,7 +23,7 @@ pub record BoundBeyond (halves : ℕ) (rule : OverlayRule) (fill_rule : FillRule
   -- They wind around each such place once, counterclockwise, where the rule holds, and not at all elsewhere; for a rule
   -- that holds of the places outside once less.
   pub winds : (p : RationalPoint) → 0 < p.bottom → IsBeyond halves subject clip p → winding_number answer p ≡ truth (is_in_overlay rule fill_rule subject clip p) -ℤ truth (holds rule false false)
-  -- They enclose exactly those of which the rule says something else than of the places outside.
+  -- They enclose exactly those at which the rule's value differs from that outside.
   pub paints : (p : RationalPoint) → 0 < p.bottom → IsBeyond halves subject clip p → is_painted answer p ≡ differ (holds rule false false) (is_in_overlay rule fill_rule subject clip p)
   -- Each contour has points, and in none a point is next to itself.
   pub proper : AreProper answer

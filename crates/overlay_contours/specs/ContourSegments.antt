@@ -31,7 +31,7 @@ contour_segments shape_type contours = step_segments shape_type (steps contours)
 unfoldable pub overlay_segments : List (List Point) → List (List Point) → List WholeSegment
 overlay_segments subject clip = contour_segments Subject subject ++ contour_segments Clip clip
 
--- how the contours of the subject, and those of the clip, run round p
+-- how the contours of the subject, and those of the clip, run around p
 abbrev pub overlay_winding : List (List Point) → List (List Point) → RationalPoint → Winding
 overlay_winding subject clip p = boolean_made (winding_number subject p) (winding_number clip p)
 

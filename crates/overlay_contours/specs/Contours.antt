@@ -1,4 +1,4 @@
--- Contours: lists of points, each joined to the next one and the last to the first. Which places they run round.
+-- Contours: lists of points, each joined to the next one and the last to the first. Which places they run around.
 use Rattle.std.specs.Prelude.{◌≢◌, ◌%◌, ◌==◌, ℤ, pos, negsuc, ◌+ℤ◌, Bool, not, IsTrue, if◌then◌else◌, List, [], ◌∷◌, ◌++◌, map, filter, flat_map, count_by, All}
 use Rattle.std.specs.List.{list_all}
 use Rattle.overlay_geometry.specs.Points.{Point, Pair, point_eq, point_lt}
@@ -39,20 +39,20 @@ directed_edges contours = filter is_edge (steps contours)
 abbrev pub edges : List (List Point) → List Pair
 edges contours = map in_order (directed_edges contours)
 
--- Each of the contours has points, and in none a point stands next to itself, the last and the first one included.
+-- Each of the contours has points, and in none two neighboring points are equal, the last and the first one included.
 pub record AreProper (contours : List (List Point)) : Type 0 where
   pub points : All (λ c. c ≢ []) contours
   pub apart : IsTrue (list_all is_edge (steps contours))
 
--- How a step winds round p: it counts 1 where it runs below p from left to right, and -1 where it runs below p from
+-- How a step winds around p: it counts 1 where it runs below p from left to right, and -1 where it runs below p from
 -- right to left.
 abbrev pub step_winding : RationalPoint → Pair → ℤ
 step_winding p s = if lies_below s p then pos 1 else (if lies_below (turned s) p then negsuc 0 else pos 0)
 
--- how often contours run round p, counterclockwise
+-- how often contours run around p, counterclockwise
 unfoldable pub winding_number : List (List Point) → RationalPoint → ℤ
 winding_number contours p = gathered ◌+ℤ◌ (pos 0) (step_winding p) (steps contours)
 
--- whether oddly many edges run below p: what an even-odd fill of the contours paints
+-- whether an odd number of edges runs below p: what an even-odd fill of the contours paints
 unfoldable pub is_painted : List (List Point) → RationalPoint → Bool
 is_painted contours p = count_by (λ e. lies_below e p) (edges contours) % 2 == 1

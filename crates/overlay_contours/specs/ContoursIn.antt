@@ -45,7 +45,7 @@ IsFirstOutsideOf whole least greatest contours index point_index = IsFirstOutsid
 abbrev pub AreSidesOf : {C I D : Type 0} {m : _} {w : _} {o : _} {e : _} {p : _} → List (Vec (IntPoint I) Global) → List (Vec (IntPoint I) Global) → List (Segment C I D m w o e p) → Type 0
 AreSidesOf {w = w} subject clip list = segments_of list ≡ overlay_segments (contours_of w.whole subject) (contours_of w.whole clip)
 
--- It winds round every place as they do.
+-- It winds around every place as they do.
 abbrev pub WindsAsContours : {C I D : Type 0} {m : _} {w : _} {o : _} {e : _} {p : _} → List (Vec (IntPoint I) Global) → List (Vec (IntPoint I) Global) → List (Segment C I D m w o e p) → Type 0
 WindsAsContours {w = w} subject clip list =
     (p : RationalPoint) → winding_below (segments_of list) p ≡ overlay_winding (contours_of w.whole subject) (contours_of w.whole clip) p
@@ -56,7 +56,7 @@ WindsAsContours {w = w} subject clip list =
 abbrev pub corners_in : {I : Type 0} → (I → ℤ) → List (Vec (IntPoint I) Global) → List (List Point)
 corners_in whole contours = map corners (contours_of whole contours)
 
--- Contours wind round every place as often as the given ones.
+-- Contours wind around every place as often as the given ones.
 abbrev pub WindAlike : {I : Type 0} → (I → ℤ) → List (Vec (IntPoint I) Global) → List (Vec (IntPoint I) Global) → Type 0
 WindAlike whole given contours = (p : RationalPoint) → winding_number (contours_of whole contours) p ≡ winding_number (contours_of whole given) p
 
@@ -75,7 +75,7 @@ abbrev pub RunAlongLinks : {I D : Type 0} {w : _} {o : _} {e : _} {p : _} → Ov
 RunAlongLinks {w = w} rule graph contours =
     (test : Pair → Bool) → count_by test (directed_edges (contours_of w.whole contours)) ≡ count_by test (map (λ l. l.pair) (arcs_by rule graph))
 
--- So they wind round every place as those links.
+-- So they wind around every place as those links.
 abbrev pub WindAsLinks : {I D : Type 0} {w : _} {o : _} {e : _} {p : _} → OverlayRule → OverlayGraph I D w o e p → List (Vec (IntPoint I) Global) → Type 0
 WindAsLinks {w = w} rule graph contours = (p : RationalPoint) → overlay_winding (contours_of w.whole contours) [] p ≡ winding_below (links_by rule graph) p
 

@@ -16,16 +16,16 @@ pub record IsCornerOverlay (splitting : Splitting) (rule : OverlayRule) (fill_ru
   -- the contours of the overlay with all their points
   pub full : List (List Point)
   pub overlay : IsPolygonOverlay splitting rule fill_rule subject clip full
-  -- The answer has the corners of each. So an edge of the answer is a way along edges of the arrangement that goes
+  -- The result has the corners of each. So an edge of the result is a way along edges of the arrangement that goes
   -- straight on from each to the next.
   pub taken : answer ≡ map corners full
   -- It turns at each of its points: none is left at which it goes straight on.
   pub turns : map corners answer ≡ answer
-  -- Each contour has points, and in none a point stands next to itself.
+  -- Each contour has points, and in none two neighboring points are equal.
   pub proper : AreProper answer
-  -- It winds round each far place once, counterclockwise, where the rule holds, and not at all elsewhere; for a rule that
+  -- It winds around each far place once, counterclockwise, where the rule holds, and not at all elsewhere; for a rule that
   -- holds of those outside once less.
   pub winds : (p : RationalPoint) → 0 < p.bottom → IsBeyond overlay.halves subject clip p → winding_number answer p ≡ truth (is_in_overlay rule fill_rule subject clip p) -ℤ truth (holds rule false false)
   pub named_winds : holds rule false false ≡ false → (p : RationalPoint) → 0 < p.bottom → IsBeyond overlay.halves subject clip p → winding_number answer p ≡ truth (is_in_overlay rule fill_rule subject clip p)
-  -- It encloses exactly the far places of which the rule says something else than of those outside.
+  -- It encloses exactly the far places at which the rule's value differs from that outside.
   pub region : (p : RationalPoint) → 0 < p.bottom → IsBeyond overlay.halves subject clip p → is_painted answer p ≡ differ (holds rule false false) (is_in_overlay rule fill_rule subject clip p)

@@ -66,7 +66,7 @@ abbrev pub IsOverlayOfKept : {I : Type 0} {w : _} {o : _} {e : _} {p : _} → So
 IsOverlayOfKept {w = w} solver rule fill_rule overlay contours =
     IsPolygonOverlay (splitting_of solver overlay) rule fill_rule (subject_of overlay) (clip_of overlay) (contours_of w.whole contours.items)
 
--- They are what it answers without collinear points.
+-- They are what it returns without collinear points.
 abbrev pub IsCornersOfKept : {I : Type 0} {w : _} {o : _} {e : _} {p : _} → Solver → OverlayRule → FillRule → Overlay I w o e p → Vec (Vec (IntPoint I) Global) Global → Type 0
 IsCornersOfKept {w = w} solver rule fill_rule overlay contours =
     IsCornerOverlay (splitting_of solver overlay) rule fill_rule (subject_of overlay) (clip_of overlay) (contours_of w.whole contours.items)

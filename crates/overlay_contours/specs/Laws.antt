@@ -18,7 +18,7 @@ use Rattle.overlay_contours.specs.ContourSegments.{contour_segments}
 use Rattle.overlay_contours.specs.Polygons.{IsPolygonOverlay}
 use Rattle.overlay_contours.specs.Splittings.{Splitting}
 
--- oddly many edges run below a place exactly where the contours run round it an odd number of times
+-- an odd number of edges runs below a place exactly where the contours run around it an odd number of times
 abbrev pub PaintsByEvenOdd : Type 0
 PaintsByEvenOdd = (contours : List (List Point)) (p : RationalPoint) → is_painted contours p ≡ is_inside EvenOdd (winding_number contours p)
 
@@ -28,7 +28,7 @@ ContoursTakeLinks =
     (rule : Bool → Bool → Bool) (kept : List Filled) (walks : List (List ℕ)) → IsTrue (list_all (λ f. is_ordered f.pair) kept) → AreDirectedWalks (arcs rule (graph_of kept).links) walks →
     (test : Pair → Bool) → count_by test (directed_edges (map (contour (arcs rule (graph_of kept).links)) walks)) ≡ count_by test (map (λ l. l.pair) (arcs rule (graph_of kept).links))
 
--- So, as contours of a subject, they wind round every place as the links do, each link once in its direction.
+-- So, as contours of a subject, they wind around every place as the links do, each link once in its direction.
 abbrev pub ContoursWindAsLinks : Type 0
 ContoursWindAsLinks =
     (rule : Bool → Bool → Bool) (kept : List Filled) (walks : List (List ℕ)) → IsTrue (list_all (λ f. is_ordered f.pair) kept) → AreDirectedWalks (arcs rule (graph_of kept).links) walks →

@@ -30,7 +30,7 @@ abbrev pub run_of : WholeSegment → Pair
 run_of s = if int_lt (pos 0) s.count.subj then s.pair else turned s.pair
 
 -- The edges of the contours, as they run, are the boundary of the rule's region in an arrangement: the segments whose
--- sides differ under the rule, each once, in the direction that has the side of which it holds on its left.
+-- sides differ under the rule, each once, in the direction that has the side where it holds on its left.
 abbrev pub RunsAlongBoundary : OverlayRule → FillRule → List WholeSegment → List (List Point) → Type 0
 RunsAlongBoundary rule fill_rule arrangement contours = (test : Pair → Bool) → count_by test (directed_edges contours) ≡ count_by test (map run_of (boundary (holds rule) fill_rule arrangement))
 
@@ -41,9 +41,9 @@ pub record IsPolygonOverlay (splitting : Splitting) (rule : OverlayRule) (fill_r
   pub passes : ℕ
   pub halves : ℕ
   pub left : IsLeftBy splitting (overlay_segments subject clip) arrangement passes halves
-  -- The answer encloses exactly the far places of which the rule says something else than of those outside.
+  -- The result encloses exactly the far places at which the rule's value differs from that outside.
   pub region : (p : RationalPoint) → 0 < p.bottom → IsBeyond halves subject clip p → is_painted answer p ≡ differ (holds rule false false) (is_in_overlay rule fill_rule subject clip p)
-  -- A rule that says no of those outside, as each with a name does: exactly the far places of which it holds.
+  -- A rule that says no of those outside, as each with a name does: exactly the far places where it holds.
   pub named : holds rule false false ≡ false → (p : RationalPoint) → 0 < p.bottom → IsBeyond halves subject clip p → is_painted answer p ≡ is_in_overlay rule fill_rule subject clip p
   -- It is directed so that the region lies on its left. So it winds around each far place once, counterclockwise, where
   -- the rule holds, and not at all elsewhere; for a rule that holds of those outside once less.

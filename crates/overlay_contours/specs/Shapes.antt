@@ -23,11 +23,11 @@ all_contours shapes = flat_map (λ shape. shape) shapes
 abbrev pub IsSimple : List Point → Type 0
 IsSimple contour = (p : Point) → count_by (λ q. point_eq q p) contour ≤ 1
 
--- how many of the shapes wind round p
+-- how many of the shapes wind around p
 unfoldable pub shapes_round : List (List (List Point)) → RationalPoint → ℕ
 shapes_round shapes p = count_by (λ shape. not (int_eq (winding_number shape p) (pos 0))) shapes
 
--- No place lies in two shapes: each winds round p as all of them together, or not at all, and just one does, if they do.
+-- No place lies in two shapes: each winds around p as all of them together, or not at all, and just one does, if they do.
 pub record WindApart (shapes : List (List (List Point))) (p : RationalPoint) : Type 0 where
   pub each : All (λ shape. (winding_number shape p ≡ pos 0) ⊎ (winding_number shape p ≡ winding_number (all_contours shapes) p)) shapes
   pub one : shapes_round shapes p ≡ (if int_eq (winding_number (all_contours shapes) p) (pos 0) then 0 else 1)
@@ -80,7 +80,7 @@ pub record IsShapeOverlay (splitting : Splitting) (rule : OverlayRule) (fill_rul
   pub simple : All IsSimple (all_contours shapes)
   -- No place of the plane lies in two shapes.
   pub apart : (p : RationalPoint) → 0 < p.bottom → WindApart shapes p
-  -- For a rule that says no of the places outside, each shape winds once or not at all, and round each far place one
+  -- For a rule that is false outside, each shape winds once or not at all, and around each far place one
   -- winds exactly where the rule holds.
   pub named : holds rule false false ≡ false → (p : RationalPoint) → 0 < p.bottom → All (λ shape. (winding_number shape p ≡ pos 0) ⊎ (winding_number shape p ≡ pos 1)) shapes
   pub inside : holds rule false false ≡ false → (p : RationalPoint) → 0 < p.bottom → IsBeyond overlay.halves subject clip p → shapes_round shapes p ≡ (if is_in_overlay rule fill_rule subject clip p then 1 else 0)

@@ -70,8 +70,8 @@ fn is_in_range<I: OverlayInt>(point: IntPoint<I>) -> bool
 
 /// The segments of a subject's and of a clip's contours: one for each step between two different points.
 ///
-/// All points have to be in range, as `find_out_of_range` tests. The counts balance at every point, and at every place
-/// the segments wind as often as the contours run round it.
+/// All points have to be in range, as `find_out_of_range` tests. The counts balance at every point,
+/// and at every place the segments wind as often as the contours run around it.
 ///
 /// Returns `Fault::Memory` where a growth is refused.
 pub fn segments_of_contours<I: OverlayInt>(

@@ -19,11 +19,11 @@ use std::alloc::Global;
 /// The corners of contours: of each its points in their order, without those at which it goes straight on. It does so
 /// at a point that lies on one line with the point before and the point after, and between them.
 ///
-/// All points have to be in range, as `find_out_of_range` tests. The answer runs round every place of the plane as
-/// often as the contours do, and paints the same places by even-odd. At each of its points it turns, so that its
-/// corners are all its points. A contour with points has corners. A point that stands next to itself is a corner, and
-/// so is one from which a contour goes back; of contours in which none stands next to itself the answer has none
-/// either.
+/// All points have to be in range, as `find_out_of_range` tests. The result runs around every place
+/// of the plane as often as the contours do, and paints the same places by even-odd. At each of its
+/// points it turns, so that its corners are all its points. A contour with points has corners. A
+/// point that equals its neighbor is a corner, and so is one from which a contour goes back; where
+/// no two neighbors are equal in the contours, none are in the result.
 ///
 /// Returns `Fault::Memory` where a growth is refused.
 pub fn corners_of_contours<I: OverlayInt>(
@@ -116,7 +116,7 @@ fn is_straight<I: OverlayInt>(p: IntPoint<I>, q: IntPoint<I>, r: IntPoint<I>) ->
     Triangle::is_line(p, q, r) && (are_in_order(p, q, r) || are_in_order(r, q, p))
 }
 
-/// Whether three points stand in the order of points.
+/// Whether three points are in the order of points.
 fn are_in_order<I: OverlayInt>(p: IntPoint<I>, q: IntPoint<I>, r: IntPoint<I>) -> bool
     ensures { result ≡ (point_lt (point_of I.whole p) (point_of I.whole q)
         && point_lt (point_of I.whole q) (point_of I.whole r)) }

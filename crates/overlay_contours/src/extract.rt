@@ -27,10 +27,10 @@ use overlay_geometry::num::OverlayInt;
 use overlay_shapes::shape_walks::shape_walks;
 use std::alloc::Global;
 
-/// The directed walks of a graph as contours. Each link is an edge of one contour, once, and runs in its direction:
-/// from `a` to `b` where the rule holds of the top of its fill, and else from `b` to `a`. So what the rule holds of
-/// lies to the left, and the contours wind round every place as the directed links do. Each contour has points, and in
-/// none a point stands next to itself.
+/// The directed walks of a graph as contours. Each link is an edge of one contour, once, and runs
+/// in its direction: from `a` to `b` where the rule holds of the top of its fill, and else from `b`
+/// to `a`. So what the rule holds of lies to the left, and the contours wind around every place as
+/// the directed links do. Each contour has points, and in none two neighboring points are equal.
 ///
 /// As many links have to start as end at each node, as they do in the graph of the rule where counts balance.
 ///

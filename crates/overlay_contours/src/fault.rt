@@ -11,7 +11,7 @@ pub enum ContourFault {
     /// A point lies outside the engine's coordinates, from `MIN_COORD` to `MAX_COORD`.
     #[error("a point is out of range")]
     OutOfRange {
-        /// Of which shape.
+        /// The shape that has the point.
         shape_type: ShapeType,
         /// The index of its contour.
         contour: usize,

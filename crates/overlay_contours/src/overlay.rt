@@ -25,24 +25,27 @@ use std::alloc::Global;
 /// The overlay of a subject's contours and a clip's, as contours that have the region of the overlay on their left: an
 /// outer boundary runs counterclockwise, and a hole clockwise.
 ///
-/// The result winds once, counterclockwise, around a point of which the overlay rule holds, and not at all around others.
-/// What the rule says of a point depends on how often the given contours wind around it, under the fill rule. That is so
-/// at every point that is farther than half a unit from the edges of the given contours, in `x` or in `y`. Under a table
-/// that holds of points outside, the result winds once less everywhere.
+/// The result winds once, counterclockwise, around a point where the overlay rule holds, and not at
+/// all around others. What the rule says of a point depends on how often the given contours wind
+/// around it, under the fill rule. That is so at every point that is farther than half a unit from
+/// the edges of the given contours, in `x` or in `y`. Under a table that holds of points outside,
+/// the result winds once less everywhere.
 ///
-/// So, but for such a table, the result may be filled by any rule other than `Negative`. Under even-odd (a point is
-/// painted where an odd number of edges runs below it) it always paints the points of which the overlay rule says
-/// something else than of those outside. Its edges are the boundary of the region in the arrangement, each lies within
-/// half a unit of a given edge, and no two share more than an end.
+/// So, but for such a table, the result may be filled by any rule other than `Negative`. Under
+/// even-odd (a point is painted where an odd number of edges runs below it) it always paints the
+/// points at which the overlay rule's value differs from that outside. Its edges are the boundary
+/// of the region in the arrangement, each lies within half a unit of a given edge, and no two share
+/// more than an end.
 ///
 /// Crossings without whole coordinates are rounded by snap rounding, in one pass, so few nearly parallel edges leave few
 /// points. Where no two edges cross at such a point, nothing moves. The solver's strategy does not change the result, nor
 /// does its precision. `Overlay::set_rounding` chooses upstream's rounding.
 ///
-/// Any contours will do: they may cross and touch themselves and one another, run either way, repeat points, and have
-/// no or few points. Equal neighboring points make no edge, and the answer has none. Collinear points of the answer are
-/// left in; `Overlay::overlay_without_collinear` leaves them out. Each contour of the answer has points, and may come
-/// to a point twice. All of its points are in range, so it may be given again.
+/// Any contours will do: they may cross and touch themselves and one another, run either way,
+/// repeat points, and have no or few points. Equal neighboring points make no edge, and the result
+/// has none. Collinear points of the result are left in; `Overlay::overlay_without_collinear`
+/// leaves them out. Each contour of the result has points, and may come to a point twice. All of
+/// its points are in range, so it may be given again.
 ///
 /// Returns `ContourFault::OutOfRange` where a point is out of the engine's range, and names the first one; else
 /// `Fault::CountOutOfRange` only where counts leave `-i32::MAX..=i32::MAX`, and `Fault::Memory` where a growth is
@@ -113,7 +116,7 @@ pub fn overlay_shapes<I: OverlayInt>(
     Ok(buffers.overlay_shapes(subject, clip, rounding, solver, fill_rule, overlay_rule)?)
 }
 
-/// Tells the first point of a shape's contours that is out of range.
+/// Returns the first point of a shape's contours that is out of range.
 fn test_range<I: OverlayInt>(
     contours: &[IntContour<I>],
     shape_type: ShapeType,
@@ -382,7 +385,7 @@ impl<I: OverlayInt> Overlay<I> {
         self.reach
     }
 
-    /// Drops the contours. The buffers of the overlays stay, and what `passes` and `reach` tell.
+    /// Drops the contours. The buffers of the overlays stay, and what `passes` and `reach` return.
     pub fn clear(&mut self)
         ensures subject { subject_of self.new ≡ [] }
         ensures clip { clip_of self.new ≡ [] }

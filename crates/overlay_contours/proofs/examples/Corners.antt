@@ -42,7 +42,7 @@ square_stays : corners (square 0 4) ≡ square 0 4
 unfolding corners turn
 square_stays = refl
 
--- both run round the inside once, and not round what is beside it
+-- both run around the inside once, and not around what is beside it
 dotted_inside : winding_number (dotted ∷ []) (at_point 2 2) ≡ pos 1
 unfolding winding_number
 dotted_inside = refl

@@ -38,7 +38,7 @@ clockwise_square m n = point m m ∷ point m n ∷ point n n ∷ point n m ∷ [
 square_edges : edges (square 0 4 ∷ []) ≡ (pair 0 0 4 0 ∷ pair 4 0 4 4 ∷ pair 0 4 4 4 ∷ pair 0 0 0 4 ∷ [])
 square_edges = refl
 
--- one contour runs round its inside once, and not round what is above, right, left of or below it
+-- one contour runs around its inside once, and not around what is above, right, left of or below it
 inside_square : winding_number (square 0 4 ∷ []) (at_point 2 2) ≡ pos 1
 unfolding winding_number
 inside_square = refl
@@ -95,7 +95,7 @@ outside_of_both : winding_number (square 0 8 ∷ clockwise_square 2 6 ∷ []) (a
 unfolding winding_number
 outside_of_both = refl
 
--- If the hole ran as the outer boundary does, it would be wound round twice. Even-odd cannot tell.
+-- If the hole ran as the outer boundary does, it would be wound around twice. Even-odd cannot show that.
 hole_the_wrong_way : winding_number (square 0 8 ∷ square 2 6 ∷ []) (at_point 4 4) ≡ pos 2
 unfolding winding_number
 hole_the_wrong_way = refl
@@ -108,7 +108,7 @@ nor_the_wrong_way : is_painted (square 0 8 ∷ square 2 6 ∷ []) (at_point 4 4)
 unfolding is_painted
 nor_the_wrong_way = refl
 
--- what a difference has to wind round a place of the hole, and one between both
+-- what a difference has to wind around a place of the hole, and one between both
 none_in_the_hole : truth (is_in_overlay Difference NonZero (square 0 8 ∷ []) (square 2 6 ∷ []) (at_point 4 4)) ≡ pos 0
 unfolding winding_number
 none_in_the_hole = refl
@@ -126,7 +126,7 @@ segments_between_both : (winding_below (contour_segments ShapeSubject (square 0 
 unfolding computing contour_segments
 segments_between_both = refl
 
--- The boundary of a square that a contour runs round clockwise: each edge in the direction that has the inside on its left.
+-- The boundary of a square that a contour runs around clockwise: each edge in the direction that has the inside on its left.
 boundary_runs :
     map run_of (boundary (holds Subject) NonZero (join (contour_segments ShapeSubject (clockwise_square 0 4 ∷ []))))
     ≡ (pair 0 4 0 0 ∷ pair 0 0 4 0 ∷ pair 4 4 0 4 ∷ pair 4 0 4 4 ∷ [])

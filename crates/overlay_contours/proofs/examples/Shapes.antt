@@ -35,7 +35,7 @@ shapes = ring ∷ (island ∷ []) ∷ []
 abbrev half : ℕ → ℕ → RationalPoint
 half x y = record { x = pos x; y = pos y; bottom = 2 }
 
--- ---- which of the shapes winds round a place
+-- ---- which of the shapes winds around a place
 
 around_in_ring : shapes_round shapes (at_point 1 4) ≡ 1
 unfolding shapes_round winding_number
@@ -53,7 +53,7 @@ around_outside : shapes_round shapes (at_point 9 4) ≡ 0
 unfolding shapes_round winding_number
 around_outside = refl
 
--- a hole without its boundary winds round what is in it, and with another shape's both do
+-- a hole without its boundary winds around what is in it, and with another shape's both do
 hole_alone : winding_number (hole ∷ []) (at_point 4 4) ≡ negsuc 0
 unfolding winding_number
 hole_alone = refl
@@ -101,7 +101,7 @@ sides =
     ∷ side 3 3 3 5 (negsuc 0) ∷ side 3 3 5 3 (pos 1) ∷ side 3 5 5 5 (negsuc 0) ∷ side 5 3 5 5 (pos 1)
     ∷ side 6 2 6 6 (negsuc 0) ∷ side 8 0 8 8 (pos 1) ∷ []
 
--- the lower side of the hole stands on that of the outer boundary, and the ring is between
+-- the lower side of the hole has that of the outer boundary as its support, and the ring is between
 hole_stands : support sides (side 2 2 6 2 (negsuc 0)) ≡ Some (side 0 0 8 0 (pos 1))
 unfolding computing
 hole_stands = refl
@@ -132,7 +132,7 @@ step_across_ring = record {
   leads = inl meet_across_ring;
 }
 
--- that of the island stands on that of the hole, and nothing is between
+-- that of the island has that of the hole as its support, and nothing is between
 island_stands : support sides (side 3 3 5 3 (pos 1)) ≡ Some (side 2 2 6 2 (negsuc 0))
 unfolding computing
 island_stands = refl

@@ -1,4 +1,4 @@
--- A list that has each index once counts as the list of what stands at the indexes.
+-- A list that has each index once counts as the list of what is at the indexes.
 use Rattle.std.proofs.Common.{◌≡◌, refl, sym, ap, ap₂, ◌∙◌, ℕ, zero, suc, ◌+◌, ◌*◌, ◌<◌, ◌==◌, get_or, length, Bool, true, false, cond, List, [], ◌∷◌, map, sum_by, arith}
 use Rattle.std.specs.Prelude.{count_by}
 use Rattle.std.specs.List.{AllByRecursion}
@@ -39,7 +39,7 @@ total-one c (suc x) (suc n) h =
     (total-same (λ i. cond (suc x == suc i) c 0) (λ i. cond (x == i) c 0) n (λ i _. ap (λ (b : Bool). cond b c 0) (eqb-suc x i)) ∙ total-one c x n (omega arith))
     ∙ (let e : 0 + c ≡ c = omega arith in e)
 
--- what stands at the indexes of a list
+-- what is at the indexes of a list
 total-list : {X : Type 0} (f : X → ℕ) (xs : List X) (d : X) → total (λ i. f (get_or xs i d)) (length xs) ≡ sum_by f xs
 total-list f [] d = refl
 total-list f (x ∷ xs) d = ap (λ (n : ℕ). f x + n) (total-list f xs d) ∙ sym (sum_by-cons f x xs)

@@ -1,4 +1,4 @@
--- The contours of directed walks wind round a place as the links of the graph do, each once in its direction.
+-- The contours of directed walks wind around a place as the links of the graph do, each once in its direction.
 use Rattle.std.proofs.Common.{◌≡◌, refl, sym, ap, ap₂, ◌∙◌, ◌+◌, Bool, true, false, cond, if◌then◌else◌, ◌&&◌, not, List, [], ◌∷◌, map, arith, ℕ}
 use Rattle.std.specs.Prelude.{ℤ, pos, negsuc, ◌+ℤ◌, ◌-ℤ◌, count_by}
 use Rattle.std.specs.List.{list_all}
@@ -26,7 +26,7 @@ use Rattle.overlay_contours.proofs.laws.Windings.{not_below, right, contours_win
 use Rattle.overlay_contours.proofs.laws.Extracts.{ways_of, links_are_ordered, steps_are_directed, directed_count}
 
 module _ (p : RationalPoint) where
-  -- how often steps wind round p, added up
+  -- how often steps wind around p, added up
   abbrev wound : List Pair → ℤ
   wound list = gathered ◌+ℤ◌ (pos 0) (step_winding p) list
 

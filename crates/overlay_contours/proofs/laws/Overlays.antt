@@ -95,7 +95,7 @@ links_are_few keeps rule segments test =
     let fewer : count_by (λ (f : Filled). test f.pair) (filter (λ f. keeps f.fill) (filled rule segments)) ≤ count_by (λ (f : Filled). test f.pair) (filled rule segments) = sum_by-filter_le (λ f. cond (test f.pair) 1 0) (λ f. keeps f.fill) (filled rule segments) in
     omega (arith, all, some, fewer)
 
--- ---- what stands in a list, by counts
+-- ---- what is in a list, by counts
 
 abbrev flag : Bool → ℕ
 flag b = cond b 1 0
@@ -136,7 +136,7 @@ later_differ x e (y ∷ xs) t h =
     let apart : pair_eq y e ≡ false = pair_eq-comm y e ∙ ap (λ (s : Pair). pair_eq s y) (sym (same_pair_by_eq x e t)) ∙ pair_eq-less x y h.0 in
     (apart, later_differ x e xs t h.1)
 
--- in strict order a pair stands at most once
+-- in strict order a pair is there at most once
 once_in_order : (xs : List Pair) (e : Pair) → IsStrictlySortedBy pair_cmp xs → count_by (λ s. pair_eq s e) xs ≤ 1
 unfolding IsStrictlySortedBy
 once_in_order [] e s = omega arith
@@ -166,7 +166,7 @@ planar_pairs : (segments : List WholeSegment) → is_planar segments ≡ true �
 unfolding is_planar
 planar_pairs segments h = h
 
--- what holds of a refusal holds of the answer that `?` makes of it
+-- what holds of a refusal holds of the result that `?` makes of it
 pub refused_as : {T F : Type 0} (result : Result T F) (P : F → Type 0) (fault : F) → IsErrAnd result (λ refused. refused ≡ fault) → P fault → IfErr result P
 refused_as (Ok x) P fault h k = tt
 refused_as (Err e) P fault h k = subst P (sym h) k

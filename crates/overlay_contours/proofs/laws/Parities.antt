@@ -1,4 +1,4 @@
--- What contours paint by even-odd is where they run round a place an odd number of times.
+-- What contours paint by even-odd is where they run around a place an odd number of times.
 use Rattle.std.proofs.Common.{◌≡◌, refl, sym, ap, ap₂, ◌∙◌, ℕ, ◌+◌, ◌%◌, ◌==◌, Bool, true, false, not, cond, List, [], ◌∷◌, map, filter, arith}
 use Rattle.std.specs.Prelude.{ℤ, pos, negsuc, ◌+ℤ◌, unsigned_abs, count_by, sum_by}
 use Rattle.std.proofs.lemmas.Int.{ints}

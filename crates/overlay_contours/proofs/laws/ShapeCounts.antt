@@ -1,4 +1,4 @@
--- Shapes, one after another: of no two of them both wind round a place.
+-- Shapes, one after another: no two of them both wind around a place.
 use Rattle.std.proofs.Common.{◌≡◌, ℕ, zero, suc, ◌+◌, ◌<◌, ◌≤◌, ◌==◌, ◌⊎◌, inl, inr, Bool, true, false, cond, not, if◌then◌else◌, List, [], ◌∷◌, length, refl, sym, ap, ap₂, ◌∙◌, arith}
 use Rattle.std.specs.Prelude.{ℤ, pos, negsuc, ◌+ℤ◌, ◌*ℤ◌, count_by}
 use Rattle.std.specs.List.{AllByRecursion}
@@ -10,7 +10,7 @@ use Rattle.overlay_geometry.proofs.laws.lists.Lists.{AllByRecursion-weaker}
 use Rattle.overlay_shapes.specs.Gathered.{all_walks, all_links, group_at}
 use Rattle.overlay_shapes.proofs.laws.CutWalks.{count_by-both}
 
--- ---- numbers of which no two are other than 0
+-- ---- numbers, no two of them other than 0
 
 abbrev pub total : {X : Type 0} → (X → ℤ) → List X → ℤ
 total w [] = pos 0
@@ -69,7 +69,7 @@ one_apart w (x ∷ xs) a =
     turned true = refl
     turned false = refl
 
--- ---- links of shapes, by how often they stand in each
+-- ---- links of shapes, by how often they are in each
 
 abbrev pub times_in : ℕ → List (List ℕ) → ℕ
 times_in i walks = count_by (λ j. j == i) (all_links walks)
@@ -88,7 +88,7 @@ both_none : (i j : ℕ) (gs : List (List (List ℕ))) → AllByRecursion (λ g. 
 both_none i j [] a b = tt
 both_none i j (g ∷ gs) a b = (a.0 ∙ sym b.0, both_none i j gs a.1 b.1)
 
--- two links of one shape stand as often in each
+-- two links of one shape are as often in each
 pub alike_in : (i j : ℕ) (gs : List (List (List ℕ))) (k : ℕ) → k < length gs → 0 < times_in i (group_at gs k) → 0 < times_in j (group_at gs k) → times_of i gs ≤ 1 → times_of j gs ≤ 1 → AllByRecursion (λ g. times_in i g ≡ times_in j g) gs
 alike_in i j [] k h a b c d = absurd (omega (arith, h))
 alike_in i j (g ∷ gs) zero h a b c d =

@@ -98,7 +98,7 @@ module _ (rule : Bool → Bool → Bool) (kept : List Filled) (ordered : list_al
     once : (i : ℕ) → i < length links → times_of i groups ≡ 1
     once i h = are.walks.once i (let m = as_many rule kept ordered arranged in omega (arith, h, m))
 
-    -- a link and the one on which it stands are in one shape, unless nothing winds between them
+    -- a link and its support are in one shape, unless nothing winds between them
     alike : (i j : ℕ) → i < length links → j < length links → support runs (run_at i) ≡ Some (run_at j) → ((bottom runs (run_at i)).subj ≡ pos 0) ⊎ AllByRecursion (λ g. times_in i g ≡ times_in j g) groups
     alike i j h l on = elim (either_bool (top_value rule (get_or links i no_link).fill) (rule false false)) [
       | inl e ↦

@@ -82,7 +82,7 @@ end_of_edge : (c : List Point) (e : Pair) → Has (steps_of c) e → Has c e.b
 end_of_edge [] e m = absurd m
 end_of_edge (p ∷ points) e m = elim (end_along p p points e m) [ inl n ↦ inr n | inr n ↦ inl (sym n) ]
 
--- ---- tests of which one or neither holds
+-- ---- tests where one or neither holds
 
 or_first : (a b : Bool) → (a || b) ≡ false → a ≡ false
 or_first true b e = absurd (cc)

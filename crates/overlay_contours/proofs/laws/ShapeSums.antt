@@ -185,7 +185,7 @@ module _ (rule : Bool → Bool → Bool) (kept : List Filled) (ordered : list_al
       either true l = refl
       either false l = both (point_eq l.pair.a q) (point_eq l.pair.b q)
 
-  -- how often a segment stands among the links of a list
+  -- how often a segment is among the links of a list
   abbrev pub share : List ℕ → WholeSegment → ℤ
   share js s = sum_of (λ j. when (pair_eq s.pair (at j).pair) (pos 1)) js
 
@@ -229,7 +229,7 @@ module _ (rule : Bool → Bool → Bool) (kept : List Filled) (ordered : list_al
       ∙ sum_of-each (λ j. j < length links) (λ j. when (point_eq (at j).pair.a q) (at j).count.subj -ℤ when (point_eq (at j).pair.b q) (at j).count.subj) (λ j. leaves q (way_at j)) (all_links walks) (low_links walks a) (λ j h. sym (leaves_at q j h))
       ∙ sym (sum_over_steps (leaves q) walks a) ∙ round_contours q (map (contour ways) walks)
 
-  -- ---- the share of a link, by how often it stands in a list
+  -- ---- the share of a link, by how often it is in a list
 
   same_pair : (i j : ℕ) → i < length links → j < length links → pair_eq (at i).pair (at j).pair ≡ (j == i)
   same_pair i j h l = elim (cases_Bool (j == i)) [
@@ -263,7 +263,8 @@ module _ (rule : Bool → Bool → Bool) (kept : List Filled) (ordered : list_al
   abbrev times_in : ℕ → List (List ℕ) → ℕ
   times_in i walks = count_by (λ j. j == i) (all_links walks)
 
-  -- Two lists of walks that share no link, and of which a link stands as often in each as the one on which it stands does, unless nothing winds between them: no place is wound round by both.
+  -- Two lists of walks that share no link, and that have each link as often as its support, unless nothing winds between them: no place is
+  -- wound around by both.
   pub walks_apart : (us vs : List (List ℕ)) → AreWalks us → AreWalks vs → ((i : ℕ) → i < length links → times_in i us + times_in i vs ≤ 1) →
       ((i j : ℕ) → i < length links → j < length links → support runs (at i) ≡ Some (at j) → ((bottom runs (at i)).subj ≡ pos 0) ⊎ ((times_in i us ≡ times_in j us) × (times_in i vs ≡ times_in j vs))) →
       (p : RationalPoint) → 0 < p.bottom → winding_number (map (contour ways) us) p *ℤ winding_number (map (contour ways) vs) p ≡ pos 0

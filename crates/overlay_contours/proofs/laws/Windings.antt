@@ -1,4 +1,4 @@
--- The segments of contours wind round a place as often as the contours run round it.
+-- The segments of contours wind around a place as often as the contours run around it.
 use Rattle.std.proofs.Common.{◌≡◌, refl, sym, ap, ap₂, ◌∙◌, Bool, true, false, not, cond, ◌&&◌, List, ◌++◌, filter, inl, inr, arith}
 use Rattle.std.specs.Prelude.{ℤ, pos, negsuc, ◌+ℤ◌, ◌*ℤ◌, ◌≤ℤ◌, int_le, int_lt}
 use Rattle.std.proofs.lemmas.Int.{ints}

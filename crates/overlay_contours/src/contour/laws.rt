@@ -1,14 +1,15 @@
 // The laws of contours. Each function has an empty body, and its contract is proved for all whole numbers.
 ghost use Rattle.overlay_contours.specs.Laws.{PaintsByEvenOdd, ContoursTakeLinks, ContoursWindAsLinks, AreasAddUp, ExclusiveAreasAddUp};
 
-/// Oddly many edges of contours run below a place exactly where they run round it an odd number of times: what is
-/// painted is what is inside by the even-odd rule.
+/// An odd number of edges of contours runs below a place exactly where they run around it an odd
+/// number of times: what is painted is what is inside by the even-odd rule.
 pub fn even_odd_laws()
     ensures { PaintsByEvenOdd }
 {}
 
-/// The contours of directed walks through a graph: their edges, as they run, are the links of the graph in their
-/// directions, each once. So they wind round every place of the plane as these links do.
+/// The contours of directed walks through a graph: their edges, as they run, are the links of the
+/// graph in their directions, each once. So they wind around every place of the plane as these
+/// links do.
 pub fn walk_laws()
     ensures edges { ContoursTakeLinks }
     ensures winds { ContoursWindAsLinks }
