@@ -37,13 +37,13 @@ PairsAreOrdered = IsOrderOfEqual pair_cmp
 
 -- ---- points on an ordered pair
 
--- a point lies on the pair exactly where it does not turn and stands neither before a nor after b
+-- a point lies on the pair exactly where it does not turn and comes neither before a nor after b
 abbrev pub LiesOnByOrder : Type 0
 LiesOnByOrder =
     (s : Pair) (p : Point) → IsTrue (is_ordered s) →
     (IsTrue (lies_on s p) ↔ ((turn s.a s.b p ≡ pos 0) × IsFalse (point_lt p s.a) × IsFalse (point_lt s.b p)))
 
--- and strictly inside exactly where it does not turn and stands after a and before b
+-- and strictly inside exactly where it does not turn and comes after a and before b
 abbrev pub LiesInsideByOrder : Type 0
 LiesInsideByOrder =
     (s : Pair) (p : Point) → IsTrue (is_ordered s) →

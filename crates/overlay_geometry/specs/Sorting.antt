@@ -10,7 +10,7 @@ unfoldable pub distinct_in_order : {K : Type 0} → (K → K → Ordering) → L
 distinct_in_order cmp [] = []
 distinct_in_order cmp (x ∷ xs) = insert_key cmp (distinct_in_order cmp xs) x
 
--- whether each key stands before the next
+-- whether each key comes before the next
 unfoldable pub is_strictly_sorted : {K : Type 0} → (K → K → Ordering) → List K → Bool
 is_strictly_sorted cmp [] = true
 is_strictly_sorted cmp (x ∷ []) = true
@@ -26,7 +26,7 @@ unfoldable pub insert_before_ties : {K : Type 0} → (K → K → Ordering) → 
 insert_before_ties cmp x [] = x ∷ []
 insert_before_ties cmp x (y ∷ ys) = if is_lt (cmp y x) then y ∷ insert_before_ties cmp x ys else x ∷ y ∷ ys
 
--- the keys of a list in order; keys that tie stay as they stand
+-- the keys of a list in order; keys that tie stay as they are
 unfoldable pub stably_sorted : {K : Type 0} → (K → K → Ordering) → List K → List K
 stably_sorted cmp [] = []
 stably_sorted cmp (x ∷ xs) = insert_before_ties cmp x (stably_sorted cmp xs)

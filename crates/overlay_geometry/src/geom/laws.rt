@@ -17,8 +17,8 @@ pub fn order_laws()
     ensures pairs { PairsAreOrdered }
 {}
 
-/// A point lies on an ordered pair exactly where it turns by 0 and stands from `a` up to `b` in the order of points,
-/// and strictly inside exactly where it turns by 0 and stands between them.
+/// A point lies on an ordered pair exactly where it turns by 0 and lies from `a` up to `b` in the
+/// order of points, and strictly inside exactly where it turns by 0 and lies between them.
 pub fn on_segment_laws()
     ensures lies_on { LiesOnByOrder }
     ensures lies_inside { LiesInsideByOrder }

@@ -7,7 +7,8 @@ use crate::num::OverlayInt;
 /// The two ends of a segment. Pairs are ordered by `a`, then by `b`.
 #[derive(Clone, Copy, Debug, PartialEq, Eq, PartialOrd, Ord)]
 pub struct XSegment<I> {
-    /// The first end; in a list of segments the one that stands before the other in the order of points.
+    /// The first end; in a list of segments the one that comes before the other in the order of
+    /// points.
     pub a: IntPoint<I>,
     /// The second end.
     pub b: IntPoint<I>,
@@ -46,7 +47,8 @@ impl<I: OverlayInt> XSegment<I> {
         self.is_below(range.min) || self.is_above(range.max)
     }
 
-    /// Whether both ends lie right of the other's end `b`, where `a` stands before `b` in both. This project's own.
+    /// Whether both ends lie right of the other's end `b`, where `a` comes before `b` in both. This
+    /// project's own.
     pub fn begins_past_end(&self, other: &XSegment<I>) -> bool
         ensures { result ≡ int_lt (I.whole other.now.b.x) (I.whole self.now.a.x) }
     {

@@ -60,11 +60,11 @@ point_cmp_total = then_total (on_total (λ (p : Point). p.x) int_cmp_total) (on_
 pub pair_cmp_total : IsTotalOrder pair_cmp
 pair_cmp_total = then_total (on_total (λ (s : Pair). s.a) point_cmp_total) (on_total (λ (s : Pair). s.b) point_cmp_total)
 
--- p stands before q
+-- p comes before q
 abbrev pub Before : Point → Point → Type 0
 Before p q = (p.x <ℤ q.x) ⊎ ((p.x ≡ q.x) × (p.y <ℤ q.y))
 
--- p stands before q or is q
+-- p comes before q or is q
 abbrev pub UpTo : Point → Point → Type 0
 UpTo p q = (p.x <ℤ q.x) ⊎ ((p.x ≡ q.x) × (p.y ≤ℤ q.y))
 
@@ -90,7 +90,7 @@ point_same p q h = same_by_eq p q (ap is_eq h)
 from_greater : (p q : Point) → point_cmp p q ≡ Greater → Before q p
 from_greater p q h = grind (arith, ints)
 
--- what the order's answer says
+-- what the order's result says
 pub point_ranked : (p q : Point) (r : Ordering) → r ≡ point_cmp p q → MatchOrdering r (Before p q) (p ≡ q) (Before q p)
 point_ranked p q Less e = before p q (ap is_lt (sym e))
 point_ranked p q Equal e = same_by_eq p q (ap is_eq (sym e))
@@ -170,7 +170,7 @@ no_rise c d m n p h e = cancel-zero c m p (let k = rw e at h in omega (arith, in
 no_run : (c d m n : ℤ) → pos 0 <ℤ d → c *ℤ m -ℤ d *ℤ n ≡ pos 0 → c ≡ pos 0 → n ≡ pos 0
 no_run c d m n p h e = cancel-zero d n p (let k = rw e at h in omega (arith, ints))
 
--- where the line is not vertical, x tells the point on it
+-- where the line is not vertical, x determines the point on it
 pub at_a : (a b p : Point) → a.x <ℤ b.x → turn a b p ≡ pos 0 → p.x ≡ a.x → p.y ≡ a.y
 at_a a b p w h e =
     let z = no_rise (b.x -ℤ a.x) (b.y -ℤ a.y) (p.y -ℤ a.y) (p.x -ℤ a.x) (omega (arith, ints)) (sym (turn_from_a a b p) ∙ h) (omega (arith, ints)) in
@@ -411,7 +411,7 @@ collinear_apart a b p q r n hp hq hr =
 pub same_pair : (s t : Pair) → s.a ≡ t.a → s.b ≡ t.b → s ≡ t
 same_pair s t h k = ap₂ (λ (a : Point) (b : Point). let made : Pair = record { a = a; b = b } in made) h k
 
--- s stands before t
+-- s comes before t
 abbrev pub PairBefore : Pair → Pair → Type 0
 PairBefore s t = Before s.a t.a ⊎ ((s.a ≡ t.a) × Before s.b t.b)
 

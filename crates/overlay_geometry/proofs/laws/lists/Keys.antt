@@ -13,7 +13,7 @@ use Rattle.std.proofs.lemmas.List.Sums.{sum_by-cons}
 use Rattle.overlay_geometry.specs.Sorting.{is_strictly_sorted, distinct_in_order, has_repeat}
 use Rattle.overlay_geometry.proofs.laws.lists.Lists.{Has, AllByRecursion-take, AllByRecursion-from_list_all, list_all-from_AllByRecursion, list_any-from_none, none_from_list_any}
 
--- ---- answers of a comparison
+-- ---- results of a comparison
 
 pub is_lt-true : (r : Ordering) → is_lt r ≡ true → r ≡ Less
 is_lt-true Less h = refl
@@ -77,11 +77,11 @@ sum_by-distinct_in_order_le cmp f (k ∷ ks) =
     let e = sum_by-cons f k ks in
     omega arith
 
--- whether a key stands in a list
+-- whether a key is in a list
 abbrev pub has_key : {K : Type 0} → (K → K → Ordering) → List K → K → Bool
 has_key cmp ks q = list_any (λ k. is_eq (cmp q k)) ks
 
--- a key below all keys of a list stands not in it
+-- a key below all keys of a list is not in it
 pub has_key-below : {K : Type 0} (cmp : K → K → Ordering) (q : K) (ks : List K) → AllByRecursion (λ k. cmp q k ≡ Less) ks → has_key cmp ks q ≡ false
 has_key-below cmp q [] a = refl
 has_key-below cmp q (k ∷ ks) a = or_from _ _ (ap is_eq a.0) (has_key-below cmp q ks a.1)

@@ -202,7 +202,7 @@ pub list_all-from_AllByRecursion : {X : Type 0} (p : X → Bool) (xs : List X) �
 list_all-from_AllByRecursion p [] h = refl
 list_all-from_AllByRecursion p (x ∷ xs) h = and_from _ _ h.0 (list_all-from_AllByRecursion p xs h.1)
 
--- an element of a list of which all pass passes, and all pass where each element does
+-- an element of a list where all pass passes, and all pass where each element does
 pub list_all-at : {X : Type 0} (p : X → Bool) (xs : List X) (x : X) → list_all p xs ≡ true → Has xs x → p x ≡ true
 list_all-at p xs x h = AllByRecursion-at (λ x. p x ≡ true) xs x (AllByRecursion-from_list_all p xs h)
 
