@@ -61,7 +61,7 @@ pub record Fragment : Type 0 where
   pub column : ℕ
   pub rect : Rect
 
--- the rectangle of which two points are opposite corners
+-- the rectangle with two points as opposite corners
 unfoldable pub rect_between : ℤ → ℤ → ℤ → ℤ → Rect
 rect_between x y x' y' = record { min_x = int_min x x'; max_x = int_max x x'; min_y = int_min y y'; max_y = int_max y y' }
 

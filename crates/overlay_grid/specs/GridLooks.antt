@@ -11,7 +11,7 @@ all_fragments l segments = flat_map (λ s. fragments l s) segments
 unfoldable pub fragments_meet : Fragment → Fragment → Bool
 fragments_meet f g = (f.column == g.column) && ranges_meet f.rect.min_y f.rect.max_y g.rect.min_y g.rect.max_y
 
--- whether s is vertical and stands on the left border of a column other than the first
+-- whether s is vertical and lies on the left border of a column other than the first
 unfoldable pub is_on_border : Layout → Pair → Bool
 is_on_border l s = is_vertical s && nat_lt 0 (column_index l s.a.x) && int_eq s.a.x (pos_of l (column_index l s.a.x))
 

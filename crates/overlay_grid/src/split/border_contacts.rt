@@ -1,4 +1,5 @@
-// The marks on vertical segments that stand on the border of a column. Upstream: part of `split::solver_fragment`.
+// The marks on vertical segments that lie on the border of a column. Upstream: part of
+// `split::solver_fragment`.
 ghost use Rattle.std.specs.Prelude.{◌≡◌, ◌≤◌, ◌+◌, ◌-◌, ◌++◌, ◌^◌, ℕ, min, IsTrue, OnOk, IsSorted, int_le, int_lt, ◌≤ℤ◌, ◌<ℤ◌, map, length, flat_map, sum_by};
 ghost use Rattle.std.specs.List.{AllByRecursion, range_with_len};
 ghost use Rattle.std.specs.List.Sorted.{IsPartitionPoint};
@@ -18,8 +19,9 @@ use overlay_intersections::split::looks::take_up;
 use overlay_intersections::split::marking::mark;
 use std::alloc::AllocError;
 
-/// Appends the marks on vertical segments that stand on the left border of a column, other than the first: the right
-/// ends at that `x` in the column to the left which lie strictly between their ends.
+/// Appends the marks on vertical segments that lie on the left border of a column, other than the
+/// first: the right ends at that `x` in the column to the left which lie strictly between their
+/// ends.
 pub(crate) fn mark_borders<I: OverlayInt>(
     buffer: &mut FragmentBuffer<I>,
     marks: &mut Vec<LineMark<I>>,

@@ -42,7 +42,7 @@ impl<I: OverlayInt> Fragment<I> {
     }
 }
 
-/// The rectangle of which two points are opposite corners.
+/// The rectangle with two points as opposite corners.
 #[tactic(auto, unfolding(crate::specs::Grid::rect_between))]
 fn rect_between<I: OverlayInt>(p: IntPoint<I>, q: IntPoint<I>) -> IntRect<I>
     ensures { rect_of I.whole result ≡ rect_between (I.whole p.x) (I.whole p.y) (I.whole q.x) (I.whole q.y) }

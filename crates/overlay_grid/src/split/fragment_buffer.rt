@@ -97,7 +97,7 @@ impl<I: OverlayInt> FragmentBuffer<I> {
         &self.groups
     }
 
-    /// The left border of a column, of which there are more than its index.
+    /// The left border of a column; there are more columns than its index.
     pub(crate) fn border(&self, column: usize) -> I
         requires { column < group_count (grid_of self.now) }
         ensures { I.whole result ≡ pos_of (grid_of self.now) column }

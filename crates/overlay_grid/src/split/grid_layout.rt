@@ -125,7 +125,7 @@ impl<I: OverlayInt> GridLayout<I> {
     }
 }
 
-/// The power of the width of columns over a width, of which there are at most about `2 ^ max_power`.
+/// The power of the width of columns over a width, for at most about `2 ^ max_power` columns.
 fn column_power(spread: u64, max_power: u32) -> u32
     requires { 4 ≤ spread }
     ensures fits { 2 ^ result ≤ spread }

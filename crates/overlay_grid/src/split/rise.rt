@@ -15,7 +15,7 @@ pub struct Heights<I> {
     pub far: I,
 }
 
-/// The heights of a segment at an `x` between its ends, of which the first has the lesser `x`.
+/// The heights of a segment at an `x` between its ends; the first end has the lesser `x`.
 pub fn heights_at<I: OverlayInt>(segment: &XSegment<I>, x: I) -> Heights<I>
     requires in_range { IsPairInRange I.whole I.MIN_COORD I.MAX_COORD segment.now }
     requires forward { I.whole segment.now.a.x <ℤ I.whole segment.now.b.x }

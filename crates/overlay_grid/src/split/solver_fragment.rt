@@ -132,8 +132,9 @@ fn fill<C: WindingCount, I: OverlayInt, D: Copy>(
     Ok(())
 }
 
-/// Appends the marks that segments put on one another of which two fragments meet in some column, and returns whether
-/// some two of these cross at a point without whole coordinates. The groups have to be sorted along the axis.
+/// Appends the marks that two segments put on one another where fragments of both meet in some
+/// column, and returns whether some two of these cross at a point without whole coordinates. The
+/// groups have to be sorted along the axis.
 fn mark_columns<I: OverlayInt>(
     groups: &[Vec<Fragment<I>>],
     axis: Axis,
@@ -162,8 +163,9 @@ fn mark_columns<I: OverlayInt>(
     Ok(rounded)
 }
 
-/// Appends the marks that segments put on one another of which two fragments in a group meet, and returns whether some
-/// two of these cross at a point without whole coordinates. The group has to be sorted along the axis.
+/// Appends the marks that two segments put on one another where fragments of both meet in a group,
+/// and returns whether some two of these cross at a point without whole coordinates. The group has
+/// to be sorted along the axis.
 fn mark_group<I: OverlayInt>(
     group: &[Fragment<I>],
     axis: Axis,
@@ -277,7 +279,7 @@ fn indexed<I: OverlayInt>(fragment: &Fragment<I>) -> Indexed<I>
     }
 }
 
-/// Whether a segment stands before another, by its ends.
+/// Whether a segment comes before another, by its ends.
 fn is_before<I: OverlayInt>(left: &XSegment<I>, right: &XSegment<I>) -> bool
     ensures { result ≡ pair_lt (pair_of I.whole left.now) (pair_of I.whole right.now) }
 {

@@ -158,7 +158,7 @@ high_none whole f (x ∷ hs) end zero h le =
     marks_outside f (whole x) (map whole hs) (too_high f (whole x) (h 0 x le (omega arith))) ∙ high_none whole f hs 0 0 (λ k d low high. h (suc k) d (omega arith) (omega arith)) (omega arith)
 high_none whole f (x ∷ hs) end (suc j) h le = high_none whole f hs (end - 1) j (λ k d low high. h (suc k) d (omega arith) (omega arith)) (omega arith)
 
--- where the walk stands: what it has found and what is left make up the whole, and each look made a mark
+-- where the walk is: what it has found and what is left make up the whole, and each look made a mark
 pub record AreHeightsSeen (f : KeptFragment) (ys : List ℤ) (old now : List Mark) (first looks : ℕ) (rest : List ℤ) : Type 0 where
   pub found : now ++ marks_at_heights f rest ≡ old ++ marks_at_heights f ys
   pub count : looks + length (marks_at_heights f rest) ≤ first + length (marks_at_heights f ys)

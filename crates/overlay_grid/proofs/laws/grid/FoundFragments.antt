@@ -58,7 +58,7 @@ reached_from axis f g h = not_past (greatest_along axis f) (least_along axis g) 
 
 -- ---- the walk
 
--- where the walk over those that follow one stands: what it has found and what is left make up the whole, and so do its looks
+-- where the walk over those that follow one is: what it has found and what is left make up the whole, and so do its looks
 pub record IsScanned (placing : Placing) (axis : Axis) (f : KeptFragment) (rest : List KeptFragment) (old now : List Mark) (rounded : Bool) (first looks : ℕ) (left : List KeptFragment) : Type 0 where
   pub found : now ++ flat_map (λ g. marks_of_two placing f g) left ≡ old ++ flat_map (λ g. marks_of_two placing f g) rest
   pub flag : (rounded || list_any (λ g. meet_inexactly f g) left) ≡ list_any (λ g. meet_inexactly f g) rest
@@ -196,7 +196,7 @@ found_scanned placing axis fs f rest old now rounded first looks e a b c =
     let c' = rw e at c in
     record { found = a'; flag = b'; count = omega arith }
 
--- ---- what the conditions on a group tell of its fragments
+-- ---- what the conditions on a group say of its fragments
 
 pub ready_at : (least greatest : ℤ) (fs : List KeptFragment) (j : ℕ) (f : KeptFragment) (rest : List KeptFragment) → AllByRecursion (λ u. IsTrue (is_ready least greatest u)) fs → drop j fs ≡ f ∷ rest → IsTrue (is_ready least greatest f)
 ready_at least greatest fs j f rest all e = (subst (λ (us : List KeptFragment). AllByRecursion (λ u. IsTrue (is_ready least greatest u)) us) e (AllByRecursion-drop (λ u. IsTrue (is_ready least greatest u)) j fs all)).0

@@ -31,7 +31,7 @@ length-forward l s n h =
 
 -- ---- of all segments
 
--- where the count stands
+-- where the count is
 pub record IsCounting (l : Layout) (ps : List Pair) (count index : ℕ) : Type 0 where
   pub total : min (count + length (all_fragments l (drop index ps))) (2 ^ 128 - 1) ≡ min (length (all_fragments l ps)) (2 ^ 128 - 1)
   pub fits : count ≤ 2 ^ 128 - 1

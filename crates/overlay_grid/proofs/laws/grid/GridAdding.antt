@@ -53,7 +53,7 @@ kept_parts-more l s index n other =
 
 -- ---- the walk
 
--- where it stands at a column: the corner at its left border, and what was added
+-- where it is at a column: the corner at its left border, and what was added
 pub record IsAdding (l : Layout) (index : ℕ) (s : Pair) (old now : ℕ → List KeptFragment) (corner : Point) (k : ℕ) : Type 0 where
   pub from : column_index l s.a.x ≤ k
   pub x : corner.x ≡ left_in l s k
@@ -168,7 +168,7 @@ added_vertical l index s old next v n other =
     (sym (one_kept index s (record { column = column_index l s.a.x; rect = rect_between s.a.x s.a.y s.b.x s.b.y }) (rect_between s.a.x s.a.y s.b.x s.b.y) (column_index l s.a.x) other refl refl)
     ∙ ap (λ (fs : List Fragment). kept index s (in_column other fs)) (sym (fragments_of_vertical l s v)))
 
--- ---- what the code's tests tell
+-- ---- what the code's tests show
 
 pub runs_forward : (s : Pair) → not (is_vertical s) ≡ true → s.a.x ≤ℤ s.b.x → RunsRight s
 runs_forward s v h = record { forward = by_lt_z s.a.x s.b.x (λ less. less) (λ more. absurd (grind (arith, ints))) }

@@ -33,7 +33,7 @@ flat_map-append : {X Y : Type 0} (f : X → List Y) (xs ys : List X) → flat_ma
 flat_map-append f [] ys = refl
 flat_map-append f (x ∷ xs) ys = ap (λ (zs : List _). f x ++ zs) (flat_map-append f xs ys) ∙ sym (append_assoc (f x) (flat_map f xs) (flat_map f ys))
 
--- where it stands: what the columns before one have given
+-- where it is: what the columns before one have given
 pub record IsOver (marks : ℕ → List Mark) (rounds : ℕ → Bool) (looks : ℕ → ℕ) (old now : List Mark) (rounded : Bool) (first count : ℕ) (n : ℕ) : Type 0 where
   pub found : now ≡ old ++ flat_map marks (range_with_len 0 n)
   pub flag : rounded ≡ list_any rounds (range_with_len 0 n)

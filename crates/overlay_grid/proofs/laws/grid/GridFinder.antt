@@ -1,4 +1,4 @@
--- The grid looks at every two pairs of which one marks the other.
+-- The grid compares every two pairs where one marks the other.
 use Rattle.std.proofs.Common.{◌≡◌, refl, sym, ap, subst, ℕ, zero, suc, ◌+◌, ◌-◌, ◌<◌, ◌≤◌, ◌∙◌, ◌⊎◌, inl, inr, arith, IsTrue, map}
 use Rattle.std.specs.Prelude.{ℤ, pos, ◌+ℤ◌, ◌-ℤ◌, ◌*ℤ◌, ◌≤ℤ◌, ◌<ℤ◌, neg_ℤ}
 use Rattle.std.specs.Int.{int_min, int_max}
@@ -408,7 +408,7 @@ reaches_at l s x p q r hs h k a b =
     (max_below _ _ _ h (pos_of-column_index l x hx))
     (min_above _ _ _ (le_weak _ _ k) (le_weak _ _ (pos_of-column_index_next l x hx))) a b
 
--- of a vertical pair the turn tells the side
+-- of a vertical pair the turn gives the side
 turn_sides : (s : Pair) (p : Point) → turn s.a s.b p ≡ (s.b.x -ℤ s.a.x) *ℤ (p.y -ℤ s.a.y) +ℤ (s.b.y -ℤ s.a.y) *ℤ (s.a.x -ℤ p.x)
 unfolding turn
 turn_sides s p = rw (as_D s.a.x, as_D s.a.y, as_D s.b.x, as_D s.b.y, as_D p.x, as_D p.y) (simp diffs (D-eq _ _ _ _ (omega arith)))

@@ -30,7 +30,7 @@ runs_right s h k = record { forward = grind (arith, ints) }
 pub RunsRight-not_vertical : (s : Pair) → RunsRight s → IsFalse (is_vertical s)
 RunsRight-not_vertical s r = let f = r.forward in grind (arith, ints)
 
--- a stands straight below b
+-- a lies straight below b
 pub record RunsUp (s : Pair) : Type 0 where
   pub upright : s.a.x ≡ s.b.x
   pub upward : s.a.y <ℤ s.b.y

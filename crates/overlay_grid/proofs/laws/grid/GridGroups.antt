@@ -98,7 +98,7 @@ module _ {I : Type 0} (whole : I → ℤ) where
   pub group_in-other : (groups : List (Vec (CodeFragment I) Global)) (column : ℕ) (v : Vec (CodeFragment I) Global) (other : ℕ) → other ≢ column → group_in whole (slice_set groups column v) other ≡ group_in whole groups other
   group_in-other groups column v other h = group_in-set groups column v other ∙ replaced_other (map (λ u. fragments_of whole u.items) groups) column other (fragments_of whole v.items) h
 
--- where the walk stands: the groups before a column are sorted, the others as they were
+-- where the walk is: the groups before a column are sorted, the others as they were
 pub record AreSorted (axis : Axis) (old now : ℕ → List KeptFragment) (column : ℕ) : Type 0 where
   pub permutation : (other : ℕ) → IsPermutation (old other) (now other)
   pub sorted : (other : ℕ) → other < column → IsSortedAlong axis (now other)

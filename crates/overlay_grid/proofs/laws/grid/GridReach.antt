@@ -38,7 +38,7 @@ module _ {I : Type 0} (whole : I → ℤ) (axis : Axis) where
   by_key (f ∷ g ∷ fs) h (suc i) d low high =
       subst (λ (n : ℕ). is_lt (int_cmp (begins whole axis (get_or (f ∷ g ∷ fs) n d)) (begins whole axis (get_or (g ∷ fs) i d))) ≡ false) (let e : suc (i + 1) ≡ suc i + 1 = omega arith in e) (by_key (g ∷ fs) h.1 i d (omega arith) (omega arith))
 
-  -- those that begin up to a place stand before the others
+  -- those that begin up to a place come before the others
   pub parted_along : (end : ℤ) (fs : List (CodeFragment I)) → IsSortedAlong axis (fragments_of whole fs) → IsPartitionedBy (λ f. int_le (begins whole axis f) end) fs
   parted_along end fs h = parted_up_to (begins whole axis) fs (by_key fs h) end
 
