@@ -1,4 +1,4 @@
--- The answer of a call as whole numbers.
+-- The result of a call as whole numbers.
 use Rattle.std.specs.Prelude.{ℤ, Option, Some, None, ◌≡◌}
 use Rattle.overlay_geometry.specs.PointOf.{point_of}
 use Rattle.overlay_intersections.specs.CrossAnswer.{CrossKind, pure, target_end, other_end, overlay, CrossAnswer, crossing_answer, cross_answer}
@@ -22,10 +22,10 @@ abbrev pub answer_of : {I : Type 0} → (I → ℤ) → Option (CrossResult I) �
 answer_of whole None = None
 answer_of whole (Some result) = Some (result_of whole result)
 
--- The answer of a call is that of the meeting of two segments.
+-- The result of a call is that of the meeting of two segments.
 abbrev pub IsCrossAnswer : {I : Type 0} → (I → ℤ) → Placing → XSegment I → XSegment I → Option (CrossResult I) → Type 0
 IsCrossAnswer whole placing target other answer = answer_of whole answer ≡ cross_answer placing (pair_of whole target) (pair_of whole other)
 
--- The result is what the crossing of two segments is answered as.
+-- The result is what the crossing of two segments gives.
 abbrev pub IsCrossingAnswer : {I : Type 0} → (I → ℤ) → Placing → XSegment I → XSegment I → CrossResult I → Type 0
 IsCrossingAnswer whole placing target other result = crossing_answer placing (pair_of whole target) (pair_of whole other) ≡ Some (result_of whole result)

@@ -1,4 +1,4 @@
--- The answer for the meeting of a target and another segment, and which marks an answer stands for.
+-- The result for the meeting of a target and another segment, and which marks a result stands for.
 use Rattle.std.specs.Prelude.{ℕ, ◌+◌, pos, Bool, false, not, if◌then◌else◌, List, [], ◌∷◌, filter, Option, Some, None}
 use Rattle.overlay_geometry.specs.Points.{Point, Pair, is_end, is_strictly_inside}
 use Rattle.overlay_geometry.specs.Meeting.{are_collinear, do_cross}
@@ -47,7 +47,7 @@ ends_mask target other =
     (if is_strictly_inside other target.a then 1 else 0) + (if is_strictly_inside other target.b then 2 else 0)
     + (if is_strictly_inside target other.a then 4 else 0) + (if is_strictly_inside target other.b then 8 else 0)
 
--- the marks on the target that an answer stands for
+-- the marks on the target that a result stands for
 unfoldable pub target_marks : Pair → Pair → Option CrossAnswer → List Point
 target_marks target other None = []
 target_marks target other (Some answer) =

@@ -11,7 +11,7 @@ use Rattle.overlay_intersections.specs.CrossAnswer.{cross_answer, target_marks, 
 
 -- ---- marks and crossings
 
--- the answer for two pairs, the smaller as target, stands for the marks that the two put on one another
+-- the result for two pairs, the smaller as target, stands for the marks that the two put on one another
 abbrev pub AnswersAreMarks : Type 0
 AnswersAreMarks =
     (placing : Placing) (s t : Pair) → IsTrue (pair_lt s t) →

@@ -16,7 +16,7 @@ use Rattle.overlay_intersections.specs.declared.split.placing.Placing.{Placing a
 abbrev pub points_of : {I : Type 0} → (I → ℤ) → List (IntPoint I) → List Point
 points_of whole points = map (point_of whole) points
 
--- the points of marks, as they stand
+-- the points of marks, as they are
 abbrev pub mark_points_of : {I : Type 0} → (I → ℤ) → List (LineMark I) → List Point
 mark_points_of whole marks = map (λ m. point_of whole m.point) marks
 
@@ -31,7 +31,7 @@ mark_of whole m = record { index = m.index; point = point_of whole m.point }
 abbrev pub marks_of : {I : Type 0} → (I → ℤ) → List (LineMark I) → List Mark
 marks_of whole marks = map (mark_of whole) marks
 
--- the points of the marks with an index, as they stand
+-- the points of the marks with an index, as they are
 abbrev pub points_at : ℕ → List Mark → List Point
 points_at index marks = map (λ m. m.point) (filter (λ m. m.index == index) marks)
 

@@ -29,7 +29,7 @@ crossing_mark (snapping r2) target other =
     if is_exact target other then p else snapped_to (nearest_end p target other) r2 p
 crossing_mark settling target other = settling_point target other
 
--- the same for two pairs, of which the one that comes first is the target
+-- the same for two pairs; the one that comes first is the target
 unfoldable pub ordered_mark : Placing → Pair → Pair → Point
 ordered_mark placing s t = if pair_lt s t then crossing_mark placing s t else crossing_mark placing t s
 

@@ -33,7 +33,7 @@ are_beside target other =
     not (int_eq (clock_direction target.a target.b other.a) (pos 0))
     && int_eq (clock_direction target.a target.b other.a) (clock_direction target.a target.b other.b)
 
--- what the sides decide: the answer, but for a crossing strictly inside both, which is to be placed
+-- what the sides decide: the result, but for a crossing strictly inside both, which is to be placed
 abbrev pub IsContact : {I : Type 0} → (I → ℤ) → Pair → Pair → Contact I → Type 0
 IsContact whole target other Apart = (placing : Placing) → cross_answer placing target other ≡ None
 IsContact whole target other (At result) = (placing : Placing) → cross_answer placing target other ≡ Some (result_of whole result)

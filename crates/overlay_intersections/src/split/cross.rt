@@ -1,5 +1,5 @@
-// What `cross_solver` is made of, lowest first: what a call answers, the exact crossing point as two offsets and
-// rounded, how the sides decide, and the two ways to place a crossing.
+// What `cross_solver` is made of, lowest first: what a call returns, the exact crossing point as
+// two offsets and rounded, how the sides decide, and the two ways to place a crossing.
 
 pub mod contact;
 pub mod crossing_point;

@@ -1,5 +1,5 @@
-// Where two segments meet. The answer is exact: products of two coordinate differences stay in an `i64`.
-// Upstream: `split::cross_solver`.
+// Where two segments meet. The result is exact: products of two coordinate differences stay in an
+// `i64`. Upstream: `split::cross_solver`.
 ghost use Rattle.std.specs.Prelude.{◌≡◌, ◌≢◌, ◌≤ℤ◌, pos, unsigned_abs, IsTrue};
 ghost use Rattle.overlay_geometry.specs.Points.{is_strictly_inside};
 ghost use Rattle.overlay_geometry.specs.Meeting.{are_collinear, have_opposite_signs};
@@ -55,12 +55,13 @@ impl CrossSolver {
     ///
     /// - `None` where they have no point in common, or only an end of both.
     /// - `Overlay`, at the origin, where the four ends lie on one line: `collinear` says more.
-    /// - `OtherEnd` or `TargetEnd`, not rounded, at an end that lies strictly inside the other segment.
+    /// - `OtherEnd` or `TargetEnd`, not rounded, at an end that lies strictly inside the other one.
     /// - `Pure`, not rounded, at a crossing with whole coordinates.
-    /// - Any other crossing is rounded to the snapping point: each offset from the target's `a` to nearest, halves away
-    ///   from `a`; of a target along an axis truncated toward `a`. Where an end lies within the radius of that point,
-    ///   the answer is the nearest end, the target's where the other has one as near, and `b` where `a` is as near;
-    ///   else it is `Pure` at that point.
+    /// - Any other crossing is rounded to the snapping point: each offset from the target's `a` to
+    ///   nearest, halves away from `a`; of a target along an axis truncated toward `a`. Where an
+    ///   end lies within the radius of that point, the result is the nearest end, the target's
+    ///   where the other has one as near, and `b` where `a` is as near; else it is `Pure` at that
+    ///   point.
     #[inline(always)]
     pub fn cross<I: OverlayInt>(
         target: &XSegment<I>,
@@ -81,11 +82,11 @@ impl CrossSolver {
         }
     }
 
-    /// Where the two meet in a pass that settles, without a radius. The conditions and the answers are those of
-    /// `cross`, but for a crossing strictly inside both: its point is the exact one with each coordinate to nearest,
-    /// halves upward, so it does not depend on which of the two is the target. It is an end of at most one of them:
-    /// `TargetEnd`, `OtherEnd`, and else `Pure`; not rounded where the crossing has whole coordinates. This project's
-    /// own.
+    /// Where the two meet in a pass that settles, without a radius. The conditions and the results
+    /// are those of `cross`, but for a crossing strictly inside both: its point is the exact one
+    /// with each coordinate to nearest, halves upward, so it does not depend on which of the two is
+    /// the target. It is an end of at most one of them: `TargetEnd`, `OtherEnd`, and else `Pure`;
+    /// not rounded where the crossing has whole coordinates. This project's own.
     #[inline(always)]
     pub fn cross_settled<I: OverlayInt>(
         target: &XSegment<I>,

@@ -2,8 +2,8 @@
 // contract is proved for all whole numbers, whatever the engine.
 ghost use Rattle.overlay_intersections.specs.Laws.{AnswersAreMarks, NoMarkIsAnEnd, NeverThreeZeros, ExactIsOnBothLines, TargetDoesNotMatter, PointsLieInBothBoxes, SnappedEndsAreOffTheLine, NoEndOfBoth, RoundingsAreAsMeant};
 
-/// The answer for two pairs, the smaller as target, stands for the marks that a pass puts on both, and no mark is an
-/// end of the pair that it marks.
+/// The result for two pairs, the smaller as target, is the marks that a pass puts on both, and no
+/// mark is an end of the pair that it marks.
 pub fn mark_laws()
     ensures answers { AnswersAreMarks }
     ensures ends { NoMarkIsAnEnd }

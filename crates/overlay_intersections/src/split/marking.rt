@@ -27,8 +27,8 @@ pub struct Indexed<I> {
     pub x_segment: XSegment<I>,
 }
 
-/// Appends the marks that two segments put on one another, and returns whether they cross at a point without whole
-/// coordinates. The first is the target, and may not stand after the second.
+/// Appends the marks that two segments put on one another, and returns whether they cross at a
+/// point without whole coordinates. The first is the target, and may not come after the second.
 pub fn mark_both<I: OverlayInt>(
     first: Indexed<I>,
     second: Indexed<I>,

@@ -1,4 +1,4 @@
--- The answer in each branch of code that knows on which sides of one another the ends lie.
+-- The result in each branch of code that knows on which sides of one another the ends lie.
 use Rattle.std.proofs.Common.{◌≡◌, refl, ◌∙◌, ◌≢◌, arith, Bool, true, false, not, ◌&&◌, ◌||◌, IsTrue}
 use Rattle.std.specs.Prelude.{pos, nat_lt, None}
 use Rattle.std.specs.Ordering.{int_eq}

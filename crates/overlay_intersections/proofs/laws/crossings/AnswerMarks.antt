@@ -1,4 +1,4 @@
--- The answer for two pairs, the smaller as target, stands for the marks that the two put on one another.
+-- The result for two pairs, the smaller as target, stands for the marks that the two put on one another.
 use Rattle.std.proofs.Common.{◌≡◌, refl, sym, ap, ◌∙◌, ◌⊎◌, ◌≢◌, inl, inr, arith, Bool, true, false, IsTrue, [], ◌∷◌}
 use Rattle.std.specs.Prelude.{ℤ, pos, neg_ℤ, filter}
 use Rattle.std.specs.Ordering.{int_eq, is_lt, ordering_reverse}

@@ -101,7 +101,7 @@ different_from_a s c m n nz hx hy apart same =
     let zy : m *ℤ (s.b.y -ℤ c.y) ≡ pos 0 = hy ∙ rw y (omega (arith, ints)) in
     apart (sym same ∙ same_by_steps c s.b (cancel_factor m _ nz zx) (cancel_factor m _ nz zy))
 
--- c stands on the line of s, and its distances from the two ends are as m and n: it lies strictly between where m and n have opposite signs
+-- c lies on the line of s, and its distances from the two ends are as m and n: it lies strictly between where m and n have opposite signs
 pub inside_of_opposite : (s : Pair) (c : Point) (m n : ℤ) → s.a ≢ s.b → turn s.a s.b c ≡ pos 0 → m <ℤ pos 0 → pos 0 <ℤ n → m *ℤ (s.b.x -ℤ c.x) ≡ n *ℤ (s.a.x -ℤ c.x) → m *ℤ (s.b.y -ℤ c.y) ≡ n *ℤ (s.a.y -ℤ c.y) → IsTrue (is_strictly_inside s c)
 inside_of_opposite s c m n apart t hm hn hx hy =
     inside_from s c t

@@ -38,7 +38,7 @@ pub widened_fits : (z : ℤ) → FitsSigned w64 z → FitsSigned w128 z
 widened_fits (pos n) h = let k : n < 9223372036854775808 = h.sfits in record { sfits = omega arith }
 widened_fits (negsuc n) h = let k : n < 9223372036854775808 = h.sfits in record { sfits = omega arith }
 
--- what the test for an `i64` tells
+-- what the test for an `i64` shows
 pub narrow_fits : (z : ℤ) (b : Bool) → b ≡ (int_le (negsuc 9223372036854775807) z && int_le z (pos 9223372036854775807)) → b ≡ true → FitsSigned w64 z
 narrow_fits (pos n) b e t = record { sfits = grind (arith, ints) }
 narrow_fits (negsuc n) b e t = record { sfits = grind (arith, ints) }

@@ -1,4 +1,4 @@
--- The answer for two that cross. In a snapping pass: on both lines, at the nearest end, or at the snapping point. In a
+-- The result for two that cross. In a snapping pass: on both lines, at the nearest end, or at the snapping point. In a
 -- settling pass: at the settling point.
 use Rattle.std.proofs.Common.{◌≡◌, refl, sym, ap, ℕ, ◌<◌, ◌≤◌, ◌∙◌, ◌≢◌, inl, inr, arith, Bool, true, false, not}
 use Rattle.std.specs.Int.{int_min}
@@ -32,7 +32,7 @@ end_turn s t e h k z =
     let clear = crossing_is_clear s t h in
     elim (end_cases s e k) [ inl i ↦ clear.sa (ap (turn t.a t.b) (sym i) ∙ z) | inr i ↦ clear.sb (ap (turn t.a t.b) (sym i) ∙ z) ]
 
--- an end does not lie on the other's line; so a snapped answer takes no such end
+-- an end does not lie on the other's line; so a snapped result takes no such end
 pub end_off_line : (s t : Pair) (e : Point) → do_cross s t ≡ true → is_end s e ≡ true → turn t.a e t.b ≢ pos 0
 end_off_line s t e h k z = end_turn s t e h k (turn_swaps_last t.a t.b e ∙ ap neg_ℤ z)
 
@@ -65,7 +65,7 @@ far_is_no_end r2 s p far =
       | inr i ↦ let z = ap (λ (q : Point). sqr_distance q p) (sym i) ∙ no_distance p in omega (arith, near.1)
     ])
 
--- ---- the answer
+-- ---- the result
 
 answer_with : (r2 : ℕ) (s t : Pair) (m : Point) (exact : Bool) (kind : CrossKind) → crossing_mark (snapping r2) s t ≡ m → is_exact s t ≡ exact → kind_of_point s t m ≡ kind → crossing_answer (snapping r2) s t ≡ answer_at kind m (not exact)
 unfolding crossing_answer
@@ -113,7 +113,7 @@ snapped_far : (e : Point) (r2 : ℕ) (p : Point) → nat_le (sqr_distance e p) r
 unfolding snapped_to
 snapped_far e r2 p h = rw h refl
 
--- the answer in each branch of code that has the snapping point p and tests whether it lies on both lines, and how far the nearer ends are
+-- the result in each branch of code that has the snapping point p and tests whether it lies on both lines, and how far the nearer ends are
 pub answer_when_on_lines : (r2 : ℕ) (s t : Pair) (p : Point) → do_cross s t ≡ true → p ≡ snapping_point s t → is_on_lines s t p ≡ true → crossing_answer (snapping r2) s t ≡ answer_at pure p false
 answer_when_on_lines r2 s t p h e on =
     exact_answer r2 s t h (exact_is_on_lines s t h ∙ ap (is_on_lines s t) (sym e) ∙ on) ∙ ap (λ (q : Point). answer_at pure q false) (sym e)
@@ -156,7 +156,7 @@ first_near r c d m n z e f h k = (grind (arith, ints), grind (arith, ints))
 pub second_near : (r c d : ℤ) (m n : ℕ) → pos 0 ≤ℤ r → c ≡ pos m → d ≡ pos n → int_lt r (int_min c d) ≡ false → int_le c d ≡ false → (n < m) × (n ≤ unsigned_abs r)
 second_near r c d m n z e f h k = (grind (arith, ints), grind (arith, ints))
 
--- the answer of code that has the settling point p, what p is an end of, and whether it lies on both lines
+-- the result of code that has the settling point p, what p is an end of, and whether it lies on both lines
 pub answer_when_settled : (s t : Pair) (p : Point) (kind : CrossKind) (on : Bool) → do_cross s t ≡ true → p ≡ settling_point s t → kind ≡ kind_of_point s t p → on ≡ is_on_lines s t p → crossing_answer settling s t ≡ answer_at kind p (not on)
 unfolding crossing_answer crossing_mark
 answer_when_settled s t p kind on h e k o =

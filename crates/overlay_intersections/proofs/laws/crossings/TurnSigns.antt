@@ -1,4 +1,5 @@
--- The answer as the signs of four turns decide it: those of the other's ends from the target, and those of the target's ends from the other.
+-- The result as the signs of four turns decide it: those of the other's ends from the target, and those of the target's ends from the
+-- other.
 use Rattle.std.proofs.Common.{◌≡◌, refl, sym, ap, ◌≤◌, ◌∙◌, ◌⊎◌, ◌≢◌, inl, inr, arith, Bool, true, false, not, ◌&&◌, ◌||◌}
 use Rattle.std.specs.Prelude.{ℤ, pos, ◌-ℤ◌, ◌*ℤ◌, ◌+ℤ◌, neg_ℤ, nat_eq, nat_lt, if◌then◌else◌, Option, None}
 use Rattle.std.specs.Int.{int_signum, from_bool}
@@ -66,7 +67,7 @@ one_point s t e f off (inr at_b) hs ht hf apart =
     let zb : turn s.a s.b t.b ≡ pos 0 = ap (turn s.a s.b) (sym at_b) ∙ hf in
     both_ways _ off (collinear_from s t (on_line_by_end s e t.b t.a (λ i. apart (i ∙ sym at_b)) hs zb (zero_swapped t.a t.b e ht)) zb)
 
--- ---- the answer
+-- ---- the result
 
 -- four tests, whether the turns are 0: of the other's a and b from the target, and of the target's a and b from the other; and whether the first two have one sign, and the last two
 pub record Tests (target other : Pair) (other_a other_b target_a target_b others targets : Bool) : Type 0 where
@@ -88,7 +89,7 @@ answer_by_tests placing target other other_a other_b target_a target_b others ta
     else if target_a then answer_at target_end target.a false
     else answer_at target_end target.b false
 
--- the answer where no crossing is, and how the four tests tell it
+-- the result where no crossing is, and how the four tests decide it
 off_by_a : (s t : Pair) → turn s.a s.b t.a ≢ pos 0 → are_collinear s t ≡ false
 off_by_a s t h = false_from_ne_true _ (λ e. h (collinear_parts s t e).0)
 
@@ -179,7 +180,7 @@ no_cross_by_target_a s t z = false_from_ne_true _ (λ e. (crossing_is_clear s t 
 no_cross_by_target_b : (s t : Pair) → turn t.a t.b s.b ≡ pos 0 → do_cross s t ≡ false
 no_cross_by_target_b s t z = false_from_ne_true _ (λ e. (crossing_is_clear s t e).sb z)
 
--- the answer is what the tests decide
+-- the result is what the tests decide
 pub by_tests : (placing : Placing) (s t : Pair) (b1 b2 b3 b4 c d : Bool) → s.a ≢ s.b → t.a ≢ t.b → Tests s t b1 b2 b3 b4 c d → cross_answer placing s t ≡ answer_by_tests placing s t b1 b2 b3 b4 c d
 unfolding answer_by_tests
 by_tests placing s t true true true true c d hs ht k =

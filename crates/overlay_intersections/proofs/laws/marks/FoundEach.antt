@@ -230,7 +230,7 @@ some_cross_inexactly-is segments =
 
 -- ---- the walk over all
 
--- where the walk stands: what it has found and what is left make up the whole
+-- where the walk is: what it has found and what is left make up the whole
 pub record IsWalked (placing : Placing) (ps : List Pair) (now : List Mark) (rounded : Bool) (i : ℕ) : Type 0 where
   pub found : now ++ marks_of_each placing i (drop i ps) ≡ marks_of_each placing 0 ps
   pub flag : (rounded || some_cross_inexactly (drop i ps)) ≡ some_cross_inexactly ps

@@ -1,4 +1,4 @@
--- The marks that two segments put on one another, from the answer for the first as target.
+-- The marks that two segments put on one another, from the result for the first as target.
 use Rattle.std.proofs.Common.{◌≡◌, refl, sym, ap, ap₂, subst, ◌∙◌, append_assoc, if◌then◌else◌, ◌⊎◌, inl, inr, ℕ, Bool, true, false, List, [], ◌∷◌, ◌++◌, Ordering, Less, Equal, Greater, is_lt}
 use Rattle.std.specs.Prelude.{filter, Option, Some, None}
 use Rattle.std.specs.Ordering.{ordering_reverse}
@@ -12,7 +12,7 @@ use Rattle.overlay_intersections.specs.MarkOf.{Mark}
 use Rattle.overlay_intersections.specs.MarksBetween.{marks_at, marks_of_overlap, marks_between}
 use Rattle.overlay_intersections.proofs.laws.crossings.AnswerMarks.{by_bool, answers_are_marks, overlay_marks, collinear_from, collinear_do_not_cross}
 
--- ---- whether the answer is rounded
+-- ---- whether the result is rounded
 
 abbrev pub answer_is_rounded : Option CrossAnswer → Bool
 answer_is_rounded None = false

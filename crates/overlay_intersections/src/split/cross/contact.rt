@@ -1,6 +1,6 @@
 // How two segments meet, by the sides on which their ends lie. Upstream: `cross` of
-// `split::cross_solver`. `segm::apart` tests whether they meet another way, so that the test of an answer does not
-// depend on this code.
+// `split::cross_solver`. `segm::apart` tests whether they meet another way, so that the test of a
+// result does not depend on this code.
 ghost use Rattle.std.specs.Prelude.{◌≡◌, ◌≢◌, false};
 ghost use Rattle.overlay_geometry.specs.PairOf.{pair_of};
 ghost use Rattle.overlay_geometry.specs.InRange.{IsPairInRange};
@@ -75,8 +75,8 @@ fn at<I: OverlayInt>(point: IntPoint<I>, cross_type: CrossType) -> Contact<I>
     })
 }
 
-/// Whether both ends of the other lie strictly on one side of the target's line. So it is with most pairs that have no
-/// point in common, and two of the four directions tell it.
+/// Whether both ends of the other lie strictly on one side of the target's line. So it is with most
+/// pairs that have no point in common, which two of the four directions decide.
 #[inline(always)]
 fn lies_beside<I: OverlayInt>(target: &XSegment<I>, other: &XSegment<I>) -> bool
     requires target { IsPairInRange I.whole I.MIN_COORD I.MAX_COORD target.now }

@@ -1,7 +1,7 @@
 // How two segments meet: the result of a call. Upstream: `split::cross_solver`.
 use overlay_geometry::geom::point::IntPoint;
 
-/// What the point of an answer is.
+/// What the point of a result is.
 #[derive(Clone, Copy, Debug, PartialEq, Eq)]
 pub enum CrossType {
     /// An end of neither.

@@ -1,5 +1,5 @@
-// The answer that settles two segments that cross, without a radius: at the settling point, which may be an end of one
-// of them. This project's own; upstream only snaps.
+// The result that settles two segments that cross, without a radius: at the settling point, which
+// may be an end of one of them. This project's own; upstream only snaps.
 ghost use Rattle.std.specs.Prelude.{◌≡◌, IsTrue};
 ghost use Rattle.overlay_geometry.specs.Points.{is_end};
 ghost use Rattle.overlay_geometry.specs.Meeting.{do_cross};
@@ -16,7 +16,7 @@ use overlay_geometry::geom::point::IntPoint;
 use overlay_geometry::geom::x_segment::XSegment;
 use overlay_geometry::num::OverlayInt;
 
-/// The answer for two segments that cross strictly inside both.
+/// The result for two segments that cross strictly inside both.
 #[inline(never)]
 pub fn settled<I: OverlayInt>(target: &XSegment<I>, other: &XSegment<I>) -> CrossResult<I>
     requires target { IsPairInRange I.whole I.MIN_COORD I.MAX_COORD target.now }
@@ -32,7 +32,7 @@ pub fn settled<I: OverlayInt>(target: &XSegment<I>, other: &XSegment<I>) -> Cros
     }
 }
 
-/// Of which segment a crossing point is an end: of the target, else of the other, or of none.
+/// Which segment has a crossing point as an end: the target, else the other, or none.
 #[tactic(auto, unfolding(crate::specs::CrossAnswer::kind_of_point))]
 fn kind_of_point<I: OverlayInt>(
     target: &XSegment<I>,

@@ -1,5 +1,5 @@
-// The answer that snaps two segments that cross: the crossing itself, the nearest end within the radius, or the
-// snapping point. Upstream: `middle_cross` of `split::cross_solver`.
+// The result that snaps two segments that cross: the crossing itself, the nearest end within the
+// radius, or the snapping point. Upstream: `middle_cross` of `split::cross_solver`.
 ghost use Rattle.std.specs.Prelude.{◌≡◌, ◌≤ℤ◌, pos, unsigned_abs, true, IsTrue, IsFalse, Some};
 ghost use Rattle.overlay_geometry.specs.Meeting.{do_cross};
 ghost use Rattle.overlay_geometry.specs.PointOf.{point_of};
@@ -24,7 +24,7 @@ struct NearerEnd<I> {
     distance: i64,
 }
 
-/// The answer for two segments that cross strictly inside both.
+/// The result for two segments that cross strictly inside both.
 #[inline(never)]
 pub fn snapped<I: OverlayInt>(
     target: &XSegment<I>,
