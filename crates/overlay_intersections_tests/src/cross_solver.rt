@@ -15,10 +15,11 @@ use overlay_geometry::num::OverlayInt;
 use overlay_intersections::split::cross_solver::*;
 use std::process::Abort;
 
-/// What a call answers: the kind, the point and whether it is rounded.
+/// What a call returns: the kind, the point and whether it is rounded.
 type Answer = Option<(CrossType, i64, i64, bool)>;
 
-/// The ends of two segments, a squared radius, the answer with the first as target, and with the second.
+/// The ends of two segments, a squared radius, the result with the first as target, and with the
+/// second.
 struct Row {
     name: &'static str,
     first: [i32; 4],
@@ -215,7 +216,7 @@ fn answer<I: OverlayInt>(met: CrossResult<I>) -> (CrossType, i64, i64, bool) {
     (met.cross_type, x, y, met.is_round)
 }
 
-/// What a pass that snaps answers for two segments.
+/// What a pass that snaps returns for two segments.
 fn ask<I: OverlayInt>(
     rt: &impl Abort,
     target: &XSegment<I>,
@@ -225,12 +226,12 @@ fn ask<I: OverlayInt>(
     Some(answer(met(rt, target, other, radius_squared)?))
 }
 
-/// Wants of a row the answer with its first segment as target, and the one with its second.
+/// Wants of a row the result with its first segment as target, and the one with its second.
 fn check(rt: &impl Abort, name: &str, found: [Answer; 2], wanted: [Answer; 2]) {
     assert_eq!(rt; found, wanted, "{name}");
 }
 
-/// Asks for both answers of a row.
+/// Wants both results of a row.
 fn check_row<I: OverlayInt>(rt: &impl Abort, row: &Row, first: &XSegment<I>, second: &XSegment<I>) {
     let found = ask(rt, first, second, row.radius_squared);
     let swapped = ask(rt, second, first, row.radius_squared);
@@ -289,7 +290,7 @@ fn are_collinear<I: OverlayInt>(target: &XSegment<I>, other: &XSegment<I>) -> bo
     Triangle::is_line(target.a, target.b, other.a) && Triangle::is_line(target.a, target.b, other.b)
 }
 
-/// The ends of two segments that meet in a pass that settles, and the answer with either as target.
+/// The ends of two segments that meet in a pass that settles, and the result with either as target.
 struct SettledRow {
     name: &'static str,
     first: [i32; 4],
@@ -336,7 +337,7 @@ static SETTLED_ROWS: [SettledRow; 5] = [
     },
 ];
 
-/// What a pass that settles answers for two segments.
+/// What a pass that settles returns for two segments.
 fn ask_settled<I: OverlayInt>(
     rt: &impl Abort,
     target: &XSegment<I>,
@@ -347,7 +348,7 @@ fn ask_settled<I: OverlayInt>(
     Some(answer(CrossSolver::cross_settled(target, other)?))
 }
 
-/// Asks for the answers of a pass that settles, with either segment as target.
+/// Wants the results of a pass that settles, with either segment as target.
 fn check_settled<I: OverlayInt>(
     rt: &impl Abort,
     name: &str,

@@ -53,7 +53,7 @@ fn parts(rt: &(impl Abort + AllocGlobal), line: Line) -> Vec<Part> {
     parts
 }
 
-/// Lines that rise, fall, end within a column and stand upright, and their fragments.
+/// Lines that rise, fall, end within a column and are vertical, and their fragments.
 static LINES: [(Line, &[Part]); 4] = [
     (
         ((1, 0), (6, 3)),

@@ -29,7 +29,7 @@ fn push_side(rt: &impl Abort, segments: &mut Vec<Side<i32>>, a: (i32, i32), b: (
     }
 }
 
-/// What the list's finder answers: the marks, and whether the pass is rounded.
+/// What the list's finder returns: the marks, and whether the pass is rounded.
 fn listed<I: OverlayInt>(
     rt: &impl Abort,
     alloc: Global,
@@ -46,7 +46,7 @@ fn listed<I: OverlayInt>(
     (marks, rounded.expect(rt, "memory"))
 }
 
-/// What the tree's finder answers: the same, and how many pairs it compared.
+/// What the tree's finder returns: the same, and how many pairs it compared.
 fn treed<I: OverlayInt>(
     rt: &impl Abort,
     alloc: Global,
@@ -64,8 +64,8 @@ fn treed<I: OverlayInt>(
     (marks, rounded.expect(rt, "memory"), looked)
 }
 
-/// Asks both finders, wants the same marks and the same flag, and returns how many marks there are and how many pairs
-/// the tree compared.
+/// Runs both finders, wants the same marks and the same flag, and returns how many marks there are
+/// and how many pairs the tree compared.
 fn ask(
     rt: &impl Abort,
     alloc: Global,
@@ -126,7 +126,8 @@ fn lines_above_one_another(rt: HostRuntime) {
     for y in 0..4000 {
         push_side(&rt, &mut segments, (0, y), (10, y));
     }
-    // Each of the first 48 lines is compared with those below it, and then all stand in a tree, where no heights meet.
+    // Each of the first 48 lines is compared with those below it, and then all are in a tree, where
+    // no heights meet.
     let told = ask(&rt, rt.alloc(), &mut segments, SNAPPING);
     assert!(rt; told == (0, 48 * 47 / 2));
 }

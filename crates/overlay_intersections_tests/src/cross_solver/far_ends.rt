@@ -184,12 +184,12 @@ static NARROW_ROWS: [FarRow; 9] = [
     },
 ];
 
-/// The answer for a crossing strictly inside both segments, at a point that is rounded.
+/// The result for a crossing strictly inside both segments, at a point that is rounded.
 fn rounded(point: (i64, i64)) -> Answer {
     Some((CrossType::Pure, point.0, point.1, true))
 }
 
-/// Asks for the answers of a row, in a pass that snaps and in one that settles.
+/// Wants the results of a row, in a pass that snaps and in one that settles.
 fn check_far<I: OverlayInt>(
     rt: &impl Abort,
     row: &FarRow,

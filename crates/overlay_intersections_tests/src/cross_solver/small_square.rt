@@ -2,7 +2,7 @@
 
 use super::*;
 
-/// A point of the square by its number, of which there are 25.
+/// One of the 25 points of the square, by its number.
 fn point(number: u16) -> IntPoint<i32> {
     IntPoint::new(i32::from(number / 5) - 2, i32::from(number % 5) - 2)
 }
