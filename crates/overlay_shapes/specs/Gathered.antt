@@ -19,7 +19,7 @@ all_links walks = flat_map (λ walk. walk) walks
 abbrev pub group_at : List (List (List ℕ)) → ℕ → List (List ℕ)
 group_at groups k = slice_index_or groups k []
 
--- The groups have the walks, and each has those of one leader, of which the first one has the leader's front.
+-- The groups have the walks, and each has those of one leader; the first of these has the leader's front.
 pub record AreGathered (leaders fronts : List ℕ) (walks : List (List ℕ)) (groups : List (List (List ℕ))) : Type 0 where
   -- each walk of a group is one of them, and each link is as often in the one as in the other
   pub taken : (k : ℕ) (walk : List ℕ) → k < length groups → Contains (group_at groups k) walk → Contains walks walk

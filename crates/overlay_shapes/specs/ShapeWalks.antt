@@ -48,7 +48,7 @@ pub record IsLed (links : List Link) (shape : List (List ℕ)) : Type 0 where
 
 -- Closed walks in shapes, each link in its direction.
 pub record AreShapeWalks (rule : Bool → Bool → Bool) (graph : Graph) (arcs : List Link) (shapes : List (List (List ℕ))) : Type 0 where
-  -- every link stands in exactly one place of exactly one walk
+  -- every link is in exactly one place of exactly one walk
   pub walks : AreDirectedWalks arcs (all_walks shapes)
   -- no walk comes to a node twice
   pub simple : All (PassesOnce arcs) (all_walks shapes)

@@ -20,9 +20,9 @@ use overlay_build::build::graph::OverlayGraph;
 use overlay_geometry::num::OverlayInt;
 use std::alloc::Global;
 
-/// Closed walks, each link in its direction, of which none comes to a node twice: the cycles along `next`, each of which is
-/// cut where it comes to a node again. Every link is in exactly one walk, once. So the points at which the links of a walk
-/// start are a simple polygon.
+/// Closed walks, each link in its direction, none of which comes to a node twice: the cycles along
+/// `next`, each of which is cut where it comes to a node again. Every link is in exactly one walk,
+/// once. So the points at which the links of a walk start are a simple polygon.
 ///
 /// At the index of each link `next` has the index of the one that leads on from it. Takes time linear in links and nodes.
 ///

@@ -1,4 +1,4 @@
--- Of the boundary of a region: on which links nothing winds between a link and the one on which it stands.
+-- Of the boundary of a region: on which links nothing winds between a link and its support.
 use Rattle.std.proofs.Common.{◌≡◌, ℕ, ◌<◌, Bool, true, false, if◌then◌else◌, List, refl, sym, ap, subst, ◌∙◌, arith}
 use Rattle.std.specs.Prelude.{ℤ, pos, negsuc, ◌+ℤ◌, ◌-ℤ◌, IsTrue}
 use Rattle.std.proofs.lemmas.Int.{ints}

@@ -70,7 +70,7 @@ OneOfBoth x y = ((min x y ≡ x) × (max x y ≡ y)) ⊎ ((min x y ≡ y) × (ma
 one_of_both : (x y : ℕ) → OneOfBoth x y
 one_of_both x y = elim (cases_lt x y) [ inl l ↦ inl (omega (arith, l), omega (arith, l)) | inr l ↦ inr (omega (arith, l), omega (arith, l)) ]
 
--- the leaders of both are told
+-- the leaders of both are determined
 pub classes_joined : (parents now : List ℕ) (classes : ℕ → ℕ) (a b first second : ℕ) → HaveClasses parents classes → HaveClasses now classes → length now ≡ length parents → a < length parents → b < length parents → first ≡ classes a → second ≡ classes b →
     HaveClasses (set now (max first second) (min first second)) (joined classes a b)
 classes_joined parents now classes a b first second old f many ha hb ea eb =

@@ -95,7 +95,7 @@ module _ (rule : Bool → Bool → Bool) (graph : Graph) (supports next : List �
     | inr s ↦ (s.before, s.stands)
   ]
 
-  -- what is to be joined has the other as its support, and the other way round
+  -- what is to be joined has the other as its support, and conversely
   stands_on : (a b : ℕ) → IsToBeJoined rule graph.links supports (length graph.links) a b → StandsOn rule graph a b
   stands_on a b s =
       let many = length-directed rule graph in

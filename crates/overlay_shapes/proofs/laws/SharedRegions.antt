@@ -1,5 +1,5 @@
--- The segments of an arrangement are shared out, so that a segment and the one on which it stands have one share, unless
--- nothing winds between them. Where both shares balance, and no segment is in both, no place is wound round by both.
+-- The segments of an arrangement are shared out, so that a segment and its support have one share, unless
+-- nothing winds between them. Where both shares balance, and no segment is in both, no place is wound around by both.
 use Rattle.std.proofs.Common.{◌≡◌, ap, ap₂, refl, sym, subst, ◌∙◌, arith, inl, inr, ℕ, zero, suc, ◌<◌, ◌≤◌}
 use Rattle.std.specs.Prelude.{ℤ, pos, ◌+ℤ◌, ◌-ℤ◌, ◌*ℤ◌, Bool, true, false, ◌&&◌, ◌⊎◌, cond, if◌then◌else◌, List, [], ◌∷◌, map, filter, fold, length, Option, Some, None}
 use Rattle.std.specs.declared.cmp.Ordering.{Ordering}
@@ -36,7 +36,7 @@ use Rattle.overlay_build.proofs.laws.regions.PlaceColumns.{column_of}
 use Rattle.overlay_build.proofs.laws.regions.Regions.{sum_below}
 use Rattle.overlay_build.proofs.laws.sides.Vertices.{gain, gain_of}
 
--- ---- what a segment stands on is told by the pairs alone
+-- ---- the support of a segment follows from the pairs alone
 
 abbrev pub with_count : (WholeSegment → Winding) → WholeSegment → WholeSegment
 with_count c s = record { pair = s.pair; count = c s }
@@ -220,7 +220,7 @@ module _ (xs : List WholeSegment) (arranged : IsArranged xs) (f g : WholeSegment
 
 -- ---- in sums
 
--- how often a share of segments winds round a place, and what it gains at a point
+-- how often a share of segments winds around a place, and what it gains at a point
 abbrev pub share_winding : List WholeSegment → (WholeSegment → ℤ) → RationalPoint → ℤ
 share_winding xs f p = sum_of (λ s. when (lies_below s.pair p) (f s *ℤ s.count.subj)) xs
 
