@@ -1,4 +1,4 @@
--- What a closure of code answers.
+-- What a closure of code returns.
 use Rattle.std.specs.Prelude.{ℕ, Bool, false, slice_index_or}
 use Rattle.overlay_snapping.specs.declared.snap.closure.Closure.{Closure}
 

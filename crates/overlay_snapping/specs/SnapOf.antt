@@ -59,7 +59,7 @@ abbrev pub SnapChanges : List WholeSegment → Type 0
 SnapChanges given =
     IsTrue (has_equal_pairs given) ⊎ ((s : Pair) × (c : Point) × Contains (pairs (join given)) s × IsCutAt (pairs (join given)) s c × IsFalse (is_end s c))
 
--- the flag tells whether snapping a list changes it
+-- the flag is whether snapping a list changes it
 abbrev pub TellsChange : {C I D : Type 0} {m : _} {w : _} {o : _} {e : _} {p : _} → Vec (Segment C I D m w o e p) Global → Bool → Type 0
 TellsChange given flag = IsTrue flag ↔ SnapChanges (segments_of given.items)
 

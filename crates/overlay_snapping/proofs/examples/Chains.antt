@@ -45,7 +45,7 @@ two_snapped = (
   refl,
 )
 
--- ---- Three, of which the first and the second each cross the third. The end (2, 1) of the first becomes hot only because the third moves,
+-- ---- Three: the first and the second each cross the third. The end (2, 1) of the first becomes hot only because the third moves,
 -- which passes by it; and only because of that end the second moves.
 
 abbrev first : Pair

@@ -10,7 +10,7 @@ use Rattle.overlay_snapping.proofs.examples.Computing.{computing}
 abbrev met_by : Pair → List Point → List Bool
 met_by s points = map (λ c. meets_pixel s c) points
 
--- ---- a corner, (1/2, 1/2): it belongs to the pixel of (1, 1) alone, of which it is the lower left one
+-- ---- a corner, (1/2, 1/2): it belongs to the pixel of (1, 1) alone, and is the lower left one of it
 
 -- up through it, and through the pixels of both ends
 rises_through_corner : met_by (pair (pos 0) (pos 0) (pos 1) (pos 1)) (point (pos 0) (pos 0) ∷ point (pos 1) (pos 1) ∷ []) ≡ (true ∷ true ∷ [])

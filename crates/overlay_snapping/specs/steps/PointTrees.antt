@@ -13,7 +13,7 @@ use Rattle.overlay_geometry.specs.Ranges.{Rect}
 use Rattle.overlay_geometry.specs.Coordinates.{is_point_in_range}
 use Rattle.overlay_snapping.specs.Pixels.{meets_pixel}
 
--- the places of the points whose pixels s meets, where the first stands at place n
+-- the places of the points whose pixels s meets, where the first is at place n
 unfoldable pub met_places_from : ℕ → Pair → List Point → List ℕ
 met_places_from n s points = map (λ e. e.0) (filter (λ e. meets_pixel s e.1) (enumerate_from n points))
 
@@ -53,7 +53,7 @@ pub record HoldPoints (least greatest : ℤ) (boxes : List Rect) (points : List 
 abbrev pub rect_at : Point → Rect
 rect_at p = record { min_x = p.x; max_x = p.x; min_y = p.y; max_y = p.y }
 
--- the least rectangle round a rectangle and another, if there is one
+-- the least rectangle around a rectangle and another, if there is one
 abbrev pub rect_with : Rect → Option Rect → Rect
 rect_with r None = r
 rect_with r (Some s) = record { min_x = int_min r.min_x s.min_x; max_x = int_max r.max_x s.max_x; min_y = int_min r.min_y s.min_y; max_y = int_max r.max_y s.max_y }

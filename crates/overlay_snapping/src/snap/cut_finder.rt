@@ -166,7 +166,7 @@ fn is_among<I: OverlayInt>(sorted: &[IntPoint<I>], point: &IntPoint<I>) -> bool
     sorted.binary_search(point).is_ok()
 }
 
-/// Which segments meet the pixels of which points of the tree, by rising index.
+/// Which segments meet which pixels of points of the tree, by rising index.
 fn collect_meetings<C: WindingCount, I: OverlayInt, D: Copy>(
     segments: &[Segment<C, I, D>],
     tree: &PointTree<I>,

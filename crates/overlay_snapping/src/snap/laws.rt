@@ -58,9 +58,10 @@ pub fn chain_laws()
     ensures exact { ExactSnapIsPass }
 {}
 
-/// What seeds reach is what is hot and what moves. The points have to be the ends and the crossings, the seeds the
-/// places of the rounded ones, and the passings those of all segments by all points. A point may stand at several
-/// places. Such seeds and passings meet the conditions of `Closure::close`.
+/// What seeds reach is what is hot and what moves. The points have to be the ends and the
+/// crossings, the seeds the places of the rounded ones, and the passings those of all segments by
+/// all points. A point may be at several places. Such seeds and passings meet the conditions of
+/// `Closure::close`.
 pub fn closure_laws()
     ensures reached { ReachedIsHot }
     ensures within { InputIsWithin }

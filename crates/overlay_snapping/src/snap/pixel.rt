@@ -40,7 +40,7 @@ pub(crate) fn lies_on<I: OverlayInt>(segment: &XSegment<I>, point: IntPoint<I>) 
     Triangle::is_line(segment.a, segment.b, point) && is_in_box(way, to)
 }
 
-/// Whether the second way ends in the box of which the first is a diagonal.
+/// Whether the second way ends in the box that has the first as a diagonal.
 fn is_in_box(way: IntVector, to: IntVector) -> bool
     ensures { result ≡ (is_between (pos 0) (vector_of way).x (vector_of to).x && is_between (pos 0) (vector_of way).y (vector_of to).y) }
 {

@@ -314,7 +314,7 @@ fn box_of<I: OverlayInt>(point: IntPoint<I>) -> IntRect<I>
     }
 }
 
-/// The least box round a box and another, if there is one.
+/// The least box around a box and another, if there is one.
 fn joined<I: OverlayInt>(bounds: IntRect<I>, other: Option<IntRect<I>>) -> IntRect<I>
     ensures { rect_of I.whole result ≡ rect_with (rect_of I.whole bounds) (rect_if_any I.whole other) }
 {
@@ -346,7 +346,7 @@ fn greater<I: OverlayInt>(a: I, b: I) -> I
 /// A part of no more points is tested point by point, which takes less time than to go down it.
 const FEW_POINTS: usize = 8;
 
-/// As `PointTree::append_met`, in a part of a tree whose first point stands at a place.
+/// As `PointTree::append_met`, in a part of a tree whose first point is at a place.
 fn append_met_among<I: OverlayInt>(
     points: &[IntPoint<I>],
     boxes: &[IntRect<I>],

@@ -1,5 +1,5 @@
 -- A list of points and a list of segments that are closed have all points that are hot and all segments that move. Where each of
--- the two lists is also made of such, tests of finite lists tell whether a list of points is the chain of a segment.
+-- the two lists is also made of such, tests of finite lists show whether a list of points is the chain of a segment.
 use Rattle.std.proofs.Common.{◌≡◌, sym, subst, ◌⊎◌, inl, inr, Bool, true, false, not, ◌&&◌, ◌||◌, List, ◌++◌}
 use Rattle.std.specs.Prelude.{Contains}
 use Rattle.std.specs.List.{AllByRecursion, list_all, list_any}

@@ -28,7 +28,7 @@ same_cuts segments s first second h k =
 
 -- ---- the function
 
--- the points of the marks at the first pair that is the one asked for
+-- the points of the marks at the first pair that is the given one
 pub marks_for : List WholeSegment → List Mark → ℕ → Pair → List Point
 marks_for [] marks index p = []
 marks_for (s ∷ segments) marks index p = if pair_eq s.pair p then points_at index marks else marks_for segments marks (suc index) p

@@ -35,7 +35,7 @@ Has-marks_on segments s t c j h =
     Has-distinct_in_order point_cmp_total point_same (flat_map (λ u. marks_by settling s u) (pairs segments)) c
     (Has-flat_map (λ u. marks_by settling s u) (pairs segments) t c j h)
 
--- where two cross, each is marked at the settling point of which it is no end
+-- where two cross, each is marked at the settling point unless that is an end of it
 crossing_marks : (segments : List WholeSegment) (s t : Pair) → Has (pairs segments) t → IsTrue (do_cross s t) → is_end s (settling_point s t) ≡ false → Has (marks_on settling segments s) (settling_point s t)
 crossing_marks segments s t j c e =
     Has-marks_on segments s t (settling_point s t) j

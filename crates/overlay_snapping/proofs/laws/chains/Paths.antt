@@ -59,7 +59,7 @@ rounded_cut segments s c o (staying n p h) = rounded_on_pair s c o h
 
 -- ---- the order of the path
 
--- steps along s, of which none stays, are in its order
+-- steps along s, none of which stays, are in its order
 steps_rise : (s : Pair) (p : Point) (points : List Point) → int_lt s.b.y s.a.y ≡ false → Steps Rises p points → Steps Differ p points → IsTrue (is_strictly_sorted (along_cmp s) (p ∷ points))
 unfolding is_strictly_sorted
 steps_rise s p [] up h d = refl

@@ -168,7 +168,7 @@ module _ {C I D : Type 0} {m : _} {w : _} {o : _} {e : _} {p : _} (segments : Li
             passings_are = as_passed ∙ passed ∙ ap (λ l. map passing_of (filter (λ n. not (lies_at (pairs_in segments) (map (point_of w.whole) points) n)) l)) met_are;
           }
 
-          -- what a closure asks of the seeds and the passings
+          -- what a closure requires of the seeds and the passings
           pub input_within : (sorted : List Point) (hot : List ℕ) (passings : List Passing) → AreCollected (segments_of segments) (marks_of w.whole marks) (map (point_of w.whole) points) sorted hot passings →
               AreWithin (length points) (length segments) passings × All (λ place. place < length points) hot
           input_within sorted hot passings h =

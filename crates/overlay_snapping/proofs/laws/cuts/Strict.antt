@@ -1,4 +1,4 @@
--- The cuts differ from each other, since the meetings do and no point stands at two places, so that a sort puts them in strict order.
+-- The cuts differ from each other, since the meetings do and no point is at two places, so that a sort puts them in strict order.
 use Rattle.std.proofs.Common.{◌≡◌, sym, ap, ap₂, ◌∙◌, ⊎_elim, ℕ, ◌+◌, ◌<◌, ◌≤◌, Bool, true, false, List, [], ◌∷◌, map, filter, length, get_or, arith, Less, is_eq, is_gt}
 use Rattle.std.specs.Prelude.{flat_map, IsPermutation}
 use Rattle.std.specs.List.{enumerate_from, AllByRecursion, IsDistinct}

@@ -88,7 +88,7 @@ crossed_below m n r a a1 b b1 w x u u1 hr hx hm hn hu hu1 zero e e1 =
     plain : (p q w : ℤ) → pos 0 <ℤ p → p ≡ pos 0 *ℤ w +ℤ q → pos 0 <ℤ q
     plain p q w h e = omega (arith, ints, h, e)
 
--- What is told of two times: r is the turn of the end that stays, a and a1 are those of the end that moves, b and b1 of one end of
+-- What is said of two times: r is the turn of the end that stays, a and a1 are those of the end that moves, b and b1 of one end of
 -- the other segment, c and c1 of the other. Each other number is a lead.
 pub record Told (r a a1 b b1 c c1 : ℤ) : Type 0 where
   pub w : ℤ

@@ -38,7 +38,7 @@ same_number u v h = grind (arith, ints)
 same_column : (f : ℤ → ℤ) (u v : ℤ) → is_eq (int_cmp u v) ≡ true → is_eq (int_cmp (f u) (f v)) ≡ true
 same_column f u v h = ap (λ z. is_eq (int_cmp (f u) z)) (sym (ap f (same_number u v h))) ∙ ap is_eq (tied_itself int_cmp_total (f u))
 
--- it tells points apart by their coordinates
+-- it separates points by their coordinates
 tile_cmp-ties : (shift : ℕ) (p q : Point) → point_eq p q ≡ is_eq (tile_cmp shift p q)
 tile_cmp-ties shift p q =
     let columns = int_cmp (int_shr p.x (shift % 64)) (int_shr q.x (shift % 64)) in
@@ -61,7 +61,7 @@ pub none_by_columns : {I : Type 0} (whole : I → ℤ) (shift : ℕ) (points : L
 unfolding is_strictly_sorted
 none_by_columns whole shift points e = ap (λ l. is_strictly_sorted (tile_cmp shift) (map (point_of whole) l)) e
 
--- ---- repeats by two tests that answer alike
+-- ---- repeats by two tests with equal results
 
 some_alike : {X : Type 0} (p q : X → Bool) → ((x : X) → p x ≡ q x) → (xs : List X) → list_any p xs ≡ list_any q xs
 some_alike p q f [] = refl

@@ -1,4 +1,4 @@
--- The least box round a point and the boxes of the points before and after it.
+-- The least box around a point and the boxes of the points before and after it.
 use Rattle.std.proofs.Common.{◌≡◌, ap, Bool, true, List, ◌∷◌, ◌++◌, arith}
 use Rattle.std.specs.Prelude.{ℤ, ◌≤ℤ◌, Option, None, Some}
 use Rattle.std.specs.Int.{int_min, int_max}
@@ -73,7 +73,7 @@ module _ (least greatest : ℤ) where
   holds_others r None points h = ap (list_all (is_in_rect r)) h
   holds_others r (Some s) points h = all_weaker (is_in_rect s) (is_in_rect (rect_with r (Some s))) points (with_takes r s) h.1
 
-  -- the box round a point and two boxes holds what they hold, in range
+  -- the box around a point and two boxes holds what they hold, in range
   pub box_round : (p : Point) (before after : List Point) (o o' : Option Rect) → is_point_in_range least greatest p ≡ true → IsBoxOf least greatest o before → IsBoxOf least greatest o' after →
       IsBoxOf least greatest (Some (rect_with (rect_with (rect_at p) o) o')) (before ++ p ∷ after)
   box_round p before after o o' h hb ha =

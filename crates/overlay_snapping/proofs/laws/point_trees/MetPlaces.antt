@@ -53,7 +53,7 @@ module _ (s : Pair) where
   none_met n [] h = refl
   none_met n (c ∷ points) h = rw h.0 (none_met (n + 1) points h.1)
 
-  -- of points in a rectangle of which none is met
+  -- of points in a rectangle where none is met
   none_met_within : (r : Rect) (n : ℕ) (points : List Point) → ((c : Point) → is_in_rect r c ≡ true → meets_pixel s c ≡ false) → list_all (is_in_rect r) points ≡ true → met_places_from n s points ≡ []
   none_met_within r n points off inside =
       none_met n points (AllByRecursion-weaker (λ c. is_in_rect r c ≡ true) (λ c. meets_pixel s c ≡ false) off points (AllByRecursion-from_list_all (is_in_rect r) points inside))

@@ -22,7 +22,7 @@ pub record IsInRect (r : Rect) (c : Point) : Type 0 where
 pub IsInRect-from : (r : Rect) (c : Point) → is_in_rect r c ≡ true → IsInRect r c
 IsInRect-from r c h = record { from_left = grind (arith, ints); to_right = grind (arith, ints); from_below = grind (arith, ints); to_top = grind (arith, ints) }
 
--- the ends of a pair in order stand from left to right
+-- the ends of a pair in order are from left to right
 pub ordered_in_x : (s : Pair) → IsTrue (is_ordered s) → s.a.x ≤ℤ s.b.x
 ordered_in_x s h = grind (arith, ints)
 
