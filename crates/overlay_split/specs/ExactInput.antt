@@ -46,6 +46,7 @@ lies_on_input given result =
 abbrev pub KeepsCounts : List WholeSegment → List WholeSegment → Type 0
 KeepsCounts given result = ((e : Pair) → IsTrue (is_elementary given e) → count_along result e ≡ count_along given e) × IsTrue (lies_on_input given result)
 
--- The answer to exact input, without passes: a map in which each elementary pair of the join has what the given segments count along it, and no other pair has a count.
+-- The result for exact input, without passes: a map in which each elementary pair of the join has what the given segments count along it,
+-- and no other pair has a count.
 abbrev pub IsExactAnswer : List WholeSegment → List WholeSegment → Type 0
 IsExactAnswer given result = IsTrue (is_map result) × ((e : Pair) → winding_at result e ≡ cond (is_elementary (join given) e) (count_along given e) empty)

@@ -157,7 +157,7 @@ RunKeepsBalance =
     (settings : Settings) (given result : List WholeSegment) (passes : ℕ) (flag : Bool) → IsRun settings given result passes flag →
     KeepsBalance given result
 
--- The order of the given segments does not count: what stands after k passes is the same.
+-- The order of the given segments does not count: what is left after k passes is the same.
 abbrev pub PassesIgnoreOrder : Type 0
 PassesIgnoreOrder = (settings : Settings) (given other : List WholeSegment) (k : ℕ) → IsPermutation given other → after_passes settings other k ≡ after_passes settings given k
 
@@ -179,19 +179,19 @@ RunIsPlanar =
     (settings : Settings) (given result : List WholeSegment) (passes : ℕ) (flag : Bool) → IsTrue (are_ordered given) → IsRun settings given result passes flag →
     IsTrue (is_map result) × IsTrue (is_planar result)
 
--- a planar arrangement is answered as it is
+-- a planar arrangement is returned as it is
 abbrev pub ArrangedIsUnchanged : Type 0
 ArrangedIsUnchanged =
     (settings : Settings) (segments : List WholeSegment) → IsTrue (is_map segments) → IsTrue (is_planar segments) →
     IsRun settings segments segments (min 1 (length segments - 1)) false
 
--- so a result that is split again, with whatever settings, is answered as it is
+-- so a result that is split again, with whatever settings, is returned as it is
 abbrev pub ResultIsUnchanged : Type 0
 ResultIsUnchanged =
     (settings again : Settings) (given result : List WholeSegment) (passes : ℕ) (flag : Bool) → IsTrue (are_ordered given) → IsRun settings given result passes flag →
     IsRun again result result (min 1 (length result - 1)) false
 
--- no pass reaches outside the box round the ends of the join
+-- no pass reaches outside the box around the ends of the join
 abbrev pub StaysInBox : Type 0
 StaysInBox =
     (settings : Settings) (given : List WholeSegment) (k : ℕ) →
@@ -203,7 +203,7 @@ ExactInputKeepsCounts =
     (settings : Settings) (given result : List WholeSegment) (passes : ℕ) (flag : Bool) → IsTrue (are_ordered given) → IsTrue (is_exact_input given) → IsRun settings given result passes flag →
     KeepsCounts given result
 
--- It is the one answer, without passes: the elementary pairs of the join, each with the count along it.
+-- It is the one result, without passes: the elementary pairs of the join, each with the count along it.
 abbrev pub ExactInputHasOneAnswer : Type 0
 ExactInputHasOneAnswer =
     ((settings : Settings) (given result : List WholeSegment) (passes : ℕ) (flag : Bool) → IsTrue (are_ordered given) → IsTrue (is_exact_input given) → IsRun settings given result passes flag → IsExactAnswer given result)
@@ -285,7 +285,7 @@ PiecesStayNear =
     (placing : Placing) (segments : List WholeSegment) (s : Pair) → IsTrue (are_ordered segments) → Contains (pairs segments) s → (f : Fraction) →
     IsNearSome (reach_of_pass placing segments) (point_along s f) (pairs (cut placing segments))
 
--- so what stands after k passes is near what is given, and the other way round but for counts that cancel
+-- so what is left after k passes is near what is given, and conversely but for counts that cancel
 abbrev pub RunStaysNear : Type 0
 RunStaysNear = (settings : Settings) (given : List WholeSegment) (k : ℕ) → IsTrue (are_ordered given) → StaysNear settings given (after_passes settings given k) k
 
@@ -347,7 +347,7 @@ PassKeepsWinding =
     (placing : Placing) (segments : List WholeSegment) (p : RationalPoint) → IsTrue (are_ordered segments) → IsFar (reach_of_pass placing segments) p (pairs segments) →
     winding_below (pass placing segments) p ≡ winding_below segments p
 
--- so what stands after k passes winds as what is given wherever that is farther away than the passes reach
+-- so what is left after k passes winds as what is given wherever that is farther away than the passes reach
 abbrev pub RunKeepsWinding : Type 0
 RunKeepsWinding = (settings : Settings) (given : List WholeSegment) (k : ℕ) → IsTrue (are_ordered given) → KeepsWinding settings given (after_passes settings given k) k
 
@@ -365,7 +365,7 @@ ExactInputKeepsWinding =
 abbrev pub FarLiesOnNone : Type 0
 FarLiesOnNone = (segments : List WholeSegment) (p : RationalPoint) → IsTrue (are_ordered segments) → 0 < p.bottom → IsFar 0 p (pairs segments) → IsTrue (is_on_none segments p)
 
--- so where counts balance, the winding that stands there after k passes is that of any ray from there through what is given
+-- so where counts balance, the winding there after k passes is that of any ray from there through what is given
 abbrev pub RunKeepsRays : Type 0
 RunKeepsRays =
     (settings : Settings) (given : List WholeSegment) (k : ℕ) (p : RationalPoint) → IsTrue (are_ordered given) → IsBalanced given → 0 < p.bottom → IsFar (reach_of_run settings given k) p (pairs given) →

@@ -1,4 +1,4 @@
--- What stands where a split within a limit is refused.
+-- What is left where a split within a limit is refused.
 use Rattle.std.specs.Prelude.{◌≡◌, Result, IfErr}
 use Rattle.overlay_base.specs.declared.segm.fault.Fault.TheVariants.{CountOutOfRange}
 use Rattle.overlay_split.specs.declared.split.fault.SplitFault.{SplitFault}

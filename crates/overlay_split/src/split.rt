@@ -1,5 +1,6 @@
-// The passes that split segments where they meet. How two segments meet, and the finders over a list, a tree and a
-// grid, come from crates of their own; their modules stand here too, as in upstream.
+// The passes that split segments where they meet. How two segments meet, and the finders over a
+// list, a tree and a grid, come from crates of their own; their modules are here too, as in
+// upstream.
 
 mod cut;
 pub mod fault;

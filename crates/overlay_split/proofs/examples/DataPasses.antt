@@ -37,7 +37,7 @@ hooks = record {
 abbrev colored : ℤ → ℤ → ℤ → ℤ → ℤ → ℤ → Color → DataSegment Color
 colored ax ay bx by subj clip color = record { pair = pair ax ay bx by; count = count subj clip; edge_data = color }
 
--- an overlap: the piece that stands in its segment's place comes first
+-- an overlap: the piece that takes its segment's place comes first
 overlap_merges : data_after_passes hooks (high 256) (colored (pos 0) (pos 0) (pos 4) (pos 0) (pos 1) (pos 0) red ∷ colored (pos 2) (pos 0) (pos 6) (pos 0) (pos 0) (pos 1) green ∷ []) no_calls 1
     ≡ ((colored (pos 0) (pos 0) (pos 2) (pos 0) (pos 1) (pos 0) red ∷ colored (pos 2) (pos 0) (pos 4) (pos 0) (pos 1) (pos 1) undefined ∷ colored (pos 4) (pos 0) (pos 6) (pos 0) (pos 0) (pos 1) green ∷ []), record { splits = 2; reversals = 0; merges = record { lhs_data = green; lhs_count = count (pos 0) (pos 1); rhs_data = red; rhs_count = count (pos 1) (pos 0); out_count = count (pos 1) (pos 1) } ∷ [] })
 unfolding computing
@@ -61,7 +61,7 @@ bent_is_reversed : data_after_passes hooks (high 256) (colored (pos 0) (pos 0) (
 unfolding computing
 bent_is_reversed = refl
 
--- Two overlaps, of which the second is too large: the four splits were made, and the first overlap was merged.
+-- Two overlaps, the second one too large: the four splits were made, and the first overlap was merged.
 abbrev two_overlaps : List (DataSegment Color)
 two_overlaps = colored (pos 0) (pos 0) (pos 4) (pos 0) (pos 1) (pos 0) red ∷ colored (pos 2) (pos 0) (pos 6) (pos 0) (pos 0) (pos 1) green ∷ colored (pos 10) (pos 0) (pos 14) (pos 0) (pos 2147483647) (pos 0) red ∷ colored (pos 12) (pos 0) (pos 16) (pos 0) (pos 1) (pos 0) green ∷ []
 

@@ -52,13 +52,13 @@ counts_of_overlap : count_along (seg (pos 0) (pos 0) (pos 100) (pos 0) (pos 1) �
 unfolding computing
 counts_of_overlap = refl
 
--- each pair of the answer is elementary in the join, with the count along it
+-- each pair of the result is elementary in the join, with the count along it
 answer_of_squares : list_all (λ e. is_elementary (join two_squares) e && winding_eq (winding_at twelve e) (count_along two_squares e)) (pairs twelve)
     ≡ true
 unfolding computing
 answer_of_squares = refl
 
--- Ends of segments that cancel are ends of what was given, and not of the join: no segment of the answer ends there.
+-- Ends of segments that cancel are ends of what was given, and not of the join: no segment of the result ends there.
 cancelled : List WholeSegment
 cancelled = seg (pos 0) (pos 0) (pos 10) (pos 0) (pos 1) ∷ seg (pos 0) (pos 0) (pos 5) (pos 0) (pos 1) ∷ seg (pos 0) (pos 0) (pos 5) (pos 0) (neg 1) ∷ []
 

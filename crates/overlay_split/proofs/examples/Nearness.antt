@@ -57,7 +57,7 @@ squares_stay : reach_of_run (high 256) two_squares 1 ≡ 0
 unfolding computing
 squares_stay = refl
 
--- two passes, of which the first is rounded
+-- two passes, the first one rounded
 moved_in_place : reach_of_run (high 256) (seg (pos 0) (pos 0) (pos 5) (pos 5) (pos 1) ∷ seg (pos 0) (pos 3) (pos 5) (neg 2) (pos 1) ∷ []) 2 ≡ 4
 unfolding computing
 moved_in_place = refl

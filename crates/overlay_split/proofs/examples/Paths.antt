@@ -10,7 +10,7 @@ falls_through_column : pieces (seg (pos 0) (pos 10) (pos 2) (pos 0) (pos 1)) ((p
 unfolding computing
 falls_through_column = refl
 
--- a vertical segment; a mark that stands twice counts once
+-- a vertical segment; a mark that is there twice counts once
 rises_along_vertical : pieces (seg (pos 0) (pos 0) (pos 0) (pos 9) (pos 1)) ((point (pos 0) (pos 7)) ∷ (point (pos 0) (pos 2)) ∷ (point (pos 0) (pos 7)) ∷ [])
     ≡ (seg (pos 0) (pos 0) (pos 0) (pos 2) (pos 1) ∷ seg (pos 0) (pos 2) (pos 0) (pos 7) (pos 1) ∷ seg (pos 0) (pos 7) (pos 0) (pos 9) (pos 1) ∷ [])
 unfolding computing

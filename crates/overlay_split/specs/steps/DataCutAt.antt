@@ -12,8 +12,8 @@ use Rattle.overlay_base.specs.declared.segm.segment.Segment.{Segment}
 use Rattle.overlay_intersections.specs.MarkOf.{points_of}
 
 module _ {D S : Type 0} (hooks : Hooks D S) where
-  -- the segment with this index is cut along the points that follow on its first end: its first piece stands in its
-  -- place, the others after all segments
+  -- the segment with this index is cut along the points that follow on its first end: its first piece takes its place,
+  -- the others after all segments
   unfoldable pub data_cut_at : ℕ → List Point → List (DataSegment D) → S → List (DataSegment D) × S
   data_cut_at index points segments store =
       elim (drop index segments) [

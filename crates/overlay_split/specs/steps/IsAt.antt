@@ -1,4 +1,4 @@
--- Where a run stands after that many passes.
+-- Where a run is after that many passes.
 use Rattle.std.specs.Prelude.{◌≡◌, ℕ, ◌<◌, ℤ, Bool, List, IsTrue, IsFalse}
 use Rattle.overlay_base.specs.Segments.{WholeSegment, is_map}
 use Rattle.overlay_base.specs.Planar.{is_splittable}

@@ -71,9 +71,10 @@ struct FewColumns<I> {
 }
 
 impl<I: OverlayInt> PairFinder<I> {
-    /// For a run whose first arrangement is this, which has to be in range: over a grid, where the solver asks for one,
-    /// and not for a list, and these segments are wide enough. Where there is none and the solver leaves the choice,
-    /// columns may serve a pass in place of a tree. Either takes the memory that is lent.
+    /// For a run whose first arrangement is this, which has to be in range: over a grid, where the
+    /// solver takes one, and not for a list, and these segments are wide enough. Where there is
+    /// none and the solver leaves the choice, columns may serve a pass in place of a tree. Either
+    /// takes the memory that is lent.
     ///
     /// Returns `Fault::Memory` where a growth is refused.
     pub fn new<C: WindingCount, D: Copy>(
@@ -189,8 +190,8 @@ fn few_columns<I: OverlayInt>(
     }
 }
 
-/// The grid of a run over these segments, where the solver asks for one, and not for a list, and they are wide enough.
-/// It takes the memory that is lent.
+/// The grid of a run over these segments, where the solver takes one, and not for a list, and they
+/// are wide enough. It takes the memory that is lent.
 fn grid_over<C: WindingCount, I: OverlayInt, D: Copy>(
     alloc: Global,
     solver: &Solver,

@@ -43,15 +43,15 @@ pub fn cut_laws()
     ensures boxes { BoxesAreMeant }
 {}
 
-/// The order of the given segments does not count: the list after any number of passes is the same, and so is what a
-/// run answers. Whether a sum leaves the range on the way is not said here, since sums are made in the order of the
-/// list.
+/// The order of the given segments does not count: the list after any number of passes is the same,
+/// and so is what a run returns. Whether a sum leaves the range on the way is not said here, since
+/// sums are made in the order of the list.
 pub fn order_laws()
     ensures passes { PassesIgnoreOrder }
     ensures run { RunIgnoresOrder }
 {}
 
-/// A run over counts without a mask answers counts without a mask.
+/// A run over counts without a mask returns counts without a mask.
 pub fn polygon_laws()
     ensures { RunKeepsPolygons }
 {}
@@ -65,9 +65,10 @@ pub fn ending_laws()
     ensures one { RunIsOne }
 {}
 
-/// A pass that is not rounded leaves a planar arrangement, and what a run answers is one. Each pass leaves a planar
-/// arrangement as it is and marks nothing, and so does a run. Two segments that a pass does not mark are apart. The marks
-/// of a list are those of a part of it, where every pair that is not in the part is apart.
+/// A pass that is not rounded leaves a planar arrangement, and what a run returns is one. Each pass
+/// leaves a planar arrangement as it is and marks nothing, and so does a run. Two segments that a
+/// pass does not mark are apart. The marks of a list are those of a part of it, where every pair
+/// that is not in the part is apart.
 pub fn planar_laws()
     ensures exact_pass { ExactPassIsPlanar }
     ensures planar_pass { PlanarPassIsUnchanged }
@@ -79,14 +80,15 @@ pub fn planar_laws()
     ensures part { PartHasTheMarks }
 {}
 
-/// No pass reaches outside the box round the ends of the given segments, joined.
+/// No pass reaches outside the box around the ends of the given segments, joined.
 pub fn box_laws()
     ensures { StaysInBox }
 {}
 
-/// Let no two given segments cross at a point that is not whole. Then the result lies on the given segments, and
-/// between two neighbors among the ends and crossings on a given segment it counts what the given segments count there
-/// together. No other pair has a count, which gives the answer without any pass. So the settings do not change it.
+/// Let no two given segments cross at a point that is not whole. Then the result lies on the given
+/// segments, and between two neighbors among the ends and crossings on a given segment it counts
+/// what the given segments count there together. No other pair has a count, which gives the result
+/// without any pass. So the settings do not change it.
 pub fn exact_input_laws()
     ensures counts { ExactInputKeepsCounts }
     ensures answer { ExactInputHasOneAnswer }

@@ -166,9 +166,10 @@ pub fn pass_within<C: WindingCount, I: OverlayInt, D: OverlayEdgeData<C>>(
 
 /// Cuts every segment at the given marks, and joins the pieces.
 ///
-/// The marks have to stand by rising index, each at the index of a segment; those of each segment in strict order of
-/// points, and none at an end of it. The list has to be sorted, without two segments on one pair of ends, in range,
-/// with counts that are valid and not empty. The marks need not be in range. `path` is memory that is written over.
+/// The marks have to be ordered by index, each at the index of a segment; those of each segment in
+/// strict order of points, and none at an end of it. The list has to be sorted, without two
+/// segments on one pair of ends, in range, with counts that are valid and not empty. The marks need
+/// not be in range. `path` is memory that is written over.
 ///
 /// Returns `Fault::CountOutOfRange` only where a running sum of the counts of pieces on one pair leaves
 /// `-i32::MAX..=i32::MAX`, and, memory being found, wherever one does; the store is then what the hooks called before

@@ -19,8 +19,9 @@ use overlay_geometry::num::OverlayInt;
 /// Appends the pieces from a point along the path that follows on it. Before each piece but the last the data is split.
 /// A piece that runs backwards is turned, its count inverted, its data reversed.
 ///
-/// The count has to be valid, and no step of the path may stand still. Returns `Fault::Memory` where a growth is
-/// refused; the list then has some of the pieces, and the store is what the hooks called before left.
+/// The count has to be valid, and no step of the path may have equal ends. Returns `Fault::Memory`
+/// where a growth is refused; the list then has some of the pieces, and the store is what the hooks
+/// called before left.
 pub fn push_pieces<C: WindingCount, I: OverlayInt, D: OverlayEdgeData<C>>(
     list: &mut Vec<Segment<C, I, D>>,
     from: IntPoint<I>,

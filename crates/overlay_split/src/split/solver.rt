@@ -187,8 +187,9 @@ impl<I: OverlayInt> SplitSolver<I> {
     /// passes are made up to one in which every crossing has whole coordinates. Returns whether equal segments were
     /// joined or a segment was split.
     ///
-    /// The list has to be splittable, as `is_splittable` tests. Pass k snaps, with the solver's precision, up to the
-    /// snap limit, and settles after it. The solver's strategy does not change the answer.
+    /// The list has to be splittable, as `is_splittable` tests. Pass k snaps, with the solver's
+    /// precision, up to the snap limit, and settles after it. The solver's strategy does not change
+    /// the result.
     ///
     /// A list that `is_arranged` stays as it is. Where no two given segments cross at a point without whole
     /// coordinates, the counts along them are those given. In every case the result and the given segments lie near one
@@ -449,7 +450,7 @@ impl<I: OverlayInt> SplitSolver<I> {
 impl Progress {
     ghost use Rattle.std.specs.Prelude.{◌≡◌, ◌+◌, ◌-◌, ◌<◌, ◌≤◌, ◌^◌, ◌||◌, ◌&&◌, [], IsTrue, IsFalse, IfOk, IfErr, OnOk, OnErr, length, nat_le, nat_lt};
 
-    /// Where a run stands after one more pass.
+    /// Where a run is after one more pass.
     fn after_pass<C: WindingCount, I: OverlayInt, D: OverlayEdgeData<C>>(
         self,
         list: &mut Vec<Segment<C, I, D>>,

@@ -1,4 +1,5 @@
--- Segments of a kind that their counts decide: those after a run lie near given ones, where neither a sum of others nor another turned round is of the kind.
+-- Segments of a kind that their counts decide: those after a run lie near given ones, where neither a sum of others nor another turned is
+-- of the kind.
 use Rattle.std.proofs.Common.{◌≡◌, ◌⊎◌, inl, inr, refl, subst, ℕ, zero, suc, Bool, true, false, List, [], ◌∷◌}
 use Rattle.std.specs.Prelude.{Contains, filter, IsTrue}
 use Rattle.std.specs.List.{AllByRecursion}

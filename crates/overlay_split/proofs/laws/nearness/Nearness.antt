@@ -85,7 +85,7 @@ join_stays given =
     (AllByRecursion-join (HasNear 0 (pairs given)) given
     (AllByRecursion-from_Has (λ (s : WholeSegment). HasNear 0 (pairs given) s.pair) given (λ s i. (s.pair, Contains-from_Has (pairs given) s.pair (Has-map (λ (t : WholeSegment). t.pair) given s i), LiesNear-itself s.pair))))
 
--- what stands after k passes lies near what is given
+-- what is left after k passes lies near what is given
 pub run_lies_near : (settings : Settings) (given : List WholeSegment) (k : ℕ) → IsTrue (are_ordered given) → LieNear (reach_of_run settings given k) (pairs given) (pairs (after_passes settings given k))
 unfolding after_passes reach_of_run
 run_lies_near settings given zero ordered = join_stays given

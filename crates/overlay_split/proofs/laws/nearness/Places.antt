@@ -70,7 +70,7 @@ pub join_keeps_winding : JoinKeepsWinding
 unfolding winding_below
 join_keeps_winding bag p = total_weight-filter_join (λ s. lies_below s p) bag
 
--- ---- sums of which each term is known
+-- ---- sums with each term known
 
 gathered-each : {X M : Type 0} (op : M → M → M) (unit : M) (f g : X → M) (xs : List X) → AllByRecursion (λ x. f x ≡ g x) xs → gathered op unit f xs ≡ gathered op unit g xs
 gathered-each op unit f g [] h = refl

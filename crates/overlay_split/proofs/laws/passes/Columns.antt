@@ -127,7 +127,7 @@ unfolding next_point
 next_point-columns [] b = ap (λ c. next_point c b) columns-nil
 next_point-columns (p ∷ points) b = ap (λ c. next_point c b) (columns-first p points)
 
--- how far a path is collected: done is what stands there, rest the marks that are left
+-- how far a path is collected: done is what is there, rest the marks that are left
 unfoldable pub IsCollected : (a b : Point) (all done rest : List Point) → Type 0
 IsCollected a b all done rest = path_from a (columns_in_order all) b ≡ done ++ path_from (last_point a done) (columns_in_order rest) b
 

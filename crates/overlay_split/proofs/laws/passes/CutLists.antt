@@ -40,7 +40,7 @@ path_from_some p (column ∷ columns) b =
     let rest = path_from_some (last_point p points) columns b in
     omega (arith, rest, length-append points (path_from (last_point p points) columns b))
 
--- what stands after two parts, and after the second
+-- what follows two parts, and the second
 regroup : {X : Type 0} (ws bs cs ds : List X) → ws ++ (bs ++ cs) ++ ds ≡ ws ++ bs ++ (cs ++ ds)
 regroup ws bs cs ds = ap (λ l. l ++ ds) (sym (append_assoc ws bs cs)) ∙ append_assoc (ws ++ bs) cs ds
 

@@ -43,11 +43,11 @@ path_length p (column ∷ columns) b =
     let points = column_path p column (next_point columns b) in
     omega (arith, length-append points (path_from (last_point p points) columns b), column_path_length p column (next_point columns b), path_length (last_point p points) columns b, length-append column (all_of columns))
 
--- a path through marks that stand in order and are no ends
+-- a path through marks that are in order and are no ends
 pub IsPathOf-path_from : (pair : Pair) (marks : List Point) → Differ pair.a pair.b → AllByRecursion (λ m. Differ m pair.a × Differ m pair.b) marks → IsPathOf pair (path_from pair.a (columns_of marks) pair.b)
 IsPathOf-path_from pair marks ends free = (LeadsOn-from_Steps pair.a _ (steps_of_path pair marks ends free), last_point-path_from (columns_of marks) pair.a pair.a pair.b)
 
--- marks that stand in order, each once
+-- marks that are in order, each once
 module _ (pair : Pair) (marks points : List Point) (sorted : distinct_in_order point_cmp marks ≡ marks) (is : marks ≡ points) where
   pub path_as_collected : path_from pair.a (columns_in_order points) pair.b ≡ path_from pair.a (columns_of marks) pair.b
   unfolding columns_of
@@ -67,7 +67,7 @@ read_place (y ∷ xs) (suc k) x rest e = let r = read_place xs k x rest e in (om
 -- ---- the walk
 
 module _ {D S : Type 0} (hooks : Hooks D S) (marks : Pair → List Point) (given : List (DataSegment D)) (from : S) where
-  -- where the walk stands: so many segments are cut, and the marks that are left are those of the others
+  -- where the walk is: so many segments are cut, and the marks that are left are those of the others
   pub record IsCutSoFar (rest : List Mark) (now : List (DataSegment D)) (left : S) : Type 0 where
     pub done : ℕ
     pub cut : IsCutTo hooks marks given from now left done
@@ -125,7 +125,7 @@ module _ {D S : Type 0} (hooks : Hooks D S) (marks : Pair → List Point) (given
 
 -- ---- one step of the walk, where the list and the marks are of any kind
 
--- what a pass asks of a segment that it cuts
+-- what a pass requires of a segment that it cuts
 abbrev pub IsUsable : {D : Type 0} → DataSegment D → Type 0
 IsUsable s = IsTrue (is_ordered s.pair) × IsTrue (is_valid s.count)
 
@@ -206,7 +206,7 @@ module _ {D : Type 0} (marks : Pair → List Point) (segments : List WholeSegmen
   lengths : length segments ≡ length given
   lengths = ap length same ∙ length-map given (λ s. record { pair = s.pair; count = s.count })
 
-  -- the marks of an index are those on the pair that stands there
+  -- the marks of an index are those on the pair that is there
   pub marks_at_place : (j : ℕ) (s : DataSegment D) (tail : List (DataSegment D)) → drop j given ≡ s ∷ tail → points_at j all ≡ marks s.pair
   marks_at_place j s tail e =
       let r = read_place given j s tail e in

@@ -114,7 +114,7 @@ is_nil (x ∷ xs) h = let e : length (x ∷ xs) ≡ 0 = eqb-true (length (x ∷ 
 apart : (s t : Pair) → is_lt (pair_cmp s t) ≡ true → (pair_eq s t ≡ false) × (is_lt (pair_cmp t s) ≡ false)
 apart s t h = (pair_eq-less s t (is_lt-true (pair_cmp s t) h), pair_lt_back s t h)
 
--- whether each pair stands before the next
+-- whether each pair comes before the next
 abbrev pub pairs_rise : {D : Type 0} → List (DataSegment D) → Bool
 pairs_rise segments = is_strictly_sorted pair_cmp (pairs (without_data segments))
 

@@ -1,4 +1,4 @@
--- Marks by rising index: those of one segment stand together.
+-- Marks by rising index: those of one segment are together.
 use Rattle.std.proofs.Common.{inl, inr, ◌≡◌, refl, sym, ap, ◌∙◌, ℕ, zero, suc, ◌<◌, ◌≤◌, ◌==◌, arith, true, false, cond, List, [], ◌∷◌, map, filter, take, drop, length, IsSortedByKey, Greater, is_gt, slice_index_or}
 use Rattle.std.specs.Prelude.{⊤, ◌≢◌}
 use Rattle.std.specs.Ordering.{nat_cmp}

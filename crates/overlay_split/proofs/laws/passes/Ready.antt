@@ -1,4 +1,4 @@
--- What a pass asks of its list, as its parts ask for it.
+-- What a pass requires of its list, as its parts require it.
 use Rattle.std.proofs.Common.{◌≡◌, ◌==◌, not, refl, sym, ap, subst, drop, sum_by, slice_index_or, ◌∙◌, ℕ, zero, suc, ◌<◌, ◌≤◌, arith, Bool, true, ◌&&◌, List, [], ◌∷◌, map, length, IsSortedByKey, All, Ordering, is_lt}
 use Rattle.std.specs.Prelude.{ℤ, IsTrue, nat_lt}
 use native.Mathlib.Numerals.{unary_clauses}
@@ -133,7 +133,7 @@ module _ (placing : Placing) (segments : List WholeSegment) (all : List Mark) (a
           let one : 0 < length (marks_on placing segments at.0.pair) = omega (arith, ap length (sym here), ap (λ l. length (points_at m.index l)) (sym h), ap length (points_at-own m.index m ms refl)) in
           omega (arith, one, in_pairs, sum_some (λ (s : WholeSegment). length (marks_on placing segments s.pair)) segments m.index at.0 (drop (suc m.index) segments) at.1)
 
-  -- a list of marks that is not empty tells it
+  -- a list of marks that is not empty shows it
   pub marks_tell : (n : ℕ) → length all ≡ n → (is_empty : Bool) → is_empty ≡ (n == 0) → not is_empty ≡ nat_lt 0 (mark_count placing segments)
   marks_tell zero e b is = ap not is ∙ sym (ap (nat_lt 0) (none_counted e))
   marks_tell (suc n) e b is = ap not (is ∙ ne_eqb (suc n) 0 (λ h. omega (arith, h))) ∙ sym (lt-ltb 0 (mark_count placing segments) (some_counted (omega (arith, e))))

@@ -1,4 +1,4 @@
--- Where a run stands after so many passes, from one pass to the next, and what holds where it ends or is refused.
+-- Where a run is after so many passes, from one pass to the next, and what holds where it ends or is refused.
 use Rattle.std.proofs.Common.{◌≡◌, refl, sym, ap, ap₂, subst, ◌∙◌, ⊎_elim, arith, ℕ, zero, suc, ◌+◌, ◌*◌, ◌-◌, ◌^◌, ◌<◌, ◌≤◌, min, List, [], ◌∷◌, length, Bool, true, false, ◌&&◌, ◌||◌, IsTrue, IsFalse}
 use Rattle.std.specs.Prelude.{ℤ, ◌≤ℤ◌, ◌-ℤ◌, unsigned_abs, nat_le, nat_lt}
 use Rattle.std.specs.Int.{from_bool}
@@ -42,7 +42,7 @@ use Rattle.overlay_split.proofs.laws.planar.Arranged.{arranged_is_unchanged}
 use Rattle.overlay_split.proofs.laws.passes.DataPasses.{data_after_passes-arranged}
 use Rattle.overlay_split.proofs.laws.passes.Splittable.{is_splittable-join, is_splittable-pass, settling_never_raises}
 
--- ---- where a run stands
+-- ---- where a run is
 
 module _ (settings : Settings) (given : List WholeSegment) where
   -- the passes so far, and the next one
@@ -60,7 +60,7 @@ module _ (settings : Settings) (given : List WholeSegment) where
       let e : j + (k - j) ≡ k = omega (arith, h) in
       both_ways (leaves_range_within settings given k) fits (subst (λ (i : ℕ). IsTrue (leaves_range_within settings given i)) e (leaves_later j (k - j) leaves)))
 
--- a run of which the join of the given segments is refused
+-- a run whose join of the given segments is refused
 pub stopped_at_start : {D S : Type 0} (hooks : Hooks D S) (settings : Settings) (data_given : List (DataSegment D)) (from left : S) → IsRefusedJoin hooks data_given from left → IsStoppedRun hooks settings data_given from left
 unfolding data_joined_in
 stopped_at_start hooks settings data_given from left stopped = record { in_pass = 0; made = λ j h. absurd (omega arith); fits = λ j h. absurd (omega arith); stopped = stopped }

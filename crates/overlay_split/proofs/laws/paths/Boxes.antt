@@ -1,4 +1,4 @@
--- No pass reaches outside the box round the ends of the join.
+-- No pass reaches outside the box around the ends of the join.
 use Rattle.std.proofs.Common.{◌≡◌, ◌⊎◌, inl, inr, ⊎_elim, sym, subst, arith, ℕ, zero, suc, List, [], ◌∷◌, Bool, true}
 use Rattle.std.specs.Prelude.{ℤ, ◌≤ℤ◌, ◌<ℤ◌, IsTrue, not, int_le, nat_lt, nat_le}
 use Rattle.std.specs.List.{list_any, AllByRecursion}
@@ -104,7 +104,7 @@ module _ (P : Point → Type 0) where
       pass_by_has (marks_on placing segments) segments all
       (AllByRecursion-weaker (λ s. AtEnds P s.pair) (λ s. AllByRecursion P (marks_on placing segments s.pair)) (λ s h. marks_on_have boxes placing segments s.pair all h) segments all)
 
--- ---- the box round points
+-- ---- the box around points
 
 le_through : (u v w : ℤ) → int_le u v ≡ true → v ≤ℤ w → int_le u w ≡ true
 le_through u v w h k = grind (arith, ints)

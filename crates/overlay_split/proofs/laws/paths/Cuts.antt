@@ -1,4 +1,4 @@
--- What holds of pieces and sums over a cut, in which first pieces and later ones stand apart, and over a join.
+-- What holds of pieces and sums over a cut, in which first pieces and later ones are apart, and over a join.
 use Rattle.std.proofs.Common.{◌≡◌, refl, sym, ap, ap₂, subst, ◌∙◌, List, [], ◌∷◌, ◌++◌, take, drop}
 use Rattle.std.specs.Prelude.{flat_map}
 use Rattle.std.specs.List.{AllByRecursion}

@@ -25,7 +25,7 @@ unfolding IsStrictlySortedBy
 Pairwise-from_sorted [] h = tt
 Pairwise-from_sorted (p ∷ points) h = (AllByRecursion-weaker (λ q. point_cmp p q ≡ Less) (Before p) (λ q e. before p q (ap is_lt e)) points h.0, Pairwise-from_sorted points h.1)
 
--- the distinct points of a list stand in order
+-- the distinct points of a list are in order
 pub Pairwise-distinct_in_order : (points : List Point) → Pairwise Before (distinct_in_order point_cmp points)
 Pairwise-distinct_in_order points = Pairwise-from_sorted _ (IsStrictlySortedBy-distinct point_cmp_total points)
 
@@ -140,7 +140,7 @@ steps_differ (column ∷ columns) p b h k =
 Differ-from_Before : (p q : Point) → Before p q → Differ p q
 Differ-from_Before p q h e = Before-irreflexive q (subst (λ (z : Point). Before z q) e h)
 
--- no step of the path of a pair stands still, where no mark is an end
+-- no step of the path of a pair has equal ends, where no mark is an end
 pub steps_of_path : (pair : Pair) (marks : List Point) → Differ pair.a pair.b → AllByRecursion (λ m. Differ m pair.a × Differ m pair.b) marks → Steps Differ pair.a (path_from pair.a (columns_of marks) pair.b)
 steps_of_path pair marks ends free =
     let points = distinct_in_order point_cmp marks in

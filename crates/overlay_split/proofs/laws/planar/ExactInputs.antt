@@ -222,7 +222,7 @@ unfolding is_elementary
 elementary_clear given e h v i =
     list_any-at (λ p. is_strictly_inside e p) (special_points (pairs given)) v (not-true (list_any (λ p. is_strictly_inside e p) (special_points (pairs given))) (and_parts _ _ h).1) i
 
--- a point of its line that does not lie strictly inside it stands before it or after it
+-- a point of its line that does not lie strictly inside it comes before it or after it
 beside : (e : Pair) (v : Point) → Before e.a e.b → turn e.a e.b v ≡ pos 0 → IsFalse (is_strictly_inside e v) → UpTo v e.a ⊎ UpTo e.b v
 beside e v o on h =
     by_order v e.a (λ less. inl (UpTo-Before v e.a less)) (λ same. inl (subst (UpTo v) same (UpTo-same v))) (λ after.

@@ -37,7 +37,7 @@ vertical s p q (inl h) hp hq e less =
     let rise = no_rise (s.b.x -ℤ s.a.x) (s.b.y -ℤ s.a.y) (q.y -ℤ p.y) (q.x -ℤ p.x) (turn s.a s.b p) (turn s.a s.b q) (turn_moved_along s.a s.b p q) hp hq (omega (arith, ints)) (omega (arith, ints)) in
     absurd (omega (arith, ints))
 
--- on a vertical line what stands before is lower
+-- on a vertical line what comes before is lower
 not_lower : (p q : Point) → p.x ≡ q.x → Before p q → int_lt q.y p.y ≡ false
 not_lower p q e h = grind (arith, ints)
 

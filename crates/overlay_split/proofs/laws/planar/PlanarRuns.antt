@@ -43,7 +43,7 @@ pass_count_once settings given j k m n =
     (λ apart. absurd (⊎_elim (λ less. both_ways (goes_on settings given j) m.no_more (n.made j less)) (λ more. both_ways (goes_on settings given k) n.no_more (m.made k more)) apart))
     (cases_order j k)
 
--- so the result and the flag are told by what is given
+-- so the result and the flag are determined by what is given
 pub run_is_one : RunIsOne
 run_is_one settings given first second j k b c m n =
     let same = pass_count_once settings given j k m.count n.count in

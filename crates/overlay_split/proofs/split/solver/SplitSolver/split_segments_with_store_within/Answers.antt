@@ -28,7 +28,7 @@ use Rattle.overlay_split.proofs.laws.passes.RunLooks.{AreRunLooks-none}
 use Rattle.overlay_base.specs.EdgeData.IsMadeFrom.{no_call}
 use Rattle.overlay_split.proofs.split.solver.SplitSolver.split_segments_with_store_within.Goals as goal
 
--- what follows of the answer, if there is one
+-- what follows of the result, if there is one
 on_ok_if : {A F Q : Type 0} {P : A → Type 0} (r : Result A F) → ((a : A) → P a → Q) → IfOk r P → OnOk r Q
 on_ok_if (Ok a) f h = f a h
 on_ok_if (Err e) f h = tt
@@ -39,21 +39,21 @@ leaves_range : {T C I D S : Type 0} {m : _} {w : _} {o : _} {e : _} {p : _} (r :
 leaves_range (Ok x) hooks settings xs from left h = tt
 leaves_range (Err f) hooks settings xs from left h = λ i. subst (λ (l : List WholeSegment). LeavesRange settings l) (sym (segments_of-bare xs)) (stopped_run_leaves_range hooks settings (data_segments_of xs) from left (h i))
 
--- what follows of the answer and of what else holds where there is one
+-- what follows of the result and of what else holds where there is one
 on_ok_both : {A F Q R : Type 0} {P : A → Type 0} (r : Result A F) → ((a : A) → P a → R → Q) → IfOk r P → OnOk r R → OnOk r Q
 on_ok_both (Ok a) f h k = f a h k
 on_ok_both (Err e) f h k = tt
 
 -- ---- an empty list
 
--- a list that is told to be empty
+-- a list that is said to be empty
 none_given : (n len : ℕ) (told : Bool) → len ≡ n → told ≡ (len == 0) → told ≡ true → n ≡ 0
 none_given n len told same is empty = sym same ∙ eqb-true len 0 (sym is ∙ empty)
 
 none_at_most : (n k : ℕ) {limit : ℕ} → n ≡ k → k ≡ 0 → n ≤ limit
 none_at_most n k e f = omega arith
 
--- a run over no segments stands at its start, and has ended
+-- a run over no segments is at its start, and has ended
 module _ {C I D S : Type 0} {m : _} {w : _} {o : _} {e : _} {p : _} (hooks : Hooks D S) (settings : Settings) (least greatest : ℤ) (xs : List (Segment C I D m w o e p)) (from : S) (none : length xs ≡ 0) where
   at_empty : IsAt hooks settings least greatest (segments_of xs) (segments_of xs) (data_segments_of xs) (data_segments_of xs) from from 0 false false
   at_empty = at_rest hooks settings least greatest (segments_of xs) (data_segments_of xs) from (segments_none xs none).0 (segments_none xs none).1
