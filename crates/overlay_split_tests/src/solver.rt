@@ -465,7 +465,7 @@ fn split_list<I: OverlayInt>(
     splitter.split_segments(list, solver)
 }
 
-/// What a split answers, the number of passes, and the list after it.
+/// What a split returns, the number of passes, and the list after it.
 type Told = (Result<bool, Fault>, u128, Vec<Row>);
 
 /// Splits with a new splitter. What is left is arranged, also after a refusal, where it is empty.
@@ -588,8 +588,8 @@ fn segments_on_one_pair(rt: HostRuntime) {
     }
 }
 
-/// Data of a user: a color by its number, of which a merge keeps equal ones and else returns that there is none; and a
-/// store that counts the calls of each hook and keeps the last merge.
+/// Data of a user: a color by its number; a merge keeps equal ones and else returns that there is
+/// none; and a store that counts the calls of each hook and keeps the last merge.
 #[derive(Clone, Copy, Debug, PartialEq, Eq)]
 struct Colors(u8);
 

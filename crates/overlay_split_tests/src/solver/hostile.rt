@@ -29,7 +29,7 @@ fn star(rt: &(impl Abort + AllocGlobal)) -> Vec<Row> {
     rows
 }
 
-/// A point of the square from (-2, -2) to (2, 2) by its number, of which there are 25.
+/// One of the 25 points of the square from (-2, -2) to (2, 2), by its number.
 fn square_point(number: u16) -> (i64, i64) {
     (i64::from(number / 5) - 2, i64::from(number % 5) - 2)
 }
@@ -73,7 +73,7 @@ fn is_kept_at_ends(ends: &[Row], before: &[Row], after: &[Row]) -> bool {
     true
 }
 
-/// Splits under every strategy in one engine, and wants one answer that keeps each point's balance.
+/// Splits under every strategy in one engine, and wants one result that keeps each point's balance.
 fn agreed<I: OverlayInt>(
     rt: &(impl Abort + AllocGlobal),
     given: &[Row],

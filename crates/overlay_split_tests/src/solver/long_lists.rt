@@ -1,5 +1,5 @@
-// Long lists and many live segments: under `Tree` and `Auto` a tree or a grid takes the place of the list of all pairs,
-// and every answer stays.
+// Long lists and many live segments: under `Tree` and `Auto` a tree or a grid takes the place of
+// the list of all pairs, and every result stays.
 use super::*;
 
 /// Adds the segment of the subject between two ends.
@@ -89,7 +89,7 @@ fn split(rt: &(impl Abort + AllocGlobal), strategy: Strategy, given: &[Row]) -> 
     (rows(rt, &list), told)
 }
 
-/// What every strategy answers.
+/// What every strategy returns.
 #[derive(Drop)]
 struct Alike {
     rows: Vec<Row>,
@@ -101,7 +101,7 @@ struct Alike {
     looked: [u128; 3],
 }
 
-/// Splits under a strategy, wants the answer of the list, and returns how many pairs were compared.
+/// Splits under a strategy, wants the result of the list, and returns how many pairs were compared.
 fn looked_at(
     rt: &(impl Abort + AllocGlobal),
     strategy: Strategy,
@@ -115,7 +115,7 @@ fn looked_at(
     looked
 }
 
-/// Splits under every strategy, and wants the answer of the list.
+/// Splits under every strategy, and wants the result of the list.
 fn split_alike(rt: &(impl Abort + AllocGlobal), given: &[Row]) -> Alike {
     let (rows, (flag, passes, listed)) = split(rt, Strategy::List, given);
     let told = (flag, passes);
@@ -170,15 +170,17 @@ fn the_list_gives_way_to_the_tree(rt: HostRuntime) {
     assert!(rt; split.rows.ends_with(&SPLIT_NEAR));
 }
 
-/// More than 16,000 segments have a grid. These have five fragments each, so a tree is asked first, and does.
+/// More than 16,000 segments have a grid. These have five fragments each, so a tree is tried first,
+/// and serves.
 #[test]
 fn crossed_lines_of_many_fragments(rt: HostRuntime) {
     let split = split_alike(&rt, &crossed_lines(&rt, 16_000));
     check_alike(&rt, &split, 48_001, (true, 1));
 }
 
-/// The same, half as long: three fragments each, so no tree is asked before the grid. In the column of the vertical the
-/// grid compares it with each line once, and in no column two lines with one another, as the tree does.
+/// The same, half as long: three fragments each, so no tree is tried before the grid. In the column
+/// of the vertical the grid compares it with each line once, and in no column two lines with one
+/// another, as the tree does.
 #[test]
 fn crossed_lines_of_few_fragments(rt: HostRuntime) {
     let mut given = lines_to(&rt, 16_000, 5);
@@ -208,8 +210,9 @@ fn lines_above_one_another(rt: HostRuntime) {
     assert!(rt; grid <= 20_000);
 }
 
-/// In each of 3 columns a line has a fragment, so no tree is asked before the grid, and this compares none. The tree
-/// compares the first ones with one another. Under `Auto` columns serve in its place.
+/// In each of 3 columns a line has a fragment, so no tree is tried before the grid, and this
+/// compares none. The tree compares the first ones with one another. Under `Auto` columns serve in
+/// its place.
 #[test]
 fn short_lines_above_one_another(rt: HostRuntime) {
     let split = split_unchanged(&rt, &lines_to(&rt, 4000, 5));
@@ -224,8 +227,9 @@ fn segments_beside_one_another(rt: HostRuntime) {
     assert!(rt; tree <= 4000 && auto <= 4000);
 }
 
-/// 48 rows of 34 fans: 16,320 segments, 45 pairs of each fan meet, and columns are 64 wide. Each segment has two
-/// fragments, so no tree is asked before the grid, which compares each of these pairs in two columns.
+/// 48 rows of 34 fans: 16,320 segments, 45 pairs of each fan meet, and columns are 64 wide. Each
+/// segment has two fragments, so no tree is tried before the grid, which compares each of these
+/// pairs in two columns.
 #[test]
 fn fans_in_columns(rt: HostRuntime) {
     let split = split_alike(&rt, &fans(&rt, 48));
@@ -236,7 +240,7 @@ fn fans_in_columns(rt: HostRuntime) {
     }
 }
 
-/// Sixty segments are live at once, more than are compared one by one: so they stand in the tree.
+/// Sixty segments are live at once, more than are compared one by one: so they are in the tree.
 #[test]
 fn many_long_lines_at_once(rt: HostRuntime) {
     let split = split_alike(&rt, &long_lines(&rt));

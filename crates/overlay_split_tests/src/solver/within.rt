@@ -12,7 +12,7 @@ static CHAIN: [Row; 6] = [
     ((-820272774, 900600852), (929775894, 738301379), 1),
 ];
 
-/// What a split within a limit answers, the number of passes, and the list after it.
+/// What a split within a limit returns, the number of passes, and the list after it.
 type ToldWithin = (Result<bool, SplitFault>, u128, Vec<Row>);
 
 /// Splits with a splitter. What is left is arranged, also after a refusal.
@@ -39,7 +39,7 @@ fn check_beyond(rt: &impl Abort, told: &ToldWithin, passes: u128) {
     );
 }
 
-/// Wants of a split within a limit what one without a limit answers.
+/// Wants of a split within a limit what one without a limit returns.
 fn check_same<I: OverlayInt>(
     rt: &(impl Abort + AllocGlobal),
     splitter: &mut SplitSolver<I>,
@@ -94,7 +94,7 @@ fn limits_that_do(rt: HostRuntime) {
     }
 }
 
-/// An overlap makes four pieces, of which two are joined. Beyond the limit no hook is called.
+/// An overlap makes four pieces, and two are joined. Beyond the limit no hook is called.
 #[test]
 fn store_before_a_pass_beyond_the_limit(rt: HostRuntime) {
     let solver = high(Strategy::List);
