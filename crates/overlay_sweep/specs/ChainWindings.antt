@@ -1,4 +1,4 @@
--- Windings by chains of supports: below a segment stands one other, below that one more, and so on. This needs no balance.
+-- Windings by chains of supports: below a segment lies one other, below that one more, and so on. This needs no balance.
 use Rattle.std.specs.Prelude.{◌≡◌, All, ℕ, zero, suc, ℤ, pos, int_le, int_lt, Bool, ◌&&◌, not, List, filter, length, Option}
 use Rattle.std.specs.Ordering.{is_lt, ordering_then}
 use Rattle.std.specs.List.{list_any}
@@ -25,7 +25,7 @@ directly_below segments p =
     greatest (λ t u. ordering_then (height_cmp p.x t.pair u.pair) (angle_cmp t.pair u.pair))
     (filter (λ t. is_live p.x t.pair && int_lt (pos 0) (turn t.pair.a t.pair.b p)) segments)
 
--- the segment on which s stands, if it stands on any
+-- the support of s, if it has one
 unfoldable pub support : List WholeSegment → WholeSegment → Option WholeSegment
 support segments s = option_or (neighbor_at_start segments s) (directly_below segments s.pair.a)
 

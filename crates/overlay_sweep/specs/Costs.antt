@@ -1,8 +1,9 @@
--- What a sweep asks of its live segments.
+-- What a sweep compares among its live segments.
 use Rattle.std.specs.Prelude.{ℕ, suc, Bool, MatchBool, ◌+◌, ◌*◌, ◌/◌, ◌^◌, ◌≤◌, List, length}
 use Rattle.overlay_base.specs.Segments.{WholeSegment}
 
--- A search by halves among n entries asks the least d for which 2 * n is no more than 2 ^ d: none among none, and else one more than the logarithm of n to base 2, rounded up.
+-- A search by halves among n entries compares the least d for which 2 * n is no more than 2 ^ d: none among none, and else one more than
+-- the logarithm of n to base 2, rounded up.
 abbrev pub IsSearchAmong : ℕ → ℕ → Type 0
 IsSearchAmong n d = (2 * n ≤ 2 ^ d) × ((e : ℕ) → 2 * n ≤ 2 ^ e → d ≤ e)
 
@@ -10,17 +11,19 @@ IsSearchAmong n d = (2 * n ≤ 2 ^ d) × ((e : ℕ) → 2 * n ≤ 2 ^ e → d �
 abbrev pub IsHighest : ℕ → ℕ → Type 0
 IsHighest n d = (h : ℕ) → 2 ^ (h / 2) ≤ n + 1 → h ≤ d
 
--- A sweep over n segments asks at most three searches of d orders for each of them. Over one row this holds of each d for which 2 * n is no more than 2 ^ d, and else of each d that no balanced tree of n entries is higher than.
+-- A sweep over n segments takes at most three searches of d orders for each of them. Over one row this holds of each d for which 2 * n is
+-- no more than 2 ^ d, and else of each d that no balanced tree of n entries is higher than.
 abbrev pub IsSweepWithin : Bool → ℕ → ℕ → Type 0
 IsSweepWithin is_row n asked = (d : ℕ) → MatchBool is_row (2 * n ≤ 2 ^ d) (IsHighest n d) → asked ≤ 3 * n * d
 
--- A search for which a collection dropped entries asks at most d orders, and d more for each of these: it was of so many entries, and so many are left. An insert adds one entry.
+-- A search for which a collection dropped entries compares at most d orders, and d more for each of these: it was of so many entries, and
+-- so many are left. An insert adds one entry.
 abbrev pub IsSearchCost : (ℕ → ℕ → Type 0) → ℕ → ℕ → ℕ → Type 0
 IsSearchCost IsMost was left asked = (n d : ℕ) → was ≤ n → IsMost n d → asked + left * d ≤ suc was * d
 
 abbrev pub IsInsertCost : (ℕ → ℕ → Type 0) → ℕ → ℕ → ℕ → Type 0
 IsInsertCost IsMost was left asked = (n d : ℕ) → was ≤ n → IsMost n d → asked + left * d ≤ suc (suc was) * d
 
--- what a whole sweep over an arrangement asks: at most that many orders
+-- what a whole sweep over an arrangement compares: at most that many orders
 abbrev pub IsSweepCost : Bool → List WholeSegment → ℕ → Type 0
 IsSweepCost is_row segments asked = IsSweepWithin is_row (length segments) asked

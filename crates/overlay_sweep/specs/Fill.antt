@@ -5,7 +5,7 @@ use Rattle.overlay_base.specs.Windings.{Winding, add, weight}
 use Rattle.overlay_base.specs.declared.overlay_core.fill_rule.FillRule.{FillRule}
 use Rattle.overlay_base.specs.declared.overlay_core.fill_rule.FillRule.TheVariants.{EvenOdd, NonZero, Positive, Negative}
 
--- whether a place round which the contours wind n times is inside
+-- whether a place around which the contours wind n times is inside
 abbrev pub is_inside : FillRule → ℤ → Bool
 is_inside EvenOdd n = unsigned_abs n % 2 == 1
 is_inside NonZero n = not (int_eq n (pos 0))

@@ -17,6 +17,6 @@ pub record AreFreeAt (x : ℤ) (sums : List WholeSegment) : Type 0 where
   pub apart : (s t : WholeSegment) → Contains sums s → Contains sums t → IsTrue (is_live x s.pair) → IsTrue (is_live x t.pair) → IsTrue (are_apart s.pair t.pair)
   pub one_sum : (s t : WholeSegment) → Contains sums s → Contains sums t → IsTrue (is_live x s.pair) → IsTrue (is_live x t.pair) → s.pair ≡ t.pair → s ≡ t
 
--- The sums kept during a sweep stand as the counts of their segments: what is stored with the live one directly below p, or the default.
+-- The sums kept during a sweep are the counts of their segments: what is stored with the live one directly below p, or the default.
 unfoldable pub sum_below : List WholeSegment → Point → Winding → Winding
 sum_below live p default = option_map_or (λ s. s.count) (directly_below live p) default

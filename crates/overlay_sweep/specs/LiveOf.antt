@@ -67,7 +67,7 @@ tree_held tree = tree.kept
 abbrev pub IsSoundAt : {C I : Type 0} {m : _} {w : _} {o : _} {e : _} {p : _} → ℤ → ScanTree C I m w o e p → Type 0
 IsSoundAt x tree = IsScanTree x (tree_sums tree) tree.shape.nodes.items tree.root tree.kept
 
--- how many orders the last call has asked, and the last run that succeeded
+-- how many orders the last call has compared, and the last run that succeeded
 abbrev pub list_asked : {C I : Type 0} {m : _} {w : _} {o : _} {e : _} {p : _} → ScanList C I m w o e p → ℕ
 list_asked list = list.compared
 

@@ -1,4 +1,4 @@
--- Where a place lies among entries from below of which some have ended.
+-- Where a place lies among entries from below, where some have ended.
 use Rattle.std.specs.Prelude.{◌≡◌, ℕ, Bool, true, false, ◌-◌, ◌<◌, ◌≤◌, ◌⊎◌}
 
 -- the next entry from an index on that has not ended, if there is one, does not come before the place

@@ -111,6 +111,6 @@ pub record IsGrown (x : ℤ) (segments : List WholeSegment) (before : ℕ → Bo
   pub last_is : ((earlier ≡ []) × (last ≡ none)) ⊎ HasLast (lasts_past x segments) before earlier last
   pub first_is : (later ≡ []) ⊎ HasFirst (lasts_past x segments) before later
 
--- At most (removed + 1) * d orders were asked, where d is the greatest height of a balanced tree of as many entries as there were.
+-- At most (removed + 1) * d orders were compared, where d is the greatest height of a balanced tree of as many entries as there were.
 abbrev pub IsAskedWithin : ℕ → ℕ → ℕ → Type 0
 IsAskedWithin was removed asked = (d : ℕ) → IsHighest was d → asked ≤ suc removed * d

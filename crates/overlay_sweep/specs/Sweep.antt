@@ -32,7 +32,7 @@ visits rule segments =
     (map (λ e. record { index = e.0; segment = e.1; fill = fill_of rule (without_data segments) (whole_of e.1) }) (enumerate_from 0 segments))
 
 module _ {D H O : Type 0} (handle : H → Visit D → H × Option O) (finalize : H → O) where
-  -- what a handler returns: its first answer, or what it makes of the end
+  -- what a handler returns: its first result, or what it makes of the end
   unfoldable pub handled : H → List (Visit D) → O
   handled handler [] = finalize handler
   handled handler (v ∷ vs) =

@@ -1,4 +1,4 @@
--- What a sweep over a list of code gives its handler, returns and asks.
+-- What a sweep over a list of code gives its handler, returns and compares.
 use Rattle.std.specs.Prelude.{◌≡◌, ◌≢◌, ℕ, ◌*◌, ◌<◌, ◌≤◌, Bool, List, Option, length, slice_index_or}
 use Rattle.overlay_geometry.specs.Points.{Point, Pair}
 use Rattle.overlay_base.specs.Choices.{in_one_row}
@@ -9,9 +9,9 @@ use Rattle.overlay_base.specs.declared.segm.segment.Segment.{Segment}
 use Rattle.overlay_sweep.specs.Costs.{IsSweepWithin, IsSweepCost}
 use Rattle.overlay_sweep.specs.Sweep.{Visit, visits, handled, visited, visits_leave_range}
 
--- ---- answers
+-- ---- results
 
--- The answer is what a handler makes of the visits of a list under a fill rule.
+-- The result is what a handler makes of the visits of a list under a fill rule.
 abbrev pub IsSweepAnswer : {C I D H O : Type 0} {m : _} {w : _} {o : _} {e : _} {p : _} → (H → Visit D → H × Option O) → (H → O) → H → FillRule → List (Segment C I D m w o e p) → O → Type 0
 IsSweepAnswer handle finalize handler rule list answer = answer ≡ handled handle finalize handler (visits rule (data_segments_of list))
 
@@ -21,7 +21,7 @@ sweep_leaves_range handle handler rule list = visits_leave_range (segments_of li
 
 -- ---- costs
 
--- So many orders are no more than a sweep over the list asks as a solver has it done: over one row, or over rows of a few.
+-- So many orders are no more than a sweep over the list compares as a solver has it done: over one row, or over rows of a few.
 abbrev pub IsSweepBound : {C I D : Type 0} {m : _} {w : _} {o : _} {e : _} {p : _} → Solver → List (Segment C I D m w o e p) → ℕ → Type 0
 IsSweepBound solver list asked = IsSweepWithin (in_one_row solver.strategy) (length list) asked
 
@@ -29,7 +29,7 @@ IsSweepBound solver list asked = IsSweepWithin (in_one_row solver.strategy) (len
 abbrev pub IsCostOf : {C I D : Type 0} {m : _} {w : _} {o : _} {e : _} {p : _} → Solver → List (Segment C I D m w o e p) → ℕ → Type 0
 IsCostOf solver list asked = IsSweepCost (in_one_row solver.strategy) (segments_of list) asked
 
--- Three searches of d orders for each of n segments are asked at most, of every d that is the most that one asks.
+-- Three searches of d orders for each of n segments are made at most, for every d that is the most that one compares.
 abbrev pub AsksThreeLooks : (ℕ → ℕ → Type 0) → ℕ → ℕ → Type 0
 AsksThreeLooks IsMost n asked = (d : ℕ) → IsMost n d → asked ≤ 3 * n * d
 

@@ -1,4 +1,4 @@
--- The shape of a balanced tree over nodes that stand in a list.
+-- The shape of a balanced tree over nodes in a list.
 use Rattle.std.specs.Prelude.{◌≡◌, ◌≢◌, ℕ, Bool, true, false, ◌+◌, ◌-◌, ◌^◌, ◌<◌, ◌≤◌, ◌⊎◌, max, List, [], ◌∷◌, ◌++◌, length, slice_index_or, if◌then◌else◌, ◌==◌, ⊤}
 use Rattle.overlay_sweep.specs.declared.build.tree_shape.TreeNode.{TreeNode}
 
@@ -93,7 +93,7 @@ pub record IsJoined (old new : List TreeNode) (at : ℕ) (order : List ℕ) (lef
   pub at_most : (high ≤ 1 + left) ⊎ (high ≤ 1 + right)
   pub exact : left ≤ right + 1 → right ≤ left + 1 → high ≡ 1 + max left right
 
--- `at` is the parent of both as it stands
+-- `at` is the parent of both as it is
 pub record IsParent (nodes : List TreeNode) (left at right : ℕ) : Type 0 where
   pub node_is : node_at nodes at ≡ parent_of nodes left right
   pub left_near : subtree_height nodes left ≤ subtree_height nodes right + 1
@@ -153,14 +153,14 @@ pub record IsStopped (lasts : ℕ → Bool) (old new : List TreeNode) (top : ℕ
   pub at_most : high ≤ was
   pub at_least : was ≤ high + 1
 
--- the last one lasts and stands before the place
+-- the last one lasts and comes before the place
 pub record HasLast (lasts before : ℕ → Bool) (earlier : List ℕ) (last : ℕ) : Type 0 where
   pub front : List ℕ
   pub earlier_is : earlier ≡ front ++ last ∷ []
   pub lasts_on : lasts last ≡ true
   pub is_before : before last ≡ true
 
--- the first one lasts and does not stand before the place
+-- the first one lasts and does not come before the place
 pub record HasFirst (lasts before : ℕ → Bool) (later : List ℕ) : Type 0 where
   pub first : ℕ
   pub rest : List ℕ

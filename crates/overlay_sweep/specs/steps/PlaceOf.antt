@@ -9,7 +9,7 @@ use Rattle.overlay_geometry.specs.InRange.{IsPointInRange}
 use Rattle.overlay_sweep.specs.declared.build.place.Place.{Place}
 use Rattle.overlay_sweep.specs.declared.build.place.Place.TheVariants.{Point, Segment}
 
--- whether a segment stands before the place: below the point, or where the segment does not run below it
+-- whether a segment comes before the place: below the point, or where the segment does not run below it
 abbrev pub stands_before : {I : Type 0} → (I → ℤ) → Place I → Pair → Bool
 stands_before whole place s =
     elim place [

@@ -1,7 +1,7 @@
--- Where a place lies among entries that stand from below.
+-- Where a place lies among entries ordered from below.
 use Rattle.std.specs.Prelude.{◌≡◌, ℕ, suc, Bool, true, false, ◌-◌, ◌<◌, ◌≤◌, ◌⊎◌, List, ◌∷◌, ◌++◌, take, drop, length}
 
--- the entry just below a position, if there is one, stands before the place, and the one at it does not
+-- the entry just below a position, if there is one, comes before the place, and the one at it does not
 pub record IsPosition (before : ℕ → Bool) (many at : ℕ) : Type 0 where
   pub within : at ≤ many
   pub last_is : (at ≡ 0) ⊎ (before (at - 1) ≡ true)

@@ -1,4 +1,4 @@
--- The rows of a list of rows, one of which changes.
+-- The rows of a list of rows, where one changes.
 use Rattle.std.specs.Prelude.{◌≡◌, ℕ, Bool, true, ◌+◌, ◌-◌, ◌<◌, ◌≤◌, ◌⊎◌, ℤ, ◌≤ℤ◌, int_lt, List, [], filter, length, slice_set, All}
 use Rattle.std.specs.List.{remove}
 use Rattle.overlay_base.specs.Segments.{WholeSegment}

@@ -42,7 +42,8 @@ impl<C: WindingCount, I: OverlayInt> Entry<C, I> {
         x < self.segment.b.x
     }
 
-    /// Whether the segment stands before a place. Every order of an entry is asked here, and is counted.
+    /// Whether the segment comes before a place. Every order of an entry is compared here, and is
+    /// counted.
     #[inline(always)]
     pub(crate) fn is_before(&self, place: &Place<I>, compared: &mut u128) -> bool
         requires { IsPlaceInRange I.whole I.MIN_COORD I.MAX_COORD place.now }

@@ -13,10 +13,10 @@ use std::ops::ControlFlow;
 
 /// A handler of the segments of a sweep with their fills.
 ///
-/// What it answers and what it is afterwards are functions of the handler and of the visit: an `impl` names them. It
-/// says at which indexes it may be called; a call takes none of them away.
+/// What it returns and what it is afterwards are functions of the handler and of the visit: an
+/// `impl` names them. It says at which indexes it may be called; a call takes none of them away.
 pub trait FillHandler<C: WindingCount, I: OverlayInt, D: Copy>: Drop {
-    /// What the run answers.
+    /// What the run returns.
     type Output: Drop;
 
     ghost takes: { Self → ℕ → Type 0 };

@@ -54,7 +54,7 @@ pub trait FillCount: WindingCount {
     ghost without_winding: { Self.made (pos 0) (pos 0) ≡ empty };
 }
 
-/// Whether a place is inside, round which the contours wind this often.
+/// Whether a place around which the contours wind this often is inside.
 pub(crate) fn is_inside(fill_rule: FillRule, winding: i32) -> bool
     ensures { result ≡ is_inside fill_rule winding }
 {

@@ -1,4 +1,5 @@
-// The segments over which a sweep stands, each with the winding above it. Upstream: the collections of `i_tree`.
+// The live segments of a sweep, each with the winding above it. Upstream: the collections of
+// `i_tree`.
 ghost use Rattle.std.specs.Prelude.{◌≡◌, ℕ, suc, ◌≤◌, ℤ, ◌≤ℤ◌, ◌<ℤ◌, List, [], ◌∷◌, OnOk, OnErr, IfErr};
 ghost use Rattle.overlay_base.specs.Segments.{WholeSegment};
 ghost use Rattle.overlay_geometry.specs.PointOf.{point_of};
@@ -30,7 +31,7 @@ pub trait LiveSegments<C: WindingCount, I: OverlayInt> {
     // how many entries it holds, those that have ended and are not dropped yet too
     ghost held: { Self → ℕ };
 
-    // a search among n entries asks at most d orders, and d more for each entry that it drops
+    // a search among n entries compares at most d orders, and d more for each entry that it drops
     ghost is_most: { ℕ → ℕ → Type 0 };
 
     /// Adds a segment that starts at `x`, and is not vertical, with the sum above it.
@@ -72,8 +73,8 @@ pub trait LiveSegments<C: WindingCount, I: OverlayInt> {
         ensures asked { asked self.new ≡ 0 }
         ensures held { held self.new ≡ 0 };
 
-    /// How many times the last `insert` or `sum_below` has asked the order of a segment: 0 at first, after `clear` and
-    /// after an insert that was refused, and `u128::MAX` at most.
+    /// How many times the last `insert` or `sum_below` has compared the order of a segment: 0 at
+    /// first, after `clear` and after an insert that was refused, and `u128::MAX` at most.
     fn compared(&self) -> u128
         ensures { result ≡ asked self.now };
 }

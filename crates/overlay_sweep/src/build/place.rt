@@ -17,7 +17,7 @@ impl<I: OverlayInt> Place<I> {
     ghost use Rattle.overlay_geometry.specs.VSegmentOf.{v_pair_of, IsVSegmentInRange};
     ghost use Rattle.overlay_sweep.specs.steps.PlaceOf.{IsPlaceInRange, stands_before};
 
-    /// Whether a segment stands before the place.
+    /// Whether a segment comes before the place.
     #[inline(always)]
     pub(crate) fn is_after(&self, segment: &VSegment<I>) -> bool
         requires place { IsPlaceInRange I.whole I.MIN_COORD I.MAX_COORD self.now }

@@ -58,8 +58,8 @@ impl<C: WindingCount, I: OverlayInt> RowList<C, I> {
         self.rows.clear();
     }
 
-    /// Whether the last entry of a row that has not ended stands before a place. Drops those behind it. Drops the row and
-    /// returns `None` where all have ended.
+    /// Whether the last entry of a row that has not ended comes before a place. Drops those behind
+    /// it. Drops the row and returns `None` where all have ended.
     fn ask_last(&mut self, row: usize, x: I, place: &Place<I>, compared: &mut u128) -> Option<bool>
         requires within { row < length (rows_in self.old) }
         requires place { IsPlaceInRange I.whole I.MIN_COORD I.MAX_COORD place.now }
@@ -79,8 +79,8 @@ impl<C: WindingCount, I: OverlayInt> RowList<C, I> {
         Some(entries[many - 1].is_before(place, compared))
     }
 
-    /// The first row whose last entry does not stand before a place, or the number of rows, by halves. Drops the entries
-    /// that have ended at the ends of the rows it asks.
+    /// The first row whose last entry does not come before a place, or the number of rows, by
+    /// halves. Drops the entries that have ended at the ends of the rows it compares.
     fn find_row(&mut self, x: I, place: &Place<I>, compared: &mut u128) -> usize
         requires place { IsPlaceInRange I.whole I.MIN_COORD I.MAX_COORD place.now }
         requires some { HaveSome (rows_in self.old) }
@@ -126,9 +126,10 @@ impl<C: WindingCount, I: OverlayInt> RowList<C, I> {
         }
     }
 
-    /// Searches for a place by halves, first among the rows and then in one. Returns a spot with the place: the entry
-    /// below has not ended and stands before it, and the next one above that has not ended does not. Leaves in
-    /// `compared` how many orders it asks: no more than a descent of a balanced tree of as many entries.
+    /// Searches for a place by halves, first among the rows and then in one. Returns a spot with
+    /// the place: the entry below has not ended and comes before it, and the next one above that
+    /// has not ended does not. Leaves in `compared` how many orders it compares: no more than a
+    /// descent of a balanced tree of as many entries.
     pub(crate) fn search(&mut self, x: I, place: &Place<I>, compared: &mut u128) -> Spot
         requires place { IsPlaceInRange I.whole I.MIN_COORD I.MAX_COORD place.now }
         requires some { HaveSome (rows_in self.old) }
@@ -201,8 +202,8 @@ impl<C: WindingCount, I: OverlayInt> RowList<C, I> {
         Ok(())
     }
 
-    /// Searches for a place by halves among all entries, which are moved to one row for it. It asks one order less than
-    /// `search` may, so one could be asked before.
+    /// Searches for a place by halves among all entries, which are moved to one row for it. It
+    /// compares one order less than `search` may, so one could be compared before.
     pub(crate) fn search_gathered(
         &mut self,
         x: I,

@@ -77,8 +77,8 @@ impl<C: WindingCount, I: OverlayInt> ScanList<C, I> {
         self.least_end = self.first_end();
     }
 
-    /// How many entries stand before a place. Adds to `compared` how many orders it asks: whatever the place, a number
-    /// that the length alone decides.
+    /// How many entries come before a place. Adds to `compared` how many orders it compares:
+    /// whatever the place, a number that the length alone decides.
     fn position(&self, place: &Place<I>, compared: &mut u128) -> usize
         requires place { IsPlaceInRange I.whole I.MIN_COORD I.MAX_COORD place.now }
         requires none { compared.old ≡ 0 }
@@ -105,8 +105,8 @@ impl<C: WindingCount, I: OverlayInt> ScanList<C, I> {
         }
     }
 
-    /// Drops what has ended by `x`. Returns how many of the others stand before a place, and leaves in `compared` how
-    /// many orders that asked.
+    /// Drops what has ended by `x`. Returns how many of the others come before a place, and leaves
+    /// in `compared` how many orders that took.
     fn settle(&mut self, x: I, place: &Place<I>) -> usize
         requires least { All (λ s. I.whole self.old.least_end ≤ℤ s.pair.b.x) (entries_of self.old.entries.items) }
         requires place { IsPlaceInRange I.whole I.MIN_COORD I.MAX_COORD place.now }

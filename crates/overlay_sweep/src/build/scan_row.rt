@@ -114,9 +114,10 @@ impl<C: WindingCount, I: OverlayInt> ScanRow<C, I> {
         }
     }
 
-    /// Searches below an end for a place by halves. It passes over two entries that have ended, and drops the third of
-    /// three in a row. Returns an index with the place: the entry below has not ended and stands before it, and the next
-    /// one above that has not ended does not. Adds to `compared` how many orders it asks.
+    /// Searches below an end for a place by halves. It passes over two entries that have ended, and
+    /// drops the third of three in a row. Returns an index with the place: the entry below has not
+    /// ended and comes before it, and the next one above that has not ended does not. Adds to
+    /// `compared` how many orders it compares.
     pub(crate) fn search(
         &mut self,
         x: I,
@@ -172,8 +173,8 @@ impl<C: WindingCount, I: OverlayInt> ScanRow<C, I> {
         low
     }
 
-    /// Searches below an end for a place, after some orders were asked. Returns an index with the place, and leaves in
-    /// `compared` how many orders were asked in all. Drops the cursor.
+    /// Searches below an end for a place, after some orders were compared. Returns an index with
+    /// the place, and leaves in `compared` how many orders were compared in all. Drops the cursor.
     fn settle(&mut self, x: I, place: &Place<I>, end: usize, asked: u128) -> usize
         requires place { IsPlaceInRange I.whole I.MIN_COORD I.MAX_COORD place.now }
         requires end { HasNext (lasts_past (I.whole x)

@@ -58,8 +58,9 @@ impl<C: WindingCount, I: OverlayInt> ScanRows<C, I> {
         }
     }
 
-    /// Whether the cursor is the place of a segment: it is kept for the segment's start, and the segment does not run
-    /// below the entry under the cursor. Adds to `compared` the order that this asks, if that entry starts there too.
+    /// Whether the cursor is the place of a segment: it is kept for the segment's start, and the
+    /// segment does not run below the entry under the cursor. Adds to `compared` the order that
+    /// this compares, if that entry starts there too.
     fn fits_cursor(&self, entry: &Entry<C, I>, compared: &mut u128) -> bool
         requires some { HaveSome (rows_in self.now.entries) }
         requires index { IsIndexIn (rows_in self.now.entries) self.now.cursor.row self.now.cursor.at }

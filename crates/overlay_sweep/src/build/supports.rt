@@ -1,4 +1,4 @@
-// On which other segment each segment of an arrangement stands. This project's own.
+// Which other segment lies directly below each segment of an arrangement. This project's own.
 ghost use Rattle.std.specs.Prelude.{◌≡◌, ℕ, ℤ, pos, ◌≤ℤ◌, ◌<◌, ◌^◌, ◌∷◌, IfOk, OnOk, IfErr, length};
 ghost use Rattle.overlay_base.specs.ArrangedOf.{IsArranged};
 ghost use Rattle.overlay_base.specs.BooleanWinding.{boolean_winding};
@@ -19,9 +19,9 @@ use overlay_geometry::geom::v_segment::VSegment;
 use overlay_geometry::num::OverlayInt;
 use std::alloc::Global;
 
-/// For each segment of an arrangement the index of the one on which it stands: the one just before it by angle at the
-/// same start, or else the one directly below its start. For a segment that stands on no other it is the number of
-/// segments.
+/// For each segment of an arrangement the index of its support: the one just before it by angle at
+/// the same start, or else the one directly below its start. For a segment without a support it is
+/// the number of segments.
 ///
 /// Returns `Fault::Memory` where a growth is refused.
 pub fn supports<I, S>(
@@ -110,5 +110,5 @@ fn number_or(sum: ShapeCountBoolean, none: usize) -> usize
 /// A digit is below it.
 const DIGIT: usize = 0x8000_0000;
 
-/// How many numbers two digits tell apart. No memory holds so many segments.
+/// How many numbers two digits represent. No memory holds so many segments.
 const MOST: usize = 0x2000_0000_0000_0000;

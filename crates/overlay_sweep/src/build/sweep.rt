@@ -50,12 +50,14 @@ impl<C: WindingCount, I: OverlayInt> SweepRunner<C, I> {
     /// index and its fill under the strategy's rule. Returns what the handler first breaks with, or else what it makes
     /// of the end.
     ///
-    /// The winding below a segment is the one above the segment just before it by angle at the same start, or else the
-    /// one above the segment directly below its start, or 0; the winding above adds the segment's count. Balance is no
-    /// condition; with it these windings are those of the columns of the plane. The segments have to be arranged, as
-    /// `is_arranged` tests, and the handler has to take each of their indexes. The solver does not change the answer:
-    /// under `List` the live segments are kept in one row, else in rows of a few. Over n segments `compared` is at most
-    /// 3 n d. For one row 2 n is at most 2 ^ d; for rows no balanced tree of n entries is higher than d.
+    /// The winding below a segment is the one above the segment just before it by angle at the same
+    /// start, or else the one above the segment directly below its start, or 0; the winding above
+    /// adds the segment's count. Balance is no condition; with it these windings are those of the
+    /// columns of the plane. The segments have to be arranged, as `is_arranged` tests, and the
+    /// handler has to take each of their indexes. The solver does not change the result: under
+    /// `List` the live segments are kept in one row, else in rows of a few. Over n segments
+    /// `compared` is at most 3 n d. For one row 2 n is at most 2 ^ d; for rows no balanced tree of
+    /// n entries is higher than d.
     ///
     /// Returns `Fault::CountOutOfRange` exactly where a winding above a segment that the handler gets leaves the range,
     /// and `Fault::Memory` where a growth is refused. The handler is spent then; the runner can be used again, and its
@@ -104,7 +106,8 @@ impl<C: WindingCount, I: OverlayInt> SweepRunner<C, I> {
         Ok(answer)
     }
 
-    /// How many orders of live segments the last run that succeeded has asked: 0 at first, and `u128::MAX` at most.
+    /// How many orders of live segments the last run that succeeded has compared: 0 at first, and
+    /// `u128::MAX` at most.
     pub fn compared(&self) -> u128
         ensures { result ≡ run_asked self.now }
     {

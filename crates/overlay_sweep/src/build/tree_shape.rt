@@ -1,4 +1,4 @@
-// The shape of a balanced tree, whose nodes stand in a `Vec` and are named by index.
+// The shape of a balanced tree, whose nodes are in a `Vec` and are named by index.
 ghost use Rattle.std.specs.Prelude.{◌≡◌, ◌≢◌, ◌<◌, ◌+◌, ◌++◌, ◌∷◌, max, length};
 
 use overlay_base::segm::fault::Fault;
@@ -145,7 +145,7 @@ impl TreeShape {
         at
     }
 
-    /// The same, with nothing written where the node is the parent of both as it stands.
+    /// The same, with nothing written where the node is the parent of both already.
     pub fn rejoin(&mut self, left: usize, at: usize, right: usize, is_parent: bool) -> usize
         requires joinable { AreJoinable self.old.nodes.items left at right }
         requires parent { is_parent ≡ true → IsParent self.old.nodes.items left at right }

@@ -24,8 +24,9 @@ use overlay_geometry::geom::v_segment::VSegment;
 use overlay_geometry::num::OverlayInt;
 use std::ops::ControlFlow;
 
-/// Gives the handler one segment with the winding below it. Returns the winding above it, or what the handler broke
-/// with. A segment that is not vertical is live from then on, and the orders that this asks are added to `compared`.
+/// Gives the handler one segment with the winding below it. Returns the winding above it, or what
+/// the handler broke with. A segment that is not vertical is live from then on, and the orders that
+/// this compares are added to `compared`.
 fn visit<C, I, D, F, S, H>(
     live: &mut S,
     index: usize,
@@ -93,9 +94,9 @@ where
     Ok(ControlFlow::Continue(top))
 }
 
-/// Gives the handler the segments of an arrangement, by their starts and then by angle from below. Leaves in `compared`
-/// how many orders this asked of live segments, `u128::MAX` at most: those of three searches among all segments for
-/// each of them.
+/// Gives the handler the segments of an arrangement, by their starts and then by angle from below.
+/// Leaves in `compared` how many orders of live segments this compared, `u128::MAX` at most: those
+/// of three searches among all segments for each of them.
 pub fn sweep_with_handler<C, I, D, F, S, H>(
     live: &mut S,
     ways: &mut Vec<Way<I>>,

@@ -27,7 +27,7 @@ module _ (xs : List WholeSegment) (arranged : IsArranged xs) where
       let lives = (Has-filter_out (λ u. lives_under s u) xs t k.0).1 in
       (here.0, earlier_beneath s.pair t.pair here.1 (or_left _ _ (and_parts (is_live s.pair.a.x t.pair) _ lives).1))
 
-  -- what a segment stands on comes earlier
+  -- the support of a segment comes earlier
   pub by_earlier : {P : Type 0} (s : WholeSegment) → Has xs s → (support xs s ≡ None → P) → ((t : WholeSegment) → support xs s ≡ Some t → Has xs t → is_earlier t.pair s.pair ≡ true → P) → P
   unfolding support
   by_earlier s m f g = by_option (neighbor_at_start xs s)

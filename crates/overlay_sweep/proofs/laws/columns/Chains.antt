@@ -1,4 +1,5 @@
--- A chain given in any order: each member stands on all members below it. Along it what a number gains from each member to the next adds up to what it gains between the two ends.
+-- A chain given in any order: each member is above all members below it. Along it what a number gains from each member to the next adds up
+-- to what it gains between the two ends.
 use Rattle.std.proofs.Common.{◌≡◌, ap, refl, sym, ◌∙◌, arith, inl, inr}
 use Rattle.std.specs.Prelude.{ℤ, pos, ◌+ℤ◌, ◌-ℤ◌, Bool, true, false, cond, ◌&&◌, List, [], ◌∷◌}
 use Rattle.std.specs.List.{list_all}
@@ -104,7 +105,7 @@ module _ {X : Type 0} (below : X → X → Bool) where
           rw (irreflexive y my, rest) refl
 
       module _ (G : ℤ → ℤ → ℤ) (u v : X → ℤ) where
-        -- how much more G is above x than below it, where the members of the chain stand on b and c
+        -- how much more G is above x than below it, where the members of the chain are above b and c
         abbrev pub gain_at : ℤ → ℤ → List X → X → ℤ
         gain_at b c xs x = G ((b +ℤ sum_below u x xs) +ℤ u x) ((c +ℤ sum_below v x xs) +ℤ v x) -ℤ G (b +ℤ sum_below u x xs) (c +ℤ sum_below v x xs)
 

@@ -121,7 +121,7 @@ module _ (xs : List WholeSegment) (arranged : IsArranged xs) (s : WholeSegment) 
       | inr before ↦ no_neighbor e u n before
     ])
 
-    -- what s stands on is the highest beneath it; where it stands on nothing, nothing lies beneath
+    -- the support of s is the highest beneath it; where it has none, nothing lies beneath
     pub by_support : {P : Type 0} → (support xs s ≡ None → ((u : WholeSegment) → Has xs u → spans_column s.pair.a.x u.pair ≡ true → is_beneath s.pair u.pair ≡ false) → P) → ((t : WholeSegment) → support xs s ≡ Some t → IsHighest xs arranged balanced s t → P) → P
     unfolding support
     by_support f g = by_option (neighbor_at_start xs s)

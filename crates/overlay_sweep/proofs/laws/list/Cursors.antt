@@ -166,7 +166,7 @@ module _ (x : ℤ) (ks : List WholeSegment) (e : WholeSegment) (ends : x <ℤ e.
       let read = ap (segment_at (take at ks ++ e ∷ rs)) one ∙ put_itself ks rs e at c.within in
       inr (ap (λ (s : WholeSegment). int_lt x s.pair.b.x) read ∙ lt-test x e.pair.b.x ends, ap (λ (s : WholeSegment). is_below_or_from e.pair.a s.pair) read ∙ or_latter _ _ (point_eq_same e.pair.a))
 
-  -- what stands behind it, where n entries less are kept
+  -- what is behind it, where n entries less are kept
   behind_put : (n : ℕ) → at ≤ n → n ≤ at + 1 → n ≤ c.behind.next → HasNext (lasts_past x (take at ks ++ e ∷ drop n ks)) (test (take at ks ++ e ∷ drop n ks)) (length (take at ks ++ e ∷ drop n ks)) (suc at)
   behind_put n low high under = record {
     next = (c.behind.next - n) + suc at;

@@ -1,4 +1,4 @@
--- A search by halves that drops what has ended: where it ends, and how many orders it asks.
+-- A search by halves that drops what has ended: where it ends, and how many orders it compares.
 use Rattle.std.proofs.Common.{◌≡◌, ap, refl, ◌∙◌, arith, inl, inr, add-one}
 use Rattle.std.specs.Prelude.{ℕ, zero, suc, Bool, true, false, ◌+◌, ◌-◌, ◌*◌, ◌^◌, ◌<◌, ◌≤◌, ◌⊎◌, min, List, [], ◌∷◌, ◌++◌, take, drop, length}
 use Rattle.std.proofs.lemmas.Bool.{cases_lt}
@@ -120,7 +120,7 @@ module _ (lasts before : WholeSegment → Bool) (ks : List WholeSegment) where
 
 -- ---- how many orders
 
--- Amid a search that began among `first` entries: so many are between `low` and `high`, and so many orders were asked.
+-- Amid a search that began among `first` entries: so many are between `low` and `high`, and so many orders were compared.
 pub record IsCounting (first size asked : ℕ) : Type 0 where
   pub narrow : size * 2 ^ asked ≤ first
   pub few : (asked ≡ 0) ⊎ (2 ^ asked ≤ 2 * first)
@@ -136,11 +136,11 @@ module _ (first size asked : ℕ) (s : IsCounting first size asked) where
     | inr few ↦ omega (arith, e, below_power asked, few, short)
   ]
 
-  -- fewer are left, and no order was asked
+  -- fewer are left, and no order was compared
   pub counting_without : (left : ℕ) → left ≤ size → IsCounting first left asked
   counting_without left fewer = record { narrow = omega (arith, s.narrow, mul-le-mul_right (2 ^ asked) fewer); few = s.few }
 
-  -- one order was asked
+  -- one order was compared
   module _ (some : 1 ≤ size) (then : ℕ) (then_is : then ≡ asked + 1) where
     doubled : 2 ^ then ≡ 2 ^ asked + 2 ^ asked
     doubled = rw (then_is, add-one) (two-pow-succ asked)

@@ -1,4 +1,4 @@
--- A row of entries of which some have ended: what a search and a call leave of it, by those that last.
+-- A row of entries, some of which have ended: what a search and a call leave of it, by those that last.
 use Rattle.std.proofs.Common.{◌≡◌, ◌≢◌, ap, ap₂, refl, sym, subst, ◌∙◌, arith, inl, inr, add-one}
 use Rattle.std.specs.Prelude.{ℕ, zero, suc, pos, ◌+◌, ◌-◌, ◌<◌, ◌≤◌, ℤ, ◌≤ℤ◌, ◌<ℤ◌, int_le, int_lt, Bool, true, false, not, cond, List, [], ◌∷◌, ◌++◌, map, filter, take, drop, length, slice_set, All}
 use Rattle.std.specs.List.{Contains, range_with_len, take-map, drop-map}
@@ -76,7 +76,7 @@ segment_between : (ls rs : List WholeSegment) (s : WholeSegment) → segment_at 
 segment_between [] rs s = refl
 segment_between (l ∷ ls) rs s = segment_between ls rs s
 
--- what stands before an index, at it and behind it
+-- what is before an index, at it and behind it
 pub parts_at : (ks : List WholeSegment) (i : ℕ) → i < length ks → take i ks ++ segment_at ks i ∷ drop (suc i) ks ≡ ks
 parts_at [] i h = absurd (omega (arith, h))
 parts_at (k ∷ ks) zero h = refl
@@ -142,7 +142,7 @@ module _ (x : ℤ) (ks : List WholeSegment) (at : ℕ) where
   lasting_first n h l = ap (lasting_of x) (first_behind ks n h) ∙ rw l refl
 
   module _ (before : ℕ → Bool) (place : IsLivePosition (lasts_past x ks) before (length ks) at) where
-    -- what stands below the position, among those that last
+    -- what is below the position, among those that last
     pub found_last : at ≢ 0 → (length earlier ≢ 0) × (segment_at (lasting_of x ks) (length earlier - 1) ≡ segment_at ks (at - 1)) × (before (at - 1) ≡ true)
     found_last n = elim place.last_is [
       | inl none ↦ absurd (n none)

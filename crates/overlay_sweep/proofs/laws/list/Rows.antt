@@ -472,7 +472,7 @@ two_searches a b r l n d fa fb room high = high (a + b) (fits (cases_lt a b) (ca
 pub one_search : (n d : ℕ) → IsHighest n d → 1 ≤ d
 one_search n d high = high 1 (omega arith)
 
--- among all, where one order was asked before
+-- among all, where one order was compared before
 pub search_and_one : (b n d : ℕ) → (b ≡ 0) ⊎ (2 ^ b ≤ 2 * n) → 1 ≤ n → IsHighest n d → b + 1 ≤ d
 search_and_one b n d few some high = high (b + 1) (elim (cases_lt 1 b) [
   | inl more ↦

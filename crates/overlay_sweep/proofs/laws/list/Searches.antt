@@ -1,4 +1,4 @@
--- A search by halves: where it ends, and how many orders it asks.
+-- A search by halves: where it ends, and how many orders it compares.
 use Rattle.std.proofs.Common.{◌≡◌, ap, refl, arith, inl, inr, add-one}
 use Rattle.std.specs.Prelude.{ℕ, zero, suc, Bool, true, false, ◌+◌, ◌-◌, ◌*◌, ◌/◌, ◌^◌, ◌<◌, ◌≤◌, ◌⊎◌, min}
 use Rattle.std.proofs.lemmas.Bool.{both_ways, cases_lt}
@@ -7,7 +7,7 @@ use Rattle.std.proofs.Math.Pow.{pow-lt}
 use Rattle.overlay_sweep.specs.Costs.{IsSearchAmong}
 use Rattle.overlay_sweep.specs.steps.Positions.{IsPosition}
 
--- Amid a search of many: the place lies behind `base` and no more than `size` further, and so many orders were asked.
+-- Amid a search of many: the place lies behind `base` and no more than `size` further, and so many orders were compared.
 pub record IsSearching (before : ℕ → Bool) (many base size asked : ℕ) : Type 0 where
   pub some : 1 ≤ size
   pub within : base + size ≤ many

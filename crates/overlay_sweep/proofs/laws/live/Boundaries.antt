@@ -134,7 +134,7 @@ module _ (xs : List WholeSegment) (arranged : IsArranged xs) (i next : ℕ) (p :
       AllByRecursion-map_out (λ (q : Pair). q.a ≡ p) (λ (s : WholeSegment). s.pair) (take (next - i) (drop i xs))
       (subst (λ l. AllByRecursion (λ (q : Pair). q.a ≡ p) l) (ap (take (next - i)) (drop-map (λ (s : WholeSegment). s.pair) i xs) ∙ take-map (λ (s : WholeSegment). s.pair) (next - i) (drop i xs)) all)
 
-  -- what the end of the segments at one start point tells
+  -- what the end of the segments at one start point shows
   pub block_from_point : next ≤ length xs → IsBoundary xs i → ((k : ℕ) (d : Pair) → i ≤ k → k < next → (get_or (pairs xs) k d).a ≡ p) → ((d : Pair) → next < length xs → (get_or (pairs xs) next d).a ≡ p → ⊥) → IsBlock xs i next p
   block_from_point within bound same other =
       by_drop i xs (omega (arith, within, order)) (λ u us e.

@@ -1,4 +1,4 @@
--- What the live sums tell of the segment directly below a point, and that they are free of crossings.
+-- What the live sums say of the segment directly below a point, and that they are free of crossings.
 use Rattle.std.proofs.Common.{◌≡◌, ap, refl, sym, subst, ◌∙◌, arith, inl, inr}
 use Rattle.std.specs.Prelude.{ℤ, pos, ◌-ℤ◌, ◌<ℤ◌, int_lt, Bool, true, false, ◌&&◌, List, [], ◌∷◌, map, filter, Some, None}
 use Rattle.std.specs.Option.{option_map_or}
@@ -115,7 +115,7 @@ module _ (xs : List WholeSegment) (arranged : IsArranged xs) where
   live_part : (p : Point) (t : WholeSegment) → lies_below p t ≡ true → is_live p.x t.pair ≡ true
   live_part p t h = (and_parts (is_live p.x t.pair) _ h).0
 
-  -- where all segments that begin before p are known, their tops tell that of the one directly below p
+  -- where all segments that begin before p are known, their tops give that of the one directly below p
   pub sum_below_is : (p : Point) (live ys : List WholeSegment) → HoldSameFrom p.x live (map (topped xs) ys) → ((s : WholeSegment) → Has ys s → Has xs s) →
       ((s : WholeSegment) → Has xs s → lies_below p s ≡ true → Has ys s) → sum_below live p empty ≡ option_map_or (λ t. top xs t) (directly_below xs p) empty
   unfolding sum_below

@@ -1,4 +1,4 @@
--- Along the segments that start at one point, in order of angle, each stands on the one before it.
+-- Along the segments that start at one point, in order of angle, each has the one before it as its support.
 use Rattle.std.proofs.Common.{◌≡◌, ap, sym, subst, ◌∙◌, inl, inr}
 use Rattle.std.specs.Prelude.{true, false, ◌⊎◌, List, [], ◌∷◌}
 use Rattle.std.specs.List.{AllByRecursion}
@@ -16,7 +16,7 @@ use Rattle.overlay_sweep.proofs.laws.columns.Members.{IsArranged}
 use Rattle.overlay_sweep.proofs.laws.live.Supports.{earlier-trans, earlier-cases, earlier_at_start, angle_same, angle_asymmetric}
 use Rattle.overlay_sweep.proofs.laws.columns.Tops.{by_option, starts_before, neighbor_is, no_neighbor}
 
--- each stands on the one before it, and the first on the winding w
+-- each has the one before it below, and the first one the winding w
 abbrev pub IsChain : List WholeSegment → Winding → List WholeSegment → Type 0
 IsChain xs w [] = Unit {0}
 IsChain xs w (s ∷ ss) = (bottom xs s ≡ w) × IsChain xs (top xs s) ss
@@ -54,7 +54,7 @@ module _ (xs : List WholeSegment) (arranged : IsArranged xs) (p : Point) where
       (λ n. rw n (ap (λ q. option_map_or (λ t. top xs t) (directly_below xs q) empty) e))
       (λ t n. let k = Has-filter_out (λ u. starts_before s u) xs t (neighbor_is xs arranged s m t n).0 in let q = start_of s t e k.1 in absurd (none t k.0 q.0 q.1))
 
-  -- each later one stands on the one before it
+  -- each later one has the one before it as its support
   bottom_of_next : (s u : WholeSegment) → Has xs s → s.pair.a ≡ p → Has xs u → u.pair.a ≡ p → is_lt (angle_cmp u.pair s.pair) ≡ true →
       ((t : WholeSegment) → Has xs t → t.pair.a ≡ p → is_lt (angle_cmp t.pair s.pair) ≡ true → (t ≡ u) ⊎ (is_lt (angle_cmp t.pair u.pair) ≡ true)) → bottom xs s ≡ top xs u
   unfolding bottom support

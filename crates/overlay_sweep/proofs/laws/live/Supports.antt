@@ -1,4 +1,4 @@
--- What a segment stands on: in the column to the right of its start, the segments below it, of which its support is the highest.
+-- The support of a segment: in the column to the right of its start it is the highest of the segments below it.
 use Rattle.std.proofs.Common.{◌≡◌, ap, refl, sym, ◌∙◌, arith, inl, inr}
 use Rattle.std.specs.Prelude.{ℤ, pos, ◌+ℤ◌, ◌-ℤ◌, ◌*ℤ◌, ◌<ℤ◌, ◌≤ℤ◌, neg_ℤ, int_le, int_lt, Bool, true, false, ◌&&◌, ◌||◌, ◌⊎◌}
 use Rattle.std.specs.Ordering.{is_lt, is_le, ordering_then}

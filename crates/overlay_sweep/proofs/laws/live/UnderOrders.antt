@@ -141,7 +141,7 @@ not_not : (b : Bool) → not (not b) ≡ b
 not_not true = refl
 not_not false = refl
 
--- a segment stands to another, which starts elsewhere, as its start does
+-- a segment lies to another, which starts elsewhere, as its start does
 pub under_by_point : (x : ℤ) (e t : Pair) → spans_column x e ≡ true → spans_column x t ≡ true → IsApart e t → t.a.x ≤ℤ e.a.x → (t.a ≡ e.a → ⊥) → not (is_lt (under_segment_order e t)) ≡ int_lt (pos 0) (turn t.a t.b e.a)
 under_by_point x e t he ht apart early other =
     let differs : e ≡ t → ⊥ = λ s. other (ap (λ (u : Pair). u.a) (sym s)) in

@@ -1,4 +1,4 @@
--- Two trees of which one is too high, joined by a node between them.
+-- Two trees, one of them too high, joined by a node between them.
 use Rattle.std.proofs.Common.{◌≡◌, ◌≢◌, ap, ap₂, refl, sym, subst, ◌∙◌, arith, inl, inr, get_or}
 use Rattle.std.specs.Prelude.{ℕ, ◌+◌, ◌<◌, ◌≤◌, ◌⊎◌, max, List, [], ◌∷◌, ◌++◌, length, slice_set}
 use Rattle.std.proofs.lemmas.List.{get_or_read}

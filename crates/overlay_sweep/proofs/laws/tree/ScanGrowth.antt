@@ -105,7 +105,7 @@ module _ (x : ℤ) (segments : List WholeSegment) (nodes : List TreeNode) (root 
     first_is = p.first_is;
   }
 
-  -- ---- how many orders are asked
+  -- ---- how many orders are compared
 
   pub high_within : (d was : ℕ) → kept ≤ was → ((h : ℕ) → 2 ^ (h / 2) ≤ was + 1 → h ≤ d) → m.down.sound.high ≤ d
   high_within d was h f = f m.down.sound.high (omega (arith, tree_holds nodes root m.down.sound.order m.down.sound.high m.down.sound.tree, m.kept_is, h))

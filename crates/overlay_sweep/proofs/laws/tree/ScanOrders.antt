@@ -1,4 +1,4 @@
--- What is live in a scan tree stands from below: which of it is below a point, and where a new segment goes.
+-- What is live in a scan tree is ordered from below: which of it is below a point, and where a new segment goes.
 use Rattle.std.proofs.Common.{◌≡◌, ap, refl, sym, subst, ◌∙◌, arith, inl, inr}
 use Rattle.std.specs.Prelude.{ℕ, zero, suc, ◌<◌, ℤ, pos, ◌+ℤ◌, ◌*ℤ◌, ◌<ℤ◌, ◌≤ℤ◌, int_le, int_lt, Bool, true, false, not, ◌&&◌, ◌⊎◌, List, [], ◌∷◌, ◌++◌, length}
 use Rattle.std.specs.List.{Contains}
@@ -88,7 +88,7 @@ from_below_with x segments (z ∷ xs) ys b f early late = (
   from_below_with x segments xs ys b f.1 (λ i m. early i (inr m)) late,
 )
 
--- ---- what is live stands in the list
+-- ---- what is live is in the list
 
 nothing_live : (x : ℤ) → int_le (pos 0) x && int_lt x (pos 0) ≡ true → ⊥
 nothing_live x h = let p = and_parts (int_le (pos 0) x) (int_lt x (pos 0)) h in let a = le-tested (pos 0) x p.0 in let b = lt-tested x (pos 0) p.1 in omega (arith, ints)

@@ -1,4 +1,4 @@
--- Trees whose nodes stand in a list: what a write elsewhere keeps, and a node with two sides.
+-- Trees whose nodes are in a list: what a write elsewhere keeps, and a node with two sides.
 use Rattle.std.proofs.Common.{◌≡◌, ◌≢◌, ap, refl, sym, subst, ◌∙◌, arith, inl, inr}
 use Rattle.std.specs.Prelude.{ℕ, false, ◌+◌, ◌<◌, ◌⊎◌, max, List, [], ◌∷◌, ◌++◌, length, slice_set, ◌==◌}
 use Rattle.std.proofs.lemmas.List.{length-set, get_or-set_same, get_or-set_other}

@@ -1,4 +1,5 @@
--- Stable sorts: of two blocks of which none of the second comes before one of the first, through a function that keeps the order, and strictly.
+-- Stable sorts: of two blocks where none of the second comes before one of the first, through a function that keeps the order, and
+-- strictly.
 use Rattle.std.proofs.Common.{◌≡◌, ap, refl, subst, ◌∙◌, inl, inr, Ordering}
 use Rattle.std.specs.Prelude.{true, false, ◌⊎◌, List, [], ◌∷◌, ◌++◌, map}
 use Rattle.std.specs.List.{AllByRecursion}
@@ -46,7 +47,7 @@ module _ {K : Type 0} (cmp : K → K → Ordering) where
       ap (insert_before_ties cmp x) (stably_sorted-append xs ys a.1)
       ∙ insert-append x (stably_sorted cmp xs) (stably_sorted cmp ys) (AllByRecursion-stably_sorted cmp (λ y. is_lt (cmp y x) ≡ false) ys a.0)
 
-  -- ---- keys of which each two differ in order
+  -- ---- keys, each two of them different in order
 
   module _ (M : K → Type 0) (trans : (x y z : K) → M x → M y → M z → is_lt (cmp x y) ≡ true → is_lt (cmp y z) ≡ true → is_lt (cmp x z) ≡ true) where
     rising_rest : (x y : K) (ys : List K) → M x → M y → AllByRecursion M ys → is_lt (cmp x y) ≡ true → AllByRecursion (λ z. is_lt (cmp y z) ≡ true) ys → AllByRecursion (λ z. is_lt (cmp x z) ≡ true) ys

@@ -16,7 +16,7 @@ refused_as (Ok x) P Q h f = tt
 refused_as (Err e) P Q h f = f e h
 
 module _ {D H O : Type 0} (handle : H → Visit D → H × Option O) (finalize : H → O) where
-  -- the handler goes over these visits, answers at none of them, and is another one then
+  -- the handler goes over these visits, breaks at none of them, and is another one then
   abbrev pub IsHandledTo : H → List (Visit D) → H → Type 0
   IsHandledTo h [] last = h ≡ last
   IsHandledTo h (v ∷ vs) last = ((handle h v).1 ≡ None) × IsHandledTo (handle h v).0 vs last
@@ -61,7 +61,7 @@ module _ {D H O : Type 0} (handle : H → Visit D → H × Option O) (finalize :
     stay_in_range [] rest a = refl
     stay_in_range (v ∷ vs) rest a = rw a.0 (stay_in_range vs rest a.1)
 
-    -- no top was too large before the handler's answer, nor at it
+    -- no top was too large before the handler's result, nor at it
     pub in_range_at_break : (h last : H) (vs rest : List (Visit D)) (v : Visit D) (answer : O) → IsHandledTo h vs last → AllByRecursion HasTopInRange vs → HasTopInRange v → (handle last v).1 ≡ Some answer →
         visits_leave_range xs (visited handle h (vs ++ v ∷ rest)) ≡ false
     unfolding visits_leave_range

@@ -1,4 +1,4 @@
--- What calls on live segments ask, summed over a sweep: each entry that is held can pay for one look more.
+-- What calls on live segments compare, summed over a sweep: each entry that is held can pay for one look more.
 use Rattle.std.proofs.Common.{◌≡◌, ap, refl, sym, ◌∙◌, arith, inl, inr, Ordering}
 use Rattle.std.specs.Prelude.{Bool, true, if◌then◌else◌, ◌++◌, ℕ, suc, ◌+◌, ◌-◌, ◌*◌, ◌^◌, ◌<◌, ◌≤◌, List, [], ◌∷◌, length, map, filter, take, drop}
 use Rattle.std.specs.List.{enumerate_from}

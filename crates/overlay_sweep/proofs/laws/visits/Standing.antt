@@ -1,4 +1,4 @@
--- On which segment each one stands, found as a sweep goes: the states before a start point, and at it.
+-- The support of each segment, found as a sweep goes: the states before a start point, and at it.
 use Rattle.std.proofs.Common.{◌≡◌, ap, refl, sym, subst, ◌∙◌, arith, inl, inr, get_or, set, append_assoc, get_or-set_same, get_or-set_other}
 use Rattle.std.specs.Prelude.{ℕ, zero, suc, ◌+◌, ◌<◌, ◌≤◌, ◌==◌, ℤ, pos, ◌≤ℤ◌, true, false, ◌⊎◌, List, [], ◌∷◌, ◌++◌, map, length, take, drop, Option, Some, None, slice_get}
 use Rattle.std.specs.List.{AllByRecursion, enumerate_from, list_all}
@@ -35,10 +35,10 @@ use Rattle.overlay_sweep.proofs.laws.visits.Visits.{visit_cmp, visit_to, listed,
 use Rattle.overlay_sweep.proofs.laws.visits.BlockSorts.{Has-stably_sorted}
 use Rattle.overlay_sweep.proofs.laws.visits.SweepStates.{start_at, at_place, IsPlace}
 
--- ---- along the segments that start at one point each stands on the one before it
+-- ---- along the segments that start at one point each has the one before it as its support
 
 module _ (xs : List WholeSegment) where
-  -- the first stands on o, each later one on the one before it
+  -- the support of the first is o, that of each later one the one before it
   abbrev pub AreStood : Option WholeSegment → List WholeSegment → Type 0
   AreStood o [] = Unit {0}
   AreStood o (s ∷ ss) = (support xs s ≡ o) × AreStood (Some s) ss
@@ -221,7 +221,7 @@ module _ {D : Type 0} (rule : FillRule) (list : List (DataSegment D)) (arranged 
       let it = same_index a.0 seen.0 (known a.0 a.1) (known seen.0 seen.1) same in
       rw e (ap (λ (v : WholeSegment). v.count) a.2 ∙ ap numbered it))))
 
-  -- the index that such a sum tells
+  -- the index that such a sum gives
   pub told_by_code : (w : Winding) (o : Option WholeSegment) (n : ℕ) → IsCodeOf w o → (w ≡ empty → n ≡ length list) → ((m : ℕ) → w ≡ numbered m → n ≡ m) → slice_get (without_data list) n ≡ o
   told_by_code w o n (of_none e f) none some = ap (slice_get (without_data list)) (none f) ∙ slice_get-past (without_data list) (length list) (omega (arith, length-xs)) ∙ sym e
   told_by_code w o n (of_one v m e f) none some = let k = at_index v m in ap (slice_get (without_data list)) (some v.index f) ∙ slice_get-at (without_data list) v.index (whole_of v.segment) k.0 k.1 ∙ sym e
@@ -232,7 +232,7 @@ module _ {D : Type 0} (rule : FillRule) (list : List (DataSegment D)) (arranged 
 
   -- ---- the states
 
-  -- the visits of all segments so far are live by their indexes, and the indexes of their supports are told
+  -- the visits of all segments so far are live by their indexes, and the indexes of their supports are given
   pub record IsStanding (vs : List (Visit D)) (x : ℤ) (live : List WholeSegment) (supports : List ℕ) : Type 0 where
     pub holds : HoldSameFrom x live (map coded vs)
     pub known : (v : Visit D) → Has vs v → Has (listed rule list arranged) v

@@ -198,7 +198,7 @@ module _ {D H O : Type 0} (handle : H → Visit D → H × Option O) (finalize :
           ∙ ap (λ l. visits_before rule list arranged i ++ l) (append_assoc (take k (visits_of_block rule list arranged i next)) (v ∷ drop (k + 1) (visits_of_block rule list arranged i next)) (visits_after rule list arranged next))
           ∙ sym (append_assoc (visits_before rule list arranged i) (take k (visits_of_block rule list arranged i next)) (v ∷ (drop (k + 1) (visits_of_block rule list arranged i next) ++ visits_after rule list arranged next)))
 
-      -- where the handler answers
+      -- where the handler breaks
       pub answered_here : (answer : O) → (handle h v).1 ≡ Some answer → handled handle finalize h0 (visits rule list) ≡ answer
       answered_here answer e =
           ap (handled handle finalize h0) visits_here

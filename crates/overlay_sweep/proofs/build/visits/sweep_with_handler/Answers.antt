@@ -31,7 +31,7 @@ same_list list = sym (segments_of-bare list)
 arranged_list : {C I D : Type 0} {m : _} {w : _} {o : _} {e : _} {p : _} (least greatest : ℤ) (list : List (Segment C I D m w o e p)) → is_arranged least greatest (segments_of list) ≡ true → IsArranged (without_data (data_segments_of list))
 arranged_list least greatest list h = whole_arranged least greatest _ _ (same_list list) h
 
--- ---- the answers
+-- ---- the results
 
 pub loop-index-init : goal.loop-index-init
 loop-index-init g c =
