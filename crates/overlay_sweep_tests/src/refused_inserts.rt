@@ -1,4 +1,4 @@
-// Sweeps over live segments of which one insert is refused, as where memory runs out.
+// Sweeps over live segments with one refused insert, as where memory runs out.
 ghost use Rattle.std.specs.Prelude.{◌≡◌, ℕ, suc, ◌+◌, ◌*◌, ◌≤◌, ℤ, ◌≤ℤ◌, ◌<ℤ◌, [], ◌∷◌, OnOk, OnErr, IfErr};
 ghost use Rattle.overlay_base.specs.declared.segm.fault.Fault.TheVariants.{Memory};
 ghost use Rattle.overlay_geometry.specs.PointOf.{point_of};
@@ -29,7 +29,7 @@ use std::test::Fail;
 
 type Line = Segment<ShapeCountBoolean, i32, ()>;
 
-/// Live segments of which an insert is refused after some others.
+/// Live segments that refuse an insert after some others.
 #[derive(Drop)]
 struct Refusing<L> {
     live: L,
@@ -159,7 +159,7 @@ fn refusal<L: LiveSegments<ShapeCountBoolean, i32>>(
     }
 }
 
-/// After each refusal the same live segments and ways answer a sweep with the right fills.
+/// After each refusal the same live segments and ways give a sweep the right fills.
 fn sweep_after_each_refusal<L: LiveSegments<ShapeCountBoolean, i32> + Drop>(
     rt: &(impl Abort + AllocGlobal),
     live: L,
