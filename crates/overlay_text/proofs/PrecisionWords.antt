@@ -1,4 +1,4 @@
--- A precision as two numbers: the first comma stands between them, and no name has one.
+-- A precision as two numbers: the first comma is between them, and no name has one.
 use Rattle.std.proofs.Common.{◌≡◌, ◌∙◌, inl, inr, ℕ, List, ◌++◌, length, eqb, Option, Some, None, refl, sym, subst, arith, append_assoc}
 use Rattle.std.proofs.lemmas.Bool.{false≢true}
 use Rattle.std.proofs.lemmas.Str.Parse.{not_in_digits, numerals_by_value, tells_digits}

@@ -16,7 +16,7 @@ use Rattle.overlay_text.specs.declared.words.Choices.{Choices}
 use Rattle.overlay_text.specs.Words.{NamesCommand, NamesEngine, NamesStrategy, precision_of, NamesPrecision, NamesFillRule, NamesRule, WritesLimit, WritesSquare, WritesRadius, setting, IsSetting, WordsSet, SetNothing, WordsAsk, AskNothing, TakesWord, CanTake}
 use Rattle.overlay_text.proofs.Slots.{Slot, empty_slot, slot-more, chosen-from_slot, unwrapped, takes_chosen}
 
--- what stands in the slots when these words are read
+-- what is in the slots when these words are read
 pub record AreRead (words : List (List ℕ)) (choices : Choices) : Type 0 where
   pub known : All IsSetting words
   pub engine : Slot (codes "engine") NamesEngine words choices.engine
@@ -51,7 +51,7 @@ pub record NoneTakes (word : List ℕ) (choices : Choices) : Type 0 where
 abbrev pub squared_or_one : Option SquaredRadius → ℤ
 squared_or_one slot = option_map_or (λ radius. radius.squared) slot (pos 1)
 
--- the settings are what stands in the slots, and else what stands otherwise
+-- the settings are what is in the slots, and else what holds otherwise
 pub record AreChosen (choices : Choices) (settings : Settings) : Type 0 where
   pub engine : settings.engine ≡ unwrap_or choices.engine I32
   pub strategy : settings.strategy ≡ unwrap_or choices.strategy Auto
@@ -117,11 +117,11 @@ refuses words before after word choices held none at settings set =
     (λ value sets. let takes = takes_chosen (codes "limit") WritesLimit WritesLimit words before after word value choices.snap_limit 256 settings.snap_limit held.limit set.limit at sets in none.limit (takes.0, (settings.snap_limit, takes.1)))
     (λ value sets. let takes = takes_chosen (codes "radius") WritesRadius WritesSquare words before after word value choices.radius (pos 1) settings.radius.squared held.radius set.radius at sets in none.radius (takes.0, (settings.radius, takes.1)))
 
--- words after the first that set nothing ask for nothing
+-- words after the first that set nothing choose nothing
 pub ask_nothing : (words others : List (List ℕ)) (first : List ℕ) → words ≡ first ∷ others → SetNothing others → AskNothing words
 ask_nothing words others first split nothing command settings asked = nothing settings (subst (λ ws. WordsSet ws settings) (cc (asked.split, split)) asked.set)
 
--- what stands in the slots at the end is what the words set
+-- what is in the slots at the end is what the words set
 pub sets : (words : List (List ℕ)) (choices : Choices) (settings : Settings) → AreRead words choices → AreChosen choices settings → WordsSet words settings
 sets words choices settings held chosen = record {
   known = held.known;

@@ -104,7 +104,7 @@ NoneSets-push name words word none other value h = elim (Contains-push_cases wor
 Contains-between : {X : Type 0} (before after : List X) (x y : X) → x ≡ y → Contains (before ++ x ∷ after) y
 Contains-between before after x y e = Contains-append_right before (x ∷ after) y (0, omega arith, e)
 
--- the one word that sets the name stands at one place
+-- the one word that sets the name is at one place
 only_one : (name value : List ℕ) (before front : List (List ℕ)) (word one : List ℕ) (after back : List (List ℕ)) → word ≡ setting name value → NoneSets name front → NoneSets name back → before ++ word ∷ after ≡ front ++ one ∷ back → (before ≡ front) × (word ≡ one)
 only_one name value [] [] word one after back sets none_front none_back e = (refl, cc)
 only_one name value [] (w ∷ front) word one after back sets none_front none_back e =
@@ -120,7 +120,7 @@ only_one name value (w ∷ before) (u ∷ front) word one after back sets none_f
     (cc, same.1)
 
 module _ {V : Type 0} (name : List ℕ) (Means : List ℕ → V → Type 0) where
-  -- what stands in the slot when these words are read
+  -- what is in the slot when these words are read
   abbrev pub Slot : List (List ℕ) → Option V → Type 0
   Slot words slot = IsChosen name (λ value found. (chosen : V) × (found ≡ Some chosen) × Means value chosen) None words slot
 
@@ -134,7 +134,7 @@ module _ {V : Type 0} (name : List ℕ) (Means : List ℕ → V → Type 0) wher
   slot-more words word old new (inr none) (inl takes) = inl (words, word, [], refl, (takes.3.0, takes.3.1, (takes.0, takes.2, takes.3.2)), none.0, none_sets name)
   slot-more words word old new (inr none) (inr left) = inr (NoneSets-push name words word none.0 left.0, left.1 ∙ none.1)
 
-  -- what stands in the slot at the end is chosen
+  -- what is in the slot at the end is chosen
   pub chosen-from_slot : {W : Type 0} (NamesView : List ℕ → W → Type 0) (words : List (List ℕ)) (slot : Option V) (otherwise chosen : W) → Slot words slot
       → ((value : List ℕ) (x : V) → slot ≡ Some x → Means value x → NamesView value chosen) → (slot ≡ None → chosen ≡ otherwise) → IsChosen name NamesView otherwise words chosen
   chosen-from_slot NamesView words slot otherwise chosen (inl set) means none =

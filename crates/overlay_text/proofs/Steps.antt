@@ -1,4 +1,4 @@
--- A line's step as the segment constructors make it, and what a split asks of it.
+-- A line's step as the segment constructors make it, and what a split requires of it.
 use Rattle.std.proofs.Common.{◌≡◌, ℤ, Bool, true, false, not, if◌then◌else◌, List, [], ◌∷◌, ◌++◌, Some, None, refl, arith}
 use Rattle.std.proofs.lemmas.Grind.{common_steps}
 use Rattle.std.proofs.lemmas.Bool.{and_parts}

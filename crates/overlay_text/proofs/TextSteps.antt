@@ -1,4 +1,4 @@
--- What a line asks for, from its words, and what the lines of a text ask for, one line more at a time.
+-- What a line describes, from its words, and what the lines of a text describe, one line more at a time.
 use Rattle.std.proofs.Common.{rules, ◌≡◌, ◌≢◌, inl, inr, ℤ, ◌+◌, length, arith, append-nil, append_assoc, length-append, List, [], ◌∷◌, ◌++◌, ℕ, Some, None, refl, sym, ap, ◌∙◌, subst}
 use Rattle.overlay_geometry.specs.Points.{Point}
 use Rattle.overlay_base.specs.Segments.{WholeSegment}
@@ -36,7 +36,7 @@ module _ {X : Type 0} (Asks : List ℕ → X → Type 0) where
   ask-one (first ∷ lines) asked line one (inl h) asks = inl (h.0, ask-one lines asked line one h.1 asks)
   ask-one (first ∷ lines) asked line one (inr h) asks = inr (h.0, h.1 ++ one ∷ [], ap (λ l. l ++ one ∷ []) h.2, h.3, ask-one lines h.1 line one h.4 asks)
 
-  -- of the lines of a text these are left, as many were taken, and those ask in turn for this
+  -- of the lines of a text these are left, as many were taken, and those describe in turn this
   abbrev pub Taken : List (List ℕ) → List (List ℕ) → ℕ → List X → Type 0
   Taken lines left count asked = (before : List (List ℕ)) × (lines ≡ before ++ left) × (length before ≡ count) × AskInTurn Asks before asked
 

@@ -1,4 +1,4 @@
--- What a line asks for: one step of a contour, from a to b.
+-- What a line describes: one step of a contour, from a to b.
 use Rattle.std.specs.Prelude.{ℤ, not, if◌then◌else◌, Option, Some, None}
 use Rattle.overlay_geometry.specs.Points.{Point, point_eq, point_lt}
 use Rattle.overlay_base.specs.Segments.{WholeSegment}

@@ -39,7 +39,7 @@ place_line kind point is_rounded = kind ++ pair_text point.x point.y ++ (if is_r
 abbrev pub overlay_line : Pair → Pair → List ℕ
 overlay_line target other = codes "overlay " ++ decimal (ends_mask target other) ++ codes "\n"
 
--- the text of what a target and another segment are answered
+-- the text of the result for a target and another segment
 unfoldable pub answer_text : Pair → Pair → Option CrossAnswer → List ℕ
 answer_text target other None = codes "none\n"
 answer_text target other (Some answer) =
@@ -50,7 +50,7 @@ answer_text target other (Some answer) =
       | overlay ↦ overlay_line target other
     ]
 
--- the text of where two segments meet, the smaller of which is the target, under a squared radius
+-- the text of where two segments meet, the smaller one as the target, under a squared radius
 unfoldable pub meeting_text : ℕ → Pair → Pair → List ℕ
 meeting_text r2 s t =
     if pair_lt s t then answer_text s t (cross_answer (snapping r2) s t)

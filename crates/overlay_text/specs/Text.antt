@@ -1,4 +1,4 @@
--- What the text of the input asks for, line by line.
+-- What the text of the input describes, line by line.
 use Rattle.std.specs.Prelude.{◌≡◌, ◌≢◌, ◌⊎◌, ℕ, ◌+◌, ℤ, not, ◌==◌, List, [], ◌∷◌, ◌++◌, length, filter, codes, Some, None, IsTrue}
 use Rattle.std.specs.List.{slice_split}
 use Rattle.std.specs.Str.Lines.{strip_carriage_return}
@@ -53,7 +53,7 @@ IsFaulty least greatest line fault =
     ⊎ ((shape_type : ShapeType) × (a : Point) × (b : Point) × WritesStep (words_of_line line) shape_type a b
     × (step_fault least greatest a b ≡ Some fault))
 
--- each of the lines has no words or asks for something, and this is what they ask for, in order
+-- each of the lines has no words or describes something, and this is what they describe, in order
 abbrev pub AskInTurn : {X : Type 0} → (List ℕ → X → Type 0) → List (List ℕ) → List X → Type 0
 AskInTurn Asks [] asked = asked ≡ []
 AskInTurn {X = X} Asks (line ∷ lines) asked =
@@ -67,14 +67,14 @@ IsFirstFaultOf {X = X} Asks HasFault lines stop =
     × ((asked : List X) × AskInTurn Asks before asked)
     × ((fault : LineFault) × HasFault line fault × (stop ≡ Line (length before + 1) fault))
 
--- each of the lines has no words or asks for a segment, and these are the segments, in order
+-- each of the lines has no words or describes a segment, and these are the segments, in order
 abbrev pub AskInTurnFor : ℤ → ℤ → List (List ℕ) → List WholeSegment → Type 0
 AskInTurnFor least greatest lines segments = AskInTurn (AsksFor least greatest) lines segments
 
 abbrev pub IsFirstFault : ℤ → ℤ → List (List ℕ) → Stop → Type 0
 IsFirstFault least greatest lines stop = IsFirstFaultOf (AsksFor least greatest) (IsFaulty least greatest) lines stop
 
--- The lines of a text ask for these segments of code, in order.
+-- The lines of a text describe these segments of code, in order.
 abbrev pub AsksForSegments : {C I D : Type 0} {m : _} {w : _} {o : _} {e : _} {p : _} → List ℕ → List (Segment C I D m w o e p) → Type 0
 AsksForSegments {w = w} bytes list = AskInTurnFor (w.whole w.MIN_COORD) (w.whole w.MAX_COORD) (lines_of bytes) (segments_of list)
 

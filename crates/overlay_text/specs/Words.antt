@@ -1,4 +1,4 @@
--- What the words of a call ask for.
+-- What the words of a call choose.
 use Rattle.std.specs.Prelude.{◌≡◌, ◌≢◌, ◌⊎◌, ◌≤◌, ◌<◌, ◌^◌, ℕ, ℤ, pos, not, nat_lt, if◌then◌else◌, ◌==◌, IsTrue, MatchResult, List, [], length, ◌∷◌, ◌++◌, All, Contains, Option, Some, None, codes}
 use Rattle.std.specs.List.{list_all}
 use Rattle.std.specs.declared.result.Result.{Result}
@@ -121,7 +121,7 @@ SetsTo name Means word chosen = (value : List ℕ) × (word ≡ setting name val
 abbrev pub NoneSets : List ℕ → List (List ℕ) → Type 0
 NoneSets name words = (value : List ℕ) → ¬ (Contains words (setting name value))
 
--- what is chosen for a name: what the one word that sets it sets it to, and where none does, what stands otherwise
+-- what is chosen for a name: what the one word that sets it sets it to, and where none does, what holds otherwise
 abbrev pub IsChosen : {V : Type 0} → List ℕ → (List ℕ → V → Type 0) → V → List (List ℕ) → V → Type 0
 IsChosen name Means otherwise words chosen =
     ((before : List (List ℕ)) × (word : List ℕ) × (after : List (List ℕ)) × (words ≡ before ++ word ∷ after)
@@ -151,7 +151,7 @@ pub record WordsAsk (words : List (List ℕ)) (command : Command) (settings : Se
   pub named : NamesCommand first command
   pub set : WordsSet others settings
 
--- no command and no settings are asked for
+-- no command and no settings are chosen
 abbrev pub AskNothing : List (List ℕ) → Type 0
 AskNothing words = (command : Command) (settings : Settings) → ¬ (WordsAsk words command settings)
 

@@ -22,7 +22,7 @@ use overlay_geometry::geom::point::IntPoint;
 use overlay_geometry::num::OverlayInt;
 use std::alloc::Global;
 
-/// The lines of a text. Line feeds stand between them, so there is one more line than line feeds.
+/// The lines of a text. Line feeds are between them, so there is one more line than line feeds.
 #[derive(Drop)]
 pub struct Lines<'a> {
     rest: Option<&'a [u8]>,
@@ -96,7 +96,7 @@ impl<'a> Iterator for Words<'a> {
     }
 }
 
-/// A line as it stands, with numbers of any engine.
+/// A line as it is, with numbers of any engine.
 #[derive(Clone, Copy)]
 struct Line {
     shape_type: ShapeType,
@@ -104,7 +104,7 @@ struct Line {
     b: IntPoint<i64>,
 }
 
-/// The segments that the lines of a text ask for, in order. The first faulty line stops the run.
+/// The segments that the lines of a text describe, in order. The first faulty line stops the run.
 pub fn read_lines<I: OverlayInt>(
     alloc: Global,
     bytes: &[u8],
@@ -157,7 +157,7 @@ fn without_carriage_return(line: &[u8]) -> &[u8]
     }
 }
 
-/// What a letter and the words behind it write, of which there are to be four numbers.
+/// What a letter and the words behind it write, which have to be four numbers.
 fn parse_line(letter: &[u8], words: &mut Words<'_>) -> Option<Line>
     ensures { MatchOption result
         ((shape_type : ShapeType) (a b : Point) → ¬ (WritesStep
@@ -194,7 +194,7 @@ pub fn shape_type(letter: &[u8]) -> Option<ShapeType>
     }
 }
 
-/// The segment that a line asks for.
+/// The segment that a line describes.
 fn segment<I: OverlayInt>(line: Line) -> Result<Segment<ShapeCountBoolean, I, ()>, LineFault>
     ensures fault { result_err result ≡ step_fault (I.whole I.MIN_COORD) (I.whole I.MAX_COORD)
         (point_of (λ z. z) line.a) (point_of (λ z. z) line.b) }

@@ -1,16 +1,16 @@
-// What the words of a call may choose, and what stands where they choose nothing.
+// What the words of a call may choose, and what holds where they choose nothing.
 ghost use Rattle.std.specs.Prelude.{◌≡◌, ◌≤ℤ◌, ◌^◌, pos};
 
 use overlay_base::overlay_core::fill_rule::FillRule;
 use overlay_base::overlay_core::overlay_rule::OverlayRule;
 use overlay_base::overlay_core::solver::{Precision, Solver, Strategy};
 
-/// What the program is asked to do.
+/// What the program does.
 #[derive(Clone, Copy, Debug, PartialEq)]
 pub enum Command {
     /// Joins the lines on each pair of ends.
     Join,
-    /// Tells where two lines meet.
+    /// Prints where two lines meet.
     Cross,
     /// Splits the lines where they meet.
     Split,

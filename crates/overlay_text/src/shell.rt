@@ -25,14 +25,14 @@ pub trait Program {
     /// The line that says how the program is called.
     fn usage() -> &'static str;
 
-    /// The choices for which the words ask.
+    /// The choices that the words make.
     ///
-    /// Returns `Stop::Usage` exactly where they ask for none.
+    /// Returns `Stop::Usage` exactly where they choose none.
     fn read_words(words: &[String]) -> Result<Self::Choices, Stop>
         ensures asked { IfOk result (λ choices. behavior.AskFor (map string_bytes words.now) choices) }
         ensures usage { IfErr result (λ stop. (stop ≡ Stop.Usage) × AskForNone behavior (map string_bytes words.now)) };
 
-    /// The text of the answer, or why there is none.
+    /// The text of the result, or why there is none.
     fn answer(alloc: Global, choices: Self::Choices, bytes: &[u8]) -> Result<String, Stop>
         ensures text { IfOk result (λ text. behavior.Answers choices bytes.now (Ok (string_bytes text))) }
         ensures stop { IfErr result (λ stop. (stop ≡ Stop.Refused Memory)
@@ -69,9 +69,9 @@ pub fn run_started<P: Program, H: Env + AllocGlobal, R: Read, W: Write, E: Write
 
 /// Runs a program over these words, and returns the exit status: 0 where the run is done, else that of its `Stop`.
 ///
-/// Nothing is written to `output` unless the run is done or the output failed, and nothing to `faults` where the status
-/// is 0. Any other status is explained in one line on `faults`; a failed write there is ignored. Where the words ask
-/// for nothing, nothing is read.
+/// Nothing is written to `output` unless the run is done or the output failed, and nothing to
+/// `faults` where the status is 0. Any other status is explained in one line on `faults`; a failed
+/// write there is ignored. Where the words choose nothing, nothing is read.
 #[tactic(auto, using(crate::proofs::Runs::is_no_success))]
 pub fn run_over<P: Program, R: Read, W: Write, E: Write>(
     alloc: Global,
@@ -176,7 +176,7 @@ fn started_words<H: Env + AllocGlobal>(rt: &H) -> Result<Vec<String>, Stop>
     Ok(words)
 }
 
-/// Tells a refusal of memory from any other failure.
+/// Separates a refusal of memory from any other failure.
 fn stop_of(error: io::Error, otherwise: Stop) -> Stop
     ensures memory { error_kind error ≡ ErrorKind.OutOfMemory → result ≡ Stop.Refused Memory }
     ensures other { error_kind error ≢ ErrorKind.OutOfMemory → result ≡ otherwise }

@@ -25,13 +25,13 @@ pub enum LineFault {
 /// Why a run stops.
 #[derive(Clone, Copy, Debug, PartialEq, Eq, Error)]
 pub enum Stop {
-    /// The words after the program's name ask for nothing that the program does.
+    /// The words after the program's name choose nothing that the program does.
     #[error("usage")]
     Usage,
-    /// A crossing is asked for, and the lines are not two.
+    /// A crossing is wanted, and the lines are not two.
     #[error("cross needs two segments")]
     NotTwoSegments,
-    /// Contours are asked for without a rule that chooses them.
+    /// Contours are wanted without a rule that chooses them.
     #[error("polygons needs a rule other than all")]
     NoRule,
     /// Lines are numbered from 1, empty ones too.

@@ -20,7 +20,7 @@ use overlay_base::overlay_core::solver::{Precision, Strategy};
 
 const GREATEST_RADIUS: u64 = 1 << 56;
 
-/// The command and the settings that the words ask for. Anything else is `Stop::Usage`.
+/// The command and the settings that the words choose. Anything else is `Stop::Usage`.
 pub fn read_words(words: &[String]) -> Result<(Command, Settings), Stop>
     ensures asked { IfOk result (λ asked. WordsAsk (map string_bytes words.now) asked.0 asked.1) }
     ensures usage { IfErr result (λ stop. (stop ≡ Stop.Usage) × AskNothing (map string_bytes words.now)) }
@@ -104,7 +104,7 @@ fn fill_rule(name: &str) -> Option<FillRule>
     }
 }
 
-/// The rule that a word names: `all` asks for a graph without a rule, and `table:N` for the rule of a table.
+/// The rule that a word names: `all` is a graph without a rule, and `table:N` the rule of a table.
 fn rule(value: &str) -> Option<Option<OverlayRule>>
     ensures { MatchOption result ((rule : Option OverlayRule) → ¬ (NamesRule value.now rule)) (NamesRule value.now) }
 {

@@ -1,4 +1,4 @@
--- Lines, words, and what lines ask for.
+-- Lines, words, and what lines describe.
 use Rattle.std.proofs.Common.{◌≡◌, refl, List, [], ◌∷◌, ◌++◌, ℕ, arith, inl, inr}
 use Rattle.std.specs.Prelude.{pos, negsuc, codes}
 use Rattle.overlay_geometry.specs.Points.{Point}
