@@ -11,7 +11,7 @@ pub record Entry : Type 0 where
   pub index : ℕ
   pub is_live : Bool
 
--- a look-up between two heights, as the sweep stands at x
+-- a look-up between two heights, where the sweep is at x
 pub record WholeQuery : Type 0 where
   pub low : ℤ
   pub high : ℤ
@@ -57,7 +57,7 @@ inserted index e = record e { is_live = e.is_live || e.index == index }
 abbrev pub stays_at : ℤ → Entry → Bool
 stays_at x e = e.is_live && not (int_lt e.end_x x)
 
--- entries stand by rising low, those of one low by rising index
+-- entries are ordered by rising low, those of one low by rising index
 abbrev pub StandsBefore : Entry → Entry → Type 0
 StandsBefore e f = (e.low <ℤ f.low) ⊎ ((e.low ≡ f.low) × (e.index < f.index))
 
@@ -100,7 +100,7 @@ IsAt index low e = e.index ≡ index → e.low ≡ low
 abbrev pub IsUpTo : ℕ → ℤ → Entry → Type 0
 IsUpTo index high e = e.index ≡ index → e.high ≡ high
 
--- The tree stands in a list: its root in the middle, its subtrees before and after it. Every root holds the greatest height of
+-- The tree is a list: its root in the middle, its subtrees before and after it. Every root holds the greatest height of
 -- the live entries of its subtree.
 pub data IsSummed : List TreeNode → Type 0 where
   none : IsSummed []

@@ -15,7 +15,7 @@ nowhere = record { a = record { x = pos 0; y = pos 0 }; b = record { x = pos 0; 
 abbrev pub pair_at : List Pair → ℕ → Pair
 pair_at ps index = slice_index_or ps index nowhere
 
--- from this number on live entries stand in a tree; fewer are compared one by one
+-- from this number on live entries are in a tree; fewer are compared one by one
 abbrev pub few : ℕ
 few = 48
 

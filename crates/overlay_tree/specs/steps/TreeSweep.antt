@@ -1,4 +1,4 @@
--- Where a sweep over an interval tree stands: which entries its tree has, which of them are live, and how much it has compared.
+-- Where a sweep over an interval tree is: which entries its tree has, which of them are live, and how much it has compared.
 use Rattle.std.specs.Prelude.{◌≡◌, ℕ, ◌+◌, ◌-◌, ◌*◌, ◌^◌, ◌<◌, ◌≤◌, ◌<ℤ◌, ◌==◌, min, true, false, List, ◌++◌, map, length, take, count_by, IsPermutation}
 use Rattle.std.specs.Int.{int_min, int_max}
 use Rattle.std.specs.List.{AllByRecursion, list_any}
@@ -58,7 +58,7 @@ pub record IsUnderWay (ps : List Pair) (nodes : List TreeNode) (old now j until 
   pub rising : j < until → AreRising (entries nodes)
   pub summed : j < until → IsSummed nodes
 
--- the sweep goes on where it stands, whatever was compared before
+-- the sweep goes on where it is, whatever was compared before
 abbrev pub GoesOn : List Pair → List TreeNode → List TreeNode → ℕ → ℕ → ℕ → ℕ → ℕ → Type 0
 GoesOn ps nodes next now after j until until' = (old : ℕ) → IsUnderWay ps nodes old now j until → IsUnderWay ps next old after (j + 1) until'
 

@@ -1,5 +1,5 @@
 // A tree over the heights of segments that are met by a sweep, for look-ups by a range of heights.
-// It stands in one list: the root in the middle, its subtrees before and after it.
+// It is one list: the root in the middle, its subtrees before and after it.
 ghost use Rattle.std.specs.Prelude.{◌≡◌, ◌+◌, ◌-◌, ◌^◌, ◌==◌, ◌++◌, [], ◌∷◌, map, length, count_by, min, int_lt, nat_lt};
 ghost use Rattle.std.specs.Prelude.{true, not, ◌&&◌, ◌||◌, IsFalse, Some, IfOk, OnOk};
 ghost use Rattle.std.specs.List.{AllByRecursion, list_any};
@@ -24,7 +24,7 @@ pub struct Node<I> {
     pub is_live: bool,
 }
 
-/// A look-up: the heights that it meets, and where the sweep stands.
+/// A look-up: the heights that it meets, and where the sweep is.
 #[derive(Clone, Copy, Debug)]
 pub struct Query<I> {
     pub heights: LineRange<I>,
@@ -269,7 +269,7 @@ fn raise<I: OverlayInt>(root: &mut Node<I>, high: I)
     root.greatest = further(root.greatest, Some(high));
 }
 
-/// Whether an entry stands before that of a node, by its low end and then by its index.
+/// Whether an entry comes before that of a node, by its low end and then by its index.
 fn stands_before<I: OverlayInt>(low: I, index: usize, node: &Node<I>) -> bool
     ensures { result ≡ (int_lt (I.whole low) (I.whole node.now.low)
         || not (int_lt (I.whole node.now.low) (I.whole low)) && nat_lt index node.now.index) }

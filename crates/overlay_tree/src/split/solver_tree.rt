@@ -142,8 +142,8 @@ fn may_take(limit: Option<u128>, looked: u128, more: usize) -> bool
     }
 }
 
-/// Fewer segments than this that are live stand in no tree, and each later segment is compared with all of them. A
-/// scan of so few costs less than a tree. The bound on comparisons rests on it.
+/// Below this many live segments no tree is kept, and each later segment is compared with all of
+/// them. A scan of so few costs less than a tree. The bound on comparisons rests on it.
 const FEW: usize = 48;
 
 const _: () = prove!(FEW == 48);

@@ -112,7 +112,7 @@ AreTold-end ps old now j told all = nothing_more now _ (2 ^ 128 - 1) told.fits (
     no_twos (p ∷ ps) zero le = absurd (omega arith)
     no_twos (p ∷ ps) (suc j) le = no_twos ps j (omega arith)
 
--- where the walk over all stands
+-- where the walk over all is
 pub record AreWalking (placing : Placing) (ps : List Pair) (marks : List Mark) (rounded : Bool) (before looked j : ℕ) : Type 0 where
   pub walk : IsWalked placing ps marks rounded j
   pub told : AreTold ps before looked j

@@ -38,7 +38,7 @@ ordered_at ps j all lt =
 
 -- ---- what is found
 
--- where a scan from one index up to another stands: what it has found and what is left make up the whole
+-- where a scan from one index up to another is: what it has found and what is left make up the whole
 pub record IsScanned (placing : Placing) (i : ℕ) (ps : List Pair) (old now : List Mark) (rounded : Bool) (from j : ℕ) : Type 0 where
   pub found : now ++ marks_left placing ps i j ≡ old ++ marks_left placing ps i from
   pub flag : (rounded || crosses_left ps i j) ≡ crosses_left ps i from

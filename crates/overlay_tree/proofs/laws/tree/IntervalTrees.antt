@@ -244,7 +244,7 @@ pub none_inserted : (index : ℕ) (es : List Entry) → AllByRecursion (λ e. e.
 none_inserted index [] h = refl
 none_inserted index (e ∷ es) h = ap₂ (λ (x : Entry) (xs : List Entry). x ∷ xs) (not_here index e h.0) (none_inserted index es h.1)
 
--- whether an index with this low stands before an entry, as code asks it
+-- whether an index with this low comes before an entry, as code tests it
 abbrev pub is_before : ℤ → ℕ → Entry → Bool
 is_before low index e = int_lt low e.low || not (int_lt e.low low) && nat_lt index e.index
 
@@ -262,7 +262,7 @@ off_after low index r e h at (inr same) is = let l = at is in clash low r.low e.
     clash : (a b c : ℤ) (i j k : ℕ) → (int_lt a b || not (int_lt b a) && nat_lt i j) ≡ true → b ≡ c → j ≡ k → c ≡ a → k ≡ i → ⊥
     clash a b c i j k h m n l o = grind (arith, ints)
 
--- from the root on, where the index stands before it
+-- from the root on, where the index comes before it
 pub none_after : (low : ℤ) (index : ℕ) (root : Entry) (right : List Entry) → is_before low index root ≡ true → AllByRecursion (StandsBefore root) right → AllByRecursion (IsAt index low) (root ∷ right) →
     AllByRecursion (λ e. e.index ≡ index → ⊥) (root ∷ right)
 none_after low index root right h k at = (
@@ -280,7 +280,7 @@ off_before low index r e h at (inr same) is = let l = at is in clash low r.low e
     clash : (a b c : ℤ) (i j k : ℕ) → (int_lt a b || not (int_lt b a) && nat_lt i j) ≡ false → c ≡ b → k < j → c ≡ a → k ≡ i → ⊥
     clash a b c i j k h m n l o = grind (arith, ints)
 
--- up to the root, where the index stands after it
+-- up to the root, where the index comes after it
 pub none_before : (low : ℤ) (index : ℕ) (root : Entry) (left : List Entry) → is_before low index root ≡ false → AllByRecursion (λ e. StandsBefore e root) left → AllByRecursion (IsAt index low) left →
     AllByRecursion (λ e. e.index ≡ index → ⊥) left
 none_before low index root left h k at =

@@ -1,4 +1,5 @@
--- How many entries a look-up compares that it does not take up: in small subtrees that it passes over, of which all but the last have one that it takes up.
+-- How many entries a look-up compares that it does not take up: in small subtrees that it passes over; all but the last have one that it
+-- takes up.
 use Rattle.std.proofs.Common.{◌≡◌, refl, ap, ◌∙◌, ℕ, ◌+◌, ◌-◌, ◌^◌, ◌<◌, ◌≤◌, arith, Bool, true, false, not, ◌&&◌, cond, List, [], ◌∷◌, ◌++◌, length, length-append, inl, inr, ◌⊎◌}
 use Rattle.std.specs.Prelude.{ℤ, ◌<ℤ◌, ◌≤ℤ◌, int_lt, min, count_by, Option, Some, None}
 use Rattle.std.specs.Int.{int_max}
@@ -70,7 +71,7 @@ looked_among q es m n few reached h =
       within = omega (arith, fewer);
     }
 
--- entries of which none is taken up
+-- entries, none of which is taken up
 pub looked_none : (q : WholeQuery) (es : List Entry) (m : ℕ) → m ≤ 2 ^ 128 - 1 → AllByRecursion (IsNotTaken q) es → HasLooked q es m m
 looked_none q es m fits none =
     let count = none_counted q es none in
@@ -98,7 +99,7 @@ looked_first q e es m k n own rest =
     added : (m a b c o k w : ℕ) → k ≡ min (m + a) w → c ≡ a + b → min (k + (b + o)) w ≡ min (m + (c + o)) w
     added m a b c o k w e f = omega (arith, e, f)
 
--- a left part and what follows it, which is within reach, or of which no more is compared than is taken up
+-- a left part and what follows it, which is within reach, or where no more is compared than is taken up
 pub looked_both : (q : WholeQuery) (ls rs : List Entry) (k m n : ℕ) → HasLooked q ls k m → (right : HasLooked q rs m n) → (AllByRecursion (IsWithinReach q) ls) ⊎ (right.others ≡ 0) → HasLooked q (ls ++ rs) k n
 looked_both q ls rs k m n left right far =
     let sum = count_by-append (is_taken_up q) ls rs in

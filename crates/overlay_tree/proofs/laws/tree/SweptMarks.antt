@@ -88,7 +88,7 @@ IsMarked-start placing ps = record {
   tells = λ i k lt w h. absurd (omega arith);
 }
 
--- of two of which one marks the other, or that cross inexactly, neither is apart from the other
+-- of two where one marks the other, or that cross inexactly, neither is apart from the other
 marked_near : (placing : Placing) (s t : Pair) (p : Point) → Has (marks_by placing s t) p → AreApart s t → ⊥
 marked_near placing s t p h apart = subst (λ (ps : List Point). Has ps p) (apart_have_no_mark placing s t apart) h
 

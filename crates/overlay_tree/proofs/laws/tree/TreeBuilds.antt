@@ -18,7 +18,7 @@ use Rattle.overlay_geometry.proofs.laws.integers.Tests.{eqb-less, eqb-turned}
 
 -- ---- entries in order
 
--- where an entry stands: its low and its index
+-- where an entry is: its low and its index
 pub record Place : Type 0 where
   pub low : ℤ
   pub index : ℕ
@@ -74,7 +74,7 @@ pub all_distinct : (ps : List Pair) (is : List ℕ) → IsPermutation (map (λ (
 all_distinct ps is p =
     IsDistinct-IsPermutation (λ i j. i == j) eqb-turned (range_with_len 0 (length ps)) is (subst (λ (ks : List ℕ). IsPermutation ks is) (indexes_of ps (range_with_len 0 (length ps))) p) (range_distinct 0 (length ps))
 
--- nodes of code of which the entries pass
+-- nodes of code whose entries pass
 pub entries_filter : {I : Type 0} (whole : I → ℤ) (p : Entry → Bool) (nodes : List (Node I)) → entries (tree_nodes whole (filter (λ n. p (node_entry whole n)) nodes)) ≡ filter p (entries (tree_nodes whole nodes))
 entries_filter whole p [] = refl
 entries_filter whole p (n ∷ ns) = by (p (node_entry whole n)) (entries_filter whole p ns)

@@ -75,7 +75,7 @@ module _ {I : Type 0} (whole : I → ℤ) where
   same_length f l l' e =
       sym (length-map l' (node_of whole)) ∙ sym (length-map (tree_nodes whole l') (λ (n : TreeNode). n.entry)) ∙ ap length e ∙ length-map (entries_in l) f ∙ length-map (tree_nodes whole l) (λ (n : TreeNode). n.entry) ∙ length-map l (node_of whole)
 
-  -- and the tree stands where its parts do
+  -- and the tree is where its parts are
   pub summed_again : (f : Entry → Entry) (nodes l s l' s' : List (Node I)) (r r' : Node I) → IsCut nodes l r s → entries_in l' ≡ map f (entries_in l) → entries_in s' ≡ map f (entries_in s) →
       IsSummed (tree_nodes whole l') → IsSummed (tree_nodes whole s') → highest_of whole r'.greatest ≡ greatest_height (entries_in l' ++ node_entry whole r' ∷ entries_in s') → IsSummed (tree_nodes whole (l' ++ r' ∷ s'))
   summed_again f nodes l s l' s' r r' cut e1 e3 hl hs h =
@@ -204,7 +204,7 @@ module _ {I : Type 0} (whole : I → ℤ) where
     pub left_summed : IsSummed (tree_nodes whole l')
     pub right_summed : IsSummed (tree_nodes whole s')
 
-  -- the lows at which an index may stand
+  -- the lows at which an index may be
   pub record AreAt (index : ℕ) (low : ℤ) (l : List (Node I)) (r : Node I) (s : List (Node I)) : Type 0 where
     pub left_at : AllByRecursion (IsAt index low) (entries_in l)
     pub root_at : IsAt index low (node_entry whole r)

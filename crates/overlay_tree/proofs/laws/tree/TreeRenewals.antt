@@ -77,7 +77,7 @@ between_split ps a b c h k =
 
 -- ---- a renewal
 
--- lists in an order of which the tree's part is first
+-- lists in an order with the tree's part first
 moved : (E gone C R F G E' : List Entry) → IsPermutation E (F ++ G) → IsPermutation (F ++ C) E' → IsPermutation (E ++ (gone ++ (C ++ R))) (E' ++ ((G ++ gone) ++ R))
 moved E gone C R F G E' p k =
     let T = gone ++ (C ++ R) in
