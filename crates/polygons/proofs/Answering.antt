@@ -36,7 +36,7 @@ use Rattle.polygons.specs.Run.{IsNoLimitOrRadius, Set, is_among, is_flag, withou
 use Rattle.polygons.specs.Wkt.{AsksForPolygons}
 use Rattle.polygons.specs.declared.run.Choices.{Choices}
 
--- words of which one sets the limit or the radius set no settings
+-- words with one that sets the limit or the radius set no settings
 pub refuses : (words before : List (List ℕ)) (word : List ℕ) (after : List (List ℕ)) → words ≡ before ++ word ∷ after → (value : List ℕ) × ((word ≡ setting (codes "limit") value) ⊎ (word ≡ setting (codes "radius") value)) → (settings : Settings) → ¬ (Set words settings)
 refuses words before word after cut sets settings asked =
     let none = All-contains IsNoLimitOrRadius words word asked.1 (subst (λ ws. Contains ws word) (sym cut) (Contains-append_right before (word ∷ after) word (0, omega arith, refl))) in

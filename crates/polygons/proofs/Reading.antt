@@ -41,7 +41,7 @@ module _ (all left others : List (List ℕ)) (word : List ℕ) (points : List Po
       let pair = subst (λ ws. WritePoints (read.1 ∷ ws) rest.0) first rest.1 in
       other pair.0.y pair.4
 
--- words of which one is left over write no points
+-- words with one left over write no points
 pub one_left_over : (all left : List (List ℕ)) (x : ℤ) (points wanted : List Point) → AreRead all left (Some x) points → left ≡ [] → WritePoints all wanted → ⊥
 one_left_over all left x points wanted read none whole =
     let rest = rest-writes read.0 (read.1 ∷ left) points wanted read.2 (subst (λ ws. WritePoints ws wanted) read.4 whole) in

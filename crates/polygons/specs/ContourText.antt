@@ -80,7 +80,7 @@ shape_lines shapes = flat_map shape_text shapes
 abbrev pub reach_line : ℕ → List ℕ
 reach_line halves = codes "reach " ++ decimal halves ++ codes "\n"
 
--- the lines that tell of a run, where it has a report: how many passes it made, and how far these reach, in halves
+-- the lines that report a run, where it has a report: how many passes it made, and how far these reach, in halves
 abbrev pub report_text : Bool → ℕ → ℕ → List ℕ
 report_text false passes halves = []
 report_text true passes halves = passes_line passes ++ reach_line halves

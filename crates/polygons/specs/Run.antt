@@ -46,7 +46,8 @@ is_flag word = bytes_eq word (codes "shapes") || (bytes_eq word (codes "report")
 abbrev pub without_flags : List (List ℕ) → List (List ℕ)
 without_flags words = filter (λ word. not (is_flag word)) words
 
--- The words ask for these choices: each of `shapes`, `report`, `pairwise` and `format=wkt` is among them where it is chosen, and the others set the settings.
+-- The words make these choices: each of `shapes`, `report`, `pairwise` and `format=wkt` is among them where it is chosen, and the others
+-- set the settings.
 pub record AskFor (words : List (List ℕ)) (choices : Choices) : Type 0 where
   pub in_shapes : choices.in_shapes ≡ is_among words (codes "shapes")
   pub has_report : choices.has_report ≡ is_among words (codes "report")
@@ -63,7 +64,7 @@ overlay_settings bits settings = record {
   limit = 256;
 }
 
--- how the choices round crossings
+-- how the choices have crossings rounded
 abbrev pub rounding_by : Choices → Rounding
 rounding_by choices = if choices.is_pairwise then Pairwise else HotPixels
 
@@ -136,7 +137,7 @@ IsPolygonsAnswer least greatest bits choices bytes answer =
     ((rule : OverlayRule) × (choices.settings.rule ≡ Some rule) × IsRuleAnswer least greatest bits choices rule bytes answer)
     ⊎ ((choices.settings.rule ≡ None) × (answer ≡ Err NoRule))
 
--- for which choices words ask, and what the answer is, in the coordinates of the engine that they choose
+-- which choices words make, and what the result is, in the coordinates of the engine that they choose
 abbrev pub polygons_behavior : Behavior Choices
 polygons_behavior = record {
   AskFor = AskFor;

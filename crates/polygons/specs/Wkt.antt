@@ -28,7 +28,7 @@ comma = codes ","
 unfoldable pub spaced_byte : ℕ → List ℕ
 spaced_byte b = if (b == 40) || ((b == 41) || (b == 44)) then 32 ∷ b ∷ 32 ∷ [] else b ∷ []
 
--- the words of a line, of which each `(`, `)` and `,` is one
+-- the words of a line; each `(`, `)` and `,` is one
 abbrev pub wkt_words : List ℕ → List (List ℕ)
 wkt_words line = words_of_line (flat_map spaced_byte line)
 

@@ -40,7 +40,7 @@ pub fn write_shapes<I: OverlayInt>(
     Ok(())
 }
 
-/// Writes `passes N` and `reach N` of the last overlay, where a report is asked for.
+/// Writes `passes N` and `reach N` of the last overlay, where a report is wanted.
 pub fn write_report<I: OverlayInt>(
     text: &mut String,
     has_report: bool,

@@ -34,7 +34,7 @@ The exit status is 0, or 2 for a wrong word, 3 for a wrong line, 4 where memory 
 input or the output fails.
 ";
 
-/// Whether the only word asks for the help.
+/// Whether the only word is that of the help.
 pub fn is_help_asked<H: Env + AllocGlobal>(rt: &H) -> bool {
     let Ok(words) = env::args(rt) else {
         return false;

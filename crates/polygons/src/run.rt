@@ -1,4 +1,4 @@
-// The program: which words it reads, and what it answers.
+// The program: which words it reads, and what it returns.
 ghost use Rattle.std.specs.Prelude.{◌≡◌, ◌⊎◌, ℕ, true, false, List, Ok, Err, codes, IfOk, IfErr, map, string_bytes};
 ghost use Rattle.overlay_base.specs.declared.overlay_core.overlay_rule.OverlayRule.{OverlayRule};
 ghost use Rattle.overlay_base.specs.declared.segm.fault.Fault.TheVariants.{Memory};
@@ -36,7 +36,7 @@ pub struct Choices {
 }
 
 impl Choices {
-    /// How the choices round crossings.
+    /// How the choices have crossings rounded.
     fn rounding(&self) -> Rounding
         ensures { result ≡ rounding_by self.now }
     {
