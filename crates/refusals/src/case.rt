@@ -1,9 +1,9 @@
-// A call that can take memory, what it answers, and why it may not.
+// A call that can take memory, what it returns, and why it may not.
 use i_overlay::geom::point::IntPoint;
 use i_overlay::segm::fault::Fault;
 use std::alloc::{AllocError, AllocFailed, Global};
 
-/// What a call answers, in numbers.
+/// What a call returns, in numbers.
 #[derive(Clone, Copy, Drop)]
 pub struct Summary {
     /// The number of segments, links, walks or points.
@@ -32,12 +32,12 @@ impl Summary {
     }
 }
 
-/// Why a call has no answer.
+/// Why a call has no result.
 #[derive(Clone, Copy, Drop)]
 pub enum Stop {
-    /// A growth was refused, and what stands after the call is as promised.
+    /// A growth was refused, and what is left after the call is as promised.
     Refused,
-    /// What stands is not as promised, or the call returns what it may not.
+    /// What is left is not as promised, or the call returns what it may not.
     Wrong(&'static str),
 }
 
@@ -65,7 +65,7 @@ pub trait Case {
     fn try_once(&mut self, alloc: Global) -> Result<Summary, Stop>;
 }
 
-/// Of a call that was refused: whether what stands after it is as promised.
+/// Of a call that was refused: whether what is left after it is as promised.
 pub fn refused(fault: Fault, is_as_promised: bool) -> Stop {
     match fault {
         Fault::Memory if is_as_promised => Stop::Refused,

@@ -1,4 +1,4 @@
-// Graphs of an arrangement, and what is asked of them.
+// Graphs of an arrangement, and what is done with them.
 use crate::case::{Case, Stop, Summary, mixed, mixed_index, mixed_point, refused};
 use crate::shapes::{NO_DATA, Shape, sides};
 use i_overlay::build::boundary::directed_segments;

@@ -1,7 +1,7 @@
-// The program `refusals`: makes calls that can take memory. Where a growth is refused it tests what stands after
-// the call, and makes the call again with the same splitter, runner or builder. So it prints the same whichever growth
-// was refused: on the standard output how many segments, links or points each call answers, on the other a digest of
-// them.
+// The program `refusals`: makes calls that can take memory. Where a growth is refused it tests what
+// is left after the call, and makes the call again with the same splitter, runner or builder. So it
+// prints the same whichever growth was refused: on the standard output how many segments, links or
+// points each call returns, on the other a digest of them.
 #![tactic(auto)]
 
 mod case;
@@ -30,7 +30,8 @@ use std::io;
 use std::io::Write;
 use std::process::ExitCode;
 
-/// How often a call is made, at most. One growth is refused in a run, so the second time has its answer.
+/// How often a call is made, at most. One growth is refused in a run, so the second time has its
+/// result.
 const TRIES: u32 = 2;
 
 /// The strategies, with the names that the output has for them.
@@ -159,7 +160,7 @@ fn tell_builds<W: Write, E: Write>(
     tell("build lists", name, &mut lists, alloc, output, digests)
 }
 
-/// Makes a call until it answers, and prints its answer.
+/// Makes a call until it returns a result, and prints it.
 fn tell<C: Case, W: Write, E: Write>(
     name: &str,
     strategy: &str,

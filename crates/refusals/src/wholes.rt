@@ -314,7 +314,7 @@ fn summary_of_shapes(shapes: &[IntShape<i32>]) -> Summary {
     }
 }
 
-/// Why a call over contours has no answer.
+/// Why a call over contours has no result.
 fn contour_stop(fault: ContourFault) -> Stop {
     match fault {
         ContourFault::Refused(fault) => refused(fault, true),
