@@ -75,7 +75,7 @@ overlay_core_status overlay_core_add_contour(overlay_core *overlay, int shape, c
     return (overlay_core_status)overlay_c_add_contour(&overlay->handle, (const overlay_core_point *)xy, points, (uint8_t)shape);
 }
 
-/* Makes starts of lengths, of which there are so many, and which have one element of room behind them. */
+/* Makes starts of so many lengths, with one element of room behind them. */
 static void sum_up(size_t *lengths, size_t count)
 {
     size_t start = 0;

@@ -1,4 +1,4 @@
-//! Contours of floating coordinates, of which the unit is a meter: two plots of land that share a strip.
+//! Contours of floating coordinates in meters: two plots of land that share a strip.
 
 use i_overlay_core::{area_of_shape, FillRule, FloatError, FloatOverlay, OverlayRule};
 

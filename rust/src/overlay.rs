@@ -34,7 +34,7 @@ pub struct Overlay {
     engine: ffi::Engine,
     /// What segments are split with.
     pub(crate) width: Engine,
-    /// How overlays of contours round crossings.
+    /// How overlays of contours have crossings rounded.
     rounding: Rounding,
     /// How many contours of the subject and of the clip were added.
     contour_counts: [usize; 2],
@@ -238,11 +238,11 @@ impl Overlay {
         Ok(())
     }
 
-    /// The overlay of the contours that were added, as contours that have it on their left, by the solver `AUTO`: outer
-    /// boundaries run counterclockwise, and holes clockwise. So they wind once around each point of which the rule
-    /// holds, and not at all around the others, but for points nearer to the given edges than half a unit in `x` and in
-    /// `y`, or than the passes move crossings under `Rounding::Pairwise`.
-    /// The contours that were added stay.
+    /// The overlay of the contours that were added, as contours that have it on their left, by the
+    /// solver `AUTO`: outer boundaries run counterclockwise, and holes clockwise. So they wind once
+    /// around each point where the rule holds, and not at all around the others, but for points
+    /// nearer to the given edges than half a unit in `x` and in `y`, or than the passes move
+    /// crossings under `Rounding::Pairwise`. The contours that were added stay.
     ///
     /// ```
     /// use i_overlay_core::{square, FillRule, Overlay, OverlayRule};

@@ -344,7 +344,7 @@ fn the_range_of_each_engine() {
     assert!(overlay.split(&[step((0, 0), (16_384, 0))], Solver::AUTO).is_ok());
 }
 
-/// Where crossings have whole coordinates both engines answer the same.
+/// Where crossings have whole coordinates both engines return the same.
 #[test]
 fn both_engines_on_exact_input() {
     let [mut wide, mut narrow] = [Engine::I32, Engine::I16].map(|engine| Overlay::new().unwrap().with_engine(engine));
@@ -373,7 +373,7 @@ fn counts_that_leave_the_range() {
     );
 }
 
-/// The arrangement stands where the graph alone is refused, and nothing does where the split is.
+/// The arrangement stays where the graph alone is refused, and nothing does where the split is.
 #[test]
 fn what_stands_after_a_refusal() {
     let mut overlay = Overlay::new().unwrap();
@@ -395,7 +395,8 @@ fn what_stands_after_a_refusal() {
     assert_eq!(refused(&[step(0), step(0)]), []);
 }
 
-/// The segments of the call before do not stand after a join that is refused, whatever it is refused for.
+/// The segments of the call before do not stay after a join that is refused, whatever it is refused
+/// for.
 #[test]
 fn nothing_stands_after_a_refused_join() {
     let mut overlay = Overlay::new().unwrap();
@@ -445,8 +446,8 @@ fn random_polygons() {
     }
 }
 
-/// Looks at an answer: links in order, ends at nodes in order, indexes that fit, even nodes, walks that pass each link
-/// once, and the same answer by each strategy.
+/// Tests a result: links in order, ends at nodes in order, indexes that fit, even nodes, walks that
+/// pass each link once, and the same result by each strategy.
 fn well_formed(overlay: &mut Overlay, segments: &[Segment], rule: OverlayRule, fill: FillRule) {
     let graph = overlay.build_graph(segments, rule, fill).unwrap();
     let links = graph.links().to_vec();

@@ -1,5 +1,6 @@
-//! Inputs that are hard on an overlay: few nearly parallel edges, of which passes over pairs make very many points, and
-//! inputs on which other libraries fail. The overlay is small, valid, and near what it is given.
+//! Inputs that are hard on an overlay: few nearly parallel edges, which passes over pairs turn into
+//! very many points, and inputs on which other libraries fail. The overlay is small, valid, and
+//! near what it is given.
 
 mod validity;
 

@@ -51,7 +51,8 @@ fn areas_add_up() {
         assert_eq!(area(OverlayRule::Xor), subject + clip - 2 * shared);
         assert_eq!(area(OverlayRule::Difference), subject - shared);
         assert_eq!(area(OverlayRule::InverseDifference), clip - shared);
-        // outside of both no boundary is kept, so what neither covers is told by clockwise contours
+        // outside of both no boundary is kept, so what neither covers is shown by clockwise
+        // contours
         let neither = OverlayRule::Table(RuleTable::new(1).unwrap());
         assert_eq!(area(neither), shared - subject - clip);
     }

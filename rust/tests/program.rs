@@ -43,7 +43,7 @@ const RULES: [(&str, OverlayRule); 7] = [
     ("xor", OverlayRule::Xor),
 ];
 
-/// The engines, each with the width of a square round the origin that it has room for.
+/// The engines, each with the width of a square around the origin that it has room for.
 const ENGINES: [(&str, Engine, i32); 2] = [("i32", Engine::I32, 1 << 30), ("i16", Engine::I16, 1 << 15)];
 
 /// What the program prints of the given lines.
@@ -123,7 +123,7 @@ fn pick<'a, T>(random: &mut Random, from: &'a [T]) -> &'a T {
     &from[random.below(from.len() as i32) as usize]
 }
 
-/// The sides of a contour of each shape, in a square of the given width round the origin.
+/// The sides of a contour of each shape, in a square of the given width around the origin.
 fn sides(random: &mut Random, width: i32) -> Vec<Segment> {
     let mut segments = Vec::new();
     for shape in [ShapeType::Subject, ShapeType::Clip] {

@@ -99,9 +99,10 @@ struct Faults {
 }
 
 impl Faults {
-    /// Tries an overlay, and returns its shapes. Those of a rule that holds outside are shapes of its complement, of which
-    /// less is promised: parts that touch in points may be in one shape, which has several outer boundaries then, and its
-    /// first contour may be a hole that has the least point too.
+    /// Tries an overlay, and returns its shapes. Those of a rule that holds outside are shapes of
+    /// its complement, with fewer promises: parts that touch in points may be in one shape, which
+    /// has several outer boundaries then, and its first contour may be a hole that has the least
+    /// point too.
     fn test(&mut self, overlay: &mut Overlay, input: &Input) -> Vec<IntShape> {
         let (shapes, contours) = input.overlaid(overlay);
         self.tried += 1;
@@ -237,8 +238,9 @@ impl Board {
         (parts, count)
     }
 
-    /// Overlays the cells of a subject and of a clip. The shapes have to be the parts of the cells of which the rule holds,
-    /// each part one shape. Where it holds outside, those of which it does not, and a shape may have several parts.
+    /// Overlays the cells of a subject and of a clip. The shapes have to be the parts of the cells
+    /// where the rule holds, each part one shape. Where it holds outside, those where it does not,
+    /// and a shape may have several parts.
     fn test(&self, random: &mut Random, overlay: &mut Overlay, faults: &mut Faults, sides: [&[bool]; 2]) {
         let contours = sides.map(|side| {
             let kept = self.cells.iter().zip(side).filter(|(_, &is_kept)| is_kept);

@@ -10,7 +10,7 @@ const SOLVERS: [Solver; 3] = [Solver::LIST, Solver::TREE, Solver::FRAG];
 /// The coordinates of both ends.
 type Ends = [i32; 4];
 
-/// How two segments meet, and where, if that is told.
+/// How two segments meet, and where, if that is given.
 type Met = (CrossType, Option<IntPoint>);
 
 fn point(x: i32, y: i32) -> IntPoint {

@@ -89,7 +89,7 @@ extern "C" fn malloc(size: usize) -> *mut c_void {
         return std::ptr::null_mut();
     }
     note(1);
-    // SAFETY: any size may be asked for.
+    // SAFETY: any size may be requested.
     unsafe { __libc_malloc(size) }
 }
 
@@ -99,7 +99,7 @@ extern "C" fn calloc(count: usize, size: usize) -> *mut c_void {
         return std::ptr::null_mut();
     }
     note(1);
-    // SAFETY: any size may be asked for.
+    // SAFETY: any size may be requested.
     unsafe { __libc_calloc(count, size) }
 }
 

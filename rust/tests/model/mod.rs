@@ -19,8 +19,8 @@ pub type Arrangement = BTreeMap<Pair, Count>;
 #[derive(Clone, Copy, Debug, PartialEq, Eq)]
 pub struct TooLarge;
 
-/// How far crossings are moved to ends: in pass k within a squared distance of `2^min(start + (k - 1) * step, cap)`, for `limit`
-/// passes; later passes round crossings alone.
+/// How far crossings are moved to ends: in pass k within a squared distance of `2^min(start + (k -
+/// 1) * step, cap)`, for `limit` passes; in later passes crossings are rounded alone.
 #[derive(Clone, Copy, Debug)]
 pub struct Radius {
     pub start: usize,
@@ -200,7 +200,8 @@ fn product_with_itself((x, y): Point) -> i128 {
     x * x + y * y
 }
 
-/// The same for a pass after the limit: the nearest whole point, halves going up, cuts each pair of which it is no end.
+/// The same for a pass after the limit: the nearest whole point, halves going up, cuts each pair
+/// unless it is an end of it.
 fn settled(target: Pair, other: Pair) -> (Option<Point>, Option<Point>, bool) {
     let ((top, bottom), (a, way)) = (part(target, other), (target.0, less(target.1, target.0)));
     let rounded = |from: i128, way: i128| (2 * (from * bottom + way * top) + bottom).div_euclid(2 * bottom);
