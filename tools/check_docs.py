@@ -6,8 +6,8 @@
 ARCHITECTURE names each source file. THEOREMS lists the files of `specs/` on which its theorems rest, in reading order, counts right,
 and quotes what is there. Each edit of `must-fail/` names functions that have to refuse it, with clauses of their contracts, and it
 changes one of them. Each lemma module and each file of `specs/` begins with a comment. A link of a document leads to a file. No
-document uses a word of NOT_SAID. No contract of a public function of `i_overlay` or `overlay_contours` names a definition of
-`specs/steps`.
+document and no comment uses a word of NOT_SAID. No contract of a public function of `i_overlay` or `overlay_contours` names a
+definition of `specs/steps`.
 """
 import itertools
 import os
@@ -24,7 +24,11 @@ ROOT = os.path.dirname(os.path.dirname(os.path.abspath(__file__)))
 COMMON = {"Lib", "lib", "main", "tests"}
 CELLS_OF_A_FILE = 3
 THEOREMS = "docs/THEOREMS.md"
-# what the documents do not say, and what to say in its place
+# documents, and sources with comments, but for the header that a tool writes from the comments of the exports
+WITH_PROSE = r".*\.md|crates/\w+/(src|specs|proofs)/.*\.(rt|antt)|(rust|c|python)/.*(?<!_exports)\.(rs|c|h|py)"
+COMMENT = {".antt": r"\s*-- (.*)", ".py": r"\s*# (.*)"}
+COMMENT_OF_OTHERS = r"\s*(?:///?|//!|/?\*) (.*)"
+# what documents and comments do not say, and what to say in its place
 NOT_SAID = {
     r"(evenly|oddly) many": "an even or odd number of",
     r"(stands?|stood)(?!-| for\b)": "is, are, lie",
@@ -129,20 +133,30 @@ def faults_of_reading_order(specs):
 
 
 def prose(path):
-    """The lines of a document with their numbers, without code."""
-    text = re.sub(r"```.*?```", lambda it: "\n" * it[0].count("\n"), read(path), flags=re.S)
-    for number, line in enumerate(text.split("\n"), 1):
-        if not line.startswith("    "):
-            yield number, re.sub(r"`[^`]*`", "", line)
+    """The paragraphs of a document, or of the comments of a source file, without code; each with the number of its first line."""
+    text = read(path)
+    if path.endswith(".md"):
+        text = re.sub(r"```.*?```", lambda it: "\n" * it[0].count("\n"), text, flags=re.S)
+        lines = ["" if it.startswith("    ") else it for it in text.split("\n")]
+    else:
+        mark = re.compile(COMMENT.get(os.path.splitext(path)[1], COMMENT_OF_OTHERS))
+        lines = [found[1] if (found := mark.match(it)) else "" for it in text.split("\n")]
+    first, part = 0, []
+    for number, line in enumerate([*lines, ""], 1):
+        if line.strip():
+            first, part = (first if part else number), [*part, line.strip()]
+        elif part:
+            yield first, re.sub(r"`[^`]*`", "``", " ".join(part))
+            part = []
 
 
 def faults_of_words(files):
-    """The lines of documents with a word that has a better one."""
+    """The paragraphs of documents and comments with a word that has a better one."""
     found = []
-    for path in (it for it in files if it.endswith(".md")):
-        for number, line in prose(path):
+    for path in (it for it in files if re.fullmatch(WITH_PROSE, it)):
+        for number, text in prose(path):
             for pattern, better in NOT_SAID.items():
-                found += [f"{path}:{number}: {it[0]!r}: {better}" for it in re.finditer(rf"\b{pattern}\b", line, re.I)]
+                found += [f"{path}:{number}: {it[0]!r}: {better}" for it in re.finditer(rf"\b{pattern}\b", text, re.I)]
     return found
 
 
