@@ -129,7 +129,8 @@ def faults_of_reading_order(specs):
     found += [f"{THEOREMS} leaves out {' '.join(it)}" for it in due if it not in listed]
     wrong = [it for it, wanted in itertools.zip_longest(listed, due) if it and it != wanted]
     found += [f"{THEOREMS} lists {' '.join(it)} where another file is due, or none" for it in wrong[:1]]
-    return [*found, *[f"the file {file} of the specs of {crate} has no comment" for (crate, file), (_, _, said) in specs.items() if not said]]
+    uncommented = [key for key, (_, _, said) in specs.items() if not said]
+    return [*found, *[f"the file {file} of the specs of {crate} has no comment" for crate, file in uncommented]]
 
 
 def prose(path):
@@ -168,7 +169,8 @@ def faults_of_quotes(files):
     known = [plain(read(it)) for it in files if re.fullmatch(r"crates/\w+/specs/(\w+/)*\w+\.antt", it)]
     quotes = re.findall(r"(?:^ {4}.*\n|^\n(?= {4}))+", read(THEOREMS), re.M)
     parts = [it for quote in quotes for it in re.split(r"^ *\.\.\n|\n\n", quote, flags=re.M) if it.strip() and "python3" not in it]
-    return [f"{THEOREMS} quotes what no file of specs has: {plain(it)[:80]}" for it in parts if not any(plain(it) in text for text in known)]
+    unknown = [plain(it) for it in parts if not any(plain(it) in text for text in known)]
+    return [f"{THEOREMS} quotes what no file of specs has: {it[:80]}" for it in unknown]
 
 
 def faults_of_edits():
@@ -178,7 +180,8 @@ def faults_of_edits():
         name, changed = f"{edit.crate}/must-fail/{edit.name}.edit", sources.changed_by(edit)
         found += [f"{name} has no line `# refused by FUNCTION: CLAUSE`"] * (not edit.refused_by)
         for function, clauses in edit.refused_by.items():
-            named = [it for it in sources.functions if it.crate == edit.crate and function in it.names() and (it.file, it.number) in changed]
+            own = [it for it in sources.functions if it.crate == edit.crate and function in it.names()]
+            named = [it for it in own if (it.file, it.number) in changed]
             known = sources.clauses_of(named)
             found += [f"{name} changes no function {function}"] * (not named)
             # the clauses of traits of std are not in this repository

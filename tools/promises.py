@@ -239,7 +239,8 @@ def main(crates):
             said = [f"{name}: {', '.join(clauses)}" if clauses else name for name, clauses in edit.refused_by.items()]
             print(f"    edit {edit.name}: refused by {'; '.join(said)}")
         if called:
-            print(f"    tests: {', '.join(list(called)[:MOST_TESTS])}{f' and {len(called) - MOST_TESTS} more' * (len(called) > MOST_TESTS)}")
+            more = f" and {len(called) - MOST_TESTS} more" * (len(called) > MOST_TESTS)
+            print(f"    tests: {', '.join(list(called)[:MOST_TESTS])}{more}")
         outside = callers_outside(it.name) if it.is_export() else []
         if outside:
             print(f"    called by: {', '.join(outside)}")
