@@ -237,7 +237,7 @@ def print_verdict(edit):
     if edit.goal:
         print(f"{edit.crate}/{edit.name}: refused by {edit.goal}")
     else:
-        print(f"{edit.crate}/{edit.name}: NOT REFUSED by {', '.join(sorted(edit.named)) or 'anything, since it names nothing'}: {edit.said}")
+        print(f"{edit.crate}/{edit.name}: NOT REFUSED by {', '.join(sorted(edit.named)) or 'anything: it names nothing'}: {edit.said}")
 
 
 def main():
