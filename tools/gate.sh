@@ -80,13 +80,20 @@ python3 tools/c_header.py --check
 cd "$room/copy"
 lines="$room/lines"
 status=0
+# Edits are tried while libraries above are proved; a file in `proved` says that a library is.
+mkdir "$room/proved"
+python3 tools/must_fail.py --edits "$room/edits" --proved "$room/proved" >"$room/tried" 2>&1 &
+trying=$!
+trap 'kill "$trying" 2>/dev/null || true; rm -rf "$room"' EXIT
 rt ci | while IFS= read -r line; do
     printf '%s\n' "$line" >>"$lines"
+    [[ $line =~ ^rt:\ ([a-z_0-9]+)\ (proved$|is\ kept:) ]] && touch "$room/proved/${BASH_REMATCH[1]}"
     case $line in
     "rt: "*" proved" | "rt: "*" NOT PROVED") printf '%5d s: %s\n' "$SECONDS" "$line" ;;
     *) printf '%s\n' "$line" ;;
     esac
 done || status=$?
+touch "$room/proved/all"
 verdict=$(tail -n 1 "$lines")
 
 # The last line is that of `rt ci`, with a test more for each edit, for the growths, and for the package.
@@ -95,9 +102,6 @@ if [[ $verdict =~ ^([0-9]+)\ passed,\ ([0-9]+)\ failed(.*)$ ]]; then
     if ((status)); then
         printf '%5d s: edits, growths and the package were not tried: what stands before them failed\n' "$SECONDS"
     else
-        # the edits fill the processors that the others leave free
-        python3 tools/must_fail.py --edits "$room/edits" >"$room/tried" 2>&1 &
-        trying=$!
         if python3 tools/refusals.py; then
             passed=$((passed + 1))
         else

@@ -1,12 +1,13 @@
 #!/usr/bin/env python3
 """Tries wrong bodies, the edits of `crates/*/must-fail/`: the prover has to leave a goal open in the function that each changes.
 
-    python3 tools/must_fail.py [--edits FOLDER] [CRATE[/EDIT] ..]
+    python3 tools/must_fail.py [--edits FOLDER] [--proved FOLDER] [CRATE[/EDIT] ..]
 
 `rt ci` and `rt must-fail` check a crate once for each edit. The prover reports the open goals of every function, so here the edits
 of a crate are tried together, no two of one function in a round. An edit whose goal is not seen there is tried again by itself, and
 so is an edit of a constant. The libraries below a crate are those that `rt ci` or `rt check` left. With `--edits` the edits are
-FOLDER/CRATE/*.edit.
+FOLDER/CRATE/*.edit. With `--proved` the edits of a crate wait until the folder has a file of the name of each library below it, and two
+rounds are tried at a time until it has a file `all`: so the gate tries edits while it proves.
 
 Prints the first open goal for each edit, and last `N of M edits refused`. An edit is refused by a goal of a function that it changes
 and that one of its lines `# refused by FUNCTION: CLAUSE, ..` names. A proof that names what the edit took away does not count.
@@ -132,16 +133,29 @@ def rounds_of(edits):
 
 
 class Trial:
-    """Tries the edits of a crate on copies of it."""
+    """Tries the edits of a crate on copies of it. Later rounds take what the first one proved of functions that no edit changes."""
 
     def __init__(self, rtlib, crate, edits):
-        self.rtlib, self.crate, self.edits = rtlib, crate, edits
+        self.rtlib, self.crate = rtlib, crate
+        self.rounds = rounds_of(edits)
+        # the folder of what the first round proved
+        self.kept, self.is_begun = None, False
+
+    def may_begin(self):
+        """Returns whether a round can begin: the first, or any other once that has ended."""
+        return self.kept is not None or not self.is_begun
 
     def try_round(self, edits):
         """Tries some edits together."""
         with tempfile.TemporaryDirectory(prefix="must-fail-") as room:
             texts = self.copy_with(edits, room)
+            if self.kept:
+                shutil.copytree(self.kept.name, f"{room}/kept")
+            os.makedirs(f"{room}/kept", exist_ok=True)
             said = self.check(room, {path: module for edit in edits for path, module in edit.paths.items()})
+            if self.kept is None:
+                self.kept = tempfile.TemporaryDirectory(prefix="must-fail-kept-")
+                shutil.copytree(f"{room}/kept", self.kept.name, dirs_exist_ok=True)
         goals = [goal for goal in said.split("\n") if GOAL.match(goal) and (": error" in goal or goal.startswith("note: "))]
         seen = [(goal, self.function_of(goal, texts)) for goal in goals if not OF_NAMES.match(goal)]
         for edit in edits:
@@ -165,7 +179,7 @@ class Trial:
 
     def check(self, room, paths):
         """Checks functions of the copy, each by its path or, where the prover knows none of that name, with its whole module."""
-        words = [*self.rtlib.guarded(), self.rtlib.RATTLE, "check", *self.crate.words(["--jobs", "1"], keeps=False)]
+        words = [*self.rtlib.guarded(), self.rtlib.RATTLE, "check", *self.crate.words(["--jobs", "1", "--incremental", f"{room}/kept"], keeps=False)]
         how = {"cwd": room, "stdin": subprocess.DEVNULL, "stdout": subprocess.PIPE, "stderr": subprocess.STDOUT}
         chosen = dict.fromkeys(sorted(paths))
         while True:
@@ -211,9 +225,25 @@ def seconds_of(trial, edits):
     return 10 * len(edits) + sum(path.stat().st_size for path in texts) / 10_000
 
 
-def try_all(trials, start):
+class Marks:
+    """Says which libraries are proved, by the files of a folder."""
+
+    def __init__(self, folder):
+        self.folder = pathlib.Path(folder) if folder else None
+
+    def has_all(self, crate):
+        """Returns whether the libraries below a crate are proved."""
+        return self.folder is None or all((self.folder / it.name).exists() for it in crate.below())
+
+    def lanes(self):
+        """Returns how many rounds may be tried at a time."""
+        return run.processors() if self.folder is None or (self.folder / "all").exists() else 2
+
+
+def try_all(trials, marks, start):
     """Tries all edits in rounds, those first that take longest, and by itself each edit whose goal was not seen in its round."""
-    rounds = [(trial, edits) for trial in trials for edits in rounds_of(trial.edits)]
+    waiting = [(trial, edits) for trial in trials for edits in trial.rounds]
+    waiting.sort(key=lambda it: -seconds_of(*it))
 
     def try_one(trial, edits):
         begun = time.time()
@@ -221,15 +251,20 @@ def try_all(trials, start):
         seen = [edit for edit in edits if edit.goal]
         took = time.time() - begun
         print(f"{time.time() - start:5.0f} s: {trial.crate.name}: {len(seen)} of {len(edits)} edits refused in {took:.0f} s", flush=True)
-        if len(edits) > 1:
-            tasks.extend(lanes.submit(try_one, trial, [edit]) for edit in edits if not edit.goal)
+        return [(trial, [edit]) for edit in edits if not edit.goal] if len(edits) > 1 else []
 
+    running = set()
     with ThreadPoolExecutor(run.processors()) as lanes:
-        rounds.sort(key=lambda it: -seconds_of(*it))
-        tasks = [lanes.submit(try_one, *task) for task in rounds]
-        # a round that ends may add to the list
-        for task in tasks:
-            task.result()
+        while waiting or running:
+            for task in [it for it in running if it.done()]:
+                running.remove(task)
+                waiting.extend(task.result())
+            for task in [it for it in waiting if marks.has_all(it[0].crate)]:
+                if len(running) < marks.lanes() and task[0].may_begin():
+                    waiting.remove(task)
+                    task[0].is_begun = True
+                    running.add(lanes.submit(try_one, *task))
+            time.sleep(1)
 
 
 def print_verdict(edit):
@@ -243,6 +278,7 @@ def print_verdict(edit):
 def main():
     parser = argparse.ArgumentParser(description=__doc__, formatter_class=argparse.RawDescriptionHelpFormatter)
     parser.add_argument("--edits", metavar="FOLDER", help="where the edits are, in a folder for each crate")
+    parser.add_argument("--proved", metavar="FOLDER", help="where a file of its name says that a library is proved")
     parser.add_argument("names", nargs="*", metavar="CRATE[/EDIT]", help="crates or edits to try (all)")
     given = parser.parse_args()
     rtlib = run.toolchain()
@@ -250,11 +286,11 @@ def main():
     edits = edits_by_crate(given.edits, given.names)
     if not edits and (given.names or not given.edits or not os.path.isdir(given.edits)):
         sys.exit("there are no such edits")
-    unbuilt = [name for name in edits if not are_built(crates[name])]
+    unbuilt = [name for name in edits if not given.proved and not are_built(crates[name])]
     if unbuilt:
         sys.exit(f"the libraries below {', '.join(unbuilt)} are not built: run `rt ci` first")
     rtlib.guarded()
-    try_all([Trial(rtlib, crates[name], found) for name, found in edits.items()], time.time())
+    try_all([Trial(rtlib, crates[name], found) for name, found in edits.items()], Marks(given.proved), time.time())
     every = [edit for found in edits.values() for edit in found]
     for edit in every:
         print_verdict(edit)
