@@ -5,7 +5,7 @@ use Rattle.std.specs.Int.{int_min, int_max}
 use Rattle.std.specs.List.{list_any, AllByRecursion}
 use Rattle.std.proofs.lemmas.Int.{ints, clamps, by_lt_z}
 use Rattle.std.proofs.Math.Seq.{drop-cons}
-use Rattle.std.proofs.lemmas.List.{take-map, drop-map}
+use Rattle.std.proofs.lemmas.List.{length-map, take-map, drop-map}
 use Rattle.std.proofs.lemmas.List.Sums.{sum_by-cons}
 use Rattle.overlay_geometry.specs.Points.{Pair, pair_cmp, is_ordered}
 use Rattle.overlay_geometry.specs.Ranges.{WholeRange, heights, is_off_range}
@@ -114,6 +114,10 @@ cases_and false b h f g = f refl
 
 pub apart_heights : (s t : Pair) → do_ranges_meet (heights s) (heights t) ≡ false → AreApart s t
 apart_heights s t h = cases_and _ _ h (λ e. apart_in_y s t (off_above s t e)) (λ e. apart_in_y s t (off_below s t e))
+
+-- there are as many heights as pairs
+pub heights_are_many : {I : Type 0} (whole : I → ℤ) (hs : List (LineRange I)) (ps : List Pair) → AreHeightsOf whole hs ps → length hs ≡ length ps
+heights_are_many whole hs ps h = sym (length-map hs (range_of whole)) ∙ ap length h ∙ length-map ps heights
 
 pub heights_at : {I : Type 0} (whole : I → ℤ) (hs : List (LineRange I)) (ps : List Pair) (j : ℕ) (h : LineRange I) → AreHeightsOf whole hs ps → j < length ps → h ≡ get_or hs j h → range_of whole h ≡ heights (pair_at ps j)
 heights_at whole [] [] j h same lt is = absurd (omega arith)

@@ -1,9 +1,9 @@
 -- A look-up that passes over nodes one by one: what it has made of the first of them.
-use Rattle.std.proofs.Common.{◌≡◌, refl, sym, ap, ap₂, get_or, ◌∙◌, arith, add-one, append_assoc}
+use Rattle.std.proofs.Common.{◌≡◌, refl, sym, ap, ap₂, get_or, ◌∙◌, arith, add-one, append_assoc, append-nil}
 use Rattle.std.specs.Prelude.{ℕ, zero, suc, ◌+◌, ◌<◌, ◌≤◌, ◌||◌, ℤ, Bool, false, List, [], ◌∷◌, ◌++◌, map, take, drop, length}
 use Rattle.std.specs.List.{list_any}
 use Rattle.std.proofs.lemmas.Bool.{or_parts}
-use Rattle.std.proofs.lemmas.List.{length-append, length-map, length-take-le, map-append, take-append-drop}
+use Rattle.std.proofs.lemmas.List.{length-append, length-map, length-take-le, map-append, take-append-drop, take_all, drop_all}
 use Rattle.std.proofs.Math.Bool.{or-false}
 use Rattle.std.proofs.Math.ListN.{set}
 use Rattle.std.proofs.lemmas.List.Folds.{list_any-append}
@@ -90,3 +90,17 @@ module _ {I : Type 0} (whole : I → ℤ) where
               ∙ ap (λ x. tree_nodes whole (take place now) ++ x ∷ tree_nodes whole (drop (suc place) now)) node_same
               ∙ sym (ap (tree_nodes whole) parts.0 ∙ map-append (node_of whole) (take place now) (node ∷ drop (suc place) now)) ∙ s.same both.0;
         }
+
+    -- past the last node
+    all_taken : length old ≤ place → take place (entries_in whole old) ≡ entries_in whole old
+    all_taken h = take_all place (entries_in whole old) (omega (arith, h, length-entries whole old))
+
+    pub passed_entries : length old ≤ place → entries_in whole now ≡ map (left_by q) (entries_in whole old)
+    passed_entries h =
+        s.left ∙ ap₂ (λ x y. map (left_by q) x ++ y) (all_taken h) (drop_all place (entries_in whole old) (omega (arith, h, length-entries whole old))) ∙ append-nil _
+
+    pub passed_found : length old ≤ place → indexes ≡ first ++ found q (entries_in whole old)
+    passed_found h = s.found_in ∙ ap (λ l. first ++ found q l) (all_taken h)
+
+    pub passed_dropped : length old ≤ place → d ≡ list_any (is_dropped q) (entries_in whole old)
+    passed_dropped h = s.dropped_in ∙ ap (list_any (is_dropped q)) (all_taken h)

@@ -41,3 +41,19 @@ loop-meeting-preserved g c =
       | else-is_cut w ↦
           rw w.cuts-is (passed_over (is_cut_at segments points (moves_in c.args.closure.now)) (cut_at points) meetings i m within at _ (tested ∙ w.if-is_cut.false) c.loop-meeting.invariant)
     ]
+
+pub bounds-segments-index : goal.bounds-segments-index
+bounds-segments-index g c = (c.requires.within c.loop-meeting.meeting-index no_meeting c.loop-meeting-test.true).0
+
+pub bounds-points-place : goal.bounds-points-place
+bounds-points-place g c = (c.requires.within c.loop-meeting.meeting-index no_meeting c.loop-meeting-test.true).1
+
+pub is_cut-requires-clause-in_range : goal.is_cut-requires-clause-in_range
+is_cut-requires-clause-in_range g c =
+    let inside = c.requires.within c.loop-meeting.meeting-index no_meeting c.loop-meeting-test.true in
+    rw (c.x_segment.ensures, c.index-segments-index.is) (c.requires.in_range _ c.index-segments-index.result inside.0)
+
+pub is_cut-requires-clause-point : goal.is_cut-requires-clause-point
+is_cut-requires-clause-point g c =
+    let inside = c.requires.within c.loop-meeting.meeting-index no_meeting c.loop-meeting-test.true in
+    rw c.index-points-place.is (c.requires.points _ c.index-points-place.result inside.1)

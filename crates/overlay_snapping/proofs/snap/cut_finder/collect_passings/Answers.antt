@@ -39,3 +39,19 @@ loop-meeting-preserved g c =
 pub returns : goal.returns
 returns g c =
     collected_all (λ m. not (lies_at (pairs_in c.args.segments.now) (map (point_of g.I.OverlayInt.whole) c.args.points.now) m)) passing_of c.args.meetings.now c.loop-meeting.meeting-index _ c.loop-meeting-test.false c.loop-meeting.invariant
+
+pub bounds-segments-index : goal.bounds-segments-index
+bounds-segments-index g c = (c.requires.within c.loop-meeting.meeting-index no_meeting c.loop-meeting-test.true).0
+
+pub bounds-points-place : goal.bounds-points-place
+bounds-points-place g c = (c.requires.within c.loop-meeting.meeting-index no_meeting c.loop-meeting-test.true).1
+
+pub lies_on-requires-clause-in_range : goal.lies_on-requires-clause-in_range
+lies_on-requires-clause-in_range g c =
+    let inside = c.requires.within c.loop-meeting.meeting-index no_meeting c.loop-meeting-test.true in
+    rw (c.x_segment.ensures, c.index-segments-index.is) (c.requires.in_range _ c.index-segments-index.result inside.0)
+
+pub lies_on-requires-clause-point : goal.lies_on-requires-clause-point
+lies_on-requires-clause-point g c =
+    let inside = c.requires.within c.loop-meeting.meeting-index no_meeting c.loop-meeting-test.true in
+    rw c.index-points-place.is (c.requires.points _ c.index-points-place.result inside.1)

@@ -2,6 +2,7 @@ use Rattle.std.proofs.Common.{◌≡◌, ◌∙◌, sym, ap, length, ◌<◌, �
 use Rattle.std.specs.Prelude.{All}
 use Rattle.std.proofs.lemmas.Result.{on_ok_weaker}
 use Rattle.std.proofs.lemmas.List.{length-map}
+use Rattle.overlay_geometry.specs.InRange.{IsPointInRange}
 use Rattle.overlay_geometry.specs.Points.{Pair, lies_on}
 use Rattle.overlay_geometry.specs.PointOf.{point_of}
 use Rattle.overlay_geometry.specs.PairOf.{pair_of}
@@ -48,3 +49,15 @@ returns-clause-elements g c =
 
 pub returns-clause-sorted : goal.returns-clause-sorted
 returns-clause-sorted g c = simp g.met.I.OverlayInt.ordered at c.sort.ensures.sorted
+
+pub bounds-segments-mark : goal.bounds-segments-mark
+bounds-segments-mark g c = subst (λ (n : LineMark _). n.index < length c.args.segments.now) (sym c.mark-item.is) (c.requires.indices c.loop-mark.mark-index c.mark-item.result c.loop-mark-test.true)
+
+pub lies_on-requires-clause-in_range : goal.lies_on-requires-clause-in_range
+lies_on-requires-clause-in_range g c =
+    let inside = subst (λ (n : LineMark _). n.index < length c.args.segments.now) (sym c.mark-item.is) (c.requires.indices c.loop-mark.mark-index c.mark-item.result c.loop-mark-test.true) in
+    rw (c.x_segment.ensures, c.index-segments-mark.is) (c.requires.in_range c.mark-item.result.index c.index-segments-mark.result inside)
+
+pub lies_on-requires-clause-point : goal.lies_on-requires-clause-point
+lies_on-requires-clause-point g c =
+    subst (λ (n : LineMark _). IsPointInRange g.I.OverlayInt.whole g.I.OverlayInt.MIN_COORD g.I.OverlayInt.MAX_COORD n.point) (sym c.mark-item.is) (c.requires.points c.loop-mark.mark-index c.mark-item.result c.loop-mark-test.true)

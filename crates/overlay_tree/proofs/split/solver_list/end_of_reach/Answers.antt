@@ -88,3 +88,21 @@ returns-then-begins_past_end-2-clause-past g c =
     let less : (pair_at ps i).b.x <ℤ (pair_at ps j).a.x = rw (first, second) (lt-tested (whole c.x_segment-target.result.b.x) (whole c.x_segment-in-steps.result.a.x) (sym c.begins_past_end-in-steps.ensures ∙ c.if-begins_past_end-2.true)) in
     let none : count_by (x_ranges_meet (pair_at ps i)) (drop j ps) ≡ 0 = none_past ps j (pair_at ps i) (pair_at ps j) order (are_ordered c.args.segments.now) (ordered_at ps i (are_ordered c.args.segments.now) here) (pair_next ps j lt) less in
     none
+
+pub bounds-segments-index : goal.bounds-segments-index
+bounds-segments-index g c = c.requires.index
+
+pub bounds-segments-end : goal.bounds-segments-end
+bounds-segments-end g c = let test = c.leaps-test.true in omega (arith, test)
+
+pub bounds-segments-end-in-steps : goal.bounds-segments-end-in-steps
+bounds-segments-end-in-steps g c = c.steps-test.true
+
+pub steps-init : goal.steps-init
+steps-init g c = c.leaps.invariant
+
+pub returns-after-steps-clause-after : goal.returns-after-steps-clause-after
+returns-after-steps-clause-after g c = c.steps.invariant.after
+
+pub returns-after-steps-clause-within : goal.returns-after-steps-clause-within
+returns-after-steps-clause-within g c = c.steps.invariant.within

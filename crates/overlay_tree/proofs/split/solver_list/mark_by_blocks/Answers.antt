@@ -6,10 +6,26 @@ use Rattle.overlay_intersections.specs.MarkOf.{marks_of}
 use Rattle.overlay_intersections.specs.PlacingOf.{placing_of}
 use Rattle.overlay_intersections.proofs.laws.marks.ApartPairs.{AreApart}
 use Rattle.overlay_tree.specs.steps.Swept.{pair_at}
-use Rattle.overlay_tree.proofs.laws.list.ListScans.{IsScanned-block, IsScanned-none, uncounted, heights_at, block_is_apart}
+use Rattle.overlay_tree.proofs.laws.list.ListScans.{IsScanned-block, IsScanned-none, uncounted, heights_at, heights_are_many, block_is_apart}
 use Rattle.overlay_tree.proofs.laws.tree.Sweeps.{length-pairs}
 use Rattle.overlay_tree.proofs.split.solver_list.mark_by_blocks.Goals as goal
 use Rattle.overlay_tree.proofs.split.solver_list.mark_by_blocks.Goals.{then-meets_some+in_ok-rounded, else-meets_some}
+
+pub bounds-ranges-index : goal.bounds-ranges-index
+bounds-ranges-index g c =
+    let many = heights_are_many g.I.OverlayInt.whole c.args.ranges.now (pairs (segments_of c.args.segments.now)) c.requires.heights in
+    let count = length-pairs c.args.segments.now in
+    let order = c.requires.order in
+    let within = c.requires.within in
+    omega (arith, many, count, order, within)
+
+pub slice_bounds-block-end : goal.slice_bounds-block-end
+slice_bounds-block-end g c =
+    let many = heights_are_many g.I.OverlayInt.whole c.args.ranges.now (pairs (segments_of c.args.segments.now)) c.requires.heights in
+    let count = length-pairs c.args.segments.now in
+    let test = c.whole-test.true in
+    let within = c.requires.within in
+    omega (arith, many, count, test, within)
 
 pub whole-preserved : goal.whole-preserved
 whole-preserved g c =

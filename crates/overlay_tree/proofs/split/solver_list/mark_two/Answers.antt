@@ -44,3 +44,23 @@ returns-clause-rounded g c =
     let first : pair_at ps c.args.index ≡ pair_of whole c.x_segment-target.result = pair_at-is c.args.segments.now c.args.index c.index-segments-index.result below c.index-segments-index.is ∙ ap (pair_of whole) (sym c.x_segment-target.ensures) in
     let second : pair_at ps c.args.later ≡ pair_of whole c.x_segment-other.result = pair_at-is c.args.segments.now c.args.later c.index-segments-later.result c.requires.within c.index-segments-later.is ∙ ap (pair_of whole) (sym c.x_segment-other.ensures) in
     rw (first, second) c.mark_both.ensures.rounded
+
+pub bounds-segments-index : goal.bounds-segments-index
+bounds-segments-index g c = let a = c.requires.after in let b = c.requires.within in omega (arith, a, b)
+
+pub bounds-segments-later : goal.bounds-segments-later
+bounds-segments-later g c = c.requires.within
+
+pub mark_both-requires-clause-first : goal.mark_both-requires-clause-first
+mark_both-requires-clause-first g c =
+    let a = c.requires.after in
+    let b = c.requires.within in
+    rw (c.x_segment-target.ensures, c.index-segments-index.is) (c.requires.in_range c.args.index c.index-segments-index.result (omega (arith, a, b)))
+
+pub mark_both-requires-clause-second : goal.mark_both-requires-clause-second
+mark_both-requires-clause-second g c = rw (c.x_segment-other.ensures, c.index-segments-later.is) (c.requires.in_range c.args.later c.index-segments-later.result c.requires.within)
+
+pub mark_both-requires-clause-second_apart : goal.mark_both-requires-clause-second_apart
+mark_both-requires-clause-second_apart g c =
+    let ordered : IsTrue (is_ordered (pair_of g.I.OverlayInt.whole c.x_segment-other.result)) = subst (λ v. IsTrue (is_ordered (pair_of g.I.OverlayInt.whole v))) (sym c.x_segment-other.ensures) c.index-segments-later.result.ordered in
+    ends_differ (pair_of g.I.OverlayInt.whole c.x_segment-other.result) ordered

@@ -6,10 +6,27 @@ use Rattle.overlay_intersections.specs.MarkOf.{marks_of}
 use Rattle.overlay_intersections.specs.PlacingOf.{placing_of}
 use Rattle.overlay_tree.specs.steps.ListScan.{do_ranges_meet}
 use Rattle.overlay_tree.specs.steps.Swept.{pair_at}
-use Rattle.overlay_tree.proofs.laws.list.ListScans.{IsScanned-more, IsScanned-apart, heights_at, apart_heights}
+use Rattle.overlay_tree.proofs.laws.list.ListScans.{IsScanned-more, IsScanned-apart, heights_at, heights_are_many, apart_heights}
 use Rattle.overlay_tree.proofs.laws.tree.Sweeps.{length-pairs}
 use Rattle.overlay_tree.proofs.split.solver_list.mark_with_each.Goals as goal
 use Rattle.overlay_tree.proofs.split.solver_list.mark_with_each.Goals.{then-do_meet+in_ok-rounded, else-do_meet}
+
+pub bounds-ranges-index : goal.bounds-ranges-index
+bounds-ranges-index g c =
+    let many = heights_are_many g.I.OverlayInt.whole c.args.ranges.now (pairs (segments_of c.args.segments.now)) c.requires.heights in
+    let count = length-pairs c.args.segments.now in
+    let after = c.requires.after in
+    let order = c.requires.order in
+    let within = c.requires.within in
+    omega (arith, many, count, after, order, within)
+
+pub bounds-ranges-later : goal.bounds-ranges-later
+bounds-ranges-later g c =
+    let many = heights_are_many g.I.OverlayInt.whole c.args.ranges.now (pairs (segments_of c.args.segments.now)) c.requires.heights in
+    let count = length-pairs c.args.segments.now in
+    let test = c.loop-later-test.true in
+    let within = c.requires.within in
+    omega (arith, many, count, test, within)
 
 pub loop-later-preserved : goal.loop-later-preserved
 loop-later-preserved g c =
