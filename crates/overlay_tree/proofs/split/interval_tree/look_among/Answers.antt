@@ -1,4 +1,4 @@
-use Rattle.std.proofs.Common.{◌≡◌, ◌≤◌, ap, get_or, ◌∙◌, length, arith}
+use Rattle.std.proofs.Common.{◌≤◌, ap, get_or, ◌∙◌, length, arith}
 use Rattle.overlay_tree.specs.steps.NodeOf.{query_of}
 use Rattle.overlay_tree.proofs.laws.tree.FewNodes.{passes, passed_entries, passed_found, passed_dropped}
 use Rattle.overlay_tree.proofs.split.interval_tree.look_among.Goals as goal
