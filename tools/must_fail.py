@@ -6,8 +6,8 @@
 `rt ci` and `rt must-fail` check a crate once for each edit. The prover reports the open goals of every function, so here the edits
 of a crate are tried together, no two of one function in a round. An edit whose goal is not seen there is tried again by itself, and
 so is an edit of a constant. The libraries below a crate are those that `rt ci` or `rt check` left. With `--edits` the edits are
-FOLDER/CRATE/*.edit. With `--proved` the edits of a crate wait until the folder has a file of the name of each library below it, and two
-rounds are tried at a time until it has a file `all`: so the gate tries edits while it proves.
+FOLDER/CRATE/*.edit. With `--proved` the edits of a crate wait until the folder has a file of the name of each library below it: so the
+gate tries edits while it proves.
 
 Prints the first open goal for each edit, and last `N of M edits refused`. An edit is refused by a goal of a function that it changes
 and that one of its lines `# refused by FUNCTION: CLAUSE, ..` names. A proof that names what the edit took away does not count.
@@ -179,7 +179,8 @@ class Trial:
 
     def check(self, room, paths):
         """Checks functions of the copy, each by its path or, where the prover knows none of that name, with its whole module."""
-        words = [*self.rtlib.guarded(), self.rtlib.RATTLE, "check", *self.crate.words(["--jobs", "1", "--incremental", f"{room}/kept"], keeps=False)]
+        flags = ["--jobs", "1", "--incremental", f"{room}/kept"]
+        words = [*self.rtlib.guarded(), self.rtlib.RATTLE, "check", *self.crate.words(flags, keeps=False)]
         how = {"cwd": room, "stdin": subprocess.DEVNULL, "stdout": subprocess.PIPE, "stderr": subprocess.STDOUT}
         chosen = dict.fromkeys(sorted(paths))
         while True:
@@ -235,10 +236,6 @@ class Marks:
         """Returns whether the libraries below a crate are proved."""
         return self.folder is None or all((self.folder / it.name).exists() for it in crate.below())
 
-    def lanes(self):
-        """Returns how many rounds may be tried at a time."""
-        return run.processors() if self.folder is None or (self.folder / "all").exists() else 2
-
 
 def try_all(trials, marks, start):
     """Tries all edits in rounds, those first that take longest, and by itself each edit whose goal was not seen in its round."""
@@ -260,7 +257,7 @@ def try_all(trials, marks, start):
                 running.remove(task)
                 waiting.extend(task.result())
             for task in [it for it in waiting if marks.has_all(it[0].crate)]:
-                if len(running) < marks.lanes() and task[0].may_begin():
+                if len(running) < run.processors() and task[0].may_begin():
                     waiting.remove(task)
                     task[0].is_begun = True
                     running.add(lanes.submit(try_one, *task))
