@@ -1,12 +1,12 @@
 #!/usr/bin/env python3
 """Builds the archive that `rust/` links, `crates/overlay_c/out/liboverlay_core.a`.
 
-    python3 tools/archive.py [--after-ci]
+    python3 tools/archive.py [--beside-ci]
 
 It holds the proved library `overlay_c`, and the part of the toolchain in C that this calls. The libraries below `overlay_c` are
-proved side by side, as `tools/run.py` does it, and `rt lib` makes `liboverlay_c.a` over them. With `--after-ci`, right after
-`rt ci`, that is made over the libraries that `rt ci` proved and left in `out/`, which `rt lib` would prove again. Either way the
-toolchain proves the crate before it compiles it.
+proved side by side, as `tools/run.py` does it, and `rt lib` makes `liboverlay_c.a` over them. With `--beside-ci` it is made over
+the libraries that `rt ci` has proved and left in `out/`, while that proves what lies above them. Either way the toolchain proves the
+crate before it compiles it.
 """
 import os
 import subprocess
@@ -23,48 +23,45 @@ def are_left_by_ci(libraries):
     return all(os.path.isfile(f"{it.rlib}/format") and not os.path.exists(f"{os.path.dirname(it.rlib)}/stamp") for it in libraries)
 
 
-def build_over_left(rtlib, crate):
-    """Proves the crate over the libraries that stand below it, compiles it, and returns the status."""
+def build_over_left(rtlib, crate, archive):
+    """Proves the crate over the libraries that `rt ci` left below it, compiles it, and returns the status. `rt ci` has the locks."""
     rtlib.guarded()
-    held = rtlib.lock([*crate.below(), crate])
     os.makedirs(f"{crate.folder}/out", exist_ok=True)
     words = crate.words(["--jobs", "1"], keeps=False)
-    by = ["--toolchain", f"{rtlib.KIT}/toolchain", "--backend", "llvm", "-o", f"out/lib{crate.name}.a"]
-    try:
-        return crate.call(rtlib.RATTLE, "build", *words, *by)
-    finally:
-        for lock in held:
-            os.close(lock)
+    by = ["--toolchain", f"{rtlib.KIT}/toolchain", "--backend", "llvm", "-o", archive]
+    return crate.call(rtlib.RATTLE, "build", *words, *by)
 
 
 def build(rtlib, crate, flags):
-    """Makes the archive of the crate, and returns the status."""
-    if "--after-ci" in flags and are_left_by_ci(crate.below()):
-        return build_over_left(rtlib, crate)
-    if not run.build_libraries(crate.name):
-        return 1
-    return subprocess.run(["rt", "lib"], cwd=crate.folder).returncode
+    """Makes the archive of the crate, and returns its path below the crate's folder; `None` where that fails."""
+    if "--beside-ci" in flags and are_left_by_ci(crate.below()):
+        # `rt ci` may write the archive under its usual name
+        archive = f"out/lib{crate.name}_beside_ci.a"
+        return None if build_over_left(rtlib, crate, archive) else archive
+    if not run.build_libraries(crate.name) or subprocess.run(["rt", "lib"], cwd=crate.folder).returncode:
+        return None
+    return f"out/lib{crate.name}.a"
 
 
-def pack(rtlib, crate):
+def pack(rtlib, crate, archive):
     """Puts the archive and the toolchain's part in C into one, so that a program links one file."""
     packed = f"{crate.folder}/out/liboverlay_core.a"
     if os.path.exists(packed):
         os.remove(packed)
-    parts = [f"{crate.folder}/out/lib{crate.name}.a", f"{rtlib.KIT}/c/liblibc_c.a"]
+    parts = [f"{crate.folder}/{archive}", f"{rtlib.KIT}/c/liblibc_c.a"]
     subprocess.run([f"{rtlib.KIT}/toolchain/bin/llvm-ar", "qcsL", packed, *parts], check=True)
 
 
 def main(flags):
     rtlib = run.toolchain()
     crate = rtlib.Crate(f"{run.ROOT}/crates/{NAME}", run.ROOT, {})
-    status = build(rtlib, crate, flags)
-    if not status:
-        pack(rtlib, crate)
-    sys.exit(status)
+    archive = build(rtlib, crate, flags)
+    if not archive:
+        sys.exit(1)
+    pack(rtlib, crate, archive)
 
 
 if __name__ == "__main__":
-    if sys.argv[1:] not in ([], ["--after-ci"]):
+    if sys.argv[1:] not in ([], ["--beside-ci"]):
         sys.exit(__doc__)
     main(sys.argv[1:])

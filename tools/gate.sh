@@ -32,10 +32,14 @@ drop_edits_before() {
     done
 }
 
-# Runs the tests of the Rust package over the archive, which is made over the libraries that `rt ci` left; one of them
-# compares its texts with those of `arrange`.
+# Makes the archive that `rust/`, `c/` and `python/` link, as soon as the libraries below it are proved.
+make_archive() {
+    until [[ -f $room/proved/i_overlay ]]; do sleep 2; done
+    python3 tools/archive.py --beside-ci
+}
+
+# Runs the tests of the Rust package over the archive; one of them compares its texts with those of `arrange`.
 test_package() {
-    python3 tools/archive.py --after-ci >"$room/archive" 2>&1 || { cat "$room/archive"; return 1; }
     export ARRANGE="$PWD/crates/arrange/out/arrange"
     (cd rust && cargo test --release --offline --quiet && cargo test --release --offline --quiet --test program package_and_program_agree -- --ignored)
 }
@@ -84,7 +88,9 @@ status=0
 mkdir "$room/proved"
 nice -n 19 python3 tools/must_fail.py --edits "$room/edits" --proved "$room/proved" >"$room/tried" 2>&1 &
 trying=$!
-trap 'kill "$trying" 2>/dev/null || true; rm -rf "$room"' EXIT
+make_archive >"$room/archive" 2>&1 &
+archiving=$!
+trap 'kill "$trying" "$archiving" 2>/dev/null || true; rm -rf "$room"' EXIT
 rt ci | while IFS= read -r line; do
     printf '%s\n' "$line" >>"$lines"
     [[ $line =~ ^rt:\ ([a-z_0-9]+)\ (proved$|is\ kept:) ]] && touch "$room/proved/${BASH_REMATCH[1]}"
@@ -106,7 +112,11 @@ if [[ $verdict =~ ^([0-9]+)\ passed,\ ([0-9]+)\ failed(.*)$ ]]; then
         else
             failed=$((failed + 1)) status=1
         fi
-        if ! command -v cargo >/dev/null; then
+        if ! wait "$archiving"; then
+            cat "$room/archive"
+            printf '%5d s: the archive was NOT made\n' "$SECONDS"
+            failed=$((failed + 1)) status=1
+        elif ! command -v cargo >/dev/null; then
             printf '%5d s: the tests of rust/ were not run: there is no cargo\n' "$SECONDS"
         elif test_package; then
             printf '%5d s: the tests of rust/ passed\n' "$SECONDS"
@@ -118,9 +128,8 @@ if [[ $verdict =~ ^([0-9]+)\ passed,\ ([0-9]+)\ failed(.*)$ ]]; then
         fi
         if ! { command -v gcc && command -v make; } >/dev/null; then
             printf '%5d s: the tests of c/ and python/ were not run: there is no gcc or no make\n' "$SECONDS"
-        elif ! [[ -f crates/overlay_c/out/liboverlay_core.a ]] && ! python3 tools/archive.py --after-ci >"$room/archive" 2>&1; then
-            cat "$room/archive"
-            failed=$((failed + 1)) status=1
+        elif ! [[ -f crates/overlay_c/out/liboverlay_core.a ]]; then
+            printf '%5d s: the tests of c/ and python/ were not run: there is no archive\n' "$SECONDS"
         elif test_calls; then
             printf '%5d s: the tests of c/ and python/ passed\n' "$SECONDS"
             passed=$((passed + 1))
