@@ -43,6 +43,17 @@ int main(void)
     assert(overlay_core_get(NULL).contours == 0);
     assert(overlay_core_overlay(overlay, OVERLAY_CORE_RULE_TABLE + 8, OVERLAY_CORE_FILL_NON_ZERO) == OVERLAY_CORE_OK);
     assert(overlay_core_get(overlay).contours == 1 && overlay_core_get(overlay).shapes == 0);
+
+    const int rules[] = {OVERLAY_CORE_RULE_UNION, OVERLAY_CORE_RULE_INTERSECT, OVERLAY_CORE_RULE_DIFFERENCE}, wrong[] = {99};
+    assert(overlay_core_overlay_by_rules(overlay, wrong, 1, OVERLAY_CORE_FILL_NON_ZERO) == OVERLAY_CORE_BAD_ARGUMENT);
+    assert(overlay_core_overlay_by_rules(overlay, NULL, 1, OVERLAY_CORE_FILL_NON_ZERO) == OVERLAY_CORE_BAD_ARGUMENT);
+    assert(overlay_core_overlay_by_rules(overlay, rules, 3, OVERLAY_CORE_FILL_NON_ZERO) == OVERLAY_CORE_OK);
+    assert(overlay_core_get(overlay).shapes == 3 && overlay_core_get(overlay).contours == 4);
+    assert(overlay_core_locate(overlay, OVERLAY_CORE_SUBJECT, OVERLAY_CORE_FILL_NON_ZERO, 1, 8) == OVERLAY_CORE_ON_BOUNDARY);
+    assert(overlay_core_locate(overlay, OVERLAY_CORE_SUBJECT, OVERLAY_CORE_FILL_NON_ZERO, 1, 4) == OVERLAY_CORE_INSIDE);
+    assert(overlay_core_locate(overlay, OVERLAY_CORE_CLIP, OVERLAY_CORE_FILL_NON_ZERO, 1, 4) == OVERLAY_CORE_OUTSIDE);
+    assert(overlay_core_locate(overlay, OVERLAY_CORE_CLIP, OVERLAY_CORE_FILL_NON_ZERO, INT32_MAX, 4) == OVERLAY_CORE_OUTSIDE);
+    assert(overlay_core_locate(NULL, OVERLAY_CORE_CLIP, OVERLAY_CORE_FILL_NON_ZERO, 1, 4) == OVERLAY_CORE_LOCATION_BAD_ARGUMENT);
     assert(overlay_core_clear(overlay) == OVERLAY_CORE_OK && overlay_core_get(overlay).points == 0);
     overlay_core_free(overlay);
     overlay_core_free(NULL);

@@ -68,9 +68,14 @@ overlay_core_status overlay_core_clear(overlay_core *overlay)
     return OVERLAY_CORE_OK;
 }
 
+static int is_shape(int shape)
+{
+    return shape == OVERLAY_CORE_SUBJECT || shape == OVERLAY_CORE_CLIP;
+}
+
 overlay_core_status overlay_core_add_contour(overlay_core *overlay, int shape, const int32_t *xy, size_t points)
 {
-    if (!overlay || (!xy && points) || (shape != OVERLAY_CORE_SUBJECT && shape != OVERLAY_CORE_CLIP))
+    if (!overlay || (!xy && points) || !is_shape(shape))
         return OVERLAY_CORE_BAD_ARGUMENT;
     return (overlay_core_status)overlay_c_add_contour(&overlay->handle, (const overlay_core_point *)xy, points, (uint8_t)shape);
 }
@@ -125,15 +130,25 @@ static int is_rule(int rule)
         || (rule >= OVERLAY_CORE_RULE_TABLE && rule < OVERLAY_CORE_RULE_TABLE + 16);
 }
 
+static int is_fill_rule(int fill_rule)
+{
+    return fill_rule >= OVERLAY_CORE_FILL_EVEN_ODD && fill_rule <= OVERLAY_CORE_FILL_NEGATIVE;
+}
+
+/* The strategy Auto, snap rounding. */
+static overlay_core_settings settings_for(int fill_rule)
+{
+    return (overlay_core_settings){.progression = 1, .strategy = 3, .fill_rule = (uint8_t)fill_rule};
+}
+
 typedef uint8_t overlay_call(overlay_core_handle *handle, const overlay_core_settings *settings, uint8_t rule);
 
 static overlay_core_status make(overlay_core *overlay, int rule, int fill_rule, overlay_call *call)
 {
-    if (!overlay || !is_rule(rule) || fill_rule < OVERLAY_CORE_FILL_EVEN_ODD || fill_rule > OVERLAY_CORE_FILL_NEGATIVE)
+    if (!overlay || !is_rule(rule) || !is_fill_rule(fill_rule))
         return OVERLAY_CORE_BAD_ARGUMENT;
     drop_result(overlay);
-    /* the strategy Auto, snap rounding */
-    overlay_core_settings settings = {.progression = 1, .strategy = 3, .fill_rule = (uint8_t)fill_rule};
+    overlay_core_settings settings = settings_for(fill_rule);
     overlay_core_status status = (overlay_core_status)call(&overlay->handle, &settings, (uint8_t)rule);
     return status == OVERLAY_CORE_OK ? keep_result(overlay) : status;
 }
@@ -146,6 +161,35 @@ overlay_core_status overlay_core_overlay(overlay_core *overlay, int rule, int fi
 overlay_core_status overlay_core_overlay_shapes(overlay_core *overlay, int rule, int fill_rule)
 {
     return make(overlay, rule, fill_rule, overlay_c_shapes);
+}
+
+overlay_core_status overlay_core_overlay_by_rules(overlay_core *overlay, const int *rules, size_t count, int fill_rule)
+{
+    if (!overlay || (!rules && count) || !is_fill_rule(fill_rule))
+        return OVERLAY_CORE_BAD_ARGUMENT;
+    for (size_t i = 0; i < count; i++)
+        if (!is_rule(rules[i]))
+            return OVERLAY_CORE_BAD_ARGUMENT;
+    drop_result(overlay);
+    uint8_t *codes = room(count, sizeof *codes);
+    if (!codes)
+        return OVERLAY_CORE_NO_MEMORY;
+    for (size_t i = 0; i < count; i++)
+        codes[i] = (uint8_t)rules[i];
+    overlay_core_settings settings = settings_for(fill_rule);
+    overlay_core_status status = (overlay_core_status)overlay_c_polygons_by_rules(&overlay->handle, &settings, codes, count);
+    free(codes);
+    return status == OVERLAY_CORE_OK ? keep_result(overlay) : status;
+}
+
+overlay_core_location overlay_core_locate(overlay_core *overlay, int shape, int fill_rule, int32_t x, int32_t y)
+{
+    if (!overlay || !is_shape(shape) || !is_fill_rule(fill_rule))
+        return OVERLAY_CORE_LOCATION_BAD_ARGUMENT;
+    overlay_core_point point = {.x = x, .y = y};
+    uint8_t code = overlay_c_locate(&overlay->handle, &point, (uint8_t)shape, (uint8_t)fill_rule);
+    /* a point out of range lies outside of all contours */
+    return code > OVERLAY_CORE_OUTSIDE ? OVERLAY_CORE_OUTSIDE : (overlay_core_location)code;
 }
 
 overlay_core_result overlay_core_get(const overlay_core *overlay)

@@ -50,13 +50,21 @@ enum {
     OVERLAY_CORE_FILL_NEGATIVE = 3
 };
 
+/* Where a point lies. */
+typedef enum {
+    OVERLAY_CORE_INSIDE = 0,
+    OVERLAY_CORE_ON_BOUNDARY = 1,
+    OVERLAY_CORE_OUTSIDE = 2,
+    OVERLAY_CORE_LOCATION_BAD_ARGUMENT = 5
+} overlay_core_location;
+
 /* The contours of a subject and of a clip, and the result of their last overlay. Of use to one thread at a time. */
 typedef struct overlay_core overlay_core;
 
 /* The result of the last overlay: points as x, y, x, y, .., contour after contour, and contours shape after shape. Contour i has the
    points from contour_starts[i] to before contour_starts[i + 1], and shape i the contours from shape_starts[i] to before
    shape_starts[i + 1], its outer boundary first. There are no shapes after overlay_core_overlay. All is valid until the next call
-   on the overlay. */
+   on the overlay but overlay_core_locate. */
 typedef struct {
     const int32_t *xy;
     const size_t *contour_starts;
@@ -93,6 +101,14 @@ overlay_core_status overlay_core_overlay(overlay_core *overlay, int rule, int fi
 
 /* The same in shapes: each an outer boundary, followed by its holes, all of them simple polygons. */
 overlay_core_status overlay_core_overlay_shapes(overlay_core *overlay, int rule, int fill_rule);
+
+/* The overlays by so many rules, in their order, each as of overlay_core_overlay. The contours are split once. In the result the
+   contours of rule i are those of shape i, from shape_starts[i] to before shape_starts[i + 1]. */
+overlay_core_status overlay_core_overlay_by_rules(overlay_core *overlay, const int *rules, size_t count, int fill_rule);
+
+/* Where a point lies with respect to the contours of a shape that were added: on the boundary if it lies on a step of one of them, else
+   inside or outside by the fill rule. OVERLAY_CORE_LOCATION_BAD_ARGUMENT if the overlay is null, or there is no such shape or fill rule. */
+overlay_core_location overlay_core_locate(overlay_core *overlay, int shape, int fill_rule, int32_t x, int32_t y);
 
 /* The result of the last overlay; nothing after one that failed. */
 overlay_core_result overlay_core_get(const overlay_core *overlay);

@@ -185,6 +185,16 @@ uint8_t overlay_c_polygons(overlay_core_handle *handle, const overlay_core_setti
    were added stay. */
 uint8_t overlay_c_shapes(overlay_core_handle *handle, const overlay_core_settings *settings, uint8_t rule);
 
+/* The overlays of the contours that were added by several rules, each as of overlay_c_polygons, in the order of the
+   codes. They are kept as contours, rule by rule; overlay_c_shape_lengths then copies out how many each rule has.
+   Returns as overlay_c_polygons does, under the same settings. The contours that were added stay. */
+uint8_t overlay_c_polygons_by_rules(overlay_core_handle *handle, const overlay_core_settings *settings, const uint8_t *rules, size_t rules_len);
+
+/* Where a point lies with respect to the contours of a shape that were added, by the code of a fill rule: 0 for
+   inside, 1 for on the boundary, which is on a step of a contour, 2 for outside, and 4 where the point is out of
+   range. */
+uint8_t overlay_c_locate(overlay_core_handle *handle, const overlay_core_point *point, uint8_t shape, uint8_t fill);
+
 /* What the last overlay of contours, in shapes or not, reports of its run: how many passes it made, and how far
    these moved edges. What such an overlay leaves holds at every place that is farther than this from the edges of
    the contours that it was given. Both are 0 at first, and nothing is promised of them after an overlay that was
@@ -223,7 +233,8 @@ void overlay_c_walks(overlay_core_handle *handle, size_t *lengths, size_t length
    contour by contour, those of shapes shape by shape. */
 void overlay_c_contours(overlay_core_handle *handle, size_t *lengths, size_t lengths_len, overlay_core_point *points, size_t points_len);
 
-/* Copies out how many contours each shape of the last overlay of contours has: of none where it was not in shapes. */
+/* Copies out how many contours each shape of the last overlay of contours has, or each rule where it was by several
+   rules: of none where it was neither. */
 void overlay_c_shape_lengths(overlay_core_handle *handle, size_t *out, size_t out_len);
 
 #ifdef __cplusplus

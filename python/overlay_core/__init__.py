@@ -6,16 +6,18 @@
 
 The library is found in the folder `c/out` of the repository, or where the variable OVERLAY_CORE names its file.
 """
+import contextlib
 import ctypes
 import os
 import pathlib
 
-__all__ = ["MAX_COORD", "MIN_COORD", "OverlayError", "overlay"]
+__all__ = ["MAX_COORD", "MIN_COORD", "OverlayError", "locate", "overlay", "overlay_by_rules"]
 
 MIN_COORD, MAX_COORD = -(1 << 30), (1 << 30) - 1
 
 RULES = {"subject": 0, "clip": 1, "intersect": 2, "union": 3, "difference": 4, "inverse-difference": 5, "xor": 6}
 FILLS = {"evenodd": 0, "nonzero": 1, "positive": 2, "negative": 3}
+LOCATIONS = ["inside", "boundary", "outside"]
 VERSION = 1
 
 
@@ -50,6 +52,8 @@ def _load():
         "free": (None, [handle]),
         "add_contour": (number, [handle, number, points, ctypes.c_size_t]),
         "overlay_shapes": (number, [handle, number, number]),
+        "overlay_by_rules": (number, [handle, ctypes.POINTER(number), ctypes.c_size_t, number]),
+        "locate": (number, [handle, number, number, ctypes.c_int32, ctypes.c_int32]),
         "get": (_Result, [handle]),
     }
     for name, (result, arguments) in calls.items():
@@ -125,6 +129,31 @@ def _contours(result, scale):
         yield list(zip(numbers[::2], numbers[1::2]))
 
 
+def _parts(result, scale):
+    """The contours of a result, shape by shape or rule by rule."""
+    contours = list(_contours(result, scale))
+    starts = result.shape_starts[:result.shapes + 1]
+    return [contours[start:end] for start, end in zip(starts, starts[1:])]
+
+
+@contextlib.contextmanager
+def _loaded(subject, clip, scale):
+    """An overlay of the library with these contours."""
+    given = [[_numbers(contour, scale, f"contour {index} of the {name}") for index, contour in enumerate(contours)]
+             for name, contours in [("subject", subject), ("clip", clip)]]
+    calls = _calls()
+    handle = calls.overlay_core_new()
+    if not handle:
+        raise OverlayError("there is not enough memory")
+    try:
+        for shape, contours in enumerate(given):
+            for numbers in contours:
+                _check(calls.overlay_core_add_contour(handle, shape, (ctypes.c_int32 * len(numbers))(*numbers), len(numbers) // 2))
+        yield handle
+    finally:
+        calls.overlay_core_free(handle)
+
+
 def overlay(subject, clip, rule, fill="nonzero", scale=None):
     """The overlay of two lists of contours: a list of shapes, each an outer boundary and the list of its holes.
 
@@ -139,21 +168,34 @@ def overlay(subject, clip, rule, fill="nonzero", scale=None):
     refuses.
     """
     rule_code, fill_code = _code("rule", rule, RULES), _code("fill", fill, FILLS)
-    sides = [("subject", subject), ("clip", clip)]
-    given = [[_numbers(contour, scale, f"contour {index} of the {name}") for index, contour in enumerate(contours)]
-             for name, contours in sides]
-    calls = _calls()
-    handle = calls.overlay_core_new()
-    if not handle:
-        raise OverlayError("there is not enough memory")
-    try:
-        for shape, contours in enumerate(given):
-            for numbers in contours:
-                _check(calls.overlay_core_add_contour(handle, shape, (ctypes.c_int32 * len(numbers))(*numbers), len(numbers) // 2))
-        _check(calls.overlay_core_overlay_shapes(handle, rule_code, fill_code))
-        result = calls.overlay_core_get(handle)
-        contours = list(_contours(result, scale))
-        starts = result.shape_starts[:result.shapes + 1]
-        return [(contours[start], contours[start + 1:end]) for start, end in zip(starts, starts[1:])]
-    finally:
-        calls.overlay_core_free(handle)
+    with _loaded(subject, clip, scale) as handle:
+        _check(_calls().overlay_core_overlay_shapes(handle, rule_code, fill_code))
+        return [(contours[0], contours[1:]) for contours in _parts(_calls().overlay_core_get(handle), scale)]
+
+
+def overlay_by_rules(subject, clip, rules, fill="nonzero", scale=None):
+    """The overlays of two lists of contours by several rules, of one split: for each rule a list of contours, in the order of the
+    rules. Outer boundaries run counterclockwise, and holes clockwise.
+
+    Arguments and errors are those of `overlay`.
+
+    >>> overlay_by_rules([[(0, 0), (4, 0), (4, 4), (0, 4)]], [[(2, 2), (6, 2), (6, 6), (2, 6)]], ["intersect", "subject"])
+    [[[(2, 4), (2, 2), (4, 2), (4, 4)]], [[(0, 4), (0, 0), (4, 0), (4, 2), (4, 4), (2, 4)]]]
+    """
+    codes, fill_code = [_code("rule", rule, RULES) for rule in rules], _code("fill", fill, FILLS)
+    with _loaded(subject, clip, scale) as handle:
+        _check(_calls().overlay_core_overlay_by_rules(handle, (ctypes.c_int * len(codes))(*codes), len(codes), fill_code))
+        return _parts(_calls().overlay_core_get(handle), scale)
+
+
+def locate(contours, point, fill="nonzero", scale=None):
+    """Where a point lies with respect to contours, exactly: "boundary" if it lies on a step of one of them, else "inside" or "outside"
+    under the fill rule. With a `scale` the point is multiplied by it and rounded, as the contours are.
+
+    >>> [locate([[(0, 0), (4, 0), (4, 4), (0, 4)]], (x, 2)) for x in (3, 4, 5)]
+    ['inside', 'boundary', 'outside']
+    """
+    fill_code = _code("fill", fill, FILLS)
+    x, y = _numbers([point], scale, "the point")
+    with _loaded(contours, [], scale) as handle:
+        return LOCATIONS[_calls().overlay_core_locate(handle, 0, fill_code, x, y)]

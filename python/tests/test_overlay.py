@@ -33,6 +33,20 @@ class Overlays(unittest.TestCase):
         self.assertEqual(area["union"] + area["intersect"], area["subject"] + area["clip"])
         self.assertEqual(area["xor"], area["union"] - area["intersect"])
 
+    def test_several_rules(self):
+        subject, clip = [square(0, 9), square(20, 22)], [square(3, 6), square(8, 12)]
+        found = overlay_core.overlay_by_rules(subject, clip, overlay_core.RULES, fill="evenodd")
+        for rule, contours in zip(overlay_core.RULES, found):
+            alone = sum(doubled_area(it) for shape in overlay(subject, clip, rule, fill="evenodd") for it in [shape[0], *shape[1]])
+            self.assertEqual(sum(map(doubled_area, contours)), alone)
+        self.assertEqual(overlay_core.overlay_by_rules(subject, clip, []), [])
+
+    def test_where_a_point_lies(self):
+        ring = [square(0, 8), square(2, 6)[::-1]]
+        found = [overlay_core.locate(ring, (x, 4)) for x in range(-1, 5)]
+        self.assertEqual(found, ["outside", "boundary", "inside", "boundary", "outside", "outside"])
+        self.assertEqual(overlay_core.locate([square(0, 1)], (0.25, 0.5), scale=100), "inside")
+
     def test_floats(self):
         (boundary, holes), = overlay([[(0.0, 0.0), (0.5, 0.0), (0.5, 0.25)]], [], "subject", scale=1000)
         self.assertEqual(sorted(boundary), [(0.0, 0.0), (0.5, 0.0), (0.5, 0.25)])

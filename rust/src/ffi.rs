@@ -111,6 +111,8 @@ extern "C" {
     fn overlay_c_add_contour(handle: &mut Handle, contour: *const IntPoint, contour_len: usize, shape: u8) -> u8;
     fn overlay_c_polygons(handle: &mut Handle, settings: &Settings, rule: u8) -> u8;
     fn overlay_c_shapes(handle: &mut Handle, settings: &Settings, rule: u8) -> u8;
+    fn overlay_c_polygons_by_rules(handle: &mut Handle, settings: &Settings, rules: *const u8, rules_len: usize) -> u8;
+    fn overlay_c_locate(handle: &mut Handle, point: &IntPoint, shape: u8, fill: u8) -> u8;
     fn overlay_c_report(handle: &mut Handle) -> Report;
     fn overlay_c_clear(handle: &mut Handle);
     fn overlay_c_sizes(handle: &mut Handle) -> Sizes;
@@ -238,6 +240,18 @@ impl Engine {
         unsafe { overlay_c_shapes(&mut self.handle, settings, rule) }
     }
 
+    /// Overlays the contours that were added by several rules. Returns a status.
+    pub fn polygons_by_rules(&mut self, settings: &Settings, rules: &[u8]) -> u8 {
+        // SAFETY: the handle is full. Nothing is required of codes.
+        unsafe { overlay_c_polygons_by_rules(&mut self.handle, settings, rules.as_ptr(), rules.len()) }
+    }
+
+    /// The code of where a point lies with respect to the contours of a shape.
+    pub fn locate(&mut self, point: IntPoint, shape: u8, fill: u8) -> u8 {
+        // SAFETY: the handle is full. Nothing is required of points and codes.
+        unsafe { overlay_c_locate(&mut self.handle, &point, shape, fill) }
+    }
+
     /// What the last overlay of contours reports of its run, if it was not refused.
     pub fn report(&mut self) -> Report {
         // SAFETY: the handle is full.
@@ -311,7 +325,8 @@ impl Engine {
         }
     }
 
-    /// The shapes of the last overlay of contours, if it was in shapes; else none.
+    /// The shapes of the last overlay of contours, if it was in shapes, or the contours of each rule, if it was by several;
+    /// else none.
     pub fn shapes(&mut self) -> Vec<IntShape> {
         let len = self.sizes().shapes;
         let mut lengths = Vec::new();

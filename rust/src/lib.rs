@@ -23,7 +23,7 @@ pub use error::{Axis, Error, Fault, RangeFault, SegmentFault};
 pub use float::{area, area_of_shape};
 pub use float::{FloatContour, FloatError, FloatOverlay, FloatPoint, FloatPointAdapter, FloatShape};
 pub use graph::{IdPoint, OverlayGraph, OverlayLink, OverlayNode, SegmentFill};
-pub use measure::{bounding_box, doubled_area, doubled_area_of_shape};
+pub use measure::{bounding_box, doubled_area, doubled_area_of_shape, PointLocation};
 pub use names::UnknownName;
 pub use overlay::{Change, Overlay};
 pub use point::{square, Engine, IntContour, IntPoint, IntShape, MAX_COORD, MIN_COORD};

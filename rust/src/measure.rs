@@ -1,6 +1,17 @@
-//! Areas and boxes. They call no export of the archive: plain Rust, tested and not proved.
+//! Where a point lies, and areas and boxes. The latter call no export of the archive: plain Rust, tested and not proved.
 
 use crate::IntPoint;
+
+/// Where a point lies with respect to contours: what [`crate::Overlay::locate_point`] returns.
+#[derive(Clone, Copy, Debug, PartialEq, Eq, Hash)]
+pub enum PointLocation {
+    /// On no step of a contour, and inside by the fill rule.
+    Inside,
+    /// On a step of a contour, ends included.
+    OnBoundary,
+    /// On no step of a contour, and outside by the fill rule.
+    Outside,
+}
 
 /// Twice the area on the left of a contour, exactly: above 0 where it runs counterclockwise, and below 0 where it runs
 /// clockwise.

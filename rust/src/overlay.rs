@@ -3,7 +3,7 @@
 use crate::error::{fault_of, fault_of_data, fault_of_line, outcome, point_error};
 use crate::{
     doubled_area, ffi, ClipRule, DataSegment, Engine, Error, Fault, FillRule, IntContour, IntPoint, IntShape,
-    LineSegment, OverlayGraph, OverlayLink, OverlayRule, Rounding, Segment, ShapeType, Solver,
+    LineSegment, OverlayGraph, OverlayLink, OverlayRule, PointLocation, Rounding, Segment, ShapeType, Solver,
 };
 use std::borrow::Cow;
 use std::fmt;
@@ -276,6 +276,54 @@ impl Overlay {
         let status = self.engine.polygons(&self.settings(solver, fill_rule), overlay_rule.code());
         self.keep_report(status)?;
         Ok(self.engine.contours())
+    }
+
+    /// The overlays of the contours that were added by several rules, each as `overlay` returns it, in the order of the
+    /// rules. The contours are split once, so several rules take little longer than one.
+    ///
+    /// ```
+    /// use i_overlay_core::{square, FillRule, Overlay, OverlayRule};
+    ///
+    /// let mut overlay = Overlay::with_contours(&[square(0, 4)], &[square(2, 6)])?;
+    /// let rules = [OverlayRule::Union, OverlayRule::Intersect];
+    /// let found = overlay.overlay_by_rules(&rules, FillRule::NonZero)?;
+    /// assert_eq!(found.iter().map(|contours| contours[0].len()).collect::<Vec<_>>(), [8, 4]);
+    /// assert_eq!(found[1], overlay.overlay(OverlayRule::Intersect, FillRule::NonZero)?);
+    /// # Ok::<(), i_overlay_core::Error>(())
+    /// ```
+    pub fn overlay_by_rules(
+        &mut self,
+        overlay_rules: &[OverlayRule],
+        fill_rule: FillRule,
+    ) -> Result<Vec<Vec<IntContour>>, Error> {
+        let codes: Vec<u8> = overlay_rules.iter().map(|rule| rule.code()).collect();
+        let status = self.engine.polygons_by_rules(&self.settings(Solver::AUTO, fill_rule), &codes);
+        self.keep_report(status)?;
+        Ok(self.engine.shapes())
+    }
+
+    /// Where a point lies with respect to the contours of a shape that were added, exactly: on the boundary if it lies on
+    /// a step of one of them, ends included; else inside or outside, by how often they wind around it and the fill rule.
+    ///
+    /// A step along which both sides are inside is a step too. A point with a coordinate out of range lies outside.
+    ///
+    /// ```
+    /// use i_overlay_core::{square, FillRule, IntPoint, Overlay, PointLocation, ShapeType};
+    ///
+    /// let mut overlay = Overlay::with_contours(&[square(0, 4)], &[])?;
+    /// let mut locate = |x, y| overlay.locate_point(ShapeType::Subject, FillRule::NonZero, IntPoint::new(x, y));
+    /// assert_eq!(locate(1, 2), PointLocation::Inside);
+    /// assert_eq!(locate(4, 2), PointLocation::OnBoundary);
+    /// assert_eq!(locate(5, 2), PointLocation::Outside);
+    /// assert_eq!(locate(i32::MAX, 2), PointLocation::Outside);
+    /// # Ok::<(), i_overlay_core::Error>(())
+    /// ```
+    pub fn locate_point(&mut self, shape_type: ShapeType, fill_rule: FillRule, point: IntPoint) -> PointLocation {
+        match self.engine.locate(point, shape_type as u8, fill_rule as u8) {
+            0 => PointLocation::Inside,
+            1 => PointLocation::OnBoundary,
+            _ => PointLocation::Outside,
+        }
     }
 
     /// The overlay of the contours that were added, in shapes, by the solver `AUTO`: each an outer boundary, which runs

@@ -4,8 +4,8 @@ mod common;
 
 use common::Random;
 use i_overlay_core::{
-    square, Axis, Error, FillRule, IntContour, IntPoint, Overlay, OverlayRule, Precision, RangeFault, Rounding,
-    RuleTable, ShapeType, Solver, Strategy, MAX_COORD, MIN_COORD,
+    square, Axis, Error, FillRule, IntContour, IntPoint, Overlay, OverlayRule, PointLocation, Precision, RangeFault,
+    Rounding, RuleTable, ShapeType, Solver, Strategy, MAX_COORD, MIN_COORD,
 };
 
 /// Twice the area to the left of contours.
@@ -55,6 +55,66 @@ fn areas_add_up() {
         // contours
         let neither = OverlayRule::Table(RuleTable::new(1).unwrap());
         assert_eq!(area(neither), shared - subject - clip);
+    }
+}
+
+/// Several rules at once return what each returns alone, and report the same run.
+#[test]
+fn several_rules_at_once() {
+    let mut random = Random(12);
+    let rules = [
+        OverlayRule::Union,
+        OverlayRule::Intersect,
+        OverlayRule::Table(RuleTable::new(1).unwrap()),
+        OverlayRule::Union,
+        OverlayRule::Xor,
+    ];
+    for _ in 0..200 {
+        let mut overlay = Overlay::new().unwrap();
+        for shape in [ShapeType::Subject, ShapeType::Clip] {
+            let corners = (0..6).map(|_| IntPoint::new(random.below(20), random.below(20)));
+            overlay.add_contour(&corners.collect::<Vec<_>>(), shape).unwrap();
+        }
+        let together = overlay.overlay_by_rules(&rules, FillRule::EvenOdd).unwrap();
+        let report = (overlay.passes(), overlay.reach());
+        let alone = rules.map(|rule| overlay.overlay(rule, FillRule::EvenOdd).unwrap());
+        assert_eq!(together, alone);
+        assert_eq!(report, (overlay.passes(), overlay.reach()));
+        assert!(overlay.overlay_by_rules(&[], FillRule::EvenOdd).unwrap().is_empty());
+    }
+}
+
+/// Where points lie, by a ray to the right, in whole numbers: another way than the winding along the ray straight down.
+#[test]
+fn where_points_lie() {
+    let mut random = Random(13);
+    for _ in 0..300 {
+        let corners: Vec<IntPoint> =
+            (0..1 + random.below(7)).map(|_| IntPoint::new(random.below(9), random.below(9))).collect();
+        let mut overlay = Overlay::with_contours(&[], &[corners.clone()]).unwrap();
+        for (x, y) in (-1..10).flat_map(|x| (-1..10).map(move |y| (x, y))) {
+            let (mut is_on, mut winding) = (false, 0);
+            for (a, b) in corners.iter().zip(corners.iter().cycle().skip(1)) {
+                let turn = (b.x - a.x) * (y - a.y) - (b.y - a.y) * (x - a.x);
+                let is_in_box = |u: i32, v: i32, at: i32| (u.min(v)..=u.max(v)).contains(&at);
+                is_on |= turn == 0 && is_in_box(a.x, b.x, x) && is_in_box(a.y, b.y, y);
+                winding += i32::from(a.y <= y && y < b.y && turn > 0) - i32::from(b.y <= y && y < a.y && turn < 0);
+            }
+            let rules = [
+                (FillRule::EvenOdd, winding % 2 != 0),
+                (FillRule::NonZero, winding != 0),
+                (FillRule::Positive, winding > 0),
+                (FillRule::Negative, winding < 0),
+            ];
+            for (rule, is_inside) in rules {
+                let wanted = match (is_on, is_inside) {
+                    (true, _) => PointLocation::OnBoundary,
+                    (false, true) => PointLocation::Inside,
+                    (false, false) => PointLocation::Outside,
+                };
+                assert_eq!(overlay.locate_point(ShapeType::Clip, rule, IntPoint::new(x, y)), wanted);
+            }
+        }
     }
 }
 

@@ -21,12 +21,13 @@ pub mod integer {
     pub use overlay_geometry::num::OverlayInt;
 }
 
-/// The overlay of polygons, and which of the two shapes a contour or a segment bounds.
+/// The overlay of polygons, which of the two shapes a contour or a segment bounds, where a point lies, areas and boxes.
 pub mod overlay {
     pub use overlay_base::segm::shape_type::ShapeType;
     pub use overlay_contours::contour::{IntContour, IntShape};
     pub use overlay_contours::fault::ContourFault;
-    pub use overlay_contours::measure::doubled_area;
+    pub use overlay_contours::location::{PointLocation, locate_point};
+    pub use overlay_contours::measure::{bounding_box, doubled_area, doubled_area_of_shape};
     pub use overlay_contours::overlay::{Overlay, overlay_contours, overlay_shapes};
     pub use overlay_contours::rounding::Rounding;
 }

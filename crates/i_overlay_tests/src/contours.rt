@@ -14,15 +14,15 @@ use std::alloc::Global;
 use std::test::Fail;
 
 /// A contour as the tables write it.
-type Corners = &'static [(i32, i32)];
+pub type Corners = &'static [(i32, i32)];
 
 const SQUARE: Corners = &[(0, 0), (4, 0), (4, 4), (0, 4)];
 
 const OTHER_SQUARE: Corners = &[(2, 2), (6, 2), (6, 6), (2, 6)];
 
-const WIDE_SQUARE: Corners = &[(0, 0), (8, 0), (8, 8), (0, 8)];
+pub const WIDE_SQUARE: Corners = &[(0, 0), (8, 0), (8, 8), (0, 8)];
 
-const BOW_TIE: Corners = &[(0, 0), (4, 4), (4, 0), (0, 4)];
+pub const BOW_TIE: Corners = &[(0, 0), (4, 4), (4, 0), (0, 4)];
 
 /// What a call is given, and what it returns.
 #[derive(Clone, Copy)]
@@ -211,7 +211,7 @@ const CASES: [Case; 15] = [
     },
 ];
 
-fn contours_from(alloc: Global, lists: &[Corners]) -> Result<Vec<IntContour<i32>>, Fault> {
+pub fn contours_from(alloc: Global, lists: &[Corners]) -> Result<Vec<IntContour<i32>>, Fault> {
     let mut contours = Vec::new(alloc);
     for corners in lists {
         let mut contour = Vec::new(alloc);

@@ -10,6 +10,8 @@ mod contours;
 #[cfg(test)]
 mod library;
 #[cfg(test)]
+mod measure;
+#[cfg(test)]
 mod overlay;
 #[cfg(test)]
 mod provenance;

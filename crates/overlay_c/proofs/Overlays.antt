@@ -13,7 +13,7 @@ use Rattle.i_overlay.specs.FarRegions.{EnclosesOverlay}
 use Rattle.i_overlay.specs.Headline.{IsSplit, IsOverlay}
 use Rattle.overlay_geometry.specs.Points.{Point}
 use Rattle.overlay_contours.specs.Beyond.{IsOverlayBeyond, IsShapeOverlayBeyond, AreOfSplitting}
-use Rattle.overlay_contours.specs.Polygons.{IsPolygonOverlay}
+use Rattle.overlay_contours.specs.Polygons.{IsPolygonOverlay, ArePolygonOverlays}
 use Rattle.overlay_contours.specs.ContourSegments.{overlay_segments}
 use Rattle.overlay_contours.specs.Shapes.{IsShapeOverlay}
 use Rattle.overlay_contours.specs.Splittings.{Splitting, by_passes, by_snapping, splitting_for, most_halves}
@@ -64,6 +64,11 @@ module _ (s t : Splitting) (f g : FillRule) (a b c d : List (List Point)) (es : 
   pub same_polygons : (r : OverlayRule) (answer : List (List Point)) → IsPolygonOverlay s r f a c answer → IsPolygonOverlay t r g b d answer
   same_polygons r answer o =
       subst (λ u. IsPolygonOverlay u r g b d answer) es (subst (λ u. IsPolygonOverlay s r u b d answer) ef (subst (λ u. IsPolygonOverlay s r f u d answer) ea (subst (λ u. IsPolygonOverlay s r f a u answer) ec o)))
+
+  pub same_rules : (rules : List OverlayRule) (answers : List (List (List Point))) → ArePolygonOverlays s f a c rules answers → ArePolygonOverlays t g b d rules answers
+  same_rules rules answers o =
+      subst (λ u. ArePolygonOverlays u g b d rules answers) es
+      (subst (λ u. ArePolygonOverlays s u b d rules answers) ef (subst (λ u. ArePolygonOverlays s f u d rules answers) ea (subst (λ u. ArePolygonOverlays s f a u rules answers) ec o)))
 
   pub same_beyond : (halves : ℕ) (r : OverlayRule) (answer : List (List Point)) → IsOverlayBeyond halves r f a c answer → IsOverlayBeyond halves r g b d answer
   same_beyond halves r answer o =

@@ -1,12 +1,13 @@
 -- What a call through a handle makes of the engine behind it.
 use Rattle.std.specs.Prelude.{◌≡◌, ◌++◌, ◌∷◌, [], ℕ, Bool, false, List, IsTrue, IsFalse, IfSome, map}
+use Rattle.std.specs.List.{AllZip}
 use Rattle.overlay_base.specs.declared.overlay_core.overlay_rule.OverlayRule.{OverlayRule}
 use Rattle.overlay_base.specs.declared.segm.shape_type.ShapeType.{ShapeType}
 use Rattle.overlay_base.specs.declared.segm.shape_type.ShapeType.TheVariants.{Subject, Clip}
 use Rattle.overlay_base.specs.EdgeData.{DataSegment}
 use Rattle.overlay_base.specs.Segments.{WholeSegment}
 use Rattle.overlay_contours.specs.Refusals.{CountsLeaveRange}
-use Rattle.overlay_c.specs.Contours.{point_by, contours_in, polygon_splitting, KeepsPolygons, KeepsShapes}
+use Rattle.overlay_c.specs.Contours.{point_by, contours_in, polygon_splitting, KeepsPolygons, KeepsShapes, KeepsRules}
 use Rattle.overlay_c.specs.Kept.{are_usable, are_lines_usable}
 use Rattle.overlay_c.specs.Records.{line_asked_by, names_narrow, IsRuleOf}
 use Rattle.overlay_c.specs.Widths.{least_of, greatest_of, LastKeepsOverlay, LastKeepsData, LastKeepsClip}
@@ -73,6 +74,10 @@ KeepsPolygonsBy settings code before after = (rule : OverlayRule) × IsRuleOf co
 
 abbrev pub KeepsShapesBy : SettingsRecord → ℕ → Engine → Engine → Type 0
 KeepsShapesBy settings code before after = (rule : OverlayRule) × IsRuleOf code rule × KeepsShapes settings rule before after
+
+-- It keeps the overlays of its contours by the rules of some codes, one for each code in order.
+abbrev pub KeepsRulesBy : SettingsRecord → List ℕ → Engine → Engine → Type 0
+KeepsRulesBy settings codes before after = (rules : List OverlayRule) × AllZip IsRuleOf codes rules × KeepsRules settings rules before after
 
 abbrev pub PolygonCountsLeaveRange : SettingsRecord → Engine → Type 0
 PolygonCountsLeaveRange settings engine = CountsLeaveRange (polygon_splitting settings) (contours_in engine Subject) (contours_in engine Clip)

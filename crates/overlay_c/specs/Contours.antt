@@ -1,5 +1,5 @@
 -- What an engine is given of contours, and what it keeps of their overlay.
-use Rattle.std.specs.Prelude.{◌≡◌, ◌≤◌, ◌==◌, if◌then◌else◌, Bool, IsTrue, IsFalse, List, [], map, length}
+use Rattle.std.specs.Prelude.{◌≡◌, ◌≢◌, ℕ, ◌≤◌, ◌==◌, if◌then◌else◌, Bool, IsTrue, IsFalse, List, [], map, length}
 use Rattle.std.specs.List.{list_all}
 use Rattle.overlay_geometry.specs.Points.{Point}
 use Rattle.overlay_geometry.specs.Coordinates.{least_coordinate, greatest_coordinate, is_point_in_range}
@@ -11,7 +11,11 @@ use Rattle.overlay_split.specs.ExactInput.{is_exact_input}
 use Rattle.overlay_contours.specs.Beyond.{IsOverlayBeyond, IsShapeOverlayBeyond, AreOfSplitting}
 use Rattle.overlay_contours.specs.ContourSegments.{overlay_segments}
 use Rattle.overlay_contours.specs.Kept.{subject_of, clip_of, passes_of, reach_of, KeepsReport}
-use Rattle.overlay_contours.specs.Polygons.{IsPolygonOverlay}
+use Rattle.overlay_base.specs.declared.overlay_core.fill_rule.FillRule.{FillRule}
+use Rattle.overlay_contours.specs.Locations.{location}
+use Rattle.overlay_contours.specs.declared.location.PointLocation.{PointLocation}
+use Rattle.overlay_contours.specs.declared.location.PointLocation.TheVariants.{Inside, OnBoundary, Outside}
+use Rattle.overlay_contours.specs.Polygons.{IsPolygonOverlay, ArePolygonOverlays}
 use Rattle.overlay_contours.specs.Refusals.{of_shape, IsReason}
 use Rattle.overlay_contours.specs.Shapes.{all_contours, IsShapeOverlay}
 use Rattle.overlay_contours.specs.Splittings.{Splitting, by_passes, by_snapping, most_halves}
@@ -66,6 +70,24 @@ pub record KeepsShapes (settings : SettingsRecord) (rule : OverlayRule) (before 
   -- what holds of them farther from the given edges than it reports
   pub beyond : IsShapeOverlayBeyond (reach_of after.polygons) rule (fill_rule_of settings.fill_rule) (contours_in before Subject) (contours_in before Clip) shapes
   pub report : ReportsSplitting settings before after
+
+-- it keeps the contours of the overlays by several rules, one for each rule in order: how many each has, and all contours
+pub record KeepsRules (settings : SettingsRecord) (rules : List OverlayRule) (before after : Engine) : Type 0 where
+  pub overlays : List (List (List Point))
+  pub are : ArePolygonOverlays (polygon_splitting settings) (fill_rule_of settings.fill_rule) (contours_in before Subject) (contours_in before Clip) rules overlays
+  pub counts : after.shape_lengths.items ≡ map length overlays
+  pub kept : AreLaid (all_contours overlays) after.contour_lengths.items (map point_by after.contour_points.items)
+  pub report : rules ≢ [] → AreOfSplitting (polygon_splitting settings) (contours_in before Subject) (contours_in before Clip) (passes_of after.polygons) (reach_of after.polygons)
+
+-- the code of where a point lies with respect to the contours of a shape, by the code of a fill rule; 4 where it is out of range
+abbrev pub code_of : PointLocation → ℕ
+code_of Inside = 0
+code_of OnBoundary = 1
+code_of Outside = 2
+
+abbrev pub location_code : ShapeType → FillRule → PointRecord → Engine → ℕ
+location_code shape fill_rule point engine =
+    if is_point_in_range least_coordinate greatest_coordinate (point_by point) then code_of (location fill_rule (contours_in engine shape) (point_by point)) else 4
 
 -- why a contour was not added: a point of it is out of range, or a growth was refused
 abbrev pub IsPointRefusal : List PointRecord → Refusal → Type 0

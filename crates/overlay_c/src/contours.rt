@@ -4,9 +4,10 @@ ghost use Rattle.overlay_geometry.specs.PointOf.{point_of};
 ghost use Rattle.overlay_contours.specs.ContoursOf.{points_of, contours_of};
 ghost use Rattle.overlay_contours.specs.Shapes.{all_contours};
 ghost use Rattle.overlay_contours.specs.ShapesOf.{shapes_of};
-ghost use Rattle.overlay_c.specs.Contours.{point_by};
+ghost use Rattle.overlay_c.specs.Contours.{point_by, code_of};
 
 use overlay_contours::contour::{IntContour, IntShape};
+use overlay_contours::location::PointLocation;
 use overlay_geometry::geom::point::IntPoint;
 use std::alloc::AllocError;
 
@@ -98,12 +99,23 @@ fn push_points(contour: &[IntPoint<i32>], points: &mut Vec<PointRecord>) -> Resu
 }
 
 /// The point of a record.
-fn point(given: &PointRecord) -> IntPoint<i32>
+pub(crate) fn point(given: &PointRecord) -> IntPoint<i32>
     ensures { point_of (λ z. z) result ≡ point_by given.now }
 {
     IntPoint {
         x: given.x,
         y: given.y,
+    }
+}
+
+/// The code of where a point lies: 0 for inside, 1 for on the boundary, 2 for outside.
+pub fn location_code(location: PointLocation) -> u8
+    ensures { result ≡ code_of location }
+{
+    match location {
+        PointLocation::Inside => 0,
+        PointLocation::OnBoundary => 1,
+        PointLocation::Outside => 2,
     }
 }
 

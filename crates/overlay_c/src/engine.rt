@@ -1,23 +1,25 @@
 // The engine behind a handle: what splits and builds, and what overlays contours.
 ghost use Rattle.std.specs.Prelude.{◌≡◌, ◌∷◌, ◌++◌, [], false, IsTrue, IsFalse, OnOk, OnErr, IfErr, map, length};
-ghost use Rattle.overlay_c.specs.Calls.{MaySplit, MayNotSplit, MaySplitLines, MayNotSplitLines};
+ghost use Rattle.overlay_c.specs.Calls.{KeepsRulesBy, MaySplit, MayNotSplit, MaySplitLines, MayNotSplitLines};
 ghost use Rattle.overlay_c.specs.Status.{OnUnusable, OnTooLarge};
 
-use crate::contours::{PointRecord, keep_contours, keep_shapes, load_points};
+use crate::contours::{PointRecord, keep_contours, keep_shapes, load_points, location_code, point};
 use crate::cores::Core;
 use crate::lines;
 use crate::records::{
     LineRecord, LinkRecord, ReportRecord, SegmentRecord, SettingsRecord, SizesRecord, fill_rule,
-    rounding, solver, tell_all, words,
+    overlay_rules, rounding, solver, tell_all, words,
 };
 use crate::refusal::Refusal;
 use crate::tags::{Tag, TaggedRecord};
 use crate::width::is_narrow;
 use overlay_base::overlay_core::clip_rule::ClipRule;
+use overlay_base::overlay_core::fill_rule::FillRule;
 use overlay_base::overlay_core::overlay_rule::OverlayRule;
 use overlay_base::segm::shape_type::ShapeType;
 use overlay_contours::overlay::Overlay;
 use overlay_geometry::geom::point::IntPoint;
+use overlay_geometry::num::OverlayInt;
 use std::alloc::Global;
 
 /// What is kept from one call to the next.
@@ -51,7 +53,7 @@ impl Engine {
     ghost use Rattle.overlay_base.specs.declared.segm.shape_type.ShapeType.TheVariants.{Subject, Clip};
     ghost use Rattle.overlay_contours.specs.Kept.{passes_of, reach_of};
     ghost use Rattle.overlay_contours.specs.Refusals.{other_shape};
-    ghost use Rattle.overlay_c.specs.Contours.{point_by, are_in_range, contours_in, IsPointRefusal, IsPolygonRefusal};
+    ghost use Rattle.overlay_c.specs.Contours.{point_by, are_in_range, location_code, contours_in, IsPointRefusal, IsPolygonRefusal};
     ghost use Rattle.overlay_c.specs.Contours.{KeepsPolygons, KeepsShapes, SameSplit, SameReport};
 
     /// An engine, which takes no memory yet.
@@ -395,6 +397,47 @@ impl Engine {
             &mut self.contour_points,
         )?;
         Ok(())
+    }
+
+    /// The overlays of the contours that were added by several rules, as contours, which are kept rule by rule. The
+    /// contours that were added stay, and are split once.
+    pub fn polygons_by_rules(
+        &mut self,
+        alloc: Global,
+        settings: &SettingsRecord,
+        codes: &[u8],
+    ) -> Result<(), Refusal>
+        ensures kept { OnOk result (KeepsRulesBy settings.now codes.now self.old self.new) }
+        ensures refused { IfErr result (λ refusal. IsPolygonRefusal settings.now self.old refusal) }
+        ensures subject { contours_in self.new Subject ≡ contours_in self.old Subject }
+        ensures clip { contours_in self.new Clip ≡ contours_in self.old Clip }
+        ensures rest { SameSplit self.old self.new }
+    {
+        let rules = overlay_rules(alloc, codes)?;
+        let solver = solver(settings);
+        let fill_rule = fill_rule(settings.fill_rule);
+        self.polygons.set_rounding(rounding(settings.rounding));
+        let overlays = self.polygons.overlay_by_rules(&solver, fill_rule, &rules)?;
+        keep_shapes(
+            &overlays,
+            &mut self.shape_lengths,
+            &mut self.contour_lengths,
+            &mut self.contour_points,
+        )?;
+        Ok(())
+    }
+
+    /// The code of where a point lies with respect to the contours of a shape that were added, or 4 where it is out of
+    /// range.
+    pub fn locate(&self, shape_type: ShapeType, fill_rule: FillRule, at: &PointRecord) -> u8
+        ensures { result ≡ location_code shape_type fill_rule at.now self.now }
+    {
+        let point = point(at);
+        if point.x.is_in_range() && point.y.is_in_range() {
+            location_code(self.polygons.locate_point(shape_type, fill_rule, point))
+        } else {
+            4
+        }
     }
 
     /// What the last overlay of contours that was not refused reports of its run.

@@ -4,8 +4,8 @@
 ghost use Rattle.std.specs.Prelude.{◌≡◌, ◌≢◌, ◌≤ℤ◌, pos, unsigned_abs, ◌↔◌, ◌<◌, ◌^◌, [], ◌∷◌, ◌++◌, false, None, IsSome, IsTrue, IsFalse, IfSome, length, map};
 ghost use Rattle.overlay_base.specs.Join.{join, join_leaves_range, has_equal_pairs};
 ghost use Rattle.overlay_split.specs.SettingsOf.{snap_limit_of};
-ghost use Rattle.overlay_c.specs.Records.{start_of, end_of, line_asked_by, told_by, line_told_by, shape_of, number_by};
-ghost use Rattle.overlay_c.specs.Calls.{Turns, Leaves, Chooses, MaySplit, MayNotSplit, MaySplitLines, MayNotSplitLines, KeepsOverlayBy, KeepsDataBy, KeepsClipBy, SameContours, SameShape, AddsContour, KeepsPolygonsBy, KeepsShapesBy, PolygonCountsLeaveRange};
+ghost use Rattle.overlay_c.specs.Records.{start_of, end_of, line_asked_by, told_by, line_told_by, shape_of, fill_rule_of, number_by};
+ghost use Rattle.overlay_c.specs.Calls.{Turns, Leaves, Chooses, MaySplit, MayNotSplit, MaySplitLines, MayNotSplitLines, KeepsOverlayBy, KeepsDataBy, KeepsClipBy, SameContours, SameShape, AddsContour, KeepsPolygonsBy, KeepsShapesBy, KeepsRulesBy, PolygonCountsLeaveRange};
 ghost use Rattle.overlay_c.specs.Crosses.{pair_by, cross_by, mask_by};
 ghost use Rattle.overlay_geometry.specs.Coordinates.{least_coordinate, greatest_coordinate, is_pair_in_range};
 ghost use Rattle.overlay_intersections.specs.CrossAnswer.{cross_answer};
@@ -16,7 +16,7 @@ ghost use Rattle.overlay_c.specs.Tags.{untagged, tagged_by};
 ghost use Rattle.overlay_base.specs.declared.segm.shape_type.ShapeType.TheVariants.{Subject, Clip};
 ghost use Rattle.overlay_contours.specs.Kept.{passes_of, reach_of};
 ghost use Rattle.overlay_contours.specs.Refusals.{other_shape};
-ghost use Rattle.overlay_c.specs.Contours.{are_in_range, contours_in, SameSplit, SameReport};
+ghost use Rattle.overlay_c.specs.Contours.{are_in_range, location_code, contours_in, SameSplit, SameReport};
 
 pub mod contours;
 pub mod cores;
@@ -35,8 +35,8 @@ use crate::cross::{CrossRecord, cross};
 use crate::engine::Engine;
 use crate::handle::{Handle, put, take};
 use crate::records::{
-    LineRecord, LinkRecord, ReportRecord, SegmentRecord, SettingsRecord, SizesRecord, overlay_rule,
-    shape_type,
+    LineRecord, LinkRecord, ReportRecord, SegmentRecord, SettingsRecord, SizesRecord, fill_rule,
+    overlay_rule, shape_type,
 };
 use crate::refusal::status;
 use crate::tags::{Tag, TaggedRecord};
@@ -318,6 +318,52 @@ pub extern "C" fn overlay_c_shapes(
     status(outcome)
 }
 
+/// The overlays of the contours that were added by several rules, each as of `overlay_c_polygons`, in the order of the
+/// codes. They are kept as contours, rule by rule; `overlay_c_shape_lengths` then copies out how many each rule has.
+/// Returns as `overlay_c_polygons` does, under the same settings. The contours that were added stay.
+#[unsafe(no_mangle)]
+pub extern "C" fn overlay_c_polygons_by_rules(
+    alloc: Global,
+    handle: &mut Handle,
+    settings: &SettingsRecord,
+    rules: &[u8],
+) -> u8
+    requires { IsSome handle.old.engine }
+    ensures full { IsSome handle.new.engine }
+    ensures done { result ≡ 0 → Turns handle.old handle.new (KeepsRulesBy settings.now rules.now) }
+    ensures too_large { result ≡ 2 → IfSome handle.old.engine (PolygonCountsLeaveRange settings.now) }
+    ensures codes { result < 3 }
+    ensures subject { Turns handle.old handle.new (SameShape Subject) }
+    ensures clip { Turns handle.old handle.new (SameShape Clip) }
+    ensures rest { Turns handle.old handle.new SameSplit }
+{
+    let mut engine = take(alloc, handle);
+    let outcome = engine.polygons_by_rules(alloc, settings, rules);
+    put(handle, engine);
+    status(outcome)
+}
+
+/// Where a point lies with respect to the contours of a shape that were added, by the code of a fill rule: 0 for inside,
+/// 1 for on the boundary, which is on a step of a contour, 2 for outside, and 4 where the point is out of range.
+#[unsafe(no_mangle)]
+pub extern "C" fn overlay_c_locate(
+    alloc: Global,
+    handle: &mut Handle,
+    point: &PointRecord,
+    shape: u8,
+    fill: u8,
+) -> u8
+    requires { IsSome handle.old.engine }
+    ensures same { handle.new.engine ≡ handle.old.engine }
+    ensures location { IfSome handle.old.engine (λ engine.
+        result ≡ location_code (shape_of shape) (fill_rule_of fill) point.now engine) }
+{
+    let engine = take(alloc, handle);
+    let location = engine.locate(shape_type(shape), fill_rule(fill), point);
+    put(handle, engine);
+    location
+}
+
 /// What the last overlay of contours, in shapes or not, reports of its run: how many passes it made, and how far these
 /// moved edges. What such an overlay leaves holds at every place that is farther than this from the edges of the
 /// contours that it was given. Both are 0 at first, and nothing is promised of them after an overlay that was refused.
@@ -502,7 +548,8 @@ pub extern "C" fn overlay_c_contours(
     put(handle, engine);
 }
 
-/// Copies out how many contours each shape of the last overlay of contours has: of none where it was not in shapes.
+/// Copies out how many contours each shape of the last overlay of contours has, or each rule where it was by several
+/// rules: of none where it was neither.
 #[unsafe(no_mangle)]
 pub extern "C" fn overlay_c_shape_lengths(alloc: Global, handle: &mut Handle, out: &mut [usize])
     requires engine { IsSome handle.old.engine }

@@ -1,5 +1,6 @@
 // What crosses between C and the engine, laid out as C does it.
-ghost use Rattle.std.specs.Prelude.{◌≡◌, ◌<◌, ◌&&◌, IfSome, is_some, length, map};
+ghost use Rattle.std.specs.Prelude.{◌≡◌, ◌<◌, ◌&&◌, IfSome, IfOk, is_some, length, map};
+ghost use Rattle.std.specs.List.{AllZip};
 ghost use Rattle.std.specs.Ordering.{int_eq};
 ghost use Rattle.overlay_geometry.specs.PointOf.{point_of};
 ghost use Rattle.overlay_geometry.specs.Coordinates.{is_point_in_range};
@@ -21,6 +22,7 @@ use overlay_base::segm::shape_type::ShapeType;
 use overlay_base::segm::winding::WindingCount;
 use overlay_contours::rounding::Rounding;
 use overlay_geometry::geom::point::IntPoint;
+use std::alloc::{AllocError, Global};
 
 /// How many numbers have 64 bits.
 const WORD: u128 = 1 << 64;
@@ -241,6 +243,17 @@ pub fn overlay_rule(code: u8) -> OverlayRule
         5 => OverlayRule::InverseDifference,
         _ => table_rule(code),
     }
+}
+
+/// The overlay rules of codes, in order.
+pub fn overlay_rules(alloc: Global, codes: &[u8]) -> Result<Vec<OverlayRule>, AllocError>
+    ensures { IfOk result (λ rules. AllZip IsRuleOf codes.now rules.items) }
+{
+    let mut rules = Vec::with_capacity(alloc, codes.len())?;
+    for code in codes {
+        rules.push(overlay_rule(*code))?;
+    }
+    Ok(rules)
 }
 
 /// The rule of a code above 5.

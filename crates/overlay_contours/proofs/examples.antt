@@ -3,3 +3,5 @@ pub mod Corners
 pub mod Shapes
 pub mod Beyond
 pub mod Areas
+pub mod Locations
+pub mod Boxes

@@ -26,4 +26,7 @@ pub mod ShapeTheorem
 pub mod ShapeResults
 pub mod Beyond
 pub mod Areas
+pub mod AreaSums
+pub mod Boxes
+pub mod Locations
 pub mod SeveralRules

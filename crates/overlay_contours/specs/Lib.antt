@@ -3,6 +3,8 @@ pub mod ContoursOf
 pub mod ContourSegments
 pub mod Corners
 pub mod Areas
+pub mod Boxes
+pub mod Locations
 pub mod Splittings
 pub mod Polygons
 pub mod CornerOverlays

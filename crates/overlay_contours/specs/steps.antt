@@ -1,1 +1,3 @@
 pub mod Arranging
+pub mod Bounding
+pub mod Locating

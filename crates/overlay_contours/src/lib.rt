@@ -6,6 +6,7 @@ pub mod contour;
 pub mod corners;
 pub mod extract;
 pub mod fault;
+pub mod location;
 pub mod measure;
 pub mod overlay;
 pub mod rounding;

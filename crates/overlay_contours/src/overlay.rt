@@ -1,7 +1,10 @@
 // The overlay of polygons in one call: contours in, contours out. Upstream: `core::overlay`.
 ghost use Rattle.std.specs.Prelude.{◌≡◌, ◌≢◌, [], ◌∷◌, ◌++◌, IsTrue, OnOk, OnErr, IfOk, IfErr};
 ghost use Rattle.overlay_base.specs.declared.segm.fault.Fault.TheVariants.{Memory};
+ghost use Rattle.overlay_geometry.specs.InRange.{IsPointInRange};
+ghost use Rattle.overlay_geometry.specs.PointOf.{point_of};
 ghost use Rattle.overlay_contours.specs.ContoursOf.{points_of, contours_of};
+ghost use Rattle.overlay_contours.specs.Locations.{location};
 ghost use Rattle.overlay_contours.specs.declared.rounding.Rounding.TheVariants.{HotPixels};
 ghost use Rattle.overlay_contours.specs.ContourSegments.{are_in_range};
 ghost use Rattle.overlay_contours.specs.Refusals.{other_shape, IsShapeOutside, IsContourRefusal};
@@ -12,6 +15,7 @@ use crate::buffers::Buffers;
 use crate::contour::{IntContour, IntShape, find_out_of_range, find_point_out_of_range};
 use crate::corners::corners_of_contours;
 use crate::fault::ContourFault;
+use crate::location::{PointLocation, locate_point};
 use crate::rounding::Rounding;
 use overlay_base::overlay_core::fill_rule::FillRule;
 use overlay_base::overlay_core::overlay_rule::OverlayRule;
@@ -152,7 +156,7 @@ pub struct Overlay<I: OverlayInt> {
 }
 
 impl<I: OverlayInt> Overlay<I> {
-    ghost use Rattle.overlay_contours.specs.Kept.{subject_of, clip_of, rounding_of, passes_of, reach_of, AddsContour, KeepsContours, IsRefusalToAdd, IsOverlayOfKept, IsCornersOfKept, IsShapeOverlayOfKept, AreOverlaysOfKept, IsBeyondKept, AreCornersBeyondKept, AreShapesBeyondKept, ReachIsBounded, ExactReachIsNone, ReportsSplitting, KeepsRounding, KeepsReport, IsReasonOf};
+    ghost use Rattle.overlay_contours.specs.Kept.{subject_of, clip_of, contours_kept, rounding_of, passes_of, reach_of, AddsContour, KeepsContours, IsRefusalToAdd, IsOverlayOfKept, IsCornersOfKept, IsShapeOverlayOfKept, AreOverlaysOfKept, IsBeyondKept, AreCornersBeyondKept, AreShapesBeyondKept, ReachIsBounded, ExactReachIsNone, ReportsSplitting, KeepsRounding, KeepsReport, IsReasonOf};
 
     /// An overlay of no contours by snap rounding, which takes no memory yet.
     pub fn new(alloc: Global) -> Overlay<I>
@@ -383,6 +387,23 @@ impl<I: OverlayInt> Overlay<I> {
         ensures { result ≡ reach_of self.now }
     {
         self.reach
+    }
+
+    /// Where a point lies with respect to the contours of a shape that were added, under a fill rule, as the function
+    /// `locate_point` returns it. The point has to be in range.
+    pub fn locate_point(
+        &self,
+        shape_type: ShapeType,
+        fill_rule: FillRule,
+        point: IntPoint<I>,
+    ) -> PointLocation
+        requires { IsPointInRange I.whole I.MIN_COORD I.MAX_COORD point }
+        ensures { result ≡ location fill_rule (contours_kept shape_type self.now) (point_of I.whole point) }
+    {
+        match shape_type {
+            ShapeType::Subject => locate_point(&self.subject, fill_rule, point),
+            ShapeType::Clip => locate_point(&self.clip, fill_rule, point),
+        }
     }
 
     /// Drops the contours. The buffers of the overlays stay, and what `passes` and `reach` return.

@@ -36,7 +36,7 @@ use Rattle.overlay_contours.proofs.laws.Steps.{drop_at, drop_all}
 
 -- ---- sums of whole numbers
 
-whole_sums : IsCommutativeMonoid ◌+ℤ◌ (pos 0)
+pub whole_sums : IsCommutativeMonoid ◌+ℤ◌ (pos 0)
 whole_sums = record { comm = λ a b. omega (arith, ints); assoc = λ a b c. omega (arith, ints); unit_left = λ a. omega (arith, ints) }
 
 abbrev sum : {X : Type 0} → (X → ℤ) → List X → ℤ

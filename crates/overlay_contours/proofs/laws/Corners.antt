@@ -363,7 +363,8 @@ pub last_point : {X : Type 0} (f : X → Point) (xs : List X) (i : ℕ) (before 
 last_point f xs i before at first found more done pushed e =
     pushed ∙ ap (λ (l : List _). found ++ corners_on before at (map f l ++ first ∷ [])) (sym (drop_all xs i done)) ∙ e ∙ sym (corners_are first (map f xs))
 
-list_passes_at : {X : Type 0} (f : X → List Point) (test : Point → Bool) (xs : List X) (i : ℕ) (x : X) → i < length xs → x ≡ get_or xs i x → list_all (λ c. list_all test c) (map f xs) ≡ true → list_all test (f x) ≡ true
+-- of lists whose points all pass a test, the one at an index
+pub list_passes_at : {X : Type 0} (f : X → List Point) (test : Point → Bool) (xs : List X) (i : ℕ) (x : X) → i < length xs → x ≡ get_or xs i x → list_all (λ c. list_all test c) (map f xs) ≡ true → list_all test (f x) ≡ true
 list_passes_at f test [] i x h is all = absurd (omega arith)
 list_passes_at f test (y ∷ ys) zero x h is all = ap (λ (z : _). list_all test (f z)) is ∙ (and_parts (list_all test (f y)) (list_all (λ c. list_all test c) (map f ys)) all).0
 list_passes_at f test (y ∷ ys) (suc i) x h is all = list_passes_at f test ys i x (omega arith) is (and_parts (list_all test (f y)) (list_all (λ c. list_all test c) (map f ys)) all).1

@@ -69,7 +69,7 @@ module _ (least greatest : ℤ) where
       let parts = and_parts (inside p) (list_all inside points) l in
       steps_from-in_range p p points parts.0 parts.0 parts.1
 
-  steps-in_range : (contours : List (List Point)) → are_in_range least greatest contours ≡ true → list_all in_range (steps contours) ≡ true
+  pub steps-in_range : (contours : List (List Point)) → are_in_range least greatest contours ≡ true → list_all in_range (steps contours) ≡ true
   steps-in_range [] l = refl
   steps-in_range (contour ∷ contours) l =
       let parts = and_parts (list_all inside contour) (are_in_range least greatest contours) l in
