@@ -200,11 +200,11 @@ fn pass_mark(words: &mut Words<'_>) -> Option<bool>
         (λ opens. words_of words.old.rest.now
         ≡ (if opens then opening else codes "EMPTY") ∷ words_of words.new.rest.now) }
 {
-    match words.next()? {
-        b"(" => Some(true),
-        b"EMPTY" => Some(false),
-        _ => None,
+    let word = words.next()?;
+    if is_word(word, "(") {
+        return Some(true);
     }
+    is_word(word, "EMPTY").then_some(false)
 }
 
 /// The polygons that the words write up to a `)`, with commas between them.
@@ -300,11 +300,11 @@ fn is_end(words: &mut Words<'_>) -> Option<bool>
         (λ is_end. words_of words.old.rest.now
         ≡ (if is_end then closing else comma) ∷ words_of words.new.rest.now) }
 {
-    match words.next()? {
-        b")" => Some(true),
-        b"," => Some(false),
-        _ => None,
+    let word = words.next()?;
+    if is_word(word, ")") {
+        return Some(true);
     }
+    is_word(word, ",").then_some(false)
 }
 
 /// Adds the contours of polygons behind those that an overlay keeps.
