@@ -6,6 +6,7 @@ pub mod fragment;
 pub mod fragment_buffer;
 pub mod fragment_memory;
 pub mod grid_layout;
+mod group_sort;
 pub mod laws;
 mod reach;
 mod rise;
