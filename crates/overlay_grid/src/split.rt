@@ -1,6 +1,7 @@
 // The grid, the fragments of segments in its columns, and the finder over them.
 
 pub mod axis;
+mod blocks;
 mod border_contacts;
 pub mod fragment;
 pub mod fragment_buffer;

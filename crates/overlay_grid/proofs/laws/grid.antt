@@ -19,3 +19,4 @@ pub mod GridCounts
 pub mod GridLooks
 pub mod FragmentCounts
 pub mod GroupSorts
+pub mod FoundBlocks
