@@ -18,3 +18,5 @@ pub mod GridFound
 pub mod GridCounts
 pub mod GridLooks
 pub mod FragmentCounts
+pub mod GroupSorts
+pub mod FoundBlocks

@@ -1,6 +1,6 @@
 -- What a comparison of every pair of fragments of a group finds, and at vertical segments on a border and the column to its left.
-use Rattle.std.specs.Prelude.{ℕ, ◌+◌, ℤ, Bool, false, int_lt, ◌&&◌, ◌||◌, ◌↔◌, if◌then◌else◌, List, [], ◌∷◌, ◌++◌, map, filter, flat_map, Contains, count_by, sum_by, length}
-use Rattle.std.specs.List.{list_any}
+use Rattle.std.specs.Prelude.{◌≡◌, ℕ, ◌+◌, ◌<◌, drop, slice_index_or, ℤ, Bool, false, int_lt, ◌&&◌, ◌||◌, ◌↔◌, if◌then◌else◌, List, [], ◌∷◌, ◌++◌, map, filter, flat_map, Contains, count_by, sum_by, length}
+use Rattle.std.specs.List.{list_any, AllByRecursion}
 use Rattle.std.specs.Ordering.{int_eq}
 use Rattle.overlay_geometry.specs.Points.{Pair, pair_lt, is_ordered, is_vertical, is_strictly_inside}
 use Rattle.overlay_geometry.specs.Coordinates.{is_pair_in_range}
@@ -43,6 +43,20 @@ is_first_rounded (f ∷ fs) = list_any (λ g. meet_inexactly f g) fs
 unfoldable pub is_group_rounded : List KeptFragment → Bool
 is_group_rounded [] = false
 is_group_rounded (f ∷ fs) = list_any (λ g. meet_inexactly f g) fs || is_group_rounded fs
+
+-- those of a fragment and each of those at some places of a group
+abbrev pub marks_with_places : Placing → KeptFragment → List KeptFragment → List ℕ → List Mark
+marks_with_places placing f fs places = flat_map (λ place. marks_of_two placing f (slice_index_or fs place f)) places
+
+-- whether the segments of a fragment and of one at some places do
+abbrev pub is_rounded_at : KeptFragment → List KeptFragment → List ℕ → Bool
+is_rounded_at f fs places = list_any (λ place. meet_inexactly f (slice_index_or fs place f)) places
+
+-- places of a group which have, of those from one place to another, what marks a fragment
+pub record AreListed (fs : List KeptFragment) (f : KeptFragment) (from to : ℕ) (places : List ℕ) : Type 0 where
+  pub within : AllByRecursion (λ place. place < length fs) places
+  pub marks : (placing : Placing) → marks_with_places placing f fs places ++ flat_map (λ g. marks_of_two placing f g) (drop to fs) ≡ flat_map (λ g. marks_of_two placing f g) (drop from fs)
+  pub flag : (is_rounded_at f fs places || list_any (λ g. meet_inexactly f g) (drop to fs)) ≡ list_any (λ g. meet_inexactly f g) (drop from fs)
 
 -- how many comparisons the first takes in a scan along an axis: one for each later one that it reaches
 unfoldable pub looks_of_first : Axis → List KeptFragment → ℕ

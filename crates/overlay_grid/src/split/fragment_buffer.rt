@@ -9,6 +9,7 @@ use crate::split::axis::Axis;
 use crate::split::fragment::Fragment;
 use crate::split::fragment_memory::{FragmentMemory, clear_groups, empty_groups};
 use crate::split::grid_layout::GridLayout;
+use crate::split::group_sort::{SortMemory, sort_group};
 use crate::split::reach::{count_reached, reached_at_most};
 use crate::split::rise::heights_at;
 use overlay_base::segm::fault::Fault;
@@ -29,6 +30,7 @@ pub struct FragmentBuffer<I: OverlayInt> {
     layout: GridLayout<I>,
     groups: Vec<Vec<Fragment<I>>>,
     right_ends: Vec<I>,
+    sort_memory: SortMemory<I>,
     /// Whether a sort has found that a scan upward compares few fragments.
     is_upward: bool,
     ghost columns: { length groups.items ≡ group_count (layout_of layout) },
@@ -68,6 +70,7 @@ impl<I: OverlayInt> FragmentBuffer<I> {
         let FragmentMemory {
             mut groups,
             right_ends,
+            sort_memory,
         } = memory;
         let count = layout.column_count();
         empty_groups(alloc, &mut groups, count)?;
@@ -75,6 +78,7 @@ impl<I: OverlayInt> FragmentBuffer<I> {
             layout,
             groups,
             right_ends,
+            sort_memory,
             is_upward: false,
         })
     }
@@ -85,9 +89,14 @@ impl<I: OverlayInt> FragmentBuffer<I> {
             layout: _,
             groups,
             right_ends,
+            sort_memory,
             is_upward: _,
         } = self;
-        FragmentMemory { groups, right_ends }
+        FragmentMemory {
+            groups,
+            right_ends,
+            sort_memory,
+        }
     }
 
     /// The fragments that were added, column by column, in the order in which they were added or sorted.
@@ -187,7 +196,7 @@ impl<I: OverlayInt> FragmentBuffer<I> {
         ensures sorted { OnOk result ((column : ℕ) → IsSortedAlong axis (group_of self.new column)) }
     {
         for column in 0..self.groups.len() {
-            sort_group(&mut self.groups[column], axis)?;
+            sort_group(&mut self.groups[column], axis, &mut self.sort_memory)?;
         }
         Ok(())
     }
@@ -275,17 +284,6 @@ impl<I: OverlayInt> FragmentBuffer<I> {
     {
         self.groups[column].push(fragment)?;
         Ok(())
-    }
-}
-
-/// Sorts fragments by where they begin along an axis.
-fn sort_group<I: OverlayInt>(group: &mut Vec<Fragment<I>>, axis: Axis) -> Result<(), AllocError>
-    ensures permutation { IsPermutation group.old.items group.new.items }
-    ensures sorted { OnOk result (IsSortedAlong axis (fragments_of I.whole group.new.items)) }
-{
-    match axis {
-        Axis::X => group.sort_by_key(|fragment| fragment.rect.min_x),
-        Axis::Y => group.sort_by_key(|fragment| fragment.rect.min_y),
     }
 }
 

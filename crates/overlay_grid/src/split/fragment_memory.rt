@@ -3,6 +3,7 @@ ghost use Rattle.std.specs.Prelude.{◌≡◌, [], ℕ, OnOk, length};
 ghost use Rattle.overlay_grid.specs.GroupsOf.{group_in};
 
 use crate::split::fragment::Fragment;
+use crate::split::group_sort::SortMemory;
 use overlay_geometry::num::OverlayInt;
 use std::alloc::{AllocError, Global};
 
@@ -11,6 +12,7 @@ use std::alloc::{AllocError, Global};
 pub struct FragmentMemory<I> {
     pub(crate) groups: Vec<Vec<Fragment<I>>>,
     pub(crate) right_ends: Vec<I>,
+    pub(crate) sort_memory: SortMemory<I>,
 }
 
 impl<I> FragmentMemory<I> {
@@ -19,6 +21,7 @@ impl<I> FragmentMemory<I> {
         FragmentMemory {
             groups: Vec::new(alloc),
             right_ends: Vec::new(alloc),
+            sort_memory: SortMemory::new(alloc),
         }
     }
 }

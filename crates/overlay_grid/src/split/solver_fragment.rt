@@ -13,11 +13,12 @@ ghost use Rattle.overlay_intersections.specs.MarkOf.{marks_of, AreMarksOf};
 ghost use Rattle.overlay_grid.specs.FragmentOf.{fragment_of, fragments_of, least_along, greatest_along, IsSortedAlong};
 ghost use Rattle.overlay_grid.specs.GroupsOf.{group_in, group_of, grid_of};
 ghost use Rattle.overlay_grid.specs.ColumnLooks.{looks_of_group, looks_of_groups};
-ghost use Rattle.overlay_grid.specs.steps.FragmentFinder.{is_ready, kept_group, marks_of_two, marks_with_first, marks_of_group, meet_inexactly, is_first_rounded, is_group_rounded, looks_of_first};
+ghost use Rattle.overlay_grid.specs.steps.FragmentFinder.{is_ready, marks_with_places, is_rounded_at, kept_group, marks_of_two, marks_with_first, marks_of_group, meet_inexactly, is_first_rounded, is_group_rounded, looks_of_first};
 ghost use Rattle.overlay_grid.specs.Grid.{IsInside};
 ghost use Rattle.overlay_base.specs.ArrangedOf.{AreInRange};
 
 use crate::split::axis::Axis;
+use crate::split::blocks::{BLOCK, block_end, list_meeting};
 use crate::split::border_contacts::mark_borders;
 use crate::split::fragment::Fragment;
 use crate::split::fragment_buffer::FragmentBuffer;
@@ -28,7 +29,6 @@ use overlay_base::segm::winding::WindingCount;
 use overlay_geometry::geom::x_segment::XSegment;
 use overlay_geometry::num::OverlayInt;
 use overlay_intersections::split::line_mark::LineMark;
-use overlay_intersections::split::looks::take_up;
 use overlay_intersections::split::marking::{Indexed, mark_both};
 use overlay_intersections::split::placing::Placing;
 use std::alloc::AllocError;
@@ -183,24 +183,28 @@ fn mark_group<I: OverlayInt>(
     ensures looked { OnOk result (looked.new ≤ looked.old + looks_of_group axis (fragments_of I.whole group.now)) }
 {
     let mut rounded = false;
+    let mut found = [0_usize; BLOCK];
     for first in 0..group.len() {
-        if mark_with_rest(group, first, axis, placing, marks, looked)? {
+        if mark_with_rest(group, first, axis, &mut found, placing, marks, looked)? {
             rounded = true;
         }
     }
     Ok(rounded)
 }
 
-/// The same of one fragment and those that follow it, up to the first that begins past its end along the axis.
+/// Appends the marks of one fragment and those that follow it, up to the first that begins past its end along the axis,
+/// block by block. In `found` there is room for the places of those whose rectangles meet that of the fragment.
 fn mark_with_rest<I: OverlayInt>(
     group: &[Fragment<I>],
     first: usize,
     axis: Axis,
+    found: &mut [usize],
     placing: Placing,
     marks: &mut Vec<LineMark<I>>,
     looked: &mut u128,
 ) -> Result<bool, AllocError>
     requires first { first < length group.now }
+    requires room { length found.old ≡ 64 }
     requires radius { HasRadius placing }
     requires ready { AllByRecursion (λ f. IsTrue (is_ready (I.whole I.MIN_COORD) (I.whole I.MAX_COORD) f))
         (fragments_of I.whole group.now) }
@@ -214,28 +218,58 @@ fn mark_with_rest<I: OverlayInt>(
 {
     let fragment = group[first];
     let mut rounded = false;
-    // a count of its own, so that no comparison is written through the reference
-    let mut looks = *looked;
-    for later in first + 1..group.len() {
-        let other = group[later];
-        if begins_past(&other, &fragment, axis) {
-            break;
-        }
-        take_up(&mut looks);
-        if mark_two(&fragment, &other, placing, marks)? {
+    let mut later = first + 1;
+    while later < group.len() {
+        let end = block_end(group, later, &fragment, axis);
+        let count = list_meeting(group, later, end, &fragment, found);
+        take_up_more(looked, end - later);
+        if mark_found(group, &fragment, &found[..count], placing, marks)? {
             rounded = true;
         }
+        if end - later < BLOCK {
+            return Ok(rounded);
+        }
+        later = end;
     }
-    *looked = looks;
     Ok(rounded)
 }
 
-/// Whether a fragment begins past the end of another along an axis.
-fn begins_past<I: OverlayInt>(other: &Fragment<I>, fragment: &Fragment<I>, axis: Axis) -> bool
-    ensures { result ≡ int_lt (greatest_along axis (fragment_of I.whole fragment.now))
-        (least_along axis (fragment_of I.whole other.now)) }
+/// Appends the marks that the segments of a fragment and of some others put on one another, if the rectangles meet, and
+/// returns whether it crosses one of these at a point without whole coordinates. The others are given by their places.
+fn mark_found<I: OverlayInt>(
+    group: &[Fragment<I>],
+    fragment: &Fragment<I>,
+    found: &[usize],
+    placing: Placing,
+    marks: &mut Vec<LineMark<I>>,
+) -> Result<bool, AllocError>
+    requires places { AllByRecursion (λ place. place < length group.now) found.now }
+    requires radius { HasRadius placing }
+    requires ready { AllByRecursion (λ f. IsTrue (is_ready (I.whole I.MIN_COORD) (I.whole I.MAX_COORD) f))
+        (fragments_of I.whole group.now) }
+    requires fragment { IsTrue (is_ready (I.whole I.MIN_COORD) (I.whole I.MAX_COORD)
+        (fragment_of I.whole fragment.now)) }
+    ensures marks { OnOk result (marks_of I.whole marks.new.items ≡ marks_of I.whole marks.old.items
+        ++ marks_with_places (placing_of placing) (fragment_of I.whole fragment.now)
+        (fragments_of I.whole group.now) found.now) }
+    ensures rounded { IfOk result (λ rounded. rounded ≡ is_rounded_at (fragment_of I.whole fragment.now)
+        (fragments_of I.whole group.now) found.now) }
 {
-    axis.greatest(&fragment.rect) < axis.least(&other.rect)
+    let mut rounded = false;
+    for index in 0..found.len() {
+        let other = group[found[index]];
+        if mark_two(fragment, &other, placing, marks)? {
+            rounded = true;
+        }
+    }
+    Ok(rounded)
+}
+
+/// Counts so many comparisons, up to `u128::MAX`.
+fn take_up_more(looked: &mut u128, more: usize)
+    ensures { looked.new ≤ looked.old + more }
+{
+    *looked = looked.saturating_add(more as u128);
 }
 
 /// Appends the marks that the segments of two fragments put on one another, if the rectangles meet, and returns whether

@@ -1,8 +1,9 @@
 // How many pairs of segments a pass compares.
 ghost use Rattle.std.specs.Prelude.{◌≡◌, ◌+◌, ◌-◌, ◌^◌, min};
 
-/// Counts one more comparison of a pair, up to `u128::MAX`. The tree and the grid count each pair by this call; the list
-/// counts the pairs of a segment at the end of its scan. That no pair is compared without it is read, not proved.
+/// Counts one more comparison of a pair, up to `u128::MAX`. The tree counts each pair by this call, and the grid each on a
+/// border; the grid counts the pairs of a block together, and the list those of a segment at the end of its scan. That no
+/// pair is compared without being counted is read, not proved.
 pub fn take_up(looked: &mut u128)
     ensures { looked.new ≡ min (looked.old + 1) (2 ^ 128 - 1) }
 {

@@ -10,6 +10,7 @@ ghost use Rattle.overlay_intersections.specs.MarkOf.{marks_of};
 ghost use Rattle.overlay_intersections.specs.MarksBetween.{marks_at, marks_of_overlap};
 ghost use Rattle.overlay_intersections.specs.steps.AddedMarks.{AddsMark, AddsMarksBetween, do_cross_inexactly};
 
+use crate::split::cross::contact::are_apart;
 use crate::split::cross_solver::{CrossSolver, CrossType};
 use crate::split::line_mark::LineMark;
 use crate::split::placing::Placing;
@@ -29,7 +30,31 @@ pub struct Indexed<I> {
 
 /// Appends the marks that two segments put on one another, and returns whether they cross at a
 /// point without whole coordinates. The first is the target, and may not come after the second.
+#[inline(always)]
 pub fn mark_both<I: OverlayInt>(
+    first: Indexed<I>,
+    second: Indexed<I>,
+    placing: Placing,
+    marks: &mut Vec<LineMark<I>>,
+) -> Result<bool, AllocError>
+    requires radius { HasRadius placing }
+    requires first { IsPairInRange I.whole I.MIN_COORD I.MAX_COORD first.x_segment }
+    requires second { IsPairInRange I.whole I.MIN_COORD I.MAX_COORD second.x_segment }
+    requires first_apart { (pair_of I.whole first.x_segment).a ≢ (pair_of I.whole first.x_segment).b }
+    requires second_apart { (pair_of I.whole second.x_segment).a ≢ (pair_of I.whole second.x_segment).b }
+    requires order { IsFalse (pair_lt (pair_of I.whole second.x_segment) (pair_of I.whole first.x_segment)) }
+    ensures marks { OnOk result (AddsMarksBetween I.whole placing first second marks.old.items marks.new.items) }
+    ensures rounded { IfOk result (λ rounded. rounded ≡ do_cross_inexactly I.whole first second) }
+{
+    if are_apart(&first.x_segment, &second.x_segment) {
+        return Ok(false);
+    }
+    mark_met(first, second, placing, marks)
+}
+
+/// The same, mostly of two that are not apart: most pairs are, so that this stays out of the loops over pairs.
+#[inline(never)]
+fn mark_met<I: OverlayInt>(
     first: Indexed<I>,
     second: Indexed<I>,
     placing: Placing,

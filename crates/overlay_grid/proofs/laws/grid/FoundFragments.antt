@@ -22,7 +22,6 @@ use Rattle.overlay_grid.specs.declared.split.fragment.Fragment.{Fragment as Code
 use Rattle.overlay_grid.specs.ColumnLooks.{is_reached}
 use Rattle.overlay_grid.specs.steps.FragmentFinder.{marks_of_two, marks_with_first, marks_of_group, meet_inexactly, is_first_rounded, is_group_rounded, looks_of_first, is_ready}
 use Rattle.overlay_intersections.proofs.laws.marks.FoundMarks.{or_assoc, or_false}
-use Rattle.overlay_geometry.proofs.laws.integers.Tests.{lt-tested}
 
 -- ---- two fragments
 
@@ -69,16 +68,6 @@ one_more b n e = ap (λ (c : Bool). (if c then 1 else 0) + n) e
 
 pub count_by-first : {X : Type 0} (p : X → Bool) (x : X) (xs : List X) → p x ≡ true → count_by p (x ∷ xs) ≡ 1 + count_by p xs
 count_by-first p x xs e = sum_by-cons (λ y. if p y then 1 else 0) x xs ∙ one_more (p x) (count_by p xs) e
-
--- one more is looked at
-pub IsScanned-more : (placing : Placing) (axis : Axis) (f g : KeptFragment) (rest : List KeptFragment) (old now next : List Mark) (rounded b : Bool) (first looks looks' : ℕ) (left : List KeptFragment) →
-    IsScanned placing axis f rest old now rounded first looks (g ∷ left) → is_reached axis f g ≡ true → next ≡ now ++ marks_of_two placing f g → b ≡ (rounded || meet_inexactly f g) → looks' ≤ looks + 1 →
-    IsScanned placing axis f rest old next b first looks' left
-IsScanned-more placing axis f g rest old now next rounded b first looks looks' left w h n r le = record {
-  found = ap (λ (ms : List Mark). ms ++ flat_map (λ u. marks_of_two placing f u) left) n ∙ append_assoc now (marks_of_two placing f g) (flat_map (λ u. marks_of_two placing f u) left) ∙ w.found;
-  flag = ap (λ (c : Bool). c || list_any (λ u. meet_inexactly f u) left) r ∙ or_assoc rounded (meet_inexactly f g) (list_any (λ u. meet_inexactly f u) left) ∙ w.flag;
-  count = (let c = w.count in let e = count_by-first (λ u. is_reached axis f u) g left h in omega arith);
-}
 
 -- none of what is left meets f
 pub none_meet : (placing : Placing) (axis : Axis) (f : KeptFragment) (left : List KeptFragment) → AllByRecursion (λ g. greatest_along axis f <ℤ least_along axis g) left → (flat_map (λ g. marks_of_two placing f g) left ≡ []) × (list_any (λ g. meet_inexactly f g) left ≡ false)
@@ -178,14 +167,6 @@ pub scanned_all : (placing : Placing) (axis : Axis) (fs : List KeptFragment) (f 
     fs ≡ f ∷ rest → IsScanned placing axis f rest old now rounded first looks left → left ≡ [] → (now ≡ old ++ marks_with_first placing fs) × (rounded ≡ is_first_rounded fs) × (looks ≤ first + looks_of_first axis fs)
 scanned_all placing axis fs f rest old now rounded first looks left e w none =
     scanned_found placing axis fs f rest old now rounded first looks e (IsScanned-end placing axis f rest old now rounded first looks left w (subst (AllByRecursion (λ u. greatest_along axis f <ℤ least_along axis u)) (sym none) tt))
-
-pub scanned_past : (placing : Placing) (axis : Axis) (group fs : List KeptFragment) (f g : KeptFragment) (rest : List KeptFragment) (old now : List Mark) (rounded : Bool) (first looks later : ℕ) (left : List KeptFragment) →
-    fs ≡ f ∷ rest → IsScanned placing axis f rest old now rounded first looks (drop later group) → IsSortedAlong axis group → drop later group ≡ g ∷ left → int_lt (greatest_along axis f) (least_along axis g) ≡ true →
-    (now ≡ old ++ marks_with_first placing fs) × (rounded ≡ is_first_rounded fs) × (looks ≤ first + looks_of_first axis fs)
-scanned_past placing axis group fs f g rest old now rounded first looks later left e w sorted here past =
-    let here_sorted = subst (IsSortedAlong axis) here (IsSortedAlong-drop axis later group sorted) in
-    let all = past_from axis (greatest_along axis f) g left here_sorted (lt-tested _ _ past) in
-    scanned_found placing axis fs f rest old now rounded first looks e (IsScanned-end placing axis f rest old now rounded first looks (drop later group) w (subst (AllByRecursion (λ u. greatest_along axis f <ℤ least_along axis u)) (sym here) all))
 
 pub found_scanned : (placing : Placing) (axis : Axis) (fs : List KeptFragment) (f : KeptFragment) (rest : List KeptFragment) (old now : List Mark) (rounded : Bool) (first looks : ℕ) → fs ≡ f ∷ rest →
     now ≡ old ++ marks_with_first placing fs → rounded ≡ is_first_rounded fs → looks ≤ first + looks_of_first axis fs → IsScannedAll placing axis f rest old now rounded first looks

@@ -1,8 +1,9 @@
 -- The result in each branch of code that knows on which sides of one another the ends lie.
-use Rattle.std.proofs.Common.{◌≡◌, refl, ◌∙◌, ◌≢◌, arith, Bool, true, false, not, ◌&&◌, ◌||◌, IsTrue}
+use Rattle.std.proofs.Common.{◌≡◌, refl, ◌∙◌, ◌≢◌, ◌<◌, arith, Bool, true, false, not, ◌&&◌, ◌||◌, IsTrue}
 use Rattle.std.specs.Prelude.{pos, nat_lt, None}
 use Rattle.std.specs.Ordering.{int_eq}
-use Rattle.std.proofs.lemmas.Bool.{ne_eqb, false≢true, or_right}
+use Rattle.std.proofs.lemmas.Bool.{ne_eqb, false≢true, or_left, or_right}
+use Rattle.overlay_geometry.proofs.laws.integers.Tests.{nat_lt-test}
 use Rattle.overlay_geometry.specs.Points.{Pair}
 use Rattle.overlay_geometry.specs.Turns.{clock_direction}
 use Rattle.overlay_geometry.specs.Meeting.{do_cross}
@@ -42,6 +43,16 @@ three_at_most false true true e = absurd (omega arith)
 three_at_most false true false e = absurd (omega arith)
 three_at_most false false true e = absurd (omega arith)
 three_at_most false false false e = absurd (omega arith)
+
+three_but_third : (b1 b2 b4 : Bool) → count_true b1 b2 false b4 ≢ 4
+three_but_third true true true e = absurd (omega arith)
+three_but_third true true false e = absurd (omega arith)
+three_but_third true false true e = absurd (omega arith)
+three_but_third true false false e = absurd (omega arith)
+three_but_third false true true e = absurd (omega arith)
+three_but_third false true false e = absurd (omega arith)
+three_but_third false false true e = absurd (omega arith)
+three_but_third false false false e = absurd (omega arith)
 
 beside_by_tests : (b1 b2 b3 b4 c d : Bool) → (not b1 && c) ≡ true → (count_true b1 b2 b3 b4 ≢ 4) × ((nat_lt 1 (count_true b1 b2 b3 b4) || (c || d)) ≡ true)
 beside_by_tests true b2 b3 b4 c d h = absurd (false≢true h)
@@ -89,3 +100,19 @@ when_target_a placing s t sides k e1 e2 e3 = decided placing s t sides k.sided �
 pub when_target_b : (placing : Placing) (s t : Pair) (sides : EndSides) → Touching s t sides → int_eq sides.other_a (pos 0) ≡ false → int_eq sides.other_b (pos 0) ≡ false → int_eq sides.target_a (pos 0) ≡ false → cross_answer placing s t ≡ answer_at target_end s.b false
 unfolding answer_by_tests
 when_target_b placing s t sides k e1 e2 e3 = decided placing s t sides k.sided ∙ rw (ne_eqb (zeros_of sides) 4 k.not_four, k.not_apart, ne_eqb (zeros_of sides) 0 k.not_none, e1, e2, e3) refl
+
+beside_back_by_tests : (b1 b2 b3 b4 c d : Bool) → (not b3 && d) ≡ true → (count_true b1 b2 b3 b4 ≢ 4) × ((nat_lt 1 (count_true b1 b2 b3 b4) || (c || d)) ≡ true)
+beside_back_by_tests b1 b2 true b4 c d h = absurd (false≢true h)
+beside_back_by_tests b1 b2 false b4 c false h = absurd (false≢true h)
+beside_back_by_tests b1 b2 false b4 c true h = (three_but_third b1 b2 b4, or_right (nat_lt 1 (count_true b1 b2 false b4)) (c || true) (or_right c true refl))
+
+-- both ends of the target lie strictly on one side of the other's line
+pub when_beside_back : (placing : Placing) (s t : Pair) → s.a ≢ s.b → t.a ≢ t.b → are_beside t s ≡ true → cross_answer placing s t ≡ None
+when_beside_back placing s t h k m =
+    let sides : EndSides = record { other_a = clock_direction s.a s.b t.a; other_b = clock_direction s.a s.b t.b; target_a = clock_direction t.a t.b s.a; target_b = clock_direction t.a t.b s.b } in
+    let tests = beside_back_by_tests (int_eq sides.other_a (pos 0)) (int_eq sides.other_b (pos 0)) (int_eq sides.target_a (pos 0)) (int_eq sides.target_b (pos 0)) (int_eq sides.other_a sides.other_b) (int_eq sides.target_a sides.target_b) m in
+    when_apart placing s t sides (record { s_apart = h; t_apart = k; are_sides = record { other_a_is = refl; other_b_is = refl; target_a_is = refl; target_b_is = refl } }) tests.0 tests.1
+
+-- an end is shared, and the four ends are not on one line
+pub when_shared : (placing : Placing) (s t : Pair) (sides : EndSides) → Sided s t sides → 1 < zeros_of sides → zeros_of sides < 4 → cross_answer placing s t ≡ None
+when_shared placing s t sides k h m = when_apart placing s t sides k (λ e. absurd (omega arith)) (or_left (nat_lt 1 (zeros_of sides)) (int_eq sides.other_a sides.other_b || int_eq sides.target_a sides.target_b) (nat_lt-test 1 (zeros_of sides) h))

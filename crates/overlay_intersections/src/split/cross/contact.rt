@@ -1,9 +1,10 @@
 // How two segments meet, by the sides on which their ends lie. Upstream: `cross` of
 // `split::cross_solver`. `segm::apart` tests whether they meet another way, so that the test of a
 // result does not depend on this code.
-ghost use Rattle.std.specs.Prelude.{◌≡◌, ◌≢◌, false};
+ghost use Rattle.std.specs.Prelude.{◌≡◌, ◌≢◌, false, true};
 ghost use Rattle.overlay_geometry.specs.PairOf.{pair_of};
 ghost use Rattle.overlay_geometry.specs.InRange.{IsPairInRange};
+ghost use Rattle.overlay_intersections.specs.declared.split.cross.contact.Contact.TheVariants.{Apart};
 ghost use Rattle.overlay_intersections.specs.steps.ContactOf.{AreEndSides, IsContact, are_beside, zeros_of, leave_no_contact};
 
 use crate::split::cross::result::{CrossResult, CrossType};
@@ -64,6 +65,26 @@ pub fn contact_of<I: OverlayInt>(target: &XSegment<I>, other: &XSegment<I>) -> C
     }
 }
 
+/// Whether two segments, each with ends that differ, have no point in common by the sides of their ends, or only an end of
+/// both.
+#[inline(always)]
+pub(crate) fn are_apart<I: OverlayInt>(target: &XSegment<I>, other: &XSegment<I>) -> bool
+    requires target { IsPairInRange I.whole I.MIN_COORD I.MAX_COORD target.now }
+    requires other { IsPairInRange I.whole I.MIN_COORD I.MAX_COORD other.now }
+    requires target_apart { (pair_of I.whole target.now).a ≢ (pair_of I.whole target.now).b }
+    requires other_apart { (pair_of I.whole other.now).a ≢ (pair_of I.whole other.now).b }
+    ensures { result ≡ true → IsContact I.whole (pair_of I.whole target.now) (pair_of I.whole other.now) Apart }
+{
+    if lies_beside(target, other) {
+        return true;
+    }
+    if lies_beside(other, target) {
+        return true;
+    }
+    let zeros = sides_of(target, other).zeros();
+    1 < zeros && zeros < 4
+}
+
 /// A contact at a whole point.
 fn at<I: OverlayInt>(point: IntPoint<I>, cross_type: CrossType) -> Contact<I>
     ensures { result ≡ Contact.At (record { point = point; cross_type = cross_type; is_round = false }) }
@@ -89,6 +110,7 @@ fn lies_beside<I: OverlayInt>(target: &XSegment<I>, other: &XSegment<I>) -> bool
 }
 
 /// On which sides of each segment the ends of the other lie.
+#[inline(always)]
 fn sides_of<I: OverlayInt>(target: &XSegment<I>, other: &XSegment<I>) -> EndSides
     requires target { IsPairInRange I.whole I.MIN_COORD I.MAX_COORD target.now }
     requires other { IsPairInRange I.whole I.MIN_COORD I.MAX_COORD other.now }
@@ -104,6 +126,7 @@ fn sides_of<I: OverlayInt>(target: &XSegment<I>, other: &XSegment<I>) -> EndSide
 
 impl EndSides {
     /// How many ends lie on the line of the other segment.
+    #[inline(always)]
     fn zeros(self) -> u32
         ensures { result ≡ zeros_of self }
     {

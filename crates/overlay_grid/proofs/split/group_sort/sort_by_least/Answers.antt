@@ -3,7 +3,7 @@ use Rattle.std.proofs.lemmas.List.Sorted.{answers_always}
 use Rattle.std.proofs.lemmas.Result.{on_ok_weaker}
 use Rattle.overlay_grid.specs.declared.split.axis.Axis.TheVariants.{X, Y}
 use Rattle.overlay_grid.proofs.laws.grid.GridGroups.{IsSortedAlong-from_sort}
-use Rattle.overlay_grid.proofs.split.fragment_buffer.sort_group.Goals as goal
+use Rattle.overlay_grid.proofs.split.group_sort.sort_by_least.Goals as goal
 
 pub returns-in-X-clause-sorted : goal.returns-in-X-clause-sorted
 returns-in-X-clause-sorted g c =

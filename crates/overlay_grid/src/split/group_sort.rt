@@ -1,0 +1,140 @@
+// The sort of a group of fragments by where they begin along an axis. This project's own.
+ghost use Rattle.std.specs.Prelude.{◌≡◌, ◌<◌, ◌≤◌, ◌%◌, ◌^◌, All, IsPermutation, OnOk, length, map, true};
+ghost use Rattle.std.specs.List.{range_with_len};
+ghost use Rattle.overlay_grid.specs.FragmentOf.{fragment_of, fragments_of, IsSortedAlong};
+ghost use Rattle.overlay_grid.specs.steps.SortKeys.{IsPicked};
+
+use crate::split::axis::Axis;
+use crate::split::fragment::Fragment;
+use overlay_geometry::num::OverlayInt;
+use std::alloc::{AllocError, Global};
+use std::mem;
+
+/// How many fragments keys number: a key is this many times where a fragment begins, and its place.
+const PLACES: u64 = 4_294_967_296;
+
+const _: () = prove!(PLACES == 4_294_967_296);
+
+/// The memory of a sort: keys, and fragments in their order.
+#[derive(Drop)]
+pub(crate) struct SortMemory<I> {
+    keys: Vec<u64>,
+    row: Vec<Fragment<I>>,
+}
+
+impl<I> SortMemory<I> {
+    /// None yet.
+    pub(crate) fn new(alloc: Global) -> Self {
+        SortMemory {
+            keys: Vec::new(alloc),
+            row: Vec::new(alloc),
+        }
+    }
+}
+
+/// Sorts fragments by where they begin along an axis. Keys of 64 bits are sorted in place of fragments, which are five
+/// times as long; only where these do not do are fragments sorted.
+pub(crate) fn sort_group<I: OverlayInt>(
+    group: &mut Vec<Fragment<I>>,
+    axis: Axis,
+    memory: &mut SortMemory<I>,
+) -> Result<(), AllocError>
+    ensures permutation { IsPermutation group.old.items group.new.items }
+    ensures sorted { OnOk result (IsSortedAlong axis (fragments_of I.whole group.new.items)) }
+{
+    if are_in_order(group, axis) {
+        return Ok(());
+    }
+    if group.len() as u64 <= PLACES {
+        sort_by_keys(group, axis, memory)?;
+        if are_in_order(group, axis) {
+            return Ok(());
+        }
+    }
+    sort_by_least(group, axis)
+}
+
+/// Whether no fragment begins before those that precede it, along an axis.
+fn are_in_order<I: OverlayInt>(group: &[Fragment<I>], axis: Axis) -> bool
+    ensures { result ≡ true → IsSortedAlong axis (fragments_of I.whole group.now) }
+{
+    for place in 1..group.len() {
+        let before = group[place - 1];
+        let fragment = group[place];
+        if axis.least(&fragment.rect) < axis.least(&before.rect) {
+            return false;
+        }
+    }
+    true
+}
+
+/// Sorts fragments by where they begin along an axis.
+fn sort_by_least<I: OverlayInt>(group: &mut Vec<Fragment<I>>, axis: Axis) -> Result<(), AllocError>
+    ensures permutation { IsPermutation group.old.items group.new.items }
+    ensures sorted { OnOk result (IsSortedAlong axis (fragments_of I.whole group.new.items)) }
+{
+    match axis {
+        Axis::X => group.sort_by_key(|fragment| fragment.rect.min_x),
+        Axis::Y => group.sort_by_key(|fragment| fragment.rect.min_y),
+    }
+}
+
+/// Puts fragments into the order of their keys. They are sorted then, unless where they begin is not in range.
+fn sort_by_keys<I: OverlayInt>(
+    group: &mut Vec<Fragment<I>>,
+    axis: Axis,
+    memory: &mut SortMemory<I>,
+) -> Result<(), AllocError>
+    requires few { length group.old.items ≤ 2 ^ 32 }
+    ensures permutation { IsPermutation group.old.items group.new.items }
+{
+    list_keys(group, axis, &mut memory.keys)?;
+    memory.keys.sort()?;
+    pick(group, memory.keys.as_slice(), &mut memory.row)?;
+    mem::swap(group, &mut memory.row);
+    Ok(())
+}
+
+/// Lists the keys of fragments, in their order.
+fn list_keys<I: OverlayInt>(
+    group: &[Fragment<I>],
+    axis: Axis,
+    keys: &mut Vec<u64>,
+) -> Result<(), AllocError>
+    requires few { length group.now ≤ 2 ^ 32 }
+    ensures { OnOk result (map (λ key. key % 2 ^ 32) keys.new.items ≡ range_with_len 0 (length group.now)) }
+{
+    keys.clear();
+    keys.reserve(group.len())?;
+    for place in 0..group.len() {
+        let fragment = group[place];
+        keys.push(key_of(axis.least(&fragment.rect), place as u64))?;
+    }
+    Ok(())
+}
+
+/// The key of a fragment that begins at a coordinate, by which it is sorted, and of its place.
+fn key_of<I: OverlayInt>(begin: I, place: u64) -> u64
+    requires place { place < 2 ^ 32 }
+    ensures { result % 2 ^ 32 ≡ place }
+{
+    let offset = begin.to_wide().wrapping_sub(I::MIN_COORD.to_wide());
+    offset.unsigned_abs() % PLACES * PLACES + place
+}
+
+/// Lists the fragments whose places keys have, in the order of the keys.
+fn pick<I: OverlayInt>(
+    group: &[Fragment<I>],
+    keys: &[u64],
+    row: &mut Vec<Fragment<I>>,
+) -> Result<(), AllocError>
+    requires places { All (λ key. key % 2 ^ 32 < length group.now) keys.now }
+    ensures { OnOk result (IsPicked group.now keys.now row.new.items) }
+{
+    row.clear();
+    row.reserve(keys.len())?;
+    for at in 0..keys.len() {
+        row.push(group[(keys[at] % PLACES) as usize])?;
+    }
+    Ok(())
+}
