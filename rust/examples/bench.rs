@@ -62,7 +62,7 @@ fn main() {
     time_polygons(below);
 }
 
-/// Times the union of 12,500 squares in whole numbers and in floats.
+/// Times the union of 12,500 squares in whole numbers and in floats, and overlays of one half with the other by one rule and by four.
 fn time_polygons(mut below: impl FnMut(u64) -> i32) {
     let mut square = |_| {
         let (x, y, side) = (below(10_000), below(10_000), 1 + below(100));
@@ -79,6 +79,15 @@ fn time_polygons(mut below: impl FnMut(u64) -> i32) {
         FloatOverlay::with_contours(&floats, &[]).expect("contours").overlay(union, fill).expect("an overlay");
     });
     println!("union of 50,000 edges {in_whole_numbers:?}, in floats {in_floats:?}");
+    let (subject, clip) = whole.split_at(whole.len() / 2);
+    let mut overlay = Overlay::with_contours(subject, clip).expect("contours");
+    let rules = [OverlayRule::Union, OverlayRule::Intersect, OverlayRule::Difference, OverlayRule::Xor];
+    let mut by = |count: usize| {
+        least(|| {
+            overlay.overlay_by_rules(&rules[..count], fill).expect("overlays");
+        })
+    };
+    println!("overlays of 50,000 edges by one rule {:?}, by four {:?}", by(1), by(4));
 }
 
 /// The segments as the program `arrange` reads them.

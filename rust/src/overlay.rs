@@ -279,7 +279,7 @@ impl Overlay {
     }
 
     /// The overlays of the contours that were added by several rules, each as `overlay` returns it, in the order of the
-    /// rules. The contours are split once, so several rules take little longer than one.
+    /// rules. The contours are split once, and swept once for each rule.
     ///
     /// ```
     /// use i_overlay_core::{square, FillRule, Overlay, OverlayRule};
