@@ -105,7 +105,7 @@ verdict=$(tail -n 1 "$lines")
 if [[ $verdict =~ ^([0-9]+)\ passed,\ ([0-9]+)\ failed(.*)$ ]]; then
     passed=${BASH_REMATCH[1]} failed=${BASH_REMATCH[2]} rest=${BASH_REMATCH[3]}
     if ((status)); then
-        printf '%5d s: edits, growths and the package were not tried: what stands before them failed\n' "$SECONDS"
+        printf '%5d s: edits, growths and the package were not tried: an earlier step failed\n' "$SECONDS"
     else
         if python3 tools/refusals.py; then
             passed=$((passed + 1))

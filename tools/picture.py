@@ -4,7 +4,7 @@
 Usage: arrange graph rule=xor < INPUT | python3 tools/picture.py > PICTURE.svg
        polygons rule=xor < INPUT | python3 tools/picture.py > PICTURE.svg
 
-Contours are filled where they wind round, whichever way. Links are drawn by their fill: blue where they bound the subject alone, red the clip alone, purple both; dashed where one of
+Contours are filled where they wind around a point, whichever way. Links are drawn by their fill: blue where they bound the subject alone, red the clip alone, purple both; dashed where one of
 the two has the same on both sides. Segments of a split are drawn by their counts in the same colors. Nodes are white dots
 where two links meet, and black squares elsewhere. It needs Python's standard library alone.
 """
