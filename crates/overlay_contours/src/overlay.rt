@@ -242,7 +242,7 @@ impl<I: OverlayInt> Overlay<I> {
     }
 
     /// The overlays of the contours that were added by several rules, each as `overlay` returns it, in the order of the
-    /// rules. The contours are split once, so several rules take little longer than one.
+    /// rules. The contours are split once, and swept once for each rule.
     ///
     /// Afterwards `reach` and `passes` are those of that split. After an error, and where there are no rules, both are as
     /// they were. The contours that were added stay, also after an error.
