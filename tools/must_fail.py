@@ -5,7 +5,8 @@
 
 `rt ci` and `rt must-fail` check a crate once for each edit. The prover reports the open goals of every function, so here the edits
 of a crate are tried together, no two of one function in a round. An edit whose goal is not seen there is tried again by itself, and
-so is an edit of a constant. The libraries below a crate are those that `rt ci` or `rt check` left. With `--edits` the edits are
+so is an edit of a constant. The other functions of the crate are taken by their contracts: each has a hole in place of its proof,
+which `rt ci` checks. The libraries below a crate are those that `rt ci` or `rt check` left. With `--edits` the edits are
 FOLDER/CRATE/*.edit. With `--proved` the edits of a crate wait until the folder has a file of the name of each library below it: so the
 gate tries edits while it proves.
 
@@ -34,6 +35,9 @@ GOAL = re.compile(r"(?:note: )?(?:\./)?(?:proofs/(?P<proof>\S+)/\w+\.antt|(?P<so
 # what a proof says of a name that an edit took away, and what cites that proof
 OF_NAMES = re.compile(r"(?:note: )?(?:\./)?proofs/.*(?:has no field|is not in scope|has no `|was not admitted|was rejected)")
 NO_FUNCTION = re.compile(r"has no function `(\S+)`")
+# a proof that the prover does not read: of a function without a body, or of one that calls itself
+UNREAD_PROOF = re.compile(r"^(?:\./)?proofs/(\S+)/\w+\.antt: error(?:\[reserved-name\])?: rattle ", re.M)
+HOLE = "use Rattle.{crate}.proofs.{path}.Statement.{{statement}}\n\npub {name}_spec : {{M : Type 1}} → statement M\n{name}_spec = ?\n"
 
 
 def module_of(file):
@@ -55,6 +59,29 @@ def function_at(text, number):
 def source(crate, file):
     """Returns the text of a file of a crate."""
     return (TOP / "crates" / crate / file).read_text(encoding="utf-8")
+
+
+def link_or_copy(one, other):
+    """Gives a checked module a further name: a check replaces such a file, and changes none. Other files are copied."""
+    if one.endswith(".oantt"):
+        os.link(one, other)
+    else:
+        shutil.copy2(one, other)
+
+
+def has_body(lines):
+    """Returns whether the function that begins these lines has a body: a trait declares some without."""
+    return next((line.endswith("{") for line in lines if line.endswith(("{", ";"))), False)
+
+
+def functions_of(crate):
+    """Returns the functions of a crate that have a body, each by its path below the crate."""
+    for path in sorted(pathlib.Path(crate.folder, "src").rglob("*.rt")):
+        file, text = os.path.relpath(path, crate.folder), path.read_text(encoding="utf-8")
+        lines = text.split("\n")
+        for at, line in enumerate(lines):
+            if FUNCTION.match(line) and has_body(lines[at:]):
+                yield "::".join(filter(None, (module_of(file), function_at(text, at + 1))))
 
 
 class Edit:
@@ -140,6 +167,14 @@ class Trial:
         self.rounds = rounds_of(edits)
         # the folder of what the first round proved
         self.kept, self.is_begun = None, False
+        # the functions whose proofs can have a hole
+        self.others = {path for path in functions_of(crate) if not self.has_own_proof(path)}
+
+    def has_own_proof(self, path):
+        """Returns whether a function's whole proof is a file, or it calls itself: neither proof can have a hole in its place."""
+        *above, name = path.split("::")
+        folder = pathlib.Path(self.crate.folder, "proofs", *above)
+        return (folder / name / "Proof.antt").exists() or (folder / f"+{name}").exists()
 
     def may_begin(self):
         """Returns whether a round can begin: the first, or any other once that has ended."""
@@ -147,21 +182,45 @@ class Trial:
 
     def try_round(self, edits):
         """Tries some edits together."""
-        with tempfile.TemporaryDirectory(prefix="must-fail-") as room:
-            texts = self.copy_with(edits, room)
-            if self.kept:
-                shutil.copytree(self.kept.name, f"{room}/kept")
-            os.makedirs(f"{room}/kept", exist_ok=True)
-            said = self.check(room, {path: module for edit in edits for path, module in edit.paths.items()})
-            if self.kept is None:
-                self.kept = tempfile.TemporaryDirectory(prefix="must-fail-kept-")
-                shutil.copytree(f"{room}/kept", self.kept.name, dirs_exist_ok=True)
+        texts, said = self.checked_with(edits)
+        while unread := self.unread_in(said):
+            self.others -= unread
+            texts, said = self.checked_with(edits)
         goals = [goal for goal in said.split("\n") if GOAL.match(goal) and (": error" in goal or goal.startswith("note: "))]
         seen = [(goal, self.function_of(goal, texts)) for goal in goals if not OF_NAMES.match(goal)]
         for edit in edits:
             edit.try_goals(seen)
             if len(edits) == 1 and not edit.goal:
                 edit.said = "\n".join(said.split("\n")[-8:])
+
+    def unread_in(self, said):
+        """Returns the functions whose holes the prover did not read."""
+        return self.others & {it.replace("/", "::") for it in UNREAD_PROOF.findall(said)}
+
+    def checked_with(self, edits):
+        """Returns the texts that edits change, and what the check of a copy with these says."""
+        with tempfile.TemporaryDirectory(prefix="must-fail-") as room:
+            texts = self.copy_with(edits, room)
+            if not any(edit.is_alone for edit in edits):
+                self.put_holes({path for edit in edits for path in edit.paths}, room)
+            if self.kept:
+                shutil.copytree(self.kept.name, f"{room}/kept", copy_function=link_or_copy)
+            os.makedirs(f"{room}/kept", exist_ok=True)
+            said = self.check(room, {path: module for edit in edits for path, module in edit.paths.items()})
+            if self.kept is None and not self.unread_in(said):
+                self.kept = tempfile.TemporaryDirectory(prefix="must-fail-kept-")
+                shutil.copytree(f"{room}/kept", self.kept.name, dirs_exist_ok=True, copy_function=link_or_copy)
+        return texts, said
+
+    def put_holes(self, changed, room):
+        """Puts a hole in place of the proof of each function that no edit changes."""
+        for path in self.others - changed:
+            folder = pathlib.Path(room, "proofs", *path.split("::"))
+            folder.mkdir(parents=True, exist_ok=True)
+            for name in ("Answers.antt", "Invariants.antt"):
+                (folder / name).unlink(missing_ok=True)
+            words = {"crate": self.crate.name, "path": path.replace("::", "."), "name": folder.name}
+            (folder / "Proof.antt").write_text(HOLE.format(**words), encoding="utf-8")
 
     def copy_with(self, edits, room):
         """Copies the crate with edits, and returns the texts that they change."""
@@ -179,7 +238,7 @@ class Trial:
 
     def check(self, room, paths):
         """Checks functions of the copy, each by its path or, where the prover knows none of that name, with its whole module."""
-        flags = ["--jobs", "1", "--incremental", f"{room}/kept"]
+        flags = ["--jobs", "1", "--allow-holes", "--incremental", f"{room}/kept"]
         words = [*self.rtlib.guarded(), self.rtlib.RATTLE, "check", *self.crate.words(flags, keeps=False)]
         how = {"cwd": room, "stdin": subprocess.DEVNULL, "stdout": subprocess.PIPE, "stderr": subprocess.STDOUT}
         chosen = dict.fromkeys(sorted(paths))
