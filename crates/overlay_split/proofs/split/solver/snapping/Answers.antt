@@ -1,8 +1,7 @@
-use Rattle.std.proofs.Common.{rules, ◌≡◌, ◌∙◌, ap, subst, sym, arith, ℕ, ◌^◌, pos, to_z-of_z, FitsSigned, w64}
+use Rattle.std.proofs.Common.{rules, ◌∙◌, ap, subst, sym, arith, ℕ, ◌^◌, pos, to_z-of_z, FitsSigned, w64}
 use Rattle.std.proofs.lemmas.Int.{ints}
 use Rattle.std.proofs.lemmas.Nat.{pow_pos}
 use Rattle.std.specs.Prelude.{◌≤ℤ◌, unsigned_abs}
-use Rattle.overlay_base.specs.Radius.{squared_radius}
 use Rattle.overlay_intersections.specs.Marks.{snapping}
 use Rattle.overlay_split.proofs.split.solver.snapping.Goals as goal
 
