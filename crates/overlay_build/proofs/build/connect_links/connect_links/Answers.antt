@@ -1,6 +1,7 @@
 use Rattle.std.proofs.Common.{◌≡◌, ◌∙◌, ap, sym, subst, if◌then◌else◌, ℕ, ◌<◌, ◌-◌, ◌∷◌, [], append_assoc, ◌++◌, take, drop, length, length-append, get_or, List, arith}
 use Rattle.std.proofs.lemmas.List.{length-map}
 use Rattle.std.proofs.Math.Seq.{take-append_seam}
+use Rattle.std.proofs.lemmas.Result.{IfOk-from_err}
 use Rattle.overlay_geometry.specs.Points.{Pair, Point, point_cmp}
 use Rattle.overlay_geometry.specs.Sorting.{stably_sorted}
 use Rattle.std.specs.Prelude.{ℤ}
@@ -142,3 +143,45 @@ pub returns-clause-edge_data : goal.returns-clause-edge_data
 returns-clause-edge_data g c =
     let at = c.loop-key.invariant in
     same_data own any g.I.OverlayInt.whole c.args.links.now.items c.loop-key.start c.loop-key.end at.lists c.loop-key.links.items at.up
+
+pub returns-in_err-collect_ends-clause-graph : goal.returns-in_err-collect_ends-clause-graph
+returns-in_err-collect_ends-clause-graph g c = IfOk-from_err c.from_residual.result _ c.from_residual.ensures.0
+
+pub returns-in_err-collect_ends-clause-edge_data : goal.returns-in_err-collect_ends-clause-edge_data
+returns-in_err-collect_ends-clause-edge_data g c = IfOk-from_err c.from_residual.result _ c.from_residual.ensures.0
+
+pub returns-in_err-sort_by_point-clause-graph : goal.returns-in_err-sort_by_point-clause-graph
+returns-in_err-sort_by_point-clause-graph g c = IfOk-from_err c.from_residual-in_err-sort_by_point.result _ c.from_residual-in_err-sort_by_point.ensures.0
+
+pub returns-in_err-sort_by_point-clause-edge_data : goal.returns-in_err-sort_by_point-clause-edge_data
+returns-in_err-sort_by_point-clause-edge_data g c = IfOk-from_err c.from_residual-in_err-sort_by_point.result _ c.from_residual-in_err-sort_by_point.ensures.0
+
+pub returns-in_err-reserve-clause-graph : goal.returns-in_err-reserve-clause-graph
+returns-in_err-reserve-clause-graph g c = IfOk-from_err c.from_residual-in_err-reserve.result _ c.from_residual-in_err-reserve.ensures.0
+
+pub returns-in_err-reserve-clause-edge_data : goal.returns-in_err-reserve-clause-edge_data
+returns-in_err-reserve-clause-edge_data g c = IfOk-from_err c.from_residual-in_err-reserve.result _ c.from_residual-in_err-reserve.ensures.0
+
+pub returns-in_err-reserve-2-clause-graph : goal.returns-in_err-reserve-2-clause-graph
+returns-in_err-reserve-2-clause-graph g c = IfOk-from_err c.from_residual-in_err-reserve-2.result _ c.from_residual-in_err-reserve-2.ensures.0
+
+pub returns-in_err-reserve-2-clause-edge_data : goal.returns-in_err-reserve-2-clause-edge_data
+returns-in_err-reserve-2-clause-edge_data g c = IfOk-from_err c.from_residual-in_err-reserve-2.result _ c.from_residual-in_err-reserve-2.ensures.0
+
+pub returns-in_err-start-clause-graph : goal.returns-in_err-start-clause-graph
+returns-in_err-start-clause-graph g c = IfOk-from_err c.from_residual-in_err-start.result _ c.from_residual-in_err-start.ensures.0
+
+pub returns-in_err-start-clause-edge_data : goal.returns-in_err-start-clause-edge_data
+returns-in_err-start-clause-edge_data g c = IfOk-from_err c.from_residual-in_err-start.result _ c.from_residual-in_err-start.ensures.0
+
+pub returns-in_err-end-clause-graph : goal.returns-in_err-end-clause-graph
+returns-in_err-end-clause-graph g c = IfOk-from_err c.from_residual-in_err-end.result _ c.from_residual-in_err-end.ensures.0
+
+pub returns-in_err-end-clause-edge_data : goal.returns-in_err-end-clause-edge_data
+returns-in_err-end-clause-edge_data g c = IfOk-from_err c.from_residual-in_err-end.result _ c.from_residual-in_err-end.ensures.0
+
+pub returns-in_err-push-clause-graph : goal.returns-in_err-push-clause-graph
+returns-in_err-push-clause-graph g c = IfOk-from_err c.from_residual-in_err-push.result _ c.from_residual-in_err-push.ensures.0
+
+pub returns-in_err-push-clause-edge_data : goal.returns-in_err-push-clause-edge_data
+returns-in_err-push-clause-edge_data g c = IfOk-from_err c.from_residual-in_err-push.result _ c.from_residual-in_err-push.ensures.0

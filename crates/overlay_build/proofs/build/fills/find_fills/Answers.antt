@@ -1,5 +1,6 @@
 use Rattle.std.proofs.Common.{◌≡◌, ◌∙◌, ap, sym, subst, refl, length, arith, rules, ℕ, Vec, Global, MutBor}
 use Rattle.std.proofs.lemmas.List.{length-map}
+use Rattle.std.proofs.lemmas.Result.{IfOk-from_err}
 use Rattle.overlay_base.specs.EdgeData.{without_data}
 use Rattle.overlay_base.specs.SegmentOf.{segment_of, segments_of, data_segment_of, data_segments_of}
 use Rattle.overlay_base.specs.Choices.{in_one_row}
@@ -56,3 +57,30 @@ pub returns-clause-compared : goal.returns-clause-compared
 returns-clause-compared g c =
     let within : ℕ → Type 0 = λ n. IsSweepWithin (in_one_row c.args.solver.now.strategy) n (run_asked c.run_with_fill_rule.new.self) in
     subst within (sym (length-map c.args.segments.now segment_of)) c.in_ok-run_with_fill_rule.ensures.compared
+
+pub returns-in_err-resize-clause-fills : goal.returns-in_err-resize-clause-fills
+returns-in_err-resize-clause-fills g c = IfOk-from_err c.from_residual.result _ c.from_residual.ensures.0
+
+pub returns-in_err-resize-clause-in_range : goal.returns-in_err-resize-clause-in_range
+returns-in_err-resize-clause-in_range g c = IfOk-from_err c.from_residual.result _ c.from_residual.ensures.0
+
+pub returns-in_err-resize-clause-compared : goal.returns-in_err-resize-clause-compared
+returns-in_err-resize-clause-compared g c = IfOk-from_err c.from_residual.result _ c.from_residual.ensures.0
+
+pub returns-in_err-run_with_fill_rule-clause-fills : goal.returns-in_err-run_with_fill_rule-clause-fills
+returns-in_err-run_with_fill_rule-clause-fills g c = IfOk-from_err c.from_residual-in_err-run_with_fill_rule.result _ c.from_residual-in_err-run_with_fill_rule.ensures.0
+
+pub returns-in_err-run_with_fill_rule-clause-in_range : goal.returns-in_err-run_with_fill_rule-clause-in_range
+returns-in_err-run_with_fill_rule-clause-in_range g c = IfOk-from_err c.from_residual-in_err-run_with_fill_rule.result _ c.from_residual-in_err-run_with_fill_rule.ensures.0
+
+pub returns-in_err-run_with_fill_rule-clause-compared : goal.returns-in_err-run_with_fill_rule-clause-compared
+returns-in_err-run_with_fill_rule-clause-compared g c = IfOk-from_err c.from_residual-in_err-run_with_fill_rule.result _ c.from_residual-in_err-run_with_fill_rule.ensures.0
+
+pub run_with_fill_rule-requires-clause-arranged : goal.run_with_fill_rule-requires-clause-arranged
+run_with_fill_rule-requires-clause-arranged g c = c.requires.arranged
+
+pub run_with_fill_rule-requires-clause-takes : goal.run_with_fill_rule-requires-clause-takes
+run_with_fill_rule-requires-clause-takes g c = λ i l.
+    let made : c.new-handler.result.fills.now ≡ c.resize.new.self = ap (λ (b : MutBor (Vec ℕ Global)). b.now) c.new-handler.ensures in
+    let as_long : length c.new-handler.result.fills.now.items ≡ length c.resize.new.self.items = ap (λ (v : Vec ℕ Global). length v.items) made in
+    omega (arith, l, as_long, c.in_ok-resize.ensures.len, c.resize.new.self.ok.0)

@@ -1,4 +1,4 @@
-use Rattle.std.proofs.Common.{◌≡◌, ◌+◌, ◌<◌, ◌∙◌, ◌++◌, ◌||◌, sym, ap, take, length, get_or, ℕ, List, [], ◌∷◌, append_assoc, Bool}
+use Rattle.std.proofs.Common.{arith, ◌≡◌, ◌+◌, ◌<◌, ◌∙◌, ◌++◌, ◌||◌, sym, ap, take, length, get_or, ℕ, List, [], ◌∷◌, append_assoc, Bool}
 use Rattle.std.proofs.lemmas.List.{take_more}
 use Rattle.overlay_intersections.specs.PlacingOf.{placing_of}
 use Rattle.overlay_intersections.specs.MarkOf.{Mark, marks_of}
@@ -8,6 +8,23 @@ use Rattle.overlay_grid.proofs.laws.grid.FoundFragments.{fragments-next, ready_a
 use Rattle.overlay_grid.proofs.laws.grid.FoundBlocks.{with_one_more, rounded_one_more, placed, at_each, raised, not_raised}
 use Rattle.overlay_grid.proofs.split.solver_fragment.mark_found.Goals as goal
 use Rattle.overlay_grid.proofs.split.solver_fragment.mark_found.Goals.{then-branch, else-branch}
+
+pub bounds-found-index : goal.bounds-found-index
+bounds-found-index g c = c.loop-index-test.true
+
+pub offset_bounds-group-found : goal.offset_bounds-group-found
+offset_bounds-group-found g c =
+    let lt = at_each (λ j. j < length c.args.group.now) c.args.found.now c.loop-index.index 0 c.loop-index-test.true c.requires.places in
+    omega (arith, lt)
+
+pub bounds-group-found : goal.bounds-group-found
+bounds-group-found g c = at_each (λ j. j < length c.args.group.now) c.args.found.now c.loop-index.index 0 c.loop-index-test.true c.requires.places
+
+pub mark_two-requires-clause-radius : goal.mark_two-requires-clause-radius
+mark_two-requires-clause-radius g c = c.requires.radius
+
+pub loop-index-smaller : goal.loop-index-smaller
+loop-index-smaller g c = omega (arith, c.loop-index-test.true)
 
 pub mark_two-requires-clause-fragment : goal.mark_two-requires-clause-fragment
 mark_two-requires-clause-fragment g c = ready_range g.I.OverlayInt.whole g.I.OverlayInt.MIN_COORD g.I.OverlayInt.MAX_COORD c.args.fragment.now c.requires.fragment

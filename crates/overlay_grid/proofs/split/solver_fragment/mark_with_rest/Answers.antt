@@ -8,6 +8,39 @@ use Rattle.overlay_grid.proofs.laws.grid.FoundBlocks.{block-more, raised, not_ra
 use Rattle.overlay_grid.proofs.split.solver_fragment.mark_with_rest.Goals as goal
 use Rattle.overlay_grid.proofs.split.solver_fragment.mark_with_rest.Goals.{then-branch, else-branch}
 
+pub offset_bounds-group-first : goal.offset_bounds-group-first
+offset_bounds-group-first g c = omega (arith, c.requires.first)
+
+pub bounds-group-first : goal.bounds-group-first
+bounds-group-first g c = c.requires.first
+
+pub block_end-end-requires-clause-later : goal.block_end-end-requires-clause-later
+block_end-end-requires-clause-later g c = omega (arith, c.loop-later-test.true)
+
+pub block_end-end-requires-clause-sorted : goal.block_end-end-requires-clause-sorted
+block_end-end-requires-clause-sorted g c = c.requires.sorted
+
+pub list_meeting-count-requires-clause-order : goal.list_meeting-count-requires-clause-order
+list_meeting-count-requires-clause-order g c = c.block_end-end.ensures.from
+
+pub list_meeting-count-requires-clause-within : goal.list_meeting-count-requires-clause-within
+list_meeting-count-requires-clause-within g c = c.block_end-end.ensures.within
+
+pub list_meeting-count-requires-clause-few : goal.list_meeting-count-requires-clause-few
+list_meeting-count-requires-clause-few g c = c.block_end-end.ensures.few
+
+pub overflow_sub-end : goal.overflow_sub-end
+overflow_sub-end g c = c.block_end-end.ensures.from
+
+pub overflow_sub-end-in-loop-later : goal.overflow_sub-end-in-loop-later
+overflow_sub-end-in-loop-later g c = c.block_end-end.ensures.from
+
+pub mark_found-requires-clause-radius : goal.mark_found-requires-clause-radius
+mark_found-requires-clause-radius g c = c.requires.radius
+
+pub mark_found-requires-clause-ready : goal.mark_found-requires-clause-ready
+mark_found-requires-clause-ready g c = c.requires.ready
+
 pub mark_found-requires-clause-fragment : goal.mark_found-requires-clause-fragment
 mark_found-requires-clause-fragment g c =
     let whole = g.I.OverlayInt.whole in

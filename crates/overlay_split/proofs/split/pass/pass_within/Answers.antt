@@ -1,6 +1,7 @@
-use Rattle.std.proofs.Common.{◌≡◌, ◌∙◌, sym, subst, arith, ℕ, ◌+◌, ◌<◌, ◌≤◌, List, length}
+use Rattle.std.proofs.Common.{◌≡◌, refl, ◌∙◌, sym, subst, arith, ℕ, ◌+◌, ◌<◌, ◌≤◌, List, length}
 use Rattle.std.specs.Vec.{vec_len}
 use Rattle.std.proofs.lemmas.List.{length-map}
+use Rattle.std.proofs.lemmas.Result.{IfOk-from_err}
 use Rattle.overlay_base.specs.EdgeData.{without_data}
 use Rattle.overlay_base.specs.EdgeData.IsMadeFrom.{no_call}
 use Rattle.overlay_base.specs.SegmentOf.{segment_of, segments_of, data_segments_of}
@@ -116,3 +117,137 @@ returns-clause-within g c =
     let marks = c.find_marks.new.marks in
     let pieces = pieces_are c.args.placing c.args.list.now.items c.as_slice.result.now marks.items c.as_slice.ensures.value c.in-Ok.ensures.marks (vec_len c.args.list.now) c.len.result (vec_len marks) c.len-2.result c.args.list.now.ok.0 c.len.ensures marks.ok.0 c.len-2.ensures in
     subst (λ n. n ≤ c.args.limit) pieces c.if-len-limit.false
+
+-- ---- what holds of a result of the other kind, and what stays as it was
+
+pub returns-in-Err-clause-geometry : goal.returns-in-Err-clause-geometry
+returns-in-Err-clause-geometry g c = tt
+
+pub returns-in-Err-clause-edge_data : goal.returns-in-Err-clause-edge_data
+returns-in-Err-clause-edge_data g c = tt
+
+pub returns-in-Err-clause-store : goal.returns-in-Err-clause-store
+returns-in-Err-clause-store g c = tt
+
+pub returns-in-Err-clause-rounded : goal.returns-in-Err-clause-rounded
+returns-in-Err-clause-rounded g c = tt
+
+pub returns-in-Err-clause-marked : goal.returns-in-Err-clause-marked
+returns-in-Err-clause-marked g c = tt
+
+pub returns-in-Err-clause-looked : goal.returns-in-Err-clause-looked
+returns-in-Err-clause-looked g c = tt
+
+pub returns-in-Err-clause-within : goal.returns-in-Err-clause-within
+returns-in-Err-clause-within g c = tt
+
+pub returns-in-Err-clause-fits : goal.returns-in-Err-clause-fits
+returns-in-Err-clause-fits g c = tt
+
+pub returns-then-len-limit-clause-geometry : goal.returns-then-len-limit-clause-geometry
+returns-then-len-limit-clause-geometry g c = tt
+
+pub returns-then-len-limit-clause-edge_data : goal.returns-then-len-limit-clause-edge_data
+returns-then-len-limit-clause-edge_data g c = tt
+
+pub returns-then-len-limit-clause-store : goal.returns-then-len-limit-clause-store
+returns-then-len-limit-clause-store g c = tt
+
+pub returns-then-len-limit-clause-rounded : goal.returns-then-len-limit-clause-rounded
+returns-then-len-limit-clause-rounded g c = tt
+
+pub returns-then-len-limit-clause-marked : goal.returns-then-len-limit-clause-marked
+returns-then-len-limit-clause-marked g c = tt
+
+pub returns-then-len-limit-clause-looked : goal.returns-then-len-limit-clause-looked
+returns-then-len-limit-clause-looked g c = tt
+
+pub returns-then-len-limit-clause-within : goal.returns-then-len-limit-clause-within
+returns-then-len-limit-clause-within g c = tt
+
+pub returns-then-len-limit-clause-fits : goal.returns-then-len-limit-clause-fits
+returns-then-len-limit-clause-fits g c = tt
+
+pub returns-in_err-pass_at-clause-geometry : goal.returns-in_err-pass_at-clause-geometry
+returns-in_err-pass_at-clause-geometry g c = IfOk-from_err c.from_residual.result _ c.from_residual.ensures.0
+
+pub returns-in_err-pass_at-clause-edge_data : goal.returns-in_err-pass_at-clause-edge_data
+returns-in_err-pass_at-clause-edge_data g c = IfOk-from_err c.from_residual.result _ c.from_residual.ensures.0
+
+pub returns-in_err-pass_at-clause-store : goal.returns-in_err-pass_at-clause-store
+returns-in_err-pass_at-clause-store g c = IfOk-from_err c.from_residual.result _ c.from_residual.ensures.0
+
+pub returns-in_err-pass_at-clause-rounded : goal.returns-in_err-pass_at-clause-rounded
+returns-in_err-pass_at-clause-rounded g c = IfOk-from_err c.from_residual.result _ c.from_residual.ensures.0
+
+pub returns-in_err-pass_at-clause-marked : goal.returns-in_err-pass_at-clause-marked
+returns-in_err-pass_at-clause-marked g c = IfOk-from_err c.from_residual.result _ c.from_residual.ensures.0
+
+pub returns-in_err-pass_at-clause-looked : goal.returns-in_err-pass_at-clause-looked
+returns-in_err-pass_at-clause-looked g c = IfOk-from_err c.from_residual.result _ c.from_residual.ensures.0
+
+pub returns-in_err-pass_at-clause-within : goal.returns-in_err-pass_at-clause-within
+returns-in_err-pass_at-clause-within g c = IfOk-from_err c.from_residual.result _ c.from_residual.ensures.0
+
+pub returns-in_err-pass_at-clause-fits : goal.returns-in_err-pass_at-clause-fits
+returns-in_err-pass_at-clause-fits g c = IfOk-from_err c.from_residual.result _ c.from_residual.ensures.0
+
+pub returns-clause-refused : goal.returns-clause-refused
+returns-clause-refused g c = tt
+
+pub returns-clause-emptied : goal.returns-clause-emptied
+returns-clause-emptied g c = tt
+
+pub returns-clause-stopped : goal.returns-clause-stopped
+returns-clause-stopped g c = tt
+
+pub returns-clause-beyond : goal.returns-clause-beyond
+returns-clause-beyond g c = tt
+
+pub returns-clause-uncut : goal.returns-clause-uncut
+returns-clause-uncut g c = tt
+
+pub returns-clause-unbounded : goal.returns-clause-unbounded
+returns-clause-unbounded g c = tt
+
+pub returns-in-Err-clause-solver : goal.returns-in-Err-clause-solver
+returns-in-Err-clause-solver g c = c.find_marks.ensures.solver
+
+pub returns-in-Err-clause-grid : goal.returns-in-Err-clause-grid
+returns-in-Err-clause-grid g c = c.find_marks.ensures.grid
+
+pub returns-then-len-limit-clause-solver : goal.returns-then-len-limit-clause-solver
+returns-then-len-limit-clause-solver g c = c.find_marks.ensures.solver
+
+pub returns-then-len-limit-clause-grid : goal.returns-then-len-limit-clause-grid
+returns-then-len-limit-clause-grid g c = c.find_marks.ensures.grid
+
+pub returns-in_err-pass_at-clause-solver : goal.returns-in_err-pass_at-clause-solver
+returns-in_err-pass_at-clause-solver g c = c.find_marks.ensures.solver
+
+pub returns-in_err-pass_at-clause-grid : goal.returns-in_err-pass_at-clause-grid
+returns-in_err-pass_at-clause-grid g c = c.find_marks.ensures.grid
+
+pub returns-clause-solver : goal.returns-clause-solver
+returns-clause-solver g c = c.find_marks.ensures.solver
+
+pub returns-clause-grid : goal.returns-clause-grid
+returns-clause-grid g c = c.find_marks.ensures.grid
+
+pub returns-clause-store_made : goal.returns-clause-store_made
+returns-clause-store_made g c = c.in_ok-pass_at.ensures.store_made
+
+pub returns-in_err-pass_at-clause-store_made : goal.returns-in_err-pass_at-clause-store_made
+returns-in_err-pass_at-clause-store_made g c = c.in_err-pass_at.ensures.store_made
+
+pub returns-then-len-limit-clause-uncut : goal.returns-then-len-limit-clause-uncut
+returns-then-len-limit-clause-uncut g c = λ _. refl
+
+pub pass_at-requires-clause-map : goal.pass_at-requires-clause-map
+pass_at-requires-clause-map g c = c.requires.map
+
+pub pass_at-requires-clause-splittable : goal.pass_at-requires-clause-splittable
+pass_at-requires-clause-splittable g c = c.requires.splittable
+
+pub find_marks-requires-clause-radius : goal.find_marks-requires-clause-radius
+find_marks-requires-clause-radius g c = c.requires.radius

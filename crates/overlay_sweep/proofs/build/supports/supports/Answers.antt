@@ -1,6 +1,7 @@
-use Rattle.std.proofs.Common.{◌≡◌, ◌∙◌, ◌<◌, ◌≤◌, ap, sym, subst, arith, length}
+use Rattle.std.proofs.Common.{◌≡◌, ◌∙◌, ◌<◌, ◌≤◌, ap, sym, refl, subst, arith, length}
 use Rattle.std.specs.Prelude.{ℤ, pos, ◌≤ℤ◌, List, ◌∷◌, None, true}
 use Rattle.std.proofs.lemmas.List.{length-map}
+use Rattle.std.proofs.lemmas.Result.{IfOk-from_err}
 use Rattle.overlay_geometry.specs.Points.{Point}
 use Rattle.overlay_geometry.specs.PairOf.{pair_of}
 use Rattle.overlay_geometry.specs.PointOf.{point_of}
@@ -210,3 +211,42 @@ returns-clause-supports g c =
     let filled : length list ≡ length c.args.segments.now = length-map c.args.segments.now data_segment_of in
     subst (λ l. AreSupports l c.loop-index.supports.items) (same_list c.args.segments.now)
     (all_told EvenOdd list arr c.loop-index.index (g.S.LiveSegments.sums c.loop-index.live) c.loop-index.supports.items (g.S.LiveSegments.may_go_on_at c.loop-index.live) (c.loop-index.invariant.0 arr) (subst (λ n. n ≤ c.loop-index.index) (sym filled) c.loop-index-test.false))
+
+pub returns-in_err-supports-clause-supports : goal.returns-in_err-supports-clause-supports
+returns-in_err-supports-clause-supports g c = IfOk-from_err c.from_residual.result _ c.from_residual.ensures.0
+
+pub offset_bounds-segments-index : goal.offset_bounds-segments-index
+offset_bounds-segments-index g c = omega (arith, c.loop-index-test.true)
+
+pub bounds-segments-index : goal.bounds-segments-index
+bounds-segments-index g c = c.loop-index-test.true
+
+pub start_point_end-next-requires : goal.start_point_end-next-requires
+start_point_end-next-requires g c = c.loop-index-test.true
+
+pub collect_ways-requires-clause-order : goal.collect_ways-requires-clause-order
+collect_ways-requires-clause-order g c = omega (arith, c.start_point_end-next.ensures.after)
+
+pub collect_ways-requires-clause-within : goal.collect_ways-requires-clause-within
+collect_ways-requires-clause-within g c = c.start_point_end-next.ensures.within
+
+pub returns-in_err-collect_ways-clause-supports : goal.returns-in_err-collect_ways-clause-supports
+returns-in_err-collect_ways-clause-supports g c = IfOk-from_err c.from_residual-in_err-collect_ways.result _ c.from_residual-in_err-collect_ways.ensures.0
+
+pub sum_below-below-requires-clause-same_x : goal.sum_below-below-requires-clause-same_x
+sum_below-below-requires-clause-same_x g c = refl
+
+pub offset_bounds-way-items-way-index : goal.offset_bounds-way-items-way-index
+offset_bounds-way-items-way-index g c = omega (arith, c.loop-way-test.true)
+
+pub bounds-way-items-way-index : goal.bounds-way-items-way-index
+bounds-way-items-way-index g c = c.loop-way-test.true
+
+pub returns-in_err-insert_segment-clause-supports : goal.returns-in_err-insert_segment-clause-supports
+returns-in_err-insert_segment-clause-supports g c = IfOk-from_err c.from_residual-in_err-insert_segment.result _ c.from_residual-in_err-insert_segment.ensures.0
+
+pub loop-way-smaller : goal.loop-way-smaller
+loop-way-smaller g c = omega (arith, c.loop-way-test.true)
+
+pub loop-index-smaller : goal.loop-index-smaller
+loop-index-smaller g c = omega (arith, c.start_point_end-next.ensures.after, c.start_point_end-next.ensures.within, c.loop-index-test.true)

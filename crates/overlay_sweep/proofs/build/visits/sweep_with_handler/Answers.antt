@@ -1,6 +1,7 @@
-use Rattle.std.proofs.Common.{◌≡◌, ◌∙◌, ◌+◌, ◌*◌, ◌<◌, ◌≤◌, ap, ap₂, sym, subst, arith, length}
+use Rattle.std.proofs.Common.{◌≡◌, ◌∙◌, ◌+◌, ◌*◌, ◌<◌, ◌≤◌, ap, ap₂, sym, refl, subst, arith, length}
 use Rattle.std.specs.Prelude.{◌≤ℤ◌}
 use Rattle.std.proofs.lemmas.List.{length-map}
+use Rattle.std.proofs.lemmas.Result.{IfOk-from_err}
 use Rattle.overlay_geometry.specs.Points.{Point}
 use Rattle.std.specs.Prelude.{ℤ, true, false, List, ◌∷◌}
 use Rattle.std.specs.ControlFlow.{break_value}
@@ -242,3 +243,51 @@ returns-in-Break-clause-compared g c = λ d most.
     let fits = ways_within way_of c.deref-way-items.result.now (without_data (data_segments_of c.args.segments.now)) c.loop-index.index c.start_point_end-next.result c.loop-way.invariant.2 in
     sweep_paid c.visit.new.compared (g.S.LiveSegments.held c.visit.new.live * d) (3 * c.loop-index.index + 1 + 2 * (c.loop-way.way-index + 1)) (length c.args.segments.now) d (omega (arith, fits, c.loop-way-test.true, c.start_point_end-next.ensures.after, c.start_point_end-next.ensures.within))
     (visit_paid c.loop-way.compared c.visit.new.compared (g.S.LiveSegments.held c.loop-way.live) (g.S.LiveSegments.held c.visit.new.live) c.loop-index.index c.loop-way.way-index d (c.loop-way.invariant.5 d most) (c.in_ok-seen.ensures.most (length c.args.segments.now) d (omega (arith, c.loop-way.invariant.4, c.loop-way.invariant.3, c.start_point_end-next.ensures.after, c.start_point_end-next.ensures.within)) most))
+
+pub offset_bounds-segments-index : goal.offset_bounds-segments-index
+offset_bounds-segments-index g c = omega (arith, c.loop-index-test.true)
+
+pub bounds-segments-index : goal.bounds-segments-index
+bounds-segments-index g c = c.loop-index-test.true
+
+pub start_point_end-next-requires : goal.start_point_end-next-requires
+start_point_end-next-requires g c = c.loop-index-test.true
+
+pub collect_ways-requires-clause-order : goal.collect_ways-requires-clause-order
+collect_ways-requires-clause-order g c = omega (arith, c.start_point_end-next.ensures.after)
+
+pub collect_ways-requires-clause-within : goal.collect_ways-requires-clause-within
+collect_ways-requires-clause-within g c = c.start_point_end-next.ensures.within
+
+pub returns-in_err-collect_ways-clause-answer : goal.returns-in_err-collect_ways-clause-answer
+returns-in_err-collect_ways-clause-answer g c = IfOk-from_err c.from_residual.result _ c.from_residual.ensures.0
+
+pub returns-in_err-collect_ways-clause-in_range : goal.returns-in_err-collect_ways-clause-in_range
+returns-in_err-collect_ways-clause-in_range g c = IfOk-from_err c.from_residual.result _ c.from_residual.ensures.0
+
+pub returns-in_err-collect_ways-clause-compared : goal.returns-in_err-collect_ways-clause-compared
+returns-in_err-collect_ways-clause-compared g c = IfOk-from_err c.from_residual.result _ c.from_residual.ensures.0
+
+pub sum_below-sum-requires-clause-same_x : goal.sum_below-sum-requires-clause-same_x
+sum_below-sum-requires-clause-same_x g c = refl
+
+pub offset_bounds-way-items-way-index : goal.offset_bounds-way-items-way-index
+offset_bounds-way-items-way-index g c = omega (arith, c.loop-way-test.true)
+
+pub bounds-way-items-way-index : goal.bounds-way-items-way-index
+bounds-way-items-way-index g c = c.loop-way-test.true
+
+pub returns-in_err-seen-clause-answer : goal.returns-in_err-seen-clause-answer
+returns-in_err-seen-clause-answer g c = IfOk-from_err c.from_residual-in_err-seen.result _ c.from_residual-in_err-seen.ensures.0
+
+pub returns-in_err-seen-clause-in_range : goal.returns-in_err-seen-clause-in_range
+returns-in_err-seen-clause-in_range g c = IfOk-from_err c.from_residual-in_err-seen.result _ c.from_residual-in_err-seen.ensures.0
+
+pub returns-in_err-seen-clause-compared : goal.returns-in_err-seen-clause-compared
+returns-in_err-seen-clause-compared g c = IfOk-from_err c.from_residual-in_err-seen.result _ c.from_residual-in_err-seen.ensures.0
+
+pub loop-way-smaller : goal.loop-way-smaller
+loop-way-smaller g c = omega (arith, c.loop-way-test.true)
+
+pub loop-index-smaller : goal.loop-index-smaller
+loop-index-smaller g c = omega (arith, c.start_point_end-next.ensures.after, c.start_point_end-next.ensures.within, c.loop-index-test.true)

@@ -1,6 +1,7 @@
 use Rattle.std.proofs.Common.{◌≡◌, ◌∙◌, ap, sym, refl, subst, arith}
 use Rattle.std.specs.Prelude.{suc, ◌≤ℤ◌}
 use Rattle.std.proofs.lemmas.Int.{ints}
+use Rattle.std.proofs.lemmas.Result.{IfOk-from_err}
 use Rattle.overlay_geometry.specs.Points.{Pair}
 use Rattle.overlay_base.specs.Segments.{WholeSegment}
 use Rattle.overlay_base.specs.Windings.{add, weight}
@@ -58,3 +59,95 @@ returns-clause-most g c = λ n d within most. elim c.if-is_not_vertical.branch [
       rw w.live-is (adds_paid c.args.compared.now _ (g.S.LiveSegments.asked w.insert.new.self) _ (suc (suc (g.S.LiveSegments.held c.args.live.now))) d (omega (arith, w.compared-is, w.saturating_add.ensures, w.compared.ensures)) (w.in_ok-insert.ensures.most n d within most))
   | else-is_not_vertical w ↦ rw w.live-is (rw w.compared-is (uncalled_pays c.args.compared.now (g.S.LiveSegments.held c.args.live.now) d))
 ]
+
+pub add_and_fill-requires-clause-this : goal.add_and_fill-requires-clause-this
+add_and_fill-requires-clause-this g c = rw c.count.ensures c.requires.count
+
+pub add_and_fill-requires-clause-bot : goal.add_and_fill-requires-clause-bot
+add_and_fill-requires-clause-bot g c = c.requires.bottom
+
+pub returns-in_err-top-clause-in_range : goal.returns-in_err-top-clause-in_range
+returns-in_err-top-clause-in_range g c = IfOk-from_err c.from_residual.result _ c.from_residual.ensures.0
+
+pub returns-in_err-top-clause-top : goal.returns-in_err-top-clause-top
+returns-in_err-top-clause-top g c = IfOk-from_err c.from_residual.result _ c.from_residual.ensures.0
+
+pub returns-in_err-top-clause-answer : goal.returns-in_err-top-clause-answer
+returns-in_err-top-clause-answer g c = IfOk-from_err c.from_residual.result _ c.from_residual.ensures.0
+
+pub returns-in_err-top-clause-handler : goal.returns-in_err-top-clause-handler
+returns-in_err-top-clause-handler g c = IfOk-from_err c.from_residual.result _ c.from_residual.ensures.0
+
+pub returns-in_err-top-clause-live : goal.returns-in_err-top-clause-live
+returns-in_err-top-clause-live g c = IfOk-from_err c.from_residual.result _ c.from_residual.ensures.0
+
+pub returns-in_err-top-clause-time : goal.returns-in_err-top-clause-time
+returns-in_err-top-clause-time g c = IfOk-from_err c.from_residual.result _ c.from_residual.ensures.0
+
+pub returns-in_err-top-clause-asked : goal.returns-in_err-top-clause-asked
+returns-in_err-top-clause-asked g c = IfOk-from_err c.from_residual.result _ c.from_residual.ensures.0
+
+pub returns-in_err-top-clause-held : goal.returns-in_err-top-clause-held
+returns-in_err-top-clause-held g c = IfOk-from_err c.from_residual.result _ c.from_residual.ensures.0
+
+pub returns-in_err-top-clause-most : goal.returns-in_err-top-clause-most
+returns-in_err-top-clause-most g c = IfOk-from_err c.from_residual.result _ c.from_residual.ensures.0
+
+pub handle-requires : goal.handle-requires
+handle-requires g c = c.requires.takes
+
+pub insert-requires-clause-in_range : goal.insert-requires-clause-in_range
+insert-requires-clause-in_range g c =
+    rw (c.from.ensures, c.x_segment-ends.ensures) (record { a_in_range = c.requires.in_range.a_in_range; b_in_range = c.requires.in_range.b_in_range })
+
+pub insert-requires-clause-start : goal.insert-requires-clause-start
+insert-requires-clause-start g c = rw c.from.ensures refl
+
+pub insert-requires-clause-time : goal.insert-requires-clause-time
+insert-requires-clause-time g c = rw c.x_segment-ends.ensures (c.requires.time _ (omega (arith, ints)))
+
+pub insert-requires-clause-free : goal.insert-requires-clause-free
+insert-requires-clause-free g c =
+    rw (c.from.ensures, c.x_segment-ends.ensures, c.in_ok-top.ensures.sum, c.count.ensures) c.requires.free
+
+pub returns-in_err-insert-clause-in_range : goal.returns-in_err-insert-clause-in_range
+returns-in_err-insert-clause-in_range g c = IfOk-from_err c.from_residual-in_err-insert.result _ c.from_residual-in_err-insert.ensures.0
+
+pub returns-in_err-insert-clause-top : goal.returns-in_err-insert-clause-top
+returns-in_err-insert-clause-top g c = IfOk-from_err c.from_residual-in_err-insert.result _ c.from_residual-in_err-insert.ensures.0
+
+pub returns-in_err-insert-clause-answer : goal.returns-in_err-insert-clause-answer
+returns-in_err-insert-clause-answer g c = IfOk-from_err c.from_residual-in_err-insert.result _ c.from_residual-in_err-insert.ensures.0
+
+pub returns-in_err-insert-clause-handler : goal.returns-in_err-insert-clause-handler
+returns-in_err-insert-clause-handler g c = IfOk-from_err c.from_residual-in_err-insert.result _ c.from_residual-in_err-insert.ensures.0
+
+pub returns-in_err-insert-clause-live : goal.returns-in_err-insert-clause-live
+returns-in_err-insert-clause-live g c = IfOk-from_err c.from_residual-in_err-insert.result _ c.from_residual-in_err-insert.ensures.0
+
+pub returns-in_err-insert-clause-time : goal.returns-in_err-insert-clause-time
+returns-in_err-insert-clause-time g c = IfOk-from_err c.from_residual-in_err-insert.result _ c.from_residual-in_err-insert.ensures.0
+
+pub returns-in_err-insert-clause-asked : goal.returns-in_err-insert-clause-asked
+returns-in_err-insert-clause-asked g c = IfOk-from_err c.from_residual-in_err-insert.result _ c.from_residual-in_err-insert.ensures.0
+
+pub returns-in_err-insert-clause-held : goal.returns-in_err-insert-clause-held
+returns-in_err-insert-clause-held g c = IfOk-from_err c.from_residual-in_err-insert.result _ c.from_residual-in_err-insert.ensures.0
+
+pub returns-in_err-insert-clause-most : goal.returns-in_err-insert-clause-most
+returns-in_err-insert-clause-most g c = IfOk-from_err c.from_residual-in_err-insert.result _ c.from_residual-in_err-insert.ensures.0
+
+pub returns-clause-top : goal.returns-clause-top
+returns-clause-top g c = rw (c.in_ok-top.ensures.sum, c.count.ensures) refl
+
+pub returns-clause-answer : goal.returns-clause-answer
+returns-clause-answer g c = rw (c.in_ok-top.ensures.fill, c.count.ensures) at c.in_default.ensures.answer
+
+pub returns-clause-handler : goal.returns-clause-handler
+returns-clause-handler g c = rw (c.handle.ensures.handler, c.in_ok-top.ensures.fill, c.count.ensures) refl
+
+pub returns-in-Break-clause-answer : goal.returns-in-Break-clause-answer
+returns-in-Break-clause-answer g c = rw (c.in_ok-top.ensures.fill, c.count.ensures) at c.in-Break.ensures.answer
+
+pub returns-in-Break-clause-handler : goal.returns-in-Break-clause-handler
+returns-in-Break-clause-handler g c = rw (c.handle.ensures.handler, c.in_ok-top.ensures.fill, c.count.ensures) refl

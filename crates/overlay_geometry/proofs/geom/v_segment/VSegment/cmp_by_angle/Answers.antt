@@ -1,4 +1,6 @@
-use Rattle.std.proofs.Common.{◌≡◌, ◌∙◌, ap₂, rules}
+use Rattle.std.proofs.Common.{◌≡◌, ◌∙◌, ap, ap₂, to_z-of_z, FitsSigned, w64}
+use Rattle.std.specs.Prelude.{pos}
+use Rattle.std.specs.Ordering.{int_cmp}
 use Rattle.overlay_geometry.specs.Points.{step, cross_product}
 use Rattle.overlay_geometry.specs.Below.{angle_cmp}
 use Rattle.overlay_geometry.specs.VSegmentOf.{v_pair_of}
@@ -9,5 +11,6 @@ unfolding angle_cmp
 returns g c =
     let s = v_pair_of g.I.OverlayInt.whole c.args.self.now in
     let t = v_pair_of g.I.OverlayInt.whole c.args.other.now in
+    let fit : FitsSigned w64 c.cross_product.result = record { sfits = c.cross_product.type_inv } in
     let cross : c.cross_product.result ≡ cross_product (step s.a s.b) (step t.a t.b) = c.cross_product.ensures.value ∙ ap₂ cross_product c.between-way.ensures c.between.ensures in
-    rw (← cross) (search rules)
+    simp to_z-of_z at c.cmp.ensures ∙ ap (int_cmp (pos 0)) cross

@@ -1,5 +1,6 @@
 use Rattle.std.proofs.Common.{rules, ◌≡◌, refl, sym, ap, subst, ◌∙◌, arith, ℕ, List, ◌+◌, ◌-◌, ◌^◌, ◌<◌, ◌≤◌, length}
-use Rattle.std.specs.Prelude.{IsTrue, nat_le}
+use Rattle.std.specs.Prelude.{IsTrue, nat_le, Result, Ok, Err, OnErr}
+use Rattle.std.proofs.lemmas.Result.{IfOk-from_err}
 use Rattle.std.proofs.lemmas.Bool.{both_ways, not-true, not-false}
 use Rattle.overlay_base.specs.declared.segm.fault.Fault.TheVariants.{CountOutOfRange}
 use Rattle.overlay_split.specs.declared.split.fault.SplitFault.TheVariants.{Refused}
@@ -260,3 +261,142 @@ returns-in_err-progress-2-clause-store_made g c =
 
 pub returns-clause-store_made : goal.returns-clause-store_made
 returns-clause-store_made g c = made_so_far _ _ _ _ _ _ c.loop-progress.invariant.at.store_is
+
+-- ---- what holds of a result of the other kind, and what stays as it was
+
+-- of a refusal, a fact that does not tell which
+of_refusal : {T E : Type 0} (Q : Type 0) (r : Result T E) → Q → OnErr r Q
+of_refusal Q (Ok x) q = tt
+of_refusal Q (Err e) q = q
+
+pub returns-then-len-limit-clause-ended : goal.returns-then-len-limit-clause-ended
+returns-then-len-limit-clause-ended g c = tt
+
+pub returns-then-len-limit-clause-reach : goal.returns-then-len-limit-clause-reach
+returns-then-len-limit-clause-reach g c = tt
+
+pub returns-then-len-limit-clause-looked : goal.returns-then-len-limit-clause-looked
+returns-then-len-limit-clause-looked g c = tt
+
+pub returns-then-len-limit-clause-within : goal.returns-then-len-limit-clause-within
+returns-then-len-limit-clause-within g c = tt
+
+pub returns-then-len-limit-clause-emptied : goal.returns-then-len-limit-clause-emptied
+returns-then-len-limit-clause-emptied g c = c.clear.ensures.items
+
+pub returns-then-len-limit-clause-unset : goal.returns-then-len-limit-clause-unset
+returns-then-len-limit-clause-unset g c = (refl, refl, refl)
+
+pub returns-then-len-limit-clause-limit : goal.returns-then-len-limit-clause-limit
+returns-then-len-limit-clause-limit g c = refl
+
+pub returns-in_err-repeated-clause-ended : goal.returns-in_err-repeated-clause-ended
+returns-in_err-repeated-clause-ended g c = IfOk-from_err c.from_residual.result _ c.from_residual.ensures.0
+
+pub returns-in_err-repeated-clause-reach : goal.returns-in_err-repeated-clause-reach
+returns-in_err-repeated-clause-reach g c = IfOk-from_err c.from_residual.result _ c.from_residual.ensures.0
+
+pub returns-in_err-repeated-clause-looked : goal.returns-in_err-repeated-clause-looked
+returns-in_err-repeated-clause-looked g c = IfOk-from_err c.from_residual.result _ c.from_residual.ensures.0
+
+pub returns-in_err-repeated-clause-within : goal.returns-in_err-repeated-clause-within
+returns-in_err-repeated-clause-within g c = IfOk-from_err c.from_residual.result _ c.from_residual.ensures.0
+
+pub returns-in_err-repeated-clause-emptied : goal.returns-in_err-repeated-clause-emptied
+returns-in_err-repeated-clause-emptied g c = of_refusal _ c.from_residual.result c.in_err-repeated.ensures.emptied
+
+pub returns-in_err-repeated-clause-unset : goal.returns-in_err-repeated-clause-unset
+returns-in_err-repeated-clause-unset g c = of_refusal _ c.from_residual.result (refl, refl, refl)
+
+pub returns-in_err-repeated-clause-limit : goal.returns-in_err-repeated-clause-limit
+returns-in_err-repeated-clause-limit g c = refl
+
+pub returns-in-Err-clause-ended : goal.returns-in-Err-clause-ended
+returns-in-Err-clause-ended g c = tt
+
+pub returns-in-Err-clause-reach : goal.returns-in-Err-clause-reach
+returns-in-Err-clause-reach g c = tt
+
+pub returns-in-Err-clause-looked : goal.returns-in-Err-clause-looked
+returns-in-Err-clause-looked g c = tt
+
+pub returns-in-Err-clause-within : goal.returns-in-Err-clause-within
+returns-in-Err-clause-within g c = tt
+
+pub returns-in-Err-clause-unset : goal.returns-in-Err-clause-unset
+returns-in-Err-clause-unset g c = (refl, refl, refl)
+
+pub returns-in-Err-clause-limit : goal.returns-in-Err-clause-limit
+returns-in-Err-clause-limit g c = refl
+
+pub after_pass-requires-clause-map : goal.after_pass-requires-clause-map
+after_pass-requires-clause-map g c = c.loop.invariant.at.map
+
+pub returns-in_err-progress-clause-ended : goal.returns-in_err-progress-clause-ended
+returns-in_err-progress-clause-ended g c = IfOk-from_err c.from_residual-in_err-progress.result _ c.from_residual-in_err-progress.ensures.0
+
+pub returns-in_err-progress-clause-reach : goal.returns-in_err-progress-clause-reach
+returns-in_err-progress-clause-reach g c = IfOk-from_err c.from_residual-in_err-progress.result _ c.from_residual-in_err-progress.ensures.0
+
+pub returns-in_err-progress-clause-looked : goal.returns-in_err-progress-clause-looked
+returns-in_err-progress-clause-looked g c = IfOk-from_err c.from_residual-in_err-progress.result _ c.from_residual-in_err-progress.ensures.0
+
+pub returns-in_err-progress-clause-within : goal.returns-in_err-progress-clause-within
+returns-in_err-progress-clause-within g c = IfOk-from_err c.from_residual-in_err-progress.result _ c.from_residual-in_err-progress.ensures.0
+
+pub returns-in_err-progress-clause-emptied : goal.returns-in_err-progress-clause-emptied
+returns-in_err-progress-clause-emptied g c = of_refusal _ c.from_residual-in_err-progress.result c.in_err-progress.ensures.emptied
+
+pub returns-in_err-progress-clause-unset : goal.returns-in_err-progress-clause-unset
+returns-in_err-progress-clause-unset g c = of_refusal _ c.from_residual-in_err-progress.result (c.loop.invariant.passes, c.loop.invariant.looked_before, c.loop.invariant.reach_before)
+
+pub returns-in_err-progress-clause-limit : goal.returns-in_err-progress-clause-limit
+returns-in_err-progress-clause-limit g c = c.loop.invariant.limit
+
+pub returns-in_err-progress-clause-unbounded : goal.returns-in_err-progress-clause-unbounded
+returns-in_err-progress-clause-unbounded g c = refused_by c.from_residual-in_err-progress.result c.in_err-progress.field-0.0 _ c.from_residual-in_err-progress.ensures.1 c.in_err-progress.ensures.unbounded
+
+pub returns-in_err-progress-2-clause-ended : goal.returns-in_err-progress-2-clause-ended
+returns-in_err-progress-2-clause-ended g c = IfOk-from_err c.from_residual-in_err-progress-2.result _ c.from_residual-in_err-progress-2.ensures.0
+
+pub returns-in_err-progress-2-clause-reach : goal.returns-in_err-progress-2-clause-reach
+returns-in_err-progress-2-clause-reach g c = IfOk-from_err c.from_residual-in_err-progress-2.result _ c.from_residual-in_err-progress-2.ensures.0
+
+pub returns-in_err-progress-2-clause-looked : goal.returns-in_err-progress-2-clause-looked
+returns-in_err-progress-2-clause-looked g c = IfOk-from_err c.from_residual-in_err-progress-2.result _ c.from_residual-in_err-progress-2.ensures.0
+
+pub returns-in_err-progress-2-clause-within : goal.returns-in_err-progress-2-clause-within
+returns-in_err-progress-2-clause-within g c = IfOk-from_err c.from_residual-in_err-progress-2.result _ c.from_residual-in_err-progress-2.ensures.0
+
+pub returns-in_err-progress-2-clause-emptied : goal.returns-in_err-progress-2-clause-emptied
+returns-in_err-progress-2-clause-emptied g c = of_refusal _ c.from_residual-in_err-progress-2.result c.in_err-progress-2.ensures.emptied
+
+pub returns-in_err-progress-2-clause-unset : goal.returns-in_err-progress-2-clause-unset
+returns-in_err-progress-2-clause-unset g c = of_refusal _ c.from_residual-in_err-progress-2.result (c.loop-progress.invariant.passes, c.loop-progress.invariant.looked_before, c.loop-progress.invariant.reach_before)
+
+pub returns-in_err-progress-2-clause-limit : goal.returns-in_err-progress-2-clause-limit
+returns-in_err-progress-2-clause-limit g c = c.loop-progress.invariant.limit
+
+pub returns-in_err-progress-2-clause-unbounded : goal.returns-in_err-progress-2-clause-unbounded
+returns-in_err-progress-2-clause-unbounded g c = refused_by c.from_residual-in_err-progress-2.result c.in_err-progress-2.field-0.0 _ c.from_residual-in_err-progress-2.ensures.1 c.in_err-progress-2.ensures.unbounded
+
+pub returns-clause-within : goal.returns-clause-within
+returns-clause-within g c = c.loop-progress.invariant.within
+
+pub returns-clause-emptied : goal.returns-clause-emptied
+returns-clause-emptied g c = tt
+
+pub returns-clause-stopped : goal.returns-clause-stopped
+returns-clause-stopped g c = tt
+
+pub returns-clause-beyond : goal.returns-clause-beyond
+returns-clause-beyond g c = tt
+
+pub returns-clause-unbounded : goal.returns-clause-unbounded
+returns-clause-unbounded g c = tt
+
+pub returns-clause-unset : goal.returns-clause-unset
+returns-clause-unset g c = tt
+
+pub returns-clause-limit : goal.returns-clause-limit
+returns-clause-limit g c = c.loop-progress.invariant.limit

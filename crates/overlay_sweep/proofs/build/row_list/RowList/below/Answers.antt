@@ -69,3 +69,9 @@ returns-clause-entry g c =
     let last : length (row_at rows (row - 1)) - 1 ≡ length c.entries-entries.result.now - 1 = omega (arith, size) in
     let index : index_in rows row c.args.spot.at - 1 ≡ length (joined (take row rows)) - 1 = omega (arith, c.if-at-gt0.false) in
     ap (segment_at (joined rows)) index ∙ before.1 ∙ ap (segment_at (row_at rows (row - 1))) last ∙ ap (λ l. segment_at l (length c.entries-entries.result.now - 1)) read ∙ entry
+
+pub index-requires : goal.index-requires
+index-requires g c = elim c.requires.index [ inl none ↦ absurd (omega (arith, none.2, c.if-at-gt0.true)) | inr is ↦ omega (arith, is.0, length-map c.args.self.now.rows.items (λ r. row_sums r)) ]
+
+pub index-requires-2 : goal.index-requires-2
+index-requires-2 g c = elim c.requires.index [ inl none ↦ absurd (c.if-row-eq0.false none.1) | inr is ↦ omega (arith, is.0, length-map c.args.self.now.rows.items (λ r. row_sums r)) ]

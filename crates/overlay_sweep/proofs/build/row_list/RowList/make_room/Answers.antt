@@ -136,3 +136,18 @@ returns-else-at-half-clause-index g c =
     let high : length (drop half (row_at old row)) ≡ length (row_at old row) - half = length-drop half (row_at old row) in
     ap (λ l. index_in l (row + 1) (at - half)) cut ∙ ap (λ n. index_in (cut_at old row (take half (row_at old row)) (drop half (row_at old row))) (row + 1) (at - n)) (sym low)
     ∙ cut_index_high old row at (take half (row_at old row)) (drop half (row_at old row)) i.0 (omega (arith, low, c.if-at-half.false))
+
+pub index-requires : goal.index-requires
+index-requires g c =
+    let i = index_inside (rows_in c.args.self.now) c.args.spot.row c.args.spot.at c.requires.index (λ z. c.if-len-eq0.false (omega (arith, z, length-map c.args.self.now.rows.items (λ r. row_sums r), c.len.ensures))) in
+    omega (arith, i.0, length-map c.args.self.now.rows.items (λ r. row_sums r))
+
+pub index_mut-requires : goal.index_mut-requires
+index_mut-requires g c =
+    let i = index_inside (rows_in c.args.self.now) c.args.spot.row c.args.spot.at c.requires.index (λ z. c.if-len-eq0.false (omega (arith, z, length-map c.args.self.now.rows.items (λ r. row_sums r), c.len.ensures))) in
+    omega (arith, i.0, length-map c.args.self.now.rows.items (λ r. row_sums r))
+
+pub insert-requires : goal.insert-requires
+insert-requires g c =
+    let i = index_inside (rows_in c.args.self.now) c.args.spot.row c.args.spot.at c.requires.index (λ z. c.if-len-eq0.false (omega (arith, z, length-map c.args.self.now.rows.items (λ r. row_sums r), c.len.ensures))) in
+    omega (arith, i.0, length-map c.args.self.now.rows.items (λ r. row_sums r))

@@ -1,6 +1,7 @@
 use Rattle.std.proofs.Common.{◌≡◌, ◌∙◌, ap, sym, subst, arith, inr, length}
 use Rattle.std.specs.Prelude.{suc, ◌+◌, ◌<◌, ◌≤◌, map, slice_set}
 use Rattle.std.proofs.lemmas.List.{length-map, map-set, length-set, get_or-set_same}
+use Rattle.std.proofs.lemmas.Result.{IfOk-from_err}
 use Rattle.overlay_sweep.specs.EntryOf.{entry_of}
 use Rattle.overlay_sweep.specs.LiveOf.{row_sums, rows_in}
 use Rattle.overlay_sweep.specs.ScanTrees.{joined, row_at, index_in, HaveSome, IsIndexIn, lasts_past}
@@ -75,3 +76,36 @@ returns-clause-behind g c =
     let set : map (λ r. row_sums r) (slice_set items row c.put.new.self) ≡ slice_set rows row new = map-set (λ r. row_sums r) items row c.put.new.self in
     let put : IsPutIn (lasts_past x (row_at rows row)) at (entry_of c.args.entry) (row_at rows row) new = subst (λ l. IsPutIn (lasts_past x l) at (entry_of c.args.entry) l new) (sym here) (entries_put_in entry_of (lasts_past x (row_sums c.index_mut.result.now)) c.index_mut.result.now.entries.items _ at c.args.entry c.in_ok-put.ensures.put) in
     ap (λ l. index_in l row (at + 1)) set ∙ index_set rows row (at + 1) new ∙ (let next : index_in rows row (at + 1) ≡ suc (index_in rows row at) = omega arith in next) ∙ ap suc c.in_ok-room.ensures.index
+
+pub make_room-requires-clause-some : goal.make_room-requires-clause-some
+make_room-requires-clause-some g c = c.requires.some
+
+pub make_room-requires-clause-index : goal.make_room-requires-clause-index
+make_room-requires-clause-index g c = c.requires.index
+
+pub returns-in_err-room-clause-put : goal.returns-in_err-room-clause-put
+returns-in_err-room-clause-put g c = IfOk-from_err c.from_residual.result _ c.from_residual.ensures.0
+
+pub returns-in_err-room-clause-some : goal.returns-in_err-room-clause-some
+returns-in_err-room-clause-some g c = IfOk-from_err c.from_residual.result _ c.from_residual.ensures.0
+
+pub returns-in_err-room-clause-index : goal.returns-in_err-room-clause-index
+returns-in_err-room-clause-index g c = IfOk-from_err c.from_residual.result _ c.from_residual.ensures.0
+
+pub returns-in_err-room-clause-behind : goal.returns-in_err-room-clause-behind
+returns-in_err-room-clause-behind g c = IfOk-from_err c.from_residual.result _ c.from_residual.ensures.0
+
+pub returns-in_err-put-clause-put : goal.returns-in_err-put-clause-put
+returns-in_err-put-clause-put g c = IfOk-from_err c.from_residual-in_err-put.result _ c.from_residual-in_err-put.ensures.0
+
+pub returns-in_err-put-clause-some : goal.returns-in_err-put-clause-some
+returns-in_err-put-clause-some g c = IfOk-from_err c.from_residual-in_err-put.result _ c.from_residual-in_err-put.ensures.0
+
+pub returns-in_err-put-clause-index : goal.returns-in_err-put-clause-index
+returns-in_err-put-clause-index g c = IfOk-from_err c.from_residual-in_err-put.result _ c.from_residual-in_err-put.ensures.0
+
+pub returns-in_err-put-clause-behind : goal.returns-in_err-put-clause-behind
+returns-in_err-put-clause-behind g c = IfOk-from_err c.from_residual-in_err-put.result _ c.from_residual-in_err-put.ensures.0
+
+pub index_mut-requires : goal.index_mut-requires
+index_mut-requires g c = omega (arith, c.in_ok-room.ensures.row, length-map c.make_room.new.self.rows.items (λ r. row_sums r))

@@ -172,3 +172,27 @@ returns-clause-few g c = λ d high.
     let room = room_of rows row found.some inside in
     let pays = two_searches c.find_row-row.new.compared c.search-at.new.compared (length (rows_in c.args.self.now)) (length c.entries.result.now - 1) (length (joined (rows_in c.args.self.now))) d found.few c.search-at.ensures.few (omega (arith, room, found.paid, size)) high in
     omega (arith, pays, c.saturating_add.ensures)
+
+pub index-requires : goal.index-requires
+index-requires g c = omega (arith, c.find_row-row.ensures.within, length-map c.find_row-row.new.self.rows.items (λ r. row_sums r), c.if-row-len.false, c.len.ensures, c.find_row-row.new.self.rows.ok.0)
+
+pub index_mut-requires : goal.index_mut-requires
+index_mut-requires g c = omega (arith, c.find_row-row.ensures.within, length-map c.find_row-row.new.self.rows.items (λ r. row_sums r), c.if-row-len.false, c.len.ensures, c.find_row-row.new.self.rows.ok.0)
+
+pub search-at-requires-clause-place : goal.search-at-requires-clause-place
+search-at-requires-clause-place g c = c.requires.place
+
+pub returns-then-row-len-clause-keeps : goal.returns-then-row-len-clause-keeps
+returns-then-row-len-clause-keeps g c = c.find_row-row.ensures.keeps
+
+pub returns-then-row-len-clause-some : goal.returns-then-row-len-clause-some
+returns-then-row-len-clause-some g c = c.find_row-row.ensures.some
+
+pub returns-then-row-len-clause-index : goal.returns-then-row-len-clause-index
+returns-then-row-len-clause-index g c = c.end.ensures.index
+
+pub find_row-row-requires-clause-place : goal.find_row-row-requires-clause-place
+find_row-row-requires-clause-place g c = c.requires.place
+
+pub find_row-row-requires-clause-some : goal.find_row-row-requires-clause-some
+find_row-row-requires-clause-some g c = c.requires.some

@@ -1,6 +1,7 @@
 use Rattle.std.proofs.Common.{◌≡◌, ◌∙◌, ap, sym, subst, arith, ℕ, List, length}
 use Rattle.std.specs.Prelude.{◌+◌, ◌*◌, ◌^◌, ◌<◌, ◌≤◌, ◌⊎◌, [], ◌∷◌, map, slice_set}
 use Rattle.std.proofs.lemmas.List.{length-map, map-set, append-nil}
+use Rattle.std.proofs.lemmas.Result.{IfOk-from_err}
 use Rattle.overlay_base.specs.Segments.{WholeSegment}
 use Rattle.overlay_sweep.specs.EntryOf.{entry_of}
 use Rattle.overlay_sweep.specs.LiveOf.{row_sums, rows_in}
@@ -54,3 +55,30 @@ returns-clause-few g c = λ d high.
     let seen : all ≡ row_sums c.index.result.now = sym (ap (λ l. row_at l 0) gathered) ∙ row_read (λ r. row_sums r) items 0 c.index.result.now one c.index.ensures in
     let size : length c.entries-end.result.now ≡ length all = ap (λ l. length l) c.entries-end.ensures ∙ sym (length-map c.index.result.now.entries.items entry_of) ∙ sym (ap (λ l. length l) seen) in
     search_and_one c.search-at.new.compared (length all) d (subst (λ n. (c.search-at.new.compared ≡ 0) ⊎ (2 ^ c.search-at.new.compared ≤ 2 * n)) size c.search-at.ensures.few) c.requires.some high
+
+pub returns-in_err-gather-clause-keeps : goal.returns-in_err-gather-clause-keeps
+returns-in_err-gather-clause-keeps g c = IfOk-from_err c.from_residual.result _ c.from_residual.ensures.0
+
+pub returns-in_err-gather-clause-some : goal.returns-in_err-gather-clause-some
+returns-in_err-gather-clause-some g c = IfOk-from_err c.from_residual.result _ c.from_residual.ensures.0
+
+pub returns-in_err-gather-clause-index : goal.returns-in_err-gather-clause-index
+returns-in_err-gather-clause-index g c = IfOk-from_err c.from_residual.result _ c.from_residual.ensures.0
+
+pub returns-in_err-gather-clause-position : goal.returns-in_err-gather-clause-position
+returns-in_err-gather-clause-position g c = IfOk-from_err c.from_residual.result _ c.from_residual.ensures.0
+
+pub returns-in_err-gather-clause-few : goal.returns-in_err-gather-clause-few
+returns-in_err-gather-clause-few g c = IfOk-from_err c.from_residual.result _ c.from_residual.ensures.0
+
+pub index-requires : goal.index-requires
+index-requires g c = omega (arith, ap (λ l. length l) c.in_ok-gather.ensures.all, length-map c.gather.new.self.rows.items (λ r. row_sums r))
+
+pub index_mut-requires : goal.index_mut-requires
+index_mut-requires g c = omega (arith, ap (λ l. length l) c.in_ok-gather.ensures.all, length-map c.gather.new.self.rows.items (λ r. row_sums r))
+
+pub search-at-requires-clause-place : goal.search-at-requires-clause-place
+search-at-requires-clause-place g c = c.requires.place
+
+pub search-at-requires-clause-none : goal.search-at-requires-clause-none
+search-at-requires-clause-none g c = c.requires.none

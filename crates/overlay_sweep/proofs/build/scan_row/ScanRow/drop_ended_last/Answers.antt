@@ -52,3 +52,12 @@ returns-clause-last g c =
           inr (ap (λ n. lasts_past x (entries_of c.truncate.new.self.items) n) at ∙ ap (λ ks. lasts_past x ks (left - 1)) (ap (map entry_of) c.truncate.ensures.items ∙ sym (take-map entry_of left items)) ∙ last ∙ here))
       | else-loop-left-test w ↦ inl (omega (arith, size, w.loop-left-test.false))
     ]
+
+pub overflow_sub-left : goal.overflow_sub-left
+overflow_sub-left g c = omega (arith, c.loop-left-test.true)
+
+pub overflow_sub-left-in-loop-left : goal.overflow_sub-left-in-loop-left
+overflow_sub-left-in-loop-left g c = omega (arith, c.loop-left-test.true)
+
+pub loop-left-smaller : goal.loop-left-smaller
+loop-left-smaller g c = omega (arith, c.loop-left-test.true)

@@ -165,3 +165,51 @@ returns-clause-position g c = rw (sym (length-map c.loop-low.self.entries.items 
 
 pub returns-clause-few : goal.returns-clause-few
 returns-clause-few g c = c.loop-low.invariant.counting.few
+
+pub overflow_sub-middle : goal.overflow_sub-middle
+overflow_sub-middle g c = omega (arith, c.loop-low-test.true)
+
+pub index-entry-requires : goal.index-entry-requires
+index-entry-requires g c = omega (arith, c.loop-low-test.true, halving_within _ _ (entries_of c.loop-low.self.entries.items) c.loop-low.low c.loop-low.high c.loop-low.invariant.halving, length-map c.loop-low.self.entries.items entry_of)
+
+pub loop-low-smaller-then-is_before : goal.loop-low-smaller-then-is_before
+loop-low-smaller-then-is_before g c = omega (arith, c.loop-low-test.true)
+
+pub loop-low-smaller-else-is_before : goal.loop-low-smaller-else-is_before
+loop-low-smaller-else-is_before g c = omega (arith, c.loop-low-test.true)
+
+pub after_one_ended-behind-requires-clause-order : goal.after_one_ended-behind-requires-clause-order
+after_one_ended-behind-requires-clause-order g c = omega (arith, c.loop-low-test.true)
+
+pub after_one_ended-behind-requires-clause-within : goal.after_one_ended-behind-requires-clause-within
+after_one_ended-behind-requires-clause-within g c = omega (arith, halving_within _ _ (entries_of c.loop-low.self.entries.items) c.loop-low.low c.loop-low.high c.loop-low.invariant.halving, length-map c.loop-low.self.entries.items entry_of)
+
+pub loop-low-smaller-then-behind-high : goal.loop-low-smaller-then-behind-high
+loop-low-smaller-then-behind-high g c = omega (arith, c.loop-low-test.true)
+
+pub index-next-requires : goal.index-next-requires
+index-next-requires g c = omega (arith, c.after_one_ended-behind.ensures.within, c.if-behind-high.false, halving_within _ _ (entries_of c.loop-low.self.entries.items) c.loop-low.low c.loop-low.high c.loop-low.invariant.halving, length-map c.loop-low.self.entries.items entry_of)
+
+pub remove-requires : goal.remove-requires
+remove-requires g c = omega (arith, c.after_one_ended-behind.ensures.within, c.if-behind-high.false, halving_within _ _ (entries_of c.loop-low.self.entries.items) c.loop-low.low c.loop-low.high c.loop-low.invariant.halving, length-map c.loop-low.self.entries.items entry_of)
+
+pub overflow_sub-high : goal.overflow_sub-high
+overflow_sub-high g c = omega (arith, c.loop-low-test.true)
+
+pub loop-low-smaller-then-not-lasts_past : goal.loop-low-smaller-then-not-lasts_past
+loop-low-smaller-then-not-lasts_past g c = omega (arith, c.loop-low-test.true)
+
+pub loop-low-smaller-then-is_before-2 : goal.loop-low-smaller-then-is_before-2
+loop-low-smaller-then-is_before-2 g c = omega (arith, c.loop-low-test.true, c.after_one_ended-behind.ensures.order, c.after_one_ended-behind.ensures.within, c.if-behind-high.false)
+
+pub loop-low-smaller : goal.loop-low-smaller
+loop-low-smaller g c = omega (arith, c.loop-low-test.true)
+
+pub returns-clause-kept : goal.returns-clause-kept
+returns-clause-kept g c = c.loop-low.invariant.kept
+
+pub returns-clause-begun : goal.returns-clause-begun
+returns-clause-begun g c = c.loop-low.invariant.begun
+
+pub returns-clause-fewer : goal.returns-clause-fewer
+returns-clause-fewer g c = c.loop-low.invariant.fewer
