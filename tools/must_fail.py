@@ -69,6 +69,16 @@ def link_or_copy(one, other):
         shutil.copy2(one, other)
 
 
+def path_of(crate, module, found):
+    """Returns the path of a function as the prover names it: a type has its arguments where only an impl of some has the function."""
+    kind, _, name = (found or "").rpartition("::")
+    proofs = TOP / "crates" / crate / "proofs"
+    impls = sorted((proofs / pathlib.Path(*module.split("::"))).glob(f"{kind}+*/{name}")) if kind else []
+    if len(impls) == 1 and not impls[0].parent.with_name(kind).joinpath(name).exists():
+        return "::".join(impls[0].relative_to(proofs).parts)
+    return "::".join(filter(None, (module, found)))
+
+
 def has_body(lines):
     """Returns whether the function that begins these lines has a body: a trait declares some without."""
     return next((line.endswith("{") for line in lines if line.endswith(("{", ";"))), False)
@@ -81,7 +91,7 @@ def functions_of(crate):
         lines = text.split("\n")
         for at, line in enumerate(lines):
             if FUNCTION.match(line) and has_body(lines[at:]):
-                yield "::".join(filter(None, (module_of(file), function_at(text, at + 1))))
+                yield path_of(crate.name, module_of(file), function_at(text, at + 1))
 
 
 class Edit:
@@ -134,7 +144,7 @@ class Edit:
             self.functions.add((module, found.split("::")[-1]))
         else:
             self.is_alone = True
-        self.paths["::".join(filter(None, (module, found)))] = module
+        self.paths[path_of(self.crate, module, found)] = module
 
     def fits_beside(self, other):
         """Returns whether both can be tried in one round."""

@@ -118,7 +118,7 @@ returns-clause-within g c =
     let pieces = pieces_are c.args.placing c.args.list.now.items c.as_slice.result.now marks.items c.as_slice.ensures.value c.in-Ok.ensures.marks (vec_len c.args.list.now) c.len.result (vec_len marks) c.len-2.result c.args.list.now.ok.0 c.len.ensures marks.ok.0 c.len-2.ensures in
     subst (λ n. n ≤ c.args.limit) pieces c.if-len-limit.false
 
--- ---- what holds of a result of the other kind, and what stays as it was
+-- what holds of a result of the other kind, and what stays as it was
 
 pub returns-in-Err-clause-geometry : goal.returns-in-Err-clause-geometry
 returns-in-Err-clause-geometry g c = tt

@@ -262,9 +262,9 @@ returns-in_err-progress-2-clause-store_made g c =
 pub returns-clause-store_made : goal.returns-clause-store_made
 returns-clause-store_made g c = made_so_far _ _ _ _ _ _ c.loop-progress.invariant.at.store_is
 
--- ---- what holds of a result of the other kind, and what stays as it was
+-- what holds of a result of the other kind, and what stays as it was
 
--- of a refusal, a fact that does not tell which
+-- a fact of every refusal
 of_refusal : {T E : Type 0} (Q : Type 0) (r : Result T E) → Q → OnErr r Q
 of_refusal Q (Ok x) q = tt
 of_refusal Q (Err e) q = q
