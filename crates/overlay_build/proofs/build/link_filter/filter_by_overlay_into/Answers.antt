@@ -1,5 +1,5 @@
 use Rattle.std.proofs.lemmas.List.{take_all}
-use Rattle.std.proofs.Common.{refl}
+use Rattle.std.proofs.Common.{arith, refl}
 use Rattle.overlay_build.proofs.build.link_filter.filter_by_overlay_into.Goals as goal
 
 pub returns-clause-states : goal.returns-clause-states
@@ -9,9 +9,6 @@ returns-clause-states g c =
 
 pub bounds-links-link-index : goal.bounds-links-link-index
 bounds-links-link-index g c = c.loop-link-test.true
-
-pub returns-then-is_err-clause-emptied : goal.returns-then-is_err-clause-emptied
-returns-then-is_err-clause-emptied g c = c.clear-then-is_err.ensures.items
 
 pub returns-then-is_err-clause-states : goal.returns-then-is_err-clause-states
 returns-then-is_err-clause-states g c = tt
@@ -24,3 +21,6 @@ returns-clause-fault g c = tt
 
 pub returns-clause-emptied : goal.returns-clause-emptied
 returns-clause-emptied g c = tt
+
+pub returns-then-is_err-clause-emptied : goal.returns-then-is_err-clause-emptied
+returns-then-is_err-clause-emptied g c = grind arith

@@ -1,4 +1,4 @@
-use Rattle.std.proofs.Common.{◌∙◌, ap, ap₂, sym, arith, true, ◌&&◌, ◌∷◌, ◌++◌, [], length, length-append, map, take, drop, List, ℕ}
+use Rattle.std.proofs.Common.{◌≡◌, ◌∙◌, ap, ap₂, sym, arith, true, ◌&&◌, ◌∷◌, ◌++◌, [], length, length-append, map, take, drop, List, ℕ}
 use Rattle.std.specs.List.{list_all}
 use Rattle.std.proofs.lemmas.List.{map-append, length-map, take_all}
 use Rattle.std.proofs.lemmas.List.Folds.{list_all-append}
@@ -51,12 +51,12 @@ bounds-degrees-degree-index g c = c.loop-degree-test.true
 pub returns-clause-form : goal.returns-clause-form
 returns-clause-form g c = c.loop-degree.invariant.1
 
-pub loop-degree-init : goal.loop-degree-init
-loop-degree-init g c =
-    let none = c.in_ok-reserve.ensures.items ∙ c.clear.ensures.items in
-    (λ lists laid. (ap (map g.N.GraphNode.indexes) none, laid.1), ap (list_all g.N.GraphNode.is_canonical) none)
-
 pub returns-clause-nodes : goal.returns-clause-nodes
 returns-clause-nodes g c = λ lists laid.
     let long = ap length laid.0 ∙ length-map lists (λ (l : List ℕ). length l) in
     (c.loop-degree.invariant.0 lists laid).0 ∙ take_all c.loop-degree.degree-index lists (rw (sym long) c.loop-degree-test.false)
+
+pub loop-degree-init : goal.loop-degree-init
+loop-degree-init g c =
+    let none : c.reserve.new.self.items ≡ [] = grind arith in
+    (λ lists laid. (ap (map g.N.GraphNode.indexes) none, laid.1), ap (list_all g.N.GraphNode.is_canonical) none)
