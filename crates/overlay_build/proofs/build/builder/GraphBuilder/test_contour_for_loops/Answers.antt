@@ -1,4 +1,4 @@
-use Rattle.std.proofs.Common.{arith, ◌∙◌, ap, map}
+use Rattle.std.proofs.Common.{◌∙◌, ap, map}
 use Rattle.overlay_geometry.specs.Points.{point_eq}
 use Rattle.overlay_geometry.specs.Sorting.{has_repeat}
 use Rattle.std.proofs.lemmas.List.Sorted.{IsPermutation-map}
@@ -12,12 +12,3 @@ returns-in-Ok-clause-loops g c =
     let at = point_of g.I.OverlayInt.whole in
     c.has_equal_neighbors.ensures ∙ ap (λ xs. has_repeat point_eq (map at xs)) c.deref.ensures.value
     ∙ has_repeat-IsPermutation point_cmp_total (map at c.args.contour.now) (map at c.sort_into.new.buffer.items) (IsPermutation-map at _ _ c.in-Ok.ensures.permutation)
-
-pub returns-in-Err-clause-loops : goal.returns-in-Err-clause-loops
-returns-in-Err-clause-loops g c = tt
-
-pub returns-in-Ok-clause-emptied : goal.returns-in-Ok-clause-emptied
-returns-in-Ok-clause-emptied g c = tt
-
-pub returns-in-Err-clause-emptied : goal.returns-in-Err-clause-emptied
-returns-in-Err-clause-emptied g c = grind arith
