@@ -11,6 +11,7 @@ use Rattle.overlay_build.specs.Graph.{without_nodes}
 use Rattle.overlay_build.specs.steps.LinkRules.{keeps_by}
 use Rattle.overlay_build.proofs.laws.graphs.NodeLists.{rest-next}
 use Rattle.overlay_build.proofs.laws.graphs.KeptLinks.{kept_more, kept_skip, kept_over, fill_in, filled_in, fill_at, kept_are_filled, kept_data}
+use Rattle.std.proofs.lemmas.Result.{IfOk-from_err}
 use Rattle.overlay_build.proofs.build.kept_links.collect_links.Goals as goal
 use Rattle.overlay_build.proofs.build.kept_links.collect_links.Goals.{then-is_kept+in_ok-push, else-is_kept}
 
@@ -49,3 +50,21 @@ pub returns-clause-data : goal.returns-clause-data
 returns-clause-data g c = λ fill_rule e.
     kept_over _ _ _ _ _ (drop_all c.loop-index.index c.args.segments.now c.loop-index-test.false) (c.loop-index.invariant fill_rule e).1
     ∙ kept_data segment_of data_segment_of (λ x. refl) (keeps_by c.args.rule) fill_rule c.args.segments.now
+
+pub returns-in_err-reserve-clause-kept : goal.returns-in_err-reserve-clause-kept
+returns-in_err-reserve-clause-kept g c = IfOk-from_err c.from_residual.result _ c.from_residual.ensures.0
+
+pub returns-in_err-reserve-clause-data : goal.returns-in_err-reserve-clause-data
+returns-in_err-reserve-clause-data g c = IfOk-from_err c.from_residual.result _ c.from_residual.ensures.0
+
+pub returns-in_err-push-clause-kept : goal.returns-in_err-push-clause-kept
+returns-in_err-push-clause-kept g c = IfOk-from_err c.from_residual-in_err-push.result _ c.from_residual-in_err-push.ensures.0
+
+pub returns-in_err-push-clause-data : goal.returns-in_err-push-clause-data
+returns-in_err-push-clause-data g c = IfOk-from_err c.from_residual-in_err-push.result _ c.from_residual-in_err-push.ensures.0
+
+pub bounds-segments-index : goal.bounds-segments-index
+bounds-segments-index g c = c.loop-index-test.true
+
+pub bounds-fills-index : goal.bounds-fills-index
+bounds-fills-index g c = rw c.requires c.loop-index-test.true

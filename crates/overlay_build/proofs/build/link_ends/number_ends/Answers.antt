@@ -1,4 +1,4 @@
-use Rattle.std.proofs.Common.{◌≡◌, ◌∙◌, ap, sym, subst, ℕ, ◌<◌, length, take, get_or, if◌then◌else◌, List, arith}
+use Rattle.std.proofs.Common.{◌≡◌, ◌∙◌, ap, sym, subst, ℕ, ◌<◌, length, take, get_or, if◌then◌else◌, List, refl}
 use Rattle.std.proofs.lemmas.List.{get_or_default, length-set, take_more, take_all}
 use Rattle.overlay_geometry.specs.InRange.{IsPointInRange}
 use Rattle.overlay_geometry.specs.Points.{Point, point_eq}
@@ -39,9 +39,19 @@ loop-index-preserved g c =
     ]
 
 pub bounds-links-index : goal.bounds-links-index
-bounds-links-index g c = grind arith
+bounds-links-index g c =
+    rw c.loop-index.invariant.0 (c.requires.within c.loop-index.index-index 0 c.loop-index-test.true)
 
 pub returns-clause-links : goal.returns-clause-links
 returns-clause-links g c =
     let all = take_all c.loop-index.index-index c.args.indices.now c.loop-index-test.false in
     rw all at c.loop-index.invariant.1
+
+pub bounds-indices-index-index : goal.bounds-indices-index-index
+bounds-indices-index-index g c = c.loop-index-test.true
+
+pub loop-index-init : goal.loop-index-init
+loop-index-init g c = (refl, λ k d l. refl)
+
+pub returns-clause-length : goal.returns-clause-length
+returns-clause-length g c = c.loop-index.invariant.0

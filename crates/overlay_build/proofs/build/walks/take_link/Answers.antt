@@ -102,3 +102,6 @@ next_unused-place-requires-clause-within g c =
 
 pub bounds-cursors-node-2 : goal.bounds-cursors-node-2
 bounds-cursors-node-2 g c = subst (λ n. c.args.node < n) (sym (c.requires.passed.each ∙ length-map c.args.graph.now.nodes.now indexes_of)) c.requires.node
+
+pub returns-clause-used : goal.returns-clause-used
+returns-clause-used g c = refl

@@ -15,4 +15,4 @@ graph-requires g c =
 
 pub returns : goal.returns
 unfolding graph_by data_by
-returns g c = (search rules, record { graph = search rules; edge_data = search rules; in_range = search rules; out_of_range = search rules; compared = rw c.graph.ensures.compared c.in_ok-build.ensures.compared; after = search rules })
+returns g c = (search rules, record { graph = rw (c.graph.ensures.nodes, c.graph.ensures.links) c.in_ok-build.ensures.graph; edge_data = rw c.graph.ensures.links c.in_ok-build.ensures.edge_data; in_range = c.in_ok-build.ensures.in_range; out_of_range = tt; compared = rw c.graph.ensures.compared c.in_ok-build.ensures.compared; after = search rules })

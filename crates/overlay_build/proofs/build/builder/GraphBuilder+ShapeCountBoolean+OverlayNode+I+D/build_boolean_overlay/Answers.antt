@@ -24,7 +24,7 @@ returns g c =
     let segments = segments_of c.args.segments.now in
     let is = ap (graph_with whole) c.graph.ensures.links ∙ graph_with_kept indexes_of is_canonical_node whole _ _ keeps c.args.fill_rule segments c.in_ok-build.ensures.graph in
     let balanced = arranged_overlay _ _ (holds c.args.overlay_rule) c.args.fill_rule segments c.requires.arranged (polygons_from segment_of (λ s. refl) c.args.segments.now) in
-    (search rules, record { graph = search rules; edge_data = search rules; balanced = balanced; even = λ balance. rw is (balanced balance).even; in_range = search rules; out_of_range = search rules; compared = rw c.graph.ensures.compared c.in_ok-build.ensures.compared; after = search rules })
+    (search rules, record { graph = rw (c.graph.ensures.nodes, c.graph.ensures.links) c.in_ok-build.ensures.graph; edge_data = rw c.graph.ensures.links c.in_ok-build.ensures.edge_data; balanced = balanced; even = λ balance. rw is (balanced balance).even; in_range = c.in_ok-build.ensures.in_range; out_of_range = tt; compared = rw c.graph.ensures.compared c.in_ok-build.ensures.compared; after = search rules })
 
 pub returns-in_err-build : goal.returns-in_err-build
-returns-in_err-build g c = ((refl, λ _. tt, (IfOk-from_err c.from_residual.result _ (search rules), search rules)), record { graph = search rules; edge_data = search rules; balanced = arranged_overlay _ _ (holds c.args.overlay_rule) c.args.fill_rule (segments_of c.args.segments.now) c.requires.arranged (polygons_from segment_of (λ s. refl) c.args.segments.now); even = search rules; in_range = search rules; out_of_range = search rules; compared = search rules; after = search rules })
+returns-in_err-build g c = ((refl, λ _. tt, (IfOk-from_err c.from_residual.result _ c.from_residual.ensures.0, search rules)), record { graph = IfOk-from_err c.from_residual.result _ c.from_residual.ensures.0; edge_data = IfOk-from_err c.from_residual.result _ c.from_residual.ensures.0; balanced = arranged_overlay _ _ (holds c.args.overlay_rule) c.args.fill_rule (segments_of c.args.segments.now) c.requires.arranged (polygons_from segment_of (λ s. refl) c.args.segments.now); even = IfOk-from_err c.from_residual.result _ c.from_residual.ensures.0; in_range = IfOk-from_err c.from_residual.result _ c.from_residual.ensures.0; out_of_range = search rules; compared = IfOk-from_err c.from_residual.result _ c.from_residual.ensures.0; after = search rules })

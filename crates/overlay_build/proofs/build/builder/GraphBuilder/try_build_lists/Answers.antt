@@ -4,6 +4,7 @@ use Rattle.overlay_build.specs.Graph.{Graph}
 use Rattle.overlay_build.specs.GraphOf.{HoldLists}
 use Rattle.overlay_build.specs.steps.LinkRules.{keeps_by}
 use Rattle.overlay_build.proofs.laws.graphs.BuiltGraphs.{kept_graph, links_are_ordered, links_are_sorted, links_are_in_range}
+use Rattle.std.proofs.lemmas.Result.{IfOk-from_err}
 use Rattle.overlay_build.proofs.build.builder.GraphBuilder.try_build_lists.Goals as goal
 
 pub connect_links-requires-clause-sorted : goal.connect_links-requires-clause-sorted
@@ -26,3 +27,30 @@ returns-clause-graph g c =
     let kept = c.in_ok-collect_links.ensures.kept c.args.fill_rule (c.as_slice-fills.ensures.value ∙ c.in_ok-find_fills.ensures.fills) in
     let same = kept_graph g.I.OverlayInt.whole _ (keeps_by c.args.rule) c.args.fill_rule (segments_of c.args.segments.now) kept in
     subst (λ (graph : Graph). OnOk c.connect_links.result (HoldLists g.I.OverlayInt.whole c.connect_links.new.links.items c.connect_links.new.degrees.items c.connect_links.new.indexes.items graph)) same c.connect_links.ensures.graph
+
+pub returns-in_err-find_fills-clause-graph : goal.returns-in_err-find_fills-clause-graph
+returns-in_err-find_fills-clause-graph g c = IfOk-from_err c.from_residual.result _ c.from_residual.ensures.0
+
+pub returns-in_err-find_fills-clause-edge_data : goal.returns-in_err-find_fills-clause-edge_data
+returns-in_err-find_fills-clause-edge_data g c = IfOk-from_err c.from_residual.result _ c.from_residual.ensures.0
+
+pub returns-in_err-find_fills-clause-in_range : goal.returns-in_err-find_fills-clause-in_range
+returns-in_err-find_fills-clause-in_range g c = IfOk-from_err c.from_residual.result _ c.from_residual.ensures.0
+
+pub returns-in_err-find_fills-clause-compared : goal.returns-in_err-find_fills-clause-compared
+returns-in_err-find_fills-clause-compared g c = IfOk-from_err c.from_residual.result _ c.from_residual.ensures.0
+
+pub returns-in_err-collect_links-clause-graph : goal.returns-in_err-collect_links-clause-graph
+returns-in_err-collect_links-clause-graph g c = IfOk-from_err c.from_residual-in_err-collect_links.result _ c.from_residual-in_err-collect_links.ensures.0
+
+pub returns-in_err-collect_links-clause-edge_data : goal.returns-in_err-collect_links-clause-edge_data
+returns-in_err-collect_links-clause-edge_data g c = IfOk-from_err c.from_residual-in_err-collect_links.result _ c.from_residual-in_err-collect_links.ensures.0
+
+pub returns-in_err-collect_links-clause-in_range : goal.returns-in_err-collect_links-clause-in_range
+returns-in_err-collect_links-clause-in_range g c = IfOk-from_err c.from_residual-in_err-collect_links.result _ c.from_residual-in_err-collect_links.ensures.0
+
+pub returns-in_err-collect_links-clause-compared : goal.returns-in_err-collect_links-clause-compared
+returns-in_err-collect_links-clause-compared g c = IfOk-from_err c.from_residual-in_err-collect_links.result _ c.from_residual-in_err-collect_links.ensures.0
+
+pub find_fills-requires : goal.find_fills-requires
+find_fills-requires g c = record { arranged = c.requires.arranged }

@@ -1,0 +1,5 @@
+use Rattle.std.proofs.Common.{arith}
+use Rattle.overlay_build.proofs.build.builder.GraphBuilder.links.Goals as goal
+
+pub returns : goal.returns
+returns g c = grind arith

@@ -1,0 +1,5 @@
+use Rattle.std.proofs.Common.{arith}
+use Rattle.overlay_build.proofs.build.string_graph.StringGraph.nodes.Goals as goal
+
+pub returns : goal.returns
+returns g c = grind arith
