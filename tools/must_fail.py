@@ -6,7 +6,7 @@
 `rt ci` and `rt must-fail` check a crate once for each edit. The prover reports the open goals of every function, so here the edits
 of a crate are tried together, no two of one function in a round. An edit whose goal is not seen there is tried again by itself, and
 so is an edit of a constant. The other functions of the crate are taken by their contracts: each has a hole in place of its proof,
-which `rt ci` checks. The libraries below a crate are those that `rt ci` or `rt check` left. With `--edits` the edits are
+which `rt ci` checks; an edit tried again has none. The libraries below a crate are those that `rt ci` or `rt check` left. With `--edits` the edits are
 FOLDER/CRATE/*.edit. With `--proved` the edits of a crate wait until the folder has a file of the name of each library below it: so the
 gate tries edits while it proves.
 
@@ -103,6 +103,8 @@ class Edit:
         self.refused_by = {name: re.findall(r"\w[\w ]*", said) for name, said in REFUSED_BY.findall(path.read_text(encoding="utf-8"))}
         self.named = {name.split("::")[-1] for name in self.refused_by}
         self.is_alone = False
+        # whether it is tried over the proofs of all functions, since it was not refused over their contracts
+        self.is_over_proofs = False
         # by module and name, and by the name that the prover takes, with the module beside it
         self.functions, self.paths = set(), {}
         self.goal = self.said = None
@@ -211,7 +213,7 @@ class Trial:
         """Returns the texts that edits change, and what the check of a copy with these says."""
         with tempfile.TemporaryDirectory(prefix="must-fail-") as room:
             texts = self.copy_with(edits, room)
-            if not any(edit.is_alone for edit in edits):
+            if not any(edit.is_alone or edit.is_over_proofs for edit in edits):
                 self.put_holes({path for edit in edits for path in edit.paths}, room)
             if self.kept:
                 shutil.copytree(self.kept.name, f"{room}/kept", copy_function=link_or_copy)
@@ -317,7 +319,10 @@ def try_all(trials, marks, start):
         seen = [edit for edit in edits if edit.goal]
         took = time.time() - begun
         print(f"{time.time() - start:5.0f} s: {trial.crate.name}: {len(seen)} of {len(edits)} edits refused in {took:.0f} s", flush=True)
-        return [(trial, [edit]) for edit in edits if not edit.goal] if len(edits) > 1 else []
+        again = [edit for edit in edits if not edit.goal and not edit.is_over_proofs]
+        for edit in again:
+            edit.is_over_proofs = True
+        return [(trial, [edit]) for edit in again]
 
     running = set()
     with ThreadPoolExecutor(run.processors()) as lanes:
