@@ -112,7 +112,11 @@ impl Overlay {
     }
 
     /// The error of the first point out of range, of a polygon or of a line.
-    fn check_ranges<C: AsRef<[IntPoint]>, L: AsRef<[IntPoint]>>(&self, polygons: &[C], lines: &[L]) -> Result<(), Error> {
+    fn check_ranges<C: AsRef<[IntPoint]>, L: AsRef<[IntPoint]>>(
+        &self,
+        polygons: &[C],
+        lines: &[L],
+    ) -> Result<(), Error> {
         for (contour, points) in polygons.iter().enumerate() {
             if let Some((point, fault)) = range_error(points.as_ref(), self.width) {
                 return Err(Error::Point { shape_type: ShapeType::Subject, contour, point, fault });

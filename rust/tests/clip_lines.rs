@@ -64,8 +64,18 @@ fn parts_are_where_the_winding_says() {
     for round in 0..2000 {
         let span = [400, 4000, 1_000_000][round % 3];
         let count = random.below(5);
-        let contours: Vec<_> = (0..count).map(|_| { let corners = 3 + random.below(4); points(&mut random, corners, span) }).collect();
-        let lines: Vec<_> = (0..3).map(|_| { let corners = random.below(5); points(&mut random, corners, span) }).collect();
+        let contours: Vec<_> = (0..count)
+            .map(|_| {
+                let corners = 3 + random.below(4);
+                points(&mut random, corners, span)
+            })
+            .collect();
+        let lines: Vec<_> = (0..3)
+            .map(|_| {
+                let corners = random.below(5);
+                points(&mut random, corners, span)
+            })
+            .collect();
         let (fill, invert) = (fills[random.below(4) as usize], random.below(2) == 0);
         let rule = ClipRule { invert, boundary_included: random.below(2) == 0 };
         let found = overlay.clip_lines(&contours, &lines, rule, fill).unwrap();
@@ -88,7 +98,10 @@ fn parts_are_where_the_winding_says() {
                     if others.any(|it| is_near(place, scaled(it[0]), scaled(it[1]), FAR * PARTS)) {
                         continue;
                     }
-                    assert_eq!(is_there, wanted, "round {round}, line {line}, {place:?} of {contours:?}, {lines:?}, {fill:?}, {rule:?}");
+                    assert_eq!(
+                        is_there, wanted,
+                        "round {round}, line {line}, {place:?} of {contours:?}, {lines:?}, {fill:?}, {rule:?}"
+                    );
                     tried += 1;
                 }
             }
@@ -101,13 +114,22 @@ fn parts_are_where_the_winding_says() {
 fn parts_run_along_their_line() {
     let square = [[0, 0], [10, 0], [10, 10], [0, 10]].map(IntPoint::from);
     let line = |points: &[[i32; 2]]| points.iter().copied().map(IntPoint::from).collect::<Vec<_>>();
-    let lines = [line(&[[20, 5], [-5, 5]]), line(&[[5, 20], [5, -20]]), line(&[[2, 2], [4, 2], [4, 2], [4, 30]]), line(&[[1, 1]]), line(&[])];
+    let lines = [
+        line(&[[20, 5], [-5, 5]]),
+        line(&[[5, 20], [5, -20]]),
+        line(&[[2, 2], [4, 2], [4, 2], [4, 30]]),
+        line(&[[1, 1]]),
+        line(&[]),
+    ];
     let mut overlay = Overlay::new().unwrap();
     let mut parts = |invert| {
         let rule = ClipRule { invert, boundary_included: false };
         overlay.clip_lines(&[square], &lines, rule, FillRule::NonZero).unwrap()
     };
-    assert_eq!(parts(false), [(0, line(&[[10, 5], [0, 5]])), (1, line(&[[5, 10], [5, 0]])), (2, line(&[[2, 2], [4, 2], [4, 10]]))]);
+    assert_eq!(
+        parts(false),
+        [(0, line(&[[10, 5], [0, 5]])), (1, line(&[[5, 10], [5, 0]])), (2, line(&[[2, 2], [4, 2], [4, 10]]))]
+    );
     let outside = [
         (0, line(&[[20, 5], [10, 5]])),
         (0, line(&[[0, 5], [-5, 5]])),
@@ -126,8 +148,14 @@ fn points_out_of_range_are_named() {
     let refused = overlay.clip_lines(&[[near]], &[vec![near], vec![near, far]], ClipRule::default(), FillRule::NonZero);
     assert_eq!(refused, Err(Error::Line { line: 1, point: 1, fault }));
     assert_eq!(refused.unwrap_err().to_string(), "line 1, point 1: y is 1073741824, the greatest is 1073741823");
-    assert!(matches!(overlay.clip_lines(&[[far]], &[[near]], ClipRule::default(), FillRule::NonZero), Err(Error::Point { .. })));
+    assert!(matches!(
+        overlay.clip_lines(&[[far]], &[[near]], ClipRule::default(), FillRule::NonZero),
+        Err(Error::Point { .. })
+    ));
     let mut overlay = overlay.with_engine(Engine::I16);
     let wide = IntPoint::new(16_384, 0);
-    assert!(matches!(overlay.clip_lines(&[[near]], &[[wide]], ClipRule::default(), FillRule::NonZero), Err(Error::Line { .. })));
+    assert!(matches!(
+        overlay.clip_lines(&[[near]], &[[wide]], ClipRule::default(), FillRule::NonZero),
+        Err(Error::Line { .. })
+    ));
 }

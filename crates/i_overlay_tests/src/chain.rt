@@ -1,6 +1,6 @@
 // A chain of two overlays: the union of two squares, given again as the subject of a difference.
 use i_overlay::prelude::*;
-use std::process::Abort;
+use std::alloc::Global;
 use std::test::Fail;
 
 type Side = Segment<ShapeCountBoolean, i32, ()>;
@@ -41,76 +41,59 @@ fn row(side: &Side) -> Row {
     ((a.x, a.y), (b.x, b.y), count.subj, count.clip)
 }
 
-/// Adds a side from one corner to another.
-fn add_side(
-    rt: &impl Abort,
-    list: &mut Vec<Side>,
-    from: (i32, i32),
-    to: (i32, i32),
-    shape: ShapeType,
-) -> Result<(), Fail> {
-    let (a, b) = (IntPoint::new(from.0, from.1), IntPoint::new(to.0, to.1));
-    let side = Segment::try_ab_and_data(a, b, shape, (), &mut ());
-    list.push(side.expect(rt, "two corners"))?;
-    Ok(())
-}
-
 /// Adds the sides of a square, run counterclockwise.
-fn add_square(
-    rt: &impl Abort,
-    list: &mut Vec<Side>,
-    low: i32,
-    high: i32,
-    shape: ShapeType,
-) -> Result<(), Fail> {
-    add_side(rt, list, (low, low), (high, low), shape)?;
-    add_side(rt, list, (high, low), (high, high), shape)?;
-    add_side(rt, list, (high, high), (low, high), shape)?;
-    add_side(rt, list, (low, high), (low, low), shape)
-}
-
-/// Wants these sides.
-fn expect_sides(
-    rt: &(impl Abort + AllocGlobal),
-    sides: &[Side],
-    wanted: &[Row],
-) -> Result<(), Fail> {
-    let rows: Vec<Row> = sides.iter().map(row).collect(rt.alloc())?;
-    assert_eq!(rt; rows.as_slice(), wanted);
+fn add_square(list: &mut Vec<Side>, low: i32, high: i32, shape: ShapeType) -> Result<(), Fail> {
+    let corners = [(low, low), (high, low), (high, high), (low, high)].map(|(x, y)| IntPoint::new(
+        x, y,
+    ));
+    for (index, corner) in corners.iter().enumerate() {
+        let next = corners[(index + 1) % 4];
+        let side = Segment::try_ab_and_data(*corner, next, shape, (), &mut ());
+        list.push(side.ok_or("two corners")?)?;
+    }
     Ok(())
 }
 
 /// The boundary of what a rule holds of, as one shape.
 fn boundary_of(
-    rt: &(impl Abort + AllocGlobal),
+    alloc: Global,
     mut list: Vec<Side>,
     rule: OverlayRule,
     shape: ShapeType,
-) -> Vec<Side> {
-    assert!(rt; is_splittable(&list));
-    let mut splitter = SplitSolver::new(rt.alloc());
-    let mut builder = GraphBuilder::new(rt.alloc());
+) -> Result<Vec<Side>, Fail> {
+    if !is_splittable(&list) {
+        return Err(Fail::from("a side that is out of range"));
+    }
+    let mut splitter = SplitSolver::new(alloc);
+    let mut builder = GraphBuilder::new(alloc);
+    let (solver, fill_rule) = (&Solver::AUTO, FillRule::NonZero);
     let graph = split_and_build_overlay(
         &mut splitter,
         &mut builder,
         &mut list,
-        &Solver::AUTO,
-        FillRule::NonZero,
+        solver,
+        fill_rule,
         rule,
-    )
-    .expect(rt, "no refusal");
-    directed_segments(rt.alloc(), &graph, rule, shape).expect(rt, "memory")
+    )?;
+    Ok(directed_segments(alloc, &graph, rule, shape)?)
+}
+
+/// The rows of some sides.
+fn rows_of(alloc: Global, sides: &[Side]) -> Result<Vec<Row>, Fail> {
+    Ok(sides.iter().map(row).collect(alloc)?)
 }
 
 #[test]
 fn a_union_is_given_again_to_a_difference(rt: HostRuntime) -> Result<(), Fail> {
-    let mut list = Vec::new(rt.alloc());
-    add_square(&rt, &mut list, 0, 4, ShapeType::Subject)?;
-    add_square(&rt, &mut list, 2, 6, ShapeType::Clip)?;
-    let mut union = boundary_of(&rt, list, OverlayRule::Union, ShapeType::Subject);
-    expect_sides(&rt, &union, UNION.as_slice())?;
+    let alloc = rt.alloc();
+    let mut list = Vec::new(alloc);
+    add_square(&mut list, 0, 4, ShapeType::Subject)?;
+    add_square(&mut list, 2, 6, ShapeType::Clip)?;
+    let mut union = boundary_of(alloc, list, OverlayRule::Union, ShapeType::Subject)?;
+    assert!(rt; rows_of(alloc, &union)?.as_slice() == UNION.as_slice());
     assert!(rt; is_arranged(&union));
-    add_square(&rt, &mut union, 3, 7, ShapeType::Clip)?;
-    let difference = boundary_of(&rt, union, OverlayRule::Difference, ShapeType::Clip);
-    expect_sides(&rt, &difference, DIFFERENCE.as_slice())
+    add_square(&mut union, 3, 7, ShapeType::Clip)?;
+    let difference = boundary_of(alloc, union, OverlayRule::Difference, ShapeType::Clip)?;
+    assert!(rt; rows_of(alloc, &difference)?.as_slice() == DIFFERENCE.as_slice());
+    Ok(())
 }

@@ -4,8 +4,6 @@
 #[cfg(test)]
 mod chain;
 #[cfg(test)]
-mod clip;
-#[cfg(test)]
 mod contours;
 #[cfg(test)]
 mod library;
@@ -15,5 +13,3 @@ mod measure;
 mod overlay;
 #[cfg(test)]
 mod provenance;
-#[cfg(test)]
-mod shapes;

@@ -18,24 +18,22 @@ use overlay_split::split::finder::PairFinder;
 use overlay_split::split::pass::*;
 use std::alloc::Global;
 use std::process::Abort;
+use std::test::Fail;
 
 type Plain = Segment<ShapeCountBoolean, i32, ()>;
 
-/// A segment along which the subject winds so often.
-fn segment(rt: &impl Abort, [ax, ay, bx, by]: [i32; 4], subj: i32) -> Plain {
-    let (a, b) = (IntPoint::new(ax, ay), IntPoint::new(bx, by));
-    assert!(rt; a < b);
-    let count = ShapeCountBoolean::new(subj, 0);
-    Segment::create_and_validate_with_data(a, b, count, (), &mut ())
-}
-
-/// The segments of these ends.
-fn given(rt: &impl Abort, alloc: Global, ends: &[[i32; 4]], subj: i32) -> Vec<Plain> {
+/// The segments of these ends, along each of which the subject winds so often.
+fn given(alloc: Global, ends: &[[i32; 4]], subj: i32) -> Result<Vec<Plain>, Fail> {
     let mut list = Vec::new(alloc);
-    for ends in ends {
-        list.push(segment(rt, *ends, subj)).expect(rt, "memory");
+    let count = ShapeCountBoolean::new(subj, 0);
+    for [ax, ay, bx, by] in ends.iter().copied() {
+        let (a, b) = (IntPoint::new(ax, ay), IntPoint::new(bx, by));
+        if a == b || !count.is_valid() {
+            return Err(Fail::from("no segment"));
+        }
+        list.push(Segment::create_and_validate_with_data(a, b, count, (), &mut ()))?;
     }
-    list
+    Ok(list)
 }
 
 /// Sorts and merges segments.
@@ -64,14 +62,13 @@ fn joined_once(
 }
 
 /// A list as the tables write it: each segment's ends, and how often the subject winds along it.
-fn rows(rt: &impl Abort, alloc: Global, list: &[Plain]) -> Vec<[i32; 5]> {
+fn rows(alloc: Global, list: &[Plain]) -> Result<Vec<[i32; 5]>, Fail> {
     let mut rows = Vec::new(alloc);
     for segment in list {
         let XSegment { a, b } = segment.x_segment();
-        let row = [a.x, a.y, b.x, b.y, segment.count().subj];
-        rows.push(row).expect(rt, "memory");
+        rows.push([a.x, a.y, b.x, b.y, segment.count().subj])?;
     }
-    rows
+    Ok(rows)
 }
 
 const ROUNDED: Passed = Passed {
@@ -210,45 +207,31 @@ static PASSES: [Worked; 10] = [
 ];
 
 /// A pass that snaps within a radius, or one that settles.
-fn placing(rt: &impl Abort, radius: Option<i64>) -> Placing
+fn placing(radius: Option<i64>) -> Placing
     ensures { HasRadius result }
 {
     match radius {
-        Some(radius_squared) => {
-            assert!(rt; 1 <= radius_squared);
-            Placing::Snapping { radius_squared }
-        }
-        None => Placing::Settling,
-    }
-}
-
-/// Makes the pass of a row of the table.
-fn check_pass(rt: &(impl Abort + AllocGlobal), worked: &Worked) {
-    let (name, ends, radius, wanted, told) = *worked;
-    let mut list = given(rt, rt.alloc(), ends, 1);
-    let passed = joined_once(
-        rt,
-        rt.alloc(),
-        &mut list,
-        &Solver::LIST,
-        placing(rt, radius),
-    );
-    let found = rows(rt, rt.alloc(), &list);
-    assert_eq!(rt; (found.as_slice(), passed), (wanted, Ok(told)), "{name}");
-}
-
-#[test]
-fn worked_passes(rt: HostRuntime) {
-    for worked in PASSES.iter() {
-        check_pass(&rt, worked);
+        Some(radius_squared) if 1 <= radius_squared => Placing::Snapping { radius_squared },
+        _ => Placing::Settling,
     }
 }
 
 #[test]
-fn counts_of_pieces_that_leave_the_range(rt: HostRuntime) {
-    let alloc = rt.alloc();
-    let mut list = given(&rt, alloc, &[[0, 0, 4, 0], [2, 0, 6, 0]], i32::MAX);
-    let refused = joined_once(&rt, alloc, &mut list, &Solver::TREE, Placing::Settling);
+fn worked_passes(rt: HostRuntime) -> Result<(), Fail> {
+    for (name, ends, radius, wanted, told) in PASSES {
+        let mut list = given(rt.alloc(), ends, 1)?;
+        let passed = joined_once(&rt, rt.alloc(), &mut list, &Solver::LIST, placing(radius));
+        let found = rows(rt.alloc(), &list)?;
+        assert!(rt; found.as_slice() == wanted && passed == Ok(told), "{name}");
+    }
+    Ok(())
+}
+
+#[test]
+fn counts_of_pieces_that_leave_the_range(rt: HostRuntime) -> Result<(), Fail> {
+    let mut list = given(rt.alloc(), &[[0, 0, 4, 0], [2, 0, 6, 0]], i32::MAX)?;
+    let refused = joined_once(&rt, rt.alloc(), &mut list, &Solver::TREE, Placing::Settling);
     assert!(rt; refused == Err(Fault::CountOutOfRange));
     assert!(rt; list.is_empty());
+    Ok(())
 }

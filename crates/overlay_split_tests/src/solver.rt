@@ -1,4 +1,4 @@
-// Splits worked by hand, under each strategy and in both engines.
+// Splits with the hooks of a user, one splitter used several times, and how far splits move things.
 ghost use Rattle.std.specs.Prelude.{◌≡◌, ◌+◌, ◌&&◌, [], false, Ok, All, Option};
 ghost use Rattle.overlay_base.specs.declared.segm.fault.Fault.TheVariants.{CountOutOfRange};
 ghost use Rattle.overlay_base.specs.Segments.{pairs, ends};
@@ -17,575 +17,57 @@ use overlay_geometry::geom::x_segment::XSegment;
 use overlay_geometry::num::OverlayInt;
 use overlay_split::split::pass::pass;
 use overlay_split::split::solver::*;
+use std::alloc::Global;
 use std::process::Abort;
+use std::test::Fail;
 
-mod far_ends;
-mod hostile;
 mod long_lists;
 mod within;
 
-type Counted<I> = Segment<ShapeCountBoolean, I, ()>;
+type Counted = Segment<ShapeCountBoolean, i32, ()>;
 
 /// A segment as the tables write it: from, to, the count for the subject.
-type Row = ((i64, i64), (i64, i64), i32);
+type Row = ((i32, i32), (i32, i32), i32);
 
-static STRATEGIES: [Strategy; 4] = [
+const STRATEGIES: [Strategy; 4] = [
     Strategy::List,
     Strategy::Tree,
     Strategy::Frag,
     Strategy::Auto,
 ];
 
-const WIDE_START: Precision = Precision {
-    start: 3,
-    progression: 1,
-};
-
-const GREATEST: Precision = Precision {
-    start: usize::MAX,
-    progression: usize::MAX,
-};
-
-/// A name, the precision, the snap limit, what is given, the flag, the number of passes, and the list after the split.
-type Split = (
-    &'static str,
-    Precision,
-    u32,
-    &'static [Row],
-    Result<bool, Fault>,
-    u128,
-    &'static [Row],
-);
-
-static SPLITS: [Split; 23] = [
-    ("nothing", Precision::HIGH, 256, &[], Ok(false), 0, &[]),
-    (
-        "two that cancel",
-        Precision::HIGH,
-        256,
-        &[((0, 0), (3, 1), 1), ((0, 0), (3, 1), -1)],
-        Ok(true),
-        0,
-        &[],
-    ),
-    (
-        "a cross",
-        Precision::HIGH,
-        256,
-        &[((-2, 0), (2, 0), 1), ((0, -2), (0, 2), 1)],
-        Ok(true),
-        1,
-        &[
-            ((-2, 0), (0, 0), 1),
-            ((0, -2), (0, 0), 1),
-            ((0, 0), (0, 2), 1),
-            ((0, 0), (2, 0), 1),
-        ],
-    ),
-    (
-        "a crossing between whole points",
-        Precision::HIGH,
-        256,
-        &[((0, 0), (5, 5), 1), ((0, 3), (5, -2), 1)],
-        Ok(true),
-        2,
-        &[
-            ((0, 0), (2, 2), 1),
-            ((0, 3), (2, 2), 1),
-            ((2, 2), (5, -2), 1),
-            ((2, 2), (5, 5), 1),
-        ],
-    ),
-    (
-        "the same with an end within the radius",
-        WIDE_START,
-        256,
-        &[((0, 0), (5, 5), 1), ((0, 3), (5, -2), 1)],
-        Ok(true),
-        2,
-        &[
-            ((0, 0), (0, 3), 1),
-            ((0, 3), (5, -2), 1),
-            ((0, 3), (5, 5), 1),
-        ],
-    ),
-    (
-        "the same, settled from the first pass",
-        Precision::HIGH,
-        0,
-        &[((0, 0), (5, 5), 1), ((0, 3), (5, -2), 1)],
-        Ok(true),
-        2,
-        &[
-            ((0, 0), (2, 2), 1),
-            ((0, 3), (2, 2), 1),
-            ((2, 2), (5, -2), 1),
-            ((2, 2), (5, 5), 1),
-        ],
-    ),
-    (
-        "the same under the greatest precision",
-        GREATEST,
-        256,
-        &[((0, 0), (5, 5), 1), ((0, 3), (5, -2), 1)],
-        Ok(true),
-        2,
-        &[
-            ((0, 0), (0, 3), 1),
-            ((0, 3), (5, -2), 1),
-            ((0, 3), (5, 5), 1),
-        ],
-    ),
-    (
-        "a piece that is turned",
-        Precision::HIGH,
-        256,
-        &[((0, 0), (100, 1), 1), ((1, -50), (1, 50), 1)],
-        Ok(true),
-        2,
-        &[
-            ((0, 0), (1, -50), -1),
-            ((0, 0), (1, 50), 1),
-            ((0, 0), (100, 1), 1),
-        ],
-    ),
-    (
-        "the same, with one pass that snaps",
-        Precision::HIGH,
-        1,
-        &[((0, 0), (100, 1), 1), ((1, -50), (1, 50), 1)],
-        Ok(true),
-        2,
-        &[
-            ((0, 0), (1, -50), -1),
-            ((0, 0), (1, 50), 1),
-            ((0, 0), (100, 1), 1),
-        ],
-    ),
-    (
-        "the same, settled from the first pass",
-        Precision::HIGH,
-        0,
-        &[((0, 0), (100, 1), 1), ((1, -50), (1, 50), 1)],
-        Ok(true),
-        2,
-        &[
-            ((0, 0), (1, 0), 1),
-            ((1, -50), (1, 0), 1),
-            ((1, 0), (1, 50), 1),
-            ((1, 0), (100, 1), 1),
-        ],
-    ),
-    (
-        "a crossing that settles on an end",
-        Precision::HIGH,
-        0,
-        &[((0, -1), (1, 0), 1), ((0, 0), (1, -1), 1)],
-        Ok(true),
-        2,
-        &[
-            ((0, -1), (1, 0), 1),
-            ((0, 0), (1, 0), 1),
-            ((1, -1), (1, 0), -1),
-        ],
-    ),
-    (
-        "a crossing that settles upward",
-        Precision::HIGH,
-        0,
-        &[((-1, 1), (2, -2), 1), ((0, -1), (1, 0), 1)],
-        Ok(true),
-        2,
-        &[
-            ((-1, 1), (1, 0), 1),
-            ((0, -1), (1, 0), 1),
-            ((1, 0), (2, -2), 1),
-        ],
-    ),
-    (
-        "an overlap",
-        Precision::HIGH,
-        256,
-        &[
-            ((0, 0), (100, 0), 1),
-            ((80, 0), (150, 0), 1),
-            ((0, 1000), (150, 1000), 1),
-            ((0, 2000), (150, 2000), 1),
-        ],
-        Ok(true),
-        1,
-        &[
-            ((0, 0), (80, 0), 1),
-            ((0, 1000), (150, 1000), 1),
-            ((0, 2000), (150, 2000), 1),
-            ((80, 0), (100, 0), 2),
-            ((100, 0), (150, 0), 1),
-        ],
-    ),
-    (
-        "a right end that touches a vertical",
-        Precision::HIGH,
-        256,
-        &[
-            ((4, 0), (4, 6), 1),
-            ((0, 3), (4, 3), 1),
-            ((0, 100), (8, 100), 1),
-            ((0, 102), (8, 102), 1),
-        ],
-        Ok(true),
-        1,
-        &[
-            ((0, 3), (4, 3), 1),
-            ((0, 100), (8, 100), 1),
-            ((0, 102), (8, 102), 1),
-            ((4, 0), (4, 3), 1),
-            ((4, 3), (4, 6), 1),
-        ],
-    ),
-    (
-        "right ends on borders of columns",
-        Precision::HIGH,
-        256,
-        &[
-            ((4, 0), (4, 6), 1),
-            ((8, 0), (8, 6), 1),
-            ((0, 1), (4, 1), 1),
-            ((6, 3), (8, 3), 1),
-            ((0, 100), (8, 100), 1),
-            ((0, 102), (8, 102), 1),
-        ],
-        Ok(true),
-        1,
-        &[
-            ((0, 1), (4, 1), 1),
-            ((0, 100), (8, 100), 1),
-            ((0, 102), (8, 102), 1),
-            ((4, 0), (4, 1), 1),
-            ((4, 1), (4, 6), 1),
-            ((6, 3), (8, 3), 1),
-            ((8, 0), (8, 3), 1),
-            ((8, 3), (8, 6), 1),
-        ],
-    ),
-    (
-        "the same, moved to the left",
-        Precision::HIGH,
-        256,
-        &[
-            ((-7, 0), (-7, 6), 1),
-            ((-3, 0), (-3, 6), 1),
-            ((-11, 1), (-7, 1), 1),
-            ((-5, 3), (-3, 3), 1),
-            ((-11, 100), (-3, 100), 1),
-            ((-11, 102), (-3, 102), 1),
-        ],
-        Ok(true),
-        1,
-        &[
-            ((-11, 1), (-7, 1), 1),
-            ((-11, 100), (-3, 100), 1),
-            ((-11, 102), (-3, 102), 1),
-            ((-7, 0), (-7, 1), 1),
-            ((-7, 1), (-7, 6), 1),
-            ((-5, 3), (-3, 3), 1),
-            ((-3, 0), (-3, 3), 1),
-            ((-3, 3), (-3, 6), 1),
-        ],
-    ),
-    (
-        "the same, moved to the right",
-        Precision::HIGH,
-        256,
-        &[
-            ((11, 0), (11, 6), 1),
-            ((15, 0), (15, 6), 1),
-            ((7, 1), (11, 1), 1),
-            ((13, 3), (15, 3), 1),
-            ((7, 100), (15, 100), 1),
-            ((7, 102), (15, 102), 1),
-        ],
-        Ok(true),
-        1,
-        &[
-            ((7, 1), (11, 1), 1),
-            ((7, 100), (15, 100), 1),
-            ((7, 102), (15, 102), 1),
-            ((11, 0), (11, 1), 1),
-            ((11, 1), (11, 6), 1),
-            ((13, 3), (15, 3), 1),
-            ((15, 0), (15, 3), 1),
-            ((15, 3), (15, 6), 1),
-        ],
-    ),
-    (
-        "counts that are too large together",
-        Precision::HIGH,
-        256,
-        &[((0, 0), (4, 0), i32::MAX), ((0, 0), (4, 0), i32::MAX)],
-        Err(Fault::CountOutOfRange),
-        0,
-        &[],
-    ),
-    (
-        "an overlap whose sum is too large",
-        Precision::HIGH,
-        256,
-        &[((0, 0), (4, 0), i32::MAX), ((2, 0), (6, 0), 1)],
-        Err(Fault::CountOutOfRange),
-        0,
-        &[],
-    ),
-    (
-        "an overlap of a count and its opposite",
-        Precision::HIGH,
-        256,
-        &[((0, 0), (4, 0), i32::MAX), ((2, 0), (6, 0), -1)],
-        Ok(true),
-        1,
-        &[
-            ((0, 0), (2, 0), i32::MAX),
-            ((2, 0), (4, 0), i32::MAX - 1),
-            ((4, 0), (6, 0), -1),
-        ],
-    ),
-    (
-        "a running sum that is too large",
-        Precision::HIGH,
-        256,
-        &[
-            ((0, 0), (4, 0), i32::MAX),
-            ((0, 0), (4, 0), i32::MAX),
-            ((0, 0), (4, 0), -i32::MAX),
-        ],
-        Err(Fault::CountOutOfRange),
-        0,
-        &[],
-    ),
-    (
-        "the same counts in another order",
-        Precision::HIGH,
-        256,
-        &[
-            ((0, 0), (4, 0), i32::MAX),
-            ((0, 0), (4, 0), -i32::MAX),
-            ((0, 0), (4, 0), i32::MAX),
-        ],
-        Ok(true),
-        0,
-        &[((0, 0), (4, 0), i32::MAX)],
-    ),
-    (
-        "a crossing half way between two points",
-        Precision::HIGH,
-        256,
-        &[((0, 0), (100, 1), 1), ((0, 1), (100, 0), 1)],
-        Ok(true),
-        2,
-        &[
-            ((0, 0), (50, 1), 1),
-            ((0, 1), (50, 1), 1),
-            ((50, 1), (100, 0), 1),
-            ((50, 1), (100, 1), 1),
-        ],
-    ),
-];
-
-/// A coordinate of the engine.
-fn coordinate<I: OverlayInt>(rt: &impl Abort, number: i64) -> I {
-    assert!(rt; I::MIN_COORD.to_wide() <= number && number <= I::MAX_COORD.to_wide());
-    I::from_wide(number)
-}
-
-/// A point of the engine.
-fn point<I: OverlayInt>(rt: &impl Abort, (x, y): (i64, i64)) -> IntPoint<I> {
-    IntPoint::new(coordinate(rt, x), coordinate(rt, y))
-}
-
-/// The segment from a point to another with a valid count.
-fn counted<I: OverlayInt>(
-    rt: &impl Abort,
-    a: IntPoint<I>,
-    b: IntPoint<I>,
-    count: ShapeCountBoolean,
-) -> Counted<I> {
-    assert!(rt; a != b);
-    assert!(rt; count.is_valid());
-    Segment::create_and_validate_with_data(a, b, count, (), &mut ())
-}
-
-/// The segment of a row.
-fn segment<I: OverlayInt>(rt: &impl Abort, (a, b, subj): Row) -> Counted<I> {
-    counted(
-        rt,
-        point(rt, a),
-        point(rt, b),
-        ShapeCountBoolean::new(subj, 0),
-    )
+/// A segment with this count, or `None` where its ends are one point or the count is not valid.
+fn counted(a: (i32, i32), b: (i32, i32), subj: i32) -> Option<Counted> {
+    let (a, b) = (IntPoint::new(a.0, a.1), IntPoint::new(b.0, b.1));
+    let count = ShapeCountBoolean::new(subj, 0);
+    if a == b || !count.is_valid() {
+        return None;
+    }
+    Some(Segment::create_and_validate_with_data(a, b, count, (), &mut ()))
 }
 
 /// The segments of some rows.
-fn segments<I: OverlayInt>(rt: &(impl Abort + AllocGlobal), rows: &[Row]) -> Vec<Counted<I>> {
-    let mut list = Vec::new(rt.alloc());
-    for row in rows {
-        list.push(segment(rt, *row)).expect(rt, "memory");
+fn segments(alloc: Global, rows: &[Row]) -> Result<Vec<Counted>, Fail> {
+    let mut list = Vec::new(alloc);
+    for (a, b, subj) in rows {
+        list.push(counted(*a, *b, *subj).ok_or("no segment")?)?;
     }
-    list
-}
-
-/// A segment as the tables write it.
-fn row<I: OverlayInt>(segment: &Counted<I>) -> Row {
-    let ends = segment.x_segment();
-    let a = (ends.a.x.to_wide(), ends.a.y.to_wide());
-    let b = (ends.b.x.to_wide(), ends.b.y.to_wide());
-    (a, b, segment.count().subj)
+    Ok(list)
 }
 
 /// A list as the tables write it.
-fn rows<I: OverlayInt>(rt: &(impl Abort + AllocGlobal), list: &[Counted<I>]) -> Vec<Row> {
-    let mut rows = Vec::new(rt.alloc());
+fn rows(alloc: Global, list: &[Counted]) -> Result<Vec<Row>, Fail> {
+    let mut rows = Vec::new(alloc);
     for segment in list {
-        rows.push(row(segment)).expect(rt, "memory");
+        let XSegment { a, b } = segment.x_segment();
+        rows.push(((a.x, a.y), (b.x, b.y), segment.count().subj))?;
     }
-    rows
+    Ok(rows)
 }
 
 /// A solver that goes about its work by a strategy, at the precision that upstream takes.
 fn high(strategy: Strategy) -> Solver {
     Solver::with_strategy_and_precision(strategy, Precision::HIGH)
-}
-
-/// Splits a list that may be split.
-fn split_list<I: OverlayInt>(
-    rt: &impl Abort,
-    splitter: &mut SplitSolver<I>,
-    list: &mut Vec<Counted<I>>,
-    solver: &Solver,
-) -> Result<bool, Fault> {
-    assert!(rt; is_splittable(list));
-    splitter.split_segments(list, solver)
-}
-
-/// What a split returns, the number of passes, and the list after it.
-type Told = (Result<bool, Fault>, u128, Vec<Row>);
-
-/// Splits with a new splitter. What is left is arranged, also after a refusal, where it is empty.
-fn split_rows<I: OverlayInt>(
-    rt: &(impl Abort + AllocGlobal),
-    given: &[Row],
-    solver: &Solver,
-    limit: u32,
-) -> Told {
-    let mut list: Vec<Counted<I>> = segments(rt, given);
-    let mut splitter = SplitSolver::with_snap_limit(rt.alloc(), limit);
-    let flag = split_list(rt, &mut splitter, &mut list, solver);
-    assert!(rt; is_arranged(&list));
-    (flag, splitter.passes(), rows(rt, &list))
-}
-
-/// Wants of a split this flag, this number of passes and this list.
-fn check(rt: &impl Abort, name: &str, told: &Told, wanted: (Result<bool, Fault>, u128, &[Row])) {
-    assert_eq!(rt; (told.0, told.1, told.2.as_slice()), wanted, "{name}");
-}
-
-/// Splits as a row of the table says.
-fn check_split<I: OverlayInt>(rt: &(impl Abort + AllocGlobal), strategy: Strategy, split: &Split) {
-    let (name, precision, limit, given, flag, passes, rows) = *split;
-    let solver = Solver::with_strategy_and_precision(strategy, precision);
-    let told = split_rows::<I>(rt, given, &solver, limit);
-    check(rt, name, &told, (flag, passes, rows));
-}
-
-/// Splits as the table says, under each strategy.
-fn check_splits<I: OverlayInt>(rt: &(impl Abort + AllocGlobal)) {
-    for strategy in STRATEGIES {
-        for split in SPLITS.iter() {
-            check_split::<I>(rt, strategy, split);
-        }
-    }
-}
-
-#[test]
-fn splits(rt: HostRuntime) {
-    check_splits::<i16>(&rt);
-    check_splits::<i32>(&rt);
-}
-
-/// Three segments that are nearly parallel.
-static SLIVERS: [Row; 3] = [
-    ((282, 3), (1000, 0), 1),
-    ((143, 2), (886, 1), 1),
-    ((164, 2), (705, 1), 1),
-];
-
-/// The same with each x times a factor.
-fn slivers(rt: &(impl Abort + AllocGlobal), factor: i64) -> Vec<Row> {
-    let mut rows = Vec::new(rt.alloc());
-    for ((ax, ay), (bx, by), subj) in SLIVERS {
-        let (a, b) = ((ax.wrapping_mul(factor), ay), (bx.wrapping_mul(factor), by));
-        rows.push((a, b, subj)).expect(rt, "memory");
-    }
-    rows
-}
-
-/// Splits slivers: the number of passes, and of segments after.
-fn split_slivers(
-    rt: &(impl Abort + AllocGlobal),
-    factor: i64,
-    limit: u32,
-    solver: Solver,
-) -> (u128, usize) {
-    let (flag, passes, after) = split_rows::<i16>(rt, &slivers(rt, factor), &solver, limit);
-    assert!(rt; flag == Ok(true));
-    (passes, after.len())
-}
-
-/// Segments on one pair of ends, some of them given from right to left: the counts of the one that is left.
-type Joined = (&'static [((i32, i32), (i32, i32), i32, i32)], (i32, i32));
-
-static JOINED: [Joined; 2] = [
-    (
-        &[
-            ((1, 2), (3, 4), 1, 0),
-            ((1, 2), (3, 4), 0, 1),
-            ((1, 2), (3, 4), 2, 2),
-        ],
-        (3, 3),
-    ),
-    (&[((3, 4), (1, 2), 1, 0), ((1, 2), (3, 4), 0, 1)], (-1, 1)),
-];
-
-/// The segments of a row of the table.
-fn joined(rt: &(impl Abort + AllocGlobal), given: &Joined) -> Vec<Counted<i32>> {
-    let mut list = Vec::new(rt.alloc());
-    for ((ax, ay), (bx, by), subj, clip) in given.0.iter().copied() {
-        let (a, b) = (IntPoint::new(ax, ay), IntPoint::new(bx, by));
-        let segment = counted(rt, a, b, ShapeCountBoolean::new(subj, clip));
-        list.push(segment).expect(rt, "memory");
-    }
-    list
-}
-
-/// Wants one segment after the split.
-fn check_joined(rt: &(impl Abort + AllocGlobal), strategy: Strategy, given: &Joined) {
-    let mut list = joined(rt, given);
-    let mut splitter = SplitSolver::new(rt.alloc());
-    let flag = split_list(rt, &mut splitter, &mut list, &high(strategy));
-    assert!(rt; flag == Ok(true));
-    assert!(rt; list.len() == 1);
-    let (subj, clip) = given.1;
-    assert_eq!(rt;
-        (row(&list[0]), list[0].count().clip),
-        (((1, 2), (3, 4), subj), clip)
-    );
-}
-
-#[test]
-fn segments_on_one_pair(rt: HostRuntime) {
-    for strategy in STRATEGIES {
-        for given in JOINED.iter() {
-            check_joined(&rt, strategy, given);
-        }
-    }
 }
 
 /// Data of a user: a color by its number; a merge keeps equal ones and else returns that there is
@@ -669,81 +151,45 @@ type Colored = Segment<ShapeCountBoolean, i32, Colors>;
 /// A colored segment as the tests write it: from, to, the count for the subject and for the clip, the color.
 type ColoredRow = ((i32, i32), (i32, i32), i32, i32, Colors);
 
-/// A colored segment along the axis, 4 long.
-fn colored(rt: &impl Abort, from: i32, count: ShapeCountBoolean, colors: Colors) -> Colored {
-    let (a, b) = (
-        IntPoint::new(from, 0),
-        IntPoint::new(from.wrapping_add(4), 0),
-    );
-    assert!(rt; a != b);
-    assert!(rt; count.is_valid());
-    Segment::create_and_validate_with_data(a, b, count, colors, &mut Calls::default())
+/// A colored segment, or `None` where its ends are one point.
+fn colored(a: (i32, i32), b: (i32, i32), shape: ShapeType, colors: Colors) -> Option<Colored> {
+    let (a, b) = (IntPoint::new(a.0, a.1), IntPoint::new(b.0, b.1));
+    Segment::try_ab_and_data(a, b, shape, colors, &mut Calls::default())
 }
 
-/// A red segment of the subject.
-fn red_line(rt: &impl Abort, from: (i32, i32), to: (i32, i32)) -> Colored {
-    let (a, b) = (IntPoint::new(from.0, from.1), IntPoint::new(to.0, to.1));
-    let line = Segment::try_ab_and_data(a, b, ShapeType::Subject, RED, &mut Calls::default());
-    line.expect(rt, "two ends")
+/// Two colored segments.
+fn both(
+    alloc: Global,
+    first: Option<Colored>,
+    second: Option<Colored>,
+) -> Result<Vec<Colored>, Fail> {
+    let mut list = Vec::new(alloc);
+    list.push(first.ok_or("no segment")?)?;
+    list.push(second.ok_or("no segment")?)?;
+    Ok(list)
 }
 
-/// Splits colored segments, and wants the flag of a list that changes.
-fn split_colored(
-    rt: &(impl Abort + AllocGlobal),
-    list: &mut Vec<Colored>,
-    strategy: Strategy,
-    calls: &mut Calls,
-) {
-    assert!(rt; is_splittable(list));
-    let mut splitter = SplitSolver::new(rt.alloc());
-    let flag = splitter.split_segments_with_store(list, &high(strategy), calls);
-    assert!(rt; flag == Ok(true));
+/// A red segment of the subject and a green one of the clip that overlap.
+fn overlapping(alloc: Global) -> Result<Vec<Colored>, Fail> {
+    let red = colored((0, 0), (4, 0), ShapeType::Subject, RED);
+    both(alloc, red, colored((2, 0), (6, 0), ShapeType::Clip, GREEN))
 }
 
-/// Wants these segments.
-fn check_colored(rt: &(impl Abort + AllocGlobal), list: &[Colored], wanted: &[ColoredRow]) {
-    let mut after = Vec::new(rt.alloc());
+/// The rows of colored segments.
+fn colored_rows(alloc: Global, list: &[Colored]) -> Result<Vec<ColoredRow>, Fail> {
+    let mut rows = Vec::new(alloc);
     for segment in list {
         let count = segment.count();
         let XSegment { a, b } = segment.x_segment();
-        let row = (
+        rows.push((
             (a.x, a.y),
             (b.x, b.y),
             count.subj,
             count.clip,
             segment.edge_data(),
-        );
-        after.push(row).expect(rt, "memory");
+        ))?;
     }
-    assert_eq!(rt; after.as_slice(), wanted);
-}
-
-/// Wants these numbers of calls of each hook: of splits, of reversals, of merges.
-fn check_calls(rt: &impl Abort, calls: &Calls, wanted: (u32, u32, u32)) {
-    assert_eq!(rt; (calls.splits, calls.reversals, calls.merges), wanted);
-}
-
-/// What is merged where a red segment of the subject and a green one of the clip overlap.
-fn check_merge(rt: &impl Abort, merged: EdgeDataMerge<ShapeCountBoolean, Colors>) {
-    let subject = ShapeCountBoolean { subj: 1, clip: 0 };
-    let clip = ShapeCountBoolean { subj: 0, clip: 1 };
-    let both = ShapeCountBoolean { subj: 1, clip: 1 };
-    let left = (merged.lhs_data, merged.lhs_count);
-    let right = (merged.rhs_data, merged.rhs_count);
-    assert_eq!(rt;
-        (left, right, merged.out_count),
-        ((GREEN, clip), (RED, subject), both)
-    );
-}
-
-/// A red segment and a green one that overlap.
-fn overlapping(rt: &(impl Abort + AllocGlobal)) -> Vec<Colored> {
-    let mut list = Vec::new(rt.alloc());
-    let red = colored(rt, 0, ShapeCountBoolean::new(1, 0), RED);
-    list.push(red).expect(rt, "memory");
-    let green = colored(rt, 2, ShapeCountBoolean::new(0, 1), GREEN);
-    list.push(green).expect(rt, "memory");
-    list
+    Ok(rows)
 }
 
 static OVERLAP: [ColoredRow; 3] = [
@@ -752,16 +198,30 @@ static OVERLAP: [ColoredRow; 3] = [
     ((4, 0), (6, 0), 0, 1, GREEN),
 ];
 
+/// What is merged where the two segments overlap.
+fn is_merge_of_overlap(merged: EdgeDataMerge<ShapeCountBoolean, Colors>) -> bool {
+    let both = ShapeCountBoolean { subj: 1, clip: 1 };
+    merged.lhs_data == GREEN
+        && merged.lhs_count == ShapeCountBoolean { subj: 0, clip: 1 }
+        && merged.rhs_data == RED
+        && merged.rhs_count == ShapeCountBoolean { subj: 1, clip: 0 }
+        && merged.out_count == both
+}
+
 #[test]
-fn colors_of_an_overlap(rt: HostRuntime) {
+fn colors_of_an_overlap(rt: HostRuntime) -> Result<(), Fail> {
     for strategy in STRATEGIES {
-        let mut list = overlapping(&rt);
+        let mut list = overlapping(rt.alloc())?;
         let mut calls = Calls::default();
-        split_colored(&rt, &mut list, strategy, &mut calls);
-        check_colored(&rt, &list, &OVERLAP);
-        check_calls(&rt, &calls, (2, 0, 1));
-        check_merge(&rt, calls.merged.expect(&rt, "a merge"));
+        assert!(rt; is_splittable(&list));
+        let mut splitter = SplitSolver::new(rt.alloc());
+        let flag = splitter.split_segments_with_store(&mut list, &high(strategy), &mut calls);
+        assert!(rt; flag == Ok(true));
+        assert!(rt; colored_rows(rt.alloc(), &list)?.as_slice() == OVERLAP.as_slice());
+        assert!(rt; (calls.splits, calls.reversals, calls.merges) == (2, 0, 1));
+        assert!(rt; is_merge_of_overlap(calls.merged.ok_or("no merge")?));
     }
+    Ok(())
 }
 
 static BEND: [ColoredRow; 3] = [
@@ -772,75 +232,49 @@ static BEND: [ColoredRow; 3] = [
 
 /// A line that is bent through another's end: its lower half runs backward.
 #[test]
-fn colors_of_a_bent_line(rt: HostRuntime) {
+fn colors_of_a_bent_line(rt: HostRuntime) -> Result<(), Fail> {
     for strategy in STRATEGIES {
-        let mut list = Vec::new(rt.alloc());
-        let flat = red_line(&rt, (0, 0), (100, 1));
-        list.push(flat).expect(&rt, "memory");
-        let steep = red_line(&rt, (1, -50), (1, 50));
-        list.push(steep).expect(&rt, "memory");
+        let flat = colored((0, 0), (100, 1), ShapeType::Subject, RED);
+        let steep = colored((1, -50), (1, 50), ShapeType::Subject, RED);
+        let mut list = both(rt.alloc(), flat, steep)?;
         let mut calls = Calls::default();
-        split_colored(&rt, &mut list, strategy, &mut calls);
-        check_colored(&rt, &list, &BEND);
-        check_calls(&rt, &calls, (1, 1, 0));
+        assert!(rt; is_splittable(&list));
+        let mut splitter = SplitSolver::new(rt.alloc());
+        let flag = splitter.split_segments_with_store(&mut list, &high(strategy), &mut calls);
+        assert!(rt; flag == Ok(true));
+        assert!(rt; colored_rows(rt.alloc(), &list)?.as_slice() == BEND.as_slice());
+        assert!(rt; (calls.splits, calls.reversals, calls.merges) == (1, 1, 0));
         assert!(rt; calls.merged.is_none());
     }
+    Ok(())
 }
 
-#[test]
-fn slivers_need_many_passes(rt: HostRuntime) {
-    for strategy in STRATEGIES {
-        let high = high(strategy);
-        let absolute = Solver::with_strategy_and_precision(strategy, Precision::ABSOLUTE);
-        assert!(rt; split_slivers(&rt, 1, 0, high) == (278, 282));
-        assert!(rt; split_slivers(&rt, 1, 256, absolute).0 == 20);
-        assert!(rt; split_slivers(&rt, 1, 256, high).0 == 4);
-    }
-}
-
-#[test]
-fn slivers_past_the_snap_limit(rt: HostRuntime) {
-    let absolute = Solver::with_precision(Precision::ABSOLUTE);
-    assert!(rt; split_slivers(&rt, 14, 256, absolute) == (3734, 3738));
-}
-
-/// Two lines that cross at (3/2, 3/2), two that cross at (0, 0), and none.
+/// Two lines that cross at (3/2, 3/2).
 const BETWEEN: [Row; 2] = [((0, 0), (5, 5), 1), ((0, 3), (5, -2), 1)];
-
-/// Lists, one after the other, with one splitter; how many passes each takes, and how far these move things in halves.
-/// The first pass that snaps does so within a radius of 1.
-static REACHES: [(&[Row], u128, u128); 3] = [(&BETWEEN, 2, 4), (&CROSS, 1, 0), (&[], 0, 0)];
-
-#[test]
-fn reach_of_splits(rt: HostRuntime) {
-    let mut splitter: SplitSolver<i32> = SplitSolver::new(rt.alloc());
-    assert!(rt; splitter.reach() == 0);
-    for (given, passes, reach) in REACHES {
-        let mut list = segments(&rt, given);
-        let flag = split_list(&rt, &mut splitter, &mut list, &high(Strategy::List));
-        assert!(rt; flag.is_ok());
-        assert!(rt; (splitter.passes(), splitter.reach()) == (passes, reach));
-    }
-}
 
 const CROSS: [Row; 2] = [((-2, 0), (2, 0), 1), ((0, -2), (0, 2), 1)];
 
 const LARGE: [Row; 2] = [((0, 0), (4, 0), i32::MAX), ((0, 0), (4, 0), i32::MAX)];
 
-/// Splits, one after the other, with one splitter.
-static IN_TURN: [(&[Row], Result<bool, Fault>); 3] = [
-    (&CROSS, Ok(true)),
-    (&LARGE, Err(Fault::CountOutOfRange)),
-    (&CROSS, Ok(true)),
+/// Lists, one after the other, with one splitter; what it returns, how many passes each takes, and how far these move things
+/// in halves. The first pass that snaps does so within a radius of 1. A list that is refused counts for nothing.
+static IN_TURN: [(&[Row], Result<bool, Fault>, u128, u128); 5] = [
+    (&BETWEEN, Ok(true), 2, 4),
+    (&CROSS, Ok(true), 1, 0),
+    (&LARGE, Err(Fault::CountOutOfRange), 1, 0),
+    (&[], Ok(false), 0, 0),
+    (&CROSS, Ok(true), 1, 0),
 ];
 
 #[test]
-fn a_splitter_after_a_refusal(rt: HostRuntime) {
+fn one_splitter_for_several_lists(rt: HostRuntime) -> Result<(), Fail> {
     let mut splitter: SplitSolver<i32> = SplitSolver::new(rt.alloc());
-    assert!(rt; splitter.passes() == 0);
-    for (given, answer) in IN_TURN {
-        let mut list = segments(&rt, given);
-        let flag = split_list(&rt, &mut splitter, &mut list, &Solver::AUTO);
-        assert_eq!(rt; (flag, splitter.passes()), (answer, 1));
+    assert!(rt; splitter.passes() == 0 && splitter.reach() == 0);
+    for (given, flag, passes, reach) in IN_TURN {
+        let mut list = segments(rt.alloc(), given)?;
+        assert!(rt; is_splittable(&list));
+        let split = splitter.split_segments(&mut list, &high(Strategy::List));
+        assert!(rt; (split, splitter.passes(), splitter.reach()) == (flag, passes, reach));
     }
+    Ok(())
 }

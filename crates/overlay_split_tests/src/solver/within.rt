@@ -12,112 +12,117 @@ static CHAIN: [Row; 6] = [
     ((-820272774, 900600852), (929775894, 738301379), 1),
 ];
 
-/// What a split within a limit returns, the number of passes, and the list after it.
-type ToldWithin = (Result<bool, SplitFault>, u128, Vec<Row>);
+/// Three segments that are nearly parallel.
+static SLIVERS: [Row; 3] = [
+    ((282, 3), (1000, 0), 1),
+    ((143, 2), (886, 1), 1),
+    ((164, 2), (705, 1), 1),
+];
 
-/// Splits with a splitter. What is left is arranged, also after a refusal.
-fn split_within<I: OverlayInt>(
-    rt: &(impl Abort + AllocGlobal),
-    splitter: &mut SplitSolver<I>,
+/// What a split returns, the number of passes, and the list after it.
+type Told = (Result<bool, SplitFault>, u128, Vec<Row>);
+
+/// Splits with a splitter, within a limit or without one.
+fn split_rows(
+    alloc: Global,
+    splitter: &mut SplitSolver<i32>,
+    given: &[Row],
+    solver: &Solver,
+    limit: Option<usize>,
+) -> Result<Told, Fail> {
+    let mut list = segments(alloc, given)?;
+    if !is_splittable(&list) {
+        return Err(Fail::from("a segment that may not be split"));
+    }
+    let flag = match limit {
+        Some(limit) => splitter.split_segments_within(&mut list, solver, limit),
+        None => splitter
+            .split_segments(&mut list, solver)
+            .map_err(SplitFault::Refused),
+    };
+    Ok((flag, splitter.passes(), rows(alloc, &list)?))
+}
+
+/// Whether a split within a limit returns what one without a limit does, and leaves the same.
+fn is_as_without(
+    alloc: Global,
+    splitter: &mut SplitSolver<i32>,
     given: &[Row],
     solver: &Solver,
     limit: usize,
-) -> ToldWithin {
-    let mut list: Vec<Counted<I>> = segments(rt, given);
-    assert!(rt; is_splittable(&list));
-    let flag = splitter.split_segments_within(&mut list, solver, limit);
-    assert!(rt; is_arranged(&list));
-    (flag, splitter.passes(), rows(rt, &list))
+) -> Result<bool, Fail> {
+    let told = split_rows(alloc, splitter, given, solver, Some(limit))?;
+    let whole = split_rows(alloc, &mut SplitSolver::new(alloc), given, solver, None)?;
+    Ok(told == whole)
 }
 
-/// Wants a split to be refused for its segments, with as many passes as before.
-fn check_beyond(rt: &impl Abort, told: &ToldWithin, passes: u128) {
-    let beyond = Err(SplitFault::TooManySegments);
-    assert_eq!(rt;
-        (told.0, told.1, told.2.as_slice()),
-        (beyond, passes, [].as_slice())
-    );
-}
-
-/// Wants of a split within a limit what one without a limit returns.
-fn check_same<I: OverlayInt>(
-    rt: &(impl Abort + AllocGlobal),
-    splitter: &mut SplitSolver<I>,
+/// Whether a split is refused for its segments, with as many passes as before and no segments left.
+fn is_beyond(
+    alloc: Global,
+    splitter: &mut SplitSolver<i32>,
     given: &[Row],
     solver: &Solver,
     limit: usize,
-) {
-    let told = split_within(rt, splitter, given, solver, limit);
-    let (flag, passes, after) = split_rows::<I>(rt, given, solver, 256);
-    let flag = flag.map_err(SplitFault::Refused);
-    assert_eq!(rt;
-        (told.0, told.1, told.2.as_slice()),
-        (flag, passes, after.as_slice())
-    );
+) -> Result<bool, Fail> {
+    let passes = splitter.passes();
+    let (flag, after, rows) = split_rows(alloc, splitter, given, solver, Some(limit))?;
+    Ok(flag == Err(SplitFault::TooManySegments) && after == passes && rows.is_empty())
 }
 
 #[test]
-fn chain_goes_beyond_a_limit(rt: HostRuntime) {
+fn chain_goes_beyond_a_limit(rt: HostRuntime) -> Result<(), Fail> {
+    let alloc = rt.alloc();
     for strategy in STRATEGIES {
         let solver = high(strategy);
-        let mut splitter: SplitSolver<i32> = SplitSolver::new(rt.alloc());
-        check_same(&rt, &mut splitter, &BETWEEN, &solver, 4);
-        let passes = splitter.passes();
-        let told = split_within(&rt, &mut splitter, &CHAIN, &solver, 10_000);
-        check_beyond(&rt, &told, passes);
-        check_same(&rt, &mut splitter, &BETWEEN, &solver, 4);
+        let mut splitter: SplitSolver<i32> = SplitSolver::new(alloc);
+        assert!(rt; is_as_without(alloc, &mut splitter, &BETWEEN, &solver, 4)?);
+        assert!(rt; is_beyond(alloc, &mut splitter, &CHAIN, &solver, 10_000)?);
+        assert!(rt; is_as_without(alloc, &mut splitter, &BETWEEN, &solver, 4)?);
     }
+    Ok(())
 }
 
 /// The crossing of two lines makes four pieces.
 #[test]
-fn least_limit_of_a_crossing(rt: HostRuntime) {
+fn limits_that_do_and_limits_that_do_not(rt: HostRuntime) -> Result<(), Fail> {
+    let alloc = rt.alloc();
     for strategy in STRATEGIES {
         let solver = high(strategy);
-        let mut splitter: SplitSolver<i16> = SplitSolver::new(rt.alloc());
+        let mut splitter: SplitSolver<i32> = SplitSolver::new(alloc);
         for limit in 0..4 {
-            let told = split_within(&rt, &mut splitter, &BETWEEN, &solver, limit);
-            check_beyond(&rt, &told, 0);
+            assert!(rt; is_beyond(alloc, &mut splitter, &BETWEEN, &solver, limit)?);
         }
-        check_same(&rt, &mut splitter, &BETWEEN, &solver, 4);
+        assert!(rt; is_as_without(alloc, &mut splitter, &BETWEEN, &solver, 4)?);
+        assert!(rt; is_as_without(alloc, &mut splitter, &[], &solver, 0)?);
+        for limit in [1_000, usize::MAX] {
+            assert!(rt; is_as_without(alloc, &mut splitter, &SLIVERS, &solver, limit)?);
+        }
     }
-}
-
-#[test]
-fn limits_that_do(rt: HostRuntime) {
-    for strategy in STRATEGIES {
-        let solver = high(strategy);
-        let mut splitter: SplitSolver<i16> = SplitSolver::new(rt.alloc());
-        check_same(&rt, &mut splitter, &[], &solver, 0);
-        check_same(&rt, &mut splitter, &SLIVERS, &solver, 1_000);
-        check_same(&rt, &mut splitter, &SLIVERS, &solver, usize::MAX);
-    }
+    Ok(())
 }
 
 /// An overlap makes four pieces, and two are joined. Beyond the limit no hook is called.
 #[test]
-fn store_before_a_pass_beyond_the_limit(rt: HostRuntime) {
+fn store_before_a_pass_beyond_the_limit(rt: HostRuntime) -> Result<(), Fail> {
     let solver = high(Strategy::List);
     let mut splitter = SplitSolver::new(rt.alloc());
-    let mut list = overlapping(&rt);
     let mut calls = Calls::default();
-    assert!(rt; is_splittable(&list));
-    let flag = splitter.split_segments_with_store_within(&mut list, &solver, &mut calls, 3);
-    assert!(rt; flag == Err(SplitFault::TooManySegments));
-    assert!(rt; list.is_empty());
-    check_calls(&rt, &calls, (0, 0, 0));
-    let mut list = overlapping(&rt);
-    assert!(rt; is_splittable(&list));
-    let flag = splitter.split_segments_with_store_within(&mut list, &solver, &mut calls, 4);
-    assert!(rt; flag == Ok(true));
-    check_colored(&rt, &list, &OVERLAP);
-    check_calls(&rt, &calls, (2, 0, 1));
+    let beyond = (Err(SplitFault::TooManySegments), 0, (0, 0, 0));
+    for (limit, wanted) in [(3, beyond), (4, (Ok(true), 3, (2, 0, 1)))] {
+        let mut list = overlapping(rt.alloc())?;
+        assert!(rt; is_splittable(&list));
+        let flag = splitter.split_segments_with_store_within(&mut list, &solver, &mut calls, limit);
+        let counts = (calls.splits, calls.reversals, calls.merges);
+        assert!(rt; (flag, list.len(), counts) == wanted);
+    }
+    Ok(())
 }
 
 #[test]
-fn texts(rt: HostRuntime) {
-    let beyond = format!(in rt.alloc(); "{}", SplitFault::TooManySegments);
-    assert!(rt; beyond.expect(&rt, "memory").as_str() == "too many segments");
-    let refused = format!(in rt.alloc(); "{}", SplitFault::from(Fault::CountOutOfRange));
-    assert!(rt; refused.expect(&rt, "memory").as_str() == "count out of range");
+fn texts(rt: HostRuntime) -> Result<(), Fail> {
+    let beyond = format!(in rt.alloc(); "{}", SplitFault::TooManySegments)?;
+    assert!(rt; beyond.as_str() == "too many segments");
+    let refused = format!(in rt.alloc(); "{}", SplitFault::from(Fault::CountOutOfRange))?;
+    assert!(rt; refused.as_str() == "count out of range");
+    Ok(())
 }
