@@ -561,3 +561,69 @@ fn parallel_lines() {
     let (rows, change) = split_alike(&given);
     assert_eq!((rows.len(), change), (200, Change { has_changed: false, passes: 1 }));
 }
+
+/// A segment with both counts: from, to, the count for the subject and for the clip.
+type CountedRow = ((i32, i32), (i32, i32), (i32, i32));
+
+/// What is sorted and merged, the result, and the list after it.
+type Join = (&'static str, &'static [CountedRow], Result<bool, Error>, &'static [CountedRow]);
+
+const JOINS: [Join; 9] = [
+    ("nothing", &[], Ok(false), &[]),
+    (
+        "three on one pair",
+        &[((1, 2), (3, 4), (1, 0)), ((1, 2), (3, 4), (0, 1)), ((1, 2), (3, 4), (2, 2))],
+        Ok(true),
+        &[((1, 2), (3, 4), (3, 3))],
+    ),
+    (
+        "two that run in opposite directions",
+        &[((3, 4), (1, 2), (1, 0)), ((1, 2), (3, 4), (0, 1))],
+        Ok(true),
+        &[((1, 2), (3, 4), (-1, 1))],
+    ),
+    ("two that cancel", &[((0, 0), (3, 1), (1, 0)), ((0, 0), (3, 1), (-1, 0))], Ok(true), &[]),
+    ("a sum that is too large", &[((0, 0), (4, 0), (i32::MAX, 0)), ((0, 0), (4, 0), (i32::MAX, 0))], LEAVES_RANGE, &[]),
+    (
+        "a running sum that is too large",
+        &[((0, 0), (4, 0), (i32::MAX, 0)), ((0, 0), (4, 0), (i32::MAX, 0)), ((0, 0), (4, 0), (-i32::MAX, 0))],
+        LEAVES_RANGE,
+        &[],
+    ),
+    (
+        "the same counts in an order whose sums are in range",
+        &[((0, 0), (4, 0), (i32::MAX, 0)), ((0, 0), (4, 0), (-i32::MAX, 0)), ((0, 0), (4, 0), (i32::MAX, 0))],
+        Ok(true),
+        &[((0, 0), (4, 0), (i32::MAX, 0))],
+    ),
+    (
+        "counts at the limits",
+        &[((0, 0), (4, 0), (-i32::MAX, i32::MAX)), ((0, 1), (4, 1), (i32::MAX, -i32::MAX))],
+        Ok(false),
+        &[((0, 0), (4, 0), (-i32::MAX, i32::MAX)), ((0, 1), (4, 1), (i32::MAX, -i32::MAX))],
+    ),
+    (
+        "pairs that share an end",
+        &[((2, 0), (0, 0), (1, 0)), ((0, 0), (0, 2), (1, 0)), ((0, 2), (2, 0), (1, 0)), ((0, 0), (2, 0), (0, 1))],
+        Ok(true),
+        &[((0, 0), (0, 2), (1, 0)), ((0, 0), (2, 0), (-1, 1)), ((0, 2), (2, 0), (1, 0))],
+    ),
+];
+
+#[test]
+fn joins() {
+    let segment = |&(a, b, (subj, clip)): &CountedRow| Segment {
+        a: a.into(),
+        b: b.into(),
+        count: ShapeCountBoolean { subj, clip },
+    };
+    for engine in ENGINES {
+        let mut overlay = Overlay::new().unwrap().with_engine(engine);
+        for (name, given, flag, wanted) in JOINS {
+            let joined = overlay.join(&given.iter().map(segment).collect::<Vec<_>>());
+            assert_eq!(joined.map(|change| change.has_changed), flag, "{name} {engine:?}");
+            let wanted: Vec<Segment> = wanted.iter().map(segment).collect();
+            assert_eq!(overlay.segments(), wanted, "{name} {engine:?}");
+        }
+    }
+}

@@ -4,6 +4,8 @@
 #[cfg(test)]
 mod chain;
 #[cfg(test)]
+mod clip;
+#[cfg(test)]
 mod contours;
 #[cfg(test)]
 mod library;

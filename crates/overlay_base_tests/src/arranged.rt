@@ -6,19 +6,16 @@ use overlay_base::segm::boolean::ShapeCountBoolean;
 use overlay_base::segm::segment::Segment;
 use overlay_base::segm::shape_type::ShapeType;
 use overlay_geometry::geom::point::IntPoint;
-use overlay_geometry::num::OverlayInt;
+use std::alloc::Global;
 use std::process::Abort;
 use std::test::Fail;
 
 /// From, to.
-type Step<I> = ((I, I), (I, I));
+type Step = ((i32, i32), (i32, i32));
 
 /// The steps of a contour of the subject.
-fn list<I: OverlayInt>(
-    rt: &(impl Abort + AllocGlobal),
-    steps: &[Step<I>],
-) -> Result<Vec<Segment<ShapeCountBoolean, I, ()>>, Fail> {
-    let mut list = Vec::new(rt.alloc());
+fn list(alloc: Global, steps: &[Step]) -> Result<Vec<Segment<ShapeCountBoolean, i32, ()>>, Fail> {
+    let mut list = Vec::new(alloc);
     for ((ax, ay), (bx, by)) in steps.iter().copied() {
         let (a, b) = (IntPoint::new(ax, ay), IntPoint::new(bx, by));
         let step = Segment::try_ab_and_data(a, b, ShapeType::Subject, (), &mut ());
@@ -28,38 +25,42 @@ fn list<I: OverlayInt>(
 }
 
 /// One step each, and whether it is short enough to be split.
-static WIDE_STEPS: [(&[Step<i32>], bool); 4] = [
-    (&[((0, 0), (524_288, 0))], true),
-    (&[((0, 0), (1_073_741_824, 0))], false),
-    (&[((0, -1_073_741_825), (0, 0))], false),
-    (&[((0, 0), (1_073_741_823, -1_073_741_824))], true),
+static WIDE_STEPS: [(Step, bool); 4] = [
+    (((0, 0), (524_288, 0)), true),
+    (((0, 0), (1_073_741_824, 0)), false),
+    (((0, -1_073_741_825), (0, 0)), false),
+    (((0, 0), (1_073_741_823, -1_073_741_824)), true),
 ];
-
-static NARROW_STEPS: [(&[Step<i16>], bool); 2] = [
-    (&[((0, 16_384), (1, 0))], false),
-    (&[((-16_384, 16_383), (16_383, -16_384))], true),
-];
-
-/// Whether some steps are short enough to be split.
-fn are_short<I: OverlayInt>(
-    rt: &(impl Abort + AllocGlobal),
-    steps: &[Step<I>],
-) -> Result<bool, Fail> {
-    Ok(is_splittable(&list(rt, steps)?))
-}
 
 #[test]
 fn coordinates_at_the_limits(rt: HostRuntime) -> Result<(), Fail> {
-    for (steps, short) in WIDE_STEPS {
-        assert!(rt; are_short(&rt, steps)? == short, "{steps:?}");
-    }
-    for (steps, short) in NARROW_STEPS {
-        assert!(rt; are_short(&rt, steps)? == short, "{steps:?}");
+    for (step, short) in WIDE_STEPS {
+        assert!(rt; is_splittable(&list(rt.alloc(), &[step])?) == short);
     }
     Ok(())
 }
 
-static LISTS: [(&str, &[Step<i32>], bool); 8] = [
+/// The same with the narrow engine.
+#[test]
+fn narrow_coordinates_at_the_limits(rt: HostRuntime) {
+    let (low, high) = (-16_384_i16, 16_383_i16);
+    for (a, b, short) in [
+        (IntPoint::new(0, 16_384_i16), IntPoint::new(1, 0), false),
+        (IntPoint::new(low, high), IntPoint::new(high, low), true),
+    ] {
+        let step: Option<Segment<ShapeCountBoolean, i16, ()>> = Segment::try_ab_and_data(
+            a,
+            b,
+            ShapeType::Subject,
+            (),
+            &mut (),
+        );
+        let steps = [step.expect(&rt, "two ends")];
+        assert!(rt; is_splittable(&steps) == short);
+    }
+}
+
+static LISTS: [(&str, &[Step], bool); 8] = [
     ("nothing", &[], true),
     ("a shared end", &[((0, 0), (4, 0)), ((4, 0), (4, 4))], true),
     ("not in order", &[((4, 0), (4, 4)), ((0, 0), (4, 0))], false),
@@ -89,7 +90,10 @@ static LISTS: [(&str, &[Step<i32>], bool); 8] = [
 #[test]
 fn arranged_lists(rt: HostRuntime) -> Result<(), Fail> {
     for (name, steps, arranged) in LISTS {
-        assert_eq!(rt; is_arranged(&list(&rt, steps)?), arranged, "{name}");
+        assert!(rt;
+            is_arranged(&list(rt.alloc(), steps)?) == arranged,
+            "{name}"
+        );
     }
     Ok(())
 }

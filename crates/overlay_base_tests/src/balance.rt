@@ -6,7 +6,7 @@ use overlay_base::segm::boolean::ShapeCountBoolean;
 use overlay_base::segm::segment::Segment;
 use overlay_base::segm::string::ShapeCountString;
 use overlay_base::segm::winding::WindingCount;
-use overlay_geometry::geom::point::IntPoint;
+use std::alloc::Global;
 use std::process::Abort;
 use std::test::Fail;
 
@@ -87,13 +87,13 @@ static LISTS: [(&str, &[Row], bool); 9] = [
 
 /// The list of some rows.
 fn boolean_list(
-    rt: &(impl Abort + AllocGlobal),
+    alloc: Global,
     rows: &[Row],
 ) -> Result<Vec<Segment<ShapeCountBoolean, i32, ()>>, Fail> {
-    let mut list = Vec::new(rt.alloc());
-    for ((ax, ay), (bx, by), (subj, clip)) in rows.iter().copied() {
+    let mut list = Vec::new(alloc);
+    for (from, to, (subj, clip)) in rows.iter().copied() {
         let count = ShapeCountBoolean::new(subj, clip);
-        list.push(segment(rt, IntPoint::new(ax, ay), IntPoint::new(bx, by), count))?;
+        list.push(segment(from, to, count).ok_or("no segment")?)?;
     }
     Ok(list)
 }
@@ -101,46 +101,28 @@ fn boolean_list(
 #[test]
 fn contours_that_close_or_not(rt: HostRuntime) -> Result<(), Fail> {
     for (name, rows, balanced) in LISTS {
-        let list = boolean_list(&rt, rows)?;
-        assert_eq!(rt; is_balanced(rt.alloc(), &list), Ok(balanced), "{name}");
+        let list = boolean_list(rt.alloc(), rows)?;
+        assert!(rt; is_balanced(rt.alloc(), &list) == Ok(balanced), "{name}");
     }
     Ok(())
 }
 
 #[test]
-fn the_least_number_has_no_inverse(rt: HostRuntime) {
-    let (a, b) = (IntPoint::new(0, 0), IntPoint::new(4, 0));
-    let side: Segment<ShapeCountBoolean, i32, ()> = segment(
-        &rt,
-        a,
-        b,
-        ShapeCountBoolean::SUBJ_DIRECT,
-    );
+fn the_least_number_has_no_inverse(rt: HostRuntime) -> Result<(), Fail> {
+    let side = segment((0, 0), (4, 0), ShapeCountBoolean::SUBJ_DIRECT).ok_or("no segment")?;
     let side = side.with_count_and_data(ShapeCountBoolean::new(i32::MIN, 0), ());
-    assert_eq!(rt; is_balanced(rt.alloc(), &[side, side]), Ok(false));
-}
-
-/// A line along the axis.
-fn line(
-    rt: &impl Abort,
-    from: i32,
-    to: i32,
-    subj: i32,
-    clip: u8,
-) -> Segment<ShapeCountString, i32, ()> {
-    let (a, b) = (IntPoint::new(from, 0), IntPoint::new(to, 0));
-    segment(rt, a, b, ShapeCountString { subj, clip })
+    assert!(rt; is_balanced(rt.alloc(), &[side, side]) == Ok(false));
+    Ok(())
 }
 
 #[test]
-fn masks_do_not_count(rt: HostRuntime) {
-    let mask = line(&rt, 0, 4, 0, 2);
-    let step = line(&rt, 0, 4, 1, 3);
-    let step_back = line(&rt, 4, 0, 1, 0);
-    let found = (
-        is_balanced(rt.alloc(), &[mask]),
-        is_balanced(rt.alloc(), &[step, mask]),
-        is_balanced(rt.alloc(), &[step, mask, step_back]),
-    );
-    assert_eq!(rt; found, (Ok(true), Ok(false), Ok(true)));
+fn masks_do_not_count(rt: HostRuntime) -> Result<(), Fail> {
+    let line = |from, to, subj, clip| segment((from, 0), (to, 0), ShapeCountString { subj, clip });
+    let mask = line(0, 4, 0, 2).ok_or("no segment")?;
+    let step = line(0, 4, 1, 3).ok_or("no segment")?;
+    let step_back = line(4, 0, 1, 0).ok_or("no segment")?;
+    assert!(rt; is_balanced(rt.alloc(), &[mask]) == Ok(true));
+    assert!(rt; is_balanced(rt.alloc(), &[step, mask]) == Ok(false));
+    assert!(rt; is_balanced(rt.alloc(), &[step, mask, step_back]) == Ok(true));
+    Ok(())
 }

@@ -5,7 +5,6 @@ ghost use Rattle.overlay_geometry.specs.PairOf.{pair_of};
 ghost use Rattle.overlay_geometry.specs.InRange.{IsPairInRange};
 
 mod far_ends;
-mod small_square;
 
 use crate::usable::is_in_range;
 use overlay_geometry::geom::point::IntPoint;
@@ -14,6 +13,7 @@ use overlay_geometry::geom::x_segment::XSegment;
 use overlay_geometry::num::OverlayInt;
 use overlay_intersections::split::cross_solver::*;
 use std::process::Abort;
+use std::test::Fail;
 
 /// What a call returns: the kind, the point and whether it is rounded.
 type Answer = Option<(CrossType, i64, i64, bool)>;
@@ -197,88 +197,87 @@ fn is_usable<I: OverlayInt>(segment: &XSegment<I>) -> bool
     is_in_range(segment) && segment.a != segment.b
 }
 
-/// How two segments meet in a pass that snaps.
+/// How two segments meet, as the tables write it: in a pass that snaps within a radius, or, without one, in a pass that settles.
 fn met<I: OverlayInt>(
-    rt: &impl Abort,
     target: &XSegment<I>,
     other: &XSegment<I>,
-    radius_squared: i64,
-) -> Option<CrossResult<I>> {
-    assert!(rt; is_usable(target));
-    assert!(rt; is_usable(other));
-    assert!(rt; 1 <= radius_squared);
-    CrossSolver::cross(target, other, radius_squared)
-}
-
-/// How two segments meet, as the tables write it.
-fn answer<I: OverlayInt>(met: CrossResult<I>) -> (CrossType, i64, i64, bool) {
-    let (x, y) = (met.point.x.to_wide(), met.point.y.to_wide());
-    (met.cross_type, x, y, met.is_round)
-}
-
-/// What a pass that snaps returns for two segments.
-fn ask<I: OverlayInt>(
-    rt: &impl Abort,
-    target: &XSegment<I>,
-    other: &XSegment<I>,
-    radius_squared: i64,
-) -> Answer {
-    Some(answer(met(rt, target, other, radius_squared)?))
-}
-
-/// Wants of a row the result with its first segment as target, and the one with its second.
-fn check(rt: &impl Abort, name: &str, found: [Answer; 2], wanted: [Answer; 2]) {
-    assert_eq!(rt; found, wanted, "{name}");
-}
-
-/// Wants both results of a row.
-fn check_row<I: OverlayInt>(rt: &impl Abort, row: &Row, first: &XSegment<I>, second: &XSegment<I>) {
-    let found = ask(rt, first, second, row.radius_squared);
-    let swapped = ask(rt, second, first, row.radius_squared);
-    check(rt, row.name, [found, swapped], [row.answer, row.swapped]);
-}
-
-#[test]
-fn rows_in_the_wide_engine(rt: HostRuntime) {
-    for row in ROWS.iter() {
-        check_row(&rt, row, &wide(row.first), &wide(row.second));
+    radius_squared: Option<i64>,
+) -> Result<Answer, &'static str> {
+    if !is_usable(target) || !is_usable(other) {
+        return Err("a segment out of range, or of one point");
     }
+    let met = match radius_squared {
+        Some(radius_squared) if 1 <= radius_squared => {
+            CrossSolver::cross(target, other, radius_squared)
+        }
+        _ => CrossSolver::cross_settled(target, other),
+    };
+    Ok(met.map(|met| {
+        let (x, y) = (met.point.x.to_wide(), met.point.y.to_wide());
+        (met.cross_type, x, y, met.is_round)
+    }))
+}
+
+/// Whether two segments meet so, with the first as target and with the second.
+fn meet_so<I: OverlayInt>(
+    first: &XSegment<I>,
+    second: &XSegment<I>,
+    radius_squared: Option<i64>,
+    wanted: [Answer; 2],
+) -> Result<bool, &'static str> {
+    let found = met(first, second, radius_squared)?;
+    Ok([found, met(second, first, radius_squared)?] == wanted)
 }
 
 #[test]
-fn rows_in_the_narrow_engine(rt: HostRuntime) {
-    let mut asked = 0u32;
+fn rows_in_the_wide_engine(rt: HostRuntime) -> Result<(), Fail> {
+    for row in ROWS.iter() {
+        let (first, second) = (wide(row.first), wide(row.second));
+        let wanted = [row.answer, row.swapped];
+        assert!(rt;
+            meet_so(&first, &second, Some(row.radius_squared), wanted)?,
+            "{}",
+            row.name
+        );
+    }
+    Ok(())
+}
+
+#[test]
+fn rows_in_the_narrow_engine(rt: HostRuntime) -> Result<(), Fail> {
+    let mut count = 0u32;
     for row in ROWS.iter() {
         if let (Some(first), Some(second)) = (narrow(row.first), narrow(row.second)) {
-            check_row(&rt, row, &first, &second);
-            asked = asked.saturating_add(1);
+            let wanted = [row.answer, row.swapped];
+            assert!(rt;
+                meet_so(&first, &second, Some(row.radius_squared), wanted)?,
+                "{}",
+                row.name
+            );
+            count = count.saturating_add(1);
         }
     }
-    assert!(rt; asked == 10);
+    assert!(rt; count == 10);
+    Ok(())
 }
 
-/// Which ends two segments on one line mark.
-fn overlap(rt: &impl Abort, target: &XSegment<i32>, other: &XSegment<i32>) -> CollinearMask {
-    assert!(rt; is_usable(target));
-    assert!(rt; is_usable(other));
-    assert!(rt; are_collinear(target, other));
-    CrossSolver::collinear(target, other)
+/// The number of the ends that two segments on one line mark.
+fn overlap(target: &XSegment<i32>, other: &XSegment<i32>) -> Option<u8> {
+    if !is_usable(target) || !is_usable(other) || !are_collinear(target, other) {
+        return None;
+    }
+    Some(CrossSolver::collinear(target, other).number())
 }
 
 #[test]
-fn mask_of_an_overlap(rt: HostRuntime) {
+fn masks_of_overlaps(rt: HostRuntime) {
     let first = wide([-1024, 0, 512, 0]);
     let second = wide([0, 0, 1024, 0]);
-    let found = overlap(&rt, &first, &second).number();
-    let swapped = overlap(&rt, &second, &first).number();
-    assert_eq!(rt; [found, swapped], [6, 9]);
-}
-
-#[test]
-fn mask_of_an_overlap_far_out(rt: HostRuntime) {
+    assert!(rt; overlap(&first, &second) == Some(6));
+    assert!(rt; overlap(&second, &first) == Some(9));
     let first = wide([-276_659_431, 380_789_039, -221_915_258, 435_533_212]);
     let second = wide([-276_659_432, 380_789_038, -276_659_430, 380_789_040]);
-    assert_eq!(rt; overlap(&rt, &first, &second).number(), 9);
+    assert!(rt; overlap(&first, &second) == Some(9));
 }
 
 /// Whether the second segment lies on the first one's line.
@@ -337,34 +336,15 @@ static SETTLED_ROWS: [SettledRow; 5] = [
     },
 ];
 
-/// What a pass that settles returns for two segments.
-fn ask_settled<I: OverlayInt>(
-    rt: &impl Abort,
-    target: &XSegment<I>,
-    other: &XSegment<I>,
-) -> Answer {
-    assert!(rt; is_usable(target));
-    assert!(rt; is_usable(other));
-    Some(answer(CrossSolver::cross_settled(target, other)?))
-}
-
-/// Wants the results of a pass that settles, with either segment as target.
-fn check_settled<I: OverlayInt>(
-    rt: &impl Abort,
-    name: &str,
-    first: &XSegment<I>,
-    second: &XSegment<I>,
-    wanted: [Answer; 2],
-) {
-    let found = ask_settled(rt, first, second);
-    let swapped = ask_settled(rt, second, first);
-    check(rt, name, [found, swapped], wanted);
-}
-
 #[test]
-fn rows_that_settle(rt: HostRuntime) {
+fn rows_that_settle(rt: HostRuntime) -> Result<(), Fail> {
     for row in SETTLED_ROWS.iter() {
         let (first, second) = (wide(row.first), wide(row.second));
-        check_settled(&rt, row.name, &first, &second, [row.answer, row.swapped]);
+        assert!(rt;
+            meet_so(&first, &second, None, [row.answer, row.swapped])?,
+            "{}",
+            row.name
+        );
     }
+    Ok(())
 }

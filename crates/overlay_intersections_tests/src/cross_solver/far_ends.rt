@@ -189,32 +189,35 @@ fn rounded(point: (i64, i64)) -> Answer {
     Some((CrossType::Pure, point.0, point.1, true))
 }
 
-/// Wants the results of a row, in a pass that snaps and in one that settles.
-fn check_far<I: OverlayInt>(
-    rt: &impl Abort,
+/// Whether two segments meet as a row says, in a pass that snaps and in one that settles.
+fn meet_far<I: OverlayInt>(
     row: &FarRow,
     first: &XSegment<I>,
     second: &XSegment<I>,
-) {
-    let found = ask(rt, first, second, 1);
-    let swapped = ask(rt, second, first, 1);
-    let wanted = [rounded(row.snapped), rounded(row.swapped)];
-    check(rt, row.name, [found, swapped], wanted);
-    check_settled(rt, row.name, first, second, [rounded(row.settled); 2]);
+) -> Result<bool, &'static str> {
+    let snapped = [rounded(row.snapped), rounded(row.swapped)];
+    let settled = [rounded(row.settled); 2];
+    Ok(meet_so(first, second, Some(1), snapped)? && meet_so(first, second, None, settled)?)
 }
 
 #[test]
-fn far_ends_of_the_wide_engine(rt: HostRuntime) {
+fn far_ends_of_the_wide_engine(rt: HostRuntime) -> Result<(), Fail> {
     for row in WIDE_ROWS.iter() {
-        check_far(&rt, row, &wide(row.first), &wide(row.second));
+        assert!(rt;
+            meet_far(row, &wide(row.first), &wide(row.second))?,
+            "{}",
+            row.name
+        );
     }
+    Ok(())
 }
 
 #[test]
-fn far_ends_of_the_narrow_engine(rt: HostRuntime) {
+fn far_ends_of_the_narrow_engine(rt: HostRuntime) -> Result<(), Fail> {
     for row in NARROW_ROWS.iter() {
-        let first = narrow(row.first).expect(&rt, row.name);
-        let second = narrow(row.second).expect(&rt, row.name);
-        check_far(&rt, row, &first, &second);
+        let first = narrow(row.first).ok_or(row.name)?;
+        let second = narrow(row.second).ok_or(row.name)?;
+        assert!(rt; meet_far(row, &first, &second)?, "{}", row.name);
     }
+    Ok(())
 }
