@@ -58,6 +58,12 @@ returns-then-is_empty-clause-store_made g c = no_call
 
 -- ---- the pieces, joined
 
+pub cut_at-requires-clause-splittable : goal.cut_at-requires-clause-splittable
+cut_at-requires-clause-splittable g c = c.requires.splittable
+
+pub cut_at-requires-clause-marks : goal.cut_at-requires-clause-marks
+cut_at-requires-clause-marks g c = c.requires.marks
+
 pub join_with_store-requires : goal.join_with_store-requires
 join_with_store-requires g c =
     let hooks = hooks_of g.C.WindingCount.counted g.D.OverlayEdgeData in
