@@ -79,6 +79,13 @@ def path_of(crate, module, found):
     return "::".join(filter(None, (module, found)))
 
 
+def modules_of_proof(crate, found):
+    """Returns the modules under which a method's proof can stand: that of its type, where the impl is in another."""
+    proofs = TOP / "crates" / crate / "proofs"
+    folders = proofs.glob(f"**/{found.replace('::', '/')}") if "::" in found else ()
+    return {"::".join(it.relative_to(proofs).parts[:-2]) for it in folders}
+
+
 def has_body(lines):
     """Returns whether the function that begins these lines has a body: a trait declares some without."""
     return next((line.endswith("{") for line in lines if line.endswith(("{", ";"))), False)
@@ -143,7 +150,9 @@ class Edit:
         """Notes the function at a line of a file, or that a constant is changed."""
         found, module = function_at(text, number), module_of(file)
         if found:
-            self.functions.add((module, found.split("::")[-1]))
+            name = found.split("::")[-1]
+            self.functions.add((module, name))
+            self.functions.update((it, name) for it in modules_of_proof(self.crate, found))
         else:
             self.is_alone = True
         self.paths[path_of(self.crate, module, found)] = module

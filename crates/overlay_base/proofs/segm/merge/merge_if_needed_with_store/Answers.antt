@@ -31,6 +31,9 @@ returns-in-Err-clause-refused g c =
     let leaves = leaves_whole _ _ _ _ _ _ _ _ _ _ _ w within c.index-in-loop-index.ensures o same c.in-Err.ensures.value.1 in
     (λ _. ap join_leaves_range (sym (without_data-map data_segment_of c.args.list.now.items)) ∙ leaves, λ _. refl)
 
+pub returns-in-Err-clause-emptied : goal.returns-in-Err-clause-emptied
+returns-in-Err-clause-emptied g c = c.clear.ensures.items
+
 pub loop-index-preserved : goal.loop-index-preserved
 loop-index-preserved g c =
     let i = c.loop-index.invariant in

@@ -1,5 +1,5 @@
 use Rattle.std.proofs.lemmas.List.{take_all}
-use Rattle.std.proofs.Common.{arith, refl}
+use Rattle.std.proofs.Common.{refl}
 use Rattle.overlay_build.proofs.build.link_filter.filter_by_overlay_into.Goals as goal
 
 pub returns-clause-states : goal.returns-clause-states
@@ -23,4 +23,4 @@ pub returns-clause-emptied : goal.returns-clause-emptied
 returns-clause-emptied g c = tt
 
 pub returns-then-is_err-clause-emptied : goal.returns-then-is_err-clause-emptied
-returns-then-is_err-clause-emptied g c = grind arith
+returns-then-is_err-clause-emptied g c = c.clear-then-is_err.ensures.items

@@ -1,7 +1,7 @@
 use Rattle.std.proofs.Common.{◌≡◌, ◌∙◌, sym, ap, subst, IsTrue, IsFalse, List, []}
 use Rattle.std.specs.List.{AllByRecursion}
 use Rattle.overlay_geometry.specs.Points.{Point, Pair}
-use Rattle.overlay_base.specs.EdgeData.{data_join, without_data}
+use Rattle.overlay_base.specs.EdgeData.{data_join, without_data, IsRefusedJoin}
 use Rattle.overlay_base.specs.EdgeData.IsMadeFrom.{no_call}
 use Rattle.overlay_base.specs.HooksOf.{hooks_of}
 use Rattle.overlay_base.specs.Join.{join_leaves_range}
@@ -11,8 +11,8 @@ use Rattle.overlay_base.specs.declared.segm.fault.Fault.TheVariants.{CountOutOfR
 use Rattle.overlay_base.proofs.laws.joins.Stores.{made_further}
 use Rattle.overlay_base.proofs.laws.joins.Views.{segments_of-bare}
 use Rattle.overlay_intersections.specs.MarkOf.{marks_of}
-use Rattle.overlay_split.specs.CutOf.{AreMarksBy, PiecesLeaveRangeAt}
-use Rattle.overlay_split.specs.DataPass.{data_pass_by}
+use Rattle.overlay_split.specs.CutOf.{AreMarksBy, PiecesLeaveRangeAt, StopsPassAt}
+use Rattle.overlay_split.specs.DataPass.{data_cut_by, data_pass_by}
 use Rattle.overlay_split.specs.Pass.{cut_by, pass_by}
 use Rattle.overlay_split.proofs.laws.passes.DataPasses.{is_nil, bare-data_pass_by, data_cut-unmarked, data_pass_by-unmarked}
 use Rattle.overlay_split.proofs.laws.passes.Ready.{are_valid-cut, cut_as_segments, none_on_each}
@@ -58,6 +58,12 @@ returns-then-is_empty-clause-store_made g c = no_call
 
 -- ---- the pieces, joined
 
+pub cut_at-requires-clause-splittable : goal.cut_at-requires-clause-splittable
+cut_at-requires-clause-splittable g c = c.requires.splittable
+
+pub cut_at-requires-clause-marks : goal.cut_at-requires-clause-marks
+cut_at-requires-clause-marks g c = c.requires.marks
+
 pub join_with_store-requires : goal.join_with_store-requires
 join_with_store-requires g c =
     let hooks = hooks_of g.C.WindingCount.counted g.D.OverlayEdgeData in
@@ -71,6 +77,18 @@ returns-in_err-join_with_store-clause-refused g c =
     let leaves : c.in_err-join_with_store.field-0.0 ≡ CountOutOfRange → PiecesLeaveRangeAt c.args.marks.now items =
     λ e on are. subst (λ (l : List WholeSegment). IsTrue (join_leaves_range l)) (cut_as_segments hooks on items c.cut_at.new.list.items c.args.store.now (c.in_default.ensures.edge_data on are)) (c.in_err-join_with_store.ensures.refused e) in
     refused_by c.from_residual.result c.in_err-join_with_store.field-0.0 _ c.from_residual.ensures.1 leaves
+
+pub returns-in_err-join_with_store-clause-stopped : goal.returns-in_err-join_with_store-clause-stopped
+returns-in_err-join_with_store-clause-stopped g c =
+    let hooks = hooks_of g.C.WindingCount.counted g.D.OverlayEdgeData in
+    let items = data_segments_of c.args.list.now.items in
+    let left = c.join_with_store.new.store in
+    let stops : c.in_err-join_with_store.field-0.0 ≡ CountOutOfRange → StopsPassAt g.D.OverlayEdgeData c.args.marks.now c.args.list.now c.args.store.now left =
+    λ e on are.
+        let pieces = data_cut_by hooks on items c.args.store.now in
+        subst (λ s. IsRefusedJoin hooks pieces.0 s left) (c.in_default.ensures.store on are)
+        (subst (λ l. IsRefusedJoin hooks l c.cut_at.new.store left) (c.in_default.ensures.edge_data on are) (c.in_err-join_with_store.ensures.stopped e)) in
+    refused_by c.from_residual.result c.in_err-join_with_store.field-0.0 _ c.from_residual.ensures.1 stops
 
 pub returns-in_err-join_with_store-clause-store_made : goal.returns-in_err-join_with_store-clause-store_made
 returns-in_err-join_with_store-clause-store_made g c =

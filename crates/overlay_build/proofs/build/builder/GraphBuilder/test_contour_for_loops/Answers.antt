@@ -12,3 +12,6 @@ returns-in-Ok-clause-loops g c =
     let at = point_of g.I.OverlayInt.whole in
     c.has_equal_neighbors.ensures ∙ ap (λ xs. has_repeat point_eq (map at xs)) c.deref.ensures.value
     ∙ has_repeat-IsPermutation point_cmp_total (map at c.args.contour.now) (map at c.sort_into.new.buffer.items) (IsPermutation-map at _ _ c.in-Ok.ensures.permutation)
+
+pub returns-in-Err-clause-emptied : goal.returns-in-Err-clause-emptied
+returns-in-Err-clause-emptied g c = c.clear.ensures.items

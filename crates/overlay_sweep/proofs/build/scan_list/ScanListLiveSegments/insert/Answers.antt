@@ -47,3 +47,12 @@ returns-else-not-lasts_past-clause-most g c = λ n d within most.
     let fewer = fewer_last (λ e. int_lt (g.I.OverlayInt.whole c.args.x) (g.I.OverlayInt.whole e.segment.b.x)) _ _ c.settle-position.ensures.entries in
     let more = one_more _ c.settle-position.result c.settle-position.new.self.entries.items c.insert.new.self.items _ (c.is_err.ensures.negation ∙ ap not c.if-is_err.false) c.insert.ensures.items in
     search_pays _ _ _ d (search_asks _ _ n d c.settle-position.ensures.compared (omega (arith, fewer, within)) most) (omega (arith, fewer, more))
+
+pub returns-then-is_err-clause-emptied : goal.returns-then-is_err-clause-emptied
+returns-then-is_err-clause-emptied g c = c.clear.ensures.sums
+
+pub returns-then-is_err-clause-none_asked : goal.returns-then-is_err-clause-none_asked
+returns-then-is_err-clause-none_asked g c = c.clear.ensures.asked
+
+pub returns-then-is_err-clause-cleared : goal.returns-then-is_err-clause-cleared
+returns-then-is_err-clause-cleared g c = c.clear.ensures.time

@@ -7,3 +7,6 @@ use Rattle.overlay_sweep.proofs.build.scan_row.ScanRow.new.Goals as goal
 
 pub returns-clause-time : goal.returns-clause-time
 returns-clause-time g c = λ x. cursor_none x _ _ _ _ refl (row_empty x _ (ap (map entry_of) c.new.ensures.items))
+
+pub returns-clause-compared : goal.returns-clause-compared
+returns-clause-compared g c = refl

@@ -51,3 +51,12 @@ pub returns-in-Ok-clause-most : goal.returns-in-Ok-clause-most
 returns-in-Ok-clause-most g c = λ n d within most.
     let paid = c.settle_segment-position.ensures.most d (omega (arith, within, most)) in
     rw c.in-Ok.ensures.same (pays_for_one _ _ _ _ d (put_longer (lasts_past (g.I.OverlayInt.whole c.args.x) (entries_of c.settle_segment-position.new.self.entries.items)) c.settle_segment-position.new.self.entries.items c.put.new.self.entries.items _ _ c.in-Ok.ensures.put) paid)
+
+pub returns-in-Err-clause-emptied : goal.returns-in-Err-clause-emptied
+returns-in-Err-clause-emptied g c = c.clear.ensures.sums
+
+pub returns-in-Err-clause-none_asked : goal.returns-in-Err-clause-none_asked
+returns-in-Err-clause-none_asked g c = c.clear.ensures.asked
+
+pub returns-in-Err-clause-cleared : goal.returns-in-Err-clause-cleared
+returns-in-Err-clause-cleared g c = c.clear.ensures.time
