@@ -102,10 +102,6 @@ def functions_of(text, crate="", file=""):
         at += 1
 
 
-def is_test_file(crate, file):
-    return bool(TEST_CRATE.fullmatch(crate)) or bool(re.search(r"(^|/|_)tests\.rt$", file))
-
-
 def hidden_modules(crate, texts):
     """The files of modules that are not public, and what lies below them."""
     hidden = set()
@@ -135,7 +131,7 @@ class Sources:
         hidden, exports_alone = hidden_modules(crate, texts), any('extern "C"' in it for it in texts.values())
         for file, text in texts.items():
             for it in functions_of(text, crate, file):
-                if is_test_file(crate, file):
+                if TEST_CRATE.fullmatch(crate):
                     self.tests.append(it)
                     continue
                 if any(file == f"{name}.rt" or file.startswith(f"{name}/") for name in hidden):
