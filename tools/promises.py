@@ -7,7 +7,7 @@ All is read from the sources: clauses from the contracts, edits from `must-fail/
 refuses them, and calls from the bodies, by name. An edit is listed under each public function that it changes, and under those that
 reach the changed function through private ones. A test is listed under what it calls, itself or through functions of its own crate.
 An export for C has the files that call it, which tests of `rust/`, `c/` and `python/` run. Last come the public functions that have none
-of these; laws, which have an empty body, are counted apart.
+of these; laws, which have an empty body, are counted apart. Runs of the programs, in `examples/runs`, are listed under none.
 """
 import os
 import pathlib
