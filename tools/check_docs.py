@@ -21,7 +21,7 @@ import promises  # noqa: E402
 
 ROOT = os.path.dirname(os.path.dirname(os.path.abspath(__file__)))
 # files that every crate has
-COMMON = {"Lib", "lib", "main", "tests"}
+COMMON = {"Lib", "lib", "main"}
 CELLS_OF_A_FILE = 3
 THEOREMS = "docs/THEOREMS.md"
 # documents, and sources with comments, but for the header that a tool writes from the comments of the exports
@@ -193,7 +193,7 @@ def faults_of_edits():
 def main():
     files = present()
     found = [
-        *left_out(files, r"crates/\w+(?<!_tests)/src/(\w+/)*\w+(?<!_tests)\.rt", "docs/ARCHITECTURE.md"),
+        *left_out(files, r"crates/\w+(?<!_tests)/src/(\w+/)*\w+\.rt", "docs/ARCHITECTURE.md"),
         *lemmas_without_comment(),
         *faults_of_reading_order(index_definitions.index()),
         *faults_of_words(files),

@@ -1,6 +1,6 @@
 #!/usr/bin/env bash
-# Proofs and tests from nothing, by `rt ci`; then the edits of `must-fail/` are tried, each growth of the programs is refused in
-# turn, and the tests of the Rust package run, where cargo is. The last line is `N passed, M failed`.
+# Proofs and tests from nothing, by `rt ci`; then the edits of `must-fail/` are tried, whole runs of the programs are made, each growth
+# of them is refused in turn, and the tests of the Rust package run, where cargo is. The last line is `N passed, M failed`.
 #
 #     bash tools/gate.sh                  the whole gate
 #     bash tools/gate.sh --since COMMIT   every proof and test, and of the edits only those of crates that changed since COMMIT
@@ -101,12 +101,19 @@ rt ci | while IFS= read -r line; do
 done || status=$?
 verdict=$(tail -n 1 "$lines")
 
-# The last line is that of `rt ci`, with a test more for each edit, for the growths, and for the package.
+# The last line is that of `rt ci`, with a test more for each edit, for the runs, for the growths, and for the package.
 if [[ $verdict =~ ^([0-9]+)\ passed,\ ([0-9]+)\ failed(.*)$ ]]; then
     passed=${BASH_REMATCH[1]} failed=${BASH_REMATCH[2]} rest=${BASH_REMATCH[3]}
     if ((status)); then
-        printf '%5d s: edits, growths and the package were not tried: an earlier step failed\n' "$SECONDS"
+        printf '%5d s: edits, runs, growths and the package were not tried: an earlier step failed\n' "$SECONDS"
     else
+        if python3 tools/program_tests.py; then
+            printf '%5d s: runs of the programs end as they have to\n' "$SECONDS"
+            passed=$((passed + 1))
+        else
+            printf '%5d s: runs of the programs DIFFER\n' "$SECONDS"
+            failed=$((failed + 1)) status=1
+        fi
         if python3 tools/refusals.py; then
             passed=$((passed + 1))
         else

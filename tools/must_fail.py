@@ -207,7 +207,9 @@ class Trial:
         while unread := self.unread_in(said):
             self.others -= unread
             texts, said = self.checked_with(edits)
-        goals = [goal for goal in said.split("\n") if GOAL.match(goal) and (": error" in goal or goal.startswith("note: "))]
+        # a message goes on in lines that begin with two spaces, the first of which says what a proof names in vain
+        whole = re.sub(r"\n  (?=has no )", " ", said)
+        goals = [goal for goal in whole.split("\n") if GOAL.match(goal) and (": error" in goal or goal.startswith("note: "))]
         seen = [(goal, self.function_of(goal, texts)) for goal in goals if not OF_NAMES.match(goal)]
         for edit in edits:
             edit.try_goals(seen)

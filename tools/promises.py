@@ -7,7 +7,7 @@ All is read from the sources: clauses from the contracts, edits from `must-fail/
 refuses them, and calls from the bodies, by name. An edit is listed under each public function that it changes, and under those that
 reach the changed function through private ones. A test is listed under what it calls, itself or through functions of its own crate.
 An export for C has the files that call it, which tests of `rust/`, `c/` and `python/` run. Last come the public functions that have none
-of these; laws, which have an empty body, are counted apart.
+of these; laws, which have an empty body, are counted apart. Runs of the programs, in `examples/runs`, are listed under none.
 """
 import os
 import pathlib
@@ -102,10 +102,6 @@ def functions_of(text, crate="", file=""):
         at += 1
 
 
-def is_test_file(crate, file):
-    return bool(TEST_CRATE.fullmatch(crate)) or bool(re.search(r"(^|/|_)tests\.rt$", file))
-
-
 def hidden_modules(crate, texts):
     """The files of modules that are not public, and what lies below them."""
     hidden = set()
@@ -135,7 +131,7 @@ class Sources:
         hidden, exports_alone = hidden_modules(crate, texts), any('extern "C"' in it for it in texts.values())
         for file, text in texts.items():
             for it in functions_of(text, crate, file):
-                if is_test_file(crate, file):
+                if TEST_CRATE.fullmatch(crate):
                     self.tests.append(it)
                     continue
                 if any(file == f"{name}.rt" or file.startswith(f"{name}/") for name in hidden):

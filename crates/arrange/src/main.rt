@@ -8,8 +8,6 @@ mod join;
 mod run;
 mod split;
 mod walks;
-#[cfg(test)]
-mod words_tests;
 
 use std::process::ExitCode;
 

@@ -1,9 +1,9 @@
 // The program: which words it reads, and what a command returns.
-ghost use Rattle.std.specs.Prelude.{◌≡◌, ◌⊎◌, Ok, Err, IfOk, IfErr, map, string_bytes};
+ghost use Rattle.std.specs.Prelude.{◌≡◌, ◌⊎◌, Ok, Err, IfOk, IfErr, string_bytes};
 ghost use Rattle.overlay_base.specs.declared.segm.fault.Fault.TheVariants.{Memory};
 ghost use Rattle.arrange.specs.Run.{IsAnswer, arrange_behavior};
 ghost use Rattle.overlay_text.specs.declared.stop.Stop.{Stop};
-ghost use Rattle.overlay_text.specs.Runs.{Ask, AskForNone, AsksAndWrites, AsksAndStops, Writes, Stops};
+ghost use Rattle.overlay_text.specs.Runs.{AsksAndWrites, AsksAndStops};
 
 use crate::cross::cross;
 use crate::graph::graph;
@@ -13,7 +13,7 @@ use crate::walks::walks;
 use overlay_geometry::num::OverlayInt;
 use overlay_text::lines::read_lines;
 use overlay_text::settings::{Command, Engine, Settings};
-use overlay_text::shell::{Program, run_over, run_started};
+use overlay_text::shell::{Program, run_started};
 use overlay_text::stop::Stop;
 use overlay_text::words;
 use std::alloc::{AllocError, Global};
@@ -54,11 +54,11 @@ impl Program for ArrangeProgram {
     }
 }
 
-/// Runs the program over the words that the process was started with, and returns the exit status,
-/// as `arrange_run` does over some words: the usage and 2 also where one of them is no UTF-8, and 4
-/// where memory for them is refused. No clause can say which words those are, so none says either
-/// that the usage is printed only where they choose nothing: tests over words that are made up show
-/// that each word is handed on.
+/// Runs the program over the words that the process was started with, as `run_started` does, and
+/// returns the exit status: 0 where the run is done, else that of its `Stop`.
+///
+/// No clause can say which words those are, so none says either that the usage is printed only where
+/// they choose nothing. Runs of `examples/runs` show that each word is handed on.
 pub fn arrange<H: Env + AllocGlobal, R: Read, W: Write, E: Write>(
     rt: &H,
     input: &mut R,
@@ -70,31 +70,6 @@ pub fn arrange<H: Env + AllocGlobal, R: Read, W: Write, E: Write>(
     ensures quiet { result ≡ 0 → faults.new ≡ faults.old }
 {
     run_started::<ArrangeProgram, H, R, W, E>(rt, input, output, faults)
-}
-
-/// Runs the program over these words, and returns the exit status: 0 where the run is done, 2 for
-/// words that choose nothing and for a crossing of other than two segments, 3 for a faulty line, 4
-/// for a `Fault`, 5 where the input or the output failed.
-///
-/// Nothing is written to `output` unless the run is done or the output failed, and nothing to
-/// `faults` where the status is 0. Any other status is explained in one line on `faults`; a failed
-/// write there is ignored. Where the words choose nothing, nothing is read.
-pub fn arrange_run<R: Read, W: Write, E: Write>(
-    alloc: Global,
-    words: &[String],
-    input: &mut R,
-    output: &mut W,
-    faults: &mut E,
-) -> u8
-    ensures asked { result ≡ 0 → Ask arrange_behavior (map string_bytes words.now) }
-    ensures done { result ≡ 0
-        → Writes arrange_behavior words.now R.remaining input.old W.contents output.old output.new }
-    ensures stopped { (result ≡ 0)
-        ⊎ Stops arrange_behavior words.now R.remaining input.old output.old output.new result }
-    ensures unread { AskForNone arrange_behavior (map string_bytes words.now) → input.new ≡ input.old }
-    ensures quiet { result ≡ 0 → faults.new ≡ faults.old }
-{
-    run_over::<ArrangeProgram, R, W, E>(alloc, words, input, output, faults)
 }
 
 /// What a command returns for the text of the input.
@@ -118,12 +93,3 @@ fn answer_with<I: OverlayInt>(
         Command::Walks => walks(alloc, segments, settings),
     }
 }
-
-#[cfg(test)]
-mod failing_tests;
-#[cfg(test)]
-mod region_tests;
-#[cfg(test)]
-mod tests;
-#[cfg(test)]
-mod worked_tests;

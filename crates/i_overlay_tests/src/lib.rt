@@ -1,4 +1,4 @@
-// Tests of `i_overlay` and `overlay_contours`, through their public calls.
+// Tests of `i_overlay`, `overlay_contours` and `overlaps`, through their public calls.
 #![tactic(auto)]
 
 #[cfg(test)]
@@ -11,6 +11,8 @@ mod contours;
 mod library;
 #[cfg(test)]
 mod measure;
+#[cfg(test)]
+mod overlaps;
 #[cfg(test)]
 mod overlay;
 #[cfg(test)]

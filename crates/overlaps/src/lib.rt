@@ -7,9 +7,6 @@ ghost use Rattle.overlaps.specs.Apart.{SaysWhetherBoth, ShareNoPlaceIfNot, SaysW
 
 use i_overlay::prelude::*;
 
-#[cfg(test)]
-mod tests;
-
 /// Whether a subject and a clip overlap after the split: some segment of the arrangement has both on exactly one side.
 ///
 /// The sides have to be splittable, as `is_splittable` tests; afterwards they are the arrangement. Where their counts

@@ -252,6 +252,3 @@ fn wkt_under<I: OverlayInt>(
     write_report(&mut text, choices.has_report, &overlay)?;
     Ok(text)
 }
-
-#[cfg(test)]
-mod tests;

@@ -1,6 +1,6 @@
-// Squares that overlap, touch and are apart; lines through a square, along it and beside it.
-use crate::{overlaps, runs_through};
+// The calls of `overlaps`: squares that overlap, touch and are apart; lines through a square, along it and beside it.
 use i_overlay::prelude::*;
+use overlaps::{overlaps, runs_through};
 use std::process::Abort;
 use std::test::Fail;
 
