@@ -1,6 +1,7 @@
 use Rattle.std.proofs.Common.{◌≡◌, ◌∙◌, ℕ, ◌+◌, ◌<◌, List, [], ◌∷◌, ◌++◌, length, take, drop, get_or, sym, ap, subst, arith}
 use Rattle.std.specs.Prelude.{Contains}
 use Rattle.std.proofs.lemmas.List.{length-map, get_or-map, get_or_default}
+use Rattle.std.proofs.lemmas.Result.{IfOk-from_err}
 use Rattle.overlay_geometry.proofs.laws.lists.Elements.{Contains-from_Has}
 use Rattle.overlay_build.specs.BoundaryOf.{walks_of}
 use Rattle.overlay_shapes.specs.Gathered.{groups_of, group_at}
@@ -180,3 +181,18 @@ returns-clause-groups c =
     let all : take c.loop-walk.walk-index (walks_of walks) ≡ walks_of walks = taken_whole (walks_of walks) c.loop-walk.walk-index (rw (length-map walks (λ w. w.items)) c.loop-walk-test.false) in
     all_added leaders c.args.fronts.now numbers (walks_of walks) (groups_of c.loop-walk.groups.items) c.requires.fronts c.requires.walks
     (subst (λ l. AreAdded leaders c.args.fronts.now numbers l (groups_of c.loop-walk.groups.items)) all (subst (λ l. AreAdded leaders c.args.fronts.now l (take c.loop-walk.walk-index (walks_of walks)) (groups_of c.loop-walk.groups.items)) back c.loop-walk.invariant))
+
+pub returns-in_err-numbers-clause-groups : goal.returns-in_err-numbers-clause-groups
+returns-in_err-numbers-clause-groups c = IfOk-from_err c.from_residual.result _ c.from_residual.ensures.0
+
+pub returns-in_err-groups-clause-groups : goal.returns-in_err-groups-clause-groups
+returns-in_err-groups-clause-groups c = IfOk-from_err c.from_residual-in_err-groups.result _ c.from_residual-in_err-groups.ensures.0
+
+pub returns-in_err-add_walk-clause-groups : goal.returns-in_err-add_walk-clause-groups
+returns-in_err-add_walk-clause-groups c = IfOk-from_err c.from_residual-in_err-add_walk.result _ c.from_residual-in_err-add_walk.ensures.0
+
+pub bounds-walks-walk-index : goal.bounds-walks-walk-index
+bounds-walks-walk-index c = c.loop-walk-test.true
+
+pub offset_bounds-walks-walk-index : goal.offset_bounds-walks-walk-index
+offset_bounds-walks-walk-index c = omega (arith, c.loop-walk-test.true)
