@@ -107,12 +107,14 @@ pub index-front-requires : goal.index-front-requires
 index-front-requires g c =
     let links : List Link = map (link_of g.I.OverlayInt.whole) c.args.links.now in
     let before = c.loop-index in
-    let low = leader_low links c.args.leaders.now c.requires.leaders before.index before.fronts.items before.invariant c.loop-index-test.true in
+    let low =
+    leader_low links c.args.leaders.now c.requires.leaders before.index before.fronts.items before.invariant c.loop-index-test.true in
     omega (arith, low, before.invariant.fronts_are.each)
 
 pub index_mut-requires : goal.index_mut-requires
 index_mut-requires g c =
     let links : List Link = map (link_of g.I.OverlayInt.whole) c.args.links.now in
     let before = c.loop-index in
-    let low = leader_low links c.args.leaders.now c.requires.leaders before.index before.fronts.items before.invariant c.loop-index-test.true in
+    let low =
+    leader_low links c.args.leaders.now c.requires.leaders before.index before.fronts.items before.invariant c.loop-index-test.true in
     omega (arith, low, before.invariant.fronts_are.each)

@@ -204,11 +204,13 @@ offset_bounds-fronts-leader c =
     let k : ℕ = c.loop-walk.walk-index in
     let walk : List ℕ = c.walk-item.result.items in
     let low : k < length (walks_of walks) = rw (length-map walks (λ w. w.items)) c.loop-walk-test.true in
-    let there : get_or (walks_of walks) k walk ≡ walk = get_or-map (λ w. w.items) walks k c.walk-item.result walk c.loop-walk-test.true ∙ ap (λ w. w.items) (sym c.walk-item.is) in
+    let there : get_or (walks_of walks) k walk ≡ walk =
+    get_or-map (λ w. w.items) walks k c.walk-item.result walk c.loop-walk-test.true ∙ ap (λ w. w.items) (sym c.walk-item.is) in
     let among : Contains (walks_of walks) walk = (k, low, there) in
     let filled = c.requires.walks.filled walk among in
     let first : c.index.result.now ≡ get_or walk 0 0 = c.index.ensures ∙ get_or_default walk 0 c.index.result.now 0 filled in
-    let within : get_or walk 0 0 < length leaders = c.requires.walks.within walk (get_or walk 0 0) among (0, filled, get_or_default walk 0 (get_or walk 0 0) 0 filled) in
+    let within : get_or walk 0 0 < length leaders =
+    c.requires.walks.within walk (get_or walk 0 0) among (0, filled, get_or_default walk 0 (get_or walk 0 0) 0 filled) in
     let leader : ℕ = get_or leaders c.index.result.now 0 in
     let same : leader ≡ get_or leaders (get_or walk 0 0) 0 = ap (λ i. get_or leaders i 0) first in
     let least = c.requires.leaders.least (get_or walk 0 0) within in
@@ -222,7 +224,8 @@ index-requires c =
     let k : ℕ = c.loop-walk.walk-index in
     let walk : List ℕ = c.walk-item.result.items in
     let low : k < length (walks_of walks) = rw (length-map walks (λ w. w.items)) c.loop-walk-test.true in
-    let there : get_or (walks_of walks) k walk ≡ walk = get_or-map (λ w. w.items) walks k c.walk-item.result walk c.loop-walk-test.true ∙ ap (λ w. w.items) (sym c.walk-item.is) in
+    let there : get_or (walks_of walks) k walk ≡ walk =
+    get_or-map (λ w. w.items) walks k c.walk-item.result walk c.loop-walk-test.true ∙ ap (λ w. w.items) (sym c.walk-item.is) in
     let among : Contains (walks_of walks) walk = (k, low, there) in
     let filled = c.requires.walks.filled walk among in
     let long = c.walk-item.result.ok.0 in

@@ -63,7 +63,8 @@ pub returns-in_err-next-clause-next : goal.returns-in_err-next-clause-next
 returns-in_err-next-clause-next g c = IfOk-from_err c.from_residual.result _ c.from_residual.ensures.0
 
 pub returns-in_err-lead_on_at-clause-next : goal.returns-in_err-lead_on_at-clause-next
-returns-in_err-lead_on_at-clause-next g c = IfOk-from_err c.from_residual-in_err-lead_on_at.result _ c.from_residual-in_err-lead_on_at.ensures.0
+returns-in_err-lead_on_at-clause-next g c =
+    IfOk-from_err c.from_residual-in_err-lead_on_at.result _ c.from_residual-in_err-lead_on_at.ensures.0
 
 pub loop-node-init : goal.loop-node-init
 loop-node-init g c =

@@ -248,7 +248,8 @@ pub returns-in_err-push-clause-parts : goal.returns-in_err-push-clause-parts
 returns-in_err-push-clause-parts g c = IfOk-from_err c.from_residual.result _ c.from_residual.ensures.0
 
 pub returns-in_err-extend_from_slice-clause-parts : goal.returns-in_err-extend_from_slice-clause-parts
-returns-in_err-extend_from_slice-clause-parts g c = IfOk-from_err c.from_residual-in_err-extend_from_slice.result _ c.from_residual-in_err-extend_from_slice.ensures.0
+returns-in_err-extend_from_slice-clause-parts g c =
+    IfOk-from_err c.from_residual-in_err-extend_from_slice.result _ c.from_residual-in_err-extend_from_slice.ensures.0
 
 pub returns-in_err-push-2-clause-parts : goal.returns-in_err-push-2-clause-parts
 returns-in_err-push-2-clause-parts g c = IfOk-from_err c.from_residual-in_err-push-2.result _ c.from_residual-in_err-push-2.ensures.0

@@ -87,13 +87,17 @@ pub returns-in_err-rounded-clause-rounded : goal.returns-in_err-rounded-clause-r
 returns-in_err-rounded-clause-rounded g c = IfOk-from_err c.from_residual.result _ c.from_residual.ensures.0
 
 pub returns-in_err-rounded-2-clause-marks : goal.returns-in_err-rounded-2-clause-marks
-returns-in_err-rounded-2-clause-marks g c = IfOk-from_err c.from_residual-in_err-rounded-2.result _ c.from_residual-in_err-rounded-2.ensures.0
+returns-in_err-rounded-2-clause-marks g c =
+    IfOk-from_err c.from_residual-in_err-rounded-2.result _ c.from_residual-in_err-rounded-2.ensures.0
 
 pub returns-in_err-rounded-2-clause-rounded : goal.returns-in_err-rounded-2-clause-rounded
-returns-in_err-rounded-2-clause-rounded g c = IfOk-from_err c.from_residual-in_err-rounded-2.result _ c.from_residual-in_err-rounded-2.ensures.0
+returns-in_err-rounded-2-clause-rounded g c =
+    IfOk-from_err c.from_residual-in_err-rounded-2.result _ c.from_residual-in_err-rounded-2.ensures.0
 
 pub whole-init : goal.whole-init
-whole-init g c = record { scan = record { found = refl; flag = refl }; after = omega arith; within = let order = c.requires.order in omega (arith, order) }
+whole-init g c =
+    let order = c.requires.order in
+    record { scan = record { found = refl; flag = refl }; after = omega arith; within = omega (arith, order) }
 
 pub mark_with_each-requires-clause-after : goal.mark_with_each-requires-clause-after
 mark_with_each-requires-clause-after g c = c.whole.invariant.after
