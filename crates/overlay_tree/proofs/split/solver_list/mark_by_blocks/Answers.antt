@@ -124,3 +124,11 @@ offset_bounds-ranges-index g c =
     let order = c.requires.order in
     let within = c.requires.within in
     omega (arith, many, count, order, within)
+
+pub offset_bounds-ranges-from : goal.offset_bounds-ranges-from
+offset_bounds-ranges-from g c =
+    let many = heights_are_many g.I.OverlayInt.whole c.args.ranges.now (pairs (segments_of c.args.segments.now)) c.requires.heights in
+    let count = length-pairs c.args.segments.now in
+    let test = c.whole-test.true in
+    let within = c.requires.within in
+    omega (arith, many, count, test, within)
