@@ -1,5 +1,6 @@
 use Rattle.std.proofs.Common.{◌≡◌, ◌∙◌, ℕ, ◌<◌, List, map, length, get_or, true, sym, ap, ap₂, subst, arith}
 use Rattle.std.proofs.lemmas.List.{get_or-map, get_or_default}
+use Rattle.std.proofs.lemmas.Result.{IfOk-from_err}
 use Rattle.overlay_geometry.specs.Points.{is_ordered}
 use Rattle.overlay_build.specs.DirectedWalks.{no_link}
 use Rattle.overlay_build.specs.Graph.{Link}
@@ -83,3 +84,37 @@ returns-clause-fronts g c = c.loop-index.invariant.fronts_are
 
 pub returns-clause-none_before : goal.returns-clause-none_before
 returns-clause-none_before g c = all_fronts (map (link_of g.I.OverlayInt.whole) c.args.links.now) c.args.leaders.now c.loop-index.index c.loop-index.fronts.items c.loop-index.invariant c.loop-index-test.false
+
+pub returns-in_err-fronts-clause-fronts : goal.returns-in_err-fronts-clause-fronts
+returns-in_err-fronts-clause-fronts g c = IfOk-from_err c.from_residual.result _ c.from_residual.ensures.0
+
+pub returns-in_err-fronts-clause-none_before : goal.returns-in_err-fronts-clause-none_before
+returns-in_err-fronts-clause-none_before g c = IfOk-from_err c.from_residual.result _ c.from_residual.ensures.0
+
+pub bounds-leaders-index : goal.bounds-leaders-index
+bounds-leaders-index g c = c.loop-index-test.true
+
+pub bounds-links-index : goal.bounds-links-index
+bounds-links-index g c = let inside = c.loop-index-test.true in let each = c.requires.each in omega (arith, inside, each)
+
+pub offset_bounds-leaders-index : goal.offset_bounds-leaders-index
+offset_bounds-leaders-index g c = omega (arith, c.loop-index-test.true)
+
+pub offset_bounds-links-index : goal.offset_bounds-links-index
+offset_bounds-links-index g c = let inside = c.loop-index-test.true in let each = c.requires.each in omega (arith, inside, each)
+
+pub index-front-requires : goal.index-front-requires
+index-front-requires g c =
+    let links : List Link = map (link_of g.I.OverlayInt.whole) c.args.links.now in
+    let before = c.loop-index in
+    let low =
+    leader_low links c.args.leaders.now c.requires.leaders before.index before.fronts.items before.invariant c.loop-index-test.true in
+    omega (arith, low, before.invariant.fronts_are.each)
+
+pub index_mut-requires : goal.index_mut-requires
+index_mut-requires g c =
+    let links : List Link = map (link_of g.I.OverlayInt.whole) c.args.links.now in
+    let before = c.loop-index in
+    let low =
+    leader_low links c.args.leaders.now c.requires.leaders before.index before.fronts.items before.invariant c.loop-index-test.true in
+    omega (arith, low, before.invariant.fronts_are.each)

@@ -1,6 +1,7 @@
 use Rattle.std.proofs.Common.{◌≡◌, ◌∙◌, ℕ, ◌+◌, ◌<◌, List, [], ◌∷◌, ◌++◌, length, take, drop, get_or, sym, ap, subst, arith}
 use Rattle.std.specs.Prelude.{Contains}
 use Rattle.std.proofs.lemmas.List.{length-map, get_or-map, get_or_default}
+use Rattle.std.proofs.lemmas.Result.{IfOk-from_err}
 use Rattle.overlay_geometry.proofs.laws.lists.Elements.{Contains-from_Has}
 use Rattle.overlay_build.specs.BoundaryOf.{walks_of}
 use Rattle.overlay_shapes.specs.Gathered.{groups_of, group_at}
@@ -180,3 +181,52 @@ returns-clause-groups c =
     let all : take c.loop-walk.walk-index (walks_of walks) ≡ walks_of walks = taken_whole (walks_of walks) c.loop-walk.walk-index (rw (length-map walks (λ w. w.items)) c.loop-walk-test.false) in
     all_added leaders c.args.fronts.now numbers (walks_of walks) (groups_of c.loop-walk.groups.items) c.requires.fronts c.requires.walks
     (subst (λ l. AreAdded leaders c.args.fronts.now numbers l (groups_of c.loop-walk.groups.items)) all (subst (λ l. AreAdded leaders c.args.fronts.now l (take c.loop-walk.walk-index (walks_of walks)) (groups_of c.loop-walk.groups.items)) back c.loop-walk.invariant))
+
+pub returns-in_err-numbers-clause-groups : goal.returns-in_err-numbers-clause-groups
+returns-in_err-numbers-clause-groups c = IfOk-from_err c.from_residual.result _ c.from_residual.ensures.0
+
+pub returns-in_err-groups-clause-groups : goal.returns-in_err-groups-clause-groups
+returns-in_err-groups-clause-groups c = IfOk-from_err c.from_residual-in_err-groups.result _ c.from_residual-in_err-groups.ensures.0
+
+pub returns-in_err-add_walk-clause-groups : goal.returns-in_err-add_walk-clause-groups
+returns-in_err-add_walk-clause-groups c = IfOk-from_err c.from_residual-in_err-add_walk.result _ c.from_residual-in_err-add_walk.ensures.0
+
+pub bounds-walks-walk-index : goal.bounds-walks-walk-index
+bounds-walks-walk-index c = c.loop-walk-test.true
+
+pub offset_bounds-walks-walk-index : goal.offset_bounds-walks-walk-index
+offset_bounds-walks-walk-index c = omega (arith, c.loop-walk-test.true)
+
+pub offset_bounds-fronts-leader : goal.offset_bounds-fronts-leader
+offset_bounds-fronts-leader c =
+    let leaders : List ℕ = c.args.leaders.now in
+    let walks = c.args.walks.now in
+    let k : ℕ = c.loop-walk.walk-index in
+    let walk : List ℕ = c.walk-item.result.items in
+    let low : k < length (walks_of walks) = rw (length-map walks (λ w. w.items)) c.loop-walk-test.true in
+    let there : get_or (walks_of walks) k walk ≡ walk =
+    get_or-map (λ w. w.items) walks k c.walk-item.result walk c.loop-walk-test.true ∙ ap (λ w. w.items) (sym c.walk-item.is) in
+    let among : Contains (walks_of walks) walk = (k, low, there) in
+    let filled = c.requires.walks.filled walk among in
+    let first : c.index.result.now ≡ get_or walk 0 0 = c.index.ensures ∙ get_or_default walk 0 c.index.result.now 0 filled in
+    let within : get_or walk 0 0 < length leaders =
+    c.requires.walks.within walk (get_or walk 0 0) among (0, filled, get_or_default walk 0 (get_or walk 0 0) 0 filled) in
+    let leader : ℕ = get_or leaders c.index.result.now 0 in
+    let same : leader ≡ get_or leaders (get_or walk 0 0) 0 = ap (λ i. get_or leaders i 0) first in
+    let least = c.requires.leaders.least (get_or walk 0 0) within in
+    let inside : leader < length leaders = omega (arith, same, least, within) in
+    omega (arith, inside, c.requires.fronts.each)
+
+pub index-requires : goal.index-requires
+index-requires c =
+    let leaders : List ℕ = c.args.leaders.now in
+    let walks = c.args.walks.now in
+    let k : ℕ = c.loop-walk.walk-index in
+    let walk : List ℕ = c.walk-item.result.items in
+    let low : k < length (walks_of walks) = rw (length-map walks (λ w. w.items)) c.loop-walk-test.true in
+    let there : get_or (walks_of walks) k walk ≡ walk =
+    get_or-map (λ w. w.items) walks k c.walk-item.result walk c.loop-walk-test.true ∙ ap (λ w. w.items) (sym c.walk-item.is) in
+    let among : Contains (walks_of walks) walk = (k, low, there) in
+    let filled = c.requires.walks.filled walk among in
+    let long = c.walk-item.result.ok.0 in
+    omega (arith, filled, long)

@@ -1,6 +1,7 @@
 use Rattle.std.proofs.Common.{◌≡◌, ℕ, ◌<◌, ◌∙◌, inl, inr, List, ap, sym, subst, length, get_or, arith}
 use Rattle.std.proofs.lemmas.Bool.{cases_lt}
 use Rattle.std.proofs.lemmas.List.{with_items_is}
+use Rattle.std.proofs.lemmas.Result.{IfOk-from_err}
 use Rattle.overlay_base.specs.Rules.{holds}
 use Rattle.overlay_build.specs.BoundaryOf.{arcs_by}
 use Rattle.overlay_build.specs.DirectedWalks.{no_link}
@@ -42,3 +43,32 @@ returns-clause-next g c =
     (let inside = ends_at_nodes indexes_of is_canonical_node whole graph.nodes.now graph.links.now graph.holds rule low high c.requires.arranged c.loop-node.next.items i h in
     let end = c.loop-node-test.false in
     omega (arith, inside, end, count)))
+
+pub lead_on_at-requires-clause-node : goal.lead_on_at-requires-clause-node
+lead_on_at-requires-clause-node g c = subst (λ (n : ℕ). c.loop-node.node < n) (ap length c.nodes-node-end.ensures) c.loop-node-test.true
+
+pub lead_on_at-requires-clause-next : goal.lead_on_at-requires-clause-next
+lead_on_at-requires-clause-next g c = ap length c.deref_mut.ensures.value ∙ c.loop-node.invariant.0
+
+pub lead_on_at-requires-clause-flow : goal.lead_on_at-requires-clause-flow
+lead_on_at-requires-clause-flow g c = c.requires.flow
+
+pub lead_on_at-requires-clause-arranged : goal.lead_on_at-requires-clause-arranged
+lead_on_at-requires-clause-arranged g c = c.requires.arranged
+
+pub lead_on_at-requires-clause-region : goal.lead_on_at-requires-clause-region
+lead_on_at-requires-clause-region g c = c.requires.region
+
+pub returns-in_err-next-clause-next : goal.returns-in_err-next-clause-next
+returns-in_err-next-clause-next g c = IfOk-from_err c.from_residual.result _ c.from_residual.ensures.0
+
+pub returns-in_err-lead_on_at-clause-next : goal.returns-in_err-lead_on_at-clause-next
+returns-in_err-lead_on_at-clause-next g c =
+    IfOk-from_err c.from_residual-in_err-lead_on_at.result _ c.from_residual-in_err-lead_on_at.ensures.0
+
+pub loop-node-init : goal.loop-node-init
+loop-node-init g c =
+    let long = c.in_ok-next.ensures.len in
+    let links = ap length c.links.ensures in
+    let many = length-arcs g.I.OverlayInt.whole (holds c.args.rule) c.args.graph.now.links.now in
+    (omega (arith, long, links, many), λ i h low. absurd (omega (arith, low)))

@@ -1,5 +1,6 @@
 use Rattle.std.proofs.Common.{◌≡◌, ◌∙◌, ℕ, ◌+◌, ◌-◌, ◌<◌, ◌≤◌, List, [], ◌∷◌, ◌++◌, map, length, get_or, set, drop, refl, sym, ap, ap₂, subst, arith}
 use Rattle.std.proofs.lemmas.List.{length-map, length-drop, length-set, map-append, get_or_default}
+use Rattle.std.proofs.lemmas.Result.{IfOk-from_err}
 use Rattle.overlay_base.specs.Rules.{holds}
 use Rattle.overlay_build.specs.BoundaryOf.{walks_of}
 use Rattle.overlay_build.specs.DirectedWalks.{arcs}
@@ -242,3 +243,32 @@ returns-clause-parts g c =
     let graph = c.args.graph.now in
     let ways : List Link = arcs (holds c.args.rule) (map (link_of g.I.OverlayInt.whole) graph.links.now) in
     all_cut ways c.args.walk.now c.loop-step.step-index c.loop-step.places c.loop-step.path.items (walks_of c.args.simple.now.items) (walks_of c.loop-step.simple.items) c.loop-step.invariant c.loop-step-test.false
+
+pub returns-in_err-push-clause-parts : goal.returns-in_err-push-clause-parts
+returns-in_err-push-clause-parts g c = IfOk-from_err c.from_residual.result _ c.from_residual.ensures.0
+
+pub returns-in_err-extend_from_slice-clause-parts : goal.returns-in_err-extend_from_slice-clause-parts
+returns-in_err-extend_from_slice-clause-parts g c =
+    IfOk-from_err c.from_residual-in_err-extend_from_slice.result _ c.from_residual-in_err-extend_from_slice.ensures.0
+
+pub returns-in_err-push-2-clause-parts : goal.returns-in_err-push-2-clause-parts
+returns-in_err-push-2-clause-parts g c = IfOk-from_err c.from_residual-in_err-push-2.result _ c.from_residual-in_err-push-2.ensures.0
+
+pub bounds-walk-step-index : goal.bounds-walk-step-index
+bounds-walk-step-index g c = c.loop-step-test.true
+
+pub offset_bounds-walk-step-index : goal.offset_bounds-walk-step-index
+offset_bounds-walk-step-index g c = omega (arith, c.loop-step-test.true)
+
+pub bounds-links-step : goal.bounds-links-step
+bounds-links-step g c =
+    let graph = c.args.graph.now in
+    let many = length-arcs g.I.OverlayInt.whole (holds c.args.rule) graph.links.now in
+    let low = c.requires.walk.within c.loop-step.step-index 0 c.loop-step-test.true in
+    let links = ap length c.links-links.ensures in
+    omega (arith, many, low, links)
+
+pub offset_bounds-links-step : goal.offset_bounds-links-step
+offset_bounds-links-step g c =
+    let bound = bounds-links-step g c in
+    omega (arith, bound)

@@ -1,5 +1,6 @@
-use Rattle.std.proofs.Common.{◌≡◌, ◌<◌, ◌+◌, ◌-◌, sym, ap, ◌∙◌, drop, length, arith, count_by}
+use Rattle.std.proofs.Common.{◌≡◌, refl, ◌<◌, ◌+◌, ◌-◌, sym, ap, ◌∙◌, drop, length, arith, count_by}
 use Rattle.std.specs.Prelude.{◌≤ℤ◌, ◌<ℤ◌}
+use Rattle.std.proofs.lemmas.List.{at_drop_all}
 use Rattle.overlay_geometry.specs.PairOf.{pair_of}
 use Rattle.overlay_geometry.proofs.laws.integers.Tests.{lt-tested, lt-tested_false}
 use Rattle.overlay_base.specs.Segments.{pairs}
@@ -106,3 +107,22 @@ returns-after-steps-clause-after g c = c.steps.invariant.after
 
 pub returns-after-steps-clause-within : goal.returns-after-steps-clause-within
 returns-after-steps-clause-within g c = c.steps.invariant.within
+
+pub leaps-init : goal.leaps-init
+leaps-init g c = record { told = refl; after = omega arith; within = let index = c.requires.index in omega (arith, index) }
+
+pub returns-after-steps-clause-past : goal.returns-after-steps-clause-past
+returns-after-steps-clause-past g c =
+    let ps = pairs (segments_of c.args.segments.now) in
+    let count = length-pairs c.args.segments.now in
+    let end = c.steps-test.false in
+    at_drop_all (count_by (x_ranges_meet (pair_at ps c.args.index))) ps c.steps.end (omega (arith, count, end))
+
+pub returns-after-steps-clause-met : goal.returns-after-steps-clause-met
+returns-after-steps-clause-met g c = all_met c.args.index _ c.steps.end _ c.steps.invariant.told (returns-after-steps-clause-past g c)
+
+pub returns-then-begins_past_end-2-clause-after : goal.returns-then-begins_past_end-2-clause-after
+returns-then-begins_past_end-2-clause-after g c = c.steps.invariant.after
+
+pub returns-then-begins_past_end-2-clause-within : goal.returns-then-begins_past_end-2-clause-within
+returns-then-begins_past_end-2-clause-within g c = c.steps.invariant.within

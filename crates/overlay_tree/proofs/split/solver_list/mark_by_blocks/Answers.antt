@@ -1,5 +1,6 @@
-use Rattle.std.proofs.Common.{◌≡◌, ◌<◌, ◌≤◌, ◌+◌, ◌-◌, sym, ◌∙◌, take, drop, length, arith}
+use Rattle.std.proofs.Common.{◌≡◌, refl, ◌<◌, ◌≤◌, ◌+◌, ◌-◌, sym, ◌∙◌, take, drop, length, arith}
 use Rattle.std.specs.List.{AllByRecursion}
+use Rattle.std.proofs.lemmas.Result.{IfOk-from_err}
 use Rattle.overlay_base.specs.Segments.{pairs}
 use Rattle.overlay_base.specs.SegmentOf.{segments_of}
 use Rattle.overlay_intersections.specs.MarkOf.{marks_of}
@@ -54,3 +55,80 @@ whole-preserved g c =
       after = omega arith;
       within = omega arith;
     }
+
+pub mark_with_each-requires-clause-heights : goal.mark_with_each-requires-clause-heights
+mark_with_each-requires-clause-heights g c = c.requires.heights
+
+pub mark_with_each-requires-clause-sorted : goal.mark_with_each-requires-clause-sorted
+mark_with_each-requires-clause-sorted g c = c.requires.sorted
+
+pub mark_with_each-requires-clause-in_range : goal.mark_with_each-requires-clause-in_range
+mark_with_each-requires-clause-in_range g c = c.requires.in_range
+
+pub mark_with_each-requires-clause-radius : goal.mark_with_each-requires-clause-radius
+mark_with_each-requires-clause-radius g c = c.requires.radius
+
+pub mark_with_each-requires-2-clause-heights : goal.mark_with_each-requires-2-clause-heights
+mark_with_each-requires-2-clause-heights g c = c.requires.heights
+
+pub mark_with_each-requires-2-clause-sorted : goal.mark_with_each-requires-2-clause-sorted
+mark_with_each-requires-2-clause-sorted g c = c.requires.sorted
+
+pub mark_with_each-requires-2-clause-in_range : goal.mark_with_each-requires-2-clause-in_range
+mark_with_each-requires-2-clause-in_range g c = c.requires.in_range
+
+pub mark_with_each-requires-2-clause-radius : goal.mark_with_each-requires-2-clause-radius
+mark_with_each-requires-2-clause-radius g c = c.requires.radius
+
+pub returns-in_err-rounded-clause-marks : goal.returns-in_err-rounded-clause-marks
+returns-in_err-rounded-clause-marks g c = IfOk-from_err c.from_residual.result _ c.from_residual.ensures.0
+
+pub returns-in_err-rounded-clause-rounded : goal.returns-in_err-rounded-clause-rounded
+returns-in_err-rounded-clause-rounded g c = IfOk-from_err c.from_residual.result _ c.from_residual.ensures.0
+
+pub returns-in_err-rounded-2-clause-marks : goal.returns-in_err-rounded-2-clause-marks
+returns-in_err-rounded-2-clause-marks g c =
+    IfOk-from_err c.from_residual-in_err-rounded-2.result _ c.from_residual-in_err-rounded-2.ensures.0
+
+pub returns-in_err-rounded-2-clause-rounded : goal.returns-in_err-rounded-2-clause-rounded
+returns-in_err-rounded-2-clause-rounded g c =
+    IfOk-from_err c.from_residual-in_err-rounded-2.result _ c.from_residual-in_err-rounded-2.ensures.0
+
+pub whole-init : goal.whole-init
+whole-init g c =
+    let order = c.requires.order in
+    record { scan = record { found = refl; flag = refl }; after = omega arith; within = omega (arith, order) }
+
+pub mark_with_each-requires-clause-after : goal.mark_with_each-requires-clause-after
+mark_with_each-requires-clause-after g c = c.whole.invariant.after
+
+pub mark_with_each-requires-clause-order : goal.mark_with_each-requires-clause-order
+mark_with_each-requires-clause-order g c = omega arith
+
+pub mark_with_each-requires-clause-within : goal.mark_with_each-requires-clause-within
+mark_with_each-requires-clause-within g c = let test = c.whole-test.true in let within = c.requires.within in omega (arith, test, within)
+
+pub mark_with_each-requires-2-clause-after : goal.mark_with_each-requires-2-clause-after
+mark_with_each-requires-2-clause-after g c = c.whole.invariant.after
+
+pub mark_with_each-requires-2-clause-order : goal.mark_with_each-requires-2-clause-order
+mark_with_each-requires-2-clause-order g c = c.whole.invariant.within
+
+pub mark_with_each-requires-2-clause-within : goal.mark_with_each-requires-2-clause-within
+mark_with_each-requires-2-clause-within g c = c.requires.within
+
+pub offset_bounds-ranges-index : goal.offset_bounds-ranges-index
+offset_bounds-ranges-index g c =
+    let many = heights_are_many g.I.OverlayInt.whole c.args.ranges.now (pairs (segments_of c.args.segments.now)) c.requires.heights in
+    let count = length-pairs c.args.segments.now in
+    let order = c.requires.order in
+    let within = c.requires.within in
+    omega (arith, many, count, order, within)
+
+pub offset_bounds-ranges-from : goal.offset_bounds-ranges-from
+offset_bounds-ranges-from g c =
+    let many = heights_are_many g.I.OverlayInt.whole c.args.ranges.now (pairs (segments_of c.args.segments.now)) c.requires.heights in
+    let count = length-pairs c.args.segments.now in
+    let test = c.whole-test.true in
+    let within = c.requires.within in
+    omega (arith, many, count, test, within)

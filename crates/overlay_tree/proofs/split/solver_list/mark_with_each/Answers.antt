@@ -1,4 +1,5 @@
-use Rattle.std.proofs.Common.{◌≡◌, ◌<◌, ◌≤◌, sym, ap₂, ◌∙◌, length, false, arith}
+use Rattle.std.proofs.Common.{◌≡◌, refl, ◌<◌, ◌≤◌, sym, ap₂, ◌∙◌, length, false, arith}
+use Rattle.std.proofs.lemmas.Result.{IfOk-from_err}
 use Rattle.overlay_geometry.specs.Ranges.{WholeRange, heights}
 use Rattle.overlay_base.specs.Segments.{pairs}
 use Rattle.overlay_base.specs.SegmentOf.{segments_of}
@@ -63,3 +64,44 @@ returns-clause-rounded g c =
     let last = c.loop-later.auto.later-end c.requires.order in
     let done : c.loop-later.later ≡ c.args.end = omega (arith, last, c.loop-later-test.false) in
     rw done at c.loop-later.invariant.flag
+
+pub mark_two-requires-clause-sorted : goal.mark_two-requires-clause-sorted
+mark_two-requires-clause-sorted g c = c.requires.sorted
+
+pub mark_two-requires-clause-in_range : goal.mark_two-requires-clause-in_range
+mark_two-requires-clause-in_range g c = c.requires.in_range
+
+pub mark_two-requires-clause-radius : goal.mark_two-requires-clause-radius
+mark_two-requires-clause-radius g c = c.requires.radius
+
+pub mark_two-requires-clause-after : goal.mark_two-requires-clause-after
+mark_two-requires-clause-after g c = let after = c.requires.after in let since = c.loop-later.auto.later in omega (arith, after, since)
+
+pub returns-in_err-rounded-clause-marks : goal.returns-in_err-rounded-clause-marks
+returns-in_err-rounded-clause-marks g c = IfOk-from_err c.from_residual.result _ c.from_residual.ensures.0
+
+pub returns-in_err-rounded-clause-rounded : goal.returns-in_err-rounded-clause-rounded
+returns-in_err-rounded-clause-rounded g c = IfOk-from_err c.from_residual.result _ c.from_residual.ensures.0
+
+pub loop-later-init : goal.loop-later-init
+loop-later-init g c = record { found = refl; flag = refl }
+
+pub mark_two-requires-clause-within : goal.mark_two-requires-clause-within
+mark_two-requires-clause-within g c = let test = c.loop-later-test.true in let within = c.requires.within in omega (arith, test, within)
+
+pub offset_bounds-ranges-index : goal.offset_bounds-ranges-index
+offset_bounds-ranges-index g c =
+    let many = heights_are_many g.I.OverlayInt.whole c.args.ranges.now (pairs (segments_of c.args.segments.now)) c.requires.heights in
+    let count = length-pairs c.args.segments.now in
+    let after = c.requires.after in
+    let order = c.requires.order in
+    let within = c.requires.within in
+    omega (arith, many, count, after, order, within)
+
+pub offset_bounds-ranges-later : goal.offset_bounds-ranges-later
+offset_bounds-ranges-later g c =
+    let many = heights_are_many g.I.OverlayInt.whole c.args.ranges.now (pairs (segments_of c.args.segments.now)) c.requires.heights in
+    let count = length-pairs c.args.segments.now in
+    let test = c.loop-later-test.true in
+    let within = c.requires.within in
+    omega (arith, many, count, test, within)
