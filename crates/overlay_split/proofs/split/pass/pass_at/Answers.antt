@@ -85,9 +85,9 @@ returns-in_err-join_with_store-clause-stopped g c =
     let left = c.join_with_store.new.store in
     let stops : c.in_err-join_with_store.field-0.0 ≡ CountOutOfRange → StopsPassAt g.D.OverlayEdgeData c.args.marks.now c.args.list.now c.args.store.now left =
     λ e on are.
-        let pieces = data_cut_by hooks on items c.args.store.now in
-        subst (λ s. IsRefusedJoin hooks pieces.0 s left) (c.in_default.ensures.store on are)
-        (subst (λ l. IsRefusedJoin hooks l c.cut_at.new.store left) (c.in_default.ensures.edge_data on are) (c.in_err-join_with_store.ensures.stopped e)) in
+    let pieces = data_cut_by hooks on items c.args.store.now in
+    subst (λ s. IsRefusedJoin hooks pieces.0 s left) (c.in_default.ensures.store on are)
+    (subst (λ l. IsRefusedJoin hooks l c.cut_at.new.store left) (c.in_default.ensures.edge_data on are) (c.in_err-join_with_store.ensures.stopped e)) in
     refused_by c.from_residual.result c.in_err-join_with_store.field-0.0 _ c.from_residual.ensures.1 stops
 
 pub returns-in_err-join_with_store-clause-store_made : goal.returns-in_err-join_with_store-clause-store_made
