@@ -11,7 +11,8 @@ FOLDER/CRATE/*.edit. With `--proved` the edits of a crate wait until the folder 
 gate tries edits while it proves.
 
 Prints the first open goal for each edit, and last `N of M edits refused`. An edit is refused by a goal of a function that it changes
-and that one of its lines `# refused by FUNCTION: CLAUSE, ..` names. A proof that names what the edit took away does not count.
+and that one of its lines `# refused by FUNCTION: CLAUSE, ..` names. A proof that names what the edit took away does not count: the
+edit is tried once more without it, so that the prover searches for one.
 """
 import argparse
 import os
@@ -32,6 +33,9 @@ FUNCTION = re.compile(r"\s*(?:pub(?:\(\w+\))? )?(?:const )?(?:unsafe )?(?:extern
 IMPL = re.compile(r"impl(?:<.*?>+)? (?:(?:\w+::)*(\w+)(?:<(\w\w+)?.*>)? for )?(\w+)|(?:pub )?trait (\w+)")
 REFUSED_BY = re.compile(r"^# refused by ([\w:]+)(?:: (.*))?$", re.M)
 GOAL = re.compile(r"(?:note: )?(?:\./)?(?:proofs/(?P<proof>\S+)/\w+\.antt|(?P<source>src/\S+?)):(?P<line>\d+):\d+:")
+# the proof of a goal in a function's Answers.antt, and what the prover says of one that it does not take
+ANSWER = re.compile(r"^(?:-- .*\n)*pub (\S+) : goal\.(?:.*\n)(?:(?!-- |pub ).*\n)*", re.M)
+ANSWERED = re.compile(r"(?:\./)?(proofs/\S+/Answers\.antt):\d+:\d+: error: `(\S+)`: ")
 # what a proof says of a name that an edit took away, and what cites that proof
 OF_NAMES = re.compile(r"(?:note: )?(?:\./)?proofs/.*(?:has no field|is not in scope|has no `|was not admitted|was rejected)")
 NO_FUNCTION = re.compile(r"has no function `(\S+)`")
@@ -112,9 +116,12 @@ class Edit:
         self.is_alone = False
         # whether it is tried over the proofs of all functions, since it was not refused over their contracts
         self.is_over_proofs = False
+        # the proofs without which it is tried, since they name what it took away: each a file and a goal
+        self.vain = set()
         # by module and name, and by the name that the prover takes, with the module beside it
         self.functions, self.paths = set(), {}
         self.goal = self.said = None
+        self.may_try_again = False
         self.lines = self.changed_lines(path)
 
     def steps(self, path):
@@ -213,8 +220,17 @@ class Trial:
         seen = [(goal, self.function_of(goal, texts)) for goal in goals if not OF_NAMES.match(goal)]
         for edit in edits:
             edit.try_goals(seen)
-            if len(edits) == 1 and not edit.goal:
+            if not edit.goal:
+                edit.may_try_again = self.find_vain(edit, goals, texts)
                 edit.said = "\n".join(said.split("\n")[-8:])
+
+    def find_vain(self, edit, goals, texts):
+        """Notes the proofs of functions that an edit changes which name what it took away, and returns whether there is a new one."""
+        said = [(goal, ANSWERED.match(goal)) for goal in goals if OF_NAMES.match(goal)]
+        found = {it.groups() for goal, it in said if it and self.function_of(goal, texts) in edit.functions}
+        is_new = not found <= edit.vain
+        edit.vain |= found
+        return is_new
 
     def unread_in(self, said):
         """Returns the functions whose holes the prover did not read."""
@@ -257,6 +273,10 @@ class Trial:
         texts = {file: "\n".join(lines) for file, lines in texts.items()}
         for file, text in texts.items():
             pathlib.Path(room, file).write_text(text, encoding="utf-8")
+        for file, goal in {it for edit in edits for it in edit.vain}:
+            path = pathlib.Path(room, file)
+            kept = ANSWER.sub(lambda it: "" if it[1] == goal else it[0], path.read_text(encoding="utf-8"))
+            path.write_text(kept, encoding="utf-8")
         return texts
 
     def check(self, room, paths):
@@ -330,9 +350,9 @@ def try_all(trials, marks, start):
         seen = [edit for edit in edits if edit.goal]
         took = time.time() - begun
         print(f"{time.time() - start:5.0f} s: {trial.crate.name}: {len(seen)} of {len(edits)} edits refused in {took:.0f} s", flush=True)
-        again = [edit for edit in edits if not edit.goal and not edit.is_over_proofs]
+        again = [edit for edit in edits if not edit.goal and (edit.may_try_again or not edit.is_over_proofs)]
         for edit in again:
-            edit.is_over_proofs = True
+            edit.is_over_proofs |= not edit.may_try_again
         return [(trial, [edit]) for edit in again]
 
     running = set()

@@ -12,7 +12,7 @@ mod library;
 #[cfg(test)]
 mod measure;
 #[cfg(test)]
-mod overlaps;
+mod meetings;
 #[cfg(test)]
 mod overlay;
 #[cfg(test)]
