@@ -36,10 +36,10 @@ fn parts_inside(alloc: Global, mut given: Vec<Step>) -> Result<Option<Vec<Ends>>
 /// A step of a polygon or of a line, or `None` where its ends are one point.
 fn step(from: (i32, i32), to: (i32, i32), shape: ShapeType) -> Option<Step> {
     let (a, b) = (IntPoint::new(from.0, from.1), IntPoint::new(to.0, to.1));
-    if a == b {
+    let count = ShapeCountString::direct_count(shape);
+    if a == b || !count.is_valid() {
         return None;
     }
-    let count = ShapeCountString::direct_count(shape);
     Some(Segment::create_and_validate_with_data(a, b, count, (), &mut ()))
 }
 
