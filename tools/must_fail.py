@@ -6,7 +6,7 @@
 `rt ci` and `rt must-fail` check a crate once for each edit. The prover reports the open goals of every function, so here the edits
 of a crate are tried together, no two of one function in a round. An edit whose goal is not seen there is tried again by itself, and
 so is an edit of a constant. The other functions of the crate are taken by their contracts: each has a hole in place of its proof,
-which `rt ci` checks; an edit tried again has none. The libraries below a crate are those that `rt ci` or `rt check` left. With `--edits` the edits are
+which `rt ci` checks, but not where an edit is tried over all proofs. The libraries below a crate are those that `rt ci` or `rt check` left. With `--edits` the edits are
 FOLDER/CRATE/*.edit. With `--proved` the edits of a crate wait until the folder has a file of the name of each library below it: so the
 gate tries edits while it proves.
 
