@@ -7,8 +7,10 @@ ARCHITECTURE names each source file. THEOREMS lists the files of `specs/` on whi
 and quotes what is there. Each edit of `must-fail/` names functions that have to refuse it, with clauses of their contracts, and it
 changes one of them. Each lemma module and each file of `specs/` begins with a comment. A link of a document leads to a file. No
 document and no comment uses a word of NOT_SAID. No contract of a public function of `i_overlay` or `overlay_contours` names a
-definition of `specs/steps`.
+definition of `specs/steps`. A document has no more words than LENGTHS gives it, names no path that is not there, and its numbers are
+those of SAME_NUMBERS.
 """
+import glob
 import itertools
 import os
 import re
@@ -39,6 +41,34 @@ NOT_SAID = {
     r"(?<!none )(?<!each )(?<!all )(?<!both )(?<!most )(?<!some )of which": "name the noun, then the condition",
     r"the same,? but": "the function, and the difference",
 }
+# how many words each document may have, and all of them, without the marks of tables
+LENGTHS = {
+    "README.md": 1_200,
+    "CONTRIBUTING.md": 1_300,
+    "CHANGELOG.md": 1_500,
+    "docs/ARCHITECTURE.md": 1_600,
+    "docs/DECISIONS.md": 3_000,
+    "docs/DIFFERENCES.md": 1_700,
+    "docs/GATE.md": 900,
+    "docs/GUIDE.md": 1_500,
+    "docs/LIMITS.md": 1_200,
+    "docs/MEASUREMENTS.md": 1_900,
+    "docs/PROGRAMS.md": 1_700,
+    "docs/THEOREMS.md": 6_000,
+}
+ALL_WORDS, LINES_OF_README = 22_000, 120
+# where a path of a document may begin, and how it may end
+PLACES = ("", "crates/*/", "crates/*/src/", "crates/*/specs/", "crates/*/proofs/", "crates/*/proofs/laws/*/", "rust/", "rust/src/", "rust/tests/", "bench/")
+ENDINGS = ("", ".rt", ".antt", ".rs", ".md", ".txt")
+A_PATH = r"[\w.-]+(/[\w.-]+)+|[\w-]+\.(py|rs|md|txt|sh|patch|edit)"
+# paths of documents that no file has: what commands make, and those of THEOREMS, which are compared apart
+NOT_PATHS = r"crates/\w+/out|.*\bci/run"
+# a number of a document, and where it comes from
+SAME_NUMBERS = (
+    ("README.md", r"compare ([\d,]+) random runs", "rust/tests/runs.rs", r'"RUNS", ([\d_]+)'),
+    ("README.md", r"of ([\d,]+) others", "rust/tests/program.rs", r'"RUNS", ([\d_]+)'),
+    ("docs/PROGRAMS.md", r"`limit` .*\| (\d+) \|", "crates/overlay_split/src/split/solver.rt", r"SNAP_LIMIT: u32 = (\d+)"),
+)
 # folders of what is made
 MADE = {".git", "out", "target", "__pycache__"}
 
@@ -190,6 +220,46 @@ def faults_of_edits():
     return found
 
 
+def words_of(document):
+    """How many words a document has; the marks of tables are none."""
+    return len(re.findall(r"\S*\w\S*", read(document)))
+
+
+def faults_of_lengths(files):
+    """The documents that have too many words, or no length."""
+    lengths = {it: words_of(it) for it in LENGTHS}
+    found = [f"{it} has {length} words, and {LENGTHS[it]} at most" for it, length in lengths.items() if length > LENGTHS[it]]
+    found += [f"{it} has no length" for it in files if re.fullmatch(r"(docs/)?\w+\.md", it) and it not in LENGTHS]
+    found += [f"all documents have {sum(lengths.values())} words, and {ALL_WORDS} at most"] * (sum(lengths.values()) > ALL_WORDS)
+    return found + ["README.md has too many lines"] * (read("README.md").count("\n") > LINES_OF_README)
+
+
+def is_there(document, path):
+    """Whether some file has the path that a document names."""
+    beside = [f"{os.path.dirname(document)}/"] if "/" in document else []
+    return any(glob.glob(f"{ROOT}/{place}{path}{ending}") for place in [*PLACES, *beside] for ending in ENDINGS)
+
+
+def faults_of_paths():
+    """The paths that documents name and no file has."""
+    found = []
+    for document in (*LENGTHS, "rust/README.md", "python/README.md"):
+        text = "\n".join(re.sub(r"^\|.*", "", it) if document == THEOREMS else it for it in read(document).split("\n"))
+        named = {word.strip(".,;:()\"").rstrip("/") for code in re.findall(r"`([^`\n]+)`", text) for word in code.split()}
+        paths = [it for it in sorted(named) if re.fullmatch(A_PATH, it) and not re.fullmatch(NOT_PATHS, it)]
+        found += [f"{document} names {it}, which is not there" for it in paths if not is_there(document, it)]
+    return found
+
+
+def faults_of_numbers():
+    """The numbers of documents that are not those of the sources from which they come."""
+    found = []
+    for document, said, source, made in SAME_NUMBERS:
+        numbers = [re.sub(r"[,_]", "", it[1]) if it else None for it in (re.search(said, read(document)), re.search(made, read(source)))]
+        found += [f"{document} says {numbers[0]} where {source} has {numbers[1]}"] * (None in numbers or numbers[0] != numbers[1])
+    return found
+
+
 def main():
     files = present()
     found = [
@@ -201,6 +271,9 @@ def main():
         *dead_links(files),
         *faults_of_edits(),
         *steps_in_public(files),
+        *faults_of_lengths(files),
+        *faults_of_paths(),
+        *faults_of_numbers(),
     ]
     print(*found, sep="\n", end="\n" * bool(found))
     print(f"{len(found)} faults in documents")

@@ -15,6 +15,7 @@ and that one of its lines `# refused by FUNCTION: CLAUSE, ..` names. A proof tha
 edit is tried once more without it, so that the prover searches for one.
 """
 import argparse
+import itertools
 import os
 import pathlib
 import re
@@ -30,7 +31,7 @@ import run  # noqa: E402  (beside this file)
 
 TOP = pathlib.Path(run.ROOT)
 FUNCTION = re.compile(r"\s*(?:pub(?:\(\w+\))? )?(?:const )?(?:unsafe )?(?:extern \"C\" )?fn (\w+)")
-IMPL = re.compile(r"impl(?:<.*?>+)? (?:(?:\w+::)*(\w+)(?:<(\w\w+)?.*>)? for )?(\w+)|(?:pub )?trait (\w+)")
+IMPL = re.compile(r"impl(?:<.*?>+)? (?:(?:\w+::)*(\w+)(?:<(\w\w+)?.*>)? for )?(\w+|\(\))|(?:pub )?trait (\w+)")
 REFUSED_BY = re.compile(r"^# refused by ([\w:]+)(?:: (.*))?$", re.M)
 GOAL = re.compile(r"(?:note: )?(?:\./)?(?:proofs/(?P<proof>\S+)/\w+\.antt|(?P<source>src/\S+?)):(?P<line>\d+):\d+:")
 # the proof of a goal in a function's Answers.antt, and what the prover says of one that it does not take
@@ -39,9 +40,12 @@ ANSWERED = re.compile(r"(?:\./)?(proofs/\S+/Answers\.antt):\d+:\d+: error: `(\S+
 # what a proof says of a name that an edit took away, and what cites that proof
 OF_NAMES = re.compile(r"(?:note: )?(?:\./)?proofs/.*(?:has no field|is not in scope|has no `|was not admitted|was rejected)")
 NO_FUNCTION = re.compile(r"has no function `(\S+)`")
-# a proof that the prover does not read: of a function without a body, or of one that calls itself
+# with fewer a crate's statements are read more often, with more a last round takes long while other processors idle
+EDITS_OF_A_ROUND = 16
+# a proof that the prover does not read, as of a function without a body
 UNREAD_PROOF = re.compile(r"^(?:\./)?proofs/(\S+)/\w+\.antt: error(?:\[reserved-name\])?: rattle ", re.M)
-HOLE = "use Rattle.{crate}.proofs.{path}.Statement.{{statement}}\n\npub {name}_spec : {{M : Type 1}} → statement M\n{name}_spec = ?\n"
+CYCLE = re.compile(r"\s*#\[cycle\((\w+)\)\]")
+HOLE = "use Rattle.{crate}.proofs.{statement}.{{statement}}\n\npub {name}_spec : {{M : Type 1}} → statement M\n{name}_spec = ?\n"
 
 
 def module_of(file):
@@ -57,6 +61,7 @@ def function_at(text, number):
     if not name or not lines[at].startswith(" "):
         return name
     trait, argument, kind, own = next(it for line in reversed(lines[:at]) if (it := IMPL.match(line))).groups(default="")
+    kind = kind.replace("()", "Unit")
     return f"{own or kind[0].upper() + kind[1:]}{trait}{argument}::{name}"
 
 
@@ -96,13 +101,23 @@ def has_body(lines):
 
 
 def functions_of(crate):
-    """Returns the functions of a crate that have a body, each by its path below the crate."""
+    """Returns the functions of a crate that have a body, each by its path below the crate and by that of its proof."""
     for path in sorted(pathlib.Path(crate.folder, "src").rglob("*.rt")):
         file, text = os.path.relpath(path, crate.folder), path.read_text(encoding="utf-8")
         lines = text.split("\n")
         for at, line in enumerate(lines):
             if FUNCTION.match(line) and has_body(lines[at:]):
-                yield path_of(crate.name, module_of(file), function_at(text, at + 1))
+                found = path_of(crate.name, module_of(file), function_at(text, at + 1))
+                yield found, proof_of(crate, found, lines[:at])
+
+
+def proof_of(crate, path, lines):
+    """Returns the path of the proof of a function with these lines above it: functions that call one another have one, of their cycle."""
+    *above, name = path.split("::")
+    attributes = itertools.takewhile(lambda it: it.lstrip().startswith(("#[", "//")), reversed(lines))
+    cycle = next((it[1] for line in attributes if (it := CYCLE.match(line))), name)
+    is_cycle = pathlib.Path(crate.folder, "proofs", *above, f"+{cycle}").is_dir()
+    return "::".join([*above, f"+{cycle}"]) if is_cycle else path
 
 
 class Edit:
@@ -176,10 +191,10 @@ class Edit:
 
 
 def rounds_of(edits):
-    """Puts edits into rounds, no two of one function in a round."""
+    """Puts edits into rounds of a few, which run side by side, no two of one function in a round."""
     rounds = []
     for edit in edits:
-        fitting = next((it for it in rounds if all(edit.fits_beside(other) for other in it)), None)
+        fitting = next((it for it in rounds if len(it) < EDITS_OF_A_ROUND and all(edit.fits_beside(other) for other in it)), None)
         if fitting is None:
             fitting = []
             rounds.append(fitting)
@@ -195,14 +210,10 @@ class Trial:
         self.rounds = rounds_of(edits)
         # the folder of what the first round proved
         self.kept, self.is_begun = None, False
-        # the functions whose proofs can have a hole
-        self.others = {path for path in functions_of(crate) if not self.has_own_proof(path)}
-
-    def has_own_proof(self, path):
-        """Returns whether a function's whole proof is a file, or it calls itself: neither proof can have a hole in its place."""
-        *above, name = path.split("::")
-        folder = pathlib.Path(self.crate.folder, "proofs", *above)
-        return (folder / name / "Proof.antt").exists() or (folder / f"+{name}").exists()
+        # the proofs that can have a hole, each with its functions
+        self.others = {}
+        for path, proof in functions_of(crate):
+            self.others.setdefault(proof, set()).add(path)
 
     def may_begin(self):
         """Returns whether a round can begin: the first, or any other once that has ended."""
@@ -212,7 +223,7 @@ class Trial:
         """Tries some edits together."""
         texts, said = self.checked_with(edits)
         while unread := self.unread_in(said):
-            self.others -= unread
+            self.others = {proof: it for proof, it in self.others.items() if proof not in unread}
             texts, said = self.checked_with(edits)
         # a message goes on in lines that begin with two spaces, the first of which says what a proof names in vain
         whole = re.sub(r"\n  (?=has no )", " ", said)
@@ -233,8 +244,8 @@ class Trial:
         return is_new
 
     def unread_in(self, said):
-        """Returns the functions whose holes the prover did not read."""
-        return self.others & {it.replace("/", "::") for it in UNREAD_PROOF.findall(said)}
+        """Returns the proofs whose holes the prover did not read."""
+        return self.others.keys() & {it.replace("/", "::") for it in UNREAD_PROOF.findall(said)}
 
     def checked_with(self, edits):
         """Returns the texts that edits change, and what the check of a copy with these says."""
@@ -252,13 +263,15 @@ class Trial:
         return texts, said
 
     def put_holes(self, changed, room):
-        """Puts a hole in place of the proof of each function that no edit changes."""
-        for path in self.others - changed:
-            folder = pathlib.Path(room, "proofs", *path.split("::"))
+        """Puts a hole in place of each proof of functions that no edit changes."""
+        for proof in [it for it, functions in self.others.items() if not functions & changed]:
+            folder = pathlib.Path(room, "proofs", *proof.split("::"))
             folder.mkdir(parents=True, exist_ok=True)
             for name in ("Answers.antt", "Invariants.antt"):
                 (folder / name).unlink(missing_ok=True)
-            words = {"crate": self.crate.name, "path": path.replace("::", "."), "name": folder.name}
+            # the statement of a cycle is in a module of its name
+            statement = proof.replace("::", ".") + ("" if folder.name.startswith("+") else ".Statement")
+            words = {"crate": self.crate.name, "statement": statement, "name": folder.name}
             (folder / "Proof.antt").write_text(HOLE.format(**words), encoding="utf-8")
 
     def copy_with(self, edits, room):
@@ -353,6 +366,7 @@ def try_all(trials, marks, start):
         again = [edit for edit in edits if not edit.goal and (edit.may_try_again or not edit.is_over_proofs)]
         for edit in again:
             edit.is_over_proofs |= not edit.may_try_again
+            print(f"        {trial.crate.name}/{edit.name} is tried again {'over all proofs' if edit.is_over_proofs else 'without vain proofs'}", flush=True)
         return [(trial, [edit]) for edit in again]
 
     running = set()

@@ -13,7 +13,7 @@ use overlay_build::build::graph::OverlayGraph;
 use overlay_build::build::graph_node::OverlayNode;
 use overlay_geometry::geom::point::IntPoint;
 use overlay_geometry::num::OverlayInt;
-use overlay_text::line_end::{ROOM, append, put_last_word, put_number, put_word};
+use overlay_text::line_end::{LINE_BUFFER_SIZE, append, put_last_word, put_number, put_word};
 use overlay_text::output::put_point;
 use std::alloc::AllocError;
 
@@ -51,7 +51,7 @@ fn write_link<I: OverlayInt>(text: &mut String, link: &OverlayLink<I, ()>) -> Re
     ensures { OnOk result (string_bytes text.new ≡ string_bytes text.old ++ link_line (link_of I.whole link.now)) }
 {
     let (fill, a, b) = (link.fill, link.a.id, link.b.id);
-    let mut room = [0; ROOM];
+    let mut room = [0; LINE_BUFFER_SIZE];
     let end = put_last_word(&mut room, "\n");
     let end = put_number(&mut room, end, b as u64);
     let end = put_number(&mut room, end, a as u64);
@@ -87,7 +87,7 @@ fn write_node<I: OverlayInt>(
     ensures { OnOk result (string_bytes text.new ≡ string_bytes text.old
         ++ node_line (record { point = point_of I.whole point; links = indexes_of node.now })) }
 {
-    let mut room = [0; ROOM];
+    let mut room = [0; LINE_BUFFER_SIZE];
     let end = put_last_word(&mut room, kind(node));
     let end = put_point(&mut room, end, point);
     let begin = put_word(&mut room, end, "node");
@@ -126,7 +126,7 @@ fn write_few_numbers(text: &mut String, numbers: &[usize]) -> Result<(), AllocEr
     requires { length numbers.now ≤ 7 }
     ensures { OnOk result (string_bytes text.new ≡ string_bytes text.old ++ numbers_text numbers.now) }
 {
-    let mut room = [0; ROOM];
+    let mut room = [0; LINE_BUFFER_SIZE];
     let mut begin = put_last_word(&mut room, "");
     let mut left = numbers.len();
     while left > 0 {

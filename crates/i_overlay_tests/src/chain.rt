@@ -3,7 +3,7 @@ use i_overlay::prelude::*;
 use std::alloc::Global;
 use std::test::Fail;
 
-type Side = Segment<ShapeCountBoolean, i32, ()>;
+type BooleanSegment = Segment<ShapeCountBoolean, i32, ()>;
 
 /// The two ends of a segment, and its counts for the subject and for the clip.
 type Row = ((i32, i32), (i32, i32), i32, i32);
@@ -34,7 +34,7 @@ static DIFFERENCE: [Row; 10] = [
     ((6, 2), (6, 3), 0, 1),
 ];
 
-fn row(side: &Side) -> Row {
+fn row(side: &BooleanSegment) -> Row {
     let ends = side.x_segment();
     let count = side.count();
     let (a, b) = (ends.a, ends.b);
@@ -42,7 +42,12 @@ fn row(side: &Side) -> Row {
 }
 
 /// Adds the sides of a square, run counterclockwise.
-fn add_square(list: &mut Vec<Side>, low: i32, high: i32, shape: ShapeType) -> Result<(), Fail> {
+fn add_square(
+    list: &mut Vec<BooleanSegment>,
+    low: i32,
+    high: i32,
+    shape: ShapeType,
+) -> Result<(), Fail> {
     let corners = [(low, low), (high, low), (high, high), (low, high)].map(|(x, y)| IntPoint::new(
         x, y,
     ));
@@ -57,10 +62,10 @@ fn add_square(list: &mut Vec<Side>, low: i32, high: i32, shape: ShapeType) -> Re
 /// The boundary of what a rule holds of, as one shape.
 fn boundary_of(
     alloc: Global,
-    mut list: Vec<Side>,
+    mut list: Vec<BooleanSegment>,
     rule: OverlayRule,
     shape: ShapeType,
-) -> Result<Vec<Side>, Fail> {
+) -> Result<Vec<BooleanSegment>, Fail> {
     if !is_splittable(&list) {
         return Err(Fail::from("a side that is out of range"));
     }
@@ -79,7 +84,7 @@ fn boundary_of(
 }
 
 /// The rows of some sides.
-fn rows_of(alloc: Global, sides: &[Side]) -> Result<Vec<Row>, Fail> {
+fn rows_of(alloc: Global, sides: &[BooleanSegment]) -> Result<Vec<Row>, Fail> {
     Ok(sides.iter().map(row).collect(alloc)?)
 }
 

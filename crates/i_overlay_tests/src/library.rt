@@ -12,13 +12,13 @@ use std::alloc::Global;
 use std::process::Abort;
 use std::test::Fail;
 
-type Side = Segment<ShapeCountBoolean, i32, ()>;
+type BooleanSegment = Segment<ShapeCountBoolean, i32, ()>;
 
 type Ends = (IntPoint<i32>, IntPoint<i32>);
 
 /// The segments that bound what a subject and a clip share. `None` where a side is out of range, or contours do
 /// not close.
-fn shared_part(alloc: Global, mut sides: Vec<Side>) -> Result<Option<Vec<Ends>>, Fault> {
+fn shared_part(alloc: Global, mut sides: Vec<BooleanSegment>) -> Result<Option<Vec<Ends>>, Fault> {
     if !is_splittable(&sides) || !is_balanced(alloc, &sides)? {
         return Ok(None);
     }
@@ -40,7 +40,7 @@ fn shared_part(alloc: Global, mut sides: Vec<Side>) -> Result<Option<Vec<Ends>>,
 }
 
 /// A step of a contour.
-fn side(from: (i32, i32), to: (i32, i32), shape: ShapeType) -> Option<Side> {
+fn side(from: (i32, i32), to: (i32, i32), shape: ShapeType) -> Option<BooleanSegment> {
     let (a, b) = (IntPoint::new(from.0, from.1), IntPoint::new(to.0, to.1));
     Segment::try_ab_and_data(a, b, shape, (), &mut ())
 }

@@ -4,7 +4,7 @@ use std::alloc::Global;
 use std::process::Abort;
 use std::test::Fail;
 
-type Side = Segment<ShapeCountBoolean, i32, ()>;
+type BooleanSegment = Segment<ShapeCountBoolean, i32, ()>;
 
 /// A segment as the tables write it: from, to, the count for the subject and for the clip.
 type Row = ((i32, i32), (i32, i32), i32, i32);
@@ -58,7 +58,7 @@ const CALLS: [(
 ];
 
 /// The segment of a row.
-fn side((from, to, subj, clip): Row) -> Result<Side, &'static str> {
+fn side((from, to, subj, clip): Row) -> Result<BooleanSegment, &'static str> {
     let (a, b) = (IntPoint::new(from.0, from.1), IntPoint::new(to.0, to.1));
     let count = ShapeCountBoolean::new(subj, clip);
     if a == b || !count.is_valid() {
@@ -68,7 +68,7 @@ fn side((from, to, subj, clip): Row) -> Result<Side, &'static str> {
 }
 
 /// The segments of some rows.
-fn sides(alloc: Global, rows: &[Row]) -> Result<Vec<Side>, Fail> {
+fn sides(alloc: Global, rows: &[Row]) -> Result<Vec<BooleanSegment>, Fail> {
     let mut list = Vec::new(alloc);
     for row in rows {
         list.push(side(*row)?)?;

@@ -14,11 +14,11 @@ ghost use Rattle.overlay_c.specs.declared.refusal.Refusal.TheVariants.{Refused, 
 
 use crate::lines::{self, Line};
 use crate::records::{
-    LineRecord, LinkRecord, SegmentRecord, SettingsRecord, Side, SizesRecord, asked, fill_rule,
-    link, solver,
+    BooleanSegment, LineRecord, LinkRecord, SegmentRecord, SettingsRecord, SizesRecord, asked,
+    fill_rule, link, solver,
 };
 use crate::refusal::Refusal;
-use crate::tags::{self, Tag, TaggedRecord, TaggedSide, keep_tags, keep_untagged};
+use crate::tags::{self, Tag, TaggedRecord, TaggedSegment, keep_tags, keep_untagged};
 use crate::width::Width;
 use i_overlay::clip::split_and_build_clip;
 use i_overlay::overlay::split_and_build_overlay;
@@ -43,11 +43,11 @@ pub struct Core<I: Width> {
     pub line_builder: GraphBuilder<ShapeCountString, Vec<usize>, I, ()>,
     pub tag_builder: GraphBuilder<ShapeCountBoolean, OverlayNode, I, Tag>,
     /// The arrangement.
-    pub segments: Vec<Side<I>>,
+    pub segments: Vec<BooleanSegment<I>>,
     /// The arrangement of polygons and lines.
     pub lines: Vec<Line<I>>,
     /// The segments with data that a split is made of, and their arrangement.
-    pub tagged: Vec<TaggedSide<I>>,
+    pub tagged: Vec<TaggedSegment<I>>,
     /// Whether the last split joined equal segments or split one, or the last join joined some.
     pub has_changed: bool,
     /// The links of the graph.
@@ -291,7 +291,7 @@ impl<I: Width> Core<I> {
 /// Loads the segments that records describe, where these may be split; else the list is empty.
 fn load_splittable<I: Width>(
     given: &[SegmentRecord],
-    list: &mut Vec<Side<I>>,
+    list: &mut Vec<BooleanSegment<I>>,
 ) -> Result<(), Refusal>
     ensures segments { OnOk result (segments_of list.new.items ≡ given_by given.now) }
     ensures splittable { OnOk result (IsSplittable list.new.items) }
@@ -308,7 +308,10 @@ fn load_splittable<I: Width>(
 }
 
 /// Loads as `load_splittable` does; a refused load may leave anything.
-fn try_load<I: Width>(given: &[SegmentRecord], list: &mut Vec<Side<I>>) -> Result<(), Refusal>
+fn try_load<I: Width>(
+    given: &[SegmentRecord],
+    list: &mut Vec<BooleanSegment<I>>,
+) -> Result<(), Refusal>
     ensures segments { OnOk result (segments_of list.new.items ≡ given_by given.now) }
     ensures splittable { OnOk result (IsSplittable list.new.items) }
     ensures usable { OnOk result (IsTrue (are_usable (I.whole I.MIN_COORD) (I.whole I.MAX_COORD) given.now)) }
@@ -357,7 +360,7 @@ fn try_load_lines<I: Width>(given: &[LineRecord], list: &mut Vec<Line<I>>) -> Re
 /// Loads the segments that records describe. Returns whether each describes one.
 pub fn load<I: Width>(
     records: &[SegmentRecord],
-    list: &mut Vec<Side<I>>,
+    list: &mut Vec<BooleanSegment<I>>,
 ) -> Result<bool, AllocError>
     ensures asks { IfOk result (λ all. all ≡ list_all (asks (I.whole I.MIN_COORD) (I.whole I.MAX_COORD)) records.now) }
     ensures segments { IfOk result (λ all. IsTrue all → segments_of list.new.items ≡ map asked_by records.now) }

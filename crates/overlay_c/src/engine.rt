@@ -8,7 +8,7 @@ use crate::cores::Core;
 use crate::lines;
 use crate::records::{
     LineRecord, LinkRecord, ReportRecord, SegmentRecord, SettingsRecord, SizesRecord, fill_rule,
-    overlay_rules, rounding, solver, tell_all, words,
+    overlay_rules, rounding, solver, words, write_records,
 };
 use crate::refusal::Refusal;
 use crate::tags::{Tag, TaggedRecord};
@@ -312,26 +312,26 @@ impl Engine {
     }
 
     /// Writes the records of the arrangement that it keeps.
-    pub fn tell_segments(&self, out: &mut [SegmentRecord])
+    pub fn write_segments(&self, out: &mut [SegmentRecord])
         requires { length out.old ≡ segment_count self.now }
         ensures { map told_by out.new ≡ segments_in self.now }
     {
         if self.is_narrow {
-            tell_all(&self.narrow.segments, out);
+            write_records(&self.narrow.segments, out);
         } else {
-            tell_all(&self.wide.segments, out);
+            write_records(&self.wide.segments, out);
         }
     }
 
     /// Writes the records of the arrangement of polygons and lines.
-    pub fn tell_lines(&self, out: &mut [LineRecord])
+    pub fn write_lines(&self, out: &mut [LineRecord])
         requires { length out.old ≡ line_count self.now }
         ensures { map line_told_by out.new ≡ lines_in self.now }
     {
         if self.is_narrow {
-            lines::tell_all(&self.narrow.lines, out);
+            lines::write_records(&self.narrow.lines, out);
         } else {
-            lines::tell_all(&self.wide.lines, out);
+            lines::write_records(&self.wide.lines, out);
         }
     }
 

@@ -6,7 +6,7 @@ ghost use Rattle.overlay_c.specs.declared.engine.Engine.{Engine};
 ghost use Rattle.overlay_c.specs.contracts.engine.Engine.{the_row};
 
 use crate::engine::Engine;
-use crate::loose::Loose;
+use crate::raw_box::RawBox;
 use std::alloc::Global;
 use std::marker::Model;
 
@@ -33,14 +33,14 @@ pub(crate) fn take(alloc: Global, handle: &mut Handle) -> Box<Engine>
     ensures none { handle.new.engine ≡ None }
 {
     let full = std::mem::replace(handle, empty(alloc));
-    full_loose(full).into_box()
+    full_raw_box(full).into_box()
 }
 
 /// Puts an engine in.
 pub(crate) fn put(handle: &mut Handle, engine: Box<Engine>)
     ensures { handle.new.engine ≡ Some engine.value }
 {
-    *handle = of_loose(Loose::of(engine));
+    *handle = of_raw_box(RawBox::of(engine));
 }
 
 /// A handle of no engine.
@@ -54,10 +54,10 @@ fn empty(alloc: Global) -> Handle
 }
 
 /// The handle of an engine whose box was taken apart.
-fn of_loose(loose: Loose<Engine, Global>) -> Handle
-    ensures { result.engine ≡ Some loose.value }
+fn of_raw_box(raw_box: RawBox<Engine, Global>) -> Handle
+    ensures { result.engine ≡ Some raw_box.value }
 {
-    let Loose { at, alloc } = loose;
+    let RawBox { at, alloc } = raw_box;
     Handle {
         at: at as *mut u8,
         alloc,
@@ -65,12 +65,12 @@ fn of_loose(loose: Loose<Engine, Global>) -> Handle
 }
 
 /// The engine of a handle that has one, as a box that was taken apart.
-fn full_loose(handle: Handle) -> Loose<Engine, Global>
+fn full_raw_box(handle: Handle) -> RawBox<Engine, Global>
     requires { IsSome handle.engine }
     ensures { handle.engine ≡ Some result.value }
 {
     let Handle { at, alloc } = handle;
-    Loose {
+    RawBox {
         at: at as *mut Engine,
         alloc,
     }

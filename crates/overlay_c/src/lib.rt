@@ -24,7 +24,7 @@ pub mod cross;
 pub mod engine;
 pub mod handle;
 pub mod lines;
-pub(crate) mod loose;
+pub(crate) mod raw_box;
 pub mod records;
 pub mod refusal;
 pub mod tags;
@@ -441,7 +441,7 @@ pub extern "C" fn overlay_c_segments(alloc: Global, handle: &mut Handle, out: &m
     ensures copied { IfSome handle.old.engine (λ engine. map told_by out.new ≡ segments_in engine) }
 {
     let engine = take(alloc, handle);
-    engine.tell_segments(out);
+    engine.write_segments(out);
     put(handle, engine);
 }
 
@@ -454,7 +454,7 @@ pub extern "C" fn overlay_c_lines(alloc: Global, handle: &mut Handle, out: &mut 
     ensures copied { IfSome handle.old.engine (λ engine. map line_told_by out.new ≡ lines_in engine) }
 {
     let engine = take(alloc, handle);
-    engine.tell_lines(out);
+    engine.write_lines(out);
     put(handle, engine);
 }
 

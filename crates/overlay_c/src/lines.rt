@@ -103,7 +103,7 @@ pub fn told<I: Width>(segment: &Line<I>) -> LineRecord
 }
 
 /// Writes the records of segments.
-pub fn tell_all<I: Width>(segments: &[Line<I>], out: &mut [LineRecord])
+pub fn write_records<I: Width>(segments: &[Line<I>], out: &mut [LineRecord])
     requires { length out.old ≡ length segments.now }
     ensures { map line_told_by out.new ≡ segments_of segments.now }
 {

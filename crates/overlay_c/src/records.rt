@@ -28,7 +28,7 @@ use std::alloc::{AllocError, Global};
 const WORD: u128 = 1 << 64;
 
 /// A segment of polygons.
-pub type Side<I> = Segment<ShapeCountBoolean, I, ()>;
+pub type BooleanSegment<I> = Segment<ShapeCountBoolean, I, ()>;
 
 /// A segment, and how it winds for the subject and for the clip.
 #[repr(C)]
@@ -158,7 +158,7 @@ pub fn end(given: &SegmentRecord) -> IntPoint<i32>
 }
 
 /// The record of a segment.
-pub fn told<I: Width>(segment: &Side<I>) -> SegmentRecord
+pub fn told<I: Width>(segment: &BooleanSegment<I>) -> SegmentRecord
     ensures { told_by result ≡ segment_of segment.now }
 {
     let ends = segment.x_segment();
@@ -174,7 +174,7 @@ pub fn told<I: Width>(segment: &Side<I>) -> SegmentRecord
 }
 
 /// Writes the records of segments.
-pub fn tell_all<I: Width>(segments: &[Side<I>], out: &mut [SegmentRecord])
+pub fn write_records<I: Width>(segments: &[BooleanSegment<I>], out: &mut [SegmentRecord])
     requires { length out.old ≡ length segments.now }
     ensures { map told_by out.new ≡ segments_of segments.now }
 {

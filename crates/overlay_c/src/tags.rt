@@ -10,7 +10,7 @@ ghost use Rattle.overlay_c.specs.Tags.{untagged, tagged_by, with_tag};
 ghost use Rattle.overlay_c.specs.Status.{OnUnusable};
 ghost use Rattle.overlay_c.specs.declared.refusal.Refusal.TheVariants.{Refused, NotSplittable};
 
-use crate::records::{SegmentRecord, Side, asked};
+use crate::records::{BooleanSegment, SegmentRecord, asked};
 use crate::refusal::Refusal;
 use crate::width::Width;
 use overlay_base::overlay_core::edge_data::{EdgeDataMerge, EdgeDataSplit, OverlayEdgeData};
@@ -55,7 +55,7 @@ impl OverlayEdgeData<ShapeCountBoolean> for Tag {
 }
 
 /// A segment of polygons with its number.
-pub type TaggedSide<I> = Segment<ShapeCountBoolean, I, Tag>;
+pub type TaggedSegment<I> = Segment<ShapeCountBoolean, I, Tag>;
 
 /// A segment, and the number that is handed through to its links.
 #[repr(C)]
@@ -69,7 +69,7 @@ pub struct TaggedRecord {
 /// list is empty.
 pub fn load_splittable<I: Width>(
     given: &[TaggedRecord],
-    list: &mut Vec<TaggedSide<I>>,
+    list: &mut Vec<TaggedSegment<I>>,
 ) -> Result<(), Refusal>
     ensures segments { OnOk result (data_segments_of list.new.items ≡ tagged_by given.now) }
     ensures splittable { OnOk result (IsSplittable list.new.items) }
@@ -87,7 +87,10 @@ pub fn load_splittable<I: Width>(
 }
 
 /// Loads as `load_splittable` does; a refused load may leave anything.
-fn try_load<I: Width>(given: &[TaggedRecord], list: &mut Vec<TaggedSide<I>>) -> Result<(), Refusal>
+fn try_load<I: Width>(
+    given: &[TaggedRecord],
+    list: &mut Vec<TaggedSegment<I>>,
+) -> Result<(), Refusal>
     ensures segments { OnOk result (data_segments_of list.new.items ≡ tagged_by given.now) }
     ensures splittable { OnOk result (IsSplittable list.new.items) }
     ensures usable { OnOk result (IsTrue (are_usable (I.whole I.MIN_COORD) (I.whole I.MAX_COORD)
@@ -105,7 +108,7 @@ fn try_load<I: Width>(given: &[TaggedRecord], list: &mut Vec<TaggedSide<I>>) -> 
 /// one.
 fn load<I: Width>(
     records: &[TaggedRecord],
-    list: &mut Vec<TaggedSide<I>>,
+    list: &mut Vec<TaggedSegment<I>>,
 ) -> Result<bool, AllocError>
     ensures asks { IfOk result (λ all. all ≡ list_all (λ r. asks (I.whole I.MIN_COORD) (I.whole I.MAX_COORD) r.segment)
         records.now) }
@@ -123,7 +126,7 @@ fn load<I: Width>(
 
 /// The segment that a record describes, with its number. `None` where the ends are equal or a count
 /// is `i32::MIN`.
-fn asked_with_tag<I: Width>(given: &TaggedRecord) -> Option<TaggedSide<I>>
+fn asked_with_tag<I: Width>(given: &TaggedRecord) -> Option<TaggedSegment<I>>
     ensures asks { is_some result ≡ asks (I.whole I.MIN_COORD) (I.whole I.MAX_COORD) given.now.segment }
     ensures segment { IfSome result (λ s. data_segment_of s ≡ with_tag (asked_by given.now.segment) given.now.tag) }
 {
@@ -132,8 +135,8 @@ fn asked_with_tag<I: Width>(given: &TaggedRecord) -> Option<TaggedSide<I>>
 
 /// Keeps segments without their numbers; where memory is refused, none.
 pub fn keep_untagged<I: Width>(
-    tagged: &[TaggedSide<I>],
-    kept: &mut Vec<Side<I>>,
+    tagged: &[TaggedSegment<I>],
+    kept: &mut Vec<BooleanSegment<I>>,
 ) -> Result<(), AllocError>
     ensures kept { OnOk result (segments_of kept.new.items ≡ segments_of tagged.now) }
     ensures emptied { OnErr result (kept.new.items ≡ []) }
@@ -147,8 +150,8 @@ pub fn keep_untagged<I: Width>(
 
 /// Keeps as `keep_untagged` does; a refusal may leave anything.
 fn push_untagged<I: Width>(
-    tagged: &[TaggedSide<I>],
-    kept: &mut Vec<Side<I>>,
+    tagged: &[TaggedSegment<I>],
+    kept: &mut Vec<BooleanSegment<I>>,
 ) -> Result<(), AllocError>
     ensures { OnOk result (segments_of kept.new.items ≡ segments_of tagged.now) }
 {
@@ -160,7 +163,7 @@ fn push_untagged<I: Width>(
 }
 
 /// A segment without its number.
-fn untagged<I: Width>(segment: &TaggedSide<I>) -> Side<I>
+fn untagged<I: Width>(segment: &TaggedSegment<I>) -> BooleanSegment<I>
     ensures { segment_of result ≡ segment_of segment.now }
 {
     let ends = segment.x_segment();

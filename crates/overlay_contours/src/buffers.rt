@@ -8,7 +8,7 @@ ghost use Rattle.overlay_contours.specs.ContoursOf.{contours_of, contours_of_eac
 ghost use Rattle.overlay_contours.specs.ContourSegments.{overlay_segments};
 ghost use Rattle.overlay_contours.specs.ContoursIn.{LieInRange};
 
-use crate::contour::{IntContour, IntShape, Side, load_sides};
+use crate::contour::{BooleanSegment, IntContour, IntShape, load_sides};
 use crate::extract::{directed_contours_of_graph, shapes_of_graph};
 use crate::rounding::Rounding;
 use overlay_base::overlay_core::fill_rule::FillRule;
@@ -31,7 +31,7 @@ use std::alloc::Global;
 pub(crate) struct Buffers<I: OverlayInt> {
     pub(crate) alloc: Global,
     arranged: Option<Solver>,
-    sides: Vec<Side<I>>,
+    sides: Vec<BooleanSegment<I>>,
     splitter: SplitSolver<I>,
     snapper: SnapSolver<I>,
     builder: GraphBuilder<ShapeCountBoolean, OverlayNode, I, ()>,

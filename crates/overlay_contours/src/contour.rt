@@ -5,7 +5,6 @@ ghost use Rattle.overlay_base.specs.Places.{RationalPoint, winding_below};
 ghost use Rattle.overlay_geometry.specs.PointOf.{point_of};
 ghost use Rattle.overlay_base.specs.SegmentOf.{segments_of};
 ghost use Rattle.overlay_base.specs.ArrangedOf.{IsSplittable};
-ghost use Rattle.overlay_geometry.specs.Coordinates.{is_point_in_range};
 ghost use Rattle.overlay_base.specs.declared.segm.fault.Fault.TheVariants.{Memory};
 ghost use Rattle.overlay_base.specs.declared.segm.shape_type.ShapeType.TheVariants.{Subject, Clip};
 ghost use Rattle.overlay_contours.specs.Contours.{steps_of};
@@ -30,7 +29,7 @@ pub type IntContour<I> = Vec<IntPoint<I>>;
 pub type IntShape<I> = Vec<IntContour<I>>;
 
 /// A segment of contours.
-pub type Side<I> = Segment<ShapeCountBoolean, I, ()>;
+pub type BooleanSegment<I> = Segment<ShapeCountBoolean, I, ()>;
 
 /// The indexes of the first contour with a point out of range, and of its first such point. `None` where all points
 /// lie from the engine's `MIN_COORD` to its `MAX_COORD`.
@@ -54,18 +53,11 @@ pub(crate) fn find_point_out_of_range<I: OverlayInt>(points: &[IntPoint<I>]) -> 
         (points_of I.whole points.now) point) }
 {
     for (index, point) in points.iter().enumerate() {
-        if !is_in_range(*point) {
+        if !point.is_in_range() {
             return Some(index);
         }
     }
     None
-}
-
-/// Whether both coordinates of a point are in range.
-fn is_in_range<I: OverlayInt>(point: IntPoint<I>) -> bool
-    ensures { result ≡ is_point_in_range (I.whole I.MIN_COORD) (I.whole I.MAX_COORD) (point_of I.whole point) }
-{
-    point.x.is_in_range() && point.y.is_in_range()
 }
 
 /// The segments of a subject's and of a clip's contours: one for each step between two different points.
@@ -78,7 +70,7 @@ pub fn segments_of_contours<I: OverlayInt>(
     alloc: Global,
     subject: &[IntContour<I>],
     clip: &[IntContour<I>],
-) -> Result<Vec<Side<I>>, Fault>
+) -> Result<Vec<BooleanSegment<I>>, Fault>
     requires subject { LieInRange I.whole I.MIN_COORD I.MAX_COORD subject.now }
     requires clip { LieInRange I.whole I.MIN_COORD I.MAX_COORD clip.now }
     ensures segments { IfOk result (λ sides. AreSidesOf subject.now clip.now sides.items) }
@@ -96,7 +88,7 @@ pub fn segments_of_contours<I: OverlayInt>(
 ///
 /// Returns `Fault::Memory` where a growth is refused, and then nothing is promised of the list.
 pub(crate) fn load_sides<I: OverlayInt>(
-    sides: &mut Vec<Side<I>>,
+    sides: &mut Vec<BooleanSegment<I>>,
     subject: &[IntContour<I>],
     clip: &[IntContour<I>],
 ) -> Result<(), Fault>
@@ -118,7 +110,7 @@ pub(crate) fn load_sides<I: OverlayInt>(
 
 /// Appends the segments of contours of one shape.
 fn push_contours<I: OverlayInt>(
-    sides: &mut Vec<Side<I>>,
+    sides: &mut Vec<BooleanSegment<I>>,
     contours: &[IntContour<I>],
     shape_type: ShapeType,
 ) -> Result<(), Fault>
@@ -134,7 +126,7 @@ fn push_contours<I: OverlayInt>(
 
 /// Appends the steps of a contour.
 fn push_contour<I: OverlayInt>(
-    sides: &mut Vec<Side<I>>,
+    sides: &mut Vec<BooleanSegment<I>>,
     contour: &[IntPoint<I>],
     shape_type: ShapeType,
 ) -> Result<(), Fault>
@@ -155,7 +147,7 @@ fn push_contour<I: OverlayInt>(
 
 /// Appends the segment of a step, where its two points differ.
 fn push_step<I: OverlayInt>(
-    sides: &mut Vec<Side<I>>,
+    sides: &mut Vec<BooleanSegment<I>>,
     from: IntPoint<I>,
     to: IntPoint<I>,
     shape_type: ShapeType,

@@ -20,7 +20,7 @@ use crate::contour::{IntContour, IntShape};
 use overlay_base::overlay_core::link::OverlayLink;
 use overlay_base::overlay_core::overlay_rule::OverlayRule;
 use overlay_base::segm::fault::Fault;
-use overlay_build::build::directed_walks::{directed_walks, holds_of_top};
+use overlay_build::build::directed_walks::directed_walks;
 use overlay_build::build::graph::OverlayGraph;
 use overlay_geometry::geom::point::IntPoint;
 use overlay_geometry::num::OverlayInt;
@@ -130,7 +130,7 @@ fn contour_of_walk<I: OverlayInt, D: Copy>(
 fn start_point<I: OverlayInt, D: Copy>(link: &OverlayLink<I, D>, rule: OverlayRule) -> IntPoint<I>
     ensures { point_of I.whole result ≡ (in_direction (holds rule) (link_of I.whole link.now)).pair.a }
 {
-    if holds_of_top(rule, link.fill) {
+    if rule.holds_of_top(link.fill) {
         link.a.point
     } else {
         link.b.point

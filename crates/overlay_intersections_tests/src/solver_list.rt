@@ -13,19 +13,19 @@ use overlay_tree::split::solver_list::*;
 use std::alloc::Global;
 use std::process::Abort;
 
-type Side = Segment<ShapeCountBoolean, i32, ()>;
+type BooleanSegment = Segment<ShapeCountBoolean, i32, ()>;
 
 /// A mark as the tests write it: index, x and y.
 type Row = (usize, i32, i32);
 
 /// The segment between two ends.
-fn side(rt: &impl Abort, [ax, ay, bx, by]: [i32; 4]) -> Side {
+fn side(rt: &impl Abort, [ax, ay, bx, by]: [i32; 4]) -> BooleanSegment {
     let (a, b) = (IntPoint::new(ax, ay), IntPoint::new(bx, by));
     Segment::try_ab_and_data(a, b, ShapeType::Subject, (), &mut ()).expect(rt, "ends apart")
 }
 
 /// The segments between these ends.
-fn sides(rt: &impl Abort, alloc: Global, ends: &[[i32; 4]]) -> Vec<Side> {
+fn sides(rt: &impl Abort, alloc: Global, ends: &[[i32; 4]]) -> Vec<BooleanSegment> {
     let mut sides = Vec::new(alloc);
     for ends in ends {
         sides.push(side(rt, *ends)).expect(rt, "memory");
@@ -37,7 +37,7 @@ fn sides(rt: &impl Abort, alloc: Global, ends: &[[i32; 4]]) -> Vec<Side> {
 fn marks(
     rt: &impl Abort,
     alloc: Global,
-    mut sides: Vec<Side>,
+    mut sides: Vec<BooleanSegment>,
     placing: Placing,
 ) -> (Vec<LineMark<i32>>, bool)
     requires { HasRadius placing }

@@ -19,10 +19,15 @@ use overlay_tree::split::solver_tree::*;
 use std::alloc::Global;
 use std::process::Abort;
 
-type Side<I> = Segment<ShapeCountBoolean, I, ()>;
+type BooleanSegment<I> = Segment<ShapeCountBoolean, I, ()>;
 
 /// Adds the segment between two ends, unless they are one point.
-fn push_side(rt: &impl Abort, segments: &mut Vec<Side<i32>>, a: (i32, i32), b: (i32, i32)) {
+fn push_side(
+    rt: &impl Abort,
+    segments: &mut Vec<BooleanSegment<i32>>,
+    a: (i32, i32),
+    b: (i32, i32),
+) {
     let (a, b) = (IntPoint::new(a.0, a.1), IntPoint::new(b.0, b.1));
     if let Some(side) = Segment::try_ab_and_data(a, b, ShapeType::Subject, (), &mut ()) {
         segments.push(side).expect(rt, "memory");
@@ -33,7 +38,7 @@ fn push_side(rt: &impl Abort, segments: &mut Vec<Side<i32>>, a: (i32, i32), b: (
 fn listed<I: OverlayInt>(
     rt: &impl Abort,
     alloc: Global,
-    segments: &[Side<I>],
+    segments: &[BooleanSegment<I>],
     placing: Placing,
 ) -> (Vec<LineMark<I>>, bool)
     requires sorted { IsSortedByKey ends_of pair_cmp segments.now }
@@ -50,7 +55,7 @@ fn listed<I: OverlayInt>(
 fn treed<I: OverlayInt>(
     rt: &impl Abort,
     alloc: Global,
-    segments: &[Side<I>],
+    segments: &[BooleanSegment<I>],
     placing: Placing,
 ) -> (Vec<LineMark<I>>, bool, u128)
     requires sorted { IsSortedByKey ends_of pair_cmp segments.now }
@@ -69,7 +74,7 @@ fn treed<I: OverlayInt>(
 fn ask(
     rt: &impl Abort,
     alloc: Global,
-    segments: &mut Vec<Side<i32>>,
+    segments: &mut Vec<BooleanSegment<i32>>,
     placing: Placing,
 ) -> (usize, u128)
     requires { HasRadius placing }
@@ -92,7 +97,12 @@ fn below(state: &mut u32, limit: u32) -> i32 {
 }
 
 /// This many segments with ends in the square from (0, 0) to (59, 59).
-fn scattered(rt: &impl Abort, alloc: Global, state: &mut u32, size: usize) -> Vec<Side<i32>> {
+fn scattered(
+    rt: &impl Abort,
+    alloc: Global,
+    state: &mut u32,
+    size: usize,
+) -> Vec<BooleanSegment<i32>> {
     let mut segments = Vec::new(alloc);
     for _ in 0..size {
         let a = (below(state, 60), below(state, 60));

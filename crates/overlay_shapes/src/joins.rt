@@ -11,7 +11,6 @@ use overlay_base::overlay_core::link::OverlayLink;
 use overlay_base::overlay_core::overlay_rule::OverlayRule;
 use overlay_base::segm::fault::Fault;
 use overlay_base::segm::segment_fill::SegmentFill;
-use overlay_build::build::directed_walks::holds_of_top;
 use overlay_geometry::num::OverlayInt;
 use std::alloc::Global;
 
@@ -61,8 +60,8 @@ fn is_like_outside(rule: OverlayRule, fill: SegmentFill) -> bool
     ensures no { result ≡ false → top_value (holds rule) fill ≢ holds rule false false }
 {
     if rule.holds(false, false) {
-        holds_of_top(rule, fill)
+        rule.holds_of_top(fill)
     } else {
-        !holds_of_top(rule, fill)
+        !rule.holds_of_top(fill)
     }
 }

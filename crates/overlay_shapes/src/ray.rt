@@ -5,7 +5,6 @@ ghost use Rattle.overlay_geometry.specs.VSegmentOf.{v_pair_of, IsVSegmentInRange
 
 use overlay_base::overlay_core::link::OverlayLink;
 use overlay_base::overlay_core::overlay_rule::OverlayRule;
-use overlay_build::build::directed_walks::holds_of_top;
 use overlay_geometry::geom::v_segment::VSegment;
 use overlay_geometry::num::OverlayInt;
 use std::cmp::Ordering;
@@ -49,7 +48,7 @@ impl<I: OverlayInt> Ray<I> {
           pair = (link_of I.whole link.now).pair;
         } }
     {
-        let end = if holds_of_top(rule, link.fill) {
+        let end = if rule.holds_of_top(link.fill) {
             link.b.id
         } else {
             link.a.id

@@ -1,11 +1,9 @@
 // Directed walks along the links that lead on, cut where they come to a node again, so that none comes to a node twice.
 // This project's own.
 ghost use Rattle.std.specs.Prelude.{◌≡◌, ℕ, ◌<◌, ◌+◌, ◌==◌, true, false, length, All, count_by, slice_index_or, IfOk, IfErr, OnOk};
-ghost use Rattle.overlay_base.specs.Rules.{holds};
 ghost use Rattle.overlay_base.specs.declared.segm.fault.Fault.TheVariants.{Memory};
 ghost use Rattle.overlay_build.specs.BoundaryOf.{arcs_by, walks_of};
-ghost use Rattle.overlay_build.specs.DirectedWalks.{in_direction, AreDirectedWalks};
-ghost use Rattle.overlay_build.specs.GraphOf.{link_of};
+ghost use Rattle.overlay_build.specs.DirectedWalks.{AreDirectedWalks};
 ghost use Rattle.overlay_build.specs.OverlayGraphOf.{nodes_of};
 ghost use Rattle.overlay_shapes.specs.SimpleWalks.{PassesOnce};
 ghost use Rattle.overlay_shapes.specs.steps.CutWalks.{IsClosedChain, AppendsParts};
@@ -15,7 +13,7 @@ ghost use Rattle.overlay_shapes.specs.steps.LeadOn.{LeadOn};
 use overlay_base::overlay_core::link::OverlayLink;
 use overlay_base::overlay_core::overlay_rule::OverlayRule;
 use overlay_base::segm::fault::Fault;
-use overlay_build::build::directed_walks::holds_of_top;
+use overlay_build::build::directed_walks::{end_of, start_of};
 use overlay_build::build::graph::OverlayGraph;
 use overlay_geometry::num::OverlayInt;
 use std::alloc::Global;
@@ -112,26 +110,4 @@ fn cut_walk<I: OverlayInt, D: Copy>(
         }
     }
     Ok(())
-}
-
-/// The number of the node at which a link starts in its direction.
-fn start_of<I: OverlayInt, D: Copy>(link: &OverlayLink<I, D>, rule: OverlayRule) -> usize
-    ensures { result ≡ (in_direction (holds rule) (link_of I.whole link.now)).a_node }
-{
-    if holds_of_top(rule, link.fill) {
-        link.a.id
-    } else {
-        link.b.id
-    }
-}
-
-/// The number of the node at which a link ends in its direction.
-fn end_of<I: OverlayInt, D: Copy>(link: &OverlayLink<I, D>, rule: OverlayRule) -> usize
-    ensures { result ≡ (in_direction (holds rule) (link_of I.whole link.now)).b_node }
-{
-    if holds_of_top(rule, link.fill) {
-        link.b.id
-    } else {
-        link.a.id
-    }
 }

@@ -1,5 +1,5 @@
 -- Laws over the definitions: statements that the contracts of `snap::laws` name.
-use Rattle.std.specs.Prelude.{◌≡◌, ◌↔◌, ◌⊎◌, ◌≤◌, ◌*◌, true, if◌then◌else◌, IsTrue, IsFalse, List, Contains, ℕ, ◌<◌, Some, All, length, slice_get}
+use Rattle.std.specs.Prelude.{◌≡◌, ◌↔◌, ◌⊎◌, ◌≤◌, ◌*◌, true, if◌then◌else◌, IsTrue, IsFalse, List, Contains, IsPermutation, ℕ, ◌<◌, Some, All, length, slice_get}
 use Rattle.overlay_geometry.specs.Points.{Point, Pair, is_ordered, lies_on}
 use Rattle.overlay_geometry.specs.Meeting.{are_apart}
 use Rattle.overlay_split.specs.Nearness.{Fraction, point_along, LiesNear, LieNear, MarksLieNear}
@@ -109,6 +109,10 @@ abbrev pub SnappedIsOne : Type 0
 SnappedIsOne =
     ((segments : List Pair) (s : Pair) (first second : List Point) → IsChain segments s first → IsChain segments s second → first ≡ second)
     × ((segments first second : List WholeSegment) → IsSnapped segments first → IsSnapped segments second → first ≡ second)
+
+-- The order of the segments does not count: the result is that of the same segments in any other order.
+abbrev pub SnappedIgnoresOrder : Type 0
+SnappedIgnoresOrder = (given other result : List WholeSegment) → IsPermutation given other → IsSnapped given result → IsSnapped other result
 
 -- ---- the closure
 

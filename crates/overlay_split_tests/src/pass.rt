@@ -20,10 +20,10 @@ use std::alloc::Global;
 use std::process::Abort;
 use std::test::Fail;
 
-type Plain = Segment<ShapeCountBoolean, i32, ()>;
+type BooleanSegment = Segment<ShapeCountBoolean, i32, ()>;
 
 /// The segments of these ends, along each of which the subject winds so often.
-fn given(alloc: Global, ends: &[[i32; 4]], subj: i32) -> Result<Vec<Plain>, Fail> {
+fn given(alloc: Global, ends: &[[i32; 4]], subj: i32) -> Result<Vec<BooleanSegment>, Fail> {
     let mut list = Vec::new(alloc);
     let count = ShapeCountBoolean::new(subj, 0);
     for [ax, ay, bx, by] in ends.iter().copied() {
@@ -37,7 +37,7 @@ fn given(alloc: Global, ends: &[[i32; 4]], subj: i32) -> Result<Vec<Plain>, Fail
 }
 
 /// Sorts and merges segments.
-fn join(rt: &impl Abort, list: &mut Vec<Plain>)
+fn join(rt: &impl Abort, list: &mut Vec<BooleanSegment>)
     ensures map { IsTrue (is_map (segments_of list.new.items)) }
 {
     assert!(rt; is_splittable(list));
@@ -48,7 +48,7 @@ fn join(rt: &impl Abort, list: &mut Vec<Plain>)
 fn joined_once(
     rt: &impl Abort,
     alloc: Global,
-    list: &mut Vec<Plain>,
+    list: &mut Vec<BooleanSegment>,
     solver: &Solver,
     placing: Placing,
 ) -> Result<Passed, Fault>
@@ -62,7 +62,7 @@ fn joined_once(
 }
 
 /// A list as the tables write it: each segment's ends, and how often the subject winds along it.
-fn rows(alloc: Global, list: &[Plain]) -> Result<Vec<[i32; 5]>, Fail> {
+fn rows(alloc: Global, list: &[BooleanSegment]) -> Result<Vec<[i32; 5]>, Fail> {
     let mut rows = Vec::new(alloc);
     for segment in list {
         let XSegment { a, b } = segment.x_segment();

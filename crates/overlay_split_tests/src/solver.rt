@@ -24,7 +24,7 @@ use std::test::Fail;
 mod long_lists;
 mod within;
 
-type Counted = Segment<ShapeCountBoolean, i32, ()>;
+type BooleanSegment = Segment<ShapeCountBoolean, i32, ()>;
 
 /// A segment as the tables write it: from, to, the count for the subject.
 type Row = ((i32, i32), (i32, i32), i32);
@@ -37,7 +37,7 @@ const STRATEGIES: [Strategy; 4] = [
 ];
 
 /// A segment with this count, or `None` where its ends are one point or the count is not valid.
-fn counted(a: (i32, i32), b: (i32, i32), subj: i32) -> Option<Counted> {
+fn counted(a: (i32, i32), b: (i32, i32), subj: i32) -> Option<BooleanSegment> {
     let (a, b) = (IntPoint::new(a.0, a.1), IntPoint::new(b.0, b.1));
     let count = ShapeCountBoolean::new(subj, 0);
     if a == b || !count.is_valid() {
@@ -47,7 +47,7 @@ fn counted(a: (i32, i32), b: (i32, i32), subj: i32) -> Option<Counted> {
 }
 
 /// The segments of some rows.
-fn segments(alloc: Global, rows: &[Row]) -> Result<Vec<Counted>, Fail> {
+fn segments(alloc: Global, rows: &[Row]) -> Result<Vec<BooleanSegment>, Fail> {
     let mut list = Vec::new(alloc);
     for (a, b, subj) in rows {
         list.push(counted(*a, *b, *subj).ok_or("no segment")?)?;
@@ -56,7 +56,7 @@ fn segments(alloc: Global, rows: &[Row]) -> Result<Vec<Counted>, Fail> {
 }
 
 /// A list as the tables write it.
-fn rows(alloc: Global, list: &[Counted]) -> Result<Vec<Row>, Fail> {
+fn rows(alloc: Global, list: &[BooleanSegment]) -> Result<Vec<Row>, Fail> {
     let mut rows = Vec::new(alloc);
     for segment in list {
         let XSegment { a, b } = segment.x_segment();

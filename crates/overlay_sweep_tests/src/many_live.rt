@@ -20,7 +20,7 @@ use overlay_sweep::build::visits::sweep_with_handler;
 use std::process::Abort;
 use std::test::Fail;
 
-type Line = Segment<ShapeCountBoolean, i32, ()>;
+type BooleanSegment = Segment<ShapeCountBoolean, i32, ()>;
 
 /// How many lines are live together, at most: with so few the row is full of lines that have ended, and with so many
 /// of live ones.
@@ -28,7 +28,11 @@ const LIVE: [u32; 2] = [1000, 3000];
 
 /// Runs of level lines. Those of a run begin one by one, by turns above and below those before, and end together, where
 /// the next run begins.
-fn lines_in_runs(rt: &(impl Abort + AllocGlobal), runs: u32, live: u32) -> Result<Vec<Line>, Fail> {
+fn lines_in_runs(
+    rt: &(impl Abort + AllocGlobal),
+    runs: u32,
+    live: u32,
+) -> Result<Vec<BooleanSegment>, Fail> {
     assert!(rt; runs <= 10 && live <= 3000);
     let mut lines = Vec::new(rt.alloc());
     for run in 0..runs {
@@ -106,7 +110,7 @@ fn many_lines_are_filled_under_auto(rt: HostRuntime) -> Result<(), Fail> {
 fn compared_over<L: LiveSegments<ShapeCountBoolean, i32>>(
     rt: &(impl Abort + AllocGlobal),
     live: &mut L,
-    lines: &[Line],
+    lines: &[BooleanSegment],
     expected: &[SegmentFill],
 ) -> Result<u128, Fail>
     requires { IsArranged lines.now }

@@ -27,7 +27,7 @@ use overlay_sweep::build::way::Way;
 use std::process::Abort;
 use std::test::Fail;
 
-type Line = Segment<ShapeCountBoolean, i32, ()>;
+type BooleanSegment = Segment<ShapeCountBoolean, i32, ()>;
 
 /// Live segments that refuse an insert after some others.
 #[derive(Drop)]
@@ -118,7 +118,7 @@ const INSERTS: usize = 6;
 
 const FILLS: [SegmentFill; 12] = [2, 1, 2, 11, 7, 8, 14, 8, 1, 13, 4, 4];
 
-fn two_squares(rt: &(impl Abort + AllocGlobal)) -> Result<Vec<Line>, Fail> {
+fn two_squares(rt: &(impl Abort + AllocGlobal)) -> Result<Vec<BooleanSegment>, Fail> {
     let mut lines = Vec::new(rt.alloc());
     for ((ax, ay), (bx, by), subj, clip) in TWO_SQUARES {
         let (a, b) = (IntPoint::new(ax, ay), IntPoint::new(bx, by));

@@ -7,13 +7,13 @@ ghost use Rattle.std.specs.Fmt.{decimal, signed_decimal};
 use std::alloc::AllocError;
 use std::str;
 
-/// Room for a word and seven numbers of 64 bits, each after a space.
-pub const ROOM: usize = 160;
+/// LineBuffer for a word and seven numbers of 64 bits, each after a space.
+pub const LINE_BUFFER_SIZE: usize = 160;
 
-pub type Room = [u8; ROOM];
+pub type LineBuffer = [u8; LINE_BUFFER_SIZE];
 
 /// Appends what begins there.
-pub fn append(text: &mut String, room: &Room, begin: usize) -> Result<(), AllocError>
+pub fn append(text: &mut String, room: &LineBuffer, begin: usize) -> Result<(), AllocError>
     requires { (begin ≤ 160) × IsUtf8 (drop begin room.now) }
     ensures { OnOk result (string_bytes text.new ≡ string_bytes text.old ++ drop begin room.now) }
 {
@@ -22,17 +22,17 @@ pub fn append(text: &mut String, room: &Room, begin: usize) -> Result<(), AllocE
 }
 
 /// Puts the last word of a line, and returns where it begins.
-pub fn put_last_word(room: &mut Room, word: &str) -> usize
+pub fn put_last_word(room: &mut LineBuffer, word: &str) -> usize
     requires { length word.now ≤ 160 }
     ensures begin { result + length word.now ≡ 160 }
     ensures written { drop result room.new ≡ word.now }
     ensures text { IsUtf8 (drop result room.new) }
 {
-    put_word(room, ROOM, word)
+    put_word(room, LINE_BUFFER_SIZE, word)
 }
 
 /// Puts a word before what begins at `end`, and returns where that begins now.
-pub fn put_word(room: &mut Room, end: usize, word: &str) -> usize
+pub fn put_word(room: &mut LineBuffer, end: usize, word: &str) -> usize
     requires { (length word.now ≤ end) × (end ≤ 160) }
     ensures begin { result + length word.now ≡ end }
     ensures written { drop result room.new ≡ word.now ++ drop end room.old }
@@ -44,7 +44,7 @@ pub fn put_word(room: &mut Room, end: usize, word: &str) -> usize
 }
 
 /// Puts a space and a number.
-pub fn put_number(room: &mut Room, end: usize, number: u64) -> usize
+pub fn put_number(room: &mut LineBuffer, end: usize, number: u64) -> usize
     requires { (21 ≤ end) × (end ≤ 160) }
     ensures begin { (end ≤ result + 21) × (result ≤ end) }
     ensures written { drop result room.new ≡ codes " " ++ decimal number ++ drop end room.old }
@@ -55,7 +55,7 @@ pub fn put_number(room: &mut Room, end: usize, number: u64) -> usize
 }
 
 /// Puts a space and a number that may be negative.
-pub fn put_signed(room: &mut Room, end: usize, number: i64) -> usize
+pub fn put_signed(room: &mut LineBuffer, end: usize, number: i64) -> usize
     requires { (21 ≤ end) × (end ≤ 160) }
     ensures begin { (end ≤ result + 21) × (result ≤ end) }
     ensures written { drop result room.new ≡ codes " " ++ signed_decimal number ++ drop end room.old }
@@ -70,7 +70,7 @@ pub fn put_signed(room: &mut Room, end: usize, number: i64) -> usize
 }
 
 /// Puts a byte.
-fn put_byte(room: &mut Room, end: usize, byte: u8) -> usize
+fn put_byte(room: &mut LineBuffer, end: usize, byte: u8) -> usize
     requires { (1 ≤ end) × (end ≤ 160) × (byte < 128) }
     ensures begin { result + 1 ≡ end }
     ensures written { drop result room.new ≡ byte ∷ drop end room.old }
@@ -80,7 +80,7 @@ fn put_byte(room: &mut Room, end: usize, byte: u8) -> usize
 }
 
 /// Puts the digits of a number.
-fn put_digits(room: &mut Room, end: usize, number: u64) -> usize
+fn put_digits(room: &mut LineBuffer, end: usize, number: u64) -> usize
     requires { (length (decimal number) ≤ end) × (end ≤ 160) }
     ensures begin { result + length (decimal number) ≡ end }
     ensures written { drop result room.new ≡ decimal number ++ drop end room.old }

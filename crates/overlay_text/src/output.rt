@@ -4,7 +4,7 @@ ghost use Rattle.std.specs.Str.{IsUtf8};
 ghost use Rattle.overlay_base.specs.SegmentOf.{segment_of, segments_of};
 ghost use Rattle.overlay_text.specs.Output.{pair_text, segment_line, segment_lines, place_text};
 
-use crate::line_end::{ROOM, Room, append, put_last_word, put_signed, put_word};
+use crate::line_end::{LINE_BUFFER_SIZE, LineBuffer, append, put_last_word, put_signed, put_word};
 use overlay_base::segm::boolean::ShapeCountBoolean;
 use overlay_base::segm::segment::Segment;
 use overlay_geometry::geom::point::IntPoint;
@@ -35,7 +35,7 @@ fn write_segment<I: OverlayInt>(
     ensures { OnOk result (string_bytes text.new ≡ string_bytes text.old ++ segment_line (segment_of segment.now)) }
 {
     let XSegment { a, b } = segment.x_segment();
-    let mut room = [0; ROOM];
+    let mut room = [0; LINE_BUFFER_SIZE];
     let end = put_last_word(&mut room, "\n");
     let end = put_count(&mut room, end, segment.count());
     let end = put_point(&mut room, end, b);
@@ -54,7 +54,7 @@ pub fn write_place<I: OverlayInt>(
     ensures { OnOk result (string_bytes text.new ≡ string_bytes text.old ++ place_text I.whole kind.now place) }
 {
     text.push_str(kind)?;
-    let mut room = [0; ROOM];
+    let mut room = [0; LINE_BUFFER_SIZE];
     let end = put_last_word(
         &mut room,
         if place.is_round {
@@ -68,7 +68,7 @@ pub fn write_place<I: OverlayInt>(
 }
 
 /// Puts ` X Y` before what begins at `end`, and returns where that begins now.
-pub fn put_point<I: OverlayInt>(room: &mut Room, end: usize, point: IntPoint<I>) -> usize
+pub fn put_point<I: OverlayInt>(room: &mut LineBuffer, end: usize, point: IntPoint<I>) -> usize
     requires { (42 ≤ end) × (end ≤ 160) }
     ensures begin { (end ≤ result + 42) × (result ≤ end) }
     ensures written { drop result room.new ≡ pair_text (I.whole point.x) (I.whole point.y) ++ drop end room.old }
@@ -80,7 +80,7 @@ pub fn put_point<I: OverlayInt>(room: &mut Room, end: usize, point: IntPoint<I>)
 }
 
 /// Puts ` SUBJ CLIP` in the same way.
-fn put_count(room: &mut Room, end: usize, count: ShapeCountBoolean) -> usize
+fn put_count(room: &mut LineBuffer, end: usize, count: ShapeCountBoolean) -> usize
     requires { (42 ≤ end) × (end ≤ 160) }
     ensures begin { (end ≤ result + 42) × (result ≤ end) }
     ensures written { drop result room.new ≡ pair_text count.subj count.clip ++ drop end room.old }

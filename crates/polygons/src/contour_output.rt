@@ -10,7 +10,7 @@ use overlay_contours::contour::{IntContour, IntShape};
 use overlay_contours::overlay::Overlay;
 use overlay_geometry::geom::point::IntPoint;
 use overlay_geometry::num::OverlayInt;
-use overlay_text::line_end::{ROOM, append};
+use overlay_text::line_end::{LINE_BUFFER_SIZE, append};
 use overlay_text::output::put_point;
 use std::alloc::AllocError;
 
@@ -99,7 +99,7 @@ fn write_point<I: OverlayInt>(text: &mut String, point: IntPoint<I>) -> Result<(
     ensures { OnOk result (string_bytes text.new ≡ string_bytes text.old
         ++ pair_text (point_of I.whole point).x (point_of I.whole point).y) }
 {
-    let mut room = [0; ROOM];
-    let begin = put_point(&mut room, ROOM, point);
+    let mut room = [0; LINE_BUFFER_SIZE];
+    let begin = put_point(&mut room, LINE_BUFFER_SIZE, point);
     append(text, &room, begin)
 }

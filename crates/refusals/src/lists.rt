@@ -14,7 +14,7 @@ use i_overlay::split::solver::SplitSolver;
 use overlay_snapping::snap::solver::SnapSolver;
 use std::alloc::Global;
 
-type Side = Segment<ShapeCountBoolean, i32, Color>;
+type ColoredSegment = Segment<ShapeCountBoolean, i32, Color>;
 
 /// The shapes that are split.
 fn split_shapes() -> [Shape; 8] {
@@ -36,7 +36,12 @@ pub struct Sort {}
 
 impl Case for Sort {
     fn try_once(&mut self, alloc: Global) -> Result<Summary, Stop> {
-        let mut list: Vec<Side> = sides(Shape::Crossed, COLORS, &mut Calls::given(), alloc)?;
+        let mut list: Vec<ColoredSegment> = sides(
+            Shape::Crossed,
+            COLORS,
+            &mut Calls::given(),
+            alloc,
+        )?;
         match sort_by_ab(&mut list) {
             Ok(()) => Ok(Summary {
                 count: list.len(),
@@ -54,7 +59,12 @@ pub struct Join {}
 
 impl Case for Join {
     fn try_once(&mut self, alloc: Global) -> Result<Summary, Stop> {
-        let mut list: Vec<Side> = sides(Shape::Crossed, COLORS, &mut Calls::given(), alloc)?;
+        let mut list: Vec<ColoredSegment> = sides(
+            Shape::Crossed,
+            COLORS,
+            &mut Calls::given(),
+            alloc,
+        )?;
         if !list.iter().all(|segment| segment.count().is_valid()) {
             return Err(Stop::Wrong("the input may not be joined"));
         }
@@ -76,7 +86,7 @@ pub struct Balance {}
 
 impl Case for Balance {
     fn try_once(&mut self, alloc: Global) -> Result<Summary, Stop> {
-        let list: Vec<Side> = sides(Shape::Squares, COLORS, &mut Calls::given(), alloc)?;
+        let list: Vec<ColoredSegment> = sides(Shape::Squares, COLORS, &mut Calls::given(), alloc)?;
         match is_balanced(alloc, &list) {
             Ok(balanced) => Ok(Summary {
                 count: list.len(),
@@ -107,7 +117,7 @@ impl Split {
 
     /// The split of one shape.
     fn split(&mut self, shape: Shape, alloc: Global) -> Result<Summary, Stop> {
-        let mut list: Vec<Side> = sides(shape, COLORS, &mut Calls::given(), alloc)?;
+        let mut list: Vec<ColoredSegment> = sides(shape, COLORS, &mut Calls::given(), alloc)?;
         if !is_splittable(&list) {
             return Err(Stop::Wrong("the input may not be split"));
         }
@@ -160,7 +170,7 @@ impl Snap {
 
     /// The split of one shape.
     fn split(&mut self, shape: Shape, alloc: Global) -> Result<Summary, Stop> {
-        let mut list: Vec<Side> = sides(shape, COLORS, &mut Calls::given(), alloc)?;
+        let mut list: Vec<ColoredSegment> = sides(shape, COLORS, &mut Calls::given(), alloc)?;
         if !is_splittable(&list) {
             return Err(Stop::Wrong("the input may not be split"));
         }
@@ -190,7 +200,7 @@ impl Case for Snap {
 }
 
 /// A digest of the ends and colors of segments, in order.
-fn digest_of(list: &[Side]) -> i64 {
+fn digest_of(list: &[ColoredSegment]) -> i64 {
     let mut digest = 0;
     for segment in list {
         let ends = segment.x_segment();

@@ -29,7 +29,7 @@ impl Sweep {
     }
 
     /// The fills of an arrangement.
-    fn sweep(&mut self, list: &[Side], alloc: Global) -> Result<Summary, Stop> {
+    fn sweep(&mut self, list: &[BooleanSegment], alloc: Global) -> Result<Summary, Stop> {
         if !is_arranged(list) {
             return Err(Stop::Wrong("the split is no arrangement"));
         }
@@ -49,17 +49,17 @@ impl Sweep {
     }
 }
 
-type Side = Segment<ShapeCountBoolean, i32, ()>;
+type BooleanSegment = Segment<ShapeCountBoolean, i32, ()>;
 
 impl Case for Sweep {
     fn try_once(&mut self, alloc: Global) -> Result<Summary, Stop> {
-        let mut list: Vec<Side> = sides(Shape::Long, NO_DATA, &mut (), alloc)?;
+        let mut list: Vec<BooleanSegment> = sides(Shape::Long, NO_DATA, &mut (), alloc)?;
         if !is_splittable(&list) {
             return Err(Stop::Wrong("the input may not be split"));
         }
         SplitSolver::new(alloc).split_segments(&mut list, &Solver::LIST)?;
         let long = self.sweep(&list, alloc)?;
-        let levels: Vec<Side> = sides(Shape::Levels, NO_DATA, &mut (), alloc)?;
+        let levels: Vec<BooleanSegment> = sides(Shape::Levels, NO_DATA, &mut (), alloc)?;
         let swept = self.sweep(&levels, alloc)?;
         Ok(Summary {
             count: long.count.saturating_add(swept.count),

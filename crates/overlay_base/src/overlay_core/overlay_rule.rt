@@ -46,7 +46,7 @@ impl OverlayRule {
 
     /// What the rule says of the top side of a segment with this fill.
     #[tactic(auto, unfolding(crate::specs::Rules::top_value))]
-    fn holds_of_top(self, fill: SegmentFill) -> bool
+    pub fn holds_of_top(self, fill: SegmentFill) -> bool
         ensures { result ≡ top_value (holds self) fill }
     {
         self.holds(fill & SUBJ_TOP != NONE, fill & CLIP_TOP != NONE)

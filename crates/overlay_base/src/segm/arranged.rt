@@ -1,22 +1,20 @@
 // Tests of lists: whether a list may be split, and whether it is a planar arrangement. This project's own.
 ghost use Rattle.std.specs.Prelude.{◌≡◌, ◌&&◌, int_lt, IsTrue};
 ghost use Rattle.std.specs.List.{list_all};
-ghost use Rattle.overlay_geometry.specs.Points.{pair_cmp, pair_lt, is_ordered};
+ghost use Rattle.overlay_geometry.specs.Points.{pair_cmp, is_ordered};
 ghost use Rattle.overlay_geometry.specs.Sorting.{is_strictly_sorted};
 ghost use Rattle.overlay_base.specs.Windings.{is_valid, is_not_empty};
 ghost use Rattle.overlay_base.specs.Segments.{pairs};
 ghost use Rattle.overlay_geometry.specs.Meeting.{are_apart};
 ghost use Rattle.overlay_base.specs.Planar.{is_planar, is_splittable, is_arranged};
-ghost use Rattle.overlay_geometry.specs.Coordinates.{is_pair_in_range, is_point_in_range};
+ghost use Rattle.overlay_geometry.specs.Coordinates.{is_pair_in_range};
 ghost use Rattle.overlay_geometry.specs.InRange.{IsPairInRange};
-ghost use Rattle.overlay_geometry.specs.PointOf.{point_of};
 ghost use Rattle.overlay_geometry.specs.PairOf.{pair_of};
 ghost use Rattle.overlay_base.specs.SegmentOf.{segments_of, ends_of, winding_of};
 
 use crate::segm::apart::are_apart;
 use crate::segm::segment::Segment;
 use crate::segm::winding::WindingCount;
-use overlay_geometry::geom::point::IntPoint;
 use overlay_geometry::geom::x_segment::XSegment;
 use overlay_geometry::num::OverlayInt;
 
@@ -50,14 +48,7 @@ fn is_usable<C: WindingCount, I: OverlayInt, D: Copy>(segment: &Segment<C, I, D>
 {
     let XSegment { a, b } = segment.x_segment();
     let count = segment.count();
-    is_in_range(a) && is_in_range(b) && count.is_valid() && count.is_not_empty()
-}
-
-/// Whether both coordinates of a point are in range.
-fn is_in_range<I: OverlayInt>(point: IntPoint<I>) -> bool
-    ensures { result ≡ is_point_in_range (I.whole I.MIN_COORD) (I.whole I.MAX_COORD) (point_of I.whole point) }
-{
-    point.x.is_in_range() && point.y.is_in_range()
+    a.is_in_range() && b.is_in_range() && count.is_valid() && count.is_not_empty()
 }
 
 /// Whether each segment comes before the next.
@@ -72,19 +63,12 @@ fn is_strictly_sorted<C: WindingCount, I: OverlayInt, D: Copy>(
     let mut last = first.x_segment();
     for segment in later {
         let next = segment.x_segment();
-        if !is_before(&last, &next) {
+        if !last.is_before(&next) {
             return false;
         }
         last = next;
     }
     true
-}
-
-/// Whether a segment comes before another, by its ends.
-fn is_before<I: OverlayInt>(left: &XSegment<I>, right: &XSegment<I>) -> bool
-    ensures { result ≡ pair_lt (pair_of I.whole left.now) (pair_of I.whole right.now) }
-{
-    left < right
 }
 
 /// Whether every two segments are apart.

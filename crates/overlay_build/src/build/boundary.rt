@@ -9,7 +9,6 @@ ghost use Rattle.overlay_build.specs.Boundary.{direction};
 ghost use Rattle.overlay_build.specs.ShapedBoundary.{of_shape};
 ghost use Rattle.overlay_build.specs.BoundaryOf.{HasLinksInShape, WindsAsLinks, BoundsAgain};
 
-use crate::build::directed_walks::holds_of_top;
 use crate::build::graph::OverlayGraph;
 use overlay_base::overlay_core::link::OverlayLink;
 use overlay_base::overlay_core::overlay_rule::OverlayRule;
@@ -59,7 +58,7 @@ fn directed_segment<I: OverlayInt, D: Copy>(
     ensures pair { ends_of result ≡ (link_of I.whole link.now).pair }
     ensures count { winding_of result ≡ of_shape shape_type (direction (holds rule) link.now.fill) }
 {
-    let count = if holds_of_top(rule, link.fill) {
+    let count = if rule.holds_of_top(link.fill) {
         ShapeCountBoolean::direct_count(shape_type)
     } else {
         ShapeCountBoolean::invert_count(shape_type)

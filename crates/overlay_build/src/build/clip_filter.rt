@@ -16,12 +16,12 @@ const INSIDE_OR_BOUNDARY: ClipRule = ClipRule {
     boundary_included: true,
 };
 
-const OUTSIDE: ClipRule = ClipRule {
+const NOT_INSIDE: ClipRule = ClipRule {
     invert: true,
     boundary_included: true,
 };
 
-const OUTSIDE_OR_BOUNDARY: ClipRule = ClipRule {
+const NOT_INSIDE_OR_BOUNDARY: ClipRule = ClipRule {
     invert: true,
     boundary_included: false,
 };
@@ -44,14 +44,14 @@ pub fn is_clip_inside_boundary_included(fill: SegmentFill) -> bool
 pub fn is_clip_outside_boundary_excluded(fill: SegmentFill) -> bool
     ensures { result ≡ keeps_clip (record { invert = true; boundary_included = false }) fill }
 {
-    OUTSIDE_OR_BOUNDARY.is_included(fill)
+    NOT_INSIDE_OR_BOUNDARY.is_included(fill)
 }
 
 /// Whether a line runs there with the subject on neither side.
 pub fn is_clip_outside_boundary_included(fill: SegmentFill) -> bool
     ensures { result ≡ keeps_clip (record { invert = true; boundary_included = true }) fill }
 {
-    OUTSIDE.is_included(fill)
+    NOT_INSIDE.is_included(fill)
 }
 
 /// Keeps what passes `is_clip_inside_boundary_excluded`.

@@ -1,7 +1,7 @@
 // Closed walks through the graph of a rule, along each link in the direction that has what the rule holds of on its
 // left.
 ghost use Rattle.std.specs.Prelude.{◌≡◌, ◌≢◌, ℕ, ◌<◌, ◌≤◌, true, false, map, length, slice_index_or, slice_set, ◌++◌, List, IfOk, IfErr, OnOk};
-ghost use Rattle.overlay_base.specs.Rules.{holds, top_value};
+ghost use Rattle.overlay_base.specs.Rules.{holds};
 ghost use Rattle.overlay_base.specs.declared.segm.fault.Fault.TheVariants.{Memory};
 ghost use Rattle.overlay_build.specs.DirectedWalks.{in_direction, arcs, IsFlow, IsDirectedWalk, AreDirectedWalks};
 ghost use Rattle.overlay_build.specs.GraphOf.{link_of};
@@ -15,7 +15,6 @@ use crate::build::graph::OverlayGraph;
 use overlay_base::overlay_core::link::OverlayLink;
 use overlay_base::overlay_core::overlay_rule::OverlayRule;
 use overlay_base::segm::fault::Fault;
-use overlay_base::segm::segment_fill::{CLIP_TOP, NONE, SUBJ_TOP, SegmentFill};
 use overlay_geometry::num::OverlayInt;
 use std::alloc::Global;
 
@@ -160,10 +159,10 @@ fn next_free<I: OverlayInt, D: Copy>(
 }
 
 /// The number of the node at which a link starts in its direction.
-fn start_of<I: OverlayInt, D: Copy>(link: &OverlayLink<I, D>, rule: OverlayRule) -> usize
+pub fn start_of<I: OverlayInt, D: Copy>(link: &OverlayLink<I, D>, rule: OverlayRule) -> usize
     ensures { result ≡ (in_direction (holds rule) (link_of I.whole link.now)).a_node }
 {
-    if holds_of_top(rule, link.fill) {
+    if rule.holds_of_top(link.fill) {
         link.a.id
     } else {
         link.b.id
@@ -171,19 +170,12 @@ fn start_of<I: OverlayInt, D: Copy>(link: &OverlayLink<I, D>, rule: OverlayRule)
 }
 
 /// The number of the node at which a link ends in its direction.
-fn end_of<I: OverlayInt, D: Copy>(link: &OverlayLink<I, D>, rule: OverlayRule) -> usize
+pub fn end_of<I: OverlayInt, D: Copy>(link: &OverlayLink<I, D>, rule: OverlayRule) -> usize
     ensures { result ≡ (in_direction (holds rule) (link_of I.whole link.now)).b_node }
 {
-    if holds_of_top(rule, link.fill) {
+    if rule.holds_of_top(link.fill) {
         link.b.id
     } else {
         link.a.id
     }
-}
-
-/// What the rule says of the top side of a segment with this fill.
-pub fn holds_of_top(rule: OverlayRule, fill: SegmentFill) -> bool
-    ensures { result ≡ top_value (holds rule) fill }
-{
-    rule.holds(fill & SUBJ_TOP != NONE, fill & CLIP_TOP != NONE)
 }

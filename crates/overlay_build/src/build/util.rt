@@ -15,7 +15,7 @@ use overlay_geometry::geom::point::IntPoint;
 use overlay_geometry::num::OverlayInt;
 
 /// The points of shorter contours are compared pair by pair; longer contours are sorted.
-const FEW_POINTS: usize = 64;
+const MIN_SORTED_POINTS: usize = 64;
 
 impl<C: WindingCount, N: GraphNode, I: OverlayInt, D: Copy> GraphBuilder<C, N, I, D> {
     /// Whether two places of the contour hold one point.
@@ -35,7 +35,7 @@ impl<C: WindingCount, N: GraphNode, I: OverlayInt, D: Copy> GraphBuilder<C, N, I
         ensures emptied { IfErr result (λ fault. buffer.new.items ≡ []) }
         ensures takes_none { IfErr result (λ fault. 64 ≤ length contour.now) }
     {
-        if contour.len() < FEW_POINTS {
+        if contour.len() < MIN_SORTED_POINTS {
             return Ok(has_equal_points(contour));
         }
         match sort_into(contour, buffer) {

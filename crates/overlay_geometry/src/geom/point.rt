@@ -30,6 +30,7 @@ impl<I: OverlayInt> IntPoint<I> {
     ghost use Rattle.std.specs.Prelude.{◌≡◌, pos};
     ghost use Rattle.overlay_geometry.specs.Points.{sqr_distance};
     ghost use Rattle.overlay_geometry.specs.PointOf.{point_of};
+    ghost use Rattle.overlay_geometry.specs.Coordinates.{is_point_in_range};
     ghost use Rattle.overlay_geometry.specs.InRange.{IsPointInRange};
 
     /// The point with these coordinates.
@@ -37,6 +38,13 @@ impl<I: OverlayInt> IntPoint<I> {
         ensures { point_of I.whole result ≡ record { x = I.whole x; y = I.whole y } }
     {
         IntPoint { x, y }
+    }
+
+    /// Whether both coordinates lie between `MIN_COORD` and `MAX_COORD`. This project's own.
+    pub fn is_in_range(self) -> bool
+        ensures { result ≡ is_point_in_range (I.whole I.MIN_COORD) (I.whole I.MAX_COORD) (point_of I.whole self) }
+    {
+        self.x.is_in_range() && self.y.is_in_range()
     }
 
     /// The squared distance to another point. Both have to be in range.

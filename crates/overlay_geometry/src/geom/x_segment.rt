@@ -16,7 +16,7 @@ pub struct XSegment<I> {
 
 impl<I: OverlayInt> XSegment<I> {
     ghost use Rattle.std.specs.Prelude.{◌≡◌, ◌&&◌, int_lt, not};
-    ghost use Rattle.overlay_geometry.specs.Points.{is_vertical};
+    ghost use Rattle.overlay_geometry.specs.Points.{is_vertical, pair_lt};
     ghost use Rattle.overlay_geometry.specs.Ranges.{heights, is_off_range};
     ghost use Rattle.overlay_geometry.specs.PairOf.{pair_of};
     ghost use Rattle.overlay_geometry.specs.RangeOf.{range_of};
@@ -53,6 +53,13 @@ impl<I: OverlayInt> XSegment<I> {
         ensures { result ≡ int_lt (I.whole other.now.b.x) (I.whole self.now.a.x) }
     {
         other.b.x < self.a.x
+    }
+
+    /// Whether this comes before another, by their ends. This project's own.
+    pub fn is_before(&self, other: &XSegment<I>) -> bool
+        ensures { result ≡ pair_lt (pair_of I.whole self.now) (pair_of I.whole other.now) }
+    {
+        self < other
     }
 
     /// Whether both ends lie below a height.

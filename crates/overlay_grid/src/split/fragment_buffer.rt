@@ -18,11 +18,11 @@ use overlay_geometry::geom::x_segment::XSegment;
 use overlay_geometry::num::OverlayInt;
 use std::alloc::{AllocError, Global};
 
-/// How many comparisons a fragment are few: groups that need no more upward are not sorted from left to right to see
-/// whether that way needs fewer. Two sorts and a count cost about as much as this many comparisons.
-const FEW_LOOKS: u64 = 12;
+/// Comparisons per fragment up to which a scan upward is kept, and a scan from left to right is not tried. Two sorts and
+/// a count cost about as much as this many comparisons.
+const SCAN_BUDGET_PER_FRAGMENT: u64 = 12;
 
-const _: () = prove!(FEW_LOOKS == 12);
+const _: () = prove!(SCAN_BUDGET_PER_FRAGMENT == 12);
 
 /// The fragments of segments in the columns of a layout: one group for each column. It keeps its memory when cleared.
 #[derive(Drop)]
@@ -186,7 +186,7 @@ impl<I: OverlayInt> FragmentBuffer<I> {
         for group in self.groups.iter() {
             fragments = fragments.saturating_add(group.len() as u64);
         }
-        fragments.saturating_mul(FEW_LOOKS)
+        fragments.saturating_mul(SCAN_BUDGET_PER_FRAGMENT)
     }
 
     /// Sorts every group by where the fragments begin along an axis.

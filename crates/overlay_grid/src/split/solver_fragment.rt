@@ -2,7 +2,6 @@
 ghost use Rattle.std.specs.Prelude.{◌≡◌, ◌≢◌, ◌^◌, min, ◌<◌, ◌≤◌, ◌+◌, ◌-◌, ◌++◌, ℕ, All, IsTrue, None, IfErr, IfOk, OnOk, IfSome, OnSome, IfNone, IsSome, drop, length, int_lt, flat_map};
 ghost use Rattle.std.specs.List.{AllByRecursion, list_any, range_with_len};
 ghost use Rattle.overlay_base.specs.declared.segm.fault.Fault.TheVariants.{Memory};
-ghost use Rattle.overlay_geometry.specs.Points.{pair_lt};
 ghost use Rattle.overlay_geometry.specs.PairOf.{pair_of};
 ghost use Rattle.overlay_base.specs.SegmentOf.{ends_of, segments_of, pairs_in};
 ghost use Rattle.overlay_geometry.specs.InRange.{IsPairInRange};
@@ -26,7 +25,6 @@ use crate::split::sort_within::sort_up_to;
 use overlay_base::segm::fault::Fault;
 use overlay_base::segm::segment::Segment;
 use overlay_base::segm::winding::WindingCount;
-use overlay_geometry::geom::x_segment::XSegment;
 use overlay_geometry::num::OverlayInt;
 use overlay_intersections::split::line_mark::LineMark;
 use overlay_intersections::split::marking::{Indexed, mark_both};
@@ -295,7 +293,7 @@ fn mark_two<I: OverlayInt>(
     }
     let left = indexed(fragment);
     let right = indexed(other);
-    if is_before(&fragment.x_segment, &other.x_segment) {
+    if fragment.x_segment.is_before(&other.x_segment) {
         mark_both(left, right, placing, marks)
     } else {
         mark_both(right, left, placing, marks)
@@ -311,11 +309,4 @@ fn indexed<I: OverlayInt>(fragment: &Fragment<I>) -> Indexed<I>
         index: fragment.index,
         x_segment: fragment.x_segment,
     }
-}
-
-/// Whether a segment comes before another, by its ends.
-fn is_before<I: OverlayInt>(left: &XSegment<I>, right: &XSegment<I>) -> bool
-    ensures { result ≡ pair_lt (pair_of I.whole left.now) (pair_of I.whole right.now) }
-{
-    left < right
 }

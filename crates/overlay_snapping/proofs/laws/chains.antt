@@ -9,3 +9,4 @@ pub mod ExactSnaps
 pub mod Snaps
 pub mod MarkLists
 pub mod SnapRuns
+pub mod Reorders

@@ -1,6 +1,6 @@
 // The laws of pixels, chains and closures. The functions have empty bodies, and their contracts are proved for all
 // whole numbers, whatever the engine.
-ghost use Rattle.overlay_snapping.specs.Laws.{InequalityIsMeant, PixelsAreMetInOrder, PiecesLieNear, RoundedAreMarksOff, ChainPointsAreEndsAndMarks, MarksMeetPixels, PiecesAreApart, SnappedIsPlanar, SnappedLiesNear, PlanarHasFew, SnappedHasFew, ChainPointsAreListed, PathIsChain, CutsSnap, SnappedIsOne, ExactSnapIsPass, ReachedIsHot, InputIsWithin};
+ghost use Rattle.overlay_snapping.specs.Laws.{InequalityIsMeant, PixelsAreMetInOrder, PiecesLieNear, RoundedAreMarksOff, ChainPointsAreEndsAndMarks, MarksMeetPixels, PiecesAreApart, SnappedIsPlanar, SnappedLiesNear, PlanarHasFew, SnappedHasFew, ChainPointsAreListed, PathIsChain, CutsSnap, SnappedIsOne, SnappedIgnoresOrder, ExactSnapIsPass, ReachedIsHot, InputIsWithin};
 
 /// The test by whole numbers says whether some point of a segment lies in a pixel. A segment meets pixels in the order
 /// of their points along it, so the points of a chain need no parameters to be sorted. A piece between two points whose
@@ -49,12 +49,13 @@ pub fn count_laws()
 
 /// The path of a segment through the points between its ends at which it is cut is its chain, so a pass through these
 /// points snaps. These points lie within half a unit of their segments, and on them where every crossing is a whole
-/// point. There is one chain of each segment, and one result. Where every crossing is a whole point, that is what a
-/// settling pass leaves.
+/// point. There is one chain of each segment, and one result, in whatever order the segments are given. Where every
+/// crossing is a whole point, that is what a settling pass leaves.
 pub fn chain_laws()
     ensures path { PathIsChain }
     ensures cuts { CutsSnap }
     ensures one { SnappedIsOne }
+    ensures order { SnappedIgnoresOrder }
     ensures exact { ExactSnapIsPass }
 {}
 

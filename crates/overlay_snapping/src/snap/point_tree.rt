@@ -101,16 +101,16 @@ impl<I: OverlayInt> PointTree<I> {
             column_of(segment.a, self.shift),
             column_of(segment.b, self.shift),
         );
-        if last.abs_diff(first) < FEW_COLUMNS {
+        if last.abs_diff(first) < MAX_SCANNED_COLUMNS {
             return append_met_in_columns(&self.points, self.shift, segment, places);
         }
         append_met_among(&self.points, &self.boxes, 0, segment, places)
     }
 }
 
-/// Where a segment runs through fewer columns, its points are found in each of them, which takes less time than to go
-/// down the tree.
-const FEW_COLUMNS: u64 = 8;
+/// The number of columns from which on the points of a segment are found by the tree. In fewer, a search of each takes
+/// less time than to descend.
+const MAX_SCANNED_COLUMNS: u64 = 8;
 
 /// The column of a point.
 fn column_of<I: OverlayInt>(point: IntPoint<I>, shift: u32) -> i64
@@ -343,8 +343,8 @@ fn greater<I: OverlayInt>(a: I, b: I) -> I
     if a < b { b } else { a }
 }
 
-/// A part of no more points is tested point by point, which takes less time than to go down it.
-const FEW_POINTS: usize = 8;
+/// The most points of a part that are tested one by one, which takes less time than to descend.
+const MAX_SCANNED_POINTS: usize = 8;
 
 /// As `PointTree::append_met`, in a part of a tree whose first point is at a place.
 fn append_met_among<I: OverlayInt>(
@@ -362,7 +362,7 @@ fn append_met_among<I: OverlayInt>(
     ensures { OnOk result (places.new.items ≡ places.old.items
         ++ met_places_from first (pair_of I.whole segment.now) (map (point_of I.whole) points.now)) }
 {
-    if points.len() <= FEW_POINTS {
+    if points.len() <= MAX_SCANNED_POINTS {
         return append_each_met(points, first, segment, places);
     }
     let mid = points.len() / 2;

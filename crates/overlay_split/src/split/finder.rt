@@ -35,23 +35,23 @@ use overlay_tree::split::{solver_list, solver_tree};
 use std::alloc::Global;
 use std::mem::replace;
 
-/// How many fragments a segment are many: a tree, which may compare as often as there are fragments, is then tried
-/// before they are made. With fewer the columns are hardly dearer than the tree; without this, long segments would take
-/// a fragment in each of hundreds of columns.
-const MANY_FRAGMENTS: u128 = 4;
+/// Fragments per segment from which on a tree, which may compare as often as there are fragments, is tried before they
+/// are made. With fewer the columns are hardly dearer than the tree. Without this, long segments would take a fragment
+/// in each of hundreds of columns.
+const TREE_FIRST_FRAGMENTS: u128 = 4;
 
-const _: () = prove!(MANY_FRAGMENTS == 4);
+const _: () = prove!(TREE_FIRST_FRAGMENTS == 4);
 
-/// How many comparisons a segment are few: columns that take no more serve in place of a tree, whose bound on
-/// comparisons is at least that.
-const FEW_LOOKS: u64 = 64;
+/// Comparisons per segment up to which columns serve in place of a tree, whose bound on comparisons is at least that.
+const COLUMN_BUDGET_PER_SEGMENT: u64 = 64;
 
-const _: () = prove!(FEW_LOOKS == 64);
+const _: () = prove!(COLUMN_BUDGET_PER_SEGMENT == 64);
 
-/// How many segments that are live at a time are few: a tree compares so few one by one, which is faster than columns.
-const FEW_LIVE: u64 = 6;
+/// Segments that are live at a time, on average, from which on columns serve. A tree compares fewer one by one, which is
+/// faster than columns.
+const MIN_LIVE_FOR_COLUMNS: u64 = 6;
 
-const _: () = prove!(FEW_LIVE == 6);
+const _: () = prove!(MIN_LIVE_FOR_COLUMNS == 6);
 
 /// What the passes of one run find the segments that meet by: a scan of all pairs of a list, a tree over their heights,
 /// or the columns of a grid. The marks are the same.
@@ -245,7 +245,7 @@ fn find_over_grid<C: WindingCount, I: OverlayInt, D: Copy>(
     ensures fault { IfErr result (λ fault. fault ≡ Memory) }
 {
     let fragments = count_fragments(segments, grid);
-    if fragments >= MANY_FRAGMENTS * segments.len() as u128 {
+    if fragments >= TREE_FIRST_FRAGMENTS * segments.len() as u128 {
         let found = find_marks_within(segments, placing, fragments, tree, marks, looked)?;
         if let Some(rounded) = found {
             return Ok(rounded);
@@ -325,7 +325,7 @@ fn are_few_live<C: WindingCount, I: OverlayInt, D: Copy>(segments: &[Segment<C, 
         first = first.min(left);
         last = last.max(right);
     }
-    widths / FEW_LIVE < last.abs_diff(first)
+    widths / MIN_LIVE_FOR_COLUMNS < last.abs_diff(first)
 }
 
 /// The same in the columns of a grid, inside which the segments have to lie. Where they have many fragments each, none
@@ -346,9 +346,9 @@ fn find_in_columns<C: WindingCount, I: OverlayInt, D: Copy>(
     ensures given_up { IfOk result (λ found. IfNone found (looked.new ≡ looked.old)) }
     ensures fault { IfErr result (λ fault. fault ≡ Memory) }
 {
-    if count_fragments(segments, grid) >= MANY_FRAGMENTS * segments.len() as u128 {
+    if count_fragments(segments, grid) >= TREE_FIRST_FRAGMENTS * segments.len() as u128 {
         return Ok(None);
     }
-    let most = FEW_LOOKS.saturating_mul(segments.len() as u64);
+    let most = COLUMN_BUDGET_PER_SEGMENT.saturating_mul(segments.len() as u64);
     solver_fragment_within::find_marks_within(segments, placing, most, grid, marks, looked)
 }

@@ -72,7 +72,7 @@ impl<C: WindingCount, I: OverlayInt> ScanTree<C, I> {
 
     /// Goes down from a node to a place among the entries, and puts the tree of `new` there. Where it meets an entry
     /// that does not end right of `x`, it takes that one out in place of this.
-    fn go_down(&mut self, at: usize, x: I, place: &Place<I>, new: usize, given: usize) -> Descent
+    fn descend(&mut self, at: usize, x: I, place: &Place<I>, new: usize, given: usize) -> Descent
         requires down { MayGoDown self.old.shape.nodes.items at new }
         requires same_length { length self.old.shape.nodes.items ≡ length self.old.entries.items }
         requires place { IsPlaceInRange I.whole I.MIN_COORD I.MAX_COORD place.now }
@@ -110,13 +110,13 @@ impl<C: WindingCount, I: OverlayInt> ScanTree<C, I> {
         }
         let node = self.shape.node(at);
         if entry.is_before(place, &mut self.compared) {
-            let below = self.go_down(node.right, x, place, new, at);
+            let below = self.descend(node.right, x, place, new, at);
             let top = self
                 .shape
                 .rejoin(node.left, at, below.top, below.is_same(new));
             Descent { top, ..below }
         } else {
-            let below = self.go_down(node.left, x, place, new, given);
+            let below = self.descend(node.left, x, place, new, given);
             let top = self
                 .shape
                 .rejoin(below.top, at, node.right, below.is_same(new));
@@ -142,7 +142,7 @@ impl<C: WindingCount, I: OverlayInt> ScanTree<C, I> {
     {
         self.compared = 0;
         loop {
-            let descent = self.go_down(self.root, x, place, new, NONE);
+            let descent = self.descend(self.root, x, place, new, NONE);
             self.root = descent.top;
             if !descent.is_stopped {
                 return descent.last;

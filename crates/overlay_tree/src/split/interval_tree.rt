@@ -33,8 +33,8 @@ pub struct Query<I> {
 
 /// Appends the indexes of the live entries whose heights meet those of the look-up, and that do not end left of the
 /// sweep. Those that do are dropped. Returns whether one was: if not, nothing is written to the nodes.
-#[cycle(look_up)]
-pub fn look_up<I: OverlayInt>(
+#[cycle(find_meeting)]
+pub fn find_meeting<I: OverlayInt>(
     nodes: &mut [Node<I>],
     query: &Query<I>,
     indexes: &mut Vec<usize>,
@@ -53,21 +53,21 @@ pub fn look_up<I: OverlayInt>(
     if !reaches(greatest_in(nodes), query.heights.min) {
         return Ok(false);
     }
-    if nodes.len() <= FEW_NODES {
-        look_among(nodes, query, indexes, looked)
+    if nodes.len() <= MAX_SCANNED_NODES {
+        find_in_few_nodes(nodes, query, indexes, looked)
     } else {
-        look_into(nodes, query, indexes, looked)
+        find_in_subtree(nodes, query, indexes, looked)
     }
 }
 
-/// A subtree of no more nodes is passed over node by node, which takes less time than to go down it. The bound on
+/// The most nodes of a subtree that are passed over one by one, which takes less time than to descend. The bound on
 /// comparisons rests on it.
-const FEW_NODES: usize = 8;
+const MAX_SCANNED_NODES: usize = 8;
 
-const _: () = prove!(FEW_NODES == 8);
+const _: () = prove!(MAX_SCANNED_NODES == 8);
 
-/// As `look_up`, node by node. Each node is compared, and counted.
-fn look_among<I: OverlayInt>(
+/// As `find_meeting`, node by node. Each node is compared, and counted.
+fn find_in_few_nodes<I: OverlayInt>(
     nodes: &mut [Node<I>],
     query: &Query<I>,
     indexes: &mut Vec<usize>,
@@ -83,7 +83,7 @@ fn look_among<I: OverlayInt>(
     *looked = looked.saturating_add(nodes.len() as u128);
     let mut has_dropped = false;
     for place in 0..nodes.len() {
-        has_dropped |= look_at_any(&mut nodes[place], query, indexes)?;
+        has_dropped |= visit_any_node(&mut nodes[place], query, indexes)?;
     }
     if has_dropped {
         sum_up(nodes);
@@ -94,7 +94,7 @@ fn look_among<I: OverlayInt>(
 /// Compares the entry of a node, where it is live and the look-up meets its heights: drops it where it ends left of the
 /// sweep, and else appends its index. Returns whether it is dropped.
 #[inline(always)]
-fn look_at_any<I: OverlayInt>(
+fn visit_any_node<I: OverlayInt>(
     node: &mut Node<I>,
     query: &Query<I>,
     indexes: &mut Vec<usize>,
@@ -116,9 +116,9 @@ fn look_at_any<I: OverlayInt>(
     drop_or_find(node, query, indexes)
 }
 
-/// As `look_up`, without the test that some live entry reaches the look-up.
-#[cycle(look_up)]
-fn look_into<I: OverlayInt>(
+/// As `find_meeting`, without the test that some live entry reaches the look-up.
+#[cycle(find_meeting)]
+fn find_in_subtree<I: OverlayInt>(
     nodes: &mut [Node<I>],
     query: &Query<I>,
     indexes: &mut Vec<usize>,
@@ -138,10 +138,10 @@ fn look_into<I: OverlayInt>(
     let Some((root, right)) = rest.split_first_mut() else {
         return Ok(false);
     };
-    let mut has_dropped = look_up(left, query, indexes, looked)?;
+    let mut has_dropped = find_meeting(left, query, indexes, looked)?;
     if !is_above(root.low, query.heights.max) {
-        has_dropped |= look_at(root, query, indexes, looked)?;
-        has_dropped |= look_up(right, query, indexes, looked)?;
+        has_dropped |= visit_node(root, query, indexes, looked)?;
+        has_dropped |= find_meeting(right, query, indexes, looked)?;
     }
     if has_dropped {
         update_greatest(left, root, right);
@@ -169,7 +169,7 @@ fn is_above<I: OverlayInt>(low: I, high: I) -> bool
 /// Compares the entry of a node that does not begin above the look-up, where it is live and reaches it: drops it where
 /// it ends left of the sweep, and else appends its index. Returns whether it is dropped.
 #[inline(always)]
-fn look_at<I: OverlayInt>(
+fn visit_node<I: OverlayInt>(
     node: &mut Node<I>,
     query: &Query<I>,
     indexes: &mut Vec<usize>,

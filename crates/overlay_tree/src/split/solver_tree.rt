@@ -17,8 +17,8 @@ ghost use Rattle.overlay_tree.specs.steps.Swept.{alone, few, entry_at, entry_of_
 ghost use Rattle.std.specs.List.{IsDistinct, range_with_len};
 ghost use Rattle.overlay_base.specs.ArrangedOf.{AreInRange};
 
-use crate::split::few_entries::look_through;
-use crate::split::interval_tree::{Node, Query, insert, look_up, stays, sum_up};
+use crate::split::interval_tree::{Node, Query, find_meeting, insert, stays, sum_up};
+use crate::split::listed_entries::find_in_list;
 use overlay_base::segm::fault::Fault;
 use overlay_base::segm::segment::Segment;
 use overlay_base::segm::winding::WindingCount;
@@ -142,11 +142,11 @@ fn may_take(limit: Option<u128>, looked: u128, more: usize) -> bool
     }
 }
 
-/// Below this many live segments no tree is kept, and each later segment is compared with all of
-/// them. A scan of so few costs less than a tree. The bound on comparisons rests on it.
-const FEW: usize = 48;
+/// The number of live segments from which on a tree is kept. Each segment is compared with all of fewer, which costs
+/// less than a tree. The bound on comparisons rests on it.
+const MAX_LISTED: usize = 48;
 
-const _: () = prove!(FEW == 48);
+const _: () = prove!(MAX_LISTED == 48);
 
 /// Takes the segment at an index into the sweep: finds those before it that are live and whose heights it meets, and
 /// adds it. The tree has the entries of segments up to `until`; returns up to which it has them then.
@@ -171,8 +171,8 @@ pub(crate) fn take_in<C: WindingCount, I: OverlayInt, D: Copy>(
         take_into_tree(segments, index, until, nodes, found, looked)?;
         return Ok(until);
     }
-    if nodes.len() < FEW {
-        take_among_few(segments, index, until, nodes, found, looked)?;
+    if nodes.len() < MAX_LISTED {
+        take_into_list(segments, index, until, nodes, found, looked)?;
         return Ok(index + 1);
     }
     let further = renew(segments, index, nodes)?;
@@ -209,13 +209,13 @@ fn take_into_tree<C: WindingCount, I: OverlayInt, D: Copy>(
     };
     let tree = nodes.as_mut_slice();
     found.clear();
-    look_up(tree, &query, found, looked)?;
+    find_meeting(tree, &query, found, looked)?;
     insert(tree, heights.min, heights.max, index);
     Ok(())
 }
 
 /// The same where no entry is to come: those that have ended are taken out, the others are compared one by one.
-fn take_among_few<C: WindingCount, I: OverlayInt, D: Copy>(
+fn take_into_list<C: WindingCount, I: OverlayInt, D: Copy>(
     segments: &[Segment<C, I, D>],
     index: usize,
     until: usize,
@@ -242,7 +242,7 @@ fn take_among_few<C: WindingCount, I: OverlayInt, D: Copy>(
     let query = Query { heights, x };
     drop_ended(nodes, x);
     found.clear();
-    look_through(nodes.as_slice(), &query, found, looked)?;
+    find_in_list(nodes.as_slice(), &query, found, looked)?;
     nodes.push(node_at(index, segments[index].x_segment(), true))?;
     Ok(())
 }

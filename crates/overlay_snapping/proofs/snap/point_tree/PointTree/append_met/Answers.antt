@@ -6,8 +6,8 @@ use Rattle.overlay_snapping.specs.steps.PointTrees.{met_places_from}
 use Rattle.overlay_snapping.proofs.laws.point_trees.MetPlaces.{met-from_first}
 use Rattle.overlay_snapping.proofs.snap.point_tree.PointTree.append_met.Goals as goal
 
-pub returns-then-abs_diff-lt-FEW_COLUMNS : goal.returns-then-abs_diff-lt-FEW_COLUMNS
-returns-then-abs_diff-lt-FEW_COLUMNS g c =
+pub returns-then-abs_diff-lt-MAX_SCANNED_COLUMNS : goal.returns-then-abs_diff-lt-MAX_SCANNED_COLUMNS
+returns-then-abs_diff-lt-MAX_SCANNED_COLUMNS g c =
     let whole = g.I.OverlayInt.whole in
     let s = pair_of whole c.args.segment.now in
     let found = c.args.places.now.items in
