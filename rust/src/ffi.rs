@@ -1,5 +1,5 @@
 //! The exports of the proved archive, as `crates/overlay_c/src/lib.rt` declares them, and safe calls of them. All
-//! unsafe code of this package is here. Nothing compares these declarations with those of the archive.
+//! unsafe code of this package is here. `tools/c_header.py --check` compares these declarations with those of the exports.
 //!
 //! A slice crosses as a pointer and a length; a `Global` takes no bytes, and does not cross. Beside each call, `SAFETY`
 //! names the conditions (`requires`) of the export and says why they hold.
