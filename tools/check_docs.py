@@ -58,10 +58,11 @@ LENGTHS = {
 }
 ALL_WORDS, LINES_OF_README = 22_000, 120
 # where a path of a document may begin, and how it may end
-PLACES = ("", "crates/*/", "crates/*/src/", "crates/*/specs/", "crates/*/proofs/", "crates/*/proofs/laws/*/", "rust/", "rust/src/", "rust/tests/", "bench/")
+OF_A_CRATE = ("", "src/", "specs/", "proofs/", "proofs/laws/*/")
+PLACES = ("", "rust/", "rust/src/", "rust/tests/", "bench/", *(f"crates/*/{it}" for it in OF_A_CRATE))
 ENDINGS = ("", ".rt", ".antt", ".rs", ".md", ".txt")
 A_PATH = r"[\w.-]+(/[\w.-]+)+|[\w-]+\.(py|rs|md|txt|sh|patch|edit)"
-# paths of documents that no file has: what commands make, and those of THEOREMS, which are compared apart
+# paths of documents that no file has: what commands make, and `.ci/run`, without its first point
 NOT_PATHS = r"crates/\w+/out|.*\bci/run"
 # a number of a document, and where it comes from
 SAME_NUMBERS = (

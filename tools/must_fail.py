@@ -6,9 +6,9 @@
 `rt ci` and `rt must-fail` check a crate once for each edit. The prover reports the open goals of every function, so here the edits
 of a crate are tried together, no two of one function in a round. An edit whose goal is not seen there is tried again by itself, and
 so is an edit of a constant. The other functions of the crate are taken by their contracts: each has a hole in place of its proof,
-which `rt ci` checks, but not where an edit is tried over all proofs. The libraries below a crate are those that `rt ci` or `rt check` left. With `--edits` the edits are
-FOLDER/CRATE/*.edit. With `--proved` the edits of a crate wait until the folder has a file of the name of each library below it: so the
-gate tries edits while it proves.
+which `rt ci` checks, but not where an edit is tried over all proofs. The libraries below a crate are those that `rt ci` or
+`rt check` left. With `--edits` the edits are FOLDER/CRATE/*.edit. With `--proved` the edits of a crate wait until the folder
+has a file of the name of each library below it: so the gate tries edits while it proves.
 
 Prints the first open goal for each edit, and last `N of M edits refused`. An edit is refused by a goal of a function that it changes
 and that one of its lines `# refused by FUNCTION: CLAUSE, ..` names. A proof that names what the edit took away does not count: the
@@ -366,7 +366,8 @@ def try_all(trials, marks, start):
         again = [edit for edit in edits if not edit.goal and (edit.may_try_again or not edit.is_over_proofs)]
         for edit in again:
             edit.is_over_proofs |= not edit.may_try_again
-            print(f"        {trial.crate.name}/{edit.name} is tried again {'over all proofs' if edit.is_over_proofs else 'without vain proofs'}", flush=True)
+            how = "over all proofs" if edit.is_over_proofs else "without vain proofs"
+            print(f"        {trial.crate.name}/{edit.name} is tried again {how}", flush=True)
         return [(trial, [edit]) for edit in again]
 
     running = set()
