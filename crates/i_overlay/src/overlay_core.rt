@@ -24,7 +24,9 @@ pub mod integer {
 /// The overlay of polygons, which of the two shapes a contour or a segment bounds, where a point lies, areas and boxes.
 pub mod overlay {
     pub use overlay_base::segm::shape_type::ShapeType;
+    pub use overlay_contours::arrangement::Arrangement;
     pub use overlay_contours::contour::{IntContour, IntShape};
+    pub use overlay_contours::corners::{corners_of_contours, corners_of_shapes};
     pub use overlay_contours::fault::ContourFault;
     pub use overlay_contours::location::{PointLocation, locate_point};
     pub use overlay_contours::measure::{bounding_box, doubled_area, doubled_area_of_shape};

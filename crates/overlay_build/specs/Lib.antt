@@ -1,5 +1,6 @@
 pub mod Laws
 pub mod Graph
+pub mod FillsOf
 pub mod Values
 pub mod Regions
 pub mod Boundary

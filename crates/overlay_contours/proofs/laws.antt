@@ -29,4 +29,6 @@ pub mod Areas
 pub mod AreaSums
 pub mod Boxes
 pub mod Locations
+pub mod CornerShapes
+pub mod Arrangements
 pub mod SeveralRules

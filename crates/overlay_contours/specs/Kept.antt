@@ -2,6 +2,7 @@
 use Rattle.std.specs.Prelude.{List, ℕ, IsTrue, ◌≡◌, ◌≤◌, [], ◌∷◌, ◌++◌, Vec}
 use Rattle.overlay_geometry.specs.Points.{Point}
 use Rattle.overlay_contours.specs.ContoursOf.{contours_of, contours_of_each, points_of}
+use Rattle.overlay_contours.specs.declared.arrangement.Arrangement.{Arrangement}
 use Rattle.overlay_contours.specs.declared.overlay.Overlay.{Overlay}
 use Rattle.std.specs.Global.{Global}
 use Rattle.overlay_geometry.specs.declared.geom.point.IntPoint.{IntPoint}
@@ -11,6 +12,7 @@ use Rattle.overlay_base.specs.declared.overlay_core.solver.Solver.{Solver}
 use Rattle.overlay_base.specs.declared.segm.fault.Fault.{Fault}
 use Rattle.overlay_base.specs.declared.segm.shape_type.ShapeType.{ShapeType}
 use Rattle.overlay_split.specs.ExactInput.{is_exact_input}
+use Rattle.overlay_contours.specs.ArrangementsOf.{IsArrangementOf}
 use Rattle.overlay_contours.specs.Beyond.{IsOverlayBeyond, IsCornerOverlayBeyond, IsShapeOverlayBeyond, AreOfSplitting}
 use Rattle.overlay_contours.specs.ContourSegments.{overlay_segments}
 use Rattle.overlay_contours.specs.Polygons.{IsPolygonOverlay, ArePolygonOverlays}
@@ -80,6 +82,10 @@ IsShapeOverlayOfKept {w = w} solver rule fill_rule overlay shapes =
 abbrev pub AreOverlaysOfKept : {I : Type 0} {w : _} {o : _} {e : _} {p : _} → Solver → List OverlayRule → FillRule → Overlay I w o e p → Vec (Vec (Vec (IntPoint I) Global) Global) Global → Type 0
 AreOverlaysOfKept {w = w} solver rules fill_rule overlay all =
     ArePolygonOverlays (splitting_of solver overlay) fill_rule (subject_of overlay) (clip_of overlay) rules (contours_of_each w.whole all.items)
+
+-- The arrangement is that of those that are kept, under a fill rule.
+abbrev pub IsArrangementOfKept : {I : Type 0} {w : _} {o : _} {e : _} {p : _} → Solver → FillRule → Overlay I w o e p → Arrangement I w o e p → Type 0
+IsArrangementOfKept solver fill_rule overlay arrangement = IsArrangementOf (splitting_of solver overlay) fill_rule (subject_of overlay) (clip_of overlay) arrangement
 
 -- ---- by the distance that is reported
 

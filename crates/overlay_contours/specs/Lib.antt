@@ -11,9 +11,12 @@ pub mod CornerOverlays
 pub mod Shapes
 pub mod ShapesOf
 pub mod Beyond
+pub mod CornerShapes
 pub mod Refusals
 pub mod ContoursIn
+pub mod Arrangements
 -- what only contracts of private functions use
 pub mod steps
+pub mod ArrangementsOf
 pub mod Kept
 pub mod Laws

@@ -1,15 +1,16 @@
 // Contours without the points at which they go straight on: collinear points in the middle of an edge.
 // Upstream drops such points by an option, as contours are extracted.
-ghost use Rattle.std.specs.Prelude.{◌≡◌, ◌&&◌, ◌++◌, ◌∷◌, [], All, IfOk, IfErr, OnOk, if◌then◌else◌};
+ghost use Rattle.std.specs.Prelude.{◌≡◌, ◌&&◌, ◌++◌, ◌∷◌, [], All, IfOk, IfErr, OnOk, map, if◌then◌else◌};
 ghost use Rattle.overlay_geometry.specs.Points.{point_lt};
 ghost use Rattle.overlay_geometry.specs.PointOf.{point_of};
 ghost use Rattle.overlay_geometry.specs.InRange.{IsPointInRange};
 ghost use Rattle.overlay_base.specs.declared.segm.fault.Fault.TheVariants.{Memory};
 ghost use Rattle.overlay_contours.specs.ContoursOf.{points_of, contours_of};
 ghost use Rattle.overlay_contours.specs.Corners.{is_straight, last_of, corners};
+ghost use Rattle.overlay_contours.specs.ShapesOf.{shapes_of, ShapesLieInRange};
 ghost use Rattle.overlay_contours.specs.ContoursIn.{LieInRange, corners_in, WindAlike, PaintAlike, StayProper};
 
-use crate::contour::IntContour;
+use crate::contour::{IntContour, IntShape};
 use overlay_base::segm::fault::Fault;
 use overlay_geometry::geom::point::IntPoint;
 use overlay_geometry::geom::triangle::Triangle;
@@ -42,6 +43,28 @@ pub fn corners_of_contours<I: OverlayInt>(
     let mut answer = Vec::new(alloc);
     for contour in contours {
         let corners = corners_of_contour(alloc, contour)?;
+        answer.push(corners)?;
+    }
+    Ok(answer)
+}
+
+/// The corners of the contours of shapes, as `corners_of_contours` returns those of contours. All points have to be in
+/// range.
+///
+/// Returns `Fault::Memory` where a growth is refused.
+pub fn corners_of_shapes<I: OverlayInt>(
+    alloc: Global,
+    shapes: &[IntShape<I>],
+) -> Result<Vec<IntShape<I>>, Fault>
+    requires { ShapesLieInRange I.whole I.MIN_COORD I.MAX_COORD shapes.now }
+    ensures corners { IfOk result (λ answer. shapes_of I.whole answer.items
+        ≡ map (map corners) (shapes_of I.whole shapes.now)) }
+    ensures in_range { IfOk result (λ answer. ShapesLieInRange I.whole I.MIN_COORD I.MAX_COORD answer.items) }
+    ensures fault { IfErr result (λ fault. fault ≡ Memory) }
+{
+    let mut answer = Vec::new(alloc);
+    for shape in shapes {
+        let corners = corners_of_contours(alloc, shape)?;
         answer.push(corners)?;
     }
     Ok(answer)

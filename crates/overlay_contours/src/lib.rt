@@ -1,6 +1,8 @@
 // Polygons in, polygons out: contours are made to segments, and the graph of an overlay to contours.
 #![tactic(auto)]
 
+pub(crate) mod arranged;
+pub mod arrangement;
 pub(crate) mod buffers;
 pub mod contour;
 pub mod corners;

@@ -1,5 +1,5 @@
 // The overlay of polygons in one call: contours in, contours out. Upstream: `core::overlay`.
-ghost use Rattle.std.specs.Prelude.{◌≡◌, ◌≢◌, [], ◌∷◌, ◌++◌, IsTrue, OnOk, OnErr, IfOk, IfErr};
+ghost use Rattle.std.specs.Prelude.{◌≡◌, [], ◌∷◌, ◌++◌, IsTrue, OnOk, OnErr, IfOk, IfErr};
 ghost use Rattle.overlay_base.specs.declared.segm.fault.Fault.TheVariants.{Memory};
 ghost use Rattle.overlay_geometry.specs.InRange.{IsPointInRange};
 ghost use Rattle.overlay_geometry.specs.PointOf.{point_of};
@@ -11,6 +11,8 @@ ghost use Rattle.overlay_contours.specs.Refusals.{other_shape, IsShapeOutside, I
 ghost use Rattle.overlay_contours.specs.ContoursIn.{LieInRange, LiesInRange, IsOverlayOf, IsRefusalOf};
 ghost use Rattle.overlay_contours.specs.ShapesOf.{ShapesLieInRange, IsShapeOverlayOf};
 
+use crate::arranged::Arranged;
+use crate::arrangement::Arrangement;
 use crate::buffers::Buffers;
 use crate::contour::{IntContour, IntShape, find_out_of_range, find_point_out_of_range};
 use crate::corners::corners_of_contours;
@@ -25,6 +27,7 @@ use overlay_base::segm::shape_type::ShapeType;
 use overlay_geometry::geom::point::IntPoint;
 use overlay_geometry::num::OverlayInt;
 use std::alloc::Global;
+use std::mem;
 
 /// The overlay of a subject's contours and a clip's, as contours that have the region of the overlay on their left: an
 /// outer boundary runs counterclockwise, and a hole clockwise.
@@ -156,7 +159,7 @@ pub struct Overlay<I: OverlayInt> {
 }
 
 impl<I: OverlayInt> Overlay<I> {
-    ghost use Rattle.overlay_contours.specs.Kept.{subject_of, clip_of, contours_kept, rounding_of, passes_of, reach_of, AddsContour, KeepsContours, IsRefusalToAdd, IsOverlayOfKept, IsCornersOfKept, IsShapeOverlayOfKept, AreOverlaysOfKept, IsBeyondKept, AreCornersBeyondKept, AreShapesBeyondKept, ReachIsBounded, ExactReachIsNone, ReportsSplitting, KeepsRounding, KeepsReport, IsReasonOf};
+    ghost use Rattle.overlay_contours.specs.Kept.{subject_of, clip_of, contours_kept, rounding_of, passes_of, reach_of, AddsContour, KeepsContours, IsRefusalToAdd, IsOverlayOfKept, IsCornersOfKept, IsShapeOverlayOfKept, AreOverlaysOfKept, IsArrangementOfKept, IsBeyondKept, AreCornersBeyondKept, AreShapesBeyondKept, ReachIsBounded, ExactReachIsNone, ReportsSplitting, KeepsRounding, KeepsReport, IsReasonOf};
 
     /// An overlay of no contours by snap rounding, which takes no memory yet.
     pub fn new(alloc: Global) -> Overlay<I>
@@ -227,7 +230,6 @@ impl<I: OverlayInt> Overlay<I> {
         ensures clip { clip_of self.new ≡ clip_of self.old }
         ensures rounding { KeepsRounding self.old self.new }
     {
-        self.buffers.forget();
         let answer = self.buffers.overlay(
             &self.subject,
             &self.clip,
@@ -236,16 +238,16 @@ impl<I: OverlayInt> Overlay<I> {
             fill_rule,
             overlay_rule,
         )?;
-        self.passes = self.buffers.passes;
-        self.reach = self.buffers.reach;
+        self.passes = self.buffers.arranged.passes;
+        self.reach = self.buffers.arranged.reach;
         Ok(answer)
     }
 
     /// The overlays of the contours that were added by several rules, each as `overlay` returns it, in the order of the
-    /// rules. The contours are split once, and swept once for each rule.
+    /// rules. The contours are split and swept once.
     ///
-    /// Afterwards `reach` and `passes` are those of that split. After an error, and where there are no rules, both are as
-    /// they were. The contours that were added stay, also after an error.
+    /// Afterwards `reach` and `passes` are those of that split. After an error both are as they were. The contours that
+    /// were added stay, also after an error.
     ///
     /// Returns `Fault::CountOutOfRange` only where counts leave `-i32::MAX..=i32::MAX`, and `Fault::Memory` where a
     /// growth is refused.
@@ -256,14 +258,13 @@ impl<I: OverlayInt> Overlay<I> {
         overlay_rules: &[OverlayRule],
     ) -> Result<Vec<Vec<IntContour<I>>>, Fault>
         ensures polygons { IfOk result (AreOverlaysOfKept solver.now overlay_rules.now fill_rule self.old) }
-        ensures splitting { OnOk result (overlay_rules.now ≢ [] → ReportsSplitting solver.now self.old self.new) }
+        ensures splitting { OnOk result (ReportsSplitting solver.now self.old self.new) }
         ensures refused { IfErr result (IsReasonOf solver.now self.old) }
         ensures report { OnErr result (KeepsReport self.old self.new) }
         ensures subject { subject_of self.new ≡ subject_of self.old }
         ensures clip { clip_of self.new ≡ clip_of self.old }
         ensures rounding { KeepsRounding self.old self.new }
     {
-        self.buffers.forget();
         let overlays = self.buffers.overlay_by_rules(
             &self.subject,
             &self.clip,
@@ -272,11 +273,32 @@ impl<I: OverlayInt> Overlay<I> {
             fill_rule,
             overlay_rules,
         )?;
-        if !overlay_rules.is_empty() {
-            self.passes = self.buffers.passes;
-            self.reach = self.buffers.reach;
-        }
+        self.passes = self.buffers.arranged.passes;
+        self.reach = self.buffers.arranged.reach;
         Ok(overlays)
+    }
+
+    /// The arrangement of the contours that were added, split and swept under a fill rule. It returns overlays by any
+    /// rules without another split, and stays as it is when contours are added or dropped here.
+    ///
+    /// `Arrangement::reach` and `Arrangement::passes` are those of that split; what `reach` and `passes` return stays.
+    ///
+    /// Returns `Fault::CountOutOfRange` only where counts leave `-i32::MAX..=i32::MAX`, and `Fault::Memory` where a
+    /// growth is refused.
+    pub fn arrange(&mut self, solver: &Solver, fill_rule: FillRule) -> Result<Arrangement<I>, Fault>
+        ensures arrangement { IfOk result (IsArrangementOfKept solver.now fill_rule self.old) }
+        ensures refused { IfErr result (IsReasonOf solver.now self.old) }
+        ensures report { KeepsReport self.old self.new }
+        ensures subject { subject_of self.new ≡ subject_of self.old }
+        ensures clip { clip_of self.new ≡ clip_of self.old }
+        ensures rounding { KeepsRounding self.old self.new }
+    {
+        let (subject, clip) = (&self.subject, &self.clip);
+        self.buffers
+            .arrange(subject, clip, self.rounding, solver, fill_rule)?;
+        let mut arranged = Arranged::new(self.buffers.alloc);
+        mem::swap(&mut self.buffers.arranged, &mut arranged);
+        Ok(Arrangement::new(arranged))
     }
 
     /// The overlay of the contours that were added, as `overlay` returns it, without the points at which a contour goes
@@ -306,7 +328,6 @@ impl<I: OverlayInt> Overlay<I> {
         ensures clip { clip_of self.new ≡ clip_of self.old }
         ensures rounding { KeepsRounding self.old self.new }
     {
-        self.buffers.forget();
         let alloc = self.buffers.alloc;
         let (subject, clip) = (&self.subject, &self.clip);
         let contours = self.buffers.overlay(
@@ -318,8 +339,8 @@ impl<I: OverlayInt> Overlay<I> {
             overlay_rule,
         )?;
         let corners = corners_of_contours(alloc, &contours)?;
-        self.passes = self.buffers.passes;
-        self.reach = self.buffers.reach;
+        self.passes = self.buffers.arranged.passes;
+        self.reach = self.buffers.arranged.reach;
         Ok(corners)
     }
 
@@ -348,7 +369,6 @@ impl<I: OverlayInt> Overlay<I> {
         ensures clip { clip_of self.new ≡ clip_of self.old }
         ensures rounding { KeepsRounding self.old self.new }
     {
-        self.buffers.forget();
         let in_shapes = self.buffers.overlay_shapes(
             &self.subject,
             &self.clip,
@@ -357,8 +377,8 @@ impl<I: OverlayInt> Overlay<I> {
             fill_rule,
             overlay_rule,
         )?;
-        self.passes = self.buffers.passes;
-        self.reach = self.buffers.reach;
+        self.passes = self.buffers.arranged.passes;
+        self.reach = self.buffers.arranged.reach;
         Ok(in_shapes)
     }
 

@@ -1,6 +1,6 @@
 // Builds graphs of overlays and of lines, one after another. Upstream: `build::builder`, and the builds of
 // `build::boolean` and `build::string`.
-ghost use Rattle.std.specs.Prelude.{◌≡◌, [], true, map, IsTrue, IsFalse, OnOk, OnErr, IfOk};
+ghost use Rattle.std.specs.Prelude.{◌≡◌, [], true, map, IsTrue, IsFalse, OnOk, OnErr, IfOk, IfErr};
 ghost use Rattle.std.specs.List.{list_all};
 ghost use Rattle.std.specs.Borrow.{sem};
 ghost use Rattle.overlay_geometry.specs.Points.{is_ordered};
@@ -11,10 +11,14 @@ ghost use Rattle.overlay_base.specs.Balance.{IsBalanced};
 ghost use Rattle.overlay_base.specs.SegmentOf.{segments_of, data_segments_of};
 ghost use Rattle.overlay_sweep.specs.ChainWindings.{tops_leave_range};
 ghost use Rattle.overlay_sweep.specs.LiveOf.{run_asked};
-ghost use Rattle.overlay_build.specs.Graph.{graph_by, data_by};
+ghost use Rattle.overlay_build.specs.Graph.{graph_by, data_by, fills_of};
+ghost use Rattle.overlay_build.specs.FillsOf.{AreFillsBySome};
 ghost use Rattle.overlay_build.specs.GraphOf.{HoldGraph, HoldLists, graph_with, link_of};
 ghost use Rattle.overlay_build.specs.NodeIndexes.{indexes_of, is_canonical_node};
 ghost use Rattle.overlay_build.specs.steps.LinkRules.{keeps_by};
+ghost use Rattle.overlay_build.specs.steps.LinksOf.{HaveKeptData};
+ghost use Rattle.overlay_base.specs.declared.segm.fault.Fault.TheVariants.{Memory};
+ghost use Rattle.overlay_base.specs.declared.overlay_core.fill_rule.FillRule.{FillRule};
 ghost use Rattle.overlay_build.specs.BuilderOf.{built_nodes, built_links, build_asked};
 ghost use Rattle.overlay_base.specs.FaultOf.{OnTooLarge};
 ghost use Rattle.overlay_sweep.specs.SweepOf.{IsCostOf};
@@ -192,11 +196,82 @@ impl<C: FillCount, N: GraphNode, I: OverlayInt, D: Copy> GraphBuilder<C, N, I, D
         let runner = &mut self.sweep_runner;
         find_fills(runner, fill_rule, solver, segments, &mut self.fills)?;
         let fills = self.fills.as_slice();
-        collect_links(segments, fills, rule, &mut self.links)?;
-        let links = &mut self.links;
-        let ends = &mut self.ends;
-        connect_links(links, ends, &mut self.degrees, &mut self.indexes)
+        let (links, ends) = (&mut self.links, &mut self.ends);
+        let (degrees, indexes) = (&mut self.degrees, &mut self.indexes);
+        link_kept(segments, fills, rule, links, ends, degrees, indexes)
     }
+
+    /// Builds the links and the nodes of the kept segments, by fills that are known. Nodes and links are empty after a
+    /// refusal.
+    fn build_with_fills(
+        &mut self,
+        rule: LinkRule,
+        segments: &[Segment<C, I, D>],
+        fills: &[SegmentFill],
+    ) -> Result<(), Fault>
+        requires arranged { IsArranged segments.now }
+        requires fills { AreFillsBySome segments.now fills.now }
+        ensures graph { OnOk result ((fill_rule : FillRule) → fills.now ≡ fills_of fill_rule (segments_of segments.now)
+            → HoldGraph N.indexes N.is_canonical I.whole self.new.nodes.items self.new.links.items
+            (graph_by (keeps_by rule) fill_rule (segments_of segments.now))) }
+        ensures edge_data { OnOk result (HaveKeptData rule segments.now fills.now self.new.links.items) }
+        ensures no_links { OnErr result (self.new.links.items ≡ []) }
+        ensures no_nodes { OnErr result (self.new.nodes.items ≡ []) }
+        ensures same_compared { self.new.compared ≡ self.old.compared }
+        ensures fault { IfErr result (λ fault. fault ≡ Memory) }
+    {
+        if let Err(fault) = self.try_build_with_fills(rule, segments, fills) {
+            let (links, nodes) = (&mut self.links, &mut self.nodes);
+            links.clear();
+            nodes.clear();
+            return Err(fault);
+        }
+        Ok(())
+    }
+
+    /// Builds as `build_with_fills` does, but a refused build may leave anything.
+    fn try_build_with_fills(
+        &mut self,
+        rule: LinkRule,
+        segments: &[Segment<C, I, D>],
+        fills: &[SegmentFill],
+    ) -> Result<(), Fault>
+        requires arranged { IsArranged segments.now }
+        requires fills { AreFillsBySome segments.now fills.now }
+        ensures graph { OnOk result ((fill_rule : FillRule) → fills.now ≡ fills_of fill_rule (segments_of segments.now)
+            → HoldGraph N.indexes N.is_canonical I.whole self.new.nodes.items self.new.links.items
+            (graph_by (keeps_by rule) fill_rule (segments_of segments.now))) }
+        ensures edge_data { OnOk result (HaveKeptData rule segments.now fills.now self.new.links.items) }
+        ensures same_compared { self.new.compared ≡ self.old.compared }
+        ensures fault { IfErr result (λ fault. fault ≡ Memory) }
+    {
+        let (links, ends) = (&mut self.links, &mut self.ends);
+        let (degrees, indexes) = (&mut self.degrees, &mut self.indexes);
+        link_kept(segments, fills, rule, links, ends, degrees, indexes)?;
+        make_nodes(self.alloc, &self.degrees, &self.indexes, &mut self.nodes)
+    }
+}
+
+/// Makes the links of the kept segments, by the fills of all, and lists their nodes, as `connect_links` does.
+fn link_kept<C: WindingCount, I: OverlayInt, D: Copy>(
+    segments: &[Segment<C, I, D>],
+    fills: &[SegmentFill],
+    rule: LinkRule,
+    links: &mut Vec<OverlayLink<I, D>>,
+    ends: &mut Vec<PackedEnd>,
+    degrees: &mut Vec<usize>,
+    indexes: &mut Vec<usize>,
+) -> Result<(), Fault>
+    requires arranged { IsArranged segments.now }
+    requires fills { AreFillsBySome segments.now fills.now }
+    ensures graph { OnOk result ((fill_rule : FillRule) → fills.now ≡ fills_of fill_rule (segments_of segments.now)
+        → HoldLists I.whole links.new.items degrees.new.items indexes.new.items
+        (graph_by (keeps_by rule) fill_rule (segments_of segments.now))) }
+    ensures edge_data { OnOk result (HaveKeptData rule segments.now fills.now links.new.items) }
+    ensures fault { IfErr result (λ fault. fault ≡ Memory) }
+{
+    collect_links(segments, fills, rule, links)?;
+    connect_links(links, ends, degrees, indexes)
 }
 
 impl<I: OverlayInt, D: Copy> GraphBuilder<ShapeCountBoolean, OverlayNode, I, D> {
@@ -309,6 +384,67 @@ impl<I: OverlayInt, D: Copy> GraphBuilder<ShapeCountBoolean, OverlayNode, I, D> 
             (RestsIn I.row D.row I.OverlayInt.own I.Ord.own I.PartialEq I.PartialOrd.own result self.entry) }
     {
         self.build(fill_rule, LinkRule::Overlay(overlay_rule), solver, segments)?;
+        Ok(self.graph())
+    }
+
+    /// Finds the fills of all segments of an arrangement under the rule, in their order, in place of what the list had.
+    /// `build_overlay_with_fills` builds graphs by several overlay rules from them. Nodes and links of the last build
+    /// stay.
+    ///
+    /// The segments have to be arranged, as `is_arranged` tests; their counts need not balance. The
+    /// solver's strategy does not change the result.
+    ///
+    /// Returns `Fault::CountOutOfRange` where a winding above a segment leaves the range, and `Fault::Memory` where a
+    /// growth is refused. The list may hold anything then, and the builder can be used again.
+    pub fn build_boolean_fills(
+        &mut self,
+        fill_rule: FillRule,
+        solver: &Solver,
+        segments: &[Segment<ShapeCountBoolean, I, D>],
+        fills: &mut Vec<SegmentFill>,
+    ) -> Result<(), Fault>
+        requires arranged { IsArranged segments.now }
+        ensures fills { OnOk result (fills.new.items ≡ fills_of fill_rule (segments_of segments.now)) }
+        ensures in_range { OnOk result (IsFalse (tops_leave_range (segments_of segments.now))) }
+        ensures out_of_range { OnTooLarge result (IsTrue (tops_leave_range (segments_of segments.now))) }
+        ensures compared { OnOk result (IsCostOf solver.now segments.now (build_asked self.new)) }
+        ensures same_compared { OnErr result (build_asked self.new ≡ build_asked self.old) }
+        ensures links { built_links self.new ≡ built_links self.old }
+        ensures nodes { built_nodes self.new ≡ built_nodes self.old }
+    {
+        let runner = &mut self.sweep_runner;
+        find_fills(runner, fill_rule, solver, segments, fills)?;
+        self.compared = self.sweep_runner.compared();
+        Ok(())
+    }
+
+    /// The graph that `build_boolean_overlay` returns, by fills that `build_boolean_fills` found for the same segments.
+    /// No sweep is made: `compared` stays that of the last one.
+    ///
+    /// The segments have to be arranged, as `is_arranged` tests, and the fills those of all of them under some fill rule.
+    ///
+    /// Returns `Fault::Memory` where a growth is refused. Nodes and links are empty then, and the builder can be used
+    /// again.
+    pub fn build_overlay_with_fills(
+        &mut self,
+        overlay_rule: OverlayRule,
+        segments: &[Segment<ShapeCountBoolean, I, D>],
+        fills: &[SegmentFill],
+    ) -> Result<OverlayGraph<'_, I, D>, Fault>
+        requires arranged { IsArranged segments.now }
+        requires fills { AreFillsBySome segments.now fills.now }
+        ensures graph { IfOk result (λ graph. (fill_rule : FillRule)
+            → fills.now ≡ fills_of fill_rule (segments_of segments.now)
+            → ShowsGraphBy (keeps_fill (holds overlay_rule)) fill_rule segments.now graph) }
+        ensures edge_data { IfOk result (λ graph. (fill_rule : FillRule)
+            → fills.now ≡ fills_of fill_rule (segments_of segments.now)
+            → HasDataBy (keeps_fill (holds overlay_rule)) fill_rule segments.now graph) }
+        ensures compared { IfOk result (λ graph. graph_asked graph ≡ build_asked self.old) }
+        ensures fault { IfErr result (λ fault. fault ≡ Memory) }
+        ensures* after { sem 𝓛
+            (RestsIn I.row D.row I.OverlayInt.own I.Ord.own I.PartialEq I.PartialOrd.own result self.entry) }
+    {
+        self.build_with_fills(LinkRule::Overlay(overlay_rule), segments, fills)?;
         Ok(self.graph())
     }
 }

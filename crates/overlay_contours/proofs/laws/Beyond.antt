@@ -10,6 +10,7 @@ use Rattle.overlay_contours.specs.Beyond.{IsOverlayBeyond, IsCornerOverlayBeyond
 use Rattle.overlay_contours.specs.Contours.{edges}
 use Rattle.overlay_contours.specs.ContourSegments.{overlay_segments}
 use Rattle.overlay_contours.specs.CornerOverlays.{IsCornerOverlay}
+use Rattle.overlay_contours.specs.CornerShapes.{IsCornerShapeOverlay, IsCornerShapeOverlayBeyond}
 use Rattle.overlay_contours.specs.Polygons.{IsBeyond, IsPolygonOverlay}
 use Rattle.overlay_contours.specs.Shapes.{all_contours, IsShapeOverlay}
 use Rattle.overlay_contours.specs.Splittings.{Splitting, most_halves}
@@ -66,6 +67,17 @@ module _ (splitting : Splitting) (subject clip : List (List Point)) (passes halv
     apart = o.apart;
     named = o.named;
     inside = λ outside p some beyond. o.inside outside p some (far (all_contours shapes) o.overlay p beyond);
+    led = o.led;
+    bounded = o.bounded;
+  }
+
+  pub corner_shapes_beyond : (shapes : List (List (List Point))) → IsCornerShapeOverlay splitting rule fill_rule subject clip shapes → IsCornerShapeOverlayBeyond halves rule fill_rule subject clip shapes
+  corner_shapes_beyond shapes o = record {
+    contours = corners_beyond (all_contours shapes) o.contours;
+    simple = o.simple;
+    apart = o.apart;
+    named = o.named;
+    inside = λ outside p some beyond. o.inside outside p some (far (all_contours o.full) o.overlay.overlay p beyond);
     led = o.led;
     bounded = o.bounded;
   }

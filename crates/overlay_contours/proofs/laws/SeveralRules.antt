@@ -1,5 +1,5 @@
 -- Overlays of the same contours by several rules: one more.
-use Rattle.std.proofs.Common.{◌≡◌, ◌≢◌, refl, sym, ap, ap₂, subst, ◌∙◌, ℕ, ◌+◌, ◌<◌, ◌≤◌, List, [], ◌∷◌, ◌++◌, map, take, get_or, length, arith}
+use Rattle.std.proofs.Common.{◌≡◌, refl, sym, ap, ap₂, subst, ◌∙◌, ℕ, ◌+◌, ◌<◌, List, [], ◌∷◌, ◌++◌, map, take, get_or, length}
 use Rattle.std.proofs.lemmas.List.{take_more, map-append}
 use Rattle.overlay_geometry.specs.Points.{Point}
 use Rattle.overlay_base.specs.declared.overlay_core.fill_rule.FillRule.{FillRule}
@@ -24,8 +24,3 @@ module _ (splitting : Splitting) (fill_rule : FillRule) (subject clip : List (Li
       let answers : map f found ++ f next ∷ [] ≡ map f more = sym (map-append f found (next ∷ [])) ∙ sym (ap (map f) pushed) in
       subst (λ (rs : List OverlayRule). are rs (map f more)) longer
       (subst (λ (l : List (List (List Point))). are (take i rules ++ rule ∷ []) l) answers (one_more (take i rules) (map f found) rule (f next) before one))
-
--- past all of some rules there is one
-pub some_rule : (rules : List OverlayRule) (i : ℕ) → rules ≢ [] → length rules ≤ i → 0 < i
-some_rule [] i some past = absurd (some refl)
-some_rule (r ∷ rules) i some past = omega (arith, past)

@@ -14,16 +14,16 @@ pub returns-clause-reach : goal.returns-clause-reach
 returns-clause-reach g c =
     let after = c.overlay.new.self in
     let answer : List (List Point) = contours_of g.I.OverlayInt.whole c.in_ok-answer.answer.items in
-    reach_bounded (splitting_of c.args.solver.now c.args.self.now) (subject_of c.args.self.now) (clip_of c.args.self.now) after.passes after.reach (returns-clause-splitting g c) c.args.overlay_rule c.args.fill_rule answer (rw (c.deref.ensures.value, c.deref-2.ensures.value) at c.in_ok-answer.ensures.polygons)
+    reach_bounded (splitting_of c.args.solver.now c.args.self.now) (subject_of c.args.self.now) (clip_of c.args.self.now) after.arranged.passes after.arranged.reach (returns-clause-splitting g c) c.args.overlay_rule c.args.fill_rule answer (rw (c.deref.ensures.value, c.deref-2.ensures.value) at c.in_ok-answer.ensures.polygons)
 
 pub returns-clause-exact : goal.returns-clause-exact
 returns-clause-exact g c =
     let after = c.overlay.new.self in
     let answer : List (List Point) = contours_of g.I.OverlayInt.whole c.in_ok-answer.answer.items in
-    exact_reach (splitting_of c.args.solver.now c.args.self.now) (subject_of c.args.self.now) (clip_of c.args.self.now) after.passes after.reach (returns-clause-splitting g c) c.args.overlay_rule c.args.fill_rule answer (rw (c.deref.ensures.value, c.deref-2.ensures.value) at c.in_ok-answer.ensures.polygons)
+    exact_reach (splitting_of c.args.solver.now c.args.self.now) (subject_of c.args.self.now) (clip_of c.args.self.now) after.arranged.passes after.arranged.reach (returns-clause-splitting g c) c.args.overlay_rule c.args.fill_rule answer (rw (c.deref.ensures.value, c.deref-2.ensures.value) at c.in_ok-answer.ensures.polygons)
 
 pub returns-clause-overlay : goal.returns-clause-overlay
 returns-clause-overlay g c =
     let after = c.overlay.new.self in
     let answer : List (List Point) = contours_of g.I.OverlayInt.whole c.in_ok-answer.answer.items in
-    overlay_beyond (splitting_of c.args.solver.now c.args.self.now) (subject_of c.args.self.now) (clip_of c.args.self.now) after.passes after.reach (returns-clause-splitting g c) c.args.overlay_rule c.args.fill_rule answer (rw (c.deref.ensures.value, c.deref-2.ensures.value) at c.in_ok-answer.ensures.polygons)
+    overlay_beyond (splitting_of c.args.solver.now c.args.self.now) (subject_of c.args.self.now) (clip_of c.args.self.now) after.arranged.passes after.arranged.reach (returns-clause-splitting g c) c.args.overlay_rule c.args.fill_rule answer (rw (c.deref.ensures.value, c.deref-2.ensures.value) at c.in_ok-answer.ensures.polygons)

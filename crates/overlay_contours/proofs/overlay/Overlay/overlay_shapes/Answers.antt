@@ -16,18 +16,18 @@ returns-clause-reach g c =
     let after = c.overlay_shapes.new.self in
     let shapes : List (List (List Point)) = shapes_of g.I.OverlayInt.whole c.in_ok-in_shapes.in_shapes.items in
     let shape_overlay = rw (c.deref.ensures.value, c.deref-2.ensures.value) at c.in_ok-in_shapes.ensures.shapes in
-    reach_bounded (splitting_of c.args.solver.now c.args.self.now) (subject_of c.args.self.now) (clip_of c.args.self.now) after.passes after.reach (returns-clause-splitting g c) c.args.overlay_rule c.args.fill_rule (all_contours shapes) shape_overlay.overlay
+    reach_bounded (splitting_of c.args.solver.now c.args.self.now) (subject_of c.args.self.now) (clip_of c.args.self.now) after.arranged.passes after.arranged.reach (returns-clause-splitting g c) c.args.overlay_rule c.args.fill_rule (all_contours shapes) shape_overlay.overlay
 
 pub returns-clause-exact : goal.returns-clause-exact
 returns-clause-exact g c =
     let after = c.overlay_shapes.new.self in
     let shapes : List (List (List Point)) = shapes_of g.I.OverlayInt.whole c.in_ok-in_shapes.in_shapes.items in
     let shape_overlay = rw (c.deref.ensures.value, c.deref-2.ensures.value) at c.in_ok-in_shapes.ensures.shapes in
-    exact_reach (splitting_of c.args.solver.now c.args.self.now) (subject_of c.args.self.now) (clip_of c.args.self.now) after.passes after.reach (returns-clause-splitting g c) c.args.overlay_rule c.args.fill_rule (all_contours shapes) shape_overlay.overlay
+    exact_reach (splitting_of c.args.solver.now c.args.self.now) (subject_of c.args.self.now) (clip_of c.args.self.now) after.arranged.passes after.arranged.reach (returns-clause-splitting g c) c.args.overlay_rule c.args.fill_rule (all_contours shapes) shape_overlay.overlay
 
 pub returns-clause-overlay : goal.returns-clause-overlay
 returns-clause-overlay g c =
     let after = c.overlay_shapes.new.self in
     let shapes : List (List (List Point)) = shapes_of g.I.OverlayInt.whole c.in_ok-in_shapes.in_shapes.items in
     let shape_overlay = rw (c.deref.ensures.value, c.deref-2.ensures.value) at c.in_ok-in_shapes.ensures.shapes in
-    shapes_beyond (splitting_of c.args.solver.now c.args.self.now) (subject_of c.args.self.now) (clip_of c.args.self.now) after.passes after.reach (returns-clause-splitting g c) c.args.overlay_rule c.args.fill_rule shapes shape_overlay
+    shapes_beyond (splitting_of c.args.solver.now c.args.self.now) (subject_of c.args.self.now) (clip_of c.args.self.now) after.arranged.passes after.arranged.reach (returns-clause-splitting g c) c.args.overlay_rule c.args.fill_rule shapes shape_overlay
