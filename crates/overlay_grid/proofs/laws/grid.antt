@@ -20,3 +20,4 @@ pub mod GridLooks
 pub mod FragmentCounts
 pub mod GroupSorts
 pub mod FoundBlocks
+pub mod GridSweeps
