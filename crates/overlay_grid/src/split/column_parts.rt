@@ -1,5 +1,6 @@
 // The fragments of one column, and what goes on into the next. This project's own.
-ghost use Rattle.std.specs.Prelude.{◌≡◌, ◌≢◌, ◌<◌, ◌≤◌, ◌≤ℤ◌, ◌+◌, ◌++◌, ◌-ℤ◌, [], pos, IsTrue, OnOk, IfOk, All, not, false};
+ghost use Rattle.std.specs.Prelude.{◌≡◌, ◌≢◌, ◌<◌, ◌≤◌, ◌≤ℤ◌, ◌+◌, ◌++◌, ◌-ℤ◌, [], pos, IsTrue, OnOk, IfOk, All, IsSortedByKey, not, false};
+ghost use Rattle.overlay_geometry.specs.Points.{pair_cmp};
 ghost use Rattle.overlay_geometry.specs.InRange.{IsPairInRange};
 ghost use Rattle.overlay_geometry.specs.PairOf.{pair_of};
 ghost use Rattle.overlay_geometry.specs.PointOf.{point_of};
@@ -14,6 +15,7 @@ ghost use Rattle.overlay_grid.specs.steps.Sweeps.{AreParted, IsPartAt, goes_on};
 
 use crate::split::fragment::Fragment;
 use crate::split::grid_layout::GridLayout;
+use crate::split::group_sort::SortMemory;
 use crate::split::rise::heights_at;
 use overlay_base::segm::segment::Segment;
 use overlay_base::segm::winding::WindingCount;
@@ -50,6 +52,29 @@ impl<I> ColumnParts<I> {
     }
 }
 
+/// The memory of a walk over the columns, which one walk hands on to the next.
+#[derive(Drop)]
+pub(crate) struct SweepMemory<I> {
+    /// The rests that go on into the column.
+    pub left: Vec<Rest<I>>,
+    pub parts: ColumnParts<I>,
+    /// The heights at which segments end on the left border of the column, in order.
+    pub right_ends: Vec<I>,
+    pub sort_memory: SortMemory<I>,
+}
+
+impl<I> SweepMemory<I> {
+    /// None yet.
+    pub(crate) fn new(alloc: Global) -> Self {
+        SweepMemory {
+            left: Vec::new(alloc),
+            parts: ColumnParts::new(alloc),
+            right_ends: Vec::new(alloc),
+            sort_memory: SortMemory::new(alloc),
+        }
+    }
+}
+
 /// Takes the fragments of a column: of the rests that go on into it, then of the segments that begin in it, which are
 /// those from an index on. Lists the rests that go on into the next column, and returns the index of the first segment
 /// that begins right of this one.
@@ -61,6 +86,7 @@ pub(crate) fn take_column<C: WindingCount, I: OverlayInt, D: Copy>(
     rests: &[Rest<I>],
     parts: &mut ColumnParts<I>,
 ) -> Result<usize, AllocError>
+    requires sorted { IsSortedByKey ends_of pair_cmp segments.now }
     requires in_range { AreInRange segments.now }
     requires inside { All (λ s. IsInside (layout_of layout.now) (ends_of s)) segments.now }
     requires parted { AreParted (layout_of layout.now) (pairs_in segments.now) from column }

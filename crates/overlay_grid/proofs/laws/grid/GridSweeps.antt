@@ -12,7 +12,7 @@ use Rattle.overlay_grid.specs.steps.FragmentFinder.{kept_group}
 use Rattle.overlay_grid.specs.steps.Entering.{KeptRest, corner_in, entering, entering_in}
 use Rattle.overlay_grid.specs.steps.Sweeps.{AreParted, IsPartAt, goes_on}
 use Rattle.overlay_grid.proofs.laws.grid.GridFragments.{RunsRight, RunsRight-not_vertical, fragments_flat, column_count, column_count-end, fragment_in-column}
-use Rattle.overlay_grid.proofs.laws.grid.GridAdding.{fragments_of_vertical, one_kept, runs_forward, vertical_from, range-more}
+use Rattle.overlay_grid.proofs.laws.grid.GridAdding.{added_to, fragments_of_vertical, inner_rect, last_rect, next_left, one_kept, runs_forward}
 
 -- ---- lists that are put together from one list for each segment
 
@@ -57,6 +57,129 @@ not_yet b c m n k h = grind arith
 pub entering_none : (l : Layout) (c j : ℕ) (s : Pair) → c ≤ column_index l s.a.x → entering_in l j s c ≡ []
 unfolding entering_in
 entering_none l c j s h = ap (λ (b : Bool). if b then (let rest : KeptRest = record { index = j; pair = s; corner = corner_in l s c } in rest) ∷ [] else []) (not_yet (not (is_vertical s)) (nat_lt c (column_index l (s.b.x -ℤ pos 1) + 1)) (column_index l s.a.x) c 0 h)
+
+-- the fragments of columns apart from one
+none_in : (l : Layout) (s : Pair) (c a n : ℕ) → c < a → in_column c (map (λ i. fragment_in l s i) (range_with_len a n)) ≡ []
+none_in l s c a zero h = refl
+none_in l s c a (suc n) h = ap (λ (b : Bool). if b then fragment_in l s a ∷ in_column c (map (λ i. fragment_in l s i) (range_with_len (a + 1) n)) else in_column c (map (λ i. fragment_in l s i) (range_with_len (a + 1) n))) (apart (fragment_in l s a).column a c (fragment_in-column l s a) h) ∙ none_in l s c (a + 1) n (omega arith)
+  where
+    apart : (k a c : ℕ) → k ≡ a → c < a → (k == c) ≡ false
+    apart k a c e h = grind arith
+
+-- and the one in it
+only_in : (l : Layout) (s : Pair) (c a n : ℕ) → a ≤ c → c < a + n → in_column c (map (λ i. fragment_in l s i) (range_with_len a n)) ≡ fragment_in l s c ∷ []
+only_in l s c a zero h k = absurd (omega arith)
+only_in l s c a (suc n) h k = by (c - a) refl (λ more. only_in l s c (a + 1) n (omega arith) (omega arith))
+  where
+    rest : List Fragment
+    rest = in_column c (map (λ i. fragment_in l s i) (range_with_len (a + 1) n))
+
+    test : (j a c : ℕ) → j ≡ a → c ≡ a → (j == c) ≡ true
+    test j a c e f = grind arith
+
+    apart : (j a c : ℕ) → j ≡ a → a < c → (j == c) ≡ false
+    apart j a c e f = grind arith
+
+    by : (d : ℕ) → c - a ≡ d → (a < c → rest ≡ fragment_in l s c ∷ []) → (if (fragment_in l s a).column == c then fragment_in l s a ∷ rest else rest) ≡ fragment_in l s c ∷ []
+    by zero e later =
+        let same : c ≡ a = omega arith in
+        ap (λ (b : Bool). if b then fragment_in l s a ∷ rest else rest) (test (fragment_in l s a).column a c (fragment_in-column l s a) same)
+        ∙ ap₂ (λ (i : ℕ) (fs : List Fragment). fragment_in l s i ∷ fs) (sym same) (none_in l s c (a + 1) n (omega arith))
+    by (suc d) e later =
+        let more : a < c = omega arith in
+        ap (λ (b : Bool). if b then fragment_in l s a ∷ rest else rest) (apart (fragment_in l s a).column a c (fragment_in-column l s a) more)
+        ∙ later more
+
+-- a fragment, as it is kept
+abbrev pub as_kept : ℕ → Pair → Rect → List KeptFragment
+as_kept index s rect = (let part : KeptFragment = record { index = index; pair = s; rect = rect } in part) ∷ []
+
+one_here : (index : ℕ) (s : Pair) (rect : Rect) (k c : ℕ) → k ≡ c → added_to k index s rect c ≡ as_kept index s rect
+one_here index s rect k c e = ap (λ (b : Bool). if b then as_kept index s rect else []) (test k c e)
+  where
+    test : (k c : ℕ) → k ≡ c → (k == c) ≡ true
+    test k c e = grind arith
+
+kept_slanted : (l : Layout) (index : ℕ) (s : Pair) (c : ℕ) (rect : Rect) → RunsRight s → l.min_x ≤ℤ s.a.x → column_index l s.a.x ≤ c → c ≤ column_index l (s.b.x -ℤ pos 1) → (fragment_in l s c).rect ≡ rect → kept_in l index s c ≡ as_kept index s rect
+kept_slanted l index s c rect r h from to e =
+    ap (λ (fs : List Fragment). kept index s (in_column c fs)) (fragments_flat l s (RunsRight-not_vertical s r))
+    ∙ ap (kept index s) (only_in l s c (column_index l s.a.x) (column_count l s) from (within (column_index l s.a.x) (column_count l s) (column_index l (s.b.x -ℤ pos 1)) c (column_count-end l s r h) to))
+    ∙ ap (λ (box : Rect). as_kept index s box) e
+  where
+    within : (a n b c : ℕ) → a + n ≡ b + 1 → c ≤ b → c < a + n
+    within a n b c p q = omega arith
+
+kept_upright : (l : Layout) (index : ℕ) (s : Pair) (c : ℕ) → IsTrue (is_vertical s) → column_index l s.a.x ≡ c → kept_in l index s c ≡ as_kept index s (rect_between s.a.x s.a.y s.b.x s.b.y)
+kept_upright l index s c v e =
+    ap (λ (fs : List Fragment). kept index s (in_column c fs)) (fragments_of_vertical l s v)
+    ∙ one_kept index s (record { column = column_index l s.a.x; rect = rect_between s.a.x s.a.y s.b.x s.b.y }) (rect_between s.a.x s.a.y s.b.x s.b.y) (column_index l s.a.x) c refl refl
+    ∙ one_here index s (rect_between s.a.x s.a.y s.b.x s.b.y) (column_index l s.a.x) c e
+
+below : (m n : ℕ) → nat_lt m n ≡ true → m < n
+below m n e = grind arith
+
+not_below : (m n : ℕ) → nat_lt m n ≡ false → n ≤ m
+not_below m n e = grind arith
+
+-- a segment that does not go on is in its last column
+last_column : (v : Bool) (m n : ℕ) → (not v && nat_lt m n) ≡ false → v ≡ false → m ≤ n → m ≡ n
+last_column v m n e f k =
+    let above = not_below m n (subst (λ (b : Bool). (not b && nat_lt m n) ≡ false) f e) in
+    omega arith
+
+-- the part in the last column of a segment
+pub last_part : (l : Layout) (index : ℕ) (s : Pair) (c : ℕ) (corner : Point) → s.a.x ≤ℤ s.b.x → l.min_x ≤ℤ s.a.x → IsPartAt l s c corner → goes_on l s c ≡ false → kept_in l index s c ≡ as_kept index s (rect_between corner.x corner.y s.b.x s.b.y)
+last_part l index s c corner o h p g = by (is_vertical s) refl
+  where
+    by : (b : Bool) → is_vertical s ≡ b → kept_in l index s c ≡ as_kept index s (rect_between corner.x corner.y s.b.x s.b.y)
+    by true v =
+        let at = p.upright v in
+        kept_upright l index s c v at.0 ∙ ap (λ (q : Point). as_kept index s (rect_between q.x q.y s.b.x s.b.y)) (sym at.1)
+    by false v =
+        let r = runs_forward s (ap not v) o in
+        let last = last_column (is_vertical s) c (column_index l (s.b.x -ℤ pos 1)) g v (p.up_to (ap not v)) in
+        let at = p.slanted (ap not v) in
+        kept_slanted l index s c (rect_between corner.x corner.y s.b.x s.b.y) r h p.from (p.up_to (ap not v))
+        (last_rect l s c corner r h last (ap (λ (q : Point). q.x) at) (ap (λ (q : Point). q.y) at))
+
+pub record GoesOn (l : Layout) (s : Pair) (c : ℕ) : Type 0 where
+  pub flat : not (is_vertical s) ≡ true
+  pub runs : RunsRight s
+  pub past : c < column_index l (s.b.x -ℤ pos 1)
+
+pub goes_right : (l : Layout) (s : Pair) (c : ℕ) → s.a.x ≤ℤ s.b.x → goes_on l s c ≡ true → GoesOn l s c
+goes_right l s c o g =
+    let p = and_parts (not (is_vertical s)) (nat_lt c (column_index l (s.b.x -ℤ pos 1))) g in
+    record { flat = p.0; runs = runs_forward s p.0 o; past = below c (column_index l (s.b.x -ℤ pos 1)) p.1 }
+
+-- the part in a column that the segment leaves through the right border
+pub inner_part : (l : Layout) (index : ℕ) (s : Pair) (c : ℕ) (corner : Point) (x far : ℤ) → l.min_x ≤ℤ s.a.x → IsPartAt l s c corner → GoesOn l s c → x ≡ pos_of l (c + 1) → far ≡ toward s (greatest_rise s x) →
+    kept_in l index s c ≡ as_kept index s (rect_between corner.x corner.y x far)
+inner_part l index s c corner x far h p g e f =
+    let at = p.slanted g.flat in
+    kept_slanted l index s c (rect_between corner.x corner.y x far) g.runs h p.from (p.up_to g.flat)
+    (inner_rect l s c corner x far g.runs h p.from g.past (ap (λ (q : Point). q.x) at) (ap (λ (q : Point). q.y) at) e f)
+
+abbrev as_rest : ℕ → Pair → Point → List KeptRest
+as_rest index s corner = (let rest : KeptRest = record { index = index; pair = s; corner = corner } in rest) ∷ []
+
+-- nothing goes on into the next column, or the rest does
+pub ends_here : (l : Layout) (index : ℕ) (s : Pair) (c : ℕ) → goes_on l s c ≡ false → entering_in l index s (c + 1) ≡ []
+unfolding entering_in
+ends_here l index s c g = ap (λ (b : Bool). if b then as_rest index s (corner_in l s (c + 1)) else []) (test (not (is_vertical s)) (nat_lt (column_index l s.a.x) (c + 1)) c (column_index l (s.b.x -ℤ pos 1)) g)
+  where
+    test : (v b : Bool) (m n : ℕ) → (v && nat_lt m n) ≡ false → (v && b && nat_lt (m + 1) (n + 1)) ≡ false
+    test v b m n e = grind arith
+
+pub rest_goes_on : (l : Layout) (index : ℕ) (s : Pair) (c : ℕ) (next : Point) → l.min_x ≤ℤ s.a.x → column_index l s.a.x ≤ c → GoesOn l s c → next.x ≡ pos_of l (c + 1) → next.y ≡ toward s (least_rise s next.x) → entering_in l index s (c + 1) ≡ as_rest index s next
+unfolding entering_in
+rest_goes_on l index s c next h from g x y =
+    ap (λ (b : Bool). if b then as_rest index s (corner_in l s (c + 1)) else []) (test (not (is_vertical s)) (column_index l s.a.x) c (column_index l (s.b.x -ℤ pos 1)) g.flat from g.past)
+    ∙ ap (λ (z : ℤ). as_rest index s (record { x = z; y = toward s (least_rise s z) })) (sym (x ∙ next_left l s c h from))
+    ∙ ap (λ (z : ℤ). as_rest index s (record { x = next.x; y = z })) (sym y)
+  where
+    test : (v : Bool) (k m n : ℕ) → v ≡ true → k ≤ m → m < n → (v && nat_lt k (m + 1) && nat_lt (m + 1) (n + 1)) ≡ true
+    test v k m n e f h = grind arith
 
 -- ---- where the walk over a column is
 
