@@ -89,6 +89,12 @@ IsAdding-start l index s old r h =
       groups = λ other. sym (append-nil (old other)) ∙ ap (λ (list : List KeptFragment). old other ++ list) (none_yet l s index other);
     }
 
+-- where the fragment of a segment in its first column begins
+pub first_corner : (l : Layout) (s : Pair) → RunsRight s → l.min_x ≤ℤ s.a.x → s.a ≡ (let corner : Point = record { x = left_in l s (column_index l s.a.x); y = toward s (least_rise s (left_in l s (column_index l s.a.x))) } in corner)
+first_corner l s r h =
+    let x = max_is_left s.a.x (pos_of l (column_index l s.a.x)) (pos_of-column_index l s.a.x h) in
+    ap₂ (λ (u v : ℤ). let corner : Point = record { x = u; y = v } in corner) x (sym (ap (λ (z : ℤ). toward s (least_rise s z)) (sym x) ∙ ap (toward s) (least_rise-at_a s r) ∙ toward_none s))
+
 fragment_in-rect : (l : Layout) (s : Pair) (k : ℕ) (corner : Point) (x y : ℤ) → corner.x ≡ left_in l s k → corner.y ≡ toward s (least_rise s (left_in l s k)) → x ≡ right_in l s k → y ≡ toward s (greatest_rise s (right_in l s k)) →
     (fragment_in l s k).rect ≡ rect_between corner.x corner.y x y
 unfolding fragment_in
