@@ -21,3 +21,4 @@ pub mod FragmentCounts
 pub mod GroupSorts
 pub mod FoundBlocks
 pub mod GridSweeps
+pub mod SweptColumns
