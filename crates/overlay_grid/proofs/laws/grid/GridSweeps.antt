@@ -439,7 +439,7 @@ first_in l ss n c s rest group rests w d = (subst (AllByRecursion (λ s. c ≤ c
 none_kept : (l : Layout) (c i : ℕ) (ss : List Pair) → AllByRecursion (λ s. c + 1 ≤ column_index l s.a.x) ss → kept_group l i ss c ≡ []
 none_kept l c i ss h = kept_each l i ss c ∙ each-none (λ j s. kept_in l j s c) (λ s. c + 1 ≤ column_index l s.a.x) (λ j s k. kept_before l j s c (omega arith)) i ss h
 
-none_enter : (l : Layout) (c i : ℕ) (ss : List Pair) → AllByRecursion (λ s. c ≤ column_index l s.a.x) ss → entering l i ss c ≡ []
+pub none_enter : (l : Layout) (c i : ℕ) (ss : List Pair) → AllByRecursion (λ s. c ≤ column_index l s.a.x) ss → entering l i ss c ≡ []
 none_enter l c i ss h = entering_each l i ss c ∙ each-none (λ j s. entering_in l j s c) (λ s. c ≤ column_index l s.a.x) (λ j s k. entering_none l c j s k) i ss h
 
 -- the walk that has come to the first that begins right of the column, or to the end

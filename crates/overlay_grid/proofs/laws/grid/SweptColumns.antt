@@ -11,17 +11,18 @@ use Rattle.overlay_geometry.proofs.laws.lists.Lists.{Has, Has-append_left, Has-a
 use Rattle.overlay_intersections.specs.MarkOf.{Mark}
 use Rattle.overlay_intersections.specs.Marks.{Placing}
 use Rattle.overlay_grid.specs.FragmentOf.{KeptFragment}
-use Rattle.overlay_grid.specs.Grid.{Layout, group_count, pos_of, IsInside}
+use Rattle.overlay_grid.specs.Grid.{Layout, column_index, group_count, pos_of, IsInside}
 use Rattle.overlay_grid.specs.ColumnLooks.{twos_in_height, all_twos_in_height}
 use Rattle.overlay_grid.specs.GridLooks.{fragment_looks}
-use Rattle.overlay_grid.specs.steps.Entering.{prior_group}
+use Rattle.overlay_grid.specs.steps.Entering.{entering, prior_group}
 use Rattle.overlay_grid.specs.steps.FragmentFinder.{HoldSame, heights_at, is_ready, kept_group, looks_of_border, marks_of_border, marks_of_ends, marks_of_group, marks_of_heights, stands_at}
-use Rattle.overlay_grid.specs.steps.Sweeps.{looks_of_column, marks_of_column}
+use Rattle.overlay_grid.specs.steps.Sweeps.{AreParted, looks_of_column, marks_of_column}
 use Rattle.overlay_grid.proofs.laws.grid.BorderMarks.{AreBordersSeen, borders-more, border_to_heights, few_on_border, heights_to_border, hold_same}
 use Rattle.overlay_grid.proofs.laws.grid.GridCounts.{sum_by-alike, sum_by-plus}
 use Rattle.overlay_grid.proofs.laws.grid.GridFills.{range-next}
 use Rattle.overlay_grid.proofs.laws.grid.GridFound.{Has-number, marks-permuted}
 use Rattle.overlay_grid.proofs.laws.grid.GridLooks.{within_bound}
+use Rattle.overlay_grid.proofs.laws.grid.GridSweeps.{none_enter}
 
 -- a group was scanned in another order
 pub permuted_more : (placing : Placing) (fs gs : List KeptFragment) (old now : List Mark) → IsPermutation fs gs → now ≡ old ++ marks_of_group placing gs → HoldSame (old ++ marks_of_group placing fs) now
@@ -34,7 +35,26 @@ permuted_more placing fs gs old now p e = subst (HoldSame (old ++ marks_of_group
       | inr b ↦ Has-append_right old (marks_of_group placing gs) m (marks-permuted placing fs gs p m b)
     ]
 
+-- ---- before the first column
+
+all_from_first : (l : Layout) (ss : List Pair) → AllByRecursion (λ s. 0 ≤ column_index l s.a.x) ss
+all_from_first l [] = tt
+all_from_first l (s ∷ ss) = (omega arith, all_from_first l ss)
+
+pub parted_at_first : (l : Layout) (ss : List Pair) → AreParted l ss 0 0
+parted_at_first l ss = record { before = tt; after = all_from_first l ss }
+
+pub none_at_first : (l : Layout) (ss : List Pair) → entering l 0 ss 0 ≡ []
+none_at_first l ss = none_enter l 0 0 ss (all_from_first l ss)
+
+pub no_heights : (x : ℤ) → IsPermutation (heights_at x []) []
+unfolding heights_at
+no_heights x = IsPermutation-refl []
+
 -- ---- one column after another
+
+pub next_ends : (l : Layout) (ss : List Pair) (c : ℕ) (group : List KeptFragment) (ys : List ℤ) → group ≡ kept_group l 0 ss c → IsPermutation (heights_at (pos_of l (c + 1)) group) ys → IsPermutation (heights_at (pos_of l (c + 1)) (prior_group l ss (c + 1))) ys
+next_ends l ss c group ys e h = subst (λ (fs : List KeptFragment). IsPermutation (heights_at (pos_of l (c + 1)) fs) ys) (e ∙ ap (prior_group l ss) (let n : suc c ≡ c + 1 = omega arith in n)) h
 
 -- the right ends of a column and its fragments were looked at
 pub appended : (old middle now heights group : List Mark) → middle ≡ old ++ heights → HoldSame (middle ++ group) now → HoldSame (old ++ (heights ++ group)) now
