@@ -9,7 +9,7 @@ use Rattle.std.proofs.lemmas.List.Elements.{All-weaker}
 use Rattle.overlay_geometry.specs.Points.{Point, Pair, is_vertical, is_ordered, pair_cmp}
 use Rattle.overlay_geometry.specs.Coordinates.{is_pair_in_range}
 use Rattle.overlay_geometry.specs.Ranges.{Rect}
-use Rattle.overlay_grid.specs.Grid.{Layout, Fragment, column_index, pos_of, rect_between, toward, least_rise, greatest_rise, fragment_in, fragments, IsInside}
+use Rattle.overlay_grid.specs.Grid.{Layout, Fragment, column_index, pos_of, rect_between, toward, least_rise, greatest_rise, fragment_in, IsInside}
 use Rattle.overlay_grid.specs.FragmentOf.{KeptFragment, kept, in_column, kept_in}
 use Rattle.overlay_grid.specs.steps.FragmentFinder.{kept_group}
 use Rattle.overlay_grid.specs.steps.Entering.{KeptRest, corner_in, entering, entering_in, rest_of, rests_of}

@@ -1,5 +1,4 @@
-use Rattle.std.proofs.Common.{◌≡◌, ◌<◌, ◌≤◌, ◌+◌, ◌++◌, ◌∙◌, arith, sym, ap, subst, List, ℕ, length, drop}
-use Rattle.std.specs.Prelude.{ℤ, ◌≤ℤ◌}
+use Rattle.std.proofs.Common.{◌≡◌, ◌<◌, ◌+◌, ◌++◌, ◌∙◌, arith, ap, subst, ℕ, length, drop}
 use Rattle.overlay_geometry.specs.PairOf.{pair_of}
 use Rattle.overlay_geometry.specs.Points.{Pair}
 use Rattle.overlay_geometry.proofs.laws.geometry.Coordinates.{ends_in_range}
@@ -8,10 +7,10 @@ use Rattle.overlay_geometry.proofs.laws.integers.Tests.{le_through}
 use Rattle.overlay_base.specs.SegmentOf.{ends_of, pairs_in}
 use Rattle.overlay_base.proofs.laws.geometry.Apart.{pairs-next}
 use Rattle.overlay_grid.specs.Grid.{IsInside, column_index}
-use Rattle.overlay_grid.specs.FragmentOf.{KeptFragment, fragments_of, kept_in, layout_of}
-use Rattle.overlay_grid.specs.steps.Entering.{KeptRest, entering_in, rest_of, rests_of}
+use Rattle.overlay_grid.specs.FragmentOf.{fragments_of, kept_in, layout_of}
+use Rattle.overlay_grid.specs.steps.Entering.{entering_in, rest_of, rests_of}
 use Rattle.overlay_grid.proofs.laws.grid.GridFound.{all_pairs}
-use Rattle.overlay_grid.proofs.laws.grid.GridSweeps.{IsTakenFrom, segments_fit, segments_in_order, rests-next, rests-none, rest_at, part_of_rest, part_at_start, taken_from_start, taken_from_more, taken_start, taken_more, first_in, taken_all, all_right, parted_at_end, none_right, length-pairs_in}
+use Rattle.overlay_grid.proofs.laws.grid.GridSweeps.{segments_fit, segments_in_order, rests-next, rests-none, rest_at, part_of_rest, part_at_start, taken_from_start, taken_from_more, taken_start, taken_more, first_in, taken_all, all_right, parted_at_end, none_right, length-pairs_in}
 use Rattle.overlay_grid.proofs.split.column_parts.take_column.Goals as goal
 
 pub loop-place-init : goal.loop-place-init

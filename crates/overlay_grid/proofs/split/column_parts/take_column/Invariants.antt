@@ -1,10 +1,7 @@
-use Rattle.std.proofs.Common.{◌≡◌, ◌+◌, ◌++◌, drop}
-use Rattle.std.specs.Prelude.{flat_map}
+use Rattle.std.proofs.Common.{drop}
 use Rattle.overlay_base.specs.SegmentOf.{pairs_in}
-use Rattle.overlay_grid.specs.FragmentOf.{fragments_of, kept_in, layout_of}
-use Rattle.overlay_grid.specs.steps.FragmentFinder.{kept_group}
-use Rattle.overlay_grid.specs.steps.Entering.{entering, entering_in, rests_of}
-use Rattle.overlay_grid.specs.steps.Sweeps.{AreParted}
+use Rattle.overlay_grid.specs.FragmentOf.{fragments_of, layout_of}
+use Rattle.overlay_grid.specs.steps.Entering.{rests_of}
 use Rattle.overlay_grid.proofs.laws.grid.GridSweeps.{IsTaken, IsTakenFrom}
 use Rattle.overlay_grid.proofs.split.column_parts.take_column.Given as goal
 

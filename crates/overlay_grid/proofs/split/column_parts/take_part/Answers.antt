@@ -1,13 +1,11 @@
-use Rattle.std.proofs.Common.{◌≡◌, ◌≤◌, ◌+◌, ◌++◌, ◌∙◌, arith, sym, ap, ap₂, subst, append-nil, not, true, false, List, [], ◌∷◌}
-use Rattle.std.specs.Prelude.{ℤ, ◌≤ℤ◌, ◌-ℤ◌, pos}
+use Rattle.std.proofs.Common.{◌+◌, ◌++◌, ◌∙◌, sym, ap, subst, append-nil, List, [], ◌∷◌}
+use Rattle.std.specs.Prelude.{ℤ, ◌≤ℤ◌}
 use Rattle.std.proofs.lemmas.List.{map-append}
 use Rattle.overlay_geometry.specs.PairOf.{pair_of}
 use Rattle.overlay_geometry.specs.PointOf.{point_of}
 use Rattle.overlay_geometry.specs.Points.{Point}
-use Rattle.overlay_grid.specs.Grid.{pos_of, column_index}
 use Rattle.overlay_grid.specs.FragmentOf.{KeptFragment, fragment_of, fragments_of, layout_of}
 use Rattle.overlay_grid.specs.steps.Entering.{KeptRest, rest_of, rests_of}
-use Rattle.overlay_grid.specs.steps.Sweeps.{goes_on}
 use Rattle.overlay_grid.proofs.laws.grid.GridAdding.{border_between, next_within}
 use Rattle.overlay_grid.proofs.laws.grid.GridSizes.{laid_out, column_fits}
 use Rattle.overlay_grid.proofs.laws.grid.GridSweeps.{goes_right, last_part, inner_part, ends_here, rest_goes_on}

@@ -1,10 +1,10 @@
-use Rattle.std.proofs.Common.{◌≡◌, ◌<◌, ◌≤◌, ◌+◌, ◌++◌, ◌∙◌, arith, sym, ap, ap₂, subst, map, length, List, Vec, Global}
+use Rattle.std.proofs.Common.{◌≡◌, ◌+◌, ◌++◌, ◌∙◌, arith, sym, ap, ap₂, subst, map, length, List, Vec, Global}
 use Rattle.std.specs.Prelude.{ℤ, IsPermutation, IsSorted}
 use Rattle.overlay_intersections.specs.MarkOf.{Mark, marks_of}
 use Rattle.overlay_intersections.specs.PlacingOf.{placing_of}
 use Rattle.overlay_grid.specs.ColumnLooks.{twos_in_height}
-use Rattle.overlay_grid.specs.FragmentOf.{KeptFragment, fragments_of, layout_of}
-use Rattle.overlay_grid.specs.Grid.{group_count, pos_of}
+use Rattle.overlay_grid.specs.FragmentOf.{fragments_of, layout_of}
+use Rattle.overlay_grid.specs.Grid.{pos_of}
 use Rattle.overlay_grid.specs.steps.FragmentFinder.{HoldSame, heights_at, is_group_rounded, marks_of_group, marks_of_heights}
 use Rattle.overlay_grid.proofs.laws.grid.GridAdding.{if_ok, on_ok}
 use Rattle.overlay_grid.proofs.laws.grid.SweptColumns.{appended}

@@ -1,5 +1,5 @@
 use Rattle.std.proofs.Common.{◌≡◌, ◌<◌, ◌≤◌, ◌+◌, ◌++◌, ◌||◌, ◌∙◌, arith, sym, ap, subst, refl, Bool, map, length, List, [], ℕ}
-use Rattle.std.specs.Prelude.{ℤ, IsTrue, IsPermutation, IsSorted}
+use Rattle.std.specs.Prelude.{IsTrue, IsPermutation, IsSorted}
 use Rattle.std.specs.List.{AllByRecursion, list_any, range_with_len}
 use Rattle.std.proofs.lemmas.List.Elements.{All-weaker}
 use Rattle.std.proofs.lemmas.List.Sorted.{IsPermutation-refl}
@@ -7,13 +7,13 @@ use Rattle.overlay_geometry.specs.Coordinates.{is_pair_in_range}
 use Rattle.overlay_geometry.proofs.laws.geometry.Coordinates.{pair_in_range}
 use Rattle.overlay_base.specs.SegmentOf.{pairs_in, segments_of, x_segment_of}
 use Rattle.overlay_base.proofs.laws.geometry.Apart.{are_ordered}
-use Rattle.overlay_intersections.specs.MarkOf.{Mark, marks_of}
+use Rattle.overlay_intersections.specs.MarkOf.{marks_of}
 use Rattle.overlay_intersections.specs.PlacingOf.{placing_of}
 use Rattle.overlay_intersections.proofs.laws.marks.FoundMarks.{or_true, or_false}
 use Rattle.overlay_grid.specs.ColumnLooks.{twos_in_height}
-use Rattle.overlay_grid.specs.FragmentOf.{KeptFragment, fragments_of, layout_of}
+use Rattle.overlay_grid.specs.FragmentOf.{KeptFragment, layout_of}
 use Rattle.overlay_grid.specs.Grid.{IsInside, group_count, pos_of}
-use Rattle.overlay_grid.specs.steps.Entering.{entering, rests_of}
+use Rattle.overlay_grid.specs.steps.Entering.{rests_of}
 use Rattle.overlay_grid.specs.steps.FragmentFinder.{HoldSame, heights_at, is_group_rounded, is_ready, kept_group, marks_of_group, marks_of_heights}
 use Rattle.overlay_grid.specs.steps.Sweeps.{looks_of_column, marks_of_column}
 use Rattle.overlay_grid.proofs.laws.grid.BorderMarks.{borders-start, borders-end}

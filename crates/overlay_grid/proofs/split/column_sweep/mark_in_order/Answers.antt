@@ -1,12 +1,11 @@
-use Rattle.std.proofs.Common.{◌≤◌, ◌+◌, ◌++◌, ◌∙◌, arith, sym, ap, subst, List}
-use Rattle.std.specs.Prelude.{IsTrue, IsPermutation}
-use Rattle.std.proofs.lemmas.List.Sorted.{IsPermutation-map, IsPermutation-sym}
-use Rattle.overlay_intersections.specs.MarkOf.{Mark, marks_of}
+use Rattle.std.proofs.Common.{◌++◌, ◌∙◌, arith, sym, ap, List}
+use Rattle.std.specs.Prelude.{IsTrue}
+use Rattle.std.proofs.lemmas.List.Sorted.{IsPermutation-map}
+use Rattle.overlay_intersections.specs.MarkOf.{marks_of}
 use Rattle.overlay_intersections.specs.PlacingOf.{placing_of}
-use Rattle.overlay_grid.specs.ColumnLooks.{do_heights_meet, looks_of_group, twos_in_height}
-use Rattle.overlay_grid.specs.FragmentOf.{KeptFragment, fragment_of, fragments_of, IsSortedAlong}
-use Rattle.overlay_grid.specs.steps.FragmentFinder.{HoldSame, is_group_rounded, is_ready, marks_of_group}
-use Rattle.overlay_grid.proofs.laws.grid.BorderMarks.{hold_same}
+use Rattle.overlay_grid.specs.ColumnLooks.{do_heights_meet, looks_of_group}
+use Rattle.overlay_grid.specs.FragmentOf.{fragment_of, fragments_of}
+use Rattle.overlay_grid.specs.steps.FragmentFinder.{is_group_rounded, is_ready, marks_of_group}
 use Rattle.overlay_grid.proofs.laws.grid.GridAdding.{if_ok, on_ok}
 use Rattle.overlay_grid.proofs.laws.grid.GridFound.{all-permuted, rounded-permuted}
 use Rattle.overlay_grid.proofs.laws.grid.GridLooks.{heights_back, twos_permuted}

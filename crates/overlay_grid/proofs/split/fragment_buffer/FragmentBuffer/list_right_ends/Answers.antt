@@ -1,9 +1,6 @@
-use Rattle.std.proofs.Common.{◌+◌, ◌<◌, ap, ap₂, subst, ◌∙◌, arith, map, List, length}
+use Rattle.std.proofs.Common.{◌<◌, ap, ap₂, subst, ◌∙◌, arith, map, List, length}
 use Rattle.std.specs.Prelude.{IsPermutation, ℤ}
-use Rattle.std.proofs.lemmas.Result.{OnOk_then}
-use Rattle.overlay_grid.specs.Grid.{pos_of}
 use Rattle.overlay_grid.specs.FragmentOf.{KeptFragment, fragments_of}
-use Rattle.overlay_grid.specs.GroupsOf.{grid_of}
 use Rattle.overlay_grid.specs.steps.FragmentFinder.{heights_at}
 use Rattle.overlay_grid.proofs.laws.grid.GridAdding.{on_ok}
 use Rattle.overlay_grid.proofs.laws.grid.GridGroups.{group_in-at}
