@@ -2,3 +2,5 @@
 pub mod FragmentFinder
 pub mod BufferBorders
 pub mod SortKeys
+pub mod Entering
+pub mod Sweeps

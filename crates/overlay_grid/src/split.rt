@@ -3,6 +3,8 @@
 pub mod axis;
 mod blocks;
 mod border_contacts;
+mod column_parts;
+pub mod column_sweep;
 pub mod fragment;
 pub mod fragment_buffer;
 pub mod fragment_memory;

@@ -20,3 +20,5 @@ pub mod GridLooks
 pub mod FragmentCounts
 pub mod GroupSorts
 pub mod FoundBlocks
+pub mod GridSweeps
+pub mod SweptColumns

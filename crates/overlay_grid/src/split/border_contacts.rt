@@ -49,7 +49,7 @@ pub(crate) fn mark_borders<I: OverlayInt>(
 
 /// The same of one border: the heights of the right ends there, in order, and the group to its right. Each comparison
 /// makes a mark.
-fn mark_border<I: OverlayInt>(
+pub(crate) fn mark_border<I: OverlayInt>(
     right_ends: &[I],
     group: &[Fragment<I>],
     border: I,

@@ -1,15 +1,16 @@
 // The fragments of segments, column by column. Upstream: part of `split::grid_layout`.
-ghost use Rattle.std.specs.Prelude.{◌≡◌, ◌++◌, OnOk, IsPermutation, length, map};
+ghost use Rattle.std.specs.Prelude.{◌≡◌, ◌++◌, OnOk, IsPermutation, IsSorted, length, map};
 ghost use Rattle.std.specs.Ordering.{int_eq};
 ghost use Rattle.overlay_grid.specs.Grid.{pos_of, group_count, fragments};
 ghost use Rattle.overlay_grid.specs.FragmentOf.{layout_of, fragments_of, IsSortedAlong};
 ghost use Rattle.overlay_grid.specs.steps.FragmentFinder.{heights_at};
 
 use crate::split::axis::Axis;
+use crate::split::column_parts::SweepMemory;
 use crate::split::fragment::Fragment;
 use crate::split::fragment_memory::{FragmentMemory, clear_groups, empty_groups};
 use crate::split::grid_layout::GridLayout;
-use crate::split::group_sort::{SortMemory, sort_group};
+use crate::split::group_sort::{SCAN_BUDGET_PER_FRAGMENT, SortMemory, sort_group};
 use crate::split::reach::{count_reached, reached_at_most};
 use crate::split::rise::heights_at;
 use overlay_base::segm::fault::Fault;
@@ -18,19 +19,14 @@ use overlay_geometry::geom::x_segment::XSegment;
 use overlay_geometry::num::OverlayInt;
 use std::alloc::{AllocError, Global};
 
-/// Comparisons per fragment up to which a scan upward is kept, and a scan from left to right is not tried. Two sorts and
-/// a count cost about as much as this many comparisons.
-const SCAN_BUDGET_PER_FRAGMENT: u64 = 12;
-
-const _: () = prove!(SCAN_BUDGET_PER_FRAGMENT == 12);
-
 /// The fragments of segments in the columns of a layout: one group for each column. It keeps its memory when cleared.
 #[derive(Drop)]
 pub struct FragmentBuffer<I: OverlayInt> {
-    layout: GridLayout<I>,
+    pub(crate) layout: GridLayout<I>,
     groups: Vec<Vec<Fragment<I>>>,
     right_ends: Vec<I>,
     sort_memory: SortMemory<I>,
+    pub(crate) sweep: SweepMemory<I>,
     /// Whether a sort has found that a scan upward compares few fragments.
     is_upward: bool,
     ghost columns: { length groups.items ≡ group_count (layout_of layout) },
@@ -71,6 +67,7 @@ impl<I: OverlayInt> FragmentBuffer<I> {
             mut groups,
             right_ends,
             sort_memory,
+            sweep,
         } = memory;
         let count = layout.column_count();
         empty_groups(alloc, &mut groups, count)?;
@@ -79,6 +76,7 @@ impl<I: OverlayInt> FragmentBuffer<I> {
             groups,
             right_ends,
             sort_memory,
+            sweep,
             is_upward: false,
         })
     }
@@ -90,12 +88,14 @@ impl<I: OverlayInt> FragmentBuffer<I> {
             groups,
             right_ends,
             sort_memory,
+            sweep,
             is_upward: _,
         } = self;
         FragmentMemory {
             groups,
             right_ends,
             sort_memory,
+            sweep,
         }
     }
 
@@ -131,10 +131,7 @@ impl<I: OverlayInt> FragmentBuffer<I> {
         ensures sorted { OnOk result (IsSorted I.cmp self.new.right_ends.items) }
     {
         let border = self.border(column + 1);
-        self.right_ends.clear();
-        push_right_ends(self.groups[column].as_slice(), border, &mut self.right_ends)?;
-        self.right_ends.sort_unstable();
-        Ok(())
+        list_ends_at(self.groups[column].as_slice(), border, &mut self.right_ends)
     }
 
     /// Empties every group.
@@ -285,6 +282,22 @@ impl<I: OverlayInt> FragmentBuffer<I> {
         self.groups[column].push(fragment)?;
         Ok(())
     }
+}
+
+/// Lists the heights at which the segments of fragments end at an `x`, from the lowest up.
+pub(crate) fn list_ends_at<I: OverlayInt>(
+    group: &[Fragment<I>],
+    x: I,
+    right_ends: &mut Vec<I>,
+) -> Result<(), AllocError>
+    ensures ends { OnOk result (IsPermutation (heights_at (I.whole x) (fragments_of I.whole group.now))
+        (map I.whole right_ends.new.items)) }
+    ensures sorted { OnOk result (IsSorted I.cmp right_ends.new.items) }
+{
+    right_ends.clear();
+    push_right_ends(group, x, right_ends)?;
+    right_ends.sort_unstable();
+    Ok(())
 }
 
 /// Appends the heights of the right ends at an `x`.

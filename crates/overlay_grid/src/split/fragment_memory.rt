@@ -2,6 +2,7 @@
 ghost use Rattle.std.specs.Prelude.{◌≡◌, [], ℕ, OnOk, length};
 ghost use Rattle.overlay_grid.specs.GroupsOf.{group_in};
 
+use crate::split::column_parts::SweepMemory;
 use crate::split::fragment::Fragment;
 use crate::split::group_sort::SortMemory;
 use overlay_geometry::num::OverlayInt;
@@ -13,6 +14,7 @@ pub struct FragmentMemory<I> {
     pub(crate) groups: Vec<Vec<Fragment<I>>>,
     pub(crate) right_ends: Vec<I>,
     pub(crate) sort_memory: SortMemory<I>,
+    pub(crate) sweep: SweepMemory<I>,
 }
 
 impl<I> FragmentMemory<I> {
@@ -22,6 +24,7 @@ impl<I> FragmentMemory<I> {
             groups: Vec::new(alloc),
             right_ends: Vec::new(alloc),
             sort_memory: SortMemory::new(alloc),
+            sweep: SweepMemory::new(alloc),
         }
     }
 }

@@ -1,14 +1,22 @@
 // The sort of a group of fragments by where they begin along an axis. This project's own.
-ghost use Rattle.std.specs.Prelude.{◌≡◌, ◌<◌, ◌≤◌, ◌%◌, ◌^◌, All, IsPermutation, OnOk, length, map, true};
+ghost use Rattle.std.specs.Prelude.{◌≡◌, ◌<◌, ◌≤◌, ◌%◌, ◌^◌, All, IfOk, IsPermutation, OnOk, length, map, true};
 ghost use Rattle.std.specs.List.{range_with_len};
 ghost use Rattle.overlay_grid.specs.FragmentOf.{fragment_of, fragments_of, IsSortedAlong};
+ghost use Rattle.overlay_grid.specs.ColumnLooks.{looks_of_group, twos_in_height};
 ghost use Rattle.overlay_grid.specs.steps.SortKeys.{IsPicked};
 
 use crate::split::axis::Axis;
 use crate::split::fragment::Fragment;
+use crate::split::reach::{count_in_group, reached_in_group_at_most};
 use overlay_geometry::num::OverlayInt;
 use std::alloc::{AllocError, Global};
 use std::mem;
+
+/// Comparisons per fragment up to which a scan upward is kept, and a scan from left to right is not tried. Two sorts and
+/// a count cost about as much as this many comparisons.
+pub(crate) const SCAN_BUDGET_PER_FRAGMENT: u64 = 12;
+
+const _: () = prove!(SCAN_BUDGET_PER_FRAGMENT == 12);
 
 /// How many fragments keys number: a key is this many times where a fragment begins, and its place.
 const PLACES: u64 = 4_294_967_296;
@@ -52,6 +60,34 @@ pub(crate) fn sort_group<I: OverlayInt>(
         }
     }
     sort_by_least(group, axis)
+}
+
+/// Sorts fragments by where they begin along one axis, and returns which: from the lowest up, unless a scan compares
+/// many fragments so and fewer from left to right. So it compares at most the pairs that share a height.
+pub(crate) fn sort_for_scan<I: OverlayInt>(
+    group: &mut Vec<Fragment<I>>,
+    memory: &mut SortMemory<I>,
+) -> Result<Axis, AllocError>
+    ensures permutation { IsPermutation group.old.items group.new.items }
+    ensures sorted { IfOk result (λ axis. IsSortedAlong axis (fragments_of I.whole group.new.items)) }
+    ensures looks { IfOk result (λ axis. looks_of_group axis (fragments_of I.whole group.new.items)
+        ≤ twos_in_height (fragments_of I.whole group.new.items)) }
+{
+    sort_group(group, Axis::Y, memory)?;
+    let few = (group.len() as u64).saturating_mul(SCAN_BUDGET_PER_FRAGMENT);
+    if reached_in_group_at_most(group, Axis::Y) <= few {
+        return Ok(Axis::Y);
+    }
+    let upward = count_in_group(group, Axis::Y);
+    if upward <= few {
+        return Ok(Axis::Y);
+    }
+    sort_group(group, Axis::X, memory)?;
+    if count_in_group(group, Axis::X) < upward {
+        return Ok(Axis::X);
+    }
+    sort_group(group, Axis::Y, memory)?;
+    Ok(Axis::Y)
 }
 
 /// Whether no fragment begins before those that precede it, along an axis.

@@ -23,7 +23,7 @@ pub(crate) fn count_reached<I: OverlayInt>(groups: &[Vec<Fragment<I>>], axis: Ax
 }
 
 /// The same of one group.
-fn count_in_group<I: OverlayInt>(group: &[Fragment<I>], axis: Axis) -> u64
+pub(crate) fn count_in_group<I: OverlayInt>(group: &[Fragment<I>], axis: Axis) -> u64
     requires sorted { IsSortedAlong axis (fragments_of I.whole group.now) }
     ensures { result ≡ min (looks_of_group axis (fragments_of I.whole group.now)) (2 ^ 64 - 1) }
 {
@@ -66,7 +66,7 @@ pub(crate) fn reached_at_most<I: OverlayInt>(groups: &[Vec<Fragment<I>>], axis: 
 }
 
 /// The same of one group.
-fn reached_in_group_at_most<I: OverlayInt>(group: &[Fragment<I>], axis: Axis) -> u64
+pub(crate) fn reached_in_group_at_most<I: OverlayInt>(group: &[Fragment<I>], axis: Axis) -> u64
     requires sorted { IsSortedAlong axis (fragments_of I.whole group.now) }
     ensures { min (looks_of_group axis (fragments_of I.whole group.now)) (2 ^ 64 - 1) ≤ result }
 {

@@ -164,7 +164,7 @@ fn mark_columns<I: OverlayInt>(
 /// Appends the marks that two segments put on one another where fragments of both meet in a group,
 /// and returns whether some two of these cross at a point without whole coordinates. The group has
 /// to be sorted along the axis.
-fn mark_group<I: OverlayInt>(
+pub(crate) fn mark_group<I: OverlayInt>(
     group: &[Fragment<I>],
     axis: Axis,
     placing: Placing,

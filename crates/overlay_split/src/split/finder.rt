@@ -26,7 +26,7 @@ use overlay_grid::split::fragment_buffer::FragmentBuffer;
 use overlay_grid::split::fragment_memory::FragmentMemory;
 use overlay_grid::split::grid_layout::GridLayout;
 use overlay_grid::split::solver_fragment::count_fragments;
-use overlay_grid::split::{solver_fragment, solver_fragment_within};
+use overlay_grid::split::{column_sweep, solver_fragment_within};
 use overlay_intersections::split::line_mark::LineMark;
 use overlay_intersections::split::placing::Placing;
 use overlay_tree::split::solver_tree::TreeBuffers;
@@ -251,7 +251,7 @@ fn find_over_grid<C: WindingCount, I: OverlayInt, D: Copy>(
             return Ok(rounded);
         }
     }
-    solver_fragment::find_marks(segments, placing, grid, marks, looked)
+    column_sweep::find_marks(segments, placing, grid, marks, looked)
 }
 
 /// Finds the marks in columns, if they may serve and take few comparisons, and else over a tree.

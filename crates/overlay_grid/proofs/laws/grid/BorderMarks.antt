@@ -357,8 +357,11 @@ has_same ms ns s m h = Has-from_Contains ns m ((s m).0 (Contains-from_Has ms m h
 pub has_back : (ms ns : List Mark) → HoldSame ms ns → (m : Mark) → Has ns m → Has ms m
 has_back ms ns s m h = Has-from_Contains ms m ((s m).1 (Contains-from_Has ns m h))
 
-hold_same : (ms ns : List Mark) → ((m : Mark) → Has ms m → Has ns m) → ((m : Mark) → Has ns m → Has ms m) → HoldSame ms ns
+pub hold_same : (ms ns : List Mark) → ((m : Mark) → Has ms m → Has ns m) → ((m : Mark) → Has ns m → Has ms m) → HoldSame ms ns
 hold_same ms ns f g = λ m. (λ h. Contains-from_Has ns m (f m (Has-from_Contains ms m h)), λ h. Contains-from_Has ms m (g m (Has-from_Contains ns m h)))
+
+pub hold_equal : (ms ns : List Mark) → ms ≡ ns → HoldSame ms ns
+hold_equal ms ns e = subst (HoldSame ms) e (hold_same ms ms (λ m h. h) (λ m h. h))
 
 pub record AreBordersSeen (marks : ℕ → List Mark) (looks : ℕ → ℕ) (old now : List Mark) (first count : ℕ) (n : ℕ) : Type 0 where
   pub found : HoldSame (old ++ flat_map marks (range_with_len 0 n)) now
@@ -376,7 +379,7 @@ ended marks old n =
     ∙ sym (append_assoc old (flat_map marks (range_with_len 0 n)) (marks n))
 
 pub borders-more : (marks : ℕ → List Mark) (looks : ℕ → ℕ) (old now next made : List Mark) (first count count' : ℕ) (n : ℕ) → AreBordersSeen marks looks old now first count n →
-    ((m : Mark) → Has (marks n) m → Has made m) → ((m : Mark) → Has made m → Has (marks n) m) → next ≡ now ++ made → count' ≤ count + looks n → AreBordersSeen marks looks old next first count' (n + 1)
+    ((m : Mark) → Has (marks n) m → Has made m) → ((m : Mark) → Has made m → Has (marks n) m) → HoldSame (now ++ made) next → count' ≤ count + looks n → AreBordersSeen marks looks old next first count' (n + 1)
 borders-more marks looks old now next made first count count' n w f g e c =
     let before = old ++ flat_map marks (range_with_len 0 n) in
     let sums : sum_by looks (range_with_len 0 (n + 1)) ≡ sum_by looks (range_with_len 0 n) + looks n =
@@ -390,7 +393,7 @@ borders-more marks looks old now next made first count count' n w f g e c =
       | inr b ↦ Has-append_right before (marks n) m (g m b)
     ] in
     record {
-      found = subst (λ (ms : List Mark). HoldSame ms next) (sym (ended marks old n)) (subst (λ (ms : List Mark). HoldSame (before ++ marks n) ms) (sym e) (hold_same (before ++ marks n) (now ++ made) there back));
+      found = subst (λ (ms : List Mark). HoldSame ms next) (sym (ended marks old n)) (hold_same (before ++ marks n) next (λ m h. has_same (now ++ made) next e m (there m h)) (λ m h. back m (has_back (now ++ made) next e m h)));
       counted = (let k = w.counted in omega arith);
     }
 

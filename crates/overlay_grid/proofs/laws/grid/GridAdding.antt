@@ -89,6 +89,12 @@ IsAdding-start l index s old r h =
       groups = λ other. sym (append-nil (old other)) ∙ ap (λ (list : List KeptFragment). old other ++ list) (none_yet l s index other);
     }
 
+-- where the fragment of a segment in its first column begins
+pub first_corner : (l : Layout) (s : Pair) → RunsRight s → l.min_x ≤ℤ s.a.x → s.a ≡ (let corner : Point = record { x = left_in l s (column_index l s.a.x); y = toward s (least_rise s (left_in l s (column_index l s.a.x))) } in corner)
+first_corner l s r h =
+    let x = max_is_left s.a.x (pos_of l (column_index l s.a.x)) (pos_of-column_index l s.a.x h) in
+    ap₂ (λ (u v : ℤ). let corner : Point = record { x = u; y = v } in corner) x (sym (ap (λ (z : ℤ). toward s (least_rise s z)) (sym x) ∙ ap (toward s) (least_rise-at_a s r) ∙ toward_none s))
+
 fragment_in-rect : (l : Layout) (s : Pair) (k : ℕ) (corner : Point) (x y : ℤ) → corner.x ≡ left_in l s k → corner.y ≡ toward s (least_rise s (left_in l s k)) → x ≡ right_in l s k → y ≡ toward s (greatest_rise s (right_in l s k)) →
     (fragment_in l s k).rect ≡ rect_between corner.x corner.y x y
 unfolding fragment_in
@@ -113,19 +119,39 @@ groups_more l index s old now next corner k rect w e n other =
     (ap (λ (list : List KeptFragment). before ++ list) (sym one) ∙ sym (kept_parts-more l s index (k - first) other)
     ∙ ap (λ (m : ℕ). kept index s (in_column other (parts l s m))) (sym (next_count first k w.from)))
 
+-- the fragment in a column that the segment leaves through the right border
+pub inner_rect : (l : Layout) (s : Pair) (k : ℕ) (corner : Point) (x far : ℤ) → RunsRight s → l.min_x ≤ℤ s.a.x → column_index l s.a.x ≤ k → k < column_index l (s.b.x -ℤ pos 1) → corner.x ≡ left_in l s k → corner.y ≡ toward s (least_rise s (left_in l s k)) →
+    x ≡ pos_of l (k + 1) → far ≡ toward s (greatest_rise s x) → (fragment_in l s k).rect ≡ rect_between corner.x corner.y x far
+inner_rect l s k corner x far r h from lt cx cy e f =
+    let up_to_last = pos_of-monotone l (k + 1) (column_index l (s.b.x -ℤ pos 1)) (omega arith) in
+    let at_last = pos_of-column_index l (s.b.x -ℤ pos 1) (less_to l.min_x s.a.x s.b.x h r.forward) in
+    let before_b : pos_of l (k + 1) ≤ℤ s.b.x = (let m = le_through _ _ _ up_to_last at_last in let o : (s.b.x -ℤ pos 1) ≤ℤ s.b.x = omega (arith, ints) in le_through _ _ _ m o) in
+    let right : pos_of l (k + 1) ≡ right_in l s k = sym (min_is_right s.b.x (pos_of l (k + 1)) before_b) in
+    fragment_in-rect l s k corner x far cx cy (e ∙ right) (f ∙ ap (λ (z : ℤ). toward s (greatest_rise s z)) (e ∙ right))
+
+-- where the next one begins
+pub next_left : (l : Layout) (s : Pair) (k : ℕ) → l.min_x ≤ℤ s.a.x → column_index l s.a.x ≤ k → pos_of l (k + 1) ≡ left_in l s (k + 1)
+next_left l s k h from =
+    let after_first = pos_of-monotone l (column_index l s.a.x + 1) (k + 1) (omega arith) in
+    let past_a = pos_of-column_index_next l s.a.x h in
+    sym (max_right s.a.x (pos_of l (k + 1)) (le_weak _ _ (lt_through _ _ _ past_a after_first)))
+
+-- the fragment in the last column
+pub last_rect : (l : Layout) (s : Pair) (k : ℕ) (corner : Point) → RunsRight s → l.min_x ≤ℤ s.a.x → k ≡ column_index l (s.b.x -ℤ pos 1) → corner.x ≡ left_in l s k → corner.y ≡ toward s (least_rise s (left_in l s k)) →
+    (fragment_in l s k).rect ≡ rect_between corner.x corner.y s.b.x s.b.y
+last_rect l s k corner r h last cx cy =
+    let past_b = pos_of-column_index_next l (s.b.x -ℤ pos 1) (less_to l.min_x s.a.x s.b.x h r.forward) in
+    let b_first : s.b.x ≤ℤ pos_of l (k + 1) = subst (λ (j : ℕ). s.b.x ≤ℤ pos_of l (j + 1)) (sym last) (let m : s.b.x ≤ℤ pos_of l (column_index l (s.b.x -ℤ pos 1) + 1) = omega (arith, ints) in m) in
+    let right : s.b.x ≡ right_in l s k = sym (min_left s.b.x (pos_of l (k + 1)) b_first) in
+    let top : s.b.y ≡ toward s (greatest_rise s s.b.x) = sym (ap (toward s) (greatest_rise-at_b s r) ∙ toward_all s) in
+    fragment_in-rect l s k corner s.b.x s.b.y cx cy right (top ∙ ap (λ (z : ℤ). toward s (greatest_rise s z)) right)
+
 pub IsAdding-more : (l : Layout) (index : ℕ) (s : Pair) (old now next : ℕ → List KeptFragment) (corner corner' : Point) (k : ℕ) (far : ℤ) (rect : Rect) → RunsRight s → l.min_x ≤ℤ s.a.x →
     IsAdding l index s old now corner k → k < column_index l (s.b.x -ℤ pos 1) → corner'.x ≡ pos_of l (k + 1) → corner'.y ≡ toward s (least_rise s corner'.x) → far ≡ toward s (greatest_rise s corner'.x) →
     rect ≡ rect_between corner.x corner.y corner'.x far → ((other : ℕ) → next other ≡ now other ++ added_to k index s rect other) → IsAdding l index s old next corner' (k + 1)
 IsAdding-more l index s old now next corner corner' k far rect r h w lt x y f e n =
-    let first : ℕ = column_index l s.a.x in
-    let after_first = pos_of-monotone l (first + 1) (k + 1) (let m = w.from in omega arith) in
-    let past_a = pos_of-column_index_next l s.a.x h in
-    let up_to_last = pos_of-monotone l (k + 1) (column_index l (s.b.x -ℤ pos 1)) (omega arith) in
-    let at_last = pos_of-column_index l (s.b.x -ℤ pos 1) (less_to l.min_x s.a.x s.b.x h r.forward) in
-    let left : pos_of l (k + 1) ≡ left_in l s (k + 1) = sym (max_right s.a.x (pos_of l (k + 1)) (le_weak _ _ (lt_through _ _ _ past_a after_first))) in
-    let before_b : pos_of l (k + 1) ≤ℤ s.b.x = (let m = le_through _ _ _ up_to_last at_last in let o : (s.b.x -ℤ pos 1) ≤ℤ s.b.x = omega (arith, ints) in le_through _ _ _ m o) in
-    let right : pos_of l (k + 1) ≡ right_in l s k = sym (min_is_right s.b.x (pos_of l (k + 1)) before_b) in
-    let box = fragment_in-rect l s k corner corner'.x far w.x w.y (x ∙ right) (f ∙ ap (λ (z : ℤ). toward s (greatest_rise s z)) (x ∙ right)) in
+    let left = next_left l s k h w.from in
+    let box = inner_rect l s k corner corner'.x far r h w.from lt w.x w.y x f in
     record {
       from = (let m = w.from in omega arith);
       x = x ∙ left;
@@ -140,11 +166,7 @@ pub IsAdding-end : (l : Layout) (index : ℕ) (s : Pair) (old now next : ℕ →
     IsAdding l index s old now corner k → k ≡ column_index l (s.b.x -ℤ pos 1) → rect ≡ rect_between corner.x corner.y s.b.x s.b.y → ((other : ℕ) → next other ≡ now other ++ added_to k index s rect other) →
     (other : ℕ) → next other ≡ old other ++ kept_in l index s other
 IsAdding-end l index s old now next corner k rect r h w last e n other =
-    let past_b = pos_of-column_index_next l (s.b.x -ℤ pos 1) (less_to l.min_x s.a.x s.b.x h r.forward) in
-    let b_first : s.b.x ≤ℤ pos_of l (k + 1) = subst (λ (j : ℕ). s.b.x ≤ℤ pos_of l (j + 1)) (sym last) (let m : s.b.x ≤ℤ pos_of l (column_index l (s.b.x -ℤ pos 1) + 1) = omega (arith, ints) in m) in
-    let right : s.b.x ≡ right_in l s k = sym (min_left s.b.x (pos_of l (k + 1)) b_first) in
-    let top : s.b.y ≡ toward s (greatest_rise s s.b.x) = sym (ap (toward s) (greatest_rise-at_b s r) ∙ toward_all s) in
-    let box = fragment_in-rect l s k corner s.b.x s.b.y w.x w.y right (top ∙ ap (λ (z : ℤ). toward s (greatest_rise s z)) right) in
+    let box = last_rect l s k corner r h last w.x w.y in
     groups_more l index s old now next corner k rect w (box ∙ sym e) n other
     ∙ ap (λ (list : List KeptFragment). old other ++ list)
     (ap (λ (m : ℕ). kept index s (in_column other (parts l s m))) (all_columns (column_index l s.a.x) k (column_count l s) w.from (column_count-end l s r h ∙ ap (λ (j : ℕ). j + 1) (sym last)))

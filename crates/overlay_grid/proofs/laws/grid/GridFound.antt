@@ -136,12 +136,21 @@ none_of_itself placing i j s m h = elim (Has-append_out (marks_at i (marks_by pl
 
 -- ---- groups
 
-group_marks_out : (placing : Placing) (fs : List KeptFragment) (m : Mark) → Has (marks_of_group placing fs) m → (f : KeptFragment) × (g : KeptFragment) × Has fs f × Has fs g × Has (marks_between placing f.index f.pair g.index g.pair) m
+met_out : (placing : Placing) (f g : KeptFragment) (m : Mark) → Has (marks_of_two placing f g) m → do_rects_meet f.rect g.rect ≡ true
+unfolding marks_of_two
+met_out placing f g m h = by (do_rects_meet f.rect g.rect) refl
+  where
+    by : (b : Bool) → do_rects_meet f.rect g.rect ≡ b → do_rects_meet f.rect g.rect ≡ true
+    by true e = e
+    by false e = absurd (subst (λ (b : Bool). Has (if b then (if pair_lt f.pair g.pair then marks_between placing f.index f.pair g.index g.pair else marks_between placing g.index g.pair f.index f.pair) else []) m) e h)
+
+group_marks_out : (placing : Placing) (fs : List KeptFragment) (m : Mark) → Has (marks_of_group placing fs) m →
+    (f : KeptFragment) × (g : KeptFragment) × Has fs f × Has fs g × Has (marks_between placing f.index f.pair g.index g.pair) m × (do_rects_meet f.rect g.rect ≡ true)
 unfolding marks_of_group
 group_marks_out placing [] m h = absurd h
 group_marks_out placing (f ∷ fs) m h = elim (Has-append_out (flat_map (λ g. marks_of_two placing f g) fs) (marks_of_group placing fs) m h) [
-  | inl here ↦ (let r = Has-flat_map_out (λ g. marks_of_two placing f g) fs m here in (f, r.0, inl refl, inr r.1, two_out placing f r.0 m r.2))
-  | inr later ↦ (let r = group_marks_out placing fs m later in (r.0, r.1, inr r.2, inr r.3, r.4))
+  | inl here ↦ (let r = Has-flat_map_out (λ g. marks_of_two placing f g) fs m here in (f, r.0, inl refl, inr r.1, two_out placing f r.0 m r.2, met_out placing f r.0 m r.2))
+  | inr later ↦ (let r = group_marks_out placing fs m later in (r.0, r.1, inr r.2, inr r.3, r.4, r.5))
 ]
 
 group_marks_in : (placing : Placing) (fs : List KeptFragment) (f g : KeptFragment) (m : Mark) → Has fs f → Has fs g → do_rects_meet f.rect g.rect ≡ true → Has (marks_between placing f.index f.pair g.index g.pair) m → Has (marks_of_group placing fs) m
@@ -157,12 +166,12 @@ group_marks_in placing (x ∷ xs) f g m (inr h) (inl q) e b =
     (Has-flat_map (λ u. marks_of_two placing x u) xs f m h (subst (λ (u : KeptFragment). Has (marks_of_two placing u f) m) (sym q) (two_in placing g f m (meet_back f g e) (between_back placing f.index f.pair g.index g.pair m b))))
 group_marks_in placing (x ∷ xs) f g m (inr h) (inr k) e b = Has-append_right (flat_map (λ u. marks_of_two placing x u) xs) (marks_of_group placing xs) m (group_marks_in placing xs f g m h k e b)
 
-group_rounded_out : (fs : List KeptFragment) → is_group_rounded fs ≡ true → (f : KeptFragment) × (g : KeptFragment) × Has fs f × Has fs g × (cross_inexactly f.pair g.pair ≡ true)
+group_rounded_out : (fs : List KeptFragment) → is_group_rounded fs ≡ true → (f : KeptFragment) × (g : KeptFragment) × Has fs f × Has fs g × (cross_inexactly f.pair g.pair ≡ true) × (do_rects_meet f.rect g.rect ≡ true)
 unfolding is_group_rounded
 group_rounded_out [] h = cc
 group_rounded_out (f ∷ fs) h = elim (or_cases (list_any (λ g. meet_inexactly f g) fs) (is_group_rounded fs) h) [
-  | inl here ↦ (let r = Has-from_list_any (λ g. meet_inexactly f g) fs here in (f, r.0, inl refl, inr r.1, (and_parts (do_rects_meet f.rect r.0.rect) (cross_inexactly f.pair r.0.pair) r.2).1))
-  | inr later ↦ (let r = group_rounded_out fs later in (r.0, r.1, inr r.2, inr r.3, r.4))
+  | inl here ↦ (let r = Has-from_list_any (λ g. meet_inexactly f g) fs here in (let p = and_parts (do_rects_meet f.rect r.0.rect) (cross_inexactly f.pair r.0.pair) r.2 in (f, r.0, inl refl, inr r.1, p.1, p.0)))
+  | inr later ↦ (let r = group_rounded_out fs later in (r.0, r.1, inr r.2, inr r.3, r.4, r.5))
 ]
 
 not_itself : (s : Pair) → cross_inexactly s s ≡ true → ⊥
@@ -175,6 +184,23 @@ group_rounded_in (x ∷ xs) f g (inl p) (inl q) e c = absurd (not_itself f.pair 
 group_rounded_in (x ∷ xs) f g (inl p) (inr k) e c = or_left _ _ (list_any-from_Has (λ u. meet_inexactly x u) xs g k (subst (λ (u : KeptFragment). meet_inexactly u g ≡ true) (sym p) (and_from _ _ e c)))
 group_rounded_in (x ∷ xs) f g (inr h) (inl q) e c = or_left _ _ (list_any-from_Has (λ u. meet_inexactly x u) xs f h (subst (λ (u : KeptFragment). meet_inexactly u f ≡ true) (sym q) (and_from _ _ (meet_back f g e) (cross_inexactly-back g.pair f.pair ∙ c))))
 group_rounded_in (x ∷ xs) f g (inr h) (inr k) e c = or_right _ _ (group_rounded_in xs f g h k e c)
+
+-- ---- a group in another order
+
+pub same_has : {X : Type 0} (xs ys : List X) → IsPermutation xs ys → (x : X) → Has xs x → Has ys x
+same_has xs ys p x h = subst (λ (zs : List _). Has zs x) (map-id ys) (Has-permutation (λ y. y) xs ys p x (subst (λ (zs : List _). Has zs x) (sym (map-id xs)) h))
+
+pub all-permuted : (P : KeptFragment → Type 0) (fs gs : List KeptFragment) → IsPermutation fs gs → AllByRecursion P fs → AllByRecursion P gs
+all-permuted P fs gs p all = AllByRecursion-from_Has P gs (λ f h. AllByRecursion-at P fs f all (same_has gs fs (IsPermutation-sym fs gs p) f h))
+
+pub marks-permuted : (placing : Placing) (fs gs : List KeptFragment) → IsPermutation fs gs → (m : Mark) → Has (marks_of_group placing fs) m → Has (marks_of_group placing gs) m
+marks-permuted placing fs gs p m h = let r = group_marks_out placing fs m h in group_marks_in placing gs r.0 r.1 m (same_has fs gs p r.0 r.2) (same_has fs gs p r.1 r.3) r.5 r.4
+
+pub rounded-permuted : (fs gs : List KeptFragment) → IsPermutation fs gs → is_group_rounded fs ≡ is_group_rounded gs
+rounded-permuted fs gs p = same_tests _ _ (through fs gs p) (through gs fs (IsPermutation-sym fs gs p))
+  where
+    through : (fs gs : List KeptFragment) → IsPermutation fs gs → is_group_rounded fs ≡ true → is_group_rounded gs ≡ true
+    through fs gs p h = let r = group_rounded_out fs h in group_rounded_in gs r.0 r.1 (same_has fs gs p r.0 r.2) (same_has fs gs p r.1 r.3) r.5 r.4
 
 -- ---- marks from borders
 
@@ -245,9 +271,6 @@ point_from placing s t p h = by (do_cross s t) refl
 
 -- ---- small steps
 
-pub same_has : {X : Type 0} (xs ys : List X) → IsPermutation xs ys → (x : X) → Has xs x → Has ys x
-same_has xs ys p x h = subst (λ (zs : List _). Has zs x) (map-id ys) (Has-permutation (λ y. y) xs ys p x (subst (λ (zs : List _). Has zs x) (sym (map-id xs)) h))
-
 stands_has : (i : ℕ) (ss : List Pair) (n : ℕ) (s : Pair) → StandsAt i ss n s → Has ss s
 stands_has i [] n s h = absurd h
 stands_has i (x ∷ ss) n s (inl e) = inl e.1
@@ -283,6 +306,9 @@ eq_at a b c e f = grind (arith, ints)
 inexact_crosses : (s t : Pair) → cross_inexactly s t ≡ true → IsTrue (do_cross s t)
 unfolding cross_inexactly
 inexact_crosses s t h = (and_parts _ _ h).0
+
+pub Has-number : (n i : ℕ) → i < n → Has (range_with_len 0 n) i
+Has-number n i h = subst (λ (xs : List ℕ). Has xs i) (map-id (range_with_len 0 n)) (Has-range (λ k. k) 0 n i (omega arith) (omega arith))
 
 -- ---- all columns
 
@@ -321,9 +347,6 @@ module _ (placing : Placing) (l : Layout) (segments : List WholeSegment) (groups
       let i = AllByRecursion-at (IsInside l) (pairs segments) s within h in
       let o = AllByRecursion-at (λ t. IsTrue (is_ordered t)) (pairs segments) s ordered h in
       part_below l s part o i k
-
-  Has-number : (n i : ℕ) → i < n → Has (range_with_len 0 n) i
-  Has-number n i h = subst (λ (xs : List ℕ). Has xs i) (map-id (range_with_len 0 n)) (Has-range (λ k. k) 0 n i (omega arith) (omega arith))
 
   -- two that have fragments together
   together_found : (s t : Pair) (i j : ℕ) (m : Mark) → StandsAt 0 (pairs segments) i s → Has (pairs segments) s → StandsAt 0 (pairs segments) j t → Together l s t → Has (marks_between placing i s j t) m →

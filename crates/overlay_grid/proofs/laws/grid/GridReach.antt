@@ -186,7 +186,7 @@ first_upward : (f : KeptFragment) (gs : List KeptFragment) → AllByRecursion (�
 first_upward f [] h = omega arith
 first_upward f (g ∷ gs) h = no_more (λ u. is_reached Y f u) (λ u. do_heights_meet f u) g gs (λ e. reached_in_height f g h.0 e) (first_upward f gs h.1)
 
-group_upward : (fs : List KeptFragment) → IsSortedAlong Y fs → looks_of_group Y fs ≤ twos_in_height fs
+pub group_upward : (fs : List KeptFragment) → IsSortedAlong Y fs → looks_of_group Y fs ≤ twos_in_height fs
 unfolding count_twos
 group_upward [] h = omega arith
 group_upward (f ∷ fs) h = let first = first_upward f fs h.0 in let rest = group_upward fs h.1 in omega arith

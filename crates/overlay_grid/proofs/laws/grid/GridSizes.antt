@@ -11,7 +11,7 @@ use lib.Signed.{non_neg, lt_z}
 use Rattle.std.proofs.Math.Pow.{pow_mono}
 use Rattle.std.proofs.lemmas.Grind.{pow_more}
 use Rattle.std.proofs.Math.Nat.{eq-zero-or-pos, div-mul-le_self, mod-eq_of_lt}
-use Rattle.std.proofs.lemmas.Nat.{mul-le}
+use Rattle.std.proofs.lemmas.Nat.{mul-le, pow_pos}
 use Rattle.overlay_geometry.specs.Coordinates.{least_coordinate, greatest_coordinate, is_coordinate, greatest_difference}
 use Rattle.overlay_geometry.proofs.laws.geometry.Coordinates.{difference_bound, small_fits, coordinate_fits}
 use Rattle.overlay_grid.specs.Grid.{Layout, IsLog2, spread_of_x, power_for, column_index, pos_of, greatest_x, IsLayout, IsLayoutOf, IsTooNarrow}
@@ -120,6 +120,14 @@ border_fits least greatest l i h le =
       in_range = in_range;
       value = omega (arith, ints);
     }
+
+-- the number of a column
+pub column_fits : (least greatest : ℤ) (l : Layout) (i : ℕ) → IsLaidOut least greatest l → i ≤ column_index l l.max_x → Fits w64 i
+column_fits least greatest l i h le =
+    let small = (border_fits least greatest l i h le).small in
+    let wide = pow_pos l.power in
+    let own = mul-le i 1 i (2 ^ l.power) (omega arith) (omega arith) in
+    record { fits = omega arith }
 
 pub mod_small : (n : ℕ) → n < 2 ^ 63 → n % 18446744073709551616 ≡ n
 mod_small n h = mod-eq_of_lt {n = n} {m = 18446744073709551616} (omega arith)

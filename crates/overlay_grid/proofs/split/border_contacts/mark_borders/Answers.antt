@@ -7,7 +7,7 @@ use Rattle.overlay_grid.specs.FragmentOf.{KeptFragment, fragments_of, layout_of}
 use Rattle.overlay_grid.specs.GroupsOf.{group_in, group_of, grid_of}
 use Rattle.overlay_grid.specs.steps.FragmentFinder.{heights_at, marks_of_border, looks_of_border, marks_of_heights}
 use Rattle.overlay_grid.proofs.laws.grid.GridGroups.{group_in-at}
-use Rattle.overlay_grid.proofs.laws.grid.BorderMarks.{borders-start, borders-more, borders-end, border_to_heights, heights_to_border, few_on_border}
+use Rattle.overlay_grid.proofs.laws.grid.BorderMarks.{hold_equal, borders-start, borders-more, borders-end, border_to_heights, heights_to_border, few_on_border}
 use Rattle.overlay_grid.proofs.split.border_contacts.mark_borders.Goals as goal
 
 pub loop-column-init : goal.loop-column-init
@@ -55,7 +55,7 @@ loop-column-preserved g c =
           (marks_of whole c.args.marks.now.items) (marks_of whole c.loop-column.marks.items) (marks_of whole c.mark_border.new.marks.items) made c.args.looked.now c.loop-column.looked c.mark_border.new.looked column c.loop-column.invariant.seen
           (border_to_heights (whole g.I.OverlayInt.MIN_COORD) (whole g.I.OverlayInt.MAX_COORD) x left group ys ready ends)
           (heights_to_border (whole g.I.OverlayInt.MIN_COORD) (whole g.I.OverlayInt.MAX_COORD) x left group ys ready ends)
-          marks (omega arith);
+          (hold_equal _ _ (sym marks)) (omega arith);
     }
 
 pub returns : goal.returns
