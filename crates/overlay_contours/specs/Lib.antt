@@ -1,5 +1,7 @@
 pub mod Contours
 pub mod ContoursOf
+pub mod DataContours
+pub mod DataContoursOf
 pub mod ContourSegments
 pub mod Corners
 pub mod Areas
@@ -12,6 +14,7 @@ pub mod Shapes
 pub mod ShapesOf
 pub mod Beyond
 pub mod Refusals
+pub mod Sources
 pub mod ContoursIn
 -- what only contracts of private functions use
 pub mod steps

@@ -3,6 +3,7 @@
 
 pub(crate) mod buffers;
 pub mod contour;
+pub mod contour_steps;
 pub mod corners;
 pub mod extract;
 pub mod fault;
@@ -10,3 +11,4 @@ pub mod location;
 pub mod measure;
 pub mod overlay;
 pub mod rounding;
+pub mod sources;
