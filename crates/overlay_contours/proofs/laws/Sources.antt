@@ -1,6 +1,6 @@
 -- What names given steps: a segment that is the step which its data names, what is left of it, and the steps along links.
-use Rattle.std.proofs.Common.{◌≡◌, refl, sym, ap, subst, ◌∙◌, ℕ, Bool, true, false, IsTrue, List, [], ◌∷◌, map}
-use Rattle.std.specs.Prelude.{ℤ, All, Option, Some, None}
+use Rattle.std.proofs.Common.{◌≡◌, refl, sym, ap, subst, ◌∙◌, ℕ, zero, suc, ◌+◌, Bool, true, false, IsTrue, List, [], ◌∷◌, map, drop, arith}
+use Rattle.std.specs.Prelude.{ℤ, All, Option, Some, None, option_and_then, slice_get}
 use Rattle.std.specs.List.{AllByRecursion, list_all}
 use Rattle.std.proofs.lemmas.Bool.{and_parts}
 use Rattle.std.proofs.lemmas.Grind.{common_steps}
@@ -17,10 +17,35 @@ use Rattle.overlay_split.specs.Nearness.{LiesNear}
 use Rattle.overlay_split.proofs.laws.nearness.Distances.{LiesNear-itself}
 use Rattle.overlay_build.specs.DirectedWalks.{in_direction}
 use Rattle.overlay_build.specs.GraphOf.{link_of}
-use Rattle.overlay_contours.specs.Contours.{in_order}
+use Rattle.overlay_contours.specs.Contours.{steps_of, in_order}
+use Rattle.overlay_contours.specs.Refusals.{of_shape}
 use Rattle.overlay_contours.specs.Sources.{given_step, LiesNearSource, IsItsSource}
 use Rattle.overlay_contours.specs.declared.sources.SourceEdge.{SourceEdge}
 use Rattle.overlay_contours.proofs.laws.Extracts.{in_order_either_way}
+
+-- ---- the steps of a contour from one on
+
+pub drop_next : {X : Type 0} (xs : List X) (k : ℕ) (x : X) (rest : List X) → drop k xs ≡ x ∷ rest → drop (k + 1) xs ≡ rest
+drop_next xs k x rest e = let next : k + 1 ≡ suc k = omega arith in rw next (by xs k e)
+  where
+    by : (ys : List _) (i : ℕ) → drop i ys ≡ x ∷ rest → drop (suc i) ys ≡ rest
+    by [] zero e = absurd (cc)
+    by [] (suc i) e = absurd (cc)
+    by (y ∷ ys) zero e = cc
+    by (y ∷ ys) (suc i) e = by ys i e
+
+pub got_first : {X : Type 0} (xs : List X) (k : ℕ) (x : X) (rest : List X) → drop k xs ≡ x ∷ rest → slice_get xs k ≡ Some x
+got_first [] zero x rest e = absurd (cc)
+got_first [] (suc k) x rest e = absurd (cc)
+got_first (y ∷ ys) zero x rest e = let same : y ≡ x = cc in ap (λ z. Some z) same
+got_first (y ∷ ys) (suc k) x rest e = got_first ys k x rest e
+
+-- a step of a contour is the one that its source names
+pub given_from : (subject clip : List (List Point)) (source : SourceEdge) (contour : List Point) (s : Pair) → slice_get (of_shape source.shape_type subject clip) source.contour ≡ Some contour → slice_get (steps_of contour) source.edge ≡ Some s →
+    given_step subject clip source ≡ Some s
+given_from subject clip source contour s named at = ap (option_and_then (λ c. slice_get (steps_of c) source.edge)) named ∙ at
+
+-- ---- names
 
 -- whether there is a step, and whether a pair is that step with its ends in order
 abbrev pub is_there : Option Pair → Bool
