@@ -1,5 +1,5 @@
 // The overlay of polygons whose steps name given edges: for each step one near which it runs. This project's own.
-ghost use Rattle.std.specs.Prelude.{◌≡◌, ◌++◌, ◌∷◌, [], Some, List, IfOk, IfErr, OnOk, All, slice_get};
+ghost use Rattle.std.specs.Prelude.{◌≡◌, ◌++◌, ◌∷◌, [], Some, IsTrue, List, IfOk, IfErr, OnOk, All, slice_get};
 ghost use Rattle.overlay_geometry.specs.Points.{Point};
 ghost use Rattle.overlay_geometry.specs.PointOf.{point_of};
 ghost use Rattle.overlay_base.specs.ArrangedOf.{IsSplittable};
@@ -8,11 +8,10 @@ ghost use Rattle.overlay_base.specs.SegmentOf.{segments_of, data_segments_of};
 ghost use Rattle.overlay_base.specs.declared.segm.fault.Fault.TheVariants.{Memory};
 ghost use Rattle.overlay_snapping.specs.SnapOf.{reach_of_snap};
 ghost use Rattle.overlay_contours.specs.Contours.{steps_of};
-ghost use Rattle.overlay_contours.specs.ContourSegments.{step_segments, contour_segments, overlay_segments};
+ghost use Rattle.overlay_contours.specs.ContourSegments.{step_segments, contour_segments, overlay_segments, are_in_range};
 ghost use Rattle.overlay_contours.specs.ContoursIn.{LieInRange, AreSidesOf, IsRefusalOf};
 ghost use Rattle.overlay_contours.specs.ContoursOf.{points_of, contours_of};
 ghost use Rattle.overlay_contours.specs.DataContoursOf.{data_contours_of, bare_contours_of};
-ghost use Rattle.overlay_contours.specs.ContourSegments.{are_in_range};
 ghost use Rattle.overlay_contours.specs.Polygons.{IsPolygonOverlay};
 ghost use Rattle.overlay_contours.specs.Refusals.{of_shape, IsReason};
 ghost use Rattle.overlay_contours.specs.Sources.{given_step, IsItsSource, LieNearSources};
@@ -105,8 +104,8 @@ pub fn overlay_contours_with_sources<I: OverlayInt>(
     ensures sources { IfOk result (λ contours. LieNearSources
         (reach_of_snap (overlay_segments (contours_of I.whole subject.now) (contours_of I.whole clip.now)))
         (contours_of I.whole subject.now) (contours_of I.whole clip.now) (data_contours_of I.whole contours.items)) }
-    ensures in_range { IfOk result (λ contours. are_in_range (I.whole I.MIN_COORD) (I.whole I.MAX_COORD)
-        (bare_contours_of I.whole contours.items) ≡ true) }
+    ensures in_range { IfOk result (λ contours. IsTrue (are_in_range (I.whole I.MIN_COORD) (I.whole I.MAX_COORD)
+        (bare_contours_of I.whole contours.items))) }
     ensures refused { IfErr result (IsRefusalOf I.OverlayInt.own subject.now clip.now) }
     ensures subject_in_range { OnOk result (LieInRange I.whole I.MIN_COORD I.MAX_COORD subject.now) }
     ensures clip_in_range { OnOk result (LieInRange I.whole I.MIN_COORD I.MAX_COORD clip.now) }
@@ -132,8 +131,8 @@ fn overlay_in_range<I: OverlayInt>(
     ensures sources { IfOk result (λ contours. LieNearSources
         (reach_of_snap (overlay_segments (contours_of I.whole subject.now) (contours_of I.whole clip.now)))
         (contours_of I.whole subject.now) (contours_of I.whole clip.now) (data_contours_of I.whole contours.items)) }
-    ensures in_range { IfOk result (λ contours. are_in_range (I.whole I.MIN_COORD) (I.whole I.MAX_COORD)
-        (bare_contours_of I.whole contours.items) ≡ true) }
+    ensures in_range { IfOk result (λ contours. IsTrue (are_in_range (I.whole I.MIN_COORD) (I.whole I.MAX_COORD)
+        (bare_contours_of I.whole contours.items))) }
     ensures refused { IfErr result (λ fault. IsReason by_snapping
         (contours_of I.whole subject.now) (contours_of I.whole clip.now) fault) }
 {
