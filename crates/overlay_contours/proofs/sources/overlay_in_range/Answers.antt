@@ -130,3 +130,28 @@ returns-clause-sources g c =
     (All-from_recursion (λ (s : Pair × SourceEdge). LiesNearSource halves subject clip (in_order s.0) s.1) (data_steps contours)
     (along_contours whole rule links (λ p d. LiesNearSource halves subject clip (in_order p) d) (links_near_sources subject clip halves whole rule links graph.ordered on_links) graph.holds.same_links graph.ordered walks.walks contours
     (recursion_from_All (IsDirectedWalk (arcs rule (map (link_of whole) links))) walks.walks walks.are.closed) walks.steps))
+
+pub returns-in_err-split_segments-clause-refused : goal.returns-in_err-split_segments-clause-refused
+returns-in_err-split_segments-clause-refused g c =
+    let whole = g.I.OverlayInt.whole in
+    let subject : List (List Point) = contours_of whole c.args.subject.now in
+    let clip : List (List Point) = contours_of whole c.args.clip.now in
+    let fault : Fault = c.in_err-split_segments.field-0.0 in
+    refused_as c.from_residual-in_err-split_segments.result (IsReason by_snapping subject clip) fault c.from_residual-in_err-split_segments.ensures.1
+    (too_large_on_way by_snapping subject clip (segments_of c.in_ok-sides.sides.items) fault c.in_ok-sides.ensures.segments c.in_err-split_segments.ensures.refused)
+
+pub returns-in_err-graph-clause-refused : goal.returns-in_err-graph-clause-refused
+returns-in_err-graph-clause-refused g c =
+    let I = g.I.OverlayInt in
+    let whole = I.whole in
+    let subject : List (List Point) = contours_of whole c.args.subject.now in
+    let clip : List (List Point) = contours_of whole c.args.clip.now in
+    let fault : Fault = c.in_err-graph.field-0.0 in
+    let given : List WholeSegment = segments_of c.in_ok-sides.sides.items in
+    let segments : List WholeSegment = segments_of c.split_segments.new.list.items in
+    let halves : ℕ = reach_of_snap given in
+    let e = c.in_ok-split_segments.ensures in
+    let made = left_by_snapping given segments halves (I.whole I.MIN_COORD) (I.whole I.MAX_COORD) e.snapped e.arranged e.balance e.near e.winding refl in
+    let a = subst (λ (l : List WholeSegment). IsArrangement by_snapping l segments 1 halves) c.in_ok-sides.ensures.segments made in
+    refused_as c.from_residual-in_err-graph.result (IsReason by_snapping subject clip) fault c.from_residual-in_err-graph.ensures.1
+    (too_large_above by_snapping subject clip segments 1 halves fault a.left (rw c.deref.ensures.value at c.in_err-graph.ensures.out_of_range))
