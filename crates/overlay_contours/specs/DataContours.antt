@@ -20,3 +20,7 @@ data_steps_of contour = zip (steps_of (points_in contour)) (map (λ s. s.edge_da
 -- those of all contours of a list
 abbrev pub data_steps : {D : Type 0} → List (List (DataStep D)) → List (Pair × D)
 data_steps contours = flat_map data_steps_of contours
+
+-- all contours of some shapes
+abbrev pub all_data_contours : {D : Type 0} → List (List (List (DataStep D))) → List (List (DataStep D))
+all_data_contours shapes = flat_map (λ shape. shape) shapes

@@ -7,10 +7,11 @@ use Rattle.overlay_base.specs.Rules.{holds}
 use Rattle.overlay_base.specs.declared.overlay_core.link.OverlayLink.{OverlayLink}
 use Rattle.overlay_base.specs.declared.overlay_core.overlay_rule.OverlayRule.{OverlayRule}
 use Rattle.overlay_build.specs.BoundaryOf.{arcs_by}
-use Rattle.overlay_build.specs.DirectedWalks.{in_direction, AreDirectedWalks}
+use Rattle.overlay_build.specs.DirectedWalks.{in_direction, contour, AreDirectedWalks}
 use Rattle.overlay_build.specs.GraphOf.{link_of}
-use Rattle.overlay_build.specs.OverlayGraphOf.{links_of}
+use Rattle.overlay_build.specs.OverlayGraphOf.{links_of, whole_graph}
 use Rattle.overlay_build.specs.declared.build.graph.OverlayGraph.{OverlayGraph}
+use Rattle.overlay_shapes.specs.ShapeWalks.{AreShapeWalks}
 use Rattle.overlay_contours.specs.DataContours.{DataStep, points_in}
 use Rattle.overlay_contours.specs.declared.contour_steps.ContourStep.{ContourStep}
 
@@ -24,6 +25,13 @@ data_contours_of whole contours = map (λ c. map (data_step_of whole) c.items) c
 
 abbrev pub bare_contours_of : {I D : Type 0} → (I → ℤ) → List (Vec (ContourStep I D) Global) → List (List Point)
 bare_contours_of whole contours = map points_in (data_contours_of whole contours)
+
+-- and shapes of code as lists of contours so
+abbrev pub data_shapes_of : {I D : Type 0} → (I → ℤ) → List (Vec (Vec (ContourStep I D) Global) Global) → List (List (List (DataStep D)))
+data_shapes_of whole shapes = map (λ s. data_contours_of whole s.items) shapes
+
+abbrev pub bare_shapes_of : {I D : Type 0} → (I → ℤ) → List (Vec (Vec (ContourStep I D) Global) Global) → List (List (List Point))
+bare_shapes_of whole shapes = map (λ contours. map points_in contours) (data_shapes_of whole shapes)
 
 -- the step along a link: from where it starts in its direction, with its data
 abbrev pub step_along : {I D : Type 0} → (I → ℤ) → (Bool → Bool → Bool) → OverlayLink I D → DataStep D
@@ -43,3 +51,15 @@ pub record FollowDirectedWalks {I D : Type 0} {w : _} {o : _} {e : _} {p : _} (r
   pub walks : List (List ℕ)
   pub are : AreDirectedWalks (arcs_by rule graph) walks
   pub steps : AreStepsOfWalks w.whole (holds rule) (links_of graph) walks (data_contours_of w.whole contours)
+
+-- The shapes are groups of walks so.
+abbrev pub AreStepsOfGroups : {I D : Type 0} → (I → ℤ) → (Bool → Bool → Bool) → List (OverlayLink I D) → List (List (List ℕ)) → List (List (List (DataStep D))) → Type 0
+AreStepsOfGroups whole rule links groups shapes =
+    map (λ contours. map (λ steps. map (λ s. Some s) steps) contours) shapes ≡ map (λ walks. map (λ walk. map (λ i. option_map (step_along whole rule) (slice_get links i)) walk) walks) groups
+
+-- They are the walks of a graph in shapes; without data their contours are those of these walks.
+pub record FollowWalksInShapes {I D : Type 0} {w : _} {o : _} {e : _} {p : _} (rule : OverlayRule) (graph : OverlayGraph I D w o e p) (shapes : List (Vec (Vec (ContourStep I D) Global) Global)) : Type 0 where
+  pub walks : List (List (List ℕ))
+  pub are : AreShapeWalks (holds rule) (whole_graph graph) (arcs_by rule graph) walks
+  pub steps : AreStepsOfGroups w.whole (holds rule) (links_of graph) walks (data_shapes_of w.whole shapes)
+  pub contours : bare_shapes_of w.whole shapes ≡ map (map (contour (arcs_by rule graph))) walks

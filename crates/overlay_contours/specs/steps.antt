@@ -1,3 +1,4 @@
 pub mod Arranging
 pub mod Bounding
 pub mod Locating
+pub mod SourceGraphs

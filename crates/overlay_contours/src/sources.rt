@@ -11,14 +11,17 @@ ghost use Rattle.overlay_contours.specs.Contours.{steps_of};
 ghost use Rattle.overlay_contours.specs.ContourSegments.{step_segments, contour_segments, overlay_segments, are_in_range};
 ghost use Rattle.overlay_contours.specs.ContoursIn.{LieInRange, AreSidesOf, IsRefusalOf};
 ghost use Rattle.overlay_contours.specs.ContoursOf.{points_of, contours_of};
-ghost use Rattle.overlay_contours.specs.DataContoursOf.{data_contours_of, bare_contours_of};
+ghost use Rattle.overlay_contours.specs.DataContours.{all_data_contours};
+ghost use Rattle.overlay_contours.specs.DataContoursOf.{data_contours_of, bare_contours_of, data_shapes_of, bare_shapes_of};
 ghost use Rattle.overlay_contours.specs.Polygons.{IsPolygonOverlay};
 ghost use Rattle.overlay_contours.specs.Refusals.{of_shape, IsReason};
+ghost use Rattle.overlay_contours.specs.Shapes.{IsShapeOverlay, all_contours};
 ghost use Rattle.overlay_contours.specs.Sources.{given_step, IsItsSource, LieNearSources};
 ghost use Rattle.overlay_contours.specs.Splittings.{by_snapping};
+ghost use Rattle.overlay_contours.specs.steps.SourceGraphs.{IsSourceGraph};
 
 use crate::contour::IntContour;
-use crate::contour_steps::{DataContour, directed_steps_of_graph};
+use crate::contour_steps::{DataContour, DataShape, directed_steps_of_graph, shape_steps_of_graph};
 use crate::fault::ContourFault;
 use crate::overlay::test_range;
 use overlay_base::overlay_core::edge_data::{EdgeDataMerge, EdgeDataSplit, OverlayEdgeData};
@@ -30,6 +33,8 @@ use overlay_base::segm::fault::Fault;
 use overlay_base::segm::segment::Segment;
 use overlay_base::segm::shape_type::ShapeType;
 use overlay_build::build::builder::GraphBuilder;
+use overlay_build::build::graph::OverlayGraph;
+use overlay_build::build::graph_node::OverlayNode;
 use overlay_geometry::geom::point::IntPoint;
 use overlay_geometry::num::OverlayInt;
 use overlay_snapping::snap::solver::SnapSolver;
@@ -83,6 +88,9 @@ pub type SourceSegment<I> = Segment<ShapeCountBoolean, I, SourceEdge>;
 /// A contour whose steps name given edges.
 pub type SourceContour<I> = DataContour<I, SourceEdge>;
 
+/// A shape of such contours.
+pub type SourceShape<I> = DataShape<I, SourceEdge>;
+
 /// The overlay of `overlay_contours` with a given edge for each step: of the edges of the subject's and the clip's
 /// contours one near which the step runs.
 ///
@@ -115,7 +123,35 @@ pub fn overlay_contours_with_sources<I: OverlayInt>(
     Ok(overlay_in_range(alloc, subject, clip, solver, fill_rule, overlay_rule)?)
 }
 
-/// The same of contours in range.
+/// The overlay of `overlay_shapes` with a given edge for each step, as `overlay_contours_with_sources` names them.
+///
+/// Returns what `overlay_contours` does where it is refused.
+pub fn overlay_shapes_with_sources<I: OverlayInt>(
+    alloc: Global,
+    subject: &[IntContour<I>],
+    clip: &[IntContour<I>],
+    solver: &Solver,
+    fill_rule: FillRule,
+    overlay_rule: OverlayRule,
+) -> Result<Vec<SourceShape<I>>, ContourFault>
+    ensures shapes { IfOk result (λ shapes. IsShapeOverlay by_snapping overlay_rule fill_rule
+        (contours_of I.whole subject.now) (contours_of I.whole clip.now) (bare_shapes_of I.whole shapes.items)) }
+    ensures sources { IfOk result (λ shapes. LieNearSources
+        (reach_of_snap (overlay_segments (contours_of I.whole subject.now) (contours_of I.whole clip.now)))
+        (contours_of I.whole subject.now) (contours_of I.whole clip.now)
+        (all_data_contours (data_shapes_of I.whole shapes.items))) }
+    ensures in_range { IfOk result (λ shapes. IsTrue (are_in_range (I.whole I.MIN_COORD) (I.whole I.MAX_COORD)
+        (all_contours (bare_shapes_of I.whole shapes.items)))) }
+    ensures refused { IfErr result (IsRefusalOf I.OverlayInt.own subject.now clip.now) }
+    ensures subject_in_range { OnOk result (LieInRange I.whole I.MIN_COORD I.MAX_COORD subject.now) }
+    ensures clip_in_range { OnOk result (LieInRange I.whole I.MIN_COORD I.MAX_COORD clip.now) }
+{
+    test_range(subject, ShapeType::Subject)?;
+    test_range(clip, ShapeType::Clip)?;
+    Ok(shapes_in_range(alloc, subject, clip, solver, fill_rule, overlay_rule)?)
+}
+
+/// The overlay of contours in range, with sources.
 fn overlay_in_range<I: OverlayInt>(
     alloc: Global,
     subject: &[IntContour<I>],
@@ -136,13 +172,61 @@ fn overlay_in_range<I: OverlayInt>(
     ensures refused { IfErr result (λ fault. IsReason by_snapping
         (contours_of I.whole subject.now) (contours_of I.whole clip.now) fault) }
 {
+    let mut builder = GraphBuilder::new(alloc);
+    let graph = graph_with_sources(alloc, &mut builder, subject, clip, solver, fill_rule, overlay_rule)?;
+    let contours = directed_steps_of_graph(alloc, &graph, overlay_rule)?;
+    Ok(contours)
+}
+
+/// The same in shapes.
+fn shapes_in_range<I: OverlayInt>(
+    alloc: Global,
+    subject: &[IntContour<I>],
+    clip: &[IntContour<I>],
+    solver: &Solver,
+    fill_rule: FillRule,
+    overlay_rule: OverlayRule,
+) -> Result<Vec<SourceShape<I>>, Fault>
+    requires subject { LieInRange I.whole I.MIN_COORD I.MAX_COORD subject.now }
+    requires clip { LieInRange I.whole I.MIN_COORD I.MAX_COORD clip.now }
+    ensures shapes { IfOk result (λ shapes. IsShapeOverlay by_snapping overlay_rule fill_rule
+        (contours_of I.whole subject.now) (contours_of I.whole clip.now) (bare_shapes_of I.whole shapes.items)) }
+    ensures sources { IfOk result (λ shapes. LieNearSources
+        (reach_of_snap (overlay_segments (contours_of I.whole subject.now) (contours_of I.whole clip.now)))
+        (contours_of I.whole subject.now) (contours_of I.whole clip.now)
+        (all_data_contours (data_shapes_of I.whole shapes.items))) }
+    ensures in_range { IfOk result (λ shapes. IsTrue (are_in_range (I.whole I.MIN_COORD) (I.whole I.MAX_COORD)
+        (all_contours (bare_shapes_of I.whole shapes.items)))) }
+    ensures refused { IfErr result (λ fault. IsReason by_snapping
+        (contours_of I.whole subject.now) (contours_of I.whole clip.now) fault) }
+{
+    let mut builder = GraphBuilder::new(alloc);
+    let graph = graph_with_sources(alloc, &mut builder, subject, clip, solver, fill_rule, overlay_rule)?;
+    let shapes = shape_steps_of_graph(alloc, &graph, overlay_rule)?;
+    Ok(shapes)
+}
+
+/// The graph of the overlay of contours in range, whose links name given edges. It borrows from the builder.
+fn graph_with_sources<'a, I: OverlayInt>(
+    alloc: Global,
+    builder: &'a mut GraphBuilder<ShapeCountBoolean, OverlayNode, I, SourceEdge>,
+    subject: &[IntContour<I>],
+    clip: &[IntContour<I>],
+    solver: &Solver,
+    fill_rule: FillRule,
+    overlay_rule: OverlayRule,
+) -> Result<OverlayGraph<'a, I, SourceEdge>, Fault>
+    requires subject { LieInRange I.whole I.MIN_COORD I.MAX_COORD subject.now }
+    requires clip { LieInRange I.whole I.MIN_COORD I.MAX_COORD clip.now }
+    ensures graph { IfOk result (IsSourceGraph overlay_rule fill_rule
+        (contours_of I.whole subject.now) (contours_of I.whole clip.now)) }
+    ensures refused { IfErr result (λ fault. IsReason by_snapping
+        (contours_of I.whole subject.now) (contours_of I.whole clip.now) fault) }
+{
     let mut sides = segments_with_sources(alloc, subject, clip)?;
     let mut splitter = SnapSolver::new(alloc);
     splitter.split_segments(&mut sides, solver)?;
-    let mut builder = GraphBuilder::new(alloc);
-    let graph = builder.build_boolean_overlay(fill_rule, overlay_rule, solver, &sides)?;
-    let contours = directed_steps_of_graph(alloc, &graph, overlay_rule)?;
-    Ok(contours)
+    builder.build_boolean_overlay(fill_rule, overlay_rule, solver, &sides)
 }
 
 /// The segments of `segments_of_contours`, each with the edge that it is.

@@ -1,7 +1,8 @@
 -- Contours whose steps have data: without it they are those of the walks, and each step has the data of the link along which it runs.
-use Rattle.std.proofs.Common.{◌≡◌, refl, sym, ap, ap₂, subst, ◌∙◌, ℕ, zero, suc, get_or, Bool, true, List, [], ◌∷◌, map, flat_map}
+use Rattle.std.proofs.Common.{◌≡◌, refl, sym, ap, ap₂, subst, ◌∙◌, ℕ, zero, suc, get_or, Bool, true, List, [], ◌∷◌, ◌++◌, map, flat_map}
 use Rattle.std.specs.Prelude.{ℤ, Option, Some, None, option_map, slice_get}
 use Rattle.std.specs.List.{AllByRecursion, list_all, zip}
+use Rattle.std.proofs.lemmas.List.{map-append}
 use Rattle.std.proofs.lemmas.Option.{none-some, same_Some, slice_get-map, get_or_from_slice_get}
 use Rattle.overlay_geometry.specs.Points.{Point, Pair, is_ordered}
 use Rattle.overlay_geometry.proofs.laws.lists.Lists.{AllByRecursion-append}
@@ -9,9 +10,10 @@ use Rattle.overlay_base.specs.declared.overlay_core.link.OverlayLink.{OverlayLin
 use Rattle.overlay_build.specs.DirectedWalks.{in_direction, arcs, no_link, IsDirectedWalk, AreDirectedWalks, contour}
 use Rattle.overlay_build.specs.Graph.{Link}
 use Rattle.overlay_build.specs.GraphOf.{link_of, graph_with}
+use Rattle.overlay_shapes.specs.Gathered.{all_walks}
 use Rattle.overlay_contours.specs.Contours.{steps_of}
-use Rattle.overlay_contours.specs.DataContours.{DataStep, points_in, data_steps_of, data_steps}
-use Rattle.overlay_contours.specs.DataContoursOf.{step_along, IsStepsOfWalk, AreStepsOfWalks}
+use Rattle.overlay_contours.specs.DataContours.{DataStep, points_in, data_steps_of, data_steps, all_data_contours}
+use Rattle.overlay_contours.specs.DataContoursOf.{step_along, IsStepsOfWalk, AreStepsOfWalks, AreStepsOfGroups}
 use Rattle.overlay_contours.proofs.laws.GraphContours.{steps_of_directed_walk}
 
 module _ {I D : Type 0} (whole : I → ℤ) (rule : Bool → Bool → Bool) (links : List (OverlayLink I D)) where
@@ -55,6 +57,28 @@ module _ {I D : Type 0} (whole : I → ℤ) (rule : Bool → Bool → Bool) (lin
       let first : IsStepsOfWalk whole rule links w c = cc in
       let rest : AreStepsOfWalks whole rule links walks contours = cc in
       ap₂ (λ (p : List Point) (ps : List (List Point)). p ∷ ps) (points_are w c first) (contours_are walks contours rest)
+
+  -- and so it is of shapes
+  pub shapes_are : (groups : List (List (List ℕ))) (shapes : List (List (List (DataStep D)))) → AreStepsOfGroups whole rule links groups shapes → map (λ contours. map points_in contours) shapes ≡ map (map (contour ways)) groups
+  shapes_are [] [] e = refl
+  shapes_are [] (c ∷ shapes) e = absurd (cc)
+  shapes_are (w ∷ groups) [] e = absurd (cc)
+  shapes_are (w ∷ groups) (c ∷ shapes) e =
+      let first : AreStepsOfWalks whole rule links w c = cc in
+      let rest : AreStepsOfGroups whole rule links groups shapes = cc in
+      ap₂ (λ (p : List (List Point)) (ps : List (List (List Point))). p ∷ ps) (contours_are w c first) (shapes_are groups shapes rest)
+
+  -- all contours of the shapes are all walks
+  pub all_steps : (groups : List (List (List ℕ))) (shapes : List (List (List (DataStep D)))) → AreStepsOfGroups whole rule links groups shapes → AreStepsOfWalks whole rule links (all_walks groups) (all_data_contours shapes)
+  all_steps [] [] e = refl
+  all_steps [] (c ∷ shapes) e = absurd (cc)
+  all_steps (w ∷ groups) [] e = absurd (cc)
+  all_steps (w ∷ groups) (c ∷ shapes) e =
+      let first : AreStepsOfWalks whole rule links w c = cc in
+      let rest : AreStepsOfGroups whole rule links groups shapes = cc in
+      map-append (λ (steps : List (DataStep D)). map (λ s. Some s) steps) c (all_data_contours shapes)
+      ∙ ap₂ (λ (u v : List (List (Option (DataStep D)))). u ++ v) first (all_steps groups shapes rest)
+      ∙ sym (map-append (λ (walk : List ℕ). map look walk) w (all_walks groups))
 
   -- ---- what holds of each link in its direction with its data holds of each step with its data
 
