@@ -1,6 +1,6 @@
 -- The links of a graph lie near what their data names, where the segments do.
 use Rattle.std.proofs.Common.{◌≡◌, ℕ, Bool, IsTrue, List, map}
-use Rattle.std.specs.Prelude.{ℤ, Result, Ok, Err, IfOk}
+use Rattle.std.specs.Prelude.{ℤ}
 use Rattle.std.proofs.lemmas.List.Elements.{All-from_recursion, recursion_from_All}
 use Rattle.overlay_geometry.specs.Points.{Pair}
 use Rattle.overlay_base.specs.EdgeData.{DataSegment, without_data}
@@ -19,8 +19,3 @@ links_name_near {D = D} indexes is_canonical whole nodes links keeps rule names 
     let Named : Pair → D → Type 0 = λ p d. (s : Pair) → IsTrue (names d s) → LiesNear h p s in
     All-from_recursion (λ l. Named (link_of whole l).pair l.edge_data) links
     (held_of_links indexes is_canonical whole nodes links keeps rule Named segments (recursion_from_All (λ r. Named r.pair r.edge_data) segments near) held same)
-
--- two facts on one result
-pub IfOk-both : {T E : Type 0} {P Q R : T → Type 0} (r : Result T E) → ((x : T) → P x → Q x → R x) → IfOk r P → IfOk r Q → IfOk r R
-IfOk-both (Ok x) f p q = f x p q
-IfOk-both (Err e) f p q = tt

@@ -1,6 +1,6 @@
 -- What holds of the ends of each segment with its data holds of those of each link: both lists come from the same kept segments.
 use Rattle.std.proofs.Common.{◌≡◌, ◌∙◌, sym, subst, ℕ, Bool, List, [], ◌∷◌, map, filter}
-use Rattle.std.specs.Prelude.{ℤ}
+use Rattle.std.specs.Prelude.{ℤ, Result, Ok, Err, IfOk}
 use Rattle.std.specs.List.{AllByRecursion}
 use Rattle.std.proofs.lemmas.Simd.{map-map}
 use Rattle.overlay_geometry.specs.Points.{Pair}
@@ -47,3 +47,8 @@ held_of_links {D = D} indexes is_canonical whole nodes links keeps rule Q segmen
     in_step (λ (d : D) (f : Filled). Q f.pair d) (λ l. l.edge_data) (λ l. without_nodes (link_of whole l)) (λ s. s.edge_data) fill links kept
     same (same_kept indexes is_canonical whole nodes links keeps rule (without_data segments) held ∙ kept_are keeps rule segments)
     (AllByRecursion-filter_all (λ s. keeps (fill s).fill) (λ r. Q r.pair r.edge_data) segments all)
+
+-- two facts on one result
+pub IfOk-both : {T E : Type 0} {P Q R : T → Type 0} (r : Result T E) → ((x : T) → P x → Q x → R x) → IfOk r P → IfOk r Q → IfOk r R
+IfOk-both (Ok x) f p q = f x p q
+IfOk-both (Err e) f p q = tt

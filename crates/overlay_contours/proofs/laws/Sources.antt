@@ -15,12 +15,15 @@ use Rattle.overlay_base.specs.declared.overlay_core.link.OverlayLink.{OverlayLin
 use Rattle.overlay_split.specs.Laws.{NameNear}
 use Rattle.overlay_split.specs.Nearness.{LiesNear}
 use Rattle.overlay_split.proofs.laws.nearness.Distances.{LiesNear-itself}
-use Rattle.overlay_build.specs.DirectedWalks.{in_direction}
-use Rattle.overlay_build.specs.GraphOf.{link_of}
+use Rattle.overlay_build.specs.DirectedWalks.{in_direction, arcs, IsDirectedWalk, AreDirectedWalks}
+use Rattle.overlay_build.specs.GraphOf.{link_of, graph_with}
 use Rattle.overlay_contours.specs.Contours.{steps_of, in_order}
 use Rattle.overlay_contours.specs.Refusals.{of_shape}
-use Rattle.overlay_contours.specs.Sources.{given_step, LiesNearSource, IsItsSource}
+use Rattle.overlay_contours.specs.DataContours.{DataStep, data_steps}
+use Rattle.overlay_contours.specs.DataContoursOf.{AreStepsOfWalks}
+use Rattle.overlay_contours.specs.Sources.{given_step, LiesNearSource, IsItsSource, LieNearSources}
 use Rattle.overlay_contours.specs.declared.sources.SourceEdge.{SourceEdge}
+use Rattle.overlay_contours.proofs.laws.DataContours.{along_contours}
 use Rattle.overlay_contours.proofs.laws.Extracts.{in_order_either_way}
 
 -- ---- the steps of a contour from one on
@@ -117,3 +120,14 @@ module _ (subject clip : List (List Point)) where
         let parts = and_parts (is_ordered (link_of whole l).pair) (list_all (λ l. is_ordered (link_of whole l).pair) links) ordered in
         (subst (λ (p : Pair). LiesNearSource h subject clip p l.edge_data) (sym (in_order_either_way (top_value rule (link_of whole l).fill) (link_of whole l) parts.0)) near.0,
         links_near_sources whole rule links parts.1 near.1)
+
+    -- ---- and steps along them
+
+    pub steps_near_sources : {I : Type 0} (whole : I → ℤ) (rule : Bool → Bool → Bool) (links : List (OverlayLink I SourceEdge)) → map (link_of whole) links ≡ (graph_with whole links).links → list_all (λ l. is_ordered (link_of whole l).pair) links ≡ true →
+        All (λ l. LiesNearSource h subject clip (link_of whole l).pair l.edge_data) links → (walks : List (List ℕ)) (contours : List (List (DataStep SourceEdge))) → AreDirectedWalks (arcs rule (map (link_of whole) links)) walks → AreStepsOfWalks whole rule links walks contours →
+        LieNearSources h subject clip contours
+    steps_near_sources whole rule links same ordered near walks contours are steps =
+        All-from_recursion (λ (s : Pair × SourceEdge). LiesNearSource h subject clip (in_order s.0) s.1) (data_steps contours)
+        (along_contours whole rule links (λ p d. LiesNearSource h subject clip (in_order p) d)
+        (links_near_sources whole rule links ordered (recursion_from_All (λ l. LiesNearSource h subject clip (link_of whole l).pair l.edge_data) links near)) same ordered walks contours
+        (recursion_from_All (IsDirectedWalk (arcs rule (map (link_of whole) links))) walks are.closed) steps)
