@@ -32,6 +32,7 @@ pub mod overlay {
     pub use overlay_contours::overlay::{Overlay, overlay_contours, overlay_shapes};
     pub use overlay_contours::rounding::Rounding;
     pub use overlay_contours::sources::{
-        SourceContour, SourceEdge, SourceSegment, overlay_contours_with_sources, segments_with_sources,
+        SourceContour, SourceEdge, SourceSegment, overlay_contours_with_sources,
+        segments_with_sources,
     };
 }

@@ -127,7 +127,10 @@ fn contour_of_walk<I: OverlayInt, D: Copy>(
 }
 
 /// The point at which a link starts in its direction.
-pub(crate) fn start_point<I: OverlayInt, D: Copy>(link: &OverlayLink<I, D>, rule: OverlayRule) -> IntPoint<I>
+pub(crate) fn start_point<I: OverlayInt, D: Copy>(
+    link: &OverlayLink<I, D>,
+    rule: OverlayRule,
+) -> IntPoint<I>
     ensures { point_of I.whole result ≡ (in_direction (holds rule) (link_of I.whole link.now)).pair.a }
 {
     if rule.holds_of_top(link.fill) {

@@ -173,7 +173,15 @@ fn overlay_in_range<I: OverlayInt>(
         (contours_of I.whole subject.now) (contours_of I.whole clip.now) fault) }
 {
     let mut builder = GraphBuilder::new(alloc);
-    let graph = graph_with_sources(alloc, &mut builder, subject, clip, solver, fill_rule, overlay_rule)?;
+    let graph = graph_with_sources(
+        alloc,
+        &mut builder,
+        subject,
+        clip,
+        solver,
+        fill_rule,
+        overlay_rule,
+    )?;
     let contours = directed_steps_of_graph(alloc, &graph, overlay_rule)?;
     Ok(contours)
 }
@@ -201,7 +209,15 @@ fn shapes_in_range<I: OverlayInt>(
         (contours_of I.whole subject.now) (contours_of I.whole clip.now) fault) }
 {
     let mut builder = GraphBuilder::new(alloc);
-    let graph = graph_with_sources(alloc, &mut builder, subject, clip, solver, fill_rule, overlay_rule)?;
+    let graph = graph_with_sources(
+        alloc,
+        &mut builder,
+        subject,
+        clip,
+        solver,
+        fill_rule,
+        overlay_rule,
+    )?;
     let shapes = shape_steps_of_graph(alloc, &graph, overlay_rule)?;
     Ok(shapes)
 }

@@ -94,10 +94,11 @@ module _ {I D : Type 0} (whole : I → ℤ) (rule : Bool → Bool → Bool) (lin
     along_walk (i ∷ walk) (s ∷ steps) e =
         let first : Some s ≡ look i = cc in
         let rest : IsStepsOfWalk whole rule links walk steps = cc in
-        let f = found i s first in
-        (subst (λ (d : D). Q (get_or ways i no_link).pair d) (sym (ap (λ (x : DataStep D). x.edge_data) f.2))
-        (subst (λ (m : Link). Q m.pair f.0.edge_data) (sym (way_of i f.0 f.1)) (link_at links i f.0 all f.1)),
-        along_walk walk steps rest)
+        let f = found i s first in (
+          subst (λ (d : D). Q (get_or ways i no_link).pair d) (sym (ap (λ (x : DataStep D). x.edge_data) f.2))
+              (subst (λ (m : Link). Q m.pair f.0.edge_data) (sym (way_of i f.0 f.1)) (link_at links i f.0 all f.1)),
+          along_walk walk steps rest,
+        )
 
     module _ (same : map (link_of whole) links ≡ (graph_with whole links).links) (ordered : list_all (λ l. is_ordered (link_of whole l).pair) links ≡ true) where
       along_steps : (walk : List ℕ) (steps : List (DataStep D)) → IsDirectedWalk ways walk → IsStepsOfWalk whole rule links walk steps → AllByRecursion (λ s. Q s.0 s.1) (data_steps_of steps)

@@ -117,9 +117,10 @@ module _ (subject clip : List (List Point)) where
         AllByRecursion (λ l. LiesNearSource h subject clip (in_order (in_direction rule (link_of whole l)).pair) l.edge_data) links
     links_near_sources whole rule [] ordered near = tt
     links_near_sources whole rule (l ∷ links) ordered near =
-        let parts = and_parts (is_ordered (link_of whole l).pair) (list_all (λ l. is_ordered (link_of whole l).pair) links) ordered in
-        (subst (λ (p : Pair). LiesNearSource h subject clip p l.edge_data) (sym (in_order_either_way (top_value rule (link_of whole l).fill) (link_of whole l) parts.0)) near.0,
-        links_near_sources whole rule links parts.1 near.1)
+        let parts = and_parts (is_ordered (link_of whole l).pair) (list_all (λ l. is_ordered (link_of whole l).pair) links) ordered in (
+          subst (λ (p : Pair). LiesNearSource h subject clip p l.edge_data) (sym (in_order_either_way (top_value rule (link_of whole l).fill) (link_of whole l) parts.0)) near.0,
+          links_near_sources whole rule links parts.1 near.1,
+        )
 
     -- ---- and steps along them
 

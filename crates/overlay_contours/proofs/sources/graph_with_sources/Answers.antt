@@ -81,18 +81,18 @@ returns-clause-graph g c =
     {R = λ built. IsSourceGraph rule fill_rule subject clip built}
     c.build_boolean_overlay.result
     (λ built held carried.
-        let same = graph_with_kept indexes_of is_canonical_node whole built.nodes.now built.links.now keeps fill_rule segments held in
-        record {
-          segments = segments;
-          arrangement = subst (λ (l : List WholeSegment). IsArrangement by_snapping l segments 1 (reach_of_snap l)) given_is made;
-          arranged = e.arranged;
-          polygons = polygons_from segment_of (λ s. refl) items;
-          graph_is = same;
-          sides = sides_of whole by_snapping fill_rule (holds rule) (segments_of given) segments 1 halves built.links.now made c.in_ok-sides.ensures.balanced same (rw c.deref.ensures.value at c.build_boolean_overlay.ensures.balanced);
-          near =
-              subst (λ (l : List WholeSegment). All (λ k. LiesNearSource (reach_of_snap l) subject clip (link_of whole k).pair k.edge_data) built.links.now) given_is
-              (All-from_recursion (λ k. LiesNearSource halves subject clip (link_of whole k).pair k.edge_data) built.links.now
-              (held_of_links indexes_of is_canonical_node whole built.nodes.now built.links.now keeps fill_rule (λ (p : Pair) (d : SourceEdge). LiesNearSource halves subject clip p d) (data_segments_of items) near (rw (← segments_of-bare items) held) carried));
-        })
+    let same = graph_with_kept indexes_of is_canonical_node whole built.nodes.now built.links.now keeps fill_rule segments held in
+    record {
+      segments = segments;
+      arrangement = subst (λ (l : List WholeSegment). IsArrangement by_snapping l segments 1 (reach_of_snap l)) given_is made;
+      arranged = e.arranged;
+      polygons = polygons_from segment_of (λ s. refl) items;
+      graph_is = same;
+      sides = sides_of whole by_snapping fill_rule (holds rule) (segments_of given) segments 1 halves built.links.now made c.in_ok-sides.ensures.balanced same (rw c.deref.ensures.value at c.build_boolean_overlay.ensures.balanced);
+      near =
+          subst (λ (l : List WholeSegment). All (λ k. LiesNearSource (reach_of_snap l) subject clip (link_of whole k).pair k.edge_data) built.links.now) given_is
+          (All-from_recursion (λ k. LiesNearSource halves subject clip (link_of whole k).pair k.edge_data) built.links.now
+          (held_of_links indexes_of is_canonical_node whole built.nodes.now built.links.now keeps fill_rule (λ (p : Pair) (d : SourceEdge). LiesNearSource halves subject clip p d) (data_segments_of items) near (rw (← segments_of-bare items) held) carried));
+    })
     (rw c.deref.ensures.value at c.build_boolean_overlay.ensures.graph)
     (rw c.deref.ensures.value at c.build_boolean_overlay.ensures.edge_data)

@@ -29,14 +29,15 @@ loop-edge-preserved g c =
     let one_on : suc k ≡ k + 1 = omega arith in
     let next = drop_at later k point c.loop-edge-test.true c.index-later-edge.is ∙ ap (λ n. point ∷ drop n later) one_on in
     let ahead : steps_from (point_of whole from) (points_of whole (drop k later) ++ last) ≡ s ∷ rest = ap (λ l. steps_from (point_of whole from) (points_of whole l ++ last)) next in
-    let dropped : drop k all ≡ s ∷ rest = c.loop-edge.invariant.1 ∙ ahead in
-    (ap (λ (l : List WholeSegment). l ++ step_segments shape_type rest) c.in_ok-push_step.ensures.sides
-    ∙ append_assoc before (step_segments shape_type (s ∷ [])) (step_segments shape_type rest)
-    ∙ ap (λ (l : List WholeSegment). before ++ l) (sym (step_segments-append shape_type (s ∷ []) rest) ∙ ap (step_segments shape_type) (sym ahead))
-    ∙ c.loop-edge.invariant.0,
-    drop_next all k s rest dropped,
-    λ subject clip named given.
-        c.in_ok-push_step.ensures.sources subject clip (given_from subject clip _ (point_of whole first ∷ points_of whole later) s named (got_first all k s rest dropped)) (c.loop-edge.invariant.2 subject clip named given))
+    let dropped : drop k all ≡ s ∷ rest = c.loop-edge.invariant.1 ∙ ahead in (
+      ap (λ (l : List WholeSegment). l ++ step_segments shape_type rest) c.in_ok-push_step.ensures.sides
+          ∙ append_assoc before (step_segments shape_type (s ∷ [])) (step_segments shape_type rest)
+          ∙ ap (λ (l : List WholeSegment). before ++ l) (sym (step_segments-append shape_type (s ∷ []) rest) ∙ ap (step_segments shape_type) (sym ahead))
+          ∙ c.loop-edge.invariant.0,
+      drop_next all k s rest dropped,
+      λ subject clip named given.
+          c.in_ok-push_step.ensures.sources subject clip (given_from subject clip _ (point_of whole first ∷ points_of whole later) s named (got_first all k s rest dropped)) (c.loop-edge.invariant.2 subject clip named given),
+    )
 
 pub returns-clause-sources : goal.returns-clause-sources
 returns-clause-sources g c =
@@ -54,6 +55,6 @@ returns-clause-sources g c =
     let points_are : points_of whole c.args.contour.now ≡ point_of whole first ∷ points_of whole later = ap (points_of whole) c.in-Some.ensures.cases.0 in
     on_ok_weaker c.push_step-2.result
     (λ sources subject clip named given.
-        let known = named ∙ ap (λ p. Some p) points_are in
-        sources subject clip (given_from subject clip _ (point_of whole first ∷ points_of whole later) s known at) (c.loop-edge.invariant.2 subject clip known given))
+    let known = named ∙ ap (λ p. Some p) points_are in
+    sources subject clip (given_from subject clip _ (point_of whole first ∷ points_of whole later) s known at) (c.loop-edge.invariant.2 subject clip known given))
     c.push_step-2.ensures.sources
