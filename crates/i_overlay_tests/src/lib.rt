@@ -17,3 +17,5 @@ mod meetings;
 mod overlay;
 #[cfg(test)]
 mod provenance;
+#[cfg(test)]
+mod sources;

@@ -5,6 +5,9 @@ pub mod Counting
 pub mod Extracts
 pub mod DirectedWindings
 pub mod GraphContours
+pub mod DataContours
+pub mod NamedLinks
+pub mod Sources
 pub mod Splittings
 pub mod Overlays
 pub mod Parities

@@ -71,22 +71,22 @@ StayProper whole given contours = AreProper (contours_of whole given) → ArePro
 -- ---- contours of a graph
 
 -- The edges of the contours, as they run, are the links of a graph in the directions that a rule gives them.
-abbrev pub RunAlongLinks : {I D : Type 0} {w : _} {o : _} {e : _} {p : _} → OverlayRule → OverlayGraph I D w o e p → List (Vec (IntPoint I) Global) → Type 0
-RunAlongLinks {w = w} rule graph contours =
-    (test : Pair → Bool) → count_by test (directed_edges (contours_of w.whole contours)) ≡ count_by test (map (λ l. l.pair) (arcs_by rule graph))
+abbrev pub RunAlongLinks : {I D : Type 0} {w : _} {o : _} {e : _} {p : _} → OverlayRule → OverlayGraph I D w o e p → List (List Point) → Type 0
+RunAlongLinks rule graph contours =
+    (test : Pair → Bool) → count_by test (directed_edges contours) ≡ count_by test (map (λ l. l.pair) (arcs_by rule graph))
 
 -- So they wind around every place as those links.
-abbrev pub WindAsLinks : {I D : Type 0} {w : _} {o : _} {e : _} {p : _} → OverlayRule → OverlayGraph I D w o e p → List (Vec (IntPoint I) Global) → Type 0
-WindAsLinks {w = w} rule graph contours = (p : RationalPoint) → overlay_winding (contours_of w.whole contours) [] p ≡ winding_below (links_by rule graph) p
+abbrev pub WindAsLinks : {I D : Type 0} {w : _} {o : _} {e : _} {p : _} → OverlayRule → OverlayGraph I D w o e p → List (List Point) → Type 0
+WindAsLinks rule graph contours = (p : RationalPoint) → overlay_winding contours [] p ≡ winding_below (links_by rule graph) p
 
 -- Their edges, each with its ends in order, are the links of the graph.
-abbrev pub HaveLinksAsEdges : {I D : Type 0} {w : _} {o : _} {e : _} {p : _} → OverlayGraph I D w o e p → List (Vec (IntPoint I) Global) → Type 0
+abbrev pub HaveLinksAsEdges : {I D : Type 0} {w : _} {o : _} {e : _} {p : _} → OverlayGraph I D w o e p → List (List Point) → Type 0
 HaveLinksAsEdges {w = w} graph contours =
-    (test : Pair → Bool) → count_by test (edges (contours_of w.whole contours)) ≡ count_by test (pairs_of_links w.whole (links_of graph))
+    (test : Pair → Bool) → count_by test (edges contours) ≡ count_by test (pairs_of_links w.whole (links_of graph))
 
 -- They paint the places that the graph encloses.
-abbrev pub PaintWhatIsEnclosed : {I D : Type 0} {w : _} {o : _} {e : _} {p : _} → OverlayGraph I D w o e p → List (Vec (IntPoint I) Global) → Type 0
-PaintWhatIsEnclosed {w = w} graph contours = (p : RationalPoint) → is_painted (contours_of w.whole contours) p ≡ encloses (whole_graph graph) p
+abbrev pub PaintWhatIsEnclosed : {I D : Type 0} {w : _} {o : _} {e : _} {p : _} → OverlayGraph I D w o e p → List (List Point) → Type 0
+PaintWhatIsEnclosed graph contours = (p : RationalPoint) → is_painted contours p ≡ encloses (whole_graph graph) p
 
 -- ---- overlays
 

@@ -1,5 +1,7 @@
 pub mod Contours
 pub mod ContoursOf
+pub mod DataContours
+pub mod DataContoursOf
 pub mod ContourSegments
 pub mod Corners
 pub mod Areas
@@ -13,6 +15,7 @@ pub mod ShapesOf
 pub mod Beyond
 pub mod CornerShapes
 pub mod Refusals
+pub mod Sources
 pub mod ContoursIn
 pub mod Arrangements
 -- what only contracts of private functions use

@@ -41,10 +41,10 @@ pub fn directed_contours_of_graph<I: OverlayInt, D: Copy>(
     rule: OverlayRule,
 ) -> Result<Vec<IntContour<I>>, Fault>
     requires { IsFlow (arcs (holds rule) (map (link_of I.whole) (links_of graph.now))) }
-    ensures directed { IfOk result (λ contours. RunAlongLinks rule graph.now contours.items) }
-    ensures winds { IfOk result (λ contours. WindAsLinks rule graph.now contours.items) }
-    ensures edges { IfOk result (λ contours. HaveLinksAsEdges graph.now contours.items) }
-    ensures painted { IfOk result (λ contours. PaintWhatIsEnclosed graph.now contours.items) }
+    ensures directed { IfOk result (λ contours. RunAlongLinks rule graph.now (contours_of I.whole contours.items)) }
+    ensures winds { IfOk result (λ contours. WindAsLinks rule graph.now (contours_of I.whole contours.items)) }
+    ensures edges { IfOk result (λ contours. HaveLinksAsEdges graph.now (contours_of I.whole contours.items)) }
+    ensures painted { IfOk result (λ contours. PaintWhatIsEnclosed graph.now (contours_of I.whole contours.items)) }
     ensures proper { IfOk result (λ contours. AreProper (contours_of I.whole contours.items)) }
     ensures fault { IfErr result (λ fault. fault ≡ Memory) }
 {
@@ -127,7 +127,10 @@ fn contour_of_walk<I: OverlayInt, D: Copy>(
 }
 
 /// The point at which a link starts in its direction.
-fn start_point<I: OverlayInt, D: Copy>(link: &OverlayLink<I, D>, rule: OverlayRule) -> IntPoint<I>
+pub(crate) fn start_point<I: OverlayInt, D: Copy>(
+    link: &OverlayLink<I, D>,
+    rule: OverlayRule,
+) -> IntPoint<I>
     ensures { point_of I.whole result ≡ (in_direction (holds rule) (link_of I.whole link.now)).pair.a }
 {
     if rule.holds_of_top(link.fill) {

@@ -124,7 +124,7 @@ pub fn overlay_shapes<I: OverlayInt>(
 }
 
 /// Returns the first point of a shape's contours that is out of range.
-fn test_range<I: OverlayInt>(
+pub(crate) fn test_range<I: OverlayInt>(
     contours: &[IntContour<I>],
     shape_type: ShapeType,
 ) -> Result<(), ContourFault>

@@ -15,9 +15,9 @@ use Rattle.overlay_build.specs.DirectedWalks.{in_direction, arcs, no_link, IsDir
 use Rattle.overlay_build.specs.Graph.{Filled, Link}
 use Rattle.overlay_build.specs.GraphOf.{link_of, kept_of, graph_with, pairs_of_links}
 use Rattle.overlay_build.specs.Regions.{encloses}
-use Rattle.overlay_contours.specs.Contours.{directed_edges, edges, AreProper, is_painted}
+use Rattle.overlay_contours.specs.Contours.{steps_of, directed_edges, edges, AreProper, is_painted}
 use Rattle.overlay_contours.specs.ContourSegments.{overlay_winding}
-use Rattle.overlay_contours.proofs.laws.Extracts.{mapped_at, ways_of, directed_count, edges_count, contours_are_proper}
+use Rattle.overlay_contours.proofs.laws.Extracts.{mapped_at, ways_of, steps_of_walk, directed_count, edges_count, contours_are_proper}
 use Rattle.overlay_contours.proofs.laws.DirectedWindings.{winds_as_links}
 
 -- the links of a graph of code, without directions
@@ -39,6 +39,13 @@ module _ {I D : Type 0} (whole : I → ℤ) (rule : Bool → Bool → Bool) (lin
 
   pub walks_within : (walk : List ℕ) → IsDirectedWalk ways walk → All (λ i. i < length links) walk
   walks_within walk w = subst (λ (n : ℕ). All (λ i. i < n) walk) as_many w.1.1.within
+
+  -- the steps of the contour of a walk are its links
+  pub steps_of_directed_walk : map (link_of whole) links ≡ (graph_with whole links).links → list_all (λ l. is_ordered (link_of whole l).pair) links ≡ true → (walk : List ℕ) → IsDirectedWalk ways walk →
+      steps_of (contour ways walk) ≡ map (λ i. (get_or ways i no_link).pair) walk
+  steps_of_directed_walk same ordered walk w =
+      subst (λ (ls : List Link). steps_of (contour (arcs rule ls) walk) ≡ map (λ i. (get_or (arcs rule ls) i no_link).pair) walk) (sym same)
+      (steps_of_walk rule (kept_of whole links) (list_all-map (λ (f : Filled). is_ordered f.pair) _ links ∙ ordered) walk (subst (λ (ls : List Link). IsDirectedWalk (arcs rule ls) walk) same w))
 
   module _ (same : map (link_of whole) links ≡ (graph_with whole links).links) (ordered : list_all (λ l. is_ordered (link_of whole l).pair) links ≡ true) (walks : List (List ℕ)) (are : AreDirectedWalks ways walks) where
     in_order : list_all (λ f. is_ordered f.pair) (kept_of whole links) ≡ true

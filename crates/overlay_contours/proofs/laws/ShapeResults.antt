@@ -80,7 +80,7 @@ module _ {I D : Type 0} (least greatest : ℤ) (splitting : Splitting) (rule : O
       (shape_overlay splitting rule fill_rule subject clip segments passes halves (kept_of whole links) groups in_order a same_graph sides here.0 here.1 are_walks)
 
   module _ (inside : IsTrue (is_arranged least greatest segments)) where
-    all_in_range : are_in_range least greatest (all_contours (map (map (contour (arcs (holds rule) (map (link_of whole) links)))) groups)) ≡ true
+    pub all_in_range : are_in_range least greatest (all_contours (map (map (contour (arcs (holds rule) (map (link_of whole) links)))) groups)) ≡ true
     all_in_range =
         subst (λ (ls : List Link). are_in_range least greatest (all_contours (map (map (contour (arcs (holds rule) ls))) groups)) ≡ true) (sym same)
         (shapes_in_range splitting rule fill_rule subject clip segments passes halves (kept_of whole links) groups in_order a same_graph sides here.0 here.1 are_walks least greatest inside)

@@ -16,7 +16,8 @@ use Rattle.overlay_base.specs.EdgeData.{without_data}
 use Rattle.overlay_base.proofs.laws.joins.Views.{segments_of-bare}
 use Rattle.overlay_split.specs.Nearness.{reach_of_run}
 use Rattle.overlay_build.proofs.laws.graphs.BuiltGraphs.{graph_with_kept}
-use Rattle.i_overlay.proofs.laws.NamedLinks.{links_name_near, IfOk-both}
+use Rattle.overlay_contours.proofs.laws.NamedLinks.{IfOk-both}
+use Rattle.i_overlay.proofs.laws.NamedLinks.{links_name_near}
 use Rattle.i_overlay.proofs.laws.FarRegions.{overlay_region}
 use Rattle.i_overlay.proofs.laws.Overlays.{data_of_links, none_arranged, split_from, overlay_from, refused_build}
 use Rattle.i_overlay.proofs.overlay.split_and_build_overlay.Goals as goal
