@@ -1,5 +1,5 @@
 -- What an engine is given of contours, and what it keeps of their overlay.
-use Rattle.std.specs.Prelude.{◌≡◌, ◌≢◌, ℕ, ◌≤◌, ◌==◌, if◌then◌else◌, Bool, IsTrue, IsFalse, List, [], map, length}
+use Rattle.std.specs.Prelude.{◌≡◌, ℕ, ◌≤◌, ◌==◌, if◌then◌else◌, Bool, IsTrue, IsFalse, List, [], map, length}
 use Rattle.std.specs.List.{list_all}
 use Rattle.overlay_geometry.specs.Points.{Point}
 use Rattle.overlay_geometry.specs.Coordinates.{least_coordinate, greatest_coordinate, is_point_in_range}
@@ -77,7 +77,7 @@ pub record KeepsRules (settings : SettingsRecord) (rules : List OverlayRule) (be
   pub are : ArePolygonOverlays (polygon_splitting settings) (fill_rule_of settings.fill_rule) (contours_in before Subject) (contours_in before Clip) rules overlays
   pub counts : after.shape_lengths.items ≡ map length overlays
   pub kept : AreLaid (all_contours overlays) after.contour_lengths.items (map point_by after.contour_points.items)
-  pub report : rules ≢ [] → AreOfSplitting (polygon_splitting settings) (contours_in before Subject) (contours_in before Clip) (passes_of after.polygons) (reach_of after.polygons)
+  pub report : AreOfSplitting (polygon_splitting settings) (contours_in before Subject) (contours_in before Clip) (passes_of after.polygons) (reach_of after.polygons)
 
 -- the code of where a point lies with respect to the contours of a shape, by the code of a fill rule; 4 where it is out of range
 abbrev pub code_of : PointLocation → ℕ

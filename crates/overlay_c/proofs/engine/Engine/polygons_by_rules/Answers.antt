@@ -1,4 +1,4 @@
-use Rattle.std.proofs.Common.{ap, ◌∙◌, ◌≡◌, ◌≢◌, sym, subst, [], List, length, map}
+use Rattle.std.proofs.Common.{ap, ◌∙◌, ◌≡◌, sym, subst, List, length, map}
 use Rattle.overlay_base.specs.declared.overlay_core.overlay_rule.OverlayRule.{OverlayRule}
 use Rattle.overlay_contours.specs.ContoursOf.{contours_of_each}
 use Rattle.overlay_contours.specs.Shapes.{all_contours}
@@ -24,6 +24,6 @@ returns-clause-kept c =
         are = rw c.deref.ensures.value at are;
         counts = kept.counts ∙ ap (map length) e;
         kept = same_laid _ _ _ _ (ap all_contours e) kept.lengths kept.points;
-        report = λ some. same_report _ _ _ _ _ _ _ _ es ef set.subject set.clip _ _ (told.splitting (rw c.deref.ensures.value some));
+        report = same_report _ _ _ _ _ _ _ _ es ef set.subject set.clip _ _ told.splitting;
       },
     )
