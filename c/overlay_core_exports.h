@@ -190,6 +190,23 @@ uint8_t overlay_c_shapes(overlay_core_handle *handle, const overlay_core_setting
    Returns as overlay_c_polygons does, under the same settings. The contours that were added stay. */
 uint8_t overlay_c_polygons_by_rules(overlay_core_handle *handle, const overlay_core_settings *settings, const uint8_t *rules, size_t rules_len);
 
+/* Keeps the arrangement of the contours that were added, split and swept once, from which
+   overlay_c_arranged_contours and overlay_c_arranged_shapes make overlays by any rules. Returns as
+   overlay_c_polygons does, under the same settings; what was kept before stays where it does not return 0. The
+   contours that were added stay, and the arrangement stays when contours are added or dropped. overlay_c_report
+   does not speak of it. */
+uint8_t overlay_c_arrange(overlay_core_handle *handle, const overlay_core_settings *settings);
+
+/* The overlay by a rule of the contours that are arranged, as overlay_c_polygons keeps it; where only corners are
+   wanted, without the points at which a contour goes straight on. Returns 0 where it is done, 1 where memory was
+   refused, and 3 where no contours were arranged. The arrangement stays. */
+uint8_t overlay_c_arranged_contours(overlay_core_handle *handle, uint8_t rule, bool corners);
+
+/* The overlay by a rule of the contours that are arranged, in shapes, as overlay_c_shapes keeps it; where only
+   corners are wanted, without the points at which a contour goes straight on. Returns as
+   overlay_c_arranged_contours does. The arrangement stays. */
+uint8_t overlay_c_arranged_shapes(overlay_core_handle *handle, uint8_t rule, bool corners);
+
 /* Where a point lies with respect to the contours of a shape that were added, by the code of a fill rule: 0 for
    inside, 1 for on the boundary, which is on a step of a contour, 2 for outside, and 4 where the point is out of
    range. */

@@ -112,6 +112,9 @@ extern "C" {
     fn overlay_c_polygons(handle: &mut Handle, settings: &Settings, rule: u8) -> u8;
     fn overlay_c_shapes(handle: &mut Handle, settings: &Settings, rule: u8) -> u8;
     fn overlay_c_polygons_by_rules(handle: &mut Handle, settings: &Settings, rules: *const u8, rules_len: usize) -> u8;
+    fn overlay_c_arrange(handle: &mut Handle, settings: &Settings) -> u8;
+    fn overlay_c_arranged_contours(handle: &mut Handle, rule: u8, corners: bool) -> u8;
+    fn overlay_c_arranged_shapes(handle: &mut Handle, rule: u8, corners: bool) -> u8;
     fn overlay_c_locate(handle: &mut Handle, point: &IntPoint, shape: u8, fill: u8) -> u8;
     fn overlay_c_report(handle: &mut Handle) -> Report;
     fn overlay_c_clear(handle: &mut Handle);
@@ -244,6 +247,24 @@ impl Engine {
     pub fn polygons_by_rules(&mut self, settings: &Settings, rules: &[u8]) -> u8 {
         // SAFETY: the handle is full. Nothing is required of codes.
         unsafe { overlay_c_polygons_by_rules(&mut self.handle, settings, rules.as_ptr(), rules.len()) }
+    }
+
+    /// Arranges the contours that were added. Returns a status.
+    pub fn arrange(&mut self, settings: &Settings) -> u8 {
+        // SAFETY: the handle is full. Nothing is required of codes.
+        unsafe { overlay_c_arrange(&mut self.handle, settings) }
+    }
+
+    /// Overlays the contours that are arranged. Returns a status.
+    pub fn arranged_contours(&mut self, rule: u8, corners: bool) -> u8 {
+        // SAFETY: the handle is full. Nothing is required of codes.
+        unsafe { overlay_c_arranged_contours(&mut self.handle, rule, corners) }
+    }
+
+    /// Overlays the contours that are arranged, in shapes. Returns a status.
+    pub fn arranged_shapes(&mut self, rule: u8, corners: bool) -> u8 {
+        // SAFETY: the handle is full. Nothing is required of codes.
+        unsafe { overlay_c_arranged_shapes(&mut self.handle, rule, corners) }
     }
 
     /// The code of where a point lies with respect to the contours of a shape.

@@ -5,6 +5,7 @@
 #[allow(unsafe_code)]
 mod ffi;
 
+mod arrangement;
 mod clip;
 mod cross;
 mod error;
@@ -18,6 +19,7 @@ mod rules;
 mod segment;
 mod solver;
 
+pub use arrangement::Arrangement;
 pub use cross::{cross, CollinearMask, CrossResult, CrossType};
 pub use error::{Axis, Error, Fault, RangeFault, SegmentFault};
 pub use float::{area, area_of_shape};

@@ -31,7 +31,7 @@ pub struct Change {
 /// # Ok::<(), i_overlay_core::Error>(())
 /// ```
 pub struct Overlay {
-    engine: ffi::Engine,
+    pub(crate) engine: ffi::Engine,
     /// What segments are split with.
     pub(crate) width: Engine,
     /// How overlays of contours have crossings rounded.
@@ -279,7 +279,7 @@ impl Overlay {
     }
 
     /// The overlays of the contours that were added by several rules, each as `overlay` returns it, in the order of the
-    /// rules. The contours are split once, and swept once for each rule.
+    /// rules. The contours are split and swept once.
     ///
     /// ```
     /// use i_overlay_core::{square, FillRule, Overlay, OverlayRule};
@@ -713,7 +713,7 @@ impl Overlay {
 
 impl Overlay {
     /// What a call is set to.
-    fn settings(&self, solver: Solver, fill_rule: FillRule) -> ffi::Settings {
+    pub(crate) fn settings(&self, solver: Solver, fill_rule: FillRule) -> ffi::Settings {
         ffi::Settings {
             start: solver.precision.start,
             progression: solver.precision.progression,

@@ -12,6 +12,8 @@ use Rattle.overlay_base.specs.Balance.{IsBalanced}
 use Rattle.i_overlay.specs.FarRegions.{EnclosesOverlay}
 use Rattle.i_overlay.specs.Headline.{IsSplit, IsOverlay}
 use Rattle.overlay_geometry.specs.Points.{Point}
+use Rattle.overlay_contours.specs.ArrangementsOf.{IsArrangementOf}
+use Rattle.overlay_contours.specs.declared.arrangement.Arrangement.{Arrangement}
 use Rattle.overlay_contours.specs.Beyond.{IsOverlayBeyond, IsShapeOverlayBeyond, AreOfSplitting}
 use Rattle.overlay_contours.specs.Polygons.{IsPolygonOverlay, ArePolygonOverlays}
 use Rattle.overlay_contours.specs.ContourSegments.{overlay_segments}
@@ -85,6 +87,11 @@ module _ (s t : Splitting) (f g : FillRule) (a b c d : List (List Point)) (es : 
   pub same_report : (passes halves : ℕ) → AreOfSplitting s a c passes halves → AreOfSplitting t b d passes halves
   same_report passes halves o =
       subst (λ u. AreOfSplitting u b d passes halves) es (subst (λ u. AreOfSplitting s u d passes halves) ea (subst (λ u. AreOfSplitting s a u passes halves) ec o))
+
+  pub same_arrangement : {I : Type 0} {w : _} {o : _} {e : _} {p : _} (arrangement : Arrangement I w o e p) → IsArrangementOf s f a c arrangement → IsArrangementOf t g b d arrangement
+  same_arrangement arrangement o =
+      subst (λ u. IsArrangementOf u g b d arrangement) es
+      (subst (λ u. IsArrangementOf s u b d arrangement) ef (subst (λ u. IsArrangementOf s f u d arrangement) ea (subst (λ u. IsArrangementOf s f a u arrangement) ec o)))
 
   pub same_bound : (passes halves : ℕ) → halves ≤ most_halves s passes → halves ≤ most_halves t passes
   same_bound passes halves le = subst (λ u. halves ≤ most_halves u passes) es le

@@ -1,5 +1,5 @@
 -- What a call through a handle makes of the engine behind it.
-use Rattle.std.specs.Prelude.{◌≡◌, ◌++◌, ◌∷◌, [], ℕ, Bool, false, List, IsTrue, IsFalse, IfSome, map}
+use Rattle.std.specs.Prelude.{◌≡◌, ◌++◌, ◌∷◌, [], ℕ, Bool, false, List, IsTrue, IsFalse, None, IfSome, map}
 use Rattle.std.specs.List.{AllZip}
 use Rattle.overlay_base.specs.declared.overlay_core.overlay_rule.OverlayRule.{OverlayRule}
 use Rattle.overlay_base.specs.declared.segm.shape_type.ShapeType.{ShapeType}
@@ -7,6 +7,7 @@ use Rattle.overlay_base.specs.declared.segm.shape_type.ShapeType.TheVariants.{Su
 use Rattle.overlay_base.specs.EdgeData.{DataSegment}
 use Rattle.overlay_base.specs.Segments.{WholeSegment}
 use Rattle.overlay_contours.specs.Refusals.{CountsLeaveRange}
+use Rattle.overlay_c.specs.Arranged.{KeepsArrangedContours, KeepsArrangedShapes}
 use Rattle.overlay_c.specs.Contours.{point_by, contours_in, polygon_splitting, KeepsPolygons, KeepsShapes, KeepsRules}
 use Rattle.overlay_c.specs.Kept.{are_usable, are_lines_usable}
 use Rattle.overlay_c.specs.Records.{line_asked_by, names_narrow, IsRuleOf}
@@ -78,6 +79,17 @@ KeepsShapesBy settings code before after = (rule : OverlayRule) × IsRuleOf code
 -- It keeps the overlays of its contours by the rules of some codes, one for each code in order.
 abbrev pub KeepsRulesBy : SettingsRecord → List ℕ → Engine → Engine → Type 0
 KeepsRulesBy settings codes before after = (rules : List OverlayRule) × AllZip IsRuleOf codes rules × KeepsRules settings rules before after
+
+-- It keeps the overlay by the rule of a code of whatever contours are arranged, as contours or in shapes.
+abbrev pub KeepsArrangedContoursBy : ℕ → Bool → Engine → Engine → Type 0
+KeepsArrangedContoursBy code corners before after = (rule : OverlayRule) × IsRuleOf code rule × KeepsArrangedContours rule corners before after
+
+abbrev pub KeepsArrangedShapesBy : ℕ → Bool → Engine → Engine → Type 0
+KeepsArrangedShapesBy code corners before after = (rule : OverlayRule) × IsRuleOf code rule × KeepsArrangedShapes rule corners before after
+
+-- No contours are arranged.
+abbrev pub HasNoArrangement : Engine → Type 0
+HasNoArrangement engine = engine.arrangement ≡ None
 
 abbrev pub PolygonCountsLeaveRange : SettingsRecord → Engine → Type 0
 PolygonCountsLeaveRange settings engine = CountsLeaveRange (polygon_splitting settings) (contours_in engine Subject) (contours_in engine Clip)

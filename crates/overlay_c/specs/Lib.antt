@@ -1,5 +1,6 @@
 pub mod Calls
 pub mod Contours
+pub mod Arranged
 pub mod Crosses
 pub mod Kept
 pub mod Owned

@@ -1,5 +1,5 @@
 // The engine behind a handle: what splits and builds, and what overlays contours.
-ghost use Rattle.std.specs.Prelude.{◌≡◌, ◌∷◌, ◌++◌, [], false, IsTrue, IsFalse, OnOk, OnErr, IfErr, map, length};
+ghost use Rattle.std.specs.Prelude.{◌≡◌, ◌∷◌, ◌++◌, [], false, None, IsTrue, IsFalse, OnOk, OnErr, IfErr, map, length};
 ghost use Rattle.overlay_c.specs.Calls.{KeepsRulesBy, MaySplit, MayNotSplit, MaySplitLines, MayNotSplitLines};
 ghost use Rattle.overlay_c.specs.Status.{OnUnusable, OnTooLarge};
 
@@ -17,6 +17,7 @@ use overlay_base::overlay_core::clip_rule::ClipRule;
 use overlay_base::overlay_core::fill_rule::FillRule;
 use overlay_base::overlay_core::overlay_rule::OverlayRule;
 use overlay_base::segm::shape_type::ShapeType;
+use overlay_contours::arrangement::Arrangement;
 use overlay_contours::overlay::Overlay;
 use overlay_geometry::geom::point::IntPoint;
 use overlay_geometry::num::OverlayInt;
@@ -35,6 +36,8 @@ pub struct Engine {
     pub polygons: Overlay<i32>,
     /// The points of a contour that is being added.
     pub points: Vec<IntPoint<i32>>,
+    /// The last arrangement of the contours that were given.
+    pub arrangement: Option<Arrangement<i32>>,
     /// How many points each contour of the last overlay of contours has.
     pub contour_lengths: Vec<usize>,
     /// The points of the first such contour, then those of the next, and so on.
@@ -55,6 +58,7 @@ impl Engine {
     ghost use Rattle.overlay_contours.specs.Refusals.{other_shape};
     ghost use Rattle.overlay_c.specs.Contours.{point_by, are_in_range, location_code, contours_in, IsPointRefusal, IsPolygonRefusal};
     ghost use Rattle.overlay_c.specs.Contours.{KeepsPolygons, KeepsShapes, SameSplit, SameReport};
+    ghost use Rattle.overlay_c.specs.Arranged.{KeepsArrangement, KeepsArrangedContours, KeepsArrangedShapes, IsArrangedRefusal, SameArrangement};
 
     /// An engine, which takes no memory yet.
     pub fn new(alloc: Global, snap_limit: u32) -> Engine
@@ -64,6 +68,7 @@ impl Engine {
         ensures clip { contours_in result Clip ≡ [] }
         ensures passes { passes_of result.polygons ≡ 0 }
         ensures reach { reach_of result.polygons ≡ 0 }
+        ensures arrangement { result.arrangement ≡ None }
     {
         Engine {
             wide: Core::new(alloc, snap_limit),
@@ -71,6 +76,7 @@ impl Engine {
             is_narrow: false,
             polygons: Overlay::new(alloc),
             points: Vec::new(alloc),
+            arrangement: None,
             contour_lengths: Vec::new(alloc),
             contour_points: Vec::new(alloc),
             shape_lengths: Vec::new(alloc),
@@ -420,6 +426,76 @@ impl Engine {
         let overlays = self.polygons.overlay_by_rules(&solver, fill_rule, &rules)?;
         keep_shapes(
             &overlays,
+            &mut self.shape_lengths,
+            &mut self.contour_lengths,
+            &mut self.contour_points,
+        )?;
+        Ok(())
+    }
+
+    /// Keeps the arrangement of the contours that were added. Those stay, and after a refusal what was kept before.
+    pub fn arrange(&mut self, settings: &SettingsRecord) -> Result<(), Refusal>
+        ensures kept { OnOk result (KeepsArrangement settings.now self.old self.new) }
+        ensures unchanged { OnErr result (self.new.arrangement ≡ self.old.arrangement) }
+        ensures refused { IfErr result (λ refusal. IsPolygonRefusal settings.now self.old refusal) }
+        ensures subject { contours_in self.new Subject ≡ contours_in self.old Subject }
+        ensures clip { contours_in self.new Clip ≡ contours_in self.old Clip }
+        ensures rest { SameSplit self.old self.new }
+        ensures report { SameReport self.old self.new }
+    {
+        let solver = solver(settings);
+        let fill_rule = fill_rule(settings.fill_rule);
+        self.polygons.set_rounding(rounding(settings.rounding));
+        let arrangement = self.polygons.arrange(&solver, fill_rule)?;
+        self.arrangement = Some(arrangement);
+        Ok(())
+    }
+
+    /// The overlay by a rule of the contours that are arranged, as contours, which are kept; without collinear points, if
+    /// only corners are wanted.
+    pub fn arranged_contours(&mut self, rule: OverlayRule, corners: bool) -> Result<(), Refusal>
+        ensures kept { OnOk result (KeepsArrangedContours rule corners self.old self.new) }
+        ensures refused { IfErr result (IsArrangedRefusal self.old) }
+        ensures arrangement { SameArrangement self.old self.new }
+        ensures contours { self.new.polygons ≡ self.old.polygons }
+        ensures rest { SameSplit self.old self.new }
+    {
+        let Some(arrangement) = &mut self.arrangement else {
+            return Err(Refusal::NotSplittable);
+        };
+        let contours = if corners {
+            arrangement.contours_without_collinear(rule)?
+        } else {
+            arrangement.contours(rule)?
+        };
+        self.shape_lengths.clear();
+        keep_contours(
+            &contours,
+            &mut self.contour_lengths,
+            &mut self.contour_points,
+        )?;
+        Ok(())
+    }
+
+    /// The overlay by a rule of the contours that are arranged, in shapes, which are kept; without collinear points, if
+    /// only corners are wanted.
+    pub fn arranged_shapes(&mut self, rule: OverlayRule, corners: bool) -> Result<(), Refusal>
+        ensures kept { OnOk result (KeepsArrangedShapes rule corners self.old self.new) }
+        ensures refused { IfErr result (IsArrangedRefusal self.old) }
+        ensures arrangement { SameArrangement self.old self.new }
+        ensures contours { self.new.polygons ≡ self.old.polygons }
+        ensures rest { SameSplit self.old self.new }
+    {
+        let Some(arrangement) = &mut self.arrangement else {
+            return Err(Refusal::NotSplittable);
+        };
+        let shapes = if corners {
+            arrangement.shapes_without_collinear(rule)?
+        } else {
+            arrangement.shapes(rule)?
+        };
+        keep_shapes(
+            &shapes,
             &mut self.shape_lengths,
             &mut self.contour_lengths,
             &mut self.contour_points,

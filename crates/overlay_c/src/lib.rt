@@ -5,7 +5,8 @@ ghost use Rattle.std.specs.Prelude.{◌≡◌, ◌≢◌, ◌≤ℤ◌, pos, uns
 ghost use Rattle.overlay_base.specs.Join.{join, join_leaves_range, has_equal_pairs};
 ghost use Rattle.overlay_split.specs.SettingsOf.{snap_limit_of};
 ghost use Rattle.overlay_c.specs.Records.{start_of, end_of, line_asked_by, told_by, line_told_by, shape_of, fill_rule_of, number_by};
-ghost use Rattle.overlay_c.specs.Calls.{Turns, Leaves, Chooses, MaySplit, MayNotSplit, MaySplitLines, MayNotSplitLines, KeepsOverlayBy, KeepsDataBy, KeepsClipBy, SameContours, SameShape, AddsContour, KeepsPolygonsBy, KeepsShapesBy, KeepsRulesBy, PolygonCountsLeaveRange};
+ghost use Rattle.overlay_c.specs.Calls.{Turns, Leaves, Chooses, MaySplit, MayNotSplit, MaySplitLines, MayNotSplitLines, KeepsOverlayBy, KeepsDataBy, KeepsClipBy, SameContours, SameShape, AddsContour, KeepsPolygonsBy, KeepsShapesBy, KeepsRulesBy, KeepsArrangedContoursBy, KeepsArrangedShapesBy, HasNoArrangement, PolygonCountsLeaveRange};
+ghost use Rattle.overlay_c.specs.Arranged.{KeepsArrangement, SameArrangement};
 ghost use Rattle.overlay_c.specs.Crosses.{pair_by, cross_by, mask_by};
 ghost use Rattle.overlay_geometry.specs.Coordinates.{least_coordinate, greatest_coordinate, is_pair_in_range};
 ghost use Rattle.overlay_intersections.specs.CrossAnswer.{cross_answer};
@@ -339,6 +340,82 @@ pub extern "C" fn overlay_c_polygons_by_rules(
 {
     let mut engine = take(alloc, handle);
     let outcome = engine.polygons_by_rules(alloc, settings, rules);
+    put(handle, engine);
+    status(outcome)
+}
+
+/// Keeps the arrangement of the contours that were added, split and swept once, from which `overlay_c_arranged_contours`
+/// and `overlay_c_arranged_shapes` make overlays by any rules. Returns as `overlay_c_polygons` does, under the same
+/// settings; what was kept before stays where it does not return 0. The contours that were added stay, and the arrangement
+/// stays when contours are added or dropped. `overlay_c_report` does not speak of it.
+#[unsafe(no_mangle)]
+pub extern "C" fn overlay_c_arrange(
+    alloc: Global,
+    handle: &mut Handle,
+    settings: &SettingsRecord,
+) -> u8
+    requires { IsSome handle.old.engine }
+    ensures full { IsSome handle.new.engine }
+    ensures done { result ≡ 0 → Turns handle.old handle.new (KeepsArrangement settings.now) }
+    ensures too_large { result ≡ 2 → IfSome handle.old.engine (PolygonCountsLeaveRange settings.now) }
+    ensures codes { result < 3 }
+    ensures subject { Turns handle.old handle.new (SameShape Subject) }
+    ensures clip { Turns handle.old handle.new (SameShape Clip) }
+    ensures rest { Turns handle.old handle.new SameSplit }
+    ensures report { Turns handle.old handle.new SameReport }
+{
+    let mut engine = take(alloc, handle);
+    let outcome = engine.arrange(settings);
+    put(handle, engine);
+    status(outcome)
+}
+
+/// The overlay by a rule of the contours that are arranged, as `overlay_c_polygons` keeps it; where only corners are
+/// wanted, without the points at which a contour goes straight on. Returns 0 where it is done, 1 where memory was refused,
+/// and 3 where no contours were arranged. The arrangement stays.
+#[unsafe(no_mangle)]
+pub extern "C" fn overlay_c_arranged_contours(
+    alloc: Global,
+    handle: &mut Handle,
+    rule: u8,
+    corners: bool,
+) -> u8
+    requires { IsSome handle.old.engine }
+    ensures full { IsSome handle.new.engine }
+    ensures done { result ≡ 0 → Turns handle.old handle.new (KeepsArrangedContoursBy rule corners) }
+    ensures none { result ≡ 3 → IfSome handle.old.engine HasNoArrangement }
+    ensures codes { result < 4 }
+    ensures arrangement { Turns handle.old handle.new SameArrangement }
+    ensures contours { Turns handle.old handle.new SameContours }
+    ensures rest { Turns handle.old handle.new SameSplit }
+{
+    let mut engine = take(alloc, handle);
+    let outcome = engine.arranged_contours(overlay_rule(rule), corners);
+    put(handle, engine);
+    status(outcome)
+}
+
+/// The overlay by a rule of the contours that are arranged, in shapes, as `overlay_c_shapes` keeps it; where only corners
+/// are wanted, without the points at which a contour goes straight on. Returns as `overlay_c_arranged_contours` does. The
+/// arrangement stays.
+#[unsafe(no_mangle)]
+pub extern "C" fn overlay_c_arranged_shapes(
+    alloc: Global,
+    handle: &mut Handle,
+    rule: u8,
+    corners: bool,
+) -> u8
+    requires { IsSome handle.old.engine }
+    ensures full { IsSome handle.new.engine }
+    ensures done { result ≡ 0 → Turns handle.old handle.new (KeepsArrangedShapesBy rule corners) }
+    ensures none { result ≡ 3 → IfSome handle.old.engine HasNoArrangement }
+    ensures codes { result < 4 }
+    ensures arrangement { Turns handle.old handle.new SameArrangement }
+    ensures contours { Turns handle.old handle.new SameContours }
+    ensures rest { Turns handle.old handle.new SameSplit }
+{
+    let mut engine = take(alloc, handle);
+    let outcome = engine.arranged_shapes(overlay_rule(rule), corners);
     put(handle, engine);
     status(outcome)
 }
