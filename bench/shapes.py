@@ -1,11 +1,11 @@
 #!/usr/bin/env python3
-"""Times overlays in shapes beside those in contours, by the example `shapes` of the Rust package.
+"""Times overlays in shapes, and by four rules, beside those in contours, by the example `shapes` of the Rust package.
 
 Usage, from the top of the repository: python3 bench/shapes.py [--turns N] [NUMBER ..]
 
 Each kind is made of the given numbers of edges (50,000 if none are given). For each a row of a table is printed: kind, edges, the
-least wall time of nine runs of each, by turns, in milliseconds, of the union as contours and in shapes, and how many times as long
-the shapes took. `tools/archive.py` makes the archive that the package links.
+least wall time of nine runs of each, by turns, in milliseconds, of the union as contours and in shapes, and of four rules as contours,
+and how many times as long the shapes and the rules took. `tools/archive.py` makes the archive that the package links.
 
 The kinds are blobs and coast of bench/race.py, and squares and rings of bench/split.py.
 """
@@ -49,12 +49,13 @@ def main():
     build = ["cargo", "build", "--release", "--offline", "--quiet", "--example", "shapes"]
     if subprocess.run(build, cwd="rust").returncode:
         sys.exit("the example was not built")
-    print("| kind | edges | contours, ms | shapes, ms | times |\n|---|---|---|---|---|")
+    print("| kind | edges | contours, ms | shapes, ms | times | four rules, ms | times |\n|---|---|---|---|---|---|---|")
     for kind in ("blobs", "coast", "squares", "rings"):
         for number in given.numbers:
             done = subprocess.run([PROGRAM, str(given.turns)], input=text(kind, number), text=True, capture_output=True, check=True)
             told = dict(word.split("=") for word in done.stdout.split())
-            print(f"| {kind} | {int(told['in']):,} | {told['contours_ms']} | {told['shapes_ms']} | {told['times']} |", flush=True)
+            shapes, rules = (f"{told[name]} | {told[times]}" for name, times in (("shapes_ms", "times"), ("rules_ms", "rules_times")))
+            print(f"| {kind} | {int(told['in']):,} | {told['contours_ms']} | {shapes} | {rules} |", flush=True)
 
 
 if __name__ == "__main__":

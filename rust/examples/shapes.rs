@@ -1,9 +1,10 @@
-//! Times overlays in shapes beside those in contours, in this process, of the contours of standard input: lines
+//! Times overlays in shapes, and by four rules, beside those in contours, in this process, of the contours of standard input: lines
 //! `S x y x y ..` or `C x y x y ..`, as the program `polygons` reads them. `bench/shapes.py` writes some.
 //!
-//! Usage: shapes [runs], with 9 runs. The two take turns, each run with a new `Overlay`. Prints the least wall times in
+//! Usage: shapes [runs], with 9 runs. The three take turns, each run with a new `Overlay`. Prints the least wall times in
 //! milliseconds: `contours_ms=` of `overlay` and `shapes_ms=` of `overlay_shapes`, the results copied out, of the union under
-//! the fill rule `NonZero`; and how many times as long the shapes took.
+//! the fill rule `NonZero`, and `rules_ms=` of `overlay_by_rules` for union, intersection, difference and xor; and how many
+//! times as long as the contours the shapes and the rules took.
 
 use i_overlay_core::{FillRule, IntPoint, Overlay, OverlayRule, ShapeType};
 use std::io::Read;
@@ -16,17 +17,21 @@ fn main() {
     let contours: Vec<(ShapeType, Vec<IntPoint>)> = text.lines().map(contour).collect();
     let edges: usize = contours.iter().map(|(_, points)| points.len()).sum();
     let (mut found, mut shapes) = (Vec::new(), Vec::new());
-    let (mut contours_ms, mut shapes_ms) = (f64::INFINITY, f64::INFINITY);
+    let (mut contours_ms, mut shapes_ms, mut rules_ms) = (f64::INFINITY, f64::INFINITY, f64::INFINITY);
+    let rules = [OverlayRule::Union, OverlayRule::Intersect, OverlayRule::Difference, OverlayRule::Xor];
     let (rule, fill_rule) = (OverlayRule::Union, FillRule::NonZero);
     for _ in 0..runs {
         let time = timed(&contours, |overlay| found = overlay.overlay(rule, fill_rule).expect("contours"));
         contours_ms = contours_ms.min(time);
         let time = timed(&contours, |overlay| shapes = overlay.overlay_shapes(rule, fill_rule).expect("shapes"));
         shapes_ms = shapes_ms.min(time);
+        let time = timed(&contours, |overlay| assert_eq!(overlay.overlay_by_rules(&rules, fill_rule).map(|all| all.len()), Ok(4)));
+        rules_ms = rules_ms.min(time);
     }
     let (count, parts) = (found.len(), shapes.iter().map(Vec::len).sum::<usize>());
     print!("in={edges} contours={count} shapes={} of={parts} ", shapes.len());
-    println!("contours_ms={contours_ms:.3} shapes_ms={shapes_ms:.3} times={:.3}", shapes_ms / contours_ms);
+    print!("contours_ms={contours_ms:.3} shapes_ms={shapes_ms:.3} rules_ms={rules_ms:.3} ");
+    println!("times={:.3} rules_times={:.3}", shapes_ms / contours_ms, rules_ms / contours_ms);
 }
 
 /// The wall time of a call of a new overlay of the contours, in milliseconds.
