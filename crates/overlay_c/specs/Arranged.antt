@@ -1,5 +1,5 @@
 -- What an engine keeps of an arrangement of contours, and of overlays that rules make of it.
-use Rattle.std.specs.Prelude.{◌≡◌, ⊥, Bool, true, false, List, [], map, length, None, IsSome, IfSome}
+use Rattle.std.specs.Prelude.{◌≡◌, Bool, true, false, List, [], map, length, None, IsSome, IfSome}
 use Rattle.overlay_geometry.specs.Points.{Point}
 use Rattle.overlay_base.specs.declared.overlay_core.fill_rule.FillRule.{FillRule}
 use Rattle.overlay_base.specs.declared.overlay_core.overlay_rule.OverlayRule.{OverlayRule}
