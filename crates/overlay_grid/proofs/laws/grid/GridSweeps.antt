@@ -456,9 +456,11 @@ pub all_right : (l : Layout) (ss : List Pair) (n c : ℕ) (s : Pair) → IsInOrd
 all_right l ss n c s o i d h =
     let order = subst (IsInOrder pair_cmp) d (IsInOrder-drop pair_cmp n ss o) in
     let from = (subst (AllByRecursion (IsInside l)) d (AllByRecursion-drop (IsInside l) n ss i)).0.from in
-    subst (AllByRecursion (λ t. c + 1 ≤ column_index l t.a.x)) (sym d)
-    (omega arith, AllByRecursion-weaker (λ t. is_gt (pair_cmp s t) ≡ false) (λ t. c + 1 ≤ column_index l t.a.x)
-    (λ t g. let m = column_index-monotone l s.a.x t.a.x from (starts_in_order s t g) in omega arith) (drop (n + 1) ss) order.0)
+    subst (AllByRecursion (λ t. c + 1 ≤ column_index l t.a.x)) (sym d) (
+      omega arith,
+      AllByRecursion-weaker (λ t. is_gt (pair_cmp s t) ≡ false) (λ t. c + 1 ≤ column_index l t.a.x)
+          (λ t g. let m = column_index-monotone l s.a.x t.a.x from (starts_in_order s t g) in omega arith) (drop (n + 1) ss) order.0,
+    )
 
 -- after the last there is none
 pub none_right : (l : Layout) (ss : List Pair) (n c : ℕ) → length ss ≤ n → AllByRecursion (λ t. c + 1 ≤ column_index l t.a.x) (drop n ss)
