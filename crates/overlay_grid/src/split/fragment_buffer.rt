@@ -10,7 +10,7 @@ use crate::split::column_parts::SweepMemory;
 use crate::split::fragment::Fragment;
 use crate::split::fragment_memory::{FragmentMemory, clear_groups, empty_groups};
 use crate::split::grid_layout::GridLayout;
-use crate::split::group_sort::{SortMemory, sort_group};
+use crate::split::group_sort::{SCAN_BUDGET_PER_FRAGMENT, SortMemory, sort_group};
 use crate::split::reach::{count_reached, reached_at_most};
 use crate::split::rise::heights_at;
 use overlay_base::segm::fault::Fault;
@@ -18,12 +18,6 @@ use overlay_geometry::geom::point::IntPoint;
 use overlay_geometry::geom::x_segment::XSegment;
 use overlay_geometry::num::OverlayInt;
 use std::alloc::{AllocError, Global};
-
-/// Comparisons per fragment up to which a scan upward is kept, and a scan from left to right is not tried. Two sorts and
-/// a count cost about as much as this many comparisons.
-const SCAN_BUDGET_PER_FRAGMENT: u64 = 12;
-
-const _: () = prove!(SCAN_BUDGET_PER_FRAGMENT == 12);
 
 /// The fragments of segments in the columns of a layout: one group for each column. It keeps its memory when cleared.
 #[derive(Drop)]

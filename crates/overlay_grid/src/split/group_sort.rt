@@ -12,6 +12,17 @@ use overlay_geometry::num::OverlayInt;
 use std::alloc::{AllocError, Global};
 use std::mem;
 
+/// Comparisons per fragment up to which a scan upward is kept, and a scan from left to right is not tried. Two sorts and
+/// a count cost about as much as this many comparisons.
+pub(crate) const SCAN_BUDGET_PER_FRAGMENT: u64 = 12;
+
+const _: () = prove!(SCAN_BUDGET_PER_FRAGMENT == 12);
+
+/// How many times as many comparisons have to be due upward as are expected from left to right, before that is tried.
+const WORTH_A_SORT: u64 = 4;
+
+const _: () = prove!(WORTH_A_SORT == 4);
+
 /// How many fragments keys number: a key is this many times where a fragment begins, and its place.
 const PLACES: u64 = 4_294_967_296;
 
@@ -80,20 +91,10 @@ pub(crate) fn sort_for_scan<I: OverlayInt>(
     Ok(Axis::Y)
 }
 
-/// Comparisons per fragment up to which a column is scanned upward. To try a scan from left to right costs about as much.
-const SCAN_BUDGET_IN_COLUMN: u64 = 24;
-
-const _: () = prove!(SCAN_BUDGET_IN_COLUMN == 24);
-
-/// So many times as many comparisons as are expected from left to right have to be due upward before that is tried.
-const WORTH_A_SORT: u64 = 4;
-
-const _: () = prove!(WORTH_A_SORT == 4);
-
 /// Whether a group is scanned upward, where that compares so many fragments at most: if these are few, or not many more
 /// than are expected from left to right.
 fn is_scanned_upward<I: OverlayInt>(group: &[Fragment<I>], upward: u64) -> bool {
-    let few = (group.len() as u64).saturating_mul(SCAN_BUDGET_IN_COLUMN);
+    let few = (group.len() as u64).saturating_mul(SCAN_BUDGET_PER_FRAGMENT);
     upward <= few || upward <= expected_across(group).saturating_mul(WORTH_A_SORT)
 }
 
