@@ -1,5 +1,5 @@
 -- A walk over the columns of a grid from the left.
-use Rattle.std.proofs.Common.{◌≡◌, refl, sym, ap, ap₂, subst, ◌∙◌, ℕ, zero, suc, ◌+◌, ◌-◌, ◌<◌, ◌≤◌, ◌==◌, arith, append_assoc, append-nil, Bool, true, false, not, ◌&&◌, if◌then◌else◌, IsTrue, IsFalse, is_gt, List, [], ◌∷◌, ◌++◌, take, drop, get_or, length, map, All, IsSortedByKey}
+use Rattle.std.proofs.Common.{◌≡◌, refl, sym, ap, ap₂, subst, ◌∙◌, ℕ, zero, suc, ◌+◌, ◌-◌, ◌<◌, ◌≤◌, ◌==◌, arith, append_assoc, append-nil, Bool, true, false, not, ◌&&◌, if◌then◌else◌, IsTrue, is_gt, List, [], ◌∷◌, ◌++◌, take, drop, get_or, length, map, All, IsSortedByKey}
 use Rattle.std.specs.Prelude.{ℤ, pos, ◌-ℤ◌, ◌≤ℤ◌, nat_lt, flat_map}
 use Rattle.std.specs.List.{AllByRecursion, range_with_len}
 use Rattle.std.proofs.lemmas.Grind.{flat_map-append}
@@ -217,9 +217,6 @@ upright_elsewhere l index s c v e =
     ap (λ (fs : List Fragment). kept index s (in_column c fs)) (fragments_of_vertical l s v)
     ∙ one_kept index s (record { column = column_index l s.a.x; rect = rect_between s.a.x s.a.y s.b.x s.b.y }) (rect_between s.a.x s.a.y s.b.x s.b.y) (column_index l s.a.x) c refl refl
     ∙ ap (λ (b : Bool). if b then as_kept index s (rect_between s.a.x s.a.y s.b.x s.b.y) else []) e
-
-flat_from : (b : Bool) → b ≡ false → IsFalse b
-flat_from b e = e
 
 kept_before : (l : Layout) (index : ℕ) (s : Pair) (c : ℕ) → c < column_index l s.a.x → kept_in l index s c ≡ []
 kept_before l index s c h = by (is_vertical s) refl
