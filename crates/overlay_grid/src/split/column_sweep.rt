@@ -147,7 +147,13 @@ fn mark_column<I: OverlayInt>(
         let next = layout.pos(column + 1);
         list_ends_at(group, next, &mut sweep.right_ends)?;
     }
-    mark_in_order(&mut sweep.parts.group, &mut sweep.sort_memory, placing, marks, looked)
+    mark_in_order(
+        &mut sweep.parts.group,
+        &mut sweep.sort_memory,
+        placing,
+        marks,
+        looked,
+    )
 }
 
 /// Sorts a group, appends the marks that two segments put on one another where fragments of both meet in it, and returns

@@ -18,6 +18,11 @@ pub(crate) const SCAN_BUDGET_PER_FRAGMENT: u64 = 12;
 
 const _: () = prove!(SCAN_BUDGET_PER_FRAGMENT == 12);
 
+/// How many times as many comparisons have to be due upward as are expected from left to right, before that is tried.
+const WORTH_A_SORT: u64 = 4;
+
+const _: () = prove!(WORTH_A_SORT == 4);
+
 /// How many fragments keys number: a key is this many times where a fragment begins, and its place.
 const PLACES: u64 = 4_294_967_296;
 
@@ -74,20 +79,40 @@ pub(crate) fn sort_for_scan<I: OverlayInt>(
         ≤ twos_in_height (fragments_of I.whole group.new.items)) }
 {
     sort_group(group, Axis::Y, memory)?;
-    let few = (group.len() as u64).saturating_mul(SCAN_BUDGET_PER_FRAGMENT);
-    if reached_in_group_at_most(group, Axis::Y) <= few {
+    if is_scanned_upward(group, reached_in_group_at_most(group, Axis::Y)) {
         return Ok(Axis::Y);
     }
     let upward = count_in_group(group, Axis::Y);
-    if upward <= few {
-        return Ok(Axis::Y);
-    }
     sort_group(group, Axis::X, memory)?;
     if count_in_group(group, Axis::X) < upward {
         return Ok(Axis::X);
     }
     sort_group(group, Axis::Y, memory)?;
     Ok(Axis::Y)
+}
+
+/// Whether a group is scanned upward, where that compares so many fragments at most: if these are few, or not many more
+/// than are expected from left to right.
+fn is_scanned_upward<I: OverlayInt>(group: &[Fragment<I>], upward: u64) -> bool {
+    let few = (group.len() as u64).saturating_mul(SCAN_BUDGET_PER_FRAGMENT);
+    upward <= few || upward <= expected_across(group).saturating_mul(WORTH_A_SORT)
+}
+
+/// About how many fragments a scan from left to right compares, where they begin evenly over the width of all.
+fn expected_across<I: OverlayInt>(group: &[Fragment<I>]) -> u64 {
+    let mut widths = 0_u64;
+    let mut first = i64::MAX;
+    let mut last = i64::MIN;
+    for index in 0..group.len() {
+        let fragment = group[index];
+        let left = fragment.rect.min_x.to_wide();
+        let right = fragment.rect.max_x.to_wide();
+        widths = widths.saturating_add(right.abs_diff(left));
+        first = first.min(left);
+        last = last.max(right);
+    }
+    let live = widths / last.abs_diff(first).max(1);
+    live.saturating_mul(group.len() as u64)
 }
 
 /// Whether no fragment begins before those that precede it, along an axis.

@@ -1,5 +1,5 @@
 -- A walk over the columns of a grid from the left.
-use Rattle.std.proofs.Common.{◌≡◌, refl, sym, ap, ap₂, subst, ◌∙◌, ℕ, zero, suc, ◌+◌, ◌-◌, ◌<◌, ◌≤◌, ◌==◌, arith, append_assoc, append-nil, Bool, true, false, not, ◌&&◌, if◌then◌else◌, IsTrue, IsFalse, is_gt, List, [], ◌∷◌, ◌++◌, take, drop, get_or, length, map, All, IsSortedByKey}
+use Rattle.std.proofs.Common.{◌≡◌, refl, sym, ap, ap₂, subst, ◌∙◌, ℕ, zero, suc, ◌+◌, ◌-◌, ◌<◌, ◌≤◌, ◌==◌, arith, append_assoc, append-nil, Bool, true, false, not, ◌&&◌, if◌then◌else◌, IsTrue, is_gt, List, [], ◌∷◌, ◌++◌, take, drop, get_or, length, map, All, IsSortedByKey}
 use Rattle.std.specs.Prelude.{ℤ, pos, ◌-ℤ◌, ◌≤ℤ◌, nat_lt, flat_map}
 use Rattle.std.specs.List.{AllByRecursion, range_with_len}
 use Rattle.std.proofs.lemmas.Grind.{flat_map-append}
@@ -217,9 +217,6 @@ upright_elsewhere l index s c v e =
     ap (λ (fs : List Fragment). kept index s (in_column c fs)) (fragments_of_vertical l s v)
     ∙ one_kept index s (record { column = column_index l s.a.x; rect = rect_between s.a.x s.a.y s.b.x s.b.y }) (rect_between s.a.x s.a.y s.b.x s.b.y) (column_index l s.a.x) c refl refl
     ∙ ap (λ (b : Bool). if b then as_kept index s (rect_between s.a.x s.a.y s.b.x s.b.y) else []) e
-
-flat_from : (b : Bool) → b ≡ false → IsFalse b
-flat_from b e = e
 
 kept_before : (l : Layout) (index : ℕ) (s : Pair) (c : ℕ) → c < column_index l s.a.x → kept_in l index s c ≡ []
 kept_before l index s c h = by (is_vertical s) refl
@@ -456,9 +453,11 @@ pub all_right : (l : Layout) (ss : List Pair) (n c : ℕ) (s : Pair) → IsInOrd
 all_right l ss n c s o i d h =
     let order = subst (IsInOrder pair_cmp) d (IsInOrder-drop pair_cmp n ss o) in
     let from = (subst (AllByRecursion (IsInside l)) d (AllByRecursion-drop (IsInside l) n ss i)).0.from in
-    subst (AllByRecursion (λ t. c + 1 ≤ column_index l t.a.x)) (sym d)
-    (omega arith, AllByRecursion-weaker (λ t. is_gt (pair_cmp s t) ≡ false) (λ t. c + 1 ≤ column_index l t.a.x)
-    (λ t g. let m = column_index-monotone l s.a.x t.a.x from (starts_in_order s t g) in omega arith) (drop (n + 1) ss) order.0)
+    subst (AllByRecursion (λ t. c + 1 ≤ column_index l t.a.x)) (sym d) (
+      omega arith,
+      AllByRecursion-weaker (λ t. is_gt (pair_cmp s t) ≡ false) (λ t. c + 1 ≤ column_index l t.a.x)
+          (λ t g. let m = column_index-monotone l s.a.x t.a.x from (starts_in_order s t g) in omega arith) (drop (n + 1) ss) order.0,
+    )
 
 -- after the last there is none
 pub none_right : (l : Layout) (ss : List Pair) (n c : ℕ) → length ss ≤ n → AllByRecursion (λ t. c + 1 ≤ column_index l t.a.x) (drop n ss)

@@ -7,11 +7,8 @@ use Rattle.overlay_grid.proofs.laws.grid.GridLooks.{heights_back, twos_permuted}
 use Rattle.overlay_grid.proofs.laws.grid.GridReach.{group_upward, fewer_within}
 use Rattle.overlay_grid.proofs.split.group_sort.sort_for_scan.Goals as goal
 
-pub returns-then-reached_in_group_at_most-few-clause-looks : goal.returns-then-reached_in_group_at_most-few-clause-looks
-returns-then-reached_in_group_at_most-few-clause-looks g c = group_upward _ c.in_ok-sort_group.ensures.sorted
-
-pub returns-then-upward-few-clause-looks : goal.returns-then-upward-few-clause-looks
-returns-then-upward-few-clause-looks g c = group_upward _ c.in_ok-sort_group.ensures.sorted
+pub returns-then-is_scanned_upward-clause-looks : goal.returns-then-is_scanned_upward-clause-looks
+returns-then-is_scanned_upward-clause-looks g c = group_upward _ c.in_ok-sort_group.ensures.sorted
 
 pub returns-clause-looks : goal.returns-clause-looks
 returns-clause-looks g c = group_upward _ c.in_ok-sort_group-3.ensures.sorted
@@ -33,8 +30,8 @@ returns-then-count_in_group-upward-clause-looks g c =
     let whole = g.I.OverlayInt.whole in
     let upward = fragments_of whole c.sort_group.new.group.items in
     let across = fragments_of whole c.sort_group-2.new.group.items in
-    let counted_up : c.count_in_group-upward.result ≡ min (looks_of_group Y upward) (2 ^ 64 - 1) = c.count_in_group-upward.ensures ∙ ap (λ (fs : List _). min (looks_of_group Y (fragments_of whole fs)) (2 ^ 64 - 1)) c.deref-2.ensures.value in
-    let counted_across : c.count_in_group.result ≡ min (looks_of_group X across) (2 ^ 64 - 1) = c.count_in_group.ensures ∙ ap (λ (fs : List _). min (looks_of_group X (fragments_of whole fs)) (2 ^ 64 - 1)) c.deref-3.ensures.value in
+    let counted_up : c.count_in_group-upward.result ≡ min (looks_of_group Y upward) (2 ^ 64 - 1) = c.count_in_group-upward.ensures ∙ ap (λ (fs : List _). min (looks_of_group Y (fragments_of whole fs)) (2 ^ 64 - 1)) c.deref-3.ensures.value in
+    let counted_across : c.count_in_group.result ≡ min (looks_of_group X across) (2 ^ 64 - 1) = c.count_in_group.ensures ∙ ap (λ (fs : List _). min (looks_of_group X (fragments_of whole fs)) (2 ^ 64 - 1)) c.deref-4.ensures.value in
     let same = twos_permuted do_heights_meet heights_back upward across (IsPermutation-map (fragment_of whole) _ _ c.sort_group-2.ensures.permutation) in
     let within = group_upward upward c.in_ok-sort_group.ensures.sorted in
     fewer_within c.count_in_group.result c.count_in_group-upward.result _ _ _ counted_across counted_up c.if-count_in_group-upward.true (omega (arith, same, within))
