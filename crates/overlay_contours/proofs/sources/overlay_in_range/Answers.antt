@@ -1,21 +1,16 @@
-use Rattle.std.proofs.Common.{sym, ap, ◌∙◌, List, map}
+use Rattle.std.proofs.Common.{sym, ap, ◌∙◌, List}
 use Rattle.std.specs.Prelude.{count_by}
-use Rattle.std.proofs.lemmas.List.Elements.{All-from_recursion, recursion_from_All}
-use Rattle.overlay_geometry.specs.Points.{Point, Pair}
+use Rattle.overlay_geometry.specs.Points.{Point}
 use Rattle.overlay_base.specs.Rules.{holds}
 use Rattle.overlay_snapping.specs.SnapOf.{reach_of_snap}
-use Rattle.overlay_build.specs.DirectedWalks.{arcs, IsDirectedWalk}
+use Rattle.overlay_build.specs.DirectedWalks.{arcs}
 use Rattle.overlay_build.specs.Graph.{Link}
-use Rattle.overlay_build.specs.GraphOf.{link_of, graph_with}
+use Rattle.overlay_build.specs.GraphOf.{graph_with}
 use Rattle.overlay_build.specs.OverlayGraphOf.{links_of}
-use Rattle.overlay_contours.specs.Contours.{in_order}
 use Rattle.overlay_contours.specs.ContourSegments.{overlay_segments}
 use Rattle.overlay_contours.specs.ContoursOf.{contours_of}
-use Rattle.overlay_contours.specs.DataContours.{DataStep, data_steps}
 use Rattle.overlay_contours.specs.DataContoursOf.{data_contours_of, bare_contours_of}
-use Rattle.overlay_contours.specs.Sources.{LiesNearSource}
 use Rattle.overlay_contours.specs.Splittings.{by_snapping}
-use Rattle.overlay_contours.specs.declared.sources.SourceEdge.{SourceEdge}
 use Rattle.overlay_contours.proofs.laws.Extracts.{ways_of}
 use Rattle.overlay_contours.proofs.laws.GraphContours.{graph_pairs}
 use Rattle.overlay_contours.proofs.laws.Overlays.{links_flow, polygon_overlay, answer_in_range}
