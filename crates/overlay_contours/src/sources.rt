@@ -265,13 +265,13 @@ pub fn segments_with_sources<I: OverlayInt>(
     ensures fault { IfErr result (λ fault. fault ≡ Memory) }
 {
     let mut sides = Vec::new(alloc);
-    push_contours(&mut sides, subject, ShapeType::Subject)?;
-    push_contours(&mut sides, clip, ShapeType::Clip)?;
+    push_source_contours(&mut sides, subject, ShapeType::Subject)?;
+    push_source_contours(&mut sides, clip, ShapeType::Clip)?;
     Ok(sides)
 }
 
 /// Appends the segments of contours of one shape.
-fn push_contours<I: OverlayInt>(
+fn push_source_contours<I: OverlayInt>(
     sides: &mut Vec<SourceSegment<I>>,
     contours: &[IntContour<I>],
     shape_type: ShapeType,
@@ -285,13 +285,13 @@ fn push_contours<I: OverlayInt>(
     ensures fault { IfErr result (λ fault. fault ≡ Memory) }
 {
     for (index, contour) in contours.iter().enumerate() {
-        push_contour(sides, contour, shape_type, index)?;
+        push_source_contour(sides, contour, shape_type, index)?;
     }
     Ok(())
 }
 
 /// Appends the steps of the contour at an index.
-fn push_contour<I: OverlayInt>(
+fn push_source_contour<I: OverlayInt>(
     sides: &mut Vec<SourceSegment<I>>,
     contour: &[IntPoint<I>],
     shape_type: ShapeType,
@@ -315,7 +315,7 @@ fn push_contour<I: OverlayInt>(
             contour: index,
             edge,
         };
-        push_step(sides, from, *point, source)?;
+        push_source_step(sides, from, *point, source)?;
         from = *point;
     }
     let source = SourceEdge {
@@ -323,11 +323,11 @@ fn push_contour<I: OverlayInt>(
         contour: index,
         edge: later.len(),
     };
-    push_step(sides, from, *first, source)
+    push_source_step(sides, from, *first, source)
 }
 
 /// Appends the segment of a step, where its two points differ.
-fn push_step<I: OverlayInt>(
+fn push_source_step<I: OverlayInt>(
     sides: &mut Vec<SourceSegment<I>>,
     from: IntPoint<I>,
     to: IntPoint<I>,

@@ -1,5 +1,6 @@
 -- Worked examples of areas. Each holds by computation.
-use Rattle.std.specs.Prelude.{◌≡◌, refl, pos, negsuc, [], ◌∷◌}
+use Rattle.std.specs.Prelude.{◌≡◌, refl, pos, negsuc, List, [], ◌∷◌}
+use Rattle.overlay_geometry.specs.Points.{Point}
 use Rattle.overlay_contours.specs.Areas.{doubled_area, doubled_area_of_all}
 use Rattle.overlay_contours.proofs.examples.Polygons.{point}
 

@@ -1,19 +1,20 @@
 -- Contours, their segments, the overlay of these and its contours, joined.
-use Rattle.std.proofs.Common.{◌≡◌, refl, sym, ap, ap₂, subst, ◌∙◌, ℕ, ◌<◌, ◌≤◌, Bool, true, false, cond, if◌then◌else◌, List, [], ◌∷◌, ◌++◌, map, filter, arith, inl, inr, Less}
+use Rattle.std.proofs.Common.{◌≡◌, refl, sym, ap, ap₂, subst, ◌∙◌, ℕ, ◌<◌, ◌≤◌, Bool, true, false, not, cond, if◌then◌else◌, IsTrue, List, [], ◌∷◌, ◌++◌, map, filter, arith, inl, inr, Less}
 use Rattle.std.specs.Prelude.{ℤ, pos, negsuc, ◌-ℤ◌, count_by, Contains, Result, Ok, Err, IfErr}
 use Rattle.std.specs.Result.{IsErrAnd}
 use Rattle.std.specs.List.{AllByRecursion, list_all}
 use Rattle.std.specs.List.Sorted.{IsStrictlySortedBy}
-use Rattle.std.proofs.lemmas.Bool.{and_parts}
+use Rattle.std.proofs.lemmas.Bool.{and_parts, and_from}
+use Rattle.std.proofs.lemmas.Int.{ints}
 use Rattle.std.proofs.lemmas.List.{map-append}
 use Rattle.std.proofs.lemmas.List.Elements.{All-from_recursion, recursion_from_All}
-use Rattle.std.proofs.lemmas.List.Folds.{list_all-map}
+use Rattle.std.proofs.lemmas.List.Folds.{list_all-map, list_all-append}
 use Rattle.std.proofs.lemmas.List.Sums.{sum_by-cons}
 use Rattle.std.proofs.lemmas.Simd.{map-map}
-use Rattle.overlay_geometry.specs.Points.{Point, Pair, pair_eq, pair_cmp, is_ordered, point_lt}
+use Rattle.overlay_geometry.specs.Points.{Point, Pair, pair_eq, pair_cmp, is_ordered, point_lt, point_eq}
 use Rattle.overlay_geometry.specs.Sorting.{is_strictly_sorted}
 use Rattle.overlay_base.specs.Places.{RationalPoint, winding_below}
-use Rattle.overlay_base.specs.Segments.{WholeSegment, pairs, is_map}
+use Rattle.overlay_base.specs.Segments.{WholeSegment, pairs, is_map, are_ordered}
 use Rattle.overlay_base.specs.Planar.{is_planar, is_arranged}
 use Rattle.overlay_geometry.specs.Meeting.{are_apart}
 use Rattle.overlay_base.specs.Balance.{IsBalanced}
@@ -30,7 +31,7 @@ use Rattle.overlay_base.proofs.laws.geometry.Pairs.{pair_eq-less, pair_eq-comm}
 use Rattle.overlay_geometry.proofs.laws.lists.Keys.{IsStrictlySortedBy-from_test}
 use Rattle.overlay_geometry.proofs.laws.lists.Lists.{Has, Has-map, Has-map_out, Has-filter_out, AllByRecursion-from_Has, AllByRecursion-at, list_all-from_Has, list_all-at, list_all-and_parts, sum_by-map, sum_by-filter_le}
 use Rattle.overlay_base.specs.declared.overlay_core.link.OverlayLink.{OverlayLink}
-use Rattle.overlay_build.specs.Boundary.{of_subject, direction, directed_links, truth, times_round}
+use Rattle.overlay_build.specs.Boundary.{of_subject, direction, directed_links, truth, boundary, times_round}
 use Rattle.overlay_build.specs.DirectedWalks.{arcs, IsFlow}
 use Rattle.overlay_build.specs.DirectedWalks.{turned as turned_link}
 use Rattle.overlay_build.specs.GraphOf.{link_of, kept_of, graph_with}

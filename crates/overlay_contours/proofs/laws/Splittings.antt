@@ -18,7 +18,7 @@ use Rattle.overlay_split.proofs.laws.planar.PlanarRuns.{run_is_one}
 use Rattle.overlay_split.specs.ExactInput.{is_exact_input}
 use Rattle.overlay_split.specs.Nearness.{LieNear, StaysNear, reach_of_run, reach_of_passes}
 use Rattle.overlay_split.specs.Places.{IsFar, KeepsWinding}
-use Rattle.overlay_split.specs.Run.{Settings, IsRun, has_changed}
+use Rattle.overlay_split.specs.Run.{Settings, IsRun, after_passes, has_changed}
 use Rattle.overlay_split.specs.SettingsOf.{snap_limit_of, settings_of}
 use Rattle.overlay_split.specs.declared.split.solver.SplitSolver.{SplitSolver}
 use Rattle.overlay_snapping.proofs.laws.chains.Paths.{snapped_is_one}

@@ -1,5 +1,5 @@
-use Rattle.std.proofs.Common.{◌≡◌, sym, ap, subst, ◌∙◌, ◌*◌, [], ◌∷◌, ◌++◌, List, arith, FitsSigned, w64, to_z, of_z, to_z-of_z}
-use Rattle.std.specs.Prelude.{ℤ, ◌+ℤ◌}
+use Rattle.std.proofs.Common.{◌≡◌, sym, ap, subst, ◌∙◌, ◌*◌, ◌≤◌, [], ◌∷◌, ◌++◌, List, arith, FitsSigned, w64, to_z, of_z, to_z-of_z}
+use Rattle.std.specs.Prelude.{ℤ, pos, ◌+ℤ◌, unsigned_abs}
 use Rattle.overlay_geometry.specs.Coordinates.{greatest_product}
 use Rattle.std.proofs.lemmas.Grind.{common_steps}
 use Rattle.std.specs.Int.{w128}

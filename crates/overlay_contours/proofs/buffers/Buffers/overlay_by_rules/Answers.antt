@@ -1,3 +1,5 @@
+use Rattle.std.proofs.Common.{ap, ◌<◌, [], List, length, arith}
+use Rattle.std.proofs.lemmas.Grind.{common_steps}
 use Rattle.overlay_contours.specs.ContoursOf.{contours_of}
 use Rattle.overlay_contours.specs.Splittings.{splitting_for}
 use Rattle.overlay_contours.proofs.laws.SeveralRules.{rule_at, some_rule}

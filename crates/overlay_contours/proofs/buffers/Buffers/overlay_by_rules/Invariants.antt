@@ -1,4 +1,4 @@
-use Rattle.std.proofs.Common.{◌<◌, take}
+use Rattle.std.proofs.Common.{◌≡◌, ◌<◌, take}
 use Rattle.overlay_contours.specs.Beyond.{AreOfSplitting}
 use Rattle.overlay_contours.specs.ContoursOf.{contours_of, contours_of_each}
 use Rattle.overlay_contours.specs.Polygons.{ArePolygonOverlays}

@@ -8,7 +8,7 @@ use Rattle.overlay_contours.specs.ContoursOf.{points_of}
 use Rattle.overlay_contours.specs.ContourSegments.{step_segments}
 use Rattle.overlay_contours.specs.Refusals.{of_shape}
 use Rattle.overlay_contours.specs.Sources.{IsItsSource}
-use Rattle.overlay_contours.proofs.sources.push_contour.Given as goal
+use Rattle.overlay_contours.proofs.sources.push_source_contour.Given as goal
 
 abbrev pub invariant-loop-edge : goal.invariant-loop-edge
 invariant-loop-edge g l =
