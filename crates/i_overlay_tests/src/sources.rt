@@ -62,8 +62,8 @@ fn each_step_names_its_edge(rt: HostRuntime) -> Result<(), Fail> {
     Ok(())
 }
 
-/// The part of the subject's square outside of the clip's is one shape. The step from (4, 2) to (2, 2) runs along the lower
-/// edge of the clip's square, and that from (2, 2) to (2, 4) along its left one.
+/// The part of the subject's square outside of the clip's is one shape. The step from (4, 2) to (2, 2) runs along the
+/// lower edge of the clip's square, and that from (2, 2) to (2, 4) along its left one.
 #[test]
 fn each_step_of_a_shape_names_its_edge(rt: HostRuntime) -> Result<(), Fail> {
     let subject = contours_from(rt.alloc(), &[SQUARE])?;

@@ -15,6 +15,7 @@ use Rattle.overlay_contours.proofs.laws.Extracts.{ways_of}
 use Rattle.overlay_contours.proofs.laws.GraphContours.{graph_pairs}
 use Rattle.overlay_contours.proofs.laws.Overlays.{links_flow, polygon_overlay, answer_in_range}
 use Rattle.overlay_contours.proofs.laws.Sources.{steps_near_sources}
+use Rattle.overlay_contours.proofs.laws.Splittings.{at_most_one, none_where_exact}
 use Rattle.overlay_contours.proofs.sources.overlay_in_range.Goals as goal
 
 pub directed_steps_of_graph-requires : goal.directed_steps_of_graph-requires
@@ -64,4 +65,9 @@ returns-clause-sources g c =
     let clip : List (List Point) = contours_of whole c.args.clip.now in
     let graph = c.in_ok-graph.graph in
     let walks = c.in_ok-contours.ensures.walks in
-    steps_near_sources subject clip (reach_of_snap (overlay_segments subject clip)) whole (holds c.args.overlay_rule) (links_of graph) graph.holds.same_links graph.ordered c.in_ok-graph.ensures.graph.near walks.walks (data_contours_of whole c.in_ok-contours.contours.items) walks.are walks.steps
+    record {
+      halves = reach_of_snap (overlay_segments subject clip);
+      near = steps_near_sources subject clip (reach_of_snap (overlay_segments subject clip)) whole (holds c.args.overlay_rule) (links_of graph) graph.holds.same_links graph.ordered c.in_ok-graph.ensures.graph.near walks.walks (data_contours_of whole c.in_ok-contours.contours.items) walks.are walks.steps;
+      reach = at_most_one (overlay_segments subject clip);
+      exact = none_where_exact (overlay_segments subject clip);
+    }
