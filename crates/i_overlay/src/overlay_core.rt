@@ -26,7 +26,9 @@ pub mod overlay {
     pub use overlay_base::segm::shape_type::ShapeType;
     pub use overlay_contours::arrangement::Arrangement;
     pub use overlay_contours::contour::{IntContour, IntShape};
-    pub use overlay_contours::contour_steps::{ContourStep, DataContour, directed_steps_of_graph};
+    pub use overlay_contours::contour_steps::{
+        ContourStep, DataContour, DataShape, directed_steps_of_graph, shape_steps_of_graph,
+    };
     pub use overlay_contours::corners::{corners_of_contours, corners_of_shapes};
     pub use overlay_contours::fault::ContourFault;
     pub use overlay_contours::location::{PointLocation, locate_point};
@@ -34,7 +36,7 @@ pub mod overlay {
     pub use overlay_contours::overlay::{Overlay, overlay_contours, overlay_shapes};
     pub use overlay_contours::rounding::Rounding;
     pub use overlay_contours::sources::{
-        SourceContour, SourceEdge, SourceSegment, overlay_contours_with_sources,
-        segments_with_sources,
+        SourceContour, SourceEdge, SourceSegment, SourceShape, overlay_contours_with_sources,
+        overlay_shapes_with_sources, segments_with_sources,
     };
 }

@@ -23,14 +23,16 @@ pub use overlay_build::build::string_graph::StringGraph;
 pub use overlay_build::build::walks::closed_walks;
 pub use overlay_contours::arrangement::Arrangement;
 pub use overlay_contours::contour::{IntContour, IntShape};
-pub use overlay_contours::contour_steps::{ContourStep, DataContour};
+pub use overlay_contours::contour_steps::{ContourStep, DataContour, DataShape};
 pub use overlay_contours::corners::{corners_of_contours, corners_of_shapes};
 pub use overlay_contours::fault::ContourFault;
 pub use overlay_contours::location::{PointLocation, locate_point};
 pub use overlay_contours::measure::{bounding_box, doubled_area, doubled_area_of_shape};
 pub use overlay_contours::overlay::{Overlay, overlay_contours, overlay_shapes};
 pub use overlay_contours::rounding::Rounding;
-pub use overlay_contours::sources::{SourceContour, SourceEdge, overlay_contours_with_sources};
+pub use overlay_contours::sources::{
+    SourceContour, SourceEdge, SourceShape, overlay_contours_with_sources, overlay_shapes_with_sources,
+};
 pub use overlay_geometry::geom::point::IntPoint;
 pub use overlay_geometry::geom::rect::IntRect;
 pub use overlay_geometry::num::OverlayInt;

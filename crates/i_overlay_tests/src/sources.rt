@@ -6,7 +6,9 @@ use overlay_base::overlay_core::overlay_rule::OverlayRule;
 use overlay_base::overlay_core::solver::Solver;
 use overlay_base::segm::shape_type::ShapeType;
 use overlay_contours::contour_steps::ContourStep;
-use overlay_contours::sources::{SourceEdge, overlay_contours_with_sources};
+use overlay_contours::sources::{
+    SourceEdge, overlay_contours_with_sources, overlay_shapes_with_sources,
+};
 use overlay_geometry::geom::point::IntPoint;
 use std::test::Fail;
 
@@ -56,6 +58,38 @@ fn each_step_names_its_edge(rt: HostRuntime) -> Result<(), Fail> {
     assert_eq!(rt; contours.len(), 1);
     for steps in &contours {
         assert_eq!(rt; steps.as_slice(), wanted.as_slice());
+    }
+    Ok(())
+}
+
+/// The part of the subject's square outside of the clip's is one shape. The step from (4, 2) to (2, 2) runs along the
+/// lower edge of the clip's square, and that from (2, 2) to (2, 4) along its left one.
+#[test]
+fn each_step_of_a_shape_names_its_edge(rt: HostRuntime) -> Result<(), Fail> {
+    let subject = contours_from(rt.alloc(), &[SQUARE])?;
+    let clip = contours_from(rt.alloc(), &[SHIFTED_SQUARE])?;
+    let shapes = overlay_shapes_with_sources(
+        rt.alloc(),
+        &subject,
+        &clip,
+        &Solver::AUTO,
+        FillRule::NonZero,
+        OverlayRule::Difference,
+    )?;
+    let wanted = [
+        step((0, 4), ShapeType::Subject, 0, 3),
+        step((0, 0), ShapeType::Subject, 0, 0),
+        step((4, 0), ShapeType::Subject, 0, 1),
+        step((4, 2), ShapeType::Clip, 0, 0),
+        step((2, 2), ShapeType::Clip, 0, 3),
+        step((2, 4), ShapeType::Subject, 0, 2),
+    ];
+    assert_eq!(rt; shapes.len(), 1);
+    for shape in &shapes {
+        assert_eq!(rt; shape.len(), 1);
+        for steps in shape {
+            assert_eq!(rt; steps.as_slice(), wanted.as_slice());
+        }
     }
     Ok(())
 }

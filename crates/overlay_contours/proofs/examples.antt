@@ -5,3 +5,4 @@ pub mod Beyond
 pub mod Areas
 pub mod Locations
 pub mod Boxes
+pub mod Sources

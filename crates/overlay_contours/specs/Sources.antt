@@ -1,9 +1,11 @@
 -- The given edges from which the steps of an overlay come.
-use Rattle.std.specs.Prelude.{◌≡◌, ℕ, List, Some, Option, option_and_then, slice_get, All}
+use Rattle.std.specs.Prelude.{◌≡◌, ◌≤◌, ℕ, IsTrue, List, Some, Option, option_and_then, slice_get, All}
 use Rattle.overlay_geometry.specs.Points.{Point, Pair}
 use Rattle.overlay_base.specs.EdgeData.{DataSegment}
+use Rattle.overlay_split.specs.ExactInput.{is_exact_input}
 use Rattle.overlay_split.specs.Nearness.{LiesNear}
 use Rattle.overlay_contours.specs.Contours.{steps_of, in_order}
+use Rattle.overlay_contours.specs.ContourSegments.{overlay_segments}
 use Rattle.overlay_contours.specs.DataContours.{DataStep, data_steps}
 use Rattle.overlay_contours.specs.Refusals.{of_shape}
 use Rattle.overlay_contours.specs.declared.sources.SourceEdge.{SourceEdge}
@@ -24,3 +26,10 @@ IsItsSource subject clip r = (e : Pair) × (given_step subject clip r.edge_data 
 -- Each step of the contours lies that near to the given step that its source names.
 abbrev pub LieNearSources : ℕ → List (List Point) → List (List Point) → List (List (DataStep SourceEdge)) → Type 0
 LieNearSources halves subject clip contours = All (λ s. LiesNearSource halves subject clip (in_order s.0) s.1) (data_steps contours)
+
+-- So they do within half a unit, and where no two given edges cross at a point that is not whole, each step lies on it.
+pub record ComeFromSources (subject clip : List (List Point)) (contours : List (List (DataStep SourceEdge))) : Type 0 where
+  pub halves : ℕ
+  pub near : LieNearSources halves subject clip contours
+  pub reach : halves ≤ 1
+  pub exact : IsTrue (is_exact_input (overlay_segments subject clip)) → halves ≡ 0

@@ -52,10 +52,12 @@ pub fn directed_steps_of_graph<I: OverlayInt, D: Copy>(
 ) -> Result<Vec<DataContour<I, D>>, Fault>
     requires { IsFlow (arcs (holds rule) (map (link_of I.whole) (links_of graph.now))) }
     ensures walks { IfOk result (λ contours. FollowDirectedWalks rule graph.now contours.items) }
-    ensures directed { IfOk result (λ contours. RunAlongLinks rule graph.now (bare_contours_of I.whole contours.items)) }
+    ensures directed { IfOk result (λ contours.
+        RunAlongLinks rule graph.now (bare_contours_of I.whole contours.items)) }
     ensures winds { IfOk result (λ contours. WindAsLinks rule graph.now (bare_contours_of I.whole contours.items)) }
     ensures edges { IfOk result (λ contours. HaveLinksAsEdges graph.now (bare_contours_of I.whole contours.items)) }
-    ensures painted { IfOk result (λ contours. PaintWhatIsEnclosed graph.now (bare_contours_of I.whole contours.items)) }
+    ensures painted { IfOk result (λ contours.
+        PaintWhatIsEnclosed graph.now (bare_contours_of I.whole contours.items)) }
     ensures proper { IfOk result (λ contours. AreProper (bare_contours_of I.whole contours.items)) }
     ensures fault { IfErr result (λ fault. fault ≡ Memory) }
 {
@@ -64,8 +66,8 @@ pub fn directed_steps_of_graph<I: OverlayInt, D: Copy>(
     Ok(contours)
 }
 
-/// The walks of a graph in shapes, as `shapes_of_graph` returns them, as contours whose steps have data: each has that of
-/// the link along which it runs.
+/// The walks of a graph in shapes, as `shapes_of_graph` returns them, as contours whose steps have data: each has that
+/// of the link along which it runs.
 ///
 /// What is required of the graph is what `shapes_of_graph` requires.
 ///

@@ -6,9 +6,8 @@ ghost use Rattle.overlay_base.specs.ArrangedOf.{IsSplittable};
 ghost use Rattle.overlay_base.specs.Balance.{IsBalanced};
 ghost use Rattle.overlay_base.specs.SegmentOf.{segments_of, data_segments_of};
 ghost use Rattle.overlay_base.specs.declared.segm.fault.Fault.TheVariants.{Memory};
-ghost use Rattle.overlay_snapping.specs.SnapOf.{reach_of_snap};
 ghost use Rattle.overlay_contours.specs.Contours.{steps_of};
-ghost use Rattle.overlay_contours.specs.ContourSegments.{step_segments, contour_segments, overlay_segments, are_in_range};
+ghost use Rattle.overlay_contours.specs.ContourSegments.{step_segments, contour_segments, are_in_range};
 ghost use Rattle.overlay_contours.specs.ContoursIn.{LieInRange, AreSidesOf, IsRefusalOf};
 ghost use Rattle.overlay_contours.specs.ContoursOf.{points_of, contours_of};
 ghost use Rattle.overlay_contours.specs.DataContours.{all_data_contours};
@@ -16,7 +15,7 @@ ghost use Rattle.overlay_contours.specs.DataContoursOf.{data_contours_of, bare_c
 ghost use Rattle.overlay_contours.specs.Polygons.{IsPolygonOverlay};
 ghost use Rattle.overlay_contours.specs.Refusals.{of_shape, IsReason};
 ghost use Rattle.overlay_contours.specs.Shapes.{IsShapeOverlay, all_contours};
-ghost use Rattle.overlay_contours.specs.Sources.{given_step, IsItsSource, LieNearSources};
+ghost use Rattle.overlay_contours.specs.Sources.{given_step, IsItsSource, ComeFromSources};
 ghost use Rattle.overlay_contours.specs.Splittings.{by_snapping};
 ghost use Rattle.overlay_contours.specs.steps.SourceGraphs.{IsSourceGraph};
 
@@ -40,9 +39,9 @@ use overlay_geometry::num::OverlayInt;
 use overlay_snapping::snap::solver::SnapSolver;
 use std::alloc::Global;
 
-/// Names a given edge: of a contour, from the point at an index to the next one, or from the last one to the first.
+/// A given edge: of a contour, from the point at an index to the next one, or from the last one to the first.
 ///
-/// As the data of segments it stays where a segment is turned or split; of two that become one the left one's is kept.
+/// Segments that carry it keep it where they are turned or split. Of two that become one, the left one's is kept.
 #[derive(Clone, Copy, Debug, PartialEq, Eq)]
 pub struct SourceEdge {
     /// The shape that has the contour.
@@ -91,12 +90,11 @@ pub type SourceContour<I> = DataContour<I, SourceEdge>;
 /// A shape of such contours.
 pub type SourceShape<I> = DataShape<I, SourceEdge>;
 
-/// The overlay of `overlay_contours` with a given edge for each step: of the edges of the subject's and the clip's
-/// contours one near which the step runs.
+/// The overlay of `overlay_contours`, in which each step names a given edge near which it runs.
 ///
-/// Without the edges, the result is an overlay as `overlay_contours` returns one. Each step, from its point to that of
-/// the next step, lies within half a unit of the edge that it names, in `x` and in `y`. Where no two given edges cross at
-/// a point without whole coordinates, it lies on that edge. Where several edges run along a step, one of them is named.
+/// Without these names the result is an overlay as `overlay_contours` returns one. Each step, from its point to that of
+/// the next step, lies within half a unit of the edge that it names, in `x` and in `y`. Where no two given edges cross
+/// at a point without whole coordinates, it lies on that edge. Where several edges run along a step, it names one.
 ///
 /// Returns what `overlay_contours` does where it is refused.
 pub fn overlay_contours_with_sources<I: OverlayInt>(
@@ -109,8 +107,7 @@ pub fn overlay_contours_with_sources<I: OverlayInt>(
 ) -> Result<Vec<SourceContour<I>>, ContourFault>
     ensures polygons { IfOk result (λ contours. IsPolygonOverlay by_snapping overlay_rule fill_rule
         (contours_of I.whole subject.now) (contours_of I.whole clip.now) (bare_contours_of I.whole contours.items)) }
-    ensures sources { IfOk result (λ contours. LieNearSources
-        (reach_of_snap (overlay_segments (contours_of I.whole subject.now) (contours_of I.whole clip.now)))
+    ensures sources { IfOk result (λ contours. ComeFromSources
         (contours_of I.whole subject.now) (contours_of I.whole clip.now) (data_contours_of I.whole contours.items)) }
     ensures in_range { IfOk result (λ contours. IsTrue (are_in_range (I.whole I.MIN_COORD) (I.whole I.MAX_COORD)
         (bare_contours_of I.whole contours.items))) }
@@ -123,7 +120,7 @@ pub fn overlay_contours_with_sources<I: OverlayInt>(
     Ok(overlay_in_range(alloc, subject, clip, solver, fill_rule, overlay_rule)?)
 }
 
-/// The overlay of `overlay_shapes` with a given edge for each step, as `overlay_contours_with_sources` names them.
+/// The overlay of `overlay_shapes`, in which each step names a given edge as in `overlay_contours_with_sources`.
 ///
 /// Returns what `overlay_contours` does where it is refused.
 pub fn overlay_shapes_with_sources<I: OverlayInt>(
@@ -136,8 +133,7 @@ pub fn overlay_shapes_with_sources<I: OverlayInt>(
 ) -> Result<Vec<SourceShape<I>>, ContourFault>
     ensures shapes { IfOk result (λ shapes. IsShapeOverlay by_snapping overlay_rule fill_rule
         (contours_of I.whole subject.now) (contours_of I.whole clip.now) (bare_shapes_of I.whole shapes.items)) }
-    ensures sources { IfOk result (λ shapes. LieNearSources
-        (reach_of_snap (overlay_segments (contours_of I.whole subject.now) (contours_of I.whole clip.now)))
+    ensures sources { IfOk result (λ shapes. ComeFromSources
         (contours_of I.whole subject.now) (contours_of I.whole clip.now)
         (all_data_contours (data_shapes_of I.whole shapes.items))) }
     ensures in_range { IfOk result (λ shapes. IsTrue (are_in_range (I.whole I.MIN_COORD) (I.whole I.MAX_COORD)
@@ -164,8 +160,7 @@ fn overlay_in_range<I: OverlayInt>(
     requires clip { LieInRange I.whole I.MIN_COORD I.MAX_COORD clip.now }
     ensures polygons { IfOk result (λ contours. IsPolygonOverlay by_snapping overlay_rule fill_rule
         (contours_of I.whole subject.now) (contours_of I.whole clip.now) (bare_contours_of I.whole contours.items)) }
-    ensures sources { IfOk result (λ contours. LieNearSources
-        (reach_of_snap (overlay_segments (contours_of I.whole subject.now) (contours_of I.whole clip.now)))
+    ensures sources { IfOk result (λ contours. ComeFromSources
         (contours_of I.whole subject.now) (contours_of I.whole clip.now) (data_contours_of I.whole contours.items)) }
     ensures in_range { IfOk result (λ contours. IsTrue (are_in_range (I.whole I.MIN_COORD) (I.whole I.MAX_COORD)
         (bare_contours_of I.whole contours.items))) }
@@ -199,8 +194,7 @@ fn shapes_in_range<I: OverlayInt>(
     requires clip { LieInRange I.whole I.MIN_COORD I.MAX_COORD clip.now }
     ensures shapes { IfOk result (λ shapes. IsShapeOverlay by_snapping overlay_rule fill_rule
         (contours_of I.whole subject.now) (contours_of I.whole clip.now) (bare_shapes_of I.whole shapes.items)) }
-    ensures sources { IfOk result (λ shapes. LieNearSources
-        (reach_of_snap (overlay_segments (contours_of I.whole subject.now) (contours_of I.whole clip.now)))
+    ensures sources { IfOk result (λ shapes. ComeFromSources
         (contours_of I.whole subject.now) (contours_of I.whole clip.now)
         (all_data_contours (data_shapes_of I.whole shapes.items))) }
     ensures in_range { IfOk result (λ shapes. IsTrue (are_in_range (I.whole I.MIN_COORD) (I.whole I.MAX_COORD)
@@ -265,13 +259,13 @@ pub fn segments_with_sources<I: OverlayInt>(
     ensures fault { IfErr result (λ fault. fault ≡ Memory) }
 {
     let mut sides = Vec::new(alloc);
-    push_contours(&mut sides, subject, ShapeType::Subject)?;
-    push_contours(&mut sides, clip, ShapeType::Clip)?;
+    push_source_contours(&mut sides, subject, ShapeType::Subject)?;
+    push_source_contours(&mut sides, clip, ShapeType::Clip)?;
     Ok(sides)
 }
 
 /// Appends the segments of contours of one shape.
-fn push_contours<I: OverlayInt>(
+fn push_source_contours<I: OverlayInt>(
     sides: &mut Vec<SourceSegment<I>>,
     contours: &[IntContour<I>],
     shape_type: ShapeType,
@@ -285,13 +279,13 @@ fn push_contours<I: OverlayInt>(
     ensures fault { IfErr result (λ fault. fault ≡ Memory) }
 {
     for (index, contour) in contours.iter().enumerate() {
-        push_contour(sides, contour, shape_type, index)?;
+        push_source_contour(sides, contour, shape_type, index)?;
     }
     Ok(())
 }
 
 /// Appends the steps of the contour at an index.
-fn push_contour<I: OverlayInt>(
+fn push_source_contour<I: OverlayInt>(
     sides: &mut Vec<SourceSegment<I>>,
     contour: &[IntPoint<I>],
     shape_type: ShapeType,
@@ -315,7 +309,7 @@ fn push_contour<I: OverlayInt>(
             contour: index,
             edge,
         };
-        push_step(sides, from, *point, source)?;
+        push_source_step(sides, from, *point, source)?;
         from = *point;
     }
     let source = SourceEdge {
@@ -323,11 +317,11 @@ fn push_contour<I: OverlayInt>(
         contour: index,
         edge: later.len(),
     };
-    push_step(sides, from, *first, source)
+    push_source_step(sides, from, *first, source)
 }
 
 /// Appends the segment of a step, where its two points differ.
-fn push_step<I: OverlayInt>(
+fn push_source_step<I: OverlayInt>(
     sides: &mut Vec<SourceSegment<I>>,
     from: IntPoint<I>,
     to: IntPoint<I>,

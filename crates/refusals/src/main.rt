@@ -20,7 +20,9 @@ use crate::graphs::{Boundary, Build, Filter, Kind, Lists, Loops, Walks};
 use crate::inserts::Insert;
 use crate::lists::{Balance, Join, Snap, Sort, Split};
 use crate::sweeps::Sweep;
-use crate::wholes::{Contours, KeptContours, KeptRules, KeptShapes, LineClip, Overlay, Shapes};
+use crate::wholes::{
+    Contours, KeptContours, KeptRules, KeptShapes, LineClip, Overlay, Shapes, Sources,
+};
 use i_overlay::build::scan_list::ScanList;
 use i_overlay::build::scan_tree::ScanTree;
 use i_overlay::overlay_core::solver::Solver;
@@ -122,6 +124,7 @@ fn tell_contours<W: Write, E: Write>(
     tell("shapes", "", &mut Shapes {}, alloc, output, digests)?;
     let mut shapes = KeptShapes::new(alloc);
     tell("shapes", kept, &mut shapes, alloc, output, digests)?;
+    tell("sources", "", &mut Sources {}, alloc, output, digests)?;
     let mut rules = KeptRules::new(alloc);
     tell("two rules", kept, &mut rules, alloc, output, digests)
 }

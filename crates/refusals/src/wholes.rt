@@ -1,5 +1,5 @@
 // The whole overlay, lines cut by polygons, and contours, each in one call.
-use crate::case::{Case, Stop, Summary, mixed_point, refused};
+use crate::case::{Case, Stop, Summary, mixed_index, mixed_point, refused};
 use crate::graphs::{Builder, INSIDE, LineBuilder, summary_of};
 use crate::shapes::{CUT, NO_DATA, Shape, sides};
 use i_overlay::clip::split_and_build_clip;
@@ -18,6 +18,9 @@ use overlay_contours::contour::{IntContour, IntShape};
 use overlay_contours::fault::ContourFault;
 use overlay_contours::overlay::{Overlay as ContourOverlay, overlay_contours, overlay_shapes};
 use overlay_contours::rounding::Rounding;
+use overlay_contours::sources::{
+    SourceContour, overlay_contours_with_sources, overlay_shapes_with_sources,
+};
 use std::alloc::Global;
 
 /// An overlay by one splitter and one builder. A refusal leaves the list empty, or the arrangement.
@@ -206,6 +209,33 @@ impl Case for Shapes {
     }
 }
 
+/// What two contours share, and in shapes what they do not, with a given edge for each step.
+#[derive(Drop)]
+pub struct Sources {}
+
+impl Case for Sources {
+    fn try_once(&mut self, alloc: Global) -> Result<Summary, Stop> {
+        let subject = vec![in alloc; square(0, alloc)?]?;
+        let clip = vec![in alloc; square(2, alloc)?]?;
+        let (solver, fill) = (&Solver::AUTO, FillRule::NonZero);
+        let (shared, apart) = (OverlayRule::Intersect, OverlayRule::Xor);
+        let mut summary = Summary::NOTHING;
+        match overlay_contours_with_sources(alloc, &subject, &clip, solver, fill, shared) {
+            Ok(contours) => summary = summary.with(summary_of_sources(&contours)),
+            Err(fault) => return Err(contour_stop(fault)),
+        }
+        match overlay_shapes_with_sources(alloc, &subject, &clip, solver, fill, apart) {
+            Ok(shapes) => {
+                for shape in &shapes {
+                    summary = summary.with(summary_of_sources(shape));
+                }
+                Ok(summary)
+            }
+            Err(fault) => Err(contour_stop(fault)),
+        }
+    }
+}
+
 /// What two contours do not share, in shapes, by one overlay that keeps them, split by snap rounding. After a refusal it
 /// is used again as it is, and what it reports of its last run is as it was.
 #[derive(Drop)]
@@ -295,6 +325,22 @@ fn summary_of_contours(contours: &[IntContour<i32>]) -> Summary {
     Summary {
         count: contours.len(),
         others: points,
+        digest,
+    }
+}
+
+/// How many contours and steps there are, and a digest of the points and of the edges that are named.
+fn summary_of_sources(contours: &[SourceContour<i32>]) -> Summary {
+    let (mut digest, mut steps) = (0, 0_u128);
+    for contour in contours {
+        for step in contour.iter() {
+            digest = mixed_index(mixed_point(digest, step.point), step.edge_data.edge);
+            steps = steps.saturating_add(1);
+        }
+    }
+    Summary {
+        count: contours.len(),
+        others: steps,
         digest,
     }
 }

@@ -1,5 +1,5 @@
 -- Contours whose steps have data: without it they are those of the walks, and each step has the data of the link along which it runs.
-use Rattle.std.proofs.Common.{◌≡◌, refl, sym, ap, ap₂, subst, ◌∙◌, ℕ, zero, suc, get_or, Bool, true, List, [], ◌∷◌, ◌++◌, map, flat_map}
+use Rattle.std.proofs.Common.{◌≡◌, refl, sym, ap, ap₂, subst, ◌∙◌, ℕ, zero, suc, get_or, Bool, true, List, [], ◌∷◌, ◌++◌, map}
 use Rattle.std.specs.Prelude.{ℤ, Option, Some, None, option_map, slice_get}
 use Rattle.std.specs.List.{AllByRecursion, list_all, zip}
 use Rattle.std.proofs.lemmas.List.{map-append}
@@ -7,7 +7,7 @@ use Rattle.std.proofs.lemmas.Option.{none-some, same_Some, slice_get-map, get_or
 use Rattle.overlay_geometry.specs.Points.{Point, Pair, is_ordered}
 use Rattle.overlay_geometry.proofs.laws.lists.Lists.{AllByRecursion-append}
 use Rattle.overlay_base.specs.declared.overlay_core.link.OverlayLink.{OverlayLink}
-use Rattle.overlay_build.specs.DirectedWalks.{in_direction, arcs, no_link, IsDirectedWalk, AreDirectedWalks, contour}
+use Rattle.overlay_build.specs.DirectedWalks.{in_direction, arcs, no_link, IsDirectedWalk, contour}
 use Rattle.overlay_build.specs.Graph.{Link}
 use Rattle.overlay_build.specs.GraphOf.{link_of, graph_with}
 use Rattle.overlay_shapes.specs.Gathered.{all_walks}

@@ -56,7 +56,7 @@ left_by_passes settings given segments passes halves flag least greatest run arr
 }
 
 -- nothing is moved by more than a half, and nothing at all where each crossing is whole
-at_most_one : (given : List WholeSegment) → reach_of_snap given ≤ 1
+pub at_most_one : (given : List WholeSegment) → reach_of_snap given ≤ 1
 unfolding reach_of_snap
 at_most_one given = by (is_rounded (join given))
   where
@@ -64,7 +64,7 @@ at_most_one given = by (is_rounded (join given))
     by true = omega arith
     by false = omega arith
 
-none_where_exact : (given : List WholeSegment) → IsTrue (is_exact_input given) → reach_of_snap given ≡ 0
+pub none_where_exact : (given : List WholeSegment) → IsTrue (is_exact_input given) → reach_of_snap given ≡ 0
 unfolding reach_of_snap
 none_where_exact given exact = ap (λ (b : Bool). if b then 1 else 0) (join_not_rounded given (exact_means given exact))
 

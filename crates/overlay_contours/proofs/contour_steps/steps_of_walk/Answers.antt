@@ -1,11 +1,10 @@
-use Rattle.std.proofs.Common.{◌≡◌, sym, ap, refl, ◌∙◌, ℕ, ◌+◌, ◌<◌, get_or, length, List, map, take}
+use Rattle.std.proofs.Common.{◌≡◌, sym, ap, refl, ◌∙◌, ℕ, ◌<◌, get_or, length, List, map}
 use Rattle.std.specs.Prelude.{Some, option_map, slice_get}
 use Rattle.std.proofs.lemmas.List.{get_or_default, map-append}
 use Rattle.std.proofs.lemmas.Option.{slice_get_read}
 use Rattle.overlay_base.specs.Rules.{holds}
 use Rattle.overlay_build.specs.OverlayGraphOf.{links_of}
-use Rattle.overlay_contours.specs.DataContours.{DataStep}
-use Rattle.overlay_contours.specs.DataContoursOf.{data_step_of, step_along, IsStepsOfWalk}
+use Rattle.overlay_contours.specs.DataContoursOf.{data_step_of, step_along}
 use Rattle.overlay_contours.proofs.laws.Extracts.{one_more}
 use Rattle.overlay_contours.proofs.contour_steps.steps_of_walk.Goals as goal
 

@@ -1,12 +1,11 @@
-use Rattle.std.proofs.Common.{◌≡◌, refl, sym, ap, ◌∙◌, subst, ◌<◌, get_or, length, List, map}
+use Rattle.std.proofs.Common.{◌≡◌, refl, sym, ap, ◌∙◌, subst, ◌<◌, get_or, length, map}
 use Rattle.std.specs.Prelude.{All, Some, option_map, slice_get}
 use Rattle.std.proofs.lemmas.List.{length-map, get_or-map}
 use Rattle.std.proofs.lemmas.Simd.{map-map}
 use Rattle.overlay_base.specs.Rules.{holds}
 use Rattle.overlay_build.specs.BoundaryOf.{walks_of}
 use Rattle.overlay_build.specs.OverlayGraphOf.{links_of}
-use Rattle.overlay_contours.specs.DataContours.{DataStep}
-use Rattle.overlay_contours.specs.DataContoursOf.{data_step_of, step_along, IsStepsOfWalk}
+use Rattle.overlay_contours.specs.DataContoursOf.{data_step_of, step_along}
 use Rattle.overlay_contours.proofs.laws.Extracts.{one_more, all_mapped}
 use Rattle.overlay_contours.proofs.contour_steps.steps_of_walks.Goals as goal
 

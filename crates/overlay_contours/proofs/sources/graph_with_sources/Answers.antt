@@ -5,7 +5,6 @@ use Rattle.std.proofs.lemmas.Bool.{or_left}
 use Rattle.std.proofs.lemmas.List.Elements.{All-from_recursion}
 use Rattle.std.proofs.lemmas.Result.{IfErr-weaker}
 use Rattle.overlay_geometry.specs.Points.{Point, Pair}
-use Rattle.overlay_base.specs.EdgeData.{without_data}
 use Rattle.overlay_base.specs.Rules.{holds, keeps_fill}
 use Rattle.overlay_base.specs.Segments.{WholeSegment}
 use Rattle.overlay_base.specs.SegmentOf.{segment_of, segments_of, data_segments_of}
@@ -18,7 +17,6 @@ use Rattle.overlay_build.specs.Graph.{graph_by, data_by}
 use Rattle.overlay_build.specs.GraphOf.{link_of, HoldGraph}
 use Rattle.overlay_build.specs.NodeIndexes.{indexes_of, is_canonical_node}
 use Rattle.overlay_build.proofs.laws.graphs.BuiltGraphs.{graph_with_kept, polygons_from}
-use Rattle.overlay_contours.specs.ContourSegments.{overlay_segments}
 use Rattle.overlay_contours.specs.ContoursOf.{contours_of}
 use Rattle.overlay_contours.specs.Refusals.{IsReason}
 use Rattle.overlay_contours.specs.Sources.{LiesNearSource}

@@ -1,25 +1,21 @@
-use Rattle.std.proofs.Common.{sym, ap, ◌∙◌, List, map}
+use Rattle.std.proofs.Common.{sym, ap, ◌∙◌, List}
 use Rattle.std.specs.Prelude.{count_by}
-use Rattle.std.proofs.lemmas.List.Elements.{All-from_recursion, recursion_from_All}
-use Rattle.overlay_geometry.specs.Points.{Point, Pair}
+use Rattle.overlay_geometry.specs.Points.{Point}
 use Rattle.overlay_base.specs.Rules.{holds}
 use Rattle.overlay_snapping.specs.SnapOf.{reach_of_snap}
-use Rattle.overlay_build.specs.DirectedWalks.{arcs, IsDirectedWalk}
+use Rattle.overlay_build.specs.DirectedWalks.{arcs}
 use Rattle.overlay_build.specs.Graph.{Link}
-use Rattle.overlay_build.specs.GraphOf.{link_of, graph_with}
+use Rattle.overlay_build.specs.GraphOf.{graph_with}
 use Rattle.overlay_build.specs.OverlayGraphOf.{links_of}
-use Rattle.overlay_contours.specs.Contours.{in_order}
 use Rattle.overlay_contours.specs.ContourSegments.{overlay_segments}
 use Rattle.overlay_contours.specs.ContoursOf.{contours_of}
-use Rattle.overlay_contours.specs.DataContours.{DataStep, data_steps}
 use Rattle.overlay_contours.specs.DataContoursOf.{data_contours_of, bare_contours_of}
-use Rattle.overlay_contours.specs.Sources.{LiesNearSource}
 use Rattle.overlay_contours.specs.Splittings.{by_snapping}
-use Rattle.overlay_contours.specs.declared.sources.SourceEdge.{SourceEdge}
 use Rattle.overlay_contours.proofs.laws.Extracts.{ways_of}
 use Rattle.overlay_contours.proofs.laws.GraphContours.{graph_pairs}
 use Rattle.overlay_contours.proofs.laws.Overlays.{links_flow, polygon_overlay, answer_in_range}
 use Rattle.overlay_contours.proofs.laws.Sources.{steps_near_sources}
+use Rattle.overlay_contours.proofs.laws.Splittings.{at_most_one, none_where_exact}
 use Rattle.overlay_contours.proofs.sources.overlay_in_range.Goals as goal
 
 pub directed_steps_of_graph-requires : goal.directed_steps_of_graph-requires
@@ -69,4 +65,9 @@ returns-clause-sources g c =
     let clip : List (List Point) = contours_of whole c.args.clip.now in
     let graph = c.in_ok-graph.graph in
     let walks = c.in_ok-contours.ensures.walks in
-    steps_near_sources subject clip (reach_of_snap (overlay_segments subject clip)) whole (holds c.args.overlay_rule) (links_of graph) graph.holds.same_links graph.ordered c.in_ok-graph.ensures.graph.near walks.walks (data_contours_of whole c.in_ok-contours.contours.items) walks.are walks.steps
+    record {
+      halves = reach_of_snap (overlay_segments subject clip);
+      near = steps_near_sources subject clip (reach_of_snap (overlay_segments subject clip)) whole (holds c.args.overlay_rule) (links_of graph) graph.holds.same_links graph.ordered c.in_ok-graph.ensures.graph.near walks.walks (data_contours_of whole c.in_ok-contours.contours.items) walks.are walks.steps;
+      reach = at_most_one (overlay_segments subject clip);
+      exact = none_where_exact (overlay_segments subject clip);
+    }

@@ -17,8 +17,8 @@ returns-clause-segments g c =
     let whole = g.I.OverlayInt.whole in
     let subject : List (List Point) = contours_of whole c.args.subject.now in
     let clip : List (List Point) = contours_of whole c.args.clip.now in
-    let first : segments_of c.push_contours.new.sides.items ≡ contour_segments Subject subject = c.in_ok-push_contours.ensures.sides ∙ ap (λ (l : _). segments_of l ++ contour_segments Subject subject) c.new-sides.ensures.items in
-    c.in_ok-push_contours-2.ensures.sides ∙ ap (λ (l : List WholeSegment). l ++ contour_segments Clip clip) first
+    let first : segments_of c.push_source_contours.new.sides.items ≡ contour_segments Subject subject = c.in_ok-push_source_contours.ensures.sides ∙ ap (λ (l : _). segments_of l ++ contour_segments Subject subject) c.new-sides.ensures.items in
+    c.in_ok-push_source_contours-2.ensures.sides ∙ ap (λ (l : List WholeSegment). l ++ contour_segments Clip clip) first
 
 pub returns-clause-balanced : goal.returns-clause-balanced
 returns-clause-balanced g c =

@@ -16,6 +16,7 @@ use Rattle.overlay_contours.proofs.laws.DataContours.{all_steps}
 use Rattle.overlay_contours.proofs.laws.Overlays.{links_flow}
 use Rattle.overlay_contours.proofs.laws.ShapeResults.{links_arranged, links_have_region, shape_overlay_of, all_in_range}
 use Rattle.overlay_contours.proofs.laws.Sources.{steps_near_sources}
+use Rattle.overlay_contours.proofs.laws.Splittings.{at_most_one, none_where_exact}
 use Rattle.overlay_contours.proofs.sources.shapes_in_range.Goals as goal
 
 pub shape_steps_of_graph-requires-clause-flow : goal.shape_steps_of_graph-requires-clause-flow
@@ -86,4 +87,9 @@ returns-clause-sources g c =
     let links = links_of graph in
     let rule = holds c.args.overlay_rule in
     let f = c.in_ok-shapes.ensures.shapes in
-    steps_near_sources subject clip (reach_of_snap (overlay_segments subject clip)) whole rule links graph.holds.same_links graph.ordered c.in_ok-graph.ensures.graph.near (all_walks f.walks) (all_data_contours (data_shapes_of whole c.in_ok-shapes.shapes.items)) f.are.walks (all_steps whole rule links f.walks (data_shapes_of whole c.in_ok-shapes.shapes.items) f.steps)
+    record {
+      halves = reach_of_snap (overlay_segments subject clip);
+      near = steps_near_sources subject clip (reach_of_snap (overlay_segments subject clip)) whole rule links graph.holds.same_links graph.ordered c.in_ok-graph.ensures.graph.near (all_walks f.walks) (all_data_contours (data_shapes_of whole c.in_ok-shapes.shapes.items)) f.are.walks (all_steps whole rule links f.walks (data_shapes_of whole c.in_ok-shapes.shapes.items) f.steps);
+      reach = at_most_one (overlay_segments subject clip);
+      exact = none_where_exact (overlay_segments subject clip);
+    }

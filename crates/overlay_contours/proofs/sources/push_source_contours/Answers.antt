@@ -9,7 +9,7 @@ use Rattle.overlay_contours.specs.Contours.{steps_of}
 use Rattle.overlay_contours.specs.ContoursOf.{points_of, contours_of}
 use Rattle.overlay_contours.specs.ContourSegments.{step_segments, contour_segments}
 use Rattle.overlay_contours.proofs.laws.Steps.{contour_segments-next, contour_segments-past}
-use Rattle.overlay_contours.proofs.sources.push_contours.Goals as goal
+use Rattle.overlay_contours.proofs.sources.push_source_contours.Goals as goal
 
 pub loop-index-preserved : goal.loop-index-preserved
 loop-index-preserved g c =
@@ -21,12 +21,12 @@ loop-index-preserved g c =
     let rest : List WholeSegment = contour_segments shape_type (contours_of whole (drop (k + 1) contours)) in
     let before : List WholeSegment = segments_of c.loop-index.sides.items in
     let here : List WholeSegment = step_segments shape_type (steps_of (points_of whole item.items)) in
-    let pushed : segments_of c.push_contour.new.sides.items ≡ before ++ here = c.in_ok-push_contour.ensures.sides ∙ ap (λ (l : _). before ++ step_segments shape_type (steps_of (points_of whole l))) c.deref.ensures.value in (
+    let pushed : segments_of c.push_source_contour.new.sides.items ≡ before ++ here = c.in_ok-push_source_contour.ensures.sides ∙ ap (λ (l : _). before ++ step_segments shape_type (steps_of (points_of whole l))) c.deref.ensures.value in (
       ap (λ (l : List WholeSegment). l ++ rest) pushed ∙ append_assoc before here rest
           ∙ ap (λ (l : List WholeSegment). before ++ l) (sym (contour_segments-next shape_type (λ v. points_of whole v.items) contours k item c.loop-index-test.true c.index-contours-index.is))
           ∙ c.loop-index.invariant.0,
       λ subject clip named given.
-          c.in_ok-push_contour.ensures.sources subject clip
+          c.in_ok-push_source_contour.ensures.sources subject clip
           (ap (λ (l : List (List Point)). slice_get l k) named
           ∙ slice_get-map (λ v. points_of whole v.items) contours k
           ∙ ap (option_map (λ v. points_of whole v.items)) (slice_get_read contours (length contours) k item refl c.loop-index-test.true c.index-contours-index.is)

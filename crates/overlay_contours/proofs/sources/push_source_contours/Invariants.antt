@@ -6,7 +6,7 @@ use Rattle.overlay_contours.specs.ContoursOf.{contours_of}
 use Rattle.overlay_contours.specs.ContourSegments.{contour_segments}
 use Rattle.overlay_contours.specs.Refusals.{of_shape}
 use Rattle.overlay_contours.specs.Sources.{IsItsSource}
-use Rattle.overlay_contours.proofs.sources.push_contours.Given as goal
+use Rattle.overlay_contours.proofs.sources.push_source_contours.Given as goal
 
 abbrev pub invariant-loop-index : goal.invariant-loop-index
 invariant-loop-index g l =

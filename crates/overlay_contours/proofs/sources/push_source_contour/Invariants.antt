@@ -3,12 +3,12 @@ use Rattle.std.specs.Prelude.{All, Some, slice_get}
 use Rattle.overlay_geometry.specs.Points.{Point}
 use Rattle.overlay_geometry.specs.PointOf.{point_of}
 use Rattle.overlay_base.specs.SegmentOf.{segments_of, data_segments_of}
-use Rattle.overlay_contours.specs.Contours.{steps_from, steps_of}
+use Rattle.overlay_contours.specs.Contours.{steps_from}
 use Rattle.overlay_contours.specs.ContoursOf.{points_of}
 use Rattle.overlay_contours.specs.ContourSegments.{step_segments}
 use Rattle.overlay_contours.specs.Refusals.{of_shape}
 use Rattle.overlay_contours.specs.Sources.{IsItsSource}
-use Rattle.overlay_contours.proofs.sources.push_contour.Given as goal
+use Rattle.overlay_contours.proofs.sources.push_source_contour.Given as goal
 
 abbrev pub invariant-loop-edge : goal.invariant-loop-edge
 invariant-loop-edge g l =

@@ -10,7 +10,7 @@ use Rattle.overlay_contours.specs.ContoursOf.{points_of}
 use Rattle.overlay_contours.specs.ContourSegments.{step_segments}
 use Rattle.overlay_contours.proofs.laws.Sources.{drop_next, got_first, given_from}
 use Rattle.overlay_contours.proofs.laws.Steps.{drop_at, drop_all, step_segments-append}
-use Rattle.overlay_contours.proofs.sources.push_contour.Goals as goal
+use Rattle.overlay_contours.proofs.sources.push_source_contour.Goals as goal
 
 pub loop-edge-preserved : goal.loop-edge-preserved
 loop-edge-preserved g c =
@@ -30,13 +30,13 @@ loop-edge-preserved g c =
     let next = drop_at later k point c.loop-edge-test.true c.index-later-edge.is ∙ ap (λ n. point ∷ drop n later) one_on in
     let ahead : steps_from (point_of whole from) (points_of whole (drop k later) ++ last) ≡ s ∷ rest = ap (λ l. steps_from (point_of whole from) (points_of whole l ++ last)) next in
     let dropped : drop k all ≡ s ∷ rest = c.loop-edge.invariant.1 ∙ ahead in (
-      ap (λ (l : List WholeSegment). l ++ step_segments shape_type rest) c.in_ok-push_step.ensures.sides
+      ap (λ (l : List WholeSegment). l ++ step_segments shape_type rest) c.in_ok-push_source_step.ensures.sides
           ∙ append_assoc before (step_segments shape_type (s ∷ [])) (step_segments shape_type rest)
           ∙ ap (λ (l : List WholeSegment). before ++ l) (sym (step_segments-append shape_type (s ∷ []) rest) ∙ ap (step_segments shape_type) (sym ahead))
           ∙ c.loop-edge.invariant.0,
       drop_next all k s rest dropped,
       λ subject clip named given.
-          c.in_ok-push_step.ensures.sources subject clip (given_from subject clip _ (point_of whole first ∷ points_of whole later) s named (got_first all k s rest dropped)) (c.loop-edge.invariant.2 subject clip named given),
+          c.in_ok-push_source_step.ensures.sources subject clip (given_from subject clip _ (point_of whole first ∷ points_of whole later) s named (got_first all k s rest dropped)) (c.loop-edge.invariant.2 subject clip named given),
     )
 
 pub returns-clause-sources : goal.returns-clause-sources
@@ -53,8 +53,8 @@ returns-clause-sources g c =
     let dropped : drop k all ≡ s ∷ [] = c.loop-edge.invariant.1 ∙ ap (λ l. steps_from (point_of whole from) (points_of whole l ++ last)) (drop_all later k c.loop-edge-test.false) in
     let at : slice_get all (length later) ≡ Some s = ap (slice_get all) (sym at_end) ∙ got_first all k s [] dropped in
     let points_are : points_of whole c.args.contour.now ≡ point_of whole first ∷ points_of whole later = ap (points_of whole) c.in-Some.ensures.cases.0 in
-    on_ok_weaker c.push_step-2.result
+    on_ok_weaker c.push_source_step-2.result
     (λ sources subject clip named given.
     let known = named ∙ ap (λ p. Some p) points_are in
     sources subject clip (given_from subject clip _ (point_of whole first ∷ points_of whole later) s known at) (c.loop-edge.invariant.2 subject clip known given))
-    c.push_step-2.ensures.sources
+    c.push_source_step-2.ensures.sources

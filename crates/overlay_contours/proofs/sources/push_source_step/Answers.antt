@@ -1,5 +1,4 @@
 use Rattle.std.proofs.Common.{◌≡◌, refl, sym, ap, subst, ◌++◌, ◌∙◌}
-use Rattle.std.specs.Prelude.{All}
 use Rattle.std.proofs.lemmas.List.{map-append}
 use Rattle.std.proofs.lemmas.List.Elements.{All-push}
 use Rattle.overlay_geometry.specs.PointOf.{point_of}
@@ -10,7 +9,7 @@ use Rattle.overlay_contours.specs.ContourSegments.{step_segment}
 use Rattle.overlay_contours.specs.Sources.{IsItsSource}
 use Rattle.overlay_contours.proofs.laws.Sources.{piece_is_source}
 use Rattle.overlay_contours.proofs.laws.Steps.{data_piece-step, one_step}
-use Rattle.overlay_contours.proofs.sources.push_step.Goals as goal
+use Rattle.overlay_contours.proofs.sources.push_source_step.Goals as goal
 
 pub returns-in_ok-push-clause-sides : goal.returns-in_ok-push-clause-sides
 returns-in_ok-push-clause-sides g c =
