@@ -25,7 +25,9 @@ fn main() {
         contours_ms = contours_ms.min(time);
         let time = timed(&contours, |overlay| shapes = overlay.overlay_shapes(rule, fill_rule).expect("shapes"));
         shapes_ms = shapes_ms.min(time);
-        let time = timed(&contours, |overlay| assert_eq!(overlay.overlay_by_rules(&rules, fill_rule).map(|all| all.len()), Ok(4)));
+        let time = timed(&contours, |overlay| {
+            assert_eq!(overlay.overlay_by_rules(&rules, fill_rule).map(|all| all.len()), Ok(4))
+        });
         rules_ms = rules_ms.min(time);
     }
     let (count, parts) = (found.len(), shapes.iter().map(Vec::len).sum::<usize>());

@@ -84,6 +84,53 @@ fn several_rules_at_once() {
     }
 }
 
+/// An arrangement returns by each rule what an overlay returns, and without collinear points what is left of that where
+/// points in the middle of a straight way are dropped. It stays when contours are added or dropped.
+#[test]
+fn arrangements_return_what_overlays_return() {
+    let mut random = Random(14);
+    for _ in 0..200 {
+        let mut overlay = Overlay::new().unwrap();
+        for shape in [ShapeType::Subject, ShapeType::Clip] {
+            let corners = (0..6).map(|_| IntPoint::new(random.below(9), random.below(9)));
+            overlay.add_contour(&corners.collect::<Vec<_>>(), shape).unwrap();
+        }
+        for rule in [OverlayRule::Union, OverlayRule::Difference, OverlayRule::Table(RuleTable::new(1).unwrap())] {
+            let contours = overlay.overlay(rule, FillRule::EvenOdd).unwrap();
+            let shapes = overlay.overlay_shapes(rule, FillRule::EvenOdd).unwrap();
+            let mut arrangement = overlay.arrange(FillRule::EvenOdd).unwrap();
+            assert_eq!(arrangement.contours(rule).unwrap(), contours);
+            assert_eq!(arrangement.shapes(rule).unwrap(), shapes);
+            let corners: Vec<_> = contours.iter().map(|contour| without_straight(contour)).collect();
+            assert_eq!(arrangement.contours_without_collinear(rule).unwrap(), corners);
+            let corners: Vec<Vec<_>> =
+                shapes.iter().map(|shape| shape.iter().map(|contour| without_straight(contour)).collect()).collect();
+            assert_eq!(arrangement.shapes_without_collinear(rule).unwrap(), corners);
+        }
+    }
+}
+
+/// The points of a contour at which its direction changes, by the directions of the steps in lowest terms.
+fn without_straight(contour: &[IntPoint]) -> Vec<IntPoint> {
+    fn divisor(a: i32, b: i32) -> i32 {
+        if b == 0 {
+            a.abs()
+        } else {
+            divisor(b, a % b)
+        }
+    }
+    let direction = |from: IntPoint, to: IntPoint| {
+        let (x, y) = (to.x - from.x, to.y - from.y);
+        (x / divisor(x, y), y / divisor(x, y))
+    };
+    let count = contour.len();
+    let turns = (0..count).filter(|&index| {
+        let (before, at, after) = (contour[(index + count - 1) % count], contour[index], contour[(index + 1) % count]);
+        direction(before, at) != direction(at, after)
+    });
+    turns.map(|index| contour[index]).collect()
+}
+
 /// Where points lie, by a ray to the right, in whole numbers: another way than the winding along the ray straight down.
 #[test]
 fn where_points_lie() {

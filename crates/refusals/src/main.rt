@@ -21,7 +21,8 @@ use crate::inserts::Insert;
 use crate::lists::{Balance, Join, Snap, Sort, Split};
 use crate::sweeps::Sweep;
 use crate::wholes::{
-    Contours, KeptContours, KeptRules, KeptShapes, LineClip, Overlay, Shapes, Sources,
+    Contours, KeptArrangement, KeptContours, KeptRules, KeptShapes, LineClip, Overlay, Shapes,
+    Sources,
 };
 use i_overlay::build::scan_list::ScanList;
 use i_overlay::build::scan_tree::ScanTree;
@@ -126,7 +127,16 @@ fn tell_contours<W: Write, E: Write>(
     tell("shapes", kept, &mut shapes, alloc, output, digests)?;
     tell("sources", "", &mut Sources {}, alloc, output, digests)?;
     let mut rules = KeptRules::new(alloc);
-    tell("two rules", kept, &mut rules, alloc, output, digests)
+    tell("two rules", kept, &mut rules, alloc, output, digests)?;
+    let mut arrangement = KeptArrangement::new(alloc);
+    tell(
+        "arrangement",
+        kept,
+        &mut arrangement,
+        alloc,
+        output,
+        digests,
+    )
 }
 
 /// Makes the calls under a strategy, but for builds.

@@ -14,6 +14,7 @@ use i_overlay::segm::segment::Segment;
 use i_overlay::segm::shape_type::ShapeType;
 use i_overlay::segm::string::ShapeCountString;
 use i_overlay::split::solver::SplitSolver;
+use overlay_contours::arrangement::Arrangement;
 use overlay_contours::contour::{IntContour, IntShape};
 use overlay_contours::fault::ContourFault;
 use overlay_contours::overlay::{Overlay as ContourOverlay, overlay_contours, overlay_shapes};
@@ -296,6 +297,40 @@ impl Case for KeptRules {
                 Err(refused(fault, before == after))
             }
         }
+    }
+}
+
+/// What two contours do not share, in shapes without collinear points, by an arrangement that is made once and kept. After
+/// a refusal both are used again as they are.
+#[derive(Drop)]
+pub struct KeptArrangement {
+    kept: KeptContours,
+    arrangement: Option<Arrangement<i32>>,
+}
+
+impl KeptArrangement {
+    /// An overlay of no contours.
+    pub fn new(alloc: Global) -> KeptArrangement {
+        KeptArrangement {
+            kept: KeptContours::new(alloc, Rounding::HotPixels),
+            arrangement: None,
+        }
+    }
+}
+
+impl Case for KeptArrangement {
+    fn try_once(&mut self, alloc: Global) -> Result<Summary, Stop> {
+        self.kept.add_missing(alloc)?;
+        if self.arrangement.is_none() {
+            let overlay = &mut self.kept.overlay;
+            let arrangement = overlay.arrange(&Solver::AUTO, FillRule::EvenOdd)?;
+            self.arrangement = Some(arrangement);
+        }
+        let Some(arrangement) = &mut self.arrangement else {
+            return Ok(Summary::NOTHING);
+        };
+        let shapes = arrangement.shapes_without_collinear(OverlayRule::Xor)?;
+        Ok(summary_of_shapes(&shapes))
     }
 }
 
