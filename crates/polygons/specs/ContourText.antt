@@ -3,6 +3,10 @@ use Rattle.std.specs.Prelude.{◌≡◌, ◌≢◌, ◌⊎◌, ℕ, ℤ, IsTrue,
 use Rattle.std.specs.List.{list_all}
 use Rattle.overlay_geometry.specs.Points.{Point}
 use Rattle.overlay_geometry.specs.Coordinates.{is_point_in_range}
+use Rattle.overlay_base.specs.Rules.{bits_of}
+use Rattle.overlay_base.specs.declared.overlay_core.overlay_rule.OverlayRule.{OverlayRule}
+use Rattle.overlay_base.specs.declared.overlay_core.overlay_rule.OverlayRule.TheVariants.{Intersect, Union, Difference, InverseDifference, Xor, Table}
+use Rattle.overlay_base.specs.declared.overlay_core.overlay_rule.OverlayRule.TheVariants.{Subject as SubjectRule, Clip as ClipRule}
 use Rattle.overlay_base.specs.declared.segm.shape_type.ShapeType.{ShapeType}
 use Rattle.overlay_base.specs.declared.segm.shape_type.ShapeType.TheVariants.{Subject, Clip}
 use Rattle.overlay_text.specs.declared.stop.LineFault.{LineFault}
@@ -68,6 +72,23 @@ contour_line points = codes "contour" ++ points_text points ++ codes "\n"
 
 abbrev pub contour_lines : List (List Point) → List ℕ
 contour_lines contours = flat_map contour_line contours
+
+-- `rule NAME`
+abbrev pub rule_line : OverlayRule → List ℕ
+rule_line SubjectRule = codes "rule subject\n"
+rule_line ClipRule = codes "rule clip\n"
+rule_line Intersect = codes "rule intersect\n"
+rule_line Union = codes "rule union\n"
+rule_line Difference = codes "rule difference\n"
+rule_line InverseDifference = codes "rule inverse-difference\n"
+rule_line Xor = codes "rule xor\n"
+rule_line (Table table) = codes "rule table:" ++ decimal (bits_of table) ++ codes "\n"
+
+-- for each rule its name, and then the contours of its overlay
+abbrev pub overlays_text : List OverlayRule → List (List (List Point)) → List ℕ
+overlays_text [] overlays = []
+overlays_text (rule ∷ rules) [] = []
+overlays_text (rule ∷ rules) (contours ∷ overlays) = rule_line rule ++ contour_lines contours ++ overlays_text rules overlays
 
 -- `shape`, and then its contours
 unfoldable pub shape_text : List (List Point) → List ℕ

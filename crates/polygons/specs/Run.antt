@@ -1,14 +1,15 @@
 -- What the program makes of the text of its input.
-use Rattle.std.specs.Prelude.{◌≡◌, ◌≢◌, ◌⊎◌, ◌||◌, ℕ, ℤ, Bool, true, false, not, MatchBool, if◌then◌else◌, List, ◌++◌, All, filter, flat_map, None, Some, Ok, Err, codes, bytes_eq}
+use Rattle.std.specs.Prelude.{◌≡◌, ◌≢◌, ◌⊎◌, ◌||◌, ◌&&◌, ℕ, ℤ, Bool, true, false, not, MatchBool, if◌then◌else◌, List, [], ◌∷◌, ◌++◌, All, filter, flat_map, None, Some, Ok, Err, codes, bytes_eq}
 use Rattle.std.specs.List.{list_any}
 use Rattle.std.specs.declared.result.Result.{Result}
 use Rattle.overlay_geometry.specs.Points.{Point}
 use Rattle.overlay_base.specs.Radius.{exponent_cap}
 use Rattle.overlay_base.specs.declared.overlay_core.fill_rule.FillRule.{FillRule}
 use Rattle.overlay_base.specs.declared.overlay_core.overlay_rule.OverlayRule.{OverlayRule}
+use Rattle.overlay_base.specs.declared.overlay_core.overlay_rule.OverlayRule.TheVariants.{Subject, Clip, Intersect, Union, Difference, InverseDifference, Xor}
 use Rattle.overlay_base.specs.declared.segm.fault.Fault.TheVariants.{CountOutOfRange}
 use Rattle.overlay_contours.specs.Beyond.{IsOverlayBeyond, IsShapeOverlayBeyond, AreOfSplitting}
-use Rattle.overlay_contours.specs.Polygons.{IsPolygonOverlay}
+use Rattle.overlay_contours.specs.Polygons.{IsPolygonOverlay, ArePolygonOverlays}
 use Rattle.overlay_contours.specs.Refusals.{CountsLeaveRange}
 use Rattle.overlay_contours.specs.Shapes.{IsShapeOverlay}
 use Rattle.overlay_contours.specs.Splittings.{Splitting, by_passes, by_snapping}
@@ -22,7 +23,7 @@ use Rattle.overlay_text.specs.Engines.{least_of, greatest_of, engine_bits}
 use Rattle.overlay_text.specs.Runs.{Behavior}
 use Rattle.overlay_text.specs.Text.{lines_of, AskInTurn, IsFirstFaultOf}
 use Rattle.overlay_text.specs.Words.{setting, WordsSet}
-use Rattle.polygons.specs.ContourText.{GivenContour, AsksForContour, IsFaultyContour, subject_of, clip_of, contour_lines, shape_lines, report_text}
+use Rattle.polygons.specs.ContourText.{GivenContour, AsksForContour, IsFaultyContour, subject_of, clip_of, contour_lines, overlays_text, shape_lines, report_text}
 use Rattle.polygons.specs.Wkt.{AsksForPolygons, AreFaultyPolygons, multipolygon_line}
 use Rattle.polygons.specs.declared.run.Choices.{Choices}
 
@@ -38,21 +39,54 @@ Set words settings = WordsSet words settings × All IsNoLimitOrRadius words
 abbrev pub is_among : List (List ℕ) → List ℕ → Bool
 is_among words name = list_any (λ word. bytes_eq word name) words
 
+-- a word that adds a rule
+abbrev pub adds_rule : List ℕ → Bool
+adds_rule word =
+    bytes_eq word (codes "also=subject") || (bytes_eq word (codes "also=clip") || (bytes_eq word (codes "also=intersect")
+    || (bytes_eq word (codes "also=union") || (bytes_eq word (codes "also=difference") || (bytes_eq word (codes "also=inverse-difference")
+    || bytes_eq word (codes "also=xor"))))))
+
 -- a word that chooses something by itself
 abbrev pub is_flag : List ℕ → Bool
-is_flag word = bytes_eq word (codes "shapes") || (bytes_eq word (codes "report") || (bytes_eq word (codes "pairwise") || bytes_eq word (codes "format=wkt")))
+is_flag word =
+    bytes_eq word (codes "shapes") || (bytes_eq word (codes "report") || (bytes_eq word (codes "pairwise")
+    || (bytes_eq word (codes "format=wkt") || adds_rule word)))
+
+-- of each rule with a name, whether the words add it
+abbrev pub others_among : List (List ℕ) → List Bool
+others_among words =
+    is_among words (codes "also=subject") ∷ is_among words (codes "also=clip") ∷ is_among words (codes "also=intersect")
+    ∷ is_among words (codes "also=union") ∷ is_among words (codes "also=difference") ∷ is_among words (codes "also=inverse-difference")
+    ∷ is_among words (codes "also=xor") ∷ []
+
+-- whether a rule is added
+abbrev pub has_others : Choices → Bool
+has_others choices = list_any (λ is_chosen. is_chosen) choices.others
+
+-- those that are added, of these rules
+abbrev pub chosen_of : List OverlayRule → List Bool → List OverlayRule
+chosen_of [] flags = []
+chosen_of (rule ∷ rules) [] = []
+chosen_of (rule ∷ rules) (false ∷ flags) = chosen_of rules flags
+chosen_of (rule ∷ rules) (true ∷ flags) = rule ∷ chosen_of rules flags
+
+-- the rule that is chosen, and behind it those that are added, in one order whatever the order of the words
+abbrev pub rules_by : Choices → OverlayRule → List OverlayRule
+rules_by choices rule = rule ∷ chosen_of (Subject ∷ Clip ∷ Intersect ∷ Union ∷ Difference ∷ InverseDifference ∷ Xor ∷ []) choices.others
 
 -- the words but for those
 abbrev pub without_flags : List (List ℕ) → List (List ℕ)
 without_flags words = filter (λ word. not (is_flag word)) words
 
--- The words make these choices: each of `shapes`, `report`, `pairwise` and `format=wkt` is among them where it is chosen, and the others
--- set the settings.
+-- The words make these choices: each of `shapes`, `report`, `pairwise`, `format=wkt` and the words that add rules is among them where it is
+-- chosen, and the others set the settings. Rules are added to contours as lines alone.
 pub record AskFor (words : List (List ℕ)) (choices : Choices) : Type 0 where
   pub in_shapes : choices.in_shapes ≡ is_among words (codes "shapes")
   pub has_report : choices.has_report ≡ is_among words (codes "report")
   pub is_pairwise : choices.is_pairwise ≡ is_among words (codes "pairwise")
   pub is_wkt : choices.is_wkt ≡ is_among words (codes "format=wkt")
+  pub others : choices.others ≡ others_among words
+  pub of_lines : (has_others choices && (choices.in_shapes || choices.is_wkt)) ≡ false
   pub settings : Set (without_flags words) choices.settings
 
 -- what passes over pairs are set to, in coordinates of that many bits
@@ -85,12 +119,25 @@ pub record AreReportedShapes (splitting : Splitting) (rule : OverlayRule) (fill_
   pub beyond : IsShapeOverlayBeyond halves rule fill_rule (subject_of given) (clip_of given) shapes
   pub report : AreOfSplitting splitting (subject_of given) (clip_of given) passes halves
 
+-- the overlays by several rules
+pub record AreReportedOverlays (splitting : Splitting) (rules : List OverlayRule) (fill_rule : FillRule) (given : List GivenContour) (overlays : List (List (List Point))) (passes halves : ℕ) : Type 0 where
+  pub are : ArePolygonOverlays splitting fill_rule (subject_of given) (clip_of given) rules overlays
+  pub report : AreOfSplitting splitting (subject_of given) (clip_of given) passes halves
+
 -- what an overlay of the given contours returns under a rule, in coordinates of that many bits
 abbrev pub IsOverlayText : ℕ → Choices → OverlayRule → List GivenContour → Result (List ℕ) Stop → Type 0
 IsOverlayText bits choices rule given answer =
     ((contours : List (List Point)) × (passes : ℕ) × (halves : ℕ)
     × IsReportedOverlay (splitting_by bits choices) rule choices.settings.fill_rule given contours passes halves
     × (answer ≡ Ok (contour_lines contours ++ report_text choices.has_report passes halves)))
+    ⊎ (CountsLeaveRange (splitting_by bits choices) (subject_of given) (clip_of given) × (answer ≡ Err (Refused CountOutOfRange)))
+
+-- the same by several rules, of one split
+abbrev pub IsRulesText : ℕ → Choices → List OverlayRule → List GivenContour → Result (List ℕ) Stop → Type 0
+IsRulesText bits choices rules given answer =
+    ((overlays : List (List (List Point))) × (passes : ℕ) × (halves : ℕ)
+    × AreReportedOverlays (splitting_by bits choices) rules choices.settings.fill_rule given overlays passes halves
+    × (answer ≡ Ok (overlays_text rules overlays ++ report_text choices.has_report passes halves)))
     ⊎ (CountsLeaveRange (splitting_by bits choices) (subject_of given) (clip_of given) × (answer ≡ Err (Refused CountOutOfRange)))
 
 -- the same in shapes
@@ -126,10 +173,11 @@ IsWktAnswer least greatest Makes bytes answer =
     ((given : List (List GivenContour)) × AskInTurn (AsksForPolygons least greatest) (lines_of bytes) given × Makes (flat_map (λ contours. contours) given) answer)
     ⊎ ((stop : Stop) × IsFirstFaultOf (AsksForPolygons least greatest) (AreFaultyPolygons least greatest) (lines_of bytes) stop × (answer ≡ Err stop))
 
--- the overlay of the contours that the lines of a text write: as WKT, in shapes or not, or the first fault of its lines
+-- the overlay of the contours that the lines of a text write: by several rules, as WKT, in shapes or not, or the first fault of its lines
 abbrev pub IsRuleAnswer : ℤ → ℤ → ℕ → Choices → OverlayRule → List ℕ → Result (List ℕ) Stop → Type 0
 IsRuleAnswer least greatest bits choices rule bytes answer =
-    MatchBool choices.is_wkt (IsWktAnswer least greatest (IsWktText bits choices rule) bytes answer) (IsReadAnswer least greatest (IsText choices.in_shapes bits choices rule) bytes answer)
+    MatchBool (has_others choices) (IsReadAnswer least greatest (IsRulesText bits choices (rules_by choices rule)) bytes answer)
+    (MatchBool choices.is_wkt (IsWktAnswer least greatest (IsWktText bits choices rule) bytes answer) (IsReadAnswer least greatest (IsText choices.in_shapes bits choices rule) bytes answer))
 
 -- the same by the rule that the settings choose, and the stop where they choose none
 abbrev pub IsPolygonsAnswer : ℤ → ℤ → ℕ → Choices → List ℕ → Result (List ℕ) Stop → Type 0

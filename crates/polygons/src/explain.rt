@@ -40,6 +40,17 @@ const SETTINGS: [(&str, &[&str]); 5] = [
     ),
 ];
 
+/// The names of rules that a word adds.
+const OTHERS: [&str; 7] = [
+    "subject",
+    "clip",
+    "intersect",
+    "union",
+    "difference",
+    "inverse-difference",
+    "xor",
+];
+
 /// How many bytes of a word a sentence shows.
 const MOST_SHOWN: usize = 40;
 
@@ -70,6 +81,7 @@ pub fn explain_words(alloc: Global, words: &[String]) -> Result<String, AllocErr
         }
         return Ok(text);
     }
+    text.push_str("`also=NAME` is for contours as lines: leave out `shapes` and `format=wkt`")?;
     Ok(text)
 }
 
@@ -82,6 +94,10 @@ fn explain_word(text: &mut String, word: &str) -> Result<(), AllocError> {
     let Some((name, value)) = word.split_once('=') else {
         return explain_lone_word(text, word);
     };
+    if name == "also" {
+        text.push_str(" is no rule that `polygons` adds")?;
+        return suggest(text, name, value, &OTHERS);
+    }
     for (known, values) in SETTINGS {
         if name == known {
             write!(text, " is no {known} that `polygons` knows")?;
@@ -89,7 +105,7 @@ fn explain_word(text: &mut String, word: &str) -> Result<(), AllocError> {
         }
     }
     text.push_str(" is no setting of `polygons`")?;
-    let names = ["rule", "fill", "engine", "strategy", "precision", "format"];
+    let names = ["rule", "also", "fill", "engine", "strategy", "precision", "format"];
     if let Some(near) = nearest(name, &names) {
         write!(text, "; did you mean {near}={value}?")?;
     }

@@ -20,6 +20,7 @@ Under format=wkt each line is S or C and a geometry, whose rings run in any dire
 The output has a line `contour X Y X Y ..` for each contour, with the result on its left.
 
   rule=NAME        subject, clip, intersect, union, difference, inverse-difference, xor, or table:0 to table:15
+  also=NAME        the overlay by another rule with a name too; a line `rule NAME` comes before the contours of each
   fill=NAME        nonzero (unless another is named), evenodd, positive or negative
   shapes           a line `shape` before each outer contour; its holes follow it
   format=wkt       input and output as WKT; the output is one MULTIPOLYGON
