@@ -1,5 +1,5 @@
 -- What the program makes of the text of its input.
-use Rattle.std.specs.Prelude.{◌≡◌, ◌≢◌, ◌⊎◌, ◌||◌, ◌&&◌, ℕ, ℤ, Bool, true, false, not, MatchBool, if◌then◌else◌, List, [], ◌∷◌, ◌++◌, All, filter, flat_map, None, Some, Ok, Err, codes, bytes_eq}
+use Rattle.std.specs.Prelude.{◌≡◌, ◌≢◌, ◌⊎◌, ◌||◌, ◌&&◌, ℕ, ℤ, Bool, true, false, not, MatchBool, if◌then◌else◌, List, [], ◌∷◌, ⊤, ◌++◌, All, filter, flat_map, None, Some, Ok, Err, codes, bytes_eq}
 use Rattle.std.specs.List.{list_any}
 use Rattle.std.specs.declared.result.Result.{Result}
 use Rattle.overlay_geometry.specs.Points.{Point}
@@ -9,7 +9,7 @@ use Rattle.overlay_base.specs.declared.overlay_core.overlay_rule.OverlayRule.{Ov
 use Rattle.overlay_base.specs.declared.overlay_core.overlay_rule.OverlayRule.TheVariants.{Subject, Clip, Intersect, Union, Difference, InverseDifference, Xor}
 use Rattle.overlay_base.specs.declared.segm.fault.Fault.TheVariants.{CountOutOfRange}
 use Rattle.overlay_contours.specs.Beyond.{IsOverlayBeyond, IsShapeOverlayBeyond, AreOfSplitting}
-use Rattle.overlay_contours.specs.Polygons.{IsPolygonOverlay, ArePolygonOverlays}
+use Rattle.overlay_contours.specs.Polygons.{IsPolygonOverlay}
 use Rattle.overlay_contours.specs.Refusals.{CountsLeaveRange}
 use Rattle.overlay_contours.specs.Shapes.{IsShapeOverlay}
 use Rattle.overlay_contours.specs.Splittings.{Splitting, by_passes, by_snapping}
@@ -119,10 +119,13 @@ pub record AreReportedShapes (splitting : Splitting) (rule : OverlayRule) (fill_
   pub beyond : IsShapeOverlayBeyond halves rule fill_rule (subject_of given) (clip_of given) shapes
   pub report : AreOfSplitting splitting (subject_of given) (clip_of given) passes halves
 
--- the overlays by several rules
-pub record AreReportedOverlays (splitting : Splitting) (rules : List OverlayRule) (fill_rule : FillRule) (given : List GivenContour) (overlays : List (List (List Point))) (passes halves : ℕ) : Type 0 where
-  pub are : ArePolygonOverlays splitting fill_rule (subject_of given) (clip_of given) rules overlays
-  pub report : AreOfSplitting splitting (subject_of given) (clip_of given) passes halves
+-- each of several overlays is so by its rule, and all are after the same passes
+abbrev pub AreReportedOverlays : Splitting → FillRule → List GivenContour → ℕ → ℕ → List OverlayRule → List (List (List Point)) → Type 0
+AreReportedOverlays splitting fill_rule given passes halves [] [] = ⊤
+AreReportedOverlays splitting fill_rule given passes halves [] (contours ∷ overlays) = ⊥
+AreReportedOverlays splitting fill_rule given passes halves (rule ∷ rules) [] = ⊥
+AreReportedOverlays splitting fill_rule given passes halves (rule ∷ rules) (contours ∷ overlays) =
+    IsReportedOverlay splitting rule fill_rule given contours passes halves × AreReportedOverlays splitting fill_rule given passes halves rules overlays
 
 -- what an overlay of the given contours returns under a rule, in coordinates of that many bits
 abbrev pub IsOverlayText : ℕ → Choices → OverlayRule → List GivenContour → Result (List ℕ) Stop → Type 0
@@ -136,7 +139,7 @@ IsOverlayText bits choices rule given answer =
 abbrev pub IsRulesText : ℕ → Choices → List OverlayRule → List GivenContour → Result (List ℕ) Stop → Type 0
 IsRulesText bits choices rules given answer =
     ((overlays : List (List (List Point))) × (passes : ℕ) × (halves : ℕ)
-    × AreReportedOverlays (splitting_by bits choices) rules choices.settings.fill_rule given overlays passes halves
+    × AreReportedOverlays (splitting_by bits choices) choices.settings.fill_rule given passes halves rules overlays
     × (answer ≡ Ok (overlays_text rules overlays ++ report_text choices.has_report passes halves)))
     ⊎ (CountsLeaveRange (splitting_by bits choices) (subject_of given) (clip_of given) × (answer ≡ Err (Refused CountOutOfRange)))
 

@@ -105,7 +105,15 @@ fn explain_word(text: &mut String, word: &str) -> Result<(), AllocError> {
         }
     }
     text.push_str(" is no setting of `polygons`")?;
-    let names = ["rule", "also", "fill", "engine", "strategy", "precision", "format"];
+    let names = [
+        "rule",
+        "also",
+        "fill",
+        "engine",
+        "strategy",
+        "precision",
+        "format",
+    ];
     if let Some(near) = nearest(name, &names) {
         write!(text, "; did you mean {near}={value}?")?;
     }
