@@ -14,43 +14,45 @@ use Rattle.polygons.proofs.Answering.{reported}
 
 -- ---- the rules that are added
 
-chosen_at : (rules : List OverlayRule) (flags : List Bool) (i : ℕ) (rule : OverlayRule) (flag : Bool) → i < length rules → i < length flags → rule ≡ get_or rules i rule → flag ≡ get_or flags i flag → flag ≡ true
+nothing_chosen : (rules : List OverlayRule) → chosen_of rules [] ≡ []
+nothing_chosen [] = refl
+nothing_chosen (r ∷ rules) = refl
+
+chosen_at : (rules : List OverlayRule) (flags : List Bool) (i : ℕ) (rule : OverlayRule) → i < length rules → rule ≡ get_or rules i rule → get_or flags i false ≡ true
     → chosen_of (drop i rules) (drop i flags) ≡ rule ∷ chosen_of (drop (suc i) rules) (drop (suc i) flags)
-chosen_at [] flags i rule flag h k is told yes = absurd (omega arith)
-chosen_at (r ∷ rules) [] i rule flag h k is told yes = absurd (omega arith)
-chosen_at (r ∷ rules) (f ∷ flags) zero rule flag h k is told yes =
-    let here : f ≡ true = sym told ∙ yes in
+chosen_at [] flags i rule h is told = absurd (omega arith)
+chosen_at (r ∷ rules) [] zero rule h is told = cc
+chosen_at (r ∷ rules) [] (suc i) rule h is told = cc
+chosen_at (r ∷ rules) (f ∷ flags) zero rule h is told =
+    let here : f ≡ true = told in
     let same : rule ≡ r = is in
     rw (here, same) refl
-chosen_at (r ∷ rules) (f ∷ flags) (suc i) rule flag h k is told yes = chosen_at rules flags i rule flag (omega arith) (omega arith) is told yes
+chosen_at (r ∷ rules) (f ∷ flags) (suc i) rule h is told = chosen_at rules flags i rule (omega arith) is told
 
-not_chosen_at : (rules : List OverlayRule) (flags : List Bool) (i : ℕ) (flag : Bool) → i < length rules → i < length flags → flag ≡ get_or flags i flag → flag ≡ false
-    → chosen_of (drop i rules) (drop i flags) ≡ chosen_of (drop (suc i) rules) (drop (suc i) flags)
-not_chosen_at [] flags i flag h k told no = absurd (omega arith)
-not_chosen_at (r ∷ rules) [] i flag h k told no = absurd (omega arith)
-not_chosen_at (r ∷ rules) (f ∷ flags) zero flag h k told no =
-    let here : f ≡ false = sym told ∙ no in
+not_chosen_at : (rules : List OverlayRule) (flags : List Bool) (i : ℕ) → get_or flags i false ≡ false → chosen_of (drop i rules) (drop i flags) ≡ chosen_of (drop (suc i) rules) (drop (suc i) flags)
+not_chosen_at [] flags zero told = refl
+not_chosen_at [] flags (suc i) told = refl
+not_chosen_at (r ∷ rules) [] zero told = sym (nothing_chosen rules)
+not_chosen_at (r ∷ rules) [] (suc i) told = nothing_chosen (drop i rules) ∙ sym (nothing_chosen (drop (suc i) rules))
+not_chosen_at (r ∷ rules) (f ∷ flags) zero told =
+    let here : f ≡ false = told in
     rw here refl
-not_chosen_at (r ∷ rules) (f ∷ flags) (suc i) flag h k told no = not_chosen_at rules flags i flag (omega arith) (omega arith) told no
+not_chosen_at (r ∷ rules) (f ∷ flags) (suc i) told = not_chosen_at rules flags i told
 
 -- a rule that is added comes next,
-pub chosen_here : (rules : List OverlayRule) (flags : List Bool) (i : ℕ) (rule : OverlayRule) (flag : Bool) → i < length rules → i < length flags → rule ≡ get_or rules i rule → flag ≡ get_or flags i flag → flag ≡ true
+pub chosen_here : (rules : List OverlayRule) (flags : List Bool) (i : ℕ) (rule : OverlayRule) → i < length rules → rule ≡ get_or rules i rule → get_or flags i false ≡ true
     → chosen_of (drop i rules) (drop i flags) ≡ rule ∷ chosen_of (drop (i + 1) rules) (drop (i + 1) flags)
-chosen_here rules flags i rule flag h k is told yes = rw add-one (chosen_at rules flags i rule flag h k is told yes)
+chosen_here rules flags i rule h is told = rw add-one (chosen_at rules flags i rule h is told)
 
 -- and another one is passed over
-pub not_chosen_here : (rules : List OverlayRule) (flags : List Bool) (i : ℕ) (flag : Bool) → i < length rules → i < length flags → flag ≡ get_or flags i flag → flag ≡ false
-    → chosen_of (drop i rules) (drop i flags) ≡ chosen_of (drop (i + 1) rules) (drop (i + 1) flags)
-not_chosen_here rules flags i flag h k told no = rw add-one (not_chosen_at rules flags i flag h k told no)
+pub not_chosen_here : (rules : List OverlayRule) (flags : List Bool) (i : ℕ) → get_or flags i false ≡ false → chosen_of (drop i rules) (drop i flags) ≡ chosen_of (drop (i + 1) rules) (drop (i + 1) flags)
+not_chosen_here rules flags i told = rw add-one (not_chosen_at rules flags i told)
 
-pub none_left : (rules : List OverlayRule) (flags : List Bool) (i : ℕ) → length flags ≤ i → chosen_of (drop i rules) (drop i flags) ≡ []
-none_left [] [] zero h = refl
-none_left [] [] (suc i) h = refl
-none_left [] (f ∷ flags) zero h = refl
-none_left [] (f ∷ flags) (suc i) h = refl
-none_left (r ∷ rules) [] zero h = refl
-none_left (r ∷ rules) [] (suc i) h = none_left rules [] i (omega arith)
-none_left (r ∷ rules) (f ∷ flags) zero h = absurd (omega arith)
+pub none_left : (rules : List OverlayRule) (flags : List Bool) (i : ℕ) → length rules ≤ i → chosen_of (drop i rules) (drop i flags) ≡ []
+none_left [] flags zero h = refl
+none_left [] flags (suc i) h = refl
+none_left (r ∷ rules) flags zero h = absurd (omega arith)
+none_left (r ∷ rules) [] (suc i) h = nothing_chosen (drop i rules)
 none_left (r ∷ rules) (f ∷ flags) (suc i) h = none_left rules flags i (omega arith)
 
 -- ---- the text of their overlays
@@ -62,11 +64,10 @@ text_at (r ∷ rules) [] i rule contours same h is are = absurd (omega arith)
 text_at (r ∷ rules) (o ∷ overlays) zero rule contours same h is are =
     let rule_is : rule ≡ r = is in
     let contours_are : contours ≡ o = are in
-    rw (rule_is, contours_are) (ap (λ (l : List ℕ). rule_line r ++ l) (append-nil (contour_lines o)))
+    rw (rule_is, contours_are) (append-nil (rule_line r ++ contour_lines o))
 text_at (r ∷ rules) (o ∷ overlays) (suc i) rule contours same h is are =
-    ap (λ (l : List ℕ). rule_line r ++ (contour_lines o ++ l)) (text_at rules overlays i rule contours (omega arith) (omega arith) is are)
-    ∙ (ap (λ (l : List ℕ). rule_line r ++ l) (sym (append_assoc (contour_lines o) (overlays_text (take i rules) (take i overlays)) (rule_line rule ++ contour_lines contours)))
-    ∙ sym (append_assoc (rule_line r) (contour_lines o ++ overlays_text (take i rules) (take i overlays)) (rule_line rule ++ contour_lines contours)))
+    ap (λ (l : List ℕ). (rule_line r ++ contour_lines o) ++ l) (text_at rules overlays i rule contours (omega arith) (omega arith) is are)
+    ∙ sym (append_assoc (rule_line r ++ contour_lines o) (overlays_text (take i rules) (take i overlays)) (rule_line rule ++ contour_lines contours))
 
 -- the text of one more, behind that of the first i
 pub text_more : (rules : List OverlayRule) (overlays : List (List (List Point))) (i : ℕ) (rule : OverlayRule) (contours : List (List Point)) → length overlays ≡ length rules → i < length rules → rule ≡ get_or rules i rule → contours ≡ get_or overlays i contours

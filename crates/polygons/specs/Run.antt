@@ -70,9 +70,13 @@ chosen_of (rule ∷ rules) [] = []
 chosen_of (rule ∷ rules) (false ∷ flags) = chosen_of rules flags
 chosen_of (rule ∷ rules) (true ∷ flags) = rule ∷ chosen_of rules flags
 
+-- the rules that have names, in the order in which their overlays are written
+abbrev pub named_rules : List OverlayRule
+named_rules = Subject ∷ Clip ∷ Intersect ∷ Union ∷ Difference ∷ InverseDifference ∷ Xor ∷ []
+
 -- the rule that is chosen, and behind it those that are added, in one order whatever the order of the words
 abbrev pub rules_by : Choices → OverlayRule → List OverlayRule
-rules_by choices rule = rule ∷ chosen_of (Subject ∷ Clip ∷ Intersect ∷ Union ∷ Difference ∷ InverseDifference ∷ Xor ∷ []) choices.others
+rules_by choices rule = rule ∷ chosen_of named_rules choices.others
 
 -- the words but for those
 abbrev pub without_flags : List (List ℕ) → List (List ℕ)
