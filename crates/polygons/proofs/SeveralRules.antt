@@ -1,6 +1,5 @@
 -- Runs by several rules: which rules words add, and the text of their overlays, one after another.
-use Rattle.std.proofs.Common.{◌≡◌, refl, sym, ap, subst, ◌∙◌, ℕ, zero, suc, ◌+◌, ◌<◌, ◌≤◌, Bool, true, false, List, [], ◌∷◌, ◌++◌, length, get_or, take, drop, map, append_assoc, append-nil, add-one, arith}
-use Rattle.std.proofs.lemmas.List.{take_more, map-append}
+use Rattle.std.proofs.Common.{◌≡◌, refl, sym, ap, ◌∙◌, ℕ, zero, suc, ◌+◌, ◌<◌, ◌≤◌, Bool, true, false, List, [], ◌∷◌, ◌++◌, length, get_or, take, drop, append_assoc, append-nil, add-one, arith}
 use Rattle.overlay_geometry.specs.Points.{Point}
 use Rattle.overlay_base.specs.declared.overlay_core.fill_rule.FillRule.{FillRule}
 use Rattle.overlay_base.specs.declared.overlay_core.overlay_rule.OverlayRule.{OverlayRule}
@@ -9,7 +8,8 @@ use Rattle.overlay_contours.specs.Polygons.{ArePolygonOverlays}
 use Rattle.overlay_contours.specs.Splittings.{Splitting}
 use Rattle.overlay_contours.proofs.laws.Beyond.{overlay_beyond}
 use Rattle.polygons.specs.ContourText.{GivenContour, subject_of, clip_of, contour_lines, rule_line, overlays_text}
-use Rattle.polygons.specs.Run.{chosen_of, AreReportedOverlays}
+use Rattle.polygons.specs.Run.{chosen_of, is_mixed, AreReportedOverlays}
+use Rattle.polygons.specs.declared.run.Choices.{Choices}
 use Rattle.polygons.proofs.Answering.{reported}
 
 -- ---- the rules that are added
@@ -54,6 +54,9 @@ none_left [] flags (suc i) h = refl
 none_left (r ∷ rules) flags zero h = absurd (omega arith)
 none_left (r ∷ rules) [] (suc i) h = nothing_chosen (drop i rules)
 none_left (r ∷ rules) (f ∷ flags) (suc i) h = none_left rules flags i (omega arith)
+
+pub same_mixed : (a b : Choices) → a.others ≡ b.others → a.in_shapes ≡ b.in_shapes → a.is_wkt ≡ b.is_wkt → is_mixed a ≡ is_mixed b
+same_mixed a b others in_shapes is_wkt = rw (others, in_shapes, is_wkt) refl
 
 -- ---- the text of their overlays
 

@@ -63,6 +63,10 @@ others_among words =
 abbrev pub has_others : Choices → Bool
 has_others choices = list_any (λ is_chosen. is_chosen) choices.others
 
+-- whether a rule is added where the output is not of contours as lines alone
+abbrev pub is_mixed : Choices → Bool
+is_mixed choices = has_others choices && (choices.in_shapes || choices.is_wkt)
+
 -- those that are added, of these rules
 abbrev pub chosen_of : List OverlayRule → List Bool → List OverlayRule
 chosen_of [] flags = []
@@ -90,7 +94,7 @@ pub record AskFor (words : List (List ℕ)) (choices : Choices) : Type 0 where
   pub is_pairwise : choices.is_pairwise ≡ is_among words (codes "pairwise")
   pub is_wkt : choices.is_wkt ≡ is_among words (codes "format=wkt")
   pub others : choices.others ≡ others_among words
-  pub of_lines : (has_others choices && (choices.in_shapes || choices.is_wkt)) ≡ false
+  pub of_lines : is_mixed choices ≡ false
   pub settings : Set (without_flags words) choices.settings
 
 -- what passes over pairs are set to, in coordinates of that many bits

@@ -5,7 +5,7 @@ ghost use Rattle.overlay_base.specs.declared.segm.fault.Fault.TheVariants.{Memor
 ghost use Rattle.overlay_text.specs.declared.stop.Stop.{Stop};
 ghost use Rattle.overlay_text.specs.Words.{setting};
 ghost use Rattle.overlay_text.specs.declared.settings.Settings.{Settings};
-ghost use Rattle.polygons.specs.Run.{IsNoLimitOrRadius, Set, is_among, is_flag, without_flags, rounding_by, has_others, others_among, rules_by, adds_rule, IsOverlayText, IsRulesText, IsShapesText, IsWktText, IsReadAnswer, IsWktAnswer, IsRuleAnswer, IsPolygonsAnswer, polygons_behavior};
+ghost use Rattle.polygons.specs.Run.{IsNoLimitOrRadius, Set, is_among, is_flag, without_flags, rounding_by, has_others, is_mixed, others_among, rules_by, adds_rule, IsOverlayText, IsRulesText, IsShapesText, IsWktText, IsReadAnswer, IsWktAnswer, IsRuleAnswer, IsPolygonsAnswer, polygons_behavior};
 
 use crate::contour_lines::read_contours;
 use crate::contour_output::{write_contours, write_overlays, write_report, write_shapes};
@@ -72,6 +72,13 @@ impl Choices {
         false
     }
 
+    /// Whether a word adds a rule to an output that is not of contours alone.
+    fn is_mixed(&self) -> bool
+        ensures { result ≡ is_mixed self.now }
+    {
+        self.has_others() && (self.in_shapes || self.is_wkt)
+    }
+
     /// The rule that is chosen, and behind it those that words add.
     fn rules(&self, alloc: Global, rule: OverlayRule) -> Result<Vec<OverlayRule>, AllocError>
         ensures { IfOk result (λ rules. rules.items ≡ rules_by self.now rule) }
@@ -109,7 +116,7 @@ impl Program for PolygonsProgram {
             others: other_rules(words),
             settings,
         };
-        if choices.has_others() && (choices.in_shapes || choices.is_wkt) {
+        if choices.is_mixed() {
             return Err(Stop::Usage);
         }
         Ok(choices)

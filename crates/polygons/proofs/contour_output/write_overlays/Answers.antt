@@ -1,8 +1,7 @@
-use Rattle.std.proofs.Common.{◌≡◌, ◌+◌, ◌<◌, ◌++◌, ◌∙◌, ap, sym, length, get_or, take, arith, append_assoc}
+use Rattle.std.proofs.Common.{◌≡◌, ◌<◌, ◌∙◌, ap, sym, length, get_or, arith, append_assoc}
 use Rattle.std.proofs.Math.ListN.{get_or-map}
 use Rattle.std.proofs.lemmas.List.{length-map}
 use Rattle.overlay_contours.specs.ContoursOf.{contours_of, contours_of_each}
-use Rattle.polygons.specs.ContourText.{contour_lines, rule_line, overlays_text}
 use Rattle.polygons.proofs.SeveralRules.{text_more}
 use Rattle.polygons.proofs.contour_output.write_overlays.Goals as goal
 
