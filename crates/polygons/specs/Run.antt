@@ -6,8 +6,11 @@ use Rattle.overlay_geometry.specs.Points.{Point}
 use Rattle.overlay_base.specs.Radius.{exponent_cap}
 use Rattle.overlay_base.specs.declared.overlay_core.fill_rule.FillRule.{FillRule}
 use Rattle.overlay_base.specs.declared.overlay_core.overlay_rule.OverlayRule.{OverlayRule}
-use Rattle.overlay_base.specs.declared.overlay_core.overlay_rule.OverlayRule.TheVariants.{Subject, Clip, Intersect, Union, Difference, InverseDifference, Xor}
+use Rattle.overlay_base.specs.declared.overlay_core.overlay_rule.OverlayRule.TheVariants.{Intersect, Union, Difference, InverseDifference, Xor}
+use Rattle.overlay_base.specs.declared.overlay_core.overlay_rule.OverlayRule.TheVariants.{Subject as SubjectRule, Clip as ClipRule}
 use Rattle.overlay_base.specs.declared.segm.fault.Fault.TheVariants.{CountOutOfRange}
+use Rattle.overlay_base.specs.declared.segm.shape_type.ShapeType.{ShapeType}
+use Rattle.overlay_base.specs.declared.segm.shape_type.ShapeType.TheVariants.{Subject, Clip}
 use Rattle.overlay_contours.specs.Beyond.{IsOverlayBeyond, IsShapeOverlayBeyond, AreOfSplitting}
 use Rattle.overlay_contours.specs.Polygons.{IsPolygonOverlay}
 use Rattle.overlay_contours.specs.Refusals.{CountsLeaveRange}
@@ -17,13 +20,14 @@ use Rattle.overlay_contours.specs.declared.rounding.Rounding.{Rounding}
 use Rattle.overlay_contours.specs.declared.rounding.Rounding.TheVariants.{HotPixels, Pairwise}
 use Rattle.overlay_split.specs.Run.{Settings as RunSettings}
 use Rattle.overlay_text.specs.declared.settings.Settings.{Settings}
+use Rattle.overlay_text.specs.declared.stop.LineFault.{LineFault}
 use Rattle.overlay_text.specs.declared.stop.Stop.{Stop}
 use Rattle.overlay_text.specs.declared.stop.Stop.TheVariants.{Refused, NoRule}
 use Rattle.overlay_text.specs.Engines.{least_of, greatest_of, engine_bits}
 use Rattle.overlay_text.specs.Runs.{Behavior}
 use Rattle.overlay_text.specs.Text.{lines_of, AskInTurn, IsFirstFaultOf}
 use Rattle.overlay_text.specs.Words.{setting, WordsSet}
-use Rattle.polygons.specs.ContourText.{GivenContour, AsksForContour, IsFaultyContour, subject_of, clip_of, contour_lines, overlays_text, shape_lines, report_text}
+use Rattle.polygons.specs.ContourText.{GivenContour, AsksForContours, IsFaultyContour, subject_of, clip_of, contour_lines, overlays_text, shape_lines, report_text}
 use Rattle.polygons.specs.Wkt.{AsksForPolygons, AreFaultyPolygons, multipolygon_line}
 use Rattle.polygons.specs.declared.run.Choices.{Choices}
 
@@ -50,7 +54,7 @@ adds_rule word =
 abbrev pub is_flag : List ℕ → Bool
 is_flag word =
     bytes_eq word (codes "shapes") || (bytes_eq word (codes "report") || (bytes_eq word (codes "pairwise")
-    || (bytes_eq word (codes "format=wkt") || adds_rule word)))
+    || (bytes_eq word (codes "format=wkt") || (bytes_eq word (codes "contours=clip") || adds_rule word))))
 
 -- of each rule with a name, whether the words add it
 abbrev pub others_among : List (List ℕ) → List Bool
@@ -76,7 +80,7 @@ chosen_of (rule ∷ rules) (true ∷ flags) = rule ∷ chosen_of rules flags
 
 -- the rules that have names, in the order in which their overlays are written
 abbrev pub named_rules : List OverlayRule
-named_rules = Subject ∷ Clip ∷ Intersect ∷ Union ∷ Difference ∷ InverseDifference ∷ Xor ∷ []
+named_rules = SubjectRule ∷ ClipRule ∷ Intersect ∷ Union ∷ Difference ∷ InverseDifference ∷ Xor ∷ []
 
 -- the rule that is chosen, and behind it those that are added, in one order whatever the order of the words
 abbrev pub rules_by : Choices → OverlayRule → List OverlayRule
@@ -87,12 +91,14 @@ abbrev pub without_flags : List (List ℕ) → List (List ℕ)
 without_flags words = filter (λ word. not (is_flag word)) words
 
 -- The words make these choices: each of `shapes`, `report`, `pairwise`, `format=wkt` and the words that add rules is among them where it is
--- chosen, and the others set the settings. Rules are added to contours as lines alone.
+-- chosen, and the others set the settings. Lines of an output are contours of the subject, and after `contours=clip` of the clip. Rules are
+-- added to contours as lines alone.
 pub record AskFor (words : List (List ℕ)) (choices : Choices) : Type 0 where
   pub in_shapes : choices.in_shapes ≡ is_among words (codes "shapes")
   pub has_report : choices.has_report ≡ is_among words (codes "report")
   pub is_pairwise : choices.is_pairwise ≡ is_among words (codes "pairwise")
   pub is_wkt : choices.is_wkt ≡ is_among words (codes "format=wkt")
+  pub contour_shape : choices.contour_shape ≡ (if is_among words (codes "contours=clip") then Clip else Subject)
   pub others : choices.others ≡ others_among words
   pub of_lines : is_mixed choices ≡ false
   pub settings : Set (without_flags words) choices.settings
@@ -164,11 +170,15 @@ abbrev pub IsText : Bool → ℕ → Choices → OverlayRule → List GivenConto
 IsText false = IsOverlayText
 IsText true = IsShapesText
 
--- what is made of the contours that the lines of a text write, or the first fault of its lines
-abbrev pub IsReadAnswer : ℤ → ℤ → (List GivenContour → Result (List ℕ) Stop → Type 0) → List ℕ → Result (List ℕ) Stop → Type 0
-IsReadAnswer least greatest Makes bytes answer =
-    ((given : List GivenContour) × AskInTurn (AsksForContour least greatest) (lines_of bytes) given × Makes given answer)
-    ⊎ ((stop : Stop) × IsFirstFaultOf (AsksForContour least greatest) (IsFaultyContour least greatest) (lines_of bytes) stop × (answer ≡ Err stop))
+-- what is made of the contours that the lines of a text describe, or the first fault of its lines
+abbrev pub IsReadAnswer : (List ℕ → List GivenContour → Type 0) → (List ℕ → LineFault → Type 0) → (List GivenContour → Result (List ℕ) Stop → Type 0) → List ℕ → Result (List ℕ) Stop → Type 0
+IsReadAnswer Asks HasFault Makes bytes answer =
+    ((given : List (List GivenContour)) × AskInTurn Asks (lines_of bytes) given × Makes (flat_map (λ contours. contours) given) answer)
+    ⊎ ((stop : Stop) × IsFirstFaultOf Asks HasFault (lines_of bytes) stop × (answer ≡ Err stop))
+
+-- what is made of the contours that the lines of a text write, where lines of an output are of that shape, or the first fault of its lines
+abbrev pub IsContourAnswer : ShapeType → ℤ → ℤ → (List GivenContour → Result (List ℕ) Stop → Type 0) → List ℕ → Result (List ℕ) Stop → Type 0
+IsContourAnswer chosen least greatest Makes bytes answer = IsReadAnswer (AsksForContours chosen least greatest) (IsFaultyContour chosen least greatest) Makes bytes answer
 
 -- what an overlay of the given contours returns under a rule, as a line of WKT
 abbrev pub IsWktText : ℕ → Choices → OverlayRule → List GivenContour → Result (List ℕ) Stop → Type 0
@@ -180,15 +190,13 @@ IsWktText bits choices rule given answer =
 
 -- what is made of the polygons that the lines of a text write as WKT, or the first fault of its lines
 abbrev pub IsWktAnswer : ℤ → ℤ → (List GivenContour → Result (List ℕ) Stop → Type 0) → List ℕ → Result (List ℕ) Stop → Type 0
-IsWktAnswer least greatest Makes bytes answer =
-    ((given : List (List GivenContour)) × AskInTurn (AsksForPolygons least greatest) (lines_of bytes) given × Makes (flat_map (λ contours. contours) given) answer)
-    ⊎ ((stop : Stop) × IsFirstFaultOf (AsksForPolygons least greatest) (AreFaultyPolygons least greatest) (lines_of bytes) stop × (answer ≡ Err stop))
+IsWktAnswer least greatest Makes bytes answer = IsReadAnswer (AsksForPolygons least greatest) (AreFaultyPolygons least greatest) Makes bytes answer
 
 -- the overlay of the contours that the lines of a text write: by several rules, as WKT, in shapes or not, or the first fault of its lines
 abbrev pub IsRuleAnswer : ℤ → ℤ → ℕ → Choices → OverlayRule → List ℕ → Result (List ℕ) Stop → Type 0
 IsRuleAnswer least greatest bits choices rule bytes answer =
-    MatchBool (has_others choices) (IsReadAnswer least greatest (IsRulesText bits choices (rules_by choices rule)) bytes answer)
-    (MatchBool choices.is_wkt (IsWktAnswer least greatest (IsWktText bits choices rule) bytes answer) (IsReadAnswer least greatest (IsText choices.in_shapes bits choices rule) bytes answer))
+    MatchBool (has_others choices) (IsContourAnswer choices.contour_shape least greatest (IsRulesText bits choices (rules_by choices rule)) bytes answer)
+    (MatchBool choices.is_wkt (IsWktAnswer least greatest (IsWktText bits choices rule) bytes answer) (IsContourAnswer choices.contour_shape least greatest (IsText choices.in_shapes bits choices rule) bytes answer))
 
 -- the same by the rule that the settings choose, and the stop where they choose none
 abbrev pub IsPolygonsAnswer : ℤ → ℤ → ℕ → Choices → List ℕ → Result (List ℕ) Stop → Type 0

@@ -3,8 +3,10 @@
 
 ghost use Rattle.std.specs.Prelude.{◌<◌, ◌≤◌, length, IfSome};
 
+use crate::contour_lines::named_shape;
 use crate::run::{is_flag, is_limit_or_radius, read_polygon_settings};
-use overlay_text::lines::{Lines, shape_type};
+use overlay_base::segm::shape_type::ShapeType;
+use overlay_text::lines::Lines;
 use overlay_text::number::signed_number;
 use overlay_text::stop::LineFault;
 use std::alloc::{AllocError, Global};
@@ -278,7 +280,7 @@ fn explain_form(text: &mut String, line: &[u8]) -> Result<(), AllocError> {
     while let Some((start, end)) = next_word(line, at, false) {
         let word = &line[start..end];
         if !has_letter {
-            if shape_type(word).is_none() {
+            if named_shape(ShapeType::Subject, word).is_none() {
                 return explain_letter(text, start, word);
             }
             has_letter = true;
@@ -300,9 +302,10 @@ fn explain_form(text: &mut String, line: &[u8]) -> Result<(), AllocError> {
 fn explain_letter(text: &mut String, start: usize, word: &[u8]) -> Result<(), AllocError> {
     tell(text, start, word)?;
     text.push_str(match word {
-        b"contour" | b"shape" => {
-            " begins a line of the output; a line of the input begins with `S` or `C`"
-        }
+        b"contour" => " begins a line of an output without format=wkt",
+        b"shape" => " is a line of its own, of an output without format=wkt",
+        b"rule" => " begins a line of an output by several rules: choose one alone",
+        b"passes" | b"reach" => " begins a line of a report, which is no input",
         b"POLYGON" | b"MULTIPOLYGON" => " is WKT: write `S` or `C` before it, and add format=wkt",
         [b'S' | b'C', ..] => " has to be `S` or `C`, with a space behind it",
         _ => " has to be `S`, for the subject, or `C`, for the clip",

@@ -5,7 +5,7 @@ ghost use Rattle.overlay_base.specs.declared.segm.fault.Fault.TheVariants.{Memor
 ghost use Rattle.overlay_text.specs.declared.stop.Stop.{Stop};
 ghost use Rattle.overlay_text.specs.Words.{setting};
 ghost use Rattle.overlay_text.specs.declared.settings.Settings.{Settings};
-ghost use Rattle.polygons.specs.Run.{IsNoLimitOrRadius, Set, is_among, is_flag, without_flags, rounding_by, has_others, is_mixed, others_among, rules_by, adds_rule, IsOverlayText, IsRulesText, IsShapesText, IsWktText, IsReadAnswer, IsWktAnswer, IsRuleAnswer, IsPolygonsAnswer, polygons_behavior};
+ghost use Rattle.polygons.specs.Run.{IsNoLimitOrRadius, Set, is_among, is_flag, without_flags, rounding_by, has_others, is_mixed, others_among, rules_by, adds_rule, IsOverlayText, IsRulesText, IsShapesText, IsWktText, IsContourAnswer, IsWktAnswer, IsRuleAnswer, IsPolygonsAnswer, polygons_behavior};
 
 use crate::contour_lines::read_contours;
 use crate::contour_output::{write_contours, write_overlays, write_report, write_shapes};
@@ -13,6 +13,7 @@ use crate::explain::{Reading, explain_line, explain_words, no_rule};
 use crate::wkt_lines::read_wkt;
 use crate::wkt_output::write_multipolygon;
 use overlay_base::overlay_core::overlay_rule::OverlayRule;
+use overlay_base::segm::shape_type::ShapeType;
 use overlay_contours::rounding::Rounding;
 use overlay_geometry::num::OverlayInt;
 use overlay_text::settings::{Engine, Settings};
@@ -32,6 +33,8 @@ pub struct Choices {
     pub is_pairwise: bool,
     /// Whether the input and the output are WKT.
     pub is_wkt: bool,
+    /// The shape of the contours on lines of an output.
+    pub contour_shape: ShapeType,
     /// Of each rule in `OTHER_RULES` whether its overlay is written too.
     pub others: [bool; 7],
     pub settings: Settings,
@@ -103,7 +106,7 @@ impl Program for PolygonsProgram {
     ghost behavior = { polygons_behavior };
 
     fn usage() -> &'static str {
-        "usage: polygons rule=NAME [also=NAME ..] [shapes] [report] [pairwise] [format=wkt] [fill|engine|precision|strategy=VALUE ..]"
+        "usage: polygons rule=NAME [also=NAME ..] [shapes] [report] [pairwise] [contours=clip] [format=wkt] [fill|engine|precision|strategy=VALUE ..]"
     }
 
     fn read_words(words: &[String]) -> Result<Choices, Stop> {
@@ -113,6 +116,11 @@ impl Program for PolygonsProgram {
             has_report: is_among(words, "report"),
             is_pairwise: is_among(words, "pairwise"),
             is_wkt: is_among(words, "format=wkt"),
+            contour_shape: if is_among(words, "contours=clip") {
+                ShapeType::Clip
+            } else {
+                ShapeType::Subject
+            },
             others: other_rules(words),
             settings,
         };
@@ -189,6 +197,7 @@ pub fn is_flag(word: &str) -> bool
         || word == "report"
         || word == "pairwise"
         || word == "format=wkt"
+        || word == "contours=clip"
         || adds_rule(word)
 }
 
@@ -275,14 +284,14 @@ fn contours_under<I: OverlayInt>(
     rule: OverlayRule,
     bytes: &[u8],
 ) -> Result<String, Stop>
-    ensures text { IfOk result (λ text. IsReadAnswer (I.whole I.MIN_COORD) (I.whole I.MAX_COORD)
+    ensures text { IfOk result (λ text. IsContourAnswer choices.contour_shape (I.whole I.MIN_COORD) (I.whole I.MAX_COORD)
         (IsOverlayText I.BITS choices rule) bytes.now (Ok (string_bytes text))) }
     ensures stop { IfErr result (λ stop. (stop ≡ Stop.Refused Memory)
-        ⊎ IsReadAnswer (I.whole I.MIN_COORD) (I.whole I.MAX_COORD)
+        ⊎ IsContourAnswer choices.contour_shape (I.whole I.MIN_COORD) (I.whole I.MAX_COORD)
         (IsOverlayText I.BITS choices rule) bytes.now (Err stop)) }
 {
     let settings = choices.settings;
-    let mut overlay = read_contours::<I>(alloc, bytes)?;
+    let mut overlay = read_contours::<I>(alloc, choices.contour_shape, bytes)?;
     overlay.set_rounding(choices.rounding());
     let contours = overlay.overlay(&settings.solver(), settings.fill_rule, rule)?;
     let mut text = String::new(alloc);
@@ -298,15 +307,15 @@ fn rules_under<I: OverlayInt>(
     rule: OverlayRule,
     bytes: &[u8],
 ) -> Result<String, Stop>
-    ensures text { IfOk result (λ text. IsReadAnswer (I.whole I.MIN_COORD) (I.whole I.MAX_COORD)
+    ensures text { IfOk result (λ text. IsContourAnswer choices.contour_shape (I.whole I.MIN_COORD) (I.whole I.MAX_COORD)
         (IsRulesText I.BITS choices (rules_by choices rule)) bytes.now (Ok (string_bytes text))) }
     ensures stop { IfErr result (λ stop. (stop ≡ Stop.Refused Memory)
-        ⊎ IsReadAnswer (I.whole I.MIN_COORD) (I.whole I.MAX_COORD)
+        ⊎ IsContourAnswer choices.contour_shape (I.whole I.MIN_COORD) (I.whole I.MAX_COORD)
         (IsRulesText I.BITS choices (rules_by choices rule)) bytes.now (Err stop)) }
 {
     let settings = choices.settings;
     let rules = choices.rules(alloc, rule)?;
-    let mut overlay = read_contours::<I>(alloc, bytes)?;
+    let mut overlay = read_contours::<I>(alloc, choices.contour_shape, bytes)?;
     overlay.set_rounding(choices.rounding());
     let overlays = overlay.overlay_by_rules(&settings.solver(), settings.fill_rule, &rules)?;
     let mut text = String::new(alloc);
@@ -322,14 +331,14 @@ fn shapes_under<I: OverlayInt>(
     rule: OverlayRule,
     bytes: &[u8],
 ) -> Result<String, Stop>
-    ensures text { IfOk result (λ text. IsReadAnswer (I.whole I.MIN_COORD) (I.whole I.MAX_COORD)
+    ensures text { IfOk result (λ text. IsContourAnswer choices.contour_shape (I.whole I.MIN_COORD) (I.whole I.MAX_COORD)
         (IsShapesText I.BITS choices rule) bytes.now (Ok (string_bytes text))) }
     ensures stop { IfErr result (λ stop. (stop ≡ Stop.Refused Memory)
-        ⊎ IsReadAnswer (I.whole I.MIN_COORD) (I.whole I.MAX_COORD)
+        ⊎ IsContourAnswer choices.contour_shape (I.whole I.MIN_COORD) (I.whole I.MAX_COORD)
         (IsShapesText I.BITS choices rule) bytes.now (Err stop)) }
 {
     let settings = choices.settings;
-    let mut overlay = read_contours::<I>(alloc, bytes)?;
+    let mut overlay = read_contours::<I>(alloc, choices.contour_shape, bytes)?;
     overlay.set_rounding(choices.rounding());
     let shapes = overlay.overlay_shapes(&settings.solver(), settings.fill_rule, rule)?;
     let mut text = String::new(alloc);
