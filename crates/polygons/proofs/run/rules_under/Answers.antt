@@ -1,4 +1,4 @@
-use Rattle.std.proofs.Common.{◌≡◌, ◌++◌, ◌∙◌, inl, inr, ap, sym, subst, List, length, Ok, string_bytes, arith}
+use Rattle.std.proofs.Common.{◌≡◌, ◌++◌, ◌∙◌, inl, inr, ap, sym, subst, List, length, Ok, string_bytes, flat_map, arith}
 use Rattle.std.proofs.lemmas.List.{length-map}
 use Rattle.overlay_base.specs.declared.overlay_core.overlay_rule.OverlayRule.{OverlayRule}
 use Rattle.overlay_contours.specs.ContoursOf.{contours_of, contours_of_each}
@@ -6,7 +6,7 @@ use Rattle.overlay_contours.specs.Kept.{subject_of, clip_of, rounding_of, passes
 use Rattle.overlay_contours.specs.Polygons.{ArePolygonOverlays}
 use Rattle.overlay_contours.specs.Splittings.{splitting_for}
 use Rattle.overlay_text.proofs.Results.{if_err}
-use Rattle.polygons.specs.ContourText.{overlays_text, report_text}
+use Rattle.polygons.specs.ContourText.{AsksForContours, IsFaultyContour, overlays_text, report_text}
 use Rattle.polygons.specs.Run.{splitting_by, rules_by, IsRulesText}
 use Rattle.polygons.proofs.Answering.{splitting_is, refused, read_stop}
 use Rattle.polygons.proofs.SeveralRules.{as_many, reported_overlays}
@@ -22,8 +22,8 @@ returns-in_err-overlays-clause-stop g c =
     let splitting = splitting_for (rounding_of kept) bits c.solver.result in
     let is_run : splitting ≡ splitting_by bits c.args.choices = splitting_is bits c.args.choices c.solver.result (rounding_of kept) (same.rounding ∙ c.rounding.ensures) c.solver.ensures.precision in
     if_err _ _ _ c.from_residual-in_err-overlays.ensures.1 (
-    refused (whole g.I.OverlayInt.MIN_COORD) (whole g.I.OverlayInt.MAX_COORD) (splitting_by bits c.args.choices) splitting c.args.bytes.now read.0 (subject_of kept) (clip_of kept) read.1 is_run (same.subject ∙ read.2.0) (same.clip ∙ read.2.1)
-    (IsRulesText bits c.args.choices (rules_by c.args.choices c.args.rule)) (λ answer left. inr left) c.in_err-overlays.field-0.0 c.in_err-overlays.ensures.refused
+    refused (AsksForContours c.args.choices.contour_shape (whole g.I.OverlayInt.MIN_COORD) (whole g.I.OverlayInt.MAX_COORD)) (IsFaultyContour c.args.choices.contour_shape (whole g.I.OverlayInt.MIN_COORD) (whole g.I.OverlayInt.MAX_COORD)) c.args.bytes.now (IsRulesText bits c.args.choices (rules_by c.args.choices c.args.rule)) (splitting_by bits c.args.choices) splitting read.0 (subject_of kept) (clip_of kept) read.1 is_run (same.subject ∙ read.2.0) (same.clip ∙ read.2.1)
+    (λ answer left. inr left) c.in_err-overlays.field-0.0 c.in_err-overlays.ensures.refused
     )
 
 pub returns-clause-text : goal.returns-clause-text
@@ -43,7 +43,7 @@ returns-clause-text g c =
     let same_rules : c.deref.result.now ≡ rules = c.deref.ensures.value ∙ c.in_ok-rules.ensures in
     let are = subst (λ (rs : List OverlayRule). ArePolygonOverlays splitting c.args.choices.settings.fill_rule (subject_of kept) (clip_of kept) rs overlays) same_rules run.polygons in
     let report = run.splitting (λ none. let e = ap (λ l. length l) (sym same_rules ∙ none) in omega (arith, e)) in
-    let is_reported = reported_overlays splitting (splitting_by bits c.args.choices) c.args.choices.settings.fill_rule read.0 (subject_of kept) (clip_of kept) passes halves is_run (same.subject ∙ read.2.0) (same.clip ∙ read.2.1) report rules overlays are in
+    let is_reported = reported_overlays splitting (splitting_by bits c.args.choices) c.args.choices.settings.fill_rule (flat_map (λ cs. cs) read.0) (subject_of kept) (clip_of kept) passes halves is_run (same.subject ∙ read.2.0) (same.clip ∙ read.2.1) report rules overlays are in
     let lines_are : string_bytes c.write_overlays.new.text ≡ overlays_text rules overlays =
     c.in_ok-write_overlays.ensures
     ∙ (ap (λ text. text ++ overlays_text c.deref-2.result.now (contours_of_each whole c.deref-3.result.now)) c.new-text.ensures.bytes
@@ -55,7 +55,7 @@ returns-clause-text g c =
 pub returns-in_err-overlay-clause-stop : goal.returns-in_err-overlay-clause-stop
 returns-in_err-overlay-clause-stop g c =
     let whole = g.I.OverlayInt.whole in
-    if_err _ _ _ c.from_residual-in_err-overlay.ensures.1 (read_stop (whole g.I.OverlayInt.MIN_COORD) (whole g.I.OverlayInt.MAX_COORD) c.args.bytes.now (IsRulesText g.I.OverlayInt.BITS c.args.choices (rules_by c.args.choices c.args.rule)) _ c.in_err-overlay.ensures.faulty)
+    if_err _ _ _ c.from_residual-in_err-overlay.ensures.1 (read_stop (AsksForContours c.args.choices.contour_shape (whole g.I.OverlayInt.MIN_COORD) (whole g.I.OverlayInt.MAX_COORD)) (IsFaultyContour c.args.choices.contour_shape (whole g.I.OverlayInt.MIN_COORD) (whole g.I.OverlayInt.MAX_COORD)) c.args.bytes.now (IsRulesText g.I.OverlayInt.BITS c.args.choices (rules_by c.args.choices c.args.rule)) _ c.in_err-overlay.ensures.faulty)
 
 pub write_overlays-requires : goal.write_overlays-requires
 write_overlays-requires g c =
