@@ -56,6 +56,10 @@ is_flag word =
     bytes_eq word (codes "shapes") || (bytes_eq word (codes "report") || (bytes_eq word (codes "pairwise")
     || (bytes_eq word (codes "format=wkt") || (bytes_eq word (codes "contours=clip") || adds_rule word))))
 
+-- of which shape the contours on lines of an output are
+abbrev pub contour_shape_among : List (List ℕ) → ShapeType
+contour_shape_among words = if is_among words (codes "contours=clip") then Clip else Subject
+
 -- of each rule with a name, whether the words add it
 abbrev pub others_among : List (List ℕ) → List Bool
 others_among words =
@@ -98,7 +102,7 @@ pub record AskFor (words : List (List ℕ)) (choices : Choices) : Type 0 where
   pub has_report : choices.has_report ≡ is_among words (codes "report")
   pub is_pairwise : choices.is_pairwise ≡ is_among words (codes "pairwise")
   pub is_wkt : choices.is_wkt ≡ is_among words (codes "format=wkt")
-  pub contour_shape : choices.contour_shape ≡ (if is_among words (codes "contours=clip") then Clip else Subject)
+  pub contour_shape : choices.contour_shape ≡ contour_shape_among words
   pub others : choices.others ≡ others_among words
   pub of_lines : is_mixed choices ≡ false
   pub settings : Set (without_flags words) choices.settings

@@ -5,7 +5,7 @@ ghost use Rattle.overlay_base.specs.declared.segm.fault.Fault.TheVariants.{Memor
 ghost use Rattle.overlay_text.specs.declared.stop.Stop.{Stop};
 ghost use Rattle.overlay_text.specs.Words.{setting};
 ghost use Rattle.overlay_text.specs.declared.settings.Settings.{Settings};
-ghost use Rattle.polygons.specs.Run.{IsNoLimitOrRadius, Set, is_among, is_flag, without_flags, rounding_by, has_others, is_mixed, others_among, rules_by, adds_rule, IsOverlayText, IsRulesText, IsShapesText, IsWktText, IsContourAnswer, IsWktAnswer, IsRuleAnswer, IsPolygonsAnswer, polygons_behavior};
+ghost use Rattle.polygons.specs.Run.{IsNoLimitOrRadius, Set, is_among, is_flag, without_flags, rounding_by, has_others, is_mixed, contour_shape_among, others_among, rules_by, adds_rule, IsOverlayText, IsRulesText, IsShapesText, IsWktText, IsContourAnswer, IsWktAnswer, IsRuleAnswer, IsPolygonsAnswer, polygons_behavior};
 
 use crate::contour_lines::read_contours;
 use crate::contour_output::{write_contours, write_overlays, write_report, write_shapes};
@@ -116,11 +116,7 @@ impl Program for PolygonsProgram {
             has_report: is_among(words, "report"),
             is_pairwise: is_among(words, "pairwise"),
             is_wkt: is_among(words, "format=wkt"),
-            contour_shape: if is_among(words, "contours=clip") {
-                ShapeType::Clip
-            } else {
-                ShapeType::Subject
-            },
+            contour_shape: contour_shape(words),
             others: other_rules(words),
             settings,
         };
@@ -172,6 +168,17 @@ fn is_among(words: &[String], name: &str) -> bool
         }
     }
     false
+}
+
+/// The shape that the words choose for the contours on lines of an output.
+fn contour_shape(words: &[String]) -> ShapeType
+    ensures { result ≡ contour_shape_among (map string_bytes words.now) }
+{
+    if is_among(words, "contours=clip") {
+        ShapeType::Clip
+    } else {
+        ShapeType::Subject
+    }
 }
 
 /// Which of the rules in `OTHER_RULES` the words add.

@@ -19,6 +19,7 @@ returns-then-is_mixed-clause-usage c = (
         has_report = c.is_among-2.result;
         is_pairwise = c.is_among-3.result;
         is_wkt = c.is_among-4.result;
+        contour_shape = c.contour_shape.result;
         others = c.other_rules.result;
         settings = c.in_ok-settings.settings;
       } in
