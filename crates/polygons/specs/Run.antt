@@ -56,7 +56,7 @@ is_flag word =
     bytes_eq word (codes "shapes") || (bytes_eq word (codes "report") || (bytes_eq word (codes "pairwise")
     || (bytes_eq word (codes "format=wkt") || (bytes_eq word (codes "contours=clip") || adds_rule word))))
 
--- of which shape the contours on lines of an output are
+-- the shape of the contours on lines of an output
 abbrev pub contour_shape_among : List (List ℕ) → ShapeType
 contour_shape_among words = if is_among words (codes "contours=clip") then Clip else Subject
 
