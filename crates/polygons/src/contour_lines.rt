@@ -26,8 +26,8 @@ pub struct ShapeContour<I: OverlayInt> {
     pub points: IntContour<I>,
 }
 
-/// An overlay of the contours that the lines of a text write, in order. Lines of an output are of the chosen shape. The first
-/// faulty line stops the run.
+/// An overlay of the contours that the lines of a text write, in order. Lines of an output are of the chosen shape.
+/// The first faulty line stops the run.
 pub fn read_contours<I: OverlayInt>(
     alloc: Global,
     chosen: ShapeType,

@@ -10,7 +10,7 @@ usage: polygons rule=NAME [WORD ..] < INPUT > OUTPUT
 The input has a contour on each line:
   S X Y X Y ..     a contour of the subject
   C X Y X Y ..     a contour of the clip
-Lines `contour X Y X Y ..` and `shape` of an output are input too: contours of the subject, unless contours=clip is given.
+Lines `contour X Y X Y ..` and `shape` of an output are input too, of the subject unless contours=clip is given.
 Coordinates are whole numbers, up to 1073741823 on either side of 0, with spaces between them. Outer contours run
 counterclockwise, and holes clockwise; with fill=evenodd the direction does not count.
 
