@@ -33,6 +33,7 @@ RUNS = {
         ("rule=union", "polygons/squares.txt"),
         ("rule=difference", "polygons/letter.txt"),
         ("shapes report rule=difference", "polygons/frame.txt"),
+        ("also=xor also=clip report rule=union", "polygons/squares.txt"),
     ],
 }
 

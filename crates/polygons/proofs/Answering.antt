@@ -31,9 +31,8 @@ use Rattle.overlay_text.specs.Engines.{least_of, greatest_of, engine_bits}
 use Rattle.overlay_text.specs.Text.{lines_of, AskInTurn, IsFirstFaultOf}
 use Rattle.overlay_text.proofs.TextSteps.{Taken, first_fault}
 use Rattle.overlay_text.specs.Words.{setting}
-use Rattle.polygons.specs.ContourText.{GivenContour, are_in_range, AsksForContour, IsFaultyContour, subject_of, clip_of}
-use Rattle.polygons.specs.Run.{IsNoLimitOrRadius, Set, is_among, is_flag, without_flags, IsReportedOverlay, AreReportedShapes, IsReadAnswer, IsWktAnswer, IsPolygonsAnswer, overlay_settings, rounding_by, splitting_by, polygons_behavior}
-use Rattle.polygons.specs.Wkt.{AsksForPolygons}
+use Rattle.polygons.specs.ContourText.{GivenContour, are_in_range, subject_of, clip_of}
+use Rattle.polygons.specs.Run.{IsNoLimitOrRadius, Set, is_among, is_flag, without_flags, IsReportedOverlay, AreReportedShapes, IsReadAnswer, IsPolygonsAnswer, overlay_settings, rounding_by, splitting_by, polygons_behavior}
 use Rattle.polygons.specs.declared.run.Choices.{Choices}
 
 -- words with one that sets the limit or the radius set no settings
@@ -113,13 +112,19 @@ keeps_more Clip points given subject clip subject_then clip_then added same kept
   added ∙ (ap (λ l. l ++ points ∷ []) kept.1 ∙ sym (clip_of-clip given points)),
 )
 
-module _ (least greatest : ℤ) (splitting_then run : Splitting) (bytes : List ℕ) (given : List GivenContour) (subject clip : List (List Point)) (asked : AskInTurn (AsksForContour least greatest) (lines_of bytes) given)
-    (is_run : run ≡ splitting_then) (is_subject : subject ≡ subject_of given) (is_clip : clip ≡ clip_of given) (Makes : List GivenContour → Result (List ℕ) Stop → Type 0) where
-  -- a refused overlay of the contours that were read
-  pub refused : ((answer : Result (List ℕ) Stop) → CountsLeaveRange splitting_then (subject_of given) (clip_of given) × (answer ≡ Err (Refused CountOutOfRange)) → Makes given answer)
-      → (fault : Fault) → IsReason run subject clip fault → (Refused fault ≡ Refused Memory) ⊎ IsReadAnswer least greatest Makes bytes (Err (Refused fault))
-  refused makes Memory reason = inl refl
-  refused makes CountOutOfRange reason = inr (inl (given, asked, makes _ (rw (← is_run, ← is_subject, ← is_clip) reason, refl)))
+module _ (Asks : List ℕ → List GivenContour → Type 0) (HasFault : List ℕ → LineFault → Type 0) (bytes : List ℕ) (Makes : List GivenContour → Result (List ℕ) Stop → Type 0) where
+  -- a run that stops where a line is faulty, or where memory is refused
+  pub read_stop : (stop : Stop) → (stop ≡ Refused Memory) ⊎ IsFirstFaultOf Asks HasFault (lines_of bytes) stop → (stop ≡ Refused Memory) ⊎ IsReadAnswer Asks HasFault Makes bytes (Err stop)
+  read_stop stop (inl memory) = inl memory
+  read_stop stop (inr faulty) = inr (inr (stop, faulty, refl))
+
+  module _ (splitting_then run : Splitting) (given : List (List GivenContour)) (subject clip : List (List Point)) (asked : AskInTurn Asks (lines_of bytes) given)
+      (is_run : run ≡ splitting_then) (is_subject : subject ≡ subject_of (flat_map (λ cs. cs) given)) (is_clip : clip ≡ clip_of (flat_map (λ cs. cs) given)) where
+    -- a refused overlay of the contours that were read
+    pub refused : ((answer : Result (List ℕ) Stop) → CountsLeaveRange splitting_then (subject_of (flat_map (λ cs. cs) given)) (clip_of (flat_map (λ cs. cs) given)) × (answer ≡ Err (Refused CountOutOfRange)) → Makes (flat_map (λ cs. cs) given) answer)
+        → (fault : Fault) → IsReason run subject clip fault → (Refused fault ≡ Refused Memory) ⊎ IsReadAnswer Asks HasFault Makes bytes (Err (Refused fault))
+    refused makes Memory reason = inl refl
+    refused makes CountOutOfRange reason = inr (inl (given, asked, makes _ (rw (← is_run, ← is_subject, ← is_clip) reason, refl)))
 
 -- what an overlay reports, of the contours that were read
 module _ (run splitting_then : Splitting) (rule : OverlayRule) (fill_rule : FillRule) (given : List GivenContour) (subject clip : List (List Point)) (passes halves : ℕ)
@@ -146,17 +151,3 @@ module _ {X : Type 0} (Asks : List ℕ → X → Type 0) (HasFault : List ℕ �
   first_of_lines taken first is_next one_more stop (inr faulty) =
       let told : stop ≡ Line next faulty.0 = faulty.1 ∙ ap (λ n. Line n faulty.0) is_next in
       inr (rw told (first_fault Asks lines left others count next asked line taken first one_more HasFault faulty.0 faulty.2))
-
--- a run that stops where a line is faulty, or where memory is refused
-pub read_stop : (least greatest : ℤ) (bytes : List ℕ) (Makes : List GivenContour → Result (List ℕ) Stop → Type 0) (stop : Stop) → (stop ≡ Refused Memory) ⊎ IsFirstFaultOf (AsksForContour least greatest) (IsFaultyContour least greatest) (lines_of bytes) stop
-    → (stop ≡ Refused Memory) ⊎ IsReadAnswer least greatest Makes bytes (Err stop)
-read_stop least greatest bytes Makes stop (inl memory) = inl memory
-read_stop least greatest bytes Makes stop (inr faulty) = inr (inr (stop, faulty, refl))
-
-module _ (least greatest : ℤ) (splitting_then run : Splitting) (bytes : List ℕ) (given : List (List GivenContour)) (subject clip : List (List Point)) (asked : AskInTurn (AsksForPolygons least greatest) (lines_of bytes) given)
-    (is_run : run ≡ splitting_then) (is_subject : subject ≡ subject_of (flat_map (λ cs. cs) given)) (is_clip : clip ≡ clip_of (flat_map (λ cs. cs) given)) (Makes : List GivenContour → Result (List ℕ) Stop → Type 0) where
-  -- a refused overlay of the polygons that were read
-  pub refused_wkt : ((answer : Result (List ℕ) Stop) → CountsLeaveRange splitting_then (subject_of (flat_map (λ cs. cs) given)) (clip_of (flat_map (λ cs. cs) given)) × (answer ≡ Err (Refused CountOutOfRange)) → Makes (flat_map (λ cs. cs) given) answer)
-      → (fault : Fault) → IsReason run subject clip fault → (Refused fault ≡ Refused Memory) ⊎ IsWktAnswer least greatest Makes bytes (Err (Refused fault))
-  refused_wkt makes Memory reason = inl refl
-  refused_wkt makes CountOutOfRange reason = inr (inl (given, asked, makes _ (rw (← is_run, ← is_subject, ← is_clip) reason, refl)))

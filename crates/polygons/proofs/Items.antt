@@ -6,7 +6,7 @@ use Rattle.overlay_geometry.proofs.laws.geometry.Points.{same_point}
 use Rattle.overlay_text.specs.Numbers.{signed_value}
 use Rattle.polygons.specs.Wkt.{opening, closing, comma, WriteItems, WriteGroup, WritePoint, WriteRing, WritePolygon, geometry_name, WriteListed, WriteBody, WriteGeometry}
 
-abbrev head_or : List ℕ → List (List ℕ) → List ℕ
+abbrev pub head_or : List ℕ → List (List ℕ) → List ℕ
 head_or d [] = d
 head_or d (w ∷ ws) = w
 

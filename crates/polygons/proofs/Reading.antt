@@ -1,8 +1,10 @@
--- Words that write points, one word more at a time.
+-- Words that write points, one word more at a time, and words that write no contour.
 use Rattle.std.proofs.Common.{◌≡◌, ℕ, ℤ, List, [], ◌∷◌, ◌++◌, Option, Some, None, refl, sym, ap, ◌∙◌, subst, append_assoc}
 use Rattle.overlay_geometry.specs.Points.{Point}
 use Rattle.overlay_text.specs.Numbers.{WritesNumber}
-use Rattle.polygons.specs.ContourText.{WritePoints}
+use Rattle.overlay_base.specs.declared.segm.shape_type.ShapeType.{ShapeType}
+use Rattle.polygons.specs.ContourText.{NamesContour, WritePoints, WriteContour}
+use Rattle.polygons.proofs.Items.{head_or}
 
 write-more : (words : List (List ℕ)) (points : List Point) (x y : List ℕ) (p : Point) → WritePoints words points → WritesNumber x p.x → WritesNumber y p.y → WritePoints (words ++ x ∷ y ∷ []) (points ++ p ∷ [])
 write-more [] points x y p writes at_x at_y = (p, [], ap (λ ps. ps ++ p ∷ []) writes, at_x, at_y, refl)
@@ -46,3 +48,9 @@ pub one_left_over : (all left : List (List ℕ)) (x : ℤ) (points wanted : List
 one_left_over all left x points wanted read none whole =
     let rest = rest-writes read.0 (read.1 ∷ left) points wanted read.2 (subst (λ ws. WritePoints ws wanted) read.4 whole) in
     subst (λ ws. WritePoints (read.1 ∷ ws) rest.0) none rest.1
+
+-- words behind one that names no shape write no contour
+pub no_contour : (chosen : ShapeType) (words others : List (List ℕ)) (name : List ℕ) → words ≡ name ∷ others → ((shape_type : ShapeType) → ¬ (NamesContour chosen name shape_type)) → (shape_type : ShapeType) (points : List Point) → ¬ (WriteContour chosen words shape_type points)
+no_contour chosen words others name first none shape_type points writes =
+    let same : writes.0 ≡ name = ap (head_or []) (sym writes.2 ∙ first) in
+    none shape_type (subst (λ w. NamesContour chosen w shape_type) same writes.3)

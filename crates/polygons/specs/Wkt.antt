@@ -10,8 +10,8 @@ use Rattle.overlay_text.specs.declared.stop.LineFault.TheVariants.{Form, Range}
 use Rattle.overlay_contours.specs.declared.overlay.Overlay.{Overlay}
 use Rattle.overlay_text.specs.declared.stop.Stop.{Stop}
 use Rattle.overlay_text.specs.Numbers.{WritesNumber}
-use Rattle.overlay_text.specs.Text.{words_of_line, NamesShape, lines_of, AskInTurn, IsFirstFaultOf}
-use Rattle.polygons.specs.ContourText.{GivenContour, are_in_range, Keeps}
+use Rattle.overlay_text.specs.Text.{words_of_line, NamesShape, lines_of, IsFirstFaultOf}
+use Rattle.polygons.specs.ContourText.{GivenContour, are_in_range, KeepsDescribed}
 
 -- ---- the input
 
@@ -117,9 +117,7 @@ AreFaultyPolygons least greatest line fault =
 
 -- An overlay keeps the contours of the polygons that the lines of a text write, in the range of its engine.
 abbrev pub KeepsPolygons : {I : Type 0} {w : _} {o : _} {e : _} {p : _} → List ℕ → Overlay I w o e p → Type 0
-KeepsPolygons {w = w} bytes overlay =
-    (given : List (List GivenContour)) × AskInTurn (AsksForPolygons (w.whole w.MIN_COORD) (w.whole w.MAX_COORD)) (lines_of bytes) given
-    × Keeps overlay (flat_map (λ contours. contours) given)
+KeepsPolygons {w = w} bytes overlay = KeepsDescribed (AsksForPolygons (w.whole w.MIN_COORD) (w.whole w.MAX_COORD)) bytes overlay
 
 -- The stop names the first faulty line of a text.
 abbrev pub NamesFirstFaultyPolygons : {I : Type 0} → (I → ℤ) → I → I → List ℕ → Stop → Type 0

@@ -1,11 +1,11 @@
 // The input: each line is `S X Y X Y ..` for a contour of the subject, or `C X Y X Y ..` for one of the clip. Two points are
-// a segment, and no contour.
-ghost use Rattle.std.specs.Prelude.{◌≡◌, ◌⊎◌, List, IsTrue, IsFalse, OnOk, IfNone, IfSome, IfOk, IfErr, [], ◌∷◌, ◌++◌};
+// a segment, and no contour. Lines of the output, `contour X Y X Y ..` and `shape`, are input too.
+ghost use Rattle.std.specs.Prelude.{◌≡◌, ◌≢◌, ◌⊎◌, List, IsTrue, IsFalse, OnOk, MatchBool, MatchOption, IfOk, IfErr, [], ◌∷◌, ◌++◌};
 ghost use Rattle.overlay_geometry.specs.Points.{Point};
 ghost use Rattle.overlay_base.specs.declared.segm.fault.Fault.TheVariants.{Memory};
 ghost use Rattle.overlay_contours.specs.ContoursOf.{points_of};
 ghost use Rattle.overlay_text.specs.Text.{words_of, words_of_line};
-ghost use Rattle.polygons.specs.ContourText.{GivenContour, WritePoints, are_in_range, AsksForContour, IsFaultyContour, Keeps, KeepsWritten, NamesFirstFaulty};
+ghost use Rattle.polygons.specs.ContourText.{GivenContour, NamesContour, WritePoints, are_in_range, IsShapeLine, AsksForContour, AsksForContours, IsFaultyContour, Keeps, KeepsWritten, NamesFirstFaulty};
 ghost use Rattle.overlay_text.specs.Runs.{IfStopped};
 
 use overlay_base::segm::shape_type::ShapeType;
@@ -26,19 +26,60 @@ pub struct ShapeContour<I: OverlayInt> {
     pub points: IntContour<I>,
 }
 
-/// An overlay of the contours that the lines of a text write, in order. The first faulty line stops the run.
-pub fn read_contours<I: OverlayInt>(alloc: Global, bytes: &[u8]) -> Result<Overlay<I>, Stop>
-    ensures contours { IfOk result (KeepsWritten bytes.now) }
-    ensures faulty { IfStopped result (NamesFirstFaulty I.whole I.MIN_COORD I.MAX_COORD bytes.now) }
+/// An overlay of the contours that the lines of a text write, in order. Lines of an output are of the chosen shape.
+/// The first faulty line stops the run.
+pub fn read_contours<I: OverlayInt>(
+    alloc: Global,
+    chosen: ShapeType,
+    bytes: &[u8],
+) -> Result<Overlay<I>, Stop>
+    ensures contours { IfOk result (KeepsWritten chosen bytes.now) }
+    ensures faulty { IfStopped result (NamesFirstFaulty I.whole I.MIN_COORD I.MAX_COORD chosen bytes.now) }
 {
     let mut overlay = Overlay::new(alloc);
     let mut wide = Vec::new(alloc);
     for (index, line) in Lines::of(bytes).enumerate() {
-        if let Some(contour) = read_contour(alloc, index + 1, line, &mut wide)? {
-            add_contour(&mut overlay, &contour)?;
+        match Words::of(line).next() {
+            None => {}
+            Some(_) => add_line(alloc, &mut overlay, chosen, index + 1, line, &mut wide)?,
         }
     }
     Ok(overlay)
+}
+
+/// Adds the contour of a line that has words, or nothing where the line is `shape`. The list is for its points.
+fn add_line<I: OverlayInt>(
+    alloc: Global,
+    overlay: &mut Overlay<I>,
+    chosen: ShapeType,
+    number: usize,
+    line: &[u8],
+    wide: &mut Vec<IntPoint<i64>>,
+) -> Result<(), Stop>
+    requires some { words_of_line line.now ≢ [] }
+    ensures added { OnOk result ((contours : List GivenContour)
+        × AsksForContours chosen (I.whole I.MIN_COORD) (I.whole I.MAX_COORD) line.now contours
+        × ((given : List GivenContour) → Keeps overlay.old given → Keeps overlay.new (given ++ contours))) }
+    ensures faulty { IfErr result (λ stop. (stop ≡ Stop.Refused Memory)
+        ⊎ ((fault : LineFault) × (stop ≡ Stop.Line number fault)
+        × IsFaultyContour chosen (I.whole I.MIN_COORD) (I.whole I.MAX_COORD) line.now fault)) }
+{
+    if is_shape_line(line) {
+        return Ok(());
+    }
+    let contour = read_contour(alloc, chosen, number, line, wide)?;
+    add_contour(overlay, &contour)
+}
+
+/// Whether a line is `shape`.
+fn is_shape_line(line: &[u8]) -> bool
+    ensures { MatchBool result (IsShapeLine line.now) (¬ (IsShapeLine line.now)) }
+{
+    let mut words = Words::of(line);
+    match words.next() {
+        Some(b"shape") => words.next().is_none(),
+        _ => false,
+    }
 }
 
 /// Adds a contour in range behind those that an overlay keeps.
@@ -60,34 +101,44 @@ pub fn add_contour<I: OverlayInt>(
     }
 }
 
-/// The contour of a line, or `None` where there is nothing but spaces. The list is for its points. Two points are none.
+/// The contour of a line that has words and is not `shape`. The list is for its points. Two points are none.
 fn read_contour<I: OverlayInt>(
     alloc: Global,
+    chosen: ShapeType,
     number: usize,
     line: &[u8],
     wide: &mut Vec<IntPoint<i64>>,
-) -> Result<Option<ShapeContour<I>>, Stop>
-    ensures blank { IfOk result (λ found. IfNone found (words_of_line line.now ≡ [])) }
-    ensures contour { IfOk result (λ found. IfSome found (λ contour.
-        AsksForContour (I.whole I.MIN_COORD) (I.whole I.MAX_COORD) line.now
-        (record { shape_type = contour.shape_type; points = points_of I.whole contour.points.items }))) }
+) -> Result<ShapeContour<I>, Stop>
+    requires some { words_of_line line.now ≢ [] }
+    requires no_shape { ¬ (IsShapeLine line.now) }
+    ensures contour { IfOk result (λ contour. AsksForContour chosen (I.whole I.MIN_COORD) (I.whole I.MAX_COORD) line.now
+        (record { shape_type = contour.shape_type; points = points_of I.whole contour.points.items })) }
     ensures faulty { IfErr result (λ stop. (stop ≡ Stop.Refused Memory)
         ⊎ ((fault : LineFault) × (stop ≡ Stop.Line number fault)
-        × IsFaultyContour (I.whole I.MIN_COORD) (I.whole I.MAX_COORD) line.now fault)) }
+        × IsFaultyContour chosen (I.whole I.MIN_COORD) (I.whole I.MAX_COORD) line.now fault)) }
 {
     let mut words = Words::of(line);
-    let Some(letter) = words.next() else {
-        return Ok(None);
-    };
     let fault = LineFault::Form;
-    let shape_type = shape_type(letter).ok_or(Stop::Line { number, fault })?;
+    let name = words.next().ok_or(Stop::Line { number, fault })?;
+    let shape_type = named_shape(chosen, name).ok_or(Stop::Line { number, fault })?;
     wide.clear();
     read_points(words, number, wide)?;
     if wide.len() == 2 {
         return Err(Stop::Line { number, fault });
     }
     let points = contour_points(alloc, number, wide.as_slice())?;
-    Ok(Some(ShapeContour { shape_type, points }))
+    Ok(ShapeContour { shape_type, points })
+}
+
+/// The shape that the first word of a line names: `contour` names the chosen one.
+pub fn named_shape(chosen: ShapeType, name: &[u8]) -> Option<ShapeType>
+    ensures { MatchOption result ((shape_type : ShapeType) → ¬ (NamesContour chosen name.now shape_type))
+        (NamesContour chosen name.now) }
+{
+    match name {
+        b"contour" => Some(chosen),
+        _ => shape_type(name),
+    }
 }
 
 /// Appends the points that the words write.

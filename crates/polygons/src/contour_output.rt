@@ -1,11 +1,12 @@
 // The output: a line for each contour, in shapes one before those of each, and at the end what a run reports.
-ghost use Rattle.std.specs.Prelude.{◌≡◌, ◌++◌, OnOk, string_bytes};
+ghost use Rattle.std.specs.Prelude.{◌≡◌, ◌++◌, OnOk, length, string_bytes};
 ghost use Rattle.overlay_geometry.specs.PointOf.{point_of};
-ghost use Rattle.overlay_contours.specs.ContoursOf.{points_of, contours_of};
+ghost use Rattle.overlay_contours.specs.ContoursOf.{points_of, contours_of, contours_of_each};
 ghost use Rattle.overlay_contours.specs.Kept.{passes_of, reach_of};
 ghost use Rattle.overlay_text.specs.Output.{pair_text};
-ghost use Rattle.polygons.specs.ContourText.{points_text, contour_line, contours_text, shape_text, shapes_text, report_text};
+ghost use Rattle.polygons.specs.ContourText.{points_text, contour_line, contours_text, rule_line, overlays_text, shape_text, shapes_text, report_text};
 
+use overlay_base::overlay_core::overlay_rule::OverlayRule;
 use overlay_contours::contour::{IntContour, IntShape};
 use overlay_contours::overlay::Overlay;
 use overlay_geometry::geom::point::IntPoint;
@@ -25,6 +26,42 @@ pub fn write_contours<I: OverlayInt>(
         write_contour(text, contour)?;
     }
     Ok(())
+}
+
+/// Writes `rule NAME`, and then the contours of its overlay, for each rule.
+pub fn write_overlays<I: OverlayInt>(
+    text: &mut String,
+    rules: &[OverlayRule],
+    overlays: &[Vec<IntContour<I>>],
+) -> Result<(), AllocError>
+    requires { length overlays.now ≡ length rules.now }
+    ensures { OnOk result (string_bytes text.new ≡ string_bytes text.old
+        ++ overlays_text rules.now (contours_of_each I.whole overlays.now)) }
+{
+    for (index, contours) in overlays.iter().enumerate() {
+        write_rule(text, rules[index])?;
+        write_contours(text, contours)?;
+    }
+    Ok(())
+}
+
+/// Writes `rule NAME`.
+fn write_rule(text: &mut String, rule: OverlayRule) -> Result<(), AllocError>
+    ensures { OnOk result (string_bytes text.new ≡ string_bytes text.old ++ rule_line rule) }
+{
+    match rule {
+        OverlayRule::Subject => text.push_str("rule subject\n"),
+        OverlayRule::Clip => text.push_str("rule clip\n"),
+        OverlayRule::Intersect => text.push_str("rule intersect\n"),
+        OverlayRule::Union => text.push_str("rule union\n"),
+        OverlayRule::Difference => text.push_str("rule difference\n"),
+        OverlayRule::InverseDifference => text.push_str("rule inverse-difference\n"),
+        OverlayRule::Xor => text.push_str("rule xor\n"),
+        OverlayRule::Table(table) => {
+            let bits = table.bits();
+            writeln!(text, "rule table:{bits}")
+        }
+    }
 }
 
 /// Writes `shape`, and then its contours, for each shape.

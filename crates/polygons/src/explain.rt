@@ -3,8 +3,10 @@
 
 ghost use Rattle.std.specs.Prelude.{◌<◌, ◌≤◌, length, IfSome};
 
+use crate::contour_lines::named_shape;
 use crate::run::{is_flag, is_limit_or_radius, read_polygon_settings};
-use overlay_text::lines::{Lines, shape_type};
+use overlay_base::segm::shape_type::ShapeType;
+use overlay_text::lines::Lines;
 use overlay_text::number::signed_number;
 use overlay_text::stop::LineFault;
 use std::alloc::{AllocError, Global};
@@ -40,6 +42,17 @@ const SETTINGS: [(&str, &[&str]); 5] = [
     ),
 ];
 
+/// The names of rules that a word adds.
+const OTHERS: [&str; 7] = [
+    "subject",
+    "clip",
+    "intersect",
+    "union",
+    "difference",
+    "inverse-difference",
+    "xor",
+];
+
 /// How many bytes of a word a sentence shows.
 const MOST_SHOWN: usize = 40;
 
@@ -70,6 +83,7 @@ pub fn explain_words(alloc: Global, words: &[String]) -> Result<String, AllocErr
         }
         return Ok(text);
     }
+    text.push_str("`also=NAME` is for contours as lines: leave out `shapes` and `format=wkt`")?;
     Ok(text)
 }
 
@@ -82,6 +96,10 @@ fn explain_word(text: &mut String, word: &str) -> Result<(), AllocError> {
     let Some((name, value)) = word.split_once('=') else {
         return explain_lone_word(text, word);
     };
+    if name == "also" {
+        text.push_str(" is no rule that `polygons` adds")?;
+        return suggest(text, name, value, &OTHERS);
+    }
     for (known, values) in SETTINGS {
         if name == known {
             write!(text, " is no {known} that `polygons` knows")?;
@@ -89,7 +107,15 @@ fn explain_word(text: &mut String, word: &str) -> Result<(), AllocError> {
         }
     }
     text.push_str(" is no setting of `polygons`")?;
-    let names = ["rule", "fill", "engine", "strategy", "precision", "format"];
+    let names = [
+        "rule",
+        "also",
+        "fill",
+        "engine",
+        "strategy",
+        "precision",
+        "format",
+    ];
     if let Some(near) = nearest(name, &names) {
         write!(text, "; did you mean {near}={value}?")?;
     }
@@ -254,7 +280,7 @@ fn explain_form(text: &mut String, line: &[u8]) -> Result<(), AllocError> {
     while let Some((start, end)) = next_word(line, at, false) {
         let word = &line[start..end];
         if !has_letter {
-            if shape_type(word).is_none() {
+            if named_shape(ShapeType::Subject, word).is_none() {
                 return explain_letter(text, start, word);
             }
             has_letter = true;
@@ -276,9 +302,10 @@ fn explain_form(text: &mut String, line: &[u8]) -> Result<(), AllocError> {
 fn explain_letter(text: &mut String, start: usize, word: &[u8]) -> Result<(), AllocError> {
     tell(text, start, word)?;
     text.push_str(match word {
-        b"contour" | b"shape" => {
-            " begins a line of the output; a line of the input begins with `S` or `C`"
-        }
+        b"contour" => " begins a line of an output without format=wkt",
+        b"shape" => " is a line of its own, of an output without format=wkt",
+        b"rule" => " begins a line of an output by several rules: choose one alone",
+        b"passes" | b"reach" => " begins a line of a report, which is no input",
         b"POLYGON" | b"MULTIPOLYGON" => " is WKT: write `S` or `C` before it, and add format=wkt",
         [b'S' | b'C', ..] => " has to be `S` or `C`, with a space behind it",
         _ => " has to be `S`, for the subject, or `C`, for the clip",

@@ -10,6 +10,7 @@ usage: polygons rule=NAME [WORD ..] < INPUT > OUTPUT
 The input has a contour on each line:
   S X Y X Y ..     a contour of the subject
   C X Y X Y ..     a contour of the clip
+Lines `contour X Y X Y ..` and `shape` of an output are input too, of the subject unless contours=clip is given.
 Coordinates are whole numbers, up to 1073741823 on either side of 0, with spaces between them. Outer contours run
 counterclockwise, and holes clockwise; with fill=evenodd the direction does not count.
 
@@ -20,7 +21,9 @@ Under format=wkt each line is S or C and a geometry, whose rings run in any dire
 The output has a line `contour X Y X Y ..` for each contour, with the result on its left.
 
   rule=NAME        subject, clip, intersect, union, difference, inverse-difference, xor, or table:0 to table:15
+  also=NAME        the overlay by another rule with a name too; a line `rule NAME` comes before the contours of each
   fill=NAME        nonzero (unless another is named), evenodd, positive or negative
+  contours=clip    lines `contour ..` of the input are of the clip
   shapes           a line `shape` before each outer contour; its holes follow it
   format=wkt       input and output as WKT; the output is one MULTIPOLYGON
   report           at the end `passes N`, and `reach N`: by how many halves of a unit edges may have moved

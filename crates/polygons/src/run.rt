@@ -5,14 +5,15 @@ ghost use Rattle.overlay_base.specs.declared.segm.fault.Fault.TheVariants.{Memor
 ghost use Rattle.overlay_text.specs.declared.stop.Stop.{Stop};
 ghost use Rattle.overlay_text.specs.Words.{setting};
 ghost use Rattle.overlay_text.specs.declared.settings.Settings.{Settings};
-ghost use Rattle.polygons.specs.Run.{IsNoLimitOrRadius, Set, is_among, is_flag, without_flags, rounding_by, IsOverlayText, IsShapesText, IsWktText, IsReadAnswer, IsWktAnswer, IsRuleAnswer, IsPolygonsAnswer, polygons_behavior};
+ghost use Rattle.polygons.specs.Run.{IsNoLimitOrRadius, Set, is_among, is_flag, without_flags, rounding_by, has_others, is_mixed, contour_shape_among, others_among, rules_by, adds_rule, IsOverlayText, IsRulesText, IsShapesText, IsWktText, IsContourAnswer, IsWktAnswer, IsRuleAnswer, IsPolygonsAnswer, polygons_behavior};
 
 use crate::contour_lines::read_contours;
-use crate::contour_output::{write_contours, write_report, write_shapes};
+use crate::contour_output::{write_contours, write_overlays, write_report, write_shapes};
 use crate::explain::{Reading, explain_line, explain_words, no_rule};
 use crate::wkt_lines::read_wkt;
 use crate::wkt_output::write_multipolygon;
 use overlay_base::overlay_core::overlay_rule::OverlayRule;
+use overlay_base::segm::shape_type::ShapeType;
 use overlay_contours::rounding::Rounding;
 use overlay_geometry::num::OverlayInt;
 use overlay_text::settings::{Engine, Settings};
@@ -32,8 +33,23 @@ pub struct Choices {
     pub is_pairwise: bool,
     /// Whether the input and the output are WKT.
     pub is_wkt: bool,
+    /// The shape of the contours on lines of an output.
+    pub contour_shape: ShapeType,
+    /// Of each rule in `OTHER_RULES` whether its overlay is written too.
+    pub others: [bool; 7],
     pub settings: Settings,
 }
+
+/// The rules that a word `also=NAME` adds, in the order in which their overlays are written.
+const OTHER_RULES: [OverlayRule; 7] = [
+    OverlayRule::Subject,
+    OverlayRule::Clip,
+    OverlayRule::Intersect,
+    OverlayRule::Union,
+    OverlayRule::Difference,
+    OverlayRule::InverseDifference,
+    OverlayRule::Xor,
+];
 
 impl Choices {
     /// How the choices have crossings rounded.
@@ -46,6 +62,39 @@ impl Choices {
             Rounding::HotPixels
         }
     }
+
+    /// Whether a word adds a rule.
+    fn has_others(&self) -> bool
+        ensures { result ≡ has_others self.now }
+    {
+        for is_chosen in &self.others {
+            if *is_chosen {
+                return true;
+            }
+        }
+        false
+    }
+
+    /// Whether a word adds a rule to an output that is not of contours alone.
+    fn is_mixed(&self) -> bool
+        ensures { result ≡ is_mixed self.now }
+    {
+        self.has_others() && (self.in_shapes || self.is_wkt)
+    }
+
+    /// The rule that is chosen, and behind it those that words add.
+    fn rules(&self, alloc: Global, rule: OverlayRule) -> Result<Vec<OverlayRule>, AllocError>
+        ensures { IfOk result (λ rules. rules.items ≡ rules_by self.now rule) }
+    {
+        let mut rules = Vec::new(alloc);
+        rules.push(rule)?;
+        for (index, is_chosen) in self.others.iter().enumerate() {
+            if *is_chosen {
+                rules.push(OTHER_RULES[index])?;
+            }
+        }
+        Ok(rules)
+    }
 }
 
 /// The program `polygons`: the contract of a run is that of `run_over`, with this program's `behavior`.
@@ -57,18 +106,24 @@ impl Program for PolygonsProgram {
     ghost behavior = { polygons_behavior };
 
     fn usage() -> &'static str {
-        "usage: polygons rule=NAME [shapes] [report] [pairwise] [format=wkt] [fill|engine|precision|strategy=VALUE ..]"
+        "usage: polygons rule=NAME [also=NAME ..] [shapes] [report] [pairwise] [contours=clip] [format=wkt] [fill|engine|precision|strategy=VALUE ..]"
     }
 
     fn read_words(words: &[String]) -> Result<Choices, Stop> {
         let settings = read_polygon_settings(words)?;
-        Ok(Choices {
+        let choices = Choices {
             in_shapes: is_among(words, "shapes"),
             has_report: is_among(words, "report"),
             is_pairwise: is_among(words, "pairwise"),
             is_wkt: is_among(words, "format=wkt"),
+            contour_shape: contour_shape(words),
+            others: other_rules(words),
             settings,
-        })
+        };
+        if choices.is_mixed() {
+            return Err(Stop::Usage);
+        }
+        Ok(choices)
     }
 
     fn answer(alloc: Global, choices: Choices, bytes: &[u8]) -> Result<String, Stop> {
@@ -115,11 +170,55 @@ fn is_among(words: &[String], name: &str) -> bool
     false
 }
 
+/// The shape that the words choose for the contours on lines of an output.
+fn contour_shape(words: &[String]) -> ShapeType
+    ensures { result ≡ contour_shape_among (map string_bytes words.now) }
+{
+    if is_among(words, "contours=clip") {
+        ShapeType::Clip
+    } else {
+        ShapeType::Subject
+    }
+}
+
+/// Which of the rules in `OTHER_RULES` the words add.
+fn other_rules(words: &[String]) -> [bool; 7]
+    ensures { result ≡ others_among (map string_bytes words.now) }
+{
+    [
+        is_among(words, "also=subject"),
+        is_among(words, "also=clip"),
+        is_among(words, "also=intersect"),
+        is_among(words, "also=union"),
+        is_among(words, "also=difference"),
+        is_among(words, "also=inverse-difference"),
+        is_among(words, "also=xor"),
+    ]
+}
+
 /// Whether a word chooses something by itself.
 pub fn is_flag(word: &str) -> bool
     ensures { result ≡ is_flag word.now }
 {
-    word == "shapes" || word == "report" || word == "pairwise" || word == "format=wkt"
+    word == "shapes"
+        || word == "report"
+        || word == "pairwise"
+        || word == "format=wkt"
+        || word == "contours=clip"
+        || adds_rule(word)
+}
+
+/// Whether a word adds a rule.
+pub fn adds_rule(word: &str) -> bool
+    ensures { result ≡ adds_rule word.now }
+{
+    word == "also=subject"
+        || word == "also=clip"
+        || word == "also=intersect"
+        || word == "also=union"
+        || word == "also=difference"
+        || word == "also=inverse-difference"
+        || word == "also=xor"
 }
 
 /// The settings that the words choose, but for the flags among them. None of them may set the limit or the radius.
@@ -174,7 +273,9 @@ fn answer_under<I: OverlayInt>(
     ensures stop { IfErr result (λ stop. (stop ≡ Stop.Refused Memory)
         ⊎ IsRuleAnswer (I.whole I.MIN_COORD) (I.whole I.MAX_COORD) I.BITS choices rule bytes.now (Err stop)) }
 {
-    if choices.is_wkt {
+    if choices.has_others() {
+        rules_under::<I>(alloc, choices, rule, bytes)
+    } else if choices.is_wkt {
         wkt_under::<I>(alloc, choices, rule, bytes)
     } else if choices.in_shapes {
         shapes_under::<I>(alloc, choices, rule, bytes)
@@ -190,18 +291,42 @@ fn contours_under<I: OverlayInt>(
     rule: OverlayRule,
     bytes: &[u8],
 ) -> Result<String, Stop>
-    ensures text { IfOk result (λ text. IsReadAnswer (I.whole I.MIN_COORD) (I.whole I.MAX_COORD)
+    ensures text { IfOk result (λ text. IsContourAnswer choices.contour_shape (I.whole I.MIN_COORD) (I.whole I.MAX_COORD)
         (IsOverlayText I.BITS choices rule) bytes.now (Ok (string_bytes text))) }
     ensures stop { IfErr result (λ stop. (stop ≡ Stop.Refused Memory)
-        ⊎ IsReadAnswer (I.whole I.MIN_COORD) (I.whole I.MAX_COORD)
+        ⊎ IsContourAnswer choices.contour_shape (I.whole I.MIN_COORD) (I.whole I.MAX_COORD)
         (IsOverlayText I.BITS choices rule) bytes.now (Err stop)) }
 {
     let settings = choices.settings;
-    let mut overlay = read_contours::<I>(alloc, bytes)?;
+    let mut overlay = read_contours::<I>(alloc, choices.contour_shape, bytes)?;
     overlay.set_rounding(choices.rounding());
     let contours = overlay.overlay(&settings.solver(), settings.fill_rule, rule)?;
     let mut text = String::new(alloc);
     write_contours(&mut text, contours.as_slice())?;
+    write_report(&mut text, choices.has_report, &overlay)?;
+    Ok(text)
+}
+
+/// The same by several rules.
+fn rules_under<I: OverlayInt>(
+    alloc: Global,
+    choices: Choices,
+    rule: OverlayRule,
+    bytes: &[u8],
+) -> Result<String, Stop>
+    ensures text { IfOk result (λ text. IsContourAnswer choices.contour_shape (I.whole I.MIN_COORD) (I.whole I.MAX_COORD)
+        (IsRulesText I.BITS choices (rules_by choices rule)) bytes.now (Ok (string_bytes text))) }
+    ensures stop { IfErr result (λ stop. (stop ≡ Stop.Refused Memory)
+        ⊎ IsContourAnswer choices.contour_shape (I.whole I.MIN_COORD) (I.whole I.MAX_COORD)
+        (IsRulesText I.BITS choices (rules_by choices rule)) bytes.now (Err stop)) }
+{
+    let settings = choices.settings;
+    let rules = choices.rules(alloc, rule)?;
+    let mut overlay = read_contours::<I>(alloc, choices.contour_shape, bytes)?;
+    overlay.set_rounding(choices.rounding());
+    let overlays = overlay.overlay_by_rules(&settings.solver(), settings.fill_rule, &rules)?;
+    let mut text = String::new(alloc);
+    write_overlays(&mut text, &rules, &overlays)?;
     write_report(&mut text, choices.has_report, &overlay)?;
     Ok(text)
 }
@@ -213,14 +338,14 @@ fn shapes_under<I: OverlayInt>(
     rule: OverlayRule,
     bytes: &[u8],
 ) -> Result<String, Stop>
-    ensures text { IfOk result (λ text. IsReadAnswer (I.whole I.MIN_COORD) (I.whole I.MAX_COORD)
+    ensures text { IfOk result (λ text. IsContourAnswer choices.contour_shape (I.whole I.MIN_COORD) (I.whole I.MAX_COORD)
         (IsShapesText I.BITS choices rule) bytes.now (Ok (string_bytes text))) }
     ensures stop { IfErr result (λ stop. (stop ≡ Stop.Refused Memory)
-        ⊎ IsReadAnswer (I.whole I.MIN_COORD) (I.whole I.MAX_COORD)
+        ⊎ IsContourAnswer choices.contour_shape (I.whole I.MIN_COORD) (I.whole I.MAX_COORD)
         (IsShapesText I.BITS choices rule) bytes.now (Err stop)) }
 {
     let settings = choices.settings;
-    let mut overlay = read_contours::<I>(alloc, bytes)?;
+    let mut overlay = read_contours::<I>(alloc, choices.contour_shape, bytes)?;
     overlay.set_rounding(choices.rounding());
     let shapes = overlay.overlay_shapes(&settings.solver(), settings.fill_rule, rule)?;
     let mut text = String::new(alloc);

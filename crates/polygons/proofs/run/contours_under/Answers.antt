@@ -1,9 +1,9 @@
-use Rattle.std.proofs.Common.{◌≡◌, ◌++◌, ◌∙◌, inl, inr, ap, Ok, string_bytes}
+use Rattle.std.proofs.Common.{◌≡◌, ◌++◌, ◌∙◌, inl, inr, ap, Ok, string_bytes, flat_map}
 use Rattle.overlay_contours.specs.ContoursOf.{contours_of}
 use Rattle.overlay_contours.specs.Kept.{subject_of, clip_of, rounding_of, passes_of, reach_of}
 use Rattle.overlay_contours.specs.Splittings.{splitting_for}
 use Rattle.overlay_text.proofs.Results.{if_err}
-use Rattle.polygons.specs.ContourText.{contour_lines, report_text}
+use Rattle.polygons.specs.ContourText.{AsksForContours, IsFaultyContour, contour_lines, report_text}
 use Rattle.polygons.specs.Run.{splitting_by, IsOverlayText}
 use Rattle.polygons.proofs.Answering.{splitting_is, refused, read_stop, reported}
 use Rattle.polygons.proofs.run.contours_under.Goals as goal
@@ -18,8 +18,8 @@ returns-in_err-contours-clause-stop g c =
     let splitting = splitting_for (rounding_of kept) bits c.solver.result in
     let is_run : splitting ≡ splitting_by bits c.args.choices = splitting_is bits c.args.choices c.solver.result (rounding_of kept) (same.rounding ∙ c.rounding.ensures) c.solver.ensures.precision in
     if_err _ _ _ c.from_residual-in_err-contours.ensures.1 (
-    refused (whole g.I.OverlayInt.MIN_COORD) (whole g.I.OverlayInt.MAX_COORD) (splitting_by bits c.args.choices) splitting c.args.bytes.now read.0 (subject_of kept) (clip_of kept) read.1 is_run (same.subject ∙ read.2.0) (same.clip ∙ read.2.1)
-    (IsOverlayText bits c.args.choices c.args.rule) (λ answer left. inr left) c.in_err-contours.field-0.0 c.in_err-contours.ensures.refused
+    refused (AsksForContours c.args.choices.contour_shape (whole g.I.OverlayInt.MIN_COORD) (whole g.I.OverlayInt.MAX_COORD)) (IsFaultyContour c.args.choices.contour_shape (whole g.I.OverlayInt.MIN_COORD) (whole g.I.OverlayInt.MAX_COORD)) c.args.bytes.now (IsOverlayText bits c.args.choices c.args.rule) (splitting_by bits c.args.choices) splitting read.0 (subject_of kept) (clip_of kept) read.1 is_run (same.subject ∙ read.2.0) (same.clip ∙ read.2.1)
+    (λ answer left. inr left) c.in_err-contours.field-0.0 c.in_err-contours.ensures.refused
     )
 
 pub returns-clause-text : goal.returns-clause-text
@@ -35,7 +35,7 @@ returns-clause-text g c =
     let halves = reach_of c.overlay.new.self in
     let splitting = splitting_for (rounding_of kept) bits c.solver.result in
     let is_run : splitting ≡ splitting_by bits c.args.choices = splitting_is bits c.args.choices c.solver.result (rounding_of kept) (same.rounding ∙ c.rounding.ensures) c.solver.ensures.precision in
-    let is_reported = reported splitting (splitting_by bits c.args.choices) c.args.rule c.args.choices.settings.fill_rule read.0 (subject_of kept) (clip_of kept) passes halves is_run (same.subject ∙ read.2.0) (same.clip ∙ read.2.1) run.splitting contours run.polygons run.overlay in
+    let is_reported = reported splitting (splitting_by bits c.args.choices) c.args.rule c.args.choices.settings.fill_rule (flat_map (λ cs. cs) read.0) (subject_of kept) (clip_of kept) passes halves is_run (same.subject ∙ read.2.0) (same.clip ∙ read.2.1) run.splitting contours run.polygons run.overlay in
     let lines_are : string_bytes c.write_contours.new.text ≡ contour_lines contours = c.in_ok-write_contours.ensures ∙ (ap (λ text. text ++ contour_lines (contours_of whole c.as_slice.result.now)) c.new-text.ensures.bytes ∙ ap (λ items. contour_lines (contours_of whole items)) c.as_slice.ensures.value) in
     let text_is : string_bytes c.write_report.new.text ≡ contour_lines contours ++ report_text c.args.choices.has_report passes halves = c.in_ok-write_report.ensures ∙ ap (λ text. text ++ report_text c.args.choices.has_report passes halves) lines_are in
     inl (read.0, read.1, inl (contours, passes, halves, is_reported, ap Ok text_is))
@@ -43,4 +43,4 @@ returns-clause-text g c =
 pub returns-in_err-overlay-clause-stop : goal.returns-in_err-overlay-clause-stop
 returns-in_err-overlay-clause-stop g c =
     let whole = g.I.OverlayInt.whole in
-    if_err _ _ _ c.from_residual.ensures.1 (read_stop (whole g.I.OverlayInt.MIN_COORD) (whole g.I.OverlayInt.MAX_COORD) c.args.bytes.now (IsOverlayText g.I.OverlayInt.BITS c.args.choices c.args.rule) _ c.in_err-overlay.ensures.faulty)
+    if_err _ _ _ c.from_residual.ensures.1 (read_stop (AsksForContours c.args.choices.contour_shape (whole g.I.OverlayInt.MIN_COORD) (whole g.I.OverlayInt.MAX_COORD)) (IsFaultyContour c.args.choices.contour_shape (whole g.I.OverlayInt.MIN_COORD) (whole g.I.OverlayInt.MAX_COORD)) c.args.bytes.now (IsOverlayText g.I.OverlayInt.BITS c.args.choices c.args.rule) _ c.in_err-overlay.ensures.faulty)

@@ -4,9 +4,9 @@ use Rattle.overlay_contours.specs.Kept.{subject_of, clip_of, rounding_of, passes
 use Rattle.overlay_contours.specs.Splittings.{splitting_for}
 use Rattle.overlay_text.proofs.Results.{if_err}
 use Rattle.polygons.specs.ContourText.{report_text}
-use Rattle.polygons.specs.Wkt.{multipolygon_line}
+use Rattle.polygons.specs.Wkt.{AsksForPolygons, AreFaultyPolygons, multipolygon_line}
 use Rattle.polygons.specs.Run.{splitting_by, IsWktText}
-use Rattle.polygons.proofs.Answering.{splitting_is, refused_wkt, reported_shapes}
+use Rattle.polygons.proofs.Answering.{splitting_is, refused, reported_shapes}
 use Rattle.polygons.proofs.run.wkt_under.Goals as goal
 
 pub returns-in_err-shapes-clause-stop : goal.returns-in_err-shapes-clause-stop
@@ -19,8 +19,8 @@ returns-in_err-shapes-clause-stop g c =
     let splitting = splitting_for (rounding_of kept) bits c.solver-solver.result in
     let is_run : splitting ≡ splitting_by bits c.args.choices = splitting_is bits c.args.choices c.solver-solver.result (rounding_of kept) (same.rounding ∙ c.rounding.ensures) c.solver-solver.ensures.precision in
     if_err _ _ _ c.from_residual-in_err-shapes.ensures.1 (
-    refused_wkt (whole g.I.OverlayInt.MIN_COORD) (whole g.I.OverlayInt.MAX_COORD) (splitting_by bits c.args.choices) splitting c.args.bytes.now read.0 (subject_of kept) (clip_of kept) read.1 is_run (same.subject ∙ read.2.0) (same.clip ∙ read.2.1)
-    (IsWktText bits c.args.choices c.args.rule) (λ answer left. inr left) c.in_err-shapes.field-0.0 c.in_err-shapes.ensures.refused
+    refused (AsksForPolygons (whole g.I.OverlayInt.MIN_COORD) (whole g.I.OverlayInt.MAX_COORD)) (AreFaultyPolygons (whole g.I.OverlayInt.MIN_COORD) (whole g.I.OverlayInt.MAX_COORD)) c.args.bytes.now (IsWktText bits c.args.choices c.args.rule) (splitting_by bits c.args.choices) splitting read.0 (subject_of kept) (clip_of kept) read.1 is_run (same.subject ∙ read.2.0) (same.clip ∙ read.2.1)
+    (λ answer left. inr left) c.in_err-shapes.field-0.0 c.in_err-shapes.ensures.refused
     )
 
 pub returns-clause-text : goal.returns-clause-text
