@@ -1,4 +1,4 @@
-use Rattle.std.proofs.Common.{◌≡◌, ◌++◌, ◌∙◌, inl, inr, ap, sym, subst, List, length, Ok, string_bytes, flat_map, arith}
+use Rattle.std.proofs.Common.{◌≡◌, ◌++◌, ◌∙◌, inl, inr, ap, sym, subst, List, length, Ok, string_bytes, flat_map}
 use Rattle.std.proofs.lemmas.List.{length-map}
 use Rattle.overlay_base.specs.declared.overlay_core.overlay_rule.OverlayRule.{OverlayRule}
 use Rattle.overlay_contours.specs.ContoursOf.{contours_of, contours_of_each}
@@ -42,8 +42,7 @@ returns-clause-text g c =
     let is_run : splitting ≡ splitting_by bits c.args.choices = splitting_is bits c.args.choices c.solver.result (rounding_of kept) (same.rounding ∙ c.rounding.ensures) c.solver.ensures.precision in
     let same_rules : c.deref.result.now ≡ rules = c.deref.ensures.value ∙ c.in_ok-rules.ensures in
     let are = subst (λ (rs : List OverlayRule). ArePolygonOverlays splitting c.args.choices.settings.fill_rule (subject_of kept) (clip_of kept) rs overlays) same_rules run.polygons in
-    let report = run.splitting (λ none. let e = ap (λ l. length l) (sym same_rules ∙ none) in omega (arith, e)) in
-    let is_reported = reported_overlays splitting (splitting_by bits c.args.choices) c.args.choices.settings.fill_rule (flat_map (λ cs. cs) read.0) (subject_of kept) (clip_of kept) passes halves is_run (same.subject ∙ read.2.0) (same.clip ∙ read.2.1) report rules overlays are in
+    let is_reported = reported_overlays splitting (splitting_by bits c.args.choices) c.args.choices.settings.fill_rule (flat_map (λ cs. cs) read.0) (subject_of kept) (clip_of kept) passes halves is_run (same.subject ∙ read.2.0) (same.clip ∙ read.2.1) run.splitting rules overlays are in
     let lines_are : string_bytes c.write_overlays.new.text ≡ overlays_text rules overlays =
     c.in_ok-write_overlays.ensures
     ∙ (ap (λ text. text ++ overlays_text c.deref-2.result.now (contours_of_each whole c.deref-3.result.now)) c.new-text.ensures.bytes
