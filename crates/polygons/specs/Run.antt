@@ -75,7 +75,7 @@ has_others choices = list_any (λ is_chosen. is_chosen) choices.others
 abbrev pub is_mixed : Choices → Bool
 is_mixed choices = has_others choices && (choices.in_shapes || choices.is_wkt)
 
--- those that are added, of these rules
+-- of these rules those that are added
 abbrev pub chosen_of : List OverlayRule → List Bool → List OverlayRule
 chosen_of [] flags = []
 chosen_of (rule ∷ rules) [] = []
@@ -90,7 +90,7 @@ named_rules = SubjectRule ∷ ClipRule ∷ Intersect ∷ Union ∷ Difference �
 abbrev pub rules_by : Choices → OverlayRule → List OverlayRule
 rules_by choices rule = rule ∷ chosen_of named_rules choices.others
 
--- the words but for those
+-- the words but for those that choose something by themselves
 abbrev pub without_flags : List (List ℕ) → List (List ℕ)
 without_flags words = filter (λ word. not (is_flag word)) words
 

@@ -42,15 +42,39 @@ const SETTINGS: [(&str, &[&str]); 5] = [
     ),
 ];
 
-/// The names of rules that a word adds.
-const OTHERS: [&str; 7] = [
-    "subject",
-    "clip",
-    "intersect",
-    "union",
-    "difference",
-    "inverse-difference",
-    "xor",
+/// The names before a sign of words that choose by themselves, and for each what its values are, and their names.
+const FLAGS: [(&str, &str, &[&str]); 3] = [
+    (
+        "also",
+        "rule that `polygons` adds",
+        &[
+            "subject",
+            "clip",
+            "intersect",
+            "union",
+            "difference",
+            "inverse-difference",
+            "xor",
+        ],
+    ),
+    (
+        "contours",
+        "choice for lines of an output, which are of the subject",
+        &["clip"],
+    ),
+    ("format", "format that `polygons` knows", &["wkt"]),
+];
+
+/// All names before a sign.
+const NAMES: [&str; 8] = [
+    "rule",
+    "also",
+    "fill",
+    "engine",
+    "strategy",
+    "precision",
+    "format",
+    "contours",
 ];
 
 /// How many bytes of a word a sentence shows.
@@ -96,9 +120,11 @@ fn explain_word(text: &mut String, word: &str) -> Result<(), AllocError> {
     let Some((name, value)) = word.split_once('=') else {
         return explain_lone_word(text, word);
     };
-    if name == "also" {
-        text.push_str(" is no rule that `polygons` adds")?;
-        return suggest(text, name, value, &OTHERS);
+    for (known, values_are, values) in FLAGS {
+        if name == known {
+            write!(text, " is no {values_are}")?;
+            return suggest(text, known, value, values);
+        }
     }
     for (known, values) in SETTINGS {
         if name == known {
@@ -107,16 +133,7 @@ fn explain_word(text: &mut String, word: &str) -> Result<(), AllocError> {
         }
     }
     text.push_str(" is no setting of `polygons`")?;
-    let names = [
-        "rule",
-        "also",
-        "fill",
-        "engine",
-        "strategy",
-        "precision",
-        "format",
-    ];
-    if let Some(near) = nearest(name, &names) {
+    if let Some(near) = nearest(name, &NAMES) {
         write!(text, "; did you mean {near}={value}?")?;
     }
     Ok(())
