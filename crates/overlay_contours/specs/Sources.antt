@@ -27,7 +27,8 @@ IsItsSource subject clip r = (e : Pair) × (given_step subject clip r.edge_data 
 abbrev pub LieNearSources : ℕ → List (List Point) → List (List Point) → List (List (DataStep SourceEdge)) → Type 0
 LieNearSources halves subject clip contours = All (λ s. LiesNearSource halves subject clip (in_order s.0) s.1) (data_steps contours)
 
--- So they do within half a unit, and where no two given edges cross at a point that is not whole, each step lies on it.
+-- Each step of the contours lies within half a unit of the given step that its source names, and on it where no two given
+-- edges cross at a point that is not whole.
 pub record ComeFromSources (subject clip : List (List Point)) (contours : List (List (DataStep SourceEdge))) : Type 0 where
   pub halves : ℕ
   pub near : LieNearSources halves subject clip contours
