@@ -1,16 +1,15 @@
 // The fragments of one column, and what goes on into the next. This project's own.
-ghost use Rattle.std.specs.Prelude.{◌≡◌, ◌≢◌, ◌<◌, ◌≤◌, ◌≤ℤ◌, ◌+◌, ◌++◌, ◌-ℤ◌, [], pos, IsTrue, OnOk, IfOk, All, IsSortedByKey, not, false};
+ghost use Rattle.std.specs.Prelude.{◌≡◌, ◌≤ℤ◌, ◌+◌, ◌++◌, [], OnOk, IfOk, All, IsSortedByKey};
 ghost use Rattle.overlay_geometry.specs.Points.{pair_cmp};
 ghost use Rattle.overlay_geometry.specs.InRange.{IsPairInRange};
 ghost use Rattle.overlay_geometry.specs.PairOf.{pair_of};
 ghost use Rattle.overlay_geometry.specs.PointOf.{point_of};
-ghost use Rattle.overlay_geometry.specs.Points.{is_vertical};
 ghost use Rattle.overlay_base.specs.ArrangedOf.{AreInRange};
 ghost use Rattle.overlay_base.specs.SegmentOf.{ends_of, pairs_in};
-ghost use Rattle.overlay_grid.specs.Grid.{IsInside, column_index};
+ghost use Rattle.overlay_grid.specs.Grid.{IsInside};
 ghost use Rattle.overlay_grid.specs.FragmentOf.{fragments_of, kept_in, layout_of};
 ghost use Rattle.overlay_grid.specs.steps.FragmentFinder.{kept_group};
-ghost use Rattle.overlay_grid.specs.steps.Entering.{KeptRest, corner_in, entering, entering_in, rests_of};
+ghost use Rattle.overlay_grid.specs.steps.Entering.{entering, entering_in, rests_of};
 ghost use Rattle.overlay_grid.specs.steps.Sweeps.{AreParted, IsPartAt, goes_on};
 
 use crate::split::fragment::Fragment;

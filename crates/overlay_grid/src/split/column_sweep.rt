@@ -1,5 +1,5 @@
 // The finder over the columns of a grid that holds the fragments of one column at a time. This project's own.
-ghost use Rattle.std.specs.Prelude.{◌≡◌, ◌<◌, ◌≤◌, ◌+◌, ◌++◌, [], All, IsPermutation, IsSorted, IsSortedByKey, IsTrue, IfErr, IfOk, OnOk, flat_map, length, map, sum_by};
+ghost use Rattle.std.specs.Prelude.{◌≡◌, ◌<◌, ◌≤◌, ◌+◌, ◌++◌, All, IsPermutation, IsSorted, IsSortedByKey, IsTrue, IfErr, IfOk, OnOk, flat_map, length, map, sum_by};
 ghost use Rattle.std.specs.List.{AllByRecursion, list_any, range_with_len};
 ghost use Rattle.overlay_base.specs.declared.segm.fault.Fault.TheVariants.{Memory};
 ghost use Rattle.overlay_geometry.specs.Points.{pair_cmp};
