@@ -17,6 +17,7 @@ pub use overlay_base::segm::string::ShapeCountString;
 pub use overlay_base::segm::winding::WindingCount;
 pub use overlay_build::build::boundary::directed_segments;
 pub use overlay_build::build::builder::GraphBuilder;
+pub use overlay_build::build::directed_walks::directed_walks;
 pub use overlay_build::build::graph::OverlayGraph;
 pub use overlay_build::build::graph_node::OverlayNode;
 pub use overlay_build::build::string_graph::StringGraph;
