@@ -98,6 +98,55 @@ fn two_squares() {
     }
 }
 
+/// A square that runs clockwise.
+const CLOCKWISE: [Row; 4] =
+    [((0, 0), (0, 4), 1, 0), ((0, 0), (4, 0), -1, 0), ((0, 4), (4, 4), 1, 0), ((4, 0), (4, 4), -1, 0)];
+
+/// A line and a shorter one above it, and a line that ends below the start of another.
+const LINE_UNDER_LINE: [Row; 2] = [((0, 0), (4, 0), 1, 0), ((1, 1), (3, 1), 1, 0)];
+const LINE_BESIDE_LINE: [Row; 2] = [((0, 0), (4, 0), 1, 0), ((4, 1), (6, 1), 1, 0)];
+
+/// What is given, the fill rules, and of the graph of all links the fills.
+const FILLS: [(&[Row], &[FillRule], &[u8]); 6] = [
+    (&SQUARES, &[FillRule::NonZero], &[2, 1, 2, 11, 7, 8, 14, 8, 1, 13, 4, 4]),
+    (&CLOCKWISE, &[FillRule::NonZero, FillRule::EvenOdd, FillRule::Negative], &[2, 1, 2, 1]),
+    (&CLOCKWISE, &[FillRule::Positive], &[0, 0, 0, 0]),
+    (&LINE_UNDER_LINE, &[FillRule::EvenOdd], &[1, 2]),
+    (&LINE_UNDER_LINE, &[FillRule::NonZero], &[1, 3]),
+    (&LINE_BESIDE_LINE, &[FillRule::EvenOdd], &[1, 1]),
+];
+
+#[test]
+fn fills_of_all_links() {
+    for solver in STRATEGIES.map(high) {
+        for (given, fill_rules, wanted) in FILLS {
+            for &fill_rule in fill_rules {
+                let mut overlay = Overlay::new().unwrap();
+                let graph = overlay.build_all(&segments(given), fill_rule, solver).unwrap();
+                let fills: Vec<u8> = graph.links().iter().map(|link| link.fill).collect();
+                assert_eq!(fills, wanted, "{solver:?} {fill_rule:?}");
+            }
+        }
+    }
+}
+
+/// The nodes at which not just two links meet.
+#[test]
+fn nodes_of_all_links() {
+    for solver in STRATEGIES.map(high) {
+        for (given, links, nodes, wanted) in
+            [(&SQUARES[..], 12, 10, [&[5, 6, 2, 3][..], &[9, 10, 4, 8]]), (&LINE[..], 1, 2, [&[0], &[0]])]
+        {
+            let mut overlay = Overlay::new().unwrap();
+            let graph = overlay.build_all(&segments(given), FillRule::EvenOdd, solver).unwrap();
+            assert_eq!((graph.links().len(), graph.node_count()), (links, nodes), "{solver:?}");
+            let crosses: Vec<OverlayNode> =
+                graph.nodes().filter(|node| matches!(node, OverlayNode::Cross(_))).collect();
+            assert_eq!(crosses, wanted.map(OverlayNode::Cross), "{solver:?}");
+        }
+    }
+}
+
 /// The ends of the links of one overlay, and how many nodes it has.
 fn ends_of_links(
     overlay: &mut Overlay,

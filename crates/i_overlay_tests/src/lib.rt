@@ -6,15 +6,11 @@ mod chain;
 #[cfg(test)]
 mod clip;
 #[cfg(test)]
-mod contours;
-#[cfg(test)]
 mod library;
 #[cfg(test)]
 mod measure;
 #[cfg(test)]
 mod meetings;
-#[cfg(test)]
-mod overlay;
 #[cfg(test)]
 mod provenance;
 #[cfg(test)]

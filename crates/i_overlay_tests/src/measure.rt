@@ -1,65 +1,29 @@
-// Where points lie, areas of shapes, and boxes around contours, worked by hand.
+// Areas of shapes, and boxes around contours, worked by hand.
 
-use crate::contours::{BOW_TIE, Corners, WIDE_SQUARE, contours_from};
-use overlay_base::overlay_core::fill_rule::FillRule;
-use overlay_base::segm::shape_type::ShapeType;
+use overlay_base::segm::fault::Fault;
 use overlay_contours::contour::{IntContour, find_out_of_range};
-use overlay_contours::location::{PointLocation, locate_point};
 use overlay_contours::measure::{bounding_box, doubled_area_of_shape};
-use overlay_contours::overlay::Overlay;
 use overlay_geometry::geom::point::IntPoint;
 use overlay_geometry::geom::rect::IntRect;
-use overlay_geometry::num::OverlayInt;
+use std::alloc::Global;
 use std::test::Fail;
+
+/// A contour as the tables write it.
+pub type Corners = &'static [(i32, i32)];
+
+const WIDE_SQUARE: Corners = &[(0, 0), (8, 0), (8, 8), (0, 8)];
 
 /// A square hole, clockwise.
 const HOLE: Corners = &[(2, 2), (2, 6), (6, 6), (6, 2)];
 
-/// Where a point lies, or `None` where something is out of range.
-fn location(contours: &[IntContour<i32>], rule: FillRule, x: i32, y: i32) -> Option<PointLocation> {
-    if !x.is_in_range() || !y.is_in_range() {
-        return None;
+/// Contours as the tables write them.
+pub fn contours_from(alloc: Global, lists: &[Corners]) -> Result<Vec<IntContour<i32>>, Fault> {
+    let mut contours = Vec::new(alloc);
+    for corners in lists {
+        let points = corners.iter().map(|(x, y)| IntPoint::new(*x, *y));
+        contours.push(points.collect(alloc)?)?;
     }
-    match find_out_of_range(contours) {
-        Some(_) => None,
-        None => Some(locate_point(contours, rule, IntPoint::new(x, y))),
-    }
-}
-
-#[test]
-fn where_points_lie(rt: HostRuntime) -> Result<(), Fail> {
-    let ring = contours_from(rt.alloc(), &[WIDE_SQUARE, HOLE])?;
-    let bow = contours_from(rt.alloc(), &[BOW_TIE])?;
-    let cases = [
-        (&ring, FillRule::NonZero, (1, 4), PointLocation::Inside),
-        (&ring, FillRule::NonZero, (4, 4), PointLocation::Outside),
-        (&ring, FillRule::NonZero, (4, 2), PointLocation::OnBoundary),
-        (&ring, FillRule::NonZero, (8, 8), PointLocation::OnBoundary),
-        (&ring, FillRule::NonZero, (-1, 8), PointLocation::Outside),
-        (&bow, FillRule::Positive, (1, 2), PointLocation::Inside),
-        (&bow, FillRule::Negative, (3, 2), PointLocation::Inside),
-        (&bow, FillRule::EvenOdd, (3, 2), PointLocation::Inside),
-        (&bow, FillRule::EvenOdd, (2, 2), PointLocation::OnBoundary),
-    ];
-    for (contours, rule, (x, y), wanted) in cases {
-        assert!(rt; location(contours, rule, x, y) == Some(wanted));
-    }
-    Ok(())
-}
-
-#[test]
-fn points_beside_the_contours_of_a_shape(rt: HostRuntime) -> Result<(), Fail> {
-    let mut overlay = Overlay::new(rt.alloc());
-    for (corners, shape_type) in [(WIDE_SQUARE, ShapeType::Subject), (HOLE, ShapeType::Clip)] {
-        for contour in &contours_from(rt.alloc(), &[corners])? {
-            overlay.add_contour(contour, shape_type)?;
-        }
-    }
-    let (point, rule) = (IntPoint { x: 1, y: 4 }, FillRule::NonZero);
-    let location = overlay.locate_point(ShapeType::Subject, rule, point);
-    assert!(rt; location == PointLocation::Inside);
-    assert!(rt; overlay.locate_point(ShapeType::Clip, rule, point) == PointLocation::Outside);
-    Ok(())
+    Ok(contours)
 }
 
 #[test]

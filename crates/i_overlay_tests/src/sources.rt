@@ -1,6 +1,6 @@
 // Which given edges the steps of an overlay name.
 
-use crate::contours::{Corners, contours_from};
+use crate::measure::{Corners, contours_from};
 use overlay_base::overlay_core::fill_rule::FillRule;
 use overlay_base::overlay_core::overlay_rule::OverlayRule;
 use overlay_base::overlay_core::solver::Solver;

@@ -4,9 +4,7 @@ ghost use Rattle.overlay_geometry.specs.Coordinates.{least_coordinate, greatest_
 ghost use Rattle.overlay_base.specs.Planar.{is_arranged};
 ghost use Rattle.overlay_base.specs.SegmentOf.{segments_of};
 
-use crate::worked_lines::{
-    FILL_RULES, Line, STRATEGIES, greatest_counts, lone_line, no_lines, two_squares,
-};
+use crate::worked_lines::{Line, two_squares};
 use overlay_base::overlay_core::extract::VisitState;
 use overlay_base::overlay_core::fill_rule::FillRule;
 use overlay_base::overlay_core::link::OverlayLink;
@@ -14,7 +12,6 @@ use overlay_base::overlay_core::overlay_rule::OverlayRule;
 use overlay_base::overlay_core::rule_table::RuleTable;
 use overlay_base::overlay_core::solver::Solver;
 use overlay_base::segm::boolean::ShapeCountBoolean;
-use overlay_base::segm::fault::Fault;
 use overlay_build::build::builder::GraphBuilder;
 use overlay_build::build::graph::OverlayGraph;
 use overlay_build::build::graph_node::OverlayNode;
@@ -36,22 +33,6 @@ const KEPT: [(OverlayRule, u8, u16); 7] = [
     (OverlayRule::Xor, 6, 0b1111_1111_1111),
 ];
 
-/// The indexes that a cross lists.
-fn crossed(node: &OverlayNode) -> Option<&[usize]> {
-    match node {
-        OverlayNode::Bridge(_) => None,
-        OverlayNode::Cross(several) => Some(several.as_slice()),
-    }
-}
-
-/// Compares the indexes that the crosses among some nodes list with those of two crosses.
-fn compare_crosses(rt: &impl Abort, nodes: &[OverlayNode], first: &[usize], second: &[usize]) {
-    let mut crosses = nodes.iter().filter_map(crossed);
-    assert_eq!(rt; crosses.next(), Some(first));
-    assert_eq!(rt; crosses.next(), Some(second));
-    assert!(rt; crosses.next().is_none());
-}
-
 /// The graph of all links.
 fn build_all<'a>(
     rt: &impl Abort,
@@ -65,27 +46,6 @@ fn build_all<'a>(
     builder
         .build_boolean_all(fill_rule, solver, segments)
         .expect(rt, "no refusal")
-}
-
-/// Whether a graph is sound, and how many links and nodes it has.
-fn sizes(graph: &Graph<'_>) -> (bool, usize, usize) {
-    (graph.validate(), graph.links().len(), graph.nodes().len())
-}
-
-#[test]
-fn two_squares_cross_at_two_nodes(rt: HostRuntime) {
-    let mut builder = Builder::new(rt.alloc());
-    for solver in STRATEGIES {
-        let graph = build_all(
-            &rt,
-            &mut builder,
-            FillRule::NonZero,
-            &solver,
-            &two_squares(),
-        );
-        assert_eq!(rt; sizes(&graph), (true, 12, 10));
-        compare_crosses(&rt, graph.nodes(), &[5, 6, 2, 3], &[9, 10, 4, 8]);
-    }
 }
 
 /// How many states there are, and which of them are unvisited, the first as the lowest bit.
@@ -126,64 +86,4 @@ fn each_rule_visits_the_links_that_it_keeps(rt: HostRuntime) {
         let by_table = visits(&rt, graph.links(), OverlayRule::Table(table), &mut states);
         assert_eq!(rt; (by_name, by_table), ((12, kept), (12, kept)), "{rule}");
     }
-}
-
-#[test]
-fn a_line_alone_has_two_open_ends(rt: HostRuntime) {
-    let mut builder = Builder::new(rt.alloc());
-    for solver in STRATEGIES {
-        let graph = build_all(&rt, &mut builder, FillRule::EvenOdd, &solver, &lone_line());
-        assert_eq!(rt; sizes(&graph), (false, 1, 2));
-        assert_eq!(rt; graph.links().first().map(|link| link.fill), Some(1));
-        compare_crosses(&rt, graph.nodes(), &[0], &[0]);
-    }
-}
-
-#[test]
-fn nothing_has_no_nodes(rt: HostRuntime) {
-    let mut builder = Builder::new(rt.alloc());
-    for rule in FILL_RULES {
-        let graph = build_all(&rt, &mut builder, rule, &Solver::LIST, &no_lines());
-        assert_eq!(rt; sizes(&graph), (true, 0, 0));
-    }
-}
-
-/// How many nodes and links a builder shows after a build.
-fn build(
-    rt: &impl Abort,
-    builder: &mut Builder,
-    rule: OverlayRule,
-    segments: &[Line],
-) -> (usize, usize)
-    requires { IsTrue (is_arranged least_coordinate greatest_coordinate (segments_of segments.now)) }
-{
-    builder
-        .build_boolean_overlay(FillRule::NonZero, rule, &Solver::LIST, segments)
-        .expect(rt, "no refusal");
-    (builder.nodes().len(), builder.links().len())
-}
-
-/// How counts that leave the range are refused, and how many nodes and links a builder shows then.
-fn refuse(builder: &mut Builder, solver: &Solver) -> (Option<Fault>, usize, usize) {
-    let refused = builder
-        .build_boolean_all(FillRule::NonZero, solver, &greatest_counts())
-        .err();
-    (refused, builder.nodes().len(), builder.links().len())
-}
-
-#[test]
-fn a_builder_used_again_shows_nothing_of_the_build_before(rt: HostRuntime) {
-    let mut builder = Builder::new(rt.alloc());
-    let shown = [
-        build(&rt, &mut builder, OverlayRule::Intersect, &two_squares()),
-        build(&rt, &mut builder, OverlayRule::Clip, &lone_line()),
-        build(&rt, &mut builder, OverlayRule::Xor, &two_squares()),
-    ];
-    assert_eq!(rt; shown, [(4, 4), (0, 0), (10, 12)]);
-    for solver in STRATEGIES {
-        let refused = refuse(&mut builder, &solver);
-        assert_eq!(rt; refused, (Some(Fault::CountOutOfRange), 0, 0));
-    }
-    let shown = build(&rt, &mut builder, OverlayRule::Union, &two_squares());
-    assert_eq!(rt; shown, (8, 8));
 }

@@ -5,12 +5,10 @@ ghost use Rattle.overlay_geometry.specs.Coordinates.{least_coordinate, greatest_
 ghost use Rattle.overlay_base.specs.Planar.{is_arranged};
 ghost use Rattle.overlay_base.specs.SegmentOf.{segment_of, segments_of};
 
-use crate::worked_lines::{FILL_RULES, STRATEGIES};
-use overlay_base::overlay_core::clip_rule::ClipRule;
+use crate::worked_lines::STRATEGIES;
 use overlay_base::overlay_core::fill_rule::FillRule;
 use overlay_base::overlay_core::link::OverlayLink;
 use overlay_base::overlay_core::solver::Solver;
-use overlay_base::segm::fault::Fault;
 use overlay_base::segm::segment::Segment;
 use overlay_base::segm::segment_fill::{NONE, SegmentFill};
 use overlay_base::segm::string::ShapeCountString;
@@ -22,11 +20,6 @@ use std::process::Abort;
 type Line = Segment<ShapeCountString, i32, ()>;
 
 type Lines = GraphBuilder<ShapeCountString, Vec<usize>, i32, ()>;
-
-const INSIDE: ClipRule = ClipRule {
-    invert: false,
-    boundary_included: false,
-};
 
 fn line(ax: i32, ay: i32, bx: i32, by: i32, subj: i32, clip: u8) -> Line
     requires { IsTrue (point_lt (record { x = ax; y = ay }) (record { x = bx; y = by })) }
@@ -60,18 +53,6 @@ fn cut_square() -> [Line; 9]
     ]
 }
 
-fn greatest_counts() -> [Line; 2]
-    ensures { IsTrue (is_arranged least_coordinate greatest_coordinate (segments_of result)) }
-{
-    [line(0, 0, 4, 0, i32::MAX, 0), line(0, 1, 4, 1, i32::MAX, 2)]
-}
-
-fn no_lines() -> [Line; 0]
-    ensures { IsTrue (is_arranged least_coordinate greatest_coordinate (segments_of result)) }
-{
-    []
-}
-
 /// How all nine segments are filled: the square winds once around its inside, which is odd, not 0 and positive.
 const FILLS: [(FillRule, [SegmentFill; 9]); 4] = [
     (FillRule::EvenOdd, [8, 2, 1, 2, 11, 2, 1, 1, 8]),
@@ -92,13 +73,6 @@ fn build_all<'a>(
 {
     builder
         .build_string_all(fill_rule, solver, segments)
-        .expect(rt, "no refusal")
-}
-
-/// The graph of the line inside of the square.
-fn cut_line<'a>(rt: &impl Abort, builder: &'a mut Lines, solver: &Solver) -> StringGraph<'a, i32> {
-    builder
-        .build_string_clip(FillRule::NonZero, INSIDE, solver, &cut_square())
         .expect(rt, "no refusal")
 }
 
@@ -123,46 +97,6 @@ fn a_line_over_a_square(rt: HostRuntime) {
             let found = (filled, graph.nodes().len(), crossed);
             assert_eq!(rt; found, (true, 8, true), "{fill_rule}");
         }
-    }
-}
-
-#[test]
-fn a_square_cuts_a_line(rt: HostRuntime) {
-    let mut builder = Lines::new(rt.alloc());
-    for solver in STRATEGIES {
-        let graph = cut_line(&rt, &mut builder, &solver);
-        assert_eq!(rt; (graph.links().len(), graph.nodes().len()), (1, 2));
-        let mut links = graph.links().iter();
-        assert!(rt; links.all(|link| (link.a.point.x, link.b.point.x, link.fill) == (0, 10, 11)));
-    }
-}
-
-/// How counts that leave the range are refused.
-fn refuse(builder: &mut Lines, solver: &Solver) -> Option<Fault> {
-    builder
-        .build_string_all(FillRule::NonZero, solver, &greatest_counts())
-        .err()
-}
-
-#[test]
-fn a_builder_is_used_again(rt: HostRuntime) {
-    let mut builder = Lines::new(rt.alloc());
-    for solver in STRATEGIES {
-        cut_line(&rt, &mut builder, &solver);
-        let shown = (builder.links().len(), builder.nodes().len());
-        let refused = refuse(&mut builder, &solver);
-        let left = (builder.links().len(), builder.nodes().len());
-        let wanted = ((1, 2), Some(Fault::CountOutOfRange), (0, 0));
-        assert_eq!(rt; (shown, refused, left), wanted);
-    }
-}
-
-#[test]
-fn nothing_has_no_graph(rt: HostRuntime) {
-    let mut builder = Lines::new(rt.alloc());
-    for fill_rule in FILL_RULES {
-        let graph = build_all(&rt, &mut builder, fill_rule, &Solver::AUTO, &no_lines());
-        assert!(rt; graph.links().is_empty() && graph.nodes().is_empty());
     }
 }
 

@@ -4,7 +4,7 @@ ghost use Rattle.overlay_geometry.specs.Coordinates.{least_coordinate, greatest_
 ghost use Rattle.overlay_base.specs.Planar.{is_arranged};
 ghost use Rattle.overlay_base.specs.SegmentOf.{segments_of};
 
-use crate::worked_lines::{Line, STRATEGIES, lone_line, no_lines, two_squares};
+use crate::worked_lines::{Line, two_squares};
 use overlay_base::overlay_core::fill_rule::FillRule;
 use overlay_base::overlay_core::overlay_rule::OverlayRule;
 use overlay_base::overlay_core::solver::Solver;
@@ -53,21 +53,6 @@ fn each_link_stands_once_in_the_walks_of_xor(rt: HostRuntime) {
         }
     }
     assert_eq!(rt; met, [true; 12]);
-}
-
-#[test]
-fn nothing_has_no_walks(rt: HostRuntime) {
-    let walks = walks_of(&rt, rt.alloc(), OverlayRule::Union, &no_lines());
-    assert_eq!(rt; walks.len(), 0);
-}
-
-#[test]
-fn a_line_alone_has_uneven_nodes(rt: HostRuntime) {
-    let mut builder = Builder::new(rt.alloc());
-    let graph = builder
-        .build_boolean_all(FillRule::NonZero, &Solver::LIST, &lone_line())
-        .expect(&rt, "no refusal");
-    assert!(rt; !graph.has_even_nodes());
 }
 
 /// Four triangles with one corner in common, run counterclockwise, in order of their smaller ends.
@@ -169,19 +154,5 @@ fn walks_pass_a_node_of_eight_links(rt: HostRuntime) {
             };
             assert_eq!(rt; times_walked(&rt, &walks), times, "{rule}");
         }
-    }
-}
-
-#[test]
-fn eight_links_meet_at_the_common_corner(rt: HostRuntime) {
-    let lines = four_triangles(&rt, rt.alloc(), 1, 1);
-    assert!(rt; is_arranged(&lines));
-    let mut builder = Builder::new(rt.alloc());
-    for solver in STRATEGIES {
-        let graph = builder
-            .build_boolean_overlay(FillRule::NonZero, OverlayRule::Union, &solver, &lines)
-            .expect(&rt, "no refusal");
-        let degrees = graph.nodes().iter().map(|node| node.indices().len());
-        assert_eq!(rt; degrees.max(), Some(8));
     }
 }

@@ -5,20 +5,12 @@ ghost use Rattle.overlay_geometry.specs.Coordinates.{least_coordinate, greatest_
 ghost use Rattle.overlay_base.specs.Planar.{is_arranged};
 ghost use Rattle.overlay_base.specs.SegmentOf.{segment_of, segments_of};
 
-use overlay_base::overlay_core::fill_rule::FillRule;
 use overlay_base::overlay_core::solver::Solver;
 use overlay_base::segm::boolean::ShapeCountBoolean;
 use overlay_base::segm::segment::Segment;
 use overlay_geometry::geom::point::IntPoint;
 
 pub const STRATEGIES: [Solver; 4] = [Solver::LIST, Solver::TREE, Solver::FRAG, Solver::AUTO];
-
-pub const FILL_RULES: [FillRule; 4] = [
-    FillRule::EvenOdd,
-    FillRule::NonZero,
-    FillRule::Positive,
-    FillRule::Negative,
-];
 
 pub type Line = Segment<ShapeCountBoolean, i32, ()>;
 
@@ -63,18 +55,4 @@ pub fn greatest_counts() -> [Line; 2]
     ensures { IsTrue (is_arranged least_coordinate greatest_coordinate (segments_of result)) }
 {
     [line(0, 0, 4, 0, i32::MAX, 0), line(0, 1, 4, 1, i32::MAX, 0)]
-}
-
-/// A line alone.
-pub fn lone_line() -> [Line; 1]
-    ensures { IsTrue (is_arranged least_coordinate greatest_coordinate (segments_of result)) }
-{
-    [line(0, 0, 4, 0, 1, 0)]
-}
-
-/// Nothing.
-pub fn no_lines() -> [Line; 0]
-    ensures { IsTrue (is_arranged least_coordinate greatest_coordinate (segments_of result)) }
-{
-    []
 }
