@@ -5,11 +5,11 @@
 use i_overlay_core::{square, Error, Fault, FillRule, IntPoint, Overlay, OverlayRule, Segment, ShapeType};
 use std::process::Command;
 
-/// The address space of the child, in kilobytes: the given segments take a tenth of it, an overlay of them all of it.
+/// The address space of the child, in kilobytes: the given segments take a sixth of it, a split of them more than all.
 const LIMIT: u32 = 256 * 1024;
 
 /// How many squares the child is given, in a row along the diagonal, each of which crosses the next.
-const SQUARES: i32 = 300_000;
+const SQUARES: i32 = 450_000;
 
 #[test]
 fn memory_is_refused_and_the_overlay_stays_usable() {
