@@ -32,7 +32,8 @@ pub use overlay_contours::measure::{bounding_box, doubled_area, doubled_area_of_
 pub use overlay_contours::overlay::{Overlay, overlay_contours, overlay_shapes};
 pub use overlay_contours::rounding::Rounding;
 pub use overlay_contours::sources::{
-    SourceContour, SourceEdge, SourceShape, overlay_contours_with_sources, overlay_shapes_with_sources,
+    SourceContour, SourceEdge, SourceShape, overlay_contours_with_sources,
+    overlay_shapes_with_sources,
 };
 pub use overlay_geometry::geom::point::IntPoint;
 pub use overlay_geometry::geom::rect::IntRect;
