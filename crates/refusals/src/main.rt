@@ -130,7 +130,7 @@ fn tell_contours<W: Write, E: Write>(
     tell("two rules", kept, &mut rules, alloc, output, digests)?;
     let mut arrangement = KeptArrangement::new(alloc);
     tell(
-        "arrangement",
+        "overlays of an arrangement",
         kept,
         &mut arrangement,
         alloc,
