@@ -85,7 +85,7 @@ fn several_rules_at_once() {
 }
 
 /// An arrangement returns by each rule what an overlay returns, and without collinear points what is left of that where
-/// points in the middle of a straight way are dropped. It stays when contours are added or dropped.
+/// points in the middle of a straight way are dropped.
 #[test]
 fn arrangements_return_what_overlays_return() {
     let mut random = Random(14);

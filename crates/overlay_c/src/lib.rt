@@ -346,8 +346,7 @@ pub extern "C" fn overlay_c_polygons_by_rules(
 
 /// Keeps the arrangement of the contours that were added, split and swept once, from which `overlay_c_arranged_contours`
 /// and `overlay_c_arranged_shapes` make overlays by any rules. Returns as `overlay_c_polygons` does, under the same
-/// settings; what was kept before stays where it does not return 0. The contours that were added stay, and the arrangement
-/// stays when contours are added or dropped. `overlay_c_report` does not speak of it.
+/// settings. The contours that were added stay, and so does what `overlay_c_report` returns.
 #[unsafe(no_mangle)]
 pub extern "C" fn overlay_c_arrange(
     alloc: Global,
