@@ -18,9 +18,7 @@ fn main() {
         _ => Solver::AUTO,
     };
     let runs = words.get(1).map_or(9, |number| number.parse().expect("a number of runs"));
-    let mut text = String::new();
-    std::io::stdin().read_to_string(&mut text).expect("text");
-    let segments: Vec<Segment> = text.lines().map(segment).collect();
+    let segments = read();
     let mut links = 0;
     let split = least(runs, |overlay| {
         overlay.split(&segments, solver).expect("a split");
@@ -29,6 +27,14 @@ fn main() {
         links = overlay.build_all(&segments, FillRule::NonZero, solver).expect("a graph").links().len();
     });
     println!("in={} links={links} split_ms={split:.3} all_ms={all:.3}", segments.len());
+}
+
+/// The segments of standard input. Its text is dropped, as the other program of a race drops it: so both time their runs over
+/// the same heap.
+fn read() -> Vec<Segment> {
+    let mut text = String::new();
+    std::io::stdin().read_to_string(&mut text).expect("text");
+    text.lines().map(segment).collect()
 }
 
 /// The least wall time of some runs, in milliseconds.

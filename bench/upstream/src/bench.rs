@@ -27,11 +27,12 @@ pub(crate) fn run(words: &[String]) -> Outcome<String> {
     Ok(if settings.is_wide { times::<i32>(&settings, &lines) } else { times::<i16>(&settings, &lines) })
 }
 
-/// The least wall times of some runs, each with a new splitter and a new builder.
+/// The least wall times of some runs, each with a new splitter and a new builder. No memory is kept from one run to the next: a
+/// text of a few bytes above a run's buffers would keep their pages for the next run.
 fn times<I: OverlayInt + IntNumber<Wide = i64>>(settings: &Settings, lines: &[Line]) -> String {
     let given = segments::<I>(lines);
     let (mut split, mut build) = (f64::INFINITY, f64::INFINITY);
-    let mut facts = String::new();
+    let (mut pass_count, mut links, mut nodes) = (0, 0, 0);
     for _ in 0..settings.runs {
         let mut segments = given.clone();
         passes::reset();
@@ -43,7 +44,8 @@ fn times<I: OverlayInt + IntNumber<Wide = i64>>(settings: &Settings, lines: &[Li
         let mut builder = GraphBuilder::new();
         let graph = graph(&mut builder, settings, &segments);
         build = build.min(start.elapsed().as_secs_f64());
-        facts = format!("passes={} links={} nodes={}", passes::count(), graph.links.len(), graph.nodes.len());
+        (pass_count, links, nodes) = (passes::count(), graph.links.len(), graph.nodes.len());
     }
-    format!("in={} {facts} split_ms={:.3} graph_ms={:.3}\n", given.len(), split * 1e3, build * 1e3)
+    let facts = format!("in={} passes={pass_count} links={links} nodes={nodes}", given.len());
+    format!("{facts} split_ms={:.3} graph_ms={:.3}\n", split * 1e3, build * 1e3)
 }
