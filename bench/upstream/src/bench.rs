@@ -24,13 +24,14 @@ pub(crate) fn run(words: &[String]) -> Outcome<String> {
     }
     settings.solver.strategy = strategy;
     let lines = read(settings.is_wide)?;
-    Ok(if settings.is_wide { times::<i32>(&settings, &lines) } else { times::<i16>(&settings, &lines) })
+    Ok(if settings.is_wide { times::<i32>(&settings, lines) } else { times::<i16>(&settings, lines) })
 }
 
-/// The least wall times of some runs, each with a new splitter and a new builder. No memory is kept from one run to the next: a
-/// text of a few bytes above a run's buffers would keep their pages for the next run.
-fn times<I: OverlayInt + IntNumber<Wide = i64>>(settings: &Settings, lines: &[Line]) -> String {
-    let given = segments::<I>(lines);
+/// The least wall times of some runs, each with a new splitter and a new builder. The lines are dropped before, and no memory
+/// is kept from one run to the next: a few bytes above a run's buffers would keep their pages for the next run.
+fn times<I: OverlayInt + IntNumber<Wide = i64>>(settings: &Settings, lines: Vec<Line>) -> String {
+    let given = segments::<I>(&lines);
+    drop(lines);
     let (mut split, mut build) = (f64::INFINITY, f64::INFINITY);
     let (mut pass_count, mut links, mut nodes) = (0, 0, 0);
     for _ in 0..settings.runs {
