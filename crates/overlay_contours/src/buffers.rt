@@ -150,6 +150,7 @@ impl<I: OverlayInt> Buffers<I> {
         ensures polygons { IfOk result (λ all. ArePolygonOverlays (splitting_for rounding I.BITS solver.now) fill_rule
             (contours_of I.whole subject.now) (contours_of I.whole clip.now) overlay_rules.now
             (contours_of_each I.whole all.items)) }
+        ensures in_range { IfOk result (λ all. ShapesLieInRange I.whole I.MIN_COORD I.MAX_COORD all.items) }
         ensures splitting { OnOk result (AreOfSplitting (splitting_for rounding I.BITS solver.now)
             (contours_of I.whole subject.now) (contours_of I.whole clip.now) self.new.arranged.passes
             self.new.arranged.reach) }

@@ -258,6 +258,7 @@ impl<I: OverlayInt> Overlay<I> {
         overlay_rules: &[OverlayRule],
     ) -> Result<Vec<Vec<IntContour<I>>>, Fault>
         ensures polygons { IfOk result (AreOverlaysOfKept solver.now overlay_rules.now fill_rule self.old) }
+        ensures in_range { IfOk result (λ all. ShapesLieInRange I.whole I.MIN_COORD I.MAX_COORD all.items) }
         ensures splitting { OnOk result (ReportsSplitting solver.now self.old self.new) }
         ensures refused { IfErr result (IsReasonOf solver.now self.old) }
         ensures report { OnErr result (KeepsReport self.old self.new) }
