@@ -31,8 +31,9 @@ use overlay_split::split::finder::PairFinder;
 use overlay_split::split::pass::pass_at;
 use overlay_tree::split::solver_tree::TreeBuffers;
 use std::alloc::Global;
+use std::mem::replace;
 
-/// Splits lists of segments by snap rounding. It keeps its memory from one call to the next.
+/// Splits lists of segments by snap rounding. It keeps its memory from one call to the next, but for that of the cuts.
 #[derive(Drop)]
 pub struct SnapSolver<I: OverlayInt> {
     alloc: Global,
@@ -170,9 +171,10 @@ impl<I: OverlayInt> SnapSolver<I> {
                 return Err(fault);
             }
         };
-        pass_at(list, self.cuts.as_slice(), &mut self.path, store)?;
+        let cuts = replace(&mut self.cuts, Vec::new(self.alloc));
+        let is_cut = !cuts.is_empty();
+        pass_at(list, cuts, &mut self.path, store)?;
         self.reach = most_moved(is_rounded);
-        let is_cut = !self.cuts.is_empty();
         Ok(repeated | is_cut)
     }
 

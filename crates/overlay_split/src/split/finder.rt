@@ -112,14 +112,12 @@ impl<I: OverlayInt> PairFinder<I> {
         }
     }
 
-    /// Gives the memory of its columns back, if it has some.
+    /// Gives the memory of its grid back, if it has one. The memory of columns in place of a tree is let go: they hold all
+    /// fragments of a list.
     pub fn give_back(self, memory: &mut FragmentMemory<I>) {
-        let PairFinder { grid, few, .. } = self;
+        let PairFinder { grid, .. } = self;
         if let Some(grid) = grid {
             *memory = grid.into_memory();
-        }
-        if let Some(few) = few {
-            *memory = few.memory;
         }
     }
 

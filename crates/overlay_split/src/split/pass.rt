@@ -34,10 +34,10 @@ use overlay_intersections::split::placing::Placing;
 use overlay_tree::split::solver_tree::TreeBuffers;
 use std::alloc::Global;
 
-/// The memory of a pass, kept from one to the next. This project's own.
+/// The memory of a pass, kept from one to the next, but for that of its marks. This project's own.
 #[derive(Drop)]
 pub struct PassBuffers<I> {
-    marks: Vec<LineMark<I>>,
+    alloc: Global,
     path: Vec<IntPoint<I>>,
     tree: TreeBuffers<I>,
 }
@@ -46,7 +46,7 @@ impl<I> PassBuffers<I> {
     /// Buffers that have taken no memory yet.
     pub fn new(alloc: Global) -> Self {
         PassBuffers {
-            marks: Vec::new(alloc),
+            alloc,
             path: Vec::new(alloc),
             tree: TreeBuffers::new(alloc),
         }
@@ -145,8 +145,9 @@ pub fn pass_within<C: WindingCount, I: OverlayInt, D: OverlayEdgeData<C>>(
     ensures uncut { OnTooMany result (store.new ≡ store.old) }
     ensures unbounded { OnTooMany result (limit < 2 ^ 64 - 1) }
 {
-    let PassBuffers { marks, path, tree } = buffers;
-    let is_rounded = match finder.find_marks(list.as_slice(), placing, tree, marks) {
+    let PassBuffers { alloc, path, tree } = buffers;
+    let mut marks = Vec::new(*alloc);
+    let is_rounded = match finder.find_marks(list.as_slice(), placing, tree, &mut marks) {
         Ok(is_rounded) => is_rounded,
         Err(fault) => {
             list.clear();
@@ -157,10 +158,11 @@ pub fn pass_within<C: WindingCount, I: OverlayInt, D: OverlayEdgeData<C>>(
         list.clear();
         return Err(SplitFault::TooManySegments);
     }
-    pass_at(list, marks.as_slice(), path, store)?;
+    let has_marks = !marks.is_empty();
+    pass_at(list, marks, path, store)?;
     Ok(Passed {
         is_rounded,
-        has_marks: !marks.is_empty(),
+        has_marks,
     })
 }
 
@@ -169,7 +171,8 @@ pub fn pass_within<C: WindingCount, I: OverlayInt, D: OverlayEdgeData<C>>(
 /// The marks have to be ordered by index, each at the index of a segment; those of each segment in
 /// strict order of points, and none at an end of it. The list has to be sorted, without two
 /// segments on one pair of ends, in range, with counts that are valid and not empty. The marks need
-/// not be in range. `path` is memory that is written over.
+/// not be in range. They are let go before the pieces are sorted, which takes as much memory as the
+/// pieces. `path` is memory that is written over.
 ///
 /// Returns `Fault::CountOutOfRange` only where a running sum of the counts of pieces on one pair leaves
 /// `-i32::MAX..=i32::MAX`, and, memory being found, wherever one does; the store is then what the hooks called before
@@ -177,31 +180,32 @@ pub fn pass_within<C: WindingCount, I: OverlayInt, D: OverlayEdgeData<C>>(
 /// left. Where a call is refused the list is empty.
 pub fn pass_at<C: WindingCount, I: OverlayInt, D: OverlayEdgeData<C>>(
     list: &mut Vec<Segment<C, I, D>>,
-    marks: &[LineMark<I>],
+    marks: Vec<LineMark<I>>,
     path: &mut Vec<IntPoint<I>>,
     store: &mut D::Store,
 ) -> Result<(), Fault>
     requires map { IsTrue (is_map (segments_of list.old.items)) }
     requires splittable { IsSplittable list.old.items }
-    requires marks { AreCutMarksOf list.old.items marks.now }
-    ensures geometry { OnOk result (IsPassAt marks.now list.old list.new) }
-    ensures edge_data { OnOk result (HasDataOfPassAt D.OverlayEdgeData.own marks.now list.old store.old list.new) }
-    ensures store { OnOk result (IsPassStoreAt D.OverlayEdgeData.own marks.now list.old store.old store.new) }
+    requires marks { AreCutMarksOf list.old.items marks.items }
+    ensures geometry { OnOk result (IsPassAt marks.items list.old list.new) }
+    ensures edge_data { OnOk result (HasDataOfPassAt D.OverlayEdgeData.own marks.items list.old store.old list.new) }
+    ensures store { OnOk result (IsPassStoreAt D.OverlayEdgeData.own marks.items list.old store.old store.new) }
 
-    ensures fits { OnOk result (PiecesFitAt marks.now list.old.items) }
-    ensures refused { OnTooLarge result (PiecesLeaveRangeAt marks.now list.old.items) }
+    ensures fits { OnOk result (PiecesFitAt marks.items list.old.items) }
+    ensures refused { OnTooLarge result (PiecesLeaveRangeAt marks.items list.old.items) }
     ensures emptied { OnErr result (list.new.items ≡ []) }
-    ensures stopped { OnTooLarge result (StopsPassAt D.OverlayEdgeData.own marks.now list.old store.old store.new) }
+    ensures stopped { OnTooLarge result (StopsPassAt D.OverlayEdgeData.own marks.items list.old store.old store.new) }
     ensures store_made { IsMadeFrom (hooks_of C.counted D.OverlayEdgeData.own) store.old store.new }
 {
     // a list without marks is as it was, sorted and joined
     if marks.is_empty() {
         return Ok(());
     }
-    if let Err(fault) = cut_at(list, marks, path, store) {
+    if let Err(fault) = cut_at(list, marks.as_slice(), path, store) {
         list.clear();
         return Err(fault);
     }
+    drop(marks);
     join_with_store(list, store)?;
     Ok(())
 }

@@ -43,7 +43,8 @@ use std::alloc::Global;
 /// How many passes snap, if nothing else is said.
 const SNAP_LIMIT: u32 = 256;
 
-/// Splits lists of segments. It keeps its memory from one call to the next.
+/// Splits lists of segments. It keeps memory from one call to the next, but not that of marks, nor that of columns which
+/// hold all fragments of a list.
 #[derive(Drop)]
 pub struct SplitSolver<I> {
     alloc: Global,

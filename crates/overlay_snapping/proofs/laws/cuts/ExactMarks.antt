@@ -1,5 +1,5 @@
 -- Where every crossing is a whole point, the marks of a settling pass are the cuts.
-use Rattle.std.proofs.Common.{◌≡◌, sym, subst, IsTrue, IsFalse, List}
+use Rattle.std.proofs.Common.{sym, subst, IsTrue, IsFalse, List}
 use Rattle.std.specs.Prelude.{slice_index_or}
 use Rattle.overlay_geometry.specs.Points.{Point}
 use Rattle.overlay_base.specs.Segments.{WholeSegment, pairs, are_ordered}

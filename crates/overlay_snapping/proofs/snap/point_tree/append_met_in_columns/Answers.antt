@@ -1,5 +1,5 @@
 use Rattle.std.proofs.Common.{◌≡◌, sym, subst, ◌∙◌, ℕ, ◌+◌, ◌++◌, [], ◌∷◌, arith}
-use Rattle.std.specs.Prelude.{ℤ, ◌<ℤ◌}
+use Rattle.std.specs.Prelude.{◌<ℤ◌}
 use Rattle.overlay_geometry.specs.Coordinates.{is_point_in_range}
 use Rattle.overlay_geometry.specs.PairOf.{pair_of}
 use Rattle.overlay_geometry.specs.PointOf.{point_of}

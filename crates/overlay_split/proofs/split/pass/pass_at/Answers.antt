@@ -1,4 +1,4 @@
-use Rattle.std.proofs.Common.{◌≡◌, ◌∙◌, sym, ap, subst, IsTrue, IsFalse, List, []}
+use Rattle.std.proofs.Common.{◌≡◌, ◌==◌, ◌∙◌, true, sym, ap, subst, IsTrue, IsFalse, List, []}
 use Rattle.std.specs.List.{AllByRecursion}
 use Rattle.overlay_geometry.specs.Points.{Point, Pair}
 use Rattle.overlay_base.specs.EdgeData.{data_join, without_data, IsRefusedJoin}
@@ -8,9 +8,11 @@ use Rattle.overlay_base.specs.Join.{join_leaves_range}
 use Rattle.overlay_base.specs.SegmentOf.{segments_of, data_segments_of}
 use Rattle.overlay_base.specs.Segments.{WholeSegment, is_map}
 use Rattle.overlay_base.specs.declared.segm.fault.Fault.TheVariants.{CountOutOfRange}
+use Rattle.overlay_base.specs.declared.segm.segment.Segment.{Segment}
 use Rattle.overlay_base.proofs.laws.joins.Stores.{made_further}
 use Rattle.overlay_base.proofs.laws.joins.Views.{segments_of-bare}
 use Rattle.overlay_intersections.specs.MarkOf.{marks_of}
+use Rattle.overlay_intersections.specs.declared.split.line_mark.LineMark.{LineMark}
 use Rattle.overlay_split.specs.CutOf.{AreMarksBy, PiecesLeaveRangeAt, StopsPassAt}
 use Rattle.overlay_split.specs.DataPass.{data_cut_by, data_pass_by}
 use Rattle.overlay_split.specs.Pass.{cut_by, pass_by}
@@ -22,12 +24,12 @@ use Rattle.overlay_split.proofs.split.pass.pass_at.Goals as goal
 
 -- ---- a list without marks stays
 
-none_named : (g : _) (c : goal.Then-is_empty g) (on : Pair → List Point) → AreMarksBy on (segments_of c.args.list.now.items) (marks_of g.I.OverlayInt.whole c.args.marks.now) → AllByRecursion (λ s. on s.pair ≡ []) (data_segments_of c.args.list.now.items)
+none_named : (g : _) (c : goal.After-drop-marks g) (on : Pair → List Point) → AreMarksBy on (segments_of c.args.list.now.items) (marks_of g.I.OverlayInt.whole c.args.marks.items) → AllByRecursion (λ s. on s.pair ≡ []) (data_segments_of c.args.list.now.items)
 none_named g c on are =
     let whole = g.I.OverlayInt.whole in
-    none_on_each c.args.list.now.items on (marks_of whole c.args.marks.now) (ap (marks_of whole) (is_nil c.args.marks.now (sym c.is_empty.ensures ∙ c.if-is_empty.true))) are
+    none_on_each c.args.list.now.items on (marks_of whole c.args.marks.items) (ap (marks_of whole) (is_nil c.args.marks.items (subst (λ n. (n == 0) ≡ true) c.args.marks.ok.0 (sym c.is_empty.ensures ∙ c.if-is_empty.true)))) are
 
-stays : (g : _) (c : goal.Then-is_empty g) (on : Pair → List Point) → AreMarksBy on (segments_of c.args.list.now.items) (marks_of g.I.OverlayInt.whole c.args.marks.now) →
+stays : (g : _) (c : goal.After-drop-marks g) (on : Pair → List Point) → AreMarksBy on (segments_of c.args.list.now.items) (marks_of g.I.OverlayInt.whole c.args.marks.items) →
     data_pass_by (hooks_of g.C.WindingCount.counted g.D.OverlayEdgeData) on (data_segments_of c.args.list.now.items) c.args.store.now ≡ (data_segments_of c.args.list.now.items, c.args.store.now)
 stays g c on are =
     let items = c.args.list.now.items in
@@ -58,36 +60,41 @@ returns-then-is_empty-clause-store_made g c = no_call
 
 -- ---- the pieces, joined
 
+-- what names the marks of a list names those of its slice
+sliced : {C I D : Type 0} {m : _} {w : _} {o : _} {e : _} {p : _} (items : List (Segment C I D m w o e p)) (on : Pair → List Point) (slice marks : List (LineMark I)) → slice ≡ marks → AreMarksBy on (segments_of items) (marks_of w.whole marks) → AreMarksBy on (segments_of items) (marks_of w.whole slice)
+sliced {w = w} items on slice marks e are = subst (λ l. AreMarksBy on (segments_of items) (marks_of w.whole l)) (sym e) are
+
 pub cut_at-requires-clause-splittable : goal.cut_at-requires-clause-splittable
 cut_at-requires-clause-splittable g c = c.requires.splittable
 
 pub cut_at-requires-clause-marks : goal.cut_at-requires-clause-marks
-cut_at-requires-clause-marks g c = c.requires.marks
+cut_at-requires-clause-marks g c = rw (c.as_slice.ensures.value) c.requires.marks
 
 pub join_with_store-requires : goal.join_with_store-requires
 join_with_store-requires g c =
     let hooks = hooks_of g.C.WindingCount.counted g.D.OverlayEdgeData in
     let marks = c.requires.marks in
-    are_valid-cut hooks marks.on c.args.list.now.items c.cut_at.new.list.items c.args.store.now (c.in_default.ensures.edge_data marks.on marks.are) _ _ c.requires.splittable
+    are_valid-cut hooks marks.on c.args.list.now.items c.cut_at.new.list.items c.args.store.now (c.in_default.ensures.edge_data marks.on (sliced c.args.list.now.items marks.on _ _ c.as_slice.ensures.value marks.are)) _ _ c.requires.splittable
 
 pub returns-in_err-join_with_store-clause-refused : goal.returns-in_err-join_with_store-clause-refused
 returns-in_err-join_with_store-clause-refused g c =
     let hooks = hooks_of g.C.WindingCount.counted g.D.OverlayEdgeData in
     let items = c.args.list.now.items in
-    let leaves : c.in_err-join_with_store.field-0.0 ≡ CountOutOfRange → PiecesLeaveRangeAt c.args.marks.now items =
-    λ e on are. subst (λ (l : List WholeSegment). IsTrue (join_leaves_range l)) (cut_as_segments hooks on items c.cut_at.new.list.items c.args.store.now (c.in_default.ensures.edge_data on are)) (c.in_err-join_with_store.ensures.refused e) in
+    let leaves : c.in_err-join_with_store.field-0.0 ≡ CountOutOfRange → PiecesLeaveRangeAt c.args.marks.items items =
+    λ e on are. subst (λ (l : List WholeSegment). IsTrue (join_leaves_range l)) (cut_as_segments hooks on items c.cut_at.new.list.items c.args.store.now (c.in_default.ensures.edge_data on (sliced items on _ _ c.as_slice.ensures.value are))) (c.in_err-join_with_store.ensures.refused e) in
     refused_by c.from_residual.result c.in_err-join_with_store.field-0.0 _ c.from_residual.ensures.1 leaves
 
 pub returns-in_err-join_with_store-clause-stopped : goal.returns-in_err-join_with_store-clause-stopped
 returns-in_err-join_with_store-clause-stopped g c =
     let hooks = hooks_of g.C.WindingCount.counted g.D.OverlayEdgeData in
-    let items = data_segments_of c.args.list.now.items in
+    let given = c.args.list.now.items in
+    let items = data_segments_of given in
     let left = c.join_with_store.new.store in
-    let stops : c.in_err-join_with_store.field-0.0 ≡ CountOutOfRange → StopsPassAt g.D.OverlayEdgeData c.args.marks.now c.args.list.now c.args.store.now left =
+    let stops : c.in_err-join_with_store.field-0.0 ≡ CountOutOfRange → StopsPassAt g.D.OverlayEdgeData c.args.marks.items c.args.list.now c.args.store.now left =
     λ e on are.
     let pieces = data_cut_by hooks on items c.args.store.now in
-    subst (λ s. IsRefusedJoin hooks pieces.0 s left) (c.in_default.ensures.store on are)
-    (subst (λ l. IsRefusedJoin hooks l c.cut_at.new.store left) (c.in_default.ensures.edge_data on are) (c.in_err-join_with_store.ensures.stopped e)) in
+    subst (λ s. IsRefusedJoin hooks pieces.0 s left) (c.in_default.ensures.store on (sliced given on _ _ c.as_slice.ensures.value are))
+    (subst (λ l. IsRefusedJoin hooks l c.cut_at.new.store left) (c.in_default.ensures.edge_data on (sliced given on _ _ c.as_slice.ensures.value are)) (c.in_err-join_with_store.ensures.stopped e)) in
     refused_by c.from_residual.result c.in_err-join_with_store.field-0.0 _ c.from_residual.ensures.1 stops
 
 pub returns-in_err-join_with_store-clause-store_made : goal.returns-in_err-join_with_store-clause-store_made
@@ -95,13 +102,13 @@ returns-in_err-join_with_store-clause-store_made g c =
     made_further (hooks_of g.C.WindingCount.counted g.D.OverlayEdgeData) c.in_default.ensures.store_made c.in_err-join_with_store.ensures.store_made
 
 -- what is joined is what the cut leaves
-joined : (g : _) (c : goal.In_ok-join_with_store g) (on : Pair → List Point) → AreMarksBy on (segments_of c.args.list.now.items) (marks_of g.I.OverlayInt.whole c.args.marks.now) →
+joined : (g : _) (c : goal.In_ok-join_with_store g) (on : Pair → List Point) → AreMarksBy on (segments_of c.args.list.now.items) (marks_of g.I.OverlayInt.whole c.args.marks.items) →
     (data_segments_of c.join_with_store.new.list.items, c.join_with_store.new.store) ≡ data_pass_by (hooks_of g.C.WindingCount.counted g.D.OverlayEdgeData) on (data_segments_of c.args.list.now.items) c.args.store.now
 joined g c on are =
     let hooks = hooks_of g.C.WindingCount.counted g.D.OverlayEdgeData in
     let made : (data_segments_of c.join_with_store.new.list.items, c.join_with_store.new.store) ≡ data_join hooks (data_segments_of c.cut_at.new.list.items) c.cut_at.new.store =
     λ i. (c.in_ok-join_with_store.ensures.edge_data i, c.in_ok-join_with_store.ensures.store i) in
-    made ∙ (λ i. data_join hooks (c.in_default.ensures.edge_data on are i) (c.in_default.ensures.store on are i))
+    made ∙ (λ i. data_join hooks (c.in_default.ensures.edge_data on (sliced c.args.list.now.items on _ _ c.as_slice.ensures.value are) i) (c.in_default.ensures.store on (sliced c.args.list.now.items on _ _ c.as_slice.ensures.value are) i))
 
 pub returns-clause-geometry : goal.returns-clause-geometry
 returns-clause-geometry g c = λ on are.
@@ -118,7 +125,7 @@ pub returns-clause-fits : goal.returns-clause-fits
 returns-clause-fits g c = λ on are.
     let hooks = hooks_of g.C.WindingCount.counted g.D.OverlayEdgeData in
     let items = c.args.list.now.items in
-    subst (λ (l : List WholeSegment). IsFalse (join_leaves_range l)) (cut_as_segments hooks on items c.cut_at.new.list.items c.args.store.now (c.in_default.ensures.edge_data on are)) c.in_ok-join_with_store.ensures.fits
+    subst (λ (l : List WholeSegment). IsFalse (join_leaves_range l)) (cut_as_segments hooks on items c.cut_at.new.list.items c.args.store.now (c.in_default.ensures.edge_data on (sliced items on _ _ c.as_slice.ensures.value are))) c.in_ok-join_with_store.ensures.fits
 
 pub returns-clause-store_made : goal.returns-clause-store_made
 returns-clause-store_made g c =

@@ -36,7 +36,7 @@ pub pass_at-requires-clause-marks : goal.pass_at-requires-clause-marks
 pass_at-requires-clause-marks g c =
     let whole = g.I.OverlayInt.whole in
     let found = subst (λ l. AreMarks (placing_of c.args.placing) (segments_of l) (marks_of whole c.find_marks.new.marks.items)) c.as_slice.ensures.value c.in-Ok.ensures.marks in
-    rw (c.as_slice-2.ensures.value) (AreCutMarks-pass (placing_of c.args.placing) (segments_of c.args.list.now.items) _ found)
+    AreCutMarks-pass (placing_of c.args.placing) (segments_of c.args.list.now.items) _ found
 
 pub returns-in_err-pass_at-clause-stopped : goal.returns-in_err-pass_at-clause-stopped
 returns-in_err-pass_at-clause-stopped g c =
@@ -44,18 +44,14 @@ returns-in_err-pass_at-clause-stopped g c =
     let whole = g.I.OverlayInt.whole in
     let placing = placing_of c.args.placing in
     let found = subst (λ l. AreMarks placing (segments_of l) (marks_of whole c.find_marks.new.marks.items)) c.as_slice.ensures.value c.in-Ok.ensures.marks in
-    let all = subst (λ l. AreMarks placing (segments_of items) (marks_of whole l)) (sym c.as_slice-2.ensures.value) found in
     let stopped : c.in_err-pass_at.field-0.0 ≡ CountOutOfRange → StopsPass g.D.OverlayEdgeData c.args.placing c.args.list.now c.args.store.now c.pass_at.new.store =
-    λ e. c.in_err-pass_at.ensures.stopped e (marks_on placing (without_data (data_segments_of items))) (AreMarksBy-bare items placing _ all) in
+    λ e. c.in_err-pass_at.ensures.stopped e (marks_on placing (without_data (data_segments_of items))) (AreMarksBy-bare items placing _ found) in
     refused_in c.from_residual.result c.in_err-pass_at.field-0.0 _ c.from_residual.ensures.1 stopped
 
 -- the marks that were found are those of the pass
-found : (g : _) (c : goal.After-is_empty g) → AreMarks (placing_of c.args.placing) (segments_of c.args.list.now.items) (marks_of g.I.OverlayInt.whole c.as_slice-2.result.now)
+found : (g : _) (c : goal.In_ok-pass_at g) → AreMarks (placing_of c.args.placing) (segments_of c.args.list.now.items) (marks_of g.I.OverlayInt.whole c.find_marks.new.marks.items)
 found g c =
-    let placing = placing_of c.args.placing in
-    let whole = g.I.OverlayInt.whole in
-    let these = subst (λ l. AreMarks placing (segments_of l) (marks_of whole c.find_marks.new.marks.items)) c.as_slice.ensures.value c.in-Ok.ensures.marks in
-    subst (λ l. AreMarks placing (segments_of c.args.list.now.items) (marks_of whole l)) (sym c.as_slice-2.ensures.value) these
+    subst (λ l. AreMarks (placing_of c.args.placing) (segments_of l) (marks_of g.I.OverlayInt.whole c.find_marks.new.marks.items)) c.as_slice.ensures.value c.in-Ok.ensures.marks
 
 pub returns-clause-geometry : goal.returns-clause-geometry
 unfolding pass
@@ -80,9 +76,8 @@ returns-clause-marked g c =
     let whole = g.I.OverlayInt.whole in
     let segments = segments_of c.args.list.now.items in
     let marks = c.find_marks.new.marks in
-    let these = subst (λ l. AreMarks (placing_of c.args.placing) segments (marks_of whole l)) c.as_slice-2.ensures.value (found g c) in
     let length_is : length (marks_of whole marks.items) ≡ vec_len marks = length-map marks.items (mark_of whole) ∙ sym marks.ok.0 in
-    marks_tell (placing_of c.args.placing) segments (marks_of whole marks.items) these (vec_len marks) length_is c.is_empty.result c.is_empty.ensures
+    marks_tell (placing_of c.args.placing) segments (marks_of whole marks.items) (found g c) (vec_len marks) length_is c.is_empty-has_marks.result c.is_empty-has_marks.ensures
 
 pub returns-clause-fits : goal.returns-clause-fits
 returns-clause-fits g c =

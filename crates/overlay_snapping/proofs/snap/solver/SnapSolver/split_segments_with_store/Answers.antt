@@ -83,7 +83,7 @@ named joined list marks e cuts on h = subst (λ l. AreMarksBy on l marks) (sym e
 
 pub pass_at-requires-clause-marks : goal.pass_at-requires-clause-marks
 pass_at-requires-clause-marks g c =
-    let cuts = found (join (segments_of c.args.list.now.items)) _ _ _ _ c.deref.ensures.value c.in_ok-repeated.ensures.geometry c.as_slice.ensures.value c.in-Ok.ensures.cuts in
+    let cuts = found (join (segments_of c.args.list.now.items)) _ _ _ _ c.deref.ensures.value c.in_ok-repeated.ensures.geometry (ap (λ v. v.items) c.replace-cuts.ensures.value) c.in-Ok.ensures.cuts in
     rw (c.in_ok-repeated.ensures.geometry) (cut_marks (join (segments_of c.args.list.now.items)) _ cuts)
 
 -- ---- refused
@@ -99,8 +99,8 @@ pub returns-in_err-pass_at-clause-refused : goal.returns-in_err-pass_at-clause-r
 returns-in_err-pass_at-clause-refused g c =
     let given = segments_of c.args.list.now.items in
     let joined = join given in
-    let marks = marks_of g.I.OverlayInt.whole c.as_slice.result.now in
-    let cuts : AreCuts joined marks = found joined _ _ _ _ c.deref.ensures.value c.in_ok-repeated.ensures.geometry c.as_slice.ensures.value c.in-Ok.ensures.cuts in
+    let marks = marks_of g.I.OverlayInt.whole c.replace-cuts.result.items in
+    let cuts : AreCuts joined marks = found joined _ _ _ _ c.deref.ensures.value c.in_ok-repeated.ensures.geometry (ap (λ v. v.items) c.replace-cuts.ensures.value) c.in-Ok.ensures.cuts in
     let leaves : c.in_err-pass_at.field-0.0 ≡ CountOutOfRange → SnapLeavesRange given =
     λ e. in_pieces (on_of joined marks) (cuts_of joined marks cuts) (subst (λ l. IsTrue (join_leaves_range (cut_by (on_of joined marks) l))) c.in_ok-repeated.ensures.geometry
     (c.in_err-pass_at.ensures.refused e (on_of joined marks) (named joined _ marks c.in_ok-repeated.ensures.geometry cuts (on_of joined marks) (cuts_of joined marks cuts)))) in
@@ -121,8 +121,8 @@ returns-in_err-pass_at-clause-stopped g c =
     let hooks = hooks_of g.C.WindingCount.counted g.D.OverlayEdgeData in
     let left = c.pass_at.new.store in
     let bare : given ≡ without_data items = segments_of-bare c.args.list.now.items in
-    let marks = marks_of g.I.OverlayInt.whole c.as_slice.result.now in
-    let cuts : AreCuts joined marks = found joined _ _ _ _ c.deref.ensures.value c.in_ok-repeated.ensures.geometry c.as_slice.ensures.value c.in-Ok.ensures.cuts in
+    let marks = marks_of g.I.OverlayInt.whole c.replace-cuts.result.items in
+    let cuts : AreCuts joined marks = found joined _ _ _ _ c.deref.ensures.value c.in_ok-repeated.ensures.geometry (ap (λ v. v.items) c.replace-cuts.ensures.value) c.in-Ok.ensures.cuts in
     let on = on_of joined marks in
     let fits = subst (λ l. IsFalse (join_leaves_range l)) bare c.in_ok-repeated.ensures.fits in
     let stopped : c.in_err-pass_at.field-0.0 ≡ CountOutOfRange → IsStoppedSnap hooks items c.args.store.now left =
@@ -142,9 +142,9 @@ pub returns-clause-snapped : goal.returns-clause-snapped
 returns-clause-snapped g c =
     let given = segments_of c.args.list.now.items in
     let joined = join given in
-    let marks = marks_of g.I.OverlayInt.whole c.as_slice.result.now in
+    let marks = marks_of g.I.OverlayInt.whole c.replace-cuts.result.items in
     let on = on_of joined marks in
-    let cuts : AreCuts joined marks = found joined _ _ _ _ c.deref.ensures.value c.in_ok-repeated.ensures.geometry c.as_slice.ensures.value c.in-Ok.ensures.cuts in
+    let cuts : AreCuts joined marks = found joined _ _ _ _ c.deref.ensures.value c.in_ok-repeated.ensures.geometry (ap (λ v. v.items) c.replace-cuts.ensures.value) c.in-Ok.ensures.cuts in
     let named_on = named joined _ marks c.in_ok-repeated.ensures.geometry cuts on (cuts_of joined marks cuts) in
     let is : segments_of c.pass_at.new.list.items ≡ pass_by on joined = c.in_ok-pass_at.ensures.geometry on named_on ∙ ap (λ l. pass_by on l) c.in_ok-repeated.ensures.geometry in
     subst (λ l. IsSnapped joined l) (sym is) (is_snapped given (segments_ordered c.args.list.now.items) on cuts.decided (cuts_of joined marks cuts))
@@ -153,9 +153,9 @@ pub returns-clause-balance : goal.returns-clause-balance
 returns-clause-balance g c =
     let given = segments_of c.args.list.now.items in
     let joined = join given in
-    let marks = marks_of g.I.OverlayInt.whole c.as_slice.result.now in
+    let marks = marks_of g.I.OverlayInt.whole c.replace-cuts.result.items in
     let on = on_of joined marks in
-    let cuts : AreCuts joined marks = found joined _ _ _ _ c.deref.ensures.value c.in_ok-repeated.ensures.geometry c.as_slice.ensures.value c.in-Ok.ensures.cuts in
+    let cuts : AreCuts joined marks = found joined _ _ _ _ c.deref.ensures.value c.in_ok-repeated.ensures.geometry (ap (λ v. v.items) c.replace-cuts.ensures.value) c.in-Ok.ensures.cuts in
     let named_on = named joined _ marks c.in_ok-repeated.ensures.geometry cuts on (cuts_of joined marks cuts) in
     let is : segments_of c.pass_at.new.list.items ≡ pass_by on joined = c.in_ok-pass_at.ensures.geometry on named_on ∙ ap (λ l. pass_by on l) c.in_ok-repeated.ensures.geometry in
     λ p. ap (λ l. balance l p) is ∙ keeps_balance given (segments_ordered c.args.list.now.items) on cuts.decided (cuts_of joined marks cuts) p
@@ -164,9 +164,9 @@ pub returns-clause-near : goal.returns-clause-near
 returns-clause-near g c =
     let given = segments_of c.args.list.now.items in
     let joined = join given in
-    let marks = marks_of g.I.OverlayInt.whole c.as_slice.result.now in
+    let marks = marks_of g.I.OverlayInt.whole c.replace-cuts.result.items in
     let on = on_of joined marks in
-    let cuts : AreCuts joined marks = found joined _ _ _ _ c.deref.ensures.value c.in_ok-repeated.ensures.geometry c.as_slice.ensures.value c.in-Ok.ensures.cuts in
+    let cuts : AreCuts joined marks = found joined _ _ _ _ c.deref.ensures.value c.in_ok-repeated.ensures.geometry (ap (λ v. v.items) c.replace-cuts.ensures.value) c.in-Ok.ensures.cuts in
     let named_on = named joined _ marks c.in_ok-repeated.ensures.geometry cuts on (cuts_of joined marks cuts) in
     let is : segments_of c.pass_at.new.list.items ≡ pass_by on joined = c.in_ok-pass_at.ensures.geometry on named_on ∙ ap (λ l. pass_by on l) c.in_ok-repeated.ensures.geometry in
     subst (λ l. LieNear (reach_of_snap given) (pairs given) (pairs l)) (sym is) (lies_near given (segments_ordered c.args.list.now.items) on cuts.decided (cuts_of joined marks cuts))
@@ -175,9 +175,9 @@ pub returns-clause-given_near : goal.returns-clause-given_near
 returns-clause-given_near g c =
     let given = segments_of c.args.list.now.items in
     let joined = join given in
-    let marks = marks_of g.I.OverlayInt.whole c.as_slice.result.now in
+    let marks = marks_of g.I.OverlayInt.whole c.replace-cuts.result.items in
     let on = on_of joined marks in
-    let cuts : AreCuts joined marks = found joined _ _ _ _ c.deref.ensures.value c.in_ok-repeated.ensures.geometry c.as_slice.ensures.value c.in-Ok.ensures.cuts in
+    let cuts : AreCuts joined marks = found joined _ _ _ _ c.deref.ensures.value c.in_ok-repeated.ensures.geometry (ap (λ v. v.items) c.replace-cuts.ensures.value) c.in-Ok.ensures.cuts in
     let named_on = named joined _ marks c.in_ok-repeated.ensures.geometry cuts on (cuts_of joined marks cuts) in
     let is : segments_of c.pass_at.new.list.items ≡ pass_by on joined = c.in_ok-pass_at.ensures.geometry on named_on ∙ ap (λ l. pass_by on l) c.in_ok-repeated.ensures.geometry in
     λ s i f. subst (λ l. IsNearSome (reach_of_snap given) (point_along s f) (pairs l) ⊎ IsNearCancelledInSnap given (point_along s f)) (sym is)
@@ -187,9 +187,9 @@ pub returns-clause-winding : goal.returns-clause-winding
 returns-clause-winding g c =
     let given = segments_of c.args.list.now.items in
     let joined = join given in
-    let marks = marks_of g.I.OverlayInt.whole c.as_slice.result.now in
+    let marks = marks_of g.I.OverlayInt.whole c.replace-cuts.result.items in
     let on = on_of joined marks in
-    let cuts : AreCuts joined marks = found joined _ _ _ _ c.deref.ensures.value c.in_ok-repeated.ensures.geometry c.as_slice.ensures.value c.in-Ok.ensures.cuts in
+    let cuts : AreCuts joined marks = found joined _ _ _ _ c.deref.ensures.value c.in_ok-repeated.ensures.geometry (ap (λ v. v.items) c.replace-cuts.ensures.value) c.in-Ok.ensures.cuts in
     let named_on = named joined _ marks c.in_ok-repeated.ensures.geometry cuts on (cuts_of joined marks cuts) in
     let is : segments_of c.pass_at.new.list.items ≡ pass_by on joined = c.in_ok-pass_at.ensures.geometry on named_on ∙ ap (λ l. pass_by on l) c.in_ok-repeated.ensures.geometry in
     λ p far. ap (λ l. winding_below l p) is ∙ keeps_winding given (segments_ordered c.args.list.now.items) on cuts.decided (cuts_of joined marks cuts) p far
@@ -204,9 +204,9 @@ pub returns-clause-arranged : goal.returns-clause-arranged
 returns-clause-arranged g c =
     let given = segments_of c.args.list.now.items in
     let joined = join given in
-    let marks = marks_of g.I.OverlayInt.whole c.as_slice.result.now in
+    let marks = marks_of g.I.OverlayInt.whole c.replace-cuts.result.items in
     let on = on_of joined marks in
-    let cuts : AreCuts joined marks = found joined _ _ _ _ c.deref.ensures.value c.in_ok-repeated.ensures.geometry c.as_slice.ensures.value c.in-Ok.ensures.cuts in
+    let cuts : AreCuts joined marks = found joined _ _ _ _ c.deref.ensures.value c.in_ok-repeated.ensures.geometry (ap (λ v. v.items) c.replace-cuts.ensures.value) c.in-Ok.ensures.cuts in
     let named_on = named joined _ marks c.in_ok-repeated.ensures.geometry cuts on (cuts_of joined marks cuts) in
     let is : segments_of c.pass_at.new.list.items ≡ pass_by on joined = c.in_ok-pass_at.ensures.geometry on named_on ∙ ap (λ l. pass_by on l) c.in_ok-repeated.ensures.geometry in
     let least = g.I.OverlayInt.whole g.I.OverlayInt.MIN_COORD in
@@ -223,8 +223,8 @@ pub returns-clause-fits : goal.returns-clause-fits
 returns-clause-fits g c =
     let given = segments_of c.args.list.now.items in
     let joined = join given in
-    let marks = marks_of g.I.OverlayInt.whole c.as_slice.result.now in
-    let cuts : AreCuts joined marks = found joined _ _ _ _ c.deref.ensures.value c.in_ok-repeated.ensures.geometry c.as_slice.ensures.value c.in-Ok.ensures.cuts in
+    let marks = marks_of g.I.OverlayInt.whole c.replace-cuts.result.items in
+    let cuts : AreCuts joined marks = found joined _ _ _ _ c.deref.ensures.value c.in_ok-repeated.ensures.geometry (ap (λ v. v.items) c.replace-cuts.ensures.value) c.in-Ok.ensures.cuts in
     leaves_not given c.in_ok-repeated.ensures.fits (λ on h.
     subst (λ l. IsFalse (join_leaves_range (cut_by on l))) c.in_ok-repeated.ensures.geometry (c.in_ok-pass_at.ensures.fits on (named joined _ marks c.in_ok-repeated.ensures.geometry cuts on h)))
 
@@ -239,9 +239,9 @@ pub returns-clause-in_box : goal.returns-clause-in_box
 returns-clause-in_box g c =
     let given = segments_of c.args.list.now.items in
     let joined = join given in
-    let marks = marks_of g.I.OverlayInt.whole c.as_slice.result.now in
+    let marks = marks_of g.I.OverlayInt.whole c.replace-cuts.result.items in
     let on = on_of joined marks in
-    let cuts : AreCuts joined marks = found joined _ _ _ _ c.deref.ensures.value c.in_ok-repeated.ensures.geometry c.as_slice.ensures.value c.in-Ok.ensures.cuts in
+    let cuts : AreCuts joined marks = found joined _ _ _ _ c.deref.ensures.value c.in_ok-repeated.ensures.geometry (ap (λ v. v.items) c.replace-cuts.ensures.value) c.in-Ok.ensures.cuts in
     let named_on = named joined _ marks c.in_ok-repeated.ensures.geometry cuts on (cuts_of joined marks cuts) in
     let is : segments_of c.pass_at.new.list.items ≡ pass_by on joined = c.in_ok-pass_at.ensures.geometry on named_on ∙ ap (λ l. pass_by on l) c.in_ok-repeated.ensures.geometry in
     subst (λ l. LieInGivenBox given l) (sym is) (in_given_box given (segments_ordered c.args.list.now.items) on cuts.decided (cuts_of joined marks cuts))
@@ -258,9 +258,9 @@ pub returns-clause-edge_data : goal.returns-clause-edge_data
 returns-clause-edge_data g c =
     let given = segments_of c.args.list.now.items in
     let joined = join given in
-    let marks = marks_of g.I.OverlayInt.whole c.as_slice.result.now in
+    let marks = marks_of g.I.OverlayInt.whole c.replace-cuts.result.items in
     let hooks = hooks_of g.C.WindingCount.counted g.D.OverlayEdgeData in
-    let cuts : AreCuts joined marks = found joined _ _ _ _ c.deref.ensures.value c.in_ok-repeated.ensures.geometry c.as_slice.ensures.value c.in-Ok.ensures.cuts in
+    let cuts : AreCuts joined marks = found joined _ _ _ _ c.deref.ensures.value c.in_ok-repeated.ensures.geometry (ap (λ v. v.items) c.replace-cuts.ensures.value) c.in-Ok.ensures.cuts in
     λ on h. c.in_ok-pass_at.ensures.edge_data on (named joined _ marks c.in_ok-repeated.ensures.geometry cuts on h)
     ∙ ap₂ (λ l s. (data_pass_by hooks on l s).0) c.in_ok-repeated.ensures.edge_data c.in_ok-repeated.ensures.store
 
@@ -268,9 +268,9 @@ pub returns-clause-store : goal.returns-clause-store
 returns-clause-store g c =
     let given = segments_of c.args.list.now.items in
     let joined = join given in
-    let marks = marks_of g.I.OverlayInt.whole c.as_slice.result.now in
+    let marks = marks_of g.I.OverlayInt.whole c.replace-cuts.result.items in
     let hooks = hooks_of g.C.WindingCount.counted g.D.OverlayEdgeData in
-    let cuts : AreCuts joined marks = found joined _ _ _ _ c.deref.ensures.value c.in_ok-repeated.ensures.geometry c.as_slice.ensures.value c.in-Ok.ensures.cuts in
+    let cuts : AreCuts joined marks = found joined _ _ _ _ c.deref.ensures.value c.in_ok-repeated.ensures.geometry (ap (λ v. v.items) c.replace-cuts.ensures.value) c.in-Ok.ensures.cuts in
     λ on h. c.in_ok-pass_at.ensures.store on (named joined _ marks c.in_ok-repeated.ensures.geometry cuts on h)
     ∙ ap₂ (λ l s. (data_pass_by hooks on l s).1) c.in_ok-repeated.ensures.edge_data c.in_ok-repeated.ensures.store
 
@@ -278,9 +278,9 @@ pub returns-clause-kept_data : goal.returns-clause-kept_data
 returns-clause-kept_data g c = λ has keeps given_has.
     let given = segments_of c.args.list.now.items in
     let joined = join given in
-    let marks = marks_of g.I.OverlayInt.whole c.as_slice.result.now in
+    let marks = marks_of g.I.OverlayInt.whole c.replace-cuts.result.items in
     let hooks = hooks_of g.C.WindingCount.counted g.D.OverlayEdgeData in
-    let cuts : AreCuts joined marks = found joined _ _ _ _ c.deref.ensures.value c.in_ok-repeated.ensures.geometry c.as_slice.ensures.value c.in-Ok.ensures.cuts in
+    let cuts : AreCuts joined marks = found joined _ _ _ _ c.deref.ensures.value c.in_ok-repeated.ensures.geometry (ap (λ v. v.items) c.replace-cuts.ensures.value) c.in-Ok.ensures.cuts in
     let on = on_of joined marks in
     let items = data_segments_of c.args.list.now.items in
     let store = c.args.store.now in
@@ -294,9 +294,9 @@ pub returns-clause-named_data : goal.returns-clause-named_data
 returns-clause-named_data g c = λ names keeps near.
     let given = segments_of c.args.list.now.items in
     let joined = join given in
-    let marks = marks_of g.I.OverlayInt.whole c.as_slice.result.now in
+    let marks = marks_of g.I.OverlayInt.whole c.replace-cuts.result.items in
     let hooks = hooks_of g.C.WindingCount.counted g.D.OverlayEdgeData in
-    let cuts : AreCuts joined marks = found joined _ _ _ _ c.deref.ensures.value c.in_ok-repeated.ensures.geometry c.as_slice.ensures.value c.in-Ok.ensures.cuts in
+    let cuts : AreCuts joined marks = found joined _ _ _ _ c.deref.ensures.value c.in_ok-repeated.ensures.geometry (ap (λ v. v.items) c.replace-cuts.ensures.value) c.in-Ok.ensures.cuts in
     let on = on_of joined marks in
     let items = data_segments_of c.args.list.now.items in
     let store = c.args.store.now in
@@ -322,10 +322,10 @@ unfolding is_arranged
 returns-clause-unchanged g c = λ arranged.
     let given = segments_of c.args.list.now.items in
     let joined = join given in
-    let slice = c.as_slice.result.now in
+    let slice = c.replace-cuts.result.items in
     let marks = marks_of g.I.OverlayInt.whole slice in
     let hooks = hooks_of g.C.WindingCount.counted g.D.OverlayEdgeData in
-    let cuts : AreCuts joined marks = found joined _ _ _ _ c.deref.ensures.value c.in_ok-repeated.ensures.geometry c.as_slice.ensures.value c.in-Ok.ensures.cuts in
+    let cuts : AreCuts joined marks = found joined _ _ _ _ c.deref.ensures.value c.in_ok-repeated.ensures.geometry (ap (λ v. v.items) c.replace-cuts.ensures.value) c.in-Ok.ensures.cuts in
     let on = on_of joined marks in
     let items = data_segments_of c.args.list.now.items in
     let store = c.args.store.now in
@@ -341,7 +341,7 @@ returns-clause-unchanged g c = λ arranged.
     let unmarked = unmarked_data_cut_is_unchanged hooks on items store (subst (λ l. IsTrue (is_map l)) bare map) (subst (λ l. All (λ s. on s ≡ []) (pairs l)) (same ∙ bare) none) in
     let first = c.in_ok-pass_at.ensures.edge_data on named_on ∙ ap₂ (λ l s. (data_pass_by hooks on l s).0) c.in_ok-repeated.ensures.edge_data c.in_ok-repeated.ensures.store in
     let second = c.in_ok-pass_at.ensures.store on named_on ∙ ap₂ (λ l s. (data_pass_by hooks on l s).1) c.in_ok-repeated.ensures.edge_data c.in_ok-repeated.ensures.store in (
-      unchanged_flag c.in_ok-repeated.repeated c.is_empty-is_cut.result _ (c.in_ok-repeated.ensures.repeated ∙ has_equal_pairs-map given map) c.is_empty-is_cut.ensures (is_nothing marks (length slice) _ no_mark (length-map slice (mark_of g.I.OverlayInt.whole)) c.as_slice.ensures.len),
+      unchanged_flag c.in_ok-repeated.repeated c.is_empty-is_cut.result _ (c.in_ok-repeated.ensures.repeated ∙ has_equal_pairs-map given map) c.is_empty-is_cut.ensures (is_nothing marks (length slice) _ no_mark (length-map slice (mark_of g.I.OverlayInt.whole)) (sym c.replace-cuts.result.ok.0)),
       first ∙ ap (λ r. (data_pass_by hooks on r.0 r.1).0) arranged_data ∙ ap (λ r. r.0) unmarked,
       second ∙ ap (λ r. (data_pass_by hooks on r.0 r.1).1) arranged_data ∙ ap (λ r. r.1) unmarked,
     )
@@ -367,7 +367,7 @@ pub returns-clause-changed : goal.returns-clause-changed
 returns-clause-changed g c =
     let given = segments_of c.args.list.now.items in
     let joined = join given in
-    let slice = c.as_slice.result.now in
+    let slice = c.replace-cuts.result.items in
     let marks = marks_of g.I.OverlayInt.whole slice in
-    let cuts : AreCuts joined marks = found joined _ _ _ _ c.deref.ensures.value c.in_ok-repeated.ensures.geometry c.as_slice.ensures.value c.in-Ok.ensures.cuts in
-    told_change given marks c.in_ok-repeated.repeated c.is_empty-is_cut.result _ cuts (length-map slice (mark_of g.I.OverlayInt.whole) ∙ c.as_slice.ensures.len) c.in_ok-repeated.ensures.repeated c.is_empty-is_cut.ensures
+    let cuts : AreCuts joined marks = found joined _ _ _ _ c.deref.ensures.value c.in_ok-repeated.ensures.geometry (ap (λ v. v.items) c.replace-cuts.ensures.value) c.in-Ok.ensures.cuts in
+    told_change given marks c.in_ok-repeated.repeated c.is_empty-is_cut.result _ cuts (length-map slice (mark_of g.I.OverlayInt.whole) ∙ (sym c.replace-cuts.result.ok.0)) c.in_ok-repeated.ensures.repeated c.is_empty-is_cut.ensures
