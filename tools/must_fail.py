@@ -277,7 +277,9 @@ class Trial:
     def put_holes(self, changed, room):
         """Puts a hole in place of each proof of functions that no edit changes, and no body in place of theirs."""
         kept = [it for it, functions in self.others.items() if not functions & changed]
-        self.drop_bodies({path for proof in kept for path in self.others[proof]}, room)
+        # functions that call one another have one proof, since they do
+        apart = [proof for proof in kept if not proof.split("::")[-1].startswith("+")]
+        self.drop_bodies({path for proof in apart for path in self.others[proof]}, room)
         for proof in kept:
             folder = pathlib.Path(room, "proofs", *proof.split("::"))
             folder.mkdir(parents=True, exist_ok=True)
