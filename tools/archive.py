@@ -5,15 +5,16 @@
 
 It holds the proved library `overlay_c`, and the part of the toolchain in C that this calls. The libraries below `overlay_c` are
 proved side by side, as `tools/run.py` does it, and `rt lib` makes `liboverlay_c.a` over them. With `--beside-ci` it is made over
-the libraries that `rt ci` has proved and left in `out/`, while that proves what lies above them. Either way the toolchain proves the
-crate before it compiles it.
+the libraries that `rt ci` has proved and left in `out/`, while that goes on, and by the proof of `overlay_c` that `tools/ci.py` had it
+record; without such a record the toolchain proves the crate again. It compiles no crate that is not proved.
 """
 import os
 import subprocess
 import sys
 
 sys.dont_write_bytecode = True
-import run  # noqa: E402  (beside this file)
+import ci  # noqa: E402  (beside this file)
+import run  # noqa: E402
 
 NAME = "overlay_c"
 
@@ -24,12 +25,25 @@ def are_left_by_ci(libraries):
 
 
 def build_over_left(rtlib, crate, archive):
-    """Proves the crate over the libraries that `rt ci` left below it, compiles it, and returns the status. `rt ci` has the locks."""
+    """Compiles the crate over the libraries that `rt ci` left below it, and returns the status. `rt ci` has the locks.
+
+    By the recorded proof, where there is one that fits all files and the code, or else once it is proved again.
+    """
     rtlib.guarded()
     os.makedirs(f"{crate.folder}/out", exist_ok=True)
     words = crate.words(["--jobs", "1"], keeps=False)
     by = ["--toolchain", f"{rtlib.KIT}/toolchain", "--backend", "llvm", "-o", archive]
+    if os.path.isdir(f"{crate.folder}/{ci.RECORD}") and not crate.call(rtlib.RATTLE, "build", *without_check(words), *by):
+        return 0
     return crate.call(rtlib.RATTLE, "build", *words, *by)
+
+
+def without_check(words):
+    """Returns the words of a build that takes the recorded proof, and so no flags of a check."""
+    for flag in ("--logic-built", "--jobs"):
+        at = words.index(flag)
+        words = [*words[:at], *words[at + 2 :]]
+    return [*words, "--crate-checked", ci.RECORD]
 
 
 def build(rtlib, crate, flags):

@@ -42,9 +42,9 @@ prove_lowest() {
     fi
 }
 
-# Makes the archive that `rust/`, `c/` and `python/` link, as soon as the libraries below it are proved.
+# Makes the archive that `rust/`, `c/` and `python/` link, as soon as its crate is proved.
 make_archive() {
-    until [[ -f $room/proved/i_overlay ]]; do sleep 2; done
+    until [[ -f $room/proved/overlay_c ]]; do sleep 2; done
     python3 tools/archive.py --beside-ci
 }
 
@@ -102,7 +102,7 @@ make_archive >"$room/archive" 2>&1 &
 archiving=$!
 trap 'kill "$trying" "$archiving" 2>/dev/null || true; rm -rf "$room"' EXIT
 prove_lowest
-rt ci | while IFS= read -r line; do
+python3 tools/ci.py | while IFS= read -r line; do
     printf '%s\n' "$line" >>"$lines"
     [[ $line =~ ^rt:\ ([a-z_0-9]+)\ (proved$|is\ kept:) ]] && touch "$room/proved/${BASH_REMATCH[1]}"
     case $line in

@@ -6,8 +6,8 @@
 `rt ci` and `rt must-fail` check a crate once for each edit. The prover reports the open goals of every function, so here the edits
 of a crate are tried together, no two of one function in a round. An edit whose goal is not seen there is tried again by itself, and
 so is an edit of a constant. The other functions of the crate are taken by their contracts: each has a hole in place of its proof,
-which `rt ci` checks, but not where an edit is tried over all proofs. The libraries below a crate are those that `rt ci` or
-`rt check` left. With `--edits` the edits are FOLDER/CRATE/*.edit. With `--proved` the edits of a crate wait until the folder
+which `rt ci` checks, and none of its body, but not where an edit is tried over all proofs. The libraries below a crate are those
+that `rt ci` or `rt check` left. With `--edits` the edits are FOLDER/CRATE/*.edit. With `--proved` the edits of a crate wait until the folder
 has a file of the name of each library below it: so the gate tries edits while it proves.
 
 Prints the first open goal for each edit, and last `N of M edits refused`. An edit is refused by a goal of a function that it changes
@@ -101,14 +101,14 @@ def has_body(lines):
 
 
 def functions_of(crate):
-    """Returns the functions of a crate that have a body, each by its path below the crate and by that of its proof."""
+    """Returns the functions of a crate that have a body: the path of each below the crate, that of its proof, and where it begins."""
     for path in sorted(pathlib.Path(crate.folder, "src").rglob("*.rt")):
         file, text = os.path.relpath(path, crate.folder), path.read_text(encoding="utf-8")
         lines = text.split("\n")
         for at, line in enumerate(lines):
             if FUNCTION.match(line) and has_body(lines[at:]):
                 found = path_of(crate.name, module_of(file), function_at(text, at + 1))
-                yield found, proof_of(crate, found, lines[:at])
+                yield found, proof_of(crate, found, lines[:at]), (file, at)
 
 
 def proof_of(crate, path, lines):
@@ -118,6 +118,17 @@ def proof_of(crate, path, lines):
     cycle = next((it[1] for line in attributes if (it := CYCLE.match(line))), name)
     is_cycle = pathlib.Path(crate.folder, "proofs", *above, f"+{cycle}").is_dir()
     return "::".join([*above, f"+{cycle}"]) if is_cycle else path
+
+
+def without_body(lines, at):
+    """Returns the lines of a file with another body for the function that begins at a line: it has as many lines, and does nothing."""
+    indent = re.match(" *", lines[at])[0]
+    ends = [number for number in range(at, len(lines)) if lines[number].startswith(indent) and lines[number][len(indent) : len(indent) + 1].strip()]
+    first = next(number for number in ends if lines[number].endswith(("{", "}", ";")))
+    last = next((number for number in ends if number > first), first)
+    if "const fn" in lines[at] or not lines[first].endswith("{") or lines[last] != f"{indent}}}" or last - first < 2:
+        return lines
+    return [*lines[: first + 1], f"{indent}    unreachable!()", *[""] * (last - first - 2), *lines[last:]]
 
 
 class Edit:
@@ -210,10 +221,11 @@ class Trial:
         self.rounds = rounds_of(edits)
         # the folder of what the first round proved
         self.kept, self.is_begun = None, False
-        # the proofs that can have a hole, each with its functions
-        self.others = {}
-        for path, proof in functions_of(crate):
+        # the proofs that can have a hole, each with its functions, and where these begin
+        self.others, self.places = {}, {}
+        for path, proof, place in functions_of(crate):
             self.others.setdefault(proof, set()).add(path)
+            self.places.setdefault(path, []).append(place)
 
     def may_begin(self):
         """Returns whether a round can begin: the first, or any other once that has ended."""
@@ -263,8 +275,12 @@ class Trial:
         return texts, said
 
     def put_holes(self, changed, room):
-        """Puts a hole in place of each proof of functions that no edit changes."""
-        for proof in [it for it, functions in self.others.items() if not functions & changed]:
+        """Puts a hole in place of each proof of functions that no edit changes, and no body in place of theirs."""
+        kept = [it for it, functions in self.others.items() if not functions & changed]
+        # functions that call one another have one proof, since they do
+        apart = [proof for proof in kept if not proof.split("::")[-1].startswith("+")]
+        self.drop_bodies({path for proof in apart for path in self.others[proof]}, room)
+        for proof in kept:
             folder = pathlib.Path(room, "proofs", *proof.split("::"))
             folder.mkdir(parents=True, exist_ok=True)
             for name in ("Answers.antt", "Invariants.antt"):
@@ -273,6 +289,17 @@ class Trial:
             statement = proof.replace("::", ".") + ("" if folder.name.startswith("+") else ".Statement")
             words = {"crate": self.crate.name, "statement": statement, "name": folder.name}
             (folder / "Proof.antt").write_text(HOLE.format(**words), encoding="utf-8")
+
+    def drop_bodies(self, paths, room):
+        """Drops the bodies of functions, since their contracts are taken without a proof."""
+        by_file = {}
+        for file, at in {place for path in paths for place in self.places[path]}:
+            by_file.setdefault(file, []).append(at)
+        for file, begins in by_file.items():
+            lines = pathlib.Path(room, file).read_text(encoding="utf-8").split("\n")
+            for at in begins:
+                lines = without_body(lines, at)
+            pathlib.Path(room, file).write_text("\n".join(lines), encoding="utf-8")
 
     def copy_with(self, edits, room):
         """Copies the crate with edits, and returns the texts that they change."""

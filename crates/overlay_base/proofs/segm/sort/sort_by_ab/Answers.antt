@@ -17,3 +17,6 @@ returns-in-Ok-clause-sorted g c =
     sorted_by_key-is ends_of pair_cmp pair_cmp_total _ _
     (simp g.met.I.OverlayInt.ordered at (c.in-Ok.ensures.sorted (λ s. s.x_segment) (answers_always _ _ _ (λ f a r f' h. search rules))))
     (simp g.met.I.OverlayInt.ordered at (c.in-Ok.ensures.stable (λ s. s.x_segment) (answers_always _ _ _ (λ f a r f' h. search rules))))
+
+pub returns-in-Ok-clause-permutation : goal.returns-in-Ok-clause-permutation
+returns-in-Ok-clause-permutation g c = c.in-Ok.ensures.permutation

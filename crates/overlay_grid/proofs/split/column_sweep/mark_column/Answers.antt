@@ -1,11 +1,12 @@
 use Rattle.std.proofs.Common.{◌≡◌, ◌+◌, ◌++◌, ◌∙◌, arith, sym, ap, ap₂, subst, map, length, List, Vec, Global}
-use Rattle.std.specs.Prelude.{ℤ, IsPermutation, IsSorted}
+use Rattle.std.specs.Prelude.{ℤ, IsPermutation, IsSorted, IsTrue}
+use Rattle.std.specs.List.{AllByRecursion}
 use Rattle.overlay_intersections.specs.MarkOf.{Mark, marks_of}
 use Rattle.overlay_intersections.specs.PlacingOf.{placing_of}
 use Rattle.overlay_grid.specs.ColumnLooks.{twos_in_height}
 use Rattle.overlay_grid.specs.FragmentOf.{fragments_of, layout_of}
 use Rattle.overlay_grid.specs.Grid.{pos_of}
-use Rattle.overlay_grid.specs.steps.FragmentFinder.{HoldSame, heights_at, is_group_rounded, marks_of_group, marks_of_heights}
+use Rattle.overlay_grid.specs.steps.FragmentFinder.{HoldSame, heights_at, is_group_rounded, is_ready, marks_of_group, marks_of_heights}
 use Rattle.overlay_grid.proofs.laws.grid.GridAdding.{if_ok, on_ok}
 use Rattle.overlay_grid.proofs.laws.grid.SweptColumns.{appended}
 use Rattle.overlay_grid.proofs.split.column_sweep.mark_column.Goals as goal
@@ -80,3 +81,20 @@ returns-clause-sorted g c =
       | else-column-column_count w ↦ subst (λ (v : Vec _ Global). IsSorted g.I.Ord.cmp v.items) (sym (ap (λ (s : _). s.right_ends) w.sweep-is)) c.requires.sorted
     ] in
     on_ok c.mark_in_order.result _ _ (λ _. sorted) c.mark_in_order.ensures.looked
+
+pub returns-clause-rests : goal.returns-clause-rests
+returns-clause-rests g c =
+    elim c.if-column-column_count.branch [
+      | then-column-column_count+in_ok-list_ends_at w ↦ ap (λ (s : _). s.parts.rests) w.sweep-is
+      | else-column-column_count w ↦ ap (λ (s : _). s.parts.rests) w.sweep-is
+    ]
+
+pub mark_in_order-requires-clause-ready : goal.mark_in_order-requires-clause-ready
+mark_in_order-requires-clause-ready g c =
+    let whole = g.I.OverlayInt.whole in
+    let same : c.if-column-column_count.sweep.parts ≡ c.args.sweep.now.parts =
+    elim c.if-column-column_count.branch [
+      | then-column-column_count+in_ok-list_ends_at w ↦ ap (λ (s : _). s.parts) w.sweep-is
+      | else-column-column_count w ↦ ap (λ (s : _). s.parts) w.sweep-is
+    ] in
+    subst (λ (parts : _). AllByRecursion (λ f. IsTrue (is_ready (whole g.I.OverlayInt.MIN_COORD) (whole g.I.OverlayInt.MAX_COORD) f)) (fragments_of whole parts.group.items)) (sym same) c.requires.ready

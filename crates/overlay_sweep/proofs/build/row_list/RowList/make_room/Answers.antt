@@ -5,7 +5,7 @@ use Rattle.overlay_sweep.specs.EntryOf.{entry_of}
 use Rattle.overlay_sweep.specs.LiveOf.{row_sums, rows_in}
 use Rattle.overlay_sweep.specs.ScanTrees.{joined, row_at, index_in}
 use Rattle.overlay_sweep.specs.steps.Rows.{HaveSomeBut}
-use Rattle.overlay_sweep.proofs.laws.list.Rows.{row_read, rows_cut, index_inside, cut_at, cut_joined, cut_low, cut_high, cut_some, cut_index_low, cut_index_high}
+use Rattle.overlay_sweep.proofs.laws.list.Rows.{row_read, rows_cut, index_inside, cut_at, cut_joined, cut_low, cut_high, cut_some, cut_index_low, cut_index_high, cut_length}
 use Rattle.overlay_sweep.proofs.build.row_list.RowList.make_room.Goals as goal
 
 pub returns-then-at-half-clause-same : goal.returns-then-at-half-clause-same
@@ -151,3 +151,37 @@ pub insert-requires : goal.insert-requires
 insert-requires g c =
     let i = index_inside (rows_in c.args.self.now) c.args.spot.row c.args.spot.at c.requires.index (λ z. c.if-len-eq0.false (omega (arith, z, length-map c.args.self.now.rows.items (λ r. row_sums r), c.len.ensures))) in
     omega (arith, i.0, length-map c.args.self.now.rows.items (λ r. row_sums r))
+
+pub returns-then-many-lt-MOST_IN_ROW-clause-row : goal.returns-then-many-lt-MOST_IN_ROW-clause-row
+returns-then-many-lt-MOST_IN_ROW-clause-row g c =
+    let i = index_inside (rows_in c.args.self.now) c.args.spot.row c.args.spot.at c.requires.index (λ z. c.if-len-eq0.false (omega (arith, z, length-map c.args.self.now.rows.items (λ r. row_sums r), c.len.ensures))) in
+    i.0
+
+pub returns-then-many-lt-MOST_IN_ROW-clause-at : goal.returns-then-many-lt-MOST_IN_ROW-clause-at
+returns-then-many-lt-MOST_IN_ROW-clause-at g c =
+    let i = index_inside (rows_in c.args.self.now) c.args.spot.row c.args.spot.at c.requires.index (λ z. c.if-len-eq0.false (omega (arith, z, length-map c.args.self.now.rows.items (λ r. row_sums r), c.len.ensures))) in
+    i.1
+
+pub returns-then-at-half-clause-row : goal.returns-then-at-half-clause-row
+returns-then-at-half-clause-row g c =
+    let items = c.args.self.now.rows.items in
+    let old = rows_in c.args.self.now in
+    let row = c.args.spot.row in
+    let half = length c.entries-many.result.now / 2 in
+    let many = length-map items (λ r. row_sums r) in
+    let i = index_inside old row c.args.spot.at c.requires.index (λ z. c.if-len-eq0.false (omega (arith, z, many, c.len.ensures))) in
+    let cut = rows_cut (λ r. row_sums r) items c.insert.new.self.items row half c.index_mut.result.now c.split_off.new.self c.in_ok-upper.upper (omega (arith, i.0, many)) c.index_mut.ensures.value c.in_ok-upper.ensures.lower c.in_ok-upper.ensures.upper c.in_ok-insert.ensures.items in
+    let longer = ap (λ l. length l) cut ∙ cut_length old row _ _ i.0 in
+    omega (arith, longer, i.0)
+
+pub returns-else-at-half-clause-row : goal.returns-else-at-half-clause-row
+returns-else-at-half-clause-row g c =
+    let items = c.args.self.now.rows.items in
+    let old = rows_in c.args.self.now in
+    let row = c.args.spot.row in
+    let half = length c.entries-many.result.now / 2 in
+    let many = length-map items (λ r. row_sums r) in
+    let i = index_inside old row c.args.spot.at c.requires.index (λ z. c.if-len-eq0.false (omega (arith, z, many, c.len.ensures))) in
+    let cut = rows_cut (λ r. row_sums r) items c.insert.new.self.items row half c.index_mut.result.now c.split_off.new.self c.in_ok-upper.upper (omega (arith, i.0, many)) c.index_mut.ensures.value c.in_ok-upper.ensures.lower c.in_ok-upper.ensures.upper c.in_ok-insert.ensures.items in
+    let longer = ap (λ l. length l) cut ∙ cut_length old row _ _ i.0 in
+    omega (arith, longer, i.0)

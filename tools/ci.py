@@ -1,0 +1,46 @@
+#!/usr/bin/env python3
+"""Runs `rt ci`, which then also records its proof of `overlay_c`, so that the archive needs no second one.
+
+    python3 tools/ci.py
+
+The command is the toolchain's own, and proves and tests what it does without this file. Its check of a static library has one flag
+more, `-o out/checked`: the toolchain writes there what it proved, with sums of all files that it read and of the code.
+`tools/archive.py --beside-ci` has the crate compiled by that record, and the toolchain refuses it where anything differs.
+"""
+import importlib.machinery
+import importlib.util
+import os
+import shutil
+import sys
+
+RECORD = "out/checked"
+
+
+def command():
+    """The module of the command `rt`."""
+    path = os.path.realpath(shutil.which("rt"))
+    sys.dont_write_bytecode = True
+    loader = importlib.machinery.SourceFileLoader("rt", path)
+    module = importlib.util.module_from_spec(importlib.util.spec_from_loader("rt", loader))
+    sys.modules["rt"] = module
+    loader.exec_module(module)
+    return module
+
+
+def main():
+    rt = command()
+
+    class Crate(rt.Crate):
+        """A crate whose check, if it is a static library, is recorded."""
+
+        def prove(self, *commands):
+            if self.is_static:
+                commands = [[*words, "-o", RECORD] if words[0] == "check" and "--test" not in words else words for words in commands]
+            return super().prove(*commands)
+
+    rt.Crate = Crate
+    return rt.main(["ci"])
+
+
+if __name__ == "__main__":
+    sys.exit(main() if len(sys.argv) == 1 else __doc__)
