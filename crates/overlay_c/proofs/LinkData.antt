@@ -29,8 +29,8 @@ use Rattle.overlay_split.proofs.laws.passes.DataPasses.{data_is_beside}
 use Rattle.overlay_build.specs.Graph.{Graph, data_by}
 use Rattle.overlay_build.specs.GraphOf.{link_of}
 use Rattle.i_overlay.specs.Headline.{IsSplit, IsOverlay, IsRefused, LinksNameNear}
-use Rattle.overlay_c.specs.Kept.{given_by, are_usable, engine_settings, TaggedLink, KeepsData}
-use Rattle.overlay_c.specs.Records.{asks, asked_by, link_by, piece_of, fill_rule_of}
+use Rattle.overlay_c.specs.Kept.{given_by, are_usable, engine_settings, kept_links, TaggedLink, KeepsData}
+use Rattle.overlay_c.specs.Records.{asks, asked_by, piece_of, fill_rule_of}
 use Rattle.overlay_c.specs.Tags.{keeping, with_tag, untagged, tagged_by}
 use Rattle.overlay_c.specs.declared.cores.Core.{Core}
 use Rattle.overlay_c.specs.declared.records.SettingsRecord.{SettingsRecord}
@@ -111,7 +111,7 @@ tagged_link whole l = record { link = link_of whole l; tag = l.edge_data }
 
 -- what an engine keeps of data, from what the call below it returns
 pub keeps_data : {I : Type 0} {w : _} {o : _} {e : _} {p : _} (settings : SettingsRecord) (rule : OverlayRule) (given : List (DataSegment Tag)) (core : Core I w o e p) (whole : I → ℤ) (links : List (OverlayLink I Tag)) (s : Settings) (fill : FillRule) (loaded now : List (DataSegment Tag)) (xs : List WholeSegment)
-    → s ≡ engine_settings settings core → fill ≡ fill_rule_of settings.fill_rule → loaded ≡ given → xs ≡ without_data loaded → map link_by core.links.items ≡ map (link_of whole) links → core.link_data.items ≡ map (λ l. l.edge_data) links
+    → s ≡ engine_settings settings core → fill ≡ fill_rule_of settings.fill_rule → loaded ≡ given → xs ≡ without_data loaded → kept_links core ≡ map (link_of whole) links → core.link_data.items ≡ map (λ l. l.edge_data) links
     → map (λ l. l.edge_data) links ≡ data_by (keeps_fill (holds rule)) fill now → now ≡ (data_after_passes keeping s loaded (tt {0}) (passes_of core.splitter)).0
     → ((has : Tag → Bool) → IsTrue (list_all (λ s. has s.edge_data) loaded) → IsTrue (list_all (λ l. has l.edge_data) links))
     → ((names : Tag → Pair → Bool) → NameNear names 0 loaded → LinksNameNear whole names (reach_of_run s xs (passes_of core.splitter)) links)

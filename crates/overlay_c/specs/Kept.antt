@@ -18,11 +18,12 @@ use Rattle.overlay_split.specs.Run.{Settings, IsRun, LeavesRange}
 use Rattle.overlay_split.specs.SettingsOf.{passes_of, snap_limit_of}
 use Rattle.overlay_sweep.specs.ChainWindings.{tops_leave_range}
 use Rattle.overlay_build.specs.Graph.{Link, Graph, graph_by, data_by, has_even_nodes}
+use Rattle.overlay_build.specs.GraphOf.{link_of}
 use Rattle.overlay_build.specs.Laid.{AreLaid}
 use Rattle.overlay_build.specs.Walks.{AreClosedWalks}
 use Rattle.i_overlay.specs.FarRegions.{EnclosesOverlay}
 use Rattle.i_overlay.specs.Headline.{IsSplit, IsOverlay, IsClip, IsRefused}
-use Rattle.overlay_c.specs.Records.{asks, asked_by, line_asks, line_asked_by, link_by, settings_by, fill_rule_of}
+use Rattle.overlay_c.specs.Records.{asks, asked_by, line_asks, line_asked_by, settings_by, fill_rule_of}
 use Rattle.overlay_c.specs.Tags.{keeping}
 use Rattle.overlay_c.specs.declared.records.LineRecord.{LineRecord}
 use Rattle.overlay_c.specs.declared.records.SegmentRecord.{SegmentRecord}
@@ -41,9 +42,13 @@ are_usable least greatest records = list_all (asks least greatest) records && is
 abbrev pub are_lines_usable : ℤ → ℤ → List LineRecord → Bool
 are_lines_usable least greatest records = list_all (line_asks least greatest) records && is_splittable least greatest (map line_asked_by records)
 
--- its records are those of a graph
+-- its links in whole numbers
+abbrev pub kept_links : {I : Type 0} {w : _} {o : _} {e : _} {p : _} → Core I w o e p → List Link
+kept_links {w = w} core = map (link_of w.whole) core.links.items
+
+-- its links and lists are those of a graph
 pub record KeepsGraph {I : Type 0} {w : _} {o : _} {e : _} {p : _} (core : Core I w o e p) (graph : Graph) : Type 0 where
-  pub links : map link_by core.links.items ≡ graph.links
+  pub links : kept_links core ≡ graph.links
   pub nodes : AreLaid (map (λ n. n.links) graph.nodes) core.degrees.items core.indexes.items
 
 -- it has closed walks where they were wanted and an even number of links meets at each node
@@ -90,7 +95,7 @@ pub record TaggedLink : Type 0 where
 pub record KeepsData {I : Type 0} {w : _} {o : _} {e : _} {p : _} (settings : SettingsRecord) (rule : OverlayRule) (given : List (DataSegment Tag)) (core : Core I w o e p) : Type 0 where
   -- these are the links, each with its data
   pub links : List TaggedLink
-  pub same_links : map (λ l. l.link) links ≡ map link_by core.links.items
+  pub same_links : map (λ l. l.link) links ≡ kept_links core
   pub same_data : map (λ l. l.tag) links ≡ core.link_data.items
   -- it is what the passes make of the given data, of those segments that the rule keeps
   pub edge_data : core.link_data.items ≡ data_by (keeps_fill (holds rule)) (fill_rule_of settings.fill_rule) (data_after_passes keeping (engine_settings settings core) given (tt {0}) (passes_of core.splitter)).0

@@ -8,8 +8,8 @@ use Rattle.overlay_base.specs.declared.overlay_core.clip_rule.ClipRule.{ClipRule
 use Rattle.overlay_base.specs.declared.overlay_core.overlay_rule.OverlayRule.{OverlayRule}
 use Rattle.overlay_split.specs.Run.{LeavesRange}
 use Rattle.overlay_split.specs.SettingsOf.{snap_limit_of}
-use Rattle.overlay_c.specs.Kept.{engine_settings, TellsSizes, KeepsSplit, KeepsAll, KeepsOverlay, KeepsData, KeepsClip, StandsAfter, LinesStandAfter, IsCountRefused, IsCountOfAllRefused, IsCountOfLinesRefused}
-use Rattle.overlay_c.specs.declared.records.LinkRecord.{LinkRecord}
+use Rattle.overlay_build.specs.Graph.{Link}
+use Rattle.overlay_c.specs.Kept.{engine_settings, kept_links, TellsSizes, KeepsSplit, KeepsAll, KeepsOverlay, KeepsData, KeepsClip, StandsAfter, LinesStandAfter, IsCountRefused, IsCountOfAllRefused, IsCountOfLinesRefused}
 use Rattle.overlay_c.specs.declared.records.SettingsRecord.{SettingsRecord}
 use Rattle.overlay_c.specs.declared.records.SizesRecord.{SizesRecord}
 use Rattle.overlay_c.specs.declared.engine.Engine.{Engine}
@@ -80,6 +80,9 @@ segment_count engine = pick engine.is_narrow (length engine.narrow.segments.item
 abbrev pub line_count : Engine → ℕ
 line_count engine = pick engine.is_narrow (length engine.narrow.lines.items) (length engine.wide.lines.items)
 
+abbrev pub link_count : Engine → ℕ
+link_count engine = pick engine.is_narrow (length engine.narrow.links.items) (length engine.wide.links.items)
+
 -- what is copied out: that of the core of the last call
 abbrev pub segments_in : Engine → List WholeSegment
 segments_in engine = pick engine.is_narrow (segments_of engine.narrow.segments.items) (segments_of engine.wide.segments.items)
@@ -87,8 +90,8 @@ segments_in engine = pick engine.is_narrow (segments_of engine.narrow.segments.i
 abbrev pub lines_in : Engine → List WholeSegment
 lines_in engine = pick engine.is_narrow (segments_of engine.narrow.lines.items) (segments_of engine.wide.lines.items)
 
-abbrev pub links_in : Engine → List LinkRecord
-links_in engine = pick engine.is_narrow (engine.narrow.links.items) (engine.wide.links.items)
+abbrev pub links_in : Engine → List Link
+links_in engine = pick engine.is_narrow (kept_links engine.narrow) (kept_links engine.wide)
 
 abbrev pub link_data_in : Engine → List Tag
 link_data_in engine = pick engine.is_narrow (engine.narrow.link_data.items) (engine.wide.link_data.items)

@@ -8,14 +8,14 @@ ghost use Rattle.overlay_base.specs.declared.segm.fault.Fault.TheVariants.{Count
 ghost use Rattle.overlay_build.specs.GraphOf.{link_of};
 ghost use Rattle.overlay_build.specs.NodeIndexes.{indexes_of};
 ghost use Rattle.overlay_c.specs.Kept.{given_by, are_usable, are_lines_usable};
-ghost use Rattle.overlay_c.specs.Records.{asks, asked_by, line_asked_by, link_by};
+ghost use Rattle.overlay_c.specs.Records.{asks, asked_by, line_asked_by};
 ghost use Rattle.overlay_c.specs.Status.{OnUnusable, OnTooLarge};
 ghost use Rattle.overlay_c.specs.declared.refusal.Refusal.TheVariants.{Refused, NotSplittable};
 
 use crate::lines::{self, Line};
 use crate::records::{
-    BooleanSegment, LineRecord, LinkRecord, SegmentRecord, SettingsRecord, SizesRecord, asked,
-    fill_rule, link, solver,
+    BooleanSegment, LineRecord, SegmentRecord, SettingsRecord, SizesRecord, asked, fill_rule,
+    solver,
 };
 use crate::refusal::Refusal;
 use crate::tags::{self, Tag, TaggedRecord, TaggedSegment, keep_tags, keep_untagged};
@@ -51,7 +51,7 @@ pub struct Core<I: Width> {
     /// Whether the last split joined equal segments or split one, or the last join joined some.
     pub has_changed: bool,
     /// The links of the graph.
-    pub links: Vec<LinkRecord>,
+    pub links: Vec<OverlayLink<I, ()>>,
     /// The data of the links, where segments were given with data.
     pub link_data: Vec<Tag>,
     /// How many links meet at each node.
@@ -211,10 +211,10 @@ impl<I: Width> Core<I> {
         let solver = solver(settings);
         let fill_rule = fill_rule(settings.fill_rule);
         let segments = self.segments.as_slice();
+        let links = &mut self.links;
         let (degrees, indexes) = (&mut self.degrees, &mut self.indexes);
         let builder = &mut self.builder;
-        builder.build_boolean_lists(fill_rule, &solver, segments, degrees, indexes)?;
-        keep_links(builder.links(), &mut self.links)?;
+        builder.build_boolean_lists(fill_rule, &solver, segments, links, degrees, indexes)?;
         Ok(())
     }
 
@@ -376,19 +376,26 @@ pub fn load<I: Width>(
     Ok(true)
 }
 
-/// Keeps the records of links.
+/// Keeps links without their data.
 pub fn keep_links<I: Width, D: Copy>(
     links: &[OverlayLink<I, D>],
-    kept: &mut Vec<LinkRecord>,
+    kept: &mut Vec<OverlayLink<I, ()>>,
 ) -> Result<(), AllocError>
-    ensures { OnOk result (map link_by kept.new.items ≡ map (link_of I.whole) links.now) }
+    ensures { OnOk result (map (link_of I.whole) kept.new.items ≡ map (link_of I.whole) links.now) }
 {
     kept.clear();
     kept.reserve(links.len())?;
     for each in links {
-        kept.push(link(each))?;
+        kept.push(bare(each))?;
     }
     Ok(())
+}
+
+/// A link without its data.
+fn bare<I: Width, D: Copy>(link: &OverlayLink<I, D>) -> OverlayLink<I, ()>
+    ensures { link_of I.whole result ≡ link_of I.whole link.now }
+{
+    OverlayLink::new_with_data(link.a, link.b, link.fill, ())
 }
 
 /// Keeps the indexes of the links at each node, of a graph of so many links.

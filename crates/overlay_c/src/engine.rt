@@ -8,7 +8,7 @@ use crate::cores::Core;
 use crate::lines;
 use crate::records::{
     LineRecord, LinkRecord, ReportRecord, SegmentRecord, SettingsRecord, SizesRecord, fill_rule,
-    overlay_rules, rounding, solver, words, write_records,
+    overlay_rules, rounding, solver, words, write_links, write_records,
 };
 use crate::refusal::Refusal;
 use crate::tags::{Tag, TaggedRecord};
@@ -50,9 +50,9 @@ impl Engine {
     ghost use Rattle.overlay_split.specs.SettingsOf.{snap_limit_of};
     ghost use Rattle.overlay_base.specs.Join.{join, join_leaves_range, has_equal_pairs};
     ghost use Rattle.overlay_c.specs.Kept.{given_by, are_usable, are_lines_usable};
-    ghost use Rattle.overlay_c.specs.Records.{line_asked_by, told_by, line_told_by, names_narrow, number_by};
+    ghost use Rattle.overlay_c.specs.Records.{line_asked_by, told_by, line_told_by, link_by, names_narrow, number_by};
     ghost use Rattle.overlay_c.specs.Tags.{untagged, tagged_by};
-    ghost use Rattle.overlay_c.specs.Widths.{least_of, greatest_of, LastKeepsSplit, LastKeepsAll, LastKeepsOverlay, LastKeepsData, LastKeepsClip, LastStandsAfter, LastLinesStandAfter, LastIsCountRefused, LastIsCountOfAllRefused, LastIsCountOfLinesRefused, LastLeavesRange, SameLimits, LastTellsSizes, segment_count, line_count, segments_in, lines_in, has_changed_in, links_in, link_data_in, degrees_in, indexes_in, walk_lengths_in, walk_links_in};
+    ghost use Rattle.overlay_c.specs.Widths.{least_of, greatest_of, LastKeepsSplit, LastKeepsAll, LastKeepsOverlay, LastKeepsData, LastKeepsClip, LastStandsAfter, LastLinesStandAfter, LastIsCountRefused, LastIsCountOfAllRefused, LastIsCountOfLinesRefused, LastLeavesRange, SameLimits, LastTellsSizes, segment_count, line_count, link_count, segments_in, lines_in, has_changed_in, links_in, link_data_in, degrees_in, indexes_in, walk_lengths_in, walk_links_in};
     ghost use Rattle.overlay_base.specs.declared.segm.shape_type.ShapeType.TheVariants.{Subject, Clip};
     ghost use Rattle.overlay_contours.specs.Kept.{passes_of, reach_of};
     ghost use Rattle.overlay_contours.specs.Refusals.{other_shape};
@@ -251,18 +251,7 @@ impl Engine {
         }
     }
 
-    /// The links that the core of the last call keeps.
-    pub fn links(&self) -> &[LinkRecord]
-        ensures { result.now ≡ links_in self.now }
-    {
-        if self.is_narrow {
-            &self.narrow.links
-        } else {
-            &self.wide.links
-        }
-    }
-
-    /// The data of its links.
+    /// The data of the links that the core of the last call keeps.
     pub fn link_data(&self) -> &[Tag]
         ensures { result.now ≡ link_data_in self.now }
     {
@@ -326,6 +315,18 @@ impl Engine {
             write_records(&self.narrow.segments, out);
         } else {
             write_records(&self.wide.segments, out);
+        }
+    }
+
+    /// Writes the records of its links.
+    pub fn write_links(&self, out: &mut [LinkRecord])
+        requires { length out.old ≡ link_count self.now }
+        ensures { map link_by out.new ≡ links_in self.now }
+    {
+        if self.is_narrow {
+            write_links(&self.narrow.links, out);
+        } else {
+            write_links(&self.wide.links, out);
         }
     }
 

@@ -4,7 +4,7 @@
 ghost use Rattle.std.specs.Prelude.{◌≡◌, ◌≢◌, ◌≤ℤ◌, pos, unsigned_abs, ◌↔◌, ◌<◌, ◌^◌, [], ◌∷◌, ◌++◌, false, None, IsSome, IsTrue, IsFalse, IfSome, length, map};
 ghost use Rattle.overlay_base.specs.Join.{join, join_leaves_range, has_equal_pairs};
 ghost use Rattle.overlay_split.specs.SettingsOf.{snap_limit_of};
-ghost use Rattle.overlay_c.specs.Records.{start_of, end_of, line_asked_by, told_by, line_told_by, shape_of, fill_rule_of, number_by};
+ghost use Rattle.overlay_c.specs.Records.{start_of, end_of, line_asked_by, told_by, line_told_by, link_by, shape_of, fill_rule_of, number_by};
 ghost use Rattle.overlay_c.specs.Calls.{Turns, Leaves, Chooses, MaySplit, MayNotSplit, MaySplitLines, MayNotSplitLines, KeepsOverlayBy, KeepsDataBy, KeepsClipBy, SameContours, SameShape, AddsContour, KeepsPolygonsBy, KeepsShapesBy, KeepsRulesBy, KeepsArrangedContoursBy, KeepsArrangedShapesBy, HasNoArrangement, PolygonCountsLeaveRange};
 ghost use Rattle.overlay_c.specs.Arranged.{KeepsArrangement, SameArrangement};
 ghost use Rattle.overlay_c.specs.Crosses.{pair_by, cross_by, mask_by};
@@ -12,7 +12,7 @@ ghost use Rattle.overlay_geometry.specs.Coordinates.{least_coordinate, greatest_
 ghost use Rattle.overlay_intersections.specs.CrossAnswer.{cross_answer};
 ghost use Rattle.overlay_intersections.specs.Marks.{snapping};
 ghost use Rattle.overlay_c.specs.Kept.{given_by};
-ghost use Rattle.overlay_c.specs.Widths.{LastKeepsSplit, LastKeepsAll, LastStandsAfter, LastLinesStandAfter, LastIsCountRefused, LastIsCountOfAllRefused, LastIsCountOfLinesRefused, LastLeavesRange, LastTellsSizes, SameLimits, segment_count, line_count, segments_in, lines_in, has_changed_in, links_in, link_data_in, degrees_in, indexes_in, walk_lengths_in, walk_links_in};
+ghost use Rattle.overlay_c.specs.Widths.{LastKeepsSplit, LastKeepsAll, LastStandsAfter, LastLinesStandAfter, LastIsCountRefused, LastIsCountOfAllRefused, LastIsCountOfLinesRefused, LastLeavesRange, LastTellsSizes, SameLimits, segment_count, line_count, link_count, segments_in, lines_in, has_changed_in, links_in, link_data_in, degrees_in, indexes_in, walk_lengths_in, walk_links_in};
 ghost use Rattle.overlay_c.specs.Tags.{untagged, tagged_by};
 ghost use Rattle.overlay_base.specs.declared.segm.shape_type.ShapeType.TheVariants.{Subject, Clip};
 ghost use Rattle.overlay_contours.specs.Kept.{passes_of, reach_of};
@@ -538,12 +538,12 @@ pub extern "C" fn overlay_c_lines(alloc: Global, handle: &mut Handle, out: &mut 
 #[unsafe(no_mangle)]
 pub extern "C" fn overlay_c_links(alloc: Global, handle: &mut Handle, out: &mut [LinkRecord])
     requires engine { IsSome handle.old.engine }
-    requires length { IfSome handle.old.engine (λ engine. length out.old ≡ length (links_in engine)) }
+    requires length { IfSome handle.old.engine (λ engine. length out.old ≡ link_count engine) }
     ensures same { handle.new.engine ≡ handle.old.engine }
-    ensures copied { IfSome handle.old.engine (λ engine. out.new ≡ links_in engine) }
+    ensures copied { IfSome handle.old.engine (λ engine. map link_by out.new ≡ links_in engine) }
 {
     let engine = take(alloc, handle);
-    out.copy_from_slice(engine.links());
+    engine.write_links(out);
     put(handle, engine);
 }
 

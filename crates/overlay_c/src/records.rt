@@ -198,6 +198,16 @@ pub fn link<I: Width, D: Copy>(link: &OverlayLink<I, D>) -> LinkRecord
     }
 }
 
+/// Writes the records of links.
+pub fn write_links<I: Width>(links: &[OverlayLink<I, ()>], out: &mut [LinkRecord])
+    requires { length out.old ≡ length links.now }
+    ensures { map link_by out.new ≡ map (link_of I.whole) links.now }
+{
+    for (index, each) in links.iter().enumerate() {
+        out[index] = link(each);
+    }
+}
+
 /// The fill rule of a code.
 pub fn fill_rule(code: u8) -> FillRule
     ensures { result ≡ fill_rule_of code }

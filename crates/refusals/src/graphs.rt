@@ -182,6 +182,7 @@ impl Case for Build {
 #[derive(Drop)]
 pub struct Lists {
     builder: Builder,
+    links: Vec<OverlayLink<i32, ()>>,
     degrees: Vec<usize>,
     indexes: Vec<usize>,
     solver: Solver,
@@ -192,6 +193,7 @@ impl Lists {
     pub fn new(alloc: Global, solver: Solver) -> Lists {
         Lists {
             builder: Builder::new(alloc),
+            links: Vec::new(alloc),
             degrees: Vec::new(alloc),
             indexes: Vec::new(alloc),
             solver,
@@ -205,16 +207,18 @@ impl Case for Lists {
         if !is_arranged(&squares) {
             return Err(Stop::Wrong("the split is no arrangement"));
         }
+        let links = &mut self.links;
         let (degrees, indexes) = (&mut self.degrees, &mut self.indexes);
         let built = self.builder.build_boolean_lists(
             FillRule::NonZero,
             &self.solver,
             squares.as_slice(),
+            links,
             degrees,
             indexes,
         );
         match built {
-            Ok(()) => Ok(summary_of(self.builder.links(), self.degrees.len())),
+            Ok(()) => Ok(summary_of(&self.links, self.degrees.len())),
             Err(fault) => Err(refused(
                 fault,
                 self.builder.nodes().is_empty() && self.builder.links().is_empty(),

@@ -201,6 +201,26 @@ impl<C: FillCount, N: GraphNode, I: OverlayInt, D: Copy> GraphBuilder<C, N, I, D
         link_kept(segments, fills, rule, links, ends, degrees, indexes)
     }
 
+    /// Exchanges the builder's lists for these.
+    fn exchange_lists(
+        &mut self,
+        links: &mut Vec<OverlayLink<I, D>>,
+        degrees: &mut Vec<usize>,
+        indexes: &mut Vec<usize>,
+    )
+        ensures links { links.new ≡ self.old.links }
+        ensures degrees { degrees.new ≡ self.old.degrees }
+        ensures indexes { indexes.new ≡ self.old.indexes }
+        ensures self_links { self.new.links ≡ links.old }
+        ensures same_nodes { self.new.nodes ≡ self.old.nodes }
+        ensures same_runner { self.new.sweep_runner ≡ self.old.sweep_runner }
+        ensures same_compared { self.new.compared ≡ self.old.compared }
+    {
+        mem::swap(&mut self.links, links);
+        mem::swap(&mut self.degrees, degrees);
+        mem::swap(&mut self.indexes, indexes);
+    }
+
     /// Builds the links and the nodes of the kept segments, by fills that are known. Nodes and links are empty after a
     /// refusal.
     fn build_with_fills(
@@ -317,39 +337,41 @@ impl<I: OverlayInt, D: Copy> GraphBuilder<ShapeCountBoolean, OverlayNode, I, D> 
         Ok(self.graph())
     }
 
-    /// The same graph as lists: how many links meet at each node, and the indexes of these links, node by node, in place
-    /// of what the two lists had. `links` shows its links then, and `nodes` none.
+    /// The same graph as lists: its links, how many of them meet at each node, and the indexes of these, node by node,
+    /// in place of what the three lists had. The builder shows neither links nor nodes then.
     ///
     /// The segments have to be arranged, as `is_arranged` tests; their counts need not balance. The
     /// solver's strategy does not change the result.
     ///
     /// Returns `Fault::CountOutOfRange` where a winding above a segment leaves the range, and `Fault::Memory` where a
-    /// growth is refused. The links are none then, the lists may have anything, and the builder can be used again.
+    /// growth is refused. The lists may have anything then, and the builder can be used again.
     pub fn build_boolean_lists(
         &mut self,
         fill_rule: FillRule,
         solver: &Solver,
         segments: &[Segment<ShapeCountBoolean, I, D>],
+        links: &mut Vec<OverlayLink<I, D>>,
         degrees: &mut Vec<usize>,
         indexes: &mut Vec<usize>,
     ) -> Result<(), Fault>
         requires arranged { IsArranged segments.now }
-        ensures graph { OnOk result (HoldLists I.whole (built_links self.new) degrees.new.items indexes.new.items
+        ensures graph { OnOk result (HoldLists I.whole links.new.items degrees.new.items indexes.new.items
             (graph_by (λ _. true) fill_rule (segments_of segments.now))) }
-        ensures edge_data { OnOk result (map (λ l. l.edge_data) (built_links self.new)
+        ensures edge_data { OnOk result (map (λ l. l.edge_data) links.new.items
             ≡ data_by (λ _. true) fill_rule (data_segments_of segments.now)) }
         ensures in_range { OnOk result (IsFalse (tops_leave_range (segments_of segments.now))) }
         ensures out_of_range { OnTooLarge result (IsTrue (tops_leave_range (segments_of segments.now))) }
-        ensures no_links { OnErr result (built_links self.new ≡ []) }
+        ensures no_links { built_links self.new ≡ [] }
         ensures no_nodes { built_nodes self.new ≡ [] }
         ensures compared { OnOk result (IsCostOf solver.now segments.now (build_asked self.new)) }
         ensures same_compared { OnErr result (build_asked self.new ≡ build_asked self.old) }
     {
         self.nodes.clear();
+        self.exchange_lists(links, degrees, indexes);
         let built = self.try_build_lists(fill_rule, LinkRule::Every, solver, segments);
-        mem::swap(&mut self.degrees, degrees);
-        mem::swap(&mut self.indexes, indexes);
+        self.exchange_lists(links, degrees, indexes);
         self.finish(&built);
+        self.links.clear();
         built
     }
 

@@ -1,7 +1,6 @@
-use Rattle.std.proofs.Common.{◌∙◌, ap, map, true}
+use Rattle.std.proofs.Common.{◌∙◌, ap, true}
 use Rattle.overlay_base.specs.SegmentOf.{segments_of}
 use Rattle.overlay_build.specs.Graph.{Graph, graph_by}
-use Rattle.overlay_build.specs.GraphOf.{link_of}
 use Rattle.overlay_c.specs.Records.{fill_rule_of}
 use Rattle.overlay_c.proofs.cores.Core.all.Goals as goal
 
@@ -15,7 +14,7 @@ returns-clause-kept g c =
       links = ap (λ f. graph_by (λ _. true) f (segments_of c.as_slice-segments.result.now)) c.fill_rule-fill_rule.ensures
           ∙ ap (λ ss. graph_by (λ _. true) (fill_rule_of c.args.settings.now.fill_rule) (segments_of ss)) c.as_slice-segments.ensures.value;
       kept = record {
-        links = c.in_ok-keep_links.ensures ∙ ap (λ ls. map (link_of g.I.OverlayInt.whole) ls) c.links.ensures ∙ hold.same_links;
+        links = hold.same_links;
         nodes = hold.same_nodes;
       };
     }

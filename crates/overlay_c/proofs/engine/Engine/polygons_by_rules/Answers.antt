@@ -1,5 +1,4 @@
-use Rattle.std.proofs.Common.{ap, ◌∙◌, ◌≡◌, sym, subst, List, length, map}
-use Rattle.overlay_base.specs.declared.overlay_core.overlay_rule.OverlayRule.{OverlayRule}
+use Rattle.std.proofs.Common.{ap, ◌∙◌, length, map}
 use Rattle.overlay_contours.specs.ContoursOf.{contours_of_each}
 use Rattle.overlay_contours.specs.Shapes.{all_contours}
 use Rattle.overlay_contours.specs.ShapesOf.{shapes_of}
