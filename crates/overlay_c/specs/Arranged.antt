@@ -29,6 +29,10 @@ KeepsArrangement settings before after =
 abbrev pub SameArrangement : Engine → Engine → Type 0
 SameArrangement before after = IfSome before.arrangement (λ a. IsSome after.arrangement × IfSome after.arrangement (StaysArranged a))
 
+-- the arrangement is the one that was kept before, or none as before
+abbrev pub StaysAsArranged : Engine → Engine → Type 0
+StaysAsArranged before after = after.arrangement ≡ before.arrangement
+
 -- an overlay as contours, without collinear points where only corners are wanted; and in shapes
 abbrev pub IsOverlayWith : Bool → Splitting → OverlayRule → FillRule → List (List Point) → List (List Point) → List (List Point) → Type 0
 IsOverlayWith true splitting rule fill_rule subject clip answer = IsCornerOverlay splitting rule fill_rule subject clip answer

@@ -358,6 +358,7 @@ impl Engine {
         ensures refused { IfErr result (λ refusal. IsPointRefusal contour.now refusal) }
         ensures rest { SameSplit self.old self.new }
         ensures report { SameReport self.old self.new }
+        ensures arrangement { self.new.arrangement ≡ self.old.arrangement }
     {
         load_points(contour, &mut self.points)?;
         self.polygons.add_contour(&self.points, shape_type)?;
@@ -534,6 +535,7 @@ impl Engine {
         ensures clip { contours_in self.new Clip ≡ [] }
         ensures rest { SameSplit self.old self.new }
         ensures report { SameReport self.old self.new }
+        ensures arrangement { self.new.arrangement ≡ self.old.arrangement }
     {
         self.polygons.clear();
     }

@@ -6,7 +6,7 @@ ghost use Rattle.overlay_base.specs.Join.{join, join_leaves_range, has_equal_pai
 ghost use Rattle.overlay_split.specs.SettingsOf.{snap_limit_of};
 ghost use Rattle.overlay_c.specs.Records.{start_of, end_of, line_asked_by, told_by, line_told_by, link_by, shape_of, fill_rule_of, number_by};
 ghost use Rattle.overlay_c.specs.Calls.{Turns, Leaves, Chooses, MaySplit, MayNotSplit, MaySplitLines, MayNotSplitLines, KeepsOverlayBy, KeepsDataBy, KeepsClipBy, SameContours, SameShape, AddsContour, KeepsPolygonsBy, KeepsShapesBy, KeepsRulesBy, KeepsArrangedContoursBy, KeepsArrangedShapesBy, HasNoArrangement, PolygonCountsLeaveRange};
-ghost use Rattle.overlay_c.specs.Arranged.{KeepsArrangement, SameArrangement};
+ghost use Rattle.overlay_c.specs.Arranged.{KeepsArrangement, SameArrangement, StaysAsArranged};
 ghost use Rattle.overlay_c.specs.Crosses.{pair_by, cross_by, mask_by};
 ghost use Rattle.overlay_geometry.specs.Coordinates.{least_coordinate, greatest_coordinate, is_pair_in_range};
 ghost use Rattle.overlay_intersections.specs.CrossAnswer.{cross_answer};
@@ -259,6 +259,7 @@ pub extern "C" fn overlay_c_add_contour(
     ensures out_of_range { result ≡ 4 → IsFalse (are_in_range contour.now) }
     ensures rest { Turns handle.old handle.new SameSplit }
     ensures report { Turns handle.old handle.new SameReport }
+    ensures arrangement { Turns handle.old handle.new StaysAsArranged }
 {
     let mut engine = take(alloc, handle);
     let outcome = engine.add_contour(contour, shape_type(shape));
@@ -346,7 +347,8 @@ pub extern "C" fn overlay_c_polygons_by_rules(
 
 /// Keeps the arrangement of the contours that were added, split and swept once, from which `overlay_c_arranged_contours`
 /// and `overlay_c_arranged_shapes` make overlays by any rules. Returns as `overlay_c_polygons` does, under the same
-/// settings. The contours that were added stay, and so does what `overlay_c_report` returns.
+/// settings. The contours that were added stay, and so does what `overlay_c_report` returns. Where it is refused, the
+/// arrangement that was kept before stays.
 #[unsafe(no_mangle)]
 pub extern "C" fn overlay_c_arrange(
     alloc: Global,
@@ -358,6 +360,7 @@ pub extern "C" fn overlay_c_arrange(
     ensures done { result ≡ 0 → Turns handle.old handle.new (KeepsArrangement settings.now) }
     ensures too_large { result ≡ 2 → IfSome handle.old.engine (PolygonCountsLeaveRange settings.now) }
     ensures codes { result < 3 }
+    ensures unchanged { result ≢ 0 → Turns handle.old handle.new StaysAsArranged }
     ensures subject { Turns handle.old handle.new (SameShape Subject) }
     ensures clip { Turns handle.old handle.new (SameShape Clip) }
     ensures rest { Turns handle.old handle.new SameSplit }
@@ -384,6 +387,7 @@ pub extern "C" fn overlay_c_arranged_contours(
     ensures done { result ≡ 0 → Turns handle.old handle.new (KeepsArrangedContoursBy rule corners) }
     ensures none { result ≡ 3 → IfSome handle.old.engine HasNoArrangement }
     ensures codes { result < 4 }
+    ensures no_count { result ≢ 2 }
     ensures arrangement { Turns handle.old handle.new SameArrangement }
     ensures contours { Turns handle.old handle.new SameContours }
     ensures rest { Turns handle.old handle.new SameSplit }
@@ -409,6 +413,7 @@ pub extern "C" fn overlay_c_arranged_shapes(
     ensures done { result ≡ 0 → Turns handle.old handle.new (KeepsArrangedShapesBy rule corners) }
     ensures none { result ≡ 3 → IfSome handle.old.engine HasNoArrangement }
     ensures codes { result < 4 }
+    ensures no_count { result ≢ 2 }
     ensures arrangement { Turns handle.old handle.new SameArrangement }
     ensures contours { Turns handle.old handle.new SameContours }
     ensures rest { Turns handle.old handle.new SameSplit }
@@ -465,6 +470,7 @@ pub extern "C" fn overlay_c_clear(alloc: Global, handle: &mut Handle)
     ensures clip { IfSome handle.new.engine (λ after. contours_in after Clip ≡ []) }
     ensures rest { Turns handle.old handle.new SameSplit }
     ensures report { Turns handle.old handle.new SameReport }
+    ensures arrangement { Turns handle.old handle.new StaysAsArranged }
 {
     let mut engine = take(alloc, handle);
     engine.clear_contours();

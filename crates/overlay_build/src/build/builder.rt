@@ -29,7 +29,6 @@ use crate::build::fills::find_fills;
 use crate::build::graph::OverlayGraph;
 use crate::build::graph_node::{GraphNode, OverlayNode};
 use crate::build::kept_links::{LinkRule, collect_links};
-use crate::build::link_ends::PackedEnd;
 use crate::build::listed_nodes::make_nodes;
 use crate::build::string_graph::StringGraph;
 use overlay_base::overlay_core::clip_rule::ClipRule;
@@ -56,7 +55,6 @@ pub struct GraphBuilder<C: WindingCount, N: GraphNode, I: OverlayInt, D: Copy> {
     alloc: Global,
     sweep_runner: SweepRunner<C, I>,
     fills: Vec<SegmentFill>,
-    ends: Vec<PackedEnd>,
     degrees: Vec<usize>,
     indexes: Vec<usize>,
     links: Vec<OverlayLink<I, D>>,
@@ -75,7 +73,6 @@ impl<C: WindingCount, N: GraphNode, I: OverlayInt, D: Copy> GraphBuilder<C, N, I
             alloc,
             sweep_runner: SweepRunner::new(alloc),
             fills: Vec::new(alloc),
-            ends: Vec::new(alloc),
             degrees: Vec::new(alloc),
             indexes: Vec::new(alloc),
             links: Vec::new(alloc),
@@ -196,9 +193,9 @@ impl<C: FillCount, N: GraphNode, I: OverlayInt, D: Copy> GraphBuilder<C, N, I, D
         let runner = &mut self.sweep_runner;
         find_fills(runner, fill_rule, solver, segments, &mut self.fills)?;
         let fills = self.fills.as_slice();
-        let (links, ends) = (&mut self.links, &mut self.ends);
+        let links = &mut self.links;
         let (degrees, indexes) = (&mut self.degrees, &mut self.indexes);
-        link_kept(segments, fills, rule, links, ends, degrees, indexes)
+        link_kept(self.alloc, segments, fills, rule, links, degrees, indexes)
     }
 
     /// Exchanges the builder's lists for these.
@@ -265,20 +262,20 @@ impl<C: FillCount, N: GraphNode, I: OverlayInt, D: Copy> GraphBuilder<C, N, I, D
         ensures same_compared { self.new.compared ≡ self.old.compared }
         ensures fault { IfErr result (λ fault. fault ≡ Memory) }
     {
-        let (links, ends) = (&mut self.links, &mut self.ends);
+        let links = &mut self.links;
         let (degrees, indexes) = (&mut self.degrees, &mut self.indexes);
-        link_kept(segments, fills, rule, links, ends, degrees, indexes)?;
+        link_kept(self.alloc, segments, fills, rule, links, degrees, indexes)?;
         make_nodes(self.alloc, &self.degrees, &self.indexes, &mut self.nodes)
     }
 }
 
 /// Makes the links of the kept segments, by the fills of all, and lists their nodes, as `connect_links` does.
 fn link_kept<C: WindingCount, I: OverlayInt, D: Copy>(
+    alloc: Global,
     segments: &[Segment<C, I, D>],
     fills: &[SegmentFill],
     rule: LinkRule,
     links: &mut Vec<OverlayLink<I, D>>,
-    ends: &mut Vec<PackedEnd>,
     degrees: &mut Vec<usize>,
     indexes: &mut Vec<usize>,
 ) -> Result<(), Fault>
@@ -291,7 +288,7 @@ fn link_kept<C: WindingCount, I: OverlayInt, D: Copy>(
     ensures fault { IfErr result (λ fault. fault ≡ Memory) }
 {
     collect_links(segments, fills, rule, links)?;
-    connect_links(links, ends, degrees, indexes)
+    connect_links(alloc, links, degrees, indexes)
 }
 
 impl<I: OverlayInt, D: Copy> GraphBuilder<ShapeCountBoolean, OverlayNode, I, D> {

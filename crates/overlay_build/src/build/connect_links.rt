@@ -8,11 +8,12 @@ ghost use Rattle.overlay_build.specs.GraphOf.{pairs_of_links};
 ghost use Rattle.overlay_build.specs.steps.LinksOf.{AreEndsInRange, ConnectLinks};
 
 use crate::build::link_ends::{
-    PackedEnd, collect_ends, next_point, number_ends, push_ends, push_starts, sort_by_point,
+    collect_ends, next_point, number_ends, push_ends, push_starts, sort_by_point,
 };
 use overlay_base::overlay_core::link::OverlayLink;
 use overlay_base::segm::fault::Fault;
 use overlay_geometry::num::OverlayInt;
+use std::alloc::Global;
 
 /// Gives both ends of each link the number of its node, and lists the nodes in place of what the
 /// two lists had: how many links meet at each, and the indexes of these links, node by node. The
@@ -20,8 +21,8 @@ use overlay_geometry::num::OverlayInt;
 /// ends, no two on the same ends. So their first ends are sorted, and only the second ends have to
 /// be. All ends have to be in range.
 pub fn connect_links<I: OverlayInt, D: Copy>(
+    alloc: Global,
     links: &mut Vec<OverlayLink<I, D>>,
-    ends: &mut Vec<PackedEnd>,
     degrees: &mut Vec<usize>,
     indexes: &mut Vec<usize>,
 ) -> Result<(), Fault>
@@ -33,8 +34,9 @@ pub fn connect_links<I: OverlayInt, D: Copy>(
     ensures edge_data { OnOk result (map (λ l. l.edge_data) links.new.items ≡ map (λ l. l.edge_data) links.old.items) }
     ensures fault { IfErr result (λ fault. fault ≡ Memory) }
 {
-    collect_ends(links, ends)?;
-    sort_by_point(ends)?;
+    let mut ends = Vec::new(alloc);
+    collect_ends(links, &mut ends)?;
+    sort_by_point(&mut ends)?;
     degrees.clear();
     degrees.reserve(links.len())?;
     indexes.clear();
@@ -42,10 +44,10 @@ pub fn connect_links<I: OverlayInt, D: Copy>(
     indexes.reserve(links.len().saturating_mul(2))?;
     let mut start = 0;
     let mut end = 0;
-    while let Some(key) = next_point(links, ends, start, end) {
+    while let Some(key) = next_point(links, &ends, start, end) {
         let first = indexes.len();
         start = push_starts(links, start, key, indexes)?;
-        end = push_ends(ends, end, key, indexes)?;
+        end = push_ends(&ends, end, key, indexes)?;
         number_ends(links, &indexes[first..], key, degrees.len());
         degrees.push(indexes.len() - first)?;
     }
