@@ -6,6 +6,7 @@
 The command is the toolchain's own, and proves and tests what it does without this file. Its check of a static library has one flag
 more, `-o out/checked`: the toolchain writes there what it proved, with sums of all files that it read and of the code.
 `tools/archive.py --beside-ci` has the crate compiled by that record, and the toolchain refuses it where anything differs.
+The two lowest libraries get a job for each processor, since nothing else can be proved before them.
 """
 import importlib.machinery
 import importlib.util
@@ -13,13 +14,16 @@ import os
 import shutil
 import sys
 
+sys.dont_write_bytecode = True
+import run  # noqa: E402  (beside this file)
+
 RECORD = "out/checked"
+LOWEST = ("overlay_geometry", "overlay_base")
 
 
 def command():
     """The module of the command `rt`."""
     path = os.path.realpath(shutil.which("rt"))
-    sys.dont_write_bytecode = True
     loader = importlib.machinery.SourceFileLoader("rt", path)
     module = importlib.util.module_from_spec(importlib.util.spec_from_loader("rt", loader))
     sys.modules["rt"] = module
@@ -32,6 +36,11 @@ def main():
 
     class Crate(rt.Crate):
         """A crate whose check, if it is a static library, is recorded."""
+
+        def ci(self, flags, tests):
+            if self.name in LOWEST and not tests:
+                flags = ["--jobs", str(run.processors())]
+            return super().ci(flags, tests)
 
         def prove(self, *commands):
             if self.is_static:

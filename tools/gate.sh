@@ -32,16 +32,6 @@ drop_edits_before() {
     done
 }
 
-# Proves the two lowest libraries with all processors, since no other crate can be proved before them. `rt ci` keeps both for the run
-# that follows.
-prove_lowest() {
-    if env -u RT_JOBS rt ci overlay_base >"$room/lowest" 2>&1; then
-        printf '%5d s: overlay_geometry and overlay_base proved\n' "$SECONDS"
-    else
-        cat "$room/lowest"
-    fi
-}
-
 # Makes the archive that `rust/`, `c/` and `python/` link, as soon as its crate is proved.
 make_archive() {
     until [[ -f $room/proved/overlay_c ]]; do sleep 2; done
@@ -101,7 +91,6 @@ trying=$!
 make_archive >"$room/archive" 2>&1 &
 archiving=$!
 trap 'kill "$trying" "$archiving" 2>/dev/null || true; rm -rf "$room"' EXIT
-prove_lowest
 python3 tools/ci.py | while IFS= read -r line; do
     printf '%s\n' "$line" >>"$lines"
     [[ $line =~ ^rt:\ ([a-z_0-9]+)\ (proved$|is\ kept:) ]] && touch "$room/proved/${BASH_REMATCH[1]}"

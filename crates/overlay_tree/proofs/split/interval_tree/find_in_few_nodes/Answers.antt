@@ -49,3 +49,9 @@ returns-else-has_dropped-clause-dropped g c =
     let test = c.loop-place-test.false in
     let past : length c.args.nodes.now ≤ c.loop-place.place = omega (arith, test) in
     passed_dropped g.I.OverlayInt.whole (query_of g.I.OverlayInt.whole c.args.query.now) c.args.nodes.now c.loop-place.nodes c.loop-place.place c.args.indexes.now.items c.loop-place.indexes.items c.loop-place.has_dropped c.loop-place.invariant past
+
+pub returns-then-has_dropped-clause-looked : goal.returns-then-has_dropped-clause-looked
+returns-then-has_dropped-clause-looked g c = omega arith
+
+pub returns-else-has_dropped-clause-looked : goal.returns-else-has_dropped-clause-looked
+returns-else-has_dropped-clause-looked g c = omega arith

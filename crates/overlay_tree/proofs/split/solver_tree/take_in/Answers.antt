@@ -28,3 +28,6 @@ returns-clause-way g c old under =
     let here : j ≡ c.args.until = omega (arith, reached, c.if-index-until.false) in
     c.in_ok-take_into_tree-2.ensures.way old (IsUnderWay-renewed (pairs (segments_of xs)) (tree_nodes whole c.args.nodes.now.items) (tree_nodes whole c.renew.new.nodes.items) old c.args.looked.now j c.args.until c.in_ok-further.further under here
     (pairs_in_order xs c.requires.sorted) c.in_ok-further.ensures.further (omega (arith, c.in_ok-further.ensures.within, length-pairs xs)) c.in_ok-further.ensures.listed c.in_ok-further.ensures.rising c.in_ok-further.ensures.summed)
+
+pub take_into_list-requires-clause-few : goal.take_into_list-requires-clause-few
+take_into_list-requires-clause-few g c = omega arith
