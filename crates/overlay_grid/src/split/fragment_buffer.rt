@@ -22,6 +22,7 @@ use std::alloc::{AllocError, Global};
 /// The fragments of segments in the columns of a layout: one group for each column. It keeps its memory when cleared.
 #[derive(Drop)]
 pub struct FragmentBuffer<I: OverlayInt> {
+    pub(crate) alloc: Global,
     pub(crate) layout: GridLayout<I>,
     groups: Vec<Vec<Fragment<I>>>,
     right_ends: Vec<I>,
@@ -72,6 +73,7 @@ impl<I: OverlayInt> FragmentBuffer<I> {
         let count = layout.column_count();
         empty_groups(alloc, &mut groups, count)?;
         Ok(FragmentBuffer {
+            alloc,
             layout,
             groups,
             right_ends,
@@ -84,6 +86,7 @@ impl<I: OverlayInt> FragmentBuffer<I> {
     /// Gives up the buffer and returns its memory, for the next one.
     pub fn into_memory(self) -> FragmentMemory<I> {
         let FragmentBuffer {
+            alloc: _,
             layout: _,
             groups,
             right_ends,

@@ -88,6 +88,15 @@ impl<I: OverlayInt> GridLayout<I> {
         })
     }
 
+    /// One or two columns, from the least `x` of the grid to the greatest coordinate. `None` where these are less than 4
+    /// apart.
+    pub(crate) fn row(&self) -> Option<Self>
+        ensures from { IfSome result (λ row. (layout_of row).min_x ≡ (layout_of self.now).min_x) }
+        ensures to { IfSome result (λ row. (layout_of row).max_x ≡ I.whole I.MAX_COORD) }
+    {
+        GridLayout::with_min_max(self.min_x, I::MAX_COORD, 0)
+    }
+
     /// The column in which an `x` lies, from 0. The `x` has to lie from the least of the grid to the greatest.
     pub fn index(&self, x: I) -> usize
         requires from { (layout_of self.now).min_x ≤ℤ I.whole x }

@@ -43,3 +43,29 @@ pub fn find_marks_within<C: WindingCount, I: OverlayInt, D: Copy>(
 {
     find_marks_up_to(segments, placing, Some(most), buffer, marks, looked)
 }
+
+/// Finds the marks as `find_marks_within` does, under the same conditions, but in one row: each segment is one fragment,
+/// or two. The row is not that of `buffer`, which stays as it is. It returns `None` also where there is no such row.
+pub fn find_marks_in_row<C: WindingCount, I: OverlayInt, D: Copy>(
+    segments: &[Segment<C, I, D>],
+    placing: Placing,
+    most: u64,
+    buffer: &FragmentBuffer<I>,
+    marks: &mut Vec<LineMark<I>>,
+    looked: &mut u128,
+) -> Result<Option<bool>, Fault>
+    requires in_range { AreInRange segments.now }
+    requires inside { All (λ s. IsInside (grid_of buffer.now) (ends_of s)) segments.now }
+    requires radius { HasRadius placing }
+    ensures marks { IfOk result (λ found. OnSome found (AreMarksOf placing segments.now marks.new.items)) }
+    ensures rounded { IfOk result (λ found. IfSome found (λ rounded. rounded ≡ is_rounded (segments_of segments.now))) }
+    ensures looked { OnOk result (looked.new ≤ looked.old + most) }
+    ensures given_up { IfOk result (λ found. IfNone found (looked.new ≡ looked.old)) }
+    ensures fault { IfErr result (λ fault. fault ≡ Memory) }
+{
+    let Some(layout) = buffer.layout.row() else {
+        return Ok(None);
+    };
+    let mut row = FragmentBuffer::new(buffer.alloc, layout)?;
+    find_marks_up_to(segments, placing, Some(most), &mut row, marks, looked)
+}

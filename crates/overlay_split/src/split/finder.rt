@@ -53,6 +53,17 @@ const MIN_LIVE_FOR_COLUMNS: u64 = 6;
 
 const _: () = prove!(MIN_LIVE_FOR_COLUMNS == 6);
 
+/// Segments that share a height, on the average, up to which one row of all serves in place of a tree. Each is compared
+/// with about as many.
+const MAX_LEVEL_FOR_ROW: u64 = 8;
+
+const _: () = prove!(MAX_LEVEL_FOR_ROW == 8);
+
+/// Comparisons per segment from which on a row is tried: before it compares, it counts up to 8 for a fragment too many.
+const MIN_BUDGET_FOR_ROW: u64 = 16;
+
+const _: () = prove!(MIN_BUDGET_FOR_ROW == 16);
+
 /// What the passes of one run find the segments that meet by: a scan of all pairs of a list, a tree over their heights,
 /// or the columns of a grid. The marks are the same.
 #[derive(Drop)]
@@ -220,8 +231,8 @@ fn grid_over<C: WindingCount, I: OverlayInt, D: Copy>(
 }
 
 /// Finds the marks over a grid, inside which the segments have to lie. Where they have many fragments each, they are
-/// first looked up in a tree, which may compare as many pairs as there are fragments. Only where that does not do are
-/// fragments made.
+/// first looked up in one row, then in a tree. Either may compare as many pairs as there are fragments. Only where that
+/// does not do are fragments made.
 fn find_over_grid<C: WindingCount, I: OverlayInt, D: Copy>(
     segments: &[Segment<C, I, D>],
     placing: Placing,
@@ -244,6 +255,11 @@ fn find_over_grid<C: WindingCount, I: OverlayInt, D: Copy>(
 {
     let fragments = count_fragments(segments, grid);
     if fragments >= TREE_FIRST_FRAGMENTS * segments.len() as u128 {
+        let most = fragments.min(u64::MAX as u128) as u64;
+        let found = find_in_row(segments, placing, most, grid, marks, looked)?;
+        if let Some(rounded) = found {
+            return Ok(rounded);
+        }
         let found = find_marks_within(segments, placing, fragments, tree, marks, looked)?;
         if let Some(rounded) = found {
             return Ok(rounded);
@@ -326,8 +342,8 @@ fn are_few_live<C: WindingCount, I: OverlayInt, D: Copy>(segments: &[Segment<C, 
     widths / MIN_LIVE_FOR_COLUMNS < last.abs_diff(first)
 }
 
-/// The same in the columns of a grid, inside which the segments have to lie. Where they have many fragments each, none
-/// is made.
+/// The same in the columns of a grid, inside which the segments have to lie, or in one row where they have many fragments
+/// each.
 fn find_in_columns<C: WindingCount, I: OverlayInt, D: Copy>(
     segments: &[Segment<C, I, D>],
     placing: Placing,
@@ -344,9 +360,51 @@ fn find_in_columns<C: WindingCount, I: OverlayInt, D: Copy>(
     ensures given_up { IfOk result (λ found. IfNone found (looked.new ≡ looked.old)) }
     ensures fault { IfErr result (λ fault. fault ≡ Memory) }
 {
+    let most = COLUMN_BUDGET_PER_SEGMENT.saturating_mul(segments.len() as u64);
     if count_fragments(segments, grid) >= TREE_FIRST_FRAGMENTS * segments.len() as u128 {
+        return find_in_row(segments, placing, most, grid, marks, looked);
+    }
+    solver_fragment_within::find_marks_within(segments, placing, most, grid, marks, looked)
+}
+
+/// Finds the marks in one row, if few segments share a height and that takes no more comparisons than it may. Else it
+/// returns `None`, compares no pair, and `marks` is of no use.
+fn find_in_row<C: WindingCount, I: OverlayInt, D: Copy>(
+    segments: &[Segment<C, I, D>],
+    placing: Placing,
+    most: u64,
+    grid: &FragmentBuffer<I>,
+    marks: &mut Vec<LineMark<I>>,
+    looked: &mut u128,
+) -> Result<Option<bool>, Fault>
+    requires in_range { AreInRange segments.now }
+    requires inside { All (λ s. IsInside (grid_of grid.now) (ends_of s)) segments.now }
+    requires radius { HasRadius placing }
+    ensures marks { IfOk result (λ found. OnSome found (AreMarksOf placing segments.now marks.new.items)) }
+    ensures rounded { IfOk result (λ found. IfSome found (λ rounded. rounded ≡ is_rounded (segments_of segments.now))) }
+    ensures looked { OnOk result (looked.new ≤ looked.old + most) }
+    ensures given_up { IfOk result (λ found. IfNone found (looked.new ≡ looked.old)) }
+    ensures fault { IfErr result (λ fault. fault ≡ Memory) }
+{
+    let is_too_little = most / MIN_BUDGET_FOR_ROW < segments.len() as u64;
+    if is_too_little || !are_few_level(segments) {
         return Ok(None);
     }
-    let most = COLUMN_BUDGET_PER_SEGMENT.saturating_mul(segments.len() as u64);
-    solver_fragment_within::find_marks_within(segments, placing, most, grid, marks, looked)
+    solver_fragment_within::find_marks_in_row(segments, placing, most, grid, marks, looked)
+}
+
+/// Whether few segments share a height, on the average: as often as the sum of their heights holds the height of all.
+fn are_few_level<C: WindingCount, I: OverlayInt, D: Copy>(segments: &[Segment<C, I, D>]) -> bool {
+    let mut heights = 0_u64;
+    let mut lowest = i64::MAX;
+    let mut highest = i64::MIN;
+    for index in 0..segments.len() {
+        let XSegment { a, b } = segments[index].x_segment();
+        let left = a.y.to_wide();
+        let right = b.y.to_wide();
+        heights = heights.saturating_add(right.abs_diff(left));
+        lowest = lowest.min(left).min(right);
+        highest = highest.max(left).max(right);
+    }
+    heights / MAX_LEVEL_FOR_ROW < highest.abs_diff(lowest)
 }

@@ -11,3 +11,10 @@ returns-clause-looked g c =
     let all : length (pairs_in c.args.segments.now) ≡ length c.args.segments.now = length-pairs c.args.segments.now in
     let most = c.saturating_mul-most.ensures in
     on_ok_weaker c.find_marks_within.result (λ h. omega (arith, all, most, h)) c.find_marks_within.ensures.looked
+
+pub returns-then-count_fragments-segments-clause-looked : goal.returns-then-count_fragments-segments-clause-looked
+unfolding tree_looks
+returns-then-count_fragments-segments-clause-looked g c =
+    let all : length (pairs_in c.args.segments.now) ≡ length c.args.segments.now = length-pairs c.args.segments.now in
+    let most = c.saturating_mul-most.ensures in
+    on_ok_weaker c.find_in_row.result (λ h. omega (arith, all, most, h)) c.find_in_row.ensures.looked
