@@ -193,7 +193,7 @@ uint8_t overlay_c_polygons_by_rules(overlay_core_handle *handle, const overlay_c
 /* Keeps the arrangement of the contours that were added, split and swept once, from which
    overlay_c_arranged_contours and overlay_c_arranged_shapes make overlays by any rules. Returns as
    overlay_c_polygons does, under the same settings. The contours that were added stay, and so does what
-   overlay_c_report returns. */
+   overlay_c_report returns. Where it is refused, the arrangement that was kept before stays. */
 uint8_t overlay_c_arrange(overlay_core_handle *handle, const overlay_core_settings *settings);
 
 /* The overlay by a rule of the contours that are arranged, as overlay_c_polygons keeps it; where only corners are

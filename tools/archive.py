@@ -40,7 +40,7 @@ def build_over_left(rtlib, crate, archive):
 
 def without_check(words):
     """Returns the words of a build that takes the recorded proof, and so no flags of a check."""
-    for flag in ("--logic-built", "--jobs"):
+    for flag in {"--logic-built", "--jobs"}.intersection(words):
         at = words.index(flag)
         words = [*words[:at], *words[at + 2 :]]
     return [*words, "--crate-checked", ci.RECORD]

@@ -6,10 +6,12 @@
 The command is the toolchain's own, and proves and tests what it does without this file. Its check of a static library has one flag
 more, `-o out/checked`: the toolchain writes there what it proved, with sums of all files that it read and of the code.
 `tools/archive.py --beside-ci` has the crate compiled by that record, and the toolchain refuses it where anything differs.
-The two lowest libraries get a job for each processor, since nothing else can be proved before them.
+The two lowest libraries get a job for each processor, since nothing else can be proved before them. Under a toolchain whose
+command has other steps this is plain `rt ci`, and the archive's crate is proved once more.
 """
 import importlib.machinery
 import importlib.util
+import inspect
 import os
 import shutil
 import sys
@@ -31,8 +33,16 @@ def command():
     return module
 
 
+def has_steps(rt):
+    """Whether the command has the two steps to which flags are added."""
+    steps = [getattr(rt.Crate, name, None) for name in ("ci", "prove")]
+    return all(steps) and [list(inspect.signature(it).parameters) for it in steps] == [["self", "flags", "tests"], ["self", "commands"]]
+
+
 def main():
     rt = command()
+    if not has_steps(rt):
+        os.execvp("rt", ["rt", "ci"])
 
     class Crate(rt.Crate):
         """A crate whose check, if it is a static library, is recorded."""
