@@ -239,7 +239,8 @@ class Trial:
             texts, said = self.checked_with(edits)
         # a message goes on in lines that begin with two spaces, the first of which says what a proof names in vain
         whole = re.sub(r"\n  (?=has no )", " ", said)
-        goals = [goal for goal in whole.split("\n") if GOAL.match(goal) and (": error" in goal or goal.startswith("note: "))]
+        # what has a word in brackets is no goal: the edit does not compile
+        goals = [goal for goal in whole.split("\n") if GOAL.match(goal) and (": error: " in goal or goal.startswith("note: "))]
         seen = [(goal, self.function_of(goal, texts)) for goal in goals if not OF_NAMES.match(goal)]
         for edit in edits:
             edit.try_goals(seen)
