@@ -54,7 +54,24 @@ int main(void)
     assert(overlay_core_locate(overlay, OVERLAY_CORE_CLIP, OVERLAY_CORE_FILL_NON_ZERO, 1, 4) == OVERLAY_CORE_OUTSIDE);
     assert(overlay_core_locate(overlay, OVERLAY_CORE_CLIP, OVERLAY_CORE_FILL_NON_ZERO, INT32_MAX, 4) == OVERLAY_CORE_OUTSIDE);
     assert(overlay_core_locate(NULL, OVERLAY_CORE_CLIP, OVERLAY_CORE_FILL_NON_ZERO, 1, 4) == OVERLAY_CORE_LOCATION_BAD_ARGUMENT);
+    /* two squares that share a side, split once for two overlays; without the two points at which the boundary goes straight on */
+    const int32_t beside[] = {8, 0, 16, 0, 16, 8, 8, 8};
     assert(overlay_core_clear(overlay) == OVERLAY_CORE_OK && overlay_core_get(overlay).points == 0);
+    assert(overlay_core_add_contour(overlay, OVERLAY_CORE_SUBJECT, outer, 4) == OVERLAY_CORE_OK);
+    assert(overlay_core_add_contour(overlay, OVERLAY_CORE_CLIP, beside, 4) == OVERLAY_CORE_OK);
+    assert(overlay_core_arrange(overlay, 66) == OVERLAY_CORE_BAD_ARGUMENT);
+    assert(overlay_core_arrange(NULL, OVERLAY_CORE_FILL_NON_ZERO) == OVERLAY_CORE_BAD_ARGUMENT);
+    assert(overlay_core_arrange(overlay, OVERLAY_CORE_FILL_NON_ZERO) == OVERLAY_CORE_OK);
+    assert(overlay_core_arranged(overlay, 99, 0) == OVERLAY_CORE_BAD_ARGUMENT);
+    assert(overlay_core_arranged(overlay, OVERLAY_CORE_RULE_UNION, 0) == OVERLAY_CORE_OK);
+    assert(overlay_core_get(overlay).contours == 1 && overlay_core_get(overlay).points == 6);
+    assert(overlay_core_arranged_shapes(overlay, OVERLAY_CORE_RULE_UNION, 1) == OVERLAY_CORE_OK);
+    assert(overlay_core_get(overlay).shapes == 1 && overlay_core_get(overlay).points == 4 && overlay_core_get(overlay).reach == 1);
+    assert(overlay_core_arranged(overlay, OVERLAY_CORE_RULE_INTERSECT, 0) == OVERLAY_CORE_OK);
+    assert(overlay_core_get(overlay).contours == 0);
+    overlay_core *other = overlay_core_new();
+    assert(other && overlay_core_arranged(other, OVERLAY_CORE_RULE_UNION, 0) == OVERLAY_CORE_BAD_ARGUMENT);
+    overlay_core_free(other);
     overlay_core_free(overlay);
     overlay_core_free(NULL);
     return 0;

@@ -25,7 +25,7 @@ const char *overlay_core_text(int status)
     case OVERLAY_CORE_NO_MEMORY: return "there is not enough memory";
     case OVERLAY_CORE_COUNT_OUT_OF_RANGE: return "the contours wind more than 2147483647 times around a point";
     case OVERLAY_CORE_POINT_OUT_OF_RANGE: return "a coordinate is outside of -1073741824 to 1073741823";
-    case OVERLAY_CORE_BAD_ARGUMENT: return "a pointer is null, or there is no such shape, rule or fill rule";
+    case OVERLAY_CORE_BAD_ARGUMENT: return "a pointer is null, no contours are arranged, or there is no such shape, rule or fill rule";
     default: return "there is no such status";
     }
 }
@@ -97,8 +97,8 @@ static void *room(size_t count, size_t size)
     return count < SIZE_MAX / size ? malloc((count + 1) * size) : NULL;
 }
 
-/* Copies the result out of the engine. */
-static overlay_core_status keep_result(overlay_core *overlay)
+/* Copies the result out of the engine, with how far edges were moved. */
+static overlay_core_status keep_result(overlay_core *overlay, uint64_t reach)
 {
     overlay_core_sizes sizes = overlay_c_sizes(&overlay->handle);
     overlay->points = room(sizes.contour_points, sizeof *overlay->points);
@@ -119,9 +119,15 @@ static overlay_core_status keep_result(overlay_core *overlay)
         .points = sizes.contour_points,
         .contours = sizes.contours,
         .shapes = sizes.shapes,
-        .reach = overlay_c_report(&overlay->handle).reach.low,
+        .reach = reach,
     };
     return OVERLAY_CORE_OK;
+}
+
+/* Copies the result of a call that reports how far edges were moved. */
+static overlay_core_status keep_reported(overlay_core *overlay)
+{
+    return keep_result(overlay, overlay_c_report(&overlay->handle).reach.low);
 }
 
 static int is_rule(int rule)
@@ -150,7 +156,7 @@ static overlay_core_status make(overlay_core *overlay, int rule, int fill_rule, 
     drop_result(overlay);
     overlay_core_settings settings = settings_for(fill_rule);
     overlay_core_status status = (overlay_core_status)call(&overlay->handle, &settings, (uint8_t)rule);
-    return status == OVERLAY_CORE_OK ? keep_result(overlay) : status;
+    return status == OVERLAY_CORE_OK ? keep_reported(overlay) : status;
 }
 
 overlay_core_status overlay_core_overlay(overlay_core *overlay, int rule, int fill_rule)
@@ -179,7 +185,44 @@ overlay_core_status overlay_core_overlay_by_rules(overlay_core *overlay, const i
     overlay_core_settings settings = settings_for(fill_rule);
     overlay_core_status status = (overlay_core_status)overlay_c_polygons_by_rules(&overlay->handle, &settings, codes, count);
     free(codes);
-    return status == OVERLAY_CORE_OK ? keep_result(overlay) : status;
+    return status == OVERLAY_CORE_OK ? keep_reported(overlay) : status;
+}
+
+overlay_core_status overlay_core_arrange(overlay_core *overlay, int fill_rule)
+{
+    if (!overlay || !is_fill_rule(fill_rule))
+        return OVERLAY_CORE_BAD_ARGUMENT;
+    overlay_core_settings settings = settings_for(fill_rule);
+    return (overlay_core_status)overlay_c_arrange(&overlay->handle, &settings);
+}
+
+typedef uint8_t arranged_call(overlay_core_handle *handle, uint8_t rule, bool corners);
+
+/* What the exports return where no contours were arranged. */
+enum { NOT_ARRANGED = 3 };
+
+/* Snap rounding moves edges by half a unit at most. */
+enum { MOST_REACH = 1 };
+
+static overlay_core_status make_arranged(overlay_core *overlay, int rule, int corners, arranged_call *call)
+{
+    if (!overlay || !is_rule(rule))
+        return OVERLAY_CORE_BAD_ARGUMENT;
+    drop_result(overlay);
+    uint8_t status = call(&overlay->handle, (uint8_t)rule, corners != 0);
+    if (status == NOT_ARRANGED)
+        return OVERLAY_CORE_BAD_ARGUMENT;
+    return status == OVERLAY_CORE_OK ? keep_result(overlay, MOST_REACH) : (overlay_core_status)status;
+}
+
+overlay_core_status overlay_core_arranged(overlay_core *overlay, int rule, int corners)
+{
+    return make_arranged(overlay, rule, corners, overlay_c_arranged_contours);
+}
+
+overlay_core_status overlay_core_arranged_shapes(overlay_core *overlay, int rule, int corners)
+{
+    return make_arranged(overlay, rule, corners, overlay_c_arranged_shapes);
 }
 
 overlay_core_location overlay_core_locate(overlay_core *overlay, int shape, int fill_rule, int32_t x, int32_t y)

@@ -72,7 +72,7 @@ typedef struct {
     size_t points;
     size_t contours;
     size_t shapes;
-    /* How far edges were moved at most, in halves of a unit. */
+    /* How far edges were moved at most, in halves of a unit. Of contours that were arranged it is 1, the most there is. */
     uint64_t reach;
 } overlay_core_result;
 
@@ -105,6 +105,17 @@ overlay_core_status overlay_core_overlay_shapes(overlay_core *overlay, int rule,
 /* The overlays by so many rules, in their order, each as of overlay_core_overlay. The contours are split once. In the result the
    contours of rule i are those of shape i, from shape_starts[i] to before shape_starts[i + 1]. */
 overlay_core_status overlay_core_overlay_by_rules(overlay_core *overlay, const int *rules, size_t count, int fill_rule);
+
+/* Splits and sweeps the contours that were added, under a fill rule, so that overlays by any rules need no further split. The contours and
+   the result stay. After a failure, or if contours are added, the last arrangement stays as it was. */
+overlay_core_status overlay_core_arrange(overlay_core *overlay, int fill_rule);
+
+/* The overlay by a rule of the contours as they were arranged last, as of overlay_core_overlay. If corners is not 0, points at which a
+   contour goes straight on are left out. OVERLAY_CORE_BAD_ARGUMENT if no contours were arranged. */
+overlay_core_status overlay_core_arranged(overlay_core *overlay, int rule, int corners);
+
+/* The same in shapes, as of overlay_core_overlay_shapes. */
+overlay_core_status overlay_core_arranged_shapes(overlay_core *overlay, int rule, int corners);
 
 /* Where a point lies with respect to the contours of a shape that were added: on the boundary if it lies on a step of one of them, else
    inside or outside by the fill rule. OVERLAY_CORE_LOCATION_BAD_ARGUMENT if the overlay is null, or there is no such shape or fill rule. */

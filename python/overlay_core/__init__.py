@@ -10,8 +10,9 @@ import contextlib
 import ctypes
 import os
 import pathlib
+import weakref
 
-__all__ = ["MAX_COORD", "MIN_COORD", "OverlayError", "locate", "overlay", "overlay_by_rules"]
+__all__ = ["Arrangement", "MAX_COORD", "MIN_COORD", "OverlayError", "locate", "overlay", "overlay_by_rules"]
 
 MIN_COORD, MAX_COORD = -(1 << 30), (1 << 30) - 1
 
@@ -53,6 +54,9 @@ def _load():
         "add_contour": (number, [handle, number, points, ctypes.c_size_t]),
         "overlay_shapes": (number, [handle, number, number]),
         "overlay_by_rules": (number, [handle, ctypes.POINTER(number), ctypes.c_size_t, number]),
+        "arrange": (number, [handle, number]),
+        "arranged": (number, [handle, number, number]),
+        "arranged_shapes": (number, [handle, number, number]),
         "locate": (number, [handle, number, number, ctypes.c_int32, ctypes.c_int32]),
         "get": (_Result, [handle]),
     }
@@ -136,9 +140,13 @@ def _parts(result, scale):
     return [contours[start:end] for start, end in zip(starts, starts[1:])]
 
 
-@contextlib.contextmanager
-def _loaded(subject, clip, scale):
-    """An overlay of the library with these contours."""
+def _shapes(handle, scale):
+    """The result of a handle in shapes, each an outer boundary and the list of its holes."""
+    return [(contours[0], contours[1:]) for contours in _parts(_calls().overlay_core_get(handle), scale)]
+
+
+def _load_contours(subject, clip, scale):
+    """An overlay of the library with these contours, which the caller frees."""
     given = [[_numbers(contour, scale, f"contour {index} of the {name}") for index, contour in enumerate(contours)]
              for name, contours in [("subject", subject), ("clip", clip)]]
     calls = _calls()
@@ -149,9 +157,20 @@ def _loaded(subject, clip, scale):
         for shape, contours in enumerate(given):
             for numbers in contours:
                 _check(calls.overlay_core_add_contour(handle, shape, (ctypes.c_int32 * len(numbers))(*numbers), len(numbers) // 2))
+    except BaseException:
+        calls.overlay_core_free(handle)
+        raise
+    return handle
+
+
+@contextlib.contextmanager
+def _loaded(subject, clip, scale):
+    """An overlay of the library with these contours, freed at the end."""
+    handle = _load_contours(subject, clip, scale)
+    try:
         yield handle
     finally:
-        calls.overlay_core_free(handle)
+        _calls().overlay_core_free(handle)
 
 
 def overlay(subject, clip, rule, fill="nonzero", scale=None):
@@ -170,7 +189,39 @@ def overlay(subject, clip, rule, fill="nonzero", scale=None):
     rule_code, fill_code = _code("rule", rule, RULES), _code("fill", fill, FILLS)
     with _loaded(subject, clip, scale) as handle:
         _check(_calls().overlay_core_overlay_shapes(handle, rule_code, fill_code))
-        return [(contours[0], contours[1:]) for contours in _parts(_calls().overlay_core_get(handle), scale)]
+        return _shapes(handle, scale)
+
+
+class Arrangement:
+    """Two lists of contours, split once under a fill rule, from which overlays by any rules come.
+
+    Arguments and errors are those of `overlay`. It is used by one thread at a time.
+
+    >>> terraced = Arrangement([[(0, 0), (4, 0), (4, 4), (0, 4)]], [[(4, 0), (8, 0), (8, 4), (4, 4)]])
+    >>> terraced.overlay("union")
+    [([(0, 4), (0, 0), (4, 0), (8, 0), (8, 4), (4, 4)], [])]
+    >>> terraced.overlay("union", collinear=False)
+    [([(0, 4), (0, 0), (8, 0), (8, 4)], [])]
+    >>> terraced.contours("intersect")
+    []
+    """
+
+    def __init__(self, subject, clip, fill="nonzero", scale=None):
+        fill_code = _code("fill", fill, FILLS)
+        self._handle, self._scale = _load_contours(subject, clip, scale), scale
+        weakref.finalize(self, _calls().overlay_core_free, self._handle)
+        _check(_calls().overlay_core_arrange(self._handle, fill_code))
+
+    def overlay(self, rule, collinear=True):
+        """The overlay by a rule, as `overlay` returns it; if `collinear` is false, without the points at which a contour goes
+        straight on."""
+        _check(_calls().overlay_core_arranged_shapes(self._handle, _code("rule", rule, RULES), not collinear))
+        return _shapes(self._handle, self._scale)
+
+    def contours(self, rule, collinear=True):
+        """The same as contours that have it on their left: outer boundaries counterclockwise, holes clockwise."""
+        _check(_calls().overlay_core_arranged(self._handle, _code("rule", rule, RULES), not collinear))
+        return list(_contours(_calls().overlay_core_get(self._handle), self._scale))
 
 
 def overlay_by_rules(subject, clip, rules, fill="nonzero", scale=None):

@@ -41,6 +41,22 @@ class Overlays(unittest.TestCase):
             self.assertEqual(sum(map(doubled_area, contours)), alone)
         self.assertEqual(overlay_core.overlay_by_rules(subject, clip, []), [])
 
+    def test_arrangement(self):
+        subject, clip = [square(0, 9), square(20, 22)], [square(3, 6), square(8, 12)]
+        arrangement = overlay_core.Arrangement(subject, clip, fill="evenodd")
+        for rule in overlay_core.RULES:
+            self.assertEqual(arrangement.overlay(rule), overlay(subject, clip, rule, fill="evenodd"))
+            self.assertEqual([arrangement.contours(rule)], overlay_core.overlay_by_rules(subject, clip, [rule], fill="evenodd"))
+        with self.assertRaises(ValueError):
+            arrangement.overlay("onion")
+
+    def test_without_collinear(self):
+        beside = [(x + 8, y) for x, y in square(0, 8)]
+        terraced = overlay_core.Arrangement([square(0, 8)], [beside], scale=2)
+        (boundary, _), = terraced.overlay("union", collinear=False)
+        self.assertEqual(sorted(boundary), [(0, 0), (0, 8), (16, 0), (16, 8)])
+        self.assertEqual(len(terraced.contours("union")[0]), 6)
+
     def test_where_a_point_lies(self):
         ring = [square(0, 8), square(2, 6)[::-1]]
         found = [overlay_core.locate(ring, (x, 4)) for x in range(-1, 5)]
