@@ -54,7 +54,7 @@ pub struct Core<I: Width> {
     pub has_changed: bool,
     /// The fills of the arrangement, while the graph of all is built.
     pub fills: Vec<SegmentFill>,
-    /// The links of the graph.
+    /// The links of the graph, but of the graph of all, whose links a caller has.
     pub links: Vec<OverlayLink<I, ()>>,
     /// The data of the links, where segments were given with data.
     pub link_data: Vec<Tag>,

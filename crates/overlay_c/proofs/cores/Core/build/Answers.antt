@@ -1,4 +1,4 @@
-use Rattle.std.proofs.Common.{◌≡◌, ◌∙◌, ap, sym, length, map, true, IsTrue, List}
+use Rattle.std.proofs.Common.{◌∙◌, ap, sym, length, map, true, IsTrue, List}
 use Rattle.std.proofs.lemmas.List.{length-map}
 use Rattle.std.proofs.lemmas.Simd.{map-map}
 use Rattle.overlay_base.specs.Planar.{is_arranged}
