@@ -9,7 +9,7 @@ Usage, from the top of the repository:
 bench/upstream/build.py builds PROGRAM from the files of i_overlay 9.0.1. `PROGRAM bench - - STRATEGY runs=N` reads segments, splits them and builds the
 graph of all of them N times, each time with a new splitter and builder, and prints the least times, `split_ms=` and `graph_ms=`.
 Ours is the example `race` of `rust/`, which does the same through the Rust package. Its `all_ms=` has the split, the build, and the
-copies of links and nodes into vectors of Rust, which the other does not make. No text is timed. The two programs run by turns, a few
+copy of nodes into vectors of Rust, which the other does not make. No text is timed. The two programs run by turns, a few
 rounds of some runs each, and the least times count: so a machine whose speed varies slows both alike.
 
 For each kind and number a row of a table is printed: kind, segments, and for the split and for the whole: milliseconds of this

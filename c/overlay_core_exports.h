@@ -159,8 +159,12 @@ uint8_t overlay_c_overlay_with_data(overlay_core_handle *handle, const overlay_c
 /* The split of the segments that records describe. Returns as overlay_c_overlay does. */
 uint8_t overlay_c_split(overlay_core_handle *handle, const overlay_core_segment *given, size_t given_len, const overlay_core_settings *settings);
 
-/* The graph of all of the arrangement of the segments that records describe. Returns as overlay_c_overlay does. */
-uint8_t overlay_c_all(overlay_core_handle *handle, const overlay_core_segment *given, size_t given_len, const overlay_core_settings *settings);
+/* The graph of all of the arrangement that overlay_c_split left where it returned 0: a link for each segment, in
+   their order. The links are written to records, as many as the segments of overlay_c_sizes; the engine keeps the
+   nodes, which overlay_c_nodes copies out, and no links. Of the settings it takes the strategy and the fill rule.
+   Returns 0 where it is done, 1 where memory was refused, and 2 where a winding above a segment leaves the range.
+   The arrangement stays. After 1 and 2 nothing is promised of records and nodes. */
+uint8_t overlay_c_build(overlay_core_handle *handle, const overlay_core_settings *settings, overlay_core_link *links, size_t links_len);
 
 /* The join of the segments that records describe, with the engine that the code of a width names, as in
    SettingsRecord. Returns as overlay_c_overlay does. After a refusal the list is empty. */

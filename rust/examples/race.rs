@@ -3,7 +3,7 @@
 //!
 //! Usage: race [strategy] [runs], with `list`, `tree`, `frag` or `auto` (the default) and 9 runs. Each run has a new `Overlay`.
 //! Prints the least wall times in milliseconds: `split_ms=` of `split`, and `all_ms=` of `build_all`, which splits, builds the
-//! graph of all segments, and copies its links and nodes out.
+//! graph of all segments, and copies its nodes out.
 
 use i_overlay_core::{FillRule, IntPoint, Overlay, Segment, ShapeType, Solver};
 use std::io::Read;

@@ -98,7 +98,7 @@ extern "C" {
         rule: u8,
     ) -> u8;
     fn overlay_c_split(handle: &mut Handle, given: *const Segment, given_len: usize, settings: &Settings) -> u8;
-    fn overlay_c_all(handle: &mut Handle, given: *const Segment, given_len: usize, settings: &Settings) -> u8;
+    fn overlay_c_build(handle: &mut Handle, settings: &Settings, links: *mut OverlayLink, links_len: usize) -> u8;
     fn overlay_c_join(handle: &mut Handle, given: *const Segment, given_len: usize, width: u8) -> u8;
     fn overlay_c_clip(
         handle: &mut Handle,
@@ -206,10 +206,24 @@ impl Engine {
         unsafe { overlay_c_split(&mut self.handle, given.as_ptr(), given.len(), settings) }
     }
 
-    /// Splits segments and builds the graph of all. Returns a status.
-    pub fn all(&mut self, given: &[Segment], settings: &Settings) -> u8 {
-        // SAFETY: the handle is full. Nothing is required of segments and codes.
-        unsafe { overlay_c_all(&mut self.handle, given.as_ptr(), given.len(), settings) }
+    /// Splits segments and builds the graph of all, whose links are written in place of what the list had: of none where
+    /// it is refused. Returns a status.
+    pub fn all(&mut self, given: &[Segment], settings: &Settings, links: &mut Vec<OverlayLink>) -> u8 {
+        links.clear();
+        let status = self.split(given, settings);
+        if status != 0 {
+            return status;
+        }
+        let len = self.sizes().segments;
+        links.reserve(len);
+        // SAFETY: the handle is full, the split has returned 0 (`arranged`), and there is room for as many links as the engine
+        // reports segments (`length`).
+        let status = unsafe { overlay_c_build(&mut self.handle, settings, links.as_mut_ptr(), len) };
+        if status == 0 {
+            // SAFETY: there is room for them, and each was written.
+            unsafe { links.set_len(len) }
+        }
+        status
     }
 
     /// Joins segments on each pair of ends. Returns a status.

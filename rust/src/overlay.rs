@@ -594,9 +594,12 @@ impl Overlay {
         fill_rule: FillRule,
         solver: Solver,
     ) -> Result<OverlayGraph<'_>, Error> {
-        let status = self.engine.all(segments, &self.settings(solver, fill_rule));
+        let settings = self.settings(solver, fill_rule);
+        let status = self.engine.all(segments, &settings, &mut self.links);
         outcome(status, segments, |segment| fault_of(segment, self.width))?;
-        Ok(self.graph())
+        self.copy_nodes();
+        self.link_data.clear();
+        Ok(self.kept_graph())
     }
 
     /// Splits the segments, with no graph: `segments` is the arrangement then.
@@ -694,6 +697,11 @@ impl Overlay {
     /// Copies the graph of the last run out.
     fn copy_graph(&mut self) {
         self.engine.copy_links(&mut self.links);
+        self.copy_nodes();
+    }
+
+    /// Copies the nodes of the last run out.
+    fn copy_nodes(&mut self) {
         self.engine.copy_nodes(&mut self.starts, &mut self.node_links);
         sum_up(&mut self.starts);
     }

@@ -47,13 +47,13 @@ struct Left {
 }
 
 impl Call {
-    /// Makes the call. Returns its status.
-    fn make(&self, engine: &mut Engine) -> u8 {
+    /// Makes the call, with room for the links that it writes. Returns its status.
+    fn make(&self, engine: &mut Engine, links: &mut Vec<OverlayLink>) -> u8 {
         counted::inside(|| match self {
             Call::Overlay { given, settings, rule, walks } => engine.overlay(given, settings, *rule, *walks),
             Call::OverlayWithData { given, settings, rule } => engine.overlay_with_data(given, settings, *rule),
             Call::Split { given, settings } => engine.split(given, settings),
-            Call::All { given, settings } => engine.all(given, settings),
+            Call::All { given, settings } => engine.all(given, settings, links),
             Call::Join { given, width } => engine.join(given, *width),
             Call::Clip { given, settings, invert, boundary_included } => {
                 engine.clip(given, settings, *invert, *boundary_included)
@@ -92,8 +92,8 @@ impl Call {
         }
     }
 
-    /// What the call has left, by the sizes that the engine reports.
-    fn left(&self, engine: &mut Engine) -> Left {
+    /// What the call has left, by the sizes that the engine reports, and the links that it wrote.
+    fn left(&self, Kept { engine, links, .. }: &mut Kept) -> Left {
         let mut left = Left::default();
         let sizes = engine.sizes();
         match self {
@@ -114,8 +114,14 @@ impl Call {
             }
         }
         if matches!(self, Call::Overlay { .. } | Call::OverlayWithData { .. } | Call::All { .. } | Call::Clip { .. }) {
-            engine.copy_links(&mut left.links);
             engine.copy_nodes(&mut left.nodes.0, &mut left.nodes.1);
+        }
+        match self {
+            Call::All { .. } => left.links.clone_from(links),
+            Call::Overlay { .. } | Call::OverlayWithData { .. } | Call::Clip { .. } => {
+                engine.copy_links(&mut left.links)
+            }
+            _ => {}
         }
         if matches!(self, Call::Split { .. } | Call::Join { .. }) {
             left.has_changed = Some(sizes.has_changed);
@@ -146,6 +152,8 @@ fn are_bad_ends(a: IntPoint, b: IntPoint, engine: u8) -> bool {
 /// An engine, and the contours that it was given.
 struct Kept {
     engine: Engine,
+    /// Room for the links that a call writes.
+    links: Vec<OverlayLink>,
     contours: Vec<(IntContour, u8)>,
     snap_limit: u32,
 }
@@ -153,7 +161,7 @@ struct Kept {
 impl Kept {
     fn new(snap_limit: u32) -> Kept {
         let engine = counted::inside(|| Engine::new(snap_limit)).expect("memory");
-        Kept { engine, contours: Vec::new(), snap_limit }
+        Kept { engine, links: Vec::with_capacity(1 << 16), contours: Vec::new(), snap_limit }
     }
 
     /// Makes a call, first with growths that are refused, and compares what it leaves with what it leaves in another engine.
@@ -163,7 +171,7 @@ impl Kept {
             let added = counted::inside(|| other.engine.add_contour(contour, *shape));
             assert_eq!(added, 0);
         }
-        let wanted = call.make(&mut other.engine);
+        let wanted = call.make(&mut other.engine, &mut other.links);
         let may_overflow = !matches!(call, Call::AddContour { .. } | Call::Clear);
         let is_known = match (call.is_refused(), call) {
             (true, Call::AddContour { .. }) => wanted == 4,
@@ -173,7 +181,7 @@ impl Kept {
         assert!(is_known, "status {wanted} of {call:?}");
         let is_added = refusals.is_some_and(|refusals| self.try_refused(call, refusals, wanted));
         if !is_added {
-            self.make_alone(call, wanted, &mut other.engine);
+            self.make_alone(call, wanted, &mut other);
         }
         other.drop_engine();
         wanted
@@ -181,7 +189,7 @@ impl Kept {
 
     /// Makes a call of which growths are refused. Returns whether it added a contour, since none was.
     fn try_refused(&mut self, call: &Call, refusals: Refusals, wanted: u8) -> bool {
-        let status = counted::refused(refusals, || call.make(&mut self.engine));
+        let status = counted::refused(refusals, || call.make(&mut self.engine, &mut self.links));
         let has_refused = counted::has_refused();
         // a call may do without what it was refused: a tree serves where there is no grid
         assert!(status == wanted || has_refused && status == 1, "status {status}, {refusals:?}: {call:?}");
@@ -193,11 +201,11 @@ impl Kept {
     }
 
     /// Makes a call, and compares what it leaves with what it left in another engine.
-    fn make_alone(&mut self, call: &Call, wanted: u8, other: &mut Engine) {
-        let status = call.make(&mut self.engine);
+    fn make_alone(&mut self, call: &Call, wanted: u8, other: &mut Kept) {
+        let status = call.make(&mut self.engine, &mut self.links);
         assert_eq!(status, wanted, "the same call in an engine that was used before: {call:?}");
         if status == 0 {
-            assert_eq!(call.left(&mut self.engine), call.left(other), "{call:?}");
+            assert_eq!(call.left(self), call.left(other), "{call:?}");
         }
         self.note(call, status);
     }

@@ -4,7 +4,7 @@
 pub mod boundary;
 pub mod builder;
 pub mod clip_filter;
-mod connect_links;
+pub mod connect_links;
 pub mod directed_walks;
 mod fills;
 pub mod filter;
@@ -15,6 +15,7 @@ pub mod laws;
 mod link_ends;
 pub mod link_filter;
 mod listed_nodes;
+pub mod numbered_link;
 pub mod string_graph;
 pub mod util;
 pub mod walks;

@@ -1,3 +1,4 @@
+pub mod Builds
 pub mod Handles
 pub mod LinkData
 pub mod Meetings

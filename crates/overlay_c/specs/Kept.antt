@@ -1,5 +1,5 @@
 -- What an engine keeps of its last result.
-use Rattle.std.specs.Prelude.{◌≡◌, ◌⊎◌, ℕ, ℤ, ◌<◌, ◌^◌, ◌&&◌, Bool, true, List, [], IsTrue, All, map, length}
+use Rattle.std.specs.Prelude.{⊤, ◌≡◌, ◌⊎◌, ℕ, ℤ, ◌<◌, ◌^◌, ◌&&◌, Bool, true, List, [], IsTrue, All, map, length}
 use Rattle.std.specs.List.{list_all}
 use Rattle.overlay_geometry.specs.Points.{Pair}
 use Rattle.overlay_base.specs.EdgeData.{DataSegment, without_data}
@@ -10,11 +10,11 @@ use Rattle.overlay_base.specs.Segments.{WholeSegment}
 use Rattle.overlay_base.specs.SegmentOf.{segments_of}
 use Rattle.overlay_base.specs.declared.overlay_core.clip_rule.ClipRule.{ClipRule}
 use Rattle.overlay_base.specs.declared.overlay_core.overlay_rule.OverlayRule.{OverlayRule}
-use Rattle.overlay_base.specs.declared.segm.fault.Fault.TheVariants.{CountOutOfRange}
+use Rattle.overlay_base.specs.declared.segm.fault.Fault.TheVariants.{Memory, CountOutOfRange}
 use Rattle.overlay_split.specs.DataPass.{data_after_passes}
 use Rattle.overlay_split.specs.Laws.{NameNear}
 use Rattle.overlay_split.specs.Nearness.{LiesNear, reach_of_run}
-use Rattle.overlay_split.specs.Run.{Settings, IsRun, LeavesRange}
+use Rattle.overlay_split.specs.Run.{Settings, IsRun}
 use Rattle.overlay_split.specs.SettingsOf.{passes_of, snap_limit_of}
 use Rattle.overlay_sweep.specs.ChainWindings.{tops_leave_range}
 use Rattle.overlay_build.specs.Graph.{Link, Graph, graph_by, data_by, has_even_nodes}
@@ -23,13 +23,16 @@ use Rattle.overlay_build.specs.Laid.{AreLaid}
 use Rattle.overlay_build.specs.Walks.{AreClosedWalks}
 use Rattle.i_overlay.specs.FarRegions.{EnclosesOverlay}
 use Rattle.i_overlay.specs.Headline.{IsSplit, IsOverlay, IsClip, IsRefused}
-use Rattle.overlay_c.specs.Records.{asks, asked_by, line_asks, line_asked_by, settings_by, fill_rule_of}
+use Rattle.overlay_c.specs.Records.{asks, asked_by, line_asks, line_asked_by, link_by, settings_by, fill_rule_of}
 use Rattle.overlay_c.specs.Tags.{keeping}
 use Rattle.overlay_c.specs.declared.records.LineRecord.{LineRecord}
+use Rattle.overlay_c.specs.declared.records.LinkRecord.{LinkRecord}
 use Rattle.overlay_c.specs.declared.records.SegmentRecord.{SegmentRecord}
 use Rattle.overlay_c.specs.declared.records.SettingsRecord.{SettingsRecord}
 use Rattle.overlay_c.specs.declared.records.SizesRecord.{SizesRecord}
 use Rattle.overlay_c.specs.declared.cores.Core.{Core}
+use Rattle.overlay_c.specs.declared.refusal.Refusal.{Refusal}
+use Rattle.overlay_c.specs.declared.refusal.Refusal.TheVariants.{Refused, NotSplittable, OutOfRange}
 use Rattle.overlay_c.specs.declared.tags.Tag.{Tag}
 
 -- the segments that records describe, and whether each describes one and all may be split
@@ -65,12 +68,12 @@ pub record KeepsSplit {I : Type 0} {w : _} {o : _} {e : _} {p : _} (settings : S
   pub split : IsSplit (engine_settings settings core) given (segments_of core.segments.items) (passes_of core.splitter)
   pub run : IsRun (engine_settings settings core) given (segments_of core.segments.items) (passes_of core.splitter) core.has_changed
 
--- it keeps the arrangement of what was given, and the graph of all of it
-pub record KeepsAll {I : Type 0} {w : _} {o : _} {e : _} {p : _} (settings : SettingsRecord) (given : List WholeSegment) (core : Core I w o e p) : Type 0 where
-  pub split : IsSplit (engine_settings settings core) given (segments_of core.segments.items) (passes_of core.splitter)
+-- the graph of all of its arrangement: the links are those of records, one for each segment, and it keeps the nodes
+pub record BuildsAll {I : Type 0} {w : _} {o : _} {e : _} {p : _} (settings : SettingsRecord) (links : List LinkRecord) (core : Core I w o e p) : Type 0 where
   pub graph : Graph
-  pub links : graph ≡ graph_by (λ _. true) (fill_rule_of settings.fill_rule) (segments_of core.segments.items)
-  pub kept : KeepsGraph core graph
+  pub all : graph ≡ graph_by (λ _. true) (fill_rule_of settings.fill_rule) (segments_of core.segments.items)
+  pub same_links : map link_by links ≡ graph.links
+  pub same_nodes : AreLaid (map (λ n. n.links) graph.nodes) core.degrees.items core.indexes.items
 
 -- it keeps the arrangement of polygons and lines, and the graph of what a clip rule keeps of them
 pub record KeepsClip {I : Type 0} {w : _} {o : _} {e : _} {p : _} (settings : SettingsRecord) (rule : ClipRule) (given : List WholeSegment) (core : Core I w o e p) : Type 0 where
@@ -129,11 +132,12 @@ abbrev pub IsCountOfLinesRefused : {I : Type 0} {w : _} {o : _} {e : _} {p : _} 
 IsCountOfLinesRefused settings given before after =
     IsRefused (engine_settings settings before) given (segments_of after.lines.items) (passes_of before.splitter) (passes_of after.splitter) CountOutOfRange
 
--- the same of the graph of all: a sum of the run is too large, or a top of the arrangement that is kept
-abbrev pub IsCountOfAllRefused : {I : Type 0} {w : _} {o : _} {e : _} {p : _} → SettingsRecord → List WholeSegment → Core I w o e p → Core I w o e p → Type 0
-IsCountOfAllRefused settings given before after =
-    LeavesRange (engine_settings settings before) given
-    ⊎ (IsSplit (engine_settings settings after) given (segments_of after.segments.items) (passes_of after.splitter) × IsTrue (tops_leave_range (segments_of after.segments.items)))
+-- why the graph of all of an arrangement was refused: a growth was, or a winding above a segment leaves the range
+abbrev pub IsBuildRefusal : List WholeSegment → Refusal → Type 0
+IsBuildRefusal segments (Refused Memory) = ⊤
+IsBuildRefusal segments (Refused CountOutOfRange) = IsTrue (tops_leave_range segments)
+IsBuildRefusal segments NotSplittable = ⊥
+IsBuildRefusal segments OutOfRange = ⊥
 
 -- what is left after a refusal: nothing, or what the split leaves
 abbrev pub StandsAfter : {I : Type 0} {w : _} {o : _} {e : _} {p : _} → SettingsRecord → List WholeSegment → Core I w o e p → Type 0

@@ -1,5 +1,5 @@
 -- What the records that cross to C stand for, in whole numbers.
-use Rattle.std.specs.Prelude.{◌≡◌, ◌==◌, ◌<◌, ◌≤◌, ◌+◌, ◌*◌, ◌^◌, ◌⊎◌, ℕ, ℤ, pos, Bool, ◌&&◌, not, if◌then◌else◌}
+use Rattle.std.specs.Prelude.{⊤, ◌≡◌, ◌==◌, ◌<◌, ◌≤◌, ◌+◌, ◌*◌, ◌^◌, ◌⊎◌, ℕ, ℤ, pos, Bool, ◌&&◌, not, if◌then◌else◌}
 use Rattle.std.specs.Ordering.{int_eq}
 use Rattle.overlay_geometry.specs.Points.{Point, point_lt}
 use Rattle.overlay_geometry.specs.Coordinates.{is_point_in_range}
@@ -14,6 +14,7 @@ use Rattle.overlay_base.specs.declared.segm.boolean.ShapeCountBoolean.{ShapeCoun
 use Rattle.overlay_base.specs.Rules.{bits_of}
 use Rattle.overlay_base.specs.declared.overlay_core.fill_rule.FillRule.{FillRule}
 use Rattle.overlay_base.specs.declared.overlay_core.fill_rule.FillRule.TheVariants as fill
+use Rattle.overlay_base.specs.declared.overlay_core.link.OverlayLink.{OverlayLink}
 use Rattle.overlay_base.specs.declared.overlay_core.overlay_rule.OverlayRule.{OverlayRule}
 use Rattle.overlay_base.specs.declared.overlay_core.overlay_rule.OverlayRule.TheVariants as rule
 use Rattle.overlay_base.specs.declared.segm.shape_type.ShapeType.{ShapeType}
@@ -83,6 +84,10 @@ line_told_by r = record { pair = record { a = line_start_of r; b = line_end_of r
 -- the link of it
 abbrev pub link_by : LinkRecord → Link
 link_by r = record { pair = record { a = record { x = r.ax; y = r.ay }; b = record { x = r.bx; y = r.by } }; fill = r.fill; a_node = r.a_node; b_node = r.b_node }
+
+-- the same, whose ends lie at whole numbers
+abbrev pub held_link : LinkRecord → OverlayLink ℤ ⊤
+held_link r = record { a = record { id = r.a_node; point = record { x = r.ax; y = r.ay } }; b = record { id = r.b_node; point = record { x = r.bx; y = r.by } }; fill = r.fill; edge_data = tt }
 
 -- the fill rule of a code
 abbrev pub fill_rule_of : ℕ → FillRule

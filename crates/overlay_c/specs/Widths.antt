@@ -1,15 +1,18 @@
 -- Which engine a call takes, and what its core keeps.
-use Rattle.std.specs.Prelude.{◌≡◌, ℕ, ℤ, negsuc, pos, Bool, true, false, List, length}
+use Rattle.std.specs.Prelude.{◌≡◌, ℕ, ℤ, negsuc, pos, Bool, true, false, IsTrue, List, length}
 use Rattle.overlay_geometry.specs.Coordinates.{least_coordinate, greatest_coordinate}
 use Rattle.overlay_base.specs.EdgeData.{DataSegment}
+use Rattle.overlay_base.specs.Planar.{is_arranged}
 use Rattle.overlay_base.specs.Segments.{WholeSegment}
 use Rattle.overlay_base.specs.SegmentOf.{segments_of}
 use Rattle.overlay_base.specs.declared.overlay_core.clip_rule.ClipRule.{ClipRule}
 use Rattle.overlay_base.specs.declared.overlay_core.overlay_rule.OverlayRule.{OverlayRule}
 use Rattle.overlay_split.specs.Run.{LeavesRange}
 use Rattle.overlay_split.specs.SettingsOf.{snap_limit_of}
+use Rattle.overlay_sweep.specs.ChainWindings.{tops_leave_range}
 use Rattle.overlay_build.specs.Graph.{Link}
-use Rattle.overlay_c.specs.Kept.{engine_settings, kept_links, TellsSizes, KeepsSplit, KeepsAll, KeepsOverlay, KeepsData, KeepsClip, StandsAfter, LinesStandAfter, IsCountRefused, IsCountOfAllRefused, IsCountOfLinesRefused}
+use Rattle.overlay_c.specs.Kept.{engine_settings, kept_links, TellsSizes, KeepsSplit, BuildsAll, KeepsOverlay, KeepsData, KeepsClip, StandsAfter, LinesStandAfter, IsCountRefused, IsCountOfLinesRefused}
+use Rattle.overlay_c.specs.declared.records.LinkRecord.{LinkRecord}
 use Rattle.overlay_c.specs.declared.records.SettingsRecord.{SettingsRecord}
 use Rattle.overlay_c.specs.declared.records.SizesRecord.{SizesRecord}
 use Rattle.overlay_c.specs.declared.engine.Engine.{Engine}
@@ -35,9 +38,6 @@ greatest_of narrow = pick narrow (pos 16383) greatest_coordinate
 abbrev pub LastKeepsSplit : SettingsRecord → List WholeSegment → Engine → Type 0
 LastKeepsSplit settings given engine = Pick engine.is_narrow (KeepsSplit settings given engine.narrow) (KeepsSplit settings given engine.wide)
 
-abbrev pub LastKeepsAll : SettingsRecord → List WholeSegment → Engine → Type 0
-LastKeepsAll settings given engine = Pick engine.is_narrow (KeepsAll settings given engine.narrow) (KeepsAll settings given engine.wide)
-
 abbrev pub LastKeepsOverlay : SettingsRecord → OverlayRule → Bool → List WholeSegment → Engine → Type 0
 LastKeepsOverlay settings rule walks given engine = Pick engine.is_narrow (KeepsOverlay settings rule walks given engine.narrow) (KeepsOverlay settings rule walks given engine.wide)
 
@@ -56,9 +56,6 @@ LastLinesStandAfter settings given engine = Pick engine.is_narrow (LinesStandAft
 -- a count that was refused in that call
 abbrev pub LastIsCountRefused : SettingsRecord → List WholeSegment → Engine → Engine → Type 0
 LastIsCountRefused settings given before after = Pick after.is_narrow (IsCountRefused settings given before.narrow after.narrow) (IsCountRefused settings given before.wide after.wide)
-
-abbrev pub LastIsCountOfAllRefused : SettingsRecord → List WholeSegment → Engine → Engine → Type 0
-LastIsCountOfAllRefused settings given before after = Pick after.is_narrow (IsCountOfAllRefused settings given before.narrow after.narrow) (IsCountOfAllRefused settings given before.wide after.wide)
 
 abbrev pub LastIsCountOfLinesRefused : SettingsRecord → List WholeSegment → Engine → Engine → Type 0
 LastIsCountOfLinesRefused settings given before after = Pick after.is_narrow (IsCountOfLinesRefused settings given before.narrow after.narrow) (IsCountOfLinesRefused settings given before.wide after.wide)
@@ -110,3 +107,20 @@ walk_links_in engine = pick engine.is_narrow (engine.narrow.walk_links.items) (e
 
 abbrev pub has_changed_in : Engine → Bool
 has_changed_in engine = pick engine.is_narrow (engine.narrow.has_changed) (engine.wide.has_changed)
+
+-- what is copied out as an arrangement is one
+abbrev pub IsLastArranged : Engine → Type 0
+IsLastArranged engine = IsTrue (is_arranged (least_of engine.is_narrow) (greatest_of engine.is_narrow) (segments_in engine))
+
+-- the graph of all of it: its links are in records, and the core keeps its nodes
+abbrev pub LastBuildsAll : SettingsRecord → List LinkRecord → Engine → Type 0
+LastBuildsAll settings links engine = Pick engine.is_narrow (BuildsAll settings links engine.narrow) (BuildsAll settings links engine.wide)
+
+-- a winding above one of its segments leaves the range
+abbrev pub LastTopsLeaveRange : Engine → Type 0
+LastTopsLeaveRange engine = IsTrue (tops_leave_range (segments_in engine))
+
+-- the arrangement that is copied out stays, and so does the choice of the core
+pub record SameSegments (before after : Engine) : Type 0 where
+  pub chosen : after.is_narrow ≡ before.is_narrow
+  pub segments : segments_in after ≡ segments_in before

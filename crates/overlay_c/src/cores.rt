@@ -14,8 +14,8 @@ ghost use Rattle.overlay_c.specs.declared.refusal.Refusal.TheVariants.{Refused, 
 
 use crate::lines::{self, Line};
 use crate::records::{
-    BooleanSegment, LineRecord, SegmentRecord, SettingsRecord, SizesRecord, asked, fill_rule,
-    solver,
+    BooleanSegment, LineRecord, LinkRecord, SegmentRecord, SettingsRecord, SizesRecord, asked,
+    fill_rule, solver, write_filled,
 };
 use crate::refusal::Refusal;
 use crate::tags::{self, Tag, TaggedRecord, TaggedSegment, keep_tags, keep_untagged};
@@ -28,8 +28,10 @@ use overlay_base::overlay_core::overlay_rule::OverlayRule;
 use overlay_base::segm::arranged::is_splittable;
 use overlay_base::segm::boolean::ShapeCountBoolean;
 use overlay_base::segm::join::join_with_store;
+use overlay_base::segm::segment_fill::SegmentFill;
 use overlay_base::segm::string::ShapeCountString;
 use overlay_build::build::builder::GraphBuilder;
+use overlay_build::build::connect_links::connect_links;
 use overlay_build::build::graph_node::OverlayNode;
 use overlay_build::build::walks::closed_walks;
 use overlay_split::split::solver::SplitSolver;
@@ -50,7 +52,9 @@ pub struct Core<I: Width> {
     pub tagged: Vec<TaggedSegment<I>>,
     /// Whether the last split joined equal segments or split one, or the last join joined some.
     pub has_changed: bool,
-    /// The links of the graph.
+    /// The fills of the arrangement, while the graph of all is built.
+    pub fills: Vec<SegmentFill>,
+    /// The links of the graph, but of the graph of all, whose links a caller has.
     pub links: Vec<OverlayLink<I, ()>>,
     /// The data of the links, where segments were given with data.
     pub link_data: Vec<Tag>,
@@ -73,7 +77,7 @@ impl<I: Width> Core<I> {
     ghost use Rattle.overlay_split.specs.Run.{LeavesRange};
     ghost use Rattle.overlay_split.specs.SettingsOf.{snap_limit_of};
     ghost use Rattle.overlay_c.specs.Tags.{untagged, tagged_by};
-    ghost use Rattle.overlay_c.specs.Kept.{engine_settings, TellsSizes, KeepsData, KeepsSplit, KeepsAll, KeepsOverlay, KeepsClip, IsCountRefused, IsCountOfAllRefused, IsCountOfLinesRefused, StandsAfter, LinesStandAfter};
+    ghost use Rattle.overlay_c.specs.Kept.{engine_settings, TellsSizes, KeepsData, KeepsSplit, BuildsAll, KeepsOverlay, KeepsClip, IsCountRefused, IsBuildRefusal, IsCountOfLinesRefused, StandsAfter, LinesStandAfter};
 
     /// A core, which takes no memory yet.
     pub fn new(alloc: Global, snap_limit: u32) -> Core<I>
@@ -88,6 +92,7 @@ impl<I: Width> Core<I> {
             lines: Vec::new(alloc),
             tagged: Vec::new(alloc),
             has_changed: false,
+            fills: Vec::new(alloc),
             links: Vec::new(alloc),
             link_data: Vec::new(alloc),
             degrees: Vec::new(alloc),
@@ -197,24 +202,32 @@ impl<I: Width> Core<I> {
         Ok(())
     }
 
-    /// Splits the segments that records describe, and keeps the arrangement and the graph of all of
-    /// it.
-    pub fn all(&mut self, given: &[SegmentRecord], settings: &SettingsRecord) -> Result<(), Refusal>
-        ensures kept { OnOk result (KeepsAll settings.now (given_by given.now) self.new) }
-        ensures usable { OnOk result (IsTrue (are_usable (I.whole I.MIN_COORD) (I.whole I.MAX_COORD) given.now)) }
-        ensures unusable { OnUnusable result (IsFalse (are_usable (I.whole I.MIN_COORD) (I.whole I.MAX_COORD) given.now)) }
-        ensures too_large { OnTooLarge result (IsCountOfAllRefused settings.now (given_by given.now) self.old self.new) }
-        ensures stands { OnErr result (StandsAfter settings.now (given_by given.now) self.new) }
-        ensures limit { snap_limit_of self.new.splitter ≡ snap_limit_of self.old.splitter }
+    /// Builds the graph of all of the arrangement that it keeps. Each link is written once, into the records, one for
+    /// each segment in their order. It keeps the nodes, and no links then.
+    ///
+    /// The arrangement stays. After a refusal nothing is promised of records and nodes.
+    pub fn build(
+        &mut self,
+        alloc: Global,
+        settings: &SettingsRecord,
+        links: &mut [LinkRecord],
+    ) -> Result<(), Refusal>
+        requires arranged { IsArranged self.old.segments.items }
+        requires length { length links.old ≡ length self.old.segments.items }
+        ensures built { OnOk result (BuildsAll settings.now links.new self.new) }
+        ensures refused { IfErr result (IsBuildRefusal (segments_of self.old.segments.items)) }
+        ensures no_links { self.new.links.items ≡ [] }
+        ensures segments { self.new.segments ≡ self.old.segments }
+        ensures splitter { self.new.splitter ≡ self.old.splitter }
+        ensures has_changed { self.new.has_changed ≡ self.old.has_changed }
     {
-        self.split(given, settings)?;
+        self.links.clear();
         let solver = solver(settings);
         let fill_rule = fill_rule(settings.fill_rule);
-        let segments = self.segments.as_slice();
-        let links = &mut self.links;
-        let (degrees, indexes) = (&mut self.degrees, &mut self.indexes);
-        let builder = &mut self.builder;
-        builder.build_boolean_lists(fill_rule, &solver, segments, links, degrees, indexes)?;
+        let (segments, builder) = (self.segments.as_slice(), &mut self.builder);
+        builder.build_boolean_fills(fill_rule, &solver, segments, &mut self.fills)?;
+        write_filled(segments, &self.fills, links);
+        connect_links(alloc, links, &mut self.degrees, &mut self.indexes)?;
         Ok(())
     }
 

@@ -49,10 +49,10 @@ pub struct Engine {
 impl Engine {
     ghost use Rattle.overlay_split.specs.SettingsOf.{snap_limit_of};
     ghost use Rattle.overlay_base.specs.Join.{join, join_leaves_range, has_equal_pairs};
-    ghost use Rattle.overlay_c.specs.Kept.{given_by, are_usable, are_lines_usable};
+    ghost use Rattle.overlay_c.specs.Kept.{given_by, IsBuildRefusal, are_usable, are_lines_usable};
     ghost use Rattle.overlay_c.specs.Records.{line_asked_by, told_by, line_told_by, link_by, names_narrow, number_by};
     ghost use Rattle.overlay_c.specs.Tags.{untagged, tagged_by};
-    ghost use Rattle.overlay_c.specs.Widths.{least_of, greatest_of, LastKeepsSplit, LastKeepsAll, LastKeepsOverlay, LastKeepsData, LastKeepsClip, LastStandsAfter, LastLinesStandAfter, LastIsCountRefused, LastIsCountOfAllRefused, LastIsCountOfLinesRefused, LastLeavesRange, SameLimits, LastTellsSizes, segment_count, line_count, link_count, segments_in, lines_in, has_changed_in, links_in, link_data_in, degrees_in, indexes_in, walk_lengths_in, walk_links_in};
+    ghost use Rattle.overlay_c.specs.Widths.{least_of, greatest_of, LastKeepsSplit, IsLastArranged, LastBuildsAll, SameSegments, LastKeepsOverlay, LastKeepsData, LastKeepsClip, LastStandsAfter, LastLinesStandAfter, LastIsCountRefused, LastIsCountOfLinesRefused, LastLeavesRange, SameLimits, LastTellsSizes, segment_count, line_count, link_count, segments_in, lines_in, has_changed_in, links_in, link_data_in, degrees_in, indexes_in, walk_lengths_in, walk_links_in};
     ghost use Rattle.overlay_base.specs.declared.segm.shape_type.ShapeType.TheVariants.{Subject, Clip};
     ghost use Rattle.overlay_contours.specs.Kept.{passes_of, reach_of};
     ghost use Rattle.overlay_contours.specs.Refusals.{other_shape};
@@ -144,6 +144,7 @@ impl Engine {
     ) -> Result<(), Refusal>
         ensures chosen { self.new.is_narrow ≡ names_narrow settings.now.engine }
         ensures kept { OnOk result (LastKeepsSplit settings.now (given_by given.now) self.new) }
+        ensures arranged { OnOk result (IsLastArranged self.new) }
         ensures usable { OnOk result (MaySplit given.now self.new) }
         ensures unusable { OnUnusable result (MayNotSplit given.now self.new) }
         ensures too_large { OnTooLarge result (LastLeavesRange settings.now (given_by given.now) self.old self.new) }
@@ -160,23 +161,26 @@ impl Engine {
         }
     }
 
-    /// `Core::all` of that engine.
-    pub fn all(&mut self, given: &[SegmentRecord], settings: &SettingsRecord) -> Result<(), Refusal>
-        ensures chosen { self.new.is_narrow ≡ names_narrow settings.now.engine }
-        ensures kept { OnOk result (LastKeepsAll settings.now (given_by given.now) self.new) }
-        ensures usable { OnOk result (MaySplit given.now self.new) }
-        ensures unusable { OnUnusable result (MayNotSplit given.now self.new) }
-        ensures too_large { OnTooLarge result (LastIsCountOfAllRefused settings.now (given_by given.now) self.old self.new) }
-        ensures stands { OnErr result (LastStandsAfter settings.now (given_by given.now) self.new) }
+    /// `Core::build` of the engine of the last call that was given segments, whatever the settings name.
+    pub fn build(
+        &mut self,
+        alloc: Global,
+        settings: &SettingsRecord,
+        links: &mut [LinkRecord],
+    ) -> Result<(), Refusal>
+        requires arranged { IsLastArranged self.old }
+        requires length { length links.old ≡ segment_count self.old }
+        ensures built { OnOk result (LastBuildsAll settings.now links.new self.new) }
+        ensures refused { IfErr result (IsBuildRefusal (segments_in self.old)) }
+        ensures no_links { links_in self.new ≡ [] }
+        ensures segments { SameSegments self.old self.new }
         ensures limit { SameLimits self.old self.new }
         ensures contours { self.new.polygons ≡ self.old.polygons }
     {
-        if is_narrow(settings.engine) {
-            self.is_narrow = true;
-            self.narrow.all(given, settings)
+        if self.is_narrow {
+            self.narrow.build(alloc, settings, links)
         } else {
-            self.is_narrow = false;
-            self.wide.all(given, settings)
+            self.wide.build(alloc, settings, links)
         }
     }
 

@@ -12,7 +12,7 @@ ghost use Rattle.overlay_geometry.specs.Coordinates.{least_coordinate, greatest_
 ghost use Rattle.overlay_intersections.specs.CrossAnswer.{cross_answer};
 ghost use Rattle.overlay_intersections.specs.Marks.{snapping};
 ghost use Rattle.overlay_c.specs.Kept.{given_by};
-ghost use Rattle.overlay_c.specs.Widths.{LastKeepsSplit, LastKeepsAll, LastStandsAfter, LastLinesStandAfter, LastIsCountRefused, LastIsCountOfAllRefused, LastIsCountOfLinesRefused, LastLeavesRange, LastTellsSizes, SameLimits, segment_count, line_count, link_count, segments_in, lines_in, has_changed_in, links_in, link_data_in, degrees_in, indexes_in, walk_lengths_in, walk_links_in};
+ghost use Rattle.overlay_c.specs.Widths.{LastKeepsSplit, IsLastArranged, LastBuildsAll, LastTopsLeaveRange, SameSegments, LastStandsAfter, LastLinesStandAfter, LastIsCountRefused, LastIsCountOfLinesRefused, LastLeavesRange, LastTellsSizes, SameLimits, segment_count, line_count, link_count, segments_in, lines_in, has_changed_in, links_in, link_data_in, degrees_in, indexes_in, walk_lengths_in, walk_links_in};
 ghost use Rattle.overlay_c.specs.Tags.{untagged, tagged_by};
 ghost use Rattle.overlay_base.specs.declared.segm.shape_type.ShapeType.TheVariants.{Subject, Clip};
 ghost use Rattle.overlay_contours.specs.Kept.{passes_of, reach_of};
@@ -143,6 +143,7 @@ pub extern "C" fn overlay_c_split(
     ensures full { IsSome handle.new.engine }
     ensures chosen { Leaves handle.new (Chooses settings.now.engine) }
     ensures done { result ≡ 0 → Leaves handle.new (LastKeepsSplit settings.now (given_by given.now)) }
+    ensures arranged { result ≡ 0 → Leaves handle.new IsLastArranged }
     ensures usable { result ≡ 0 → Leaves handle.new (MaySplit given.now) }
     ensures unusable { result ≡ 3 → Leaves handle.new (MayNotSplit given.now) }
     ensures too_large { result ≡ 2 → Turns handle.old handle.new (LastLeavesRange settings.now (given_by given.now)) }
@@ -156,28 +157,33 @@ pub extern "C" fn overlay_c_split(
     status(outcome)
 }
 
-/// The graph of all of the arrangement of the segments that records describe. Returns as
-/// `overlay_c_overlay` does.
+/// The graph of all of the arrangement that `overlay_c_split` left where it returned 0: a link for each segment, in their
+/// order. The links are written to records, as many as the segments of `overlay_c_sizes`; the engine keeps the nodes, which
+/// `overlay_c_nodes` copies out, and no links. Of the settings it takes the strategy and the fill rule.
+///
+/// Returns 0 where it is done, 1 where memory was refused, and 2 where a winding above a segment leaves the range. The
+/// arrangement stays. After 1 and 2 nothing is promised of records and nodes.
 #[unsafe(no_mangle)]
-pub extern "C" fn overlay_c_all(
+pub extern "C" fn overlay_c_build(
     alloc: Global,
     handle: &mut Handle,
-    given: &[SegmentRecord],
     settings: &SettingsRecord,
+    links: &mut [LinkRecord],
 ) -> u8
-    requires { IsSome handle.old.engine }
+    requires engine { IsSome handle.old.engine }
+    requires arranged { IfSome handle.old.engine IsLastArranged }
+    requires length { IfSome handle.old.engine (λ engine. length links.old ≡ segment_count engine) }
     ensures full { IsSome handle.new.engine }
-    ensures chosen { Leaves handle.new (Chooses settings.now.engine) }
-    ensures done { result ≡ 0 → Leaves handle.new (LastKeepsAll settings.now (given_by given.now)) }
-    ensures usable { result ≡ 0 → Leaves handle.new (MaySplit given.now) }
-    ensures unusable { result ≡ 3 → Leaves handle.new (MayNotSplit given.now) }
-    ensures too_large { result ≡ 2 → Turns handle.old handle.new (LastIsCountOfAllRefused settings.now (given_by given.now)) }
-    ensures stands { result ≢ 0 → Leaves handle.new (LastStandsAfter settings.now (given_by given.now)) }
+    ensures done { result ≡ 0 → Leaves handle.new (LastBuildsAll settings.now links.new) }
+    ensures too_large { result ≡ 2 → IfSome handle.old.engine LastTopsLeaveRange }
+    ensures codes { result < 3 }
+    ensures no_links { IfSome handle.new.engine (λ engine. links_in engine ≡ []) }
+    ensures segments { Turns handle.old handle.new SameSegments }
     ensures limit { Turns handle.old handle.new SameLimits }
     ensures contours { Turns handle.old handle.new SameContours }
 {
     let mut engine = take(alloc, handle);
-    let outcome = engine.all(given, settings);
+    let outcome = engine.build(alloc, settings, links);
     put(handle, engine);
     status(outcome)
 }

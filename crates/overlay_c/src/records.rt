@@ -5,9 +5,10 @@ ghost use Rattle.std.specs.Ordering.{int_eq};
 ghost use Rattle.overlay_geometry.specs.PointOf.{point_of};
 ghost use Rattle.overlay_geometry.specs.Coordinates.{is_point_in_range};
 ghost use Rattle.overlay_base.specs.BooleanWinding.{boolean_winding};
+ghost use Rattle.overlay_base.specs.Segments.{pairs};
 ghost use Rattle.overlay_base.specs.SegmentOf.{segment_of, segments_of, data_segment_of};
 ghost use Rattle.overlay_build.specs.GraphOf.{link_of};
-ghost use Rattle.overlay_c.specs.Records.{start_of, end_of, count_of, asks, asked_by, asked_piece, told_by, link_by, fill_rule_of, rounding_of, shape_of, number_by, IsRuleOf};
+ghost use Rattle.overlay_c.specs.Records.{start_of, end_of, count_of, asks, asked_by, asked_piece, told_by, link_by, held_link, fill_rule_of, rounding_of, shape_of, number_by, IsRuleOf};
 
 use crate::width::Width;
 use overlay_base::overlay_core::edge_data::OverlayEdgeData;
@@ -18,8 +19,10 @@ use overlay_base::overlay_core::rule_table::RuleTable;
 use overlay_base::overlay_core::solver::{Precision, Solver, Strategy};
 use overlay_base::segm::boolean::ShapeCountBoolean;
 use overlay_base::segm::segment::Segment;
+use overlay_base::segm::segment_fill::SegmentFill;
 use overlay_base::segm::shape_type::ShapeType;
 use overlay_base::segm::winding::WindingCount;
+use overlay_build::build::numbered_link::NumberedLink;
 use overlay_contours::rounding::Rounding;
 use overlay_geometry::geom::point::IntPoint;
 use std::alloc::{AllocError, Global};
@@ -68,6 +71,36 @@ pub struct LinkRecord {
     pub bx: i32,
     pub by: i32,
     pub fill: u8,
+}
+
+impl NumberedLink for LinkRecord {
+    type Coordinate = i32;
+
+    type Data = ();
+
+    ghost link = { held_link };
+
+    fn start(&self) -> IntPoint<i32> {
+        IntPoint {
+            x: self.ax,
+            y: self.ay,
+        }
+    }
+
+    fn end(&self) -> IntPoint<i32> {
+        IntPoint {
+            x: self.bx,
+            y: self.by,
+        }
+    }
+
+    fn number_start(&mut self, id: usize) {
+        self.a_node = id;
+    }
+
+    fn number_end(&mut self, id: usize) {
+        self.b_node = id;
+    }
 }
 
 /// What a call is set to.
@@ -205,6 +238,39 @@ pub fn write_links<I: Width>(links: &[OverlayLink<I, ()>], out: &mut [LinkRecord
 {
     for (index, each) in links.iter().enumerate() {
         out[index] = link(each);
+    }
+}
+
+/// Writes the record of a link for each segment, with its fill. The ends have no numbers of nodes yet.
+pub fn write_filled<I: Width>(
+    segments: &[BooleanSegment<I>],
+    fills: &[SegmentFill],
+    out: &mut [LinkRecord],
+)
+    requires fills { length fills.now ≡ length segments.now }
+    requires length { length out.old ≡ length segments.now }
+    ensures pairs { map (λ r. (link_by r).pair) out.new ≡ pairs (segments_of segments.now) }
+    ensures fills { map (λ r. r.fill) out.new ≡ fills.now }
+{
+    for (index, segment) in segments.iter().enumerate() {
+        out[index] = filled(segment, fills[index]);
+    }
+}
+
+/// The record of a link with this fill for a segment. Its ends have no numbers of nodes yet.
+fn filled<I: Width>(segment: &BooleanSegment<I>, fill: SegmentFill) -> LinkRecord
+    ensures pair { (link_by result).pair ≡ (segment_of segment.now).pair }
+    ensures fill { result.fill ≡ fill }
+{
+    let ends = segment.x_segment();
+    LinkRecord {
+        a_node: 0,
+        ax: ends.a.x.number(),
+        ay: ends.a.y.number(),
+        b_node: 0,
+        bx: ends.b.x.number(),
+        by: ends.b.y.number(),
+        fill,
     }
 }
 

@@ -8,6 +8,7 @@ pub mod GraphExact
 pub mod GraphValid
 pub mod PackedEnds
 pub mod NodeLists
+pub mod LinkViews
 pub mod StoredFills
 pub mod KeptLinks
 pub mod NodeSteps

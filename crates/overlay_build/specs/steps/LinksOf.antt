@@ -1,6 +1,5 @@
 -- What the steps of a build make of links of code.
-use Rattle.std.specs.Prelude.{◌≡◌, ◌≢◌, ◌⊎◌, ℕ, ◌-◌, ◌<◌, ◌≤◌, ℤ, false, IsTrue, if◌then◌else◌, List, Vec, map, filter, take, drop, length, slice_index_or}
-use Rattle.std.specs.Global.{Global}
+use Rattle.std.specs.Prelude.{◌≡◌, ◌≢◌, ◌⊎◌, ℕ, ◌-◌, ◌<◌, ◌≤◌, ℤ, false, IsTrue, if◌then◌else◌, List, map, filter, take, drop, length, slice_index_or}
 use Rattle.std.specs.List.{list_all}
 use Rattle.overlay_geometry.specs.Coordinates.{is_pair_in_range}
 use Rattle.overlay_geometry.specs.Points.{Point, point_cmp, point_lt}
@@ -10,7 +9,7 @@ use Rattle.overlay_base.specs.declared.overlay_core.fill_rule.FillRule.{FillRule
 use Rattle.overlay_base.specs.declared.overlay_core.link.OverlayLink.{OverlayLink}
 use Rattle.overlay_base.specs.declared.segm.segment.Segment.{Segment}
 use Rattle.overlay_build.specs.Graph.{filled, fills_of, data_by}
-use Rattle.overlay_build.specs.GraphOf.{HoldLists, graph_with, kept_of, pairs_of_links, names_node, with_node}
+use Rattle.overlay_build.specs.GraphOf.{kept_of, pairs_of_links, names_node, with_node}
 use Rattle.overlay_build.specs.declared.build.kept_links.LinkRule.{LinkRule}
 use Rattle.overlay_build.specs.steps.EndOf.{WholeEnd}
 use Rattle.overlay_build.specs.steps.LinkEnds.{numbered_starts}
@@ -29,10 +28,6 @@ HaveKeptData rule list fills links =
     (fill_rule : FillRule) → fills ≡ fills_of fill_rule (segments_of list) → map (λ l. l.edge_data) links ≡ data_by (keeps_by rule) fill_rule (data_segments_of list)
 
 -- ---- nodes
-
--- The links with the lists of their nodes are the graph of the links before.
-abbrev pub ConnectLinks : {I D : Type 0} → (I → ℤ) → Vec (OverlayLink I D) Global → Vec (OverlayLink I D) Global → Vec ℕ Global → Vec ℕ Global → Type 0
-ConnectLinks whole old new degrees indexes = HoldLists whole new.items degrees.items indexes.items (graph_with whole old.items)
 
 -- the ends of links are in range
 abbrev pub AreEndsInRange : {I D : Type 0} → (I → ℤ) → I → I → List (OverlayLink I D) → Type 0

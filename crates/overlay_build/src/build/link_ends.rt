@@ -1,5 +1,5 @@
 // The ends of links in order of their points. Upstream: part of `build::graph`, which sorts them by their points.
-ghost use Rattle.std.specs.Prelude.{◌≡◌, ◌++◌, ◌<◌, ◌≤◌, length, OnOk, IfOk, IfErr, IfSome, IfNone, IsTrue, All, if◌then◌else◌, pos, ◌+ℤ◌};
+ghost use Rattle.std.specs.Prelude.{◌≡◌, ◌++◌, ◌<◌, ◌≤◌, length, map, OnOk, IfOk, IfErr, IfSome, IfNone, IsTrue, All, if◌then◌else◌, pos, ◌+ℤ◌};
 ghost use Rattle.overlay_geometry.specs.Coordinates.{is_coordinate};
 ghost use Rattle.overlay_geometry.specs.InRange.{IsPointInRange};
 ghost use Rattle.overlay_geometry.specs.PointOf.{point_of};
@@ -9,7 +9,7 @@ ghost use Rattle.overlay_build.specs.GraphOf.{pairs_of_links};
 ghost use Rattle.overlay_build.specs.steps.LinkEnds.{numbered_ends};
 ghost use Rattle.overlay_build.specs.steps.LinksOf.{starts_of, by_point, AreEndsInRange, IsNextPoint, IsRunAt, indexes_between, NumbersEnds};
 
-use overlay_base::overlay_core::link::OverlayLink;
+use crate::build::numbered_link::NumberedLink;
 use overlay_base::segm::fault::Fault;
 use overlay_geometry::geom::point::IntPoint;
 use overlay_geometry::num::OverlayInt;
@@ -44,18 +44,15 @@ fn from_least<I: OverlayInt>(coordinate: I) -> u64
 }
 
 /// Collects the second ends of all links, each with its link's index.
-pub fn collect_ends<I: OverlayInt, D: Copy>(
-    links: &[OverlayLink<I, D>],
-    ends: &mut Vec<PackedEnd>,
-) -> Result<(), Fault>
-    requires { AreEndsInRange I.whole I.MIN_COORD I.MAX_COORD links.now }
-    ensures ends { OnOk result (ends_of ends.new.items ≡ numbered_ends (pairs_of_links I.whole links.now)) }
+pub fn collect_ends<L: NumberedLink>(links: &[L], ends: &mut Vec<PackedEnd>) -> Result<(), Fault>
+    requires { AreEndsInRange L.Coordinate.whole L.Coordinate.MIN_COORD L.Coordinate.MAX_COORD (map L.link links.now) }
+    ensures ends { OnOk result (ends_of ends.new.items ≡ numbered_ends (pairs_of_links L.Coordinate.whole (map L.link links.now))) }
     ensures fault { IfErr result (λ fault. fault ≡ Memory) }
 {
     ends.clear();
     ends.reserve(links.len())?;
     for (index, link) in links.iter().enumerate() {
-        let key = packed(link.b.point);
+        let key = packed(link.end());
         ends.push(PackedEnd { index, key })?;
     }
     Ok(())
@@ -72,46 +69,46 @@ pub fn sort_by_point(ends: &mut Vec<PackedEnd>) -> Result<(), Fault>
 
 /// The point of the next node, as one number: the lesser of the first end of the link at one place and of the second
 /// end at another, of those that there are.
-pub fn next_point<I: OverlayInt, D: Copy>(
-    links: &[OverlayLink<I, D>],
+pub fn next_point<L: NumberedLink>(
+    links: &[L],
     ends: &[PackedEnd],
     start: usize,
     end: usize,
 ) -> Option<u64>
-    requires { AreEndsInRange I.whole I.MIN_COORD I.MAX_COORD links.now }
-    ensures point { IfSome result (λ key. IsNextPoint (starts_of I.whole links.now) (ends_of ends.now) start end
+    requires { AreEndsInRange L.Coordinate.whole L.Coordinate.MIN_COORD L.Coordinate.MAX_COORD (map L.link links.now) }
+    ensures point { IfSome result (λ key. IsNextPoint (starts_of L.Coordinate.whole (map L.link links.now)) (ends_of ends.now) start end
         (unpacked key)) }
     ensures none { IfNone result ((length links.now ≤ start) × (length ends.now ≤ end)) }
 {
     if end < ends.len() {
         let second = ends[end].key;
         if start < links.len() {
-            return Some(second.min(packed(links[start].a.point)));
+            return Some(second.min(packed(links[start].start())));
         }
         return Some(second);
     }
     if start < links.len() {
-        return Some(packed(links[start].a.point));
+        return Some(packed(links[start].start()));
     }
     None
 }
 
 /// Appends the indexes of the links that start at a point, from a place on. Returns the place after them.
-pub fn push_starts<I: OverlayInt, D: Copy>(
-    links: &[OverlayLink<I, D>],
+pub fn push_starts<L: NumberedLink>(
+    links: &[L],
     start: usize,
     key: u64,
     indices: &mut Vec<usize>,
 ) -> Result<usize, Fault>
     requires start { start ≤ length links.now }
-    requires in_range { AreEndsInRange I.whole I.MIN_COORD I.MAX_COORD links.now }
-    ensures run { IfOk result (λ next. IsRunAt (starts_of I.whole links.now) (unpacked key) start next) }
+    requires in_range { AreEndsInRange L.Coordinate.whole L.Coordinate.MIN_COORD L.Coordinate.MAX_COORD (map L.link links.now) }
+    ensures run { IfOk result (λ next. IsRunAt (starts_of L.Coordinate.whole (map L.link links.now)) (unpacked key) start next) }
     ensures indices { IfOk result (λ next. indices.new.items ≡ indices.old.items
-        ++ indexes_between (starts_of I.whole links.now) start next) }
+        ++ indexes_between (starts_of L.Coordinate.whole (map L.link links.now)) start next) }
     ensures fault { IfErr result (λ fault. fault ≡ Memory) }
 {
     let mut next = start;
-    while next < links.len() && packed(links[next].a.point) == key {
+    while next < links.len() && packed(links[next].start()) == key {
         indices.push(next)?;
         next += 1;
     }
@@ -141,23 +138,18 @@ pub fn push_ends(
 
 /// Gives the links at these indexes the number of the node at a point: each link at its start, where that lies there,
 /// or else at its end.
-pub fn number_ends<I: OverlayInt, D: Copy>(
-    links: &mut [OverlayLink<I, D>],
-    indices: &[usize],
-    key: u64,
-    id: usize,
-)
+pub fn number_ends<L: NumberedLink>(links: &mut [L], indices: &[usize], key: u64, id: usize)
     requires within { All (λ k. k < length links.old) indices.now }
-    requires in_range { AreEndsInRange I.whole I.MIN_COORD I.MAX_COORD links.old }
+    requires in_range { AreEndsInRange L.Coordinate.whole L.Coordinate.MIN_COORD L.Coordinate.MAX_COORD (map L.link links.old) }
     ensures length { length links.new ≡ length links.old }
-    ensures links { NumbersEnds I.whole indices.now (unpacked key) id links.old links.new }
+    ensures links { NumbersEnds L.Coordinate.whole indices.now (unpacked key) id (map L.link links.old) (map L.link links.new) }
 {
     for index in indices {
         let link = &mut links[*index];
-        if packed(link.a.point) == key {
-            link.a.id = id;
+        if packed(link.start()) == key {
+            link.number_start(id);
         } else {
-            link.b.id = id;
+            link.number_end(id);
         }
     }
 }

@@ -3,6 +3,7 @@ use Rattle.std.proofs.Common.{◌≡◌, refl, sym, ap, ◌∙◌, subst, ℕ, B
 use Rattle.std.specs.Prelude.{ℤ}
 use Rattle.std.specs.List.{list_all}
 use Rattle.std.proofs.lemmas.Bool.{and_parts}
+use Rattle.std.proofs.lemmas.List.{length-map}
 use Rattle.std.proofs.lemmas.List.Sums.{AllPass-from_list_all}
 use Rattle.std.proofs.lemmas.List.Folds.{list_all-map}
 use Rattle.std.proofs.lemmas.Simd.{map-map}
@@ -22,7 +23,7 @@ use Rattle.overlay_base.specs.Rules.{keeps_fill}
 use Rattle.overlay_base.specs.declared.overlay_core.fill_rule.FillRule.{FillRule}
 use Rattle.overlay_base.specs.declared.overlay_core.link.OverlayLink.{OverlayLink}
 use Rattle.overlay_build.specs.Graph.{Filled, Graph, filled, graph_of, graph_by}
-use Rattle.overlay_build.specs.GraphOf.{link_of, kept_of, pairs_of_links, graph_with, HoldGraph}
+use Rattle.overlay_build.specs.GraphOf.{link_of, kept_of, pairs_of_links, graph_with, HoldGraph, HoldLists}
 use Rattle.overlay_build.specs.Graph.{without_nodes}
 use Rattle.overlay_build.specs.Sides.{IsBalancedOverlay}
 use Rattle.overlay_build.proofs.laws.graphs.GraphLaws.{links-back, graph_by-is}
@@ -112,3 +113,9 @@ links_are_in_range whole links keeps rule least greatest segments arranged e =
     let all : list_all inside (filled rule segments) ≡ true = list_all-map inside _ segments ∙ each.0 in
     let kept : list_all inside (kept_of whole links) ≡ true = ap (list_all inside) e ∙ list_all-filter inside (λ f. keeps f.fill) (filled rule segments) all in
     list_all-map (is_pair_in_range least greatest) (λ (l : OverlayLink _ _). (link_of whole l).pair) links ∙ sym (list_all-map inside (λ l. without_nodes (link_of whole l)) links) ∙ kept
+
+-- links that hold the graph of others are as many
+pub held_length : {I D : Type 0} (whole : I → ℤ) (links given : List (OverlayLink I D)) (degrees indexes : List ℕ) → HoldLists whole links degrees indexes (graph_with whole given) → length links ≡ length given
+unfolding graph_of
+held_length whole links given degrees indexes held =
+    sym (length-map links (link_of whole)) ∙ ap length held.same_links ∙ length-map (kept_of whole given) _ ∙ length-map given _

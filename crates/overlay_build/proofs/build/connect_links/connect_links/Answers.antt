@@ -1,6 +1,5 @@
-use Rattle.std.proofs.Common.{◌≡◌, ◌∙◌, ap, sym, subst, if◌then◌else◌, ℕ, ◌<◌, ◌-◌, ◌∷◌, [], append_assoc, ◌++◌, take, drop, length, length-append, get_or, List, arith}
+use Rattle.std.proofs.Common.{◌≡◌, ◌∙◌, refl, map, ap, sym, subst, if◌then◌else◌, ℕ, ◌<◌, ◌-◌, ◌∷◌, [], append_assoc, ◌++◌, length, length-append, get_or, List, arith}
 use Rattle.std.proofs.lemmas.List.{length-map}
-use Rattle.std.proofs.Math.Seq.{take-append_seam}
 use Rattle.std.proofs.lemmas.Result.{IfOk-from_err}
 use Rattle.overlay_geometry.specs.Points.{Pair, Point, point_cmp}
 use Rattle.overlay_geometry.specs.Sorting.{stably_sorted}
@@ -9,7 +8,7 @@ use Rattle.overlay_base.specs.declared.overlay_core.link.OverlayLink.{OverlayLin
 use Rattle.overlay_build.specs.declared.build.link_ends.PackedEnd.{PackedEnd}
 use Rattle.overlay_build.specs.steps.EndOf.{unpacked, ends_of}
 use Rattle.overlay_build.specs.steps.LinkEnds.{numbered_ends}
-use Rattle.overlay_build.specs.steps.LinksOf.{AreEndsInRange, starts_of, indexes_between}
+use Rattle.overlay_build.specs.steps.LinksOf.{starts_of, indexes_between}
 use Rattle.overlay_build.specs.GraphOf.{link_of, pairs_of_links, names_node, with_node}
 use Rattle.overlay_build.proofs.laws.graphs.NodeLists.{length-ends, length-starts}
 use Rattle.overlay_build.proofs.laws.graphs.NodeSteps.{sorted_ends_of, indexes_within}
@@ -25,124 +24,119 @@ all_sorted whole given seen collected ends same all sorted = sorted ∙ ap (stab
 -- ---- the results
 
 pub collect_ends-requires : goal.collect_ends-requires
-collect_ends-requires g c = subst (AreEndsInRange g.I.OverlayInt.whole g.I.OverlayInt.MIN_COORD g.I.OverlayInt.MAX_COORD) (sym c.deref.ensures.value) c.requires.in_range
+collect_ends-requires g c = c.requires.in_range
 
 pub loop-key-init : goal.loop-key-init
-loop-key-init g c = rw (c.reserve.ensures.items ∙ c.clear.ensures.items, c.reserve-2.ensures.items ∙ c.clear-2.ensures.items) (laid_none g.I.OverlayInt.whole c.args.links.now.items)
+loop-key-init g c = rw (c.reserve.ensures.items ∙ c.clear.ensures.items, c.reserve-2.ensures.items ∙ c.clear-2.ensures.items) (laid_none g.L.Coordinate.OverlayInt.whole (map g.L.NumberedLink.link c.args.links.now))
 
 pub next_point-requires : goal.next_point-requires
 next_point-requires g c =
     let at = c.loop-key.invariant in
-    stay_in_range own any g.I.OverlayInt.whole c.args.links.now.items c.loop-key.start c.loop-key.end at.lists c.loop-key.links.items at.up _ _ _ c.deref-in-loop-key.ensures.value c.requires.in_range
+    stay_in_range own any g.L.Coordinate.OverlayInt.whole (map g.L.NumberedLink.link c.args.links.now) c.loop-key.start c.loop-key.end at.lists (map g.L.NumberedLink.link c.loop-key.links) at.up _ _ _ refl c.requires.in_range
 
 pub push_starts-requires-clause-start : goal.push_starts-requires-clause-start
 push_starts-requires-clause-start g c =
     let up = c.loop-key.invariant.up in
     let within = up.firsts.within in
     let as_many = up.as_many in
-    let all = length-starts g.I.OverlayInt.whole c.args.links.now.items in
-    rw c.deref-in-Some.ensures.value (omega (arith, within, as_many, all))
+    let all = length-starts g.L.Coordinate.OverlayInt.whole (map g.L.NumberedLink.link c.args.links.now) in
+    let seen = length-map c.loop-key.links g.L.NumberedLink.link in
+    omega (arith, within, as_many, all, seen)
 
 pub push_starts-requires-clause-in_range : goal.push_starts-requires-clause-in_range
 push_starts-requires-clause-in_range g c =
     let at = c.loop-key.invariant in
-    stay_in_range own any g.I.OverlayInt.whole c.args.links.now.items c.loop-key.start c.loop-key.end at.lists c.loop-key.links.items at.up _ _ _ c.deref-in-Some.ensures.value c.requires.in_range
+    stay_in_range own any g.L.Coordinate.OverlayInt.whole (map g.L.NumberedLink.link c.args.links.now) c.loop-key.start c.loop-key.end at.lists (map g.L.NumberedLink.link c.loop-key.links) at.up _ _ _ refl c.requires.in_range
 
 pub push_ends-requires : goal.push_ends-requires
 push_ends-requires g c =
-    let sorted = all_sorted g.I.OverlayInt.whole c.args.links.now.items _ _ _ c.deref.ensures.value c.in_ok-collect_ends.ensures.ends c.in_ok-sort_by_point.ensures.sorted in
+    let sorted = all_sorted g.L.Coordinate.OverlayInt.whole (map g.L.NumberedLink.link c.args.links.now) _ _ _ refl c.in_ok-collect_ends.ensures.ends c.in_ok-sort_by_point.ensures.sorted in
     let within = c.loop-key.invariant.up.seconds.within in
     let as_long = length-ends c.sort_by_point.new.ends.items in
     let all = ap length sorted in
-    rw c.deref-in-Some-2.ensures.value (omega (arith, within, as_long, all))
+    rw c.deref-in-Some.ensures.value (omega (arith, within, as_long, all))
 
 pub number_ends-requires-clause-within : goal.number_ends-requires-clause-within
 number_ends-requires-clause-within g c =
-    let whole = g.I.OverlayInt.whole in
+    let whole = g.L.Coordinate.OverlayInt.whole in
     let at = c.loop-key.invariant in
-    let pairs : List Pair = pairs_of_links whole c.args.links.now.items in
+    let pairs : List Pair = pairs_of_links whole (map g.L.NumberedLink.link c.args.links.now) in
     let p : Point = unpacked c.in-Some.key in
-    let sorted = all_sorted whole c.args.links.now.items _ _ _ c.deref.ensures.value c.in_ok-collect_ends.ensures.ends c.in_ok-sort_by_point.ensures.sorted in
-    let its = found_next whole c.args.links.now.items c.requires.sorted c.loop-key.start c.loop-key.end c.loop-key.links.items c.loop-key.degrees.items c.loop-key.indexes.items at c.sort_by_point.new.ends.items sorted
-    _ _ _ _ p c.in_ok-start.start c.in_ok-end.end c.deref-in-loop-key.ensures.value c.deref-in-Some.ensures.value c.deref-in-loop-key-2.ensures.value c.deref-in-Some-2.ensures.value c.in-Some.ensures.point c.in_ok-start.ensures.run c.in_ok-end.ensures.run in
-    let listed = put_behind c.loop-key.indexes.items _ c.deref-in-Some-3.result.now c.len-first.result (c.len-first.ensures ∙ c.loop-key.indexes.ok.0)
-    (c.deref-in-Some-3.ensures.value ∙ c.in_ok-end.ensures.indices ∙ ap (λ (l : List ℕ). l ++ indexes_between (ends_of c.deref-in-Some-2.result.now) c.loop-key.end c.in_ok-end.end) c.in_ok-start.ensures.indices ∙ append_assoc c.loop-key.indexes.items _ _) in
-    let few : length c.deref_mut.result.now ≡ length pairs = ap length c.deref_mut.ensures.value ∙ at.up.as_many ∙ sym (length-map c.args.links.now.items (λ l. (link_of whole l).pair)) in
+    let sorted = all_sorted whole (map g.L.NumberedLink.link c.args.links.now) _ _ _ refl c.in_ok-collect_ends.ensures.ends c.in_ok-sort_by_point.ensures.sorted in
+    let its = found_next whole (map g.L.NumberedLink.link c.args.links.now) c.requires.sorted c.loop-key.start c.loop-key.end (map g.L.NumberedLink.link c.loop-key.links) c.loop-key.degrees.items c.loop-key.indexes.items at c.sort_by_point.new.ends.items sorted
+    _ _ _ _ p c.in_ok-start.start c.in_ok-end.end refl refl c.deref.ensures.value c.deref-in-Some.ensures.value c.in-Some.ensures.point c.in_ok-start.ensures.run c.in_ok-end.ensures.run in
+    let listed = put_behind c.loop-key.indexes.items _ c.deref-in-Some-2.result.now c.len-first.result (c.len-first.ensures ∙ c.loop-key.indexes.ok.0)
+    (c.deref-in-Some-2.ensures.value ∙ c.in_ok-end.ensures.indices ∙ ap (λ (l : List ℕ). l ++ indexes_between (ends_of c.deref-in-Some.result.now) c.loop-key.end c.in_ok-end.end) c.in_ok-start.ensures.indices ∙ append_assoc c.loop-key.indexes.items _ _) in
+    let few : length c.loop-key.links ≡ length pairs = sym (length-map c.loop-key.links g.L.NumberedLink.link) ∙ at.up.as_many ∙ sym (length-map (map g.L.NumberedLink.link c.args.links.now) (λ l. (link_of whole l).pair)) in
     rw few (subst (λ (l : List ℕ). (k d : ℕ) → k < length l → get_or l k d < length pairs) (sym (listed ∙ its.listed)) (indexes_within pairs p))
 
 pub number_ends-requires-clause-in_range : goal.number_ends-requires-clause-in_range
 number_ends-requires-clause-in_range g c =
     let at = c.loop-key.invariant in
-    stay_in_range own any g.I.OverlayInt.whole c.args.links.now.items c.loop-key.start c.loop-key.end at.lists c.loop-key.links.items at.up _ _ _ c.deref_mut.ensures.value c.requires.in_range
+    stay_in_range own any g.L.Coordinate.OverlayInt.whole (map g.L.NumberedLink.link c.args.links.now) c.loop-key.start c.loop-key.end at.lists (map g.L.NumberedLink.link c.loop-key.links) at.up _ _ _ refl c.requires.in_range
 
 pub loop-key-preserved : goal.loop-key-preserved
 loop-key-preserved g c =
-    let whole = g.I.OverlayInt.whole in
+    let whole = g.L.Coordinate.OverlayInt.whole in
     let at = c.loop-key.invariant in
     let p : Point = unpacked c.in-Some.key in
-    let old : List (OverlayLink g.row.I.Denot g.row.D.Denot) = c.loop-key.links.items in
-    let sorted = all_sorted whole c.args.links.now.items _ _ _ c.deref.ensures.value c.in_ok-collect_ends.ensures.ends c.in_ok-sort_by_point.ensures.sorted in
-    let its = found_next whole c.args.links.now.items c.requires.sorted c.loop-key.start c.loop-key.end old c.loop-key.degrees.items c.loop-key.indexes.items at c.sort_by_point.new.ends.items sorted
-    _ _ _ _ p c.in_ok-start.start c.in_ok-end.end c.deref-in-loop-key.ensures.value c.deref-in-Some.ensures.value c.deref-in-loop-key-2.ensures.value c.deref-in-Some-2.ensures.value c.in-Some.ensures.point c.in_ok-start.ensures.run c.in_ok-end.ensures.run in
-    let list : List ℕ = indexes_between (starts_of whole c.deref-in-Some.result.now) c.loop-key.start c.in_ok-start.start ++ indexes_between (ends_of c.deref-in-Some-2.result.now) c.loop-key.end c.in_ok-end.end in
+    let old : List (OverlayLink g.row.L-Coordinate.Denot g.row.L-Data.Denot) = (map g.L.NumberedLink.link c.loop-key.links) in
+    let sorted = all_sorted whole (map g.L.NumberedLink.link c.args.links.now) _ _ _ refl c.in_ok-collect_ends.ensures.ends c.in_ok-sort_by_point.ensures.sorted in
+    let its = found_next whole (map g.L.NumberedLink.link c.args.links.now) c.requires.sorted c.loop-key.start c.loop-key.end old c.loop-key.degrees.items c.loop-key.indexes.items at c.sort_by_point.new.ends.items sorted
+    _ _ _ _ p c.in_ok-start.start c.in_ok-end.end refl refl c.deref.ensures.value c.deref-in-Some.ensures.value c.in-Some.ensures.point c.in_ok-start.ensures.run c.in_ok-end.ensures.run in
+    let list : List ℕ = indexes_between (starts_of whole (map g.L.NumberedLink.link c.loop-key.links)) c.loop-key.start c.in_ok-start.start ++ indexes_between (ends_of c.deref-in-Some.result.now) c.loop-key.end c.in_ok-end.end in
     let behind : c.push_ends.new.indices.items ≡ c.loop-key.indexes.items ++ list =
-    c.in_ok-end.ensures.indices ∙ ap (λ (l : List ℕ). l ++ indexes_between (ends_of c.deref-in-Some-2.result.now) c.loop-key.end c.in_ok-end.end) c.in_ok-start.ensures.indices ∙ append_assoc c.loop-key.indexes.items _ _ in
+    c.in_ok-end.ensures.indices ∙ ap (λ (l : List ℕ). l ++ indexes_between (ends_of c.deref-in-Some.result.now) c.loop-key.end c.in_ok-end.end) c.in_ok-start.ensures.indices ∙ append_assoc c.loop-key.indexes.items _ _ in
     let first : c.len-first.result ≡ length c.loop-key.indexes.items = c.len-first.ensures ∙ c.loop-key.indexes.ok.0 in
-    let slice = put_behind c.loop-key.indexes.items list c.deref-in-Some-3.result.now c.len-first.result first (c.deref-in-Some-3.ensures.value ∙ behind) in
-    let full : c.loop-key.links.len ≡ length old = c.loop-key.links.ok.0 in
-    let counted : c.len-in-Some.result ≡ length c.loop-key.degrees.items = c.len-in-Some.ensures ∙ c.loop-key.degrees.ok.0 in
-    let kept : length c.number_ends.new.links ≡ length old = c.number_ends.ensures.length ∙ ap length c.deref_mut.ensures.value in
-    let more_is : take c.loop-key.links.len (c.number_ends.new.links ++ drop (length c.number_ends.new.links) old) ≡ c.number_ends.new.links =
-    ap (λ n. take n (c.number_ends.new.links ++ drop (length c.number_ends.new.links) old)) (full ∙ sym kept) ∙ take-append_seam c.number_ends.new.links _ in
-    let numbers : (k : ℕ) (d : OverlayLink g.row.I.Denot g.row.D.Denot) → k < length old → get_or c.number_ends.new.links k d ≡ (if names_node k list then with_node whole p (length c.loop-key.degrees.items) (get_or old k d) else get_or old k d) =
+    let slice = put_behind c.loop-key.indexes.items list c.deref-in-Some-2.result.now c.len-first.result first (c.deref-in-Some-2.ensures.value ∙ behind) in
+    let counted : c.len.result ≡ length c.loop-key.degrees.items = c.len.ensures ∙ c.loop-key.degrees.ok.0 in
+    let more : List (OverlayLink g.row.L-Coordinate.Denot g.row.L-Data.Denot) = map g.L.NumberedLink.link c.number_ends.new.links in
+    let kept : length more ≡ length old = length-map c.number_ends.new.links g.L.NumberedLink.link ∙ c.number_ends.ensures.length ∙ sym (length-map c.loop-key.links g.L.NumberedLink.link) in
+    let numbers : (k : ℕ) (d : OverlayLink g.row.L-Coordinate.Denot g.row.L-Data.Denot) → k < length old → get_or more k d ≡ (if names_node k list then with_node whole p (length c.loop-key.degrees.items) (get_or old k d) else get_or old k d) =
     λ k d h.
-    c.number_ends.ensures.links k d (rw c.deref_mut.ensures.value h)
-    ∙ ap (λ (links : List (OverlayLink g.row.I.Denot g.row.D.Denot)). if names_node k (take (length c.deref-in-Some-3.result.now - c.len-first.result) (drop c.len-first.result c.deref-in-Some-3.result.now)) then with_node whole p c.len-in-Some.result (get_or links k d) else get_or links k d) c.deref_mut.ensures.value
-    ∙ ap (λ indexes. if names_node k indexes then with_node whole p c.len-in-Some.result (get_or old k d) else get_or old k d) slice
+    c.number_ends.ensures.links k d h
+    ∙ ap (λ indexes. if names_node k indexes then with_node whole p c.len.result (get_or old k d) else get_or old k d) slice
     ∙ ap (λ n. if names_node k list then with_node whole p n (get_or old k d) else get_or old k d) counted in
-    let last : c.len-in-Some-2.result - c.len-first.result ≡ length list =
-    (let all = c.len-in-Some-2.ensures ∙ c.push_ends.new.indices.ok.0 ∙ ap length behind ∙ length-append c.loop-key.indexes.items list in omega (arith, all, first)) in
-    rw more_is
-    (laid_next whole c.args.links.now.items c.requires.sorted c.loop-key.start c.loop-key.end old c.loop-key.degrees.items c.loop-key.indexes.items at c.in_ok-start.start c.in_ok-end.end p list c.number_ends.new.links _ _ its c.requires.ordered kept numbers
-    (c.in_ok-push.ensures.items ∙ ap (λ n. c.loop-key.degrees.items ++ n ∷ []) last) behind)
+    let last : c.len-in-Some.result - c.len-first.result ≡ length list =
+    (let all = c.len-in-Some.ensures ∙ c.push_ends.new.indices.ok.0 ∙ ap length behind ∙ length-append c.loop-key.indexes.items list in omega (arith, all, first)) in
+    laid_next whole (map g.L.NumberedLink.link c.args.links.now) c.requires.sorted c.loop-key.start c.loop-key.end old c.loop-key.degrees.items c.loop-key.indexes.items at c.in_ok-start.start c.in_ok-end.end p list more _ _ its c.requires.ordered kept numbers
+    (c.in_ok-push.ensures.items ∙ ap (λ n. c.loop-key.degrees.items ++ n ∷ []) last) behind
 
 pub loop-key-smaller : goal.loop-key-smaller
 loop-key-smaller g c =
-    let whole = g.I.OverlayInt.whole in
+    let whole = g.L.Coordinate.OverlayInt.whole in
     let at = c.loop-key.invariant in
-    let pairs : List Pair = pairs_of_links whole c.args.links.now.items in
+    let pairs : List Pair = pairs_of_links whole (map g.L.NumberedLink.link c.args.links.now) in
     let p : Point = unpacked c.in-Some.key in
-    let sorted = all_sorted whole c.args.links.now.items _ _ _ c.deref.ensures.value c.in_ok-collect_ends.ensures.ends c.in_ok-sort_by_point.ensures.sorted in
-    let its = found_next whole c.args.links.now.items c.requires.sorted c.loop-key.start c.loop-key.end c.loop-key.links.items c.loop-key.degrees.items c.loop-key.indexes.items at c.sort_by_point.new.ends.items sorted
-    _ _ _ _ p c.in_ok-start.start c.in_ok-end.end c.deref-in-loop-key.ensures.value c.deref-in-Some.ensures.value c.deref-in-loop-key-2.ensures.value c.deref-in-Some-2.ensures.value c.in-Some.ensures.point c.in_ok-start.ensures.run c.in_ok-end.ensures.run in
-    let full : c.loop-key.links.len ≡ length c.loop-key.links.items = c.loop-key.links.ok.0 in
-    let kept : length c.number_ends.new.links ≡ length c.loop-key.links.items = c.number_ends.ensures.length ∙ ap length c.deref_mut.ensures.value in
-    let more_is : take c.loop-key.links.len (c.number_ends.new.links ++ drop (length c.number_ends.new.links) c.loop-key.links.items) ≡ c.number_ends.new.links =
-    ap (λ n. take n (c.number_ends.new.links ++ drop (length c.number_ends.new.links) c.loop-key.links.items)) (full ∙ sym kept) ∙ take-append_seam c.number_ends.new.links _ in
-    rw (more_is, kept)
-    (fewer_left pairs c.loop-key.start c.loop-key.end c.in_ok-start.start c.in_ok-end.end (length c.loop-key.links.items) (length c.sort_by_point.new.ends.items) p _ its
-    (length-starts whole c.args.links.now.items ∙ sym at.up.as_many) (sym (ap length sorted) ∙ length-ends c.sort_by_point.new.ends.items))
+    let sorted = all_sorted whole (map g.L.NumberedLink.link c.args.links.now) _ _ _ refl c.in_ok-collect_ends.ensures.ends c.in_ok-sort_by_point.ensures.sorted in
+    let its = found_next whole (map g.L.NumberedLink.link c.args.links.now) c.requires.sorted c.loop-key.start c.loop-key.end (map g.L.NumberedLink.link c.loop-key.links) c.loop-key.degrees.items c.loop-key.indexes.items at c.sort_by_point.new.ends.items sorted
+    _ _ _ _ p c.in_ok-start.start c.in_ok-end.end refl refl c.deref.ensures.value c.deref-in-Some.ensures.value c.in-Some.ensures.point c.in_ok-start.ensures.run c.in_ok-end.ensures.run in
+    let old : List (OverlayLink g.row.L-Coordinate.Denot g.row.L-Data.Denot) = map g.L.NumberedLink.link c.loop-key.links in
+    let kept : length (map g.L.NumberedLink.link c.number_ends.new.links) ≡ length old = length-map c.number_ends.new.links g.L.NumberedLink.link ∙ c.number_ends.ensures.length ∙ sym (length-map c.loop-key.links g.L.NumberedLink.link) in
+    rw kept
+    (fewer_left pairs c.loop-key.start c.loop-key.end c.in_ok-start.start c.in_ok-end.end (length old) (length c.sort_by_point.new.ends.items) p _ its
+    (length-starts whole (map g.L.NumberedLink.link c.args.links.now) ∙ sym at.up.as_many) (sym (ap length sorted) ∙ length-ends c.sort_by_point.new.ends.items))
 
 pub returns-clause-graph : goal.returns-clause-graph
 returns-clause-graph g c =
-    let whole = g.I.OverlayInt.whole in
+    let whole = g.L.Coordinate.OverlayInt.whole in
     let at = c.loop-key.invariant in
-    let sorted = all_sorted whole c.args.links.now.items _ _ _ c.deref.ensures.value c.in_ok-collect_ends.ensures.ends c.in_ok-sort_by_point.ensures.sorted in
+    let sorted = all_sorted whole (map g.L.NumberedLink.link c.args.links.now) _ _ _ refl c.in_ok-collect_ends.ensures.ends c.in_ok-sort_by_point.ensures.sorted in
     let over = c.in_default.ensures.none in
     let starts_over = over.0 in
     let ends_over = over.1 in
-    let seen = ap length c.deref-in-loop-key.ensures.value in
+    let seen = length-map c.loop-key.links g.L.NumberedLink.link in
     let as_many = at.up.as_many in
-    let all = length-starts whole c.args.links.now.items in
-    let seen_ends = ap length c.deref-in-loop-key-2.ensures.value in
+    let all = length-starts whole (map g.L.NumberedLink.link c.args.links.now) in
+    let seen_ends = ap length c.deref.ensures.value in
     let as_long = length-ends c.sort_by_point.new.ends.items in
     let all_ends = ap length sorted in
-    holds_lists whole c.args.links.now.items c.loop-key.start c.loop-key.end c.loop-key.links.items c.loop-key.degrees.items c.loop-key.indexes.items at (omega (arith, starts_over, seen, as_many, all)) (omega (arith, ends_over, seen_ends, as_long, all_ends))
+    holds_lists whole (map g.L.NumberedLink.link c.args.links.now) c.loop-key.start c.loop-key.end (map g.L.NumberedLink.link c.loop-key.links) c.loop-key.degrees.items c.loop-key.indexes.items at (omega (arith, starts_over, seen, as_many, all)) (omega (arith, ends_over, seen_ends, as_long, all_ends))
 
 pub returns-clause-edge_data : goal.returns-clause-edge_data
 returns-clause-edge_data g c =
     let at = c.loop-key.invariant in
-    same_data own any g.I.OverlayInt.whole c.args.links.now.items c.loop-key.start c.loop-key.end at.lists c.loop-key.links.items at.up
+    same_data own any g.L.Coordinate.OverlayInt.whole (map g.L.NumberedLink.link c.args.links.now) c.loop-key.start c.loop-key.end at.lists (map g.L.NumberedLink.link c.loop-key.links) at.up
 
 pub returns-in_err-collect_ends-clause-graph : goal.returns-in_err-collect_ends-clause-graph
 returns-in_err-collect_ends-clause-graph g c = IfOk-from_err c.from_residual.result _ c.from_residual.ensures.0
