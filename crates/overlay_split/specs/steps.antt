@@ -3,3 +3,4 @@ pub mod PathSteps
 pub mod DataCutAt
 pub mod IsAt
 pub mod PiecesOf
+pub mod ChangedBoxes

@@ -2,6 +2,7 @@
 // list, a tree and a grid, come from crates of their own; their modules are here too, as in
 // upstream.
 
+mod changed;
 mod cut;
 pub mod fault;
 pub mod finder;

@@ -2,6 +2,15 @@
 pub mod DataPasses
 pub mod UnmarkedPairs
 pub mod OldPairs
+pub mod ChangedPairs
+pub mod WholeBounds
+pub mod RectSweeps
+pub mod PartSteps
+pub mod PartFinds
+pub mod BoundChanges
+pub mod AroundMarks
+pub mod PartLooks
+pub mod PartMarks
 pub mod DataInvariants
 pub mod StoppedRuns
 pub mod Columns

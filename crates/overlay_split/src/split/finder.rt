@@ -13,13 +13,17 @@ ghost use Rattle.overlay_grid.specs.Grid.{IsInside, LieInside};
 ghost use Rattle.overlay_grid.specs.GroupsOf.{grid_in, grid_of};
 ghost use Rattle.overlay_split.specs.FinderOf.{solver_in, layout_in, looks_in};
 ghost use Rattle.overlay_grid.specs.GridFor.{IsGridFor};
+ghost use Rattle.overlay_split.specs.PassLooks.{wide_looks};
+ghost use Rattle.overlay_split.specs.steps.ChangedBoxes.{BoundChange};
 ghost use Rattle.overlay_split.specs.PassOf.{LooksThrough};
 ghost use Rattle.overlay_base.specs.ArrangedOf.{AreInRange};
 
+use crate::split::changed::{part_near, rename_marks};
 use overlay_base::overlay_core::solver::{Solver, Strategy};
 use overlay_base::segm::fault::Fault;
 use overlay_base::segm::segment::Segment;
 use overlay_base::segm::winding::WindingCount;
+use overlay_geometry::geom::rect::IntRect;
 use overlay_geometry::geom::x_segment::XSegment;
 use overlay_geometry::num::OverlayInt;
 use overlay_grid::split::fragment_buffer::FragmentBuffer;
@@ -174,6 +178,69 @@ impl<I: OverlayInt> PairFinder<I> {
                 &mut self.looked,
             );
         }
+        self.find_widely(segments, placing, tree, marks)
+    }
+
+    /// Finds the marks as `find_marks` does. Rectangles may be given that hold all that has changed: any two segments whose
+    /// boxes do not both meet one of them are apart. Then only the segments whose boxes do are compared, if these are
+    /// found soon enough, except over a list.
+    ///
+    /// Returns `Fault::Memory` where a growth is refused; `marks` is of no use then.
+    pub(crate) fn find_marks_near<C: WindingCount, D: Copy>(
+        &mut self,
+        alloc: Global,
+        segments: &[Segment<C, I, D>],
+        placing: Placing,
+        changed: &Option<Vec<IntRect<I>>>,
+        tree: &mut TreeBuffers<I>,
+        marks: &mut Vec<LineMark<I>>,
+    ) -> Result<bool, Fault>
+        requires sorted { IsSortedByKey ends_of pair_cmp segments.now }
+        requires in_range { AreInRange segments.now }
+        requires radius { HasRadius placing }
+        requires inside { LieInside (layout_in self.old) (pairs (segments_of segments.now)) }
+        requires changed { BoundChange I.whole changed.now (segments_of segments.now) }
+        ensures solver { solver_in self.new ≡ solver_in self.old }
+        ensures grid { layout_in self.new ≡ layout_in self.old }
+        ensures marks { OnOk result (AreMarksOf placing segments.now marks.new.items) }
+        ensures rounded { IfOk result (λ rounded. rounded ≡ is_rounded (segments_of segments.now)) }
+        ensures looked { OnOk result (LooksThrough segments.now self.old self.new) }
+        ensures fault { IfErr result (λ fault. fault ≡ Memory) }
+    {
+        if self.solver.is_list_split(segments) {
+            return self.find_marks(segments, placing, tree, marks);
+        }
+        let Some(boxes) = changed else {
+            return self.find_marks(segments, placing, tree, marks);
+        };
+        let Some(part) = part_near(alloc, segments, boxes.as_slice())? else {
+            return self.find_marks(segments, placing, tree, marks);
+        };
+        let rounded = self.find_widely(part.segments.as_slice(), placing, tree, marks)?;
+        rename_marks(marks, part.indexes.as_slice());
+        Ok(rounded)
+    }
+
+    /// Finds the marks over the grid, if there is one, and else over a tree.
+    fn find_widely<C: WindingCount, D: Copy>(
+        &mut self,
+        segments: &[Segment<C, I, D>],
+        placing: Placing,
+        tree: &mut TreeBuffers<I>,
+        marks: &mut Vec<LineMark<I>>,
+    ) -> Result<bool, Fault>
+        requires sorted { IsSortedByKey ends_of pair_cmp segments.now }
+        requires in_range { AreInRange segments.now }
+        requires radius { HasRadius placing }
+        requires inside { LieInside (layout_in self.old) (pairs_in segments.now) }
+        ensures solver { solver_in self.new ≡ solver_in self.old }
+        ensures grid { layout_in self.new ≡ layout_in self.old }
+        ensures marks { OnOk result (AreMarksOf placing segments.now marks.new.items) }
+        ensures rounded { IfOk result (λ rounded. rounded ≡ is_rounded (segments_of segments.now)) }
+        ensures looked { OnOk result (looks_in self.new
+            ≤ looks_in self.old + wide_looks (layout_in self.old) (pairs_in segments.now)) }
+        ensures fault { IfErr result (λ fault. fault ≡ Memory) }
+    {
         match &mut self.grid {
             Some(grid) => find_over_grid(segments, placing, grid, tree, marks, &mut self.looked),
             None => {

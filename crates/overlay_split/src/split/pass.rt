@@ -14,9 +14,12 @@ ghost use Rattle.overlay_intersections.specs.PlacingOf.{placing_of, HasRadius};
 ghost use Rattle.overlay_grid.specs.Grid.{LieInside};
 ghost use Rattle.overlay_split.specs.FinderOf.{solver_in, layout_in};
 ghost use Rattle.overlay_split.specs.PassOf.{HasDataOfPass, IsPassStore, makes_mark, LooksThrough, piece_count, pieces_leave_range, StopsPass};
+ghost use Rattle.overlay_split.specs.steps.ChangedBoxes.{BoundChange};
+ghost use Rattle.overlay_split.specs.declared.split.fault.SplitFault.TheVariants.{Refused};
 ghost use Rattle.overlay_split.specs.SplitFaultOf.{OnLargeCount, OnTooMany};
 ghost use Rattle.overlay_base.specs.FaultOf.{OnTooLarge};
 
+use crate::split::changed::changed_boxes;
 use crate::split::cut::{cut_segment, index_len};
 use crate::split::fault::SplitFault;
 use crate::split::finder::PairFinder;
@@ -27,6 +30,7 @@ use overlay_base::segm::join::join_with_store;
 use overlay_base::segm::segment::Segment;
 use overlay_base::segm::winding::WindingCount;
 use overlay_geometry::geom::point::IntPoint;
+use overlay_geometry::geom::rect::IntRect;
 use overlay_geometry::geom::x_segment::XSegment;
 use overlay_geometry::num::OverlayInt;
 use overlay_intersections::split::line_mark::LineMark;
@@ -145,25 +149,86 @@ pub fn pass_within<C: WindingCount, I: OverlayInt, D: OverlayEdgeData<C>>(
     ensures uncut { OnTooMany result (store.new ≡ store.old) }
     ensures unbounded { OnTooMany result (limit < 2 ^ 64 - 1) }
 {
+    let mut changed = None;
+    pass_near(list, placing, finder, buffers, &mut changed, store, limit)
+}
+
+/// Makes a pass as `pass_within` does, in a run: it looks only at what the pass before has changed, where that is known,
+/// and says what it changes itself, where that is little.
+pub(crate) fn pass_near<C: WindingCount, I: OverlayInt, D: OverlayEdgeData<C>>(
+    list: &mut Vec<Segment<C, I, D>>,
+    placing: Placing,
+    finder: &mut PairFinder<I>,
+    buffers: &mut PassBuffers<I>,
+    changed: &mut Option<Vec<IntRect<I>>>,
+    store: &mut D::Store,
+    limit: usize,
+) -> Result<Passed, SplitFault>
+    requires map { IsTrue (is_map (segments_of list.old.items)) }
+    requires splittable { IsSplittable list.old.items }
+    requires radius { HasRadius placing }
+    requires inside { LieInside (layout_in finder.old) (pairs (segments_of list.old.items)) }
+    requires changed { BoundChange I.whole changed.old (segments_of list.old.items) }
+    ensures solver { solver_in finder.new ≡ solver_in finder.old }
+    ensures grid { layout_in finder.new ≡ layout_in finder.old }
+    ensures geometry { OnOk result (segments_of list.new.items
+        ≡ pass (placing_of placing) (segments_of list.old.items)) }
+    ensures edge_data { OnOk result (HasDataOfPass D.OverlayEdgeData.own placing list.old store.old list.new) }
+    ensures store { OnOk result (IsPassStore D.OverlayEdgeData.own placing list.old store.old store.new) }
+    ensures rounded { IfOk result (λ passed. passed.is_rounded ≡ is_rounded (segments_of list.old.items)) }
+    ensures marked { IfOk result (λ passed. passed.has_marks ≡ makes_mark placing list.old.items) }
+    ensures looked { OnOk result (LooksThrough list.old.items finder.old finder.new) }
+    ensures changed { OnOk result (BoundChange I.whole changed.new (segments_of list.new.items)) }
+    ensures within { OnOk result (piece_count placing list.old.items ≤ limit) }
+
+    ensures fits { OnOk result (IsFalse (pieces_leave_range placing list.old.items)) }
+    ensures refused { OnLargeCount result (IsTrue (pieces_leave_range placing list.old.items)) }
+    ensures emptied { OnErr result (list.new.items ≡ []) }
+    ensures stopped { OnLargeCount result (StopsPass D.OverlayEdgeData.own placing list.old store.old store.new) }
+    ensures store_made { IsMadeFrom (hooks_of C.counted D.OverlayEdgeData.own) store.old store.new }
+    ensures beyond { OnTooMany result (limit < piece_count placing list.old.items) }
+    ensures uncut { OnTooMany result (store.new ≡ store.old) }
+    ensures unbounded { OnTooMany result (limit < 2 ^ 64 - 1) }
+{
     let PassBuffers { alloc, path, tree } = buffers;
     let mut marks = Vec::new(*alloc);
-    let is_rounded = match finder.find_marks(list.as_slice(), placing, tree, &mut marks) {
+    let is_rounded = match finder.find_marks_near(
+        *alloc,
+        list.as_slice(),
+        placing,
+        changed,
+        tree,
+        &mut marks,
+    ) {
         Ok(is_rounded) => is_rounded,
-        Err(fault) => {
-            list.clear();
-            return Err(SplitFault::Refused(fault));
-        }
+        Err(fault) => return Err(emptied(list, fault)),
     };
     if list.len() + marks.len() > limit {
         list.clear();
         return Err(SplitFault::TooManySegments);
     }
     let has_marks = !marks.is_empty();
+    *changed = match changed_boxes(*alloc, list.as_slice(), marks.as_slice()) {
+        Ok(boxes) => boxes,
+        Err(refusal) => return Err(emptied(list, refusal)),
+    };
     pass_at(list, marks, path, store)?;
     Ok(Passed {
         is_rounded,
         has_marks,
     })
+}
+
+/// What a pass returns that is refused by this fault. It leaves no segment.
+fn emptied<C: WindingCount, I: OverlayInt, D: Copy>(
+    list: &mut Vec<Segment<C, I, D>>,
+    fault: Fault,
+) -> SplitFault
+    ensures fault { result ≡ Refused fault }
+    ensures emptied { list.new.items ≡ [] }
+{
+    list.clear();
+    SplitFault::Refused(fault)
 }
 
 /// Cuts every segment at the given marks, and joins the pieces.

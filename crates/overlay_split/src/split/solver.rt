@@ -23,11 +23,12 @@ ghost use Rattle.overlay_split.specs.Nearness.{reach, reach_of_pass, reach_of_ru
 ghost use Rattle.overlay_split.specs.SplitOf.{IsRunOver, ReportsReach, KeepsWhatHolds, LiesNearNamed, LiesInBox, IsExactInput, HasGivenCounts, LiesNearGiven, WindsAsGiven, PassesAreBounded, SumsLeaveRange, LooksAreBounded, ChangesNothing, StopsRun, StaysWithin, GoesBeyond, LeavesStoreBefore, ChangesNoStore, GivesData, GivesRunData, LeavesRunStore};
 ghost use Rattle.overlay_base.specs.FaultOf.{OnTooLarge};
 ghost use Rattle.overlay_split.specs.PassOf.{piece_count};
+ghost use Rattle.overlay_split.specs.steps.ChangedBoxes.{BoundChange};
 ghost use Rattle.overlay_split.specs.SplitFaultOf.{OnLargeCount, OnTooMany};
 
 use crate::split::fault::SplitFault;
 use crate::split::finder::PairFinder;
-use crate::split::pass::{PassBuffers, pass_within};
+use crate::split::pass::{PassBuffers, pass_near};
 use overlay_base::overlay_core::edge_data::OverlayEdgeData;
 use overlay_base::overlay_core::snap_radius::SnapRadius;
 use overlay_base::overlay_core::solver::Solver;
@@ -35,6 +36,7 @@ use overlay_base::segm::fault::Fault;
 use overlay_base::segm::join::join_with_store;
 use overlay_base::segm::segment::Segment;
 use overlay_base::segm::winding::WindingCount;
+use overlay_geometry::geom::rect::IntRect;
 use overlay_geometry::num::OverlayInt;
 use overlay_grid::split::fragment_memory::FragmentMemory;
 use overlay_intersections::split::placing::Placing;
@@ -134,7 +136,8 @@ impl<I> SplitSolver<I> {
     ///
     /// Not counted are comparisons of no pair: of heights with the roots on the way down a tree, of the ends of live
     /// segments with the `x` of the sweep, and with the first segment or part past the end of a scan, one at most for
-    /// each. That nothing else is compared without being counted is read, not proved.
+    /// each. Nor are those with rectangles around what the pass before cut, one a segment at most on the average. That
+    /// nothing else is compared without being counted is read, not proved.
     pub fn looked(&self) -> u128
         ensures { result ≡ looked_of self.now }
     {
@@ -413,6 +416,7 @@ impl<I: OverlayInt> SplitSolver<I> {
             has_changed: repeated,
             goes_on: list.len() >= 2,
         };
+        let mut changed = None;
         let mut radius = solver.snap_radius();
         for _ in 0..self.snap_limit {
             if !progress.goes_on {
@@ -424,6 +428,7 @@ impl<I: OverlayInt> SplitSolver<I> {
                 placing,
                 &mut finder,
                 &mut self.buffers,
+                &mut changed,
                 store,
                 limit,
             )?;
@@ -436,6 +441,7 @@ impl<I: OverlayInt> SplitSolver<I> {
                 placing,
                 &mut finder,
                 &mut self.buffers,
+                &mut changed,
                 store,
                 limit,
             )?;
@@ -458,6 +464,7 @@ impl Progress {
         placing: Placing,
         finder: &mut PairFinder<I>,
         buffers: &mut PassBuffers<I>,
+        changed: &mut Option<Vec<IntRect<I>>>,
         store: &mut D::Store,
         limit: usize,
     ) -> Result<Progress, SplitFault>
@@ -467,6 +474,7 @@ impl Progress {
         requires passes { self.passes + 1 < 2 ^ 128 }
         requires reach { self.reach < 2 ^ 127 }
         requires inside { LieInside (layout_in finder.old) (pairs (segments_of list.old.items)) }
+        requires changed { BoundChange I.whole changed.old (segments_of list.old.items) }
         ensures solver { solver_in finder.new ≡ solver_in finder.old }
         ensures grid { layout_in finder.new ≡ layout_in finder.old }
         ensures geometry { OnOk result (segments_of list.new.items
@@ -482,6 +490,7 @@ impl Progress {
         ensures reach { IfOk result (λ after. after.reach
             ≡ self.reach + reach_of_pass (placing_of placing) (segments_of list.old.items)) }
         ensures reach_bound { IfOk result (λ after. after.reach ≤ self.reach + 2 ^ 34) }
+        ensures bounds { OnOk result (BoundChange I.whole changed.new (segments_of list.new.items)) }
         ensures changed { IfOk result (λ after. after.has_changed
             ≡ (self.has_changed || nat_lt 0 (mark_count (placing_of placing) (segments_of list.old.items)))) }
         ensures goes_on { IfOk result (λ after. after.goes_on
@@ -502,7 +511,7 @@ impl Progress {
         ensures uncut { OnTooMany result (store.new ≡ store.old) }
         ensures unbounded { OnTooMany result (limit < 2 ^ 64 - 1) }
     {
-        let passed = pass_within(list, placing, finder, buffers, store, limit)?;
+        let passed = pass_near(list, placing, finder, buffers, changed, store, limit)?;
         Ok(Progress {
             passes: self.passes + 1,
             reach: self.reach + most_moved(placing, passed.is_rounded),

@@ -1,20 +1,12 @@
-use Rattle.std.proofs.Common.{◌≡◌, ◌+◌, ◌≤◌, ◌∙◌, ap, sym, subst, true, false, length}
-use Rattle.std.specs.Prelude.{Option}
+use Rattle.std.proofs.Common.{◌≡◌, ◌∙◌, ap, sym, true, false, length}
 use Rattle.std.proofs.lemmas.Result.{on_ok_weaker}
 use Rattle.overlay_base.specs.Choices.{list_splits}
 use Rattle.overlay_base.specs.Segments.{pairs}
 use Rattle.overlay_base.specs.SegmentOf.{segments_of}
-use Rattle.overlay_grid.specs.Grid.{Layout, LieInside}
-use Rattle.overlay_split.specs.PassLooks.{wide_looks}
 use Rattle.overlay_grid.specs.GroupsOf.{grid_in}
-use Rattle.overlay_grid.proofs.laws.grid.GridInside.{each_lies_inside}
 use Rattle.overlay_tree.proofs.laws.tree.Sweeps.{length-pairs}
 use Rattle.overlay_split.proofs.laws.passes.RunLooks.{ArePassLooks-listed, ArePassLooks-wide}
 use Rattle.overlay_split.proofs.split.finder.PairFinder.find_marks.Goals as goal
-
-pub find_over_grid-requires-clause-inside : goal.find_over_grid-requires-clause-inside
-find_over_grid-requires-clause-inside g c =
-    each_lies_inside c.args.segments.now _ (subst (λ (o : Option Layout). LieInside o (pairs (segments_of c.args.segments.now))) (ap (λ b. grid_in b) c.in-Some.is) c.requires.inside)
 
 pub returns-then-is_list_split-clause-looked : goal.returns-then-is_list_split-clause-looked
 returns-then-is_list_split-clause-looked g c =
@@ -22,20 +14,8 @@ returns-then-is_list_split-clause-looked g c =
     let listed : list_splits c.args.self.now.solver.strategy (length (pairs (segments_of xs))) ≡ true = ap (list_splits c.args.self.now.solver.strategy) (length-pairs xs) ∙ sym c.is_list_split.ensures ∙ c.if-is_list_split.true in
     on_ok_weaker c.find_marks.result (ArePassLooks-listed c.args.self.now.solver.strategy (grid_in c.args.self.now.grid) (pairs (segments_of xs)) c.args.self.now.looked c.find_marks.new.looked listed) c.find_marks.ensures.looked
 
-pub returns-in-Some-clause-looked : goal.returns-in-Some-clause-looked
-unfolding wide_looks
-returns-in-Some-clause-looked g c =
+pub returns-clause-looked : goal.returns-clause-looked
+returns-clause-looked g c =
     let xs = c.args.segments.now in
-    let ps = pairs (segments_of xs) in
-    let none : list_splits c.args.self.now.solver.strategy (length ps) ≡ false = ap (list_splits c.args.self.now.solver.strategy) (length-pairs xs) ∙ sym c.is_list_split.ensures ∙ c.if-is_list_split.false in
-    on_ok_weaker c.find_over_grid.result (λ h. ArePassLooks-wide c.args.self.now.solver.strategy (grid_in c.args.self.now.grid) ps c.args.self.now.looked c.find_over_grid.new.looked none
-    (subst (λ (o : Option Layout). c.find_over_grid.new.looked ≤ c.args.self.now.looked + wide_looks o ps) (sym (ap (λ b. grid_in b) c.in-Some.is)) h)) c.find_over_grid.ensures.looked
-
-pub returns-in-None-clause-looked : goal.returns-in-None-clause-looked
-unfolding wide_looks
-returns-in-None-clause-looked g c =
-    let xs = c.args.segments.now in
-    let ps = pairs (segments_of xs) in
-    let none : list_splits c.args.self.now.solver.strategy (length ps) ≡ false = ap (list_splits c.args.self.now.solver.strategy) (length-pairs xs) ∙ sym c.is_list_split.ensures ∙ c.if-is_list_split.false in
-    on_ok_weaker c.find_without_grid.result (λ h. ArePassLooks-wide c.args.self.now.solver.strategy (grid_in c.args.self.now.grid) ps c.args.self.now.looked c.find_without_grid.new.looked none
-    (subst (λ (o : Option Layout). c.find_without_grid.new.looked ≤ c.args.self.now.looked + wide_looks o ps) (sym (ap (λ b. grid_in b) c.in-None.is)) h)) c.find_without_grid.ensures.looked
+    let none : list_splits c.args.self.now.solver.strategy (length (pairs (segments_of xs))) ≡ false = ap (list_splits c.args.self.now.solver.strategy) (length-pairs xs) ∙ sym c.is_list_split.ensures ∙ c.if-is_list_split.false in
+    on_ok_weaker c.find_widely.result (ArePassLooks-wide c.args.self.now.solver.strategy (grid_in c.args.self.now.grid) (pairs (segments_of xs)) c.args.self.now.looked c.find_widely.new.self.looked none) c.find_widely.ensures.looked

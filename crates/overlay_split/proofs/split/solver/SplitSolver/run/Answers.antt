@@ -84,6 +84,7 @@ loop-init g c = record {
   within = joins_first (settings_of g.I.OverlayInt.BITS c.args.solver.now c.args.self.now) (segments_of c.args.list.now.items) c.args.limit (subst (λ n. n ≤ c.args.limit) (given_is c.args.list.now.items c.args.list.now.len c.len.result c.args.list.now.ok.0 c.len.ensures) c.if-len-limit.false);
   solver = c.in-Ok.ensures.solver;
   looked_before = refl;
+  changed = tt;
 }
 
 -- ---- snapping
@@ -107,6 +108,7 @@ loop-preserved g c =
       within = joins_next (settings_of g.I.OverlayInt.BITS c.args.solver.now c.args.self.now) (segments_of c.args.list.now.items) c.args.limit (segments_of c.loop.list.items) _ c.loop.progress.passes _ c.loop.invariant.within c.in_ok-progress.ensures.passes placing c.loop.invariant.at.arrangement_is c.in_ok-progress.ensures.within;
       solver = c.in_ok-progress.ensures.solver ∙ c.loop.invariant.solver;
       looked_before = c.loop.invariant.looked_before;
+      changed = c.in_ok-progress.ensures.bounds;
     }
 
 pub returns-in_err-progress-clause-stopped : goal.returns-in_err-progress-clause-stopped
@@ -156,6 +158,7 @@ loop-progress-init g c = record {
   within = c.loop.invariant.within;
   solver = c.loop.invariant.solver;
   looked_before = c.loop.invariant.looked_before;
+  changed = c.loop.invariant.changed;
 }
 
 pub loop-progress-preserved : goal.loop-progress-preserved
@@ -178,6 +181,7 @@ loop-progress-preserved g c =
       within = joins_next (settings_of g.I.OverlayInt.BITS c.args.solver.now c.args.self.now) (segments_of c.args.list.now.items) c.args.limit (segments_of c.loop-progress.list.items) _ c.loop-progress.progress.passes _ c.loop-progress.invariant.within c.in_ok-progress-2.ensures.passes placing c.loop-progress.invariant.at.arrangement_is c.in_ok-progress-2.ensures.within;
       solver = c.in_ok-progress-2.ensures.solver ∙ c.loop-progress.invariant.solver;
       looked_before = c.loop-progress.invariant.looked_before;
+      changed = c.in_ok-progress-2.ensures.bounds;
     }
 
 pub loop-progress-smaller : goal.loop-progress-smaller

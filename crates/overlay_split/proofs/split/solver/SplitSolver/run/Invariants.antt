@@ -9,6 +9,7 @@ use Rattle.overlay_split.specs.Potential.{potential}
 use Rattle.overlay_grid.specs.GroupsOf.{grid_in}
 use Rattle.overlay_split.specs.RunLengths.{JoinsAtMost}
 use Rattle.overlay_split.specs.RunLooks.{AreRunLooks}
+use Rattle.overlay_split.specs.steps.ChangedBoxes.{BoundChange}
 use Rattle.overlay_split.specs.steps.IsAt.{IsAt}
 use Rattle.overlay_split.proofs.split.solver.SplitSolver.run.Given as goal
 
@@ -30,6 +31,7 @@ invariant-loop g l = record {
   within : JoinsAtMost (settings_of g.I.OverlayInt.BITS l.solver l.fn.self) (segments_of l.fn.list.items) l.limit l.progress.passes;
   solver : l.finder.solver ≡ l.solver;
   looked_before : l.self.looked ≡ l.fn.self.looked;
+  changed : BoundChange g.I.OverlayInt.whole l.changed (segments_of l.list.items);
 }
 
 -- if a pass follows, it settles
@@ -49,6 +51,7 @@ invariant-loop-progress g l = record {
   within : JoinsAtMost (settings_of g.I.OverlayInt.BITS l.solver l.fn.self) (segments_of l.fn.list.items) l.limit l.progress.passes;
   solver : l.finder.solver ≡ l.solver;
   looked_before : l.self.looked ≡ l.fn.self.looked;
+  changed : BoundChange g.I.OverlayInt.whole l.changed (segments_of l.list.items);
 }
 
 abbrev pub decreases-loop-progress : goal.decreases-loop-progress

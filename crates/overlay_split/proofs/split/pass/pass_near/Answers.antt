@@ -4,7 +4,8 @@ use Rattle.std.proofs.lemmas.List.{length-map}
 use Rattle.std.proofs.lemmas.Result.{IfOk-from_err}
 use Rattle.overlay_base.specs.EdgeData.{without_data}
 use Rattle.overlay_base.specs.EdgeData.IsMadeFrom.{no_call}
-use Rattle.overlay_base.specs.SegmentOf.{segment_of, segments_of, data_segments_of}
+use Rattle.std.specs.Prelude.{IsTrue, IfSome}
+use Rattle.overlay_base.specs.SegmentOf.{segment_of, segments_of, data_segments_of, pairs_in}
 use Rattle.overlay_base.specs.declared.segm.segment.Segment.{Segment}
 use Rattle.overlay_base.specs.declared.segm.fault.Fault.TheVariants.{CountOutOfRange}
 use Rattle.overlay_intersections.specs.MarkOf.{AreMarks, AreMarksOf, mark_of, marks_of}
@@ -14,20 +15,23 @@ use Rattle.overlay_intersections.specs.declared.split.line_mark.LineMark.{LineMa
 use Rattle.overlay_intersections.specs.declared.split.placing.Placing.{Placing}
 use Rattle.overlay_split.specs.DataPass.{data_pass}
 use Rattle.overlay_split.specs.Pass.{pass}
-use Rattle.overlay_split.specs.PassOf.{StopsPass, piece_count}
+use Rattle.overlay_split.specs.CutOf.{AreCutMarksOf, ForMarks}
+use Rattle.overlay_split.specs.PassOf.{StopsPass, piece_count, pieces_leave_range}
+use Rattle.overlay_split.specs.steps.ChangedBoxes.{AreAround, rects_of}
 use Rattle.overlay_split.proofs.laws.passes.PieceNumbers.{pieces_counted}
 use Rattle.overlay_split.proofs.laws.passes.Ready.{AreCutMarks-pass, AreMarksBy-bare, AreMarksBy-pass, IsPairInRange-each, IsSortedByKey-is_map, marks_tell}
+use Rattle.overlay_split.proofs.laws.passes.BoundChanges.{bound_change}
 use Rattle.overlay_split.proofs.laws.passes.StoppedRuns.{refused_in}
-use Rattle.overlay_split.proofs.split.pass.pass_within.Goals as goal
+use Rattle.overlay_split.proofs.split.pass.pass_near.Goals as goal
 
-pub find_marks-requires-clause-sorted : goal.find_marks-requires-clause-sorted
-find_marks-requires-clause-sorted g c = rw (c.as_slice.ensures.value) (IsSortedByKey-is_map c.args.list.now.items c.requires.map)
+pub find_marks_near-requires-clause-sorted : goal.find_marks_near-requires-clause-sorted
+find_marks_near-requires-clause-sorted g c = rw (c.as_slice.ensures.value) (IsSortedByKey-is_map c.args.list.now.items c.requires.map)
 
-pub find_marks-requires-clause-in_range : goal.find_marks-requires-clause-in_range
-find_marks-requires-clause-in_range g c = rw (c.as_slice.ensures.value) (IsPairInRange-each c.args.list.now.items g.I.OverlayInt.MIN_COORD g.I.OverlayInt.MAX_COORD c.requires.splittable)
+pub find_marks_near-requires-clause-in_range : goal.find_marks_near-requires-clause-in_range
+find_marks_near-requires-clause-in_range g c = rw (c.as_slice.ensures.value) (IsPairInRange-each c.args.list.now.items g.I.OverlayInt.MIN_COORD g.I.OverlayInt.MAX_COORD c.requires.splittable)
 
-pub find_marks-requires-clause-inside : goal.find_marks-requires-clause-inside
-find_marks-requires-clause-inside g c = rw (c.as_slice.ensures.value) c.requires.inside
+pub find_marks_near-requires-clause-inside : goal.find_marks_near-requires-clause-inside
+find_marks_near-requires-clause-inside g c = rw (c.as_slice.ensures.value) c.requires.inside
 
 pub returns-in-Err-clause-store_made : goal.returns-in-Err-clause-store_made
 returns-in-Err-clause-store_made g c = no_call
@@ -35,7 +39,7 @@ returns-in-Err-clause-store_made g c = no_call
 pub pass_at-requires-clause-marks : goal.pass_at-requires-clause-marks
 pass_at-requires-clause-marks g c =
     let whole = g.I.OverlayInt.whole in
-    let found = subst (λ l. AreMarks (placing_of c.args.placing) (segments_of l) (marks_of whole c.find_marks.new.marks.items)) c.as_slice.ensures.value c.in-Ok.ensures.marks in
+    let found = subst (λ l. AreMarks (placing_of c.args.placing) (segments_of l) (marks_of whole c.find_marks_near.new.marks.items)) c.as_slice.ensures.value c.in-Ok.ensures.marks in
     AreCutMarks-pass (placing_of c.args.placing) (segments_of c.args.list.now.items) _ found
 
 pub returns-in_err-pass_at-clause-stopped : goal.returns-in_err-pass_at-clause-stopped
@@ -43,15 +47,52 @@ returns-in_err-pass_at-clause-stopped g c =
     let items = c.args.list.now.items in
     let whole = g.I.OverlayInt.whole in
     let placing = placing_of c.args.placing in
-    let found = subst (λ l. AreMarks placing (segments_of l) (marks_of whole c.find_marks.new.marks.items)) c.as_slice.ensures.value c.in-Ok.ensures.marks in
+    let found = subst (λ l. AreMarks placing (segments_of l) (marks_of whole c.find_marks_near.new.marks.items)) c.as_slice.ensures.value c.in-Ok.ensures.marks in
     let stopped : c.in_err-pass_at.field-0.0 ≡ CountOutOfRange → StopsPass g.D.OverlayEdgeData c.args.placing c.args.list.now c.args.store.now c.pass_at.new.store =
     λ e. c.in_err-pass_at.ensures.stopped e (marks_on placing (without_data (data_segments_of items))) (AreMarksBy-bare items placing _ found) in
     refused_in c.from_residual.result c.in_err-pass_at.field-0.0 _ c.from_residual.ensures.1 stopped
 
+pub changed_boxes-requires : goal.changed_boxes-requires
+changed_boxes-requires g c =
+    let items = c.args.list.now.items in
+    let placing = placing_of c.args.placing in
+    let marks = c.find_marks_near.new.marks.items in
+    let found = subst (λ l. AreMarks placing (segments_of l) (marks_of g.I.OverlayInt.whole marks)) c.as_slice.ensures.value c.in-Ok.ensures.marks in
+    let given = AreCutMarks-pass placing (segments_of items) (marks_of g.I.OverlayInt.whole marks) found in
+    record { marks = subst (λ l. AreCutMarksOf l c.as_slice-3.result.now) (sym c.as_slice-2.ensures.value) (subst (λ l. AreCutMarksOf items l) (sym c.as_slice-3.ensures.value) given) }
+
+pub returns-in-Err-changed_boxes-clause-store_made : goal.returns-in-Err-changed_boxes-clause-store_made
+returns-in-Err-changed_boxes-clause-store_made g c = no_call
+
+pub returns-in_err-pass_at-clause-refused : goal.returns-in_err-pass_at-clause-refused
+returns-in_err-pass_at-clause-refused g c =
+    let segments = segments_of c.args.list.now.items in
+    let whole = g.I.OverlayInt.whole in
+    let placing = placing_of c.args.placing in
+    let found = subst (λ l. AreMarks placing (segments_of l) (marks_of whole c.find_marks_near.new.marks.items)) c.as_slice.ensures.value c.in-Ok.ensures.marks in
+    let refused : c.in_err-pass_at.field-0.0 ≡ CountOutOfRange → IsTrue (pieces_leave_range c.args.placing c.args.list.now.items) =
+    λ e. c.in_err-pass_at.ensures.refused e (marks_on placing segments) (AreMarksBy-pass placing segments _ found) in
+    refused_in c.from_residual.result c.in_err-pass_at.field-0.0 _ c.from_residual.ensures.1 refused
+
+pub returns-clause-changed : goal.returns-clause-changed
+unfolding pass
+returns-clause-changed g c =
+    let whole = g.I.OverlayInt.whole in
+    let items = c.args.list.now.items in
+    let segments = segments_of items in
+    let placing = placing_of c.args.placing in
+    let marks = c.find_marks_near.new.marks.items in
+    let boxes = c.in-Ok-changed_boxes.boxes in
+    let are : AreMarks placing segments (marks_of whole marks) = subst (λ l. AreMarks placing (segments_of l) (marks_of whole marks)) c.as_slice.ensures.value c.in-Ok.ensures.marks in
+    let geometry : segments_of c.pass_at.new.list.items ≡ pass placing segments = c.in_ok-pass_at.ensures.geometry (marks_on placing segments) (AreMarksBy-pass placing segments _ are) in
+    let first = subst (λ l. IfSome boxes (λ b. ForMarks l c.as_slice-3.result.now (λ on. AreAround on (pairs_in l) (rects_of whole b.items)))) c.as_slice-2.ensures.value c.in-Ok-changed_boxes.ensures.around in
+    let around = subst (λ l. IfSome boxes (λ b. ForMarks items l (λ on. AreAround on (pairs_in items) (rects_of whole b.items)))) c.as_slice-3.ensures.value first in
+    bound_change placing items c.pass_at.new.list.items marks boxes c.requires.map are around c.in-Ok-changed_boxes.ensures.from_left geometry
+
 -- the marks that were found are those of the pass
-found : (g : _) (c : goal.In_ok-pass_at g) → AreMarks (placing_of c.args.placing) (segments_of c.args.list.now.items) (marks_of g.I.OverlayInt.whole c.find_marks.new.marks.items)
+found : (g : _) (c : goal.In_ok-pass_at g) → AreMarks (placing_of c.args.placing) (segments_of c.args.list.now.items) (marks_of g.I.OverlayInt.whole c.find_marks_near.new.marks.items)
 found g c =
-    subst (λ l. AreMarks (placing_of c.args.placing) (segments_of l) (marks_of g.I.OverlayInt.whole c.find_marks.new.marks.items)) c.as_slice.ensures.value c.in-Ok.ensures.marks
+    subst (λ l. AreMarks (placing_of c.args.placing) (segments_of l) (marks_of g.I.OverlayInt.whole c.find_marks_near.new.marks.items)) c.as_slice.ensures.value c.in-Ok.ensures.marks
 
 pub returns-clause-geometry : goal.returns-clause-geometry
 unfolding pass
@@ -75,7 +116,7 @@ pub returns-clause-marked : goal.returns-clause-marked
 returns-clause-marked g c =
     let whole = g.I.OverlayInt.whole in
     let segments = segments_of c.args.list.now.items in
-    let marks = c.find_marks.new.marks in
+    let marks = c.find_marks_near.new.marks in
     let length_is : length (marks_of whole marks.items) ≡ vec_len marks = length-map marks.items (mark_of whole) ∙ sym marks.ok.0 in
     marks_tell (placing_of c.args.placing) segments (marks_of whole marks.items) (found g c) (vec_len marks) length_is c.is_empty-has_marks.result c.is_empty-has_marks.ensures
 
@@ -103,13 +144,13 @@ pieces_are {w = w} placing list taken marks same found len listed held noted e f
 
 pub returns-then-len-limit-clause-beyond : goal.returns-then-len-limit-clause-beyond
 returns-then-len-limit-clause-beyond g c = λ _.
-    let marks = c.find_marks.new.marks in
+    let marks = c.find_marks_near.new.marks in
     let pieces = pieces_are c.args.placing c.args.list.now.items c.as_slice.result.now marks.items c.as_slice.ensures.value c.in-Ok.ensures.marks (vec_len c.args.list.now) c.len.result (vec_len marks) c.len-2.result c.args.list.now.ok.0 c.len.ensures marks.ok.0 c.len-2.ensures in
     subst (λ n. c.args.limit < n) pieces c.if-len-limit.true
 
 pub returns-clause-within : goal.returns-clause-within
 returns-clause-within g c =
-    let marks = c.find_marks.new.marks in
+    let marks = c.find_marks_near.new.marks in
     let pieces = pieces_are c.args.placing c.args.list.now.items c.as_slice.result.now marks.items c.as_slice.ensures.value c.in-Ok.ensures.marks (vec_len c.args.list.now) c.len.result (vec_len marks) c.len-2.result c.args.list.now.ok.0 c.len.ensures marks.ok.0 c.len-2.ensures in
     subst (λ n. n ≤ c.args.limit) pieces c.if-len-limit.false
 
@@ -206,28 +247,28 @@ pub returns-clause-unbounded : goal.returns-clause-unbounded
 returns-clause-unbounded g c = tt
 
 pub returns-in-Err-clause-solver : goal.returns-in-Err-clause-solver
-returns-in-Err-clause-solver g c = c.find_marks.ensures.solver
+returns-in-Err-clause-solver g c = c.find_marks_near.ensures.solver
 
 pub returns-in-Err-clause-grid : goal.returns-in-Err-clause-grid
-returns-in-Err-clause-grid g c = c.find_marks.ensures.grid
+returns-in-Err-clause-grid g c = c.find_marks_near.ensures.grid
 
 pub returns-then-len-limit-clause-solver : goal.returns-then-len-limit-clause-solver
-returns-then-len-limit-clause-solver g c = c.find_marks.ensures.solver
+returns-then-len-limit-clause-solver g c = c.find_marks_near.ensures.solver
 
 pub returns-then-len-limit-clause-grid : goal.returns-then-len-limit-clause-grid
-returns-then-len-limit-clause-grid g c = c.find_marks.ensures.grid
+returns-then-len-limit-clause-grid g c = c.find_marks_near.ensures.grid
 
 pub returns-in_err-pass_at-clause-solver : goal.returns-in_err-pass_at-clause-solver
-returns-in_err-pass_at-clause-solver g c = c.find_marks.ensures.solver
+returns-in_err-pass_at-clause-solver g c = c.find_marks_near.ensures.solver
 
 pub returns-in_err-pass_at-clause-grid : goal.returns-in_err-pass_at-clause-grid
-returns-in_err-pass_at-clause-grid g c = c.find_marks.ensures.grid
+returns-in_err-pass_at-clause-grid g c = c.find_marks_near.ensures.grid
 
 pub returns-clause-solver : goal.returns-clause-solver
-returns-clause-solver g c = c.find_marks.ensures.solver
+returns-clause-solver g c = c.find_marks_near.ensures.solver
 
 pub returns-clause-grid : goal.returns-clause-grid
-returns-clause-grid g c = c.find_marks.ensures.grid
+returns-clause-grid g c = c.find_marks_near.ensures.grid
 
 pub returns-clause-store_made : goal.returns-clause-store_made
 returns-clause-store_made g c = c.in_ok-pass_at.ensures.store_made
@@ -244,5 +285,8 @@ pass_at-requires-clause-map g c = c.requires.map
 pub pass_at-requires-clause-splittable : goal.pass_at-requires-clause-splittable
 pass_at-requires-clause-splittable g c = c.requires.splittable
 
-pub find_marks-requires-clause-radius : goal.find_marks-requires-clause-radius
-find_marks-requires-clause-radius g c = c.requires.radius
+pub find_marks_near-requires-clause-radius : goal.find_marks_near-requires-clause-radius
+find_marks_near-requires-clause-radius g c = c.requires.radius
+
+pub find_marks_near-requires-clause-changed : goal.find_marks_near-requires-clause-changed
+find_marks_near-requires-clause-changed g c = rw (c.as_slice.ensures.value) c.requires.changed
