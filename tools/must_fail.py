@@ -232,11 +232,12 @@ class Trial:
         return self.kept is not None or not self.is_begun
 
     def try_round(self, edits):
-        """Tries some edits together."""
-        texts, said = self.checked_with(edits)
+        """Tries some edits together, and returns the seconds of a processor that this took."""
+        texts, said, took = self.checked_with(edits)
         while unread := self.unread_in(said):
             self.others = {proof: it for proof, it in self.others.items() if proof not in unread}
-            texts, said = self.checked_with(edits)
+            texts, said, more = self.checked_with(edits)
+            took += more
         # a message goes on in lines that begin with two spaces, the first of which says what a proof names in vain
         whole = re.sub(r"\n  (?=has no )", " ", said)
         # what has a word in brackets is no goal: the edit does not compile
@@ -247,6 +248,7 @@ class Trial:
             if not edit.goal:
                 edit.may_try_again = self.find_vain(edit, goals, texts)
                 edit.said = "\n".join(said.split("\n")[-8:])
+        return took
 
     def find_vain(self, edit, goals, texts):
         """Notes the proofs of functions that an edit changes which name what it took away, and returns whether there is a new one."""
@@ -261,7 +263,7 @@ class Trial:
         return self.others.keys() & {it.replace("/", "::") for it in UNREAD_PROOF.findall(said)}
 
     def checked_with(self, edits):
-        """Returns the texts that edits change, and what the check of a copy with these says."""
+        """Returns the texts that edits change, and what the check of a copy with these says and takes."""
         with tempfile.TemporaryDirectory(prefix="must-fail-") as room:
             texts = self.copy_with(edits, room)
             if not any(edit.is_alone or edit.is_over_proofs for edit in edits):
@@ -269,11 +271,11 @@ class Trial:
             if self.kept:
                 shutil.copytree(self.kept.name, f"{room}/kept", copy_function=link_or_copy)
             os.makedirs(f"{room}/kept", exist_ok=True)
-            said = self.check(room, {path: module for edit in edits for path, module in edit.paths.items()})
+            said, took = self.check(room, {path: module for edit in edits for path, module in edit.paths.items()})
             if self.kept is None and not self.unread_in(said):
                 self.kept = tempfile.TemporaryDirectory(prefix="must-fail-kept-")
                 shutil.copytree(f"{room}/kept", self.kept.name, dirs_exist_ok=True, copy_function=link_or_copy)
-        return texts, said
+        return texts, said, took
 
     def put_holes(self, changed, room):
         """Puts a hole in place of each proof of functions that no edit changes, and no body in place of theirs."""
@@ -321,17 +323,24 @@ class Trial:
         return texts
 
     def check(self, room, paths):
-        """Checks functions of the copy, each by its path or, where the prover knows none of that name, with its whole module."""
+        """Checks functions of the copy, each by its path or, where the prover knows none of that name, with its whole module.
+
+        Returns what the check says, and the seconds of a processor that it takes.
+        """
         flags = ["--jobs", "1", "--allow-holes", "--incremental", f"{room}/kept"]
         words = [*self.rtlib.guarded(), self.rtlib.RATTLE, "check", *self.crate.words(flags, keeps=False)]
         how = {"cwd": room, "stdin": subprocess.DEVNULL, "stdout": subprocess.PIPE, "stderr": subprocess.STDOUT}
-        chosen = dict.fromkeys(sorted(paths))
+        chosen, took = dict.fromkeys(sorted(paths)), 0
         while True:
             only = [word for path in chosen for word in ("--only", path)]
-            ran = subprocess.run([*words, *only], text=True, errors="replace", check=False, **how)
-            unknown = {it for it in NO_FUNCTION.findall(ran.stdout) if it in paths} if ran.returncode == 2 else set()
+            with subprocess.Popen([*words, *only], text=True, errors="replace", **how) as ran:
+                said = ran.stdout.read()
+                _, status, used = os.wait4(ran.pid, 0)
+                ran.returncode = os.waitstatus_to_exitcode(status)
+            took += used.ru_utime + used.ru_stime
+            unknown = {it for it in NO_FUNCTION.findall(said) if it in paths} if ran.returncode == 2 else set()
             if not unknown & chosen.keys():
-                return ran.stdout
+                return said, took
             chosen = dict.fromkeys(sorted({paths[it] if it in unknown else it for it in chosen}))
 
     def function_of(self, goal, texts):
@@ -386,11 +395,10 @@ def try_all(trials, marks, start):
     waiting.sort(key=lambda it: -seconds_of(*it))
 
     def try_one(trial, edits):
-        begun = time.time()
-        trial.try_round(edits)
+        took = trial.try_round(edits)
         seen = [edit for edit in edits if edit.goal]
-        took = time.time() - begun
-        print(f"{time.time() - start:5.0f} s: {trial.crate.name}: {len(seen)} of {len(edits)} edits refused in {took:.0f} s", flush=True)
+        said = f"{len(seen)} of {len(edits)} edits refused in {took:.0f} s of a processor"
+        print(f"{time.time() - start:5.0f} s: {trial.crate.name}: {said}", flush=True)
         again = [edit for edit in edits if not edit.goal and (edit.may_try_again or not edit.is_over_proofs)]
         for edit in again:
             edit.is_over_proofs |= not edit.may_try_again

@@ -8,6 +8,10 @@ mod filters;
 #[cfg(test)]
 mod graphs;
 #[cfg(test)]
+mod many_live;
+#[cfg(test)]
+mod refused_inserts;
+#[cfg(test)]
 mod scans;
 #[cfg(test)]
 mod string_graphs;

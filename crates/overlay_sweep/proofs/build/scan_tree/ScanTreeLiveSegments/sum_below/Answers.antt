@@ -47,3 +47,9 @@ returns-then-last-clause-most g c = λ n d within high. drops_pay _ _ _ d c.sett
 
 pub returns-else-last-clause-most : goal.returns-else-last-clause-most
 returns-else-last-clause-most g c = λ n d within high. drops_pay _ _ _ d c.settle-last.ensures.kept (c.settle-last.ensures.compared d (highest_of_fewer _ n d within high))
+
+pub returns-then-last-clause-compared : goal.returns-then-last-clause-compared
+returns-then-last-clause-compared g c = c.settle-last.ensures.compared
+
+pub returns-else-last-clause-compared : goal.returns-else-last-clause-compared
+returns-else-last-clause-compared g c = c.settle-last.ensures.compared

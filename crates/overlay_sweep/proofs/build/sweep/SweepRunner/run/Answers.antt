@@ -24,3 +24,18 @@ returns-clause-compared g c = elim c.match-solver.branch [
     ]
   ]
 ]
+
+pub returns-clause-answer : goal.returns-clause-answer
+returns-clause-answer g c = elim c.match-solver.branch [
+  | in-List+in_ok-answer-in-List w ↦ rw w.answer-is w.in_ok-answer-in-List.ensures.answer
+  | in-Tree+in_ok-answer-in-Tree w ↦ rw w.answer-is w.in_ok-answer-in-Tree.ensures.answer
+]
+
+pub returns-clause-in_range : goal.returns-clause-in_range
+returns-clause-in_range g c = elim c.match-solver.branch [
+  | in-List+in_ok-answer-in-List w ↦ w.in_ok-answer-in-List.ensures.in_range
+  | in-Tree+in_ok-answer-in-Tree w ↦ w.in_ok-answer-in-Tree.ensures.in_range
+]
+
+pub sweep_with_handler-requires-clause-arranged : goal.sweep_with_handler-requires-clause-arranged
+sweep_with_handler-requires-clause-arranged g c = c.requires.arranged
