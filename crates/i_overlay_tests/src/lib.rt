@@ -1,4 +1,5 @@
-// Tests of `i_overlay`, `overlay_contours` and `overlaps`, through their public calls.
+// Tests of `i_overlay`, `overlay_contours`, `overlay_text` and `overlaps`, through their public calls. Runs of the programs over
+// `overlay_text` are in `examples/runs`.
 #![tactic(auto)]
 
 #[cfg(test)]
@@ -15,3 +16,7 @@ mod meetings;
 mod provenance;
 #[cfg(test)]
 mod sources;
+#[cfg(test)]
+mod stop;
+#[cfg(test)]
+mod words;
