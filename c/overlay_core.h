@@ -107,7 +107,7 @@ overlay_core_status overlay_core_overlay_shapes(overlay_core *overlay, int rule,
 overlay_core_status overlay_core_overlay_by_rules(overlay_core *overlay, const int *rules, size_t count, int fill_rule);
 
 /* Splits and sweeps the contours that were added, under a fill rule, so that overlays by any rules need no further split. The contours and
-   the result stay. After a failure, or if contours are added, the last arrangement stays as it was. */
+   the result stay. After a failure, or if contours are added or dropped, the last arrangement stays. */
 overlay_core_status overlay_core_arrange(overlay_core *overlay, int fill_rule);
 
 /* The overlay by a rule of the contours as they were arranged last, as of overlay_core_overlay. If corners is not 0, points at which a
