@@ -178,55 +178,6 @@ impl Case for Build {
     }
 }
 
-/// A build of the graph of all, whose nodes are lists. A refused one leaves neither nodes nor links.
-#[derive(Drop)]
-pub struct Lists {
-    builder: Builder,
-    links: Vec<OverlayLink<i32, ()>>,
-    degrees: Vec<usize>,
-    indexes: Vec<usize>,
-    solver: Solver,
-}
-
-impl Lists {
-    /// Builds under a strategy, whose lists have taken no memory yet.
-    pub fn new(alloc: Global, solver: Solver) -> Lists {
-        Lists {
-            builder: Builder::new(alloc),
-            links: Vec::new(alloc),
-            degrees: Vec::new(alloc),
-            indexes: Vec::new(alloc),
-            solver,
-        }
-    }
-}
-
-impl Case for Lists {
-    fn try_once(&mut self, alloc: Global) -> Result<Summary, Stop> {
-        let squares = arrangement(Shape::Squares, alloc)?;
-        if !is_arranged(&squares) {
-            return Err(Stop::Wrong("the split is no arrangement"));
-        }
-        let links = &mut self.links;
-        let (degrees, indexes) = (&mut self.degrees, &mut self.indexes);
-        let built = self.builder.build_boolean_lists(
-            FillRule::NonZero,
-            &self.solver,
-            squares.as_slice(),
-            links,
-            degrees,
-            indexes,
-        );
-        match built {
-            Ok(()) => Ok(summary_of(&self.links, self.degrees.len())),
-            Err(fault) => Err(refused(
-                fault,
-                self.builder.nodes().is_empty() && self.builder.links().is_empty(),
-            )),
-        }
-    }
-}
-
 /// Wants a graph without links and nodes.
 fn check_empty(graph: Summary) -> Result<(), Stop> {
     if graph.count == 0 && graph.others == 0 {

@@ -16,7 +16,7 @@ mod wholes;
 
 use crate::case::{Case, Stop};
 use crate::fragments::Fragments;
-use crate::graphs::{Boundary, Build, Filter, Kind, Lists, Loops, Walks};
+use crate::graphs::{Boundary, Build, Filter, Kind, Loops, Walks};
 use crate::inserts::Insert;
 use crate::lists::{Balance, Join, Snap, Sort, Split};
 use crate::sweeps::Sweep;
@@ -169,8 +169,7 @@ fn tell_builds<W: Write, E: Write>(
         let mut case = Build::new(alloc, kind, solver);
         tell(build, name, &mut case, alloc, output, digests)?;
     }
-    let mut lists = Lists::new(alloc, solver);
-    tell("build lists", name, &mut lists, alloc, output, digests)
+    Ok(())
 }
 
 /// Makes a call until it returns a result, and prints it.

@@ -46,7 +46,6 @@ use overlay_geometry::num::OverlayInt;
 use overlay_sweep::build::fill_strategy::FillCount;
 use overlay_sweep::build::sweep::SweepRunner;
 use std::alloc::Global;
-use std::mem;
 
 /// Builds graphs of arrangements, one after another, and keeps their buffers. Nodes and links are those of the last
 /// build: none before the first, nor after one that was refused.
@@ -198,26 +197,6 @@ impl<C: FillCount, N: GraphNode, I: OverlayInt, D: Copy> GraphBuilder<C, N, I, D
         link_kept(self.alloc, segments, fills, rule, links, degrees, indexes)
     }
 
-    /// Exchanges the builder's lists for these.
-    fn exchange_lists(
-        &mut self,
-        links: &mut Vec<OverlayLink<I, D>>,
-        degrees: &mut Vec<usize>,
-        indexes: &mut Vec<usize>,
-    )
-        ensures links { links.new ≡ self.old.links }
-        ensures degrees { degrees.new ≡ self.old.degrees }
-        ensures indexes { indexes.new ≡ self.old.indexes }
-        ensures self_links { self.new.links ≡ links.old }
-        ensures same_nodes { self.new.nodes ≡ self.old.nodes }
-        ensures same_runner { self.new.sweep_runner ≡ self.old.sweep_runner }
-        ensures same_compared { self.new.compared ≡ self.old.compared }
-    {
-        mem::swap(&mut self.links, links);
-        mem::swap(&mut self.degrees, degrees);
-        mem::swap(&mut self.indexes, indexes);
-    }
-
     /// Builds the links and the nodes of the kept segments, by fills that are known. Nodes and links are empty after a
     /// refusal.
     fn build_with_fills(
@@ -332,44 +311,6 @@ impl<I: OverlayInt, D: Copy> GraphBuilder<ShapeCountBoolean, OverlayNode, I, D> 
     {
         self.build(fill_rule, LinkRule::Every, solver, segments)?;
         Ok(self.graph())
-    }
-
-    /// The same graph as lists: its links, how many of them meet at each node, and the indexes of these, node by node,
-    /// in place of what the three lists had. The builder shows neither links nor nodes then.
-    ///
-    /// The segments have to be arranged, as `is_arranged` tests; their counts need not balance. The
-    /// solver's strategy does not change the result.
-    ///
-    /// Returns `Fault::CountOutOfRange` where a winding above a segment leaves the range, and `Fault::Memory` where a
-    /// growth is refused. The lists may have anything then, and the builder can be used again.
-    pub fn build_boolean_lists(
-        &mut self,
-        fill_rule: FillRule,
-        solver: &Solver,
-        segments: &[Segment<ShapeCountBoolean, I, D>],
-        links: &mut Vec<OverlayLink<I, D>>,
-        degrees: &mut Vec<usize>,
-        indexes: &mut Vec<usize>,
-    ) -> Result<(), Fault>
-        requires arranged { IsArranged segments.now }
-        ensures graph { OnOk result (HoldLists I.whole links.new.items degrees.new.items indexes.new.items
-            (graph_by (λ _. true) fill_rule (segments_of segments.now))) }
-        ensures edge_data { OnOk result (map (λ l. l.edge_data) links.new.items
-            ≡ data_by (λ _. true) fill_rule (data_segments_of segments.now)) }
-        ensures in_range { OnOk result (IsFalse (tops_leave_range (segments_of segments.now))) }
-        ensures out_of_range { OnTooLarge result (IsTrue (tops_leave_range (segments_of segments.now))) }
-        ensures no_links { built_links self.new ≡ [] }
-        ensures no_nodes { built_nodes self.new ≡ [] }
-        ensures compared { OnOk result (IsCostOf solver.now segments.now (build_asked self.new)) }
-        ensures same_compared { OnErr result (build_asked self.new ≡ build_asked self.old) }
-    {
-        self.nodes.clear();
-        self.exchange_lists(links, degrees, indexes);
-        let built = self.try_build_lists(fill_rule, LinkRule::Every, solver, segments);
-        self.exchange_lists(links, degrees, indexes);
-        self.finish(&built);
-        self.links.clear();
-        built
     }
 
     /// The graph of the segments of an arrangement that the rule keeps: those of whose two sides it
