@@ -1,3 +1,4 @@
 -- The finder over a list.
 pub mod ListLooks
 pub mod ListScans
+pub mod Listed

@@ -1,5 +1,5 @@
 // The finder that compares every pair of segments of a list. Upstream: `split::solver_list`.
-ghost use Rattle.std.specs.Prelude.{◌≡◌, ◌<◌, ◌≤◌, ◌+◌, ◌-◌, ◌^◌, min, map, count_by, nat_lt, ◌++◌, ◌||◌, IfErr, IfOk, OnOk, IsSortedByKey, drop, length};
+ghost use Rattle.std.specs.Prelude.{◌≡◌, ◌<◌, ◌≤◌, ◌+◌, ◌-◌, ◌^◌, min, map, count_by, cond, nat_lt, [], ◌∷◌, ◌++◌, ◌||◌, All, IfErr, IfOk, OnOk, IsSortedByKey, drop, take, length};
 ghost use Rattle.overlay_base.specs.declared.segm.fault.Fault.TheVariants.{Memory};
 ghost use Rattle.overlay_geometry.specs.Points.{pair_cmp};
 ghost use Rattle.overlay_geometry.specs.RangeOf.{range_of};
@@ -10,7 +10,7 @@ ghost use Rattle.overlay_intersections.specs.PassMarks.{is_rounded};
 ghost use Rattle.overlay_intersections.specs.PlacingOf.{placing_of, HasRadius};
 ghost use Rattle.overlay_intersections.specs.MarkOf.{marks_of, AreMarksOf};
 ghost use Rattle.overlay_intersections.specs.Looked.{count_twos, x_ranges_meet, capped_sum};
-ghost use Rattle.overlay_tree.specs.steps.ListScan.{AreHeightsOf, do_ranges_meet, marks_left, crosses_left};
+ghost use Rattle.overlay_tree.specs.steps.ListScan.{AreHeightsOf, do_ranges_meet, marks_left, crosses_left, marks_listed, crosses_listed, AreListed, IsReaching};
 ghost use Rattle.overlay_tree.specs.steps.Swept.{pair_at};
 ghost use Rattle.overlay_intersections.specs.MarksBetween.{marks_between, marks_of_first, first_crosses_inexactly};
 ghost use Rattle.overlay_base.specs.ArrangedOf.{AreInRange};
@@ -102,10 +102,92 @@ fn mark_with_later<C: WindingCount, I: OverlayInt, D: Copy>(
         (let ps = pairs (segments_of segments.now) in
         min (looked.old + count_by (x_ranges_meet (pair_at ps index)) (drop (index + 1) ps)) (2 ^ 128 - 1))) }
 {
-    let end = end_of_reach(segments, index);
+    let mut met = [0_usize; NEAR];
+    let (count, near_end) = list_near(segments, ranges, index, &mut met);
+    let mut rounded = mark_listed(segments, index, &met[..count], placing, marks)?;
+    let mut end = near_end;
+    if near_end - index > NEAR {
+        end = end_of_reach(segments, index, near_end);
+        rounded |= mark_by_blocks(segments, ranges, index, near_end, end, placing, marks)?;
+    }
     // counted once, as a sum of 128 bits for each pair takes long
     *looked = looked.saturating_add((end - index - 1) as u128);
-    let rounded = mark_by_blocks(segments, ranges, index, end, placing, marks)?;
+    Ok(rounded)
+}
+
+/// So many later segments are tested one by one. Those that follow are tested block by block, where all of the first are
+/// in reach.
+const NEAR: usize = 8;
+
+const _: () = prove!(NEAR == 8);
+
+/// Lists in `met` those of the next `NEAR` segments whose heights this one's meet, up to the first that begins right of
+/// this one's end. Returns how many these are, and the index of the first that is not tested.
+#[inline(always)]
+fn list_near<C: WindingCount, I: OverlayInt, D: Copy>(
+    segments: &[Segment<C, I, D>],
+    ranges: &[LineRange<I>],
+    index: usize,
+    met: &mut [usize],
+) -> (usize, usize)
+    requires index { index < length segments.now }
+    requires room { length met.old ≡ 8 }
+    requires heights { AreHeightsOf I.whole ranges.now (pairs (segments_of segments.now)) }
+    requires sorted { IsSortedByKey ends_of pair_cmp segments.now }
+    ensures count { result.0 ≤ 8 }
+    ensures listed { AreListed (pairs (segments_of segments.now)) index (index + 1) result.1 (take result.0 met.new) }
+    ensures reach { IsReaching (pairs (segments_of segments.now)) index result.1 }
+    ensures past { let ps = pairs (segments_of segments.now) in
+        result.1 ≤ index + 8 → count_by (x_ranges_meet (pair_at ps index)) (drop result.1 ps) ≡ 0 }
+{
+    let target = segments[index].x_segment();
+    let own = ranges[index];
+    let few = (segments.len() - index - 1).min(NEAR);
+    let mut count = 0;
+    for later in index + 1..index + 1 + few {
+        if segments[later].x_segment().begins_past_end(&target) {
+            return (count, later);
+        }
+        count = keep_if(met, count, later, do_meet(&own, &ranges[later]));
+    }
+    (count, index + 1 + few)
+}
+
+/// Writes an index behind the first so many of a list, and returns how many these are then: one more if it is to be
+/// kept. It takes no branch.
+#[inline(always)]
+fn keep_if(met: &mut [usize], count: usize, later: usize, is_kept: bool) -> usize
+    requires { count < length met.old }
+    ensures count { result ≤ count + 1 }
+    ensures kept { take result met.new ≡ take count met.old ++ cond is_kept (later ∷ []) [] }
+{
+    met[count] = later;
+    count + usize::from(is_kept)
+}
+
+/// Appends the marks that a segment and each of some later ones put on one another, and returns whether it crosses one
+/// of these at a point without whole coordinates.
+#[inline(always)]
+fn mark_listed<C: WindingCount, I: OverlayInt, D: Copy>(
+    segments: &[Segment<C, I, D>],
+    index: usize,
+    met: &[usize],
+    placing: Placing,
+    marks: &mut Vec<LineMark<I>>,
+) -> Result<bool, AllocError>
+    requires met { All (λ later. (index < later) × (later < length segments.now)) met.now }
+    requires sorted { IsSortedByKey ends_of pair_cmp segments.now }
+    requires in_range { AreInRange segments.now }
+    requires radius { HasRadius placing }
+    ensures marks { OnOk result (marks_of I.whole marks.new.items ≡ marks_of I.whole marks.old.items
+        ++ marks_listed (placing_of placing) (pairs (segments_of segments.now)) index met.now) }
+    ensures rounded { IfOk result (λ rounded. rounded ≡ crosses_listed
+        (pairs (segments_of segments.now)) index met.now) }
+{
+    let mut rounded = false;
+    for later in met {
+        rounded |= mark_two(segments, index, *later, placing, marks)?;
+    }
     Ok(rounded)
 }
 
@@ -114,22 +196,22 @@ const BLOCK: usize = 16;
 
 const _: () = prove!(BLOCK == 16);
 
-/// The index of the first later segment that begins right of this one's end, or the length of the list.
+/// The index of the first later segment that begins right of this one's end, or the length of the list. The search
+/// begins at `from`, before which none does.
 fn end_of_reach<C: WindingCount, I: OverlayInt, D: Copy>(
     segments: &[Segment<C, I, D>],
     index: usize,
+    from: usize,
 ) -> usize
-    requires index { index < length segments.now }
     requires sorted { IsSortedByKey ends_of pair_cmp segments.now }
-    ensures after { index < result }
-    ensures within { result ≤ length segments.now }
-    ensures met { let ps = pairs (segments_of segments.now) in
-        index + 1 + count_by (x_ranges_meet (pair_at ps index)) (drop (index + 1) ps) ≡ result }
+    requires reach { IsReaching (pairs (segments_of segments.now)) index from }
+    ensures from { from ≤ result }
+    ensures reach { IsReaching (pairs (segments_of segments.now)) index result }
     ensures past { let ps = pairs (segments_of segments.now) in
         count_by (x_ranges_meet (pair_at ps index)) (drop result ps) ≡ 0 }
 {
     let target = segments[index].x_segment();
-    let mut end = index + 1;
+    let mut end = from;
     'leaps: while segments.len() - end >= BLOCK {
         if segments[end + BLOCK - 1]
             .x_segment()
@@ -148,17 +230,18 @@ fn end_of_reach<C: WindingCount, I: OverlayInt, D: Copy>(
     end
 }
 
-/// As `mark_with_each`, for those after this one up to an end: whole blocks that this one's heights do not meet are
-/// passed over.
+/// As `mark_with_each`, for any number of them: whole blocks that this one's heights do not meet are passed over.
 fn mark_by_blocks<C: WindingCount, I: OverlayInt, D: Copy>(
     segments: &[Segment<C, I, D>],
     ranges: &[LineRange<I>],
     index: usize,
+    start: usize,
     end: usize,
     placing: Placing,
     marks: &mut Vec<LineMark<I>>,
 ) -> Result<bool, AllocError>
-    requires order { index < end }
+    requires after { index < start }
+    requires order { start ≤ end }
     requires within { end ≤ length segments.now }
     requires heights { AreHeightsOf I.whole ranges.now (pairs (segments_of segments.now)) }
     requires sorted { IsSortedByKey ends_of pair_cmp segments.now }
@@ -166,13 +249,13 @@ fn mark_by_blocks<C: WindingCount, I: OverlayInt, D: Copy>(
     requires radius { HasRadius placing }
     ensures marks { OnOk result (let ps = pairs (segments_of segments.now) in
         marks_of I.whole marks.new.items ++ marks_left (placing_of placing) ps index end
-        ≡ marks_of I.whole marks.old.items ++ marks_left (placing_of placing) ps index (index + 1)) }
+        ≡ marks_of I.whole marks.old.items ++ marks_left (placing_of placing) ps index start) }
     ensures rounded { IfOk result (λ rounded. let ps = pairs (segments_of segments.now) in
-        (rounded || crosses_left ps index end) ≡ crosses_left ps index (index + 1)) }
+        (rounded || crosses_left ps index end) ≡ crosses_left ps index start) }
 {
     let own = ranges[index];
     let mut rounded = false;
-    let mut from = index + 1;
+    let mut from = start;
     'whole: while end - from >= BLOCK {
         let block = &ranges[from..from + BLOCK];
         if meets_some(block, &own) {
@@ -204,8 +287,8 @@ fn do_meet<I: OverlayInt>(first: &LineRange<I>, second: &LineRange<I>) -> bool
     (first.min <= second.max) & (second.min <= first.max)
 }
 
-/// Appends the marks that a segment and each of those from one index up to another put on one another, and returns
-/// whether it crosses one of them at a point without whole coordinates.
+/// Appends the marks that a segment and each of those from one index up to another, a block at most, put on one another,
+/// and returns whether it crosses one of them at a point without whole coordinates.
 fn mark_with_each<C: WindingCount, I: OverlayInt, D: Copy>(
     segments: &[Segment<C, I, D>],
     ranges: &[LineRange<I>],
@@ -217,6 +300,7 @@ fn mark_with_each<C: WindingCount, I: OverlayInt, D: Copy>(
 ) -> Result<bool, AllocError>
     requires after { index < from }
     requires order { from ≤ end }
+    requires few { end ≤ from + 16 }
     requires within { end ≤ length segments.now }
     requires heights { AreHeightsOf I.whole ranges.now (pairs (segments_of segments.now)) }
     requires sorted { IsSortedByKey ends_of pair_cmp segments.now }
@@ -229,13 +313,12 @@ fn mark_with_each<C: WindingCount, I: OverlayInt, D: Copy>(
         (rounded || crosses_left ps index end) ≡ crosses_left ps index from) }
 {
     let own = ranges[index];
-    let mut rounded = false;
+    let mut met = [0_usize; BLOCK];
+    let mut count = 0;
     for later in from..end {
-        if do_meet(&own, &ranges[later]) {
-            rounded |= mark_two(segments, index, later, placing, marks)?;
-        }
+        count = keep_if(&mut met, count, later, do_meet(&own, &ranges[later]));
     }
-    Ok(rounded)
+    mark_listed(segments, index, &met[..count], placing, marks)
 }
 
 /// Appends the marks that a segment and a later one put on one another, and returns whether they cross at a point

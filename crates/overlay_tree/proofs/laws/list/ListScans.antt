@@ -22,7 +22,7 @@ use Rattle.overlay_intersections.specs.MarkOf.{Mark}
 use Rattle.overlay_intersections.specs.MarksBetween.{marks_between, marks_with, marks_of_first, first_crosses_inexactly}
 use Rattle.overlay_intersections.proofs.laws.marks.ApartPairs.{AreApart, AreApart-back, apart_are_exact}
 use Rattle.overlay_intersections.proofs.laws.marks.FoundMarks.{between_apart, with_apart, all_exact, or_false, or_assoc}
-use Rattle.overlay_tree.specs.steps.ListScan.{AreHeightsOf, do_ranges_meet, marks_left, crosses_left}
+use Rattle.overlay_tree.specs.steps.ListScan.{AreHeightsOf, do_ranges_meet, marks_left, crosses_left, IsReaching}
 use Rattle.overlay_tree.specs.steps.Swept.{pair_at, nowhere}
 use Rattle.overlay_tree.proofs.laws.list.ListLooks.{IsTold, IsTold-more, later_starts_right, x_ranges_meet-from}
 
@@ -43,15 +43,22 @@ pub record IsScanned (placing : Placing) (i : ℕ) (ps : List Pair) (old now : L
   pub found : now ++ marks_left placing ps i j ≡ old ++ marks_left placing ps i from
   pub flag : (rounded || crosses_left ps i j) ≡ crosses_left ps i from
 
+-- what is left from an index on is that of the pair there, and what is left from the next on
+pub marks_left-next : (placing : Placing) (ps : List Pair) (i j : ℕ) → j < length ps → marks_left placing ps i j ≡ marks_between placing i (pair_at ps i) j (pair_at ps j) ++ marks_left placing ps i (j + 1)
+unfolding marks_with
+marks_left-next placing ps i j lt = ap (marks_with placing i (pair_at ps i) j) (pair_next ps j lt)
+
+pub crosses_left-next : (ps : List Pair) (i j : ℕ) → j < length ps → crosses_left ps i j ≡ (cross_inexactly (pair_at ps i) (pair_at ps j) || crosses_left ps i (j + 1))
+crosses_left-next ps i j lt = ap (list_any (λ u. cross_inexactly (pair_at ps i) u)) (pair_next ps j lt)
+
 -- one more is looked at
 pub IsScanned-more : (placing : Placing) (i : ℕ) (ps : List Pair) (old now next : List Mark) (rounded b : Bool) (from j : ℕ) → IsScanned placing i ps old now rounded from j → j < length ps →
     next ≡ now ++ marks_between placing i (pair_at ps i) j (pair_at ps j) → b ≡ cross_inexactly (pair_at ps i) (pair_at ps j) → IsScanned placing i ps old next (rounded || b) from (j + 1)
-unfolding marks_with
 IsScanned-more placing i ps old now next rounded b from j w lt n r =
     let s = pair_at ps i in
     let t = pair_at ps j in
-    let left : marks_left placing ps i j ≡ marks_between placing i s j t ++ marks_left placing ps i (j + 1) = ap (marks_with placing i s j) (pair_next ps j lt) in
-    let crosses : crosses_left ps i j ≡ (cross_inexactly s t || crosses_left ps i (j + 1)) = ap (list_any (λ u. cross_inexactly s u)) (pair_next ps j lt) in
+    let left = marks_left-next placing ps i j lt in
+    let crosses = crosses_left-next ps i j lt in
     record {
       found = ap (λ (ms : List Mark). ms ++ marks_left placing ps i (j + 1)) n ∙ append_assoc now (marks_between placing i s j t) (marks_left placing ps i (j + 1)) ∙ ap (λ (ms : List Mark). now ++ ms) (sym left) ∙ w.found;
       flag = ap (λ (c : Bool). (rounded || c) || crosses_left ps i (j + 1)) r ∙ or_assoc rounded (cross_inexactly s t) (crosses_left ps i (j + 1)) ∙ ap (λ (c : Bool). rounded || c) (sym crosses) ∙ w.flag;
@@ -149,10 +156,9 @@ block_is_apart whole hs ps s own j k same own_is none =
 
 -- ---- how far the scan goes
 
-pub record IsReaching (ps : List Pair) (i n j : ℕ) : Type 0 where
-  pub told : IsTold (pair_at ps i) ps i j
-  pub after : i < j
-  pub within : j ≤ n
+-- the pair at the index is in the list
+pub reaching_first : (ps : List Pair) (i j n : ℕ) → IsReaching ps i j → length ps ≡ n → i < n
+reaching_first ps i j n w e = let after = w.after in let within = w.within in omega (arith, after, within)
 
 starts_by : (ps : List Pair) (i e : ℕ) → IsInOrder pair_cmp ps → i ≤ e → e < length ps → (pair_at ps i).a.x ≤ℤ (pair_at ps e).a.x
 starts_by ps i e order le lt = by_lt i e le (λ (k : i ≡ e). subst (λ (n : ℕ). (pair_at ps i).a.x ≤ℤ (pair_at ps n).a.x) k (omega (arith, ints)))

@@ -16,9 +16,10 @@ pub bounds-ranges-index : goal.bounds-ranges-index
 bounds-ranges-index g c =
     let many = heights_are_many g.I.OverlayInt.whole c.args.ranges.now (pairs (segments_of c.args.segments.now)) c.requires.heights in
     let count = length-pairs c.args.segments.now in
+    let after = c.requires.after in
     let order = c.requires.order in
     let within = c.requires.within in
-    omega (arith, many, count, order, within)
+    omega (arith, many, count, after, order, within)
 
 pub slice_bounds-block-end : goal.slice_bounds-block-end
 slice_bounds-block-end g c =
@@ -44,13 +45,13 @@ whole-preserved g c =
     record {
       scan = elim c.if-meets_some.branch [
         | then-meets_some+in_ok-rounded w ↦
-            rw (w.marks-is, w.rounded-is) (IsScanned-block placing i ps (marks_of whole c.args.marks.now.items) (marks_of whole c.whole.marks.items) (marks_of whole w.mark_with_each.new.marks.items) c.whole.rounded w.in_ok-rounded.field-0 (i + 1) j (j + 16) c.whole.invariant.scan w.in_ok-rounded.ensures.marks w.in_ok-rounded.ensures.rounded)
+            rw (w.marks-is, w.rounded-is) (IsScanned-block placing i ps (marks_of whole c.args.marks.now.items) (marks_of whole c.whole.marks.items) (marks_of whole w.mark_with_each.new.marks.items) c.whole.rounded w.in_ok-rounded.field-0 c.args.start j (j + 16) c.whole.invariant.scan w.in_ok-rounded.ensures.marks w.in_ok-rounded.ensures.rounded)
         | else-meets_some w ↦
             let own = heights_at whole c.args.ranges.now ps i c.index-ranges-index.result c.requires.heights first c.index-ranges-index.is in
             let size : j + 16 - j ≡ 16 = omega arith in
             let none = uncounted _ (sym c.meets_some.ensures ∙ w.if-meets_some.false) in
             let block : AllByRecursion (AreApart (pair_at ps i)) (take 16 (drop j ps)) = block_is_apart whole c.args.ranges.now ps (pair_at ps i) c.index-ranges-index.result j 16 c.requires.heights own (rw size at none) in
-            rw (w.marks-is, w.rounded-is) (IsScanned-none placing i ps (marks_of whole c.args.marks.now.items) (marks_of whole c.whole.marks.items) c.whole.rounded (i + 1) j 16 c.whole.invariant.scan lt block)
+            rw (w.marks-is, w.rounded-is) (IsScanned-none placing i ps (marks_of whole c.args.marks.now.items) (marks_of whole c.whole.marks.items) c.whole.rounded c.args.start j 16 c.whole.invariant.scan lt block)
       ];
       after = omega arith;
       within = omega arith;
@@ -96,8 +97,7 @@ returns-in_err-rounded-2-clause-rounded g c =
 
 pub whole-init : goal.whole-init
 whole-init g c =
-    let order = c.requires.order in
-    record { scan = record { found = refl; flag = refl }; after = omega arith; within = omega (arith, order) }
+    record { scan = record { found = refl; flag = refl }; after = c.requires.after; within = c.requires.order }
 
 pub mark_with_each-requires-clause-after : goal.mark_with_each-requires-clause-after
 mark_with_each-requires-clause-after g c = c.whole.invariant.after
@@ -121,9 +121,10 @@ pub offset_bounds-ranges-index : goal.offset_bounds-ranges-index
 offset_bounds-ranges-index g c =
     let many = heights_are_many g.I.OverlayInt.whole c.args.ranges.now (pairs (segments_of c.args.segments.now)) c.requires.heights in
     let count = length-pairs c.args.segments.now in
+    let after = c.requires.after in
     let order = c.requires.order in
     let within = c.requires.within in
-    omega (arith, many, count, order, within)
+    omega (arith, many, count, after, order, within)
 
 pub offset_bounds-ranges-from : goal.offset_bounds-ranges-from
 offset_bounds-ranges-from g c =

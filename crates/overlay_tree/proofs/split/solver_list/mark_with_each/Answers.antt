@@ -1,5 +1,5 @@
-use Rattle.std.proofs.Common.{◌≡◌, refl, ◌<◌, ◌≤◌, sym, ap₂, ◌∙◌, length, false, arith}
-use Rattle.std.proofs.lemmas.Result.{IfOk-from_err}
+use Rattle.std.proofs.Common.{◌≡◌, ◌<◌, ◌∙◌, ap₂, arith, take, length, Bool}
+use Rattle.std.proofs.lemmas.Result.{on_ok_weaker, IfOk-weaker}
 use Rattle.overlay_geometry.specs.Ranges.{WholeRange, heights}
 use Rattle.overlay_base.specs.Segments.{pairs}
 use Rattle.overlay_base.specs.SegmentOf.{segments_of}
@@ -7,101 +7,52 @@ use Rattle.overlay_intersections.specs.MarkOf.{marks_of}
 use Rattle.overlay_intersections.specs.PlacingOf.{placing_of}
 use Rattle.overlay_tree.specs.steps.ListScan.{do_ranges_meet}
 use Rattle.overlay_tree.specs.steps.Swept.{pair_at}
-use Rattle.overlay_tree.proofs.laws.list.ListScans.{IsScanned-more, IsScanned-apart, heights_at, heights_are_many, apart_heights}
+use Rattle.overlay_tree.proofs.laws.list.ListScans.{heights_at}
+use Rattle.overlay_tree.proofs.laws.list.Listed.{AreListed-more, listed_within, listed_marks, listed_crosses}
 use Rattle.overlay_tree.proofs.laws.tree.Sweeps.{length-pairs}
 use Rattle.overlay_tree.proofs.split.solver_list.mark_with_each.Goals as goal
-use Rattle.overlay_tree.proofs.split.solver_list.mark_with_each.Goals.{then-do_meet+in_ok-rounded, else-do_meet}
-
-pub bounds-ranges-index : goal.bounds-ranges-index
-bounds-ranges-index g c =
-    let many = heights_are_many g.I.OverlayInt.whole c.args.ranges.now (pairs (segments_of c.args.segments.now)) c.requires.heights in
-    let count = length-pairs c.args.segments.now in
-    let after = c.requires.after in
-    let order = c.requires.order in
-    let within = c.requires.within in
-    omega (arith, many, count, after, order, within)
-
-pub bounds-ranges-later : goal.bounds-ranges-later
-bounds-ranges-later g c =
-    let many = heights_are_many g.I.OverlayInt.whole c.args.ranges.now (pairs (segments_of c.args.segments.now)) c.requires.heights in
-    let count = length-pairs c.args.segments.now in
-    let test = c.loop-later-test.true in
-    let within = c.requires.within in
-    omega (arith, many, count, test, within)
 
 pub loop-later-preserved : goal.loop-later-preserved
 loop-later-preserved g c =
     let whole = g.I.OverlayInt.whole in
     let ps = pairs (segments_of c.args.segments.now) in
-    let placing = placing_of c.args.placing in
     let i = c.args.index in
     let j = c.loop-later.later in
     let count = length-pairs c.args.segments.now in
+    let since = c.loop-later.auto.later in
     let test = c.loop-later-test.true in
-    let within = c.requires.within in
     let after = c.requires.after in
-    let since : c.args.from ≤ j = c.loop-later.auto.later in
-    let lt : j < length ps = omega arith in
-    let first : i < length ps = omega arith in
-    elim c.if-do_meet.branch [
-      | then-do_meet+in_ok-rounded w ↦
-          rw (w.marks-is, w.rounded-is) (IsScanned-more placing i ps (marks_of whole c.args.marks.now.items) (marks_of whole c.loop-later.marks.items) (marks_of whole w.mark_two.new.marks.items) c.loop-later.rounded w.in_ok-rounded.field-0 c.args.from j c.loop-later.invariant lt w.in_ok-rounded.ensures.marks w.in_ok-rounded.ensures.rounded)
-      | else-do_meet w ↦
-          let own = heights_at whole c.args.ranges.now ps i c.index-ranges-index.result c.requires.heights first c.index-ranges-index.is in
-          let other = heights_at whole c.args.ranges.now ps j c.index-ranges-later.result c.requires.heights lt c.index-ranges-later.is in
-          let off : do_ranges_meet (heights (pair_at ps i)) (heights (pair_at ps j)) ≡ false = ap₂ (λ (r q : WholeRange). do_ranges_meet r q) (sym own) (sym other) ∙ sym c.do_meet.ensures ∙ w.if-do_meet.false in
-          rw (w.marks-is, w.rounded-is) (IsScanned-apart placing i ps (marks_of whole c.args.marks.now.items) (marks_of whole c.loop-later.marks.items) c.loop-later.rounded c.args.from j c.loop-later.invariant lt (apart_heights (pair_at ps i) (pair_at ps j) off))
-    ]
+    let within = c.requires.within in
+    let lt : j < length ps = omega (arith, count, test, within) in
+    let here : i < length ps = omega (arith, lt, since, after) in
+    let own = heights_at whole c.args.ranges.now ps i c.index-ranges-index.result c.requires.heights here c.index-ranges-index.is in
+    let other = heights_at whole c.args.ranges.now ps j c.index-ranges-later.result c.requires.heights lt c.index-ranges-later.is in
+    let meets : c.do_meet.result ≡ do_ranges_meet (heights (pair_at ps i)) (heights (pair_at ps j)) = c.do_meet.ensures ∙ ap₂ (λ (r q : WholeRange). do_ranges_meet r q) own other in
+    record {
+      few = let few = c.loop-later.invariant.few in let one = c.keep_if-count.ensures.count in omega (arith, few, one);
+      listed = rw c.keep_if-count.ensures.kept (AreListed-more ps i c.args.from j (take c.loop-later.count c.loop-later.met) c.do_meet.result c.loop-later.invariant.listed (omega (arith, since, after)) lt meets);
+    }
+
+pub mark_listed-requires-clause-met : goal.mark_listed-requires-clause-met
+mark_listed-requires-clause-met g c =
+    listed_within (pairs (segments_of c.args.segments.now)) c.args.index c.args.from c.loop-later.later (length c.args.segments.now) (take c.loop-later.count c.loop-later.met) c.loop-later.invariant.listed (length-pairs c.args.segments.now)
 
 pub returns-clause-marks : goal.returns-clause-marks
 returns-clause-marks g c =
+    let whole = g.I.OverlayInt.whole in
+    let ps = pairs (segments_of c.args.segments.now) in
     let last = c.loop-later.auto.later-end c.requires.order in
-    let done : c.loop-later.later ≡ c.args.end = omega (arith, last, c.loop-later-test.false) in
-    rw done at c.loop-later.invariant.found
+    let past = c.loop-later-test.false in
+    let done : c.loop-later.later ≡ c.args.end = omega (arith, last, past) in
+    let listed = rw done at c.loop-later.invariant.listed in
+    on_ok_weaker c.mark_listed.result
+    (listed_marks (placing_of c.args.placing) c.args.index ps (marks_of whole c.args.marks.now.items) (marks_of whole c.mark_listed.new.marks.items) c.args.from c.args.end (take c.loop-later.count c.loop-later.met) listed) c.mark_listed.ensures.marks
 
 pub returns-clause-rounded : goal.returns-clause-rounded
 returns-clause-rounded g c =
+    let ps = pairs (segments_of c.args.segments.now) in
     let last = c.loop-later.auto.later-end c.requires.order in
-    let done : c.loop-later.later ≡ c.args.end = omega (arith, last, c.loop-later-test.false) in
-    rw done at c.loop-later.invariant.flag
-
-pub mark_two-requires-clause-sorted : goal.mark_two-requires-clause-sorted
-mark_two-requires-clause-sorted g c = c.requires.sorted
-
-pub mark_two-requires-clause-in_range : goal.mark_two-requires-clause-in_range
-mark_two-requires-clause-in_range g c = c.requires.in_range
-
-pub mark_two-requires-clause-radius : goal.mark_two-requires-clause-radius
-mark_two-requires-clause-radius g c = c.requires.radius
-
-pub mark_two-requires-clause-after : goal.mark_two-requires-clause-after
-mark_two-requires-clause-after g c = let after = c.requires.after in let since = c.loop-later.auto.later in omega (arith, after, since)
-
-pub returns-in_err-rounded-clause-marks : goal.returns-in_err-rounded-clause-marks
-returns-in_err-rounded-clause-marks g c = IfOk-from_err c.from_residual.result _ c.from_residual.ensures.0
-
-pub returns-in_err-rounded-clause-rounded : goal.returns-in_err-rounded-clause-rounded
-returns-in_err-rounded-clause-rounded g c = IfOk-from_err c.from_residual.result _ c.from_residual.ensures.0
-
-pub loop-later-init : goal.loop-later-init
-loop-later-init g c = record { found = refl; flag = refl }
-
-pub mark_two-requires-clause-within : goal.mark_two-requires-clause-within
-mark_two-requires-clause-within g c = let test = c.loop-later-test.true in let within = c.requires.within in omega (arith, test, within)
-
-pub offset_bounds-ranges-index : goal.offset_bounds-ranges-index
-offset_bounds-ranges-index g c =
-    let many = heights_are_many g.I.OverlayInt.whole c.args.ranges.now (pairs (segments_of c.args.segments.now)) c.requires.heights in
-    let count = length-pairs c.args.segments.now in
-    let after = c.requires.after in
-    let order = c.requires.order in
-    let within = c.requires.within in
-    omega (arith, many, count, after, order, within)
-
-pub offset_bounds-ranges-later : goal.offset_bounds-ranges-later
-offset_bounds-ranges-later g c =
-    let many = heights_are_many g.I.OverlayInt.whole c.args.ranges.now (pairs (segments_of c.args.segments.now)) c.requires.heights in
-    let count = length-pairs c.args.segments.now in
-    let test = c.loop-later-test.true in
-    let within = c.requires.within in
-    omega (arith, many, count, test, within)
+    let past = c.loop-later-test.false in
+    let done : c.loop-later.later ≡ c.args.end = omega (arith, last, past) in
+    let listed = rw done at c.loop-later.invariant.listed in
+    IfOk-weaker c.mark_listed.result _ _ (λ (rounded : Bool). listed_crosses c.args.index ps rounded c.args.from c.args.end (take c.loop-later.count c.loop-later.met) listed) c.mark_listed.ensures.rounded
