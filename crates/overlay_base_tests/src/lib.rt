@@ -25,6 +25,8 @@ mod segments;
 #[cfg(test)]
 mod solver;
 #[cfg(test)]
+mod sorts;
+#[cfg(test)]
 mod string;
 #[cfg(test)]
 mod v_segments;

@@ -7,6 +7,7 @@ mod cut;
 pub mod fault;
 pub mod finder;
 pub mod laws;
+mod parts;
 pub mod pass;
 pub mod path;
 pub mod piece;

@@ -14,7 +14,7 @@ use crate::overlay_core::edge_data::OverlayEdgeData;
 use crate::segm::fault::Fault;
 use crate::segm::merge::merge_if_needed_with_store;
 use crate::segm::segment::Segment;
-use crate::segm::sort::sort_by_ab;
+use crate::segm::sort::sort_by_ab_in_parts;
 use crate::segm::winding::WindingCount;
 use overlay_geometry::num::OverlayInt;
 
@@ -42,6 +42,29 @@ pub fn join_with_store<C: WindingCount, I: OverlayInt, D: OverlayEdgeData<C>>(
     ensures store_kept { IfErr result (λ fault. fault ≡ Memory → store.new ≡ store.old) }
     ensures store_made { IsMadeFrom (hooks_of C.counted D.OverlayEdgeData.own) store.old store.new }
 {
-    sort_by_ab(list)?;
+    join_in_parts_with_store(list, &[], store)
+}
+
+/// Joins a list as `join_with_store` does, where the list is sorted part by part first, as by `sort_by_ab_in_parts`.
+/// What is joined, returned and refused does not depend on the places. This project's own.
+pub fn join_in_parts_with_store<C: WindingCount, I: OverlayInt, D: OverlayEdgeData<C>>(
+    list: &mut Vec<Segment<C, I, D>>,
+    places: &[usize],
+    store: &mut D::Store,
+) -> Result<bool, Fault>
+    requires { All (λ s. IsTrue (is_valid (winding_of s))) list.old.items }
+    ensures geometry { OnOk result (segments_of list.new.items ≡ join (segments_of list.old.items)) }
+    ensures edge_data { OnOk result (HasDataOfJoin D.OverlayEdgeData.own list.old store.old list.new) }
+    ensures store { OnOk result (IsJoinStore D.OverlayEdgeData.own list.old store.old store.new) }
+    ensures repeated { IfOk result (λ repeated. repeated ≡ has_equal_pairs (segments_of list.old.items)) }
+
+    ensures fits { OnOk result (IsFalse (join_leaves_range (segments_of list.old.items))) }
+    ensures refused { OnTooLarge result (IsTrue (join_leaves_range (segments_of list.old.items))) }
+    ensures emptied { OnErr result (list.new.items ≡ []) }
+    ensures stopped { OnTooLarge result (StopsJoin D.OverlayEdgeData.own list.old store.old store.new) }
+    ensures store_kept { IfErr result (λ fault. fault ≡ Memory → store.new ≡ store.old) }
+    ensures store_made { IsMadeFrom (hooks_of C.counted D.OverlayEdgeData.own) store.old store.new }
+{
+    sort_by_ab_in_parts(list, places)?;
     merge_if_needed_with_store(list, store)
 }

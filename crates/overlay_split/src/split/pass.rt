@@ -23,10 +23,11 @@ use crate::split::changed::changed_boxes;
 use crate::split::cut::{cut_segment, index_len};
 use crate::split::fault::SplitFault;
 use crate::split::finder::PairFinder;
+use crate::split::parts::part_places;
 use crate::split::path::collect_path;
 use overlay_base::overlay_core::edge_data::OverlayEdgeData;
 use overlay_base::segm::fault::Fault;
-use overlay_base::segm::join::join_with_store;
+use overlay_base::segm::join::join_in_parts_with_store;
 use overlay_base::segm::segment::Segment;
 use overlay_base::segm::winding::WindingCount;
 use overlay_geometry::geom::point::IntPoint;
@@ -266,12 +267,18 @@ pub fn pass_at<C: WindingCount, I: OverlayInt, D: OverlayEdgeData<C>>(
     if marks.is_empty() {
         return Ok(());
     }
+    let count = list.len();
     if let Err(fault) = cut_at(list, marks.as_slice(), path, store) {
         list.clear();
         return Err(fault);
     }
+    let alloc = *list.allocator();
+    let Ok(places) = part_places(alloc, list.as_slice(), count, marks.as_slice()) else {
+        list.clear();
+        return Err(Fault::Memory);
+    };
     drop(marks);
-    join_with_store(list, store)?;
+    join_in_parts_with_store(list, places.as_slice(), store)?;
     Ok(())
 }
 

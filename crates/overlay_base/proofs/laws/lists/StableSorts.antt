@@ -1,13 +1,15 @@
 -- A stable sort is one list: what is in order, with ties in their old order, is the list that `stably_sorted` gives.
-use Rattle.std.proofs.Common.{◌≡◌, ℕ, ◌+◌, ◌<◌, ◌≤◌, Bool, true, false, not, ◌&&◌, List, [], ◌∷◌, map, IsPermutation, length, get_or, refl, sym, ap, ◌∙◌, arith, zero, suc, inl, inr}
+use Rattle.std.proofs.Common.{◌≡◌, ℕ, ◌+◌, ◌<◌, ◌≤◌, Bool, true, false, not, ◌&&◌, List, [], ◌∷◌, map, IsPermutation, length, get_or, refl, sym, ap, subst, ◌∙◌, arith, zero, suc, inl, inr}
 use Rattle.std.specs.Prelude.{if◌then◌else◌}
 use native.Mathlib.Numerals.{unary_clauses}
+use borrow.Rule.Slice.PartMut.{mid_of, put_mid, put_same}
 use Rattle.std.specs.List.{AllByRecursion, filter}
 use Rattle.std.specs.List.Sorted.{IsSorted, IsSortedBy, IsStable, IsStableBy, IsSortedByKey, IsStableByKey, ties}
 use Rattle.std.specs.Cmp.{IsStrictWeakOrder, IsTotalOrder}
 use Rattle.std.specs.declared.cmp.Ordering.{Ordering}
 use Rattle.std.specs.declared.cmp.Ordering.TheVariants.{Less, Equal, Greater}
 use Rattle.std.specs.Ordering.{is_lt, is_gt, ordering_reverse}
+use Rattle.std.proofs.lemmas.List.Elements.{filter-append}
 use Rattle.std.proofs.lemmas.List.Sorted.{sorted_far, ranks_by, IsPermutation-refl, IsPermutation-cons, IsPermutation-trans, IsPermutation-middle}
 use Rattle.overlay_geometry.specs.Sorting.{insert_before_ties, stably_sorted}
 use Rattle.overlay_geometry.proofs.laws.lists.Lists.{Pairwise}
@@ -258,3 +260,21 @@ pub AllByRecursion-stably_sorted : {K : Type 0} (cmp : K → K → Ordering) (P 
 unfolding stably_sorted
 AllByRecursion-stably_sorted cmp P [] a = tt
 AllByRecursion-stably_sorted cmp P (x ∷ ks) a = AllByRecursion-insert cmp P x (stably_sorted cmp ks) a.0 (AllByRecursion-stably_sorted cmp P ks a.1)
+
+-- ---- a list of which parts are sorted
+
+module _ {X K : Type 0} (key : X → K) (cmp : K → K → Ordering) where
+  stable-put_mid : (a k : ℕ) (xs ys : List X) → IsStableByKey key cmp (mid_of a k xs) ys → IsStableByKey key cmp xs (put_mid a k xs ys)
+  stable-put_mid a k xs ys s =
+      let kept : IsStableByKey key cmp (put_mid a k xs (mid_of a k xs)) (put_mid a k xs ys) = λ u. simp filter-append (rw (s u) refl) in
+      subst (λ l. IsStableByKey key cmp l (put_mid a k xs ys)) (put_same a k xs) kept
+
+  -- where a list has the ties of another in their order, a stable sort of a part keeps them
+  pub stable-part : (xs ys zs : List X) (a k : ℕ) → IsStableByKey key cmp xs ys → IsStableByKey key cmp (mid_of a k ys) zs → IsStableByKey key cmp xs (put_mid a k ys zs)
+  stable-part xs ys zs a k s t = λ u. stable-put_mid a k ys zs t u ∙ s u
+
+  -- and the two have one stable sort
+  pub stably_sorted-same : IsTotalOrder cmp → (xs ys : List X) → IsStableByKey key cmp xs ys → stably_sorted (λ a b. cmp (key a) (key b)) ys ≡ stably_sorted (λ a b. cmp (key a) (key b)) xs
+  stably_sorted-same o xs ys s =
+      let sorted = stably_sorted_is_stable (λ a b. cmp (key a) (key b)) (ranks_by o key) ys in
+      sorted_by_key-is key cmp o xs _ sorted.0 (λ u. sorted.1 u ∙ s u)

@@ -70,50 +70,50 @@ cut_at-requires-clause-splittable g c = c.requires.splittable
 pub cut_at-requires-clause-marks : goal.cut_at-requires-clause-marks
 cut_at-requires-clause-marks g c = rw (c.as_slice.ensures.value) c.requires.marks
 
-pub join_with_store-requires : goal.join_with_store-requires
-join_with_store-requires g c =
+pub join_in_parts_with_store-requires : goal.join_in_parts_with_store-requires
+join_in_parts_with_store-requires g c =
     let hooks = hooks_of g.C.WindingCount.counted g.D.OverlayEdgeData in
     let marks = c.requires.marks in
     are_valid-cut hooks marks.on c.args.list.now.items c.cut_at.new.list.items c.args.store.now (c.in_default.ensures.edge_data marks.on (sliced c.args.list.now.items marks.on _ _ c.as_slice.ensures.value marks.are)) _ _ c.requires.splittable
 
-pub returns-in_err-join_with_store-clause-refused : goal.returns-in_err-join_with_store-clause-refused
-returns-in_err-join_with_store-clause-refused g c =
+pub returns-in_err-join_in_parts_with_store-clause-refused : goal.returns-in_err-join_in_parts_with_store-clause-refused
+returns-in_err-join_in_parts_with_store-clause-refused g c =
     let hooks = hooks_of g.C.WindingCount.counted g.D.OverlayEdgeData in
     let items = c.args.list.now.items in
-    let leaves : c.in_err-join_with_store.field-0.0 ≡ CountOutOfRange → PiecesLeaveRangeAt c.args.marks.items items =
-    λ e on are. subst (λ (l : List WholeSegment). IsTrue (join_leaves_range l)) (cut_as_segments hooks on items c.cut_at.new.list.items c.args.store.now (c.in_default.ensures.edge_data on (sliced items on _ _ c.as_slice.ensures.value are))) (c.in_err-join_with_store.ensures.refused e) in
-    refused_by c.from_residual.result c.in_err-join_with_store.field-0.0 _ c.from_residual.ensures.1 leaves
+    let leaves : c.in_err-join_in_parts_with_store.field-0.0 ≡ CountOutOfRange → PiecesLeaveRangeAt c.args.marks.items items =
+    λ e on are. subst (λ (l : List WholeSegment). IsTrue (join_leaves_range l)) (cut_as_segments hooks on items c.cut_at.new.list.items c.args.store.now (c.in_default.ensures.edge_data on (sliced items on _ _ c.as_slice.ensures.value are))) (c.in_err-join_in_parts_with_store.ensures.refused e) in
+    refused_by c.from_residual.result c.in_err-join_in_parts_with_store.field-0.0 _ c.from_residual.ensures.1 leaves
 
-pub returns-in_err-join_with_store-clause-stopped : goal.returns-in_err-join_with_store-clause-stopped
-returns-in_err-join_with_store-clause-stopped g c =
+pub returns-in_err-join_in_parts_with_store-clause-stopped : goal.returns-in_err-join_in_parts_with_store-clause-stopped
+returns-in_err-join_in_parts_with_store-clause-stopped g c =
     let hooks = hooks_of g.C.WindingCount.counted g.D.OverlayEdgeData in
     let given = c.args.list.now.items in
     let items = data_segments_of given in
-    let left = c.join_with_store.new.store in
-    let stops : c.in_err-join_with_store.field-0.0 ≡ CountOutOfRange → StopsPassAt g.D.OverlayEdgeData c.args.marks.items c.args.list.now c.args.store.now left =
+    let left = c.join_in_parts_with_store.new.store in
+    let stops : c.in_err-join_in_parts_with_store.field-0.0 ≡ CountOutOfRange → StopsPassAt g.D.OverlayEdgeData c.args.marks.items c.args.list.now c.args.store.now left =
     λ e on are.
     let pieces = data_cut_by hooks on items c.args.store.now in
     subst (λ s. IsRefusedJoin hooks pieces.0 s left) (c.in_default.ensures.store on (sliced given on _ _ c.as_slice.ensures.value are))
-    (subst (λ l. IsRefusedJoin hooks l c.cut_at.new.store left) (c.in_default.ensures.edge_data on (sliced given on _ _ c.as_slice.ensures.value are)) (c.in_err-join_with_store.ensures.stopped e)) in
-    refused_by c.from_residual.result c.in_err-join_with_store.field-0.0 _ c.from_residual.ensures.1 stops
+    (subst (λ l. IsRefusedJoin hooks l c.cut_at.new.store left) (c.in_default.ensures.edge_data on (sliced given on _ _ c.as_slice.ensures.value are)) (c.in_err-join_in_parts_with_store.ensures.stopped e)) in
+    refused_by c.from_residual.result c.in_err-join_in_parts_with_store.field-0.0 _ c.from_residual.ensures.1 stops
 
-pub returns-in_err-join_with_store-clause-store_made : goal.returns-in_err-join_with_store-clause-store_made
-returns-in_err-join_with_store-clause-store_made g c =
-    made_further (hooks_of g.C.WindingCount.counted g.D.OverlayEdgeData) c.in_default.ensures.store_made c.in_err-join_with_store.ensures.store_made
+pub returns-in_err-join_in_parts_with_store-clause-store_made : goal.returns-in_err-join_in_parts_with_store-clause-store_made
+returns-in_err-join_in_parts_with_store-clause-store_made g c =
+    made_further (hooks_of g.C.WindingCount.counted g.D.OverlayEdgeData) c.in_default.ensures.store_made c.in_err-join_in_parts_with_store.ensures.store_made
 
 -- what is joined is what the cut leaves
-joined : (g : _) (c : goal.In_ok-join_with_store g) (on : Pair → List Point) → AreMarksBy on (segments_of c.args.list.now.items) (marks_of g.I.OverlayInt.whole c.args.marks.items) →
-    (data_segments_of c.join_with_store.new.list.items, c.join_with_store.new.store) ≡ data_pass_by (hooks_of g.C.WindingCount.counted g.D.OverlayEdgeData) on (data_segments_of c.args.list.now.items) c.args.store.now
+joined : (g : _) (c : goal.After-drop-places-2 g) (on : Pair → List Point) → AreMarksBy on (segments_of c.args.list.now.items) (marks_of g.I.OverlayInt.whole c.args.marks.items) →
+    (data_segments_of c.join_in_parts_with_store.new.list.items, c.join_in_parts_with_store.new.store) ≡ data_pass_by (hooks_of g.C.WindingCount.counted g.D.OverlayEdgeData) on (data_segments_of c.args.list.now.items) c.args.store.now
 joined g c on are =
     let hooks = hooks_of g.C.WindingCount.counted g.D.OverlayEdgeData in
-    let made : (data_segments_of c.join_with_store.new.list.items, c.join_with_store.new.store) ≡ data_join hooks (data_segments_of c.cut_at.new.list.items) c.cut_at.new.store =
-    λ i. (c.in_ok-join_with_store.ensures.edge_data i, c.in_ok-join_with_store.ensures.store i) in
+    let made : (data_segments_of c.join_in_parts_with_store.new.list.items, c.join_in_parts_with_store.new.store) ≡ data_join hooks (data_segments_of c.cut_at.new.list.items) c.cut_at.new.store =
+    λ i. (c.in_ok-join_in_parts_with_store.ensures.edge_data i, c.in_ok-join_in_parts_with_store.ensures.store i) in
     made ∙ (λ i. data_join hooks (c.in_default.ensures.edge_data on (sliced c.args.list.now.items on _ _ c.as_slice.ensures.value are) i) (c.in_default.ensures.store on (sliced c.args.list.now.items on _ _ c.as_slice.ensures.value are) i))
 
 pub returns-clause-geometry : goal.returns-clause-geometry
 returns-clause-geometry g c = λ on are.
     let items = c.args.list.now.items in
-    segments_of-bare c.join_with_store.new.list.items ∙ ap (λ v. without_data v.0) (joined g c on are) ∙ bare-data_pass_by (hooks_of g.C.WindingCount.counted g.D.OverlayEdgeData) on (data_segments_of items) c.args.store.now ∙ ap (pass_by on) (sym (segments_of-bare items))
+    segments_of-bare c.join_in_parts_with_store.new.list.items ∙ ap (λ v. without_data v.0) (joined g c on are) ∙ bare-data_pass_by (hooks_of g.C.WindingCount.counted g.D.OverlayEdgeData) on (data_segments_of items) c.args.store.now ∙ ap (pass_by on) (sym (segments_of-bare items))
 
 pub returns-clause-edge_data : goal.returns-clause-edge_data
 returns-clause-edge_data g c = λ on are. ap (λ v. v.0) (joined g c on are)
@@ -125,8 +125,8 @@ pub returns-clause-fits : goal.returns-clause-fits
 returns-clause-fits g c = λ on are.
     let hooks = hooks_of g.C.WindingCount.counted g.D.OverlayEdgeData in
     let items = c.args.list.now.items in
-    subst (λ (l : List WholeSegment). IsFalse (join_leaves_range l)) (cut_as_segments hooks on items c.cut_at.new.list.items c.args.store.now (c.in_default.ensures.edge_data on (sliced items on _ _ c.as_slice.ensures.value are))) c.in_ok-join_with_store.ensures.fits
+    subst (λ (l : List WholeSegment). IsFalse (join_leaves_range l)) (cut_as_segments hooks on items c.cut_at.new.list.items c.args.store.now (c.in_default.ensures.edge_data on (sliced items on _ _ c.as_slice.ensures.value are))) c.in_ok-join_in_parts_with_store.ensures.fits
 
 pub returns-clause-store_made : goal.returns-clause-store_made
 returns-clause-store_made g c =
-    made_further (hooks_of g.C.WindingCount.counted g.D.OverlayEdgeData) c.in_default.ensures.store_made c.in_ok-join_with_store.ensures.store_made
+    made_further (hooks_of g.C.WindingCount.counted g.D.OverlayEdgeData) c.in_default.ensures.store_made c.in_ok-join_in_parts_with_store.ensures.store_made
