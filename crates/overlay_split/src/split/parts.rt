@@ -11,12 +11,19 @@ use std::alloc::{AllocError, Global};
 /// A part has at least so many pieces, but for the last of each kind.
 const MIN_PART: usize = 16;
 
-/// Places between which the pieces of a list that was cut can be sorted part by part. They are a hint: no clause says
-/// which they are, and what is sorted by them comes out the same.
+/// A shorter list is sorted as fast without parts.
+const MIN_LENGTH: usize = 4096;
+
+/// Parts of more pieces than this, on the average, are no help.
+const MAX_PART: usize = 1024;
+
+const _: () = prove!(MAX_PART == 1024);
+
+/// Places in a list that was cut between which its pieces can be sorted part by part: none where that is no help. They
+/// are a hint: no clause says which they are, and what sorts by them may not depend on it.
 ///
-/// `count` is the length of the list before the cut, and the marks are those of the cut. The first pieces, so many, are
-/// each in place of a segment; behind them is one piece for each mark, in the order of the marks. Returns an error where
-/// a growth is refused.
+/// `count` is the length of the list before the cut, and the marks are those of the cut. The first pieces, each in place
+/// of its segment, come before `count`, and behind them one piece for each mark, in the order of the marks.
 pub(crate) fn part_places<C: WindingCount, I: OverlayInt, D: Copy>(
     alloc: Global,
     list: &[Segment<C, I, D>],
@@ -24,9 +31,16 @@ pub(crate) fn part_places<C: WindingCount, I: OverlayInt, D: Copy>(
     marks: &[LineMark<I>],
 ) -> Result<Vec<usize>, AllocError> {
     let mut places = Vec::new(alloc);
+    if list.len() < MIN_LENGTH {
+        return Ok(places);
+    }
     add_first_places(list, count, &mut places)?;
     places.push(count)?;
+    let first = places.len();
     add_later_places(list, count, marks, &mut places)?;
+    if places.len().saturating_sub(first) < marks.len() / MAX_PART {
+        places.clear();
+    }
     Ok(places)
 }
 
