@@ -11,7 +11,7 @@ use std::test::Fail;
 
 type BooleanSegment = Segment<ShapeCountBoolean, i32, ()>;
 
-/// Sixty segments in no order, six on each pair of ends, with counts that tell them apart.
+/// Sixty segments in no order, six on each pair of ends, each with a count of its own.
 fn shuffled(alloc: Global) -> Result<Vec<BooleanSegment>, Fail> {
     let mut list = Vec::new(alloc);
     for number in 0..6 {

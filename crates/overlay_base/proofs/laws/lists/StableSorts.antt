@@ -261,7 +261,7 @@ unfolding stably_sorted
 AllByRecursion-stably_sorted cmp P [] a = tt
 AllByRecursion-stably_sorted cmp P (x ∷ ks) a = AllByRecursion-insert cmp P x (stably_sorted cmp ks) a.0 (AllByRecursion-stably_sorted cmp P ks a.1)
 
--- ---- a list of which parts are sorted
+-- ---- a list whose parts are sorted
 
 module _ {X K : Type 0} (key : X → K) (cmp : K → K → Ordering) where
   stable-put_mid : (a k : ℕ) (xs ys : List X) → IsStableByKey key cmp (mid_of a k xs) ys → IsStableByKey key cmp xs (put_mid a k xs ys)
