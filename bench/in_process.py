@@ -7,13 +7,14 @@ Usage, from the top of the repository:
     python3 bench/in_process.py --upstream PROGRAM [--rounds N] [--turns N] [--strategy NAME] [--kinds KIND,KIND] [NUMBER ..]
 
 bench/upstream/build.py builds PROGRAM from the files of i_overlay 9.0.1. `PROGRAM bench - - STRATEGY runs=N` reads segments, splits them and builds the
-graph of all of them N times, each time with a new splitter and builder, and prints the least times, `split_ms=` and `graph_ms=`.
+graph of all of them N times, each time with a new splitter and builder, and prints the least times, `split_ms=` and `graph_ms=`, and
+`copy_ms=` of the copy of its list that it works on, which ours makes within its time.
 Ours is the example `race` of `rust/`, which does the same through the Rust package. Its `all_ms=` has the split, the build, and the
 copy of nodes into vectors of Rust, which the other does not make. No text is timed. The two programs run by turns, a few
 rounds of some runs each, and the least times count: so a machine whose speed varies slows both alike.
 
 For each kind and number a row of a table is printed: kind, segments, and for the split and for the whole: milliseconds of this
-repository, of the other, and how many times as long this one took; at last the most memory of each process, in megabytes, the
+repository, of the other, and how many times as long this one took; how many times as long as the other with its copy; at last the most memory of each process, in megabytes, the
 text of its input included, where that is more than Python holds before it starts one.
 """
 import argparse
@@ -65,8 +66,8 @@ def race(kind, number, given):
         (ours, theirs), (our_memory, their_memory) = least(given.rounds, commands, file.name)
     memory = f"{our_memory:.0f} / {their_memory:.0f}" if min(our_memory, their_memory) > LEAST_MEMORY else ""
     whole = theirs["split"] + theirs["graph"]
-    print(f"| {kind} | {number // SMALLER.get(kind, 1):,} | {ours['split']:.1f} / {theirs['split']:.1f} | {ours['split'] / theirs['split']:.2f} "
-          f"| {ours['all']:.1f} / {whole:.1f} | {ours['all'] / whole:.2f} | {memory} |", flush=True)
+    print(f"| {kind} | {number // SMALLER.get(kind, 1):,} | {ours['split']:.2f} / {theirs['split']:.2f} | {ours['split'] / theirs['split']:.2f} "
+          f"| {ours['all']:.2f} / {whole:.2f} | {ours['all'] / whole:.2f} | {ours['all'] / (whole + theirs['copy']):.2f} | {memory} |", flush=True)
 
 
 def main():
@@ -79,7 +80,7 @@ def main():
     parser.add_argument("numbers", nargs="*", type=int, default=[1_000, 4_000, 16_000, 50_000])
     given = parser.parse_args()
     subprocess.run(["cargo", "build", "--release", "--offline", "--quiet", "--example", "race"], cwd=os.path.join(ROOT, "rust"), check=True)
-    print("| kind | segments | split, ms | times | split and build, ms | times | memory, MB |\n|---|---|---|---|---|---|---|")
+    print("| kind | segments | split, ms | times | split and build, ms | times | with its copy | memory, MB |\n|---|---|---|---|---|---|---|---|")
     for kind in given.kinds.split(","):
         for number in given.numbers:
             race(kind, number, given)

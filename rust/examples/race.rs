@@ -26,7 +26,7 @@ fn main() {
     let all = least(runs, |overlay| {
         links = overlay.build_all(&segments, FillRule::NonZero, solver).expect("a graph").links().len();
     });
-    println!("in={} links={links} split_ms={split:.3} all_ms={all:.3}", segments.len());
+    println!("in={} links={links} split_ms={split:.4} all_ms={all:.4}", segments.len());
 }
 
 /// The segments of standard input. Its text is dropped, as the other program of a race drops it: so both time their runs over

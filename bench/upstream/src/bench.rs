@@ -32,10 +32,12 @@ pub(crate) fn run(words: &[String]) -> Outcome<String> {
 fn times<I: OverlayInt + IntNumber<Wide = i64>>(settings: &Settings, lines: Vec<Line>) -> String {
     let given = segments::<I>(&lines);
     drop(lines);
-    let (mut split, mut build) = (f64::INFINITY, f64::INFINITY);
+    let (mut copy, mut split, mut build) = (f64::INFINITY, f64::INFINITY, f64::INFINITY);
     let (mut pass_count, mut links, mut nodes) = (0, 0, 0);
     for _ in 0..settings.runs {
+        let start = Instant::now();
         let mut segments = given.clone();
+        copy = copy.min(start.elapsed().as_secs_f64());
         passes::reset();
         let start = Instant::now();
         let mut splitter = SplitSolver::new();
@@ -48,5 +50,5 @@ fn times<I: OverlayInt + IntNumber<Wide = i64>>(settings: &Settings, lines: Vec<
         (pass_count, links, nodes) = (passes::count(), graph.links.len(), graph.nodes.len());
     }
     let facts = format!("in={} passes={pass_count} links={links} nodes={nodes}", given.len());
-    format!("{facts} split_ms={:.3} graph_ms={:.3}\n", split * 1e3, build * 1e3)
+    format!("{facts} copy_ms={:.4} split_ms={:.4} graph_ms={:.4}\n", copy * 1e3, split * 1e3, build * 1e3)
 }

@@ -4,4 +4,5 @@ pub mod LinkData
 pub mod Meetings
 pub mod Overlays
 pub mod Steps
+pub mod Usable
 pub mod Values

@@ -29,6 +29,8 @@ use Rattle.overlay_split.proofs.laws.passes.DataPasses.{data_is_beside}
 use Rattle.overlay_build.specs.Graph.{Graph, data_by}
 use Rattle.overlay_build.specs.GraphOf.{link_of}
 use Rattle.i_overlay.specs.Headline.{IsSplit, IsOverlay, IsRefused, LinksNameNear}
+use Rattle.std.proofs.lemmas.Bool.{and_from}
+use Rattle.overlay_c.proofs.Usable.{are_splittable}
 use Rattle.overlay_c.specs.Kept.{given_by, are_usable, engine_settings, kept_links, TaggedLink, KeepsData}
 use Rattle.overlay_c.specs.Records.{asks, asked_by, piece_of, fill_rule_of}
 use Rattle.overlay_c.specs.Tags.{keeping, with_tag, untagged, tagged_by}
@@ -68,10 +70,15 @@ asks-map least greatest rs = list_all-map (asks least greatest) (λ (r : TaggedR
 pub unusable_by : (least greatest : ℤ) (rs : List TaggedRecord) → false ≡ list_all (λ r. asks least greatest r.segment) rs → are_usable least greatest (untagged rs) ≡ false
 unusable_by least greatest rs e = ap (λ all. all && is_splittable least greatest (given_by (untagged rs))) (asks-map least greatest rs ∙ sym e)
 
-pub usable_by : (least greatest : ℤ) (rs : List TaggedRecord) (list : List WholeSegment) (splittable : Bool) → true ≡ list_all (λ r. asks least greatest r.segment) rs → list ≡ without_data (tagged_by rs) → splittable ≡ is_splittable least greatest list
-    → are_usable least greatest (untagged rs) ≡ splittable
-usable_by least greatest rs list splittable ea el es =
-    ap₂ (λ all one. all && one) (asks-map least greatest rs ∙ sym ea) (ap (is_splittable least greatest) (sym (el ∙ bare_tagged rs)) ∙ sym es)
+pub usable_by : (least greatest : ℤ) (rs : List TaggedRecord) → true ≡ list_all (λ r. asks least greatest r.segment) rs → are_usable least greatest (untagged rs) ≡ true
+usable_by least greatest rs e =
+    let all = asks-map least greatest rs ∙ sym e in
+    and_from _ _ all (are_splittable least greatest (untagged rs) all)
+
+pub splittable_by : (least greatest : ℤ) (rs : List TaggedRecord) (list : List WholeSegment) → true ≡ list_all (λ r. asks least greatest r.segment) rs → list ≡ without_data (tagged_by rs)
+    → is_splittable least greatest list ≡ true
+splittable_by least greatest rs list e el =
+    ap (is_splittable least greatest) (el ∙ bare_tagged rs) ∙ are_splittable least greatest (untagged rs) (asks-map least greatest rs ∙ sym e)
 
 -- ---- hooks
 

@@ -3,7 +3,7 @@ use Rattle.std.specs.Prelude.{⊤, ◌≡◌, ◌==◌, ◌<◌, ◌≤◌, ◌+
 use Rattle.std.specs.Ordering.{int_eq}
 use Rattle.overlay_geometry.specs.Points.{Point, point_lt}
 use Rattle.overlay_geometry.specs.Coordinates.{is_point_in_range}
-use Rattle.overlay_base.specs.Windings.{Winding, inverse, is_valid}
+use Rattle.overlay_base.specs.Windings.{Winding, inverse, is_valid, is_not_empty}
 use Rattle.overlay_base.specs.Segments.{WholeSegment}
 use Rattle.overlay_base.specs.BooleanWinding.{boolean_counted}
 use Rattle.overlay_base.specs.EdgeData.{DataSegment, data_piece}
@@ -46,9 +46,10 @@ piece_of count p q =
     then record { pair = record { a = p; b = q }; count = count }
     else record { pair = record { a = q; b = p }; count = inverse count }
 
--- whether it describes a segment: its ends lie from the least to the greatest coordinate of an engine and differ, and its count is valid
+-- whether it describes a segment that may be split: its ends lie from the least to the greatest coordinate of an engine and differ, and its count is valid and
+-- not empty
 abbrev pub asks : ℤ → ℤ → SegmentRecord → Bool
-asks least greatest r = is_point_in_range least greatest (start_of r) && is_point_in_range least greatest (end_of r) && (not (int_eq r.ax r.bx && int_eq r.ay r.by) && is_valid (count_of r))
+asks least greatest r = is_point_in_range least greatest (start_of r) && is_point_in_range least greatest (end_of r) && (not (int_eq r.ax r.bx && int_eq r.ay r.by) && (is_valid (count_of r) && is_not_empty (count_of r)))
 
 -- the segment that it describes
 abbrev pub asked_by : SegmentRecord → WholeSegment
@@ -69,7 +70,7 @@ abbrev pub line_count_of : LineRecord → Winding
 line_count_of r = record { subj = r.subj; clip = pos 0; mask = r.mask }
 
 abbrev pub line_asks : ℤ → ℤ → LineRecord → Bool
-line_asks least greatest r = is_point_in_range least greatest (line_start_of r) && is_point_in_range least greatest (line_end_of r) && (not (int_eq r.ax r.bx && int_eq r.ay r.by) && is_valid (line_count_of r))
+line_asks least greatest r = is_point_in_range least greatest (line_start_of r) && is_point_in_range least greatest (line_end_of r) && (not (int_eq r.ax r.bx && int_eq r.ay r.by) && (is_valid (line_count_of r) && is_not_empty (line_count_of r)))
 
 abbrev pub line_asked_by : LineRecord → WholeSegment
 line_asked_by r = piece_of (line_count_of r) (line_start_of r) (line_end_of r)

@@ -25,7 +25,6 @@ use i_overlay::overlay::split_and_build_overlay;
 use overlay_base::overlay_core::clip_rule::ClipRule;
 use overlay_base::overlay_core::link::OverlayLink;
 use overlay_base::overlay_core::overlay_rule::OverlayRule;
-use overlay_base::segm::arranged::is_splittable;
 use overlay_base::segm::boolean::ShapeCountBoolean;
 use overlay_base::segm::join::join_with_store;
 use overlay_base::segm::segment_fill::SegmentFill;
@@ -331,7 +330,7 @@ fn try_load<I: Width>(
     ensures unusable { OnUnusable result (IsFalse (are_usable (I.whole I.MIN_COORD) (I.whole I.MAX_COORD) given.now)) }
     ensures no_count { IfErr result (λ refusal. refusal ≢ Refused CountOutOfRange) }
 {
-    if !load(given, list)? || !is_splittable(list) {
+    if !load(given, list)? {
         return Err(Refusal::NotSplittable);
     }
     Ok(())
@@ -364,7 +363,7 @@ fn try_load_lines<I: Width>(given: &[LineRecord], list: &mut Vec<Line<I>>) -> Re
     ensures unusable { OnUnusable result (IsFalse (are_lines_usable (I.whole I.MIN_COORD) (I.whole I.MAX_COORD) given.now)) }
     ensures no_count { IfErr result (λ refusal. refusal ≢ Refused CountOutOfRange) }
 {
-    if !lines::load(given, list)? || !is_splittable(list) {
+    if !lines::load(given, list)? {
         return Err(Refusal::NotSplittable);
     }
     Ok(())

@@ -35,7 +35,7 @@ pub fn load<I: Width>(records: &[LineRecord], list: &mut Vec<Line<I>>) -> Result
 }
 
 /// The segment that a record describes. `None` where an end is out of range, the ends are equal,
-/// the count is `i32::MIN`, or the mask has other bits than its two.
+/// the count is `i32::MIN`, the mask has other bits than its two, or both are 0.
 pub fn asked<I: Width>(given: &LineRecord) -> Option<Line<I>>
     ensures asks { is_some result ≡ line_asks (I.whole I.MIN_COORD) (I.whole I.MAX_COORD) given.now }
     ensures segment { IfSome result (λ segment. segment_of segment ≡ line_asked_by given.now) }
@@ -43,7 +43,7 @@ pub fn asked<I: Width>(given: &LineRecord) -> Option<Line<I>>
     let a = point(start(given))?;
     let b = point(end(given))?;
     let count = count(given);
-    if has_equal_ends(given) || !count.is_valid() {
+    if has_equal_ends(given) || !count.is_valid() || !count.is_not_empty() {
         return None;
     }
     Some(Segment::create_and_validate_with_data(a, b, count, (), &mut ()))

@@ -123,7 +123,7 @@ pub struct SettingsRecord {
 }
 
 /// The segment that a record describes, with data. `None` where an end is out of range, the ends
-/// are equal, or a count is `i32::MIN`.
+/// are equal, a count is `i32::MIN`, or both are 0: such a segment may not be split.
 pub fn asked<I: Width, D: OverlayEdgeData<ShapeCountBoolean>>(
     given: &SegmentRecord,
     edge_data: D,
@@ -136,7 +136,7 @@ pub fn asked<I: Width, D: OverlayEdgeData<ShapeCountBoolean>>(
     let a = point(start(given))?;
     let b = point(end(given))?;
     let count = count(given);
-    if has_equal_ends(given) || !count.is_valid() {
+    if has_equal_ends(given) || !count.is_valid() || !count.is_not_empty() {
         return None;
     }
     Some(Segment::create_and_validate_with_data(a, b, count, edge_data, store))

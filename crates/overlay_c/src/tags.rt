@@ -15,7 +15,6 @@ use crate::refusal::Refusal;
 use crate::width::Width;
 use overlay_base::overlay_core::edge_data::{EdgeDataMerge, EdgeDataSplit, OverlayEdgeData};
 use overlay_base::overlay_core::link::OverlayLink;
-use overlay_base::segm::arranged::is_splittable;
 use overlay_base::segm::boolean::ShapeCountBoolean;
 use overlay_base::segm::segment::Segment;
 use overlay_geometry::num::OverlayInt;
@@ -98,7 +97,7 @@ fn try_load<I: Width>(
     ensures unusable { OnUnusable result (IsFalse (are_usable (I.whole I.MIN_COORD) (I.whole I.MAX_COORD) (untagged given.now))) }
     ensures no_count { IfErr result (λ refusal. refusal ≢ Refused CountOutOfRange) }
 {
-    if !load(given, list)? || !is_splittable(list) {
+    if !load(given, list)? {
         return Err(Refusal::NotSplittable);
     }
     Ok(())

@@ -4,7 +4,7 @@ use Rattle.overlay_geometry.specs.Coordinates.{is_point_in_range}
 use Rattle.overlay_base.specs.BooleanWinding.{boolean_counted}
 use Rattle.overlay_base.specs.EdgeData.{data_piece}
 use Rattle.overlay_base.specs.HooksOf.{hooks_of}
-use Rattle.overlay_base.specs.Windings.{is_valid}
+use Rattle.overlay_base.specs.Windings.{is_valid, is_not_empty}
 use Rattle.overlay_base.proofs.laws.joins.DataJoins.{bare}
 use Rattle.overlay_c.proofs.Steps.{asked_step}
 use Rattle.overlay_c.proofs.records.asked.Goals as goal
@@ -15,7 +15,8 @@ returns-clause-asks g c =
     let a = c.in_ok-a.ensures.in_range ∙ ap ranges c.start.ensures in
     let b = c.in_ok-b.ensures.in_range ∙ ap ranges c.end.ensures in
     let valid = c.if-not-is_valid.ensures ∙ ap is_valid c.count-count.ensures in
-    λ i. ((a i && b i) && (not (c.if-has_equal_ends.ensures i) && valid i))
+    let filled = c.if-not-is_not_empty.ensures ∙ ap is_not_empty c.count-count.ensures in
+    λ i. ((a i && b i) && (not (c.if-has_equal_ends.ensures i) && (valid i && filled i)))
 
 pub returns-clause-segment : goal.returns-clause-segment
 returns-clause-segment g c =
