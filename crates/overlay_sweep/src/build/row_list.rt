@@ -126,10 +126,31 @@ impl<C: WindingCount, I: OverlayInt> RowList<C, I> {
         }
     }
 
-    /// Searches for a place by halves, first among the rows and then in one. Returns a spot with
-    /// the place: the entry below has not ended and comes before it, and the next one above that
-    /// has not ended does not. Leaves in `compared` how many orders it compares: no more than a
-    /// descent of a balanced tree of as many entries.
+    /// Searches for a place by halves in the only row, and never drops all its entries. Returns a spot
+    /// with the place, and leaves in `compared` how many orders it compares.
+    fn search_only(&mut self, x: I, place: &Place<I>, compared: &mut u128) -> Spot
+        requires place { IsPlaceInRange I.whole I.MIN_COORD I.MAX_COORD place.now }
+        requires one { length (rows_in self.old) ≡ 1 }
+        ensures keeps { KeepsLasting (I.whole x) (joined (rows_in self.old)) (joined (rows_in self.new)) }
+        ensures one { length (rows_in self.new) ≡ 1 }
+        ensures some { HaveSome (rows_in self.old) → HaveSome (rows_in self.new) }
+        ensures index { IsIndexIn (rows_in self.new) result.row result.at }
+        ensures position { IsLivePosition (lasts_past (I.whole x) (joined (rows_in self.new)))
+            (λ i. stands_before I.whole place.now (segment_at (joined (rows_in self.new)) i).pair)
+            (length (joined (rows_in self.new))) (index_in (rows_in self.new) result.row result.at) }
+        ensures few { (compared.new ≡ 0) ⊎ (2 ^ compared.new ≤ 2 * length (joined (rows_in self.old))) }
+    {
+        *compared = 0;
+        let only = &mut self.rows[0];
+        let end = only.entries().len();
+        let at = only.search(x, place, end, compared);
+        Spot { row: 0, at }
+    }
+
+    /// Searches for a place by halves, first among the rows if there are several, and then in one.
+    /// Returns a spot with the place: the entry below has not ended and comes before it, and the
+    /// next one above that has not ended does not. Leaves in `compared` how many orders it
+    /// compares: no more than a descent of a balanced tree of as many entries.
     pub(crate) fn search(&mut self, x: I, place: &Place<I>, compared: &mut u128) -> Spot
         requires place { IsPlaceInRange I.whole I.MIN_COORD I.MAX_COORD place.now }
         requires some { HaveSome (rows_in self.old) }
@@ -142,6 +163,9 @@ impl<C: WindingCount, I: OverlayInt> RowList<C, I> {
         ensures near { IsNextNear (I.whole x) (rows_in self.new) result.row result.at }
         ensures few { (d : ℕ) → IsHighest (length (joined (rows_in self.old))) d → compared.new ≤ d }
     {
+        if self.rows.len() == 1 {
+            return self.search_only(x, place, compared);
+        }
         let mut first = 0;
         let row = self.find_row(x, place, &mut first);
         if row == self.rows.len() {
@@ -202,8 +226,9 @@ impl<C: WindingCount, I: OverlayInt> RowList<C, I> {
         Ok(())
     }
 
-    /// Searches for a place by halves among all entries, which are moved to one row for it. It
-    /// compares one order less than `search` may, so one could be compared before.
+    /// Searches for a place by halves among all entries, which are moved to one row for it. Leaves in
+    /// `compared` how many orders it compares: one less than `search` may, so one could be compared
+    /// before.
     pub(crate) fn search_gathered(
         &mut self,
         x: I,
@@ -212,7 +237,6 @@ impl<C: WindingCount, I: OverlayInt> RowList<C, I> {
     ) -> Result<Spot, Fault>
         requires place { IsPlaceInRange I.whole I.MIN_COORD I.MAX_COORD place.now }
         requires some { 1 ≤ length (joined (rows_in self.old)) }
-        requires none { compared.old ≡ 0 }
         ensures keeps { OnOk result (KeepsLasting (I.whole x) (joined (rows_in self.old)) (joined (rows_in self.new))) }
         ensures some { IfOk result (λ spot. HaveSomeBut spot.row (rows_in self.new)) }
         ensures index { IfOk result (λ spot. IsIndexIn (rows_in self.new) spot.row spot.at) }
@@ -223,9 +247,7 @@ impl<C: WindingCount, I: OverlayInt> RowList<C, I> {
         ensures fault { IfErr result (λ fault. fault ≡ Fault.Memory) }
     {
         self.gather()?;
-        let end = self.rows[0].entries().len();
-        let at = self.rows[0].search(x, place, end, compared);
-        Ok(Spot { row: 0, at })
+        Ok(self.search_only(x, place, compared))
     }
 
     /// Cuts the row of a spot into halves if it is full, and makes the first row if there is none. Returns where the spot

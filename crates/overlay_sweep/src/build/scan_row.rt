@@ -115,9 +115,9 @@ impl<C: WindingCount, I: OverlayInt> ScanRow<C, I> {
     }
 
     /// Searches below an end for a place by halves. It passes over two entries that have ended, and
-    /// drops the third of three in a row. Returns an index with the place: the entry below has not
-    /// ended and comes before it, and the next one above that has not ended does not. Adds to
-    /// `compared` how many orders it compares.
+    /// drops the third of three in a row, so it never drops all. Returns an index with the place:
+    /// the entry below has not ended and comes before it, and the next one above that has not ended
+    /// does not. Adds to `compared` how many orders it compares.
     pub(crate) fn search(
         &mut self,
         x: I,
@@ -138,6 +138,7 @@ impl<C: WindingCount, I: OverlayInt> ScanRow<C, I> {
             (entries_of self.new.entries.items)) (λ i. stands_before I.whole place.now (segment_at
             (entries_of self.new.entries.items) i).pair) (length self.new.entries.items) result }
         ensures fewer { length self.new.entries.items ≤ length self.old.entries.items }
+        ensures some { 1 ≤ length self.old.entries.items → 1 ≤ length self.new.entries.items }
         ensures few { (compared.new ≡ 0) ⊎ (2 ^ compared.new ≤ 2 * end) }
     {
         let mut low = 0;

@@ -15,9 +15,9 @@ use std::alloc::Global;
 
 /// The live segments from below, in rows of at most 64. What has ended may stay among them until a search meets it.
 ///
-/// A search goes by halves among the rows, by their last entries, and then in one row. So an insert moves the entries of
-/// one row alone. The search for the sum below a point keeps its place, so the segments that start there are put in
-/// without another search.
+/// A search goes by halves: among the rows, by their last entries, if there are several, and then in one row. So an
+/// insert moves the entries of one row alone. The search for the sum below a point keeps its place, so the segments that
+/// start there are put in without another search.
 #[derive(Drop)]
 pub struct ScanRows<C: WindingCount, I: OverlayInt> {
     entries: RowList<C, I>,

@@ -316,6 +316,20 @@ module _ (x : ℤ) (before : WholeSegment → Bool) (rows : List (List WholeSegm
     pub searched_position : IsLivePosition (lasts_past x (joined after)) (λ i. before (segment_at (joined after) i)) (length (joined after)) (index_in after row at)
     searched_position = position_of (λ s. int_lt x s.pair.b.x) before after row inside_after at new there place (λ z. under_it below) (inl (next_inside x before (row_at rows row) new keeps ends at place))
 
+-- in the only row
+module _ (x : ℤ) (before : WholeSegment → Bool) (rows : List (List WholeSegment)) (one : length rows ≡ 1) (new : List WholeSegment) (at : ℕ) (place : IsLivePosition (lasts_past x new) (λ i. before (segment_at new i)) (length new) at) where
+  abbrev only : List (List WholeSegment)
+  only = slice_set rows 0 new
+
+  only_there : row_at only 0 ≡ new
+  only_there = get_or-set_same rows 0 new [] (omega (arith, one))
+
+  only_inside : 0 < length only
+  only_inside = omega (arith, one, length-set rows 0 new)
+
+  pub only_position : IsLivePosition (lasts_past x (joined only)) (λ i. before (segment_at (joined only) i)) (length (joined only)) (index_in only 0 at)
+  only_position = position_of (λ s. int_lt x s.pair.b.x) before only 0 only_inside at new only_there place (λ z. inl refl) (inr (omega (arith, one, length-set rows 0 new)))
+
 -- behind all
 pub ended_position : (x : ℤ) (before : WholeSegment → Bool) (rows : List (List WholeSegment)) (found row at : ℕ) → found ≡ length rows → (found ≡ 0) ⊎ EndsWith x before true (row_at rows (found - 1)) → (length rows ≡ 0) ⊎ ((row + 1 ≡ length rows) × (at ≡ length (row_at rows row))) → IsIndexIn rows row at →
     IsLivePosition (lasts_past x (joined rows)) (λ i. before (segment_at (joined rows) i)) (length (joined rows)) (index_in rows row at)

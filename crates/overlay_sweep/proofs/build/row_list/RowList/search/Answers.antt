@@ -7,8 +7,15 @@ use Rattle.overlay_sweep.specs.LivePositions.{IsLivePosition}
 use Rattle.overlay_sweep.specs.ScanTrees.{joined, row_at, HaveSome, index_in, IsIndexIn, lasts_past, segment_at}
 use Rattle.overlay_sweep.specs.steps.PlaceOf.{stands_before}
 use Rattle.overlay_sweep.specs.steps.Rows.{KeepsLasting, EndsWith, IsNextNear}
-use Rattle.overlay_sweep.proofs.laws.list.Rows.{keeps_on, keeps_set, row_read, room_of, many_of, next_of_end, searched_some, searched_index, searched_near, searched_position, ended_position, ended_near, two_searches}
+use Rattle.overlay_sweep.proofs.laws.list.Rows.{keeps_on, keeps_set, row_read, room_of, many_of, next_of_end, searched_some, searched_index, searched_near, searched_position, ended_position, ended_near, two_searches, search_and_one}
 use Rattle.overlay_sweep.proofs.build.row_list.RowList.search.Goals as goal
+
+pub returns-then-len-eq1-clause-few : goal.returns-then-len-eq1-clause-few
+returns-then-len-eq1-clause-few g c = λ d high.
+    let rows = rows_in c.args.self.now in
+    let some = many_of rows c.requires.some in
+    let pays = search_and_one c.search_only.new.compared (length (joined rows)) d c.search_only.ensures.few (omega (arith, some, length-map c.args.self.now.rows.items (λ r. row_sums r), c.if-len-eq1.true, c.len.ensures, c.args.self.now.rows.ok.0)) high in
+    omega (arith, pays)
 
 pub returns-then-row-len-clause-position : goal.returns-then-row-len-clause-position
 returns-then-row-len-clause-position g c =

@@ -17,6 +17,7 @@ loop-low-init g c = record {
   kept = refl;
   begun = λ z a. a;
   fewer = omega arith;
+  some = λ a. a;
 }
 
 pub loop-low-preserved-then-is_before : goal.loop-low-preserved-then-is_before
@@ -38,6 +39,7 @@ loop-low-preserved-then-is_before g c =
       kept = s.kept;
       begun = s.begun;
       fewer = s.fewer;
+      some = s.some;
     }
 
 pub loop-low-preserved-else-is_before : goal.loop-low-preserved-else-is_before
@@ -59,6 +61,7 @@ loop-low-preserved-else-is_before g c =
       kept = s.kept;
       begun = s.begun;
       fewer = s.fewer;
+      some = s.some;
     }
 
 pub loop-low-preserved-then-behind-high : goal.loop-low-preserved-then-behind-high
@@ -79,6 +82,7 @@ loop-low-preserved-then-behind-high g c =
       kept = s.kept;
       begun = s.begun;
       fewer = s.fewer;
+      some = s.some;
     }
 
 pub loop-low-preserved-then-not-lasts_past : goal.loop-low-preserved-then-not-lasts_past
@@ -106,6 +110,7 @@ loop-low-preserved-then-not-lasts_past g c =
       kept = ap (lasting_of x) new ∙ without_ended x (entries_of items) behind (omega (arith, close, inside, length-map items entry_of)) next_ended ∙ s.kept;
       begun = λ z a. subst (λ l. All (λ s. s.pair.a.x ≤ℤ z) l) (sym new) (all_without (λ s. s.pair.a.x ≤ℤ z) (entries_of items) behind (s.begun z a));
       fewer = omega (arith, s.fewer, one);
+      some = λ a. omega (arith, one, order, close, inside);
     }
 
 pub loop-low-preserved-then-is_before-2 : goal.loop-low-preserved-then-is_before-2
@@ -132,6 +137,7 @@ loop-low-preserved-then-is_before-2 g c =
       kept = s.kept;
       begun = s.begun;
       fewer = s.fewer;
+      some = s.some;
     }
 
 pub loop-low-preserved : goal.loop-low-preserved
@@ -158,6 +164,7 @@ loop-low-preserved g c =
       kept = s.kept;
       begun = s.begun;
       fewer = s.fewer;
+      some = s.some;
     }
 
 pub returns-clause-position : goal.returns-clause-position
@@ -213,3 +220,6 @@ returns-clause-begun g c = c.loop-low.invariant.begun
 
 pub returns-clause-fewer : goal.returns-clause-fewer
 returns-clause-fewer g c = c.loop-low.invariant.fewer
+
+pub returns-clause-some : goal.returns-clause-some
+returns-clause-some g c = c.loop-low.invariant.some

@@ -14,6 +14,7 @@ invariant-loop-low g l = record {
   kept : lasting_of (g.I.OverlayInt.whole l.x) (entries_of l.self.entries.items) ≡ lasting_of (g.I.OverlayInt.whole l.x) (entries_of l.initial.self.entries.items);
   begun : (z : ℤ) → All (λ s. s.pair.a.x ≤ℤ z) (entries_of l.initial.self.entries.items) → All (λ s. s.pair.a.x ≤ℤ z) (entries_of l.self.entries.items);
   fewer : length l.self.entries.items ≤ length l.initial.self.entries.items;
+  some : 1 ≤ length l.initial.self.entries.items → 1 ≤ length l.self.entries.items;
 }
 
 abbrev pub decreases-loop-low : goal.decreases-loop-low
