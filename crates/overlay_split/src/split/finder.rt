@@ -1,5 +1,5 @@
 // How the passes of a run find the segments that meet.
-ghost use Rattle.std.specs.Prelude.{◌≡◌, ◌≤◌, ◌+◌, All, None, IfErr, IfOk, OnOk, IfSome, OnSome, IfNone, IsSortedByKey};
+ghost use Rattle.std.specs.Prelude.{◌≡◌, ◌≤◌, ◌+◌, All, IsTrue, IsFalse, None, IfErr, IfOk, OnOk, IfSome, OnSome, IfNone, IsSortedByKey};
 ghost use Rattle.overlay_base.specs.declared.segm.fault.Fault.TheVariants.{Memory};
 ghost use Rattle.overlay_geometry.specs.Points.{pair_cmp};
 ghost use Rattle.overlay_base.specs.Segments.{pairs};
@@ -7,7 +7,7 @@ ghost use Rattle.overlay_base.specs.SegmentOf.{ends_of, segments_of, pairs_in};
 ghost use Rattle.overlay_intersections.specs.PassMarks.{is_rounded};
 ghost use Rattle.overlay_intersections.specs.PlacingOf.{placing_of, HasRadius};
 ghost use Rattle.overlay_intersections.specs.MarkOf.{AreMarks, marks_of, AreMarksOf};
-ghost use Rattle.overlay_intersections.specs.Looked.{tree_looks};
+ghost use Rattle.overlay_intersections.specs.Looked.{capped_sum, count_twos, x_ranges_meet, tree_looks};
 ghost use Rattle.overlay_grid.specs.GridLooks.{grid_looks};
 ghost use Rattle.overlay_grid.specs.Grid.{IsInside, LieInside};
 ghost use Rattle.overlay_grid.specs.GroupsOf.{grid_in, grid_of};
@@ -169,21 +169,13 @@ impl<I: OverlayInt> PairFinder<I> {
         ensures looked { OnOk result (LooksThrough segments.now self.old self.new) }
         ensures fault { IfErr result (λ fault. fault ≡ Memory) }
     {
-        if self.solver.is_list_split(segments) {
-            return solver_list::find_marks(
-                segments,
-                placing,
-                &mut tree.heights,
-                marks,
-                &mut self.looked,
-            );
-        }
-        self.find_widely(segments, placing, tree, marks)
+        let is_list = self.solver.is_list_split(segments);
+        self.find_as_chosen(is_list, segments, placing, tree, marks)
     }
 
     /// Finds the marks as `find_marks` does. Rectangles may be given that hold all that has changed: any two segments whose
     /// boxes do not both meet one of them are apart. Then only the segments whose boxes do are compared, if these are
-    /// found soon enough, except over a list.
+    /// found soon enough, except under `Strategy::List`.
     ///
     /// Returns `Fault::Memory` where a growth is refused; `marks` is of no use then.
     pub(crate) fn find_marks_near<C: WindingCount, D: Copy>(
@@ -207,7 +199,7 @@ impl<I: OverlayInt> PairFinder<I> {
         ensures looked { OnOk result (LooksThrough segments.now self.old self.new) }
         ensures fault { IfErr result (λ fault. fault ≡ Memory) }
     {
-        if self.solver.is_list_split(segments) {
+        if self.solver.strategy == Strategy::List {
             return self.find_marks(segments, placing, tree, marks);
         }
         let Some(boxes) = changed else {
@@ -216,9 +208,46 @@ impl<I: OverlayInt> PairFinder<I> {
         let Some(part) = part_near(alloc, segments, boxes.as_slice())? else {
             return self.find_marks(segments, placing, tree, marks);
         };
-        let rounded = self.find_widely(part.segments.as_slice(), placing, tree, marks)?;
+        let is_list = self.solver.is_list_split(segments);
+        let near = part.segments.as_slice();
+        let rounded = self.find_as_chosen(is_list, near, placing, tree, marks)?;
         rename_marks(marks, part.indexes.as_slice());
         Ok(rounded)
+    }
+
+    /// Finds the marks over a list, if that is chosen, and else over the grid or a tree.
+    fn find_as_chosen<C: WindingCount, D: Copy>(
+        &mut self,
+        is_list: bool,
+        segments: &[Segment<C, I, D>],
+        placing: Placing,
+        tree: &mut TreeBuffers<I>,
+        marks: &mut Vec<LineMark<I>>,
+    ) -> Result<bool, Fault>
+        requires sorted { IsSortedByKey ends_of pair_cmp segments.now }
+        requires in_range { AreInRange segments.now }
+        requires radius { HasRadius placing }
+        requires inside { LieInside (layout_in self.old) (pairs_in segments.now) }
+        ensures solver { solver_in self.new ≡ solver_in self.old }
+        ensures grid { layout_in self.new ≡ layout_in self.old }
+        ensures marks { OnOk result (AreMarksOf placing segments.now marks.new.items) }
+        ensures rounded { IfOk result (λ rounded. rounded ≡ is_rounded (segments_of segments.now)) }
+        ensures listed { IsTrue is_list → OnOk result (looks_in self.new
+            ≡ capped_sum (looks_in self.old) (count_twos x_ranges_meet (pairs_in segments.now))) }
+        ensures wide { IsFalse is_list → OnOk result (looks_in self.new
+            ≤ looks_in self.old + wide_looks (layout_in self.old) (pairs_in segments.now)) }
+        ensures fault { IfErr result (λ fault. fault ≡ Memory) }
+    {
+        if is_list {
+            return solver_list::find_marks(
+                segments,
+                placing,
+                &mut tree.heights,
+                marks,
+                &mut self.looked,
+            );
+        }
+        self.find_widely(segments, placing, tree, marks)
     }
 
     /// Finds the marks over the grid, if there is one, and else over a tree.

@@ -93,6 +93,22 @@ fn split_alike(alloc: Global, given: &[Row]) -> Result<(usize, u128, [u128; 4]),
     Ok((list.rows.len(), list.passes, looked))
 }
 
+/// Two long lines cross at (999.5, -8.5), below a thousand short segments beside one another, and between two short ones at the
+/// whole heights next to that. The first pass rounds, and cuts two segments of many. So under `Auto` the second compares only
+/// their four parts and the two short segments between which they crossed. The rounded point lies on one of these.
+#[test]
+fn few_changes_in_a_list(rt: HostRuntime) -> Result<(), Fail> {
+    let mut given = steps(rt.alloc(), 1000)?;
+    given.push(((0, -10), (1999, -7), 1))?;
+    given.push(((0, -7), (1999, -10), 1))?;
+    given.push(((995, -8), (1005, -8), 1))?;
+    given.push(((995, -9), (1005, -9), 1))?;
+    let (count, passes, [listed, _, _, auto]) = split_alike(rt.alloc(), &given)?;
+    assert!(rt; (count, passes) == (1007, 2));
+    assert!(rt; listed == 208 + 219 && auto <= 208 + 15);
+    Ok(())
+}
+
 /// One vertical crosses lines half as long as those that a tree is tried for: three fragments each, so no tree is tried before
 /// the grid. In the column of the vertical the grid compares it with each line once, and in no column two lines with one
 /// another, as the tree does.

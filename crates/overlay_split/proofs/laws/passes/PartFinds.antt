@@ -10,13 +10,14 @@ use Rattle.overlay_geometry.specs.InRange.{IsPairInRange}
 use Rattle.overlay_base.specs.SegmentOf.{x_segment_of, ends_of, segments_of, pairs_in}
 use Rattle.overlay_base.specs.declared.segm.segment.Segment.{Segment}
 use Rattle.overlay_grid.specs.Grid.{Layout, LieInside}
+use Rattle.overlay_intersections.specs.Looked.{list_looks}
 use Rattle.overlay_intersections.specs.MarkOf.{Mark, mark_of, marks_of, AreMarks}
 use Rattle.overlay_intersections.specs.Marks.{Placing}
 use Rattle.overlay_intersections.specs.PassMarks.{is_rounded}
 use Rattle.overlay_intersections.specs.declared.split.line_mark.LineMark.{LineMark}
 use Rattle.overlay_split.specs.PassLooks.{wide_looks}
 use Rattle.overlay_split.specs.steps.ChangedBoxes.{is_near, near_from, renamed, AreApartElsewhere}
-use Rattle.overlay_split.proofs.laws.passes.PartLooks.{wide_looks-part}
+use Rattle.overlay_split.proofs.laws.passes.PartLooks.{list_looks-part, wide_looks-part}
 use Rattle.overlay_split.proofs.laws.passes.PartMarks.{marks_of_part, part_size}
 use Rattle.overlay_split.proofs.laws.passes.PartSteps.{part_sorted, part_segments, part_pairs, part_inside}
 use Rattle.overlay_split.proofs.laws.passes.UnmarkedPairs.{part_has_the_marks}
@@ -36,6 +37,9 @@ module _ {C I D : Type 0} {m : _} {w : _} {o : _} {e : _} {p : _} (rects : List 
 
   pub found_inside : (grid : Option Layout) → LieInside grid (pairs_in xs) → LieInside grid (pairs_in found)
   found_inside grid h = subst (LieInside grid) (sym found_pairs) (part_inside grid (is_near rects) (pairs_in xs) h)
+
+  pub found_listed : list_looks (pairs_in found) ≤ list_looks (pairs_in xs)
+  found_listed = subst (λ ps. list_looks ps ≤ list_looks (pairs_in xs)) (sym found_pairs) (list_looks-part (is_near rects) (pairs_in xs))
 
   pub found_looks : (grid : Option Layout) → wide_looks grid (pairs_in found) ≤ wide_looks grid (pairs_in xs)
   found_looks grid = subst (λ ps. wide_looks grid ps ≤ wide_looks grid (pairs_in xs)) (sym found_pairs) (wide_looks-part (is_near rects) (pairs_in xs) grid)

@@ -7,7 +7,7 @@ use Rattle.overlay_geometry.specs.Points.{Pair}
 use Rattle.overlay_geometry.proofs.laws.lists.Lists.{sum_by-filter_le}
 use Rattle.overlay_grid.specs.Grid.{Layout, fragments}
 use Rattle.overlay_grid.specs.GridLooks.{all_fragments, fragments_meet, border_contacts, fragment_looks, grid_looks}
-use Rattle.overlay_intersections.specs.Looked.{count_twos, boxes_meet, tree_looks}
+use Rattle.overlay_intersections.specs.Looked.{count_twos, boxes_meet, x_ranges_meet, list_looks, tree_looks}
 use Rattle.overlay_split.specs.PassLooks.{wide_looks}
 
 -- ---- some elements of a list, in order
@@ -78,6 +78,10 @@ itself_part keep (x ∷ xs) = elim (cases_Bool (keep x)) [
 -- ---- comparisons
 
 module _ (keep : Pair → Bool) (ps : List Pair) where
+  pub list_looks-part : list_looks (filter keep ps) ≤ list_looks ps
+  unfolding list_looks
+  list_looks-part = part_twos x_ranges_meet (filter keep ps) ps (itself_part keep ps)
+
   tree_looks-part : tree_looks (filter keep ps) ≤ tree_looks ps
   unfolding tree_looks
   tree_looks-part =

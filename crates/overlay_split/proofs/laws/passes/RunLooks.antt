@@ -1,14 +1,14 @@
 -- How many pairs a pass compares by what it goes over, and a run from one pass to the next.
-use Rattle.std.proofs.Common.{◌≡◌, sym, ap, subst, ◌∙◌, ℕ, suc, ◌+◌, ◌-◌, ◌≤◌, arith, List, [], ◌∷◌, length, Bool, true, false, cond}
-use Rattle.std.specs.Prelude.{Option, None, min, ◌^◌, IsTrue}
-use Rattle.std.proofs.lemmas.List.{length-map}
-use Rattle.std.proofs.lemmas.Bool.{both_ways}
+use Rattle.std.proofs.Common.{◌≡◌, sym, ap, subst, ◌∙◌, ℕ, suc, ◌+◌, ◌-◌, ◌≤◌, arith, List, [], ◌∷◌, length, Bool, true, false, cond, inl, inr}
+use Rattle.std.specs.Prelude.{Option, None, min, ◌^◌}
+use Rattle.std.proofs.lemmas.Bool.{both_ways, cases_Bool}
 use Rattle.overlay_geometry.specs.Points.{Pair}
 use Rattle.overlay_geometry.specs.Sorting.{distinct_in_order, stably_sorted}
 use Rattle.overlay_base.specs.Segments.{WholeSegment, pairs}
 use Rattle.overlay_base.specs.Choices.{list_splits}
 use Rattle.overlay_base.specs.Join.{summed, join}
 use Rattle.overlay_base.specs.declared.overlay_core.solver.Strategy.{Strategy}
+use Rattle.overlay_base.specs.declared.overlay_core.solver.Strategy.TheVariants.{List as ByList}
 use Rattle.overlay_grid.specs.Grid.{Layout}
 use Rattle.overlay_intersections.specs.Looked.{count_twos, x_ranges_meet, list_looks}
 use Rattle.overlay_split.specs.Run.{Settings, after_passes}
@@ -32,7 +32,22 @@ pub ArePassLooks-wide : (strategy : Strategy) (grid : Option Layout) (ps : List 
 unfolding pass_looks
 ArePassLooks-wide strategy grid ps old new e h =
     let looks : pass_looks strategy grid ps ≡ wide_looks grid ps = ap (λ (b : Bool). cond b (list_looks ps) (wide_looks grid ps)) e in
-    record { most = subst (λ (n : ℕ). new ≤ old + n) (sym looks) h; exact = λ t. absurd (both_ways _ e t) }
+    record { most = subst (λ (n : ℕ). new ≤ old + n) (sym looks) h; exact = λ t. absurd (both_ways _ e (ap (λ (s : Strategy). list_splits s (length ps)) t)) }
+
+-- a pass over a part of the list, under another strategy than `List`
+pub ArePassLooks-fewer : (strategy : Strategy) (grid : Option Layout) (ps part : List Pair) (old new : ℕ) (is_list : Bool) → is_list ≡ list_splits strategy (length ps) → (strategy ≡ ByList → ⊥) → list_looks part ≤ list_looks ps → wide_looks grid part ≤ wide_looks grid ps →
+    (is_list ≡ true → new ≡ min (old + count_twos x_ranges_meet part) (2 ^ 128 - 1)) → (is_list ≡ false → new ≤ old + wide_looks grid part) → ArePassLooks strategy grid ps old new
+unfolding pass_looks list_looks
+ArePassLooks-fewer strategy grid ps part old new is_list e other few_listed few listed wide = record {
+  most = elim (cases_Bool is_list) [
+    | inl k ↦ subst (λ (b : Bool). new ≤ old + cond b (list_looks ps) (wide_looks grid ps)) (sym k ∙ e) (within new _ (list_looks ps) old (2 ^ 128 - 1) few_listed (listed k))
+    | inr k ↦ subst (λ (b : Bool). new ≤ old + cond b (list_looks ps) (wide_looks grid ps)) (sym k ∙ e) (let spent = wide k in omega (arith, spent, few))
+  ];
+  exact = λ t. absurd (other t);
+}
+  where
+    within : (n p m o w : ℕ) → p ≤ m → n ≡ min (o + p) w → n ≤ o + m
+    within n p m o w few h = omega arith
 
 -- ---- a run
 
@@ -65,7 +80,5 @@ AreRunLooks-more strategy own settings given list grid later n k old new before 
     more = record {
       is_for = before.is_for;
       most = (let a = before.most in let b = here.most in omega (arith, a, b));
-      exact = λ lists.
-          let listed : IsTrue (list_splits strategy (length (pairs (after_passes settings given n)))) = ap (list_splits strategy) (length-map (after_passes settings given n) (λ s. s.pair)) ∙ lists n (omega arith) in
-          both _ _ old new (2 ^ 128 - 1) (before.exact (λ i lt. lists i (omega arith))) (here.exact listed);
+      exact = λ listed. both _ _ old new (2 ^ 128 - 1) (before.exact listed) (here.exact listed);
     }

@@ -1,4 +1,5 @@
-use Rattle.std.proofs.Common.{◌≡◌, ◌∙◌, ap, sym, true, false, length}
+use Rattle.std.proofs.Common.{◌≡◌, ◌∙◌, ap, sym, inl, inr, length}
+use Rattle.std.proofs.lemmas.Bool.{cases_Bool}
 use Rattle.std.proofs.lemmas.Result.{on_ok_weaker}
 use Rattle.overlay_base.specs.Choices.{list_splits}
 use Rattle.overlay_base.specs.Segments.{pairs}
@@ -8,14 +9,13 @@ use Rattle.overlay_tree.proofs.laws.tree.Sweeps.{length-pairs}
 use Rattle.overlay_split.proofs.laws.passes.RunLooks.{ArePassLooks-listed, ArePassLooks-wide}
 use Rattle.overlay_split.proofs.split.finder.PairFinder.find_marks.Goals as goal
 
-pub returns-then-is_list_split-clause-looked : goal.returns-then-is_list_split-clause-looked
-returns-then-is_list_split-clause-looked g c =
-    let xs = c.args.segments.now in
-    let listed : list_splits c.args.self.now.solver.strategy (length (pairs (segments_of xs))) ≡ true = ap (list_splits c.args.self.now.solver.strategy) (length-pairs xs) ∙ sym c.is_list_split.ensures ∙ c.if-is_list_split.true in
-    on_ok_weaker c.find_marks.result (ArePassLooks-listed c.args.self.now.solver.strategy (grid_in c.args.self.now.grid) (pairs (segments_of xs)) c.args.self.now.looked c.find_marks.new.looked listed) c.find_marks.ensures.looked
-
 pub returns-clause-looked : goal.returns-clause-looked
 returns-clause-looked g c =
     let xs = c.args.segments.now in
-    let none : list_splits c.args.self.now.solver.strategy (length (pairs (segments_of xs))) ≡ false = ap (list_splits c.args.self.now.solver.strategy) (length-pairs xs) ∙ sym c.is_list_split.ensures ∙ c.if-is_list_split.false in
-    on_ok_weaker c.find_widely.result (ArePassLooks-wide c.args.self.now.solver.strategy (grid_in c.args.self.now.grid) (pairs (segments_of xs)) c.args.self.now.looked c.find_widely.new.self.looked none) c.find_widely.ensures.looked
+    let strategy = c.args.self.now.solver.strategy in
+    let grid = grid_in c.args.self.now.grid in
+    let asked : list_splits strategy (length (pairs (segments_of xs))) ≡ c.is_list_split-is_list.result = ap (list_splits strategy) (length-pairs xs) ∙ sym c.is_list_split-is_list.ensures in
+    elim (cases_Bool c.is_list_split-is_list.result) [
+      | inl k ↦ on_ok_weaker c.find_as_chosen.result (ArePassLooks-listed strategy grid (pairs (segments_of xs)) c.args.self.now.looked c.find_as_chosen.new.self.looked (asked ∙ k)) (c.find_as_chosen.ensures.listed k)
+      | inr k ↦ on_ok_weaker c.find_as_chosen.result (ArePassLooks-wide strategy grid (pairs (segments_of xs)) c.args.self.now.looked c.find_as_chosen.new.self.looked (asked ∙ k)) (c.find_as_chosen.ensures.wide k)
+    ]
