@@ -59,7 +59,7 @@ pub outside_off : (s : Pair) (c : Point) → turn s.a s.b c ≢ pos 0 → is_str
 outside_off s c h = false_from_ne_true _ (λ k. h (inside_parts s c k).0)
 
 -- two lines that are not one share at most one point
-one_point : (s t : Pair) (e f : Point) → are_collinear s t ≡ false → (f ≡ t.a) ⊎ (f ≡ t.b) → turn s.a s.b e ≡ pos 0 → turn t.a t.b e ≡ pos 0 → turn s.a s.b f ≡ pos 0 → e ≢ f → ⊥
+pub one_point : (s t : Pair) (e f : Point) → are_collinear s t ≡ false → (f ≡ t.a) ⊎ (f ≡ t.b) → turn s.a s.b e ≡ pos 0 → turn t.a t.b e ≡ pos 0 → turn s.a s.b f ≡ pos 0 → e ≢ f → ⊥
 one_point s t e f off (inl at_a) hs ht hf apart =
     let za : turn s.a s.b t.a ≡ pos 0 = ap (turn s.a s.b) (sym at_a) ∙ hf in
     both_ways _ off (collinear_from s t za (on_line_by_end s e t.a t.b (λ i. apart (i ∙ sym at_a)) hs za ht))
