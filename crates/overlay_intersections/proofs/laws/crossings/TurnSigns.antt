@@ -96,7 +96,7 @@ off_by_a s t h = false_from_ne_true _ (λ e. h (collinear_parts s t e).0)
 off_by_b : (s t : Pair) → turn s.a s.b t.b ≢ pos 0 → are_collinear s t ≡ false
 off_by_b s t h = false_from_ne_true _ (λ e. h (collinear_parts s t e).1)
 
-end_on : (s : Pair) (e : Point) → (e ≡ s.a) ⊎ (e ≡ s.b) → turn s.a s.b e ≡ pos 0
+pub end_on : (s : Pair) (e : Point) → (e ≡ s.a) ⊎ (e ≡ s.b) → turn s.a s.b e ≡ pos 0
 end_on s e (inl i) = rw i (turn_same_outer s.a s.b)
 end_on s e (inr i) = rw i (turn_same_last s.a s.b)
 
