@@ -3,5 +3,6 @@ pub mod Numerators
 pub mod OffsetOf
 pub mod Along
 pub mod ContactOf
+pub mod CornerOf
 pub mod NearerEnd
 pub mod AddedMarks

@@ -99,3 +99,54 @@ fn a_crossing_that_settles_on_an_end(rt: HostRuntime) {
     let given = [[-1, 1, 2, -2], [0, -1, 1, 0]];
     check(&rt, &given, Placing::Settling, &[(0, 1, 0)], true);
 }
+
+/// Wants these marks of two segments that meet at whole points, if at all: however a pass places crossings.
+fn check_two(rt: &(impl Abort + AllocGlobal), ends: [[i32; 4]; 2], wanted: &[Row]) {
+    check(rt, &ends, SNAPPING, wanted, false);
+    check(rt, &ends, Placing::Settling, wanted, false);
+}
+
+#[test]
+fn a_horizontal_and_a_vertical_one_cross(rt: HostRuntime) {
+    check_two(&rt, [[0, 0, 4, 0], [2, -2, 2, 2]], &[(0, 2, 0), (1, 2, 0)]);
+    check_two(&rt, [[0, 0, 4, 0], [3, -1, 3, 9]], &[(0, 3, 0), (1, 3, 0)]);
+}
+
+#[test]
+fn an_end_of_the_vertical_one_lies_on_the_horizontal_one(rt: HostRuntime) {
+    check_two(&rt, [[0, 0, 4, 0], [2, 0, 2, 3]], &[(0, 2, 0)]);
+    check_two(&rt, [[0, 0, 4, 0], [2, -3, 2, 0]], &[(0, 2, 0)]);
+}
+
+#[test]
+fn an_end_of_the_horizontal_one_lies_on_the_vertical_one(rt: HostRuntime) {
+    check_two(&rt, [[0, 0, 0, 5], [0, 1, 3, 1]], &[(0, 0, 1)]);
+    check_two(&rt, [[0, 1, 3, 1], [3, 0, 3, 5]], &[(1, 3, 1)]);
+}
+
+#[test]
+fn a_horizontal_and_a_vertical_one_share_an_end(rt: HostRuntime) {
+    check_two(&rt, [[0, 0, 0, 3], [0, 0, 4, 0]], &[]);
+    check_two(&rt, [[0, 0, 4, 0], [4, -3, 4, 0]], &[]);
+}
+
+#[test]
+fn a_horizontal_and_a_vertical_one_are_apart(rt: HostRuntime) {
+    check_two(&rt, [[0, 0, 4, 0], [5, -1, 5, 1]], &[]);
+    check_two(&rt, [[0, 0, 4, 0], [2, 1, 2, 3]], &[]);
+    check_two(&rt, [[0, 1, 0, 3], [0, 0, 4, 0]], &[]);
+}
+
+#[test]
+fn two_on_two_lines_share_an_end(rt: HostRuntime) {
+    check_two(&rt, [[0, 0, 4, 1], [0, 0, 3, 2]], &[]);
+    check_two(&rt, [[0, 0, 4, 1], [1, 3, 4, 1]], &[]);
+    check_two(&rt, [[0, 0, 4, 1], [4, 1, 6, 5]], &[]);
+}
+
+#[test]
+fn two_on_one_line_share_an_end(rt: HostRuntime) {
+    check_two(&rt, [[0, 0, 4, 2], [4, 2, 8, 4]], &[]);
+    check_two(&rt, [[0, 0, 2, 1], [0, 0, 6, 3]], &[(1, 2, 1)]);
+    check_two(&rt, [[0, 0, 6, 3], [4, 2, 6, 3]], &[(0, 4, 2)]);
+}

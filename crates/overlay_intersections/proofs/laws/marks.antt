@@ -3,6 +3,7 @@ pub mod Marks
 pub mod Comparisons
 pub mod MarkedPairs
 pub mod ApartPairs
+pub mod AxisPairs
 pub mod FoundMarks
 pub mod FoundEach
 pub mod LineMarks

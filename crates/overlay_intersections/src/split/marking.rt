@@ -1,4 +1,5 @@
-// The marks that two segments put on one another. Upstream: `split::solver_list` and its callers.
+// The marks that two segments put on one another: comparisons of coordinates decide those of a horizontal and a
+// vertical one, turns those of all others. Upstream: `split::solver_list` and its callers.
 ghost use Rattle.std.specs.Prelude.{◌≡◌, ◌≢◌, ◌<◌, ◌+◌, ◌-◌, ◌++◌, [], ◌∷◌, if◌then◌else◌, IfOk, OnOk, IsTrue, IsFalse};
 ghost use Rattle.overlay_geometry.specs.Points.{pair_lt};
 ghost use Rattle.overlay_geometry.specs.Meeting.{are_collinear};
@@ -11,6 +12,7 @@ ghost use Rattle.overlay_intersections.specs.MarksBetween.{marks_at, marks_of_ov
 ghost use Rattle.overlay_intersections.specs.steps.AddedMarks.{AddsMark, AddsMarksBetween, do_cross_inexactly};
 
 use crate::split::cross::contact::are_apart;
+use crate::split::cross::corner::{are_horizontal_and_vertical, corner_of};
 use crate::split::cross_solver::{CrossSolver, CrossType};
 use crate::split::line_mark::LineMark;
 use crate::split::placing::Placing;
@@ -30,6 +32,7 @@ pub struct Indexed<I> {
 
 /// Appends the marks that two segments put on one another, and returns whether they cross at a
 /// point without whole coordinates. The first is the target, and may not come after the second.
+/// A horizontal and a vertical segment meet at a whole point, so that comparisons of coordinates decide.
 #[inline(always)]
 pub fn mark_both<I: OverlayInt>(
     first: Indexed<I>,
@@ -46,6 +49,18 @@ pub fn mark_both<I: OverlayInt>(
     ensures marks { OnOk result (AddsMarksBetween I.whole placing first second marks.old.items marks.new.items) }
     ensures rounded { IfOk result (λ rounded. rounded ≡ do_cross_inexactly I.whole first second) }
 {
+    if are_horizontal_and_vertical(&first.x_segment, &second.x_segment) {
+        let corner = corner_of(&first.x_segment, &second.x_segment);
+        mark_if(corner.splits_horizontal, first.index, corner.point, marks)?;
+        mark_if(corner.splits_vertical, second.index, corner.point, marks)?;
+        return Ok(false);
+    }
+    if are_horizontal_and_vertical(&second.x_segment, &first.x_segment) {
+        let corner = corner_of(&second.x_segment, &first.x_segment);
+        mark_if(corner.splits_vertical, first.index, corner.point, marks)?;
+        mark_if(corner.splits_horizontal, second.index, corner.point, marks)?;
+        return Ok(false);
+    }
     if are_apart(&first.x_segment, &second.x_segment) {
         return Ok(false);
     }

@@ -1,18 +1,20 @@
 -- The result in each branch of code that knows on which sides of one another the ends lie.
-use Rattle.std.proofs.Common.{◌≡◌, refl, ◌∙◌, ◌≢◌, ◌<◌, arith, Bool, true, false, not, ◌&&◌, ◌||◌, IsTrue}
+use Rattle.std.proofs.Common.{◌≡◌, refl, sym, ap, ◌∙◌, ◌≢◌, ◌<◌, ◌⊎◌, inl, inr, arith, Bool, true, false, not, ◌&&◌, ◌||◌, IsTrue}
 use Rattle.std.specs.Prelude.{pos, nat_lt, None}
+use Rattle.std.specs.Bool.{Decides}
 use Rattle.std.specs.Ordering.{int_eq}
-use Rattle.std.proofs.lemmas.Bool.{ne_eqb, false≢true, or_left, or_right}
+use Rattle.std.proofs.lemmas.Bool.{ne_eqb, false≢true, false_from_ne_true, and_parts, or_left, or_right}
 use Rattle.overlay_geometry.proofs.laws.integers.Tests.{nat_lt-test}
-use Rattle.overlay_geometry.specs.Points.{Pair}
+use Rattle.overlay_geometry.specs.Points.{Point, Pair, point_eq, turn}
 use Rattle.overlay_geometry.specs.Turns.{clock_direction}
 use Rattle.overlay_geometry.specs.Meeting.{do_cross}
+use Rattle.overlay_geometry.proofs.laws.geometry.Points.{same_by_eq}
 use Rattle.overlay_intersections.specs.Marks.{Placing}
 use Rattle.overlay_intersections.specs.Counts.{count_true}
 use Rattle.overlay_intersections.specs.CrossAnswer.{target_end, other_end, overlay, answer_at, cross_answer}
 use Rattle.overlay_intersections.specs.steps.ContactOf.{AreEndSides, zeros_of, leave_no_contact, are_beside}
 use Rattle.overlay_intersections.specs.declared.split.cross.contact.EndSides.{EndSides}
-use Rattle.overlay_intersections.proofs.laws.crossings.TurnSigns.{Tests, tests_of_directions, by_tests, do_cross_by_tests, answer_by_tests}
+use Rattle.overlay_intersections.proofs.laws.crossings.TurnSigns.{Tests, end_on, tests_of_directions, by_tests, do_cross_by_tests, answer_by_tests}
 
 -- two pairs, the ends of each apart, and the sides of their ends
 pub record Sided (s t : Pair) (sides : EndSides) : Type 0 where
@@ -116,3 +118,46 @@ when_beside_back placing s t h k m =
 -- an end is shared, and the four ends are not on one line
 pub when_shared : (placing : Placing) (s t : Pair) (sides : EndSides) → Sided s t sides → 1 < zeros_of sides → zeros_of sides < 4 → cross_answer placing s t ≡ None
 when_shared placing s t sides k h m = when_apart placing s t sides k (λ e. absurd (omega arith)) (or_left (nat_lt 1 (zeros_of sides)) (int_eq sides.other_a sides.other_b || int_eq sides.target_a sides.target_b) (nat_lt-test 1 (zeros_of sides) h))
+
+-- of the other's two ends one lies on the target's line, and an end of the target on the other's
+two_or_three : (b1 b2 b3 b4 : Bool) → (b1 || b2) ≡ true → (b1 && b2) ≡ false → (b3 || b4) ≡ true → (1 < count_true b1 b2 b3 b4) × (count_true b1 b2 b3 b4 < 4)
+two_or_three true true b3 b4 h k m = absurd (false≢true (sym k))
+two_or_three false false b3 b4 h k m = absurd (false≢true h)
+two_or_three b1 b2 false false h k m = absurd (false≢true m)
+two_or_three true false true true h k m = (omega arith, omega arith)
+two_or_three true false true false h k m = (omega arith, omega arith)
+two_or_three true false false true h k m = (omega arith, omega arith)
+two_or_three false true true true h k m = (omega arith, omega arith)
+two_or_three false true true false h k m = (omega arith, omega arith)
+two_or_three false true false true h k m = (omega arith, omega arith)
+
+-- tests of whether e and f lie on the line of s: one that does makes one of them hold, and one that does not keeps both from holding
+one_lies_on : (s : Pair) (p e f : Point) (b c : Bool) → Decides b (turn s.a s.b e ≡ pos 0) → Decides c (turn s.a s.b f ≡ pos 0) → (p ≡ e) ⊎ (p ≡ f) → turn s.a s.b p ≡ pos 0 → (b || c) ≡ true
+one_lies_on s p e f b c k m (inl i) z = or_left b c (k.1 (ap (turn s.a s.b) (sym i) ∙ z))
+one_lies_on s p e f b c k m (inr i) z = or_right b c (m.1 (ap (turn s.a s.b) (sym i) ∙ z))
+
+one_lies_off : (s : Pair) (q e f : Point) (b c : Bool) → Decides b (turn s.a s.b e ≡ pos 0) → Decides c (turn s.a s.b f ≡ pos 0) → (q ≡ e) ⊎ (q ≡ f) → turn s.a s.b q ≢ pos 0 → (b && c) ≡ false
+one_lies_off s q e f b c k m (inl i) n = false_from_ne_true _ (λ h. n (ap (turn s.a s.b) i ∙ k.0 (and_parts b c h).0))
+one_lies_off s q e f b c k m (inr i) n = false_from_ne_true _ (λ h. n (ap (turn s.a s.b) i ∙ m.0 (and_parts b c h).1))
+
+-- p is an end of both, and an end q of t does not lie on the line of s
+share_end : (placing : Placing) (s t : Pair) (p q : Point) → s.a ≢ s.b → t.a ≢ t.b → (p ≡ s.a) ⊎ (p ≡ s.b) → (p ≡ t.a) ⊎ (p ≡ t.b) → (q ≡ t.a) ⊎ (q ≡ t.b) → not (int_eq (turn s.a s.b q) (pos 0)) ≡ true → cross_answer placing s t ≡ None
+share_end placing s t p q hs ht ps pt qt n =
+    let sides : EndSides = record { other_a = clock_direction s.a s.b t.a; other_b = clock_direction s.a s.b t.b; target_a = clock_direction t.a t.b s.a; target_b = clock_direction t.a t.b s.b } in
+    let sided : Sided s t sides = record { s_apart = hs; t_apart = ht; are_sides = record { other_a_is = refl; other_b_is = refl; target_a_is = refl; target_b_is = refl } } in
+    let tests = tests_of s t sides sided in
+    let zeros = two_or_three _ _ _ _
+    (one_lies_on s p t.a t.b _ _ tests.zero_other_a tests.zero_other_b pt (end_on s p ps))
+    (one_lies_off s q t.a t.b _ _ tests.zero_other_a tests.zero_other_b qt (λ z. false≢true (rw z at n)))
+    (one_lies_on t p s.a s.b _ _ tests.zero_target_a tests.zero_target_b ps (end_on t p pt)) in
+    when_shared placing s t sides sided zeros.0 zeros.1
+
+-- three tests of which ends are one point, and q, the end of t that is not shared, does not lie on the line of s
+pub when_parted : (placing : Placing) (s t : Pair) (q : Point) (b c d : Bool) → s.a ≢ s.b → t.a ≢ t.b → b ≡ point_eq s.b t.b → c ≡ point_eq s.b t.a → d ≡ point_eq s.a t.a →
+    ((b || c) || d) ≡ true → ((b ≡ true) × (q ≡ t.a)) ⊎ ((b ≡ false) × (q ≡ t.b)) → not (int_eq (turn s.a s.b q) (pos 0)) ≡ true → cross_answer placing s t ≡ None
+when_parted placing s t q true c d hs ht eb ec ed h (inl k) n = share_end placing s t s.b q hs ht (inr refl) (inr (same_by_eq s.b t.b (sym eb))) (inl k.1) n
+when_parted placing s t q true c d hs ht eb ec ed h (inr k) n = absurd (false≢true (sym k.0))
+when_parted placing s t q false c d hs ht eb ec ed h (inl k) n = absurd (false≢true k.0)
+when_parted placing s t q false true d hs ht eb ec ed h (inr k) n = share_end placing s t s.b q hs ht (inr refl) (inl (same_by_eq s.b t.a (sym ec))) (inr k.1) n
+when_parted placing s t q false false true hs ht eb ec ed h (inr k) n = share_end placing s t s.a q hs ht (inl refl) (inl (same_by_eq s.a t.a (sym ed))) (inr k.1) n
+when_parted placing s t q false false false hs ht eb ec ed h (inr k) n = absurd (false≢true h)

@@ -75,10 +75,10 @@ same_along u w p q apart hp hq h =
     (cancel_factor _ (q.x -ℤ p.x) l (both_gone _ _ _ _ _ (length_x (w.x -ℤ u.x) (w.y -ℤ u.y) (q.x -ℤ p.x) (q.y -ℤ p.y)) h c))
     (cancel_factor _ (q.y -ℤ p.y) l (both_gone_plus _ _ _ _ _ (length_y (w.x -ℤ u.x) (w.y -ℤ u.y) (q.x -ℤ p.x) (q.y -ℤ p.y)) h c))
 
-opposite_zero_left : (m n : ℤ) → m ≡ pos 0 → have_opposite_signs m n ≡ false
+pub opposite_zero_left : (m n : ℤ) → m ≡ pos 0 → have_opposite_signs m n ≡ false
 opposite_zero_left m n h = grind (arith, ints)
 
-opposite_zero_right : (m n : ℤ) → n ≡ pos 0 → have_opposite_signs m n ≡ false
+pub opposite_zero_right : (m n : ℤ) → n ≡ pos 0 → have_opposite_signs m n ≡ false
 opposite_zero_right m n h = grind (arith, ints)
 
 -- c and the ends of s on the line from u to w: c lies strictly inside s where it lies ahead of one end and behind the other

@@ -59,7 +59,7 @@ pub outside_off : (s : Pair) (c : Point) → turn s.a s.b c ≢ pos 0 → is_str
 outside_off s c h = false_from_ne_true _ (λ k. h (inside_parts s c k).0)
 
 -- two lines that are not one share at most one point
-one_point : (s t : Pair) (e f : Point) → are_collinear s t ≡ false → (f ≡ t.a) ⊎ (f ≡ t.b) → turn s.a s.b e ≡ pos 0 → turn t.a t.b e ≡ pos 0 → turn s.a s.b f ≡ pos 0 → e ≢ f → ⊥
+pub one_point : (s t : Pair) (e f : Point) → are_collinear s t ≡ false → (f ≡ t.a) ⊎ (f ≡ t.b) → turn s.a s.b e ≡ pos 0 → turn t.a t.b e ≡ pos 0 → turn s.a s.b f ≡ pos 0 → e ≢ f → ⊥
 one_point s t e f off (inl at_a) hs ht hf apart =
     let za : turn s.a s.b t.a ≡ pos 0 = ap (turn s.a s.b) (sym at_a) ∙ hf in
     both_ways _ off (collinear_from s t za (on_line_by_end s e t.a t.b (λ i. apart (i ∙ sym at_a)) hs za ht))
@@ -96,7 +96,7 @@ off_by_a s t h = false_from_ne_true _ (λ e. h (collinear_parts s t e).0)
 off_by_b : (s t : Pair) → turn s.a s.b t.b ≢ pos 0 → are_collinear s t ≡ false
 off_by_b s t h = false_from_ne_true _ (λ e. h (collinear_parts s t e).1)
 
-end_on : (s : Pair) (e : Point) → (e ≡ s.a) ⊎ (e ≡ s.b) → turn s.a s.b e ≡ pos 0
+pub end_on : (s : Pair) (e : Point) → (e ≡ s.a) ⊎ (e ≡ s.b) → turn s.a s.b e ≡ pos 0
 end_on s e (inl i) = rw i (turn_same_outer s.a s.b)
 end_on s e (inr i) = rw i (turn_same_last s.a s.b)
 
