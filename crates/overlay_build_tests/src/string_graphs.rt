@@ -100,6 +100,77 @@ fn a_line_over_a_square(rt: HostRuntime) {
     }
 }
 
+// Two rows and two columns that cross, split.
+fn crossing_lines() -> [Line; 12]
+    ensures { IsTrue (is_arranged least_coordinate greatest_coordinate (segments_of result)) }
+{
+    [
+        line(0, 1, 1, 1, 0, 1),
+        line(0, 2, 1, 2, 0, 1),
+        line(1, 0, 1, 1, 0, 1),
+        line(1, 1, 1, 2, 0, 1),
+        line(1, 1, 2, 1, 0, 1),
+        line(1, 2, 1, 3, 0, 1),
+        line(1, 2, 2, 2, 0, 1),
+        line(2, 0, 2, 1, 0, 1),
+        line(2, 1, 2, 2, 0, 1),
+        line(2, 1, 3, 1, 0, 1),
+        line(2, 2, 2, 3, 0, 1),
+        line(2, 2, 3, 2, 0, 1),
+    ]
+}
+
+// A row and a column behind it, split: each ends where the next begins.
+fn corner() -> [Line; 3]
+    ensures { IsTrue (is_arranged least_coordinate greatest_coordinate (segments_of result)) }
+{
+    [
+        line(0, 0, 1, 0, 0, 1),
+        line(1, 0, 2, 0, 0, 1),
+        line(2, 0, 2, 1, 0, 1),
+    ]
+}
+
+/// Appends the links of each node to a list, as many numbers before them.
+fn list_nodes(rt: &impl Abort, nodes: &[Vec<usize>], listed: &mut Vec<usize>) {
+    for node in nodes {
+        listed.push(node.len()).expect(rt, "memory");
+        listed
+            .extend_from_slice(node.as_slice())
+            .expect(rt, "memory");
+    }
+}
+
+/// How many links meet at each node of the crossing lines, and these links: those that start there, then those that end.
+const CROSSED: [usize; 36] = [
+    1, 0, 1, 1, 1, 2, 4, 3, 4, 0, 2, 4, 5, 6, 1, 3, 1, 5, 1, 7, 4, 8, 9, 4, 7, 4, 10, 11, 6, 8, 1,
+    10, 1, 9, 1, 11,
+];
+
+#[test]
+fn nodes_list_links_that_start_before_those_that_end(rt: HostRuntime) {
+    let mut builder = Lines::new(rt.alloc());
+    for solver in STRATEGIES {
+        let mut listed = Vec::new(rt.alloc());
+        let graph = build_all(
+            &rt,
+            &mut builder,
+            FillRule::NonZero,
+            &solver,
+            &crossing_lines(),
+        );
+        list_nodes(&rt, graph.nodes(), &mut listed);
+        assert_eq!(rt; listed.as_slice(), CROSSED.as_slice());
+        listed.clear();
+        let graph = build_all(&rt, &mut builder, FillRule::NonZero, &solver, &corner());
+        list_nodes(&rt, graph.nodes(), &mut listed);
+        assert_eq!(rt;
+            listed.as_slice(),
+            [1, 0, 2, 1, 0, 2, 2, 1, 1, 2].as_slice()
+        );
+    }
+}
+
 /// Whether no link is filled.
 fn are_empty(links: &[OverlayLink<i32, ()>]) -> bool {
     links.iter().all(|link| link.fill == NONE)

@@ -9,6 +9,7 @@ pub mod GraphValid
 pub mod PackedEnds
 pub mod NodeLists
 pub mod LinkViews
+pub mod DealtEnds
 pub mod StoredFills
 pub mod KeptLinks
 pub mod NodeSteps

@@ -1,12 +1,15 @@
 // The ends of links in order of their points. Upstream: part of `build::graph`, which sorts them by their points.
 ghost use Rattle.std.specs.Prelude.{◌≡◌, ◌++◌, ◌<◌, ◌≤◌, length, map, OnOk, IfOk, IfErr, IfSome, IfNone, IsTrue, All, if◌then◌else◌, pos, ◌+ℤ◌};
+ghost use Rattle.std.specs.List.Sorted.{IsStableByKey};
 ghost use Rattle.overlay_geometry.specs.Coordinates.{is_coordinate};
 ghost use Rattle.overlay_geometry.specs.InRange.{IsPointInRange};
+ghost use Rattle.overlay_geometry.specs.Points.{is_vertical, point_cmp, point_lt, pair_cmp};
+ghost use Rattle.overlay_geometry.specs.Sorting.{is_strictly_sorted};
 ghost use Rattle.overlay_geometry.specs.PointOf.{point_of};
 ghost use Rattle.overlay_base.specs.declared.segm.fault.Fault.TheVariants.{Memory};
 ghost use Rattle.overlay_build.specs.steps.EndOf.{unpacked, ends_of};
-ghost use Rattle.overlay_build.specs.GraphOf.{pairs_of_links};
-ghost use Rattle.overlay_build.specs.steps.LinkEnds.{numbered_ends};
+ghost use Rattle.overlay_build.specs.GraphOf.{link_of, pairs_of_links};
+ghost use Rattle.overlay_build.specs.steps.LinkEnds.{numbered_ends, ends_where};
 ghost use Rattle.overlay_build.specs.steps.LinksOf.{starts_of, by_point, AreEndsInRange, IsNextPoint, IsRunAt, indexes_between, NumbersEnds};
 
 use crate::build::numbered_link::NumberedLink;
@@ -43,19 +46,74 @@ fn from_least<I: OverlayInt>(coordinate: I) -> u64
     (coordinate.to_wide() + 2_147_483_648) as u64
 }
 
-/// Collects the second ends of all links, each with its link's index.
+/// Collects the second ends of all links, each with its link's index. Those at one point are in the order of their links.
+///
+/// Where the ends rise from link to link, they keep that order. Elsewhere those of the vertical links come after the others:
+/// on a grid of lines along the axes each of the two parts rises, so a sort finds two runs.
 pub fn collect_ends<L: NumberedLink>(links: &[L], ends: &mut Vec<PackedEnd>) -> Result<(), Fault>
-    requires { AreEndsInRange L.Coordinate.whole L.Coordinate.MIN_COORD L.Coordinate.MAX_COORD (map L.link links.now) }
-    ensures ends { OnOk result (ends_of ends.new.items ≡ numbered_ends (pairs_of_links L.Coordinate.whole (map L.link links.now))) }
+    requires ordered { All (λ l. IsTrue (point_lt (point_of L.Coordinate.whole l.a.point)
+        (point_of L.Coordinate.whole l.b.point))) (map L.link links.now) }
+    requires sorted { IsTrue (is_strictly_sorted pair_cmp (pairs_of_links L.Coordinate.whole (map L.link links.now))) }
+    requires in_range { AreEndsInRange L.Coordinate.whole L.Coordinate.MIN_COORD L.Coordinate.MAX_COORD (map L.link links.now) }
+    ensures ends { OnOk result (IsStableByKey (λ e. e.point) point_cmp
+        (numbered_ends (pairs_of_links L.Coordinate.whole (map L.link links.now))) (ends_of ends.new.items)) }
     ensures fault { IfErr result (λ fault. fault ≡ Memory) }
 {
     ends.clear();
     ends.reserve(links.len())?;
+    if do_ends_rise(links) {
+        return append_ends(links, ends);
+    }
+    append_ends_where(links, false, ends)?;
+    append_ends_where(links, true, ends)
+}
+
+/// Whether the second ends are in order as the links are.
+fn do_ends_rise<L: NumberedLink>(links: &[L]) -> bool {
+    links.iter().map(|link| link.end()).is_sorted()
+}
+
+/// Appends the second ends of all links, each with its link's index.
+fn append_ends<L: NumberedLink>(links: &[L], ends: &mut Vec<PackedEnd>) -> Result<(), Fault>
+    requires { AreEndsInRange L.Coordinate.whole L.Coordinate.MIN_COORD L.Coordinate.MAX_COORD (map L.link links.now) }
+    ensures ends { OnOk result (ends_of ends.new.items ≡ ends_of ends.old.items
+        ++ numbered_ends (pairs_of_links L.Coordinate.whole (map L.link links.now))) }
+    ensures fault { IfErr result (λ fault. fault ≡ Memory) }
+{
     for (index, link) in links.iter().enumerate() {
         let key = packed(link.end());
         ends.push(PackedEnd { index, key })?;
     }
     Ok(())
+}
+
+/// Appends the second ends of the links that are vertical, or of those that are not, each with its link's index.
+fn append_ends_where<L: NumberedLink>(
+    links: &[L],
+    are_vertical: bool,
+    ends: &mut Vec<PackedEnd>,
+) -> Result<(), Fault>
+    requires { AreEndsInRange L.Coordinate.whole L.Coordinate.MIN_COORD L.Coordinate.MAX_COORD (map L.link links.now) }
+    ensures ends { OnOk result (ends_of ends.new.items ≡ ends_of ends.old.items
+        ++ ends_where are_vertical (pairs_of_links L.Coordinate.whole (map L.link links.now))) }
+    ensures fault { IfErr result (λ fault. fault ≡ Memory) }
+{
+    for (index, link) in links.iter().enumerate() {
+        if is_vertical(link) == are_vertical {
+            ends.push(PackedEnd {
+                index,
+                key: packed(link.end()),
+            })?;
+        }
+    }
+    Ok(())
+}
+
+/// Whether both ends of a link lie in one column.
+fn is_vertical<L: NumberedLink>(link: &L) -> bool
+    ensures { result ≡ is_vertical (link_of L.Coordinate.whole (L.link link.now)).pair }
+{
+    link.start().x == link.end().x
 }
 
 /// Sorts ends by their points. Ends at one point stay in their order.

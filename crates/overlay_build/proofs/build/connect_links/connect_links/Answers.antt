@@ -1,12 +1,15 @@
 use Rattle.std.proofs.Common.{◌≡◌, ◌∙◌, refl, map, ap, sym, subst, if◌then◌else◌, ℕ, ◌<◌, ◌-◌, ◌∷◌, [], append_assoc, ◌++◌, length, length-append, get_or, List, arith}
 use Rattle.std.proofs.lemmas.List.{length-map}
 use Rattle.std.proofs.lemmas.Result.{IfOk-from_err}
+use Rattle.std.specs.List.Sorted.{IsStableByKey}
 use Rattle.overlay_geometry.specs.Points.{Pair, Point, point_cmp}
 use Rattle.overlay_geometry.specs.Sorting.{stably_sorted}
+use Rattle.overlay_geometry.proofs.laws.geometry.Points.{point_cmp_total}
+use Rattle.overlay_base.proofs.laws.lists.StableSorts.{stably_sorted-same}
 use Rattle.std.specs.Prelude.{ℤ}
 use Rattle.overlay_base.specs.declared.overlay_core.link.OverlayLink.{OverlayLink}
 use Rattle.overlay_build.specs.declared.build.link_ends.PackedEnd.{PackedEnd}
-use Rattle.overlay_build.specs.steps.EndOf.{unpacked, ends_of}
+use Rattle.overlay_build.specs.steps.EndOf.{WholeEnd, unpacked, ends_of}
 use Rattle.overlay_build.specs.steps.LinkEnds.{numbered_ends}
 use Rattle.overlay_build.specs.steps.LinksOf.{starts_of, indexes_between}
 use Rattle.overlay_build.specs.GraphOf.{link_of, pairs_of_links, names_node, with_node}
@@ -17,14 +20,15 @@ use Rattle.overlay_build.proofs.laws.graphs.LaidNodes.{own, any, laid_none, put_
 use Rattle.overlay_build.proofs.build.connect_links.connect_links.Goals as goal
 
 -- the second ends, once sorted, are those of the given links
-all_sorted : {I D : Type 0} (whole : I → ℤ) (given seen : List (OverlayLink I D)) (collected ends : List PackedEnd) → seen ≡ given → ends_of collected ≡ numbered_ends (pairs_of_links whole seen) →
-    ends_of ends ≡ stably_sorted (λ e f. point_cmp e.point f.point) (ends_of collected) → ends_of ends ≡ sorted_ends_of (pairs_of_links whole given)
-all_sorted whole given seen collected ends same all sorted = sorted ∙ ap (stably_sorted (λ e f. point_cmp e.point f.point)) (all ∙ ap (λ links. numbered_ends (pairs_of_links whole links)) same)
+all_sorted : {I D : Type 0} (whole : I → ℤ) (given seen : List (OverlayLink I D)) (collected ends : List PackedEnd) → seen ≡ given
+    → IsStableByKey (λ (e : WholeEnd). e.point) point_cmp (numbered_ends (pairs_of_links whole seen)) (ends_of collected)
+    → ends_of ends ≡ stably_sorted (λ e f. point_cmp e.point f.point) (ends_of collected) → ends_of ends ≡ sorted_ends_of (pairs_of_links whole given)
+all_sorted whole given seen collected ends same stable sorted =
+    sorted
+    ∙ stably_sorted-same (λ (e : WholeEnd). e.point) point_cmp point_cmp_total (numbered_ends (pairs_of_links whole seen)) (ends_of collected) stable
+    ∙ ap (λ links. sorted_ends_of (pairs_of_links whole links)) same
 
 -- ---- the results
-
-pub collect_ends-requires : goal.collect_ends-requires
-collect_ends-requires g c = c.requires.in_range
 
 pub loop-key-init : goal.loop-key-init
 loop-key-init g c = rw (c.reserve.ensures.items ∙ c.clear.ensures.items, c.reserve-2.ensures.items ∙ c.clear-2.ensures.items) (laid_none g.L.Coordinate.OverlayInt.whole (map g.L.NumberedLink.link c.args.links.now))

@@ -1,30 +1,34 @@
-use Rattle.std.proofs.Common.{◌∙◌, ap, sym, map, List, [], ◌∷◌, ◌++◌}
-use Rattle.std.proofs.lemmas.List.{length-map, map-append}
+use Rattle.std.proofs.Common.{◌≡◌, ◌∙◌, ap, map, List, [], ◌++◌, true, false}
+use Rattle.std.specs.Prelude.{ℤ, IsTrue, All}
+use Rattle.std.specs.List.Sorted.{IsStableByKey}
+use Rattle.std.proofs.lemmas.Result.{on_ok_weaker}
+use Rattle.std.proofs.lemmas.List.Elements.{recursion_from_All}
 use Rattle.overlay_geometry.specs.PointOf.{point_of}
+use Rattle.overlay_geometry.specs.Points.{point_cmp, point_lt, pair_cmp, is_ordered}
+use Rattle.overlay_geometry.specs.Sorting.{is_strictly_sorted}
+use Rattle.overlay_geometry.proofs.laws.geometry.Points.{pair_cmp_total}
+use Rattle.overlay_geometry.proofs.laws.lists.Keys.{IsStrictlySortedBy-from_test}
+use Rattle.overlay_geometry.proofs.laws.lists.Lists.{AllByRecursion-map}
 use Rattle.overlay_base.specs.declared.overlay_core.link.OverlayLink.{OverlayLink}
-use Rattle.overlay_build.specs.steps.EndOf.{WholeEnd, end_of, ends_of}
-use Rattle.overlay_build.specs.GraphOf.{link_of}
-use Rattle.overlay_build.proofs.laws.graphs.NodeLists.{numbered-all, numbered-more}
-use Rattle.overlay_build.proofs.laws.graphs.LinkViews.{end_in_range, viewed_at, viewed_within}
+use Rattle.overlay_build.specs.declared.build.link_ends.PackedEnd.{PackedEnd}
+use Rattle.overlay_build.specs.steps.EndOf.{WholeEnd, ends_of}
+use Rattle.overlay_build.specs.steps.LinkEnds.{numbered_ends, ends_where}
+use Rattle.overlay_build.specs.GraphOf.{link_of, pairs_of_links}
+use Rattle.overlay_build.proofs.laws.graphs.DealtEnds.{ends_where-stable}
 use Rattle.overlay_build.proofs.build.link_ends.collect_ends.Goals as goal
 
-pub packed-key-requires : goal.packed-key-requires
-packed-key-requires g c = end_in_range g.L.NumberedLink.link g.L.Coordinate.OverlayInt.whole c.args.links.now _ _ c.loop-index.index c.index-links-index.result _ c.requires c.loop-index-test.true c.index-links-index.is c.end.ensures
-
-pub loop-index-preserved : goal.loop-index-preserved
-loop-index-preserved g c =
-    let whole = g.L.Coordinate.OverlayInt.whole in
-    let view = g.L.NumberedLink.link in
-    let pushed : WholeEnd = record { index = c.loop-index.index; point = point_of whole (view c.index-links-index.result).b.point } in
-    ap ends_of c.in_ok-push.ensures.items
-    ∙ map-append end_of c.loop-index.ends.items _
-    ∙ ap (λ p. ends_of c.loop-index.ends.items ++ record { index = c.loop-index.index; point = p } ∷ []) (c.packed-key.ensures ∙ ap (point_of whole) c.end.ensures)
-    ∙ ap (λ (l : List WholeEnd). l ++ pushed ∷ []) c.loop-index.invariant
-    ∙ sym (numbered-more (λ s. s.b) (λ (l : OverlayLink _ _). (link_of whole l).pair) (map view c.args.links.now) c.loop-index.index (view c.index-links-index.result) (viewed_within view c.args.links.now c.loop-index.index c.loop-index-test.true)
-    (viewed_at view c.args.links.now c.loop-index.index c.index-links-index.result c.loop-index-test.true c.index-links-index.is))
+-- the ends of the links that are not vertical behind none, and then those of the vertical ones
+dealt : {I D : Type 0} (whole : I → ℤ) (links : List (OverlayLink I D)) (none slanted all : List PackedEnd) →
+    All (λ l. IsTrue (point_lt (point_of whole l.a.point) (point_of whole l.b.point))) links →
+    is_strictly_sorted pair_cmp (pairs_of_links whole links) ≡ true →
+    none ≡ [] → ends_of slanted ≡ ends_of none ++ ends_where false (pairs_of_links whole links) → ends_of all ≡ ends_of slanted ++ ends_where true (pairs_of_links whole links) →
+    IsStableByKey (λ (e : WholeEnd). e.point) point_cmp (numbered_ends (pairs_of_links whole links)) (ends_of all)
+dealt whole links none slanted all ordered sorted empty first second =
+    let behind = second ∙ ap (λ l. l ++ ends_where true (pairs_of_links whole links)) (first ∙ ap (λ l. ends_of l ++ ends_where false (pairs_of_links whole links)) empty) in
+    let each = AllByRecursion-map (λ s. is_ordered s ≡ true) (λ l. (link_of whole l).pair) links (recursion_from_All _ links ordered) in
+    rw behind (ends_where-stable (pairs_of_links whole links) (IsStrictlySortedBy-from_test pair_cmp_total _ sorted) each)
 
 pub returns-clause-ends : goal.returns-clause-ends
 returns-clause-ends g c =
-    let whole = g.L.Coordinate.OverlayInt.whole in
-    c.loop-index.invariant
-    ∙ numbered-all (λ s. s.b) (λ (l : OverlayLink _ _). (link_of whole l).pair) (map g.L.NumberedLink.link c.args.links.now) c.loop-index.index (rw length-map c.loop-index-test.false)
+    let empty = c.reserve.ensures.items ∙ c.clear.ensures.items in
+    on_ok_weaker c.append_ends_where-2.result (λ second. dealt g.L.Coordinate.OverlayInt.whole (map g.L.NumberedLink.link c.args.links.now) _ _ _ c.requires.ordered c.requires.sorted empty c.in_ok-append_ends_where.ensures.ends second) c.append_ends_where-2.ensures.ends
