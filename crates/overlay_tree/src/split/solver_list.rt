@@ -122,8 +122,9 @@ const NEAR: usize = 8;
 const _: () = prove!(NEAR == 8);
 
 /// Lists in `met` those of the next `NEAR` segments whose heights this one's meet, up to the first that begins right of
-/// this one's end. Returns how many these are, and the index of the first that is not tested.
-#[inline(always)]
+/// this one's end. Returns how many these are, and the index of the first that is not tested. Out of line its loop keeps
+/// all in registers.
+#[inline(never)]
 fn list_near<C: WindingCount, I: OverlayInt, D: Copy>(
     segments: &[Segment<C, I, D>],
     ranges: &[LineRange<I>],

@@ -1,5 +1,5 @@
 -- The scan of a list from one index up to another: what it finds, what need not be looked at, and how far it goes.
-use Rattle.std.proofs.Common.{◌≡◌, refl, sym, ap, subst, ◌∙◌, ℕ, ◌+◌, ◌<◌, ◌≤◌, zero, suc, arith, append_assoc, append-nil, add-one, Bool, true, false, cond, ◌||◌, IsTrue, List, [], ◌∷◌, ◌++◌, take, drop, length, get_or, map, count_by}
+use Rattle.std.proofs.Common.{◌≡◌, refl, sym, ap, ap₂, subst, ◌∙◌, ℕ, ◌+◌, ◌<◌, ◌≤◌, zero, suc, arith, append_assoc, append-nil, add-one, Bool, true, false, cond, ◌||◌, IsTrue, List, [], ◌∷◌, ◌++◌, take, drop, length, get_or, map, count_by}
 use Rattle.std.specs.Prelude.{ℤ, ◌≤ℤ◌, int_le, nat_lt, ◌&&◌}
 use Rattle.std.specs.Int.{int_min, int_max}
 use Rattle.std.specs.List.{list_any, AllByRecursion}
@@ -132,6 +132,12 @@ heights_at whole [] (p ∷ ps) j h same lt is = cc
 heights_at whole (r ∷ hs) [] j h same lt is = absurd (omega arith)
 heights_at whole (r ∷ hs) (p ∷ ps) zero h same lt is = let e : range_of whole r ≡ heights p = cc in ap (range_of whole) is ∙ e
 heights_at whole (r ∷ hs) (p ∷ ps) (suc j) h same lt is = let e : map (range_of whole) hs ≡ map heights ps = cc in heights_at whole hs ps j h e (omega arith) is
+
+-- so the test of two heights is that of two segments
+pub met_at : {I : Type 0} (whole : I → ℤ) (hs : List (LineRange I)) (ps : List Pair) (i j : ℕ) (r q : LineRange I) (met : Bool) → AreHeightsOf whole hs ps → i < length ps → j < length ps
+    → r ≡ get_or hs i r → q ≡ get_or hs j q → met ≡ do_ranges_meet (range_of whole r) (range_of whole q) → met ≡ do_ranges_meet (heights (pair_at ps i)) (heights (pair_at ps j))
+met_at whole hs ps i j r q met same lt_i lt_j is_i is_j e =
+    e ∙ ap₂ (λ (u v : WholeRange). do_ranges_meet u v) (heights_at whole hs ps i r same lt_i is_i) (heights_at whole hs ps j q same lt_j is_j)
 
 counted_one : (b : Bool) (n : ℕ) → cond b 1 0 + n ≡ 0 → (b ≡ false) × (n ≡ 0)
 counted_one true n h = absurd (omega arith)

@@ -1,15 +1,14 @@
-use Rattle.std.proofs.Common.{◌≡◌, ◌+◌, ◌<◌, ◌∙◌, sym, ap, ap₂, subst, arith, take, length, ℕ}
+use Rattle.std.proofs.Common.{◌≡◌, ◌+◌, ◌<◌, ◌∙◌, sym, ap, subst, arith, take, length, ℕ}
 use Rattle.std.specs.Prelude.{◌≤ℤ◌, ◌<ℤ◌}
 use Rattle.overlay_geometry.specs.PairOf.{pair_of}
-use Rattle.overlay_geometry.specs.Ranges.{WholeRange, heights}
 use Rattle.overlay_geometry.proofs.laws.integers.Tests.{lt-tested, lt-tested_false}
 use Rattle.overlay_base.specs.Segments.{pairs}
 use Rattle.overlay_base.specs.SegmentOf.{segments_of}
 use Rattle.overlay_base.proofs.laws.geometry.Apart.{are_ordered}
-use Rattle.overlay_tree.specs.steps.ListScan.{AreListed, do_ranges_meet}
+use Rattle.overlay_tree.specs.steps.ListScan.{AreListed}
 use Rattle.overlay_tree.specs.steps.Swept.{pair_at}
 use Rattle.overlay_tree.proofs.laws.list.ListLooks.{none_past}
-use Rattle.overlay_tree.proofs.laws.list.ListScans.{IsTold-next, heights_at, heights_are_many, pair_next, ordered_at}
+use Rattle.overlay_tree.proofs.laws.list.ListScans.{IsTold-next, met_at, heights_are_many, pair_next, ordered_at}
 use Rattle.overlay_tree.proofs.laws.list.Listed.{AreListed-more}
 use Rattle.overlay_tree.proofs.laws.tree.Sweeps.{pair_at-is, length-pairs, pairs_in_order}
 use Rattle.overlay_tree.proofs.split.solver_list.list_near.Goals as goal
@@ -35,9 +34,8 @@ loop-later-preserved g c =
     let first : pair_at ps i ≡ pair_of whole c.x_segment-target.result = pair_at-is c.args.segments.now i c.index-segments-index.result c.requires.index c.index-segments-index.is ∙ ap (pair_of whole) (sym c.x_segment-target.ensures) in
     let second : pair_at ps j ≡ pair_of whole c.x_segment.result = pair_at-is c.args.segments.now j c.index-segments-later.result inside c.index-segments-later.is ∙ ap (pair_of whole) (sym c.x_segment.ensures) in
     let reached : (pair_at ps j).a.x ≤ℤ (pair_at ps i).b.x = rw (first, second) (lt-tested_false (whole c.x_segment-target.result.b.x) (whole c.x_segment.result.a.x) (sym c.begins_past_end.ensures ∙ c.if-begins_past_end.false)) in
-    let own = heights_at whole c.args.ranges.now ps i c.index-ranges-index.result c.requires.heights here c.index-ranges-index.is in
-    let other = heights_at whole c.args.ranges.now ps j c.index-ranges-later.result c.requires.heights lt c.index-ranges-later.is in
-    let meets : c.do_meet.result ≡ do_ranges_meet (heights (pair_at ps i)) (heights (pair_at ps j)) = c.do_meet.ensures ∙ ap₂ (λ (r q : WholeRange). do_ranges_meet r q) own other in
+    let meets = met_at whole c.args.ranges.now ps i j c.index-ranges-index.result c.index-ranges-later.result c.do_meet.result c.requires.heights here lt
+      c.index-ranges-index.is c.index-ranges-later.is c.do_meet.ensures in
     record {
       few = let few = c.loop-later.invariant.few in let one = c.keep_if-count.ensures.count in omega (arith, few, one);
       listed = rw c.keep_if-count.ensures.kept (AreListed-more ps i (i + 1) j (take c.loop-later.count c.loop-later.met) c.do_meet.result c.loop-later.invariant.listed after lt meets);

@@ -1,13 +1,10 @@
-use Rattle.std.proofs.Common.{◌≡◌, ◌<◌, ◌∙◌, ap₂, arith, take, length, Bool}
+use Rattle.std.proofs.Common.{◌≡◌, ◌<◌, arith, take, length, Bool}
 use Rattle.std.proofs.lemmas.Result.{on_ok_weaker, IfOk-weaker}
-use Rattle.overlay_geometry.specs.Ranges.{WholeRange, heights}
 use Rattle.overlay_base.specs.Segments.{pairs}
 use Rattle.overlay_base.specs.SegmentOf.{segments_of}
 use Rattle.overlay_intersections.specs.MarkOf.{marks_of}
 use Rattle.overlay_intersections.specs.PlacingOf.{placing_of}
-use Rattle.overlay_tree.specs.steps.ListScan.{do_ranges_meet}
-use Rattle.overlay_tree.specs.steps.Swept.{pair_at}
-use Rattle.overlay_tree.proofs.laws.list.ListScans.{heights_at}
+use Rattle.overlay_tree.proofs.laws.list.ListScans.{met_at}
 use Rattle.overlay_tree.proofs.laws.list.Listed.{AreListed-more, listed_within, listed_marks, listed_crosses}
 use Rattle.overlay_tree.proofs.laws.tree.Sweeps.{length-pairs}
 use Rattle.overlay_tree.proofs.split.solver_list.mark_with_each.Goals as goal
@@ -25,9 +22,8 @@ loop-later-preserved g c =
     let within = c.requires.within in
     let lt : j < length ps = omega (arith, count, test, within) in
     let here : i < length ps = omega (arith, lt, since, after) in
-    let own = heights_at whole c.args.ranges.now ps i c.index-ranges-index.result c.requires.heights here c.index-ranges-index.is in
-    let other = heights_at whole c.args.ranges.now ps j c.index-ranges-later.result c.requires.heights lt c.index-ranges-later.is in
-    let meets : c.do_meet.result ≡ do_ranges_meet (heights (pair_at ps i)) (heights (pair_at ps j)) = c.do_meet.ensures ∙ ap₂ (λ (r q : WholeRange). do_ranges_meet r q) own other in
+    let meets = met_at whole c.args.ranges.now ps i j c.index-ranges-index.result c.index-ranges-later.result c.do_meet.result c.requires.heights here lt
+      c.index-ranges-index.is c.index-ranges-later.is c.do_meet.ensures in
     record {
       few = let few = c.loop-later.invariant.few in let one = c.keep_if-count.ensures.count in omega (arith, few, one);
       listed = rw c.keep_if-count.ensures.kept (AreListed-more ps i c.args.from j (take c.loop-later.count c.loop-later.met) c.do_meet.result c.loop-later.invariant.listed (omega (arith, since, after)) lt meets);
