@@ -152,7 +152,7 @@ share_end placing s t p q hs ht ps pt qt n =
     (one_lies_on t p s.a s.b _ _ tests.zero_target_a tests.zero_target_b ps (end_on t p pt)) in
     when_shared placing s t sides sided zeros.0 zeros.1
 
--- three tests of which ends are one point, and q, the end of t that is not shared, does not lie on the line of s
+-- where one of three pairs of ends is one point, and q, the end of t that is not shared, does not lie on the line of s
 pub when_parted : (placing : Placing) (s t : Pair) (q : Point) (b c d : Bool) → s.a ≢ s.b → t.a ≢ t.b → b ≡ point_eq s.b t.b → c ≡ point_eq s.b t.a → d ≡ point_eq s.a t.a →
     ((b || c) || d) ≡ true → ((b ≡ true) × (q ≡ t.a)) ⊎ ((b ≡ false) × (q ≡ t.b)) → not (int_eq (turn s.a s.b q) (pos 0)) ≡ true → cross_answer placing s t ≡ None
 when_parted placing s t q true c d hs ht eb ec ed h (inl k) n = share_end placing s t s.b q hs ht (inr refl) (inr (same_by_eq s.b t.b (sym eb))) (inl k.1) n
