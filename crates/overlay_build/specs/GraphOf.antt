@@ -1,7 +1,7 @@
 -- A graph as it is kept: links with numbered ends, and nodes that list indexes of links.
-use Rattle.std.specs.Prelude.{◌≡◌, ◌==◌, ℕ, ℤ, Bool, true, List, map, if◌then◌else◌}
+use Rattle.std.specs.Prelude.{◌≡◌, ◌==◌, ℕ, ℤ, Bool, true, List, map}
 use Rattle.std.specs.List.{list_all, list_any}
-use Rattle.overlay_geometry.specs.Points.{Point, Pair, point_eq}
+use Rattle.overlay_geometry.specs.Points.{Pair}
 use Rattle.overlay_geometry.specs.PointOf.{point_of}
 use Rattle.overlay_base.specs.declared.overlay_core.link.OverlayLink.{OverlayLink}
 use Rattle.overlay_build.specs.Graph.{Filled, Link, Graph, graph_of}
@@ -39,9 +39,10 @@ pairs_of_links whole links = map (λ l. (link_of whole l).pair) links
 abbrev pub names_node : ℕ → List ℕ → Bool
 names_node k indexes = list_any (λ i. i == k) indexes
 
--- a link whose end at a point has the number of the node there: its start where that is the point, or else its end
-abbrev pub with_node : {I D : Type 0} → (I → ℤ) → Point → ℕ → OverlayLink I D → OverlayLink I D
-with_node whole p id l =
-    if point_eq (point_of whole l.a.point) p
-    then record l { a = record { id = id; point = l.a.point } }
-    else record l { b = record { id = id; point = l.b.point } }
+-- a link whose first end has the number of a node
+abbrev pub with_start : {I D : Type 0} → ℕ → OverlayLink I D → OverlayLink I D
+with_start id l = record l { a = record { id = id; point = l.a.point } }
+
+-- a link whose second end has it
+abbrev pub with_end : {I D : Type 0} → ℕ → OverlayLink I D → OverlayLink I D
+with_end id l = record l { b = record { id = id; point = l.b.point } }

@@ -14,5 +14,6 @@ pub mod StoredFills
 pub mod KeptLinks
 pub mod NodeSteps
 pub mod ConnectedLinks
+pub mod NumberedRuns
 pub mod LaidNodes
 pub mod BuiltGraphs

@@ -9,7 +9,7 @@ use Rattle.overlay_base.specs.declared.overlay_core.fill_rule.FillRule.{FillRule
 use Rattle.overlay_base.specs.declared.overlay_core.link.OverlayLink.{OverlayLink}
 use Rattle.overlay_base.specs.declared.segm.segment.Segment.{Segment}
 use Rattle.overlay_build.specs.Graph.{filled, fills_of, data_by}
-use Rattle.overlay_build.specs.GraphOf.{kept_of, pairs_of_links, names_node, with_node}
+use Rattle.overlay_build.specs.GraphOf.{kept_of, pairs_of_links, names_node}
 use Rattle.overlay_build.specs.declared.build.kept_links.LinkRule.{LinkRule}
 use Rattle.overlay_build.specs.steps.EndOf.{WholeEnd}
 use Rattle.overlay_build.specs.steps.LinkEnds.{numbered_starts}
@@ -62,8 +62,8 @@ pub record IsRunAt (ends : List WholeEnd) (p : Point) (from next : ℕ) : Type 0
 abbrev pub indexes_between : List WholeEnd → ℕ → ℕ → List ℕ
 indexes_between ends from next = map (λ e. e.index) (take (next - from) (drop from ends))
 
--- The links at some indexes have the number of the node at a point, and the others are as they were.
-abbrev pub NumbersEnds : {I D : Type 0} → (I → ℤ) → List ℕ → Point → ℕ → List (OverlayLink I D) → List (OverlayLink I D) → Type 0
-NumbersEnds {I = I} {D = D} whole indexes point id old new =
+-- The links at some indexes are numbered by a function, and the others are as they were.
+abbrev pub AreNumberedAt : {I D : Type 0} → (OverlayLink I D → OverlayLink I D) → List ℕ → List (OverlayLink I D) → List (OverlayLink I D) → Type 0
+AreNumberedAt {I = I} {D = D} numbered indexes old new =
     (k : ℕ) (d : OverlayLink I D) → k < length old →
-    slice_index_or new k d ≡ (if names_node k indexes then with_node whole point id (slice_index_or old k d) else slice_index_or old k d)
+    slice_index_or new k d ≡ (if names_node k indexes then numbered (slice_index_or old k d) else slice_index_or old k d)

@@ -9,7 +9,7 @@ ghost use Rattle.overlay_base.specs.declared.segm.fault.Fault.TheVariants.{Memor
 ghost use Rattle.overlay_build.specs.GraphOf.{HoldLists, graph_with, pairs_of_links};
 
 use crate::build::link_ends::{
-    collect_ends, next_point, number_ends, push_ends, push_starts, sort_by_point,
+    collect_ends, next_point, number_ends, number_starts, sort_by_point,
 };
 use crate::build::numbered_link::NumberedLink;
 use overlay_base::segm::fault::Fault;
@@ -52,9 +52,9 @@ pub fn connect_links<L: NumberedLink>(
     let mut end = 0;
     while let Some(key) = next_point(links, &ends, start, end) {
         let first = indexes.len();
-        start = push_starts(links, start, key, indexes)?;
-        end = push_ends(&ends, end, key, indexes)?;
-        number_ends(links, &indexes[first..], key, degrees.len());
+        let id = degrees.len();
+        start = number_starts(links, start, key, id, indexes)?;
+        end = number_ends(links, &ends, end, key, id, indexes)?;
         degrees.push(indexes.len() - first)?;
     }
     Ok(())

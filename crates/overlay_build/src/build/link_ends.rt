@@ -8,9 +8,10 @@ ghost use Rattle.overlay_geometry.specs.Sorting.{is_strictly_sorted};
 ghost use Rattle.overlay_geometry.specs.PointOf.{point_of};
 ghost use Rattle.overlay_base.specs.declared.segm.fault.Fault.TheVariants.{Memory};
 ghost use Rattle.overlay_build.specs.steps.EndOf.{unpacked, ends_of};
-ghost use Rattle.overlay_build.specs.GraphOf.{link_of, pairs_of_links};
+ghost use Rattle.overlay_build.specs.GraphOf.{link_of, pairs_of_links, with_start, with_end};
 ghost use Rattle.overlay_build.specs.steps.LinkEnds.{numbered_ends, ends_where};
-ghost use Rattle.overlay_build.specs.steps.LinksOf.{starts_of, by_point, AreEndsInRange, IsNextPoint, IsRunAt, indexes_between, NumbersEnds};
+ghost use Rattle.overlay_build.specs.steps.LinksOf.{starts_of, by_point, AreEndsInRange, IsNextPoint, IsRunAt, indexes_between};
+ghost use Rattle.overlay_build.specs.steps.LinksOf.{AreNumberedAt};
 
 use crate::build::numbered_link::NumberedLink;
 use overlay_base::segm::fault::Fault;
@@ -151,63 +152,59 @@ pub fn next_point<L: NumberedLink>(
     None
 }
 
-/// Appends the indexes of the links that start at a point, from a place on. Returns the place after them.
-pub fn push_starts<L: NumberedLink>(
-    links: &[L],
+/// Appends the indexes of the links that start at a point, from a place on, and gives their first ends the number of the
+/// node there. Returns the place after these links.
+pub fn number_starts<L: NumberedLink>(
+    links: &mut [L],
     start: usize,
     key: u64,
-    indices: &mut Vec<usize>,
+    id: usize,
+    indexes: &mut Vec<usize>,
 ) -> Result<usize, Fault>
-    requires start { start ≤ length links.now }
-    requires in_range { AreEndsInRange L.Coordinate.whole L.Coordinate.MIN_COORD L.Coordinate.MAX_COORD (map L.link links.now) }
-    ensures run { IfOk result (λ next. IsRunAt (starts_of L.Coordinate.whole (map L.link links.now)) (unpacked key) start next) }
-    ensures indices { IfOk result (λ next. indices.new.items ≡ indices.old.items
-        ++ indexes_between (starts_of L.Coordinate.whole (map L.link links.now)) start next) }
+    requires start { start ≤ length links.old }
+    requires in_range { AreEndsInRange L.Coordinate.whole L.Coordinate.MIN_COORD L.Coordinate.MAX_COORD (map L.link links.old) }
+    ensures run { IfOk result (λ next. IsRunAt (starts_of L.Coordinate.whole (map L.link links.old)) (unpacked key) start next) }
+    ensures indexes { IfOk result (λ next. indexes.new.items ≡ indexes.old.items
+        ++ indexes_between (starts_of L.Coordinate.whole (map L.link links.old)) start next) }
+    ensures length { length links.new ≡ length links.old }
+    ensures links { IfOk result (λ next. AreNumberedAt (with_start id)
+        (indexes_between (starts_of L.Coordinate.whole (map L.link links.old)) start next) (map L.link links.old) (map L.link links.new)) }
     ensures fault { IfErr result (λ fault. fault ≡ Memory) }
 {
     let mut next = start;
     while next < links.len() && packed(links[next].start()) == key {
-        indices.push(next)?;
+        links[next].number_start(id);
+        indexes.push(next)?;
         next += 1;
     }
     Ok(next)
 }
 
-/// Does the same with the ends that lie at a point, and the indexes of their links.
-pub fn push_ends(
+/// Does the same with the second ends that lie at a point, and the indexes of their links.
+pub fn number_ends<L: NumberedLink>(
+    links: &mut [L],
     ends: &[PackedEnd],
-    start: usize,
+    end: usize,
     key: u64,
-    indices: &mut Vec<usize>,
+    id: usize,
+    indexes: &mut Vec<usize>,
 ) -> Result<usize, Fault>
-    requires { start ≤ length ends.now }
-    ensures run { IfOk result (λ next. IsRunAt (ends_of ends.now) (unpacked key) start next) }
-    ensures indices { IfOk result (λ next. indices.new.items ≡ indices.old.items
-        ++ indexes_between (ends_of ends.now) start next) }
+    requires end { end ≤ length ends.now }
+    requires within { All (λ e. e.index < length links.old) ends.now }
+    ensures run { IfOk result (λ next. IsRunAt (ends_of ends.now) (unpacked key) end next) }
+    ensures indexes { IfOk result (λ next. indexes.new.items ≡ indexes.old.items
+        ++ indexes_between (ends_of ends.now) end next) }
+    ensures length { length links.new ≡ length links.old }
+    ensures links { IfOk result (λ next. AreNumberedAt (with_end id)
+        (indexes_between (ends_of ends.now) end next) (map L.link links.old) (map L.link links.new)) }
     ensures fault { IfErr result (λ fault. fault ≡ Memory) }
 {
-    let mut next = start;
+    let mut next = end;
     while next < ends.len() && ends[next].key == key {
-        indices.push(ends[next].index)?;
+        let index = ends[next].index;
+        links[index].number_end(id);
+        indexes.push(index)?;
         next += 1;
     }
     Ok(next)
-}
-
-/// Gives the links at these indexes the number of the node at a point: each link at its start, where that lies there,
-/// or else at its end.
-pub fn number_ends<L: NumberedLink>(links: &mut [L], indices: &[usize], key: u64, id: usize)
-    requires within { All (λ k. k < length links.old) indices.now }
-    requires in_range { AreEndsInRange L.Coordinate.whole L.Coordinate.MIN_COORD L.Coordinate.MAX_COORD (map L.link links.old) }
-    ensures length { length links.new ≡ length links.old }
-    ensures links { NumbersEnds L.Coordinate.whole indices.now (unpacked key) id (map L.link links.old) (map L.link links.new) }
-{
-    for index in indices {
-        let link = &mut links[*index];
-        if packed(link.start()) == key {
-            link.number_start(id);
-        } else {
-            link.number_end(id);
-        }
-    }
 }

@@ -1,12 +1,12 @@
 -- When all ends have their nodes, nodes and links are those of the graph of the given links.
-use Rattle.std.proofs.Common.{◌≡◌, refl, sym, ap, ap₂, subst, ◌∙◌, arith, inl, inr, ℕ, suc, ◌+◌, ◌-◌, ◌<◌, ◌≤◌, Bool, true, List, [], ◌∷◌, ◌++◌, map, length, get_or}
+use Rattle.std.proofs.Common.{◌≡◌, refl, sym, ap, ap₂, subst, ◌∙◌, arith, inl, inr, ℕ, suc, ◌+◌, ◌-◌, ◌<◌, ◌≤◌, Bool, true, List, [], ◌∷◌, map, length, get_or}
 use Rattle.std.specs.Prelude.{◌⊎◌, ℤ, pos, nat_lt}
 use Rattle.std.specs.List.{list_all}
 use Rattle.std.proofs.lemmas.List.{take_all, length-map, get_or-map, get_or_default}
 use Rattle.std.proofs.lemmas.Bool.{lt-ltb}
 use Rattle.std.proofs.lemmas.Simd.{map-map}
 use Rattle.overlay_geometry.specs.Coordinates.{is_pair_in_range}
-use Rattle.overlay_geometry.specs.Points.{Point, Pair, pair_cmp}
+use Rattle.overlay_geometry.specs.Points.{Point, Pair, pair_cmp, point_eq}
 use Rattle.overlay_geometry.specs.Sorting.{is_strictly_sorted}
 use Rattle.overlay_geometry.specs.PointOf.{point_of}
 use Rattle.overlay_base.specs.declared.overlay_core.link.OverlayLink.{OverlayLink}
@@ -14,12 +14,12 @@ use Rattle.overlay_build.specs.declared.build.link_ends.PackedEnd.{PackedEnd}
 use Rattle.overlay_build.specs.steps.EndOf.{WholeEnd, ends_of}
 use Rattle.overlay_build.specs.steps.LinkEnds.{numbered_starts}
 use Rattle.overlay_build.specs.steps.LinksOf.{starts_of, AreEndsInRange, IsNextPoint, IsRunAt, indexes_between}
-use Rattle.overlay_build.specs.Graph.{Filled, Node, node_points, node_number, links_at, graph_of, nodes_of_pairs}
+use Rattle.overlay_build.specs.Graph.{Filled, Node, node_points, node_number, indexes_where, links_at, graph_of, nodes_of_pairs}
 use Rattle.overlay_build.specs.GraphOf.{link_of, kept_of, graph_with, pairs_of_links, HoldGraph}
 use Rattle.overlay_build.specs.Graph.{without_nodes}
 use Rattle.overlay_base.proofs.laws.geometry.Pairs.{has_point}
 use Rattle.overlay_build.proofs.laws.graphs.GraphNodes.{has_start, has_end, node_number-of}
-use Rattle.overlay_build.proofs.laws.graphs.NodeSteps.{sorted_ends_of, numbered_to, IsConnectedUpTo, node_has_end, by_less, indexes_of_runs, run_is_some}
+use Rattle.overlay_build.proofs.laws.graphs.NodeSteps.{sorted_ends_of, numbered_to, IsConnectedUpTo, node_has_end, by_less, indexes_of_starts, indexes_of_ends, run_is_some}
 
 -- lists are mapped to the same where their elements are
 pub same_maps : {X Y Z : Type 0} (f : X → Z) (g : Y → Z) (xs : List X) (ys : List Y) → length xs ≡ length ys → ((k : ℕ) (d : X) (e : Y) → k < length ys → f (get_or xs k d) ≡ g (get_or ys k e)) → map f xs ≡ map g ys
@@ -87,11 +87,12 @@ module _ {N I D : Type 0} (indexes : N → List ℕ) (is_canonical : N → Bool)
 -- ---- what the calls of a step show, of the given links
 
 -- the next point, the runs of ends there, and the indexes of their links
-pub record IsFound (pairs : List Pair) (start end next_start next_end : ℕ) (p : Point) (indexes : List ℕ) : Type 0 where
+pub record IsFound (pairs : List Pair) (start end next_start next_end : ℕ) (p : Point) (firsts seconds : List ℕ) : Type 0 where
   pub next : IsNextPoint (numbered_starts pairs) (sorted_ends_of pairs) start end p
   pub first : IsRunAt (numbered_starts pairs) p start next_start
   pub second : IsRunAt (sorted_ends_of pairs) p end next_end
-  pub listed : indexes ≡ links_at pairs p
+  pub starts : firsts ≡ indexes_where (λ l. point_eq l.a p) pairs
+  pub ends : seconds ≡ indexes_where (λ l. point_eq l.b p) pairs
   pub some : (start < next_start) ⊎ (end < next_end)
 
 module _ {N I D : Type 0} (indexes : N → List ℕ) (is_canonical : N → Bool) (whole : I → ℤ) (given : List (OverlayLink I D)) (sorted : is_strictly_sorted pair_cmp (pairs_of_links whole given) ≡ true)
@@ -103,12 +104,10 @@ module _ {N I D : Type 0} (indexes : N → List ℕ) (is_canonical : N → Bool)
   ends_seen : (seen : List PackedEnd) → seen ≡ ends → ends_of seen ≡ sorted_ends_of (pairs_of_links whole given)
   ends_seen seen e = ap ends_of e ∙ all
 
-  pub found : (seen again : List (OverlayLink I D)) (seen_ends ends_again : List PackedEnd) (p : Point) (next_start next_end : ℕ) (none first both : List ℕ) → seen ≡ links → again ≡ links → seen_ends ≡ ends → ends_again ≡ ends →
-      IsNextPoint (starts_of whole seen) (ends_of seen_ends) start end p → none ≡ [] →
-      IsRunAt (starts_of whole again) p start next_start → first ≡ none ++ indexes_between (starts_of whole again) start next_start →
-      IsRunAt (ends_of ends_again) p end next_end → both ≡ first ++ indexes_between (ends_of ends_again) end next_end →
-      IsFound (pairs_of_links whole given) start end next_start next_end p both
-  found seen again seen_ends ends_again p next_start next_end none first both e f h k next empty run its run_ends theirs =
+  pub found : (seen again : List (OverlayLink I D)) (seen_ends ends_again : List PackedEnd) (p : Point) (next_start next_end : ℕ) → seen ≡ links → again ≡ links → seen_ends ≡ ends → ends_again ≡ ends →
+      IsNextPoint (starts_of whole seen) (ends_of seen_ends) start end p → IsRunAt (starts_of whole again) p start next_start → IsRunAt (ends_of ends_again) p end next_end →
+      IsFound (pairs_of_links whole given) start end next_start next_end p (indexes_between (starts_of whole again) start next_start) (indexes_between (ends_of ends_again) end next_end)
+  found seen again seen_ends ends_again p next_start next_end e f h k next run run_ends =
       let pairs : List Pair = pairs_of_links whole given in
       let here : IsNextPoint (numbered_starts pairs) (sorted_ends_of pairs) start end p = subst (λ l. IsNextPoint (numbered_starts pairs) l start end p) (ends_seen seen_ends h) (subst (λ l. IsNextPoint l (ends_of seen_ends) start end p) (starts_seen seen e) next) in
       let one : IsRunAt (numbered_starts pairs) p start next_start = subst (λ l. IsRunAt l p start next_start) (starts_seen again f) run in
@@ -117,19 +116,15 @@ module _ {N I D : Type 0} (indexes : N → List ℕ) (is_canonical : N → Bool)
         next = here;
         first = one;
         second = two;
-        listed =
-            theirs
-            ∙ ap₂ (λ (a b : List ℕ). a ++ b)
-            (its ∙ ap₂ (λ (a b : List ℕ). a ++ b) empty (ap (λ l. indexes_between l start next_start) (starts_seen again f)))
-            (ap (λ l. indexes_between l end next_end) (ends_seen ends_again k))
-            ∙ indexes_of_runs pairs sorted start end (length nodes) p up.firsts up.seconds here next_start next_end one two;
+        starts = ap (λ l. indexes_between l start next_start) (starts_seen again f) ∙ indexes_of_starts pairs sorted start end (length nodes) p up.firsts up.seconds here next_start one;
+        ends = ap (λ l. indexes_between l end next_end) (ends_seen ends_again k) ∙ indexes_of_ends pairs sorted start end (length nodes) p up.firsts up.seconds here next_end two;
         some = run_is_some pairs sorted start end (length nodes) p up.firsts up.seconds here next_start next_end one two;
       }
 
 -- so fewer ends are left
-pub fewer_left : (pairs : List Pair) (start end next_start next_end links ends : ℕ) (p : Point) (indexes : List ℕ) → IsFound pairs start end next_start next_end p indexes → length (numbered_starts pairs) ≡ links → length (sorted_ends_of pairs) ≡ ends →
+pub fewer_left : (pairs : List Pair) (start end next_start next_end links ends : ℕ) (p : Point) (firsts seconds : List ℕ) → IsFound pairs start end next_start next_end p firsts seconds → length (numbered_starts pairs) ≡ links → length (sorted_ends_of pairs) ≡ ends →
     (links - next_start) + (ends - next_end) < (links - start) + (ends - end)
-fewer_left pairs start end next_start next_end links ends p indexes found a b =
+fewer_left pairs start end next_start next_end links ends p firsts seconds found a b =
     let order = found.first.order in
     let within = found.first.within in
     let order_ends = found.second.order in

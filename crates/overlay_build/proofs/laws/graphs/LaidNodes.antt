@@ -1,19 +1,18 @@
 -- Nodes as lists one behind another, node after node.
-use Rattle.std.proofs.Common.{◌≡◌, refl, sym, ap, ap₂, ◌∙◌, arith, ℕ, ◌+◌, ◌-◌, ◌<◌, ◌≤◌, Bool, true, List, [], ◌∷◌, ◌++◌, map, take, drop, flat_map, length, length-append, get_or, if◌then◌else◌}
+use Rattle.std.proofs.Common.{◌≡◌, refl, sym, ap, ap₂, ◌∙◌, arith, ℕ, ◌+◌, ◌<◌, ◌≤◌, Bool, true, List, [], ◌∷◌, ◌++◌, map, take, drop, flat_map, length, get_or, if◌then◌else◌}
 use Rattle.std.specs.Prelude.{ℤ}
 use Rattle.std.proofs.lemmas.Grind.{flat_map-append}
-use Rattle.std.proofs.lemmas.List.{append-nil, drop_more, get_or-map, length-map, map-append, take_all, take_more}
-use Rattle.std.proofs.Math.Seq.{drop-append_seam}
-use Rattle.overlay_geometry.specs.PointOf.{point_of}
-use Rattle.overlay_geometry.specs.Points.{Point, pair_cmp, point_lt}
+use Rattle.std.proofs.lemmas.List.{append-nil, drop_more, get_or-map, length-map, map-append, take_more}
+use Rattle.overlay_geometry.specs.Points.{Point, pair_cmp}
 use Rattle.overlay_geometry.specs.Sorting.{is_strictly_sorted}
 use Rattle.overlay_base.specs.declared.overlay_core.link.OverlayLink.{OverlayLink}
-use Rattle.overlay_build.specs.GraphOf.{graph_with, pairs_of_links, names_node, with_node, HoldLists}
+use Rattle.overlay_build.specs.GraphOf.{graph_with, pairs_of_links, names_node, with_start, with_end, HoldLists}
+use Rattle.overlay_build.specs.Graph.{links_at}
 use Rattle.overlay_build.specs.Laid.{AreLaid}
 use Rattle.overlay_build.specs.declared.build.link_ends.PackedEnd.{PackedEnd}
 use Rattle.overlay_build.specs.steps.EndOf.{ends_of}
 use Rattle.overlay_build.specs.steps.LinkEnds.{numbered_starts}
-use Rattle.overlay_build.specs.steps.LinksOf.{starts_of, IsNextPoint, IsRunAt, indexes_between}
+use Rattle.overlay_build.specs.steps.LinksOf.{starts_of, AreNumberedAt, IsNextPoint, IsRunAt, indexes_between}
 use Rattle.overlay_build.proofs.laws.graphs.NodeSteps.{IsConnectedUpTo, sorted_ends_of, connected_none, connected_next}
 use Rattle.overlay_build.proofs.laws.graphs.ConnectedLinks.{IsFound, found, holds_graph}
 
@@ -40,35 +39,29 @@ laid_more lists lengths all list laid = (
   ap₂ (λ a b. a ++ b) laid.1 (sym (append-nil list)) ∙ sym (flat_map-append (λ l. l) lists (list ∷ [])),
 )
 
--- what was put behind a list
-pub put_behind : {A : Type 0} (old more all : List A) (n : ℕ) → n ≡ length old → all ≡ old ++ more → take (length all - n) (drop n all) ≡ more
-put_behind old more all n len is =
-    let rest : drop n all ≡ more = ap₂ drop len is ∙ drop-append_seam old more in
-    let many : length all - n ≡ length more = let sum = ap length is ∙ length-append old more in omega (arith, sum, len) in
-    ap₂ take many rest ∙ take_all (length more) more (omega arith)
-
 module _ {I D : Type 0} (whole : I → ℤ) (given : List (OverlayLink I D)) (sorted : is_strictly_sorted pair_cmp (pairs_of_links whole given) ≡ true)
     (start end : ℕ) (links : List (OverlayLink I D)) (degrees indexes : List ℕ) (at : IsLaidUpTo whole given start end links degrees indexes) where
   -- what the calls of a step find
   pub found_next : (ends : List PackedEnd) → ends_of ends ≡ sorted_ends_of (pairs_of_links whole given) → (seen again : List (OverlayLink I D)) (seen_ends ends_again : List PackedEnd) (p : Point) (next_start next_end : ℕ) → seen ≡ links → again ≡ links → seen_ends ≡ ends → ends_again ≡ ends →
       IsNextPoint (starts_of whole seen) (ends_of seen_ends) start end p → IsRunAt (starts_of whole again) p start next_start → IsRunAt (ends_of ends_again) p end next_end →
-      IsFound (pairs_of_links whole given) start end next_start next_end p (indexes_between (starts_of whole again) start next_start ++ indexes_between (ends_of ends_again) end next_end)
-  found_next ends all seen again seen_ends ends_again p next_start next_end e f h k next run run_ends =
-      found own any whole given sorted start end at.lists links at.up ends all seen again seen_ends ends_again p next_start next_end [] _ _ e f h k next refl run refl run_ends refl
+      IsFound (pairs_of_links whole given) start end next_start next_end p (indexes_between (starts_of whole again) start next_start) (indexes_between (ends_of ends_again) end next_end)
+  found_next = found own any whole given sorted start end at.lists links at.up
 
   -- with the next node its list is behind the others
-  pub laid_next : (next_start next_end : ℕ) (p : Point) (list : List ℕ) (more : List (OverlayLink I D)) (degrees_after indexes_after : List ℕ) → IsFound (pairs_of_links whole given) start end next_start next_end p list →
-      ((k : ℕ) (d : OverlayLink I D) → k < length given → point_lt (point_of whole (get_or given k d).a.point) (point_of whole (get_or given k d).b.point) ≡ true) →
-      length more ≡ length links →
-      ((k : ℕ) (d : OverlayLink I D) → k < length links → get_or more k d ≡ (if names_node k list then with_node whole p (length degrees) (get_or links k d) else get_or links k d)) →
-      degrees_after ≡ degrees ++ length list ∷ [] → indexes_after ≡ indexes ++ list → IsLaidUpTo whole given next_start next_end more degrees_after indexes_after
-  laid_next next_start next_end p list more degrees_after indexes_after its ordered as_many numbers counted listed =
+  pub laid_next : (next_start next_end : ℕ) (p : Point) (firsts seconds : List ℕ) (with_starts more : List (OverlayLink I D)) (degrees_after indexes_after : List ℕ) → IsFound (pairs_of_links whole given) start end next_start next_end p firsts seconds →
+      length with_starts ≡ length links → length more ≡ length with_starts →
+      AreNumberedAt (with_start (length degrees)) firsts links with_starts → AreNumberedAt (with_end (length degrees)) seconds with_starts more →
+      degrees_after ≡ degrees ++ length (firsts ++ seconds) ∷ [] → indexes_after ≡ indexes ++ (firsts ++ seconds) → IsLaidUpTo whole given next_start next_end more degrees_after indexes_after
+  unfolding links_at
+  laid_next next_start next_end p firsts seconds with_starts more degrees_after indexes_after its many_starts as_many numbers_starts numbers_ends counted listed =
       let many : length degrees ≡ length at.lists = ap length at.laid.0 ∙ length-map at.lists length in
-      let laid = laid_more at.lists degrees indexes list at.laid in
+      let laid = laid_more at.lists degrees indexes (firsts ++ seconds) at.laid in
       record {
-        lists = at.lists ++ list ∷ [];
-        up = connected_next own any whole given ordered sorted start end next_start next_end at.lists links more list p at.up its.next its.first its.second its.listed refl as_many
-            (λ k d h. numbers k d h ∙ ap (λ n. if names_node k list then with_node whole p n (get_or links k d) else get_or links k d) many);
+        lists = at.lists ++ (firsts ++ seconds) ∷ [];
+        up = connected_next own any whole given sorted start end next_start next_end at.lists links with_starts more (firsts ++ seconds) firsts seconds p at.up its.next its.first its.second
+            (ap₂ (λ (a b : List ℕ). a ++ b) its.starts its.ends) its.starts its.ends refl many_starts as_many
+            (λ k d h. numbers_starts k d h ∙ ap (λ n. if names_node k firsts then with_start n (get_or links k d) else get_or links k d) many)
+            (λ k d h. numbers_ends k d h ∙ ap (λ n. if names_node k seconds then with_end n (get_or with_starts k d) else get_or with_starts k d) many);
         laid = (counted ∙ laid.0, listed ∙ laid.1);
       }
 

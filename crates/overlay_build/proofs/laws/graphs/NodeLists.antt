@@ -9,7 +9,7 @@ use Rattle.std.proofs.lemmas.List.Folds.{list_all-map, list_any-append}
 use Rattle.std.proofs.lemmas.List.FromFn.{length-enumerate_from, get_or-enumerate_from}
 use Rattle.overlay_geometry.specs.Coordinates.{is_pair_in_range}
 use Rattle.overlay_geometry.specs.InRange.{IsPointInRange}
-use Rattle.overlay_geometry.specs.Points.{Point, Pair, point_eq, point_lt}
+use Rattle.overlay_geometry.specs.Points.{Point, Pair, point_lt}
 use Rattle.overlay_geometry.proofs.laws.geometry.Points.{point_lt-irreflexive}
 use Rattle.overlay_sweep.proofs.laws.live.StartPoints.{each_more, take_drop-more}
 use Rattle.overlay_build.specs.steps.LinksOf.{starts_of, indexes_between, AreEndsInRange, IsNextPoint, IsRunAt}
@@ -17,7 +17,7 @@ use Rattle.overlay_geometry.specs.PointOf.{point_of}
 use Rattle.overlay_build.specs.declared.build.link_ends.PackedEnd.{PackedEnd}
 use Rattle.overlay_build.specs.steps.EndOf.{WholeEnd, unpacked, end_of, ends_of}
 use Rattle.overlay_base.specs.declared.overlay_core.link.OverlayLink.{OverlayLink}
-use Rattle.overlay_build.specs.GraphOf.{link_of, pairs_of_links, with_node, names_node}
+use Rattle.overlay_build.specs.GraphOf.{link_of, pairs_of_links, names_node}
 use Rattle.overlay_build.proofs.laws.graphs.PackedEnds.{unpacked-not_less}
 use Rattle.overlay_build.specs.Graph.{Node, Graph, is_bridge, is_valid_graph, has_even_nodes}
 use Rattle.std.proofs.Math.Bool.{or-true}
@@ -125,6 +125,10 @@ run-none ends p from old h = record {
   listed = let none : from - from ≡ 0 = omega arith in rw none (sym (append-nil old));
 }
 
+-- one end more
+pub indexes_between-more : (ends : List WholeEnd) (from next : ℕ) (e : WholeEnd) → from ≤ next → next < length ends → get_or ends next e ≡ e → indexes_between ends from (next + 1) ≡ indexes_between ends from next ++ e.index ∷ []
+indexes_between-more ends from next e order h here = ap (map (λ (x : WholeEnd). x.index)) (take_drop-more ends from next e order h here) ∙ map-append (λ (x : WholeEnd). x.index) (take (next - from) (drop from ends)) (e ∷ [])
+
 pub run-more : (ends : List WholeEnd) (p : Point) (from next : ℕ) (old indexes : List ℕ) (e : WholeEnd) → IsRunListed ends p from next old indexes → next < length ends → get_or ends next e ≡ e → e.point ≡ p → IsRunListed ends p from (next + 1) old (indexes ++ e.index ∷ [])
 run-more ends p from next old indexes e run h here at = record {
   order = let o = run.order in omega (arith, o);
@@ -133,7 +137,7 @@ run-more ends p from next old indexes e run h here at = record {
   listed =
       ap (λ (l : List ℕ). l ++ e.index ∷ []) run.listed
       ∙ append_assoc old (indexes_between ends from next) (e.index ∷ [])
-      ∙ ap (λ l. old ++ l) (sym (ap (map (λ (x : WholeEnd). x.index)) (take_drop-more ends from next e run.order h here) ∙ map-append (λ (x : WholeEnd). x.index) (take (next - from) (drop from ends)) (e ∷ [])));
+      ∙ ap (λ l. old ++ l) (sym (indexes_between-more ends from next e run.order h here));
 }
 
 -- a run ends where the next end lies elsewhere, or where there is none
@@ -203,31 +207,3 @@ changed_next change twice given seen done j y same before earlier made k d l =
     by false e =
         get_or-set_other seen j k y d (λ h. false≢true (sym e ∙ eq-eqb j k (sym h))) ∙ earlier k d l
         ∙ ap (λ b. if b then change (get_or given k d) else get_or given k d) (sym (or_false (names_node k done) (j == k) e))
-
--- a number given twice is given
-pub with_node-twice : {I D : Type 0} (whole : I → ℤ) (p : Point) (id : ℕ) (l : OverlayLink I D) → with_node whole p id (with_node whole p id l) ≡ with_node whole p id l
-with_node-twice whole p id l = by (point_eq (point_of whole l.a.point) p) refl
-  where
-    by : (b : Bool) → point_eq (point_of whole l.a.point) p ≡ b → with_node whole p id (with_node whole p id l) ≡ with_node whole p id l
-    by true e = rw e (rw e refl)
-    by false e = rw e (rw e refl)
-
--- and moves no end
-with_node-start_point : {I D : Type 0} (whole : I → ℤ) (p : Point) (id : ℕ) (l : OverlayLink I D) → (with_node whole p id l).a.point ≡ l.a.point
-with_node-start_point whole p id l = by (point_eq (point_of whole l.a.point) p) refl
-  where
-    by : (b : Bool) → point_eq (point_of whole l.a.point) p ≡ b → (with_node whole p id l).a.point ≡ l.a.point
-    by true e = rw e refl
-    by false e = rw e refl
-
-pub same_start_point : {I D : Type 0} (whole : I → ℤ) (p : Point) (id : ℕ) (b : Bool) (l : OverlayLink I D) → (if b then with_node whole p id l else l).a.point ≡ l.a.point
-same_start_point whole p id true l = with_node-start_point whole p id l
-same_start_point whole p id false l = refl
-
-pub with_node-start : {I D : Type 0} (whole : I → ℤ) (p : Point) (id : ℕ) (l : OverlayLink I D) → point_eq (point_of whole l.a.point) p ≡ true →
-    record { a = record { id = id; point = l.a.point }; b = l.b; fill = l.fill; edge_data = l.edge_data } ≡ with_node whole p id l
-with_node-start whole p id l e = rw e refl
-
-pub with_node-end : {I D : Type 0} (whole : I → ℤ) (p : Point) (id : ℕ) (l : OverlayLink I D) → point_eq (point_of whole l.a.point) p ≡ false →
-    record { a = l.a; b = record { id = id; point = l.b.point }; fill = l.fill; edge_data = l.edge_data } ≡ with_node whole p id l
-with_node-end whole p id l e = rw e refl

@@ -1,10 +1,10 @@
 -- The nodes at the ends of links, one after another: what is done when the ends up to a place have their nodes.
-use Rattle.std.proofs.Common.{inl, inr, subst, Ordering, Equal, Greater, ◌≡◌, refl, sym, ap, ap₂, ◌&&◌, ◌∙◌, arith, ℕ, zero, suc, ◌+◌, ◌<◌, ◌≤◌, ◌-◌, ◌==◌, Bool, true, false, ◌||◌, List, [], ◌∷◌, ◌++◌, map, filter, take, drop, length, length-append, get_or, if◌then◌else◌, Less}
-use Rattle.std.specs.Prelude.{◌⊎◌, ℤ, nat_lt}
+use Rattle.std.proofs.Common.{inl, inr, subst, Ordering, Equal, Greater, ◌≡◌, refl, sym, ap, ap₂, ◌&&◌, ◌∙◌, arith, ℕ, zero, zero-add, suc, ◌+◌, ◌<◌, ◌≤◌, ◌-◌, ◌==◌, Bool, true, false, ◌||◌, List, [], ◌∷◌, ◌++◌, map, filter, take, drop, length, length-append, get_or, if◌then◌else◌, Less}
+use Rattle.std.specs.Prelude.{◌⊎◌, All, ℤ, nat_lt}
 use Rattle.std.specs.List.{list_all, list_any, enumerate_from}
 use Rattle.std.proofs.lemmas.List.{map-append, get_or_default, take_more, length-map, get_or-map}
-use Rattle.std.proofs.lemmas.List.Sorted.{list_any-IsPermutation, ranks_by}
-use Rattle.std.proofs.lemmas.Bool.{or_left, or_right, or_cases, both_ways, false_from_ne_true, eqb-true, eq-eqb, lt-ltb, ltb-true, and_parts}
+use Rattle.std.proofs.lemmas.List.Sorted.{All-permutation, list_any-IsPermutation, ranks_by}
+use Rattle.std.proofs.lemmas.Bool.{or_left, or_right, or_cases, both_ways, false_from_ne_true, eqb-true, lt-ltb}
 use Rattle.std.proofs.lemmas.Bool.Decides.{nat_tests}
 use Rattle.std.proofs.lemmas.List.Folds.{list_all-append, list_any_at, Any-from_list_any}
 use Rattle.std.proofs.lemmas.Simd.{map-map}
@@ -13,21 +13,21 @@ use Rattle.overlay_geometry.specs.Sorting.{stably_sorted}
 use Rattle.overlay_geometry.specs.PointOf.{point_of}
 use Rattle.overlay_base.specs.declared.overlay_core.link.OverlayLink.{OverlayLink}
 use Rattle.overlay_geometry.proofs.laws.lists.Keys.{IsStrictlySortedBy-from_test}
-use Rattle.overlay_geometry.proofs.laws.geometry.Points.{point_cmp_total, pair_cmp_total, same_by_eq, point_eq_same, point_lt-irreflexive}
+use Rattle.overlay_geometry.proofs.laws.geometry.Points.{point_cmp_total, pair_cmp_total, same_by_eq, point_eq_same}
 use Rattle.overlay_geometry.proofs.laws.lists.Lists.{filter-map}
 use Rattle.overlay_base.proofs.laws.lists.StableSorts.{stably_sorted-IsPermutation, stably_sorted-stable, stably_sorted_is_stable}
 use Rattle.overlay_build.specs.steps.EndOf.{WholeEnd}
 use Rattle.std.specs.List.Sorted.{IsStrictlySortedBy, ties}
 use Rattle.std.proofs.lemmas.List.FromFn.{length-enumerate_from, get_or-enumerate_from}
 use Rattle.overlay_geometry.specs.Sorting.{is_strictly_sorted}
-use Rattle.overlay_build.specs.steps.LinksOf.{IsNextPoint, IsRunAt, indexes_between}
+use Rattle.overlay_build.specs.steps.LinksOf.{AreNumberedAt, IsNextPoint, IsRunAt, indexes_between}
 use Rattle.std.specs.Ordering.{is_lt, ordering_reverse}
 use Rattle.std.proofs.lemmas.List.Elements.{filter_agree}
 use Rattle.overlay_build.proofs.laws.graphs.GraphBlocks.{tied_where_equal, IsBlockOf, filter-block}
 use Rattle.overlay_build.specs.Graph.{node_points, node_number, links_at, indexes_where}
-use Rattle.overlay_build.specs.GraphOf.{pairs_of_links, link_of, with_node}
+use Rattle.overlay_build.specs.GraphOf.{pairs_of_links, link_of, names_node, with_start, with_end}
 use Rattle.overlay_build.specs.steps.LinkEnds.{numbered_starts, numbered_ends}
-use Rattle.overlay_build.proofs.laws.graphs.GraphLaws.{links_at-exactly}
+use Rattle.overlay_build.proofs.laws.graphs.Indexes.{indexes_where-exactly}
 use Rattle.overlay_base.proofs.laws.geometry.Pairs.{has_point}
 use Rattle.overlay_build.proofs.laws.graphs.GraphNodes.{has_start, has_end, sorted_at, sorted_ends, node_number-of, node_number-at, node_number-is, node_points-exactly}
 
@@ -319,22 +319,29 @@ module _ (links : List Pair) (sorted : is_strictly_sorted pair_cmp links ≡ tru
     | inr own ↦ inr (let order = second.order in by_less end next_end (λ h. h) (λ h. absurd (let same : next_end ≡ end = omega (arith, h, order) in second.other mark (rw same own.0) (rw same (own.1 mark)))))
   ]
 
-  -- the indexes of both runs are those of the links at node m
-  pub indexes_of_runs : (next_start next_end : ℕ) → IsRunAt (numbered_starts links) p start next_start → IsRunAt (sorted_ends_of links) p end next_end →
-      indexes_between (numbered_starts links) start next_start ++ indexes_between (sorted_ends_of links) end next_end ≡ links_at links p
-  unfolding links_at
-  indexes_of_runs next_start next_end first second =
-      ap₂ (λ a b. a ++ b)
-      (indexes_of_run links (numbered_starts links) starts p start next_start m next_is_node next_number firsts first ∙ starts_at_point links p)
-      (indexes_of_run links (sorted_ends_of links) ends p end next_end m next_is_node next_number seconds second ∙ seconds_at_point links p)
+  -- the indexes of one run are those of the links that start at node m
+  pub indexes_of_starts : (next_start : ℕ) → IsRunAt (numbered_starts links) p start next_start → indexes_between (numbered_starts links) start next_start ≡ indexes_where (λ l. point_eq l.a p) links
+  indexes_of_starts next_start run = indexes_of_run links (numbered_starts links) starts p start next_start m next_is_node next_number firsts run ∙ starts_at_point links p
 
--- and each of them is the index of a link
-pub indexes_within : (links : List Pair) (p : Point) (k d : ℕ) → k < length (links_at links p) → get_or (links_at links p) k d < length links
-indexes_within links p k d h =
-    let i : ℕ = get_or (links_at links p) k d in
-    let own : list_any (λ j. j == i) (links_at links p) ≡ true = list_any_at (λ j. j == i) (links_at links p) k d h (eq-eqb i i refl) in
-    let stands = sym (links_at-exactly links p i (record { a = p; b = p })) ∙ own in
-    ltb-true i (length links) (and_parts _ _ stands).0
+  -- and those of the other are those of the links that end there
+  pub indexes_of_ends : (next_end : ℕ) → IsRunAt (sorted_ends_of links) p end next_end → indexes_between (sorted_ends_of links) end next_end ≡ indexes_where (λ l. point_eq l.b p) links
+  indexes_of_ends next_end run = indexes_of_run links (sorted_ends_of links) ends p end next_end m next_is_node next_number seconds run ∙ seconds_at_point links p
+
+-- each end has the index of a link
+pub indexes_within : (links : List Pair) → All (λ (e : WholeEnd). e.index < length links) (sorted_ends_of links)
+indexes_within links = All-permutation (λ (e : WholeEnd). e.index < length links) (numbered_ends links) (sorted_ends_of links) (stably_sorted-IsPermutation (λ e f. point_cmp e.point f.point) (numbered_ends links)) each
+  where
+    each : All (λ (e : WholeEnd). e.index < length links) (numbered_ends links)
+    each k d h =
+        let s : Pair = record { a = d.point; b = d.point } in
+        let as_many : length (numbered_ends links) ≡ length links = length-map (enumerate_from 0 links) _ ∙ length-enumerate_from 0 links in
+        let within : k < length links = rw as_many at h in
+        let listed : k < length (enumerate_from 0 links) = rw length-enumerate_from within in
+        let its : (get_or (numbered_ends links) k d).index ≡ k =
+        ap (λ (e : WholeEnd). e.index)
+        (get_or-map (λ (e : ℕ × Pair). record { index = e.0; point = e.1.b }) (enumerate_from 0 links) k (0, s) d listed
+        ∙ ap (λ (e : ℕ × Pair). record { index = e.0; point = e.1.b }) (get_or-enumerate_from 0 links k (0, s) within)) ∙ zero-add k in
+        rw its within
 
 -- ---- the numbers of nodes in a link
 
@@ -344,36 +351,41 @@ lt_next n m e = grind (arith, nat_tests)
 lt_own : (n m : ℕ) → (n == m) ≡ true → nat_lt n (m + 1) ≡ true
 lt_own n m e = grind (arith, nat_tests)
 
--- one more node's number in a link: at the end that lies there, if one does
+-- a link with the number of a node at its first end, if that lies there, and at its second end, if that does
+abbrev pub numbered_at : {I D : Type 0} → ℕ → Bool → Bool → OverlayLink I D → OverlayLink I D
+numbered_at m starts ends l = if ends then with_end m (if starts then with_start m l else l) else (if starts then with_start m l else l)
+
+-- one more node's number in a link
 pub numbered_next : {I D : Type 0} (whole : I → ℤ) (links : List Pair) (m : ℕ) (d : Point) (l : OverlayLink I D) → m < length (node_points links) →
-    has_point (node_points links) (point_of whole l.a.point) ≡ true → has_point (node_points links) (point_of whole l.b.point) ≡ true → point_lt (point_of whole l.a.point) (point_of whole l.b.point) ≡ true →
-    numbered_to whole links (m + 1) l ≡ (if point_eq (point_of whole l.a.point) (get_or (node_points links) m d) || point_eq (point_of whole l.b.point) (get_or (node_points links) m d) then with_node whole (get_or (node_points links) m d) m (numbered_to whole links m l) else numbered_to whole links m l)
-numbered_next whole links m d l h ha hb order =
-    by (point_eq (point_of whole l.a.point) (get_or (node_points links) m d)) (point_eq (point_of whole l.b.point) (get_or (node_points links) m d)) refl refl
+    has_point (node_points links) (point_of whole l.a.point) ≡ true → has_point (node_points links) (point_of whole l.b.point) ≡ true →
+    numbered_to whole links (m + 1) l ≡ numbered_at m (point_eq (point_of whole l.a.point) (get_or (node_points links) m d)) (point_eq (point_of whole l.b.point) (get_or (node_points links) m d)) (numbered_to whole links m l)
+numbered_next whole links m d l h ha hb =
+    by (point_eq (point_of whole l.a.point) (get_or (node_points links) m d)) (point_eq (point_of whole l.b.point) (get_or (node_points links) m d))
+    (node_number-is links (point_of whole l.a.point) d m ha h) (node_number-is links (point_of whole l.b.point) d m hb h)
   where
-    a_is : (node_number links (point_of whole l.a.point) == m) ≡ point_eq (point_of whole l.a.point) (get_or (node_points links) m d)
-    a_is = node_number-is links (point_of whole l.a.point) d m ha h
-
-    b_is : (node_number links (point_of whole l.b.point) == m) ≡ point_eq (point_of whole l.b.point) (get_or (node_points links) m d)
-    b_is = node_number-is links (point_of whole l.b.point) d m hb h
-
-    by : (x y : Bool) → point_eq (point_of whole l.a.point) (get_or (node_points links) m d) ≡ x → point_eq (point_of whole l.b.point) (get_or (node_points links) m d) ≡ y →
-        numbered_to whole links (m + 1) l ≡ (if point_eq (point_of whole l.a.point) (get_or (node_points links) m d) || point_eq (point_of whole l.b.point) (get_or (node_points links) m d) then with_node whole (get_or (node_points links) m d) m (numbered_to whole links m l) else numbered_to whole links m l)
-    by true true e f = absurd (both_ways _ (point_lt-irreflexive (point_of whole l.b.point)) (ap (λ p. point_lt p (point_of whole l.b.point)) (sym (same_by_eq _ _ e ∙ sym (same_by_eq _ _ f))) ∙ order))
+    by : (x y : Bool) → (node_number links (point_of whole l.a.point) == m) ≡ x → (node_number links (point_of whole l.b.point) == m) ≡ y →
+        numbered_to whole links (m + 1) l ≡ numbered_at m x y (numbered_to whole links m l)
+    by true true e f =
+        let a_own = lt_own (node_number links (point_of whole l.a.point)) m e in
+        let b_own = lt_own (node_number links (point_of whole l.b.point)) m f in
+        let a_number : node_number links (point_of whole l.a.point) ≡ m = eqb-true _ m e in
+        let b_number : node_number links (point_of whole l.b.point) ≡ m = eqb-true _ m f in
+        ap₂ (λ (a b : ℕ). record { a = record { id = a; point = l.a.point }; b = record { id = b; point = l.b.point }; fill = l.fill; edge_data = l.edge_data })
+        (rw a_own a_number) (rw b_own b_number)
     by true false e f =
-        let own = lt_own (node_number links (point_of whole l.a.point)) m (a_is ∙ e) in
-        let not_own = lt_next (node_number links (point_of whole l.b.point)) m (b_is ∙ f) in
-        let number : node_number links (point_of whole l.a.point) ≡ m = eqb-true _ m (a_is ∙ e) in
-        rw (e, own, not_own, number) refl
+        let own = lt_own (node_number links (point_of whole l.a.point)) m e in
+        let not_own = lt_next (node_number links (point_of whole l.b.point)) m f in
+        let number : node_number links (point_of whole l.a.point) ≡ m = eqb-true _ m e in
+        rw (own, not_own, number) refl
     by false true e f =
-        let own = lt_own (node_number links (point_of whole l.b.point)) m (b_is ∙ f) in
-        let not_own = lt_next (node_number links (point_of whole l.a.point)) m (a_is ∙ e) in
-        let number : node_number links (point_of whole l.b.point) ≡ m = eqb-true _ m (b_is ∙ f) in
-        rw (e, f, own, not_own, number) refl
+        let own = lt_own (node_number links (point_of whole l.b.point)) m f in
+        let not_own = lt_next (node_number links (point_of whole l.a.point)) m e in
+        let number : node_number links (point_of whole l.b.point) ≡ m = eqb-true _ m f in
+        rw (own, not_own, number) refl
     by false false e f =
-        let a_not = lt_next (node_number links (point_of whole l.a.point)) m (a_is ∙ e) in
-        let b_not = lt_next (node_number links (point_of whole l.b.point)) m (b_is ∙ f) in
-        rw (e, f, a_not, b_not) refl
+        let a_not = lt_next (node_number links (point_of whole l.a.point)) m e in
+        let b_not = lt_next (node_number links (point_of whole l.b.point)) m f in
+        rw (a_not, b_not) refl
 
 -- ---- before the first node
 
@@ -401,16 +413,16 @@ connected_none {I = I} {D = D} indexes is_canonical whole given = record {
 -- ---- one node more
 
 module _ {N I D : Type 0} (indexes : N → List ℕ) (is_canonical : N → Bool) (whole : I → ℤ) (given : List (OverlayLink I D))
-    (ordered : (k : ℕ) (d : OverlayLink I D) → k < length given → point_lt (point_of whole (get_or given k d).a.point) (point_of whole (get_or given k d).b.point) ≡ true)
     (sorted : is_strictly_sorted pair_cmp (pairs_of_links whole given) ≡ true)
-    (start end next_start next_end : ℕ) (nodes : List N) (links more : List (OverlayLink I D)) (node : N) (p : Point)
+    (start end next_start next_end : ℕ) (nodes : List N) (links with_starts more : List (OverlayLink I D)) (node : N) (firsts seconds : List ℕ) (p : Point)
     (up : IsConnectedUpTo indexes is_canonical whole given start end nodes links)
     (next : IsNextPoint (numbered_starts (pairs_of_links whole given)) (sorted_ends_of (pairs_of_links whole given)) start end p)
     (first : IsRunAt (numbered_starts (pairs_of_links whole given)) p start next_start)
     (second : IsRunAt (sorted_ends_of (pairs_of_links whole given)) p end next_end)
     (its : indexes node ≡ links_at (pairs_of_links whole given) p)
-    (canonical : is_canonical node ≡ true) (as_many : length more ≡ length links)
-    (numbers : (k : ℕ) (d : OverlayLink I D) → k < length links → get_or more k d ≡ (if list_any (λ i. i == k) (indexes node) then with_node whole p (length nodes) (get_or links k d) else get_or links k d)) where
+    (of_starts : firsts ≡ indexes_where (λ l. point_eq l.a p) (pairs_of_links whole given)) (of_ends : seconds ≡ indexes_where (λ l. point_eq l.b p) (pairs_of_links whole given))
+    (canonical : is_canonical node ≡ true) (many_starts : length with_starts ≡ length links) (as_many : length more ≡ length with_starts)
+    (numbers_starts : AreNumberedAt (with_start (length nodes)) firsts links with_starts) (numbers_ends : AreNumberedAt (with_end (length nodes)) seconds with_starts more) where
   inside : length nodes < length (node_points (pairs_of_links whole given))
   inside = next_inside (pairs_of_links whole given) sorted start end (length nodes) p up.firsts up.seconds next
 
@@ -426,15 +438,16 @@ module _ {N I D : Type 0} (indexes : N → List ℕ) (is_canonical : N → Bool)
       ∙ ap₂ (λ a b. a ++ b ∷ []) up.made (its ∙ ap (links_at (pairs_of_links whole given)) (sym (at_node p)))
       ∙ sym (ap (map (λ p. links_at (pairs_of_links whole given) p)) (take_more (node_points (pairs_of_links whole given)) (length nodes) p inside) ∙ map-append (λ p. links_at (pairs_of_links whole given) p) (take (length nodes) (node_points (pairs_of_links whole given))) (get_or (node_points (pairs_of_links whole given)) (length nodes) p ∷ []))
 
-  -- the links at the node's point are those that it lists
-  names : (k : ℕ) (d : OverlayLink I D) → k < length given → list_any (λ i. i == k) (indexes node) ≡ (point_eq (point_of whole (get_or given k d).a.point) p || point_eq (point_of whole (get_or given k d).b.point) p)
-  names k d h =
+  -- whether a link is among those that start or end at the node's point
+  named : (side : Pair → Point) (indexes : List ℕ) → indexes ≡ indexes_where (λ l. point_eq (side l) p) (pairs_of_links whole given) → (k : ℕ) (d : OverlayLink I D) → k < length given →
+      names_node k indexes ≡ point_eq (side (link_of whole (get_or given k d)).pair) p
+  named side indexes its k d h =
       let pairs : List Pair = pairs_of_links whole given in
       let f : OverlayLink I D → Pair = λ l. (link_of whole l).pair in
-      ap (list_any (λ i. i == k)) its
-      ∙ links_at-exactly pairs p k (f d)
-      ∙ ap (λ c. c && (point_eq (get_or pairs k (f d)).a p || point_eq (get_or pairs k (f d)).b p)) (lt-ltb k (length pairs) (rw (length-map given f) h))
-      ∙ ap (λ (s : Pair). point_eq s.a p || point_eq s.b p) (get_or-map f given k d (f d) h)
+      ap (names_node k) its
+      ∙ indexes_where-exactly (λ l. point_eq (side l) p) k (f d) pairs
+      ∙ ap (λ c. c && point_eq (side (get_or pairs k (f d))) p) (lt-ltb k (length pairs) (rw (length-map given f) h))
+      ∙ ap (λ (s : Pair). point_eq (side s) p) (get_or-map f given k d (f d) h)
 
   numbers_next : (k : ℕ) (d : OverlayLink I D) → k < length given → get_or more k d ≡ numbered_to whole (pairs_of_links whole given) (length nodes + 1) (get_or given k d)
   numbers_next k d h =
@@ -446,11 +459,13 @@ module _ {N I D : Type 0} (indexes : N → List ℕ) (is_canonical : N → Bool)
       let pair_at : get_or pairs k (f d) ≡ f l = get_or-map f given k d (f d) h in
       let ha : has_point (node_points pairs) (point_of whole l.a.point) ≡ true = ap (λ (s : Pair). has_point (node_points pairs) s.a) (sym pair_at) ∙ has_start pairs k (f d) h' in
       let hb : has_point (node_points pairs) (point_of whole l.b.point) ≡ true = ap (λ (s : Pair). has_point (node_points pairs) s.b) (sym pair_at) ∙ has_end pairs k (f d) h' in
-      numbers k d (rw up.as_many h)
-      ∙ ap (λ (x : OverlayLink I D). if list_any (λ i. i == k) (indexes node) then with_node whole p m x else x) (up.numbers k d h)
-      ∙ ap (λ c. if c then with_node whole p m (numbered_to whole pairs m l) else numbered_to whole pairs m l) (names k d h)
-      ∙ ap (λ q. if point_eq (point_of whole l.a.point) q || point_eq (point_of whole l.b.point) q then with_node whole q m (numbered_to whole pairs m l) else numbered_to whole pairs m l) (sym (at_node p))
-      ∙ sym (numbered_next whole pairs m p l inside ha hb (ordered k d h))
+      let before : k < length links = rw up.as_many h in
+      numbers_ends k d (rw many_starts before)
+      ∙ ap (λ (x : OverlayLink I D). if names_node k seconds then with_end m x else x) (numbers_starts k d before)
+      ∙ ap (numbered_at m (names_node k firsts) (names_node k seconds)) (up.numbers k d h)
+      ∙ ap₂ (λ (s t : Bool). numbered_at m s t (numbered_to whole pairs m l)) (named (λ s. s.a) firsts of_starts k d h) (named (λ s. s.b) seconds of_ends k d h)
+      ∙ ap (λ q. numbered_at m (point_eq (point_of whole l.a.point) q) (point_eq (point_of whole l.b.point) q) (numbered_to whole pairs m l)) (sym (at_node p))
+      ∙ sym (numbered_next whole pairs m p l inside ha hb)
 
   pub connected_next : IsConnectedUpTo indexes is_canonical whole given next_start next_end (nodes ++ node ∷ []) more
   connected_next =
@@ -461,7 +476,7 @@ module _ {N I D : Type 0} (indexes : N → List ℕ) (is_canonical : N → Bool)
         few = rw longer (omega (arith, inside));
         made = rw longer made_next;
         form = list_all-append is_canonical nodes (node ∷ []) ∙ ap₂ (λ a b. a && (b && true)) up.form canonical;
-        as_many = as_many ∙ up.as_many;
+        as_many = as_many ∙ many_starts ∙ up.as_many;
         numbers = rw longer numbers_next;
         firsts = rw longer (reached_next pairs (numbered_starts pairs) (starts_are_ends pairs sorted) p start next_start (length nodes) there number up.firsts first);
         seconds = rw longer (reached_next pairs (sorted_ends_of pairs) (seconds_are_ends pairs) p end next_end (length nodes) there number up.seconds second);
