@@ -59,7 +59,7 @@ pub(crate) fn corner_of<I: OverlayInt>(
     }
 }
 
-/// Compares a coordinate with two others: four comparisons answer both questions.
+/// Compares a coordinate with two others, by four comparisons in all.
 #[inline(always)]
 fn relation_of<I: OverlayInt>(one: I, other: I, coordinate: I) -> Relation
     ensures inside { result.is_inside ≡ is_strictly_between (I.whole one) (I.whole other) (I.whole coordinate) }
