@@ -2,18 +2,19 @@
 // vertical one, turns those of all others. Upstream: `split::solver_list` and its callers.
 ghost use Rattle.std.specs.Prelude.{◌≡◌, ◌≢◌, ◌<◌, ◌+◌, ◌-◌, ◌++◌, [], ◌∷◌, if◌then◌else◌, IfOk, OnOk, IsTrue, IsFalse};
 ghost use Rattle.overlay_geometry.specs.Points.{pair_lt};
-ghost use Rattle.overlay_geometry.specs.Meeting.{are_collinear};
+ghost use Rattle.overlay_geometry.specs.Meeting.{are_collinear, do_cross};
 ghost use Rattle.overlay_geometry.specs.PointOf.{point_of};
 ghost use Rattle.overlay_geometry.specs.PairOf.{pair_of};
 ghost use Rattle.overlay_geometry.specs.InRange.{IsPairInRange};
 ghost use Rattle.overlay_intersections.specs.PlacingOf.{HasRadius};
 ghost use Rattle.overlay_intersections.specs.MarkOf.{marks_of};
 ghost use Rattle.overlay_intersections.specs.MarksBetween.{marks_at, marks_of_overlap};
-ghost use Rattle.overlay_intersections.specs.steps.AddedMarks.{AddsMark, AddsMarksBetween, do_cross_inexactly};
+ghost use Rattle.overlay_intersections.specs.steps.AddedMarks.{AddsMark, AddsMarksBetween, AddsMarksOf, do_cross_inexactly};
+ghost use Rattle.overlay_intersections.specs.declared.split.cross.result.CrossType.TheVariants.{Overlay};
 
-use crate::split::cross::contact::are_apart;
+use crate::split::cross::contact::{Contact, contact_of, part_at_end};
 use crate::split::cross::corner::{are_horizontal_and_vertical, corner_of};
-use crate::split::cross_solver::{CrossSolver, CrossType};
+use crate::split::cross_solver::{CrossResult, CrossSolver, CrossType};
 use crate::split::line_mark::LineMark;
 use crate::split::placing::Placing;
 use overlay_geometry::geom::point::IntPoint;
@@ -61,15 +62,19 @@ pub fn mark_both<I: OverlayInt>(
         mark_if(corner.splits_horizontal, second.index, corner.point, marks)?;
         return Ok(false);
     }
-    if are_apart(&first.x_segment, &second.x_segment) {
+    if part_at_end(&first.x_segment, &second.x_segment) {
         return Ok(false);
     }
-    mark_met(first, second, placing, marks)
+    match contact_of(&first.x_segment, &second.x_segment) {
+        Contact::Apart => Ok(false),
+        Contact::At(met) => mark_result(first, second, met, marks),
+        Contact::Crossing => mark_crossing(first, second, placing, marks),
+    }
 }
 
-/// The same, mostly of two that are not apart: most pairs are, so that this stays out of the loops over pairs.
+/// The same, of two that cross strictly inside both. Most pairs do not, so that this stays out of the loops over pairs.
 #[inline(never)]
-fn mark_met<I: OverlayInt>(
+fn mark_crossing<I: OverlayInt>(
     first: Indexed<I>,
     second: Indexed<I>,
     placing: Placing,
@@ -81,22 +86,42 @@ fn mark_met<I: OverlayInt>(
     requires first_apart { (pair_of I.whole first.x_segment).a ≢ (pair_of I.whole first.x_segment).b }
     requires second_apart { (pair_of I.whole second.x_segment).a ≢ (pair_of I.whole second.x_segment).b }
     requires order { IsFalse (pair_lt (pair_of I.whole second.x_segment) (pair_of I.whole first.x_segment)) }
+    requires crossing { IsTrue (do_cross (pair_of I.whole first.x_segment) (pair_of I.whole second.x_segment)) }
     ensures marks { OnOk result (AddsMarksBetween I.whole placing first second marks.old.items marks.new.items) }
     ensures rounded { IfOk result (λ rounded. rounded ≡ do_cross_inexactly I.whole first second) }
 {
-    let Some(result) = placing.meet(&first.x_segment, &second.x_segment) else {
-        return Ok(false);
-    };
-    match result.cross_type {
+    let met = placing.place(&first.x_segment, &second.x_segment);
+    mark_result(first, second, met, marks)
+}
+
+/// Appends the marks that a result stands for, and returns whether its point is rounded. Few pairs have a result, so
+/// that this stays out of the loops over pairs as well.
+#[inline(never)]
+fn mark_result<I: OverlayInt>(
+    first: Indexed<I>,
+    second: Indexed<I>,
+    met: CrossResult<I>,
+    marks: &mut Vec<LineMark<I>>,
+) -> Result<bool, AllocError>
+    requires first { IsPairInRange I.whole I.MIN_COORD I.MAX_COORD first.x_segment }
+    requires second { IsPairInRange I.whole I.MIN_COORD I.MAX_COORD second.x_segment }
+    requires first_apart { (pair_of I.whole first.x_segment).a ≢ (pair_of I.whole first.x_segment).b }
+    requires second_apart { (pair_of I.whole second.x_segment).a ≢ (pair_of I.whole second.x_segment).b }
+    requires line { met.cross_type ≡ Overlay →
+        IsTrue (are_collinear (pair_of I.whole first.x_segment) (pair_of I.whole second.x_segment)) }
+    ensures marks { OnOk result (AddsMarksOf I.whole met first second marks.old.items marks.new.items) }
+    ensures rounded { IfOk result (λ rounded. rounded ≡ met.is_round) }
+{
+    match met.cross_type {
         CrossType::Pure => {
-            mark(first.index, result.point, marks)?;
-            mark(second.index, result.point, marks)?;
+            mark(first.index, met.point, marks)?;
+            mark(second.index, met.point, marks)?;
         }
-        CrossType::TargetEnd => mark(second.index, result.point, marks)?,
-        CrossType::OtherEnd => mark(first.index, result.point, marks)?,
+        CrossType::TargetEnd => mark(second.index, met.point, marks)?,
+        CrossType::OtherEnd => mark(first.index, met.point, marks)?,
         CrossType::Overlay => mark_overlap(first, second, marks)?,
     }
-    Ok(result.is_round)
+    Ok(met.is_round)
 }
 
 /// Appends marks at those ends of each that lie strictly inside the other, of two segments on one line.

@@ -1,10 +1,13 @@
 // How a pass places the crossings that have no whole coordinates. The settling passes are this project's own.
-ghost use Rattle.std.specs.Prelude.{◌≢◌};
+ghost use Rattle.std.specs.Prelude.{◌≢◌, IsTrue};
+ghost use Rattle.overlay_geometry.specs.Meeting.{do_cross};
 ghost use Rattle.overlay_geometry.specs.PairOf.{pair_of};
 ghost use Rattle.overlay_geometry.specs.InRange.{IsPairInRange};
-ghost use Rattle.overlay_intersections.specs.AnswerOf.{IsCrossAnswer};
+ghost use Rattle.overlay_intersections.specs.AnswerOf.{IsCrossAnswer, IsCrossingAnswer};
 ghost use Rattle.overlay_intersections.specs.PlacingOf.{placing_of, HasRadius};
 
+use crate::split::cross::settled::settled;
+use crate::split::cross::snapped::snapped;
 use crate::split::cross_solver::{CrossResult, CrossSolver};
 use overlay_geometry::geom::x_segment::XSegment;
 use overlay_geometry::num::OverlayInt;
@@ -40,6 +43,26 @@ impl Placing {
                 radius_squared,
             ),
             Placing::Settling => CrossSolver::cross_settled(target, other),
+        }
+    }
+
+    /// Where a target meets another segment that crosses it strictly inside both. Both have to be in range, and a
+    /// squared radius at least 1.
+    #[inline(always)]
+    pub(crate) fn place<I: OverlayInt>(
+        self,
+        target: &XSegment<I>,
+        other: &XSegment<I>,
+    ) -> CrossResult<I>
+        requires radius { HasRadius self }
+        requires target { IsPairInRange I.whole I.MIN_COORD I.MAX_COORD target.now }
+        requires other { IsPairInRange I.whole I.MIN_COORD I.MAX_COORD other.now }
+        requires crossing { IsTrue (do_cross (pair_of I.whole target.now) (pair_of I.whole other.now)) }
+        ensures { IsCrossingAnswer I.whole (placing_of self) target.now other.now result }
+    {
+        match self {
+            Placing::Snapping { radius_squared } => snapped(target, other, radius_squared),
+            Placing::Settling => settled(target, other),
         }
     }
 }

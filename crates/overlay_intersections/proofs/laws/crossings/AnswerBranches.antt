@@ -116,7 +116,7 @@ when_beside_back placing s t h k m =
     when_apart placing s t sides (record { s_apart = h; t_apart = k; are_sides = record { other_a_is = refl; other_b_is = refl; target_a_is = refl; target_b_is = refl } }) tests.0 tests.1
 
 -- an end is shared, and the four ends are not on one line
-pub when_shared : (placing : Placing) (s t : Pair) (sides : EndSides) → Sided s t sides → 1 < zeros_of sides → zeros_of sides < 4 → cross_answer placing s t ≡ None
+when_shared : (placing : Placing) (s t : Pair) (sides : EndSides) → Sided s t sides → 1 < zeros_of sides → zeros_of sides < 4 → cross_answer placing s t ≡ None
 when_shared placing s t sides k h m = when_apart placing s t sides k (λ e. absurd (omega arith)) (or_left (nat_lt 1 (zeros_of sides)) (int_eq sides.other_a sides.other_b || int_eq sides.target_a sides.target_b) (nat_lt-test 1 (zeros_of sides) h))
 
 -- of the other's two ends one lies on the target's line, and an end of the target on the other's
@@ -152,7 +152,7 @@ share_end placing s t p q hs ht ps pt qt n =
     (one_lies_on t p s.a s.b _ _ tests.zero_target_a tests.zero_target_b ps (end_on t p pt)) in
     when_shared placing s t sides sided zeros.0 zeros.1
 
--- where one of three pairs of ends is one point, and q, the end of t that is not shared, does not lie on the line of s
+-- three tests whether two ends are one point, and q, the end of t that is not shared, does not lie on the line of s
 pub when_parted : (placing : Placing) (s t : Pair) (q : Point) (b c d : Bool) → s.a ≢ s.b → t.a ≢ t.b → b ≡ point_eq s.b t.b → c ≡ point_eq s.b t.a → d ≡ point_eq s.a t.a →
     ((b || c) || d) ≡ true → ((b ≡ true) × (q ≡ t.a)) ⊎ ((b ≡ false) × (q ≡ t.b)) → not (int_eq (turn s.a s.b q) (pos 0)) ≡ true → cross_answer placing s t ≡ None
 when_parted placing s t q true c d hs ht eb ec ed h (inl k) n = share_end placing s t s.b q hs ht (inr refl) (inr (same_by_eq s.b t.b (sym eb))) (inl k.1) n

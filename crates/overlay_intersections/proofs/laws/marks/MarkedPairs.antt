@@ -7,9 +7,10 @@ use Rattle.overlay_geometry.specs.Points.{Point, Pair, pair_cmp, pair_lt, is_end
 use Rattle.overlay_geometry.specs.Meeting.{are_collinear, do_cross}
 use Rattle.overlay_geometry.proofs.laws.geometry.Points.{turn_same_outer, turn_same_last, pair_cmp_total, pair_same}
 use Rattle.overlay_intersections.specs.Marks.{Placing, crossing_mark, marks_by, cross_inexactly}
-use Rattle.overlay_intersections.specs.CrossAnswer.{CrossAnswer, pure, target_end, other_end, overlay, cross_answer, crossing_answer, touch_answer, kind_of_point, target_marks, other_marks}
+use Rattle.overlay_intersections.specs.CrossAnswer.{CrossAnswer, pure, target_end, other_end, overlay, answer_at, cross_answer, crossing_answer, touch_answer, kind_of_point, target_marks, other_marks}
 use Rattle.overlay_intersections.specs.MarkOf.{Mark}
 use Rattle.overlay_intersections.specs.MarksBetween.{marks_at, marks_of_overlap, marks_between}
+use Rattle.overlay_intersections.specs.steps.AddedMarks.{marks_of_answer}
 use Rattle.overlay_intersections.proofs.laws.crossings.AnswerMarks.{by_bool, answers_are_marks, overlay_marks, collinear_from, collinear_do_not_cross}
 
 -- ---- whether the result is rounded
@@ -55,8 +56,8 @@ answered placing s t h = elim (same_or_less s t h) [
   | inr less ↦ answers_are_marks placing s t less
 ]
 
-between_answer : (placing : Placing) (i : ℕ) (s : Pair) (j : ℕ) (t : Pair) (answer : Option CrossAnswer) → pair_lt t s ≡ false → answer ≡ cross_answer placing s t →
-    marks_between placing i s j t ≡ marks_at i (target_marks s t answer) ++ marks_at j (other_marks s t answer)
+pub between_answer : (placing : Placing) (i : ℕ) (s : Pair) (j : ℕ) (t : Pair) (answer : Option CrossAnswer) → pair_lt t s ≡ false → answer ≡ cross_answer placing s t →
+    marks_between placing i s j t ≡ marks_of_answer i s j t answer
 unfolding marks_between
 between_answer placing i s j t answer h e =
     let a = answered placing s t h in
@@ -66,25 +67,22 @@ pub between_none : (placing : Placing) (i : ℕ) (s : Pair) (j : ℕ) (t : Pair)
 unfolding target_marks other_marks
 between_none placing i s j t h e = between_answer placing i s j t None h e
 
-pub between_pure : (placing : Placing) (i : ℕ) (s : Pair) (j : ℕ) (t : Pair) (p : Point) (b : Bool) → pair_lt t s ≡ false → Some (record { kind = pure; point = p; is_rounded = b }) ≡ cross_answer placing s t →
-    marks_between placing i s j t ≡ marks_at i (p ∷ []) ++ marks_at j (p ∷ [])
+-- what each kind of result stands for
+pub marks_of_pure : (i : ℕ) (s : Pair) (j : ℕ) (t : Pair) (p : Point) (b : Bool) → marks_of_answer i s j t (answer_at pure p b) ≡ marks_at i (p ∷ []) ++ marks_at j (p ∷ [])
 unfolding target_marks other_marks
-between_pure placing i s j t p b h e = between_answer placing i s j t (Some (record { kind = pure; point = p; is_rounded = b })) h e
+marks_of_pure i s j t p b = refl
 
-pub between_target_end : (placing : Placing) (i : ℕ) (s : Pair) (j : ℕ) (t : Pair) (p : Point) (b : Bool) → pair_lt t s ≡ false → Some (record { kind = target_end; point = p; is_rounded = b }) ≡ cross_answer placing s t →
-    marks_between placing i s j t ≡ marks_at j (p ∷ [])
+pub marks_of_target_end : (i : ℕ) (s : Pair) (j : ℕ) (t : Pair) (p : Point) (b : Bool) → marks_of_answer i s j t (answer_at target_end p b) ≡ marks_at j (p ∷ [])
 unfolding target_marks other_marks
-between_target_end placing i s j t p b h e = between_answer placing i s j t (Some (record { kind = target_end; point = p; is_rounded = b })) h e
+marks_of_target_end i s j t p b = refl
 
-pub between_other_end : (placing : Placing) (i : ℕ) (s : Pair) (j : ℕ) (t : Pair) (p : Point) (b : Bool) → pair_lt t s ≡ false → Some (record { kind = other_end; point = p; is_rounded = b }) ≡ cross_answer placing s t →
-    marks_between placing i s j t ≡ marks_at i (p ∷ [])
+pub marks_of_other_end : (i : ℕ) (s : Pair) (j : ℕ) (t : Pair) (p : Point) (b : Bool) → marks_of_answer i s j t (answer_at other_end p b) ≡ marks_at i (p ∷ [])
 unfolding target_marks other_marks
-between_other_end placing i s j t p b h e = between_answer placing i s j t (Some (record { kind = other_end; point = p; is_rounded = b })) h e
+marks_of_other_end i s j t p b = refl
 
-pub between_overlay : (placing : Placing) (i : ℕ) (s : Pair) (j : ℕ) (t : Pair) (p : Point) (b : Bool) → pair_lt t s ≡ false → Some (record { kind = overlay; point = p; is_rounded = b }) ≡ cross_answer placing s t →
-    marks_between placing i s j t ≡ marks_of_overlap i s j t
+pub marks_of_overlay : (i : ℕ) (s : Pair) (j : ℕ) (t : Pair) (p : Point) (b : Bool) → marks_of_answer i s j t (answer_at overlay p b) ≡ marks_of_overlap i s j t
 unfolding target_marks other_marks marks_of_overlap
-between_overlay placing i s j t p b h e = between_answer placing i s j t (Some (record { kind = overlay; point = p; is_rounded = b })) h e
+marks_of_overlay i s j t p b = refl
 
 -- only two on one line overlap
 abbrev overlaps : Option CrossAnswer → Bool

@@ -46,6 +46,9 @@ pub fn contact_of<I: OverlayInt>(target: &XSegment<I>, other: &XSegment<I>) -> C
     if lies_beside(target, other) {
         return Contact::Apart;
     }
+    if lies_beside(other, target) {
+        return Contact::Apart;
+    }
     let sides = sides_of(target, other);
     let zeros = sides.zeros();
     if zeros == 4 {
@@ -65,33 +68,10 @@ pub fn contact_of<I: OverlayInt>(target: &XSegment<I>, other: &XSegment<I>) -> C
     }
 }
 
-/// Whether two segments, each with ends that differ, have no point in common by the sides of their ends, or only an end of
-/// both. A shared end is tested first, as it takes one turn in place of four.
-#[inline(always)]
-pub(crate) fn are_apart<I: OverlayInt>(target: &XSegment<I>, other: &XSegment<I>) -> bool
-    requires target { IsPairInRange I.whole I.MIN_COORD I.MAX_COORD target.now }
-    requires other { IsPairInRange I.whole I.MIN_COORD I.MAX_COORD other.now }
-    requires target_apart { (pair_of I.whole target.now).a ≢ (pair_of I.whole target.now).b }
-    requires other_apart { (pair_of I.whole other.now).a ≢ (pair_of I.whole other.now).b }
-    ensures { result ≡ true → IsContact I.whole (pair_of I.whole target.now) (pair_of I.whole other.now) Apart }
-{
-    if part_at_end(target, other) {
-        return true;
-    }
-    if lies_beside(target, other) {
-        return true;
-    }
-    if lies_beside(other, target) {
-        return true;
-    }
-    let zeros = sides_of(target, other).zeros();
-    1 < zeros && zeros < 4
-}
-
 /// Whether two segments, each with ends that differ, share an end and lie on two lines: they have no other point in common.
 /// Most pairs whose boxes meet are neighbors that share an end, and one turn decides these.
 #[inline(always)]
-fn part_at_end<I: OverlayInt>(target: &XSegment<I>, other: &XSegment<I>) -> bool
+pub(crate) fn part_at_end<I: OverlayInt>(target: &XSegment<I>, other: &XSegment<I>) -> bool
     requires target { IsPairInRange I.whole I.MIN_COORD I.MAX_COORD target.now }
     requires other { IsPairInRange I.whole I.MIN_COORD I.MAX_COORD other.now }
     requires target_apart { (pair_of I.whole target.now).a ≢ (pair_of I.whole target.now).b }

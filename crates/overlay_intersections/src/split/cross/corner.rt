@@ -19,6 +19,15 @@ pub(crate) struct Corner<I> {
     pub(crate) splits_vertical: bool,
 }
 
+/// How a coordinate lies to two others, whichever of the two is less.
+#[derive(Clone, Copy)]
+struct Relation {
+    /// Whether it lies strictly between them.
+    is_inside: bool,
+    /// Whether it lies between them, or is one of them.
+    is_between: bool,
+}
+
 /// Whether the first of two segments is horizontal and the second vertical.
 #[inline(always)]
 pub(crate) fn are_horizontal_and_vertical<I: OverlayInt>(
@@ -41,29 +50,25 @@ pub(crate) fn corner_of<I: OverlayInt>(
     ensures { IsCorner I.whole (pair_of I.whole horizontal.now) (pair_of I.whole vertical.now) result }
 {
     let point = IntPoint::new(vertical.a.x, horizontal.a.y);
-    let inside_in_x = lies_inside(horizontal.a.x, horizontal.b.x, point.x);
-    let inside_in_y = lies_inside(vertical.a.y, vertical.b.y, point.y);
-    let on_in_x = lies_between(horizontal.a.x, horizontal.b.x, point.x);
-    let on_in_y = lies_between(vertical.a.y, vertical.b.y, point.y);
+    let in_x = relation_of(horizontal.a.x, horizontal.b.x, point.x);
+    let in_y = relation_of(vertical.a.y, vertical.b.y, point.y);
     Corner {
         point,
-        splits_horizontal: inside_in_x & on_in_y,
-        splits_vertical: inside_in_y & on_in_x,
+        splits_horizontal: in_x.is_inside & in_y.is_between,
+        splits_vertical: in_y.is_inside & in_x.is_between,
     }
 }
 
-/// Whether a coordinate lies strictly between two others, whichever is less.
+/// Compares a coordinate with two others, by four comparisons in all.
 #[inline(always)]
-fn lies_inside<I: OverlayInt>(one: I, other: I, coordinate: I) -> bool
-    ensures { result ≡ is_strictly_between (I.whole one) (I.whole other) (I.whole coordinate) }
+fn relation_of<I: OverlayInt>(one: I, other: I, coordinate: I) -> Relation
+    ensures inside { result.is_inside ≡ is_strictly_between (I.whole one) (I.whole other) (I.whole coordinate) }
+    ensures between { result.is_between ≡ is_between (I.whole one) (I.whole other) (I.whole coordinate) }
 {
-    ((one < coordinate) & (coordinate < other)) | ((other < coordinate) & (coordinate < one))
-}
-
-/// Whether a coordinate lies from one to another, whichever is less.
-#[inline(always)]
-fn lies_between<I: OverlayInt>(one: I, other: I, coordinate: I) -> bool
-    ensures { result ≡ is_between (I.whole one) (I.whole other) (I.whole coordinate) }
-{
-    ((one <= coordinate) & (coordinate <= other)) | ((other <= coordinate) & (coordinate <= one))
+    let is_end = (one == coordinate) | (other == coordinate);
+    let separates = (one < coordinate) != (other < coordinate);
+    Relation {
+        is_inside: separates & !is_end,
+        is_between: separates | is_end,
+    }
 }

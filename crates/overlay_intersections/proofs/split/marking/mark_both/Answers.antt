@@ -1,23 +1,25 @@
 use Rattle.std.proofs.Common.{sym, ap, ◌∙◌, append-nil}
+use Rattle.std.specs.Prelude.{Some}
 use Rattle.std.proofs.lemmas.Bool.{and_parts}
 use Rattle.overlay_geometry.specs.Points.{is_horizontal, is_vertical}
 use Rattle.overlay_geometry.specs.PairOf.{pair_of}
 use Rattle.overlay_geometry.specs.PointOf.{point_of}
+use Rattle.overlay_intersections.specs.AnswerOf.{result_of}
 use Rattle.overlay_intersections.specs.PlacingOf.{placing_of}
 use Rattle.overlay_intersections.specs.MarkOf.{marks_of}
 use Rattle.overlay_intersections.specs.steps.CornerOf.{corner}
 use Rattle.overlay_intersections.proofs.laws.marks.AxisPairs.{ShareOnly-swap, crosses_exactly, point_appended, share_corner}
-use Rattle.overlay_intersections.proofs.laws.marks.MarkedPairs.{answer_is_rounded, answer_is_rounded-is, between_none}
+use Rattle.overlay_intersections.proofs.laws.marks.MarkedPairs.{answer_is_rounded, answer_is_rounded-is, between_none, between_answer, overlay_is_collinear}
 use Rattle.overlay_intersections.proofs.split.marking.mark_both.Goals as goal
 
-pub returns-then-are_apart-clause-marks : goal.returns-then-are_apart-clause-marks
-returns-then-are_apart-clause-marks g c =
-    let e = sym (c.are_apart.ensures c.if-are_apart.true (placing_of c.args.placing)) in
+pub returns-then-part_at_end-clause-marks : goal.returns-then-part_at_end-clause-marks
+returns-then-part_at_end-clause-marks g c =
+    let e = sym (c.part_at_end.ensures c.if-part_at_end.true (placing_of c.args.placing)) in
     rw (between_none (placing_of c.args.placing) c.args.first.index (pair_of g.I.OverlayInt.whole c.args.first.x_segment) c.args.second.index (pair_of g.I.OverlayInt.whole c.args.second.x_segment) c.requires.order e) (sym (append-nil _))
 
-pub returns-then-are_apart-clause-rounded : goal.returns-then-are_apart-clause-rounded
-returns-then-are_apart-clause-rounded g c =
-    let e = sym (c.are_apart.ensures c.if-are_apart.true (placing_of c.args.placing)) in
+pub returns-then-part_at_end-clause-rounded : goal.returns-then-part_at_end-clause-rounded
+returns-then-part_at_end-clause-rounded g c =
+    let e = sym (c.part_at_end.ensures c.if-part_at_end.true (placing_of c.args.placing)) in
     ap answer_is_rounded e ∙ answer_is_rounded-is (placing_of c.args.placing) (pair_of g.I.OverlayInt.whole c.args.first.x_segment) (pair_of g.I.OverlayInt.whole c.args.second.x_segment)
 
 pub returns-then-are_horizontal_and_vertical-clause-marks : goal.returns-then-are_horizontal_and_vertical-clause-marks
@@ -61,3 +63,28 @@ returns-then-are_horizontal_and_vertical-2-clause-rounded g c =
     let t = pair_of g.I.OverlayInt.whole c.args.second.x_segment in
     let axes = and_parts (is_horizontal t) (is_vertical s) (sym c.are_horizontal_and_vertical-2.ensures ∙ c.if-are_horizontal_and_vertical-2.true) in
     sym (crosses_exactly s t (corner t s) (ShareOnly-swap t s (corner t s) (share_corner t s axes.0 axes.1 c.requires.second_apart c.requires.first_apart)))
+
+pub returns-in-Apart-clause-marks : goal.returns-in-Apart-clause-marks
+returns-in-Apart-clause-marks g c =
+    let e = sym (c.in-Apart.ensures (placing_of c.args.placing)) in
+    rw (between_none (placing_of c.args.placing) c.args.first.index (pair_of g.I.OverlayInt.whole c.args.first.x_segment) c.args.second.index (pair_of g.I.OverlayInt.whole c.args.second.x_segment) c.requires.order e) (sym (append-nil _))
+
+pub returns-in-Apart-clause-rounded : goal.returns-in-Apart-clause-rounded
+returns-in-Apart-clause-rounded g c =
+    let e = sym (c.in-Apart.ensures (placing_of c.args.placing)) in
+    ap answer_is_rounded e ∙ answer_is_rounded-is (placing_of c.args.placing) (pair_of g.I.OverlayInt.whole c.args.first.x_segment) (pair_of g.I.OverlayInt.whole c.args.second.x_segment)
+
+pub mark_result-requires-clause-line : goal.mark_result-requires-clause-line
+mark_result-requires-clause-line g c = λ is_overlay.
+    let e = sym (c.in-At.ensures (placing_of c.args.placing)) in
+    overlay_is_collinear (placing_of c.args.placing) (pair_of g.I.OverlayInt.whole c.args.first.x_segment) (pair_of g.I.OverlayInt.whole c.args.second.x_segment) (point_of g.I.OverlayInt.whole c.in-At.met.point) c.in-At.met.is_round (rw is_overlay at e)
+
+pub returns-in-At-clause-marks : goal.returns-in-At-clause-marks
+returns-in-At-clause-marks g c =
+    let e = sym (c.in-At.ensures (placing_of c.args.placing)) in
+    rw (between_answer (placing_of c.args.placing) c.args.first.index (pair_of g.I.OverlayInt.whole c.args.first.x_segment) c.args.second.index (pair_of g.I.OverlayInt.whole c.args.second.x_segment) (Some (result_of g.I.OverlayInt.whole c.in-At.met)) c.requires.order e) c.mark_result.ensures.marks
+
+pub returns-in-At-clause-rounded : goal.returns-in-At-clause-rounded
+returns-in-At-clause-rounded g c =
+    let e = sym (c.in-At.ensures (placing_of c.args.placing)) in
+    rw (sym (answer_is_rounded-is (placing_of c.args.placing) (pair_of g.I.OverlayInt.whole c.args.first.x_segment) (pair_of g.I.OverlayInt.whole c.args.second.x_segment)) ∙ ap answer_is_rounded (sym e)) c.mark_result.ensures.rounded

@@ -4,11 +4,14 @@ use Rattle.overlay_geometry.specs.PairOf.{pair_of}
 use Rattle.std.specs.Prelude.{false}
 use Rattle.overlay_intersections.specs.CrossAnswer.{overlay, answer_at}
 use Rattle.overlay_intersections.proofs.laws.crossings.Bits.{zero_bits, some_bits}
-use Rattle.overlay_intersections.proofs.laws.crossings.AnswerBranches.{Sided, when_beside, Touching, when_overlay, when_apart, when_crossing, when_other_a, when_other_b, when_target_a, when_target_b}
+use Rattle.overlay_intersections.proofs.laws.crossings.AnswerBranches.{Sided, when_beside, when_beside_back, Touching, when_overlay, when_apart, when_crossing, when_other_a, when_other_b, when_target_a, when_target_b}
 use Rattle.overlay_intersections.proofs.split.cross.contact.contact_of.Goals as goal
 
 pub returns-then-lies_beside : goal.returns-then-lies_beside
 returns-then-lies_beside g c = λ placing. when_beside placing (pair_of g.I.OverlayInt.whole c.args.target.now) (pair_of g.I.OverlayInt.whole c.args.other.now) c.requires.target_apart c.requires.other_apart (sym c.lies_beside.ensures ∙ c.if-lies_beside.true)
+
+pub returns-then-lies_beside-2 : goal.returns-then-lies_beside-2
+returns-then-lies_beside-2 g c = λ placing. when_beside_back placing (pair_of g.I.OverlayInt.whole c.args.target.now) (pair_of g.I.OverlayInt.whole c.args.other.now) c.requires.target_apart c.requires.other_apart (sym c.lies_beside-2.ensures ∙ c.if-lies_beside-2.true)
 
 pub returns-then-zeros-eq4 : goal.returns-then-zeros-eq4
 returns-then-zeros-eq4 g c =

@@ -14,8 +14,8 @@ returns g c =
     let y : whole at.y ≡ h.a.y = ap (λ (p : Point). p.y) c.new-point.ensures in
     record {
       point_is = c.new-point.ensures;
-      horizontal_is = splits_horizontal h v (whole at.x) (whole at.y) c.lies_inside-inside_in_x.result c.lies_between-on_in_y.result
-          c.requires.horizontal c.requires.vertical x y c.lies_inside-inside_in_x.ensures c.lies_between-on_in_y.ensures;
-      vertical_is = splits_vertical h v (whole at.x) (whole at.y) c.lies_inside-inside_in_y.result c.lies_between-on_in_x.result
-          c.requires.horizontal c.requires.vertical x y c.lies_inside-inside_in_y.ensures c.lies_between-on_in_x.ensures;
+      horizontal_is = splits_horizontal h v (whole at.x) (whole at.y) c.relation_of-in_x.result.is_inside c.relation_of-in_y.result.is_between
+          c.requires.horizontal c.requires.vertical x y c.relation_of-in_x.ensures.inside c.relation_of-in_y.ensures.between;
+      vertical_is = splits_vertical h v (whole at.x) (whole at.y) c.relation_of-in_y.result.is_inside c.relation_of-in_x.result.is_between
+          c.requires.horizontal c.requires.vertical x y c.relation_of-in_y.ensures.inside c.relation_of-in_x.ensures.between;
     }
