@@ -6,6 +6,7 @@ pub mod builder;
 pub mod clip_filter;
 pub mod connect_links;
 pub mod directed_walks;
+mod end_parts;
 mod fills;
 pub mod filter;
 pub mod graph;

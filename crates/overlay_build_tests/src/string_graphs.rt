@@ -131,6 +131,22 @@ fn corner() -> [Line; 3]
     ]
 }
 
+// Two rings side by side. The lower side of each ends behind the next side, where the last one ends.
+fn two_rings() -> [Line; 8]
+    ensures { IsTrue (is_arranged least_coordinate greatest_coordinate (segments_of result)) }
+{
+    [
+        line(0, 0, 1, 1, 0, 1),
+        line(0, 0, 4, 0, 0, 1),
+        line(1, 1, 2, 1, 0, 1),
+        line(2, 1, 4, 0, 0, 1),
+        line(5, 0, 6, 1, 0, 1),
+        line(5, 0, 9, 0, 0, 1),
+        line(6, 1, 7, 1, 0, 1),
+        line(7, 1, 9, 0, 0, 1),
+    ]
+}
+
 /// Appends the links of each node to a list, as many numbers before them.
 fn list_nodes(rt: &impl Abort, nodes: &[Vec<usize>], listed: &mut Vec<usize>) {
     for node in nodes {
@@ -145,6 +161,11 @@ fn list_nodes(rt: &impl Abort, nodes: &[Vec<usize>], listed: &mut Vec<usize>) {
 const CROSSED: [usize; 36] = [
     1, 0, 1, 1, 1, 2, 4, 3, 4, 0, 2, 4, 5, 6, 1, 3, 1, 5, 1, 7, 4, 8, 9, 4, 7, 4, 10, 11, 6, 8, 1,
     10, 1, 9, 1, 11,
+];
+
+/// The same for the two rings.
+const RINGS: [usize; 24] = [
+    2, 0, 1, 2, 2, 0, 2, 3, 2, 2, 1, 3, 2, 4, 5, 2, 6, 4, 2, 7, 6, 2, 5, 7,
 ];
 
 #[test]
@@ -168,6 +189,10 @@ fn nodes_list_links_that_start_before_those_that_end(rt: HostRuntime) {
             listed.as_slice(),
             [1, 0, 2, 1, 0, 2, 2, 1, 1, 2].as_slice()
         );
+        listed.clear();
+        let graph = build_all(&rt, &mut builder, FillRule::NonZero, &solver, &two_rings());
+        list_nodes(&rt, graph.nodes(), &mut listed);
+        assert_eq!(rt; listed.as_slice(), RINGS.as_slice());
     }
 }
 

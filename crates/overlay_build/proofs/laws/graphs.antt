@@ -7,6 +7,7 @@ pub mod GraphBlocks
 pub mod GraphExact
 pub mod GraphValid
 pub mod PackedEnds
+pub mod StableEnds
 pub mod NodeLists
 pub mod LinkViews
 pub mod DealtEnds

@@ -13,6 +13,7 @@ ghost use Rattle.overlay_build.specs.steps.LinkEnds.{numbered_ends, ends_where};
 ghost use Rattle.overlay_build.specs.steps.LinksOf.{starts_of, by_point, AreEndsInRange, IsNextPoint, IsRunAt, indexes_between};
 ghost use Rattle.overlay_build.specs.steps.LinksOf.{AreNumberedAt};
 
+use crate::build::end_parts::sort_end_parts;
 use crate::build::numbered_link::NumberedLink;
 use overlay_base::segm::fault::Fault;
 use overlay_geometry::geom::point::IntPoint;
@@ -49,8 +50,9 @@ fn from_least<I: OverlayInt>(coordinate: I) -> u64
 
 /// Collects the second ends of all links, each with its link's index. Those at one point are in the order of their links.
 ///
-/// Where the ends rise from link to link, they keep that order. Elsewhere those of the vertical links come after the others:
-/// on a grid of lines along the axes each of the two parts rises, so a sort finds two runs.
+/// Where the ends rise from link to link, they keep that order. Elsewhere, if many links are vertical, their ends come after
+/// the others: on a grid of lines along the axes each of the two parts rises, so a sort finds two runs. In other lists each
+/// part is sorted by itself.
 pub fn collect_ends<L: NumberedLink>(links: &[L], ends: &mut Vec<PackedEnd>) -> Result<(), Fault>
     requires ordered { All (λ l. IsTrue (point_lt (point_of L.Coordinate.whole l.a.point)
         (point_of L.Coordinate.whole l.b.point))) (map L.link links.now) }
@@ -65,13 +67,23 @@ pub fn collect_ends<L: NumberedLink>(links: &[L], ends: &mut Vec<PackedEnd>) -> 
     if do_ends_rise(links) {
         return append_ends(links, ends);
     }
-    append_ends_where(links, false, ends)?;
-    append_ends_where(links, true, ends)
+    if are_many_vertical(links) {
+        append_ends_where(links, false, ends)?;
+        return append_ends_where(links, true, ends);
+    }
+    append_ends(links, ends)?;
+    sort_end_parts(ends)
 }
 
 /// Whether the second ends are in order as the links are.
 fn do_ends_rise<L: NumberedLink>(links: &[L]) -> bool {
     links.iter().map(|link| link.end()).is_sorted()
+}
+
+/// Whether at least one link in eight is vertical.
+fn are_many_vertical<L: NumberedLink>(links: &[L]) -> bool {
+    let verticals = links.iter().filter(|link| is_vertical(*link)).count();
+    links.len() <= verticals.saturating_mul(8)
 }
 
 /// Appends the second ends of all links, each with its link's index.

@@ -28,7 +28,20 @@ dealt whole links none slanted all ordered sorted empty first second =
     let each = AllByRecursion-map (λ s. is_ordered s ≡ true) (λ l. (link_of whole l).pair) links (recursion_from_All _ links ordered) in
     rw behind (ends_where-stable (pairs_of_links whole links) (IsStrictlySortedBy-from_test pair_cmp_total _ sorted) each)
 
+-- those of all links behind none, each part sorted
+in_parts : {I D : Type 0} (whole : I → ℤ) (links : List (OverlayLink I D)) (none all sorted : List PackedEnd) → none ≡ [] →
+    ends_of all ≡ ends_of none ++ numbered_ends (pairs_of_links whole links) → IsStableByKey (λ (e : WholeEnd). e.point) point_cmp (ends_of all) (ends_of sorted) →
+    IsStableByKey (λ (e : WholeEnd). e.point) point_cmp (numbered_ends (pairs_of_links whole links)) (ends_of sorted)
+in_parts whole links none all sorted empty appended same =
+    let listed = appended ∙ ap (λ l. ends_of l ++ numbered_ends (pairs_of_links whole links)) empty in
+    rw listed at same
+
+pub returns-then-are_many_vertical-clause-ends : goal.returns-then-are_many_vertical-clause-ends
+returns-then-are_many_vertical-clause-ends g c =
+    let empty = c.reserve.ensures.items ∙ c.clear.ensures.items in
+    on_ok_weaker c.append_ends_where-then-are_many_vertical.result (λ second. dealt g.L.Coordinate.OverlayInt.whole (map g.L.NumberedLink.link c.args.links.now) _ _ _ c.requires.ordered c.requires.sorted empty c.in_ok-append_ends_where.ensures.ends second) c.append_ends_where-then-are_many_vertical.ensures.ends
+
 pub returns-clause-ends : goal.returns-clause-ends
 returns-clause-ends g c =
     let empty = c.reserve.ensures.items ∙ c.clear.ensures.items in
-    on_ok_weaker c.append_ends_where-2.result (λ second. dealt g.L.Coordinate.OverlayInt.whole (map g.L.NumberedLink.link c.args.links.now) _ _ _ c.requires.ordered c.requires.sorted empty c.in_ok-append_ends_where.ensures.ends second) c.append_ends_where-2.ensures.ends
+    on_ok_weaker c.sort_end_parts.result (λ same. in_parts g.L.Coordinate.OverlayInt.whole (map g.L.NumberedLink.link c.args.links.now) _ _ _ empty c.in_ok-append_ends.ensures.ends same) c.sort_end_parts.ensures.same
