@@ -1,7 +1,8 @@
 -- Marks as whole numbers.
 use Rattle.std.specs.Prelude.{◌≡◌, ℕ, ◌<◌, ◌==◌, ℤ, List, All, map, filter, length, slice_index_or, IsSortedByKey}
-use Rattle.std.specs.Ordering.{nat_cmp}
-use Rattle.overlay_geometry.specs.Points.{Point}
+use Rattle.std.specs.Ordering.{nat_cmp, ordering_then}
+use Rattle.std.specs.declared.cmp.Ordering.{Ordering}
+use Rattle.overlay_geometry.specs.Points.{Point, point_cmp}
 use Rattle.overlay_base.specs.Segments.{WholeSegment}
 use Rattle.overlay_intersections.specs.Marks.{Placing}
 use Rattle.overlay_intersections.specs.PassMarks.{marks_on}
@@ -24,6 +25,10 @@ mark_points_of whole marks = map (λ m. point_of whole m.point) marks
 pub record Mark : Type 0 where
   pub index : ℕ
   pub point : Point
+
+-- marks by the index, then by the point
+abbrev pub mark_cmp : Mark → Mark → Ordering
+mark_cmp m n = ordering_then (nat_cmp m.index n.index) (point_cmp m.point n.point)
 
 abbrev pub mark_of : {I : Type 0} → (I → ℤ) → LineMark I → Mark
 mark_of whole m = record { index = m.index; point = point_of whole m.point }

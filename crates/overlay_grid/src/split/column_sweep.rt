@@ -27,7 +27,7 @@ use overlay_base::segm::fault::Fault;
 use overlay_base::segm::segment::Segment;
 use overlay_base::segm::winding::WindingCount;
 use overlay_geometry::num::OverlayInt;
-use overlay_intersections::split::line_mark::LineMark;
+use overlay_intersections::split::line_mark::{LineMark, sort_marks};
 use overlay_intersections::split::placing::Placing;
 use std::alloc::AllocError;
 use std::mem::swap;
@@ -64,7 +64,7 @@ pub fn find_marks<C: WindingCount, I: OverlayInt, D: Copy>(
         marks,
         looked,
     )?;
-    marks.sort()?;
+    sort_marks(marks)?;
     marks.dedup();
     Ok(rounded)
 }

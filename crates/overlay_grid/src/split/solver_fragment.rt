@@ -26,7 +26,7 @@ use overlay_base::segm::fault::Fault;
 use overlay_base::segm::segment::Segment;
 use overlay_base::segm::winding::WindingCount;
 use overlay_geometry::num::OverlayInt;
-use overlay_intersections::split::line_mark::LineMark;
+use overlay_intersections::split::line_mark::{LineMark, sort_marks};
 use overlay_intersections::split::marking::{Indexed, mark_both};
 use overlay_intersections::split::placing::Placing;
 use std::alloc::AllocError;
@@ -90,7 +90,7 @@ pub(crate) fn find_marks_up_to<C: WindingCount, I: OverlayInt, D: Copy>(
     };
     let rounded = mark_columns(buffer.groups(), axis, placing, marks, looked)?;
     mark_borders(buffer, marks, looked)?;
-    marks.sort()?;
+    sort_marks(marks)?;
     marks.dedup();
     Ok(Some(rounded))
 }

@@ -20,7 +20,7 @@ use overlay_base::segm::segment::Segment;
 use overlay_base::segm::winding::WindingCount;
 use overlay_geometry::geom::line_range::LineRange;
 use overlay_geometry::num::OverlayInt;
-use overlay_intersections::split::line_mark::LineMark;
+use overlay_intersections::split::line_mark::{LineMark, sort_marks};
 use overlay_intersections::split::marking::{Indexed, mark_both};
 use overlay_intersections::split::placing::Placing;
 use std::alloc::AllocError;
@@ -59,7 +59,7 @@ pub fn find_marks<C: WindingCount, I: OverlayInt, D: Copy>(
             rounded = true;
         }
     }
-    marks.sort()?;
+    sort_marks(marks)?;
     marks.dedup();
     Ok(rounded)
 }

@@ -25,7 +25,7 @@ use overlay_base::segm::winding::WindingCount;
 use overlay_geometry::geom::line_range::LineRange;
 use overlay_geometry::geom::x_segment::XSegment;
 use overlay_geometry::num::OverlayInt;
-use overlay_intersections::split::line_mark::LineMark;
+use overlay_intersections::split::line_mark::{LineMark, sort_marks};
 use overlay_intersections::split::marking::{Indexed, mark_both};
 use overlay_intersections::split::placing::Placing;
 use std::alloc::{AllocError, Global};
@@ -126,7 +126,7 @@ pub(crate) fn find_marks_up_to<C: WindingCount, I: OverlayInt, D: Copy>(
             rounded = true;
         }
     }
-    marks.sort()?;
+    sort_marks(marks)?;
     marks.dedup();
     Ok(Some(rounded))
 }

@@ -18,7 +18,7 @@ use Rattle.overlay_geometry.proofs.laws.lists.Elements.{Has-append_out, Has-flat
 use Rattle.overlay_base.proofs.laws.geometry.Apart.{do_cross_back, no_cross_itself}
 use Rattle.overlay_intersections.specs.Marks.{Placing, marks_by, cross_inexactly}
 use Rattle.overlay_intersections.specs.PassMarks.{marks_on, is_rounded}
-use Rattle.overlay_intersections.specs.MarkOf.{Mark, AreMarks, points_at}
+use Rattle.overlay_intersections.specs.MarkOf.{Mark, AreMarks, points_at, mark_cmp}
 use Rattle.overlay_intersections.specs.MarksBetween.{marks_at, marks_between, marks_with, marks_of_first, marks_of_each, first_crosses_inexactly, some_cross_inexactly}
 use Rattle.overlay_intersections.proofs.laws.crossings.AnswerMarks.{by_bool}
 use Rattle.overlay_intersections.proofs.laws.crossings.ExactCrossings.{is_exact_swap}
@@ -26,7 +26,7 @@ use Rattle.overlay_intersections.proofs.laws.crossings.Lines.{inside_parts}
 use Rattle.overlay_intersections.proofs.laws.marks.Marks.{marks_at_ends}
 use Rattle.overlay_intersections.proofs.laws.marks.ApartPairs.{none_of_two}
 use Rattle.overlay_intersections.proofs.laws.marks.FoundMarks.{or_assoc, or_false}
-use Rattle.overlay_intersections.proofs.laws.marks.MarkSets.{mark_cmp, points_at_in_order, Has-points_at, Has-points_at_out, indexes_rise}
+use Rattle.overlay_intersections.proofs.laws.marks.MarkSets.{points_at_in_order, Has-points_at, Has-points_at_out, indexes_rise}
 
 -- ---- a pair and itself
 

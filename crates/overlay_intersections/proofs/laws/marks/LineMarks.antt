@@ -18,11 +18,11 @@ use Rattle.overlay_geometry.proofs.laws.geometry.Points.{same_by_eq}
 use Rattle.overlay_geometry.proofs.laws.lists.Elements.{IsStrictlySortedBy-map, Has-permutation, Has-dedup, Has-dedup_out}
 use Rattle.overlay_intersections.specs.declared.split.line_mark.LineMark.{LineMark}
 use Rattle.overlay_intersections.specs.Marks.{Placing}
-use Rattle.overlay_intersections.specs.MarkOf.{Mark, mark_of, marks_of, AreMarks}
+use Rattle.overlay_intersections.specs.MarkOf.{Mark, mark_of, marks_of, AreMarks, mark_cmp}
 use Rattle.overlay_intersections.specs.MarksBetween.{marks_of_each}
 use Rattle.overlay_intersections.proofs.laws.marks.Comparisons.{same_points}
 use Rattle.overlay_geometry.proofs.laws.geometry.Points.{is_eq-then}
-use Rattle.overlay_intersections.proofs.laws.marks.MarkSets.{mark_cmp, mark_cmp_total}
+use Rattle.overlay_intersections.proofs.laws.marks.MarkSets.{mark_cmp_total}
 use Rattle.overlay_intersections.proofs.laws.marks.FoundEach.{AreMarks-from_found}
 
 -- marks are equal by their indexes and coordinates

@@ -11,11 +11,7 @@ use Rattle.std.proofs.lemmas.List.Kept.{IsStrictlySortedBy-filter}
 use Rattle.overlay_geometry.specs.Points.{Point, point_cmp}
 use Rattle.overlay_geometry.proofs.laws.geometry.Points.{point_cmp_total}
 use Rattle.overlay_geometry.proofs.laws.lists.Lists.{Has, AllByRecursion-from_Has, Has-map, Has-map_out, Has-filter, Has-filter_out}
-use Rattle.overlay_intersections.specs.MarkOf.{Mark, points_at}
-
--- marks by the index, then by the point
-abbrev pub mark_cmp : Mark → Mark → Ordering
-mark_cmp m n = ordering_then (nat_cmp m.index n.index) (point_cmp m.point n.point)
+use Rattle.overlay_intersections.specs.MarkOf.{Mark, mark_cmp, points_at}
 
 pub mark_cmp_total : IsTotalOrder mark_cmp
 mark_cmp_total = then_total (on_total (λ (m : Mark). m.index) nat_cmp_total) (on_total (λ (m : Mark). m.point) point_cmp_total)

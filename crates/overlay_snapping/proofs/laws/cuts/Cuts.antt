@@ -15,9 +15,9 @@ use Rattle.overlay_geometry.proofs.laws.lists.Elements.{Contains-from_Has, Has-f
 use Rattle.overlay_geometry.proofs.laws.lists.Keys.{IsInOrder, is_strictly_sorted-from}
 use Rattle.overlay_base.specs.Segments.{WholeSegment, pairs, ends, are_ordered}
 use Rattle.overlay_intersections.specs.Marks.{settling}
-use Rattle.overlay_intersections.specs.MarkOf.{Mark, AreMarks, points_at}
+use Rattle.overlay_intersections.specs.MarkOf.{Mark, AreMarks, points_at, mark_cmp}
 use Rattle.overlay_intersections.specs.PassMarks.{marks_on}
-use Rattle.overlay_intersections.proofs.laws.marks.MarkSets.{mark_cmp, points_at_in_order, indexes_rise, Has-points_at, Has-points_at_out}
+use Rattle.overlay_intersections.proofs.laws.marks.MarkSets.{points_at_in_order, indexes_rise, Has-points_at, Has-points_at_out}
 use Rattle.overlay_snapping.specs.Pixels.{meets_pixel}
 use Rattle.overlay_snapping.specs.Chains.{rounded_crossings, given_points, passes_by, rounded, passed, Moves, IsChainPoint, IsCutAt, moving, staying, AreCutsBetween}
 use Rattle.overlay_snapping.specs.Closure.{HasPassing, IsReachedIndex, IsClosureInput}

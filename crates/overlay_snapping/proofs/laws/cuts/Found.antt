@@ -26,12 +26,12 @@ use Rattle.overlay_base.specs.declared.segm.segment.Segment.{Segment}
 use Rattle.overlay_base.proofs.laws.geometry.Apart.{pairs-map}
 use Rattle.overlay_base.proofs.laws.joins.Maps.{are_ordered-map}
 use Rattle.overlay_intersections.specs.Marks.{settling}
-use Rattle.overlay_intersections.specs.MarkOf.{Mark, mark_of, marks_of, mark_points_of, AreMarksOf}
+use Rattle.overlay_intersections.specs.MarkOf.{Mark, mark_of, marks_of, mark_points_of, AreMarksOf, mark_cmp}
 use Rattle.overlay_intersections.specs.PassMarks.{marks_on}
 use Rattle.overlay_intersections.specs.declared.split.line_mark.LineMark.{LineMark}
 use Rattle.overlay_intersections.specs.declared.split.placing.Placing.TheVariants.{Settling}
 use Rattle.overlay_intersections.proofs.laws.crossings.CrossingLaws.{points_lie_in_both_boxes}
-use Rattle.overlay_intersections.proofs.laws.marks.MarkSets.{mark_cmp, mark_cmp_total}
+use Rattle.overlay_intersections.proofs.laws.marks.MarkSets.{mark_cmp_total}
 use Rattle.overlay_snapping.specs.Closure.{AreWithin, IsReachedIndex}
 use Rattle.overlay_snapping.specs.CutsOf.{AreCuts}
 use Rattle.overlay_snapping.specs.declared.snap.passing.Passing.{Passing}

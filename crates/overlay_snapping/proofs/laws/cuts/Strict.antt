@@ -14,8 +14,8 @@ use Rattle.overlay_geometry.specs.Sorting.{has_repeat}
 use Rattle.overlay_geometry.proofs.laws.geometry.Points.{point_cmp_total, same_by_eq, is_eq-then}
 use Rattle.overlay_geometry.proofs.laws.lists.Lists.{Pairwise, Pairwise-append, Pairwise-weaker, AllByRecursion-weaker, AllByRecursion-both, AllByRecursion-map, AllByRecursion-filter_all, AllByRecursion-flat_map, AllByRecursion-from_Has}
 use Rattle.overlay_geometry.proofs.laws.lists.Keys.{IsInOrder, IsDistinct-from_test, Less-from_tests}
-use Rattle.overlay_intersections.specs.MarkOf.{Mark}
-use Rattle.overlay_intersections.proofs.laws.marks.MarkSets.{mark_cmp, mark_cmp_total}
+use Rattle.overlay_intersections.specs.MarkOf.{Mark, mark_cmp}
+use Rattle.overlay_intersections.proofs.laws.marks.MarkSets.{mark_cmp_total}
 use Rattle.overlay_snapping.specs.Pixels.{meets_pixel, met_places}
 use Rattle.overlay_snapping.specs.declared.snap.cut_finder.Meeting.{Meeting}
 use Rattle.overlay_snapping.specs.steps.Cutting.{origin, meetings_of, IsMeetingWithin, cut_at}

@@ -41,9 +41,8 @@ returns-clause-marks g c =
     let columns = flat_map (marks_of_column p l ss) (range_with_len 0 n) in
     let now = marks_of whole c.mark_columns.new.marks.items in
     let all = subst (λ (start : List Mark). HoldSame (start ++ columns) now) (ap (marks_of whole) c.clear.ensures.items) c.in_ok-rounded.ensures.marks in
-    let sorted = simp g.met.I.OverlayInt.ordered at c.in_ok-sort.ensures.sorted in
     AreMarks-from_elements g.I.PartialEq.eq g.I.Ord.cmp whole g.met.I.Ord.matches_eq g.met.I.OverlayInt.ordered p segments
-    c.mark_columns.new.marks.items c.sort.new.self.items c.dedup.new.self.items
+    c.mark_columns.new.marks.items c.sort_marks.new.marks.items c.dedup.new.self.items
     (λ m h. sound p l segments (kept_group l 0 ss) ordered within (λ column. IsPermutation-refl (kept_group l 0 ss column)) m (columns_apart p l ss n m (has_back columns now all m h)))
     (λ m h. has_same columns now all m (columns_joined p l ss n m (complete p l segments (kept_group l 0 ss) ordered within (λ column. IsPermutation-refl (kept_group l 0 ss column)) m h)))
-    c.in_ok-sort.ensures.permutation sorted c.dedup.ensures.filtered
+    c.in_ok-sort_marks.ensures.permutation c.in_ok-sort_marks.ensures.sorted c.dedup.ensures.filtered

@@ -101,12 +101,11 @@ returns-clause-marks g c =
     let now = marks_of g.I.OverlayInt.whole c.mark_borders.new.marks.items in
     let at_borders = subst (λ (m : Layout). HoldSame (marks_of g.I.OverlayInt.whole c.mark_columns.new.marks.items ++ flat_map (λ column. marks_of_border (pos_of m (column + 1)) (groups column) (groups (column + 1))) (range_with_len 0 (group_count m - 1))) now) layout c.in_ok-mark_borders.ensures.marks in
     let all = subst (λ (start : List Mark). HoldSame (start ++ borders) now) first at_borders in
-    let sorted = simp g.met.I.OverlayInt.ordered at c.in_ok-sort.ensures.sorted in
     AreMarks-from_elements g.I.PartialEq.eq g.I.Ord.cmp g.I.OverlayInt.whole g.met.I.Ord.matches_eq g.met.I.OverlayInt.ordered p segments
-    c.mark_borders.new.marks.items c.sort.new.self.items c.dedup.new.self.items
+    c.mark_borders.new.marks.items c.sort_marks.new.marks.items c.dedup.new.self.items
     (λ m h. sound p l segments groups ordered within same m (has_back (columns ++ borders) now all m h))
     (λ m h. has_same (columns ++ borders) now all m (complete p l segments groups ordered within same m h))
-    c.in_ok-sort.ensures.permutation sorted c.dedup.ensures.filtered
+    c.in_ok-sort_marks.ensures.permutation c.in_ok-sort_marks.ensures.sorted c.dedup.ensures.filtered
 
 pub returns-clause-within : goal.returns-clause-within
 returns-clause-within g c =

@@ -32,9 +32,8 @@ loop-index-preserved g c =
 pub returns-clause-marks : goal.returns-clause-marks
 returns-clause-marks g c =
     let end = IsWalked-end (placing_of c.args.placing) (pairs (segments_of c.args.segments.now)) (marks_of g.I.OverlayInt.whole c.loop-index.marks.items) c.loop-index.rounded c.loop-index.index c.loop-index.invariant.walk (all_passed c.args.segments.now c.loop-index.index c.loop-index-test.false) in
-    let sorted = simp g.met.I.OverlayInt.ordered at c.in_ok-sort.ensures.sorted in
     AreMarks-from_sorted g.I.PartialEq.eq g.I.Ord.cmp g.I.OverlayInt.whole g.met.I.Ord.matches_eq g.met.I.OverlayInt.ordered (placing_of c.args.placing) (segments_of c.args.segments.now)
-    c.loop-index.marks.items c.sort.new.self.items c.dedup.new.self.items end.0 c.in_ok-sort.ensures.permutation sorted c.dedup.ensures.filtered
+    c.loop-index.marks.items c.sort_marks.new.marks.items c.dedup.new.self.items end.0 c.in_ok-sort_marks.ensures.permutation c.in_ok-sort_marks.ensures.sorted c.dedup.ensures.filtered
 
 pub returns-clause-rounded : goal.returns-clause-rounded
 returns-clause-rounded g c =

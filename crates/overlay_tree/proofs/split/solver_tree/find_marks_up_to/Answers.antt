@@ -66,11 +66,10 @@ returns g c =
     let all : length ps ≡ c.loop-index.index = omega (arith, length-pairs xs, c.loop-index-test.false, c.loop-index.auto.index-end) in
     let looks = IsUnderWay-end ps (tree_nodes whole c.loop-index.nodes.items) c.args.looked.now c.loop-index.looked c.loop-index.index c.loop-index.until c.loop-index.invariant.way all in
     let marked = rw (sym all) at c.loop-index.invariant.marked in
-    let sorted = simp g.met.I.OverlayInt.ordered at c.in_ok-sort.ensures.sorted in
     record {
       marks = AreMarks-from_elements g.I.PartialEq.eq g.I.Ord.cmp whole g.met.I.Ord.matches_eq g.met.I.OverlayInt.ordered placing (segments_of xs)
-          c.loop-index.marks.items c.sort.new.self.items c.dedup.new.self.items marked.sound (all_marked placing ps (marks_of whole c.loop-index.marks.items) c.loop-index.rounded marked)
-          c.in_ok-sort.ensures.permutation sorted c.dedup.ensures.filtered;
+          c.loop-index.marks.items c.sort_marks.new.marks.items c.dedup.new.self.items marked.sound (all_marked placing ps (marks_of whole c.loop-index.marks.items) c.loop-index.rounded marked)
+          c.in_ok-sort_marks.ensures.permutation c.in_ok-sort_marks.ensures.sorted c.dedup.ensures.filtered;
       rounded = all_told placing ps (marks_of whole c.loop-index.marks.items) c.loop-index.rounded marked ∙ some_cross_inexactly-is (segments_of xs);
       found = λ none. refl;
       looked = looks.most;
