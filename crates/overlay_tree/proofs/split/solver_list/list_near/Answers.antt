@@ -35,7 +35,7 @@ loop-later-preserved g c =
     let second : pair_at ps j ≡ pair_of whole c.x_segment.result = pair_at-is c.args.segments.now j c.index-segments-later.result inside c.index-segments-later.is ∙ ap (pair_of whole) (sym c.x_segment.ensures) in
     let reached : (pair_at ps j).a.x ≤ℤ (pair_at ps i).b.x = rw (first, second) (lt-tested_false (whole c.x_segment-target.result.b.x) (whole c.x_segment.result.a.x) (sym c.begins_past_end.ensures ∙ c.if-begins_past_end.false)) in
     let meets = met_at whole c.args.ranges.now ps i j c.index-ranges-index.result c.index-ranges-later.result c.do_meet.result c.requires.heights here lt
-      c.index-ranges-index.is c.index-ranges-later.is c.do_meet.ensures in
+    c.index-ranges-index.is c.index-ranges-later.is c.do_meet.ensures in
     record {
       few = let few = c.loop-later.invariant.few in let one = c.keep_if-count.ensures.count in omega (arith, few, one);
       listed = rw c.keep_if-count.ensures.kept (AreListed-more ps i (i + 1) j (take c.loop-later.count c.loop-later.met) c.do_meet.result c.loop-later.invariant.listed after lt meets);

@@ -23,7 +23,7 @@ loop-later-preserved g c =
     let lt : j < length ps = omega (arith, count, test, within) in
     let here : i < length ps = omega (arith, lt, since, after) in
     let meets = met_at whole c.args.ranges.now ps i j c.index-ranges-index.result c.index-ranges-later.result c.do_meet.result c.requires.heights here lt
-      c.index-ranges-index.is c.index-ranges-later.is c.do_meet.ensures in
+    c.index-ranges-index.is c.index-ranges-later.is c.do_meet.ensures in
     record {
       few = let few = c.loop-later.invariant.few in let one = c.keep_if-count.ensures.count in omega (arith, few, one);
       listed = rw c.keep_if-count.ensures.kept (AreListed-more ps i c.args.from j (take c.loop-later.count c.loop-later.met) c.do_meet.result c.loop-later.invariant.listed (omega (arith, since, after)) lt meets);
