@@ -79,6 +79,9 @@ pub(crate) fn reached_in_group_at_most<I: OverlayInt>(group: &[Fragment<I>], axi
     count
 }
 
+/// How many fragments are next to one: a look at the one after these comes first.
+const NEXT: usize = 4;
+
 /// How many fragments are near: a look at the next one after so many comes before a binary search.
 const NEAR: usize = 8;
 
@@ -90,6 +93,9 @@ fn begun_at_most<I: OverlayInt>(group: &[Fragment<I>], end: I, axis: Axis) -> us
     requires sorted { IsSortedAlong axis (fragments_of I.whole group.now) }
     ensures { count_by (λ f. int_le (least_along axis f) (I.whole end)) (fragments_of I.whole group.now) ≤ result }
 {
+    if begins_past(group, NEXT, end, axis) {
+        return NEXT;
+    }
     if begins_past(group, NEAR, end, axis) {
         return NEAR;
     }

@@ -57,16 +57,22 @@ const MIN_LIVE_FOR_COLUMNS: u64 = 6;
 
 const _: () = prove!(MIN_LIVE_FOR_COLUMNS == 6);
 
+/// Segments that are live where the middle one begins, from which on columns serve whatever the average is: a few far ones
+/// make that small. A sweep with fewer keeps no tree.
+const MIN_LIVE_AT_MIDDLE: usize = 48;
+
+const _: () = prove!(MIN_LIVE_AT_MIDDLE == 48);
+
 /// Segments that share a height, on the average, up to which one row of all serves in place of a tree. Each is compared
 /// with about as many.
 const MAX_LEVEL_FOR_ROW: u64 = 8;
 
 const _: () = prove!(MAX_LEVEL_FOR_ROW == 8);
 
-/// Comparisons per segment from which on a row is tried: before it compares, it counts up to 8 for a fragment too many.
-const MIN_BUDGET_FOR_ROW: u64 = 16;
+/// Comparisons per segment from which on a row is tried: before it compares, it counts up to 4 for a fragment too many.
+const MIN_BUDGET_FOR_ROW: u64 = 5;
 
-const _: () = prove!(MIN_BUDGET_FOR_ROW == 16);
+const _: () = prove!(MIN_BUDGET_FOR_ROW == 5);
 
 /// What the passes of one run find the segments that meet by: a scan of all pairs of a list, a tree over their heights,
 /// or the columns of a grid. The marks are the same.
@@ -408,7 +414,7 @@ fn find_in_few_columns<C: WindingCount, I: OverlayInt, D: Copy>(
     ensures given_up { IfOk result (λ found. IfNone found (looked.new ≡ looked.old)) }
     ensures fault { IfErr result (λ fault. fault ≡ Memory) }
 {
-    if segments.is_empty() || are_few_live(segments) {
+    if segments.is_empty() || (are_few_live(segments) && are_few_at_middle(segments)) {
         return Ok(None);
     }
     let Some(layout) = GridLayout::over_list(segments) else {
@@ -436,6 +442,22 @@ fn are_few_live<C: WindingCount, I: OverlayInt, D: Copy>(segments: &[Segment<C, 
         last = last.max(right);
     }
     widths / MIN_LIVE_FOR_COLUMNS < last.abs_diff(first)
+}
+
+/// Whether few of the segments before the middle one of a list end right of where it begins.
+fn are_few_at_middle<C: WindingCount, I: OverlayInt, D: Copy>(
+    segments: &[Segment<C, I, D>],
+) -> bool {
+    let (before, rest) = segments.split_at(segments.len() / 2);
+    let Some(middle) = rest.first() else {
+        return true;
+    };
+    let x = middle.x_segment().a.x;
+    let live = before
+        .iter()
+        .filter(|segment| x <= segment.x_segment().b.x)
+        .count();
+    live < MIN_LIVE_AT_MIDDLE
 }
 
 /// The same in the columns of a grid, inside which the segments have to lie, or in one row where they have many fragments
@@ -482,15 +504,21 @@ fn find_in_row<C: WindingCount, I: OverlayInt, D: Copy>(
     ensures given_up { IfOk result (λ found. IfNone found (looked.new ≡ looked.old)) }
     ensures fault { IfErr result (λ fault. fault ≡ Memory) }
 {
-    let is_too_little = most / MIN_BUDGET_FOR_ROW < segments.len() as u64;
-    if is_too_little || !are_few_level(segments) {
+    let budget = most / (segments.len() as u64).max(1);
+    // a row may count twice as many as share a height
+    let level = (budget / 2).min(MAX_LEVEL_FOR_ROW);
+    if budget < MIN_BUDGET_FOR_ROW || !are_few_level(segments, level) {
         return Ok(None);
     }
     solver_fragment_within::find_marks_in_row(segments, placing, most, grid, marks, looked)
 }
 
-/// Whether few segments share a height, on the average: as often as the sum of their heights holds the height of all.
-fn are_few_level<C: WindingCount, I: OverlayInt, D: Copy>(segments: &[Segment<C, I, D>]) -> bool {
+/// Whether no more segments than `most` share a height, on the average: as often as the sum of their heights holds the
+/// height of all.
+fn are_few_level<C: WindingCount, I: OverlayInt, D: Copy>(
+    segments: &[Segment<C, I, D>],
+    most: u64,
+) -> bool {
     let mut heights = 0_u64;
     let mut lowest = i64::MAX;
     let mut highest = i64::MIN;
@@ -502,5 +530,5 @@ fn are_few_level<C: WindingCount, I: OverlayInt, D: Copy>(segments: &[Segment<C,
         lowest = lowest.min(left).min(right);
         highest = highest.max(left).max(right);
     }
-    heights / MAX_LEVEL_FOR_ROW < highest.abs_diff(lowest)
+    heights / most.max(1) < highest.abs_diff(lowest)
 }

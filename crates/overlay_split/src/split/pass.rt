@@ -296,7 +296,7 @@ fn cut_at<C: WindingCount, I: OverlayInt, D: OverlayEdgeData<C>>(
     ensures store_made { IsMadeFrom (hooks_of C.counted D.OverlayEdgeData.own) store.old store.new }
     ensures fault { IfErr result (λ fault. fault ≡ Memory) }
 {
-    list.reserve(marks.len())?;
+    list.reserve_exact(marks.len())?;
     let mut rest = marks;
     while let Some(first) = rest.first() {
         let index = first.index;

@@ -69,7 +69,8 @@ pub fn contact_of<I: OverlayInt>(target: &XSegment<I>, other: &XSegment<I>) -> C
 }
 
 /// Whether two segments, each with ends that differ, share an end and lie on two lines: they have no other point in common.
-/// Most pairs whose boxes meet are neighbors that share an end, and one turn decides these.
+/// Most pairs whose boxes meet are neighbors that share an end, and one turn decides these. Of the others few have ends of
+/// one `x`, so that these are compared first.
 #[inline(always)]
 pub(crate) fn part_at_end<I: OverlayInt>(target: &XSegment<I>, other: &XSegment<I>) -> bool
     requires target { IsPairInRange I.whole I.MIN_COORD I.MAX_COORD target.now }
@@ -78,6 +79,9 @@ pub(crate) fn part_at_end<I: OverlayInt>(target: &XSegment<I>, other: &XSegment<
     requires other_apart { (pair_of I.whole other.now).a ≢ (pair_of I.whole other.now).b }
     ensures { result ≡ true → IsContact I.whole (pair_of I.whole target.now) (pair_of I.whole other.now) Apart }
 {
+    if !((target.b.x == other.b.x) | (target.b.x == other.a.x) | (target.a.x == other.a.x)) {
+        return false;
+    }
     let share_b = target.b == other.b;
     if !(share_b | (target.b == other.a) | (target.a == other.a)) {
         return false;

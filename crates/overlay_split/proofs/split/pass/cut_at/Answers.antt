@@ -24,7 +24,7 @@ use Rattle.overlay_split.proofs.split.pass.cut_at.Goals as goal
 pub loop-first-init : goal.loop-first-init
 loop-first-init g c =
     let items = c.args.list.now.items in
-    rw c.reserve.ensures.items (record {
+    rw c.reserve_exact.ensures.items (record {
       cut = λ on are. IsCutSoFar-start on (segments_of items) (data_segments_of items) (segments_of-bare items) _ are _ c.args.store.now;
       made = no_call;
     })
@@ -125,8 +125,8 @@ returns-clause-edge_data g c = λ on are. ap (λ v. v.0) (done g c on are)
 pub returns-clause-store : goal.returns-clause-store
 returns-clause-store g c = λ on are. ap (λ v. v.1) (done g c on are)
 
-pub returns-in_err-reserve-clause-store_made : goal.returns-in_err-reserve-clause-store_made
-returns-in_err-reserve-clause-store_made g c = no_call
+pub returns-in_err-reserve_exact-clause-store_made : goal.returns-in_err-reserve_exact-clause-store_made
+returns-in_err-reserve_exact-clause-store_made g c = no_call
 
 pub returns-in_err-collect_path-clause-store_made : goal.returns-in_err-collect_path-clause-store_made
 returns-in_err-collect_path-clause-store_made g c = c.loop-first.invariant.made
