@@ -12,7 +12,7 @@ ghost use Rattle.overlay_intersections.specs.MarksBetween.{marks_at, marks_of_ov
 ghost use Rattle.overlay_intersections.specs.steps.AddedMarks.{AddsMark, AddsMarksBetween, AddsMarksOf, do_cross_inexactly};
 ghost use Rattle.overlay_intersections.specs.declared.split.cross.result.CrossType.TheVariants.{Overlay};
 
-use crate::split::cross::contact::{Contact, contact_of, part_at_end};
+use crate::split::cross::contact::{Contact, contact_of, lies_beside, part_at_end};
 use crate::split::cross::corner::{are_horizontal_and_vertical, corner_of};
 use crate::split::cross_solver::{CrossResult, CrossSolver, CrossType};
 use crate::split::line_mark::LineMark;
@@ -72,7 +72,31 @@ pub fn mark_both<I: OverlayInt>(
     }
 }
 
-/// The same, of two that cross strictly inside both. Most pairs do not, so that this stays out of the loops over pairs.
+/// Does the same as `mark_both`, and first tests whether both ends of the second lie on one side of the first. Of segments
+/// that share no end, as those far from one another in a list, that decides most.
+#[inline(always)]
+pub fn mark_both_apart<I: OverlayInt>(
+    first: Indexed<I>,
+    second: Indexed<I>,
+    placing: Placing,
+    marks: &mut Vec<LineMark<I>>,
+) -> Result<bool, AllocError>
+    requires radius { HasRadius placing }
+    requires first { IsPairInRange I.whole I.MIN_COORD I.MAX_COORD first.x_segment }
+    requires second { IsPairInRange I.whole I.MIN_COORD I.MAX_COORD second.x_segment }
+    requires first_apart { (pair_of I.whole first.x_segment).a ≢ (pair_of I.whole first.x_segment).b }
+    requires second_apart { (pair_of I.whole second.x_segment).a ≢ (pair_of I.whole second.x_segment).b }
+    requires order { IsFalse (pair_lt (pair_of I.whole second.x_segment) (pair_of I.whole first.x_segment)) }
+    ensures marks { OnOk result (AddsMarksBetween I.whole placing first second marks.old.items marks.new.items) }
+    ensures rounded { IfOk result (λ rounded. rounded ≡ do_cross_inexactly I.whole first second) }
+{
+    if lies_beside(&first.x_segment, &second.x_segment) {
+        return Ok(false);
+    }
+    mark_both(first, second, placing, marks)
+}
+
+/// As `mark_both`, of two that cross strictly inside both. Most pairs do not, so that this stays out of the loops over pairs.
 #[inline(never)]
 fn mark_crossing<I: OverlayInt>(
     first: Indexed<I>,

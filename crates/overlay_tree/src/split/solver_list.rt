@@ -21,7 +21,7 @@ use overlay_base::segm::winding::WindingCount;
 use overlay_geometry::geom::line_range::LineRange;
 use overlay_geometry::num::OverlayInt;
 use overlay_intersections::split::line_mark::{LineMark, sort_marks};
-use overlay_intersections::split::marking::{Indexed, mark_both};
+use overlay_intersections::split::marking::{Indexed, mark_both, mark_both_apart};
 use overlay_intersections::split::placing::Placing;
 use std::alloc::AllocError;
 
@@ -104,7 +104,7 @@ fn mark_with_later<C: WindingCount, I: OverlayInt, D: Copy>(
 {
     let mut met = [0_usize; NEAR];
     let (count, near_end) = list_near(segments, ranges, index, &mut met);
-    let mut rounded = mark_listed(segments, index, &met[..count], placing, marks)?;
+    let mut rounded = mark_listed(segments, index, &met[..count], true, placing, marks)?;
     let mut end = near_end;
     if near_end - index > NEAR {
         end = end_of_reach(segments, index, near_end);
@@ -167,12 +167,13 @@ fn keep_if(met: &mut [usize], count: usize, later: usize, is_kept: bool) -> usiz
 }
 
 /// Appends the marks that a segment and each of some later ones put on one another, and returns whether it crosses one
-/// of these at a point without whole coordinates.
+/// of these at a point without whole coordinates. `are_near` says whether they follow closely, as in `mark_two`.
 #[inline(always)]
 fn mark_listed<C: WindingCount, I: OverlayInt, D: Copy>(
     segments: &[Segment<C, I, D>],
     index: usize,
     met: &[usize],
+    are_near: bool,
     placing: Placing,
     marks: &mut Vec<LineMark<I>>,
 ) -> Result<bool, AllocError>
@@ -187,7 +188,7 @@ fn mark_listed<C: WindingCount, I: OverlayInt, D: Copy>(
 {
     let mut rounded = false;
     for later in met {
-        rounded |= mark_two(segments, index, *later, placing, marks)?;
+        rounded |= mark_two(segments, index, *later, are_near, placing, marks)?;
     }
     Ok(rounded)
 }
@@ -319,16 +320,18 @@ fn mark_with_each<C: WindingCount, I: OverlayInt, D: Copy>(
     for later in from..end {
         count = keep_if(&mut met, count, later, do_meet(&own, &ranges[later]));
     }
-    mark_listed(segments, index, &met[..count], placing, marks)
+    mark_listed(segments, index, &met[..count], false, placing, marks)
 }
 
 /// Appends the marks that a segment and a later one put on one another, and returns whether they cross at a point
-/// without whole coordinates.
+/// without whole coordinates. Near ones in the list often share an end, which `mark_both` tests early. Of the others
+/// most lie on one side of the segment, which `mark_both_apart` tests first.
 #[inline(always)]
 fn mark_two<C: WindingCount, I: OverlayInt, D: Copy>(
     segments: &[Segment<C, I, D>],
     index: usize,
     later: usize,
+    are_near: bool,
     placing: Placing,
     marks: &mut Vec<LineMark<I>>,
 ) -> Result<bool, AllocError>
@@ -353,5 +356,9 @@ fn mark_two<C: WindingCount, I: OverlayInt, D: Copy>(
         index: later,
         x_segment: other,
     };
-    mark_both(first, second, placing, marks)
+    if are_near {
+        mark_both(first, second, placing, marks)
+    } else {
+        mark_both_apart(first, second, placing, marks)
+    }
 }

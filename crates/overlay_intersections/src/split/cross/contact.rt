@@ -104,7 +104,7 @@ fn at<I: OverlayInt>(point: IntPoint<I>, cross_type: CrossType) -> Contact<I>
 /// Whether both ends of the other lie strictly on one side of the target's line. So it is with most
 /// pairs that have no point in common, which two of the four directions decide.
 #[inline(always)]
-fn lies_beside<I: OverlayInt>(target: &XSegment<I>, other: &XSegment<I>) -> bool
+pub(crate) fn lies_beside<I: OverlayInt>(target: &XSegment<I>, other: &XSegment<I>) -> bool
     requires target { IsPairInRange I.whole I.MIN_COORD I.MAX_COORD target.now }
     requires other { IsPairInRange I.whole I.MIN_COORD I.MAX_COORD other.now }
     ensures { result ≡ are_beside (pair_of I.whole target.now) (pair_of I.whole other.now) }
