@@ -22,3 +22,4 @@ pub mod GroupSorts
 pub mod FoundBlocks
 pub mod GridSweeps
 pub mod SweptColumns
+pub mod ColumnEnds

@@ -1,5 +1,5 @@
 // The fragments of one column, and what goes on into the next. This project's own.
-ghost use Rattle.std.specs.Prelude.{◌≡◌, ◌≤ℤ◌, ◌+◌, ◌++◌, [], OnOk, IfOk, All, IsSortedByKey};
+ghost use Rattle.std.specs.Prelude.{◌≡◌, ◌≤◌, ◌≤ℤ◌, ◌+◌, ◌++◌, [], OnOk, IfOk, All, IsSortedByKey, int_lt, length};
 ghost use Rattle.overlay_geometry.specs.Points.{pair_cmp};
 ghost use Rattle.overlay_geometry.specs.InRange.{IsPairInRange};
 ghost use Rattle.overlay_geometry.specs.PairOf.{pair_of};
@@ -97,17 +97,17 @@ pub(crate) fn take_column<C: WindingCount, I: OverlayInt, D: Copy>(
     ensures rests { OnOk result (rests_of I.whole parts.new.rests.items
         ≡ entering (layout_of layout.now) 0 (pairs_in segments.now) (column + 1)) }
 {
+    let until = column_end(segments, column, layout);
     parts.group.clear();
     parts.rests.clear();
+    let begun = until.saturating_sub(from);
+    parts.group.reserve(begun.saturating_add(rests.len()))?;
     for place in 0..rests.len() {
         let rest = rests[place];
         take_part(rest, column, layout, &mut parts.group, &mut parts.rests)?;
     }
-    for index in from..segments.len() {
+    for index in from..until {
         let XSegment { a, b } = segments[index].x_segment();
-        if column < layout.index(a.x) {
-            return Ok(index);
-        }
         let rest = Rest {
             index,
             x_segment: XSegment { a, b },
@@ -115,7 +115,33 @@ pub(crate) fn take_column<C: WindingCount, I: OverlayInt, D: Copy>(
         };
         take_part(rest, column, layout, &mut parts.group, &mut parts.rests)?;
     }
-    Ok(segments.len())
+    Ok(until)
+}
+
+/// The index of the first segment that begins right of a column, or how many there are, if none does.
+fn column_end<C: WindingCount, I: OverlayInt, D: Copy>(
+    segments: &[Segment<C, I, D>],
+    column: usize,
+    layout: &GridLayout<I>,
+) -> usize
+    requires sorted { IsSortedByKey ends_of pair_cmp segments.now }
+    requires inside { All (λ s. IsInside (layout_of layout.now) (ends_of s)) segments.now }
+    ensures bound { result ≤ length segments.now }
+    ensures parted { AreParted (layout_of layout.now) (pairs_in segments.now) result (column + 1) }
+{
+    let last = layout.column_count() - 1;
+    if last <= column {
+        return segments.len();
+    }
+    let end = layout.pos(column + 1);
+    segments.partition_point(|segment| begins_before(segment, end))
+}
+
+/// Whether a segment begins left of an `x`.
+fn begins_before<C: WindingCount, I: OverlayInt, D: Copy>(segment: &Segment<C, I, D>, x: I) -> bool
+    ensures { result ≡ int_lt (ends_of segment.now).a.x (I.whole x) }
+{
+    segment.x_segment().a.x < x
 }
 
 /// Takes the fragment of a segment in a column in which a corner of its begins, and lists the rest, if the segment goes on

@@ -1,12 +1,11 @@
 -- A walk over the columns of a grid from the left.
-use Rattle.std.proofs.Common.{◌≡◌, refl, sym, ap, ap₂, subst, ◌∙◌, ℕ, zero, suc, ◌+◌, ◌-◌, ◌<◌, ◌≤◌, ◌==◌, arith, append_assoc, append-nil, Bool, true, false, not, ◌&&◌, if◌then◌else◌, IsTrue, is_gt, List, [], ◌∷◌, ◌++◌, take, drop, get_or, length, map, All, IsSortedByKey}
+use Rattle.std.proofs.Common.{◌≡◌, refl, sym, ap, ap₂, subst, ◌∙◌, ℕ, zero, suc, ◌+◌, ◌-◌, ◌<◌, ◌≤◌, ◌==◌, arith, append_assoc, append-nil, Bool, true, false, not, ◌&&◌, if◌then◌else◌, IsTrue, List, [], ◌∷◌, ◌++◌, take, drop, get_or, length, map, All}
 use Rattle.std.specs.Prelude.{ℤ, pos, ◌-ℤ◌, ◌≤ℤ◌, nat_lt, flat_map}
 use Rattle.std.specs.List.{AllByRecursion, range_with_len}
 use Rattle.std.proofs.lemmas.Grind.{flat_map-append}
 use Rattle.std.proofs.lemmas.Bool.{and_parts}
-use Rattle.std.proofs.lemmas.List.{drop_all, length-map, take_all}
 use Rattle.std.proofs.lemmas.List.Elements.{All-weaker}
-use Rattle.overlay_geometry.specs.Points.{Point, Pair, is_vertical, is_ordered, pair_cmp}
+use Rattle.overlay_geometry.specs.Points.{Point, Pair, is_vertical, is_ordered}
 use Rattle.overlay_geometry.specs.Coordinates.{is_pair_in_range}
 use Rattle.overlay_geometry.specs.Ranges.{Rect}
 use Rattle.overlay_grid.specs.Grid.{Layout, Fragment, column_index, pos_of, rect_between, toward, least_rise, greatest_rise, fragment_in, IsInside}
@@ -15,17 +14,15 @@ use Rattle.overlay_grid.specs.steps.FragmentFinder.{kept_group}
 use Rattle.overlay_grid.specs.steps.Entering.{KeptRest, corner_in, entering, entering_in, rest_of, rests_of}
 use Rattle.overlay_grid.specs.steps.Sweeps.{AreParted, IsPartAt, goes_on}
 use Rattle.overlay_geometry.proofs.laws.geometry.Coordinates.{pair_in_range}
-use Rattle.overlay_geometry.proofs.laws.geometry.Points.{ordered_x, pair_cmp_total, starts_in_order}
-use Rattle.overlay_geometry.proofs.laws.lists.Elements.{AllByRecursion-drop, IsInOrder-drop}
-use Rattle.overlay_geometry.proofs.laws.lists.Keys.{IsInOrder, IsInOrder-from_sort}
+use Rattle.overlay_geometry.proofs.laws.geometry.Points.{ordered_x}
+use Rattle.overlay_geometry.proofs.laws.lists.Elements.{AllByRecursion-drop, AllByRecursion-drop_later}
 use Rattle.overlay_geometry.proofs.laws.lists.Lists.{AllByRecursion-append, AllByRecursion-weaker}
 use Rattle.overlay_base.specs.ArrangedOf.{AreInRange}
 use Rattle.overlay_base.specs.SegmentOf.{ends_of, pairs_in, x_segment_of}
 use Rattle.overlay_base.specs.declared.segm.segment.Segment.{Segment}
-use Rattle.overlay_base.proofs.laws.geometry.Apart.{are_ordered, pairs-map}
+use Rattle.overlay_base.proofs.laws.geometry.Apart.{are_ordered}
 use Rattle.overlay_base.proofs.laws.joins.Rests.{rest-more, rest-none}
 use Rattle.overlay_grid.specs.declared.split.column_parts.Rest.{Rest}
-use Rattle.overlay_grid.proofs.laws.grid.GridColumns.{column_index-monotone}
 use Rattle.overlay_grid.proofs.laws.grid.GridFills.{fill_more}
 use Rattle.overlay_grid.proofs.laws.grid.GridFound.{all_pairs}
 use Rattle.overlay_grid.proofs.laws.grid.GridFragments.{RunsRight, RunsRight-not_vertical, fragments_flat, column_count, column_count-end, fragment_in-column}
@@ -338,12 +335,6 @@ segments_fit {w = w} xs l r i =
     (all_pairs (λ s. IsTrue (is_pair_in_range (w.whole w.MIN_COORD) (w.whole w.MAX_COORD) s)) xs (All-weaker _ _ (λ s h. pair_in_range w.whole w.MIN_COORD w.MAX_COORD (x_segment_of s) h) xs r))
     (are_ordered xs) (all_pairs (IsInside l) xs i)
 
-pub segments_in_order : {C I D : Type 0} {m : _} {w : _} {o : _} {e : _} {p : _} (xs : List (Segment C I D m w o e p)) → IsSortedByKey ends_of pair_cmp xs → IsInOrder pair_cmp (pairs_in xs)
-segments_in_order xs sorted = subst (λ (ps : List Pair). IsInOrder pair_cmp ps) (sym (pairs-map xs)) (IsInOrder-from_sort pair_cmp_total ends_of xs sorted)
-
-pub length-pairs_in : {C I D : Type 0} {m : _} {w : _} {o : _} {e : _} {p : _} (xs : List (Segment C I D m w o e p)) → length (pairs_in xs) ≡ length xs
-length-pairs_in xs = ap length (pairs-map xs) ∙ length-map xs (λ s. ends_of s)
-
 -- a rest of a list of code
 pub rests-next : {I : Type 0} (whole : I → ℤ) (rests : List (Rest I)) (j : ℕ) (r : Rest I) → j < length rests → r ≡ get_or rests j r → drop j (rests_of whole rests) ≡ rest_of whole r ∷ drop (j + 1) (rests_of whole rests)
 rests-next whole rests j r lt is = rest-more (rest_of whole) rests j r lt is
@@ -439,32 +430,10 @@ none_kept l c i ss h = kept_each l i ss c ∙ each-none (λ j s. kept_in l j s c
 pub none_enter : (l : Layout) (c i : ℕ) (ss : List Pair) → AllByRecursion (λ s. c ≤ column_index l s.a.x) ss → entering l i ss c ≡ []
 none_enter l c i ss h = entering_each l i ss c ∙ each-none (λ j s. entering_in l j s c) (λ s. c ≤ column_index l s.a.x) (λ j s k. entering_none l c j s k) i ss h
 
--- the walk that has come to the first that begins right of the column, or to the end
-pub taken_all : (l : Layout) (ss : List Pair) (n c : ℕ) (group : List KeptFragment) (rests : List KeptRest) → IsTaken l ss n c group rests → AllByRecursion (λ s. c + 1 ≤ column_index l s.a.x) (drop n ss) →
-    AreParted l ss n (c + 1) × (group ≡ kept_group l 0 ss c) × (rests ≡ entering l 0 ss (c + 1))
-taken_all l ss n c group rests w h = (
-  record { before = w.before; after = h },
-  sym (append-nil group) ∙ ap (λ (fs : List KeptFragment). group ++ fs) (sym (none_kept l c n (drop n ss) h)) ∙ w.group_is,
-  sym (append-nil rests) ∙ ap (λ (rs : List KeptRest). rests ++ rs) (sym (none_enter l (c + 1) n (drop n ss) h)) ∙ w.rests_is,
-)
-
--- those after one that begins right of a column do so too
-pub all_right : (l : Layout) (ss : List Pair) (n c : ℕ) (s : Pair) → IsInOrder pair_cmp ss → AllByRecursion (IsInside l) ss → drop n ss ≡ s ∷ drop (n + 1) ss → c < column_index l s.a.x → AllByRecursion (λ t. c + 1 ≤ column_index l t.a.x) (drop n ss)
-all_right l ss n c s o i d h =
-    let order = subst (IsInOrder pair_cmp) d (IsInOrder-drop pair_cmp n ss o) in
-    let from = (subst (AllByRecursion (IsInside l)) d (AllByRecursion-drop (IsInside l) n ss i)).0.from in
-    subst (AllByRecursion (λ t. c + 1 ≤ column_index l t.a.x)) (sym d) (
-      omega arith,
-      AllByRecursion-weaker (λ t. is_gt (pair_cmp s t) ≡ false) (λ t. c + 1 ≤ column_index l t.a.x)
-          (λ t g. let m = column_index-monotone l s.a.x t.a.x from (starts_in_order s t g) in omega arith) (drop (n + 1) ss) order.0,
+-- the walk that has come to the first that begins right of the column, or past it
+pub taken_all : (l : Layout) (ss : List Pair) (n until c : ℕ) (group : List KeptFragment) (rests : List KeptRest) → IsTaken l ss n c group rests → AreParted l ss until (c + 1) → until ≤ n → (group ≡ kept_group l 0 ss c) × (rests ≡ entering l 0 ss (c + 1))
+taken_all l ss n until c group rests w p le =
+    let h = AllByRecursion-drop_later (λ s. c + 1 ≤ column_index l s.a.x) until n ss le p.after in (
+      sym (append-nil group) ∙ ap (λ (fs : List KeptFragment). group ++ fs) (sym (none_kept l c n (drop n ss) h)) ∙ w.group_is,
+      sym (append-nil rests) ∙ ap (λ (rs : List KeptRest). rests ++ rs) (sym (none_enter l (c + 1) n (drop n ss) h)) ∙ w.rests_is,
     )
-
--- after the last there is none
-pub none_right : (l : Layout) (ss : List Pair) (n c : ℕ) → length ss ≤ n → AllByRecursion (λ t. c + 1 ≤ column_index l t.a.x) (drop n ss)
-none_right l ss n c h = subst (AllByRecursion (λ t. c + 1 ≤ column_index l t.a.x)) (sym (drop_all n ss h)) tt
-
-pub parted_at_end : (l : Layout) (ss : List Pair) (n m c : ℕ) → AreParted l ss n c → length ss ≤ n → length ss ≤ m → AreParted l ss m c
-parted_at_end l ss n m c p h k = record {
-  before = subst (AllByRecursion (λ s. column_index l s.a.x < c)) (take_all n ss h ∙ sym (take_all m ss k)) p.before;
-  after = subst (AllByRecursion (λ s. c ≤ column_index l s.a.x)) (sym (drop_all m ss k)) tt;
-}
