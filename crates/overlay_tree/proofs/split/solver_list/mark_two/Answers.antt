@@ -23,7 +23,7 @@ pairs_are g c =
       pair_at-is c.args.segments.now c.args.later c.index-segments-later.result c.requires.within c.index-segments-later.is ∙ ap (pair_of whole) (sym c.x_segment-other.ensures),
     )
 
--- what both ways of marking ask of them
+-- what both ways of marking need
 first_in_range : (g : _) (c : After-x_segment-other g) → IsPairInRange g.I.OverlayInt.whole g.I.OverlayInt.MIN_COORD g.I.OverlayInt.MAX_COORD c.x_segment-target.result
 first_in_range g c =
     let a = c.requires.after in
