@@ -9,6 +9,7 @@ pub mod GraphValid
 pub mod PackedEnds
 pub mod StableEnds
 pub mod NodeLists
+pub mod StartKeys
 pub mod LinkViews
 pub mod DealtEnds
 pub mod StoredFills

@@ -1,6 +1,7 @@
 -- What the steps of a build make of links of code.
-use Rattle.std.specs.Prelude.{◌≡◌, ◌≢◌, ◌⊎◌, ℕ, ◌-◌, ◌<◌, ◌≤◌, ℤ, false, IsTrue, if◌then◌else◌, List, map, filter, take, drop, length, slice_index_or}
+use Rattle.std.specs.Prelude.{◌≡◌, ◌≢◌, ◌⊎◌, ℕ, ◌-◌, ◌<◌, ◌≤◌, ℤ, false, IsTrue, if◌then◌else◌, Option, List, map, filter, take, drop, length, slice_index_or}
 use Rattle.std.specs.List.{list_all}
+use Rattle.std.specs.Option.{ForSome, ForNone}
 use Rattle.overlay_geometry.specs.Coordinates.{is_pair_in_range}
 use Rattle.overlay_geometry.specs.Points.{Point, point_cmp, point_lt}
 use Rattle.overlay_geometry.specs.Sorting.{stably_sorted}
@@ -11,7 +12,7 @@ use Rattle.overlay_base.specs.declared.segm.segment.Segment.{Segment}
 use Rattle.overlay_build.specs.Graph.{filled, fills_of, data_by}
 use Rattle.overlay_build.specs.GraphOf.{kept_of, pairs_of_links, names_node}
 use Rattle.overlay_build.specs.declared.build.kept_links.LinkRule.{LinkRule}
-use Rattle.overlay_build.specs.steps.EndOf.{WholeEnd}
+use Rattle.overlay_build.specs.steps.EndOf.{WholeEnd, unpacked}
 use Rattle.overlay_build.specs.steps.LinkEnds.{numbered_starts}
 use Rattle.overlay_build.specs.steps.LinkRules.{keeps_by}
 
@@ -44,6 +45,11 @@ by_point ends = stably_sorted (λ e f. point_cmp e.point f.point) ends
 -- the point of the end at a place
 abbrev pub point_at : List WholeEnd → ℕ → WholeEnd → Point
 point_at ends k d = (slice_index_or ends k d).point
+
+-- A number stands for the point of the end at a place, and there is none where no end is there.
+pub record IsKeyAt (ends : List WholeEnd) (place : ℕ) (key : Option ℕ) : Type 0 where
+  pub found : ForSome key (λ k. (place < length ends) × ((d : WholeEnd) → point_at ends place d ≡ unpacked k))
+  pub over : ForNone key (length ends ≤ place)
 
 -- Of two lists of ends, each from a place on, this is the least point at their fronts.
 pub record IsNextPoint (firsts seconds : List WholeEnd) (start end : ℕ) (p : Point) : Type 0 where

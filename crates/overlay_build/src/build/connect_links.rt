@@ -9,7 +9,7 @@ ghost use Rattle.overlay_base.specs.declared.segm.fault.Fault.TheVariants.{Memor
 ghost use Rattle.overlay_build.specs.GraphOf.{HoldLists, graph_with, pairs_of_links};
 
 use crate::build::link_ends::{
-    collect_ends, next_point, number_ends, number_starts, sort_by_point,
+    collect_ends, links_left, next_point, number_ends, number_starts, sort_by_point,
 };
 use crate::build::numbered_link::NumberedLink;
 use overlay_base::segm::fault::Fault;
@@ -48,12 +48,12 @@ pub fn connect_links<L: NumberedLink>(
     indexes.clear();
     // each link ends at two nodes
     indexes.reserve(links.len().saturating_mul(2))?;
-    let mut start = 0;
+    let mut left = links_left(links, 0);
     let mut end = 0;
-    while let Some(key) = next_point(links, &ends, start, end) {
+    while let Some(key) = next_point(left.key, &ends, end) {
         let first = indexes.len();
         let id = degrees.len();
-        start = number_starts(links, start, key, id, indexes)?;
+        left = number_starts(links, left, key, id, indexes)?;
         end = number_ends(links, &ends, end, key, id, indexes)?;
         degrees.push(indexes.len() - first)?;
     }

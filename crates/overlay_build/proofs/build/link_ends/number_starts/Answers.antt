@@ -1,73 +1,101 @@
-use Rattle.std.proofs.Common.{◌≡◌, ◌∙◌, ap, sym, refl, arith, map, get_or, List}
+use Rattle.std.proofs.Common.{◌≡◌, ◌+◌, ◌<◌, ◌==◌, ◌∙◌, ap, sym, subst, refl, rules, true, ℕ, length, map, get_or, set, List, [], ◌∷◌, ◌++◌, Option, Some}
+use Rattle.std.specs.Prelude.{ℤ}
+use Rattle.std.specs.Option.{option_eq}
 use Rattle.std.proofs.lemmas.List.{get_or_default, map-set}
 use Rattle.overlay_geometry.specs.PointOf.{point_of}
 use Rattle.overlay_base.specs.declared.overlay_core.link.OverlayLink.{OverlayLink}
 use Rattle.overlay_build.specs.GraphOf.{with_start, pairs_of_links}
 use Rattle.overlay_build.specs.steps.EndOf.{WholeEnd, unpacked}
 use Rattle.overlay_build.specs.steps.LinkEnds.{numbered_starts}
-use Rattle.overlay_build.specs.steps.LinksOf.{starts_of}
+use Rattle.overlay_build.specs.steps.LinksOf.{IsKeyAt, starts_of}
 use Rattle.overlay_build.proofs.laws.graphs.NodeLists.{run-ends, start_at}
-use Rattle.overlay_build.proofs.laws.graphs.LinkViews.{length-viewed_starts, start_in_range, viewed_at, viewed_start, viewed_within}
-use Rattle.overlay_build.proofs.laws.graphs.NumberedRuns.{numbered_none, numbered_more, numbered_pairs, numbered_in_range}
-use Rattle.overlay_build.proofs.laws.graphs.PackedEnds.{unpacked-once}
+use Rattle.overlay_build.proofs.laws.graphs.LinkViews.{length-viewed_starts, viewed_at, viewed_within}
+use Rattle.overlay_build.proofs.laws.graphs.NumberedRuns.{IsRunNumbered, numbered_none, numbered_more, numbered_pairs, numbered_in_range}
+use Rattle.overlay_build.proofs.laws.graphs.StartKeys.{key-same, key-other}
 use Rattle.overlay_build.proofs.build.link_ends.number_starts.Goals as goal
 
-pub packed-requires : goal.packed-requires
-packed-requires g c =
-    let whole = g.L.Coordinate.OverlayInt.whole in
-    let view = g.L.NumberedLink.link in
-    let given : List (OverlayLink g.row.L-Coordinate.Denot g.row.L-Data.Denot) = map view c.args.links.now in
-    let seen : List (OverlayLink g.row.L-Coordinate.Denot g.row.L-Data.Denot) = map view c.loop-next.links in
-    let so_far = c.loop-next.invariant in
-    let same : pairs_of_links whole seen ≡ pairs_of_links whole given = numbered_pairs whole (with_start c.args.id) (λ l. refl) _ given seen so_far.as_many so_far.numbers in
-    let x : g.row.L.Denot = get_or c.loop-next.links c.loop-next.next c.index-links-next.result in
-    let is : x ≡ get_or c.loop-next.links c.loop-next.next x = get_or_default c.loop-next.links c.loop-next.next c.index-links-next.result x c.loop-next-test.true in
-    start_in_range view whole c.loop-next.links _ _ c.loop-next.next x _ (numbered_in_range whole _ _ given seen same c.requires.in_range) c.loop-next-test.true is c.start.ensures
+module _ {L I D : Type 0} (view : L → OverlayLink I D) (whole : I → ℤ) (given links : List L) (from key : ℕ) (found : Option ℕ) (kept : length links ≡ length given)
+    (is : IsKeyAt (starts_of whole (map view given)) from found) (same : option_eq (λ i j. i == j) found (Some key) ≡ true) where
+  -- a link is there
+  inside : from < length links
+  inside = rw (kept ∙ sym (length-viewed_starts view whole given)) (key-same _ from key found is same).0
 
-pub loop-next-init : goal.loop-next-init
-loop-next-init g c =
+  -- and its first end gets the number
+  one_more : (id start : ℕ) (old indexes : List ℕ) (x l : L) → IsRunNumbered (with_start id) (starts_of whole (map view given)) (unpacked key) start from old indexes (map view given) (map view links) →
+      x ≡ get_or links from x → view l ≡ with_start id (view x) →
+      IsRunNumbered (with_start id) (starts_of whole (map view given)) (unpacked key) start (from + 1) old (indexes ++ from ∷ []) (map view given) (map view (set links from l))
+  one_more id start old indexes x l so_far at made =
+      let before : List (OverlayLink I D) = map view given in
+      let seen : List (OverlayLink I D) = map view links in
+      let unchanged : pairs_of_links whole seen ≡ pairs_of_links whole before = numbered_pairs whole (with_start id) (λ l. refl) _ before seen so_far.as_many so_far.numbers in
+      let e : WholeEnd = record { index = from; point = point_of whole (view x).a.point } in
+      let there = viewed_within view links from inside in
+      let its = viewed_at view links from x inside at in
+      let here : get_or (starts_of whole before) from e ≡ e = ap (λ (l : List WholeEnd). get_or l from e) (sym (ap numbered_starts unchanged)) ∙ start_at whole seen from (view x) e there its in
+      let key_is = key-same (starts_of whole before) from key found is same in
+      rw (map-set view links from l)
+      (numbered_more (with_start id) (starts_of whole before) (unpacked key) start old before (λ l. refl) from indexes seen e (view l) so_far key_is.0 here
+      (sym (ap (λ (e : WholeEnd). e.point) here) ∙ key_is.1 e) there
+      (λ d. made ∙ ap (with_start id) (its ∙ get_or_default seen from (view x) d there)))
+
+pub loop-links-init : goal.loop-links-init
+loop-links-init g c =
     let whole = g.L.Coordinate.OverlayInt.whole in
     let given : List (OverlayLink g.row.L-Coordinate.Denot g.row.L-Data.Denot) = map g.L.NumberedLink.link c.args.links.now in
-    numbered_none (with_start c.args.id) (starts_of whole given) (unpacked c.args.key) c.args.start c.args.indexes.now.items given (rw (length-viewed_starts g.L.NumberedLink.link whole c.args.links.now) c.requires.start)
+    record {
+      numbered = numbered_none (with_start c.args.id) (starts_of whole given) (unpacked c.args.key) c.args.left.from c.args.indexes.now.items given (rw (length-viewed_starts g.L.NumberedLink.link whole c.args.links.now) c.requires.start);
+      key = c.requires.left;
+    }
 
-pub loop-next-preserved : goal.loop-next-preserved
-loop-next-preserved g c =
+pub bounds-links-next : goal.bounds-links-next
+bounds-links-next g c = inside g.L.NumberedLink.link g.L.Coordinate.OverlayInt.whole c.args.links.now c.loop-links.links c.loop-links.next.from c.args.key c.loop-links.next.key c.loop-links.auto.links c.loop-links.invariant.key (sym c.eq.ensures ∙ c.loop-links-test.true)
+
+pub offset_bounds-links-next : goal.offset_bounds-links-next
+offset_bounds-links-next g c =
+    let within = inside g.L.NumberedLink.link g.L.Coordinate.OverlayInt.whole c.args.links.now c.loop-links.links c.loop-links.next.from c.args.key c.loop-links.next.key c.loop-links.auto.links c.loop-links.invariant.key (sym c.eq.ensures ∙ c.loop-links-test.true) in
+    search (rules, within)
+
+pub overflow_add-next : goal.overflow_add-next
+overflow_add-next g c =
+    let within = inside g.L.NumberedLink.link g.L.Coordinate.OverlayInt.whole c.args.links.now c.loop-links.links c.loop-links.next.from c.args.key c.loop-links.next.key c.loop-links.auto.links c.loop-links.invariant.key (sym c.eq.ensures ∙ c.loop-links-test.true) in
+    search (rules, within)
+
+pub links_left-next-requires : goal.links_left-next-requires
+links_left-next-requires g c =
     let whole = g.L.Coordinate.OverlayInt.whole in
     let view = g.L.NumberedLink.link in
-    let given : List (OverlayLink g.row.L-Coordinate.Denot g.row.L-Data.Denot) = map view c.args.links.now in
-    let seen : List (OverlayLink g.row.L-Coordinate.Denot g.row.L-Data.Denot) = map view c.loop-next.links in
-    let so_far = c.loop-next.invariant in
-    let same : pairs_of_links whole seen ≡ pairs_of_links whole given = numbered_pairs whole (with_start c.args.id) (λ l. refl) _ given seen so_far.as_many so_far.numbers in
-    let x : g.row.L.Denot = get_or c.loop-next.links c.loop-next.next c.index-links-next.result in
-    let is : x ≡ get_or c.loop-next.links c.loop-next.next x = get_or_default c.loop-next.links c.loop-next.next c.index-links-next.result x c.loop-next-test.true in
-    let e : WholeEnd = record { index = c.loop-next.next; point = point_of whole (view x).a.point } in
-    let there = viewed_within view c.loop-next.links c.loop-next.next c.loop-next-test.true in
-    let y : g.row.L.Denot = get_or c.loop-next.links c.loop-next.next c.index-links-next-in-loop-next.result in
-    rw (c.in_ok-push.ensures.items, map-set view c.loop-next.links c.loop-next.next c.number_start.new.self)
-    (numbered_more (with_start c.args.id) (starts_of whole given) (unpacked c.args.key) c.args.start c.args.indexes.now.items given (λ l. refl) c.loop-next.next c.loop-next.indexes.items seen e (view c.number_start.new.self) so_far
-    (let test = c.loop-next-test.true in let all = length-viewed_starts view whole c.args.links.now in let kept = c.loop-next.auto.links in omega (arith, test, all, kept))
-    (ap (λ (l : List WholeEnd). get_or l c.loop-next.next e) (sym (ap numbered_starts same)) ∙ start_at whole seen c.loop-next.next (view x) e there (viewed_at view c.loop-next.links c.loop-next.next x c.loop-next-test.true is))
-    (sym (c.packed.ensures ∙ ap (point_of whole) c.start.ensures) ∙ ap unpacked c.if-packed-key.true) there
-    (λ d. c.number_start.ensures ∙ ap (with_start c.args.id) (viewed_at view c.loop-next.links c.loop-next.next y c.loop-next-test.true (get_or_default c.loop-next.links c.loop-next.next c.index-links-next-in-loop-next.result y c.loop-next-test.true) ∙ get_or_default seen c.loop-next.next (view y) d there)))
+    let y : g.row.L.Denot = get_or c.loop-links.links c.loop-links.next.from c.index-links-next.result in
+    let same = sym c.eq.ensures ∙ c.loop-links-test.true in
+    let within = inside view whole c.args.links.now c.loop-links.links c.loop-links.next.from c.args.key c.loop-links.next.key c.loop-links.auto.links c.loop-links.invariant.key same in
+    let more = one_more view whole c.args.links.now c.loop-links.links c.loop-links.next.from c.args.key c.loop-links.next.key c.loop-links.auto.links c.loop-links.invariant.key same
+    c.args.id c.args.left.from c.args.indexes.now.items c.loop-links.indexes.items y c.number_start.new.self c.loop-links.invariant.numbered
+    (get_or_default c.loop-links.links c.loop-links.next.from c.index-links-next.result y within) c.number_start.ensures in
+    numbered_in_range whole _ _ (map view c.args.links.now) _ (numbered_pairs whole (with_start c.args.id) (λ l. refl) _ (map view c.args.links.now) _ more.as_many more.numbers) c.requires.in_range
 
-pub returns-else-packed-key-clause-run : goal.returns-else-packed-key-clause-run
-returns-else-packed-key-clause-run g c =
+pub loop-links-smaller : goal.loop-links-smaller
+loop-links-smaller g c =
+    let within = inside g.L.NumberedLink.link g.L.Coordinate.OverlayInt.whole c.args.links.now c.loop-links.links c.loop-links.next.from c.args.key c.loop-links.next.key c.loop-links.auto.links c.loop-links.invariant.key (sym c.eq.ensures ∙ c.loop-links-test.true) in
+    let on = c.links_left-next.ensures.from in
+    search (rules, within, on)
+
+pub loop-links-preserved : goal.loop-links-preserved
+loop-links-preserved g c =
     let whole = g.L.Coordinate.OverlayInt.whole in
     let view = g.L.NumberedLink.link in
-    let given : List (OverlayLink g.row.L-Coordinate.Denot g.row.L-Data.Denot) = map view c.args.links.now in
-    let seen : List (OverlayLink g.row.L-Coordinate.Denot g.row.L-Data.Denot) = map view c.loop-next.links in
-    let so_far = c.loop-next.invariant in
-    let same : pairs_of_links whole seen ≡ pairs_of_links whole given = numbered_pairs whole (with_start c.args.id) (λ l. refl) _ given seen so_far.as_many so_far.numbers in
-    let x : g.row.L.Denot = get_or c.loop-next.links c.loop-next.next c.index-links-next.result in
-    let is : x ≡ get_or c.loop-next.links c.loop-next.next x = get_or_default c.loop-next.links c.loop-next.next c.index-links-next.result x c.loop-next-test.true in
-    run-ends (starts_of whole given) (unpacked c.args.key) c.args.start c.loop-next.next _ _ so_far.run
-    (λ d h at.
-    let here : (get_or (starts_of whole seen) c.loop-next.next d).point ≡ unpacked c.packed.result = viewed_start view whole c.loop-next.links c.loop-next.next x _ _ d c.loop-next-test.true is c.start.ensures c.packed.ensures in
-    c.if-packed-key.false (unpacked-once _ _ (sym here ∙ ap (λ (l : List WholeEnd). (get_or l c.loop-next.next d).point) (ap numbered_starts same) ∙ at)))
+    let y : g.row.L.Denot = get_or c.loop-links.links c.loop-links.next.from c.index-links-next.result in
+    let same = sym c.eq.ensures ∙ c.loop-links-test.true in
+    let within = inside view whole c.args.links.now c.loop-links.links c.loop-links.next.from c.args.key c.loop-links.next.key c.loop-links.auto.links c.loop-links.invariant.key same in
+    let more = one_more view whole c.args.links.now c.loop-links.links c.loop-links.next.from c.args.key c.loop-links.next.key c.loop-links.auto.links c.loop-links.invariant.key same
+    c.args.id c.args.left.from c.args.indexes.now.items c.loop-links.indexes.items y c.number_start.new.self c.loop-links.invariant.numbered
+    (get_or_default c.loop-links.links c.loop-links.next.from c.index-links-next.result y within) c.number_start.ensures in
+    let unchanged = numbered_pairs whole (with_start c.args.id) (λ l. refl) _ (map view c.args.links.now) _ more.as_many more.numbers in
+    rw (c.links_left-next.ensures.from, c.in_ok-push.ensures.items) (record {
+      numbered = more;
+      key = subst (λ (s : List WholeEnd). IsKeyAt s (c.loop-links.next.from + 1) c.links_left-next.result.key) (ap numbered_starts unchanged) c.links_left-next.ensures.key;
+    })
 
-pub returns-after-loop-next-clause-run : goal.returns-after-loop-next-clause-run
-returns-after-loop-next-clause-run g c =
-    let whole = g.L.Coordinate.OverlayInt.whole in
-    let view = g.L.NumberedLink.link in
-    run-ends (starts_of whole (map view c.args.links.now)) _ c.args.start c.loop-next.next _ _ c.loop-next.invariant.run
-    (λ d h at. let over = c.loop-next-test.false in let kept = c.loop-next.auto.links in let as_long = length-viewed_starts view whole c.args.links.now in omega (arith, h, over, kept, as_long))
+pub returns-clause-run : goal.returns-clause-run
+returns-clause-run g c =
+    let starts = starts_of g.L.Coordinate.OverlayInt.whole (map g.L.NumberedLink.link c.args.links.now) in
+    run-ends starts (unpacked c.args.key) c.args.left.from c.loop-links.next.from _ _ c.loop-links.invariant.numbered.run
+    (λ d h at. key-other starts c.loop-links.next.from c.args.key c.loop-links.next.key c.loop-links.invariant.key (sym c.eq.ensures ∙ c.loop-links-test.false) d h at)
