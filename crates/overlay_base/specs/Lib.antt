@@ -24,3 +24,4 @@ pub mod Places
 pub mod Rays
 pub mod BalanceTest
 pub mod EndCountOf
+pub mod steps

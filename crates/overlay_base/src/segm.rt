@@ -4,6 +4,7 @@ mod apart;
 pub mod arranged;
 pub mod balance;
 pub mod boolean;
+mod early;
 pub mod fault;
 pub mod join;
 pub mod laws;

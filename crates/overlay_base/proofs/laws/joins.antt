@@ -12,4 +12,6 @@ pub mod DataWalks
 pub mod Merges
 pub mod Stops
 pub mod Views
+pub mod OneValues
 pub mod Stores
+pub mod Early

@@ -1,6 +1,6 @@
 // Data that segments carry, and the three hooks that are called where segments are turned, split and merged.
 // Upstream: `core::edge_data`.
-ghost use Rattle.std.specs.Prelude.{◌≡◌};
+ghost use Rattle.std.specs.Prelude.{◌≡◌, IsTrue};
 ghost use Rattle.overlay_geometry.specs.Points.{Point};
 ghost use Rattle.overlay_geometry.specs.PointOf.{point_of};
 ghost use Rattle.overlay_base.specs.declared.overlay_core.edge_data.EdgeDataMerge.{EdgeDataMerge};
@@ -49,6 +49,14 @@ pub trait OverlayEdgeData<C>: Copy + PartialEq {
 
     ghost merge_gives: { EdgeDataMerge C Self → Self.Store → (Self × Self.Store) };
 
+    /// Whether the data and its store have one value each, so that no result shows in which order hooks were called.
+    fn has_one_value() -> bool
+        ensures data { IsTrue result → (a b : Self) → a ≡ b }
+        ensures store { IsTrue result → (a b : Self.Store) → a ≡ b }
+    {
+        false
+    }
+
     /// The data of the same segment, run the other way.
     fn reversed(self, store: &mut Self::Store) -> Self
         ensures answer { result ≡ (reversed_gives self store.old).0 }
@@ -75,6 +83,10 @@ impl<C: Drop> OverlayEdgeData<C> for () {
     ghost split_gives = { λ edge_data _ _ _ store. ((edge_data, edge_data), store) };
 
     ghost merge_gives = { λ _ store. (tt, store) };
+
+    fn has_one_value() -> bool {
+        true
+    }
 
     fn reversed(self, _store: &mut ()) {}
 

@@ -11,6 +11,7 @@ ghost use Rattle.overlay_base.specs.DataOf.{HasDataOfJoin, IsJoinStore, StopsJoi
 ghost use Rattle.overlay_base.specs.FaultOf.{OnTooLarge};
 
 use crate::overlay_core::edge_data::OverlayEdgeData;
+use crate::segm::early::join_early;
 use crate::segm::fault::Fault;
 use crate::segm::merge::merge_if_needed_with_store;
 use crate::segm::segment::Segment;
@@ -19,7 +20,7 @@ use crate::segm::winding::WindingCount;
 use overlay_geometry::num::OverlayInt;
 
 /// Sorts a list by pair of ends, then joins the segments on one pair. Counts have to be valid. Returns whether two
-/// segments had one pair.
+/// segments had one pair. Where the data has one value, segments on one pair are joined before the sort, if many are.
 ///
 /// Returns `Fault::CountOutOfRange` only where a running sum of the counts on one pair leaves
 /// `-i32::MAX..=i32::MAX`, and, memory being found, wherever one does; the store is then what the hooks called before
@@ -42,7 +43,17 @@ pub fn join_with_store<C: WindingCount, I: OverlayInt, D: OverlayEdgeData<C>>(
     ensures store_kept { IfErr result (λ fault. fault ≡ Memory → store.new ≡ store.old) }
     ensures store_made { IsMadeFrom (hooks_of C.counted D.OverlayEdgeData.own) store.old store.new }
 {
-    join_in_parts_with_store(list, &[], store)
+    let mut repeated = false;
+    if D::has_one_value() {
+        match join_early(list) {
+            Ok(joined) => repeated = joined,
+            Err(_) => {
+                list.clear();
+                return Err(Fault::Memory);
+            }
+        }
+    }
+    Ok(join_in_parts_with_store(list, &[], store)? | repeated)
 }
 
 /// Joins a list as `join_with_store` does, where the list is sorted part by part first, as by `sort_by_ab_in_parts`.

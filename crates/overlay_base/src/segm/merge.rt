@@ -68,7 +68,7 @@ pub fn merge_if_needed_with_store<C: WindingCount, I: OverlayInt, D: OverlayEdge
 }
 
 /// Whether two segments have both ends in common.
-fn has_same_ends<C: WindingCount, I: OverlayInt, D: Copy>(
+pub(crate) fn has_same_ends<C: WindingCount, I: OverlayInt, D: Copy>(
     left: &Segment<C, I, D>,
     right: &Segment<C, I, D>,
 ) -> bool
