@@ -50,6 +50,7 @@ pub trait OverlayEdgeData<C>: Copy + PartialEq {
     ghost merge_gives: { EdgeDataMerge C Self → Self.Store → (Self × Self.Store) };
 
     /// Whether the data and its store have one value each, so that no result shows in which order hooks were called.
+    /// This project's own.
     fn has_one_value() -> bool
         ensures data { IsTrue result → (a b : Self) → a ≡ b }
         ensures store { IsTrue result → (a b : Self.Store) → a ≡ b }

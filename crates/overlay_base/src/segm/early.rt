@@ -26,7 +26,7 @@ const SAMPLE_SLOTS: usize = 256;
 const NONE: usize = usize::MAX;
 
 /// Joins segments on one pair of ends, if many of the first are on pairs of others, and drops those whose count is empty
-/// then. Returns whether some were joined: if not, the list is as it was. It finds most of those on one pair, not all.
+/// then. Returns whether many are: if not, the list is as it was. It finds most of those on one pair, not all.
 ///
 /// Counts have to be valid. They are joined only where they are so small that no order of sums leaves their range.
 pub(crate) fn join_early<C: WindingCount, I: OverlayInt, D: Copy>(

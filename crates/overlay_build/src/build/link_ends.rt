@@ -200,7 +200,8 @@ pub fn number_starts<L: NumberedLink>(
         ++ indexes_between (starts_of L.Coordinate.whole (map L.link links.old)) left.from next.from) }
     ensures length { length links.new ≡ length links.old }
     ensures links { IfOk result (λ next. AreNumberedAt (with_start id)
-        (indexes_between (starts_of L.Coordinate.whole (map L.link links.old)) left.from next.from) (map L.link links.old) (map L.link links.new)) }
+        (indexes_between (starts_of L.Coordinate.whole (map L.link links.old)) left.from next.from)
+        (map L.link links.old) (map L.link links.new)) }
     ensures fault { IfErr result (λ fault. fault ≡ Memory) }
 {
     let mut next = left;
