@@ -1,6 +1,8 @@
 //! Splits worked by hand, under each strategy and with both engines.
 
-use i_overlay_core::{Change, Engine, Error, Fault, Overlay, Precision, Segment, ShapeCountBoolean, Solver, Strategy};
+use i_overlay_core::{
+    Change, Engine, Error, Fault, IntPoint, Overlay, Precision, Segment, ShapeCountBoolean, ShapeType, Solver, Strategy,
+};
 use std::collections::BTreeMap;
 
 /// A segment as the tables write it: from, to, the count for the subject.
@@ -626,4 +628,53 @@ fn joins() {
             assert_eq!(overlay.segments(), wanted, "{name} {engine:?}");
         }
     }
+}
+
+/// How many squares a row of a grid has.
+const SQUARES: i32 = 12;
+
+/// The sides of the squares of a grid.
+fn sides_of_squares() -> Vec<Segment> {
+    let mut segments = Vec::new();
+    for (x, y) in (0..SQUARES).flat_map(|y| (0..SQUARES).map(move |x| (x, y))) {
+        let corners = [(x, y), (x + 1, y), (x + 1, y + 1), (x, y + 1)];
+        ShapeType::Subject.push_contour(&corners.map(IntPoint::from), &mut segments);
+    }
+    segments
+}
+
+fn side(a: (i32, i32), b: (i32, i32), subj: i32) -> Segment {
+    Segment { a: a.into(), b: b.into(), count: ShapeCountBoolean { subj, clip: 0 } }
+}
+
+/// Sides that two squares of a grid share cancel, and the sides around the grid are left. There are so many equal pairs that
+/// segments are joined before the list is sorted.
+#[test]
+fn sides_of_neighbors_cancel() {
+    let mut wanted = Vec::new();
+    for at in 0..SQUARES {
+        wanted.extend([side((at, 0), (at + 1, 0), 1), side((at, SQUARES), (at + 1, SQUARES), -1)]);
+        wanted.extend([side((0, at), (0, at + 1), -1), side((SQUARES, at), (SQUARES, at + 1), 1)]);
+    }
+    wanted.sort_by_key(|segment| (segment.a.x, segment.a.y, segment.b.x, segment.b.y));
+    for (engine, strategy) in ENGINES.into_iter().flat_map(|engine| STRATEGIES.map(|strategy| (engine, strategy))) {
+        let mut overlay = Overlay::new().unwrap().with_engine(engine);
+        let change = overlay.split(&sides_of_squares(), Solver { strategy, precision: Precision::HIGH }).unwrap();
+        assert_eq!((change.has_changed, change.passes), (true, 1), "{engine:?} {strategy:?}");
+        assert_eq!(overlay.segments(), wanted, "{engine:?} {strategy:?}");
+    }
+}
+
+/// Where counts are so great that a sum may leave the range, segments are joined after the sort, and a sum that leaves it is
+/// refused.
+#[test]
+fn great_counts_of_neighbors() {
+    let mut segments = sides_of_squares();
+    let mut overlay = Overlay::new().unwrap();
+    segments.push(side((0, 0), (1, 0), i32::MAX - 1));
+    overlay.split(&segments, Solver::AUTO).unwrap();
+    let kept = overlay.segments();
+    assert!(kept.contains(&side((0, 0), (1, 0), i32::MAX)) && kept.len() == 4 * SQUARES as usize);
+    segments.push(side((0, 0), (1, 0), 1));
+    assert_eq!(overlay.split(&segments, Solver::AUTO).map(|change| change.has_changed), LEAVES_RANGE);
 }
