@@ -523,7 +523,7 @@ fn split_alike(given: &[Row]) -> (Vec<Row>, Change) {
     (rows, change.unwrap())
 }
 
-/// One segment fewer than the limit from which `Auto` takes a tree, as many, and as many as have a grid. Those have five fragments
+/// One segment fewer than the limit from which `Auto` leaves the list of all pairs, as many, and as many as have a grid. Those have five fragments
 /// each, so a tree is tried first, and serves.
 #[test]
 fn crossed_lines_around_the_limits() {
@@ -544,6 +544,23 @@ fn the_list_gives_way_to_the_tree() {
     let near: [Row; 4] =
         [((200, 0), (250, 1), 1), ((200, 1), (250, 1), 1), ((250, 1), (300, 0), 1), ((250, 1), (300, 1), 1)];
     assert!(rows.ends_with(&near));
+}
+
+/// More than 4,000 segments: under `Auto` short ones are found over a list, longer ones in columns, and slanted ones, whose heights
+/// nearly all meet, over a tree.
+#[test]
+fn many_segments_are_found_alike() {
+    let short = (0..4_500).map(|i| ((40 * i, 5 * (i % 2)), (40 * i + 60, 4 - 3 * (i % 2)), 1));
+    let scattered = |i: i32, step: i32| i * step % 9_973;
+    let longer = (0..4_500).map(|i| {
+        let (x, y) = (scattered(i, 4_001), scattered(i, 7_919));
+        ((x, y), (x + 300 + i % 200, y + i % 400 - 200), 1)
+    });
+    let slanted = (0..4_100).map(|line| ((0, 2 * line), (4_000, 2 * line + 4_000 + 5 * (line % 2)), 1));
+    for given in [short.collect::<Vec<Row>>(), longer.collect(), slanted.collect()] {
+        let (_, change) = split_alike(&given);
+        assert!(change.has_changed);
+    }
 }
 
 /// Sixty lines of many slopes, and twenty verticals across them: sixty segments are live at once, more than are compared one by

@@ -22,8 +22,8 @@ x_ranges_meet s t = ranges_meet s.a.x s.b.x t.a.x t.b.x
 unfoldable pub list_looks : List Pair → ℕ
 list_looks segments = count_twos x_ranges_meet segments
 
--- What a pass of the tree compares at most: 64 times as many as there are segments and pairs whose boxes meet. Where fewer than
--- 48 segments are live each of them is compared. In the tree so is each one of a small subtree.
+-- What a pass over no grid compares at most, where it is not bound to a list: 64 times as many as there are segments and pairs
+-- whose boxes meet.
 unfoldable pub tree_looks : List Pair → ℕ
 tree_looks segments = 64 * (length segments + count_twos boxes_meet segments)
 

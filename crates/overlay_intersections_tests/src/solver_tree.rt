@@ -136,10 +136,22 @@ fn lines_above_one_another(rt: HostRuntime) {
     for y in 0..4000 {
         push_side(&rt, &mut segments, (0, y), (10, y));
     }
-    // Each of the first 48 lines is compared with those below it, and then all are in a tree, where
+    // Each of the first 32 lines is compared with those below it, and then all are in a tree, where
     // no heights meet.
     let told = ask(&rt, rt.alloc(), &mut segments, SNAPPING);
-    assert!(rt; told == (0, 48 * 47 / 2));
+    assert!(rt; told == (0, 32 * 31 / 2));
+}
+
+#[test]
+fn few_lines_are_in_reach(rt: HostRuntime) {
+    let mut segments = Vec::new(rt.alloc());
+    for y in 0..20 {
+        push_side(&rt, &mut segments, (0, y), (10, y));
+    }
+    sort_by_ab(&mut segments).expect(&rt, "memory");
+    // The ranges in x of all 190 pairs meet.
+    assert!(rt; !solver_list::are_few_in_reach(&segments, 189));
+    assert!(rt; solver_list::are_few_in_reach(&segments, 20 * 20));
 }
 
 #[test]
@@ -177,6 +189,6 @@ fn few_crossing_lines(rt: HostRuntime) {
 fn many_crossing_lines(rt: HostRuntime) {
     let (marks, looked) = grid(&rt, rt.alloc(), 60);
     assert!(rt; marks == 7200);
-    // Of 120 lines 3,600 pairs cross. The first 48 lines across are compared with one another.
-    assert!(rt; 3600 + 48 * 47 / 2 <= looked && looked <= 64 * (120 + 3600));
+    // Of 120 lines 3,600 pairs cross. The first 32 lines across are compared with one another.
+    assert!(rt; 3600 + 32 * 31 / 2 <= looked && looked <= 40 * 120 + 9 * 3600);
 }

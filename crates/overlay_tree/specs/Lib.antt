@@ -1,2 +1,3 @@
+pub mod TreeLooks
 -- what only contracts of private functions use
 pub mod steps

@@ -11,12 +11,13 @@ pub mod GridGroups
 pub mod GridFills
 pub mod GridFinder
 pub mod FoundFragments
-pub mod BorderCounts
+pub mod ApartGroups
 pub mod BorderMarks
 pub mod GridReach
 pub mod GridFound
 pub mod GridCounts
 pub mod GridLooks
+pub mod BorderCounts
 pub mod FragmentCounts
 pub mod GroupSorts
 pub mod FoundBlocks

@@ -1,6 +1,6 @@
 // The marks on vertical segments that lie on the border of a column. Upstream: part of
 // `split::solver_fragment`.
-ghost use Rattle.std.specs.Prelude.{◌≡◌, ◌≤◌, ◌+◌, ◌-◌, ◌++◌, ◌^◌, ℕ, min, IsTrue, OnOk, IsSorted, int_le, int_lt, ◌≤ℤ◌, ◌<ℤ◌, map, length, flat_map, sum_by};
+ghost use Rattle.std.specs.Prelude.{◌≡◌, ◌≤◌, ◌+◌, ◌-◌, ◌*◌, ◌++◌, ◌^◌, ℕ, min, IsTrue, OnOk, IsSorted, int_le, int_lt, ◌≤ℤ◌, ◌<ℤ◌, map, length, flat_map, count_by, sum_by};
 ghost use Rattle.std.specs.List.{AllByRecursion, range_with_len};
 ghost use Rattle.std.specs.List.Sorted.{IsPartitionPoint};
 ghost use Rattle.overlay_grid.specs.Grid.{pos_of, group_count};
@@ -62,6 +62,9 @@ pub(crate) fn mark_border<I: OverlayInt>(
     ensures looked { OnOk result (looked.new ≤ looked.old
         + length (marks_of_heights (I.whole border) (map I.whole right_ends.now) (fragments_of I.whole group.now))) }
 {
+    if right_ends.is_empty() {
+        return Ok(());
+    }
     for index in 0..group.len() {
         let fragment = group[index];
         if stands_at(&fragment, border) {
@@ -107,25 +110,32 @@ pub(crate) fn count_at_borders<I: OverlayInt>(buffer: &FragmentBuffer<I>) -> u64
     for column in 0..buffer.groups().len() - 1 {
         let left = buffer.groups()[column].as_slice();
         let group = buffer.groups()[column + 1].as_slice();
-        let own = count_at_border(left, group, buffer.border(column + 1));
+        let own = count_at_border(left.len(), group, buffer.border(column + 1));
         count = count.saturating_add(own);
     }
     count
 }
 
-/// The same of one border, between two groups.
-fn count_at_border<I: OverlayInt>(left: &[Fragment<I>], group: &[Fragment<I>], border: I) -> u64
-    ensures { result ≡ min (looks_of_border (I.whole border) (fragments_of I.whole left.now)
-        (fragments_of I.whole group.now)) (2 ^ 64 - 1) }
+/// How many comparisons one border takes at most, where each vertical segment on it takes so many; `u64::MAX` if there
+/// are more.
+pub(crate) fn count_at_border<I: OverlayInt>(each: usize, group: &[Fragment<I>], border: I) -> u64
+    ensures { result ≡ min (each * count_by (stands_at (I.whole border)) (fragments_of I.whole group.now))
+        (2 ^ 64 - 1) }
 {
-    let mut count = 0_u64;
-    for index in 0..group.len() {
-        let fragment = group[index];
-        if stands_at(&fragment, border) {
-            count = count.saturating_add(left.len() as u64);
-        }
+    if each == 0 {
+        return 0;
     }
-    count
+    (each as u64).saturating_mul(count_on_border(group, border) as u64)
+}
+
+/// How many fragments of a group are those of vertical segments at this `x`.
+fn count_on_border<I: OverlayInt>(group: &[Fragment<I>], x: I) -> usize
+    ensures { result ≡ count_by (λ f. stands_at (I.whole x) (fragment_of I.whole f)) group.now }
+{
+    group
+        .iter()
+        .filter(|fragment| stands_at(fragment, x))
+        .count()
 }
 
 /// How many of the heights, which have to be in order, are a given one or lower.

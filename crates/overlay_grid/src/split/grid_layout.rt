@@ -51,11 +51,15 @@ impl<I: OverlayInt> GridLayout<I> {
         GridLayout::with_min_max(a.x, max_x, count.ilog2() / 2)
     }
 
-    /// The same over a list of segments, for as many as it has: at least one, each in range.
-    pub fn over_list<C: WindingCount, D: Copy>(segments: &[Segment<C, I, D>]) -> Option<Self>
+    /// The same over a list of segments: at least one, each in range.
+    pub fn over_list<C: WindingCount, D: Copy>(
+        segments: &[Segment<C, I, D>],
+        count: usize,
+    ) -> Option<Self>
         requires some { 0 < length segments.now }
         requires in_range { All (λ s. IsPairInRange I.whole I.MIN_COORD I.MAX_COORD (x_segment_of s)) segments.now }
-        ensures layout { IfSome result (λ l. IsLayoutOf (pairs_in segments.now) (length segments.now) (layout_of l)) }
+        requires count { 0 < count }
+        ensures layout { IfSome result (λ l. IsLayoutOf (pairs_in segments.now) count (layout_of l)) }
         ensures none { IfNone result (IsTooNarrow (pairs (segments_of segments.now))) }
     {
         let XSegment { a, b } = segments[0].x_segment();
@@ -64,7 +68,8 @@ impl<I: OverlayInt> GridLayout<I> {
             let segment = segments[index].x_segment();
             max_x = greater(max_x, segment.b.x);
         }
-        GridLayout::with_min_max(a.x, max_x, segments.len().ilog2() / 2)
+        let power = count.ilog2() / 2;
+        GridLayout::with_min_max(a.x, max_x, power)
     }
 
     /// The columns from one `x` to another, both in range. Their width is a power of two: of them as many fit between

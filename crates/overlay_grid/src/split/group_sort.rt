@@ -1,8 +1,9 @@
 // The sort of a group of fragments by where they begin along an axis. This project's own.
-ghost use Rattle.std.specs.Prelude.{◌≡◌, ◌<◌, ◌≤◌, ◌%◌, ◌^◌, All, IfOk, IsPermutation, OnOk, length, map, true};
+ghost use Rattle.std.specs.Prelude.{◌≡◌, ◌<◌, ◌≤◌, ◌-◌, ◌%◌, ◌^◌, All, IfOk, IsPermutation, OnOk, length, map, min, true};
 ghost use Rattle.std.specs.List.{range_with_len};
 ghost use Rattle.overlay_grid.specs.FragmentOf.{fragment_of, fragments_of, IsSortedAlong};
 ghost use Rattle.overlay_grid.specs.ColumnLooks.{looks_of_group, twos_in_height};
+ghost use Rattle.overlay_grid.specs.declared.split.axis.Axis.TheVariants.{Y};
 ghost use Rattle.overlay_grid.specs.steps.SortKeys.{IsPicked};
 
 use crate::split::axis::Axis;
@@ -67,28 +68,71 @@ pub(crate) fn sort_group<I: OverlayInt>(
     sort_by_least(group, axis)
 }
 
-/// Sorts fragments by where they begin along one axis, and returns which: from the lowest up, unless a scan compares
-/// many fragments so and fewer from left to right. So it compares at most the pairs that share a height.
+/// A scan of a group: the axis along which it is sorted, and a number which the pairs that the scan compares do not
+/// exceed, up to `u64::MAX`.
+#[derive(Clone, Copy)]
+pub(crate) struct Scan {
+    pub axis: Axis,
+    pub at_most: u64,
+}
+
+/// Sorts fragments by where they begin along one axis, and returns the scan along it: from the lowest up, unless a scan
+/// compares many fragments so and fewer from left to right. So it compares at most the pairs that share a height.
 pub(crate) fn sort_for_scan<I: OverlayInt>(
     group: &mut Vec<Fragment<I>>,
     memory: &mut SortMemory<I>,
-) -> Result<Axis, AllocError>
+) -> Result<Scan, AllocError>
     ensures permutation { IsPermutation group.old.items group.new.items }
-    ensures sorted { IfOk result (λ axis. IsSortedAlong axis (fragments_of I.whole group.new.items)) }
-    ensures looks { IfOk result (λ axis. looks_of_group axis (fragments_of I.whole group.new.items)
+    ensures sorted { IfOk result (λ scan. IsSortedAlong scan.axis (fragments_of I.whole group.new.items)) }
+    ensures looks { IfOk result (λ scan. looks_of_group scan.axis (fragments_of I.whole group.new.items)
         ≤ twos_in_height (fragments_of I.whole group.new.items)) }
+    ensures at_most { IfOk result (λ scan. min (looks_of_group scan.axis (fragments_of I.whole group.new.items))
+        (2 ^ 64 - 1) ≤ scan.at_most) }
 {
     sort_group(group, Axis::Y, memory)?;
-    if is_scanned_upward(group, reached_in_group_at_most(group, Axis::Y)) {
-        return Ok(Axis::Y);
+    let at_most = reached_in_group_at_most(group, Axis::Y);
+    if is_scanned_upward(group, at_most) {
+        return Ok(Scan {
+            axis: Axis::Y,
+            at_most,
+        });
     }
-    let upward = count_in_group(group, Axis::Y);
-    sort_group(group, Axis::X, memory)?;
-    if count_in_group(group, Axis::X) < upward {
-        return Ok(Axis::X);
+    sort_for_fewer(group, memory)
+}
+
+/// Sorts fragments, which have to be sorted from the lowest up, from left to right, if a scan compares fewer of them so.
+/// Else they stay as they are.
+fn sort_for_fewer<I: OverlayInt>(
+    group: &mut Vec<Fragment<I>>,
+    memory: &mut SortMemory<I>,
+) -> Result<Scan, AllocError>
+    requires sorted { IsSortedAlong Y (fragments_of I.whole group.old.items) }
+    ensures permutation { IsPermutation group.old.items group.new.items }
+    ensures sorted { IfOk result (λ scan. IsSortedAlong scan.axis (fragments_of I.whole group.new.items)) }
+    ensures looks { IfOk result (λ scan. looks_of_group scan.axis (fragments_of I.whole group.new.items)
+        ≤ twos_in_height (fragments_of I.whole group.new.items)) }
+    ensures at_most { IfOk result (λ scan. min (looks_of_group scan.axis (fragments_of I.whole group.new.items))
+        (2 ^ 64 - 1) ≤ scan.at_most) }
+{
+    let upward = Scan {
+        axis: Axis::Y,
+        at_most: count_in_group(group, Axis::Y),
+    };
+    if group.len() as u64 > PLACES {
+        return Ok(upward);
     }
-    sort_group(group, Axis::Y, memory)?;
-    Ok(Axis::Y)
+    sort_by_keys(group, Axis::X, memory)?;
+    if are_in_order(group, Axis::X) {
+        let across = count_in_group(group, Axis::X);
+        if across < upward.at_most {
+            return Ok(Scan {
+                axis: Axis::X,
+                at_most: across,
+            });
+        }
+    }
+    mem::swap(group, &mut memory.row);
+    Ok(upward)
 }
 
 /// Whether a group is scanned upward, where that compares so many fragments at most: if these are few, or not many more
@@ -140,7 +184,8 @@ fn sort_by_least<I: OverlayInt>(group: &mut Vec<Fragment<I>>, axis: Axis) -> Res
     }
 }
 
-/// Puts fragments into the order of their keys. They are sorted then, unless where they begin is not in range.
+/// Puts fragments into the order of their keys, and leaves them in `memory` as they were. They are sorted then, unless
+/// where they begin is not in range.
 fn sort_by_keys<I: OverlayInt>(
     group: &mut Vec<Fragment<I>>,
     axis: Axis,
@@ -148,6 +193,7 @@ fn sort_by_keys<I: OverlayInt>(
 ) -> Result<(), AllocError>
     requires few { length group.old.items ≤ 2 ^ 32 }
     ensures permutation { IsPermutation group.old.items group.new.items }
+    ensures row { OnOk result (memory.new.row ≡ group.old) }
 {
     list_keys(group, axis, &mut memory.keys)?;
     memory.keys.sort()?;

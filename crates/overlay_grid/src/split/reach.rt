@@ -1,8 +1,10 @@
 // How many pairs of fragments a scan of groups along an axis compares. This project's own.
-ghost use Rattle.std.specs.Prelude.{◌≡◌, ◌≤◌, ◌-◌, ◌^◌, ℕ, true, count_by, int_le, length, min};
+ghost use Rattle.std.specs.Prelude.{◌≡◌, ◌≤◌, ◌-◌, ◌^◌, ◌≤ℤ◌, ◌<ℤ◌, [], ℕ, true, false, count_by, int_le, length, min};
 ghost use Rattle.overlay_grid.specs.FragmentOf.{fragment_of, fragments_of, least_along, IsSortedAlong};
 ghost use Rattle.overlay_grid.specs.GroupsOf.{group_in};
 ghost use Rattle.overlay_grid.specs.ColumnLooks.{looks_of_group, looks_of_groups};
+ghost use Rattle.overlay_grid.specs.steps.FragmentFinder.{is_group_rounded, marks_of_group};
+ghost use Rattle.overlay_intersections.specs.Marks.{Placing};
 
 use crate::split::axis::Axis;
 use crate::split::fragment::Fragment;
@@ -77,6 +79,29 @@ pub(crate) fn reached_in_group_at_most<I: OverlayInt>(group: &[Fragment<I>], axi
         count = count.saturating_add(own as u64);
     }
     count
+}
+
+/// Whether each fragment of a group begins above where the one before it ends, so that no two rectangles meet.
+pub(crate) fn are_apart_upward<I: OverlayInt>(group: &[Fragment<I>]) -> bool
+    ensures marks { result ≡ true → (placing : Placing) → marks_of_group placing (fragments_of I.whole group.now) ≡ [] }
+    ensures rounded { result ≡ true → is_group_rounded (fragments_of I.whole group.now) ≡ false }
+{
+    for place in 1..group.len() {
+        let before = group[place - 1];
+        let fragment = group[place];
+        if !begins_above(&fragment, &before) {
+            return false;
+        }
+    }
+    true
+}
+
+/// Whether a fragment begins above where another ends, and no lower than that begins.
+fn begins_above<I: OverlayInt>(fragment: &Fragment<I>, before: &Fragment<I>) -> bool
+    ensures past { result ≡ true → I.whole before.now.rect.max_y <ℤ I.whole fragment.now.rect.min_y }
+    ensures order { result ≡ true → I.whole before.now.rect.min_y ≤ℤ I.whole fragment.now.rect.min_y }
+{
+    before.rect.max_y < fragment.rect.min_y && before.rect.min_y <= fragment.rect.min_y
 }
 
 /// How many fragments are next to one: a look at the one after these comes first.

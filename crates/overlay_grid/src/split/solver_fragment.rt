@@ -25,6 +25,7 @@ use crate::split::sort_within::sort_up_to;
 use overlay_base::segm::fault::Fault;
 use overlay_base::segm::segment::Segment;
 use overlay_base::segm::winding::WindingCount;
+use overlay_geometry::geom::x_segment::XSegment;
 use overlay_geometry::num::OverlayInt;
 use overlay_intersections::split::line_mark::{LineMark, sort_marks};
 use overlay_intersections::split::marking::{Indexed, mark_both};
@@ -109,6 +110,25 @@ pub fn count_fragments<C: WindingCount, I: OverlayInt, D: Copy>(
         count = count.saturating_add(own as u128);
     }
     count
+}
+
+/// Whether segments are narrower than a column, on the average: then there are fewer than four fragments for each. It takes
+/// fewer steps than to count them.
+pub fn are_narrow<C: WindingCount, I: OverlayInt, D: Copy>(
+    segments: &[Segment<C, I, D>],
+    buffer: &FragmentBuffer<I>,
+) -> bool {
+    let layout = &buffer.layout;
+    if layout.column_count() < 2 {
+        return true;
+    }
+    let column = layout.pos(1).to_wide().abs_diff(layout.pos(0).to_wide());
+    let mut widths = 0_u64;
+    for index in 0..segments.len() {
+        let XSegment { a, b } = segments[index].x_segment();
+        widths = widths.saturating_add(b.x.to_wide().abs_diff(a.x.to_wide()));
+    }
+    widths / column.max(1) < segments.len() as u64
 }
 
 /// Empties the buffer, and adds the fragments of every segment. These have to be in range and inside the layout.

@@ -1,4 +1,4 @@
-// The finder over columns that gives up where it would compare too many pairs. This project's own.
+// The finder over one row that gives up where it would compare too many pairs. This project's own.
 ghost use Rattle.std.specs.Prelude.{◌≡◌, ◌≤◌, ◌+◌, All, IfErr, IfOk, OnOk, IfSome, OnSome, IfNone};
 ghost use Rattle.overlay_base.specs.declared.segm.fault.Fault.TheVariants.{Memory};
 ghost use Rattle.overlay_base.specs.SegmentOf.{ends_of, segments_of};
@@ -18,34 +18,14 @@ use overlay_geometry::num::OverlayInt;
 use overlay_intersections::split::line_mark::LineMark;
 use overlay_intersections::split::placing::Placing;
 
-/// Finds the marks of a pass as `solver_fragment::find_marks` does, under the same conditions, if that compares no more
-/// pairs than it may. It returns whether the pass rounds, and `None` where it gave up: it counts before it compares, so
-/// it compares none then, and `marks` is of no use.
+/// Finds the marks of a pass as `solver_fragment::find_marks` does, under the same conditions, but in one row, if that
+/// compares no more pairs than it may: each segment is one fragment, or two. The row is not that of `buffer`, which stays
+/// as it is.
+///
+/// It returns whether the pass rounds, and `None` where it gave up or there is no such row. It counts before it compares,
+/// so it compares none then, and `marks` is of no use.
 ///
 /// Returns `Fault::Memory` where a growth is refused; `marks` is of no use then.
-pub fn find_marks_within<C: WindingCount, I: OverlayInt, D: Copy>(
-    segments: &[Segment<C, I, D>],
-    placing: Placing,
-    most: u64,
-    buffer: &mut FragmentBuffer<I>,
-    marks: &mut Vec<LineMark<I>>,
-    looked: &mut u128,
-) -> Result<Option<bool>, Fault>
-    requires in_range { AreInRange segments.now }
-    requires inside { All (λ s. IsInside (grid_of buffer.old) (ends_of s)) segments.now }
-    requires radius { HasRadius placing }
-    ensures layout { grid_of buffer.new ≡ grid_of buffer.old }
-    ensures marks { IfOk result (λ found. OnSome found (AreMarksOf placing segments.now marks.new.items)) }
-    ensures rounded { IfOk result (λ found. IfSome found (λ rounded. rounded ≡ is_rounded (segments_of segments.now))) }
-    ensures looked { OnOk result (looked.new ≤ looked.old + most) }
-    ensures given_up { IfOk result (λ found. IfNone found (looked.new ≡ looked.old)) }
-    ensures fault { IfErr result (λ fault. fault ≡ Memory) }
-{
-    find_marks_up_to(segments, placing, Some(most), buffer, marks, looked)
-}
-
-/// Finds the marks as `find_marks_within` does, under the same conditions, but in one row: each segment is one fragment,
-/// or two. The row is not that of `buffer`, which stays as it is. It returns `None` also where there is no such row.
 pub fn find_marks_in_row<C: WindingCount, I: OverlayInt, D: Copy>(
     segments: &[Segment<C, I, D>],
     placing: Placing,

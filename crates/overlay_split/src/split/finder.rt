@@ -1,5 +1,5 @@
 // How the passes of a run find the segments that meet.
-ghost use Rattle.std.specs.Prelude.{◌≡◌, ◌≤◌, ◌+◌, All, IsTrue, IsFalse, None, IfErr, IfOk, OnOk, IfSome, OnSome, IfNone, IsSortedByKey};
+ghost use Rattle.std.specs.Prelude.{◌≡◌, ◌≤◌, ◌+◌, ◌*◌, All, IsTrue, IsFalse, None, IfErr, IfOk, OnOk, IfSome, OnSome, IfNone, IsSortedByKey, length};
 ghost use Rattle.overlay_base.specs.declared.segm.fault.Fault.TheVariants.{Memory};
 ghost use Rattle.overlay_geometry.specs.Points.{pair_cmp};
 ghost use Rattle.overlay_base.specs.Segments.{pairs};
@@ -29,7 +29,7 @@ use overlay_geometry::num::OverlayInt;
 use overlay_grid::split::fragment_buffer::FragmentBuffer;
 use overlay_grid::split::fragment_memory::FragmentMemory;
 use overlay_grid::split::grid_layout::GridLayout;
-use overlay_grid::split::solver_fragment::count_fragments;
+use overlay_grid::split::solver_fragment::{are_narrow, count_fragments};
 use overlay_grid::split::{column_sweep, solver_fragment_within};
 use overlay_intersections::split::line_mark::LineMark;
 use overlay_intersections::split::placing::Placing;
@@ -46,22 +46,21 @@ const TREE_FIRST_FRAGMENTS: u128 = 4;
 
 const _: () = prove!(TREE_FIRST_FRAGMENTS == 4);
 
-/// Comparisons per segment up to which columns serve in place of a tree, whose bound on comparisons is at least that.
-const COLUMN_BUDGET_PER_SEGMENT: u64 = 64;
+/// Pairs per segment whose ranges in `x` meet, up to which a list serves in place of a tree: sixteen are compared at once.
+const LIST_BUDGET_PER_SEGMENT: u64 = 32;
 
-const _: () = prove!(COLUMN_BUDGET_PER_SEGMENT == 64);
+const _: () = prove!(LIST_BUDGET_PER_SEGMENT == 32);
 
-/// Segments that are live at a time, on average, from which on columns serve. A tree compares fewer one by one, which is
-/// faster than columns.
-const MIN_LIVE_FOR_COLUMNS: u64 = 6;
+/// Comparisons per segment that columns may take before a tree serves. A tree takes up to 40 of the 64 that a pass may take.
+const COLUMN_BUDGET_PER_SEGMENT: u64 = 24;
 
-const _: () = prove!(MIN_LIVE_FOR_COLUMNS == 6);
+const _: () = prove!(COLUMN_BUDGET_PER_SEGMENT == 24);
 
-/// Segments that are live where the middle one begins, from which on columns serve whatever the average is: a few far ones
-/// make that small. A sweep with fewer keeps no tree.
-const MIN_LIVE_AT_MIDDLE: usize = 48;
+/// A list has about as many columns as the root of its length over this number. With more columns fewer pairs are compared,
+/// and more segments go on from one column into the next.
+const SEGMENTS_PER_SQUARED_COLUMN: usize = 2;
 
-const _: () = prove!(MIN_LIVE_AT_MIDDLE == 48);
+const _: () = prove!(SEGMENTS_PER_SQUARED_COLUMN == 2);
 
 /// Segments that share a height, on the average, up to which one row of all serves in place of a tree. Each is compared
 /// with about as many.
@@ -322,7 +321,7 @@ fn grid_over<C: WindingCount, I: OverlayInt, D: Copy>(
     if solver.is_list_split(first) {
         return Ok(None);
     }
-    match GridLayout::over_list(first) {
+    match GridLayout::over_list(first, first.len()) {
         Some(layout) => {
             let kept = replace(memory, FragmentMemory::new(alloc));
             let buffer = FragmentBuffer::with_memory(alloc, layout, kept)?;
@@ -355,6 +354,9 @@ fn find_over_grid<C: WindingCount, I: OverlayInt, D: Copy>(
         + grid_looks (grid_of grid.old) (pairs (segments_of segments.now))) }
     ensures fault { IfErr result (λ fault. fault ≡ Memory) }
 {
+    if are_narrow(segments, grid) {
+        return column_sweep::find_marks(segments, placing, grid, marks, looked);
+    }
     let fragments = count_fragments(segments, grid);
     if fragments >= TREE_FIRST_FRAGMENTS * segments.len() as u128 {
         let most = fragments.min(u64::MAX as u128) as u64;
@@ -370,7 +372,8 @@ fn find_over_grid<C: WindingCount, I: OverlayInt, D: Copy>(
     column_sweep::find_marks(segments, placing, grid, marks, looked)
 }
 
-/// Finds the marks in columns, if they may serve and take few comparisons, and else over a tree.
+/// Finds the marks over a list, if few pairs are in reach, or else in columns, if these take few comparisons, where the
+/// solver leaves the choice, and else over a tree.
 fn find_without_grid<C: WindingCount, I: OverlayInt, D: Copy>(
     segments: &[Segment<C, I, D>],
     placing: Placing,
@@ -388,6 +391,10 @@ fn find_without_grid<C: WindingCount, I: OverlayInt, D: Copy>(
     ensures fault { IfErr result (λ fault. fault ≡ Memory) }
 {
     if let Some(columns) = few {
+        let most = LIST_BUDGET_PER_SEGMENT.saturating_mul(segments.len() as u64);
+        if solver_list::are_few_in_reach(segments, most) {
+            return solver_list::find_marks(segments, placing, &mut tree.heights, marks, looked);
+        }
         let found = find_in_few_columns(segments, placing, columns, marks, looked)?;
         if let Some(rounded) = found {
             return Ok(rounded);
@@ -396,8 +403,8 @@ fn find_without_grid<C: WindingCount, I: OverlayInt, D: Copy>(
     solver_tree::find_marks(segments, placing, tree, marks, looked)
 }
 
-/// Finds the marks in columns over these segments, if that takes few comparisons. Else it returns `None`, compares no
-/// pair, and `marks` is of no use.
+/// Finds the marks in columns over these segments, if that takes few comparisons. Else it returns `None`, and `marks` is
+/// of no use.
 fn find_in_few_columns<C: WindingCount, I: OverlayInt, D: Copy>(
     segments: &[Segment<C, I, D>],
     placing: Placing,
@@ -410,14 +417,14 @@ fn find_in_few_columns<C: WindingCount, I: OverlayInt, D: Copy>(
     requires radius { HasRadius placing }
     ensures marks { IfOk result (λ found. OnSome found (AreMarksOf placing segments.now marks.new.items)) }
     ensures rounded { IfOk result (λ found. IfSome found (λ rounded. rounded ≡ is_rounded (segments_of segments.now))) }
-    ensures looked { OnOk result (looked.new ≤ looked.old + tree_looks (pairs_in segments.now)) }
-    ensures given_up { IfOk result (λ found. IfNone found (looked.new ≡ looked.old)) }
+    ensures looked { OnOk result (looked.new ≤ looked.old + 24 * length segments.now) }
     ensures fault { IfErr result (λ fault. fault ≡ Memory) }
 {
-    if segments.is_empty() || (are_few_live(segments) && are_few_at_middle(segments)) {
+    if segments.is_empty() {
         return Ok(None);
     }
-    let Some(layout) = GridLayout::over_list(segments) else {
+    let count = segments.len().div_ceil(SEGMENTS_PER_SQUARED_COLUMN);
+    let Some(layout) = GridLayout::over_list(segments, count) else {
         return Ok(None);
     };
     let memory = replace(&mut few.memory, FragmentMemory::new(few.alloc));
@@ -425,39 +432,6 @@ fn find_in_few_columns<C: WindingCount, I: OverlayInt, D: Copy>(
     let found = find_in_columns(segments, placing, &mut grid, marks, looked)?;
     few.memory = grid.into_memory();
     Ok(found)
-}
-
-/// Whether few segments are live at a time in a sweep from left to right, on the average: as often as the sum of their
-/// widths holds the width of all.
-fn are_few_live<C: WindingCount, I: OverlayInt, D: Copy>(segments: &[Segment<C, I, D>]) -> bool {
-    let mut widths = 0_u64;
-    let mut first = i64::MAX;
-    let mut last = i64::MIN;
-    for index in 0..segments.len() {
-        let XSegment { a, b } = segments[index].x_segment();
-        let left = a.x.to_wide();
-        let right = b.x.to_wide();
-        widths = widths.saturating_add(right.abs_diff(left));
-        first = first.min(left);
-        last = last.max(right);
-    }
-    widths / MIN_LIVE_FOR_COLUMNS < last.abs_diff(first)
-}
-
-/// Whether few of the segments before the middle one of a list end right of where it begins.
-fn are_few_at_middle<C: WindingCount, I: OverlayInt, D: Copy>(
-    segments: &[Segment<C, I, D>],
-) -> bool {
-    let (before, rest) = segments.split_at(segments.len() / 2);
-    let Some(middle) = rest.first() else {
-        return true;
-    };
-    let x = middle.x_segment().a.x;
-    let live = before
-        .iter()
-        .filter(|segment| x <= segment.x_segment().b.x)
-        .count();
-    live < MIN_LIVE_AT_MIDDLE
 }
 
 /// The same in the columns of a grid, inside which the segments have to lie, or in one row where they have many fragments
@@ -469,20 +443,31 @@ fn find_in_columns<C: WindingCount, I: OverlayInt, D: Copy>(
     marks: &mut Vec<LineMark<I>>,
     looked: &mut u128,
 ) -> Result<Option<bool>, Fault>
+    requires sorted { IsSortedByKey ends_of pair_cmp segments.now }
     requires in_range { AreInRange segments.now }
     requires inside { All (λ s. IsInside (grid_of grid.old) (ends_of s)) segments.now }
     requires radius { HasRadius placing }
     ensures marks { IfOk result (λ found. OnSome found (AreMarksOf placing segments.now marks.new.items)) }
     ensures rounded { IfOk result (λ found. IfSome found (λ rounded. rounded ≡ is_rounded (segments_of segments.now))) }
-    ensures looked { OnOk result (looked.new ≤ looked.old + tree_looks (pairs_in segments.now)) }
-    ensures given_up { IfOk result (λ found. IfNone found (looked.new ≡ looked.old)) }
+    ensures looked { OnOk result (looked.new ≤ looked.old + 24 * length segments.now) }
     ensures fault { IfErr result (λ fault. fault ≡ Memory) }
 {
     let most = COLUMN_BUDGET_PER_SEGMENT.saturating_mul(segments.len() as u64);
-    if count_fragments(segments, grid) >= TREE_FIRST_FRAGMENTS * segments.len() as u128 {
+    if has_many_fragments(segments, grid) {
         return find_in_row(segments, placing, most, grid, marks, looked);
     }
-    solver_fragment_within::find_marks_within(segments, placing, most, grid, marks, looked)
+    column_sweep::find_marks_within(segments, placing, most, grid, marks, looked)
+}
+
+/// Whether segments have at least four fragments each, on the average.
+fn has_many_fragments<C: WindingCount, I: OverlayInt, D: Copy>(
+    segments: &[Segment<C, I, D>],
+    grid: &FragmentBuffer<I>,
+) -> bool
+    requires { All (λ s. IsInside (grid_of grid.now) (ends_of s)) segments.now }
+{
+    !are_narrow(segments, grid)
+        && count_fragments(segments, grid) >= TREE_FIRST_FRAGMENTS * segments.len() as u128
 }
 
 /// Finds the marks in one row, if few segments share a height and that takes no more comparisons than it may. Else it

@@ -130,9 +130,10 @@ impl<I> SplitSolver<I> {
     /// to find that they do not meet; 0 at first. It stops at `u128::MAX`.
     ///
     /// A pass over the list compares at most the pairs whose ranges in `x` meet, and under `Strategy::List` exactly these.
-    /// A pass over a tree compares at most 64 for each segment and for each pair whose ranges in `x` and in `y` meet. A
-    /// pass over a grid compares at most the pairs of parts in one column whose ranges in `y` meet, one for each part,
-    /// and, for a vertical segment on the left border of a column, the parts in the column to its left.
+    /// A pass over a tree, with what `Strategy::Auto` tries before, compares at most 64 for each segment and for each pair
+    /// whose ranges in `x` and in `y` meet. A pass over a grid compares at most the pairs of parts in one column whose
+    /// ranges in `y` meet, one for each part, and, for a vertical segment on the left border of a column, the parts in the
+    /// column to its left.
     ///
     /// Not counted are comparisons of no pair: of heights with the roots on the way down a tree, of the ends of live
     /// segments with the `x` of the sweep, and with the first segment or part past the end of a scan, one at most for

@@ -1,4 +1,5 @@
 -- The finder over a list.
 pub mod ListLooks
 pub mod ListScans
+pub mod ListReach
 pub mod Listed

@@ -17,7 +17,7 @@ pair_at ps index = slice_index_or ps index nowhere
 
 -- from this number on live entries are in a tree; fewer are compared one by one
 abbrev pub few : ℕ
-few = 48
+few = 32
 
 -- the entry of a pair, before it is live, and a node without others
 abbrev pub entry_of_pair : ℕ → Pair → Entry

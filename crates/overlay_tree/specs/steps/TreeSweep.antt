@@ -31,10 +31,10 @@ abbrev pub live_count : List Entry → ℕ
 live_count es = count_by (λ e. e.is_live) es
 
 -- The comparisons so far are the pairs of the first segments whose boxes meet, and others: the entries that were dropped, each of which
--- was live once, fewer than 48 for each segment, and 8 for each entry that was found or dropped.
+-- was live once, fewer than 32 for each segment, and 8 for each entry that was found or dropped.
 pub record IsCounted (ps : List Pair) (es : List Entry) (j old now : ℕ) : Type 0 where
   pub others : ℕ
-  pub most : others + 9 * live_count es ≤ 56 * j + 8 * count_twos boxes_meet (take j ps)
+  pub most : others + 9 * live_count es ≤ 40 * j + 8 * count_twos boxes_meet (take j ps)
   pub is : now ≡ min (old + (count_twos boxes_meet (take j ps) + others)) (2 ^ 128 - 1)
 
 -- the entries that are not in the tree: those that have gone, and those that are to come

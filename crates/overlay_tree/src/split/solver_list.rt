@@ -1,5 +1,5 @@
 // The finder that compares every pair of segments of a list. Upstream: `split::solver_list`.
-ghost use Rattle.std.specs.Prelude.{◌≡◌, ◌<◌, ◌≤◌, ◌+◌, ◌-◌, ◌^◌, min, map, count_by, cond, nat_lt, [], ◌∷◌, ◌++◌, ◌||◌, All, IfErr, IfOk, OnOk, IsSortedByKey, drop, take, length};
+ghost use Rattle.std.specs.Prelude.{◌≡◌, ◌<◌, ◌≤◌, ◌+◌, ◌-◌, ◌^◌, min, map, count_by, cond, nat_lt, int_le, true, [], ◌∷◌, ◌++◌, ◌||◌, All, IfErr, IfOk, OnOk, IsSortedByKey, drop, take, length};
 ghost use Rattle.overlay_base.specs.declared.segm.fault.Fault.TheVariants.{Memory};
 ghost use Rattle.overlay_geometry.specs.Points.{pair_cmp};
 ghost use Rattle.overlay_geometry.specs.RangeOf.{range_of};
@@ -361,4 +361,68 @@ fn mark_two<C: WindingCount, I: OverlayInt, D: Copy>(
     } else {
         mark_both_apart(first, second, placing, marks)
     }
+}
+
+/// Whether `find_marks` is known to compare no more pairs of these segments than a number. It takes fewer steps than to
+/// count them: one look or two bound what most segments reach. It returns `false` as soon as the sum of these bounds
+/// exceeds the number. The list has to be sorted, as by `sort_by_ab`.
+pub fn are_few_in_reach<C: WindingCount, I: OverlayInt, D: Copy>(
+    segments: &[Segment<C, I, D>],
+    most: u64,
+) -> bool
+    requires sorted { IsSortedByKey ends_of pair_cmp segments.now }
+    ensures { result ≡ true → count_twos x_ranges_meet (pairs_in segments.now) ≤ most }
+{
+    let mut left = most;
+    for index in 0..segments.len() {
+        let end = segments[index].x_segment().b.x;
+        let own = begun_at_most(&segments[index + 1..], end) as u64;
+        if left < own {
+            return false;
+        }
+        left -= own;
+    }
+    true
+}
+
+/// So many later segments may be in reach. A look at the one after these comes before the next number; for most segments the
+/// first is enough.
+const LEVELS: [usize; 8] = [16, 32, 48, 64, 128, 256, 512, 1_024];
+
+/// A number which the segments of a sorted list that begin up to an `x` do not exceed.
+fn begun_at_most<C: WindingCount, I: OverlayInt, D: Copy>(
+    later: &[Segment<C, I, D>],
+    end: I,
+) -> usize
+    requires sorted { IsSortedByKey ends_of pair_cmp later.now }
+    ensures { count_by (λ s. int_le (ends_of s).a.x (I.whole end)) later.now ≤ result }
+{
+    for level in &LEVELS {
+        if begins_past(later, *level, end) {
+            return *level;
+        }
+    }
+    later.len()
+}
+
+/// Whether there is a segment at an index, and it begins right of an `x`, and so does each after it.
+fn begins_past<C: WindingCount, I: OverlayInt, D: Copy>(
+    later: &[Segment<C, I, D>],
+    index: usize,
+    end: I,
+) -> bool
+    requires sorted { IsSortedByKey ends_of pair_cmp later.now }
+    ensures { result ≡ true → count_by (λ s. int_le (ends_of s).a.x (I.whole end)) later.now ≤ index }
+{
+    if index >= later.len() {
+        return false;
+    }
+    !begins_by(&later[index], end)
+}
+
+/// Whether a segment begins at an `x` or left of it.
+fn begins_by<C: WindingCount, I: OverlayInt, D: Copy>(segment: &Segment<C, I, D>, x: I) -> bool
+    ensures { result ≡ int_le (ends_of segment.now).a.x (I.whole x) }
+{
+    segment.x_segment().a.x <= x
 }

@@ -11,7 +11,8 @@ ghost use Rattle.overlay_intersections.specs.PlacingOf.{placing_of, HasRadius};
 ghost use Rattle.overlay_intersections.specs.MarkOf.{AreMarks, marks_of, AreMarksOf};
 ghost use Rattle.overlay_tree.specs.steps.IntervalTree.{AreRising, IsSummed, entries, stays_at};
 ghost use Rattle.overlay_tree.specs.steps.NodeOf.{tree_nodes, node_of, node_entry};
-ghost use Rattle.overlay_intersections.specs.Looked.{boxes_meet, count_twos, tree_looks, capped_sum};
+ghost use Rattle.overlay_intersections.specs.Looked.{boxes_meet, count_twos, capped_sum};
+ghost use Rattle.overlay_tree.specs.TreeLooks.{sweep_looks};
 ghost use Rattle.overlay_tree.specs.steps.TreeSweep.{IsUnderWay, GoesOn, AreFoundBefore};
 ghost use Rattle.overlay_tree.specs.steps.Swept.{alone, few, entry_at, entry_of_pair, entries_between, pair_at, marks_with_found, crosses_found};
 ghost use Rattle.std.specs.List.{IsDistinct, range_with_len};
@@ -56,10 +57,10 @@ impl<I> TreeBuffers<I> {
 /// A sweep over the list keeps the segments that it has met: a few in a list, and more in a tree over their heights,
 /// which is renewed from time to time, so that it has few that have ended. In a tree each segment is compared with
 /// those whose heights it meets: those that end left of it are dropped, with the others it is marked. It is also
-/// compared with every entry of a subtree of at most 8 that it passes over. Where fewer than 48 are live, it is
+/// compared with every entry of a subtree of at most 8 that it passes over. Where fewer than 32 are live, it is
 /// compared with each of them.
 ///
-/// `looked` counts these comparisons. For `s` segments they are at most `64 * (s + q)`, with `q` pairs whose ranges in
+/// `looked` counts these comparisons. For `s` segments they are at most `40 * s + 9 * q`, with `q` pairs whose ranges in
 /// `x` and in `y` meet. Not counted are comparisons of no pair: of heights with the roots on the way down a tree, and of
 /// the ends of live segments with the `x` of the sweep, where those that have ended are taken out.
 ///
@@ -76,7 +77,7 @@ pub fn find_marks<C: WindingCount, I: OverlayInt, D: Copy>(
     requires radius { HasRadius placing }
     ensures marks { OnOk result (AreMarksOf placing segments.now marks.new.items) }
     ensures rounded { IfOk result (λ rounded. rounded ≡ is_rounded (segments_of segments.now)) }
-    ensures looked { OnOk result (looked.new ≤ looked.old + tree_looks (pairs (segments_of segments.now))) }
+    ensures looked { OnOk result (looked.new ≤ looked.old + sweep_looks (pairs (segments_of segments.now))) }
     ensures each_looked { OnOk result
         (capped_sum looked.old (count_twos boxes_meet (pairs_in segments.now)) ≤ looked.new) }
     ensures fault { IfErr result (λ fault. fault ≡ Memory) }
@@ -104,7 +105,7 @@ pub(crate) fn find_marks_up_to<C: WindingCount, I: OverlayInt, D: Copy>(
     ensures rounded { IfOk result (λ found. IfSome found (λ rounded. rounded ≡ is_rounded (segments_of segments.now))) }
     ensures found { limit ≡ None → IfOk result (λ found. IsSome found) }
     ensures looked { IfOk result (λ found. OnSome found
-        (looked.new ≤ looked.old + tree_looks (pairs (segments_of segments.now)))) }
+        (looked.new ≤ looked.old + sweep_looks (pairs (segments_of segments.now)))) }
     ensures each_looked { IfOk result (λ found. OnSome found
         (min (looked.old + count_twos boxes_meet (pairs (segments_of segments.now))) (2 ^ 128 - 1) ≤ looked.new)) }
     ensures within { OnOk result (IfSome limit (λ most. looked.new ≤ most)) }
@@ -144,9 +145,9 @@ fn may_take(limit: Option<u128>, looked: u128, more: usize) -> bool
 
 /// The number of live segments from which on a tree is kept. Each segment is compared with all of fewer, which costs
 /// less than a tree. The bound on comparisons rests on it.
-const MAX_LISTED: usize = 48;
+const MAX_LISTED: usize = 32;
 
-const _: () = prove!(MAX_LISTED == 48);
+const _: () = prove!(MAX_LISTED == 32);
 
 /// Takes the segment at an index into the sweep: finds those before it that are live and whose heights it meets, and
 /// adds it. The tree has the entries of segments up to `until`; returns up to which it has them then.

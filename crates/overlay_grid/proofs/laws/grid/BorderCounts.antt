@@ -1,42 +1,40 @@
 -- How many comparisons borders take at most, as code counts them.
-use Rattle.std.proofs.Common.{◌≡◌, ap, subst, ◌∙◌, ℕ, ◌+◌, ◌-◌, ◌^◌, ◌≤◌, arith, min, Bool, true, false, if◌then◌else◌, List, [], ◌∷◌, length}
-use Rattle.std.specs.Prelude.{ℤ}
-use Rattle.std.proofs.lemmas.List.Sums.{sum_by-cons}
+use Rattle.std.proofs.Common.{◌≡◌, refl, ap, ◌∙◌, ℕ, suc, ◌+◌, ◌*◌, ◌≤◌, arith, Bool, true, false, if◌then◌else◌, List, [], ◌∷◌, length}
+use Rattle.std.specs.Prelude.{ℤ, count_by}
+use Rattle.std.proofs.lemmas.List.{length-append}
+use Rattle.std.proofs.Math.Nat.{mul-suc}
+use Rattle.overlay_intersections.specs.MarkOf.{Mark}
 use Rattle.overlay_grid.specs.FragmentOf.{KeptFragment}
-use Rattle.overlay_grid.specs.steps.FragmentFinder.{looks_of_border, stands_at}
-use Rattle.std.proofs.Math.Nat.{zero-add}
+use Rattle.overlay_grid.specs.steps.FragmentFinder.{looks_of_border, marks_at_heights, marks_of_heights, stands_at}
+use Rattle.overlay_grid.proofs.laws.grid.BorderMarks.{few_at_heights, few_of, looks_first, marks_first}
+use Rattle.overlay_grid.proofs.laws.grid.GridCounts.{count_by-cons}
 
--- what is counted and what is left make up the whole
-pub record IsCountingBorder (x : ℤ) (left group : List KeptFragment) (count : ℕ) (rest : List KeptFragment) : Type 0 where
-  pub fits : count ≤ 2 ^ 64 - 1
-  pub total : min (count + looks_of_border x left rest) (2 ^ 64 - 1) ≡ min (looks_of_border x left group) (2 ^ 64 - 1)
+-- so many for each vertical segment, and one more of these or not
+one_more : (b : Bool) (each n all rest : ℕ) → n ≡ (if b then 1 else 0) + rest → each * rest ≡ all → each * n ≡ (if b then each else 0) + all
+one_more true each n all rest e h = let more = ap (λ (k : ℕ). each * k) (let next : n ≡ suc rest = omega (arith, e) in next) ∙ mul-suc each rest in omega (arith, more, h)
+one_more false each n all rest e h = let same = ap (λ (k : ℕ). each * k) (let next : n ≡ rest = omega (arith, e) in next) in omega (arith, same, h)
 
-pub IsCountingBorder-start : (x : ℤ) (left group : List KeptFragment) → IsCountingBorder x left group 0 group
-IsCountingBorder-start x left group = record { fits = omega arith; total = ap (λ (n : ℕ). min n (2 ^ 64 - 1)) (zero-add (looks_of_border x left group)) }
-
-looks_next : (x : ℤ) (left : List KeptFragment) (f : KeptFragment) (rest : List KeptFragment) (b : Bool) → stands_at x f ≡ b → looks_of_border x left (f ∷ rest) ≡ (if b then length left else 0) + looks_of_border x left rest
+none_looked : (x : ℤ) (left : List KeptFragment) → looks_of_border x left [] ≡ 0
 unfolding looks_of_border
-looks_next x left f rest b e = sum_by-cons (λ u. if stands_at x u then length left else 0) f rest ∙ ap (λ (t : Bool). (if t then length left else 0) + looks_of_border x left rest) e
+none_looked x left = refl
 
-further : (count own rest total most next : ℕ) → min (count + (own + rest)) most ≡ total → next ≡ min (count + own) most → min (next + rest) most ≡ total
-further count own rest total most next h n = omega arith
+pub looks_counted : (x : ℤ) (left group : List KeptFragment) → length left * count_by (stands_at x) group ≡ looks_of_border x left group
+looks_counted x left [] = let none = none_looked x left in omega arith
+looks_counted x left (f ∷ group) =
+    let looks = looks_first x left f group (stands_at x f) refl in
+    let more = one_more (stands_at x f) (length left) (count_by (stands_at x) (f ∷ group)) (looks_of_border x left group) (count_by (stands_at x) group) (count_by-cons (stands_at x) f group) (looks_counted x left group) in
+    omega (arith, looks, more)
 
-pub IsCountingBorder-more : (x : ℤ) (left group : List KeptFragment) (f : KeptFragment) (rest : List KeptFragment) (count next : ℕ) → IsCountingBorder x left group count (f ∷ rest) → stands_at x f ≡ true → next ≡ min (count + length left) (2 ^ 64 - 1) →
-    IsCountingBorder x left group next rest
-IsCountingBorder-more x left group f rest count next w s n = record {
-  fits = omega (arith, n);
-  total = further count (length left) (looks_of_border x left rest) _ (2 ^ 64 - 1) next (subst (λ (k : ℕ). min (count + k) (2 ^ 64 - 1) ≡ min (looks_of_border x left group) (2 ^ 64 - 1)) (looks_next x left f rest true s) w.total) n;
-}
+none_marked : (x : ℤ) (ys : List ℤ) → length (marks_of_heights x ys []) ≡ 0
+unfolding marks_of_heights
+none_marked x ys = refl
 
-pub IsCountingBorder-none : (x : ℤ) (left group : List KeptFragment) (f : KeptFragment) (rest : List KeptFragment) (count : ℕ) → IsCountingBorder x left group count (f ∷ rest) → stands_at x f ≡ false → IsCountingBorder x left group count rest
-IsCountingBorder-none x left group f rest count w s = record {
-  fits = w.fits;
-  total = subst (λ (k : ℕ). min (count + k) (2 ^ 64 - 1) ≡ min (looks_of_border x left group) (2 ^ 64 - 1)) (looks_next x left f rest false s ∙ zero-add (looks_of_border x left rest)) w.total;
-}
-
-pub IsCountingBorder-end : (x : ℤ) (left group : List KeptFragment) (count : ℕ) (rest : List KeptFragment) → IsCountingBorder x left group count rest → rest ≡ [] → count ≡ min (looks_of_border x left group) (2 ^ 64 - 1)
-unfolding looks_of_border
-IsCountingBorder-end x left group count rest w none =
-    let total = rw none at w.total in
-    let fits = w.fits in
-    omega arith
+-- so many right ends make no more marks on the vertical segments of a border
+pub few_counted : (x : ℤ) (ys : List ℤ) (group : List KeptFragment) → length (marks_of_heights x ys group) ≤ length ys * count_by (stands_at x) group
+few_counted x ys [] = let none = none_marked x ys in omega arith
+few_counted x ys (f ∷ group) =
+    let marks = ap (λ (ms : List Mark). length ms) (marks_first x ys f group (stands_at x f) refl) ∙ length-append (if stands_at x f then marks_at_heights f ys else []) (marks_of_heights x ys group) in
+    let here = few_of (stands_at x f) 0 (length ys) (marks_at_heights f ys) (few_at_heights f ys) in
+    let more = one_more (stands_at x f) (length ys) (count_by (stands_at x) (f ∷ group)) (length ys * count_by (stands_at x) group) (count_by (stands_at x) group) (count_by-cons (stands_at x) f group) refl in
+    let rest = few_counted x ys group in
+    omega (arith, marks, here, more, rest)

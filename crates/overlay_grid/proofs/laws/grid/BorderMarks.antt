@@ -188,11 +188,11 @@ pub record IsBorderSeen (x : ℤ) (ys : List ℤ) (group : List KeptFragment) (o
   pub found : now ++ marks_of_heights x ys rest ≡ old ++ marks_of_heights x ys group
   pub count : looks + length (marks_of_heights x ys rest) ≤ first + length (marks_of_heights x ys group)
 
-marks_first : (x : ℤ) (ys : List ℤ) (f : KeptFragment) (rest : List KeptFragment) (b : Bool) → stands_at x f ≡ b → marks_of_heights x ys (f ∷ rest) ≡ (if b then marks_at_heights f ys else []) ++ marks_of_heights x ys rest
+pub marks_first : (x : ℤ) (ys : List ℤ) (f : KeptFragment) (rest : List KeptFragment) (b : Bool) → stands_at x f ≡ b → marks_of_heights x ys (f ∷ rest) ≡ (if b then marks_at_heights f ys else []) ++ marks_of_heights x ys rest
 unfolding marks_of_heights
 marks_first x ys f rest b e = ap (λ (c : Bool). (if c then marks_at_heights f ys else []) ++ marks_of_heights x ys rest) e
 
-looks_first : (x : ℤ) (left : List KeptFragment) (f : KeptFragment) (rest : List KeptFragment) (b : Bool) → stands_at x f ≡ b → looks_of_border x left (f ∷ rest) ≡ (if b then length left else 0) + looks_of_border x left rest
+pub looks_first : (x : ℤ) (left : List KeptFragment) (f : KeptFragment) (rest : List KeptFragment) (b : Bool) → stands_at x f ≡ b → looks_of_border x left (f ∷ rest) ≡ (if b then length left else 0) + looks_of_border x left rest
 unfolding looks_of_border
 looks_first x left f rest b e = sum_by-cons (λ g. if stands_at x g then length left else 0) f rest ∙ ap (λ (c : Bool). (if c then length left else 0) + sum_by (λ g. if stands_at x g then length left else 0) rest) e
 
@@ -319,20 +319,27 @@ module _ (least greatest x : ℤ) (left group : List KeptFragment) (ys : List �
       let k = which (stands_at x r.0) (marks_at_heights r.0 ys) m r.2 in
       Has-flat_map (λ f. if stands_at x f then marks_of_ends f left else []) group r.0 m r.1 (of_those (stands_at x r.0) (marks_of_ends r.0 left) m k.0 (heights_to_ends x r.0 left ys (ordered_at r.0 r.1) k.0 same m k.1))
 
--- there are no more of them than looks that a border may take
-few_at : (x : ℤ) (f : KeptFragment) (left : List KeptFragment) (ys : List ℤ) → IsPermutation (heights_at x left) ys → length (marks_at_heights f ys) ≤ length left
-unfolding marks_at_heights heights_at
-few_at x f left ys p =
+-- one vertical segment takes no more of them than there are heights
+pub few_at_heights : (f : KeptFragment) (ys : List ℤ) → length (marks_at_heights f ys) ≤ length ys
+unfolding marks_at_heights
+few_at_heights f ys =
     let a = length-map (filter (λ y. lies_between f y) ys) (λ y. height_mark f y) in
     let b = length-filter (λ y. lies_between f y) ys in
     let c = count_by-le-length (λ y. lies_between f y) ys in
+    omega arith
+
+-- there are no more of them than looks that a border may take
+few_at : (x : ℤ) (f : KeptFragment) (left : List KeptFragment) (ys : List ℤ) → IsPermutation (heights_at x left) ys → length (marks_at_heights f ys) ≤ length left
+unfolding heights_at
+few_at x f left ys p =
+    let a = few_at_heights f ys in
     let d = length_permutation (heights_at x left) ys p in
     let e = length-map (filter (λ u. int_eq u.pair.b.x x) left) (λ (u : KeptFragment). u.pair.b.y) in
     let g = length-filter (λ u. int_eq u.pair.b.x x) left in
     let h = count_by-le-length (λ (u : KeptFragment). int_eq u.pair.b.x x) left in
     omega arith
 
-few_of : (b : Bool) (n k : ℕ) (ms : List Mark) → length ms ≤ k → length (if b then ms else []) ≤ (if b then k else 0)
+pub few_of : (b : Bool) (n k : ℕ) (ms : List Mark) → length ms ≤ k → length (if b then ms else []) ≤ (if b then k else 0)
 few_of true n k ms h = h
 few_of false n k ms h = omega arith
 
@@ -348,6 +355,16 @@ few_on_border x left (f ∷ group) ys p =
     let here = few_of (stands_at x f) 0 (length left) (marks_at_heights f ys) (few_at x f left ys p) in
     let rest = few_on_border x left group ys p in
     omega arith
+
+-- no heights make no marks
+pub no_heights_mark : (x : ℤ) (group : List KeptFragment) → marks_of_heights x [] group ≡ []
+unfolding marks_of_heights
+no_heights_mark x [] = refl
+no_heights_mark x (f ∷ group) = ap₂ (λ (ms ns : List Mark). ms ++ ns) (none (stands_at x f)) (no_heights_mark x group)
+  where
+    none : (b : Bool) → (if b then marks_at_heights f [] else []) ≡ []
+    none true = no_marks f
+    none false = refl
 
 -- ---- the walk over all borders
 

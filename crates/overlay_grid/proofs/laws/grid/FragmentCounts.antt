@@ -72,6 +72,10 @@ pub tree_within : (l : Layout) (ps : List Pair) (fragments old new : ℕ) → fr
 unfolding grid_looks
 tree_within l ps fragments old new n h = omega (arith, n)
 
+pub columns_within : (l : Layout) (ps : List Pair) (old new : ℕ) → new ≤ old + fragment_looks l ps → new ≤ old + grid_looks l ps
+unfolding grid_looks
+columns_within l ps old new h = omega (arith, h)
+
 pub both_within : (l : Layout) (ps : List Pair) (fragments old middle last : ℕ) → fragments ≡ min (length (all_fragments l ps)) (2 ^ 128 - 1) → middle ≤ old + fragments → last ≤ middle + fragment_looks l ps → last ≤ old + grid_looks l ps
 unfolding grid_looks
 both_within l ps fragments old middle last n h k = omega (arith, n)

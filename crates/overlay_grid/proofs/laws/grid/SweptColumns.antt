@@ -1,6 +1,6 @@
 -- What a walk over the columns of a grid from the left has found.
-use Rattle.std.proofs.Common.{◌≡◌, refl, sym, ap, ap₂, subst, ◌∙◌, ℕ, zero, suc, ◌+◌, ◌-◌, ◌<◌, ◌≤◌, inl, inr, arith, append_assoc, Bool, true, false, ◌||◌, if◌then◌else◌, List, [], ◌∷◌, ◌++◌, length, IsTrue}
-use Rattle.std.specs.Prelude.{ℤ, flat_map, sum_by, IsPermutation}
+use Rattle.std.proofs.Common.{◌≡◌, refl, sym, ap, ap₂, subst, ◌∙◌, ℕ, zero, suc, ◌+◌, ◌-◌, ◌<◌, ◌≤◌, inl, inr, ◌^◌, arith, append_assoc, append-nil, min, Option, None, Some, Result, Ok, Err, Bool, true, false, ◌||◌, if◌then◌else◌, List, [], ◌∷◌, ◌++◌, length, IsTrue}
+use Rattle.std.specs.Prelude.{ℤ, flat_map, sum_by, IfOk, IfSome, OnOk, OnSome, IsPermutation}
 use Rattle.std.specs.List.{AllByRecursion, list_any, range_with_len}
 use Rattle.std.proofs.lemmas.List.Folds.{list_any-append}
 use Rattle.std.proofs.lemmas.List.Sums.{sum_by-cons}
@@ -17,7 +17,7 @@ use Rattle.overlay_grid.specs.GridLooks.{fragment_looks}
 use Rattle.overlay_grid.specs.steps.Entering.{entering, prior_group}
 use Rattle.overlay_grid.specs.steps.FragmentFinder.{HoldSame, heights_at, is_ready, kept_group, looks_of_border, marks_of_border, marks_of_ends, marks_of_group, marks_of_heights, stands_at}
 use Rattle.overlay_grid.specs.steps.Sweeps.{AreParted, looks_of_column, marks_of_column}
-use Rattle.overlay_grid.proofs.laws.grid.BorderMarks.{AreBordersSeen, borders-more, border_to_heights, few_on_border, heights_to_border, hold_same}
+use Rattle.overlay_grid.proofs.laws.grid.BorderMarks.{AreBordersSeen, borders-more, border_to_heights, few_on_border, heights_to_border, hold_equal, hold_same}
 use Rattle.overlay_grid.proofs.laws.grid.GridCounts.{sum_by-alike, sum_by-plus}
 use Rattle.overlay_grid.proofs.laws.grid.GridFills.{range-next}
 use Rattle.overlay_grid.proofs.laws.grid.GridFound.{Has-number, marks-permuted}
@@ -34,6 +34,33 @@ permuted_more placing fs gs old now p e = subst (HoldSame (old ++ marks_of_group
       | inl a ↦ Has-append_left old (marks_of_group placing gs) m a
       | inr b ↦ Has-append_right old (marks_of_group placing gs) m (marks-permuted placing fs gs p m b)
     ]
+
+-- fragments that are apart put no marks on one another
+pub none_more : (old none : List Mark) → none ≡ [] → HoldSame (old ++ none) old
+none_more old none e = hold_equal (old ++ none) old (ap (λ (ms : List Mark). old ++ ms) e ∙ append-nil old)
+
+-- ---- what a call found that may give up
+
+pub if_found : {X E : Type 0} (r : Result (Option X) E) (P Q : X → Type 0) → ((x : X) → P x → Q x) → IfOk r (λ found. IfSome found P) → IfOk r (λ found. IfSome found Q)
+if_found (Ok None) P Q f h = tt
+if_found (Ok (Some x)) P Q f h = f x h
+if_found (Err e) P Q f h = tt
+
+pub on_found : {X E : Type 0} (r : Result (Option X) E) (P Q : Type 0) → (P → Q) → OnOk r P → IfOk r (λ found. OnSome found Q)
+on_found (Ok None) P Q f h = tt
+on_found (Ok (Some x)) P Q f h = f h
+on_found (Err e) P Q f h = tt
+
+-- ---- a limit of the looks
+
+-- what is counted up to the greatest number of 64 bits, and is less than that, is counted whole
+pub capped_within : (limit : Option ℕ) (now own more : ℕ) → IfSome limit (λ most. more < 2 ^ 64 - 1) → IfSome limit (λ most. more ≤ most - now) → min own (2 ^ 64 - 1) ≤ more → IfSome limit (λ most. own ≤ most - now)
+capped_within None now own more h k n = tt
+capped_within (Some most) now own more h k n = omega (arith, h, k, n)
+
+pub stays_within : (limit : Option ℕ) (now next own : ℕ) → IfSome limit (λ most. now ≤ most) → IfSome limit (λ most. own ≤ most - now) → next ≤ now + own → IfSome limit (λ most. next ≤ most)
+stays_within None now next own h k n = tt
+stays_within (Some most) now next own h k n = omega (arith, h, k, n)
 
 -- ---- before the first column
 

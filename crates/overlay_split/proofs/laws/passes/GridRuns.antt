@@ -58,11 +58,11 @@ first_over_grid l (s ∷ segments) map h =
     let log = has_log (length (s ∷ segments)) (omega arith) in
     ends_over_grid s.pair (pairs segments) (log.0 / 2) l (ordered_pairs (s ∷ segments) ordered) sorted (h log.0 log.1)
 
--- a grid that is laid over a sorted list holds it
-pub lies_inside_its_grid : {C I D : Type 0} {m : _} {w : _} {o : _} {e : _} {p : _} (xs : List (Segment C I D m w o e p)) (l : Layout) → IsSortedByKey ends_of pair_cmp xs → IsLayoutOf (pairs (segments_of xs)) (length xs) l → All (λ (x : Segment C I D m w o e p). IsInside l (ends_of x)) xs
-lies_inside_its_grid [] l sorted h = absurd h
-lies_inside_its_grid (x ∷ xs) l sorted h =
-    let log = has_log (length (x ∷ xs)) (omega arith) in
+-- a grid that is laid over a sorted list holds it, for whatever number of segments
+pub lies_inside_its_grid : {C I D : Type 0} {m : _} {w : _} {o : _} {e : _} {p : _} (xs : List (Segment C I D m w o e p)) (count : ℕ) (l : Layout) → IsSortedByKey ends_of pair_cmp xs → 0 < length xs → 0 < count → IsLayoutOf (pairs (segments_of xs)) count l → All (λ (x : Segment C I D m w o e p). IsInside l (ends_of x)) xs
+lies_inside_its_grid [] count l sorted some more h = absurd (omega arith)
+lies_inside_its_grid (x ∷ xs) count l sorted some more h =
+    let log = has_log count more in
     each_lies_inside (x ∷ xs) l (inside_their_grid (ends_of x) (pairs (segments_of xs)) (log.0 / 2) l (pairs_in_order (x ∷ xs) sorted) (h log.0 log.1))
 
 -- ---- later ones

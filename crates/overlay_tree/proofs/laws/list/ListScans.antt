@@ -166,7 +166,7 @@ block_is_apart whole hs ps s own j k same own_is none =
 pub reaching_first : (ps : List Pair) (i j n : ℕ) → IsReaching ps i j → length ps ≡ n → i < n
 reaching_first ps i j n w e = let after = w.after in let within = w.within in omega (arith, after, within)
 
-starts_by : (ps : List Pair) (i e : ℕ) → IsInOrder pair_cmp ps → i ≤ e → e < length ps → (pair_at ps i).a.x ≤ℤ (pair_at ps e).a.x
+pub starts_by : (ps : List Pair) (i e : ℕ) → IsInOrder pair_cmp ps → i ≤ e → e < length ps → (pair_at ps i).a.x ≤ℤ (pair_at ps e).a.x
 starts_by ps i e order le lt = by_lt i e le (λ (k : i ≡ e). subst (λ (n : ℕ). (pair_at ps i).a.x ≤ℤ (pair_at ps n).a.x) k (omega (arith, ints)))
     (λ (k : i < e). later_starts_right ps i e (pair_at ps i) (pair_at ps e) order k (pair_next ps i (omega arith)) (pair_next ps e lt))
   where

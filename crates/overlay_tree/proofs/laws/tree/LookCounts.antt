@@ -16,6 +16,7 @@ use Rattle.overlay_geometry.proofs.laws.lists.Lists.{AllByRecursion-weaker, AllB
 use Rattle.overlay_tree.specs.steps.IntervalTree.{Entry, WholeQuery, is_at_heights, is_taken_up, is_found, is_dropped, left_by, inserted}
 use Rattle.overlay_tree.specs.steps.Swept.{nowhere, pair_at, entry_at, unswept}
 use Rattle.overlay_intersections.specs.Looked.{count_twos, ranges_meet, boxes_meet, tree_looks}
+use Rattle.overlay_tree.specs.TreeLooks.{sweep_looks}
 use Rattle.overlay_tree.proofs.laws.tree.IntervalTrees.{count_by-append}
 use Rattle.overlay_tree.specs.steps.TreeSweep.{unlive, Gone, IsSwept, query_at, live_count, IsCounted}
 use Rattle.overlay_tree.proofs.laws.tree.Sweeps.{IsOf, entries_are, later_right, AllByRecursion-get}
@@ -212,7 +213,7 @@ at_index ps j (suc n) =
     one_more : (a b n j : ℕ) → b ≡ a + one_if (n == j) → a ≤ cond (nat_lt j n) 1 0 → b ≤ cond (nat_lt j (suc n)) 1 0
     one_more a b n j e h = grind arith
 
-one_or_none : (b : Bool) → cond b 1 0 ≤ 1
+pub one_or_none : (b : Bool) → cond b 1 0 ≤ 1
 one_or_none true = omega arith
 one_or_none false = omega arith
 
@@ -258,7 +259,7 @@ IsCounted-start ps es old fits dead =
     unchanged m w h = omega arith
 
 -- a look-up takes up what it finds or drops, and maybe a few more
-pub IsCounted-more : (ps : List Pair) (es : List Entry) (j old now next extra : ℕ) → IsSwept ps es j → IsInOrder pair_cmp ps → AllByRecursion (λ s. IsTrue (is_ordered s)) ps → j < length ps → IsCounted ps es j old now → extra ≤ 47 + 8 * count_by (is_taken_up (query_at ps j)) es →
+pub IsCounted-more : (ps : List Pair) (es : List Entry) (j old now next extra : ℕ) → IsSwept ps es j → IsInOrder pair_cmp ps → AllByRecursion (λ s. IsTrue (is_ordered s)) ps → j < length ps → IsCounted ps es j old now → extra ≤ 31 + 8 * count_by (is_taken_up (query_at ps j)) es →
     next ≡ min (now + (count_by (is_taken_up (query_at ps j)) es + extra)) (2 ^ 128 - 1) → IsCounted ps (map (inserted j) (map (left_by (query_at ps j)) es)) (j + 1) old next
 IsCounted-more ps es j old now next extra swept order ordered w counted less h =
     let q = query_at ps j in
@@ -285,7 +286,7 @@ IsCounted-more ps es j old now next extra swept order ordered w counted less h =
     difference : (t l f v x : ℕ) → t + l ≡ f + v → l ≤ v → t + x ≡ f + ((v - l) + x)
     difference t l f v x e h = omega arith
 
-    kept_few : (d v l n x j t f c c' : ℕ) → t + l ≡ f + v → l ≤ v → d + 9 * v ≤ 56 * j + 8 * c → n ≤ l + 1 → x ≤ 47 + 8 * t → c' ≡ c + f → (d + ((v - l) + x)) + 9 * n ≤ 56 * (j + 1) + 8 * c'
+    kept_few : (d v l n x j t f c c' : ℕ) → t + l ≡ f + v → l ≤ v → d + 9 * v ≤ 40 * j + 8 * c → n ≤ l + 1 → x ≤ 31 + 8 * t → c' ≡ c + f → (d + ((v - l) + x)) + 9 * n ≤ 40 * (j + 1) + 8 * c'
     kept_few d v l n x j t f c c' b h k m i e = omega arith
 
     twice : (o c d t f g c' w : ℕ) → t ≡ f + g → c' ≡ c + f → min (min (o + (c + d)) w + t) w ≡ min (o + (c' + (d + g))) w
@@ -305,20 +306,20 @@ IsCounted-more ps es j old now next extra swept order ordered w counted less h =
         fewer_one true false = omega arith
         fewer_one false d = omega arith
 
--- each two whose boxes meet, and no more than 64 looks for each of these and each segment
+-- each two whose boxes meet, and no more looks than a sweep may take
 pub record AreLooks (ps : List Pair) (old now : ℕ) : Type 0 where
   pub least : min (old + count_twos boxes_meet ps) (2 ^ 128 - 1) ≤ now
-  pub most : now ≤ old + tree_looks ps
+  pub most : now ≤ old + sweep_looks ps
 
 pub IsCounted-end : (ps : List Pair) (es : List Entry) (j old now : ℕ) → length ps ≡ j → IsCounted ps es j old now → AreLooks ps old now
-unfolding tree_looks
+unfolding sweep_looks
 IsCounted-end ps es j old now e counted =
     let same = ap (count_twos boxes_meet) (take_all ps j e) in
     let is = counted.is in
     let most = counted.most in
     record {
       least = at_least old (count_twos boxes_meet ps) _ counted.others now (2 ^ 128 - 1) same is;
-      most = at_most old (count_twos boxes_meet ps) _ counted.others now (64 * (length ps + count_twos boxes_meet ps)) (2 ^ 128 - 1) same is (few_enough counted.others (live_count es) j (length ps) (count_twos boxes_meet ps) _ same most e);
+      most = at_most old (count_twos boxes_meet ps) _ counted.others now (40 * length ps + 9 * count_twos boxes_meet ps) (2 ^ 128 - 1) same is (few_enough counted.others (live_count es) j (length ps) (count_twos boxes_meet ps) _ same most e);
     }
   where
     take_all : (xs : List Pair) (n : ℕ) → length xs ≡ n → take n xs ≡ xs
@@ -333,5 +334,10 @@ IsCounted-end ps es j old now e counted =
     at_most : (o c c' d n l w : ℕ) → c' ≡ c → n ≡ min (o + (c' + d)) w → c + d ≤ l → n ≤ o + l
     at_most o c c' d n l w e h k = omega arith
 
-    few_enough : (d v j l c c' : ℕ) → c' ≡ c → d + 9 * v ≤ 56 * j + 8 * c' → l ≡ j → c + d ≤ 64 * (l + c)
+    few_enough : (d v j l c c' : ℕ) → c' ≡ c → d + 9 * v ≤ 40 * j + 8 * c' → l ≡ j → c + d ≤ 40 * l + 9 * c
     few_enough d v j l c c' e h f = omega arith
+
+-- the bound of a sweep is less than that of a pass of the tree, by 24 for each segment at least
+pub sweep_looks-most : (ps : List Pair) → 24 * length ps + sweep_looks ps ≤ tree_looks ps
+unfolding sweep_looks tree_looks
+sweep_looks-most ps = omega arith

@@ -105,7 +105,7 @@ AreFoundBefore-from ps es old now j until way ordered w =
 
 -- the sweep goes on
 pub AreUnderWay-more : (ps : List Pair) (es : List Entry) (old m n extra j until : ℕ) → AreUnderWay ps es old m j until → IsInOrder pair_cmp ps → AllByRecursion (λ s. IsTrue (is_ordered s)) ps → j < until →
-    extra ≤ 47 + 8 * count_by (is_taken_up (query_at ps j)) es → n ≡ min (m + (count_by (is_taken_up (query_at ps j)) es + extra)) (2 ^ 128 - 1) → AreUnderWay ps (map (inserted j) (map (left_by (query_at ps j)) es)) old n (j + 1) until
+    extra ≤ 31 + 8 * count_by (is_taken_up (query_at ps j)) es → n ≡ min (m + (count_by (is_taken_up (query_at ps j)) es + extra)) (2 ^ 128 - 1) → AreUnderWay ps (map (inserted j) (map (left_by (query_at ps j)) es)) old n (j + 1) until
 AreUnderWay-more ps es old m n extra j until way order ordered lt less h =
     let others = away ps way.gone until in
     let asleep = away_asleep ps way.gone until way.asleep in
@@ -121,7 +121,7 @@ AreUnderWay-more ps es old m n extra j until way order ordered lt less h =
       behind = AllByRecursion-weaker (λ e. e.index < j) (λ e. e.index < j + 1) (λ e k. omega arith) way.gone way.behind;
       within = AllByRecursion-map (λ e. e.index < until) (inserted j) (map (left_by p) es) (AllByRecursion-map (λ e. e.index < until) (left_by p) es way.within);
       swept = subst (λ (xs : List Entry). IsSwept ps xs (j + 1)) (sym same) (IsSwept-more ps (es ++ others) j way.swept order w);
-      counted = subst (λ (xs : List Entry). IsCounted ps xs (j + 1) old n) (sym same) (IsCounted-more ps (es ++ others) j old m n extra way.swept order ordered w way.counted (subst (λ (k : ℕ). extra ≤ 47 + 8 * k) (sym (count_with p es others asleep)) less) taken);
+      counted = subst (λ (xs : List Entry). IsCounted ps xs (j + 1) old n) (sym same) (IsCounted-more ps (es ++ others) j old m n extra way.swept order ordered w way.counted (subst (λ (k : ℕ). extra ≤ 31 + 8 * k) (sym (count_with p es others asleep)) less) taken);
       reached = omega arith;
       inside = way.inside;
     }

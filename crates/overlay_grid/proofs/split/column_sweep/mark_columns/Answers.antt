@@ -9,7 +9,6 @@ use Rattle.overlay_base.specs.SegmentOf.{pairs_in, segments_of, x_segment_of}
 use Rattle.overlay_base.proofs.laws.geometry.Apart.{are_ordered}
 use Rattle.overlay_intersections.specs.MarkOf.{marks_of}
 use Rattle.overlay_intersections.specs.PlacingOf.{placing_of}
-use Rattle.overlay_intersections.proofs.laws.marks.FoundMarks.{or_true, or_false}
 use Rattle.overlay_grid.specs.ColumnLooks.{twos_in_height}
 use Rattle.overlay_grid.specs.FragmentOf.{KeptFragment, layout_of}
 use Rattle.overlay_grid.specs.Grid.{IsInside, group_count, pos_of}
@@ -20,7 +19,7 @@ use Rattle.overlay_grid.proofs.laws.grid.BorderMarks.{borders-start, borders-end
 use Rattle.overlay_grid.proofs.laws.grid.GridFound.{all_pairs, all_ready}
 use Rattle.overlay_grid.proofs.laws.grid.SweptColumns.{columns-more, flag-more, next_ends, no_heights, none_at_first, parted_at_first}
 use Rattle.overlay_grid.proofs.split.column_sweep.mark_columns.Goals as goal
-use Rattle.overlay_grid.proofs.split.column_sweep.mark_columns.Goals.{then-branch, else-branch}
+use Rattle.overlay_grid.proofs.split.column_sweep.mark_columns.Goals.{then-rounded, else-rounded}
 
 pub loop-column-init : goal.loop-column-init
 loop-column-init g c =
@@ -33,6 +32,7 @@ loop-column-init g c =
       ends = λ _. subst (λ (ys : List _). IsPermutation (heights_at (pos_of l 0) []) (map whole ys)) (sym c.clear-2.ensures.items) (no_heights (pos_of l 0));
       sorted = subst (λ (ys : List _). IsSorted g.I.Ord.cmp ys) (sym c.clear-2.ensures.items) (λ k d low high. absurd (omega arith));
       seen = borders-start _ _ _ _;
+      within = c.requires.limit;
       flag = refl;
     }
 
@@ -63,24 +63,34 @@ loop-column-preserved g c =
     let old = marks_of whole c.loop-column.marks.items in
     let next = marks_of whole c.mark_column.new.marks.items in
     let group = c.in_ok-from.ensures.group in
-    let flag : c.if-branch.rounded ≡ (c.loop-column.rounded || is_group_rounded (kept_group l 0 ss column)) =
-    elim c.if-branch.branch [
-      | then-branch w ↦ w.rounded-is ∙ or_true c.loop-column.rounded ∙ ap (λ (b : Bool). c.loop-column.rounded || b) (sym w.if-branch.true ∙ c.in_ok-mark_column.ensures.rounded ∙ ap is_group_rounded group)
-      | else-branch w ↦ w.rounded-is ∙ or_false c.loop-column.rounded ∙ ap (λ (b : Bool). c.loop-column.rounded || b) (sym w.if-branch.false ∙ c.in_ok-mark_column.ensures.rounded ∙ ap is_group_rounded group)
+    let rests = c.in_ok-found.ensures.rests in
+    let ends = rw c.in-Some.is at c.in_ok-found.ensures.ends in
+    let sorted = rw c.in-Some.is at c.in_ok-found.ensures.sorted in
+    let marks = rw c.in-Some.is at c.in_ok-found.ensures.marks in
+    let looked = rw c.in-Some.is at c.in_ok-found.ensures.looked in
+    let rounds = rw c.in-Some.is at c.in_ok-found.ensures.rounded in
+    let flag : c.if-rounded.rounded ≡ (c.loop-column.rounded || is_group_rounded (kept_group l 0 ss column)) =
+    elim c.if-rounded.branch [
+      | then-rounded w ↦ w.rounded-is ∙ w.if-rounded.true ∙ ap (λ (b : Bool). b || is_group_rounded (kept_group l 0 ss column)) (sym w.if-rounded.true)
+      | else-rounded w ↦ w.rounded-is ∙ rounds ∙ ap is_group_rounded group ∙ ap (λ (b : Bool). b || is_group_rounded (kept_group l 0 ss column)) (sym w.if-rounded.false)
     ] in
     record {
       parted = c.in_ok-from.ensures.parted;
-      rests = ap (λ (v : _). rests_of whole v.items) c.in_ok-mark_column.ensures.rests ∙ c.in_ok-from.ensures.rests;
-      ends = λ more. next_ends l ss column _ (map whole c.mark_column.new.sweep.right_ends.items) group (c.in_ok-mark_column.ensures.ends more);
-      sorted = c.in_ok-mark_column.ensures.sorted;
+      rests = ap (λ (v : _). rests_of whole v.items) rests ∙ c.in_ok-from.ensures.rests;
+      ends = λ more. next_ends l ss column _ (map whole c.mark_column.new.sweep.right_ends.items) group (ends more);
+      sorted = sorted;
       seen = columns-more (whole g.I.OverlayInt.MIN_COORD) (whole g.I.OverlayInt.MAX_COORD) p l ss column ys (marks_of whole c.args.marks.now.items) old next c.args.looked.now c.loop-column.looked c.mark_column.new.looked c.loop-column.invariant.seen ready (c.loop-column.invariant.ends within)
-          (subst (λ (fs : List KeptFragment). HoldSame (old ++ (marks_of_heights (pos_of l column) ys fs ++ marks_of_group p fs)) next) group c.in_ok-mark_column.ensures.marks)
-          (subst (λ (fs : List KeptFragment). c.mark_column.new.looked ≤ c.loop-column.looked + (length (marks_of_heights (pos_of l column) ys fs) + twos_in_height fs)) group c.in_ok-mark_column.ensures.looked);
-      flag = flag-more (λ column. is_group_rounded (kept_group l 0 ss column)) column c.loop-column.rounded c.if-branch.rounded c.loop-column.invariant.flag flag;
+          (subst (λ (fs : List KeptFragment). HoldSame (old ++ (marks_of_heights (pos_of l column) ys fs ++ marks_of_group p fs)) next) group marks)
+          (subst (λ (fs : List KeptFragment). c.mark_column.new.looked ≤ c.loop-column.looked + (length (marks_of_heights (pos_of l column) ys fs) + twos_in_height fs)) group looked);
+      within = c.in_ok-found.ensures.within;
+      flag = flag-more (λ column. is_group_rounded (kept_group l 0 ss column)) column c.loop-column.rounded c.if-rounded.rounded c.loop-column.invariant.flag flag;
     }
 
-pub returns : goal.returns
-returns g c =
+pub returns-in_default-clause-found : goal.returns-in_default-clause-found
+returns-in_default-clause-found g c none = rw c.in_default.is at (c.in_ok-found.ensures.found none)
+
+pub returns-clause-marks : goal.returns-clause-marks
+returns-clause-marks g c =
     let whole = g.I.OverlayInt.whole in
     let l = layout_of c.args.layout.now in
     let ss = pairs_in c.args.segments.now in
@@ -89,8 +99,26 @@ returns g c =
     let past = c.loop-column-test.false in
     let last : c.loop-column.column ≡ group_count l = omega (arith, count, upto, past) in
     let end = borders-end (marks_of_column (placing_of c.args.placing) l ss) (looks_of_column l ss) (marks_of whole c.args.marks.now.items) (marks_of whole c.loop-column.marks.items) c.args.looked.now c.loop-column.looked c.loop-column.column (group_count l) c.loop-column.invariant.seen last in
-    record {
-      marks = end.found;
-      rounded = c.loop-column.invariant.flag ∙ ap (λ (n : ℕ). list_any (λ column. is_group_rounded (kept_group l 0 ss column)) (range_with_len 0 n)) last;
-      looked = end.counted;
-    }
+    end.found
+
+pub returns-clause-rounded : goal.returns-clause-rounded
+returns-clause-rounded g c =
+    let l = layout_of c.args.layout.now in
+    let ss = pairs_in c.args.segments.now in
+    let count = c.column_count-column-end.ensures in
+    let upto = c.loop-column.auto.column-end in
+    let past = c.loop-column-test.false in
+    let last : c.loop-column.column ≡ group_count l = omega (arith, count, upto, past) in
+    c.loop-column.invariant.flag ∙ ap (λ (n : ℕ). list_any (λ column. is_group_rounded (kept_group l 0 ss column)) (range_with_len 0 n)) last
+
+pub returns-clause-looked : goal.returns-clause-looked
+returns-clause-looked g c =
+    let whole = g.I.OverlayInt.whole in
+    let l = layout_of c.args.layout.now in
+    let ss = pairs_in c.args.segments.now in
+    let count = c.column_count-column-end.ensures in
+    let upto = c.loop-column.auto.column-end in
+    let past = c.loop-column-test.false in
+    let last : c.loop-column.column ≡ group_count l = omega (arith, count, upto, past) in
+    let end = borders-end (marks_of_column (placing_of c.args.placing) l ss) (looks_of_column l ss) (marks_of whole c.args.marks.now.items) (marks_of whole c.loop-column.marks.items) c.args.looked.now c.loop-column.looked c.loop-column.column (group_count l) c.loop-column.invariant.seen last in
+    end.counted

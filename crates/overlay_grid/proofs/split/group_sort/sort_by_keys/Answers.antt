@@ -19,4 +19,7 @@ returns g c =
     let picked = subst (λ (keys : List ℕ). IsPicked c.args.group.now.items keys c.pick.new.row.items) c.as_slice.ensures.value
     (subst (λ (group : List _). IsPicked group c.as_slice.result.now c.pick.new.row.items) c.deref-2.ensures.value c.in_ok-pick.ensures) in
     let permuted = picked_permutes c.args.group.now.items c.list_keys.new.keys.items c.sort.new.self.items c.pick.new.row.items listed c.sort.ensures.permutation picked in
-    record { permutation = subst (λ (v : Vec _ Global). IsPermutation c.args.group.now.items v.items) (sym c.swap.ensures.x_after) permuted }
+    record {
+      permutation = subst (λ (v : Vec _ Global). IsPermutation c.args.group.now.items v.items) (sym c.swap.ensures.x_after) permuted;
+      row = c.swap.ensures.y_after;
+    }

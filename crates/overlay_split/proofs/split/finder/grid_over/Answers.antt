@@ -48,6 +48,9 @@ returns-then-is_list_split-clause-grid g c =
 pub over_list-requires-clause-some : goal.over_list-requires-clause-some
 over_list-requires-clause-some g c = positive_from (length c.args.first.now) (sym c.if-is_empty.false ∙ c.is_empty.ensures)
 
+pub over_list-requires-clause-count : goal.over_list-requires-clause-count
+over_list-requires-clause-count g c = positive_from (length c.args.first.now) (sym c.if-is_empty.false ∙ c.is_empty.ensures)
+
 pub over_list-requires-clause-in_range : goal.over_list-requires-clause-in_range
 over_list-requires-clause-in_range g c = c.requires.in_range
 

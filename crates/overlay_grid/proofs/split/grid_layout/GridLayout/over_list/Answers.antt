@@ -1,4 +1,4 @@
-use Rattle.std.proofs.Common.{refl, sym, ap, subst, ◌∙◌, ◌+◌, ◌∷◌, drop, length}
+use Rattle.std.proofs.Common.{refl, sym, ap, subst, ◌∙◌, ◌+◌, ◌∷◌, drop}
 use borrow.Author.Count.{falls}
 use Rattle.overlay_geometry.specs.PairOf.{pair_of}
 use Rattle.overlay_geometry.specs.PointOf.{point_of}
@@ -32,7 +32,7 @@ returns-clause-layout g c =
     let first = pairs-next c.args.segments.now 0 c.index-segments-0.result c.requires.some c.index-segments-0.is ∙ ap (λ s. pair_of g.I.OverlayInt.whole s ∷ drop 1 ps) (sym c.x_segment-a.ensures) in
     let greatest = greatest_end (g.I.OverlayInt.whole c.loop-index.max_x) ps c.loop-index.index (greatest_x (g.I.OverlayInt.whole c.x_segment-a.result.b.x) (drop 1 ps)) c.loop-index.invariant.greatest (pairs-none c.args.segments.now c.loop-index.index c.loop-index-test.false) in
     if_some c.with_min_max.result _ _
-    (λ l h. layout_of_list ps (pair_of g.I.OverlayInt.whole c.x_segment-a.result) (length c.args.segments.now) c.ilog2.result (g.I.OverlayInt.whole c.loop-index.max_x) (layout_of l) first (record { reached = c.ilog2.ensures.power_le; not_passed = c.ilog2.ensures.next_power_gt }) greatest h)
+    (λ l h. layout_of_list ps (pair_of g.I.OverlayInt.whole c.x_segment-a.result) c.args.count c.ilog2-power.result (g.I.OverlayInt.whole c.loop-index.max_x) (layout_of l) first (record { reached = c.ilog2-power.ensures.power_le; not_passed = c.ilog2-power.ensures.next_power_gt }) greatest h)
     c.with_min_max.ensures.layout
 
 pub returns-clause-none : goal.returns-clause-none

@@ -14,19 +14,19 @@ use Rattle.overlay_grid.specs.steps.Sweeps.{marks_of_column}
 use Rattle.overlay_grid.proofs.laws.grid.BorderMarks.{has_same, has_back}
 use Rattle.overlay_grid.proofs.laws.grid.GridFound.{all_pairs, sound, complete, rounded_is}
 use Rattle.overlay_grid.proofs.laws.grid.SweptColumns.{columns_apart, columns_joined, columns_within}
-use Rattle.overlay_grid.proofs.split.column_sweep.find_marks.Goals as goal
+use Rattle.overlay_grid.proofs.split.column_sweep.find_marks_up_to.Goals as goal
 
 pub returns-clause-rounded : goal.returns-clause-rounded
 returns-clause-rounded g c =
     let l = grid_of c.args.buffer.now in
     let ss = pairs_in c.args.segments.now in
-    c.in_ok-rounded.ensures.rounded
+    (rw c.in-Some.is at c.in_ok-walked.ensures.rounded)
     ∙ rounded_is (placing_of c.args.placing) l (segments_of c.args.segments.now) (kept_group l 0 ss) (are_ordered c.args.segments.now) (all_pairs (IsInside l) c.args.segments.now c.requires.inside) (λ column. IsPermutation-refl (kept_group l 0 ss column))
 
 pub returns-clause-looked : goal.returns-clause-looked
 returns-clause-looked g c =
     let l = grid_of c.args.buffer.now in
-    columns_within l (pairs_in c.args.segments.now) (are_ordered c.args.segments.now) (all_pairs (IsInside l) c.args.segments.now c.requires.inside) c.args.looked.now c.mark_columns.new.looked c.in_ok-rounded.ensures.looked
+    columns_within l (pairs_in c.args.segments.now) (are_ordered c.args.segments.now) (all_pairs (IsInside l) c.args.segments.now c.requires.inside) c.args.looked.now c.mark_columns.new.looked (rw c.in-Some.is at c.in_ok-walked.ensures.looked)
 
 pub returns-clause-marks : goal.returns-clause-marks
 returns-clause-marks g c =
@@ -40,7 +40,7 @@ returns-clause-marks g c =
     let within = all_pairs (IsInside l) c.args.segments.now c.requires.inside in
     let columns = flat_map (marks_of_column p l ss) (range_with_len 0 n) in
     let now = marks_of whole c.mark_columns.new.marks.items in
-    let all = subst (λ (start : List Mark). HoldSame (start ++ columns) now) (ap (marks_of whole) c.clear.ensures.items) c.in_ok-rounded.ensures.marks in
+    let all = subst (λ (start : List Mark). HoldSame (start ++ columns) now) (ap (marks_of whole) c.clear.ensures.items) (rw c.in-Some.is at c.in_ok-walked.ensures.marks) in
     AreMarks-from_elements g.I.PartialEq.eq g.I.Ord.cmp whole g.met.I.Ord.matches_eq g.met.I.OverlayInt.ordered p segments
     c.mark_columns.new.marks.items c.sort_marks.new.marks.items c.dedup.new.self.items
     (λ m h. sound p l segments (kept_group l 0 ss) ordered within (λ column. IsPermutation-refl (kept_group l 0 ss column)) m (columns_apart p l ss n m (has_back columns now all m h)))
