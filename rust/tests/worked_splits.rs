@@ -536,7 +536,7 @@ fn crossed_lines_around_the_limits() {
 /// Under `Auto` the first pass goes over the list, rounds, and leaves more than 4,000 segments to the second. Two segments cross
 /// half way between two points.
 #[test]
-fn the_list_gives_way_to_the_tree() {
+fn the_second_pass_has_more_segments() {
     let mut given = crossed_lines(3996);
     given.extend([((200, 0), (300, 1), 1), ((200, 1), (300, 0), 1)]);
     let (rows, change) = split_alike(&given);
