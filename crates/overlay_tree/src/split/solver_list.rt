@@ -4,7 +4,8 @@ ghost use Rattle.overlay_base.specs.declared.segm.fault.Fault.TheVariants.{Memor
 ghost use Rattle.overlay_geometry.specs.Points.{pair_cmp};
 ghost use Rattle.overlay_geometry.specs.RangeOf.{range_of};
 ghost use Rattle.overlay_base.specs.Segments.{pairs};
-ghost use Rattle.overlay_base.specs.SegmentOf.{ends_of, segments_of, pairs_in};
+ghost use Rattle.overlay_base.specs.SegmentOf.{ends_of, segments_of, pairs_in, x_segment_of};
+ghost use Rattle.std.specs.List.{HoldsAt};
 ghost use Rattle.overlay_intersections.specs.Marks.{cross_inexactly};
 ghost use Rattle.overlay_intersections.specs.PassMarks.{is_rounded};
 ghost use Rattle.overlay_intersections.specs.PlacingOf.{placing_of, HasRadius};
@@ -117,9 +118,9 @@ fn mark_with_later<C: WindingCount, I: OverlayInt, D: Copy>(
 
 /// So many later segments are tested one by one. Those that follow are tested block by block, where all of the first are
 /// in reach.
-const NEAR: usize = 8;
+const NEAR: usize = 24;
 
-const _: () = prove!(NEAR == 8);
+const _: () = prove!(NEAR == 24);
 
 /// Lists in `met` those of the next `NEAR` segments whose heights this one's meet, up to the first that begins right of
 /// this one's end. Returns how many these are, and the index of the first that is not tested. Out of line its loop keeps
@@ -132,14 +133,14 @@ fn list_near<C: WindingCount, I: OverlayInt, D: Copy>(
     met: &mut [usize],
 ) -> (usize, usize)
     requires index { index < length segments.now }
-    requires room { length met.old ≡ 8 }
+    requires room { length met.old ≡ 24 }
     requires heights { AreHeightsOf I.whole ranges.now (pairs (segments_of segments.now)) }
     requires sorted { IsSortedByKey ends_of pair_cmp segments.now }
-    ensures count { result.0 ≤ 8 }
+    ensures count { result.0 ≤ 24 }
     ensures listed { AreListed (pairs (segments_of segments.now)) index (index + 1) result.1 (take result.0 met.new) }
     ensures reach { IsReaching (pairs (segments_of segments.now)) index result.1 }
     ensures past { let ps = pairs (segments_of segments.now) in
-        result.1 ≤ index + 8 → count_by (x_ranges_meet (pair_at ps index)) (drop result.1 ps) ≡ 0 }
+        result.1 ≤ index + 24 → count_by (x_ranges_meet (pair_at ps index)) (drop result.1 ps) ≡ 0 }
 {
     let target = segments[index].x_segment();
     let own = ranges[index];
@@ -177,6 +178,7 @@ fn mark_listed<C: WindingCount, I: OverlayInt, D: Copy>(
     placing: Placing,
     marks: &mut Vec<LineMark<I>>,
 ) -> Result<bool, AllocError>
+    requires index { index < length segments.now }
     requires met { All (λ later. (index < later) × (later < length segments.now)) met.now }
     requires sorted { IsSortedByKey ends_of pair_cmp segments.now }
     requires in_range { AreInRange segments.now }
@@ -186,9 +188,13 @@ fn mark_listed<C: WindingCount, I: OverlayInt, D: Copy>(
     ensures rounded { IfOk result (λ rounded. rounded ≡ crosses_listed
         (pairs (segments_of segments.now)) index met.now) }
 {
+    let first = Indexed {
+        index,
+        x_segment: segments[index].x_segment(),
+    };
     let mut rounded = false;
     for later in met {
-        rounded |= mark_two(segments, index, *later, are_near, placing, marks)?;
+        rounded |= mark_two(segments, first, *later, are_near, placing, marks)?;
     }
     Ok(rounded)
 }
@@ -324,34 +330,34 @@ fn mark_with_each<C: WindingCount, I: OverlayInt, D: Copy>(
 }
 
 /// Appends the marks that a segment and a later one put on one another, and returns whether they cross at a point
-/// without whole coordinates. Near ones in the list often share an end, which `mark_both` tests early. Of the others
-/// most lie on one side of the segment, which `mark_both_apart` tests first.
+/// without whole coordinates. One that begins where the first ends meets it there alone. Near ones in the list often
+/// share another end, which `mark_both` tests early. Of the others most lie on one side of the segment, which
+/// `mark_both_apart` tests first.
 #[inline(always)]
 fn mark_two<C: WindingCount, I: OverlayInt, D: Copy>(
     segments: &[Segment<C, I, D>],
-    index: usize,
+    first: Indexed<I>,
     later: usize,
     are_near: bool,
     placing: Placing,
     marks: &mut Vec<LineMark<I>>,
 ) -> Result<bool, AllocError>
-    requires after { index < later }
+    requires after { first.index < later }
     requires within { later < length segments.now }
+    requires first { HoldsAt (λ s. first.x_segment ≡ x_segment_of s) segments.now first.index }
     requires sorted { IsSortedByKey ends_of pair_cmp segments.now }
     requires in_range { AreInRange segments.now }
     requires radius { HasRadius placing }
     ensures marks { OnOk result (let ps = pairs (segments_of segments.now) in
         marks_of I.whole marks.new.items ≡ marks_of I.whole marks.old.items
-        ++ marks_between (placing_of placing) index (pair_at ps index) later (pair_at ps later)) }
+        ++ marks_between (placing_of placing) first.index (pair_at ps first.index) later (pair_at ps later)) }
     ensures rounded { IfOk result (λ rounded. let ps = pairs (segments_of segments.now) in
-        rounded ≡ cross_inexactly (pair_at ps index) (pair_at ps later)) }
+        rounded ≡ cross_inexactly (pair_at ps first.index) (pair_at ps later)) }
 {
-    let target = segments[index].x_segment();
     let other = segments[later].x_segment();
-    let first = Indexed {
-        index,
-        x_segment: target,
-    };
+    if first.x_segment.b == other.a {
+        return Ok(false);
+    }
     let second = Indexed {
         index: later,
         x_segment: other,

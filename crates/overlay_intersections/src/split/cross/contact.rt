@@ -109,9 +109,11 @@ pub(crate) fn lies_beside<I: OverlayInt>(target: &XSegment<I>, other: &XSegment<
     requires other { IsPairInRange I.whole I.MIN_COORD I.MAX_COORD other.now }
     ensures { result ≡ are_beside (pair_of I.whole target.now) (pair_of I.whole other.now) }
 {
-    let other_a = Triangle::clock_direction(target.a, target.b, other.a);
-    let other_b = Triangle::clock_direction(target.a, target.b, other.b);
-    other_a != 0 && other_a == other_b
+    let a_is_off = Triangle::is_not_line(target.a, target.b, other.a);
+    let b_is_off = Triangle::is_not_line(target.a, target.b, other.b);
+    let a_is_right = Triangle::is_clockwise(target.a, target.b, other.a);
+    let b_is_right = Triangle::is_clockwise(target.a, target.b, other.b);
+    a_is_off & b_is_off & (a_is_right == b_is_right)
 }
 
 /// On which sides of each segment the ends of the other lie.
