@@ -11,7 +11,8 @@ graph of all of them N times, each time with a new splitter and builder, and pri
 `copy_ms=` of the copy of its list that it works on, which ours makes within its time.
 Ours is the example `race` of `rust/`, which does the same through the Rust package. Its `all_ms=` has the split, the build, and the
 copy of nodes into vectors of Rust, which the other does not make. No text is timed. The two programs run by turns, a few
-rounds of some runs each, and the least times count: so a machine whose speed varies slows both alike.
+rounds of some runs each, and the least times count: so a machine whose speed varies slows both alike. A short input is split
+more often in each round, as a few runs of some microseconds tell more of the machine than of the programs.
 
 For each kind and number a row of a table is printed: kind, segments, and for the split and for the whole: milliseconds of this
 repository, of the other, and how many times as long this one took; how many times as long as the other with its copy; at last the most memory of each process, in megabytes, the
@@ -28,6 +29,9 @@ from race import LINES, POLYGONS, SMALLER, sides
 
 # a process begins with what Python holds
 LEAST_MEMORY = 32
+
+# each process splits at least so many segments of a short input, in all of its runs
+LEAST_SEGMENTS = 20_000
 
 ROOT = os.path.dirname(os.path.dirname(os.path.abspath(__file__)))
 RACE = os.path.join(ROOT, "rust", "target", "release", "examples", "race")
@@ -59,14 +63,16 @@ def least(rounds, commands, path):
 
 
 def race(kind, number, given):
+    count = number // SMALLER.get(kind, 1)
     with tempfile.NamedTemporaryFile("w", encoding="ascii", suffix=".txt") as file:
         file.write(text_of(kind, number))
         file.flush()
-        commands = [RACE, given.strategy, str(given.turns)], [given.upstream, "bench", "-", "-", given.strategy, f"runs={given.turns}"]
+        turns = max(given.turns, LEAST_SEGMENTS // count)
+        commands = [RACE, given.strategy, str(turns)], [given.upstream, "bench", "-", "-", given.strategy, f"runs={turns}"]
         (ours, theirs), (our_memory, their_memory) = least(given.rounds, commands, file.name)
     memory = f"{our_memory:.0f} / {their_memory:.0f}" if min(our_memory, their_memory) > LEAST_MEMORY else ""
     whole = theirs["split"] + theirs["graph"]
-    print(f"| {kind} | {number // SMALLER.get(kind, 1):,} | {ours['split']:.2f} / {theirs['split']:.2f} | {ours['split'] / theirs['split']:.2f} "
+    print(f"| {kind} | {count:,} | {ours['split']:.2f} / {theirs['split']:.2f} | {ours['split'] / theirs['split']:.2f} "
           f"| {ours['all']:.2f} / {whole:.2f} | {ours['all'] / whole:.2f} | {ours['all'] / (whole + theirs['copy']):.2f} | {memory} |", flush=True)
 
 
@@ -74,7 +80,7 @@ def main():
     parser = argparse.ArgumentParser(description=__doc__, formatter_class=argparse.RawDescriptionHelpFormatter)
     parser.add_argument("--upstream", required=True, metavar="PROGRAM", help="the program to race against")
     parser.add_argument("--rounds", type=int, default=3, help="rounds, in each of which both programs run (3)")
-    parser.add_argument("--turns", type=int, default=9, help="runs of a program in each round (9)")
+    parser.add_argument("--turns", type=int, default=9, help="runs of a program in each round, of a short input more (9)")
     parser.add_argument("--strategy", default="auto", choices=["list", "tree", "frag", "auto"])
     parser.add_argument("--kinds", default=",".join([*POLYGONS, *LINES]), help="kinds, with commas between them")
     parser.add_argument("numbers", nargs="*", type=int, default=[1_000, 4_000, 16_000, 50_000])
