@@ -12,7 +12,8 @@ graph of all of them N times, each time with a new splitter and builder, and pri
 Ours is the example `race` of `rust/`, which does the same through the Rust package. Its `all_ms=` has the split, the build, and the
 copy of nodes into vectors of Rust, which the other does not make. No text is timed. The two programs run by turns, a few
 rounds of some runs each, and the least times count: so a machine whose speed varies slows both alike. A short input is split
-more often in each round, as a few runs of some microseconds tell more of the machine than of the programs.
+more often in each round, as a few runs of some microseconds tell more of the machine than of the programs. A round goes through
+all inputs, and both programs run on one processor in it, on another in the next: on a shared machine one may be slow for a while.
 
 For each kind and number a row of a table is printed: kind, segments, and for the split and for the whole: milliseconds of this
 repository, of the other, and how many times as long this one took; how many times as long as the other with its copy; at last the most memory of each process, in megabytes, the
@@ -30,21 +31,26 @@ from race import LINES, POLYGONS, SMALLER, sides
 # a process begins with what Python holds
 LEAST_MEMORY = 32
 
-# each process splits at least so many segments of a short input, in all of its runs
-LEAST_SEGMENTS = 20_000
+# each process splits at least so many segments of a short input, in all of its runs, of which the other program takes so many
+LEAST_SEGMENTS, MOST_TURNS = 20_000, 1_000
 
 ROOT = os.path.dirname(os.path.dirname(os.path.abspath(__file__)))
 RACE = os.path.join(ROOT, "rust", "target", "release", "examples", "race")
 
 
+def edges_of(kind, number):
+    return max(16, number // SMALLER.get(kind, 1))
+
+
 def text_of(kind, number):
-    edges = max(16, number // SMALLER.get(kind, 1))
+    edges = edges_of(kind, number)
     lines = sides(POLYGONS[kind](edges)) if kind in POLYGONS else LINES[kind](edges)
     return "\n".join(lines) + "\n"
 
 
-def run(command, path):
-    """The times that a command prints, by name, and the most memory that it took, in megabytes."""
+def run(command, path, processor):
+    """The times that a command prints on one processor, by name, and the most memory that it took, in megabytes."""
+    command = ["taskset", "--cpu-list", str(processor), *command]
     with open(path, encoding="ascii") as given, subprocess.Popen(command, stdin=given, stdout=subprocess.PIPE, text=True) as process:
         printed = process.stdout.read()
         _, status, used = os.wait4(process.pid, 0)
@@ -54,25 +60,36 @@ def run(command, path):
     return {name: float(number) for name, number in re.findall(r"(\w+)_ms=(\S+)", printed)}, used.ru_maxrss / 1024
 
 
-def least(rounds, commands, path):
-    """The least times and the most memory of each command, which run by turns."""
-    answers = [[run(command, path) for command in commands] for _ in range(rounds)]
+def least(answers):
+    """The least times and the most memory of each command, of what it printed in each round."""
     times = [[times for times, _ in same] for same in zip(*answers)]
     memory = [max(memory for _, memory in same) for same in zip(*answers)]
     return [{name: min(each[name] for each in same) for name in same[0]} for same in times], memory
 
 
-def race(kind, number, given):
-    count = number // SMALLER.get(kind, 1)
-    with tempfile.NamedTemporaryFile("w", encoding="ascii", suffix=".txt") as file:
-        file.write(text_of(kind, number))
-        file.flush()
-        turns = max(given.turns, LEAST_SEGMENTS // count)
-        commands = [RACE, given.strategy, str(turns)], [given.upstream, "bench", "-", "-", given.strategy, f"runs={turns}"]
-        (ours, theirs), (our_memory, their_memory) = least(given.rounds, commands, file.name)
+def answers_of(kind, number, given, path, processor):
+    """What both programs print in one round."""
+    turns = max(given.turns, min(LEAST_SEGMENTS // edges_of(kind, number), MOST_TURNS))
+    commands = [RACE, given.strategy, str(turns)], [given.upstream, "bench", "-", "-", given.strategy, f"runs={turns}"]
+    return [run(command, path, processor) for command in commands]
+
+
+def race(cells, given, folder):
+    """What both programs print of each cell, a list with an element for each round."""
+    paths = [os.path.join(folder, f"{kind}-{number}.txt") for kind, number in cells]
+    for (kind, number), path in zip(cells, paths):
+        with open(path, "w", encoding="ascii") as file:
+            file.write(text_of(kind, number))
+    processors = sorted(os.sched_getaffinity(0))
+    rounds = [[answers_of(*cell, given, path, processors[at % len(processors)]) for cell, path in zip(cells, paths)] for at in range(given.rounds)]
+    return list(zip(*rounds))
+
+
+def show(kind, number, answers):
+    (ours, theirs), (our_memory, their_memory) = least(answers)
     memory = f"{our_memory:.0f} / {their_memory:.0f}" if min(our_memory, their_memory) > LEAST_MEMORY else ""
     whole = theirs["split"] + theirs["graph"]
-    print(f"| {kind} | {count:,} | {ours['split']:.2f} / {theirs['split']:.2f} | {ours['split'] / theirs['split']:.2f} "
+    print(f"| {kind} | {number // SMALLER.get(kind, 1):,} | {ours['split']:.2f} / {theirs['split']:.2f} | {ours['split'] / theirs['split']:.2f} "
           f"| {ours['all']:.2f} / {whole:.2f} | {ours['all'] / whole:.2f} | {ours['all'] / (whole + theirs['copy']):.2f} | {memory} |", flush=True)
 
 
@@ -87,9 +104,10 @@ def main():
     given = parser.parse_args()
     subprocess.run(["cargo", "build", "--release", "--offline", "--quiet", "--example", "race"], cwd=os.path.join(ROOT, "rust"), check=True)
     print("| kind | segments | split, ms | times | split and build, ms | times | with its copy | memory, MB |\n|---|---|---|---|---|---|---|---|")
-    for kind in given.kinds.split(","):
-        for number in given.numbers:
-            race(kind, number, given)
+    cells = [(kind, number) for kind in given.kinds.split(",") for number in given.numbers]
+    with tempfile.TemporaryDirectory() as folder:
+        for cell, answers in zip(cells, race(cells, given, folder)):
+            show(*cell, answers)
 
 
 if __name__ == "__main__":
