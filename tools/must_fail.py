@@ -12,7 +12,8 @@ has a file of the name of each library below it: so the gate tries edits while i
 
 Prints the first open goal for each edit, and last `N of M edits refused`. An edit is refused by a goal of a function that it changes
 and that one of its lines `# refused by FUNCTION: CLAUSE, ..` names. A proof that names what the edit took away does not count: the
-edit is tried once more without it, so that the prover searches for one.
+edit is tried once more without it, so that the prover searches for one. A line `# without FUNCTION: GOAL, ..` leaves such proofs out
+from the start.
 """
 import argparse
 import itertools
@@ -33,6 +34,7 @@ TOP = pathlib.Path(run.ROOT)
 FUNCTION = re.compile(r"\s*(?:pub(?:\(\w+\))? )?(?:const )?(?:unsafe )?(?:extern \"C\" )?fn (\w+)")
 IMPL = re.compile(r"impl(?:<.*?>+)? (?:(?:\w+::)*(\w+)(?:<(\w\w+)?.*>)? for )?(\w+|\(\))|(?:pub )?trait (\w+)")
 REFUSED_BY = re.compile(r"^# refused by ([\w:]+)(?:: (.*))?$", re.M)
+WITHOUT = re.compile(r"^# without (\w+): (.*)$", re.M)
 GOAL = re.compile(r"(?:note: )?(?:\./)?(?:proofs/(?P<proof>\S+)/\w+\.antt|(?P<source>src/\S+?)):(?P<line>\d+):\d+:")
 # the proof of a goal in a function's Answers.antt, and what the prover says of one that it does not take
 ANSWER = re.compile(r"^(?:-- .*\n)*pub (\S+) : goal\.(?:.*\n)(?:(?!-- |pub ).*\n)*", re.M)
@@ -149,6 +151,7 @@ class Edit:
         self.goal = self.said = None
         self.may_try_again = False
         self.lines = self.changed_lines(path)
+        self.leave_out(WITHOUT.findall(path.read_text(encoding="utf-8")))
 
     def steps(self, path):
         """Returns what an edit replaces: file, old text and new text, a line each."""
@@ -178,6 +181,14 @@ class Edit:
         if not found:
             sys.exit(f"{self.crate}/{self.name}: it changes nothing")
         return found
+
+    def leave_out(self, goals):
+        """Leaves the proofs of some goals out, each of a function that it changes."""
+        for name, said in goals:
+            found = [path for path in self.paths if path.split("::")[-1] == name]
+            if not found:
+                sys.exit(f"{self.crate}/{self.name}: it changes no function {name}")
+            self.vain |= {("/".join(["proofs", *path.split("::"), "Answers.antt"]), goal) for path in found for goal in re.findall(r"\S+[^,\s]", said)}
 
     def note_function(self, file, text, number):
         """Notes the function at a line of a file, or that a constant is changed."""
@@ -219,6 +230,7 @@ class Trial:
     def __init__(self, rtlib, crate, edits):
         self.rtlib, self.crate = rtlib, crate
         self.rounds = rounds_of(edits)
+        self.first = min(self.rounds, key=len)
         # the folder of what the first round proved
         self.kept, self.is_begun = None, False
         # the proofs that can have a hole, each with its functions, and where these begin
@@ -378,6 +390,12 @@ def seconds_of(trial, edits):
     return 10 * len(edits) + sum(path.stat().st_size for path in texts) / 10_000
 
 
+def order_of(trial, edits):
+    """Returns what orders rounds: those of crates over more libraries are earlier, since they can begin late; of a crate the shortest
+    is first, since its others wait for it, and then those that take longest."""
+    return -len(trial.crate.below()), edits is not trial.first, -seconds_of(trial, edits)
+
+
 class Marks:
     """Says which libraries are proved, by the files of a folder."""
 
@@ -390,9 +408,9 @@ class Marks:
 
 
 def try_all(trials, marks, start):
-    """Tries all edits in rounds, those first that take longest, and by itself each edit whose goal was not seen in its round."""
+    """Tries all edits in rounds, and by itself each edit whose goal was not seen in its round."""
     waiting = [(trial, edits) for trial in trials for edits in trial.rounds]
-    waiting.sort(key=lambda it: -seconds_of(*it))
+    waiting.sort(key=lambda it: order_of(*it))
 
     def try_one(trial, edits):
         took = trial.try_round(edits)
@@ -402,7 +420,7 @@ def try_all(trials, marks, start):
         again = [edit for edit in edits if not edit.goal and (edit.may_try_again or not edit.is_over_proofs)]
         for edit in again:
             edit.is_over_proofs |= not edit.may_try_again
-            how = "over all proofs" if edit.is_over_proofs else "without vain proofs"
+            how = "over all proofs" if edit.is_over_proofs else f"without {', '.join(sorted(goal for _, goal in edit.vain))}"
             print(f"        {trial.crate.name}/{edit.name} is tried again {how}", flush=True)
         return [(trial, [edit]) for edit in again]
 

@@ -1,6 +1,7 @@
 // Sweeps over so many live segments that a row drops what has ended, or is handed over to a tree.
 ghost use Rattle.overlay_base.specs.ArrangedOf.{IsArranged};
 
+use crate::worked_lines::Line;
 use overlay_base::overlay_core::solver::Solver;
 use overlay_base::segm::arranged::is_arranged;
 use overlay_base::segm::boolean::ShapeCountBoolean;
@@ -18,9 +19,6 @@ use overlay_sweep::build::scan_tree::ScanTree;
 use overlay_sweep::build::sweep::SweepRunner;
 use overlay_sweep::build::visits::sweep_with_handler;
 use std::process::Abort;
-use std::test::Fail;
-
-type BooleanSegment = Segment<ShapeCountBoolean, i32, ()>;
 
 /// How many lines are live together, at most: with so few the row is full of lines that have ended, and with so many
 /// of live ones.
@@ -28,11 +26,7 @@ const LIVE: [u32; 2] = [1000, 3000];
 
 /// Runs of level lines. Those of a run begin one by one, by turns above and below those before, and end together, where
 /// the next run begins.
-fn lines_in_runs(
-    rt: &(impl Abort + AllocGlobal),
-    runs: u32,
-    live: u32,
-) -> Result<Vec<BooleanSegment>, Fail> {
+fn lines_in_runs(rt: &(impl Abort + AllocGlobal), runs: u32, live: u32) -> Vec<Line> {
     assert!(rt; runs <= 10 && live <= 3000);
     let mut lines = Vec::new(rt.alloc());
     for run in 0..runs {
@@ -43,10 +37,11 @@ fn lines_in_runs(
             let (a, b) = (IntPoint::new(start + x, y), IntPoint::new(start + 3000, y));
             let count = ShapeCountBoolean { subj: 1, clip: 0 };
             assert!(rt; a != b && count.is_valid());
-            lines.push(Segment::create_and_validate_with_data(a, b, count, (), &mut ()))?;
+            let line = Segment::create_and_validate_with_data(a, b, count, (), &mut ());
+            lines.push(line).expect(rt, "memory");
         }
     }
-    Ok(lines)
+    lines
 }
 
 /// Half of the lines before line i of a run lie below it, rounded down. So by even and odd the subject fills the place
@@ -56,53 +51,55 @@ fn fill_of_line(i: u32) -> SegmentFill {
 }
 
 /// The fills of such runs.
-fn fills_of_runs(
-    rt: &(impl Abort + AllocGlobal),
-    runs: u32,
-    live: u32,
-) -> Result<Vec<SegmentFill>, Fail> {
+fn fills_of_runs(rt: &(impl Abort + AllocGlobal), runs: u32, live: u32) -> Vec<SegmentFill> {
     let mut expected = Vec::new(rt.alloc());
     for _ in 0..runs {
         for i in 0..live {
-            expected.push(fill_of_line(i))?;
+            expected.push(fill_of_line(i)).expect(rt, "memory");
         }
     }
-    Ok(expected)
+    expected
+}
+
+/// Sweeps over lines under a strategy, and wants these fills.
+fn sweep_lines(
+    rt: &(impl Abort + AllocGlobal),
+    runner: &mut SweepRunner<ShapeCountBoolean, i32>,
+    solver: &Solver,
+    lines: &[Line],
+    expected: &[SegmentFill],
+)
+    requires { IsArranged lines.now }
+{
+    let mut fills = vec![in rt.alloc(); 0; lines.len()].expect(rt, "memory");
+    let handler = StoreFillsHandler::new(&mut fills);
+    let swept = runner
+        .run::<(), EvenOddStrategy, StoreFillsHandler>(solver, lines, handler)
+        .expect(rt, "no refusal");
+    assert!(rt; swept.as_slice() == expected);
 }
 
 /// Sweeps over runs of lines, so many live at a time, under some strategies.
-fn fill_runs(
-    rt: &(impl Abort + AllocGlobal),
-    runs: u32,
-    live: u32,
-    solvers: &[Solver],
-) -> Result<(), Fail> {
-    let lines = lines_in_runs(rt, runs, live)?;
+fn fill_runs(rt: &(impl Abort + AllocGlobal), runs: u32, live: u32, solvers: &[Solver]) {
+    let lines = lines_in_runs(rt, runs, live);
     assert!(rt; is_arranged(&lines));
-    let expected = fills_of_runs(rt, runs, live)?;
+    let expected = fills_of_runs(rt, runs, live);
     let mut runner = SweepRunner::new(rt.alloc());
     for solver in solvers {
-        let mut fills = vec![in rt.alloc(); 0; lines.len()]?;
-        let handler = StoreFillsHandler::new(&mut fills);
-        let swept = runner
-            .run::<(), EvenOddStrategy, StoreFillsHandler>(solver, &lines, handler)
-            .expect(rt, "no refusal");
-        assert_eq!(rt; swept.as_slice(), expected.as_slice());
+        sweep_lines(rt, &mut runner, solver, &lines, &expected);
     }
-    Ok(())
 }
 
 #[test]
-fn each_of_many_live_lines_is_filled_on_one_side(rt: HostRuntime) -> Result<(), Fail> {
+fn each_of_many_live_lines_is_filled_on_one_side(rt: HostRuntime) {
     for live in LIVE {
-        fill_runs(&rt, 3, live, &[Solver::TREE, Solver::LIST, Solver::TREE])?;
+        fill_runs(&rt, 3, live, &[Solver::TREE, Solver::LIST, Solver::TREE]);
     }
-    Ok(())
 }
 
 /// Under `AUTO` rows of a few serve.
 #[test]
-fn many_lines_are_filled_under_auto(rt: HostRuntime) -> Result<(), Fail> {
+fn many_lines_are_filled_under_auto(rt: HostRuntime) {
     fill_runs(&rt, 8, 1000, &[Solver::AUTO])
 }
 
@@ -110,13 +107,13 @@ fn many_lines_are_filled_under_auto(rt: HostRuntime) -> Result<(), Fail> {
 fn compared_over<L: LiveSegments<ShapeCountBoolean, i32>>(
     rt: &(impl Abort + AllocGlobal),
     live: &mut L,
-    lines: &[BooleanSegment],
+    lines: &[Line],
     expected: &[SegmentFill],
-) -> Result<u128, Fail>
+) -> u128
     requires { IsArranged lines.now }
 {
     let mut ways = Vec::new(rt.alloc());
-    let mut fills = vec![in rt.alloc(); 0; lines.len()]?;
+    let mut fills = vec![in rt.alloc(); 0; lines.len()].expect(rt, "memory");
     let handler = StoreFillsHandler::new(&mut fills);
     let mut compared = 0;
     let swept = sweep_with_handler::<
@@ -127,32 +124,38 @@ fn compared_over<L: LiveSegments<ShapeCountBoolean, i32>>(
         L,
         StoreFillsHandler,
     >(live, &mut ways, lines, handler, &mut compared);
-    assert_eq!(rt; swept.expect(rt, "no refusal").as_slice(), expected);
-    Ok(compared)
+    assert!(rt; swept.expect(rt, "no refusal").as_slice() == expected);
+    compared
 }
 
-/// Each kind of live segments serves a sweep by itself. A tree of 3,000 compares at most 23 orders in a call, of two
-/// for each line.
-#[test]
-fn a_tree_serves_where_many_are_live(rt: HostRuntime) -> Result<(), Fail> {
-    let lines = lines_in_runs(&rt, 3, 3000)?;
+/// Sweeps over runs of lines, 3,000 of them live, and returns how many orders it compared.
+fn compared_over_many<L: LiveSegments<ShapeCountBoolean, i32>>(
+    rt: &(impl Abort + AllocGlobal),
+    live: &mut L,
+) -> u128 {
+    let lines = lines_in_runs(rt, 3, 3000);
     assert!(rt; is_arranged(&lines));
-    let expected = fills_of_runs(&rt, 3, 3000)?;
-    let alloc = rt.alloc();
-    compared_over(&rt, &mut ScanList::new(alloc), &lines, &expected)?;
-    compared_over(&rt, &mut ScanRow::new(alloc), &lines, &expected)?;
-    let tree = compared_over(&rt, &mut ScanTree::new(alloc), &lines, &expected)?;
-    assert!(rt; tree <= 9000 * 2 * 23);
-    Ok(())
+    let expected = fills_of_runs(rt, 3, 3000);
+    compared_over(rt, live, &lines, &expected)
+}
+
+/// Lists and rows serve a sweep by themselves.
+#[test]
+fn a_list_and_a_row_serve_where_many_are_live(rt: HostRuntime) {
+    compared_over_many(&rt, &mut ScanList::new(rt.alloc()));
+    compared_over_many(&rt, &mut ScanRow::new(rt.alloc()));
+}
+
+/// A tree serves a sweep by itself. One of 3,000 compares at most 23 orders in a call, of two for each line.
+#[test]
+fn a_tree_serves_where_many_are_live(rt: HostRuntime) {
+    let compared = compared_over_many(&rt, &mut ScanTree::new(rt.alloc()));
+    assert!(rt; compared <= 9000 * 2 * 23);
 }
 
 /// Rows of a few serve a sweep by themselves, over lines that fill many of them.
 #[test]
-fn rows_of_a_few_serve_where_many_are_live(rt: HostRuntime) -> Result<(), Fail> {
-    let lines = lines_in_runs(&rt, 3, 3000)?;
-    assert!(rt; is_arranged(&lines));
-    let expected = fills_of_runs(&rt, 3, 3000)?;
-    let rows = compared_over(&rt, &mut ScanRows::new(rt.alloc()), &lines, &expected)?;
-    assert!(rt; rows <= 9000 * 2 * 23);
-    Ok(())
+fn rows_of_a_few_serve_where_many_are_live(rt: HostRuntime) {
+    let compared = compared_over_many(&rt, &mut ScanRows::new(rt.alloc()));
+    assert!(rt; compared <= 9000 * 2 * 23);
 }

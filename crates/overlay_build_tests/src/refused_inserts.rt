@@ -6,10 +6,10 @@ ghost use Rattle.overlay_geometry.specs.InRange.{IsPointInRange};
 ghost use Rattle.overlay_geometry.specs.VSegmentOf.{v_pair_of, IsVSegmentInRange};
 ghost use Rattle.overlay_sweep.specs.Live.{sum_below, HoldSameFrom, AreFreeAt};
 
+use crate::worked_lines::two_squares;
 use overlay_base::segm::arranged::is_arranged;
 use overlay_base::segm::boolean::ShapeCountBoolean;
 use overlay_base::segm::fault::Fault;
-use overlay_base::segm::segment::Segment;
 use overlay_base::segm::segment_fill::SegmentFill;
 use overlay_base::segm::winding::WindingCount;
 use overlay_geometry::geom::point::IntPoint;
@@ -25,9 +25,6 @@ use overlay_sweep::build::scan_tree::ScanTree;
 use overlay_sweep::build::visits::sweep_with_handler;
 use overlay_sweep::build::way::Way;
 use std::process::Abort;
-use std::test::Fail;
-
-type BooleanSegment = Segment<ShapeCountBoolean, i32, ()>;
 
 /// Live segments that refuse an insert after some others.
 #[derive(Drop)]
@@ -97,37 +94,10 @@ impl<C: WindingCount, I: OverlayInt, L: LiveSegments<C, I>> LiveSegments<C, I> f
     }
 }
 
-/// The sides of a subject square and of a clip square, split where they cross: from, to, and the counts.
-const TWO_SQUARES: [((i32, i32), (i32, i32), i32, i32); 12] = [
-    ((0, 0), (0, 4), -1, 0),
-    ((0, 0), (4, 0), 1, 0),
-    ((0, 4), (2, 4), -1, 0),
-    ((2, 2), (2, 4), 0, -1),
-    ((2, 2), (4, 2), 0, 1),
-    ((2, 4), (2, 6), 0, -1),
-    ((2, 4), (4, 4), -1, 0),
-    ((2, 6), (6, 6), 0, -1),
-    ((4, 0), (4, 2), 1, 0),
-    ((4, 2), (4, 4), 1, 0),
-    ((4, 2), (6, 2), 0, 1),
-    ((6, 2), (6, 6), 0, 1),
-];
-
-/// Six of them are not vertical, and are inserted.
+/// Six lines of two squares are not vertical, and are inserted.
 const INSERTS: usize = 6;
 
 const FILLS: [SegmentFill; 12] = [2, 1, 2, 11, 7, 8, 14, 8, 1, 13, 4, 4];
-
-fn two_squares(rt: &(impl Abort + AllocGlobal)) -> Result<Vec<BooleanSegment>, Fail> {
-    let mut lines = Vec::new(rt.alloc());
-    for ((ax, ay), (bx, by), subj, clip) in TWO_SQUARES {
-        let (a, b) = (IntPoint::new(ax, ay), IntPoint::new(bx, by));
-        let count = ShapeCountBoolean { subj, clip };
-        assert!(rt; a != b && count.is_valid());
-        lines.push(Segment::create_and_validate_with_data(a, b, count, (), &mut ()))?;
-    }
-    Ok(lines)
-}
 
 /// Sweeps over the squares, with this number of inserts before the one that is refused. `None` where none is.
 fn refusal<L: LiveSegments<ShapeCountBoolean, i32>>(
@@ -135,10 +105,10 @@ fn refusal<L: LiveSegments<ShapeCountBoolean, i32>>(
     refusing: &mut Refusing<L>,
     ways: &mut Vec<Way<i32>>,
     passed_before: usize,
-) -> Result<Option<Fault>, Fail> {
-    let lines = two_squares(rt)?;
+) -> Option<Fault> {
+    let lines = two_squares();
     assert!(rt; is_arranged(&lines));
-    let mut fills = vec![in rt.alloc(); 0; lines.len()]?;
+    let mut fills = vec![in rt.alloc(); 0; lines.len()].expect(rt, "memory");
     let mut compared = 0;
     refusing.passed_before = passed_before;
     let handler = StoreFillsHandler::new(&mut fills);
@@ -152,48 +122,56 @@ fn refusal<L: LiveSegments<ShapeCountBoolean, i32>>(
     >(refusing, ways, &lines, handler, &mut compared);
     match answer {
         Ok(fills) => {
-            assert_eq!(rt; fills.as_slice(), FILLS.as_slice());
-            Ok(None)
+            assert!(rt; fills.as_slice() == FILLS.as_slice());
+            None
         }
-        Err(fault) => Ok(Some(fault)),
+        Err(fault) => Some(fault),
     }
 }
 
-/// After each refusal the same live segments and ways give a sweep the right fills.
+/// After a refusal the same live segments and ways give a sweep the right fills.
+fn sweep_after_refusal<L: LiveSegments<ShapeCountBoolean, i32>>(
+    rt: &(impl Abort + AllocGlobal),
+    refusing: &mut Refusing<L>,
+    ways: &mut Vec<Way<i32>>,
+    passed_before: usize,
+) {
+    let refused = refusal(rt, refusing, ways, passed_before);
+    assert!(rt; refused == Some(Fault::Memory) && refusing.live.compared() == 0);
+    assert!(rt; refusal(rt, refusing, ways, INSERTS).is_none());
+}
+
+/// After each refusal in turn a sweep still gives the right fills.
 fn sweep_after_each_refusal<L: LiveSegments<ShapeCountBoolean, i32> + Drop>(
     rt: &(impl Abort + AllocGlobal),
     live: L,
-) -> Result<(), Fail> {
+) {
     let mut refusing = Refusing {
         live,
         passed_before: 0,
     };
     let mut ways = Vec::new(rt.alloc());
     for passed in 0..INSERTS {
-        let refused = refusal(rt, &mut refusing, &mut ways, passed)?;
-        assert!(rt; refused == Some(Fault::Memory));
-        assert_eq!(rt; refusing.live.compared(), 0);
-        assert!(rt; refusal(rt, &mut refusing, &mut ways, INSERTS)?.is_none());
+        sweep_after_refusal(rt, &mut refusing, &mut ways, passed);
     }
-    Ok(())
 }
 
 #[test]
-fn a_sweep_over_a_list_after_each_refused_insert(rt: HostRuntime) -> Result<(), Fail> {
-    sweep_after_each_refusal(&rt, ScanList::new(rt.alloc()))
+fn a_sweep_over_a_list_after_each_refused_insert(rt: HostRuntime) {
+    sweep_after_each_refusal(&rt, ScanList::new(rt.alloc()));
 }
 
 #[test]
-fn a_sweep_over_a_tree_after_each_refused_insert(rt: HostRuntime) -> Result<(), Fail> {
-    sweep_after_each_refusal(&rt, ScanTree::new(rt.alloc()))
+fn a_sweep_over_a_tree_after_each_refused_insert(rt: HostRuntime) {
+    sweep_after_each_refusal(&rt, ScanTree::new(rt.alloc()));
 }
 
 #[test]
-fn a_sweep_over_a_row_after_each_refused_insert(rt: HostRuntime) -> Result<(), Fail> {
-    sweep_after_each_refusal(&rt, ScanRow::new(rt.alloc()))
+fn a_sweep_over_a_row_after_each_refused_insert(rt: HostRuntime) {
+    sweep_after_each_refusal(&rt, ScanRow::new(rt.alloc()));
 }
 
 #[test]
-fn a_sweep_over_rows_after_each_refused_insert(rt: HostRuntime) -> Result<(), Fail> {
-    sweep_after_each_refusal(&rt, ScanRows::new(rt.alloc()))
+fn a_sweep_over_rows_after_each_refused_insert(rt: HostRuntime) {
+    sweep_after_each_refusal(&rt, ScanRows::new(rt.alloc()));
 }

@@ -121,8 +121,28 @@ fn insert_rows<I: OverlayInt, L: LiveSegments<ShapeCountBoolean, I>>(
     for j in 0..ROWS {
         insert_row(rt, live, if is_forward { j } else { ROWS - 1 - j });
         if let Some(asked) = asked.get(j as usize) {
-            assert_eq!(rt; live.compared(), *asked);
+            assert!(rt; live.compared() == *asked);
         }
+    }
+}
+
+/// Looks between all rows at x 5. Each look has to compare as many orders as stated.
+fn look_between_rows<I: OverlayInt, L: LiveSegments<ShapeCountBoolean, I>>(
+    rt: &impl Abort,
+    live: &mut L,
+    least: u128,
+    most: u128,
+)
+    requires rows { AreRows (pos 5) (L.sums live.old) }
+    requires time { (y : ℤ) → pos 5 ≤ℤ y → L.may_go_on_at live.old y }
+    ensures rows { AreRows (pos 5) (L.sums live.new) }
+    ensures time { (y : ℤ) → pos 5 ≤ℤ y → L.may_go_on_at live.new y }
+{
+    for k in 0..ROWS {
+        let sum = sum_at(rt, live, 5, 2 * i64::from(k) + 1);
+        let compared = live.compared();
+        assert!(rt; sum == (k as i32 + 1, 0), "{k}");
+        assert!(rt; least <= compared && compared <= most, "{k}");
     }
 }
 
@@ -136,34 +156,51 @@ fn look_at_rows<I: OverlayInt, L: LiveSegments<ShapeCountBoolean, I>>(
     requires rows { AreRows (pos 0) (L.sums live.old) }
     requires time { (y : ℤ) → pos 0 ≤ℤ y → L.may_go_on_at live.old y }
 {
-    for k in 0..ROWS {
-        let sum = sum_at(rt, live, 5, 2 * i64::from(k) + 1);
-        let few = least <= live.compared() && live.compared() <= most;
-        assert_eq!(rt; (k, sum, few), (k, (k as i32 + 1, 0), true));
+    look_between_rows(rt, live, least, most);
+    assert!(rt; sum_at(rt, live, 5, -1) == (0, 7));
+    assert!(rt; sum_at(rt, live, 10, 1) == (0, 7));
+}
+
+/// Keeps all rows in both orders, and looks at them. Returns how many orders the last look at either compared, at most.
+fn insert_and_look<I: OverlayInt, L: LiveSegments<ShapeCountBoolean, I>>(
+    rt: &impl Abort,
+    live: &mut L,
+    asked: &[u128],
+    least: u128,
+    most: u128,
+) -> u128 {
+    let mut last = 0;
+    for is_forward in [true, false] {
+        insert_rows(rt, live, is_forward, asked);
+        look_at_rows(rt, live, least, most);
+        last = last.max(live.compared());
     }
-    let below = sum_at(rt, live, 5, -1);
-    assert_eq!(rt; (below, sum_at(rt, live, 10, 1)), ((0, 7), (0, 7)));
+    last
+}
+
+/// Keeps all rows in a tree, the lowest first or last, and looks at them.
+fn insert_into_tree<I: OverlayInt>(
+    rt: &impl Abort,
+    tree: &mut ScanTree<ShapeCountBoolean, I>,
+    is_forward: bool,
+) {
+    insert_rows(rt, tree, is_forward, &[]);
+    assert!(rt; tree.depth() <= 23);
+    look_at_rows(rt, tree, 1, 23);
 }
 
 fn tree_of_rows<I: OverlayInt>(rt: &impl Abort, alloc: Global) {
     let mut tree: ScanTree<ShapeCountBoolean, I> = ScanTree::new(alloc);
     assert!(rt; tree.depth() <= 1);
-    assert_eq!(rt; tree.compared(), 0);
-    for is_forward in [true, false] {
-        insert_rows(rt, &mut tree, is_forward, &[]);
-        assert!(rt; tree.depth() <= 23);
-        look_at_rows(rt, &mut tree, 1, 23);
-    }
+    assert!(rt; tree.compared() == 0);
+    insert_into_tree(rt, &mut tree, true);
+    insert_into_tree(rt, &mut tree, false);
 }
 
 fn list_of_rows<I: OverlayInt>(rt: &impl Abort, alloc: Global) {
     let mut list: ScanList<ShapeCountBoolean, I> = ScanList::new(alloc);
-    assert_eq!(rt; list.compared(), 0);
-    for is_forward in [true, false] {
-        insert_rows(rt, &mut list, is_forward, &ASKED_AMONG);
-        look_at_rows(rt, &mut list, 13, 13);
-        assert_eq!(rt; list.compared(), 0);
-    }
+    assert!(rt; list.compared() == 0);
+    assert!(rt; insert_and_look(rt, &mut list, &ASKED_AMONG, 13, 13) == 0);
 }
 
 #[test]
@@ -173,22 +210,28 @@ fn a_tree_of_rows_asks_few_orders(rt: HostRuntime) {
 }
 
 /// Among 3,000 entries that all last a search by halves compares 11 or 12 orders.
-fn other_rows<I: OverlayInt>(rt: &impl Abort, alloc: Global) {
+fn row_of_rows<I: OverlayInt>(rt: &impl Abort, alloc: Global) {
     let mut row: ScanRow<ShapeCountBoolean, I> = ScanRow::new(alloc);
-    let mut rows: ScanRows<ShapeCountBoolean, I> = ScanRows::new(alloc);
-    assert_eq!(rt; (row.compared(), rows.compared()), (0, 0));
-    for is_forward in [true, false] {
-        insert_rows(rt, &mut row, is_forward, &[]);
-        look_at_rows(rt, &mut row, 11, 12);
-        insert_rows(rt, &mut rows, is_forward, &[]);
-        look_at_rows(rt, &mut rows, 1, 23);
-    }
+    assert!(rt; row.compared() == 0);
+    insert_and_look(rt, &mut row, &[], 11, 12);
 }
 
 #[test]
-fn a_row_and_rows_of_a_few_return_the_same(rt: HostRuntime) {
-    other_rows::<i16>(&rt, rt.alloc());
-    other_rows::<i32>(&rt, rt.alloc());
+fn a_row_returns_the_same(rt: HostRuntime) {
+    row_of_rows::<i16>(&rt, rt.alloc());
+    row_of_rows::<i32>(&rt, rt.alloc());
+}
+
+fn few_of_rows<I: OverlayInt>(rt: &impl Abort, alloc: Global) {
+    let mut rows: ScanRows<ShapeCountBoolean, I> = ScanRows::new(alloc);
+    assert!(rt; rows.compared() == 0);
+    insert_and_look(rt, &mut rows, &[], 1, 23);
+}
+
+#[test]
+fn rows_of_a_few_return_the_same(rt: HostRuntime) {
+    few_of_rows::<i16>(&rt, rt.alloc());
+    few_of_rows::<i32>(&rt, rt.alloc());
 }
 
 #[test]
@@ -216,6 +259,12 @@ fn compared_in(rt: &impl Abort, runner: &mut Runner, solver: &Solver, lines: &[L
     runner.compared()
 }
 
+/// Whether a sweep over the greatest counts is refused.
+fn is_refused(runner: &mut Runner, solver: &Solver) -> bool {
+    let refused = first_with(runner, solver, 0, &greatest_counts());
+    refused == Err(Fault::CountOutOfRange)
+}
+
 /// Over one row each start takes one search of at most 13 orders, since 2 * 4,000 is at most 2 ^
 /// 13, and the line that is put in there compares none.
 #[test]
@@ -223,7 +272,7 @@ fn a_sweep_over_the_tree_asks_few_orders(rt: HostRuntime) {
     let lines = closing_lines(&rt, rt.alloc());
     assert!(rt; is_arranged(&lines));
     let mut runner = SweepRunner::new(rt.alloc());
-    assert_eq!(rt; runner.compared(), 0);
+    assert!(rt; runner.compared() == 0);
     for (solver, least, most) in [
         (Solver::TREE, 4000, 184_000),
         (Solver::FRAG, 4000, 184_000),
@@ -231,8 +280,6 @@ fn a_sweep_over_the_tree_asks_few_orders(rt: HostRuntime) {
     ] {
         let compared = compared_in(&rt, &mut runner, &solver, &lines);
         assert!(rt; least <= compared && compared <= most);
-        let refused = first_with(&mut runner, &solver, 0, &greatest_counts());
-        let found = (refused, runner.compared());
-        assert_eq!(rt; found, (Err(Fault::CountOutOfRange), compared));
+        assert!(rt; is_refused(&mut runner, &solver) && runner.compared() == compared);
     }
 }

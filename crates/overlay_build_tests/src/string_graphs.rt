@@ -85,17 +85,33 @@ fn are_filled(links: &[OverlayLink<i32, ()>], fills: &[SegmentFill]) -> bool {
             .all(|(link, fill)| link.fill == *fill)
 }
 
+/// Whether four links meet where the line goes into the square.
+fn are_crossed(nodes: &[Vec<usize>]) -> bool {
+    nodes
+        .iter()
+        .any(|node| node.as_slice() == [3, 4, 0, 1].as_slice())
+}
+
+/// Compares how the links of the cut square are filled, and looks at its nodes.
+fn compare_cut_square(
+    rt: &impl Abort,
+    builder: &mut Lines,
+    solver: &Solver,
+    fill_rule: FillRule,
+    fills: &[SegmentFill],
+) {
+    let graph = build_all(rt, builder, fill_rule, solver, &cut_square());
+    assert!(rt; are_filled(graph.links(), fills), "{fill_rule}");
+    let nodes = graph.nodes();
+    assert!(rt; nodes.len() == 8 && are_crossed(nodes), "{fill_rule}");
+}
+
 #[test]
 fn a_line_over_a_square(rt: HostRuntime) {
     let mut builder = Lines::new(rt.alloc());
     for solver in STRATEGIES {
         for (fill_rule, fills) in FILLS {
-            let graph = build_all(&rt, &mut builder, fill_rule, &solver, &cut_square());
-            let filled = are_filled(graph.links(), &fills);
-            let mut nodes = graph.nodes().iter();
-            let crossed = nodes.any(|node| node.as_slice() == [3, 4, 0, 1].as_slice());
-            let found = (filled, graph.nodes().len(), crossed);
-            assert_eq!(rt; found, (true, 8, true), "{fill_rule}");
+            compare_cut_square(&rt, &mut builder, &solver, fill_rule, &fills);
         }
     }
 }
@@ -163,36 +179,37 @@ const CROSSED: [usize; 36] = [
     10, 1, 9, 1, 11,
 ];
 
+/// The same for the corner.
+const CORNER: [usize; 10] = [1, 0, 2, 1, 0, 2, 2, 1, 1, 2];
+
 /// The same for the two rings.
 const RINGS: [usize; 24] = [
     2, 0, 1, 2, 2, 0, 2, 3, 2, 2, 1, 3, 2, 4, 5, 2, 6, 4, 2, 7, 6, 2, 5, 7,
 ];
 
+/// Compares the links of each node of the graph of some lines.
+fn compare_nodes(
+    rt: &(impl Abort + AllocGlobal),
+    builder: &mut Lines,
+    solver: &Solver,
+    segments: &[Line],
+    wanted: &[usize],
+)
+    requires { IsTrue (is_arranged least_coordinate greatest_coordinate (segments_of segments.now)) }
+{
+    let graph = build_all(rt, builder, FillRule::NonZero, solver, segments);
+    let mut listed = Vec::new(rt.alloc());
+    list_nodes(rt, graph.nodes(), &mut listed);
+    assert_eq!(rt; listed.as_slice(), wanted);
+}
+
 #[test]
 fn nodes_list_links_that_start_before_those_that_end(rt: HostRuntime) {
     let mut builder = Lines::new(rt.alloc());
     for solver in STRATEGIES {
-        let mut listed = Vec::new(rt.alloc());
-        let graph = build_all(
-            &rt,
-            &mut builder,
-            FillRule::NonZero,
-            &solver,
-            &crossing_lines(),
-        );
-        list_nodes(&rt, graph.nodes(), &mut listed);
-        assert_eq!(rt; listed.as_slice(), CROSSED.as_slice());
-        listed.clear();
-        let graph = build_all(&rt, &mut builder, FillRule::NonZero, &solver, &corner());
-        list_nodes(&rt, graph.nodes(), &mut listed);
-        assert_eq!(rt;
-            listed.as_slice(),
-            [1, 0, 2, 1, 0, 2, 2, 1, 1, 2].as_slice()
-        );
-        listed.clear();
-        let graph = build_all(&rt, &mut builder, FillRule::NonZero, &solver, &two_rings());
-        list_nodes(&rt, graph.nodes(), &mut listed);
-        assert_eq!(rt; listed.as_slice(), RINGS.as_slice());
+        compare_nodes(&rt, &mut builder, &solver, &crossing_lines(), &CROSSED);
+        compare_nodes(&rt, &mut builder, &solver, &corner(), &CORNER);
+        compare_nodes(&rt, &mut builder, &solver, &two_rings(), &RINGS);
     }
 }
 

@@ -110,7 +110,7 @@ fn a_handler_breaks_at_the_first_fill_that_it_looks_for(rt: HostRuntime) {
     let mut runner = SweepRunner::new(rt.alloc());
     for solver in STRATEGIES {
         let found = first_with(&mut runner, &solver, CLIP_BOTTOM, &two_squares());
-        assert_eq!(rt; found, Ok((3, 0x10243)));
+        assert!(rt; found == Ok((3, 0x10243)));
     }
 }
 
@@ -118,7 +118,7 @@ fn a_handler_breaks_at_the_first_fill_that_it_looks_for(rt: HostRuntime) {
 fn a_count_that_leaves_the_range_after_the_break_is_not_refused(rt: HostRuntime) {
     let mut runner = SweepRunner::new(rt.alloc());
     for solver in STRATEGIES {
-        assert_eq!(rt; broken_at_once(&mut runner, &solver), Ok(0));
+        assert!(rt; broken_at_once(&mut runner, &solver) == Ok(0));
     }
 }
 
@@ -127,7 +127,7 @@ fn a_runner_is_used_again_after_a_refusal(rt: HostRuntime) {
     let mut runner = SweepRunner::new(rt.alloc());
     for solver in STRATEGIES {
         let refused = first_with(&mut runner, &solver, CLIP_BOTTOM, &greatest_counts());
-        let found = broken_at_once(&mut runner, &solver);
-        assert_eq!(rt; (refused, found), (Err(Fault::CountOutOfRange), Ok(0)));
+        assert!(rt; refused == Err(Fault::CountOutOfRange));
+        assert!(rt; broken_at_once(&mut runner, &solver) == Ok(0));
     }
 }

@@ -43,16 +43,7 @@ fn one_walk_goes_round_what_two_squares_share(rt: HostRuntime) {
 #[test]
 fn each_link_stands_once_in_the_walks_of_xor(rt: HostRuntime) {
     let walks = walks_of(&rt, rt.alloc(), OverlayRule::Xor, &two_squares());
-    let mut met = [false; 12];
-    for walk in &walks {
-        assert!(rt; !walk.is_empty());
-        for link in walk {
-            let seen = met.get_mut(*link).expect(&rt, "a link");
-            assert!(rt; !*seen);
-            *seen = true;
-        }
-    }
-    assert_eq!(rt; met, [true; 12]);
+    assert!(rt; times_walked(&rt, &walks) == [1; 12]);
 }
 
 /// Four triangles with one corner in common, run counterclockwise, in order of their smaller ends.
@@ -115,14 +106,18 @@ const RULES: [OverlayRule; 7] = [
     OverlayRule::Xor,
 ];
 
+/// A side of a triangle, from one point to another.
+fn side(rt: &impl Abort, a: (i32, i32), b: (i32, i32), count: ShapeCountBoolean) -> Line {
+    let (a, b) = (IntPoint::new(a.0, a.1), IntPoint::new(b.0, b.1));
+    assert!(rt; a != b && count.is_valid());
+    Segment::create_and_validate_with_data(a, b, count, (), &mut ())
+}
+
 fn four_triangles(rt: &impl Abort, alloc: Global, subj: i32, clip: i32) -> Vec<Line> {
     let mut lines = Vec::new(alloc);
     let count = ShapeCountBoolean { subj, clip };
-    for ((ax, ay), (bx, by)) in FOUR_TRIANGLES {
-        let (a, b) = (IntPoint::new(ax, ay), IntPoint::new(bx, by));
-        assert!(rt; a != b && count.is_valid());
-        let side = Segment::create_and_validate_with_data(a, b, count, (), &mut ());
-        lines.push(side).expect(rt, "memory");
+    for (a, b) in FOUR_TRIANGLES {
+        lines.push(side(rt, a, b, count)).expect(rt, "memory");
     }
     lines
 }
@@ -140,19 +135,21 @@ fn times_walked(rt: &impl Abort, walks: &[Vec<usize>]) -> [u32; 12] {
     times
 }
 
+/// Compares how often each of twelve sides is in the walks of a rule.
+fn compare_times(rt: &(impl Abort + AllocGlobal), lines: &[Line], rule: OverlayRule, times: u32)
+    requires { IsTrue (is_arranged least_coordinate greatest_coordinate (segments_of lines.now)) }
+{
+    let walks = walks_of(rt, rt.alloc(), rule, lines);
+    assert!(rt; times_walked(rt, &walks) == [times; 12], "{rule}");
+}
+
 #[test]
 fn walks_pass_a_node_of_eight_links(rt: HostRuntime) {
     for (subj, clip, keep_all) in KEEP_ALL {
         let lines = four_triangles(&rt, rt.alloc(), subj, clip);
         assert!(rt; is_arranged(&lines));
         for rule in RULES {
-            let walks = walks_of(&rt, rt.alloc(), rule, &lines);
-            let times = if keep_all.contains(&rule) {
-                [1; 12]
-            } else {
-                [0; 12]
-            };
-            assert_eq!(rt; times_walked(&rt, &walks), times, "{rule}");
+            compare_times(&rt, &lines, rule, u32::from(keep_all.contains(&rule)));
         }
     }
 }

@@ -1,4 +1,4 @@
-use Rattle.std.proofs.Common.{ap, ◌∙◌}
+use Rattle.std.proofs.Common.{ap, ◌∙◌, rules}
 use Rattle.overlay_base.specs.Join.{join}
 use Rattle.overlay_base.specs.SegmentOf.{segments_of}
 use Rattle.overlay_base.specs.HooksOf.{hooks_of}
@@ -20,3 +20,12 @@ returns-clause-edge_data g c =
           data_of_one_value (c.has_one_value.ensures.data w.if-has_one_value.true) hooks c.args.store.now c.args.list.now.items _ (parts.geometry ∙ ap (λ l. join (segments_of l.items)) w.list-is ∙ early)
       | else-has_one_value w ↦ rw w.list-is at parts.edge_data
     ]
+
+pub returns-in-Err-clause-refused : goal.returns-in-Err-clause-refused
+returns-in-Err-clause-refused g c = search rules
+
+pub returns-in-Err-clause-stopped : goal.returns-in-Err-clause-stopped
+returns-in-Err-clause-stopped g c = search rules
+
+pub returns-clause-repeated : goal.returns-clause-repeated
+returns-clause-repeated g c = search rules

@@ -1,4 +1,5 @@
-use Rattle.std.proofs.Common.{arith, ◌+◌}
+use Rattle.std.proofs.Common.{arith, ◌+◌, rules}
+use Rattle.std.proofs.lemmas.Grind.{common_steps}
 use Rattle.std.proofs.lemmas.List.{drop-set-lt, length-set}
 use Rattle.overlay_base.proofs.segm.merge.keep.Goals as goal
 
@@ -16,3 +17,9 @@ returns-clause-rest g c = drop-set-lt (c.args.kept + 1) c.args.list.now.items c.
 
 pub returns-clause-len : goal.returns-clause-len
 returns-clause-len g c = length-set _ _ _
+
+pub returns-then-not-is_not_empty-clause-kept : goal.returns-then-not-is_not_empty-clause-kept
+returns-then-not-is_not_empty-clause-kept g c = search rules
+
+pub returns-clause-kept : goal.returns-clause-kept
+returns-clause-kept g c = grind (arith, common_steps)

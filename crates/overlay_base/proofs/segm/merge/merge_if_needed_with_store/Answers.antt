@@ -80,3 +80,12 @@ returns g c =
       emptied = search rules;
       stopped = search rules;
     }
+
+pub returns-in-Err-clause-geometry : goal.returns-in-Err-clause-geometry
+returns-in-Err-clause-geometry g c = search rules
+
+pub returns-in-Err-clause-edge_data : goal.returns-in-Err-clause-edge_data
+returns-in-Err-clause-edge_data g c = search rules
+
+pub returns-in-Err-clause-repeated : goal.returns-in-Err-clause-repeated
+returns-in-Err-clause-repeated g c = search rules

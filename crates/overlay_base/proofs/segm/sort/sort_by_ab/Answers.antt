@@ -20,3 +20,6 @@ returns-in-Ok-clause-sorted g c =
 
 pub returns-in-Ok-clause-permutation : goal.returns-in-Ok-clause-permutation
 returns-in-Ok-clause-permutation g c = c.in-Ok.ensures.permutation
+
+pub returns-in-Err-clause-emptied : goal.returns-in-Err-clause-emptied
+returns-in-Err-clause-emptied g c = search rules

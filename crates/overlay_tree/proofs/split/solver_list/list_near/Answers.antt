@@ -1,4 +1,5 @@
 use Rattle.std.proofs.Common.{◌≡◌, ◌+◌, ◌<◌, ◌∙◌, sym, ap, subst, arith, take, length, ℕ}
+use Rattle.std.proofs.lemmas.Grind.{common_steps}
 use Rattle.std.specs.Prelude.{◌≤ℤ◌, ◌<ℤ◌}
 use Rattle.overlay_geometry.specs.PairOf.{pair_of}
 use Rattle.overlay_geometry.proofs.laws.integers.Tests.{lt-tested, lt-tested_false}
@@ -68,3 +69,6 @@ returns-clause-listed g c =
     let past = c.loop-later-test.false in
     let last : c.loop-later.later ≡ c.args.index + 1 + c.min-few.result = omega arith in
     subst (λ (n : ℕ). AreListed (pairs (segments_of c.args.segments.now)) c.args.index (c.args.index + 1) n (take c.loop-later.count c.loop-later.met)) last c.loop-later.invariant.listed
+
+pub returns-clause-past : goal.returns-clause-past
+returns-clause-past g c = grind (arith, common_steps)

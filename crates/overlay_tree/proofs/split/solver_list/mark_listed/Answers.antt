@@ -1,4 +1,5 @@
-use Rattle.std.proofs.Common.{◌≡◌, ◌+◌, ◌∙◌, ◌++◌, ◌||◌, refl, sym, ap, append-nil, append_assoc, take, get_or, Bool, ℕ, List, [], ◌∷◌}
+use Rattle.std.proofs.Common.{◌≡◌, ◌+◌, ◌∙◌, ◌++◌, ◌||◌, refl, sym, ap, append-nil, append_assoc, take, get_or, Bool, ℕ, List, [], ◌∷◌, arith}
+use Rattle.std.proofs.lemmas.Grind.{common_steps}
 use Rattle.std.proofs.lemmas.List.{take_more, take_all}
 use Rattle.overlay_base.specs.Segments.{pairs}
 use Rattle.overlay_base.specs.SegmentOf.{segments_of}
@@ -38,3 +39,6 @@ returns-clause-marks g c = rw (take_all c.loop-later.later-index c.args.met.now 
 
 pub returns-clause-rounded : goal.returns-clause-rounded
 returns-clause-rounded g c = rw (take_all c.loop-later.later-index c.args.met.now c.loop-later-test.false) at c.loop-later.invariant.rounded
+
+pub mark_two-requires-clause-first : goal.mark_two-requires-clause-first
+mark_two-requires-clause-first g c = grind (arith, common_steps)

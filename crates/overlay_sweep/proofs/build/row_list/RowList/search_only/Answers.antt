@@ -1,4 +1,4 @@
-use Rattle.std.proofs.Common.{◌≡◌, ◌∙◌, ap, sym, subst, arith, length}
+use Rattle.std.proofs.Common.{◌≡◌, ◌∙◌, ap, sym, subst, arith, length, rules}
 use Rattle.std.specs.Prelude.{◌*◌, ◌^◌, ◌<◌, ◌≤◌, ◌⊎◌, map, slice_set}
 use Rattle.std.proofs.lemmas.List.{length-map, map-set}
 use Rattle.overlay_sweep.specs.EntryOf.{entry_of}
@@ -46,3 +46,6 @@ returns-clause-few g c =
     let all = base_last rows 0 (omega (arith, c.requires.one)) (omega (arith, c.requires.one)) in
     let size : length c.entries-end.result.now ≡ length (joined rows) = ap (λ l. length l) c.entries-end.ensures ∙ sym (length-map c.index_mut-only.result.now.entries.items entry_of) ∙ sym (ap (λ l. length l) seen) ∙ omega (arith, all) in
     subst (λ n. (c.search-at.new.compared ≡ 0) ⊎ (2 ^ c.search-at.new.compared ≤ 2 * n)) size c.search-at.ensures.few
+
+pub search-at-requires-clause-end : goal.search-at-requires-clause-end
+search-at-requires-clause-end g c = search rules

@@ -1,4 +1,4 @@
-use Rattle.std.proofs.Common.{ap}
+use Rattle.std.proofs.Common.{ap, rules}
 use Rattle.std.specs.Prelude.{map}
 use Rattle.overlay_sweep.specs.EntryOf.{entry_of}
 use Rattle.overlay_sweep.proofs.laws.list.ListAnswers.{list_empty}
@@ -6,3 +6,9 @@ use Rattle.overlay_sweep.proofs.build.scan_list.ScanListLiveSegments.clear.Goals
 
 pub returns-clause-time : goal.returns-clause-time
 returns-clause-time g c = λ y. list_empty y _ _ (ap (map entry_of) c.clear.ensures.items)
+
+pub returns-clause-sums : goal.returns-clause-sums
+returns-clause-sums g c = search rules
+
+pub returns-clause-held : goal.returns-clause-held
+returns-clause-held g c = search rules

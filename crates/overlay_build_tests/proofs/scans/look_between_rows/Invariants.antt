@@ -1,6 +1,6 @@
 use Rattle.std.specs.Prelude.{ℤ, pos, ◌≤ℤ◌}
 use Rattle.overlay_sweep.specs.steps.LevelRows.{AreRows}
-use Rattle.overlay_build_tests.proofs.scans.look_at_rows.Given as goal
+use Rattle.overlay_build_tests.proofs.scans.look_between_rows.Given as goal
 
 abbrev pub invariant-loop-k : goal.invariant-loop-k
 invariant-loop-k g l = record {

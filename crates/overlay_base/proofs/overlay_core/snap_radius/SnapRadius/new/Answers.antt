@@ -1,0 +1,5 @@
+use Rattle.std.proofs.Common.{rules}
+use Rattle.overlay_base.proofs.overlay_core.snap_radius.SnapRadius.new.Goals as goal
+
+pub returns-clause-exponent : goal.returns-clause-exponent
+returns-clause-exponent c = search rules

@@ -1,0 +1,5 @@
+use Rattle.std.proofs.Common.{rules}
+use Rattle.overlay_c.proofs.overlay_c_polygons_by_rules.Goals as goal
+
+pub returns-clause-done : goal.returns-clause-done
+returns-clause-done c = search rules
