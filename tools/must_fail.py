@@ -185,10 +185,12 @@ class Edit:
     def leave_out(self, goals):
         """Leaves the proofs of some goals out, each of a function that it changes."""
         for name, said in goals:
-            found = [path for path in self.paths if path.split("::")[-1] == name]
-            if not found:
-                sys.exit(f"{self.crate}/{self.name}: it changes no function {name}")
-            self.vain |= {("/".join(["proofs", *path.split("::"), "Answers.antt"]), goal) for path in found for goal in re.findall(r"\S+[^,\s]", said)}
+            files = ["/".join(["proofs", *path.split("::"), "Answers.antt"]) for path in self.paths if path.split("::")[-1] == name]
+            for goal in said.split(", "):
+                found = {(file, goal) for file in files if f"\npub {goal} : goal." in source(self.crate, file)}
+                if not found:
+                    sys.exit(f"{self.crate}/{self.name}: it changes no function {name} with a proof of {goal}")
+                self.vain |= found
 
     def note_function(self, file, text, number):
         """Notes the function at a line of a file, or that a constant is changed."""

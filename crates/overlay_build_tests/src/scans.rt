@@ -126,7 +126,7 @@ fn insert_rows<I: OverlayInt, L: LiveSegments<ShapeCountBoolean, I>>(
     }
 }
 
-/// Looks between all rows at x 5. Each look has to compare as many orders as stated.
+/// Looks between all rows at x 5. Each look has to compare from `least` to `most` orders.
 fn look_between_rows<I: OverlayInt, L: LiveSegments<ShapeCountBoolean, I>>(
     rt: &impl Abort,
     live: &mut L,
