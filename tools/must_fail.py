@@ -11,9 +11,11 @@ that `rt ci` or `rt check` left. With `--edits` the edits are FOLDER/CRATE/*.edi
 has a file of the name of each library below it: so the gate tries edits while it proves.
 
 Prints the first open goal for each edit, and last `N of M edits refused`. An edit is refused by a goal of a function that it changes
-and that one of its lines `# refused by FUNCTION: CLAUSE, ..` names. A proof that names what the edit took away does not count: the
-edit is tried once more without it, so that the prover searches for one. A line `# without FUNCTION: GOAL, ..` leaves such proofs out
-from the start.
+and that one of its lines `# refused by FUNCTION: CLAUSE, ..` names. Where goals of these clauses have proofs in `Answers.antt`, the
+edit is tried by these alone: in the functions that it changes the prover searches for no other. Where they do not refuse it, it is tried
+once more with all proofs and searches; a line `# by search` has it tried so from the start. A proof that names what the edit took away
+does not count: the edit is tried without it, so that the prover searches for one. A line `# without FUNCTION: GOAL, ..` leaves such
+proofs out from the start.
 """
 import argparse
 import itertools
@@ -35,6 +37,7 @@ FUNCTION = re.compile(r"\s*(?:pub(?:\(\w+\))? )?(?:const )?(?:unsafe )?(?:extern
 IMPL = re.compile(r"impl(?:<.*?>+)? (?:(?:\w+::)*(\w+)(?:<(\w\w+)?.*>)? for )?(\w+|\(\))|(?:pub )?trait (\w+)")
 REFUSED_BY = re.compile(r"^# refused by ([\w:]+)(?:: (.*))?$", re.M)
 WITHOUT = re.compile(r"^# without (\w+): (.*)$", re.M)
+BY_SEARCH = re.compile(r"^# by search$", re.M)
 GOAL = re.compile(r"(?:note: )?(?:\./)?(?:proofs/(?P<proof>\S+)/\w+\.antt|(?P<source>src/\S+?)):(?P<line>\d+):\d+:")
 # the proof of a goal in a function's Answers.antt, and what the prover says of one that it does not take
 ANSWER = re.compile(r"^(?:-- .*\n)*pub (\S+) : goal\.(?:.*\n)(?:(?!-- |pub ).*\n)*", re.M)
@@ -113,11 +116,15 @@ def functions_of(crate):
                 yield found, proof_of(crate, found, lines[:at]), (file, at)
 
 
+def attributes_above(lines, at):
+    """Returns the attributes and comments right above a line."""
+    return list(itertools.takewhile(lambda it: it.lstrip().startswith(("#[", "//")), reversed(lines[:at])))
+
+
 def proof_of(crate, path, lines):
     """Returns the path of the proof of a function with these lines above it: functions that call one another have one, of their cycle."""
     *above, name = path.split("::")
-    attributes = itertools.takewhile(lambda it: it.lstrip().startswith(("#[", "//")), reversed(lines))
-    cycle = next((it[1] for line in attributes if (it := CYCLE.match(line))), name)
+    cycle = next((it[1] for line in attributes_above(lines, len(lines)) if (it := CYCLE.match(line))), name)
     is_cycle = pathlib.Path(crate.folder, "proofs", *above, f"+{cycle}").is_dir()
     return "::".join([*above, f"+{cycle}"]) if is_cycle else path
 
@@ -133,6 +140,12 @@ def without_body(lines, at):
     return [*lines[: first + 1], f"{indent}    unreachable!()", *[""] * (last - first - 2), *lines[last:]]
 
 
+def is_of(goal, clauses):
+    """Returns whether the proof of a goal can fail where one of these clauses does: it is of that clause, or of no clause on a result."""
+    clause = re.match(r"returns\b.*\bclause-(.*)", goal)
+    return not clause or clause[1] in clauses
+
+
 class Edit:
     """A wrong body: which lines it changes, in which functions, and which functions have to be refused for it."""
 
@@ -146,12 +159,15 @@ class Edit:
         self.is_over_proofs = False
         # the proofs without which it is tried, since they name what it took away: each a file and a goal
         self.vain = set()
+        # whether the prover is to search for no proof of a goal: a wrong proof in `Answers.antt` refuses it as well
+        self.is_by_answers = False
         # by module and name, and by the name that the prover takes, with the module beside it
         self.functions, self.paths = set(), {}
         self.goal = self.said = None
-        self.may_try_again = False
+        self.has_new_vain = False
         self.lines = self.changed_lines(path)
         self.leave_out(WITHOUT.findall(path.read_text(encoding="utf-8")))
+        self.is_by_answers = not (self.is_alone or self.vain or BY_SEARCH.search(path.read_text(encoding="utf-8"))) and bool(self.answers())
 
     def steps(self, path):
         """Returns what an edit replaces: file, old text and new text, a line each."""
@@ -192,6 +208,18 @@ class Edit:
                     sys.exit(f"{self.crate}/{self.name}: it changes no function {name} with a proof of {goal}")
                 self.vain |= found
 
+    def answers(self):
+        """Returns the proofs that can refuse it, each a file and a goal: of functions that it changes and names, but none of a further
+        clause on what a function returns."""
+        found = set()
+        for name, clauses in self.refused_by.items():
+            for path in self.paths:
+                file = "/".join(["proofs", *path.split("::"), "Answers.antt"])
+                if path.split("::")[-1] == name.split("::")[-1] and (TOP / "crates" / self.crate / file).exists():
+                    goals = {it[1] for it in ANSWER.finditer(source(self.crate, file))}
+                    found.update((file, goal) for goal in goals if not clauses or is_of(goal, clauses))
+        return found
+
     def note_function(self, file, text, number):
         """Notes the function at a line of a file, or that a constant is changed."""
         found, module = function_at(text, number), module_of(file)
@@ -207,9 +235,26 @@ class Edit:
         """Returns whether both can be tried in one round."""
         return not (self.is_alone or other.is_alone or self.functions & other.functions)
 
+    def try_otherwise(self):
+        """Has it tried in another way, if there is one, and returns whether there is."""
+        if not self.has_new_vain and self.is_over_proofs:
+            return False
+        if not self.has_new_vain:
+            self.is_over_proofs = not self.is_by_answers
+        self.is_by_answers = False
+        return True
+
+    def how(self):
+        """Returns in words how it is tried."""
+        if self.is_over_proofs:
+            return "over all proofs"
+        return f"without {', '.join(sorted(goal for _, goal in self.vain))}" if self.vain else "with searches"
+
     def try_goals(self, goals):
-        """Keeps the first goal of these that refuses it, if any does."""
+        """Keeps the first goal of these that refuses it, if any does. Where no proof was searched for, a goal without one is none."""
         for goal, function in goals:
+            if self.is_by_answers and not ANSWERED.match(goal):
+                continue
             if not self.goal and function[1] in self.named and (self.is_alone or function in self.functions):
                 self.goal = f"{function[1]}: {goal[:120]}"
 
@@ -260,7 +305,7 @@ class Trial:
         for edit in edits:
             edit.try_goals(seen)
             if not edit.goal:
-                edit.may_try_again = self.find_vain(edit, goals, texts)
+                edit.has_new_vain = self.find_vain(edit, goals, texts)
                 edit.said = "\n".join(said.split("\n")[-8:])
         return took
 
@@ -282,6 +327,9 @@ class Trial:
             texts = self.copy_with(edits, room)
             if not any(edit.is_alone or edit.is_over_proofs for edit in edits):
                 self.put_holes({path for edit in edits for path in edit.paths}, room)
+            for edit in edits:
+                if edit.is_by_answers:
+                    self.search_nothing(edit, room)
             if self.kept:
                 shutil.copytree(self.kept.name, f"{room}/kept", copy_function=link_or_copy)
             os.makedirs(f"{room}/kept", exist_ok=True)
@@ -306,6 +354,21 @@ class Trial:
             statement = proof.replace("::", ".") + ("" if folder.name.startswith("+") else ".Statement")
             words = {"crate": self.crate.name, "statement": statement, "name": folder.name}
             (folder / "Proof.antt").write_text(HOLE.format(**words), encoding="utf-8")
+
+    def search_nothing(self, edit, room):
+        """Has the prover search for no proof in functions that an edit changes, and keeps of their proofs those that its goals have."""
+        answers = edit.answers()
+        for path in edit.paths:
+            for file, at in self.places.get(path, ()):
+                lines = pathlib.Path(room, file).read_text(encoding="utf-8").split("\n")
+                if not any("tactic(" in line for line in attributes_above(lines, at)):
+                    lines[at] = re.sub(r"^( *)", r"\1#[tactic(none)] ", lines[at])
+                    pathlib.Path(room, file).write_text("\n".join(lines), encoding="utf-8")
+            file = "/".join(["proofs", *path.split("::"), "Answers.antt"])
+            if pathlib.Path(room, file).exists():
+                text = pathlib.Path(room, file).read_text(encoding="utf-8")
+                kept = ANSWER.sub(lambda it, file=file: it[0] if (file, it[1]) in answers else "", text)
+                pathlib.Path(room, file).write_text(kept, encoding="utf-8")
 
     def drop_bodies(self, paths, room):
         """Drops the bodies of functions, since their contracts are taken without a proof."""
@@ -419,11 +482,9 @@ def try_all(trials, marks, start):
         seen = [edit for edit in edits if edit.goal]
         said = f"{len(seen)} of {len(edits)} edits refused in {took:.0f} s of a processor"
         print(f"{time.time() - start:5.0f} s: {trial.crate.name}: {said}", flush=True)
-        again = [edit for edit in edits if not edit.goal and (edit.may_try_again or not edit.is_over_proofs)]
+        again = [edit for edit in edits if not edit.goal and edit.try_otherwise()]
         for edit in again:
-            edit.is_over_proofs |= not edit.may_try_again
-            how = "over all proofs" if edit.is_over_proofs else f"without {', '.join(sorted(goal for _, goal in edit.vain))}"
-            print(f"        {trial.crate.name}/{edit.name} is tried again {how}", flush=True)
+            print(f"        {trial.crate.name}/{edit.name} is tried again {edit.how()}", flush=True)
         return [(trial, [edit]) for edit in again]
 
     running = set()

@@ -4,7 +4,7 @@ use i_overlay::segm::fault::Fault;
 use std::alloc::{AllocError, AllocFailed, Global};
 
 /// What a call returns, in numbers.
-#[derive(Clone, Copy, Drop)]
+#[derive(Clone, Copy, PartialEq, Eq, Drop)]
 pub struct Summary {
     /// The number of segments, links, walks or points.
     pub count: usize,

@@ -21,6 +21,8 @@ use i_overlay::split::solver::SplitSolver;
 use i_overlay::string::clip::ClipRule;
 use std::alloc::Global;
 
+type BooleanSegment = Segment<ShapeCountBoolean, i32, ()>;
+
 /// A builder of graphs of polygons.
 pub type Builder = GraphBuilder<ShapeCountBoolean, OverlayNode, i32, ()>;
 
@@ -100,6 +102,26 @@ impl Build {
         }
     }
 
+    /// Builds a graph of polygons without links, and then the one of a rule.
+    fn build_polygons(
+        &mut self,
+        rule: Option<OverlayRule>,
+        alloc: Global,
+    ) -> Result<Summary, Stop> {
+        let subject = arrangement(Shape::Crossed, alloc)?;
+        check_empty(self.polygons(Some(OverlayRule::Intersect), subject.as_slice())?)?;
+        let squares = arrangement(Shape::Squares, alloc)?;
+        self.polygons(rule, squares.as_slice())
+    }
+
+    /// Builds a graph of lines without links, and then the one of a rule.
+    fn build_lines(&mut self, rule: Option<ClipRule>, alloc: Global) -> Result<Summary, Stop> {
+        let subject = arrangement(Shape::Crossed, alloc)?;
+        check_empty(self.lines(Some(INSIDE), subject.as_slice())?)?;
+        let squares = arrangement(Shape::Squares, alloc)?;
+        self.lines(rule, squares.as_slice())
+    }
+
     /// The graph of polygons under a rule, or of all segments where there is none.
     fn polygons(
         &mut self,
@@ -158,22 +180,10 @@ impl Build {
 impl Case for Build {
     fn try_once(&mut self, alloc: Global) -> Result<Summary, Stop> {
         match self.kind {
-            Kind::All | Kind::Overlay => {
-                let subject = arrangement(Shape::Crossed, alloc)?;
-                let squares = arrangement(Shape::Squares, alloc)?;
-                let before = self.polygons(Some(OverlayRule::Intersect), subject.as_slice())?;
-                check_empty(before)?;
-                let rule = matches!(self.kind, Kind::Overlay).then_some(OverlayRule::Xor);
-                self.polygons(rule, squares.as_slice())
-            }
-            Kind::Lines | Kind::Clip => {
-                let subject = arrangement(Shape::Crossed, alloc)?;
-                let squares = arrangement(Shape::Squares, alloc)?;
-                let before = self.lines(Some(INSIDE), subject.as_slice())?;
-                check_empty(before)?;
-                let rule = matches!(self.kind, Kind::Clip).then_some(OUTSIDE);
-                self.lines(rule, squares.as_slice())
-            }
+            Kind::All => self.build_polygons(None, alloc),
+            Kind::Overlay => self.build_polygons(Some(OverlayRule::Xor), alloc),
+            Kind::Lines => self.build_lines(None, alloc),
+            Kind::Clip => self.build_lines(Some(OUTSIDE), alloc),
         }
     }
 }
@@ -204,30 +214,39 @@ impl Filter {
     }
 }
 
-impl Case for Filter {
-    fn try_once(&mut self, alloc: Global) -> Result<Summary, Stop> {
-        let squares: Vec<Segment<ShapeCountBoolean, i32, ()>> = arrangement(Shape::Squares, alloc)?;
-        if !is_arranged(&squares) {
+impl Filter {
+    /// The filter of the graph of these segments.
+    fn filter(&mut self, squares: &[BooleanSegment]) -> Result<Summary, Stop> {
+        if !is_arranged(squares) {
             return Err(Stop::Wrong("the split is no arrangement"));
         }
         let graph = self
             .builder
-            .build_boolean_all(FillRule::NonZero, &Solver::LIST, &squares)?;
+            .build_boolean_all(FillRule::NonZero, &Solver::LIST, squares)?;
         match filter_by_overlay_into(graph.links(), OverlayRule::Union, &mut self.states) {
-            Ok(()) => {
-                let kept = self
-                    .states
-                    .iter()
-                    .filter(|state| **state == VisitState::Unvisited)
-                    .count();
-                Ok(Summary {
-                    count: self.states.len(),
-                    others: kept as u128,
-                    digest: 0,
-                })
-            }
+            Ok(()) => Ok(summary_of_states(self.states.as_slice())),
             Err(fault) => Err(refused(fault, self.states.is_empty())),
         }
+    }
+}
+
+impl Case for Filter {
+    fn try_once(&mut self, alloc: Global) -> Result<Summary, Stop> {
+        let squares = arrangement(Shape::Squares, alloc)?;
+        self.filter(squares.as_slice())
+    }
+}
+
+/// How many states there are, and how many of them are of links that are kept.
+fn summary_of_states(states: &[VisitState]) -> Summary {
+    let kept = states
+        .iter()
+        .filter(|state| **state == VisitState::Unvisited)
+        .count();
+    Summary {
+        count: states.len(),
+        others: kept as u128,
+        digest: 0,
     }
 }
 
@@ -246,44 +265,50 @@ impl Walks {
     }
 }
 
-impl Case for Walks {
-    fn try_once(&mut self, alloc: Global) -> Result<Summary, Stop> {
-        let squares: Vec<Segment<ShapeCountBoolean, i32, ()>> = arrangement(Shape::Squares, alloc)?;
-        if !is_arranged(&squares) {
+impl Walks {
+    /// The walks through the graph of these segments.
+    fn walk(&mut self, squares: &[BooleanSegment], alloc: Global) -> Result<Summary, Stop> {
+        if !is_arranged(squares) {
             return Err(Stop::Wrong("the split is no arrangement"));
         }
         let graph = self.builder.build_boolean_overlay(
             FillRule::NonZero,
             OverlayRule::Xor,
             &Solver::LIST,
-            &squares,
+            squares,
         )?;
         if !graph.has_even_nodes() {
             return Err(Stop::Wrong("a node of an overlay has an odd number of links"));
         }
         let before = summary_of(graph.links(), graph.nodes().len());
-        match closed_walks(alloc, &graph) {
-            Ok(walks) => {
-                let mut digest = 0;
-                for walk in walks.iter() {
-                    for link in walk.iter() {
-                        digest = mixed_index(digest, *link);
-                    }
-                }
-                Ok(Summary {
-                    count: walks.len(),
-                    others: 0,
-                    digest,
-                })
-            }
-            Err(fault) => {
-                let after = summary_of(graph.links(), graph.nodes().len());
-                Err(refused(
-                    fault,
-                    before.digest == after.digest && before.others == after.others,
-                ))
-            }
+        let fault = match closed_walks(alloc, &graph) {
+            Ok(walks) => return Ok(summary_of_walks(walks.as_slice())),
+            Err(fault) => fault,
+        };
+        let after = summary_of(graph.links(), graph.nodes().len());
+        Err(refused(fault, before == after))
+    }
+}
+
+impl Case for Walks {
+    fn try_once(&mut self, alloc: Global) -> Result<Summary, Stop> {
+        let squares = arrangement(Shape::Squares, alloc)?;
+        self.walk(squares.as_slice(), alloc)
+    }
+}
+
+/// How many walks there are, and a digest of their links.
+fn summary_of_walks(walks: &[Vec<usize>]) -> Summary {
+    let mut digest = 0;
+    for walk in walks {
+        for link in walk.iter() {
+            digest = mixed_index(digest, *link);
         }
+    }
+    Summary {
+        count: walks.len(),
+        others: 0,
+        digest,
     }
 }
 
@@ -302,30 +327,42 @@ impl Boundary {
     }
 }
 
-impl Case for Boundary {
-    fn try_once(&mut self, alloc: Global) -> Result<Summary, Stop> {
-        let squares: Vec<Segment<ShapeCountBoolean, i32, ()>> = arrangement(Shape::Squares, alloc)?;
-        if !is_arranged(&squares) {
+impl Boundary {
+    /// The boundary of the graph of these segments.
+    fn boundary(&mut self, squares: &[BooleanSegment], alloc: Global) -> Result<Summary, Stop> {
+        if !is_arranged(squares) {
             return Err(Stop::Wrong("the split is no arrangement"));
         }
         let graph = self.builder.build_boolean_overlay(
             FillRule::NonZero,
             OverlayRule::Xor,
             &Solver::LIST,
-            &squares,
+            squares,
         )?;
         let sides = directed_segments(alloc, &graph, OverlayRule::Xor, ShapeType::Subject)?;
-        let mut digest = 0;
-        for side in sides.iter() {
-            let ends = side.x_segment();
-            digest = mixed_point(mixed_point(digest, ends.a), ends.b);
-            digest = mixed(digest, side.count().subj);
-        }
-        Ok(Summary {
-            count: sides.len(),
-            others: 0,
-            digest,
-        })
+        Ok(summary_of_sides(sides.as_slice()))
+    }
+}
+
+impl Case for Boundary {
+    fn try_once(&mut self, alloc: Global) -> Result<Summary, Stop> {
+        let squares = arrangement(Shape::Squares, alloc)?;
+        self.boundary(squares.as_slice(), alloc)
+    }
+}
+
+/// How many segments there are, and a digest of their ends and counts.
+fn summary_of_sides(sides: &[BooleanSegment]) -> Summary {
+    let mut digest = 0;
+    for side in sides {
+        let ends = side.x_segment();
+        digest = mixed_point(mixed_point(digest, ends.a), ends.b);
+        digest = mixed(digest, side.count().subj);
+    }
+    Summary {
+        count: sides.len(),
+        others: 0,
+        digest,
     }
 }
 
@@ -348,26 +385,35 @@ impl Loops {
 
 impl Case for Loops {
     fn try_once(&mut self, alloc: Global) -> Result<Summary, Stop> {
-        let mut contour = Vec::new(alloc);
-        for place in 0..64_i32 {
-            contour.push(IntPoint::new(place % 63, 0))?;
-        }
+        let contour = contour(alloc)?;
         match self
             .builder
             .test_contour_for_loops(&contour, &mut self.sorted)
         {
-            Ok(has_loop) => {
-                let mut digest = i64::from(has_loop);
-                for point in self.sorted.iter() {
-                    digest = mixed_point(digest, *point);
-                }
-                Ok(Summary {
-                    count: self.sorted.len(),
-                    others: 0,
-                    digest,
-                })
-            }
+            Ok(has_loop) => Ok(summary_of_points(has_loop, self.sorted.as_slice())),
             Err(fault) => Err(refused(fault, self.sorted.is_empty())),
         }
+    }
+}
+
+/// The contour of 64 points.
+fn contour(alloc: Global) -> Result<Vec<IntPoint<i32>>, Stop> {
+    let mut contour = Vec::new(alloc);
+    for place in 0..64_i32 {
+        contour.push(IntPoint::new(place % 63, 0))?;
+    }
+    Ok(contour)
+}
+
+/// How many points there are, and a digest of whether one is repeated and of all of them.
+fn summary_of_points(has_loop: bool, points: &[IntPoint<i32>]) -> Summary {
+    let mut digest = i64::from(has_loop);
+    for point in points {
+        digest = mixed_point(digest, *point);
+    }
+    Summary {
+        count: points.len(),
+        others: 0,
+        digest,
     }
 }

@@ -14,7 +14,7 @@ mod shapes;
 mod sweeps;
 mod wholes;
 
-use crate::case::{Case, Stop};
+use crate::case::{Case, Stop, Summary};
 use crate::fragments::Fragments;
 use crate::graphs::{Boundary, Build, Filter, Kind, Loops, Walks};
 use crate::inserts::Insert;
@@ -28,7 +28,6 @@ use i_overlay::build::scan_list::ScanList;
 use i_overlay::build::scan_tree::ScanTree;
 use i_overlay::overlay_core::solver::Solver;
 use overlay_contours::rounding::Rounding;
-use std::alloc::Global;
 use std::io;
 use std::io::Write;
 use std::process::ExitCode;
@@ -36,6 +35,9 @@ use std::process::ExitCode;
 /// How often a call is made, at most. One growth is refused in a run, so the second time has its
 /// result.
 const TRIES: u32 = 2;
+
+/// What the output has for a call whose overlay is kept.
+const KEPT: &str = " that are kept";
 
 /// The strategies, with the names that the output has for them.
 static SOLVERS: [(&str, Solver); 4] = [
@@ -55,144 +57,126 @@ static KINDS: [(&str, Kind); 4] = [
 
 /// Makes every call, and succeeds where each line could be written.
 fn main(rt: HostRuntime) -> ExitCode {
-    match tell_all(rt.alloc(), &mut rt.stdout(), &mut rt.stderr()) {
+    match tell_all(rt) {
         Ok(()) => ExitCode::SUCCESS,
         Err(_) => ExitCode::FAILURE,
     }
 }
 
 /// Makes every call, and prints a line for each. Fails where an output does.
-fn tell_all<W: Write, E: Write>(alloc: Global, output: &mut W, digests: &mut E) -> io::Result<()> {
-    tell_lists(alloc, output, digests)?;
-    tell_inserts(alloc, output, digests)?;
-    tell_graphs(alloc, output, digests)?;
+fn tell_all(rt: HostRuntime) -> io::Result<()> {
+    tell_lists(rt)?;
+    tell_inserts(rt)?;
+    tell_graphs(rt)?;
+    tell_contours(rt)?;
+    tell_kept(rt)?;
     for (name, solver) in SOLVERS {
-        tell_under(name, solver, alloc, output, digests)?;
-        tell_builds(name, solver, alloc, output, digests)?;
+        tell_splits(rt, name, solver)?;
+        tell_overlays(rt, name, solver)?;
+        tell_builds(rt, name, solver)?;
     }
-    output.flush()
+    rt.stdout().flush()
 }
 
 /// Makes the calls over a list.
-fn tell_lists<W: Write, E: Write>(
-    alloc: Global,
-    output: &mut W,
-    digests: &mut E,
-) -> io::Result<()> {
-    tell("sort", "", &mut Sort {}, alloc, output, digests)?;
-    tell("join", "", &mut Join {}, alloc, output, digests)?;
-    tell("balance", "", &mut Balance {}, alloc, output, digests)?;
-    tell("fragments", "", &mut Fragments {}, alloc, output, digests)
+fn tell_lists(rt: HostRuntime) -> io::Result<()> {
+    tell(rt, "sort", "", Sort {})?;
+    tell(rt, "join", "", Join {})?;
+    tell(rt, "balance", "", Balance {})?;
+    tell(rt, "fragments", "", Fragments {})
 }
 
 /// Makes the insertions into the lists of a sweep.
-fn tell_inserts<W: Write, E: Write>(
-    alloc: Global,
-    output: &mut W,
-    digests: &mut E,
-) -> io::Result<()> {
-    let mut list = Insert::new(ScanList::new(alloc));
-    tell("insert", " into a list", &mut list, alloc, output, digests)?;
-    let mut tree = Insert::new(ScanTree::new(alloc));
-    tell("insert", " into a tree", &mut tree, alloc, output, digests)
+fn tell_inserts(rt: HostRuntime) -> io::Result<()> {
+    let list = Insert::new(ScanList::new(rt.alloc()));
+    tell(rt, "insert", " into a list", list)?;
+    let tree = Insert::new(ScanTree::new(rt.alloc()));
+    tell(rt, "insert", " into a tree", tree)
 }
 
 /// Makes the calls that no strategy changes, over links and graphs.
-fn tell_graphs<W: Write, E: Write>(
-    alloc: Global,
-    output: &mut W,
-    digests: &mut E,
-) -> io::Result<()> {
-    let (mut loops, mut filter) = (Loops::new(alloc), Filter::new(alloc));
-    tell("loops", "", &mut loops, alloc, output, digests)?;
-    tell("filter", "", &mut filter, alloc, output, digests)?;
-    let (mut walks, mut boundary) = (Walks::new(alloc), Boundary::new(alloc));
-    tell("walks", "", &mut walks, alloc, output, digests)?;
-    tell("boundary", "", &mut boundary, alloc, output, digests)?;
-    tell_contours(alloc, output, digests)
+fn tell_graphs(rt: HostRuntime) -> io::Result<()> {
+    tell(rt, "loops", "", Loops::new(rt.alloc()))?;
+    tell(rt, "filter", "", Filter::new(rt.alloc()))?;
+    tell(rt, "walks", "", Walks::new(rt.alloc()))?;
+    tell(rt, "boundary", "", Boundary::new(rt.alloc()))
 }
 
-/// Makes the calls over contours.
-fn tell_contours<W: Write, E: Write>(
-    alloc: Global,
-    output: &mut W,
-    digests: &mut E,
-) -> io::Result<()> {
-    let kept = " that are kept";
-    tell("contours", "", &mut Contours {}, alloc, output, digests)?;
-    let mut contours = KeptContours::new(alloc, Rounding::Pairwise);
-    tell("contours", kept, &mut contours, alloc, output, digests)?;
-    tell("shapes", "", &mut Shapes {}, alloc, output, digests)?;
-    let mut shapes = KeptShapes::new(alloc);
-    tell("shapes", kept, &mut shapes, alloc, output, digests)?;
-    tell("sources", "", &mut Sources {}, alloc, output, digests)?;
-    let mut rules = KeptRules::new(alloc);
-    tell("two rules", kept, &mut rules, alloc, output, digests)?;
-    let mut arrangement = KeptArrangement::new(alloc);
-    tell(
-        "overlays of an arrangement",
-        kept,
-        &mut arrangement,
-        alloc,
-        output,
-        digests,
-    )
+/// Makes the calls over contours, each once with an overlay of its own and once with one that is kept.
+fn tell_contours(rt: HostRuntime) -> io::Result<()> {
+    let contours = KeptContours::new(rt.alloc(), Rounding::Pairwise);
+    tell(rt, "contours", "", Contours {})?;
+    tell(rt, "contours", KEPT, contours)?;
+    tell(rt, "shapes", "", Shapes {})?;
+    tell(rt, "shapes", KEPT, KeptShapes::new(rt.alloc()))
 }
 
-/// Makes the calls under a strategy, but for builds.
-fn tell_under<W: Write, E: Write>(
-    name: &str,
-    solver: Solver,
-    alloc: Global,
-    output: &mut W,
-    digests: &mut E,
-) -> io::Result<()> {
-    let (mut split, mut sweep) = (Split::new(alloc, solver), Sweep::new(alloc, solver));
-    tell("split", name, &mut split, alloc, output, digests)?;
-    let mut snap = Snap::new(alloc, solver);
-    tell("snap rounding", name, &mut snap, alloc, output, digests)?;
-    tell("sweep", name, &mut sweep, alloc, output, digests)?;
-    let (mut overlay, mut clip) = (Overlay::new(alloc, solver), LineClip::new(alloc, solver));
-    tell("overlay", name, &mut overlay, alloc, output, digests)?;
-    tell("clip", name, &mut clip, alloc, output, digests)
+/// Makes the further calls over contours.
+fn tell_kept(rt: HostRuntime) -> io::Result<()> {
+    tell(rt, "sources", "", Sources {})?;
+    tell(rt, "two rules", KEPT, KeptRules::new(rt.alloc()))?;
+    let arrangement = KeptArrangement::new(rt.alloc());
+    tell(rt, "overlays of an arrangement", KEPT, arrangement)
+}
+
+/// Makes the splits and the sweep under a strategy.
+fn tell_splits(rt: HostRuntime, name: &'static str, solver: Solver) -> io::Result<()> {
+    tell(rt, "split", name, Split::new(rt.alloc(), solver))?;
+    tell(rt, "snap rounding", name, Snap::new(rt.alloc(), solver))?;
+    tell(rt, "sweep", name, Sweep::new(rt.alloc(), solver))
+}
+
+/// Makes the overlay and the clip under a strategy.
+fn tell_overlays(rt: HostRuntime, name: &'static str, solver: Solver) -> io::Result<()> {
+    tell(rt, "overlay", name, Overlay::new(rt.alloc(), solver))?;
+    tell(rt, "clip", name, LineClip::new(rt.alloc(), solver))
 }
 
 /// Makes the builds under a strategy.
-fn tell_builds<W: Write, E: Write>(
-    name: &str,
-    solver: Solver,
-    alloc: Global,
-    output: &mut W,
-    digests: &mut E,
-) -> io::Result<()> {
+fn tell_builds(rt: HostRuntime, name: &'static str, solver: Solver) -> io::Result<()> {
     for (build, kind) in KINDS {
-        let mut case = Build::new(alloc, kind, solver);
-        tell(build, name, &mut case, alloc, output, digests)?;
+        tell(rt, build, name, Build::new(rt.alloc(), kind, solver))?;
     }
     Ok(())
 }
 
 /// Makes a call until it returns a result, and prints it.
-fn tell<C: Case, W: Write, E: Write>(
-    name: &str,
-    strategy: &str,
-    case: &mut C,
-    alloc: Global,
-    output: &mut W,
-    digests: &mut E,
+fn tell<C: Case + Drop>(
+    rt: HostRuntime,
+    name: &'static str,
+    strategy: &'static str,
+    mut case: C,
 ) -> io::Result<()> {
     for _ in 0..TRIES {
-        match case.try_once(alloc) {
-            Ok(summary) => {
-                let (count, others, digest) = (summary.count, summary.others, summary.digest);
-                writeln!(digests, "{name}{strategy}: {digest}")?;
-                return writeln!(output, "{name}{strategy}: {count} {others}");
-            }
+        match case.try_once(rt.alloc()) {
+            Ok(summary) => return print_summary(rt, name, strategy, summary),
             Err(Stop::Refused) => {}
-            Err(Stop::Wrong(what)) => {
-                writeln!(output, "{name}{strategy}: {what}")?;
-            }
+            Err(Stop::Wrong(what)) => print_fault(rt, name, strategy, what)?,
         }
     }
-    writeln!(output, "{name}{strategy}: no answer")
+    print_fault(rt, name, strategy, "no answer")
+}
+
+/// Prints what a call returns: the digest on the standard error, the rest on the standard output.
+fn print_summary(
+    rt: HostRuntime,
+    name: &'static str,
+    strategy: &'static str,
+    summary: Summary,
+) -> io::Result<()> {
+    let (count, others, digest) = (summary.count, summary.others, summary.digest);
+    let (mut output, mut digests) = (rt.stdout(), rt.stderr());
+    writeln!(digests, "{name}{strategy}: {digest}")?;
+    writeln!(output, "{name}{strategy}: {count} {others}")
+}
+
+/// Prints why a call returns nothing.
+fn print_fault(
+    rt: HostRuntime,
+    name: &'static str,
+    strategy: &'static str,
+    what: &'static str,
+) -> io::Result<()> {
+    let mut output = rt.stdout();
+    writeln!(output, "{name}{strategy}: {what}")
 }

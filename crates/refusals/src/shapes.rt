@@ -83,86 +83,78 @@ pub fn sides<C: WindingCount, D: OverlayEdgeData<C>>(
     alloc: Global,
 ) -> Result<Vec<Segment<C, i32, D>>, Stop> {
     let mut list = Vec::new(alloc);
-    match shape {
-        Shape::Crossed => push_crossed(&mut list, edge_data, store)?,
-        Shape::Long => push_long(&mut list, edge_data, store)?,
-        Shape::Levels => push_levels(&mut list, edge_data, store)?,
-        Shape::Squares => {
-            for place in 0..6_u8 {
-                let x = 10 * i32::from(place);
-                push_square(&mut list, (x, 0), Subject, edge_data, store)?;
-                push_square(&mut list, (x + 2, 2), Clip, edge_data, store)?;
-            }
-        }
-        Shape::Lines(lines) => {
-            for line in lines {
-                push_line(&mut list, *line, edge_data, store)?;
-            }
-        }
+    for index in 0..u16::MAX {
+        let Some(line) = line_of(shape, index) else {
+            break;
+        };
+        push_line(&mut list, line, edge_data, store)?;
     }
     Ok(list)
 }
 
-/// Appends the lines of `Crossed`.
-fn push_crossed<C: WindingCount, D: OverlayEdgeData<C>>(
-    list: &mut Vec<Segment<C, i32, D>>,
-    edge_data: Data<D>,
-    store: &mut D::Store,
-) -> Result<(), Stop> {
-    for line in 0..24_u8 {
-        let y = 23 - i32::from(line);
-        push_line(list, ((0, y), (10, y), Subject), edge_data, store)?;
+/// The line of a shape with an index, if the shape has as many.
+fn line_of(shape: Shape, index: u16) -> Option<Line> {
+    match shape {
+        Shape::Crossed => crossed_line(index),
+        Shape::Long => long_line(index),
+        Shape::Levels => level_line(index),
+        Shape::Squares => square_line(index),
+        Shape::Lines(lines) => lines.get(usize::from(index)).copied(),
     }
-    push_line(list, ((0, 0), (10, 0), Subject), edge_data, store)?;
-    push_line(list, ((5, 24), (5, -1), Subject), edge_data, store)
 }
 
-/// Appends the lines of `Long`.
-fn push_long<C: WindingCount, D: OverlayEdgeData<C>>(
-    list: &mut Vec<Segment<C, i32, D>>,
-    edge_data: Data<D>,
-    store: &mut D::Store,
-) -> Result<(), Stop> {
-    for line in 0..60_u8 {
-        let (y, right) = (10 * i32::from(line), 1000 + i32::from(line));
-        push_line(list, ((0, y), (right, y + 3), Subject), edge_data, store)?;
+/// A line of `Crossed`.
+fn crossed_line(index: u16) -> Option<Line> {
+    if index < 24 {
+        let y = 23 - i32::from(index);
+        Some(((0, y), (10, y), Subject))
+    } else if index == 24 {
+        Some(((0, 0), (10, 0), Subject))
+    } else if index == 25 {
+        Some(((5, 24), (5, -1), Subject))
+    } else {
+        None
     }
-    for line in 0..20_u8 {
-        let x = 50 * i32::from(line) + 3;
-        push_line(list, ((x, -5), (x, 605), Clip), edge_data, store)?;
-    }
-    Ok(())
 }
 
-/// Appends the lines of `Levels`.
-fn push_levels<C: WindingCount, D: OverlayEdgeData<C>>(
-    list: &mut Vec<Segment<C, i32, D>>,
-    edge_data: Data<D>,
-    store: &mut D::Store,
-) -> Result<(), Stop> {
-    for line in 0..2100_u16 {
-        let y = i32::from(line);
-        push_line(list, ((0, y), (10, y), Subject), edge_data, store)?;
+/// A line of `Long`.
+fn long_line(index: u16) -> Option<Line> {
+    let place = i32::from(index);
+    if index < 60 {
+        let y = 10 * place;
+        Some(((0, y), (1000 + place, y + 3), Subject))
+    } else if index < 80 {
+        let x = 50 * (place - 60) + 3;
+        Some(((x, -5), (x, 605), Clip))
+    } else {
+        None
     }
-    Ok(())
 }
 
-/// Appends the sides of a square of side 4, counterclockwise from its lowest corner.
-fn push_square<C: WindingCount, D: OverlayEdgeData<C>>(
-    list: &mut Vec<Segment<C, i32, D>>,
-    lowest: (i32, i32),
-    shape: ShapeType,
-    edge_data: Data<D>,
-    store: &mut D::Store,
-) -> Result<(), Stop> {
-    let (x, y) = lowest;
-    let (right, top) = (x.saturating_add(4), y.saturating_add(4));
-    let corners = [(x, y), (right, y), (right, top), (x, top)];
-    for index in 0..4 {
-        let line = (corners[index], corners[(index + 1) % 4], shape);
-        push_line(list, line, edge_data, store)?;
+/// A line of `Levels`.
+fn level_line(index: u16) -> Option<Line> {
+    let y = i32::from(index);
+    if index < 2100 {
+        Some(((0, y), (10, y), Subject))
+    } else {
+        None
     }
-    Ok(())
+}
+
+/// A line of `Squares`: the four sides of a square of side 4, counterclockwise from its lowest corner, then those of the
+/// next.
+fn square_line(index: u16) -> Option<Line> {
+    if index >= 48 {
+        return None;
+    }
+    let x = 10 * i32::from(index / 8);
+    let is_subject = index % 8 < 4;
+    let (left, low) = if is_subject { (x, 0) } else { (x + 2, 2) };
+    let shape = if is_subject { Subject } else { Clip };
+    let (right, top) = (left.saturating_add(4), low + 4);
+    let corners = [(left, low), (right, low), (right, top), (left, top)];
+    let side = usize::from(index);
+    Some((corners[side % 4], corners[(side + 1) % 4], shape))
 }
 
 /// Appends the segment of a line, if its ends differ.

@@ -7,7 +7,7 @@ use i_overlay::overlay_core::fill_rule::FillRule;
 use i_overlay::overlay_core::solver::Solver;
 use i_overlay::segm::arranged::{is_arranged, is_splittable};
 use i_overlay::segm::boolean::ShapeCountBoolean;
-use i_overlay::segm::segment::{NONE, Segment};
+use i_overlay::segm::segment::{NONE, Segment, SegmentFill};
 use i_overlay::split::solver::SplitSolver;
 use std::alloc::Global;
 
@@ -37,15 +37,7 @@ impl Sweep {
         let handler = StoreFillsHandler::new(&mut fills);
         self.runner
             .run_with_fill_rule(FillRule::NonZero, &self.solver, list, handler)?;
-        let mut digest = 0;
-        for fill in fills.iter() {
-            digest = mixed(digest, i32::from(*fill));
-        }
-        Ok(Summary {
-            count: fills.len(),
-            others: 0,
-            digest,
-        })
+        Ok(summary_of_fills(fills.as_slice()))
     }
 }
 
@@ -53,18 +45,32 @@ type BooleanSegment = Segment<ShapeCountBoolean, i32, ()>;
 
 impl Case for Sweep {
     fn try_once(&mut self, alloc: Global) -> Result<Summary, Stop> {
-        let mut list: Vec<BooleanSegment> = sides(Shape::Long, NO_DATA, &mut (), alloc)?;
-        if !is_splittable(&list) {
-            return Err(Stop::Wrong("the input may not be split"));
-        }
-        SplitSolver::new(alloc).split_segments(&mut list, &Solver::LIST)?;
-        let long = self.sweep(&list, alloc)?;
+        let long = split_long(alloc)?;
+        let of_long = self.sweep(long.as_slice(), alloc)?;
         let levels: Vec<BooleanSegment> = sides(Shape::Levels, NO_DATA, &mut (), alloc)?;
-        let swept = self.sweep(&levels, alloc)?;
-        Ok(Summary {
-            count: long.count.saturating_add(swept.count),
-            others: 0,
-            digest: long.digest.wrapping_add(swept.digest),
-        })
+        Ok(of_long.with(self.sweep(levels.as_slice(), alloc)?))
+    }
+}
+
+/// The split of `Long`.
+fn split_long(alloc: Global) -> Result<Vec<BooleanSegment>, Stop> {
+    let mut list: Vec<BooleanSegment> = sides(Shape::Long, NO_DATA, &mut (), alloc)?;
+    if !is_splittable(&list) {
+        return Err(Stop::Wrong("the input may not be split"));
+    }
+    SplitSolver::new(alloc).split_segments(&mut list, &Solver::LIST)?;
+    Ok(list)
+}
+
+/// How many fills there are, and a digest of them.
+fn summary_of_fills(fills: &[SegmentFill]) -> Summary {
+    let mut digest = 0;
+    for fill in fills {
+        digest = mixed(digest, i32::from(*fill));
+    }
+    Summary {
+        count: fills.len(),
+        others: 0,
+        digest,
     }
 }

@@ -1,4 +1,4 @@
-use Rattle.std.proofs.Common.{◌≡◌, ℕ, Bool, true, List, map, ap, ◌∙◌}
+use Rattle.std.proofs.Common.{◌≡◌, ℕ, Bool, true, List, map, ap, ◌∙◌, rules}
 use Rattle.std.specs.List.{list_all}
 use Rattle.std.proofs.lemmas.Result.{IfOk-weaker, on_ok_weaker}
 use Rattle.overlay_base.specs.Rules.{holds, keeps_fill}
@@ -120,3 +120,18 @@ returns-clause-looked g c = on_ok_weaker _ (λ _. c.in_ok-split_segments.ensures
 
 pub returns-clause-asked : goal.returns-clause-asked
 returns-clause-asked g c = rw c.deref.ensures.value at c.build_boolean_overlay.ensures.compared
+
+pub build_boolean_overlay-requires : goal.build_boolean_overlay-requires
+build_boolean_overlay-requires g c = search rules
+
+pub returns-clause-arranged : goal.returns-clause-arranged
+returns-clause-arranged g c = search rules
+
+pub returns-clause-in_range : goal.returns-clause-in_range
+returns-clause-in_range g c = search rules
+
+pub returns-clause-list_data : goal.returns-clause-list_data
+returns-clause-list_data g c = search rules
+
+pub returns-in_err-split_segments-clause-refused : goal.returns-in_err-split_segments-clause-refused
+returns-in_err-split_segments-clause-refused g c = search rules

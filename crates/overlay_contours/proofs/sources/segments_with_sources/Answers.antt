@@ -1,4 +1,4 @@
-use Rattle.std.proofs.Common.{◌≡◌, sym, ap, subst, ◌∙◌, ◌++◌, List, IsTrue}
+use Rattle.std.proofs.Common.{◌≡◌, sym, ap, subst, ◌∙◌, ◌++◌, List, IsTrue, rules}
 use Rattle.overlay_base.specs.Balance.{IsBalanced}
 use Rattle.overlay_base.specs.Planar.{is_splittable}
 use Rattle.overlay_geometry.specs.Points.{Point}
@@ -33,3 +33,6 @@ returns-clause-splittable g c =
     let subject : List (List Point) = contours_of whole c.args.subject.now in
     let clip : List (List Point) = contours_of whole c.args.clip.now in
     subst (λ (l : List WholeSegment). IsTrue (is_splittable least greatest l)) (sym (returns-clause-segments g c)) (overlay_is_splittable least greatest subject clip c.requires.subject c.requires.clip)
+
+pub returns-clause-sources : goal.returns-clause-sources
+returns-clause-sources g c = search rules

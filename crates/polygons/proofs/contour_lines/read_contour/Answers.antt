@@ -1,4 +1,5 @@
 use Rattle.std.proofs.Common.{rules, arith, ◌≡◌, ◌∷◌, ◌∙◌, inl, inr, refl, sym, length, Some, None}
+use Rattle.std.proofs.lemmas.Grind.{common_steps}
 use Rattle.std.proofs.lemmas.List.{length-map}
 use Rattle.overlay_geometry.specs.PointOf.{point_of}
 use Rattle.overlay_contours.specs.ContoursOf.{points_of}
@@ -29,3 +30,6 @@ returns-then-len-eq2-clause-faulty g c =
     let same = length-map c.read_points.new.wide.items (point_of (λ z. z)) in
     let two : length points ≡ 2 = omega (arith, same) in
     inr (Form, refl, inr (inl (refl, (c.in_ok-shape_type.shape_type, points, (c.in_ok-name.name.now, words_of c.next.new.self.rest.now, first, names, c.in_ok-read_points.ensures.points), two))))
+
+pub returns-clause-contour : goal.returns-clause-contour
+returns-clause-contour g c = grind (arith, common_steps)

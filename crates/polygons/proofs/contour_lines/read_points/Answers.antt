@@ -30,3 +30,6 @@ pub returns-in-Some-before-clause-stop : goal.returns-in-Some-before-clause-stop
 returns-in-Some-before-clause-stop c =
     let read = rw c.in-Some-before.is at c.loop-word.invariant in
     inr (refl, λ points. one_left_over (words_of c.args.words.rest.now) (words_of c.loop-word.word-iterator.rest.now) c.in-Some-before.field-0 (points_of (λ z. z) c.loop-word.wide.items) points read c.in-None.ensures.steps.0)
+
+pub returns-in-Some-before-clause-points : goal.returns-in-Some-before-clause-points
+returns-in-Some-before-clause-points c = search rules

@@ -23,3 +23,6 @@ returns-in-Some-clause-stop c =
       some_left (words_of c.args.words.rest.now) (words_of c.pass_name.new.words.rest.now) c.in_ok-several.several named
           (shapes_of (λ z. z) c.in_ok-polygons.polygons.items) (words_of c.read_body.new.words.rest.now) (words_of c.next.new.self.rest.now) c.in-Some.field-0.now c.in_ok-polygons.ensures.polygons c.in-Some.ensures.steps,
     )
+
+pub returns-in-Some-clause-polygons : goal.returns-in-Some-clause-polygons
+returns-in-Some-clause-polygons c = search rules

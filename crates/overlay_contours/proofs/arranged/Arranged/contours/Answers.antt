@@ -1,4 +1,4 @@
-use Rattle.std.proofs.Common.{refl, sym, ap, subst, ◌∙◌, ℕ, List}
+use Rattle.std.proofs.Common.{refl, sym, ap, subst, ◌∙◌, ℕ, List, rules}
 use Rattle.std.proofs.Math.Logic.{∥∥₁_elim}
 use Rattle.std.specs.Coded.{coded_ℕ}
 use denote.Struct.Props.{props, ≡_prop}
@@ -101,3 +101,6 @@ build_overlay_with_fills-requires-clause-arranged g c = rw c.deref.ensures.value
 
 pub build_overlay_with_fills-requires-clause-fills : goal.build_overlay_with_fills-requires-clause-fills
 build_overlay_with_fills-requires-clause-fills g c = (c.args.self.now.fill_rule, rw (c.deref.ensures.value, c.deref-2.ensures.value) (∥∥₁_elim c.requires (search props) (λ known. rw known.4.rule known.4.fills)))
+
+pub returns-clause-kept : goal.returns-clause-kept
+returns-clause-kept g c = search rules

@@ -1,4 +1,4 @@
-use Rattle.std.proofs.Common.{List}
+use Rattle.std.proofs.Common.{List, rules}
 use Rattle.std.specs.Prelude.{Result, Ok, Err, IfOk}
 use Rattle.overlay_base.specs.SegmentOf.{segments_of}
 use Rattle.overlay_contours.specs.ContoursOf.{contours_of}
@@ -18,3 +18,6 @@ returns-clause-overlay g c =
 
 pub invariant_of-self : goal.invariant_of-self
 invariant_of-self g c = record { known = stay_known c.args.self.now.arranged c.shapes.new.self c.shapes.ensures.kept c.args.self.now.known }
+
+pub returns-clause-shapes : goal.returns-clause-shapes
+returns-clause-shapes g c = search rules

@@ -1,5 +1,6 @@
+use Rattle.std.proofs.lemmas.Grind.{common_steps}
 use Rattle.overlay_geometry.specs.Points.{Point}
-use Rattle.std.proofs.Common.{List}
+use Rattle.std.proofs.Common.{List, arith, rules}
 use Rattle.overlay_contours.specs.ContoursOf.{contours_of}
 use Rattle.overlay_contours.specs.Kept.{subject_of, clip_of, splitting_of}
 use Rattle.overlay_contours.proofs.laws.Beyond.{reach_bounded, exact_reach, overlay_beyond}
@@ -27,3 +28,12 @@ returns-clause-overlay g c =
     let after = c.overlay.new.self in
     let answer : List (List Point) = contours_of g.I.OverlayInt.whole c.in_ok-answer.answer.items in
     overlay_beyond (splitting_of c.args.solver.now c.args.self.now) (subject_of c.args.self.now) (clip_of c.args.self.now) after.arranged.passes after.arranged.reach (returns-clause-splitting g c) c.args.overlay_rule c.args.fill_rule answer (rw (c.deref.ensures.value, c.deref-2.ensures.value) at c.in_ok-answer.ensures.polygons)
+
+pub returns-clause-clip : goal.returns-clause-clip
+returns-clause-clip g c = search rules
+
+pub returns-clause-polygons : goal.returns-clause-polygons
+returns-clause-polygons g c = search rules
+
+pub returns-in_err-answer-clause-refused : goal.returns-in_err-answer-clause-refused
+returns-in_err-answer-clause-refused g c = grind (arith, common_steps)

@@ -1,4 +1,4 @@
-use Rattle.std.proofs.Common.{◌≡◌, ◌<◌, ℕ, arith, subst, sym, ◌∙◌, length, false}
+use Rattle.std.proofs.Common.{◌≡◌, ◌<◌, ℕ, arith, subst, sym, ◌∙◌, length, false, rules}
 use Rattle.std.specs.Prelude.{◌==◌}
 use Rattle.std.specs.Int.{div_ceil}
 use Rattle.std.proofs.lemmas.Bool.Decides.{nat_tests}
@@ -20,3 +20,6 @@ find_in_columns-requires-clause-inside g c =
     let count = c.div_ceil-count.result in
     let some = some_of (length xs) (sym c.if-is_empty.false ∙ c.is_empty.ensures) in
     lies_inside_its_grid xs count (grid_of c.in_ok-grid.grid) c.requires.sorted some (half_of_some (length xs) count some c.div_ceil-count.ensures) (subst (λ (l : Layout). IsLayoutOf (pairs_in xs) count l) (sym c.in_ok-grid.ensures.layout) c.in-Some.ensures.layout)
+
+pub over_list-requires-clause-count : goal.over_list-requires-clause-count
+over_list-requires-clause-count g c = search rules

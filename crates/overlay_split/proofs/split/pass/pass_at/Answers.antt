@@ -1,4 +1,4 @@
-use Rattle.std.proofs.Common.{◌≡◌, ◌==◌, ◌∙◌, true, sym, ap, subst, IsTrue, IsFalse, List, []}
+use Rattle.std.proofs.Common.{◌≡◌, ◌==◌, ◌∙◌, true, sym, ap, subst, IsTrue, IsFalse, List, [], rules}
 use Rattle.std.specs.List.{AllByRecursion}
 use Rattle.overlay_geometry.specs.Points.{Point, Pair}
 use Rattle.overlay_base.specs.EdgeData.{data_join, without_data, IsRefusedJoin}
@@ -130,3 +130,9 @@ returns-clause-fits g c = λ on are.
 pub returns-clause-store_made : goal.returns-clause-store_made
 returns-clause-store_made g c =
     made_further (hooks_of g.C.WindingCount.counted g.D.OverlayEdgeData) c.in_default.ensures.store_made c.in_ok-join_in_parts_with_store.ensures.store_made
+
+pub returns-in_default-part_places-clause-refused : goal.returns-in_default-part_places-clause-refused
+returns-in_default-part_places-clause-refused g c = search rules
+
+pub returns-in_default-part_places-clause-stopped : goal.returns-in_default-part_places-clause-stopped
+returns-in_default-part_places-clause-stopped g c = search rules

@@ -1,4 +1,4 @@
-use Rattle.std.proofs.Common.{◌+◌, ◌≤◌, ap, sym, subst}
+use Rattle.std.proofs.Common.{◌+◌, ◌≤◌, ap, sym, subst, rules}
 use Rattle.std.specs.Prelude.{Option}
 use Rattle.std.proofs.lemmas.Result.{on_ok_weaker}
 use Rattle.overlay_base.specs.Segments.{pairs}
@@ -24,3 +24,6 @@ unfolding wide_looks
 returns-in-None-clause-looked g c =
     let ps = pairs (segments_of c.args.segments.now) in
     on_ok_weaker c.find_without_grid.result (λ h. subst (λ (o : Option Layout). c.find_without_grid.new.looked ≤ c.args.self.now.looked + wide_looks o ps) (sym (ap (λ b. grid_in b) c.in-None.is)) h) c.find_without_grid.ensures.looked
+
+pub returns-in-Some-clause-grid : goal.returns-in-Some-clause-grid
+returns-in-Some-clause-grid g c = search rules

@@ -404,3 +404,6 @@ returns-clause-unset g c = tt
 
 pub returns-clause-limit : goal.returns-clause-limit
 returns-clause-limit g c = c.loop-progress.invariant.limit
+
+pub returns-in-Err-clause-emptied : goal.returns-in-Err-clause-emptied
+returns-in-Err-clause-emptied g c = search rules

@@ -1,4 +1,4 @@
-use Rattle.std.proofs.Common.{◌≡◌, OnOk}
+use Rattle.std.proofs.Common.{◌≡◌, OnOk, rules}
 use Rattle.std.specs.Prelude.{Result, Ok, Err}
 use Rattle.overlay_base.specs.HooksOf.{hooks_of}
 use Rattle.overlay_base.specs.SegmentOf.{data_segments_of}
@@ -18,3 +18,24 @@ returns-clause-edge_data g c =
     with_store g.D.Store.Default.is_default
     (λ store. data_segments_of c.split_segments_with_store.new.list.items ≡ (data_after_passes hooks settings (data_segments_of c.args.list.now.items) store (passes_of c.split_segments_with_store.new.self)).0)
     c.split_segments_with_store.result c.default-store.result c.default-store.ensures c.split_segments_with_store.ensures.edge_data
+
+pub returns-clause-arranged : goal.returns-clause-arranged
+returns-clause-arranged g c = search rules
+
+pub returns-clause-balance : goal.returns-clause-balance
+returns-clause-balance g c = search rules
+
+pub returns-clause-exact_input : goal.returns-clause-exact_input
+returns-clause-exact_input g c = search rules
+
+pub returns-clause-near : goal.returns-clause-near
+returns-clause-near g c = search rules
+
+pub returns-clause-run : goal.returns-clause-run
+returns-clause-run g c = search rules
+
+pub returns-clause-unchanged : goal.returns-clause-unchanged
+returns-clause-unchanged g c = search rules
+
+pub returns-clause-winding : goal.returns-clause-winding
+returns-clause-winding g c = search rules

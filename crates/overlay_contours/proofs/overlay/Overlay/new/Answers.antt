@@ -1,0 +1,5 @@
+use Rattle.std.proofs.Common.{rules}
+use Rattle.overlay_contours.proofs.overlay.Overlay.new.Goals as goal
+
+pub returns-clause-rounding : goal.returns-clause-rounding
+returns-clause-rounding g c = search rules

@@ -1,0 +1,11 @@
+use Rattle.std.proofs.Common.{rules}
+use Rattle.overlay_contours.proofs.sources.overlay_contours_with_sources.Goals as goal
+
+pub returns-clause-polygons : goal.returns-clause-polygons
+returns-clause-polygons g c = search rules
+
+pub returns-clause-sources : goal.returns-clause-sources
+returns-clause-sources g c = search rules
+
+pub returns-in_err-overlay_in_range-clause-refused : goal.returns-in_err-overlay_in_range-clause-refused
+returns-in_err-overlay_in_range-clause-refused g c = search rules
