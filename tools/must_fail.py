@@ -11,11 +11,11 @@ that `rt ci` or `rt check` left. With `--edits` the edits are FOLDER/CRATE/*.edi
 has a file of the name of each library below it: so the gate tries edits while it proves.
 
 Prints the first open goal for each edit, and last `N of M edits refused`. An edit is refused by a goal of a function that it changes
-and that one of its lines `# refused by FUNCTION: CLAUSE, ..` names. Where goals of these clauses have proofs in `Answers.antt`, the
-edit is tried by these alone: in the functions that it changes the prover searches for no other. Where they do not refuse it, it is tried
-once more with all proofs and searches; a line `# by search` has it tried so from the start. A proof that names what the edit took away
-does not count: the edit is tried without it, so that the prover searches for one. A line `# without FUNCTION: GOAL, ..` leaves such
-proofs out from the start.
+and that one of its lines `# refused by FUNCTION: CLAUSE, ..` names. Where that function has proofs in `Answers.antt`,
+the edit is tried by these alone, but for those of further clauses on its result: the prover searches for no other there. Where they
+do not refuse it, it is tried once more with all proofs and searches; a line `# by search` has it tried so from the start. A proof
+that names what the edit took away does not count: the edit is tried without it, so that the prover searches for one. A line
+`# without FUNCTION: GOAL, ..` leaves such proofs out from the start.
 """
 import argparse
 import itertools
