@@ -116,6 +116,11 @@ def functions_of(crate):
                 yield found, proof_of(crate, found, lines[:at]), (file, at)
 
 
+def answers_of(path):
+    """Returns the file of the proofs of goals of a function, by its path."""
+    return "/".join(["proofs", *path.split("::"), "Answers.antt"])
+
+
 def attributes_above(lines, at):
     """Returns the attributes and comments right above a line."""
     return list(itertools.takewhile(lambda it: it.lstrip().startswith(("#[", "//")), reversed(lines[:at])))
@@ -151,8 +156,9 @@ class Edit:
 
     def __init__(self, crate, path):
         self.crate, self.name = crate, path.stem
+        text = path.read_text(encoding="utf-8")
         # the functions that have to refuse it, each with the clauses that it breaks
-        self.refused_by = {name: re.findall(r"\w[\w ]*", said) for name, said in REFUSED_BY.findall(path.read_text(encoding="utf-8"))}
+        self.refused_by = {name: re.findall(r"\w[\w ]*", said) for name, said in REFUSED_BY.findall(text)}
         self.named = {name.split("::")[-1] for name in self.refused_by}
         self.is_alone = False
         # whether it is tried over the proofs of all functions, since it was not refused over their contracts
@@ -166,8 +172,8 @@ class Edit:
         self.goal = self.said = None
         self.has_new_vain = False
         self.lines = self.changed_lines(path)
-        self.leave_out(WITHOUT.findall(path.read_text(encoding="utf-8")))
-        self.is_by_answers = not (self.is_alone or self.vain or BY_SEARCH.search(path.read_text(encoding="utf-8"))) and bool(self.answers())
+        self.leave_out(WITHOUT.findall(text))
+        self.is_by_answers = not (self.is_alone or self.vain or BY_SEARCH.search(text)) and bool(self.answers())
 
     def steps(self, path):
         """Returns what an edit replaces: file, old text and new text, a line each."""
@@ -201,7 +207,7 @@ class Edit:
     def leave_out(self, goals):
         """Leaves the proofs of some goals out, each of a function that it changes."""
         for name, said in goals:
-            files = ["/".join(["proofs", *path.split("::"), "Answers.antt"]) for path in self.paths if path.split("::")[-1] == name]
+            files = [answers_of(path) for path in self.paths if path.split("::")[-1] == name]
             for goal in said.split(", "):
                 found = {(file, goal) for file in files if f"\npub {goal} : goal." in source(self.crate, file)}
                 if not found:
@@ -214,7 +220,7 @@ class Edit:
         found = set()
         for name, clauses in self.refused_by.items():
             for path in self.paths:
-                file = "/".join(["proofs", *path.split("::"), "Answers.antt"])
+                file = answers_of(path)
                 if path.split("::")[-1] == name.split("::")[-1] and (TOP / "crates" / self.crate / file).exists():
                     goals = {it[1] for it in ANSWER.finditer(source(self.crate, file))}
                     found.update((file, goal) for goal in goals if not clauses or is_of(goal, clauses))
@@ -364,7 +370,7 @@ class Trial:
                 if not any("tactic(" in line for line in attributes_above(lines, at)):
                     lines[at] = re.sub(r"^( *)", r"\1#[tactic(none)] ", lines[at])
                     pathlib.Path(room, file).write_text("\n".join(lines), encoding="utf-8")
-            file = "/".join(["proofs", *path.split("::"), "Answers.antt"])
+            file = answers_of(path)
             if pathlib.Path(room, file).exists():
                 text = pathlib.Path(room, file).read_text(encoding="utf-8")
                 kept = ANSWER.sub(lambda it, file=file: it[0] if (file, it[1]) in answers else "", text)
